@@ -114,9 +114,10 @@ impl Word {
         self.text.as_str()
     }
 
-    pub fn copy(&self, alloc: Global) -> Result<Word, NoMemory>
+    pub fn copy(&self) -> Result<Word, NoMemory>
         ensures { IfOk result (λ w. w ≡ self.now) }
     {
-        Word::from_text(alloc, self.text.as_str())
+        let text = self.text.clone()?;
+        Ok(Word { text })
     }
 }

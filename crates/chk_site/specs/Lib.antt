@@ -1,0 +1,11 @@
+pub mod Suffixes
+pub mod Files
+pub mod Logs
+pub mod Acts
+pub mod Effect
+pub mod History
+pub mod Messages
+pub mod Honest
+pub mod Site
+pub mod Runs
+pub mod CallNames

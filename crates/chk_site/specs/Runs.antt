@@ -1,0 +1,26 @@
+-- What some steps lead to, where the steps of others meet a supposition.
+use Rattle.std.specs.Prelude.{◌≡◌, List, [], ◌∷◌, ◌++◌, Option, Result, Ok, Err}
+use Rattle.chk_site.specs.declared.acts.OutsideFault.{OutsideFault}
+use Rattle.chk_site.specs.declared.acts.OutsideFault.TheVariants.{NoMemory as no_memory}
+use Rattle.chk_site.specs.declared.acts.CallFault.{CallFault}
+use Rattle.chk_site.specs.Site.{Adds, Asked, answered, plain, Calls, IsDone, Ends}
+use Rattle.chk_site.specs.History.{Step, History, Others}
+
+-- Where each added step of others is as supposed, and one thing holds before, the other holds at the end.
+pub record Leads (Supposed : History → Step → Type 0) (Before After : History → Type 0) (added history : History) : Type 0 where
+  pub leads : Others Supposed added history → Before history → After (added ++ history)
+
+-- The history goes on from an earlier one by some steps, of which P holds.
+pub record Since (earlier : History) (P : History → Type 0) (history : History) : Type 0 where
+  pub added : History
+  pub goes_on : history ≡ added ++ earlier
+  pub holds : P added
+
+-- Each call of the script was made in turn and was done, or refused for the state of the files, up to one that ended the work.
+pub data MadeInTurn : List Asked → Result Unit OutsideFault → Option History → Option History → Type 0 where
+  finished : {now : Option History} → MadeInTurn [] (Ok tt) now now
+  unbegun : {qs : List Asked} {now : Option History} → MadeInTurn qs (Err no_memory) now now
+  went_on : {q : Asked} {qs : List Asked} {result : Result Unit OutsideFault} {old mid new : Option History} (given : Result Unit CallFault)
+      → IsDone given → Adds old mid (Calls q (answered plain given)) → MadeInTurn qs result mid new → MadeInTurn (q ∷ qs) result old new
+  ended : {q : Asked} {qs : List Asked} {fault : OutsideFault} {old new : Option History} (given : Result Unit CallFault)
+      → Ends q.call given fault → Adds old new (Calls q (answered plain given)) → MadeInTurn (q ∷ qs) (Err fault) old new

@@ -1,0 +1,14 @@
+//! The outside of the program: its calls, the acts that they leave in the history, and the files.
+#![tactic(auto)]
+
+mod acts;
+mod lists;
+mod scripts;
+mod site;
+mod suffixes;
+
+pub use acts::{Act, ActAnswer, Call, CallFault, OutsideFault, Role, Who};
+pub use lists::{Left, Lefts, Words};
+pub use scripts::{Other, Script, StopAt};
+pub use site::{Site, done, taken};
+pub use suffixes::{Part, Piece, Suffix, Taking};

@@ -1,0 +1,201 @@
+// The outside, by what each call adds to the history.
+ghost use Rattle.std.specs.Prelude.{◌≡◌, ℕ, ◌≤◌, [], ◌∷◌, Option, length, IfOk, MatchResult};
+ghost use Rattle.chk_site.specs.declared.acts.Call.TheVariants.{Start, LogRead, LogNewest, LogAppend, Create, Append, Sync, Rename, Remove, Cut, Size, Read, List, Clock, Pause, Send, Got, Take, More, Answer, Say};
+ghost use Rattle.chk_site.specs.History.{History};
+ghost use Rattle.chk_site.specs.Site.{Adds, asked, answered, plain, sized, bytes_given, suffix_given, names_given, piece_given, taking_given, part_text, EndsPast, Calls, CallsSome, CauseOf, MayFail, MayExist, MayMiss, MayBeShort, MayMissOrBeShort, IsDone, Ends, IsTaken};
+
+use crate::{Call, CallFault, OutsideFault, Part, Piece, Suffix, Taking, Who};
+use chk_bytes::{Bytes, Word};
+use std::alloc::Global;
+
+pub trait Site {
+    /// The history so far, where the site tells it.
+    ghost told: { Self → Option History };
+
+    /// How often a call has failed.
+    ghost fault_count: { Self → ℕ };
+
+    fn start(&mut self, alloc: Global, who: &Who) -> Result<(), CallFault>
+        ensures told { Adds (told self.old) (told self.new) (Calls (asked who.now Start [] 0 0) (answered plain result)) }
+        ensures only { MayFail result }
+        ensures cause { CauseOf (fault_count self.old) (fault_count self.new) result };
+
+    fn create(&mut self, alloc: Global, who: &Who, name: &str) -> Result<(), CallFault>
+        ensures told { Adds (told self.old) (told self.new) (Calls (asked who.now Create (name.now ∷ []) 0 0) (answered plain result)) }
+        ensures only { MayExist result }
+        ensures cause { CauseOf (fault_count self.old) (fault_count self.new) result };
+
+    fn append(
+        &mut self,
+        alloc: Global,
+        who: &Who,
+        name: &str,
+        bytes: &[u8],
+    ) -> Result<(), CallFault>
+        ensures told { Adds (told self.old) (told self.new) (Calls (asked who.now Append (name.now ∷ bytes.now ∷ []) 0 0) (answered plain result)) }
+        ensures only { MayMiss result }
+        ensures cause { CauseOf (fault_count self.old) (fault_count self.new) result };
+
+    fn sync(&mut self, alloc: Global, who: &Who, name: &str) -> Result<(), CallFault>
+        ensures told { Adds (told self.old) (told self.new) (Calls (asked who.now Sync (name.now ∷ []) 0 0) (answered plain result)) }
+        ensures only { MayMiss result }
+        ensures cause { CauseOf (fault_count self.old) (fault_count self.new) result };
+
+    fn rename(&mut self, alloc: Global, who: &Who, old: &str, new: &str) -> Result<(), CallFault>
+        ensures told { Adds (told self.old) (told self.new) (Calls (asked who.now Rename (old.now ∷ new.now ∷ []) 0 0) (answered plain result)) }
+        ensures only { MayMiss result }
+        ensures cause { CauseOf (fault_count self.old) (fault_count self.new) result };
+
+    fn remove(&mut self, alloc: Global, who: &Who, name: &str) -> Result<(), CallFault>
+        ensures told { Adds (told self.old) (told self.new) (Calls (asked who.now Remove (name.now ∷ []) 0 0) (answered plain result)) }
+        ensures only { MayMiss result }
+        ensures cause { CauseOf (fault_count self.old) (fault_count self.new) result };
+
+    fn size(&mut self, alloc: Global, who: &Who, name: &str) -> Result<u64, CallFault>
+        ensures told { Adds (told self.old) (told self.new) (Calls (asked who.now Size (name.now ∷ []) 0 0) (answered sized result)) }
+        ensures only { MayMiss result }
+        ensures cause { CauseOf (fault_count self.old) (fault_count self.new) result };
+
+    fn read(
+        &mut self,
+        alloc: Global,
+        who: &Who,
+        name: &str,
+        at: u64,
+        max: u32,
+    ) -> Result<Bytes, CallFault>
+        ensures told { Adds (told self.old) (told self.new) (Calls (asked who.now Read (name.now ∷ []) at max) (answered bytes_given result)) }
+        ensures most { IfOk result (λ bytes. length bytes ≤ max) }
+        ensures only { MayMissOrBeShort result }
+        ensures cause { CauseOf (fault_count self.old) (fault_count self.new) result };
+
+    fn say(&mut self, alloc: Global, who: &Who, bytes: &[u8]) -> Result<(), CallFault>
+        ensures told { Adds (told self.old) (told self.new) (Calls (asked who.now Say (bytes.now ∷ []) 0 0) (answered plain result)) }
+        ensures only { MayFail result }
+        ensures cause { CauseOf (fault_count self.old) (fault_count self.new) result };
+
+    fn log_read(
+        &mut self,
+        alloc: Global,
+        who: &Who,
+        path: &str,
+        part: Part<'_>,
+        at: u64,
+        max: u32,
+    ) -> Result<Piece, CallFault>
+        ensures told { Adds (told self.old) (told self.new) (Calls (asked who.now LogRead (path.now ∷ part_text part.entry ∷ []) at max) (answered piece_given result)) }
+        ensures most { IfOk result (λ piece. length piece.bytes ≤ max) }
+        ensures past { IfOk result (λ piece. EndsPast part.entry piece.ended) }
+        ensures only { MayBeShort result }
+        ensures cause { CauseOf (fault_count self.old) (fault_count self.new) result };
+
+    fn log_newest(
+        &mut self,
+        alloc: Global,
+        who: &Who,
+        path: &str,
+    ) -> Result<Option<Suffix>, CallFault>
+        ensures told { Adds (told self.old) (told self.new) (Calls (asked who.now LogNewest (path.now ∷ []) 0 0) (answered suffix_given result)) }
+        ensures only { MayFail result }
+        ensures cause { CauseOf (fault_count self.old) (fault_count self.new) result };
+
+    fn log_append(
+        &mut self,
+        alloc: Global,
+        who: &Who,
+        path: &str,
+        bytes: &[u8],
+    ) -> Result<(), CallFault>
+        ensures told { Adds (told self.old) (told self.new) (Calls (asked who.now LogAppend (path.now ∷ bytes.now ∷ []) 0 0) (answered plain result)) }
+        ensures only { MayFail result }
+        ensures cause { CauseOf (fault_count self.old) (fault_count self.new) result };
+
+    fn cut(&mut self, alloc: Global, who: &Who, name: &str, length: u64) -> Result<(), CallFault>
+        ensures told { Adds (told self.old) (told self.new) (Calls (asked who.now Cut (name.now ∷ []) length 0) (answered plain result)) }
+        ensures only { MayMissOrBeShort result }
+        ensures cause { CauseOf (fault_count self.old) (fault_count self.new) result };
+
+    fn list(&mut self, alloc: Global, who: &Who, folder: &str) -> Result<Vec<Word>, CallFault>
+        ensures told { Adds (told self.old) (told self.new) (Calls (asked who.now List (folder.now ∷ []) 0 0) (answered (λ names. names_given names.items) result)) }
+        ensures only { MayFail result }
+        ensures cause { CauseOf (fault_count self.old) (fault_count self.new) result };
+
+    fn clock(&mut self, alloc: Global, who: &Who) -> Result<u64, CallFault>
+        ensures told { Adds (told self.old) (told self.new) (Calls (asked who.now Clock [] 0 0) (answered sized result)) }
+        ensures only { MayFail result }
+        ensures cause { CauseOf (fault_count self.old) (fault_count self.new) result };
+
+    fn pause(&mut self, alloc: Global, who: &Who, ms: u64) -> Result<(), CallFault>
+        ensures told { Adds (told self.old) (told self.new) (Calls (asked who.now Pause [] ms 0) (answered plain result)) }
+        ensures only { MayFail result }
+        ensures cause { CauseOf (fault_count self.old) (fault_count self.new) result };
+
+    fn send(
+        &mut self,
+        alloc: Global,
+        who: &Who,
+        address: &str,
+        bytes: &[u8],
+    ) -> Result<u64, CallFault>
+        ensures told { Adds (told self.old) (told self.new) (CallsSome (λ n. asked who.now Send (address.now ∷ bytes.now ∷ []) n 0) (λ n. answered sized result)) }
+        ensures only { MayFail result }
+        ensures cause { CauseOf (fault_count self.old) (fault_count self.new) result };
+
+    fn got(&mut self, alloc: Global, who: &Who, message: u64) -> Result<Bytes, CallFault>
+        ensures told { Adds (told self.old) (told self.new) (Calls (asked who.now Got [] message 0) (answered bytes_given result)) }
+        ensures only { MayFail result }
+        ensures cause { CauseOf (fault_count self.old) (fault_count self.new) result };
+
+    fn take(
+        &mut self,
+        alloc: Global,
+        who: &Who,
+        door: &str,
+        wait: u64,
+    ) -> Result<Option<Taking>, CallFault>
+        ensures told { Adds (told self.old) (told self.new) (CallsSome (λ of. asked who.now Take (door.now ∷ []) wait 0) (λ of. answered (taking_given of) result)) }
+        ensures only { MayFail result }
+        ensures cause { CauseOf (fault_count self.old) (fault_count self.new) result };
+
+    fn more(&mut self, alloc: Global, who: &Who, taking: u64) -> Result<Bytes, CallFault>
+        ensures told { Adds (told self.old) (told self.new) (Calls (asked who.now More [] taking 0) (answered bytes_given result)) }
+        ensures only { MayFail result }
+        ensures cause { CauseOf (fault_count self.old) (fault_count self.new) result };
+
+    fn answer(
+        &mut self,
+        alloc: Global,
+        who: &Who,
+        taking: u64,
+        bytes: &[u8],
+    ) -> Result<(), CallFault>
+        ensures told { Adds (told self.old) (told self.new) (Calls (asked who.now Answer (bytes.now ∷ []) taking 0) (answered plain result)) }
+        ensures only { MayFail result }
+        ensures cause { CauseOf (fault_count self.old) (fault_count self.new) result };
+
+    fn faults(&self) -> u64
+        ensures { result ≡ fault_count self.now };
+}
+
+/// Goes on after a call that was done, or that was refused for the state of the files.
+pub fn done(call: Call, given: Result<(), CallFault>) -> Result<(), OutsideFault>
+    ensures { MatchResult result (λ _. IsDone given) (λ fault. Ends call given fault) }
+{
+    match given {
+        Err(CallFault::Failed) => Err(OutsideFault::Outside { call }),
+        Err(CallFault::NoMemory) => Err(OutsideFault::NoMemory),
+        _ => Ok(()),
+    }
+}
+
+/// The value of a call that was done; none where it was refused for the state of the files.
+pub fn taken<T: Drop>(call: Call, given: Result<T, CallFault>) -> Result<Option<T>, OutsideFault>
+    ensures { MatchResult result (λ value. IsTaken given value) (λ fault. Ends call given fault) }
+{
+    match given {
+        Ok(value) => Ok(Some(value)),
+        Err(CallFault::Failed) => Err(OutsideFault::Outside { call }),
+        Err(CallFault::NoMemory) => Err(OutsideFault::NoMemory),
+        Err(_) => Ok(None),
+    }
+}
