@@ -3,11 +3,15 @@ use Rattle.std.specs.Prelude.{◌≡◌, ℕ, ◌-◌, Bool, true, false, ◌&&�
 use Rattle.std.specs.List.{list_all}
 use Rattle.std.specs.Str.{is_utf8}
 
+-- a byte that may stand in a word: no control byte, not the space, not the byte 127
+abbrev pub is_word_byte : ℕ → Bool
+is_word_byte b = nat_lt 32 b && not (b == 127)
+
 -- 1 to 4,096 bytes of UTF-8, none a space, a control byte or the byte 127
 unfoldable pub is_word : List ℕ → Bool
 is_word text =
     nat_lt 0 (length text) && nat_le (length text) 4096
-    && list_all (λ b. nat_lt 32 b && not (b == 127)) text && is_utf8 text
+    && list_all is_word_byte text && is_utf8 text
 
 -- the whole is this part and something behind it
 abbrev pub BeginsWith : List ℕ → List ℕ → Type 0

@@ -1,5 +1,5 @@
 -- What an act asks for, who made it, and what a change it may be.
-use Rattle.std.specs.Prelude.{◌≡◌, ◌⊎◌, ℕ, ◌≤◌, Bool, true, false, ◌&&◌, IsTrue, List, [], ◌∷◌, length, bytes_eq, if◌then◌else◌, Option, Some, None}
+use Rattle.std.specs.Prelude.{◌≡◌, ◌⊎◌, ℕ, ◌≤◌, Bool, true, false, ◌&&◌, ◌||◌, IsTrue, List, [], ◌∷◌, length, bytes_eq, if◌then◌else◌, Option, Some, None}
 use Rattle.chk_site.specs.declared.acts.Role.{Role}
 use Rattle.chk_site.specs.declared.acts.Role.TheVariants.{Agent, Collector, Job, Writer}
 use Rattle.chk_site.specs.declared.acts.Who.{Who}
@@ -109,6 +109,16 @@ change_of (Removes name) = Gone name
 change_of (Cuts name n) = Shortened name n
 change_of _ = Nothing
 
+-- the call may change the file of this name
+abbrev pub touches : Deed → List ℕ → Bool
+touches (Creates n) name = bytes_eq name n
+touches (Appends n piece) name = bytes_eq name n
+touches (Syncs n) name = bytes_eq name n
+touches (Renames old new) name = bytes_eq name new || bytes_eq name old
+touches (Removes n) name = bytes_eq name n
+touches (Cuts n k) name = bytes_eq name n
+touches call name = false
+
 -- a stop says that the call on this name took place
 abbrev pub says_whole : List Left → List ℕ → Bool
 says_whole [] name = false
@@ -119,7 +129,18 @@ abbrev pub tail_of : List Left → List ℕ → Option (List ℕ)
 tail_of [] name = None
 tail_of (l ∷ left) name = if bytes_eq name l.name then Some l.tail else tail_of left name
 
--- some of a piece that was to be appended to a log
+-- the tail that an act leaves of this file, where it was a stop
+abbrev pub tail_in : ActAnswer → List ℕ → Option (List ℕ)
+tail_in (Stopped left) name = tail_of left name
+tail_in answer name = None
+
+-- a writer's act that does no more to a log than append to it
+abbrev pub OnlyAppends : ActAnswer → Type 0
+OnlyAppends (Rotated suffix) = ⊥
+OnlyAppends (Deleted suffix) = ⊥
+OnlyAppends answer = Unit {0}
+
+-- some of a piece that was to be appended to a file or a log
 abbrev pub TornAppend : Change → Change → Type 0
 TornAppend (LogGrown path piece) did = (junk : List ℕ) × (length junk ≤ length piece) × (did ≡ LogGrown path junk)
 TornAppend (Grown name piece) did = (junk : List ℕ) × (length junk ≤ length piece) × (did ≡ Grown name junk)
