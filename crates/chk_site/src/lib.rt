@@ -11,4 +11,4 @@ pub use acts::{Act, ActAnswer, Call, CallFault, OutsideFault, Role, Who};
 pub use lists::{Left, Lefts, Words};
 pub use scripts::{Other, Script, StopAt};
 pub use site::{Site, done, taken};
-pub use suffixes::{Part, Piece, Suffix, Taking};
+pub use suffixes::{Part, Piece, Suffix, Taking, is_suffix};

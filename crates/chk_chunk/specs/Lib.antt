@@ -1,0 +1,4 @@
+pub mod Keys
+pub mod Posts
+pub mod Reach
+pub mod Lent
