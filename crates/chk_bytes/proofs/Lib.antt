@@ -1,3 +1,9 @@
-pub mod WordLemmas
 pub mod DecimalLemmas
+pub mod FaultLemmas
+pub mod NumberLemmas
+pub mod PartLemmas
+pub mod SpellingLemmas
 pub mod StemLemmas
+pub mod VintLaws
+pub mod VintLemmas
+pub mod WordLemmas

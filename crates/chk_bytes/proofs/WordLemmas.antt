@@ -1,16 +1,14 @@
--- Words: what each is known to be, and what is wrong with a text that is none.
-use Rattle.std.proofs.Common.{◌≡◌, ℕ, ◌<◌, ◌≤◌, Bool, true, false, not, cond, List, [], ◌∷◌, length, ltb, Option, Some, None, refl, sym, ap, ◌∙◌, inl, inr, arith}
-use Rattle.std.specs.Prelude.{IsTrue, position}
-use Rattle.std.specs.Option.{option_map, MatchOption}
-use Rattle.std.specs.Str.{IsUtf8, is_utf8}
-use Rattle.std.specs.Str.Lossy.{utf8_valid_len}
-use Rattle.std.specs.List.{list_all, prefix_len}
-use Rattle.std.proofs.lemmas.Str.{IsUtf8-from_is_utf8, is_utf8-from_IsUtf8}
-use Rattle.std.proofs.lemmas.Bool.{leb-true, le-leb, ltb-true, ltb-false, lt-ltb, le-ltb, eqb-false, eq-eqb, ne_eqb, and_parts, and_from, cond-false, cases_Bool, cases_lt, false_from_ne_true}
-use Rattle.chk_bytes.specs.Words.{is_word, is_word_byte}
-use Rattle.chk_bytes.specs.WordFaults.{word_fault_of}
-use Rattle.chk_bytes.specs.declared.word.WordFault.{WordFault}
-use Rattle.chk_bytes.specs.declared.word.WordFault.TheVariants.{Empty, TooLong, NotUtf8, NotWord}
+-- Words: what each is known to be, and which texts are words.
+use Rattle.std.proofs.Common.{◌≡◌, ℕ, ◌+◌, ◌<◌, ◌≤◌, ◌&&◌, Bool, true, not, List, [], ◌∷◌, ◌++◌, length, get_or, refl, ◌∙◌, suc, zero, arith, length-append}
+use Rattle.std.specs.Prelude.{IsTrue, nat_lt, ◌==◌}
+use Rattle.std.specs.Str.{IsUtf8, IsAscii}
+use Rattle.std.specs.List.{list_all}
+use Rattle.std.proofs.lemmas.Str.{IsUtf8-from_is_utf8, is_utf8-from_IsUtf8, IsUtf8-from_ascii, IsUtf8-append}
+use Rattle.std.proofs.lemmas.Str.Ascii.{IsAscii-nil, IsAscii-cons}
+use Rattle.std.proofs.lemmas.Bool.{leb-true, le-leb, ltb-true, lt-ltb, and_parts, and_from}
+use Rattle.std.proofs.lemmas.Bool.Decides.{nat_tests}
+use Rattle.std.proofs.lemmas.List.Folds.{list_all-append}
+use Rattle.chk_bytes.specs.Words.{is_word, is_word_byte, lacks}
 
 -- what a word is, each part by its name
 pub record WordFacts (text : List ℕ) : Type 0 where
@@ -36,101 +34,124 @@ pub is_word-from_facts : (text : List ℕ) → WordFacts text → IsTrue (is_wor
 unfolding is_word
 is_word-from_facts text w =
     and_from _ _
-    (and_from _ _ (and_from _ _ (lt-ltb 0 (length text) w.some_byte) (le-leb (length text) 4096 w.at_most)) w.word_bytes)
+    (and_from _ _
+    (and_from _ _ (lt-ltb 0 (length text) w.some_byte) (le-leb (length text) 4096 w.at_most))
+    w.word_bytes)
     (is_utf8-from_IsUtf8 text w.utf8)
 
--- where all bytes pass a test, none is found that fails it
-all_passed : (p : ℕ → Bool) (text : List ℕ) → list_all p text ≡ true → prefix_len (λ b. not (not (p b))) text ≡ length text
-all_passed p [] h = refl
-all_passed p (b ∷ bs) h =
-    let parts = and_parts (p b) (list_all p bs) h in
-    rw parts.0 (omega (arith, all_passed p bs parts.1))
+-- a byte of a word is above the space, and not the byte 127
+word_byte_above : (b : ℕ) → is_word_byte b ≡ true → (32 < b) × (b ≡ 127 → ⊥)
+word_byte_above b h = grind (arith, nat_tests)
 
--- where none is found that fails a test, all pass it
-pass_all : (p : ℕ → Bool) (text : List ℕ) → prefix_len (λ b. not (not (p b))) text ≡ length text → list_all p text ≡ true
-pass_all p [] h = refl
-pass_all p (b ∷ bs) h =
-    elim (cases_Bool (p b)) [
-      | inl t ↦ let k = rw t at h in and_from _ _ t (pass_all p bs (omega (arith, k)))
-      | inr f ↦ let k = rw f at h in absurd (omega (arith, k))
-    ]
+word_bytes_above : (text : List ℕ) (i : ℕ) → list_all is_word_byte text ≡ true → i < length text
+    → (32 < get_or text i 0) × (get_or text i 0 ≡ 127 → ⊥)
+word_bytes_above [] i h within = absurd (omega arith)
+word_bytes_above (b ∷ bs) zero h within =
+    word_byte_above b (and_parts (is_word_byte b) (list_all is_word_byte bs) h).0
+word_bytes_above (b ∷ bs) (suc i) h within =
+    word_bytes_above bs i (and_parts (is_word_byte b) (list_all is_word_byte bs) h).1 (omega arith)
 
-prefix_le : (p : ℕ → Bool) (text : List ℕ) → prefix_len p text ≤ length text
-prefix_le p [] = omega arith
-prefix_le p (b ∷ bs) = elim (cases_Bool (p b)) [
-  | inl t ↦ rw t (omega (arith, prefix_le p bs))
-  | inr f ↦ rw f (omega arith)
-]
+pub word_byte : (text : List ℕ) (i : ℕ) → IsTrue (is_word text) → i < length text
+    → (32 < get_or text i 0) × (get_or text i 0 ≡ 127 → ⊥)
+word_byte text i h within = word_bytes_above text i (word_facts text h).word_bytes within
 
-none_failing : (p : ℕ → Bool) (text : List ℕ) → list_all p text ≡ true → position (λ b. not (p b)) text ≡ None
-none_failing p text h =
-    let n = prefix_len (λ b. not (not (p b))) text in
-    let past : length text ≤ n = omega (arith, all_passed p text h) in
-    cond-false (ltb n (length text)) (Some n) None (le-ltb n (length text) past)
+-- a word has neither spaces nor line ends
+apart : (separator b : ℕ) → separator ≤ 32 → is_word_byte b ≡ true → not (b == separator) ≡ true
+apart separator b low h = grind (arith, nat_tests)
 
-all_where_none : (p : ℕ → Bool) (text : List ℕ) → position (λ b. not (p b)) text ≡ None → list_all p text ≡ true
-all_where_none p text h =
-    elim (cases_lt (prefix_len (λ b. not (not (p b))) text) (length text)) [
-      | inl below ↦ absurd (let k = rw (lt-ltb _ _ below) at h in cc)
-      | inr past ↦ pass_all p text (omega (arith, prefix_le (λ b. not (not (p b))) text))
-    ]
+word_bytes_lack : (separator : ℕ) (text : List ℕ) → separator ≤ 32
+    → list_all is_word_byte text ≡ true → IsTrue (lacks separator text)
+word_bytes_lack separator [] low h = refl
+word_bytes_lack separator (b ∷ bs) low h =
+    let parts = and_parts (is_word_byte b) (list_all is_word_byte bs) h in
+    and_from _ _ (apart separator b low parts.0) (word_bytes_lack separator bs low parts.1)
 
--- which of the four faults it is
-fault_by : (e l u : Bool) (x y z : WordFault) (o : Option WordFault)
-    → cond e (Some x) (cond l (Some y) (cond u o (Some z))) ≡ None → (e ≡ false) × (l ≡ false) × (u ≡ true) × (o ≡ None)
-fault_by true l u x y z o h = absurd (cc)
-fault_by false true u x y z o h = absurd (cc)
-fault_by false false true x y z o h = (refl, refl, refl, h)
-fault_by false false false x y z o h = absurd (cc)
+pub word_lacks : (separator : ℕ) (text : List ℕ) → separator ≤ 32 → IsTrue (is_word text)
+    → IsTrue (lacks separator text)
+word_lacks separator text low h = word_bytes_lack separator text low (word_facts text h).word_bytes
 
-none_mapped : (o : Option ℕ) → option_map NotWord o ≡ None → o ≡ None
-none_mapped None h = refl
-none_mapped (Some at) h = absurd (cc)
+-- two texts of word bytes, one after the other
+word_bytes-append : (front back : List ℕ) → list_all is_word_byte front ≡ true
+    → list_all is_word_byte back ≡ true
+    → list_all is_word_byte (front ++ back) ≡ true
+word_bytes-append front back h h' = list_all-append is_word_byte front back ∙ and_from _ _ h h'
 
-pub fault_empty : (text : List ℕ) → length text ≡ 0 → Some Empty ≡ word_fault_of text
-unfolding word_fault_of
-fault_empty text h = rw (eq-eqb (length text) 0 h) refl
-
-pub fault_long : (text : List ℕ) → 4096 < length text → Some (TooLong 4096 (length text)) ≡ word_fault_of text
-unfolding word_fault_of
-fault_long text h =
-    let some : (length text ≡ 0 → ⊥) = λ e. omega arith in
-    rw (ne_eqb (length text) 0 some, lt-ltb 4096 (length text) h) refl
-
-pub fault_utf8 : (text : List ℕ) → (length text ≡ 0 → ⊥) → length text ≤ 4096 → (IsUtf8 text → ⊥)
-    → Some (NotUtf8 (utf8_valid_len text)) ≡ word_fault_of text
-unfolding word_fault_of
-fault_utf8 text some short no_utf8 =
-    let no_text : is_utf8 text ≡ false = false_from_ne_true (is_utf8 text) (λ t. no_utf8 (IsUtf8-from_is_utf8 text t)) in
-    rw (ne_eqb (length text) 0 some, le-ltb 4096 (length text) short, no_text) refl
-
-pub fault_byte : (text : List ℕ) → (length text ≡ 0 → ⊥) → length text ≤ 4096 → IsUtf8 text
-    → option_map NotWord (position (λ b. not (is_word_byte b)) text) ≡ word_fault_of text
-unfolding word_fault_of
-fault_byte text some short utf8 =
-    rw (ne_eqb (length text) 0 some, le-ltb 4096 (length text) short, is_utf8-from_IsUtf8 text utf8) refl
-
--- a text is a word exactly where nothing is wrong with it
-pub is_word-from_faultless : (text : List ℕ) → word_fault_of text ≡ None → IsTrue (is_word text)
-unfolding word_fault_of
-is_word-from_faultless text h =
-    let parts = fault_by _ _ _ _ _ _ _ h in
-    let some : (length text ≡ 0 → ⊥) = eqb-false (length text) 0 parts.0 in
-    is_word-from_facts text record {
-      some_byte = omega arith;
-      at_most = ltb-false 4096 (length text) parts.1;
-      word_bytes = all_where_none is_word_byte text (none_mapped _ parts.3);
-      utf8 = IsUtf8-from_is_utf8 text parts.2;
+-- a word with another behind it
+pub is_word-append : (front back : List ℕ) → IsTrue (is_word front) → IsTrue (is_word back)
+    → length front + length back ≤ 4096 → IsTrue (is_word (front ++ back))
+is_word-append front back h h' fits =
+    let w = word_facts front h in
+    let v = word_facts back h' in
+    is_word-from_facts (front ++ back) record {
+      some_byte = omega (arith, w.some_byte, length-append front back);
+      at_most = omega (arith, length-append front back);
+      word_bytes = word_bytes-append front back w.word_bytes v.word_bytes;
+      utf8 = IsUtf8-append front back w.utf8 v.utf8;
     }
 
-pub faultless-from_is_word : (text : List ℕ) → IsTrue (is_word text) → word_fault_of text ≡ None
-faultless-from_is_word text h =
-    let w = word_facts text h in
-    sym (fault_byte text (λ e. omega (arith, w.some_byte)) w.at_most w.utf8)
-    ∙ ap (option_map NotWord) (none_failing is_word_byte text w.word_bytes)
+-- a printed ASCII byte: a test that computes, for texts that are written out
+abbrev pub is_plain_byte : ℕ → Bool
+is_plain_byte b = nat_lt 32 b && nat_lt b 127
 
--- what `map` gives, where it puts a place into the fault
-pub mapped : (o : Option ℕ) (r : Option WordFault) (p : Option ℕ)
-    → MatchOption o (r ≡ None) (λ at. r ≡ Some (NotWord at)) → o ≡ p → r ≡ option_map NotWord p
-mapped None r p h e = h ∙ ap (option_map NotWord) e
-mapped (Some at) r p h e = h ∙ ap (option_map NotWord) e
+plain_byte_word : (b : ℕ) → is_plain_byte b ≡ true → is_word_byte b ≡ true
+plain_byte_word b h = grind (arith, nat_tests)
+
+plain_byte_ascii : (b : ℕ) → is_plain_byte b ≡ true → b < 128
+plain_byte_ascii b h = grind (arith, nat_tests)
+
+plain_word_bytes : (text : List ℕ) → list_all is_plain_byte text ≡ true
+    → list_all is_word_byte text ≡ true
+plain_word_bytes [] h = refl
+plain_word_bytes (b ∷ bs) h =
+    let parts = and_parts (is_plain_byte b) (list_all is_plain_byte bs) h in
+    and_from _ _ (plain_byte_word b parts.0) (plain_word_bytes bs parts.1)
+
+plain_ascii : (text : List ℕ) → list_all is_plain_byte text ≡ true → IsAscii text
+plain_ascii [] h = IsAscii-nil
+plain_ascii (b ∷ bs) h =
+    let parts = and_parts (is_plain_byte b) (list_all is_plain_byte bs) h in
+    IsAscii-cons b bs (plain_byte_ascii b parts.0) (plain_ascii bs parts.1)
+
+pub plain_utf8 : (text : List ℕ) → list_all is_plain_byte text ≡ true → IsUtf8 text
+plain_utf8 text h = IsUtf8-from_ascii text (plain_ascii text h)
+
+pub plain-append : (front back : List ℕ) → list_all is_plain_byte front ≡ true
+    → list_all is_plain_byte back ≡ true
+    → list_all is_plain_byte (front ++ back) ≡ true
+plain-append front back h h' = list_all-append is_plain_byte front back ∙ and_from _ _ h h'
+
+-- a plain text is a word
+pub plain_word : (text : List ℕ) → list_all is_plain_byte text ≡ true → 0 < length text
+    → length text ≤ 4096 → IsTrue (is_word text)
+plain_word text h some fits =
+    is_word-from_facts text record {
+      some_byte = some;
+      at_most = fits;
+      word_bytes = plain_word_bytes text h;
+      utf8 = plain_utf8 text h;
+    }
+
+-- and so is a word with a plain text behind it or before it
+pub plain_behind_word : (word plain : List ℕ) → IsTrue (is_word word)
+    → list_all is_plain_byte plain ≡ true
+    → length word + length plain ≤ 4096 → IsTrue (is_word (word ++ plain))
+plain_behind_word word plain h h' fits =
+    let w = word_facts word h in
+    is_word-from_facts (word ++ plain) record {
+      some_byte = omega (arith, w.some_byte, length-append word plain);
+      at_most = omega (arith, length-append word plain);
+      word_bytes = word_bytes-append word plain w.word_bytes (plain_word_bytes plain h');
+      utf8 = IsUtf8-append word plain w.utf8 (plain_utf8 plain h');
+    }
+
+pub plain_before_word : (plain word : List ℕ) → list_all is_plain_byte plain ≡ true
+    → IsTrue (is_word word)
+    → length plain + length word ≤ 4096 → IsTrue (is_word (plain ++ word))
+plain_before_word plain word h h' fits =
+    let w = word_facts word h' in
+    is_word-from_facts (plain ++ word) record {
+      some_byte = omega (arith, w.some_byte, length-append plain word);
+      at_most = omega (arith, length-append plain word);
+      word_bytes = word_bytes-append plain word (plain_word_bytes plain h) w.word_bytes;
+      utf8 = IsUtf8-append plain word (plain_utf8 plain h) w.utf8;
+    }

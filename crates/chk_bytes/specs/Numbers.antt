@@ -12,6 +12,10 @@ be16 n = n / 2 ^ 8 % 256 ∷ n % 256 ∷ []
 abbrev pub be32 : ℕ → List ℕ
 be32 n = n / 2 ^ 24 % 256 ∷ n / 2 ^ 16 % 256 ∷ n / 2 ^ 8 % 256 ∷ n % 256 ∷ []
 
+-- in 3 bytes
+abbrev pub be24 : ℕ → List ℕ
+be24 n = n / 2 ^ 16 % 256 ∷ n / 2 ^ 8 % 256 ∷ n % 256 ∷ []
+
 -- in 8 bytes
 abbrev pub be64 : ℕ → List ℕ
 be64 n =
@@ -38,7 +42,8 @@ limit = 2 ^ 63
 -- the number of 1 to 19 digits that stand there, below 2^63
 abbrev pub number_in_digits : List ℕ → Option ℕ
 number_in_digits text =
-    if nat_lt 0 (length text) && nat_le (length text) 19 && list_all is_ascii_digit text && nat_lt (digits_value 10 text) limit
+    if nat_lt 0 (length text) && nat_le (length text) 19 && list_all is_ascii_digit text
+    && nat_lt (digits_value 10 text) limit
     then Some (digits_value 10 text) else None
 
 -- the same without a leading zero

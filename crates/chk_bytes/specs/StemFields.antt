@@ -14,7 +14,12 @@ stem_view a = record { collector = take a.used a.letters; born = a.born; number 
 
 -- the fields that hold a stem
 abbrev pub stem_inside : Stem → Inside
-stem_inside x = record { letters = padded x.collector; used = length x.collector; born = x.born; number = x.number }
+stem_inside x = record {
+  letters = padded x.collector;
+  used = length x.collector;
+  born = x.born;
+  number = x.number;
+}
 
 -- the name is as long as is said, the spare bytes are 0, and the whole is a stem
 pub record IsSound (a : Inside) : Type 0 where
@@ -25,6 +30,7 @@ pub record IsSound (a : Inside) : Type 0 where
 -- the stem gives its fields back
 pub stem_inside-stem_view : (a : Inside) → IsSound a → stem_inside (stem_view a) ≡ a
 stem_inside-stem_view a sound =
-    let by_letters : List ℕ → Inside = λ l. record { letters = l; used = length (take a.used a.letters); born = a.born; number = a.number } in
-    let by_used : ℕ → Inside = λ n. record { letters = a.letters; used = n; born = a.born; number = a.number } in
-    ap by_letters (sym sound.spare_is) ∙ ap by_used (sym sound.used_is)
+    let held : List ℕ → ℕ → Inside =
+    λ letters used. record { letters = letters; used = used; born = a.born; number = a.number } in
+    ap (λ letters. held letters (length (take a.used a.letters))) (sym sound.spare_is)
+    ∙ ap (held a.letters) (sym sound.used_is)

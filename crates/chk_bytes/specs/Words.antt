@@ -1,5 +1,5 @@
 -- Words, and the parts of a text.
-use Rattle.std.specs.Prelude.{◌≡◌, ℕ, ◌-◌, Bool, true, false, ◌&&◌, ◌||◌, not, ◌==◌, nat_lt, nat_le, List, [], ◌∷◌, ◌++◌, length, take, drop, bytes_eq, if◌then◌else◌, Option, Some, None}
+use Rattle.std.specs.Prelude.{◌≡◌, ℕ, ◌-◌, Bool, true, false, ◌&&◌, ◌||◌, not, ◌==◌, nat_lt, nat_le, List, [], ◌∷◌, ◌++◌, length, take, drop, bytes_eq, if◌then◌else◌, Option, Some, None, IsTrue}
 use Rattle.std.specs.List.{list_all}
 use Rattle.std.specs.Str.{is_utf8}
 
@@ -20,11 +20,22 @@ BeginsWith whole part = (rest : List ℕ) × (whole ≡ part ++ rest)
 -- what stands before this ending
 abbrev pub before_end : List ℕ → List ℕ → Option (List ℕ)
 before_end ending text =
-    if bytes_eq (drop (length text - length ending) text) ending then Some (take (length text - length ending) text) else None
+    if bytes_eq (drop (length text - length ending) text) ending
+    then Some (take (length text - length ending) text) else None
 
 -- what stands behind this beginning
 abbrev pub behind_front : List ℕ → List ℕ → Option (List ℕ)
-behind_front front text = if bytes_eq (take (length front) text) front then Some (drop (length front) text) else None
+behind_front front text =
+    if bytes_eq (take (length front) text) front then Some (drop (length front) text) else None
+
+-- this separator doesn't stand in the text
+abbrev pub lacks : ℕ → List ℕ → Bool
+lacks separator text = list_all (λ b. not (b == separator)) text
+
+-- the text is these two with the first separator between them
+pub record SplitsAt (separator : ℕ) (text front back : List ℕ) : Type 0 where
+  pub front_lacks : IsTrue (lacks separator front)
+  pub whole : text ≡ front ++ separator ∷ back
 
 -- a byte put in front of the first part
 abbrev pub onto_first : ℕ → List (List ℕ) → List (List ℕ)
@@ -34,7 +45,9 @@ onto_first b (part ∷ parts) = (b ∷ part) ∷ parts
 -- the parts of a text between these separators: one more than there are separators
 abbrev pub parts_at : ℕ → List ℕ → List (List ℕ)
 parts_at separator [] = [] ∷ []
-parts_at separator (b ∷ text) = if b == separator then [] ∷ parts_at separator text else onto_first b (parts_at separator text)
+parts_at separator (b ∷ text) =
+    if b == separator then [] ∷ parts_at separator text
+    else onto_first b (parts_at separator text)
 
 -- the parts with the separator between each two
 abbrev pub joined_at : ℕ → List (List ℕ) → List ℕ
@@ -55,4 +68,5 @@ text_lt (b ∷ bs) (c ∷ cs) = nat_lt b c || (b == c && text_lt bs cs)
 
 -- a value is the one that a text spells: it is allowed, and its spelling is the text
 abbrev pub spelling : {A : Type 0} → (A → Bool) → (A → List ℕ) → A → List ℕ → Option A
-spelling allowed spell value text = if allowed value && bytes_eq (spell value) text then Some value else None
+spelling allowed spell value text =
+    if allowed value && bytes_eq (spell value) text then Some value else None

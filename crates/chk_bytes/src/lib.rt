@@ -4,16 +4,23 @@
 
 mod byte_list;
 mod decimals;
-mod fixed;
+mod laws;
+mod numbers;
 mod stem;
+mod vints;
 mod word;
 
 pub use byte_list::Bytes;
-pub use decimals::put_decimal;
-pub use fixed::{put_u16, put_u32, put_u64};
+pub use decimals::{put_decimal, take_decimal, take_plain_decimal};
+pub use laws::{
+    decimals_read_back, equal_stems_are_one, numbers_read_back, stems_read_back,
+    vints_are_shortest, vints_follow_the_table, vints_read_back, word_is_faultless,
+};
+pub use numbers::{put_u16, put_u32, put_u64, take_u16, take_u32, take_u64};
 use std::alloc::{AllocError, AllocFailed};
 pub use stem::Stem;
-pub use word::{Word, WordFault, word_fault, word_is_faultless};
+pub use vints::{VintFault, put_vint, take_vint};
+pub use word::{Word, WordFault, word_fault};
 
 /// There was no memory.
 #[derive(Clone, Copy, Debug, PartialEq, Eq)]
@@ -30,3 +37,6 @@ impl<T: Drop> From<AllocFailed<T>> for NoMemory {
         NoMemory
     }
 }
+
+#[cfg(test)]
+mod tests;

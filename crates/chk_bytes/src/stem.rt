@@ -1,10 +1,14 @@
 //! Stems, the names of sinks.
 
-ghost use Rattle.std.specs.Prelude.{◌≡◌, ◌≤◌, length, IsTrue, SomeIff};
-ghost use Rattle.chk_bytes.specs.Stems.{is_stem, stem_of, is_collector, is_stem_letter, is_count};
+ghost use Rattle.std.specs.Prelude.{◌≡◌, ◌≤◌, ◌++◌, ◌==◌, length, take, position, Some, IsTrue, SomeIff, MatchOption, OnOk, OnErr};
+ghost use Rattle.chk_bytes.specs.Stems.{is_stem, stem_of, stem_text, read_stem, same_stem, is_collector, is_stem_letter, is_count};
 ghost use Rattle.chk_bytes.specs.StemFields.{padded};
+ghost use Rattle.chk_bytes.specs.StemEquality.{same_stem_laws, same_stem_equivalence};
+ghost use Rattle.chk_bytes.specs.Words.{lacks, SplitsAt};
 ghost use Rattle.std.specs.List.{list_all};
 
+use crate::{Bytes, NoMemory, put_decimal, take_plain_decimal};
+use std::fmt;
 use std::marker::Model;
 
 /// The name of a sink: its collector, the number of the collector's start, and the number of the
@@ -22,7 +26,8 @@ impl Model for Stem {
 
     ghost Value = { Parts };
 
-    ghost use Rattle.chk_bytes.specs.StemFields.{stem_view, stem_inside, IsSound, stem_inside-stem_view};
+    ghost use Rattle.chk_bytes.specs.StemFields.{stem_view, stem_inside, IsSound};
+    ghost use Rattle.chk_bytes.specs.StemFields.{stem_inside-stem_view};
 
     ghost view = { stem_view };
 
@@ -51,6 +56,45 @@ impl Stem {
         })
     }
 
+    /// The stem that a text spells as `write` writes it, with no leading zeros.
+    pub fn read(text: &[u8]) -> Option<Stem>
+        ensures { result ≡ read_stem text.now }
+    {
+        let (name, numbers) = split_at_dot(text)?;
+        let (born, number) = split_at_dot(numbers)?;
+        let born = take_plain_decimal(born)?;
+        let number = take_plain_decimal(number)?;
+        match str::from_utf8(name) {
+            Ok(name) => Stem::new(name, born, number),
+            Err(_) => None,
+        }
+    }
+
+    /// Appends `<name>.<born>.<number>`, at most 104 bytes, or without memory nothing.
+    pub fn write(&self, out: &mut Bytes) -> Result<(), NoMemory>
+        ensures ok { OnOk result (out.new ≡ out.old ++ stem_text self.now) }
+        ensures err { OnErr result (out.new ≡ out.old) }
+    {
+        let length = out.len();
+        let written = self.append_to(out);
+        if written.is_err() {
+            out.truncate(length);
+        }
+        written
+    }
+
+    // Appends the text, or without memory a part of it.
+    fn append_to(&self, out: &mut Bytes) -> Result<(), NoMemory>
+        ensures ok { OnOk result (out.new ≡ out.old ++ stem_text self.now) }
+        ensures err { OnErr result (take (length out.old) out.new ≡ out.old) }
+    {
+        out.push_all(self.name().as_bytes())?;
+        out.push_all(b".")?;
+        put_decimal(out, self.born)?;
+        out.push_all(b".")?;
+        put_decimal(out, self.number)
+    }
+
     /// The collector's name.
     pub fn name(&self) -> &str
         ensures name { result.now ≡ self.now.collector }
@@ -77,6 +121,52 @@ impl Stem {
     {
         self.number
     }
+}
+
+impl PartialEq for Stem {
+    ghost eq = { same_stem };
+
+    ghost laws = { same_stem_laws };
+
+    fn eq(&self, other: &Stem) -> bool {
+        self.name() == other.name() && self.born == other.born && self.number == other.number
+    }
+}
+
+impl Eq for Stem {
+    ghost laws = { same_stem_equivalence };
+}
+
+impl fmt::Display for Stem {
+    ghost output = { λ x. Some (stem_text x) };
+
+    fn fmt<W: fmt::Write>(&self, f: &mut fmt::Formatter<W>) -> fmt::Result {
+        let name = self.name();
+        let born = self.born;
+        let number = self.number;
+        write!(f, "{name}.{born}.{number}")
+    }
+}
+
+impl fmt::Debug for Stem {
+    fn fmt<W: fmt::Write>(&self, f: &mut fmt::Formatter<W>) -> fmt::Result {
+        write!(f, "Stem({self})")
+    }
+}
+
+// What stands before and behind the first dot.
+fn split_at_dot(text: &[u8]) -> Option<(&[u8], &[u8])>
+    ensures { MatchOption result (IsTrue (lacks 46 text.now))
+        (λ parts. SplitsAt 46 text.now parts.0.now parts.1.now) }
+{
+    let at = first_dot(text)?;
+    Some((&text[..at], &text[at + 1..]))
+}
+
+fn first_dot(text: &[u8]) -> Option<usize>
+    ensures { result ≡ position (λ b. b == 46) text.now }
+{
+    text.iter().position(|b| *b == b'.')
 }
 
 fn is_collector(name: &[u8]) -> bool

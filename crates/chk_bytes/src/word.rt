@@ -1,12 +1,16 @@
 //! Words: the texts that name sources, types, streams, paths and addresses.
 
-ghost use Rattle.std.specs.Prelude.{◌≡◌, ℕ, List, IfOk, IfErr, IsTrue, not, position, string_bytes};
+ghost use Rattle.std.specs.Prelude.{◌≡◌, ℕ, List, IfOk, IfErr, IsTrue, not, position, Some, string_bytes};
 ghost use Rattle.chk_bytes.specs.Words.{is_word, is_word_byte};
-ghost use Rattle.chk_bytes.specs.WordFaults.{word_fault_of, IsRefusal, FaultlessIsWord};
+ghost use Rattle.chk_bytes.specs.WordFaults.{word_fault_of, IsRefusal};
 
 use crate::NoMemory;
 use std::alloc::Global;
+use std::fmt;
 use std::marker::Model;
+
+// The most bytes of a word.
+const LIMIT: usize = 4096;
 
 /// Why a text is no word. The first that holds is told, in this order.
 #[derive(Clone, Copy, Debug, PartialEq, Eq)]
@@ -82,6 +86,15 @@ impl Word {
     }
 }
 
+impl fmt::Display for Word {
+    ghost output = { λ w. Some w };
+
+    fn fmt<W: fmt::Write>(&self, f: &mut fmt::Formatter<W>) -> fmt::Result {
+        let text = self.text.as_str();
+        write!(f, "{text}")
+    }
+}
+
 /// What is wrong with a text as a word, `None` where it is one. It takes no memory, and reads a
 /// text of up to 4,096 bytes twice and a longer one not at all. It never answers `NoMemory`.
 pub fn word_fault(text: &[u8]) -> Option<WordFault>
@@ -90,9 +103,9 @@ pub fn word_fault(text: &[u8]) -> Option<WordFault>
     if text.is_empty() {
         return Some(WordFault::Empty);
     }
-    if text.len() > 4096 {
+    if text.len() > LIMIT {
         return Some(WordFault::TooLong {
-            limit: 4096,
+            limit: LIMIT as u64,
             found: text.len() as u64,
         });
     }
@@ -110,8 +123,3 @@ fn not_word_at(text: &[u8]) -> Option<usize>
 {
     text.iter().position(|b| *b <= 0x20 || *b == 0x7F)
 }
-
-/// A law: nothing is wrong with a text exactly where it is a word.
-pub fn word_is_faultless()
-    ensures { FaultlessIsWord }
-{}

@@ -54,3 +54,21 @@ is_key-from_facts k f =
     (and_from _ _ f.cluster
     (and_from _ _ (lt-ltb k.start start_limit f.low)
     (and_from _ _ (lt-ltb k.start k.seq f.started) (lt-ltb k.seq limit f.fits))))
+
+-- no text is long
+pub record TextSizes (k : Key) : Type 0 where
+  pub source : length k.stream.source ≤ 4096
+  pub kind : length k.stream.kind ≤ 4096
+  pub name : length k.stream.name ≤ 4096
+  pub cluster : length k.cluster ≤ 4096
+
+pub text_sizes : (k : Key) → IsTrue (is_key k) → TextSizes k
+text_sizes k valid =
+    let facts = key_facts k valid in
+    let words = stream_facts k.stream facts.stream in
+    record {
+      source = word_fits k.stream.source words.source;
+      kind = word_fits k.stream.kind words.kind;
+      name = word_fits k.stream.name words.name;
+      cluster = word_fits k.cluster facts.cluster;
+    }

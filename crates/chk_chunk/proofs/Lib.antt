@@ -1,2 +1,11 @@
 pub mod Appended
+pub mod NumberLemmas
 pub mod KeyLemmas
+pub mod FieldLemmas
+pub mod HeadLemmas
+pub mod KeyGrammar
+pub mod KeyReading
+pub mod KeyLaws
+pub mod KeySizes
+pub mod PostGrammar
+pub mod PostWriting

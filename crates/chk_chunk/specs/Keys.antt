@@ -1,5 +1,5 @@
 -- Streams, keys and chunks, and how a key is spelled.
-use Rattle.std.specs.Prelude.{◌≡◌, ◌⊎◌, ℕ, ◌+◌, ◌-◌, ◌≤◌, ◌<◌, ◌^◌, Bool, ◌&&◌, ◌||◌, ◌==◌, nat_eq, nat_le, nat_lt, List, [], ◌∷◌, ◌++◌, length, take, drop, IsTrue, bytes_eq, codes, if◌then◌else◌, Option, None}
+use Rattle.std.specs.Prelude.{◌≡◌, ◌⊎◌, ℕ, ◌+◌, ◌-◌, ◌≤◌, ◌<◌, ◌^◌, Bool, ◌&&◌, ◌||◌, ◌==◌, nat_eq, nat_le, nat_lt, List, ◌∷◌, ◌++◌, length, take, drop, IsTrue, bytes_eq, codes, if◌then◌else◌, Option}
 use Rattle.chk_bytes.specs.Numbers.{be16, be64, limit, spelled_at}
 use Rattle.chk_bytes.specs.Words.{is_word, spelling, text_lt}
 
@@ -84,32 +84,48 @@ text_at at bytes = take (spelled_at at 2 bytes) (drop (at + 2) bytes)
 abbrev pub behind_text : ℕ → List ℕ → ℕ
 behind_text at bytes = at + 2 + spelled_at at 2 bytes
 
--- the key that these bytes would be, its texts standing from a place on
-abbrev pub guessed_key : ℕ → List ℕ → ℕ → List ℕ → Key
-guessed_key start cluster at bytes =
+-- the stream whose three texts stand there
+abbrev pub stream_at : ℕ → List ℕ → Stream
+stream_at at bytes =
     let kind_at = behind_text at bytes in
     let name_at = behind_text kind_at bytes in
-    record {
-      stream = record { source = text_at at bytes; kind = text_at kind_at bytes; name = text_at name_at bytes };
-      start = start;
-      cluster = cluster;
-      seq = spelled_at 1 8 bytes;
-    }
+    record { source = text_at at bytes; kind = text_at kind_at bytes; name = text_at name_at bytes }
 
--- the key of version 2 that these bytes would be
-abbrev pub guessed_2 : List ℕ → Key
-guessed_2 bytes =
-    guessed_key
-    (spelled_at 9 8 bytes)
-    (text_at (behind_text (behind_text (behind_text 17 bytes) bytes) bytes) bytes)
-    17 bytes
+-- the place behind them
+abbrev pub behind_stream : ℕ → List ℕ → ℕ
+behind_stream at bytes = behind_text (behind_text (behind_text at bytes) bytes) bytes
+
+-- the key of version 1 that the bytes from this place on would be
+abbrev pub guessed_1 : ℕ → List ℕ → Key
+guessed_1 at bytes = record {
+  stream = stream_at (at + 9) bytes;
+  start = 0;
+  cluster = no_cluster;
+  seq = spelled_at (at + 1) 8 bytes;
+}
+
+-- the key of version 2 that they would be
+abbrev pub guessed_2 : ℕ → List ℕ → Key
+guessed_2 at bytes = record {
+  stream = stream_at (at + 17) bytes;
+  start = spelled_at (at + 9) 8 bytes;
+  cluster = text_at (behind_stream (at + 17) bytes) bytes;
+  seq = spelled_at (at + 1) 8 bytes;
+}
+
+-- the bytes from this place on begin with a 1
+abbrev pub is_version_1 : ℕ → List ℕ → Bool
+is_version_1 at bytes = spelled_at at 1 bytes == 1
+
+-- the key that they would be
+unfoldable pub guessed_key : ℕ → List ℕ → Key
+guessed_key at bytes = if is_version_1 at bytes then guessed_1 at bytes else guessed_2 at bytes
 
 -- the key that the bytes are
 unfoldable pub read_key : List ℕ → Option Key
-read_key [] = None
-read_key (version ∷ bytes) =
-    if version == 1 then spelling is_key_1 key_1 (guessed_key 0 no_cluster 9 (version ∷ bytes)) (version ∷ bytes)
-    else spelling is_key key_2 (guessed_2 (version ∷ bytes)) (version ∷ bytes)
+read_key bytes =
+    if is_version_1 0 bytes then spelling is_key_1 key_1 (guessed_1 0 bytes) bytes
+    else spelling is_key key_2 (guessed_2 0 bytes) bytes
 
 -- a chunk: the bytes of a stream that end at the key's offset
 pub record Chunk : Type 0 where

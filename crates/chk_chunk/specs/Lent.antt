@@ -1,5 +1,6 @@
 -- What the structs of a chunk and a key stand for.
-use Rattle.chk_chunk.specs.Keys.{Chunk, Key}
+use Rattle.std.specs.Prelude.{List, All, IsTrue, map}
+use Rattle.chk_chunk.specs.Keys.{Chunk, Key, is_chunk}
 use Rattle.chk_chunk.specs.declared.Chunk.{Chunk as OwnedChunk}
 use Rattle.chk_chunk.specs.declared.ChunkRef.{ChunkRef}
 use Rattle.chk_chunk.specs.declared.KeyRef.{KeyRef}
@@ -36,3 +37,11 @@ chunk_of c = record {
   };
   value = c.body;
 }
+
+-- the chunks that owned chunks are
+abbrev pub chunks_of : List OwnedChunk → List Chunk
+chunks_of chunks = map chunk_of chunks
+
+-- each can be spelled
+abbrev pub AreValid : List OwnedChunk → Type 0
+AreValid chunks = All (λ c. IsTrue (is_chunk (chunk_of c))) chunks

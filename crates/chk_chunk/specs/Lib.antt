@@ -2,3 +2,8 @@ pub mod Keys
 pub mod Posts
 pub mod Reach
 pub mod Lent
+pub mod Faults
+pub mod Fields
+pub mod ReadPosts
+pub mod PostFields
+pub mod Laws

@@ -1,7 +1,7 @@
 -- Posts: a count of chunks, and each chunk's key and data behind their lengths.
-use Rattle.std.specs.Prelude.{◌≡◌, ℕ, ◌≤◌, ◌<◌, List, [], ◌∷◌, ◌++◌, length, IsTrue}
-use Rattle.chk_bytes.specs.Numbers.{be32, with_length}
-use Rattle.chk_chunk.specs.Keys.{Chunk, IsKey, is_chunk, written_key}
+use Rattle.std.specs.Prelude.{◌≡◌, ℕ, zero, suc, ◌+◌, ◌≤◌, ◌<◌, List, [], ◌∷◌, ◌++◌, length, take, drop, IsTrue, All}
+use Rattle.chk_bytes.specs.Numbers.{be32, spelled_at, with_length}
+use Rattle.chk_chunk.specs.Keys.{Chunk, IsKey, is_chunk, written_key, guessed_key}
 
 -- the most bytes of a post
 abbrev pub post_limit : ℕ
@@ -35,11 +35,47 @@ pub record IsPost (chunks : List Chunk) (body : List ℕ) : Type 0 where
   pub is : body ≡ be32 (length chunks) ++ parts
   pub are : ArePostParts chunks parts
 
--- the chunks as they are written, one after the other
+-- each can be spelled
+abbrev pub AreChunks : List Chunk → Type 0
+AreChunks chunks = All (λ c. IsTrue (is_chunk c)) chunks
+
+-- a chunk as it is written
+unfoldable pub written_part : Chunk → List ℕ
+written_part c = post_part (written_key c.key) c.value
+
+-- some, one after the other
 abbrev pub written_parts : List Chunk → List ℕ
 written_parts [] = []
-written_parts (c ∷ cs) = post_part (written_key c.key) c.value ++ written_parts cs
+written_parts (c ∷ cs) = written_part c ++ written_parts cs
 
 -- a post as it is written
 abbrev pub written_post : List Chunk → List ℕ
 written_post chunks = be32 (length chunks) ++ written_parts chunks
+
+-- the bytes whose length stands at this place
+abbrev pub part_at : ℕ → List ℕ → List ℕ
+part_at at body = take (spelled_at at 4 body) (drop (at + 4) body)
+
+-- the place behind them
+abbrev pub behind_part : ℕ → List ℕ → ℕ
+behind_part at body = at + 4 + spelled_at at 4 body
+
+-- the body up to there
+abbrev pub up_to_part : ℕ → List ℕ → List ℕ
+up_to_part at body = take (behind_part at body) body
+
+-- the chunk that the bytes from this place on would be
+unfoldable pub guessed_chunk : ℕ → List ℕ → Chunk
+guessed_chunk at body = record {
+  key = guessed_key (at + 4) (up_to_part at body);
+  value = part_at (behind_part at body) body;
+}
+
+-- the place behind it
+abbrev pub behind_chunk : ℕ → List ℕ → ℕ
+behind_chunk at body = behind_part (behind_part at body) body
+
+-- the chunks that they would be, so many
+abbrev pub guessed_chunks : ℕ → ℕ → List ℕ → List Chunk
+guessed_chunks zero at body = []
+guessed_chunks (suc count) at body = guessed_chunk at body ∷ guessed_chunks count (behind_chunk at body) body

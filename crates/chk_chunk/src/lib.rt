@@ -8,10 +8,19 @@
 ghost use Rattle.std.specs.Prelude.{◌≡◌};
 ghost use Rattle.chk_chunk.specs.Lent.{lent_chunk, chunk_of};
 
+mod faults;
+mod fields;
 mod keys;
+mod laws;
+mod posts;
 
 use chk_bytes::{Bytes, Word};
-pub use keys::write_key;
+pub use faults::ChunkFault;
+pub use keys::{read_key, write_key};
+pub use laws::{
+    key_grammar, key_is_read, one_reading, post_grammar, prefix_free, written_is_in_grammar,
+};
+pub use posts::{PostRef, chunk_size, post_size, read_post, write_post};
 
 /// A chunk that borrows its texts and its data.
 #[derive(Clone, Copy, Debug, PartialEq, Eq)]
@@ -71,3 +80,6 @@ pub struct KeyRef<'a> {
     pub cluster: &'a str,
     pub seq: u64,
 }
+
+#[cfg(test)]
+mod tests;

@@ -1,7 +1,7 @@
 //! A ring of addresses of which one is in use: after a failure the next one is tried.
 #![tactic(auto)]
 
-ghost use Rattle.std.specs.Prelude.{◌≡◌, ◌<◌, ◌≤◌, Some, length, slice_get, vec_len};
+ghost use Rattle.std.specs.Prelude.{◌≡◌, ◌+◌, ◌<◌, ◌≤◌, Some, length, slice_get, OnOk, vec_len};
 ghost use Rattle.chk_failover.specs.Turns.{Turns, answer_to_failure, after_failure, GoesRound};
 
 use chk_bytes::Word;
@@ -111,19 +111,26 @@ pub fn law_goes_round()
 #[cfg(test)]
 mod tests {
     use super::*;
-    use chk_bytes::NoMemory;
+    use chk_bytes::WordFault;
     use std::alloc::Global;
 
-    fn ring_of_three(alloc: Global) -> Result<Ring, NoMemory> {
+    fn push(addresses: &mut Vec<Word>, alloc: Global, text: &[u8]) -> Result<(), WordFault>
+        ensures { OnOk result (vec_len addresses.new ≡ vec_len addresses.old + 1) }
+    {
+        let address = Word::new(alloc, text)?;
+        addresses.push(address).map_err(|_| WordFault::NoMemory)
+    }
+
+    fn ring_of_three(alloc: Global) -> Result<Ring, WordFault> {
         let mut addresses = Vec::new(alloc);
-        addresses.push(Word::from_text(alloc, "a:1")?)?;
-        addresses.push(Word::from_text(alloc, "b:2")?)?;
-        addresses.push(Word::from_text(alloc, "c:3")?)?;
+        push(&mut addresses, alloc, b"a:1".as_slice())?;
+        push(&mut addresses, alloc, b"b:2".as_slice())?;
+        push(&mut addresses, alloc, b"c:3".as_slice())?;
         Ok(Ring::new(addresses, 0))
     }
 
     #[test]
-    fn three_failures(rt: HostRuntime) -> Result<(), NoMemory> {
+    fn three_failures(rt: HostRuntime) -> Result<(), WordFault> {
         let mut ring = ring_of_three(rt.alloc())?;
         assert_eq!(rt; ring.failed(), Turned::Next);
         assert_eq!(rt; ring.now().as_str(), "b:2");
@@ -134,7 +141,7 @@ mod tests {
     }
 
     #[test]
-    fn counts_anew(rt: HostRuntime) -> Result<(), NoMemory> {
+    fn counts_anew(rt: HostRuntime) -> Result<(), WordFault> {
         let mut ring = ring_of_three(rt.alloc())?;
         assert_eq!(rt; ring.size(), 3);
         assert_eq!(rt; ring.failed(), Turned::Next);

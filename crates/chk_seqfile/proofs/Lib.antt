@@ -1,0 +1,9 @@
+pub mod EntryLemmas
+pub mod FoundEntries
+pub mod SpelledLemmas
+pub mod FieldLemmas
+pub mod HeaderFields
+pub mod HeaderLemmas
+pub mod ReadingLemmas
+pub mod RecordLemmas
+pub mod FileLemmas

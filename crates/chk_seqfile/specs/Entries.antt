@@ -1,13 +1,14 @@
 -- The entries of a SequenceFile: the grammar of whole files, how one entry after the other is read, and what is
 -- written for a record.
-use Rattle.std.specs.Prelude.{◌≡◌, ◌⊎◌, ℕ, zero, suc, ◌+◌, ◌-◌, ◌<◌, ◌^◌, ◌&&◌, ◌||◌, ◌==◌, nat_eq, nat_lt, nat_le, Bool, List, [], ◌∷◌, ◌++◌, length, take, drop, bytes_eq, if◌then◌else◌, Result, Ok, Err}
+use Rattle.std.specs.Prelude.{◌≡◌, ◌⊎◌, ℕ, zero, suc, ◌+◌, ◌-◌, ◌<◌, ◌^◌, ◌&&◌, ◌||◌, ◌==◌, nat_eq, nat_lt, nat_le, Bool, List, [], ◌∷◌, ◌++◌, length, take, drop, bytes_eq, filter, if◌then◌else◌, Result, Ok, Err}
 use Rattle.chk_bytes.specs.Numbers.{be32, spelled_at, with_length}
 use Rattle.chk_bytes.specs.Words.{joined}
 use Rattle.chk_seqfile.specs.declared.entries.Why.{Why}
 use Rattle.chk_seqfile.specs.declared.entries.Why.TheVariants.{Torn, BadLength, BadMarker}
 use Rattle.chk_seqfile.specs.declared.headers.HeaderRef.{HeaderRef}
 use Rattle.chk_seqfile.specs.declared.headers.HeaderFault.{HeaderFault}
-use Rattle.chk_seqfile.specs.Headers.{IsHeader, read_header}
+use Rattle.chk_seqfile.specs.Headers.{read_header}
+use Rattle.chk_seqfile.specs.HeaderGrammar.{IsHeader}
 
 -- four bytes 255, and the marker
 abbrev pub sync_entry : List ℕ → List ℕ
@@ -99,7 +100,8 @@ size_of_record key value = 16 + length key + length value
 abbrev pub placed : ℕ → List ℕ → List ℕ → Placed
 placed at key value = record { at = at; end = at + size_of_record key value; key = key; value = value }
 
--- the records up to the end or the first entry that can't be read; fuel is at least the number of bytes
+-- the records of the bytes at this place, up to their end or the first entry that can't be read; fuel is at least the
+-- number of bytes
 abbrev pub records_from : ℕ → List ℕ → ℕ → List ℕ → List Placed
 records_from zero marker at bytes = []
 records_from (suc fuel) marker at bytes =
@@ -112,14 +114,22 @@ records_from (suc fuel) marker at bytes =
       | Damaged why ↦ []
     ]
 
+-- the same with enough fuel
+abbrev pub records_at : List ℕ → ℕ → List ℕ → List Placed
+records_at marker at bytes = records_from (length bytes) marker at bytes
+
 -- the records behind a header
 abbrev pub records_behind : Result HeaderRef HeaderFault → List ℕ → List Placed
-records_behind (Ok head) bytes = records_from (length bytes) head.marker head.end (drop head.end bytes)
+records_behind (Ok head) bytes = records_at head.marker head.end (drop head.end bytes)
 records_behind (Err fault) bytes = []
 
 -- the records of a file in order, each with its place
 unfoldable pub records_of : List ℕ → List Placed
 records_of bytes = records_behind (read_header bytes) bytes
+
+-- of these records, those that end at or before a place
+abbrev pub ending_by : ℕ → List Placed → List Placed
+ending_by n records = filter (λ r. nat_le r.end n) records
 
 -- a sync entry is due where 2,000 bytes or more stand behind the last one, or behind the header
 abbrev pub is_sync_due : ℕ → ℕ → Bool
@@ -129,6 +139,10 @@ is_sync_due place last_sync = nat_le (last_sync + 2000) place
 abbrev pub piece_at : List ℕ → ℕ → ℕ → List ℕ → List ℕ → List ℕ
 piece_at marker place last_sync key value =
     if is_sync_due place last_sync then sync_entry marker ++ record_entry key value else record_entry key value
+
+-- the place of the record in it
+abbrev pub record_place : ℕ → ℕ → ℕ
+record_place place last_sync = if is_sync_due place last_sync then place + 20 else place
 
 -- where the last sync entry ends after that
 abbrev pub sync_after : ℕ → ℕ → ℕ

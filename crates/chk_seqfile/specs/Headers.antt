@@ -1,5 +1,6 @@
 -- The header of a SequenceFile: as it is written, and as it is read.
-use Rattle.std.specs.Prelude.{◌≡◌, ℕ, zero, suc, ◌+◌, ◌-◌, ◌*◌, ◌^◌, ◌&&◌, ◌||◌, ◌==◌, nat_lt, nat_le, List, [], ◌∷◌, ◌++◌, length, take, drop, replicate, codes, bytes_eq, slice_index, if◌then◌else◌, Result, Ok, Err}
+use Rattle.std.specs.Prelude.{ℕ, zero, suc, ◌+◌, ◌-◌, ◌*◌, ◌^◌, ◌&&◌, ◌||◌, ◌==◌, nat_lt, nat_le, List, [], ◌∷◌, ◌++◌, length, take, drop, replicate, codes, nat_eq, slice_index, if◌then◌else◌, Result, Ok, Err}
+use Rattle.std.specs.List.{starts_with}
 use Rattle.chk_bytes.specs.Numbers.{spelled}
 use Rattle.md5.specs.Md5.{md5}
 use Rattle.chk_seqfile.specs.declared.headers.HeaderRef.{HeaderRef}
@@ -32,8 +33,8 @@ abbrev pub ◌>>=◌ : {A B : Type 0} → Result A HeaderFault → (A → Result
 -- these bytes: others are the fault, and a front of them is Short
 abbrev pub expect : List ℕ → HeaderFault → List ℕ → Result (List ℕ) HeaderFault
 expect want fault bytes =
-    if bytes_eq (take (length want) bytes) want then Ok (drop (length want) bytes)
-    else if bytes_eq (take (length bytes) want) bytes then Err Short else Err fault
+    if starts_with nat_eq bytes want then Ok (drop (length want) bytes)
+    else if starts_with nat_eq want bytes then Err Short else Err fault
 
 -- the version, 6
 abbrev pub read_version : List ℕ → Result (List ℕ) HeaderFault
@@ -49,7 +50,8 @@ unfoldable pub read_class : List ℕ → Result (List ℕ) HeaderFault
 unfolding class_text
 read_class bytes = expect (spelled_34 (slice_index bytes 0) ++ class_text) OtherClass bytes
 
--- a number of so many bytes, below 2^31, at this place: the number and the bytes behind it
+-- a number of so many bytes, below 2^31, at this place: the number and the bytes behind it. Where bytes of it are
+-- missing and it may still be below 2^31, it is Short
 abbrev pub read_digits : ℕ → ℕ → List ℕ → Result (ℕ × List ℕ) HeaderFault
 read_digits place count bytes =
     if nat_lt (spelled (take count bytes) * 256 ^ (count - length bytes)) (2 ^ 31)
@@ -81,17 +83,21 @@ read_texts total (suc texts) bytes = do
   rest ← read_text total bytes
   read_texts total texts rest
 
--- the count of pairs of texts, 4 bytes and below 2^31
-abbrev pub read_count : ℕ → List ℕ → Result (ℕ × List ℕ) HeaderFault
-read_count total bytes =
-    if nat_lt (slice_index bytes 0) 128 then (if nat_le 4 (length bytes) then Ok (spelled (take 4 bytes), drop 4 bytes) else Err Short)
-    else Err (BadMeta (total - length bytes))
-
--- the metadata: a count, and so many pairs of texts
+-- the metadata: a count of 4 bytes, and so many pairs of texts
 abbrev pub read_metadata : ℕ → List ℕ → Result (List ℕ) HeaderFault
 read_metadata total bytes = do
-  count ← read_count total bytes
+  count ← read_digits (total - length bytes) 4 bytes
   read_texts total (2 * count.0) count.1
+
+-- all fields before the marker, in a header with so many bytes from its begin to the end of the input
+unfoldable pub read_fields : ℕ → List ℕ → Result (List ℕ) HeaderFault
+read_fields total bytes = do
+  behind_seq ← expect (codes "SEQ") NotSeq bytes
+  behind_version ← read_version behind_seq
+  behind_key ← read_class behind_version
+  behind_value ← read_class behind_key
+  behind_flags ← expect (0 ∷ 0 ∷ []) Compressed behind_value
+  read_metadata total behind_flags
 
 -- the marker, and the place where the header ends
 abbrev pub read_marker : ℕ → List ℕ → Result HeaderRef HeaderFault
@@ -101,14 +107,5 @@ read_marker total bytes =
 -- what a header is read as
 unfoldable pub read_header : List ℕ → Result HeaderRef HeaderFault
 read_header bytes = do
-  behind_seq ← expect (codes "SEQ") NotSeq bytes
-  behind_version ← read_version behind_seq
-  behind_key ← read_class behind_version
-  behind_value ← read_class behind_key
-  behind_flags ← expect (0 ∷ 0 ∷ []) Compressed behind_value
-  behind_metadata ← read_metadata (length bytes) behind_flags
-  read_marker (length bytes) behind_metadata
-
--- the bytes are a header with this marker
-abbrev pub IsHeader : List ℕ → List ℕ → Type 0
-IsHeader marker bytes = read_header bytes ≡ Ok (record { marker = marker; end = length bytes })
+  behind_fields ← read_fields (length bytes) bytes
+  read_marker (length bytes) behind_fields

@@ -1,6 +1,8 @@
-ghost use Rattle.std.specs.Prelude.{◌≡◌, IfOk};
-ghost use Rattle.chk_seqfile.specs.Headers.{header, marker_of};
+ghost use Rattle.std.specs.Prelude.{◌≡◌, ◌≤◌, ◌↔◌, ℕ, List, ◌++◌, length, take, IfOk};
+ghost use Rattle.chk_seqfile.specs.HeaderGrammar.{IsHeader, IsHeaderFront};
+ghost use Rattle.chk_seqfile.specs.Headers.{header, marker_of, read_header};
 
+use crate::reading::read_first_header;
 use chk_bytes::{Bytes, NoMemory};
 use md5::{Digest, Md5};
 use std::alloc::Global;
@@ -37,7 +39,7 @@ pub enum HeaderFault {
 }
 
 /// The marker of the file that is written under a stem: the MD5 of the stem.
-pub fn marker_of(stem: &str) -> [u8; 16]
+pub(crate) fn marker_of(stem: &str) -> [u8; 16]
     ensures { result ≡ marker_of stem.now }
 {
     Md5::digest(stem.as_bytes())
@@ -51,4 +53,24 @@ pub fn header(alloc: Global, stem: &str) -> Result<Bytes, NoMemory>
     bytes.push_all(FRONT)?;
     bytes.push_all(&marker_of(stem))?;
     Ok(bytes)
+}
+
+/// Reads the header with which a file begins, without memory and without a copy. What follows it
+/// doesn't matter.
+///
+/// The metadata may be any, and a length may have any of its spellings: so the header of another
+/// maker's file may end elsewhere than at 96. A header of n texts of metadata takes n steps.
+pub fn read_header(bytes: &[u8]) -> Result<HeaderRef, HeaderFault>
+    // What is read is a header.
+    ensures found { IfOk result (λ head. (head.end ≤ length bytes.now)
+        × IsHeader head.marker (take head.end bytes.now)) }
+    // A header is read, whatever follows.
+    ensures only { (marker head rest : List ℕ) → IsHeader marker head → bytes.now ≡ head ++ rest
+        → result ≡ Ok (record { marker = marker; end = length head }) }
+    // Short are just the proper fronts of headers.
+    ensures short { (result ≡ Err HeaderFault.Short) ↔ IsHeaderFront bytes.now }
+    // Which fault it is.
+    ensures exact { result ≡ read_header bytes.now }
+{
+    read_first_header(bytes)
 }

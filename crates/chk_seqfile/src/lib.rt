@@ -9,8 +9,14 @@
 
 mod entries;
 mod headers;
+mod laws;
+mod reading;
 mod writer;
 
 pub use entries::Why;
-pub use headers::{HeaderFault, HeaderRef, header};
+pub use headers::{HeaderFault, HeaderRef, header, read_header};
+pub use laws::{law_cut, law_written_file};
 pub use writer::SeqWriter;
+
+#[cfg(test)]
+mod tests;

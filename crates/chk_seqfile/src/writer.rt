@@ -1,10 +1,10 @@
 ghost use Rattle.std.specs.Prelude.{◌≡◌, ◌+◌, ◌≤◌, ◌^◌, ◌++◌, length, IfOk, OnErr, OnOk};
-ghost use Rattle.chk_bytes.specs.Numbers.{be32, with_length};
+ghost use Rattle.chk_bytes.specs.Numbers.{with_length};
 ghost use Rattle.chk_seqfile.specs.Headers.{marker_of};
 ghost use Rattle.chk_seqfile.specs.Entries.{piece_at, sync_after, record_entry, sync_entry};
 
 use crate::headers;
-use chk_bytes::{Bytes, NoMemory};
+use chk_bytes::{Bytes, NoMemory, put_u32};
 use std::alloc::Global;
 
 /// Makes the pieces of one file behind its header, in order.
@@ -97,11 +97,4 @@ fn push_with_length(out: &mut Bytes, bytes: &[u8]) -> Result<(), NoMemory>
 {
     put_u32(out, bytes.len() as u32)?;
     out.push_all(bytes)
-}
-
-fn put_u32(out: &mut Bytes, n: u32) -> Result<(), NoMemory>
-    ensures ok { OnOk result (out.new ≡ out.old ++ be32 n) }
-    ensures err { OnErr result (out.new ≡ out.old) }
-{
-    out.push_all(&n.to_be_bytes())
 }

@@ -13,7 +13,7 @@ use Rattle.chk_site.specs.History.{Step, History, Every, Others, IsTheirs, is_st
 use Rattle.chk_site.specs.Honest.{Honest}
 use Rattle.chk_site.specs.Site.{Adds, Asked, own_step, answered, plain, Acted, Calls, IsDone, Ends, WasDone, IsTaken, Took}
 use Rattle.chk_site.specs.Runs.{Leads, MadeInTurn, finished, unbegun, went_on, ended}
-use Rattle.chk_site.proofs.Runs.{adds_then, adds_as, adds_none, every_early, every_late, done_answer, taken_answer}
+use Rattle.chk_site.proofs.Runs.{adds_then, adds_as, adds_none, every_early, every_late, ran, done_answer, taken_answer}
 
 -- one after the other
 pub leads_then : {S : History → Step → Type 0} {A B C : History → Type 0} {old mid new : Option History}
@@ -89,6 +89,22 @@ done_leads {S = S} {A = A} {B = B} given fine keeps mine told =
     (λ added history calls.
     let acted = done_answer given fine calls in
     record { leads = acted_leads B keeps (mine acted.0 acted.1) acted.2 })
+
+-- a call with a result that is no want of memory and no failure
+pub ok_leads : {S : History → Step → Type 0} {A B : History → Type 0} {q : Asked} {old new : Option History}
+    (answer : ActAnswer) → Keeps S A → Shows A B q answer
+    → Adds old new (Calls q (Ok answer)) → Adds old new (Leads S A B)
+ok_leads {S = S} {A = A} {B = B} answer keeps mine told =
+    adds_as (Leads S A B) told
+    (λ added history calls. record { leads = acted_leads B keeps mine (ran (Ok answer) (λ e. cc) calls) })
+
+-- the creation of a file that is there
+pub exists_leads : {S : History → Step → Type 0} {A B : History → Type 0} {q : Asked} {old new : Option History}
+    → Keeps S A → Shows A B q (Refused Exists)
+    → Adds old new (Calls q (Err Exists)) → Adds old new (Leads S A B)
+exists_leads {S = S} {A = A} {B = B} keeps mine told =
+    adds_as (Leads S A B) told
+    (λ added history calls. record { leads = acted_leads B keeps mine (ran (Err Exists) (λ e. cc) calls) })
 
 -- a call that gave something, or was refused for the state of the files
 pub taken_leads : {S : History → Step → Type 0} {A B : History → Type 0} {V : Type 0} {q : Asked}
@@ -195,3 +211,28 @@ leads_frame {S = S} {A = A} {B = B} E keeps told =
     ] in
     adds_as (Leads S (λ h. A h × E h) (λ h. B h × E h)) told
     (λ added history x. record { leads = λ s h. (x.leads s h.0, all added history h.1) })
+
+-- a call, whatever it answered
+pub any_leads : {S : History → Step → Type 0} {A : History → Type 0} (B : History → Type 0) {V : Type 0} {q : Asked}
+    {old new : Option History} (how : V → ActAnswer) (given : Result V CallFault)
+    → Keeps S A → ((value : V) → Shows A B q (how value)) → ((fault : CallFault) → Shows A B q (Refused fault))
+    → ((left : List Left) → Shows A B q (Stopped left)) → ((before : History) → A before → B before)
+    → Adds old new (Calls q (answered how given)) → Adds old new (Leads S A B)
+any_leads {S = S} {A = A} B how (Ok value) keeps given refused stopped nothing told =
+    adds_as (Leads S A B) told
+    (λ added history calls. record { leads = acted_leads B keeps (given value) (ran (Ok (how value)) (λ e. cc) calls) })
+any_leads {S = S} {A = A} B how (Err Failed) keeps given refused stopped nothing told =
+    adds_as (Leads S A B) told
+    (λ added history calls. record { leads = failed_leads B keeps (refused Failed) stopped (λ before e h. nothing before h) calls })
+any_leads {S = S} {A = A} B how (Err Missing) keeps given refused stopped nothing told =
+    adds_as (Leads S A B) told
+    (λ added history calls. record { leads = acted_leads B keeps (refused Missing) (ran (Err Missing) (λ e. cc) calls) })
+any_leads {S = S} {A = A} B how (Err Exists) keeps given refused stopped nothing told =
+    adds_as (Leads S A B) told
+    (λ added history calls. record { leads = acted_leads B keeps (refused Exists) (ran (Err Exists) (λ e. cc) calls) })
+any_leads {S = S} {A = A} B how (Err (Short size)) keeps given refused stopped nothing told =
+    adds_as (Leads S A B) told
+    (λ added history calls. record { leads = acted_leads B keeps (refused (Short size)) (ran (Err (Short size)) (λ e. cc) calls) })
+any_leads {S = S} {A = A} B how (Err NoMemory) keeps given refused stopped nothing told =
+    adds_as (Leads S A B) told
+    (λ added history calls. record { leads = unmade_leads B keeps nothing calls })

@@ -125,7 +125,7 @@ tail_of_settled (Some tail) (Some file) extra no_extra settled fits =
     let same : take file.synced file.bytes ++ tail ≡ file.bytes = ap₂ (λ a b. a ++ b) all empty ∙ append-nil file.bytes in
     ap (λ bytes. Some (record { bytes = bytes; synced = file.synced })) same
 
-tails_of_settled : (call : Deed) (answer : ActAnswer) (middle after : Files) (name : List ℕ) → UnsyncedTails call answer middle after
+pub tails_of_settled : (call : Deed) (answer : ActAnswer) (middle after : Files) (name : List ℕ) → UnsyncedTails call answer middle after
     → in_work call name ≡ 0 → IsSettled (middle name) → after name ≡ middle name
 tails_of_settled call (Stopped left) middle after name tails idle settled =
     (tails name).0 ∙ tail_of_settled (tail_of left name) (middle name) (in_work call name) idle settled (tails name).1

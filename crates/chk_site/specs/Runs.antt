@@ -1,5 +1,6 @@
 -- What some steps lead to, where the steps of others meet a supposition.
-use Rattle.std.specs.Prelude.{◌≡◌, List, [], ◌∷◌, ◌++◌, Option, Result, Ok, Err}
+use Rattle.std.specs.Prelude.{◌≡◌, List, [], ◌∷◌, ◌++◌, Option, Result, Ok, Err, if◌then◌else◌}
+use Rattle.chk_site.specs.declared.acts.Act.{Act}
 use Rattle.chk_site.specs.declared.acts.OutsideFault.{OutsideFault}
 use Rattle.chk_site.specs.declared.acts.OutsideFault.TheVariants.{NoMemory as no_memory}
 use Rattle.chk_site.specs.declared.acts.CallFault.{CallFault}
@@ -24,3 +25,8 @@ pub data MadeInTurn : List Asked → Result Unit OutsideFault → Option History
       → IsDone given → Adds old mid (Calls q (answered plain given)) → MadeInTurn qs result mid new → MadeInTurn (q ∷ qs) result old new
   ended : {q : Asked} {qs : List Asked} {fault : OutsideFault} {old new : Option History} (given : Result Unit CallFault)
       → Ends q.call given fault → Adds old new (Calls q (answered plain given)) → MadeInTurn (q ∷ qs) (Err fault) old new
+
+-- the acts that calls on the site made among these steps, the newest first
+abbrev pub own_acts : History → List Act
+own_acts [] = []
+own_acts (step ∷ history) = if step.own then step.act ∷ own_acts history else own_acts history

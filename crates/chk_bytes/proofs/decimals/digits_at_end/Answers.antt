@@ -11,13 +11,19 @@ loop-rest-init c =
     record {
       within = omega arith;
       room = length-decimal-le 20 c.args.n (omega arith) big small;
-      written = sym (append-nil (decimal c.args.n)) ∙ ap (λ ds. decimal c.args.n ++ ds) (sym (drop_all 20 c.args.digits.now (omega arith)));
+      written = sym (append-nil (decimal c.args.n))
+          ∙ ap (λ ds. decimal c.args.n ++ ds) (sym (drop_all 20 c.args.digits.now (omega arith)));
     }
 
 pub overflow_sub-from : goal.overflow_sub-from
 overflow_sub-from c =
     let small : c.loop-rest.rest / 10 < 2 ^ 64 = omega arith in
-    omega (arith, room_left c.loop-rest.rest (omega arith) (omega arith), decimal_nonempty (c.loop-rest.rest / 10) small)
+    omega (
+      arith,
+      room_left c.loop-rest.rest (omega arith) (omega arith),
+      decimal_nonempty
+          (c.loop-rest.rest / 10) small,
+    )
 
 pub loop-rest-preserved : goal.loop-rest-preserved
 loop-rest-preserved c =
@@ -27,10 +33,12 @@ loop-rest-preserved c =
     record {
       within = omega arith;
       room = omega arith;
-      written = digit_written c.args.n l.rest l.from (l.from - 1 + 1) l.digits (omega arith) (omega arith) (omega arith) (omega arith) l.invariant.written;
+      written = digit_written c.args.n l.rest l.from (l.from - 1 + 1) l.digits (omega arith)
+          (omega arith) (omega arith) (omega arith) l.invariant.written;
     }
 
 pub returns-clause-value : goal.returns-clause-value
 returns-clause-value c =
     let l = c.loop-rest in
-    last_digit_written c.args.n l.rest l.from l.digits (omega arith) (omega arith) l.invariant.written
+    last_digit_written c.args.n l.rest l.from l.digits (omega arith) (omega arith)
+    l.invariant.written

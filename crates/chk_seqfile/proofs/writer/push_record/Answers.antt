@@ -4,9 +4,11 @@ use Rattle.chk_bytes.specs.Numbers.{be32, with_length}
 use Rattle.chk_seqfile.proofs.writer.push_record.Goals as goal
 
 -- four parts that were appended one after the other
-four_appended : (out a b c d p q r s : List ℕ) → a ≡ out ++ p → b ≡ a ++ q → c ≡ b ++ r → d ≡ c ++ s → d ≡ out ++ (p ++ (q ++ (r ++ s)))
+four_appended : (out a b c d p q r s : List ℕ) → a ≡ out ++ p → b ≡ a ++ q → c ≡ b ++ r → d ≡ c ++ s
+    → d ≡ out ++ (p ++ (q ++ (r ++ s)))
 four_appended out a b c d p q r s first second third fourth =
-    fourth ∙ ap (λ x. x ++ s) (third ∙ ap (λ x. x ++ r) (second ∙ ap (λ x. x ++ q) first)) ∙ simp append_assoc
+    fourth ∙ ap (λ x. x ++ s) (third ∙ ap (λ x. x ++ r) (second ∙ ap (λ x. x ++ q) first))
+    ∙ simp append_assoc
 
 pub returns : goal.returns
 returns c =

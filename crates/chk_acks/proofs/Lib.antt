@@ -1,0 +1,9 @@
+pub mod Anys
+pub mod PassLemmas
+pub mod Places
+pub mod Turns
+pub mod AdaptorRows
+pub mod Sounds
+pub mod Least
+pub mod Settled
+pub mod History

@@ -1,0 +1,7 @@
+pub mod Contiguous
+pub mod Rows
+pub mod Passes
+pub mod Table
+pub mod Sound
+pub mod Held
+pub mod Calls

@@ -1,0 +1,239 @@
+//! The table of answers.
+
+ghost use Rattle.std.specs.Prelude.{◌≡◌, ◌⊎◌, ◌↔◌, ◌+◌, ◌<◌, ◌≤◌, ℕ, [], All, Contains, IfOk, IfSome, IsNone, length, slice_index};
+ghost use Rattle.chk_acks.specs.Contiguous.{IsContiguousEnd};
+ghost use Rattle.chk_acks.specs.Rows.{IsReached, expired_adaptors, rows_of, waiting_after};
+ghost use Rattle.chk_acks.specs.Table.{IsKnown, IsSettled, Sees, added, answer_row, begun, empty_table};
+ghost use Rattle.chk_acks.specs.Sound.{IsSound};
+
+use crate::row::{Row, advance, drop_rows, keep_past, least_expired, list_unmarked, mark};
+use chk_bytes::{NoMemory, Stem};
+use std::alloc::Global;
+use std::marker::Model;
+
+/// The answers to an agent's chunks that don't yet lie below a committed end, and the committed and
+/// the last end of each of its adaptors. An adaptor is named by its number, from 0.
+///
+/// It takes 140 bytes a row and 16 an adaptor.
+#[derive(Drop)]
+pub struct Acks {
+    room: u32,
+    // The rows in use, in order of answers.
+    rows: Vec<Row>,
+    // The places of the unmarked ones.
+    unmarked: Vec<u32>,
+    committed: Vec<u64>,
+    last: Vec<u64>,
+}
+
+impl Model for Acks {
+    ghost use Rattle.chk_acks.specs.Table.{Table};
+
+    ghost Value = { Table };
+
+    ghost use Rattle.chk_acks.specs.Held.{IsHeld, table_of};
+
+    ghost view = { table_of };
+
+    ghost invariant = { IsHeld };
+}
+
+impl Acks {
+    /// A table with room for so many rows, and so many adaptors, each at offset 0. No other call
+    /// takes memory.
+    pub fn new(alloc: Global, rows: u32, adaptors: u32) -> Result<Acks, NoMemory>
+        ensures { IfOk result (λ acks. acks ≡ empty_table rows adaptors) }
+    {
+        Ok(Acks {
+            room: rows,
+            rows: Vec::with_capacity(alloc, rows as usize)?,
+            unmarked: Vec::with_capacity(alloc, rows as usize)?,
+            committed: vec![in alloc; 0u64; adaptors as usize]?,
+            last: vec![in alloc; 0u64; adaptors as usize]?,
+        })
+    }
+
+    /// Drops the adaptor's rows and sets its committed and its last end to an offset. It takes time
+    /// linear in the rows in use.
+    pub fn begin(&mut self, adaptor: u32, at: u64)
+        requires { IsKnown self.old adaptor }
+        ensures table { self.new ≡ begun adaptor at self.old }
+
+        // What lies below the offset counts as settled, and nothing else of the adaptor does.
+        ensures settled { (offset : ℕ) → IsSettled self.new adaptor offset ↔ (offset < at) }
+    {
+        drop_rows(&mut self.rows, adaptor);
+        list_unmarked(&mut self.unmarked, &self.rows);
+        self.committed[adaptor as usize] = at;
+        self.last[adaptor as usize] = at;
+    }
+
+    /// How many more rows there is room for.
+    pub fn free(&self) -> u32
+        ensures free { result + length self.now.rows ≡ self.now.room }
+        ensures sound { IsSound self.now }
+    {
+        self.room - self.rows.len() as u32
+    }
+
+    /// Adds a row for a chunk from `begin` to `end` of the adaptor's stream, answered at `now` with
+    /// a sink and the offset at which the chunk's entry ends in it. It takes constant time.
+    pub fn answered(
+        &mut self,
+        adaptor: u32,
+        begin: u64,
+        end: u64,
+        stem: Stem,
+        offset: u64,
+        now: u64,
+    )
+        requires known { IsKnown self.old adaptor }
+        requires free { length self.old.rows < self.old.room }
+        requires next { begin ≡ slice_index self.old.last adaptor }
+        requires some { begin < end }
+        ensures table { self.new ≡ added (answer_row adaptor begin end stem offset now) self.old }
+        ensures settled { (other place : ℕ)
+            → IsSettled self.new other place ↔ IsSettled self.old other place }
+    {
+        let _ = self.unmarked.push(self.rows.len() as u32);
+        let _ = self.rows.push(Row {
+            adaptor,
+            begin,
+            end,
+            stem,
+            offset,
+            answered: now,
+            marked: false,
+        });
+        self.last[adaptor as usize] = end;
+    }
+
+    /// Takes note that the sink was seen committed up to a length: marks its rows with an offset at
+    /// or below that, moves each committed end over the marked rows that follow it, and gives the
+    /// rows below free. It takes time linear in the rows in use.
+    pub fn seen(&mut self, stem: Stem, length: u64)
+        ensures table { Sees stem length self.old self.new }
+
+        // Just what the sink and the length reach is settled in addition.
+        ensures settled { (adaptor offset : ℕ) → IsKnown self.old adaptor
+            → IsSettled self.new adaptor offset
+            ↔ (IsSettled self.old adaptor offset
+            ⊎ IsReached stem length (rows_of adaptor self.old.rows) offset) }
+    {
+        mark(&mut self.rows, stem, length);
+        advance(&mut self.committed, &self.rows);
+        keep_past(&mut self.rows, &self.committed);
+        list_unmarked(&mut self.unmarked, &self.rows);
+    }
+
+    /// The greatest end up to which each byte is in a marked row, or below the offset of `begin`.
+    pub fn committed_end(&self, adaptor: u32) -> u64
+        requires { IsKnown self.now adaptor }
+        ensures value { result ≡ slice_index self.now.committed adaptor }
+        ensures committed_is_contiguous { IsContiguousEnd (IsSettled self.now adaptor) 0 result }
+        ensures ordered { result ≤ slice_index self.now.last adaptor }
+    {
+        self.committed[adaptor as usize]
+    }
+
+    /// The end of the adaptor's last row since `begin`, marked or not, and the offset of `begin`
+    /// before the first.
+    pub fn last_end(&self, adaptor: u32) -> u64
+        requires { IsKnown self.now adaptor }
+        ensures { result ≡ slice_index self.now.last adaptor }
+    {
+        self.last[adaptor as usize]
+    }
+
+    /// The least adaptor with an unmarked row that was answered at least `age` before `now`, both
+    /// in the unit of the moments given to `answered`. A row of a moment after `now`, as where the
+    /// clock was set back, isn't expired. It takes time linear in the rows in use.
+    pub fn expired(&self, now: u64, age: u64) -> Option<u32>
+        ensures none { IsNone result ↔ (expired_adaptors now age self.now.rows ≡ []) }
+        ensures some { IfSome result (Contains (expired_adaptors now age self.now.rows)) }
+        ensures least { IfSome result
+            (λ adaptor. All (λ other. adaptor ≤ other) (expired_adaptors now age self.now.rows)) }
+        ensures known { IfSome result (IsKnown self.now) }
+    {
+        least_expired(&self.rows, now, age)
+    }
+
+    /// The sink and the offset of the unmarked row after so many unmarked ones, in order of
+    /// answers. It takes constant time.
+    pub fn waiting(&self, skip: u32) -> Option<(Stem, u64)>
+        ensures { result ≡ waiting_after skip self.now.rows }
+    {
+        let place = *self.unmarked.get(skip as usize)?;
+        let row = &self.rows[place as usize];
+        Some((row.stem, row.offset))
+    }
+}
+
+#[cfg(test)]
+mod tests {
+    use super::*;
+    use std::test::Fail;
+
+    // The first sink of a collector's first start.
+    fn sink(name: &str) -> Result<Stem, Fail> {
+        Ok(Stem::new(name, 1, 1).ok_or("no stem")?)
+    }
+
+    #[test]
+    fn committed_is_contiguous_row(rt: HostRuntime) -> Result<(), Fail> {
+        let one = sink("c1")?;
+        let other = sink("c2")?;
+        let mut acks = Acks::new(rt.alloc(), 2, 1)?;
+        acks.begin(0, 0);
+        acks.answered(0, 0, 6, one, 144, 0);
+        acks.answered(0, 6, 12, other, 144, 0);
+        assert_eq!(rt; acks.free(), 0);
+        acks.seen(other, 144);
+        assert_eq!(rt; acks.committed_end(0), 0);
+        assert_eq!(rt; acks.free(), 0);
+        assert_eq!(rt; acks.expired(299999, 300000), None);
+        assert_eq!(rt; acks.expired(300000, 300000), Some(0));
+        acks.begin(0, 0);
+        assert_eq!(rt; acks.free(), 2);
+        acks.answered(0, 0, 12, other, 198, 0);
+        acks.seen(other, 197);
+        assert_eq!(rt; acks.committed_end(0), 0);
+        acks.seen(other, 198);
+        assert_eq!(rt; acks.committed_end(0), 12);
+        Ok(())
+    }
+
+    #[test]
+    fn expiry_moment(rt: HostRuntime) -> Result<(), Fail> {
+        let mut acks = Acks::new(rt.alloc(), 2, 2)?;
+        acks.begin(1, 6);
+        acks.answered(1, 6, 12, sink("c1")?, 144, 0);
+        acks.answered(0, 0, 6, sink("c2")?, 144, 1);
+        for (now, expired) in [
+            (299999, None),
+            (300000, Some(1)),
+            (300001, Some(0)),
+            (0, None),
+        ] {
+            assert_eq!(rt; acks.expired(now, 300000), expired, "at {now}");
+        }
+        Ok(())
+    }
+
+    #[test]
+    fn waiting_in_order(rt: HostRuntime) -> Result<(), Fail> {
+        let one = sink("c1")?;
+        let other = sink("c2")?;
+        let mut acks = Acks::new(rt.alloc(), 3, 2)?;
+        acks.answered(1, 0, 6, one, 144, 0);
+        acks.answered(0, 0, 6, other, 144, 0);
+        acks.answered(0, 6, 12, one, 192, 0);
+        acks.seen(one, 191);
+        assert!(rt; acks.waiting(0) == Some((other, 144)));
+        assert!(rt; acks.waiting(1) == Some((one, 192)));
+        assert!(rt; acks.waiting(2).is_none());
+        assert_eq!(rt; acks.last_end(0), 12);
+        assert_eq!(rt; acks.committed_end(1), 6);
+        Ok(())
+    }
+}

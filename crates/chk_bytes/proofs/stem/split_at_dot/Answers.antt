@@ -1,0 +1,19 @@
+use Rattle.std.proofs.Common.{◌∙◌, ◌+◌, ◌-◌, ◌≤◌, length, take, drop, sym, subst, arith, length-drop, List, ℕ}
+use Rattle.std.proofs.lemmas.List.{take_all}
+use Rattle.chk_bytes.specs.Words.{SplitsAt}
+use Rattle.chk_bytes.proofs.PartLemmas.{split_found, split_none}
+use Rattle.chk_bytes.proofs.stem.split_at_dot.Goals as goal
+
+pub returns-in_err-at : goal.returns-in_err-at
+returns-in_err-at c = rw c.from_residual.ensures
+    (split_none 46 c.args.text.now (sym c.first_dot.ensures ∙ c.in_err-at.was))
+
+pub returns : goal.returns
+returns c =
+    let text = c.args.text.now in
+    let at = c.in_ok-at.at in
+    let fits : length (drop (at + 1) text) ≤ length text - (at + 1) =
+    omega (arith, length-drop (at + 1) text) in
+    let P : List ℕ → Type 0 = λ back. SplitsAt 46 text (take at text) back in
+    subst P (sym (take_all (length text - (at + 1)) (drop (at + 1) text) fits))
+    (split_found 46 at text (sym c.first_dot.ensures ∙ c.in_ok-at.was))

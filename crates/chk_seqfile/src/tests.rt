@@ -1,0 +1,149 @@
+use super::*;
+use std::alloc::{AllocError, Global};
+use std::test::Fail;
+
+/// The class of keys and values, behind its length.
+const CLASS: &[u8] = b"\x22org.apache.hadoop.io.BytesWritable";
+
+/// The MD5 of `c1.1.1`.
+const MARKER: [u8; 16] = [
+    0x0a, 0xf0, 0x97, 0x25, 0xe9, 0x50, 0xf7, 0x0f, 0x42, 0xf5, 0x31, 0xed, 0xf6, 0x35, 0xb2, 0x40,
+];
+
+fn joined(alloc: Global, parts: &[&[u8]]) -> Result<Vec<u8>, AllocError> {
+    let mut bytes = Vec::new(alloc);
+    for part in parts {
+        bytes.extend_from_slice(part)?;
+    }
+    Ok(bytes)
+}
+
+#[test]
+fn writes_a_header(rt: HostRuntime) -> Result<(), Fail> {
+    let expected = joined(rt.alloc(), &[b"SEQ\x06", CLASS, CLASS, &[0; 6], &MARKER])?;
+    assert_eq!(rt; expected.len(), 96);
+    let written = header(rt.alloc(), "c1.1.1")?;
+    assert!(rt; written.as_slice() == expected.as_slice());
+    Ok(())
+}
+
+#[test]
+fn writes_records(rt: HostRuntime) -> Result<(), Fail> {
+    let key = b"\x01\0\0\0\0\0\0\0\x06\0\x02h1\0\x03Log\0\x06/a.log";
+    let mut writer = SeqWriter::after_header("c1.1.1");
+    let piece = writer.entry(rt.alloc(), key, b"hello\n")?;
+    let expected = joined(
+        rt.alloc(),
+        &[b"\0\0\0\x28\0\0\0\x1e\0\0\0\x1a", key, b"\0\0\0\x06hello\n"],
+    )?;
+    assert!(rt; piece.as_slice() == expected.as_slice());
+    assert_eq!(rt; writer.place(), 144);
+    Ok(())
+}
+
+#[test]
+fn sync_entry_at_2000(rt: HostRuntime) -> Result<(), Fail> {
+    for (size, first_end, second_end, synced) in [
+        (1958, 2096, 2164, true),
+        (1957, 2095, 2143, false),
+    ] {
+        let mut writer = SeqWriter::after_header("c1.1.1");
+        let value = vec![in rt.alloc(); 0u8; size]?;
+        writer.entry(rt.alloc(), &[0; 26], &value)?;
+        assert_eq!(rt; writer.place(), first_end);
+        let piece = writer.entry(rt.alloc(), &[0; 26], b"hello\n")?;
+        assert_eq!(rt; writer.place(), second_end);
+        let sync = joined(rt.alloc(), &[&[255; 4], &MARKER])?;
+        assert_eq!(rt; piece.as_slice().starts_with(&sync), synced);
+    }
+    Ok(())
+}
+
+#[test]
+fn reads_headers(rt: HostRuntime) -> Result<(), Fail> {
+    let front: &[u8] = b"SEQ\x06";
+    let text: &[u8] = b"\x19org.apache.hadoop.io.Text";
+    let none: &[u8] = &[0; 6];
+    let ends: [(&[&[u8]], Result<u64, HeaderFault>); 19] = [
+        (&[front, CLASS, CLASS, none, &MARKER], Ok(96)),
+        (&[front, CLASS, CLASS, none, &MARKER, b"more"], Ok(96)),
+        (
+            &[front, CLASS, CLASS, b"\0\0\0\0\0\x01\x01a\x01b", &MARKER],
+            Ok(100),
+        ),
+        (&[], Err(HeaderFault::Short)),
+        (&[b"SE"], Err(HeaderFault::Short)),
+        (&[b"SEX"], Err(HeaderFault::NotSeq)),
+        (&[b"SEQ\x03"], Err(HeaderFault::Version { found: 3 })),
+        (&[front, b"\x23"], Err(HeaderFault::OtherClass)),
+        (&[front, text], Err(HeaderFault::OtherClass)),
+        (&[front, CLASS, text, b"\x01"], Err(HeaderFault::OtherClass)),
+        (&[front, CLASS, b"\x8e\0"], Err(HeaderFault::Short)),
+        (&[front, CLASS, b"\x8e\x01"], Err(HeaderFault::OtherClass)),
+        (
+            &[front, CLASS, CLASS, b"\x01"],
+            Err(HeaderFault::Compressed),
+        ),
+        (
+            &[front, CLASS, CLASS, b"\0\x01"],
+            Err(HeaderFault::Compressed),
+        ),
+        (
+            &[front, CLASS, CLASS, b"\0\0\x80"],
+            Err(HeaderFault::BadMeta { at: 76 }),
+        ),
+        (
+            &[front, CLASS, CLASS, b"\0\0\0\0\0\x01\xff"],
+            Err(HeaderFault::BadMeta { at: 80 }),
+        ),
+        (
+            &[front, CLASS, CLASS, b"\0\0\0\0\0\x01\0\x8c\x80"],
+            Err(HeaderFault::BadMeta { at: 81 }),
+        ),
+        (
+            &[front, CLASS, CLASS, b"\0\0\0\0\0\x01\x8c\x7f"],
+            Err(HeaderFault::Short),
+        ),
+        (
+            &[front, CLASS, CLASS, none, &MARKER[..15]],
+            Err(HeaderFault::Short),
+        ),
+    ];
+    for (parts, expected) in ends {
+        let bytes = joined(rt.alloc(), parts)?;
+        let found = read_header(&bytes);
+        assert_eq!(rt; found.map(|head| head.end), expected);
+    }
+    Ok(())
+}
+
+#[test]
+fn reads_each_spelling_of_34(rt: HostRuntime) -> Result<(), Fail> {
+    let spellings: [&[u8]; 9] = [
+        b"\x22",
+        b"\x8f\x22",
+        b"\x8e\0\x22",
+        b"\x8d\0\0\x22",
+        b"\x8c\0\0\0\x22",
+        b"\x8b\0\0\0\0\x22",
+        b"\x8a\0\0\0\0\0\x22",
+        b"\x89\0\0\0\0\0\0\x22",
+        b"\x88\0\0\0\0\0\0\0\x22",
+    ];
+    for spelling in spellings {
+        let name = &CLASS[1..];
+        let bytes = joined(
+            rt.alloc(),
+            &[b"SEQ\x06", spelling, name, CLASS, &[0; 6], &MARKER],
+        )?;
+        let end = 95 + spelling.len() as u64;
+        assert_eq!(rt;
+            read_header(&bytes),
+            Ok(HeaderRef {
+                marker: MARKER,
+                end
+            })
+        );
+    }
+    Ok(())
+}

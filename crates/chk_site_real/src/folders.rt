@@ -1,0 +1,64 @@
+//! The folders that the files stand in.
+ghost use Rattle.std.specs.Prelude.{◌≤◌};
+
+use std::fs::{File, OpenFile};
+use std::io::ErrorKind;
+use std::rt::Files;
+use std::{fs, io};
+
+/// The folders that are made at the start.
+const FOLDERS: [&str; 5] = ["sinks", "agents", "archive", "demux", "joined"];
+
+/// Makes the folders that aren't there; 1 where one of them can't be made, else 0.
+pub fn make_folders<R: Files>(rt: &R) -> u64
+    ensures { result ≤ 1 }
+{
+    let mut faults = 0;
+    for folder in FOLDERS {
+        if make_folder(rt, folder).is_err() {
+            faults = 1;
+        }
+    }
+    faults
+}
+
+// A folder that was made stays after a stop of the machine.
+fn make_folder<R: Files>(rt: &R, folder: &str) -> io::Result<()> {
+    if is_folder(rt, folder) {
+        return Ok(());
+    }
+    fs::create_dir(rt, folder)?;
+    sync_folder(rt, folder)
+}
+
+/// There is a folder of this name.
+pub fn is_folder<R: Files>(rt: &R, name: &str) -> bool {
+    match fs::metadata(rt, name) {
+        Ok(found) => found.is_dir(),
+        Err(_) => false,
+    }
+}
+
+/// The folder that a file of this name stands in.
+pub fn folder_of(name: &str) -> &str {
+    match name.rsplit_once('/') {
+        Some(("", _)) => "/",
+        Some((folder, _)) => folder,
+        None => ".",
+    }
+}
+
+/// Writes the names in the folder of this name through to the disk.
+pub fn sync_folder<R: Files>(rt: &R, name: &str) -> io::Result<()> {
+    File::open(rt, folder_of(name))?.sync_all()
+}
+
+/// The length of the file of this name, none where there is no such file.
+pub fn file_size<R: Files>(rt: &R, name: &str) -> io::Result<Option<u64>> {
+    match fs::metadata(rt, name) {
+        Ok(found) if found.is_file() => Ok(Some(found.len())),
+        Ok(_) => Err(io::Error::from(ErrorKind::InvalidInput)),
+        Err(error) if error.kind() == ErrorKind::NotFound => Ok(None),
+        Err(error) => Err(error),
+    }
+}

@@ -1,0 +1,106 @@
+//! The names in a folder.
+ghost use Rattle.chk_site.specs.Site.{MayFail};
+
+use crate::disk::failed;
+use chk_bytes::{NoMemory, Word, WordFault};
+use chk_site::CallFault;
+use std::alloc::Global;
+use std::io::{ErrorKind, Read};
+use std::rt::Files;
+
+/// How many bytes of names one system call gives at most.
+const FOLDER_BYTES: usize = 32_768;
+
+/// The names in this folder that are words, in byte order; none where there is no such folder.
+pub fn sorted_names<R: Files>(rt: &R, alloc: Global, folder: &str) -> Result<Vec<Word>, CallFault>
+    ensures { MayFail result }
+{
+    let mut names = names_in(rt, alloc, folder, b"".as_slice())?;
+    names.sort_unstable_by(|a, b| a.as_str().cmp(b.as_str()));
+    Ok(names)
+}
+
+/// Those that begin with these bytes, in no order.
+pub fn names_in<R: Files>(
+    rt: &R,
+    alloc: Global,
+    folder: &str,
+    front: &[u8],
+) -> Result<Vec<Word>, CallFault>
+    ensures { MayFail result }
+{
+    let mut names = Vec::new(alloc);
+    let mut buffer = zeros(alloc)?;
+    let Some(mut folder) = open_folder(rt, alloc, folder)? else {
+        return Ok(names);
+    };
+    for _ in 0..u64::MAX {
+        let count = folder.read(&mut buffer).map_err(failed)?;
+        if count == 0 {
+            break;
+        }
+        push_names(alloc, &buffer[..count], front, &mut names)?;
+    }
+    Ok(names)
+}
+
+fn zeros(alloc: Global) -> Result<Vec<u8>, NoMemory> {
+    let mut buffer = Vec::new(alloc);
+    buffer.resize(FOLDER_BYTES, 0)?;
+    Ok(buffer)
+}
+
+// The slash makes the system follow a link to a folder.
+fn open_folder<R: Files>(rt: &R, alloc: Global, folder: &str) -> Result<Option<R::Dir>, CallFault>
+    ensures { MayFail result }
+{
+    let path = with_slash(alloc, folder)?;
+    match rt.open_dir(path.as_str()) {
+        Ok(folder) => Ok(Some(folder)),
+        Err(error) if error.kind() == ErrorKind::NotFound => Ok(None),
+        Err(_) => Err(CallFault::Failed),
+    }
+}
+
+fn with_slash(alloc: Global, folder: &str) -> Result<String, NoMemory> {
+    let mut path = String::from_str(alloc, folder)?;
+    path.push('/')?;
+    Ok(path)
+}
+
+// Each of the names is ended by a NUL.
+fn push_names(
+    alloc: Global,
+    names: &[u8],
+    front: &[u8],
+    found: &mut Vec<Word>,
+) -> Result<(), NoMemory> {
+    let mut rest = names;
+    for _ in 0..names.len() {
+        let Some(end) = rest.iter().position(|b| *b == 0) else {
+            break;
+        };
+        push_name(alloc, &rest[..end], front, found)?;
+        rest = &rest[end + 1..];
+    }
+    Ok(())
+}
+
+fn push_name(
+    alloc: Global,
+    name: &[u8],
+    front: &[u8],
+    found: &mut Vec<Word>,
+) -> Result<(), NoMemory> {
+    if name == b".".as_slice() || name == b"..".as_slice() || !name.starts_with(front) {
+        return Ok(());
+    }
+    match Word::new(alloc, name) {
+        Ok(name) => {
+            found.push(name)?;
+            Ok(())
+        }
+        Err(WordFault::NoMemory) => Err(NoMemory),
+        Err(_) => Ok(()),
+    }
+}

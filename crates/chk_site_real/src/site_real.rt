@@ -1,0 +1,232 @@
+//! The site of the real outside.
+ghost use Rattle.std.specs.Prelude.{◌≡◌, ◌≤◌, None};
+ghost use Rattle.chk_site.specs.Site.{CauseOf, MayFail};
+
+use crate::disk::{Disk, failed};
+use crate::folders::make_folders;
+use crate::logs::{append_log, newest, read_part};
+use crate::messages::Messages;
+use crate::names::sorted_names;
+use chk_bytes::{Bytes, Word};
+use chk_site::{CallFault, Part, Piece, Role, Site, Suffix, Taking, Who};
+use std::alloc::Global;
+use std::net::Net;
+use std::rt::Files;
+use std::thread;
+use std::time::{Clock, Duration};
+
+/// The files below the current folder, standard output, the clock and the network.
+#[derive(Drop)]
+pub struct SiteReal<R: Files + Net + Clock + Print + Drop> {
+    rt: R,
+    faults: u64,
+    disk: Disk<R>,
+    messages: Messages<R>,
+}
+
+impl<R: Files + Net + Clock + Print + Drop> SiteReal<R> {
+    /// Makes the folders where they aren't there. The count of faults begins at 0, or at 1 where a
+    /// folder can't be made: then the calls on the files of that folder fail.
+    pub fn new(rt: R, alloc: Global) -> SiteReal<R>
+        ensures { result.faults ≤ 1 }
+    {
+        let faults = make_folders(&rt);
+        SiteReal {
+            rt,
+            faults,
+            disk: Disk::new(alloc),
+            messages: Messages::new(alloc),
+        }
+    }
+
+    // Counts a call that failed.
+    fn settle<T>(&mut self, given: Result<T, CallFault>) -> Result<T, CallFault>
+        ensures same { result ≡ given }
+        ensures cause { CauseOf self.old.faults self.new.faults result }
+    {
+        if let Err(CallFault::Failed) = &given {
+            self.faults = self.faults.saturating_add(1);
+        }
+        given
+    }
+
+    fn milliseconds(&self) -> Result<u64, CallFault>
+        ensures { MayFail result }
+    {
+        let since_start = self.rt.monotonic().map_err(failed)?;
+        u64::try_from(since_start.as_millis()).map_err(|_| CallFault::Failed)
+    }
+}
+
+impl<R: Files + Net + Clock + Print + Drop> Site for SiteReal<R> {
+    ghost told = { λ _. None };
+
+    ghost fault_count = { λ s. s.faults };
+
+    fn start(&mut self, _alloc: Global, who: &Who) -> Result<(), CallFault> {
+        if who.role == Role::Collector {
+            self.messages.start();
+        }
+        Ok(())
+    }
+
+    fn create(&mut self, alloc: Global, _who: &Who, name: &str) -> Result<(), CallFault> {
+        let given = self.disk.create(&self.rt, alloc, name);
+        self.settle(given)
+    }
+
+    fn append(
+        &mut self,
+        alloc: Global,
+        _who: &Who,
+        name: &str,
+        bytes: &[u8],
+    ) -> Result<(), CallFault> {
+        let given = self.disk.append(&self.rt, alloc, name, bytes);
+        self.settle(given)
+    }
+
+    fn sync(&mut self, alloc: Global, _who: &Who, name: &str) -> Result<(), CallFault> {
+        let given = self.disk.sync(&self.rt, alloc, name);
+        self.settle(given)
+    }
+
+    fn rename(
+        &mut self,
+        _alloc: Global,
+        _who: &Who,
+        old: &str,
+        new: &str,
+    ) -> Result<(), CallFault> {
+        let given = self.disk.rename(&self.rt, old, new);
+        self.settle(given)
+    }
+
+    fn remove(&mut self, _alloc: Global, _who: &Who, name: &str) -> Result<(), CallFault> {
+        let given = self.disk.remove(&self.rt, name);
+        self.settle(given)
+    }
+
+    fn size(&mut self, _alloc: Global, _who: &Who, name: &str) -> Result<u64, CallFault> {
+        let given = self.disk.size(&self.rt, name);
+        self.settle(given)
+    }
+
+    fn read(
+        &mut self,
+        alloc: Global,
+        _who: &Who,
+        name: &str,
+        at: u64,
+        max: u32,
+    ) -> Result<Bytes, CallFault> {
+        let given = self.disk.read(&self.rt, alloc, name, at, max);
+        self.settle(given)
+    }
+
+    fn say(&mut self, _alloc: Global, _who: &Who, bytes: &[u8]) -> Result<(), CallFault> {
+        let given = self.rt.write_all(bytes).map_err(failed);
+        self.settle(given)
+    }
+
+    fn log_read(
+        &mut self,
+        alloc: Global,
+        _who: &Who,
+        path: &str,
+        part: Part<'_>,
+        at: u64,
+        max: u32,
+    ) -> Result<Piece, CallFault> {
+        let given = read_part(&mut self.disk, &self.rt, alloc, path, part, at, max);
+        self.settle(given)
+    }
+
+    fn log_newest(
+        &mut self,
+        alloc: Global,
+        _who: &Who,
+        path: &str,
+    ) -> Result<Option<Suffix>, CallFault> {
+        let given = newest(&self.rt, alloc, path);
+        self.settle(given)
+    }
+
+    fn log_append(
+        &mut self,
+        _alloc: Global,
+        _who: &Who,
+        path: &str,
+        bytes: &[u8],
+    ) -> Result<(), CallFault> {
+        let given = append_log(&self.rt, path, bytes);
+        self.settle(given)
+    }
+
+    fn cut(&mut self, alloc: Global, _who: &Who, name: &str, length: u64) -> Result<(), CallFault> {
+        let given = self.disk.cut(&self.rt, alloc, name, length);
+        self.settle(given)
+    }
+
+    fn list(&mut self, alloc: Global, _who: &Who, folder: &str) -> Result<Vec<Word>, CallFault> {
+        let given = sorted_names(&self.rt, alloc, folder);
+        self.settle(given)
+    }
+
+    fn clock(&mut self, _alloc: Global, _who: &Who) -> Result<u64, CallFault> {
+        let given = self.milliseconds();
+        self.settle(given)
+    }
+
+    fn pause(&mut self, _alloc: Global, _who: &Who, ms: u64) -> Result<(), CallFault> {
+        thread::sleep(&self.rt, Duration::from_millis(ms));
+        Ok(())
+    }
+
+    fn send(
+        &mut self,
+        alloc: Global,
+        _who: &Who,
+        address: &str,
+        bytes: &[u8],
+    ) -> Result<u64, CallFault> {
+        let given = self.messages.send(&self.rt, alloc, address, bytes);
+        self.settle(given)
+    }
+
+    fn got(&mut self, alloc: Global, _who: &Who, message: u64) -> Result<Bytes, CallFault> {
+        let given = self.messages.got(&self.rt, alloc, message);
+        self.settle(given)
+    }
+
+    fn take(
+        &mut self,
+        alloc: Global,
+        _who: &Who,
+        door: &str,
+        wait: u64,
+    ) -> Result<Option<Taking>, CallFault> {
+        let given = self.messages.take(&self.rt, alloc, door, wait);
+        self.settle(given)
+    }
+
+    fn more(&mut self, alloc: Global, _who: &Who, taking: u64) -> Result<Bytes, CallFault> {
+        let given = self.messages.more(alloc, taking);
+        self.settle(given)
+    }
+
+    fn answer(
+        &mut self,
+        alloc: Global,
+        _who: &Who,
+        taking: u64,
+        bytes: &[u8],
+    ) -> Result<(), CallFault> {
+        let given = self.messages.answer(&self.rt, alloc, taking, bytes);
+        self.settle(given)
+    }
+
+    fn faults(&self) -> u64 {
+        self.faults
+    }
+}

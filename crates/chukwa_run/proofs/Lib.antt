@@ -1,0 +1,7 @@
+pub mod WordTests
+pub mod GoodWords
+pub mod Kept
+pub mod KeptCalls
+pub mod ActsCalls
+pub mod Faulted
+pub mod Said

@@ -1,0 +1,41 @@
+-- The lines that a run prints.
+use Rattle.std.specs.Prelude.{ℕ, List, [], ◌∷◌, ◌++◌, decimal, codes, if◌then◌else◌}
+use Rattle.chk_site.specs.declared.acts.Call.{Call}
+use Rattle.chk_site.specs.CallNames.{call_name}
+use Rattle.chukwa_run.specs.CommandWords.{Round, begins_round}
+use Rattle.chukwa_run.specs.declared.command_words.Usage.{Usage}
+use Rattle.chukwa_run.specs.declared.command_words.Usage.TheVariants.{Commands, Round as RoundUsage}
+use Rattle.chukwa_run.specs.declared.faults.RunFault.{RunFault}
+use Rattle.chukwa_run.specs.declared.faults.RunFault.TheVariants.{Outside, NoMemory, LogTooLong, SinkIsThere}
+
+-- how a command is used, or all commands
+abbrev pub usage_text : Usage → List ℕ
+usage_text Commands = codes "usage: chukwa round\n"
+usage_text RoundUsage = codes "usage: chukwa round SOURCE TYPE LOG\n"
+
+-- the stream and the offset up to which it was read
+abbrev pub stream_line : Round → ℕ → List ℕ
+stream_line given offset =
+    codes "stream " ++ (given.source ++ (32 ∷ (given.kind ++ (32 ∷ (given.log ++ (32 ∷ (decimal offset ++ 10 ∷ [])))))))
+
+-- the call that failed
+abbrev pub outside_line : Call → List ℕ
+outside_line call = codes "outside " ++ (call_name call ++ 10 ∷ [])
+
+-- why a run ended otherwise than well
+abbrev pub fault_line : RunFault → List ℕ
+fault_line (Outside call) = outside_line call
+fault_line NoMemory = codes "out of memory\n"
+fault_line LogTooLong = codes "not built log\n"
+fault_line SinkIsThere = codes "not built sink\n"
+
+-- the status with which a run ends so
+abbrev pub fault_status : RunFault → ℕ
+fault_status (Outside call) = 3
+fault_status NoMemory = 4
+fault_status LogTooLong = 10
+fault_status SinkIsThere = 10
+
+-- how the command is used that the words begin with, or all commands
+abbrev pub usage_line : List (List ℕ) → List ℕ
+usage_line words = usage_text (if begins_round words then RoundUsage else Commands)

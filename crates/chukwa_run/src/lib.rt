@@ -1,0 +1,10 @@
+//! The commands of `chukwa`, over any outside.
+#![tactic(auto)]
+
+mod command_words;
+mod faults;
+mod lines;
+mod round;
+mod runs;
+
+pub use runs::run;

@@ -1,0 +1,97 @@
+//! A run of the program.
+
+ghost use Rattle.std.specs.Prelude.{◌≡◌, ◌≢◌, ◌↔◌, ◌≤◌, map, None, IfOk, IsTrue};
+ghost use Rattle.chk_site.specs.History.{History};
+ghost use Rattle.chk_site.specs.Site.{Adds, Rose};
+ghost use Rattle.chk_site.specs.Runs.{Leads};
+ghost use Rattle.chukwa_run.specs.CommandWords.{round_of, round_asked, is_round};
+ghost use Rattle.chukwa_run.specs.Rounds.{IsForeign, Holds, Anything};
+ghost use Rattle.chukwa_run.specs.Acts.{Anyone, ActedSo, EndsWith, writer_chukwa};
+ghost use Rattle.chukwa_run.specs.Lines.{usage_text};
+ghost use Rattle.chukwa_run.specs.Runs.{ClosedStaysFront, RunsSo, RoundRuns, EndsSo, Told, NoActs, SaidUsage};
+
+use crate::command_words::{RoundWords, Usage, read_words};
+use crate::faults::RunFault;
+use crate::lines::{fault_line, usage_line};
+use crate::round::round;
+use chk_bytes::{NoMemory, Word};
+use chk_site::{Role, Site, Who};
+use std::alloc::Global;
+
+/// Runs the command that the words behind the program's name ask for, and answers the status with which the program
+/// ends: 0 where the round is whole, 2 where the words ask for nothing, 3 where a call on the outside failed, 4 for want
+/// of memory, and 10 where the log has more than 131,072 bytes or the sink is there already. Each status but 0 has a line
+/// on standard output; where that can't be printed, the status stays.
+///
+/// `round SOURCE TYPE LOG` reads LOG once, writes what it read as one chunk into `sinks/c1.1.1.done`, a SequenceFile of
+/// version 6, and prints `stream SOURCE TYPE LOG <bytes>`. An empty log makes no sink.
+pub fn run<'a, S: Site>(alloc: Global, site: &mut S, words: &'a [&'a str]) -> u8
+    ensures usage { (result ≡ 2) ↔ (round_asked (map (λ w. w.now) words.now) ≡ None) }
+    ensures closed_stays_front { Adds (S.told site.old) (S.told site.new)
+        (ClosedStaysFront (round_asked (map (λ w. w.now) words.now)) result) }
+    ensures acts { (earlier : History) → Adds (S.told site.old) (S.told site.new)
+        (Leads Anyone (ActedSo earlier NoActs) (ActedSo earlier (RunsSo (map (λ w. w.now) words.now) result))) }
+    ensures outside_cause { result ≡ 3 → Rose (S.fault_count site.old) (S.fault_count site.new) }
+{
+    match read_words(words) {
+        Ok(given) => run_round(alloc, site, &given),
+        Err(usage) => {
+            say_usage(alloc, site, usage);
+            2
+        }
+    }
+}
+
+fn run_round<S: Site>(alloc: Global, site: &mut S, given: &RoundWords<'_>) -> u8
+    requires good { IsTrue (is_round (round_of given.now)) }
+    ensures kept { (earlier : History) → Adds (S.told site.old) (S.told site.new)
+        (Leads IsForeign (Holds (round_of given.now) earlier Anything) (RoundRuns (round_of given.now) earlier result)) }
+    ensures acts { (earlier : History) → Adds (S.told site.old) (S.told site.new)
+        (Leads Anyone (ActedSo earlier NoActs) (ActedSo earlier (EndsSo (round_of given.now) result))) }
+    ensures cause { result ≡ 3 → Rose (S.fault_count site.old) (S.fault_count site.new) }
+    ensures no_usage { result ≢ 2 }
+{
+    match round(alloc, site, given) {
+        Ok(()) => 0,
+        Err(fault) => {
+            say_fault(alloc, site, given, fault);
+            fault.status()
+        }
+    }
+}
+
+fn writer(alloc: Global) -> Result<Who, NoMemory>
+    ensures { IfOk result (λ who. who ≡ writer_chukwa) }
+{
+    Ok(Who {
+        role: Role::Writer,
+        name: Word::from_text(alloc, "chukwa")?,
+    })
+}
+
+// Prints the fault's line, where there is memory for it.
+fn say_fault<S: Site>(alloc: Global, site: &mut S, given: &RoundWords<'_>, fault: RunFault)
+    ensures kept { (earlier : History) → Adds (S.told site.old) (S.told site.new)
+        (Leads IsForeign (Holds (round_of given.now) earlier Anything) (Holds (round_of given.now) earlier Anything)) }
+    ensures acts { (earlier : History) → Adds (S.told site.old) (S.told site.new)
+        (Leads Anyone (ActedSo earlier (EndsWith (round_of given.now) fault)) (ActedSo earlier (Told (round_of given.now) fault))) }
+    ensures count { S.fault_count site.old ≤ S.fault_count site.new }
+{
+    let Ok(writer) = writer(alloc) else { return };
+    let Ok(line) = fault_line(alloc, fault) else {
+        return
+    };
+    let _said = site.say(alloc, &writer, line.as_slice());
+}
+
+// Prints the usage line, where there is memory for it.
+fn say_usage<S: Site>(alloc: Global, site: &mut S, usage: Usage)
+    ensures acts { (earlier : History) → Adds (S.told site.old) (S.told site.new)
+        (Leads Anyone (ActedSo earlier NoActs) (ActedSo earlier (SaidUsage (usage_text usage)))) }
+{
+    let Ok(writer) = writer(alloc) else { return };
+    let Ok(line) = usage_line(alloc, usage) else {
+        return
+    };
+    let _said = site.say(alloc, &writer, line.as_slice());
+}
