@@ -5,7 +5,7 @@ use Rattle.std.proofs.lemmas.Bool.{and_parts, and_from, ltb-true, lt-ltb}
 use Rattle.chk_bytes.specs.Numbers.{limit}
 use Rattle.chk_bytes.specs.Words.{is_word}
 use Rattle.chk_bytes.proofs.WordLemmas.{word_facts}
-use Rattle.chk_chunk.specs.Keys.{Key, Stream, is_stream, is_key, start_limit}
+use Rattle.chk_chunk.specs.Keys.{Key, Stream, is_stream, has_words, is_key, start_limit}
 
 -- a word's length fits in two bytes
 pub word_fits : (text : List ℕ) → IsTrue (is_word text) → length text ≤ 4096
@@ -62,13 +62,16 @@ pub record TextSizes (k : Key) : Type 0 where
   pub name : length k.stream.name ≤ 4096
   pub cluster : length k.cluster ≤ 4096
 
-pub text_sizes : (k : Key) → IsTrue (is_key k) → TextSizes k
-text_sizes k valid =
-    let facts = key_facts k valid in
-    let words = stream_facts k.stream facts.stream in
+pub text_sizes : (k : Key) → IsTrue (has_words k) → TextSizes k
+text_sizes k words =
+    let a = and_parts (is_stream k.stream) (is_word k.cluster) words in
+    let facts = stream_facts k.stream a.0 in
     record {
-      source = word_fits k.stream.source words.source;
-      kind = word_fits k.stream.kind words.kind;
-      name = word_fits k.stream.name words.name;
-      cluster = word_fits k.cluster facts.cluster;
+      source = word_fits k.stream.source facts.source;
+      kind = word_fits k.stream.kind facts.kind;
+      name = word_fits k.stream.name facts.name;
+      cluster = word_fits k.cluster a.1;
     }
+
+pub key_has_words : (k : Key) → IsTrue (is_key k) → IsTrue (has_words k)
+key_has_words k valid = let facts = key_facts k valid in and_from _ _ facts.stream facts.cluster

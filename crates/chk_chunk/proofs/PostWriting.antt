@@ -1,5 +1,5 @@
 -- Posts as they are written.
-use Rattle.std.proofs.Common.{◌≡◌, ℕ, zero, suc, ◌+◌, ◌<◌, ◌≤◌, List, [], ◌∷◌, ◌++◌, length, take, get_or, refl, sym, ap, ap₂, ◌∙◌, arith, append_assoc}
+use Rattle.std.proofs.Common.{subst, ◌≡◌, ℕ, zero, suc, ◌+◌, ◌<◌, ◌≤◌, List, [], ◌∷◌, ◌++◌, length, take, get_or, refl, sym, ap, ap₂, ◌∙◌, arith, append_assoc}
 use Rattle.std.specs.Prelude.{IsTrue}
 use Rattle.std.proofs.lemmas.Bool.{and_parts}
 use Rattle.std.proofs.lemmas.List.{append-nil, length-append, length-map, map_more, take_all}
@@ -10,6 +10,7 @@ use Rattle.chk_chunk.specs.Lent.{chunk_of, chunks_of, AreValid}
 use Rattle.chk_chunk.specs.declared.Chunk.{Chunk as OwnedChunk}
 use Rattle.chk_chunk.proofs.Appended.{two_parts}
 use Rattle.chk_chunk.proofs.KeyLaws.{written_key_is_key}
+use Rattle.chk_chunk.proofs.KeySizes.{key_size}
 use Rattle.chk_chunk.proofs.PostGrammar.{value_facts}
 
 -- how long a chunk is
@@ -110,3 +111,19 @@ pub post_of_valid : (chunks : List OwnedChunk) → 0 < length chunks → length 
 post_of_valid chunks some few valid short =
     let size : length (chunks_of chunks) ≡ length chunks = length-map chunks chunk_of in
     written_post_is_post (chunks_of chunks) (omega arith) (omega arith) (chunks_of_valid chunks valid) short
+
+pub written_part_small : (c : Chunk) → IsTrue (is_chunk c) → length (written_part c) ≤ 147489
+written_part_small c valid =
+    let valid_key : IsTrue (is_key c.key) = (and_parts (is_key c.key) (has_value chunk_limit c.key c.value) valid).0 in
+    omega (
+      arith,
+      written_part-size c,
+      value_small c valid,
+      key_size c.key (written_key c.key) (written_key_is_key c.key valid_key),
+    )
+
+pub item_small : (chunks : List OwnedChunk) (i : ℕ) (c : OwnedChunk) → AreValid chunks → i < length chunks
+    → c ≡ get_or chunks i c → length (written_part (chunk_of c)) ≤ 147489
+item_small chunks i c valid within is =
+    written_part_small (chunk_of c)
+    (subst (λ (x : OwnedChunk). IsTrue (is_chunk (chunk_of x))) (sym is) (valid i c within))

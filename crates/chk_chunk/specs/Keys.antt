@@ -38,6 +38,10 @@ start_limit = 2 ^ 62
 abbrev pub is_stream : Stream → Bool
 is_stream s = is_word s.source && (is_word s.kind && is_word s.name)
 
+-- a key of words alone
+abbrev pub has_words : Key → Bool
+has_words k = is_stream k.stream && is_word k.cluster
+
 -- a key that can be spelled
 abbrev pub is_key : Key → Bool
 is_key k =

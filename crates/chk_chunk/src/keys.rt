@@ -3,7 +3,7 @@
 ghost use Rattle.std.specs.Prelude.{◌≡◌, ◌<◌, ◌≤◌, ◌^◌, ◌+◌, ◌++◌, ◌∷◌, take, length, IsTrue};
 ghost use Rattle.std.specs.Prelude.{OnOk, OnErr, IfOk, IfErr, IsOkAnd, Some, None};
 ghost use Rattle.chk_bytes.specs.Numbers.{be64, spelled_at};
-ghost use Rattle.chk_chunk.specs.Keys.{Key, IsKey, is_key, is_stream, fits_1, counted};
+ghost use Rattle.chk_chunk.specs.Keys.{Key, IsKey, is_key, has_words, is_stream, fits_1, counted};
 ghost use Rattle.chk_chunk.specs.Keys.{counted_stream, key_1, key_2, written_key, guessed_1};
 ghost use Rattle.chk_chunk.specs.Keys.{guessed_2, guessed_key};
 ghost use Rattle.chk_chunk.specs.Faults.{head_fault, rest_1_fault, rest_2_fault, key_fault};
@@ -125,7 +125,7 @@ pub fn write_key(out: &mut Bytes, chunk: &ChunkRef<'_>) -> Result<(), NoMemory>
 
 // How many bytes the chunk's key has where it is written.
 pub(crate) fn key_size(chunk: &ChunkRef<'_>) -> u64
-    requires { IsTrue (is_key (lent_chunk chunk.now).key) }
+    requires { IsTrue (has_words (lent_chunk chunk.now).key) }
     ensures size { result ≡ length (written_key (lent_chunk chunk.now).key) }
     ensures small { result ≤ 16409 }
 {

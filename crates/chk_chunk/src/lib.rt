@@ -5,7 +5,8 @@
 //! A **key** is a chunk without its data. A **post** is 1 to 1,000 chunks, in at most 4 MiB.
 #![tactic(auto)]
 
-ghost use Rattle.std.specs.Prelude.{◌≡◌};
+ghost use Rattle.std.specs.Prelude.{◌≡◌, IsTrue};
+ghost use Rattle.chk_chunk.specs.Keys.{has_words};
 ghost use Rattle.chk_chunk.specs.Lent.{lent_chunk, chunk_of};
 
 mod faults;
@@ -42,7 +43,7 @@ pub struct ChunkRef<'a> {
 }
 
 /// A chunk that owns its texts and its data. The fields are those of `ChunkRef`.
-#[derive(Drop)]
+#[derive(Debug, Drop)]
 pub struct Chunk {
     pub source: Word,
     pub kind: Word,
@@ -56,7 +57,8 @@ pub struct Chunk {
 impl Chunk {
     /// The same chunk, borrowed.
     pub fn lend(&self) -> ChunkRef<'_>
-        ensures { lent_chunk result ≡ chunk_of self.now }
+        ensures chunk { lent_chunk result ≡ chunk_of self.now }
+        ensures words { IsTrue (has_words (chunk_of self.now).key) }
     {
         ChunkRef {
             source: self.source.as_str(),

@@ -211,9 +211,7 @@ pub fn post_size(chunks: &[Chunk]) -> u64
 
 /// How many bytes the chunk has in a post: its key and its data, each behind a length of 4 bytes.
 pub fn chunk_size(chunk: &Chunk) -> u64
-    requires { IsTrue (is_chunk (chunk_of chunk.now)) }
-    ensures size { result ≡ length (written_part (chunk_of chunk.now)) }
-    ensures small { result ≤ 147489 }
+    ensures { result ≡ length (written_part (chunk_of chunk.now)) }
 {
     8 + key_size(&chunk.lend()) + chunk.body.len() as u64
 }

@@ -3,8 +3,7 @@ use Rattle.std.proofs.Common.{◌≡◌, ℕ, ◌∙◌, Bool, true, false, List
 use Rattle.chk_bytes.specs.Words.{is_word}
 use Rattle.chk_bytes.specs.WordFaults.{word_fault_of}
 use Rattle.chk_bytes.specs.declared.word.WordFault.{WordFault}
-use Rattle.chk_bytes.proofs.WordLemmas.{faultless-from_is_word}
-use Rattle.chukwa_run.specs.CommandWords.{round_asked}
+use Rattle.chk_bytes.proofs.FaultLemmas.{faultless-from_is_word}
 
 -- a text with a fault is no word
 pub no_word : (text : List ℕ) (fault : WordFault) → word_fault_of text ≡ Some fault → is_word text ≡ false
@@ -13,12 +12,3 @@ no_word text fault e = by (is_word text) refl
     by : (b : Bool) → is_word text ≡ b → is_word text ≡ false
     by true h = absurd (let none = faultless-from_is_word text h in cc)
     by false h = h
-
--- only four words ask for a round
-pub not_four : (words : List (List ℕ)) → (length words ≡ 4 → ⊥) → round_asked words ≡ None
-not_four [] h = refl
-not_four (a ∷ []) h = refl
-not_four (a ∷ b ∷ []) h = refl
-not_four (a ∷ b ∷ c ∷ []) h = refl
-not_four (a ∷ b ∷ c ∷ d ∷ []) h = absurd (h refl)
-not_four (a ∷ b ∷ c ∷ d ∷ e ∷ words) h = refl

@@ -16,5 +16,5 @@ returns c =
     c.in_ok-write_key.ensures.ok
     c.in_ok-put_u32-2.ensures.ok
     last
-    ∙ ap (λ d. c.args.out.now ++ written_part d) c.lend-lent.ensures)
+    ∙ ap (λ d. c.args.out.now ++ written_part d) c.lend-lent.ensures.chunk)
     c.push_all.ensures.ok

@@ -1,6 +1,6 @@
 use Rattle.std.proofs.Common.{sym, ◌∙◌, ap, ◌≡◌}
 use Rattle.chk_bytes.specs.WordFaults.{word_fault_of}
-use Rattle.chk_bytes.proofs.WordLemmas.{is_word-from_faultless}
+use Rattle.chk_bytes.proofs.FaultLemmas.{is_word-from_faultless}
 use Rattle.chukwa_run.proofs.WordTests.{no_word}
 use Rattle.chukwa_run.proofs.command_words.is_word.Goals as goal
 
