@@ -9,3 +9,4 @@ pub mod Honest
 pub mod Site
 pub mod Runs
 pub mod CallNames
+pub mod CutLaws

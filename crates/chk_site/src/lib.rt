@@ -2,12 +2,14 @@
 #![tactic(auto)]
 
 mod acts;
+mod laws;
 mod lists;
 mod scripts;
 mod site;
 mod suffixes;
 
 pub use acts::{Act, ActAnswer, Call, CallFault, OutsideFault, Role, Who};
+pub use laws::law_cut_places;
 pub use lists::{Left, Lefts, Words};
 pub use scripts::{Other, Script, StopAt};
 pub use site::{Site, done, taken};

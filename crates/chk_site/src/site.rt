@@ -181,11 +181,8 @@ pub trait Site {
 pub fn done(call: Call, given: Result<(), CallFault>) -> Result<(), OutsideFault>
     ensures { MatchResult result (λ _. IsDone given) (λ fault. Ends call given fault) }
 {
-    match given {
-        Err(CallFault::Failed) => Err(OutsideFault::Outside { call }),
-        Err(CallFault::NoMemory) => Err(OutsideFault::NoMemory),
-        _ => Ok(()),
-    }
+    taken(call, given)?;
+    Ok(())
 }
 
 /// The value of a call that was done; none where it was refused for the state of the files.
