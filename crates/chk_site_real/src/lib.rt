@@ -2,19 +2,12 @@
 //! and the clock.
 #![tactic(auto)]
 
-mod datagram_door;
-mod deadline;
-mod disk;
-mod doors;
+mod faults;
 mod folders;
+mod host;
+mod kept;
 mod logs;
-mod mailbox;
-mod messages;
 mod names;
-mod pieces;
-mod sends;
 mod site_real;
-mod stream_door;
-mod streams;
 
 pub use site_real::SiteReal;

@@ -1,7 +1,7 @@
 //! The names in a folder.
 ghost use Rattle.chk_site.specs.Site.{MayFail};
 
-use crate::disk::failed;
+use crate::faults::failed;
 use chk_bytes::{NoMemory, Word, WordFault};
 use chk_site::CallFault;
 use std::alloc::Global;
@@ -15,17 +15,17 @@ const FOLDER_BYTES: usize = 32_768;
 pub fn sorted_names<R: Files>(rt: &R, alloc: Global, folder: &str) -> Result<Vec<Word>, CallFault>
     ensures { MayFail result }
 {
-    let mut names = names_in(rt, alloc, folder, b"".as_slice())?;
+    let mut names = names_in(rt, alloc, folder, "")?;
     names.sort_unstable_by(|a, b| a.as_str().cmp(b.as_str()));
     Ok(names)
 }
 
-/// Those that begin with these bytes, in no order.
+/// Those that begin so, in no order.
 pub fn names_in<R: Files>(
     rt: &R,
     alloc: Global,
     folder: &str,
-    front: &[u8],
+    front: &str,
 ) -> Result<Vec<Word>, CallFault>
     ensures { MayFail result }
 {
@@ -39,7 +39,7 @@ pub fn names_in<R: Files>(
         if count == 0 {
             break;
         }
-        push_names(alloc, &buffer[..count], front, &mut names)?;
+        push_names(alloc, &buffer[..count], front.as_bytes(), &mut names)?;
     }
     Ok(names)
 }

@@ -2,13 +2,13 @@
 ghost use Rattle.std.specs.Prelude.{◌≡◌, ◌≤◌, None};
 ghost use Rattle.chk_site.specs.Site.{CauseOf, MayFail};
 
-use crate::disk::{Disk, failed};
+use crate::faults::failed;
 use crate::folders::make_folders;
-use crate::logs::{append_log, newest, read_part};
-use crate::messages::Messages;
+use crate::host::Host;
 use crate::names::sorted_names;
 use chk_bytes::{Bytes, Word};
 use chk_site::{CallFault, Part, Piece, Role, Site, Suffix, Taking, Who};
+use chk_sockets::Messages;
 use std::alloc::Global;
 use std::net::Net;
 use std::rt::Files;
@@ -18,9 +18,8 @@ use std::time::{Clock, Duration};
 /// The files below the current folder, standard output, the clock and the network.
 #[derive(Drop)]
 pub struct SiteReal<R: Files + Net + Clock + Print + Drop> {
-    rt: R,
     faults: u64,
-    disk: Disk<R>,
+    host: Host<R>,
     messages: Messages<R>,
 }
 
@@ -32,9 +31,8 @@ impl<R: Files + Net + Clock + Print + Drop> SiteReal<R> {
     {
         let faults = make_folders(&rt);
         SiteReal {
-            rt,
             faults,
-            disk: Disk::new(alloc),
+            host: Host::new(rt, alloc),
             messages: Messages::new(alloc),
         }
     }
@@ -53,7 +51,7 @@ impl<R: Files + Net + Clock + Print + Drop> SiteReal<R> {
     fn milliseconds(&self) -> Result<u64, CallFault>
         ensures { MayFail result }
     {
-        let since_start = self.rt.monotonic().map_err(failed)?;
+        let since_start = self.host.rt.monotonic().map_err(failed)?;
         u64::try_from(since_start.as_millis()).map_err(|_| CallFault::Failed)
     }
 }
@@ -71,7 +69,7 @@ impl<R: Files + Net + Clock + Print + Drop> Site for SiteReal<R> {
     }
 
     fn create(&mut self, alloc: Global, _who: &Who, name: &str) -> Result<(), CallFault> {
-        let given = self.disk.create(&self.rt, alloc, name);
+        let given = self.host.create(alloc, name);
         self.settle(given)
     }
 
@@ -82,12 +80,12 @@ impl<R: Files + Net + Clock + Print + Drop> Site for SiteReal<R> {
         name: &str,
         bytes: &[u8],
     ) -> Result<(), CallFault> {
-        let given = self.disk.append(&self.rt, alloc, name, bytes);
+        let given = self.host.append(alloc, name, bytes);
         self.settle(given)
     }
 
     fn sync(&mut self, alloc: Global, _who: &Who, name: &str) -> Result<(), CallFault> {
-        let given = self.disk.sync(&self.rt, alloc, name);
+        let given = self.host.sync(alloc, name);
         self.settle(given)
     }
 
@@ -98,17 +96,17 @@ impl<R: Files + Net + Clock + Print + Drop> Site for SiteReal<R> {
         old: &str,
         new: &str,
     ) -> Result<(), CallFault> {
-        let given = self.disk.rename(&self.rt, old, new);
+        let given = self.host.rename(old, new);
         self.settle(given)
     }
 
     fn remove(&mut self, _alloc: Global, _who: &Who, name: &str) -> Result<(), CallFault> {
-        let given = self.disk.remove(&self.rt, name);
+        let given = self.host.remove(name);
         self.settle(given)
     }
 
     fn size(&mut self, _alloc: Global, _who: &Who, name: &str) -> Result<u64, CallFault> {
-        let given = self.disk.size(&self.rt, name);
+        let given = self.host.size(name);
         self.settle(given)
     }
 
@@ -120,12 +118,12 @@ impl<R: Files + Net + Clock + Print + Drop> Site for SiteReal<R> {
         at: u64,
         max: u32,
     ) -> Result<Bytes, CallFault> {
-        let given = self.disk.read(&self.rt, alloc, name, at, max);
+        let given = self.host.read(alloc, name, at, max);
         self.settle(given)
     }
 
     fn say(&mut self, _alloc: Global, _who: &Who, bytes: &[u8]) -> Result<(), CallFault> {
-        let given = self.rt.write_all(bytes).map_err(failed);
+        let given = self.host.rt.write_all(bytes).map_err(failed);
         self.settle(given)
     }
 
@@ -138,7 +136,7 @@ impl<R: Files + Net + Clock + Print + Drop> Site for SiteReal<R> {
         at: u64,
         max: u32,
     ) -> Result<Piece, CallFault> {
-        let given = read_part(&mut self.disk, &self.rt, alloc, path, part, at, max);
+        let given = self.host.read_log(alloc, path, part, at, max);
         self.settle(given)
     }
 
@@ -148,7 +146,7 @@ impl<R: Files + Net + Clock + Print + Drop> Site for SiteReal<R> {
         _who: &Who,
         path: &str,
     ) -> Result<Option<Suffix>, CallFault> {
-        let given = newest(&self.rt, alloc, path);
+        let given = self.host.newest_suffix(alloc, path);
         self.settle(given)
     }
 
@@ -159,17 +157,17 @@ impl<R: Files + Net + Clock + Print + Drop> Site for SiteReal<R> {
         path: &str,
         bytes: &[u8],
     ) -> Result<(), CallFault> {
-        let given = append_log(&self.rt, path, bytes);
+        let given = self.host.append_log(path, bytes);
         self.settle(given)
     }
 
     fn cut(&mut self, alloc: Global, _who: &Who, name: &str, length: u64) -> Result<(), CallFault> {
-        let given = self.disk.cut(&self.rt, alloc, name, length);
+        let given = self.host.cut(alloc, name, length);
         self.settle(given)
     }
 
     fn list(&mut self, alloc: Global, _who: &Who, folder: &str) -> Result<Vec<Word>, CallFault> {
-        let given = sorted_names(&self.rt, alloc, folder);
+        let given = sorted_names(&self.host.rt, alloc, folder);
         self.settle(given)
     }
 
@@ -179,7 +177,7 @@ impl<R: Files + Net + Clock + Print + Drop> Site for SiteReal<R> {
     }
 
     fn pause(&mut self, _alloc: Global, _who: &Who, ms: u64) -> Result<(), CallFault> {
-        thread::sleep(&self.rt, Duration::from_millis(ms));
+        thread::sleep(&self.host.rt, Duration::from_millis(ms));
         Ok(())
     }
 
@@ -190,12 +188,12 @@ impl<R: Files + Net + Clock + Print + Drop> Site for SiteReal<R> {
         address: &str,
         bytes: &[u8],
     ) -> Result<u64, CallFault> {
-        let given = self.messages.send(&self.rt, alloc, address, bytes);
+        let given = self.messages.send(&self.host.rt, alloc, address, bytes);
         self.settle(given)
     }
 
     fn got(&mut self, alloc: Global, _who: &Who, message: u64) -> Result<Bytes, CallFault> {
-        let given = self.messages.got(&self.rt, alloc, message);
+        let given = self.messages.got(&self.host.rt, alloc, message);
         self.settle(given)
     }
 
@@ -206,7 +204,7 @@ impl<R: Files + Net + Clock + Print + Drop> Site for SiteReal<R> {
         door: &str,
         wait: u64,
     ) -> Result<Option<Taking>, CallFault> {
-        let given = self.messages.take(&self.rt, alloc, door, wait);
+        let given = self.messages.take(&self.host.rt, alloc, door, wait);
         self.settle(given)
     }
 
@@ -222,7 +220,7 @@ impl<R: Files + Net + Clock + Print + Drop> Site for SiteReal<R> {
         taking: u64,
         bytes: &[u8],
     ) -> Result<(), CallFault> {
-        let given = self.messages.answer(&self.rt, alloc, taking, bytes);
+        let given = self.messages.answer(&self.host.rt, alloc, taking, bytes);
         self.settle(given)
     }
 

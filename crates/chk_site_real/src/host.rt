@@ -1,0 +1,220 @@
+//! The machine: its runtime, and files by their names. The file written last and the file read
+//! last are kept open, so that a further piece costs one system call.
+ghost use Rattle.std.specs.Prelude.{◌≤◌, length, IfOk, IfSome, IsErr};
+ghost use Rattle.chk_site.specs.Site.{MayFail, MayExist, MayMiss, MayBeShort, MayMissOrBeShort};
+
+use crate::faults::failed;
+use crate::folders::{file_size, folder_of, is_folder, sync_folder};
+use crate::kept::{Kept, is_named};
+use chk_bytes::Bytes;
+use chk_site::CallFault;
+use chk_sockets::text;
+use std::alloc::Global;
+use std::fs;
+use std::fs::{File, OpenFile, OpenOptions};
+use std::io::{ErrorKind, Write};
+use std::rt::Files;
+
+/// At most two files are open: one to append to, and one to read.
+#[derive(Drop)]
+pub struct Host<R: Files> {
+    pub rt: R,
+    writing: Option<Kept<R>>,
+    reading: Option<Kept<R>>,
+    buffer: Vec<u8>,
+}
+
+impl<R: Files> Host<R> {
+    pub fn new(rt: R, alloc: Global) -> Host<R> {
+        Host {
+            rt,
+            writing: None,
+            reading: None,
+            buffer: Vec::new(alloc),
+        }
+    }
+
+    /// `Exists` where the file is there. The new file is kept open.
+    pub fn create(&mut self, alloc: Global, name: &str) -> Result<(), CallFault>
+        ensures { MayExist result }
+    {
+        let kept_name = text(alloc, name)?;
+        match OpenOptions::new()
+            .append(true)
+            .create_new(true)
+            .open(&self.rt, name)
+        {
+            Ok(file) => {
+                sync_folder(&self.rt, name).map_err(failed)?;
+                self.writing = Some(Kept::new(kept_name, file));
+                Ok(())
+            }
+            Err(error) if error.kind() == ErrorKind::AlreadyExists => Err(CallFault::Exists),
+            Err(_) => Err(CallFault::Failed),
+        }
+    }
+
+    /// A file that isn't there is `Failed`.
+    pub fn append(&mut self, alloc: Global, name: &str, bytes: &[u8]) -> Result<(), CallFault>
+        ensures { MayFail result }
+    {
+        let mut writer = self.writer(alloc, name)?;
+        writer.file.write_all(bytes).map_err(failed)?;
+        self.writing = Some(writer);
+        Ok(())
+    }
+
+    /// A file that isn't there is `Failed`.
+    pub fn sync(&mut self, alloc: Global, name: &str) -> Result<(), CallFault>
+        ensures { MayFail result }
+    {
+        let writer = self.writer(alloc, name)?;
+        writer.file.sync_all().map_err(failed)?;
+        self.writing = Some(writer);
+        Ok(())
+    }
+
+    /// A file that isn't there is `Failed`. The new length is synced.
+    pub fn cut(&mut self, alloc: Global, name: &str, length: u64) -> Result<(), CallFault>
+        ensures { MayBeShort result }
+    {
+        let writer = self.writer(alloc, name)?;
+        let size = writer.size()?;
+        if size < length {
+            return Err(CallFault::Short { size });
+        }
+        if size > length {
+            writer.file.set_len(length).map_err(failed)?;
+            writer.file.sync_all().map_err(failed)?;
+        }
+        self.writing = Some(writer);
+        Ok(())
+    }
+
+    /// A file that isn't there is `Failed`.
+    pub fn rename(&mut self, old: &str, new: &str) -> Result<(), CallFault>
+        ensures { MayFail result }
+    {
+        self.forget(old);
+        self.forget(new);
+        fs::rename(&self.rt, old, new).map_err(failed)?;
+        sync_folder(&self.rt, new).map_err(failed)?;
+        if folder_of(old) != folder_of(new) {
+            sync_folder(&self.rt, old).map_err(failed)?;
+        }
+        Ok(())
+    }
+
+    pub fn remove(&mut self, name: &str) -> Result<(), CallFault>
+        ensures { MayMiss result }
+    {
+        self.forget(name);
+        match fs::remove_file(&self.rt, name) {
+            Ok(()) => sync_folder(&self.rt, name).map_err(failed),
+            Err(error) if error.kind() == ErrorKind::NotFound => no_file(&self.rt, name),
+            Err(_) => Err(CallFault::Failed),
+        }
+    }
+
+    pub fn size(&self, name: &str) -> Result<u64, CallFault>
+        ensures { MayMiss result }
+    {
+        match file_size(&self.rt, name) {
+            Ok(Some(size)) => Ok(size),
+            Ok(None) => no_file(&self.rt, name),
+            Err(_) => Err(CallFault::Failed),
+        }
+    }
+
+    pub fn read(&mut self, alloc: Global, name: &str, at: u64, max: u32) -> Result<Bytes, CallFault>
+        ensures most { IfOk result (λ bytes. length bytes ≤ max) }
+        ensures only { MayMissOrBeShort result }
+    {
+        match self.read_found(alloc, name, at, max)? {
+            Some(bytes) => Ok(bytes),
+            None => no_file(&self.rt, name),
+        }
+    }
+
+    /// None where there is no such file. A file that was read to its end is let go.
+    pub fn read_found(
+        &mut self,
+        alloc: Global,
+        name: &str,
+        at: u64,
+        max: u32,
+    ) -> Result<Option<Bytes>, CallFault>
+        ensures most { IfOk result (λ found. IfSome found (λ bytes. length bytes ≤ max)) }
+        ensures only { MayBeShort result }
+    {
+        let Some(mut reader) = self.reader(alloc, name, at)? else {
+            return Ok(None);
+        };
+        reader.go_to(at)?;
+        let bytes = reader.piece(&mut self.buffer, alloc, max)?;
+        if bytes.len() == 0 {
+            reader.reaches(at)?;
+        }
+        if bytes.len() == max as usize {
+            self.reading = Some(reader);
+        }
+        Ok(Some(bytes))
+    }
+
+    // The file to append to, taken from what is kept.
+    fn writer(&mut self, alloc: Global, name: &str) -> Result<Kept<R>, CallFault>
+        ensures { MayFail result }
+    {
+        if let Some(kept) = self.writing.take() {
+            if kept.name.as_str() == name {
+                return Ok(kept);
+            }
+        }
+        let kept_name = text(alloc, name)?;
+        let file = OpenOptions::new()
+            .append(true)
+            .open(&self.rt, name)
+            .map_err(failed)?;
+        Ok(Kept::new(kept_name, file))
+    }
+
+    // The file to read, taken from what is kept; none where there is no such file. A read from the
+    // front opens the file anew, since another may have taken its name.
+    fn reader(&mut self, alloc: Global, name: &str, at: u64) -> Result<Option<Kept<R>>, CallFault>
+        ensures { MayFail result }
+    {
+        if let Some(kept) = self.reading.take() {
+            if at > 0 && kept.name.as_str() == name {
+                return Ok(Some(kept));
+            }
+        }
+        if file_size(&self.rt, name).map_err(failed)?.is_none() {
+            return Ok(None);
+        }
+        let kept_name = text(alloc, name)?;
+        let file = File::open(&self.rt, name).map_err(failed)?;
+        Ok(Some(Kept::new(kept_name, file)))
+    }
+
+    // Closes the file of this name.
+    fn forget(&mut self, name: &str) {
+        if is_named(&self.writing, name) {
+            self.writing = None;
+        }
+        if is_named(&self.reading, name) {
+            self.reading = None;
+        }
+    }
+}
+
+// A file that isn't there is missing only where its folder is there.
+fn no_file<T, R: Files>(rt: &R, name: &str) -> Result<T, CallFault>
+    ensures refused { IsErr result }
+    ensures only { MayMiss result }
+{
+    if is_folder(rt, folder_of(name)) {
+        Err(CallFault::Missing)
+    } else {
+        Err(CallFault::Failed)
+    }
+}

@@ -1,0 +1,103 @@
+//! A file that is kept open.
+ghost use Rattle.std.specs.Prelude.{◌≤◌, length, IfOk};
+ghost use Rattle.chk_site.specs.Site.{MayBeShort, MayFail};
+
+use crate::faults::failed;
+use chk_bytes::Bytes;
+use chk_site::CallFault;
+use chk_sockets::make_room;
+use std::alloc::Global;
+use std::fs::OpenFile;
+use std::io::{Read, Seek, SeekFrom};
+use std::rt::Files;
+
+#[derive(Drop)]
+pub struct Kept<R: Files> {
+    pub name: String,
+    pub file: R::File,
+    /// The place of the next read.
+    place: u64,
+}
+
+impl<R: Files> Kept<R> {
+    pub fn new(name: String, file: R::File) -> Kept<R> {
+        Kept {
+            name,
+            file,
+            place: 0,
+        }
+    }
+
+    pub fn size(&self) -> Result<u64, CallFault>
+        ensures { MayFail result }
+    {
+        Ok(self.file.metadata().map_err(failed)?.len())
+    }
+
+    /// `Short` where the file ends before the place.
+    pub fn reaches(&self, at: u64) -> Result<(), CallFault>
+        ensures { MayBeShort result }
+    {
+        let size = self.size()?;
+        if size < at {
+            return Err(CallFault::Short { size });
+        }
+        Ok(())
+    }
+
+    pub fn go_to(&mut self, at: u64) -> Result<(), CallFault>
+        ensures { MayBeShort result }
+    {
+        if self.place == at {
+            return Ok(());
+        }
+        self.reaches(at)?;
+        self.file.seek(SeekFrom::Start(at)).map_err(failed)?;
+        self.place = at;
+        Ok(())
+    }
+
+    /// The next bytes, up to `max` of them or the end of the file.
+    pub fn piece(
+        &mut self,
+        buffer: &mut Vec<u8>,
+        alloc: Global,
+        max: u32,
+    ) -> Result<Bytes, CallFault>
+        ensures most { IfOk result (λ bytes. length bytes ≤ max) }
+        ensures only { MayFail result }
+    {
+        make_room(buffer)?;
+        let mut bytes = Bytes::new(alloc);
+        for _ in 0..max {
+            let most = (max as usize - bytes.len()).min(buffer.len());
+            let count = self.read_some(&mut buffer[..most])?;
+            if count == 0 {
+                break;
+            }
+            bytes.push_all(&buffer[..count])?;
+        }
+        Ok(bytes)
+    }
+
+    // How many bytes were read; none at the end of the file.
+    fn read_some(&mut self, buffer: &mut [u8]) -> Result<usize, CallFault>
+        ensures most { IfOk result (λ count. count ≤ length buffer.new) }
+        ensures only { MayFail result }
+    {
+        if buffer.is_empty() {
+            return Ok(0);
+        }
+        let count = self.file.read(buffer).map_err(failed)?;
+        self.place = self.place.saturating_add(count as u64);
+        Ok(count)
+    }
+}
+
+/// The kept file is the one of this name.
+pub fn is_named<R: Files>(kept: &Option<Kept<R>>, name: &str) -> bool {
+    match kept {
+        Some(kept) => kept.name.as_str() == name,
+        None => false,
+    }
+}

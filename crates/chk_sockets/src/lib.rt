@@ -1,0 +1,19 @@
+//! Messages: inside the process, on TCP and on UDP, with every wait bounded.
+#![tactic(auto)]
+
+mod datagrams;
+mod deadline;
+mod doors;
+mod faults;
+mod mailbox;
+mod memory;
+mod messages;
+mod sends;
+mod stream_door;
+mod streams;
+
+pub use memory::{make_room, text};
+pub use messages::Messages;
+
+#[cfg(test)]
+mod tests;

@@ -1,0 +1,141 @@
+//! Messages, with the numbers of what was sent and taken.
+ghost use Rattle.std.specs.Prelude.{◌≡◌, ◌+◌, IfOk, IfSome};
+ghost use Rattle.chk_site.specs.Site.{MayFail};
+
+use crate::doors::Doors;
+use crate::mailbox::{Mailbox, SELF};
+use crate::sends::Sends;
+use chk_bytes::Bytes;
+use chk_site::{CallFault, Taking};
+use std::alloc::Global;
+use std::net::Net;
+use std::time::{Clock, Duration};
+
+/// What this process sent and took: at the address `self`, a mailbox inside it, and over the network.
+/// Messages and takings are numbered from 1.
+///
+/// An address is an IP address and a port, as `127.0.0.1:9000`; a host's name is none, since looking
+/// it up may take any time. A door is such an address, or `udp:` and one. One wait for a peer takes
+/// at most 2,000 ms. The last 64 messages that were sent over the network keep their streams for
+/// the answer.
+#[derive(Drop)]
+pub struct Messages<R: Net> {
+    mailbox: Mailbox,
+    sends: Sends<R>,
+    doors: Doors<R>,
+    last_message: u64,
+    last_taking: u64,
+}
+
+impl<R: Net + Clock> Messages<R> {
+    pub fn new(alloc: Global) -> Messages<R> {
+        Messages {
+            mailbox: Mailbox::new(alloc),
+            sends: Sends::new(alloc),
+            doors: Doors::new(alloc),
+            last_message: 0,
+            last_taking: 0,
+        }
+    }
+
+    /// Lets go what waits in the mailbox, as a collector does at its start.
+    pub fn start(&mut self) {
+        self.mailbox.empty();
+    }
+
+    /// Sends the message, and gives its number. `Failed` where the address is none, nobody listens
+    /// there, or the peer doesn't take all of it; some of it may have been sent then.
+    pub fn send(
+        &mut self,
+        rt: &R,
+        alloc: Global,
+        address: &str,
+        bytes: &[u8],
+    ) -> Result<u64, CallFault>
+        ensures number { IfOk result (λ n. (n ≡ self.old.last_message + 1) × (self.new.last_message ≡ n)) }
+        ensures only { MayFail result }
+    {
+        let message = next_number(self.last_message)?;
+        if address == SELF {
+            self.mailbox.send(alloc, message, bytes)?;
+        } else {
+            self.sends.send(rt, message, address, bytes)?;
+        }
+        self.last_message = message;
+        Ok(message)
+    }
+
+    /// The answer to the message, once: up to 1,048,576 bytes that came within 2,000 ms. `Failed` where
+    /// nothing came, or the message has no stream any more. At the mailbox no bytes come while there
+    /// is no answer.
+    pub fn got(&mut self, rt: &R, alloc: Global, message: u64) -> Result<Bytes, CallFault>
+        ensures { MayFail result }
+    {
+        match self.mailbox.got(alloc, message) {
+            Some(bytes) => Ok(bytes),
+            None => self.sends.got(rt, alloc, message),
+        }
+    }
+
+    /// Takes the first piece of the next message at the door, within `wait` ms; the taking before at
+    /// this door ends. A door is opened at the first taking and stays open. `Failed` where it can't
+    /// be opened or used. A peer that sends nothing is dropped after 2,000 ms.
+    pub fn take(
+        &mut self,
+        rt: &R,
+        alloc: Global,
+        door: &str,
+        wait: u64,
+    ) -> Result<Option<Taking>, CallFault>
+        ensures number { IfOk result (λ taken. IfSome taken (λ t. (t.number ≡ self.old.last_taking + 1) × (self.new.last_taking ≡ t.number))) }
+        ensures only { MayFail result }
+    {
+        let number = next_number(self.last_taking)?;
+        let taken = if door == SELF {
+            self.mailbox.take(number)
+        } else {
+            let wait = Duration::from_millis(wait);
+            self.doors.take(rt, alloc, door, number, wait)?
+        };
+        let Some(bytes) = taken else {
+            return Ok(None);
+        };
+        self.last_taking = number;
+        Ok(Some(Taking { number, bytes }))
+    }
+
+    /// The next piece of the message; no bytes at its end, where nothing came within 2,000 ms, where the
+    /// taking ended, and at the mailbox, where a message is taken whole.
+    pub fn more(&mut self, alloc: Global, taking: u64) -> Result<Bytes, CallFault>
+        ensures { MayFail result }
+    {
+        self.doors.more(alloc, taking)
+    }
+
+    /// Answers the message and ends its taking. What the peer still sends is read for up to 2,000 ms,
+    /// since a stream that is closed with bytes not yet read takes the answer away from the peer.
+    /// `Failed` where the taking ended, or the peer doesn't take all of the answer.
+    pub fn answer(
+        &mut self,
+        rt: &R,
+        alloc: Global,
+        taking: u64,
+        bytes: &[u8],
+    ) -> Result<(), CallFault>
+        ensures { MayFail result }
+    {
+        if !self.mailbox.has(taking) {
+            return self.doors.answer(rt, taking, bytes);
+        }
+        let bytes = Bytes::from_slice(alloc, bytes)?;
+        self.mailbox.answer(taking, bytes)?;
+        Ok(())
+    }
+}
+
+fn next_number(last: u64) -> Result<u64, CallFault>
+    ensures next { IfOk result (λ n. n ≡ last + 1) }
+    ensures only { MayFail result }
+{
+    last.checked_add(1).ok_or(CallFault::Failed)
+}

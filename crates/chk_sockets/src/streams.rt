@@ -1,0 +1,109 @@
+//! Streams to peers, with every wait bounded.
+ghost use Rattle.std.specs.Prelude.{◌≤◌, length};
+ghost use Rattle.chk_site.specs.Site.{MayFail};
+
+use crate::deadline::Deadline;
+use crate::faults::failed;
+use chk_bytes::Bytes;
+use chk_site::CallFault;
+use std::alloc::Global;
+use std::io;
+use std::io::{Read, Write};
+use std::net::{Net, OpenStream, Shutdown, SocketAddr, TcpStream};
+use std::time::{Clock, Duration};
+
+/// How many milliseconds one wait for a peer takes at most.
+const WAIT_MS: u64 = 2_000;
+
+/// How many bytes of a reply are read at most.
+const MOST_REPLY: usize = 1_048_576;
+
+/// How often what follows an answer is read at most.
+const MOST_READS: u32 = 128;
+
+pub fn longest_wait() -> Duration {
+    Duration::from_millis(WAIT_MS)
+}
+
+/// A new stream to this address, with the message on it and its end.
+pub fn sent_on<R: Net>(rt: &R, address: SocketAddr, bytes: &[u8]) -> io::Result<R::Stream> {
+    let mut stream = TcpStream::connect_timeout(rt, &address, longest_wait())?;
+    bound_waits(&stream)?;
+    stream.write_all(bytes)?;
+    stream.shutdown(Shutdown::Write)?;
+    Ok(stream)
+}
+
+/// Each read and each write ends in time.
+pub fn bound_waits<S: OpenStream>(stream: &S) -> io::Result<()> {
+    stream.set_nonblocking(false)?;
+    stream.set_read_timeout(Some(longest_wait()))?;
+    stream.set_write_timeout(Some(longest_wait()))
+}
+
+/// The next piece, empty at the end, and where nothing came in time or the peer went away.
+pub fn next_piece<S: Read>(stream: &mut S, buffer: &mut Vec<u8>) -> usize
+    ensures { result ≤ length buffer.new.items }
+{
+    match stream.read(buffer) {
+        Ok(count) => count,
+        Err(_) => 0,
+    }
+}
+
+/// What came on the stream up to its end, or in the time of one wait.
+pub fn reply_on<R: Clock, S: Read + OpenStream>(
+    rt: &R,
+    alloc: Global,
+    stream: &mut S,
+    buffer: &mut Vec<u8>,
+) -> Result<Bytes, CallFault>
+    ensures { MayFail result }
+{
+    let deadline = Deadline::after(rt, longest_wait()).map_err(failed)?;
+    let mut bytes = Bytes::new(alloc);
+    for _ in 0..MOST_REPLY {
+        let count = piece_before(rt, deadline, stream, buffer);
+        if count == 0 || bytes.len() >= MOST_REPLY {
+            break;
+        }
+        bytes.push_all(&buffer[..count])?;
+    }
+    if bytes.len() == 0 {
+        return Err(CallFault::Failed);
+    }
+    Ok(bytes)
+}
+
+/// Ends an answered stream so that the peer gets the answer: a stream that is closed with bytes not
+/// yet read takes what was written on it away from the peer.
+pub fn end_stream<R: Clock, S: Read + OpenStream>(rt: &R, stream: &mut S, buffer: &mut Vec<u8>) {
+    if stream.shutdown(Shutdown::Write).is_err() {
+        return;
+    }
+    let Ok(deadline) = Deadline::after(rt, longest_wait()) else {
+        return;
+    };
+    for _ in 0..MOST_READS {
+        if piece_before(rt, deadline, stream, buffer) == 0 {
+            return;
+        }
+    }
+}
+
+// The next piece, empty also where it didn't come before this moment.
+fn piece_before<R: Clock, S: Read + OpenStream>(
+    rt: &R,
+    deadline: Deadline,
+    stream: &mut S,
+    buffer: &mut Vec<u8>,
+) -> usize
+    ensures { result ≤ length buffer.new.items }
+{
+    match deadline.left(rt) {
+        Ok(left) if !left.is_zero() && stream.set_read_timeout(Some(left)).is_ok() => {
+            next_piece(stream, buffer)
+        }
+        _ => 0,
+    }
+}
