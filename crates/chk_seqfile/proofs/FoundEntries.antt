@@ -9,7 +9,6 @@ use Rattle.chk_bytes.proofs.NumberLemmas.{be32-spelled}
 use Rattle.chk_seqfile.specs.declared.entries.Why.TheVariants.{Torn, BadLength}
 use Rattle.chk_seqfile.specs.Entries.{SyncEntry, RecordEntry, Damaged, sync_entry, record_entry, size_of_record, entry_at, sync_or_not, record_of}
 
-
 -- the lengths with which a record was read
 record ReadRecord (bytes key value : List ℕ) : Type 0 where
   r : ℕ
@@ -79,9 +78,9 @@ four_at : (at : ℕ) (bytes : List ℕ) → AreBytes bytes → at + 4 ≤ length
 four_at at bytes are within =
     let size : length (take 4 (drop at bytes)) ≡ 4 = length-take-le 4 (drop at bytes) (omega (arith, length-drop at bytes)) in
     be32-spelled (take 4 (drop at bytes)) size (λ i. ⊎_elim
-        (λ inside. rw (get_or-take 4 (drop at bytes) i 0 inside, get_or-drop at bytes i 0) (are (at + i)))
-        (λ past. rw (get_or_past (take 4 (drop at bytes)) i 0 (omega arith)) (omega arith))
-        (cases_lt i 4))
+    (λ inside. rw (get_or-take 4 (drop at bytes) i 0 inside, get_or-drop at bytes i 0) (are (at + i)))
+    (λ past. rw (get_or_past (take 4 (drop at bytes)) i 0 (omega arith)) (omega arith))
+    (cases_lt i 4))
 
 -- what stands from a place on, in two parts
 parted : (n m : ℕ) (bytes : List ℕ) → drop n bytes ≡ take m (drop n bytes) ++ drop (n + m) bytes
@@ -102,29 +101,28 @@ record_found marker bytes key value are read =
     let fits = w.fits in
     let small = w.small in
     let key_size : lk ≡ k - 4 =
-        ap length (sym w.key_is) ∙ length-take-le (k - 4) (drop 12 bytes) (omega (arith, length-drop 12 bytes)) in
+    ap length (sym w.key_is) ∙ length-take-le (k - 4) (drop 12 bytes) (omega (arith, length-drop 12 bytes)) in
     let value_size : lv ≡ r - k - 4 =
-        ap length (sym w.value_is) ∙ length-take-le (r - k - 4) (drop (12 + k) bytes) (omega (arith, length-drop (12 + k) bytes)) in
+    ap length (sym w.value_is) ∙ length-take-le (r - k - 4) (drop (12 + k) bytes) (omega (arith, length-drop (12 + k) bytes)) in
     let first : take 4 bytes ≡ be32 (8 + lk + lv) =
-        sym (four_at 0 bytes are (omega arith)) ∙ ap be32 (w.whole ∙ omega arith) in
+    sym (four_at 0 bytes are (omega arith)) ∙ ap be32 (w.whole ∙ omega arith) in
     let second : take 4 (drop 4 bytes) ≡ be32 (4 + lk) =
-        sym (four_at 4 bytes are (omega arith)) ∙ ap be32 (w.key_part ∙ omega arith) in
+    sym (four_at 4 bytes are (omega arith)) ∙ ap be32 (w.key_part ∙ omega arith) in
     let third : take 4 (drop 8 bytes) ≡ be32 lk =
-        sym (four_at 8 bytes are (omega arith)) ∙ ap be32 (let size = w.key_size in omega arith) in
+    sym (four_at 8 bytes are (omega arith)) ∙ ap be32 (let size = w.key_size in omega arith) in
     let fourth : take 4 (drop (8 + k) bytes) ≡ be32 lv =
-        sym (four_at (8 + k) bytes are (omega arith)) ∙ ap be32 (let size = w.value_size in omega arith) in
+    sym (four_at (8 + k) bytes are (omega arith)) ∙ ap be32 (let size = w.value_size in omega arith) in
     let behind_key : 12 + (k - 4) ≡ 8 + k = omega arith in
     let before_value : 8 + k + 4 ≡ 12 + k = omega arith in
     let behind_value : 12 + k + (r - k - 4) ≡ size_of_record key value = omega arith in
     let value_part : drop (12 + k) bytes ≡ value ++ rest =
-        parted (12 + k) (r - k - 4) bytes ∙ ap₂ (λ a n. a ++ drop n bytes) w.value_is behind_value in
+    parted (12 + k) (r - k - 4) bytes ∙ ap₂ (λ a n. a ++ drop n bytes) w.value_is behind_value in
     let value_all : drop (8 + k) bytes ≡ be32 lv ++ (value ++ rest) =
-        parted (8 + k) 4 bytes ∙ ap₂ (λ a n. a ++ drop n bytes) fourth before_value ∙ ap (λ x. be32 lv ++ x) value_part in
+    parted (8 + k) 4 bytes ∙ ap₂ (λ a n. a ++ drop n bytes) fourth before_value ∙ ap (λ x. be32 lv ++ x) value_part in
     let key_all : drop 12 bytes ≡ key ++ (be32 lv ++ (value ++ rest)) =
-        parted 12 (k - 4) bytes ∙ ap₂ (λ a n. a ++ drop n bytes) w.key_is behind_key ∙ ap (λ x. key ++ x) value_all in
+    parted 12 (k - 4) bytes ∙ ap₂ (λ a n. a ++ drop n bytes) w.key_is behind_key ∙ ap (λ x. key ++ x) value_all in
     let parts : bytes ≡ be32 (8 + lk + lv) ++ (be32 (4 + lk) ++ (be32 lk ++ drop 12 bytes)) =
-        parted 0 4 bytes ∙ ap₂ (λ a b. a ++ b) first (parted 4 4 bytes ∙ ap₂ (λ a b. a ++ b) second (parted 8 4 bytes ∙ ap (λ a. a ++ drop 12 bytes) third)) in
-    (
+    parted 0 4 bytes ∙ ap₂ (λ a b. a ++ b) first (parted 4 4 bytes ∙ ap₂ (λ a b. a ++ b) second (parted 8 4 bytes ∙ ap (λ a. a ++ drop 12 bytes) third)) in (
       omega arith,
       parts ∙ ap (λ x. be32 (8 + lk + lv) ++ (be32 (4 + lk) ++ (be32 lk ++ x))) (key_all ∙ sym (append_assoc key (with_length value) rest)),
     )

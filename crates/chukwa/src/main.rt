@@ -4,9 +4,8 @@
 
 use chk_site_real::SiteReal;
 use chukwa_run::run;
-use std::env;
-use std::io;
 use std::process::ExitCode;
+use std::{env, io};
 
 fn main(rt: HostRuntime) -> ExitCode {
     match words_given(rt) {
