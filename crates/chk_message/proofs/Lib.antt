@@ -1,0 +1,10 @@
+pub mod HeadLemmas
+pub mod Texts
+pub mod Printed
+pub mod WrittenHeads
+pub mod Apart
+pub mod Accepted
+pub mod Written
+pub mod Chunks
+pub mod Fronts
+pub mod Rows

@@ -1,0 +1,5 @@
+pub mod EntryFits
+pub mod SalvageLemmas
+pub mod FrontLemmas
+pub mod SkippingLemmas
+pub mod ReaderLemmas

@@ -1,0 +1,6 @@
+use Rattle.chk_site_mem.specs.Told.{told_of}
+use Rattle.chk_site_mem.specs.Plans.{TheirsSince}
+use Rattle.chk_site_mem.proofs.others.Others.happen.Given as goal
+
+abbrev pub invariant-loop : goal.invariant-loop
+invariant-loop l = TheirsSince (told_of l.fn.keeper) (told_of l.keeper)

@@ -1,0 +1,17 @@
+use Rattle.std.proofs.Common.{List, subst}
+use Rattle.chk_site.specs.Site.{answered}
+use Rattle.chk_site_mem.specs.Plans.{Plans}
+use Rattle.chk_site_mem.specs.Told.{Kept, told_of}
+use Rattle.chk_site_mem.proofs.CallLemmas.{made_call, some_number}
+use Rattle.chk_site_mem.proofs.site_clean.SiteClean.call_numbered.Goals as goal
+
+pub returns-clause-told : goal.returns-clause-told
+returns-clause-told g c =
+    let begins = c.in_ok-begin.ensures.begins in
+    let q = g.Q.Numbered.asks c.args.question in
+    let how = g.Q.Numbered.says in
+    let planned = c.in_ok-planned.planned in
+    let n = c.in_ok-planned.ensures.plans.0 in
+    let plans = subst (λ (kept : List Kept). Plans (q n) (how n) (told_of kept) planned) c.self.view_is c.in_ok-planned.ensures.plans.1 in
+    some_number q (λ n. answered (how n) planned.gives) n
+    (made_call (q n) (how n) planned.act planned.gives _ _ _ begins.0 begins.1 plans c.in_ok-make.ensures.becomes)

@@ -1,0 +1,9 @@
+pub mod Told
+pub mod Printed
+pub mod Room
+pub mod Named
+pub mod Stored
+pub mod Reads
+pub mod Changes
+pub mod Plans
+pub mod Keeping

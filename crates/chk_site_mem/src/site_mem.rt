@@ -1,0 +1,360 @@
+// A site in memory, with the failures and the stop of a script.
+ghost use Rattle.std.specs.Prelude.{◌≡◌, [], map, option_map, Some, IfOk, false};
+ghost use Rattle.chk_site.specs.Acts.{is_stop};
+ghost use Rattle.chk_site.specs.History.{files_after};
+ghost use Rattle.chk_site.specs.Site.{Adds, Calls, CallsSome, answered, CauseOf};
+ghost use Rattle.chk_site_mem.specs.Plans.{Becomes, Begins};
+ghost use Rattle.chk_site_mem.specs.Printed.{printed_of};
+ghost use Rattle.chk_site_mem.specs.Reads.{text_at};
+ghost use Rattle.chk_site_mem.specs.Told.{acts_of, disowned, told_of};
+
+use crate::effects::answering;
+use crate::file_calls::{Append, Create, Cut, Read, Remove, Rename, Size, Sync};
+use crate::keeper::Keeper;
+use crate::log_calls::{LogAppend, LogNewest, LogRead};
+use crate::message_calls::{Answer, Got, More, Send, Take};
+use crate::others::Others;
+use crate::plain_calls::{Clock, List, Pause, Say, Start};
+use crate::plan::{Numbered, Question};
+use crate::printing::printed;
+use chk_bytes::{Bytes, NoMemory, Word};
+use chk_site::{
+    Act, ActAnswer, CallFault, Lefts, Part, Piece, Script, Site, StopAt, Suffix, Taking, Who,
+};
+use std::alloc::Global;
+use std::marker::Model;
+
+/// A site in memory. It keeps each act, and goes by a script: acts of others, calls that fail, and at most one stop.
+#[derive(Drop)]
+pub struct SiteMem {
+    keeper: Keeper,
+    others: Others,
+    failing: Vec<u64>,
+    again: Vec<u64>,
+    stop: Option<StopAt>,
+    calls: u64,
+    faults: u64,
+}
+
+impl Model for SiteMem {
+    ghost use Rattle.chk_site_mem.specs.Told.{Memory};
+
+    ghost Value = { Memory };
+
+    ghost view = { λ s. record { kept = s.keeper; faults = s.faults } };
+}
+
+// How a call comes out by the script.
+#[derive(Drop)]
+enum Fate {
+    Goes,
+    Fails,
+    Stops(Lefts),
+}
+
+impl SiteMem {
+    /// A site without acts, that goes by this script.
+    pub fn new(alloc: Global, script: Script) -> Result<SiteMem, NoMemory>
+        ensures kept { IfOk result (λ site. site.kept ≡ []) }
+        ensures faults { IfOk result (λ site. site.faults ≡ 0) }
+    {
+        let Script {
+            others,
+            failing,
+            again,
+            stop,
+        } = script;
+        Ok(SiteMem {
+            keeper: Keeper::new(alloc),
+            others: Others::new(others),
+            failing,
+            again,
+            stop,
+            calls: 0,
+            faults: 0,
+        })
+    }
+
+    /// Goes by a new script from here on, also after a stop. Files, logs and messages stay, and the count of faults goes on.
+    pub fn restart(&mut self, script: Script)
+        ensures kept { self.new.kept ≡ map disowned self.old.kept }
+        ensures faults { self.new.faults ≡ self.old.faults }
+    {
+        let Script {
+            others,
+            failing,
+            again,
+            stop,
+        } = script;
+        self.keeper.disown();
+        self.others = Others::new(others);
+        self.failing = failing;
+        self.again = again;
+        self.stop = stop;
+        self.calls = 0;
+    }
+
+    /// All acts so far, the oldest first.
+    pub fn acts(&self) -> &[Act]
+        ensures { result.now ≡ acts_of self.now.kept }
+    {
+        self.keeper.acts()
+    }
+
+    /// The bytes of a file; `None` exactly where there is none of this name.
+    pub fn file(&self, name: &str) -> Option<&[u8]>
+        ensures { text_at result ≡ option_map (λ file. file.bytes) (files_after (told_of self.now.kept) name.now) }
+    {
+        self.keeper.bytes(name.as_bytes())
+    }
+
+    /// The bytes of all `say` acts that were done, in order.
+    pub fn printed(&self, alloc: Global) -> Result<Bytes, NoMemory>
+        ensures { IfOk result (λ bytes. bytes ≡ printed_of (acts_of self.now.kept)) }
+    {
+        printed(alloc, self.keeper.acts())
+    }
+
+    fn call<Q: Question + Drop>(
+        &mut self,
+        alloc: Global,
+        question: Q,
+    ) -> Result<Q::Gives, CallFault>
+        ensures told { Adds (Some (told_of self.old.kept)) (Some (told_of self.new.kept)) (Calls (Q.asks question) (answered Q.says result)) }
+        ensures may { Q.may question result }
+        ensures cause { CauseOf self.old.faults self.new.faults result }
+    {
+        self.begin(alloc)?;
+        let planned = question.plan(alloc, &self.keeper)?;
+        self.make(alloc, planned.act)?;
+        planned.gives
+    }
+
+    fn call_numbered<Q: Numbered + Drop>(
+        &mut self,
+        alloc: Global,
+        question: Q,
+    ) -> Result<Q::Gives, CallFault>
+        ensures told { Adds (Some (told_of self.old.kept)) (Some (told_of self.new.kept)) (CallsSome (Q.asks question) (λ n. answered (Q.says n) result)) }
+        ensures may { Q.may question result }
+        ensures cause { CauseOf self.old.faults self.new.faults result }
+    {
+        self.begin(alloc)?;
+        let planned = question.plan(alloc, &self.keeper)?;
+        self.make(alloc, planned.act)?;
+        planned.gives
+    }
+
+    // The acts of others that come before this call happen; after a stop the call fails.
+    fn begin(&mut self, alloc: Global) -> Result<(), CallFault>
+        ensures begins { Begins result (told_of self.old.kept) (told_of self.new.kept) }
+        ensures cause { CauseOf self.old.faults self.new.faults result }
+    {
+        if self.keeper.is_stopped() {
+            self.faults = self.faults.saturating_add(1);
+            return Err(CallFault::Failed);
+        }
+        self.calls = self.calls.saturating_add(1);
+        self.others.happen(alloc, &mut self.keeper, self.calls)?;
+        Ok(())
+    }
+
+    // The act happens, unless the script has it fail or stop.
+    fn make(&mut self, alloc: Global, act: Act) -> Result<(), CallFault>
+        requires { is_stop act.answer ≡ false }
+        ensures becomes { Becomes act result (told_of self.old.kept) (told_of self.new.kept) }
+        ensures cause { CauseOf self.old.faults self.new.faults result }
+    {
+        let answer = match self.fate() {
+            Fate::Goes => {
+                self.keeper.make(alloc, act)?;
+                return Ok(());
+            }
+            Fate::Fails => ActAnswer::Refused {
+                fault: CallFault::Failed,
+            },
+            Fate::Stops(left) => ActAnswer::Stopped { left },
+        };
+        self.keeper.make(alloc, answering(act, answer))?;
+        self.faults = self.faults.saturating_add(1);
+        Err(CallFault::Failed)
+    }
+
+    fn fate(&mut self) -> Fate
+        ensures { self.new ≡ self.old }
+    {
+        if let Some(stop) = self.stop.take() {
+            if stop.at == self.calls {
+                return Fate::Stops(stop.left);
+            }
+            self.stop = Some(stop);
+        }
+        if self.failing.contains(&self.calls) {
+            Fate::Fails
+        } else {
+            Fate::Goes
+        }
+    }
+}
+
+impl Site for SiteMem {
+    ghost use Rattle.std.specs.Prelude.{Some};
+    ghost use Rattle.chk_site_mem.specs.Told.{told_of};
+
+    ghost told = { λ s. Some (told_of s.kept) };
+
+    ghost fault_count = { λ s. s.faults };
+
+    fn start(&mut self, alloc: Global, who: &Who) -> Result<(), CallFault> {
+        self.call(alloc, Start { who })
+    }
+
+    fn create(&mut self, alloc: Global, who: &Who, name: &str) -> Result<(), CallFault> {
+        self.call(alloc, Create { who, name })
+    }
+
+    fn append(
+        &mut self,
+        alloc: Global,
+        who: &Who,
+        name: &str,
+        bytes: &[u8],
+    ) -> Result<(), CallFault> {
+        self.call(alloc, Append { who, name, bytes })
+    }
+
+    fn sync(&mut self, alloc: Global, who: &Who, name: &str) -> Result<(), CallFault> {
+        self.call(alloc, Sync { who, name })
+    }
+
+    fn rename(&mut self, alloc: Global, who: &Who, old: &str, new: &str) -> Result<(), CallFault> {
+        self.call(alloc, Rename { who, old, new })
+    }
+
+    fn remove(&mut self, alloc: Global, who: &Who, name: &str) -> Result<(), CallFault> {
+        self.call(alloc, Remove { who, name })
+    }
+
+    fn size(&mut self, alloc: Global, who: &Who, name: &str) -> Result<u64, CallFault> {
+        self.call(alloc, Size { who, name })
+    }
+
+    fn read(
+        &mut self,
+        alloc: Global,
+        who: &Who,
+        name: &str,
+        at: u64,
+        max: u32,
+    ) -> Result<Bytes, CallFault> {
+        self.call(alloc, Read { who, name, at, max })
+    }
+
+    fn say(&mut self, alloc: Global, who: &Who, bytes: &[u8]) -> Result<(), CallFault> {
+        self.call(alloc, Say { who, bytes })
+    }
+
+    fn log_read(
+        &mut self,
+        alloc: Global,
+        who: &Who,
+        path: &str,
+        part: Part<'_>,
+        at: u64,
+        max: u32,
+    ) -> Result<Piece, CallFault> {
+        let question = LogRead {
+            who,
+            path,
+            part,
+            at,
+            max,
+        };
+        self.call(alloc, question)
+    }
+
+    fn log_newest(
+        &mut self,
+        alloc: Global,
+        who: &Who,
+        path: &str,
+    ) -> Result<Option<Suffix>, CallFault> {
+        self.call(alloc, LogNewest { who, path })
+    }
+
+    fn log_append(
+        &mut self,
+        alloc: Global,
+        who: &Who,
+        path: &str,
+        bytes: &[u8],
+    ) -> Result<(), CallFault> {
+        self.call(alloc, LogAppend { who, path, bytes })
+    }
+
+    fn cut(&mut self, alloc: Global, who: &Who, name: &str, length: u64) -> Result<(), CallFault> {
+        self.call(alloc, Cut { who, name, length })
+    }
+
+    fn list(&mut self, alloc: Global, who: &Who, folder: &str) -> Result<Vec<Word>, CallFault> {
+        self.call(alloc, List { who, folder })
+    }
+
+    fn clock(&mut self, alloc: Global, who: &Who) -> Result<u64, CallFault> {
+        self.call(alloc, Clock { who })
+    }
+
+    fn pause(&mut self, alloc: Global, who: &Who, ms: u64) -> Result<(), CallFault> {
+        self.call(alloc, Pause { who, ms })
+    }
+
+    fn send(
+        &mut self,
+        alloc: Global,
+        who: &Who,
+        address: &str,
+        bytes: &[u8],
+    ) -> Result<u64, CallFault> {
+        self.call_numbered(
+            alloc,
+            Send {
+                who,
+                address,
+                bytes,
+            },
+        )
+    }
+
+    fn got(&mut self, alloc: Global, who: &Who, message: u64) -> Result<Bytes, CallFault> {
+        self.call(alloc, Got { who, message })
+    }
+
+    fn take(
+        &mut self,
+        alloc: Global,
+        who: &Who,
+        door: &str,
+        wait: u64,
+    ) -> Result<Option<Taking>, CallFault> {
+        self.call_numbered(alloc, Take { who, door, wait })
+    }
+
+    fn more(&mut self, alloc: Global, who: &Who, taking: u64) -> Result<Bytes, CallFault> {
+        self.call(alloc, More { who, taking })
+    }
+
+    fn answer(
+        &mut self,
+        alloc: Global,
+        who: &Who,
+        taking: u64,
+        bytes: &[u8],
+    ) -> Result<(), CallFault> {
+        let question = Answer { who, taking, bytes };
+        self.call(alloc, question)
+    }
+
+    fn faults(&self) -> u64 {
+        self.faults
+    }
+}
