@@ -115,17 +115,23 @@ fn usage(rt: HostRuntime) -> Result<(), Fail> {
     Ok(())
 }
 
-// The calls of a round, in order.
-const CALLS: [&str; 9] = [
-    "start", "logread", "start", "create", "append", "append", "sync", "rename", "say",
+// The calls of a round by their numbers.
+const CALLS: [(u64, &str); 9] = [
+    (1, "start"),
+    (2, "logread"),
+    (3, "start"),
+    (4, "create"),
+    (5, "append"),
+    (6, "append"),
+    (7, "sync"),
+    (8, "rename"),
+    (9, "say"),
 ];
 
 #[test]
 fn each_call_fails(rt: HostRuntime) -> Result<(), Fail> {
     let alloc = rt.alloc();
-    let mut at = 0;
-    for call in CALLS {
-        at += 1;
+    for (at, call) in CALLS {
         let mut script = with_log(alloc, "/a.log", b"hello\n".as_slice())?;
         script.failing.push(at)?;
         let failed = run_on(alloc, script, &["round", "h1", "Log", "/a.log"])?;
