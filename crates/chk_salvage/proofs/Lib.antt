@@ -1,5 +1,0 @@
-pub mod EntryFits
-pub mod SalvageLemmas
-pub mod FrontLemmas
-pub mod SkippingLemmas
-pub mod ReaderLemmas
