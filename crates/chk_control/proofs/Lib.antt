@@ -1,0 +1,10 @@
+pub mod AcceptedLemmas
+pub mod AnswerLemmas
+pub mod ClassLemmas
+pub mod LineWordLemmas
+pub mod OwnWords
+pub mod PlainWords
+pub mod ReadingLemmas
+pub mod SpacedLemmas
+pub mod SpelledLemmas
+pub mod WordTests

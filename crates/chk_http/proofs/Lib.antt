@@ -1,0 +1,11 @@
+pub mod Front
+pub mod HeadAnswers
+pub mod NamedLines
+pub mod Targets
+pub mod Stages
+pub mod QueryLemmas
+pub mod RequestTable
+pub mod AskedLemmas
+pub mod ReplyTable
+pub mod LineLemmas
+pub mod Pieces

@@ -1,0 +1,9 @@
+pub mod Heads
+pub mod HeaderLines
+pub mod Bodies
+pub mod Requests
+pub mod Queries
+pub mod Replies
+pub mod Lines
+pub mod Written
+pub mod Faults

@@ -1,0 +1,6 @@
+pub mod NothingFound
+pub mod EntryFits
+pub mod SalvageLemmas
+pub mod FrontLemmas
+pub mod SkippingLemmas
+pub mod ReaderLemmas
