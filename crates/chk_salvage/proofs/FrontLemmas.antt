@@ -1,13 +1,11 @@
 -- Fronts of a file that are SequenceFiles, and the longest one.
-use Rattle.std.proofs.Common.{◌≡◌, ℕ, zero, suc, ◌+◌, ◌-◌, ◌^◌, ◌<◌, ◌≤◌, ◌⊎◌, List, [], ◌∷◌, ◌++◌, length, take, drop, Ok, inl, inr, ⊎_elim, arith, refl, ap, ap₂, sym, subst, ◌∙◌}
+use Rattle.std.proofs.Common.{◌≡◌, ℕ, ◌+◌, ◌-◌, ◌^◌, ◌<◌, ◌≤◌, List, [], ◌∷◌, ◌++◌, length, take, drop, Ok, inl, inr, arith, refl, ap, ap₂, sym, subst, ◌∙◌}
 use Rattle.std.proofs.lemmas.List.{length-append, length-take-le, length-drop, take_at, drop_at, take-append-drop, drop-drop, append_assoc, append-nil, append_cancel_left}
-use Rattle.std.proofs.lemmas.Bool.{cases_lt}
 use Rattle.chk_bytes.specs.Laws.{AreBytes}
 use Rattle.chk_bytes.specs.Words.{joined}
 use Rattle.chk_seqfile.specs.declared.headers.HeaderRef.{HeaderRef}
 use Rattle.chk_seqfile.specs.Headers.{read_header}
-use Rattle.chk_seqfile.specs.HeaderGrammar.{IsHeader}
-use Rattle.chk_seqfile.specs.Entries.{Entry, NoEntry, SyncEntry, RecordEntry, Damaged, IsRecord, IsEntry, AreEntries, Entries, IsSequenceFile, sync_entry, record_entry, size_of_record, entry_at}
+use Rattle.chk_seqfile.specs.Entries.{Entry, NoEntry, SyncEntry, RecordEntry, Damaged, IsEntry, AreEntries, Entries, IsSequenceFile, sync_entry, record_entry, size_of_record, entry_at}
 use Rattle.chk_seqfile.proofs.EntryLemmas.{length-record_entry, entry_at-record, entry_at-sync}
 use Rattle.chk_seqfile.proofs.FoundEntries.{record_found, sync_found}
 use Rattle.chk_seqfile.proofs.FileLemmas.{Entries-nil, Entries-record, Entries-sync, Entries-append}
@@ -16,7 +14,7 @@ use Rattle.chk_salvage.specs.declared.entry.Seen.{Seen}
 use Rattle.chk_salvage.specs.declared.entry.Seen.TheVariants as seen
 use Rattle.chk_salvage.specs.Front.{IsFront, IsReadSo}
 use Rattle.chk_salvage.specs.Views.{entry_of}
-use Rattle.chk_salvage.specs.Skipping.{KeepsRead}
+use Rattle.chk_salvage.specs.Skipping.{StandsThere}
 
 -- ---- what was read is a SequenceFile
 
@@ -38,7 +36,7 @@ read_so_header bytes head read =
     }
 
 -- entries behind it
-take_further : (bytes : List ℕ) (place : ℕ) (piece rest : List ℕ) → place ≤ length bytes → drop place bytes ≡ piece ++ rest
+pub take_further : (bytes : List ℕ) (place : ℕ) (piece rest : List ℕ) → place ≤ length bytes → drop place bytes ≡ piece ++ rest
     → take (place + length piece) bytes ≡ take place bytes ++ piece
 take_further bytes place piece rest within split =
     let front : List ℕ = take place bytes in
@@ -78,22 +76,22 @@ read_so_sync marker bytes place wide are read so =
     (read_so_more marker bytes place (sync_entry marker) (drop 20 (drop place bytes)) so (Entries-sync marker)
     (sync_found marker (drop place bytes) are read))
 
--- a record that was read
-pub read_so_record : (marker bytes : List ℕ) (place : ℕ) (key value : List ℕ) → AreBytes (drop place bytes)
-    → entry_at marker (drop place bytes) ≡ RecordEntry key value
+-- a record that stands there
+pub read_so_record : (marker bytes : List ℕ) (place : ℕ) (key value rest : List ℕ) → 8 + length key + length value < 2 ^ 31
+    → drop place bytes ≡ record_entry key value ++ rest
     → IsReadSo marker bytes place → IsReadSo marker bytes (place + size_of_record key value)
-read_so_record marker bytes place key value are read so =
-    let found = record_found marker (drop place bytes) key value are read in
+read_so_record marker bytes place key value rest small stands so =
     subst (λ n. IsReadSo marker bytes (place + n)) (length-record_entry key value)
-    (read_so_more marker bytes place (record_entry key value) (drop (size_of_record key value) (drop place bytes)) so
-    (Entries-record marker key value found.0) found.1)
+    (read_so_more marker bytes place (record_entry key value) rest so (Entries-record marker key value small) stands)
 
--- whatever is seen
-pub seen_keeps_read : (marker bytes : List ℕ) (at : ℕ) (s : Seen) → AreBytes (drop at bytes) → entry_of s ≡ entry_at marker (drop at bytes) → KeepsRead s marker bytes at
-seen_keeps_read marker bytes at seen.Nothing are is = tt
-seen_keeps_read marker bytes at seen.Sync are is = tt
-seen_keeps_read marker bytes at (seen.Record key value) are is = λ so. read_so_record marker bytes at key.now value.now are (sym is) so
-seen_keeps_read marker bytes at (seen.Damaged why) are is = tt
+-- what is seen stands there
+pub seen_stands : (marker bytes : List ℕ) (at : ℕ) (s : Seen) → AreBytes (drop at bytes) → entry_of s ≡ entry_at marker (drop at bytes) → StandsThere s bytes at
+seen_stands marker bytes at seen.Nothing are is = tt
+seen_stands marker bytes at seen.Sync are is = tt
+seen_stands marker bytes at (seen.Record key value) are is =
+    let found = record_found marker (drop at bytes) key.now value.now are (sym is) in
+    (found.0, found.1 ∙ ap (λ r. record_entry key.now value.now ++ r) (drop-drop (size_of_record key.now value.now) at bytes))
+seen_stands marker bytes at (seen.Damaged why) are is = tt
 
 -- ---- the longest one
 

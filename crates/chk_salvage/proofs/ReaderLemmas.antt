@@ -1,15 +1,15 @@
 -- What a reader's steps do to what is left.
-use Rattle.std.proofs.Common.{Option, unwrap_or, ◌≡◌, ℕ, ◌+◌, ◌-◌, ◌<◌, ◌≤◌, List, [], ◌∷◌, ◌++◌, length, drop, arith, refl, ap, ap₂, sym, subst, ◌∙◌}
+use Rattle.std.proofs.Common.{Option, unwrap_or, ◌≡◌, ℕ, ◌+◌, ◌-◌, ◌<◌, ◌≤◌, List, [], ◌∷◌, length, drop, arith, refl, ap, ap₂, sym, subst, ◌∙◌}
 use Rattle.std.proofs.lemmas.List.{drop-drop, drop_all, length-drop}
 use Rattle.chk_seqfile.specs.declared.entries.Why.{Why}
-use Rattle.chk_seqfile.specs.Entries.{Entry, NoEntry, SyncEntry, RecordEntry, Damaged, Placed, placed, size_of_record, entry_at, records_at}
+use Rattle.chk_seqfile.specs.Entries.{NoEntry, RecordEntry, Damaged, placed, size_of_record, entry_at, records_at}
 use Rattle.chk_seqfile.proofs.EntryLemmas.{entry_at-nil}
 use Rattle.chk_seqfile.proofs.RecordLemmas.{records_at-record, records_at-damaged}
-use Rattle.chk_salvage.proofs.NothingFound.{nothing_found}
+use Rattle.chk_salvage.proofs.EntryFacts.{nothing_found}
 use Rattle.chk_salvage.specs.declared.reader.Reader.{Reader}
 use Rattle.chk_salvage.specs.declared.reader.Next.{Next}
 use Rattle.chk_salvage.specs.declared.reader.Next.TheVariants as next
-use Rattle.chk_salvage.specs.Front.{next_sync, IsDamaged, IsFront, IsReadSo, DamageAt, Item, Kept, Skipped, skip_end, salvaged_at}
+use Rattle.chk_salvage.specs.Front.{next_sync, IsDamaged, IsFront, IsReadSo, DamageAt, Kept, Skipped, skip_end, salvaged_at}
 use Rattle.chk_salvage.specs.Readers.{StandsAt, IsStop}
 use Rattle.chk_salvage.specs.Skipping.{IsBehindSyncs}
 use Rattle.chk_salvage.proofs.SalvageLemmas.{salvaged_at-record, salvaged_at-damaged, skip_end-past}
@@ -63,7 +63,7 @@ pub none_at_end : (marker bytes : List ℕ) (at : ℕ) → entry_at marker (drop
 none_at_end marker bytes at first = ap (records_at marker at) (nothing_found marker (drop at bytes) first)
 
 -- at the end nothing stands
-nothing_at_end : (marker bytes : List ℕ) (at : ℕ) → at ≡ length bytes → entry_at marker (drop at bytes) ≡ NoEntry
+pub nothing_at_end : (marker bytes : List ℕ) (at : ℕ) → at ≡ length bytes → entry_at marker (drop at bytes) ≡ NoEntry
 nothing_at_end marker bytes at last = ap (entry_at marker) (drop_all at bytes (omega arith)) ∙ entry_at-nil marker
 
 -- a reader that stands at damage stays there

@@ -1,5 +1,5 @@
 -- What is salvaged from a place on.
-use Rattle.std.proofs.Common.{◌≡◌, ℕ, zero, suc, ◌+◌, ◌-◌, ◌<◌, ◌≤◌, Bool, true, false, List, [], ◌∷◌, ◌++◌, length, take, drop, get_or, Option, Some, None, unwrap_or, nat_eq, arith, refl, ap, ap₂, sym, Ok, ◌∙◌}
+use Rattle.std.proofs.Common.{◌≡◌, ℕ, zero, suc, ◌+◌, ◌-◌, ◌<◌, ◌≤◌, Bool, true, false, List, [], ◌∷◌, length, drop, get_or, Option, Some, None, unwrap_or, nat_eq, arith, refl, ap, sym, Ok, ◌∙◌}
 use Rattle.std.specs.List.{starts_with}
 use Rattle.std.specs.Prelude.{IfSome}
 use Rattle.std.proofs.lemmas.List.{length-drop, drop_more}
@@ -13,7 +13,7 @@ use Rattle.chk_salvage.specs.Front.{next_sync, skip_end, Item, Kept, Skipped, sa
 -- ---- the next sync entry
 
 -- the place, if one stands there, else a later one
-abbrev here_or : ℕ → Option ℕ → Bool → Option ℕ
+abbrev pub here_or : ℕ → Option ℕ → Bool → Option ℕ
 here_or at later true = Some at
 here_or at later false = later
 

@@ -3,3 +3,8 @@ pub mod Views
 pub mod Readers
 pub mod Skipping
 pub mod Whole
+pub mod Longs
+pub mod Feeding
+pub mod Steps
+pub mod Runs
+pub mod Laws

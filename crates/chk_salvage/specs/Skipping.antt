@@ -1,6 +1,6 @@
 -- Going on over entries that were read.
-use Rattle.std.specs.Prelude.{◌≡◌, ℕ, ◌+◌, ◌≤◌, List, length, drop}
-use Rattle.chk_seqfile.specs.Entries.{SyncEntry, entry_at, records_at, size_of_record}
+use Rattle.std.specs.Prelude.{◌≡◌, ℕ, ◌+◌, ◌^◌, ◌<◌, ◌≤◌, List, [], ◌++◌, length, drop}
+use Rattle.chk_seqfile.specs.Entries.{Entries, SyncEntry, entry_at, records_at, record_entry, size_of_record}
 use Rattle.chk_salvage.specs.declared.entry.Seen.{Seen}
 use Rattle.chk_salvage.specs.declared.entry.Seen.TheVariants as seen
 use Rattle.chk_salvage.specs.Front.{IsReadSo, salvaged_at}
@@ -14,15 +14,24 @@ pub record IsOnward (marker bytes : List ℕ) (at to : ℕ) : Type 0 where
   pub read : IsReadSo marker bytes at → IsReadSo marker bytes to
   pub none : (entry_at marker (drop at bytes) ≡ SyncEntry → ⊥) → to ≡ at
 
+-- and these are they
+pub record StandBetween (marker bytes : List ℕ) (at to : ℕ) : Type 0 where
+  pub syncs : List ℕ
+  pub form : Entries marker syncs
+  pub size : at + length syncs ≡ to
+  pub split : drop at bytes ≡ syncs ++ drop to bytes
+  pub no_records : (place : ℕ) → records_at marker place syncs ≡ []
+
 -- and no further one stands there
 pub record IsBehindSyncs (marker bytes : List ℕ) (at to : ℕ) : Type 0 where
   pub way : IsOnward marker bytes at to
+  pub between : StandBetween marker bytes at to
   pub last : entry_at marker (drop to bytes) ≡ SyncEntry → ⊥
 
--- behind a record that stands at the end of what is a SequenceFile, it is one
-abbrev pub KeepsRead : Seen → List ℕ → List ℕ → ℕ → Type 0
-KeepsRead seen.Nothing marker bytes at = Unit {0}
-KeepsRead seen.Sync marker bytes at = Unit {0}
-KeepsRead (seen.Record key value) marker bytes at =
-    IsReadSo marker bytes at → IsReadSo marker bytes (at + size_of_record key.now value.now)
-KeepsRead (seen.Damaged why) marker bytes at = Unit {0}
+-- a record that is seen stands there, byte for byte
+abbrev pub StandsThere : Seen → List ℕ → ℕ → Type 0
+StandsThere seen.Nothing bytes at = Unit {0}
+StandsThere seen.Sync bytes at = Unit {0}
+StandsThere (seen.Record key value) bytes at = (8 + length key.now + length value.now < 2 ^ 31)
+    × (drop at bytes ≡ record_entry key.now value.now ++ drop (at + size_of_record key.now value.now) bytes)
+StandsThere (seen.Damaged why) bytes at = Unit {0}

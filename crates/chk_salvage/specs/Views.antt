@@ -1,5 +1,5 @@
 -- What is read, seen without where it lies in memory.
-use Rattle.std.specs.Prelude.{◌≡◌, ℕ, ◌<◌, ◌≤◌, List, length}
+use Rattle.std.specs.Prelude.{◌≡◌, ℕ, ◌<◌, ◌≤◌}
 use Rattle.chk_seqfile.specs.Entries.{Entry, NoEntry, SyncEntry, RecordEntry, Damaged, Placed, size_of_record}
 use Rattle.chk_salvage.specs.declared.entry.EntryRef.{EntryRef}
 use Rattle.chk_salvage.specs.declared.entry.Seen.{Seen}

@@ -2,7 +2,7 @@
 use Rattle.std.specs.Prelude.{◌≡◌, ℕ, ◌<◌, List, length, Ok}
 use Rattle.chk_seqfile.specs.declared.headers.HeaderRef.{HeaderRef}
 use Rattle.chk_seqfile.specs.Headers.{read_header}
-use Rattle.chk_seqfile.specs.Entries.{Placed, records_of}
+use Rattle.chk_seqfile.specs.Entries.{records_of}
 use Rattle.chk_salvage.specs.Front.{IsFront, DamageAt, kept, skipped, salvage_of}
 use Rattle.chk_salvage.specs.declared.outcome.Front.{Front}
 use Rattle.chk_salvage.specs.declared.outcome.FrontStop.{FrontStop}

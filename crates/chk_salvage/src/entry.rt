@@ -4,7 +4,7 @@ ghost use Rattle.std.specs.Prelude.{◌≡◌, ◌+◌, ◌-◌, ◌≤◌, ◌^
 ghost use Rattle.std.specs.List.{starts_with};
 ghost use Rattle.chk_bytes.specs.Numbers.{spelled_at};
 ghost use Rattle.chk_salvage.specs.Views.{entry_of, IsWithin};
-ghost use Rattle.chk_salvage.specs.Skipping.{KeepsRead};
+ghost use Rattle.chk_salvage.specs.Skipping.{StandsThere};
 ghost use Rattle.chk_seqfile.specs.Entries.{sync_entry, entry_at, sync_or_not, record_of, fitting};
 
 use chk_bytes::take_u32;
@@ -36,7 +36,7 @@ pub(crate) fn entry_from<'a>(marker: &[u8; 16], bytes: &'a [u8], at: usize) -> S
     requires { at ≤ length bytes.now }
     ensures entry { entry_of result ≡ entry_at marker.now (drop at bytes.now) }
     ensures within { IsWithin result (length bytes.now - at) }
-    ensures read { KeepsRead result marker.now bytes.now at }
+    ensures stands { StandsThere result bytes.now at }
 {
     entry_at(marker, &bytes[at..])
 }

@@ -3,15 +3,24 @@
 #![tactic(auto)]
 
 mod entry;
+mod fed;
+mod laws;
 mod lists;
 mod outcome;
+mod pieces;
 mod reader;
 mod scan;
 mod whole;
 
 pub use chk_seqfile::{HeaderFault, Why};
 pub use entry::EntryRef;
+pub use fed::Fed;
+pub use laws::{law_front, law_pieces, law_salvage};
 pub use lists::{EntryRefs, Span, Spans};
 pub use outcome::{Front, FrontFault, FrontStop, Salvaged};
+pub use pieces::Pieces;
 pub use reader::{Next, Reader};
 pub use whole::{front, salvage};
+
+#[cfg(test)]
+mod tests;

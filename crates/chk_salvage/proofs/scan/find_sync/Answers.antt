@@ -1,8 +1,8 @@
-use Rattle.std.proofs.Common.{◌≡◌, false, drop, length, nat_eq, sym, ap, ◌∙◌}
+use Rattle.std.proofs.Common.{◌≡◌, false, drop, nat_eq, sym, ap, ◌∙◌}
 use Rattle.std.specs.List.{starts_with}
 use Rattle.std.proofs.lemmas.List.{take_rest}
 use Rattle.chk_seqfile.specs.Entries.{sync_entry}
-use Rattle.chk_salvage.proofs.SalvageLemmas.{next_sync-here, next_sync-later}
+use Rattle.chk_salvage.proofs.SalvageLemmas.{next_sync-later}
 use Rattle.chk_salvage.proofs.scan.find_sync.Goals as goal
 
 pub loop-at-preserved : goal.loop-at-preserved

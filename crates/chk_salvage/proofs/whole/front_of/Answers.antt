@@ -1,4 +1,4 @@
-use Rattle.std.proofs.Common.{◌≡◌, ◌∷◌, [], ◌++◌, sym, ap, ap₂, ◌∙◌, arith, append_assoc, append-nil}
+use Rattle.std.proofs.Common.{◌∷◌, [], ◌++◌, sym, ap, ◌∙◌, append_assoc, append-nil}
 use Rattle.chk_salvage.specs.Readers.{records_left, marker_in, bytes_in, place_in}
 use Rattle.chk_salvage.specs.Views.{placed_of}
 use Rattle.chk_salvage.proofs.ReaderLemmas.{stop_of_damage}

@@ -1,4 +1,6 @@
-use Rattle.std.proofs.Common.{◌≡◌, sym, ap, ◌∙◌}
+use Rattle.std.proofs.Common.{◌+◌, drop, sym, ◌∙◌}
+use Rattle.chk_seqfile.specs.Entries.{size_of_record}
+use Rattle.chk_salvage.proofs.FrontLemmas.{read_so_record}
 use Rattle.chk_salvage.proofs.ReaderLemmas.{records_step, items_step, front_at_damage, stays_at_damage, stays_at_end}
 use Rattle.chk_salvage.proofs.reader.Reader.next.Goals as goal
 
@@ -16,7 +18,12 @@ returns-in-Record-clause-items c =
 
 pub returns-in-Record-clause-read : goal.returns-in-Record-clause-read
 returns-in-Record-clause-read c so =
-    c.in-Record.ensures.read (c.behind_syncs-self.ensures.way.read so)
+    let self = c.args.self.now in
+    let key = c.in-Record.key.now in
+    let value = c.in-Record.value.now in
+    read_so_record self.marker self.bytes.now c.behind_syncs-self.result key value
+    (drop (c.behind_syncs-self.result + size_of_record key value) self.bytes.now)
+    c.in-Record.ensures.stands.0 c.in-Record.ensures.stands.1 (c.behind_syncs-self.ensures.way.read so)
 
 pub returns-in-Damaged-clause-front : goal.returns-in-Damaged-clause-front
 returns-in-Damaged-clause-front c so stop =

@@ -1,5 +1,4 @@
-use Rattle.std.proofs.Common.{◌≡◌, ◌<◌, ◌≤◌, length, drop, arith}
-use Rattle.chk_salvage.specs.Front.{skip_end}
+use Rattle.std.proofs.Common.{arith}
 use Rattle.chk_salvage.proofs.ReaderLemmas.{skips_to, skip_within, items_skip}
 use Rattle.chk_salvage.proofs.reader.Reader.skip.Goals as goal
 
