@@ -56,8 +56,8 @@ impl Pieces {
 
     /// Takes the next piece of the file. Without memory it is as before.
     ///
-    /// Bytes that were read are let go here, at once: over all calls this costs the length of what
-    /// is fed.
+    /// Bytes that were read are let go here, at once. If it is fed where it answered `More`, this
+    /// costs the length of what is fed, over all calls.
     pub fn feed(&mut self, piece: &[u8]) -> Result<(), NoMemory>
         requires { fed_place self.old + length (fed_rest self.old) + length piece.now < 2 ^ 63 }
         ensures ok { OnOk result (fed_rest self.new ≡ fed_rest self.old ++ piece.now) }

@@ -125,8 +125,8 @@ fn salvages_behind_damage(rt: HostRuntime) -> Result<(), Fail> {
         begin: 96,
         end: 2096,
     }];
-    assert_eq!(rt; found.skipped.as_slice(), &skipped);
-    assert_eq!(rt; found.entries.as_slice(), &[entry]);
+    assert_eq!(rt; found.skipped.as_slice(), skipped.as_slice());
+    assert_eq!(rt; found.entries.as_slice(), [entry].as_slice());
 
     let bytes = file(rt.alloc(), &[b"\x7f", &SIZES[1..], KEY, HELLO])?;
     let found = salvage(rt.alloc(), &bytes)?;
@@ -134,7 +134,7 @@ fn salvages_behind_damage(rt: HostRuntime) -> Result<(), Fail> {
         begin: 96,
         end: 144,
     }];
-    assert_eq!(rt; found.skipped.as_slice(), &skipped);
+    assert_eq!(rt; found.skipped.as_slice(), skipped.as_slice());
     assert!(rt; found.entries.as_slice().is_empty());
     Ok(())
 }
