@@ -1,0 +1,29 @@
+use Rattle.std.proofs.Common.{refl, []}
+use Rattle.std.proofs.lemmas.Result.{err_from_is_err_and}
+use Rattle.chk_site.specs.Runs.{unbegun}
+use Rattle.chk_replace.proofs.CallSteps.{script_last}
+use Rattle.chk_replace.proofs.OldAndNew.{replaced, touches_both}
+use Rattle.chk_replace.proofs.replacing.replace.Goals as goal
+
+pub returns-in_err-next : goal.returns-in_err-next
+returns-in_err-next g c =
+    let p = err_from_is_err_and c.from_residual.result c.from_residual.ensures.1 in
+    rw (p.1, p.2)
+    (record {
+      told = unbegun;
+      old_or_new = replaced c.args.who.now c.args.name.now c.args.bytes.now unbegun;
+      own = touches_both c.args.who.now c.args.name.now c.args.bytes.now unbegun;
+      last = script_last (unbegun {qs = []});
+      cause = refl;
+    })
+
+pub returns : goal.returns
+returns g c =
+    let script = c.replace_by.ensures.told in
+    record {
+      told = script;
+      old_or_new = replaced c.args.who.now c.args.name.now c.args.bytes.now script;
+      own = touches_both c.args.who.now c.args.name.now c.args.bytes.now script;
+      last = script_last script;
+      cause = c.replace_by.ensures.cause;
+    }
