@@ -4,8 +4,7 @@ use Rattle.std.proofs.lemmas.List.{length-append, get_or-drop}
 use Rattle.chk_bytes.specs.Laws.{AreBytes}
 use Rattle.chk_seqfile.specs.Entries.{NoEntry, SyncEntry, sync_entry, record_entry, size_of_record, entry_at}
 use Rattle.chk_seqfile.proofs.EntryLemmas.{length-record_entry, entry_at-nil}
-use Rattle.chk_seqfile.proofs.FoundEntries.{record_found, sync_found}
-use Rattle.chk_salvage.proofs.EntryFacts.{nothing_found}
+use Rattle.chk_seqfile.proofs.FoundEntries.{record_found, sync_found, nothing_found}
 use Rattle.chk_salvage.specs.declared.entry.Seen.{Seen}
 use Rattle.chk_salvage.specs.declared.entry.Seen.TheVariants as seen
 use Rattle.chk_salvage.specs.Views.{entry_of, IsWithin}

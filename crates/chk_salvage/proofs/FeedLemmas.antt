@@ -8,11 +8,11 @@ use Rattle.chk_seqfile.specs.declared.headers.HeaderFault.{HeaderFault}
 use Rattle.chk_seqfile.specs.declared.headers.HeaderFault.TheVariants.{Short}
 use Rattle.chk_seqfile.specs.declared.entries.Why.{Why}
 use Rattle.chk_seqfile.specs.declared.entries.Why.TheVariants.{Torn}
-use Rattle.chk_seqfile.specs.Headers.{read_header, read_fields}
+use Rattle.chk_seqfile.specs.Headers.{read_header, read_front, read_fields}
 use Rattle.chk_seqfile.specs.Entries as entries
 use Rattle.chk_seqfile.specs.Entries.{Entries, SyncEntry, RecordEntry, NoEntry, entry_at, records_at, records_of, record_entry, size_of_record, placed}
-use Rattle.chk_seqfile.proofs.EntryLemmas.{length-record_entry}
-use Rattle.chk_salvage.proofs.EntryFacts.{nothing_found, sync_number, torn_short, key_in_record, value_in_record}
+use Rattle.chk_seqfile.proofs.EntryLemmas.{length-record_entry, key_in_record, value_in_record}
+use Rattle.chk_seqfile.proofs.FoundEntries.{nothing_found, sync_number, torn_short}
 use Rattle.chk_seqfile.proofs.FileLemmas.{records_of-append, records_of-behind, records_at-alone, Entries-record}
 use Rattle.chk_seqfile.proofs.HeaderLemmas.{read_header-sound}
 use Rattle.chk_salvage.specs.Front.{IsReadSo}
@@ -65,17 +65,6 @@ fed_more old new fed piece markers places rests h =
           ∙ ap (λ x. x ++ piece) h.rest ∙ sym rests;
       so = subst (λ m. IsFedSo m (fed ++ piece) (fed_place new)) (sym markers)
           (subst (IsFedSo (fed_marker old) (fed ++ piece)) (sym places) (so_longer (fed_marker old) fed piece (fed_place old) h.so));
-    }
-
--- the same state
-pub fed_same : (old new : Pieces) (fed : List ℕ) → fed_marker new ≡ fed_marker old → fed_place new ≡ fed_place old → fed_rest new ≡ fed_rest old
-    → IsFed old fed → IsFed new fed
-fed_same old new fed markers places rests h =
-    let within = h.within in
-    record {
-      within = omega (arith, places);
-      rest = ap (λ n. drop n fed) places ∙ h.rest ∙ sym rests;
-      so = subst (λ m. IsFedSo m fed (fed_place new)) (sym markers) (subst (IsFedSo (fed_marker old) fed) (sym places) h.so);
     }
 
 -- ---- going on
@@ -168,7 +157,7 @@ goes_syncs old new marker before same limits b rests places =
 
 -- no bytes have no records
 pub records_of-nil : records_of [] ≡ []
-unfolding records_of read_header read_fields
+unfolding records_of read_header read_fields read_front
 records_of-nil = refl
 
 -- before the header's end all bytes are left
@@ -209,16 +198,6 @@ goes_header old new head none after limits read rests places = record {
   stays = λ fed stop h gives stands. let all = all_left old fed none h in
       absurd (no_header_answer (fed_limit old) fed (fed_place old) head stop (ap read_header all.1 ∙ read) gives
       (subst (λ k. Stands (fed_limit old) fed k (fed_place old) stop) none stands));
-}
-
--- a reader that is behind its header stays as it is
-pub goes_nowhere : (p : Pieces) → GoesOn p p
-goes_nowhere p = record {
-  limit = refl;
-  onward = omega arith;
-  fed = λ fed h. h;
-  records = λ fed h. refl;
-  stays = λ fed stop h none stands. (refl, refl);
 }
 
 -- going on, and then a step

@@ -6,8 +6,7 @@ use Rattle.chk_bytes.specs.Laws.{AreBytes}
 use Rattle.chk_bytes.specs.Words.{joined}
 use Rattle.chk_seqfile.specs.Entries.{Entry, NoEntry, SyncEntry, RecordEntry, Damaged, IsEntry, AreEntries, sync_entry, size_of_record, entry_at, placed, records_at, records_of}
 use Rattle.chk_seqfile.proofs.EntryLemmas.{length-record_entry, entry_at-record, entry_at-sync}
-use Rattle.chk_seqfile.proofs.FoundEntries.{record_found}
-use Rattle.chk_salvage.proofs.EntryFacts.{nothing_found}
+use Rattle.chk_seqfile.proofs.FoundEntries.{record_found, nothing_found}
 use Rattle.chk_seqfile.proofs.RecordLemmas.{records_at-damaged, placed_entry, placed_entries, records_of-header, records_at-entries}
 use Rattle.chk_seqfile.proofs.FileLemmas.{records_of-append}
 use Rattle.chk_salvage.specs.Front.{IsFront, IsReadSo, IsDamaged, Kept, Skipped, next_sync, skip_end, salvaged_at, salvage_of}

@@ -1,4 +1,3 @@
-pub mod EntryFacts
 pub mod EntryFits
 pub mod SalvageLemmas
 pub mod FrontLemmas

@@ -5,7 +5,7 @@ use Rattle.chk_seqfile.specs.declared.entries.Why.{Why}
 use Rattle.chk_seqfile.specs.Entries.{NoEntry, RecordEntry, Damaged, placed, size_of_record, entry_at, records_at}
 use Rattle.chk_seqfile.proofs.EntryLemmas.{entry_at-nil}
 use Rattle.chk_seqfile.proofs.RecordLemmas.{records_at-record, records_at-damaged}
-use Rattle.chk_salvage.proofs.EntryFacts.{nothing_found}
+use Rattle.chk_seqfile.proofs.FoundEntries.{nothing_found}
 use Rattle.chk_salvage.specs.declared.reader.Reader.{Reader}
 use Rattle.chk_salvage.specs.declared.reader.Next.{Next}
 use Rattle.chk_salvage.specs.declared.reader.Next.TheVariants as next

@@ -1,7 +1,7 @@
 -- The steps of a reader that is fed.
 use Rattle.std.specs.Prelude.{◌≡◌, ℕ, ◌+◌, ◌≤◌, List, take, drop}
 use Rattle.chk_seqfile.specs.Entries.{records_of}
-use Rattle.chk_salvage.specs.Feeding.{fed_place, fed_limit, fed_marker, fed_rest, IsFed, GivesNone, Stands, Answered}
+use Rattle.chk_salvage.specs.Feeding.{fed_place, fed_limit, fed_marker, IsFed, GivesNone, Stands, Answered}
 use Rattle.chk_salvage.specs.declared.pieces.Pieces.{Pieces}
 use Rattle.chk_salvage.specs.declared.fed.Fed.{Fed}
 use Rattle.chk_salvage.specs.declared.fed.Fed.TheVariants as fed
@@ -44,10 +44,3 @@ LiesIn (step.Long need) p = Unit {0}
 -- a step answers
 abbrev pub Stepped : Pieces → Pieces → Step → Type 0
 Stepped old new s = (answer : Fed) → IsShown new s answer → Answered old new answer
-
--- only limit, marker, place and the rest count
-pub record IsSameState (old new : Pieces) : Type 0 where
-  pub limit : fed_limit new ≡ fed_limit old
-  pub marker : fed_marker new ≡ fed_marker old
-  pub place : fed_place new ≡ fed_place old
-  pub rest : fed_rest new ≡ fed_rest old

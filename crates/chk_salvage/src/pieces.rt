@@ -2,30 +2,40 @@
 
 ghost use Rattle.std.specs.Prelude.{◌≡◌, ◌+◌, ◌-◌, ◌<◌, ◌≤◌, ◌^◌, ◌++◌, [], ℕ, List, length, drop, OnOk, OnErr, IfOk, IfErr, IfSome, IfNone, Some, None, Err};
 ghost use Rattle.chk_seqfile.specs.Headers.{read_header};
+ghost use Rattle.chk_seqfile.specs.HeaderSteps.{HasCome};
 ghost use Rattle.chk_seqfile.specs.Entries.{SyncEntry, entry_at};
 ghost use Rattle.chk_salvage.specs.Longs.{IsLong, NotLong};
+ghost use Rattle.std.proofs.Props.{props};
 
 use crate::entry::{EntryRef, Seen, entry_from};
 use crate::fed::{Fed, Step};
 use crate::scan::behind_syncs;
 use chk_bytes::{NoMemory, take_u32};
-use chk_seqfile::{HeaderFault, Why, read_header};
+use chk_seqfile::{HeaderFault, TextsLeft, Why, read_header_on};
 use std::alloc::Global;
 
 /// Reads the entries of a file that is fed to it in pieces, however it was cut.
 ///
-/// It keeps the bytes that are not read yet, and makes room for new ones when it is fed: behind the
-/// header it keeps fewer than `limit` + 8 bytes beside the last piece.
+/// It keeps the bytes that are not read yet, and makes room for new ones when it is fed. Before the
+/// header's end it keeps all bytes that were fed, since the header is read where they are whole;
+/// behind it, fewer than `limit` + 8 bytes beside the last piece.
+///
+/// All calls together cost the bytes fed, and each call a constant beside, whatever the pieces are,
+/// but for moving what is left when room is made: that adds to it only where more is fed before
+/// `More` was answered.
 #[derive(Debug, Drop)]
 pub struct Pieces {
     limit: u32,
     marker: Option<[u8; 16]>,
+    /// How far the header was read.
+    texts: Option<TextsLeft>,
     place: u64,
     /// How many of the bytes are read.
     used: usize,
     bytes: Vec<u8>,
     ghost within: { used ≤ length bytes.items },
     ghost bounded: { 64 ≤ limit },
+    ghost come: { marker ≡ None → HasCome texts (drop used bytes.items) } by { Prim.hlevel props },
     ghost fits: { place + (length bytes.items - used) < 2 ^ 63 },
 }
 
@@ -48,6 +58,7 @@ impl Pieces {
         Pieces {
             limit,
             marker: None,
+            texts: None,
             place: 0,
             used: 0,
             bytes: Vec::new(alloc),
@@ -133,7 +144,7 @@ impl Pieces {
         if let Some(marker) = self.marker {
             return Ok(marker);
         }
-        let head = read_header(&self.bytes[self.used..])?;
+        let head = read_header_on(&self.bytes[self.used..], &mut self.texts)?;
         let marker = head.marker;
         self.marker = Some(marker);
         self.place += head.end;

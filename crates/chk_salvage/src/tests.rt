@@ -164,6 +164,24 @@ fn reads_byte_by_byte(rt: HostRuntime) -> Result<(), Fail> {
 }
 
 #[test]
+fn reads_metadata_byte_by_byte(rt: HostRuntime) -> Result<(), Fail> {
+    let texts: &[u8] = b"\x01a\0\x8f\x02bc\x03def\x8e\0\x01g\x01h";
+    let parts = [b"SEQ\x06", CLASS, CLASS, b"\0\0\0\0\0\x03", texts, MARKER];
+    let mut pieces = Pieces::new(rt.alloc(), 64);
+    for part in parts {
+        for byte in part {
+            assert_eq!(rt; pieces.next(), Fed::More);
+            assert_eq!(rt; pieces.place(), 0);
+            assert!(rt; pieces.left() < 113);
+            pieces.feed(&[*byte])?;
+        }
+    }
+    assert_eq!(rt; pieces.next(), Fed::More);
+    assert_eq!(rt; (pieces.place(), pieces.left()), (113, 0));
+    Ok(())
+}
+
+#[test]
 fn stops_when_fed(rt: HostRuntime) -> Result<(), Fail> {
     let value: &[u8] = &[7; 31];
     let sizes: &[u8] = b"\0\0\0\x41\0\0\0\x1e\0\0\0\x1a";

@@ -18,6 +18,36 @@ pub entry_at-nil : (marker : List ℕ) → entry_at marker [] ≡ NoEntry
 unfolding entry_at
 entry_at-nil marker = refl
 
+-- what stands before a record's value part
+abbrev before_value : List ℕ → List ℕ → List ℕ
+before_value key value =
+    be32 (8 + length key + length value) ++ (be32 (4 + length key) ++ with_length key)
+
+-- a record in three parts
+record_split : (key value rest : List ℕ)
+    → record_entry key value ++ rest ≡ before_value key value ++ (with_length value ++ rest)
+record_split key value rest =
+    ap (λ x. be32 (8 + length key + length value) ++ (be32 (4 + length key) ++ (be32 (length key) ++ x)))
+    (append_assoc key (with_length value) rest)
+
+-- where the key and the value stand in a record
+pub key_in_record : (key value rest : List ℕ)
+    → take (length key) (drop 12 (record_entry key value ++ rest)) ≡ key
+key_in_record key value rest =
+    ap (take (length key)) (append_assoc key (with_length value) rest)
+    ∙ take_at key (with_length value ++ rest) (length key) refl
+
+pub value_in_record : (key value rest : List ℕ)
+    → take (length value) (drop (16 + length key) (record_entry key value ++ rest)) ≡ value
+value_in_record key value rest =
+    let front : List ℕ = before_value key value in
+    let value_is : drop (16 + length key) (record_entry key value ++ rest) ≡ value ++ rest =
+    ap (drop (16 + length key))
+    (record_split key value rest ∙ sym (append_assoc front (be32 (length value)) (value ++ rest)))
+    ∙ drop_at (front ++ be32 (length value)) (value ++ rest) (16 + length key)
+    (omega (arith, length-append key (be32 (length value)))) in
+    ap (take (length value)) value_is ∙ take_at value rest (length value) refl
+
 -- a record stands first where its lengths do
 record_by_lengths : (marker bytes : List ℕ) (k v : ℕ) → 8 + k + v < 2 ^ 31
     → 16 + k + v ≤ length bytes
@@ -34,25 +64,17 @@ entry_at-record marker key value rest small =
     let k : ℕ = length key in
     let v : ℕ = length value in
     let bytes : List ℕ = record_entry key value ++ rest in
-    let front : List ℕ = be32 (8 + k + v) ++ (be32 (4 + k) ++ with_length key) in
-    let split : bytes ≡ front ++ (with_length value ++ rest) =
-    ap (λ x. be32 (8 + k + v) ++ (be32 (4 + k) ++ (be32 k ++ x))) (append_assoc key (with_length value) rest) in
     let size : 16 + k + v ≤ length bytes =
     omega (arith, length-append (key ++ with_length value) rest, length-append key (with_length value)) in
     let same : 8 + (4 + k) ≡ 12 + k = omega arith in
     let value_part : drop (8 + (4 + k)) bytes ≡ with_length value ++ rest =
-    ap₂ (λ n x. drop n x) same split
-    ∙ drop_at front (with_length value ++ rest) (12 + k) (omega arith) in
+    ap₂ (λ n x. drop n x) same (record_split key value rest)
+    ∙ drop_at (before_value key value) (with_length value ++ rest) (12 + k) (omega arith) in
     let value_size : spelled_at (8 + (4 + k)) 4 bytes ≡ v =
     ap (λ x. spelled (take 4 x)) value_part ∙ spelled-be32 v (omega arith) in
-    let value_is : drop (16 + k) bytes ≡ value ++ rest =
-    ap (drop (16 + k)) (split ∙ sym (append_assoc front (be32 v) (value ++ rest)))
-    ∙ drop_at (front ++ be32 v) (value ++ rest) (16 + k) (omega (arith, length-append key (be32 v))) in
     record_by_lengths marker bytes k v small size (spelled-be32 (8 + k + v) (omega arith))
     (spelled-be32 (4 + k) (omega arith)) (spelled-be32 k (omega arith)) value_size
-    ∙ ap₂ RecordEntry
-    (ap (take k) (append_assoc key (with_length value) rest) ∙ take_at key (with_length value ++ rest) k refl)
-    (ap (take v) value_is ∙ take_at value rest v refl)
+    ∙ ap₂ RecordEntry (key_in_record key value rest) (value_in_record key value rest)
 
 -- a sync entry is read as one, whatever follows
 pub entry_at-sync : (marker rest : List ℕ) → length marker ≡ 16

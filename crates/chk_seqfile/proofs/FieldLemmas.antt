@@ -43,6 +43,24 @@ pub record IsField (Is : List ℕ → Type 0) (read : ℕ → List ℕ → Resul
       → (c : List ℕ) × Is (bytes ++ c)
   pub some : (c : List ℕ) × Is c
 
+-- what was read is read, whatever follows
+pub field_more : {Is : List ℕ → Type 0} {read : ℕ → List ℕ → Result (List ℕ) HeaderFault} → IsField Is read
+    → (total total' : ℕ) (bytes rest more : List ℕ) → read total bytes ≡ Ok rest
+    → read total' (bytes ++ more) ≡ Ok (rest ++ more)
+field_more {Is} {read} f total total' bytes rest more whole =
+    let found = f.sound total bytes rest whole in
+    ap (λ x. read total' (x ++ more)) found.2 ∙ ap (read total') (append_assoc found.0 rest more)
+    ∙ f.reads total' found.0 (rest ++ more) found.1
+
+pub number_more : {Is : ℕ → List ℕ → Type 0} {read : ℕ → List ℕ → Result (ℕ × List ℕ) HeaderFault}
+    → IsNumberField Is read
+    → (total total' n : ℕ) (bytes rest more : List ℕ) → read total bytes ≡ Ok (n, rest)
+    → read total' (bytes ++ more) ≡ Ok (n, rest ++ more)
+number_more {Is} {read} f total total' n bytes rest more whole =
+    let found = f.sound total n bytes rest whole in
+    ap (λ x. read total' (x ++ more)) found.2 ∙ ap (read total') (append_assoc found.0 rest more)
+    ∙ f.reads total' n found.0 (rest ++ more) found.1
+
 -- one after the other
 abbrev pub Both : (List ℕ → Type 0) → (List ℕ → Type 0) → List ℕ → Type 0
 Both First Second bytes = (c : List ℕ) × (d : List ℕ) × First c × Second d × (bytes ≡ c ++ d)

@@ -7,7 +7,7 @@ use Rattle.std.specs.Prelude.{codes}
 use Rattle.chk_bytes.specs.Numbers.{spelled}
 use Rattle.chk_seqfile.specs.declared.headers.HeaderFault.{HeaderFault}
 use Rattle.chk_seqfile.specs.declared.headers.HeaderFault.TheVariants.{NotSeq, Compressed, OtherClass, Short, BadMeta}
-use Rattle.chk_seqfile.specs.Headers.{class_text, expect, read_version, spelled_34, read_class, read_digits, read_length, skip, read_text, read_texts, read_metadata, read_fields}
+use Rattle.chk_seqfile.specs.Headers.{class_text, expect, read_version, spelled_34, read_class, read_digits, read_length, skip, read_text, read_texts, read_front, read_metadata, read_fields}
 use Rattle.chk_seqfile.specs.HeaderGrammar.{IsDigits, IsLength, Alone, Behind, IsClass, IsText, AreTexts, IsMetadata}
 use Rattle.chk_seqfile.proofs.SpelledLemmas.{spelled-append-zeros, spelled-zeros-append, spelled-take_le, spelled_small}
 use Rattle.chk_seqfile.proofs.FieldLemmas.{IsNumberField, IsField, Both, two_fields, number_then, wanted, expect-append, expect-sound, expect-cut, expect-short}
@@ -347,13 +347,23 @@ class_field = record {
 
 -- ---- all fields before the marker
 
--- all fields, one after the other
+-- the fields before the metadata, one after the other
+abbrev pub AreFront : List ℕ → Type 0
+AreFront =
+    Both (λ bytes. bytes ≡ codes "SEQ")
+    (Both (λ bytes. bytes ≡ 6 ∷ []) (Both IsClass (Both IsClass (λ bytes. bytes ≡ 0 ∷ 0 ∷ []))))
+
+pub front_field : IsField AreFront (λ total bytes. read_front bytes)
+unfolding read_front
+front_field =
+    two_fields (wanted (codes "SEQ") NotSeq (λ e. cc))
+    (two_fields version_field
+    (two_fields class_field (two_fields class_field (wanted (0 ∷ 0 ∷ []) Compressed (λ e. cc)))))
+
+-- and the metadata
 abbrev pub AreFields : List ℕ → Type 0
-AreFields =
-    Both (λ bytes. bytes ≡ codes "SEQ") (Both (λ bytes. bytes ≡ 6 ∷ []) (Both IsClass (Both IsClass (Both (λ bytes. bytes ≡ 0 ∷ 0 ∷ []) IsMetadata))))
+AreFields = Both AreFront IsMetadata
 
 pub fields_field : IsField AreFields read_fields
 unfolding read_fields
-fields_field =
-    two_fields (wanted (codes "SEQ") NotSeq (λ e. cc))
-    (two_fields version_field (two_fields class_field (two_fields class_field (two_fields (wanted (0 ∷ 0 ∷ []) Compressed (λ e. cc)) metadata_field))))
+fields_field = two_fields front_field metadata_field

@@ -9,41 +9,40 @@ use Rattle.chk_seqfile.specs.declared.headers.HeaderFault.TheVariants.{Short}
 use Rattle.md5.proofs.StandardFacts.{length-md5}
 use Rattle.chk_seqfile.specs.Headers.{marker_of, ◌>>=◌, class_text, written_front, header, read_fields, read_header, read_marker}
 use Rattle.chk_seqfile.specs.HeaderGrammar.{IsHeaderFront, IsHeader, IsClass, Alone}
-use Rattle.chk_seqfile.proofs.FieldLemmas.{bind_ok, bind_err, take_within, take_past}
-use Rattle.chk_seqfile.proofs.HeaderFields.{AreFields, fields_field}
+use Rattle.chk_seqfile.proofs.FieldLemmas.{Both, bind_ok, bind_err, take_within, take_past}
+use Rattle.chk_seqfile.proofs.HeaderFields.{AreFront, AreFields, fields_field}
+
+-- the fields before the metadata, and then more
+front_and_more : (key value more : List ℕ)
+    → (codes "SEQ" ++ (6 ∷ (key ++ (value ++ 0 ∷ 0 ∷ [])))) ++ more
+    ≡ codes "SEQ" ++ (6 ∷ (key ++ (value ++ (0 ∷ 0 ∷ more))))
+front_and_more key value more =
+    ap (λ x. codes "SEQ" ++ (6 ∷ x))
+    (append_assoc key (value ++ 0 ∷ 0 ∷ []) more ∙ ap (λ x. key ++ x) (append_assoc value (0 ∷ 0 ∷ []) more))
 
 -- the fields and the marker are a header
 header_from_fields : (marker fields : List ℕ) → AreFields fields → length marker ≡ 16
     → IsHeader marker (fields ++ marker)
-header_from_fields marker fields behind_seq size =
+header_from_fields marker fields (front, metadata, behind_seq, form, whole) size =
     let behind_version = behind_seq.3 in
     let behind_key = behind_version.3 in
-    let key : List ℕ = behind_key.0 in
     let behind_value = behind_key.3 in
+    let key : List ℕ = behind_key.0 in
     let value : List ℕ = behind_value.0 in
-    let behind_flags = behind_value.3 in
-    let metadata : List ℕ = behind_flags.1 in
-    let flags_is : behind_value.1 ++ marker ≡ 0 ∷ 0 ∷ (metadata ++ marker) =
-    ap (λ x. x ++ marker) (behind_flags.4 ∙ ap (λ x. x ++ metadata) behind_flags.2) in
-    let value_is : behind_key.1 ++ marker ≡ value ++ (0 ∷ 0 ∷ (metadata ++ marker)) =
-    ap (λ x. x ++ marker) behind_value.4 ∙ append_assoc value behind_value.1 marker
-    ∙ ap (λ x. value ++ x) flags_is in
-    let key_is : behind_version.1 ++ marker ≡ key ++ (value ++ (0 ∷ 0 ∷ (metadata ++ marker))) =
-    ap (λ x. x ++ marker) behind_key.4 ∙ append_assoc key behind_key.1 marker
-    ∙ ap (λ x. key ++ x) value_is in
-    let version_is : behind_seq.1 ++ marker ≡ 6 ∷ (key ++ (value ++ (0 ∷ 0 ∷ (metadata ++ marker)))) =
-    ap (λ x. x ++ marker) (behind_version.4 ∙ ap (λ x. x ++ behind_version.1) behind_version.2)
-    ∙ ap (λ x. 6 ∷ x) key_is in
+    let key_is : behind_version.1 ≡ key ++ (value ++ 0 ∷ 0 ∷ []) =
+    behind_key.4 ∙ ap (λ x. key ++ x) (behind_value.4 ∙ ap (λ x. value ++ x) behind_value.3) in
+    let front_is : front ≡ codes "SEQ" ++ (6 ∷ (key ++ (value ++ 0 ∷ 0 ∷ []))) =
+    behind_seq.4 ∙ ap₂ (λ a b. a ++ b) behind_seq.2 (behind_version.4 ∙ ap₂ (λ a b. a ++ b) behind_version.2 key_is) in
     record {
       key_class = key;
       value_class = value;
       metadata = metadata;
       key_form = behind_key.2;
       value_form = behind_value.2;
-      metadata_form = behind_flags.3;
+      metadata_form = form;
       marker_size = size;
-      is = ap (λ x. x ++ marker) (behind_seq.4 ∙ ap (λ x. x ++ behind_seq.1) behind_seq.2)
-          ∙ ap (λ x. codes "SEQ" ++ x) version_is;
+      is = ap (λ x. x ++ marker) whole ∙ append_assoc front metadata marker
+          ∙ ap (λ x. x ++ (metadata ++ marker)) front_is ∙ front_and_more key value (metadata ++ marker);
     }
 
 -- a header is its fields and the marker
@@ -52,29 +51,17 @@ fields_of_header : (marker bytes : List ℕ) → IsHeader marker bytes
 fields_of_header marker bytes h =
     let key : List ℕ = h.key_class in
     let value : List ℕ = h.value_class in
-    let flags : List ℕ = 0 ∷ 0 ∷ h.metadata in (
-      codes "SEQ" ++ (6 ∷ (key ++ (value ++ flags))),
-      (
-        codes "SEQ",
-        6 ∷ (key ++ (value ++ flags)),
-        refl,
-        (
-          6 ∷ [],
-          key ++ (value ++ flags),
-          refl,
-          (
-            key,
-            value ++ flags,
-            h.key_form,
-            (value, flags, h.value_form, (0 ∷ 0 ∷ [], h.metadata, refl, h.metadata_form, refl), refl),
-            refl,
-          ),
-          refl,
-        ),
-        refl,
-      ),
-      h.is ∙ ap (λ x. codes "SEQ" ++ (6 ∷ x))
-          (sym (append_assoc key (value ++ flags) marker ∙ ap (λ x. key ++ x) (append_assoc value flags marker))),
+    let flags : List ℕ = 0 ∷ 0 ∷ [] in
+    let front : List ℕ = codes "SEQ" ++ (6 ∷ (key ++ (value ++ flags))) in
+    let behind_key : Both IsClass (λ x. x ≡ flags) (value ++ flags) = (value, flags, h.value_form, refl, refl) in
+    let behind_version : Both IsClass (Both IsClass (λ x. x ≡ flags)) (key ++ (value ++ flags)) =
+    (key, value ++ flags, h.key_form, behind_key, refl) in
+    let classes : List ℕ = key ++ (value ++ flags) in
+    let front_form : AreFront front =
+    (codes "SEQ", 6 ∷ classes, refl, (6 ∷ [], classes, refl, behind_version, refl), refl) in (
+      front ++ h.metadata,
+      (front, h.metadata, front_form, h.metadata_form, refl),
+      h.is ∙ sym (append_assoc front h.metadata marker ∙ front_and_more key value (h.metadata ++ marker)),
     )
 
 -- the marker is read, whatever follows
@@ -223,14 +210,6 @@ IsHeader-header marker size =
 pub length-marker_of : (stem : List ℕ) → length (marker_of stem) ≡ 16
 unfolding marker_of
 length-marker_of stem = length-md5 stem
-
--- what is behind the fields is no more than there was
-pub read_fields_within : (total : ℕ) (bytes rest : List ℕ) → read_fields total bytes ≡ Ok rest
-    → length rest ≤ length bytes
-read_fields_within total bytes rest read =
-    let found = fields_field.sound total bytes rest read in
-    let all = ap length found.2 in
-    omega (arith, length-append found.0 rest)
 
 -- what an answer says that is what is read
 pub found_header : (bytes : List ℕ) (r : Result HeaderRef HeaderFault) → r ≡ read_header bytes

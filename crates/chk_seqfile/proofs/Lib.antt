@@ -4,6 +4,7 @@ pub mod SpelledLemmas
 pub mod FieldLemmas
 pub mod HeaderFields
 pub mod HeaderLemmas
+pub mod HeaderStepLemmas
 pub mod ReadingLemmas
 pub mod RecordLemmas
 pub mod FileLemmas

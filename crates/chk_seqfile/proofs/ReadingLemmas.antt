@@ -1,9 +1,9 @@
 -- How the functions that read fields agree with the definitions.
-use Rattle.std.proofs.Common.{suc, Err, sym, ap₂, length, take, ◌+◌, ◌^◌, ◌≡◌, ℕ, ◌-◌, ◌<◌, ◌≤◌, List, [], ◌∷◌, ◌++◌, drop, replicate, slice_index, arith, ap, ◌∙◌}
+use Rattle.std.proofs.Common.{Err, sym, ap₂, length, take, ◌+◌, ◌^◌, ◌≡◌, ℕ, ◌-◌, ◌<◌, ◌≤◌, List, [], ◌∷◌, ◌++◌, drop, replicate, slice_index, arith, ap, ◌∙◌}
 use Rattle.std.proofs.lemmas.List.{take_all, take_rest, drop-append-le, drop-replicate}
 use Rattle.std.proofs.lemmas.Bool.{cond-true, cond-false, and_from, le-leb, lt-ltb, le-ltb}
 use Rattle.chk_seqfile.specs.declared.headers.HeaderFault.TheVariants.{OtherClass, BadMeta}
-use Rattle.chk_seqfile.specs.Headers.{◌>>=◌, class_text, expect, spelled_34, read_class, read_digits, read_text, read_texts}
+use Rattle.chk_seqfile.specs.Headers.{◌>>=◌, class_text, expect, spelled_34, read_class, read_digits}
 use Rattle.chk_seqfile.proofs.SpelledLemmas.{padded, padded_le}
 use Rattle.chk_seqfile.proofs.FieldLemmas.{expect-parts, expect-same}
 
@@ -51,10 +51,3 @@ read_digits_large place count m bytes fewer large =
     let same : m + (count - m) ≡ count = omega arith in
     let all : padded (m + (count - m)) bytes ≡ padded count bytes = ap (λ n. padded n bytes) same in
     cond-false _ _ _ (le-ltb (padded count bytes) (2 ^ 31) (omega arith))
-
--- one text more of those that are left
-pub read_texts_more : (total n i : ℕ) (bytes : List ℕ) → i < n
-    → read_texts total (n - i) bytes ≡ (read_text total bytes >>= read_texts total (n - (i + 1)))
-read_texts_more total n i bytes fewer =
-    let one_more : n - i ≡ suc (n - (i + 1)) = omega arith in
-    ap (λ k. read_texts total k bytes) one_more

@@ -89,15 +89,20 @@ read_metadata total bytes = do
   count ← read_digits (total - length bytes) 4 bytes
   read_texts total (2 * count.0) count.1
 
--- all fields before the marker, in a header with so many bytes from its begin to the end of the input
-unfoldable pub read_fields : ℕ → List ℕ → Result (List ℕ) HeaderFault
-read_fields total bytes = do
+-- the fields before the metadata
+unfoldable pub read_front : List ℕ → Result (List ℕ) HeaderFault
+read_front bytes = do
   behind_seq ← expect (codes "SEQ") NotSeq bytes
   behind_version ← read_version behind_seq
   behind_key ← read_class behind_version
   behind_value ← read_class behind_key
-  behind_flags ← expect (0 ∷ 0 ∷ []) Compressed behind_value
-  read_metadata total behind_flags
+  expect (0 ∷ 0 ∷ []) Compressed behind_value
+
+-- all fields before the marker, in a header with so many bytes from its begin to the end of the input
+unfoldable pub read_fields : ℕ → List ℕ → Result (List ℕ) HeaderFault
+read_fields total bytes = do
+  behind_front ← read_front bytes
+  read_metadata total behind_front
 
 -- the marker, and the place where the header ends
 abbrev pub read_marker : ℕ → List ℕ → Result HeaderRef HeaderFault

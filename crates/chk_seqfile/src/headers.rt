@@ -1,8 +1,9 @@
 ghost use Rattle.std.specs.Prelude.{◌≡◌, ◌≤◌, ◌↔◌, ℕ, List, ◌++◌, length, take, IfOk};
 ghost use Rattle.chk_seqfile.specs.HeaderGrammar.{IsHeader, IsHeaderFront};
 ghost use Rattle.chk_seqfile.specs.Headers.{header, marker_of, read_header};
+ghost use Rattle.chk_seqfile.specs.HeaderSteps.{HasCome, NoStepLeft};
 
-use crate::reading::read_first_header;
+use crate::reading::{read_first_text, read_marker, read_texts};
 use chk_bytes::{Bytes, NoMemory};
 use md5::{Digest, Md5};
 use std::alloc::Global;
@@ -19,6 +20,15 @@ pub struct HeaderRef {
     pub marker: [u8; 16],
     /// The place of the first entry: 96 in a file that this program wrote.
     pub end: u64,
+}
+
+/// How far a header was read: up to a text of its metadata.
+#[derive(Clone, Copy, Debug, PartialEq, Eq)]
+pub struct TextsLeft {
+    /// The place of the next text, or of the marker where no text is left.
+    pub place: u64,
+    /// How many texts stand there before the marker.
+    pub texts: u64,
 }
 
 /// Why bytes are not read as a header. The first field that is wrong decides.
@@ -72,5 +82,30 @@ pub fn read_header(bytes: &[u8]) -> Result<HeaderRef, HeaderFault>
     // Which fault it is.
     ensures exact { result ≡ read_header bytes.now }
 {
-    read_first_header(bytes)
+    read_header_on(bytes, &mut None)
+}
+
+/// Reads the header with which a file begins, as `read_header` does, where its bytes come in pieces
+/// and all that have come are given again at each call. `from` is `None` at the first call, and
+/// keeps how far the header was read.
+///
+/// A call costs the number of texts that have become whole since the last one, and a constant beside;
+/// the bytes of a text are not looked at. The next call begins at the text that isn't there whole.
+pub fn read_header_on(bytes: &[u8], from: &mut Option<TextsLeft>) -> Result<HeaderRef, HeaderFault>
+    requires come { HasCome from.old bytes.now }
+    ensures found { IfOk result (λ head. (head.end ≤ length bytes.now)
+        × IsHeader head.marker (take head.end bytes.now)) }
+    ensures header { result ≡ read_header bytes.now }
+    ensures come { HasCome from.new bytes.now }
+    // It goes on as far as it can.
+    ensures far { NoStepLeft from.new bytes.now }
+{
+    let mut left = match *from {
+        Some(left) => left,
+        None => read_first_text(bytes)?,
+    };
+    let texts = read_texts(bytes, &mut left);
+    *from = Some(left);
+    texts?;
+    read_marker(bytes.len(), &bytes[left.place as usize..])
 }

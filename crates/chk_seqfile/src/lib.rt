@@ -14,7 +14,7 @@ mod reading;
 mod writer;
 
 pub use entries::Why;
-pub use headers::{HeaderFault, HeaderRef, header, read_header};
+pub use headers::{HeaderFault, HeaderRef, TextsLeft, header, read_header, read_header_on};
 pub use laws::{law_cut, law_written_file};
 pub use writer::SeqWriter;
 

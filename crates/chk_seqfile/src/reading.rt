@@ -1,11 +1,12 @@
 //! Reads a header field after field: each function answers the bytes behind its field.
 
-ghost use Rattle.std.specs.Prelude.{◌≡◌, ◌-◌, ◌<◌, ◌≤◌, ◌^◌, length, slice_index, IfOk};
-ghost use Rattle.chk_seqfile.specs.Headers.{expect, read_version, spelled_34, read_class, read_digits, read_length, skip, read_text, read_texts, read_metadata, read_fields, read_marker, read_header};
+ghost use Rattle.std.specs.Prelude.{◌≡◌, ◌-◌, ◌<◌, ◌≤◌, ◌^◌, length, drop, slice_index, Err, OnOk, IfOk, IfErr};
+ghost use Rattle.chk_seqfile.specs.Headers.{expect, read_version, spelled_34, read_class, read_front, read_digits, read_length, skip, read_text, read_marker};
+ghost use Rattle.chk_seqfile.specs.HeaderSteps.{read_first_text, HasComeTo};
 ghost use Rattle.chk_seqfile.specs.declared.headers.HeaderFault.TheVariants.{OtherClass};
 ghost use Rattle.chk_seqfile.specs.Reading.{rest_of, number_and_rest};
 
-use crate::headers::{HeaderFault, HeaderRef};
+use crate::headers::{HeaderFault, HeaderRef, TextsLeft};
 
 /// The class of keys and of values, without its length.
 const CLASS: &[u8; 34] = b"org.apache.hadoop.io.BytesWritable";
@@ -13,17 +14,8 @@ const CLASS: &[u8; 34] = b"org.apache.hadoop.io.BytesWritable";
 /// The number 34 in 8 bytes: a longer spelling of it has the last ones behind its first byte.
 const DIGITS_OF_34: [u8; 8] = [0, 0, 0, 0, 0, 0, 0, 34];
 
-/// The header with which the bytes begin.
-#[tactic(auto, unfolding(crate::specs::Headers::read_header))]
-pub(crate) fn read_first_header(bytes: &[u8]) -> Result<HeaderRef, HeaderFault>
-    ensures { result ≡ read_header bytes.now }
-{
-    let rest = read_fields(bytes.len(), bytes)?;
-    read_marker(bytes.len(), rest)
-}
-
 /// The marker at the end of a header, of an input of `total` bytes.
-fn read_marker(total: usize, bytes: &[u8]) -> Result<HeaderRef, HeaderFault>
+pub(crate) fn read_marker(total: usize, bytes: &[u8]) -> Result<HeaderRef, HeaderFault>
     requires { length bytes.now ≤ total }
     ensures { result ≡ read_marker total bytes.now }
 {
@@ -36,17 +28,29 @@ fn read_marker(total: usize, bytes: &[u8]) -> Result<HeaderRef, HeaderFault>
     }
 }
 
-/// All fields before the marker, of an input of `total` bytes.
-#[tactic(auto, unfolding(crate::specs::Headers::read_fields))]
-fn read_fields(total: usize, bytes: &[u8]) -> Result<&[u8], HeaderFault>
-    ensures { rest_of result ≡ read_fields total bytes.now }
+/// The place of the first text of the metadata, and how many texts there are.
+#[tactic(auto, unfolding(crate::specs::HeaderSteps::read_first_text))]
+pub(crate) fn read_first_text(bytes: &[u8]) -> Result<TextsLeft, HeaderFault>
+    ensures { result ≡ read_first_text bytes.now }
+{
+    let rest = read_front(bytes)?;
+    let (count, rest) = read_digits(place_of(bytes.len(), rest), 4, rest)?;
+    Ok(TextsLeft {
+        place: place_of(bytes.len(), rest),
+        texts: 2 * count,
+    })
+}
+
+/// The fields before the metadata.
+#[tactic(auto, unfolding(crate::specs::Headers::read_front))]
+fn read_front(bytes: &[u8]) -> Result<&[u8], HeaderFault>
+    ensures { rest_of result ≡ read_front bytes.now }
 {
     let rest = expect(bytes, b"SEQ", HeaderFault::NotSeq)?;
     let rest = read_version(rest)?;
     let rest = read_class(rest)?;
     let rest = read_class(rest)?;
-    let rest = expect(rest, &[0, 0], HeaderFault::Compressed)?;
-    read_metadata(total, rest)
+    expect(rest, &[0, 0], HeaderFault::Compressed)
 }
 
 fn expect<'a>(bytes: &'a [u8], want: &[u8], fault: HeaderFault) -> Result<&'a [u8], HeaderFault>
@@ -95,22 +99,20 @@ fn read_34(bytes: &[u8]) -> Result<&[u8], HeaderFault>
     }
 }
 
-fn read_metadata(total: usize, bytes: &[u8]) -> Result<&[u8], HeaderFault>
-    ensures { rest_of result ≡ read_metadata total bytes.now }
+/// Goes on over the texts that are whole. A text that can't be read stays the next one.
+pub(crate) fn read_texts(bytes: &[u8], left: &mut TextsLeft) -> Result<(), HeaderFault>
+    requires { HasComeTo left.old bytes.now }
+    ensures come { HasComeTo left.new bytes.now }
+    ensures all { OnOk result (left.new.texts ≡ 0) }
+    ensures fault { IfErr result (λ fault. (0 < left.new.texts)
+        × (read_text (length bytes.now) (drop left.new.place bytes.now) ≡ Err fault)) }
 {
-    let (count, rest) = read_digits(place_of(total, bytes), 4, bytes)?;
-    read_texts(total, 2 * count, rest)
-}
-
-#[tactic(auto, using(crate::proofs::ReadingLemmas::read_texts_more))]
-fn read_texts(total: usize, texts: u64, bytes: &[u8]) -> Result<&[u8], HeaderFault>
-    ensures { rest_of result ≡ read_texts total texts bytes.now }
-{
-    let mut rest = bytes;
-    for _ in 0..texts {
-        rest = read_text(total, rest)?;
+    while left.texts > 0 {
+        let rest = read_text(bytes.len(), &bytes[left.place as usize..])?;
+        left.place = place_of(bytes.len(), rest);
+        left.texts -= 1;
     }
-    Ok(rest)
+    Ok(())
 }
 
 fn read_text(total: usize, bytes: &[u8]) -> Result<&[u8], HeaderFault>

@@ -147,3 +147,44 @@ fn reads_each_spelling_of_34(rt: HostRuntime) -> Result<(), Fail> {
     }
     Ok(())
 }
+
+#[test]
+fn reads_on_byte_by_byte(rt: HostRuntime) -> Result<(), Fail> {
+    let texts: &[u8] = b"\x01a\0\x8f\x02bc\x03def\x8e\0\x01g\x01h";
+    let bytes = joined(
+        rt.alloc(),
+        &[b"SEQ\x06", CLASS, CLASS, b"\0\0\0\0\0\x03", texts, &MARKER],
+    )?;
+    assert_eq!(rt; bytes.len(), 113);
+    let ends = [
+        (80, None),
+        (82, Some((80, 6))),
+        (83, Some((82, 5))),
+        (87, Some((83, 4))),
+        (91, Some((87, 3))),
+        (95, Some((91, 2))),
+        (97, Some((95, 1))),
+        (113, Some((97, 0))),
+    ];
+    let mut from = None;
+    let mut size = 0;
+    for (end, expected) in ends {
+        assert!(rt; end <= 113);
+        while size < end {
+            let found = read_header_on(&bytes[..size], &mut from);
+            assert_eq!(rt; found, Err(HeaderFault::Short), "at {size}");
+            assert_eq!(rt;
+                from.map(|left| (left.place, left.texts)),
+                expected,
+                "at {size}"
+            );
+            size += 1;
+        }
+    }
+    let head = HeaderRef {
+        marker: MARKER,
+        end: 113,
+    };
+    assert_eq!(rt; read_header_on(&bytes, &mut from), Ok(head));
+    Ok(())
+}

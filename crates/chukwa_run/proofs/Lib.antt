@@ -5,3 +5,4 @@ pub mod KeptCalls
 pub mod ActsCalls
 pub mod Faulted
 pub mod Said
+pub mod Salvaged

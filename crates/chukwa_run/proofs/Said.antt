@@ -14,15 +14,15 @@ use Rattle.chk_site.specs.Site.{Adds, Asked, asked, answered, plain, Calls, Caus
 use Rattle.chk_site.specs.Runs.{Leads, Since}
 use Rattle.chk_site.proofs.Runs.{adds_as}
 use Rattle.chk_site.proofs.Leads.{any_leads}
-use Rattle.chukwa_run.specs.CommandWords.{Round, round_asked, begins_round}
+use Rattle.chukwa_run.specs.CommandWords.{Round, Asked as Wanted, Rounds, Salvages, asked as wanted_by, usage_of}
 use Rattle.chukwa_run.specs.Lines.{fault_status, usage_text, usage_line}
 use Rattle.chukwa_run.specs.declared.command_words.Usage.{Usage}
-use Rattle.chukwa_run.specs.declared.command_words.Usage.TheVariants.{Commands, Round as RoundUsage}
 use Rattle.chukwa_run.specs.declared.faults.RunFault.{RunFault}
 use Rattle.chukwa_run.specs.declared.faults.RunFault.TheVariants.{Outside as OutsideCall, NoMemory as NoMemoryLeft, LogTooLong, SinkIsThere}
 use Rattle.chukwa_run.specs.Rounds.{ClosedIsFront, IsForeign, StaysFront, RoundIsWhole, Holds, Anything}
 use Rattle.chukwa_run.specs.Acts.{Anyone, ActedSo, GoesOn, writer_chukwa}
-use Rattle.chukwa_run.specs.Runs.{IsSaying, ThenSaid, StaysFrontBy, ClosedStaysFront, RoundRuns, NoActs, SaidUsage, RunsAs, RunsSo}
+use Rattle.chukwa_run.specs.Sayings.{IsSaying, ThenSaid, NoActs}
+use Rattle.chukwa_run.specs.Runs.{StaysFrontBy, ClosedStaysFront, RoundRuns, SaidUsage, RunsAs, RunsSo}
 use Rattle.chukwa_run.proofs.Kept.{foreign_keeps, quiet_shows, to_anything, anything_stays}
 use Rattle.chukwa_run.proofs.ActsCalls.{made, anyone_keeps, acted_shows, stop_shows, acts_as}
 
@@ -67,7 +67,7 @@ count_grows (Err (Short size)) before now cause = omega (arith, cause)
 count_grows (Err NoMemory) before now cause = omega (arith, cause)
 
 -- what stands before an equal end is equal
-front_is : {A : Type 0} (a b c : List A) → a ++ c ≡ b ++ c → a ≡ b
+pub front_is : {A : Type 0} (a b c : List A) → a ++ c ≡ b ++ c → a ≡ b
 front_is {A = A} a b c e =
     let sizes : length a ≡ length b = omega (arith, ap length e, length-append a c, length-append b c) in
     sym (take_all (length a) a (omega arith)) ∙ sym (take-append-le (length a) a c (omega arith)) ∙ ap (take (length a)) e
@@ -131,25 +131,30 @@ not_zero given earlier fault e h held = record {
 }
 
 -- what is said where a round was asked for
-pub front_if_asked : {asked : Option Round} {given : Round} (status : ℕ) {old new : Option History} → asked ≡ Some given
-    → Adds old new (StaysFrontBy given status) → Adds old new (ClosedStaysFront asked status)
-front_if_asked status {old = old} {new = new} e told = subst (λ (o : Option Round). Adds old new (ClosedStaysFront o status)) (sym e) told
+pub front_if_asked : {wanted : Option Wanted} {given : Round} (status : ℕ) {old new : Option History} → wanted ≡ Some (Rounds given)
+    → Adds old new (StaysFrontBy given status) → Adds old new (ClosedStaysFront wanted status)
+front_if_asked status {old = old} {new = new} e told = subst (λ (o : Option Wanted). Adds old new (ClosedStaysFront o status)) (sym e) told
 
--- and where none was
-pub nothing_asked : {asked : Option Round} (status : ℕ) {old new : Option History} {P : History → History → History → Type 0} → asked ≡ None
-    → ((earlier : History) → Adds old new (P earlier)) → Adds old new (ClosedStaysFront asked status)
+-- where a salvage was
+pub front_of_salvage : {wanted : Option Wanted} {file : List ℕ} (status : ℕ) {old new : Option History} {P : History → History → Type 0} → wanted ≡ Some (Salvages file)
+    → Adds old new P → Adds old new (ClosedStaysFront wanted status)
+front_of_salvage {file = file} status {old = old} {new = new} e told =
+    subst (λ (o : Option Wanted). Adds old new (ClosedStaysFront o status)) (sym e) (adds_as (ClosedStaysFront (Some (Salvages file)) status) told (λ a h x. tt))
+
+-- and where nothing was
+pub nothing_asked : {wanted : Option Wanted} (status : ℕ) {old new : Option History} {P : History → History → History → Type 0} → wanted ≡ None
+    → ((earlier : History) → Adds old new (P earlier)) → Adds old new (ClosedStaysFront wanted status)
 nothing_asked status {old = old} {new = new} e told =
-    subst (λ (o : Option Round). Adds old new (ClosedStaysFront o status)) (sym e) (adds_as (ClosedStaysFront None status) (told []) (λ a h x. tt))
-
-usage_is : (words : List (List ℕ)) (usage : Usage) → (usage ≡ RoundUsage → begins_round words ≡ true) → (usage ≡ Commands → begins_round words ≡ false)
-    → usage_text usage ≡ usage_line words
-usage_is words Commands round commands = rw (commands refl) refl
-usage_is words RoundUsage round commands = rw (round refl) refl
+    subst (λ (o : Option Wanted). Adds old new (ClosedStaysFront o status)) (sym e) (adds_as (ClosedStaysFront None status) (told []) (λ a h x. tt))
 
 -- the acts of a run that was asked for nothing
-pub usage_acts : (words : List (List ℕ)) (usage : Usage) → round_asked words ≡ None
-    → (usage ≡ RoundUsage → begins_round words ≡ true) → (usage ≡ Commands → begins_round words ≡ false)
+pub usage_acts : (words : List (List ℕ)) (usage : Usage) → wanted_by words ≡ None → usage ≡ usage_of words
     → (acts : List Act) → SaidUsage (usage_text usage) acts → RunsSo words 2 acts
-usage_acts words usage none round commands acts said =
-    subst (λ (o : Option Round). RunsAs o (usage_line words) 2 acts) (sym none)
-    (subst (λ (line : List ℕ). SaidUsage line acts) (usage_is words usage round commands) said)
+usage_acts words usage none is acts said =
+    subst (λ (o : Option Wanted). RunsAs o (usage_line words) 2 acts) (sym none)
+    (subst (λ (u : Usage). SaidUsage (usage_text u) acts) is said)
+
+-- the acts of a run that was asked for this
+pub acts_if_asked : (words : List (List ℕ)) {wanted : Wanted} (status : ℕ) → wanted_by words ≡ Some wanted
+    → (acts : List Act) → RunsAs (Some wanted) (usage_line words) status acts → RunsSo words status acts
+acts_if_asked words status e acts x = subst (λ (o : Option Wanted). RunsAs o (usage_line words) status acts) (sym e) x

@@ -1,9 +1,13 @@
 -- The words of a command.
-use Rattle.std.specs.Prelude.{ℕ, ◌≤◌, Bool, true, false, ◌&&◌, ◌||◌, not, ◌==◌, nat_lt, nat_le, List, [], ◌∷◌, length, map, codes, bytes_eq, Option, Some, None, if◌then◌else◌}
+use Rattle.std.specs.Prelude.{ℕ, ◌≤◌, Bool, true, false, ◌&&◌, ◌||◌, not, ◌==◌, nat_lt, nat_le, List, [], ◌∷◌, length, drop, codes, bytes_eq, IsTrue, Option, Some, None, if◌then◌else◌}
 use Rattle.std.specs.Char.{is_ascii_alphanumeric}
 use Rattle.std.specs.List.{list_all}
 use Rattle.chk_bytes.specs.Words.{is_word}
 use Rattle.chukwa_run.specs.declared.command_words.RoundWords.{RoundWords}
+use Rattle.chukwa_run.specs.declared.command_words.Command.{Command}
+use Rattle.chukwa_run.specs.declared.command_words.Command.TheVariants.{Round as RoundCommand, Salvage as SalvageCommand}
+use Rattle.chukwa_run.specs.declared.command_words.Usage.{Usage}
+use Rattle.chukwa_run.specs.declared.command_words.Usage.TheVariants.{Commands, Round as RoundUsage, Salvage as SalvageUsage}
 
 -- what a round is asked for: the source and the data type of a stream, and the path of its log
 pub record Round : Type 0 where
@@ -41,17 +45,48 @@ is_plain text = is_word text && not (is_option_like text)
 abbrev pub is_round : Round → Bool
 is_round given = is_source given.source && not (is_option_like given.source) && is_plain given.kind && is_plain given.log
 
+-- what a run is asked for: a round, or the salvage of a file
+pub data Asked : Type 0 where
+  Rounds : Round → Asked
+  Salvages : List ℕ → Asked
+
 -- the round, where its words are good
-abbrev pub good_round : Round → Option Round
-good_round given = if is_round given then Some given else None
+abbrev pub good_round : Round → Option Asked
+good_round given = if is_round given then Some (Rounds given) else None
 
--- the round that these words ask for, where they are `round SOURCE TYPE LOG`
-abbrev pub round_asked : List (List ℕ) → Option Round
-round_asked (command ∷ source ∷ kind ∷ log ∷ []) =
-    if bytes_eq command (codes "round") then good_round (record { source = source; kind = kind; log = log }) else None
-round_asked words = None
+-- the round of these words behind the command, where they are `SOURCE TYPE LOG`
+abbrev pub round_by : List (List ℕ) → Option Asked
+round_by (source ∷ kind ∷ log ∷ []) = good_round (record { source = source; kind = kind; log = log })
+round_by words = None
 
--- the first word is the command `round`
-abbrev pub begins_round : List (List ℕ) → Bool
-begins_round [] = false
-begins_round (command ∷ words) = bytes_eq command (codes "round")
+-- the salvage of these words behind the command, where they are `FILE`
+abbrev pub salvage_by : List (List ℕ) → Option Asked
+salvage_by (file ∷ []) = if is_plain file then Some (Salvages file) else None
+salvage_by words = None
+
+-- how the command is used with which the words begin, or all commands
+abbrev pub usage_of : List (List ℕ) → Usage
+usage_of [] = Commands
+usage_of (command ∷ words) =
+    if bytes_eq command (codes "round") then RoundUsage
+    else if bytes_eq command (codes "salvage") then SalvageUsage else Commands
+
+-- what is asked for by these words behind a command that is used so
+abbrev pub asked_by : Usage → List (List ℕ) → Option Asked
+asked_by Commands words = None
+asked_by RoundUsage words = round_by words
+asked_by SalvageUsage words = salvage_by words
+
+-- what these words ask for; nothing where they are used otherwise than the usage lines say
+abbrev pub asked : List (List ℕ) → Option Asked
+asked words = asked_by (usage_of words) (drop 1 words)
+
+-- what borrowed words ask for
+abbrev pub asked_of : Command → Asked
+asked_of (RoundCommand given) = Rounds (round_of given)
+asked_of (SalvageCommand file) = Salvages file.now
+
+-- the words of a round are good
+abbrev pub HasGoodWords : Command → Type 0
+HasGoodWords (RoundCommand given) = IsTrue (is_round (round_of given))
+HasGoodWords (SalvageCommand file) = Unit {0}

@@ -4,4 +4,6 @@ pub mod Lines
 pub mod Rounds
 pub mod Acts
 pub mod Steps
+pub mod Sayings
+pub mod Salvages
 pub mod Runs

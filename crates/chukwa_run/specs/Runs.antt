@@ -1,12 +1,13 @@
 -- What a run does, by its status.
 use Rattle.std.specs.Prelude.{◌≡◌, ◌⊎◌, ℕ, List, [], ◌∷◌, ◌++◌, Option, Some, None, codes}
 use Rattle.chk_site.specs.declared.acts.Act.{Act}
-use Rattle.chk_site.specs.declared.acts.Call.TheVariants.{Say}
 use Rattle.chk_site.specs.History.{Step, History, Every, Others}
-use Rattle.chukwa_run.specs.CommandWords.{Round, round_asked}
+use Rattle.chukwa_run.specs.CommandWords.{Round, Asked, Rounds, Salvages, asked}
 use Rattle.chukwa_run.specs.Lines.{fault_line, fault_status, usage_line}
 use Rattle.chukwa_run.specs.Rounds.{ClosedIsFront, IsForeign, RoundIsWhole, Holds, Anything}
-use Rattle.chukwa_run.specs.Acts.{GoesOn, EndsWith, writer_chukwa}
+use Rattle.chukwa_run.specs.Acts.{GoesOn, EndsWith}
+use Rattle.chukwa_run.specs.Sayings.{ThenSaid, NoActs}
+use Rattle.chukwa_run.specs.Salvages.{SalvageEnds}
 use Rattle.chukwa_run.specs.declared.faults.RunFault.{RunFault}
 
 -- Suppose that each step of others is as supposed, and that before the run the closed sink was a front of the log. Then it is
@@ -17,32 +18,17 @@ pub record StaysFrontBy (given : Round) (status : ℕ) (added history : History)
   pub whole : Others IsForeign added history → ClosedIsFront given.log history → status ≡ 0 → RoundIsWhole given added history
 
 -- the same of the round that was asked for, if one was
-abbrev pub ClosedStaysFront : Option Round → ℕ → History → History → Type 0
-ClosedStaysFront None status added history = Unit {0}
-ClosedStaysFront (Some given) status added history = StaysFrontBy given status added history
+abbrev pub ClosedStaysFront : Option Asked → ℕ → History → History → Type 0
+ClosedStaysFront (Some (Rounds given)) status added history = StaysFrontBy given status added history
+ClosedStaysFront asked status added history = Unit {0}
 
 -- the round is whole where the status is 0
 abbrev pub RoundRuns : Round → History → ℕ → History → Type 0
 RoundRuns given earlier status = Holds given earlier (λ added. status ≡ 0 → RoundIsWhole given added earlier)
 
--- the act says this line as the writer
-pub record IsSaying (line : List ℕ) (act : Act) : Type 0 where
-  pub who : act.who ≡ writer_chukwa
-  pub call : act.call ≡ Say
-  pub words : act.words ≡ line ∷ []
-
--- the acts before and then, where there was memory for it, the saying of this line
-abbrev pub ThenSaid : (List Act → Type 0) → List ℕ → List Act → Type 0
-ThenSaid Before line [] = Before []
-ThenSaid Before line (act ∷ acts) = Before (act ∷ acts) ⊎ (IsSaying line act × Before acts)
-
 -- acts that end with the fault, and the fault's line
 abbrev pub Told : Round → RunFault → List Act → Type 0
 Told given fault = ThenSaid (EndsWith given fault) (fault_line fault)
-
--- no acts
-abbrev pub NoActs : List Act → Type 0
-NoActs acts = acts ≡ []
 
 -- the usage line, and nothing else
 abbrev pub SaidUsage : List ℕ → List Act → Type 0
@@ -54,10 +40,11 @@ EndsSo given status acts =
     ((status ≡ 0) × GoesOn given acts) ⊎ ((fault : RunFault) × (status ≡ fault_status fault) × Told given fault acts)
 
 -- the acts of a run by what was asked for
-abbrev pub RunsAs : Option Round → List ℕ → ℕ → List Act → Type 0
+abbrev pub RunsAs : Option Asked → List ℕ → ℕ → List Act → Type 0
 RunsAs None line status = SaidUsage line
-RunsAs (Some given) line status = EndsSo given status
+RunsAs (Some (Rounds given)) line status = EndsSo given status
+RunsAs (Some (Salvages file)) line status = SalvageEnds file status
 
 -- the acts of a run with these words and this status
 abbrev pub RunsSo : List (List ℕ) → ℕ → List Act → Type 0
-RunsSo words status = RunsAs (round_asked words) (usage_line words) status
+RunsSo words status = RunsAs (asked words) (usage_line words) status

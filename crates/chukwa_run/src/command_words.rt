@@ -1,9 +1,10 @@
 //! The words of a command.
 
-ghost use Rattle.std.specs.Prelude.{◌≡◌, List, ℕ, map, IfOk, IfErr, IsTrue, false, Some, None};
+ghost use Rattle.std.specs.Prelude.{◌≡◌, ◌≢◌, ◌<◌, List, ℕ, map, length, IfOk, IfErr, Some, None};
 ghost use Rattle.std.specs.List.{list_all};
 ghost use Rattle.chk_bytes.specs.Words.{is_word};
-ghost use Rattle.chukwa_run.specs.CommandWords.{round_of, round_asked, begins_round, is_source, is_source_byte, is_option_like, is_plain, is_round};
+ghost use Rattle.chukwa_run.specs.CommandWords.{round_of, asked, asked_of, round_by, salvage_by, usage_of, HasGoodWords};
+ghost use Rattle.chukwa_run.specs.CommandWords.{is_source, is_source_byte, is_option_like, is_plain, is_round};
 
 use chk_bytes::word_fault;
 
@@ -18,6 +19,15 @@ pub struct RoundWords<'a> {
     pub log: &'a str,
 }
 
+/// What the words ask for.
+#[derive(Clone, Copy, Debug, PartialEq, Eq)]
+pub enum Command<'a> {
+    /// `round SOURCE TYPE LOG`.
+    Round(RoundWords<'a>),
+    /// `salvage FILE`.
+    Salvage(&'a str),
+}
+
 /// Which usage line tells what the words should have been.
 #[derive(Clone, Copy, Debug, PartialEq, Eq)]
 pub enum Usage {
@@ -25,27 +35,49 @@ pub enum Usage {
     Commands,
     /// That of `round`.
     Round,
+    /// That of `salvage`.
+    Salvage,
 }
 
 /// Reads the words behind the program's name. A word that begins with `-`, but for the lone `-`, is refused.
-pub fn read_words<'a>(words: &'a [&'a str]) -> Result<RoundWords<'a>, Usage>
-    ensures taken { IfOk result (λ given. round_asked (map (λ w. w.now) words.now) ≡ Some (round_of given)) }
-    ensures good { IfOk result (λ given. IsTrue (is_round (round_of given))) }
-    ensures refused { IfErr result (λ usage. round_asked (map (λ w. w.now) words.now) ≡ None) }
-    ensures usage { result ≡ Err Usage.Round → IsTrue (begins_round (map (λ w. w.now) words.now)) }
-    ensures commands { result ≡ Err Usage.Commands → begins_round (map (λ w. w.now) words.now) ≡ false }
+pub fn read_words<'a>(words: &'a [&'a str]) -> Result<Command<'a>, Usage>
+    ensures taken { IfOk result (λ command. asked (map (λ w. w.now) words.now) ≡ Some (asked_of command)) }
+    ensures good { IfOk result (λ command. HasGoodWords command) }
+    ensures refused { IfErr result (λ _. asked (map (λ w. w.now) words.now) ≡ None) }
+    ensures usage { IfErr result (λ usage. usage ≡ usage_of (map (λ w. w.now) words.now)) }
 {
-    if !begins_round(words) {
-        return Err(Usage::Commands);
+    match usage_of(words) {
+        Usage::Commands => Err(Usage::Commands),
+        Usage::Round => read_round(&words[1..]),
+        Usage::Salvage => read_salvage(&words[1..]),
     }
-    if words.len() != 4 {
+}
+
+// How the command is used with which the words begin.
+fn usage_of(words: &[&str]) -> Usage
+    ensures usage { result ≡ usage_of (map (λ w. w.now) words.now) }
+    ensures some { result ≢ Usage.Commands → 0 < length words.now }
+{
+    match words {
+        [first, ..] if *first == "round" => Usage::Round,
+        [first, ..] if *first == "salvage" => Usage::Salvage,
+        _ => Usage::Commands,
+    }
+}
+
+fn read_round<'a>(words: &'a [&'a str]) -> Result<Command<'a>, Usage>
+    ensures taken { IfOk result (λ command. round_by (map (λ w. w.now) words.now) ≡ Some (asked_of command)) }
+    ensures good { IfOk result (λ command. HasGoodWords command) }
+    ensures refused { IfErr result (λ usage. (round_by (map (λ w. w.now) words.now) ≡ None) × (usage ≡ Usage.Round)) }
+{
+    if words.len() != 3 {
         return Err(Usage::Round);
     }
     match words {
-        [_, source, kind, log] => {
+        [source, kind, log] => {
             let given = RoundWords { source, kind, log };
             if is_round(&given) {
-                Ok(given)
+                Ok(Command::Round(given))
             } else {
                 Err(Usage::Round)
             }
@@ -54,12 +86,14 @@ pub fn read_words<'a>(words: &'a [&'a str]) -> Result<RoundWords<'a>, Usage>
     }
 }
 
-fn begins_round(words: &[&str]) -> bool
-    ensures { result ≡ begins_round (map (λ w. w.now) words.now) }
+fn read_salvage<'a>(words: &'a [&'a str]) -> Result<Command<'a>, Usage>
+    ensures taken { IfOk result (λ command. salvage_by (map (λ w. w.now) words.now) ≡ Some (asked_of command)) }
+    ensures good { IfOk result (λ command. HasGoodWords command) }
+    ensures refused { IfErr result (λ usage. (salvage_by (map (λ w. w.now) words.now) ≡ None) × (usage ≡ Usage.Salvage)) }
 {
     match words {
-        [first, ..] => *first == "round",
-        [] => false,
+        [file] if is_plain(file) => Ok(Command::Salvage(file)),
+        _ => Err(Usage::Salvage),
     }
 }
 

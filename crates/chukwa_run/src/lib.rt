@@ -6,5 +6,7 @@ mod faults;
 mod lines;
 mod round;
 mod runs;
+mod salvaging;
+mod saying;
 
 pub use runs::run;

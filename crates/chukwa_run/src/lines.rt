@@ -2,12 +2,14 @@
 
 ghost use Rattle.std.specs.Prelude.{◌≡◌, IfOk};
 ghost use Rattle.chukwa_run.specs.CommandWords.{round_of};
-ghost use Rattle.chukwa_run.specs.Lines.{stream_line, fault_line, outside_line, usage_text};
+ghost use Rattle.chukwa_run.specs.Lines.{stream_line, fault_line, outside_line, salvage_fault_line, usage_text};
+ghost use Rattle.chukwa_salvage.specs.declared.fault.SalvageFault.TheVariants.{Damaged};
 
 use crate::command_words::{RoundWords, Usage};
 use crate::faults::RunFault;
 use chk_bytes::{Bytes, NoMemory, put_decimal};
 use chk_site::Call;
+use chukwa_salvage::SalvageFault;
 use std::alloc::Global;
 
 /// The line that names a stream and the offset up to which it was read.
@@ -49,14 +51,36 @@ fn outside_line(alloc: Global, call: Call) -> Result<Bytes, NoMemory>
     Ok(line)
 }
 
+/// The line that says why a file wasn't printed whole.
+pub fn salvage_fault_line(alloc: Global, file: &str, fault: SalvageFault) -> Result<Bytes, NoMemory>
+    ensures { IfOk result (λ line. line ≡ salvage_fault_line file.now fault) }
+{
+    match fault {
+        SalvageFault::Outside { call } => outside_line(alloc, call),
+        SalvageFault::NoMemory => Bytes::from_slice(alloc, b"out of memory\n".as_slice()),
+        SalvageFault::Damaged => damaged_line(alloc, file),
+    }
+}
+
+fn damaged_line(alloc: Global, file: &str) -> Result<Bytes, NoMemory>
+    ensures { IfOk result (λ line. line ≡ salvage_fault_line file.now Damaged) }
+{
+    let mut line = Bytes::new(alloc);
+    line.push_all(b"damaged ".as_slice())?;
+    line.push_all(file.as_bytes())?;
+    line.push_all(b" 0\n".as_slice())?;
+    Ok(line)
+}
+
 /// The line that tells how the words should have been.
 pub fn usage_line(alloc: Global, usage: Usage) -> Result<Bytes, NoMemory>
     ensures { IfOk result (λ line. line ≡ usage_text usage) }
 {
     match usage {
-        Usage::Commands => Bytes::from_slice(alloc, b"usage: chukwa round\n".as_slice()),
+        Usage::Commands => Bytes::from_slice(alloc, b"usage: chukwa round|salvage\n".as_slice()),
         Usage::Round => {
             Bytes::from_slice(alloc, b"usage: chukwa round SOURCE TYPE LOG\n".as_slice())
         }
+        Usage::Salvage => Bytes::from_slice(alloc, b"usage: chukwa salvage FILE\n".as_slice()),
     }
 }

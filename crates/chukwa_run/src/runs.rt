@@ -4,37 +4,47 @@ ghost use Rattle.std.specs.Prelude.{◌≡◌, ◌≢◌, ◌↔◌, ◌≤◌, 
 ghost use Rattle.chk_site.specs.History.{History};
 ghost use Rattle.chk_site.specs.Site.{Adds, Rose};
 ghost use Rattle.chk_site.specs.Runs.{Leads};
-ghost use Rattle.chukwa_run.specs.CommandWords.{round_of, round_asked, is_round};
+ghost use Rattle.chukwa_run.specs.CommandWords.{round_of, asked, is_round};
 ghost use Rattle.chukwa_run.specs.Rounds.{IsForeign, Holds, Anything};
-ghost use Rattle.chukwa_run.specs.Acts.{Anyone, ActedSo, EndsWith, writer_chukwa};
+ghost use Rattle.chukwa_run.specs.Acts.{Anyone, ActedSo, EndsWith};
+ghost use Rattle.chukwa_run.specs.Sayings.{NoActs};
+ghost use Rattle.chukwa_run.specs.Salvages.{SalvagePrints};
 ghost use Rattle.chukwa_run.specs.Lines.{usage_text};
-ghost use Rattle.chukwa_run.specs.Runs.{ClosedStaysFront, RunsSo, RoundRuns, EndsSo, Told, NoActs, SaidUsage};
+ghost use Rattle.chukwa_run.specs.Runs.{ClosedStaysFront, RunsSo, RoundRuns, EndsSo, Told, SaidUsage};
 
-use crate::command_words::{RoundWords, Usage, read_words};
+use crate::command_words::{Command, RoundWords, Usage, read_words};
 use crate::faults::RunFault;
 use crate::lines::{fault_line, usage_line};
 use crate::round::round;
-use chk_bytes::{NoMemory, Word};
-use chk_site::{Role, Site, Who};
+use crate::salvaging::run_salvage;
+use crate::saying::writer;
+use chk_site::Site;
 use std::alloc::Global;
 
 /// Runs the command that the words behind the program's name ask for, and answers the status with which the program
-/// ends: 0 where the round is whole, 2 where the words ask for nothing, 3 where a call on the outside failed, 4 for want
-/// of memory, and 10 where the log has more than 131,072 bytes or the sink is there already. Each status but 0 has a line
-/// on standard output; where that can't be printed, the status stays.
+/// ends: 0 where all was done, 2 where the words ask for nothing, 3 where a call on the outside failed, 4 for want of
+/// memory, 5 where the header of the file is refused, and 10 where the log has more than 131,072 bytes or the sink is there
+/// already. Each status but 0 has a line on standard output; where that can't be printed, the status stays.
 ///
 /// `round SOURCE TYPE LOG` reads LOG once, writes what it read as one chunk into `sinks/c1.1.1.done`, a SequenceFile of
 /// version 6, and prints `stream SOURCE TYPE LOG <bytes>`. An empty log makes no sink.
+///
+/// `salvage FILE` reads the SequenceFile FILE whole into memory, and prints a line `entry <at> <end> <source> <type> <name> <seq>`
+/// for each record of a chunk, `other <at> <end>` for any other one, and `skipped <begin> <end>` for what can't be read. A
+/// file that isn't there counts as empty, and its header is refused.
 pub fn run<'a, S: Site>(alloc: Global, site: &mut S, words: &'a [&'a str]) -> u8
-    ensures usage { (result ≡ 2) ↔ (round_asked (map (λ w. w.now) words.now) ≡ None) }
+    ensures usage { (result ≡ 2) ↔ (asked (map (λ w. w.now) words.now) ≡ None) }
     ensures closed_stays_front { Adds (S.told site.old) (S.told site.new)
-        (ClosedStaysFront (round_asked (map (λ w. w.now) words.now)) result) }
+        (ClosedStaysFront (asked (map (λ w. w.now) words.now)) result) }
+    ensures salvage_prints { Adds (S.told site.old) (S.told site.new)
+        (SalvagePrints (asked (map (λ w. w.now) words.now)) result) }
     ensures acts { (earlier : History) → Adds (S.told site.old) (S.told site.new)
         (Leads Anyone (ActedSo earlier NoActs) (ActedSo earlier (RunsSo (map (λ w. w.now) words.now) result))) }
     ensures outside_cause { result ≡ 3 → Rose (S.fault_count site.old) (S.fault_count site.new) }
 {
     match read_words(words) {
-        Ok(given) => run_round(alloc, site, &given),
+        Ok(Command::Round(given)) => run_round(alloc, site, &given),
+        Ok(Command::Salvage(file)) => run_salvage(alloc, site, file),
         Err(usage) => {
             say_usage(alloc, site, usage);
             2
@@ -58,15 +68,6 @@ fn run_round<S: Site>(alloc: Global, site: &mut S, given: &RoundWords<'_>) -> u8
             fault.status()
         }
     }
-}
-
-fn writer(alloc: Global) -> Result<Who, NoMemory>
-    ensures { IfOk result (λ who. who ≡ writer_chukwa) }
-{
-    Ok(Who {
-        role: Role::Writer,
-        name: Word::from_text(alloc, "chukwa")?,
-    })
 }
 
 // Prints the fault's line, where there is memory for it.

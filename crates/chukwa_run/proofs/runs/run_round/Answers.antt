@@ -2,7 +2,8 @@ use Rattle.std.proofs.Common.{inl, inr, refl}
 use Rattle.chk_site.proofs.Leads.{leads_then, leads_as}
 use Rattle.chukwa_run.specs.CommandWords.{round_of}
 use Rattle.chukwa_run.specs.Acts.{GoesOn}
-use Rattle.chukwa_run.specs.Runs.{NoActs, EndsSo, Told}
+use Rattle.chukwa_run.specs.Sayings.{NoActs}
+use Rattle.chukwa_run.specs.Runs.{EndsSo, Told}
 use Rattle.chukwa_run.proofs.ActsCalls.{acts_as}
 use Rattle.chukwa_run.proofs.Said.{at_first, whole_at_zero, not_zero}
 use Rattle.chukwa_run.proofs.runs.run_round.Goals as goal

@@ -1,5 +1,5 @@
 use Rattle.std.proofs.Common.{◌∙◌}
-use Rattle.chukwa_run.specs.Runs.{NoActs}
+use Rattle.chukwa_run.specs.Sayings.{NoActs}
 use Rattle.chukwa_run.specs.Lines.{usage_text}
 use Rattle.chukwa_run.proofs.Said.{say_acts, said_as}
 use Rattle.chukwa_run.proofs.runs.say_usage.Goals as goal

@@ -1,0 +1,4 @@
+pub mod LineSizes
+pub mod Texts
+pub mod Printed
+pub mod Salvaged
