@@ -12,7 +12,7 @@ const OPEN: &str = "sinks/c1.1.1.chukwa";
 const CLOSED: &str = "sinks/c1.1.1.done";
 
 // The header of the stem c1.1.1, by hand: 96 bytes, the last 16 its MD5.
-const HEADER: &[u8; 96] =
+pub const HEADER: &[u8; 96] =
     b"SEQ\x06\x22org.apache.hadoop.io.BytesWritable\x22org.apache.hadoop.io.BytesWritable\0\0\0\0\0\0\x0a\xf0\x97\x25\xe9\x50\xf7\x0f\x42\xf5\x31\xed\xf6\x35\xb2\x40";
 
 // The record of the chunk `hello\n`, by hand: 48 bytes.
@@ -20,18 +20,18 @@ const RECORD: &[u8; 48] =
     b"\0\0\0\x28\0\0\0\x1e\0\0\0\x1a\x01\0\0\0\0\0\0\0\x06\0\x02h1\0\x03Log\0\x06/a.log\0\0\0\x06hello\n";
 
 #[derive(Drop)]
-struct Ran {
-    status: u8,
-    site: SiteMem,
+pub struct Ran {
+    pub status: u8,
+    pub site: SiteMem,
 }
 
-fn run_on(alloc: Global, script: Script, words: &[&str]) -> Result<Ran, Fail> {
+pub fn run_on(alloc: Global, script: Script, words: &[&str]) -> Result<Ran, Fail> {
     let mut site = SiteMem::new(alloc, script)?;
     let status = run(alloc, &mut site, words);
     Ok(Ran { status, site })
 }
 
-fn printed<R: Abort>(
+pub fn printed<R: Abort>(
     rt: &R,
     alloc: Global,
     done: &Ran,
@@ -99,19 +99,25 @@ fn not_built(rt: HostRuntime) -> Result<(), Fail> {
 #[test]
 fn usage(rt: HostRuntime) -> Result<(), Fail> {
     let alloc = rt.alloc();
-    let none = run_on(alloc, quiet(alloc), &[])?;
-    printed(&rt, alloc, &none, 2, "usage: chukwa round\n")?;
-    let few = run_on(alloc, quiet(alloc), &["round", "h1", "Log"])?;
-    printed(&rt, alloc, &few, 2, "usage: chukwa round SOURCE TYPE LOG\n")?;
-    let option = run_on(alloc, quiet(alloc), &["round", "h1", "-x", "/a.log"])?;
-    printed(
-        &rt,
-        alloc,
-        &option,
-        2,
-        "usage: chukwa round SOURCE TYPE LOG\n",
-    )?;
-    assert_eq!(rt; option.site.acts().len(), 1);
+    let cases: [(&[&str], &str); 6] = [
+        (&[], "usage: chukwa round|salvage\n"),
+        (
+            &["round", "h1", "Log"],
+            "usage: chukwa round SOURCE TYPE LOG\n",
+        ),
+        (
+            &["round", "h1", "-x", "/a.log"],
+            "usage: chukwa round SOURCE TYPE LOG\n",
+        ),
+        (&["salvage"], "usage: chukwa salvage FILE\n"),
+        (&["salvage", "f", "g"], "usage: chukwa salvage FILE\n"),
+        (&["salvage", "-f"], "usage: chukwa salvage FILE\n"),
+    ];
+    for (words, line) in cases {
+        let done = run_on(alloc, quiet(alloc), words)?;
+        printed(&rt, alloc, &done, 2, line)?;
+        assert_eq!(rt; done.site.acts().len(), 1, "{line}");
+    }
     Ok(())
 }
 

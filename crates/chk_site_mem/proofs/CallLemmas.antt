@@ -1,7 +1,5 @@
 -- What a call adds to the history.
 use Rattle.std.proofs.Common.{◌≡◌, inl, inr, ℕ, Bool, true, false, List, [], ◌∷◌, ◌++◌, Option, Some, Result, Ok, Err, refl, sym, ◌∙◌, ap, subst}
-use Rattle.std.specs.Prelude.{if◌then◌else◌}
-use Rattle.std.specs.Bool.{OnTrue}
 use Rattle.std.proofs.lemmas.Bool.{false≢true}
 use Rattle.chk_site.specs.declared.acts.Act.{Act}
 use Rattle.chk_site.specs.declared.lists.Left.{Left}
@@ -15,70 +13,13 @@ use Rattle.chk_site.specs.declared.acts.Who.{Who}
 use Rattle.chk_site.specs.History.{Step, History, Every, IsTheirs, Modelled, files_after, is_stopped}
 use Rattle.chk_site.specs.Honest.{Honest, Agrees}
 use Rattle.chk_site.specs.Site.{Adds, Asked, own_step, answered, Acted, Added, Calls, CallsSome}
-use Rattle.chk_site_mem.specs.declared.plan.Planned.{Planned}
-use Rattle.chk_site_mem.specs.Told.{Kept, kept_as, step_of, told_of, fitted, fitted_answer, with_answer}
-use Rattle.chk_site_mem.specs.Plans.{Plans, act_of, planned_as, TheirsSince, GoesOn, Becomes, Begins}
+use Rattle.chk_answers.specs.declared.plan.Planned.{Planned}
+use Rattle.chk_kept.specs.Told.{with_answer}
+use Rattle.chk_answers.specs.Plans.{Plans, act_of, planned_as}
+use Rattle.chk_kept.specs.Going.{TheirsSince, GoesOn}
+use Rattle.chk_site_mem.specs.Begun.{Becomes, Begins}
 use Rattle.chk_site.proofs.Runs.{adds_as}
 use Rattle.chk_site.proofs.Leads.{theirs_run}
-use Rattle.chk_site_mem.proofs.KeepLemmas.{told_push}
-
--- others did nothing yet
-pub theirs_none : (history : History) → TheirsSince history history
-theirs_none history = record { added = []; goes_on = refl; theirs = tt }
-
--- one act more of others
-pub theirs_one : (start : History) (kept : List Kept) (act : Act) → TheirsSince start (told_of kept)
-    → Modelled (told_of kept) (step_of (told_of kept) (kept_as false act))
-    → TheirsSince start (told_of (kept ++ kept_as false act ∷ []))
-theirs_one start kept act since modelled =
-    let now = told_of kept in
-    let step = step_of now (kept_as false act) in
-    record {
-      added = step ∷ since.added;
-      goes_on = told_push kept (kept_as false act) ∙ ap (λ h. step ∷ h) since.goes_on;
-      theirs = (since.theirs, subst (λ (h : History). IsTheirs h step) since.goes_on (refl, modelled));
-    }
-
--- the same, where the act may be left out
-pub theirs_kept : (start : History) (old new : List Kept) (act : Act) (kept : Bool) → TheirsSince start (told_of old)
-    → new ≡ (if kept then old ++ kept_as false (fitted (files_after (told_of old)) act) ∷ [] else old)
-    → OnTrue kept (Modelled (told_of old) (step_of (told_of old) (kept_as false (fitted (files_after (told_of old)) act))))
-    → TheirsSince start (told_of new)
-theirs_kept start old new act true since is modelled =
-    subst (λ (k : List Kept). TheirsSince start (told_of k)) (sym is)
-    (theirs_one start old (fitted (files_after (told_of old)) act) since modelled)
-theirs_kept start old new act false since is modelled =
-    subst (λ (k : List Kept). TheirsSince start (told_of k)) (sym is) since
-
--- without memory nothing was added
-pub theirs_unmade : (start : History) (old new : List Kept) → TheirsSince start (told_of old) → new ≡ old → TheirsSince start (told_of new)
-theirs_unmade start old new since is = subst (λ (k : List Kept). TheirsSince start (told_of k)) (sym is) since
-
--- one own act more
-pub goes_kept : (old new : List Kept) (act : Act) (kept : Bool) → kept ≡ true
-    → new ≡ (if kept then old ++ kept_as true (fitted (files_after (told_of old)) act) ∷ [] else old)
-    → OnTrue kept (Modelled (told_of old) (step_of (told_of old) (kept_as true (fitted (files_after (told_of old)) act))))
-    → GoesOn (fitted (files_after (told_of old)) act) (told_of old) (told_of new)
-goes_kept old new act true kept_so is modelled =
-    let one = kept_as true (fitted (files_after (told_of old)) act) in
-    record {
-      files = (step_of (told_of old) one).files;
-      logs = (step_of (told_of old) one).logs;
-      goes_on = ap told_of is ∙ told_push old one;
-      modelled = modelled;
-    }
-goes_kept old new act false kept_so is modelled = absurd (false≢true kept_so)
-
--- an act that is no stop has nothing to cut
-pub fitted_runs : (files : Files) (act : Act) → is_stop act.answer ≡ false → fitted files act ≡ act
-fitted_runs files act runs = ap (with_answer act) (by act.answer runs)
-  where
-    by : (answer : ActAnswer) → is_stop answer ≡ false → fitted_answer (deed act) files answer ≡ answer
-    by (Done words number of) runs = refl
-    by (Refused fault) runs = refl
-    by (Stopped left) runs = absurd (cc)
-    by (Rotated suffix) runs = refl
-    by (Deleted suffix) runs = refl
 
 -- a call that failed or was stopped agrees with the history too
 pub agrees_failed : (history : History) (who : Who) (call : Deed) (answer : ActAnswer) → Agrees history who call answer

@@ -1,9 +1,3 @@
-pub mod Told
+pub mod Begun
+pub mod Lossless
 pub mod Printed
-pub mod Room
-pub mod Named
-pub mod Stored
-pub mod Reads
-pub mod Changes
-pub mod Plans
-pub mod Keeping

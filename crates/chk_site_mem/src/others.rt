@@ -1,9 +1,9 @@
 // The acts of others that a script has in store.
-ghost use Rattle.chk_site_mem.specs.Plans.{TheirsSince};
-ghost use Rattle.chk_site_mem.specs.Told.{told_of};
+ghost use Rattle.chk_kept.specs.Going.{TheirsSince};
+ghost use Rattle.chk_kept.specs.Told.{told_of};
 
-use crate::keeper::Keeper;
 use chk_bytes::NoMemory;
+use chk_kept::Keeper;
 use chk_site::Other;
 use std::alloc::Global;
 

@@ -2,8 +2,8 @@
 ghost use Rattle.std.specs.Prelude.{◌≡◌, IfOk};
 ghost use Rattle.chk_site_mem.specs.Printed.{said_in, printed_of};
 
-use crate::changes::first;
 use chk_bytes::{Bytes, NoMemory};
+use chk_kept::first;
 use chk_site::{Act, ActAnswer, Call};
 use std::alloc::Global;
 

@@ -1,22 +1,23 @@
 // A site in memory where no call fails.
 ghost use Rattle.std.specs.Prelude.{◌≡◌, [], option_map, Some, IfOk, false};
-ghost use Rattle.chk_site.specs.Acts.{is_stop};
+ghost use Rattle.chk_site.specs.Acts.{deed, is_stop};
 ghost use Rattle.chk_site.specs.History.{files_after};
 ghost use Rattle.chk_site.specs.Site.{Adds, Calls, CallsSome, answered, CauseOf};
-ghost use Rattle.chk_site_mem.specs.Plans.{Becomes, Begins};
+ghost use Rattle.chk_answers.specs.Plans.{LosesNothing};
+ghost use Rattle.chk_site_mem.specs.Lossless.{NothingLost};
+ghost use Rattle.chk_site_mem.specs.Begun.{Becomes, Begins};
 ghost use Rattle.chk_site_mem.specs.Printed.{printed_of};
-ghost use Rattle.chk_site_mem.specs.Reads.{text_at};
-ghost use Rattle.chk_site_mem.specs.Told.{acts_of, told_of};
+ghost use Rattle.chk_kept.specs.Reads.{text_at};
+ghost use Rattle.chk_kept.specs.Told.{acts_of, told_of};
 
-use crate::file_calls::{Append, Create, Cut, Read, Remove, Rename, Size, Sync};
-use crate::keeper::Keeper;
-use crate::log_calls::{LogAppend, LogNewest, LogRead};
-use crate::message_calls::{Answer, Got, More, Send, Take};
 use crate::others::Others;
-use crate::plain_calls::{Clock, List, Pause, Say, Start};
-use crate::plan::{Numbered, Question};
 use crate::printing::printed;
+use chk_answers::{
+    Answer, Append, Clock, Create, Cut, Got, List, LogAppend, LogNewest, LogRead, More, Numbered,
+    Pause, Question, Read, Remove, Rename, Say, Send, Size, Start, Sync, Take,
+};
 use chk_bytes::{Bytes, NoMemory, Word};
+use chk_kept::Keeper;
 use chk_site::{Act, CallFault, Other, Part, Piece, Site, Suffix, Taking, Who};
 use std::alloc::Global;
 use std::marker::Model;
@@ -31,16 +32,18 @@ pub struct SiteClean {
 
 impl Model for SiteClean {
     ghost use Rattle.std.specs.Prelude.{◌≡◌, List, false};
-    ghost use Rattle.chk_site_mem.specs.Told.{Kept};
+    ghost use Rattle.chk_kept.specs.Told.{Kept};
 
     ghost Value = { List Kept };
 
     ghost use Rattle.chk_site.specs.History.{is_stopped};
-    ghost use Rattle.chk_site_mem.specs.Told.{told_of};
+    ghost use Rattle.chk_kept.specs.Told.{told_of};
 
     ghost view = { λ s. s.keeper };
 
-    ghost invariant = { λ s. is_stopped (told_of s.keeper) ≡ false };
+    ghost use Rattle.chk_site_mem.specs.Lossless.{NothingLost};
+
+    ghost invariant = { λ s. (is_stopped (told_of s.keeper) ≡ false) × NothingLost (told_of s.keeper) };
 }
 
 impl SiteClean {
@@ -49,7 +52,7 @@ impl SiteClean {
         ensures { IfOk result (λ site. site ≡ []) }
     {
         Ok(SiteClean {
-            keeper: Keeper::new(alloc),
+            keeper: Keeper::new(alloc, Vec::new(alloc)),
             others: Others::new(others),
             calls: 0,
         })
@@ -57,7 +60,8 @@ impl SiteClean {
 
     /// All acts so far, the oldest first.
     pub fn acts(&self) -> &[Act]
-        ensures { result.now ≡ acts_of self.now }
+        ensures acts { result.now ≡ acts_of self.now }
+        ensures lossless { NothingLost (told_of self.now) }
     {
         self.keeper.acts()
     }
@@ -117,7 +121,8 @@ impl SiteClean {
     }
 
     fn make(&mut self, alloc: Global, act: Act) -> Result<(), CallFault>
-        requires { is_stop act.answer ≡ false }
+        requires runs { is_stop act.answer ≡ false }
+        requires loses { LosesNothing (told_of self.old) act.who (deed act) act.answer }
         ensures becomes { Becomes act result (told_of self.old) (told_of self.new) }
         ensures cause { CauseOf 0 0 result }
     {
@@ -128,7 +133,7 @@ impl SiteClean {
 
 impl Site for SiteClean {
     ghost use Rattle.std.specs.Prelude.{Some};
-    ghost use Rattle.chk_site_mem.specs.Told.{told_of};
+    ghost use Rattle.chk_kept.specs.Told.{told_of};
 
     ghost told = { λ s. Some (told_of s) };
 

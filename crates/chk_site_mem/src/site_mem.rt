@@ -1,23 +1,23 @@
 // A site in memory, with the failures and the stop of a script.
 ghost use Rattle.std.specs.Prelude.{◌≡◌, [], map, option_map, Some, IfOk, false};
-ghost use Rattle.chk_site.specs.Acts.{is_stop};
+ghost use Rattle.chk_site.specs.Acts.{deed, is_stop};
 ghost use Rattle.chk_site.specs.History.{files_after};
 ghost use Rattle.chk_site.specs.Site.{Adds, Calls, CallsSome, answered, CauseOf};
-ghost use Rattle.chk_site_mem.specs.Plans.{Becomes, Begins};
+ghost use Rattle.chk_answers.specs.Plans.{LosesNothing};
+ghost use Rattle.chk_site_mem.specs.Lossless.{NothingLost};
+ghost use Rattle.chk_site_mem.specs.Begun.{Becomes, Begins};
 ghost use Rattle.chk_site_mem.specs.Printed.{printed_of};
-ghost use Rattle.chk_site_mem.specs.Reads.{text_at};
-ghost use Rattle.chk_site_mem.specs.Told.{acts_of, disowned, told_of};
+ghost use Rattle.chk_kept.specs.Reads.{text_at};
+ghost use Rattle.chk_kept.specs.Told.{acts_of, disowned, told_of};
 
-use crate::effects::answering;
-use crate::file_calls::{Append, Create, Cut, Read, Remove, Rename, Size, Sync};
-use crate::keeper::Keeper;
-use crate::log_calls::{LogAppend, LogNewest, LogRead};
-use crate::message_calls::{Answer, Got, More, Send, Take};
 use crate::others::Others;
-use crate::plain_calls::{Clock, List, Pause, Say, Start};
-use crate::plan::{Numbered, Question};
 use crate::printing::printed;
+use chk_answers::{
+    Answer, Append, Clock, Create, Cut, Got, List, LogAppend, LogNewest, LogRead, More, Numbered,
+    Pause, Question, Read, Remove, Rename, Say, Send, Size, Start, Sync, Take,
+};
 use chk_bytes::{Bytes, NoMemory, Word};
+use chk_kept::{Keeper, answering};
 use chk_site::{
     Act, ActAnswer, CallFault, Lefts, Part, Piece, Script, Site, StopAt, Suffix, Taking, Who,
 };
@@ -30,18 +30,22 @@ pub struct SiteMem {
     keeper: Keeper,
     others: Others,
     failing: Vec<u64>,
-    again: Vec<u64>,
     stop: Option<StopAt>,
     calls: u64,
     faults: u64,
 }
 
 impl Model for SiteMem {
-    ghost use Rattle.chk_site_mem.specs.Told.{Memory};
+    ghost use Rattle.chk_kept.specs.Told.{Memory};
 
     ghost Value = { Memory };
 
+    ghost use Rattle.chk_kept.specs.Told.{told_of};
+    ghost use Rattle.chk_site_mem.specs.Lossless.{NothingLost};
+
     ghost view = { λ s. record { kept = s.keeper; faults = s.faults } };
+
+    ghost invariant = { λ s. NothingLost (told_of s.keeper) };
 }
 
 // How a call comes out by the script.
@@ -65,10 +69,9 @@ impl SiteMem {
             stop,
         } = script;
         Ok(SiteMem {
-            keeper: Keeper::new(alloc),
+            keeper: Keeper::new(alloc, again),
             others: Others::new(others),
             failing,
-            again,
             stop,
             calls: 0,
             faults: 0,
@@ -86,17 +89,17 @@ impl SiteMem {
             again,
             stop,
         } = script;
-        self.keeper.disown();
+        self.keeper.disown(again);
         self.others = Others::new(others);
         self.failing = failing;
-        self.again = again;
         self.stop = stop;
         self.calls = 0;
     }
 
     /// All acts so far, the oldest first.
     pub fn acts(&self) -> &[Act]
-        ensures { result.now ≡ acts_of self.now.kept }
+        ensures acts { result.now ≡ acts_of self.now.kept }
+        ensures lossless { NothingLost (told_of self.now.kept) }
     {
         self.keeper.acts()
     }
@@ -161,7 +164,8 @@ impl SiteMem {
 
     // The act happens, unless the script has it fail or stop.
     fn make(&mut self, alloc: Global, act: Act) -> Result<(), CallFault>
-        requires { is_stop act.answer ≡ false }
+        requires runs { is_stop act.answer ≡ false }
+        requires loses { LosesNothing (told_of self.old.kept) act.who (deed act) act.answer }
         ensures becomes { Becomes act result (told_of self.old.kept) (told_of self.new.kept) }
         ensures cause { CauseOf self.old.faults self.new.faults result }
     {
@@ -199,7 +203,7 @@ impl SiteMem {
 
 impl Site for SiteMem {
     ghost use Rattle.std.specs.Prelude.{Some};
-    ghost use Rattle.chk_site_mem.specs.Told.{told_of};
+    ghost use Rattle.chk_kept.specs.Told.{told_of};
 
     ghost told = { λ s. Some (told_of s.kept) };
 

@@ -22,13 +22,13 @@ pub fn make_folders<R: Files>(rt: &R) -> u64
     faults
 }
 
-// A folder that was made stays after a stop of the machine.
+// A folder that was made stays after a stop of the machine. Another process may make it first.
 fn make_folder<R: Files>(rt: &R, folder: &str) -> io::Result<()> {
-    if is_folder(rt, folder) {
-        return Ok(());
+    match fs::create_dir(rt, folder) {
+        Ok(()) => sync_folder(rt, folder),
+        Err(_) if is_folder(rt, folder) => Ok(()),
+        Err(error) => Err(error),
     }
-    fs::create_dir(rt, folder)?;
-    sync_folder(rt, folder)
 }
 
 /// There is a folder of this name.

@@ -196,6 +196,11 @@ impl<R: Files> Host<R> {
         Ok(Some(Kept::new(kept_name, file)))
     }
 
+    /// Closes the file that was read last, where it is kept.
+    pub fn stop_reading(&mut self) {
+        self.reading = None;
+    }
+
     // Closes the file of this name.
     fn forget(&mut self, name: &str) {
         if is_named(&self.writing, name) {

@@ -11,3 +11,6 @@ mod names;
 mod site_real;
 
 pub use site_real::SiteReal;
+
+#[cfg(test)]
+mod tests;

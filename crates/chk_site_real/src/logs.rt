@@ -69,7 +69,8 @@ impl<R: Files> Host<R> {
         }
     }
 
-    // A base file that isn't there has no byte.
+    // A base file that isn't there has no byte. It is opened anew each time, since what was the base
+    // file may be a rotated generation now.
     fn read_base(
         &mut self,
         alloc: Global,
@@ -80,6 +81,7 @@ impl<R: Files> Host<R> {
         ensures most { IfOk result (λ bytes. length bytes ≤ max) }
         ensures only { MayBeShort result }
     {
+        self.stop_reading();
         match self.read_found(alloc, path, at, max)? {
             Some(bytes) => Ok(bytes),
             None if at == 0 => Ok(Bytes::new(alloc)),

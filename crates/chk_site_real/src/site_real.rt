@@ -15,7 +15,20 @@ use std::rt::Files;
 use std::thread;
 use std::time::{Clock, Duration};
 
-/// The files below the current folder, standard output, the clock and the network.
+/// The outside as the machine has it. It tells no history, and counts the calls that failed.
+///
+/// Files are named from the current folder, with or without a folder before the name; logs by their
+/// paths. What was made, renamed, removed or cut is so after a stop of the machine too, and what was
+/// appended once it is synced. To append to, sync, rename or cut a file that isn't there fails; only
+/// `remove`, `size` and `read` answer `Missing`, and they fail too where the file's folder isn't
+/// there. A read asks the machine for 131,072 bytes at a time. At most two files are open, the one
+/// written last and the one read last.
+///
+/// A log's rotated generations are found by their names in its folder, which are listed before each
+/// read and after it; a read is made again up to three times where the first generation changed.
+///
+/// The clock counts milliseconds from an arbitrary start and never goes back. Messages are as
+/// `chk_sockets::Messages` has them.
 #[derive(Drop)]
 pub struct SiteReal<R: Files + Net + Clock + Print + Drop> {
     faults: u64,

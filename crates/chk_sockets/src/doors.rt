@@ -103,21 +103,21 @@ impl<R: Net + Clock> Doors<R> {
         make_place(&mut self.doors)?;
         let door = Door {
             name: kept_name,
-            socket: Socket::open(rt, name)?,
+            socket: Socket::open(rt, alloc, name)?,
         };
         self.doors.push(door).map_err(|_| CallFault::Failed)
     }
 }
 
 impl<R: Net + Clock> Socket<R> {
-    fn open(rt: &R, name: &str) -> Result<Socket<R>, CallFault>
+    fn open(rt: &R, alloc: Global, name: &str) -> Result<Socket<R>, CallFault>
         ensures { MayFail result }
     {
         if let Some(address) = name.strip_prefix(DATAGRAMS) {
             let socket = rt.bind_udp(address_of(address)?).map_err(failed)?;
             return Ok(Socket::Datagrams(socket));
         }
-        let streams = StreamDoor::open(rt, address_of(name)?).map_err(failed)?;
+        let streams = StreamDoor::open(rt, alloc, address_of(name)?).map_err(failed)?;
         Ok(Socket::Streams(streams))
     }
 

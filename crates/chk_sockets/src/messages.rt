@@ -79,7 +79,8 @@ impl<R: Net + Clock> Messages<R> {
 
     /// Takes the first piece of the next message at the door, within `wait` ms; the taking before at
     /// this door ends. A door is opened at the first taking and stays open. `Failed` where it can't
-    /// be opened or used. A peer that sends nothing is dropped after 2,000 ms.
+    /// be opened or used. Up to 64 peers that have sent nothing yet are let in, each for 2,000 ms; further
+    /// ones wait in the system's queue.
     pub fn take(
         &mut self,
         rt: &R,
@@ -114,7 +115,7 @@ impl<R: Net + Clock> Messages<R> {
 
     /// Answers the message and ends its taking. What the peer still sends is read for up to 2,000 ms,
     /// since a stream that is closed with bytes not yet read takes the answer away from the peer.
-    /// `Failed` where the taking ended, or the peer doesn't take all of the answer.
+    /// `Failed` where the taking ended, or the peer doesn't take all of the answer within 2,000 ms.
     pub fn answer(
         &mut self,
         rt: &R,

@@ -5,7 +5,7 @@ use crate::doors::address_of;
 use crate::faults::failed;
 use crate::memory::{make_place, make_room};
 use crate::streams::{reply_on, sent_on};
-use chk_bytes::{Bytes, NoMemory};
+use chk_bytes::Bytes;
 use chk_site::CallFault;
 use std::alloc::Global;
 use std::net::Net;
@@ -45,8 +45,11 @@ impl<R: Net + Clock> Sends<R> {
         ensures { MayFail result }
     {
         let address = address_of(address)?;
-        self.make_place()?;
+        make_place(&mut self.open)?;
         let stream = sent_on(rt, address, bytes).map_err(failed)?;
+        if self.open.len() >= MOST_STREAMS {
+            let _oldest = self.open.remove(0);
+        }
         self.open
             .push(Sent { message, stream })
             .map_err(|_| CallFault::Failed)
@@ -62,12 +65,5 @@ impl<R: Net + Clock> Sends<R> {
         make_room(&mut self.buffer)?;
         let mut sent = self.open.remove(place);
         reply_on(rt, alloc, &mut sent.stream, &mut self.buffer)
-    }
-
-    fn make_place(&mut self) -> Result<(), NoMemory> {
-        if self.open.len() >= MOST_STREAMS {
-            let _oldest = self.open.remove(0);
-        }
-        make_place(&mut self.open)
     }
 }

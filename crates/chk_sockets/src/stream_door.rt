@@ -1,14 +1,15 @@
 //! A door at a TCP address: a socket that listens, and the streams of its peers.
-ghost use Rattle.std.specs.Prelude.{◌≤◌, length, IfOk};
+ghost use Rattle.std.specs.Prelude.{◌≤◌, length, IfOk, IfSome};
 ghost use Rattle.chk_site.specs.Site.{MayFail};
 
 use crate::deadline::Deadline;
 use crate::faults::failed;
-use crate::streams::{bound_waits, end_stream, longest_wait, next_piece};
-use chk_bytes::Bytes;
+use crate::streams::{bound_waits, end_stream, longest_wait, next_piece, write_before};
+use chk_bytes::{Bytes, NoMemory};
 use chk_site::CallFault;
 use std::alloc::Global;
-use std::io::{ErrorKind, Read, Write};
+use std::collections::VecDeque;
+use std::io::{ErrorKind, Read};
 use std::net::{Net, OpenListener, OpenStream, SocketAddr};
 use std::time::{Clock, Duration};
 use std::{io, thread};
@@ -21,12 +22,15 @@ const SLOW_MS: u64 = 10;
 
 const FAST_LOOKS: u64 = 20;
 
+/// How many peers that have sent nothing yet are waited for at a time; further ones wait outside.
+const MOST_SILENT: usize = 64;
+
 /// A listening socket. It stays open between takings.
 #[derive(Drop)]
 pub struct StreamDoor<R: Net> {
     listener: R::Listener,
-    /// A peer that has not sent anything yet.
-    silent: Option<Silent<R>>,
+    /// The peers that have sent nothing yet.
+    silent: VecDeque<Silent<R>>,
     taken: Option<Taken<R>>,
 }
 
@@ -36,6 +40,13 @@ struct Silent<R: Net> {
     deadline: Deadline,
 }
 
+/// A peer with the first bytes of its message, which lie in the buffer.
+#[derive(Drop)]
+struct Arrival<R: Net> {
+    stream: R::Stream,
+    count: usize,
+}
+
 #[derive(Drop)]
 struct Taken<R: Net> {
     number: u64,
@@ -43,12 +54,12 @@ struct Taken<R: Net> {
 }
 
 impl<R: Net + Clock> StreamDoor<R> {
-    pub fn open(rt: &R, address: SocketAddr) -> io::Result<StreamDoor<R>> {
+    pub fn open(rt: &R, alloc: Global, address: SocketAddr) -> io::Result<StreamDoor<R>> {
         let listener = rt.bind(address)?;
         listener.set_nonblocking(true)?;
         Ok(StreamDoor {
             listener,
-            silent: None,
+            silent: VecDeque::new(alloc),
             taken: None,
         })
     }
@@ -71,12 +82,16 @@ impl<R: Net + Clock> StreamDoor<R> {
     ) -> Result<Option<Bytes>, CallFault>
         ensures { MayFail result }
     {
+        self.make_places()?;
         self.taken = None;
-        let count = self.wait_for(rt, number, wait, buffer).map_err(failed)?;
-        if count == 0 {
+        let Some(arrival) = self.wait_for(rt, wait, buffer).map_err(failed)? else {
             return Ok(None);
-        }
-        let bytes = Bytes::from_slice(alloc, &buffer[..count])?;
+        };
+        let bytes = Bytes::from_slice(alloc, &buffer[..arrival.count])?;
+        self.taken = Some(Taken {
+            number,
+            stream: arrival.stream,
+        });
         Ok(Some(bytes))
     }
 
@@ -100,26 +115,30 @@ impl<R: Net + Clock> StreamDoor<R> {
         let Some(mut taken) = self.taken.take() else {
             return Err(CallFault::Failed);
         };
-        taken.stream.write_all(bytes).map_err(failed)?;
+        let deadline = Deadline::after(rt, longest_wait()).map_err(failed)?;
+        write_before(rt, deadline, &mut taken.stream, bytes).map_err(failed)?;
         end_stream(rt, &mut taken.stream, buffer);
         Ok(())
     }
 
-    // How many bytes came within the wait; none where no message came.
+    fn make_places(&mut self) -> Result<(), NoMemory> {
+        self.silent.reserve(MOST_SILENT)?;
+        Ok(())
+    }
+
+    // A peer whose first bytes came within the wait.
     fn wait_for(
         &mut self,
         rt: &R,
-        number: u64,
         wait: Duration,
         buffer: &mut Vec<u8>,
-    ) -> io::Result<usize>
-        ensures { IfOk result (λ count. count ≤ length buffer.new.items) }
+    ) -> io::Result<Option<Arrival<R>>>
+        ensures { IfOk result (λ found. IfSome found (λ arrival. arrival.count ≤ length buffer.new.items)) }
     {
         let deadline = Deadline::after(rt, wait)?;
         for looks in 0..u64::MAX {
-            let count = self.look(rt, number, buffer)?;
-            if count > 0 {
-                return Ok(count);
+            if let Some(arrival) = self.look(rt, buffer)? {
+                return Ok(Some(arrival));
             }
             let left = deadline.left(rt)?;
             if left.is_zero() {
@@ -128,57 +147,79 @@ impl<R: Net + Clock> StreamDoor<R> {
             let pause = if looks < FAST_LOOKS { FAST_MS } else { SLOW_MS };
             thread::sleep(rt, left.min(Duration::from_millis(pause)));
         }
-        Ok(0)
+        Ok(None)
     }
 
     // One look at the door, without a wait.
-    fn look(&mut self, rt: &R, number: u64, buffer: &mut Vec<u8>) -> io::Result<usize>
-        ensures { IfOk result (λ count. count ≤ length buffer.new.items) }
+    fn look(&mut self, rt: &R, buffer: &mut Vec<u8>) -> io::Result<Option<Arrival<R>>>
+        ensures { IfOk result (λ found. IfSome found (λ arrival. arrival.count ≤ length buffer.new.items)) }
     {
-        let Some(mut silent) = self.next_silent(rt)? else {
-            return Ok(0);
-        };
-        match silent.stream.read(buffer) {
-            Ok(0) => Ok(0),
-            Ok(count) => {
-                bound_waits(&silent.stream)?;
-                self.taken = Some(Taken {
-                    number,
-                    stream: silent.stream,
-                });
-                Ok(count)
+        self.let_in(rt)?;
+        for _ in 0..self.silent.len() {
+            let Some(silent) = self.silent.pop_front() else {
+                break;
+            };
+            if let Some(arrival) = self.look_at(rt, silent, buffer)? {
+                return Ok(Some(arrival));
             }
-            Err(error) if error.kind() == ErrorKind::WouldBlock => {
-                if !silent.deadline.left(rt)?.is_zero() {
-                    self.silent = Some(silent);
-                }
-                Ok(0)
-            }
-            Err(_) => Ok(0),
         }
+        Ok(None)
     }
 
-    // The peer that was accepted before, or else a new one.
-    fn next_silent(&mut self, rt: &R) -> io::Result<Option<Silent<R>>> {
-        if let Some(silent) = self.silent.take() {
-            return Ok(Some(silent));
-        }
-        match self.listener.accept() {
-            Ok((stream, _)) => {
-                stream.set_nonblocking(true)?;
-                let deadline = Deadline::after(rt, longest_wait())?;
-                Ok(Some(Silent { stream, deadline }))
+    // Accepts the peers that wait outside, as many as there is place for.
+    fn let_in(&mut self, rt: &R) -> io::Result<()> {
+        for _ in self.silent.len()..MOST_SILENT {
+            match self.listener.accept() {
+                Ok((stream, _)) if stream.set_nonblocking(true).is_ok() => {
+                    let deadline = Deadline::after(rt, longest_wait())?;
+                    self.silent.push_back(Silent { stream, deadline })?;
+                }
+                Ok(_) => {}
+                Err(error) if is_passing(error.kind()) => break,
+                Err(error) => return Err(error),
             }
-            Err(error) if is_passing(error.kind()) => Ok(None),
-            Err(error) => Err(error),
+        }
+        Ok(())
+    }
+
+    // Looks at one peer. It stays where it has sent nothing yet.
+    fn look_at(
+        &mut self,
+        rt: &R,
+        silent: Silent<R>,
+        buffer: &mut Vec<u8>,
+    ) -> io::Result<Option<Arrival<R>>>
+        ensures { IfOk result (λ found. IfSome found (λ arrival. arrival.count ≤ length buffer.new.items)) }
+    {
+        let Silent {
+            mut stream,
+            deadline,
+        } = silent;
+        match stream.read(buffer) {
+            Ok(count) if count > 0 && bound_waits(&stream).is_ok() => {
+                Ok(Some(Arrival { stream, count }))
+            }
+            Err(error) if error.kind() == ErrorKind::WouldBlock => {
+                if !deadline.left(rt)?.is_zero() {
+                    self.silent.push_back(Silent { stream, deadline })?;
+                }
+                Ok(None)
+            }
+            _ => Ok(None),
         }
     }
 }
 
-// Nobody is there, or somebody went away.
+// Nobody is there, or somebody went away again.
 fn is_passing(kind: ErrorKind) -> bool {
     matches!(
         kind,
-        ErrorKind::WouldBlock | ErrorKind::ConnectionAborted | ErrorKind::Interrupted
+        ErrorKind::WouldBlock
+            | ErrorKind::Interrupted
+            | ErrorKind::ConnectionAborted
+            | ErrorKind::ConnectionReset
+            | ErrorKind::NetworkDown
+            | ErrorKind::NetworkUnreachable
+            | ErrorKind::HostUnreachable
     )
 }

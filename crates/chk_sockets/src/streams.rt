@@ -1,5 +1,5 @@
 //! Streams to peers, with every wait bounded.
-ghost use Rattle.std.specs.Prelude.{◌≤◌, length};
+ghost use Rattle.std.specs.Prelude.{◌<◌, ◌≤◌, length, IfOk};
 ghost use Rattle.chk_site.specs.Site.{MayFail};
 
 use crate::deadline::Deadline;
@@ -8,7 +8,7 @@ use chk_bytes::Bytes;
 use chk_site::CallFault;
 use std::alloc::Global;
 use std::io;
-use std::io::{Read, Write};
+use std::io::{ErrorKind, Read, Write};
 use std::net::{Net, OpenStream, Shutdown, SocketAddr, TcpStream};
 use std::time::{Clock, Duration};
 
@@ -41,6 +41,32 @@ pub fn bound_waits<S: OpenStream>(stream: &S) -> io::Result<()> {
     stream.set_write_timeout(Some(longest_wait()))
 }
 
+/// Writes all of the bytes before this moment.
+pub fn write_before<R: Clock, S: Write + OpenStream>(
+    rt: &R,
+    deadline: Deadline,
+    stream: &mut S,
+    bytes: &[u8],
+) -> io::Result<()> {
+    let mut rest = bytes;
+    for _ in 0..bytes.len() {
+        if rest.is_empty() {
+            break;
+        }
+        let left = deadline.left(rt)?;
+        if left.is_zero() {
+            return Err(io::Error::from(ErrorKind::TimedOut));
+        }
+        stream.set_write_timeout(Some(left))?;
+        let count = stream.write(rest)?;
+        if count == 0 {
+            return Err(io::Error::from(ErrorKind::WriteZero));
+        }
+        rest = &rest[count..];
+    }
+    Ok(())
+}
+
 /// The next piece, empty at the end, and where nothing came in time or the peer went away.
 pub fn next_piece<S: Read>(stream: &mut S, buffer: &mut Vec<u8>) -> usize
     ensures { result ≤ length buffer.new.items }
@@ -51,20 +77,23 @@ pub fn next_piece<S: Read>(stream: &mut S, buffer: &mut Vec<u8>) -> usize
     }
 }
 
-/// What came on the stream up to its end, or in the time of one wait.
+/// What came on the stream up to its end, or in the time of one wait. `Failed` where nothing came.
 pub fn reply_on<R: Clock, S: Read + OpenStream>(
     rt: &R,
     alloc: Global,
     stream: &mut S,
     buffer: &mut Vec<u8>,
 ) -> Result<Bytes, CallFault>
-    ensures { MayFail result }
+    ensures some { IfOk result (λ bytes. 0 < length bytes) }
+    ensures most { IfOk result (λ bytes. length bytes ≤ 1048576) }
+    ensures only { MayFail result }
 {
     let deadline = Deadline::after(rt, longest_wait()).map_err(failed)?;
     let mut bytes = Bytes::new(alloc);
     for _ in 0..MOST_REPLY {
-        let count = piece_before(rt, deadline, stream, buffer);
-        if count == 0 || bytes.len() >= MOST_REPLY {
+        let most = MOST_REPLY.saturating_sub(bytes.len());
+        let count = piece_before(rt, deadline, stream, buffer).min(most);
+        if count == 0 {
             break;
         }
         bytes.push_all(&buffer[..count])?;

@@ -2,12 +2,78 @@
 use crate::Messages;
 use chk_bytes::Bytes;
 use chk_site::{CallFault, Taking};
+use std::alloc::Global;
 use std::io;
-use std::io::{ErrorKind, Write};
+use std::io::Write;
 use std::net::{TcpListener, TcpStream, UdpSocket};
+use std::test::Fail;
+use std::time::{Clock, Duration};
 
-fn checked<T: Drop>(given: Result<T, CallFault>) -> io::Result<T> {
-    given.map_err(|_| io::Error::from(ErrorKind::Other))
+// One end, with the runtime that its calls take.
+#[derive(Drop)]
+struct End {
+    rt: HostRuntime,
+    alloc: Global,
+    messages: Messages<HostRuntime>,
+}
+
+fn begin(rt: HostRuntime) -> End {
+    let alloc = rt.alloc();
+    let messages = Messages::new(alloc);
+    End {
+        rt,
+        alloc,
+        messages,
+    }
+}
+
+impl End {
+    fn send(&mut self, address: &str, text: &str) -> Result<u64, CallFault> {
+        let bytes = text.as_bytes();
+        self.messages.send(&self.rt, self.alloc, address, bytes)
+    }
+
+    fn take(&mut self, door: &str, wait: u64) -> Result<Option<Taking>, CallFault> {
+        self.messages.take(&self.rt, self.alloc, door, wait)
+    }
+
+    fn answer(&mut self, taking: u64, text: &str) -> Result<(), CallFault> {
+        let bytes = text.as_bytes();
+        self.messages.answer(&self.rt, self.alloc, taking, bytes)
+    }
+
+    // The next taking within a second is this one.
+    fn takes(&mut self, door: &str, number: u64, text: &str) -> bool {
+        match self.take(door, 1000) {
+            Ok(Some(taking)) => taking.number == number && is_text(&taking.bytes, text),
+            _ => false,
+        }
+    }
+
+    // No message is there now.
+    fn finds_none(&mut self, door: &str) -> bool {
+        matches!(self.take(door, 0), Ok(None))
+    }
+
+    // The answer to the message is this one; none where the call fails.
+    fn gets(&mut self, message: u64, wanted: Option<&str>) -> bool {
+        match (self.messages.got(&self.rt, self.alloc, message), wanted) {
+            (Ok(bytes), Some(text)) => is_text(&bytes, text),
+            (Err(CallFault::Failed), None) => true,
+            _ => false,
+        }
+    }
+
+    fn has_more(&mut self, taking: u64, text: &str) -> bool {
+        match self.messages.more(self.alloc, taking) {
+            Ok(bytes) => is_text(&bytes, text),
+            Err(_) => false,
+        }
+    }
+}
+
+fn is_text(given: &Bytes, text: &str) -> bool {
+    given.as_slice() == text.as_bytes()
 }
 
 // An address at which nobody listens.
@@ -16,145 +82,140 @@ fn free_address(rt: &HostRuntime) -> io::Result<String> {
     Ok(format!(in rt.alloc(); "{address}")?)
 }
 
-fn messages(rt: &HostRuntime) -> io::Result<Messages<HostRuntime>> {
-    Ok(Messages::new(rt.alloc()))
-}
-
-fn is_bytes(given: &Bytes, wanted: &[u8]) -> bool {
-    given.as_slice() == wanted
-}
-
-fn is_taking(taken: &Option<Taking>, number: u64, bytes: &[u8]) -> bool {
-    match taken {
-        Some(taking) => taking.number == number && is_bytes(&taking.bytes, bytes),
-        None => false,
-    }
-}
-
 #[test]
-fn the_mailbox_keeps_its_order(rt: HostRuntime) -> io::Result<()> {
-    let mut all = messages(&rt)?;
-    assert!(rt; checked(all.send(&rt, rt.alloc(), "self", b"one".as_slice()))? == 1);
-    assert!(rt; checked(all.send(&rt, rt.alloc(), "self", b"two".as_slice()))? == 2);
-    for (number, bytes) in [(1, b"one".as_slice()), (2, b"two".as_slice())] {
-        assert!(rt; is_bytes(&checked(all.got(&rt, rt.alloc(), number))?, b"".as_slice()));
-        let taken = checked(all.take(&rt, rt.alloc(), "self", 0))?;
-        assert!(rt; is_taking(&taken, number, bytes));
-        checked(all.answer(&rt, rt.alloc(), number, bytes))?;
-        assert!(rt; all.answer(&rt, rt.alloc(), number, bytes).is_err());
-        assert!(rt; is_bytes(&checked(all.got(&rt, rt.alloc(), number))?, bytes));
-        assert!(rt; all.got(&rt, rt.alloc(), number).is_err());
+fn the_mailbox_keeps_its_order(rt: HostRuntime) -> Result<(), Fail> {
+    let mut end = begin(rt);
+    assert!(rt; end.send("self", "one")? == 1);
+    assert!(rt; end.send("self", "two")? == 2);
+    for (number, text) in [(1, "one"), (2, "two")] {
+        assert!(rt; end.gets(number, Some("")));
+        assert!(rt; end.takes("self", number, text));
+        end.answer(number, text)?;
+        assert!(rt; end.answer(number, text) == Err(CallFault::Failed));
+        assert!(rt; end.gets(number, Some(text)));
+        assert!(rt; end.gets(number, None));
     }
-    assert!(rt; checked(all.take(&rt, rt.alloc(), "self", 0))?.is_none());
-    checked(all.send(&rt, rt.alloc(), "self", b"three".as_slice()))?;
-    all.start();
-    assert!(rt; checked(all.take(&rt, rt.alloc(), "self", 0))?.is_none());
+    assert!(rt; end.finds_none("self"));
     Ok(())
 }
 
 #[test]
-fn a_stream_carries_a_message_and_its_answer(rt: HostRuntime) -> io::Result<()> {
+fn a_start_empties_the_mailbox(rt: HostRuntime) -> Result<(), Fail> {
+    let mut end = begin(rt);
+    end.send("self", "one")?;
+    end.messages.start();
+    assert!(rt; end.finds_none("self"));
+    Ok(())
+}
+
+#[test]
+fn nobody_takes_what_is_sent_elsewhere(rt: HostRuntime) -> Result<(), Fail> {
+    let address = free_address(&rt)?;
+    let mut end = begin(rt);
+    for address in [address.as_str(), "localhost:80", ""] {
+        assert!(rt; end.send(address, "lost") == Err(CallFault::Failed));
+    }
+    Ok(())
+}
+
+// One message to the door and its answer.
+fn round_trip(here: &mut End, there: &mut End, door: &str, number: u64) -> Result<bool, CallFault> {
+    let sent = there.send(door, "hello\n")?;
+    let taken = here.takes(door, number, "hello\n") && here.has_more(number, "");
+    here.answer(number, "taken\n")?;
+    Ok(sent == number && taken)
+}
+
+#[test]
+fn the_last_streams_carry_answers(rt: HostRuntime) -> Result<(), Fail> {
     let address = free_address(&rt)?;
     let door = address.as_str();
-    let (mut here, mut there) = (messages(&rt)?, messages(&rt)?);
-    assert!(rt;
-        there
-            .send(&rt, rt.alloc(), door, b"lost".as_slice())
-            .is_err()
-    );
-    assert!(rt;
-        there
-            .send(&rt, rt.alloc(), "localhost:80", b"lost".as_slice())
-            .is_err()
-    );
-    assert!(rt; checked(here.take(&rt, rt.alloc(), door, 0))?.is_none());
-    // A peer that goes away without a byte is no message.
-    drop_stream(TcpStream::connect(&rt, door)?);
+    let (mut here, mut there) = (begin(rt), begin(rt));
+    assert!(rt; here.finds_none(door));
     for number in 1..=66 {
-        checked(there.send(&rt, rt.alloc(), door, b"hello\n".as_slice()))?;
-        let taken = checked(here.take(&rt, rt.alloc(), door, 1000))?;
-        assert!(rt; is_taking(&taken, number, b"hello\n".as_slice()));
-        assert!(rt; is_bytes(&checked(here.more(rt.alloc(), number))?, b"".as_slice()));
-        checked(here.answer(&rt, rt.alloc(), number, b"taken\n".as_slice()))?;
+        assert!(rt; round_trip(&mut here, &mut there, door, number)?);
     }
     // The oldest two have no stream any more.
     for number in 1..=66 {
-        match there.got(&rt, rt.alloc(), number) {
-            Ok(bytes) => assert!(rt; number > 2 && is_bytes(&bytes, b"taken\n".as_slice())),
-            Err(_) => assert!(rt; number <= 2),
-        }
+        let wanted = if number > 2 { Some("taken\n") } else { None };
+        assert!(rt; there.gets(number, wanted));
     }
     Ok(())
 }
 
 #[test]
-fn a_taking_without_an_answer_ends_at_the_next(rt: HostRuntime) -> io::Result<()> {
+fn a_taking_without_an_answer_ends_at_the_next(rt: HostRuntime) -> Result<(), Fail> {
     let address = free_address(&rt)?;
     let door = address.as_str();
-    let (mut here, mut there) = (messages(&rt)?, messages(&rt)?);
-    assert!(rt; checked(here.take(&rt, rt.alloc(), door, 0))?.is_none());
-    let sent = checked(there.send(&rt, rt.alloc(), door, b"one".as_slice()))?;
+    let (mut here, mut there) = (begin(rt), begin(rt));
+    assert!(rt; here.finds_none(door));
+    there.send(door, "one")?;
     let mut slow = TcpStream::connect(&rt, door)?;
     slow.write_all(b"tw".as_slice())?;
-    assert!(rt;
-        is_taking(
-            &checked(here.take(&rt, rt.alloc(), door, 1000))?,
-            1,
-            b"one".as_slice()
-        )
-    );
-    assert!(rt;
-        is_taking(
-            &checked(here.take(&rt, rt.alloc(), door, 1000))?,
-            2,
-            b"tw".as_slice()
-        )
-    );
+    assert!(rt; here.takes(door, 1, "one"));
+    assert!(rt; here.takes(door, 2, "tw"));
     slow.write_all(b"o".as_slice())?;
-    assert!(rt; is_bytes(&checked(here.more(rt.alloc(), 2))?, b"o".as_slice()));
-    assert!(rt; is_bytes(&checked(here.more(rt.alloc(), 1))?, b"".as_slice()));
-    assert!(rt; here.answer(&rt, rt.alloc(), 1, b"late".as_slice()).is_err());
-    assert!(rt; there.got(&rt, rt.alloc(), sent).is_err());
+    assert!(rt; here.has_more(2, "o"));
+    assert!(rt; here.has_more(1, ""));
+    assert!(rt; here.answer(1, "late") == Err(CallFault::Failed));
+    assert!(rt; there.gets(1, None));
     Ok(())
 }
 
+fn go_away(_stream: TcpStream) {}
+
 #[test]
-fn an_early_answer_is_not_lost(rt: HostRuntime) -> io::Result<()> {
+fn a_peer_that_sends_nothing_is_no_message(rt: HostRuntime) -> Result<(), Fail> {
     let address = free_address(&rt)?;
     let door = address.as_str();
-    let (mut here, mut there) = (messages(&rt)?, messages(&rt)?);
-    assert!(rt; checked(here.take(&rt, rt.alloc(), door, 0))?.is_none());
-    let mut bytes = Vec::new(rt.alloc());
-    bytes.resize(200_000, 7)?;
-    let sent = checked(there.send(&rt, rt.alloc(), door, &bytes))?;
-    assert!(rt; checked(here.take(&rt, rt.alloc(), door, 1000))?.is_some());
-    checked(here.answer(&rt, rt.alloc(), 1, b"refused\n".as_slice()))?;
-    assert!(rt;
-        is_bytes(
-            &checked(there.got(&rt, rt.alloc(), sent))?,
-            b"refused\n".as_slice()
-        )
-    );
+    let (mut here, mut there) = (begin(rt), begin(rt));
+    assert!(rt; here.finds_none(door));
+    go_away(TcpStream::connect(&rt, door)?);
+    let _silent = TcpStream::connect(&rt, door)?;
+    there.send(door, "one")?;
+    assert!(rt; here.takes(door, 1, "one"));
     Ok(())
 }
 
 #[test]
-fn a_datagram_is_a_whole_message(rt: HostRuntime) -> io::Result<()> {
+fn an_early_answer_is_not_lost(rt: HostRuntime) -> Result<(), Fail> {
+    let address = free_address(&rt)?;
+    let door = address.as_str();
+    let (mut here, mut there) = (begin(rt), begin(rt));
+    assert!(rt; here.finds_none(door));
+    let bytes = vec![in rt.alloc(); 7u8; 200_000]?;
+    there.messages.send(&rt, rt.alloc(), door, &bytes)?;
+    assert!(rt; here.take(door, 1000)?.is_some());
+    here.answer(1, "refused\n")?;
+    assert!(rt; there.gets(1, Some("refused\n")));
+    Ok(())
+}
+
+#[test]
+fn an_answer_that_is_not_read_fails_in_time(rt: HostRuntime) -> Result<(), Fail> {
+    let address = free_address(&rt)?;
+    let door = address.as_str();
+    let (mut here, mut there) = (begin(rt), begin(rt));
+    assert!(rt; here.finds_none(door));
+    there.send(door, "one")?;
+    assert!(rt; here.takes(door, 1, "one"));
+    let bytes = vec![in rt.alloc(); 7u8; 16_000_000]?;
+    let began = rt.monotonic()?;
+    assert!(rt; here.messages.answer(&rt, rt.alloc(), 1, &bytes).is_err());
+    assert!(rt; rt.monotonic()?.saturating_sub(began) < Duration::from_millis(3000));
+    Ok(())
+}
+
+#[test]
+fn a_datagram_is_a_whole_message(rt: HostRuntime) -> Result<(), Fail> {
     let address = free_address(&rt)?;
     let door = format!(in rt.alloc(); "udp:{address}")?;
-    let mut here = messages(&rt)?;
-    assert!(rt; checked(here.take(&rt, rt.alloc(), door.as_str(), 0))?.is_none());
+    let mut here = begin(rt);
+    assert!(rt; here.finds_none(door.as_str()));
     let socket = UdpSocket::bind(&rt, "127.0.0.1:0")?;
-    for (number, bytes) in [
-        (1, b"ab".as_slice()),
-        (2, b"".as_slice()),
-        (3, b"c\n".as_slice()),
-    ] {
-        socket.send_to(bytes, address.as_str())?;
-        let taken = checked(here.take(&rt, rt.alloc(), door.as_str(), 1000))?;
-        assert!(rt; is_taking(&taken, number, bytes));
+    for (number, text) in [(1, "ab"), (2, ""), (3, "c\n")] {
+        socket.send_to(text.as_bytes(), address.as_str())?;
+        assert!(rt; here.takes(door.as_str(), number, text));
     }
     Ok(())
 }
-
-fn drop_stream(_stream: TcpStream) {}

@@ -1,0 +1,4 @@
+pub mod MessageLemmas
+pub mod GotLemmas
+pub mod PlanLemmas
+pub mod TakeLemmas

@@ -1,0 +1,4 @@
+pub mod Plans
+pub mod Mail
+pub mod Taken
+pub mod Replies

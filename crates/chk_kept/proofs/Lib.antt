@@ -1,0 +1,10 @@
+pub mod NamedLemmas
+pub mod FileLemmas
+pub mod LogLemmas
+pub mod ReadLemmas
+pub mod StopLemmas
+pub mod ModelLemmas
+pub mod KeepLemmas
+pub mod GoingLemmas
+pub mod ListLemmas
+pub mod PastLemmas

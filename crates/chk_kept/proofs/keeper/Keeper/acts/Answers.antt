@@ -1,0 +1,8 @@
+use Rattle.std.proofs.Common.{sym, ◌∙◌, ap}
+use Rattle.chk_kept.specs.Told.{acts_of}
+use Rattle.chk_kept.proofs.KeepLemmas.{acts_kept}
+use Rattle.chk_kept.proofs.keeper.Keeper.acts.Goals as goal
+
+pub returns : goal.returns
+returns c =
+    c.deref.ensures.value ∙ sym (acts_kept _ _ c.self.invariant.marked) ∙ ap acts_of c.self.view_is

@@ -1,0 +1,21 @@
+use Rattle.std.proofs.Common.{List, Bool, false, ◌∙◌, sym, ap, subst, map, length}
+use Rattle.std.proofs.lemmas.List.{with_items_is, length-map}
+use Rattle.chk_kept.specs.Told.{disowned}
+use Rattle.chk_kept.specs.Keeping.{kept_in, IsKept}
+use Rattle.chk_kept.proofs.KeepLemmas.{kept_disowned, disowned_in}
+use Rattle.chk_kept.proofs.keeper.Keeper.disown.Goals as goal
+
+pub invariant_of-self : goal.invariant_of-self
+invariant_of-self c =
+    let k = c.self.inside in
+    let fits = ap length c.unmark.ensures ∙ length-map _ (λ _. false) ∙ c.deref_mut.ensures.len in
+    let is = with_items_is k.mine c.unmark.new.mine fits ∙ c.unmark.ensures ∙ ap (map (λ _. false)) c.deref_mut.ensures.value in
+    subst (λ (mine : List Bool). IsKept mine k.past.items k.files.items k.logs.items false k.messages k.takings) (sym is)
+    (kept_disowned k.mine.items k.past.items k.files.items k.logs.items k.stopped k.messages k.takings c.self.invariant)
+
+pub returns : goal.returns
+returns c =
+    let k = c.self.inside in
+    let fits = ap length c.unmark.ensures ∙ length-map _ (λ _. false) ∙ c.deref_mut.ensures.len in
+    let is = with_items_is k.mine c.unmark.new.mine fits ∙ c.unmark.ensures ∙ ap (map (λ _. false)) c.deref_mut.ensures.value in
+    ap (λ mine. kept_in mine k.past.items) is ∙ disowned_in k.mine.items k.past.items ∙ ap (map disowned) c.self.view_is

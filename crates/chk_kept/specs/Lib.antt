@@ -1,0 +1,10 @@
+pub mod Told
+pub mod Going
+pub mod Room
+pub mod Named
+pub mod Stored
+pub mod Reads
+pub mod Changes
+pub mod Numbers
+pub mod Keeping
+pub mod Listing

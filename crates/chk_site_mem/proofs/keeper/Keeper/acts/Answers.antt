@@ -1,8 +1,0 @@
-use Rattle.std.proofs.Common.{sym, ◌∙◌, ap}
-use Rattle.chk_site_mem.specs.Told.{acts_of}
-use Rattle.chk_site_mem.proofs.KeepLemmas.{acts_kept}
-use Rattle.chk_site_mem.proofs.keeper.Keeper.acts.Goals as goal
-
-pub returns : goal.returns
-returns c =
-    c.deref.ensures.value ∙ sym (acts_kept _ _ c.self.invariant.marked) ∙ ap acts_of c.self.view_is
