@@ -1,0 +1,88 @@
+-- A true chunk of a stream that has begun stays one, and its bytes go on with a front of the log.
+use Rattle.std.proofs.Common.{◌≡◌, ℕ, ◌+◌, ◌-◌, ◌≤◌, ◌<◌, List, ◌∷◌, ◌++◌, length, take, drop, Some, ap, sym, ◌∙◌, arith, nat_le, nat_lt, ◌&&◌, append_assoc}
+use Rattle.std.specs.Prelude.{IsTrue}
+use Rattle.std.proofs.lemmas.Bool.{and_parts, leb-true, ltb-true}
+use Rattle.std.proofs.lemmas.List.{length-take, length-drop, take-append-le, drop-append-le, drop-drop, take-append-drop, drop-take}
+use Rattle.std.proofs.Math.Seq.{drop-append_seam}
+use Rattle.chk_bytes.specs.Words.{BeginsWith}
+use Rattle.chk_site.specs.History.{Step, History}
+use Rattle.chk_chunk.specs.Keys.{Chunk, chunk_begin, chunk_limit, is_chunk, is_key, has_value}
+use Rattle.chk_world.specs.Names.{is_source}
+use Rattle.chk_world.specs.Checkpoints.{line_of}
+use Rattle.chk_world.specs.Streams.{Founding, founding, founded_by, or_else, start_at, start_of, log_of, IsTrueChunk}
+use Rattle.chk_world.specs.Rules.{Legal}
+use Rattle.chk_world.proofs.LogsGrow.{logs_grow}
+
+-- a true chunk of a stream that has begun, which can be spelled
+pub record IsFoundedChunk (history : History) (c : Chunk) : Type 0 where
+  pub source : IsTrue (is_source c.key.stream.source)
+  pub first : Founding
+  pub founded : founding history c.key.stream ≡ Some first
+  pub valid : IsTrue (is_chunk c)
+  pub is_true : IsTrueChunk history c
+
+-- its data has a byte, and doesn't begin before the stream's start
+pub record HasRoom (c : Chunk) : Type 0 where
+  pub some : 0 < length c.value
+  pub low : c.key.start + length c.value ≤ c.key.seq
+
+pub has_room : (c : Chunk) → IsTrue (is_chunk c) → HasRoom c
+has_room c valid =
+    let n : ℕ = length c.value in
+    let parts = and_parts (is_key c.key) (has_value chunk_limit c.key c.value) valid in
+    let value = and_parts (nat_lt 0 n) (nat_le n chunk_limit && nat_le (c.key.start + n) c.key.seq) parts.1 in
+    record {
+      some = ltb-true 0 n value.0;
+      low = leb-true (c.key.start + n) c.key.seq (and_parts (nat_le n chunk_limit) (nat_le (c.key.start + n) c.key.seq) value.1).1;
+    }
+
+-- all of it lies in the log
+pub within_log : (log value : List ℕ) (at : ℕ) → value ≡ take (length value) (drop at log) → 0 < length value
+    → at + length value ≤ length log
+within_log log value at is some =
+    let size : length value ≡ length (take (length value) (drop at log)) = ap length is in
+    omega (arith, size, some, length-take (length value) (drop at log), length-drop at log)
+
+same_in_longer : (log more value : List ℕ) (at : ℕ) → value ≡ take (length value) (drop at log) → 0 < length value
+    → value ≡ take (length value) (drop at (log ++ more))
+same_in_longer log more value at is some =
+    let room = within_log log value at is some in
+    is ∙ (sym (take-append-le (length value) (drop at log) more (omega (arith, room, length-drop at log)))
+    ∙ ap (take (length value)) (sym (drop-append-le at log more (omega (arith, room)))))
+
+pub stays_true : (stamped : List (List ℕ)) (history : History) (step : Step) → Legal stamped (step ∷ history) → (c : Chunk)
+    → IsFoundedChunk history c → IsFoundedChunk (step ∷ history) c
+stays_true stamped history step legal c g =
+    let s = c.key.stream in
+    let later = founded_by (line_of step.files s) (step.logs s.name) in
+    let still : founding (step ∷ history) s ≡ Some g.first = ap (λ o. or_else o later) g.founded in
+    let start : start_of (step ∷ history) s ≡ start_of history s = ap start_at still ∙ sym (ap start_at g.founded) in
+    let grows = logs_grow stamped history step legal s g.source in
+    let at : ℕ = chunk_begin c - c.key.start in
+    record {
+      source = g.source;
+      first = g.first;
+      founded = still;
+      valid = g.valid;
+      is_true = record {
+        start = g.is_true.start ∙ sym start;
+        data_is = same_in_longer (log_of history s) grows.0 c.value at g.is_true.data_is (has_room c g.valid).some
+            ∙ ap (λ log. take (length c.value) (drop at log)) (sym grows.1);
+      };
+    }
+
+-- what a chunk of the log has past the end of a front goes on with the front
+pub goes_on : (log value front : List ℕ) (at : ℕ) → value ≡ take (length value) (drop at log) → at ≤ length front
+    → length front ≤ at + length value → BeginsWith log front → BeginsWith log (front ++ drop (length front - at) value)
+goes_on log value front at is low high begins =
+    let rest = begins.0 in
+    let d = length front - at in
+    let e = at + length value - length front in
+    let behind : drop (at + d) log ≡ rest =
+    ap (λ n. drop n log) (let z : at + d ≡ length front = omega (arith, low) in z) ∙ (ap (drop (length front)) begins.1 ∙ drop-append_seam front rest) in
+    let part : drop d value ≡ take e rest =
+    ap (drop d) (is ∙ ap (λ n. take n (drop at log)) (let z : length value ≡ d + e = omega (arith, low, high) in z))
+    ∙ (drop-take d e (drop at log) ∙ ap (take e) (drop-drop d at log ∙ behind)) in (
+      drop e rest,
+      begins.1 ∙ (ap (λ l. front ++ l) (sym (take-append-drop e rest) ∙ ap (λ l. l ++ drop e rest) (sym part)) ∙ sym (append_assoc front (drop d value) (drop e rest))),
+    )

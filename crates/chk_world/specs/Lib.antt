@@ -1,0 +1,15 @@
+pub mod Names
+pub mod Checkpoints
+pub mod Books
+pub mod Streams
+pub mod Committed
+pub mod Collectors
+pub mod Agents
+pub mod Splits
+pub mod ArchiveRuns
+pub mod Jobs
+pub mod Rules
+pub mod Laws
+pub mod Places
+pub mod Spelled
+pub mod Examples

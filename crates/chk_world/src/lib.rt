@@ -1,0 +1,101 @@
+//! What a collector, an agent, a job and a writer of logs may do next, and which histories are
+//! legal. Definitions in `specs/`, and their laws.
+#![tactic(auto)]
+
+ghost use Rattle.chk_world.specs.Examples.{NoPremiseIsEmpty};
+ghost use Rattle.chk_world.specs.Laws.{ArchivesAreFronts, ArchivesOnlyGrow, CheckpointsMoveOn, CommitsAfterAppend};
+ghost use Rattle.chk_world.specs.Laws.{KeptStaysKept, LogsOnlyGrow, NamedSegmentsAreSound, OwnFilesAreRead};
+ghost use Rattle.chk_world.specs.Laws.{PassedIsAcknowledged, ReachedIsSaved, RunsTakeAllSaved, SinksHaveShape};
+ghost use Rattle.chk_world.specs.Places.{OthersLeavePlaces};
+ghost use Rattle.chk_world.specs.Spelled.{BooksAreRead, CheckpointsAreRead, NamesAreRead};
+
+/// A law: each name of the program's is read back from its text, and each text is spelled as it is
+/// read.
+pub fn names_are_read()
+    ensures { NamesAreRead }
+{}
+
+/// A law: each checkpoint and each book that can be spelled is read back, only what spells one is read, and what
+/// can be spelled can be in the version that is written.
+pub fn checkpoints_and_books_are_read()
+    ensures checkpoints { CheckpointsAreRead }
+    ensures books { BooksAreRead }
+{}
+
+/// A law: what the files of a sink look like in every legal history. In particular the program's
+/// own numbers are never damaged there, and each record of a done sink is a chunk.
+pub fn sinks_have_shape()
+    ensures { SinksHaveShape }
+{}
+
+/// A law: a committed length is there only after the append that it tells of.
+pub fn commits_after_append()
+    ensures { CommitsAfterAppend }
+{}
+
+/// A law: in every legal history each checkpoint and each book that is there is whole, and is read.
+pub fn own_files_are_read()
+    ensures { OwnFilesAreRead }
+{}
+
+/// A law: each legal step keeps the log of every stream, over rotations and deletions too, and may only add
+/// to its end.
+pub fn logs_only_grow()
+    ensures { LogsOnlyGrow }
+{}
+
+/// A law: no legal step loses a stream's line of a checkpoint, changes its class or start, or moves it back.
+pub fn checkpoints_move_on()
+    ensures { CheckpointsMoveOn }
+{}
+
+/// A law: in every legal history each segment that a book names is there with its length, all synced,
+/// and a SequenceFile of chunks.
+pub fn named_segments_are_sound()
+    ensures { NamedSegmentsAreSound }
+{}
+
+/// A law: no legal step loses what a kept chunk covers, but where it is archived.
+pub fn kept_stays_kept()
+    ensures { KeptStaysKept }
+{}
+
+/// A law: each legal step keeps the archive of every stream, and may only add to its end.
+pub fn archives_only_grow()
+    ensures { ArchivesOnlyGrow }
+{}
+
+/// A law: in every legal history the archive of each stream is a front of its log.
+pub fn archives_are_fronts()
+    ensures { ArchivesAreFronts }
+{}
+
+/// A law: each offset that a checkpoint has passed was acknowledged to the stream's agent.
+pub fn passed_is_acknowledged()
+    ensures { PassedIsAcknowledged }
+{}
+
+/// A law: once the committed length of a sink has reached the end of a chunk in it, what the chunk covers is kept
+/// or archived from then on.
+pub fn reached_is_saved()
+    ensures { ReachedIsSaved }
+{}
+
+/// A law: after a complete archive run the archive holds all that was kept or archived at its listing, up to the
+/// first gap.
+pub fn runs_take_all_saved()
+    ensures { RunsTakeAllSaved }
+{}
+
+/// A law: what a collector, an agent or the job sees, and its own files, stay as they are over each
+/// step of others that obeys its rule and is no stop that names a file of it.
+pub fn others_leave_places()
+    ensures { OthersLeavePlaces }
+{}
+
+/// A law: there is a legal history of a whole round, from a collector's start to the removal of an
+/// archived sink; at its middle the log is kept and not yet acknowledged; and there is one in which a
+/// stop leaves a false tail that the next start cuts off.
+pub fn no_premise_is_empty()
+    ensures { NoPremiseIsEmpty }
+{}
