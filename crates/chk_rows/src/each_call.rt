@@ -35,6 +35,11 @@ fn column(line: &str, number: usize) -> Result<&str, Fail> {
     Ok(line.split(" | ").nth(number).ok_or("no such column")?)
 }
 
+// Whether the files are what the line's column says.
+fn are_so(line: &str, number: usize, files: &str) -> Result<bool, Fail> {
+    Ok(column(line, number)? == files)
+}
+
 // Lines that begin with `!` are of a call that fails.
 const REFUSALS: &str = "\
 append g x = Missing
@@ -130,8 +135,8 @@ fn each_call_on_files(rt: HostRuntime) -> Result<(), Fail> {
     for line in ROWS.lines() {
         let call = column(line, 0)?;
         let (told, left) = made(alloc, quiet(alloc), call)?;
-        assert_eq!(rt; told.as_str(), call);
-        assert_eq!(rt; left.as_str(), column(line, 1)?, "{call}");
+        assert!(rt; told.as_str() == call, "{call}");
+        assert!(rt; are_so(line, 1, left.as_str())?, "{call}");
     }
     Ok(())
 }
@@ -145,7 +150,7 @@ fn each_call_on_files_fails(rt: HostRuntime) -> Result<(), Fail> {
         script.failing.push(AT)?;
         let (told, left) = made(alloc, script, call)?;
         assert!(rt; told.as_str().ends_with(" = Failed"), "{call}");
-        assert_eq!(rt; left.as_str(), column(line, 2)?, "{call}");
+        assert!(rt; are_so(line, 2, left.as_str())?, "{call}");
     }
     Ok(())
 }
@@ -158,7 +163,7 @@ fn each_call_on_files_is_stopped(rt: HostRuntime) -> Result<(), Fail> {
         for (whole, number) in [(false, 3), (true, 4)] {
             let (told, left) = made(alloc, stopping(alloc, whole)?, call)?;
             assert!(rt; told.as_str().ends_with(" = Failed"), "{call}");
-            assert_eq!(rt; left.as_str(), column(line, number)?, "{call}");
+            assert!(rt; are_so(line, number, left.as_str())?, "{call}");
         }
     }
     Ok(())
