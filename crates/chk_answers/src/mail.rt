@@ -69,7 +69,7 @@ pub fn next<'a>(
     keeper: &'a Keeper,
     mailbox: Mailbox<'_>,
 ) -> Result<Option<Letter<'a>>, NoMemory>
-    ensures { IfOk result (IsNext (told_of keeper.now) (waits mailbox.entry (told_of keeper.now))) }
+    ensures { IfOk result (IsNext (told_of keeper.now.kept) (waits mailbox.entry (told_of keeper.now.kept))) }
 {
     let waiting = waiting(alloc, keeper, mailbox)?;
     let Some(number) = waiting.first().copied() else {
@@ -83,7 +83,7 @@ pub fn next<'a>(
 
 // The numbers of the messages that wait, the oldest first.
 fn waiting(alloc: Global, keeper: &Keeper, mailbox: Mailbox<'_>) -> Result<Vec<u64>, NoMemory>
-    ensures { IfOk result (λ waiting. waiting.items ≡ waits mailbox.entry (told_of keeper.now)) }
+    ensures { IfOk result (λ waiting. waiting.items ≡ waits mailbox.entry (told_of keeper.now.kept)) }
 {
     let acts = keeper.acts();
     let mut waiting = Vec::new(alloc);

@@ -115,7 +115,7 @@ impl Numbered for Take<'_> {
 
 // What is taken of the next message: all of it, under a number that no taking has.
 fn taking(alloc: Global, keeper: &Keeper, letter: Letter<'_>) -> Result<Taking, NoMemory>
-    ensures { IfOk result (IsTaking (told_of keeper.now) letter.entry) }
+    ensures { IfOk result (IsTaking (told_of keeper.now.kept) letter.entry) }
 {
     Ok(Taking {
         number: keeper.next_taking().ok_or(NoMemory)?,

@@ -24,7 +24,7 @@ pub struct Took<'a> {
 
 /// The bytes of the message of this number.
 pub fn message(keeper: &Keeper, number: u64) -> Option<&[u8]>
-    ensures { text_at result ≡ option_map (λ m. m.bytes) (message_of (told_of keeper.now) number) }
+    ensures { text_at result ≡ option_map (λ m. m.bytes) (message_of (told_of keeper.now.kept) number) }
 {
     let acts = keeper.acts();
     let mut bytes = None;
@@ -46,7 +46,7 @@ fn sent<'a>(earlier: Option<&'a [u8]>, act: &'a Act, number: u64) -> Option<&'a 
 
 /// What was taken under this number.
 pub fn taken(alloc: Global, keeper: &Keeper, number: u64) -> Result<Option<Took<'_>>, NoMemory>
-    ensures { IfOk result (λ took. taken_seen took ≡ taken_of (told_of keeper.now) number) }
+    ensures { IfOk result (λ took. taken_seen took ≡ taken_of (told_of keeper.now.kept) number) }
 {
     let acts = keeper.acts();
     let mut took = None;
@@ -114,7 +114,7 @@ fn grown<'a>(mut took: Took<'a>, more: &[u8]) -> Result<Took<'a>, NoMemory>
 
 /// The rest of the message of a taking, past what its taker took of it; nothing of nobody's taking or another's.
 pub fn more(alloc: Global, keeper: &Keeper, who: &Who, taking: u64) -> Result<Bytes, NoMemory>
-    ensures { IfOk result (λ more. AtMore (told_of keeper.now) who.now (taken_of (told_of keeper.now) taking) (more ∷ [])) }
+    ensures { IfOk result (λ more. AtMore (told_of keeper.now.kept) who.now (taken_of (told_of keeper.now.kept) taking) (more ∷ [])) }
 {
     match taken(alloc, keeper, taking)? {
         Some(took) if same_who(who, took.taker) => rest(alloc, keeper, &took),
@@ -124,7 +124,7 @@ pub fn more(alloc: Global, keeper: &Keeper, who: &Who, taking: u64) -> Result<By
 
 // The bytes that a message has past those taken of it.
 fn rest(alloc: Global, keeper: &Keeper, took: &Took<'_>) -> Result<Bytes, NoMemory>
-    ensures { IfOk result (λ more. TakenPrefix took.now.taker.now.role took.now.of (message_of (told_of keeper.now) took.now.of) (took.now.bytes ++ more)) }
+    ensures { IfOk result (λ more. TakenPrefix took.now.taker.now.role took.now.of (message_of (told_of keeper.now.kept) took.now.of) (took.now.bytes ++ more)) }
 {
     if took.taker.role == Role::Agent && took.of == 0 {
         return Ok(Bytes::new(alloc));

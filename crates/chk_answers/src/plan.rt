@@ -35,7 +35,7 @@ pub trait Question {
 
     /// The act that answers it in this state.
     fn plan(&self, alloc: Global, keeper: &Keeper) -> Result<Planned<Self::Gives>, NoMemory>
-        ensures plans { IfOk result (Plans (asks self.now) says (told_of keeper.now)) }
+        ensures plans { IfOk result (Plans (asks self.now) says (told_of keeper.now.kept)) }
         ensures may { IfOk result (λ planned. may self.now planned.gives) };
 
     ghost may_fail: { (question : Self) → may question (Err Failed) };
@@ -58,7 +58,7 @@ pub trait Numbered {
 
     /// The act that answers it in this state.
     fn plan(&self, alloc: Global, keeper: &Keeper) -> Result<Planned<Self::Gives>, NoMemory>
-        ensures plans { IfOk result (λ planned. (n : ℕ) × Plans (asks self.now n) (says n) (told_of keeper.now) planned) }
+        ensures plans { IfOk result (λ planned. (n : ℕ) × Plans (asks self.now n) (says n) (told_of keeper.now.kept) planned) }
         ensures may { IfOk result (λ planned. may self.now planned.gives) };
 
     ghost may_fail: { (question : Self) → may question (Err Failed) };

@@ -35,7 +35,7 @@ type Takings<'a> = BTreeMap<u64, Taker<'a>>;
 /// What is got for a message: the oldest answer to a taking at the mailbox whose call was done, else the oldest whose
 /// call was done, else nothing.
 pub fn got(alloc: Global, keeper: &Keeper, message: u64) -> Result<&[u8], NoMemory>
-    ensures { IfOk result (λ bytes. bytes.now ≡ got_of (replies (told_of keeper.now) message)) }
+    ensures { IfOk result (λ bytes. bytes.now ≡ got_of (replies (told_of keeper.now.kept) message)) }
 {
     let acts = keeper.acts();
     let mut takings = BTreeMap::new(alloc);

@@ -6,6 +6,7 @@ use Rattle.std.proofs.lemmas.Bool.{false≢true}
 use Rattle.chk_site.specs.declared.acts.Act.{Act}
 use Rattle.chk_site.specs.History.{History, IsTheirs, Modelled, files_after}
 use Rattle.chk_kept.specs.Told.{Kept, kept_as, step_of, told_of, fitted}
+use Rattle.chk_kept.specs.State.{State, after}
 use Rattle.chk_kept.specs.Going.{TheirsSince, GoesOn}
 use Rattle.chk_kept.proofs.KeepLemmas.{told_push}
 
@@ -27,31 +28,31 @@ theirs_one start kept act since modelled =
     }
 
 -- the same, where the act may be left out
-pub theirs_kept : (start : History) (old new : List Kept) (act : Act) (kept : Bool) → TheirsSince start (told_of old)
-    → new ≡ (if kept then old ++ kept_as false (fitted (files_after (told_of old)) act) ∷ [] else old)
-    → OnTrue kept (Modelled (told_of old) (step_of (told_of old) (kept_as false (fitted (files_after (told_of old)) act))))
-    → TheirsSince start (told_of new)
+pub theirs_kept : (start : History) (old new : State) (act : Act) (kept : Bool) → TheirsSince start (told_of old.kept)
+    → new ≡ (if kept then after (kept_as false (fitted (files_after (told_of old.kept)) act)) old else old)
+    → OnTrue kept (Modelled (told_of old.kept) (step_of (told_of old.kept) (kept_as false (fitted (files_after (told_of old.kept)) act))))
+    → TheirsSince start (told_of new.kept)
 theirs_kept start old new act true since is modelled =
-    subst (λ (k : List Kept). TheirsSince start (told_of k)) (sym is)
-    (theirs_one start old (fitted (files_after (told_of old)) act) since modelled)
+    subst (λ (s : State). TheirsSince start (told_of s.kept)) (sym is)
+    (theirs_one start old.kept (fitted (files_after (told_of old.kept)) act) since modelled)
 theirs_kept start old new act false since is modelled =
-    subst (λ (k : List Kept). TheirsSince start (told_of k)) (sym is) since
+    subst (λ (s : State). TheirsSince start (told_of s.kept)) (sym is) since
 
 -- without memory nothing was added
-pub theirs_unmade : (start : History) (old new : List Kept) → TheirsSince start (told_of old) → new ≡ old → TheirsSince start (told_of new)
-theirs_unmade start old new since is = subst (λ (k : List Kept). TheirsSince start (told_of k)) (sym is) since
+pub theirs_unmade : (start : History) (old new : State) → TheirsSince start (told_of old.kept) → new ≡ old → TheirsSince start (told_of new.kept)
+theirs_unmade start old new since is = subst (λ (s : State). TheirsSince start (told_of s.kept)) (sym is) since
 
 -- one own act more
-pub goes_kept : (old new : List Kept) (act : Act) (kept : Bool) → kept ≡ true
-    → new ≡ (if kept then old ++ kept_as true (fitted (files_after (told_of old)) act) ∷ [] else old)
-    → OnTrue kept (Modelled (told_of old) (step_of (told_of old) (kept_as true (fitted (files_after (told_of old)) act))))
-    → GoesOn (fitted (files_after (told_of old)) act) (told_of old) (told_of new)
+pub goes_kept : (old new : State) (act : Act) (kept : Bool) → kept ≡ true
+    → new ≡ (if kept then after (kept_as true (fitted (files_after (told_of old.kept)) act)) old else old)
+    → OnTrue kept (Modelled (told_of old.kept) (step_of (told_of old.kept) (kept_as true (fitted (files_after (told_of old.kept)) act))))
+    → GoesOn (fitted (files_after (told_of old.kept)) act) (told_of old.kept) (told_of new.kept)
 goes_kept old new act true kept_so is modelled =
-    let one = kept_as true (fitted (files_after (told_of old)) act) in
+    let one = kept_as true (fitted (files_after (told_of old.kept)) act) in
     record {
-      files = (step_of (told_of old) one).files;
-      logs = (step_of (told_of old) one).logs;
-      goes_on = ap told_of is ∙ told_push old one;
+      files = (step_of (told_of old.kept) one).files;
+      logs = (step_of (told_of old.kept) one).logs;
+      goes_on = ap (λ s. told_of s.kept) is ∙ told_push old.kept one;
       modelled = modelled;
     }
 goes_kept old new act false kept_so is modelled = absurd (false≢true kept_so)

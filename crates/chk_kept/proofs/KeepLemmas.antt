@@ -20,6 +20,8 @@ use Rattle.chk_kept.specs.Told.{Kept, kept_as, disowned, did_of, files_by, tails
 use Rattle.chk_kept.specs.Stored.{file_of, file_in, log_in, Stores, IsLeft}
 use Rattle.chk_kept.specs.Keeping.{kept_in, IsKept}
 use Rattle.chk_kept.specs.Numbers.{last_message, last_taking}
+use Rattle.chk_kept.specs.Repeating.{Repeating}
+use Rattle.chk_kept.specs.State.{State}
 use Rattle.chk_kept.specs.Room.{file_size, HasRoom}
 use Rattle.chk_kept.proofs.StopLemmas.{fitted_same}
 use Rattle.chk_kept.proofs.ModelLemmas.{IsSound}
@@ -247,3 +249,11 @@ kept_disowned mine past files logs stopped messages takings kept =
       };
       stop = ap (λ k. is_stopped (told_of k)) is ∙ disowned_runs before [] refl;
     }
+
+-- what a keeper tells, by its parts
+pub same_state : (a b : List Kept) (x y : ℕ) (r s : Repeating) → a ≡ b → x ≡ y → r ≡ s
+    → ◌≡◌ {A = State} (record { kept = a; clock = x; repeats = r }) (record { kept = b; clock = y; repeats = s })
+same_state a b x y r s kept clock repeats =
+    ap (λ (k : List Kept). let t : State = record { kept = k; clock = x; repeats = r } in t) kept
+    ∙ ap (λ (n : ℕ). let t : State = record { kept = b; clock = n; repeats = r } in t) clock
+    ∙ ap (λ (q : Repeating). let t : State = record { kept = b; clock = y; repeats = q } in t) repeats

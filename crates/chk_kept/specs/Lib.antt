@@ -6,5 +6,7 @@ pub mod Stored
 pub mod Reads
 pub mod Changes
 pub mod Numbers
+pub mod Repeating
+pub mod State
 pub mod Keeping
 pub mod Listing

@@ -4,6 +4,8 @@
 //! - `queue TIMES`: posts of 1,000 chunks through the queue and the table of answers;
 //! - `request TIMES`: a request of 4 MiB is read;
 //! - `append TIMES EVERY`: 1 KiB is appended to a file below the current folder, with a sync after each EVERY, 0: none;
+//! - `sinks TIMES`: rounds of 4 MiB in 32 chunks are put into a collector's sink below the current folder, and each is
+//!   committed;
 //! - `take DOOR TURNS WAIT`: messages are taken at the door, with this wait in milliseconds, and answered; what was
 //!   taken, the longest calls in milliseconds and the count of faults are printed;
 //! - `all TIMES`: each of these but the last.
@@ -13,12 +15,15 @@
 #![tactic(auto)]
 
 mod appends;
+mod bodies;
 mod posts;
 mod requests;
+mod rounds;
 mod takings;
 mod works;
 
 use chk_bytes::NoMemory;
+use chk_sink::SinkFault;
 use chk_site::CallFault;
 use chk_site_real::SiteReal;
 use std::process::ExitCode;
@@ -58,11 +63,13 @@ fn done(rt: HostRuntime, work: Work<'_>) -> Result<bool, NoMemory> {
         Work::Queue { times } => posts::posts(rt.alloc(), times),
         Work::Request { times } => requests::requests(rt.alloc(), times),
         Work::Append { times, every } => append(rt, times, every),
+        Work::Sinks { times } => sinks(rt, times),
         Work::Take { door, turns, wait } => take(rt, door, turns, wait),
         Work::All { times } => Ok(
             posts::posts(rt.alloc(), times)?
                 && requests::requests(rt.alloc(), times)?
-                && append(rt, times, 1)?,
+                && append(rt, times, 1)?
+                && sinks(rt, times)?,
         ),
     }
 }
@@ -73,6 +80,21 @@ fn append(rt: HostRuntime, times: u32, every: u32) -> Result<bool, NoMemory> {
     match appends::appends(&mut site, alloc, times, every) {
         Ok(whole) => Ok(whole),
         Err(CallFault::NoMemory) => Err(NoMemory),
+        Err(_) => Ok(false),
+    }
+}
+
+fn sinks(rt: HostRuntime, times: u32) -> Result<bool, NoMemory> {
+    let alloc = rt.alloc();
+    let mut site = SiteReal::new(rt, alloc);
+    came_out(rounds::rounds(&mut site, alloc, times))
+}
+
+// A work of the sinks that was refused isn't done.
+fn came_out(done: Result<bool, SinkFault>) -> Result<bool, NoMemory> {
+    match done {
+        Ok(whole) => Ok(whole),
+        Err(SinkFault::NoMemory) => Err(NoMemory),
         Err(_) => Ok(false),
     }
 }

@@ -13,6 +13,9 @@ pub enum Work<'a> {
         times: u32,
         every: u32,
     },
+    Sinks {
+        times: u32,
+    },
     Take {
         door: &'a str,
         turns: u32,
@@ -46,6 +49,7 @@ fn plain_work<'a>(work: &str, times: u32) -> Option<Work<'a>> {
     match work {
         "queue" => Some(Work::Queue { times }),
         "request" => Some(Work::Request { times }),
+        "sinks" => Some(Work::Sinks { times }),
         "all" => Some(Work::All { times }),
         _ => None,
     }

@@ -1,10 +1,10 @@
 // `round` over a site in memory.
-use crate::outside::{quiet, stop_at, with_file, with_log};
+use crate::outside::{failing_at, stop_at, with_file, with_log};
+use chk_asked::quiet;
 use chk_site::Script;
 use chk_site_mem::SiteMem;
 use chukwa_run::run;
 use std::alloc::Global;
-use std::process::Abort;
 use std::test::Fail;
 
 const OPEN: &str = "sinks/c1.1.1.chukwa";
@@ -31,92 +31,108 @@ pub fn run_on(alloc: Global, script: Script, words: &[&str]) -> Result<Ran, Fail
     Ok(Ran { status, site })
 }
 
-pub fn printed<R: Abort>(
-    rt: &R,
-    alloc: Global,
-    done: &Ran,
-    status: u8,
-    line: &str,
-) -> Result<(), Fail> {
-    assert_eq!(rt; done.status, status, "{line}");
+// The run ended with this status and printed this.
+pub fn printed(alloc: Global, done: &Ran, status: u8, text: &str) -> Result<(), Fail> {
     let said = done.site.printed(alloc)?;
-    assert!(rt; said.as_slice() == line.as_bytes(), "{line}");
-    Ok(())
+    if done.status == status && said.as_slice() == text.as_bytes() {
+        Ok(())
+    } else {
+        Err(Fail::new(text))
+    }
+}
+
+fn round(alloc: Global, script: Script) -> Result<Ran, Fail> {
+    run_on(alloc, script, &["round", "h1", "Log", "/a.log"])
+}
+
+fn hello(alloc: Global) -> Result<Script, Fail> {
+    with_log(alloc, "/a.log", b"hello\n")
+}
+
+fn is_sink(bytes: &[u8]) -> bool {
+    bytes.len() == 144 && bytes.starts_with(HEADER.as_slice()) && bytes.ends_with(RECORD.as_slice())
+}
+
+// The closed sink is the whole one where it is to be there, and else isn't there.
+fn is_left(site: &SiteMem, closed: bool) -> bool {
+    match site.file(CLOSED) {
+        Some(sink) => closed && is_sink(sink),
+        None => !closed,
+    }
 }
 
 #[test]
 fn first_path(rt: HostRuntime) -> Result<(), Fail> {
     let alloc = rt.alloc();
-    let done = run_on(
-        alloc,
-        with_log(alloc, "/a.log", b"hello\n".as_slice())?,
-        &["round", "h1", "Log", "/a.log"],
-    )?;
-    printed(&rt, alloc, &done, 0, "stream h1 Log /a.log 6\n")?;
-    let sink = done.site.file(CLOSED).ok_or("no sink")?;
-    assert_eq!(rt; sink.len(), 144);
-    assert!(rt; sink.starts_with(HEADER.as_slice()));
-    assert!(rt; sink.ends_with(RECORD.as_slice()));
+    let done = round(alloc, hello(alloc)?)?;
+    assert!(rt; is_left(&done.site, true));
     assert!(rt; done.site.file(OPEN).is_none());
-    Ok(())
+    printed(alloc, &done, 0, "stream h1 Log /a.log 6\n")
+}
+
+fn makes_no_sink(alloc: Global, script: Script) -> Result<(), Fail> {
+    let done = round(alloc, script)?;
+    if done.site.file(OPEN).is_some() || done.site.file(CLOSED).is_some() {
+        return Err(Fail::new("a sink"));
+    }
+    printed(alloc, &done, 0, "stream h1 Log /a.log 0\n")
 }
 
 #[test]
 fn empty_log_makes_no_sink(rt: HostRuntime) -> Result<(), Fail> {
     let alloc = rt.alloc();
-    let empty = run_on(
-        alloc,
-        with_log(alloc, "/a.log", b"".as_slice())?,
-        &["round", "h1", "Log", "/a.log"],
-    )?;
-    printed(&rt, alloc, &empty, 0, "stream h1 Log /a.log 0\n")?;
-    assert!(rt; empty.site.file(CLOSED).is_none());
-    let absent = run_on(alloc, quiet(alloc), &["round", "h1", "Log", "/a.log"])?;
-    printed(&rt, alloc, &absent, 0, "stream h1 Log /a.log 0\n")?;
-    assert!(rt; absent.site.file(OPEN).is_none());
-    Ok(())
+    makes_no_sink(alloc, with_log(alloc, "/a.log", b"")?)?;
+    makes_no_sink(alloc, quiet(alloc))
+}
+
+fn isnt_built(alloc: Global, script: Script, line: &str) -> Result<(), Fail> {
+    let done = round(alloc, script)?;
+    printed(alloc, &done, 10, line)
 }
 
 #[test]
-fn not_built(rt: HostRuntime) -> Result<(), Fail> {
+fn too_long_isnt_built(rt: HostRuntime) -> Result<(), Fail> {
     let alloc = rt.alloc();
     let long = vec![in alloc; 7u8; 131073]?;
-    let long = run_on(
-        alloc,
-        with_log(alloc, "/a.log", long.as_slice())?,
-        &["round", "h1", "Log", "/a.log"],
-    )?;
-    printed(&rt, alloc, &long, 10, "not built log\n")?;
-    let left = run_on(
-        alloc,
-        with_file(alloc, "/a.log", b"hello\n".as_slice(), OPEN)?,
-        &["round", "h1", "Log", "/a.log"],
-    )?;
-    printed(&rt, alloc, &left, 10, "not built sink\n")?;
-    Ok(())
+    let script = with_log(alloc, "/a.log", long.as_slice())?;
+    isnt_built(alloc, script, "not built log\n")
+}
+
+#[test]
+fn beside_a_sink_isnt_built(rt: HostRuntime) -> Result<(), Fail> {
+    let alloc = rt.alloc();
+    let script = with_file(alloc, "/a.log", b"hello\n", OPEN)?;
+    isnt_built(alloc, script, "not built sink\n")
+}
+
+const USAGES: [(&[&str], &str); 6] = [
+    (&[], "usage: chukwa round|salvage\n"),
+    (
+        &["round", "h1", "Log"],
+        "usage: chukwa round SOURCE TYPE LOG\n",
+    ),
+    (
+        &["round", "h1", "-x", "/a.log"],
+        "usage: chukwa round SOURCE TYPE LOG\n",
+    ),
+    (&["salvage"], "usage: chukwa salvage FILE\n"),
+    (&["salvage", "f", "g"], "usage: chukwa salvage FILE\n"),
+    (&["salvage", "-f"], "usage: chukwa salvage FILE\n"),
+];
+
+// The usage line is the only act.
+fn is_told_usage(alloc: Global, words: &[&str], line: &str) -> Result<(), Fail> {
+    let done = run_on(alloc, quiet(alloc), words)?;
+    match done.site.acts().len() {
+        1 => printed(alloc, &done, 2, line),
+        _ => Err(Fail::new(line)),
+    }
 }
 
 #[test]
 fn usage(rt: HostRuntime) -> Result<(), Fail> {
-    let alloc = rt.alloc();
-    let cases: [(&[&str], &str); 6] = [
-        (&[], "usage: chukwa round|salvage\n"),
-        (
-            &["round", "h1", "Log"],
-            "usage: chukwa round SOURCE TYPE LOG\n",
-        ),
-        (
-            &["round", "h1", "-x", "/a.log"],
-            "usage: chukwa round SOURCE TYPE LOG\n",
-        ),
-        (&["salvage"], "usage: chukwa salvage FILE\n"),
-        (&["salvage", "f", "g"], "usage: chukwa salvage FILE\n"),
-        (&["salvage", "-f"], "usage: chukwa salvage FILE\n"),
-    ];
-    for (words, line) in cases {
-        let done = run_on(alloc, quiet(alloc), words)?;
-        printed(&rt, alloc, &done, 2, line)?;
-        assert_eq!(rt; done.site.acts().len(), 1, "{line}");
+    for (words, line) in USAGES {
+        is_told_usage(rt.alloc(), words, line)?;
     }
     Ok(())
 }
@@ -134,36 +150,38 @@ const CALLS: [(u64, &str); 9] = [
     (9, "say"),
 ];
 
+fn fails_at(alloc: Global, at: u64, call: &str) -> Result<(), Fail> {
+    let failed = round(alloc, failing_at(alloc, hello(alloc)?, at)?)?;
+    let line = format!(in alloc; "outside {call}\n")?;
+    printed(alloc, &failed, 3, line.as_str())
+}
+
 #[test]
 fn each_call_fails(rt: HostRuntime) -> Result<(), Fail> {
-    let alloc = rt.alloc();
     for (at, call) in CALLS {
-        let mut script = with_log(alloc, "/a.log", b"hello\n".as_slice())?;
-        script.failing.push(at)?;
-        let failed = run_on(alloc, script, &["round", "h1", "Log", "/a.log"])?;
-        let line = format!(in alloc; "outside {call}\n")?;
-        printed(&rt, alloc, &failed, 3, line.as_str())?;
+        fails_at(rt.alloc(), at, call)?;
     }
     Ok(())
 }
 
+fn stopped(alloc: Global, at: u64, whole: bool) -> Result<Ran, Fail> {
+    let stop = stop_at(alloc, at, whole)?;
+    let mut script = hello(alloc)?;
+    script.stop = Some(stop);
+    round(alloc, script)
+}
+
+fn stops_at(alloc: Global, at: u64, whole: bool) -> Result<bool, Fail> {
+    let stopped = stopped(alloc, at, whole)?;
+    let closed = at == 9 || (at == 8 && whole);
+    Ok(stopped.status == 3 && is_left(&stopped.site, closed))
+}
+
 #[test]
 fn stopped_at_each_call(rt: HostRuntime) -> Result<(), Fail> {
-    let alloc = rt.alloc();
     for at in 1..10 {
-        for whole in [false, true] {
-            let mut script = with_log(alloc, "/a.log", b"hello\n".as_slice())?;
-            script.stop = Some(stop_at(alloc, at, whole)?);
-            let stopped = run_on(alloc, script, &["round", "h1", "Log", "/a.log"])?;
-            assert_eq!(rt; stopped.status, 3);
-            let closed = at == 9 || (at == 8 && whole);
-            match stopped.site.file(CLOSED) {
-                Some(sink) => assert!(rt;
-                    closed && sink.ends_with(RECORD.as_slice()) && sink.len() == 144
-                ),
-                None => assert!(rt; !closed),
-            }
-        }
+        assert!(rt; stops_at(rt.alloc(), at, false)?, "{at}");
+        assert!(rt; stops_at(rt.alloc(), at, true)?, "{at}");
     }
     Ok(())
 }

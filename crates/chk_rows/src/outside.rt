@@ -1,53 +1,8 @@
 // A site in memory for a test: its files and logs are made by a writer before the first call.
-use chk_bytes::{Bytes, NoMemory, Word};
-use chk_site::{Act, ActAnswer, Call, Left, Lefts, Other, Role, Script, StopAt, Who, Words};
-use chk_site_mem::SiteMem;
+use chk_asked::{left_of, quiet, written};
+use chk_site::{Call, Script, StopAt};
 use std::alloc::Global;
 use std::test::Fail;
-
-pub fn collector(alloc: Global) -> Result<Who, Fail> {
-    Ok(Who {
-        role: Role::Collector,
-        name: Word::new(alloc, b"c1".as_slice())?,
-    })
-}
-
-pub fn quiet(alloc: Global) -> Script {
-    Script {
-        others: Vec::new(alloc),
-        failing: Vec::new(alloc),
-        again: Vec::new(alloc),
-        stop: None,
-    }
-}
-
-// An act of a writer that was done.
-pub fn written(alloc: Global, call: Call, texts: &[&[u8]]) -> Result<Other, Fail> {
-    let mut words = Words::new(alloc);
-    for text in texts {
-        words.push(Bytes::from_slice(alloc, text)?)?;
-    }
-    let name = Word::new(alloc, b"log".as_slice())?;
-    let answer = ActAnswer::Done {
-        words: Words::new(alloc),
-        number: 0,
-        of: 0,
-    };
-    Ok(Other {
-        before: 1,
-        act: Act {
-            who: Who {
-                role: Role::Writer,
-                name,
-            },
-            call,
-            words,
-            number: 0,
-            max: 0,
-            answer,
-        },
-    })
-}
 
 // A script in which the log has these bytes.
 pub fn with_log(alloc: Global, path: &str, bytes: &[u8]) -> Result<Script, Fail> {
@@ -65,6 +20,13 @@ pub fn with_file(alloc: Global, path: &str, bytes: &[u8], name: &str) -> Result<
     Ok(script)
 }
 
+// The same script, in which the call of this number fails.
+pub fn failing_at(alloc: Global, script: Script, at: u64) -> Result<Script, Fail> {
+    let mut script = script;
+    script.failing = vec![in alloc; at]?;
+    Ok(script)
+}
+
 // A script in which the file has these bytes.
 pub fn with_bytes(alloc: Global, name: &str, bytes: &[u8]) -> Result<Script, Fail> {
     let mut script = quiet(alloc);
@@ -73,19 +35,6 @@ pub fn with_bytes(alloc: Global, name: &str, bytes: &[u8]) -> Result<Script, Fai
     let grown = written(alloc, Call::Append, &[name.as_bytes(), bytes])?;
     script.others.push(grown)?;
     Ok(script)
-}
-
-// What a stop leaves of each of these files: this tail past the synced length.
-pub fn left_of(alloc: Global, names: &[&str], tail: &[u8], whole: bool) -> Result<Lefts, Fail> {
-    let mut left = Lefts::new(alloc);
-    for name in names {
-        left.push(Left {
-            name: Bytes::from_slice(alloc, name.as_bytes())?,
-            tail: Bytes::from_slice(alloc, tail)?,
-            whole,
-        })?;
-    }
-    Ok(left)
 }
 
 // A stop at a call, which leaves nothing past the synced lengths of the two sinks, and takes place where `whole` says so.

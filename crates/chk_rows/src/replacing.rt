@@ -1,8 +1,8 @@
 // The replacement of a file, failed and stopped at each of its calls.
-use crate::outside::{left_of, quiet};
+use chk_asked::{failing, left_of, quiet, stopping};
 use chk_bytes::Word;
 use chk_replace::{load, replace};
-use chk_site::{Call, OutsideFault, Role, Script, Site, StopAt, Who};
+use chk_site::{Call, OutsideFault, Role, Script, Who};
 use chk_site_mem::SiteMem;
 use std::alloc::Global;
 use std::test::Fail;
@@ -34,62 +34,71 @@ fn replaced(alloc: Global, script: Script) -> Result<(SiteMem, Result<(), Outsid
 
 // After a restart a third replacement is done, and nothing is left of the others.
 fn goes_on(alloc: Global, site: &mut SiteMem) -> Result<bool, Fail> {
-    let job = job(alloc)?;
     site.restart(quiet(alloc));
-    let done = replace(alloc, site, &job, "f", b"last");
-    let read = load(alloc, site, &job, "f").map_err(|_| "no reading")?;
-    let whole = read.is_some_and(|bytes| bytes.as_slice() == b"last".as_slice());
-    Ok(done.is_ok() && whole && site.file("f.tmp").is_none())
+    let done = replace(alloc, site, &job(alloc)?, "f", b"last");
+    Ok(done.is_ok() && is_read(alloc, site, b"last")? && site.file("f.tmp").is_none())
+}
+
+fn is_read(alloc: Global, site: &mut SiteMem, wanted: &[u8]) -> Result<bool, Fail> {
+    let read = load(alloc, site, &job(alloc)?, "f").map_err(|_| "no reading")?;
+    match read {
+        Some(bytes) => Ok(bytes.as_slice() == wanted),
+        None => Ok(false),
+    }
+}
+
+fn holds(site: &SiteMem, wanted: &[u8]) -> bool {
+    site.file("f").is_some_and(|bytes| bytes == wanted)
 }
 
 #[test]
 fn replacement_is_done(rt: HostRuntime) -> Result<(), Fail> {
-    let alloc = rt.alloc();
-    let (mut site, done) = replaced(alloc, quiet(alloc))?;
-    assert_eq!(rt; done, Ok(()));
-    assert_eq!(rt; site.file("f"), Some(b"next".as_slice()));
-    assert!(rt; goes_on(alloc, &mut site)?);
+    let (mut site, done) = replaced(rt.alloc(), quiet(rt.alloc()))?;
+    assert!(rt; done.is_ok());
+    assert!(rt; holds(&site, b"next"));
+    assert!(rt; goes_on(rt.alloc(), &mut site)?);
     Ok(())
+}
+
+// The second replacement ends at this call, and leaves these bytes; another one goes on.
+fn ends_at(alloc: Global, script: Script, call: Call, left: &[u8]) -> Result<bool, Fail> {
+    let (mut site, done) = replaced(alloc, script)?;
+    let ended = done == Err(OutsideFault::Outside { call });
+    Ok(ended && holds(&site, left) && goes_on(alloc, &mut site)?)
 }
 
 #[test]
 fn replacement_fails_at_each_call(rt: HostRuntime) -> Result<(), Fail> {
     let alloc = rt.alloc();
     for (at, call) in CALLS {
-        let mut script = quiet(alloc);
-        script.failing.push(at)?;
-        let (mut site, done) = replaced(alloc, script)?;
-        assert_eq!(rt; done, Err(OutsideFault::Outside { call }));
-        assert_eq!(rt; site.file("f"), Some(b"old".as_slice()));
-        assert!(rt; goes_on(alloc, &mut site)?, "{call:?}");
+        let script = failing(alloc, at)?;
+        assert!(rt; ends_at(alloc, script, call, b"old")?, "{call:?}");
     }
     Ok(())
+}
+
+// A rename that took place leaves the new file.
+fn left_by(call: Call, whole: bool) -> &'static [u8] {
+    if whole && call == Call::Rename {
+        b"next"
+    } else {
+        b"old"
+    }
+}
+
+fn stops_at(alloc: Global, at: u64, call: Call, whole: bool, tail: &[u8]) -> Result<bool, Fail> {
+    let left = left_of(alloc, &["f", "f.tmp"], tail, whole)?;
+    ends_at(alloc, stopping(alloc, at, left), call, left_by(call, whole))
 }
 
 #[test]
 fn replacement_is_stopped_at_each_call(rt: HostRuntime) -> Result<(), Fail> {
     let alloc = rt.alloc();
     for (at, call) in CALLS {
-        for (whole, tail) in [
-            (false, b"".as_slice()),
-            (false, b"ne"),
-            (true, b""),
-            (true, b"next"),
-        ] {
-            let mut script = quiet(alloc);
-            let left = left_of(alloc, &["f", "f.tmp"], tail, whole)?;
-            script.stop = Some(StopAt { at, left });
-            let (mut site, done) = replaced(alloc, script)?;
-            assert_eq!(rt; done, Err(OutsideFault::Outside { call }));
-            let renamed = whole && call == Call::Rename;
-            let expected = if renamed {
-                b"next".as_slice()
-            } else {
-                b"old".as_slice()
-            };
-            assert_eq!(rt; site.file("f"), Some(expected));
-            assert!(rt; goes_on(alloc, &mut site)?, "{call:?}");
-        }
+        assert!(rt; stops_at(alloc, at, call, false, b"")?, "{call:?}");
+        assert!(rt; stops_at(alloc, at, call, false, b"ne")?, "{call:?}");
+        assert!(rt; stops_at(alloc, at, call, true, b"")?, "{call:?}");
+        assert!(rt; stops_at(alloc, at, call, true, b"next")?, "{call:?}");
     }
     Ok(())
 }

@@ -1,10 +1,11 @@
 // `salvage` over a site in memory.
-use crate::first_path::{HEADER, printed, run_on};
-use crate::outside::{quiet, with_bytes};
+use crate::first_path::{HEADER, Ran, printed, run_on};
+use crate::outside::{failing_at, with_bytes};
+use chk_asked::quiet;
 use chk_bytes::Bytes;
 use chk_site::{Call, Script};
+use chk_site_mem::SiteMem;
 use std::alloc::Global;
-use std::process::Abort;
 use std::test::Fail;
 
 // The sync entry of that file.
@@ -36,81 +37,112 @@ fn joined(alloc: Global, parts: &[&[u8]]) -> Result<Bytes, Fail> {
     Ok(bytes)
 }
 
-fn prints<R: Abort>(
-    rt: &R,
-    alloc: Global,
-    script: Script,
-    status: u8,
-    text: &str,
-) -> Result<(), Fail> {
-    let done = run_on(alloc, script, &["salvage", "f"])?;
-    printed(rt, alloc, &done, status, text)
+fn salvage(alloc: Global, script: Script) -> Result<Ran, Fail> {
+    run_on(alloc, script, &["salvage", "f"])
+}
+
+fn with_parts(alloc: Global, parts: &[&[u8]]) -> Result<Script, Fail> {
+    let bytes = joined(alloc, parts)?;
+    with_bytes(alloc, "f", bytes.as_slice())
+}
+
+fn prints(alloc: Global, script: Script, status: u8, text: &str) -> Result<(), Fail> {
+    let done = salvage(alloc, script)?;
+    printed(alloc, &done, status, text)
+}
+
+// A file of these parts is read, and this is printed.
+fn reads(alloc: Global, parts: &[&[u8]], text: &str) -> Result<(), Fail> {
+    prints(alloc, with_parts(alloc, parts)?, 0, text)
+}
+
+fn refuses(alloc: Global, bytes: &[u8]) -> Result<(), Fail> {
+    prints(alloc, with_bytes(alloc, "f", bytes)?, 5, "damaged f 0\n")
 }
 
 #[test]
-fn salvage_prints(rt: HostRuntime) -> Result<(), Fail> {
+fn each_record_is_printed(rt: HostRuntime) -> Result<(), Fail> {
+    reads(
+        rt.alloc(),
+        &[HEADER, b"\0", LONG, DATA, SYNC, b"\0", SHORT],
+        "entry 96 2096 h1 Log /a.log 1958\nentry 2116 2164 h1 Log /a.log 1964\n",
+    )
+}
+
+#[test]
+fn damage_is_skipped(rt: HostRuntime) -> Result<(), Fail> {
+    reads(
+        rt.alloc(),
+        &[HEADER, b"\x7f", LONG, DATA, SYNC, b"\0", SHORT],
+        "skipped 96 2096\nentry 2116 2164 h1 Log /a.log 1964\n",
+    )
+}
+
+#[test]
+fn damage_at_the_end_is_skipped(rt: HostRuntime) -> Result<(), Fail> {
+    reads(rt.alloc(), &[HEADER, b"\x7f", SHORT], "skipped 96 144\n")
+}
+
+#[test]
+fn other_keys_are_printed(rt: HostRuntime) -> Result<(), Fail> {
     let alloc = rt.alloc();
-    let cases: [(&[&[u8]], u8, &str); 8] = [
-        (
-            &[HEADER, b"\0", LONG, DATA, SYNC, b"\0", SHORT],
-            0,
-            "entry 96 2096 h1 Log /a.log 1958\nentry 2116 2164 h1 Log /a.log 1964\n",
-        ),
-        (
-            &[HEADER, b"\x7f", LONG, DATA, SYNC, b"\0", SHORT],
-            0,
-            "skipped 96 2096\nentry 2116 2164 h1 Log /a.log 1964\n",
-        ),
-        (&[HEADER, b"\x7f", SHORT], 0, "skipped 96 144\n"),
-        (&[HEADER, EAST], 0, "entry 96 156 h1 Log /a.log 9\n"),
-        (&[HEADER, OTHER], 0, "other 96 116\n"),
-        (&[HEADER], 0, ""),
-        (&[&HEADER[..95]], 5, "damaged f 0\n"),
-        (&[b"SEX"], 5, "damaged f 0\n"),
-    ];
-    for (parts, status, text) in cases {
-        let bytes = joined(alloc, parts)?;
-        let script = with_bytes(alloc, "f", bytes.as_slice())?;
-        prints(&rt, alloc, script, status, text)?;
-    }
-    prints(&rt, alloc, quiet(alloc), 5, "damaged f 0\n")
+    reads(alloc, &[HEADER, EAST], "entry 96 156 h1 Log /a.log 9\n")?;
+    reads(alloc, &[HEADER, OTHER], "other 96 116\n")?;
+    reads(alloc, &[HEADER], "")
+}
+
+#[test]
+fn other_files_are_refused(rt: HostRuntime) -> Result<(), Fail> {
+    let alloc = rt.alloc();
+    refuses(alloc, &HEADER[..95])?;
+    refuses(alloc, b"SEX")?;
+    prints(alloc, quiet(alloc), 5, "damaged f 0\n")
+}
+
+fn fails_at(alloc: Global, at: u64, line: &str) -> Result<(), Fail> {
+    let script = with_parts(alloc, &[HEADER, OTHER])?;
+    prints(alloc, failing_at(alloc, script, at)?, 3, line)
 }
 
 #[test]
 fn each_call_of_salvage_fails(rt: HostRuntime) -> Result<(), Fail> {
     let alloc = rt.alloc();
-    let bytes = joined(alloc, &[HEADER, OTHER])?;
-    for (at, line) in [
-        (1, "outside read\n"),
-        (2, "outside read\n"),
-        (3, "outside say\n"),
-    ] {
-        let mut script = with_bytes(alloc, "f", bytes.as_slice())?;
-        script.failing.push(at)?;
-        prints(&rt, alloc, script, 3, line)?;
-    }
-    Ok(())
+    fails_at(alloc, 1, "outside read\n")?;
+    fails_at(alloc, 2, "outside read\n")?;
+    fails_at(alloc, 3, "outside say\n")
 }
 
-// The lines of 4,000 records without a key: 70,917 bytes, so two prints.
-#[test]
-fn prints_in_pieces(rt: HostRuntime) -> Result<(), Fail> {
-    let alloc = rt.alloc();
+// A file of 4,000 records without a key.
+fn many(alloc: Global) -> Result<Bytes, Fail> {
     let mut bytes = joined(alloc, &[HEADER])?;
     for _record in 0..4000 {
         bytes.push_all(OTHER)?;
     }
-    let script = with_bytes(alloc, "f", bytes.as_slice())?;
-    let done = run_on(alloc, script, &["salvage", "f"])?;
-    assert_eq!(rt; done.status, 0);
+    Ok(bytes)
+}
+
+// Their lines are 70,917 bytes.
+fn are_lines(said: &[u8]) -> bool {
+    said.len() == 70917
+        && said.starts_with(b"other 96 116\nother 116 136\n")
+        && said.ends_with(b"other 80076 80096\n")
+}
+
+fn says(site: &SiteMem) -> usize {
+    site.acts()
+        .iter()
+        .filter(|act| act.call == Call::Say)
+        .count()
+}
+
+#[test]
+fn prints_in_pieces(rt: HostRuntime) -> Result<(), Fail> {
+    let alloc = rt.alloc();
+    let bytes = many(alloc)?;
+    let done = salvage(alloc, with_bytes(alloc, "f", bytes.as_slice())?)?;
     let said = done.site.printed(alloc)?;
-    assert_eq!(rt; said.len(), 70917);
-    assert!(rt;
-        said.as_slice()
-            .starts_with(b"other 96 116\nother 116 136\n")
-    );
-    assert!(rt; said.as_slice().ends_with(b"other 80076 80096\n"));
-    let acts = done.site.acts();
-    assert_eq!(rt; acts.iter().filter(|act| act.call == Call::Say).count(), 2);
+    assert!(rt; done.status == 0);
+    assert!(rt; are_lines(said.as_slice()));
+    assert!(rt; says(&done.site) == 2);
     Ok(())
 }

@@ -25,7 +25,7 @@ impl Others {
     /// Those that happen before the call of this number, in the order of the list. One that the file model doesn't allow
     /// is left out, and so is one for which there is no memory.
     pub fn happen(&mut self, alloc: Global, keeper: &mut Keeper, call: u64) -> Result<(), NoMemory>
-        ensures { TheirsSince (told_of keeper.old) (told_of keeper.new) }
+        ensures { TheirsSince (told_of keeper.old.kept) (told_of keeper.new.kept) }
     {
         self.sort()?;
         for _ in 0..self.waiting.len() {

@@ -39,11 +39,11 @@ impl Model for SiteClean {
     ghost use Rattle.chk_site.specs.History.{is_stopped};
     ghost use Rattle.chk_kept.specs.Told.{told_of};
 
-    ghost view = { λ s. s.keeper };
+    ghost view = { λ s. s.keeper.kept };
 
     ghost use Rattle.chk_site_mem.specs.Lossless.{NothingLost};
 
-    ghost invariant = { λ s. (is_stopped (told_of s.keeper) ≡ false) × NothingLost (told_of s.keeper) };
+    ghost invariant = { λ s. (is_stopped (told_of s.keeper.kept) ≡ false) × NothingLost (told_of s.keeper.kept) };
 }
 
 impl SiteClean {

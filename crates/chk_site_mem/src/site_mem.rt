@@ -43,9 +43,9 @@ impl Model for SiteMem {
     ghost use Rattle.chk_kept.specs.Told.{told_of};
     ghost use Rattle.chk_site_mem.specs.Lossless.{NothingLost};
 
-    ghost view = { λ s. record { kept = s.keeper; faults = s.faults } };
+    ghost view = { λ s. record { kept = s.keeper.kept; faults = s.faults } };
 
-    ghost invariant = { λ s. NothingLost (told_of s.keeper) };
+    ghost invariant = { λ s. NothingLost (told_of s.keeper.kept) };
 }
 
 // How a call comes out by the script.

@@ -13,6 +13,7 @@ use Rattle.chk_site.specs.declared.acts.ActAnswer.TheVariants.{Done, Refused, St
 use Rattle.chk_site.specs.Files.{File, Files}
 use Rattle.chk_site.specs.Acts.{Deed, Renames, Removes, deed, is_done, same_who}
 use Rattle.chk_site.specs.History.{Step, History, files_after}
+use Rattle.chk_site.specs.Honest.{Honest}
 use Rattle.chk_site.specs.Site.{Adds}
 use Rattle.chk_site.specs.Runs.{Leads, MadeInTurn}
 use Rattle.chk_replace.specs.Replace.{tmp, replacement}
@@ -62,7 +63,7 @@ still_well None o = refl
 still_well (Some y) None = refl
 still_well (Some y) (Some cur) = refl
 
-went_goes : (call : Deed) (answer : ActAnswer) → Went call answer → GoesOn answer
+pub went_goes : (call : Deed) (answer : ActAnswer) → Went call answer → GoesOn answer
 went_goes call (Done words number of) went = tt
 went_goes call (Refused fault) went = tt
 went_goes (Removes w) (Stopped left) went = went
@@ -100,10 +101,10 @@ module _ (n : Name) (w : List ℕ) (reads : read w ≡ Temporary n) (before afte
   next_born call (on_append bytes) answer = (refl, refl)
   next_born call on_sync answer = (refl, refl)
 
-goes_failed : (answer : ActAnswer) → answer ≡ Refused Failed → GoesOn answer
+pub goes_failed : (answer : ActAnswer) → answer ≡ Refused Failed → GoesOn answer
 goes_failed answer e = subst GoesOn (sym e) tt
 
-goes_is_done : (answer : ActAnswer) → is_done answer ≡ true → GoesOn answer
+pub goes_is_done : (answer : ActAnswer) → is_done answer ≡ true → GoesOn answer
 goes_is_done (Done words number of) e = tt
 goes_is_done (Refused fault) e = tt
 goes_is_done (Stopped left) e = absurd (true≢false (sym e))
@@ -117,7 +118,6 @@ collector_target stamped who a n place small apart apart_next = record {
   place = place;
   sight = λ history step f. view_stays stamped who history step f;
   small = small;
-  apart = apart;
   apart_next = apart_next;
 }
 
@@ -181,10 +181,10 @@ module _ (stamped : List (List ℕ)) (c : List ℕ) (a : Name) (target : Target 
       ap (λ (v : View). v.made) (own_sight Me before step by goes)
       ∙ ap (λ call. (own_view (files_after before) step.files (view Me before) call step.act.answer).made) is
 
-  born_may : (before : History) (step : Step) → step.act.who ≡ Me → deed step.act ≡ Renames w name → Legal stamped before
+  born_may : (before : History) (step : Step) → step.act.who ≡ Me → deed step.act ≡ Renames w name → Honest before step → Legal stamped before
       → Unborn k (view Me before) (file (files_after before) a) (file (files_after before) (BornFile c))
       → file (files_after before) (Temporary (BornFile c)) ≡ settled (be64 (k + 1)) → RoleMay stamped step.act.who.role before step
-  born_may before step by is legal h next =
+  born_may before step by is honest legal h next =
       collector_rule stamped Me before step (Renames w name) refl by is
       (rw (reads, reads_name) (refl, h.born, published (file (files_after before) (Temporary (BornFile c))) (number_settled (k + 1) _ small next)))
     where
@@ -323,10 +323,10 @@ module _ (stamped : List (List ℕ)) (x : Stem) (target : Target stamped (record
   committed_as None v k e c h = absurd h
   committed_as (Some g) v k e c h = (subst (λ k. IsCommitted k g) (sym e) h, is_current v c)
 
-  mark_may : (before : History) (step : Step) → step.act.who ≡ Us → deed step.act ≡ Renames w name → Legal stamped before
+  mark_may : (before : History) (step : Step) → step.act.who ≡ Us → deed step.act ≡ Renames w name → Honest before step → Legal stamped before
       → B (view Us before) (file (files_after before) (SinkFile x)) (file (files_after before) (MarkFile x))
       → file (files_after before) (Temporary (MarkFile x)) ≡ settled (be64 size) → RoleMay stamped step.act.who.role before step
-  mark_may before step by is legal h next =
+  mark_may before step by is honest legal h next =
       collector_rule stamped Us before step (Renames w name) refl by is
       (rw (reads, reads_name) (refl, published (file (files_after before) (Temporary (MarkFile x))) (number_settled size _ small next)))
     where
@@ -350,7 +350,7 @@ module _ (stamped : List (List ℕ)) (x : Stem) (target : Target stamped (record
         let moved = as_before (view Us before) _ (file (files_after before) (SinkFile x)) _ (file step.files (MarkFile x))
         (renamed_alike (files_after before) step.files (view Us before) step.act.answer done) h in
         record {
-          marking = subst (λ s. B (view Us (step ∷ before)) s (file step.files (MarkFile x))) (sym sink_same)
+          marking = subst (λ s. B (view Us (step ∷ before)) s (file step.files (MarkFile x))) (sym (sink_same refl))
               (subst (λ v. B v (file (files_after before) (SinkFile x)) (file step.files (MarkFile x)))
               (sym (renamed_view before step by is (goes_is_done step.act.answer done))) moved);
           mark = number_is size (file step.files (MarkFile x)) small there;

@@ -29,15 +29,15 @@ below stamped (step ∷ history) legal x is n (inr e) =
     omega (arith, h, length-append (wrote x history) (written_by x (deed step.act) step.act.answer))
 
 -- an append of which something was written to x was done, and was to x
-record IsAppend (x : Stem) (call : Deed) (answer : ActAnswer) : Type 0 where
-  word : List ℕ
-  piece : List ℕ
-  words : List (List ℕ)
-  number : ℕ
-  of : ℕ
-  call_is : call ≡ Appends word piece
-  answer_is : answer ≡ Done words number of
-  name_is : read word ≡ SinkFile x
+pub record IsAppend (x : Stem) (call : Deed) (answer : ActAnswer) : Type 0 where
+  pub word : List ℕ
+  pub piece : List ℕ
+  pub words : List (List ℕ)
+  pub number : ℕ
+  pub of : ℕ
+  pub call_is : call ≡ Appends word piece
+  pub answer_is : answer ≡ Done words number of
+  pub name_is : read word ≡ SinkFile x
 
 sink_is : (x : Stem) (n : Name) (piece : List ℕ) → 0 < length (piece_to x n piece) → n ≡ SinkFile x
 sink_is x (SinkFile y) piece h = go (same_stem x y) refl h
@@ -54,7 +54,7 @@ sink_is x (SegmentFile f k) piece h = absurd (let z : ⊥ = omega (arith, h) in 
 sink_is x (Temporary n) piece h = absurd (let z : ⊥ = omega (arith, h) in z)
 sink_is x (OtherFile w) piece h = absurd (let z : ⊥ = omega (arith, h) in z)
 
-is_append : (x : Stem) (call : Deed) (answer : ActAnswer) → 0 < length (written_by x call answer) → IsAppend x call answer
+pub is_append : (x : Stem) (call : Deed) (answer : ActAnswer) → 0 < length (written_by x call answer) → IsAppend x call answer
 is_append x (Appends w piece) (Done words number of) h =
     record { word = w; piece = piece; words = words; number = number; of = of; call_is = refl; answer_is = refl; name_is = sink_is x (read w) piece h }
 is_append x call answer h = absurd (let z : ⊥ = omega (arith, h) in z)
@@ -159,6 +159,18 @@ module _ (stamped : List (List ℕ)) (history : History) (step : Step) (legal : 
   writes_next =
       subst (WritesNext x history) (sym written_is)
       (next_at (file (files_after history) (SinkFile x)) rule (held (file (files_after history) (SinkFile x)) rule refl))
+
+  longer_there : (o : Option File) → HasFile o (λ f. IsCurrent (view (collector x) history).current x (λ cur. IsNextPiece (view (collector x) history).handled cur (length f.bytes) a.piece))
+      → OnFile o (λ f. f.bytes ≡ wrote x history) → HasFile (option_map (grown a.piece) o) (λ f. length f.bytes ≡ length (wrote x history ++ a.piece))
+  longer_there None h same = h
+  longer_there (Some f) h same = ap (λ b. length (b ++ a.piece)) same
+
+  -- the sink is there, as long as what was written
+  pub appended_there : HasFile (file step.files (SinkFile x)) (λ f. length f.bytes ≡ length (wrote x (step ∷ history)))
+  appended_there =
+      subst (λ o. HasFile o (λ f. length f.bytes ≡ length (wrote x history ++ written_by x (deed step.act) step.act.answer))) (sym after_is)
+      (subst (λ p. HasFile (option_map (grown a.piece) (file (files_after history) (SinkFile x))) (λ f. length f.bytes ≡ length (wrote x history ++ p))) (sym written_is)
+      (longer_there (file (files_after history) (SinkFile x)) rule (held (file (files_after history) (SinkFile x)) rule refl)))
 
   pub ends_past : EndsPastCommitted history step x
   ends_past = record { end = ends; before = λ e. past (below stamped history legal.0 x is (length (wrote x (step ∷ history))) e) }

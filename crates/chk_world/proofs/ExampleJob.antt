@@ -1,4 +1,4 @@
--- It is legal: the sink is done, archived and removed.
+-- It is legal: the sink is archived and removed, and the run is reported.
 use Rattle.std.proofs.Common.{◌≡◌, ◌⊎◌, inl, inr, Bool, true, false, [], ◌∷◌, refl, arith, ◌≤◌, if◌then◌else◌, sym, subst, ap, ◌∙◌}
 use Rattle.std.specs.Prelude.{codes, Any, IsTrue}
 use Rattle.std.specs.Fmt.{digits}
@@ -6,7 +6,7 @@ use Rattle.std.specs.Str.{is_utf8, chars}
 use lib.Utf8.{encode}
 use Rattle.md5.specs.Md5.{md5, digest_bytes, hash_after, compress, rounds, block_words}
 use Rattle.chk_bytes.specs.Words.{is_word}
-use Rattle.chk_site.specs.Files.{Nothing, Created, Grown, Secured, Moved, Gone}
+use Rattle.chk_site.specs.Files.{Created, Grown, Secured, Moved, Gone}
 use Rattle.chk_site.specs.History.{files_after}
 use Rattle.chk_seqfile.specs.Headers.{marker_of, written_front, class_text, read_header, read_front, read_fields, read_class}
 use Rattle.chk_seqfile.specs.Entries.{records_of, entry_at}
@@ -20,70 +20,16 @@ use Rattle.chk_world.specs.Committed.{HasFile, archived_end, aside_chunks}
 use Rattle.chk_world.specs.Jobs.{BookNamesSyncedSegments, ArchiveGrowsByParts, Grows, IsSoundSegment, chunks_after, IsPartAt, Run, HasStart}
 use Rattle.chk_world.specs.Rules.{Legal}
 use Rattle.chk_seqfile.proofs.HeaderLemmas.{IsHeader-header, length-marker_of}
-use Rattle.chk_world.proofs.ExampleTexts.{sink, entry, mark, done_sink, seg, book_tmp, book_name, seg_head, stream, segment, end, book_1st, book_text, chunk, stem}
-use Rattle.chk_world.proofs.ExampleSteps.{g28, g29, g30, g31, g32, g33, g34, g35, g36, g37, g38, g39}
+use Rattle.chk_world.proofs.ExampleTexts.{entry, done_sink, seg, book_tmp, book_name, seg_head, stream, segment, end, book_1st, book_text, chunk, stem}
+use Rattle.chk_world.proofs.ExampleSteps.{g31, g32, g33, g34, g35, g36, g37, g38, g39}
 use Rattle.chk_world.proofs.ExampleMessages.{in_one, in_none}
 use Rattle.chk_world.proofs.NameTests.{streams_same}
-use Rattle.chk_world.proofs.ExampleMoves.{glegal27}
-
-pub glegal28 : Legal [] g28
-unfolding read spell digits is_utf8 chars encode is_word key_1 key_2 written_key guessed_key written_part read_key read_checkpoint read_book read_header read_front read_fields read_class entry_at records_of marker_of written_front class_text md5 digest_bytes hash_after compress rounds block_words written_post_request written_poll_request written_reply
-glegal28 = (
-  glegal27,
-  record {
-    honest = record {
-      modelled = record { effect = record { did = Moved sink done_sink; may = refl; files_left = λ n. refl; logs_left = λ p. refl }; small = tt };
-      agrees = refl;
-    };
-    named = refl;
-    starts = refl;
-    own_files = (refl, refl);
-    logs = tt;
-    requests = tt;
-    rule = (refl, (refl, refl));
-  },
-)
-
-pub glegal29 : Legal [] g29
-unfolding read spell digits is_utf8 chars encode is_word key_1 key_2 written_key guessed_key written_part read_key read_checkpoint read_book read_header read_front read_fields read_class entry_at records_of marker_of written_front class_text md5 digest_bytes hash_after compress rounds block_words written_post_request written_poll_request written_reply
-glegal29 = (
-  glegal28,
-  record {
-    honest = record {
-      modelled = record { effect = record { did = Gone mark; may = refl; files_left = λ n. refl; logs_left = λ p. refl }; small = tt };
-      agrees = refl;
-    };
-    named = refl;
-    starts = refl;
-    own_files = refl;
-    logs = tt;
-    requests = tt;
-    rule = tt;
-  },
-)
-
-pub glegal30 : Legal [] g30
-unfolding read spell digits is_utf8 chars encode is_word key_1 key_2 written_key guessed_key written_part read_key read_checkpoint read_book read_header read_front read_fields read_class entry_at records_of marker_of written_front class_text md5 digest_bytes hash_after compress rounds block_words written_post_request written_poll_request written_reply
-glegal30 = (
-  glegal29,
-  record {
-    honest = record {
-      modelled = record { effect = record { did = Nothing; may = refl; files_left = λ n. refl; logs_left = λ p. refl }; small = tt };
-      agrees = tt;
-    };
-    named = refl;
-    starts = tt;
-    own_files = tt;
-    logs = tt;
-    requests = tt;
-    rule = (refl, tt);
-  },
-)
+use Rattle.chk_world.proofs.ExampleListing.{listing_legal}
 
 pub glegal31 : Legal [] g31
 unfolding read spell digits is_utf8 chars encode is_word key_1 key_2 written_key guessed_key written_part read_key read_checkpoint read_book read_header read_front read_fields read_class entry_at records_of marker_of written_front class_text md5 digest_bytes hash_after compress rounds block_words written_post_request written_poll_request written_reply
 glegal31 = (
-  glegal30,
+  listing_legal,
   record {
     honest = record {
       modelled = record { effect = record { did = Created seg; may = refl; files_left = λ n. refl; logs_left = λ p. refl }; small = tt };

@@ -5,7 +5,7 @@ use Rattle.chk_bytes.specs.Numbers.{be64}
 use Rattle.chk_site.specs.declared.acts.Who.{Who}
 use Rattle.chk_site.specs.declared.acts.Act.{Act}
 use Rattle.chk_site.specs.declared.acts.Call.{Call}
-use Rattle.chk_site.specs.declared.acts.Call.TheVariants.{Start, Create, Append, Sync, Rename, Remove, LogRead, LogAppend, Send, Take, Answer, Got, Clock, Cut}
+use Rattle.chk_site.specs.declared.acts.Call.TheVariants.{Start, Create, Append, Sync, Rename, Remove, LogRead, LogAppend, Send, Take, Answer, Got, Clock, Cut, List as ListNames, Say}
 use Rattle.chk_site.specs.declared.acts.CallFault.TheVariants.{Missing}
 use Rattle.chk_site.specs.declared.acts.ActAnswer.{ActAnswer}
 use Rattle.chk_site.specs.declared.acts.ActAnswer.TheVariants.{Done, Refused, Stopped}
@@ -14,7 +14,8 @@ use Rattle.chk_site.specs.Logs.{Logs, no_logs, logs_changed}
 use Rattle.chk_site.specs.Acts.{deed, deed_by, change_of, tail_of}
 use Rattle.chk_site.specs.Effect.{with_tail}
 use Rattle.chk_site.specs.History.{Step, History, files_after, logs_after, since_start}
-use Rattle.chk_world.proofs.ExampleTexts.{c1, born, born_tmp, sink, head, a1, log, path, check_tmp, check, hello, text, request, entry, mark_tmp, mark, text_6, job, done_sink, seg, book_tmp, book_name, seg_head, book_text, left, left_2, reply, poll}
+use Rattle.chk_world.specs.ArchiveRuns.{report}
+use Rattle.chk_world.proofs.ExampleTexts.{c1, born, born_tmp, sink, head, a1, log, path, check_tmp, check, hello, text, request, entry, mark_tmp, mark, text_6, job, done_sink, listed_names, seg, book_tmp, book_name, seg_head, book_text, left, left_2, reply, poll}
 
 abbrev pub act_of : Call → List (List ℕ) → ActAnswer → Act
 act_of call words answer = record { who = c1; call = call; words = words; number = 0; max = 0; answer = answer }
@@ -158,8 +159,11 @@ g29 = done c1 Remove (mark ∷ []) 0 0 (Done [] 0 0) g28
 abbrev pub g30 : History
 g30 = done job Start ([]) 0 0 (Done [] 0 0) g29
 
+abbrev pub l30 : History
+l30 = done job ListNames (codes "sinks" ∷ []) 0 0 (Done listed_names 0 0) g30
+
 abbrev pub g31 : History
-g31 = done job Create (seg ∷ []) 0 0 (Done [] 0 0) g30
+g31 = done job Create (seg ∷ []) 0 0 (Done [] 0 0) l30
 
 abbrev pub g32 : History
 g32 = done job Append (seg ∷ seg_head ∷ []) 0 0 (Done [] 0 0) g31
@@ -184,6 +188,9 @@ g38 = done job Rename (book_tmp ∷ book_name ∷ []) 0 0 (Done [] 0 0) g37
 
 abbrev pub g39 : History
 g39 = done job Remove (done_sink ∷ []) 0 0 (Done [] 0 0) g38
+
+abbrev pub g40 : History
+g40 = done job Say (report 0 6 0 1 ∷ []) 0 0 (Done [] 0 0) g39
 
 -- a mark of the length before the sink is synced
 abbrev pub w1 : History

@@ -98,6 +98,9 @@ job = record { role = Job; name = codes "job" }
 abbrev pub done_sink : List ℕ
 done_sink = codes "sinks/c1.1.1.done"
 
+abbrev pub listed_names : List (List ℕ)
+listed_names = codes "c1.1.1.done" ∷ codes "c1.born" ∷ []
+
 abbrev pub seg : List ℕ
 seg = codes "archive/seg.1"
 

@@ -52,14 +52,14 @@ pub posted_valid : (handled : List Handling) (c : Chunk) → IsPosted handled c 
 posted_valid handled c p = post_valid p.chunks p.message.bytes p.post c p.one
 
 -- a record of a chunk is read as it
-one_chunk : (c : Chunk) (key : List ℕ) (at : ℕ) → IsTrue (is_chunk c) → IsKey c.key key
+pub one_chunk : (c : Chunk) (key : List ℕ) (at : ℕ) → IsTrue (is_chunk c) → IsKey c.key key
     → filter_map (chunk_of chunk_limit) (placed at key c.value ∷ []) ≡ c ∷ []
 one_chunk c key at valid is =
     let parts = and_parts (is_key c.key) (has_value chunk_limit c.key c.value) valid in
     ap (λ k. cons_option (chunk_with chunk_limit k c.value) []) (key_is_read c.key key is)
     ∙ ap (λ ok. cons_option (chunk_if ok c.key c.value) []) parts.1
 
-record_small : (c : Chunk) (key : List ℕ) → IsTrue (is_chunk c) → IsKey c.key key → 8 + length key + length c.value < 2 ^ 31
+pub record_small : (c : Chunk) (key : List ℕ) → IsTrue (is_chunk c) → IsKey c.key key → 8 + length key + length c.value < 2 ^ 31
 record_small c key valid is =
     let parts = and_parts (is_key c.key) (has_value chunk_limit c.key c.value) valid in
     let n : ℕ = length c.value in

@@ -12,14 +12,22 @@ use Rattle.chk_world.specs.Committed.{archive_of_stream}
 use Rattle.chk_world.specs.Jobs.{IsPartAt, AreParts}
 use Rattle.chk_world.specs.Rules.{Legal}
 use Rattle.chk_world.proofs.NameTests.{streams_same}
-use Rattle.chk_world.proofs.StaysTrue.{IsFoundedChunk, HasRoom, has_room, goes_on}
+use Rattle.chk_world.proofs.StaysTrue.{IsFoundedChunk, HasRoom, has_room, goes_on, stays_true}
 use Rattle.chk_world.proofs.LogsGrow.{logs_grow}
 use Rattle.chk_world.proofs.KeptTrue.{source_true}
 use Rattle.chk_world.proofs.Segments.{ArchiveAfter, same_archive, with_parts, archive_after}
 
+-- they end where a chunk of the stream ends that was sent
+pub record EndsAsChunk (history : History) (s : Stream) (bytes : List ℕ) : Type 0 where
+  pub c : Chunk
+  pub is : IsFoundedChunk history c
+  pub of : s ≡ c.key.stream
+  pub ends : start_of history s + length bytes ≡ chunk_end c
+
 -- a front of the log of a stream that an agent may have, or nothing yet
-abbrev IsFront : History → Stream → List ℕ → Type 0
-IsFront history s bytes = (bytes ≡ []) ⊎ (IsTrue (is_source s.source) × BeginsWith (log_of history s) bytes)
+abbrev pub IsFront : History → Stream → List ℕ → Type 0
+IsFront history s bytes =
+    (bytes ≡ []) ⊎ (IsTrue (is_source s.source) × BeginsWith (log_of history s) bytes × EndsAsChunk history s bytes)
 
 begins_so : (history : History) (s : Stream) (bytes : List ℕ) → IsFront history s bytes → BeginsWith (log_of history s) bytes
 begins_so history s bytes (inl e) = (log_of history s, ap (λ l. l ++ log_of history s) (sym e))
@@ -46,12 +54,15 @@ module _ (stamped : List (List ℕ)) (history : History) (legal : Legal stamped 
       omega (arith, start, room.low, room.some, part.begins) in
       let value : p.value ≡ drop (length front - at) c.value = part.value ∙ ap (λ d. drop d c.value) same in
       let size : length p.value ≡ length c.value - (length front - at) = ap length value ∙ length-drop (length front - at) c.value in
-      let key : p.key.seq ≡ c.key.seq = ap (λ (k : Key). k.seq) part.key in (
+      let key : p.key.seq ≡ c.key.seq = ap (λ (k : Key). k.seq) part.key in
+      let ends : start_of history s + length (front ++ p.value) ≡ chunk_end p =
+      omega (arith, length-append front p.value, size, key, start, room.low, room.some, low, high) in (
         inr (
           subst (λ t. IsTrue (is_source t.source)) (sym stream) g.source,
           subst (λ v. BeginsWith (log_of history s) (front ++ v)) (sym value) more,
+          record { c = c; is = g; of = stream; ends = ends ∙ key },
         ),
-        omega (arith, length-append front p.value, size, key, start, room.low, room.some, low, high),
+        ends,
       )
 
   parts_on : (front : List ℕ) (parts : List Chunk) → IsFront history s front
@@ -69,9 +80,18 @@ front_stays stamped history step legal s bytes (inl e) = inl e
 front_stays stamped history step legal s bytes (inr h) =
     let grows = logs_grow stamped history step legal s h.0 in
     let begins = h.1 in
-    inr (h.0, (begins.0 ++ grows.0, grows.1 ∙ (ap (λ l. l ++ grows.0) begins.1 ∙ append_assoc bytes begins.0 grows.0)))
+    let last = h.2 in
+    let c : Chunk = last.c in
+    let after = stays_true stamped history step legal c last.is in
+    let start : start_of (step ∷ history) s ≡ start_of history s =
+    ap (start_of (step ∷ history)) last.of ∙ (sym after.is_true.start ∙ (last.is.is_true.start ∙ sym (ap (start_of history) last.of))) in
+    inr (
+      h.0,
+      (begins.0 ++ grows.0, grows.1 ∙ (ap (λ l. l ++ grows.0) begins.1 ∙ append_assoc bytes begins.0 grows.0)),
+      record { c = c; is = after; of = last.of; ends = ap (λ n. n + length bytes) start ∙ last.ends },
+    )
 
-archive_front : (stamped : List (List ℕ)) (history : History) → Legal stamped history → (s : Stream)
+pub archive_front : (stamped : List (List ℕ)) (history : History) → Legal stamped history → (s : Stream)
     → IsFront history s (archive_of_stream (files_after history) s)
 archive_front stamped [] legal s = inl refl
 archive_front stamped (step ∷ history) legal s =

@@ -27,7 +27,7 @@ use Rattle.chk_world.proofs.OwnSteps.{Known, known_stem, own_came, at_same}
 use Rattle.chk_world.proofs.Stops.{forgotten, forgets, stopped, no_tail, untailed}
 use Rattle.chk_world.proofs.Others.{others_came, others_write}
 
-role_same : (a b : Role) → same_role a b ≡ true → a ≡ b
+pub role_same : (a b : Role) → same_role a b ≡ true → a ≡ b
 role_same Agent Agent e = refl
 role_same Collector Collector e = refl
 role_same Job Job e = refl

@@ -174,7 +174,7 @@ log_turn stamped history step path obeys (Shortened w k) may new e = as_it_was e
 
 -- ---- the chosen generations
 
-chosen_more : (after : Option (List ℕ)) (then_gs gs : List Generation) (g : Generation) → length then_gs ≤ length gs
+pub chosen_more : (after : Option (List ℕ)) (then_gs gs : List Generation) (g : Generation) → length then_gs ≤ length gs
     → chosen after then_gs (gs ++ g ∷ []) ≡ chosen after then_gs gs ++ g ∷ []
 chosen_more after [] gs g le = refl
 chosen_more after (t ∷ ts) [] g le = absurd (let z : ⊥ = omega arith in z)
@@ -195,7 +195,7 @@ marked_size : (suffix : List ℕ) (gs : List Generation) → length (marked suff
 marked_size suffix [] = refl
 marked_size suffix (g ∷ gs) = omega (arith, marked_size suffix gs)
 
-chosen_marked : (after : Option (List ℕ)) (then_gs : List Generation) (suffix : List ℕ) (gs : List Generation)
+pub chosen_marked : (after : Option (List ℕ)) (then_gs : List Generation) (suffix : List ℕ) (gs : List Generation)
     → bytes_of (chosen after then_gs (marked suffix gs)) ≡ bytes_of (chosen after then_gs gs)
 chosen_marked after [] suffix gs = marked_bytes suffix gs
 chosen_marked after (t ∷ ts) suffix [] = refl
@@ -218,7 +218,7 @@ joined_end (h ∷ gs) g = ap (λ l. h.bytes ++ l) (joined_end gs g) ∙ sym (app
 abbrev log_by : Option Founding → Log → List ℕ
 log_by o log = let p = parts_since o log in joined (bytes_of p.rotated) ++ p.base
 
-abbrev rotated_since : Bool → Founding → Log → List Generation
+abbrev pub rotated_since : Bool → Founding → Log → List Generation
 rotated_since plain f log = if plain then [] else chosen f.line.after f.rotated log.rotated
 
 abbrev bytes_since : Bool → Founding → Log → List ℕ
@@ -261,13 +261,13 @@ pub record IsFounded (history : History) (s : Stream) (f : Founding) : Type 0 wh
   pub there : line_of (files_after history) s ≡ Some line
   pub class : f.line.class ≡ line.class
 
-turn_of : (stamped : List (List ℕ)) (history : History) (step : Step) → Obeys stamped history step → (path : List ℕ)
+pub turn_of : (stamped : List (List ℕ)) (history : History) (step : Step) → Obeys stamped history step → (path : List ℕ)
     → LogTurn (IsRotatable (files_after history) path) (logs_after history path) (step.logs path)
 turn_of stamped history step obeys path =
     let e = obeys.honest.modelled.effect in log_turn stamped history step path obeys e.did e.may (step.logs path) (e.logs_left path)
 
 -- a stream whose line reads the base file alone isn't rotated
-class_turns : (history : History) (s : Stream) (f : Founding) → IsFounded history s f → IsRotatable (files_after history) s.name
+pub class_turns : (history : History) (s : Stream) (f : Founding) → IsFounded history s f → IsRotatable (files_after history) s.name
     → is_plain f.line.class ≡ false
 class_turns history s f known may =
     let l = found (is_line_of s) (checkpoint_lines (files_after history) s.source) known.line known.there in

@@ -26,7 +26,7 @@ count_back : (n : ℕ) → IsTrue (is_count n) → digits_value 10 (decimal n) �
 count_back n h = digits_value-decimal all_digits n (omega (arith, count_small n h))
 
 -- two parts: what stands before one ending, and not before another
-other_end : (front : List ℕ) (b : ℕ) (text end : List ℕ) (e : ℕ) → eqb b e ≡ false
+pub other_end : (front : List ℕ) (b : ℕ) (text end : List ℕ) (e : ℕ) → eqb b e ≡ false
     → before_end (front ++ b ∷ []) (text ++ (end ++ e ∷ [])) ≡ None
 other_end front b text end e apart =
     before_end-other front b (text ++ end) e (text ++ (end ++ e ∷ [])) (sym (append_assoc text end (e ∷ []))) apart
@@ -34,7 +34,7 @@ other_end front b text end e apart =
 picked_some : {A : Type 0} (make : List ℕ → A) (o : Option (List ℕ)) (t : List ℕ) (next : A) → o ≡ Some t → picked make o next ≡ make t
 picked_some make o t next e = ap (λ o. picked make o next) e
 
-picked_none : {A : Type 0} (make : List ℕ → A) (o : Option (List ℕ)) (next : A) → o ≡ None → picked make o next ≡ next
+pub picked_none : {A : Type 0} (make : List ℕ → A) (o : Option (List ℕ)) (next : A) → o ≡ None → picked make o next ≡ next
 picked_none make o next e = ap (λ o. picked make o next) e
 
 -- the kinds of files of `sinks` in the order in which they are tried
@@ -116,7 +116,7 @@ in_sinks t =
     let w = codes "sinks/" ++ t in
     picked_some guessed_sink (behind_front (codes "sinks/") w) t (try_agents w) (behind_front-append (codes "sinks/") t)
 
-in_agents : (source : List ℕ) → guessed_name (codes "agents/" ++ (source ++ codes ".check")) ≡ CheckFile source
+pub in_agents : (source : List ℕ) → guessed_name (codes "agents/" ++ (source ++ codes ".check")) ≡ CheckFile source
 in_agents source =
     let t = source ++ codes ".check" in
     let w = codes "agents/" ++ t in

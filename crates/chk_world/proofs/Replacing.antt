@@ -14,6 +14,7 @@ use Rattle.chk_site.specs.Files.{File, Files, made, grown, secured}
 use Rattle.chk_site.specs.Logs.{Logs}
 use Rattle.chk_site.specs.Acts.{Deed, Creates, Appends, Syncs, Renames, Removes, deed, change_of, is_done}
 use Rattle.chk_site.specs.History.{Step, History, files_after, logs_after}
+use Rattle.chk_site.specs.Honest.{Honest}
 use Rattle.chk_site.specs.Site.{Adds, Asked, asked, own_step, plain, WasDone}
 use Rattle.chk_site.specs.Runs.{Leads, MadeInTurn}
 use Rattle.chk_site.proofs.Leads.{script_then, script_end}
@@ -29,10 +30,10 @@ use Rattle.chk_world.proofs.NameLemmas.{read-spell}
 use Rattle.chk_world.proofs.NameTests.{same_name, name_self, named, applied, moved_named}
 use Rattle.chk_world.proofs.Frames.{owns_own}
 use Rattle.chk_world.proofs.PlacesStay.{Stays, SightStays, seen_stays}
-use Rattle.chk_world.proofs.ToldCalls.{Allowed, LeavesCall, MayCall, told_done, told_ends, told_less}
+use Rattle.chk_world.proofs.ToldCalls.{Allowed, LeavesCall, MayHonestly, told_done, told_ends, honest_done, honest_ends, told_less}
 use Rattle.chk_world.proofs.OwnFiles.{done_file, refused_file, done_present, MissedOrDone, was_done, was_missing, missed_or_done, done_absent}
 
--- a small file n, and another file a beside it
+-- a small file n, and a file a, which may be n itself
 abbrev pub around : {V : Type 0} → Who → (History → V) → Name → Name → Place V
 around who sees a n = record { who = who; sees = sees; first = a; second = Temporary n; third = n }
 
@@ -40,7 +41,6 @@ pub record Target {V : Type 0} (stamped : List (List ℕ)) (who : Who) (sees : H
   pub place : IsPlace (around who sees a n)
   pub sight : SightStays stamped (around who sees a n)
   pub small : is_small n ≡ true
-  pub apart : same_name a n ≡ false
   pub apart_next : same_name a (Temporary n) ≡ false
 
 -- the calls of a replacement before its rename, on the next content's word
@@ -201,12 +201,13 @@ pub record Replaces {V : Type 0} (stamped : List (List ℕ)) (who : Who) (sees :
   pub rename_fails : (before : History) (step : Step) (s m : Option File) → step.act.who ≡ who → deed step.act ≡ Renames w name
       → step.act.answer ≡ Refused Failed → Legal stamped (step ∷ before) → F (sees before) s m → R (sees (step ∷ before))
   pub at_last : (v : V) (s t m : Option File) → G v s t m → R v
-  pub may : (before : History) (step : Step) → step.act.who ≡ who → deed step.act ≡ Renames w name → Legal stamped before
+  pub may : (before : History) (step : Step) → step.act.who ≡ who → deed step.act ≡ Renames w name → Honest before step → Legal stamped before
       → F (sees before) (file (files_after before) a) (file (files_after before) n) → file (files_after before) (Temporary n) ≡ settled bytes
       → RoleMay stamped step.act.who.role before step
   pub renamed : (before : History) (step : Step) → step.act.who ≡ who → deed step.act ≡ Renames w name → is_done step.act.answer ≡ true
       → Legal stamped (step ∷ before) → F (sees before) (file (files_after before) a) (file (files_after before) n)
-      → file (files_after before) (Temporary n) ≡ settled bytes → file step.files a ≡ file (files_after before) a → file step.files (Temporary n) ≡ None → file step.files n ≡ settled bytes
+      → file (files_after before) (Temporary n) ≡ settled bytes → (same_name a n ≡ false → file step.files a ≡ file (files_after before) a)
+      → file step.files (Temporary n) ≡ None → file step.files n ≡ settled bytes
       → G (sees (step ∷ before)) (file step.files a) (file step.files (Temporary n)) (file step.files n)
 
 module _ {V : Type 0} (stamped : List (List ℕ)) (who : Who) (sees : History → V) (a n : Name) (target : Target stamped who sees a n)
@@ -337,7 +338,7 @@ module _ {V : Type 0} (stamped : List (List ℕ)) (who : Who) (sees : History �
       ∙ (ap (λ o. moved_named (fb T) T o fb m) reads_name ∙ ap (λ o. moved_named o T n fb m) h.next)) in
       let sides = small_apart n target.small in
       known.renamed before step refl refl is legal h.base h.next
-      (moves a target.place.first.known ∙ rw (target.apart, target.apart_next) refl)
+      (λ apart. moves a target.place.first.known ∙ rw (apart, target.apart_next) refl)
       (moves T target.place.second.known ∙ rw (sides.1, name_self n) refl)
       (moves n target.place.third.known ∙ rw (name_self n) refl)
 
@@ -349,8 +350,8 @@ module _ {V : Type 0} (stamped : List (List ℕ)) (who : Who) (sees : History �
   next_fails call on U before step by is failed legal h =
       known.fails before step (file (files_after before) a) (file (files_after before) n) by (subst (OnNext w) (sym is) on) failed legal h.base
 
-  rename_may : MayCall stamped Renaming target.place.named (At (is_file (settled bytes)))
-  rename_may before answer files logs legal h = record {
+  rename_may : MayHonestly stamped Renaming target.place.named (At (is_file (settled bytes)))
+  rename_may before answer files logs honest legal h = record {
     own_files = (
       subst (λ m. IsTrue (owns who m && owns who (read name))) (sym reads)
           (subst (λ m. IsTrue (owns who (Temporary n) && owns who m)) (sym reads_name) (and_from _ _ mine mine)),
@@ -360,7 +361,7 @@ module _ {V : Type 0} (stamped : List (List ℕ)) (who : Who) (sees : History �
     );
     logs = tt;
     requests = rename_asks who.role w name;
-    rule = known.may before (own_step Renaming answer files logs) refl refl legal h.base h.next;
+    rule = known.may before (own_step Renaming answer files logs) refl refl honest legal h.base h.next;
   }
 
   abbrev Ended : Result (Unit {0}) OutsideFault → History → Type 0
@@ -418,9 +419,9 @@ module _ {V : Type 0} (stamped : List (List ℕ)) (who : Who) (sees : History �
       (less (is_file (file_of bytes 0))) is call)
       (less_told (is_file (file_of bytes 0)))
       (λ mid. script_then (AtTold stamped who (SeenAt P G)) B
-      (λ given mid is call. told_done stamped Renaming so (At (is_file (settled bytes))) (SeenAt P G) given
+      (λ given mid is call. honest_done stamped Renaming so (At (is_file (settled bytes))) (SeenAt P G) given
       (stays (Next F (is_file (settled bytes)))) rename_may rename_leaves is call)
-      (λ given fault is call. told_ends stamped Renaming so (At (is_file (settled bytes))) (λ f. Rest) plain given fault
+      (λ given fault is call. honest_ends stamped Renaming so (At (is_file (settled bytes))) (λ f. Rest) plain given fault
       (stays (Next F (is_file (settled bytes)))) rename_may
       (λ before answer files logs e legal h.
       known.rename_fails before (own_step Renaming answer files logs) (file (files_after before) a) (file (files_after before) n) refl refl e legal h.base)

@@ -10,13 +10,12 @@ use Rattle.chk_world.specs.Checkpoints.{Line, line_of, offset_in}
 use Rattle.chk_world.specs.Streams.{Founding, founding, founded_by, or_else, start_at, start_of}
 use Rattle.chk_world.specs.Agents.{Acknowledged}
 use Rattle.chk_world.specs.Rules.{Legal}
-use Rattle.chk_world.specs.Laws.{MovesOn, SavedAt, WasAcknowledged, agent_of}
+use Rattle.chk_world.specs.Laws.{AcknowledgedIsSaved, RunsCoverCheckpoints, MovesOn, SavedAt, WasAcknowledged, agent_of}
 use Rattle.chk_world.proofs.CheckpointsMove.{moves_forward}
 use Rattle.chk_world.proofs.LogsGrow.{IsFounded, is_founded}
 use Rattle.chk_world.proofs.CommittedSaved.{saved_stays}
 use Rattle.chk_world.proofs.CompleteRuns.{Listed, listed, runs_take}
 use Rattle.chk_world.proofs.Passed.{passed}
-use Rattle.chk_world.proofs.LaterLaws.{AcknowledgedIsSaved, RunsCoverCheckpoints}
 
 moved_start : (old l : Line) (o : Option Line) → MovesOn old o → o ≡ Some l → old.start ≡ l.start
 moved_start old l None h e = absurd h

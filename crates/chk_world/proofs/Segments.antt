@@ -32,7 +32,7 @@ use Rattle.chk_world.proofs.SmallFiles.{step_good, publication, book_owner, read
 
 -- ---- what is in a list
 
-all_in : {X : Type 0} (p : X → Bool) (xs : List X) (x : X) → list_all p xs ≡ true → Contains xs x → p x ≡ true
+pub all_in : {X : Type 0} (p : X → Bool) (xs : List X) (x : X) → list_all p xs ≡ true → Contains xs x → p x ≡ true
 all_in p xs x all c = go xs c.0 all c.1 c.2
   where
     go : (xs : List _) (k : ℕ) → list_all p xs ≡ true → k < length xs → slice_index_or xs k x ≡ x → p x ≡ true

@@ -20,14 +20,14 @@ use Rattle.chk_message.proofs.Fronts.{front_of_post_chunks, front_of_poll_is_no_
 use Rattle.chk_world.specs.Names.{is_source, stop_names}
 use Rattle.chk_world.specs.Checkpoints.{Line, line_of}
 use Rattle.chk_world.specs.Streams.{Founding, founding, founded_by, or_else}
-use Rattle.chk_world.specs.Agents.{AgentRule, MaySendChunk}
+use Rattle.chk_world.specs.Agents.{AgentRule}
 use Rattle.chk_world.specs.Collectors.{View, Handling, new_view, no_more_newest, with_bytes, with_answer, with_sync, with_appends, handled_after, view_after, view}
-use Rattle.chk_world.specs.Rules.{Obeys, Legal, RoleMay, OnlyAgentsRequest, is_named_so}
+use Rattle.chk_world.specs.Rules.{Legal, RoleMay, OnlyAgentsRequest, is_named_so}
 use Rattle.chk_world.proofs.Forms.{post_valid}
 use Rattle.chk_world.proofs.Law.{who_same}
 use Rattle.chk_world.proofs.ToldCalls.{who_self}
 use Rattle.chk_world.proofs.NameTests.{nat_same, nat_self}
-use Rattle.chk_world.proofs.StaysTrue.{IsFoundedChunk, stays_true}
+use Rattle.chk_world.proofs.StaysTrue.{SendsChunk, IsFoundedChunk, founded_after, stays_true}
 
 -- each chunk of a post that the bytes begin with is a true one
 abbrev pub PostsTrue : History → List ℕ → Type 0
@@ -40,7 +40,7 @@ FrontsTrue history bytes = (front : List ℕ) → BeginsWith bytes front → Pos
 -- ---- what is sent
 
 -- a stream that has a line has begun
-founded_line : (history : History) (s : Stream) → IsSome (line_of (files_after history) s) → (f : Founding) × (founding history s ≡ Some f)
+pub founded_line : (history : History) (s : Stream) → IsSome (line_of (files_after history) s) → (f : Founding) × (founding history s ≡ Some f)
 founded_line [] s h = absurd (true≢false (sym h))
 founded_line (step ∷ history) s h = go (founding history s) (line_of step.files s) h
   where
@@ -50,40 +50,49 @@ founded_line (step ∷ history) s h = go (founding history s) (line_of step.file
     go None (Some l) h = (record { line = l; rotated = (step.logs s.name).rotated }, refl)
     go None None h = absurd (true≢false (sym h))
 
-may_send_founded : (who : Who) (history : History) (c : Chunk) (chunks : List Chunk) (bytes : List ℕ) → IsTrue (is_source who.name)
-    → IsPostOf chunks bytes → Contains chunks c → MaySendChunk who history c → IsFoundedChunk history c
-may_send_founded who history c chunks bytes named post one may =
+sent_founded : (stamped : List (List ℕ)) (history : History) (step : Step) → Legal stamped (step ∷ history) → (c : Chunk) (chunks : List Chunk)
+    (bytes : List ℕ) → IsTrue (is_source step.act.who.name) → IsPostOf chunks bytes → Contains chunks c → SendsChunk history step c
+    → IsFoundedChunk (step ∷ history) c
+sent_founded stamped history step legal c chunks bytes named post one sends =
+    let may = sends.may in
     let f = founded_line history c.key.stream may.known in
-    record {
-      source = subst (λ n. IsTrue (is_source n)) (sym may.source) named;
-      first = f.0;
-      founded = f.1;
-      valid = post_valid chunks bytes post c one;
-      is_true = may.is_true;
-    }
+    founded_after stamped history step legal c (subst (λ n. IsTrue (is_source n)) (sym may.source) named) f.0 f.1
+    (post_valid chunks bytes post c one) may.is_true (inl sends)
 
-agent_sends : (who : Who) (history : History) (step : Step) (k : ℕ) (address bytes : List ℕ) → IsTrue (is_source who.name)
-    → AgentRule who history step (Sends k address bytes) → FrontsTrue history bytes
-agent_sends who history step k address bytes named (inl s) front begins chunks post c one =
+agent_sends : (stamped : List (List ℕ)) (history : History) (step : Step) → Legal stamped (step ∷ history) → (k : ℕ) (address bytes : List ℕ)
+    → step.act.who.role ≡ Agent → IsTrue (is_source step.act.who.name) → deed step.act ≡ Sends k address bytes
+    → AgentRule step.act.who history step (Sends k address bytes) → FrontsTrue (step ∷ history) bytes
+agent_sends stamped history step legal k address bytes agent named call (inl s) front begins chunks post c one =
     let rest = begins.0 in
     let same : chunks ≡ s.chunks =
     (front_of_post_chunks address s.chunks chunks front rest (subst (WrittenPost address s.chunks) begins.1 s.is_post) post).1 in
-    may_send_founded who history c chunks front named post one (s.each c (subst (λ cs. Contains cs c) same one))
-agent_sends who history step k address bytes named (inr p) front begins chunks post c one =
+    let among : Contains s.chunks c = subst (λ cs. Contains cs c) same one in
+    sent_founded stamped history step legal c chunks front named post one (record {
+      agent = agent;
+      m = k;
+      address = address;
+      bytes = bytes;
+      call = call;
+      chunks = s.chunks;
+      is_post = s.is_post;
+      one = among;
+      may = s.each c among;
+    })
+agent_sends stamped history step legal k address bytes agent named call (inr p) front begins chunks post c one =
     absurd (front_of_poll_is_no_post address p.0 post.0 front begins.0 (subst (WrittenPoll address p.0) begins.1 p.1) post.1)
 
-send_true : (stamped : List (List ℕ)) (history : History) (step : Step) → Obeys stamped history step → (k : ℕ) (address bytes : List ℕ)
-    → deed step.act ≡ Sends k address bytes → FrontsTrue history bytes
-send_true stamped history step obeys k address bytes is =
-    go step.act.who.role refl (subst (OnlyAgentsRequest step.act.who.role) is obeys.requests)
+send_true : (stamped : List (List ℕ)) (history : History) (step : Step) → Legal stamped (step ∷ history) → (k : ℕ) (address bytes : List ℕ)
+    → deed step.act ≡ Sends k address bytes → FrontsTrue (step ∷ history) bytes
+send_true stamped history step legal k address bytes is =
+    go step.act.who.role refl (subst (OnlyAgentsRequest step.act.who.role) is legal.1.requests)
   where
-    none : ((front : List ℕ) → BeginsWith bytes front → (body : List ℕ) → PostRequest body front → ⊥) → FrontsTrue history bytes
+    none : ((front : List ℕ) → BeginsWith bytes front → (body : List ℕ) → PostRequest body front → ⊥) → FrontsTrue (step ∷ history) bytes
     none never front begins chunks post c one = absurd (never front begins post.0 post.1)
 
-    go : (role : Role) → step.act.who.role ≡ role → OnlyAgentsRequest role (Sends k address bytes) → FrontsTrue history bytes
+    go : (role : Role) → step.act.who.role ≡ role → OnlyAgentsRequest role (Sends k address bytes) → FrontsTrue (step ∷ history) bytes
     go Agent r never =
-        agent_sends step.act.who history step k address bytes (subst (λ role. IsTrue (is_named_so role step.act.who.name)) r obeys.named)
-        (subst (AgentRule step.act.who history step) is (subst (λ role. RoleMay stamped role history step) r obeys.rule))
+        agent_sends stamped history step legal k address bytes r (subst (λ role. IsTrue (is_named_so role step.act.who.name)) r legal.1.named) is
+        (subst (AgentRule step.act.who history step) is (subst (λ role. RoleMay stamped role history step) r legal.1.rule))
     go Collector r never = none (λ front begins body post. never (request_in_front bytes front begins (inl (body, post))))
     go Job r never = none (λ front begins body post. never (request_in_front bytes front begins (inl (body, post))))
     go Writer r never = none (λ front begins body post. never (request_in_front bytes front begins (inl (body, post))))
@@ -106,7 +115,7 @@ sent_true stamped (step ∷ history) legal n m e = go (deed step.act) refl e (se
             → FrontsTrue (step ∷ history) m.bytes
         pick true e =
             let same : bytes ≡ m.bytes = ap (λ (m : Message). m.bytes) (same_Some (record { sender = step.act.who; address = address; bytes = bytes; done = is_done step.act.answer }) m e) in
-            later (subst (FrontsTrue history) same (send_true stamped history step legal.1 k address bytes is))
+            subst (FrontsTrue (step ∷ history)) same (send_true stamped history step legal k address bytes is)
         pick false e = later (earlier e)
     go call is e earlier = later (earlier e)
 
@@ -135,11 +144,11 @@ all_one P hs h all c = go hs all c.0 c.1 c.2
     go (g ∷ hs) all zero below at = subst P at all.0
     go (g ∷ hs) all (suc k) below at = go hs all.1 k (omega arith) at
 
-all_map : (P Q : Handling → Type 0) (g : Handling → Handling) → ((h : Handling) → P h → Q (g h)) → (hs : List Handling) → AllOf P hs → AllOf Q (map g hs)
+pub all_map : (P Q : Handling → Type 0) (g : Handling → Handling) → ((h : Handling) → P h → Q (g h)) → (hs : List Handling) → AllOf P hs → AllOf Q (map g hs)
 all_map P Q g keeps [] all = tt
 all_map P Q g keeps (h ∷ hs) all = (keeps h all.0, all_map P Q g keeps hs all.1)
 
-all_same : (P Q : Handling → Type 0) → ((h : Handling) → P h → Q h) → (hs : List Handling) → AllOf P hs → AllOf Q hs
+pub all_same : (P Q : Handling → Type 0) → ((h : Handling) → P h → Q h) → (hs : List Handling) → AllOf P hs → AllOf Q hs
 all_same P Q keeps [] all = tt
 all_same P Q keeps (h ∷ hs) all = (keeps h all.0, all_same P Q keeps hs all.1)
 
@@ -271,7 +280,7 @@ module _ (stamped : List (List ℕ)) (history : History) (legal : Legal stamped 
       all_same Now (Then call answer me) (as_before call answer (λ h. h) (λ n. refl) (λ h. refl) (λ h. refl)) hs all
 
 -- what a collector sees of its messages after a step
-handled_is : (who : Who) (own : Bool) (call : Deed) (answer : ActAnswer) (before after : Files) (v : View)
+pub handled_is : (who : Who) (own : Bool) (call : Deed) (answer : ActAnswer) (before after : Files) (v : View)
     → (view_after who own call answer before after v).handled ≡ (if own then handled_after call answer after v.handled else v.handled)
 handled_is who true Starts (Stopped left) before after v = refl
 handled_is who true call (Stopped left) before after v = refl

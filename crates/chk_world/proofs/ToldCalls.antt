@@ -86,6 +86,14 @@ module _ (stamped : List (List ℕ)) (q : Asked) (named : IsTrue (is_named_so q.
   MayCall B = (before : History) (answer : ActAnswer) (files : Files) (logs : Logs) → Legal stamped before → B before
       → Allowed stamped before (own_step q answer files logs)
 
+  -- the same, where the step is honest
+  abbrev pub MayHonestly : (History → Type 0) → Type 0
+  MayHonestly B = (before : History) (answer : ActAnswer) (files : Files) (logs : Logs)
+      → Honest before (own_step q answer files logs) → Legal stamped before → B before → Allowed stamped before (own_step q answer files logs)
+
+  honestly : (B : History → Type 0) → MayCall B → MayHonestly B
+  honestly B may before answer files logs honest legal h = may before answer files logs legal h
+
   -- with such an answer the call leads from B to C
   abbrev pub LeavesCall : (History → Type 0) → (ActAnswer → Type 0) → (History → Type 0) → Type 0
   LeavesCall B A C = (before : History) (answer : ActAnswer) (files : Files) (logs : Logs) → A answer
@@ -110,19 +118,19 @@ module _ (stamped : List (List ℕ)) (q : Asked) (named : IsTrue (is_named_so q.
   pub told_keeps : (B : History → Type 0) → Stays stamped q.who B → Keeps (Foreign stamped q.who) (Told B)
   told_keeps B stays before step theirs f h = told_stays stamped q.who B stays before step theirs.0 f h
 
-  own_legal : (B : History → Type 0) → MayCall B → (before : History) (answer : ActAnswer) (files : Files) (logs : Logs)
+  own_legal : (B : History → Type 0) → MayHonestly B → (before : History) (answer : ActAnswer) (files : Files) (logs : Logs)
       → is_stopped before ≡ false → Honest before (own_step q answer files logs) → Told B before
       → Legal stamped (own_step q answer files logs ∷ before)
   own_legal B may before answer files logs running honest h = (
     h.legal,
     own_obeys before answer files logs honest
         (starts_fine q.who before (deed (own_step q answer files logs).act) (h.may_act running))
-        (may before answer files logs h.legal (h.alive running)),
+        (may before answer files logs honest h.legal (h.alive running)),
   )
 
-  pub told_shows : (B C : History → Type 0) (A : ActAnswer → Type 0) (answer : ActAnswer) → GoesOn answer → A answer → MayCall B
+  honest_shows : (B C : History → Type 0) (A : ActAnswer → Type 0) (answer : ActAnswer) → GoesOn answer → A answer → MayHonestly B
       → LeavesCall B A C → Shows (Told B) (Told C) q answer
-  told_shows B C A answer goes a may left before files logs running honest h =
+  honest_shows B C A answer goes a may left before files logs running honest h =
       let legal = own_legal B may before answer files logs running honest h in
       record {
         legal = legal;
@@ -130,7 +138,11 @@ module _ (stamped : List (List ℕ)) (q : Asked) (named : IsTrue (is_named_so q.
         alive = λ r. left before answer files logs a legal (h.alive running);
       }
 
-  told_stopped : (B C : History → Type 0) (left : List Left) → MayCall B → Shows (Told B) (Told C) q (Stopped left)
+  pub told_shows : (B C : History → Type 0) (A : ActAnswer → Type 0) (answer : ActAnswer) → GoesOn answer → A answer → MayCall B
+      → LeavesCall B A C → Shows (Told B) (Told C) q answer
+  told_shows B C A answer goes a may left = honest_shows B C A answer goes a (honestly B may) left
+
+  told_stopped : (B C : History → Type 0) (left : List Left) → MayHonestly B → Shows (Told B) (Told C) q (Stopped left)
   told_stopped B C left may before files logs running honest h = record {
     legal = own_legal B may before (Stopped left) files logs running honest h;
     may_act = λ r. absurd (true≢false r);
@@ -149,12 +161,17 @@ module _ (stamped : List (List ℕ)) (q : Asked) (named : IsTrue (is_named_so q.
   told_less B C less history h = record { legal = h.legal; may_act = h.may_act; alive = λ r. less history (h.alive r) }
 
   -- a call that was done, or refused for the state of the files
+  pub honest_done : (B C : History → Type 0) {V : Type 0} (given : Result V CallFault) {old new : Option History} → Stays stamped q.who B
+      → MayHonestly B → LeavesCall B WasDone C → IsDone given → Adds old new (Calls q (answered plain given))
+      → Adds old new (Leads (Foreign stamped q.who) (Told B) (Told C))
+  honest_done B C given stays may left is told =
+      done_leads given is (told_keeps B stays)
+      (λ answer was. honest_shows B C WasDone answer (goes_on_done answer was) was may left) told
+
   pub told_done : (B C : History → Type 0) {V : Type 0} (given : Result V CallFault) {old new : Option History} → Stays stamped q.who B → MayCall B
       → LeavesCall B WasDone C → IsDone given → Adds old new (Calls q (answered plain given))
       → Adds old new (Leads (Foreign stamped q.who) (Told B) (Told C))
-  told_done B C given stays may left is told =
-      done_leads given is (told_keeps B stays)
-      (λ answer was. told_shows B C WasDone answer (goes_on_done answer was) was may left) told
+  told_done B C given stays may left is told = honest_done B C given stays (honestly B may) left is told
 
   -- a call that gave something, or was refused for the state of the files
   pub told_taken : (B C : History → Type 0) {V : Type 0} (how : V → ActAnswer) (given : Result V CallFault) (taken : Option V)
@@ -180,17 +197,24 @@ module _ (stamped : List (List ℕ)) (q : Asked) (named : IsTrue (is_named_so q.
       exists_leads (told_keeps B stays) (told_shows B C (λ a. a ≡ Refused Exists) (Refused Exists) tt refl may left) told
 
   -- a call that ended the work: it failed, the site was stopped, or there was no memory
+  pub honest_ends : (B : History → Type 0) (C : OutsideFault → History → Type 0) {V : Type 0} (how : V → ActAnswer) (given : Result V CallFault)
+      (fault : OutsideFault) {old new : Option History} → Stays stamped q.who B → MayHonestly B
+      → LeavesCall B (λ a. a ≡ Refused Failed) (C (Outside q.call)) → ((history : History) → B history → C no_memory history)
+      → Ends q.call given fault → Adds old new (Calls q (answered how given))
+      → Adds old new (Leads (Foreign stamped q.who) (Told B) (Told (C fault)))
+  honest_ends B C how given fault stays may left less ends told =
+      ends_leads (λ f h. Told (C f) h) how given fault ends (told_keeps B stays)
+      (honest_shows B (C (Outside q.call)) (λ a. a ≡ Refused Failed) (Refused Failed) tt refl may left)
+      (λ stopped. told_stopped B (C (Outside q.call)) stopped may)
+      (told_after_stop B (C (Outside q.call)))
+      (told_less B (C no_memory) less) told
+
   pub told_ends : (B : History → Type 0) (C : OutsideFault → History → Type 0) {V : Type 0} (how : V → ActAnswer) (given : Result V CallFault)
       (fault : OutsideFault) {old new : Option History} → Stays stamped q.who B → MayCall B
       → LeavesCall B (λ a. a ≡ Refused Failed) (C (Outside q.call)) → ((history : History) → B history → C no_memory history)
       → Ends q.call given fault → Adds old new (Calls q (answered how given))
       → Adds old new (Leads (Foreign stamped q.who) (Told B) (Told (C fault)))
-  told_ends B C how given fault stays may left less ends told =
-      ends_leads (λ f h. Told (C f) h) how given fault ends (told_keeps B stays)
-      (told_shows B (C (Outside q.call)) (λ a. a ≡ Refused Failed) (Refused Failed) tt refl may left)
-      (λ stopped. told_stopped B (C (Outside q.call)) stopped may)
-      (told_after_stop B (C (Outside q.call)))
-      (told_less B (C no_memory) less) told
+  told_ends B C how given fault stays may left less ends told = honest_ends B C how given fault stays (honestly B may) left less ends told
 
 -- ---- the start
 

@@ -1,13 +1,14 @@
 -- Steps that an agent's rules refuse, each beside one that differs in the one fact and is allowed.
-use Rattle.std.proofs.Common.{◌≡◌, ℕ, zero, suc, ◌+◌, ◌≤◌, ◌<◌, Bool, true, false, ◌&&◌, not, List, [], ◌∷◌, length, None, Some, bytes_eq, refl, ap, sym, ◌∙◌, inl, inr, subst, true≢false, arith, if◌then◌else◌}
+use Rattle.std.proofs.Common.{◌≡◌, ℕ, zero, suc, ◌+◌, ◌≤◌, ◌<◌, Bool, true, false, ◌&&◌, not, List, [], ◌∷◌, length, drop, refl, ap, sym, ◌∙◌, inl, inr, subst, true≢false, arith, bytes_eq}
 use Rattle.std.specs.Prelude.{codes, Contains, Any, IsTrue, slice_index_or}
 use Rattle.std.proofs.lemmas.Bool.{and_parts}
-use Rattle.std.proofs.lemmas.Option.{same_Some}
+use Rattle.std.proofs.lemmas.Option.{same_Some, none-some}
 use Rattle.std.specs.Fmt.{digits}
 use Rattle.std.specs.Str.{is_utf8, chars}
 use lib.Utf8.{encode}
 use Rattle.md5.specs.Md5.{md5, digest_bytes, hash_after, compress, rounds, block_words}
 use Rattle.chk_bytes.specs.Words.{is_word}
+use Rattle.chk_bytes.specs.Stems.{Stem}
 use Rattle.chk_seqfile.specs.Headers.{marker_of, written_front, class_text, read_header, read_front, read_fields, read_class}
 use Rattle.chk_seqfile.specs.Entries.{records_of, entry_at}
 use Rattle.chk_site.specs.declared.acts.Call.TheVariants.{Create, Append, Sync, Rename}
@@ -15,23 +16,18 @@ use Rattle.chk_site.specs.declared.acts.ActAnswer.TheVariants.{Done}
 use Rattle.chk_site.specs.Logs.{TheBase}
 use Rattle.chk_site.specs.Acts.{Deed, ReadsLog, Renames, Sends, deed}
 use Rattle.chk_site.specs.History.{Step, History, files_after, since_start}
-use Rattle.chk_control.specs.declared.Class.TheVariants.{Lines}
-use Rattle.chk_chunk.specs.Keys.{Chunk, key_1, key_2, written_key, guessed_key, read_key}
+use Rattle.chk_chunk.specs.Keys.{key_1, key_2, written_key, guessed_key, read_key}
 use Rattle.chk_chunk.specs.Posts.{written_part, written_post}
-use Rattle.chk_message.specs.Messages.{WrittenPost, written_post_request, written_poll_request, written_reply}
-use Rattle.chk_message.proofs.Written.{written_is_post, written_is_poll}
-use Rattle.chk_message.proofs.Accepted.{never_both}
+use Rattle.chk_message.specs.Messages.{written_post_request, written_poll_request, written_reply}
 use Rattle.chk_world.specs.Names.{read, spell}
 use Rattle.chk_world.specs.Checkpoints.{Line, line_of, same_log, One, checkpoint_text, read_checkpoint}
 use Rattle.chk_world.specs.Books.{read_book}
-use Rattle.chk_world.specs.Streams.{IsTrueChunk}
-use Rattle.chk_world.specs.Agents.{LineMovesForward, LineMay, LineIsTrue, stream_of, IsAtOrPast, MaySendChunk, OfCluster, AgentRule}
-use Rattle.chk_world.proofs.ExampleTexts.{a1, path, check, check_tmp, hello, text, text_6, line, line_6, stream, chunk, request}
-use Rattle.chk_world.proofs.ExampleSteps.{done, some_step, g2, g5, g6, g7, g8, g19, g26, g27, p20}
-use Rattle.chk_world.proofs.ExampleMessages.{is_post, written_chunks, in_one}
+use Rattle.chk_world.specs.Agents.{LineMovesForward, LineMay, LineIsTrue, stream_of, IsAtOrPast, AgentRule}
+use Rattle.chk_world.proofs.ExampleTexts.{a1, path, check, check_tmp, text, text_6, line, line_6, stream, request, hello}
+use Rattle.chk_world.proofs.ExampleSteps.{done, some_step, g2, g5, g6, g7, g8, g26, g27}
+use Rattle.chk_world.proofs.ExampleMessages.{in_one}
 use Rattle.chk_world.proofs.ExampleStart.{glegal6, glegal8}
 use Rattle.chk_world.proofs.ExampleMoves.{glegal27}
-use Rattle.chk_world.proofs.ExampleStop.{plegal20}
 
 -- the newest step
 abbrev pub newest : History → Step
@@ -82,8 +78,13 @@ keeps_its_stream = (
   ),
 )
 
+-- what is published can be read
+unread : (step : Step) → AgentRule a1 (next_check hello g6) step (Renames check_tmp check) → ⊥
+unfolding read spell digits is_utf8 chars encode is_word key_1 key_2 written_key guessed_key written_part read_key read_checkpoint read_book read_header read_front read_fields read_class entry_at records_of marker_of written_front class_text md5 digest_bytes hash_after compress rounds block_words written_post_request written_poll_request written_reply
+unread step r = none-some r.1.0 r.1.1
+
 -- a new line begins at its start
-past_its_start : (step : Step) → AgentRule a1 (next_check text_6 g2) step (Renames check_tmp check) → ⊥
+pub past_its_start : (step : Step) → AgentRule a1 (next_check text_6 g2) step (Renames check_tmp check) → ⊥
 unfolding read spell digits is_utf8 chars encode is_word key_1 key_2 written_key guessed_key written_part read_key read_checkpoint read_book read_header read_front read_fields read_class entry_at records_of marker_of written_front class_text md5 digest_bytes hash_after compress rounds block_words written_post_request written_poll_request written_reply
 past_its_start step r =
     let p = r.1 in
@@ -118,7 +119,7 @@ none_sent (t ∷ ts) zero s m address bytes none below at call =
 none_sent (t ∷ ts) (suc k) s m address bytes none below at call =
     none_sent ts k s m address bytes (and_parts (not (is_send (deed t.act))) (sends_none ts) none).1 (omega arith) at call
 
-not_acknowledged : (step : Step) → AgentRule a1 (next_check text_6 g7) step (Renames check_tmp check) → ⊥
+pub not_acknowledged : (step : Step) → AgentRule a1 (next_check text_6 g7) step (Renames check_tmp check) → ⊥
 unfolding read spell digits is_utf8 chars encode is_word key_1 key_2 written_key guessed_key written_part read_key read_checkpoint read_book read_header read_front read_fields read_class entry_at records_of marker_of written_front class_text md5 digest_bytes hash_after compress rounds block_words written_post_request written_poll_request written_reply
 not_acknowledged step r =
     let p = r.1 in
@@ -145,103 +146,45 @@ read_on : (step : Step) → AgentRule a1 g27 step (ReadsLog path TheBase 6 13107
 unfolding read spell digits is_utf8 chars encode is_word key_1 key_2 written_key guessed_key written_part read_key read_checkpoint read_book read_header read_front read_fields read_class entry_at records_of marker_of written_front class_text md5 digest_bytes hash_after compress rounds block_words written_post_request written_poll_request written_reply
 read_on step = (0, line_6, omega arith, refl, (refl, (refl, omega arith)))
 
--- a chunk's data is the log's
-abbrev pub false_chunk : Chunk
-false_chunk = record { key = chunk.key; value = codes "jello\n" }
+-- and only a log of the checkpoint
+abbrev pub other_path : List ℕ
+other_path = codes "/b.log"
 
-abbrev pub false_request : List ℕ
-false_request = written_post_request (codes "self") (written_post (false_chunk ∷ []))
-
-false_post : WrittenPost (codes "self") (false_chunk ∷ []) false_request
+reads_another : (step : Step) → AgentRule a1 g27 step (ReadsLog other_path TheBase 6 131072) → ⊥
 unfolding read spell digits is_utf8 chars encode is_word key_1 key_2 written_key guessed_key written_part read_key read_checkpoint read_book read_header read_front read_fields read_class entry_at records_of marker_of written_front class_text md5 digest_bytes hash_after compress rounds block_words written_post_request written_poll_request written_reply
-false_post = record { to = refl; some = omega arith; few = omega arith; are = refl; short = omega arith; is = refl }
+reads_another step r =
+    let e : line_6 ≡ r.1 = in_one line_6 r.1 (r.0, r.2, r.3) in
+    let same : path ≡ other_path = ap (λ (l : Line). l.path) e ∙ r.4.0 in
+    true≢false (ap (λ t. bytes_eq t path) same)
 
--- a post isn't a poll, and its chunks are those that were written
-only_these : (written : List Chunk) (words : List ℕ) (who : _) (history : History) (step : Step) → WrittenPost (codes "self") written words
-    → AgentRule who history step (Sends 1 (codes "self") words) → (c : Chunk) → Contains written c → MaySendChunk who history c
-only_these written words who history step is (inl s) c one =
-    s.each c (subst (λ (cs : List Chunk). Contains cs c)
-    (sym (written_chunks (codes "self") written s.chunks words is (written_is_post (codes "self") s.chunks words s.is_post))) one)
-only_these written words who history step is (inr p) c one =
-    let post = written_is_post (codes "self") written words is in
-    absurd (never_both post.0 p.0 words post.1 (written_is_poll (codes "self") p.0 words p.1))
+-- each message of an agent is a request: here a post without its first letter
+abbrev pub no_request : List ℕ
+no_request = drop 1 request
 
-sends_false_data : (step : Step) → AgentRule a1 g7 step (Sends 1 (codes "self") false_request) → ⊥
+abbrev first_letter : List ℕ → ℕ
+first_letter [] = 0
+first_letter (b ∷ bytes) = b
+
+post_begins : (address body : List ℕ) → first_letter (written_post_request address body) ≡ 80
+unfolding written_post_request
+post_begins address body = refl
+
+poll_begins : (address : List ℕ) (stems : List Stem) → first_letter (written_poll_request address stems) ≡ 71
+unfolding written_poll_request
+poll_begins address stems = refl
+
+letter_of_request : first_letter no_request ≡ 79
+unfolding written_post_request
+letter_of_request = refl
+
+sends_no_request : (step : Step) → AgentRule a1 g7 step (Sends 1 (codes "self") no_request) → ⊥
+sends_no_request step (inl s) =
+    let e : ◌≡◌ {A = ℕ} 79 80 = sym letter_of_request ∙ (ap first_letter s.is_post.is ∙ post_begins (codes "self") (written_post s.chunks)) in
+    omega arith
+sends_no_request step (inr p) =
+    let e : ◌≡◌ {A = ℕ} 79 71 = sym letter_of_request ∙ (ap first_letter p.1.is ∙ poll_begins (codes "self") p.0) in
+    omega arith
+
+sends_request : AgentRule a1 g7 (newest g8) (Sends 1 (codes "self") request)
 unfolding read spell digits is_utf8 chars encode is_word key_1 key_2 written_key guessed_key written_part read_key read_checkpoint read_book read_header read_front read_fields read_class entry_at records_of marker_of written_front class_text md5 digest_bytes hash_after compress rounds block_words written_post_request written_poll_request written_reply
-sends_false_data step r =
-    let may = only_these (false_chunk ∷ []) false_request a1 g7 step false_post r false_chunk (0, omega arith, refl) in
-    true≢false (ap (λ t. bytes_eq t (codes "jello\n")) may.is_true.data_is)
-
-sends_true_data : AgentRule a1 g7 (newest g8) (Sends 1 (codes "self") request)
-unfolding read spell digits is_utf8 chars encode is_word key_1 key_2 written_key guessed_key written_part read_key read_checkpoint read_book read_header read_front read_fields read_class entry_at records_of marker_of written_front class_text md5 digest_bytes hash_after compress rounds block_words written_post_request written_poll_request written_reply
-sends_true_data = glegal8.1.rule
-
--- a chunk ends where a reader may stop: a line of a class that breaks at lines, and a log of one line
-abbrev lines_line : Line
-lines_line = record line { class = Lines }
-
-abbrev by_lines : History
-by_lines = record {
-  own = true;
-  act = record { who = a1; call = Rename; words = check_tmp ∷ check ∷ []; number = 0; max = 0; answer = Done [] 0 0 };
-  files = λ n. if bytes_eq n check then Some (record { bytes = checkpoint_text One (lines_line ∷ []); synced = 0 }) else None;
-  logs = λ p. record { rotated = []; base = hello };
-} ∷ []
-
-abbrev part_of_line : Chunk
-part_of_line = record { key = record chunk.key { seq = 3 }; value = codes "hel" }
-
-inside_a_line : MaySendChunk a1 by_lines part_of_line → ⊥
-unfolding read spell digits is_utf8 chars encode is_word key_1 key_2 written_key guessed_key written_part read_key read_checkpoint read_book read_header read_front read_fields read_class entry_at records_of marker_of written_front class_text md5 digest_bytes hash_after compress rounds block_words written_post_request written_poll_request written_reply
-inside_a_line may = true≢false (sym may.cut)
-
-whole_line : MaySendChunk a1 by_lines chunk
-unfolding read spell digits is_utf8 chars encode is_word key_1 key_2 written_key guessed_key written_part read_key read_checkpoint read_book read_header read_front read_fields read_class entry_at records_of marker_of written_front class_text md5 digest_bytes hash_after compress rounds block_words written_post_request written_poll_request written_reply
-whole_line = record { source = refl; known = refl; is_true = record { start = refl; data_is = refl }; cut = refl }
-
--- all posts since a start are of one cluster
-abbrev pub other_chunk : Chunk
-other_chunk = record { key = record chunk.key { cluster = codes "east" }; value = hello }
-
-other_cluster : OfCluster (codes "east") (Sends 1 (codes "self") request) → ⊥
-unfolding read spell digits is_utf8 chars encode is_word key_1 key_2 written_key guessed_key written_part read_key read_checkpoint read_book read_header read_front read_fields read_class entry_at records_of marker_of written_front class_text md5 digest_bytes hash_after compress rounds block_words written_post_request written_poll_request written_reply
-other_cluster (inl s) =
-    let same : s.0 ≡ chunk ∷ [] = written_chunks (codes "self") (chunk ∷ []) s.0 request is_post
-    (written_is_post (codes "self") s.0 request s.1) in
-    let of = s.2 chunk (subst (λ (cs : List Chunk). Contains cs chunk) (sym same) (0, omega arith, refl)) in
-    true≢false (sym (ap (λ t. bytes_eq t (codes "east")) of))
-other_cluster (inr p) =
-    let post = written_is_post (codes "self") (chunk ∷ []) request is_post in
-    never_both post.0 p.0 request post.1 (written_is_poll (codes "self") p.0 request p.1)
-
-one_cluster : OfCluster (codes "none") (Sends 1 (codes "self") request)
-unfolding read spell digits is_utf8 chars encode is_word key_1 key_2 written_key guessed_key written_part read_key read_checkpoint read_book read_header read_front read_fields read_class entry_at records_of marker_of written_front class_text md5 digest_bytes hash_after compress rounds block_words written_post_request written_poll_request written_reply
-one_cluster = inl (chunk ∷ [], is_post, λ c o. subst (λ (c : Chunk). c.key.cluster ≡ codes "none") (in_one chunk c o) refl)
-
-abbrev pub east_request : List ℕ
-east_request = written_post_request (codes "self") (written_post (other_chunk ∷ []))
-
-east_post : WrittenPost (codes "self") (other_chunk ∷ []) east_request
-unfolding read spell digits is_utf8 chars encode is_word key_1 key_2 written_key guessed_key written_part read_key read_checkpoint read_book read_header read_front read_fields read_class entry_at records_of marker_of written_front class_text md5 digest_bytes hash_after compress rounds block_words written_post_request written_poll_request written_reply
-east_post = record { to = refl; some = omega arith; few = omega arith; are = refl; short = omega arith; is = refl }
-
-second_cluster : (step : Step) → AgentRule a1 g8 step (Sends 2 (codes "self") east_request) → ⊥
-unfolding read spell digits is_utf8 chars encode is_word key_1 key_2 written_key guessed_key written_part read_key read_checkpoint read_book read_header read_front read_fields read_class entry_at records_of marker_of written_front class_text md5 digest_bytes hash_after compress rounds block_words written_post_request written_poll_request written_reply
-second_cluster step (inl s) =
-    let same : s.chunks ≡ other_chunk ∷ [] = written_chunks (codes "self") (other_chunk ∷ []) s.chunks east_request east_post
-    (written_is_post (codes "self") s.chunks east_request s.is_post) in
-    let east : codes "east" ≡ s.cluster =
-    s.here other_chunk (subst (λ (cs : List Chunk). Contains cs other_chunk) (sym same) (0, omega arith, refl)) in
-    other_cluster (subst (λ (cluster : List ℕ). OfCluster cluster (Sends 1 (codes "self") request)) (sym east) s.before.0)
-second_cluster step (inr p) =
-    let post = written_is_post (codes "self") (other_chunk ∷ []) east_request east_post in
-    never_both post.0 p.0 east_request post.1 (written_is_poll (codes "self") p.0 east_request p.1)
-
-same_cluster : AgentRule a1 g19 (newest p20) (Sends 2 (codes "self") request)
-unfolding read spell digits is_utf8 chars encode is_word key_1 key_2 written_key guessed_key written_part read_key read_checkpoint read_book read_header read_front read_fields read_class entry_at records_of marker_of written_front class_text md5 digest_bytes hash_after compress rounds block_words written_post_request written_poll_request written_reply
-same_cluster = plegal20.1.rule
-
--- the part of a line is one of the log
-part_is_true : IsTrueChunk by_lines part_of_line
-unfolding read spell digits is_utf8 chars encode is_word key_1 key_2 written_key guessed_key written_part read_key read_checkpoint read_book read_header read_front read_fields read_class entry_at records_of marker_of written_front class_text md5 digest_bytes hash_after compress rounds block_words written_post_request written_poll_request written_reply
-part_is_true = record { start = refl; data_is = refl }
+sends_request = glegal8.1.rule

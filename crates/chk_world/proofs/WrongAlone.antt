@@ -14,8 +14,9 @@ use Rattle.chk_message.specs.Messages.{written_post_request, written_poll_reques
 use Rattle.chk_site.specs.declared.acts.Who.{Who}
 use Rattle.chk_site.specs.declared.acts.Call.{Call}
 use Rattle.chk_site.specs.declared.acts.Call.TheVariants.{Append, Answer, Clock, Create, Cut, LogAppend, LogRead, Remove, Rename, Say, Send}
+use Rattle.chk_site.specs.declared.acts.CallFault.TheVariants.{Short}
 use Rattle.chk_site.specs.declared.acts.ActAnswer.{ActAnswer}
-use Rattle.chk_site.specs.declared.acts.ActAnswer.TheVariants.{Done}
+use Rattle.chk_site.specs.declared.acts.ActAnswer.TheVariants.{Done, Refused}
 use Rattle.chk_site.specs.Files.{Nothing, Created, Grown, Moved, Gone, Shortened, LogGrown, changed}
 use Rattle.chk_site.specs.Logs.{logs_changed}
 use Rattle.chk_site.specs.Acts.{deed, deed_by, change_of}
@@ -27,15 +28,15 @@ use Rattle.chk_world.specs.Agents.{LineMay, LineIsTrue, stream_of}
 use Rattle.chk_world.specs.Books.{One as book_1, book_bytes, read_book}
 use Rattle.chk_world.specs.ArchiveRuns.{report}
 use Rattle.chk_world.specs.Rules.{is_named_so, StartsAfterStop, Framed, OnlyWritersGrowLogs, OnlyAgentsRequest, RoleMay}
-use Rattle.chk_world.proofs.ExampleTexts.{a1, c1, job, path, hello, request, check, check_tmp, born, born_tmp, sink, entry, mark, mark_tmp, done_sink, seg, book_tmp, book_name, book_text, reply, line, text_6}
-use Rattle.chk_world.proofs.ExampleSteps.{g2, g4, g6, g7, g8, g9, g10, g12, g24, g27, g29, g30, g33, g34, g38, g39, p22, p23, p28, p29, w3}
-use Rattle.chk_world.proofs.ExampleMessages.{in_one, in_none, one_not_zero, two_not_zero}
+use Rattle.chk_world.proofs.ExampleTexts.{a1, c1, job, path, hello, request, check, check_tmp, born, born_tmp, sink, entry, mark, mark_tmp, done_sink, seg, book_tmp, book_name, book_text, reply, line}
+use Rattle.chk_world.proofs.ExampleSteps.{g4, g6, g7, g8, g9, g10, g12, g24, g27, g29, g30, g33, g34, g38, g39, p22, p23, p28, p29, w3}
+use Rattle.chk_world.proofs.ExampleMessages.{in_one, in_none, one_not_zero}
 use Rattle.chk_world.proofs.WrongCollector.{second_born, third_sink, failed, untaken, polled_early, synced_first}
-use Rattle.chk_world.proofs.WrongAgent.{next_check, no_line, false_request, east_request}
+use Rattle.chk_world.proofs.WrongAgent.{next_check, no_line, no_request, other_path}
 use Rattle.chk_world.proofs.WrongJob.{next_book, long_book, empty_book}
 
 -- what a step owes, but that it is honest and that its process may have its name
-data Part : Type 0 where
+pub data Part : Type 0 where
   OwnFiles : Part
   Starting : Part
   TheLogs : Part
@@ -43,7 +44,7 @@ data Part : Type 0 where
   TheRule : Part
 
 -- a part that isn't left out
-abbrev unless : Part → Part → Type 0 → Type 0
+abbrev pub unless : Part → Part → Type 0 → Type 0
 unless OwnFiles OwnFiles P = Unit {0}
 unless Starting Starting P = Unit {0}
 unless TheLogs TheLogs P = Unit {0}
@@ -52,7 +53,7 @@ unless TheRule TheRule P = Unit {0}
 unless left_out part P = P
 
 -- the step owes nothing but that part
-record ObeysBut (left_out : Part) (history : History) (step : Step) : Type 0 where
+pub record ObeysBut (left_out : Part) (history : History) (step : Step) : Type 0 where
   pub honest : Honest history step
   pub named : IsTrue (is_named_so step.act.who.role step.act.who.name)
   pub starts : unless left_out Starting (StartsAfterStop step.act.who history (deed step.act))
@@ -62,7 +63,7 @@ record ObeysBut (left_out : Part) (history : History) (step : Step) : Type 0 whe
   pub rule : unless left_out TheRule (RoleMay [] step.act.who.role history step)
 
 -- the step of a call that was done
-abbrev next_by : Who → Call → List (List ℕ) → ℕ → ℕ → ActAnswer → History → Step
+abbrev pub next_by : Who → Call → List (List ℕ) → ℕ → ℕ → ActAnswer → History → Step
 next_by who call words number max answer history = record {
   own = true;
   act = record { who = who; call = call; words = words; number = number; max = max; answer = answer };
@@ -284,36 +285,6 @@ loses_a_stream = record {
   rule = tt;
 }
 
-past_its_start : ObeysBut TheRule (next_check text_6 g2) (next_by a1 Rename (check_tmp ∷ check ∷ []) 0 0 (Done [] 0 0) (next_check text_6 g2))
-unfolding read spell digits is_utf8 chars encode is_word key_1 key_2 written_key guessed_key written_part read_key read_checkpoint read_book read_header read_front read_fields read_class entry_at records_of marker_of written_front class_text md5 digest_bytes hash_after compress rounds block_words written_post_request written_poll_request written_reply
-past_its_start = record {
-  honest = record {
-    modelled = record { effect = record { did = Moved check_tmp check; may = refl; files_left = λ n. refl; logs_left = λ p. refl }; small = tt };
-    agrees = refl;
-  };
-  named = refl;
-  starts = refl;
-  own_files = (refl, (refl, refl));
-  logs = tt;
-  requests = tt;
-  rule = tt;
-}
-
-not_acknowledged : ObeysBut TheRule (next_check text_6 g7) (next_by a1 Rename (check_tmp ∷ check ∷ []) 0 0 (Done [] 0 0) (next_check text_6 g7))
-unfolding read spell digits is_utf8 chars encode is_word key_1 key_2 written_key guessed_key written_part read_key read_checkpoint read_book read_header read_front read_fields read_class entry_at records_of marker_of written_front class_text md5 digest_bytes hash_after compress rounds block_words written_post_request written_poll_request written_reply
-not_acknowledged = record {
-  honest = record {
-    modelled = record { effect = record { did = Moved check_tmp check; may = refl; files_left = λ n. refl; logs_left = λ p. refl }; small = tt };
-    agrees = refl;
-  };
-  named = refl;
-  starts = refl;
-  own_files = (refl, (refl, refl));
-  logs = tt;
-  requests = tt;
-  rule = tt;
-}
-
 read_again : ObeysBut TheRule g27 (next_by a1 LogRead (path ∷ codes "base" ∷ []) 0 131072 (Done (hello ∷ []) 0 0) g27)
 unfolding read spell digits is_utf8 chars encode is_word key_1 key_2 written_key guessed_key written_part read_key read_checkpoint read_book read_header read_front read_fields read_class entry_at records_of marker_of written_front class_text md5 digest_bytes hash_after compress rounds block_words written_post_request written_poll_request written_reply
 read_again = record {
@@ -329,9 +300,9 @@ read_again = record {
   rule = tt;
 }
 
-sends_false_data : ObeysBut TheRule g7 (next_by a1 Send (codes "self" ∷ false_request ∷ []) 1 0 (Done [] 1 0) g7)
+sends_no_request : ObeysBut TheRule g7 (next_by a1 Send (codes "self" ∷ no_request ∷ []) 1 0 (Done [] 1 0) g7)
 unfolding read spell digits is_utf8 chars encode is_word key_1 key_2 written_key guessed_key written_part read_key read_checkpoint read_book read_header read_front read_fields read_class entry_at records_of marker_of written_front class_text md5 digest_bytes hash_after compress rounds block_words written_post_request written_poll_request written_reply
-sends_false_data = record {
+sends_no_request = record {
   honest = record {
     modelled = record { effect = record { did = Nothing; may = refl; files_left = λ n. refl; logs_left = λ p. refl }; small = tt };
     agrees = (((λ e. one_not_zero e), refl), refl);
@@ -344,12 +315,27 @@ sends_false_data = record {
   rule = tt;
 }
 
-second_cluster : ObeysBut TheRule g8 (next_by a1 Send (codes "self" ∷ east_request ∷ []) 2 0 (Done [] 2 0) g8)
+unread : ObeysBut TheRule (next_check hello g6) (next_by a1 Rename (check_tmp ∷ check ∷ []) 0 0 (Done [] 0 0) (next_check hello g6))
 unfolding read spell digits is_utf8 chars encode is_word key_1 key_2 written_key guessed_key written_part read_key read_checkpoint read_book read_header read_front read_fields read_class entry_at records_of marker_of written_front class_text md5 digest_bytes hash_after compress rounds block_words written_post_request written_poll_request written_reply
-second_cluster = record {
+unread = record {
+  honest = record {
+    modelled = record { effect = record { did = Moved check_tmp check; may = refl; files_left = λ n. refl; logs_left = λ p. refl }; small = tt };
+    agrees = refl;
+  };
+  named = refl;
+  starts = refl;
+  own_files = (refl, (refl, refl));
+  logs = tt;
+  requests = tt;
+  rule = tt;
+}
+
+reads_another : ObeysBut TheRule g27 (next_by a1 LogRead (other_path ∷ codes "base" ∷ []) 6 131072 (Refused (Short 0)) g27)
+unfolding read spell digits is_utf8 chars encode is_word key_1 key_2 written_key guessed_key written_part read_key read_checkpoint read_book read_header read_front read_fields read_class entry_at records_of marker_of written_front class_text md5 digest_bytes hash_after compress rounds block_words written_post_request written_poll_request written_reply
+reads_another = record {
   honest = record {
     modelled = record { effect = record { did = Nothing; may = refl; files_left = λ n. refl; logs_left = λ p. refl }; small = tt };
-    agrees = (((λ e. two_not_zero e), refl), refl);
+    agrees = (omega arith, refl);
   };
   named = refl;
   starts = refl;
@@ -439,6 +425,21 @@ not_archived = record {
 no_run : ObeysBut TheRule g30 (next_by job Say (report 0 0 0 0 ∷ []) 0 0 (Done [] 0 0) g30)
 unfolding read spell digits is_utf8 chars encode is_word key_1 key_2 written_key guessed_key written_part read_key read_checkpoint read_book read_header read_front read_fields read_class entry_at records_of marker_of written_front class_text md5 digest_bytes hash_after compress rounds block_words written_post_request written_poll_request written_reply
 no_run = record {
+  honest = record {
+    modelled = record { effect = record { did = Nothing; may = refl; files_left = λ n. refl; logs_left = λ p. refl }; small = tt };
+    agrees = tt;
+  };
+  named = refl;
+  starts = refl;
+  own_files = tt;
+  logs = tt;
+  requests = tt;
+  rule = tt;
+}
+
+no_newline : ObeysBut TheRule g30 (next_by job Say (codes "done" ∷ []) 0 0 (Done [] 0 0) g30)
+unfolding read spell digits is_utf8 chars encode is_word key_1 key_2 written_key guessed_key written_part read_key read_checkpoint read_book read_header read_front read_fields read_class entry_at records_of marker_of written_front class_text md5 digest_bytes hash_after compress rounds block_words written_post_request written_poll_request written_reply
+no_newline = record {
   honest = record {
     modelled = record { effect = record { did = Nothing; may = refl; files_left = λ n. refl; logs_left = λ p. refl }; small = tt };
     agrees = tt;

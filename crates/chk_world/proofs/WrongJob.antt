@@ -1,5 +1,5 @@
--- Steps that the job's, the writers' and all processes' rules refuse, each beside one that differs in the one fact and is allowed.
-use Rattle.std.proofs.Common.{◌≡◌, ℕ, true, false, List, [], ◌∷◌, ◌++◌, length, None, Some, bytes_eq, refl, ap, sym, ◌∙◌, inl, subst, true≢false, arith, if◌then◌else◌}
+-- Steps that the job's and all processes' rules refuse, each beside one that differs in the one fact and is allowed.
+use Rattle.std.proofs.Common.{◌≡◌, ℕ, List, [], ◌∷◌, ◌++◌, length, None, refl, ap, sym, ◌∙◌, inl, subst, true≢false, arith}
 use Rattle.std.specs.Prelude.{codes, Contains}
 use Rattle.std.proofs.lemmas.Option.{same_Some}
 use Rattle.std.specs.Fmt.{digits}
@@ -8,28 +8,24 @@ use lib.Utf8.{encode}
 use Rattle.md5.specs.Md5.{md5, digest_bytes, hash_after, compress, rounds, block_words}
 use Rattle.chk_bytes.specs.Words.{is_word}
 use Rattle.chk_seqfile.specs.Headers.{marker_of, written_front, class_text, read_header, read_front, read_fields, read_class}
-use Rattle.chk_seqfile.specs.Entries.{record_entry, records_of, entry_at}
+use Rattle.chk_seqfile.specs.Entries.{records_of, entry_at}
 use Rattle.chk_site.specs.declared.acts.Call.TheVariants.{Create, Append, Sync}
-use Rattle.chk_site.specs.declared.acts.ActAnswer.TheVariants.{Done, Rotated, Deleted}
+use Rattle.chk_site.specs.declared.acts.ActAnswer.TheVariants.{Done}
 use Rattle.chk_site.specs.declared.acts.Role.TheVariants.{Agent, Collector, Writer}
-use Rattle.chk_site.specs.Files.{Files, no_files}
-use Rattle.chk_site.specs.Logs.{Logs}
 use Rattle.chk_site.specs.Acts.{Starts, GrowsLog, Creates, Appends, Renames, Removes, AsksClock, Sends, Says}
-use Rattle.chk_site.specs.History.{History, files_after, logs_after}
-use Rattle.chk_control.specs.declared.Class.TheVariants.{Rotating}
+use Rattle.chk_site.specs.History.{History, files_after}
 use Rattle.chk_chunk.specs.Keys.{Chunk, key_1, key_2, written_key, guessed_key, read_key}
 use Rattle.chk_chunk.specs.Posts.{written_part}
 use Rattle.chk_message.specs.Messages.{written_post_request, written_poll_request, written_reply}
 use Rattle.chk_world.specs.Names.{read, spell}
-use Rattle.chk_world.specs.Checkpoints.{One, checkpoint_text, read_checkpoint}
+use Rattle.chk_world.specs.Checkpoints.{read_checkpoint}
 use Rattle.chk_world.specs.Books.{Book, One as book_1, book_bytes, read_book, values}
 use Rattle.chk_world.specs.ArchiveRuns.{report}
-use Rattle.chk_world.specs.Jobs.{Run, RecordsAreASplit, all_segments, chunks_after, JobRule}
-use Rattle.chk_world.specs.Splits.{Record, record_in}
-use Rattle.chk_world.specs.Rules.{StartsAfterStop, Framed, OnlyWritersGrowLogs, OnlyAgentsRequest, WriterRule}
-use Rattle.chk_world.proofs.ExampleTexts.{a1, c1, job, path, hello, request, line, line_6, sink, entry, check, check_tmp, done_sink, seg, seg_head, book_tmp, book_name, book_1st, book_text, segment, stream, chunk}
-use Rattle.chk_world.proofs.ExampleSteps.{done, g4, g5, g9, g24, g27, g29, g30, g32, g33, g34, g37, g38, g39, p23}
-use Rattle.chk_world.proofs.ExampleMessages.{posted, in_none}
+use Rattle.chk_world.specs.Jobs.{Run, all_segments, chunks_after, JobRule}
+use Rattle.chk_world.specs.Rules.{StartsAfterStop, Framed, OnlyWritersGrowLogs, OnlyAgentsRequest}
+use Rattle.chk_world.proofs.ExampleTexts.{a1, c1, job, path, hello, request, sink, entry, check, check_tmp, done_sink, seg, book_tmp, book_name, book_1st, book_text, segment, stream}
+use Rattle.chk_world.proofs.ExampleSteps.{done, g4, g5, g9, g24, g29, g30, g32, g33, g34, g37, g38, g39, p23}
+use Rattle.chk_world.proofs.ExampleMessages.{posted}
 use Rattle.chk_world.proofs.ExampleJob.{glegal33, glegal38, glegal39}
 use Rattle.chk_world.proofs.ExampleStop.{removed_too_early}
 
@@ -89,29 +85,6 @@ archive_lost r =
     let n : ◌≡◌ {A = ℕ} 0 6 = ap length z in
     omega arith
 
--- the demultiplexed records are the first of the archive's split
-abbrev demuxed : List ℕ → History
-demuxed value = record {
-  own = true;
-  act = record { who = job; call = Sync; words = codes "demux/seg.1" ∷ []; number = 0; max = 0; answer = Done [] 0 0 };
-  files = λ n.
-      if bytes_eq n (codes "demux/seg.1")
-      then Some (record { bytes = seg_head ++ record_entry (key_1 chunk.key) value; synced = 144 }) else files_after g39 n;
-  logs = logs_after g39;
-} ∷ g39
-
-abbrev first_bytes : List Record → List ℕ
-first_bytes [] = []
-first_bytes (r ∷ rs) = r.bytes
-
-no_split : RecordsAreASplit [] (demuxed (codes "jello\n")) book_1st stream → ⊥
-unfolding read spell digits is_utf8 chars encode is_word key_1 key_2 written_key guessed_key written_part read_key read_checkpoint read_book read_header read_front read_fields read_class entry_at records_of marker_of written_front class_text md5 digest_bytes hash_after compress rounds block_words written_post_request written_poll_request written_reply
-no_split r = true≢false (ap (λ rs. bytes_eq (first_bytes rs) hello) r.are.1)
-
-is_split : RecordsAreASplit [] (demuxed hello) book_1st stream
-unfolding read spell digits is_utf8 chars encode is_word key_1 key_2 written_key guessed_key written_part read_key read_checkpoint read_book read_header read_front read_fields read_class entry_at records_of marker_of written_front class_text md5 digest_bytes hash_after compress rounds block_words written_post_request written_poll_request written_reply
-is_split = record { on = (record_in chunk ∷ [], refl); are = ([], refl) }
-
 -- no segment is changed that a book names
 named_segment_changed : JobRule [] g38 (Appends seg entry) → ⊥
 unfolding read spell digits is_utf8 chars encode is_word key_1 key_2 written_key guessed_key written_part read_key read_checkpoint read_book read_header read_front read_fields read_class entry_at records_of marker_of written_front class_text md5 digest_bytes hash_after compress rounds block_words written_post_request written_poll_request written_reply
@@ -139,39 +112,10 @@ no_report : JobRule [] g30 (Says (codes "done\n"))
 unfolding read spell digits is_utf8 chars encode is_word key_1 key_2 written_key guessed_key written_part read_key read_checkpoint read_book read_header read_front read_fields read_class entry_at records_of marker_of written_front class_text md5 digest_bytes hash_after compress rounds block_words written_post_request written_poll_request written_reply
 no_report = (refl, (refl, tt))
 
--- a log isn't rotated while a checkpoint reads its base file alone
-read_alone : WriterRule (files_after g27) (logs_after g27) (GrowsLog path hello) (Rotated (codes ".20101108")) → ⊥
+-- and whole lines are printed
+no_newline : JobRule [] g30 (Says (codes "done")) → ⊥
 unfolding read spell digits is_utf8 chars encode is_word key_1 key_2 written_key guessed_key written_part read_key read_checkpoint read_book read_header read_front read_fields read_class entry_at records_of marker_of written_front class_text md5 digest_bytes hash_after compress rounds block_words written_post_request written_poll_request written_reply
-read_alone r = true≢false (r.1 (codes "h1") line_6 (0, omega arith, refl) refl)
-
-not_read : WriterRule no_files (logs_after g27) (GrowsLog path hello) (Rotated (codes ".20101108"))
-unfolding read spell digits is_utf8 chars encode is_word key_1 key_2 written_key guessed_key written_part read_key read_checkpoint read_book read_header read_front read_fields read_class entry_at records_of marker_of written_front class_text md5 digest_bytes hash_after compress rounds block_words written_post_request written_poll_request written_reply
-not_read = (refl, λ source l c e. absurd (in_none l c))
-
--- the new suffix is the greatest
-abbrev one_rotated : Logs
-one_rotated p = record { rotated = record { suffix = codes ".20101109"; bytes = hello; deleted = false } ∷ []; base = [] }
-
-older_suffix : WriterRule no_files one_rotated (GrowsLog path hello) (Rotated (codes ".20101108")) → ⊥
-unfolding read spell digits is_utf8 chars encode is_word key_1 key_2 written_key guessed_key written_part read_key read_checkpoint read_book read_header read_front read_fields read_class entry_at records_of marker_of written_front class_text md5 digest_bytes hash_after compress rounds block_words written_post_request written_poll_request written_reply
-older_suffix r = true≢false (sym r.0)
-
-newer_suffix : WriterRule no_files one_rotated (GrowsLog path hello) (Rotated (codes ".20101110"))
-unfolding read spell digits is_utf8 chars encode is_word key_1 key_2 written_key guessed_key written_part read_key read_checkpoint read_book read_header read_front read_fields read_class entry_at records_of marker_of written_front class_text md5 digest_bytes hash_after compress rounds block_words written_post_request written_poll_request written_reply
-newer_suffix = (refl, λ source l c e. absurd (in_none l c))
-
--- a generation is deleted only where each line of the path has passed it
-abbrev not_past : Files
-not_past n =
-    if bytes_eq n check then Some (record { bytes = checkpoint_text One (record line { class = Rotating } ∷ []); synced = 0 }) else None
-
-deleted_early : WriterRule not_past one_rotated (GrowsLog path []) (Deleted (codes ".20101109")) → ⊥
-unfolding read spell digits is_utf8 chars encode is_word key_1 key_2 written_key guessed_key written_part read_key read_checkpoint read_book read_header read_front read_fields read_class entry_at records_of marker_of written_front class_text md5 digest_bytes hash_after compress rounds block_words written_post_request written_poll_request written_reply
-deleted_early r = true≢false (r.1 (codes "h1") (record line { class = Rotating }) (0, omega arith, refl) refl)
-
-deleted_unread : WriterRule no_files one_rotated (GrowsLog path []) (Deleted (codes ".20101109"))
-unfolding read spell digits is_utf8 chars encode is_word key_1 key_2 written_key guessed_key written_part read_key read_checkpoint read_book read_header read_front read_fields read_class entry_at records_of marker_of written_front class_text md5 digest_bytes hash_after compress rounds block_words written_post_request written_poll_request written_reply
-deleted_unread = (refl, λ source l c e. absurd (in_none l c))
+no_newline r = true≢false (sym r.1.0)
 
 -- each process has its own files
 others_file : Framed a1 (files_after g9) (Creates sink) → ⊥

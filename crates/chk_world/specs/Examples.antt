@@ -1,13 +1,21 @@
 -- That no premise is empty: there are legal histories in which each role does its work.
-use Rattle.std.specs.Prelude.{◌≡◌, ℕ, ◌<◌, List, [], codes, None}
+use Rattle.std.specs.Prelude.{◌≡◌, ℕ, ◌<◌, false, IsTrue, List, [], ◌∷◌, ◌++◌, codes, is_some, ◌&&◌, None}
 use Rattle.chk_bytes.specs.Stems.{Stem, stem_of}
-use Rattle.chk_site.specs.History.{History, files_after}
-use Rattle.chk_chunk.specs.Keys.{Stream}
+use Rattle.chk_site.specs.declared.acts.Role.TheVariants.{Collector}
+use Rattle.chk_site.specs.Acts.{Says, deed}
+use Rattle.chk_site.specs.History.{Step, History, files_after, since_start}
+use Rattle.chk_chunk.specs.Keys.{Stream, Chunk, Covers}
 use Rattle.chk_world.specs.Names.{BornFile, SinkFile, MarkFile, DoneFile, file}
 use Rattle.chk_world.specs.Checkpoints.{checkpoint_of}
 use Rattle.chk_world.specs.Streams.{log_end, whole_log, whole_end}
 use Rattle.chk_world.specs.Committed.{number_in, committed_length, archive_of_stream, aside_chunks, KeptAt}
+use Rattle.chk_world.specs.ArchiveRuns.{report}
+use Rattle.chk_world.specs.Collectors.{View}
+use Rattle.chk_world.specs.Agents.{Acknowledged}
 use Rattle.chk_world.specs.Rules.{Legal}
+use Rattle.chk_world.specs.Laws.{wrote, Wrote, agent_of, WasAcknowledged, StandsWithin, SavedAt}
+use Rattle.chk_world.specs.Rounds.{HoldsRound}
+use Rattle.chk_world.specs.Places.{Foreign, Place, IsPlace, AtPlace, collector_at}
 
 -- the stream of the log `/a.log` of the agent h1
 abbrev pub one_log : Stream
@@ -47,8 +55,55 @@ pub record RecoversTheSink (history : History) : Type 0 where
   pub no_mark : file (files_after history) (MarkFile first_sink) ≡ None
   pub committed : committed_length (files_after history) first_sink ≡ 144
 
+-- a legal history after which the log's chunk is acknowledged to its agent, and its record lies below the committed
+-- length of its sink
+pub record AcknowledgesTheLog (history : History) : Type 0 where
+  pub legal : Legal [] history
+  pub c : Chunk
+  pub covers : (o : ℕ) → o < 6 → Covers one_log o c
+  pub acknowledged : Acknowledged (since_start (agent_of one_log) history) c
+  pub stands : StandsWithin (wrote first_sink history) (committed_length (files_after history) first_sink) c
+  pub saved : (o : ℕ) → o < 6 → SavedAt history one_log o
+
+-- a legal step that is the report of a complete run, with which the history holds a round of the log
+pub record EndsARound (history : History) (step : Step) : Type 0 where
+  pub legal : Legal [] (step ∷ history)
+  pub says : deed step.act ≡ Says (report 0 6 0 1)
+  pub round : HoldsRound (step ∷ history) one_log
+  pub log : whole_log round.read one_log ≡ one_line
+  pub acknowledged : (o : ℕ) → o < 6 → WasAcknowledged (step ∷ history) one_log o
+  pub listed : (o : ℕ) → o < 6 → SavedAt (round.till_listing ++ (round.till_checkpoint ++ round.read)) one_log o
+  pub saved : (o : ℕ) → o < 6 → SavedAt (step ∷ history) one_log o
+
+-- a legal step that appends a record to a sink
+pub record WritesARecord (history : History) (step : Step) : Type 0 where
+  pub legal : Legal [] (step ∷ history)
+  pub wrote : Wrote first_sink step
+
+-- a legal step, before which the log is kept
+pub record KeepsItBefore (history : History) (step : Step) : Type 0 where
+  pub legal : Legal [] (step ∷ history)
+  pub kept : (o : ℕ) → o < 6 → KeptAt history one_log o
+
+-- the collector c1 with its number, its first sink and the sink's mark
+abbrev pub one_place : Place View
+one_place =
+    collector_at (record { role = Collector; name = codes "c1" }) (BornFile (codes "c1")) (SinkFile first_sink) (MarkFile first_sink)
+
+-- a step of others, before which the collector has published its number
+pub record OthersAct (history : History) (step : Step) : Type 0 where
+  pub place : IsPlace one_place
+  pub theirs : step.own ≡ false
+  pub foreign : Foreign [] one_place.who history step
+  pub at : AtPlace [] one_place (λ v born sink mark. IsTrue (is_some v.born && is_some born)) history
+
 -- there are such histories
 pub record NoPremiseIsEmpty : Type 0 where
   pub round : (history : History) × ArchivesTheLog history
   pub keeping : (history : History) × KeepsTheLog history
   pub recovery : (history : History) × RecoversTheSink history
+  pub acknowledging : (history : History) × AcknowledgesTheLog history
+  pub whole_round : (history : History) × (step : Step) × EndsARound history step
+  pub writing : (history : History) × (step : Step) × WritesARecord history step
+  pub on_keeping : (history : History) × (step : Step) × KeepsItBefore history step
+  pub others : (history : History) × (step : Step) × OthersAct history step

@@ -12,7 +12,7 @@ use Rattle.chk_site.specs.Acts.{Deed, Appends, deed}
 use Rattle.chk_site.specs.History.{Step, History, Ever, files_after, since_start}
 use Rattle.chk_chunk.specs.Keys.{Stream, Chunk, Covers, chunk_limit}
 use Rattle.chk_world.specs.Names.{Folder, Name, BornFile, SinkFile, MarkFile, DoneFile, CheckFile, BookFile, SegmentFile, is_source, read, file}
-use Rattle.chk_world.specs.Checkpoints.{Line, read_checkpoint, line_of}
+use Rattle.chk_world.specs.Checkpoints.{Line, read_checkpoint, line_of, checkpoint_of}
 use Rattle.chk_seqfile.specs.Entries.{IsSequenceFile}
 use Rattle.chk_world.specs.Books.{Segment, Book, read_book, book_of, AllChunks, chunks_within}
 use Rattle.chk_world.specs.ArchiveRuns.{Listing, last_listing, unclosed_in, HasReached}
@@ -221,3 +221,15 @@ PassedIsAcknowledged =
     (stamped : List (List ℕ)) (history : History) → Legal stamped history → (s : Stream) → IsTrue (is_source s.source)
     → (l : Line) → line_of (files_after history) s ≡ Some l → (o : ℕ) → l.start ≤ o → o < l.offset
     → WasAcknowledged history s o
+
+-- what is acknowledged to the agent of a stream is kept or archived
+abbrev pub AcknowledgedIsSaved : Type 0
+AcknowledgedIsSaved =
+    (stamped : List (List ℕ)) (history : History) → Legal stamped history → (s : Stream) → IsTrue (is_source s.source)
+    → (c : Chunk) → Acknowledged (since_start (agent_of s) history) c → (o : ℕ) → Covers s o c → SavedAt history s o
+
+-- after a complete run the archive holds every byte up to the checkpoint as it stood at the listing
+abbrev pub RunsCoverCheckpoints : Type 0
+RunsCoverCheckpoints =
+    (stamped : List (List ℕ)) (history : History) → Legal stamped history → (l : Listing) → IsComplete history l
+    → (s : Stream) → IsTrue (is_source s.source) → checkpoint_of (files_after l.upto) s ≤ archived_end history s

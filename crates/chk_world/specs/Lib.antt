@@ -10,6 +10,7 @@ pub mod ArchiveRuns
 pub mod Jobs
 pub mod Rules
 pub mod Laws
+pub mod Rounds
 pub mod Places
 pub mod Spelled
 pub mod Examples

@@ -3,10 +3,12 @@
 #![tactic(auto)]
 
 ghost use Rattle.chk_world.specs.Examples.{NoPremiseIsEmpty};
-ghost use Rattle.chk_world.specs.Laws.{ArchivesAreFronts, ArchivesOnlyGrow, CheckpointsMoveOn, CommitsAfterAppend};
+ghost use Rattle.chk_world.specs.Laws.{AcknowledgedIsSaved, ArchivesAreFronts, ArchivesOnlyGrow, CheckpointsMoveOn};
+ghost use Rattle.chk_world.specs.Laws.{CommitsAfterAppend, RunsCoverCheckpoints};
 ghost use Rattle.chk_world.specs.Laws.{KeptStaysKept, LogsOnlyGrow, NamedSegmentsAreSound, OwnFilesAreRead};
 ghost use Rattle.chk_world.specs.Laws.{PassedIsAcknowledged, ReachedIsSaved, RunsTakeAllSaved, SinksHaveShape};
 ghost use Rattle.chk_world.specs.Places.{OthersLeavePlaces};
+ghost use Rattle.chk_world.specs.Rounds.{RoundsAreWhole};
 ghost use Rattle.chk_world.specs.Spelled.{BooksAreRead, CheckpointsAreRead, NamesAreRead};
 
 /// A law: each name of the program's is read back from its text, and each text is spelled as it is
@@ -81,10 +83,26 @@ pub fn reached_is_saved()
     ensures { ReachedIsSaved }
 {}
 
+/// A law: what is acknowledged to the agent of a stream is kept or archived.
+pub fn acknowledged_is_saved()
+    ensures { AcknowledgedIsSaved }
+{}
+
 /// A law: after a complete archive run the archive holds all that was kept or archived at its listing, up to the
 /// first gap.
 pub fn runs_take_all_saved()
     ensures { RunsTakeAllSaved }
+{}
+
+/// A law: after a complete archive run the archive holds every byte up to each checkpoint, as that stood at the
+/// listing.
+pub fn runs_cover_checkpoints()
+    ensures { RunsCoverCheckpoints }
+{}
+
+/// A law: after a round of a stream the archive is the whole log that was read, byte for byte.
+pub fn rounds_are_whole()
+    ensures { RoundsAreWhole }
 {}
 
 /// A law: what a collector, an agent or the job sees, and its own files, stay as they are over each
@@ -94,8 +112,8 @@ pub fn others_leave_places()
 {}
 
 /// A law: there is a legal history of a whole round, from a collector's start to the removal of an
-/// archived sink; at its middle the log is kept and not yet acknowledged; and there is one in which a
-/// stop leaves a false tail that the next start cuts off.
+/// archived sink and the report of that run; at its middle the log is kept and not yet acknowledged,
+/// and later it is; and there is one in which a stop leaves a false tail that the next start cuts off.
 pub fn no_premise_is_empty()
     ensures { NoPremiseIsEmpty }
 {}

@@ -11,7 +11,7 @@ pub loop-act-preserved : goal.loop-act-preserved
 loop-act-preserved c =
     let i = c.loop-act.act-index in
     let act = c.act-item.result in
-    let kept = c.args.keeper.now in
+    let kept = c.args.keeper.now.kept in
     let m = c.args.message in
     let inv = c.loop-act.invariant in
     let past = past_step kept c.acts-acts.result.now i act c.acts-acts.ensures c.act-item.is c.loop-act-test.true in

@@ -8,7 +8,7 @@ use Rattle.chk_answers.proofs.replies.got.Given as goal
 
 abbrev pub invariant-loop-act : goal.invariant-loop-act
 invariant-loop-act l = record {
-  takers : (t : ℕ) → taker_at l.takings t ≡ taker_of l.message (taken (told_of (take l.act-index l.keeper)) t);
-  sure : text_at l.sure ≡ oldest_where is_sure (replies (told_of (take l.act-index l.keeper)) l.message);
-  done : text_at l.done ≡ oldest_where (λ r. r.done) (replies (told_of (take l.act-index l.keeper)) l.message);
+  takers : (t : ℕ) → taker_at l.takings t ≡ taker_of l.message (taken (told_of (take l.act-index l.keeper.kept)) t);
+  sure : text_at l.sure ≡ oldest_where is_sure (replies (told_of (take l.act-index l.keeper.kept)) l.message);
+  done : text_at l.done ≡ oldest_where (λ r. r.done) (replies (told_of (take l.act-index l.keeper.kept)) l.message);
 }

@@ -10,7 +10,7 @@ use Rattle.chk_answers.proofs.message_calls.GotQuestion.plan.Goals as goal
 
 pub returns-clause-plans : goal.returns-clause-plans
 returns-clause-plans c =
-    let h = told_of c.args.keeper.now in
+    let h = told_of c.args.keeper.now.kept in
     let rs = replies h c.args.self.now.message in
     let got = c.in_ok-got.got.now in
     let bytes = c.in_ok-bytes.bytes in

@@ -10,7 +10,7 @@ use Rattle.chk_answers.proofs.message_calls.TakeNumbered.plan.Goals as goal
 pub returns-in_default-clause-plans : goal.returns-in_default-clause-plans
 returns-in_default-clause-plans c =
     let s = c.args.self.now in
-    let h = told_of c.args.keeper.now in
+    let h = told_of c.args.keeper.now.kept in
     let box = c.at_door-mailbox.result in
     let none : c.in_ok-letter.field-0 ≡ None = search rules in
     let words = c.in_ok-words.ensures ∙ ap (λ (d : List ℕ). d ∷ []) c.as_bytes.ensures.value in
@@ -23,7 +23,7 @@ returns-in_default-clause-plans c =
 pub returns-clause-plans : goal.returns-clause-plans
 returns-clause-plans c =
     let s = c.args.self.now in
-    let h = told_of c.args.keeper.now in
+    let h = told_of c.args.keeper.now.kept in
     let box = c.at_door-mailbox.result in
     let letter = c.in-Some.letter in
     let taking = c.in_ok-taking.taking in

@@ -5,4 +5,4 @@ use Rattle.chk_kept.proofs.keeper.Keeper.acts.Goals as goal
 
 pub returns : goal.returns
 returns c =
-    c.deref.ensures.value ∙ sym (acts_kept _ _ c.self.invariant.marked) ∙ ap acts_of c.self.view_is
+    c.deref.ensures.value ∙ sym (acts_kept _ _ c.self.invariant.marked) ∙ ap (λ s. acts_of s.kept) c.self.view_is

@@ -1,8 +1,8 @@
-use Rattle.std.proofs.Common.{List, Bool, false, ◌∙◌, sym, ap, subst, map, length}
+use Rattle.std.proofs.Common.{refl, List, Bool, false, ◌∙◌, sym, ap, subst, map, length}
 use Rattle.std.proofs.lemmas.List.{with_items_is, length-map}
-use Rattle.chk_kept.specs.Told.{disowned}
+use Rattle.chk_kept.specs.State.{anew}
 use Rattle.chk_kept.specs.Keeping.{kept_in, IsKept}
-use Rattle.chk_kept.proofs.KeepLemmas.{kept_disowned, disowned_in}
+use Rattle.chk_kept.proofs.KeepLemmas.{kept_disowned, disowned_in, same_state}
 use Rattle.chk_kept.proofs.keeper.Keeper.disown.Goals as goal
 
 pub invariant_of-self : goal.invariant_of-self
@@ -18,4 +18,5 @@ returns c =
     let k = c.self.inside in
     let fits = ap length c.unmark.ensures ∙ length-map _ (λ _. false) ∙ c.deref_mut.ensures.len in
     let is = with_items_is k.mine c.unmark.new.mine fits ∙ c.unmark.ensures ∙ ap (map (λ _. false)) c.deref_mut.ensures.value in
-    ap (λ mine. kept_in mine k.past.items) is ∙ disowned_in k.mine.items k.past.items ∙ ap (map disowned) c.self.view_is
+    same_state _ _ _ _ _ _ (ap (λ mine. kept_in mine k.past.items) is ∙ disowned_in k.mine.items k.past.items) refl c.restart.ensures
+    ∙ ap (anew c.args.again.items) c.self.view_is

@@ -1,10 +1,12 @@
-use Rattle.std.proofs.Common.{List, [], ◌∷◌, ◌++◌, sym, ◌∙◌, ap, subst}
+use Rattle.std.proofs.Common.{List, sym, ◌∙◌, ap, subst}
 use Rattle.chk_site.specs.Acts.{deed}
 use Rattle.chk_site.specs.History.{Modelled, files_after, logs_after}
 use Rattle.chk_kept.specs.Told.{Kept, kept_as, told_of, step_of, fitted}
 use Rattle.chk_kept.specs.Stored.{file_in, log_in}
 use Rattle.chk_kept.specs.Keeping.{kept_in}
-use Rattle.chk_kept.proofs.KeepLemmas.{fitted_files_same, kept_one, kept_push, pushed_one, room_same, sound_kept}
+use Rattle.chk_kept.specs.Repeating.{capped_sum, noted, own_outside, repeating_of}
+use Rattle.chk_kept.specs.State.{State, after}
+use Rattle.chk_kept.proofs.KeepLemmas.{fitted_files_same, kept_one, kept_push, pushed_one, room_same, same_state, sound_kept}
 use Rattle.chk_kept.proofs.ModelLemmas.{modelled}
 use Rattle.chk_kept.proofs.keeper.Keeper.keep.Goals as goal
 
@@ -30,17 +32,21 @@ returns-clause-kept c =
     let told = λ (kept : List Kept). files_after (told_of kept) in
     let fits = c.in_ok-act.ensures.ok.fits
     ∙ fitted_files_same c.args.act (file_in k.files.items) (told (kept_in k.mine.items k.past.items)) c.self.invariant.stores.files_are.at in
+    let kept = kept_push k.mine.items k.past.items c.args.own c.in_ok-act.act c.self.invariant.marked in
+    let before : State = record { kept = kept_in k.mine.items k.past.items; clock = k.clock; repeats = repeating_of k.repeats } in
     rw (past, mine)
-    (kept_push k.mine.items k.past.items c.args.own c.in_ok-act.act c.self.invariant.marked
-    ∙ ap (λ a. kept_in k.mine.items k.past.items ++ kept_as c.args.own a ∷ []) fits
-    ∙ ap (λ kept. kept ++ kept_as c.args.own (fitted (told kept) c.args.act) ∷ []) c.self.view_is)
+    (same_state _ _ _ _ _ _ kept
+    (c.saturating_add-self-inside.ensures ∙ ap (capped_sum k.clock) c.own_wait.ensures)
+    (c.note.ensures ∙ ap (noted (own_outside (kept_as c.args.own c.in_ok-act.act))) c.in_ok-reserve-3.ensures.same)
+    ∙ ap (λ a. after (kept_as c.args.own a) before) fits
+    ∙ ap (λ (s : State). after (kept_as c.args.own (fitted (told s.kept) c.args.act)) s) c.self.view_is)
 
 pub returns-clause-modelled : goal.returns-clause-modelled
 returns-clause-modelled c =
     let k = c.self.inside in
     let kept = kept_in k.mine.items k.past.items in
     let stores = c.self.invariant.stores in
-    let M : List Kept → Type 0 = λ kept. Modelled (told_of kept) (step_of (told_of kept) (kept_as c.args.own (fitted (files_after (told_of kept)) c.args.act))) in
+    let M : State → Type 0 = λ s. let kept = s.kept in Modelled (told_of kept) (step_of (told_of kept) (kept_as c.args.own (fitted (files_after (told_of kept)) c.args.act))) in
     let ok = sym c.is_allowed.ensures ∙ c.if-not-is_allowed.false in
     let room = room_same (deed c.args.act) (file_in c.deref.result.now) (files_after (told_of kept)) (log_in c.deref-2.result.now)
     (logs_after (told_of kept))

@@ -1,0 +1,239 @@
+-- What the questions for a sink's committed length lead to.
+use Rattle.std.proofs.Common.{◌≡◌, inl, ℕ, ◌≤◌, ◌<◌, true, ◌&&◌, ◌==◌, List, [], ◌∷◌, ◌++◌, length, take, drop, Option, Some, None, Result, ap, sym, subst, ◌∙◌, refl, arith}
+use Rattle.std.specs.Prelude.{IsTrue, nat_le, nat_lt}
+use Rattle.std.proofs.lemmas.Bool.{and_from}
+use Rattle.std.proofs.lemmas.List.{take_all}
+use Rattle.chk_bytes.specs.Numbers.{spelled, limit}
+use Rattle.chk_bytes.specs.Stems.{Stem, is_stem, is_collector}
+use Rattle.chk_site.specs.declared.acts.Call.TheVariants.{Size, Read}
+use Rattle.chk_site.specs.declared.acts.CallFault.{CallFault}
+use Rattle.chk_site.specs.declared.acts.CallFault.TheVariants.{Failed, Missing, Exists, Short, NoMemory}
+use Rattle.chk_site.specs.declared.acts.OutsideFault.{OutsideFault}
+use Rattle.chk_site.specs.declared.acts.ActAnswer.{ActAnswer}
+use Rattle.chk_site.specs.declared.acts.ActAnswer.TheVariants.{Done, Refused, Stopped, Rotated, Deleted}
+use Rattle.chk_site.specs.Files.{File}
+use Rattle.chk_site.specs.History.{History, files_after}
+use Rattle.chk_site.specs.Honest.{AtSize, AtRead}
+use Rattle.chk_site.specs.Site.{Adds, Asked, asked, own_step, answered, sized, bytes_given, Calls, Ends, IsTaken, Took, WasRefused}
+use Rattle.chk_site.specs.Runs.{Leads}
+use Rattle.chk_message.specs.Messages.{Ack, ack_of}
+use Rattle.chk_world.specs.Names.{MarkFile, DoneFile, spell, file}
+use Rattle.chk_world.specs.Committed.{OnFile, committed_length, committed_of}
+use Rattle.chk_world.specs.Collectors.{Handling, IsCommittedLength}
+use Rattle.chk_world.specs.Laws.{IsMark}
+use Rattle.chk_world.specs.Places.{Foreign, AtTold}
+use Rattle.chk_world.proofs.Law.{shape}
+use Rattle.chk_world.proofs.ToldCalls.{GoesOn, MayCall, LeavesCall, goes_on_taken, told_taken, told_ends}
+use Rattle.chk_sink.specs.States.{State, process}
+use Rattle.chk_sink.specs.Held.{Handles, Ready}
+use Rattle.chk_sink.specs.Asked.{Counts, Counted}
+use Rattle.chk_sink.specs.Asking.{CountsOpen, is_mark}
+use Rattle.chk_sink.proofs.Holding.{HasStem, handles_alike}
+use Rattle.chk_sink.proofs.Quiet.{quiet_on, lengths_add}
+use Rattle.chk_sink.proofs.Questions.{counts_stay, open_stays, same_word, asked_alike, asked_counts, asked_untaken}
+
+size_there : (n : ℕ) (o : Option File) → AtSize (sized n) o → (f : File) × (o ≡ Some f) × (n ≡ length f.bytes)
+size_there n None agrees = absurd agrees
+size_there n (Some f) agrees = (f, refl, agrees)
+
+size_missing : (answer : ActAnswer) (o : Option File) → WasRefused answer → AtSize answer o → o ≡ None
+size_missing (Done words number of) o was agrees = absurd was
+size_missing (Refused Failed) o was agrees = absurd was
+size_missing (Refused Missing) o was agrees = agrees
+size_missing (Refused Exists) o was agrees = absurd agrees
+size_missing (Refused (Short size)) o was agrees = absurd agrees
+size_missing (Refused NoMemory) o was agrees = absurd was
+size_missing (Stopped left) o was agrees = absurd was
+size_missing (Rotated suffix) o was agrees = absurd was
+size_missing (Deleted suffix) o was agrees = absurd was
+
+read_there : (bytes : List ℕ) (at max : ℕ) (o : Option File) → AtRead (bytes_given bytes) at max o
+    → (f : File) × (o ≡ Some f) × (bytes ∷ [] ≡ take max (drop at f.bytes) ∷ [])
+read_there bytes at max None agrees = absurd agrees
+read_there bytes at max (Some f) agrees = (f, refl, agrees.1)
+
+read_missing : (answer : ActAnswer) (max : ℕ) (o : Option File) → WasRefused answer → AtRead answer 0 max o → o ≡ None
+read_missing (Done words number of) max o was agrees = absurd was
+read_missing (Refused Failed) max o was agrees = absurd was
+read_missing (Refused Missing) max o was agrees = agrees
+read_missing (Refused Exists) max o was agrees = absurd agrees
+read_missing (Refused (Short size)) max None was agrees = absurd agrees
+read_missing (Refused (Short size)) max (Some f) was agrees = let less : length f.bytes < 0 = agrees.0 in absurd (omega (arith, less))
+read_missing (Refused NoMemory) max o was agrees = absurd was
+read_missing (Stopped left) max o was agrees = absurd was
+read_missing (Rotated suffix) max o was agrees = absurd was
+read_missing (Deleted suffix) max o was agrees = absurd was
+
+same_mark : (o : Option File) (f : File) → OnFile o IsMark → o ≡ Some f → IsMark f
+same_mark o f h e = subst (λ o. OnFile o IsMark) e h
+
+-- a mark is read whole
+read_whole : (bytes : List ℕ) (f : File) → bytes ∷ [] ≡ take 9 (drop 0 f.bytes) ∷ [] → length f.bytes ≡ 8 → bytes ≡ f.bytes
+read_whole bytes f e eight = let same : bytes ≡ take 9 f.bytes = cc in same ∙ take_all 9 f.bytes (omega (arith, eight))
+
+mark_good : (f : File) → IsMark f → is_mark f.bytes ≡ true
+mark_good f m =
+    let eight : length f.bytes ≡ 8 = m.0.1 in
+    let small : spelled f.bytes < limit = m.0.2 in
+    let most : 96 ≤ spelled f.bytes = m.1 in
+    and_from (length f.bytes == 8) (nat_le 96 (spelled f.bytes) && nat_lt (spelled f.bytes) limit) (grind (arith, eight))
+    (and_from (nat_le 96 (spelled f.bytes)) (nat_lt (spelled f.bytes) limit) (grind (arith, most)) (grind (arith, small)))
+
+-- the number of a mark is at most the committed length
+mark_most : (shut mark : Option File) (f : File) → mark ≡ Some f → OnFile mark (λ m. OnFile shut (λ d. spelled m.bytes ≡ length d.bytes))
+    → spelled f.bytes ≤ committed_of shut mark
+mark_most None mark f e h = rw e (omega arith)
+mark_most (Some d) mark f e h =
+    let same : spelled f.bytes ≡ length d.bytes = subst (λ o. OnFile o (λ m. spelled m.bytes ≡ length d.bytes)) e h in
+    omega (arith, same)
+
+mark_just : (shut mark : Option File) (f : File) → shut ≡ None → mark ≡ Some f → spelled f.bytes ≡ committed_of shut mark
+mark_just shut mark f none e = rw (none, e) refl
+
+none_just : (shut mark : Option File) → shut ≡ None → mark ≡ None → 0 ≡ committed_of shut mark
+none_just shut mark none e = rw (none, e) refl
+
+size_just : (n : ℕ) (shut mark : Option File) (f : File) → shut ≡ Some f → n ≡ length f.bytes → n ≡ committed_of shut mark
+size_just n shut mark f e is = rw e is
+
+module _ (stamped : List (List ℕ)) (s : State) (messages : List Handling) (t : ℕ) (stems : List Stem) (acks : List Ack)
+    (named : IsTrue (is_collector s.collector)) (stem : HasStem s) (x : Stem) (good : IsTrue (is_stem x)) where
+  -- the stem has this length too
+  abbrev pub Length : ℕ → History → Type 0
+  Length n history = Counts s messages t (stems ++ x ∷ []) (acks ++ ack_of x n ∷ []) history
+
+  with_length : (n : ℕ) (history : History) → Counts s messages t stems acks history → IsCommittedLength (process s) history t (ack_of x n)
+      → Length n history
+  with_length n history h one = record { handles = h.handles; lengths = lengths_add (process s) t history x n one stems acks h.lengths }
+
+  -- ---- the length of the done sink
+
+  module _ (w : List ℕ) (w_is : w ≡ spell (DoneFile x)) where
+    abbrev AskSize : Asked
+    AskSize = asked (process s) Size (w ∷ []) 0 0
+
+    -- what holds where this was taken
+    abbrev pub AfterSize : Option ℕ → History → Type 0
+    AfterSize (Some n) history = Length n history
+    AfterSize None history = CountsOpen s messages t stems acks x history
+
+    size_may : MayCall stamped AskSize named (Counts s messages t stems acks)
+    size_may before answer files logs legal h = record { own_files = tt; logs = tt; requests = tt; rule = tt }
+
+    size_leaves : (taken : Option ℕ) → LeavesCall stamped AskSize named (Counts s messages t stems acks) (Took sized taken) (AfterSize taken)
+    size_leaves (Some n) before answer files logs took legal h =
+        let step = own_step AskSize answer files logs in
+        let goes = goes_on_taken sized (Some n) answer (λ value. tt) took in
+        let modelled = legal.1.honest.modelled in
+        let there = size_there n (files_after before w) (subst (λ a. AtSize a (files_after before w)) took legal.1.honest.agrees) in
+        let done : file files (DoneFile x) ≡ Some there.0 =
+        same_word s before step refl modelled tt goes (spell (DoneFile x)) ∙ (ap (files_after before) (sym w_is) ∙ there.1) in
+        let is : n ≡ committed_length files x = size_just n (file files (DoneFile x)) (file files (MarkFile x)) there.0 done there.2 in
+        with_length n (step ∷ before) (asked_counts s before step refl modelled tt goes messages t stems acks stem h)
+        (record { at_most = inl (omega (arith, is)); just = λ q. is })
+    size_leaves None before answer files logs took legal h =
+        let step = own_step AskSize answer files logs in
+        let goes = goes_on_taken sized None answer (λ value. tt) took in
+        let modelled = legal.1.honest.modelled in
+        let gone = size_missing answer (files_after before w) took legal.1.honest.agrees in
+        record {
+          counts = asked_counts s before step refl modelled tt goes messages t stems acks stem h;
+          not_done = λ q. same_word s before step refl modelled tt goes (spell (DoneFile x)) ∙ (ap (files_after before) (sym w_is) ∙ gone);
+        }
+
+    size_fails : LeavesCall stamped AskSize named (Counts s messages t stems acks) (λ a. a ≡ Refused Failed) (Handles s messages)
+    size_fails before answer files logs failed legal h =
+        let step = own_step AskSize answer files logs in
+        handles_alike s messages before (step ∷ before) stem
+        (asked_alike s before step refl legal.1.honest.modelled tt (subst GoesOn (sym failed) tt)) h.handles
+
+    pub size_taken : (given : Result ℕ CallFault) (taken : Option ℕ) {old new : Option History} → IsTaken given taken
+        → Adds old new (Calls AskSize (answered sized given))
+        → Adds old new (Leads (Foreign stamped (process s)) (Counted stamped s messages t stems acks) (AtTold stamped (process s) (AfterSize taken)))
+    size_taken given taken is told =
+        told_taken stamped AskSize named (Counts s messages t stems acks) (AfterSize taken) sized given taken
+        (counts_stay stamped s messages t stems acks stem) size_may (λ value. tt) (size_leaves taken) is told
+
+    pub size_ends : (given : Result ℕ CallFault) (fault : OutsideFault) {old new : Option History} → Ends Size given fault
+        → Adds old new (Calls AskSize (answered sized given))
+        → Adds old new (Leads (Foreign stamped (process s)) (Counted stamped s messages t stems acks) (Ready stamped s messages))
+    size_ends given fault ends told =
+        told_ends stamped AskSize named (Counts s messages t stems acks) (λ f. Handles s messages) sized given fault
+        (counts_stay stamped s messages t stems acks stem) size_may size_fails (λ history h. h.handles) ends told
+
+  -- ---- the mark
+
+  module _ (w : List ℕ) (w_is : w ≡ spell (MarkFile x)) where
+    abbrev AskMark : Asked
+    AskMark = asked (process s) Read (w ∷ []) 0 9
+
+    abbrev Open : History → Type 0
+    Open = CountsOpen s messages t stems acks x
+
+    -- what holds where this was taken
+    abbrev pub AfterMark : Option (List ℕ) → History → Type 0
+    AfterMark (Some bytes) history = (is_mark bytes ≡ true) × Length (spelled bytes) history
+    AfterMark None history = Length 0 history
+
+    mark_may : MayCall stamped AskMark named Open
+    mark_may before answer files logs legal h = record { own_files = tt; logs = tt; requests = tt; rule = tt }
+
+    mark_leaves : (taken : Option (List ℕ)) → LeavesCall stamped AskMark named Open (Took bytes_given taken) (AfterMark taken)
+    mark_leaves (Some bytes) before answer files logs took legal h =
+        let step = own_step AskMark answer files logs in
+        let goes = goes_on_taken bytes_given (Some bytes) answer (λ value. tt) took in
+        let modelled = legal.1.honest.modelled in
+        let there = read_there bytes 0 9 (files_after before w) (subst (λ a. AtRead a 0 9 (files_after before w)) took legal.1.honest.agrees) in
+        let mark : file files (MarkFile x) ≡ Some there.0 =
+        same_word s before step refl modelled tt goes (spell (MarkFile x)) ∙ (ap (files_after before) (sym w_is) ∙ there.1) in
+        let so = shape stamped (step ∷ before) legal x good in
+        let is_mark_file = same_mark (file files (MarkFile x)) there.0 so.mark mark in
+        let same : there.0.bytes ≡ bytes = sym (read_whole bytes there.0 there.2 is_mark_file.0.1) in
+        let D = file files (DoneFile x) in
+        let M = file files (MarkFile x) in (
+          subst (λ b. is_mark b ≡ true) same (mark_good there.0 is_mark_file),
+          with_length (spelled bytes) (step ∷ before) (asked_counts s before step refl modelled tt goes messages t stems acks stem h.counts)
+              (subst (λ b. IsCommittedLength (process s) (step ∷ before) t (ack_of x (spelled b))) same
+              (record {
+                at_most = inl (mark_most D M there.0 mark so.mark_of_done);
+                just =
+                    λ q.
+                    let p = quiet_on (process s) x t before step (asked_untaken s before step refl modelled tt goes t) q in
+                    mark_just D M there.0 (same_word s before step refl modelled tt goes (spell (DoneFile x)) ∙ h.not_done p.1) mark;
+              })),
+        )
+    mark_leaves None before answer files logs took legal h =
+        let step = own_step AskMark answer files logs in
+        let goes = goes_on_taken bytes_given None answer (λ value. tt) took in
+        let modelled = legal.1.honest.modelled in
+        let gone = read_missing answer 9 (files_after before w) took legal.1.honest.agrees in
+        with_length 0 (step ∷ before) (asked_counts s before step refl modelled tt goes messages t stems acks stem h.counts)
+        (record {
+          at_most = inl (omega arith);
+          just =
+              λ q.
+              let p = quiet_on (process s) x t before step (asked_untaken s before step refl modelled tt goes t) q in
+              none_just (file files (DoneFile x)) (file files (MarkFile x))
+              (same_word s before step refl modelled tt goes (spell (DoneFile x)) ∙ h.not_done p.1)
+              (same_word s before step refl modelled tt goes (spell (MarkFile x)) ∙ (ap (files_after before) (sym w_is) ∙ gone));
+        })
+
+    mark_fails : LeavesCall stamped AskMark named Open (λ a. a ≡ Refused Failed) (Handles s messages)
+    mark_fails before answer files logs failed legal h =
+        let step = own_step AskMark answer files logs in
+        handles_alike s messages before (step ∷ before) stem
+        (asked_alike s before step refl legal.1.honest.modelled tt (subst GoesOn (sym failed) tt)) h.counts.handles
+
+    pub mark_taken : (given : Result (List ℕ) CallFault) (taken : Option (List ℕ)) {old new : Option History} → IsTaken given taken
+        → Adds old new (Calls AskMark (answered bytes_given given))
+        → Adds old new (Leads (Foreign stamped (process s)) (AtTold stamped (process s) Open) (AtTold stamped (process s) (AfterMark taken)))
+    mark_taken given taken is told =
+        told_taken stamped AskMark named Open (AfterMark taken) bytes_given given taken
+        (open_stays stamped s messages t stems acks stem x good) mark_may (λ value. tt) (mark_leaves taken) is told
+
+    pub mark_ends : (given : Result (List ℕ) CallFault) (fault : OutsideFault) {old new : Option History} → Ends Read given fault
+        → Adds old new (Calls AskMark (answered bytes_given given))
+        → Adds old new (Leads (Foreign stamped (process s)) (AtTold stamped (process s) Open) (Ready stamped s messages))
+    mark_ends given fault ends told =
+        told_ends stamped AskMark named Open (λ f. Handles s messages) bytes_given given fault
+        (open_stays stamped s messages t stems acks stem x good) mark_may mark_fails (λ history h. h.counts.handles) ends told

@@ -1,0 +1,127 @@
+-- A commit and a close, over the sinks' fields.
+use Rattle.std.proofs.Common.{◌≡◌, ℕ, ◌≤◌, List, Option, Some, None, option_map, Result, Ok, Err, ap, sym, subst, ◌∙◌, refl}
+use Rattle.std.specs.Prelude.{IsTrue}
+use Rattle.std.proofs.lemmas.Option.{same_Some}
+use Rattle.chk_bytes.specs.Stems.{Stem, is_stem, is_collector}
+use Rattle.chk_site.specs.declared.acts.Who.{Who}
+use Rattle.chk_site.specs.declared.acts.OutsideFault.{OutsideFault}
+use Rattle.chk_site.specs.History.{History, files_after}
+use Rattle.chk_site.specs.Site.{Adds, LastFailed}
+use Rattle.chk_site.specs.Runs.{Leads, MadeInTurn}
+use Rattle.chk_site.proofs.Runs.{adds_then, adds_as}
+use Rattle.chk_site.proofs.Leads.{leads_none, leads_as, leads_then}
+use Rattle.chk_replace.proofs.CallSteps.{last_then}
+use Rattle.chk_world.specs.Places.{Foreign}
+use Rattle.chk_sink.specs.declared.fault.SinkFault.{SinkFault}
+use Rattle.chk_sink.specs.States.{State, Writing, process, last_stem, all_marked, kept_where_done, committed_state}
+use Rattle.chk_sink.specs.Held.{IsAsKept, Matches}
+use Rattle.chk_sink.specs.Faults.{FailsLast, sink_result}
+use Rattle.chk_sink.specs.Closes.{IsCommitted, Committed, OnceDone, WasClosed, Closed}
+use Rattle.chk_sink.specs.Closing.{publishing, closing, left_where_done}
+use Rattle.chk_sink.proofs.Last.{last_fails}
+use Rattle.chk_sink.proofs.Committing.{marked_commit, published}
+use Rattle.chk_sink.proofs.DoneSinks.{closed_so}
+
+-- the failure of the calls is that of the sinks
+pub result_fails : (result : Result (Unit {0}) SinkFault) (made : Result (Unit {0}) OutsideFault) {old new : Option History} → result ≡ sink_result made
+    → Adds old new (LastFailed made) → Adds old new (FailsLast result)
+result_fails result (Ok value) e told = adds_as (FailsLast result) told (λ a h x. subst (λ r. FailsLast r a h) (sym e) tt)
+result_fails result (Err fault) e told = last_fails (Unit {0}) result fault e told
+
+-- after earlier calls
+pub later_result_fails : (result : Result (Unit {0}) SinkFault) (made : Result (Unit {0}) OutsideFault) {P : History → History → Type 0}
+    {old mid new : Option History} → result ≡ sink_result made → Adds old mid P → Adds mid new (LastFailed made) → Adds old new (FailsLast result)
+later_result_fails result made e before told =
+    result_fails result made e (adds_then (LastFailed made) before told (λ a b h x y. last_then made b a h y))
+
+module _ (stamped : List (List ℕ)) (s : State) (o : Writing) (some : s.current ≡ Some o) (good : IsTrue (is_stem (last_stem s))) (begun : 96 ≤ o.size) where
+  -- the sink hasn't grown
+  pub commit_same : (now : Option History) → o.size ≡ o.marked
+      → Adds now now (Leads (Foreign stamped (process s)) (Matches stamped s) (Committed stamped s (Ok tt)))
+  commit_same now e =
+      leads_none now
+      (λ h x. record {
+        legal = x.legal;
+        may_act = x.may_act;
+        alive =
+            λ r.
+            let kept = subst (IsAsKept (last_stem s) _ (files_after h)) some (x.alive r).writing in
+            record {
+              holds = x.alive r;
+              committed = subst (IsCommitted (last_stem s) (files_after h)) (sym some)
+                  (marked_commit stamped h (last_stem s) o.size x.legal good begun (kept.marked ∙ sym e));
+            };
+      })
+
+  -- it was synced, and its mark replaced
+  pub commit_made : IsTrue (is_collector s.collector) → (who : Who) → who ≡ process s → (x : Stem) → x ≡ last_stem s
+      → {made : Result (Unit {0}) OutsideFault} {old new : Option History} → MadeInTurn (publishing who x o.size) made old new
+      → (st : State) (next : Writing) → st ≡ kept_where_done s next made → next ≡ all_marked o
+      → (result : Result (Unit {0}) SinkFault) → result ≡ sink_result made
+      → Adds old new (Leads (Foreign stamped (process s)) (Matches stamped s) (Committed stamped st result))
+  commit_made named who who_is x x_is {made = made} {old = old} {new = new} script st next st_is next_is result result_is =
+      subst (λ t. Adds old new (Leads (Foreign stamped (process s)) (Matches stamped s) (Committed stamped t result)))
+      (sym (st_is ∙ ap (λ n. kept_where_done s n made) next_is))
+      (subst (λ r. Adds old new (Leads (Foreign stamped (process s)) (Matches stamped s) (Committed stamped (kept_where_done s (all_marked o) made) r)))
+      (sym result_is)
+      (published stamped s o named some good begun
+      (subst (λ y. MadeInTurn (publishing (process s) y o.size) made old new) x_is
+      (subst (λ k. MadeInTurn (publishing k x o.size) made old new) who_is script))))
+
+-- ---- a close
+
+-- its commit was refused
+pub close_refused : (stamped : List (List ℕ)) (s st : State) (made result : Result (Unit {0}) SinkFault) (fault told_as : SinkFault)
+    {old new : Option History} → made ≡ Err fault → result ≡ Err told_as
+    → Adds old new (Leads (Foreign stamped (process s)) (Matches stamped s) (Committed stamped st made))
+    → Adds old new (Leads (Foreign stamped (process s)) (Matches stamped s) (Closed stamped s st result))
+close_refused stamped s st made result fault told_as made_is result_is told =
+    leads_as (λ h x. x)
+    (λ h x. subst (λ r. Closed stamped s st r h) (sym result_is)
+    (record { legal = x.legal; may_act = x.may_act; alive = λ r. record { holds = (x.alive r).holds; closed = tt } })) told
+
+-- what was committed has a mark that says all of it
+said_all : (before : Option Writing) (o : Writing) → option_map all_marked before ≡ Some o → o.marked ≡ o.size
+said_all None o e = absurd (cc)
+said_all (Some was) o e = subst (λ (p : Writing). p.marked ≡ p.size) (same_Some (all_marked was) o e) refl
+
+closed_before : (x : Stem) (before : Option Writing) (result : Result (Unit {0}) SinkFault) (h : History)
+    → OnceDone result (WasClosed x (option_map all_marked before) h) → OnceDone result (WasClosed x before h)
+closed_before x before (Err fault) h was = tt
+closed_before x None (Ok value) h was = tt
+closed_before x (Some o) (Ok value) h was = was
+
+module _ (stamped : List (List ℕ)) (s mid_state : State) (o : Writing) (named : IsTrue (is_collector mid_state.collector))
+    (some : mid_state.current ≡ Some o) (good : IsTrue (is_stem (last_stem mid_state))) (begun : 96 ≤ o.size)
+    (is : mid_state ≡ committed_state s) (who : Who) (who_is : who ≡ process mid_state) (x : Stem) (x_is : x ≡ last_stem mid_state) where
+  as_process : {made : Result (Unit {0}) OutsideFault} {mid new : Option History} → MadeInTurn (closing who x) made mid new
+      → MadeInTurn (closing (process mid_state) (last_stem mid_state)) made mid new
+  as_process {made = made} {mid = mid} {new = new} script =
+      subst (λ y. MadeInTurn (closing (process mid_state) y) made mid new) x_is
+      (subst (λ k. MadeInTurn (closing k x) made mid new) who_is script)
+
+  closed_as : (st : State) (result : Result (Unit {0}) SinkFault) (h : History) → Closed stamped mid_state st result h → Closed stamped s st result h
+  closed_as st result h =
+      subst (λ (m : State). Closed stamped m st result h → Closed stamped s st result h) (sym is)
+      (λ c. record {
+        legal = c.legal;
+        may_act = c.may_act;
+        alive = λ r. record { holds = (c.alive r).holds; closed = closed_before (last_stem s) s.current result h (c.alive r).closed };
+      })
+
+  -- and then the sink became a done one, or was abandoned
+  pub close_made : {made : Result (Unit {0}) OutsideFault} {old mid new : Option History} (first : Result (Unit {0}) SinkFault) (value : Unit {0})
+      → first ≡ Ok value
+      → Adds old mid (Leads (Foreign stamped (process s)) (Matches stamped s) (Committed stamped mid_state first))
+      → MadeInTurn (closing who x) made mid new → (st : State) → st ≡ left_where_done mid_state made
+      → (result : Result (Unit {0}) SinkFault) → result ≡ sink_result made
+      → Adds old new (Leads (Foreign stamped (process s)) (Matches stamped s) (Closed stamped s st result))
+  close_made {made = made} {old = old} {mid = mid} {new = new} first value first_is told script st st_is result result_is =
+      leads_then told
+      (leads_as (λ h c. record { legal = c.legal; may_act = c.may_act; alive = λ r. (c.alive r).holds }) (closed_as st result)
+      (subst (λ (k : Who). Adds mid new (Leads (Foreign stamped k) (Matches stamped mid_state) (Closed stamped mid_state st result)))
+      (ap process is)
+      (subst (λ t. Adds mid new (Leads (Foreign stamped (process mid_state)) (Matches stamped mid_state) (Closed stamped mid_state t result))) (sym st_is)
+      (subst (λ r. Adds mid new (Leads (Foreign stamped (process mid_state)) (Matches stamped mid_state)
+      (Closed stamped mid_state (left_where_done mid_state made) r))) (sym result_is)
+      (closed_so stamped mid_state o named some good begun (said_all s.current o (sym (ap (λ (m : State). m.current) is) ∙ some)) (as_process script))))))

@@ -1,0 +1,172 @@
+-- The creation of the next sink.
+use Rattle.std.proofs.Common.{◌≡◌, inr, ℕ, ◌+◌, Bool, true, false, ◌&&◌, List, [], ◌∷◌, Option, Some, None, Result, Ok, Err, ap, sym, subst, ◌∙◌, refl, arith, is_some, if◌then◌else◌, true≢false}
+use Rattle.std.specs.Prelude.{IsTrue, length}
+use Rattle.std.proofs.lemmas.Bool.{and_from}
+use Rattle.chk_bytes.specs.Stems.{Stem, is_stem, is_collector, same_stem}
+use Rattle.chk_site.specs.declared.acts.Call.TheVariants.{Create}
+use Rattle.chk_site.specs.declared.acts.CallFault.{CallFault}
+use Rattle.chk_site.specs.declared.acts.CallFault.TheVariants.{Failed, Missing, Exists, Short, NoMemory}
+use Rattle.chk_site.specs.declared.acts.OutsideFault.{OutsideFault}
+use Rattle.chk_site.specs.declared.acts.OutsideFault.TheVariants.{Outside, NoMemory as no_memory}
+use Rattle.chk_site.specs.declared.acts.ActAnswer.TheVariants.{Refused}
+use Rattle.chk_site.specs.Files.{File, made}
+use Rattle.chk_site.specs.Acts.{Creates, is_done}
+use Rattle.chk_site.specs.History.{History, files_after}
+use Rattle.chk_site.specs.Site.{Adds, Asked, asked, own_step, answered, plain, Calls, IsDone, Ends, WasDone}
+use Rattle.chk_site.specs.Runs.{Leads}
+use Rattle.chk_site.proofs.Leads.{leads_as}
+use Rattle.chk_world.specs.Names.{Name, SinkFile, MarkFile, read, spell, file}
+use Rattle.chk_world.specs.Committed.{HasFile, IsAbsent, number_in}
+use Rattle.chk_world.specs.Collectors.{View, Handling, view, created, still, sink_of, next_mark_of, made_by, SinkNamesFresh}
+use Rattle.chk_world.specs.Places.{Foreign, AtTold}
+use Rattle.chk_world.proofs.Ends.{bytes_self}
+use Rattle.chk_world.proofs.NameLemmas.{read-spell}
+use Rattle.chk_world.proofs.NameTests.{same_name, stem_self}
+use Rattle.chk_world.proofs.Law.{holds_always}
+use Rattle.chk_world.proofs.OwnSteps.{known_stem}
+use Rattle.chk_world.proofs.OwnFiles.{done_file, done_absent}
+use Rattle.chk_world.proofs.ToldCalls.{GoesOn, MayCall, LeavesCall, goes_on_done, told_done, told_ends}
+use Rattle.chk_world.proofs.CollectorCalls.{own_sight, collector_rule}
+use Rattle.chk_sink.specs.States.{State, Writing, process, last_stem, next_stem, one_more, counted}
+use Rattle.chk_sink.specs.Held.{Handles, Ready}
+use Rattle.chk_sink.proofs.Holding.{handles_stays}
+
+-- the next sink, made and empty
+abbrev pub empty_writing : Writing
+empty_writing = record { size = 0; sync_end = 0; marked = 0; seen = None }
+
+abbrev pub with_empty : State → State
+with_empty s = record {
+  collector = s.collector;
+  born = s.born;
+  number = s.number + 1;
+  rotate = s.rotate;
+  current = Some empty_writing;
+  abandoned = s.abandoned;
+}
+
+absent_none : (o : Option File) → IsAbsent o → o ≡ None
+absent_none None h = refl
+absent_none (Some f) h = absurd h
+
+absent_number : (o : Option File) → IsAbsent o → number_in o ≡ 0
+absent_number None h = refl
+absent_number (Some f) h = absurd h
+
+none_other : (o : Option Writing) (b : Bool) → o ≡ None → (is_some o && b) ≡ false
+none_other None b e = refl
+none_other (Some o) b e = absurd (cc)
+
+module _ (stamped : List (List ℕ)) (s : State) (messages : List Handling) (named : IsTrue (is_collector s.collector))
+    (none : s.current ≡ None) (good : IsTrue (is_stem (next_stem s))) (w : List ℕ) (w_is : w ≡ spell (SinkFile (next_stem s))) where
+  abbrev X : Stem
+  X = next_stem s
+
+  abbrev Q : Asked
+  Q = asked (process s) Create (w ∷ []) 0 0
+
+  reads : read w ≡ SinkFile X
+  reads = ap read w_is ∙ read-spell (SinkFile X) good
+
+  create_may : MayCall stamped Q named (Handles s messages)
+  create_may before answer files logs legal h = record {
+    own_files = rw reads (and_from _ _ (bytes_self s.collector) refl);
+    logs = tt;
+    requests = tt;
+    rule = collector_rule stamped (process s) before (own_step Q answer files logs) (Creates w) refl refl refl
+        (subst (λ n. SinkNamesFresh (view (process s) before) n) (sym reads)
+        (h.holds.born, ap (λ n. n + 1) (sym h.holds.made)));
+  }
+
+  on_sink : (files : Name → Option File) (n : Name) → (if same_name n (read w) then made (files n) else files n) ≡ (if same_name n (SinkFile X) then made (files n) else files n)
+  on_sink files n = ap (λ m. if same_name n m then made (files n) else files n) reads
+
+  create_leaves : LeavesCall stamped Q named (Handles s messages) WasDone (Handles (with_empty s) messages)
+  create_leaves before answer files logs was legal h =
+      let step = own_step Q answer files logs in
+      let v = view (process s) before in
+      let honest = legal.1.honest in
+      let inv = holds_always X (known_stem X good) stamped before legal.0 in
+      let fresh = inv.unused (inr (h.holds.born, omega (arith, h.holds.made))) in
+      let gone : files_after before w ≡ None = ap (files_after before) w_is ∙ absent_none _ fresh.0 in
+      let is = done_absent answer (files_after before w) was honest.agrees gone in
+      let sight = own_sight (process s) before step refl (goes_on_done answer was) in
+      let sink : file files (SinkFile X) ≡ Some (record { bytes = []; synced = 0 }) =
+      done_file before step (SinkFile X) honest is good
+      ∙ (on_sink (file (files_after before)) (SinkFile X)
+      ∙ (ap (λ b. if b then made (file (files_after before) (SinkFile X)) else file (files_after before) (SinkFile X)) (stem_self X)
+      ∙ ap made (absent_none _ fresh.0))) in
+      let others : (y : Stem) → IsTrue (is_stem y) → same_stem y X ≡ false → file files (SinkFile y) ≡ file (files_after before) (SinkFile y) =
+      λ y k e. done_file before step (SinkFile y) honest is k
+      ∙ (on_sink (file (files_after before)) (SinkFile y)
+      ∙ ap (λ b. if b then made (file (files_after before) (SinkFile y)) else file (files_after before) (SinkFile y)) e) in
+      let marks : (y : Stem) → IsTrue (is_stem y) → file files (MarkFile y) ≡ file (files_after before) (MarkFile y) =
+      λ y k. done_file before step (MarkFile y) honest is k ∙ on_sink (file (files_after before)) (MarkFile y) in
+      record {
+        holds = record {
+          born = ap (λ (v : View). v.born) sight ∙ h.holds.born;
+          made = ap (λ (v : View). v.made) sight ∙ (ap (λ n. made_by (sink_of n) v.made) reads ∙ ap (λ n. n + 1) h.holds.made);
+          writing = record {
+            current = ap (λ (v : View). v.current) sight
+                ∙ (ap (λ n. created (sink_of n) (is_done answer) (still (is_done answer) (next_mark_of (read w)) v.current)) reads
+                ∙ ap (λ b. created (Some X) b (still (is_done answer) (next_mark_of (read w)) v.current)) is);
+            size = subst (λ o. HasFile o (λ f. length f.bytes ≡ 0)) (sym sink) refl;
+            marked = ap number_in (marks X good) ∙ absent_number _ fresh.1;
+          };
+          tidy = λ tidy y other.
+              let was = h.holds.tidy tidy y (record { own = other.own; stem = other.stem; other = none_other s.current (same_stem y (last_stem s)) none }) in (
+                subst IsAbsent (sym (others y other.stem other.other)) was.0,
+                subst IsAbsent (sym (marks y other.stem)) was.1,
+              );
+        };
+        handled = ap (λ (v : View). v.handled) sight ∙ h.handled;
+      }
+
+  create_fails : LeavesCall stamped Q named (Handles s messages) (λ a. a ≡ Refused Failed) (Handles (one_more s) messages)
+  create_fails before answer files logs failed legal h =
+      let step = own_step Q answer files logs in
+      let v = view (process s) before in
+      let sight = own_sight (process s) before step refl (subst GoesOn (sym failed) tt) in
+      record {
+        holds = record {
+          born = ap (λ (v : View). v.born) sight ∙ h.holds.born;
+          made = ap (λ (v : View). v.made) sight ∙ (ap (λ n. made_by (sink_of n) v.made) reads ∙ ap (λ n. n + 1) h.holds.made);
+          writing = tt;
+          tidy = λ e. absurd (true≢false e);
+        };
+        handled = ap (λ (v : View). v.handled) sight ∙ h.handled;
+      }
+
+  no_stem : is_some s.current ≡ true → IsTrue (is_stem (last_stem s))
+  no_stem e = absurd (cc)
+
+  -- the creation was done
+  pub create_done : {V : Type 0} (given : Result V CallFault) {old new : Option History} → IsDone given
+      → Adds old new (Calls Q (answered plain given))
+      → Adds old new (Leads (Foreign stamped (process s)) (Ready stamped s messages) (Ready stamped (with_empty s) messages))
+  create_done given is told =
+      told_done stamped Q named (Handles s messages) (Handles (with_empty s) messages) given (handles_stays stamped s messages no_stem)
+      create_may create_leaves is told
+
+  -- the creations that count, by what ended them
+  abbrev Uncreated : OutsideFault → History → Type 0
+  Uncreated (Outside call) history = Handles (one_more s) messages history
+  Uncreated no_memory history = Handles s messages history
+
+  by_count : (given : Result (Unit {0}) CallFault) (fault : OutsideFault) → Ends Create given fault → (history : History)
+      → AtTold stamped (process s) (Uncreated fault) history → Ready stamped (counted s given) messages history
+  by_count (Ok value) fault ends history h = absurd ends
+  by_count (Err Failed) fault ends history h = subst (λ f. AtTold stamped (process s) (Uncreated f) history) ends h
+  by_count (Err Missing) fault ends history h = absurd ends
+  by_count (Err Exists) fault ends history h = absurd ends
+  by_count (Err (Short size)) fault ends history h = absurd ends
+  by_count (Err NoMemory) fault ends history h = subst (λ f. AtTold stamped (process s) (Uncreated f) history) ends h
+
+  -- it ended the work
+  pub create_ends : (given : Result (Unit {0}) CallFault) (fault : OutsideFault) {old new : Option History} → Ends Create given fault
+      → Adds old new (Calls Q (answered plain given))
+      → Adds old new (Leads (Foreign stamped (process s)) (Ready stamped s messages) (Ready stamped (counted s given) messages))
+  create_ends given fault ends told =
+      leads_as (λ h x. x) (by_count given fault ends)
+      (told_ends stamped Q named (Handles s messages) Uncreated plain given fault (handles_stays stamped s messages no_stem)
+      create_may create_fails (λ history h. h) ends told)

@@ -1,0 +1,111 @@
+-- What the history holds of the sinks stays over steps that leave the collector's view and its files.
+use Rattle.std.proofs.Common.{◌≡◌, ℕ, Bool, true, false, ◌&&◌, ◌||◌, List, ◌∷◌, Option, Some, None, ap, sym, subst, ◌∙◌, refl, is_some, true≢false}
+use Rattle.std.specs.Prelude.{IsTrue, length}
+use Rattle.chk_bytes.specs.Stems.{Stem, is_stem, same_stem}
+use Rattle.chk_site.specs.Files.{File, Files}
+use Rattle.chk_site.specs.History.{Step, History, files_after}
+use Rattle.chk_world.specs.Names.{SinkFile, MarkFile, file}
+use Rattle.chk_world.specs.Committed.{HasFile, IsAbsent, number_in}
+use Rattle.chk_world.specs.Collectors.{View, Handling, view}
+use Rattle.chk_world.specs.Places.{Foreign, IsOwn}
+use Rattle.chk_world.proofs.Frames.{files_stay, view_stays}
+use Rattle.chk_world.proofs.PlacesStay.{Stays}
+use Rattle.chk_sink.specs.States.{State, Writing, process, last_stem, let_go, given_up}
+use Rattle.chk_sink.specs.Held.{IsAsKept, Holds, Handles}
+
+-- the sink that is written to has a good name
+abbrev pub HasStem : State → Type 0
+HasStem s = is_some s.current ≡ true → IsTrue (is_stem (last_stem s))
+
+-- what the collector sees is the same, and its sinks and marks are
+pub record IsAlike (s : State) (before after : History) : Type 0 where
+  pub sight : view (process s) after ≡ view (process s) before
+  pub sinks : (x : Stem) → x.collector ≡ s.collector → IsTrue (is_stem x)
+      → file (files_after after) (SinkFile x) ≡ file (files_after before) (SinkFile x)
+  pub marks : (x : Stem) → x.collector ≡ s.collector → IsTrue (is_stem x)
+      → file (files_after after) (MarkFile x) ≡ file (files_after before) (MarkFile x)
+
+pub own_sink : (s : State) (x : Stem) → x.collector ≡ s.collector → IsTrue (is_stem x) → IsOwn (process s) (SinkFile x)
+own_sink s x own good = record { own = sym own; known = good }
+
+pub own_mark : (s : State) (x : Stem) → x.collector ≡ s.collector → IsTrue (is_stem x) → IsOwn (process s) (MarkFile x)
+own_mark s x own good = record { own = sym own; known = good }
+
+-- a step of others leaves them
+pub foreign_alike : (stamped : List (List ℕ)) (s : State) (history : History) (step : Step) → Foreign stamped (process s) history step
+    → IsAlike s history (step ∷ history)
+foreign_alike stamped s history step f = record {
+  sight = view_stays stamped (process s) history step f;
+  sinks = λ x own good. files_stay stamped (process s) history step (SinkFile x) f (own_sink s x own good);
+  marks = λ x own good. files_stay stamped (process s) history step (MarkFile x) f (own_mark s x own good);
+}
+
+pub absent_as : (a b : Option File) → b ≡ a → IsAbsent a → IsAbsent b
+absent_as a b e h = subst IsAbsent (sym e) h
+
+kept_alike : (x : Stem) (v w : View) (f g : Files) (o : Option Writing) → w ≡ v
+    → (is_some o ≡ true → file g (SinkFile x) ≡ file f (SinkFile x)) → (is_some o ≡ true → file g (MarkFile x) ≡ file f (MarkFile x))
+    → IsAsKept x v f o → IsAsKept x w g o
+kept_alike x v w f g None e sink mark h = tt
+kept_alike x v w f g (Some o) e sink mark h = record {
+  current = ap (λ (v : View). v.current) e ∙ h.current;
+  size = subst (λ a. HasFile a (λ b. length b.bytes ≡ o.size)) (sym (sink refl)) h.size;
+  marked = ap number_in (mark refl) ∙ h.marked;
+}
+
+pub holds_alike : (s : State) (before after : History) → HasStem s → IsAlike s before after → Holds s before → Holds s after
+holds_alike s before after stem same h = record {
+  born = ap (λ (v : View). v.born) same.sight ∙ h.born;
+  made = ap (λ (v : View). v.made) same.sight ∙ h.made;
+  writing = kept_alike (last_stem s) (view (process s) before) (view (process s) after) (files_after before) (files_after after) s.current
+      same.sight (λ some. same.sinks (last_stem s) refl (stem some)) (λ some. same.marks (last_stem s) refl (stem some)) h.writing;
+  tidy = λ none x other.
+      let was = h.tidy none x other in (
+        absent_as _ _ (same.sinks x other.own other.stem) was.0,
+        absent_as _ _ (same.marks x other.own other.stem) was.1,
+      );
+}
+
+pub handles_alike : (s : State) (messages : List Handling) (before after : History) → HasStem s → IsAlike s before after
+    → Handles s messages before → Handles s messages after
+handles_alike s messages before after stem same h = record {
+  holds = holds_alike s before after stem same h.holds;
+  handled = ap (λ (v : View). v.handled) same.sight ∙ h.handled;
+}
+
+pub holds_stays : (stamped : List (List ℕ)) (s : State) → HasStem s → Stays stamped (process s) (Holds s)
+holds_stays stamped s stem history step legal f h = holds_alike s history (step ∷ history) stem (foreign_alike stamped s history step f) h
+
+pub handles_stays : (stamped : List (List ℕ)) (s : State) (messages : List Handling) → HasStem s → Stays stamped (process s) (Handles s messages)
+handles_stays stamped s messages stem history step legal f h =
+    handles_alike s messages history (step ∷ history) stem (foreign_alike stamped s history step f) h
+
+-- the sink that is written to is let go of
+none_other : (s : State) (o : Option Writing) (x : Stem) → is_some o ≡ false → (is_some o && same_stem x (last_stem s)) ≡ false
+none_other s None x e = refl
+none_other s (Some o) x e = absurd (cc)
+
+neither : (a b : Bool) → (a || b) ≡ false → (a ≡ false) × (b ≡ false)
+neither false false e = (refl, refl)
+neither false true e = absurd (cc)
+neither true b e = absurd (cc)
+
+pub let_go_holds : (s : State) (history : History) → Holds s history → Holds (let_go s) history
+let_go_holds s history h = record {
+  born = h.born;
+  made = h.made;
+  writing = tt;
+  tidy = λ none x other.
+      let both = neither s.abandoned (is_some s.current) none in
+      h.tidy both.0 x (record { own = other.own; stem = other.stem; other = none_other s s.current x both.1 });
+}
+
+pub let_go_handles : (s : State) (messages : List Handling) (history : History) → Handles s messages history → Handles (let_go s) messages history
+let_go_handles s messages history h = record { holds = let_go_holds s history h.holds; handled = h.handled }
+
+-- nothing is said of the sinks but their count
+pub given_up_holds : (s : State) (history : History) → Holds s history → Holds (given_up s) history
+given_up_holds s history h = record { born = h.born; made = h.made; writing = tt; tidy = λ e. absurd (true≢false e) }
+
+pub given_up_handles : (s : State) (messages : List Handling) (history : History) → Handles s messages history → Handles (given_up s) messages history
+given_up_handles s messages history h = record { holds = given_up_holds s history h.holds; handled = h.handled }

@@ -1,0 +1,72 @@
+-- The settling of the listed sinks, one after the other.
+use Rattle.std.proofs.Common.{◌≡◌, ◌<◌, ◌+◌, ℕ, List, ◌∷◌, length, drop, get_or, Option, None, Result, Ok, Err, ap, sym, subst, ◌∙◌}
+use Rattle.std.proofs.lemmas.List.{drop_more}
+use Rattle.chk_bytes.specs.Stems.{Stem}
+use Rattle.chk_site.specs.declared.acts.Who.{Who}
+use Rattle.chk_site.specs.History.{History}
+use Rattle.chk_site.specs.Site.{Adds}
+use Rattle.chk_site.specs.Runs.{Leads}
+use Rattle.chk_site.proofs.Leads.{leads_then}
+use Rattle.chk_world.specs.Places.{Foreign, AtTold}
+use Rattle.chk_sink.specs.declared.fault.SinkFault.{SinkFault}
+use Rattle.chk_sink.specs.States.{State, process}
+use Rattle.chk_sink.specs.Settling.{IsSettling, IsCaused, Found, HoldsBut, kept_stem, left_of, none_left}
+use Rattle.chk_sink.proofs.Founding.{found_as}
+use Rattle.chk_sink.proofs.Causing.{caused_then, caused_as}
+
+-- what the settling of the first names led to, where these names are still to come
+pub record IsSettledTo (who : Who) (kept : Option Stem) (names rest : List (List ℕ)) (last : Option Stem) (faults_old faults_now : ℕ)
+    (old now : Option History) : Type 0 where
+  pub told : (stamped : List (List ℕ)) (s : State) → IsSettling s who → kept ≡ kept_stem s
+      → Adds old now (Leads (Foreign stamped (process s)) (AtTold stamped (process s) (HoldsBut s (left_of names None)))
+      (AtTold stamped (process s) (HoldsBut s (left_of rest last))))
+  pub caused : Adds old now (IsCaused {T = Unit {0}} (Ok tt))
+  pub cause : faults_now ≡ faults_old
+
+module _ (who : Who) (kept : Option Stem) (names : List (List ℕ)) (name : List ℕ) (rest : List (List ℕ)) (last then : Option Stem)
+    (faults_old faults_mid : ℕ) (old mid now : Option History) (so_far : IsSettledTo who kept names (name ∷ rest) last faults_old faults_mid old mid)
+    (part : Result (Unit {0}) SinkFault) where
+  abbrev Part : Type 0
+  Part = (stamped : List (List ℕ)) (s : State) (after : List (List ℕ)) → IsSettling s who → kept ≡ kept_stem s
+      → Adds mid now (Leads (Foreign stamped (process s)) (AtTold stamped (process s) (HoldsBut s (left_of (name ∷ after) last)))
+      (Found stamped s (λ v. HoldsBut s (left_of after then)) part))
+
+  -- the next one was done
+  pub settled_on : (faults_now : ℕ) (value : Unit {0}) → part ≡ Ok value → Part → Adds mid now (IsCaused part) → faults_now ≡ faults_mid
+      → IsSettledTo who kept names rest then faults_old faults_now old now
+  settled_on faults_now value is told caused faults = record {
+    told = λ stamped s settles k.
+        leads_then (so_far.told stamped s settles k)
+        (subst (λ r. Adds mid now (Leads (Foreign stamped (process s)) (AtTold stamped (process s) (HoldsBut s (left_of (name ∷ rest) last)))
+        (Found stamped s (λ v. HoldsBut s (left_of rest then)) r))) is (told stamped s rest settles k));
+    caused = caused_then {T = Unit {0}} (Ok tt) tt (Ok tt) (λ i. Ok tt) so_far.caused
+        (subst (λ (r : Result (Unit {0}) SinkFault). Adds mid now (IsCaused r)) is caused);
+    cause = faults ∙ so_far.cause;
+  }
+
+  -- the next one was refused
+  pub refused_told : (result : Result (Unit {0}) SinkFault) (fault : SinkFault) → part ≡ Err fault → result ≡ Err fault → Part
+      → (stamped : List (List ℕ)) (s : State) → IsSettling s who → kept ≡ kept_stem s
+      → Adds old now (Leads (Foreign stamped (process s)) (AtTold stamped (process s) (HoldsBut s (left_of names None)))
+      (Found stamped s (λ v. HoldsBut s none_left) result))
+  refused_told result fault is result_is told stamped s settles k =
+      leads_then (so_far.told stamped s settles k)
+      (found_as stamped s (λ v. HoldsBut s none_left) (λ v. HoldsBut s (left_of rest then)) part result fault is result_is (told stamped s rest settles k))
+
+  pub refused_caused : (result : Result (Unit {0}) SinkFault) (fault : SinkFault) → part ≡ Err fault → result ≡ Err fault → Adds mid now (IsCaused part)
+      → Adds old now (IsCaused result)
+  refused_caused result fault is result_is caused =
+      caused_then {T = Unit {0}} (Ok tt) tt result (λ i. Ok tt) so_far.caused (caused_as part result fault is result_is caused)
+
+-- the next name
+pub next_named : (names : List (List ℕ)) (i : ℕ) (item name : List ℕ) → i < length names → item ≡ get_or names i item → name ≡ item
+    → drop i names ≡ name ∷ drop (i + 1) names
+next_named names i item name within is text =
+    drop_more names i item within ∙ ap (λ n. n ∷ drop (i + 1) names) (sym is ∙ sym text)
+
+-- the names that were listed
+pub from_names : (stamped : List (List ℕ)) (s : State) (a b : List (List ℕ)) (Z : History → Type 0) {old now : Option History} → b ≡ a
+    → Adds old now (Leads (Foreign stamped (process s)) (AtTold stamped (process s) (HoldsBut s (left_of b None))) Z)
+    → Adds old now (Leads (Foreign stamped (process s)) (AtTold stamped (process s) (HoldsBut s (left_of a None))) Z)
+from_names stamped s a b Z {old = old} {now = now} e told =
+    subst (λ r. Adds old now (Leads (Foreign stamped (process s)) (AtTold stamped (process s) (HoldsBut s (left_of r None))) Z)) e told

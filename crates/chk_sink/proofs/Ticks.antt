@@ -1,0 +1,179 @@
+-- What the parts of a tick lead to.
+use Rattle.std.proofs.Common.{◌≡◌, ℕ, false, ◌&&◌, List, Option, Some, None, option_map, Result, Ok, Err, ap, sym, subst, ◌∙◌, refl, is_some}
+use Rattle.std.specs.Prelude.{IfErr, OnOk}
+use Rattle.chk_bytes.specs.Stems.{Stem, same_stem}
+use Rattle.chk_site.specs.Files.{Files}
+use Rattle.chk_site.specs.History.{History, files_after}
+use Rattle.chk_site.specs.Site.{Adds}
+use Rattle.chk_site.specs.Runs.{Leads}
+use Rattle.chk_site.proofs.Leads.{leads_then, leads_as, leads_none}
+use Rattle.chk_world.specs.Collectors.{View, view}
+use Rattle.chk_world.specs.Places.{Foreign}
+use Rattle.chk_sink.specs.declared.fault.SinkFault.{SinkFault}
+use Rattle.chk_sink.specs.declared.fault.SinkFault.TheVariants.{Outside, Damaged, Spent, NoMemory}
+use Rattle.chk_sink.specs.declared.current.Current.{Current}
+use Rattle.chk_sink.specs.declared.sinks.Sinks.TheInside.{Inside}
+use Rattle.chk_sink.specs.SinkFields.{sinks_view, writing_of}
+use Rattle.chk_sink.specs.States.{State, Writing, process, last_stem, with_current, all_marked, committed_state, settled_state}
+use Rattle.chk_sink.specs.Held.{IsAsKept, Holds, Matches}
+use Rattle.chk_sink.specs.Closes.{IsCommitted, WasClosed, Committed, Closed, CloseHolds, Settled, TickHolds, Ticked}
+use Rattle.chk_sink.specs.Faults.{IsOutside}
+use Rattle.chk_sink.specs.Ticking.{seen_writing, seen_state}
+
+-- no sink is written to
+none_mapped : (o : Option Current) → is_some o ≡ false → option_map writing_of o ≡ None
+none_mapped None e = refl
+none_mapped (Some c) e = absurd (cc)
+
+pub none_seen : (i : Inside) (s : State) → sinks_view i ≡ s → is_some i.current ≡ false → s.current ≡ None
+none_seen i s e none = subst (λ (s : State). s.current ≡ None) e (none_mapped i.current none)
+
+-- where no sink is written to, nothing is called
+pub none_ticks : (stamped : List (List ℕ)) (s : State) (now : Option History) → s.current ≡ None
+    → Adds now now (Leads (Foreign stamped (process s)) (Matches stamped s) (Ticked stamped s s (Ok tt)))
+none_ticks stamped s now none =
+    leads_none now
+    (λ h x. record {
+      legal = x.legal;
+      may_act = x.may_act;
+      alive = λ r. record {
+        holds = x.alive r;
+        committed = subst (IsCommitted (last_stem s) (files_after h)) (sym none) tt;
+        closed = λ e. subst (λ o. WasClosed (last_stem s) o h) (sym none) tt;
+        sound = λ name at e. cc;
+      };
+    })
+
+-- ---- the sink was committed, and is closed
+
+was_closed : (x : Stem) (o : Option Writing) (h : History) → WasClosed x (option_map all_marked o) h → WasClosed x o h
+was_closed x None h w = tt
+was_closed x (Some o) h w = w
+
+outside_sound : (fault : SinkFault) → IsOutside fault → (name : List ℕ) (at : ℕ) → Path (Result (Unit {0}) SinkFault) (Err fault) (Err (Damaged name at)) → ⊥
+outside_sound (Outside call) only name at e = cc
+outside_sound (Damaged n a) only name at e = only
+outside_sound (Spent born) only name at e = only
+outside_sound NoMemory only name at e = cc
+
+closed_holds : (s st : State) (result : Result (Unit {0}) SinkFault) (h : History) → IfErr result IsOutside → OnOk result (st ≡ with_current (committed_state s) None)
+    → CloseHolds (committed_state s) st result h → TickHolds s st result h
+closed_holds s st (Ok u) h only ok x = record {
+  holds = x.holds;
+  committed = subst (λ o. IsCommitted (last_stem st) (files_after h) o) (sym (ap (λ (t : State). t.current) ok)) tt;
+  closed = λ e. was_closed (last_stem s) s.current h x.closed;
+  sound = λ name at e. cc;
+}
+closed_holds s st (Err fault) h only ok x = record {
+  holds = x.holds;
+  committed = tt;
+  closed = tt;
+  sound = outside_sound fault only;
+}
+
+pub close_ticks : (stamped : List (List ℕ)) (s mid st : State) (result : Result (Unit {0}) SinkFault) {old more new : Option History} → mid ≡ committed_state s
+    → IfErr result IsOutside → OnOk result (st ≡ with_current mid None)
+    → Adds old more (Leads (Foreign stamped (process s)) (Matches stamped s) (Committed stamped mid (Ok tt)))
+    → Adds more new (Leads (Foreign stamped (process mid)) (Matches stamped mid) (Closed stamped mid st result))
+    → Adds old new (Leads (Foreign stamped (process s)) (Matches stamped s) (Ticked stamped s st result))
+close_ticks stamped s mid st result {old = old} {more = more} {new = new} mid_is only ok commit close =
+    subst Whole (sym mid_is) whole only ok commit close
+  where
+    Whole : State → Type 0
+    Whole mid = IfErr result IsOutside → OnOk result (st ≡ with_current mid None)
+        → Adds old more (Leads (Foreign stamped (process s)) (Matches stamped s) (Committed stamped mid (Ok tt)))
+        → Adds more new (Leads (Foreign stamped (process mid)) (Matches stamped mid) (Closed stamped mid st result))
+        → Adds old new (Leads (Foreign stamped (process s)) (Matches stamped s) (Ticked stamped s st result))
+
+    whole : Whole (committed_state s)
+    whole only ok commit close =
+        leads_then
+        (leads_as (λ h x. x) (λ h x. record { legal = x.legal; may_act = x.may_act; alive = λ r. (x.alive r).holds }) commit)
+        (leads_as (λ h x. x)
+        (λ h x. record { legal = x.legal; may_act = x.may_act; alive = λ r. closed_holds s st result h only ok (x.alive r) }) close)
+
+-- ---- the sink was committed, and is seen
+
+kept_seen : (now : ℕ) (x : Stem) (v : View) (files : Files) (o : Option Writing) → IsAsKept x v files o → IsAsKept x v files (option_map (seen_writing now) o)
+kept_seen now x v files None kept = tt
+kept_seen now x v files (Some o) kept = record { current = kept.current; size = kept.size; marked = kept.marked }
+
+some_seen : (now : ℕ) (o : Option Writing) → is_some (option_map (seen_writing now) o) ≡ is_some o
+some_seen now None = refl
+some_seen now (Some o) = refl
+
+seen_holds : (now : ℕ) (s : State) (h : History) → Holds s h → Holds (seen_state now s) h
+seen_holds now s h x = record {
+  born = x.born;
+  made = x.made;
+  writing = kept_seen now (last_stem s) (view (process s) h) (files_after h) s.current x.writing;
+  tidy = λ none y other. x.tidy none y (record {
+    own = other.own;
+    stem = other.stem;
+    other = subst (λ b. (b && same_stem y (last_stem s)) ≡ false) (some_seen now s.current) other.other;
+  });
+}
+
+committed_seen : (now : ℕ) (x : Stem) (files : Files) (o : Option Writing) → IsCommitted x files o → IsCommitted x files (option_map (seen_writing now) o)
+committed_seen now x files None committed = tt
+committed_seen now x files (Some o) committed = committed
+
+none_before : (now : ℕ) (x : Stem) (o : Option Writing) (h : History) → option_map (seen_writing now) (option_map all_marked o) ≡ None → WasClosed x o h
+none_before now x None h e = tt
+none_before now x (Some o) h e = absurd (cc)
+
+pub see_ticks : (stamped : List (List ℕ)) (now : ℕ) (s mid st : State) {old new : Option History} → mid ≡ committed_state s → st ≡ seen_state now mid
+    → Adds old new (Leads (Foreign stamped (process s)) (Matches stamped s) (Committed stamped mid (Ok tt)))
+    → Adds old new (Leads (Foreign stamped (process s)) (Matches stamped s) (Ticked stamped s st (Ok tt)))
+see_ticks stamped now s mid st {old = old} {new = new} mid_is st_is commit =
+    subst (λ t. Adds old new (Leads (Foreign stamped (process s)) (Matches stamped s) (Ticked stamped s t (Ok tt))))
+    (sym (st_is ∙ ap (seen_state now) mid_is))
+    (leads_as (λ h x. x)
+    (λ h x. record {
+      legal = x.legal;
+      may_act = x.may_act;
+      alive = λ r. record {
+        holds = seen_holds now (committed_state s) h (x.alive r).holds;
+        committed = committed_seen now (last_stem s) (files_after h) (committed_state s).current (x.alive r).committed;
+        closed = λ e. none_before now (last_stem s) s.current h e;
+        sound = λ name at e. cc;
+      };
+    })
+    (subst (λ t. Adds old new (Leads (Foreign stamped (process s)) (Matches stamped s) (Committed stamped t (Ok tt)))) mid_is commit))
+
+-- ---- sinks are settled before
+
+unsettled_holds : (stamped : List (List ℕ)) (s st : State) (fault : SinkFault) (h : History) → st ≡ s → Settled stamped st (Err fault) h
+    → Ticked stamped s st (Err fault) h
+unsettled_holds stamped s st (Damaged name at) h e x = record { legal = x.legal; may_act = x.may_act; alive = λ r. absurd (x.alive r) }
+unsettled_holds stamped s st (Outside call) h e x =
+    record { legal = x.legal; may_act = x.may_act; alive = λ r. record { holds = x.alive r; committed = tt; closed = tt; sound = λ name at e. cc } }
+unsettled_holds stamped s st (Spent born) h e x =
+    record { legal = x.legal; may_act = x.may_act; alive = λ r. record { holds = x.alive r; committed = tt; closed = tt; sound = λ name at e. cc } }
+unsettled_holds stamped s st NoMemory h e x =
+    record { legal = x.legal; may_act = x.may_act; alive = λ r. record { holds = x.alive r; committed = tt; closed = tt; sound = λ name at e. cc } }
+
+pub unsettled_ticks : (stamped : List (List ℕ)) (s st : State) (fault : SinkFault) {old new : Option History} → st ≡ s
+    → Adds old new (Leads (Foreign stamped (process s)) (Matches stamped s) (Settled stamped st (Err fault)))
+    → Adds old new (Leads (Foreign stamped (process s)) (Matches stamped s) (Ticked stamped s st (Err fault)))
+unsettled_ticks stamped s st fault e settle = leads_as (λ h x. x) (λ h x. unsettled_holds stamped s st fault h e x) settle
+
+pub settle_ticks : (stamped : List (List ℕ)) (s mid st : State) (result : Result (Unit {0}) SinkFault) {old more new : Option History} → mid ≡ settled_state s
+    → Adds old more (Leads (Foreign stamped (process s)) (Matches stamped s) (Matches stamped mid))
+    → Adds more new (Leads (Foreign stamped (process mid)) (Matches stamped mid) (Ticked stamped mid st result))
+    → Adds old new (Leads (Foreign stamped (process s)) (Matches stamped s) (Ticked stamped s st result))
+settle_ticks stamped s mid st result {old = old} {more = more} {new = new} mid_is settle tick =
+    leads_then
+    (subst (λ t. Adds old more (Leads (Foreign stamped (process s)) (Matches stamped s) (Matches stamped t))) mid_is settle)
+    (leads_as (λ h x. x)
+    (λ h x. record {
+      legal = x.legal;
+      may_act = x.may_act;
+      alive = λ r. record {
+        holds = (x.alive r).holds;
+        committed = (x.alive r).committed;
+        closed = (x.alive r).closed;
+        sound = (x.alive r).sound;
+      };
+    })
+    (subst (λ t. Adds more new (Leads (Foreign stamped (process t)) (Matches stamped t) (Ticked stamped t st result))) mid_is tick))

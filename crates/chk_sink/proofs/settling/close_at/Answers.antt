@@ -1,0 +1,38 @@
+use Rattle.std.proofs.Common.{◌∙◌, ap, Ok, Err}
+use Rattle.std.proofs.lemmas.Result.{err_from_is_err_and}
+use Rattle.chk_sink.specs.Settling.{HoldsAt, CutFound, BothGone}
+use Rattle.chk_sink.proofs.Founding.{found_as, found_then}
+use Rattle.chk_sink.proofs.Causing.{caused_then}
+use Rattle.chk_sink.proofs.settling.close_at.Goals as goal
+
+pub returns-in_err-cut_to-clause-told : goal.returns-in_err-cut_to-clause-told
+returns-in_err-cut_to-clause-told g c stamped s may settles other =
+    let p = err_from_is_err_and c.from_residual.result c.from_residual.ensures.1 in
+    let x = c.args.stem.now in
+    found_as stamped s (λ v. HoldsAt s may x BothGone) (λ there. HoldsAt s may x (CutFound c.args.length there)) c.cut_to.result
+    c.from_residual.result _ c.in_err-cut_to.was (p.1 ∙ ap Err p.2)
+    (c.cut_to.ensures.told stamped s may x settles other c.requires.sink)
+
+pub returns-then-branch-clause-told : goal.returns-then-branch-clause-told
+returns-then-branch-clause-told g c stamped s may settles other =
+    let x = c.args.stem.now in
+    found_then stamped s (λ there. HoldsAt s may x (CutFound c.args.length there)) c.cut_to.result _ (c.in_ok-cut_to.was ∙ ap Ok c.if-branch.true)
+    (c.cut_to.ensures.told stamped s may x settles other c.requires.sink)
+    (c.close_cut.ensures.told stamped s may c.args.length settles other)
+
+pub returns-then-branch-clause-caused : goal.returns-then-branch-clause-caused
+returns-then-branch-clause-caused g c =
+    caused_then c.cut_to.result _ c.close_cut.result c.in_ok-cut_to.was
+    (c.cut_to.ensures.caused c.args.stem.now c.requires.good c.requires.sink c.requires.mark) c.close_cut.ensures.caused
+
+pub returns-else-branch-clause-told : goal.returns-else-branch-clause-told
+returns-else-branch-clause-told g c stamped s may settles other =
+    let x = c.args.stem.now in
+    found_then stamped s (λ there. HoldsAt s may x (CutFound c.args.length there)) c.cut_to.result _ (c.in_ok-cut_to.was ∙ ap Ok c.if-branch.false)
+    (c.cut_to.ensures.told stamped s may x settles other c.requires.sink)
+    (c.remove_mark.ensures.told stamped s may x settles other c.requires.mark)
+
+pub returns-else-branch-clause-caused : goal.returns-else-branch-clause-caused
+returns-else-branch-clause-caused g c =
+    caused_then c.cut_to.result _ c.remove_mark.result c.in_ok-cut_to.was
+    (c.cut_to.ensures.caused c.args.stem.now c.requires.good c.requires.sink c.requires.mark) c.remove_mark.ensures.caused

@@ -1,0 +1,32 @@
+use Rattle.std.proofs.Common.{ap}
+use Rattle.chk_replace.proofs.CallSteps.{script_last}
+use Rattle.chk_sink.specs.SinkFields.{writing_of}
+use Rattle.chk_sink.proofs.Fields.{seen_as, open_as}
+use Rattle.chk_sink.proofs.Scripts.{publishing_quiet, quiet_cause, quiet_lists}
+use Rattle.chk_sink.proofs.Commits.{result_fails, commit_same, commit_made}
+use Rattle.chk_sink.proofs.sinks.Sinks.commit.Goals as goal
+
+pub returns-then-current-clause-told : goal.returns-then-current-clause-told
+returns-then-current-clause-told g c stamped =
+    let f = open_as c.self.inside c.args.self.now c.in-Some.current c.self.view_is c.self.invariant c.in-Some.is in
+    commit_same stamped c.args.self.now (writing_of c.in-Some.current) f.some f.of_stem.good f.of_stem.begun _ c.if-current.true
+
+pub returns-clause-told : goal.returns-clause-told
+returns-clause-told g c stamped =
+    let s = c.args.self.now in
+    let known = seen_as c.self.inside s c.self.view_is c.self.invariant in
+    let f = open_as c.self.inside s c.in-Some.current c.self.view_is c.self.invariant c.in-Some.is in
+    commit_made stamped s (writing_of c.in-Some.current) f.some f.of_stem.good f.of_stem.begun known.named c.self.inside.who known.who
+    c.in-Some.current.stem f.of_stem.stem c.publish-published.ensures.told c.keep_where_done.new.self (writing_of c.all_marked.result)
+    c.keep_where_done.ensures.new (ap writing_of c.all_marked.ensures) _ c.keep_where_done.ensures.result
+
+pub returns-clause-lists : goal.returns-clause-lists
+returns-clause-lists g c = quiet_lists (publishing_quiet c.self.inside.who c.in-Some.current.stem c.in-Some.current.size c.publish-published.ensures.told)
+
+pub returns-clause-damaged : goal.returns-clause-damaged
+returns-clause-damaged g c =
+    quiet_cause _ c.publish-published.result c.keep_where_done.ensures.result
+    (publishing_quiet c.self.inside.who c.in-Some.current.stem c.in-Some.current.size c.publish-published.ensures.told)
+
+pub returns-clause-last : goal.returns-clause-last
+returns-clause-last g c = result_fails _ c.publish-published.result c.keep_where_done.ensures.result (script_last c.publish-published.ensures.told)

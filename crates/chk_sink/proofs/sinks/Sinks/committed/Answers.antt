@@ -1,0 +1,48 @@
+use Rattle.std.proofs.Common.{◌∙◌, ap, Ok, Err}
+use Rattle.std.proofs.lemmas.Result.{err_from_is_err_and}
+use Rattle.chk_site.proofs.Leads.{leads_then}
+use Rattle.chk_sink.proofs.Counting.{asker, size_given, size_none, size_ended}
+use Rattle.chk_sink.proofs.DamageSeen.{size_damaged, size_sound, size_then_damaged, then_fails}
+use Rattle.chk_sink.proofs.sinks.Sinks.committed.Goals as goal
+
+pub returns-in_err-size-clause-told : goal.returns-in_err-size-clause-told
+returns-in_err-size-clause-told g c stamped handled t stems acks =
+    let p = err_from_is_err_and c.from_residual-in_err-size.result c.from_residual-in_err-size.ensures.1 in
+    let s = c.args.self.now in
+    size_ended stamped s handled t stems acks c.self.inside.who (asker c.self.inside s c.self.view_is c.self.invariant)
+    c.args.stem c.stem_is_good.ensures c.as_str.result.now (c.as_str.ensures.value ∙ c.in_ok-name.ensures) c.size_of.result c.size_of.ensures.told
+    c.in_err-size.field-0.0 c.from_residual-in_err-size.result c.in_err-size.was (p.1 ∙ ap Err p.2)
+
+pub returns-in_err-size-clause-damaged : goal.returns-in_err-size-clause-damaged
+returns-in_err-size-clause-damaged g c =
+    let p = err_from_is_err_and c.from_residual-in_err-size.result c.from_residual-in_err-size.ensures.1 in
+    size_damaged c.self.inside.who c.as_str.result.now c.size_of.result c.in_err-size.field-0.0 c.from_residual-in_err-size.result
+    (p.1 ∙ ap Err p.2) c.size_of.ensures.told
+
+pub returns-in-Some-clause-told : goal.returns-in-Some-clause-told
+returns-in-Some-clause-told g c stamped handled t stems acks =
+    let s = c.args.self.now in
+    size_given stamped s handled t stems acks c.self.inside.who (asker c.self.inside s c.self.view_is c.self.invariant)
+    c.args.stem c.stem_is_good.ensures c.as_str.result.now (c.as_str.ensures.value ∙ c.in_ok-name.ensures) c.size_of.result c.size_of.ensures.told
+    c.in-Some.size (c.in_ok-size.was ∙ ap Ok c.in-Some.is)
+
+pub returns-in-Some-clause-damaged : goal.returns-in-Some-clause-damaged
+returns-in-Some-clause-damaged g c =
+    size_sound c.self.inside.who c.as_str.result.now c.size_of.result c.in-Some.size c.size_of.ensures.told
+
+pub returns-clause-told : goal.returns-clause-told
+returns-clause-told g c stamped handled t stems acks =
+    let s = c.args.self.now in
+    let asks = asker c.self.inside s c.self.view_is c.self.invariant in
+    leads_then
+    (size_none stamped s handled t stems acks c.self.inside.who asks
+    c.args.stem c.stem_is_good.ensures c.as_str.result.now (c.as_str.ensures.value ∙ c.in_ok-name.ensures) c.size_of.result c.size_of.ensures.told
+    (c.in_ok-size.was ∙ ap Ok c.in-None.is))
+    (c.marked.ensures.told stamped s handled t stems acks asks)
+
+pub returns-clause-damaged : goal.returns-clause-damaged
+returns-clause-damaged g c =
+    size_then_damaged c.self.inside.who c.as_str.result.now c.size_of.result c.marked.result c.size_of.ensures.told c.marked.ensures.damaged
+
+pub returns-clause-last : goal.returns-clause-last
+returns-clause-last g c = then_fails c.marked.result c.size_of.ensures.told.told c.marked.ensures.last

@@ -1,0 +1,42 @@
+use Rattle.std.proofs.Common.{◌∙◌, ◌++◌, ap, refl, List, ℕ}
+use Rattle.std.proofs.lemmas.Result.{err_from_is_err_and}
+use Rattle.chk_chunk.specs.Keys.{written_key}
+use Rattle.chk_chunk.specs.Lent.{lent_chunk}
+use Rattle.chk_sink.proofs.Fields.{put_refused}
+use Rattle.chk_sink.proofs.Whole.{after_full, chunk_small, chunk_key}
+use Rattle.chk_sink.proofs.sinks.Sinks.put.Goals as goal
+
+pub returns-then-self-eq-LAST_NUMBER-clause-told : goal.returns-then-self-eq-LAST_NUMBER-clause-told
+returns-then-self-eq-LAST_NUMBER-clause-told g c stamped handled posted =
+    after_full stamped c.args.self.now c.let_go_of_full.new.self handled _ c.let_go_of_full.ensures
+    (put_refused stamped c.let_go_of_full.new.self handled (lent_chunk c.args.chunk.now) _ _ refl _)
+
+pub returns-in_err-write_key-clause-told : goal.returns-in_err-write_key-clause-told
+returns-in_err-write_key-clause-told g c stamped handled posted =
+    let p = err_from_is_err_and c.from_residual.result c.from_residual.ensures.1 in
+    after_full stamped c.args.self.now c.let_go_of_full.new.self handled _ c.let_go_of_full.ensures
+    (put_refused stamped c.let_go_of_full.new.self handled (lent_chunk c.args.chunk.now) c.from_residual.result p.0 p.1 _)
+
+pub put_in_current-requires-clause-small : goal.put_in_current-requires-clause-small
+put_in_current-requires-clause-small g c =
+    chunk_small (lent_chunk c.args.chunk.now) _ _ c.requires
+    (c.as_slice.ensures ∙ (c.in_ok-write_key.ensures.ok ∙ ap (λ (t : List ℕ). t ++ written_key (lent_chunk c.args.chunk.now).key) c.new-key.ensures)) refl
+
+pub put_in_next-requires-clause-small : goal.put_in_next-requires-clause-small
+put_in_next-requires-clause-small g c =
+    chunk_small (lent_chunk c.args.chunk.now) _ _ c.requires
+    (c.as_slice-else-is_some.ensures ∙ (c.in_ok-write_key.ensures.ok ∙ ap (λ (t : List ℕ). t ++ written_key (lent_chunk c.args.chunk.now).key) c.new-key.ensures)) refl
+
+pub returns-then-is_some-clause-told : goal.returns-then-is_some-clause-told
+returns-then-is_some-clause-told g c stamped handled posted =
+    after_full stamped c.args.self.now c.let_go_of_full.new.self handled _ c.let_go_of_full.ensures
+    (c.put_in_current.ensures.told stamped handled (lent_chunk c.args.chunk.now) posted
+    (chunk_key (lent_chunk c.args.chunk.now) _ c.requires
+    (c.as_slice.ensures ∙ (c.in_ok-write_key.ensures.ok ∙ ap (λ (t : List ℕ). t ++ written_key (lent_chunk c.args.chunk.now).key) c.new-key.ensures))) refl)
+
+pub returns-clause-told : goal.returns-clause-told
+returns-clause-told g c stamped handled posted =
+    after_full stamped c.args.self.now c.let_go_of_full.new.self handled _ c.let_go_of_full.ensures
+    (c.put_in_next.ensures.told stamped handled (lent_chunk c.args.chunk.now) posted
+    (chunk_key (lent_chunk c.args.chunk.now) _ c.requires
+    (c.as_slice-else-is_some.ensures ∙ (c.in_ok-write_key.ensures.ok ∙ ap (λ (t : List ℕ). t ++ written_key (lent_chunk c.args.chunk.now).key) c.new-key.ensures))) refl)

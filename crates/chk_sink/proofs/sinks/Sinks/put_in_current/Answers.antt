@@ -1,0 +1,85 @@
+use Rattle.std.proofs.Common.{Err, ◌≡◌, ◌+◌, ◌≤◌, ◌∙◌, ap, sym, refl, arith, List, ℕ, length}
+use Rattle.std.proofs.lemmas.Result.{err_from_is_err_and}
+use Rattle.chk_bytes.specs.Stems.{Stem}
+use Rattle.chk_seqfile.specs.Entries.{piece_at}
+use Rattle.chk_world.specs.Names.{SinkFile, spell}
+use Rattle.chk_sink.specs.declared.current.Current.{Current}
+use Rattle.chk_sink.specs.SinkFields.{writing_of}
+use Rattle.chk_sink.proofs.Putting.{piece_of, longer_writing}
+use Rattle.chk_sink.proofs.Made.{kept_done, kept_ended}
+use Rattle.chk_sink.proofs.Fields.{seen_as, open_as, put_refused, placed_kept}
+use Rattle.chk_sink.proofs.Last.{kept_fails}
+use Rattle.chk_sink.proofs.sinks.Sinks.put_in_current.Goals as goal
+
+pub entry-requires-clause-ordered : goal.entry-requires-clause-ordered
+entry-requires-clause-ordered g c = (open_as c.self.inside c.args.self.now c.in-Some.current c.self.view_is c.self.invariant c.in-Some.is).of_stem.ordered
+
+pub keep_where_done-requires : goal.keep_where_done-requires
+keep_where_done-requires g c =
+    let f = open_as c.self.inside c.args.self.now c.in-Some.current c.self.view_is c.self.invariant c.in-Some.is in
+    let l = c.in_ok-piece.ensures.longer in
+    let size : c.in_ok-piece.longer.size ≡ c.in-Some.current.size + length c.in_ok-piece.piece = ap (λ (k : Current). k.size) l in
+    let begun : 96 ≤ c.in-Some.current.size = f.of_stem.begun in
+    record {
+      stem = ap (λ (k : Current). k.stem) l ∙ f.of_stem.stem;
+      good = f.of_stem.good;
+      marker = ap (λ (k : Current). k.marker) l ∙ f.of_stem.marker;
+      begun = omega (arith, size, begun);
+      ordered = c.in_ok-piece.ensures.ordered;
+    }
+
+pub returns-in_err-name-clause-told : goal.returns-in_err-name-clause-told
+returns-in_err-name-clause-told g c stamped handled chunk posted is v =
+    let p = err_from_is_err_and c.from_residual.result c.from_residual.ensures.1 in
+    put_refused stamped c.args.self.now handled chunk c.from_residual.result p.0 p.1 _
+
+pub returns-in_err-piece-clause-told : goal.returns-in_err-piece-clause-told
+returns-in_err-piece-clause-told g c stamped handled chunk posted is v =
+    let p = err_from_is_err_and c.from_residual-in_err-piece.result c.from_residual-in_err-piece.ensures.1 in
+    put_refused stamped c.args.self.now handled chunk c.from_residual-in_err-piece.result p.0 p.1 _
+
+pub returns-in_err-keep_where_done-clause-told : goal.returns-in_err-keep_where_done-clause-told
+returns-in_err-keep_where_done-clause-told g c stamped handled chunk posted is v =
+    let p = err_from_is_err_and c.from_residual-in_err-keep_where_done.result c.from_residual-in_err-keep_where_done.ensures.1 in
+    let s = c.args.self.now in
+    let cur = c.in-Some.current in
+    let known = seen_as c.self.inside s c.self.view_is c.self.invariant in
+    let f = open_as c.self.inside s cur c.self.view_is c.self.invariant c.in-Some.is in
+    kept_ended stamped s (writing_of cur) handled chunk c.args.key.now c.args.value.now known.named f.some f.of_stem.good f.of_stem.begun posted is v
+    c.self.inside.who known.who c.as_str.result.now c.as_slice.result.now
+    (c.as_str.ensures.value ∙ (c.in_ok-name.ensures ∙ ap (λ (x : Stem). spell (SinkFile x)) f.of_stem.stem))
+    (c.as_slice.ensures ∙ (c.in_ok-piece.ensures.piece ∙ ap (λ (m : List ℕ). piece_at m cur.size cur.sync_end c.args.key.now c.args.value.now) f.of_stem.marker))
+    c.append_to-appended.result _ (sym c.keep_where_done.ensures.result ∙ c.in_err-keep_where_done.was) c.append_to-appended.ensures.told
+    c.keep_where_done.new.self (writing_of c.in_ok-piece.longer) c.keep_where_done.ensures.new p.0 _ p.1
+
+pub returns-clause-told : goal.returns-clause-told
+returns-clause-told g c stamped handled chunk posted is v =
+    let s = c.args.self.now in
+    let cur = c.in-Some.current in
+    let known = seen_as c.self.inside s c.self.view_is c.self.invariant in
+    let f = open_as c.self.inside s cur c.self.view_is c.self.invariant c.in-Some.is in
+    let piece : c.in_ok-piece.piece ≡ piece_of s (writing_of cur) c.args.key.now c.args.value.now =
+    c.in_ok-piece.ensures.piece ∙ ap (λ (m : List ℕ). piece_at m cur.size cur.sync_end c.args.key.now c.args.value.now) f.of_stem.marker in
+    kept_done stamped s (writing_of cur) handled chunk c.args.key.now c.args.value.now known.named f.some f.of_stem.good f.of_stem.begun posted is v
+    c.self.inside.who known.who c.as_str.result.now c.as_slice.result.now
+    (c.as_str.ensures.value ∙ (c.in_ok-name.ensures ∙ ap (λ (x : Stem). spell (SinkFile x)) f.of_stem.stem))
+    (c.as_slice.ensures ∙ piece)
+    c.append_to-appended.result _ (sym c.keep_where_done.ensures.result ∙ c.in_ok-keep_where_done.was) c.append_to-appended.ensures.told
+    c.keep_where_done.new.self (writing_of c.in_ok-piece.longer) c.keep_where_done.ensures.new
+    (ap writing_of c.in_ok-piece.ensures.longer ∙ ap (λ (p : List ℕ). longer_writing (writing_of cur) p) piece)
+    (c.in_ok-piece.longer.stem, c.in_ok-piece.longer.size)
+    (ap (λ (k : Current). (k.stem, k.size)) c.in_ok-piece.ensures.longer ∙ (λ i. (f.of_stem.stem i, cur.size + length (piece i))))
+
+pub returns-clause-placed : goal.returns-clause-placed
+returns-clause-placed g c =
+    let s = c.args.self.now in
+    let f = open_as c.self.inside s c.in-Some.current c.self.view_is c.self.invariant c.in-Some.is in
+    placed_kept s c.keep_where_done.new.self (writing_of c.in_ok-piece.longer) c.append_to-appended.result _
+    (sym c.keep_where_done.ensures.result ∙ c.in_ok-keep_where_done.was) c.keep_where_done.ensures.new
+    c.in_ok-piece.longer.stem c.in_ok-piece.longer.size (ap (λ (k : Current). k.stem) c.in_ok-piece.ensures.longer ∙ f.of_stem.stem) refl
+
+pub returns-in_err-keep_where_done-clause-last : goal.returns-in_err-keep_where_done-clause-last
+returns-in_err-keep_where_done-clause-last g c =
+    let p = err_from_is_err_and c.from_residual-in_err-keep_where_done.result c.from_residual-in_err-keep_where_done.ensures.1 in
+    kept_fails c.from_residual-in_err-keep_where_done.result c.append_to-appended.result _
+    (sym c.keep_where_done.ensures.result ∙ c.in_err-keep_where_done.was) (p.1 ∙ ap Err p.2) c.append_to-appended.ensures.last

@@ -1,0 +1,51 @@
+use Rattle.std.proofs.Common.{◌∙◌, ap}
+use Rattle.std.proofs.lemmas.Result.{err_from_is_err_and}
+use Rattle.chk_site.specs.declared.acts.Who.{Who}
+use Rattle.chk_sink.specs.Starting.{first_state}
+use Rattle.chk_sink.specs.States.{State}
+use Rattle.chk_sink.proofs.Last.{both, none_fails}
+use Rattle.chk_sink.proofs.Started.{started_told, unstarted_told, started_spent, unstarted_spent, started_damage, unstarted_damage, unstarted_fails}
+use Rattle.chk_sink.proofs.sinks.Sinks.start.Goals as goal
+
+pub returns-in_err-settle-clause-told : goal.returns-in_err-settle-clause-told
+returns-in_err-settle-clause-told g c stamped =
+    let p = err_from_is_err_and c.from_residual-in_err-settle.result c.from_residual-in_err-settle.ensures.1 in
+    rw (p.1, p.2)
+    (unstarted_told stamped c.args.who.now c.in_ok-born.born c.args.rotate c.first-sinks.result c.settle.new.self c.in_err-settle.field-0.0 c.requires.role
+    (c.first-sinks.ensures ∙ ap (λ (k : Who). first_state k c.in_ok-born.born c.args.rotate) c.in_ok-own.ensures)
+    c.in_err-settle.ensures.err c.in_err-settle.ensures.only (c.in_ok-born.ensures.told stamped) (c.in_err-settle.ensures.told stamped))
+
+pub returns-in_err-settle-clause-spent_exactly : goal.returns-in_err-settle-clause-spent_exactly
+returns-in_err-settle-clause-spent_exactly g c =
+    let p = err_from_is_err_and c.from_residual-in_err-settle.result c.from_residual-in_err-settle.ensures.1 in
+    rw (p.1, p.2)
+    (unstarted_spent State c.in_err-settle.field-0.0 c.in_ok-born.born c.in_err-settle.ensures.only c.in_ok-born.ensures.spent_exactly c.settle.ensures.unread)
+
+pub returns-in_err-settle-clause-damaged : goal.returns-in_err-settle-clause-damaged
+returns-in_err-settle-clause-damaged g c =
+    let p = err_from_is_err_and c.from_residual-in_err-settle.result c.from_residual-in_err-settle.ensures.1 in
+    rw (p.1, p.2)
+    (unstarted_damage State c.in_err-settle.field-0.0 c.in_ok-born.born c.in_ok-born.ensures.damaged c.in_err-settle.ensures.damaged)
+
+pub returns-in_err-settle-clause-last : goal.returns-in_err-settle-clause-last
+returns-in_err-settle-clause-last g c =
+    let p = err_from_is_err_and c.from_residual-in_err-settle.result c.from_residual-in_err-settle.ensures.1 in
+    rw (p.1, p.2)
+    (unstarted_fails State c.in_err-settle.field-0.0 c.publish_next.ensures.last c.in_err-settle.ensures.last)
+
+pub returns-clause-told : goal.returns-clause-told
+returns-clause-told g c stamped =
+    started_told stamped c.args.who.now c.in_ok-born.born c.args.rotate c.first-sinks.result c.settle.new.self c.requires.role
+    (c.first-sinks.ensures ∙ ap (λ (k : Who). first_state k c.in_ok-born.born c.args.rotate) c.in_ok-own.ensures)
+    c.in_ok-settle.ensures.ok (c.in_ok-born.ensures.told stamped) (c.in_ok-settle.ensures.told stamped)
+
+pub returns-clause-spent_exactly : goal.returns-clause-spent_exactly
+returns-clause-spent_exactly g c =
+    started_spent State c.settle.new.self c.in_ok-born.born c.in_ok-born.ensures.spent_exactly c.settle.ensures.unread
+
+pub returns-clause-damaged : goal.returns-clause-damaged
+returns-clause-damaged g c =
+    started_damage State c.settle.new.self c.in_ok-born.born _ c.in_ok-born.ensures.damaged c.in_ok-settle.ensures.damaged
+
+pub returns-clause-last : goal.returns-clause-last
+returns-clause-last g c = none_fails c.settle.new.self (both c.publish_next.ensures.last c.settle.ensures.last)

@@ -1,0 +1,40 @@
+use Rattle.std.proofs.Common.{◌≡◌, ◌∙◌, ap}
+use Rattle.std.proofs.lemmas.Result.{err_from_is_err_and}
+use Rattle.chk_site.specs.declared.acts.OutsideFault.TheVariants.{NoMemory as no_memory}
+use Rattle.chk_site.specs.Site.{LastFailed}
+use Rattle.chk_site.proofs.Runs.{adds_then}
+use Rattle.chk_replace.proofs.CallSteps.{last_then}
+use Rattle.chk_world.specs.Names.{BornFile, read}
+use Rattle.chk_world.proofs.NameLemmas.{read-spell}
+use Rattle.chk_sink.proofs.StartShows.{begin_shows, read_shows, shows_then}
+use Rattle.chk_sink.proofs.StartTold.{unbegun_told, looked_told}
+use Rattle.chk_sink.proofs.starting.last_start.Goals as goal
+
+pub returns-in_err-begin-clause-told : goal.returns-in_err-begin-clause-told
+returns-in_err-begin-clause-told g c stamped =
+    let p = err_from_is_err_and c.from_residual.result c.from_residual.ensures.1 in
+    rw (p.1, p.2)
+    (unbegun_told stamped c.in_err-begin.field-0.0 c.args.who.now c.requires.role c.requires.collector c.in_err-begin.ensures.told)
+
+pub returns-in_err-begin-clause-shown : goal.returns-in_err-begin-clause-shown
+returns-in_err-begin-clause-shown g c =
+    let p = err_from_is_err_and c.from_residual.result c.from_residual.ensures.1 in
+    rw (p.1, p.2) (begin_shows c.args.who.now c.args.name.now c.begin.result c.in_err-begin.field-0.0 c.begin.ensures.told)
+
+pub returns-clause-told : goal.returns-clause-told
+returns-clause-told g c stamped =
+    looked_told stamped c.args.name.now _ c.read_number.result c.args.who.now c.requires.role c.requires.collector c.requires.name
+    c.in_ok-begin.ensures.told c.read_number.ensures.told
+
+pub returns-clause-shown : goal.returns-clause-shown
+returns-clause-shown g c =
+    let name = c.args.name.now in
+    let reads : read name ≡ BornFile c.args.who.now.name = ap read c.requires.name ∙ read-spell (BornFile c.args.who.now.name) c.requires.collector in
+    shows_then name c.read_number.result
+    (begin_shows c.args.who.now name c.begin.result no_memory c.begin.ensures.told)
+    (read_shows c.args.who.now name reads c.read_number.result c.read_number.ensures.told)
+
+pub returns-clause-last : goal.returns-clause-last
+returns-clause-last g c =
+    adds_then (LastFailed c.read_number.result) c.begin.ensures.last c.read_number.ensures.last
+    (λ a b history x y. last_then c.read_number.result b a history y)

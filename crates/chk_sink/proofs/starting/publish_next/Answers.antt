@@ -1,0 +1,79 @@
+use Rattle.std.proofs.Common.{Some, Ok, Err, ◌≡◌, ◌<◌, ◌+◌, ◌==◌, ◌∙◌, false, ap, arith, ℕ}
+use Rattle.std.proofs.lemmas.Bool.{ne_eqb}
+use Rattle.std.proofs.lemmas.Result.{err_from_is_err_and}
+use Rattle.chk_bytes.specs.Numbers.{limit}
+use Rattle.chk_site.proofs.Leads.{leads_then}
+use Rattle.chk_site.proofs.Runs.{adds_as}
+use Rattle.chk_sink.specs.Faults.{sink_fault}
+use Rattle.chk_sink.specs.States.{last_number}
+use Rattle.chk_sink.specs.Damage.{DamageCause, SpentCause}
+use Rattle.chk_sink.specs.Starting.{IsInLimit}
+use Rattle.chk_sink.proofs.StartTold.{published_told, unpublished_told}
+use Rattle.chk_sink.proofs.StartShows.{done_causes, failed_causes}
+use Rattle.chk_sink.proofs.Last.{later_fails, both, none_fails}
+use Rattle.chk_sink.proofs.starting.publish_next.Goals as goal
+
+pub returns-in_err-publish-clause-told : goal.returns-in_err-publish-clause-told
+returns-in_err-publish-clause-told g c stamped =
+    let p = err_from_is_err_and c.from_residual-in_err-publish.result c.from_residual-in_err-publish.ensures.1 in
+    let looked = rw c.in-Some.is at (c.in_ok-looked.ensures.told stamped) in
+    let number : IsInLimit (Some c.in-Some.last) = rw c.in-Some.is at c.in_ok-looked.ensures.number in
+    let other = c.if-last-eq-LAST_START.false in
+    let small : c.in-Some.last + 1 < limit = omega (arith, number, other) in
+    rw (p.1, p.2)
+    (leads_then looked
+    (unpublished_told stamped c.as_str-2.result.now c.in-Some.last small c.in_err-publish.field-0.0 c.args.who.now c.requires.role c.requires.collector
+    (c.as_str-2.ensures.text ∙ c.requires.name) c.in_err-publish.ensures.told))
+
+pub returns-clause-told : goal.returns-clause-told
+returns-clause-told g c stamped =
+    let looked = rw c.in-Some.is at (c.in_ok-looked.ensures.told stamped) in
+    let number : IsInLimit (Some c.in-Some.last) = rw c.in-Some.is at c.in_ok-looked.ensures.number in
+    let other = c.if-last-eq-LAST_START.false in
+    let small : c.in-Some.last + 1 < limit = omega (arith, number, other) in
+    leads_then looked
+    (published_told stamped c.as_str-2.result.now c.in-Some.last small _ c.args.who.now c.requires.role c.requires.collector
+    (c.as_str-2.ensures.text ∙ c.requires.name) c.in_ok-publish.ensures.told)
+
+pub returns-in_err-publish-clause-spent_exactly : goal.returns-in_err-publish-clause-spent_exactly
+returns-in_err-publish-clause-spent_exactly g c =
+    let p = err_from_is_err_and c.from_residual-in_err-publish.result c.from_residual-in_err-publish.ensures.1 in
+    let fault = c.in_err-publish.field-0.0 in
+    let other : (c.in-Some.last == last_number) ≡ false = ne_eqb _ _ c.if-last-eq-LAST_START.false in
+    rw (p.1, p.2)
+    (adds_as (SpentCause {T = ℕ} (Err (sink_fault fault)))
+    (failed_causes c.args.who.now c.as_str.result.now c.as_str-2.result.now _ c.in-Some.last fault other (rw c.in-Some.is at c.in_ok-looked.ensures.shown) c.publish.ensures.told)
+    (λ a h x. x.1))
+
+pub returns-in_err-publish-clause-damaged : goal.returns-in_err-publish-clause-damaged
+returns-in_err-publish-clause-damaged g c =
+    let p = err_from_is_err_and c.from_residual-in_err-publish.result c.from_residual-in_err-publish.ensures.1 in
+    let fault = c.in_err-publish.field-0.0 in
+    let other : (c.in-Some.last == last_number) ≡ false = ne_eqb _ _ c.if-last-eq-LAST_START.false in
+    rw (p.1, p.2)
+    (adds_as (DamageCause {T = ℕ} (Err (sink_fault fault)))
+    (failed_causes c.args.who.now c.as_str.result.now c.as_str-2.result.now _ c.in-Some.last fault other (rw c.in-Some.is at c.in_ok-looked.ensures.shown) c.publish.ensures.told)
+    (λ a h x. x.0))
+
+pub returns-in_err-publish-clause-last : goal.returns-in_err-publish-clause-last
+returns-in_err-publish-clause-last g c =
+    let p = err_from_is_err_and c.from_residual-in_err-publish.result c.from_residual-in_err-publish.ensures.1 in
+    later_fails c.from_residual-in_err-publish.result c.publish.result _ (p.1 ∙ ap Err p.2) c.in_err-publish.was
+    c.last_start.ensures.last c.publish.ensures.last
+
+pub returns-clause-spent_exactly : goal.returns-clause-spent_exactly
+returns-clause-spent_exactly g c =
+    let other : (c.in-Some.last == last_number) ≡ false = ne_eqb _ _ c.if-last-eq-LAST_START.false in
+    adds_as (SpentCause (Ok (c.in-Some.last + 1)))
+    (done_causes c.args.who.now c.as_str.result.now c.as_str-2.result.now _ c.in-Some.last (c.in-Some.last + 1) other (rw c.in-Some.is at c.in_ok-looked.ensures.shown) c.publish.ensures.told)
+    (λ a h x. x.1)
+
+pub returns-clause-damaged : goal.returns-clause-damaged
+returns-clause-damaged g c =
+    let other : (c.in-Some.last == last_number) ≡ false = ne_eqb _ _ c.if-last-eq-LAST_START.false in
+    adds_as (DamageCause (Ok (c.in-Some.last + 1)))
+    (done_causes c.args.who.now c.as_str.result.now c.as_str-2.result.now _ c.in-Some.last (c.in-Some.last + 1) other (rw c.in-Some.is at c.in_ok-looked.ensures.shown) c.publish.ensures.told)
+    (λ a h x. x.0)
+
+pub returns-clause-last : goal.returns-clause-last
+returns-clause-last g c = none_fails (c.in-Some.last + 1) (both c.last_start.ensures.last c.publish.ensures.last)

@@ -1,0 +1,39 @@
+-- What the question for a committed length leads to.
+use Rattle.std.specs.Prelude.{ℕ, List, [], ◌∷◌, ◌++◌, Result, Ok, Err}
+use Rattle.chk_bytes.specs.Stems.{Stem}
+use Rattle.chk_site.specs.History.{History}
+use Rattle.chk_message.specs.Messages.{Ack, ack_of}
+use Rattle.chk_world.specs.Collectors.{Handling, CommittedLengths}
+use Rattle.chk_world.specs.Places.{AtTold}
+use Rattle.chk_sink.specs.declared.fault.SinkFault.{SinkFault}
+use Rattle.chk_sink.specs.declared.fault.SinkFault.TheVariants.{Damaged, Spent}
+use Rattle.chk_sink.specs.States.{State, process}
+use Rattle.chk_sink.specs.Held.{Handles}
+
+-- the history holds the sinks and these messages, and since the taking t these stems have these committed lengths
+pub record Counts (s : State) (handled : List Handling) (t : ℕ) (stems : List Stem) (acks : List Ack)
+    (history : History) : Type 0 where
+  pub handles : Handles s handled history
+  pub lengths : CommittedLengths (process s) history t stems acks
+
+-- the same of a told history
+abbrev pub Counted : List (List ℕ) → State → List Handling → ℕ → List Stem → List Ack → History → Type 0
+Counted stamped s handled t stems acks history = AtTold stamped (process s) (Counts s handled t stems acks) history
+
+-- one more stem has its committed length, or the call failed or wanted memory; nothing is ever damaged
+abbrev pub CountsOn : State → List Handling → ℕ → List Stem → List Ack → Stem → Result ℕ SinkFault → History → Type 0
+CountsOn s handled t stems acks x (Ok n) history =
+    Counts s handled t (stems ++ x ∷ []) (acks ++ ack_of x n ∷ []) history
+CountsOn s handled t stems acks x (Err (Damaged name at)) history = ⊥
+CountsOn s handled t stems acks x (Err fault) history = Handles s handled history
+
+-- the same of a told history
+abbrev pub CountedOn : List (List ℕ) → State → List Handling → ℕ → List Stem → List Ack → Stem → Result ℕ SinkFault
+    → History → Type 0
+CountedOn stamped s handled t stems acks x result history =
+    AtTold stamped (process s) (CountsOn s handled t stems acks x result) history
+
+-- a question finds no number spent
+abbrev pub IsOfQuestion : SinkFault → Type 0
+IsOfQuestion (Spent number) = ⊥
+IsOfQuestion fault = Unit {0}

@@ -1,0 +1,53 @@
+-- The questions for a sink's committed length.
+use Rattle.std.specs.Prelude.{◌≡◌, ℕ, true, false, Bool, ◌&&◌, ◌==◌, nat_le, nat_lt, IsTrue, List, length, is_some, Option, None, Result, Ok, Err, MatchResult}
+use Rattle.chk_bytes.specs.Numbers.{spelled, limit}
+use Rattle.chk_bytes.specs.Stems.{Stem, is_stem, is_collector}
+use Rattle.chk_site.specs.declared.acts.Who.{Who}
+use Rattle.chk_site.specs.declared.acts.CallFault.{CallFault}
+use Rattle.chk_site.specs.declared.acts.OutsideFault.{OutsideFault}
+use Rattle.chk_site.specs.declared.acts.ActAnswer.{ActAnswer}
+use Rattle.chk_site.specs.History.{History, files_after}
+use Rattle.chk_site.specs.Site.{Adds, Asked, answered, Calls, IsTaken, Ends}
+use Rattle.chk_message.specs.Messages.{Ack}
+use Rattle.chk_world.specs.Names.{DoneFile, file}
+use Rattle.chk_world.specs.Collectors.{Handling, is_quiet}
+use Rattle.chk_world.specs.Places.{AtTold}
+use Rattle.chk_sink.specs.declared.fault.SinkFault.{SinkFault}
+use Rattle.chk_sink.specs.declared.fault.SinkFault.TheVariants.{Damaged, NoMemory}
+use Rattle.chk_sink.specs.States.{State, process, last_stem}
+use Rattle.chk_sink.specs.Asked.{Counts}
+
+-- the bytes are a number that a mark may be
+abbrev pub is_mark : List ℕ → Bool
+is_mark bytes = (length bytes == 8) && (nat_le 96 (spelled bytes) && nat_lt (spelled bytes) limit)
+
+-- the call was made, and gave this, or was refused for the state of the files, or else it ended the work
+pub record TakenOnce {V : Type 0} (q : Asked) (how : V → ActAnswer) (result : Result (Option V) OutsideFault)
+    (old new : Option History) : Type 0 where
+  pub given : Result V CallFault
+  pub came : MatchResult result (λ taken. IsTaken given taken) (λ fault. Ends q.call given fault)
+  pub told : Adds old new (Calls q (answered how given))
+
+-- the stems have these lengths, and where nobody touched the sink x since the taking it isn't done
+pub record CountsOpen (s : State) (handled : List Handling) (t : ℕ) (stems : List Stem) (acks : List Ack) (x : Stem)
+    (history : History) : Type 0 where
+  pub counts : Counts s handled t stems acks history
+  pub not_done : is_quiet (process s) x t history ≡ true → file (files_after history) (DoneFile x) ≡ None
+
+-- the same of a told history
+abbrev pub CountedOpen : List (List ℕ) → State → List Handling → ℕ → List Stem → List Ack → Stem → History → Type 0
+CountedOpen stamped s handled t stems acks x history =
+    AtTold stamped (process s) (CountsOpen s handled t stems acks x) history
+
+-- the process is that of the sinks, and may have its name; a sink that is written to is a stem's
+pub record IsAsker (who : Who) (s : State) : Type 0 where
+  pub who_is : who ≡ process s
+  pub named : IsTrue (is_collector s.collector)
+  pub stem : is_some s.current ≡ true → IsTrue (is_stem (last_stem s))
+
+-- the bytes are a mark and this is its number, or they are none and the mark is damaged
+abbrev pub IsMarkNumber : List ℕ → List ℕ → Result ℕ SinkFault → Type 0
+IsMarkNumber name bytes (Ok n) = (is_mark bytes ≡ true) × (n ≡ spelled bytes)
+IsMarkNumber name bytes (Err (Damaged w at)) = (is_mark bytes ≡ false) × (w ≡ name) × (at ≡ 0)
+IsMarkNumber name bytes (Err NoMemory) = Unit {0}
+IsMarkNumber name bytes (Err fault) = ⊥

@@ -1,0 +1,15 @@
+pub mod States
+pub mod Held
+pub mod Calls
+pub mod Puts
+pub mod Closes
+pub mod Starts
+pub mod Asked
+pub mod Asking
+pub mod Faults
+pub mod Damage
+pub mod SinkFields
+pub mod Closing
+pub mod Starting
+pub mod Ticking
+pub mod Settling

@@ -1,0 +1,58 @@
+-- What the put of a chunk leads to.
+use Rattle.std.specs.Prelude.{◌≡◌, ◌⊎◌, ℕ, List, [], ◌∷◌, ◌++◌, map, Option, Some, None, Result, Ok, Err}
+use Rattle.chk_bytes.specs.Stems.{Stem}
+use Rattle.chk_site.specs.History.{History}
+use Rattle.chk_chunk.specs.Keys.{Chunk}
+use Rattle.chk_message.specs.Messages.{ack_of}
+use Rattle.chk_world.specs.Collectors.{Handling, Appended, Tells, with_appends}
+use Rattle.chk_world.specs.Places.{AtTold}
+use Rattle.chk_sink.specs.declared.fault.SinkFault.{SinkFault}
+use Rattle.chk_sink.specs.declared.fault.SinkFault.TheVariants.{Outside, Damaged, Spent, NoMemory}
+use Rattle.chk_sink.specs.States.{State, Writing, process, last_stem, let_go, IsAbandoned, IsSpent}
+use Rattle.chk_sink.specs.Held.{Handles}
+
+-- the last one of these appends wrote the chunk's record where the answer says
+pub record EndsInRecord (c : Chunk) (x : Stem) (end : ℕ) (appends : List Appended) : Type 0 where
+  pub earlier : List Appended
+  pub last : Appended
+  pub is : appends ≡ earlier ++ last ∷ []
+  pub tells : Tells c (ack_of x end) last
+
+-- so it is where the put was done
+abbrev pub IsAnswered : Chunk → Result (Stem × ℕ) SinkFault → List Appended → Type 0
+IsAnswered c (Ok placed) appends = EndsInRecord c placed.0 placed.1 appends
+IsAnswered c (Err fault) appends = Unit {0}
+
+-- the history holds the sinks, and since these messages were taken the put made some appends, of which the last is
+-- the chunk's
+pub record PutHolds (s : State) (handled : List Handling) (c : Chunk) (result : Result (Stem × ℕ) SinkFault)
+    (history : History) : Type 0 where
+  pub appends : List Appended
+  pub handles : Handles s (map (with_appends appends) handled) history
+  pub answer : IsAnswered c result appends
+
+-- the same of a told history
+abbrev pub Wrote : List (List ℕ) → State → List Handling → Chunk → Result (Stem × ℕ) SinkFault → History → Type 0
+Wrote stamped s handled c result history = AtTold stamped (process s) (PutHolds s handled c result) history
+
+-- a sink is written to that ends there
+abbrev pub EndsAt : Option Writing → ℕ → Type 0
+EndsAt None end = ⊥
+EndsAt (Some o) end = o.size ≡ end
+
+-- the sink that is written to is the one that was created last, and ends where the answer says
+abbrev pub IsPlaced : State → Stem × ℕ → Type 0
+IsPlaced s placed = (placed.0 ≡ last_stem s) × EndsAt s.current placed.1
+
+-- What stands after a refused put. After a failed call the sink is abandoned, after want of memory it is abandoned or
+-- all is as it was, and where no number is left a full sink is.
+abbrev pub LeavesAfterPut : State → State → SinkFault → Type 0
+LeavesAfterPut old new (Outside call) = IsAbandoned new
+LeavesAfterPut old new NoMemory = (new ≡ old) ⊎ IsAbandoned new
+LeavesAfterPut old new (Spent born) = new ≡ let_go old
+LeavesAfterPut old new (Damaged name at) = ⊥
+
+-- that no number is left is answered exactly where it is so, with the number of the start
+pub record SpentExactly {T : Type 0} (s : State) (result : Result T SinkFault) : Type 0 where
+  pub where_spent : IsSpent s → result ≡ Err (Spent s.born)
+  pub only : (born : ℕ) → result ≡ Err (Spent born) → IsSpent s

@@ -1,0 +1,111 @@
+//! The questions for a sink's committed length.
+
+ghost use Rattle.std.specs.Prelude.{◌≡◌, ℕ, ◌∷◌, [], List, SomeIff, IfErr, IsTrue};
+ghost use Rattle.chk_bytes.specs.Numbers.{spelled};
+ghost use Rattle.chk_bytes.specs.Words.{is_word};
+ghost use Rattle.chk_bytes.specs.Stems.{Stem as Parts, is_stem};
+ghost use Rattle.chk_message.specs.Messages.{Ack};
+ghost use Rattle.chk_site.specs.declared.acts.Call.TheVariants.{Size, Read};
+ghost use Rattle.chk_site.specs.Site.{Adds, LastFailed, OutsideCause, asked, bytes_given, sized};
+ghost use Rattle.chk_site.specs.Runs.{Leads};
+ghost use Rattle.chk_world.specs.Collectors.{Handling};
+ghost use Rattle.chk_world.specs.Places.{Foreign};
+ghost use Rattle.chk_sink.specs.States.{State, process};
+ghost use Rattle.chk_sink.specs.Faults.{SinkCause, FailsLast};
+ghost use Rattle.chk_sink.specs.Damage.{DamageCause};
+ghost use Rattle.chk_sink.specs.Asked.{CountedOn, IsOfQuestion};
+ghost use Rattle.chk_sink.specs.Asking.{TakenOnce, IsMarkNumber, IsAsker, CountedOpen, is_mark};
+
+use crate::{SinkFault, names};
+use chk_bytes::{Bytes, Stem, Word, take_u64};
+use chk_site::{Call, OutsideFault, Site, Who, taken};
+use std::alloc::Global;
+
+/// The least number of a mark: it is behind the header.
+const LEAST_MARK: u64 = 96;
+
+/// The length of the file of this name, where it is there.
+pub(crate) fn size_of<S: Site>(
+    alloc: Global,
+    site: &mut S,
+    who: &Who,
+    name: &str,
+) -> Result<Option<u64>, OutsideFault>
+    ensures told { TakenOnce (asked who.now Size (name.now ∷ []) 0 0) sized result (S.told site.old) (S.told site.new) }
+    ensures cause { OutsideCause (S.fault_count site.old) (S.fault_count site.new) result }
+{
+    let given = site.size(alloc, who, name);
+    taken(Call::Size, given)
+}
+
+/// The bytes of the file of this name, where it is there: the first 9, so that it is seen whether they are 8.
+pub(crate) fn bytes_of<S: Site>(
+    alloc: Global,
+    site: &mut S,
+    who: &Who,
+    name: &str,
+) -> Result<Option<Bytes>, OutsideFault>
+    ensures told { TakenOnce (asked who.now Read (name.now ∷ []) 0 9) bytes_given result (S.told site.old) (S.told site.new) }
+    ensures cause { OutsideCause (S.fault_count site.old) (S.fault_count site.new) result }
+{
+    let given = site.read(alloc, who, name, 0, 9);
+    taken(Call::Read, given)
+}
+
+/// What the type of a stem keeps: its name and its numbers are good.
+pub(crate) fn stem_is_good(stem: &Stem)
+    ensures { IsTrue (is_stem stem.now) }
+{
+    let _ = stem.number();
+}
+
+// The number of a mark of these bytes; `None` where they are no mark's.
+fn mark_number(bytes: &[u8]) -> Option<u64>
+    ensures { SomeIff result (IsTrue (is_mark bytes.now)) (spelled bytes.now) }
+{
+    let number = take_u64(bytes, 0)?;
+    if bytes.len() == 8 && number >= LEAST_MARK && number < 1 << 63 {
+        Some(number)
+    } else {
+        None
+    }
+}
+
+// The number in the mark of this name, of which these bytes were read.
+fn number_of(alloc: Global, name: &str, bytes: &[u8]) -> Result<u64, SinkFault>
+    requires { IsTrue (is_word name.now) }
+    ensures { IsMarkNumber name.now bytes.now result }
+{
+    match mark_number(bytes) {
+        Some(number) => Ok(number),
+        None => {
+            let name = Word::from_text(alloc, name)?;
+            Err(SinkFault::Damaged { name, at: 0 })
+        }
+    }
+}
+
+/// The number in the mark of a sink that isn't done, 0 where it has none.
+pub(crate) fn marked<S: Site>(
+    alloc: Global,
+    site: &mut S,
+    who: &Who,
+    stem: &Stem,
+) -> Result<u64, SinkFault>
+    requires { IsTrue (is_stem stem.now) }
+    ensures told { (stamped : List (List ℕ)) (s : State) (handled : List Handling) (t : ℕ) (stems : List Parts)
+        (acks : List Ack) → IsAsker who.now s → Adds (S.told site.old) (S.told site.new)
+        (Leads (Foreign stamped (process s)) (CountedOpen stamped s handled t stems acks stem.now)
+        (CountedOn stamped s handled t stems acks stem.now result)) }
+    ensures only { IfErr result IsOfQuestion }
+    ensures damaged { Adds (S.told site.old) (S.told site.new) (DamageCause result) }
+    ensures last { Adds (S.told site.old) (S.told site.new) (FailsLast result) }
+    ensures cause { SinkCause (S.fault_count site.old) (S.fault_count site.new) result }
+{
+    let name = names::mark(alloc, stem)?;
+    let read = bytes_of(alloc, site, who, name.as_str())?;
+    match read {
+        Some(bytes) => number_of(alloc, name.as_str(), bytes.as_slice()),
+        None => Ok(0),
+    }
+}

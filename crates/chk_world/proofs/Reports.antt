@@ -1,0 +1,73 @@
+-- The report of a run whose listing showed no sink under writing is that of a complete run.
+use Rattle.std.proofs.Common.{◌≡◌, ℕ, ◌+◌, true, List, [], ◌∷◌, length, Option, Some, None, ap, sym, subst, ◌∙◌, refl, MatchBool}
+use Rattle.std.specs.Prelude.{IsTrue, Any}
+use Rattle.std.proofs.lemmas.Option.{none-some}
+use Rattle.chk_site.specs.declared.acts.Role.TheVariants.{Job}
+use Rattle.chk_site.specs.declared.acts.ActAnswer.TheVariants.{Done}
+use Rattle.chk_site.specs.Files.{Files, changed}
+use Rattle.chk_site.specs.Acts.{Says, deed, change_of, same_role}
+use Rattle.chk_site.specs.History.{Step, History, files_after}
+use Rattle.chk_chunk.specs.Keys.{Stream, Covers}
+use Rattle.chk_chunk.specs.Reach.{IsReach}
+use Rattle.chk_world.specs.Checkpoints.{Line, line_of}
+use Rattle.chk_world.specs.Streams.{Founding, founding, founded_by, or_else, start_at, start_of}
+use Rattle.chk_world.specs.Committed.{archive_of_stream}
+use Rattle.chk_world.specs.ArchiveRuns.{Listing, listing_by, last_listing, unclosed_in, found, is_report, HasReached}
+use Rattle.chk_world.specs.Jobs.{JobRule, ReportIsTrue, RanSo, TrueReport}
+use Rattle.chk_world.specs.Rules.{Legal, RoleMay}
+use Rattle.chk_world.specs.Laws.{IsComplete}
+use Rattle.chk_world.proofs.Commits.{done_tails}
+
+-- a stream that has not begun has no line
+no_line : (history : History) (s : Stream) → founding history s ≡ None → line_of (files_after history) s ≡ None
+no_line [] s e = refl
+no_line (step ∷ history) s e = go (founding history s) (line_of step.files s) e
+  where
+    go : (o : Option Founding) (l : Option Line) → or_else o (founded_by l (step.logs s.name)) ≡ None → l ≡ None
+    go o None e = refl
+    go None (Some l) e = absurd (none-some (record { line = l; rotated = (step.logs s.name).rotated }) (sym e))
+    go (Some f) (Some l) e = absurd (none-some f (sym e))
+
+-- the step leaves the files as they were
+module _ (history : History) (step : Step) (same : ◌≡◌ {A = Files} step.files (files_after history)) where
+  same_start : (s : Stream) → start_of (step ∷ history) s ≡ start_of history s
+  same_start s = go (founding history s) refl
+    where
+      go : (o : Option Founding) → founding history s ≡ o → start_of (step ∷ history) s ≡ start_of history s
+      go (Some f) e = ap (λ o. start_at (or_else o (founded_by (line_of step.files s) (step.logs s.name)))) e ∙ sym (ap start_at e)
+      go None e =
+          let none : line_of step.files s ≡ None = ap (λ files. line_of files s) same ∙ no_line history s e in
+          ap (λ o. start_at (or_else o (founded_by (line_of step.files s) (step.logs s.name)))) e
+          ∙ (ap (λ l. start_at (founded_by l (step.logs s.name))) none ∙ sym (ap start_at e))
+
+  still_reached : (l : Listing) → HasReached history l → HasReached (step ∷ history) l
+  still_reached l reached s =
+      let then_length : ℕ = length (archive_of_stream (files_after l.upto) s) in
+      subst (λ start. IsReach (λ o. Any (Covers s o) (found l)) (start + then_length) (start + length (archive_of_stream step.files s))) (sym (same_start s))
+      (subst (λ files. IsReach (λ o. Any (Covers s o) (found l)) (start_of history s + then_length) (start_of history s + length (archive_of_stream files s)))
+      (sym same) (reached s))
+
+-- what the rule of the job says of a report
+report_true : (history : History) (text : List ℕ) → is_report text ≡ true → ReportIsTrue history text → TrueReport history text
+report_true history text is rule = subst (λ b. MatchBool b (TrueReport history text) (Unit {0})) is rule.1
+
+ran_reached : (history : History) (l : Listing) (text : List ℕ) → last_listing history ≡ Some l → TrueReport history text → HasReached history l
+ran_reached history l text last t =
+    (subst (λ o. RanSo history o t.unclosed t.taken t.held t.removed) last t.ran).reached
+
+-- with the report the history ends with a complete run
+pub reported : (stamped : List (List ℕ)) (history : History) (step : Step) → Legal stamped (step ∷ history) → step.act.who.role ≡ Job
+    → (text : List ℕ) → deed step.act ≡ Says text → IsTrue (is_report text) → (words : List (List ℕ)) (number of : ℕ) → step.act.answer ≡ Done words number of
+    → (l : Listing) → last_listing history ≡ Some l → unclosed_in l.names ≡ 0 → IsComplete (step ∷ history) l
+reported stamped history step legal job text call is words number of answer l last closed =
+    let e = legal.1.honest.modelled.effect in
+    let each : (n : List ℕ) → step.files n ≡ files_after history n =
+    λ n. done_tails (deed step.act) step.act.answer words number of e.did (files_after history) step.files answer e.may e.files_left n
+    ∙ ap (λ c. changed (change_of c) (files_after history) n) call in
+    let rule : JobRule stamped history (deed step.act) = subst (λ role. RoleMay stamped role history step) job legal.1.rule in
+    let says : ReportIsTrue history text = (subst (JobRule stamped history) call rule).1 in
+    record {
+      last = ap (λ c. listing_by (same_role step.act.who.role Job) c step.act.answer (step ∷ history) (last_listing history)) call ∙ last;
+      closed = closed;
+      reached = still_reached history step (λ i n. each n i) l (ran_reached history l text last (report_true history text is says));
+    }
