@@ -6,6 +6,7 @@
 //! - `append TIMES EVERY`: 1 KiB is appended to a file below the current folder, with a sync after each EVERY, 0: none;
 //! - `sinks TIMES`: rounds of 4 MiB in 32 chunks are put into a collector's sink below the current folder, and each is
 //!   committed;
+//! - `answer TIMES CHUNKS BYTES`: a collector answers a post of so many chunks of so many bytes, with a tick behind each;
 //! - `take DOOR TURNS WAIT`: messages are taken at the door, with this wait in milliseconds, and answered; what was
 //!   taken, the longest calls in milliseconds and the count of faults are printed;
 //! - `all TIMES`: each of these but the last.
@@ -14,6 +15,7 @@
 //! where something was refused or failed.
 #![tactic(auto)]
 
+mod answers;
 mod appends;
 mod bodies;
 mod posts;
@@ -64,12 +66,18 @@ fn done(rt: HostRuntime, work: Work<'_>) -> Result<bool, NoMemory> {
         Work::Request { times } => requests::requests(rt.alloc(), times),
         Work::Append { times, every } => append(rt, times, every),
         Work::Sinks { times } => sinks(rt, times),
+        Work::Answer {
+            times,
+            chunks,
+            bytes,
+        } => answer(rt, times, chunks, bytes),
         Work::Take { door, turns, wait } => take(rt, door, turns, wait),
         Work::All { times } => Ok(
             posts::posts(rt.alloc(), times)?
                 && requests::requests(rt.alloc(), times)?
                 && append(rt, times, 1)?
-                && sinks(rt, times)?,
+                && sinks(rt, times)?
+                && answer(rt, times, 32, 1_000)?,
         ),
     }
 }
@@ -88,6 +96,12 @@ fn sinks(rt: HostRuntime, times: u32) -> Result<bool, NoMemory> {
     let alloc = rt.alloc();
     let mut site = SiteReal::new(rt, alloc);
     came_out(rounds::rounds(&mut site, alloc, times))
+}
+
+fn answer(rt: HostRuntime, times: u32, chunks: u32, bytes: u32) -> Result<bool, NoMemory> {
+    let alloc = rt.alloc();
+    let mut site = SiteReal::new(rt, alloc);
+    came_out(answers::answers(&mut site, alloc, times, chunks, bytes))
 }
 
 // A work of the sinks that was refused isn't done.

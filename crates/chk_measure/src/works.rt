@@ -16,6 +16,11 @@ pub enum Work<'a> {
     Sinks {
         times: u32,
     },
+    Answer {
+        times: u32,
+        chunks: u32,
+        bytes: u32,
+    },
     Take {
         door: &'a str,
         turns: u32,
@@ -34,6 +39,11 @@ impl<'a> Work<'a> {
             [work, times, every] if work.as_str() == "append" => Some(Work::Append {
                 times: number(times)?,
                 every: number(every)?,
+            }),
+            [work, times, chunks, bytes] if work.as_str() == "answer" => Some(Work::Answer {
+                times: number(times)?,
+                chunks: number(chunks)?,
+                bytes: number(bytes)?,
             }),
             [work, door, turns, wait] if work.as_str() == "take" => Some(Work::Take {
                 door: door.as_str(),

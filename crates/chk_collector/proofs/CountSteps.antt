@@ -1,0 +1,132 @@
+-- The questions of a poll, as far as they've come.
+use Rattle.std.proofs.Common.{◌≡◌, ℕ, ◌*◌, ◌≤◌, List, [], ◌∷◌, ◌++◌, length, map, Option, Result, Ok, Err, refl, sym, ap, subst, ◌∙◌, append_assoc, append-nil, arith}
+use Rattle.std.proofs.lemmas.List.{map-append}
+use Rattle.chk_bytes.specs.Stems.{Stem}
+use Rattle.chk_site.specs.History.{History}
+use Rattle.chk_site.specs.Site.{Adds}
+use Rattle.chk_site.specs.Runs.{Leads}
+use Rattle.chk_site.proofs.Leads.{leads_then, leads_as, leads_none}
+use Rattle.chk_site.proofs.Runs.{adds_none}
+use Rattle.chk_message.specs.Messages.{Ack, ack_of, ack_text, acks_text}
+use Rattle.chk_world.specs.Collectors.{Handling, CommittedLengths}
+use Rattle.chk_world.specs.Places.{Foreign}
+use Rattle.chk_sink.specs.declared.fault.SinkFault.{SinkFault}
+use Rattle.chk_sink.specs.declared.fault.SinkFault.TheVariants.{Outside, Damaged, Spent, NoMemory}
+use Rattle.chk_sink.specs.States.{State, process}
+use Rattle.chk_sink.specs.Held.{Ready}
+use Rattle.chk_sink.specs.Damage.{DamageCause}
+use Rattle.chk_sink.specs.Asked.{Counted, CountedOn}
+use Rattle.chk_collector.specs.Polling.{CountedAll, HasLineOf}
+use Rattle.chk_collector.proofs.Joining.{damaged_then}
+use Rattle.chk_collector.proofs.Lines.{acks_text-more, short_more}
+
+-- the stems before the rest were asked for, and each has its line
+pub record CountedSoFar (old now : Option History) (before count : ℕ) (s : State) (stems rest : List Stem) (lines : List ℕ) : Type 0 where
+  pub done : List Stem
+  pub whole : stems ≡ done ++ rest
+  pub acks : List Ack
+  pub lines_are : lines ≡ acks_text acks
+  pub of_stems : map (λ a. a.stem) acks ≡ done
+  pub short : length lines ≤ 126 * length done
+  pub told : (stamped : List (List ℕ)) (handled : List Handling) (t : ℕ)
+      → Adds old now (Leads (Foreign stamped (process s)) (Ready stamped s handled) (Counted stamped s handled t done acks))
+  pub damaged : Adds old now (DamageCause {T = Unit {0}} (Ok tt))
+  pub same : count ≡ before
+
+-- what the question for one stem leads to, whatever was asked before
+abbrev pub CountsOne : Option History → Option History → State → Stem → Result ℕ SinkFault → Type 0
+CountsOne now new s x result =
+    (stamped : List (List ℕ)) (handled : List Handling) (t : ℕ) (stems : List Stem) (acks : List Ack)
+    → Adds now new (Leads (Foreign stamped (process s)) (Counted stamped s handled t stems acks) (CountedOn stamped s handled t stems acks x result))
+
+-- none yet
+pub count_begins : (now : Option History) (n : ℕ) (s : State) (stems : List Stem) (lines : List ℕ) → lines ≡ []
+    → CountedSoFar now now n n s stems stems lines
+count_begins now n s stems lines none = record {
+  done = [];
+  whole = refl;
+  acks = [];
+  lines_are = none;
+  of_stems = refl;
+  short = omega (arith, ap length none);
+  told = λ stamped handled t.
+      leads_none now (λ h x. record { legal = x.legal; may_act = x.may_act; alive = λ r. record { handles = x.alive r; lengths = tt } });
+  damaged = adds_none now (DamageCause {T = Unit {0}} (Ok tt)) (λ h. refl);
+  same = refl;
+}
+
+module _ {old now new : Option History} {before count count' : ℕ} {s : State} {stems rest : List Stem} {lines : List ℕ}
+    (so_far : CountedSoFar old now before count s stems rest lines) where
+  -- one more
+  pub count_on : (x : Stem) (n : ℕ) (rest' : List Stem) (lines' : List ℕ) → rest ≡ x ∷ rest' → lines' ≡ lines ++ ack_text (ack_of x n)
+      → length (ack_text (ack_of x n)) ≤ 126
+      → CountsOne now new s x (Ok n) → Adds now new (DamageCause {T = ℕ} (Ok n)) → count' ≡ count
+      → CountedSoFar old new before count' s stems rest' lines'
+  count_on x n rest' lines' more line short told damaged cause = record {
+    done = so_far.done ++ x ∷ [];
+    whole = so_far.whole ∙ (ap (λ l. so_far.done ++ l) more ∙ sym (append_assoc so_far.done (x ∷ []) rest'));
+    acks = so_far.acks ++ ack_of x n ∷ [];
+    lines_are = line ∙ (ap (λ t. t ++ ack_text (ack_of x n)) so_far.lines_are ∙ acks_text-more so_far.acks (ack_of x n));
+    of_stems = map-append (λ (a : Ack). a.stem) so_far.acks (ack_of x n ∷ []) ∙ ap (λ l. l ++ x ∷ []) so_far.of_stems;
+    short = short_more lines lines' (ack_text (ack_of x n)) so_far.done x line so_far.short short;
+    told = λ stamped handled t. leads_then (so_far.told stamped handled t) (told stamped handled t so_far.done so_far.acks);
+    damaged = damaged_then {U = Unit {0}} tt (Ok (tt {0})) so_far.damaged damaged;
+    same = cause ∙ so_far.same;
+  }
+
+module _ {old now new : Option History} {before count : ℕ} {s : State} {stems rest : List Stem} {lines : List ℕ}
+    (so_far : CountedSoFar old now before count s stems rest lines) where
+  -- one was refused
+  pub count_fails : (x : Stem) (fault : SinkFault) → CountsOne now new s x (Err fault)
+      → (stamped : List (List ℕ)) (handled : List Handling) (t : ℕ)
+      → Adds old new (Leads (Foreign stamped (process s)) (Ready stamped s handled) (CountedAll stamped s handled t stems lines (Err fault)))
+  count_fails x fault told stamped handled t =
+      leads_as (λ h y. y) (refused fault) (leads_then (so_far.told stamped handled t) (told stamped handled t so_far.done so_far.acks))
+    where
+      refused : (f : SinkFault) (h : History) → CountedOn stamped s handled t so_far.done so_far.acks x (Err f) h
+          → CountedAll stamped s handled t stems lines (Err f) h
+      refused (Outside call) h y = record { legal = y.legal; may_act = y.may_act; alive = λ r. record { handles = y.alive r; told = tt } }
+      refused (Spent born) h y = record { legal = y.legal; may_act = y.may_act; alive = λ r. record { handles = y.alive r; told = tt } }
+      refused (Damaged name at) h y = record { legal = y.legal; may_act = y.may_act; alive = λ r. absurd (y.alive r) }
+      refused NoMemory h y = record { legal = y.legal; may_act = y.may_act; alive = λ r. record { handles = y.alive r; told = tt } }
+
+  -- one was answered, and there was no memory for its line
+  pub count_unwritten : (x : Stem) (n : ℕ) (fault : SinkFault) (lines' : List ℕ) → CountsOne now new s x (Ok n)
+      → (stamped : List (List ℕ)) (handled : List Handling) (t : ℕ)
+      → Adds old new (Leads (Foreign stamped (process s)) (Ready stamped s handled) (CountedAll stamped s handled t stems lines' (Err fault)))
+  count_unwritten x n fault lines' told stamped handled t =
+      leads_as (λ h y. y)
+      (λ h y. record { legal = y.legal; may_act = y.may_act; alive = λ r. record { handles = (y.alive r).handles; told = tt } })
+      (leads_then (so_far.told stamped handled t) (told stamped handled t so_far.done so_far.acks))
+
+module _ {old now : Option History} {before count : ℕ} {s : State} {stems rest : List Stem} {lines : List ℕ}
+    (so_far : CountedSoFar old now before count s stems rest lines) where
+  all_done : rest ≡ [] → stems ≡ so_far.done
+  all_done none = so_far.whole ∙ (ap (λ l. so_far.done ++ l) none ∙ append-nil so_far.done)
+
+  -- all were asked for
+  pub count_ends : rest ≡ [] → (stamped : List (List ℕ)) (handled : List Handling) (t : ℕ)
+      → Adds old now (Leads (Foreign stamped (process s)) (Ready stamped s handled) (CountedAll stamped s handled t stems lines (Ok tt)))
+  count_ends none stamped handled t =
+      leads_as (λ h y. y)
+      (λ h y. record {
+        legal = y.legal;
+        may_act = y.may_act;
+        alive = λ r. record {
+          handles = (y.alive r).handles;
+          told = record {
+            acks = so_far.acks;
+            lines_are = so_far.lines_are;
+            lengths = subst (λ l. CommittedLengths (process s) h t l so_far.acks) (sym (all_done none)) (y.alive r).lengths;
+          };
+        };
+      })
+      (so_far.told stamped handled t)
+
+  pub has_line_of : rest ≡ [] → HasLineOf stems lines
+  has_line_of none = record {
+    acks = so_far.acks;
+    lines_are = so_far.lines_are;
+    of_stems = so_far.of_stems ∙ sym (all_done none);
+    short = subst (λ (l : List Stem). length lines ≤ 126 * length l) (sym (all_done none)) so_far.short;
+  }

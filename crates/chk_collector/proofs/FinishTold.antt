@@ -1,0 +1,114 @@
+-- What the end of a collector's work leads to.
+use Rattle.std.proofs.Common.{◌≡◌, ◌⊎◌, inl, inr, ℕ, Bool, true, false, List, Option, Some, None, Result, Ok, Err, refl, sym, subst, if◌then◌else◌}
+use Rattle.std.specs.Prelude.{OnOk}
+use Rattle.chk_bytes.specs.Stems.{Stem}
+use Rattle.chk_site.specs.History.{History}
+use Rattle.chk_site.specs.Site.{Adds}
+use Rattle.chk_site.specs.Runs.{Leads}
+use Rattle.chk_site.proofs.Leads.{leads_then, leads_as}
+use Rattle.chk_world.specs.Places.{Foreign}
+use Rattle.chk_sink.specs.declared.fault.SinkFault.{SinkFault}
+use Rattle.chk_sink.specs.States.{State, Writing, process, last_stem, with_current, ticked_state, ticked, is_closed_at, seen_first}
+use Rattle.chk_sink.specs.Held.{Holds, Matches}
+use Rattle.chk_sink.specs.Closes.{WasClosed, Ticked, Closed}
+use Rattle.chk_collector.specs.Finishing.{Finished}
+
+-- without a sink that is written to, the state is as it was
+same_state : (s : State) → s.current ≡ None → s ≡ with_current s None
+same_state s none = λ i. record {
+  collector = s.collector;
+  born = s.born;
+  number = s.number;
+  rotate = s.rotate;
+  current = none i;
+  abandoned = s.abandoned;
+}
+
+-- what was closed once the tick left it, was closed
+abbrev ClosedLate : ℕ → Option Writing → Type 0
+ClosedLate rotate current = (x : Stem) (h : History) → WasClosed x (ticked rotate 0 current) h → WasClosed x current h
+
+-- the tick closed it, or the close does
+closed_by : (rotate : ℕ) (current : Option Writing) → (ticked rotate 0 current ≡ None) ⊎ ClosedLate rotate current
+closed_by rotate None = inl refl
+closed_by rotate (Some o) = go (is_closed_at rotate 0 o)
+  where
+    ticked_writing : Writing
+    ticked_writing = record { size = o.size; sync_end = o.sync_end; marked = o.size; seen = Some (seen_first o.seen 0) }
+
+    go : (b : Bool) → ((if b then None else Some ticked_writing) ≡ None)
+        ⊎ ((x : Stem) (h : History) → WasClosed x (if b then None else Some ticked_writing) h → WasClosed x (Some o) h)
+    go true = inl refl
+    go false = inr (λ x h w. w)
+
+module _ (stamped : List (List ℕ)) (s : State) where
+  abbrev After : State
+  After = ticked_state 0 s
+
+  ticked_holds : (h : History) → Ticked stamped s After (Ok tt) h → Matches stamped After h
+  ticked_holds h x = record { legal = x.legal; may_act = x.may_act; alive = λ r. (x.alive r).holds }
+
+  -- the tick closed it
+  closed_early : After.current ≡ None → (h : History) → Ticked stamped s After (Ok tt) h → Finished stamped s (with_current After None) (Ok tt) h
+  closed_early none h x = record {
+    legal = x.legal;
+    may_act = x.may_act;
+    alive = λ r. record {
+      holds = subst (λ (t : State). Holds t h) (same_state After none) (x.alive r).holds;
+      closed = (x.alive r).closed none;
+    };
+  }
+
+  -- the close refused
+  refused : (new : State) (fault : SinkFault) (h : History) → Closed stamped After new (Err fault) h → Finished stamped s new (Err fault) h
+  refused new fault h x = record {
+    legal = x.legal;
+    may_act = x.may_act;
+    alive = λ r. record { holds = (x.alive r).holds; closed = tt };
+  }
+
+  -- the close closed it
+  closed_late : (new : State) → ClosedLate s.rotate s.current → (h : History) → Closed stamped After new (Ok tt) h → Finished stamped s new (Ok tt) h
+  closed_late new late h x = record {
+    legal = x.legal;
+    may_act = x.may_act;
+    alive = λ r. record { holds = (x.alive r).holds; closed = late (last_stem s) h (x.alive r).closed };
+  }
+
+  pub finish_told : (new : State) (result : Result (Unit {0}) SinkFault) {old mid end : Option History}
+      → OnOk result (new ≡ with_current After None)
+      → Adds old mid (Leads (Foreign stamped (process s)) (Matches stamped s) (Ticked stamped s After (Ok tt)))
+      → (After.current ≡ None → end ≡ mid)
+      → Adds mid end (Leads (Foreign stamped (process s)) (Matches stamped After) (Closed stamped After new result))
+      → Adds old end (Leads (Foreign stamped (process s)) (Matches stamped s) (Finished stamped s new result))
+  finish_told new (Err fault) is tick idle close =
+      leads_as (λ h x. x) (refused new fault) (leads_then (leads_as (λ h x. x) ticked_holds tick) close)
+  finish_told new (Ok value) {old = old} {mid = mid} {end = end} is tick idle close = by (closed_by s.rotate s.current)
+    where
+      Whole : Option History → State → Type 0
+      Whole end new = Adds old end (Leads (Foreign stamped (process s)) (Matches stamped s) (Finished stamped s new (Ok tt)))
+
+      by : (After.current ≡ None) ⊎ ClosedLate s.rotate s.current → Whole end new
+      by (inl none) =
+          subst (λ (t : State). Whole end t) (sym is)
+          (subst (λ (e : Option History). Whole e (with_current After None)) (sym (idle none))
+          (leads_as (λ h x. x) (closed_early none) tick))
+      by (inr late) = leads_as (λ h x. x) (closed_late new late) (leads_then (leads_as (λ h x. x) ticked_holds tick) close)
+
+  -- the same of the state that the tick left
+  pub finish_as : (after new : State) (result : Result (Unit {0}) SinkFault) {old mid end : Option History}
+      → after ≡ After → OnOk result (new ≡ with_current after None)
+      → Adds old mid (Leads (Foreign stamped (process s)) (Matches stamped s) (Ticked stamped s after (Ok tt)))
+      → (after.current ≡ None → end ≡ mid)
+      → Adds mid end (Leads (Foreign stamped (process after)) (Matches stamped after) (Closed stamped after new result))
+      → Adds old end (Leads (Foreign stamped (process s)) (Matches stamped s) (Finished stamped s new result))
+  finish_as after new result {old = old} {mid = mid} {end = end} same =
+      subst Told (sym same) (finish_told new result)
+    where
+      Told : State → Type 0
+      Told t =
+          OnOk result (new ≡ with_current t None)
+          → Adds old mid (Leads (Foreign stamped (process s)) (Matches stamped s) (Ticked stamped s t (Ok tt)))
+          → (t.current ≡ None → end ≡ mid)
+          → Adds mid end (Leads (Foreign stamped (process t)) (Matches stamped t) (Closed stamped t new result))
+          → Adds old end (Leads (Foreign stamped (process s)) (Matches stamped s) (Finished stamped s new result))

@@ -1,0 +1,11 @@
+pub mod Sizes
+pub mod Joining
+pub mod FinishTold
+pub mod Lines
+pub mod CountSteps
+pub mod Family
+pub mod PutSteps
+pub mod PutLoop
+pub mod MayReply
+pub mod Outcome
+pub mod Refused

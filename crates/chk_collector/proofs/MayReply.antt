@@ -1,0 +1,143 @@
+-- Which replies a collector may send.
+use Rattle.std.proofs.Common.{◌≡◌, inl, inr, ℕ, ◌≤◌, ◌==◌, true, false, List, ◌∷◌, length, map, Option, Some, Result, Ok, Err, refl, sym, ap, subst, ◌∙◌, arith, if◌then◌else◌}
+use Rattle.std.specs.Prelude.{IfOk}
+use Rattle.chk_bytes.specs.Stems.{Stem}
+use Rattle.chk_site.specs.History.{History}
+use Rattle.chk_site.specs.Site.{Adds}
+use Rattle.chk_site.specs.Runs.{Leads}
+use Rattle.chk_site.proofs.Leads.{leads_none}
+use Rattle.chk_chunk.specs.Keys.{Chunk}
+use Rattle.chk_chunk.specs.Posts.{post_limit}
+use Rattle.chk_message.specs.Messages.{IsPostOf, PollRequest, IsReply}
+use Rattle.chk_message.proofs.Accepted.{IsReply-same}
+use Rattle.chk_world.specs.Collectors.{Handling, view, begun, with_appends, handling_of, NoSyncBeforeAnswer, AnswersWell}
+use Rattle.chk_world.specs.Places.{Foreign}
+use Rattle.chk_sink.specs.declared.fault.SinkFault.{SinkFault}
+use Rattle.chk_sink.specs.States.{State, process}
+use Rattle.chk_sink.specs.Held.{Handles}
+use Rattle.chk_sink.specs.Closes.{OnceDone}
+use Rattle.chk_collector.specs.Answering.{Taken, MayAnswer, Answered}
+use Rattle.chk_collector.specs.Posting.{ArePosted, WroteAll, HasLineEach}
+use Rattle.chk_collector.specs.Polling.{CountedAll, HasLineOf}
+use Rattle.chk_collector.specs.Replies.{code_by, body_by}
+
+-- the last message taken is found
+found : (t : ℕ) (m : Handling) (others : List Handling) → m.taking ≡ t → handling_of t (m ∷ others) ≡ Some m
+found t m others is =
+    ap (λ b. if b then Some m else handling_of t others) same
+  where
+    same : (m.taking == t) ≡ true
+    same = grind arith
+
+-- it was answered by nothing but this reply, and there was no sync
+may_answer : (s : State) (m : Handling) (others : List Handling) (reply : List ℕ) (h : History) → m.synced ≡ false → Handles s (m ∷ others) h
+    → AnswersWell (process s) h (Some m) reply → MayAnswer s m.taking reply h
+may_answer s m others reply h unsynced x well =
+    let is : handling_of m.taking (view (process s) h).handled ≡ Some m = ap (handling_of m.taking) x.handled ∙ found m.taking m others refl in
+    record {
+      holds = x.holds;
+      may =
+          subst (λ (o : Option Handling). NoSyncBeforeAnswer o × AnswersWell (process s) h o reply) (sym is) (unsynced, well);
+    }
+
+-- a reply of another code is no good one
+not_good : (s : State) (h : History) (m : Option Handling) (code : ℕ) (body reply : List ℕ) → (code ≡ 200 → ⊥) → IsReply code body reply
+    → AnswersWell (process s) h m reply
+not_good s h m code body reply other is text good = absurd (other (IsReply-same code 200 body text reply is good).0)
+
+-- ---- where nothing was called
+
+pub refused_told : {E : Type 0} (stamped : List (List ℕ)) (s : State) (t : ℕ) (request : List ℕ) (others : List Handling) (code : ℕ) (body : List ℕ)
+    (result : Result (List ℕ) E) (now : Option History) → (code ≡ 200 → ⊥) → IfOk result (IsReply code body)
+    → Adds now now (Leads (Foreign stamped (process s)) (Taken stamped s t request others) (Answered stamped s t result))
+refused_told stamped s t request others code body (Ok reply) now other is =
+    leads_none now
+    (λ h x. record {
+      legal = x.legal;
+      may_act = x.may_act;
+      alive = λ r. may_answer s (begun t request) others reply h refl (x.alive r) (not_good s h (Some (begun t request)) code body reply other is);
+    })
+refused_told stamped s t request others code body (Err fault) now other is =
+    leads_none now (λ h x. record { legal = x.legal; may_act = x.may_act; alive = λ r. (x.alive r).holds })
+
+-- ---- a post
+
+-- the chunks of the last message's post are posted
+pub are_posted : (t : ℕ) (request : List ℕ) (others : List Handling) (chunks : List Chunk) → IsPostOf chunks request
+    → ArePosted (begun t request ∷ others) chunks
+are_posted t request others chunks post c one = record {
+  message = begun t request;
+  taken = (0, omega arith, refl);
+  open_yet = refl;
+  chunks = chunks;
+  post = post;
+  one = one;
+}
+
+pub post_told : {E : Type 0} (stamped : List (List ℕ)) (s : State) (t : ℕ) (request : List ℕ) (others : List Handling) (chunks : List Chunk)
+    (lines : List ℕ) (done : Result (Unit {0}) SinkFault) (result : Result (List ℕ) E) → IsPostOf chunks request → OnceDone done (length lines ≤ post_limit)
+    → IfOk result (λ reply. OnceDone done (length lines ≤ post_limit) → IsReply (code_by done) (body_by done lines) reply)
+    → (h : History) → WroteAll stamped s (begun t request ∷ others) chunks lines done h → Answered stamped s t result h
+post_told stamped s t request others chunks lines (Ok value) (Ok reply) post short accepted h x = record {
+  legal = x.legal;
+  may_act = x.may_act;
+  alive = λ r.
+      let q = x.alive r in
+      may_answer s (with_appends q.appends (begun t request)) (map (with_appends q.appends) others) reply h refl q.handles
+      (λ text good. (
+        q.told.acks,
+        (IsReply-same 200 200 text lines reply good (accepted short)).1 ∙ q.told.lines_are,
+        inl record { newest = refl; open_yet = refl; chunks = chunks; post = post; lines = q.told.tell },
+      ));
+}
+post_told stamped s t request others chunks lines (Err fault) (Ok reply) post short accepted h x = record {
+  legal = x.legal;
+  may_act = x.may_act;
+  alive = λ r.
+      let q = x.alive r in
+      let m = with_appends q.appends (begun t request) in
+      may_answer s m (map (with_appends q.appends) others) reply h refl q.handles
+      (not_good s h (Some m) 503 (body_by (Err fault) lines) reply (λ e. omega (arith, e)) (accepted tt));
+}
+post_told stamped s t request others chunks lines done (Err fault) post short accepted h x =
+    record { legal = x.legal; may_act = x.may_act; alive = λ r. (x.alive r).handles.holds }
+
+-- ---- a poll
+
+pub poll_told : {E : Type 0} (stamped : List (List ℕ)) (s : State) (t : ℕ) (request : List ℕ) (others : List Handling) (stems : List Stem)
+    (lines : List ℕ) (done : Result (Unit {0}) SinkFault) (result : Result (List ℕ) E) → PollRequest stems request → OnceDone done (length lines ≤ post_limit)
+    → IfOk result (λ reply. OnceDone done (length lines ≤ post_limit) → IsReply (code_by done) (body_by done lines) reply)
+    → (h : History) → CountedAll stamped s (begun t request ∷ others) t stems lines done h → Answered stamped s t result h
+poll_told stamped s t request others stems lines (Ok value) (Ok reply) poll short accepted h x = record {
+  legal = x.legal;
+  may_act = x.may_act;
+  alive = λ r.
+      let q = x.alive r in
+      may_answer s (begun t request) others reply h refl q.handles
+      (λ text good. (
+        q.told.acks,
+        (IsReply-same 200 200 text lines reply good (accepted short)).1 ∙ q.told.lines_are,
+        inr record { stems = stems; poll = poll; lines = q.told.lengths },
+      ));
+}
+poll_told stamped s t request others stems lines (Err fault) (Ok reply) poll short accepted h x = record {
+  legal = x.legal;
+  may_act = x.may_act;
+  alive = λ r.
+      may_answer s (begun t request) others reply h refl (x.alive r).handles
+      (not_good s h (Some (begun t request)) 503 (body_by (Err fault) lines) reply (λ e. omega (arith, e)) (accepted tt));
+}
+poll_told stamped s t request others stems lines done (Err fault) poll short accepted h x =
+    record { legal = x.legal; may_act = x.may_act; alive = λ r. (x.alive r).handles.holds }
+
+-- ---- the lines are short
+
+pub post_short : (chunks : List Chunk) (lines : List ℕ) (done : Result (Unit {0}) SinkFault) → length chunks ≤ 1000 → OnceDone done (HasLineEach chunks lines)
+    → OnceDone done (length lines ≤ post_limit)
+post_short chunks lines (Ok value) few each = omega (arith, each.short)
+post_short chunks lines (Err fault) few each = tt
+
+pub poll_short : (stems : List Stem) (lines : List ℕ) (done : Result (Unit {0}) SinkFault) → length stems ≤ 64 → OnceDone done (HasLineOf stems lines)
+    → OnceDone done (length lines ≤ post_limit)
+poll_short stems lines (Ok value) few each = omega (arith, each.short)
+poll_short stems lines (Err fault) few each = tt

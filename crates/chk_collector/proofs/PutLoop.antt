@@ -1,0 +1,136 @@
+-- The puts of a post's chunks, as far as they've come.
+use Rattle.std.proofs.Common.{◌≡◌, ℕ, zero, ◌*◌, ◌≤◌, List, [], ◌∷◌, ◌++◌, length, length-append, map, Option, Result, Ok, Err, refl, sym, ap, subst, ◌∙◌, append_assoc, append-nil, arith}
+use Rattle.std.specs.Prelude.{Contains}
+use Rattle.std.proofs.lemmas.List.Elements.{Contains-append_right}
+use Rattle.chk_bytes.specs.Stems.{Stem}
+use Rattle.chk_site.specs.declared.acts.Role.TheVariants.{Collector}
+use Rattle.chk_site.specs.History.{History}
+use Rattle.chk_site.specs.Site.{Adds}
+use Rattle.chk_site.specs.Runs.{Leads}
+use Rattle.chk_site.proofs.Leads.{leads_then, leads_none}
+use Rattle.chk_site.proofs.Runs.{adds_none}
+use Rattle.chk_chunk.specs.Keys.{Chunk}
+use Rattle.chk_message.specs.Messages.{Ack, ack_of, ack_text, acks_text}
+use Rattle.chk_world.specs.Collectors.{Handling, with_appends}
+use Rattle.chk_world.specs.Places.{Foreign}
+use Rattle.chk_sink.specs.declared.fault.SinkFault.{SinkFault}
+use Rattle.chk_sink.specs.States.{State, IsSameStart, process}
+use Rattle.chk_sink.specs.Held.{Handles, Ready}
+use Rattle.chk_sink.proofs.Last.{Whatever, both}
+use Rattle.chk_collector.specs.Posting.{ArePosted, WroteAll}
+use Rattle.chk_collector.proofs.Lines.{acks_text-more, short_more}
+use Rattle.chk_collector.proofs.PutSteps.{PutsOne, put_step, tells_on}
+
+-- the chunks before the rest were put, and each has its line
+pub record PutSoFar (old now : Option History) (before count : ℕ) (first s : State) (chunks rest : List Chunk) (lines : List ℕ) : Type 0 where
+  pub done : List Chunk
+  pub whole : chunks ≡ done ++ rest
+  pub acks : List Ack
+  pub lines_are : lines ≡ acks_text acks
+  pub as_many : length acks ≡ length done
+  pub short : length lines ≤ 126 * length done
+  pub told : (stamped : List (List ℕ)) (handled : List Handling) → ArePosted handled chunks
+      → Adds old now (Leads (Foreign stamped (process first)) (Ready stamped first handled) (WroteAll stamped s handled done lines (Ok tt)))
+  pub goes_on : Adds old now Whatever
+  pub same : IsSameStart first s
+  pub cause : count ≡ before
+
+same_self : (s : State) → IsSameStart s s
+same_self s = record { collector = refl; born = refl; rotate = refl; number = omega arith }
+
+same_then : (a b c : State) → IsSameStart a b → IsSameStart b c → IsSameStart a c
+same_then a b c x y = record {
+  collector = y.collector ∙ x.collector;
+  born = y.born ∙ x.born;
+  rotate = y.rotate ∙ x.rotate;
+  number = omega (arith, x.number, y.number);
+}
+
+no_appends : (handled : List Handling) → handled ≡ map (with_appends []) handled
+no_appends [] = refl
+no_appends (m ∷ handled) =
+    ap (λ l. record { taking = m.taking; bytes = m.bytes; answered = m.answered; newest = m.newest; synced = m.synced; appends = l } ∷ handled)
+    (sym (append-nil m.appends))
+    ∙ ap (λ l. with_appends [] m ∷ l) (no_appends handled)
+
+-- none yet
+pub put_begins : (now : Option History) (n : ℕ) (first s : State) (chunks : List Chunk) (lines : List ℕ) → s ≡ first → lines ≡ []
+    → PutSoFar now now n n first s chunks chunks lines
+put_begins now n first s chunks lines same none =
+    subst (λ (t : State). PutSoFar now now n n first t chunks chunks lines) (sym same)
+    (record {
+      done = [];
+      whole = refl;
+      acks = [];
+      lines_are = none;
+      as_many = refl;
+      short = omega (arith, ap length none);
+      told = λ stamped handled posted.
+          leads_none now
+          (λ h x. record {
+            legal = x.legal;
+            may_act = x.may_act;
+            alive = λ r. record {
+              appends = [];
+              handles = subst (λ ms. Handles first ms h) (no_appends handled) (x.alive r);
+              told = record { acks = []; lines_are = none; tell = tt };
+            };
+          });
+      goes_on = adds_none now Whatever (λ h. tt);
+      same = same_self first;
+      cause = refl;
+    })
+
+module _ {old now : Option History} {before count : ℕ} {first s : State} {chunks rest : List Chunk} {lines : List ℕ}
+    (so_far : PutSoFar old now before count first s chunks rest lines) where
+  -- the next one is of the post
+  next_is : (c : Chunk) (rest' : List Chunk) → rest ≡ c ∷ rest' → Contains chunks c
+  next_is c rest' more =
+      subst (λ (l : List Chunk). Contains l c) (sym (so_far.whole ∙ ap (λ l. so_far.done ++ l) more))
+      (Contains-append_right so_far.done (c ∷ rest') c (zero, omega arith, refl))
+
+module _ {old now new : Option History} {before count : ℕ} {first s : State} {chunks rest : List Chunk} {lines : List ℕ}
+    (so_far : PutSoFar old now before count first s chunks rest lines) where
+  -- the process is the same
+  by_same : {A B : History → Type 0} → (stamped : List (List ℕ)) → Adds now new (Leads (Foreign stamped (process s)) A B)
+      → Adds now new (Leads (Foreign stamped (process first)) A B)
+  by_same {A = A} {B = B} stamped told =
+      subst (λ (name : List ℕ). Adds now new (Leads (Foreign stamped (record { role = Collector; name = name })) A B)) so_far.same.collector told
+
+  -- one more was put, and this is what is told of its line
+  put_told : (c : Chunk) (rest' : List Chunk) (x : Stem) (n : ℕ) (s' : State) (lines' : List ℕ) → rest ≡ c ∷ rest' → lines' ≡ lines ++ ack_text (ack_of x n)
+      → PutsOne now new s s' c (Ok (x, n)) → (stamped : List (List ℕ)) (handled : List Handling) → ArePosted handled chunks
+      → Adds old new (Leads (Foreign stamped (process first)) (Ready stamped first handled)
+      (WroteAll stamped s' handled (so_far.done ++ c ∷ []) lines' (Ok tt)))
+  put_told c rest' x n s' lines' more line told stamped handled posted =
+      leads_then (so_far.told stamped handled posted)
+      (by_same stamped
+      (put_step stamped handled s s' c (Ok (x, n)) (posted c (next_is so_far c rest' more)) so_far.done (so_far.done ++ c ∷ []) lines lines' (Ok tt)
+      (λ appends later t a. tells_on so_far.done c x n lines lines' appends later line t a) told))
+
+  -- what is told where the puts end with a refusal
+  pub put_fails : (c : Chunk) (rest' : List Chunk) (result : Result (Stem × ℕ) SinkFault) (fault : SinkFault) (s' : State) (lines' : List ℕ)
+      → rest ≡ c ∷ rest' → PutsOne now new s s' c result → (stamped : List (List ℕ)) (handled : List Handling) → ArePosted handled chunks
+      → Adds old new (Leads (Foreign stamped (process first)) (Ready stamped first handled) (WroteAll stamped s' handled chunks lines' (Err fault)))
+  put_fails c rest' result fault s' lines' more told stamped handled posted =
+      leads_then (so_far.told stamped handled posted)
+      (by_same stamped
+      (put_step stamped handled s s' c result (posted c (next_is so_far c rest' more)) so_far.done chunks lines lines' (Err fault) (λ appends later t a. tt) told))
+
+  -- one more
+  pub put_on : (c : Chunk) (rest' : List Chunk) (x : Stem) (n count' : ℕ) (s' : State) (lines' : List ℕ) {P : History → History → Type 0}
+      → rest ≡ c ∷ rest' → lines' ≡ lines ++ ack_text (ack_of x n) → length (ack_text (ack_of x n)) ≤ 126 → PutsOne now new s s' c (Ok (x, n))
+      → Adds now new P → IsSameStart s s' → count' ≡ count → PutSoFar old new before count' first s' chunks rest' lines'
+  put_on c rest' x n count' s' lines' more line short told goes_on same cause = record {
+    done = so_far.done ++ c ∷ [];
+    whole = so_far.whole ∙ (ap (λ l. so_far.done ++ l) more ∙ sym (append_assoc so_far.done (c ∷ []) rest'));
+    acks = so_far.acks ++ ack_of x n ∷ [];
+    lines_are = line ∙ (ap (λ t. t ++ ack_text (ack_of x n)) so_far.lines_are ∙ acks_text-more so_far.acks (ack_of x n));
+    as_many = omega
+        (arith, so_far.as_many, length-append so_far.acks (ack_of x n ∷ []), length-append so_far.done (c ∷ []));
+    short = short_more lines lines' (ack_text (ack_of x n)) so_far.done c line so_far.short short;
+    told = put_told c rest' x n s' lines' more line told;
+    goes_on = both so_far.goes_on goes_on;
+    same = same_then first s s' so_far.same same;
+    cause = cause ∙ so_far.cause;
+  }

@@ -1,0 +1,42 @@
+use Rattle.std.proofs.Common.{ℕ, Err, ap, ◌∙◌}
+use Rattle.std.proofs.lemmas.Result.{err_from_is_err_and}
+use Rattle.chk_bytes.specs.Stems.{Stem}
+use Rattle.chk_chunk.specs.Lent.{lent_chunk}
+use Rattle.chk_sink.proofs.Last.{both}
+use Rattle.chk_collector.proofs.Joining.{last_then, unmade_last, fails_same}
+use Rattle.chk_collector.proofs.PutLoop.{put_begins, put_on, put_fails}
+use Rattle.chk_collector.proofs.collector.Collector.put_all.Goals as goal
+
+pub loop-chunk-init : goal.loop-chunk-init
+loop-chunk-init g c =
+    put_begins (g.S.Site.told c.args.site.now) (g.S.Site.fault_count c.args.site.now) c.args.self.now c.self.inside.sinks c.args.post.left c.args.lines.now
+    c.self.view_is c.requires
+
+pub loop-chunk-preserved : goal.loop-chunk-preserved
+loop-chunk-preserved g c =
+    put_on c.loop-chunk.invariant (lent_chunk c.in-Some.chunk) c.next.new.self.left c.in_ok-stem.stem c.in_ok-stem.end (g.S.Site.fault_count c.put.new.site)
+    c.put.new.self c.put_line.new.lines c.in-Some.ensures.first c.in_ok-put_line.ensures.ok c.put_line.ensures.short c.in_ok-stem.ensures.told
+    c.in_ok-stem.ensures.last c.in_ok-stem.ensures.same c.in_ok-stem.ensures.cause
+
+pub returns-in_err-stem-clause-told : goal.returns-in_err-stem-clause-told
+returns-in_err-stem-clause-told g c stamped handled posted =
+    let p = err_from_is_err_and c.from_residual.result c.from_residual.ensures.1 in
+    rw p.1 (put_fails c.loop-chunk.invariant (lent_chunk c.in-Some.chunk) c.next.new.self.left (Err c.in_err-stem.field-0.0) p.0 c.put.new.self c.loop-chunk.lines
+    c.in-Some.ensures.first c.in_err-stem.ensures.told stamped handled posted)
+
+pub returns-in_err-stem-clause-last : goal.returns-in_err-stem-clause-last
+returns-in_err-stem-clause-last g c =
+    let p = err_from_is_err_and c.from_residual.result c.from_residual.ensures.1 in
+    last_then c.from_residual.result c.loop-chunk.invariant.goes_on
+    (fails_same (Stem × ℕ) c.from_residual.result c.in_err-stem.field-0.0 (p.1 ∙ ap Err p.2) c.in_err-stem.ensures.last)
+
+pub returns-in_err-put_line-clause-told : goal.returns-in_err-put_line-clause-told
+returns-in_err-put_line-clause-told g c stamped handled posted =
+    let p = err_from_is_err_and c.from_residual-in_err-put_line.result c.from_residual-in_err-put_line.ensures.1 in
+    rw p.1 (put_fails c.loop-chunk.invariant (lent_chunk c.in-Some.chunk) c.next.new.self.left c.put.result p.0 c.put.new.self c.put_line.new.lines
+    c.in-Some.ensures.first c.put.ensures.told stamped handled posted)
+
+pub returns-in_err-put_line-clause-last : goal.returns-in_err-put_line-clause-last
+returns-in_err-put_line-clause-last g c =
+    let p = err_from_is_err_and c.from_residual-in_err-put_line.result c.from_residual-in_err-put_line.ensures.1 in
+    unmade_last c.from_residual-in_err-put_line.result (p.1 ∙ ap Err p.2) (both c.loop-chunk.invariant.goes_on c.put.ensures.last)

@@ -1,0 +1,42 @@
+use Rattle.std.proofs.Common.{refl, sym, ◌∙◌}
+use Rattle.chk_collector.proofs.MayReply.{refused_told}
+use Rattle.chk_collector.proofs.Outcome.{refused_replied, has_not_risen}
+use Rattle.chk_collector.proofs.Refused.{refused_by, bad_code}
+use Rattle.chk_collector.proofs.collector.Collector.respond.Goals as goal
+
+pub returns-in-Err-clause-told : goal.returns-in-Err-clause-told
+returns-in-Err-clause-told g c stamped t others =
+    refused_told stamped c.args.self.now t c.args.request.now others c.code.result _ c.refusal.result _ (λ e. bad_code c.in-Err.fault (sym c.code.ensures ∙ e)) c.refusal.ensures.accepted
+
+pub returns-in-Err-clause-replied : goal.returns-in-Err-clause-replied
+returns-in-Err-clause-replied g c =
+    refused_replied c.args.request.now c.in-Err.fault c.args.self.now _ _ c.refusal.result
+    (refused_by c.args.request.now c.in-Err.fault (record {
+      post = c.in-Err.ensures.post;
+      poll = c.in-Err.ensures.poll;
+      bad_path = c.in-Err.ensures.bad_path;
+      bad_method = c.in-Err.ensures.bad_method;
+      bad_line = c.in-Err.ensures.bad_line;
+      no_length = c.in-Err.ensures.no_length;
+      bad_head = c.in-Err.ensures.bad_head;
+      bad_length = c.in-Err.ensures.bad_length;
+      too_large = c.in-Err.ensures.too_large;
+      endless = c.in-Err.ensures.endless;
+      long_body = c.in-Err.ensures.long_body;
+      not_yet = c.in-Err.ensures.not_yet;
+      cut_body = c.in-Err.ensures.cut_body;
+    }))
+    (rw (c.code.ensures, c.name.ensures) at c.refusal.ensures.written)
+
+pub returns-in-Ok-Post-clause-told : goal.returns-in-Ok-Post-clause-told
+returns-in-Ok-Post-clause-told g c stamped t others =
+    c.answer_post.ensures.told stamped t c.args.request.now others
+    ((rw c.in-Ok-Post.field-0-is at (c.in-Ok-Post.ensures.post c.in-Ok-Post.body.now)).0 refl)
+
+pub returns-in-Ok-Acks-clause-told : goal.returns-in-Ok-Acks-clause-told
+returns-in-Ok-Acks-clause-told g c stamped t others =
+    c.answer_poll.ensures.told stamped t c.args.request.now others
+    (λ stems query. (rw c.in-Ok-Acks.field-0-is at (c.in-Ok-Acks.ensures.poll stems)).0 query)
+
+pub returns-in-Err-clause-count : goal.returns-in-Err-clause-count
+returns-in-Err-clause-count g c = has_not_risen (g.S.Site.fault_count c.args.site.now) c.refusal.result

@@ -1,0 +1,28 @@
+-- The end of a collector's work.
+use Rattle.std.specs.Prelude.{ℕ, false, List, None, Result}
+use Rattle.chk_site.specs.History.{History}
+use Rattle.chk_world.specs.Places.{AtTold}
+use Rattle.chk_sink.specs.declared.fault.SinkFault.{SinkFault}
+use Rattle.chk_sink.specs.States.{State, process, last_stem}
+use Rattle.chk_sink.specs.Held.{Holds}
+use Rattle.chk_sink.specs.Closes.{OnceDone, WasClosed}
+
+-- no sink of the start is under writing
+abbrev pub finished : State → State
+finished s = record {
+  collector = s.collector;
+  born = s.born;
+  number = s.number;
+  rotate = s.rotate;
+  current = None;
+  abandoned = false;
+}
+
+-- the history holds the sinks, and at Ok the sink that was written to became a done one
+pub record FinishHolds (old new : State) (result : Result (Unit {0}) SinkFault) (history : History) : Type 0 where
+  pub holds : Holds new history
+  pub closed : OnceDone result (WasClosed (last_stem old) old.current history)
+
+-- the same of a told history
+abbrev pub Finished : List (List ℕ) → State → State → Result (Unit {0}) SinkFault → History → Type 0
+Finished stamped old new result history = AtTold stamped (process new) (FinishHolds old new result) history

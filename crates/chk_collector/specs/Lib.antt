@@ -1,0 +1,6 @@
+pub mod Outcomes
+pub mod Answering
+pub mod Finishing
+pub mod Replies
+pub mod Posting
+pub mod Polling

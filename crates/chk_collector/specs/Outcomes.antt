@@ -1,0 +1,159 @@
+-- What a request comes to, and its reply.
+use Rattle.std.specs.Prelude.{◌≡◌, ◌⊎◌, ℕ, List, [], ◌∷◌, ◌++◌, length, map, codes, decimal, Option, Some, None, Err}
+use Rattle.chk_bytes.specs.Stems.{Stem}
+use Rattle.chk_site.specs.CallNames.{call_name}
+use Rattle.chk_site.specs.History.{History}
+use Rattle.chk_site.specs.Site.{Adds}
+use Rattle.chk_chunk.specs.declared.faults.ChunkFault.{ChunkFault}
+use Rattle.chk_chunk.specs.declared.faults.ChunkFault.TheVariants.{Short, Version, NotUtf8, Empty, TooLong, BeforeStart, TooMany, Trailing, TooHigh, NotWord, StartHigh}
+use Rattle.chk_chunk.specs.Keys.{Chunk}
+use Rattle.chk_chunk.specs.Faults.{post_fault}
+use Rattle.chk_message.specs.Messages.{Ack, PostRequest, PollRequest, IsRequest, IsPostOf, acks_text, written_reply}
+use Rattle.chk_http.specs.declared.fault.HttpFault.{HttpFault}
+use Rattle.chk_http.specs.declared.fault.HttpFault.TheVariants.{BadHead, NoLength, TooLarge, NotYet, BadPath, BadMethod, BadLine}
+use Rattle.chk_http.specs.Faults.{fault_code, fault_name}
+use Rattle.chk_http.specs.Heads.{IsEndlessRequest}
+use Rattle.chk_http.specs.Requests.{IsBadPath, IsBadMethod, IsBadQuery, IsWithoutLength, HasBadLength, HasLongBody, HasCutBody, IsBadHead, IsTooLarge, IsNotYet}
+use Rattle.chk_http.specs.Written.{phrase_of}
+use Rattle.chk_sink.specs.declared.fault.SinkFault.{SinkFault}
+use Rattle.chk_sink.specs.declared.fault.SinkFault.TheVariants.{Outside, Damaged, Spent, NoMemory}
+use Rattle.chk_sink.specs.Faults.{SinkCause, FailsLast}
+use Rattle.chk_sink.specs.Damage.{damage_in}
+use Rattle.chk_sink.specs.States.{State, last_number}
+
+-- what a request comes to: it is refused, or its post is, or its reply has these lines, or a call of the sinks was refused
+pub data Outcome : Type 0 where
+  Refused : HttpFault → Outcome
+  BadPost : ChunkFault → Outcome
+  Lines : List Ack → Outcome
+  Fails : SinkFault → Outcome
+
+-- the name of a post's fault
+abbrev pub chunk_fault_name : ChunkFault → List ℕ
+chunk_fault_name (Short at) = codes "Short"
+chunk_fault_name (Version found) = codes "Version"
+chunk_fault_name (NotUtf8 at) = codes "NotUtf8"
+chunk_fault_name (Empty at) = codes "Empty"
+chunk_fault_name (TooLong most found) = codes "TooLong"
+chunk_fault_name (BeforeStart seq len) = codes "BeforeStart"
+chunk_fault_name (TooMany count) = codes "TooMany"
+chunk_fault_name (Trailing at) = codes "Trailing"
+chunk_fault_name (TooHigh seq) = codes "TooHigh"
+chunk_fault_name (NotWord at) = codes "NotWord"
+chunk_fault_name (StartHigh start seq) = codes "StartHigh"
+
+-- a line of its own
+abbrev pub line : List ℕ → List ℕ
+line text = text ++ 10 ∷ []
+
+-- what the line of the sinks' fault says
+abbrev pub sink_fault_text : SinkFault → List ℕ
+sink_fault_text (Outside call) = codes "outside " ++ call_name call
+sink_fault_text (Damaged name at) = codes "damaged " ++ (name ++ 32 ∷ decimal at)
+sink_fault_text (Spent born) = codes "spent " ++ decimal born
+sink_fault_text NoMemory = []
+
+-- the code of the reply
+abbrev pub code_of : Outcome → ℕ
+code_of (Refused fault) = fault_code fault
+code_of (BadPost fault) = 400
+code_of (Lines acks) = 200
+code_of (Fails fault) = 503
+
+-- its body
+abbrev pub body_of : Outcome → List ℕ
+body_of (Refused fault) = line (fault_name fault)
+body_of (BadPost fault) = line (chunk_fault_name fault)
+body_of (Lines acks) = acks_text acks
+body_of (Fails fault) = line (sink_fault_text fault)
+
+-- the reply
+abbrev pub reply_of : Outcome → List ℕ
+reply_of o = written_reply (code_of o) (phrase_of (code_of o)) (body_of o)
+
+-- why a request is refused, by its bytes alone
+abbrev pub IsRefusal : List ℕ → HttpFault → Type 0
+IsRefusal bytes BadHead = IsBadHead bytes
+IsRefusal bytes NoLength = IsWithoutLength bytes
+IsRefusal bytes TooLarge = IsTooLarge bytes
+IsRefusal bytes NotYet = IsNotYet bytes
+IsRefusal bytes BadPath = IsBadPath bytes
+IsRefusal bytes BadMethod = IsBadMethod bytes
+IsRefusal bytes BadLine = IsBadQuery bytes
+
+-- the bytes are no request, for this reason, and where one of these reasons is there it is that one
+pub record RefusedBy (bytes : List ℕ) (fault : HttpFault) : Type 0 where
+  pub no_request : IsRequest bytes → ⊥
+  pub reason : IsRefusal bytes fault
+  pub bad_path : IsBadPath bytes → fault ≡ BadPath
+  pub bad_method : IsBadMethod bytes → fault ≡ BadMethod
+  pub bad_line : IsBadQuery bytes → fault ≡ BadLine
+  pub no_length : IsWithoutLength bytes → fault ≡ NoLength
+  pub bad_length : HasBadLength bytes → fault ≡ BadHead
+  pub endless : IsEndlessRequest bytes → fault ≡ TooLarge
+  pub long_body : HasLongBody bytes → fault ≡ TooLarge
+  pub cut_body : HasCutBody bytes → fault ≡ NotYet
+
+-- the bytes begin with a request to post a body that is no post, and this is the first thing wrong in it
+pub record BadPostBy (bytes : List ℕ) (fault : ChunkFault) : Type 0 where
+  pub body : List ℕ
+  pub request : PostRequest body bytes
+  pub first : post_fault body ≡ Some fault
+  pub no_post : (chunks : List Chunk) → IsPostOf chunks bytes → ⊥
+
+-- the bytes are a post, with one line for each chunk, or a poll, with one line for each stem, in order
+abbrev pub HasLines : List ℕ → List Ack → Type 0
+HasLines bytes acks =
+    ((chunks : List Chunk) × IsPostOf chunks bytes × (length acks ≡ length chunks))
+    ⊎ ((stems : List Stem) × PollRequest stems bytes × (map (λ a. a.stem) acks ≡ stems))
+
+-- a put finds nothing damaged, and a question no number spent
+abbrev pub MayFail : List ℕ → SinkFault → Type 0
+MayFail bytes (Damaged name at) = (stems : List Stem) × PollRequest stems bytes
+MayFail bytes (Spent born) = (chunks : List Chunk) × IsPostOf chunks bytes
+MayFail bytes fault = IsRequest bytes
+
+-- which requests come to this
+abbrev pub IsOutcomeOf : List ℕ → Outcome → Type 0
+IsOutcomeOf bytes (Refused fault) = RefusedBy bytes fault
+IsOutcomeOf bytes (BadPost fault) = BadPostBy bytes fault
+IsOutcomeOf bytes (Lines acks) = HasLines bytes acks
+IsOutcomeOf bytes (Fails fault) = MayFail bytes fault
+
+-- only where a call of the outside failed does the count of faults rise
+abbrev pub OutcomeCause : ℕ → ℕ → Outcome → Type 0
+OutcomeCause before now (Fails fault) = SinkCause {T = Unit {0}} before now (Err fault)
+OutcomeCause before now o = now ≡ before
+
+-- the call that failed is the last one, where the site wasn't stopped
+abbrev pub OutcomeLast : Outcome → History → History → Type 0
+OutcomeLast (Fails fault) added history = FailsLast {T = Unit {0}} (Err fault) added history
+OutcomeLast o added history = Unit {0}
+
+-- the file that is damaged is one that an own step showed so
+abbrev pub OutcomeDamage : Outcome → History → History → Type 0
+OutcomeDamage (Fails (Damaged name at)) added history = (damage_in added ≡ Some name) × (at ≡ 0)
+OutcomeDamage o added history = Unit {0}
+
+-- a number is spent only where the last sink of the start was created and none is written to
+abbrev pub OutcomeSpent : State → State → Outcome → Type 0
+OutcomeSpent old new (Fails (Spent born)) = (born ≡ old.born) × (new.current ≡ None) × (new.number ≡ last_number)
+OutcomeSpent old new o = Unit {0}
+
+-- where the request is refused nothing is called, and nothing changes
+abbrev pub Untouched : State → State → Option History → Option History → Outcome → Type 0
+Untouched old new told_before told_after (Refused fault) = (new ≡ old) × (told_after ≡ told_before)
+Untouched old new told_before told_after (BadPost fault) = (new ≡ old) × (told_after ≡ told_before)
+Untouched old new told_before told_after o = Unit {0}
+
+-- what is replied to a request: by its bytes and by what came of the sinks' calls
+pub record Replied (request : List ℕ) (old new : State) (before now : ℕ) (told_before told_after : Option History)
+    (reply : List ℕ) : Type 0 where
+  pub outcome : Outcome
+  pub is : reply ≡ reply_of outcome
+  pub by_bytes : IsOutcomeOf request outcome
+  pub cause : OutcomeCause before now outcome
+  pub last : Adds told_before told_after (OutcomeLast outcome)
+  pub damaged : Adds told_before told_after (OutcomeDamage outcome)
+  pub spent : OutcomeSpent old new outcome
+  pub untouched : Untouched old new told_before told_after outcome
