@@ -1,5 +1,5 @@
 -- Which replies a collector may send.
-use Rattle.std.proofs.Common.{◌≡◌, inl, inr, ℕ, ◌≤◌, ◌==◌, true, false, List, ◌∷◌, length, map, Option, Some, Result, Ok, Err, refl, sym, ap, subst, ◌∙◌, arith, if◌then◌else◌}
+use Rattle.std.proofs.Common.{◌≡◌, inl, inr, ℕ, ◌≤◌, ◌==◌, true, false, List, [], ◌∷◌, length, map, Option, Some, Result, Ok, Err, refl, sym, ap, subst, ◌∙◌, arith, if◌then◌else◌}
 use Rattle.std.specs.Prelude.{IfOk}
 use Rattle.chk_bytes.specs.Stems.{Stem}
 use Rattle.chk_site.specs.History.{History}
@@ -7,19 +7,21 @@ use Rattle.chk_site.specs.Site.{Adds}
 use Rattle.chk_site.specs.Runs.{Leads}
 use Rattle.chk_site.proofs.Leads.{leads_none}
 use Rattle.chk_chunk.specs.Keys.{Chunk}
-use Rattle.chk_chunk.specs.Posts.{post_limit}
+use Rattle.chk_chunk.specs.Posts.{IsPost, post_limit}
+use Rattle.chk_chunk.proofs.PostGrammar.{one_post}
 use Rattle.chk_message.specs.Messages.{IsPostOf, PollRequest, IsReply}
-use Rattle.chk_message.proofs.Accepted.{IsReply-same}
+use Rattle.chk_message.proofs.Accepted.{PostRequest-same, IsReply-same}
 use Rattle.chk_world.specs.Collectors.{Handling, view, begun, with_appends, handling_of, NoSyncBeforeAnswer, AnswersWell}
 use Rattle.chk_world.specs.Places.{Foreign}
 use Rattle.chk_sink.specs.declared.fault.SinkFault.{SinkFault}
 use Rattle.chk_sink.specs.States.{State, process}
 use Rattle.chk_sink.specs.Held.{Handles}
 use Rattle.chk_sink.specs.Closes.{OnceDone}
-use Rattle.chk_collector.specs.Answering.{Taken, MayAnswer, Answered}
-use Rattle.chk_collector.specs.Posting.{ArePosted, WroteAll, HasLineEach}
+use Rattle.chk_collector.specs.Answering.{Taken, TellFirst, MayAnswer, Stands, Answered}
+use Rattle.chk_collector.specs.Posting.{ArePosted, PutsHold, WroteAll, HasLineEach}
 use Rattle.chk_collector.specs.Polling.{CountedAll, HasLineOf}
 use Rattle.chk_collector.specs.Replies.{code_by, body_by}
+use Rattle.chk_collector.proofs.PutLoop.{no_appends}
 
 -- the last message taken is found
 found : (t : ℕ) (m : Handling) (others : List Handling) → m.taking ≡ t → handling_of t (m ∷ others) ≡ Some m
@@ -45,20 +47,50 @@ not_good : (s : State) (h : History) (m : Option Handling) (code : ℕ) (body re
     → AnswersWell (process s) h m reply
 not_good s h m code body reply other is text good = absurd (other (IsReply-same code 200 body text reply is good).0)
 
+-- ---- what stands in the sinks
+
+-- nothing was appended
+none_stands : (s : State) (t : ℕ) (request : List ℕ) (others : List Handling) (h : History) → Handles s (begun t request ∷ others) h
+    → Stands s t request others h
+none_stands s t request others h x = record {
+  appends = [];
+  handled = subst (λ ms. Handles s ms h) (no_appends (begun t request ∷ others)) x;
+  first = λ chunks post. tt;
+  none = λ no. refl;
+}
+
+-- a message is a post of these chunks alone
+same_chunks : (chunks others : List Chunk) (bytes : List ℕ) → IsPostOf chunks bytes → IsPostOf others bytes → chunks ≡ others
+same_chunks chunks others bytes p q =
+    one_post chunks others p.0 p.2 (subst (λ (body : List ℕ). IsPost others body) (sym (PostRequest-same p.0 q.0 bytes p.1 q.1)) q.2)
+
+-- the records of a post's first chunks
+post_stands : (s : State) (t : ℕ) (request : List ℕ) (others : List Handling) (chunks : List Chunk) (lines : List ℕ) (done : Result (Unit {0}) SinkFault)
+    (h : History) → IsPostOf chunks request → PutsHold s (begun t request ∷ others) chunks lines done h → Stands s t request others h
+post_stands s t request others chunks lines done h post q = record {
+  appends = q.appends;
+  handled = q.handles;
+  first = λ same is. subst (λ (cs : List Chunk). TellFirst cs q.appends) (same_chunks chunks same request post is) q.first;
+  none = λ no. absurd (no chunks post);
+}
+
 -- ---- where nothing was called
 
 pub refused_told : {E : Type 0} (stamped : List (List ℕ)) (s : State) (t : ℕ) (request : List ℕ) (others : List Handling) (code : ℕ) (body : List ℕ)
     (result : Result (List ℕ) E) (now : Option History) → (code ≡ 200 → ⊥) → IfOk result (IsReply code body)
-    → Adds now now (Leads (Foreign stamped (process s)) (Taken stamped s t request others) (Answered stamped s t result))
+    → Adds now now (Leads (Foreign stamped (process s)) (Taken stamped s t request others) (Answered stamped s t request others result))
 refused_told stamped s t request others code body (Ok reply) now other is =
     leads_none now
     (λ h x. record {
       legal = x.legal;
       may_act = x.may_act;
-      alive = λ r. may_answer s (begun t request) others reply h refl (x.alive r) (not_good s h (Some (begun t request)) code body reply other is);
+      alive = λ r. record {
+        answer = may_answer s (begun t request) others reply h refl (x.alive r) (not_good s h (Some (begun t request)) code body reply other is);
+        stands = none_stands s t request others h (x.alive r);
+      };
     })
 refused_told stamped s t request others code body (Err fault) now other is =
-    leads_none now (λ h x. record { legal = x.legal; may_act = x.may_act; alive = λ r. (x.alive r).holds })
+    leads_none now (λ h x. record { legal = x.legal; may_act = x.may_act; alive = λ r. none_stands s t request others h (x.alive r) })
 
 -- ---- a post
 
@@ -77,18 +109,22 @@ are_posted t request others chunks post c one = record {
 pub post_told : {E : Type 0} (stamped : List (List ℕ)) (s : State) (t : ℕ) (request : List ℕ) (others : List Handling) (chunks : List Chunk)
     (lines : List ℕ) (done : Result (Unit {0}) SinkFault) (result : Result (List ℕ) E) → IsPostOf chunks request → OnceDone done (length lines ≤ post_limit)
     → IfOk result (λ reply. OnceDone done (length lines ≤ post_limit) → IsReply (code_by done) (body_by done lines) reply)
-    → (h : History) → WroteAll stamped s (begun t request ∷ others) chunks lines done h → Answered stamped s t result h
+    → (h : History) → WroteAll stamped s (begun t request ∷ others) chunks lines done h → Answered stamped s t request others result h
 post_told stamped s t request others chunks lines (Ok value) (Ok reply) post short accepted h x = record {
   legal = x.legal;
   may_act = x.may_act;
   alive = λ r.
       let q = x.alive r in
-      may_answer s (with_appends q.appends (begun t request)) (map (with_appends q.appends) others) reply h refl q.handles
-      (λ text good. (
-        q.told.acks,
-        (IsReply-same 200 200 text lines reply good (accepted short)).1 ∙ q.told.lines_are,
-        inl record { newest = refl; open_yet = refl; chunks = chunks; post = post; lines = q.told.tell },
-      ));
+      record {
+        answer =
+            may_answer s (with_appends q.appends (begun t request)) (map (with_appends q.appends) others) reply h refl q.handles
+            (λ text good. (
+              q.told.acks,
+              (IsReply-same 200 200 text lines reply good (accepted short)).1 ∙ q.told.lines_are,
+              inl record { newest = refl; open_yet = refl; chunks = chunks; post = post; lines = q.told.tell },
+            ));
+        stands = post_stands s t request others chunks lines (Ok value) h post q;
+      };
 }
 post_told stamped s t request others chunks lines (Err fault) (Ok reply) post short accepted h x = record {
   legal = x.legal;
@@ -96,39 +132,50 @@ post_told stamped s t request others chunks lines (Err fault) (Ok reply) post sh
   alive = λ r.
       let q = x.alive r in
       let m = with_appends q.appends (begun t request) in
-      may_answer s m (map (with_appends q.appends) others) reply h refl q.handles
-      (not_good s h (Some m) 503 (body_by (Err fault) lines) reply (λ e. omega (arith, e)) (accepted tt));
+      record {
+        answer =
+            may_answer s m (map (with_appends q.appends) others) reply h refl q.handles
+            (not_good s h (Some m) 503 (body_by (Err fault) lines) reply (λ e. omega (arith, e)) (accepted tt));
+        stands = post_stands s t request others chunks lines (Err fault) h post q;
+      };
 }
 post_told stamped s t request others chunks lines done (Err fault) post short accepted h x =
-    record { legal = x.legal; may_act = x.may_act; alive = λ r. (x.alive r).handles.holds }
+    record { legal = x.legal; may_act = x.may_act; alive = λ r. post_stands s t request others chunks lines done h post (x.alive r) }
 
 -- ---- a poll
 
 pub poll_told : {E : Type 0} (stamped : List (List ℕ)) (s : State) (t : ℕ) (request : List ℕ) (others : List Handling) (stems : List Stem)
     (lines : List ℕ) (done : Result (Unit {0}) SinkFault) (result : Result (List ℕ) E) → PollRequest stems request → OnceDone done (length lines ≤ post_limit)
     → IfOk result (λ reply. OnceDone done (length lines ≤ post_limit) → IsReply (code_by done) (body_by done lines) reply)
-    → (h : History) → CountedAll stamped s (begun t request ∷ others) t stems lines done h → Answered stamped s t result h
+    → (h : History) → CountedAll stamped s (begun t request ∷ others) t stems lines done h → Answered stamped s t request others result h
 poll_told stamped s t request others stems lines (Ok value) (Ok reply) poll short accepted h x = record {
   legal = x.legal;
   may_act = x.may_act;
   alive = λ r.
       let q = x.alive r in
-      may_answer s (begun t request) others reply h refl q.handles
-      (λ text good. (
-        q.told.acks,
-        (IsReply-same 200 200 text lines reply good (accepted short)).1 ∙ q.told.lines_are,
-        inr record { stems = stems; poll = poll; lines = q.told.lengths },
-      ));
+      record {
+        answer =
+            may_answer s (begun t request) others reply h refl q.handles
+            (λ text good. (
+              q.told.acks,
+              (IsReply-same 200 200 text lines reply good (accepted short)).1 ∙ q.told.lines_are,
+              inr record { stems = stems; poll = poll; lines = q.told.lengths },
+            ));
+        stands = none_stands s t request others h q.handles;
+      };
 }
 poll_told stamped s t request others stems lines (Err fault) (Ok reply) poll short accepted h x = record {
   legal = x.legal;
   may_act = x.may_act;
-  alive = λ r.
-      may_answer s (begun t request) others reply h refl (x.alive r).handles
-      (not_good s h (Some (begun t request)) 503 (body_by (Err fault) lines) reply (λ e. omega (arith, e)) (accepted tt));
+  alive = λ r. record {
+    answer =
+        may_answer s (begun t request) others reply h refl (x.alive r).handles
+        (not_good s h (Some (begun t request)) 503 (body_by (Err fault) lines) reply (λ e. omega (arith, e)) (accepted tt));
+    stands = none_stands s t request others h (x.alive r).handles;
+  };
 }
 poll_told stamped s t request others stems lines done (Err fault) poll short accepted h x =
-    record { legal = x.legal; may_act = x.may_act; alive = λ r. (x.alive r).handles.holds }
+    record { legal = x.legal; may_act = x.may_act; alive = λ r. none_stands s t request others h (x.alive r).handles }
 
 -- ---- the lines are short
 

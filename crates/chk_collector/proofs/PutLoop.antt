@@ -46,7 +46,7 @@ same_then a b c x y = record {
   number = omega (arith, x.number, y.number);
 }
 
-no_appends : (handled : List Handling) → handled ≡ map (with_appends []) handled
+pub no_appends : (handled : List Handling) → handled ≡ map (with_appends []) handled
 no_appends [] = refl
 no_appends (m ∷ handled) =
     ap (λ l. record { taking = m.taking; bytes = m.bytes; answered = m.answered; newest = m.newest; synced = m.synced; appends = l } ∷ handled)
@@ -73,7 +73,8 @@ put_begins now n first s chunks lines same none =
             alive = λ r. record {
               appends = [];
               handles = subst (λ ms. Handles first ms h) (no_appends handled) (x.alive r);
-              told = record { acks = []; lines_are = none; tell = tt };
+              first = tt;
+              told = record { acks = []; lines_are = none; tell = tt; each = tt };
             };
           });
       goes_on = adds_none now Whatever (λ h. tt);
@@ -105,7 +106,7 @@ module _ {old now new : Option History} {before count : ℕ} {first s : State} {
   put_told c rest' x n s' lines' more line told stamped handled posted =
       leads_then (so_far.told stamped handled posted)
       (by_same stamped
-      (put_step stamped handled s s' c (Ok (x, n)) (posted c (next_is so_far c rest' more)) so_far.done (so_far.done ++ c ∷ []) lines lines' (Ok tt)
+      (put_step stamped handled s s' c (Ok (x, n)) (posted c (next_is so_far c rest' more)) so_far.done [] (so_far.done ++ c ∷ []) refl lines lines' (Ok tt)
       (λ appends later t a. tells_on so_far.done c x n lines lines' appends later line t a) told))
 
   -- what is told where the puts end with a refusal
@@ -115,7 +116,8 @@ module _ {old now new : Option History} {before count : ℕ} {first s : State} {
   put_fails c rest' result fault s' lines' more told stamped handled posted =
       leads_then (so_far.told stamped handled posted)
       (by_same stamped
-      (put_step stamped handled s s' c result (posted c (next_is so_far c rest' more)) so_far.done chunks lines lines' (Err fault) (λ appends later t a. tt) told))
+      (put_step stamped handled s s' c result (posted c (next_is so_far c rest' more)) so_far.done rest' chunks (so_far.whole ∙ ap (λ l. so_far.done ++ l) more)
+      lines lines' (Err fault) (λ appends later t a. tt) told))
 
   -- one more
   pub put_on : (c : Chunk) (rest' : List Chunk) (x : Stem) (n count' : ℕ) (s' : State) (lines' : List ℕ) {P : History → History → Type 0}

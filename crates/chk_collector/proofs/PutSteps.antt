@@ -1,5 +1,5 @@
 -- The puts of a post's chunks, as far as they've come.
-use Rattle.std.proofs.Common.{◌≡◌, inl, inr, ℕ, Bool, true, false, true≢false, List, [], ◌∷◌, ◌++◌, length, map, Option, Result, Ok, refl, sym, ap, subst, ◌∙◌, arith}
+use Rattle.std.proofs.Common.{◌≡◌, inl, inr, ℕ, Bool, true, false, true≢false, List, [], ◌∷◌, ◌++◌, length, map, Option, Result, Ok, Err, refl, sym, ap, subst, ◌∙◌, append-nil, arith}
 use Rattle.std.specs.Prelude.{Contains}
 use Rattle.std.proofs.lemmas.List.{length-map}
 use Rattle.std.proofs.lemmas.List.Elements.{Contains-append_right}
@@ -14,10 +14,11 @@ use Rattle.chk_world.specs.Places.{Foreign}
 use Rattle.chk_sink.specs.declared.fault.SinkFault.{SinkFault}
 use Rattle.chk_sink.specs.States.{State, process}
 use Rattle.chk_sink.specs.Held.{Handles, Ready}
-use Rattle.chk_sink.specs.Puts.{IsAnswered, Wrote}
+use Rattle.chk_sink.specs.Puts.{IsHeader, AreHeaders, IsAnswered, Wrote}
 use Rattle.chk_sink.specs.Closes.{OnceDone}
 use Rattle.chk_sink.proofs.Putting.{posted_on, appends_join}
-use Rattle.chk_collector.specs.Posting.{TellAppends, WroteAll}
+use Rattle.chk_collector.specs.Answering.{TellFirst}
+use Rattle.chk_collector.specs.Posting.{TellEach, TellAppends, WroteAll}
 use Rattle.chk_collector.proofs.Family.{leads_family}
 use Rattle.chk_collector.proofs.Lines.{acks_text-more}
 
@@ -42,7 +43,54 @@ tell_more (d ∷ cs) (b ∷ acks) [] earlier c a w h t = absurd h
 tell_more (d ∷ cs) (b ∷ acks) (v ∷ ws) earlier c a w (inl h) t = inl (h.0, tell_more cs acks ws earlier c a w h.1 t)
 tell_more (d ∷ cs) (b ∷ acks) (v ∷ ws) earlier c a w (inr h) t = inr (tell_more (d ∷ cs) (b ∷ acks) ws earlier c a w h t)
 
--- the line of a chunk that was put
+-- an append's own end and sink
+tells_itself : (c : Chunk) (a : Ack) (w : Appended) → Tells c a w → Tells c (ack_of w.stem w.end) w
+tells_itself c a w t = record { stem = refl; end = refl; entry = t.entry; is = t.is; piece = t.piece }
+
+-- one more record, behind headers
+each_behind : (c : Chunk) (headers : List Appended) (w : Appended) → AreHeaders headers → Tells c (ack_of w.stem w.end) w
+    → TellEach (c ∷ []) (headers ++ w ∷ [])
+each_behind c [] w h t = inr (t, tt)
+each_behind c (v ∷ headers) w h t = inl (h.0, each_behind c headers w h.1 t)
+
+each_more : (cs : List Chunk) (ws headers : List Appended) (c : Chunk) (w : Appended) → TellEach cs ws → AreHeaders headers
+    → Tells c (ack_of w.stem w.end) w → TellEach (cs ++ c ∷ []) (ws ++ (headers ++ w ∷ []))
+each_more [] [] headers c w e h t = each_behind c headers w h t
+each_more [] (v ∷ ws) headers c w e h t = inl (e.0, each_more [] ws headers c w e.1 h t)
+each_more (d ∷ cs) [] headers c w e h t = absurd e
+each_more (d ∷ cs) (v ∷ ws) headers c w (inl e) h t = inl (e.0, each_more (d ∷ cs) ws headers c w e.1 h t)
+each_more (d ∷ cs) (v ∷ ws) headers c w (inr e) h t = inr (e.0, each_more cs ws headers c w e.1 h t)
+
+-- ---- the first chunks
+
+header_before : (cs : List Chunk) (w : Appended) (ws : List Appended) → IsHeader w → TellFirst cs ws → TellFirst cs (w ∷ ws)
+header_before [] w ws h f = (h, f)
+header_before (c ∷ cs) w ws h f = inl (h, f)
+
+headers_before : (cs : List Chunk) (headers ws : List Appended) → AreHeaders headers → TellFirst cs ws → TellFirst cs (headers ++ ws)
+headers_before cs [] ws h f = f
+headers_before cs (w ∷ headers) ws h f = header_before cs w (headers ++ ws) h.0 (headers_before cs headers ws h.1 f)
+
+-- a put appended the chunk's record, or none
+answered_first : (c : Chunk) (rest : List Chunk) (result : Result (Stem × ℕ) SinkFault) (more : List Appended) → IsAnswered c result more
+    → TellFirst (c ∷ rest) more
+answered_first c rest (Ok placed) more answer =
+    subst (λ ws. TellFirst (c ∷ rest) ws) (sym answer.is)
+    (headers_before (c ∷ rest) answer.earlier (answer.last ∷ []) answer.begins
+    (inr (tells_itself c (ack_of placed.0 placed.1) answer.last answer.tells, tt)))
+answered_first c rest (Err fault) more answer =
+    subst (λ ws. TellFirst (c ∷ rest) ws) (append-nil more) (headers_before (c ∷ rest) more [] answer tt)
+
+-- behind a record for each of the chunks before
+each_then : (cs rest : List Chunk) (ws more : List Appended) → TellEach cs ws → TellFirst rest more → TellFirst (cs ++ rest) (ws ++ more)
+each_then [] rest [] more e f = f
+each_then [] rest (w ∷ ws) more e f = header_before rest w (ws ++ more) e.0 (each_then [] rest ws more e.1 f)
+each_then (c ∷ cs) rest [] more e f = absurd e
+each_then (c ∷ cs) rest (w ∷ ws) more (inl e) f = inl (e.0, each_then (c ∷ cs) rest ws more e.1 f)
+each_then (c ∷ cs) rest (w ∷ ws) more (inr e) f = inr (e.0, each_then cs rest ws more e.1 f)
+
+-- ---- the line of a chunk that was put
+
 pub tells_on : (cs : List Chunk) (c : Chunk) (x : Stem) (n : ℕ) (lines lines' : List ℕ) (appends more : List Appended) → lines' ≡ lines ++ ack_text (ack_of x n)
     → TellAppends cs lines appends → IsAnswered c (Ok (x, n)) more → TellAppends (cs ++ c ∷ []) lines' (appends ++ more)
 tells_on cs c x n lines lines' appends more line told answer = record {
@@ -50,6 +98,8 @@ tells_on cs c x n lines lines' appends more line told answer = record {
   lines_are = line ∙ (ap (λ t. t ++ ack_text (ack_of x n)) told.lines_are ∙ acks_text-more told.acks (ack_of x n));
   tell = subst (λ ws. TellAll (cs ++ c ∷ []) (told.acks ++ ack_of x n ∷ []) (appends ++ ws)) (sym answer.is)
       (tell_more cs told.acks appends answer.earlier c (ack_of x n) answer.last told.tell answer.tells);
+  each = subst (λ ws. TellEach (cs ++ c ∷ []) (appends ++ ws)) (sym answer.is)
+      (each_more cs appends answer.earlier c answer.last told.each answer.begins (tells_itself c (ack_of x n) answer.last answer.tells));
 }
 
 -- ---- one put
@@ -80,7 +130,7 @@ never_more hs handled m a b e f =
     omega (arith, ap length e, ap length f, length-map handled (with_appends a), length-map handled (with_appends b))
 
 module _ (stamped : List (List ℕ)) (handled : List Handling) (s s' : State) (c : Chunk) (result : Result (Stem × ℕ) SinkFault) (posted : IsPosted handled c)
-    (done chunks : List Chunk) (lines lines' : List ℕ) (final : Result (Unit {0}) SinkFault) where
+    (done rest chunks : List Chunk) (whole : chunks ≡ done ++ c ∷ rest) (lines lines' : List ℕ) (final : Result (Unit {0}) SinkFault) where
   -- the messages that may have been taken
   abbrev Takings : Type 0
   Takings = (hs : List Handling) × IsPosted hs c
@@ -123,6 +173,9 @@ module _ (stamped : List (List ℕ)) (handled : List Handling) (s s' : State) (c
           appends = q.appends ++ (one.alive r).appends;
           handles =
               subst (λ ms. Handles s' ms (added ++ h)) (appends_join handled q.appends (one.alive r).appends) (one.alive r).handles;
+          first = subst (λ cs. TellFirst cs (q.appends ++ (one.alive r).appends)) (sym whole)
+              (each_then done (c ∷ rest) q.appends (one.alive r).appends q.told.each
+              (answered_first c rest result (one.alive r).appends (one.alive r).answer));
           told = line q.appends (one.alive r).appends q.told (one.alive r).answer;
         };
       }

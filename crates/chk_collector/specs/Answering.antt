@@ -1,11 +1,14 @@
 -- What the told history holds before a request is answered, and behind it.
-use Rattle.std.specs.Prelude.{ℕ, List, ◌∷◌, Result, Ok, Err}
+use Rattle.std.specs.Prelude.{◌≡◌, ◌⊎◌, ℕ, List, [], ◌∷◌, map, Result, Ok, Err}
 use Rattle.chk_site.specs.Acts.{Answers}
 use Rattle.chk_site.specs.History.{History}
-use Rattle.chk_world.specs.Collectors.{Handling, CollectorRule, begun, view}
+use Rattle.chk_chunk.specs.Keys.{Chunk}
+use Rattle.chk_message.specs.Messages.{IsPostOf, ack_of}
+use Rattle.chk_world.specs.Collectors.{Handling, Appended, CollectorRule, Tells, begun, view, with_appends}
 use Rattle.chk_world.specs.Places.{AtTold}
 use Rattle.chk_sink.specs.States.{State, process}
-use Rattle.chk_sink.specs.Held.{Holds, Matches, Ready}
+use Rattle.chk_sink.specs.Held.{Holds, Handles, Ready}
+use Rattle.chk_sink.specs.Puts.{IsHeader}
 
 -- these bytes are all that the collector got of the message that it took last, and it has done nothing since; before
 -- it took the others
@@ -17,7 +20,27 @@ pub record MayAnswer (s : State) (t : ℕ) (reply : List ℕ) (history : History
   pub holds : Holds s history
   pub may : CollectorRule (process s) history (view (process s) history) (Answers t reply)
 
+-- the appends are headers of sinks, and records of the first of these chunks, in order and one each
+abbrev pub TellFirst : List Chunk → List Appended → Type 0
+TellFirst chunks [] = Unit {0}
+TellFirst [] (w ∷ appends) = IsHeader w × TellFirst [] appends
+TellFirst (c ∷ cs) (w ∷ appends) =
+    (IsHeader w × TellFirst (c ∷ cs) appends) ⊎ (Tells c (ack_of w.stem w.end) w × TellFirst cs appends)
+
+-- What stands in the sinks behind a request, whatever its reply. The history holds the sinks, and since the message was
+-- taken these appends were made: of a post the records of its first chunks, and of any other message none.
+pub record Stands (s : State) (t : ℕ) (request : List ℕ) (others : List Handling) (history : History) : Type 0 where
+  pub appends : List Appended
+  pub handled : Handles s (map (with_appends appends) (begun t request ∷ others)) history
+  pub first : (chunks : List Chunk) → IsPostOf chunks request → TellFirst chunks appends
+  pub none : ((chunks : List Chunk) → IsPostOf chunks request → ⊥) → appends ≡ []
+
+-- the reply may be the answer to this taking, and what was appended since stands
+pub record AnsweredSo (s : State) (t : ℕ) (request : List ℕ) (others : List Handling) (reply : List ℕ) (history : History) : Type 0 where
+  pub answer : MayAnswer s t reply history
+  pub stands : Stands s t request others history
+
 -- the same of a told history; without memory there is no reply
-abbrev pub Answered : {E : Type 0} → List (List ℕ) → State → ℕ → Result (List ℕ) E → History → Type 0
-Answered stamped s t (Ok reply) history = AtTold stamped (process s) (MayAnswer s t reply) history
-Answered stamped s t (Err fault) history = Matches stamped s history
+abbrev pub Answered : {E : Type 0} → List (List ℕ) → State → ℕ → List ℕ → List Handling → Result (List ℕ) E → History → Type 0
+Answered stamped s t request others (Ok reply) history = AtTold stamped (process s) (AnsweredSo s t request others reply) history
+Answered stamped s t request others (Err fault) history = AtTold stamped (process s) (Stands s t request others) history

@@ -83,7 +83,8 @@ impl Collector {
     ) -> Result<Bytes, NoMemory>
         ensures told { (stamped : List (List ℕ)) (t : ℕ) (others : List Handling)
             → Adds (S.told site.old) (S.told site.new) (Leads (Foreign stamped (process self.old))
-            (Taken stamped self.old t request.now others) (Answered stamped self.new t result)) }
+            (Taken stamped self.old t request.now others)
+            (Answered stamped self.new t request.now others result)) }
         ensures replied { IfOk result (Replied request.now self.old self.new (S.fault_count site.old)
             (S.fault_count site.new) (S.told site.old) (S.told site.new)) }
         ensures same { IsSameStart self.old self.new }
@@ -106,7 +107,7 @@ impl Collector {
         ensures told { (stamped : List (List ℕ)) (t : ℕ) (request : List ℕ) (others : List Handling)
             → PostRequest body.now request → Adds (S.told site.old) (S.told site.new)
             (Leads (Foreign stamped (process self.old)) (Taken stamped self.old t request others)
-            (Answered stamped self.new t result)) }
+            (Answered stamped self.new t request others result)) }
         ensures replied { (request : List ℕ) → PostRequest body.now request → IfOk result
             (Replied request self.old self.new (S.fault_count site.old) (S.fault_count site.new)
             (S.told site.old) (S.told site.new)) }
@@ -160,7 +161,7 @@ impl Collector {
         ensures told { (stamped : List (List ℕ)) (t : ℕ) (request : List ℕ) (others : List Handling)
             → AsksFor query.now request → Adds (S.told site.old) (S.told site.new)
             (Leads (Foreign stamped (process self.now)) (Taken stamped self.now t request others)
-            (Answered stamped self.now t result)) }
+            (Answered stamped self.now t request others result)) }
         ensures replied { (request : List ℕ) → AsksFor query.now request → IfOk result
             (Replied request self.now self.now (S.fault_count site.old) (S.fault_count site.new)
             (S.told site.old) (S.told site.new)) }

@@ -175,6 +175,32 @@ fn thousand_chunks(rt: HostRuntime) -> Result<(), Fail> {
     is_reply_of(reply.as_slice(), 1005, b"\nc1.1.1 48556\n")
 }
 
+// The second chunk's append fails: the first one stands in the sink, and 20 bytes of the second.
+#[test]
+fn chunks_before_stand(rt: HostRuntime) -> Result<(), Fail> {
+    let alloc = rt.alloc();
+    let mut site = SiteMem::new(alloc, failing(alloc, 12)?)?;
+    let mut collector = start(alloc, &mut site)?;
+    let request = thousand(alloc)?;
+    let line = b"outside append\n";
+    replies(
+        alloc,
+        &mut site,
+        &mut collector,
+        request.as_slice(),
+        UNAVAILABLE,
+        line,
+    )?;
+    stands(&site)
+}
+
+fn stands(site: &SiteMem) -> Result<(), Fail> {
+    match site.file("sinks/c1.1.1.chukwa") {
+        Some(bytes) => expect(bytes.len() == 164, "not the first chunk"),
+        None => Err(Fail::from("no sink")),
+    }
+}
+
 // The poll for the sinks c9.1.1 to c9.1.64.
 fn many(alloc: Global) -> Result<Bytes, Fail> {
     let mut request = Bytes::new(alloc);

@@ -18,24 +18,30 @@ use Rattle.chk_world.specs.Places.{Foreign}
 use Rattle.chk_sink.specs.declared.fault.SinkFault.{SinkFault}
 use Rattle.chk_sink.specs.States.{State, Writing, process, next_stem, with_current, one_more, counted}
 use Rattle.chk_sink.specs.Held.{Handles, Ready}
-use Rattle.chk_sink.specs.Puts.{IsAnswered, Wrote}
+use Rattle.chk_sink.specs.Puts.{IsAnswered, AreHeaders, Wrote}
 use Rattle.chk_sink.proofs.Creating.{empty_writing, with_empty, create_done, create_ends}
 use Rattle.chk_sink.proofs.Appending.{grown_writing, append_of, append_done, append_ends}
 use Rattle.chk_sink.proofs.Putting.{posted_on, appends_join, piece_of, longer_writing, put_done, put_failed, put_ended}
 
--- the appends of an earlier part of the put count too
-answered_more : (c : Chunk) (result : Result (Stem × ℕ) SinkFault) (a b : List Appended) → IsAnswered c result b → IsAnswered c result (a ++ b)
-answered_more c (Ok placed) a b h = record {
+headers_more : (a b : List Appended) → AreHeaders a → AreHeaders b → AreHeaders (a ++ b)
+headers_more [] b x y = y
+headers_more (w ∷ a) b x y = (x.0, headers_more a b x.1 y)
+
+-- the headers of an earlier part of the put count too
+answered_more : (c : Chunk) (result : Result (Stem × ℕ) SinkFault) (a b : List Appended) → AreHeaders a → IsAnswered c result b
+    → IsAnswered c result (a ++ b)
+answered_more c (Ok placed) a b x h = record {
   earlier = a ++ h.earlier;
   last = h.last;
   is = ap (λ l. a ++ l) h.is ∙ sym (append_assoc a h.earlier (h.last ∷ []));
+  begins = headers_more a h.earlier x h.begins;
   tells = h.tells;
 }
-answered_more c (Err fault) a b h = tt
+answered_more c (Err fault) a b x h = headers_more a b x h
 
 pub more_appends : (stamped : List (List ℕ)) (s : State) (messages : List Handling) (a : List Appended) (c : Chunk) (result : Result (Stem × ℕ) SinkFault)
-    (h : History) → Wrote stamped s (map (with_appends a) messages) c result h → Wrote stamped s messages c result h
-more_appends stamped s messages a c result h x = record {
+    → AreHeaders a → (h : History) → Wrote stamped s (map (with_appends a) messages) c result h → Wrote stamped s messages c result h
+more_appends stamped s messages a c result headers h x = record {
   legal = x.legal;
   may_act = x.may_act;
   alive = λ r.
@@ -43,7 +49,7 @@ more_appends stamped s messages a c result h x = record {
       record {
         appends = a ++ p.appends;
         handles = subst (λ ms. Handles s ms h) (appends_join messages a p.appends) p.handles;
-        answer = answered_more c result a p.appends p.answer;
+        answer = answered_more c result a p.appends headers p.answer;
       };
 }
 
@@ -123,7 +129,7 @@ module _ (stamped : List (List ℕ)) (s : State) (messages : List Handling) (nam
           → Adds old new (Leads (Foreign stamped (process s)) (Ready stamped s messages) (Wrote stamped (one_more s) messages c (Err told_as)))
       next_unfilled w v u w_is v_is u_is given given' given'' fault told_as d told d' told' ends told'' =
           leads_then (head_done w v w_is v_is given given' d told d' told')
-          (leads_as (λ h x. x) (more_appends stamped (one_more s) messages head_append c (Err told_as))
+          (leads_as (λ h x. x) (more_appends stamped (one_more s) messages head_append c (Err told_as) (refl, tt))
           (put_ended stamped headed first_writing (map (with_appends head_append) messages) c key value named refl good (omega arith) posted_then is value_is
           u u_is given'' fault told_as ends told''))
 
@@ -137,6 +143,6 @@ module _ (stamped : List (List ℕ)) (s : State) (messages : List Handling) (nam
           (Wrote stamped (with_current headed (Some (longer_writing first_writing first_piece))) messages c (Ok (X, 96 + length first_piece))))
       next_done w v u w_is v_is u_is given given' given'' d told d' told' d'' told'' =
           leads_then (head_done w v w_is v_is given given' d told d' told')
-          (leads_as (λ h x. x) (more_appends stamped (with_current headed (Some (longer_writing first_writing first_piece))) messages head_append c (Ok (X, 96 + length first_piece)))
+          (leads_as (λ h x. x) (more_appends stamped (with_current headed (Some (longer_writing first_writing first_piece))) messages head_append c (Ok (X, 96 + length first_piece)) (refl, tt))
           (put_done stamped headed first_writing (map (with_appends head_append) messages) c key value named refl good (omega arith) posted_then is value_is
           u u_is given'' d'' told''))

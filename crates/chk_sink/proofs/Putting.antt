@@ -121,7 +121,7 @@ put_done stamped s o messages c key value named some good begun posted is v w w_
         appends = append_of s o piece ∷ [];
         handles = subst (λ q. Handles (with_current s (Some q)) (map (with_appends (append_of s o piece ∷ [])) messages) h)
             (longer_grown o piece begun) (x.alive r);
-        answer = record { earlier = []; last = append_of s o piece; is = refl; tells = entry_tells s o c key value is v };
+        answer = record { earlier = []; last = append_of s o piece; is = refl; begins = tt; tells = entry_tells s o c key value is v };
       };
     })
     (append_done stamped s o messages named some good w w_is piece (entry_next messages s o c key value posted is v begun) given done told)

@@ -2,29 +2,40 @@
 use Rattle.std.specs.Prelude.{◌≡◌, ◌⊎◌, ℕ, List, [], ◌∷◌, ◌++◌, map, Option, Some, None, Result, Ok, Err}
 use Rattle.chk_bytes.specs.Stems.{Stem}
 use Rattle.chk_site.specs.History.{History}
+use Rattle.chk_seqfile.specs.Headers.{header}
 use Rattle.chk_chunk.specs.Keys.{Chunk}
 use Rattle.chk_message.specs.Messages.{ack_of}
-use Rattle.chk_world.specs.Collectors.{Handling, Appended, Tells, with_appends}
+use Rattle.chk_world.specs.Collectors.{Handling, Appended, Tells, marker, with_appends}
 use Rattle.chk_world.specs.Places.{AtTold}
 use Rattle.chk_sink.specs.declared.fault.SinkFault.{SinkFault}
 use Rattle.chk_sink.specs.declared.fault.SinkFault.TheVariants.{Outside, Damaged, Spent, NoMemory}
 use Rattle.chk_sink.specs.States.{State, Writing, process, last_stem, let_go, IsAbandoned, IsSpent}
 use Rattle.chk_sink.specs.Held.{Handles}
 
--- the last one of these appends wrote the chunk's record where the answer says
+-- the append wrote a sink's header
+abbrev pub IsHeader : Appended → Type 0
+IsHeader w = w.piece ≡ header (marker w.stem)
+
+-- each of them did
+abbrev pub AreHeaders : List Appended → Type 0
+AreHeaders [] = Unit {0}
+AreHeaders (w ∷ appends) = IsHeader w × AreHeaders appends
+
+-- the last one of these appends wrote the chunk's record where the answer says, and the others wrote headers
 pub record EndsInRecord (c : Chunk) (x : Stem) (end : ℕ) (appends : List Appended) : Type 0 where
   pub earlier : List Appended
   pub last : Appended
   pub is : appends ≡ earlier ++ last ∷ []
+  pub begins : AreHeaders earlier
   pub tells : Tells c (ack_of x end) last
 
--- so it is where the put was done
+-- so it is where the put was done; a refused put wrote no record
 abbrev pub IsAnswered : Chunk → Result (Stem × ℕ) SinkFault → List Appended → Type 0
 IsAnswered c (Ok placed) appends = EndsInRecord c placed.0 placed.1 appends
-IsAnswered c (Err fault) appends = Unit {0}
+IsAnswered c (Err fault) appends = AreHeaders appends
 
--- the history holds the sinks, and since these messages were taken the put made some appends, of which the last is
--- the chunk's
+-- the history holds the sinks, and since these messages were taken the put made some appends: the header of a new
+-- sink, and as the last one the chunk's record
 pub record PutHolds (s : State) (handled : List Handling) (c : Chunk) (result : Result (Stem × ℕ) SinkFault)
     (history : History) : Type 0 where
   pub appends : List Appended
