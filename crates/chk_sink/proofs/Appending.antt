@@ -21,6 +21,7 @@ use Rattle.chk_world.specs.Places.{Foreign, AtTold}
 use Rattle.chk_world.proofs.Ends.{bytes_self}
 use Rattle.chk_world.proofs.NameLemmas.{read-spell}
 use Rattle.chk_world.proofs.NameTests.{same_name, stem_self}
+use Rattle.chk_world.proofs.Kept.{there}
 use Rattle.chk_world.proofs.OwnFiles.{done_file, done_present}
 use Rattle.chk_world.proofs.ToldCalls.{GoesOn, MayCall, LeavesCall, goes_on_done, told_done, told_ends}
 use Rattle.chk_world.proofs.CollectorCalls.{own_sight, collector_rule}
@@ -47,10 +48,6 @@ append_of s o piece = record { stem = last_stem s; piece = piece; end = o.size +
 -- the sink that is written to, as the collector's rule sees it
 abbrev pub current_of : State → Writing → Current
 current_of s o = record { stem = last_stem s; sync_end = o.sync_end }
-
-there : (o : Option File) {P : File → Type 0} → HasFile o P → (f : File) × (o ≡ Some f) × P f
-there None h = absurd h
-there (Some f) h = (f, refl, h)
 
 -- the messages after an append of a sink that was done
 done_handled : (w piece : List ℕ) (n : Name) (reads : read w ≡ n) (after : Files) (hs : List Handling) (answer : ActAnswer) → is_done answer ≡ true

@@ -1,9 +1,7 @@
 -- What the questions for a sink's committed length lead to.
-use Rattle.std.proofs.Common.{◌≡◌, inl, ℕ, ◌≤◌, ◌<◌, true, ◌&&◌, ◌==◌, List, [], ◌∷◌, ◌++◌, length, take, drop, Option, Some, None, Result, ap, sym, subst, ◌∙◌, refl, arith}
-use Rattle.std.specs.Prelude.{IsTrue, nat_le, nat_lt}
-use Rattle.std.proofs.lemmas.Bool.{and_from}
-use Rattle.std.proofs.lemmas.List.{take_all}
-use Rattle.chk_bytes.specs.Numbers.{spelled, limit}
+use Rattle.std.proofs.Common.{◌≡◌, inl, ℕ, ◌≤◌, ◌<◌, true, List, [], ◌∷◌, ◌++◌, length, take, drop, Option, Some, None, Result, ap, sym, subst, ◌∙◌, refl, arith}
+use Rattle.std.specs.Prelude.{IsTrue}
+use Rattle.chk_bytes.specs.Numbers.{spelled}
 use Rattle.chk_bytes.specs.Stems.{Stem, is_stem, is_collector}
 use Rattle.chk_site.specs.declared.acts.Call.TheVariants.{Size, Read}
 use Rattle.chk_site.specs.declared.acts.CallFault.{CallFault}
@@ -27,7 +25,9 @@ use Rattle.chk_world.proofs.ToldCalls.{GoesOn, MayCall, LeavesCall, goes_on_take
 use Rattle.chk_sink.specs.States.{State, process}
 use Rattle.chk_sink.specs.Held.{Handles, Ready}
 use Rattle.chk_sink.specs.Asked.{Counts, Counted}
-use Rattle.chk_sink.specs.Asking.{CountsOpen, is_mark}
+use Rattle.chk_sink.specs.Asking.{CountsOpen}
+use Rattle.chk_sink.specs.Damage.{is_number_from}
+use Rattle.chk_sink.proofs.NumberBytes.{read_whole, number_good}
 use Rattle.chk_sink.proofs.Holding.{HasStem, handles_alike}
 use Rattle.chk_sink.proofs.Quiet.{quiet_on, lengths_add}
 use Rattle.chk_sink.proofs.Questions.{counts_stay, open_stays, same_word, asked_alike, asked_counts, asked_untaken}
@@ -66,18 +66,6 @@ read_missing (Deleted suffix) max o was agrees = absurd was
 
 same_mark : (o : Option File) (f : File) → OnFile o IsMark → o ≡ Some f → IsMark f
 same_mark o f h e = subst (λ o. OnFile o IsMark) e h
-
--- a mark is read whole
-read_whole : (bytes : List ℕ) (f : File) → bytes ∷ [] ≡ take 9 (drop 0 f.bytes) ∷ [] → length f.bytes ≡ 8 → bytes ≡ f.bytes
-read_whole bytes f e eight = let same : bytes ≡ take 9 f.bytes = cc in same ∙ take_all 9 f.bytes (omega (arith, eight))
-
-mark_good : (f : File) → IsMark f → is_mark f.bytes ≡ true
-mark_good f m =
-    let eight : length f.bytes ≡ 8 = m.0.1 in
-    let small : spelled f.bytes < limit = m.0.2 in
-    let most : 96 ≤ spelled f.bytes = m.1 in
-    and_from (length f.bytes == 8) (nat_le 96 (spelled f.bytes) && nat_lt (spelled f.bytes) limit) (grind (arith, eight))
-    (and_from (nat_le 96 (spelled f.bytes)) (nat_lt (spelled f.bytes) limit) (grind (arith, most)) (grind (arith, small)))
 
 -- the number of a mark is at most the committed length
 mark_most : (shut mark : Option File) (f : File) → mark ≡ Some f → OnFile mark (λ m. OnFile shut (λ d. spelled m.bytes ≡ length d.bytes))
@@ -172,7 +160,7 @@ module _ (stamped : List (List ℕ)) (s : State) (messages : List Handling) (t :
 
     -- what holds where this was taken
     abbrev pub AfterMark : Option (List ℕ) → History → Type 0
-    AfterMark (Some bytes) history = (is_mark bytes ≡ true) × Length (spelled bytes) history
+    AfterMark (Some bytes) history = (is_number_from 96 bytes ≡ true) × Length (spelled bytes) history
     AfterMark None history = Length 0 history
 
     mark_may : MayCall stamped AskMark named Open
@@ -191,7 +179,7 @@ module _ (stamped : List (List ℕ)) (s : State) (messages : List Handling) (t :
         let same : there.0.bytes ≡ bytes = sym (read_whole bytes there.0 there.2 is_mark_file.0.1) in
         let D = file files (DoneFile x) in
         let M = file files (MarkFile x) in (
-          subst (λ b. is_mark b ≡ true) same (mark_good there.0 is_mark_file),
+          subst (λ b. is_number_from 96 b ≡ true) same (number_good 96 there.0.bytes is_mark_file.0.1 is_mark_file.1 is_mark_file.0.2),
           with_length (spelled bytes) (step ∷ before) (asked_counts s before step refl modelled tt goes messages t stems acks stem h.counts)
               (subst (λ b. IsCommittedLength (process s) (step ∷ before) t (ack_of x (spelled b))) same
               (record {

@@ -27,29 +27,21 @@ use Rattle.chk_world.specs.Places.{Foreign, AtTold}
 use Rattle.chk_world.proofs.Ends.{bytes_self}
 use Rattle.chk_world.proofs.NameLemmas.{read-spell}
 use Rattle.chk_world.proofs.NameTests.{same_name, stem_self}
+use Rattle.chk_world.proofs.Kept.{there}
 use Rattle.chk_world.proofs.Law.{shape}
 use Rattle.chk_world.proofs.OwnFiles.{done_file, done_present}
 use Rattle.chk_world.proofs.Replacing.{Target, anything, Next, EndedAt}
 use Rattle.chk_world.proofs.ToldCalls.{GoesOn, MayCall, LeavesCall, goes_on_done, told_done, told_ends}
-use Rattle.chk_world.proofs.CollectorCalls.{own_sight, collector_rule, collector_target, Marking, Marked, Started, mark_replaced}
+use Rattle.chk_world.proofs.CollectorCalls.{own_sight, collector_rule, collector_target, still_well, Marking, Marked, Started, mark_replaced}
 use Rattle.chk_sink.specs.States.{State, Writing, process, last_stem, given_up, all_marked, kept_where_done}
 use Rattle.chk_sink.specs.Held.{IsAsKept, IsTidy, Holds, Matches}
 use Rattle.chk_sink.specs.Faults.{sink_fault, sink_result}
 use Rattle.chk_sink.specs.Closes.{Committed}
 use Rattle.chk_sink.specs.Closing.{publishing}
-use Rattle.chk_sink.proofs.Holding.{own_sink, own_mark, holds_stays, given_up_holds}
+use Rattle.chk_sink.proofs.Holding.{own_sink, own_mark, holds_stays, writing_kept, given_up_holds}
 use Rattle.chk_sink.proofs.Scripts.{StaysStopped, stopped_script}
 use Rattle.chk_sink.proofs.Tidying.{other_stem, stem_other, given_up_with, adds_both, replacement_marks, stays_tidy}
 use Rattle.chk_sink.proofs.Appending.{current_of}
-
-pub there : (o : Option File) {P : File → Type 0} → HasFile o P → (f : File) × (o ≡ Some f) × P f
-there None h = absurd h
-there (Some f) h = (f, refl, h)
-
-still_done : (y : Option Stem) (o : Option Current) → still true y o ≡ o
-still_done None o = refl
-still_done (Some y) None = refl
-still_done (Some y) (Some cur) = refl
 
 -- ---- lengths
 
@@ -97,9 +89,6 @@ module _ (stamped : List (List ℕ)) (s : State) (o : Writing) (named : IsTrue (
   reads : read (spell (SinkFile X)) ≡ SinkFile X
   reads = read-spell (SinkFile X) good
 
-  writing : (history : History) → Holds s history → IsAsKept X (view (process s) history) (files_after history) (Some o)
-  writing history h = subst (IsAsKept X (view (process s) history) (files_after history)) some h.writing
-
   sync_may : MayCall stamped Q named (Holds s)
   sync_may before answer files logs legal h = record {
     own_files = rw reads (bytes_self s.collector);
@@ -118,7 +107,7 @@ module _ (stamped : List (List ℕ)) (s : State) (o : Writing) (named : IsTrue (
       let v = view (process s) before in
       let fb : Name → Option File = file (files_after before) in
       let honest = legal.1.honest in
-      let kept = writing before h in
+      let kept = writing_kept s o some before h in
       let t = there (fb (SinkFile X)) kept.size in
       let is = done_present answer (fb (SinkFile X)) was honest.agrees t.0 t.1 in
       let sight = own_sight (process s) before step refl (goes_on_done answer was) in
@@ -139,7 +128,7 @@ module _ (stamped : List (List ℕ)) (s : State) (o : Writing) (named : IsTrue (
           writing = subst (IsAsKept X (view (process s) (step ∷ before)) files) (sym some) (record {
             current = ap (λ (v : View). v.current) sight
                 ∙ (ap (λ d. still d (either (sink_of (read (spell (SinkFile X)))) (next_mark_of (read (spell (SinkFile X))))) v.current) is
-                ∙ (still_done _ v.current ∙ kept.current));
+                ∙ (still_well _ v.current ∙ kept.current));
             size = subst (λ f. HasFile f (λ f. length f.bytes ≡ o.size)) (sym sink) t.2;
             marked = ap number_in (marks X good) ∙ kept.marked;
           });
@@ -170,7 +159,7 @@ module _ (stamped : List (List ℕ)) (s : State) (o : Writing) (named : IsTrue (
   mark_target =
       collector_target stamped (process s) (SinkFile X) (MarkFile X)
       (record { named = named; first = own_sink s X refl good; second = record { own = refl; known = good }; third = own_mark s X refl good })
-      refl refl refl
+      refl refl
 
   abbrev Ended : Result (Unit {0}) OutsideFault → History → Type 0
   Ended result history = EndedAt (process s) (view (process s)) (SinkFile X) (MarkFile X) (Started (Some s.born) s.number) (Marked (Some s.born) s.number cur o.size) result history
@@ -240,7 +229,7 @@ module _ (stamped : List (List ℕ)) (s : State) (o : Writing) (named : IsTrue (
             → Next (Marking (Some s.born) s.number cur o.size) anything (view (process s) history) (file (files_after history) (SinkFile X))
             (file (files_after history) (Temporary (MarkFile X))) (file (files_after history) (MarkFile X))
         as_marking history h = record {
-          base = record { born_is = h.holds.born; made_is = h.holds.made; current = (writing history h.holds).current; synced = h.synced };
+          base = record { born_is = h.holds.born; made_is = h.holds.made; current = (writing_kept s o some history h.holds).current; synced = h.synced };
           next = tt;
         }
 

@@ -24,7 +24,8 @@ use Rattle.chk_sink.specs.Held.{Ready}
 use Rattle.chk_sink.specs.Faults.{sink_fault}
 use Rattle.chk_sink.specs.SinkFields.{sinks_view, writing_of, IsSoundCurrent, IsSound}
 use Rattle.chk_sink.specs.Asked.{Counted, CountsOn, CountedOn}
-use Rattle.chk_sink.specs.Asking.{TakenOnce, IsMarkNumber, IsAsker, CountedOpen, is_mark}
+use Rattle.chk_sink.specs.Asking.{TakenOnce, IsMarkNumber, IsAsker, CountedOpen}
+use Rattle.chk_sink.specs.Damage.{is_number_from}
 use Rattle.chk_sink.proofs.Putting.{the_collector}
 use Rattle.chk_sink.proofs.AskedLengths.{Length, size_taken, size_ends, mark_taken, mark_ends}
 
@@ -100,7 +101,7 @@ module _ (stamped : List (List ℕ)) (s : State) (messages : List Handling) (t :
         (subst (λ r. TakenOnce (asked who Read (w ∷ []) 0 9) bytes_given r old new) e m)
 
     number_on : (bytes : List ℕ) (result : Result ℕ SinkFault) → IsMarkNumber w bytes result → (history : History)
-        → (is_mark bytes ≡ true) × Length stamped s messages t stems acks asks.named asks.stem x good (spelled bytes) history
+        → (is_number_from 96 bytes ≡ true) × Length stamped s messages t stems acks asks.named asks.stem x good (spelled bytes) history
         → CountsOn s messages t stems acks x result history
     number_on bytes (Ok n) is history h =
         subst (λ k. CountsOn s messages t stems acks x (Ok k) history) (sym is.1) h.1

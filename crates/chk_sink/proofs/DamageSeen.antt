@@ -18,8 +18,8 @@ use Rattle.chk_world.specs.Names.{MarkFile, read}
 use Rattle.chk_sink.specs.declared.fault.SinkFault.{SinkFault}
 use Rattle.chk_sink.specs.declared.fault.SinkFault.TheVariants.{Outside, Damaged, Spent, NoMemory as wants_memory}
 use Rattle.chk_sink.specs.Faults.{FailsLast, sink_fault}
-use Rattle.chk_sink.specs.Damage.{is_number_of, damage_by, damage_in, DamageCause}
-use Rattle.chk_sink.specs.Asking.{TakenOnce, IsMarkNumber, is_mark}
+use Rattle.chk_sink.specs.Damage.{is_number_from, is_number_of, damage_by, damage_in, DamageCause}
+use Rattle.chk_sink.specs.Asking.{TakenOnce, IsMarkNumber}
 use Rattle.chk_sink.proofs.JoinedCauses.{first_none, theirs_undamaged, damage_later, fails_later}
 
 -- a step that shows no damage
@@ -45,7 +45,7 @@ size_harmless who w {result = result} {added = added} {history = history} calls 
 -- the damage that what was read shows
 abbrev shown_by : List ℕ → Option (List ℕ) → Option (List ℕ)
 shown_by w None = None
-shown_by w (Some bytes) = if is_mark bytes then None else Some w
+shown_by w (Some bytes) = if is_number_from 96 bytes then None else Some w
 
 refused_harmless : (w : List ℕ) (answer : ActAnswer) → WasRefused answer → damage_by true (Reads w 0 9) answer ≡ None
 refused_harmless w (Done words number of) was = absurd was

@@ -23,7 +23,7 @@ use Rattle.chk_world.specs.Places.{Foreign, AtTold}
 use Rattle.chk_world.proofs.Ends.{bytes_self}
 use Rattle.chk_world.proofs.NameLemmas.{read-spell}
 use Rattle.chk_world.proofs.NameTests.{same_name, stem_self, stem_same, moved_named}
-use Rattle.chk_world.proofs.Kept.{Kept}
+use Rattle.chk_world.proofs.Kept.{Kept, there}
 use Rattle.chk_world.proofs.Law.{holds_always}
 use Rattle.chk_world.proofs.OwnSteps.{known_stem}
 use Rattle.chk_world.proofs.Frames.{files_stay, view_stays}
@@ -32,13 +32,12 @@ use Rattle.chk_world.proofs.PlacesStay.{Stays}
 use Rattle.chk_world.proofs.ToldCalls.{GoesOn, MayCall, LeavesCall, goes_on_done, told_done, told_ends}
 use Rattle.chk_world.proofs.CollectorCalls.{own_sight, collector_rule}
 use Rattle.chk_sink.specs.States.{State, Writing, process, last_stem, with_current, given_up}
-use Rattle.chk_sink.specs.Held.{IsAsKept, IsTidy, Holds, Matches}
+use Rattle.chk_sink.specs.Held.{IsTidy, Holds, Matches}
 use Rattle.chk_sink.specs.Faults.{sink_fault, sink_result}
 use Rattle.chk_sink.specs.Closes.{WasClosed, CloseHolds, Closed}
 use Rattle.chk_sink.specs.Closing.{closing, left_where_done}
-use Rattle.chk_sink.proofs.Holding.{own_sink, absent_as, holds_stays, given_up_holds}
+use Rattle.chk_sink.proofs.Holding.{own_sink, absent_as, holds_stays, writing_kept, given_up_holds}
 use Rattle.chk_sink.proofs.Tidying.{other_stem, stem_other, given_up_with, foreign_tidy}
-use Rattle.chk_sink.proofs.Committing.{there}
 
 -- a sink of which the mark says all is synced
 at_mark : (wr : List ℕ) (sink mark shut : Option File) (n : ℕ) → Kept wr sink mark shut → 96 ≤ n → HasFile sink (λ f. length f.bytes ≡ n)
@@ -72,9 +71,6 @@ module _ (stamped : List (List ℕ)) (s : State) (o : Writing) (named : IsTrue (
 
   reads_mark : read (spell (MarkFile X)) ≡ MarkFile X
   reads_mark = read-spell (MarkFile X) good
-
-  writing : (history : History) → Holds s history → IsAsKept X (view (process s) history) (files_after history) (Some o)
-  writing history h = subst (IsAsKept X (view (process s) history) (files_after history)) some h.writing
 
   -- the sink is a done one, and its mark may be left
   pub record Renamed (history : History) : Type 0 where
@@ -112,7 +108,7 @@ module _ (stamped : List (List ℕ)) (s : State) (o : Writing) (named : IsTrue (
     where
       rule : DoneAtItsMark (files_after before) X X
       rule =
-          let kept = writing before h in (
+          let kept = writing_kept s o some before h in (
             refl,
             at_mark _ (file (files_after before) (SinkFile X)) (file (files_after before) (MarkFile X)) (file (files_after before) (DoneFile X)) o.size
                 (holds_always X (known_stem X good) stamped before legal).files begun kept.size (kept.marked ∙ marked),
@@ -127,7 +123,7 @@ module _ (stamped : List (List ℕ)) (s : State) (o : Writing) (named : IsTrue (
       let step = own_step Renaming answer files logs in
       let fb : Name → Option File = file (files_after before) in
       let honest = legal.1.honest in
-      let t = there (fb (SinkFile X)) (writing before h).size in
+      let t = there (fb (SinkFile X)) (writing_kept s o some before h).size in
       let is = done_present answer (fb (SinkFile X)) was honest.agrees t.0 t.1 in
       let sight = own_sight (process s) before step refl (goes_on_done answer was) in
       let moves : (n : Name) → IsTrue (is_known n) → file files n ≡ moved_named (Some t.0) (SinkFile X) (DoneFile X) fb n =

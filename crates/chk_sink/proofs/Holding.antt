@@ -1,6 +1,7 @@
 -- What the history holds of the sinks stays over steps that leave the collector's view and its files.
-use Rattle.std.proofs.Common.{◌≡◌, ℕ, Bool, true, false, ◌&&◌, ◌||◌, List, ◌∷◌, Option, Some, None, ap, sym, subst, ◌∙◌, refl, is_some, true≢false}
+use Rattle.std.proofs.Common.{◌≡◌, ℕ, true, false, ◌&&◌, List, ◌∷◌, Option, Some, None, ap, sym, subst, ◌∙◌, refl, is_some, true≢false}
 use Rattle.std.specs.Prelude.{IsTrue, length}
+use Rattle.std.proofs.lemmas.Bool.{or_parts}
 use Rattle.chk_bytes.specs.Stems.{Stem, is_stem, same_stem}
 use Rattle.chk_site.specs.Files.{File, Files}
 use Rattle.chk_site.specs.History.{Step, History, files_after}
@@ -80,15 +81,15 @@ pub handles_stays : (stamped : List (List ℕ)) (s : State) (messages : List Han
 handles_stays stamped s messages stem history step legal f h =
     handles_alike s messages history (step ∷ history) stem (foreign_alike stamped s history step f) h
 
+-- the sink that is written to is as it is kept
+pub writing_kept : (s : State) (o : Writing) → s.current ≡ Some o → (history : History) → Holds s history
+    → IsAsKept (last_stem s) (view (process s) history) (files_after history) (Some o)
+writing_kept s o some history h = subst (IsAsKept (last_stem s) (view (process s) history) (files_after history)) some h.writing
+
 -- the sink that is written to is let go of
 none_other : (s : State) (o : Option Writing) (x : Stem) → is_some o ≡ false → (is_some o && same_stem x (last_stem s)) ≡ false
 none_other s None x e = refl
 none_other s (Some o) x e = absurd (cc)
-
-neither : (a b : Bool) → (a || b) ≡ false → (a ≡ false) × (b ≡ false)
-neither false false e = (refl, refl)
-neither false true e = absurd (cc)
-neither true b e = absurd (cc)
 
 pub let_go_holds : (s : State) (history : History) → Holds s history → Holds (let_go s) history
 let_go_holds s history h = record {
@@ -96,7 +97,7 @@ let_go_holds s history h = record {
   made = h.made;
   writing = tt;
   tidy = λ none x other.
-      let both = neither s.abandoned (is_some s.current) none in
+      let both = or_parts s.abandoned (is_some s.current) none in
       h.tidy both.0 x (record { own = other.own; stem = other.stem; other = none_other s s.current x both.1 });
 }
 

@@ -1,7 +1,6 @@
 -- The reading of a left sink's mark, its cut to it, and its closing.
-use Rattle.std.proofs.Common.{◌≡◌, inl, inr, ℕ, ◌≤◌, ◌<◌, Bool, true, false, ◌&&◌, ◌==◌, min, List, [], ◌∷◌, length, take_all, length-take, Option, Some, None, option_map, Result, Ok, Err, ap, sym, subst, ◌∙◌, refl, arith, if◌then◌else◌, true≢false}
-use Rattle.std.specs.Prelude.{nat_le, nat_lt}
-use Rattle.std.proofs.lemmas.Bool.{and_from, le-leb, lt-ltb}
+use Rattle.std.proofs.Common.{◌≡◌, inl, inr, ℕ, ◌≤◌, ◌<◌, Bool, true, false, min, List, [], ◌∷◌, length, length-take, Option, Some, None, option_map, Result, Ok, Err, ap, sym, subst, ◌∙◌, refl, arith, if◌then◌else◌, true≢false}
+use Rattle.std.proofs.lemmas.Bool.{and_from}
 use Rattle.chk_bytes.specs.Numbers.{spelled, limit}
 use Rattle.chk_bytes.specs.Stems.{Stem}
 use Rattle.chk_site.specs.declared.acts.Call.TheVariants.{Read, Rename, Cut}
@@ -32,7 +31,9 @@ use Rattle.chk_world.proofs.ToldCalls.{GoesOn, MayCall, LeavesCall, goes_on_done
 use Rattle.chk_world.proofs.CollectorCalls.{collector_rule}
 use Rattle.chk_sink.specs.States.{State, process}
 use Rattle.chk_sink.specs.Held.{Holds, Matches}
-use Rattle.chk_sink.specs.Settling.{HoldsAt, AnyFiles, NoMark, MarkedBy, CutAt, NoSink, is_mark_bytes}
+use Rattle.chk_sink.specs.Damage.{is_number_from}
+use Rattle.chk_sink.specs.Settling.{HoldsAt, AnyFiles, NoMark, MarkedBy, CutAt, NoSink}
+use Rattle.chk_sink.proofs.NumberBytes.{read_whole, number_good}
 use Rattle.chk_sink.proofs.Holding.{absent_as}
 use Rattle.chk_sink.proofs.Touching.{reads_mark, cuts_sink, closes, holds_on, at_on}
 use Rattle.chk_sink.proofs.LeftCalls.{IsLeft, at_stays, told_any}
@@ -63,23 +64,14 @@ none_read (Stopped left) o h a = absurd h
 none_read (Rotated suffix) o h a = absurd h
 none_read (Deleted suffix) o h a = absurd h
 
-abbrev one_word : List (List ℕ) → List ℕ → List ℕ
-one_word [] other = other
-one_word (b ∷ words) other = b
-
-mark_test : (bytes : List ℕ) → length bytes ≡ 8 → 96 ≤ spelled bytes → spelled bytes < limit → is_mark_bytes bytes ≡ true
-mark_test bytes size least most =
-    and_from (length bytes == 8) (nat_le 96 (spelled bytes) && nat_lt (spelled bytes) limit) (ap (λ n. n == 8) size)
-    (and_from (nat_le 96 (spelled bytes)) (nat_lt (spelled bytes) limit) (le-leb 96 (spelled bytes) least) (lt-ltb (spelled bytes) limit most))
-
 -- what was read of a mark is a number that may stand there, and all of the file
 read_is : (bytes : List ℕ) (o : Option File) → AtRead (bytes_given bytes) 0 9 o → OnFile o IsMark
-    → (is_mark_bytes bytes ≡ true) × HasFile o (λ m. spelled m.bytes ≡ spelled bytes)
+    → (is_number_from 96 bytes ≡ true) × HasFile o (λ m. spelled m.bytes ≡ spelled bytes)
 read_is bytes None a m = absurd a
 read_is bytes (Some f) a m =
     let size : length f.bytes ≡ 8 = m.0.1 in
-    let is : bytes ≡ f.bytes = ap (λ l. one_word l bytes) a.1 ∙ take_all 9 f.bytes (omega (arith, size)) in (
-      mark_test bytes (ap length is ∙ size) (subst (λ b. 96 ≤ spelled b) (sym is) m.1) (subst (λ b. spelled b < limit) (sym is) m.0.2),
+    let is : bytes ≡ f.bytes = read_whole bytes f a.1 size in (
+      number_good 96 bytes (ap length is ∙ size) (subst (λ b. 96 ≤ spelled b) (sym is) m.1) (subst (λ b. spelled b < limit) (sym is) m.0.2),
       sym (ap spelled is),
     )
 
@@ -112,7 +104,7 @@ module _ (stamped : List (List ℕ)) (s : State) (may : Stem → Bool) (x : Stem
 
   module _ (bytes : List ℕ) where
     read_mark : (before : History) (answer : ActAnswer) (files : _) (logs : _) → answer ≡ bytes_given bytes → Legal stamped (own_step R answer files logs ∷ before)
-        → (is_mark_bytes bytes ≡ true) × HasFile (file (files_after before) (MarkFile x)) (λ m. spelled m.bytes ≡ spelled bytes)
+        → (is_number_from 96 bytes ≡ true) × HasFile (file (files_after before) (MarkFile x)) (λ m. spelled m.bytes ≡ spelled bytes)
     read_mark before answer files logs is legal =
         read_is bytes (file (files_after before) (MarkFile x))
         (subst (λ o. AtRead (bytes_given bytes) 0 9 o) (ap (files_after before) w_is)
@@ -127,7 +119,7 @@ module _ (stamped : List (List ℕ)) (s : State) (may : Stem → Bool) (x : Stem
         (sym (looked_file before (own_step R answer files logs) (MarkFile x) legal.1.honest refl (subst WasDone (sym is) tt)))
         (read_mark before answer files logs is legal).1)
 
-    bad_leaves : is_mark_bytes bytes ≡ false → LeavesCall stamped R left.named A (λ a. a ≡ bytes_given bytes) (λ h. ⊥)
+    bad_leaves : is_number_from 96 bytes ≡ false → LeavesCall stamped R left.named A (λ a. a ≡ bytes_given bytes) (λ h. ⊥)
     bad_leaves bad before answer files logs is legal h =
         true≢false (sym (read_mark before answer files logs is legal).0 ∙ bad)
 
@@ -141,7 +133,7 @@ module _ (stamped : List (List ℕ)) (s : State) (may : Stem → Bool) (x : Stem
         (subst (λ g. Adds old new (Calls R (answered bytes_given g))) gave told))
 
     -- it is never damaged
-    pub mark_bad : is_mark_bytes bytes ≡ false → (given : Result (List ℕ) CallFault) → given ≡ Ok bytes → {old new : Option History}
+    pub mark_bad : is_number_from 96 bytes ≡ false → (given : Result (List ℕ) CallFault) → given ≡ Ok bytes → {old new : Option History}
         → Adds old new (Calls R (answered bytes_given given))
         → Adds old new (Leads (Foreign stamped (process s)) (AtTold stamped (process s) A) (AtTold stamped (process s) (λ h. ⊥)))
     mark_bad bad given gave {old = old} {new = new} told =

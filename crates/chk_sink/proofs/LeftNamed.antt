@@ -1,8 +1,8 @@
 -- Which stem a name of the folder tells to settle, and what may be left after it.
-use Rattle.std.proofs.Common.{◌≡◌, ℕ, Bool, true, false, ◌&&◌, ◌||◌, not, List, ◌∷◌, Option, Some, None, option_map, ap, sym, subst, ◌∙◌, refl, is_some, bytes_eq, if◌then◌else◌, true≢false}
+use Rattle.std.proofs.Common.{◌≡◌, ℕ, Bool, true, false, ◌&&◌, ◌||◌, not, List, ◌∷◌, Option, Some, None, option_map, ap, sym, subst, ◌∙◌, refl, is_some, bytes_eq, if◌then◌else◌}
 use Rattle.std.specs.Prelude.{IsTrue}
 use Rattle.std.specs.List.{list_any}
-use Rattle.std.proofs.lemmas.Bool.{and_parts}
+use Rattle.std.proofs.lemmas.Bool.{and_parts, not-true}
 use Rattle.std.proofs.lemmas.Option.{same_Some, none-some}
 use Rattle.chk_bytes.specs.Stems.{Stem, is_stem, same_stem}
 use Rattle.chk_site.specs.History.{History, files_after}
@@ -17,10 +17,6 @@ use Rattle.chk_sink.specs.Settling.{is_same, chosen, kept_stem, left_in, left_of
 kept_as : (o : Option Writing) (l x : Stem) → is_same (option_map (λ k. l) o) x ≡ (is_some o && same_stem x l)
 kept_as None l x = refl
 kept_as (Some o) l x = refl
-
-not_true : (b : Bool) → not b ≡ true → b ≡ false
-not_true false e = refl
-not_true true e = absurd (true≢false (sym e))
 
 -- the stem that is chosen is the one told of, and another one of the collector's
 pub chosen_other : (s : State) (kept last found : Option Stem) (x : Stem) → kept ≡ kept_stem s → IsTrue (is_stem x)
@@ -40,7 +36,7 @@ chosen_other s kept last (Some y) x kept_is good e = by (bytes_eq y.collector s.
             own = subst (λ z. z.collector ≡ s.collector) is (bytes_same y.collector s.collector p.0);
             stem = good;
             other = subst (λ z. (is_some s.current && same_stem z (last_stem s)) ≡ false) is
-                (sym (ap (λ k. is_same k y) kept_is ∙ kept_as s.current (last_stem s) y) ∙ not_true (is_same kept y) q.0);
+                (sym (ap (λ k. is_same k y) kept_is ∙ kept_as s.current (last_stem s) y) ∙ not-true (is_same kept y) q.0);
           },
         )
 

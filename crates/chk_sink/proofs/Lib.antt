@@ -14,13 +14,12 @@ pub mod Committing
 pub mod Commits
 pub mod DoneSinks
 pub mod Quiet
-pub mod Nobody
 pub mod NoStem
 pub mod Questions
+pub mod NumberBytes
 pub mod AskedLengths
 pub mod DamageSeen
 pub mod Counting
-pub mod MarkWord
 pub mod JoinedCauses
 pub mod StartShows
 pub mod StartTold

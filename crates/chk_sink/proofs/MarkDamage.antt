@@ -1,8 +1,7 @@
 -- A mark that was read, or couldn't be cut to.
-use Rattle.std.proofs.Common.{◌≡◌, ℕ, Bool, true, false, List, [], ◌∷◌, Option, Some, None, Result, Ok, Err, ap, sym, ◌∙◌, refl, if◌then◌else◌}
+use Rattle.std.proofs.Common.{◌≡◌, ℕ, true, false, List, [], ◌∷◌, Option, Some, None, Result, Ok, Err, ap, sym, ◌∙◌, refl, if◌then◌else◌}
 use Rattle.std.specs.Prelude.{IsTrue}
 use Rattle.std.proofs.lemmas.Option.{same_Some, none-some}
-use Rattle.chk_bytes.specs.Numbers.{spelled}
 use Rattle.chk_bytes.specs.Stems.{Stem, is_stem}
 use Rattle.chk_site.specs.declared.acts.Who.{Who}
 use Rattle.chk_site.specs.declared.acts.Call.TheVariants.{Read, Cut}
@@ -19,9 +18,9 @@ use Rattle.chk_sink.specs.declared.fault.SinkFault.{SinkFault}
 use Rattle.chk_sink.specs.declared.fault.SinkFault.TheVariants.{Outside, Damaged, Spent, NoMemory as NoRoom}
 use Rattle.chk_sink.specs.States.{State, process}
 use Rattle.chk_sink.specs.Held.{Matches}
-use Rattle.chk_sink.specs.Damage.{damage_in, is_number_of, mark_name}
+use Rattle.chk_sink.specs.Damage.{damage_in, is_number_from, is_number_of, mark_name, IsDamageOf}
 use Rattle.chk_sink.specs.Starting.{IsNoLastRead}
-use Rattle.chk_sink.specs.Settling.{Found, IsCaused, IsDamageOf, is_mark_bytes, mark_number}
+use Rattle.chk_sink.specs.Settling.{Found, IsCaused}
 use Rattle.chk_sink.proofs.Unread.{IsUnread, call_unread, mark_unread}
 use Rattle.chk_sink.proofs.Causing.{IsQuiet, call_shows, shown}
 
@@ -33,21 +32,6 @@ taken_some (Err Missing) o v is e = absurd (none-some v (sym is ∙ e))
 taken_some (Err Exists) o v is e = absurd (none-some v (sym is ∙ e))
 taken_some (Err (Short size)) o v is e = absurd (none-some v (sym is ∙ e))
 taken_some (Err NoMemory) o v is e = absurd is
-
--- a number that a mark may be
-pub number_found : (bytes : List ℕ) (n : ℕ) → mark_number bytes ≡ Some n → (is_mark_bytes bytes ≡ true) × (spelled bytes ≡ n)
-number_found bytes n e = by (is_mark_bytes bytes) refl e
-  where
-    by : (b : Bool) → is_mark_bytes bytes ≡ b → (if b then Some (spelled bytes) else None) ≡ Some n → (is_mark_bytes bytes ≡ true) × (spelled bytes ≡ n)
-    by true t e = (t, same_Some (spelled bytes) n e)
-    by false t e = absurd (none-some n e)
-
-pub number_none : (bytes : List ℕ) → mark_number bytes ≡ None → is_mark_bytes bytes ≡ false
-number_none bytes e = by (is_mark_bytes bytes) refl e
-  where
-    by : (b : Bool) → is_mark_bytes bytes ≡ b → (if b then Some (spelled bytes) else None) ≡ None → is_mark_bytes bytes ≡ false
-    by false t e = t
-    by true t e = absurd (none-some (spelled bytes) (sym e))
 
 -- the refusal of a damaged mark
 pub found_damage : (stamped : List (List ℕ)) (s : State) {T : Type 0} (P : T → History → Type 0) (w : List ℕ) (fault : SinkFault) {A : History → Type 0}
@@ -104,7 +88,7 @@ module _ (who : Who) (w : List ℕ) where
     reads = ap read w_is ∙ read-spell (MarkFile x) good
 
     -- a mark was read
-    pub number_caused : {T : Type 0} (value : T) {old new : Option History} → is_mark_bytes bytes ≡ true
+    pub number_caused : {T : Type 0} (value : T) {old new : Option History} → is_number_from 96 bytes ≡ true
         → Adds old new (Calls R (answered bytes_given given)) → Adds old new (IsCaused {T = T} (Ok value))
     number_caused {T = T} value marks told =
         adds_as (IsCaused {T = T} (Ok value)) told
@@ -117,7 +101,7 @@ module _ (who : Who) (w : List ℕ) where
         })
 
     -- it is damaged
-    pub bad_caused : {T : Type 0} (fault : SinkFault) {old new : Option History} → is_mark_bytes bytes ≡ false → IsDamageOf w fault
+    pub bad_caused : {T : Type 0} (fault : SinkFault) {old new : Option History} → is_number_from 96 bytes ≡ false → IsDamageOf w fault
         → Adds old new (Calls R (answered bytes_given given)) → Adds old new (IsCaused {T = T} (Err fault))
     bad_caused {T = T} fault bad is told =
         caused_damage {T = T} w fault is

@@ -1,5 +1,5 @@
 -- What is no stem has no file of a sink: its names are nobody's, and so such files never come.
-use Rattle.std.proofs.Common.{◌≡◌, inl, inr, ℕ, zero, suc, ◌+◌, ◌*◌, ◌/◌, ◌%◌, ◌<◌, ◌≤◌, ◌^◌, ◌==◌, Bool, true, false, ◌&&◌, not, List, [], ◌∷◌, ◌++◌, length, Option, Some, None, decimal, bytes_eq, eqb, refl, ap, sym, subst, ◌∙◌, if◌then◌else◌, append_assoc, arith, true≢false}
+use Rattle.std.proofs.Common.{◌≡◌, inl, inr, ℕ, zero, suc, ◌+◌, ◌*◌, ◌/◌, ◌%◌, ◌<◌, ◌≤◌, ◌^◌, ◌==◌, Bool, true, false, ◌&&◌, not, List, [], ◌∷◌, ◌++◌, length, Some, None, decimal, bytes_eq, refl, ap, sym, subst, ◌∙◌, if◌then◌else◌, append_assoc, arith, true≢false}
 use Rattle.std.specs.Prelude.{IsTrue, codes}
 use Rattle.std.specs.Fmt.{digits, digits_onto, digit_glyph}
 use Rattle.std.proofs.lemmas.Bool.{and_parts, and_from, cases_lt}
@@ -13,10 +13,11 @@ use Rattle.chk_bytes.proofs.StemLemmas.{stem_facts}
 use Rattle.chk_site.specs.declared.acts.Role.{Role}
 use Rattle.chk_site.specs.declared.acts.Role.TheVariants.{Agent, Collector, Job, Writer}
 use Rattle.chk_site.specs.History.{History, files_after}
-use Rattle.chk_world.specs.Names.{Name, SinkFile, MarkFile, DoneFile, Temporary, OtherFile, picked, guessed_stem, guessed_sink, guessed_name, if_spelled, read, spell, file, owns_by}
+use Rattle.chk_world.specs.Names.{Name, SinkFile, MarkFile, DoneFile, Temporary, OtherFile, guessed_stem, guessed_sink, guessed_name, if_spelled, read, spell, file, owns_by}
 use Rattle.chk_world.specs.Rules.{Legal}
-use Rattle.chk_world.proofs.Ends.{bytes_same, before_end-append, before_end-other, behind_front-append}
-use Rattle.chk_sink.proofs.Nobody.{never_there}
+use Rattle.chk_world.proofs.Ends.{bytes_same, before_end-append, behind_front-append}
+use Rattle.chk_world.proofs.NameLemmas.{other_end, picked_some, picked_none}
+use Rattle.chk_world.proofs.Nobody.{never_there}
 
 -- ---- a stem's text is no other's
 
@@ -116,17 +117,6 @@ stem_texts_same x y good same =
 
 -- ---- the names are nobody's
 
-if_none : {A : Type 0} (make : List ℕ → A) (o : Option (List ℕ)) (next : A) → o ≡ None → picked make o next ≡ next
-if_none make o next e = ap (λ o. picked make o next) e
-
-if_some : {A : Type 0} (make : List ℕ → A) (o : Option (List ℕ)) (t : List ℕ) (next : A) → o ≡ Some t → picked make o next ≡ make t
-if_some make o t next e = ap (λ o. picked make o next) e
-
--- a text with this ending hasn't one that ends in another byte
-ends_so : (front : List ℕ) (b : ℕ) (text end : List ℕ) (e : ℕ) → eqb b e ≡ false → before_end (front ++ b ∷ []) (text ++ (end ++ e ∷ [])) ≡ None
-ends_so front b text end e other =
-    before_end-other front b (text ++ end) e (text ++ (end ++ e ∷ [])) (sym (append_assoc text end (e ∷ []))) other
-
 abbrev below_sinks : List ℕ → List ℕ
 below_sinks t = codes "sinks/" ++ t
 
@@ -137,21 +127,21 @@ guessed_below : (t : List ℕ) → before_end (codes ".tmp") (below_sinks t) ≡
 unfolding read
 guessed_below t other =
     ap (λ n. if_spelled n (below_sinks t))
-    (if_none (λ t. Temporary (guessed_name t)) (before_end (codes ".tmp") (below_sinks t)) (guessed_name (below_sinks t)) other
+    (picked_none (λ t. Temporary (guessed_name t)) (before_end (codes ".tmp") (below_sinks t)) (guessed_name (below_sinks t)) other
     ∙ guessed_front (below_sinks t) t (behind_front-append (codes "sinks/") t))
 
 guessed_done : (t : List ℕ) → guessed_sink (t ++ codes ".done") ≡ DoneFile (guessed_stem t)
 guessed_done t =
     let w = t ++ codes ".done" in
-    if_none (λ t. SinkFile (guessed_stem t)) (before_end (codes ".chukwa") w) _ (ends_so (codes ".chukw") 97 t (codes ".don") 101 refl)
-    ∙ if_none (λ t. MarkFile (guessed_stem t)) (before_end (codes ".mark") w) _ (ends_so (codes ".mar") 107 t (codes ".don") 101 refl)
-    ∙ if_some (λ t. DoneFile (guessed_stem t)) (before_end (codes ".done") w) t _ (before_end-append t (codes ".done"))
+    picked_none (λ t. SinkFile (guessed_stem t)) (before_end (codes ".chukwa") w) _ (other_end (codes ".chukw") 97 t (codes ".don") 101 refl)
+    ∙ picked_none (λ t. MarkFile (guessed_stem t)) (before_end (codes ".mark") w) _ (other_end (codes ".mar") 107 t (codes ".don") 101 refl)
+    ∙ picked_some (λ t. DoneFile (guessed_stem t)) (before_end (codes ".done") w) t _ (before_end-append t (codes ".done"))
 
 guessed_mark : (t : List ℕ) → guessed_sink (t ++ codes ".mark") ≡ MarkFile (guessed_stem t)
 guessed_mark t =
     let w = t ++ codes ".mark" in
-    if_none (λ t. SinkFile (guessed_stem t)) (before_end (codes ".chukwa") w) _ (ends_so (codes ".chukw") 97 t (codes ".mar") 107 refl)
-    ∙ if_some (λ t. MarkFile (guessed_stem t)) (before_end (codes ".mark") w) t _ (before_end-append t (codes ".mark"))
+    picked_none (λ t. SinkFile (guessed_stem t)) (before_end (codes ".chukwa") w) _ (other_end (codes ".chukw") 97 t (codes ".mar") 107 refl)
+    ∙ picked_some (λ t. MarkFile (guessed_stem t)) (before_end (codes ".mark") w) t _ (before_end-append t (codes ".mark"))
 
 -- a stem of which the file's name is spelled so
 not_spelled : (b : Bool) (n : Name) (w : List ℕ) → (b ≡ true → ⊥) → (if b then n else OtherFile w) ≡ OtherFile w
@@ -181,7 +171,7 @@ module _ (x : Stem) (bad : is_stem x ≡ false) where
       let t = stem_text x in
       let w = below_sinks (t ++ codes ".done") in
       let y = guessed_stem t in
-      guessed_below (t ++ codes ".done") (ends_so (codes ".tm") 112 (codes "sinks/" ++ t) (codes ".don") 101 refl)
+      guessed_below (t ++ codes ".done") (other_end (codes ".tm") 112 (codes "sinks/" ++ t) (codes ".don") 101 refl)
       ∙ (ap (λ n. if_spelled n w) (guessed_done t)
       ∙ not_spelled (is_stem y && bytes_eq (spell (DoneFile y)) w) (DoneFile y) w
       (λ h. let p = and_parts (is_stem y) (bytes_eq (spell (DoneFile y)) w) h in
@@ -193,7 +183,7 @@ module _ (x : Stem) (bad : is_stem x ≡ false) where
       let t = stem_text x in
       let w = below_sinks (t ++ codes ".mark") in
       let y = guessed_stem t in
-      guessed_below (t ++ codes ".mark") (ends_so (codes ".tm") 112 (codes "sinks/" ++ t) (codes ".mar") 107 refl)
+      guessed_below (t ++ codes ".mark") (other_end (codes ".tm") 112 (codes "sinks/" ++ t) (codes ".mar") 107 refl)
       ∙ (ap (λ n. if_spelled n w) (guessed_mark t)
       ∙ not_spelled (is_stem y && bytes_eq (spell (MarkFile y)) w) (MarkFile y) w
       (λ h. let p = and_parts (is_stem y) (bytes_eq (spell (MarkFile y)) w) h in

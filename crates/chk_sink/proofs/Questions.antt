@@ -1,6 +1,7 @@
 -- The questions for a sink's committed length.
-use Rattle.std.proofs.Common.{◌≡◌, ℕ, Bool, true, false, ◌&&◌, List, ◌∷◌, None, ap, sym, ◌∙◌, refl}
+use Rattle.std.proofs.Common.{◌≡◌, ℕ, Bool, true, false, List, ◌∷◌, None, ap, sym, ◌∙◌, refl}
 use Rattle.std.specs.Prelude.{IsTrue}
+use Rattle.std.proofs.lemmas.Bool.{and_right}
 use Rattle.chk_bytes.specs.Stems.{Stem, is_stem}
 use Rattle.chk_site.specs.declared.acts.ActAnswer.{ActAnswer}
 use Rattle.chk_site.specs.declared.acts.ActAnswer.TheVariants.{Done, Refused, Stopped, Rotated, Deleted}
@@ -96,10 +97,6 @@ goes_tail (Stopped left) name goes = absurd goes
 goes_tail (Rotated suffix) name goes = refl
 goes_tail (Deleted suffix) name goes = refl
 
-and_no : (a b : Bool) → b ≡ false → (a && b) ≡ false
-and_no true b e = e
-and_no false b e = refl
-
 module _ (s : State) (before : History) (step : Step) (by : step.act.who ≡ process s) (modelled : Modelled before step)
     (asks : Asks (deed step.act)) (goes : GoesOn step.act.answer) where
   pub same_word : (w : List ℕ) → step.files w ≡ files_after before w
@@ -117,7 +114,7 @@ module _ (s : State) (before : History) (step : Step) (by : step.act.who ≡ pro
   same_length x = rw (same_word (spell (DoneFile x)), same_word (spell (MarkFile x))) refl
 
   pub asked_untaken : (t : ℕ) → is_taking (process s) t step ≡ false
-  asked_untaken t = and_no (is_by (process s) step) (gave t (deed step.act) step.act.answer) (asks_gave (deed step.act) t step.act.answer asks)
+  asked_untaken t = and_right (is_by (process s) step) (gave t (deed step.act) step.act.answer) (asks_gave (deed step.act) t step.act.answer asks)
 
   pub asked_counts : (messages : List Handling) (t : ℕ) (stems : List Stem) (acks : List Ack) → HasStem s → Counts s messages t stems acks before
       → Counts s messages t stems acks (step ∷ before)

@@ -1,8 +1,8 @@
 -- A step that leaves a sink alone leaves its files, and what is known of its committed length.
-use Rattle.std.proofs.Common.{◌≡◌, inr, ℕ, ◌≤◌, Bool, true, false, ◌&&◌, ◌||◌, not, List, [], ◌∷◌, ◌++◌, None, ap, sym, subst, ◌∙◌, refl, true≢false, if◌then◌else◌, bytes_eq}
+use Rattle.std.proofs.Common.{◌≡◌, inr, ℕ, ◌≤◌, Bool, true, false, ◌&&◌, not, List, [], ◌∷◌, ◌++◌, None, ap, sym, subst, ◌∙◌, refl, true≢false, if◌then◌else◌, bytes_eq}
 use Rattle.std.specs.Prelude.{IsTrue, MatchBool}
 use Rattle.std.specs.List.{list_any}
-use Rattle.std.proofs.lemmas.Bool.{and_parts, not-true}
+use Rattle.std.proofs.lemmas.Bool.{and_parts, not-true, or_from, or_parts}
 use Rattle.chk_bytes.specs.Stems.{Stem}
 use Rattle.chk_site.specs.declared.acts.Who.{Who}
 use Rattle.chk_site.specs.declared.acts.ActAnswer.{ActAnswer}
@@ -27,21 +27,14 @@ apart x n known own w other = go (bytes_eq (spell n) w) refl
     go true e = absurd (true≢false (sym own ∙ (ap (is_file_of x) (sym (read-spell n known) ∙ ap read (bytes_same (spell n) w e)) ∙ other)))
     go false e = refl
 
-neither : (a b : Bool) → (a || b) ≡ false → (a ≡ false) × (b ≡ false)
-neither false b e = (refl, e)
-neither true b e = absurd (true≢false e)
-
-both_false : (a b : Bool) → a ≡ false → b ≡ false → (a || b) ≡ false
-both_false a b p q = rw (p, q) refl
-
 module _ (x : Stem) (n : Name) (known : IsTrue (is_known n)) (own : is_file_of x n ≡ true) where
   untouched : (call : Deed) → changes_sink x call ≡ false → touches call (spell n) ≡ false
   untouched (Creates w) e = apart x n known own w e
   untouched (Appends w piece) e = apart x n known own w e
   untouched (Syncs w) e = apart x n known own w e
   untouched (Renames old new) e =
-      let p = neither (is_file_of x (read old)) (is_file_of x (read new)) e in
-      both_false (bytes_eq (spell n) new) (bytes_eq (spell n) old) (apart x n known own new p.1) (apart x n known own old p.0)
+      let p = or_parts (is_file_of x (read old)) (is_file_of x (read new)) e in
+      or_from (bytes_eq (spell n) new) (bytes_eq (spell n) old) (apart x n known own new p.1) (apart x n known own old p.0)
   untouched (Removes w) e = apart x n known own w e
   untouched (Cuts w k) e = apart x n known own w e
   untouched call e = refl
@@ -49,7 +42,7 @@ module _ (x : Stem) (n : Name) (known : IsTrue (is_known n)) (own : is_file_of x
   no_tail : (left : List Left) → list_any (λ l. is_file_of x (read l.name)) left ≡ false → tail_of left (spell n) ≡ None
   no_tail [] e = refl
   no_tail (l ∷ left) e =
-      let p = neither (is_file_of x (read l.name)) (list_any (λ l. is_file_of x (read l.name)) left) e in
+      let p = or_parts (is_file_of x (read l.name)) (list_any (λ l. is_file_of x (read l.name)) left) e in
       rw (apart x n known own l.name p.0) (no_tail left p.1)
 
   tail_none : (answer : ActAnswer) → stop_names_sink x answer ≡ false → tail_in answer (spell n) ≡ None

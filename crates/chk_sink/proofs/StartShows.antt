@@ -23,7 +23,7 @@ use Rattle.chk_sink.specs.declared.fault.SinkFault.{SinkFault}
 use Rattle.chk_sink.specs.Faults.{sink_fault}
 use Rattle.chk_sink.specs.States.{last_number}
 use Rattle.chk_sink.specs.Calls.{MadeOnce}
-use Rattle.chk_sink.specs.Damage.{is_number_of, damage_by, first_name, damage_in, reads_last, has_read_last, IsLookOnly, DamageCause, SpentCause}
+use Rattle.chk_sink.specs.Damage.{is_number_from, is_number_of, damage_by, first_name, damage_in, reads_last, has_read_last, IsLookOnly, DamageCause, SpentCause}
 use Rattle.chk_sink.specs.Starting.{start_number, ReadsNumber, damaged_name, is_last_start, ShowsStart}
 use Rattle.chk_sink.proofs.JoinedCauses.{ShowsNothing, others_show, no_damage, no_last, damage_behind, last_behind, first_none, or_false}
 
@@ -171,10 +171,10 @@ damage_of name n false = refl
 
 -- what was taken is what the answer shows
 taken_shows : (c name : List ℕ) → read name ≡ BornFile c → (given : Result (List ℕ) CallFault) (taken : Option (List ℕ)) → IsTaken given taken
-    → (damage_given name given ≡ damaged_name name (Ok (start_number c taken))) × (last_given name given ≡ is_last_start (Ok (start_number c taken)))
+    → (damage_given name given ≡ damaged_name name (Ok (start_number taken))) × (last_given name given ≡ is_last_start (Ok (start_number taken)))
 taken_shows c name reads (Ok bytes) taken is = rw is (
-  rw reads (sym (damage_of name (spelled bytes) (is_number_of (BornFile c) bytes))),
-  rw reads (sym (last_of (is_number_of (BornFile c) bytes) (spelled bytes) (length bytes) refl)),
+  rw reads (sym (damage_of name (spelled bytes) (is_number_from 0 bytes))),
+  rw reads (sym (last_of (is_number_from 0 bytes) (spelled bytes) (length bytes) refl)),
 )
 taken_shows c name reads (Err Failed) taken is = absurd is
 taken_shows c name reads (Err Missing) taken is = rw is (refl, refl)

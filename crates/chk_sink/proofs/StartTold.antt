@@ -1,8 +1,7 @@
 -- What the calls of a start lead to.
-use Rattle.std.proofs.Common.{◌≡◌, ℕ, ◌+◌, ◌<◌, List, [], ◌∷◌, length, take, drop, Option, Some, None, Result, Ok, Err, ap, sym, subst, ◌∙◌, refl, arith}
+use Rattle.std.proofs.Common.{◌≡◌, ℕ, ◌+◌, ◌<◌, List, [], ◌∷◌, length, Option, Some, None, Result, Ok, Err, ap, sym, subst, ◌∙◌, refl, arith, if◌then◌else◌}
 use Rattle.std.specs.Prelude.{IsTrue}
-use Rattle.std.proofs.lemmas.Bool.{and_from, lt-ltb, le-leb}
-use Rattle.std.proofs.lemmas.List.{take_all}
+use Rattle.std.proofs.lemmas.Bool.{and_from}
 use Rattle.std.proofs.lemmas.Option.{same_Some}
 use Rattle.chk_bytes.specs.Numbers.{spelled, limit, be64}
 use Rattle.chk_bytes.specs.Stems.{Stem, is_stem, is_collector}
@@ -34,14 +33,8 @@ use Rattle.chk_world.proofs.ToldCalls.{MayCall, LeavesCall, goes_on_done, goes_o
 use Rattle.chk_world.proofs.CollectorCalls.{own_sight, collector_target, Unborn, NoneMade, Born, born_replaced}
 use Rattle.chk_sink.specs.Calls.{MadeOnce}
 use Rattle.chk_sink.specs.Faults.{sink_fault}
+use Rattle.chk_sink.proofs.NumberBytes.{read_whole, number_good}
 use Rattle.chk_sink.specs.Starting.{start_number, ReadsNumber, HasLooked, Looked, Published}
-
--- 8 bytes of a number that may stand there are read as that number
-whole_front : (bytes : List ℕ) → length bytes ≡ 8 → take 9 (drop 0 bytes) ≡ bytes
-whole_front bytes eight = take_all 9 bytes (omega (arith, eight))
-
-number_read : (c bytes : List ℕ) → length bytes ≡ 8 → spelled bytes < limit → start_number c (Some bytes) ≡ Some (spelled bytes)
-number_read c bytes eight small = rw (eight, le-leb 0 (spelled bytes) (omega arith), lt-ltb (spelled bytes) limit small) refl
 
 took_done : (taken : Option (List ℕ)) (answer : ActAnswer) → Took bytes_given taken answer → WasDone answer
 took_done (Some bytes) answer took = subst WasDone (sym took) tt
@@ -56,26 +49,23 @@ took_done None (Rotated suffix) took = absurd took
 took_done None (Deleted suffix) took = absurd took
 
 -- what an honest read gives of the file is its number
-number_given : (c : List ℕ) (taken : Option (List ℕ)) (answer : ActAnswer) (o : Option File) → Took bytes_given taken answer → AtRead answer 0 9 o
-    → OnFile o IsNumber → start_number c taken ≡ Some (number_in o)
-number_given c (Some bytes) answer None took agrees sound = absurd (subst (λ a. AtRead a 0 9 None) took agrees)
-number_given c (Some bytes) answer (Some f) took agrees sound =
+number_given : (taken : Option (List ℕ)) (answer : ActAnswer) (o : Option File) → Took bytes_given taken answer → AtRead answer 0 9 o
+    → OnFile o IsNumber → start_number taken ≡ Some (number_in o)
+number_given (Some bytes) answer None took agrees sound = absurd (subst (λ a. AtRead a 0 9 None) took agrees)
+number_given (Some bytes) answer (Some f) took agrees sound =
     let at = subst (λ a. AtRead a 0 9 (Some f)) took agrees in
-    let same : bytes ≡ f.bytes = first_same bytes (take 9 (drop 0 f.bytes)) at.1 ∙ whole_front f.bytes sound.1 in
-    ap (λ b. start_number c (Some b)) same ∙ number_read c f.bytes sound.1 sound.2
-  where
-    first_same : (a b : List ℕ) → (a ∷ []) ≡ (b ∷ []) → a ≡ b
-    first_same a b e = cc
-number_given c None (Refused Failed) o took agrees sound = absurd took
-number_given c None (Refused Missing) o took agrees sound = rw agrees refl
-number_given c None (Refused Exists) o took agrees sound = absurd agrees
-number_given c None (Refused (Short size)) None took agrees sound = absurd agrees
-number_given c None (Refused (Short size)) (Some f) took agrees sound = absurd (let h : length f.bytes < 0 = agrees.0 in omega (arith, h))
-number_given c None (Refused NoMemory) o took agrees sound = absurd took
-number_given c None (Done words number of) o took agrees sound = absurd took
-number_given c None (Stopped left) o took agrees sound = absurd took
-number_given c None (Rotated suffix) o took agrees sound = absurd took
-number_given c None (Deleted suffix) o took agrees sound = absurd took
+    let same : bytes ≡ f.bytes = read_whole bytes f at.1 sound.1 in
+    ap (λ b. start_number (Some b)) same ∙ ap (λ b. if b then Some (spelled f.bytes) else None) (number_good 0 f.bytes sound.1 (omega arith) sound.2)
+number_given None (Refused Failed) o took agrees sound = absurd took
+number_given None (Refused Missing) o took agrees sound = rw agrees refl
+number_given None (Refused Exists) o took agrees sound = absurd agrees
+number_given None (Refused (Short size)) None took agrees sound = absurd agrees
+number_given None (Refused (Short size)) (Some f) took agrees sound = absurd (let h : length f.bytes < 0 = agrees.0 in omega (arith, h))
+number_given None (Refused NoMemory) o took agrees sound = absurd took
+number_given None (Done words number of) o took agrees sound = absurd took
+number_given None (Stopped left) o took agrees sound = absurd took
+number_given None (Rotated suffix) o took agrees sound = absurd took
+number_given None (Deleted suffix) o took agrees sound = absurd took
 
 -- after a call of the outside that ended the work the history is legal
 legal_published : (stamped : List (List ℕ)) (who : Who) (fault : OutsideFault) (h : History) → Legal stamped h
@@ -106,7 +96,7 @@ module _ (stamped : List (List ℕ)) (c : List ℕ) (named : IsTrue (is_collecto
   }
 
   target : Target stamped Me (view Me) (SinkFile X) (BornFile c)
-  target = collector_target stamped Me (SinkFile X) (BornFile c) place refl refl refl
+  target = collector_target stamped Me (SinkFile X) (BornFile c) place refl refl
 
   -- nothing was done since the start
   abbrev Unstarted : View → Option File → Option File → Option File → Type 0
@@ -150,7 +140,7 @@ module _ (stamped : List (List ℕ)) (c : List ℕ) (named : IsTrue (is_collecto
     read_may : MayCall stamped ReadQ named Begun
     read_may before answer files logs legal h = record { own_files = tt; logs = tt; requests = tt; rule = tt }
 
-    read_leaves : (taken : Option (List ℕ)) (number : Option ℕ) → number ≡ start_number c taken
+    read_leaves : (taken : Option (List ℕ)) (number : Option ℕ) → number ≡ start_number taken
         → LeavesCall stamped ReadQ named Begun (Took bytes_given taken) (HasLooked Me number)
     read_leaves taken number is before answer files logs took legal h =
         let step = own_step ReadQ answer files logs in
@@ -162,7 +152,7 @@ module _ (stamped : List (List ℕ)) (c : List ℕ) (named : IsTrue (is_collecto
         record {
           born = ap (λ (v : View). v.born) sight ∙ h.0;
           made = ap (λ (v : View). v.made) sight ∙ h.1;
-          is = is ∙ (number_given c taken answer _ took agrees sound ∙ ap (λ o. Some (number_in o)) (sym same));
+          is = is ∙ (number_given taken answer _ took agrees sound ∙ ap (λ o. Some (number_in o)) (sym same));
         }
 
     read_looked : (result : Result (Option ℕ) OutsideFault) {old new : Option History} → ReadsNumber Me name result old new

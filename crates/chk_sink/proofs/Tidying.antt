@@ -1,6 +1,7 @@
 -- A replacement of the mark leaves the collector's other sinks and marks.
-use Rattle.std.proofs.Common.{◌≡◌, ℕ, Bool, true, false, ◌||◌, ◌&&◌, is_some, List, [], ◌∷◌, ◌++◌, Option, Some, None, Result, ap, sym, subst, ◌∙◌, refl, true≢false, bytes_eq}
+use Rattle.std.proofs.Common.{◌≡◌, ℕ, Bool, true, false, ◌&&◌, is_some, List, [], ◌∷◌, ◌++◌, Option, Some, None, Result, ap, sym, subst, ◌∙◌, refl, true≢false, bytes_eq}
 use Rattle.std.specs.Prelude.{IsTrue}
+use Rattle.std.proofs.lemmas.Bool.{or_from}
 use Rattle.std.proofs.lemmas.Option.{same_Some}
 use Rattle.std.proofs.lemmas.List.{append_cancel_right}
 use Rattle.chk_bytes.specs.Stems.{Stem, is_stem, same_stem}
@@ -79,9 +80,6 @@ module _ (x : Stem) (good : IsTrue (is_stem x)) where
   on_mark : (n : Name) → IsTrue (is_known n) → same_name n (MarkFile x) ≡ false → bytes_eq (spell n) mark ≡ false
   on_mark n known e = named_test n known mark ∙ (ap (same_name n) (read-spell (MarkFile x) good) ∙ e)
 
-  neither : (a b : Bool) → a ≡ false → b ≡ false → (a || b) ≡ false
-  neither a b e f = rw (e, f) refl
-
   -- a call on the next content
   next_only : (before : History) (step : Step) → is_stopped before ≡ false → Modelled before step
       → ((w : List ℕ) → touches (deed step.act) w ≡ bytes_eq w (tmp mark)) → OnlyMarks x before step
@@ -104,7 +102,7 @@ module _ (x : Stem) (good : IsTrue (is_stem x)) where
                 (λ before a f l running honest own. record {
                   running = running;
                   modelled = honest.modelled;
-                  spares = λ n k e g. neither (bytes_eq (spell n) mark) (bytes_eq (spell n) (tmp mark)) (on_mark n k e) (on_next n k g);
+                  spares = λ n k e g. or_from (bytes_eq (spell n) mark) (bytes_eq (spell n) (tmp mark)) (on_mark n k e) (on_next n k g);
                 }),
                 tt,
               ),

@@ -3,7 +3,6 @@ use Rattle.std.proofs.Common.{◌≡◌, ℕ, Bool, true, false, ◌&&◌, List,
 use Rattle.std.specs.Prelude.{IsTrue, length}
 use Rattle.chk_bytes.specs.Stems.{Stem, is_stem, same_stem}
 use Rattle.chk_site.specs.declared.acts.ActAnswer.{ActAnswer}
-use Rattle.chk_site.specs.declared.acts.ActAnswer.TheVariants.{Stopped}
 use Rattle.chk_site.specs.Files.{File, Files}
 use Rattle.chk_site.specs.Acts.{Deed, Reads, Renames, Removes, Cuts, Appends, change_of, deed, is_done}
 use Rattle.chk_site.specs.History.{Step, History, files_after}
@@ -12,8 +11,8 @@ use Rattle.chk_world.specs.Names.{Name, SinkFile, MarkFile, DoneFile, read, spel
 use Rattle.chk_world.specs.Committed.{HasFile, number_in}
 use Rattle.chk_world.specs.Collectors.{View, Current, view, own_view, still}
 use Rattle.chk_world.proofs.NameTests.{same_name, stem_self, stem_same, named, applied, moved_named, bridge}
-use Rattle.chk_world.proofs.Outcomes.{CameTo, whole, nothing, junk, Leaves, went_on, was_stopped, leaves}
-use Rattle.chk_world.proofs.ToldCalls.{GoesOn}
+use Rattle.chk_world.proofs.Outcomes.{CameTo, whole, nothing, junk, leaves}
+use Rattle.chk_world.proofs.ToldCalls.{GoesOn, came_on}
 use Rattle.chk_world.proofs.CollectorCalls.{own_sight}
 use Rattle.chk_sink.specs.States.{State, Writing, process, last_stem}
 use Rattle.chk_sink.specs.Held.{IsAsKept, IsOther, Holds}
@@ -111,25 +110,19 @@ no_append x call (drops_mark v is reads) w piece e = cc
 no_append x call (cuts_sink v n is reads) w piece e = cc
 no_append x call (closes old new is reads reads_new) w piece e = cc
 
-goes_stopped : (answer : ActAnswer) (left : _) → GoesOn answer → answer ≡ Stopped left → ⊥
-goes_stopped answer left goes e = subst GoesOn e goes
-
 -- the step leaves the files of other stems, whatever it answers but a stop
 pub file_beside : (x : Stem) (before : History) (step : Step) (n : Name) → Honest before step → GoesOn step.act.answer
     → OnLeft x (deed step.act) → IsBeside x n → IsTrue (is_known n) → file step.files n ≡ file (files_after before) n
 file_beside x before step n honest goes on beside known =
-    go
-    (let e = honest.modelled.effect in
-    leaves (deed step.act) step.act.answer (files_after before) step.files e.did e.may e.files_left)
+    let e = honest.modelled.effect in
+    came
+    (came_on (deed step.act) step.act.answer (files_after before) step.files goes
+    (leaves (deed step.act) step.act.answer (files_after before) step.files e.did e.may e.files_left))
   where
     came : CameTo (deed step.act) (is_done step.act.answer) (files_after before) step.files → file step.files n ≡ file (files_after before) n
     came (whole e) = e (spell n) ∙ (bridge (change_of (deed step.act)) (files_after before) n known ∙ leaves_beside x n beside (file (files_after before)) (deed step.act) on)
     came (nothing not_yet e) = e (spell n)
     came (junk w piece bytes is not_yet e) = absurd (no_append x (deed step.act) on w piece is)
-
-    go : Leaves (deed step.act) step.act.answer (files_after before) step.files → file step.files n ≡ file (files_after before) n
-    go (went_on no_stop c) = came c
-    go (was_stopped left is middle c tails) = absurd (goes_stopped step.act.answer left goes is)
 
 -- the sink that is written to stays as it is kept
 kept_beside : (x y : Stem) (v w : View) (f g : Files) (o : Option Writing) → Spares x v w

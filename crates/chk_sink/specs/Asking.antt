@@ -1,6 +1,6 @@
 -- The questions for a sink's committed length.
-use Rattle.std.specs.Prelude.{◌≡◌, ℕ, true, false, Bool, ◌&&◌, ◌==◌, nat_le, nat_lt, IsTrue, List, length, is_some, Option, None, Result, Ok, Err, MatchResult}
-use Rattle.chk_bytes.specs.Numbers.{spelled, limit}
+use Rattle.std.specs.Prelude.{◌≡◌, ℕ, true, false, IsTrue, List, is_some, Option, None, Result, Ok, Err, MatchResult}
+use Rattle.chk_bytes.specs.Numbers.{spelled}
 use Rattle.chk_bytes.specs.Stems.{Stem, is_stem, is_collector}
 use Rattle.chk_site.specs.declared.acts.Who.{Who}
 use Rattle.chk_site.specs.declared.acts.CallFault.{CallFault}
@@ -16,10 +16,7 @@ use Rattle.chk_sink.specs.declared.fault.SinkFault.{SinkFault}
 use Rattle.chk_sink.specs.declared.fault.SinkFault.TheVariants.{Damaged, NoMemory}
 use Rattle.chk_sink.specs.States.{State, process, last_stem}
 use Rattle.chk_sink.specs.Asked.{Counts}
-
--- the bytes are a number that a mark may be
-abbrev pub is_mark : List ℕ → Bool
-is_mark bytes = (length bytes == 8) && (nat_le 96 (spelled bytes) && nat_lt (spelled bytes) limit)
+use Rattle.chk_sink.specs.Damage.{is_number_from}
 
 -- the call was made, and gave this, or was refused for the state of the files, or else it ended the work
 pub record TakenOnce {V : Type 0} (q : Asked) (how : V → ActAnswer) (result : Result (Option V) OutsideFault)
@@ -47,7 +44,7 @@ pub record IsAsker (who : Who) (s : State) : Type 0 where
 
 -- the bytes are a mark and this is its number, or they are none and the mark is damaged
 abbrev pub IsMarkNumber : List ℕ → List ℕ → Result ℕ SinkFault → Type 0
-IsMarkNumber name bytes (Ok n) = (is_mark bytes ≡ true) × (n ≡ spelled bytes)
-IsMarkNumber name bytes (Err (Damaged w at)) = (is_mark bytes ≡ false) × (w ≡ name) × (at ≡ 0)
+IsMarkNumber name bytes (Ok n) = (is_number_from 96 bytes ≡ true) × (n ≡ spelled bytes)
+IsMarkNumber name bytes (Err (Damaged w at)) = (is_number_from 96 bytes ≡ false) × (w ≡ name) × (at ≡ 0)
 IsMarkNumber name bytes (Err NoMemory) = Unit {0}
 IsMarkNumber name bytes (Err fault) = ⊥

@@ -1,5 +1,5 @@
 -- Which acts of a call show that a file is damaged, or that the number of starts is the last one.
-use Rattle.std.specs.Prelude.{◌≡◌, ℕ, Bool, true, false, ◌&&◌, ◌||◌, ◌==◌, nat_le, nat_lt, IsTrue, List, [], ◌∷◌, length, Option, Some, None, Result, Ok, Err, if◌then◌else◌}
+use Rattle.std.specs.Prelude.{◌≡◌, ◌<◌, ℕ, Bool, true, false, ◌&&◌, ◌||◌, ◌==◌, nat_le, nat_lt, IsTrue, List, [], ◌∷◌, length, Option, Some, None, Result, Ok, Err, if◌then◌else◌}
 use Rattle.chk_bytes.specs.Numbers.{spelled, limit}
 use Rattle.chk_site.specs.declared.acts.CallFault.TheVariants.{Short}
 use Rattle.chk_site.specs.declared.acts.ActAnswer.{ActAnswer}
@@ -17,9 +17,22 @@ abbrev pub least_in : Name → ℕ
 least_in (MarkFile x) = 96
 least_in n = 0
 
+-- the bytes are 8, of a number from this one, below the limit
+abbrev pub is_number_from : ℕ → List ℕ → Bool
+is_number_from least bytes = (length bytes == 8) && (nat_le least (spelled bytes) && nat_lt (spelled bytes) limit)
+
+-- that number, where they are
+abbrev pub number_from : ℕ → List ℕ → Option ℕ
+number_from least bytes = if is_number_from least bytes then Some (spelled bytes) else None
+
+-- a number below the limit, where there is one
+abbrev pub IsInLimit : Option ℕ → Type 0
+IsInLimit None = Unit {0}
+IsInLimit (Some number) = number < limit
+
 -- the bytes are a number that may stand in the file
 abbrev pub is_number_of : Name → List ℕ → Bool
-is_number_of n bytes = (length bytes == 8) && (nat_le (least_in n) (spelled bytes) && nat_lt (spelled bytes) limit)
+is_number_of n bytes = is_number_from (least_in n) bytes
 
 -- the mark's name, of a sink under writing
 abbrev pub mark_name : Name → Option (List ℕ)
@@ -49,6 +62,12 @@ DamageCause (Ok value) added history = damage_in added ≡ None
 DamageCause (Err (Damaged name at)) added history = (damage_in added ≡ Some name) × (at ≡ 0)
 DamageCause (Err NoMemory) added history = Unit {0}
 DamageCause (Err fault) added history = damage_in added ≡ None
+
+-- the file of this name is damaged, or there was no memory to tell so
+abbrev pub IsDamageOf : List ℕ → SinkFault → Type 0
+IsDamageOf name (Damaged w at) = (w ≡ name) × (at ≡ 0)
+IsDamageOf name NoMemory = Unit {0}
+IsDamageOf name fault = ⊥
 
 -- the act read the last number of starts
 abbrev pub reads_last : Bool → Deed → ActAnswer → Bool

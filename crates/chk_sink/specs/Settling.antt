@@ -1,7 +1,7 @@
 -- The settling of the sinks that were left under writing: what is known before and after each of its calls.
-use Rattle.std.specs.Prelude.{◌≡◌, ℕ, Bool, true, false, ◌&&◌, not, ◌==◌, nat_le, nat_lt, IsTrue, List, length, codes, bytes_eq, is_some, if◌then◌else◌, Option, Some, None, option_map, Result, Ok, Err}
+use Rattle.std.specs.Prelude.{◌≡◌, ℕ, Bool, true, false, ◌&&◌, not, IsTrue, List, codes, bytes_eq, is_some, if◌then◌else◌, Option, Some, None, option_map, Result, Ok, Err}
 use Rattle.std.specs.List.{list_any}
-use Rattle.chk_bytes.specs.Numbers.{spelled, limit}
+use Rattle.chk_bytes.specs.Numbers.{spelled}
 use Rattle.chk_bytes.specs.Stems.{Stem, is_stem, is_collector, same_stem, read_stem}
 use Rattle.chk_bytes.specs.Words.{before_end}
 use Rattle.chk_site.specs.declared.acts.Who.{Who}
@@ -12,7 +12,7 @@ use Rattle.chk_world.specs.Committed.{HasFile, IsAbsent}
 use Rattle.chk_world.specs.Collectors.{IsCommitted}
 use Rattle.chk_world.specs.Places.{AtTold}
 use Rattle.chk_sink.specs.declared.fault.SinkFault.{SinkFault}
-use Rattle.chk_sink.specs.declared.fault.SinkFault.TheVariants.{Damaged, NoMemory}
+use Rattle.chk_sink.specs.declared.fault.SinkFault.TheVariants.{Damaged}
 use Rattle.chk_sink.specs.States.{State, process, last_stem}
 use Rattle.chk_sink.specs.Held.{IsOther, Holds, Matches}
 use Rattle.chk_sink.specs.Faults.{FailsLast}
@@ -64,22 +64,6 @@ left_of names last x = list_any (λ name. is_same (left_in name) x) names && not
 -- no stem is left
 abbrev pub none_left : Stem → Bool
 none_left x = false
-
--- ---- the number in a mark
-
--- a mark may have these bytes
-abbrev pub is_mark_bytes : List ℕ → Bool
-is_mark_bytes bytes = (length bytes == 8) && (nat_le 96 (spelled bytes) && nat_lt (spelled bytes) limit)
-
--- their number, where it may
-abbrev pub mark_number : List ℕ → Option ℕ
-mark_number bytes = if is_mark_bytes bytes then Some (spelled bytes) else None
-
--- this mark is damaged, or there was no memory to tell so
-abbrev pub IsDamageOf : List ℕ → SinkFault → Type 0
-IsDamageOf mark (Damaged name at) = (name ≡ mark) × (at ≡ 0)
-IsDamageOf mark NoMemory = Unit {0}
-IsDamageOf mark fault = ⊥
 
 -- ---- what the history holds
 

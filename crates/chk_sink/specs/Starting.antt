@@ -1,6 +1,5 @@
 -- The parts of a start: its process is started, the number of its last start is read, and the next one is published.
-use Rattle.std.specs.Prelude.{◌≡◌, ◌<◌, ℕ, Bool, true, false, ◌==◌, List, [], ◌∷◌, Option, Some, None, Result, Ok, Err, MatchResult, if◌then◌else◌}
-use Rattle.chk_bytes.specs.Numbers.{spelled, limit}
+use Rattle.std.specs.Prelude.{◌≡◌, ℕ, Bool, true, false, ◌==◌, List, [], ◌∷◌, Option, Some, None, Result, Ok, Err, MatchResult}
 use Rattle.chk_site.specs.declared.acts.Who.{Who}
 use Rattle.chk_site.specs.declared.acts.Call.TheVariants.{Read}
 use Rattle.chk_site.specs.declared.acts.CallFault.{CallFault}
@@ -16,28 +15,23 @@ use Rattle.chk_world.specs.Places.{AtTold}
 use Rattle.chk_sink.specs.declared.fault.SinkFault.{SinkFault}
 use Rattle.chk_sink.specs.declared.fault.SinkFault.TheVariants.{Damaged, Spent}
 use Rattle.chk_sink.specs.States.{State, last_number}
-use Rattle.chk_sink.specs.Damage.{is_number_of, damage_in, reads_last, has_read_last, IsLookOnly}
+use Rattle.chk_sink.specs.Damage.{number_from, damage_in, reads_last, has_read_last, IsLookOnly}
 
 -- the number of the collector's last start, by what was read of its file; 0 where that isn't there
-abbrev pub start_number : List ℕ → Option (List ℕ) → Option ℕ
-start_number c None = Some 0
-start_number c (Some bytes) = if is_number_of (BornFile c) bytes then Some (spelled bytes) else None
-
--- a number that may stand in the file, where there is one
-abbrev pub IsInLimit : Option ℕ → Type 0
-IsInLimit None = Unit {0}
-IsInLimit (Some number) = number < limit
+abbrev pub start_number : Option (List ℕ) → Option ℕ
+start_number None = Some 0
+start_number (Some bytes) = number_from 0 bytes
 
 -- the number is the one that the read gave
-pub record IsNumberGiven (c : List ℕ) (given : Result (List ℕ) CallFault) (number : Option ℕ) : Type 0 where
+pub record IsNumberGiven (given : Result (List ℕ) CallFault) (number : Option ℕ) : Type 0 where
   pub taken : Option (List ℕ)
   pub is_taken : IsTaken given taken
-  pub is : number ≡ start_number c taken
+  pub is : number ≡ start_number taken
 
 -- the file was read once, and gave this number, or the read ended the work
 pub record ReadsNumber (who : Who) (name : List ℕ) (result : Result (Option ℕ) OutsideFault) (old new : Option History) : Type 0 where
   pub given : Result (List ℕ) CallFault
-  pub came : MatchResult result (λ number. IsNumberGiven who.name given number) (λ fault. Ends Read given fault)
+  pub came : MatchResult result (λ number. IsNumberGiven given number) (λ fault. Ends Read given fault)
   pub told : Adds old new (Calls (asked who Read (name ∷ []) 0 9) (answered bytes_given given))
 
 -- the collector has started, published no number and created no sink, and this is the number in its file

@@ -1,8 +1,6 @@
 //! The questions for a sink's committed length.
 
-ghost use Rattle.std.specs.Prelude.{◌≡◌, ℕ, ◌∷◌, [], List, SomeIff, IfErr, IsTrue};
-ghost use Rattle.chk_bytes.specs.Numbers.{spelled};
-ghost use Rattle.chk_bytes.specs.Words.{is_word};
+ghost use Rattle.std.specs.Prelude.{◌≡◌, ℕ, ◌∷◌, [], List, IfErr, IsTrue};
 ghost use Rattle.chk_bytes.specs.Stems.{Stem as Parts, is_stem};
 ghost use Rattle.chk_message.specs.Messages.{Ack};
 ghost use Rattle.chk_site.specs.declared.acts.Call.TheVariants.{Size, Read};
@@ -14,15 +12,13 @@ ghost use Rattle.chk_sink.specs.States.{State, process};
 ghost use Rattle.chk_sink.specs.Faults.{SinkCause, FailsLast};
 ghost use Rattle.chk_sink.specs.Damage.{DamageCause};
 ghost use Rattle.chk_sink.specs.Asked.{CountedOn, IsOfQuestion};
-ghost use Rattle.chk_sink.specs.Asking.{TakenOnce, IsMarkNumber, IsAsker, CountedOpen, is_mark};
+ghost use Rattle.chk_sink.specs.Asking.{TakenOnce, IsMarkNumber, IsAsker, CountedOpen};
 
+use crate::numbers::{LEAST_MARK, damaged, number_from};
 use crate::{SinkFault, names};
-use chk_bytes::{Bytes, Stem, Word, take_u64};
+use chk_bytes::{Bytes, Stem};
 use chk_site::{Call, OutsideFault, Site, Who, taken};
 use std::alloc::Global;
-
-/// The least number of a mark: it is behind the header.
-const LEAST_MARK: u64 = 96;
 
 /// The length of the file of this name, where it is there.
 pub(crate) fn size_of<S: Site>(
@@ -59,29 +55,13 @@ pub(crate) fn stem_is_good(stem: &Stem)
     let _ = stem.number();
 }
 
-// The number of a mark of these bytes; `None` where they are no mark's.
-fn mark_number(bytes: &[u8]) -> Option<u64>
-    ensures { SomeIff result (IsTrue (is_mark bytes.now)) (spelled bytes.now) }
-{
-    let number = take_u64(bytes, 0)?;
-    if bytes.len() == 8 && number >= LEAST_MARK && number < 1 << 63 {
-        Some(number)
-    } else {
-        None
-    }
-}
-
 // The number in the mark of this name, of which these bytes were read.
 fn number_of(alloc: Global, name: &str, bytes: &[u8]) -> Result<u64, SinkFault>
-    requires { IsTrue (is_word name.now) }
     ensures { IsMarkNumber name.now bytes.now result }
 {
-    match mark_number(bytes) {
+    match number_from(bytes, LEAST_MARK) {
         Some(number) => Ok(number),
-        None => {
-            let name = Word::from_text(alloc, name)?;
-            Err(SinkFault::Damaged { name, at: 0 })
-        }
+        None => Err(damaged(alloc, name)),
     }
 }
 

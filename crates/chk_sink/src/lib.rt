@@ -11,6 +11,7 @@ mod closing;
 mod current;
 mod fault;
 mod names;
+mod numbers;
 mod settling;
 mod sinks;
 mod starting;

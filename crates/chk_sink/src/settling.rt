@@ -1,7 +1,6 @@
 //! The settling of the sinks that were left under writing.
 
 ghost use Rattle.std.specs.Prelude.{◌≡◌, ◌<◌, ◌≤◌, ℕ, List, [], ◌∷◌, Bool, Option, None, IfErr, IfSome, IsTrue, MatchOption, length};
-ghost use Rattle.chk_bytes.specs.Numbers.{spelled};
 ghost use Rattle.chk_bytes.specs.Words.{before_end};
 ghost use Rattle.chk_bytes.specs.Stems.{Stem as Parts, is_stem};
 ghost use Rattle.chk_site.specs.Site.{Adds};
@@ -12,18 +11,13 @@ ghost use Rattle.chk_sink.specs.Faults.{SinkCause};
 ghost use Rattle.chk_sink.specs.States.{State, process};
 ghost use Rattle.chk_sink.specs.Held.{IsOther, Matches};
 ghost use Rattle.chk_sink.specs.Closes.{IsOfTick};
-ghost use Rattle.chk_sink.specs.Settling.{IsSettling, IsCaused, kept_stem, left_in, is_same, chosen, left_of, none_left, HoldsBut, HoldsAt, AnyFiles, NoMark, MarkedBy, CutAt, NoSink, BothGone, MarkFound, CutFound, Found, mark_number, IsDamageOf};
+ghost use Rattle.chk_sink.specs.Settling.{IsSettling, IsCaused, kept_stem, left_in, is_same, chosen, left_of, none_left, HoldsBut, HoldsAt, AnyFiles, NoMark, MarkedBy, CutAt, NoSink, BothGone, MarkFound, CutFound, Found};
 
+use crate::numbers::{LEAST_MARK, damaged, number_from};
 use crate::{SinkFault, names};
-use chk_bytes::{NoMemory, Stem, Word, WordFault, take_u64};
+use chk_bytes::{NoMemory, Stem, Word};
 use chk_site::{Call, CallFault, OutsideFault, Site, Who, done, taken};
 use std::alloc::Global;
-
-/// The least number in a mark: a sink's header has so many bytes.
-const HEADER: u64 = 96;
-
-/// Numbers in files are below this.
-const LIMIT: u64 = 1 << 63;
 
 /// Settles each sink of the collector that the folder shows, but the one that is written to.
 pub(crate) fn settle_left<S: Site>(
@@ -248,35 +242,10 @@ fn read_mark<S: Site>(
     let read = site.read(alloc, who, mark, 0, 9);
     match taken(Call::Read, read)? {
         None => Ok(None),
-        Some(bytes) => match mark_number(bytes.as_slice()) {
+        Some(bytes) => match number_from(bytes.as_slice(), LEAST_MARK) {
             Some(number) => Ok(Some(number)),
             None => Err(damaged(alloc, mark)),
         },
-    }
-}
-
-// The number of 8 bytes, where a mark may be it.
-fn mark_number(bytes: &[u8]) -> Option<u64>
-    ensures { result ≡ mark_number bytes.now }
-{
-    if bytes.len() != 8 {
-        return None;
-    }
-    let number = take_u64(bytes, 0)?;
-    if number >= HEADER && number < LIMIT {
-        Some(number)
-    } else {
-        None
-    }
-}
-
-// The mark is damaged.
-fn damaged(alloc: Global, mark: &str) -> SinkFault
-    ensures { IsDamageOf mark.now result }
-{
-    match Word::new(alloc, mark.as_bytes()) {
-        Ok(name) => SinkFault::Damaged { name, at: 0 },
-        Err(_) => SinkFault::NoMemory,
     }
 }
 

@@ -12,13 +12,14 @@ ghost use Rattle.chk_world.specs.Names.{BornFile, spell};
 ghost use Rattle.chk_world.specs.Rules.{Legal};
 ghost use Rattle.chk_world.specs.Places.{Foreign};
 ghost use Rattle.chk_sink.specs.Faults.{SinkCause, FailsLast};
-ghost use Rattle.chk_sink.specs.Damage.{DamageCause, SpentCause};
+ghost use Rattle.chk_sink.specs.Damage.{DamageCause, SpentCause, IsInLimit};
 ghost use Rattle.chk_sink.specs.Calls.{MadeOnce};
 ghost use Rattle.chk_sink.specs.Starts.{IsLastStart};
-ghost use Rattle.chk_sink.specs.Starting.{start_number, IsInLimit, ReadsNumber, Looked, ShowsStart, Published};
+ghost use Rattle.chk_sink.specs.Starting.{ReadsNumber, Looked, ShowsStart, Published};
 
 use crate::SinkFault;
-use chk_bytes::{NoMemory, Word, take_u64};
+use crate::numbers::number_from;
+use chk_bytes::{NoMemory, Word};
 use chk_replace::replace;
 use chk_site::{Call, OutsideFault, Site, Who, done, taken};
 use std::alloc::Global;
@@ -115,21 +116,7 @@ fn read_number<S: Site>(
     let Some(bytes) = read else {
         return Ok(Some(0));
     };
-    Ok(number_in(bytes.as_slice()))
-}
-
-// The number of a start that these bytes are, and none where they aren't 8 bytes of one below 2^63.
-fn number_in(bytes: &[u8]) -> Option<u64>
-    ensures is { (c : List ℕ) → result ≡ start_number c (Some bytes.now) }
-    ensures small { IsInLimit result }
-{
-    if bytes.len() != 8 {
-        return None;
-    }
-    match take_u64(bytes, 0) {
-        Some(number) if number <= LAST_START => Some(number),
-        _ => None,
-    }
+    Ok(number_from(bytes.as_slice(), 0))
 }
 
 // Replaces the collector's number of starts.

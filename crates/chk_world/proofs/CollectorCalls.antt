@@ -58,7 +58,8 @@ pub record Alike (v w : View) : Type 0 where
   pub made : w.made ≡ v.made
   pub current : w.current ≡ v.current
 
-still_well : (y : Option Stem) (o : Option Current) → still true y o ≡ o
+-- a call that was done leaves the current sink as it is
+pub still_well : (y : Option Stem) (o : Option Current) → still true y o ≡ o
 still_well None o = refl
 still_well (Some y) None = refl
 still_well (Some y) (Some cur) = refl
@@ -113,8 +114,8 @@ goes_is_done (Deleted suffix) e = tt
 
 -- a small file of a collector, beside another file of its
 pub collector_target : (stamped : List (List ℕ)) (who : Who) (a n : Name) → IsPlace (around who (view who) a n)
-    → is_small n ≡ true → same_name a n ≡ false → same_name a (Temporary n) ≡ false → Target stamped who (view who) a n
-collector_target stamped who a n place small apart apart_next = record {
+    → is_small n ≡ true → same_name a (Temporary n) ≡ false → Target stamped who (view who) a n
+collector_target stamped who a n place small apart_next = record {
   place = place;
   sight = λ history step f. view_stays stamped who history step f;
   small = small;

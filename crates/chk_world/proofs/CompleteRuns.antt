@@ -1,10 +1,8 @@
 -- A complete run takes all that was kept at its listing.
-use Rattle.std.proofs.Common.{◌≡◌, ◌⊎◌, inl, inr, ℕ, zero, suc, ◌<◌, ◌≤◌, ◌^◌, Bool, true, false, ◌&&◌, ◌||◌, not, List, [], ◌∷◌, ◌++◌, length, take, Some, is_some, ap, sym, subst, ◌∙◌, refl, arith, true≢false, if◌then◌else◌, cond, bytes_eq}
+use Rattle.std.proofs.Common.{◌≡◌, ◌⊎◌, inl, inr, ℕ, zero, suc, ◌<◌, ◌≤◌, ◌^◌, Bool, true, false, ◌&&◌, ◌||◌, not, List, [], ◌∷◌, ◌++◌, length, length-append, take, Some, is_some, ap, sym, subst, ◌∙◌, refl, arith, true≢false, if◌then◌else◌, cond, bytes_eq}
 use Rattle.std.specs.Prelude.{IsTrue, IsSome, Contains, Any, codes, decimal, slice_index_or, count_by, flat_map, ◌==◌}
 use Rattle.std.specs.List.{list_any, list_all}
 use Rattle.std.specs.Char.{is_ascii_digit}
-use Rattle.std.specs.Str.{is_utf8, chars}
-use lib.Utf8.{encode}
 use Rattle.std.proofs.lemmas.Bool.{and_parts, and_from, cases_lt}
 use Rattle.std.proofs.lemmas.Fmt.{digits_decimal}
 use Rattle.std.proofs.lemmas.List.{take_all}
@@ -14,8 +12,8 @@ use Rattle.std.proofs.lemmas.Option.{same_Some, none-some}
 use Rattle.chk_bytes.specs.Stems.{Stem, is_stem, is_stem_letter, stem_text}
 use Rattle.chk_bytes.specs.Words.{is_word}
 use Rattle.chk_bytes.proofs.DecimalLemmas.{all_digits}
-use Rattle.chk_bytes.proofs.StemLemmas.{stem_facts, stem_text_word, length-stem_text}
-use Rattle.chk_bytes.proofs.WordLemmas.{is_word-append}
+use Rattle.chk_bytes.proofs.StemLemmas.{stem_facts, stem_text_plain, length-stem_text}
+use Rattle.chk_bytes.proofs.WordLemmas.{is_plain_byte, plain_word, plain-append}
 use Rattle.chk_site.specs.declared.acts.Role.TheVariants.{Job}
 use Rattle.chk_site.specs.declared.acts.ActAnswer.{ActAnswer}
 use Rattle.chk_site.specs.declared.acts.ActAnswer.TheVariants.{Done}
@@ -40,7 +38,7 @@ use Rattle.chk_world.proofs.KeptLaw.{sink_there}
 
 -- ---- the names of sinks can be listed
 
-abbrev is_slash : ℕ → Bool
+abbrev pub is_slash : ℕ → Bool
 is_slash b = b == 47
 
 letter_no_slash : (b : ℕ) → is_stem_letter b ≡ true → is_slash b ≡ false
@@ -73,23 +71,23 @@ stem_no_slash x known =
     (none_behind (decimal x.born) (46 ∷ decimal x.number) (decimal_no_slash x.born s.born_below) (decimal_no_slash x.number s.number_below))
 
 -- a name that a listing of its folder can show
-abbrev CanBeListed : List ℕ → Type 0
+abbrev pub CanBeListed : List ℕ → Type 0
 CanBeListed name = IsTrue (is_word name && not (list_any is_slash name))
 
-can_be_listed : (x : Stem) → IsTrue (is_stem x) → (end : List ℕ) → IsTrue (is_word end) → list_any is_slash end ≡ false → length end ≤ 100
+-- so can a stem's, with a short ending of plain letters
+pub can_be_listed : (x : Stem) → IsTrue (is_stem x) → (end : List ℕ) → list_all is_plain_byte end ≡ true → list_any is_slash end ≡ false → length end ≤ 100
     → CanBeListed (stem_text x ++ end)
-can_be_listed x known end word none short =
-    let size = (length-stem_text x known).1 in
+can_be_listed x known end plain none short =
+    let size = length-stem_text x known in
+    let whole = length-append (stem_text x) end in
     and_from (is_word (stem_text x ++ end)) (not (list_any is_slash (stem_text x ++ end)))
-    (is_word-append (stem_text x) end (stem_text_word x known) word (omega (arith, size, short)))
+    (plain_word (stem_text x ++ end) (plain-append (stem_text x) end (stem_text_plain x known) plain) (omega (arith, size.0, whole)) (omega (arith, size.1, whole, short)))
     (ap not (none_behind (stem_text x) end (stem_no_slash x known) none))
 
 sink_can : (x : Stem) → IsTrue (is_stem x) → CanBeListed (stem_text x ++ codes ".chukwa")
-unfolding is_word is_utf8 chars encode
 sink_can x known = can_be_listed x known (codes ".chukwa") refl refl (omega arith)
 
 done_can : (x : Stem) → IsTrue (is_stem x) → CanBeListed (stem_text x ++ codes ".done")
-unfolding is_word is_utf8 chars encode
 done_can x known = can_be_listed x known (codes ".done") refl refl (omega arith)
 
 -- ---- what a listing shows
@@ -169,7 +167,7 @@ flat_in {X = X} {Y = Y} f xs x y one in_it = go xs one.0 one.1 one.2
 any_in : {X : Type 0} (P : X → Type 0) (xs : List X) (x : X) → Contains xs x → P x → Any P xs
 any_in P xs x one h = (one.0, x, one.1, one.2, h)
 
-sink_name : (x : Stem) → spell (SinkFile x) ≡ in_folder (codes "sinks") (stem_text x ++ codes ".chukwa")
+pub sink_name : (x : Stem) → spell (SinkFile x) ≡ in_folder (codes "sinks") (stem_text x ++ codes ".chukwa")
 unfolding spell
 sink_name x = refl
 

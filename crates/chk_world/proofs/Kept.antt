@@ -14,6 +14,11 @@ pub on_file : (o : Option File) {P Q : File → Type 0} → ((f : File) → P f 
 on_file None g h = tt
 on_file (Some f) g h = g f h
 
+-- a file that is there can be named
+pub there : (o : Option File) {P : File → Type 0} → HasFile o P → (f : File) × (o ≡ Some f) × P f
+there None h = absurd h
+there (Some f) h = (f, refl, h)
+
 pub there_absent : (P : File → Type 0) (o : Option File) → HasFile o P → IsAbsent o → ⊥
 there_absent P None h a = h
 there_absent P (Some f) h a = a

@@ -62,6 +62,7 @@ pub mod CommittedSaved
 pub mod CompleteRuns
 pub mod Passed
 pub mod RunsCover
+pub mod Nobody
 pub mod OtherSources
 pub mod Rounds
 pub mod Reports

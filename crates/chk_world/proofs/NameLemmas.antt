@@ -31,7 +31,7 @@ pub other_end : (front : List ℕ) (b : ℕ) (text end : List ℕ) (e : ℕ) →
 other_end front b text end e apart =
     before_end-other front b (text ++ end) e (text ++ (end ++ e ∷ [])) (sym (append_assoc text end (e ∷ []))) apart
 
-picked_some : {A : Type 0} (make : List ℕ → A) (o : Option (List ℕ)) (t : List ℕ) (next : A) → o ≡ Some t → picked make o next ≡ make t
+pub picked_some : {A : Type 0} (make : List ℕ → A) (o : Option (List ℕ)) (t : List ℕ) (next : A) → o ≡ Some t → picked make o next ≡ make t
 picked_some make o t next e = ap (λ o. picked make o next) e
 
 pub picked_none : {A : Type 0} (make : List ℕ → A) (o : Option (List ℕ)) (next : A) → o ≡ None → picked make o next ≡ next

@@ -2,7 +2,7 @@
 use Rattle.std.proofs.Common.{◌≡◌, ◌⊎◌, ℕ, zero, suc, ◌+◌, ◌-◌, ◌≤◌, ◌<◌, Bool, true, false, ◌&&◌, ◌||◌, not, List, [], ◌∷◌, length, Option, Some, None, inl, inr, ap, sym, subst, ◌∙◌, cond, refl, true≢false, arith, bytes_eq, if◌then◌else◌, nat_le}
 use Rattle.std.specs.Prelude.{IsTrue, Contains, slice_index_or, find}
 use Rattle.std.specs.List.{list_any}
-use Rattle.std.proofs.lemmas.Bool.{and_parts, and_from}
+use Rattle.std.proofs.lemmas.Bool.{and_parts, and_from, not-true}
 use Rattle.std.proofs.lemmas.Option.{none-some}
 use Rattle.chk_control.specs.Classes.{is_plain}
 use Rattle.chk_site.specs.declared.acts.Who.{Who}
@@ -174,10 +174,6 @@ pub line_found : (source : List ℕ) (lines : List Line) (l : Line) → are_apar
     → find (is_line_of (stream_of source l)) lines ≡ Some l
 line_found source lines l apart c = go lines apart c.0 c.1 c.2
   where
-    negated : (b : Bool) → not b ≡ true → b ≡ false
-    negated false e = refl
-    negated true e = absurd (true≢false (sym e))
-
     first_of : (a b : Bool) → (a || b) ≡ false → a ≡ false
     first_of false b e = refl
     first_of true b e = e
@@ -191,6 +187,6 @@ line_found source lines l apart c = go lines apart c.0 c.1 c.2
         ∙ ap Some at
     go (y ∷ ys) apart (suc k) below at =
         let p = and_parts (not (list_any (clash y) ys)) (are_apart ys) apart in
-        let no_clash = apart_from (clash y) ys l k (omega arith) at (negated (list_any (clash y) ys) p.0) in
+        let no_clash = apart_from (clash y) ys l k (omega arith) at (not-true (list_any (clash y) ys) p.0) in
         ap (λ b. cond b (Some y) (find (is_line_of (stream_of source l)) ys)) (other_log source l y (first_of (same_log y l) _ no_clash))
         ∙ go ys p.1 k (omega arith) at

@@ -1,8 +1,8 @@
 -- The segments that a book names stay as they are, and the archive only grows.
-use Rattle.std.proofs.Common.{◌≡◌, ◌⊎◌, inl, inr, ℕ, zero, suc, ◌<◌, ◌≤◌, Bool, true, false, ◌||◌, List, [], ◌∷◌, ◌++◌, length, map, Option, Some, None, option_map, ap, sym, subst, ◌∙◌, if◌then◌else◌, refl, true≢false, arith, append_assoc, append-nil, length-append, nat_eq}
+use Rattle.std.proofs.Common.{◌≡◌, ◌⊎◌, inl, inr, ℕ, zero, suc, ◌<◌, ◌≤◌, Bool, true, false, List, [], ◌∷◌, ◌++◌, length, map, Option, Some, None, option_map, ap, sym, subst, ◌∙◌, if◌then◌else◌, refl, true≢false, arith, append_assoc, append-nil, length-append, nat_eq}
 use Rattle.std.specs.Prelude.{IsTrue, IsFalse, Contains, slice_index_or, flat_map, unwrap_or, nat_lt}
 use Rattle.std.specs.List.{list_all, list_any}
-use Rattle.std.proofs.lemmas.Bool.{and_parts, and_from}
+use Rattle.std.proofs.lemmas.Bool.{and_parts, and_from, or_parts, or_right}
 use Rattle.std.proofs.lemmas.List.{map-append}
 use Rattle.std.proofs.lemmas.List.Folds.{list_all-append}
 use Rattle.std.proofs.lemmas.List.Elements.{Contains-append_left, Contains-append_right}
@@ -43,10 +43,6 @@ all_in p xs x all c = go xs c.0 all c.1 c.2
 any_in : {X : Type 0} (p : X → Bool) (xs : List X) (x : X) → Contains xs x → p x ≡ true → list_any p xs ≡ true
 any_in p xs x c h = go xs c.0 c.1 c.2
   where
-    or_right : (a b : Bool) → b ≡ true → (a || b) ≡ true
-    or_right true b e = refl
-    or_right false b e = e
-
     go : (xs : List _) (k : ℕ) → k < length xs → slice_index_or xs k x ≡ x → list_any p xs ≡ true
     go [] k below at = absurd (let z : ⊥ = omega arith in z)
     go (y ∷ ys) zero below at = rw (ap p at ∙ h) refl
@@ -169,10 +165,6 @@ segment_owner Job name folder k h = refl
 segment_owner Agent name folder k h = absurd (true≢false (sym h))
 segment_owner Collector name folder k h = absurd (true≢false (sym h))
 segment_owner Writer name folder k h = absurd (true≢false (sym h))
-
-or_parts : (a b : Bool) → (a || b) ≡ false → (a ≡ false) × (b ≡ false)
-or_parts true b e = absurd (true≢false e)
-or_parts false b e = (refl, e)
 
 module _ (folder : Folder) (k : ℕ) (who : Who) (before : Files) (is : is_named before (SegmentFile folder k) ≡ true) where
   abbrev Seg : Name

@@ -1,6 +1,7 @@
 -- What a call of a process's own leads to, where the told history is legal and a fact holds.
-use Rattle.std.proofs.Common.{◌≡◌, ℕ, Bool, true, false, ◌&&◌, List, [], ◌∷◌, ◌++◌, Ok, Err, Option, Result, sym, subst, ◌∙◌, refl, true≢false}
+use Rattle.std.proofs.Common.{◌≡◌, ℕ, Bool, true, false, List, [], ◌∷◌, ◌++◌, Ok, Err, Option, Result, sym, subst, ◌∙◌, refl, true≢false}
 use Rattle.std.specs.Prelude.{IsTrue, Some, None}
+use Rattle.std.proofs.lemmas.Bool.{and_right}
 use Rattle.std.proofs.lemmas.List.{append_cancel_right}
 use Rattle.std.proofs.lemmas.Option.{same_Some, none-some}
 use Rattle.chk_site.specs.declared.acts.Role.{Role}
@@ -16,7 +17,7 @@ use Rattle.chk_site.specs.declared.acts.ActAnswer.TheVariants.{Done, Refused, St
 use Rattle.chk_site.specs.declared.lists.Left.{Left}
 use Rattle.chk_site.specs.Files.{Files}
 use Rattle.chk_site.specs.Logs.{Logs}
-use Rattle.chk_site.specs.Acts.{Deed, Starts, deed, same_role, same_who}
+use Rattle.chk_site.specs.Acts.{Deed, Starts, deed, is_done, same_role, same_who}
 use Rattle.chk_site.specs.History.{Step, History, files_after, is_stopped}
 use Rattle.chk_site.specs.Honest.{Honest}
 use Rattle.chk_site.specs.Site.{Adds, Asked, asked, own_step, answered, plain, Calls, CallsSome, IsDone, Ends, WasDone, IsTaken, Took}
@@ -26,6 +27,7 @@ use Rattle.chk_site.proofs.Leads.{Keeps, Shows, done_leads, ok_leads, exists_lea
 use Rattle.chk_world.specs.Rules.{Framed, OnlyWritersGrowLogs, OnlyAgentsRequest, StartsAfterStop, RoleMay, Obeys, Legal, is_named_so, must_start, starts_anew, stopped_by}
 use Rattle.chk_world.specs.Places.{Foreign, AtTold}
 use Rattle.chk_world.proofs.Ends.{bytes_self}
+use Rattle.chk_world.proofs.Outcomes.{CameTo, Leaves, went_on, was_stopped}
 use Rattle.chk_world.proofs.PlacesStay.{Stays, told_stays}
 
 -- what is asked of a call besides honesty, a good name and a start after a stop
@@ -39,6 +41,11 @@ pub record Allowed (stamped : List (List ℕ)) (history : History) (step : Step)
 abbrev pub GoesOn : ActAnswer → Type 0
 GoesOn (Stopped left) = ⊥
 GoesOn answer = Unit {0}
+
+-- a step that is no stop leaves what its call came to
+pub came_on : (call : Deed) (answer : ActAnswer) (before after : Files) → GoesOn answer → Leaves call answer before after → CameTo call (is_done answer) before after
+came_on call answer before after goes (went_on no_stop came) = came
+came_on call answer before after goes (was_stopped left is middle came tails) = absurd (subst GoesOn is goes)
 
 pub goes_on_done : (answer : ActAnswer) → WasDone answer → GoesOn answer
 goes_on_done (Done words number of) was = tt
@@ -65,13 +72,9 @@ role_self Writer = refl
 pub who_self : (who : Who) → same_who who who ≡ true
 who_self who = rw (role_self who.role, bytes_self who.name) refl
 
-and_false : (a b : Bool) → b ≡ false → (a && b) ≡ false
-and_false true b e = e
-and_false false b e = refl
-
 starts_fine : (who : Who) (history : History) (call : Deed) → must_start who history ≡ false → StartsAfterStop who history call
 starts_fine who history Starts e = tt
-starts_fine who history call e = and_false (starts_anew who.role) (must_start who history) e
+starts_fine who history call e = and_right (starts_anew who.role) (must_start who history) e
 
 acts_on : (who : Who) (own : Bool) (answer : ActAnswer) (earlier : Bool) → own ≡ true → GoesOn answer → stopped_by who own answer earlier ≡ false
 acts_on who own (Done words number of) earlier mine goes = rw mine refl

@@ -3,7 +3,6 @@ use Rattle.std.proofs.lemmas.Result.{err_from_is_err_and}
 use Rattle.chk_world.specs.Names.{MarkFile, read}
 use Rattle.chk_world.proofs.NameLemmas.{read-spell}
 use Rattle.chk_sink.specs.Asking.{IsMarkNumber}
-use Rattle.chk_sink.proofs.MarkWord.{named_word}
 use Rattle.chk_sink.proofs.Counting.{mark_given, mark_none, mark_ended}
 use Rattle.chk_sink.proofs.DamageSeen.{bytes_damaged, none_damaged, ended_damaged}
 use Rattle.chk_sink.proofs.asking.marked.Goals as goal
@@ -21,10 +20,6 @@ returns-in_err-read-clause-damaged g c =
     let w_is = c.as_str.ensures.value ∙ c.in_ok-name.ensures in
     ended_damaged c.args.who.now c.as_str.result.now c.args.stem.now (ap read w_is ∙ read-spell (MarkFile c.args.stem.now) c.requires)
     c.bytes_of.result c.in_err-read.field-0.0 c.from_residual-in_err-read.result c.in_err-read.was (p.1 ∙ ap Err p.2) c.bytes_of.ensures.told
-
-pub number_of-requires : goal.number_of-requires
-number_of-requires g c =
-    named_word c.args.stem.now c.as_str-in-Some.result.now c.requires (c.as_str-in-Some.ensures.value ∙ c.in_ok-name.ensures)
 
 pub returns-in-Some-clause-told : goal.returns-in-Some-clause-told
 returns-in-Some-clause-told g c stamped s handled t stems acks asks =

@@ -2,13 +2,15 @@ use Rattle.std.proofs.Common.{◌∙◌, refl, sym, ap, Err, Some, None, subst, 
 use Rattle.std.proofs.lemmas.Result.{err_from_is_err_and}
 use Rattle.chk_site.specs.declared.acts.Call.TheVariants.{Read}
 use Rattle.chk_site.specs.Site.{IsTaken, asked, bytes_given}
-use Rattle.chk_sink.specs.Settling.{HoldsAt, MarkFound, mark_number}
+use Rattle.chk_sink.specs.Damage.{number_from}
+use Rattle.chk_sink.specs.Settling.{HoldsAt, MarkFound}
+use Rattle.chk_sink.proofs.NumberBytes.{number_found, number_none}
 use Rattle.chk_sink.proofs.LeftCalls.{as_writer}
 use Rattle.chk_sink.proofs.LeftCuts.{mark_got, mark_bad, mark_none, mark_asked}
 use Rattle.chk_sink.proofs.Founding.{is_left, found_failed}
 use Rattle.chk_sink.proofs.Causing.{caused_ends}
 use Rattle.chk_sink.proofs.Unread.{mark_unread}
-use Rattle.chk_sink.proofs.MarkDamage.{taken_some, number_found, number_none, found_damage, none_caused, number_caused, bad_caused}
+use Rattle.chk_sink.proofs.MarkDamage.{taken_some, found_damage, none_caused, number_caused, bad_caused}
 use Rattle.chk_sink.proofs.settling.read_mark.Goals as goal
 
 pub returns-in_err-taken-clause-told : goal.returns-in_err-taken-clause-told
@@ -35,27 +37,27 @@ returns-in-None-clause-caused g c x good named =
     none_caused c.args.who.now c.args.mark.now {T = Option ℕ} None c.read-read.result
     (subst (IsTaken c.read-read.result) c.in-None.is c.in_ok-taken.ensures) (mark_unread x good c.args.mark.now named 0 9) c.read-read.ensures.told
 
-pub returns-in-Some-mark_number-clause-told : goal.returns-in-Some-mark_number-clause-told
-returns-in-Some-mark_number-clause-told g c stamped s may x settles other named =
+pub returns-in-Some-number_from-clause-told : goal.returns-in-Some-number_from-clause-told
+returns-in-Some-number_from-clause-told g c stamped s may x settles other named =
     let bytes = c.in-Some.bytes in
     let gave = taken_some c.read-read.result _ bytes c.in_ok-taken.ensures c.in-Some.is in
-    let number = number_found bytes c.in-Some-mark_number.number (sym (c.mark_number.ensures ∙ ap mark_number c.as_slice.ensures) ∙ c.in-Some-mark_number.is) in
-    mark_got stamped s may x (is_left s c.args.who.now x settles other) c.args.mark.now named bytes c.in-Some-mark_number.number number.1
+    let number = number_found 96 bytes c.in-Some-number_from.number (sym (c.number_from.ensures.is ∙ ap (number_from 96) c.as_slice.ensures) ∙ c.in-Some-number_from.is) in
+    mark_got stamped s may x (is_left s c.args.who.now x settles other) c.args.mark.now named bytes c.in-Some-number_from.number number.1
     c.read-read.result gave
     (as_writer bytes_given s c.args.who.now Read (c.args.mark.now ∷ []) 0 9 settles.writer c.read-read.result c.read-read.ensures.told)
 
-pub returns-in-Some-mark_number-clause-caused : goal.returns-in-Some-mark_number-clause-caused
-returns-in-Some-mark_number-clause-caused g c x good named =
+pub returns-in-Some-number_from-clause-caused : goal.returns-in-Some-number_from-clause-caused
+returns-in-Some-number_from-clause-caused g c x good named =
     let bytes = c.in-Some.bytes in
     let gave = taken_some c.read-read.result _ bytes c.in_ok-taken.ensures c.in-Some.is in
-    let number = number_found bytes c.in-Some-mark_number.number (sym (c.mark_number.ensures ∙ ap mark_number c.as_slice.ensures) ∙ c.in-Some-mark_number.is) in
-    number_caused c.args.who.now c.args.mark.now x good named bytes c.read-read.result gave {T = Option ℕ} (Some c.in-Some-mark_number.number) number.0 c.read-read.ensures.told
+    let number = number_found 96 bytes c.in-Some-number_from.number (sym (c.number_from.ensures.is ∙ ap (number_from 96) c.as_slice.ensures) ∙ c.in-Some-number_from.is) in
+    number_caused c.args.who.now c.args.mark.now x good named bytes c.read-read.result gave {T = Option ℕ} (Some c.in-Some-number_from.number) number.0 c.read-read.ensures.told
 
 pub returns-clause-told : goal.returns-clause-told
 returns-clause-told g c stamped s may x settles other named =
     let bytes = c.in-Some.bytes in
     let gave = taken_some c.read-read.result _ bytes c.in_ok-taken.ensures c.in-Some.is in
-    let bad = number_none bytes (sym (c.mark_number.ensures ∙ ap mark_number c.as_slice.ensures) ∙ c.in-None-mark_number.is) in
+    let bad = number_none 96 bytes (sym (c.number_from.ensures.is ∙ ap (number_from 96) c.as_slice.ensures) ∙ c.in-None-number_from.is) in
     let told = as_writer bytes_given s c.args.who.now Read (c.args.mark.now ∷ []) 0 9 settles.writer c.read-read.result c.read-read.ensures.told in
     let left = is_left s c.args.who.now x settles other in
     found_damage stamped s (λ found. HoldsAt s may x (MarkFound found)) c.args.mark.now c.damaged.result c.damaged.ensures
@@ -67,5 +69,5 @@ pub returns-clause-caused : goal.returns-clause-caused
 returns-clause-caused g c x good named =
     let bytes = c.in-Some.bytes in
     let gave = taken_some c.read-read.result _ bytes c.in_ok-taken.ensures c.in-Some.is in
-    let bad = number_none bytes (sym (c.mark_number.ensures ∙ ap mark_number c.as_slice.ensures) ∙ c.in-None-mark_number.is) in
+    let bad = number_none 96 bytes (sym (c.number_from.ensures.is ∙ ap (number_from 96) c.as_slice.ensures) ∙ c.in-None-number_from.is) in
     bad_caused c.args.who.now c.args.mark.now x good named bytes c.read-read.result gave {T = Option ℕ} c.damaged.result bad c.damaged.ensures c.read-read.ensures.told

@@ -6,8 +6,7 @@ use Rattle.chk_site.proofs.Leads.{leads_then}
 use Rattle.chk_site.proofs.Runs.{adds_as}
 use Rattle.chk_sink.specs.Faults.{sink_fault}
 use Rattle.chk_sink.specs.States.{last_number}
-use Rattle.chk_sink.specs.Damage.{DamageCause, SpentCause}
-use Rattle.chk_sink.specs.Starting.{IsInLimit}
+use Rattle.chk_sink.specs.Damage.{DamageCause, SpentCause, IsInLimit}
 use Rattle.chk_sink.proofs.StartTold.{published_told, unpublished_told}
 use Rattle.chk_sink.proofs.StartShows.{done_causes, failed_causes}
 use Rattle.chk_sink.proofs.Last.{later_fails, both, none_fails}
