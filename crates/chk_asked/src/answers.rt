@@ -3,42 +3,45 @@ use chk_bytes::{Bytes, Word};
 use chk_site::{CallFault, Piece, Suffix, Taking};
 use std::test::Fail;
 
-pub fn done(given: Result<(), CallFault>, told: &mut String) -> Result<(), Fail> {
+pub(crate) fn done(given: Result<(), CallFault>, told: &mut String) -> Result<(), Fail> {
     match given {
         Ok(()) => Ok(told.push_str("done")?),
         Err(fault) => refused(fault, told),
     }
 }
 
-pub fn number(given: Result<u64, CallFault>, told: &mut String) -> Result<(), Fail> {
+pub(crate) fn number(given: Result<u64, CallFault>, told: &mut String) -> Result<(), Fail> {
     match given {
         Ok(number) => Ok(write!(told, "{number}")?),
         Err(fault) => refused(fault, told),
     }
 }
 
-pub fn bytes(given: Result<Bytes, CallFault>, told: &mut String) -> Result<(), Fail> {
+pub(crate) fn bytes(given: Result<Bytes, CallFault>, told: &mut String) -> Result<(), Fail> {
     match given {
         Ok(bytes) => bracketed(&bytes, told),
         Err(fault) => refused(fault, told),
     }
 }
 
-pub fn names(given: Result<Vec<Word>, CallFault>, told: &mut String) -> Result<(), Fail> {
+pub(crate) fn names(given: Result<Vec<Word>, CallFault>, told: &mut String) -> Result<(), Fail> {
     match given {
         Ok(names) => listed(&names, told),
         Err(fault) => refused(fault, told),
     }
 }
 
-pub fn suffix(given: Result<Option<Suffix>, CallFault>, told: &mut String) -> Result<(), Fail> {
+pub(crate) fn suffix(
+    given: Result<Option<Suffix>, CallFault>,
+    told: &mut String,
+) -> Result<(), Fail> {
     match given {
         Ok(suffix) => Ok(told.push_str(suffix_text(&suffix))?),
         Err(fault) => refused(fault, told),
     }
 }
 
-pub fn piece(given: Result<Piece, CallFault>, told: &mut String) -> Result<(), Fail> {
+pub(crate) fn piece(given: Result<Piece, CallFault>, told: &mut String) -> Result<(), Fail> {
     match given {
         Ok(piece) => {
             bracketed(&piece.bytes, told)?;
@@ -49,7 +52,10 @@ pub fn piece(given: Result<Piece, CallFault>, told: &mut String) -> Result<(), F
     }
 }
 
-pub fn taking(given: Result<Option<Taking>, CallFault>, told: &mut String) -> Result<(), Fail> {
+pub(crate) fn taking(
+    given: Result<Option<Taking>, CallFault>,
+    told: &mut String,
+) -> Result<(), Fail> {
     match given {
         Ok(Some(taking)) => {
             let number = taking.number;
