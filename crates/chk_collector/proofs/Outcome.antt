@@ -25,15 +25,15 @@ use Rattle.chk_sink.specs.Asked.{IsOfQuestion}
 use Rattle.chk_collector.specs.Outcomes.{Refused, BadPost, Lines, Fails, RefusedBy, MayFail, OutcomeLast, OutcomeDamage, OutcomeSpent, Replied, chunk_fault_name, line}
 use Rattle.chk_collector.specs.Posting.{HasLineEach, IsOfPut}
 use Rattle.chk_collector.specs.Polling.{HasLineOf}
-use Rattle.chk_collector.specs.Replies.{MayHaveRisen, code_by, body_by}
+use Rattle.chk_collector.specs.Replies.{MayHaveRisen, IsTold, IsReplyBy}
 
 -- ---- a post
 
-post_may_fail : (request : List ℕ) (chunks : List Chunk) (fault : SinkFault) → IsPostOf chunks request → IsOfPut fault → MayFail request fault
-post_may_fail request chunks (Outside call) post of_put = inl (post.0, post.1)
-post_may_fail request chunks (Damaged name at) post of_put = absurd of_put
-post_may_fail request chunks (Spent born) post of_put = (chunks, post)
-post_may_fail request chunks NoMemory post of_put = inl (post.0, post.1)
+post_may_fail : (request : List ℕ) (chunks : List Chunk) (fault : SinkFault) → IsPostOf chunks request → IsOfPut fault → IsTold (Err fault) → MayFail request fault
+post_may_fail request chunks (Outside call) post of_put told = inl (post.0, post.1)
+post_may_fail request chunks (Damaged name at) post of_put told = absurd of_put
+post_may_fail request chunks (Spent born) post of_put told = (chunks, post)
+post_may_fail request chunks NoMemory post of_put told = told
 
 post_damages : (fault : SinkFault) {old new : Option History} → IsOfPut fault → Adds old new (FailsLast {T = Unit {0}} (Err fault))
     → Adds old new (OutcomeDamage (Fails fault))
@@ -46,13 +46,13 @@ pub post_replied : {E : Type 0} (request : List ℕ) (chunks : List Chunk) (old 
     (lines : List ℕ) (done : Result (Unit {0}) SinkFault) (result : Result (List ℕ) E) → IsPostOf chunks request
     → OnceDone done (HasLineEach chunks lines) → IfErr done IsOfPut → IfErr done (λ fault. OutcomeSpent old new (Fails fault))
     → Adds told_before told_after (FailsLast done) → SinkCause before now done
-    → IfOk result (λ reply. reply ≡ written_reply (code_by done) (phrase_of (code_by done)) (body_by done lines))
+    → IfOk result (IsReplyBy done lines)
     → IfOk result (Replied request old new before now told_before told_after)
 post_replied request chunks old new before now told_before told_after lines (Ok value) result post each of_put spent last cause written =
     IfOk-weaker result _ (Replied request old new before now told_before told_after)
     (λ reply is. record {
       outcome = Lines each.acks;
-      is = is ∙ ap (λ t. written_reply 200 (phrase_of 200) t) each.lines_are;
+      is = is.is ∙ ap (λ t. written_reply 200 (phrase_of 200) t) each.lines_are;
       by_bytes = inl (chunks, post, each.as_many);
       cause = cause;
       last = adds_as (OutcomeLast (Lines each.acks)) last (λ a h x. tt);
@@ -64,8 +64,8 @@ post_replied request chunks old new before now told_before told_after lines (Err
     IfOk-weaker result _ (Replied request old new before now told_before told_after)
     (λ reply is. record {
       outcome = Fails fault;
-      is = is;
-      by_bytes = post_may_fail request chunks fault post of_put;
+      is = is.is;
+      by_bytes = post_may_fail request chunks fault post of_put is.told;
       cause = cause;
       last = last;
       damaged = post_damages fault of_put last;
@@ -75,11 +75,11 @@ post_replied request chunks old new before now told_before told_after lines (Err
 
 -- ---- a poll
 
-poll_may_fail : (request : List ℕ) (stems : List Stem) (fault : SinkFault) → PollRequest stems request → IsOfQuestion fault → MayFail request fault
-poll_may_fail request stems (Outside call) poll of_question = inr (stems, poll)
-poll_may_fail request stems (Damaged name at) poll of_question = (stems, poll)
-poll_may_fail request stems (Spent born) poll of_question = absurd of_question
-poll_may_fail request stems NoMemory poll of_question = inr (stems, poll)
+poll_may_fail : (request : List ℕ) (stems : List Stem) (fault : SinkFault) → PollRequest stems request → IsOfQuestion fault → IsTold (Err fault) → MayFail request fault
+poll_may_fail request stems (Outside call) poll of_question told = inr (stems, poll)
+poll_may_fail request stems (Damaged name at) poll of_question told = (stems, poll)
+poll_may_fail request stems (Spent born) poll of_question told = absurd of_question
+poll_may_fail request stems NoMemory poll of_question told = told
 
 poll_damages : (fault : SinkFault) {old new : Option History} → Adds old new (DamageCause {T = Unit {0}} (Err fault))
     → Adds old new (OutcomeDamage (Fails fault))
@@ -98,13 +98,13 @@ pub poll_replied : {E : Type 0} (request : List ℕ) (stems : List Stem) (s : St
     (lines : List ℕ) (done : Result (Unit {0}) SinkFault) (result : Result (List ℕ) E) → PollRequest stems request
     → OnceDone done (HasLineOf stems lines) → IfErr done IsOfQuestion
     → Adds told_before told_after (DamageCause done) → Adds told_before told_after (FailsLast done) → SinkCause before now done
-    → IfOk result (λ reply. reply ≡ written_reply (code_by done) (phrase_of (code_by done)) (body_by done lines))
+    → IfOk result (IsReplyBy done lines)
     → IfOk result (Replied request s s before now told_before told_after)
 poll_replied request stems s before now told_before told_after lines (Ok value) result poll each of_question damaged last cause written =
     IfOk-weaker result _ (Replied request s s before now told_before told_after)
     (λ reply is. record {
       outcome = Lines each.acks;
-      is = is ∙ ap (λ t. written_reply 200 (phrase_of 200) t) each.lines_are;
+      is = is.is ∙ ap (λ t. written_reply 200 (phrase_of 200) t) each.lines_are;
       by_bytes = inr (stems, poll, each.of_stems);
       cause = cause;
       last = adds_as (OutcomeLast (Lines each.acks)) last (λ a h x. tt);
@@ -116,8 +116,8 @@ poll_replied request stems s before now told_before told_after lines (Err fault)
     IfOk-weaker result _ (Replied request s s before now told_before told_after)
     (λ reply is. record {
       outcome = Fails fault;
-      is = is;
-      by_bytes = poll_may_fail request stems fault poll of_question;
+      is = is.is;
+      by_bytes = poll_may_fail request stems fault poll of_question is.told;
       cause = cause;
       last = last;
       damaged = poll_damages fault damaged;

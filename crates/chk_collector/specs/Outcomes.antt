@@ -107,11 +107,12 @@ HasLines bytes acks =
     ((chunks : List Chunk) × IsPostOf chunks bytes × (length acks ≡ length chunks))
     ⊎ ((stems : List Stem) × PollRequest stems bytes × (map (λ a. a.stem) acks ≡ stems))
 
--- a put finds nothing damaged, and a question no number spent
+-- a put finds nothing damaged, and a question no number spent; want of memory is told by no reply
 abbrev pub MayFail : List ℕ → SinkFault → Type 0
 MayFail bytes (Damaged name at) = (stems : List Stem) × PollRequest stems bytes
 MayFail bytes (Spent born) = (chunks : List Chunk) × IsPostOf chunks bytes
-MayFail bytes fault = IsRequest bytes
+MayFail bytes (Outside call) = IsRequest bytes
+MayFail bytes NoMemory = ⊥
 
 -- which requests come to this
 abbrev pub IsOutcomeOf : List ℕ → Outcome → Type 0

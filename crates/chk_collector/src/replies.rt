@@ -6,7 +6,7 @@ ghost use Rattle.chk_message.specs.Messages.{IsReply, ack_of, ack_text, written_
 ghost use Rattle.chk_http.specs.Written.{is_answer_code, phrase_of};
 ghost use Rattle.chk_sink.specs.Closes.{OnceDone};
 ghost use Rattle.chk_collector.specs.Outcomes.{line, sink_fault_text};
-ghost use Rattle.chk_collector.specs.Replies.{body_by, code_by};
+ghost use Rattle.chk_collector.specs.Replies.{body_by, code_by, IsReplyBy};
 
 use chk_bytes::{Bytes, NoMemory, Stem, put_decimal};
 use chk_http::write_reply;
@@ -44,8 +44,7 @@ pub(crate) fn reply(
     done: Result<(), SinkFault>,
     lines: &[u8],
 ) -> Result<Bytes, NoMemory>
-    ensures written { IfOk result (λ bytes.
-        bytes ≡ written_reply (code_by done) (phrase_of (code_by done)) (body_by done lines.now)) }
+    ensures written { IfOk result (IsReplyBy done lines.now) }
     ensures accepted { IfOk result (λ bytes. OnceDone done (length lines.now ≤ post_limit)
         → IsReply (code_by done) (body_by done lines.now) bytes) }
 {
