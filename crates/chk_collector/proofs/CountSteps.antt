@@ -9,7 +9,7 @@ use Rattle.chk_site.proofs.Leads.{leads_then, leads_as, leads_none}
 use Rattle.chk_site.proofs.Runs.{adds_none}
 use Rattle.chk_message.specs.Messages.{Ack, ack_of, ack_text, acks_text}
 use Rattle.chk_world.specs.Collectors.{Handling, CommittedLengths}
-use Rattle.chk_world.specs.Places.{Foreign}
+use Rattle.chk_world.specs.Places.{As}
 use Rattle.chk_sink.specs.declared.fault.SinkFault.{SinkFault}
 use Rattle.chk_sink.specs.declared.fault.SinkFault.TheVariants.{Outside, Damaged, Spent, NoMemory}
 use Rattle.chk_sink.specs.States.{State, process}
@@ -29,7 +29,7 @@ pub record CountedSoFar (old now : Option History) (before count : ℕ) (s : Sta
   pub of_stems : map (λ a. a.stem) acks ≡ done
   pub short : length lines ≤ 126 * length done
   pub told : (stamped : List (List ℕ)) (handled : List Handling) (t : ℕ)
-      → Adds old now (Leads (Foreign stamped (process s)) (Ready stamped s handled) (Counted stamped s handled t done acks))
+      → Adds old now (Leads (As stamped (process s)) (Ready stamped s handled) (Counted stamped s handled t done acks))
   pub damaged : Adds old now (DamageCause {T = Unit {0}} (Ok tt))
   pub same : count ≡ before
 
@@ -37,7 +37,7 @@ pub record CountedSoFar (old now : Option History) (before count : ℕ) (s : Sta
 abbrev pub CountsOne : Option History → Option History → State → Stem → Result ℕ SinkFault → Type 0
 CountsOne now new s x result =
     (stamped : List (List ℕ)) (handled : List Handling) (t : ℕ) (stems : List Stem) (acks : List Ack)
-    → Adds now new (Leads (Foreign stamped (process s)) (Counted stamped s handled t stems acks) (CountedOn stamped s handled t stems acks x result))
+    → Adds now new (Leads (As stamped (process s)) (Counted stamped s handled t stems acks) (CountedOn stamped s handled t stems acks x result))
 
 -- none yet
 pub count_begins : (now : Option History) (n : ℕ) (s : State) (stems : List Stem) (lines : List ℕ) → lines ≡ []
@@ -79,7 +79,7 @@ module _ {old now new : Option History} {before count : ℕ} {s : State} {stems 
   -- one was refused
   pub count_fails : (x : Stem) (fault : SinkFault) → CountsOne now new s x (Err fault)
       → (stamped : List (List ℕ)) (handled : List Handling) (t : ℕ)
-      → Adds old new (Leads (Foreign stamped (process s)) (Ready stamped s handled) (CountedAll stamped s handled t stems lines (Err fault)))
+      → Adds old new (Leads (As stamped (process s)) (Ready stamped s handled) (CountedAll stamped s handled t stems lines (Err fault)))
   count_fails x fault told stamped handled t =
       leads_as (λ h y. y) (refused fault) (leads_then (so_far.told stamped handled t) (told stamped handled t so_far.done so_far.acks))
     where
@@ -93,7 +93,7 @@ module _ {old now new : Option History} {before count : ℕ} {s : State} {stems 
   -- one was answered, and there was no memory for its line
   pub count_unwritten : (x : Stem) (n : ℕ) (fault : SinkFault) (lines' : List ℕ) → CountsOne now new s x (Ok n)
       → (stamped : List (List ℕ)) (handled : List Handling) (t : ℕ)
-      → Adds old new (Leads (Foreign stamped (process s)) (Ready stamped s handled) (CountedAll stamped s handled t stems lines' (Err fault)))
+      → Adds old new (Leads (As stamped (process s)) (Ready stamped s handled) (CountedAll stamped s handled t stems lines' (Err fault)))
   count_unwritten x n fault lines' told stamped handled t =
       leads_as (λ h y. y)
       (λ h y. record { legal = y.legal; may_act = y.may_act; alive = λ r. record { handles = (y.alive r).handles; told = tt } })
@@ -106,7 +106,7 @@ module _ {old now : Option History} {before count : ℕ} {s : State} {stems rest
 
   -- all were asked for
   pub count_ends : rest ≡ [] → (stamped : List (List ℕ)) (handled : List Handling) (t : ℕ)
-      → Adds old now (Leads (Foreign stamped (process s)) (Ready stamped s handled) (CountedAll stamped s handled t stems lines (Ok tt)))
+      → Adds old now (Leads (As stamped (process s)) (Ready stamped s handled) (CountedAll stamped s handled t stems lines (Ok tt)))
   count_ends none stamped handled t =
       leads_as (λ h y. y)
       (λ h y. record {

@@ -6,7 +6,7 @@ use Rattle.chk_site.specs.History.{History}
 use Rattle.chk_site.specs.Site.{Adds}
 use Rattle.chk_site.specs.Runs.{Leads}
 use Rattle.chk_site.proofs.Leads.{leads_then, leads_as}
-use Rattle.chk_world.specs.Places.{Foreign}
+use Rattle.chk_world.specs.Places.{As}
 use Rattle.chk_sink.specs.declared.fault.SinkFault.{SinkFault}
 use Rattle.chk_sink.specs.States.{State, Writing, process, last_stem, with_current, ticked_state, ticked, is_closed_at, seen_first}
 use Rattle.chk_sink.specs.Held.{Holds, Matches}
@@ -77,16 +77,16 @@ module _ (stamped : List (List ℕ)) (s : State) where
 
   pub finish_told : (new : State) (result : Result (Unit {0}) SinkFault) {old mid end : Option History}
       → OnOk result (new ≡ with_current After None)
-      → Adds old mid (Leads (Foreign stamped (process s)) (Matches stamped s) (Ticked stamped s After (Ok tt)))
+      → Adds old mid (Leads (As stamped (process s)) (Matches stamped s) (Ticked stamped s After (Ok tt)))
       → (After.current ≡ None → end ≡ mid)
-      → Adds mid end (Leads (Foreign stamped (process s)) (Matches stamped After) (Closed stamped After new result))
-      → Adds old end (Leads (Foreign stamped (process s)) (Matches stamped s) (Finished stamped s new result))
+      → Adds mid end (Leads (As stamped (process s)) (Matches stamped After) (Closed stamped After new result))
+      → Adds old end (Leads (As stamped (process s)) (Matches stamped s) (Finished stamped s new result))
   finish_told new (Err fault) is tick idle close =
       leads_as (λ h x. x) (refused new fault) (leads_then (leads_as (λ h x. x) ticked_holds tick) close)
   finish_told new (Ok value) {old = old} {mid = mid} {end = end} is tick idle close = by (closed_by s.rotate s.current)
     where
       Whole : Option History → State → Type 0
-      Whole end new = Adds old end (Leads (Foreign stamped (process s)) (Matches stamped s) (Finished stamped s new (Ok tt)))
+      Whole end new = Adds old end (Leads (As stamped (process s)) (Matches stamped s) (Finished stamped s new (Ok tt)))
 
       by : (After.current ≡ None) ⊎ ClosedLate s.rotate s.current → Whole end new
       by (inl none) =
@@ -98,17 +98,17 @@ module _ (stamped : List (List ℕ)) (s : State) where
   -- the same of the state that the tick left
   pub finish_as : (after new : State) (result : Result (Unit {0}) SinkFault) {old mid end : Option History}
       → after ≡ After → OnOk result (new ≡ with_current after None)
-      → Adds old mid (Leads (Foreign stamped (process s)) (Matches stamped s) (Ticked stamped s after (Ok tt)))
+      → Adds old mid (Leads (As stamped (process s)) (Matches stamped s) (Ticked stamped s after (Ok tt)))
       → (after.current ≡ None → end ≡ mid)
-      → Adds mid end (Leads (Foreign stamped (process after)) (Matches stamped after) (Closed stamped after new result))
-      → Adds old end (Leads (Foreign stamped (process s)) (Matches stamped s) (Finished stamped s new result))
+      → Adds mid end (Leads (As stamped (process after)) (Matches stamped after) (Closed stamped after new result))
+      → Adds old end (Leads (As stamped (process s)) (Matches stamped s) (Finished stamped s new result))
   finish_as after new result {old = old} {mid = mid} {end = end} same =
       subst Told (sym same) (finish_told new result)
     where
       Told : State → Type 0
       Told t =
           OnOk result (new ≡ with_current t None)
-          → Adds old mid (Leads (Foreign stamped (process s)) (Matches stamped s) (Ticked stamped s t (Ok tt)))
+          → Adds old mid (Leads (As stamped (process s)) (Matches stamped s) (Ticked stamped s t (Ok tt)))
           → (t.current ≡ None → end ≡ mid)
-          → Adds mid end (Leads (Foreign stamped (process t)) (Matches stamped t) (Closed stamped t new result))
-          → Adds old end (Leads (Foreign stamped (process s)) (Matches stamped s) (Finished stamped s new result))
+          → Adds mid end (Leads (As stamped (process t)) (Matches stamped t) (Closed stamped t new result))
+          → Adds old end (Leads (As stamped (process s)) (Matches stamped s) (Finished stamped s new result))

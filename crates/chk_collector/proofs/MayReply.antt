@@ -12,7 +12,7 @@ use Rattle.chk_chunk.proofs.PostGrammar.{one_post}
 use Rattle.chk_message.specs.Messages.{IsPostOf, PollRequest, IsReply}
 use Rattle.chk_message.proofs.Accepted.{PostRequest-same, IsReply-same}
 use Rattle.chk_world.specs.Collectors.{Handling, view, begun, with_appends, handling_of, NoSyncBeforeAnswer, AnswersWell}
-use Rattle.chk_world.specs.Places.{Foreign}
+use Rattle.chk_world.specs.Places.{As}
 use Rattle.chk_sink.specs.declared.fault.SinkFault.{SinkFault}
 use Rattle.chk_sink.specs.States.{State, process}
 use Rattle.chk_sink.specs.Held.{Handles}
@@ -78,7 +78,7 @@ post_stands s t request others chunks lines done h post q = record {
 
 pub refused_told : {E : Type 0} (stamped : List (List ℕ)) (s : State) (t : ℕ) (request : List ℕ) (others : List Handling) (code : ℕ) (body : List ℕ)
     (result : Result (List ℕ) E) (now : Option History) → (code ≡ 200 → ⊥) → IfOk result (IsReply code body)
-    → Adds now now (Leads (Foreign stamped (process s)) (Taken stamped s t request others) (Answered stamped s t request others result))
+    → Adds now now (Leads (As stamped (process s)) (Taken stamped s t request others) (Answered stamped s t request others result))
 refused_told stamped s t request others code body (Ok reply) now other is =
     leads_none now
     (λ h x. record {

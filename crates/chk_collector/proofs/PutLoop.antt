@@ -12,7 +12,7 @@ use Rattle.chk_site.proofs.Runs.{adds_none}
 use Rattle.chk_chunk.specs.Keys.{Chunk}
 use Rattle.chk_message.specs.Messages.{Ack, ack_of, ack_text, acks_text}
 use Rattle.chk_world.specs.Collectors.{Handling, with_appends}
-use Rattle.chk_world.specs.Places.{Foreign}
+use Rattle.chk_world.specs.Places.{As}
 use Rattle.chk_sink.specs.declared.fault.SinkFault.{SinkFault}
 use Rattle.chk_sink.specs.States.{State, IsSameStart, process}
 use Rattle.chk_sink.specs.Held.{Handles, Ready}
@@ -30,7 +30,7 @@ pub record PutSoFar (old now : Option History) (before count : ℕ) (first s : S
   pub as_many : length acks ≡ length done
   pub short : length lines ≤ 126 * length done
   pub told : (stamped : List (List ℕ)) (handled : List Handling) → ArePosted handled chunks
-      → Adds old now (Leads (Foreign stamped (process first)) (Ready stamped first handled) (WroteAll stamped s handled done lines (Ok tt)))
+      → Adds old now (Leads (As stamped (process first)) (Ready stamped first handled) (WroteAll stamped s handled done lines (Ok tt)))
   pub goes_on : Adds old now Whatever
   pub same : IsSameStart first s
   pub cause : count ≡ before
@@ -93,15 +93,15 @@ module _ {old now : Option History} {before count : ℕ} {first s : State} {chun
 module _ {old now new : Option History} {before count : ℕ} {first s : State} {chunks rest : List Chunk} {lines : List ℕ}
     (so_far : PutSoFar old now before count first s chunks rest lines) where
   -- the process is the same
-  by_same : {A B : History → Type 0} → (stamped : List (List ℕ)) → Adds now new (Leads (Foreign stamped (process s)) A B)
-      → Adds now new (Leads (Foreign stamped (process first)) A B)
+  by_same : {A B : History → Type 0} → (stamped : List (List ℕ)) → Adds now new (Leads (As stamped (process s)) A B)
+      → Adds now new (Leads (As stamped (process first)) A B)
   by_same {A = A} {B = B} stamped told =
-      subst (λ (name : List ℕ). Adds now new (Leads (Foreign stamped (record { role = Collector; name = name })) A B)) so_far.same.collector told
+      subst (λ (name : List ℕ). Adds now new (Leads (As stamped (record { role = Collector; name = name })) A B)) so_far.same.collector told
 
   -- one more was put, and this is what is told of its line
   put_told : (c : Chunk) (rest' : List Chunk) (x : Stem) (n : ℕ) (s' : State) (lines' : List ℕ) → rest ≡ c ∷ rest' → lines' ≡ lines ++ ack_text (ack_of x n)
       → PutsOne now new s s' c (Ok (x, n)) → (stamped : List (List ℕ)) (handled : List Handling) → ArePosted handled chunks
-      → Adds old new (Leads (Foreign stamped (process first)) (Ready stamped first handled)
+      → Adds old new (Leads (As stamped (process first)) (Ready stamped first handled)
       (WroteAll stamped s' handled (so_far.done ++ c ∷ []) lines' (Ok tt)))
   put_told c rest' x n s' lines' more line told stamped handled posted =
       leads_then (so_far.told stamped handled posted)
@@ -112,7 +112,7 @@ module _ {old now new : Option History} {before count : ℕ} {first s : State} {
   -- what is told where the puts end with a refusal
   pub put_fails : (c : Chunk) (rest' : List Chunk) (result : Result (Stem × ℕ) SinkFault) (fault : SinkFault) (s' : State) (lines' : List ℕ)
       → rest ≡ c ∷ rest' → PutsOne now new s s' c result → (stamped : List (List ℕ)) (handled : List Handling) → ArePosted handled chunks
-      → Adds old new (Leads (Foreign stamped (process first)) (Ready stamped first handled) (WroteAll stamped s' handled chunks lines' (Err fault)))
+      → Adds old new (Leads (As stamped (process first)) (Ready stamped first handled) (WroteAll stamped s' handled chunks lines' (Err fault)))
   put_fails c rest' result fault s' lines' more told stamped handled posted =
       leads_then (so_far.told stamped handled posted)
       (by_same stamped

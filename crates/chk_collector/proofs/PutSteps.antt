@@ -10,7 +10,7 @@ use Rattle.chk_site.specs.Runs.{Leads}
 use Rattle.chk_chunk.specs.Keys.{Chunk}
 use Rattle.chk_message.specs.Messages.{Ack, ack_of, ack_text}
 use Rattle.chk_world.specs.Collectors.{Handling, Appended, IsPosted, Tells, TellAll, view, with_appends}
-use Rattle.chk_world.specs.Places.{Foreign}
+use Rattle.chk_world.specs.Places.{As}
 use Rattle.chk_sink.specs.declared.fault.SinkFault.{SinkFault}
 use Rattle.chk_sink.specs.States.{State, process}
 use Rattle.chk_sink.specs.Held.{Handles, Ready}
@@ -108,7 +108,7 @@ tells_on cs c x n lines lines' appends more line told answer = record {
 abbrev pub PutsOne : Option History → Option History → State → State → Chunk → Result (Stem × ℕ) SinkFault → Type 0
 PutsOne now new s s' c result =
     (stamped : List (List ℕ)) (handled : List Handling) → IsPosted handled c
-    → Adds now new (Leads (Foreign stamped (process s)) (Ready stamped s handled) (Wrote stamped s' handled c result))
+    → Adds now new (Leads (As stamped (process s)) (Ready stamped s handled) (Wrote stamped s' handled c result))
 
 contains_more : {A : Type 0} (xs : List A) (y x : A) → Contains xs x → Contains (y ∷ xs) x
 contains_more xs y x h = Contains-append_right (y ∷ []) xs x h
@@ -182,7 +182,7 @@ module _ (stamped : List (List ℕ)) (handled : List Handling) (s s' : State) (c
 
   -- behind the chunks that were put before
   pub put_step : {now new : Option History} → Line → PutsOne now new s s' c result
-      → Adds now new (Leads (Foreign stamped (process s)) (WroteAll stamped s handled done lines (Ok tt)) (WroteAll stamped s' handled chunks lines' final))
+      → Adds now new (Leads (As stamped (process s)) (WroteAll stamped s handled done lines (Ok tt)) (WroteAll stamped s' handled chunks lines' final))
   put_step line told =
       leads_family (λ (i : Takings). Ready stamped s i.0) (λ (i : Takings). Wrote stamped s' i.0 c result) (WroteAll stamped s handled done lines (Ok tt))
       (WroteAll stamped s' handled chunks lines' final) (handled, posted) (λ i. told stamped i.0 i.1)

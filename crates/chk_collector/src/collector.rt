@@ -5,12 +5,12 @@ ghost use Rattle.chk_bytes.specs.Stems.{Stem as Parts, is_collector};
 ghost use Rattle.chk_site.specs.declared.acts.Role.TheVariants.{Collector as collector_role};
 ghost use Rattle.chk_site.specs.History.{Every};
 ghost use Rattle.chk_site.specs.Site.{Adds};
-ghost use Rattle.chk_site.specs.Runs.{Leads};
+ghost use Rattle.chk_site.specs.Runs.{HasStarted, Leads};
 ghost use Rattle.chk_message.specs.Messages.{PostRequest};
 ghost use Rattle.chk_http.specs.Queries.{IsQuery};
 ghost use Rattle.chk_world.specs.Collectors.{Handling};
 ghost use Rattle.chk_world.specs.Rules.{Legal};
-ghost use Rattle.chk_world.specs.Places.{Foreign};
+ghost use Rattle.chk_world.specs.Places.{As};
 ghost use Rattle.chk_sink.specs.Faults.{SinkCause, FailsLast};
 ghost use Rattle.chk_sink.specs.Damage.{DamageCause, SpentCause};
 ghost use Rattle.chk_sink.specs.States.{IsSameStart, process, ticked_state};
@@ -61,7 +61,8 @@ impl Collector {
         requires role { who.now.role ≡ collector_role }
         requires name { IsTrue (is_collector who.now.name) }
         ensures told { (stamped : List (List ℕ)) → Adds (S.told site.old) (S.told site.new)
-            (Leads (Foreign stamped who.now) (Legal stamped) (Started stamped who.now result)) }
+            (Leads (As stamped who.now) (Legal stamped) (Started stamped who.now result)) }
+        ensures starts { IfOk result (λ _. Adds (S.told site.old) (S.told site.new) (HasStarted who.now)) }
         ensures fresh { IfOk result (IsFresh who.now rotate) }
         ensures spent { IsLastStart result }
         ensures spent_exactly { Adds (S.told site.old) (S.told site.new) (SpentCause result) }
@@ -82,7 +83,7 @@ impl Collector {
         request: &[u8],
     ) -> Result<Bytes, NoMemory>
         ensures told { (stamped : List (List ℕ)) (t : ℕ) (others : List Handling)
-            → Adds (S.told site.old) (S.told site.new) (Leads (Foreign stamped (process self.old))
+            → Adds (S.told site.old) (S.told site.new) (Leads (As stamped (process self.old))
             (Taken stamped self.old t request.now others)
             (Answered stamped self.new t request.now others result)) }
         ensures replied { IfOk result (Replied request.now self.old self.new (S.fault_count site.old)
@@ -106,7 +107,7 @@ impl Collector {
     ) -> Result<Bytes, NoMemory>
         ensures told { (stamped : List (List ℕ)) (t : ℕ) (request : List ℕ) (others : List Handling)
             → PostRequest body.now request → Adds (S.told site.old) (S.told site.new)
-            (Leads (Foreign stamped (process self.old)) (Taken stamped self.old t request others)
+            (Leads (As stamped (process self.old)) (Taken stamped self.old t request others)
             (Answered stamped self.new t request others result)) }
         ensures replied { (request : List ℕ) → PostRequest body.now request → IfOk result
             (Replied request self.old self.new (S.fault_count site.old) (S.fault_count site.new)
@@ -134,7 +135,7 @@ impl Collector {
     ) -> Result<(), SinkFault>
         requires { lines.old ≡ [] }
         ensures told { (stamped : List (List ℕ)) (handled : List Handling) → ArePosted handled post.entry.left
-            → Adds (S.told site.old) (S.told site.new) (Leads (Foreign stamped (process self.old))
+            → Adds (S.told site.old) (S.told site.new) (Leads (As stamped (process self.old))
             (Ready stamped self.old handled) (WroteAll stamped self.new handled post.entry.left lines.new result)) }
         ensures lines { OnceDone result (HasLineEach post.entry.left lines.new) }
         ensures same { IsSameStart self.old self.new }
@@ -160,7 +161,7 @@ impl Collector {
         requires asked { (stems : List Parts) × IsQuery stems query.now }
         ensures told { (stamped : List (List ℕ)) (t : ℕ) (request : List ℕ) (others : List Handling)
             → AsksFor query.now request → Adds (S.told site.old) (S.told site.new)
-            (Leads (Foreign stamped (process self.now)) (Taken stamped self.now t request others)
+            (Leads (As stamped (process self.now)) (Taken stamped self.now t request others)
             (Answered stamped self.now t request others result)) }
         ensures replied { (request : List ℕ) → AsksFor query.now request → IfOk result
             (Replied request self.now self.now (S.fault_count site.old) (S.fault_count site.new)
@@ -185,7 +186,7 @@ impl Collector {
     ) -> Result<(), SinkFault>
         requires { lines.old ≡ [] }
         ensures told { (stamped : List (List ℕ)) (handled : List Handling) (t : ℕ)
-            → Adds (S.told site.old) (S.told site.new) (Leads (Foreign stamped (process self.now))
+            → Adds (S.told site.old) (S.told site.new) (Leads (As stamped (process self.now))
             (Ready stamped self.now handled) (CountedAll stamped self.now handled t stems.entry lines.new result)) }
         ensures lines { OnceDone result (HasLineOf stems.entry lines.new) }
         ensures only { IfErr result IsOfQuestion }
@@ -203,7 +204,7 @@ impl Collector {
     /// Settles, commits and closes, as `Sinks::tick` does.
     pub fn tick<S: Site>(&mut self, alloc: Global, site: &mut S, now: u64) -> Result<(), SinkFault>
         ensures told { (stamped : List (List ℕ)) → Adds (S.told site.old) (S.told site.new)
-            (Leads (Foreign stamped (process self.old)) (Matches stamped self.old)
+            (Leads (As stamped (process self.old)) (Matches stamped self.old)
             (Ticked stamped self.old self.new result)) }
         ensures same { IsSameStart self.old self.new }
         ensures ok { OnOk result (self.new ≡ ticked_state now self.old) }
@@ -221,7 +222,7 @@ impl Collector {
     /// Settles, commits and closes. At Ok no sink of this start is under writing.
     pub fn finish<S: Site>(&mut self, alloc: Global, site: &mut S) -> Result<(), SinkFault>
         ensures told { (stamped : List (List ℕ)) → Adds (S.told site.old) (S.told site.new)
-            (Leads (Foreign stamped (process self.old)) (Matches stamped self.old)
+            (Leads (As stamped (process self.old)) (Matches stamped self.old)
             (Finished stamped self.old self.new result)) }
         ensures same { IsSameStart self.old self.new }
         ensures ok { OnOk result (self.new ≡ finished self.old) }

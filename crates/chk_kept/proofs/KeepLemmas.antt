@@ -194,7 +194,7 @@ pub room_same : (call : Deed) (files files' : Files) (logs logs' : Logs) → ((n
 room_same (Appends name piece) files files' logs logs' same same_logs room =
     subst (λ (f : Option File). file_size f + length piece < 2 ^ 63) (same name) room
 room_same (GrowsLog path piece) files files' logs logs' same same_logs room =
-    subst (λ (l : Log). log_size l + length piece < 2 ^ 63) (same_logs path) room
+    subst (λ (l : Log). log_size l + length piece < 2 ^ 62) (same_logs path) room
 room_same call files files' logs logs' same same_logs room = tt
 
 -- the histories leave the same files, logs, messages and takings

@@ -200,8 +200,8 @@ size_turned [] g = omega arith
 size_turned (h ∷ gs) g = omega (arith, size_turned gs g)
 
 small_log_append : (path piece : List ℕ) (files : Files) (logs : Logs) (answer : ActAnswer)
-    → log_size (logs path) + length piece < 2 ^ 63
-    → log_size (logs_changed (did_by (GrowsLog path piece) (fitted_answer (GrowsLog path piece) files answer)) logs path) < 2 ^ 63
+    → log_size (logs path) + length piece < 2 ^ 62
+    → log_size (logs_changed (did_by (GrowsLog path piece) (fitted_answer (GrowsLog path piece) files answer)) logs path) < 2 ^ 62
 small_log_append path piece files logs (Done words number of) room =
     rw (same_name path (log_grown piece (logs path)) (logs path)) (omega (arith, length-append (logs path).base piece))
 small_log_append path piece files logs (Refused Failed) room =

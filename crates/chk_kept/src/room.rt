@@ -24,7 +24,8 @@ pub fn is_allowed(act: &Act) -> bool
     }
 }
 
-/// Whether the file or log that the act grows stays below 2^63 bytes. No memory holds more.
+/// Whether the file that the act grows stays below 2^63 bytes, or the log below 2^62. No memory holds
+/// more.
 pub fn has_room(files: &[Named<MemFile>], logs: &[Named<MemLog>], act: &Act) -> bool
     ensures { IsTrue result → HasRoom (deed act.now) (file_in files.now) (log_in logs.now) }
 {
@@ -32,13 +33,13 @@ pub fn has_room(files: &[Named<MemFile>], logs: &[Named<MemLog>], act: &Act) -> 
     match act.call {
         Call::Append => {
             let size = file_size(files::find(files, first(words)));
-            fits(size as u64, second(words).len())
+            fits(size as u64, second(words).len(), 1 << 63)
         }
         Call::LogAppend => match logs::find(logs, first(words)) {
-            None => fits(0, second(words).len()),
+            None => fits(0, second(words).len(), 1 << 62),
             Some(log) => match log.size() {
                 None => false,
-                Some(size) => fits(size, second(words).len()),
+                Some(size) => fits(size, second(words).len(), 1 << 62),
             },
         },
         _ => true,
@@ -54,11 +55,11 @@ fn file_size(file: Option<&MemFile>) -> usize
     }
 }
 
-fn fits(size: u64, more: usize) -> bool
-    ensures { IsTrue result ↔ (size + more < 2 ^ 63) }
+fn fits(size: u64, more: usize, limit: u64) -> bool
+    ensures { IsTrue result ↔ (size + more < limit) }
 {
     match size.checked_add(more as u64) {
         None => false,
-        Some(sum) => sum < 1 << 63,
+        Some(sum) => sum < limit,
     }
 }

@@ -17,7 +17,7 @@ use Rattle.chk_site.specs.Acts.{Deed, Renames, deed_by, touches, says_whole, Did
 use Rattle.chk_site.specs.History.{History, Every, IsTheirs, files_after}
 use Rattle.chk_site.specs.Honest.{Honest}
 use Rattle.chk_site.specs.Site.{Adds, Asked, asked, own_step, answered, plain, Calls, IsDone, Ends, WasDone}
-use Rattle.chk_site.specs.Runs.{Leads, Since, MadeInTurn, finished, went_on, ended}
+use Rattle.chk_site.specs.Runs.{anyhow, Leads, Since, MadeInTurn, finished, went_on, ended}
 use Rattle.chk_site.proofs.Leads.{Keeps, Shows, done_leads, ends_leads, script_then, script_end}
 use Rattle.chk_site.proofs.Stays.{settled_stays, unnamed_stays, tails_of_settled}
 use Rattle.chk_replace.specs.Replace.{tmp, replacement, LeavesBoth, whole, IsOldOrNew, EndsAs, OldOrNew, ReplacesWhole, TouchesBoth}
@@ -142,17 +142,17 @@ next_call : (name bytes : List ℕ) (earlier : History) (U W : Option File → T
     {result : Result (Unit {0}) OutsideFault} {old new : Option History}
     → touches (call_of q) name ≡ false → ((answer : ActAnswer) → WasDone answer → Makes name U W q answer)
     → ((mid : Option History) → MadeInTurn qs result mid new
-    → Adds mid new (Leads (LeavesBoth name) (Before name bytes earlier W) (After name bytes earlier result)))
+    → Adds mid new (Leads (anyhow (LeavesBoth name)) (Before name bytes earlier W) (After name bytes earlier result)))
     → MadeInTurn (q ∷ qs) result old new
-    → Adds old new (Leads (LeavesBoth name) (Before name bytes earlier U) (After name bytes earlier result))
+    → Adds old new (Leads (anyhow (LeavesBoth name)) (Before name bytes earlier U) (After name bytes earlier result))
 next_call name bytes earlier U W q out makes rest script =
     let B : Result (Unit {0}) OutsideFault → History → Type 0 = After name bytes earlier in
     script_then (Before name bytes earlier W) B
     (λ given mid is told.
-    done_leads given is (keeps name bytes earlier U)
+    done_leads given (λ before answer files logs running. tt) is (keeps name bytes earlier U)
     (λ answer was. next_shows name bytes earlier U W q answer out (makes answer was)) told)
     (λ given fault ends told.
-    ends_leads (λ f. B (Err f)) plain given fault ends (keeps name bytes earlier U)
+    ends_leads (λ f. B (Err f)) plain given fault (λ before answer files logs running. tt) ends (keeps name bytes earlier U)
     (failed_shows name bytes earlier U q (Refused Failed) _ out)
     (λ left. failed_shows name bytes earlier U q (Stopped left) _ out)
     (λ before stopped held. still name bytes earlier U _ before held)
@@ -337,18 +337,18 @@ new_one name bytes earlier fault history held = record {
 -- the last call
 rename_call : (who : Who) (name bytes : List ℕ) (earlier : History) {result : Result (Unit {0}) OutsideFault} {old new : Option History}
     → MadeInTurn (asked who Rename (tmp name ∷ name ∷ []) 0 0 ∷ []) result old new
-    → Adds old new (Leads (LeavesBoth name) (Before name bytes earlier (Is (Some (whole bytes)))) (After name bytes earlier result))
+    → Adds old new (Leads (anyhow (LeavesBoth name)) (Before name bytes earlier (Is (Some (whole bytes)))) (After name bytes earlier result))
 rename_call who name bytes earlier script =
     let B : Result (Unit {0}) OutsideFault → History → Type 0 = After name bytes earlier in
     let U : Option File → Type 0 = Is (Some (whole bytes)) in
     let q = asked who Rename (tmp name ∷ name ∷ []) 0 0 in
     script_then (B (Ok tt)) B
     (λ given mid is told.
-    done_leads given is (keeps name bytes earlier U)
+    done_leads given (λ before answer files logs running. tt) is (keeps name bytes earlier U)
     (λ answer was. rename_shows who name bytes earlier answer (Ok tt)
     (λ before files logs honest there either. renamed_done who name bytes answer was before files logs honest there)) told)
     (λ given fault ends told.
-    ends_leads (λ f. B (Err f)) plain given fault ends (keeps name bytes earlier U)
+    ends_leads (λ f. B (Err f)) plain given fault (λ before answer files logs running. tt) ends (keeps name bytes earlier U)
     (rename_shows who name bytes earlier (Refused Failed) (Err _) (λ before files logs honest there either. either))
     (λ left. rename_shows who name bytes earlier (Stopped left) (Err _) (λ before files logs honest there either. either))
     (λ before stopped held. still name bytes earlier U _ before held)
@@ -361,7 +361,7 @@ rename_call who name bytes earlier script =
 -- a replacement from the first call to the last
 in_turn : (who : Who) (name bytes : List ℕ) (earlier : History) {result : Result (Unit {0}) OutsideFault} {old new : Option History}
     → MadeInTurn (replacement who name bytes) result old new
-    → Adds old new (Leads (LeavesBoth name) (Before name bytes earlier Anything) (After name bytes earlier result))
+    → Adds old new (Leads (anyhow (LeavesBoth name)) (Before name bytes earlier Anything) (After name bytes earlier result))
 in_turn who name bytes earlier script =
     let out = apart name in
     next_call name bytes earlier Anything (Is None) (asked who Remove (tmp name ∷ []) 0 0) out (removed who name)

@@ -1,5 +1,5 @@
 -- The reading of a file, piece by piece.
-use Rattle.std.proofs.Common.{◌≡◌, inl, inr, ℕ, ◌+◌, ◌≤◌, min, List, [], ◌∷◌, ◌++◌, length, take, drop, Option, Some, None, option_map, Ok, Err, Result, refl, sym, ◌∙◌, ap, subst, append_assoc, append-nil, arith, length-append, length-take}
+use Rattle.std.proofs.Common.{◌≡◌, inl, inr, true≢false, ℕ, ◌+◌, ◌≤◌, min, List, [], ◌∷◌, ◌++◌, length, take, drop, Option, Some, None, option_map, Ok, Err, Result, refl, sym, ◌∙◌, ap, subst, append_assoc, append-nil, arith, length-append, length-take}
 use Rattle.std.proofs.lemmas.List.{nil_from_length, take-append-drop, drop_all}
 use Rattle.std.proofs.Math.Seq.{take-nil, drop-append_seam}
 use Rattle.chk_site.specs.declared.acts.Who.{Who}
@@ -15,9 +15,9 @@ use Rattle.chk_site.specs.Effect.{IsSmallFile}
 use Rattle.chk_site.specs.History.{Step, History, Every, Others, files_after}
 use Rattle.chk_site.specs.Honest.{AtRead}
 use Rattle.chk_site.specs.Site.{Adds, Asked, asked, own_step, bytes_given, Acted, Calls, LastFailed}
-use Rattle.chk_site.specs.Runs.{Leads}
+use Rattle.chk_site.specs.Runs.{Side, anyhow, Owns, Leads}
 use Rattle.chk_site.proofs.Runs.{adds_then, adds_as, every_join, ran}
-use Rattle.chk_site.proofs.Leads.{Keeps, Shows, acted_leads, leads_then, leads_none}
+use Rattle.chk_site.proofs.Leads.{Keeps, Shows, acted_leads, leads_then, leads_none, owned_anyhow}
 use Rattle.chk_site.proofs.Stays.{unnamed_stays}
 use Rattle.chk_replace.specs.Replace.{LeavesFile}
 use Rattle.chk_replace.specs.Load.{asks_at, IsRead, IsLook, Has, HasPiece, IsGone, Loaded, bytes_of, IsFront, HasFront}
@@ -53,47 +53,50 @@ no_piece size at (Some file) agrees =
     ap (λ bytes. Some bytes) (sym (ap (take (asks_at at)) (drop_all at file.bytes past) ∙ take-nil (asks_at at)))
 
 pub piece_given : (who : Who) (name : List ℕ) (at : ℕ) (bytes : List ℕ) {old new : Option History} → Adds old new (Calls (read_at who name at) (Ok (bytes_given bytes)))
-    → (file : Option File) → Adds old new (Leads (LeavesFile name) (Has name file) (HasPiece name at file (Ok (Some bytes))))
+    → (file : Option File) → Adds old new (Leads (anyhow (LeavesFile name)) (Has name file) (HasPiece name at file (Ok (Some bytes))))
 piece_given who name at bytes told file =
     let B = HasPiece name at file (Ok (Some bytes)) in
-    adds_as (Leads (LeavesFile name) (Has name file) B) told
+    adds_as (Leads (anyhow (LeavesFile name)) (Has name file) B) told
     (λ added history calls. record {
       leads =
           acted_leads B (keeps_file name file)
           (read_shows who name at file (bytes_given bytes) (Ok (Some bytes)) refl (λ h has agrees. (has, given_piece bytes at file agrees)))
           (ran (Ok (bytes_given bytes)) (λ e. cc) calls);
+      own = owned_anyhow added history;
     })
 
 pub piece_missing : (who : Who) (name : List ℕ) (at : ℕ) {old new : Option History} → Adds old new (Calls (read_at who name at) (Err Missing))
-    → (file : Option File) → Adds old new (Leads (LeavesFile name) (Has name file) (HasPiece name at file (Ok None)))
+    → (file : Option File) → Adds old new (Leads (anyhow (LeavesFile name)) (Has name file) (HasPiece name at file (Ok None)))
 piece_missing who name at told file =
     let B = HasPiece name at file (Ok None) in
-    adds_as (Leads (LeavesFile name) (Has name file) B) told
+    adds_as (Leads (anyhow (LeavesFile name)) (Has name file) B) told
     (λ added history calls. record {
       leads =
           acted_leads B (keeps_file name file)
           (read_shows who name at file (Refused Missing) (Ok None) refl
           (λ h has agrees. (has, sym (ap (λ o. option_map (λ bytes. take (asks_at at) (drop at bytes)) (bytes_of o)) agrees))))
           (ran (Err Missing) (λ e. cc) calls);
+      own = owned_anyhow added history;
     })
 
 pub piece_short : (who : Who) (name : List ℕ) (at size : ℕ) {old new : Option History} → Adds old new (Calls (read_at who name at) (Err (Short size)))
-    → (file : Option File) → Adds old new (Leads (LeavesFile name) (Has name file) (HasPiece name at file (Ok (Some []))))
+    → (file : Option File) → Adds old new (Leads (anyhow (LeavesFile name)) (Has name file) (HasPiece name at file (Ok (Some []))))
 piece_short who name at size told file =
     let B = HasPiece name at file (Ok (Some [])) in
-    adds_as (Leads (LeavesFile name) (Has name file) B) told
+    adds_as (Leads (anyhow (LeavesFile name)) (Has name file) B) told
     (λ added history calls. record {
       leads =
           acted_leads B (keeps_file name file)
           (read_shows who name at file (Refused (Short size)) (Ok (Some [])) refl (λ h has agrees. (has, no_piece size at file agrees)))
           (ran (Err (Short size)) (λ e. cc) calls);
+      own = owned_anyhow added history;
     })
 
 -- nothing is said of the file after a failure
 pub not_read : {P : History → History → Type 0} (name : List ℕ) (at : ℕ) (fault : OutsideFault) {old new : Option History} → Adds old new P
-    → (file : Option File) → Adds old new (Leads (LeavesFile name) (Has name file) (HasPiece name at file (Err fault)))
+    → (file : Option File) → Adds old new (Leads (anyhow (LeavesFile name)) (Has name file) (HasPiece name at file (Err fault)))
 not_read name at fault told file =
-    adds_as (Leads (LeavesFile name) (Has name file) (HasPiece name at file (Err fault))) told (λ added history p. record { leads = λ s h. tt })
+    adds_as (Leads (anyhow (LeavesFile name)) (Has name file) (HasPiece name at file (Err fault))) told (λ added history p. record { leads = λ s h. tt; own = owned_anyhow added history })
 
 -- each step of it is of others, or a read
 pub piece_looks : (who : Who) (name : List ℕ) (at : ℕ) (given : Result ActAnswer CallFault) {old new : Option History}
@@ -159,26 +162,26 @@ none_whole n at None given = refl
 none_whole n at (Some file) given = cc
 
 -- a load before its first piece
-pub load_begins : (name : List ℕ) (file : Option File) (now : Option History) → Adds now now (Leads (LeavesFile name) (Has name file) (HasFront name file []))
+pub load_begins : (name : List ℕ) (file : Option File) (now : Option History) → Adds now now (Leads (anyhow (LeavesFile name)) (Has name file) (HasFront name file []))
 load_begins name file now = leads_none now (λ h has. (has, front_none file))
 
 -- the rest of the file is known beside what a piece says
 with_front : (name : List ℕ) (file : Option File) (bytes : List ℕ) (at : ℕ) (result : Result (Option (List ℕ)) OutsideFault)
     (B : History → Type 0) {old mid new : Option History}
     → ((h : History) → IsFront bytes file → HasPiece name at file result h → B h)
-    → Adds old mid (Leads (LeavesFile name) (Has name file) (HasFront name file bytes))
-    → Adds mid new (Leads (LeavesFile name) (Has name file) (HasPiece name at file result))
-    → Adds old new (Leads (LeavesFile name) (Has name file) B)
+    → Adds old mid (Leads (anyhow (LeavesFile name)) (Has name file) (HasFront name file bytes))
+    → Adds mid new (Leads (anyhow (LeavesFile name)) (Has name file) (HasPiece name at file result))
+    → Adds old new (Leads (anyhow (LeavesFile name)) (Has name file) B)
 with_front name file bytes at result B join so_far piece =
     leads_then so_far
-    (adds_as (Leads (LeavesFile name) (HasFront name file bytes) B) piece
-    (λ added history x. record { leads = λ s h. join (added ++ history) h.1 (x.leads s h.0) }))
+    (adds_as (Leads (anyhow (LeavesFile name)) (HasFront name file bytes) B) piece
+    (λ added history x. record { leads = λ s h. join (added ++ history) h.1 (x.leads s h.0); own = x.own }))
 
 -- a load after one more piece
 pub load_goes_on : (name : List ℕ) (bytes piece : List ℕ) (at : ℕ) (file : Option File) {old mid new : Option History} → at ≡ length bytes
-    → Adds old mid (Leads (LeavesFile name) (Has name file) (HasFront name file bytes))
-    → Adds mid new (Leads (LeavesFile name) (Has name file) (HasPiece name at file (Ok (Some piece))))
-    → Adds old new (Leads (LeavesFile name) (Has name file) (HasFront name file (bytes ++ piece)))
+    → Adds old mid (Leads (anyhow (LeavesFile name)) (Has name file) (HasFront name file bytes))
+    → Adds mid new (Leads (anyhow (LeavesFile name)) (Has name file) (HasPiece name at file (Ok (Some piece))))
+    → Adds old new (Leads (anyhow (LeavesFile name)) (Has name file) (HasFront name file (bytes ++ piece)))
 load_goes_on name bytes piece at file here so_far told =
     with_front name file bytes at (Ok (Some piece)) (HasFront name file (bytes ++ piece))
     (λ h front x. (x.0, front_more bytes piece at file here x.1 front)) so_far told
@@ -186,18 +189,18 @@ load_goes_on name bytes piece at file here so_far told =
 -- a load after an empty piece
 pub load_ends : (name : List ℕ) (bytes piece : List ℕ) (at : ℕ) (file : Option File) {old mid new : Option History} → at ≡ length bytes
     → length piece ≡ 0 → IsSmallFile file
-    → Adds old mid (Leads (LeavesFile name) (Has name file) (HasFront name file bytes))
-    → Adds mid new (Leads (LeavesFile name) (Has name file) (HasPiece name at file (Ok (Some piece))))
-    → Adds old new (Leads (LeavesFile name) (Has name file) (Loaded name file (Ok (Some bytes))))
+    → Adds old mid (Leads (anyhow (LeavesFile name)) (Has name file) (HasFront name file bytes))
+    → Adds mid new (Leads (anyhow (LeavesFile name)) (Has name file) (HasPiece name at file (Ok (Some piece))))
+    → Adds old new (Leads (anyhow (LeavesFile name)) (Has name file) (Loaded name file (Ok (Some bytes))))
 load_ends name bytes piece at file here empty small so_far told =
     with_front name file bytes at (Ok (Some piece)) (Loaded name file (Ok (Some bytes)))
     (λ h front x. (x.0, front_whole bytes piece at file here empty small x.1 front)) so_far told
 
 -- a load that finds no file
 pub load_misses : (name : List ℕ) (bytes : List ℕ) (at : ℕ) (file : Option File) {old mid new : Option History}
-    → Adds old mid (Leads (LeavesFile name) (Has name file) (HasFront name file bytes))
-    → Adds mid new (Leads (LeavesFile name) (Has name file) (HasPiece name at file (Ok None)))
-    → Adds old new (Leads (LeavesFile name) (Has name file) (Loaded name file (Ok None)))
+    → Adds old mid (Leads (anyhow (LeavesFile name)) (Has name file) (HasFront name file bytes))
+    → Adds mid new (Leads (anyhow (LeavesFile name)) (Has name file) (HasPiece name at file (Ok None)))
+    → Adds old new (Leads (anyhow (LeavesFile name)) (Has name file) (Loaded name file (Ok None)))
 load_misses name bytes at file so_far told =
     with_front name file bytes at (Ok None) (Loaded name file (Ok None))
     (λ h front x. (x.0, none_whole (asks_at at) at file x.1)) so_far told
@@ -215,12 +218,13 @@ looks_last T who name result so_far last =
     adds_then (LastFailed result) so_far last (λ a b history x y. last_then result b a history y)
 
 -- what steps of others and such reads keep, a load keeps
-pub looks_lead : {S : History → Step → Type 0} {A : History → Type 0} (who : Who) (name : List ℕ) {old new : Option History}
-    → Keeps S A → ((before : History) (step : Step) → IsRead who name before step → A before → A (step ∷ before))
+pub looks_lead : {S : Side} {A : History → Type 0} (who : Who) (name : List ℕ) {old new : Option History}
+    → ((before : History) (step : Step) → IsRead who name before step → S.own before step)
+    → Keeps S.others A → ((before : History) (step : Step) → IsRead who name before step → A before → A (step ∷ before))
     → Adds old new (Every (IsLook who name)) → Adds old new (Leads S A A)
-looks_lead {S = S} {A = A} who name keeps reads told =
-    let all : (added history : History) → Every (IsLook who name) added history → Others S added history → A history → A (added ++ history) =
-    λ added. elim added as (λ added. (history : History) → Every (IsLook who name) added history → Others S added history → A history → A (added ++ history)) [
+looks_lead {S = S} {A = A} who name mine keeps reads told =
+    let all : (added history : History) → Every (IsLook who name) added history → Others S.others added history → A history → A (added ++ history) =
+    λ added. elim added as (λ added. (history : History) → Every (IsLook who name) added history → Others S.others added history → A history → A (added ++ history)) [
       | [] ↦ λ history looks s h. h
       | step ∷ (rest → more) ↦ λ history looks s h.
           let before = more history looks.0 s.0 h in
@@ -229,13 +233,21 @@ looks_lead {S = S} {A = A} who name keeps reads told =
             | inr read ↦ reads (rest ++ history) step read before
           ]
     ] in
-    adds_as (Leads S A A) told (λ added history looks. record { leads = all added history looks })
+    let own : (added history : History) → Every (IsLook who name) added history → Owns S.own added history =
+    λ added. elim added as (λ added. (history : History) → Every (IsLook who name) added history → Owns S.own added history) [
+      | [] ↦ λ history looks. tt
+      | step ∷ (rest → more) ↦ λ history looks. (
+        more history looks.0,
+        λ mine_is. elim looks.1 [ inl theirs ↦ absurd (true≢false (sym mine_is ∙ theirs.0)) | inr read ↦ mine (rest ++ history) step read ],
+      )
+    ] in
+    adds_as (Leads S A A) told (λ added history looks. record { leads = all added history looks; own = own added history looks })
 
 -- nothing is said of the file after a failure, whatever was added
 pub not_loaded : {P : History → History → Type 0} (name : List ℕ) (file : Option File) (fault : OutsideFault) {old new : Option History} → Adds old new P
-    → Adds old new (Leads (LeavesFile name) (Has name file) (Loaded name file (Err fault)))
+    → Adds old new (Leads (anyhow (LeavesFile name)) (Has name file) (Loaded name file (Err fault)))
 not_loaded name file fault told =
-    adds_as (Leads (LeavesFile name) (Has name file) (Loaded name file (Err fault))) told (λ added history p. record { leads = λ s h. tt })
+    adds_as (Leads (anyhow (LeavesFile name)) (Has name file) (Loaded name file (Err fault))) told (λ added history p. record { leads = λ s h. tt; own = owned_anyhow added history })
 
 -- the file was gone at the last call
 pub gone_then : {P : History → History → Type 0} (name : List ℕ) {old mid new : Option History} → Adds old mid P

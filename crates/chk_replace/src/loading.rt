@@ -4,7 +4,7 @@ ghost use Rattle.chk_site.specs.Files.{File};
 ghost use Rattle.chk_site.specs.Effect.{IsSmallFile};
 ghost use Rattle.chk_site.specs.History.{History, Every};
 ghost use Rattle.chk_site.specs.Site.{Adds, LastFailed, OutsideCause};
-ghost use Rattle.chk_site.specs.Runs.{Leads};
+ghost use Rattle.chk_site.specs.Runs.{anyhow, Leads};
 ghost use Rattle.chk_replace.specs.Replace.{LeavesFile};
 ghost use Rattle.chk_replace.specs.Load.{Has, HasPiece, IsGone, IsLook, Loaded};
 
@@ -27,7 +27,7 @@ pub fn load<S: Site>(
     name: &str,
 ) -> Result<Option<Bytes>, OutsideFault>
     ensures whole { (file : Option File) → IsSmallFile file → Adds (S.told site.old) (S.told site.new)
-        (Leads (LeavesFile name.now) (Has name.now file) (Loaded name.now file result)) }
+        (Leads (anyhow (LeavesFile name.now)) (Has name.now file) (Loaded name.now file result)) }
     ensures reads { Adds (S.told site.old) (S.told site.new) (Every (IsLook who.now name.now)) }
     ensures none { Adds (S.told site.old) (S.told site.new) (IsGone name.now result) }
     ensures last { Adds (S.told site.old) (S.told site.new) (LastFailed result) }
@@ -55,7 +55,7 @@ fn piece_at<S: Site>(
     at: u64,
 ) -> Result<Option<Bytes>, OutsideFault>
     ensures whole { (file : Option File) → Adds (S.told site.old) (S.told site.new)
-        (Leads (LeavesFile name.now) (Has name.now file) (HasPiece name.now at file result)) }
+        (Leads (anyhow (LeavesFile name.now)) (Has name.now file) (HasPiece name.now at file result)) }
     ensures reads { Adds (S.told site.old) (S.told site.new) (Every (IsLook who.now name.now)) }
     ensures none { Adds (S.told site.old) (S.told site.new) (IsGone name.now result) }
     ensures last { Adds (S.told site.old) (S.told site.new) (LastFailed result) }

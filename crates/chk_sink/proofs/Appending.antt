@@ -17,7 +17,7 @@ use Rattle.chk_site.specs.Runs.{Leads}
 use Rattle.chk_world.specs.Names.{Name, SinkFile, MarkFile, read, spell, file}
 use Rattle.chk_world.specs.Committed.{HasFile, IsAbsent, number_in}
 use Rattle.chk_world.specs.Collectors.{View, Current, Handling, Appended, view, still, sink_of, next_mark_of, size_in, appended_to, appended_at, sync_end_after, handled_after, with_appends, AppendsOnlyToCleanSink, IsCurrent, IsNextPiece}
-use Rattle.chk_world.specs.Places.{Foreign, AtTold}
+use Rattle.chk_world.specs.Places.{As, AtTold}
 use Rattle.chk_world.proofs.Ends.{bytes_self}
 use Rattle.chk_world.proofs.NameLemmas.{read-spell}
 use Rattle.chk_world.proofs.NameTests.{same_name, stem_self}
@@ -188,12 +188,12 @@ module _ (stamped : List (List ℕ)) (s : State) (o : Writing) (messages : List 
   less history h = given_up_handles s messages history h
 
   pub append_done : (given : Result (Unit {0}) CallFault) {old new : Option History} → IsDone given → Adds old new (Calls Q (answered plain given))
-      → Adds old new (Leads (Foreign stamped (process s)) (Ready stamped s messages) (AtTold stamped (process s) C))
+      → Adds old new (Leads (As stamped (process s)) (Ready stamped s messages) (AtTold stamped (process s) C))
   append_done given is told = told_done stamped Q named B C given (handles_stays stamped s messages has_stem) append_may append_leaves is told
 
   pub append_ends : (given : Result (Unit {0}) CallFault) (fault : OutsideFault) {old new : Option History} → Ends Append given fault
       → Adds old new (Calls Q (answered plain given))
-      → Adds old new (Leads (Foreign stamped (process s)) (Ready stamped s messages) (Ready stamped (given_up s) messages))
+      → Adds old new (Leads (As stamped (process s)) (Ready stamped s messages) (Ready stamped (given_up s) messages))
   append_ends given fault ends told =
       told_ends stamped Q named B (λ f. Handles (given_up s) messages) plain given fault (handles_stays stamped s messages has_stem)
       append_may append_fails less ends told

@@ -19,7 +19,7 @@ use Rattle.chk_world.specs.Names.{MarkFile, DoneFile, spell, file}
 use Rattle.chk_world.specs.Committed.{OnFile, committed_length, committed_of}
 use Rattle.chk_world.specs.Collectors.{Handling, IsCommittedLength}
 use Rattle.chk_world.specs.Laws.{IsMark}
-use Rattle.chk_world.specs.Places.{Foreign, AtTold}
+use Rattle.chk_world.specs.Places.{As, AtTold}
 use Rattle.chk_world.proofs.Law.{shape}
 use Rattle.chk_world.proofs.ToldCalls.{GoesOn, MayCall, LeavesCall, goes_on_taken, told_taken, told_ends}
 use Rattle.chk_sink.specs.States.{State, process}
@@ -137,14 +137,14 @@ module _ (stamped : List (List ℕ)) (s : State) (messages : List Handling) (t :
 
     pub size_taken : (given : Result ℕ CallFault) (taken : Option ℕ) {old new : Option History} → IsTaken given taken
         → Adds old new (Calls AskSize (answered sized given))
-        → Adds old new (Leads (Foreign stamped (process s)) (Counted stamped s messages t stems acks) (AtTold stamped (process s) (AfterSize taken)))
+        → Adds old new (Leads (As stamped (process s)) (Counted stamped s messages t stems acks) (AtTold stamped (process s) (AfterSize taken)))
     size_taken given taken is told =
         told_taken stamped AskSize named (Counts s messages t stems acks) (AfterSize taken) sized given taken
         (counts_stay stamped s messages t stems acks stem) size_may (λ value. tt) (size_leaves taken) is told
 
     pub size_ends : (given : Result ℕ CallFault) (fault : OutsideFault) {old new : Option History} → Ends Size given fault
         → Adds old new (Calls AskSize (answered sized given))
-        → Adds old new (Leads (Foreign stamped (process s)) (Counted stamped s messages t stems acks) (Ready stamped s messages))
+        → Adds old new (Leads (As stamped (process s)) (Counted stamped s messages t stems acks) (Ready stamped s messages))
     size_ends given fault ends told =
         told_ends stamped AskSize named (Counts s messages t stems acks) (λ f. Handles s messages) sized given fault
         (counts_stay stamped s messages t stems acks stem) size_may size_fails (λ history h. h.handles) ends told
@@ -214,14 +214,14 @@ module _ (stamped : List (List ℕ)) (s : State) (messages : List Handling) (t :
 
     pub mark_taken : (given : Result (List ℕ) CallFault) (taken : Option (List ℕ)) {old new : Option History} → IsTaken given taken
         → Adds old new (Calls AskMark (answered bytes_given given))
-        → Adds old new (Leads (Foreign stamped (process s)) (AtTold stamped (process s) Open) (AtTold stamped (process s) (AfterMark taken)))
+        → Adds old new (Leads (As stamped (process s)) (AtTold stamped (process s) Open) (AtTold stamped (process s) (AfterMark taken)))
     mark_taken given taken is told =
         told_taken stamped AskMark named Open (AfterMark taken) bytes_given given taken
         (open_stays stamped s messages t stems acks stem x good) mark_may (λ value. tt) (mark_leaves taken) is told
 
     pub mark_ends : (given : Result (List ℕ) CallFault) (fault : OutsideFault) {old new : Option History} → Ends Read given fault
         → Adds old new (Calls AskMark (answered bytes_given given))
-        → Adds old new (Leads (Foreign stamped (process s)) (AtTold stamped (process s) Open) (Ready stamped s messages))
+        → Adds old new (Leads (As stamped (process s)) (AtTold stamped (process s) Open) (Ready stamped s messages))
     mark_ends given fault ends told =
         told_ends stamped AskMark named Open (λ f. Handles s messages) bytes_given given fault
         (open_stays stamped s messages t stems acks stem x good) mark_may mark_fails (λ history h. h.counts.handles) ends told

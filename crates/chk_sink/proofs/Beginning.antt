@@ -14,7 +14,7 @@ use Rattle.chk_seqfile.proofs.HeaderLemmas.{length-header, length-marker_of}
 use Rattle.chk_chunk.specs.Keys.{Chunk, IsKey}
 use Rattle.chk_world.specs.Names.{SinkFile, spell}
 use Rattle.chk_world.specs.Collectors.{Handling, Appended, IsPosted, marker, with_appends}
-use Rattle.chk_world.specs.Places.{Foreign}
+use Rattle.chk_world.specs.Places.{As}
 use Rattle.chk_sink.specs.declared.fault.SinkFault.{SinkFault}
 use Rattle.chk_sink.specs.States.{State, Writing, process, next_stem, with_current, one_more, counted}
 use Rattle.chk_sink.specs.Held.{Handles, Ready}
@@ -85,7 +85,7 @@ module _ (stamped : List (List ℕ)) (s : State) (messages : List Handling) (nam
       → (given given' : Result (Unit {0}) CallFault) {old mid new : Option History}
       → IsDone given → Adds old mid (Calls (asked (process s) Create (w ∷ []) 0 0) (answered plain given))
       → IsDone given' → Adds mid new (Calls (asked (process s) Append (v ∷ head ∷ []) 0 0) (answered plain given'))
-      → Adds old new (Leads (Foreign stamped (process s)) (Ready stamped s messages) (Ready stamped headed (map (with_appends head_append) messages)))
+      → Adds old new (Leads (As stamped (process s)) (Ready stamped s messages) (Ready stamped headed (map (with_appends head_append) messages)))
   head_done w v w_is v_is given given' d told d' told' =
       leads_then (create_done stamped s messages named none good w w_is given d told)
       (leads_as (λ h x. x)
@@ -97,7 +97,7 @@ module _ (stamped : List (List ℕ)) (s : State) (messages : List Handling) (nam
     pub next_uncreated : (w : List ℕ) → w ≡ spell (SinkFile X) → (given : Result (Unit {0}) CallFault) (fault : OutsideFault) (told_as : SinkFault)
         {old new : Option History} → Ends Create given fault
         → Adds old new (Calls (asked (process s) Create (w ∷ []) 0 0) (answered plain given))
-        → Adds old new (Leads (Foreign stamped (process s)) (Ready stamped s messages) (Wrote stamped (counted s given) messages c (Err told_as)))
+        → Adds old new (Leads (As stamped (process s)) (Ready stamped s messages) (Wrote stamped (counted s given) messages c (Err told_as)))
     next_uncreated w w_is given fault told_as ends told =
         leads_as (λ h x. x) (put_failed stamped (counted s given) messages c told_as)
         (create_ends stamped s messages named none good w w_is given fault ends told)
@@ -107,7 +107,7 @@ module _ (stamped : List (List ℕ)) (s : State) (messages : List Handling) (nam
         → (given given' : Result (Unit {0}) CallFault) (fault : OutsideFault) (told_as : SinkFault) {old mid new : Option History}
         → IsDone given → Adds old mid (Calls (asked (process s) Create (w ∷ []) 0 0) (answered plain given))
         → Ends Append given' fault → Adds mid new (Calls (asked (process s) Append (v ∷ head ∷ []) 0 0) (answered plain given'))
-        → Adds old new (Leads (Foreign stamped (process s)) (Ready stamped s messages) (Wrote stamped (one_more s) messages c (Err told_as)))
+        → Adds old new (Leads (As stamped (process s)) (Ready stamped s messages) (Wrote stamped (one_more s) messages c (Err told_as)))
     next_unheaded w v w_is v_is given given' fault told_as d told ends told' =
         leads_then (create_done stamped s messages named none good w w_is given d told)
         (leads_as (λ h x. x) (put_failed stamped (one_more s) messages c told_as)
@@ -126,7 +126,7 @@ module _ (stamped : List (List ℕ)) (s : State) (messages : List Handling) (nam
           → IsDone given → Adds old mid (Calls (asked (process s) Create (w ∷ []) 0 0) (answered plain given))
           → IsDone given' → Adds mid more (Calls (asked (process s) Append (v ∷ head ∷ []) 0 0) (answered plain given'))
           → Ends Append given'' fault → Adds more new (Calls (asked (process s) Append (u ∷ first_piece ∷ []) 0 0) (answered plain given''))
-          → Adds old new (Leads (Foreign stamped (process s)) (Ready stamped s messages) (Wrote stamped (one_more s) messages c (Err told_as)))
+          → Adds old new (Leads (As stamped (process s)) (Ready stamped s messages) (Wrote stamped (one_more s) messages c (Err told_as)))
       next_unfilled w v u w_is v_is u_is given given' given'' fault told_as d told d' told' ends told'' =
           leads_then (head_done w v w_is v_is given given' d told d' told')
           (leads_as (λ h x. x) (more_appends stamped (one_more s) messages head_append c (Err told_as) (refl, tt))
@@ -139,7 +139,7 @@ module _ (stamped : List (List ℕ)) (s : State) (messages : List Handling) (nam
           → IsDone given → Adds old mid (Calls (asked (process s) Create (w ∷ []) 0 0) (answered plain given))
           → IsDone given' → Adds mid more (Calls (asked (process s) Append (v ∷ head ∷ []) 0 0) (answered plain given'))
           → IsDone given'' → Adds more new (Calls (asked (process s) Append (u ∷ first_piece ∷ []) 0 0) (answered plain given''))
-          → Adds old new (Leads (Foreign stamped (process s)) (Ready stamped s messages)
+          → Adds old new (Leads (As stamped (process s)) (Ready stamped s messages)
           (Wrote stamped (with_current headed (Some (longer_writing first_writing first_piece))) messages c (Ok (X, 96 + length first_piece))))
       next_done w v u w_is v_is u_is given given' given'' d told d' told' d'' told'' =
           leads_then (head_done w v w_is v_is given given' d told d' told')

@@ -11,7 +11,7 @@ use Rattle.chk_site.specs.Runs.{Leads, MadeInTurn}
 use Rattle.chk_site.proofs.Runs.{adds_then, adds_as}
 use Rattle.chk_site.proofs.Leads.{leads_none, leads_as, leads_then}
 use Rattle.chk_replace.proofs.CallSteps.{last_then}
-use Rattle.chk_world.specs.Places.{Foreign}
+use Rattle.chk_world.specs.Places.{As}
 use Rattle.chk_sink.specs.declared.fault.SinkFault.{SinkFault}
 use Rattle.chk_sink.specs.States.{State, Writing, process, last_stem, all_marked, kept_where_done, committed_state}
 use Rattle.chk_sink.specs.Held.{IsAsKept, Matches}
@@ -37,7 +37,7 @@ later_result_fails result made e before told =
 module _ (stamped : List (List ℕ)) (s : State) (o : Writing) (some : s.current ≡ Some o) (good : IsTrue (is_stem (last_stem s))) (begun : 96 ≤ o.size) where
   -- the sink hasn't grown
   pub commit_same : (now : Option History) → o.size ≡ o.marked
-      → Adds now now (Leads (Foreign stamped (process s)) (Matches stamped s) (Committed stamped s (Ok tt)))
+      → Adds now now (Leads (As stamped (process s)) (Matches stamped s) (Committed stamped s (Ok tt)))
   commit_same now e =
       leads_none now
       (λ h x. record {
@@ -58,11 +58,11 @@ module _ (stamped : List (List ℕ)) (s : State) (o : Writing) (some : s.current
       → {made : Result (Unit {0}) OutsideFault} {old new : Option History} → MadeInTurn (publishing who x o.size) made old new
       → (st : State) (next : Writing) → st ≡ kept_where_done s next made → next ≡ all_marked o
       → (result : Result (Unit {0}) SinkFault) → result ≡ sink_result made
-      → Adds old new (Leads (Foreign stamped (process s)) (Matches stamped s) (Committed stamped st result))
+      → Adds old new (Leads (As stamped (process s)) (Matches stamped s) (Committed stamped st result))
   commit_made named who who_is x x_is {made = made} {old = old} {new = new} script st next st_is next_is result result_is =
-      subst (λ t. Adds old new (Leads (Foreign stamped (process s)) (Matches stamped s) (Committed stamped t result)))
+      subst (λ t. Adds old new (Leads (As stamped (process s)) (Matches stamped s) (Committed stamped t result)))
       (sym (st_is ∙ ap (λ n. kept_where_done s n made) next_is))
-      (subst (λ r. Adds old new (Leads (Foreign stamped (process s)) (Matches stamped s) (Committed stamped (kept_where_done s (all_marked o) made) r)))
+      (subst (λ r. Adds old new (Leads (As stamped (process s)) (Matches stamped s) (Committed stamped (kept_where_done s (all_marked o) made) r)))
       (sym result_is)
       (published stamped s o named some good begun
       (subst (λ y. MadeInTurn (publishing (process s) y o.size) made old new) x_is
@@ -73,8 +73,8 @@ module _ (stamped : List (List ℕ)) (s : State) (o : Writing) (some : s.current
 -- its commit was refused
 pub close_refused : (stamped : List (List ℕ)) (s st : State) (made result : Result (Unit {0}) SinkFault) (fault told_as : SinkFault)
     {old new : Option History} → made ≡ Err fault → result ≡ Err told_as
-    → Adds old new (Leads (Foreign stamped (process s)) (Matches stamped s) (Committed stamped st made))
-    → Adds old new (Leads (Foreign stamped (process s)) (Matches stamped s) (Closed stamped s st result))
+    → Adds old new (Leads (As stamped (process s)) (Matches stamped s) (Committed stamped st made))
+    → Adds old new (Leads (As stamped (process s)) (Matches stamped s) (Closed stamped s st result))
 close_refused stamped s st made result fault told_as made_is result_is told =
     leads_as (λ h x. x)
     (λ h x. subst (λ r. Closed stamped s st r h) (sym result_is)
@@ -112,16 +112,16 @@ module _ (stamped : List (List ℕ)) (s mid_state : State) (o : Writing) (named 
   -- and then the sink became a done one, or was abandoned
   pub close_made : {made : Result (Unit {0}) OutsideFault} {old mid new : Option History} (first : Result (Unit {0}) SinkFault) (value : Unit {0})
       → first ≡ Ok value
-      → Adds old mid (Leads (Foreign stamped (process s)) (Matches stamped s) (Committed stamped mid_state first))
+      → Adds old mid (Leads (As stamped (process s)) (Matches stamped s) (Committed stamped mid_state first))
       → MadeInTurn (closing who x) made mid new → (st : State) → st ≡ left_where_done mid_state made
       → (result : Result (Unit {0}) SinkFault) → result ≡ sink_result made
-      → Adds old new (Leads (Foreign stamped (process s)) (Matches stamped s) (Closed stamped s st result))
+      → Adds old new (Leads (As stamped (process s)) (Matches stamped s) (Closed stamped s st result))
   close_made {made = made} {old = old} {mid = mid} {new = new} first value first_is told script st st_is result result_is =
       leads_then told
       (leads_as (λ h c. record { legal = c.legal; may_act = c.may_act; alive = λ r. (c.alive r).holds }) (closed_as st result)
-      (subst (λ (k : Who). Adds mid new (Leads (Foreign stamped k) (Matches stamped mid_state) (Closed stamped mid_state st result)))
+      (subst (λ (k : Who). Adds mid new (Leads (As stamped k) (Matches stamped mid_state) (Closed stamped mid_state st result)))
       (ap process is)
-      (subst (λ t. Adds mid new (Leads (Foreign stamped (process mid_state)) (Matches stamped mid_state) (Closed stamped mid_state t result))) (sym st_is)
-      (subst (λ r. Adds mid new (Leads (Foreign stamped (process mid_state)) (Matches stamped mid_state)
+      (subst (λ t. Adds mid new (Leads (As stamped (process mid_state)) (Matches stamped mid_state) (Closed stamped mid_state t result))) (sym st_is)
+      (subst (λ r. Adds mid new (Leads (As stamped (process mid_state)) (Matches stamped mid_state)
       (Closed stamped mid_state (left_where_done mid_state made) r))) (sym result_is)
       (closed_so stamped mid_state o named some good begun (said_all s.current o (sym (ap (λ (m : State). m.current) is) ∙ some)) (as_process script))))))

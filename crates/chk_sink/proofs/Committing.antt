@@ -15,22 +15,22 @@ use Rattle.chk_site.specs.Effect.{IsSmallFile}
 use Rattle.chk_site.specs.History.{History, AllModelled, files_after, is_stopped}
 use Rattle.chk_site.specs.Site.{Adds, Asked, asked, own_step, plain, WasDone}
 use Rattle.chk_site.specs.Runs.{Leads, MadeInTurn}
-use Rattle.chk_site.proofs.Runs.{adds_as}
-use Rattle.chk_site.proofs.Leads.{leads_as, script_then}
+use Rattle.chk_site.proofs.Runs.{adds_both}
+use Rattle.chk_site.proofs.Leads.{leads_as, script_then, script_owned}
 use Rattle.chk_site.proofs.Small.{all_small}
 use Rattle.chk_replace.specs.Replace.{replacement}
 use Rattle.chk_world.specs.Names.{Name, SinkFile, MarkFile, DoneFile, Temporary, read, spell, file}
 use Rattle.chk_world.specs.Committed.{OnFile, HasFile, IsAbsent, number_in, committed_of, committed_length}
 use Rattle.chk_world.specs.Collectors.{View, Current, view, still, sink_of, next_mark_of, either, IsCommitted}
 use Rattle.chk_world.specs.Rules.{Legal}
-use Rattle.chk_world.specs.Places.{Foreign, AtTold}
+use Rattle.chk_world.specs.Places.{As, AtTold}
 use Rattle.chk_world.proofs.Ends.{bytes_self}
 use Rattle.chk_world.proofs.NameLemmas.{read-spell}
 use Rattle.chk_world.proofs.NameTests.{same_name, stem_self}
 use Rattle.chk_world.proofs.Kept.{there}
 use Rattle.chk_world.proofs.Law.{shape}
 use Rattle.chk_world.proofs.OwnFiles.{done_file, done_present}
-use Rattle.chk_world.proofs.Replacing.{Target, anything, Next, EndedAt}
+use Rattle.chk_world.proofs.Replacing.{Target, anything, Next, EndedAt, replacement_owned}
 use Rattle.chk_world.proofs.ToldCalls.{GoesOn, MayCall, LeavesCall, goes_on_done, told_done, told_ends}
 use Rattle.chk_world.proofs.CollectorCalls.{own_sight, collector_rule, collector_target, still_well, Marking, Marked, Started, mark_replaced}
 use Rattle.chk_sink.specs.States.{State, Writing, process, last_stem, given_up, all_marked, kept_where_done}
@@ -40,7 +40,7 @@ use Rattle.chk_sink.specs.Closes.{Committed}
 use Rattle.chk_sink.specs.Closing.{publishing}
 use Rattle.chk_sink.proofs.Holding.{own_sink, own_mark, holds_stays, writing_kept, given_up_holds}
 use Rattle.chk_sink.proofs.Scripts.{StaysStopped, stopped_script}
-use Rattle.chk_sink.proofs.Tidying.{other_stem, stem_other, given_up_with, adds_both, replacement_marks, stays_tidy}
+use Rattle.chk_sink.proofs.Tidying.{other_stem, stem_other, given_up_with, replacement_marks, stays_tidy}
 use Rattle.chk_sink.proofs.Appending.{current_of}
 
 -- ---- lengths
@@ -206,9 +206,9 @@ module _ (stamped : List (List ℕ)) (s : State) (o : Writing) (named : IsTrue (
   module _ {result : Result (Unit {0}) OutsideFault} {mid new : Option History}
       (script : MadeInTurn (replacement (process s) (spell (MarkFile X)) (be64 o.size)) result mid new) where
     -- where the sink isn't too long for a mark
-    fitting : o.size < limit → Adds mid new (Leads (Foreign stamped (process s)) (AtTold stamped (process s) Synced) (Replaced result))
+    fitting : o.size < limit → Adds mid new (Leads (As stamped (process s)) (AtTold stamped (process s) Synced) (Replaced result))
     fitting small =
-        adds_both (Leads (Foreign stamped (process s)) (AtTold stamped (process s) Synced) (Replaced result))
+        adds_both (Leads (As stamped (process s)) (AtTold stamped (process s) Synced) (Replaced result))
         (mark_replaced stamped X mark_target (Some s.born) s.number cur refl o.size begun small (spell (MarkFile X)) refl script)
         (replacement_marks X good s (be64 o.size) script)
         (λ added history led marks. record {
@@ -223,6 +223,7 @@ module _ (stamped : List (List ℕ)) (s : State) (o : Writing) (named : IsTrue (
                   λ none. stays_tidy stamped s X (λ y other. other_stem s o some y other) added history marks theirs (λ r. (h.alive r).holds.tidy none) r,
                 );
               };
+          own = led.own;
         })
       where
         as_marking : (history : History) → Synced history
@@ -234,10 +235,12 @@ module _ (stamped : List (List ℕ)) (s : State) (o : Writing) (named : IsTrue (
         }
 
     -- no sink is too long for a mark: then the site was stopped, and nothing was called
-    too_long : limit ≤ o.size → Adds mid new (Leads (Foreign stamped (process s)) (AtTold stamped (process s) Synced) (Replaced result))
+    too_long : limit ≤ o.size → Adds mid new (Leads (As stamped (process s)) (AtTold stamped (process s) Synced) (Replaced result))
     too_long large =
-        adds_as (Leads (Foreign stamped (process s)) (AtTold stamped (process s) Synced) (Replaced result)) (stopped_script script)
-        (λ added history stays. record { leads = λ theirs h. stopped added history stays h (is_stopped history) refl })
+        adds_both (Leads (As stamped (process s)) (AtTold stamped (process s) Synced) (Replaced result)) (stopped_script script)
+        (script_owned (As stamped (process s)).own
+        (replacement_owned stamped (process s) named (spell (MarkFile X)) (be64 o.size)) script)
+        (λ added history stays own. record { leads = λ theirs h. stopped added history stays h (is_stopped history) refl; own = own })
       where
         no_room : (history : History) → AtTold stamped (process s) Synced history → is_stopped history ≡ false → ⊥
         no_room history h r =
@@ -252,18 +255,18 @@ module _ (stamped : List (List ℕ)) (s : State) (o : Writing) (named : IsTrue (
             subst (λ (a : History). Replaced result (a ++ history)) (sym (stays e))
             (record { legal = h.legal; may_act = h.may_act; alive = λ r. absurd (no_room history h r) })
 
-    replaced_so : Adds mid new (Leads (Foreign stamped (process s)) (AtTold stamped (process s) Synced)
+    replaced_so : Adds mid new (Leads (As stamped (process s)) (AtTold stamped (process s) Synced)
         (Committed stamped (kept_where_done s (all_marked o) result) (sink_result result)))
     replaced_so = leads_as (λ h x. x) (at_end result) (go (nat_lt o.size limit) refl)
       where
         go : (b : Bool) → nat_lt o.size limit ≡ b
-            → Adds mid new (Leads (Foreign stamped (process s)) (AtTold stamped (process s) Synced) (Replaced result))
+            → Adds mid new (Leads (As stamped (process s)) (AtTold stamped (process s) Synced) (Replaced result))
         go true e = fitting (ltb-true o.size limit e)
         go false e = too_long (ltb-false o.size limit e)
 
   -- the calls of a commit in turn
   pub published : {result : Result (Unit {0}) OutsideFault} {old new : Option History} → MadeInTurn (publishing (process s) X o.size) result old new
-      → Adds old new (Leads (Foreign stamped (process s)) (Matches stamped s)
+      → Adds old new (Leads (As stamped (process s)) (Matches stamped s)
       (Committed stamped (kept_where_done s (all_marked o) result) (sink_result result)))
   published script =
       script_then (AtTold stamped (process s) Synced)

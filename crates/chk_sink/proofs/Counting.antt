@@ -14,7 +14,7 @@ use Rattle.chk_site.proofs.Leads.{leads_as}
 use Rattle.chk_message.specs.Messages.{Ack}
 use Rattle.chk_world.specs.Names.{MarkFile, DoneFile, spell}
 use Rattle.chk_world.specs.Collectors.{Handling}
-use Rattle.chk_world.specs.Places.{Foreign}
+use Rattle.chk_world.specs.Places.{As}
 use Rattle.chk_sink.specs.declared.fault.SinkFault.{SinkFault}
 use Rattle.chk_sink.specs.declared.fault.SinkFault.TheVariants.{Outside, Damaged, Spent, NoMemory}
 use Rattle.chk_sink.specs.declared.current.Current.{Current}
@@ -50,7 +50,7 @@ module _ (stamped : List (List ℕ)) (s : State) (messages : List Handling) (t :
     (who : Who) (asks : IsAsker who s) (x : Stem) (good : IsTrue (is_stem x)) where
   abbrev From : (History → Type 0) → Option History → Option History → Result ℕ SinkFault → Type 0
   From A old new result =
-      Adds old new (Leads (Foreign stamped (process s)) A (CountedOn stamped s messages t stems acks x result))
+      Adds old new (Leads (As stamped (process s)) A (CountedOn stamped s messages t stems acks x result))
 
   fails_on : (fault : OutsideFault) (history : History) → Ready stamped s messages history
       → CountedOn stamped s messages t stems acks x (Err (sink_fault fault)) history
@@ -58,7 +58,7 @@ module _ (stamped : List (List ℕ)) (s : State) (messages : List Handling) (t :
   fails_on no_memory history h = h
 
   fails_so : {A : History → Type 0} {old new : Option History} (fault : OutsideFault) (result : Result ℕ SinkFault) → result ≡ Err (sink_fault fault)
-      → Adds old new (Leads (Foreign stamped (process s)) A (Ready stamped s messages)) → From A old new result
+      → Adds old new (Leads (As stamped (process s)) A (Ready stamped s messages)) → From A old new result
   fails_so {A = A} {old = old} {new = new} fault result result_is told =
       subst (From A old new) (sym result_is) (leads_as (λ h k. k) (fails_on fault) told)
 
@@ -79,7 +79,7 @@ module _ (stamped : List (List ℕ)) (s : State) (messages : List Handling) (t :
 
     -- it isn't
     pub size_none : made ≡ Ok None
-        → Adds old new (Leads (Foreign stamped (process s)) (Counted stamped s messages t stems acks) (CountedOpen stamped s messages t stems acks x))
+        → Adds old new (Leads (As stamped (process s)) (Counted stamped s messages t stems acks) (CountedOpen stamped s messages t stems acks x))
     size_none e =
         let k = own_size (Ok None) e in
         size_taken stamped s messages t stems acks asks.named asks.stem x good w w_is k.given None k.came k.told

@@ -18,7 +18,7 @@ use Rattle.chk_site.proofs.Leads.{leads_as}
 use Rattle.chk_world.specs.Names.{Name, SinkFile, MarkFile, read, spell, file}
 use Rattle.chk_world.specs.Committed.{HasFile, IsAbsent, number_in}
 use Rattle.chk_world.specs.Collectors.{View, Handling, view, created, still, sink_of, next_mark_of, made_by, SinkNamesFresh}
-use Rattle.chk_world.specs.Places.{Foreign, AtTold}
+use Rattle.chk_world.specs.Places.{As, AtTold}
 use Rattle.chk_world.proofs.Ends.{bytes_self}
 use Rattle.chk_world.proofs.NameLemmas.{read-spell}
 use Rattle.chk_world.proofs.NameTests.{same_name, stem_self}
@@ -143,7 +143,7 @@ module _ (stamped : List (List ℕ)) (s : State) (messages : List Handling) (nam
   -- the creation was done
   pub create_done : {V : Type 0} (given : Result V CallFault) {old new : Option History} → IsDone given
       → Adds old new (Calls Q (answered plain given))
-      → Adds old new (Leads (Foreign stamped (process s)) (Ready stamped s messages) (Ready stamped (with_empty s) messages))
+      → Adds old new (Leads (As stamped (process s)) (Ready stamped s messages) (Ready stamped (with_empty s) messages))
   create_done given is told =
       told_done stamped Q named (Handles s messages) (Handles (with_empty s) messages) given (handles_stays stamped s messages no_stem)
       create_may create_leaves is told
@@ -165,7 +165,7 @@ module _ (stamped : List (List ℕ)) (s : State) (messages : List Handling) (nam
   -- it ended the work
   pub create_ends : (given : Result (Unit {0}) CallFault) (fault : OutsideFault) {old new : Option History} → Ends Create given fault
       → Adds old new (Calls Q (answered plain given))
-      → Adds old new (Leads (Foreign stamped (process s)) (Ready stamped s messages) (Ready stamped (counted s given) messages))
+      → Adds old new (Leads (As stamped (process s)) (Ready stamped s messages) (Ready stamped (counted s given) messages))
   create_ends given fault ends told =
       leads_as (λ h x. x) (by_count given fault ends)
       (told_ends stamped Q named (Handles s messages) Uncreated plain given fault (handles_stays stamped s messages no_stem)

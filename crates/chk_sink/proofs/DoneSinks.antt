@@ -19,7 +19,7 @@ use Rattle.chk_site.proofs.Leads.{leads_as, script_then, script_end}
 use Rattle.chk_world.specs.Names.{Name, SinkFile, MarkFile, DoneFile, read, spell, file, is_known}
 use Rattle.chk_world.specs.Committed.{OnFile, HasFile, IsAbsent, number_in}
 use Rattle.chk_world.specs.Collectors.{View, view, born_after, IsCommitted, MayRemove, DoneAtItsMark}
-use Rattle.chk_world.specs.Places.{Foreign, AtTold}
+use Rattle.chk_world.specs.Places.{As, AtTold}
 use Rattle.chk_world.proofs.Ends.{bytes_self}
 use Rattle.chk_world.proofs.NameLemmas.{read-spell}
 use Rattle.chk_world.proofs.NameTests.{same_name, stem_self, stem_same, moved_named}
@@ -234,7 +234,7 @@ module _ (stamped : List (List ℕ)) (s : State) (o : Writing) (named : IsTrue (
 
   -- the calls of a close in turn
   pub closed_so : {result : Result (Unit {0}) OutsideFault} {old new : Option History} → MadeInTurn (closing (process s) X) result old new
-      → Adds old new (Leads (Foreign stamped (process s)) (Matches stamped s)
+      → Adds old new (Leads (As stamped (process s)) (Matches stamped s)
       (Closed stamped s (left_where_done s result) (sink_result result)))
   closed_so script =
       script_then (AtTold stamped (process s) Renamed) After

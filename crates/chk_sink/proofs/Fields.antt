@@ -11,7 +11,7 @@ use Rattle.chk_site.specs.Runs.{Leads}
 use Rattle.chk_site.proofs.Leads.{leads_none}
 use Rattle.chk_chunk.specs.Keys.{Chunk}
 use Rattle.chk_world.specs.Collectors.{Handling}
-use Rattle.chk_world.specs.Places.{Foreign}
+use Rattle.chk_world.specs.Places.{As}
 use Rattle.chk_sink.specs.declared.fault.SinkFault.{SinkFault}
 use Rattle.chk_sink.specs.declared.current.Current.{Current}
 use Rattle.chk_sink.specs.declared.sinks.Sinks.TheInside.{Inside}
@@ -49,9 +49,9 @@ open_as i s c e sound is =
 -- a put that called nothing
 pub put_refused : (stamped : List (List ℕ)) (s : State) (messages : List Handling) (c : Chunk) (result : Result (Stem × ℕ) SinkFault)
     (fault : SinkFault) → result ≡ Err fault → (now : Option History)
-    → Adds now now (Leads (Foreign stamped (process s)) (Ready stamped s messages) (Wrote stamped s messages c result))
+    → Adds now now (Leads (As stamped (process s)) (Ready stamped s messages) (Wrote stamped s messages c result))
 put_refused stamped s messages c result fault e now =
-    subst (λ r. Adds now now (Leads (Foreign stamped (process s)) (Ready stamped s messages) (Wrote stamped s messages c r))) (sym e)
+    subst (λ r. Adds now now (Leads (As stamped (process s)) (Ready stamped s messages) (Wrote stamped s messages c r))) (sym e)
     (leads_none now (put_failed stamped s messages c fault))
 
 -- where the call was done, the sink that is written to ends where it is said

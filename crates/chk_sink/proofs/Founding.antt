@@ -3,11 +3,11 @@ use Rattle.std.proofs.Common.{◌≡◌, ℕ, List, Option, Result, Ok, Err, sym
 use Rattle.chk_site.specs.declared.acts.OutsideFault.{OutsideFault}
 use Rattle.chk_site.specs.declared.acts.OutsideFault.TheVariants.{Outside as site_failed, NoMemory as no_memory}
 use Rattle.chk_site.specs.declared.acts.Who.{Who}
-use Rattle.chk_site.specs.History.{Step, History}
+use Rattle.chk_site.specs.History.{History}
 use Rattle.chk_site.specs.Site.{Adds}
-use Rattle.chk_site.specs.Runs.{Leads}
+use Rattle.chk_site.specs.Runs.{Side, Leads}
 use Rattle.chk_site.proofs.Leads.{leads_as, leads_then}
-use Rattle.chk_world.specs.Places.{Foreign, AtTold}
+use Rattle.chk_world.specs.Places.{As, AtTold}
 use Rattle.chk_bytes.specs.Stems.{Stem}
 use Rattle.chk_sink.specs.declared.fault.SinkFault.{SinkFault}
 use Rattle.chk_sink.specs.declared.fault.SinkFault.TheVariants.{Outside, Damaged, Spent, NoMemory}
@@ -26,8 +26,8 @@ is_left s who x settles other = record {
 }
 
 module _ (stamped : List (List ℕ)) (s : State) {T : Type 0} (P : T → History → Type 0) where
-  abbrev F : History → Step → Type 0
-  F = Foreign stamped (process s)
+  abbrev F : Side
+  F = As stamped (process s)
 
   failed_as : (fault : OutsideFault) (h : History) → Matches stamped s h → Found stamped s P (Err (sink_fault fault)) h
   failed_as (site_failed call) h x = x

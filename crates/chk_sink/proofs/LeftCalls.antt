@@ -18,7 +18,7 @@ use Rattle.chk_site.specs.Site.{Adds, Asked, asked, own_step, answered, plain, C
 use Rattle.chk_site.specs.Runs.{Leads}
 use Rattle.chk_world.specs.Names.{SinkFile, MarkFile, read, spell, file}
 use Rattle.chk_world.specs.Collectors.{MayRemove}
-use Rattle.chk_world.specs.Places.{Foreign, AtTold}
+use Rattle.chk_world.specs.Places.{As, Making, AtTold}
 use Rattle.chk_world.proofs.Ends.{bytes_self}
 use Rattle.chk_world.proofs.NameLemmas.{read-spell}
 use Rattle.chk_world.proofs.NameTests.{same_name, stem_self}
@@ -62,23 +62,23 @@ pub told_any : (stamped : List (List ℕ)) (q : Asked) (named : _) (B C : Histor
     {old new : Option History} → Stays stamped q.who B → MayCall stamped q named B → ((value : V) → GoesOn (how value))
     → LeavesCall stamped q named B GoesOn C → ((history : History) → B history → C history)
     → Adds old new (Calls q (answered how given))
-    → Adds old new (Leads (Foreign stamped q.who) (AtTold stamped q.who B) (AtTold stamped q.who C))
+    → Adds old new (Leads (Making stamped q.who q.call) (AtTold stamped q.who B) (AtTold stamped q.who C))
 told_any stamped q named B C {V = V} how given {old = old} {new = new} stays may goes left less told = by given told
   where
     gave : (given : Result V CallFault) (taken : Option V) → IsTaken given taken → Adds old new (Calls q (answered how given))
-        → Adds old new (Leads (Foreign stamped q.who) (AtTold stamped q.who B) (AtTold stamped q.who C))
+        → Adds old new (Leads (Making stamped q.who q.call) (AtTold stamped q.who B) (AtTold stamped q.who C))
     gave given taken is t =
         told_taken stamped q named B C how given taken stays may goes
         (λ before answer files logs took legal h. left before answer files logs (goes_on_taken how taken answer goes took) legal h) is t
 
     ends : (given : Result V CallFault) (fault : OutsideFault) → Ends q.call given fault → Adds old new (Calls q (answered how given))
-        → Adds old new (Leads (Foreign stamped q.who) (AtTold stamped q.who B) (AtTold stamped q.who C))
+        → Adds old new (Leads (Making stamped q.who q.call) (AtTold stamped q.who B) (AtTold stamped q.who C))
     ends given fault is t =
         told_ends stamped q named B (λ f. C) how given fault stays may
         (λ before answer files logs failed legal h. left before answer files logs (subst GoesOn (sym failed) tt) legal h) less is t
 
     by : (given : Result V CallFault) → Adds old new (Calls q (answered how given))
-        → Adds old new (Leads (Foreign stamped q.who) (AtTold stamped q.who B) (AtTold stamped q.who C))
+        → Adds old new (Leads (Making stamped q.who q.call) (AtTold stamped q.who B) (AtTold stamped q.who C))
     by (Ok value) t = gave (Ok value) (Some value) refl t
     by (Err Failed) t = ends (Err Failed) (Outside q.call) refl t
     by (Err Missing) t = gave (Err Missing) None refl t
@@ -135,12 +135,12 @@ module _ (stamped : List (List ℕ)) (s : State) (may : Stem → Bool) (x : Stem
             )
 
     pub sink_removed : (given : Result (Unit {0}) CallFault) {old new : Option History} → IsDone given → Adds old new (Calls Q (answered plain given))
-        → Adds old new (Leads (Foreign stamped (process s)) (AtTold stamped (process s) B) (AtTold stamped (process s) (HoldsAt s may x BothGone)))
+        → Adds old new (Leads (As stamped (process s)) (AtTold stamped (process s) B) (AtTold stamped (process s) (HoldsAt s may x BothGone)))
     sink_removed given is told =
         told_done stamped Q left.named B (HoldsAt s may x BothGone) given (at_stays stamped s may x NoMark left) sink_may sink_leaves is told
 
     pub sink_tried : (given : Result (Unit {0}) CallFault) {old new : Option History} → Adds old new (Calls Q (answered plain given))
-        → Adds old new (Leads (Foreign stamped (process s)) (AtTold stamped (process s) B) (Matches stamped s))
+        → Adds old new (Leads (As stamped (process s)) (AtTold stamped (process s) B) (Matches stamped s))
     sink_tried given told =
         told_any stamped Q left.named B (Holds s) plain given (at_stays stamped s may x NoMark left) sink_may (λ v. tt) sink_any (λ h y. y.holds) told
 
@@ -188,12 +188,12 @@ module _ (stamped : List (List ℕ)) (s : State) (may : Stem → Bool) (x : Stem
             )
 
     pub mark_removed : (given : Result (Unit {0}) CallFault) {old new : Option History} → IsDone given → Adds old new (Calls Q (answered plain given))
-        → Adds old new (Leads (Foreign stamped (process s)) (AtTold stamped (process s) D) (AtTold stamped (process s) (HoldsAt s may x BothGone)))
+        → Adds old new (Leads (As stamped (process s)) (AtTold stamped (process s) D) (AtTold stamped (process s) (HoldsAt s may x BothGone)))
     mark_removed given is told =
         told_done stamped Q left.named D (HoldsAt s may x BothGone) given (at_stays stamped s may x NoSink left) mark_may mark_leaves is told
 
     pub mark_tried : (given : Result (Unit {0}) CallFault) {old new : Option History} → Adds old new (Calls Q (answered plain given))
-        → Adds old new (Leads (Foreign stamped (process s)) (AtTold stamped (process s) D) (Matches stamped s))
+        → Adds old new (Leads (As stamped (process s)) (AtTold stamped (process s) D) (Matches stamped s))
     mark_tried given told =
         told_any stamped Q left.named D (Holds s) plain given (at_stays stamped s may x NoSink left) mark_may (λ v. tt) mark_any (λ h y. y.holds) told
 

@@ -15,19 +15,19 @@ use Rattle.chk_site.specs.Honest.{AtRead, AtCut}
 use Rattle.chk_site.specs.Site.{Adds, Asked, asked, own_step, answered, plain, bytes_given, Calls, IsDone, IsTaken, WasDone, WasRefused}
 use Rattle.chk_site.specs.Runs.{Leads}
 use Rattle.chk_site.proofs.Runs.{adds_as, ran}
-use Rattle.chk_site.proofs.Leads.{acted_leads}
+use Rattle.chk_site.proofs.Leads.{acted_leads, call_owned}
 use Rattle.chk_world.specs.Names.{Name, SinkFile, MarkFile, DoneFile, read, spell, file}
 use Rattle.chk_world.specs.Committed.{OnFile, HasFile, committed_of, committed_length}
 use Rattle.chk_world.specs.Collectors.{MayCut, IsCommitted}
 use Rattle.chk_world.specs.Rules.{Legal}
 use Rattle.chk_world.specs.Laws.{Shape, IsMark, IsOpenSink, wrote}
-use Rattle.chk_world.specs.Places.{Foreign, AtTold}
+use Rattle.chk_world.specs.Places.{As, AtTold}
 use Rattle.chk_world.proofs.Ends.{bytes_self}
 use Rattle.chk_world.proofs.Law.{shape}
 use Rattle.chk_world.proofs.NameLemmas.{read-spell}
 use Rattle.chk_world.proofs.NameTests.{same_name, stem_self, moved_named}
 use Rattle.chk_world.proofs.OwnFiles.{done_file, done_present, refused_file, looked_file}
-use Rattle.chk_world.proofs.ToldCalls.{GoesOn, MayCall, LeavesCall, goes_on_done, told_keeps, told_shows, told_done, told_taken, told_ok}
+use Rattle.chk_world.proofs.ToldCalls.{GoesOn, MayCall, LeavesCall, goes_on_done, owned, told_keeps, told_shows, told_done, told_taken, told_ok}
 use Rattle.chk_world.proofs.CollectorCalls.{collector_rule}
 use Rattle.chk_sink.specs.States.{State, process}
 use Rattle.chk_sink.specs.Held.{Holds, Matches}
@@ -126,29 +126,29 @@ module _ (stamped : List (List ℕ)) (s : State) (may : Stem → Bool) (x : Stem
     -- the mark was read
     pub mark_got : (n : ℕ) → spelled bytes ≡ n → (given : Result (List ℕ) CallFault) → given ≡ Ok bytes → {old new : Option History}
         → Adds old new (Calls R (answered bytes_given given))
-        → Adds old new (Leads (Foreign stamped (process s)) (AtTold stamped (process s) A) (AtTold stamped (process s) (HoldsAt s may x (MarkedBy n))))
+        → Adds old new (Leads (As stamped (process s)) (AtTold stamped (process s) A) (AtTold stamped (process s) (HoldsAt s may x (MarkedBy n))))
     mark_got n e given gave {old = old} {new = new} told =
-        subst (λ n. Adds old new (Leads (Foreign stamped (process s)) (AtTold stamped (process s) A) (AtTold stamped (process s) (HoldsAt s may x (MarkedBy n))))) e
+        subst (λ n. Adds old new (Leads (As stamped (process s)) (AtTold stamped (process s) A) (AtTold stamped (process s) (HoldsAt s may x (MarkedBy n))))) e
         (told_ok stamped R left.named A (HoldsAt s may x (MarkedBy (spelled bytes))) (bytes_given bytes) (at_stays stamped s may x AnyFiles left) read_may tt got_leaves
         (subst (λ g. Adds old new (Calls R (answered bytes_given g))) gave told))
 
     -- it is never damaged
     pub mark_bad : is_number_from 96 bytes ≡ false → (given : Result (List ℕ) CallFault) → given ≡ Ok bytes → {old new : Option History}
         → Adds old new (Calls R (answered bytes_given given))
-        → Adds old new (Leads (Foreign stamped (process s)) (AtTold stamped (process s) A) (AtTold stamped (process s) (λ h. ⊥)))
+        → Adds old new (Leads (As stamped (process s)) (AtTold stamped (process s) A) (AtTold stamped (process s) (λ h. ⊥)))
     mark_bad bad given gave {old = old} {new = new} told =
         told_ok stamped R left.named A (λ h. ⊥) (bytes_given bytes) (at_stays stamped s may x AnyFiles left) read_may tt (bad_leaves bad)
         (subst (λ g. Adds old new (Calls R (answered bytes_given g))) gave told)
 
   -- there is no mark
   pub mark_none : (given : Result (List ℕ) CallFault) {old new : Option History} → IsTaken given None → Adds old new (Calls R (answered bytes_given given))
-      → Adds old new (Leads (Foreign stamped (process s)) (AtTold stamped (process s) A) (AtTold stamped (process s) (HoldsAt s may x NoMark)))
+      → Adds old new (Leads (As stamped (process s)) (AtTold stamped (process s) A) (AtTold stamped (process s) (HoldsAt s may x NoMark)))
   mark_none given is told =
       told_taken stamped R left.named A (HoldsAt s may x NoMark) bytes_given given None (at_stays stamped s may x AnyFiles left) read_may (λ b. tt) none_leaves is told
 
   -- whatever it answered
   pub mark_asked : (given : Result (List ℕ) CallFault) {old new : Option History} → Adds old new (Calls R (answered bytes_given given))
-      → Adds old new (Leads (Foreign stamped (process s)) (AtTold stamped (process s) A) (Matches stamped s))
+      → Adds old new (Leads (As stamped (process s)) (AtTold stamped (process s) A) (Matches stamped s))
   mark_asked given told =
       told_any stamped R left.named A (Holds s) bytes_given given (at_stays stamped s may x AnyFiles left) read_may (λ b. tt) read_any (λ h y. y.holds) told
 
@@ -285,39 +285,41 @@ module _ (stamped : List (List ℕ)) (s : State) (may : Stem → Bool) (x : Stem
 
   -- it was cut
   pub cut_done : (given : Result (Unit {0}) CallFault) (v : Unit {0}) → given ≡ Ok v → {old new : Option History} → Adds old new (Calls C (answered plain given))
-      → Adds old new (Leads (Foreign stamped (process s)) (AtTold stamped (process s) M) (AtTold stamped (process s) (HoldsAt s may x (CutAt n))))
+      → Adds old new (Leads (As stamped (process s)) (AtTold stamped (process s) M) (AtTold stamped (process s) (HoldsAt s may x (CutAt n))))
   cut_done given v gave {old = old} {new = new} told =
       told_ok stamped C left.named M (HoldsAt s may x (CutAt n)) (plain (tt {0})) (at_stays stamped s may x (MarkedBy n) left) cut_may tt done_leaves
       (subst (λ g. Adds old new (Calls C (answered plain g))) gave told)
 
   -- there is no sink
   pub cut_missed : (given : Result (Unit {0}) CallFault) → given ≡ Err Missing → {old new : Option History} → Adds old new (Calls C (answered plain given))
-      → Adds old new (Leads (Foreign stamped (process s)) (AtTold stamped (process s) M) (AtTold stamped (process s) (HoldsAt s may x NoSink)))
+      → Adds old new (Leads (As stamped (process s)) (AtTold stamped (process s) M) (AtTold stamped (process s) (HoldsAt s may x NoSink)))
   cut_missed given gave {old = old} {new = new} told =
-      adds_as (Leads (Foreign stamped (process s)) (AtTold stamped (process s) M) (AtTold stamped (process s) (HoldsAt s may x NoSink)))
+      adds_as (Leads (As stamped (process s)) (AtTold stamped (process s) M) (AtTold stamped (process s) (HoldsAt s may x NoSink)))
       (subst (λ g. Adds old new (Calls C (answered plain g))) gave told)
       (λ added history calls. record {
         leads = acted_leads (AtTold stamped (process s) (HoldsAt s may x NoSink)) (told_keeps stamped C left.named M (at_stays stamped s may x (MarkedBy n) left))
             (told_shows stamped C left.named M (HoldsAt s may x NoSink) (λ a. a ≡ Refused Missing) (Refused Missing) tt refl cut_may missing_leaves)
             (ran (Err Missing) (λ e. cc) calls);
+        own = call_owned (As stamped (process s)).own (Err Missing) (owned stamped C left.named) calls;
       })
 
   -- it is never shorter than its mark
   pub cut_short : (given : Result (Unit {0}) CallFault) (size : ℕ) → given ≡ Err (Short size) → {old new : Option History}
       → Adds old new (Calls C (answered plain given))
-      → Adds old new (Leads (Foreign stamped (process s)) (AtTold stamped (process s) M) (AtTold stamped (process s) (λ h. ⊥)))
+      → Adds old new (Leads (As stamped (process s)) (AtTold stamped (process s) M) (AtTold stamped (process s) (λ h. ⊥)))
   cut_short given size gave {old = old} {new = new} told =
-      adds_as (Leads (Foreign stamped (process s)) (AtTold stamped (process s) M) (AtTold stamped (process s) (λ h. ⊥)))
+      adds_as (Leads (As stamped (process s)) (AtTold stamped (process s) M) (AtTold stamped (process s) (λ h. ⊥)))
       (subst (λ g. Adds old new (Calls C (answered plain g))) gave told)
       (λ added history calls. record {
         leads = acted_leads (AtTold stamped (process s) (λ h. ⊥)) (told_keeps stamped C left.named M (at_stays stamped s may x (MarkedBy n) left))
             (told_shows stamped C left.named M (λ h. ⊥) (λ a. a ≡ Refused (Short size)) (Refused (Short size)) tt refl cut_may (short_leaves size))
             (ran (Err (Short size)) (λ e. cc) calls);
+        own = call_owned (As stamped (process s)).own (Err (Short size)) (owned stamped C left.named) calls;
       })
 
   -- whatever it answered
   pub cut_tried : (given : Result (Unit {0}) CallFault) {old new : Option History} → Adds old new (Calls C (answered plain given))
-      → Adds old new (Leads (Foreign stamped (process s)) (AtTold stamped (process s) M) (Matches stamped s))
+      → Adds old new (Leads (As stamped (process s)) (AtTold stamped (process s) M) (Matches stamped s))
   cut_tried given told =
       told_any stamped C left.named M (Holds s) plain given (at_stays stamped s may x (MarkedBy n) left) cut_may (λ v. tt) cut_any (λ h y. y.holds) told
 
@@ -379,12 +381,12 @@ module _ (stamped : List (List ℕ)) (s : State) (may : Stem → Bool) (x : Stem
 
   -- it was closed
   pub close_done : (given : Result (Unit {0}) CallFault) {old new : Option History} → IsDone given → Adds old new (Calls N (answered plain given))
-      → Adds old new (Leads (Foreign stamped (process s)) (AtTold stamped (process s) K) (AtTold stamped (process s) (HoldsAt s may x NoSink)))
+      → Adds old new (Leads (As stamped (process s)) (AtTold stamped (process s) K) (AtTold stamped (process s) (HoldsAt s may x NoSink)))
   close_done given is told =
       told_done stamped N left.named K (HoldsAt s may x NoSink) given (at_stays stamped s may x (CutAt n) left) close_may close_leaves is told
 
   -- whatever it answered
   pub close_tried : (given : Result (Unit {0}) CallFault) {old new : Option History} → Adds old new (Calls N (answered plain given))
-      → Adds old new (Leads (Foreign stamped (process s)) (AtTold stamped (process s) K) (Matches stamped s))
+      → Adds old new (Leads (As stamped (process s)) (AtTold stamped (process s) K) (Matches stamped s))
   close_tried given told =
       told_any stamped N left.named K (Holds s) plain given (at_stays stamped s may x (CutAt n) left) close_may (λ v. tt) close_any (λ h y. y.holds) told

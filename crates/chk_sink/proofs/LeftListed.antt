@@ -17,7 +17,7 @@ use Rattle.chk_site.specs.Site.{Adds, Asked, asked, own_step, answered, names_gi
 use Rattle.chk_site.specs.Runs.{Leads}
 use Rattle.chk_world.specs.Names.{Name, SinkFile, MarkFile, spell, file}
 use Rattle.chk_world.specs.Committed.{IsAbsent}
-use Rattle.chk_world.specs.Places.{Foreign, AtTold}
+use Rattle.chk_world.specs.Places.{As, AtTold}
 use Rattle.chk_world.proofs.Ends.{before_end-append, before_end-other}
 use Rattle.chk_world.proofs.NameTests.{stem_self}
 use Rattle.chk_world.proofs.Outcomes.{CameTo, whole, nothing, junk, leaves}
@@ -141,7 +141,7 @@ module _ (stamped : List (List ℕ)) (s : State) (who : _) (settles : IsSettling
     -- the folder was listed
     pub listed : {V : Type 0} (how : V → List (List ℕ)) (given : Result V CallFault) (value : V) → given ≡ Ok value → how value ≡ names → {old new : Option History}
         → Adds old new (Calls L (answered (λ v. names_given (how v)) given))
-        → Adds old new (Leads (Foreign stamped (process s)) (Matches stamped s) (AtTold stamped (process s) (HoldsBut s (left_of names None))))
+        → Adds old new (Leads (As stamped (process s)) (Matches stamped s) (AtTold stamped (process s) (HoldsBut s (left_of names None))))
     listed how given value e f {old = old} {new = new} told =
         told_ok stamped L settles.named (Holds s) (HoldsBut s (left_of names None)) (names_given names) (holds_stays stamped s settles.good) list_may tt list_leaves
         (subst (λ a. Adds old new (Calls L (Ok a))) (ap names_given f)
@@ -150,7 +150,7 @@ module _ (stamped : List (List ℕ)) (s : State) (who : _) (settles : IsSettling
   -- whatever it answered
   pub list_tried : {V : Type 0} (how : V → List (List ℕ)) (given : Result V CallFault) {old new : Option History}
       → Adds old new (Calls L (answered (λ v. names_given (how v)) given))
-      → Adds old new (Leads (Foreign stamped (process s)) (Matches stamped s) (Matches stamped s))
+      → Adds old new (Leads (As stamped (process s)) (Matches stamped s) (Matches stamped s))
   list_tried how given told =
       told_any stamped L settles.named (Holds s) (Holds s) (λ v. names_given (how v)) given (holds_stays stamped s settles.good) list_may (λ v. tt) list_any_answer
       (λ h x. x) told

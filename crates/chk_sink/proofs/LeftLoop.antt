@@ -7,7 +7,7 @@ use Rattle.chk_site.specs.History.{History}
 use Rattle.chk_site.specs.Site.{Adds}
 use Rattle.chk_site.specs.Runs.{Leads}
 use Rattle.chk_site.proofs.Leads.{leads_then}
-use Rattle.chk_world.specs.Places.{Foreign, AtTold}
+use Rattle.chk_world.specs.Places.{As, AtTold}
 use Rattle.chk_sink.specs.declared.fault.SinkFault.{SinkFault}
 use Rattle.chk_sink.specs.States.{State, process}
 use Rattle.chk_sink.specs.Settling.{IsSettling, IsCaused, Found, HoldsBut, kept_stem, left_of, none_left}
@@ -18,7 +18,7 @@ use Rattle.chk_sink.proofs.Causing.{caused_then, caused_as}
 pub record IsSettledTo (who : Who) (kept : Option Stem) (names rest : List (List ℕ)) (last : Option Stem) (faults_old faults_now : ℕ)
     (old now : Option History) : Type 0 where
   pub told : (stamped : List (List ℕ)) (s : State) → IsSettling s who → kept ≡ kept_stem s
-      → Adds old now (Leads (Foreign stamped (process s)) (AtTold stamped (process s) (HoldsBut s (left_of names None)))
+      → Adds old now (Leads (As stamped (process s)) (AtTold stamped (process s) (HoldsBut s (left_of names None)))
       (AtTold stamped (process s) (HoldsBut s (left_of rest last))))
   pub caused : Adds old now (IsCaused {T = Unit {0}} (Ok tt))
   pub cause : faults_now ≡ faults_old
@@ -28,7 +28,7 @@ module _ (who : Who) (kept : Option Stem) (names : List (List ℕ)) (name : List
     (part : Result (Unit {0}) SinkFault) where
   abbrev Part : Type 0
   Part = (stamped : List (List ℕ)) (s : State) (after : List (List ℕ)) → IsSettling s who → kept ≡ kept_stem s
-      → Adds mid now (Leads (Foreign stamped (process s)) (AtTold stamped (process s) (HoldsBut s (left_of (name ∷ after) last)))
+      → Adds mid now (Leads (As stamped (process s)) (AtTold stamped (process s) (HoldsBut s (left_of (name ∷ after) last)))
       (Found stamped s (λ v. HoldsBut s (left_of after then)) part))
 
   -- the next one was done
@@ -37,7 +37,7 @@ module _ (who : Who) (kept : Option Stem) (names : List (List ℕ)) (name : List
   settled_on faults_now value is told caused faults = record {
     told = λ stamped s settles k.
         leads_then (so_far.told stamped s settles k)
-        (subst (λ r. Adds mid now (Leads (Foreign stamped (process s)) (AtTold stamped (process s) (HoldsBut s (left_of (name ∷ rest) last)))
+        (subst (λ r. Adds mid now (Leads (As stamped (process s)) (AtTold stamped (process s) (HoldsBut s (left_of (name ∷ rest) last)))
         (Found stamped s (λ v. HoldsBut s (left_of rest then)) r))) is (told stamped s rest settles k));
     caused = caused_then {T = Unit {0}} (Ok tt) tt (Ok tt) (λ i. Ok tt) so_far.caused
         (subst (λ (r : Result (Unit {0}) SinkFault). Adds mid now (IsCaused r)) is caused);
@@ -47,7 +47,7 @@ module _ (who : Who) (kept : Option Stem) (names : List (List ℕ)) (name : List
   -- the next one was refused
   pub refused_told : (result : Result (Unit {0}) SinkFault) (fault : SinkFault) → part ≡ Err fault → result ≡ Err fault → Part
       → (stamped : List (List ℕ)) (s : State) → IsSettling s who → kept ≡ kept_stem s
-      → Adds old now (Leads (Foreign stamped (process s)) (AtTold stamped (process s) (HoldsBut s (left_of names None)))
+      → Adds old now (Leads (As stamped (process s)) (AtTold stamped (process s) (HoldsBut s (left_of names None)))
       (Found stamped s (λ v. HoldsBut s none_left) result))
   refused_told result fault is result_is told stamped s settles k =
       leads_then (so_far.told stamped s settles k)
@@ -66,7 +66,7 @@ next_named names i item name within is text =
 
 -- the names that were listed
 pub from_names : (stamped : List (List ℕ)) (s : State) (a b : List (List ℕ)) (Z : History → Type 0) {old now : Option History} → b ≡ a
-    → Adds old now (Leads (Foreign stamped (process s)) (AtTold stamped (process s) (HoldsBut s (left_of b None))) Z)
-    → Adds old now (Leads (Foreign stamped (process s)) (AtTold stamped (process s) (HoldsBut s (left_of a None))) Z)
+    → Adds old now (Leads (As stamped (process s)) (AtTold stamped (process s) (HoldsBut s (left_of b None))) Z)
+    → Adds old now (Leads (As stamped (process s)) (AtTold stamped (process s) (HoldsBut s (left_of a None))) Z)
 from_names stamped s a b Z {old = old} {now = now} e told =
-    subst (λ r. Adds old now (Leads (Foreign stamped (process s)) (AtTold stamped (process s) (HoldsBut s (left_of r None))) Z)) e told
+    subst (λ r. Adds old now (Leads (As stamped (process s)) (AtTold stamped (process s) (HoldsBut s (left_of r None))) Z)) e told

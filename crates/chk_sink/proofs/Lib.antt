@@ -37,3 +37,4 @@ pub mod LeftNamed
 pub mod LeftListed
 pub mod LeftLoop
 pub mod Settled
+pub mod StartBegins

@@ -12,7 +12,7 @@ use Rattle.chk_site.specs.Runs.{Leads}
 use Rattle.chk_chunk.specs.Keys.{Chunk, IsKey}
 use Rattle.chk_world.specs.Names.{SinkFile, spell}
 use Rattle.chk_world.specs.Collectors.{Handling, IsPosted}
-use Rattle.chk_world.specs.Places.{Foreign}
+use Rattle.chk_world.specs.Places.{As}
 use Rattle.chk_sink.specs.declared.fault.SinkFault.{SinkFault}
 use Rattle.chk_sink.specs.States.{State, Writing, process, last_stem, kept_where_done}
 use Rattle.chk_sink.specs.Held.{Ready}
@@ -61,12 +61,12 @@ module _ (stamped : List (List ℕ)) (s : State) (o : Writing) (messages : List 
   pub kept_done : (made : Result (Unit {0}) OutsideFault) {old new : Option History} (u : Unit {0}) → sink_result made ≡ Ok u
       → MadeOnce Q made old new → (st : State) (next : Writing) → st ≡ kept_where_done s next made → next ≡ longer_writing o (piece_of s o key value)
       → (placed : Stem × ℕ) → placed ≡ (last_stem s, o.size + length (piece_of s o key value))
-      → Adds old new (Leads (Foreign stamped (process s)) (Ready stamped s messages) (Wrote stamped st messages c (Ok placed)))
+      → Adds old new (Leads (As stamped (process s)) (Ready stamped s messages) (Wrote stamped st messages c (Ok placed)))
   kept_done (Ok v) {old = old} {new = new} u e m st next st_is next_is placed placed_is =
       let n = as_process m in
-      subst (λ t. Adds old new (Leads (Foreign stamped (process s)) (Ready stamped s messages) (Wrote stamped t messages c (Ok placed))))
+      subst (λ t. Adds old new (Leads (As stamped (process s)) (Ready stamped s messages) (Wrote stamped t messages c (Ok placed))))
       (sym (st_is ∙ ap (λ q. kept_where_done s q (Ok v)) next_is))
-      (subst (λ p. Adds old new (Leads (Foreign stamped (process s)) (Ready stamped s messages)
+      (subst (λ p. Adds old new (Leads (As stamped (process s)) (Ready stamped s messages)
       (Wrote stamped (kept_where_done s (longer_writing o (piece_of s o key value)) (Ok v)) messages c (Ok p)))) (sym placed_is)
       (put_done stamped s o messages c key value named some good begun posted is value_is w w_is n.given n.came n.told))
   kept_done (Err f) u e m st next st_is next_is placed placed_is = absurd (cc)
@@ -75,10 +75,10 @@ module _ (stamped : List (List ℕ)) (s : State) (o : Writing) (messages : List 
   pub kept_ended : (made : Result (Unit {0}) OutsideFault) {old new : Option History} (fault : SinkFault) → sink_result made ≡ Err fault
       → MadeOnce Q made old new → (st : State) (next : Writing) → st ≡ kept_where_done s next made
       → (told_as : SinkFault) (result : Result (Stem × ℕ) SinkFault) → result ≡ Err told_as
-      → Adds old new (Leads (Foreign stamped (process s)) (Ready stamped s messages) (Wrote stamped st messages c result))
+      → Adds old new (Leads (As stamped (process s)) (Ready stamped s messages) (Wrote stamped st messages c result))
   kept_ended (Ok v) fault e m st next st_is told_as result result_is = absurd (cc)
   kept_ended (Err f) {old = old} {new = new} fault e m st next st_is told_as result result_is =
       let n = as_process m in
-      subst (λ r. Adds old new (Leads (Foreign stamped (process s)) (Ready stamped s messages) (Wrote stamped st messages c r))) (sym result_is)
-      (subst (λ t. Adds old new (Leads (Foreign stamped (process s)) (Ready stamped s messages) (Wrote stamped t messages c (Err told_as)))) (sym st_is)
+      subst (λ r. Adds old new (Leads (As stamped (process s)) (Ready stamped s messages) (Wrote stamped st messages c r))) (sym result_is)
+      (subst (λ t. Adds old new (Leads (As stamped (process s)) (Ready stamped s messages) (Wrote stamped t messages c (Err told_as)))) (sym st_is)
       (put_ended stamped s o messages c key value named some good begun posted is value_is w w_is n.given f told_as n.came n.told))

@@ -12,7 +12,7 @@ use Rattle.chk_site.specs.Site.{Adds, Asked, asked, answered, plain, bytes_given
 use Rattle.chk_site.specs.Runs.{Leads}
 use Rattle.chk_site.proofs.Runs.{adds_as}
 use Rattle.chk_world.specs.Names.{SinkFile, MarkFile, read, spell}
-use Rattle.chk_world.specs.Places.{Foreign, AtTold}
+use Rattle.chk_world.specs.Places.{As, AtTold}
 use Rattle.chk_world.proofs.NameLemmas.{read-spell}
 use Rattle.chk_sink.specs.declared.fault.SinkFault.{SinkFault}
 use Rattle.chk_sink.specs.declared.fault.SinkFault.TheVariants.{Outside, Damaged, Spent, NoMemory as NoRoom}
@@ -36,9 +36,9 @@ taken_some (Err NoMemory) o v is e = absurd is
 -- the refusal of a damaged mark
 pub found_damage : (stamped : List (List ℕ)) (s : State) {T : Type 0} (P : T → History → Type 0) (w : List ℕ) (fault : SinkFault) {A : History → Type 0}
     {old new : Option History} → IsDamageOf w fault
-    → Adds old new (Leads (Foreign stamped (process s)) A (AtTold stamped (process s) (λ h. ⊥)))
-    → Adds old new (Leads (Foreign stamped (process s)) A (Matches stamped s))
-    → Adds old new (Leads (Foreign stamped (process s)) A (Found stamped s P (Err fault)))
+    → Adds old new (Leads (As stamped (process s)) A (AtTold stamped (process s) (λ h. ⊥)))
+    → Adds old new (Leads (As stamped (process s)) A (Matches stamped s))
+    → Adds old new (Leads (As stamped (process s)) A (Found stamped s P (Err fault)))
 found_damage stamped s P w (Damaged name at) is never kept = never
 found_damage stamped s P w NoRoom is never kept = kept
 found_damage stamped s P w (Outside call) is never kept = absurd is

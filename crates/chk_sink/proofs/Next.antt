@@ -15,7 +15,7 @@ use Rattle.chk_seqfile.specs.Entries.{piece_at}
 use Rattle.chk_chunk.specs.Keys.{Chunk, IsKey}
 use Rattle.chk_world.specs.Names.{SinkFile, spell}
 use Rattle.chk_world.specs.Collectors.{Handling, IsPosted, marker}
-use Rattle.chk_world.specs.Places.{Foreign}
+use Rattle.chk_world.specs.Places.{As}
 use Rattle.chk_sink.specs.declared.fault.SinkFault.{SinkFault}
 use Rattle.chk_sink.specs.States.{State, process, next_stem, with_current, counted, one_more}
 use Rattle.chk_sink.specs.Held.{Ready}
@@ -37,11 +37,11 @@ module _ (stamped : List (List ℕ)) (s : State) (messages : List Handling) (c :
   After st result history = Wrote stamped st messages c result history
 
   as_told : (st to : State) (result : Result (Stem × ℕ) SinkFault) (fault : SinkFault) {old new : Option History} → st ≡ to → result ≡ Err fault
-      → Adds old new (Leads (Foreign stamped (process s)) (Ready stamped s messages) (After to (Err fault)))
-      → Adds old new (Leads (Foreign stamped (process s)) (Ready stamped s messages) (After st result))
+      → Adds old new (Leads (As stamped (process s)) (Ready stamped s messages) (After to (Err fault)))
+      → Adds old new (Leads (As stamped (process s)) (Ready stamped s messages) (After st result))
   as_told st to result fault {old = old} {new = new} st_is result_is told =
-      subst (λ r. Adds old new (Leads (Foreign stamped (process s)) (Ready stamped s messages) (After st r))) (sym result_is)
-      (subst (λ t. Adds old new (Leads (Foreign stamped (process s)) (Ready stamped s messages) (After t (Err fault)))) (sym st_is) told)
+      subst (λ r. Adds old new (Leads (As stamped (process s)) (Ready stamped s messages) (After st r))) (sym result_is)
+      (subst (λ t. Adds old new (Leads (As stamped (process s)) (Ready stamped s messages) (After t (Err fault)))) (sym st_is) told)
 
   create_as : {old mid : Option History} → Adds old mid (Calls (asked who Create (w ∷ []) 0 0) (answered plain given))
       → Adds old mid (Calls (asked (process s) Create (w ∷ []) 0 0) (answered plain given))
@@ -50,7 +50,7 @@ module _ (stamped : List (List ℕ)) (s : State) (messages : List Handling) (c :
   pub uncreated_as : (fault : OutsideFault) (st : State) (result : Result (Stem × ℕ) SinkFault) (told_as : SinkFault) {old new : Option History}
       → Ends Create given fault → Adds old new (Calls (asked who Create (w ∷ []) 0 0) (answered plain given))
       → st ≡ counted s given → result ≡ Err told_as
-      → Adds old new (Leads (Foreign stamped (process s)) (Ready stamped s messages) (After st result))
+      → Adds old new (Leads (As stamped (process s)) (Ready stamped s messages) (After st result))
   uncreated_as fault st result told_as ends told st_is result_is =
       as_told st (counted s given) result told_as st_is result_is
       (next_uncreated stamped s messages named none good c w w_is given fault told_as ends (create_as told))
@@ -69,7 +69,7 @@ module _ (stamped : List (List ℕ)) (s : State) (messages : List Handling) (c :
     pub unheaded_as : (made : Result (Unit {0}) OutsideFault) (fault : OutsideFault) (result : Result (Stem × ℕ) SinkFault) (told_as : SinkFault)
         {old mid new : Option History} → Adds old mid (Calls (asked who Create (w ∷ []) 0 0) (answered plain given))
         → made ≡ Err fault → MadeOnce (asked who' Append (v ∷ head ∷ []) 0 0) made mid new → result ≡ Err told_as
-        → Adds old new (Leads (Foreign stamped (process s)) (Ready stamped s messages) (After st result))
+        → Adds old new (Leads (As stamped (process s)) (Ready stamped s messages) (After st result))
     unheaded_as made fault result told_as told made_is m result_is =
         let e = made_ends (asked (process s) Append (v ∷ header (marker (next_stem s)) ∷ []) 0 0) made fault made_is (append_as v head (header (marker (next_stem s))) head_is m) in
         as_told st (one_more s) result told_as St result_is
@@ -82,7 +82,7 @@ module _ (stamped : List (List ℕ)) (s : State) (messages : List Handling) (c :
           {old mid more new : Option History} → Adds old mid (Calls (asked who Create (w ∷ []) 0 0) (answered plain given))
           → MadeOnce (asked who' Append (v ∷ head ∷ []) 0 0) made mid more
           → made' ≡ Err fault → MadeOnce (asked who' Append (u ∷ piece ∷ []) 0 0) made' more new → result ≡ Err told_as
-          → Adds old new (Leads (Foreign stamped (process s)) (Ready stamped s messages) (After st result))
+          → Adds old new (Leads (As stamped (process s)) (Ready stamped s messages) (After st result))
       unfilled_as made' fault result told_as told m made_is' m' result_is =
           let d = made_done (asked (process s) Append (v ∷ header (marker (next_stem s)) ∷ []) 0 0) made done made_is (append_as v head (header (marker (next_stem s))) head_is m) in
           let e = made_ends (asked (process s) Append (u ∷ piece_at (marker (next_stem s)) 96 96 key value ∷ []) 0 0) made' fault made_is'
@@ -97,13 +97,13 @@ module _ (stamped : List (List ℕ)) (s : State) (messages : List Handling) (c :
           → made' ≡ Ok done' → MadeOnce (asked who' Append (u ∷ piece ∷ []) 0 0) made' more new
           → last ≡ with_current (headed stamped s messages named none good) (Some (longer_writing first_writing (piece_at (marker (next_stem s)) 96 96 key value)))
           → placed ≡ (next_stem s, 96 + length (piece_at (marker (next_stem s)) 96 96 key value))
-          → Adds old new (Leads (Foreign stamped (process s)) (Ready stamped s messages) (After last (Ok placed)))
+          → Adds old new (Leads (As stamped (process s)) (Ready stamped s messages) (After last (Ok placed)))
       filled_as made' done' last placed {old = old} {new = new} told m made_is' m' last_is placed_is =
           let d = made_done (asked (process s) Append (v ∷ header (marker (next_stem s)) ∷ []) 0 0) made done made_is (append_as v head (header (marker (next_stem s))) head_is m) in
           let e = made_done (asked (process s) Append (u ∷ piece_at (marker (next_stem s)) 96 96 key value ∷ []) 0 0) made' done' made_is'
           (append_as u piece (piece_at (marker (next_stem s)) 96 96 key value) piece_is m') in
-          subst (λ p. Adds old new (Leads (Foreign stamped (process s)) (Ready stamped s messages) (After last (Ok p)))) (sym placed_is)
-          (subst (λ t. Adds old new (Leads (Foreign stamped (process s)) (Ready stamped s messages)
+          subst (λ p. Adds old new (Leads (As stamped (process s)) (Ready stamped s messages) (After last (Ok p)))) (sym placed_is)
+          (subst (λ t. Adds old new (Leads (As stamped (process s)) (Ready stamped s messages)
           (After t (Ok (next_stem s, 96 + length (piece_at (marker (next_stem s)) 96 96 key value)))))) (sym last_is)
           (next_done stamped s messages named none good c key value posted is value_is w v u w_is v_is u_is given d.given e.given
           fine (create_as told) d.fine d.told e.fine e.told))

@@ -143,6 +143,11 @@ guessed_mark t =
     picked_none (λ t. SinkFile (guessed_stem t)) (before_end (codes ".chukwa") w) _ (other_end (codes ".chukw") 97 t (codes ".mar") 107 refl)
     ∙ picked_some (λ t. MarkFile (guessed_stem t)) (before_end (codes ".mark") w) t _ (before_end-append t (codes ".mark"))
 
+guessed_open : (t : List ℕ) → guessed_sink (t ++ codes ".chukwa") ≡ SinkFile (guessed_stem t)
+guessed_open t =
+    let w = t ++ codes ".chukwa" in
+    picked_some (λ t. SinkFile (guessed_stem t)) (before_end (codes ".chukwa") w) t _ (before_end-append t (codes ".chukwa"))
+
 -- a stem of which the file's name is spelled so
 not_spelled : (b : Bool) (n : Name) (w : List ℕ) → (b ≡ true → ⊥) → (if b then n else OtherFile w) ≡ OtherFile w
 not_spelled true n w h = absurd (h refl)
@@ -164,6 +169,24 @@ module _ (x : Stem) (bad : is_stem x ≡ false) where
   mark_text y e =
       append_cancel_right (stem_text y) (stem_text x) (codes ".mark")
       (append_cancel_left (codes "sinks/") (stem_text y ++ codes ".mark") (stem_text x ++ codes ".mark") e)
+
+  sink_text : (y : Stem) → spell (SinkFile y) ≡ spell (SinkFile x) → stem_text y ≡ stem_text x
+  unfolding spell
+  sink_text y e =
+      append_cancel_right (stem_text y) (stem_text x) (codes ".chukwa")
+      (append_cancel_left (codes "sinks/") (stem_text y ++ codes ".chukwa") (stem_text x ++ codes ".chukwa") e)
+
+  read_sink : read (spell (SinkFile x)) ≡ OtherFile (spell (SinkFile x))
+  unfolding spell
+  read_sink =
+      let t = stem_text x in
+      let w = below_sinks (t ++ codes ".chukwa") in
+      let y = guessed_stem t in
+      guessed_below (t ++ codes ".chukwa") (other_end (codes ".tm") 112 (codes "sinks/" ++ t) (codes ".chukw") 97 refl)
+      ∙ (ap (λ n. if_spelled n w) (guessed_open t)
+      ∙ not_spelled (is_stem y && bytes_eq (spell (SinkFile y)) w) (SinkFile y) w
+      (λ h. let p = and_parts (is_stem y) (bytes_eq (spell (SinkFile y)) w) h in
+      no_other y p.0 (sink_text y (bytes_same (spell (SinkFile y)) w p.1))))
 
   read_done : read (spell (DoneFile x)) ≡ OtherFile (spell (DoneFile x))
   unfolding spell
@@ -206,3 +229,11 @@ no_stem_files stamped history legal x bad = (
   never_there (spell (MarkFile x))
       (λ who. ap (owns_by who.role who.name) (read_mark x bad) ∙ owned_none who.role who.name (stem_text x ++ codes ".mark")) stamped history legal,
 )
+
+-- and no sink under writing
+pub no_stem_sink : (stamped : List (List ℕ)) (history : History) → Legal stamped history → (x : Stem) → is_stem x ≡ false
+    → file (files_after history) (SinkFile x) ≡ None
+unfolding spell
+no_stem_sink stamped history legal x bad =
+    never_there (spell (SinkFile x))
+    (λ who. ap (owns_by who.role who.name) (read_sink x bad) ∙ owned_none who.role who.name (stem_text x ++ codes ".chukwa")) stamped history legal

@@ -17,7 +17,7 @@ use Rattle.chk_chunk.specs.Keys.{Chunk, IsKey}
 use Rattle.chk_message.specs.Messages.{ack_of}
 use Rattle.chk_world.specs.Names.{SinkFile, spell}
 use Rattle.chk_world.specs.Collectors.{Handling, Appended, IsPosted, IsNextPiece, Tells, marker, with_appends}
-use Rattle.chk_world.specs.Places.{Foreign}
+use Rattle.chk_world.specs.Places.{As}
 use Rattle.chk_sink.specs.declared.fault.SinkFault.{SinkFault}
 use Rattle.chk_sink.specs.States.{State, Writing, process, last_stem, with_current, given_up}
 use Rattle.chk_sink.specs.Held.{Handles, Ready}
@@ -108,7 +108,7 @@ pub put_done : (stamped : List (List ℕ)) (s : State) (o : Writing) (messages :
     → IsPosted messages c → IsKey c.key key → value ≡ c.value
     → (w : List ℕ) → w ≡ spell (SinkFile (last_stem s)) → (given : Result (Unit {0}) CallFault) {old new : Option History} → IsDone given
     → Adds old new (Calls (asked (process s) Append (w ∷ piece_of s o key value ∷ []) 0 0) (answered plain given))
-    → Adds old new (Leads (Foreign stamped (process s)) (Ready stamped s messages)
+    → Adds old new (Leads (As stamped (process s)) (Ready stamped s messages)
     (Wrote stamped (with_current s (Some (longer_writing o (piece_of s o key value)))) messages c
     (Ok (last_stem s, o.size + length (piece_of s o key value)))))
 put_done stamped s o messages c key value named some good begun posted is v w w_is given done told =
@@ -148,7 +148,7 @@ pub put_ended : (stamped : List (List ℕ)) (s : State) (o : Writing) (messages 
     → (w : List ℕ) → w ≡ spell (SinkFile (last_stem s)) → (given : Result (Unit {0}) CallFault) (fault : OutsideFault) (told_as : SinkFault)
     {old new : Option History} → Ends Append given fault
     → Adds old new (Calls (asked (process s) Append (w ∷ piece_of s o key value ∷ []) 0 0) (answered plain given))
-    → Adds old new (Leads (Foreign stamped (process s)) (Ready stamped s messages) (Wrote stamped (given_up s) messages c (Err told_as)))
+    → Adds old new (Leads (As stamped (process s)) (Ready stamped s messages) (Wrote stamped (given_up s) messages c (Err told_as)))
 put_ended stamped s o messages c key value named some good begun posted is v w w_is given fault told_as ends told =
     leads_as (λ h x. x) (put_failed stamped (given_up s) messages c told_as)
     (append_ends stamped s o messages named some good w w_is (piece_of s o key value) (entry_next messages s o c key value posted is v begun)

@@ -28,10 +28,10 @@ use Rattle.chk_sink.proofs.NoStem.{no_stem_files}
 
 -- ---- steps of others
 
-not_taken : (who : State) (t : ℕ) (step : Step) → is_by (process who) step ≡ false → is_taking (process who) t step ≡ false
+pub not_taken : (who : State) (t : ℕ) (step : Step) → is_by (process who) step ≡ false → is_taking (process who) t step ≡ false
 not_taken s t step other = rw other refl
 
-length_left : (stamped : List (List ℕ)) (s : State) (history : History) (step : Step) (x : Stem) → Legal stamped history
+pub length_left : (stamped : List (List ℕ)) (s : State) (history : History) (step : Step) (x : Stem) → Legal stamped history
     → Foreign stamped (process s) history step → leaves_sink (process s) x step ≡ true
     → committed_length step.files x ≡ committed_length (files_after history) x
 length_left stamped s history step x legal f left = go (is_stem x) refl

@@ -6,7 +6,7 @@ use Rattle.chk_site.specs.History.{History}
 use Rattle.chk_site.specs.Site.{Adds}
 use Rattle.chk_site.specs.Runs.{Leads}
 use Rattle.chk_site.proofs.Leads.{leads_as}
-use Rattle.chk_world.specs.Places.{Foreign, AtTold}
+use Rattle.chk_world.specs.Places.{As, AtTold}
 use Rattle.chk_sink.specs.declared.fault.SinkFault.{SinkFault}
 use Rattle.chk_sink.specs.declared.fault.SinkFault.TheVariants.{Outside, Damaged, Spent, NoMemory}
 use Rattle.chk_sink.specs.declared.current.Current.{Current}
@@ -46,8 +46,8 @@ module _ (stamped : List (List ℕ)) (s st : State) (result : Result (Unit {0}) 
   -- each other sink was settled
   pub settled_whole : (part : Result (Unit {0}) SinkFault) (value : Unit {0}) {old new : Option History} → part ≡ Ok value → result ≡ Ok value
       → st ≡ settled_state s
-      → Adds old new (Leads (Foreign stamped (process s)) (Matches stamped s) (Found stamped s (λ v. HoldsBut s none_left) part))
-      → Adds old new (Leads (Foreign stamped (process s)) (Matches stamped s) (Settled stamped st result))
+      → Adds old new (Leads (As stamped (process s)) (Matches stamped s) (Found stamped s (λ v. HoldsBut s none_left) part))
+      → Adds old new (Leads (As stamped (process s)) (Matches stamped s) (Settled stamped st result))
   settled_whole part value e f st_is told =
       leads_as (λ h x. x)
       (λ h x. subst (λ t. Settled stamped t result h) (sym st_is)
@@ -59,8 +59,8 @@ module _ (stamped : List (List ℕ)) (s st : State) (result : Result (Unit {0}) 
 
   -- it was refused
   pub settled_refused : (part : Result (Unit {0}) SinkFault) (fault : SinkFault) {old new : Option History} → part ≡ Err fault → result ≡ Err fault
-      → st ≡ s → Adds old new (Leads (Foreign stamped (process s)) (Matches stamped s) (Found stamped s (λ v. HoldsBut s none_left) part))
-      → Adds old new (Leads (Foreign stamped (process s)) (Matches stamped s) (Settled stamped st result))
+      → st ≡ s → Adds old new (Leads (As stamped (process s)) (Matches stamped s) (Found stamped s (λ v. HoldsBut s none_left) part))
+      → Adds old new (Leads (As stamped (process s)) (Matches stamped s) (Settled stamped st result))
   settled_refused part fault e f st_is told =
       leads_as (λ h x. x)
       (λ h x. subst (λ t. Settled stamped t result h) (sym st_is)

@@ -24,12 +24,12 @@ use Rattle.chk_world.specs.Names.{BornFile, SinkFile, spell, file}
 use Rattle.chk_world.specs.Committed.{OnFile, IsNumber, number_in}
 use Rattle.chk_world.specs.Collectors.{View, view}
 use Rattle.chk_world.specs.Rules.{Legal}
-use Rattle.chk_world.specs.Places.{Foreign, AtTold, Place, SeenAt, IsPlace}
+use Rattle.chk_world.specs.Places.{As, AtTold, Place, SeenAt, IsPlace}
 use Rattle.chk_world.proofs.Law.{shape}
 use Rattle.chk_world.proofs.OwnFiles.{looked_file}
 use Rattle.chk_world.proofs.PlacesStay.{Stays, seen_stays}
 use Rattle.chk_world.proofs.Replacing.{Target, around, Next, anything, EndedAt}
-use Rattle.chk_world.proofs.ToldCalls.{MayCall, LeavesCall, goes_on_done, goes_on_taken, told_taken, told_ends, told_start}
+use Rattle.chk_world.proofs.ToldCalls.{MayCall, LeavesCall, goes_on_done, goes_on_taken, told_taken, told_ends, told_start, owned}
 use Rattle.chk_world.proofs.CollectorCalls.{own_sight, collector_target, Unborn, NoneMade, Born, born_replaced}
 use Rattle.chk_sink.specs.Calls.{MadeOnce}
 use Rattle.chk_sink.specs.Faults.{sink_fault}
@@ -68,7 +68,7 @@ number_given None (Rotated suffix) o took agrees sound = absurd took
 number_given None (Deleted suffix) o took agrees sound = absurd took
 
 -- after a call of the outside that ended the work the history is legal
-legal_published : (stamped : List (List ℕ)) (who : Who) (fault : OutsideFault) (h : History) → Legal stamped h
+pub legal_published : (stamped : List (List ℕ)) (who : Who) (fault : OutsideFault) (h : History) → Legal stamped h
     → Published stamped who (Err (sink_fault fault)) h
 legal_published stamped who (Outside call) h legal = legal
 legal_published stamped who no_memory h legal = legal
@@ -119,7 +119,7 @@ module _ (stamped : List (List ℕ)) (c : List ℕ) (named : IsTrue (is_collecto
 
   -- the start of the process
   begin_done : (u : Unit {0}) {old new : Option History} → MadeOnce StartQ (Ok u) old new
-      → Adds old new (Leads (Foreign stamped Me) (Legal stamped) (AtTold stamped Me Begun))
+      → Adds old new (Leads (As stamped Me) (Legal stamped) (AtTold stamped Me Begun))
   begin_done u m =
       told_start stamped Me Begun m.given named
       (λ before answer files logs was legal.
@@ -128,9 +128,9 @@ module _ (stamped : List (List ℕ)) (c : List ℕ) (named : IsTrue (is_collecto
       m.came m.told
 
   begin_ended : (fault : OutsideFault) {old new : Option History} → MadeOnce StartQ (Err fault) old new
-      → Adds old new (Leads (Foreign stamped Me) (Legal stamped) (Legal stamped))
+      → Adds old new (Leads (As stamped Me) (Legal stamped) (Legal stamped))
   begin_ended fault m =
-      ends_leads (λ f. Legal stamped) plain m.given fault m.came (λ before step theirs f h. (h, f.obeys))
+      ends_leads (λ f. Legal stamped) plain m.given fault (owned stamped StartQ named) m.came (λ before step theirs f h. (h, f.obeys))
       (start_shows (Refused Failed)) (λ left. start_shows (Stopped left)) (λ before stopped h. h) (λ before h. h) m.told
 
   module _ (name : List ℕ) (name_is : name ≡ spell (BornFile c)) where
@@ -156,7 +156,7 @@ module _ (stamped : List (List ℕ)) (c : List ℕ) (named : IsTrue (is_collecto
         }
 
     read_looked : (result : Result (Option ℕ) OutsideFault) {old new : Option History} → ReadsNumber Me name result old new
-        → Adds old new (Leads (Foreign stamped Me) (AtTold stamped Me Begun) (Looked stamped Me result))
+        → Adds old new (Leads (As stamped Me) (AtTold stamped Me Begun) (Looked stamped Me result))
     read_looked (Ok number) m =
         told_taken stamped ReadQ named Begun (HasLooked Me number) bytes_given m.given m.came.taken begun_stays read_may (λ v. tt)
         (read_leaves m.came.taken number m.came.is) m.came.is_taken m.told
@@ -166,7 +166,7 @@ module _ (stamped : List (List ℕ)) (c : List ℕ) (named : IsTrue (is_collecto
         (λ before answer files logs failed legal h. tt) (λ h x. tt) m.came m.told)
 
     looked_me : (u : Unit {0}) (result : Result (Option ℕ) OutsideFault) {old mid new : Option History} → MadeOnce StartQ (Ok u) old mid
-        → ReadsNumber Me name result mid new → Adds old new (Leads (Foreign stamped Me) (Legal stamped) (Looked stamped Me result))
+        → ReadsNumber Me name result mid new → Adds old new (Leads (As stamped Me) (Legal stamped) (Looked stamped Me result))
     looked_me u result m r = leads_then (begin_done u m) (read_looked result r)
 
     -- the next number is published where the last one was looked up
@@ -178,7 +178,7 @@ module _ (stamped : List (List ℕ)) (c : List ℕ) (named : IsTrue (is_collecto
 
     publishes : (last : ℕ) → last + 1 < limit → (result : Result (Unit {0}) OutsideFault) {old new : Option History}
         → MadeInTurn (replacement Me name (be64 (last + 1))) result old new
-        → Adds old new (Leads (Foreign stamped Me) (AtTold stamped Me (HasLooked Me (Some last)))
+        → Adds old new (Leads (As stamped Me) (AtTold stamped Me (HasLooked Me (Some last)))
         (AtTold stamped Me (EndedAt Me (view Me) (SinkFile X) (BornFile c) NoneMade (Born (last + 1)) result)))
     publishes last small result script =
         leads_as (λ h x. record { legal = x.legal; may_act = x.may_act; alive = λ r. looked_next last h (x.alive r) }) (λ h x. x)
@@ -186,7 +186,7 @@ module _ (stamped : List (List ℕ)) (c : List ℕ) (named : IsTrue (is_collecto
 
     published_me : (last : ℕ) → last + 1 < limit → (u : Unit {0}) {old new : Option History}
         → MadeInTurn (replacement Me name (be64 (last + 1))) (Ok u) old new
-        → Adds old new (Leads (Foreign stamped Me) (AtTold stamped Me (HasLooked Me (Some last))) (Published stamped Me (Ok (last + 1))))
+        → Adds old new (Leads (As stamped Me) (AtTold stamped Me (HasLooked Me (Some last))) (Published stamped Me (Ok (last + 1))))
     published_me last small u script =
         leads_as (λ h x. x)
         (λ h x. record {
@@ -198,7 +198,7 @@ module _ (stamped : List (List ℕ)) (c : List ℕ) (named : IsTrue (is_collecto
 
     unpublished_me : (last : ℕ) → last + 1 < limit → (fault : OutsideFault) {old new : Option History}
         → MadeInTurn (replacement Me name (be64 (last + 1))) (Err fault) old new
-        → Adds old new (Leads (Foreign stamped Me) (AtTold stamped Me (HasLooked Me (Some last))) (Published stamped Me (Err (sink_fault fault))))
+        → Adds old new (Leads (As stamped Me) (AtTold stamped Me (HasLooked Me (Some last))) (Published stamped Me (Err (sink_fault fault))))
     unpublished_me last small fault script =
         leads_as (λ h x. x) (λ h x. legal_published stamped Me fault h x.legal) (publishes last small (Err fault) script)
 
@@ -212,36 +212,36 @@ of_collector F each who role named = subst (λ r. F (record { role = r; name = w
 
 pub unbegun_told : (stamped : List (List ℕ)) (fault : OutsideFault) {old new : Option History}
     → CollectorFact (λ who. MadeOnce (asked who Start [] 0 0) (Err fault) old new
-    → Adds old new (Leads (Foreign stamped who) (Legal stamped) (Looked stamped who (Err fault))))
+    → Adds old new (Leads (As stamped who) (Legal stamped) (Looked stamped who (Err fault))))
 unbegun_told stamped fault {old = old} {new = new} =
     of_collector
     (λ who. MadeOnce (asked who Start [] 0 0) (Err fault) old new
-    → Adds old new (Leads (Foreign stamped who) (Legal stamped) (Looked stamped who (Err fault))))
+    → Adds old new (Leads (As stamped who) (Legal stamped) (Looked stamped who (Err fault))))
     (λ c named m. begin_ended stamped c named fault m)
 
 pub looked_told : (stamped : List (List ℕ)) (name : List ℕ) (u : Unit {0}) (result : Result (Option ℕ) OutsideFault) {old mid new : Option History}
     → CollectorFact (λ who. name ≡ spell (BornFile who.name) → MadeOnce (asked who Start [] 0 0) (Ok u) old mid
-    → ReadsNumber who name result mid new → Adds old new (Leads (Foreign stamped who) (Legal stamped) (Looked stamped who result)))
+    → ReadsNumber who name result mid new → Adds old new (Leads (As stamped who) (Legal stamped) (Looked stamped who result)))
 looked_told stamped name u result {old = old} {mid = mid} {new = new} =
     of_collector
     (λ who. name ≡ spell (BornFile who.name) → MadeOnce (asked who Start [] 0 0) (Ok u) old mid
-    → ReadsNumber who name result mid new → Adds old new (Leads (Foreign stamped who) (Legal stamped) (Looked stamped who result)))
+    → ReadsNumber who name result mid new → Adds old new (Leads (As stamped who) (Legal stamped) (Looked stamped who result)))
     (λ c named name_is m r. looked_me stamped c named name name_is u result m r)
 
 pub published_told : (stamped : List (List ℕ)) (name : List ℕ) (last : ℕ) → last + 1 < limit → (u : Unit {0}) {old new : Option History}
     → CollectorFact (λ who. name ≡ spell (BornFile who.name) → MadeInTurn (replacement who name (be64 (last + 1))) (Ok u) old new
-    → Adds old new (Leads (Foreign stamped who) (AtTold stamped who (HasLooked who (Some last))) (Published stamped who (Ok (last + 1)))))
+    → Adds old new (Leads (As stamped who) (AtTold stamped who (HasLooked who (Some last))) (Published stamped who (Ok (last + 1)))))
 published_told stamped name last small u {old = old} {new = new} =
     of_collector
     (λ who. name ≡ spell (BornFile who.name) → MadeInTurn (replacement who name (be64 (last + 1))) (Ok u) old new
-    → Adds old new (Leads (Foreign stamped who) (AtTold stamped who (HasLooked who (Some last))) (Published stamped who (Ok (last + 1)))))
+    → Adds old new (Leads (As stamped who) (AtTold stamped who (HasLooked who (Some last))) (Published stamped who (Ok (last + 1)))))
     (λ c named name_is script. published_me stamped c named name name_is last small u script)
 
 pub unpublished_told : (stamped : List (List ℕ)) (name : List ℕ) (last : ℕ) → last + 1 < limit → (fault : OutsideFault) {old new : Option History}
     → CollectorFact (λ who. name ≡ spell (BornFile who.name) → MadeInTurn (replacement who name (be64 (last + 1))) (Err fault) old new
-    → Adds old new (Leads (Foreign stamped who) (AtTold stamped who (HasLooked who (Some last))) (Published stamped who (Err (sink_fault fault)))))
+    → Adds old new (Leads (As stamped who) (AtTold stamped who (HasLooked who (Some last))) (Published stamped who (Err (sink_fault fault)))))
 unpublished_told stamped name last small fault {old = old} {new = new} =
     of_collector
     (λ who. name ≡ spell (BornFile who.name) → MadeInTurn (replacement who name (be64 (last + 1))) (Err fault) old new
-    → Adds old new (Leads (Foreign stamped who) (AtTold stamped who (HasLooked who (Some last))) (Published stamped who (Err (sink_fault fault)))))
+    → Adds old new (Leads (As stamped who) (AtTold stamped who (HasLooked who (Some last))) (Published stamped who (Err (sink_fault fault)))))
     (λ c named name_is script. unpublished_me stamped c named name name_is last small fault script)

@@ -8,7 +8,7 @@ use Rattle.chk_site.specs.Runs.{Leads}
 use Rattle.chk_site.proofs.Leads.{leads_then, leads_as}
 use Rattle.chk_site.proofs.Runs.{adds_then}
 use Rattle.chk_world.specs.Rules.{Legal}
-use Rattle.chk_world.specs.Places.{Foreign, AtTold}
+use Rattle.chk_world.specs.Places.{As, AtTold}
 use Rattle.chk_sink.specs.declared.fault.SinkFault.{SinkFault}
 use Rattle.chk_sink.specs.declared.fault.SinkFault.TheVariants.{Outside, Damaged, Spent, NoMemory}
 use Rattle.chk_sink.specs.States.{State, process, settled_state}
@@ -43,17 +43,17 @@ module _ (stamped : List (List ℕ)) (c : List ℕ) (born rotate : ℕ) where
   unsettled NoMemory h only x = x.legal
 
   started_me : (st : State) → st ≡ settled_state S → {old mid new : Option History}
-      → Adds old mid (Leads (Foreign stamped Me) (Legal stamped) (Published stamped Me (Ok born)))
-      → Adds mid new (Leads (Foreign stamped Me) (Matches stamped S) (Matches stamped st))
-      → Adds old new (Leads (Foreign stamped Me) (Legal stamped) (Started stamped Me (Ok st)))
+      → Adds old mid (Leads (As stamped Me) (Legal stamped) (Published stamped Me (Ok born)))
+      → Adds mid new (Leads (As stamped Me) (Matches stamped S) (Matches stamped st))
+      → Adds old new (Leads (As stamped Me) (Legal stamped) (Started stamped Me (Ok st)))
   started_me st st_is {old = old} {new = new} publish settle =
       leads_then publish
       (leads_as first_matches (λ h x. subst (λ (t : State). AtTold stamped (process t) (Holds st) h) st_is x) settle)
 
   unstarted_me : (st : State) (fault : SinkFault) → st ≡ S → IsOfTick fault → {old mid new : Option History}
-      → Adds old mid (Leads (Foreign stamped Me) (Legal stamped) (Published stamped Me (Ok born)))
-      → Adds mid new (Leads (Foreign stamped Me) (Matches stamped S) (Settled stamped st (Err fault)))
-      → Adds old new (Leads (Foreign stamped Me) (Legal stamped) (Started stamped Me (Err fault)))
+      → Adds old mid (Leads (As stamped Me) (Legal stamped) (Published stamped Me (Ok born)))
+      → Adds mid new (Leads (As stamped Me) (Matches stamped S) (Settled stamped st (Err fault)))
+      → Adds old new (Leads (As stamped Me) (Legal stamped) (Started stamped Me (Err fault)))
   unstarted_me st fault st_is only publish settle =
       leads_then publish
       (leads_as first_matches (λ h x. unsettled fault h only (subst (λ (t : State). Settled stamped t (Err fault) h) st_is x)) settle)
@@ -61,31 +61,31 @@ module _ (stamped : List (List ℕ)) (c : List ℕ) (born rotate : ℕ) where
 -- the same of a process that is a collector, and of sinks that are the first ones
 pub started_told : (stamped : List (List ℕ)) (who : Who) (born rotate : ℕ) (s st : State) → who.role ≡ Collector → s ≡ first_state who born rotate
     → st ≡ settled_state s → {old mid new : Option History}
-    → Adds old mid (Leads (Foreign stamped who) (Legal stamped) (Published stamped who (Ok born)))
-    → Adds mid new (Leads (Foreign stamped (process s)) (Matches stamped s) (Matches stamped st))
-    → Adds old new (Leads (Foreign stamped who) (Legal stamped) (Started stamped who (Ok st)))
+    → Adds old mid (Leads (As stamped who) (Legal stamped) (Published stamped who (Ok born)))
+    → Adds mid new (Leads (As stamped (process s)) (Matches stamped s) (Matches stamped st))
+    → Adds old new (Leads (As stamped who) (Legal stamped) (Started stamped who (Ok st)))
 started_told stamped who born rotate s st role s_is st_is {old = old} {mid = mid} {new = new} =
     subst
-    (λ r. Adds old mid (Leads (Foreign stamped (record { role = r; name = who.name })) (Legal stamped) (Published stamped (record { role = r; name = who.name }) (Ok born)))
-    → Adds mid new (Leads (Foreign stamped (process s)) (Matches stamped s) (Matches stamped st))
-    → Adds old new (Leads (Foreign stamped (record { role = r; name = who.name })) (Legal stamped) (Started stamped (record { role = r; name = who.name }) (Ok st))))
+    (λ r. Adds old mid (Leads (As stamped (record { role = r; name = who.name })) (Legal stamped) (Published stamped (record { role = r; name = who.name }) (Ok born)))
+    → Adds mid new (Leads (As stamped (process s)) (Matches stamped s) (Matches stamped st))
+    → Adds old new (Leads (As stamped (record { role = r; name = who.name })) (Legal stamped) (Started stamped (record { role = r; name = who.name }) (Ok st))))
     (sym role)
     (λ publish settle. started_me stamped who.name born rotate st (st_is ∙ ap settled_state s_is) publish
-    (subst (λ (t : State). Adds mid new (Leads (Foreign stamped (process t)) (Matches stamped t) (Matches stamped st))) s_is settle))
+    (subst (λ (t : State). Adds mid new (Leads (As stamped (process t)) (Matches stamped t) (Matches stamped st))) s_is settle))
 
 pub unstarted_told : (stamped : List (List ℕ)) (who : Who) (born rotate : ℕ) (s st : State) (fault : SinkFault) → who.role ≡ Collector
     → s ≡ first_state who born rotate → st ≡ s → IsOfTick fault → {old mid new : Option History}
-    → Adds old mid (Leads (Foreign stamped who) (Legal stamped) (Published stamped who (Ok born)))
-    → Adds mid new (Leads (Foreign stamped (process s)) (Matches stamped s) (Settled stamped st (Err fault)))
-    → Adds old new (Leads (Foreign stamped who) (Legal stamped) (Started stamped who (Err fault)))
+    → Adds old mid (Leads (As stamped who) (Legal stamped) (Published stamped who (Ok born)))
+    → Adds mid new (Leads (As stamped (process s)) (Matches stamped s) (Settled stamped st (Err fault)))
+    → Adds old new (Leads (As stamped who) (Legal stamped) (Started stamped who (Err fault)))
 unstarted_told stamped who born rotate s st fault role s_is st_is only {old = old} {mid = mid} {new = new} =
     subst
-    (λ r. Adds old mid (Leads (Foreign stamped (record { role = r; name = who.name })) (Legal stamped) (Published stamped (record { role = r; name = who.name }) (Ok born)))
-    → Adds mid new (Leads (Foreign stamped (process s)) (Matches stamped s) (Settled stamped st (Err fault)))
-    → Adds old new (Leads (Foreign stamped (record { role = r; name = who.name })) (Legal stamped) (Started stamped (record { role = r; name = who.name }) (Err fault))))
+    (λ r. Adds old mid (Leads (As stamped (record { role = r; name = who.name })) (Legal stamped) (Published stamped (record { role = r; name = who.name }) (Ok born)))
+    → Adds mid new (Leads (As stamped (process s)) (Matches stamped s) (Settled stamped st (Err fault)))
+    → Adds old new (Leads (As stamped (record { role = r; name = who.name })) (Legal stamped) (Started stamped (record { role = r; name = who.name }) (Err fault))))
     (sym role)
     (λ publish settle. unstarted_me stamped who.name born rotate st fault (st_is ∙ s_is) only publish
-    (subst (λ (t : State). Adds mid new (Leads (Foreign stamped (process t)) (Matches stamped t) (Settled stamped st (Err fault)))) s_is settle))
+    (subst (λ (t : State). Adds mid new (Leads (As stamped (process t)) (Matches stamped t) (Settled stamped st (Err fault)))) s_is settle))
 
 -- ---- what its steps show
 

@@ -8,7 +8,7 @@ use Rattle.chk_site.specs.Site.{Adds}
 use Rattle.chk_site.specs.Runs.{Leads}
 use Rattle.chk_site.proofs.Leads.{leads_then, leads_as, leads_none}
 use Rattle.chk_world.specs.Collectors.{View, view}
-use Rattle.chk_world.specs.Places.{Foreign}
+use Rattle.chk_world.specs.Places.{As}
 use Rattle.chk_sink.specs.declared.fault.SinkFault.{SinkFault}
 use Rattle.chk_sink.specs.declared.fault.SinkFault.TheVariants.{Outside, Damaged, Spent, NoMemory}
 use Rattle.chk_sink.specs.declared.current.Current.{Current}
@@ -30,7 +30,7 @@ none_seen i s e none = subst (λ (s : State). s.current ≡ None) e (none_mapped
 
 -- where no sink is written to, nothing is called
 pub none_ticks : (stamped : List (List ℕ)) (s : State) (now : Option History) → s.current ≡ None
-    → Adds now now (Leads (Foreign stamped (process s)) (Matches stamped s) (Ticked stamped s s (Ok tt)))
+    → Adds now now (Leads (As stamped (process s)) (Matches stamped s) (Ticked stamped s s (Ok tt)))
 none_ticks stamped s now none =
     leads_none now
     (λ h x. record {
@@ -73,17 +73,17 @@ closed_holds s st (Err fault) h only ok x = record {
 
 pub close_ticks : (stamped : List (List ℕ)) (s mid st : State) (result : Result (Unit {0}) SinkFault) {old more new : Option History} → mid ≡ committed_state s
     → IfErr result IsOutside → OnOk result (st ≡ with_current mid None)
-    → Adds old more (Leads (Foreign stamped (process s)) (Matches stamped s) (Committed stamped mid (Ok tt)))
-    → Adds more new (Leads (Foreign stamped (process mid)) (Matches stamped mid) (Closed stamped mid st result))
-    → Adds old new (Leads (Foreign stamped (process s)) (Matches stamped s) (Ticked stamped s st result))
+    → Adds old more (Leads (As stamped (process s)) (Matches stamped s) (Committed stamped mid (Ok tt)))
+    → Adds more new (Leads (As stamped (process mid)) (Matches stamped mid) (Closed stamped mid st result))
+    → Adds old new (Leads (As stamped (process s)) (Matches stamped s) (Ticked stamped s st result))
 close_ticks stamped s mid st result {old = old} {more = more} {new = new} mid_is only ok commit close =
     subst Whole (sym mid_is) whole only ok commit close
   where
     Whole : State → Type 0
     Whole mid = IfErr result IsOutside → OnOk result (st ≡ with_current mid None)
-        → Adds old more (Leads (Foreign stamped (process s)) (Matches stamped s) (Committed stamped mid (Ok tt)))
-        → Adds more new (Leads (Foreign stamped (process mid)) (Matches stamped mid) (Closed stamped mid st result))
-        → Adds old new (Leads (Foreign stamped (process s)) (Matches stamped s) (Ticked stamped s st result))
+        → Adds old more (Leads (As stamped (process s)) (Matches stamped s) (Committed stamped mid (Ok tt)))
+        → Adds more new (Leads (As stamped (process mid)) (Matches stamped mid) (Closed stamped mid st result))
+        → Adds old new (Leads (As stamped (process s)) (Matches stamped s) (Ticked stamped s st result))
 
     whole : Whole (committed_state s)
     whole only ok commit close =
@@ -123,10 +123,10 @@ none_before now x None h e = tt
 none_before now x (Some o) h e = absurd (cc)
 
 pub see_ticks : (stamped : List (List ℕ)) (now : ℕ) (s mid st : State) {old new : Option History} → mid ≡ committed_state s → st ≡ seen_state now mid
-    → Adds old new (Leads (Foreign stamped (process s)) (Matches stamped s) (Committed stamped mid (Ok tt)))
-    → Adds old new (Leads (Foreign stamped (process s)) (Matches stamped s) (Ticked stamped s st (Ok tt)))
+    → Adds old new (Leads (As stamped (process s)) (Matches stamped s) (Committed stamped mid (Ok tt)))
+    → Adds old new (Leads (As stamped (process s)) (Matches stamped s) (Ticked stamped s st (Ok tt)))
 see_ticks stamped now s mid st {old = old} {new = new} mid_is st_is commit =
-    subst (λ t. Adds old new (Leads (Foreign stamped (process s)) (Matches stamped s) (Ticked stamped s t (Ok tt))))
+    subst (λ t. Adds old new (Leads (As stamped (process s)) (Matches stamped s) (Ticked stamped s t (Ok tt))))
     (sym (st_is ∙ ap (seen_state now) mid_is))
     (leads_as (λ h x. x)
     (λ h x. record {
@@ -139,7 +139,7 @@ see_ticks stamped now s mid st {old = old} {new = new} mid_is st_is commit =
         sound = λ name at e. cc;
       };
     })
-    (subst (λ t. Adds old new (Leads (Foreign stamped (process s)) (Matches stamped s) (Committed stamped t (Ok tt)))) mid_is commit))
+    (subst (λ t. Adds old new (Leads (As stamped (process s)) (Matches stamped s) (Committed stamped t (Ok tt)))) mid_is commit))
 
 -- ---- sinks are settled before
 
@@ -154,17 +154,17 @@ unsettled_holds stamped s st NoMemory h e x =
     record { legal = x.legal; may_act = x.may_act; alive = λ r. record { holds = x.alive r; committed = tt; closed = tt; sound = λ name at e. cc } }
 
 pub unsettled_ticks : (stamped : List (List ℕ)) (s st : State) (fault : SinkFault) {old new : Option History} → st ≡ s
-    → Adds old new (Leads (Foreign stamped (process s)) (Matches stamped s) (Settled stamped st (Err fault)))
-    → Adds old new (Leads (Foreign stamped (process s)) (Matches stamped s) (Ticked stamped s st (Err fault)))
+    → Adds old new (Leads (As stamped (process s)) (Matches stamped s) (Settled stamped st (Err fault)))
+    → Adds old new (Leads (As stamped (process s)) (Matches stamped s) (Ticked stamped s st (Err fault)))
 unsettled_ticks stamped s st fault e settle = leads_as (λ h x. x) (λ h x. unsettled_holds stamped s st fault h e x) settle
 
 pub settle_ticks : (stamped : List (List ℕ)) (s mid st : State) (result : Result (Unit {0}) SinkFault) {old more new : Option History} → mid ≡ settled_state s
-    → Adds old more (Leads (Foreign stamped (process s)) (Matches stamped s) (Matches stamped mid))
-    → Adds more new (Leads (Foreign stamped (process mid)) (Matches stamped mid) (Ticked stamped mid st result))
-    → Adds old new (Leads (Foreign stamped (process s)) (Matches stamped s) (Ticked stamped s st result))
+    → Adds old more (Leads (As stamped (process s)) (Matches stamped s) (Matches stamped mid))
+    → Adds more new (Leads (As stamped (process mid)) (Matches stamped mid) (Ticked stamped mid st result))
+    → Adds old new (Leads (As stamped (process s)) (Matches stamped s) (Ticked stamped s st result))
 settle_ticks stamped s mid st result {old = old} {more = more} {new = new} mid_is settle tick =
     leads_then
-    (subst (λ t. Adds old more (Leads (Foreign stamped (process s)) (Matches stamped s) (Matches stamped t))) mid_is settle)
+    (subst (λ t. Adds old more (Leads (As stamped (process s)) (Matches stamped s) (Matches stamped t))) mid_is settle)
     (leads_as (λ h x. x)
     (λ h x. record {
       legal = x.legal;
@@ -176,4 +176,4 @@ settle_ticks stamped s mid st result {old = old} {more = more} {new = new} mid_i
         sound = (x.alive r).sound;
       };
     })
-    (subst (λ t. Adds more new (Leads (Foreign stamped (process t)) (Matches stamped t) (Ticked stamped t st result))) mid_is tick))
+    (subst (λ t. Adds more new (Leads (As stamped (process t)) (Matches stamped t) (Ticked stamped t st result))) mid_is tick))

@@ -2,8 +2,6 @@
 use Rattle.std.proofs.Common.{◌≡◌, ℕ, Bool, true, false, ◌&&◌, is_some, List, [], ◌∷◌, ◌++◌, Option, Some, None, Result, ap, sym, subst, ◌∙◌, refl, true≢false, bytes_eq}
 use Rattle.std.specs.Prelude.{IsTrue}
 use Rattle.std.proofs.lemmas.Bool.{or_from}
-use Rattle.std.proofs.lemmas.Option.{same_Some}
-use Rattle.std.proofs.lemmas.List.{append_cancel_right}
 use Rattle.chk_bytes.specs.Stems.{Stem, is_stem, same_stem}
 use Rattle.chk_site.specs.declared.acts.OutsideFault.{OutsideFault}
 use Rattle.chk_site.specs.declared.acts.ActAnswer.{ActAnswer}
@@ -25,19 +23,6 @@ use Rattle.chk_world.proofs.Replacing.{next_word}
 use Rattle.chk_sink.specs.States.{State, Writing, process, last_stem, given_up}
 use Rattle.chk_sink.specs.Held.{IsOther, IsTidy, Holds}
 use Rattle.chk_sink.proofs.Holding.{own_sink, own_mark, absent_as}
-
--- where two accounts are given of the same steps, both hold
-pub adds_both : {old new : Option History} {P Q : History → History → Type 0} (R : History → History → Type 0)
-    → Adds old new P → Adds old new Q → ((added history : History) → P added history → Q added history → R added history) → Adds old new R
-adds_both {Q = Q} R p q join = record {
-  told =
-      λ history e.
-      let x = p.told history e in
-      let y = q.told history e in
-      let same : y.0 ≡ x.0 = append_cancel_right y.0 x.0 history (same_Some (y.0 ++ history) (x.0 ++ history) (sym y.1 ∙ x.1)) in
-      (x.0, x.1, join x.0 history x.2 (subst (λ (a : History). Q a history) same y.2));
-  untold = p.untold;
-}
 
 -- another stem of the collector's isn't that of the sink that is written to
 pub other_stem : (s : State) (o : Writing) → s.current ≡ Some o → (y : Stem) → IsOther s y → same_stem y (last_stem s) ≡ false

@@ -10,7 +10,7 @@ use Rattle.chk_chunk.specs.Keys.{Chunk, IsKey, is_chunk, is_key, has_value, chun
 use Rattle.chk_chunk.proofs.KeyLaws.{written_key_is_key}
 use Rattle.chk_chunk.proofs.KeySizes.{key_size}
 use Rattle.chk_world.specs.Collectors.{Handling}
-use Rattle.chk_world.specs.Places.{Foreign}
+use Rattle.chk_world.specs.Places.{As}
 use Rattle.chk_sink.specs.States.{State, process, let_go, needs_next, without_full}
 use Rattle.chk_sink.specs.Held.{Ready}
 use Rattle.chk_sink.proofs.Holding.{let_go_handles}
@@ -23,13 +23,13 @@ let_go_ready stamped s messages h x =
 
 -- what is put once a full sink was let go of
 pub after_full : (stamped : List (List ℕ)) (s mid : State) (messages : List Handling) (After : History → Type 0) {old new : Option History}
-    → mid ≡ without_full s → Adds old new (Leads (Foreign stamped (process mid)) (Ready stamped mid messages) After)
-    → Adds old new (Leads (Foreign stamped (process s)) (Ready stamped s messages) After)
+    → mid ≡ without_full s → Adds old new (Leads (As stamped (process mid)) (Ready stamped mid messages) After)
+    → Adds old new (Leads (As stamped (process s)) (Ready stamped s messages) After)
 after_full stamped s mid messages After {old = old} {new = new} e told =
-    go (needs_next s.current) (subst (λ m. Adds old new (Leads (Foreign stamped (process m)) (Ready stamped m messages) After)) e told)
+    go (needs_next s.current) (subst (λ m. Adds old new (Leads (As stamped (process m)) (Ready stamped m messages) After)) e told)
   where
-    go : (b : Bool) → Adds old new (Leads (Foreign stamped (process (if b then let_go s else s))) (Ready stamped (if b then let_go s else s) messages) After)
-        → Adds old new (Leads (Foreign stamped (process s)) (Ready stamped s messages) After)
+    go : (b : Bool) → Adds old new (Leads (As stamped (process (if b then let_go s else s))) (Ready stamped (if b then let_go s else s) messages) After)
+        → Adds old new (Leads (As stamped (process s)) (Ready stamped s messages) After)
     go true t = leads_as (let_go_ready stamped s messages) (λ h x. x) t
     go false t = t
 

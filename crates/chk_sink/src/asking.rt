@@ -7,7 +7,7 @@ ghost use Rattle.chk_site.specs.declared.acts.Call.TheVariants.{Size, Read};
 ghost use Rattle.chk_site.specs.Site.{Adds, LastFailed, OutsideCause, asked, bytes_given, sized};
 ghost use Rattle.chk_site.specs.Runs.{Leads};
 ghost use Rattle.chk_world.specs.Collectors.{Handling};
-ghost use Rattle.chk_world.specs.Places.{Foreign};
+ghost use Rattle.chk_world.specs.Places.{As};
 ghost use Rattle.chk_sink.specs.States.{State, process};
 ghost use Rattle.chk_sink.specs.Faults.{SinkCause, FailsLast};
 ghost use Rattle.chk_sink.specs.Damage.{DamageCause};
@@ -75,7 +75,7 @@ pub(crate) fn marked<S: Site>(
     requires { IsTrue (is_stem stem.now) }
     ensures told { (stamped : List (List ℕ)) (s : State) (handled : List Handling) (t : ℕ) (stems : List Parts)
         (acks : List Ack) → IsAsker who.now s → Adds (S.told site.old) (S.told site.new)
-        (Leads (Foreign stamped (process s)) (CountedOpen stamped s handled t stems acks stem.now)
+        (Leads (As stamped (process s)) (CountedOpen stamped s handled t stems acks stem.now)
         (CountedOn stamped s handled t stems acks stem.now result)) }
     ensures only { IfErr result IsOfQuestion }
     ensures damaged { Adds (S.told site.old) (S.told site.new) (DamageCause result) }

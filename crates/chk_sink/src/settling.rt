@@ -6,7 +6,7 @@ ghost use Rattle.chk_bytes.specs.Stems.{Stem as Parts, is_stem};
 ghost use Rattle.chk_site.specs.Site.{Adds};
 ghost use Rattle.chk_site.specs.Runs.{Leads};
 ghost use Rattle.chk_world.specs.Names.{SinkFile, MarkFile, DoneFile, spell};
-ghost use Rattle.chk_world.specs.Places.{Foreign, AtTold};
+ghost use Rattle.chk_world.specs.Places.{As, AtTold};
 ghost use Rattle.chk_sink.specs.Faults.{SinkCause};
 ghost use Rattle.chk_sink.specs.States.{State, process};
 ghost use Rattle.chk_sink.specs.Held.{IsOther, Matches};
@@ -27,7 +27,7 @@ pub(crate) fn settle_left<S: Site>(
     kept: &Option<Stem>,
 ) -> Result<(), SinkFault>
     ensures told { (stamped : List (List ℕ)) (s : State) → IsSettling s who.now → kept.now ≡ kept_stem s
-        → Adds (S.told site.old) (S.told site.new) (Leads (Foreign stamped (process s))
+        → Adds (S.told site.old) (S.told site.new) (Leads (As stamped (process s))
         (Matches stamped s) (Found stamped s (λ _. HoldsBut s none_left) result)) }
     ensures only { IfErr result IsOfTick }
     ensures caused { Adds (S.told site.old) (S.told site.new) (IsCaused result) }
@@ -40,7 +40,7 @@ pub(crate) fn settle_left<S: Site>(
 // The names of the files that the folder of sinks has.
 fn list_sinks<S: Site>(alloc: Global, site: &mut S, who: &Who) -> Result<Vec<Word>, SinkFault>
     ensures told { (stamped : List (List ℕ)) (s : State) → IsSettling s who.now
-        → Adds (S.told site.old) (S.told site.new) (Leads (Foreign stamped (process s))
+        → Adds (S.told site.old) (S.told site.new) (Leads (As stamped (process s))
         (Matches stamped s) (Found stamped s (λ names. HoldsBut s (left_of names.items None)) result)) }
     ensures only { IfErr result IsOfTick }
     ensures caused { Adds (S.told site.old) (S.told site.new) (IsCaused result) }
@@ -63,7 +63,7 @@ fn settle_listed<S: Site>(
     names: &[Word],
 ) -> Result<(), SinkFault>
     ensures told { (stamped : List (List ℕ)) (s : State) → IsSettling s who.now → kept.now ≡ kept_stem s
-        → Adds (S.told site.old) (S.told site.new) (Leads (Foreign stamped (process s))
+        → Adds (S.told site.old) (S.told site.new) (Leads (As stamped (process s))
         (AtTold stamped (process s) (HoldsBut s (left_of names.now None)))
         (Found stamped s (λ _. HoldsBut s none_left) result)) }
     ensures only { IfErr result IsOfTick }
@@ -87,7 +87,7 @@ fn settle_named<S: Site>(
     name: &str,
 ) -> Result<(), SinkFault>
     ensures told { (stamped : List (List ℕ)) (s : State) (names : List (List ℕ)) → IsSettling s who.now → kept.now ≡ kept_stem s
-        → Adds (S.told site.old) (S.told site.new) (Leads (Foreign stamped (process s))
+        → Adds (S.told site.old) (S.told site.new) (Leads (As stamped (process s))
         (AtTold stamped (process s) (HoldsBut s (left_of (name.now ∷ names) last.old)))
         (Found stamped s (λ _. HoldsBut s (left_of names last.new)) result)) }
     ensures only { IfErr result IsOfTick }
@@ -147,7 +147,7 @@ fn without_end<'a>(text: &'a [u8], ending: &[u8]) -> Option<&'a [u8]>
 fn settle_stem<S: Site>(alloc: Global, site: &mut S, who: &Who, stem: Stem) -> Result<(), SinkFault>
     requires { IsTrue (is_stem stem) }
     ensures told { (stamped : List (List ℕ)) (s : State) (may : Parts → Bool) → IsSettling s who.now → IsOther s stem
-        → Adds (S.told site.old) (S.told site.new) (Leads (Foreign stamped (process s))
+        → Adds (S.told site.old) (S.told site.new) (Leads (As stamped (process s))
         (AtTold stamped (process s) (HoldsAt s may stem AnyFiles))
         (Found stamped s (λ _. HoldsAt s may stem BothGone) result)) }
     ensures only { IfErr result IsOfTick }
@@ -184,7 +184,7 @@ fn close_at<S: Site>(
     requires sink { sink.now ≡ spell (SinkFile stem.now) }
     requires mark { mark.now ≡ spell (MarkFile stem.now) }
     ensures told { (stamped : List (List ℕ)) (s : State) (may : Parts → Bool) → IsSettling s who.now → IsOther s stem.now
-        → Adds (S.told site.old) (S.told site.new) (Leads (Foreign stamped (process s))
+        → Adds (S.told site.old) (S.told site.new) (Leads (As stamped (process s))
         (AtTold stamped (process s) (HoldsAt s may stem.now (MarkedBy length)))
         (Found stamped s (λ _. HoldsAt s may stem.now BothGone) result)) }
     ensures only { IfErr result IsOfTick }
@@ -211,7 +211,7 @@ fn close_cut<S: Site>(
     requires sink { sink.now ≡ spell (SinkFile stem.now) }
     requires mark { mark.now ≡ spell (MarkFile stem.now) }
     ensures told { (stamped : List (List ℕ)) (s : State) (may : Parts → Bool) (n : ℕ) → IsSettling s who.now → IsOther s stem.now
-        → Adds (S.told site.old) (S.told site.new) (Leads (Foreign stamped (process s))
+        → Adds (S.told site.old) (S.told site.new) (Leads (As stamped (process s))
         (AtTold stamped (process s) (HoldsAt s may stem.now (CutAt n)))
         (Found stamped s (λ _. HoldsAt s may stem.now BothGone) result)) }
     ensures only { IfErr result IsOfTick }
@@ -231,7 +231,7 @@ fn read_mark<S: Site>(
     mark: &str,
 ) -> Result<Option<u64>, SinkFault>
     ensures told { (stamped : List (List ℕ)) (s : State) (may : Parts → Bool) (x : Parts) → IsSettling s who.now → IsOther s x
-        → mark.now ≡ spell (MarkFile x) → Adds (S.told site.old) (S.told site.new) (Leads (Foreign stamped (process s))
+        → mark.now ≡ spell (MarkFile x) → Adds (S.told site.old) (S.told site.new) (Leads (As stamped (process s))
         (AtTold stamped (process s) (HoldsAt s may x AnyFiles))
         (Found stamped s (λ found. HoldsAt s may x (MarkFound found)) result)) }
     ensures only { IfErr result IsOfTick }
@@ -259,7 +259,7 @@ fn cut_to<S: Site>(
     length: u64,
 ) -> Result<bool, SinkFault>
     ensures told { (stamped : List (List ℕ)) (s : State) (may : Parts → Bool) (x : Parts) → IsSettling s who.now → IsOther s x
-        → sink.now ≡ spell (SinkFile x) → Adds (S.told site.old) (S.told site.new) (Leads (Foreign stamped (process s))
+        → sink.now ≡ spell (SinkFile x) → Adds (S.told site.old) (S.told site.new) (Leads (As stamped (process s))
         (AtTold stamped (process s) (HoldsAt s may x (MarkedBy length)))
         (Found stamped s (λ there. HoldsAt s may x (CutFound length there)) result)) }
     ensures only { IfErr result IsOfTick }
@@ -287,7 +287,7 @@ fn rename_closed<S: Site>(
 ) -> Result<(), SinkFault>
     ensures told { (stamped : List (List ℕ)) (s : State) (may : Parts → Bool) (x : Parts) (n : ℕ) → IsSettling s who.now → IsOther s x
         → sink.now ≡ spell (SinkFile x) → closed.now ≡ spell (DoneFile x)
-        → Adds (S.told site.old) (S.told site.new) (Leads (Foreign stamped (process s))
+        → Adds (S.told site.old) (S.told site.new) (Leads (As stamped (process s))
         (AtTold stamped (process s) (HoldsAt s may x (CutAt n)))
         (Found stamped s (λ _. HoldsAt s may x NoSink) result)) }
     ensures only { IfErr result IsOfTick }
@@ -302,7 +302,7 @@ fn rename_closed<S: Site>(
 // Removes a sink that has no mark, where it is there.
 fn remove_sink<S: Site>(alloc: Global, site: &mut S, who: &Who, sink: &str) -> Result<(), SinkFault>
     ensures told { (stamped : List (List ℕ)) (s : State) (may : Parts → Bool) (x : Parts) → IsSettling s who.now → IsOther s x
-        → sink.now ≡ spell (SinkFile x) → Adds (S.told site.old) (S.told site.new) (Leads (Foreign stamped (process s))
+        → sink.now ≡ spell (SinkFile x) → Adds (S.told site.old) (S.told site.new) (Leads (As stamped (process s))
         (AtTold stamped (process s) (HoldsAt s may x NoMark))
         (Found stamped s (λ _. HoldsAt s may x BothGone) result)) }
     ensures only { IfErr result IsOfTick }
@@ -317,7 +317,7 @@ fn remove_sink<S: Site>(alloc: Global, site: &mut S, who: &Who, sink: &str) -> R
 // Removes a mark whose sink isn't there.
 fn remove_mark<S: Site>(alloc: Global, site: &mut S, who: &Who, mark: &str) -> Result<(), SinkFault>
     ensures told { (stamped : List (List ℕ)) (s : State) (may : Parts → Bool) (x : Parts) → IsSettling s who.now → IsOther s x
-        → mark.now ≡ spell (MarkFile x) → Adds (S.told site.old) (S.told site.new) (Leads (Foreign stamped (process s))
+        → mark.now ≡ spell (MarkFile x) → Adds (S.told site.old) (S.told site.new) (Leads (As stamped (process s))
         (AtTold stamped (process s) (HoldsAt s may x NoSink))
         (Found stamped s (λ _. HoldsAt s may x BothGone) result)) }
     ensures only { IfErr result IsOfTick }

@@ -5,13 +5,13 @@ ghost use Rattle.chk_bytes.specs.Stems.{Stem as Parts, is_collector, is_stem};
 ghost use Rattle.chk_site.specs.declared.acts.Role.TheVariants.{Collector};
 ghost use Rattle.chk_site.specs.History.{Every};
 ghost use Rattle.chk_site.specs.Site.{Adds};
-ghost use Rattle.chk_site.specs.Runs.{Leads};
+ghost use Rattle.chk_site.specs.Runs.{HasStarted, Leads};
 ghost use Rattle.chk_chunk.specs.Keys.{Chunk, IsKey, is_chunk};
 ghost use Rattle.chk_chunk.specs.Lent.{lent_chunk};
 ghost use Rattle.chk_message.specs.Messages.{Ack};
 ghost use Rattle.chk_world.specs.Collectors.{Handling, IsPosted};
 ghost use Rattle.chk_world.specs.Rules.{Legal};
-ghost use Rattle.chk_world.specs.Places.{Foreign};
+ghost use Rattle.chk_world.specs.Places.{As};
 ghost use Rattle.chk_sink.specs.Faults.{IsOutside, SinkCause, FailsLast, sink_result};
 ghost use Rattle.chk_sink.specs.Damage.{DamageCause, SpentCause};
 ghost use Rattle.chk_sink.specs.States.{IsSameStart, process, last_stem, next_stem, counted, begun, kept_where_done, let_go, needs_next, last_number, without_full, with_current, committed_state, settled_state, ticked_state};
@@ -85,7 +85,8 @@ impl Sinks {
         requires role { who.now.role ≡ Collector }
         requires name { IsTrue (is_collector who.now.name) }
         ensures told { (stamped : List (List ℕ)) → Adds (S.told site.old) (S.told site.new)
-            (Leads (Foreign stamped who.now) (Legal stamped) (Started stamped who.now result)) }
+            (Leads (As stamped who.now) (Legal stamped) (Started stamped who.now result)) }
+        ensures starts { IfOk result (λ _. Adds (S.told site.old) (S.told site.new) (HasStarted who.now)) }
         ensures fresh { IfOk result (IsFresh who.now rotate) }
         ensures spent { IsLastStart result }
         ensures spent_exactly { Adds (S.told site.old) (S.told site.new) (SpentCause result) }
@@ -112,7 +113,7 @@ impl Sinks {
     ) -> Result<(Stem, u64), SinkFault>
         requires { IsTrue (is_chunk (lent_chunk chunk.now)) }
         ensures told { (stamped : List (List ℕ)) (handled : List Handling) → IsPosted handled (lent_chunk chunk.now)
-            → Adds (S.told site.old) (S.told site.new) (Leads (Foreign stamped (process self.old))
+            → Adds (S.told site.old) (S.told site.new) (Leads (As stamped (process self.old))
             (Ready stamped self.old handled) (Wrote stamped self.new handled (lent_chunk chunk.now) result)) }
         ensures same { IsSameStart self.old self.new }
         ensures placed { IfOk result (IsPlaced self.new) }
@@ -160,7 +161,7 @@ impl Sinks {
         requires small { length key.now + length value.now ≤ 16777216 }
         ensures told { (stamped : List (List ℕ)) (handled : List Handling) (c : Chunk) → IsPosted handled c
             → IsKey c.key key.now → value.now ≡ c.value → Adds (S.told site.old) (S.told site.new)
-            (Leads (Foreign stamped (process self.old)) (Ready stamped self.old handled)
+            (Leads (As stamped (process self.old)) (Ready stamped self.old handled)
             (Wrote stamped self.new handled c result)) }
         ensures same { IsSameStart self.old self.new }
         ensures placed { IfOk result (IsPlaced self.new) }
@@ -216,7 +217,7 @@ impl Sinks {
         requires small { length key.now + length value.now ≤ 16777216 }
         ensures told { (stamped : List (List ℕ)) (handled : List Handling) (c : Chunk) → IsPosted handled c
             → IsKey c.key key.now → value.now ≡ c.value → Adds (S.told site.old) (S.told site.new)
-            (Leads (Foreign stamped (process self.old)) (Ready stamped self.old handled)
+            (Leads (As stamped (process self.old)) (Ready stamped self.old handled)
             (Wrote stamped self.new handled c result)) }
         ensures same { IsSameStart self.old self.new }
         ensures placed { IfOk result (IsPlaced self.new) }
@@ -275,7 +276,7 @@ impl Sinks {
     /// since, nothing is called. After a refusal the sink is abandoned.
     pub fn commit<S: Site>(&mut self, alloc: Global, site: &mut S) -> Result<(), SinkFault>
         ensures told { (stamped : List (List ℕ)) → Adds (S.told site.old) (S.told site.new)
-            (Leads (Foreign stamped (process self.old)) (Matches stamped self.old)
+            (Leads (As stamped (process self.old)) (Matches stamped self.old)
             (Committed stamped self.new result)) }
         ensures ok { OnOk result (self.new ≡ committed_state self.old) }
         ensures err { OnErr result (self.new ≡ let_go self.old) }
@@ -299,7 +300,7 @@ impl Sinks {
     /// Commits and closes the sink that is written to, where there is one. After a refusal it is abandoned.
     pub fn close<S: Site>(&mut self, alloc: Global, site: &mut S) -> Result<(), SinkFault>
         ensures told { (stamped : List (List ℕ)) → Adds (S.told site.old) (S.told site.new)
-            (Leads (Foreign stamped (process self.old)) (Matches stamped self.old)
+            (Leads (As stamped (process self.old)) (Matches stamped self.old)
             (Closed stamped self.old self.new result)) }
         ensures ok { OnOk result (self.new ≡ with_current self.old None) }
         ensures err { OnErr result (self.new ≡ let_go self.old) }
@@ -337,7 +338,7 @@ impl Sinks {
     // it and closed, one without is removed, and a mark without its sink is removed.
     fn settle<S: Site>(&mut self, alloc: Global, site: &mut S) -> Result<(), SinkFault>
         ensures told { (stamped : List (List ℕ)) → Adds (S.told site.old) (S.told site.new)
-            (Leads (Foreign stamped (process self.old)) (Matches stamped self.old)
+            (Leads (As stamped (process self.old)) (Matches stamped self.old)
             (Settled stamped self.new result)) }
         ensures ok { OnOk result (self.new ≡ settled_state self.old) }
         ensures err { OnErr result (self.new ≡ self.old) }
@@ -374,7 +375,7 @@ impl Sinks {
     /// abandoned, or stays so.
     pub fn tick<S: Site>(&mut self, alloc: Global, site: &mut S, now: u64) -> Result<(), SinkFault>
         ensures told { (stamped : List (List ℕ)) → Adds (S.told site.old) (S.told site.new)
-            (Leads (Foreign stamped (process self.old)) (Matches stamped self.old)
+            (Leads (As stamped (process self.old)) (Matches stamped self.old)
             (Ticked stamped self.old self.new result)) }
         ensures same { IsSameStart self.old self.new }
         ensures ok { OnOk result (self.new ≡ ticked_state now self.old) }
@@ -402,7 +403,7 @@ impl Sinks {
         stem: Stem,
     ) -> Result<u64, SinkFault>
         ensures told { (stamped : List (List ℕ)) (handled : List Handling) (t : ℕ)
-            (stems : List Parts) (acks : List Ack) → Adds (S.told site.old) (S.told site.new) (Leads (Foreign stamped (process self.now))
+            (stems : List Parts) (acks : List Ack) → Adds (S.told site.old) (S.told site.new) (Leads (As stamped (process self.now))
             (Counted stamped self.now handled t stems acks)
             (CountedOn stamped self.now handled t stems acks stem result)) }
         ensures only { IfErr result IsOfQuestion }

@@ -6,11 +6,11 @@ ghost use Rattle.chk_bytes.specs.Stems.{is_collector, is_count};
 ghost use Rattle.chk_site.specs.declared.acts.Role.TheVariants.{Collector};
 ghost use Rattle.chk_site.specs.declared.acts.Call.TheVariants.{Start};
 ghost use Rattle.chk_site.specs.Site.{Adds, asked, LastFailed, OutsideCause};
-ghost use Rattle.chk_site.specs.Runs.{Leads, MadeInTurn};
+ghost use Rattle.chk_site.specs.Runs.{HasStarted, Leads, MadeInTurn};
 ghost use Rattle.chk_replace.specs.Replace.{replacement};
 ghost use Rattle.chk_world.specs.Names.{BornFile, spell};
 ghost use Rattle.chk_world.specs.Rules.{Legal};
-ghost use Rattle.chk_world.specs.Places.{Foreign};
+ghost use Rattle.chk_world.specs.Places.{As};
 ghost use Rattle.chk_sink.specs.Faults.{SinkCause, FailsLast};
 ghost use Rattle.chk_sink.specs.Damage.{DamageCause, SpentCause, IsInLimit};
 ghost use Rattle.chk_sink.specs.Calls.{MadeOnce};
@@ -47,7 +47,8 @@ pub(crate) fn publish_next<S: Site>(
     requires collector { IsTrue (is_collector who.now.name) }
     requires name { name ≡ spell (BornFile who.now.name) }
     ensures told { (stamped : List (List ℕ)) → Adds (S.told site.old) (S.told site.new)
-        (Leads (Foreign stamped who.now) (Legal stamped) (Published stamped who.now result)) }
+        (Leads (As stamped who.now) (Legal stamped) (Published stamped who.now result)) }
+    ensures starts { IfOk result (λ _. Adds (S.told site.old) (S.told site.new) (HasStarted who.now)) }
     ensures count { IfOk result (λ born. IsTrue (is_count born)) }
     ensures spent { IsLastStart result }
     ensures spent_exactly { Adds (S.told site.old) (S.told site.new) (SpentCause result) }
@@ -79,7 +80,8 @@ fn last_start<S: Site>(
     requires collector { IsTrue (is_collector who.now.name) }
     requires name { name.now ≡ spell (BornFile who.now.name) }
     ensures told { (stamped : List (List ℕ)) → Adds (S.told site.old) (S.told site.new)
-        (Leads (Foreign stamped who.now) (Legal stamped) (Looked stamped who.now result)) }
+        (Leads (As stamped who.now) (Legal stamped) (Looked stamped who.now result)) }
+    ensures starts { IfOk result (λ _. Adds (S.told site.old) (S.told site.new) (HasStarted who.now)) }
     ensures number { IfOk result IsInLimit }
     ensures shown { Adds (S.told site.old) (S.told site.new) (ShowsStart name.now result) }
     ensures last { Adds (S.told site.old) (S.told site.new) (LastFailed result) }

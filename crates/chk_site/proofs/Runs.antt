@@ -1,11 +1,15 @@
 -- How the accounts of several calls join to one.
-use Rattle.std.proofs.Common.{◌≡◌, ◌≢◌, Bool, true, false, [], ◌∷◌, ◌++◌, Some, Ok, Err, Option, Result, refl, sym, ◌∙◌, ap, subst, append_assoc}
+use Rattle.std.proofs.Common.{◌≡◌, ◌≢◌, inr, Bool, true, false, [], ◌∷◌, ◌++◌, Some, Ok, Err, Option, Result, refl, sym, ◌∙◌, ap, subst, append_assoc}
+use Rattle.std.proofs.lemmas.List.{append_cancel_right}
+use Rattle.std.proofs.lemmas.Option.{same_Some}
 use Rattle.chk_site.specs.declared.acts.CallFault.{CallFault}
 use Rattle.chk_site.specs.declared.acts.CallFault.TheVariants.{Failed, Missing, Exists, Short, NoMemory}
 use Rattle.chk_site.specs.declared.acts.ActAnswer.{ActAnswer}
 use Rattle.chk_site.specs.declared.acts.ActAnswer.TheVariants.{Refused}
+use Rattle.chk_site.specs.declared.acts.Who.{Who}
 use Rattle.chk_site.specs.History.{Step, History, Every, is_stopped}
 use Rattle.chk_site.specs.Site.{Adds, Asked, answered, plain, Acted, Added, Calls, IsDone, WasDone, IsTaken, Took}
+use Rattle.chk_site.specs.Runs.{HasStarted}
 
 -- one call after another
 pub adds_then : {old mid new : Option History} {P Q : History → History → Type 0}
@@ -26,6 +30,19 @@ adds_then R p q join =
       untold = λ e. q.untold (p.untold e);
     }
 
+-- two accounts of the same steps
+pub adds_both : {old new : Option History} {P Q : History → History → Type 0} (R : History → History → Type 0)
+    → Adds old new P → Adds old new Q → ((added history : History) → P added history → Q added history → R added history) → Adds old new R
+adds_both {Q = Q} R p q join = record {
+  told =
+      λ history e.
+      let x = p.told history e in
+      let y = q.told history e in
+      let same : y.0 ≡ x.0 = append_cancel_right y.0 x.0 history (same_Some (y.0 ++ history) (x.0 ++ history) (sym y.1 ∙ x.1)) in
+      (x.0, x.1, join x.0 history x.2 (subst (λ (a : History). Q a history) same y.2));
+  untold = p.untold;
+}
+
 -- a weaker account
 pub adds_as : {old new : Option History} {P : History → History → Type 0}
     (R : History → History → Type 0)
@@ -35,6 +52,15 @@ adds_as R p weaker =
       told = λ history e. let x = p.told history e in (x.0, x.1, weaker x.0 history x.2);
       untold = p.untold;
     }
+
+-- a start that was made among the first steps was made among all
+later_start : (who : Who) (b a history : History) → HasStarted who a history → HasStarted who (b ++ a) history
+later_start who [] a history h = h
+later_start who (step ∷ b) a history h = inr (later_start who b a history h)
+
+pub start_then : (who : Who) {P : History → History → Type 0} {old mid new : Option History} → Adds old mid (HasStarted who) → Adds mid new P
+    → Adds old new (HasStarted who)
+start_then who p q = adds_then (HasStarted who) p q (λ a b history x y. later_start who b a history x)
 
 -- no call
 pub adds_none : (now : Option History) (R : History → History → Type 0)

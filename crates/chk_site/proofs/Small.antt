@@ -12,10 +12,10 @@ use Rattle.chk_site.specs.Acts.{Deed, GrowsLog, Creates, Appends, Syncs, Renames
 use Rattle.chk_site.specs.Effect.{UnsyncedTails, TailFits, with_tail, in_work, IsSmallFile, StaysSmall}
 use Rattle.chk_site.specs.History.{Step, History, Modelled, AllModelled, files_after, logs_after}
 
--- each file and each log is shorter than 2^63 bytes
+-- each file is shorter than 2^63 bytes, and each log shorter than 2^62
 pub record AllSmall (history : History) : Type 0 where
   pub files : (name : List ℕ) → IsSmallFile (files_after history name)
-  pub logs : (path : List ℕ) → log_size (logs_after history path) < 2 ^ 63
+  pub logs : (path : List ℕ) → log_size (logs_after history path) < 2 ^ 62
 
 -- P holds of what the call may do to the files and logs, in whole or in part
 record Within (call : Deed) (P : Change → Type 0) : Type 0 where
@@ -212,9 +212,9 @@ other_log call logs path out = record {
     parts call out did torn = rw torn refl
 
 appended_log_small : (call : Deed) (files : Files) (logs : Logs) (path : List ℕ) → appends_to_log call path ≡ true → StaysSmall call files logs
-    → log_size (logs path) < 2 ^ 63
+    → log_size (logs path) < 2 ^ 62
 appended_log_small (GrowsLog p piece) files logs path same small =
-    subst (λ (q : List ℕ). log_size (logs q) < 2 ^ 63) (sym ((bytes_eq-Decides path p).0 same)) small
+    subst (λ (q : List ℕ). log_size (logs q) < 2 ^ 62) (sym ((bytes_eq-Decides path p).0 same)) small
 appended_log_small call files logs path same small = absurd (false≢true same)
 
 -- one more step
@@ -232,20 +232,21 @@ files_small history step before modelled name = by (appends_to call name) refl
         tails_small call step.act.answer (changed effect.did (files_after history)) step.files name effect.files_left (idle call name e)
         (changed_small effect.did (files_after history) name before.files kept)
 
-logs_small : (history : History) (step : Step) → AllSmall history → Modelled history step → (path : List ℕ) → log_size (step.logs path) < 2 ^ 63
+logs_small : (history : History) (step : Step) → AllSmall history → Modelled history step → (path : List ℕ) → log_size (step.logs path) < 2 ^ 62
 logs_small history step before modelled path = by (appends_to_log call path) refl
   where
     call : Deed
     call = deed step.act
 
-    by : (b : Bool) → appends_to_log call path ≡ b → log_size (step.logs path) < 2 ^ 63
+    by : (b : Bool) → appends_to_log call path ≡ b → log_size (step.logs path) < 2 ^ 62
     by true e = appended_log_small call step.files step.logs path e modelled.small
     by false e =
         let effect = modelled.effect in
         let same = within_did (LeavesLog (logs_after history) path) call step.act.answer effect.did (other_log call (logs_after history) path e) effect.may in
-        subst (λ (log : Log). log_size log < 2 ^ 63) (sym (effect.logs_left path ∙ same)) (before.logs path)
+        subst (λ (log : Log). log_size log < 2 ^ 62) (sym (effect.logs_left path ∙ same)) (before.logs path)
 
--- where each step is one that the file model allows, each file and each log is shorter than 2^63 bytes
+-- where each step is one that the file model allows, each file is shorter than 2^63 bytes and each log
+-- shorter than 2^62
 pub all_small : (history : History) → AllModelled history → AllSmall history
 all_small [] modelled = record { files = λ name. tt; logs = λ path. omega arith }
 all_small (step ∷ history) modelled =

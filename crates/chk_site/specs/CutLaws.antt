@@ -1,7 +1,10 @@
 -- What holds of the places at which a reader may stop.
-use Rattle.std.specs.Prelude.{◌≡◌, ◌≢◌, ◌⊎◌, ◌↔◌, ℕ, ◌+◌, ◌*◌, ◌<◌, ◌≤◌, Bool, false, List, ◌++◌, length, slice_index, IsTrue}
+use Rattle.std.specs.Prelude.{◌≡◌, ◌≢◌, ◌⊎◌, ◌↔◌, ℕ, ◌+◌, ◌*◌, ◌<◌, ◌≤◌, Bool, true, false, List, ◌∷◌, ◌++◌, length, slice_index, IsTrue, is_some, option_to_list}
 use Rattle.std.specs.List.{concat}
-use Rattle.chk_site.specs.Logs.{is_line_cut, is_cut_place, last_cut}
+use Rattle.chk_site.specs.declared.acts.ActAnswer.TheVariants.{Done}
+use Rattle.chk_site.specs.declared.suffixes.Piece.{Piece}
+use Rattle.chk_site.specs.Honest.{AtLogRead}
+use Rattle.chk_site.specs.Logs.{Shown, is_line_cut, is_cut_place, last_cut}
 
 -- the next k bytes from p on are there, and none of them is a newline
 pub record NoNewline (bytes : List ℕ) (p k : ℕ) : Type 0 where
@@ -38,3 +41,15 @@ pub record IsLastCut (lines : Bool) (gs : List (List ℕ)) (base : List ℕ) (n 
 -- there is a last cut place up to each n
 abbrev pub LastCut : Type 0
 LastCut = (lines : Bool) (gs : List (List ℕ)) (base : List ℕ) (n : ℕ) → IsLastCut lines gs base n (last_cut lines gs base n)
+
+-- a reader of lines may stop there in a generation, and any other reader anywhere
+abbrev pub MayStop : Bool → Shown → ℕ → Type 0
+MayStop false g at = Unit {0}
+MayStop true g at = IsTrue (is_line_cut (is_some g.suffix) 0 g.bytes at)
+
+-- what a reader of these bytes of a generation, from a place at which it may stop, takes of them ends at such a place
+abbrev pub TakesToStop : Bool → ℕ → Piece → ℕ → Type 0
+TakesToStop lines max piece n =
+    (g : Shown) (at : ℕ) → MayStop lines g at → AtLogRead
+    (Done (piece.bytes ∷ option_to_list piece.ended) 0 0) at max g
+    → MayStop lines g (at + n)

@@ -41,8 +41,9 @@ abbrev pub IsSmallFile : Option File → Type 0
 IsSmallFile None = Unit {0}
 IsSmallFile (Some file) = length file.bytes < 2 ^ 63
 
--- the one file or log that an append grows stays shorter than 2^63 bytes; no other call grows one
+-- the one file that an append grows stays shorter than 2^63 bytes, and the one log shorter than 2^62, so that
+-- with a start below 2^62 its offsets stay below 2^63; no other call grows one
 abbrev pub StaysSmall : Deed → Files → Logs → Type 0
 StaysSmall (Appends name piece) files logs = IsSmallFile (files name)
-StaysSmall (GrowsLog path piece) files logs = log_size (logs path) < 2 ^ 63
+StaysSmall (GrowsLog path piece) files logs = log_size (logs path) < 2 ^ 62
 StaysSmall call files logs = Unit {0}

@@ -1,15 +1,37 @@
 -- What some steps lead to, where the steps of others meet a supposition.
-use Rattle.std.specs.Prelude.{◌≡◌, List, [], ◌∷◌, ◌++◌, Option, Result, Ok, Err, if◌then◌else◌}
+use Rattle.std.specs.Prelude.{◌≡◌, ◌⊎◌, true, List, [], ◌∷◌, ◌++◌, Option, Result, Ok, Err, if◌then◌else◌}
 use Rattle.chk_site.specs.declared.acts.Act.{Act}
+use Rattle.chk_site.specs.declared.acts.Who.{Who}
 use Rattle.chk_site.specs.declared.acts.OutsideFault.{OutsideFault}
 use Rattle.chk_site.specs.declared.acts.OutsideFault.TheVariants.{NoMemory as no_memory}
 use Rattle.chk_site.specs.declared.acts.CallFault.{CallFault}
+use Rattle.chk_site.specs.Acts.{Starts, deed}
 use Rattle.chk_site.specs.Site.{Adds, Asked, answered, plain, Calls, IsDone, Ends}
-use Rattle.chk_site.specs.History.{Step, History, Others}
+use Rattle.chk_site.specs.History.{Step, History, Every, Others}
 
--- Where each added step of others is as supposed, and one thing holds before, the other holds at the end.
-pub record Leads (Supposed : History → Step → Type 0) (Before After : History → Type 0) (added history : History) : Type 0 where
-  pub leads : Others Supposed added history → Before history → After (added ++ history)
+-- what is supposed of each step of others, and what is promised of each step that the site itself makes
+pub record Side : Type 1 where
+  pub others : History → Step → Type 0
+  pub own : History → Step → Type 0
+
+-- nothing is promised of the site's own steps
+abbrev pub anyhow : (History → Step → Type 0) → Side
+anyhow Supposed = record { others = Supposed; own = λ before step. Unit {0} }
+
+-- each added step of the site's own has P at its place
+abbrev pub Owns : (History → Step → Type 0) → History → History → Type 0
+Owns P = Every (λ before step. step.own ≡ true → P before step)
+
+-- Where each added step of others is as supposed, and one thing holds before, the other holds at the end. The site's own
+-- steps are as promised.
+pub record Leads (S : Side) (Before After : History → Type 0) (added history : History) : Type 0 where
+  pub leads : Others S.others added history → Before history → After (added ++ history)
+  pub own : Owns S.own added history
+
+-- one of the added steps is the start of the process
+abbrev pub HasStarted : Who → History → History → Type 0
+HasStarted who [] history = ⊥
+HasStarted who (step ∷ added) history = ((step.act.who ≡ who) × (deed step.act ≡ Starts)) ⊎ HasStarted who added history
 
 -- The history goes on from an earlier one by some steps, of which P holds.
 pub record Since (earlier : History) (P : History → Type 0) (history : History) : Type 0 where

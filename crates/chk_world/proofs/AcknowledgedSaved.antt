@@ -11,12 +11,12 @@ use Rattle.chk_message.specs.Messages.{Ack, WrittenPost, WrittenPoll}
 use Rattle.chk_world.specs.Agents.{Acknowledged, Sent}
 use Rattle.chk_world.specs.Committed.{committed_length}
 use Rattle.chk_world.specs.Rules.{Legal}
-use Rattle.chk_world.specs.Laws.{AcknowledgedIsSaved, RunsCoverCheckpoints, agent_of}
+use Rattle.chk_world.specs.Laws.{AcknowledgedIsSaved, CheckpointsAreSaved, RunsCoverCheckpoints, agent_of}
 use Rattle.chk_world.proofs.SentMessages.{IsSentAs, sent_as}
 use Rattle.chk_world.proofs.RepliesTell.{AnswerTells, LineStands, AllCommitted, WasCommitted}
 use Rattle.chk_world.proofs.GotReplies.{got_tells}
 use Rattle.chk_world.proofs.CommittedSaved.{reached_is_saved}
-use Rattle.chk_world.proofs.RunsCover.{runs_cover}
+use Rattle.chk_world.proofs.RunsCover.{passed_saved, runs_cover}
 
 ever_less : (history : History) (x y : Stem) (m n : ℕ) → y ≡ x → m ≤ n → Ever (λ front. n ≤ committed_length (files_after front) y) history
     → Ever (λ front. m ≤ committed_length (files_after front) x) history
@@ -71,3 +71,6 @@ acknowledged_is_saved stamped history legal s known c a o covers =
 
 pub runs_cover_checkpoints : RunsCoverCheckpoints
 runs_cover_checkpoints = runs_cover acknowledged_is_saved
+
+pub checkpoints_are_saved : CheckpointsAreSaved
+checkpoints_are_saved = passed_saved acknowledged_is_saved

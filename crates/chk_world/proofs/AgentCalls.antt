@@ -1,6 +1,6 @@
 -- The replacement of an agent's checkpoint.
 use Rattle.std.proofs.Common.{◌≡◌, ℕ, Bool, true, false, ◌&&◌, List, [], ◌∷◌, length, Option, Some, None, ap, sym, subst, ◌∙◌, refl, true≢false, if◌then◌else◌, is_some, is_none, option_map, nat_le}
-use Rattle.std.specs.Prelude.{Result, IsTrue, Contains, Any, find, unwrap_or}
+use Rattle.std.specs.Prelude.{Result, Ok, Err, IsTrue, Contains, Any, find, unwrap_or}
 use Rattle.std.proofs.lemmas.Bool.{and_parts}
 use Rattle.chk_bytes.proofs.SpellingLemmas.{spelling-Some}
 use Rattle.chk_bytes.specs.Words.{parts_at}
@@ -23,15 +23,17 @@ use Rattle.chk_world.specs.Checkpoints.{Line, read_checkpoint, checkpoint_text, 
 use Rattle.chk_world.specs.Committed.{OnFile, IsWhole}
 use Rattle.chk_world.specs.Agents.{LineMay, LineIsTrue, CheckpointMovesForward, MayPublish, AgentRule, stream_of}
 use Rattle.chk_world.specs.Rules.{RoleMay, Legal}
-use Rattle.chk_world.specs.Places.{Foreign, AtTold, AtPlace, IsOwn}
+use Rattle.chk_world.specs.Places.{As, AtTold, IsOwn}
 use Rattle.chk_world.proofs.NameLemmas.{read-spell}
 use Rattle.chk_world.proofs.NameTests.{name_self, moved_named, bridge}
 use Rattle.chk_world.proofs.Kept.{no_tail_fits}
 use Rattle.chk_world.proofs.Outcomes.{CameTo, whole, nothing, junk, Leaves, went_on, was_stopped, leaves}
-use Rattle.chk_world.proofs.Frames.{steps_stay}
+use Rattle.chk_world.proofs.Frames.{files_stay}
+use Rattle.chk_world.proofs.PlacesStay.{Stays}
+use Rattle.chk_site.proofs.Leads.{leads_as}
 use Rattle.chk_world.proofs.NewLines.{renamed_logs, stays_true_line, begins_true_line, line_found}
 use Rattle.chk_world.proofs.ToldCalls.{who_self}
-use Rattle.chk_world.proofs.Replacing.{Target, around, OnNext, on_remove, on_create, on_append, on_sync, settled, Next, anything, Replaces, EndedAt, next_word, replaced}
+use Rattle.chk_world.proofs.Replacing.{Aim, OnNext, on_remove, on_create, on_append, on_sync, settled, Replaces, EndedAt, next_word, replaced_on}
 
 -- ---- where the rename of a next content took effect, whatever it answered
 
@@ -89,9 +91,11 @@ is_write (Renames old new) = true
 is_write (Removes w) = true
 is_write call = false
 
--- a fact of an agent's steps since its start that its own writes of files leave
-abbrev pub KeptByWrites : (List Step → Type 0) → Type 0
-KeptByWrites B = (steps : List Step) (step : Step) → is_write (deed step.act) ≡ true → B steps → B (step ∷ steps)
+-- what is known of a history stays over the agent's own writes of files
+abbrev pub KeptByWrites : List (List ℕ) → Who → (History → Type 0) → Type 0
+KeptByWrites stamped me A =
+    (before : History) (step : Step) → step.act.who ≡ me → is_write (deed step.act) ≡ true → Legal stamped (step ∷ before) → A before
+    → A (step ∷ before)
 
 write_no_start : (call : Deed) → is_write call ≡ true → is_start call ≡ false
 write_no_start (Creates w) e = refl
@@ -122,9 +126,9 @@ agent_rule stamped who before step call role by is may =
 
 -- ---- the checkpoint
 
--- the checkpoint has these lines, and B holds of the agent's steps
-pub record Checked (B : List Step → Type 0) (lines : List Line) (steps : List Step) (m : Option File) : Type 0 where
-  pub steps_are : B steps
+-- the checkpoint has these lines, and A holds
+pub record Checked (A : History → Type 0) (lines : List Line) (history : History) (m : Option File) : Type 0 where
+  pub known : A history
   pub lines_are : lines_in m ≡ lines
 
 -- What is owed of new lines in place of the old ones, at the history before their publication: no stream is lost, each line begins or moves
@@ -136,10 +140,10 @@ pub record MayFollow (who : Who) (history : History) (old new : List Line) : Typ
   pub is_true : (l was : Line) → Contains new l → find (is_line_of (stream_of who.name l)) old ≡ Some was
       → LineIsTrue history (stream_of who.name l) l
 
--- wherever the old lines are there and B holds, the new lines may follow
-abbrev pub MayFollowFrom : List (List ℕ) → Who → (List Step → Type 0) → List Line → List Line → Type 0
-MayFollowFrom stamped who B old new =
-    (history : History) → Legal stamped history → checkpoint_lines (files_after history) who.name ≡ old → B (since_start who history)
+-- wherever the old lines are there and A holds, the new lines may follow
+abbrev pub MayFollowFrom : List (List ℕ) → Who → (History → Type 0) → List Line → List Line → Type 0
+MayFollowFrom stamped who A old new =
+    (history : History) → Legal stamped history → checkpoint_lines (files_after history) who.name ≡ old → A history
     → MayFollow who history old new
 
 read_apart : (bytes : List ℕ) (lines : List Line) → read_checkpoint bytes ≡ Some lines → are_apart lines ≡ true
@@ -152,8 +156,9 @@ read_apart bytes lines e =
     (and_parts (list_all (fits_version v) lines) (are_apart lines) q.1).1
 
 module _ (stamped : List (List ℕ)) (source : List ℕ) (known : IsTrue (is_source source)) (old new : List Line) (w name bytes : List ℕ)
-    (is_read : read_checkpoint bytes ≡ Some new) (B : List Step → Type 0) (kept : KeptByWrites B)
-    (may : MayFollowFrom stamped (record { role = Agent; name = source }) B old new)
+    (is_read : read_checkpoint bytes ≡ Some new) (A : History → Type 0)
+    (kept : KeptByWrites stamped (record { role = Agent; name = source }) A)
+    (may : MayFollowFrom stamped (record { role = Agent; name = source }) A old new)
     (reads : read w ≡ Temporary (CheckFile source)) (reads_name : read name ≡ CheckFile source) where
   abbrev Me : Who
   Me = record { role = Agent; name = source }
@@ -163,10 +168,6 @@ module _ (stamped : List (List ℕ)) (source : List ℕ) (known : IsTrue (is_sou
 
   abbrev S : Line → Stream
   S l = stream_of source l
-
-  written : (before : History) (step : Step) → step.act.who ≡ Me → is_write (deed step.act) ≡ true → B (since_start Me before)
-      → B (since_start Me (step ∷ before))
-  written before step by writes h = subst B (sym (own_write Me before step by writes)) (kept (since_start Me before) step writes h)
 
   renames : (step : Step) → deed step.act ≡ Renames w name → is_write (deed step.act) ≡ true
   renames step is = ap is_write is
@@ -213,7 +214,7 @@ module _ (stamped : List (List ℕ)) (source : List ℕ) (known : IsTrue (is_sou
   }
 
   check_may : (before : History) (step : Step) → step.act.who ≡ Me → deed step.act ≡ Renames w name → Honest before step → Legal stamped before
-      → Checked B old (since_start Me before) (file (files_after before) N) → file (files_after before) (Temporary N) ≡ settled bytes
+      → Checked A old before (file (files_after before) N) → file (files_after before) (Temporary N) ≡ settled bytes
       → RoleMay stamped step.act.who.role before step
   check_may before step by is honest legal h next =
       agent_rule stamped Me before step (Renames w name) refl by is
@@ -222,52 +223,93 @@ module _ (stamped : List (List ℕ)) (source : List ℕ) (known : IsTrue (is_sou
         refl,
         subst (λ o. OnFile o (λ f. (lines : List Line) × (read_checkpoint f.bytes ≡ Some lines) × CheckpointMovesForward Me before step lines))
             (sym next)
-            (new, is_read, moves_forward before step is honest legal h.lines_are (may before legal h.lines_are h.steps_are) next),
+            (new, is_read, moves_forward before step is honest legal h.lines_are (may before legal h.lines_are h.known) next),
       )))
 
   -- what is to be known of the replacement of the checkpoint
-  check_replaces : Replaces stamped Me (since_start Me) N N w name bytes (λ v s m. Checked B old v m) B (λ v s t m. Checked B new v m)
+  check_replaces : Replaces stamped Me (λ history. history) N N w name bytes (λ h s m. Checked A old h m) A (λ h s t m. Checked A new h m)
   check_replaces = record {
     keeps = λ before step s m by on went legal h.
-        record { steps_are = written before step by (next_writes w (deed step.act) on) h.steps_are; lines_are = h.lines_are };
-    less = λ v s m h. h.steps_are;
-    fails = λ before step s m by on failed legal h. written before step by (next_writes w (deed step.act) on) h.steps_are;
-    rename_fails = λ before step s m by is failed legal h. written before step by (renames step is) h.steps_are;
-    at_last = λ v s t m g. g.steps_are;
+        record { known = kept before step by (next_writes w (deed step.act) on) legal h.known; lines_are = h.lines_are };
+    less = λ v s m h. h.known;
+    fails = λ before step s m by on failed legal h. kept before step by (next_writes w (deed step.act) on) legal h.known;
+    rename_fails = λ before step s m by is failed legal h. kept before step by (renames step is) legal h.known;
+    at_last = λ v s t m g. g.known;
     may = check_may;
     renamed = λ before step by is done legal h was same gone there.
-        record { steps_are = written before step by (renames step is) h.steps_are; lines_are = settled_lines (file step.files N) there };
+        record { known = kept before step by (renames step is) legal h.known; lines_are = settled_lines (file step.files N) there };
   }
 
--- the place of an agent and its checkpoint
-pub agent_target : (stamped : List (List ℕ)) (source : List ℕ) → IsTrue (is_source source)
-    → Target stamped (record { role = Agent; name = source }) (since_start (record { role = Agent; name = source })) (CheckFile source) (CheckFile source)
-agent_target stamped source known =
+-- the checkpoint and its next content
+pub agent_aim : (source : List ℕ) → IsTrue (is_source source)
+    → Aim (record { role = Agent; name = source }) (λ (history : History). history) (CheckFile source) (CheckFile source)
+agent_aim source known =
     let own : IsOwn (record { role = Agent; name = source }) (CheckFile source) = record { own = refl; known = known } in
     record {
       place = record { named = known; first = own; second = record { own = refl; known = known }; third = own };
-      sight = λ history step f. steps_stay stamped (record { role = Agent; name = source }) history step f;
       small = refl;
       apart_next = refl;
     }
 
--- The checkpoint with the old lines is replaced by the one with the new lines. B is what is known of the agent's steps since its start: it
--- shows that the new lines may follow the old ones.
+-- A holds of the history, and the checkpoint has these lines
+pub record HasLines (A : History → Type 0) (source : List ℕ) (lines : List Line) (history : History) : Type 0 where
+  pub known : A history
+  pub lines_are : checkpoint_lines (files_after history) source ≡ lines
+
+-- after a writing of new lines: they are there, or after a refusal the old ones or the new ones
+abbrev pub WroteLines : {T : Type 0} → (History → Type 0) → List ℕ → List Line → Result T OutsideFault → History → Type 0
+WroteLines A source new (Ok value) history = HasLines A source new history
+WroteLines A source new (Err fault) history = A history
+
+-- steps of others leave what is known and the checkpoint
+pub lines_stay : (stamped : List (List ℕ)) (source : List ℕ) → IsTrue (is_source source) → (A : History → Type 0)
+    → Stays stamped (record { role = Agent; name = source }) A → (lines : List Line)
+    → Stays stamped (record { role = Agent; name = source }) (HasLines A source lines)
+lines_stay stamped source known A stays lines history step legal f h =
+    let aim = agent_aim source known in
+    record {
+      known = stays history step legal f h.known;
+      lines_are = ap lines_in (files_stay stamped (record { role = Agent; name = source }) history step (CheckFile source) f aim.place.third) ∙ h.lines_are;
+    }
+
+-- The checkpoint with the old lines is replaced by the one with the new lines. A is what is known of the history: it shows that the new lines
+-- may follow the old ones.
 pub checkpoint_replaced : (stamped : List (List ℕ)) (source : List ℕ) → IsTrue (is_source source) → (old new : List Line) (bytes : List ℕ)
-    → read_checkpoint bytes ≡ Some new → (B : List Step → Type 0) → KeptByWrites B
-    → MayFollowFrom stamped (record { role = Agent; name = source }) B old new
+    → read_checkpoint bytes ≡ Some new → (A : History → Type 0) → Stays stamped (record { role = Agent; name = source }) A
+    → KeptByWrites stamped (record { role = Agent; name = source }) A
+    → MayFollowFrom stamped (record { role = Agent; name = source }) A old new
     → (name : List ℕ) → name ≡ spell (CheckFile source) → {result : Result (Unit {0}) OutsideFault} {before after : Option History}
     → MadeInTurn (replacement (record { role = Agent; name = source }) name bytes) result before after
-    → Adds before after (Leads (Foreign stamped (record { role = Agent; name = source }))
-    (AtPlace stamped (around (record { role = Agent; name = source }) (since_start (record { role = Agent; name = source })) (CheckFile source) (CheckFile source))
-    (Next (λ v s m. Checked B old v m) anything))
-    (AtTold stamped (record { role = Agent; name = source })
-    (EndedAt (record { role = Agent; name = source }) (since_start (record { role = Agent; name = source })) (CheckFile source) (CheckFile source)
-    B (λ v s t m. Checked B new v m) result)))
-checkpoint_replaced stamped source known old new bytes is_read B kept may name e script =
+    → Adds before after (Leads (As stamped (record { role = Agent; name = source }))
+    (AtTold stamped (record { role = Agent; name = source }) (HasLines A source old))
+    (AtTold stamped (record { role = Agent; name = source }) (WroteLines A source new result)))
+checkpoint_replaced stamped source known old new bytes is_read A stays kept may name e {result = result} script =
     let me : Who = record { role = Agent; name = source } in
     let n = CheckFile source in
     let next = next_word name n e in
-    replaced stamped me (since_start me) n n (agent_target stamped source known) name bytes e (λ v s m. Checked B old v m) B (λ v s t m. Checked B new v m)
-    (check_replaces stamped source known old new (tmp name) name bytes is_read B kept may
-    (ap read next ∙ read-spell (Temporary n) known) (ap read e ∙ read-spell n known)) script
+    let aim = agent_aim source known in
+    let F : History → Option File → Option File → Type 0 = λ h s m. Checked A old h m in
+    let G : History → Option File → Option File → Option File → Type 0 = λ h s t m. Checked A new h m in
+    leads_as (λ h x. record {
+      legal = x.legal;
+      may_act = x.may_act;
+      alive = λ r. let y = x.alive r in
+          record { base = record { known = y.known; lines_are = y.lines_are }; next = tt };
+    })
+    (λ h x. record { legal = x.legal; may_act = x.may_act; alive = λ r. ended result h (x.alive r) })
+    (replaced_on stamped me (λ history. history) n n aim name bytes e F A G
+    (check_replaces stamped source known old new (tmp name) name bytes is_read A kept may
+    (ap read next ∙ read-spell (Temporary n) known) (ap read e ∙ read-spell n known))
+    (λ U history step legal f h. record {
+      base = record {
+        known = stays history step legal f h.base.known;
+        lines_are = ap lines_in (files_stay stamped me history step n f aim.place.third) ∙ h.base.lines_are;
+      };
+      next = subst U (sym (files_stay stamped me history step (Temporary n) f aim.place.second)) h.next;
+    }) script)
+  where
+    ended : (r : Result (Unit {0}) OutsideFault) (h : History)
+        → EndedAt (record { role = Agent; name = source }) (λ (history : History). history) (CheckFile source) (CheckFile source) A
+        (λ h s t m. Checked A new h m) r h → WroteLines A source new r h
+    ended (Ok value) h x = record { known = x.known; lines_are = x.lines_are }
+    ended (Err fault) h x = x

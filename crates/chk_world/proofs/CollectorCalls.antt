@@ -21,7 +21,7 @@ use Rattle.chk_world.specs.Names.{Name, BornFile, SinkFile, MarkFile, Temporary,
 use Rattle.chk_world.specs.Committed.{OnFile, HasFile, IsNumber, number_in}
 use Rattle.chk_world.specs.Collectors.{View, Current, view, view_after, own_view, born_after, still, is_born_file, CollectorRule, IsCurrent, IsCommitted}
 use Rattle.chk_world.specs.Rules.{RoleMay, Legal, is_small}
-use Rattle.chk_world.specs.Places.{Foreign, AtTold, AtPlace, IsPlace}
+use Rattle.chk_world.specs.Places.{As, AtTold, AtPlace, IsPlace}
 use Rattle.chk_world.proofs.NameLemmas.{read-spell}
 use Rattle.chk_world.proofs.NameTests.{same_name}
 use Rattle.chk_world.proofs.Frames.{view_stays}
@@ -117,7 +117,7 @@ pub collector_target : (stamped : List (List ℕ)) (who : Who) (a n : Name) → 
     → is_small n ≡ true → same_name a (Temporary n) ≡ false → Target stamped who (view who) a n
 collector_target stamped who a n place small apart_next = record {
   place = place;
-  sight = λ history step f. view_stays stamped who history step f;
+  sight = λ history step legal f. view_stays stamped who history step f;
   small = small;
   apart_next = apart_next;
 }
@@ -230,7 +230,7 @@ pub born_replaced : (stamped : List (List ℕ)) (c : List ℕ) (a : Name) → Ta
     (view (record { role = Collector; name = c })) a (BornFile c) → (k : ℕ) → k + 1 < limit → (name : List ℕ) → name ≡ spell (BornFile c)
     → {result : Result (Unit {0}) OutsideFault} {old new : Option History}
     → MadeInTurn (replacement (record { role = Collector; name = c }) name (be64 (k + 1))) result old new
-    → Adds old new (Leads (Foreign stamped (record { role = Collector; name = c }))
+    → Adds old new (Leads (As stamped (record { role = Collector; name = c }))
     (AtPlace stamped (around (record { role = Collector; name = c }) (view (record { role = Collector; name = c })) a (BornFile c)) (Next (Unborn k) anything))
     (AtTold stamped (record { role = Collector; name = c })
     (EndedAt (record { role = Collector; name = c }) (view (record { role = Collector; name = c })) a (BornFile c) NoneMade (Born (k + 1)) result)))
@@ -364,7 +364,7 @@ pub mark_replaced : (stamped : List (List ℕ)) (x : Stem) → Target stamped (r
     → (born : Option ℕ) (made : ℕ) (cur : Current) → cur.stem ≡ x → (size : ℕ) → 96 ≤ size → size < limit
     → (name : List ℕ) → name ≡ spell (MarkFile x) → {result : Result (Unit {0}) OutsideFault} {old new : Option History}
     → MadeInTurn (replacement (record { role = Collector; name = x.collector }) name (be64 size)) result old new
-    → Adds old new (Leads (Foreign stamped (record { role = Collector; name = x.collector }))
+    → Adds old new (Leads (As stamped (record { role = Collector; name = x.collector }))
     (AtPlace stamped (around (record { role = Collector; name = x.collector }) (view (record { role = Collector; name = x.collector })) (SinkFile x) (MarkFile x))
     (Next (Marking born made cur size) anything))
     (AtTold stamped (record { role = Collector; name = x.collector })

@@ -28,7 +28,7 @@ use Rattle.chk_world.specs.Checkpoints.{line_of}
 use Rattle.chk_world.specs.Books.{chunks_within}
 use Rattle.chk_world.specs.Streams.{founding, founded_by, start_of}
 use Rattle.chk_world.specs.Committed.{sink_chunks, aside_chunks, chunks_below, committed_of, committed_length, KeptAt, archived_end}
-use Rattle.chk_world.specs.ArchiveRuns.{Listing, listing_by, last_listing, is_unclosed, is_closed, unclosed_in, listed_chunks, found, end_before}
+use Rattle.chk_world.specs.ArchiveRuns.{Listing, listing_by, last_listing, is_unclosed, is_closed, unclosed_in, listed_chunks, found, end_before, end_since}
 use Rattle.chk_world.specs.Rules.{Legal}
 use Rattle.chk_world.specs.Laws.{IsComplete, SavedAt}
 use Rattle.chk_world.proofs.Ends.{bytes_same, before_end-append}
@@ -224,7 +224,7 @@ runs_take stamped history legal l complete s e saved = go (cases_lt e (end_befor
     b : Listed stamped history l
     b = listed stamped history legal l complete.last
 
-    reach : IsReach (λ o. Any (Covers s o) (found l)) (end_before history l s) (archived_end history s)
+    reach : IsReach (λ o. Any (Covers s o) (found l)) (end_before history l s) (end_since history l s)
     reach = complete.reached s
 
     starts : start_of l.upto s ≤ start_of history s
@@ -235,5 +235,5 @@ runs_take stamped history legal l complete s e saved = go (cases_lt e (end_befor
     covered o low (inr below) = absurd (let z : ⊥ = omega (arith, low, below, starts) in z)
 
     go : (e < end_before history l s) ⊎ (end_before history l s ≤ e) → e ≤ archived_end history s
-    go (inl less) = let on = reach.on in omega (arith, less, on)
-    go (inr more) = reach.greatest e more (λ o low high. covered o low (saved o high))
+    go (inl less) = let on = reach.on in omega (arith, less, on, starts)
+    go (inr more) = let most = reach.greatest e more (λ o low high. covered o low (saved o high)) in omega (arith, most, starts)

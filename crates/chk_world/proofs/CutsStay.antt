@@ -5,6 +5,7 @@ use Rattle.std.proofs.lemmas.Bool.{and_parts, and_from, cases_lt, leb-true, le-l
 use Rattle.std.proofs.lemmas.List.{length-take, map-append}
 use Rattle.chk_bytes.specs.Words.{joined}
 use Rattle.chk_control.specs.Classes.{is_plain, breaks_lines}
+use Rattle.chk_site.specs.Files.{Files}
 use Rattle.chk_site.specs.Logs.{Generation, Log, log_dropped, log_turned, is_line_cut, is_cut_place, last_cut}
 use Rattle.chk_site.specs.CutLaws.{IsLastCut}
 use Rattle.chk_site.specs.History.{Step, History, files_after, logs_after}
@@ -79,22 +80,22 @@ turned_cut lines (g ∷ gs) base at h = either_stays (nat_le at (length g)) _ _ 
 abbrev CutAt : Bool → Bool → Founding → ℕ → Log → Type 0
 CutAt lines plain f at log = is_cut_place lines (bytes_of (rotated_since plain f log)) log.base at ≡ true
 
-cut_turn : (R : Type 0) (lines plain : Bool) (f : Founding) (at : ℕ) (old new : Log) → (R → plain ≡ false) → length f.rotated ≤ length old.rotated
-    → LogTurn R old new → CutAt lines plain f at old → CutAt lines plain f at new
-cut_turn R lines plain f at old new may le (as_it_was e) h = subst (CutAt lines plain f at) (sym e) h
-cut_turn R lines plain f at old new may le (grew bytes e) h =
+cut_turn : (files : Files) (path : List ℕ) (lines plain : Bool) (f : Founding) (at : ℕ) (old new : Log) → (IsRotatable files path → plain ≡ false)
+    → length f.rotated ≤ length old.rotated → LogTurn files path old new → CutAt lines plain f at old → CutAt lines plain f at new
+cut_turn files path lines plain f at old new may le (as_it_was e) h = subst (CutAt lines plain f at) (sym e) h
+cut_turn files path lines plain f at old new may le (grew bytes e) h =
     subst (CutAt lines plain f at) (sym e) (cut_stays lines (bytes_of (rotated_since plain f old)) old.base bytes at h)
-cut_turn R lines plain f at old new may le (was_dropped suffix e) h =
+cut_turn files path lines plain f at old new may le (was_dropped suffix e r) h =
     subst (CutAt lines plain f at) (sym e) (subst (λ gs. is_cut_place lines gs old.base at ≡ true) (sym (same plain)) h)
   where
     same : (b : Bool) → bytes_of (rotated_since b f (log_dropped suffix old)) ≡ bytes_of (rotated_since b f old)
     same true = refl
     same false = chosen_marked f.line.after f.rotated suffix old.rotated
-cut_turn R lines plain f at old new may le (was_turned suffix e r) h =
+cut_turn files path lines plain f at old new may le (was_turned suffix e r) h =
     subst (CutAt lines plain f at) (sym e)
-    (subst (λ b. CutAt lines b f at (log_turned suffix old)) (sym (may r))
+    (subst (λ b. CutAt lines b f at (log_turned suffix old)) (sym (may r.rotatable))
     (subst (λ gs. is_cut_place lines gs [] at ≡ true) (sym bytes)
-    (turned_cut lines (bytes_of (chosen f.line.after f.rotated old.rotated)) old.base at (subst (λ b. CutAt lines b f at old) (may r) h))))
+    (turned_cut lines (bytes_of (chosen f.line.after f.rotated old.rotated)) old.base at (subst (λ b. CutAt lines b f at old) (may r.rotatable) h))))
   where
     g : Generation
     g = record { suffix = suffix; bytes = old.base; deleted = false }
@@ -126,7 +127,7 @@ cut_on stamped history step legal s known o c =
     let before : IsTrue (cut_since (Some f) (logs_after history s.name) o) =
     subst (λ first. IsTrue (cut_since first (logs_after history s.name) o)) c.founded c.cut in
     let parts = and_parts (nat_le f.line.start o) _ before in
-    let turned = cut_turn (IsRotatable (files_after history) s.name) (breaks_lines f.line.class) (is_plain f.line.class) f (o - f.line.start)
+    let turned = cut_turn (files_after history) s.name (breaks_lines f.line.class) (is_plain f.line.class) f (o - f.line.start)
     (logs_after history s.name) (step.logs s.name) (class_turns history s f b) b.long (turn_of stamped history step legal.1 s.name) parts.1 in
     record {
       first = f;

@@ -216,7 +216,7 @@ book_names = record {
   sound = λ g o. subst (λ g. HasFile (file (files_after g37) (SegmentFile ArchiveFolder g.number)) (IsSoundSegment ArchiveFolder g)) (in_one segment g o) sound;
   listed = λ c o. subst (λ c. Any (λ e. e.stream ≡ c.key.stream) (end ∷ [])) (in_one chunk c o) (0, end, omega arith, refl, refl);
   ends = λ e o. subst (λ e. Run e.start e.start (chunks_of_stream e.stream (chunks_named (files_after g37) ArchiveFolder book_1st)) e.end) (in_one end e o) (refl, refl, refl);
-  starts = λ e o. subst (λ e. HasStart ArchiveFolder g37 e) (in_one end e o) refl;
+  starts = λ e o. subst (λ e. HasStart ArchiveFolder g37 e) (in_one end e o) (_, refl, refl);
 }
 
 pub glegal38 : Legal [] g38

@@ -134,7 +134,7 @@ holds_round = record {
       subst (λ e. SendsNonePast one_log e step) (sym read_to)
       (none_past step (all_in (λ step. sends_these (deed step.act)) since_read step sends_only_these one));
   names = listed_names;
-  run = record { last = refl; closed = refl; reached = has_reached g40 archived_40 start_40 };
+  run = record { last = refl; closed = refl; reached = has_reached g40 archived_40 };
 }
 
 done_30 : chunks_below (committed_length (files_after l30) stem) (file (files_after l30) (DoneFile stem)) ≡ chunk ∷ []

@@ -19,8 +19,8 @@ use Rattle.chk_world.specs.Names.{ArchiveFolder, read, spell}
 use Rattle.chk_world.specs.Checkpoints.{read_checkpoint}
 use Rattle.chk_world.specs.Books.{read_book, book_of, chunks_named, chunks_of_stream, values}
 use Rattle.chk_world.specs.Streams.{start_of}
-use Rattle.chk_world.specs.Committed.{archive_of_stream, archived_end}
-use Rattle.chk_world.specs.ArchiveRuns.{Listing, found, end_before, is_closed, sink_path, HasReached, IsArchiveRun}
+use Rattle.chk_world.specs.Committed.{archive_of_stream}
+use Rattle.chk_world.specs.ArchiveRuns.{Listing, found, end_before, end_since, is_closed, sink_path, HasReached, IsArchiveRun}
 use Rattle.chk_world.specs.Rules.{Legal}
 use Rattle.chk_world.proofs.NameTests.{streams_same}
 use Rattle.chk_world.proofs.ExampleTexts.{chunk, stream, listed_names}
@@ -77,10 +77,14 @@ length_if s b e = ap (λ b. length (values (if b then chunk ∷ [] else []))) e 
     go true = refl
     go false = refl
 
+start_30 : start_of listing.upto stream ≡ 0
+unfolding read spell digits is_utf8 chars encode is_word key_1 key_2 written_key guessed_key written_part read_key read_checkpoint read_book read_header read_front read_fields read_class entry_at records_of marker_of written_front class_text md5 digest_bytes hash_after compress rounds block_words written_post_request written_poll_request written_reply
+start_30 = refl
+
 -- where the archive has become that chunk, it has reached all that was found
-pub has_reached : (history : History) → archived history ≡ chunk ∷ [] → start_of history stream ≡ 0 → HasReached history listing
-has_reached history named start s =
-    subst (λ cs. IsReach (λ o. Any (Covers s o) cs) (end_before history listing s) (archived_end history s)) (sym found_is) (go (same_stream s stream) refl)
+pub has_reached : (history : History) → archived history ≡ chunk ∷ [] → HasReached history listing
+has_reached history named s =
+    subst (λ cs. IsReach (λ o. Any (Covers s o) cs) (end_before history listing s) (end_since history listing s)) (sym found_is) (go (same_stream s stream) refl)
   where
     before : length (archive_of_stream (files_after l30) s) ≡ 0
     before = ap (λ cs. length (values (chunks_of_stream s cs))) none_yet
@@ -88,14 +92,14 @@ has_reached history named start s =
     after : length (archive_of_stream (files_after history) s) ≡ length (values (chunks_of_stream s (chunk ∷ [])))
     after = ap (λ cs. length (values (chunks_of_stream s cs))) named
 
-    go : (b : Bool) → same_stream s stream ≡ b → IsReach (λ o. Any (Covers s o) (chunk ∷ [])) (end_before history listing s) (archived_end history s)
+    go : (b : Bool) → same_stream s stream ≡ b → IsReach (λ o. Any (Covers s o) (chunk ∷ [])) (end_before history listing s) (end_since history listing s)
     go true e =
-        let none : start_of history s ≡ 0 = ap (start_of history) (streams_same s stream e) ∙ start in
+        let none : start_of listing.upto s ≡ 0 = ap (start_of listing.upto) (streams_same s stream e) ∙ start_30 in
         let size = length_if s true e in
-        reach_of_it s e (end_before history listing s) (archived_end history s) (omega (arith, none, before)) (omega (arith, none, after, size))
+        reach_of_it s e (end_before history listing s) (end_since history listing s) (omega (arith, none, before)) (omega (arith, none, after, size))
     go false e =
         let size = length_if s false e in
-        reach_of_none s e (end_before history listing s) (archived_end history s) (omega (arith, before, after, size))
+        reach_of_none s e (end_before history listing s) (end_since history listing s) (omega (arith, before, after, size))
 
 named_39 : archived g39 ≡ chunk ∷ []
 unfolding read spell digits is_utf8 chars encode is_word key_1 key_2 written_key guessed_key written_part read_key read_checkpoint read_book read_header read_front read_fields read_class entry_at records_of marker_of written_front class_text md5 digest_bytes hash_after compress rounds block_words written_post_request written_poll_request written_reply
@@ -110,7 +114,7 @@ unfolding read spell digits is_utf8 chars encode is_word key_1 key_2 written_key
 ran = record {
   unclosed_is = refl;
   taken_is = refl;
-  reached = has_reached g39 named_39 start_39;
+  reached = has_reached g39 named_39;
   rest = record {
     aside = refl;
     held_is = refl;

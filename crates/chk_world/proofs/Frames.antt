@@ -1,7 +1,7 @@
 -- What steps of others leave as it was: what a process sees, and its own files.
 use Rattle.std.proofs.Common.{◌≡◌, ℕ, Bool, true, false, ◌&&◌, not, List, [], ◌∷◌, Option, Some, None, option_map, ap, sym, subst, ◌∙◌, if◌then◌else◌, refl, bytes_eq, true≢false}
 use Rattle.std.specs.Prelude.{IsTrue, IsFalse, codes}
-use Rattle.std.proofs.lemmas.Bool.{and_parts}
+use Rattle.std.proofs.lemmas.Bool.{and_parts, and_from}
 use Rattle.chk_site.specs.declared.acts.Role.{Role}
 use Rattle.chk_site.specs.declared.acts.Role.TheVariants.{Agent, Collector, Job, Writer}
 use Rattle.chk_site.specs.declared.acts.Who.{Who}
@@ -10,7 +10,7 @@ use Rattle.chk_site.specs.declared.acts.ActAnswer.TheVariants.{Done, Refused, St
 use Rattle.chk_site.specs.Files.{File, Files, Grown, made, grown, secured, shortened}
 use Rattle.chk_site.specs.Acts.{Deed, Starts, ReadsLog, AsksNewest, GrowsLog, Creates, Appends, Syncs, Renames, Removes, Cuts, AsksSize, Reads, Lists, AsksClock, Pauses, Sends, Gets, Takes, TakesMore, Answers, Says, deed, change_of, is_done, same_role, same_who}
 use Rattle.chk_site.specs.History.{Step, History, files_after, since_start, is_start}
-use Rattle.chk_world.specs.Names.{Name, BornFile, SinkFile, MarkFile, DoneFile, CheckFile, BookFile, SegmentFile, Temporary, OtherFile, read, spell, file, owns, owns_by}
+use Rattle.chk_world.specs.Names.{Name, BornFile, SinkFile, MarkFile, DoneFile, CheckFile, BookFile, SegmentFile, Temporary, OtherFile, read, spell, file, owns, owns_by, is_done_sink}
 use Rattle.chk_world.specs.Collectors.{View, view, view_after}
 use Rattle.chk_world.specs.ArchiveRuns.{Listing, last_listing, listing_by}
 use Rattle.chk_world.specs.Rules.{Framed, must_start, stopped_by, is_named_so, is_fixed, may_remove}
@@ -30,6 +30,19 @@ owns_own Job name (BookFile folder) own = refl
 owns_own Job name (SegmentFile folder k) own = refl
 owns_own role name (Temporary n) own = owns_own role name n own
 owns_own _ name n own = absurd own
+
+not_done : (role : Role) (name : List ℕ) (n : Name) → IsOwnBy role name n → not (is_done_sink n) ≡ true
+not_done role name (DoneFile x) own = absurd (never role own)
+  where
+    never : (role : Role) → IsOwnBy role name (DoneFile x) → ⊥
+    never Agent h = h
+    never Collector h = h
+    never Job h = h
+    never Writer h = h
+not_done role name n own = refl
+
+owns_open_own : (role : Role) (name : List ℕ) (n : Name) → IsOwnBy role name n → owns_by role name n && not (is_done_sink n) ≡ true
+owns_open_own role name n own = and_from (owns_by role name n) (not (is_done_sink n)) (owns_own role name n own) (not_done role name n own)
 
 -- who may change such a file is this process
 one_owner : (role : Role) (name : List ℕ) (n : Name) (role' : Role) (name' : List ℕ) → IsOwnBy role name n → IsTrue (is_named_so role' name')
@@ -141,7 +154,7 @@ module _ (me who : Who) (named_so : IsTrue (is_named_so who.role who.name)) (oth
   step_leaves call answer before after (was_stopped left is middle came tails) spares framed =
       (tails (spell n)).0
       ∙ untailed (file middle n) _
-      (no_tail me left n mine.known (owns_own me.role me.name n mine.own) (subst (λ a. IsFalse (touched_by_stop me a)) is spares))
+      (no_tail me left n mine.known (owns_open_own me.role me.name n mine.own) (subst (λ a. IsFalse (touched_by_stop me a)) is spares))
       ∙ came_leaves call false before middle came framed
 
 -- a foreign step leaves the process's own files

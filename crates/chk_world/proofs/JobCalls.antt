@@ -18,7 +18,7 @@ use Rattle.chk_world.specs.Committed.{OnFile}
 use Rattle.chk_world.specs.ArchiveRuns.{Listing, last_listing, listing_by}
 use Rattle.chk_world.specs.Jobs.{NewBook, IsBookFile, JobRule}
 use Rattle.chk_world.specs.Rules.{RoleMay, Legal}
-use Rattle.chk_world.specs.Places.{Foreign, AtTold, AtPlace, IsOwn}
+use Rattle.chk_world.specs.Places.{As, AtTold, AtPlace, IsOwn}
 use Rattle.chk_world.proofs.NameLemmas.{read-spell}
 use Rattle.chk_world.proofs.NameTests.{same_name, named, applied, moved_named, bridge}
 use Rattle.chk_world.proofs.Outcomes.{CameTo, whole, nothing, junk, Leaves, went_on, was_stopped, leaves}
@@ -113,7 +113,7 @@ pub book_replaced : {V : Type 0} (stamped : List (List ℕ)) (folder : Folder) (
     → ((v : V) (s : Option File) → B v s → R v) → MayBook stamped folder sees a B old new
     → (name : List ℕ) → name ≡ spell (BookFile folder) → {result : Result (Unit {0}) OutsideFault} {before after : Option History}
     → MadeInTurn (replacement the_job name bytes) result before after
-    → Adds before after (Leads (Foreign stamped the_job)
+    → Adds before after (Leads (As stamped the_job)
     (AtPlace stamped (around the_job sees a (BookFile folder)) (Next (Booked B old) anything))
     (AtTold stamped the_job (EndedAt the_job sees a (BookFile folder) R (λ v s t m. Booked B new v s m) result)))
 book_replaced stamped folder sees a target apart stays old new bytes is_read B R less may name e script =
@@ -139,7 +139,7 @@ no_listing mine w call answer upto earlier on_create = refl
 no_listing mine w call answer upto earlier (on_append bytes) = refl
 no_listing mine w call answer upto earlier on_sync = refl
 
-book_listing : (folder : Folder) (mine : Bool) (call : Deed) (answer : ActAnswer) (upto : History) (earlier : Option Listing)
+pub book_listing : (folder : Folder) (mine : Bool) (call : Deed) (answer : ActAnswer) (upto : History) (earlier : Option Listing)
     → OnBook folder call → listing_by mine call answer upto earlier ≡ earlier
 book_listing folder mine call answer upto earlier (on_next w c reads on) = no_listing mine w c answer upto earlier on
 book_listing folder mine call answer upto earlier (on_rename w name reads reads_name) = refl
@@ -192,7 +192,7 @@ module _ (folder : Folder) (c : Name) (known : IsTrue (is_known c)) (apart : sam
       e (spell c)
       ∙ (bridge (Grown v bytes) before c known ∙ next_apart v (appends_next call on v piece is) (option_map (grown bytes)))
 
-other_stays : (folder : Folder) (c : Name) → IsTrue (is_known c) → same_name c (BookFile folder) ≡ false
+pub other_stays : (folder : Folder) (c : Name) → IsTrue (is_known c) → same_name c (BookFile folder) ≡ false
     → same_name c (Temporary (BookFile folder)) ≡ false → (before : History) (step : Step) → OnBook folder (deed step.act)
     → GoesOn step.act.answer → Honest before step → file step.files c ≡ file (files_after before) c
 other_stays folder c known apart apart_next before step on goes honest =
@@ -229,11 +229,11 @@ job_target stamped sees a folder own apart_next sight = record {
 
 pub sees_listing : (stamped : List (List ℕ)) (a : Name) (folder : Folder)
     → SightStays stamped (around the_job last_listing a (BookFile folder))
-sees_listing stamped a folder history step f = listing_stays stamped history step f
+sees_listing stamped a folder history step legal f = listing_stays stamped history step f
 
 pub sees_with : (stamped : List (List ℕ)) (a c : Name) (folder : Folder) → IsOwn the_job c
     → SightStays stamped (around the_job (seen_with c) a (BookFile folder))
-sees_with stamped a c folder own history step f =
+sees_with stamped a c folder own history step legal f =
     let listed = listing_stays stamped history step f in
     let second = files_stay stamped the_job history step c f own in
     λ i. record { listing = listed i; second = second i }

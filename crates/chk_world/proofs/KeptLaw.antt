@@ -61,7 +61,7 @@ module _ (stamped : List (List ℕ)) (history : History) (step : Step) (legal : 
 
   from_aside : (c : Chunk) → Covers s o c → Contains (aside_chunks (files_after history)) c → Left history step s o
   from_aside c h one = elim (aside_stays stamped history step legal c one) [
-    | inl kept ↦ inl (c, h, inr kept)
+    | inl kept ↦ inl (kept.1, covers_same s o c kept.1 kept.4 h, inr (kept.0, kept.2, kept.3))
     | inr ends ↦ ended c h ends
   ]
 

@@ -10,11 +10,11 @@ use Rattle.chk_site.specs.History.{History, files_after}
 use Rattle.chk_chunk.specs.Keys.{Chunk, chunk_limit}
 use Rattle.chk_world.specs.Names.{MarkFile, SinkFile, DoneFile, file}
 use Rattle.chk_world.specs.Books.{chunk_of, chunks_within}
-use Rattle.chk_world.specs.Committed.{OnFile, sink_chunks, aside_chunks, chunks_below, committed_of, committed_length}
+use Rattle.chk_world.specs.Committed.{OnFile, sink_chunks, aside_chunks, chunks_below, committed_of, committed_length, IsKept}
 use Rattle.chk_world.specs.Collectors.{view}
 use Rattle.chk_world.specs.Jobs.{IsSource}
 use Rattle.chk_world.specs.Rules.{Legal}
-use Rattle.chk_world.specs.Laws.{collector, wrote, written_by, IsDoneSink}
+use Rattle.chk_world.specs.Laws.{collector, wrote, written_by, IsDoneSink, IsOfLog, KeptAreTrue}
 use Rattle.chk_world.proofs.Forms.{piece_chunks}
 use Rattle.chk_world.proofs.Law.{InvAfter, holds_always, shape}
 use Rattle.chk_world.proofs.OwnSteps.{known_stem}
@@ -98,3 +98,26 @@ pub source_true : (stamped : List (List ℕ)) (history : History) → Legal stam
     → IsFoundedChunk history c
 source_true stamped history legal c (inl done) = done_true stamped history legal done.0 done.1 c done.2
 source_true stamped history legal c (inr aside) = aside_true stamped history legal c aside
+
+-- ---- what is kept and what the job may take is true
+
+below_done : (o mark : Option File) (c : Chunk) → Contains (chunks_below (committed_of o mark) o) c → Contains (sink_chunks o) c
+below_done None mark c one = one
+below_done (Some f) mark c one =
+    subst (λ bytes. Contains (chunks_within chunk_limit bytes) c) (take_all (length f.bytes) f.bytes (omega arith)) one
+
+of_log : (history : History) (c : Chunk) → IsFoundedChunk history c → IsOfLog history c
+of_log history c h = record { first = h.first; founded = h.founded; is_true = h.is_true }
+
+pub kept_are_true : KeptAreTrue
+kept_are_true stamped history legal = record {
+  kept = λ c k. of_log history c (kept_true c k);
+  sources = λ c s. of_log history c (source_true stamped history legal c s);
+}
+  where
+    kept_true : (c : Chunk) → IsKept (files_after history) c → IsFoundedChunk history c
+    kept_true c (inl (x, known, inl one)) = sink_true stamped history legal x known c one
+    kept_true c (inl (x, known, inr one)) =
+        done_true stamped history legal x known c
+        (below_done (file (files_after history) (DoneFile x)) (file (files_after history) (MarkFile x)) c one)
+    kept_true c (inr aside) = aside_true stamped history legal c aside

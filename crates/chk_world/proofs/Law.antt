@@ -1,5 +1,5 @@
 -- The law on the sinks of every legal history.
-use Rattle.std.proofs.Common.{◌≡◌, inl, inr, ℕ, ◌≤◌, Bool, true, false, List, [], ◌∷◌, ◌++◌, length, Option, Some, None, refl, ap, sym, subst, ◌∙◌, true≢false, arith, append-nil, if◌then◌else◌, bytes_eq}
+use Rattle.std.proofs.Common.{◌≡◌, inl, inr, ℕ, ◌≤◌, Bool, true, false, ◌&&◌, List, [], ◌∷◌, ◌++◌, length, Option, Some, None, refl, ap, sym, subst, ◌∙◌, true≢false, arith, append-nil, if◌then◌else◌, bytes_eq}
 use Rattle.std.specs.Prelude.{IsTrue}
 use Rattle.std.proofs.lemmas.Bool.{and_parts}
 use Rattle.std.proofs.lemmas.Option.{none-some}
@@ -14,7 +14,7 @@ use Rattle.chk_site.specs.declared.lists.Left.{Left}
 use Rattle.chk_site.specs.Files.{File, Files}
 use Rattle.chk_site.specs.Acts.{Deed, Appends, deed, is_done, same_role, same_who, tail_of}
 use Rattle.chk_site.specs.History.{Step, History, files_after}
-use Rattle.chk_world.specs.Names.{Name, BornFile, SinkFile, MarkFile, DoneFile, spell, file, is_known, owns, stop_names}
+use Rattle.chk_world.specs.Names.{Name, BornFile, SinkFile, MarkFile, DoneFile, spell, file, is_known, owns_open, stop_names}
 use Rattle.chk_world.specs.Committed.{OnFile, committed_of}
 use Rattle.chk_world.specs.Collectors.{View, CollectorRule, view, view_after, own_view, new_view}
 use Rattle.chk_world.specs.Rules.{Framed, RoleMay, Obeys, Legal}
@@ -24,7 +24,7 @@ use Rattle.chk_world.proofs.Outcomes.{Leaves, went_on, was_stopped, leaves}
 use Rattle.chk_world.proofs.Kept.{Kept, on_file}
 use Rattle.chk_world.proofs.Own.{InvAt, seen}
 use Rattle.chk_world.proofs.OwnSteps.{Known, known_stem, own_came, at_same}
-use Rattle.chk_world.proofs.Stops.{forgotten, forgets, stopped, no_tail, untailed}
+use Rattle.chk_world.proofs.Stops.{forgotten, forgets, stopped, no_tail, untailed, done_untailed}
 use Rattle.chk_world.proofs.Others.{others_came, others_write}
 
 pub role_same : (a b : Role) → same_role a b ≡ true → a ≡ b
@@ -112,10 +112,10 @@ module _ (x : Stem) (known : Known x) (history : History) (step : Step) (inv : I
       there : InvAt x (seen (view (collector x) history) (wrote x history)) (λ n. file middle n)
       there = others_came x step.act.who other known (deed step.act) false (files_after history) middle (seen (view (collector x) history) (wrote x history)) came framed inv
 
-      mine : bytes_eq x.collector x.collector ≡ true
-      mine = bytes_self x.collector
+      mine : bytes_eq x.collector x.collector && true ≡ true
+      mine = rw (bytes_self x.collector) refl
 
-      same_at : (n : Name) → IsTrue (is_known n) → owns (collector x) n ≡ true → stop_names (collector x) left ≡ false → file step.files n ≡ file middle n
+      same_at : (n : Name) → IsTrue (is_known n) → owns_open (collector x) n ≡ true → stop_names (collector x) left ≡ false → file step.files n ≡ file middle n
       same_at n k o e = (tails (spell n)).0 ∙ untailed (file middle n) (tail_of left (spell n)) (no_tail (collector x) left n k o e)
 
       named_or_not : (b : Bool) → stop_names (collector x) left ≡ b
@@ -125,7 +125,9 @@ module _ (x : Stem) (known : Known x) (history : History) (step : Step) (inv : I
           (forgets x (seen (view (collector x) history) (wrote x history)) (file middle (SinkFile x)) (file middle (MarkFile x)) (file middle (DoneFile x)) (file middle (BornFile x.collector)) there)
       named_or_not false e =
           at_same x (seen (view (collector x) history) (wrote x history)) (λ n. file step.files n) (λ n. file middle n)
-          (same_at (SinkFile x) known.stem mine e) (same_at (MarkFile x) known.stem mine e) (same_at (DoneFile x) known.stem mine e) (same_at (BornFile x.collector) known.collector mine e) there
+          (same_at (SinkFile x) known.stem mine e) (same_at (MarkFile x) known.stem mine e)
+          (done_untailed x known (seen (view (collector x) history) (wrote x history)) step.act.who (files_after history) (deed step.act) left middle step.files
+          framed tails there) (same_at (BornFile x.collector) known.collector mine e) there
 
   -- the rule of a step of the collector
   pub its_rule : (stamped : List (List ℕ)) → step.act.who ≡ collector x → RoleMay stamped step.act.who.role history step

@@ -66,7 +66,7 @@ true_by : (history : History) (s : Stream) (l : Line) → LineIsTrue history s l
 true_by history s l t = record { first = t.place.first; on = t.place.on; within = t.place.within; cut = t.cut }
 
 -- a stream has begun where its agent has a line for it
-has_begun : (history : History) (s : Stream) (l : Line) → line_of (files_after history) s ≡ Some l
+pub has_begun : (history : History) (s : Stream) (l : Line) → line_of (files_after history) s ≡ Some l
     → (f : Founding) × (founding history s ≡ Some f)
 has_begun [] s l e = absurd (none-some l e)
 has_begun (step ∷ history) s l e = go (founding history s) refl
@@ -118,7 +118,7 @@ begins_true l log first offset =
     let none : passed_by l.after p.rotated ≡ 0 = none_passed_by (is_plain l.class) l.after log.rotated in
     record { first = omega (arith, first, none); on = omega (arith, first, offset); within = omega (arith, first, offset); cut = inl offset }
 
-not_begun : (stamped : List (List ℕ)) (history : History) (s : Stream) → Legal stamped history → IsTrue (is_source s.source)
+pub not_begun : (stamped : List (List ℕ)) (history : History) (s : Stream) → Legal stamped history → IsTrue (is_source s.source)
     → line_of (files_after history) s ≡ None → founding history s ≡ None
 not_begun stamped history s legal known none = go (founding history s) refl
   where

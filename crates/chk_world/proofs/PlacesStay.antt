@@ -16,7 +16,7 @@ Stays stamped who B = (history : History) (step : Step) → Legal stamped histor
 
 -- what the process sees stays
 abbrev pub SightStays : {V : Type 0} → List (List ℕ) → Place V → Type 0
-SightStays stamped p = (history : History) (step : Step) → Foreign stamped p.who history step → p.sees (step ∷ history) ≡ p.sees history
+SightStays stamped p = (history : History) (step : Step) → Legal stamped history → Foreign stamped p.who history step → p.sees (step ∷ history) ≡ p.sees history
 
 pub along : {V : Type 0} (P : V → Option File → Option File → Option File → Type 0) {v w : V} {a b c a' b' c' : Option File}
     → w ≡ v → a' ≡ a → b' ≡ b → c' ≡ c → P v a b c → P w a' b' c'
@@ -26,7 +26,7 @@ along P {v = v} {w = w} {a = a} {b = b} {c = c} {a' = a'} {b' = b'} {c' = c'} e 
 pub seen_stays : {V : Type 0} (stamped : List (List ℕ)) (p : Place V) (P : V → Option File → Option File → Option File → Type 0)
     → IsPlace p → SightStays stamped p → Stays stamped p.who (SeenAt p P)
 seen_stays stamped p P place sight history step legal f h =
-    along P (sight history step f) (files_stay stamped p.who history step p.first f place.first)
+    along P (sight history step legal f) (files_stay stamped p.who history step p.first f place.first)
     (files_stay stamped p.who history step p.second f place.second) (files_stay stamped p.who history step p.third f place.third) h
 
 -- a step that isn't the site's own
@@ -53,10 +53,10 @@ leaves_place p sight stamped history step test place theirs f h =
     told_stays stamped p.who _ (seen_stays stamped p (λ v a b c. IsTrue (test v a b c)) place (sight stamped)) history step theirs f h
 
 pub collectors_stay : (name : List ℕ) (a b c : Name) → Leaves (collector_at (record { role = Collector; name = name }) a b c)
-collectors_stay name a b c = leaves_place _ (λ stamped history step f. view_stays stamped _ history step f)
+collectors_stay name a b c = leaves_place _ (λ stamped history step legal f. view_stays stamped _ history step f)
 
 pub agents_stay : (name : List ℕ) (a b c : Name) → Leaves (agent_at (record { role = Agent; name = name }) a b c)
-agents_stay name a b c = leaves_place _ (λ stamped history step f. steps_stay stamped _ history step f)
+agents_stay name a b c = leaves_place _ (λ stamped history step legal f. steps_stay stamped _ history step f)
 
 pub job_stays : (a b c : Name) → Leaves (job_at (record { role = Job; name = codes "job" }) a b c)
-job_stays a b c = leaves_place _ (λ stamped history step f. listing_stays stamped history step f)
+job_stays a b c = leaves_place _ (λ stamped history step legal f. listing_stays stamped history step f)

@@ -17,20 +17,20 @@ use Rattle.chk_site.specs.History.{Step, History, files_after, logs_after}
 use Rattle.chk_site.specs.Honest.{Honest}
 use Rattle.chk_site.specs.Site.{Adds, Asked, asked, own_step, plain, WasDone}
 use Rattle.chk_site.specs.Runs.{Leads, MadeInTurn}
-use Rattle.chk_site.proofs.Leads.{script_then, script_end}
+use Rattle.chk_site.proofs.Leads.{AllOwned, script_then, script_end}
 use Rattle.chk_replace.specs.Replace.{tmp, replacement}
-use Rattle.chk_world.specs.Names.{Name, BornFile, SinkFile, MarkFile, DoneFile, CheckFile, BookFile, SegmentFile, Temporary, OtherFile, read, spell, file, is_known, owns}
+use Rattle.chk_world.specs.Names.{Name, BornFile, SinkFile, MarkFile, DoneFile, CheckFile, BookFile, SegmentFile, Temporary, OtherFile, read, spell, file, is_known, owns, is_done_sink}
 use Rattle.chk_world.specs.Committed.{OnFile, IsWhole}
 use Rattle.chk_world.specs.Collectors.{CollectorRule, view}
 use Rattle.chk_world.specs.Agents.{AgentRule}
 use Rattle.chk_world.specs.Jobs.{JobRule}
-use Rattle.chk_world.specs.Rules.{Framed, OnlyWritersGrowLogs, OnlyAgentsRequest, WriterRule, RoleMay, Legal, RenameFits, is_small, is_sink, is_done_sink, is_fixed, may_remove}
-use Rattle.chk_world.specs.Places.{Foreign, AtTold, Place, SeenAt, AtPlace, IsPlace}
+use Rattle.chk_world.specs.Rules.{Framed, OnlyWritersGrowLogs, OnlyAgentsRequest, WriterRule, RoleMay, Legal, RenameFits, is_small, is_named_so, is_sink, is_fixed, may_remove}
+use Rattle.chk_world.specs.Places.{As, AtTold, Place, SeenAt, AtPlace, IsPlace}
 use Rattle.chk_world.proofs.NameLemmas.{read-spell}
 use Rattle.chk_world.proofs.NameTests.{same_name, name_self, named, applied, moved_named}
 use Rattle.chk_world.proofs.Frames.{owns_own}
 use Rattle.chk_world.proofs.PlacesStay.{Stays, SightStays, seen_stays}
-use Rattle.chk_world.proofs.ToldCalls.{Allowed, LeavesCall, MayHonestly, told_done, told_ends, honest_done, honest_ends, told_less}
+use Rattle.chk_world.proofs.ToldCalls.{Allowed, owned, LeavesCall, MayHonestly, told_done, told_ends, honest_done, honest_ends, told_less}
 use Rattle.chk_world.proofs.OwnFiles.{done_file, refused_file, done_present, MissedOrDone, was_done, was_missing, missed_or_done, done_absent}
 
 -- a small file n, and a file a, which may be n itself
@@ -40,6 +40,12 @@ around who sees a n = record { who = who; sees = sees; first = a; second = Tempo
 pub record Target {V : Type 0} (stamped : List (List ℕ)) (who : Who) (sees : History → V) (a n : Name) : Type 0 where
   pub place : IsPlace (around who sees a n)
   pub sight : SightStays stamped (around who sees a n)
+  pub small : is_small n ≡ true
+  pub apart_next : same_name a (Temporary n) ≡ false
+
+-- the same of a fact that stays for another reason
+pub record Aim {V : Type 0} (who : Who) (sees : History → V) (a n : Name) : Type 0 where
+  pub place : IsPlace (around who sees a n)
   pub small : is_small n ≡ true
   pub apart_next : same_name a (Temporary n) ≡ false
 
@@ -210,10 +216,11 @@ pub record Replaces {V : Type 0} (stamped : List (List ℕ)) (who : Who) (sees :
       → file step.files (Temporary n) ≡ None → file step.files n ≡ settled bytes
       → G (sees (step ∷ before)) (file step.files a) (file step.files (Temporary n)) (file step.files n)
 
-module _ {V : Type 0} (stamped : List (List ℕ)) (who : Who) (sees : History → V) (a n : Name) (target : Target stamped who sees a n)
+module _ {V : Type 0} (stamped : List (List ℕ)) (who : Who) (sees : History → V) (a n : Name) (target : Aim who sees a n)
     (w name bytes : List ℕ) (w_is : w ≡ spell (Temporary n)) (name_is : name ≡ spell n)
     (F : V → Option File → Option File → Type 0) (R : V → Type 0) (G : V → Option File → Option File → Option File → Type 0)
-    (known : Replaces stamped who sees a n w name bytes F R G) where
+    (known : Replaces stamped who sees a n w name bytes F R G)
+    (stays : (U : Option File → Type 0) → Stays stamped who (SeenAt (around who sees a n) (Next F U))) where
   abbrev T : Name
   T = Temporary n
 
@@ -231,9 +238,6 @@ module _ {V : Type 0} (stamped : List (List ℕ)) (who : Who) (sees : History �
 
   word_file : (files : Files) → files w ≡ file files (Temporary n)
   word_file files = ap files w_is
-
-  stays : (Q : V → Option File → Option File → Option File → Type 0) → Stays stamped who (SeenAt P Q)
-  stays Q = seen_stays stamped P Q target.place target.sight
 
   mine : owns who n ≡ true
   mine = owns_own who.role who.name n target.place.third.own
@@ -373,7 +377,7 @@ module _ {V : Type 0} (stamped : List (List ℕ)) (who : Who) (sees : History �
   -- the calls in turn
   pub replaced_by : {result : Result (Unit {0}) OutsideFault} {old new : Option History}
       → MadeInTurn (Removing ∷ Creating ∷ Appending ∷ Syncing ∷ Renaming ∷ []) result old new
-      → Adds old new (Leads (Foreign stamped who) (AtTold stamped who (At anything)) (AtTold stamped who (Ended result)))
+      → Adds old new (Leads (As stamped who) (AtTold stamped who (At anything)) (AtTold stamped who (Ended result)))
   replaced_by script =
       let B : Result (Unit {0}) OutsideFault → History → Type 0 = λ r h. AtTold stamped who (Ended r) h in
       let so = target.place.named in
@@ -381,27 +385,27 @@ module _ {V : Type 0} (stamped : List (List ℕ)) (who : Who) (sees : History �
       let allowed : (before : History) (step : Step) → step.act.who ≡ who → OnNext w (deed step.act) → Allowed stamped before step =
       λ before step by on. next_allowed stamped n w reads who mine before step by on in
       script_then (AtTold stamped who (At (is_file None))) B
-      (λ given mid is call. told_done stamped Removing so (At anything) (At (is_file None)) given (stays (Next F anything))
+      (λ given mid is call. told_done stamped Removing so (At anything) (At (is_file None)) given (stays anything)
       (λ before answer files logs legal h. allowed before (own_step Removing answer files logs) refl on_remove) remove_leaves is call)
-      (λ given fault is call. told_ends stamped Removing so (At anything) (λ f. Rest) plain given fault (stays (Next F anything))
+      (λ given fault is call. told_ends stamped Removing so (At anything) (λ f. Rest) plain given fault (stays anything)
       (λ before answer files logs legal h. allowed before (own_step Removing answer files logs) refl on_remove)
       (λ before answer files logs e legal h. next_fails (Removes w) on_remove anything before (own_step Removing answer files logs) refl refl e legal h)
       (less anything) is call)
       (less_told anything)
       (λ mid. script_then (AtTold stamped who (At (is_file (file_of [] 0)))) B
-      (λ given mid is call. told_done stamped Creating so (At (is_file None)) (At (is_file (file_of [] 0))) given (stays (Next F (is_file None)))
+      (λ given mid is call. told_done stamped Creating so (At (is_file None)) (At (is_file (file_of [] 0))) given (stays (is_file None))
       (λ before answer files logs legal h. allowed before (own_step Creating answer files logs) refl on_create) create_leaves is call)
-      (λ given fault is call. told_ends stamped Creating so (At (is_file None)) (λ f. Rest) plain given fault (stays (Next F (is_file None)))
+      (λ given fault is call. told_ends stamped Creating so (At (is_file None)) (λ f. Rest) plain given fault (stays (is_file None))
       (λ before answer files logs legal h. allowed before (own_step Creating answer files logs) refl on_create)
       (λ before answer files logs e legal h. next_fails (Creates w) on_create (is_file None) before (own_step Creating answer files logs) refl refl e legal h)
       (less (is_file None)) is call)
       (less_told (is_file None))
       (λ mid. script_then (AtTold stamped who (At (is_file (file_of bytes 0)))) B
       (λ given mid is call. told_done stamped Appending so (At (is_file (file_of [] 0))) (At (is_file (file_of bytes 0))) given
-      (stays (Next F (is_file (file_of [] 0))))
+      (stays (is_file (file_of [] 0)))
       (λ before answer files logs legal h. allowed before (own_step Appending answer files logs) refl (on_append bytes)) append_leaves is call)
       (λ given fault is call. told_ends stamped Appending so (At (is_file (file_of [] 0))) (λ f. Rest) plain given fault
-      (stays (Next F (is_file (file_of [] 0))))
+      (stays (is_file (file_of [] 0)))
       (λ before answer files logs legal h. allowed before (own_step Appending answer files logs) refl (on_append bytes))
       (λ before answer files logs e legal h.
       next_fails (Appends w bytes) (on_append bytes) (is_file (file_of [] 0)) before (own_step Appending answer files logs) refl refl e legal h)
@@ -409,10 +413,10 @@ module _ {V : Type 0} (stamped : List (List ℕ)) (who : Who) (sees : History �
       (less_told (is_file (file_of [] 0)))
       (λ mid. script_then (AtTold stamped who (At (is_file (settled bytes)))) B
       (λ given mid is call. told_done stamped Syncing so (At (is_file (file_of bytes 0))) (At (is_file (settled bytes))) given
-      (stays (Next F (is_file (file_of bytes 0))))
+      (stays (is_file (file_of bytes 0)))
       (λ before answer files logs legal h. allowed before (own_step Syncing answer files logs) refl on_sync) sync_leaves is call)
       (λ given fault is call. told_ends stamped Syncing so (At (is_file (file_of bytes 0))) (λ f. Rest) plain given fault
-      (stays (Next F (is_file (file_of bytes 0))))
+      (stays (is_file (file_of bytes 0)))
       (λ before answer files logs legal h. allowed before (own_step Syncing answer files logs) refl on_sync)
       (λ before answer files logs e legal h.
       next_fails (Syncs w) on_sync (is_file (file_of bytes 0)) before (own_step Syncing answer files logs) refl refl e legal h)
@@ -420,9 +424,9 @@ module _ {V : Type 0} (stamped : List (List ℕ)) (who : Who) (sees : History �
       (less_told (is_file (file_of bytes 0)))
       (λ mid. script_then (AtTold stamped who (SeenAt P G)) B
       (λ given mid is call. honest_done stamped Renaming so (At (is_file (settled bytes))) (SeenAt P G) given
-      (stays (Next F (is_file (settled bytes)))) rename_may rename_leaves is call)
+      (stays (is_file (settled bytes))) rename_may rename_leaves is call)
       (λ given fault is call. honest_ends stamped Renaming so (At (is_file (settled bytes))) (λ f. Rest) plain given fault
-      (stays (Next F (is_file (settled bytes)))) rename_may
+      (stays (is_file (settled bytes))) rename_may
       (λ before answer files logs e legal h.
       known.rename_fails before (own_step Renaming answer files logs) (file (files_after before) a) (file (files_after before) n) refl refl e legal h.base)
       (less (is_file (settled bytes))) is call)
@@ -435,12 +439,42 @@ pub next_word : (name : List ℕ) (n : Name) → name ≡ spell n → tmp name �
 unfolding spell
 next_word name n e = ap (λ l. l ++ codes ".tmp") e
 
+-- each call of a replacement is made as its process promises
+pub replacement_owned : (stamped : List (List ℕ)) (who : Who) → IsTrue (is_named_so who.role who.name) → (name bytes : List ℕ)
+    → AllOwned (As stamped who).own (replacement who name bytes)
+replacement_owned stamped who named name bytes = (
+  owned stamped (asked who Remove (tmp name ∷ []) 0 0) named,
+  (
+    owned stamped (asked who Create (tmp name ∷ []) 0 0) named,
+    (
+      owned stamped (asked who Append (tmp name ∷ bytes ∷ []) 0 0) named,
+      (
+        owned stamped (asked who Sync (tmp name ∷ []) 0 0) named,
+        (owned stamped (asked who Rename (tmp name ∷ name ∷ []) 0 0) named, tt),
+      ),
+    ),
+  ),
+)
+
 pub replaced : {V : Type 0} (stamped : List (List ℕ)) (who : Who) (sees : History → V) (a n : Name) → Target stamped who sees a n
     → (name bytes : List ℕ) → name ≡ spell n
     → (F : V → Option File → Option File → Type 0) (R : V → Type 0) (G : V → Option File → Option File → Option File → Type 0)
     → Replaces stamped who sees a n (tmp name) name bytes F R G
     → {result : Result (Unit {0}) OutsideFault} {old new : Option History} → MadeInTurn (replacement who name bytes) result old new
-    → Adds old new (Leads (Foreign stamped who) (AtPlace stamped (around who sees a n) (Next F anything))
+    → Adds old new (Leads (As stamped who) (AtPlace stamped (around who sees a n) (Next F anything))
     (AtTold stamped who (EndedAt who sees a n R G result)))
 replaced stamped who sees a n target name bytes e F R G known {result = result} script =
-    replaced_by stamped who sees a n target (tmp name) name bytes (next_word name n e) e F R G known script
+    replaced_by stamped who sees a n (record { place = target.place; small = target.small; apart_next = target.apart_next }) (tmp name) name bytes
+    (next_word name n e) e F R G known (λ U. seen_stays stamped (around who sees a n) (Next F U) target.place target.sight) script
+
+-- the same of a fact that stays for another reason
+pub replaced_on : {V : Type 0} (stamped : List (List ℕ)) (who : Who) (sees : History → V) (a n : Name) → Aim who sees a n
+    → (name bytes : List ℕ) → name ≡ spell n
+    → (F : V → Option File → Option File → Type 0) (R : V → Type 0) (G : V → Option File → Option File → Option File → Type 0)
+    → Replaces stamped who sees a n (tmp name) name bytes F R G
+    → ((U : Option File → Type 0) → Stays stamped who (SeenAt (around who sees a n) (Next F U)))
+    → {result : Result (Unit {0}) OutsideFault} {old new : Option History} → MadeInTurn (replacement who name bytes) result old new
+    → Adds old new (Leads (As stamped who) (AtPlace stamped (around who sees a n) (Next F anything))
+    (AtTold stamped who (EndedAt who sees a n R G result)))
+replaced_on stamped who sees a n target name bytes e F R G known stays {result = result} script =
+    replaced_by stamped who sees a n target (tmp name) name bytes (next_word name n e) e F R G known stays script

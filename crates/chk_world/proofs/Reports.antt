@@ -12,10 +12,10 @@ use Rattle.chk_chunk.specs.Reach.{IsReach}
 use Rattle.chk_world.specs.Checkpoints.{Line, line_of}
 use Rattle.chk_world.specs.Streams.{Founding, founding, founded_by, or_else, start_at, start_of}
 use Rattle.chk_world.specs.Committed.{archive_of_stream}
-use Rattle.chk_world.specs.ArchiveRuns.{Listing, listing_by, last_listing, unclosed_in, found, is_report, HasReached}
+use Rattle.chk_world.specs.ArchiveRuns.{Listing, listing_by, last_listing, unclosed_in, found, end_before, report, is_report, HasReached, IsArchiveRun}
 use Rattle.chk_world.specs.Jobs.{JobRule, ReportIsTrue, RanSo, TrueReport}
 use Rattle.chk_world.specs.Rules.{Legal, RoleMay}
-use Rattle.chk_world.specs.Laws.{IsComplete}
+use Rattle.chk_world.specs.Laws.{IsComplete, ReportsAreTrue}
 use Rattle.chk_world.proofs.Commits.{done_tails}
 
 -- a stream that has not begun has no line
@@ -42,10 +42,8 @@ module _ (history : History) (step : Step) (same : ◌≡◌ {A = Files} step.fi
 
   still_reached : (l : Listing) → HasReached history l → HasReached (step ∷ history) l
   still_reached l reached s =
-      let then_length : ℕ = length (archive_of_stream (files_after l.upto) s) in
-      subst (λ start. IsReach (λ o. Any (Covers s o) (found l)) (start + then_length) (start + length (archive_of_stream step.files s))) (sym (same_start s))
-      (subst (λ files. IsReach (λ o. Any (Covers s o) (found l)) (start_of history s + then_length) (start_of history s + length (archive_of_stream files s)))
-      (sym same) (reached s))
+      subst (λ files. IsReach (λ o. Any (Covers s o) (found l)) (end_before history l s) (start_of l.upto s + length (archive_of_stream files s)))
+      (sym same) (reached s)
 
 -- what the rule of the job says of a report
 report_true : (history : History) (text : List ℕ) → is_report text ≡ true → ReportIsTrue history text → TrueReport history text
@@ -70,4 +68,33 @@ reported stamped history step legal job text call is words number of answer l la
       last = ap (λ c. listing_by (same_role step.act.who.role Job) c step.act.answer (step ∷ history) (last_listing history)) call ∙ last;
       closed = closed;
       reached = still_reached history step (λ i n. each n i) l (ran_reached history l text last (report_true history text is says));
+    }
+
+-- the listing of a true report
+last_of : (history : History) (text : List ℕ) → TrueReport history text
+    → (l : Listing) × (last_listing history ≡ Some l)
+last_of history text t = go (last_listing history) refl t.ran
+  where
+    go : (o : Option Listing) → last_listing history ≡ o → RanSo history o t.unclosed t.taken t.held t.removed
+        → (l : Listing) × (last_listing history ≡ Some l)
+    go None e ran = absurd ran
+    go (Some l) e ran = (l, e)
+
+pub reports_are_true : ReportsAreTrue
+reports_are_true stamped history step legal job text call is words number of answer =
+    let rule : JobRule stamped history (deed step.act) = subst (λ role. RoleMay stamped role history step) job legal.1.rule in
+    let says : ReportIsTrue history text = (subst (JobRule stamped history) call rule).1 in
+    let t = report_true history text is says in
+    let l = last_of history text t in
+    let ran : IsArchiveRun history l.0 t.unclosed t.taken t.held t.removed =
+    subst (λ o. RanSo history o t.unclosed t.taken t.held t.removed) l.1 t.ran in
+    record {
+      listing = l.0;
+      last = l.1;
+      taken = t.taken;
+      held = t.held;
+      removed = t.removed;
+      is = t.is ∙ ap (λ n. report n t.taken t.held t.removed) ran.unclosed_is;
+      ran = subst (λ n. IsArchiveRun history l.0 n t.taken t.held t.removed) ran.unclosed_is ran;
+      complete = reported stamped history step legal job text call is words number of answer l.0 l.1;
     }

@@ -1,6 +1,6 @@
 -- The segments that a book names stay as they are, and the archive only grows.
 use Rattle.std.proofs.Common.{◌≡◌, ◌⊎◌, inl, inr, ℕ, zero, suc, ◌<◌, ◌≤◌, Bool, true, false, List, [], ◌∷◌, ◌++◌, length, map, Option, Some, None, option_map, ap, sym, subst, ◌∙◌, if◌then◌else◌, refl, true≢false, arith, append_assoc, append-nil, length-append, nat_eq}
-use Rattle.std.specs.Prelude.{IsTrue, IsFalse, Contains, slice_index_or, flat_map, unwrap_or, nat_lt}
+use Rattle.std.specs.Prelude.{IsTrue, IsFalse, Contains, Any, slice_index_or, flat_map, unwrap_or, nat_lt}
 use Rattle.std.specs.List.{list_all, list_any}
 use Rattle.std.proofs.lemmas.Bool.{and_parts, and_from, or_parts, or_right}
 use Rattle.std.proofs.lemmas.List.{map-append}
@@ -16,7 +16,7 @@ use Rattle.chk_site.specs.Files.{File, Files, Grown, made, grown, secured, short
 use Rattle.chk_site.specs.Acts.{Deed, Starts, ReadsLog, AsksNewest, GrowsLog, Creates, Appends, Syncs, Renames, Removes, Cuts, AsksSize, Reads, Lists, AsksClock, Pauses, Sends, Gets, Takes, TakesMore, Answers, Says, deed, change_of, is_done, tail_of}
 use Rattle.chk_site.specs.Effect.{in_work, TailFits}
 use Rattle.chk_site.specs.History.{Step, History, files_after}
-use Rattle.chk_chunk.specs.Keys.{Stream, Chunk, chunk_end}
+use Rattle.chk_chunk.specs.Keys.{Stream, Chunk, chunk_end, same_data}
 use Rattle.chk_world.specs.Names.{Folder, ArchiveFolder, DemuxFolder, JoinedFolder, Name, BookFile, SegmentFile, Temporary, read, spell, file, is_known, owns, owns_by}
 use Rattle.chk_world.specs.Books.{Segment, Book, Version, is_segment, segments_rise, is_end, ends_rise, is_aside, fits_version, is_book, read_book, empty_book, book_in, book_of, segment_chunks, chunks_in, chunks_named, chunks_of_stream, values, aside_in}
 use Rattle.chk_world.specs.Committed.{OnFile, HasFile, IsWhole, archive_of_stream, archived_end, aside_chunks}
@@ -24,7 +24,8 @@ use Rattle.chk_world.specs.Jobs.{segment_list, all_segments, IsSource, AreParts,
 use Rattle.chk_world.specs.Rules.{Framed, Legal, RoleMay, may_remove}
 use Rattle.chk_world.specs.Laws.{IsWholeBook, ArchiveGrows}
 use Rattle.chk_world.specs.Streams.{Founding, founding, or_else, start_at, start_of}
-use Rattle.chk_world.proofs.NameTests.{same_name, name_same, named, named_test, applied, moved_named, bridge}
+use Rattle.chk_world.proofs.Ends.{bytes_self}
+use Rattle.chk_world.proofs.NameTests.{nat_self, same_name, name_same, named, named_test, applied, moved_named, bridge}
 use Rattle.chk_world.proofs.Outcomes.{CameTo, whole, nothing, junk, Leaves, went_on, was_stopped, leaves}
 use Rattle.chk_world.proofs.Kept.{no_tail_fits, on_file}
 use Rattle.chk_world.proofs.SpelledLemmas.{book_so}
@@ -48,20 +49,20 @@ any_in p xs x c h = go xs c.0 c.1 c.2
     go (y ∷ ys) zero below at = rw (ap p at ∙ h) refl
     go (y ∷ ys) (suc k) below at = or_right (p y) (list_any p ys) (go ys k (omega arith) at)
 
-none_in : {X : Type 0} (x : X) → Contains [] x → ⊥
+pub none_in : {X : Type 0} (x : X) → Contains [] x → ⊥
 none_in x c = let below = c.1 in omega arith
 
-flat_same : {X A : Type 0} (f g : X → List A) (xs : List X) → ((x : X) → Contains xs x → f x ≡ g x) → flat_map f xs ≡ flat_map g xs
+pub flat_same : {X A : Type 0} (f g : X → List A) (xs : List X) → ((x : X) → Contains xs x → f x ≡ g x) → flat_map f xs ≡ flat_map g xs
 flat_same f g [] same = refl
 flat_same f g (x ∷ xs) same =
     ap (λ l. l ++ flat_map f xs) (same x (0, omega arith, refl))
     ∙ ap (λ l. g x ++ l) (flat_same f g xs (λ y c. same y (suc c.0, omega (arith, c.1), c.2)))
 
-joined_append : (xs ys : List (List ℕ)) → joined (xs ++ ys) ≡ joined xs ++ joined ys
+pub joined_append : (xs ys : List (List ℕ)) → joined (xs ++ ys) ≡ joined xs ++ joined ys
 joined_append [] ys = refl
 joined_append (x ∷ xs) ys = ap (λ l. x ++ l) (joined_append xs ys) ∙ sym (append_assoc x (joined xs) (joined ys))
 
-values_append : (cs ds : List Chunk) → values (cs ++ ds) ≡ values cs ++ values ds
+pub values_append : (cs ds : List Chunk) → values (cs ++ ds) ≡ values cs ++ values ds
 values_append cs ds = ap joined (map-append (λ (c : Chunk). c.value) cs ds) ∙ joined_append (map (λ (c : Chunk). c.value) cs) (map (λ (c : Chunk). c.value) ds)
 
 -- ---- the segments of a book have numbers that can be spelled
@@ -88,10 +89,10 @@ segment_counts b bytes g is c =
     (and_parts (is_count g.number) _ (all_in (is_segment b.next) (all_segments b) g (all_segments_are so.0 b so.1) c)).0
 
 -- of the book that stands in a file
-book_is : (o : Option File) (f : File) (b : Book) → o ≡ Some f → read_book f.bytes ≡ Some b → book_in o ≡ b
+pub book_is : (o : Option File) (f : File) (b : Book) → o ≡ Some f → read_book f.bytes ≡ Some b → book_in o ≡ b
 book_is o f b e is = ap book_in e ∙ ap (λ r. unwrap_or r empty_book) is
 
-counts_in : (o : Option File) → OnFile o IsWholeBook → (g : Segment) → Contains (all_segments (book_in o)) g → IsTrue (is_count g.number)
+pub counts_in : (o : Option File) → OnFile o IsWholeBook → (g : Segment) → Contains (all_segments (book_in o)) g → IsTrue (is_count g.number)
 counts_in None w g c = absurd (none_in g c)
 counts_in (Some f) w g c =
     segment_counts w.book f.bytes g w.is (subst (λ (b : Book). Contains (all_segments b) g) (book_is (Some f) f w.book refl w.is) c)
@@ -279,7 +280,7 @@ module _ (stamped : List (List ℕ)) (folder : Folder) (history : History) (step
       let e = legal.1.honest.modelled.effect in
       leaves (deed step.act) step.act.answer (files_after history) step.files e.did e.may e.files_left
 
-  segment_stays : NamedAreSound folder (files_after history) → (g : Segment) → Contains (all_segments (book_of (files_after history) folder)) g
+  pub segment_stays : NamedAreSound folder (files_after history) → (g : Segment) → Contains (all_segments (book_of (files_after history) folder)) g
       → file step.files (SegmentFile folder g.number) ≡ file (files_after history) (SegmentFile folder g.number)
   segment_stays sound g c =
       let n = SegmentFile folder g.number in
@@ -293,7 +294,7 @@ module _ (stamped : List (List ℕ)) (folder : Folder) (history : History) (step
       (sound_whole folder g (file (files_after history) n) (sound g c))
 
   -- the segments of a new book
-  new_stays : (p : NewlyPublished stamped folder history step (file step.files (BookFile folder))) → BookNamesSyncedSegments folder history p.book
+  pub new_stays : (p : NewlyPublished stamped folder history step (file step.files (BookFile folder))) → BookNamesSyncedSegments folder history p.book
       → (g : Segment) → Contains (all_segments p.book) g
       → file step.files (SegmentFile folder g.number) ≡ file (files_after history) (SegmentFile folder g.number)
   new_stays p names g c =
@@ -302,7 +303,7 @@ module _ (stamped : List (List ℕ)) (folder : Folder) (history : History) (step
       (subst (Avoids n) (sym p.call) (rw p.from refl, rw p.to refl))
       (sound_whole folder g (file (files_after history) n) (names.sound g c))
 
-names_segments : (stamped : List (List ℕ)) (folder : Folder) (history : History) (b : Book) → NewBook stamped folder history b
+pub names_segments : (stamped : List (List ℕ)) (folder : Folder) (history : History) (b : Book) → NewBook stamped folder history b
     → BookNamesSyncedSegments folder history b
 names_segments stamped ArchiveFolder history b n = n.0
 names_segments stamped DemuxFolder history b n = n.0
@@ -328,7 +329,7 @@ named_sound stamped (step ∷ history) legal folder g c =
 -- ---- the archive
 
 -- what is stored under a book is the same in files that agree on its segments
-chunks_same : (files others : Files) (folder : Folder) (b : Book)
+pub chunks_same : (files others : Files) (folder : Folder) (b : Book)
     → ((g : Segment) → Contains (all_segments b) g → file files (SegmentFile folder g.number) ≡ file others (SegmentFile folder g.number))
     → chunks_named files folder b ≡ chunks_named others folder b
 chunks_same files others folder b same =
@@ -392,15 +393,19 @@ archives_grow stamped history step legal s =
 
 -- ---- what is set aside
 
-aside_same : (files others : Files) (folder : Folder) (o : Option Segment)
+pub aside_same : (files others : Files) (folder : Folder) (o : Option Segment)
     → ((g : Segment) → Contains (segment_list o) g → file files (SegmentFile folder g.number) ≡ file others (SegmentFile folder g.number))
     → aside_in files folder o ≡ aside_in others folder o
 aside_same files others folder None same = refl
 aside_same files others folder (Some g) same = ap chunks_in (same g (0, omega arith, refl))
 
--- a chunk that is set aside stays so, or is archived
+pub data_self : (c : Chunk) → same_data c c ≡ true
+data_self c = let s = c.key.stream in rw (bytes_self s.source, bytes_self s.kind, bytes_self s.name, nat_self c.key.seq, bytes_self c.value) refl
+
+-- a chunk that is set aside stays so, or one that is equal in stream, sequence id and data, or it is archived
 pub aside_stays : (stamped : List (List ℕ)) (history : History) (step : Step) → Legal stamped (step ∷ history) → (c : Chunk)
-    → Contains (aside_chunks (files_after history)) c → Contains (aside_chunks step.files) c ⊎ (chunk_end c ≤ archived_end (step ∷ history) c.key.stream)
+    → Contains (aside_chunks (files_after history)) c
+    → Any (λ d. IsTrue (same_data c d)) (aside_chunks step.files) ⊎ (chunk_end c ≤ archived_end (step ∷ history) c.key.stream)
 aside_stays stamped history step legal c one = go (book_after stamped ArchiveFolder history step legal).outcome
   where
     before : NamedAreSound ArchiveFolder (files_after history)
@@ -408,14 +413,14 @@ aside_stays stamped history step legal c one = go (book_after stamped ArchiveFol
 
     go : (file step.files (BookFile ArchiveFolder) ≡ file (files_after history) (BookFile ArchiveFolder))
         ⊎ NewlyPublished stamped ArchiveFolder history step (file step.files (BookFile ArchiveFolder))
-        → Contains (aside_chunks step.files) c ⊎ (chunk_end c ≤ archived_end (step ∷ history) c.key.stream)
+        → Any (λ d. IsTrue (same_data c d)) (aside_chunks step.files) ⊎ (chunk_end c ≤ archived_end (step ∷ history) c.key.stream)
     go (inl same) =
         let b = book_of (files_after history) ArchiveFolder in
         let is : aside_chunks step.files ≡ aside_chunks (files_after history) =
         ap (λ o. aside_in step.files ArchiveFolder (book_in o).aside) same
         ∙ aside_same step.files (files_after history) ArchiveFolder b.aside
         (λ g k. segment_stays stamped ArchiveFolder history step legal before g (Contains-append_right b.segments (segment_list b.aside) g k)) in
-        inl (subst (λ cs. Contains cs c) (sym is) one)
+        inl (subst (Any (λ d. IsTrue (same_data c d))) (sym is) (one.0, c, one.1, one.2, data_self c))
     go (inr p) =
         let named = book_is (file step.files (BookFile ArchiveFolder)) p.f p.book p.there p.is in
         let stays : (g : Segment) → Contains (all_segments p.book) g → _ = λ g k. new_stays stamped ArchiveFolder history step legal p p.good.0 g k in
@@ -430,7 +435,7 @@ aside_stays stamped history step legal c one = go (book_after stamped ArchiveFol
               ap (λ (b : Book). aside_in step.files ArchiveFolder b.aside) named
               ∙ aside_same step.files (files_after history) ArchiveFolder p.book.aside
               (λ g k. stays g (Contains-append_right p.book.segments (segment_list p.book.aside) g k)) in
-              inl (subst (λ cs. Contains cs c) (sym is) kept)
+              inl (subst (Any (λ d. IsTrue (same_data c d))) (sym is) kept)
           | inr ends ↦
               let size = ap length stored in
               inr (omega (arith, ends, start, size))

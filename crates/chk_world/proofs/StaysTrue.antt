@@ -65,7 +65,7 @@ within_log log value at is some =
     let size : length value ≡ length (take (length value) (drop at log)) = ap length is in
     omega (arith, size, some, length-take (length value) (drop at log), length-drop at log)
 
-same_in_longer : (log more value : List ℕ) (at : ℕ) → value ≡ take (length value) (drop at log) → 0 < length value
+pub same_in_longer : (log more value : List ℕ) (at : ℕ) → value ≡ take (length value) (drop at log) → 0 < length value
     → value ≡ take (length value) (drop at (log ++ more))
 same_in_longer log more value at is some =
     let room = within_log log value at is some in

@@ -9,7 +9,7 @@ use Rattle.chk_site.specs.declared.lists.Left.{Left}
 use Rattle.chk_site.specs.Files.{File, Files}
 use Rattle.chk_site.specs.Acts.{Deed, Appends, tail_of}
 use Rattle.chk_site.specs.Effect.{in_work, with_tail, TailFits}
-use Rattle.chk_world.specs.Names.{Name, BornFile, SinkFile, MarkFile, DoneFile, read, spell, file, is_known, owns, stop_names}
+use Rattle.chk_world.specs.Names.{Name, BornFile, SinkFile, MarkFile, DoneFile, read, spell, file, is_known, owns, owns_open, stop_names}
 use Rattle.chk_world.specs.Rules.{Framed, is_fixed}
 use Rattle.chk_world.proofs.NameTests.{same_name, name_same, named_test}
 use Rattle.chk_world.proofs.Kept.{tail_on_sink, no_tail_fits, marks_whole, shut_whole, absent_map, on_file}
@@ -74,20 +74,32 @@ stopped x known wr who files call left middle after framed tails inv =
     (subst (λ k. TailFits k (tail_of left (spell d)) (file middle d)) (no_work who files call d known.stem refl framed) (tails (spell d)).1)
     (subst (λ k. TailFits k (tail_of left (spell b)) (file middle b)) (no_work who files call b known.collector refl framed) (tails (spell b)).1) inv)
 
--- a stop that names none of a process's files leaves no tail of one
-pub no_tail : (who : Who) (left : List Left) (n : Name) → IsTrue (is_known n) → owns who n ≡ true → stop_names who left ≡ false → tail_of left (spell n) ≡ None
+-- a stop that names none of a process's files leaves no tail of one that is no done sink
+pub no_tail : (who : Who) (left : List Left) (n : Name) → IsTrue (is_known n) → owns_open who n ≡ true → stop_names who left ≡ false → tail_of left (spell n) ≡ None
 no_tail who [] n known mine none = refl
-no_tail who (l ∷ left) n known mine none = go (no_tail who left n known mine) (owns who (read l.name)) refl none
+no_tail who (l ∷ left) n known mine none = go (no_tail who left n known mine) (owns_open who (read l.name)) refl none
   where
-    here : owns who (read l.name) ≡ false → (b : Bool) → bytes_eq (spell n) l.name ≡ b → (if b then Some l.tail else tail_of left (spell n)) ≡ tail_of left (spell n)
+    here : owns_open who (read l.name) ≡ false → (b : Bool) → bytes_eq (spell n) l.name ≡ b → (if b then Some l.tail else tail_of left (spell n)) ≡ tail_of left (spell n)
     here other false e = refl
     here other true e =
-        absurd (true≢false (sym mine ∙ (ap (owns who) (name_same n (read l.name) (sym (named_test n known l.name) ∙ e)) ∙ other)))
+        absurd (true≢false (sym mine ∙ (ap (owns_open who) (name_same n (read l.name) (sym (named_test n known l.name) ∙ e)) ∙ other)))
 
-    go : (stop_names who left ≡ false → tail_of left (spell n) ≡ None) → (b : Bool) → owns who (read l.name) ≡ b → (b || stop_names who left) ≡ false
+    go : (stop_names who left ≡ false → tail_of left (spell n) ≡ None) → (b : Bool) → owns_open who (read l.name) ≡ b → (b || stop_names who left) ≡ false
         → tail_of (l ∷ left) (spell n) ≡ None
     go rest true e k = absurd (true≢false k)
     go rest false e k = here e (bytes_eq (spell n) l.name) refl ∙ rest k
+
+-- and it can't leave one of a done sink
+pub done_untailed : (x : Stem) (known : Known x) (s : Seen) (who : Who) (files : Files) (call : Deed) (left : List Left) (middle after : Files)
+    → Framed who files call
+    → ((w : List ℕ) → (after w ≡ option_map (with_tail (tail_of left w)) (middle w)) × TailFits (in_work call w) (tail_of left w) (middle w))
+    → InvAt x s (λ n. file middle n) → file after (DoneFile x) ≡ file middle (DoneFile x)
+done_untailed x known s who files call left middle after framed tails inv =
+    let d = DoneFile x in
+    (tails (spell d)).0
+    ∙ no_tail_fits (file middle d) (tail_of left (spell d))
+    (shut_whole s.wrote (file middle (SinkFile x)) (file middle (MarkFile x)) (file middle d) inv.files)
+    (subst (λ k. TailFits k (tail_of left (spell d)) (file middle d)) (no_work who files call d known.stem refl framed) (tails (spell d)).1)
 
 pub untailed : (o : Option File) (tail : Option (List ℕ)) → tail ≡ None → option_map (with_tail tail) o ≡ o
 untailed None tail none = refl

@@ -15,7 +15,7 @@ use Rattle.chk_site.specs.Messages.{Message, Taken, message, message_in, taken, 
 use Rattle.chk_site.specs.Honest.{Agrees, AtMore, IsFrontOf, TakenPrefix}
 use Rattle.chk_chunk.specs.Keys.{Stream, Chunk}
 use Rattle.chk_message.specs.Messages.{PostRequest, IsPostOf, WrittenPost, WrittenPoll}
-use Rattle.chk_message.proofs.Accepted.{request_in_front}
+use Rattle.chk_message.proofs.Accepted.{PostRequest-append}
 use Rattle.chk_message.proofs.Fronts.{front_of_post_chunks, front_of_poll_is_no_post}
 use Rattle.chk_world.specs.Names.{is_source, stop_names}
 use Rattle.chk_world.specs.Checkpoints.{Line, line_of}
@@ -86,16 +86,17 @@ send_true : (stamped : List (List ℕ)) (history : History) (step : Step) → Le
 send_true stamped history step legal k address bytes is =
     go step.act.who.role refl (subst (OnlyAgentsRequest step.act.who.role) is legal.1.requests)
   where
-    none : ((front : List ℕ) → BeginsWith bytes front → (body : List ℕ) → PostRequest body front → ⊥) → FrontsTrue (step ∷ history) bytes
-    none never front begins chunks post c one = absurd (never front begins post.0 post.1)
+    none : ¬ ((chunks : List Chunk) × IsPostOf chunks bytes) → FrontsTrue (step ∷ history) bytes
+    none never front begins chunks post c one =
+        absurd (never (chunks, (post.0, subst (PostRequest post.0) (sym begins.1) (PostRequest-append post.0 front begins.0 post.1), post.2)))
 
     go : (role : Role) → step.act.who.role ≡ role → OnlyAgentsRequest role (Sends k address bytes) → FrontsTrue (step ∷ history) bytes
     go Agent r never =
         agent_sends stamped history step legal k address bytes r (subst (λ role. IsTrue (is_named_so role step.act.who.name)) r legal.1.named) is
         (subst (AgentRule step.act.who history step) is (subst (λ role. RoleMay stamped role history step) r legal.1.rule))
-    go Collector r never = none (λ front begins body post. never (request_in_front bytes front begins (inl (body, post))))
-    go Job r never = none (λ front begins body post. never (request_in_front bytes front begins (inl (body, post))))
-    go Writer r never = none (λ front begins body post. never (request_in_front bytes front begins (inl (body, post))))
+    go Collector r never = none never
+    go Job r never = none never
+    go Writer r never = none never
 
 -- of a message that was sent
 pub sent_true : (stamped : List (List ℕ)) (history : History) → Legal stamped history → (n : ℕ) (m : Message) → message history n ≡ Some m

@@ -1,13 +1,14 @@
 -- What a call of a process's own leads to, where the told history is legal and a fact holds.
 use Rattle.std.proofs.Common.{◌≡◌, ℕ, Bool, true, false, List, [], ◌∷◌, ◌++◌, Ok, Err, Option, Result, sym, subst, ◌∙◌, refl, true≢false}
-use Rattle.std.specs.Prelude.{IsTrue, Some, None}
+use Rattle.std.specs.Prelude.{IsTrue, MatchBool, Some, None}
 use Rattle.std.proofs.lemmas.Bool.{and_right}
 use Rattle.std.proofs.lemmas.List.{append_cancel_right}
 use Rattle.std.proofs.lemmas.Option.{same_Some, none-some}
 use Rattle.chk_site.specs.declared.acts.Role.{Role}
 use Rattle.chk_site.specs.declared.acts.Role.TheVariants.{Agent, Collector, Job, Writer}
 use Rattle.chk_site.specs.declared.acts.Who.{Who}
-use Rattle.chk_site.specs.declared.acts.Call.TheVariants.{Start}
+use Rattle.chk_site.specs.declared.acts.Call.{Call}
+use Rattle.chk_site.specs.declared.acts.Call.TheVariants.{Start, Send, Take, More, Answer}
 use Rattle.chk_site.specs.declared.acts.CallFault.{CallFault}
 use Rattle.chk_site.specs.declared.acts.CallFault.TheVariants.{Failed, Exists}
 use Rattle.chk_site.specs.declared.acts.OutsideFault.{OutsideFault}
@@ -17,15 +18,15 @@ use Rattle.chk_site.specs.declared.acts.ActAnswer.TheVariants.{Done, Refused, St
 use Rattle.chk_site.specs.declared.lists.Left.{Left}
 use Rattle.chk_site.specs.Files.{Files}
 use Rattle.chk_site.specs.Logs.{Logs}
-use Rattle.chk_site.specs.Acts.{Deed, Starts, deed, is_done, same_role, same_who}
+use Rattle.chk_site.specs.Acts.{Deed, Starts, Sends, Takes, TakesMore, Answers, deed, deed_by, is_done, same_role, same_who}
 use Rattle.chk_site.specs.History.{Step, History, files_after, is_stopped}
 use Rattle.chk_site.specs.Honest.{Honest}
 use Rattle.chk_site.specs.Site.{Adds, Asked, asked, own_step, answered, plain, Calls, CallsSome, IsDone, Ends, WasDone, IsTaken, Took}
-use Rattle.chk_site.specs.Runs.{Leads}
+use Rattle.chk_site.specs.Runs.{Side, Leads}
 use Rattle.chk_site.proofs.Runs.{adds_as}
-use Rattle.chk_site.proofs.Leads.{Keeps, Shows, done_leads, ok_leads, exists_leads, taken_leads, ends_leads}
+use Rattle.chk_site.proofs.Leads.{Keeps, Owned, Shows, done_leads, ok_leads, exists_leads, taken_leads, ends_leads}
 use Rattle.chk_world.specs.Rules.{Framed, OnlyWritersGrowLogs, OnlyAgentsRequest, StartsAfterStop, RoleMay, Obeys, Legal, is_named_so, must_start, starts_anew, stopped_by}
-use Rattle.chk_world.specs.Places.{Foreign, AtTold}
+use Rattle.chk_world.specs.Places.{Foreign, As, Making, IsBy, IsMadeBy, AtTold, is_message}
 use Rattle.chk_world.proofs.Ends.{bytes_self}
 use Rattle.chk_world.proofs.Outcomes.{CameTo, Leaves, went_on, was_stopped}
 use Rattle.chk_world.proofs.PlacesStay.{Stays, told_stays}
@@ -72,16 +73,31 @@ role_self Writer = refl
 pub who_self : (who : Who) → same_who who who ≡ true
 who_self who = rw (role_self who.role, bytes_self who.name) refl
 
-starts_fine : (who : Who) (history : History) (call : Deed) → must_start who history ≡ false → StartsAfterStop who history call
+pub starts_fine : (who : Who) (history : History) (call : Deed) → must_start who history ≡ false → StartsAfterStop who history call
 starts_fine who history Starts e = tt
 starts_fine who history call e = and_right (starts_anew who.role) (must_start who history) e
 
-acts_on : (who : Who) (own : Bool) (answer : ActAnswer) (earlier : Bool) → own ≡ true → GoesOn answer → stopped_by who own answer earlier ≡ false
+pub acts_on : (who : Who) (own : Bool) (answer : ActAnswer) (earlier : Bool) → own ≡ true → GoesOn answer → stopped_by who own answer earlier ≡ false
 acts_on who own (Done words number of) earlier mine goes = rw mine refl
 acts_on who own (Refused fault) earlier mine goes = rw mine refl
 acts_on who own (Stopped left) earlier mine goes = absurd goes
 acts_on who own (Rotated suffix) earlier mine goes = rw mine refl
 acts_on who own (Deleted suffix) earlier mine goes = rw mine refl
+
+-- the call sends, takes or answers a message
+abbrev pub talks : Deed → Bool
+talks (Sends m address bytes) = true
+talks (Takes door wait) = true
+talks (TakesMore t) = true
+talks (Answers t bytes) = true
+talks call = false
+
+pub talks_by : (call : Call) (words : List (List ℕ)) (number max : ℕ) → is_message call ≡ talks (deed_by call words number max)
+talks_by Send words number max = refl
+talks_by Take words number max = refl
+talks_by More words number max = refl
+talks_by Answer words number max = refl
+talks_by call words number max = refl
 
 module _ (stamped : List (List ℕ)) (q : Asked) (named : IsTrue (is_named_so q.who.role q.who.name)) where
   -- the rules allow the call wherever B holds
@@ -117,6 +133,14 @@ module _ (stamped : List (List ℕ)) (q : Asked) (named : IsTrue (is_named_so q.
     requests = may.requests;
     rule = may.rule;
   }
+
+  pub owned : Owned (Making stamped q.who q.call).own q
+  owned before answer files logs running = go (is_message q.call) refl
+    where
+      go : (b : Bool) → is_message q.call ≡ b
+          → MatchBool b (IsMadeBy q.who before (own_step q answer files logs)) (IsBy q.who before (own_step q answer files logs))
+      go true e = record { by = refl; running = running }
+      go false e = record { by = refl; running = running; quiet = e }
 
   pub told_keeps : (B : History → Type 0) → Stays stamped q.who B → Keeps (Foreign stamped q.who) (Told B)
   told_keeps B stays before step theirs f h = told_stays stamped q.who B stays before step theirs.0 f h
@@ -166,47 +190,47 @@ module _ (stamped : List (List ℕ)) (q : Asked) (named : IsTrue (is_named_so q.
   -- a call that was done, or refused for the state of the files
   pub honest_done : (B C : History → Type 0) {V : Type 0} (given : Result V CallFault) {old new : Option History} → Stays stamped q.who B
       → MayHonestly B → LeavesCall B WasDone C → IsDone given → Adds old new (Calls q (answered plain given))
-      → Adds old new (Leads (Foreign stamped q.who) (Told B) (Told C))
+      → Adds old new (Leads (Making stamped q.who q.call) (Told B) (Told C))
   honest_done B C given stays may left is told =
-      done_leads given is (told_keeps B stays)
+      done_leads given owned is (told_keeps B stays)
       (λ answer was. honest_shows B C WasDone answer (goes_on_done answer was) was may left) told
 
   pub told_done : (B C : History → Type 0) {V : Type 0} (given : Result V CallFault) {old new : Option History} → Stays stamped q.who B → MayCall B
       → LeavesCall B WasDone C → IsDone given → Adds old new (Calls q (answered plain given))
-      → Adds old new (Leads (Foreign stamped q.who) (Told B) (Told C))
+      → Adds old new (Leads (Making stamped q.who q.call) (Told B) (Told C))
   told_done B C given stays may left is told = honest_done B C given stays (honestly B may) left is told
 
   -- a call that gave something, or was refused for the state of the files
   pub told_taken : (B C : History → Type 0) {V : Type 0} (how : V → ActAnswer) (given : Result V CallFault) (taken : Option V)
       {old new : Option History} → Stays stamped q.who B → MayCall B → ((value : V) → GoesOn (how value))
       → LeavesCall B (Took how taken) C → IsTaken given taken → Adds old new (Calls q (answered how given))
-      → Adds old new (Leads (Foreign stamped q.who) (Told B) (Told C))
+      → Adds old new (Leads (Making stamped q.who q.call) (Told B) (Told C))
   told_taken B C how given taken stays may goes left is told =
-      taken_leads how given taken is (told_keeps B stays)
+      taken_leads how given taken owned is (told_keeps B stays)
       (λ answer took. told_shows B C (Took how taken) answer (goes_on_taken how taken answer goes took) took may left) told
 
   -- a call that gave just this
   pub told_ok : (B C : History → Type 0) (answer : ActAnswer) {old new : Option History} → Stays stamped q.who B → MayCall B → GoesOn answer
       → LeavesCall B (λ a. a ≡ answer) C → Adds old new (Calls q (Ok answer))
-      → Adds old new (Leads (Foreign stamped q.who) (Told B) (Told C))
+      → Adds old new (Leads (Making stamped q.who q.call) (Told B) (Told C))
   told_ok B C answer stays may goes left told =
-      ok_leads answer (told_keeps B stays) (told_shows B C (λ a. a ≡ answer) answer goes refl may left) told
+      ok_leads answer owned (told_keeps B stays) (told_shows B C (λ a. a ≡ answer) answer goes refl may left) told
 
   -- the creation of a file that is there
   pub told_exists : (B C : History → Type 0) {old new : Option History} → Stays stamped q.who B → MayCall B
       → LeavesCall B (λ a. a ≡ Refused Exists) C → Adds old new (Calls q (Err Exists))
-      → Adds old new (Leads (Foreign stamped q.who) (Told B) (Told C))
+      → Adds old new (Leads (Making stamped q.who q.call) (Told B) (Told C))
   told_exists B C stays may left told =
-      exists_leads (told_keeps B stays) (told_shows B C (λ a. a ≡ Refused Exists) (Refused Exists) tt refl may left) told
+      exists_leads owned (told_keeps B stays) (told_shows B C (λ a. a ≡ Refused Exists) (Refused Exists) tt refl may left) told
 
   -- a call that ended the work: it failed, the site was stopped, or there was no memory
   pub honest_ends : (B : History → Type 0) (C : OutsideFault → History → Type 0) {V : Type 0} (how : V → ActAnswer) (given : Result V CallFault)
       (fault : OutsideFault) {old new : Option History} → Stays stamped q.who B → MayHonestly B
       → LeavesCall B (λ a. a ≡ Refused Failed) (C (Outside q.call)) → ((history : History) → B history → C no_memory history)
       → Ends q.call given fault → Adds old new (Calls q (answered how given))
-      → Adds old new (Leads (Foreign stamped q.who) (Told B) (Told (C fault)))
+      → Adds old new (Leads (Making stamped q.who q.call) (Told B) (Told (C fault)))
   honest_ends B C how given fault stays may left less ends told =
-      ends_leads (λ f h. Told (C f) h) how given fault ends (told_keeps B stays)
+      ends_leads (λ f h. Told (C f) h) how given fault owned ends (told_keeps B stays)
       (honest_shows B (C (Outside q.call)) (λ a. a ≡ Refused Failed) (Refused Failed) tt refl may left)
       (λ stopped. told_stopped B (C (Outside q.call)) stopped may)
       (told_after_stop B (C (Outside q.call)))
@@ -216,12 +240,12 @@ module _ (stamped : List (List ℕ)) (q : Asked) (named : IsTrue (is_named_so q.
       (fault : OutsideFault) {old new : Option History} → Stays stamped q.who B → MayCall B
       → LeavesCall B (λ a. a ≡ Refused Failed) (C (Outside q.call)) → ((history : History) → B history → C no_memory history)
       → Ends q.call given fault → Adds old new (Calls q (answered how given))
-      → Adds old new (Leads (Foreign stamped q.who) (Told B) (Told (C fault)))
+      → Adds old new (Leads (Making stamped q.who q.call) (Told B) (Told (C fault)))
   told_ends B C how given fault stays may left less ends told = honest_ends B C how given fault stays (honestly B may) left less ends told
 
 -- ---- the start
 
-calls_start : (stamped : List (List ℕ)) (role : Role) (history : History) (step : Step) → step.act.who.role ≡ role → deed step.act ≡ Starts
+pub calls_start : (stamped : List (List ℕ)) (role : Role) (history : History) (step : Step) → step.act.who.role ≡ role → deed step.act ≡ Starts
     → Allowed stamped history step
 calls_start stamped role history step is call = record {
   own_files = subst (Framed step.act.who (files_after history)) (sym call) tt;
@@ -249,9 +273,9 @@ pub told_start : (stamped : List (List ℕ)) (who : Who) (C : History → Type 0
     → ((before : History) (answer : ActAnswer) (files : Files) (logs : Logs) → WasDone answer
     → Legal stamped (own_step (asked who Start [] 0 0) answer files logs ∷ before) → C (own_step (asked who Start [] 0 0) answer files logs ∷ before))
     → IsDone given → Adds old new (Calls (asked who Start [] 0 0) (answered plain given))
-    → Adds old new (Leads (Foreign stamped who) (Legal stamped) (AtTold stamped who C))
+    → Adds old new (Leads (As stamped who) (Legal stamped) (AtTold stamped who C))
 told_start stamped who C given named left is told =
-    done_leads given is (λ before step theirs f h. (h, f.obeys))
+    done_leads given (owned stamped (asked who Start [] 0 0) named) is (λ before step theirs f h. (h, f.obeys))
     (λ answer was before files logs running honest h.
     let q = asked who Start [] 0 0 in
     let legal : Legal stamped (own_step q answer files logs ∷ before) =
@@ -265,7 +289,7 @@ told_start stamped who C given named left is told =
 -- ---- a call of which a number of the act is known only later, as that of a message
 
 -- what holds of the call with each number holds of the call
-pub told_some : {S : History → Step → Type 0} {A B : History → Type 0} (q : ℕ → Asked) (result : ℕ → Result ActAnswer CallFault)
+pub told_some : {S : Side} {A B : History → Type 0} (q : ℕ → Asked) (result : ℕ → Result ActAnswer CallFault)
     {old new : Option History}
     → ((n : ℕ) (before after : Option History) → Adds before after (Calls (q n) (result n)) → Adds before after (Leads S A B))
     → Adds old new (CallsSome q result) → Adds old new (Leads S A B)

@@ -138,7 +138,7 @@ read_again : (step : Step) → AgentRule a1 g27 step (ReadsLog path TheBase 0 13
 unfolding read spell digits is_utf8 chars encode is_word key_1 key_2 written_key guessed_key written_part read_key read_checkpoint read_book read_header read_front read_fields read_class entry_at records_of marker_of written_front class_text md5 digest_bytes hash_after compress rounds block_words written_post_request written_poll_request written_reply
 read_again step r =
     let e : line_6 ≡ r.1 = in_one line_6 r.1 (r.0, r.2, r.3) in
-    let at : IsAtOrPast TheBase 0 line_6 = subst (λ (l : Line). IsAtOrPast TheBase 0 l) (sym e) r.4.1 in
+    let at : IsAtOrPast g27 stream TheBase 0 line_6 = subst (λ (l : Line). IsAtOrPast g27 (stream_of a1.name l) TheBase 0 l) (sym e) r.4.1 in
     let z : 6 ≤ 0 + 0 = at.1 in
     omega arith
 

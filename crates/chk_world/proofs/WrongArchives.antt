@@ -1,7 +1,7 @@
 -- Books of the archive that the job's rule refuses for one part of what a book owes, each beside one that differs in it and is allowed.
 use Rattle.std.proofs.Common.{◌≡◌, ℕ, ◌≤◌, ◌<◌, ◌⊎◌, Bool, true, false, List, [], ◌∷◌, ◌++◌, length, Some, None, bytes_eq, refl, ap, sym, ◌∙◌, inl, inr, subst, arith, if◌then◌else◌}
-use Rattle.std.specs.Prelude.{codes, zero, suc, Contains, Any, IsSome, slice_index_or}
-use Rattle.std.proofs.lemmas.Option.{same_Some}
+use Rattle.std.specs.Prelude.{codes, zero, suc, Contains, Any, IsSome, slice_index_or, IsTrue}
+use Rattle.std.proofs.lemmas.Option.{same_Some, none-some}
 use Rattle.std.specs.Fmt.{digits}
 use Rattle.std.specs.Str.{is_utf8, chars}
 use lib.Utf8.{encode}
@@ -15,11 +15,13 @@ use Rattle.chk_site.specs.declared.acts.ActAnswer.TheVariants.{Done}
 use Rattle.chk_site.specs.Files.{File, Files, Moved}
 use Rattle.chk_site.specs.Acts.{Renames}
 use Rattle.chk_site.specs.History.{History, files_after}
-use Rattle.chk_chunk.specs.Keys.{Stream, Chunk, key_1, key_2, written_key, guessed_key, read_key, same_stream, chunk_end}
+use Rattle.chk_world.proofs.Segments.{data_self}
+use Rattle.chk_chunk.specs.Keys.{Stream, Chunk, key_1, key_2, written_key, guessed_key, read_key, same_stream, chunk_end, same_data}
 use Rattle.chk_chunk.specs.Posts.{written_part}
 use Rattle.chk_message.specs.Messages.{written_post_request, written_poll_request, written_reply}
 use Rattle.chk_world.specs.Names.{ArchiveFolder, BookFile, SegmentFile, Temporary, DoneFile, read, spell, file}
 use Rattle.chk_world.specs.Checkpoints.{read_checkpoint}
+use Rattle.chk_world.specs.Streams.{Founding}
 use Rattle.chk_world.specs.Books.{Segment, End, Book, Version, Two, Three, book_bytes, read_book, chunks_of_stream, chunks_named}
 use Rattle.chk_world.specs.Committed.{OnFile, IsWhole, HasFile, aside_chunks}
 use Rattle.chk_world.specs.Jobs.{IsSource, Grows, IsSoundSegment, Run, NewBook, HasStart, all_segments, aside_after, end_after, chunks_after, JobRule}
@@ -60,7 +62,7 @@ record BookBut (left_out : BookPart) (history : History) (b : Book) : Type 0 whe
   pub aside_new : but left_out NewAside ((c : Chunk) → Contains (aside_after history b) c → IsSource (files_after history) c)
   pub aside_old : but left_out OldAside
       ((c : Chunk) → Contains (aside_chunks (files_after history)) c
-      → Contains (aside_after history b) c ⊎ (chunk_end c ≤ end_after history b c.key.stream))
+      → Any (λ d. IsTrue (same_data c d)) (aside_after history b) ⊎ (chunk_end c ≤ end_after history b c.key.stream))
 
 -- the archive's next book is this one, and whole
 record Written (history : History) (b : Book) : Type 0 where
@@ -160,6 +162,13 @@ no_streams = record { next = 3; segments = segment ∷ []; ends = []; aside = No
 -- with a stream that has no bytes and another start
 abbrev empty_end : End
 empty_end = record { stream = record stream { kind = codes "Other" }; start = 5; end = 5 }
+
+-- with a stream that hasn't begun
+abbrev unbegun_end : End
+unbegun_end = record { stream = record stream { kind = codes "Third" }; start = 0; end = 0 }
+
+abbrev unbegun : Book
+unbegun = record { next = 3; segments = segment ∷ []; ends = end ∷ unbegun_end ∷ []; aside = None }
 
 abbrev other_start : Book
 other_start = record { next = 3; segments = segment ∷ []; ends = end ∷ empty_end ∷ []; aside = None }
@@ -310,7 +319,7 @@ with_stream = record {
     sound = λ g o. subst (λ (g : Segment). HasFile (file (files_after (publishing Two first_book no_others)) (SegmentFile ArchiveFolder g.number)) (IsSoundSegment ArchiveFolder g)) (in_one segment g o) first_sound;
     listed = λ c o. subst (λ (c : Chunk). Any (λ e. e.stream ≡ c.key.stream) (end ∷ [])) (in_one chunk c o) (0, end, omega arith, refl, refl);
     ends = λ e o. subst (λ (e : End). Run e.start e.start (chunks_of_stream e.stream (chunk ∷ [])) e.end) (in_one end e o) (refl, refl, refl);
-    starts = λ e o. subst (λ (e : End). HasStart ArchiveFolder (publishing Two first_book no_others) e) (in_one end e o) refl;
+    starts = λ e o. subst (λ (e : End). HasStart ArchiveFolder (publishing Two first_book no_others) e) (in_one end e o) (_, refl, refl);
     aside_new = λ c o. absurd (in_none c o);
     aside_old = λ c o. absurd (in_none c o);
   };
@@ -353,7 +362,51 @@ another_start = record {
     aside_new = λ c o. absurd (in_none c o);
     aside_old = λ c o. absurd (in_none c o);
   };
-  refused = λ r. let z : ◌≡◌ {A = ℕ} 5 0 = (owed (publishing Two other_start no_others) other_start another_start_written r).0.starts empty_end (1, omega arith, refl) in omega arith;
+  refused = λ r.
+      let h = (owed (publishing Two other_start no_others) other_start another_start_written r).0.starts empty_end (1, omega arith, refl) in
+      let z : ◌≡◌ {A = ℕ} 5 0 = h.2 ∙ sym (ap (λ (f : Founding). f.line.start) (same_Some _ h.0 h.1)) in
+      omega arith;
+}
+
+-- a book has no stream that hasn't begun
+not_begun_here : Grows (publishing Two unbegun no_others) stream (chunks_after (publishing Two unbegun no_others) unbegun stream)
+unfolding read spell digits is_utf8 chars encode is_word key_1 key_2 written_key guessed_key written_part read_key read_checkpoint read_book read_header read_front read_fields read_class entry_at records_of marker_of written_front class_text md5 digest_bytes hash_after compress rounds block_words written_post_request written_poll_request written_reply
+not_begun_here = record {
+  old = [];
+  parts = chunk ∷ [];
+  are = refl;
+  same = refl;
+  new = (record { whole = chunk; source = inl (stem, refl, (0, omega arith, refl)); of = refl; begins = omega arith; past = omega arith; key = refl; value = refl }, tt);
+}
+
+not_begun_elsewhere : (s : Stream) → same_stream s stream ≡ false → Grows (publishing Two unbegun no_others) s (chunks_after (publishing Two unbegun no_others) unbegun s)
+unfolding read spell digits is_utf8 chars encode is_word key_1 key_2 written_key guessed_key written_part read_key read_checkpoint read_book read_header read_front read_fields read_class entry_at records_of marker_of written_front class_text md5 digest_bytes hash_after compress rounds block_words written_post_request written_poll_request written_reply
+not_begun_elsewhere s e = record { old = []; parts = []; are = ap (λ b. if b then chunk ∷ [] else []) e; same = refl; new = tt }
+
+not_begun_grows : (s : Stream) (b : Bool) → same_stream s stream ≡ b → Grows (publishing Two unbegun no_others) s (chunks_after (publishing Two unbegun no_others) unbegun s)
+not_begun_grows s true e = subst (λ s. Grows (publishing Two unbegun no_others) s (chunks_after (publishing Two unbegun no_others) unbegun s)) (sym (streams_same s stream e)) not_begun_here
+not_begun_grows s false e = not_begun_elsewhere s e
+
+not_begun_written : Written (publishing Two unbegun no_others) unbegun
+unfolding read spell digits is_utf8 chars encode is_word key_1 key_2 written_key guessed_key written_part read_key read_checkpoint read_book read_header read_front read_fields read_class entry_at records_of marker_of written_front class_text md5 digest_bytes hash_after compress rounds block_words written_post_request written_poll_request written_reply
+not_begun_written = record { next = refl; whole = refl; there = refl; starts = refl }
+
+not_begun : RefusedFor ItsStarts (publishing Two unbegun no_others) unbegun
+unfolding read spell digits is_utf8 chars encode is_word key_1 key_2 written_key guessed_key written_part read_key read_checkpoint read_book read_header read_front read_fields read_class entry_at records_of marker_of written_front class_text md5 digest_bytes hash_after compress rounds block_words written_post_request written_poll_request written_reply
+not_begun = record {
+  written = not_begun_written;
+  others = record {
+    each = λ s. not_begun_grows s (same_stream s stream) refl;
+    sound = λ g o. subst (λ (g : Segment). HasFile (file (files_after (publishing Two unbegun no_others)) (SegmentFile ArchiveFolder g.number)) (IsSoundSegment ArchiveFolder g)) (in_one segment g o) first_sound;
+    listed = λ c o. subst (λ (c : Chunk). Any (λ e. e.stream ≡ c.key.stream) (end ∷ unbegun_end ∷ [])) (in_one chunk c o) (0, end, omega arith, refl, refl);
+    ends = λ e o. elim (in_two end unbegun_end e o) [ inl i ↦ subst (λ (e : End). Run e.start e.start (chunks_of_stream e.stream (chunk ∷ [])) e.end) i (refl, refl, refl) | inr i ↦ subst (λ (e : End). Run e.start e.start (chunks_of_stream e.stream (chunk ∷ [])) e.end) i refl ];
+    starts = tt;
+    aside_new = λ c o. absurd (in_none c o);
+    aside_old = λ c o. absurd (in_none c o);
+  };
+  refused = λ r.
+      let h = (owed (publishing Two unbegun no_others) unbegun not_begun_written r).0.starts unbegun_end (1, omega arith, refl) in
+      none-some h.0 h.1;
 }
 
 -- what it sets aside is of a done sink, or was set aside before
@@ -397,7 +450,7 @@ false_aside = record {
     sound = λ g o. elim (in_two segment second g o) [ inl e ↦ subst (λ (g : Segment). HasFile (file (files_after (publishing Three with_aside second_there)) (SegmentFile ArchiveFolder g.number)) (IsSoundSegment ArchiveFolder g)) e first_sound | inr e ↦ subst (λ (g : Segment). HasFile (file (files_after (publishing Three with_aside second_there)) (SegmentFile ArchiveFolder g.number)) (IsSoundSegment ArchiveFolder g)) e second_sound ];
     listed = λ c o. subst (λ (c : Chunk). Any (λ e. e.stream ≡ c.key.stream) (end ∷ [])) (in_one chunk c o) (0, end, omega arith, refl, refl);
     ends = λ e o. subst (λ (e : End). Run e.start e.start (chunks_of_stream e.stream (chunk ∷ [])) e.end) (in_one end e o) (refl, refl, refl);
-    starts = λ e o. subst (λ (e : End). HasStart ArchiveFolder (publishing Three with_aside second_there) e) (in_one end e o) refl;
+    starts = λ e o. subst (λ (e : End). HasStart ArchiveFolder (publishing Three with_aside second_there) e) (in_one end e o) (_, refl, refl);
     aside_new = tt;
     aside_old = λ c o. absurd (in_none c o);
   };
@@ -435,9 +488,9 @@ true_aside = record {
     sound = λ g o. elim (in_two segment second g o) [ inl e ↦ subst (λ (g : Segment). HasFile (file (files_after (publishing Three with_aside set_aside)) (SegmentFile ArchiveFolder g.number)) (IsSoundSegment ArchiveFolder g)) e first_sound | inr e ↦ subst (λ (g : Segment). HasFile (file (files_after (publishing Three with_aside set_aside)) (SegmentFile ArchiveFolder g.number)) (IsSoundSegment ArchiveFolder g)) e second_sound ];
     listed = λ c o. subst (λ (c : Chunk). Any (λ e. e.stream ≡ c.key.stream) (end ∷ [])) (in_one chunk c o) (0, end, omega arith, refl, refl);
     ends = λ e o. subst (λ (e : End). Run e.start e.start (chunks_of_stream e.stream (chunk ∷ [])) e.end) (in_one end e o) (refl, refl, refl);
-    starts = λ e o. subst (λ (e : End). HasStart ArchiveFolder (publishing Three with_aside set_aside) e) (in_one end e o) refl;
+    starts = λ e o. subst (λ (e : End). HasStart ArchiveFolder (publishing Three with_aside set_aside) e) (in_one end e o) (_, refl, refl);
     aside_new = λ c o. inr o;
-    aside_old = λ c o. inl o;
+    aside_old = λ c o. inl (o.0, c, o.1, o.2, data_self c);
   };
 }
 
@@ -477,9 +530,9 @@ lost_aside = record {
     sound = λ g o. subst (λ (g : Segment). HasFile (file (files_after (publishing Two first_book set_aside)) (SegmentFile ArchiveFolder g.number)) (IsSoundSegment ArchiveFolder g)) (in_one segment g o) first_sound;
     listed = λ c o. subst (λ (c : Chunk). Any (λ e. e.stream ≡ c.key.stream) (end ∷ [])) (in_one chunk c o) (0, end, omega arith, refl, refl);
     ends = λ e o. subst (λ (e : End). Run e.start e.start (chunks_of_stream e.stream (chunk ∷ [])) e.end) (in_one end e o) (refl, refl, refl);
-    starts = λ e o. subst (λ (e : End). HasStart ArchiveFolder (publishing Two first_book set_aside) e) (in_one end e o) refl;
+    starts = λ e o. subst (λ (e : End). HasStart ArchiveFolder (publishing Two first_book set_aside) e) (in_one end e o) (_, refl, refl);
     aside_new = λ c o. absurd (in_none c o);
     aside_old = tt;
   };
-  refused = λ r. elim ((owed (publishing Two first_book set_aside) first_book lost_aside_written r).1.aside_old late (0, omega arith, refl)) [ inl o ↦ in_none late o | inr h ↦ not_reached h ];
+  refused = λ r. elim ((owed (publishing Two first_book set_aside) first_book lost_aside_written r).1.aside_old late (0, omega arith, refl)) [ inl o ↦ in_none o.1 (o.0, o.2, o.3) | inr h ↦ not_reached h ];
 }

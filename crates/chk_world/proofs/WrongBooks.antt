@@ -15,29 +15,43 @@ use Rattle.chk_site.specs.declared.acts.ActAnswer.TheVariants.{Done}
 use Rattle.chk_site.specs.Files.{File, Files, Moved}
 use Rattle.chk_site.specs.Logs.{no_logs}
 use Rattle.chk_site.specs.Acts.{Renames}
-use Rattle.chk_site.specs.History.{History}
+use Rattle.chk_site.specs.History.{Step, History}
 use Rattle.chk_chunk.specs.Keys.{Stream, Chunk, key_1, key_2, written_key, guessed_key, read_key, same_stream}
 use Rattle.chk_chunk.specs.Posts.{written_part}
 use Rattle.chk_message.specs.Messages.{written_post_request, written_poll_request, written_reply}
 use Rattle.chk_world.specs.Names.{ArchiveFolder, JoinedFolder, SegmentFile, DoneFile, read, spell, file}
-use Rattle.chk_world.specs.Checkpoints.{read_checkpoint}
+use Rattle.chk_world.specs.Checkpoints.{Line, One, checkpoint_text, read_checkpoint}
 use Rattle.chk_world.specs.Books.{Segment, End, Book, AllChunks, read_book, values, chunks_of_stream, chunks_named}
 use Rattle.chk_world.specs.Committed.{HasFile, aside_chunks, archive_of_stream, archived_end}
 use Rattle.chk_world.specs.Jobs.{folder_limit, IsSource, IsPartAt, AreParts, Grows, IsSoundSegment, Run, BookNamesSyncedSegments, ArchiveGrowsByParts, HasStart, all_segments, aside_after, chunks_after, JobRule}
-use Rattle.chk_world.proofs.ExampleTexts.{job, hello, sink, done_sink, seg, seg_head, book_tmp, book_name, book_1st, book_text, segment, stream, chunk, stem, end}
+use Rattle.chk_world.proofs.ExampleTexts.{job, line, check, hello, sink, done_sink, seg, seg_head, book_tmp, book_name, book_1st, book_text, segment, stream, chunk, stem, end}
 use Rattle.chk_world.proofs.ExampleMessages.{in_one, in_none}
 use Rattle.chk_world.proofs.NameTests.{streams_same}
 use Rattle.chk_world.proofs.WrongAlone.{TheRule, ObeysBut, next_by}
 use Rattle.chk_world.proofs.WrongParts.{sink_with, source_is, never_done, Thing, NoThing, ItsSource, ItsValue, PartBut, part_with}
 
+-- a line of another kind of the same path
+abbrev other_line : Line
+other_line = record line { name = codes "adaptor_2"; kind = codes "Other" }
+
 -- a job's step after which these are the files
-abbrev pub with_files : Files → History
-with_files files = record {
+abbrev step_to : Files → Step
+step_to files = record {
   own = true;
   act = record { who = job; call = Clock; words = []; number = 0; max = 0; answer = Done [] 0 0 };
   files = files;
   logs = no_logs;
-} ∷ []
+}
+
+-- a moment at which two streams have begun
+abbrev two_begun : Files
+two_begun n =
+    let bytes = checkpoint_text One (line ∷ other_line ∷ []) in
+    if bytes_eq n check then Some (record { bytes = bytes; synced = length bytes }) else None
+
+-- a later moment at which these are the files
+abbrev pub with_files : Files → History
+with_files files = step_to files ∷ step_to two_begun ∷ []
 
 -- a segment of one record with this data
 abbrev pub segment_of : List ℕ → ℕ → File
@@ -132,7 +146,7 @@ false_names = record {
   sound = λ g o. subst (λ (g : Segment). HasFile (file (next_archive done_sink (codes "jello\n")) (SegmentFile ArchiveFolder g.number)) (IsSoundSegment ArchiveFolder g)) (in_one segment g o) sound_jello;
   listed = λ c o. subst (λ (c : Chunk). Any (λ e. e.stream ≡ c.key.stream) (end ∷ [])) (in_one (part_with (codes "jello\n")) c o) (0, end, omega arith, refl, refl);
   ends = λ e o. subst (λ (e : End). Run e.start e.start (chunks_of_stream e.stream ((part_with (codes "jello\n")) ∷ [])) e.end) (in_one end e o) (refl, refl, refl);
-  starts = λ e o. subst (λ (e : End). HasStart ArchiveFolder (with_files (next_archive done_sink (codes "jello\n"))) e) (in_one end e o) refl;
+  starts = λ e o. subst (λ (e : End). HasStart ArchiveFolder (with_files (next_archive done_sink (codes "jello\n"))) e) (in_one end e o) (_, refl, refl);
 }
 
 false_elsewhere : (s : Stream) → same_stream s stream ≡ false → Grows (with_files (next_archive done_sink (codes "jello\n"))) s (chunks_after (with_files (next_archive done_sink (codes "jello\n"))) book_1st s)
@@ -145,7 +159,7 @@ true_names = record {
   sound = λ g o. subst (λ (g : Segment). HasFile (file (next_archive done_sink hello) (SegmentFile ArchiveFolder g.number)) (IsSoundSegment ArchiveFolder g)) (in_one segment g o) sound_hello;
   listed = λ c o. subst (λ (c : Chunk). Any (λ e. e.stream ≡ c.key.stream) (end ∷ [])) (in_one (part_with hello) c o) (0, end, omega arith, refl, refl);
   ends = λ e o. subst (λ (e : End). Run e.start e.start (chunks_of_stream e.stream ((part_with hello) ∷ [])) e.end) (in_one end e o) (refl, refl, refl);
-  starts = λ e o. subst (λ (e : End). HasStart ArchiveFolder (with_files (next_archive done_sink hello)) e) (in_one end e o) refl;
+  starts = λ e o. subst (λ (e : End). HasStart ArchiveFolder (with_files (next_archive done_sink hello)) e) (in_one end e o) (_, refl, refl);
 }
 
 true_elsewhere : (s : Stream) → same_stream s stream ≡ false → Grows (with_files (next_archive done_sink hello)) s (chunks_after (with_files (next_archive done_sink hello)) book_1st s)
@@ -158,7 +172,7 @@ undone_names = record {
   sound = λ g o. subst (λ (g : Segment). HasFile (file (next_archive sink hello) (SegmentFile ArchiveFolder g.number)) (IsSoundSegment ArchiveFolder g)) (in_one segment g o) sound_hello;
   listed = λ c o. subst (λ (c : Chunk). Any (λ e. e.stream ≡ c.key.stream) (end ∷ [])) (in_one (part_with hello) c o) (0, end, omega arith, refl, refl);
   ends = λ e o. subst (λ (e : End). Run e.start e.start (chunks_of_stream e.stream ((part_with hello) ∷ [])) e.end) (in_one end e o) (refl, refl, refl);
-  starts = λ e o. subst (λ (e : End). HasStart ArchiveFolder (with_files (next_archive sink hello)) e) (in_one end e o) refl;
+  starts = λ e o. subst (λ (e : End). HasStart ArchiveFolder (with_files (next_archive sink hello)) e) (in_one end e o) (_, refl, refl);
 }
 
 undone_elsewhere : (s : Stream) → same_stream s stream ≡ false → Grows (with_files (next_archive sink hello)) s (chunks_after (with_files (next_archive sink hello)) book_1st s)

@@ -1,5 +1,5 @@
 -- Steps that the job's and all processes' rules refuse, each beside one that differs in the one fact and is allowed.
-use Rattle.std.proofs.Common.{◌≡◌, ℕ, List, [], ◌∷◌, ◌++◌, length, None, refl, ap, sym, ◌∙◌, inl, subst, true≢false, arith}
+use Rattle.std.proofs.Common.{◌≡◌, ℕ, true, false, List, [], ◌∷◌, ◌++◌, length, None, refl, ap, sym, ◌∙◌, subst, true≢false, arith}
 use Rattle.std.specs.Prelude.{codes, Contains}
 use Rattle.std.proofs.lemmas.Option.{same_Some}
 use Rattle.std.specs.Fmt.{digits}
@@ -9,23 +9,24 @@ use Rattle.md5.specs.Md5.{md5, digest_bytes, hash_after, compress, rounds, block
 use Rattle.chk_bytes.specs.Words.{is_word}
 use Rattle.chk_seqfile.specs.Headers.{marker_of, written_front, class_text, read_header, read_front, read_fields, read_class}
 use Rattle.chk_seqfile.specs.Entries.{records_of, entry_at}
-use Rattle.chk_site.specs.declared.acts.Call.TheVariants.{Create, Append, Sync}
-use Rattle.chk_site.specs.declared.acts.ActAnswer.TheVariants.{Done}
+use Rattle.chk_site.specs.declared.acts.Call.TheVariants.{Create, Append, Sync, Remove}
+use Rattle.chk_site.specs.declared.acts.ActAnswer.TheVariants.{Done, Stopped}
 use Rattle.chk_site.specs.declared.acts.Role.TheVariants.{Agent, Collector, Writer}
 use Rattle.chk_site.specs.Acts.{Starts, GrowsLog, Creates, Appends, Renames, Removes, AsksClock, Sends, Says}
-use Rattle.chk_site.specs.History.{History, files_after}
+use Rattle.chk_site.specs.History.{History, files_after, logs_after}
 use Rattle.chk_chunk.specs.Keys.{Chunk, key_1, key_2, written_key, guessed_key, read_key}
 use Rattle.chk_chunk.specs.Posts.{written_part}
 use Rattle.chk_message.specs.Messages.{written_post_request, written_poll_request, written_reply}
+use Rattle.chk_message.proofs.Accepted.{never_both}
 use Rattle.chk_world.specs.Names.{read, spell}
 use Rattle.chk_world.specs.Checkpoints.{read_checkpoint}
 use Rattle.chk_world.specs.Books.{Book, One as book_1, book_bytes, read_book, values}
 use Rattle.chk_world.specs.ArchiveRuns.{report}
 use Rattle.chk_world.specs.Jobs.{Run, all_segments, chunks_after, JobRule}
 use Rattle.chk_world.specs.Rules.{StartsAfterStop, Framed, OnlyWritersGrowLogs, OnlyAgentsRequest}
-use Rattle.chk_world.proofs.ExampleTexts.{a1, c1, job, path, hello, request, sink, entry, check, check_tmp, done_sink, seg, book_tmp, book_name, book_1st, book_text, segment, stream}
+use Rattle.chk_world.proofs.ExampleTexts.{a1, c1, job, path, hello, request, poll, stem, mark, sink, entry, check, check_tmp, done_sink, seg, book_tmp, book_name, book_1st, book_text, segment, stream, chunk}
 use Rattle.chk_world.proofs.ExampleSteps.{done, g4, g5, g9, g24, g29, g30, g32, g33, g34, g37, g38, g39, p23}
-use Rattle.chk_world.proofs.ExampleMessages.{posted}
+use Rattle.chk_world.proofs.ExampleMessages.{posted, polled_so}
 use Rattle.chk_world.proofs.ExampleJob.{glegal33, glegal38, glegal39}
 use Rattle.chk_world.proofs.ExampleStop.{removed_too_early}
 
@@ -161,7 +162,7 @@ goes_on s = true≢false s
 starts : StartsAfterStop c1 p23 Starts
 starts = tt
 
--- only writers change logs, and only agents send requests
+-- only writers change logs, and only agents send posts
 log_changed : OnlyWritersGrowLogs Agent (GrowsLog path hello) → ⊥
 log_changed o = true≢false (sym o)
 
@@ -169,7 +170,36 @@ log_written : OnlyWritersGrowLogs Writer (GrowsLog path hello)
 log_written = refl
 
 requested : OnlyAgentsRequest Collector (Sends 1 (codes "self") request) → ⊥
-requested o = o (inl (posted.0, posted.1))
+requested o = o (chunk ∷ [], posted)
 
 agent_requests : OnlyAgentsRequest Agent (Sends 1 (codes "self") request)
 agent_requests = tt
+
+-- a poll is anyone's
+collector_polls : OnlyAgentsRequest Collector (Sends 1 (codes "self") poll)
+collector_polls o = never_both o.1.0 (stem ∷ []) poll o.1.1 polled_so
+
+-- a job that is stopped while it removes a done sink leaves the sink's collector alone; one that is stopped with a tail of
+-- the collector's mark doesn't
+abbrev stopped_removal : List ℕ → History
+stopped_removal name = record {
+  own = true;
+  act = record {
+    who = job;
+    call = Remove;
+    words = done_sink ∷ [];
+    number = 0;
+    max = 0;
+    answer = Stopped (record { name = name; tail = []; whole = false } ∷ []);
+  };
+  files = files_after g38;
+  logs = logs_after g38;
+} ∷ g38
+
+spares_collector : StartsAfterStop c1 (stopped_removal done_sink) AsksClock
+unfolding read spell digits is_utf8 chars encode is_word key_1 key_2 written_key guessed_key written_part read_key read_checkpoint read_book read_header read_front read_fields read_class entry_at records_of marker_of written_front class_text md5 digest_bytes hash_after compress rounds block_words written_post_request written_poll_request written_reply
+spares_collector = refl
+
+stops_collector : StartsAfterStop c1 (stopped_removal mark) AsksClock → ⊥
+unfolding read spell digits is_utf8 chars encode is_word key_1 key_2 written_key guessed_key written_part read_key read_checkpoint read_book read_header read_front read_fields read_class entry_at records_of marker_of written_front class_text md5 digest_bytes hash_after compress rounds block_words written_post_request written_poll_request written_reply
+stops_collector s = true≢false s

@@ -14,12 +14,11 @@ use Rattle.chk_site.specs.Files.{Files}
 use Rattle.chk_chunk.specs.Keys.{Stream, Key, Chunk, is_of, chunk_begin, chunk_end, key_1, key_2, written_key, guessed_key, read_key}
 use Rattle.chk_chunk.specs.Posts.{written_part}
 use Rattle.chk_message.specs.Messages.{written_post_request, written_poll_request, written_reply}
-use Rattle.chk_world.specs.Names.{DoneFile, read, spell}
+use Rattle.chk_world.specs.Names.{DoneFile, read, spell, is_done_sink}
 use Rattle.chk_world.specs.Checkpoints.{read_checkpoint}
 use Rattle.chk_world.specs.Books.{read_book}
 use Rattle.chk_world.specs.Committed.{sink_chunks}
 use Rattle.chk_world.specs.Jobs.{IsSource, IsPartAt}
-use Rattle.chk_world.specs.Rules.{is_done_sink}
 use Rattle.chk_world.proofs.NameLemmas.{read-spell}
 use Rattle.chk_world.proofs.ExampleTexts.{hello, head, done_sink, sink, stream, chunk, stem}
 use Rattle.chk_world.proofs.ExampleMessages.{in_one, in_none}

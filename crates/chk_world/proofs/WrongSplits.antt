@@ -133,7 +133,7 @@ false_names = record {
   sound = λ g o. subst (λ (g : Segment). HasFile (file (files_after (demuxed (codes "jello\n"))) (SegmentFile DemuxFolder g.number)) (IsSoundSegment DemuxFolder g)) (in_one segment g o) sound_false;
   listed = λ c o. subst (λ (c : Chunk). Any (λ e. e.stream ≡ c.key.stream) (end ∷ [])) (in_one (part_with (codes "jello\n")) c o) (0, end, omega arith, refl, refl);
   ends = λ e o. subst (λ (e : End). Run e.start e.start (chunks_of_stream e.stream (part_with (codes "jello\n") ∷ [])) e.end) (in_one end e o) (refl, refl, refl);
-  starts = λ e o. subst (λ (e : End). HasStart DemuxFolder (demuxed (codes "jello\n")) e) (in_one end e o) refl;
+  starts = λ e o. subst (λ (e : End). HasStart DemuxFolder (demuxed (codes "jello\n")) e) (in_one end e o) (_, refl, refl);
 }
 
 true_names : BookNamesSyncedSegments DemuxFolder (demuxed hello) book_1st
@@ -142,7 +142,7 @@ true_names = record {
   sound = λ g o. subst (λ (g : Segment). HasFile (file (files_after (demuxed hello)) (SegmentFile DemuxFolder g.number)) (IsSoundSegment DemuxFolder g)) (in_one segment g o) sound_true;
   listed = λ c o. subst (λ (c : Chunk). Any (λ e. e.stream ≡ c.key.stream) (end ∷ [])) (in_one (part_with hello) c o) (0, end, omega arith, refl, refl);
   ends = λ e o. subst (λ (e : End). Run e.start e.start (chunks_of_stream e.stream (part_with hello ∷ [])) e.end) (in_one end e o) (refl, refl, refl);
-  starts = λ e o. subst (λ (e : End). HasStart DemuxFolder (demuxed hello) e) (in_one end e o) refl;
+  starts = λ e o. subst (λ (e : End). HasStart DemuxFolder (demuxed hello) e) (in_one end e o) (_, refl, refl);
 }
 
 -- all else holds of the one that is refused
@@ -260,7 +260,7 @@ kept_names = record {
   sound = λ g o. subst (λ (g : Segment). HasFile (file (files_after (demuxed_once book_1st)) (SegmentFile DemuxFolder g.number)) (IsSoundSegment DemuxFolder g)) (in_one segment g o) sound_true;
   listed = λ c o. subst (λ (c : Chunk). Any (λ e. e.stream ≡ c.key.stream) (end ∷ [])) (in_one chunk c o) (0, end, omega arith, refl, refl);
   ends = λ e o. subst (λ (e : End). Run e.start e.start (chunks_of_stream e.stream (chunk ∷ [])) e.end) (in_one end e o) (refl, refl, refl);
-  starts = λ e o. subst (λ (e : End). HasStart DemuxFolder (demuxed_once book_1st) e) (in_one end e o) refl;
+  starts = λ e o. subst (λ (e : End). HasStart DemuxFolder (demuxed_once book_1st) e) (in_one end e o) (_, refl, refl);
 }
 
 abbrev kept_split : Stream → List Record

@@ -1,5 +1,5 @@
 -- What an agent may do next.
-use Rattle.std.specs.Prelude.{◌≡◌, ◌⊎◌, ℕ, ◌+◌, ◌≤◌, ◌<◌, Bool, true, false, ◌&&◌, not, IsTrue, MatchBool, IsSome, List, [], ◌∷◌, length, Contains, Any, bytes_eq, Option, Some, None, if◌then◌else◌}
+use Rattle.std.specs.Prelude.{◌≡◌, ◌⊎◌, ℕ, ◌+◌, ◌≤◌, ◌<◌, Bool, true, false, ◌&&◌, ◌||◌, not, IsTrue, MatchBool, IsSome, List, [], ◌∷◌, length, Contains, Any, bytes_eq, Option, Some, None, if◌then◌else◌}
 use Rattle.std.specs.List.{list_any}
 use Rattle.chk_bytes.specs.Stems.{Stem}
 use Rattle.chk_control.specs.Classes.{is_plain}
@@ -13,7 +13,7 @@ use Rattle.chk_site.specs.History.{Step, History, files_after, logs_after, since
 use Rattle.chk_chunk.specs.Keys.{Stream, Chunk, Covers, chunk_end}
 use Rattle.chk_world.specs.Names.{Name, CheckFile, Temporary, read, spell, file}
 use Rattle.chk_world.specs.Checkpoints.{Line, read_checkpoint, checkpoint_lines, line_of, same_log}
-use Rattle.chk_world.specs.Streams.{start_of, is_stream_cut, IsTrueChunk, IsTruePlace}
+use Rattle.chk_world.specs.Streams.{start_of, parts_of, passed_by, is_stream_cut, IsTrueChunk, IsTruePlace}
 use Rattle.chk_message.specs.Messages.{Ack, IsGoodReply, WrittenPost, WrittenPoll}
 use Rattle.chk_world.specs.Committed.{OnFile}
 
@@ -155,17 +155,24 @@ abbrev pub comes_after : Option (List ℕ) → Option (List ℕ) → Bool
 comes_after last None = false
 comes_after last (Some suffix) = is_after last suffix
 
--- the read begins at the line's place or past it
-abbrev pub IsAtOrPast : Part → ℕ → Line → Type 0
-IsAtOrPast TheBase at l = IsTrue (is_plain l.class) × (l.offset ≤ l.first + at)
-IsAtOrPast (Past after) at l =
+-- the suffix is that one, or comes after it
+abbrev pub is_at_or_past : Option (List ℕ) → Option (List ℕ) → Bool
+is_at_or_past last suffix = same_suffix last suffix || comes_after last suffix
+
+-- the read begins at the place of the stream's line or past it. A place past a suffix is counted from the bytes of all
+-- generations up to that
+abbrev pub IsAtOrPast : History → Stream → Part → ℕ → Line → Type 0
+IsAtOrPast history s TheBase at l = IsTrue (is_plain l.class) × (l.offset ≤ l.first + at)
+IsAtOrPast history s (Past after) at l =
     IsTrue (not (is_plain l.class))
-    × MatchBool (same_suffix l.after after) (l.offset ≤ l.first + at) (IsTrue (comes_after l.after after))
+    × IsTrue (is_at_or_past l.after after)
+    × (l.offset ≤ start_of history s + (passed_by after (parts_of history s).rotated + at))
 
 -- the path is read from a line's place on
 abbrev pub ReadsFromCheckpoint : Who → History → List ℕ → Part → ℕ → Type 0
 ReadsFromCheckpoint who history path part at =
-    Any (λ l. (l.path ≡ path) × IsAtOrPast part at l) (checkpoint_lines (files_after history) who.name)
+    Any (λ l. (l.path ≡ path) × IsAtOrPast history (stream_of who.name l) part at l)
+    (checkpoint_lines (files_after history) who.name)
 
 -- the chunk is a true one of a stream of the checkpoint, and ends where a reader may stop
 pub record MaySendChunk (who : Who) (history : History) (c : Chunk) : Type 0 where

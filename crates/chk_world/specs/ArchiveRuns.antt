@@ -12,7 +12,7 @@ use Rattle.chk_site.specs.Honest.{in_folder}
 use Rattle.chk_chunk.specs.Keys.{Stream, Chunk, Covers, chunk_begin, chunk_end, same_stream, stream_lt, same_data}
 use Rattle.chk_chunk.specs.Reach.{IsReach}
 use Rattle.chk_world.specs.Streams.{start_of}
-use Rattle.chk_world.specs.Committed.{sink_chunks, aside_chunks, archive_of_stream, archived_end}
+use Rattle.chk_world.specs.Committed.{sink_chunks, aside_chunks, archive_of_stream}
 
 -- a listing of the sinks by the job: its names, and the history up to it
 pub record Listing : Type 0 where
@@ -94,17 +94,21 @@ once (c ∷ cs) = c ∷ filter (λ d. not (same_data c d)) (once cs)
 
 -- the end of a stream's archive before the run. (The start of a stream without a byte may become known during the run.)
 abbrev pub end_before : History → Listing → Stream → ℕ
-end_before history l s = start_of history s + length (archive_of_stream (files_after l.upto) s)
+end_before history l s = start_of l.upto s + length (archive_of_stream (files_after l.upto) s)
+
+-- and after it, counted from the same start
+abbrev pub end_since : History → Listing → Stream → ℕ
+end_since history l s = start_of l.upto s + length (archive_of_stream (files_after history) s)
 
 -- each stream's archive has grown just as far as the found chunks reach without a gap
 abbrev pub HasReached : History → Listing → Type 0
 HasReached history l =
-    (s : Stream) → IsReach (λ o. Any (Covers s o) (found l)) (end_before history l s) (archived_end history s)
+    (s : Stream) → IsReach (λ o. Any (Covers s o) (found l)) (end_before history l s) (end_since history l s)
 
 -- the listed done sinks are gone, and the chunks past a gap are set aside
 pub record SetsAside (history : History) (l : Listing) (held removed : ℕ) : Type 0 where
   pub aside : aside_chunks (files_after history)
-      ≡ once (filter (λ c. nat_lt (archived_end history c.key.stream) (chunk_end c)) (in_order (found l)))
+      ≡ once (filter (λ c. nat_lt (end_since history l c.key.stream) (chunk_end c)) (in_order (found l)))
   pub held_is : held ≡ length (aside_chunks (files_after history))
   pub removed_is : removed ≡ count_by is_closed l.names
   pub gone : (name : List ℕ) → Contains l.names name → IsTrue (is_closed name)

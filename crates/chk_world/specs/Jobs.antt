@@ -8,7 +8,7 @@ use Rattle.chk_site.specs.History.{History, files_after}
 use Rattle.chk_chunk.specs.Keys.{Stream, Chunk, is_of, chunk_begin, chunk_end, same_data, chunk_limit, record_limit}
 use Rattle.chk_world.specs.Names.{Folder, ArchiveFolder, DemuxFolder, JoinedFolder, Name, DoneFile, BookFile, SegmentFile, read, file}
 use Rattle.chk_world.specs.Books.{Segment, End, Book, read_book, book_of, AllChunks, chunks_within, chunks_named, chunks_of_stream, aside_in, values}
-use Rattle.chk_world.specs.Streams.{start_of}
+use Rattle.chk_world.specs.Streams.{Founding, founding, start_of}
 use Rattle.chk_world.specs.Committed.{OnFile, HasFile, sink_chunks, aside_chunks, archive_of_stream, archived_end}
 use Rattle.chk_world.specs.ArchiveRuns.{Listing, last_listing, IsArchiveRun, report, is_one_line, is_report}
 use Rattle.chk_world.specs.Splits.{Record, split, records_named, demuxed_records}
@@ -38,10 +38,10 @@ abbrev pub Run : ℕ → ℕ → List Chunk → ℕ → Type 0
 Run start from [] to = to ≡ from
 Run start from (c ∷ cs) to = (c.key.start ≡ start) × (chunk_begin c ≡ from) × Run start (chunk_end c) cs to
 
--- the start of a stream that a book of this folder has
+-- the stream of a book of this folder has begun, with this start
 abbrev pub HasStart : Folder → History → End → Type 0
 HasStart JoinedFolder history e = Unit {0}
-HasStart folder history e = e.start ≡ start_of history e.stream
+HasStart folder history e = (f : Founding) × (founding history e.stream ≡ Some f) × (e.start ≡ f.line.start)
 
 -- the book names synced segments, and says where their streams begin and end
 pub record BookNamesSyncedSegments (folder : Folder) (history : History) (b : Book) : Type 0 where
@@ -99,7 +99,7 @@ pub record ArchiveGrowsByParts (history : History) (b : Book) : Type 0 where
   pub each : (s : Stream) → Grows history s (chunks_after history b s)
   pub aside_new : (c : Chunk) → Contains (aside_after history b) c → IsSource (files_after history) c
   pub aside_old : (c : Chunk) → Contains (aside_chunks (files_after history)) c
-      → Contains (aside_after history b) c ⊎ (chunk_end c ≤ end_after history b c.key.stream)
+      → Any (λ d. IsTrue (same_data c d)) (aside_after history b) ⊎ (chunk_end c ≤ end_after history b c.key.stream)
 
 -- the first list, and then others
 abbrev pub Continues : List Record → List Record → Type 0

@@ -3,24 +3,24 @@ use Rattle.std.specs.Prelude.{◌≡◌, ◌⊎◌, ℕ, ◌≤◌, ◌<◌, IsT
 use Rattle.chk_bytes.specs.Numbers.{spelled}
 use Rattle.chk_bytes.specs.Words.{BeginsWith}
 use Rattle.chk_bytes.specs.Stems.{Stem, is_stem, same_stem}
-use Rattle.chk_site.specs.declared.acts.Role.TheVariants.{Agent, Collector}
+use Rattle.chk_site.specs.declared.acts.Role.TheVariants.{Agent, Collector, Job}
 use Rattle.chk_site.specs.declared.acts.Who.{Who}
 use Rattle.chk_site.specs.declared.acts.ActAnswer.{ActAnswer}
 use Rattle.chk_site.specs.declared.acts.ActAnswer.TheVariants.{Done}
 use Rattle.chk_site.specs.Files.{File, Files}
-use Rattle.chk_site.specs.Acts.{Deed, Appends, deed}
+use Rattle.chk_site.specs.Acts.{Deed, Appends, Says, deed}
 use Rattle.chk_site.specs.History.{Step, History, Ever, files_after, since_start}
 use Rattle.chk_chunk.specs.Keys.{Stream, Chunk, Covers, chunk_limit}
 use Rattle.chk_world.specs.Names.{Folder, Name, BornFile, SinkFile, MarkFile, DoneFile, CheckFile, BookFile, SegmentFile, is_source, read, file}
 use Rattle.chk_world.specs.Checkpoints.{Line, read_checkpoint, line_of, checkpoint_of}
 use Rattle.chk_seqfile.specs.Entries.{IsSequenceFile}
 use Rattle.chk_world.specs.Books.{Segment, Book, read_book, book_of, AllChunks, chunks_within}
-use Rattle.chk_world.specs.ArchiveRuns.{Listing, last_listing, unclosed_in, HasReached}
-use Rattle.chk_world.specs.Jobs.{IsSoundSegment, all_segments}
-use Rattle.chk_world.specs.Committed.{OnFile, HasFile, archive_of_stream, archived_end, KeptAt, IsAbsent, IsWhole, IsNumber, number_in, committed_length}
+use Rattle.chk_world.specs.ArchiveRuns.{Listing, last_listing, unclosed_in, HasReached, IsArchiveRun, report, is_report}
+use Rattle.chk_world.specs.Jobs.{IsSoundSegment, IsSource, all_segments}
+use Rattle.chk_world.specs.Committed.{OnFile, HasFile, archive_of_stream, archived_end, IsKept, KeptAt, IsAbsent, IsWhole, IsNumber, number_in, committed_length}
 use Rattle.chk_world.specs.Agents.{Acknowledged}
 use Rattle.chk_world.specs.Collectors.{Current, view}
-use Rattle.chk_world.specs.Streams.{log_of}
+use Rattle.chk_world.specs.Streams.{Founding, founding, log_of, IsTrueChunk}
 use Rattle.chk_world.specs.Rules.{Legal}
 
 -- the collector of a sink
@@ -200,6 +200,26 @@ pub record IsComplete (history : History) (l : Listing) : Type 0 where
   pub closed : unclosed_in l.names ≡ 0
   pub reached : HasReached history l
 
+-- the line that the job printed is the report of the run that began with its last listing. Where that showed no sink under
+-- writing the history now ends with a complete run
+pub record HasReported (history : History) (step : Step) (text : List ℕ) : Type 0 where
+  pub listing : Listing
+  pub last : last_listing history ≡ Some listing
+  pub taken : ℕ
+  pub held : ℕ
+  pub removed : ℕ
+  pub is : text ≡ report (unclosed_in listing.names) taken held removed
+  pub ran : IsArchiveRun history listing (unclosed_in listing.names) taken held removed
+  pub complete : unclosed_in listing.names ≡ 0 → IsComplete (step ∷ history) listing
+
+-- each line of the job's that begins as a report does is one
+abbrev pub ReportsAreTrue : Type 0
+ReportsAreTrue =
+    (stamped : List (List ℕ)) (history : History) (step : Step) → Legal stamped (step ∷ history) → step.act.who.role ≡ Job
+    → (text : List ℕ) → deed step.act ≡ Says text → IsTrue (is_report text)
+    → (words : List (List ℕ)) (number of : ℕ) → step.act.answer ≡ Done words number of
+    → HasReported history step text
+
 -- after a complete run the archive holds all that was kept or archived at its listing, up to the first gap
 abbrev pub RunsTakeAllSaved : Type 0
 RunsTakeAllSaved =
@@ -227,6 +247,26 @@ abbrev pub AcknowledgedIsSaved : Type 0
 AcknowledgedIsSaved =
     (stamped : List (List ℕ)) (history : History) → Legal stamped history → (s : Stream) → IsTrue (is_source s.source)
     → (c : Chunk) → Acknowledged (since_start (agent_of s) history) c → (o : ℕ) → Covers s o c → SavedAt history s o
+
+-- each offset below a checkpoint is kept or archived
+abbrev pub CheckpointsAreSaved : Type 0
+CheckpointsAreSaved =
+    (stamped : List (List ℕ)) (history : History) → Legal stamped history → (s : Stream) → IsTrue (is_source s.source)
+    → (o : ℕ) → o < checkpoint_of (files_after history) s → SavedAt history s o
+
+-- the chunk's stream has begun, and its data is what the stream's log has at its offsets
+pub record IsOfLog (history : History) (c : Chunk) : Type 0 where
+  pub first : Founding
+  pub founded : founding history c.key.stream ≡ Some first
+  pub is_true : IsTrueChunk history c
+
+-- so it is of each chunk that is kept, and of each of a done sink or set aside
+pub record HasTrueChunks (history : History) : Type 0 where
+  pub kept : (c : Chunk) → IsKept (files_after history) c → IsOfLog history c
+  pub sources : (c : Chunk) → IsSource (files_after history) c → IsOfLog history c
+
+abbrev pub KeptAreTrue : Type 0
+KeptAreTrue = (stamped : List (List ℕ)) (history : History) → Legal stamped history → HasTrueChunks history
 
 -- after a complete run the archive holds every byte up to the checkpoint as it stood at the listing
 abbrev pub RunsCoverCheckpoints : Type 0

@@ -12,5 +12,15 @@ pub mod Rules
 pub mod Laws
 pub mod Rounds
 pub mod Places
+pub mod Together
+pub mod Mailbox
 pub mod Spelled
 pub mod Examples
+pub mod Standing
+pub mod Reading
+pub mod Answering
+pub mod Knowing
+pub mod TrueBooks
+pub mod DoneSinks
+pub mod Sight
+pub mod JobSteps

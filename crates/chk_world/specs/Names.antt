@@ -140,6 +140,16 @@ owns_by _ who n = false
 abbrev pub owns : Who → Name → Bool
 owns who n = owns_by who.role who.name n
 
--- a stop names a file of this process
+-- the name is that of a done sink
+abbrev pub is_done_sink : Name → Bool
+is_done_sink (DoneFile x) = true
+is_done_sink n = false
+
+-- the file is this process's, and no done sink
+abbrev pub owns_open : Who → Name → Bool
+owns_open who n = owns who n && not (is_done_sink n)
+
+-- a stop names a file of this process. A done sink doesn't count: a job that is stopped while it removes one names it,
+-- and nothing of it can be lost, since all of it is synced
 abbrev pub stop_names : Who → List Left → Bool
-stop_names who left = list_any (λ l. owns who (read l.name)) left
+stop_names who left = list_any (λ l. owns_open who (read l.name)) left

@@ -1,13 +1,16 @@
 -- What a library that calls the outside says of the told history: that it is legal, and a fact of what its
 -- process sees and of some of its files. What others do leaves such a fact as it is.
-use Rattle.std.specs.Prelude.{◌≡◌, ℕ, Bool, false, IsTrue, IsFalse, List, ◌∷◌, codes, Option}
+use Rattle.std.specs.Prelude.{◌≡◌, ℕ, Bool, true, false, IsTrue, IsFalse, MatchBool, List, ◌∷◌, codes, Option}
 use Rattle.chk_site.specs.declared.acts.Role.{Role}
 use Rattle.chk_site.specs.declared.acts.Role.TheVariants.{Agent, Collector, Job}
 use Rattle.chk_site.specs.declared.acts.Who.{Who}
 use Rattle.chk_site.specs.declared.acts.ActAnswer.{ActAnswer}
 use Rattle.chk_site.specs.declared.acts.ActAnswer.TheVariants.{Stopped}
 use Rattle.chk_site.specs.Files.{File}
+use Rattle.chk_site.specs.declared.acts.Call.{Call}
+use Rattle.chk_site.specs.declared.acts.Call.TheVariants.{Send, Take, More, Answer}
 use Rattle.chk_site.specs.Acts.{same_who}
+use Rattle.chk_site.specs.Runs.{Side}
 use Rattle.chk_site.specs.History.{Step, History, files_after, is_stopped, since_start}
 use Rattle.chk_world.specs.Names.{Name, BornFile, SinkFile, MarkFile, CheckFile, BookFile, SegmentFile, Temporary, file, is_known, stop_names}
 use Rattle.chk_world.specs.Collectors.{View, view}
@@ -25,6 +28,40 @@ pub record Foreign (stamped : List (List ℕ)) (who : Who) (history : History) (
   pub obeys : Obeys stamped history step
   pub other : IsFalse (same_who who step.act.who)
   pub spares : IsFalse (touched_by_stop who step.act.answer)
+
+-- the call sends, takes or answers a message
+abbrev pub is_message : Call → Bool
+is_message Send = true
+is_message Take = true
+is_message More = true
+is_message Answer = true
+is_message call = false
+
+-- what is promised of a step of the site's own: it is by this process, and was made while the site wasn't stopped
+pub record IsMadeBy (who : Who) (before : History) (step : Step) : Type 0 where
+  pub by : step.act.who ≡ who
+  pub running : is_stopped before ≡ false
+
+-- and it leaves the messages alone
+pub record IsBy (who : Who) (before : History) (step : Step) : Type 0 where
+  pub by : step.act.who ≡ who
+  pub running : is_stopped before ≡ false
+  pub quiet : IsFalse (is_message step.act.call)
+
+-- the side of a process
+abbrev pub As : List (List ℕ) → Who → Side
+As stamped who = record { others = Foreign stamped who; own = IsBy who }
+
+-- the side of a process that also sends, takes or answers messages
+abbrev pub Talking : List (List ℕ) → Who → Side
+Talking stamped who = record { others = Foreign stamped who; own = IsMadeBy who }
+
+-- the side of a process for one call of this kind
+abbrev pub Making : List (List ℕ) → Who → Call → Side
+Making stamped who call = record {
+  others = Foreign stamped who;
+  own = λ before step. MatchBool (is_message call) (IsMadeBy who before step) (IsBy who before step);
+}
 
 -- the file is the process's own, and no done sink, which the job may remove
 abbrev pub IsOwnBy : Role → List ℕ → Name → Type 0

@@ -15,9 +15,10 @@ use Rattle.chk_site.specs.Logs.{Logs}
 use Rattle.chk_site.specs.Acts.{Deed, Starts, GrowsLog, Creates, Appends, Syncs, Renames, Removes, Cuts, Sends, deed, same_role}
 use Rattle.chk_site.specs.History.{Step, History, files_after, logs_after, is_by}
 use Rattle.chk_site.specs.Honest.{Honest}
-use Rattle.chk_world.specs.Names.{Name, BornFile, SinkFile, MarkFile, DoneFile, CheckFile, BookFile, Temporary, read, file, owns, is_source, stop_names}
+use Rattle.chk_world.specs.Names.{Name, BornFile, SinkFile, MarkFile, DoneFile, CheckFile, BookFile, Temporary, read, file, owns, is_source, is_done_sink, stop_names}
 use Rattle.chk_world.specs.Checkpoints.{Line, checkpoint_lines}
-use Rattle.chk_message.specs.Messages.{IsRequest}
+use Rattle.chk_chunk.specs.Keys.{Chunk}
+use Rattle.chk_message.specs.Messages.{IsPostOf}
 use Rattle.chk_world.specs.Committed.{OnFile, IsWhole}
 use Rattle.chk_world.specs.Collectors.{CollectorRule, view}
 use Rattle.chk_world.specs.Agents.{AgentRule}
@@ -57,11 +58,6 @@ is_small (MarkFile x) = true
 is_small (CheckFile source) = true
 is_small (BookFile folder) = true
 is_small n = false
-
--- the name is that of a done sink
-abbrev pub is_done_sink : Name → Bool
-is_done_sink (DoneFile x) = true
-is_done_sink n = false
 
 -- the name is that of a sink under writing
 abbrev pub is_sink : Name → Bool
@@ -106,10 +102,10 @@ abbrev pub OnlyWritersGrowLogs : Role → Deed → Type 0
 OnlyWritersGrowLogs role (GrowsLog path piece) = IsTrue (same_role role Writer)
 OnlyWritersGrowLogs role call = Unit {0}
 
--- no message that a collector, the job or a writer sends begins with a request
+-- no message that a collector, the job or a writer sends begins with a post of chunks; other requests are anyone's
 abbrev pub OnlyAgentsRequest : Role → Deed → Type 0
 OnlyAgentsRequest Agent call = Unit {0}
-OnlyAgentsRequest role (Sends m address bytes) = ¬ (IsRequest bytes)
+OnlyAgentsRequest role (Sends m address bytes) = ¬ ((chunks : List Chunk) × IsPostOf chunks bytes)
 OnlyAgentsRequest role call = Unit {0}
 
 -- no checkpoint has a line that reads this path's base file alone

@@ -2,14 +2,20 @@
 //! legal. Definitions in `specs/`, and their laws.
 #![tactic(auto)]
 
+ghost use Rattle.chk_world.specs.DoneSinks.{ClosedAreDone, DoneSinksStay};
 ghost use Rattle.chk_world.specs.Examples.{NoPremiseIsEmpty};
 ghost use Rattle.chk_world.specs.Laws.{AcknowledgedIsSaved, ArchivesAreFronts, ArchivesOnlyGrow, CheckpointsMoveOn};
-ghost use Rattle.chk_world.specs.Laws.{CommitsAfterAppend, RunsCoverCheckpoints};
+ghost use Rattle.chk_world.specs.Laws.{CheckpointsAreSaved, CommitsAfterAppend, RunsCoverCheckpoints};
+ghost use Rattle.chk_world.specs.Laws.{KeptAreTrue, ReportsAreTrue};
 ghost use Rattle.chk_world.specs.Laws.{KeptStaysKept, LogsOnlyGrow, NamedSegmentsAreSound, OwnFilesAreRead};
 ghost use Rattle.chk_world.specs.Laws.{PassedIsAcknowledged, ReachedIsSaved, RunsTakeAllSaved, SinksHaveShape};
 ghost use Rattle.chk_world.specs.Places.{OthersLeavePlaces};
+ghost use Rattle.chk_world.specs.Reading.{ChunksStand, GenerationsRise, ReadsGiveLog};
 ghost use Rattle.chk_world.specs.Rounds.{RoundsAreWhole};
+ghost use Rattle.chk_world.specs.Standing.{LinesStand, PlacesStand};
+ghost use Rattle.chk_world.specs.Sight.{OthersLeaveSight};
 ghost use Rattle.chk_world.specs.Spelled.{BooksAreRead, CheckpointsAreRead, NamesAreRead};
+ghost use Rattle.chk_world.specs.TrueBooks.{ArchivesRun, BooksStayTrue};
 
 /// A law: each name of the program's is read back from its text, and each text is spelled as it is
 /// read.
@@ -46,6 +52,33 @@ pub fn logs_only_grow()
     ensures { LogsOnlyGrow }
 {}
 
+/// A law: a place of a stream's log that is true, and at which a reader may stop, stays so over every legal step, over
+/// rotations and deletions too.
+pub fn places_stand()
+    ensures { PlacesStand }
+{}
+
+/// A law: in every legal history each line of a checkpoint has a true place at which a reader may stop, and who reads
+/// on from there is shown all of the stream's log behind it and nothing else.
+pub fn lines_stand()
+    ensures { LinesStand }
+{}
+
+/// A law: in every legal history the suffixes of a path's generations rise.
+pub fn generations_rise()
+    ensures { GenerationsRise }
+{}
+
+/// A law: a read at a true place at or past a checkpoint's line gives the stream's log from there on.
+pub fn reads_give_log()
+    ensures { ReadsGiveLog }
+{}
+
+/// A law: a true chunk that ends where a reader may stop stays so over every legal step.
+pub fn chunks_stand()
+    ensures { ChunksStand }
+{}
+
 /// A law: no legal step loses a stream's line of a checkpoint, changes its class or start, or moves it back.
 pub fn checkpoints_move_on()
     ensures { CheckpointsMoveOn }
@@ -55,6 +88,32 @@ pub fn checkpoints_move_on()
 /// and a SequenceFile of chunks.
 pub fn named_segments_are_sound()
     ensures { NamedSegmentsAreSound }
+{}
+
+/// A law: in every legal history each book names synced segments, has each stream that they have a record of, and says
+/// where its records begin and end.
+pub fn books_stay_true()
+    ensures { BooksStayTrue }
+{}
+
+/// A law: in every legal history the archive's records of a stream run from its start to its end without a gap.
+pub fn archives_run()
+    ensures { ArchivesRun }
+{}
+
+/// A law: every legal step but the job's removal of it leaves a done sink as it is, and one that is gone stays gone.
+pub fn done_sinks_stay()
+    ensures { DoneSinksStay }
+{}
+
+/// A law: in every legal history each file of the sinks whose name ends in `.done` is the done sink of a stem.
+pub fn closed_are_done()
+    ensures { ClosedAreDone }
+{}
+
+/// A law: a step of others leaves what the job sees: its last listing, its own files and the listed done sinks.
+pub fn others_leave_sight()
+    ensures { OthersLeaveSight }
 {}
 
 /// A law: no legal step loses what a kept chunk covers, but where it is archived.
@@ -86,6 +145,23 @@ pub fn reached_is_saved()
 /// A law: what is acknowledged to the agent of a stream is kept or archived.
 pub fn acknowledged_is_saved()
     ensures { AcknowledgedIsSaved }
+{}
+
+/// A law: in every legal history each byte below each checkpoint is kept or archived.
+pub fn checkpoints_are_saved()
+    ensures { CheckpointsAreSaved }
+{}
+
+/// A law: in every legal history each chunk that is kept, is in a done sink or is set aside holds what the log of its
+/// stream has at its offsets.
+pub fn kept_are_true()
+    ensures { KeptAreTrue }
+{}
+
+/// A law: each report that the job prints is that of the run that began with its last listing, and where that showed
+/// no sink under writing the run is complete.
+pub fn reports_are_true()
+    ensures { ReportsAreTrue }
 {}
 
 /// A law: after a complete archive run the archive holds all that was kept or archived at its listing, up to the

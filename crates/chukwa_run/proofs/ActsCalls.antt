@@ -1,5 +1,5 @@
 -- What each call of a round leads to, for the run's own acts.
-use Rattle.std.proofs.Common.{◌≡◌, ◌⊎◌, inl, inr, ℕ, Bool, true, false, ◌||◌, List, [], ◌∷◌, ◌++◌, length, Option, Some, None, Ok, Err, Result, refl, sym, ◌∙◌, ap, subst}
+use Rattle.std.proofs.Common.{◌≡◌, Bool, true, false, ◌||◌, List, ◌∷◌, ◌++◌, Option, Some, None, Ok, Err, Result, refl, sym, ap, subst}
 use Rattle.chk_site.specs.declared.lists.Left.{Left}
 use Rattle.chk_site.specs.declared.acts.Act.{Act}
 use Rattle.chk_site.specs.declared.acts.CallFault.{CallFault}
@@ -9,10 +9,9 @@ use Rattle.chk_site.specs.declared.acts.OutsideFault.TheVariants.{Outside, NoMem
 use Rattle.chk_site.specs.declared.acts.ActAnswer.{ActAnswer}
 use Rattle.chk_site.specs.declared.acts.ActAnswer.TheVariants.{Done, Refused, Stopped, Rotated, Deleted}
 use Rattle.chk_site.specs.Acts.{deed, is_stop}
-use Rattle.chk_site.specs.History.{Step, History, IsTheirs, is_stopped}
-use Rattle.chk_site.specs.Honest.{Honest}
-use Rattle.chk_site.specs.Site.{Adds, Asked, own_step, answered, plain, Calls, IsDone, Ends, WasDone, IsTaken, Took, WasRefused}
-use Rattle.chk_site.specs.Runs.{Leads, Since, own_acts}
+use Rattle.chk_site.specs.History.{History, is_stopped}
+use Rattle.chk_site.specs.Site.{Adds, Asked, own_step, answered, plain, Calls, IsDone, Ends, WasDone, IsTaken, WasRefused}
+use Rattle.chk_site.specs.Runs.{anyhow, Leads, own_acts}
 use Rattle.chk_site.proofs.Leads.{Keeps, Shows, done_leads, ok_leads, exists_leads, taken_leads, ends_leads}
 use Rattle.chukwa_run.specs.CommandWords.{Round}
 use Rattle.chukwa_run.specs.Faults.{run_fault}
@@ -66,32 +65,32 @@ no_stop_refused (Deleted suffix) was = refl
 -- a call that was done
 pub acts_done : (earlier : History) (P P' : List Act → Type 0) (q : Asked) {old new : Option History} (r : Result (Unit {0}) CallFault)
     → IsDone r → ((answer : ActAnswer) → WasDone answer → (acts : List Act) → P acts → P' (made q answer ∷ acts))
-    → Adds old new (Calls q (answered plain r)) → Adds old new (Leads Anyone (ActedSo earlier P) (ActedSo earlier P'))
+    → Adds old new (Calls q (answered plain r)) → Adds old new (Leads (anyhow Anyone) (ActedSo earlier P) (ActedSo earlier P'))
 acts_done earlier P P' q r is next told =
-    done_leads r is (anyone_keeps earlier P)
+    done_leads r (λ before answer files logs running. tt) is (anyone_keeps earlier P)
     (λ answer was. acted_shows earlier P P' q answer (no_stop_done answer was) (next answer was)) told
 
 -- a call that answered Ok
 pub acts_ok : (earlier : History) (P P' : List Act → Type 0) (q : Asked) (answer : ActAnswer) {old new : Option History}
     → is_stop answer ≡ false → ((acts : List Act) → P acts → P' (made q answer ∷ acts))
-    → Adds old new (Calls q (Ok answer)) → Adds old new (Leads Anyone (ActedSo earlier P) (ActedSo earlier P'))
+    → Adds old new (Calls q (Ok answer)) → Adds old new (Leads (anyhow Anyone) (ActedSo earlier P) (ActedSo earlier P'))
 acts_ok earlier P P' q answer no_stop next told =
-    ok_leads answer (anyone_keeps earlier P) (acted_shows earlier P P' q answer no_stop next) told
+    ok_leads answer (λ before answer files logs running. tt) (anyone_keeps earlier P) (acted_shows earlier P P' q answer no_stop next) told
 
 -- a creation of a file that is there
 pub acts_exists : (earlier : History) (P P' : List Act → Type 0) (q : Asked) {old new : Option History}
     → ((acts : List Act) → P acts → P' (made q (Refused Exists) ∷ acts))
-    → Adds old new (Calls q (Err Exists)) → Adds old new (Leads Anyone (ActedSo earlier P) (ActedSo earlier P'))
+    → Adds old new (Calls q (Err Exists)) → Adds old new (Leads (anyhow Anyone) (ActedSo earlier P) (ActedSo earlier P'))
 acts_exists earlier P P' q next told =
-    exists_leads (anyone_keeps earlier P) (acted_shows earlier P P' q (Refused Exists) refl next) told
+    exists_leads (λ before answer files logs running. tt) (anyone_keeps earlier P) (acted_shows earlier P P' q (Refused Exists) refl next) told
 
 -- a call that gave this
 pub acts_some : (earlier : History) (P P' : List Act → Type 0) (q : Asked) {V : Type 0} (how : V → ActAnswer) (value : V) {old new : Option History}
     (r : Result V CallFault) → IsTaken r (Some value) → is_stop (how value) ≡ false
     → ((acts : List Act) → P acts → P' (made q (how value) ∷ acts))
-    → Adds old new (Calls q (answered how r)) → Adds old new (Leads Anyone (ActedSo earlier P) (ActedSo earlier P'))
+    → Adds old new (Calls q (answered how r)) → Adds old new (Leads (anyhow Anyone) (ActedSo earlier P) (ActedSo earlier P'))
 acts_some earlier P P' q how value r is no_stop next told =
-    taken_leads how r (Some value) is (anyone_keeps earlier P)
+    taken_leads how r (Some value) (λ before answer files logs running. tt) is (anyone_keeps earlier P)
     (λ answer took. subst (Shows (ActedSo earlier P) (ActedSo earlier P') q) (sym took) (acted_shows earlier P P' q (how value) no_stop next))
     told
 
@@ -99,9 +98,9 @@ acts_some earlier P P' q how value r is no_stop next told =
 pub acts_none : (earlier : History) (P P' : List Act → Type 0) (q : Asked) {V : Type 0} (how : V → ActAnswer) {old new : Option History}
     (r : Result V CallFault) → IsTaken r None
     → ((answer : ActAnswer) → WasRefused answer → (acts : List Act) → P acts → P' (made q answer ∷ acts))
-    → Adds old new (Calls q (answered how r)) → Adds old new (Leads Anyone (ActedSo earlier P) (ActedSo earlier P'))
+    → Adds old new (Calls q (answered how r)) → Adds old new (Leads (anyhow Anyone) (ActedSo earlier P) (ActedSo earlier P'))
 acts_none earlier P P' q how r is next told =
-    taken_leads how r None is (anyone_keeps earlier P)
+    taken_leads how r None (λ before answer files logs running. tt) is (anyone_keeps earlier P)
     (λ answer took. acted_shows earlier P P' q answer (no_stop_refused answer took) (next answer took))
     told
 
@@ -141,11 +140,11 @@ pub acts_ends : (given : Round) (earlier : History) (q : Asked) {V : Type 0} (ho
     → too_long_in (deed (made q (Refused Failed))) (Refused Failed) ≡ false
     → there_in (deed (made q (Refused Failed))) (Refused Failed) ≡ false
     → Adds old new (Calls q (answered how r))
-    → Adds old new (Leads Anyone (ActedSo earlier (GoesOn given)) (ActedSo earlier (EndsWith given (run_fault fault))))
+    → Adds old new (Leads (anyhow Anyone) (ActedSo earlier (GoesOn given)) (ActedSo earlier (EndsWith given (run_fault fault))))
 acts_ends given earlier q how r fault ends mine not_long not_there told =
     let P = GoesOn given in
     let E : OutsideFault → List Act → Type 0 = λ f. EndsWith given (run_fault f) in
-    ends_leads (λ f. ActedSo earlier (E f)) how r fault ends (anyone_keeps earlier P)
+    ends_leads (λ f. ActedSo earlier (E f)) how r fault (λ before answer files logs running. tt) ends (anyone_keeps earlier P)
     (acted_shows earlier P (E (Outside q.call)) q (Refused Failed) refl (λ acts p. (goes_on_then given acts (made q (Refused Failed)) mine not_long not_there p, (refl, refl))))
     (λ left. stop_shows earlier P (E (Outside q.call)) q left)
     (λ before stopped held. after_stop earlier P (E (Outside q.call)) before stopped held)

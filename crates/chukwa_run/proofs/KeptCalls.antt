@@ -1,38 +1,35 @@
 -- What each call of a round leads to, for the closed sink.
-use Rattle.std.proofs.Common.{◌≡◌, ◌⊎◌, inl, inr, ℕ, ◌+◌, ◌≤◌, ◌<◌, Bool, true, false, List, [], ◌∷◌, ◌++◌, ◌^◌, if◌then◌else◌, length, take, drop, map, Option, Some, None, option_map, Ok, Err, Result, refl, sym, ◌∙◌, ap, ap₂, subst, append_assoc, append-nil, codes, length-append, length-take, arith}
-use Rattle.std.specs.Prelude.{option_to_list, IsTrue}
+use Rattle.std.proofs.Common.{◌≡◌, ◌⊎◌, inl, inr, ℕ, ◌+◌, ◌≤◌, ◌<◌, Bool, true, false, List, [], ◌∷◌, ◌++◌, ◌^◌, if◌then◌else◌, length, take, drop, map, Option, Some, None, option_map, Ok, Err, Result, refl, sym, ◌∙◌, ap, subst, append-nil, codes, length-take, arith}
+use Rattle.std.specs.Prelude.{option_to_list}
 use Rattle.std.proofs.lemmas.List.{take-append-drop, take_all, nil_from_length}
 use Rattle.chk_bytes.specs.Words.{BeginsWith, joined}
-use Rattle.chk_site.specs.declared.lists.Left.{Left}
 use Rattle.chk_site.specs.declared.suffixes.Piece.{Piece}
 use Rattle.chk_site.specs.declared.acts.Who.{Who}
-use Rattle.chk_site.specs.declared.acts.Call.TheVariants.{Start, Create, Append, Sync, Rename, LogRead, Say}
+use Rattle.chk_site.specs.declared.acts.Call.TheVariants.{Create, Append, Sync, Rename, LogRead, Say}
 use Rattle.chk_site.specs.declared.acts.CallFault.{CallFault}
 use Rattle.chk_site.specs.declared.acts.CallFault.TheVariants.{Failed, Missing, Exists, Short, NoMemory}
 use Rattle.chk_site.specs.declared.acts.OutsideFault.{OutsideFault}
-use Rattle.chk_site.specs.declared.acts.OutsideFault.TheVariants.{Outside, NoMemory as no_memory}
 use Rattle.chk_site.specs.declared.acts.ActAnswer.{ActAnswer}
 use Rattle.chk_site.specs.declared.acts.ActAnswer.TheVariants.{Done, Refused, Stopped, Rotated, Deleted}
-use Rattle.chk_site.specs.Files.{File, Files, IsSettled, Created, Grown, Secured, Moved, Change, Nothing, changed, made, moved, grown, secured}
-use Rattle.chk_site.specs.Logs.{Logs, TheBase}
-use Rattle.chk_site.specs.Acts.{Deed, Renames, deed, touches, tail_in, says_whole, OnlyAppends, Did}
-use Rattle.chk_site.proofs.Stays.{settled_stays, unnamed_stays, tails_of_settled, base_grows, begins_then}
-use Rattle.chk_site.specs.History.{Step, History, Modelled, files_after, logs_after, is_stopped}
+use Rattle.chk_site.specs.Files.{File, Files, IsSettled, Moved, Change, Nothing, changed, made, moved, grown, secured}
+use Rattle.chk_site.specs.Logs.{Logs}
+use Rattle.chk_site.specs.Acts.{Renames, deed, touches, tail_in, says_whole, OnlyAppends, Did}
+use Rattle.chk_site.proofs.Stays.{unnamed_stays, tails_of_settled, base_grows, begins_then}
+use Rattle.chk_site.specs.History.{Step, History, files_after, logs_after}
 use Rattle.chk_site.specs.Honest.{Honest}
-use Rattle.chk_site.specs.Site.{Adds, Asked, asked, own_step, answered, plain, Calls, IsDone, Ends, WasDone, IsTaken, Took, WasRefused, piece_given, MayFail}
-use Rattle.chk_site.specs.Runs.{Leads, Since}
-use Rattle.chk_site.proofs.Leads.{Keeps, Shows, done_leads, ok_leads, exists_leads, taken_leads, ends_leads}
-use Rattle.chk_seqfile.specs.Entries.{record_entry, records_of, piece_at}
-use Rattle.chk_seqfile.specs.Headers.{header, marker_of}
+use Rattle.chk_site.specs.Site.{Adds, Asked, asked, own_step, answered, plain, Calls, IsDone, Ends, WasDone, IsTaken, WasRefused, piece_given, MayFail}
+use Rattle.chk_site.specs.Runs.{anyhow, Leads}
+use Rattle.chk_site.proofs.Leads.{Shows, done_leads, ok_leads, exists_leads, taken_leads, ends_leads}
+use Rattle.chk_seqfile.specs.Headers.{marker_of}
 use Rattle.chk_seqfile.proofs.HeaderLemmas.{length-marker_of}
 use Rattle.chk_seqfile.proofs.FileLemmas.{records_of-first}
 use Rattle.chk_chunk.specs.Keys.{written_key}
 use Rattle.chukwa_run.specs.CommandWords.{Round, is_round}
 use Rattle.chukwa_run.specs.Lines.{stream_line}
-use Rattle.chukwa_run.specs.Rounds.{closed_sink, open_sink, values_of, values_in, IsFrontOf, ClosedIsFront, IsForeign, StaysFront, IsReading, WasRead, ReadNow, Holds, Anything, IsOpen, RoundIsWhole, most_asked, entry_of, key_of}
+use Rattle.chukwa_run.specs.Rounds.{closed_sink, open_sink, values_of, values_in, IsFrontOf, ClosedIsFront, IsForeign, StaysFront, WasRead, ReadNow, Holds, Anything, RoundIsWhole, most_asked, key_of}
 use Rattle.chukwa_run.specs.Steps.{ReadAndOpen, ReadAndClosed, sink_of}
 use Rattle.chukwa_run.proofs.GoodWords.{key_short}
-use Rattle.chukwa_run.proofs.Kept.{Stays, Becomes, Grows, SameFile, front_grows, front_settled, stays_front, foreign_keeps, quiet_shows, to_anything, read_on, read_stays, now_stays, open_stays, closed_stays, anything_stays}
+use Rattle.chukwa_run.proofs.Kept.{Stays, Becomes, Grows, front_settled, stays_front, foreign_keeps, quiet_shows, to_anything, read_on, read_stays, open_stays, closed_stays, anything_stays}
 
 -- a call that was done, or refused for the state of the files, is no rotation
 only_done : (answer : ActAnswer) → WasDone answer → OnlyAppends answer
@@ -65,9 +62,9 @@ pub quiet_done : (given : Round) (earlier : History) (P P' : History → Type 0)
     → IsDone r → Stays given earlier P
     → touches (deed (own_step q (Done [] 0 0) (λ n. None) (λ p. record { rotated = []; base = [] })).act) closed_sink ≡ false
     → ((answer : ActAnswer) → WasDone answer → Becomes given earlier P P' q answer)
-    → Adds old new (Calls q (answered plain r)) → Adds old new (Leads IsForeign (Holds given earlier P) (Holds given earlier P'))
+    → Adds old new (Calls q (answered plain r)) → Adds old new (Leads (anyhow IsForeign) (Holds given earlier P) (Holds given earlier P'))
 quiet_done given earlier P P' q r is stays out becomes told =
-    done_leads r is (foreign_keeps given earlier P stays)
+    done_leads r (λ before answer files logs running. tt) is (foreign_keeps given earlier P stays)
     (λ answer was. quiet_shows given earlier P P' q answer out (only_done answer was) (becomes answer was)) told
 
 -- a call that leaves the closed sink alone, and ended the work
@@ -75,9 +72,9 @@ pub quiet_ends : (given : Round) (earlier : History) (P : History → Type 0) (q
     (r : Result V CallFault) (fault : OutsideFault)
     → Ends q.call r fault → Stays given earlier P
     → touches (deed (own_step q (Done [] 0 0) (λ n. None) (λ p. record { rotated = []; base = [] })).act) closed_sink ≡ false
-    → Adds old new (Calls q (answered how r)) → Adds old new (Leads IsForeign (Holds given earlier P) (Holds given earlier Anything))
+    → Adds old new (Calls q (answered how r)) → Adds old new (Leads (anyhow IsForeign) (Holds given earlier P) (Holds given earlier Anything))
 quiet_ends given earlier P q how r fault ends stays out told =
-    ends_leads (λ f. Holds given earlier Anything) how r fault ends (foreign_keeps given earlier P stays)
+    ends_leads (λ f. Holds given earlier Anything) how r fault (λ before answer files logs running. tt) ends (foreign_keeps given earlier P stays)
     (quiet_shows given earlier P Anything q (Refused Failed) out tt (to_anything given earlier P q (Refused Failed)))
     (λ left. quiet_shows given earlier P Anything q (Stopped left) out tt (to_anything given earlier P q (Stopped left)))
     (λ before stopped held. to_less given earlier P before held)
@@ -97,7 +94,7 @@ pub idle_done : (given : Round) (earlier : History) (P : History → Type 0) (q 
     → IsDone r → Stays given earlier P
     → touches (deed (own_step q (Done [] 0 0) (λ n. None) (λ p. record { rotated = []; base = [] })).act) open_sink ≡ false
     → touches (deed (own_step q (Done [] 0 0) (λ n. None) (λ p. record { rotated = []; base = [] })).act) closed_sink ≡ false
-    → Adds old new (Calls q (answered plain r)) → Adds old new (Leads IsForeign (Holds given earlier P) (Holds given earlier P))
+    → Adds old new (Calls q (answered plain r)) → Adds old new (Leads (anyhow IsForeign) (Holds given earlier P) (Holds given earlier P))
 idle_done given earlier P q r is stays out_open out_closed told =
     quiet_done given earlier P P q r is stays out_closed
     (λ answer was. stays_over given earlier P q answer
@@ -119,19 +116,19 @@ created_open given earlier bytes who added files logs honest grows closed front 
 
 pub create_leads : (given : Round) (earlier : History) (bytes : List ℕ) (who : Who) {old new : Option History}
     → Adds old new (Calls (asked who Create (open_sink ∷ []) 0 0) (Ok (Done [] 0 0)))
-    → Adds old new (Leads IsForeign (Holds given earlier (WasRead given earlier bytes))
+    → Adds old new (Leads (anyhow IsForeign) (Holds given earlier (WasRead given earlier bytes))
     (Holds given earlier (ReadAndOpen given earlier bytes (Some (record { bytes = []; synced = 0 })))))
 create_leads given earlier bytes who told =
-    ok_leads (Done [] 0 0) (foreign_keeps given earlier (WasRead given earlier bytes) (read_stays given earlier bytes))
+    ok_leads (Done [] 0 0) (λ before answer files logs running. tt) (foreign_keeps given earlier (WasRead given earlier bytes) (read_stays given earlier bytes))
     (quiet_shows given earlier (WasRead given earlier bytes) (ReadAndOpen given earlier bytes (Some (record { bytes = []; synced = 0 })))
     (asked who Create (open_sink ∷ []) 0 0) (Done [] 0 0) refl tt (created_open given earlier bytes who))
     told
 
 pub there_leads : (given : Round) (earlier : History) (bytes : List ℕ) (who : Who) {old new : Option History}
     → Adds old new (Calls (asked who Create (open_sink ∷ []) 0 0) (Err Exists))
-    → Adds old new (Leads IsForeign (Holds given earlier (WasRead given earlier bytes)) (Holds given earlier Anything))
+    → Adds old new (Leads (anyhow IsForeign) (Holds given earlier (WasRead given earlier bytes)) (Holds given earlier Anything))
 there_leads given earlier bytes who told =
-    exists_leads (foreign_keeps given earlier (WasRead given earlier bytes) (read_stays given earlier bytes))
+    exists_leads (λ before answer files logs running. tt) (foreign_keeps given earlier (WasRead given earlier bytes) (read_stays given earlier bytes))
     (quiet_shows given earlier (WasRead given earlier bytes) Anything
     (asked who Create (open_sink ∷ []) 0 0) (Refused Exists) refl tt (to_anything given earlier (WasRead given earlier bytes) (asked who Create (open_sink ∷ []) 0 0) (Refused Exists)))
     told
@@ -163,7 +160,7 @@ appended_open given earlier bytes piece file who (Deleted suffix) was added file
 
 pub append_leads : (given : Round) (earlier : History) (bytes piece : List ℕ) (file : File) (who : Who) {old new : Option History} (r : Result (Unit {0}) CallFault)
     → IsDone r → Adds old new (Calls (asked who Append (open_sink ∷ piece ∷ []) 0 0) (answered plain r))
-    → Adds old new (Leads IsForeign (Holds given earlier (ReadAndOpen given earlier bytes (Some file)))
+    → Adds old new (Leads (anyhow IsForeign) (Holds given earlier (ReadAndOpen given earlier bytes (Some file)))
     (Holds given earlier (ReadAndOpen given earlier bytes (Some (grown piece file)))))
 append_leads given earlier bytes piece file who r is told =
     quiet_done given earlier (ReadAndOpen given earlier bytes (Some file)) (ReadAndOpen given earlier bytes (Some (grown piece file)))
@@ -193,7 +190,7 @@ synced_open given earlier bytes file who (Deleted suffix) was added files logs h
 
 pub sync_leads : (given : Round) (earlier : History) (bytes : List ℕ) (file : File) (who : Who) {old new : Option History} (r : Result (Unit {0}) CallFault)
     → IsDone r → Adds old new (Calls (asked who Sync (open_sink ∷ []) 0 0) (answered plain r))
-    → Adds old new (Leads IsForeign (Holds given earlier (ReadAndOpen given earlier bytes (Some file)))
+    → Adds old new (Leads (anyhow IsForeign) (Holds given earlier (ReadAndOpen given earlier bytes (Some file)))
     (Holds given earlier (ReadAndOpen given earlier bytes (Some (secured file)))))
 sync_leads given earlier bytes file who r is told =
     quiet_done given earlier (ReadAndOpen given earlier bytes (Some file)) (ReadAndOpen given earlier bytes (Some (secured file)))
@@ -326,9 +323,9 @@ closed_done given earlier bytes f who (Deleted suffix) was values added files lo
 pub rename_leads : (given : Round) (earlier : History) (bytes : List ℕ) (f : File) (who : Who) {old new : Option History} (r : Result (Unit {0}) CallFault)
     → IsDone r → f.synced ≡ length f.bytes → values_of f.bytes ≡ bytes
     → Adds old new (Calls (asked who Rename (open_sink ∷ closed_sink ∷ []) 0 0) (answered plain r))
-    → Adds old new (Leads IsForeign (Holds given earlier (ReadAndOpen given earlier bytes (Some f))) (Holds given earlier (ReadAndClosed given earlier bytes)))
+    → Adds old new (Leads (anyhow IsForeign) (Holds given earlier (ReadAndOpen given earlier bytes (Some f))) (Holds given earlier (ReadAndClosed given earlier bytes)))
 rename_leads given earlier bytes f who r is whole values told =
-    done_leads r is (foreign_keeps given earlier (ReadAndOpen given earlier bytes (Some f)) (open_stays given earlier bytes (Some f)))
+    done_leads r (λ before answer files logs running. tt) is (foreign_keeps given earlier (ReadAndOpen given earlier bytes (Some f)) (open_stays given earlier bytes (Some f)))
     (λ answer was. rename_shows given earlier bytes f who answer (ReadAndClosed given earlier bytes) (only_done answer was) whole values
     (closed_done given earlier bytes f who answer was values))
     told
@@ -336,10 +333,10 @@ rename_leads given earlier bytes f who r is whole values told =
 pub rename_ends : (given : Round) (earlier : History) (bytes : List ℕ) (f : File) (who : Who) {old new : Option History} (r : Result (Unit {0}) CallFault) (fault : OutsideFault)
     → Ends Rename r fault → f.synced ≡ length f.bytes → values_of f.bytes ≡ bytes
     → Adds old new (Calls (asked who Rename (open_sink ∷ closed_sink ∷ []) 0 0) (answered plain r))
-    → Adds old new (Leads IsForeign (Holds given earlier (ReadAndOpen given earlier bytes (Some f))) (Holds given earlier Anything))
+    → Adds old new (Leads (anyhow IsForeign) (Holds given earlier (ReadAndOpen given earlier bytes (Some f))) (Holds given earlier Anything))
 rename_ends given earlier bytes f who r fault ends whole values told =
     let P = ReadAndOpen given earlier bytes (Some f) in
-    ends_leads (λ x. Holds given earlier Anything) plain r fault ends (foreign_keeps given earlier P (open_stays given earlier bytes (Some f)))
+    ends_leads (λ x. Holds given earlier Anything) plain r fault (λ before answer files logs running. tt) ends (foreign_keeps given earlier P (open_stays given earlier bytes (Some f)))
     (rename_shows given earlier bytes f who (Refused Failed) Anything tt whole values (λ added files logs honest grows p. tt))
     (λ left. rename_shows given earlier bytes f who (Stopped left) Anything tt whole values (λ added files logs honest grows p. tt))
     (λ before stopped held. to_less given earlier P before held)
@@ -398,21 +395,21 @@ not_refused given earlier who (Deleted suffix) was added files logs honest grows
 
 pub read_leads : (given : Round) (earlier : History) (who : Who) (piece : Piece) {old new : Option History} (r : Result Piece CallFault)
     → IsTaken r (Some piece) → Adds old new (Calls (asked who LogRead (given.log ∷ codes "base" ∷ []) 0 most_asked) (answered piece_given r))
-    → Adds old new (Leads IsForeign (Holds given earlier Anything) (Holds given earlier (ReadNow given earlier piece.bytes)))
+    → Adds old new (Leads (anyhow IsForeign) (Holds given earlier Anything) (Holds given earlier (ReadNow given earlier piece.bytes)))
 read_leads given earlier who piece r is told =
     let q = asked who LogRead (given.log ∷ codes "base" ∷ []) 0 most_asked in
     let B = ReadNow given earlier piece.bytes in
-    taken_leads piece_given r (Some piece) is (foreign_keeps given earlier Anything (anything_stays given earlier))
+    taken_leads piece_given r (Some piece) (λ before answer files logs running. tt) is (foreign_keeps given earlier Anything (anything_stays given earlier))
     (λ answer took. subst (Shows (Holds given earlier Anything) (Holds given earlier B) q) (sym took)
     (quiet_shows given earlier Anything B q (piece_given piece) refl tt (was_read given earlier who piece)))
     told
 
 pub none_leads : (given : Round) (earlier : History) (who : Who) {old new : Option History} (r : Result Piece CallFault)
     → IsTaken r None → Adds old new (Calls (asked who LogRead (given.log ∷ codes "base" ∷ []) 0 most_asked) (answered piece_given r))
-    → Adds old new (Leads IsForeign (Holds given earlier Anything) (Holds given earlier (ReadNow given earlier [])))
+    → Adds old new (Leads (anyhow IsForeign) (Holds given earlier Anything) (Holds given earlier (ReadNow given earlier [])))
 none_leads given earlier who r is told =
     let q = asked who LogRead (given.log ∷ codes "base" ∷ []) 0 most_asked in
-    taken_leads piece_given r None is (foreign_keeps given earlier Anything (anything_stays given earlier))
+    taken_leads piece_given r None (λ before answer files logs running. tt) is (foreign_keeps given earlier Anything (anything_stays given earlier))
     (λ answer took. quiet_shows given earlier Anything (ReadNow given earlier []) q answer refl (only_refused answer took) (not_refused given earlier who answer took))
     told
 
@@ -450,12 +447,12 @@ ok_of (Err NoMemory) is may = absurd is
 pub say_leads : (given : Round) (earlier : History) (bytes : List ℕ) (who : Who) {old new : Option History} (r : Result (Unit {0}) CallFault)
     → IsDone r → MayFail r → length bytes ≤ 131072
     → Adds old new (Calls (asked who Say (stream_line given (length bytes) ∷ []) 0 0) (answered plain r))
-    → Adds old new (Leads IsForeign (Holds given earlier (ReadAndClosed given earlier bytes)) (Holds given earlier (λ added. RoundIsWhole given added earlier)))
+    → Adds old new (Leads (anyhow IsForeign) (Holds given earlier (ReadAndClosed given earlier bytes)) (Holds given earlier (λ added. RoundIsWhole given added earlier)))
 say_leads given earlier bytes who {old = old} {new = new} r is may few told =
     let q = asked who Say (stream_line given (length bytes) ∷ []) 0 0 in
     let ok : Adds old new (Calls q (Ok (Done [] 0 0))) =
     subst (λ (x : Result (Unit {0}) CallFault). Adds old new (Calls q (answered plain x))) (ok_of r is may) told in
-    ok_leads (Done [] 0 0) (foreign_keeps given earlier (ReadAndClosed given earlier bytes) (closed_stays given earlier bytes))
+    ok_leads (Done [] 0 0) (λ before answer files logs running. tt) (foreign_keeps given earlier (ReadAndClosed given earlier bytes) (closed_stays given earlier bytes))
     (quiet_shows given earlier (ReadAndClosed given earlier bytes) (λ added. RoundIsWhole given added earlier) q (Done [] 0 0) refl tt (said_whole given earlier bytes who few))
     ok
 

@@ -1,17 +1,15 @@
 -- What the printing of a last line leads to.
-use Rattle.std.proofs.Common.{◌≡◌, ◌⊎◌, inl, inr, ℕ, ◌+◌, ◌-◌, ◌^◌, ◌≤◌, min, true, false, List, [], ◌∷◌, ◌++◌, length, take, Ok, Err, Some, None, Option, Result, refl, sym, ◌∙◌, ap, subst, length-append, arith}
+use Rattle.std.proofs.Common.{◌≡◌, inl, inr, ℕ, ◌≤◌, List, [], ◌∷◌, ◌++◌, length, take, Ok, Err, Some, None, Option, Result, refl, sym, ◌∙◌, ap, subst, length-append, arith}
 use Rattle.std.proofs.lemmas.List.{take-append-le, take_all}
-use Rattle.std.specs.Prelude.{IsTrue}
 use Rattle.chk_site.specs.declared.acts.Act.{Act}
 use Rattle.chk_site.specs.declared.acts.Who.{Who}
 use Rattle.chk_site.specs.declared.acts.Call.TheVariants.{Say}
 use Rattle.chk_site.specs.declared.acts.CallFault.{CallFault}
 use Rattle.chk_site.specs.declared.acts.CallFault.TheVariants.{Failed, Missing, Exists, Short, NoMemory}
-use Rattle.chk_site.specs.declared.acts.ActAnswer.{ActAnswer}
-use Rattle.chk_site.specs.declared.acts.ActAnswer.TheVariants.{Done, Refused, Stopped}
-use Rattle.chk_site.specs.History.{Step, History, Every, Others}
-use Rattle.chk_site.specs.Site.{Adds, Asked, asked, answered, plain, Calls, CauseOf, Rose}
-use Rattle.chk_site.specs.Runs.{Leads, Since}
+use Rattle.chk_site.specs.declared.acts.ActAnswer.TheVariants.{Refused, Stopped}
+use Rattle.chk_site.specs.History.{History, Others}
+use Rattle.chk_site.specs.Site.{Adds, asked, answered, plain, Calls, CauseOf, Rose}
+use Rattle.chk_site.specs.Runs.{anyhow, Leads}
 use Rattle.chk_site.proofs.Runs.{adds_as}
 use Rattle.chk_site.proofs.Leads.{any_leads}
 use Rattle.chukwa_run.specs.CommandWords.{Round, Asked as Wanted, Rounds, Salvages, asked as wanted_by, usage_of}
@@ -21,18 +19,18 @@ use Rattle.chukwa_run.specs.declared.faults.RunFault.{RunFault}
 use Rattle.chukwa_run.specs.declared.faults.RunFault.TheVariants.{Outside as OutsideCall, NoMemory as NoMemoryLeft, LogTooLong, SinkIsThere}
 use Rattle.chukwa_run.specs.Rounds.{ClosedIsFront, IsForeign, StaysFront, RoundIsWhole, Holds, Anything}
 use Rattle.chukwa_run.specs.Acts.{Anyone, ActedSo, GoesOn, writer_chukwa}
-use Rattle.chukwa_run.specs.Sayings.{IsSaying, ThenSaid, NoActs}
+use Rattle.chukwa_run.specs.Sayings.{ThenSaid, NoActs}
 use Rattle.chukwa_run.specs.Runs.{StaysFrontBy, ClosedStaysFront, RoundRuns, SaidUsage, RunsAs, RunsSo}
 use Rattle.chukwa_run.proofs.Kept.{foreign_keeps, quiet_shows, to_anything, anything_stays}
-use Rattle.chukwa_run.proofs.ActsCalls.{made, anyone_keeps, acted_shows, stop_shows, acts_as}
+use Rattle.chukwa_run.proofs.ActsCalls.{anyone_keeps, acted_shows, stop_shows, acts_as}
 
 -- the closed sink stays a front of the log
 pub say_keeps : (given : Round) (earlier : History) (line : List ℕ) {old new : Option History} (r : Result (Unit {0}) CallFault)
     → Adds old new (Calls (asked writer_chukwa Say (line ∷ []) 0 0) (answered plain r))
-    → Adds old new (Leads IsForeign (Holds given earlier Anything) (Holds given earlier Anything))
+    → Adds old new (Leads (anyhow IsForeign) (Holds given earlier Anything) (Holds given earlier Anything))
 say_keeps given earlier line r told =
     let q = asked writer_chukwa Say (line ∷ []) 0 0 in
-    any_leads (Holds given earlier Anything) plain r (foreign_keeps given earlier Anything (anything_stays given earlier))
+    any_leads (Holds given earlier Anything) plain r (λ before answer files logs running. tt) (foreign_keeps given earlier Anything (anything_stays given earlier))
     (λ value. quiet_shows given earlier Anything Anything q (plain value) refl tt (to_anything given earlier Anything q (plain value)))
     (λ fault. quiet_shows given earlier Anything Anything q (Refused fault) refl tt (to_anything given earlier Anything q (Refused fault)))
     (λ left. quiet_shows given earlier Anything Anything q (Stopped left) refl tt (to_anything given earlier Anything q (Stopped left)))
@@ -47,10 +45,10 @@ unsaid Before line (act ∷ acts) b = inl b
 -- the line is the newest act, or there is none
 pub say_acts : (earlier : History) (Before : List Act → Type 0) (line : List ℕ) {old new : Option History} (r : Result (Unit {0}) CallFault)
     → Adds old new (Calls (asked writer_chukwa Say (line ∷ []) 0 0) (answered plain r))
-    → Adds old new (Leads Anyone (ActedSo earlier Before) (ActedSo earlier (ThenSaid Before line)))
+    → Adds old new (Leads (anyhow Anyone) (ActedSo earlier Before) (ActedSo earlier (ThenSaid Before line)))
 say_acts earlier Before line r told =
     let q = asked writer_chukwa Say (line ∷ []) 0 0 in
-    any_leads (ActedSo earlier (ThenSaid Before line)) plain r (anyone_keeps earlier Before)
+    any_leads (ActedSo earlier (ThenSaid Before line)) plain r (λ before answer files logs running. tt) (anyone_keeps earlier Before)
     (λ value. acted_shows earlier Before (ThenSaid Before line) q (plain value) refl (λ acts b. inr (record { who = refl; call = refl; words = refl }, b)))
     (λ fault. acted_shows earlier Before (ThenSaid Before line) q (Refused fault) refl (λ acts b. inr (record { who = refl; call = refl; words = refl }, b)))
     (λ left. stop_shows earlier Before (ThenSaid Before line) q left)
@@ -75,7 +73,7 @@ front_is {A = A} a b c e =
 
 -- from what a round leads to, to what is said of its added steps
 pub stays_front_by : (given : Round) (status : ℕ) {old new : Option History}
-    → ((earlier : History) → Adds old new (Leads IsForeign (Holds given earlier Anything) (RoundRuns given earlier status)))
+    → ((earlier : History) → Adds old new (Leads (anyhow IsForeign) (Holds given earlier Anything) (RoundRuns given earlier status)))
     → Adds old new (StaysFrontBy given status)
 stays_front_by given status {old = old} {new = new} leads = record {
   told =

@@ -1,5 +1,5 @@
 -- What a salvage and its last line lead to.
-use Rattle.std.proofs.Common.{◌≡◌, ◌⊎◌, inl, inr, ℕ, ◌≤◌, Bool, true, false, List, [], ◌∷◌, ◌++◌, length, Ok, Err, Some, None, Option, Result, refl, sym, ◌∙◌, ap, subst, append_assoc, append-nil}
+use Rattle.std.proofs.Common.{◌≡◌, ◌⊎◌, inl, inr, ℕ, Bool, true, false, List, [], ◌∷◌, ◌++◌, Ok, Err, Some, None, Option, Result, refl, sym, ◌∙◌, ap, subst, append_assoc, append-nil}
 use Rattle.chk_site.specs.declared.acts.Act.{Act}
 use Rattle.chk_site.specs.declared.acts.Who.{Who}
 use Rattle.chk_site.specs.declared.acts.Call.{Call}
@@ -8,25 +8,22 @@ use Rattle.chk_site.specs.declared.acts.CallFault.{CallFault}
 use Rattle.chk_site.specs.declared.acts.CallFault.TheVariants.{Failed, Missing, Exists, Short, NoMemory}
 use Rattle.chk_site.specs.declared.acts.ActAnswer.{ActAnswer}
 use Rattle.chk_site.specs.declared.acts.ActAnswer.TheVariants.{Done, Refused, Stopped, Rotated, Deleted}
-use Rattle.chk_site.specs.Files.{File}
-use Rattle.chk_site.specs.Effect.{IsSmallFile}
 use Rattle.chk_site.specs.Acts.{deed}
-use Rattle.chk_site.specs.History.{Step, History, Every, Others, IsTheirs, files_after, is_stopped}
-use Rattle.chk_site.specs.Site.{Adds, Asked, asked, answered, plain, Acted, Added, Calls, Rose, EndsIn}
-use Rattle.chk_site.specs.Runs.{Leads, Since, own_acts}
-use Rattle.chk_site.proofs.Runs.{adds_then, adds_as, every_early}
+use Rattle.chk_site.specs.History.{Step, History, Every, IsTheirs, is_stopped}
+use Rattle.chk_site.specs.Site.{Adds, Asked, asked, answered, plain, Acted, Added, Calls, EndsIn}
+use Rattle.chk_site.specs.Runs.{anyhow, Leads, own_acts}
+use Rattle.chk_site.proofs.Leads.{owned_anyhow}
+use Rattle.chk_site.proofs.Runs.{adds_then, adds_as, adds_both, every_early}
 use Rattle.chk_replace.specs.Replace.{LeavesFile}
-use Rattle.chk_replace.specs.Load.{IsLook}
 use Rattle.chukwa_salvage.specs.declared.fault.SalvageFault.{SalvageFault}
 use Rattle.chukwa_salvage.specs.declared.fault.SalvageFault.TheVariants.{Outside, NoMemory as NoMemoryLeft, Damaged}
-use Rattle.chukwa_salvage.specs.Printing.{Printed, PrintsFile, IsRefused, IsWhole, LooksOrPrints, FailsLast, CauseOf, bytes_or_none, said, text_said}
+use Rattle.chukwa_salvage.specs.Printing.{Printed, PrintsFile, LooksOrPrints, FailsLast, bytes_or_none, said, text_said}
 use Rattle.chukwa_run.specs.CommandWords.{Round, Asked as AskedFor, Rounds, Salvages}
 use Rattle.chukwa_run.specs.Lines.{salvage_fault_line, salvage_status}
 use Rattle.chukwa_run.specs.Acts.{Anyone, ActedSo, FailedLast, writer_chukwa}
-use Rattle.chukwa_run.specs.Sayings.{NoActs, SaysAtMost, ThenSaid}
-use Rattle.chukwa_run.specs.Salvages.{IsRefusedSo, SalvagePrintsBy, SalvagePrints, ReadsOrPrints, AreSalvageActs, SalvageEndsWith, SalvageTold, SalvageEnds}
+use Rattle.chukwa_run.specs.Sayings.{NoActs, SaysAtMost}
+use Rattle.chukwa_run.specs.Salvages.{IsRefusedSo, SalvagePrintsBy, SalvagePrints, ReadsOrPrints, AreSalvageActs, SalvageEndsWith}
 use Rattle.chukwa_run.proofs.ActsCalls.{made}
-use Rattle.chukwa_run.proofs.Said.{unsaid, front_is}
 
 -- the own acts of two stretches
 acts_join : (b a : History) → own_acts (b ++ a) ≡ own_acts b ++ own_acts a
@@ -95,22 +92,6 @@ says_at_most line r told =
       | false ↦ λ e. added_says line r added history (calls.running e)
     ] in
     by (is_stopped history) refl)
-
-some_is : {A : Type 0} {x y : A} → Some x ≡ Some y → x ≡ y
-some_is e = cc
-
--- where two accounts are given of the same steps, both hold
-pub adds_both : {old new : Option History} {P Q : History → History → Type 0} (R : History → History → Type 0)
-    → Adds old new P → Adds old new Q → ((added history : History) → P added history → Q added history → R added history) → Adds old new R
-adds_both {Q = Q} R p q join = record {
-  told =
-      λ history e.
-      let x = p.told history e in
-      let y = q.told history e in
-      let same : y.0 ≡ x.0 = front_is y.0 x.0 history (some_is (sym y.1 ∙ x.1)) in
-      (x.0, x.1, join x.0 history x.2 (subst (λ (a : History). Q a history) same y.2));
-  untold = p.untold;
-}
 
 never_zero : (fault : SalvageFault) → salvage_status fault ≡ 0 → ⊥
 never_zero (Outside call) e = cc
@@ -195,9 +176,9 @@ ends_by file (Err Damaged) added history acts last running = acts
 -- from no acts to those of a salvage
 pub salvage_acts : (file : List ℕ) (result : Result Unit SalvageFault) {old new : Option History} (earlier : History)
     → Adds old new (Every (LooksOrPrints writer_chukwa file)) → Adds old new (FailsLast result)
-    → Adds old new (Leads Anyone (ActedSo earlier NoActs) (ActedSo earlier (EndsBy file result)))
+    → Adds old new (Leads (anyhow Anyone) (ActedSo earlier NoActs) (ActedSo earlier (EndsBy file result)))
 salvage_acts file result earlier p q =
-    adds_both (Leads Anyone (ActedSo earlier NoActs) (ActedSo earlier (EndsBy file result))) p q
+    adds_both (Leads (anyhow Anyone) (ActedSo earlier NoActs) (ActedSo earlier (EndsBy file result))) p q
     (λ added history each last. record {
       leads =
           λ others held. record {
@@ -213,6 +194,7 @@ salvage_acts file result earlier p q =
                 acts_join added held.added ∙ ap (λ (acts : List Act). own_acts added ++ acts) (held.holds before) ∙ append-nil (own_acts added) in
                 subst (EndsBy file result) (sym all) (ends_by file result added history (acts_of_salvage file added history each) last at_end);
           };
+      own = owned_anyhow added history;
     })
 
 -- what is printed where a salvage was asked for

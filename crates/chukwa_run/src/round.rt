@@ -3,7 +3,7 @@
 ghost use Rattle.std.specs.Prelude.{◌≡◌, ◌≤◌, ◌<◌, ℕ, length, IfOk, IsTrue, codes};
 ghost use Rattle.chk_site.specs.History.{History};
 ghost use Rattle.chk_site.specs.Site.{Adds};
-ghost use Rattle.chk_site.specs.Runs.{Leads};
+ghost use Rattle.chk_site.specs.Runs.{anyhow, Leads};
 ghost use Rattle.chk_seqfile.specs.Headers.{header, marker_of};
 ghost use Rattle.chukwa_run.specs.CommandWords.{round_of, is_round};
 ghost use Rattle.chukwa_run.specs.Rounds.{IsForeign, Holds, Anything, WasRead, ReadNow, most_asked, entry_of};
@@ -33,9 +33,9 @@ const CLOSED: &str = "sinks/c1.1.1.done";
 pub fn round<S: Site>(alloc: Global, site: &mut S, given: &RoundWords<'_>) -> Result<(), RunFault>
     requires good { IsTrue (is_round (round_of given.now)) }
     ensures kept { (earlier : History) → Adds (S.told site.old) (S.told site.new)
-        (Leads IsForeign (Holds (round_of given.now) earlier Anything) (WholeOr (round_of given.now) earlier result)) }
+        (Leads (anyhow IsForeign) (Holds (round_of given.now) earlier Anything) (WholeOr (round_of given.now) earlier result)) }
     ensures acts { (earlier : History) → Adds (S.told site.old) (S.told site.new)
-        (Leads Anyone (ActedSo earlier (GoesOn (round_of given.now))) (OnActs (round_of given.now) earlier result)) }
+        (Leads (anyhow Anyone) (ActedSo earlier (GoesOn (round_of given.now))) (OnActs (round_of given.now) earlier result)) }
     ensures cause { RunCause (S.fault_count site.old) (S.fault_count site.new) result }
 {
     let agent = agent(alloc, given)?;
@@ -76,9 +76,9 @@ fn read_log<S: Site>(
 ) -> Result<Bytes, RunFault>
     requires who { agent.now ≡ agent_of (round_of given.now) }
     ensures kept { (earlier : History) → Adds (S.told site.old) (S.told site.new)
-        (Leads IsForeign (Holds (round_of given.now) earlier Anything) (ReadOr (round_of given.now) earlier result)) }
+        (Leads (anyhow IsForeign) (Holds (round_of given.now) earlier Anything) (ReadOr (round_of given.now) earlier result)) }
     ensures acts { (earlier : History) → Adds (S.told site.old) (S.told site.new)
-        (Leads Anyone (ActedSo earlier (GoesOn (round_of given.now))) (ReadActs (round_of given.now) earlier result)) }
+        (Leads (anyhow Anyone) (ActedSo earlier (GoesOn (round_of given.now))) (ReadActs (round_of given.now) earlier result)) }
     ensures most { IfOk result (λ bytes. length bytes ≤ most_asked) }
     ensures cause { RunCause (S.fault_count site.old) (S.fault_count site.new) result }
 {
@@ -102,10 +102,10 @@ fn store<S: Site>(
     requires good { IsTrue (is_round (round_of given.now)) }
     requires few { length bytes.now ≤ 131072 }
     ensures kept { (earlier : History) → Adds (S.told site.old) (S.told site.new)
-        (Leads IsForeign (Holds (round_of given.now) earlier (ReadNow (round_of given.now) earlier bytes.now))
+        (Leads (anyhow IsForeign) (Holds (round_of given.now) earlier (ReadNow (round_of given.now) earlier bytes.now))
         (ClosedOr (round_of given.now) earlier bytes.now result)) }
     ensures acts { (earlier : History) → Adds (S.told site.old) (S.told site.new)
-        (Leads Anyone (ActedSo earlier (GoesOn (round_of given.now))) (OnActs (round_of given.now) earlier result)) }
+        (Leads (anyhow Anyone) (ActedSo earlier (GoesOn (round_of given.now))) (OnActs (round_of given.now) earlier result)) }
     ensures cause { RunCause (S.fault_count site.old) (S.fault_count site.new) result }
 {
     if bytes.is_empty() {
@@ -158,10 +158,10 @@ fn make_sink<S: Site>(
 ) -> Result<(), RunFault>
     requires who { collector.now ≡ collector_c1 }
     ensures kept { (earlier : History) → Adds (S.told site.old) (S.told site.new)
-        (Leads IsForeign (Holds (round_of given.now) earlier (WasRead (round_of given.now) earlier bytes.now))
+        (Leads (anyhow IsForeign) (Holds (round_of given.now) earlier (WasRead (round_of given.now) earlier bytes.now))
         (OpenOr (round_of given.now) earlier bytes.now result)) }
     ensures acts { (earlier : History) → Adds (S.told site.old) (S.told site.new)
-        (Leads Anyone (ActedSo earlier (GoesOn (round_of given.now))) (OnActs (round_of given.now) earlier result)) }
+        (Leads (anyhow Anyone) (ActedSo earlier (GoesOn (round_of given.now))) (OnActs (round_of given.now) earlier result)) }
     ensures cause { RunCause (S.fault_count site.old) (S.fault_count site.new) result }
 {
     let started = site.start(alloc, collector);
@@ -188,10 +188,10 @@ fn fill_sink<S: Site>(
     requires header { head.now ≡ header (marker_of (codes "c1.1.1")) }
     requires piece { entry.now ≡ entry_of (round_of given.now) bytes.now }
     ensures kept { (earlier : History) → Adds (S.told site.old) (S.told site.new)
-        (Leads IsForeign (OpenOr (round_of given.now) earlier bytes.now (Ok tt))
+        (Leads (anyhow IsForeign) (OpenOr (round_of given.now) earlier bytes.now (Ok tt))
         (FullOr (round_of given.now) earlier bytes.now result)) }
     ensures acts { (earlier : History) → Adds (S.told site.old) (S.told site.new)
-        (Leads Anyone (ActedSo earlier (GoesOn (round_of given.now))) (OnActs (round_of given.now) earlier result)) }
+        (Leads (anyhow Anyone) (ActedSo earlier (GoesOn (round_of given.now))) (OnActs (round_of given.now) earlier result)) }
     ensures cause { RunCause (S.fault_count site.old) (S.fault_count site.new) result }
 {
     let begun = site.append(alloc, collector, OPEN, head);
@@ -214,10 +214,10 @@ fn close_sink<S: Site>(
     requires few { length bytes.now ≤ 131072 }
     requires who { collector.now ≡ collector_c1 }
     ensures kept { (earlier : History) → Adds (S.told site.old) (S.told site.new)
-        (Leads IsForeign (FullOr (round_of given.now) earlier bytes.now (Ok tt))
+        (Leads (anyhow IsForeign) (FullOr (round_of given.now) earlier bytes.now (Ok tt))
         (ClosedOr (round_of given.now) earlier bytes.now result)) }
     ensures acts { (earlier : History) → Adds (S.told site.old) (S.told site.new)
-        (Leads Anyone (ActedSo earlier (GoesOn (round_of given.now))) (OnActs (round_of given.now) earlier result)) }
+        (Leads (anyhow Anyone) (ActedSo earlier (GoesOn (round_of given.now))) (OnActs (round_of given.now) earlier result)) }
     ensures cause { RunCause (S.fault_count site.old) (S.fault_count site.new) result }
 {
     let synced = site.sync(alloc, collector, OPEN);
@@ -238,9 +238,9 @@ fn say_stream<S: Site>(
     requires who { agent.now ≡ agent_of (round_of given.now) }
     requires few { length bytes.now ≤ 131072 }
     ensures kept { (earlier : History) → Adds (S.told site.old) (S.told site.new)
-        (Leads IsForeign (ClosedOr (round_of given.now) earlier bytes.now (Ok tt)) (WholeOr (round_of given.now) earlier result)) }
+        (Leads (anyhow IsForeign) (ClosedOr (round_of given.now) earlier bytes.now (Ok tt)) (WholeOr (round_of given.now) earlier result)) }
     ensures acts { (earlier : History) → Adds (S.told site.old) (S.told site.new)
-        (Leads Anyone (ActedSo earlier (GoesOn (round_of given.now))) (OnActs (round_of given.now) earlier result)) }
+        (Leads (anyhow Anyone) (ActedSo earlier (GoesOn (round_of given.now))) (OnActs (round_of given.now) earlier result)) }
     ensures cause { RunCause (S.fault_count site.old) (S.fault_count site.new) result }
 {
     let line = stream_line(alloc, given, bytes.len() as u64)?;

@@ -3,7 +3,7 @@
 ghost use Rattle.std.specs.Prelude.{◌≡◌, ◌≢◌, ◌↔◌, ◌≤◌, map, None, IfOk, IsTrue};
 ghost use Rattle.chk_site.specs.History.{History};
 ghost use Rattle.chk_site.specs.Site.{Adds, Rose};
-ghost use Rattle.chk_site.specs.Runs.{Leads};
+ghost use Rattle.chk_site.specs.Runs.{anyhow, Leads};
 ghost use Rattle.chukwa_run.specs.CommandWords.{round_of, asked, is_round};
 ghost use Rattle.chukwa_run.specs.Rounds.{IsForeign, Holds, Anything};
 ghost use Rattle.chukwa_run.specs.Acts.{Anyone, ActedSo, EndsWith};
@@ -39,7 +39,7 @@ pub fn run<'a, S: Site>(alloc: Global, site: &mut S, words: &'a [&'a str]) -> u8
     ensures salvage_prints { Adds (S.told site.old) (S.told site.new)
         (SalvagePrints (asked (map (λ w. w.now) words.now)) result) }
     ensures acts { (earlier : History) → Adds (S.told site.old) (S.told site.new)
-        (Leads Anyone (ActedSo earlier NoActs) (ActedSo earlier (RunsSo (map (λ w. w.now) words.now) result))) }
+        (Leads (anyhow Anyone) (ActedSo earlier NoActs) (ActedSo earlier (RunsSo (map (λ w. w.now) words.now) result))) }
     ensures outside_cause { result ≡ 3 → Rose (S.fault_count site.old) (S.fault_count site.new) }
 {
     match read_words(words) {
@@ -55,9 +55,9 @@ pub fn run<'a, S: Site>(alloc: Global, site: &mut S, words: &'a [&'a str]) -> u8
 fn run_round<S: Site>(alloc: Global, site: &mut S, given: &RoundWords<'_>) -> u8
     requires good { IsTrue (is_round (round_of given.now)) }
     ensures kept { (earlier : History) → Adds (S.told site.old) (S.told site.new)
-        (Leads IsForeign (Holds (round_of given.now) earlier Anything) (RoundRuns (round_of given.now) earlier result)) }
+        (Leads (anyhow IsForeign) (Holds (round_of given.now) earlier Anything) (RoundRuns (round_of given.now) earlier result)) }
     ensures acts { (earlier : History) → Adds (S.told site.old) (S.told site.new)
-        (Leads Anyone (ActedSo earlier NoActs) (ActedSo earlier (EndsSo (round_of given.now) result))) }
+        (Leads (anyhow Anyone) (ActedSo earlier NoActs) (ActedSo earlier (EndsSo (round_of given.now) result))) }
     ensures cause { result ≡ 3 → Rose (S.fault_count site.old) (S.fault_count site.new) }
     ensures no_usage { result ≢ 2 }
 {
@@ -73,9 +73,9 @@ fn run_round<S: Site>(alloc: Global, site: &mut S, given: &RoundWords<'_>) -> u8
 // Prints the fault's line, where there is memory for it.
 fn say_fault<S: Site>(alloc: Global, site: &mut S, given: &RoundWords<'_>, fault: RunFault)
     ensures kept { (earlier : History) → Adds (S.told site.old) (S.told site.new)
-        (Leads IsForeign (Holds (round_of given.now) earlier Anything) (Holds (round_of given.now) earlier Anything)) }
+        (Leads (anyhow IsForeign) (Holds (round_of given.now) earlier Anything) (Holds (round_of given.now) earlier Anything)) }
     ensures acts { (earlier : History) → Adds (S.told site.old) (S.told site.new)
-        (Leads Anyone (ActedSo earlier (EndsWith (round_of given.now) fault)) (ActedSo earlier (Told (round_of given.now) fault))) }
+        (Leads (anyhow Anyone) (ActedSo earlier (EndsWith (round_of given.now) fault)) (ActedSo earlier (Told (round_of given.now) fault))) }
     ensures count { S.fault_count site.old ≤ S.fault_count site.new }
 {
     let Ok(writer) = writer(alloc) else { return };
@@ -88,7 +88,7 @@ fn say_fault<S: Site>(alloc: Global, site: &mut S, given: &RoundWords<'_>, fault
 // Prints the usage line, where there is memory for it.
 fn say_usage<S: Site>(alloc: Global, site: &mut S, usage: Usage)
     ensures acts { (earlier : History) → Adds (S.told site.old) (S.told site.new)
-        (Leads Anyone (ActedSo earlier NoActs) (ActedSo earlier (SaidUsage (usage_text usage)))) }
+        (Leads (anyhow Anyone) (ActedSo earlier NoActs) (ActedSo earlier (SaidUsage (usage_text usage)))) }
 {
     let Ok(writer) = writer(alloc) else { return };
     let Ok(line) = usage_line(alloc, usage) else {

@@ -3,7 +3,7 @@
 ghost use Rattle.std.specs.Prelude.{◌≡◌, ◌≢◌, ◌≤◌};
 ghost use Rattle.chk_site.specs.History.{History};
 ghost use Rattle.chk_site.specs.Site.{Adds, Rose};
-ghost use Rattle.chk_site.specs.Runs.{Leads};
+ghost use Rattle.chk_site.specs.Runs.{anyhow, Leads};
 ghost use Rattle.chukwa_run.specs.Acts.{Anyone, ActedSo, writer_chukwa};
 ghost use Rattle.chukwa_run.specs.Lines.{salvage_fault_line, salvage_status};
 ghost use Rattle.chukwa_run.specs.Sayings.{NoActs, SaysAtMost};
@@ -19,7 +19,7 @@ use std::alloc::Global;
 pub fn run_salvage<S: Site>(alloc: Global, site: &mut S, file: &str) -> u8
     ensures prints { Adds (S.told site.old) (S.told site.new) (SalvagePrintsBy file.now result) }
     ensures acts { (earlier : History) → Adds (S.told site.old) (S.told site.new)
-        (Leads Anyone (ActedSo earlier NoActs) (ActedSo earlier (SalvageEnds file.now result))) }
+        (Leads (anyhow Anyone) (ActedSo earlier NoActs) (ActedSo earlier (SalvageEnds file.now result))) }
     ensures cause { result ≡ 3 → Rose (S.fault_count site.old) (S.fault_count site.new) }
     ensures no_usage { result ≢ 2 }
 {
@@ -50,7 +50,7 @@ fn say_fault<S: Site>(alloc: Global, site: &mut S, who: &Who, file: &str, fault:
     requires who { who.now ≡ writer_chukwa }
     ensures says { Adds (S.told site.old) (S.told site.new) (SaysAtMost (salvage_fault_line file.now fault)) }
     ensures acts { (earlier : History) → Adds (S.told site.old) (S.told site.new)
-        (Leads Anyone (ActedSo earlier (SalvageEndsWith file.now fault)) (ActedSo earlier (SalvageTold file.now fault))) }
+        (Leads (anyhow Anyone) (ActedSo earlier (SalvageEndsWith file.now fault)) (ActedSo earlier (SalvageTold file.now fault))) }
     ensures count { S.fault_count site.old ≤ S.fault_count site.new }
 {
     let Ok(line) = salvage_fault_line(alloc, file, fault) else {

@@ -9,7 +9,7 @@ use Rattle.chk_site.specs.Files.{File}
 use Rattle.chk_site.specs.Effect.{IsSmallFile}
 use Rattle.chk_site.specs.History.{Step, History, Every, Others, files_after}
 use Rattle.chk_site.specs.Site.{Adds, LastFailed, OutsideCause}
-use Rattle.chk_site.specs.Runs.{Leads}
+use Rattle.chk_site.specs.Runs.{anyhow, Leads}
 use Rattle.chk_site.proofs.Runs.{adds_then, adds_as, every_join, every_early}
 use Rattle.chk_replace.specs.Replace.{LeavesFile}
 use Rattle.chk_replace.specs.Load.{Has, IsLook, Loaded, bytes_of}
@@ -37,7 +37,7 @@ record IsRead (who : Who) (name : List ℕ) (given : Option (List ℕ)) (added h
       → given ≡ bytes_of file
 
 read_whole : (who : Who) (name : List ℕ) (given : Option (List ℕ)) {old new : Option History}
-    → ((file : Option File) → IsSmallFile file → Adds old new (Leads (LeavesFile name) (Has name file) (Loaded name file (Ok given))))
+    → ((file : Option File) → IsSmallFile file → Adds old new (Leads (anyhow (LeavesFile name)) (Has name file) (Loaded name file (Ok given))))
     → Adds old new (Every (IsLook who name)) → Adds old new (IsRead who name given)
 read_whole who name given whole reads = record {
   told =
@@ -52,7 +52,7 @@ read_whole who name given whole reads = record {
               let y = (whole file small).told history e in
               let both : Some (y.0 ++ history) ≡ Some (x.0 ++ history) = sym y.1 ∙ x.1 in
               let same : y.0 ≡ x.0 = append_cancel_right y.0 x.0 history (cc) in
-              let leads = subst (λ (a : History). Leads (LeavesFile name) (Has name file) (Loaded name file (Ok given)) a history) same y.2 in
+              let leads = subst (λ (a : History). Leads (anyhow (LeavesFile name)) (Has name file) (Loaded name file (Ok given)) a history) same y.2 in
               (leads.leads others has).1;
         },
       );
@@ -94,7 +94,7 @@ printed_items bytes items (Err no_memory) head text header same p =
 -- the file was read and its lines printed
 pub prints_items : (who : Who) (name : List ℕ) (given : Option (List ℕ)) (bytes : List ℕ) (items : List Item)
     (result : Result (Unit {0}) OutsideFault) (head : HeaderRef) {old mid new : Option History}
-    → ((file : Option File) → IsSmallFile file → Adds old mid (Leads (LeavesFile name) (Has name file) (Loaded name file (Ok given))))
+    → ((file : Option File) → IsSmallFile file → Adds old mid (Leads (anyhow (LeavesFile name)) (Has name file) (Loaded name file (Ok given))))
     → Adds old mid (Every (IsLook who name)) → bytes ≡ unwrap_or given []
     → read_header bytes ≡ Ok head → items ≡ salvage_of bytes → Adds mid new (PrintsItems who items result)
     → Adds old new (PrintsFile name (as_salvaged result))
@@ -105,7 +105,7 @@ prints_items who name given bytes items result head whole reads is header same t
 
 -- the file was read and its header refused
 pub prints_none : (who : Who) (name : List ℕ) (given : Option (List ℕ)) (bytes : List ℕ) (why : HeaderFault) {old new : Option History}
-    → ((file : Option File) → IsSmallFile file → Adds old new (Leads (LeavesFile name) (Has name file) (Loaded name file (Ok given))))
+    → ((file : Option File) → IsSmallFile file → Adds old new (Leads (anyhow (LeavesFile name)) (Has name file) (Loaded name file (Ok given))))
     → Adds old new (Every (IsLook who name)) → bytes ≡ unwrap_or given [] → read_header bytes ≡ Err why
     → Adds old new (PrintsFile name (Err Damaged))
 prints_none who name given bytes why whole reads is header =

@@ -4,7 +4,7 @@ ghost use Rattle.std.specs.Prelude.{◌≡◌, ℕ, List, IfErr, OnOk};
 ghost use Rattle.chk_site.specs.History.{Every};
 ghost use Rattle.chk_site.specs.Site.{Adds};
 ghost use Rattle.chk_site.specs.Runs.{Leads};
-ghost use Rattle.chk_world.specs.Places.{Foreign};
+ghost use Rattle.chk_world.specs.Places.{As};
 ghost use Rattle.chk_sink.specs.Faults.{IsOutside, SinkCause, FailsLast};
 ghost use Rattle.chk_sink.specs.Damage.{DamageCause};
 ghost use Rattle.chk_sink.specs.States.{IsSameStart, IsAbandoned, process};
@@ -27,7 +27,7 @@ impl Sinks {
         now: u64,
     ) -> Result<(), SinkFault>
         ensures told { (stamped : List (List ℕ)) → Adds (S.told site.old) (S.told site.new)
-            (Leads (Foreign stamped (process self.old)) (Matches stamped self.old)
+            (Leads (As stamped (process self.old)) (Matches stamped self.old)
             (Ticked stamped self.old self.new result)) }
         ensures same { IsSameStart self.old self.new }
         ensures ok { OnOk result (self.new ≡ noted_state now self.old) }

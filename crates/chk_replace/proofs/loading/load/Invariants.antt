@@ -3,7 +3,7 @@ use Rattle.chk_site.specs.Files.{File}
 use Rattle.chk_site.specs.Effect.{IsSmallFile}
 use Rattle.chk_site.specs.History.{Every}
 use Rattle.chk_site.specs.Site.{Adds}
-use Rattle.chk_site.specs.Runs.{Leads}
+use Rattle.chk_site.specs.Runs.{anyhow, Leads}
 use Rattle.chk_replace.specs.Replace.{LeavesFile}
 use Rattle.chk_replace.specs.Load.{Has, HasFront, IsLook}
 use Rattle.chk_replace.proofs.loading.load.Given as goal
@@ -11,7 +11,7 @@ use Rattle.chk_replace.proofs.loading.load.Given as goal
 abbrev pub invariant-loop-bytes : goal.invariant-loop-bytes
 invariant-loop-bytes g l = record {
   whole : (file : Option File) → IsSmallFile file → Adds (g.S.Site.told l.fn.site) (g.S.Site.told l.site)
-      (Leads (LeavesFile l.name) (Has l.name file) (HasFront l.name file l.bytes));
+      (Leads (anyhow (LeavesFile l.name)) (Has l.name file) (HasFront l.name file l.bytes));
   reads : Adds (g.S.Site.told l.fn.site) (g.S.Site.told l.site) (Every (IsLook l.who l.name));
   count : g.S.Site.fault_count l.site ≡ g.S.Site.fault_count l.fn.site;
 }

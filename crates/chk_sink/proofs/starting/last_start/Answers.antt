@@ -6,6 +6,8 @@ use Rattle.chk_site.proofs.Runs.{adds_then}
 use Rattle.chk_replace.proofs.CallSteps.{last_then}
 use Rattle.chk_world.specs.Names.{BornFile, read}
 use Rattle.chk_world.proofs.NameLemmas.{read-spell}
+use Rattle.chk_site.proofs.Runs.{start_then}
+use Rattle.chk_sink.proofs.StartBegins.{start_begun, if_ok}
 use Rattle.chk_sink.proofs.StartShows.{begin_shows, read_shows, shows_then}
 use Rattle.chk_sink.proofs.StartTold.{unbegun_told, looked_told}
 use Rattle.chk_sink.proofs.starting.last_start.Goals as goal
@@ -38,3 +40,7 @@ pub returns-clause-last : goal.returns-clause-last
 returns-clause-last g c =
     adds_then (LastFailed c.read_number.result) c.begin.ensures.last c.read_number.ensures.last
     (λ a b history x y. last_then c.read_number.result b a history y)
+
+pub returns-clause-starts : goal.returns-clause-starts
+returns-clause-starts g c =
+    if_ok _ c.read_number.result (start_then c.args.who.now (start_begun c.args.who.now c.in_ok-begin.ensures.told) c.read_number.ensures.last)

@@ -2,15 +2,22 @@ use Rattle.std.proofs.Common.{Some, Ok, Err, ◌≡◌, ◌<◌, ◌+◌, ◌==�
 use Rattle.std.proofs.lemmas.Bool.{ne_eqb}
 use Rattle.std.proofs.lemmas.Result.{err_from_is_err_and}
 use Rattle.chk_bytes.specs.Numbers.{limit}
-use Rattle.chk_site.proofs.Leads.{leads_then}
+use Rattle.chk_site.proofs.Leads.{leads_then, leads_as}
 use Rattle.chk_site.proofs.Runs.{adds_as}
 use Rattle.chk_sink.specs.Faults.{sink_fault}
 use Rattle.chk_sink.specs.States.{last_number}
 use Rattle.chk_sink.specs.Damage.{DamageCause, SpentCause, IsInLimit}
-use Rattle.chk_sink.proofs.StartTold.{published_told, unpublished_told}
+use Rattle.chk_site.proofs.Runs.{start_then}
+use Rattle.chk_sink.proofs.StartTold.{published_told, unpublished_told, legal_published}
 use Rattle.chk_sink.proofs.StartShows.{done_causes, failed_causes}
 use Rattle.chk_sink.proofs.Last.{later_fails, both, none_fails}
 use Rattle.chk_sink.proofs.starting.publish_next.Goals as goal
+
+pub returns-in_err-looked-clause-told : goal.returns-in_err-looked-clause-told
+returns-in_err-looked-clause-told g c stamped =
+    let p = err_from_is_err_and c.from_residual.result c.from_residual.ensures.1 in
+    rw (p.1, p.2)
+    (leads_as (λ h x. x) (legal_published stamped c.args.who.now c.in_err-looked.field-0.0) (c.in_err-looked.ensures.told stamped))
 
 pub returns-in_err-publish-clause-told : goal.returns-in_err-publish-clause-told
 returns-in_err-publish-clause-told g c stamped =
@@ -76,3 +83,6 @@ returns-clause-damaged g c =
 
 pub returns-clause-last : goal.returns-clause-last
 returns-clause-last g c = none_fails (c.in-Some.last + 1) (both c.last_start.ensures.last c.publish.ensures.last)
+
+pub returns-clause-starts : goal.returns-clause-starts
+returns-clause-starts g c = start_then c.args.who.now c.in_ok-looked.ensures.starts c.publish.ensures.last

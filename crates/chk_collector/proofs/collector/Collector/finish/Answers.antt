@@ -1,7 +1,7 @@
 use Rattle.std.proofs.Common.{subst}
 use Rattle.chk_site.specs.Site.{Adds}
 use Rattle.chk_site.specs.Runs.{Leads}
-use Rattle.chk_world.specs.Places.{Foreign}
+use Rattle.chk_world.specs.Places.{As}
 use Rattle.chk_sink.specs.States.{State, process}
 use Rattle.chk_sink.specs.Held.{Matches}
 use Rattle.chk_collector.specs.Finishing.{Finished}
@@ -12,7 +12,7 @@ use Rattle.chk_collector.proofs.collector.Collector.finish.Goals as goal
 pub returns-clause-told : goal.returns-clause-told
 returns-clause-told g c stamped =
     subst (λ (s : State). Adds (g.S.Site.told c.args.site.now) (g.S.Site.told c.close.new.site)
-    (Leads (Foreign stamped (process s)) (Matches stamped s) (Finished stamped s c.close.new.self c.close.result))) c.self.view_is
+    (Leads (As stamped (process s)) (Matches stamped s) (Finished stamped s c.close.new.self c.close.result))) c.self.view_is
     (finish_as stamped c.self.inside.sinks c.tick.new.self c.close.new.self c.close.result c.in_ok-tick.ensures.ok c.close.ensures.ok
     (c.in_ok-tick.ensures.told stamped) c.close.ensures.idle (c.close.ensures.told stamped))
 

@@ -3,6 +3,7 @@ use Rattle.std.proofs.lemmas.Result.{err_from_is_err_and}
 use Rattle.chk_site.specs.declared.acts.Who.{Who}
 use Rattle.chk_sink.specs.Starting.{first_state}
 use Rattle.chk_sink.specs.States.{State}
+use Rattle.chk_site.proofs.Runs.{start_then}
 use Rattle.chk_sink.proofs.Last.{both, none_fails}
 use Rattle.chk_sink.proofs.Started.{started_told, unstarted_told, started_spent, unstarted_spent, started_damage, unstarted_damage, unstarted_fails}
 use Rattle.chk_sink.proofs.sinks.Sinks.start.Goals as goal
@@ -49,3 +50,6 @@ returns-clause-damaged g c =
 
 pub returns-clause-last : goal.returns-clause-last
 returns-clause-last g c = none_fails c.settle.new.self (both c.publish_next.ensures.last c.settle.ensures.last)
+
+pub returns-clause-starts : goal.returns-clause-starts
+returns-clause-starts g c = start_then c.args.who.now c.in_ok-born.ensures.starts c.settle.ensures.last
