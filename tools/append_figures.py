@@ -1,9 +1,9 @@
 #!/usr/bin/env python3
-"""Times `chk_measure append` beside the same system calls by a C loop.
+"""Times `chk_tool_measure append` beside the same system calls by a C loop.
 
 usage: tools/append_figures.py [TIMES [ROUNDS]]
 
-It wants `crates/chk_measure/out/chk_measure`, which `rt run` in that crate's folder leaves there, and
+It wants `crates/chk_tool_measure/out/chk_tool_measure`, which `rt run` in that crate's folder leaves there, and
 a C compiler `cc`. It works in a new folder below the current one, so that the disk is the caller's.
 Each row is the best and the worst of ROUNDS runs (3), in milliseconds, and the most memory that one
 held, in KiB. The two programs take turns.
@@ -15,7 +15,7 @@ import tempfile
 import time
 
 HERE = os.path.dirname(os.path.abspath(__file__))
-PROGRAM = os.path.join(HERE, "../crates/chk_measure/out/chk_measure")
+PROGRAM = os.path.join(HERE, "../crates/chk_tool_measure/out/chk_tool_measure")
 
 
 def timed(words):
@@ -46,7 +46,7 @@ def main():
         subprocess.run(["cc", "-O2", "-o", loop, f"{HERE}/append_loop.c"], check=True)
         program = os.path.abspath(PROGRAM)
         os.chdir(room)
-        programs = {"chk_measure": [program, "append"], "C loop": [loop]}
+        programs = {"chk_tool_measure": [program, "append"], "C loop": [loop]}
         for every in ["0", "1000"]:
             took = {name: [] for name in programs}
             for _ in range(rounds):

@@ -1,4 +1,4 @@
-/* The system calls of `chk_measure append TIMES EVERY`, without anything around them. */
+/* The system calls of `chk_tool_measure append TIMES EVERY`, without anything around them. */
 #include <fcntl.h>
 #include <stdio.h>
 #include <stdlib.h>

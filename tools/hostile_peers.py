@@ -3,8 +3,8 @@
 
 usage: tools/hostile_peers.py
 
-It wants `crates/chk_measure/out/chk_measure`, which `rt run` in that crate's folder leaves there. For
-each kind of peer it runs `chk_measure take DOOR TURNS WAIT` anew, which takes each message, reads up
+It wants `crates/chk_tool_measure/out/chk_tool_measure`, which `rt run` in that crate's folder leaves there. For
+each kind of peer it runs `chk_tool_measure take DOOR TURNS WAIT` anew, which takes each message, reads up
 to four further pieces, and answers. An honest peer comes after the hostile ones.
 
 A row has the messages and bytes that were taken, the longest call of each kind and the honest peer's
@@ -22,7 +22,7 @@ import threading
 import time
 
 HERE = os.path.dirname(os.path.abspath(__file__))
-PROGRAM = os.path.abspath(os.path.join(HERE, "../crates/chk_measure/out/chk_measure"))
+PROGRAM = os.path.abspath(os.path.join(HERE, "../crates/chk_tool_measure/out/chk_tool_measure"))
 WAIT = 250
 # In milliseconds: an answer is written, and what still comes is read on, each for up to 2,000.
 BOUNDS = {"take": WAIT, "more": 2000, "answer": 4000}

@@ -1,9 +1,9 @@
 #!/usr/bin/env python3
-"""Times `chk_measure sinks` beside `dd` of the same bytes with a sync for each 4 MiB.
+"""Times `chk_tool_measure sinks` beside `dd` of the same bytes with a sync for each 4 MiB.
 
 usage: tools/sink_figures.py [TIMES [ROUNDS]]
 
-It wants `crates/chk_measure/out/chk_measure`, which `rt run` in that crate's folder leaves there. It
+It wants `crates/chk_tool_measure/out/chk_tool_measure`, which `rt run` in that crate's folder leaves there. It
 works in a new folder below the current one, so that the disk is the caller's. TIMES rounds of 4 MiB
 (64) are put and committed; `dd` writes as much, once with one sync for each 4 MiB (oflag=dsync) and
 once with one at the end (conv=fsync). Each row is the best and the worst of ROUNDS runs (3), in MB/s.
@@ -17,7 +17,7 @@ import tempfile
 import time
 
 HERE = os.path.dirname(os.path.abspath(__file__))
-PROGRAM = os.path.join(HERE, "../crates/chk_measure/out/chk_measure")
+PROGRAM = os.path.join(HERE, "../crates/chk_tool_measure/out/chk_tool_measure")
 MIB = 1 << 20
 
 
@@ -41,7 +41,7 @@ def main():
     program = os.path.abspath(PROGRAM)
     blocks = ["dd", "if=/dev/zero", "of=written", "bs=4M", f"count={times}"]
     runs = {
-        "chk_measure sinks": [program, "sinks", str(times)],
+        "chk_tool_measure sinks": [program, "sinks", str(times)],
         "dd, a sync each 4 MiB": [*blocks, "oflag=dsync"],
         "dd, one sync at the end": [*blocks, "conv=fsync"],
     }

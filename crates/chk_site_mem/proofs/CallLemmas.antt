@@ -13,10 +13,10 @@ use Rattle.chk_site.specs.declared.acts.Who.{Who}
 use Rattle.chk_site.specs.History.{Step, History, Every, IsTheirs, Modelled, files_after, is_stopped}
 use Rattle.chk_site.specs.Honest.{Honest, Agrees}
 use Rattle.chk_site.specs.Site.{Adds, Asked, own_step, answered, Acted, Added, Calls, CallsSome}
-use Rattle.chk_answers.specs.declared.plan.Planned.{Planned}
-use Rattle.chk_kept.specs.Told.{with_answer}
-use Rattle.chk_answers.specs.Plans.{Plans, act_of, planned_as}
-use Rattle.chk_kept.specs.Going.{TheirsSince, GoesOn}
+use Rattle.chk_mem_calls.specs.declared.plan.Planned.{Planned}
+use Rattle.chk_mem_store.specs.Told.{with_answer}
+use Rattle.chk_mem_calls.specs.Plans.{Plans, act_of, planned_as}
+use Rattle.chk_mem_store.specs.Going.{TheirsSince, GoesOn}
 use Rattle.chk_site_mem.specs.Begun.{Becomes, Begins}
 use Rattle.chk_site.proofs.Runs.{adds_as}
 use Rattle.chk_site.proofs.Leads.{theirs_run}

@@ -11,10 +11,10 @@ use Rattle.chk_site.specs.Acts.{Deed, Gets, Takes, deed}
 use Rattle.chk_site.specs.Files.{Files}
 use Rattle.chk_site.specs.History.{History, Every, IsTheirs}
 use Rattle.chk_site.specs.Site.{Asked}
-use Rattle.chk_kept.specs.Going.{GoesOn, TheirsSince}
-use Rattle.chk_kept.specs.Told.{Kept, disowned, fitted, fitted_answer, step_of, told_from, told_of}
-use Rattle.chk_answers.specs.declared.plan.Planned.{Planned}
-use Rattle.chk_answers.specs.Plans.{LosesNothing, Plans}
+use Rattle.chk_mem_store.specs.Going.{GoesOn, TheirsSince}
+use Rattle.chk_mem_store.specs.Told.{Kept, disowned, fitted, fitted_answer, step_of, told_from, told_of}
+use Rattle.chk_mem_calls.specs.declared.plan.Planned.{Planned}
+use Rattle.chk_mem_calls.specs.Plans.{LosesNothing, Plans}
 use Rattle.chk_site_mem.specs.Lossless.{NothingLost}
 
 lost_by_others : (added start : History) → Every IsTheirs added start → NothingLost start → NothingLost (added ++ start)

@@ -6,8 +6,8 @@ use Rattle.chk_site.specs.declared.acts.CallFault.{CallFault}
 use Rattle.chk_site.specs.declared.acts.CallFault.TheVariants.{Failed, NoMemory}
 use Rattle.chk_site.specs.declared.acts.ActAnswer.TheVariants.{Refused, Stopped}
 use Rattle.chk_site.specs.History.{History, is_stopped}
-use Rattle.chk_kept.specs.Told.{with_answer}
-use Rattle.chk_kept.specs.Going.{TheirsSince, GoesOn}
+use Rattle.chk_mem_store.specs.Told.{with_answer}
+use Rattle.chk_mem_store.specs.Going.{TheirsSince, GoesOn}
 
 -- what became of an act that was to be made: it was made, or failed, or was stopped; without memory there is none
 abbrev pub Becomes : {T : Type 0} → Act → Result T CallFault → History → History → Type 0

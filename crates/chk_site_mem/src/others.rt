@@ -1,9 +1,9 @@
 // The acts of others that a script has in store.
-ghost use Rattle.chk_kept.specs.Going.{TheirsSince};
-ghost use Rattle.chk_kept.specs.Told.{told_of};
+ghost use Rattle.chk_mem_store.specs.Going.{TheirsSince};
+ghost use Rattle.chk_mem_store.specs.Told.{told_of};
 
 use chk_bytes::NoMemory;
-use chk_kept::Keeper;
+use chk_mem_store::Keeper;
 use chk_site::Other;
 use std::alloc::Global;
 

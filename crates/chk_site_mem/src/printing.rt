@@ -3,7 +3,7 @@ ghost use Rattle.std.specs.Prelude.{◌≡◌, IfOk};
 ghost use Rattle.chk_site_mem.specs.Printed.{said_in, printed_of};
 
 use chk_bytes::{Bytes, NoMemory};
-use chk_kept::first;
+use chk_mem_store::first;
 use chk_site::{Act, ActAnswer, Call};
 use std::alloc::Global;
 

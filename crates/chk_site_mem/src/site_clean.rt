@@ -3,21 +3,21 @@ ghost use Rattle.std.specs.Prelude.{◌≡◌, [], option_map, Some, IfOk, false
 ghost use Rattle.chk_site.specs.Acts.{deed, is_stop};
 ghost use Rattle.chk_site.specs.History.{files_after};
 ghost use Rattle.chk_site.specs.Site.{Adds, Calls, CallsSome, answered, CauseOf};
-ghost use Rattle.chk_answers.specs.Plans.{LosesNothing};
+ghost use Rattle.chk_mem_calls.specs.Plans.{LosesNothing};
 ghost use Rattle.chk_site_mem.specs.Lossless.{NothingLost};
 ghost use Rattle.chk_site_mem.specs.Begun.{Becomes, Begins};
 ghost use Rattle.chk_site_mem.specs.Printed.{printed_of};
-ghost use Rattle.chk_kept.specs.Reads.{text_at};
-ghost use Rattle.chk_kept.specs.Told.{acts_of, told_of};
+ghost use Rattle.chk_mem_store.specs.Reads.{text_at};
+ghost use Rattle.chk_mem_store.specs.Told.{acts_of, told_of};
 
 use crate::others::Others;
 use crate::printing::printed;
-use chk_answers::{
+use chk_mem_calls::{
     Answer, Append, Clock, Create, Cut, Got, List, LogAppend, LogNewest, LogRead, More, Numbered,
     Pause, Question, Read, Remove, Rename, Say, Send, Size, Start, Sync, Take,
 };
 use chk_bytes::{Bytes, NoMemory, Word};
-use chk_kept::Keeper;
+use chk_mem_store::Keeper;
 use chk_site::{Act, CallFault, Other, Part, Piece, Site, Suffix, Taking, Who};
 use std::alloc::Global;
 use std::marker::Model;
@@ -32,12 +32,12 @@ pub struct SiteClean {
 
 impl Model for SiteClean {
     ghost use Rattle.std.specs.Prelude.{◌≡◌, List, false};
-    ghost use Rattle.chk_kept.specs.Told.{Kept};
+    ghost use Rattle.chk_mem_store.specs.Told.{Kept};
 
     ghost Value = { List Kept };
 
     ghost use Rattle.chk_site.specs.History.{is_stopped};
-    ghost use Rattle.chk_kept.specs.Told.{told_of};
+    ghost use Rattle.chk_mem_store.specs.Told.{told_of};
 
     ghost view = { λ s. s.keeper.kept };
 
@@ -133,7 +133,7 @@ impl SiteClean {
 
 impl Site for SiteClean {
     ghost use Rattle.std.specs.Prelude.{Some};
-    ghost use Rattle.chk_kept.specs.Told.{told_of};
+    ghost use Rattle.chk_mem_store.specs.Told.{told_of};
 
     ghost told = { λ s. Some (told_of s) };
 

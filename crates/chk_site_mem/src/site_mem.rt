@@ -3,21 +3,21 @@ ghost use Rattle.std.specs.Prelude.{◌≡◌, [], map, option_map, Some, IfOk, 
 ghost use Rattle.chk_site.specs.Acts.{deed, is_stop};
 ghost use Rattle.chk_site.specs.History.{files_after};
 ghost use Rattle.chk_site.specs.Site.{Adds, Calls, CallsSome, answered, CauseOf};
-ghost use Rattle.chk_answers.specs.Plans.{LosesNothing};
+ghost use Rattle.chk_mem_calls.specs.Plans.{LosesNothing};
 ghost use Rattle.chk_site_mem.specs.Lossless.{NothingLost};
 ghost use Rattle.chk_site_mem.specs.Begun.{Becomes, Begins};
 ghost use Rattle.chk_site_mem.specs.Printed.{printed_of};
-ghost use Rattle.chk_kept.specs.Reads.{text_at};
-ghost use Rattle.chk_kept.specs.Told.{acts_of, disowned, told_of};
+ghost use Rattle.chk_mem_store.specs.Reads.{text_at};
+ghost use Rattle.chk_mem_store.specs.Told.{acts_of, disowned, told_of};
 
 use crate::others::Others;
 use crate::printing::printed;
-use chk_answers::{
+use chk_mem_calls::{
     Answer, Append, Clock, Create, Cut, Got, List, LogAppend, LogNewest, LogRead, More, Numbered,
     Pause, Question, Read, Remove, Rename, Say, Send, Size, Start, Sync, Take,
 };
 use chk_bytes::{Bytes, NoMemory, Word};
-use chk_kept::{Keeper, answering};
+use chk_mem_store::{Keeper, answering};
 use chk_site::{
     Act, ActAnswer, CallFault, Lefts, Part, Piece, Script, Site, StopAt, Suffix, Taking, Who,
 };
@@ -36,11 +36,11 @@ pub struct SiteMem {
 }
 
 impl Model for SiteMem {
-    ghost use Rattle.chk_kept.specs.Told.{Memory};
+    ghost use Rattle.chk_mem_store.specs.Told.{Memory};
 
     ghost Value = { Memory };
 
-    ghost use Rattle.chk_kept.specs.Told.{told_of};
+    ghost use Rattle.chk_mem_store.specs.Told.{told_of};
     ghost use Rattle.chk_site_mem.specs.Lossless.{NothingLost};
 
     ghost view = { λ s. record { kept = s.keeper.kept; faults = s.faults } };
@@ -203,7 +203,7 @@ impl SiteMem {
 
 impl Site for SiteMem {
     ghost use Rattle.std.specs.Prelude.{Some};
-    ghost use Rattle.chk_kept.specs.Told.{told_of};
+    ghost use Rattle.chk_mem_store.specs.Told.{told_of};
 
     ghost told = { λ s. Some (told_of s.kept) };
 

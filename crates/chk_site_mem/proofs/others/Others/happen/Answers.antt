@@ -1,4 +1,4 @@
-use Rattle.chk_kept.proofs.GoingLemmas.{theirs_kept}
+use Rattle.chk_mem_store.proofs.GoingLemmas.{theirs_kept}
 use Rattle.chk_site_mem.proofs.others.Others.happen.Goals as goal
 
 pub loop-preserved : goal.loop-preserved

@@ -1,5 +1,5 @@
-use Rattle.chk_kept.specs.Told.{told_of}
-use Rattle.chk_kept.specs.Going.{TheirsSince}
+use Rattle.chk_mem_store.specs.Told.{told_of}
+use Rattle.chk_mem_store.specs.Going.{TheirsSince}
 use Rattle.chk_site_mem.proofs.others.Others.happen.Given as goal
 
 abbrev pub invariant-loop : goal.invariant-loop

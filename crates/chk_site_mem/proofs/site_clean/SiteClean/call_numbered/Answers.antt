@@ -1,7 +1,7 @@
 use Rattle.std.proofs.Common.{List, subst}
 use Rattle.chk_site.specs.Site.{answered}
-use Rattle.chk_answers.specs.Plans.{Plans}
-use Rattle.chk_kept.specs.Told.{Kept, told_of}
+use Rattle.chk_mem_calls.specs.Plans.{Plans}
+use Rattle.chk_mem_store.specs.Told.{Kept, told_of}
 use Rattle.chk_site_mem.proofs.CallLemmas.{made_call, some_number}
 use Rattle.chk_site_mem.proofs.site_clean.SiteClean.call_numbered.Goals as goal
 

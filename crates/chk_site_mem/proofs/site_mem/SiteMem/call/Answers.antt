@@ -1,7 +1,7 @@
 use Rattle.std.proofs.Common.{subst}
 use Rattle.std.proofs.lemmas.Result.{err_from_is_err_and}
-use Rattle.chk_answers.specs.Plans.{Plans}
-use Rattle.chk_kept.specs.Told.{Memory, told_of}
+use Rattle.chk_mem_calls.specs.Plans.{Plans}
+use Rattle.chk_mem_store.specs.Told.{Memory, told_of}
 use Rattle.chk_site_mem.proofs.CallLemmas.{failed_call, made_call, unbegun_call, unmade_call}
 use Rattle.chk_site_mem.proofs.site_mem.SiteMem.call.Goals as goal
 

@@ -1,8 +1,8 @@
 use Rattle.std.proofs.Common.{subst}
 use Rattle.std.proofs.lemmas.Result.{err_from_is_err_and}
 use Rattle.chk_site.specs.Site.{answered}
-use Rattle.chk_answers.specs.Plans.{Plans}
-use Rattle.chk_kept.specs.Told.{Memory, told_of}
+use Rattle.chk_mem_calls.specs.Plans.{Plans}
+use Rattle.chk_mem_store.specs.Told.{Memory, told_of}
 use Rattle.chk_site_mem.proofs.CallLemmas.{failed_call, made_call, unbegun_call, unmade_call, some_number}
 use Rattle.chk_site_mem.proofs.site_mem.SiteMem.call_numbered.Goals as goal
 

@@ -1,0 +1,11 @@
+use Rattle.std.proofs.Common.{arith, refl}
+use Rattle.std.specs.Ordering.{nat_cmp, is_lt}
+use Rattle.std.proofs.lemmas.Bool.Decides.{nat_tests}
+use Rattle.std.proofs.lemmas.Cmp.{same_from_slice_cmp_tested}
+use Rattle.chk_bytes.specs.Words.{text_lt}
+use Rattle.chk_mem_store.proofs.log_reads.comes_before.Goals as goal
+
+pub returns : goal.returns
+returns c =
+    same_from_slice_cmp_tested nat_cmp is_lt text_lt refl (λ _ _. refl) (λ _ _. refl) (λ x y xs ys o h. grind (arith, nat_tests))
+    c.args.first.now c.args.second.now c.lt.result c.lt.ensures
