@@ -52,7 +52,7 @@ chosen true first rest class is = inl (refl, cc)
 chosen false first rest class is = inr is
 
 -- a name that is read as a class is its name
-named_is : (name : List ℕ) (class : Class) → class_named name ≡ Some class → name ≡ class_name class
+pub named_is : (name : List ℕ) (class : Class) → class_named name ≡ Some class → name ≡ class_name class
 named_is name class named =
     elim (chosen (bytes_eq name (class_name Plain)) Plain _ class named) [
       | inl here ↦ (bytes_eq-Decides name (class_name Plain)).0 here.0 ∙ ap class_name here.1

@@ -69,8 +69,8 @@ acknowledged_is_saved stamped history legal s known c a o covers =
     let l : LineStands history c a.ack = chunk_stands stamped history legal (agent_of s) c a in
     reached_is_saved stamped history legal a.ack.stem l.stem a.ack.number c l.stands (end_reached stamped history legal (agent_of s) c a) s o covers
 
-pub runs_cover_checkpoints : RunsCoverCheckpoints
-runs_cover_checkpoints = runs_cover acknowledged_is_saved
+pub law_covered : RunsCoverCheckpoints
+law_covered = runs_cover acknowledged_is_saved
 
 pub checkpoints_are_saved : CheckpointsAreSaved
 checkpoints_are_saved = passed_saved acknowledged_is_saved

@@ -261,17 +261,6 @@ abbrev pub WroteLines : {T : Type 0} → (History → Type 0) → List ℕ → L
 WroteLines A source new (Ok value) history = HasLines A source new history
 WroteLines A source new (Err fault) history = A history
 
--- steps of others leave what is known and the checkpoint
-pub lines_stay : (stamped : List (List ℕ)) (source : List ℕ) → IsTrue (is_source source) → (A : History → Type 0)
-    → Stays stamped (record { role = Agent; name = source }) A → (lines : List Line)
-    → Stays stamped (record { role = Agent; name = source }) (HasLines A source lines)
-lines_stay stamped source known A stays lines history step legal f h =
-    let aim = agent_aim source known in
-    record {
-      known = stays history step legal f h.known;
-      lines_are = ap lines_in (files_stay stamped (record { role = Agent; name = source }) history step (CheckFile source) f aim.place.third) ∙ h.lines_are;
-    }
-
 -- The checkpoint with the old lines is replaced by the one with the new lines. A is what is known of the history: it shows that the new lines
 -- may follow the old ones.
 pub checkpoint_replaced : (stamped : List (List ℕ)) (source : List ℕ) → IsTrue (is_source source) → (old new : List Line) (bytes : List ℕ)

@@ -47,14 +47,17 @@ Gained G (Some value) history = G value history
 Gained G None history = Unit {0}
 
 -- the start of a line is the stream's
-pub start_is : (stamped : List (List ℕ)) (history : History) → Legal stamped history → (s : Stream) → IsTrue (is_source s.source)
-    → (k : Line) → line_of (files_after history) s ≡ Some k → (l : Line) → Stands history s l → start_of history s ≡ k.start
+pub start_is : (stamped : List (List ℕ)) (history : History) → Legal stamped history → (s : Stream)
+    → IsTrue (is_source s.source)
+    → (k : Line) → line_of (files_after history) s ≡ Some k → (l : Line) → Stands history s l
+    → start_of history s ≡ k.start
 start_is stamped history legal s known k there l h =
     let b = is_founded stamped history legal s known h.first h.founded in
     ap start_at h.founded ∙ (b.start ∙ ap (λ (l : Line). l.start) (same_Some b.line k (sym b.there ∙ there)))
 
 -- a read at a place at or past the line is at or past it, where the place is a true one
-may_read_at : (history : History) (s : Stream) (l line : Line) → IsTruePlace history s l → (plain : Bool)
+may_read_at : (history : History) (s : Stream) (l line : Line) → IsTruePlace history s l
+    → (plain : Bool)
     → IsPlacePast (if plain then TheBase else Past l.after) l line
     → IsAtOrPast history s (if plain then TheBase else Past l.after) (l.offset - l.first) line
 may_read_at history s l line place true h = h
@@ -75,14 +78,16 @@ pub record IsReaderOf (source : List ℕ) (lines : List Line) (l : Line) : Type 
   pub behind : IsAtOrBehind line.after l.after
   pub past : IsPlacePast (part_for l.class l.after) l line
 
-module _ (stamped : List (List ℕ)) (source : List ℕ) (known : IsTrue (is_source source)) (cluster : List ℕ) (lines : List Line)
+module _ (stamped : List (List ℕ)) (source : List ℕ) (known : IsTrue (is_source source))
+    (cluster : List ℕ) (lines : List Line)
     (F : History → Type 0) (grows : Grows stamped (agent source) F) where
   abbrev Me : Who
   Me = agent source
 
   -- ---- a read
 
-  module _ (l : Line) (reader : IsReaderOf source lines l) (stands : (h : History) → F h → Stands h (stream_of source l) l)
+  module _ (l : Line) (reader : IsReaderOf source lines l)
+      (stands : (h : History) → F h → Stands h (stream_of source l) l)
       (text : List ℕ) (part_is : part_of text ≡ part_for l.class l.after) (max : ℕ) where
     abbrev S : Stream
     S = stream_of source l
@@ -90,7 +95,8 @@ module _ (stamped : List (List ℕ)) (source : List ℕ) (known : IsTrue (is_sou
     abbrev Reading : Asked
     Reading = asked Me LogRead (l.path ∷ text ∷ []) (l.offset - l.first) max
 
-    found_line : (h : History) → Knows source cluster lines F h → line_of (files_after h) S ≡ Some reader.line
+    found_line : (h : History) → Knows source cluster lines F h
+        → line_of (files_after h) S ≡ Some reader.line
     found_line h k = ap (find (is_line_of S)) k.lines_are ∙ reader.there
 
     reads_on : (h : History) → Knows source cluster lines F h → ReadsOn h S l
@@ -102,7 +108,8 @@ module _ (stamped : List (List ℕ)) (source : List ℕ) (known : IsTrue (is_sou
       stands = stands h k.holds;
     }
 
-    may_read : (before : History) → Knows source cluster lines F before → ReadsFromCheckpoint Me before l.path (part_of text) (l.offset - l.first)
+    may_read : (before : History) → Knows source cluster lines F before
+        → ReadsFromCheckpoint Me before l.path (part_of text) (l.offset - l.first)
     may_read before k =
         let kind : reader.line.kind ≡ l.kind =
         sym (bytes_same l.kind reader.line.kind
@@ -124,15 +131,19 @@ module _ (stamped : List (List ℕ)) (source : List ℕ) (known : IsTrue (is_sou
         ))
 
     -- a read that ended the work adds nothing
-    pub read_ends : (given : Result Piece CallFault) (fault : OutsideFault) {old new : Option History} → Ends LogRead given fault
+    pub read_ends : (given : Result Piece CallFault) (fault : OutsideFault)
+        {old new : Option History}
+        → Ends LogRead given fault
         → Adds old new (Calls Reading (answered piece_given given))
         → Adds old new (Leads (As stamped Me) (Told stamped source cluster lines F) (Told stamped source cluster lines F))
     read_ends given fault ends call =
         agent_ends stamped source known cluster lines F grows Reading refl (λ answer files logs. refl) (λ answer files logs. tt) piece_given given fault
         (λ before answer files logs legal k. may_read before k) ends call
 
-    module _ (piece : Piece) (n : ℕ) (short : n ≤ length piece.bytes) (stop : TakesToStop (breaks_lines l.class) max piece n) where
-      words_bytes : (p : List ℕ) (ends : List (List ℕ)) → piece.bytes ∷ option_to_list piece.ended ≡ p ∷ ends
+    module _ (piece : Piece) (n : ℕ) (short : n ≤ length piece.bytes)
+        (stop : TakesToStop (breaks_lines l.class) max piece n) where
+      words_bytes : (p : List ℕ) (ends : List (List ℕ))
+          → piece.bytes ∷ option_to_list piece.ended ≡ p ∷ ends
           → (p ≡ piece.bytes) × (ends ≡ option_to_list piece.ended)
       words_bytes p ends e = (sym (heads e), sym (tails e))
         where
@@ -142,11 +153,13 @@ module _ (stamped : List (List ℕ)) (source : List ℕ) (known : IsTrue (is_sou
           tails : {xs ys : List (List ℕ)} {x y : List ℕ} → x ∷ xs ≡ y ∷ ys → xs ≡ ys
           tails e = cc
 
-      ended_one : (o : Option (List ℕ)) (ends : List (List ℕ)) → ends ≡ option_to_list o → (suffix : List ℕ) → o ≡ Some suffix → Contains ends suffix
+      ended_one : (o : Option (List ℕ)) (ends : List (List ℕ)) → ends ≡ option_to_list o
+          → (suffix : List ℕ) → o ≡ Some suffix → Contains ends suffix
       ended_one None ends e suffix is = absurd (cc)
       ended_one (Some x) ends e suffix is = subst (λ es. Contains es suffix) (sym e) (0, omega arith, same_Some x suffix is)
 
-      after_read : (before : History) (step : Step) → Legal stamped (step ∷ before) → Knows source cluster lines F before
+      after_read : (before : History) (step : Step) → Legal stamped (step ∷ before)
+          → Knows source cluster lines F before
           → AtLogRead (Done (piece.bytes ∷ option_to_list piece.ended) 0 0) (l.offset - l.first) max
           (read_from (part_for l.class l.after) (logs_after before S.name))
           → AfterRead S l piece n (step ∷ before)
@@ -179,7 +192,8 @@ module _ (stamped : List (List ℕ)) (source : List ℕ) (known : IsTrue (is_sou
     -- the read adds that the place behind what is taken stands, and each chunk of that
     pub read_told : (given : Result Piece CallFault) (taken : Option Piece) (count : Piece → ℕ)
         → ((piece : Piece) → taken ≡ Some piece → (count piece ≤ length piece.bytes) × TakesToStop (breaks_lines l.class) max piece (count piece))
-        → {old new : Option History} → IsTaken given taken → Adds old new (Calls Reading (answered piece_given given))
+        → {old new : Option History} → IsTaken given taken
+        → Adds old new (Calls Reading (answered piece_given given))
         → Adds old new (Leads (As stamped Me) (Told stamped source cluster lines F)
         (Told stamped source cluster lines (Both F (Gained (λ piece h. AfterRead S l piece (count piece) h) taken))))
     read_told given taken count counts is call =
@@ -190,8 +204,10 @@ module _ (stamped : List (List ℕ)) (source : List ℕ) (known : IsTrue (is_sou
       where
         gains : (taken : Option Piece)
             → ((piece : Piece) → taken ≡ Some piece → (count piece ≤ length piece.bytes) × TakesToStop (breaks_lines l.class) max piece (count piece))
-            → (before : History) (answer : ActAnswer) (files : Files) (logs : Logs) → Took piece_given taken answer
-            → Legal stamped (own_step Reading answer files logs ∷ before) → Knows source cluster lines F before
+            → (before : History) (answer : ActAnswer) (files : Files) (logs : Logs)
+            → Took piece_given taken answer
+            → Legal stamped (own_step Reading answer files logs ∷ before)
+            → Knows source cluster lines F before
             → Gained (λ piece h. AfterRead S l piece (count piece) h) taken (own_step Reading answer files logs ∷ before)
         gains None counts before answer files logs took legal k = tt
         gains (Some piece) counts before answer files logs took legal k =
@@ -207,7 +223,8 @@ module _ (stamped : List (List ℕ)) (source : List ℕ) (known : IsTrue (is_sou
     abbrev Sending : Asked
     Sending = asked Me Send (address ∷ bytes ∷ []) n 0
 
-    sent_now : (m : ℕ) (before : History) (answer : ActAnswer) (files : Files) (logs : Logs) → Took sized (Some m) answer
+    sent_now : (m : ℕ) (before : History) (answer : ActAnswer) (files : Files) (logs : Logs)
+        → Took sized (Some m) answer
         → Legal stamped (own_step Sending answer files logs ∷ before)
         → Sent (since_start Me (own_step Sending answer files logs ∷ before)) m address bytes
     sent_now m before answer files logs took legal =
@@ -222,7 +239,8 @@ module _ (stamped : List (List ℕ)) (source : List ℕ) (known : IsTrue (is_sou
       → ((c : Chunk) → Contains chunks c → c.key.cluster ≡ cluster)
       → ((c : Chunk) → Contains chunks c → (c.key.stream.source ≡ source) × ((k : Line) × (find (is_line_of c.key.stream) lines ≡ Some k)))
       → ((h : History) → F h → (c : Chunk) → Contains chunks c → ChunkStands h c)
-      → (given : Result ℕ CallFault) (taken : Option ℕ) {old new : Option History} → IsTaken given taken
+      → (given : Result ℕ CallFault) (taken : Option ℕ) {old new : Option History}
+      → IsTaken given taken
       → Adds old new (CallsSome (λ n. asked Me Send (address ∷ bytes ∷ []) n 0) (λ n. answered sized given))
       → Adds old new (Leads (Talking stamped Me) (Told stamped source cluster lines F)
       (Told stamped source cluster lines (Both F (Gained (λ m h. Sent (since_start Me h) m address bytes) taken))))
@@ -245,7 +263,9 @@ module _ (stamped : List (List ℕ)) (source : List ℕ) (known : IsTrue (is_sou
       })) (λ m. tt)
       (λ before answer files logs took legal k. gains n taken before answer files logs took legal) is one) call
     where
-      gains : (n : ℕ) (taken : Option ℕ) (before : History) (answer : ActAnswer) (files : Files) (logs : Logs) → Took sized taken answer
+      gains : (n : ℕ) (taken : Option ℕ) (before : History) (answer : ActAnswer) (files : Files)
+          (logs : Logs)
+          → Took sized taken answer
           → Legal stamped (own_step (Sending address bytes n) answer files logs ∷ before)
           → Gained (λ m h. Sent (since_start Me h) m address bytes) taken (own_step (Sending address bytes n) answer files logs ∷ before)
       gains n None before answer files logs took legal = tt
@@ -253,7 +273,8 @@ module _ (stamped : List (List ℕ)) (source : List ℕ) (known : IsTrue (is_sou
 
   -- a poll
   pub poll_told : (address bytes : List ℕ) → SendsPoll address bytes
-      → (given : Result ℕ CallFault) (taken : Option ℕ) {old new : Option History} → IsTaken given taken
+      → (given : Result ℕ CallFault) (taken : Option ℕ) {old new : Option History}
+      → IsTaken given taken
       → Adds old new (CallsSome (λ n. asked Me Send (address ∷ bytes ∷ []) n 0) (λ n. answered sized given))
       → Adds old new (Leads (Talking stamped Me) (Told stamped source cluster lines F)
       (Told stamped source cluster lines (Both F (Gained (λ m h. Sent (since_start Me h) m address bytes) taken))))
@@ -266,14 +287,18 @@ module _ (stamped : List (List ℕ)) (source : List ℕ) (known : IsTrue (is_sou
       (λ before answer files logs legal k. inr poll) (λ m. tt)
       (λ before answer files logs took legal k. gains n taken before answer files logs took legal) is one) call
     where
-      gains : (n : ℕ) (taken : Option ℕ) (before : History) (answer : ActAnswer) (files : Files) (logs : Logs) → Took sized taken answer
+      gains : (n : ℕ) (taken : Option ℕ) (before : History) (answer : ActAnswer) (files : Files)
+          (logs : Logs)
+          → Took sized taken answer
           → Legal stamped (own_step (Sending address bytes n) answer files logs ∷ before)
           → Gained (λ m h. Sent (since_start Me h) m address bytes) taken (own_step (Sending address bytes n) answer files logs ∷ before)
       gains n None before answer files logs took legal = tt
       gains n (Some m) before answer files logs took legal = sent_now address bytes n m before answer files logs took legal
 
   -- what is got for a message
-  pub got_told : (m : ℕ) (given : Result (List ℕ) CallFault) (taken : Option (List ℕ)) {old new : Option History} → IsTaken given taken
+  pub got_told : (m : ℕ) (given : Result (List ℕ) CallFault) (taken : Option (List ℕ))
+      {old new : Option History}
+      → IsTaken given taken
       → Adds old new (Calls (asked Me Got [] m 0) (answered bytes_given given))
       → Adds old new (Leads (As stamped Me) (Told stamped source cluster lines F)
       (Told stamped source cluster lines (Both F (Gained (λ bytes h. GotFor (since_start Me h) m bytes) taken))))
@@ -283,7 +308,9 @@ module _ (stamped : List (List ℕ)) (source : List ℕ) (known : IsTrue (is_sou
       (λ before answer files logs legal k. tt) (λ bytes. tt)
       (λ before answer files logs took legal k. gains taken before answer files logs took) is call
     where
-      gains : (taken : Option (List ℕ)) (before : History) (answer : ActAnswer) (files : Files) (logs : Logs) → Took bytes_given taken answer
+      gains : (taken : Option (List ℕ)) (before : History) (answer : ActAnswer) (files : Files)
+          (logs : Logs)
+          → Took bytes_given taken answer
           → Gained (λ bytes h. GotFor (since_start Me h) m bytes) taken (own_step (asked Me Got [] m 0) answer files logs ∷ before)
       gains None before answer files logs took = tt
       gains (Some bytes) before answer files logs took =

@@ -15,7 +15,7 @@ use Rattle.chk_site.specs.Runs.{Leads}
 use Rattle.chk_world.specs.Names.{CheckFile, is_source, spell}
 use Rattle.chk_world.specs.Checkpoints.{Line, lines_in}
 use Rattle.chk_world.specs.Agents.{AgentRule, OfCluster, AllOfCluster}
-use Rattle.chk_world.specs.Rules.{Framed, OnlyWritersGrowLogs, OnlyAgentsRequest, is_named_so, Legal}
+use Rattle.chk_world.specs.Rules.{Framed, OnlyWritersGrowLogs, OnlyAgentsPost, is_named_so, Legal}
 use Rattle.chk_world.specs.Places.{Making, AtTold}
 use Rattle.chk_world.specs.Knowing.{agent, Grows, Both, Knows, Told}
 use Rattle.chk_world.proofs.AgentCalls.{agent_rule}
@@ -23,7 +23,6 @@ use Rattle.chk_world.proofs.Frames.{files_stay, steps_stay}
 use Rattle.chk_world.proofs.Outcomes.{CameTo, whole, nothing, junk, leaves}
 use Rattle.chk_world.proofs.PlacesStay.{Stays}
 use Rattle.chk_world.proofs.ToldCalls.{Allowed, GoesOn, came_on, goes_on_taken, told_taken, told_ends, who_self}
-use Rattle.chk_world.proofs.AgentFacts.{AlwaysStays}
 
 -- ---- calls that leave the files
 
@@ -44,7 +43,7 @@ is_quiet (Answers t bytes) = true
 is_quiet (Says bytes) = true
 is_quiet call = false
 
--- so it is
+-- the common rules allow a call that changes no file, whoever makes it
 record Quiet (who : Who) (files : Files) (call : Deed) : Type 0 where
   framed : Framed who files call
   logs : OnlyWritersGrowLogs who.role call
@@ -71,14 +70,16 @@ abbrev is_change : Change → Bool
 is_change Nothing = false
 is_change change = true
 
-came_same : (call : Deed) (d : Bool) (before after : Files) → change_of call ≡ Nothing → CameTo call d before after → (w : List ℕ) → after w ≡ before w
+came_same : (call : Deed) (d : Bool) (before after : Files) → change_of call ≡ Nothing
+    → CameTo call d before after → (w : List ℕ) → after w ≡ before w
 came_same call d before after none (whole e) w = e w ∙ ap (λ did. changed did before w) none
 came_same call d before after none (nothing not_done e) w = e w
 came_same call d before after none (junk n piece bytes is not_done e) w =
     absurd (true≢false (ap is_change (sym (ap change_of is) ∙ none)))
 
 -- the own call leaves each file
-quiet_same : (stamped : List (List ℕ)) (before : History) (step : Step) → Legal stamped (step ∷ before) → is_quiet (deed step.act) ≡ true
+quiet_same : (stamped : List (List ℕ)) (before : History) (step : Step)
+    → Legal stamped (step ∷ before) → is_quiet (deed step.act) ≡ true
     → GoesOn step.act.answer → (w : List ℕ) → step.files w ≡ files_after before w
 quiet_same stamped before step legal q goes =
     let e = legal.1.honest.modelled.effect in
@@ -87,7 +88,8 @@ quiet_same stamped before step legal q goes =
     (leaves (deed step.act) step.act.answer (files_after before) step.files e.did e.may e.files_left))
 
 -- an own call is the first of the steps since the start
-pub own_first : (me : Who) (before : History) (step : Step) → step.act.who ≡ me → is_quiet (deed step.act) ≡ true
+pub own_first : (me : Who) (before : History) (step : Step) → step.act.who ≡ me
+    → is_quiet (deed step.act) ≡ true
     → since_start me (step ∷ before) ≡ step ∷ since_start me before
 own_first me before step by q =
     ap (λ b. if b then (if is_start (deed step.act) then [] else step ∷ since_start me before) else since_start me before)
@@ -96,24 +98,25 @@ own_first me before step by q =
 
 -- ---- what is known stays
 
-pub both_grow : (stamped : List (List ℕ)) (who : Who) (F G : History → Type 0) → Grows stamped who F → Grows stamped who G → Grows stamped who (Both F G)
+pub both_grow : (stamped : List (List ℕ)) (who : Who) (F G : History → Type 0) → Grows stamped who F
+    → Grows stamped who G → Grows stamped who (Both F G)
 both_grow stamped who F G f g history step legal no_start h =
     record { one = f history step legal no_start h.one; two = g history step legal no_start h.two }
 
-pub always_grows : (stamped : List (List ℕ)) (who : Who) (K : History → Type 0) → AlwaysStays stamped K → Grows stamped who K
-always_grows stamped who K stays history step legal no_start k = stays history step legal k
-
 -- a fact of the agent's steps since its start that stays among more of them
-pub steps_grow : (stamped : List (List ℕ)) (who : Who) (B : List Step → Type 0) → ((step : Step) (mine : List Step) → B mine → B (step ∷ mine))
+pub steps_grow : (stamped : List (List ℕ)) (who : Who) (B : List Step → Type 0)
+    → ((step : Step) (mine : List Step) → B mine → B (step ∷ mine))
     → Grows stamped who (λ h. B (since_start who h))
 steps_grow stamped who B more history step legal no_start h = go (is_by who step) (is_start (deed step.act)) no_start
   where
-    go : (b t : Bool) → (b && t) ≡ false → B (if b then (if t then [] else step ∷ since_start who history) else since_start who history)
+    go : (b t : Bool) → (b && t) ≡ false
+        → B (if b then (if t then [] else step ∷ since_start who history) else since_start who history)
     go true true e = absurd (true≢false e)
     go true false e = more step (since_start who history) h
     go false t e = h
 
-module _ (stamped : List (List ℕ)) (source : List ℕ) (known : IsTrue (is_source source)) (cluster : List ℕ) (lines : List Line) (F : History → Type 0)
+module _ (stamped : List (List ℕ)) (source : List ℕ) (known : IsTrue (is_source source))
+    (cluster : List ℕ) (lines : List Line) (F : History → Type 0)
     (grows : Grows stamped (agent source) F) where
   abbrev Me : Who
   Me = agent source
@@ -126,7 +129,8 @@ module _ (stamped : List (List ℕ)) (source : List ℕ) (known : IsTrue (is_sou
   }
 
   -- an own call that leaves the files
-  pub own_knows : (before : History) (step : Step) → step.act.who ≡ Me → is_quiet (deed step.act) ≡ true → OfCluster cluster (deed step.act)
+  pub own_knows : (before : History) (step : Step) → step.act.who ≡ Me
+      → is_quiet (deed step.act) ≡ true → OfCluster cluster (deed step.act)
       → GoesOn step.act.answer → Legal stamped (step ∷ before)
       → Knows source cluster lines F before → Knows source cluster lines F (step ∷ before)
   own_knows before step by q of goes legal h = record {
@@ -140,21 +144,24 @@ module _ (stamped : List (List ℕ)) (source : List ℕ) (known : IsTrue (is_sou
       (is_q : (answer : ActAnswer) (files : Files) (logs : Logs) → is_quiet (deed (own_step q answer files logs).act) ≡ true)
       (of : (answer : ActAnswer) (files : Files) (logs : Logs) → OfCluster cluster (deed (own_step q answer files logs).act)) where
     allowed : (before : History) (answer : ActAnswer) (files : Files) (logs : Logs)
-        → AgentRule Me before (own_step q answer files logs) (deed (own_step q answer files logs).act) → Allowed stamped before (own_step q answer files logs)
+        → AgentRule Me before (own_step q answer files logs)
+        (deed (own_step q answer files logs).act)
+        → Allowed stamped before (own_step q answer files logs)
     allowed before answer files logs rule =
         let step = own_step q answer files logs in
         let k = quiet q.who (files_after before) (deed step.act) (is_q answer files logs) in
         record {
           own_files = k.framed;
           logs = k.logs;
-          requests = subst (λ (w : Who). OnlyAgentsRequest w.role (deed step.act)) (sym by) tt;
+          requests = subst (λ (w : Who). OnlyAgentsPost w.role (deed step.act)) (sym by) tt;
           rule = agent_rule stamped Me before step (deed step.act) refl by refl rule;
         }
 
     abbrev MayBy : Type 0
     MayBy =
         (before : History) (answer : ActAnswer) (files : Files) (logs : Logs) → Legal stamped before → Knows source cluster lines F before
-        → AgentRule Me before (own_step q answer files logs) (deed (own_step q answer files logs).act)
+        → AgentRule Me before (own_step q answer files logs)
+        (deed (own_step q answer files logs).act)
 
     so_named : IsTrue (is_named_so q.who.role q.who.name)
     so_named = subst (λ (w : Who). IsTrue (is_named_so w.role w.name)) (sym by) known
@@ -168,11 +175,14 @@ module _ (stamped : List (List ℕ)) (source : List ℕ) (known : IsTrue (is_sou
     stays_by : Stays stamped q.who (Knows source cluster lines F)
     stays_by = subst (λ w. Stays stamped w (Knows source cluster lines F)) (sym by) knows_stays
 
-    -- a call that gave something, or was refused for the state of the files: what was known stays, and G is added
-    pub agent_took : (G : History → Type 0) {V : Type 0} (how : V → ActAnswer) (given : Result V CallFault) (taken : Option V) {old new : Option History}
+    -- a call that gave something, or was refused for the state of the files: what was known stays,
+    -- and G is added
+    pub agent_took : (G : History → Type 0) {V : Type 0} (how : V → ActAnswer)
+        (given : Result V CallFault) (taken : Option V) {old new : Option History}
         → MayBy → ((value : V) → GoesOn (how value))
         → ((before : History) (answer : ActAnswer) (files : Files) (logs : Logs) → Took how taken answer
-        → Legal stamped (own_step q answer files logs ∷ before) → Knows source cluster lines F before → G (own_step q answer files logs ∷ before))
+        → Legal stamped (own_step q answer files logs ∷ before)
+        → Knows source cluster lines F before → G (own_step q answer files logs ∷ before))
         → IsTaken given taken → Adds old new (Calls q (answered how given))
         → Adds old new (Leads (Making stamped Me q.call) (Told stamped source cluster lines F) (Told stamped source cluster lines (Both F G)))
     agent_took G how given taken may goes gains is call =
@@ -184,7 +194,8 @@ module _ (stamped : List (List ℕ)) (source : List ℕ) (known : IsTrue (is_sou
         is call)
 
     -- a call that ended the work
-    pub agent_ends : {V : Type 0} (how : V → ActAnswer) (given : Result V CallFault) (fault : OutsideFault) {old new : Option History}
+    pub agent_ends : {V : Type 0} (how : V → ActAnswer) (given : Result V CallFault)
+        (fault : OutsideFault) {old new : Option History}
         → MayBy → Ends q.call given fault → Adds old new (Calls q (answered how given))
         → Adds old new (Leads (Making stamped Me q.call) (Told stamped source cluster lines F) (Told stamped source cluster lines F))
     agent_ends how given fault may ends call =

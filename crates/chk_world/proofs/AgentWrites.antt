@@ -42,7 +42,9 @@ write_of cluster (Renames old new) e = tt
 write_of cluster (Removes w) e = tt
 write_of cluster call e = absurd (true≢false (sym e))
 
-write_newest : (path : List ℕ) (call : Deed) (answer : ActAnswer) (earlier : Option (Option (List ℕ))) → is_write call ≡ true
+write_newest : (path : List ℕ) (call : Deed) (answer : ActAnswer)
+    (earlier : Option (Option (List ℕ)))
+    → is_write call ≡ true
     → newest_by path call answer earlier ≡ earlier
 write_newest path (Creates w) answer earlier e = refl
 write_newest path (Appends w piece) answer earlier e = refl
@@ -57,11 +59,13 @@ pub record Kept (source cluster : List ℕ) (F : History → Type 0) (history : 
   pub holds : F history
 
 -- after a writing: the new lines are there, or after a refusal the old or the new ones
-abbrev pub AfterWriting : {T : Type 0} → List ℕ → List ℕ → List Line → (History → Type 0) → Result T OutsideFault → History → Type 0
+abbrev pub AfterWriting : {T : Type 0} → List ℕ → List ℕ → List Line → (History → Type 0)
+    → Result T OutsideFault → History → Type 0
 AfterWriting source cluster new F (Ok value) history = Knows source cluster new F history
 AfterWriting source cluster new F (Err fault) history = Kept source cluster F history
 
-module _ (stamped : List (List ℕ)) (source : List ℕ) (known : IsTrue (is_source source)) (cluster : List ℕ) (F : History → Type 0) where
+module _ (stamped : List (List ℕ)) (source : List ℕ) (known : IsTrue (is_source source))
+    (cluster : List ℕ) (F : History → Type 0) where
   abbrev Me : Who
   Me = agent source
 
@@ -78,9 +82,12 @@ module _ (stamped : List (List ℕ)) (source : List ℕ) (known : IsTrue (is_sou
   }
 
   -- the lines are written, where what is known shows that they go on from the old ones
-  pub written_told : Stays stamped Me F → KeptByWrites stamped Me F → (old new : List Line) (bytes : List ℕ) → read_checkpoint bytes ≡ Some new
-      → ((history : History) → F history → LinesGoOn Me old new history) → (name : List ℕ) → name ≡ spell (CheckFile source)
-      → {result : Result (Unit {0}) OutsideFault} {before after : Option History} → MadeInTurn (replacement Me name bytes) result before after
+  pub written_told : Stays stamped Me F → KeptByWrites stamped Me F
+      → (old new : List Line) (bytes : List ℕ) → read_checkpoint bytes ≡ Some new
+      → ((history : History) → F history → LinesGoOn Me old new history) → (name : List ℕ)
+      → name ≡ spell (CheckFile source)
+      → {result : Result (Unit {0}) OutsideFault} {before after : Option History}
+      → MadeInTurn (replacement Me name bytes) result before after
       → Adds before after (Leads (As stamped Me) (Told stamped source cluster old F)
       (AtTold stamped Me (AfterWriting source cluster new F result)))
   written_told stays kept old new bytes is_read go_on name e {result = result} script =
@@ -94,7 +101,9 @@ module _ (stamped : List (List ℕ)) (source : List ℕ) (known : IsTrue (is_sou
       (lines_written stamped source known old new bytes is_read (Kept source cluster F) (kept_stays stays) (kept_writes kept)
       (λ history k. go_on history k.holds) name e script)
     where
-      ended : (r : Result (Unit {0}) OutsideFault) (h : History) → WroteLines (Kept source cluster F) source new r h → AfterWriting source cluster new F r h
+      ended : (r : Result (Unit {0}) OutsideFault) (h : History)
+          → WroteLines (Kept source cluster F) source new r h
+          → AfterWriting source cluster new F r h
       ended (Ok value) h x = record { one_cluster = x.known.one_cluster; lines_are = x.lines_are; holds = x.known.holds }
       ended (Err fault) h x = x
 
@@ -110,16 +119,19 @@ module _ (stamped : List (List ℕ)) (source : List ℕ) (known : IsTrue (is_sou
 abbrev pub Newest : List ℕ → List ℕ → Option (List ℕ) → History → Type 0
 Newest source path suffix history = last_newest path (since_start (agent source) history) ≡ Some suffix
 
-pub newest_stays : (stamped : List (List ℕ)) (source path : List ℕ) (suffix : Option (List ℕ)) → Stays stamped (agent source) (Newest source path suffix)
+pub newest_stays : (stamped : List (List ℕ)) (source path : List ℕ) (suffix : Option (List ℕ))
+    → Stays stamped (agent source) (Newest source path suffix)
 newest_stays stamped source path suffix history step legal f h = ap (last_newest path) (steps_stay stamped (agent source) history step f) ∙ h
 
-pub newest_writes : (stamped : List (List ℕ)) (source path : List ℕ) (suffix : Option (List ℕ)) → KeptByWrites stamped (agent source) (Newest source path suffix)
+pub newest_writes : (stamped : List (List ℕ)) (source path : List ℕ) (suffix : Option (List ℕ))
+    → KeptByWrites stamped (agent source) (Newest source path suffix)
 newest_writes stamped source path suffix before step by writes legal h =
     ap (last_newest path) (own_write (agent source) before step by writes)
     ∙ (write_newest path (deed step.act) step.act.answer (last_newest path (since_start (agent source) before)) writes ∙ h)
 
 -- the question for it
-pub newest_told : (stamped : List (List ℕ)) (source : List ℕ) → IsTrue (is_source source) → (cluster : List ℕ) (lines : List Line)
+pub newest_told : (stamped : List (List ℕ)) (source : List ℕ) → IsTrue (is_source source)
+    → (cluster : List ℕ) (lines : List Line)
     (F : History → Type 0) → Grows stamped (agent source) F → (path : List ℕ) (given : Result (Option (List ℕ)) CallFault)
     (suffix : Option (List ℕ)) {old new : Option History} → given ≡ Ok suffix
     → Adds old new (Calls (asked (agent source) LogNewest (path ∷ []) 0 0) (answered suffix_given given))
@@ -135,7 +147,8 @@ newest_told stamped source known cluster lines F grows path given suffix is call
     ∙ by_answer suffix answer (last_newest path (since_start (agent source) before)) took)
     (subst (λ r. IsTaken r (Some suffix)) (sym is) refl) call
   where
-    by_answer : (o : Option (List ℕ)) (answer : ActAnswer) (earlier : Option (Option (List ℕ))) → answer ≡ suffix_given o
+    by_answer : (o : Option (List ℕ)) (answer : ActAnswer) (earlier : Option (Option (List ℕ)))
+        → answer ≡ suffix_given o
         → newest_by path (AsksNewest path) answer earlier ≡ Some o
     by_answer None answer earlier e = rw (e, bytes_self path) refl
     by_answer (Some s) answer earlier e = rw (e, bytes_self path) refl

@@ -163,7 +163,7 @@ aside_back Three b fits h = some_aside b.next b.segments b.aside fits h
 abbrev tail_bytes : Version → Book → List ℕ
 tail_bytes v b = be32 (length b.ends) ++ (joined (map (end_bytes (has_starts v)) b.ends) ++ aside_bytes b.aside)
 
--- and those from the first segment on
+-- the bytes from the first segment on
 abbrev body_bytes : Version → Book → List ℕ
 body_bytes v b = joined (map segment_bytes b.segments) ++ tail_bytes v b
 

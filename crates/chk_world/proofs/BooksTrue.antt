@@ -28,18 +28,21 @@ value_bytes most k value h =
     let q = leb-true (k.start + length value) k.seq (and_parts (nat_le (length value) most) (nat_le (k.start + length value) k.seq) p.1).1 in
     record { some = ltb-true 0 (length value) p.0; room = omega (arith, q) }
 
-each_mapped : {X Y : Type 0} (P : Y → Type 0) (h : X → Option Y) (xs : List X) → ((x : X) (y : Y) → h x ≡ Some y → P y) → Each P (filter_map h xs)
+each_mapped : {X Y : Type 0} (P : Y → Type 0) (h : X → Option Y) (xs : List X)
+    → ((x : X) (y : Y) → h x ≡ Some y → P y) → Each P (filter_map h xs)
 each_mapped P h [] f = tt
 each_mapped {X = X} {Y = Y} P h (x ∷ xs) f = go (h x) refl (each_mapped P h xs f)
   where
-    go : (o : Option Y) → h x ≡ o → Each P (filter_map h xs) → Each P (cons_option o (filter_map h xs))
+    go : (o : Option Y) → h x ≡ o → Each P (filter_map h xs)
+        → Each P (cons_option o (filter_map h xs))
     go None e rest = rest
     go (Some y) e rest = (f x y e, rest)
 
 chunk_bytes : (most : ℕ) (r : Placed) (c : Chunk) → chunk_of most r ≡ Some c → HasBytes c
 chunk_bytes most r c e = go (read_key r.key) e
   where
-    pick : (k : Key) (b : Bool) → has_value most k r.value ≡ b → chunk_if b k r.value ≡ Some c → HasBytes c
+    pick : (k : Key) (b : Bool) → has_value most k r.value ≡ b → chunk_if b k r.value ≡ Some c
+        → HasBytes c
     pick k true h e = subst HasBytes (same_Some (record { key = k; value = r.value }) c e) (value_bytes most k r.value h)
     pick k false h e = absurd (none-some c e)
 
@@ -50,11 +53,13 @@ chunk_bytes most r c e = go (read_key r.key) e
 pub each_within : (most : ℕ) (bytes : List ℕ) → Each HasBytes (chunks_within most bytes)
 each_within most bytes = each_mapped HasBytes (chunk_of most) (records_of bytes) (chunk_bytes most)
 
-pub each_append : {X : Type 0} (P : X → Type 0) (xs ys : List X) → Each P xs → Each P ys → Each P (xs ++ ys)
+pub each_append : {X : Type 0} (P : X → Type 0) (xs ys : List X) → Each P xs → Each P ys
+    → Each P (xs ++ ys)
 each_append P [] ys a b = b
 each_append P (x ∷ xs) ys a b = (a.0, each_append P xs ys a.1 b)
 
-pub each_flat : {X Y : Type 0} (P : Y → Type 0) (f : X → List Y) (xs : List X) → ((x : X) → Each P (f x)) → Each P (flat_map f xs)
+pub each_flat : {X Y : Type 0} (P : Y → Type 0) (f : X → List Y) (xs : List X)
+    → ((x : X) → Each P (f x)) → Each P (flat_map f xs)
 each_flat P f [] h = tt
 each_flat P f (x ∷ xs) h = each_append P (f x) (flat_map f xs) (h x) (each_flat P f xs h)
 
@@ -62,13 +67,15 @@ each_in_file : (o : Option File) → Each HasBytes (chunks_in o)
 each_in_file None = tt
 each_in_file (Some f) = each_within record_limit f.bytes
 
-pub each_named : (files : Files) (folder : Folder) (b : Book) → Each HasBytes (chunks_named files folder b)
+pub each_named : (files : Files) (folder : Folder) (b : Book)
+    → Each HasBytes (chunks_named files folder b)
 each_named files folder b =
     each_flat HasBytes (segment_chunks files folder) b.segments (λ g. each_in_file (file files (SegmentFile folder g.number)))
 
 -- ---- a run is as long as its values
 
-pub run_length : (start from : ℕ) (cs : List Chunk) (to : ℕ) → Each HasBytes cs → Run start from cs to → from + length (values cs) ≡ to
+pub run_length : (start from : ℕ) (cs : List Chunk) (to : ℕ) → Each HasBytes cs
+    → Run start from cs to → from + length (values cs) ≡ to
 run_length start from [] to all r = omega (arith, r)
 run_length start from (c ∷ cs) to all r =
     let rest = run_length start (chunk_end c) cs to all.1 r.2 in
@@ -80,7 +87,8 @@ run_length start from (c ∷ cs) to all r =
 -- ---- the book
 
 -- a stream that has begun with a start has
-pub has_start_stays : (folder : Folder) (history : History) (step : Step) (e : End) → HasStart folder history e
+pub has_start_stays : (folder : Folder) (history : History) (step : Step) (e : End)
+    → HasStart folder history e
     → HasStart folder (step ∷ history) e
 has_start_stays ArchiveFolder history step e h =
     (h.0, ap (λ o. or_else o (founded_by (line_of step.files e.stream) (step.logs e.stream.name))) h.1, h.2)
@@ -88,30 +96,35 @@ has_start_stays DemuxFolder history step e h =
     (h.0, ap (λ o. or_else o (founded_by (line_of step.files e.stream) (step.logs e.stream.name))) h.1, h.2)
 has_start_stays JoinedFolder history step e h = tt
 
--- and its start is the stream's
-pub has_start_is : (history : History) (e : End) → HasStart ArchiveFolder history e → e.start ≡ start_of history e.stream
+-- the start that a book has for a stream is the stream's
+pub has_start_is : (history : History) (e : End) → HasStart ArchiveFolder history e
+    → e.start ≡ start_of history e.stream
 has_start_is history e h = h.2 ∙ sym (ap start_at h.1)
 
 -- all that a book says of its streams
 record Says (folder : Folder) (history : History) (b : Book) : Type 0 where
-  listed : (c : Chunk) → Contains (chunks_named (files_after history) folder b) c → Any (λ e. e.stream ≡ c.key.stream) b.ends
+  listed : (c : Chunk) → Contains (chunks_named (files_after history) folder b) c
+      → Any (λ e. e.stream ≡ c.key.stream) b.ends
   ends : (e : End) → Contains b.ends e
       → Run e.start e.start (chunks_of_stream e.stream (chunks_named (files_after history) folder b)) e.end
   starts : (e : End) → Contains b.ends e → HasStart folder history e
 
-says : (folder : Folder) (history : History) (b : Book) → BookNamesSyncedSegments folder history b → Says folder history b
+says : (folder : Folder) (history : History) (b : Book) → BookNamesSyncedSegments folder history b
+    → Says folder history b
 says folder history b n = record { listed = n.listed; ends = n.ends; starts = n.starts }
 
 -- of a book whose segments stay
 kept : (folder : Folder) (history : History) (step : Step) (b : Book)
-    → chunks_named step.files folder b ≡ chunks_named (files_after history) folder b → Says folder history b → Says folder (step ∷ history) b
+    → chunks_named step.files folder b ≡ chunks_named (files_after history) folder b
+    → Says folder history b → Says folder (step ∷ history) b
 kept folder history step b same t = record {
   listed = λ c one. t.listed c (subst (λ cs. Contains cs c) same one);
   ends = λ e one. subst (λ cs. Run e.start e.start (chunks_of_stream e.stream cs) e.end) (sym same) (t.ends e one);
   starts = λ e one. has_start_stays folder history step e (t.starts e one);
 }
 
-pub books_stay_true : (stamped : List (List ℕ)) (history : History) → Legal stamped history → (folder : Folder)
+pub books_stay_true : (stamped : List (List ℕ)) (history : History) → Legal stamped history
+    → (folder : Folder)
     → BookNamesSyncedSegments folder history (book_of (files_after history) folder)
 books_stay_true stamped [] legal folder = record {
   sound = named_sound stamped [] legal folder;
@@ -151,8 +164,10 @@ books_stay_true stamped (step ∷ history) legal folder =
 
 -- ---- the archive's records run from its start to its end
 
-run_of : (history : History) (b : Book) → BookNamesSyncedSegments ArchiveFolder history b → (s : Stream) (xs : List Chunk)
-    → chunks_of_stream s (chunks_named (files_after history) ArchiveFolder b) ≡ xs → Each HasBytes xs
+run_of : (history : History) (b : Book) → BookNamesSyncedSegments ArchiveFolder history b
+    → (s : Stream) (xs : List Chunk)
+    → chunks_of_stream s (chunks_named (files_after history) ArchiveFolder b) ≡ xs
+    → Each HasBytes xs
     → Run (start_of history s) (start_of history s) xs (start_of history s + length (values xs))
 run_of history b t s [] is bytes = omega arith
 run_of history b t s (c ∷ xs) is bytes =
@@ -171,9 +186,12 @@ run_of history b t s (c ∷ xs) is bytes =
     let end : e.end ≡ start_of history s + length (values (c ∷ xs)) = omega (arith, size, start) in
     subst (λ n. Run n n (c ∷ xs) (start_of history s + length (values (c ∷ xs)))) start (subst (Run e.start e.start (c ∷ xs)) end r)
 
--- so they do at every moment of a legal history
-pub archives_run : (stamped : List (List ℕ)) (history : History) → Legal stamped history → (s : Stream)
-    → Run (start_of history s) (start_of history s) (archived_chunks history s) (archived_end history s)
+-- at every moment of a legal history the archive's records of a stream run from its start to its
+-- end
+pub archives_run : (stamped : List (List ℕ)) (history : History) → Legal stamped history
+    → (s : Stream)
+    → Run (start_of history s) (start_of history s) (archived_chunks history s)
+    (archived_end history s)
 archives_run stamped history legal s =
     let b = book_of (files_after history) ArchiveFolder in
     let all = chunks_named (files_after history) ArchiveFolder b in

@@ -25,15 +25,15 @@ use Rattle.chk_world.specs.Checkpoints.{Line, Version, One, Two, after_text, ver
 use Rattle.chk_world.proofs.Ends.{bytes_same}
 
 -- texts joined by a separator that none of them has are parted there again
-parts_back : (c : ℕ) (word : List ℕ) (words : List (List ℕ)) → IsTrue (lacks c word) → list_all (lacks c) words ≡ true
+pub parts_back : (c : ℕ) (word : List ℕ) (words : List (List ℕ)) → IsTrue (lacks c word) → list_all (lacks c) words ≡ true
     → parts_at c (joined_at c (word ∷ words)) ≡ word ∷ words
 parts_back c word [] h all = parts_at-whole c word h
 parts_back c word (next ∷ words) h all =
     let both = and_parts (lacks c next) (list_all (lacks c) words) all in
     parts_at-front c word (joined_at c (next ∷ words)) h ∙ ap (λ ps. word ∷ ps) (parts_back c next words both.0 both.1)
 
--- and no other byte comes in
-joined_lacks : (c d : ℕ) (words : List (List ℕ)) → not (d == c) ≡ true → list_all (lacks c) words ≡ true → IsTrue (lacks c (joined_at d words))
+-- joined words have no other byte than theirs and the one between
+pub joined_lacks : (c d : ℕ) (words : List (List ℕ)) → not (d == c) ≡ true → list_all (lacks c) words ≡ true → IsTrue (lacks c (joined_at d words))
 joined_lacks c d [] apart all = refl
 joined_lacks c d (word ∷ []) apart all = (and_parts (lacks c word) true all).0
 joined_lacks c d (word ∷ next ∷ words) apart all =
@@ -95,7 +95,7 @@ pub record LineFacts (l : Line) : Type 0 where
   pub first : l.first < limit
   pub offset : l.offset < limit
 
-line_facts : (l : Line) → is_line l ≡ true → LineFacts l
+pub line_facts : (l : Line) → is_line l ≡ true → LineFacts l
 line_facts l h =
     let p1 = and_parts (is_name l.name) _ h in
     let p2 = and_parts (is_word l.kind) _ p1.1 in
@@ -123,7 +123,7 @@ after_lacks : (c : ℕ) (after : Option (List ℕ)) → c ≤ 32 → IsTrue (is_
 after_lacks c None low h = above_lacks c (codes "-") low refl
 after_lacks c (Some suffix) low h = above_lacks c suffix low (suffix_facts suffix h).above
 
-state_lacks : (c : ℕ) (live : Bool) → c ≤ 32 → IsTrue (lacks c (if live then codes "add" else codes "past"))
+pub state_lacks : (c : ℕ) (live : Bool) → c ≤ 32 → IsTrue (lacks c (if live then codes "add" else codes "past"))
 state_lacks c true low = above_lacks c (codes "add") low refl
 state_lacks c false low = above_lacks c (codes "past") low refl
 
@@ -137,11 +137,11 @@ start_lacks c One start low small = refl
 start_lacks c Two start low small = and_from _ _ (no_mark c start (omega arith) small) refl
 
 -- the words behind the first
-abbrev rest_words : Version → Line → List (List ℕ)
+abbrev pub rest_words : Version → Line → List (List ℕ)
 rest_words v l =
     l.name ∷ codes "=" ∷ class_name l.class ∷ l.kind ∷ l.path ∷ decimal l.offset ∷ decimal l.first ∷ after_text l.after ∷ start_words v l.start
 
-rest_lacks : (c : ℕ) (v : Version) (l : Line) → c ≤ 32 → LineFacts l → list_all (lacks c) (rest_words v l) ≡ true
+pub rest_lacks : (c : ℕ) (v : Version) (l : Line) → c ≤ 32 → LineFacts l → list_all (lacks c) (rest_words v l) ≡ true
 rest_lacks c v l low f =
     and_from _ _ (word_lacks c l.name low f.name) (and_from _ _ (above_lacks c (codes "=") low refl)
     (and_from _ _ (class_lacks c l.class low) (and_from _ _ (word_lacks c l.kind low f.kind)
@@ -162,7 +162,7 @@ class_back Lines = refl
 number_back : (n : ℕ) → n < limit → digits_value 10 (decimal n) ≡ n
 number_back n small = let s : n < 2 ^ 63 = small in digits_value-decimal all_digits n (omega arith)
 
-after_back : (after : Option (List ℕ)) → IsTrue (is_after_text after) → guessed_after (after_text after) ≡ after
+pub after_back : (after : Option (List ℕ)) → IsTrue (is_after_text after) → guessed_after (after_text after) ≡ after
 after_back None h = refl
 after_back (Some suffix) h = go (bytes_eq suffix (codes "-")) refl
   where
@@ -177,7 +177,7 @@ start_back : (v : Version) (l : Line) → fits_version v l ≡ true → l.start 
 start_back One l fits small = sym (eqb-true l.start 0 fits)
 start_back Two l fits small = number_back l.start small
 
-line_back : (v : Version) (l : Line) → fits_version v l ≡ true → LineFacts l → guessed_line (line_words v l) ≡ Some l
+pub line_back : (v : Version) (l : Line) → fits_version v l ≡ true → LineFacts l → guessed_line (line_words v l) ≡ Some l
 line_back v l fits f =
     let a = live_back l.live in
     let b = class_back l.class in
@@ -202,7 +202,7 @@ abbrev bodies : Version → List Line → List (List ℕ)
 bodies v [] = [] ∷ []
 bodies v (l ∷ lines) = joined_at 32 (line_words v l) ∷ bodies v lines
 
-words_lack : (c : ℕ) (v : Version) (l : Line) → c ≤ 32 → LineFacts l → list_all (lacks c) (line_words v l) ≡ true
+pub words_lack : (c : ℕ) (v : Version) (l : Line) → c ≤ 32 → LineFacts l → list_all (lacks c) (line_words v l) ≡ true
 words_lack c v l low f = and_from _ _ (state_lacks c l.live low) (rest_lacks c v l low f)
 
 lines_parted : (v : Version) (lines : List Line) → list_all is_line lines ≡ true

@@ -45,7 +45,7 @@ number_below (Some m) None h = omega arith
 number_below (Some m) (Some d) h = omega (arith, h)
 
 module _ (stamped : List (List ℕ)) (history : History) (step : Step) (legal : Legal stamped (step ∷ history)) (x : Stem) (known : IsTrue (is_stem x)) where
-  -- it isn't greater than it was, or the sink is there
+  -- the committed length isn't greater than it was, or the sink is there
   abbrev AfterMark : Option File → Type 0
   AfterMark o = OnFile o IsWhole
       × ((number_in o ≤ number_in (file (files_after history) (MarkFile x))) ⊎ IsThere (file step.files (SinkFile x)))
@@ -140,7 +140,7 @@ module _ (stamped : List (List ℕ)) (history : History) (step : Step) (legal : 
               let before = number_below (file (files_after history) (MarkFile x)) (file (files_after history) (DoneFile x)) (shape stamped history legal.0 x known).mark_of_done in
               earlier (omega (arith, le, less, now, before))
 
--- the same front of what was written before
+-- what was a front of what is written now was one of what was written before, where it is no longer
 pub front_before : (written more : List ℕ) (n : ℕ) (c : Chunk) → n ≤ length written → InFront (written ++ more) n c → InFront written n c
 front_before written more n c le front =
     let same = take-append-le n written more le in

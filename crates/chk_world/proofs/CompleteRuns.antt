@@ -74,7 +74,7 @@ stem_no_slash x known =
 abbrev pub CanBeListed : List ℕ → Type 0
 CanBeListed name = IsTrue (is_word name && not (list_any is_slash name))
 
--- so can a stem's, with a short ending of plain letters
+-- a stem's name with a short ending of plain letters can be listed
 pub can_be_listed : (x : Stem) → IsTrue (is_stem x) → (end : List ℕ) → list_all is_plain_byte end ≡ true → list_any is_slash end ≡ false → length end ≤ 100
     → CanBeListed (stem_text x ++ end)
 can_be_listed x known end plain none short =

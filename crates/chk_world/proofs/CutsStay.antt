@@ -27,7 +27,7 @@ either_stays false x y y' stays h = stays h
 abbrev run_behind : ℕ → ℕ → ℕ
 run_behind b run = if b == 10 then 0 else if run == 131071 then 0 else run + 1
 
--- it lies within the generation
+-- a cut place lies within its generation
 
 line_within : (closed : Bool) (run : ℕ) (bytes : List ℕ) (at : ℕ) → is_line_cut closed run bytes at ≡ true → at ≤ length bytes
 line_within closed run [] at h = let none = (and_parts (at == 0) (run == 0 || closed) h).0 in grind (arith, none)
@@ -41,7 +41,7 @@ line_within closed run (b ∷ bytes) at h =
     go true e h rest = grind (arith, e)
     go false e h rest = omega (arith, rest h)
 
--- it lies within their bytes
+-- a cut place of generations lies within their bytes
 cut_within : (lines : Bool) (gs : List (List ℕ)) (base : List ℕ) (at : ℕ) → is_cut_place lines gs base at ≡ true
     → at ≤ length (joined gs ++ base)
 cut_within true [] base at h = line_within false 0 base at h
@@ -111,7 +111,7 @@ pub record IsCut (history : History) (s : Stream) (o : ℕ) : Type 0 where
   pub founded : founding history s ≡ Some first
   pub cut : IsTrue (is_stream_cut history s o)
 
--- the same by the stream's first line
+-- whether a reader of the stream may stop at an offset, by the stream's first line
 abbrev cut_since : Option Founding → Log → ℕ → Bool
 cut_since first log o =
     let p = parts_since first log in
@@ -141,7 +141,7 @@ cut_on stamped history step legal s known o c =
 abbrev pub whole_length : History → Stream → ℕ
 whole_length history s = let p = parts_of history s in last_cut p.lines (bytes_of p.rotated) p.base (length (log_of history s))
 
--- it ends at a cut place, and none comes later
+-- the whole log ends at a cut place, and none comes later
 pub whole_is : (history : History) (s : Stream)
     → IsLastCut (parts_of history s).lines (bytes_of (parts_of history s).rotated) (parts_of history s).base (length (log_of history s)) (whole_length history s)
 whole_is history s =

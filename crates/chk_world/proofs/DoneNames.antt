@@ -28,12 +28,13 @@ abbrev first_of : List ℕ → ℕ
 first_of [] = 0
 first_of (x ∷ xs) = x
 
--- it ends as it says
+-- a text with an ending has that ending
 closed_so : (name : List ℕ) → is_closed name ≡ true → (t : List ℕ) × (name ≡ t ++ codes ".done")
 closed_so name h = go (bytes_eq (drop (length name - 5) name) (codes ".done")) refl h
   where
     go : (b : Bool) → bytes_eq (drop (length name - 5) name) (codes ".done") ≡ b
-        → is_some (if b then Some (take (length name - 5) name) else None) ≡ true → (t : List ℕ) × (name ≡ t ++ codes ".done")
+        → is_some (if b then Some (take (length name - 5) name) else None) ≡ true
+        → (t : List ℕ) × (name ≡ t ++ codes ".done")
     go true e h =
         (take (length name - 5) name, sym (take-append-drop (length name - 5) name) ∙ ap (λ l. take (length name - 5) name ++ l) (bytes_same (drop (length name - 5) name) (codes ".done") e))
     go false e h = absurd (true≢false (sym h))
@@ -51,7 +52,8 @@ other_nobody name who = go who.role
 behind : (a b : List ℕ) → codes "sinks/" ++ a ≡ codes "sinks/" ++ b → a ≡ b
 behind a b e = ap (drop 6) e
 
-spelled_done : (name t : List ℕ) (n : Name) → name ≡ t ++ codes ".done" → spell n ≡ sink_path name → ((w : List ℕ) → n ≡ OtherFile w → ⊥) → IsDoneName name n
+spelled_done : (name t : List ℕ) (n : Name) → name ≡ t ++ codes ".done" → spell n ≡ sink_path name
+    → ((w : List ℕ) → n ≡ OtherFile w → ⊥) → IsDoneName name n
 unfolding spell
 spelled_done name t (DoneFile x) ends e no_other = (x, refl, sym (behind (stem_text x ++ codes ".done") name e))
 spelled_done name t (BornFile c) ends e no_other =
@@ -79,8 +81,9 @@ other_word : (v w : List ℕ) → read v ≡ OtherFile w → w ≡ v
 unfolding spell
 other_word v w is = sym (ap spell is) ∙ spell-read v
 
--- so it is a stem's
-pub done_named : (stamped : List (List ℕ)) (history : History) → Legal stamped history → (name : List ℕ) → is_closed name ≡ true → (f : File)
+-- a file of the sinks whose name ends in `.done` is the done sink of a stem
+pub done_named : (stamped : List (List ℕ)) (history : History) → Legal stamped history
+    → (name : List ℕ) → is_closed name ≡ true → (f : File)
     → files_after history (sink_path name) ≡ Some f → IsDoneName name (read (sink_path name))
 done_named stamped history legal name closed f there =
     let t = closed_so name closed in

@@ -1,4 +1,5 @@
--- Each legal step but the job's removal of it leaves a done sink as it is, and one that is gone stays gone.
+-- Each legal step but the job's removal of it leaves a done sink as it is, and one that is gone
+-- stays gone.
 use Rattle.std.proofs.Common.{◌≡◌, inr, ℕ, ◌+◌, ◌<◌, Bool, true, false, ◌&&◌, not, List, ◌∷◌, length, Option, Some, None, option_map, ap, sym, subst, ◌∙◌, refl, arith, true≢false, if◌then◌else◌, length-append}
 use Rattle.std.specs.Prelude.{IsTrue}
 use Rattle.std.proofs.lemmas.Bool.{and_parts, false_from_ne_true}
@@ -28,12 +29,11 @@ none_is : (o : Option File) → IsAbsent o → o ≡ None
 none_is None a = refl
 none_is (Some f) a = absurd a
 
-is_absent : (o : Option File) → o ≡ None → IsAbsent o
-is_absent o e = subst IsAbsent (sym e) tt
-
 -- beside a done sink none is under writing
-pub no_sink_beside : (stamped : List (List ℕ)) (history : History) → Legal stamped history → (x : Stem) → IsTrue (is_stem x) → (f : File)
-    → file (files_after history) (DoneFile x) ≡ Some f → file (files_after history) (SinkFile x) ≡ None
+pub no_sink_beside : (stamped : List (List ℕ)) (history : History) → Legal stamped history
+    → (x : Stem) → IsTrue (is_stem x) → (f : File)
+    → file (files_after history) (DoneFile x) ≡ Some f
+    → file (files_after history) (SinkFile x) ≡ None
 no_sink_beside stamped history legal x known f there =
     let inv = holds_always x (known_stem x known) stamped history legal in
     none_is (file (files_after history) (SinkFile x)) (subst (λ o. OnFile o (λ g. IsAbsent (file (files_after history) (SinkFile x)))) there
@@ -62,7 +62,8 @@ abbrev stem_in : Stem → Name → Stem
 stem_in y (DoneFile z) = z
 stem_in y n = y
 
-to_done : (before : Files) (old : Name) (x : Stem) → RenameFits before old (DoneFile x) → old ≡ SinkFile x
+to_done : (before : Files) (old : Name) (x : Stem) → RenameFits before old (DoneFile x)
+    → old ≡ SinkFile x
 to_done before (SinkFile y) x h = ap SinkFile (sym (ap (stem_in y) h))
 to_done before (BornFile c) x h = absurd h
 to_done before (MarkFile y) x h = absurd h
@@ -77,21 +78,26 @@ from_done : (before : Files) (x : Stem) (new : Name) → RenameFits before (Done
 from_done before x new h = h
 
 module _ (n : Name) (known : IsTrue (is_known n)) (before : Files) where
-  pub mapped : (m : Name) (g : Option File → Option File) → same_name n m ≡ false → (if same_name n m then g (file before n) else file before n) ≡ file before n
+  pub mapped : (m : Name) (g : Option File → Option File) → same_name n m ≡ false
+      → (if same_name n m then g (file before n) else file before n) ≡ file before n
   mapped m g e = ap (λ b. if b then g (file before n) else file before n) e
 
-  moved_away : (old new : Name) (t : Option File) → same_name n old ≡ false → same_name n new ≡ false → moved_named t old new (file before) n ≡ file before n
+  moved_away : (old new : Name) (t : Option File) → same_name n old ≡ false
+      → same_name n new ≡ false → moved_named t old new (file before) n ≡ file before n
   moved_away old new None p q = refl
   moved_away old new (Some f) p q =
       ap (λ b. if b then Some f else if same_name n old then None else file before n) q ∙ ap (λ b. if b then None else file before n) p
 
-  none_moved : (old new : Name) (t : Option File) → t ≡ None → moved_named t old new (file before) n ≡ file before n
+  none_moved : (old new : Name) (t : Option File) → t ≡ None
+      → moved_named t old new (file before) n ≡ file before n
   none_moved old new None e = refl
   none_moved old new (Some f) e = absurd (cc)
 
   -- where the call by itself leaves the file, and no other bytes are appended to it
-  pub came_same : (call : Deed) (d : Bool) (after : Files) → CameTo call d before after → applied (named (change_of call)) (file before) n ≡ file before n
-      → ((v piece : List ℕ) → call ≡ Appends v piece → same_name n (read v) ≡ false) → file after n ≡ file before n
+  pub came_same : (call : Deed) (d : Bool) (after : Files) → CameTo call d before after
+      → applied (named (change_of call)) (file before) n ≡ file before n
+      → ((v piece : List ℕ) → call ≡ Appends v piece → same_name n (read v) ≡ false)
+      → file after n ≡ file before n
   came_same call d after (whole e) same apart = e (spell n) ∙ bridge (change_of call) before n known ∙ same
   came_same call d after (nothing not_done e) same apart = e (spell n)
   came_same call d after (junk v piece bytes is not_done e) same apart =
@@ -99,10 +105,12 @@ module _ (n : Name) (known : IsTrue (is_known n)) (before : Files) where
 
 -- ---- a done sink
 
-module _ (stamped : List (List ℕ)) (history : History) (step : Step) (legal : Legal stamped (step ∷ history)) (x : Stem) (known : IsTrue (is_stem x))
+module _ (stamped : List (List ℕ)) (history : History) (step : Step)
+    (legal : Legal stamped (step ∷ history)) (x : Stem) (known : IsTrue (is_stem x))
     (no_sink : file (files_after history) (SinkFile x) ≡ None)
     (kept : (w : List ℕ) → deed step.act ≡ Removes w
-    → (if same_name (DoneFile x) (read w) then None else file (files_after history) (DoneFile x)) ≡ file (files_after history) (DoneFile x)) where
+    → (if same_name (DoneFile x) (read w) then None else file (files_after history) (DoneFile x)) ≡ file (files_after history)
+    (DoneFile x)) where
   abbrev D : Name
   D = DoneFile x
 
@@ -114,23 +122,27 @@ module _ (stamped : List (List ℕ)) (history : History) (step : Step) (legal : 
       let inv = holds_always x (known_stem x known) stamped history legal.0 in
       on_file (file fb D) (λ g h. h.done.whole) inv.files.of_done
 
-  free : (w : List ℕ) → IsTrue (owns step.act.who (read w) && not (is_fixed (read w))) → same_name D (read w) ≡ false
+  free : (w : List ℕ) → IsTrue (owns step.act.who (read w) && not (is_fixed (read w)))
+      → same_name D (read w) ≡ false
   free w framed = fixed_apart D (read w) refl (and_parts (owns step.act.who (read w)) (not (is_fixed (read w))) framed).1
 
-  renames_same : (old new : List ℕ) → RenameFits fb (read old) (read new) → moved_named (file fb (read old)) (read old) (read new) (file fb) D ≡ file fb D
+  renames_same : (old new : List ℕ) → RenameFits fb (read old) (read new)
+      → moved_named (file fb (read old)) (read old) (read new) (file fb) D ≡ file fb D
   renames_same old new fits = go (same_name D (read new)) refl
     where
       not_old : same_name D (read old) ≡ false
       not_old = false_from_ne_true (same_name D (read old)) (λ e.
           from_done fb x (read new) (subst (λ m. RenameFits fb m (read new)) (sym (name_same D (read old) e)) fits))
 
-      go : (b : Bool) → same_name D (read new) ≡ b → moved_named (file fb (read old)) (read old) (read new) (file fb) D ≡ file fb D
+      go : (b : Bool) → same_name D (read new) ≡ b
+          → moved_named (file fb (read old)) (read old) (read new) (file fb) D ≡ file fb D
       go true e =
           let from : read old ≡ SinkFile x = to_done fb (read old) x (subst (RenameFits fb (read old)) (sym (name_same D (read new) e)) fits) in
           none_moved D known fb (read old) (read new) (file fb (read old)) (ap (file fb) from ∙ no_sink)
       go false e = moved_away D known fb (read old) (read new) (file fb (read old)) not_old e
 
-  call_same : (call : Deed) → deed step.act ≡ call → Framed step.act.who fb call → applied (named (change_of call)) (file fb) D ≡ file fb D
+  call_same : (call : Deed) → deed step.act ≡ call → Framed step.act.who fb call
+      → applied (named (change_of call)) (file fb) D ≡ file fb D
   call_same (Creates w) is framed = mapped D known fb (read w) made (free w framed)
   call_same (Appends w piece) is framed = mapped D known fb (read w) (option_map (grown piece)) (free w framed)
   call_same (Cuts w k) is framed = mapped D known fb (read w) (option_map (shortened k)) (free w framed)
@@ -172,7 +184,8 @@ module _ (stamped : List (List ℕ)) (history : History) (step : Step) (legal : 
 
 -- ---- a sink that is gone
 
-module _ (stamped : List (List ℕ)) (history : History) (step : Step) (legal : Legal stamped (step ∷ history)) (x : Stem) (known : IsTrue (is_stem x))
+module _ (stamped : List (List ℕ)) (history : History) (step : Step)
+    (legal : Legal stamped (step ∷ history)) (x : Stem) (known : IsTrue (is_stem x))
     (wrote_some : 0 < length (wrote x history)) (none : file (files_after history) (SinkFile x) ≡ None) where
   abbrev S : Name
   S = SinkFile x
@@ -180,13 +193,8 @@ module _ (stamped : List (List ℕ)) (history : History) (step : Step) (legal : 
   abbrev before : Files
   before = files_after history
 
-  sink_owner : (role : Role) (name : List ℕ) → owns_by role name (SinkFile x) ≡ true → role ≡ Collector
-  sink_owner Collector name h = refl
-  sink_owner Agent name h = absurd (true≢false (sym h))
-  sink_owner Job name h = absurd (true≢false (sym h))
-  sink_owner Writer name h = absurd (true≢false (sym h))
-
-  none_mapped : (b : Bool) (g : File → File) → (if b then option_map g (file before S) else file before S) ≡ file before S
+  none_mapped : (b : Bool) (g : File → File)
+      → (if b then option_map g (file before S) else file before S) ≡ file before S
   none_mapped true g = ap (option_map g) none ∙ sym none
   none_mapped false g = refl
 
@@ -197,7 +205,8 @@ module _ (stamped : List (List ℕ)) (history : History) (step : Step) (legal : 
   same_owner : (who : Who) → owns who (SinkFile x) ≡ true → who ≡ collector x
   same_owner who mine = go who.role refl mine
     where
-      go : (role : Role) → who.role ≡ role → owns_by role who.name (SinkFile x) ≡ true → who ≡ collector x
+      go : (role : Role) → who.role ≡ role → owns_by role who.name (SinkFile x) ≡ true
+          → who ≡ collector x
       go Collector e mine = λ i. record { role = e i; name = (bytes_same who.name x.collector mine) i }
       go Agent e mine = absurd (true≢false (sym mine))
       go Job e mine = absurd (true≢false (sym mine))
@@ -213,7 +222,9 @@ module _ (stamped : List (List ℕ)) (history : History) (step : Step) (legal : 
       let size : length (wrote x history) ≡ 0 = ap length nothing_yet in
       omega (arith, wrote_some, size)
 
-  no_create : (w : List ℕ) → deed step.act ≡ Creates w → IsTrue (owns step.act.who (read w) && not (is_fixed (read w))) → same_name S (read w) ≡ false
+  no_create : (w : List ℕ) → deed step.act ≡ Creates w
+      → IsTrue (owns step.act.who (read w) && not (is_fixed (read w)))
+      → same_name S (read w) ≡ false
   no_create w is framed =
       false_from_ne_true (same_name S (read w)) (λ e.
       let to : read w ≡ S = sym (name_same S (read w) e) in
@@ -224,14 +235,16 @@ module _ (stamped : List (List ℕ)) (history : History) (step : Step) (legal : 
       used (view (collector x) history) refl
       (subst (SinkNamesFresh (view (collector x) history)) to (subst (CollectorRule (collector x) history (view (collector x) history)) is its)))
 
-  renames_none : (old new : List ℕ) → RenameFits before (read old) (read new) → (t : Option File) → moved_named t (read old) (read new) (file before) S ≡ file before S
+  renames_none : (old new : List ℕ) → RenameFits before (read old) (read new) → (t : Option File)
+      → moved_named t (read old) (read new) (file before) S ≡ file before S
   renames_none old new fits None = refl
   renames_none old new fits (Some f) =
       let not_new : same_name S (read new) ≡ false = false_from_ne_true (same_name S (read new)) (λ e.
       to_sink before (read old) x (subst (RenameFits before (read old)) (sym (name_same S (read new) e)) fits)) in
       ap (λ b. if b then Some f else if same_name S (read old) then None else file before S) not_new ∙ none_removed (same_name S (read old))
 
-  call_none : (call : Deed) → deed step.act ≡ call → Framed step.act.who before call → applied (named (change_of call)) (file before) S ≡ file before S
+  call_none : (call : Deed) → deed step.act ≡ call → Framed step.act.who before call
+      → applied (named (change_of call)) (file before) S ≡ file before S
   call_none (Creates w) is framed = mapped S known before (read w) made (no_create w is framed)
   call_none (Appends w piece) is framed = none_mapped (same_name S (read w)) (grown piece)
   call_none (Cuts w k) is framed = none_mapped (same_name S (read w)) (shortened k)
@@ -254,7 +267,8 @@ module _ (stamped : List (List ℕ)) (history : History) (step : Step) (legal : 
   call_none (Answers t bytes) is framed = refl
   call_none (Says bytes) is framed = refl
 
-  came_none : (d : Bool) (after : Files) → CameTo (deed step.act) d before after → file after S ≡ None
+  came_none : (d : Bool) (after : Files) → CameTo (deed step.act) d before after
+      → file after S ≡ None
   came_none d after (whole e) =
       e (spell S) ∙ bridge (change_of (deed step.act)) before S known ∙ (call_none (deed step.act) refl legal.1.own_files ∙ none)
   came_none d after (nothing not_done e) = e (spell S) ∙ none
@@ -273,7 +287,8 @@ module _ (stamped : List (List ℕ)) (history : History) (step : Step) (legal : 
 -- ---- both
 
 -- what is gone stays gone
-pub stays_gone : (stamped : List (List ℕ)) (history : History) (step : Step) → Legal stamped (step ∷ history) → (x : Stem) → IsTrue (is_stem x)
+pub stays_gone : (stamped : List (List ℕ)) (history : History) (step : Step)
+    → Legal stamped (step ∷ history) → (x : Stem) → IsTrue (is_stem x)
     → IsGone history x → IsGone (step ∷ history) x
 stays_gone stamped history step legal x known g = record {
   wrote_some = let more = length-append (wrote x history) (written_by x (deed step.act) step.act.answer) in let some = g.wrote_some in omega (arith, more, some);
@@ -282,14 +297,17 @@ stays_gone stamped history step legal x known g = record {
 }
   where
     removed_none : (b : Bool) → file (files_after history) (DoneFile x) ≡ None
-        → (if b then None else file (files_after history) (DoneFile x)) ≡ file (files_after history) (DoneFile x)
+        → (if b then None else file (files_after history) (DoneFile x)) ≡ file (files_after history)
+        (DoneFile x)
     removed_none true e = sym e
     removed_none false e = refl
 
 -- a done sink stays as it is over a step that doesn't remove it
-pub stays_done : (stamped : List (List ℕ)) (history : History) (step : Step) → Legal stamped (step ∷ history) → (x : Stem) → IsTrue (is_stem x)
+pub stays_done : (stamped : List (List ℕ)) (history : History) (step : Step)
+    → Legal stamped (step ∷ history) → (x : Stem) → IsTrue (is_stem x)
     → (f : File) → file (files_after history) (DoneFile x) ≡ Some f
-    → ((w : List ℕ) → deed step.act ≡ Removes w → same_name (DoneFile x) (read w) ≡ false) → file step.files (DoneFile x) ≡ Some f
+    → ((w : List ℕ) → deed step.act ≡ Removes w → same_name (DoneFile x) (read w) ≡ false)
+    → file step.files (DoneFile x) ≡ Some f
 stays_done stamped history step legal x known f there kept =
     done_same stamped history step legal x known (no_sink_beside stamped history legal.0 x known f there)
     (λ w is. ap (λ b. if b then None else file (files_after history) (DoneFile x)) (kept w is)) ∙ there

@@ -26,7 +26,7 @@ before_end-append text ending =
     ∙ ap (λ b. if b then Some (take (length text) (text ++ ending)) else None) (bytes_self ending)
     ∙ ap Some (take-append_seam text ending)
 
--- and what stands behind a beginning
+-- what stands behind a beginning is found
 pub behind_front-append : (front text : List ℕ) → behind_front front (front ++ text) ≡ Some text
 behind_front-append front text =
     ap (λ d. if bytes_eq d front then Some (drop (length front) (front ++ text)) else None) (take-append_seam front text)

@@ -81,7 +81,7 @@ no_done role name (OtherFile w) own x = refl
 
 module _ (me who : Who) (named_so : IsTrue (is_named_so who.role who.name)) (other : IsFalse (same_who me who)) (n : Name) (mine : IsOwn me n) where
   -- a name that the other one owns isn't this one
-  apart : (m : Name) → IsTrue (owns who m) → same_name n m ≡ false
+  pub apart : (m : Name) → IsTrue (owns who m) → same_name n m ≡ false
   apart m h = go (same_name n m) refl
     where
       go : (b : Bool) → same_name n m ≡ b → b ≡ false
@@ -91,7 +91,7 @@ module _ (me who : Who) (named_so : IsTrue (is_named_so who.role who.name)) (oth
           (sym (one_owner me.role me.name n who.role who.name mine.own named_so (subst (λ k. IsTrue (owns who k)) (sym (name_same n m e)) h))
           ∙ other))
 
-  apart_removed : (m : Name) → IsTrue (may_remove who m) → same_name n m ≡ false
+  pub apart_removed : (m : Name) → IsTrue (may_remove who m) → same_name n m ≡ false
   apart_removed (MarkFile x) h = apart (MarkFile x) h
   apart_removed (DoneFile x) h = no_done me.role me.name n mine.own x
   apart_removed (BornFile c) h = apart (BornFile c) (and_parts (owns who (BornFile c)) false h).0
@@ -165,13 +165,13 @@ files_stay stamped me history step n f mine =
     step_leaves me step.act.who f.obeys.named f.other n mine (deed step.act) step.act.answer (files_after history) step.files
     (leaves (deed step.act) step.act.answer (files_after history) step.files e.did e.may e.files_left) f.spares f.obeys.own_files
 
--- and the steps that it has made since its start
+-- a foreign step leaves the steps that the process has made since its start
 pub steps_stay : (stamped : List (List ℕ)) (me : Who) (history : History) (step : Step) → Foreign stamped me history step
     → since_start me (step ∷ history) ≡ since_start me history
 steps_stay stamped me history step f =
     ap (λ b. if b then (if is_start (deed step.act) then [] else step ∷ since_start me history) else since_start me history) f.other
 
--- and a collector's view
+-- a foreign step leaves a collector's view
 view_spared : (me : Who) (own : Bool) (call : Deed) (answer : ActAnswer) (before after : Files) (v : View) → own ≡ false
     → IsFalse (touched_by_stop me answer) → view_after me own call answer before after v ≡ v
 view_spared me own call (Stopped left) before after v other spares = rw (other, spares) refl
@@ -185,7 +185,7 @@ pub view_stays : (stamped : List (List ℕ)) (me : Who) (history : History) (ste
 view_stays stamped me history step f =
     view_spared me _ (deed step.act) step.act.answer (files_after history) step.files (view me history) f.other f.spares
 
--- and whether it has to start
+-- a foreign step leaves whether the process has to start
 start_spared : (me : Who) (own : Bool) (answer : ActAnswer) (earlier : Bool) → own ≡ false → IsFalse (touched_by_stop me answer)
     → stopped_by me own answer earlier ≡ earlier
 start_spared me own (Stopped left) earlier other spares = rw (other, spares) refl
@@ -198,7 +198,7 @@ pub start_stays : (stamped : List (List ℕ)) (me : Who) (history : History) (st
     → must_start me (step ∷ history) ≡ must_start me history
 start_stays stamped me history step f = start_spared me _ step.act.answer (must_start me history) f.other f.spares
 
--- and the job's last listing
+-- a foreign step leaves the job's last listing
 not_listed : (by_job : Bool) (call : Deed) (answer : ActAnswer) (upto : History) (earlier : Option Listing) → by_job ≡ false
     → listing_by by_job call answer upto earlier ≡ earlier
 not_listed by_job (Lists folder) (Done names number of) upto earlier e = rw e refl

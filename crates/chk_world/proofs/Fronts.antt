@@ -17,7 +17,7 @@ use Rattle.chk_world.proofs.LogsGrow.{logs_grow}
 use Rattle.chk_world.proofs.KeptTrue.{source_true}
 use Rattle.chk_world.proofs.Segments.{ArchiveAfter, same_archive, with_parts, archive_after}
 
--- they end where a chunk of the stream ends that was sent
+-- the parts end where a chunk of the stream ends that was sent
 pub record EndsAsChunk (history : History) (s : Stream) (bytes : List ℕ) : Type 0 where
   pub c : Chunk
   pub is : IsFoundedChunk history c
@@ -104,6 +104,6 @@ archive_front stamped (step ∷ history) legal s =
     go front (with_parts parts is are) =
         subst (IsFront history s) (sym is) (parts_on stamped history legal.0 s (archive_of_stream (files_after history) s) parts front are)
 
-pub archives_are_fronts : (stamped : List (List ℕ)) (history : History) → Legal stamped history → (s : Stream)
+pub law_prefix : (stamped : List (List ℕ)) (history : History) → Legal stamped history → (s : Stream)
     → BeginsWith (log_of history s) (archive_of_stream (files_after history) s)
-archives_are_fronts stamped history legal s = begins_so history s _ (archive_front stamped history legal s)
+law_prefix stamped history legal s = begins_so history s _ (archive_front stamped history legal s)

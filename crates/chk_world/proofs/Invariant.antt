@@ -37,7 +37,7 @@ pub record Inv (x : Stem) (s : Seen) (sink mark shut born : Option File) : Type 
   pub unwritten : IsUnused x s born → s.wrote ≡ []
   pub holds : Holds x s sink
 
--- it knows no more
+-- w knows no more than s
 pub record IsWeaker (w s : Seen) : Type 0 where
   pub born : (b : ℕ) → w.born ≡ Some b → s.born ≡ Some b
   pub made : (b : ℕ) → w.born ≡ Some b → s.made ≤ w.made

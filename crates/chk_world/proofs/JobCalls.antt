@@ -1,7 +1,6 @@
 -- The replacement of a book.
-use Rattle.std.proofs.Common.{◌≡◌, ℕ, Bool, false, List, [], ◌∷◌, Option, Some, None, codes, option_map, if◌then◌else◌, ap, sym, subst, ◌∙◌, refl}
+use Rattle.std.proofs.Common.{◌≡◌, ℕ, Bool, false, List, [], ◌∷◌, Option, Some, None, option_map, if◌then◌else◌, ap, sym, subst, ◌∙◌, refl}
 use Rattle.std.specs.Prelude.{Result, IsTrue, unwrap_or}
-use Rattle.chk_site.specs.declared.acts.Role.TheVariants.{Job}
 use Rattle.chk_site.specs.declared.acts.Who.{Who}
 use Rattle.chk_site.specs.declared.acts.OutsideFault.{OutsideFault}
 use Rattle.chk_site.specs.declared.acts.ActAnswer.{ActAnswer}
@@ -15,25 +14,21 @@ use Rattle.chk_replace.specs.Replace.{tmp, replacement}
 use Rattle.chk_world.specs.Names.{Folder, Name, BookFile, Temporary, read, spell, file, is_known}
 use Rattle.chk_world.specs.Books.{Book, read_book, book_in, empty_book}
 use Rattle.chk_world.specs.Committed.{OnFile}
-use Rattle.chk_world.specs.ArchiveRuns.{Listing, last_listing, listing_by}
+use Rattle.chk_world.specs.ArchiveRuns.{Listing, listing_by}
 use Rattle.chk_world.specs.Jobs.{NewBook, IsBookFile, JobRule}
 use Rattle.chk_world.specs.Rules.{RoleMay, Legal}
 use Rattle.chk_world.specs.Places.{As, AtTold, AtPlace, IsOwn}
+use Rattle.chk_world.specs.Sight.{job}
 use Rattle.chk_world.proofs.NameLemmas.{read-spell}
 use Rattle.chk_world.proofs.NameTests.{same_name, named, applied, moved_named, bridge}
 use Rattle.chk_world.proofs.Outcomes.{CameTo, whole, nothing, junk, Leaves, went_on, was_stopped, leaves}
 use Rattle.chk_world.proofs.PlacesStay.{SightStays}
-use Rattle.chk_world.proofs.Frames.{listing_stays, files_stay}
 use Rattle.chk_world.proofs.ToldCalls.{GoesOn}
 use Rattle.chk_world.proofs.CollectorCalls.{went_goes, goes_failed, goes_is_done}
 use Rattle.chk_world.proofs.Replacing.{Target, around, OnNext, on_remove, on_create, on_append, on_sync, settled, Next, anything, Replaces, EndedAt, next_word, replaced}
 
--- the job
-abbrev pub the_job : Who
-the_job = record { role = Job; name = codes "job" }
-
 -- the job's rule is the one that its step owes
-pub job_rule : (stamped : List (List ℕ)) (before : History) (step : Step) (call : Deed) → step.act.who ≡ the_job → deed step.act ≡ call
+pub job_rule : (stamped : List (List ℕ)) (before : History) (step : Step) (call : Deed) → step.act.who ≡ job → deed step.act ≡ call
     → JobRule stamped before call → RoleMay stamped step.act.who.role before step
 job_rule stamped before step call by is may =
     subst (λ r. RoleMay stamped r before step) (sym (ap (λ (k : Who). k.role) by)) (subst (JobRule stamped before) (sym is) may)
@@ -46,7 +41,7 @@ pub data OnBook (folder : Folder) : Deed → Type 0 where
 -- what the job sees stays over these, where they are no stops
 abbrev pub StaysOverBook : {V : Type 0} → List (List ℕ) → Folder → (History → V) → Type 0
 StaysOverBook stamped folder sees =
-    (before : History) (step : Step) → step.act.who ≡ the_job → OnBook folder (deed step.act) → GoesOn step.act.answer
+    (before : History) (step : Step) → step.act.who ≡ job → OnBook folder (deed step.act) → GoesOn step.act.answer
     → Legal stamped (step ∷ before) → sees (step ∷ before) ≡ sees before
 
 -- the folder's book is this one, and B holds of what the job sees and of the other file
@@ -68,16 +63,16 @@ module _ {V : Type 0} (stamped : List (List ℕ)) (folder : Folder) (sees : Hist
   abbrev N : Name
   N = BookFile folder
 
-  next : (before : History) (step : Step) → step.act.who ≡ the_job → OnNext w (deed step.act) → GoesOn step.act.answer
+  next : (before : History) (step : Step) → step.act.who ≡ job → OnNext w (deed step.act) → GoesOn step.act.answer
       → Legal stamped (step ∷ before) → sees (step ∷ before) ≡ sees before
   next before step by on goes legal = stays before step by (on_next w (deed step.act) reads on) goes legal
 
-  renamed_too : (before : History) (step : Step) → step.act.who ≡ the_job → deed step.act ≡ Renames w name → GoesOn step.act.answer
+  renamed_too : (before : History) (step : Step) → step.act.who ≡ job → deed step.act ≡ Renames w name → GoesOn step.act.answer
       → Legal stamped (step ∷ before) → sees (step ∷ before) ≡ sees before
   renamed_too before step by is goes legal =
       stays before step by (subst (OnBook folder) (sym is) (on_rename w name reads reads_name)) goes legal
 
-  book_may : (before : History) (step : Step) → step.act.who ≡ the_job → deed step.act ≡ Renames w name → Legal stamped before
+  book_may : (before : History) (step : Step) → step.act.who ≡ job → deed step.act ≡ Renames w name → Legal stamped before
       → Booked B old (sees before) (file (files_after before) a) (file (files_after before) N)
       → file (files_after before) (Temporary N) ≡ settled bytes → RoleMay stamped step.act.who.role before step
   book_may before step by is legal h next =
@@ -86,7 +81,7 @@ module _ {V : Type 0} (stamped : List (List ℕ)) (folder : Folder) (sees : Hist
       (refl, subst (λ o. OnFile o (IsBookFile stamped folder before)) (sym next) (new, is_read, may before legal h.book h.base)))
 
   -- what is to be known of the replacement of the book
-  book_replaces : Replaces stamped the_job sees a N w name bytes (Booked B old) R (λ v s t m. Booked B new v s m)
+  book_replaces : Replaces stamped job sees a N w name bytes (Booked B old) R (λ v s t m. Booked B new v s m)
   book_replaces = record {
     keeps = λ before step s m by on went legal h.
         subst (λ v. Booked B old v s m) (sym (next before step by on (went_goes (deed step.act) step.act.answer went) legal)) h;
@@ -108,29 +103,22 @@ module _ {V : Type 0} (stamped : List (List ℕ)) (folder : Folder) (sees : Hist
 -- The old book of a folder is replaced by the new one. B is what is known of what the job sees and of another file of its: it shows that the
 -- new book may follow the old one.
 pub book_replaced : {V : Type 0} (stamped : List (List ℕ)) (folder : Folder) (sees : History → V) (a : Name)
-    → Target stamped the_job sees a (BookFile folder) → same_name a (BookFile folder) ≡ false → StaysOverBook stamped folder sees
+    → Target stamped job sees a (BookFile folder) → same_name a (BookFile folder) ≡ false → StaysOverBook stamped folder sees
     → (old new : Book) (bytes : List ℕ) → read_book bytes ≡ Some new → (B : V → Option File → Type 0) (R : V → Type 0)
     → ((v : V) (s : Option File) → B v s → R v) → MayBook stamped folder sees a B old new
     → (name : List ℕ) → name ≡ spell (BookFile folder) → {result : Result (Unit {0}) OutsideFault} {before after : Option History}
-    → MadeInTurn (replacement the_job name bytes) result before after
-    → Adds before after (Leads (As stamped the_job)
-    (AtPlace stamped (around the_job sees a (BookFile folder)) (Next (Booked B old) anything))
-    (AtTold stamped the_job (EndedAt the_job sees a (BookFile folder) R (λ v s t m. Booked B new v s m) result)))
+    → MadeInTurn (replacement job name bytes) result before after
+    → Adds before after (Leads (As stamped job)
+    (AtPlace stamped (around job sees a (BookFile folder)) (Next (Booked B old) anything))
+    (AtTold stamped job (EndedAt job sees a (BookFile folder) R (λ v s t m. Booked B new v s m) result)))
 book_replaced stamped folder sees a target apart stays old new bytes is_read B R less may name e script =
     let n = BookFile folder in
     let next = next_word name n e in
-    replaced stamped the_job sees a n target name bytes e (Booked B old) R (λ v s t m. Booked B new v s m)
+    replaced stamped job sees a n target name bytes e (Booked B old) R (λ v s t m. Booked B new v s m)
     (book_replaces stamped folder sees a apart stays old new (tmp name) name bytes is_read B R less may
     (ap read next ∙ read-spell (Temporary n) refl) (ap read e ∙ read-spell n refl)) script
 
 -- ---- what the job sees: its last listing, and a second file of its
-
-pub record Seen : Type 0 where
-  pub listing : Option Listing
-  pub second : Option File
-
-abbrev pub seen_with : Name → History → Seen
-seen_with c history = record { listing = last_listing history; second = file (files_after history) c }
 
 no_listing : (mine : Bool) (w : List ℕ) (call : Deed) (answer : ActAnswer) (upto : History) (earlier : Option Listing) → OnNext w call
     → listing_by mine call answer upto earlier ≡ earlier
@@ -204,36 +192,13 @@ other_stays folder c known apart apart_next before step on goes honest =
         came_apart folder c known apart apart_next (files_after before) (deed step.act) (is_done step.act.answer) step.files on came
     go (was_stopped left is middle came tails) = absurd (subst GoesOn is goes)
 
-pub seen_stays_over_book : (stamped : List (List ℕ)) (folder : Folder) (c : Name) → IsTrue (is_known c) → same_name c (BookFile folder) ≡ false
-    → same_name c (Temporary (BookFile folder)) ≡ false → StaysOverBook stamped folder (seen_with c)
-seen_stays_over_book stamped folder c known apart apart_next before step by on goes legal =
-    let listed = book_listing folder _ (deed step.act) step.act.answer (step ∷ before) (last_listing before) on in
-    let second = other_stays folder c known apart apart_next before step on goes legal.1.honest in
-    λ i. record { listing = listed i; second = second i }
-
--- or its last listing alone
-pub listing_stays_over_book : (stamped : List (List ℕ)) (folder : Folder) → StaysOverBook stamped folder last_listing
-listing_stays_over_book stamped folder before step by on goes legal =
-    book_listing folder _ (deed step.act) step.act.answer (step ∷ before) (last_listing before) on
-
 -- the place of the job with a book and another file of its
-pub job_target : {V : Type 0} (stamped : List (List ℕ)) (sees : History → V) (a : Name) (folder : Folder) → IsOwn the_job a
-    → same_name a (Temporary (BookFile folder)) ≡ false → SightStays stamped (around the_job sees a (BookFile folder))
-    → Target stamped the_job sees a (BookFile folder)
+pub job_target : {V : Type 0} (stamped : List (List ℕ)) (sees : History → V) (a : Name) (folder : Folder) → IsOwn job a
+    → same_name a (Temporary (BookFile folder)) ≡ false → SightStays stamped (around job sees a (BookFile folder))
+    → Target stamped job sees a (BookFile folder)
 job_target stamped sees a folder own apart_next sight = record {
   place = record { named = refl; first = own; second = record { own = refl; known = refl }; third = record { own = refl; known = refl } };
   sight = sight;
   small = refl;
   apart_next = apart_next;
 }
-
-pub sees_listing : (stamped : List (List ℕ)) (a : Name) (folder : Folder)
-    → SightStays stamped (around the_job last_listing a (BookFile folder))
-sees_listing stamped a folder history step legal f = listing_stays stamped history step f
-
-pub sees_with : (stamped : List (List ℕ)) (a c : Name) (folder : Folder) → IsOwn the_job c
-    → SightStays stamped (around the_job (seen_with c) a (BookFile folder))
-sees_with stamped a c folder own history step legal f =
-    let listed = listing_stays stamped history step f in
-    let second = files_stay stamped the_job history step c f own in
-    λ i. record { listing = listed i; second = second i }

@@ -19,10 +19,6 @@ pub there : (o : Option File) {P : File → Type 0} → HasFile o P → (f : Fil
 there None h = absurd h
 there (Some f) h = (f, refl, h)
 
-pub there_absent : (P : File → Type 0) (o : Option File) → HasFile o P → IsAbsent o → ⊥
-there_absent P None h a = h
-there_absent P (Some f) h a = a
-
 pub absent_map : (g : File → File) (o : Option File) → IsAbsent o → IsAbsent (option_map g o)
 absent_map g None a = tt
 absent_map g (Some f) a = absurd a
@@ -71,7 +67,7 @@ module _ (wr : List ℕ) where
   was_made (Some m) _ a b = absurd a
   was_made None (Some d) a b = absurd b
 
-  -- the same first bytes
+  -- a file with the first bytes of a safe one, all synced, is safe
   safe_as : (n : ℕ) (f g : File) → take n g.bytes ≡ take n f.bytes → n ≤ length g.bytes → n ≤ g.synced → IsSafe wr n f → IsSafe wr n g
   safe_as n f g same there synced s = record {
     there = there;

@@ -306,7 +306,7 @@ module _ (stamped : List (List ℕ)) (history : History) (step : Step) (obeys : 
           left true = rw mark (omega (arith, k))
           left false = rw (none, mark) (omega (arith, k))
 
-  -- and the done sink is whole
+  -- after the step the chunk's file is as it is to be, and a done sink is whole
   record Turned (files : Name → Option File) : Type 0 where
     persists : After files
     done_whole : OnFile (files (DoneFile x)) IsWhole

@@ -1,5 +1,5 @@
--- A library whose own steps read files, or write one segment that no book names, need not speak of legal histories: what the
--- job knows is kept by them and by the steps of others.
+-- A library whose own steps read files, or write one segment that no book names, need not speak of
+-- legal histories: what the job knows is kept by them and by the steps of others.
 use Rattle.std.proofs.Common.{◌≡◌, ◌⊎◌, inl, inr, ℕ, Bool, true, false, ◌&&◌, not, List, [], ◌∷◌, ◌++◌, Option, None, option_map, ap, sym, subst, ◌∙◌, refl, true≢false, if◌then◌else◌}
 use Rattle.std.specs.Prelude.{IsTrue}
 use Rattle.std.proofs.lemmas.Bool.{and_parts, and_right}
@@ -19,7 +19,7 @@ use Rattle.chk_site.proofs.Runs.{adds_both}
 use Rattle.chk_world.specs.Names.{Folder, Name, SegmentFile, DoneFile, read, file, is_known, owns}
 use Rattle.chk_world.specs.ArchiveRuns.{Listing, last_listing, listing_by}
 use Rattle.chk_world.specs.Jobs.{JobRule, OnlyArchivedSinksRemoved, is_named}
-use Rattle.chk_world.specs.Rules.{Framed, OnlyWritersGrowLogs, OnlyAgentsRequest, StartsAfterStop, RoleMay, Legal, must_start, stopped_by, is_named_so, is_fixed, may_remove}
+use Rattle.chk_world.specs.Rules.{Framed, OnlyWritersGrowLogs, OnlyAgentsPost, StartsAfterStop, RoleMay, Legal, must_start, stopped_by, is_named_so, is_fixed, may_remove}
 use Rattle.chk_world.specs.Places.{Foreign, As, IsBy}
 use Rattle.chk_world.proofs.NameTests.{same_name, name_same, named, applied}
 use Rattle.chk_world.proofs.Outcomes.{leaves}
@@ -36,29 +36,34 @@ appended_to call = []
 
 -- ---- own steps of one kind
 
-no_start : (call : Deed) → (call ≡ Starts → ⊥) → (history : History) → must_start job history ≡ false → StartsAfterStop job history call
+no_start : (call : Deed) → (call ≡ Starts → ⊥) → (history : History)
+    → must_start job history ≡ false → StartsAfterStop job history call
 no_start Starts not_start history e = absurd (not_start refl)
 no_start call not_start history e = and_right true (must_start job history) e
 
-goes_or_stops : (answer : ActAnswer) → GoesOn answer ⊎ ((left : List Left) × (answer ≡ Stopped left))
+goes_or_stops : (answer : ActAnswer)
+    → GoesOn answer ⊎ ((left : List Left) × (answer ≡ Stopped left))
 goes_or_stops (Done words number of) = inl tt
 goes_or_stops (Refused fault) = inl tt
 goes_or_stops (Stopped left) = inr (left, refl)
 goes_or_stops (Rotated suffix) = inl tt
 goes_or_stops (Deleted suffix) = inl tt
 
-acts_on : (own : Bool) (answer : ActAnswer) (earlier : Bool) → own ≡ true → GoesOn answer → stopped_by job own answer earlier ≡ false
+acts_on : (own : Bool) (answer : ActAnswer) (earlier : Bool) → own ≡ true → GoesOn answer
+    → stopped_by job own answer earlier ≡ false
 acts_on own (Done words number of) earlier mine goes = rw mine refl
 acts_on own (Refused fault) earlier mine goes = rw mine refl
 acts_on own (Stopped left) earlier mine goes = absurd goes
 acts_on own (Rotated suffix) earlier mine goes = rw mine refl
 acts_on own (Deleted suffix) earlier mine goes = rw mine refl
 
-module _ (stamped : List (List ℕ)) (K : Deed → Type 0) (no_starts : K Starts → ⊥) (P : Sight → Type 0)
+module _ (stamped : List (List ℕ)) (K : Deed → Type 0) (no_starts : K Starts → ⊥)
+    (P : Sight → Type 0)
     (may : (before : History) (step : Step) → IsOwnStep before step → K (deed step.act) → Legal stamped before → P (sight before) → Allowed stamped before step)
     (keeps : (before : History) (step : Step) → IsOwnStep before step → K (deed step.act) → Legal stamped (step ∷ before) → GoesOn step.act.answer
     → P (sight before) → P (sight (step ∷ before))) where
-  own_legal : (before : History) (step : Step) → IsOwnStep before step → K (deed step.act) → AtJob stamped P before → Legal stamped (step ∷ before)
+  own_legal : (before : History) (step : Step) → IsOwnStep before step → K (deed step.act)
+      → AtJob stamped P before → Legal stamped (step ∷ before)
   own_legal before step o k h =
       let a = may before step o k h.legal (h.alive o.running) in (
         h.legal,
@@ -74,7 +79,8 @@ module _ (stamped : List (List ℕ)) (K : Deed → Type 0) (no_starts : K Starts
         },
       )
 
-  own_step_keeps : (before : History) (step : Step) → IsOwnStep before step → K (deed step.act) → AtJob stamped P before → AtJob stamped P (step ∷ before)
+  own_step_keeps : (before : History) (step : Step) → IsOwnStep before step → K (deed step.act)
+      → AtJob stamped P before → AtJob stamped P (step ∷ before)
   own_step_keeps before step o k h = go (goes_or_stops step.act.answer)
     where
       legal : Legal stamped (step ∷ before)
@@ -83,10 +89,12 @@ module _ (stamped : List (List ℕ)) (K : Deed → Type 0) (no_starts : K Starts
       by_job : same_who job step.act.who ≡ true
       by_job = subst (λ w. same_who job w ≡ true) (sym o.by) (who_self job)
 
-      stopped_now : (left : List Left) → step.act.answer ≡ Stopped left → is_stopped (step ∷ before) ≡ true
+      stopped_now : (left : List Left) → step.act.answer ≡ Stopped left
+          → is_stopped (step ∷ before) ≡ true
       stopped_now left is = rw (o.own, is) refl
 
-      go : GoesOn step.act.answer ⊎ ((left : List Left) × (step.act.answer ≡ Stopped left)) → AtJob stamped P (step ∷ before)
+      go : GoesOn step.act.answer ⊎ ((left : List Left) × (step.act.answer ≡ Stopped left))
+          → AtJob stamped P (step ∷ before)
       go (inl goes) = record {
         legal = legal;
         may_act = λ running. acts_on (same_who job step.act.who) step.act.answer (must_start job before) by_job goes;
@@ -98,7 +106,8 @@ module _ (stamped : List (List ℕ)) (K : Deed → Type 0) (no_starts : K Starts
         alive = λ running. absurd (true≢false (sym (stopped_now s.0 s.1) ∙ running));
       }
 
-  pub steps_keep : (added history : History) → Every (IsOf K) added history → Others (Foreign stamped job) added history → AtJob stamped P history
+  pub steps_keep : (added history : History) → Every (IsOf K) added history
+      → Others (Foreign stamped job) added history → AtJob stamped P history
       → AtJob stamped P (added ++ history)
   steps_keep [] history every others h = h
   steps_keep (step ∷ added) history every others h =
@@ -110,10 +119,13 @@ module _ (stamped : List (List ℕ)) (K : Deed → Type 0) (no_starts : K Starts
         | inr mine ↦ own_step_keeps (added ++ history) step mine.0 mine.1 earlier
       ]
 
-  -- what every legal step keeps holds at each moment, and what is supposed of the steps of others holds of those that obey
-  pub others_so : (S : History → Step → Type 0) (Q : History → Type 0) → ((before : History) (step : Step) → Legal stamped (step ∷ before) → Q before → Q (step ∷ before))
+  -- what every legal step keeps holds at each moment, and what is supposed of the steps of others
+  -- holds of those that obey
+  pub others_so : (S : History → Step → Type 0) (Q : History → Type 0)
+      → ((before : History) (step : Step) → Legal stamped (step ∷ before) → Q before → Q (step ∷ before))
       → ((before : History) (step : Step) → Legal stamped before → Q before → Foreign stamped job before step → S before step)
-      → (added history : History) → Every (IsOf K) added history → Others (Foreign stamped job) added history → AtJob stamped P history → Q history
+      → (added history : History) → Every (IsOf K) added history
+      → Others (Foreign stamped job) added history → AtJob stamped P history → Q history
       → Others S added history × Q (added ++ history)
   others_so S Q lasts spares [] history every others h q = (tt, q)
   others_so S Q lasts spares (step ∷ added) history every others h q =
@@ -126,7 +138,8 @@ module _ (stamped : List (List ℕ)) (K : Deed → Type 0) (no_starts : K Starts
 -- ---- the promise on own steps
 
 -- own steps that leave the messages alone are as a process promises them
-pub owned_by : (K : Deed → Type 0) → ((call : Deed) → K call → talks call ≡ false) → (added history : History)
+pub owned_by : (K : Deed → Type 0) → ((call : Deed) → K call → talks call ≡ false)
+    → (added history : History)
     → Every (IsOf K) added history → Owns (IsBy job) added history
 owned_by K quiet [] history every = tt
 owned_by K quiet (step ∷ added) history every = (
@@ -149,7 +162,8 @@ no_read_starts h = elim h [ ]
 role_is : (before : History) (step : Step) → IsOwnStep before step → step.act.who.role ≡ Job
 role_is before step o = ap (λ (w : Who). w.role) o.by
 
-read_may : (stamped : List (List ℕ)) (before : History) (step : Step) → IsOwnStep before step → ReadsFile (deed step.act) → Allowed stamped before step
+read_may : (stamped : List (List ℕ)) (before : History) (step : Step) → IsOwnStep before step
+    → ReadsFile (deed step.act) → Allowed stamped before step
 read_may stamped before step o k = record {
   own_files = framed (deed step.act) k;
   logs = no_logs (deed step.act) k;
@@ -165,7 +179,7 @@ read_may stamped before step o k = record {
     no_logs call (reads name at max) = tt
     no_logs call (asks name) = tt
 
-    no_request : (role : Role) (call : Deed) → ReadsFile call → OnlyAgentsRequest role call
+    no_request : (role : Role) (call : Deed) → ReadsFile call → OnlyAgentsPost role call
     no_request Agent call k = tt
     no_request Collector call (reads name at max) = tt
     no_request Collector call (asks name) = tt
@@ -179,9 +193,11 @@ read_may stamped before step o k = record {
     rule call (asks name) = (refl, tt)
 
 -- a read leaves all files
-module _ (stamped : List (List ℕ)) (before : History) (step : Step) (o : IsOwnStep before step) (k : ReadsFile (deed step.act))
+module _ (stamped : List (List ℕ)) (before : History) (step : Step) (o : IsOwnStep before step)
+    (k : ReadsFile (deed step.act))
     (legal : Legal stamped (step ∷ before)) (goes : GoesOn step.act.answer) where
-  idle_call : (call : Deed) → ReadsFile call → (files : Name → Option File) (n : Name) → applied (named (change_of call)) files n ≡ files n
+  idle_call : (call : Deed) → ReadsFile call → (files : Name → Option File) (n : Name)
+      → applied (named (change_of call)) files n ≡ files n
   idle_call call (reads name at max) files n = refl
   idle_call call (asks name) files n = refl
 
@@ -189,7 +205,8 @@ module _ (stamped : List (List ℕ)) (before : History) (step : Step) (o : IsOwn
   no_append call (reads name at max) v piece e = absurd (cc)
   no_append call (asks name) v piece e = absurd (cc)
 
-  pub read_leaves : (n : Name) → IsTrue (is_known n) → file step.files n ≡ file (files_after before) n
+  pub read_leaves : (n : Name) → IsTrue (is_known n)
+      → file step.files n ≡ file (files_after before) n
   read_leaves n known =
       let e = legal.1.honest.modelled.effect in
       let came = came_on (deed step.act) step.act.answer (files_after before) step.files goes
@@ -197,12 +214,15 @@ module _ (stamped : List (List ℕ)) (before : History) (step : Step) (o : IsOwn
       came_same n known (files_after before) (deed step.act) (is_done step.act.answer) step.files came (idle_call (deed step.act) k (file (files_after before)) n)
       (λ v piece is. absurd (no_append (deed step.act) k v piece is))
 
-  no_listing : (by_job : Bool) (call : Deed) (answer : ActAnswer) (upto : History) (earlier : Option Listing) → ReadsFile call
+  no_listing : (by_job : Bool) (call : Deed) (answer : ActAnswer) (upto : History)
+      (earlier : Option Listing)
+      → ReadsFile call
       → listing_by by_job call answer upto earlier ≡ earlier
   no_listing by_job call answer upto earlier (reads name at max) = refl
   no_listing by_job call answer upto earlier (asks name) = refl
 
-  own_at : (n : Name) (b : Bool) → (is_job_file n && is_known n) ≡ b → (if b then file step.files n else None) ≡ (if b then file (files_after before) n else None)
+  own_at : (n : Name) (b : Bool) → (is_job_file n && is_known n) ≡ b
+      → (if b then file step.files n else None) ≡ (if b then file (files_after before) n else None)
   own_at n false e = refl
   own_at n true e = read_leaves n (and_parts (is_job_file n) (is_known n) e).1
 
@@ -219,7 +239,8 @@ module _ (stamped : List (List ℕ)) (before : History) (step : Step) (o : IsOwn
       λ i. record { listing = listed i; own = λ n. (own_at n (is_job_file n && is_known n) refl) i; sinks = λ x. (sinks x) i }
 
 -- a call whose own steps are reads: what it promises of files holds, and all that the job knows
-pub lift_reads : (stamped : List (List ℕ)) (P : Sight → Type 0) (Q : History → Type 0) (S : History → Step → Type 0) (A B : History → Type 0) {old new : Option History}
+pub lift_reads : (stamped : List (List ℕ)) (P : Sight → Type 0) (Q : History → Type 0)
+    (S : History → Step → Type 0) (A B : History → Type 0) {old new : Option History}
     → ((before : History) (step : Step) → Legal stamped (step ∷ before) → Q before → Q (step ∷ before))
     → ((before : History) (step : Step) → Legal stamped before → Q before → Foreign stamped job before step → S before step)
     → Adds old new (Leads (anyhow S) A B) → Adds old new (Every (IsOf ReadsFile))
@@ -240,11 +261,13 @@ lift_reads stamped P Q S A B lasts spares raw own =
     quiet_read call (reads name at max) = refl
     quiet_read call (asks name) = refl
 
-    may : (stamped : List (List ℕ)) (before : History) (step : Step) → IsOwnStep before step → ReadsFile (deed step.act) → Legal stamped before
+    may : (stamped : List (List ℕ)) (before : History) (step : Step) → IsOwnStep before step
+        → ReadsFile (deed step.act) → Legal stamped before
         → P (sight before) → Allowed stamped before step
     may stamped before step o k legal p = read_may stamped before step o k
 
-    keeps : (stamped : List (List ℕ)) (before : History) (step : Step) → IsOwnStep before step → ReadsFile (deed step.act) → Legal stamped (step ∷ before)
+    keeps : (stamped : List (List ℕ)) (before : History) (step : Step) → IsOwnStep before step
+        → ReadsFile (deed step.act) → Legal stamped (step ∷ before)
         → GoesOn step.act.answer → P (sight before) → P (sight (step ∷ before))
     keeps stamped before step o k legal goes p = subst P (sym (read_keeps_sight stamped before step o k legal goes)) p
 
@@ -257,11 +280,10 @@ no_write_starts w h = elim h [ ]
 abbrev pub with_own : Sight → Name → Option File → Sight
 with_own v n o = record { listing = v.listing; own = λ m. if same_name m n then o else v.own m; sinks = v.sinks }
 
-module _ (folder : Folder) (k : ℕ) (known : IsTrue (is_known (SegmentFile folder k))) (w : List ℕ) (reads_w : read w ≡ SegmentFile folder k) where
-  abbrev G : Name
-  G = SegmentFile folder k
-
-  write_may : (stamped : List (List ℕ)) (before : History) (step : Step) → IsOwnStep before step → WritesTo w (deed step.act)
+module _ (folder : Folder) (k : ℕ) (known : IsTrue (is_known (SegmentFile folder k))) (w : List ℕ)
+    (reads_w : read w ≡ SegmentFile folder k) where
+  write_may : (stamped : List (List ℕ)) (before : History) (step : Step) → IsOwnStep before step
+      → WritesTo w (deed step.act)
       → is_named (files_after before) (SegmentFile folder k) ≡ false → Allowed stamped before step
   write_may stamped before step o kind unnamed = record {
     own_files = subst (λ (who : Who). Framed who (files_after before) (deed step.act)) (sym o.by) (framed (deed step.act) kind);
@@ -282,7 +304,7 @@ module _ (folder : Folder) (k : ℕ) (known : IsTrue (is_known (SegmentFile fold
       no_logs call (appends piece) = tt
       no_logs call syncs = tt
 
-      no_request : (role : Role) (call : Deed) → WritesTo w call → OnlyAgentsRequest role call
+      no_request : (role : Role) (call : Deed) → WritesTo w call → OnlyAgentsPost role call
       no_request Agent call kind = tt
       no_request Collector call removes = tt
       no_request Collector call creates = tt
@@ -306,16 +328,22 @@ module _ (folder : Folder) (k : ℕ) (known : IsTrue (is_known (SegmentFile fold
       rule call (appends piece) = (at_word, tt)
       rule call syncs = (at_word, tt)
 
-  module _ (stamped : List (List ℕ)) (before : History) (step : Step) (o : IsOwnStep before step) (kind : WritesTo w (deed step.act))
+  module _ (stamped : List (List ℕ)) (before : History) (step : Step) (o : IsOwnStep before step)
+      (kind : WritesTo w (deed step.act))
       (legal : Legal stamped (step ∷ before)) (goes : GoesOn step.act.answer) where
-    other_call : (call : Deed) → WritesTo w call → (n : Name) → same_name n (SegmentFile folder k) ≡ false → applied (named (change_of call)) (file (files_after before)) n ≡ file (files_after before) n
+    other_call : (call : Deed) → WritesTo w call → (n : Name)
+        → same_name n (SegmentFile folder k) ≡ false
+        → applied (named (change_of call))
+        (file (files_after before)) n ≡ file (files_after before) n
     other_call call kind n apart = go call kind (ap (same_name n) reads_w ∙ apart)
       where
         at : (g : Option File → Option File) → same_name n (read w) ≡ false
             → (if same_name n (read w) then g (file (files_after before) n) else file (files_after before) n) ≡ file (files_after before) n
         at g e = ap (λ b. if b then g (file (files_after before) n) else file (files_after before) n) e
 
-        go : (call : Deed) → WritesTo w call → same_name n (read w) ≡ false → applied (named (change_of call)) (file (files_after before)) n ≡ file (files_after before) n
+        go : (call : Deed) → WritesTo w call → same_name n (read w) ≡ false
+            → applied (named (change_of call))
+            (file (files_after before)) n ≡ file (files_after before) n
         go call removes e = at (λ o. None) e
         go call creates e = at made e
         go call (appends piece) e = at (option_map (grown piece)) e
@@ -327,7 +355,8 @@ module _ (folder : Folder) (k : ℕ) (known : IsTrue (is_known (SegmentFile fold
     word_of call (appends p) v piece e = ap appended_to e
     word_of call syncs v piece e = absurd (cc)
 
-    write_leaves : (n : Name) → IsTrue (is_known n) → same_name n (SegmentFile folder k) ≡ false → file step.files n ≡ file (files_after before) n
+    write_leaves : (n : Name) → IsTrue (is_known n) → same_name n (SegmentFile folder k) ≡ false
+        → file step.files n ≡ file (files_after before) n
     write_leaves n known_n apart =
         let e = legal.1.honest.modelled.effect in
         let came = came_on (deed step.act) step.act.answer (files_after before) step.files goes
@@ -335,14 +364,17 @@ module _ (folder : Folder) (k : ℕ) (known : IsTrue (is_known (SegmentFile fold
         came_same n known_n (files_after before) (deed step.act) (is_done step.act.answer) step.files came (other_call (deed step.act) kind n apart)
         (λ v piece is. subst (λ u. same_name n (read u) ≡ false) (word_of (deed step.act) kind v piece is) (ap (same_name n) reads_w ∙ apart))
 
-    not_listed : (by_job : Bool) (call : Deed) (answer : ActAnswer) (upto : History) (earlier : Option Listing) → WritesTo w call
+    not_listed : (by_job : Bool) (call : Deed) (answer : ActAnswer) (upto : History)
+        (earlier : Option Listing)
+        → WritesTo w call
         → listing_by by_job call answer upto earlier ≡ earlier
     not_listed by_job call answer upto earlier removes = refl
     not_listed by_job call answer upto earlier creates = refl
     not_listed by_job call answer upto earlier (appends piece) = refl
     not_listed by_job call answer upto earlier syncs = refl
 
-    own_now : (n : Name) (b : Bool) → (is_job_file n && is_known n) ≡ b → (m : Bool) → same_name n (SegmentFile folder k) ≡ m
+    own_now : (n : Name) (b : Bool) → (is_job_file n && is_known n) ≡ b → (m : Bool)
+        → same_name n (SegmentFile folder k) ≡ m
         → (if b then file step.files n else None)
         ≡ (if m then file step.files (SegmentFile folder k) else (if b then file (files_after before) n else None))
     own_now n true e true same = ap (file step.files) (name_same n (SegmentFile folder k) same)
@@ -357,7 +389,8 @@ module _ (folder : Folder) (k : ℕ) (known : IsTrue (is_known (SegmentFile fold
     sink_now x false e = refl
     sink_now x true e = write_leaves (DoneFile x) (stem_shown (last_listing before) x e) refl
 
-    pub write_changes_sight : sight (step ∷ before) ≡ with_own (sight before) (SegmentFile folder k) (file step.files (SegmentFile folder k))
+    pub write_changes_sight : sight (step ∷ before) ≡ with_own (sight before) (SegmentFile folder k)
+        (file step.files (SegmentFile folder k))
     write_changes_sight =
         let listed : last_listing (step ∷ before) ≡ last_listing before = not_listed _ (deed step.act) step.act.answer (step ∷ before) (last_listing before) kind in
         let sinks : (x : Stem) → listed_sinks (last_listing (step ∷ before)) step.files x ≡ listed_sinks (last_listing before) (files_after before) x =
@@ -369,7 +402,8 @@ module _ (folder : Folder) (k : ℕ) (known : IsTrue (is_known (SegmentFile fold
         }
 
   -- a call whose own steps write one segment that no book names
-  pub lift_writes : (stamped : List (List ℕ)) (P : Sight → Type 0) (Q : History → Type 0) (S : History → Step → Type 0) (A B : History → Type 0) {old new : Option History}
+  pub lift_writes : (stamped : List (List ℕ)) (P : Sight → Type 0) (Q : History → Type 0)
+      (S : History → Step → Type 0) (A B : History → Type 0) {old new : Option History}
       → ((history : History) → P (sight history) → is_named (files_after history) (SegmentFile folder k) ≡ false)
       → ((v : Sight) (o : Option File) → P v → P (with_own v (SegmentFile folder k) o))
       → ((before : History) (step : Step) → Legal stamped (step ∷ before) → Q before → Q (step ∷ before))
@@ -394,11 +428,13 @@ module _ (folder : Folder) (k : ℕ) (known : IsTrue (is_known (SegmentFile fold
       quiet_write call (appends piece) = refl
       quiet_write call syncs = refl
 
-      may : (before : History) (step : Step) → IsOwnStep before step → WritesTo w (deed step.act) → Legal stamped before → P (sight before)
+      may : (before : History) (step : Step) → IsOwnStep before step → WritesTo w (deed step.act)
+          → Legal stamped before → P (sight before)
           → Allowed stamped before step
       may before step o kind legal p = write_may stamped before step o kind (unnamed before p)
 
-      keeps : (before : History) (step : Step) → IsOwnStep before step → WritesTo w (deed step.act) → Legal stamped (step ∷ before)
+      keeps : (before : History) (step : Step) → IsOwnStep before step → WritesTo w (deed step.act)
+          → Legal stamped (step ∷ before)
           → GoesOn step.act.answer → P (sight before) → P (sight (step ∷ before))
       keeps before step o kind legal goes p =
           subst P (sym (write_changes_sight stamped before step o kind legal goes)) (free (sight before) (file step.files (SegmentFile folder k)) p)

@@ -49,20 +49,23 @@ Below suffix gs = list_all (λ g. text_lt g.suffix suffix) gs ≡ true
 abbrev Above : List ℕ → List Generation → Type 0
 Above suffix gs = list_all (λ g. text_lt suffix g.suffix) gs ≡ true
 
-above_end : (suffix : List ℕ) (gs : List Generation) (g : Generation) → Above suffix gs → text_lt suffix g.suffix ≡ true → Above suffix (gs ++ g ∷ [])
+above_end : (suffix : List ℕ) (gs : List Generation) (g : Generation) → Above suffix gs
+    → text_lt suffix g.suffix ≡ true → Above suffix (gs ++ g ∷ [])
 above_end suffix [] g all last = and_from _ _ last refl
 above_end suffix (h ∷ gs) g all last =
     let p = and_parts (text_lt suffix h.suffix) (list_all (λ g. text_lt suffix g.suffix) gs) all in
     and_from _ _ p.0 (above_end suffix gs g p.1 last)
 
-rising_end : (gs : List Generation) (g : Generation) → rising gs ≡ true → Below g.suffix gs → rising (gs ++ g ∷ []) ≡ true
+rising_end : (gs : List Generation) (g : Generation) → rising gs ≡ true → Below g.suffix gs
+    → rising (gs ++ g ∷ []) ≡ true
 rising_end [] g up below = refl
 rising_end (h ∷ gs) g up below =
     let p = and_parts (list_all (λ k. text_lt h.suffix k.suffix) gs) (rising gs) up in
     let q = and_parts (text_lt h.suffix g.suffix) (list_all (λ k. text_lt k.suffix g.suffix) gs) below in
     and_from _ _ (above_end h.suffix gs g p.0 q.0) (rising_end gs g p.1 q.1)
 
-above_alike : (suffix : List ℕ) (gs hs : List Generation) → Alike gs hs → Above suffix hs → Above suffix gs
+above_alike : (suffix : List ℕ) (gs hs : List Generation) → Alike gs hs → Above suffix hs
+    → Above suffix gs
 above_alike suffix [] [] a all = refl
 above_alike suffix (g ∷ gs) (h ∷ hs) a all =
     let p = and_parts (text_lt suffix h.suffix) (list_all (λ k. text_lt suffix k.suffix) hs) all in
@@ -78,7 +81,8 @@ rising_alike (g ∷ gs) (h ∷ hs) a up =
 rising_alike [] (h ∷ hs) a up = absurd a
 rising_alike (g ∷ gs) [] a up = absurd a
 
-rising_turn : (files : Files) (path : List ℕ) (old new : Log) → LogTurn files path old new → rising old.rotated ≡ true → rising new.rotated ≡ true
+rising_turn : (files : Files) (path : List ℕ) (old new : Log) → LogTurn files path old new
+    → rising old.rotated ≡ true → rising new.rotated ≡ true
 rising_turn files path old new (as_it_was e) up = subst (λ (l : Log). rising l.rotated ≡ true) (sym e) up
 rising_turn files path old new (grew bytes e) up = subst (λ (l : Log). rising l.rotated ≡ true) (sym e) up
 rising_turn files path old new (was_turned suffix e may) up =
@@ -86,14 +90,16 @@ rising_turn files path old new (was_turned suffix e may) up =
 rising_turn files path old new (was_dropped suffix e may) up =
     subst (λ (l : Log). rising l.rotated ≡ true) (sym e) (rising_alike (marked suffix old.rotated) old.rotated (marked_alike suffix old.rotated) up)
 
-pub generations_rise : (stamped : List (List ℕ)) (history : History) → Legal stamped history → (path : List ℕ)
+pub generations_rise : (stamped : List (List ℕ)) (history : History) → Legal stamped history
+    → (path : List ℕ)
     → rising (logs_after history path).rotated ≡ true
 generations_rise stamped [] legal path = refl
 generations_rise stamped (step ∷ history) legal path =
     rising_turn (files_after history) path (logs_after history path) (step.logs path) (turn_of stamped history step legal.1 path)
     (generations_rise stamped history legal.0 path)
 
-above_chosen : (suffix : List ℕ) (after : Option (List ℕ)) (ts gs : List Generation) → Above suffix gs → Above suffix (chosen after ts gs)
+above_chosen : (suffix : List ℕ) (after : Option (List ℕ)) (ts gs : List Generation)
+    → Above suffix gs → Above suffix (chosen after ts gs)
 above_chosen suffix after [] gs all = all
 above_chosen suffix after (t ∷ ts) [] all = refl
 above_chosen suffix after (t ∷ ts) (g ∷ gs) all =
@@ -105,7 +111,8 @@ above_chosen suffix after (t ∷ ts) (g ∷ gs) all =
     pick true here rest = and_from _ _ here rest
     pick false here rest = rest
 
-rising_chosen : (after : Option (List ℕ)) (ts gs : List Generation) → rising gs ≡ true → rising (chosen after ts gs) ≡ true
+rising_chosen : (after : Option (List ℕ)) (ts gs : List Generation) → rising gs ≡ true
+    → rising (chosen after ts gs) ≡ true
 rising_chosen after [] gs up = up
 rising_chosen after (t ∷ ts) [] up = refl
 rising_chosen after (t ∷ ts) (g ∷ gs) up =
@@ -117,39 +124,44 @@ rising_chosen after (t ∷ ts) (g ∷ gs) up =
     pick true here rest = and_from _ _ here rest
     pick false here rest = rest
 
-parts_rise : (stamped : List (List ℕ)) (history : History) → Legal stamped history → (s : Stream) (f : Founding) → founding history s ≡ Some f
+parts_rise : (stamped : List (List ℕ)) (history : History) → Legal stamped history
+    → (s : Stream) (f : Founding) → founding history s ≡ Some f
     → rising (parts_of history s).rotated ≡ true
 parts_rise stamped history legal s f e =
     subst (λ o. rising (parts_since o (logs_after history s.name)).rotated ≡ true) (sym e) (go (is_plain f.line.class))
   where
-    go : (b : Bool) → rising (if b then [] else chosen f.line.after f.rotated (logs_after history s.name).rotated) ≡ true
+    go : (b : Bool)
+        → rising (if b then [] else chosen f.line.after f.rotated (logs_after history s.name).rotated) ≡ true
     go true = refl
     go false = rising_chosen f.line.after f.rotated (logs_after history s.name).rotated (generations_rise stamped history legal s.name)
 
 -- ---- the generations that are ahead
 
-abbrev ahead : Option (List ℕ) → List Generation → List Generation
+abbrev pub ahead : Option (List ℕ) → List Generation → List Generation
 ahead after [] = []
 ahead after (g ∷ gs) = if is_after after g.suffix then g ∷ gs else ahead after gs
 
 -- the first of them, or the base file
-abbrev head_of : List Generation → List ℕ → Shown
+abbrev pub head_of : List Generation → List ℕ → Shown
 head_of [] base = record { suffix = None; bytes = base }
 head_of (g ∷ gs) base = shown_as g
 
 -- what comes after one comes after all before it
-after_above : (after : Option (List ℕ)) (suffix more : List ℕ) → is_after after suffix ≡ true → text_lt suffix more ≡ true → is_after after more ≡ true
+after_above : (after : Option (List ℕ)) (suffix more : List ℕ) → is_after after suffix ≡ true
+    → text_lt suffix more ≡ true → is_after after more ≡ true
 after_above None suffix more here on = refl
 after_above (Some a) suffix more here on = text_lt_trans a suffix more here on
 
-none_passed : (after : Option (List ℕ)) (suffix : List ℕ) (gs : List Generation) → is_after after suffix ≡ true → Above suffix gs → passed_by after gs ≡ 0
+none_passed : (after : Option (List ℕ)) (suffix : List ℕ) (gs : List Generation)
+    → is_after after suffix ≡ true → Above suffix gs → passed_by after gs ≡ 0
 none_passed after suffix [] here all = refl
 none_passed after suffix (g ∷ gs) here all =
     let p = and_parts (text_lt suffix g.suffix) (list_all (λ k. text_lt suffix k.suffix) gs) all in
     let here' = after_above after suffix g.suffix here p.0 in
     rw here' (none_passed after suffix gs here p.1)
 
-next_is : (after : Option (List ℕ)) (gs : List Generation) (base : List ℕ) → next_length after gs base ≡ length (head_of (ahead after gs) base).bytes
+pub next_is : (after : Option (List ℕ)) (gs : List Generation) (base : List ℕ)
+    → next_length after gs base ≡ length (head_of (ahead after gs) base).bytes
 next_is after [] base = refl
 next_is after (g ∷ gs) base = go (is_after after g.suffix) (next_is after gs base)
   where
@@ -157,9 +169,6 @@ next_is after (g ∷ gs) base = go (is_after after g.suffix) (next_is after gs b
         → (if b then length g.bytes else next_length after gs base) ≡ length (head_of (if b then g ∷ gs else ahead after gs) base).bytes
     go true rest = refl
     go false rest = rest
-
-base_shown : List ℕ → Shown
-base_shown base = record { suffix = None; bytes = base }
 
 past_head : (after : Option (List ℕ)) (gs : List Generation) (base : List ℕ)
     → first_shown (past after gs ++ record { suffix = None; bytes = base } ∷ []) ≡ head_of (ahead after gs) base
@@ -186,50 +195,56 @@ open_is after (g ∷ gs) base = go (not g.deleted && is_after after g.suffix) (o
 -- ---- the log from there on
 
 ahead_log : (after : Option (List ℕ)) (gs : List Generation) (base : List ℕ) → rising gs ≡ true
-    → drop (passed_by after gs) (joined (bytes_of gs) ++ base) ≡ joined (bytes_of (ahead after gs)) ++ base
+    → drop (passed_by after gs)
+    (joined (bytes_of gs) ++ base) ≡ joined (bytes_of (ahead after gs)) ++ base
 ahead_log after [] base up = refl
 ahead_log after (g ∷ gs) base up = go (is_after after g.suffix) refl (ahead_log after gs base p.1)
   where
     p : (Above g.suffix gs) × (rising gs ≡ true)
     p = and_parts (list_all (λ k. text_lt g.suffix k.suffix) gs) (rising gs) up
 
-    go : (b : Bool) → is_after after g.suffix ≡ b → drop (passed_by after gs) (joined (bytes_of gs) ++ base) ≡ joined (bytes_of (ahead after gs)) ++ base
-        → drop (if b then passed_by after gs else length g.bytes + passed_by after gs) ((g.bytes ++ joined (bytes_of gs)) ++ base)
+    go : (b : Bool) → is_after after g.suffix ≡ b
+        → drop (passed_by after gs)
+        (joined (bytes_of gs) ++ base) ≡ joined (bytes_of (ahead after gs)) ++ base
+        → drop (if b then passed_by after gs else length g.bytes + passed_by after gs)
+        ((g.bytes ++ joined (bytes_of gs)) ++ base)
         ≡ joined (bytes_of (if b then g ∷ gs else ahead after gs)) ++ base
     go true here rest = ap (λ n. drop n ((g.bytes ++ joined (bytes_of gs)) ++ base)) (none_passed after g.suffix gs here p.0)
     go false here rest =
         ap (drop (length g.bytes + passed_by after gs)) (append_assoc g.bytes (joined (bytes_of gs)) base)
         ∙ (drop-append-add g.bytes (joined (bytes_of gs) ++ base) (passed_by after gs) ∙ rest)
 
-head_log : (hs : List Generation) (base : List ℕ) → (rest : List ℕ) × (joined (bytes_of hs) ++ base ≡ (head_of hs base).bytes ++ rest)
+head_log : (hs : List Generation) (base : List ℕ)
+    → (rest : List ℕ) × (joined (bytes_of hs) ++ base ≡ (head_of hs base).bytes ++ rest)
 head_log [] base = ([], sym (append-nil base))
 head_log (h ∷ hs) base = (joined (bytes_of hs) ++ base, append_assoc h.bytes (joined (bytes_of hs)) base)
 
 -- ---- cut places from there on
 
-line_begin : (closed : Bool) (bytes : List ℕ) → is_line_cut closed 0 bytes 0 ≡ true
+pub line_begin : (closed : Bool) (bytes : List ℕ) → is_line_cut closed 0 bytes 0 ≡ true
 line_begin closed [] = refl
 line_begin closed (b ∷ bytes) = refl
 
-abbrev run_behind : ℕ → ℕ → ℕ
+abbrev pub run_behind : ℕ → ℕ → ℕ
 run_behind b run = if b == 10 then 0 else if run == 131071 then 0 else run + 1
 
-run_small : (b run : ℕ) → run < 131072 → run_behind b run < 131072
+pub run_small : (b run : ℕ) → run < 131072 → run_behind b run < 131072
 run_small b run small = grind (arith, nat_tests)
 
--- one byte on
-cut_suc : (closed : Bool) (run b : ℕ) (bytes : List ℕ) (n : ℕ)
+-- whether a reader may stop one byte on
+pub cut_suc : (closed : Bool) (run b : ℕ) (bytes : List ℕ) (n : ℕ)
     → is_line_cut closed run (b ∷ bytes) (suc n) ≡ is_line_cut closed (run_behind b run) bytes n
 cut_suc closed run b bytes n =
     let first : (suc n == 0) ≡ false = ne_eqb (suc n) 0 (λ e. omega arith) in
     let less : suc n - 1 ≡ n = omega arith in
     rw (first, less) refl
 
-line_end : (run : ℕ) (bytes : List ℕ) → run < 131072 → is_line_cut true run bytes (length bytes) ≡ true
+line_end : (run : ℕ) (bytes : List ℕ) → run < 131072
+    → is_line_cut true run bytes (length bytes) ≡ true
 line_end run [] small = or_right (run == 0) true refl
 line_end run (b ∷ bytes) small = cut_suc true run b bytes (length bytes) ∙ line_end (run_behind b run) bytes (run_small b run small)
 
-abbrev may_stop : Bool → Shown → ℕ → Bool
+abbrev pub may_stop : Bool → Shown → ℕ → Bool
 may_stop lines g k = if lines then is_line_cut (is_some g.suffix) 0 g.bytes k else true
 
 module _ (lines : Bool) (after : Option (List ℕ)) (base : List ℕ) where
@@ -243,11 +258,13 @@ module _ (lines : Bool) (after : Option (List ℕ)) (base : List ℕ) where
   base_cut : (k : ℕ) → k ≤ length base → is_cut_place lines [] base k ≡ may_stop lines (record { suffix = None; bytes = base }) k
   base_cut k within = go lines
     where
-      go : (b : Bool) → (if b then is_line_cut false 0 base k else nat_le k (length base)) ≡ (if b then is_line_cut false 0 base k else true)
+      go : (b : Bool)
+          → (if b then is_line_cut false 0 base k else nat_le k (length base)) ≡ (if b then is_line_cut false 0 base k else true)
       go true = refl
       go false = le-leb k (length base) within
 
-  cut_ahead : (gs : List Generation) (k : ℕ) → rising gs ≡ true → k ≤ length (head_of (ahead after gs) base).bytes
+  cut_ahead : (gs : List Generation) (k : ℕ) → rising gs ≡ true
+      → k ≤ length (head_of (ahead after gs) base).bytes
       → is_cut_place lines (bytes_of gs) base (passed_by after gs + k) ≡ may_stop lines (head_of (ahead after gs) base) k
   cut_ahead [] k up within =
       let same : 0 + k ≡ k = omega arith in
@@ -257,15 +274,18 @@ module _ (lines : Bool) (after : Option (List ℕ)) (base : List ℕ) where
       p : (Above g.suffix gs) × (rising gs ≡ true)
       p = and_parts (list_all (λ k. text_lt g.suffix k.suffix) gs) (rising gs) up
 
-      here_cut : (at : ℕ) → at ≡ k → k ≤ length g.bytes → is_cut_place lines (g.bytes ∷ bytes_of gs) base at ≡ may_stop lines (shown_as g) k
+      here_cut : (at : ℕ) → at ≡ k → k ≤ length g.bytes
+          → is_cut_place lines (g.bytes ∷ bytes_of gs) base at ≡ may_stop lines (shown_as g) k
       here_cut at same within = rw (same, le-leb k (length g.bytes) within) refl
 
       full : (b : Bool) → (if b then is_line_cut true 0 g.bytes (length g.bytes) else true) ≡ true
       full true = line_end 0 g.bytes (omega arith)
       full false = refl
 
-      past_cut : (at rest : ℕ) → at ≡ length g.bytes + rest → is_cut_place lines (bytes_of gs) base rest ≡ may_stop lines (head_of (ahead after gs) base) k
-          → (rest ≡ 0 → k ≡ 0) → is_cut_place lines (g.bytes ∷ bytes_of gs) base at ≡ may_stop lines (head_of (ahead after gs) base) k
+      past_cut : (at rest : ℕ) → at ≡ length g.bytes + rest
+          → is_cut_place lines (bytes_of gs) base rest ≡ may_stop lines (head_of (ahead after gs) base) k
+          → (rest ≡ 0 → k ≡ 0)
+          → is_cut_place lines (g.bytes ∷ bytes_of gs) base at ≡ may_stop lines (head_of (ahead after gs) base) k
       past_cut at rest same later none_both = elim (cases_lt 0 rest) [
         | inl some ↦
             let no : nat_le at (length g.bytes) ≡ false = lt-leb at (length g.bytes) (omega (arith, same, some)) in
@@ -278,7 +298,8 @@ module _ (lines : Bool) (after : Option (List ℕ)) (base : List ℕ) where
             rw (at_end, le) (full lines) ∙ sym (ap (may_stop lines (head_of (ahead after gs) base)) k_none ∙ stop_begin (head_of (ahead after gs) base))
       ]
 
-      go : (b : Bool) → is_after after g.suffix ≡ b → k ≤ length (head_of (if b then g ∷ gs else ahead after gs) base).bytes
+      go : (b : Bool) → is_after after g.suffix ≡ b
+          → k ≤ length (head_of (if b then g ∷ gs else ahead after gs) base).bytes
           → (k ≤ length (head_of (ahead after gs) base).bytes
           → is_cut_place lines (bytes_of gs) base (passed_by after gs + k) ≡ may_stop lines (head_of (ahead after gs) base) k)
           → is_cut_place lines (g.bytes ∷ bytes_of gs) base ((if b then passed_by after gs else length g.bytes + passed_by after gs) + k)
@@ -291,7 +312,8 @@ module _ (lines : Bool) (after : Option (List ℕ)) (base : List ℕ) where
 
 -- ---- a generation ahead is one of the path, and behind it comes the next one
 
-has_chosen : (suffix : List ℕ) (after : Option (List ℕ)) (ts gs : List Generation) → has_generation suffix (chosen after ts gs) ≡ true
+has_chosen : (suffix : List ℕ) (after : Option (List ℕ)) (ts gs : List Generation)
+    → has_generation suffix (chosen after ts gs) ≡ true
     → has_generation suffix gs ≡ true
 has_chosen suffix after [] gs h = h
 has_chosen suffix after (t ∷ ts) [] h = h
@@ -301,23 +323,29 @@ has_chosen suffix after (t ∷ ts) (g ∷ gs) h = go (not t.deleted && is_after 
     later true h = refl
     later false h = h
 
-    go : (b e : Bool) → has_generation suffix (if b then g ∷ chosen after ts gs else chosen after ts gs) ≡ true
-        → (has_generation suffix (chosen after ts gs) ≡ true → has_generation suffix gs ≡ true) → (bytes_eq g.suffix suffix || has_generation suffix gs) ≡ true
+    go : (b e : Bool)
+        → has_generation suffix (if b then g ∷ chosen after ts gs else chosen after ts gs) ≡ true
+        → (has_generation suffix (chosen after ts gs) ≡ true → has_generation suffix gs ≡ true)
+        → (bytes_eq g.suffix suffix || has_generation suffix gs) ≡ true
     go true e h rest = pick (bytes_eq g.suffix suffix) h rest
       where
         pick : (e : Bool) → (e || has_generation suffix (chosen after ts gs)) ≡ true
-            → (has_generation suffix (chosen after ts gs) ≡ true → has_generation suffix gs ≡ true) → (e || has_generation suffix gs) ≡ true
+            → (has_generation suffix (chosen after ts gs) ≡ true → has_generation suffix gs ≡ true)
+            → (e || has_generation suffix gs) ≡ true
         pick true h rest = refl
         pick false h rest = rest h
     go false e h rest = later (bytes_eq g.suffix suffix) (rest h)
 
 -- the place behind the first generation ahead
-record Behind (after : Option (List ℕ)) (gs : List Generation) (suffix bytes : List ℕ) : Type 0 where
+record Behind (after : Option (List ℕ)) (gs : List Generation)
+    (suffix bytes : List ℕ) : Type 0 where
   passed_is : passed_by (Some suffix) gs ≡ passed_by after gs + length bytes
   has : has_generation suffix gs ≡ true
 
-behind_head : (after : Option (List ℕ)) (gs : List Generation) (base suffix : List ℕ) → rising gs ≡ true
-    → (head_of (ahead after gs) base).suffix ≡ Some suffix → Behind after gs suffix (head_of (ahead after gs) base).bytes
+behind_head : (after : Option (List ℕ)) (gs : List Generation) (base suffix : List ℕ)
+    → rising gs ≡ true
+    → (head_of (ahead after gs) base).suffix ≡ Some suffix
+    → Behind after gs suffix (head_of (ahead after gs) base).bytes
 behind_head after [] base suffix up e = absurd (none-some suffix e)
 behind_head after (g ∷ gs) base suffix up e = go (is_after after g.suffix) refl e (behind_head after gs base suffix p.1)
   where
@@ -328,14 +356,17 @@ behind_head after (g ∷ gs) base suffix up e = go (is_after after g.suffix) ref
     later true h = refl
     later false h = h
 
-    above_has : (hs : List Generation) → Above g.suffix hs → has_generation suffix hs ≡ true → text_lt g.suffix suffix ≡ true
+    above_has : (hs : List Generation) → Above g.suffix hs → has_generation suffix hs ≡ true
+        → text_lt g.suffix suffix ≡ true
     above_has [] all h = absurd (true≢false (sym h))
     above_has (k ∷ hs) all h =
         let q = and_parts (text_lt g.suffix k.suffix) (list_all (λ j. text_lt g.suffix j.suffix) hs) all in
         pick (bytes_eq k.suffix suffix) refl h q.0 (above_has hs q.1)
       where
-        pick : (b : Bool) → bytes_eq k.suffix suffix ≡ b → (b || has_generation suffix hs) ≡ true → text_lt g.suffix k.suffix ≡ true
-            → (has_generation suffix hs ≡ true → text_lt g.suffix suffix ≡ true) → text_lt g.suffix suffix ≡ true
+        pick : (b : Bool) → bytes_eq k.suffix suffix ≡ b → (b || has_generation suffix hs) ≡ true
+            → text_lt g.suffix k.suffix ≡ true
+            → (has_generation suffix hs ≡ true → text_lt g.suffix suffix ≡ true)
+            → text_lt g.suffix suffix ≡ true
         pick true same h here rest = subst (λ t. text_lt g.suffix t ≡ true) (bytes_same k.suffix suffix same) here
         pick false same h here rest = rest h
 
@@ -343,7 +374,8 @@ behind_head after (g ∷ gs) base suffix up e = go (is_after after g.suffix) ref
     not_back false here on = refl
     not_back true here on = absurd (true≢false (sym (text_lt_trans g.suffix suffix g.suffix on here) ∙ text_lt_self g.suffix))
 
-    go : (b : Bool) → is_after after g.suffix ≡ b → (head_of (if b then g ∷ gs else ahead after gs) base).suffix ≡ Some suffix
+    go : (b : Bool) → is_after after g.suffix ≡ b
+        → (head_of (if b then g ∷ gs else ahead after gs) base).suffix ≡ Some suffix
         → ((head_of (ahead after gs) base).suffix ≡ Some suffix → Behind after gs suffix (head_of (ahead after gs) base).bytes)
         → Behind after (g ∷ gs) suffix (head_of (if b then g ∷ gs else ahead after gs) base).bytes
     go true here e rest =
@@ -371,32 +403,33 @@ behind_head after (g ∷ gs) base suffix up e = go (is_after after g.suffix) ref
 
 -- ---- what is read
 
-given_ends : (o : Option (List ℕ)) (reached : Bool) (suffix : List ℕ) → Contains (ended o reached) suffix → (o ≡ Some suffix) × (reached ≡ true)
+given_ends : (o : Option (List ℕ)) (reached : Bool) (suffix : List ℕ)
+    → Contains (ended o reached) suffix → (o ≡ Some suffix) × (reached ≡ true)
 given_ends None reached suffix (k, below, at) = absurd (let z : ⊥ = omega (arith, below) in z)
 given_ends (Some x) false suffix (k, below, at) = absurd (let z : ⊥ = omega (arith, below) in z)
 given_ends (Some x) true suffix (zero, below, at) = (ap Some at, refl)
 given_ends (Some x) true suffix (suc k, below, at) = absurd (let z : ⊥ = omega (arith, below) in z)
 
 -- what a place and the parts of the log are
-record Known (start : ℕ) (p : Parts) (l : Line) : Type 0 where
-  first : l.first ≡ start + passed_by l.after p.rotated
-  on : l.first ≤ l.offset
-  within : l.offset ≤ l.first + next_length l.after p.rotated p.base
-  cut : (l.offset ≡ start) ⊎ IsTrue (nat_le start l.offset && is_cut_place p.lines (bytes_of p.rotated) p.base (l.offset - start))
-  up : rising p.rotated ≡ true
+pub record Known (start : ℕ) (p : Parts) (l : Line) : Type 0 where
+  pub first : l.first ≡ start + passed_by l.after p.rotated
+  pub on : l.first ≤ l.offset
+  pub within : l.offset ≤ l.first + next_length l.after p.rotated p.base
+  pub cut : (l.offset ≡ start) ⊎ IsTrue (nat_le start l.offset && is_cut_place p.lines (bytes_of p.rotated) p.base (l.offset - start))
+  pub up : rising p.rotated ≡ true
 
 module _ (start : ℕ) (p : Parts) (l : Line) (known : Known start p l) where
-  abbrev Head : Shown
+  abbrev pub Head : Shown
   Head = head_of (ahead l.after p.rotated) p.base
 
   abbrev TheLog : List ℕ
   TheLog = joined (bytes_of p.rotated) ++ p.base
 
-  cut_at : (k : ℕ) → k ≤ length Head.bytes
+  pub cut_at : (k : ℕ) → k ≤ length Head.bytes
       → is_cut_place p.lines (bytes_of p.rotated) p.base (passed_by l.after p.rotated + k) ≡ may_stop p.lines Head k
   cut_at k within = cut_ahead p.lines l.after p.base p.rotated k known.up within
 
-  from_place : may_stop p.lines Head (l.offset - l.first) ≡ true
+  pub from_place : may_stop p.lines Head (l.offset - l.first) ≡ true
   from_place =
       let size = next_is l.after p.rotated p.base in
       let first = known.first in
@@ -433,7 +466,8 @@ module _ (start : ℕ) (p : Parts) (l : Line) (known : Known start p l) where
       ∙ (sym (take-append-le n (drop at Head.bytes) h.0 (omega (arith, short, most))) ∙ ap (take n) (sym rest))
 
   -- a stop in the piece
-  stop_known : (n : ℕ) → l.offset - l.first + n ≤ length Head.bytes → may_stop p.lines Head (l.offset - l.first + n) ≡ true → Known start p (moved l n)
+  stop_known : (n : ℕ) → l.offset - l.first + n ≤ length Head.bytes
+      → may_stop p.lines Head (l.offset - l.first + n) ≡ true → Known start p (moved l n)
   stop_known n within' stop =
       let size = next_is l.after p.rotated p.base in
       let first = known.first in
@@ -449,7 +483,8 @@ module _ (start : ℕ) (p : Parts) (l : Line) (known : Known start p l) where
       }
 
   -- the place behind the generation
-  pass_known : (suffix : List ℕ) (n : ℕ) → Head.suffix ≡ Some suffix → l.offset - l.first + n ≡ length Head.bytes → Known start p (passed l suffix n)
+  pass_known : (suffix : List ℕ) (n : ℕ) → Head.suffix ≡ Some suffix
+      → l.offset - l.first + n ≡ length Head.bytes → Known start p (passed l suffix n)
   pass_known suffix n e all =
       let b = behind_head l.after p.rotated p.base suffix known.up e in
       let first = known.first in
@@ -465,7 +500,8 @@ module _ (start : ℕ) (p : Parts) (l : Line) (known : Known start p l) where
         up = known.up;
       }
     where
-      stop_of : (b : Bool) → (if b then is_line_cut (is_some Head.suffix) 0 Head.bytes (l.offset - l.first + n) else true) ≡ true
+      stop_of : (b : Bool)
+          → (if b then is_line_cut (is_some Head.suffix) 0 Head.bytes (l.offset - l.first + n) else true) ≡ true
       stop_of false = refl
       stop_of true =
           ap (λ o. is_line_cut (is_some o) 0 Head.bytes (l.offset - l.first + n)) e
@@ -476,7 +512,7 @@ module _ (start : ℕ) (p : Parts) (l : Line) (known : Known start p l) where
 
 -- ---- so is a line that stands
 
-stop_to : (b : Bool) (g : Shown) (k : ℕ) → may_stop b g k ≡ true → MayStop b g k
+pub stop_to : (b : Bool) (g : Shown) (k : ℕ) → may_stop b g k ≡ true → MayStop b g k
 stop_to true g k h = h
 stop_to false g k h = tt
 
@@ -484,12 +520,13 @@ stop_from : (b : Bool) (g : Shown) (k : ℕ) → MayStop b g k → may_stop b g 
 stop_from true g k h = h
 stop_from false g k h = refl
 
-module _ (stamped : List (List ℕ)) (history : History) (legal : Legal stamped history) (s : Stream) (source : IsTrue (is_source s.source))
+module _ (stamped : List (List ℕ)) (history : History) (legal : Legal stamped history) (s : Stream)
+    (source : IsTrue (is_source s.source))
     (l : Line) (h : ReadsOn history s l) where
-  abbrev TheParts : Parts
+  abbrev pub TheParts : Parts
   TheParts = parts_of history s
 
-  abbrev Now : Log
+  abbrev pub Now : Log
   Now = logs_after history s.name
 
   abbrev First : Founding
@@ -503,17 +540,17 @@ module _ (stamped : List (List ℕ)) (history : History) (legal : Legal stamped 
       let b = is_founded stamped history legal s source First h.stands.founded in
       b.class ∙ (ap (λ (k : Line). k.class) (same_Some b.line h.line (sym b.there ∙ h.there)) ∙ h.class)
 
-  lines_are : TheParts.lines ≡ breaks_lines l.class
+  pub lines_are : TheParts.lines ≡ breaks_lines l.class
   lines_are = ap (λ (p : Parts). p.lines) parts_are ∙ ap breaks_lines class_is
 
-  base_is : TheParts.base ≡ Now.base
+  pub base_is : TheParts.base ≡ Now.base
   base_is = ap (λ (p : Parts). p.base) parts_are
 
-  rotated_is : TheParts.rotated ≡ (if is_plain l.class then [] else chosen First.line.after First.rotated Now.rotated)
+  pub rotated_is : TheParts.rotated ≡ (if is_plain l.class then [] else chosen First.line.after First.rotated Now.rotated)
   rotated_is =
       ap (λ (p : Parts). p.rotated) parts_are ∙ ap (λ c. if is_plain c then [] else chosen First.line.after First.rotated Now.rotated) class_is
 
-  known : Known (start_of history s) TheParts l
+  pub known : Known (start_of history s) TheParts l
   known = record {
     first = h.stands.place.first;
     on = h.stands.place.on;
@@ -523,7 +560,8 @@ module _ (stamped : List (List ℕ)) (history : History) (legal : Legal stamped 
   }
 
   -- a place of the stream's log stands, where its suffix is one of the path
-  stands_by : (m : Line) → IsSuffixOf m.after Now.rotated → Known (start_of history s) TheParts m → Stands history s m
+  stands_by : (m : Line) → IsSuffixOf m.after Now.rotated → Known (start_of history s) TheParts m
+      → Stands history s m
   stands_by m suffix k = record {
     first = First;
     founded = h.stands.founded;
@@ -532,10 +570,11 @@ module _ (stamped : List (List ℕ)) (history : History) (legal : Legal stamped 
     suffix = suffix;
   }
 
-  shown_head : read_from (part_for l.class l.after) Now ≡ head_of (ahead l.after TheParts.rotated) TheParts.base
+  pub shown_head : read_from (part_for l.class l.after) Now ≡ head_of (ahead l.after TheParts.rotated) TheParts.base
   shown_head = go (is_plain l.class) refl
     where
-      go : (b : Bool) → is_plain l.class ≡ b → read_from (if b then TheBase else Past l.after) Now ≡ head_of (ahead l.after TheParts.rotated) TheParts.base
+      go : (b : Bool) → is_plain l.class ≡ b
+          → read_from (if b then TheBase else Past l.after) Now ≡ head_of (ahead l.after TheParts.rotated) TheParts.base
       go true e =
           let none : TheParts.rotated ≡ [] = rotated_is ∙ ap (λ b. if b then [] else chosen First.line.after First.rotated Now.rotated) e in
           ap (λ base. record { suffix = None; bytes = base }) (sym base_is) ∙ ap (λ gs. head_of (ahead l.after gs) TheParts.base) (sym none)
@@ -548,16 +587,19 @@ module _ (stamped : List (List ℕ)) (history : History) (legal : Legal stamped 
           ∙ (past_head l.after TheParts.rotated Now.base ∙ ap (head_of (ahead l.after TheParts.rotated)) (sym base_is)))
 
   -- the suffix of a generation of the stream's log is one of the path
-  path_suffix : (suffix : List ℕ) → has_generation suffix TheParts.rotated ≡ true → has_generation suffix Now.rotated ≡ true
+  path_suffix : (suffix : List ℕ) → has_generation suffix TheParts.rotated ≡ true
+      → has_generation suffix Now.rotated ≡ true
   path_suffix suffix has = go (is_plain l.class) (ap (has_generation suffix) (sym rotated_is) ∙ has)
     where
-      go : (b : Bool) → has_generation suffix (if b then [] else chosen First.line.after First.rotated Now.rotated) ≡ true
+      go : (b : Bool)
+          → has_generation suffix (if b then [] else chosen First.line.after First.rotated Now.rotated) ≡ true
           → has_generation suffix Now.rotated ≡ true
       go true has = absurd (true≢false (sym has))
       go false has = has_chosen suffix First.line.after First.rotated Now.rotated has
 
   gives : (max : ℕ) (words : List (List ℕ)) (number of : ℕ)
-      → AtLogRead (Done words number of) (l.offset - l.first) max (head_of (ahead l.after TheParts.rotated) TheParts.base)
+      → AtLogRead (Done words number of)
+      (l.offset - l.first) max (head_of (ahead l.after TheParts.rotated) TheParts.base)
       → GivesLog history s l (head_of (ahead l.after TheParts.rotated) TheParts.base) words
   gives max words number of at_read =
       let start : ℕ = start_of history s in
@@ -585,9 +627,11 @@ module _ (stamped : List (List ℕ)) (history : History) (legal : Legal stamped 
             (pass_known start TheParts l known suffix (length piece) e.0 (omega (arith, all, most, left, inside)));
       }
 
-pub reads_give_log : (stamped : List (List ℕ)) (history : History) → Legal stamped history → (s : Stream) → IsTrue (is_source s.source)
+pub reads_give_log : (stamped : List (List ℕ)) (history : History) → Legal stamped history
+    → (s : Stream) → IsTrue (is_source s.source)
     → (l : Line) → ReadsOn history s l → (max : ℕ) (words : List (List ℕ)) (number of : ℕ)
-    → AtLogRead (Done words number of) (l.offset - l.first) max (read_from (part_for l.class l.after) (logs_after history s.name))
+    → AtLogRead (Done words number of)
+    (l.offset - l.first) max (read_from (part_for l.class l.after) (logs_after history s.name))
     → GivesLog history s l (read_from (part_for l.class l.after) (logs_after history s.name)) words
 reads_give_log stamped history legal s source l h max words number of =
     subst (λ g. AtLogRead (Done words number of) (l.offset - l.first) max g → GivesLog history s l g words)
@@ -595,8 +639,10 @@ reads_give_log stamped history legal s source l h max words number of =
 
 -- ---- a chunk that stands
 
-pub chunk_on : (stamped : List (List ℕ)) (history : History) (step : Step) → Legal stamped (step ∷ history) → (c : Chunk)
-    → IsTrue (is_source c.key.stream.source) → IsTrue (is_chunk c) → ChunkStands history c → ChunkStands (step ∷ history) c
+pub chunk_on : (stamped : List (List ℕ)) (history : History) (step : Step)
+    → Legal stamped (step ∷ history) → (c : Chunk)
+    → IsTrue (is_source c.key.stream.source) → IsTrue (is_chunk c) → ChunkStands history c
+    → ChunkStands (step ∷ history) c
 chunk_on stamped history step legal c source valid h =
     let s = c.key.stream in
     let later = founded_by (line_of step.files s) (step.logs s.name) in
@@ -615,9 +661,12 @@ chunk_on stamped history step legal c source valid h =
       cut = (cut_on stamped history step legal s source (chunk_end c) (record { first = h.first; founded = h.founded; cut = h.cut })).cut;
     }
 
--- A chunk of what a read gave, from the place on and up to a place in it at which a reader may stop, stands.
-pub chunk_of_read : (history : History) (s : Stream) (l : Line) (g : Shown) (words : List (List ℕ)) → Stands history s l → (r : GivesLog history s l g words)
-    → (c : Chunk) → c.key.stream ≡ s → c.key.start ≡ start_of history s → (n : ℕ) → 0 < n → n ≤ length r.piece → c.value ≡ take n r.piece
+-- A chunk of what a read gave, from the place on and up to a place in it at which a reader may
+-- stop, stands.
+pub chunk_of_read : (history : History) (s : Stream) (l : Line) (g : Shown) (words : List (List ℕ))
+    → Stands history s l → (r : GivesLog history s l g words)
+    → (c : Chunk) → c.key.stream ≡ s → c.key.start ≡ start_of history s → (n : ℕ) → 0 < n
+    → n ≤ length r.piece → c.value ≡ take n r.piece
     → c.key.seq ≡ l.offset + n → Stands history s (moved l n) → ChunkStands history c
 chunk_of_read history s l g words stands r c stream start n some short value seq stop =
     let size : length c.value ≡ n = ap length value ∙ (length-take n r.piece ∙ (let z : min n (length r.piece) ≡ n = omega (arith, short) in z)) in

@@ -37,7 +37,8 @@ module _ (a b : Option (List ℕ)) (later : Later a b) where
   past_later [] = refl
   past_later (g ∷ gs) = go (is_after a g.suffix) (is_after b g.suffix) refl refl (past_later gs)
     where
-      go : (x y : Bool) → is_after a g.suffix ≡ x → is_after b g.suffix ≡ y → keep b (past a gs) ≡ past b gs
+      go : (x y : Bool) → is_after a g.suffix ≡ x → is_after b g.suffix ≡ y
+          → keep b (past a gs) ≡ past b gs
           → keep b (if x then shown_as g ∷ past a gs else past a gs) ≡ (if y then shown_as g ∷ past b gs else past b gs)
       go true true e f rest = rw f (ap (λ ks. shown_as g ∷ ks) rest)
       go true false e f rest = rw f rest
@@ -48,7 +49,8 @@ module _ (a b : Option (List ℕ)) (later : Later a b) where
   open_later [] = refl
   open_later (g ∷ gs) = go (not g.deleted) (is_after a g.suffix) (is_after b g.suffix) refl refl (open_later gs)
     where
-      go : (d x y : Bool) → is_after a g.suffix ≡ x → is_after b g.suffix ≡ y → keep b (open_past a gs) ≡ open_past b gs
+      go : (d x y : Bool) → is_after a g.suffix ≡ x → is_after b g.suffix ≡ y
+          → keep b (open_past a gs) ≡ open_past b gs
           → keep b (if d && x then shown_as g ∷ open_past a gs else open_past a gs) ≡ (if d && y then shown_as g ∷ open_past b gs else open_past b gs)
       go false x y e f rest = rest
       go true true true e f rest = rw f (ap (λ ks. shown_as g ∷ ks) rest)
@@ -56,7 +58,8 @@ module _ (a b : Option (List ℕ)) (later : Later a b) where
       go true false true e f rest = absurd (true≢false (sym (later g.suffix f) ∙ e))
       go true false false e f rest = rest
 
-pub shows_later : (history : History) (s : Stream) (a b : Option (List ℕ)) → Later a b → ShowsLog history s a → ShowsLog history s b
+pub shows_later : (history : History) (s : Stream) (a b : Option (List ℕ)) → Later a b
+    → ShowsLog history s a → ShowsLog history s b
 shows_later history s a b later h =
     sym (open_later a b later (logs_after history s.name).rotated) ∙ (ap (keep b) h ∙ past_later a b later (parts_of history s).rotated)
 
@@ -69,7 +72,8 @@ moves_later gs (Some x) (Some y) (inr h) suffix is =
 
 -- ---- a step
 
-open_more : (after : Option (List ℕ)) (gs hs : List Generation) → open_past after (gs ++ hs) ≡ open_past after gs ++ open_past after hs
+open_more : (after : Option (List ℕ)) (gs hs : List Generation)
+    → open_past after (gs ++ hs) ≡ open_past after gs ++ open_past after hs
 open_more after [] hs = refl
 open_more after (g ∷ gs) hs = pick (not g.deleted && is_after after g.suffix) (open_more after gs hs)
   where
@@ -79,7 +83,8 @@ open_more after (g ∷ gs) hs = pick (not g.deleted && is_after after g.suffix) 
     pick true e = ap (λ ks. shown_as g ∷ ks) e
     pick false e = e
 
-past_more : (after : Option (List ℕ)) (gs hs : List Generation) → past after (gs ++ hs) ≡ past after gs ++ past after hs
+past_more : (after : Option (List ℕ)) (gs hs : List Generation)
+    → past after (gs ++ hs) ≡ past after gs ++ past after hs
 past_more after [] hs = refl
 past_more after (g ∷ gs) hs = pick (is_after after g.suffix) (past_more after gs hs)
   where
@@ -89,12 +94,14 @@ past_more after (g ∷ gs) hs = pick (is_after after g.suffix) (past_more after 
     pick true e = ap (λ ks. shown_as g ∷ ks) e
     pick false e = e
 
-open_marked : (after : Option (List ℕ)) (suffix : List ℕ) → is_after after suffix ≡ false → (gs : List Generation)
+open_marked : (after : Option (List ℕ)) (suffix : List ℕ) → is_after after suffix ≡ false
+    → (gs : List Generation)
     → open_past after (marked suffix gs) ≡ open_past after gs
 open_marked after suffix none [] = refl
 open_marked after suffix none (g ∷ gs) = go (bytes_eq g.suffix suffix) refl (open_marked after suffix none gs)
   where
-    go : (b : Bool) → bytes_eq g.suffix suffix ≡ b → open_past after (marked suffix gs) ≡ open_past after gs
+    go : (b : Bool) → bytes_eq g.suffix suffix ≡ b
+        → open_past after (marked suffix gs) ≡ open_past after gs
         → (if not (if b then true else g.deleted) && is_after after g.suffix then shown_as g ∷ open_past after (marked suffix gs)
         else open_past after (marked suffix gs))
         ≡ (if not g.deleted && is_after after g.suffix then shown_as g ∷ open_past after gs else open_past after gs)
@@ -108,8 +115,11 @@ open_marked after suffix none (g ∷ gs) = go (bytes_eq g.suffix suffix) refl (o
 abbrev Shows : Founding → Option (List ℕ) → Log → Type 0
 Shows f after log = open_past after log.rotated ≡ past after (chosen f.line.after f.rotated log.rotated)
 
-shows_turn : (files : Files) (path : List ℕ) (f : Founding) (after : Option (List ℕ)) (old new : Log) → length f.rotated ≤ length old.rotated
-    → ((suffix : List ℕ) → IsPassed files path suffix → is_after after suffix ≡ false) → LogTurn files path old new
+shows_turn : (files : Files) (path : List ℕ) (f : Founding) (after : Option (List ℕ))
+    (old new : Log)
+    → length f.rotated ≤ length old.rotated
+    → ((suffix : List ℕ) → IsPassed files path suffix → is_after after suffix ≡ false)
+    → LogTurn files path old new
     → Shows f after old → Shows f after new
 shows_turn files path f after old new le passed (as_it_was e) h = subst (Shows f after) (sym e) h
 shows_turn files path f after old new le passed (grew bytes e) h = subst (Shows f after) (sym e) h
@@ -125,12 +135,16 @@ shows_turn files path f after old new le passed (was_turned suffix e may) h =
     ∙ (sym (past_more after (chosen f.line.after f.rotated old.rotated) (g ∷ []))
     ∙ ap (past after) (sym (chosen_more f.line.after f.rotated old.rotated g le)))))
 
-parts_known : (f : Founding) (log : Log) → is_plain f.line.class ≡ false → (parts_since (Some f) log).rotated ≡ chosen f.line.after f.rotated log.rotated
+parts_known : (f : Founding) (log : Log) → is_plain f.line.class ≡ false
+    → (parts_since (Some f) log).rotated ≡ chosen f.line.after f.rotated log.rotated
 parts_known f log e = ap (λ b. if b then [] else chosen f.line.after f.rotated log.rotated) e
 
--- what a reader past a suffix is shown stays the log, where the suffix isn't below a generation that may be deleted
-pub shows_on : (stamped : List (List ℕ)) (history : History) (step : Step) → Legal stamped (step ∷ history) → (s : Stream)
-    → IsTrue (is_source s.source) → (f : Founding) → founding history s ≡ Some f → is_plain f.line.class ≡ false → (after : Option (List ℕ))
+-- what a reader past a suffix is shown stays the log, where the suffix isn't below a generation
+-- that may be deleted
+pub shows_on : (stamped : List (List ℕ)) (history : History) (step : Step)
+    → Legal stamped (step ∷ history) → (s : Stream)
+    → IsTrue (is_source s.source) → (f : Founding) → founding history s ≡ Some f
+    → is_plain f.line.class ≡ false → (after : Option (List ℕ))
     → ((suffix : List ℕ) → IsPassed (files_after history) s.name suffix → is_after after suffix ≡ false)
     → ShowsLog history s after → ShowsLog (step ∷ history) s after
 shows_on stamped history step legal s known f founded several after passed h =
@@ -144,11 +158,13 @@ shows_on stamped history step legal s known f founded several after passed h =
 
 -- ---- the first line
 
-open_chosen : (after : Option (List ℕ)) (gs : List Generation) → open_past after gs ≡ past after (chosen after gs gs)
+open_chosen : (after : Option (List ℕ)) (gs : List Generation)
+    → open_past after gs ≡ past after (chosen after gs gs)
 open_chosen after [] = refl
 open_chosen after (g ∷ gs) = go (not g.deleted) (is_after after g.suffix) refl (open_chosen after gs)
   where
-    go : (d a : Bool) → is_after after g.suffix ≡ a → open_past after gs ≡ past after (chosen after gs gs)
+    go : (d a : Bool) → is_after after g.suffix ≡ a
+        → open_past after gs ≡ past after (chosen after gs gs)
         → (if d && a then shown_as g ∷ open_past after gs else open_past after gs)
         ≡ past after (if d && a then g ∷ chosen after gs gs else chosen after gs gs)
     go false a e rest = rest

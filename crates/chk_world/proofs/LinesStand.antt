@@ -1,4 +1,5 @@
--- Each line of a checkpoint stands at a true place of its log, and who reads on from there is shown the log.
+-- Each line of a checkpoint stands at a true place of its log, and who reads on from there is shown
+-- the log.
 use Rattle.std.proofs.Common.{◌≡◌, inl, inr, ℕ, ◌+◌, ◌≤◌, Bool, true, false, ◌&&◌, ◌||◌, not, List, [], ◌∷◌, ◌++◌, length, length-append, Option, Some, None, ap, sym, subst, ◌∙◌, refl, arith, true≢false, bytes_eq, if◌then◌else◌}
 use Rattle.std.specs.Prelude.{IsTrue, ◌==◌, nat_lt}
 use Rattle.std.specs.List.{list_all}
@@ -45,19 +46,22 @@ pub marked_alike : (suffix : List ℕ) (gs : List Generation) → Alike (marked 
 marked_alike suffix [] = tt
 marked_alike suffix (g ∷ gs) = (refl, refl, marked_alike suffix gs)
 
-pub chosen_alike : (after : Option (List ℕ)) (ts gs hs : List Generation) → Alike gs hs → Alike (chosen after ts gs) (chosen after ts hs)
+pub chosen_alike : (after : Option (List ℕ)) (ts gs hs : List Generation) → Alike gs hs
+    → Alike (chosen after ts gs) (chosen after ts hs)
 chosen_alike after [] gs hs a = a
 chosen_alike after (t ∷ ts) [] [] a = tt
 chosen_alike after (t ∷ ts) (g ∷ gs) (h ∷ hs) a = pick (not t.deleted && is_after after t.suffix) (chosen_alike after ts gs hs a.2)
   where
     pick : (b : Bool) → Alike (chosen after ts gs) (chosen after ts hs)
-        → Alike (if b then g ∷ chosen after ts gs else chosen after ts gs) (if b then h ∷ chosen after ts hs else chosen after ts hs)
+        → Alike (if b then g ∷ chosen after ts gs else chosen after ts gs)
+        (if b then h ∷ chosen after ts hs else chosen after ts hs)
     pick true rest = (a.0, a.1, rest)
     pick false rest = rest
 chosen_alike after (t ∷ ts) [] (h ∷ hs) a = absurd a
 chosen_alike after (t ∷ ts) (g ∷ gs) [] a = absurd a
 
-passed_alike : (after : Option (List ℕ)) (gs hs : List Generation) → Alike gs hs → passed_by after gs ≡ passed_by after hs
+passed_alike : (after : Option (List ℕ)) (gs hs : List Generation) → Alike gs hs
+    → passed_by after gs ≡ passed_by after hs
 passed_alike after [] [] a = refl
 passed_alike after (g ∷ gs) (h ∷ hs) a =
     let rest = passed_alike after gs hs a.2 in
@@ -65,7 +69,8 @@ passed_alike after (g ∷ gs) (h ∷ hs) a =
 passed_alike after [] (h ∷ hs) a = absurd a
 passed_alike after (g ∷ gs) [] a = absurd a
 
-next_alike : (after : Option (List ℕ)) (gs hs : List Generation) (base : List ℕ) → Alike gs hs → next_length after gs base ≡ next_length after hs base
+next_alike : (after : Option (List ℕ)) (gs hs : List Generation) (base : List ℕ) → Alike gs hs
+    → next_length after gs base ≡ next_length after hs base
 next_alike after [] [] base a = refl
 next_alike after (g ∷ gs) (h ∷ hs) base a =
     let rest = next_alike after gs hs base a.2 in
@@ -73,7 +78,8 @@ next_alike after (g ∷ gs) (h ∷ hs) base a =
 next_alike after [] (h ∷ hs) base a = absurd a
 next_alike after (g ∷ gs) [] base a = absurd a
 
-pub past_alike : (after : Option (List ℕ)) (gs hs : List Generation) → Alike gs hs → past after gs ≡ past after hs
+pub past_alike : (after : Option (List ℕ)) (gs hs : List Generation) → Alike gs hs
+    → past after gs ≡ past after hs
 past_alike after [] [] a = refl
 past_alike after (g ∷ gs) (h ∷ hs) a =
     let rest = past_alike after gs hs a.2 in
@@ -81,7 +87,8 @@ past_alike after (g ∷ gs) (h ∷ hs) a =
 past_alike after [] (h ∷ hs) a = absurd a
 past_alike after (g ∷ gs) [] a = absurd a
 
-has_alike : (suffix : List ℕ) (gs hs : List Generation) → Alike gs hs → has_generation suffix gs ≡ has_generation suffix hs
+has_alike : (suffix : List ℕ) (gs hs : List Generation) → Alike gs hs
+    → has_generation suffix gs ≡ has_generation suffix hs
 has_alike suffix [] [] a = refl
 has_alike suffix (g ∷ gs) (h ∷ hs) a =
     let rest = has_alike suffix gs hs a.2 in
@@ -92,12 +99,14 @@ has_alike suffix (g ∷ gs) [] a = absurd a
 -- ---- a suffix of the path
 
 -- a rotation's suffix comes after it
-newest_after : (after : Option (List ℕ)) (gs : List Generation) (suffix : List ℕ) → IsSuffixOf after gs
+newest_after : (after : Option (List ℕ)) (gs : List Generation) (suffix : List ℕ)
+    → IsSuffixOf after gs
     → list_all (λ g. text_lt g.suffix suffix) gs ≡ true → is_after after suffix ≡ true
 newest_after None gs suffix known all = refl
 newest_after (Some a) gs suffix known all = go gs known all
   where
-    go : (gs : List Generation) → has_generation a gs ≡ true → list_all (λ g. text_lt g.suffix suffix) gs ≡ true → text_lt a suffix ≡ true
+    go : (gs : List Generation) → has_generation a gs ≡ true
+        → list_all (λ g. text_lt g.suffix suffix) gs ≡ true → text_lt a suffix ≡ true
     go [] known all = absurd (true≢false (sym known))
     go (g ∷ gs) known all = pick (bytes_eq g.suffix a) refl known (go gs)
       where
@@ -105,11 +114,13 @@ newest_after (Some a) gs suffix known all = go gs known all
         parts = and_parts (text_lt g.suffix suffix) (list_all (λ g. text_lt g.suffix suffix) gs) all
 
         pick : (b : Bool) → bytes_eq g.suffix a ≡ b → (b || has_generation a gs) ≡ true
-            → (has_generation a gs ≡ true → list_all (λ g. text_lt g.suffix suffix) gs ≡ true → text_lt a suffix ≡ true) → text_lt a suffix ≡ true
+            → (has_generation a gs ≡ true → list_all (λ g. text_lt g.suffix suffix) gs ≡ true → text_lt a suffix ≡ true)
+            → text_lt a suffix ≡ true
         pick true e known rest = subst (λ t. text_lt t suffix ≡ true) (bytes_same g.suffix a e) parts.0
         pick false e known rest = rest known parts.1
 
-pub suffix_turned : (files : Files) (path : List ℕ) (old new : Log) (after : Option (List ℕ)) → LogTurn files path old new
+pub suffix_turned : (files : Files) (path : List ℕ) (old new : Log) (after : Option (List ℕ))
+    → LogTurn files path old new
     → IsSuffixOf after old.rotated → IsSuffixOf after new.rotated
 suffix_turned files path old new None turn known = tt
 suffix_turned files path old new (Some a) (as_it_was e) known = subst (λ (l : Log). IsSuffixOf (Some a) l.rotated) (sym e) known
@@ -128,7 +139,8 @@ record PlaceBy (start : ℕ) (gs : List Generation) (base : List ℕ) (l : Line)
   on : l.first ≤ l.offset
   within : l.offset ≤ l.first + next_length l.after gs base
 
-next_more : (after : Option (List ℕ)) (gs : List Generation) (base more : List ℕ) → next_length after gs base ≤ next_length after gs (base ++ more)
+next_more : (after : Option (List ℕ)) (gs : List Generation) (base more : List ℕ)
+    → next_length after gs base ≤ next_length after gs (base ++ more)
 next_more after [] base more = omega (arith, length-append base more)
 next_more after (g ∷ gs) base more = pick (is_after after g.suffix) (next_more after gs base more)
   where
@@ -137,14 +149,16 @@ next_more after (g ∷ gs) base more = pick (is_after after g.suffix) (next_more
     pick true rest = omega arith
     pick false rest = rest
 
-passed_turned : (after : Option (List ℕ)) (gs : List Generation) (g : Generation) → is_after after g.suffix ≡ true
+passed_turned : (after : Option (List ℕ)) (gs : List Generation) (g : Generation)
+    → is_after after g.suffix ≡ true
     → passed_by after (gs ++ g ∷ []) ≡ passed_by after gs
 passed_turned after [] g e = rw e refl
 passed_turned after (h ∷ gs) g e =
     let rest = passed_turned after gs g e in
     (λ i. if is_after after h.suffix then rest i else length h.bytes + rest i)
 
-next_turned : (after : Option (List ℕ)) (gs : List Generation) (g : Generation) (base : List ℕ) → is_after after g.suffix ≡ true
+next_turned : (after : Option (List ℕ)) (gs : List Generation) (g : Generation) (base : List ℕ)
+    → is_after after g.suffix ≡ true
     → next_length after (gs ++ g ∷ []) base ≡ next_length after gs g.bytes
 next_turned after [] g base e = rw e refl
 next_turned after (h ∷ gs) g base e =
@@ -155,11 +169,13 @@ module _ (files : Files) (path : List ℕ) (plain : Bool) (f : Founding) (start 
   abbrev At : Log → Type 0
   At log = PlaceBy start (rotated_since plain f log) log.base l
 
-  rotated_alike : (b : Bool) (suffix : List ℕ) (old : Log) → Alike (rotated_since b f (log_dropped suffix old)) (rotated_since b f old)
+  rotated_alike : (b : Bool) (suffix : List ℕ) (old : Log)
+      → Alike (rotated_since b f (log_dropped suffix old)) (rotated_since b f old)
   rotated_alike true suffix old = tt
   rotated_alike false suffix old = chosen_alike f.line.after f.rotated (marked suffix old.rotated) old.rotated (marked_alike suffix old.rotated)
 
-  place_turn : (old new : Log) → (IsRotatable files path → plain ≡ false) → length f.rotated ≤ length old.rotated → IsSuffixOf l.after old.rotated
+  place_turn : (old new : Log) → (IsRotatable files path → plain ≡ false)
+      → length f.rotated ≤ length old.rotated → IsSuffixOf l.after old.rotated
       → LogTurn files path old new → At old → At new
   place_turn old new may le known (as_it_was e) h = subst At (sym e) h
   place_turn old new may le known (grew bytes e) h =
@@ -191,7 +207,8 @@ module _ (files : Files) (path : List ℕ) (plain : Bool) (f : Founding) (start 
       (subst (λ gs. PlaceBy start gs [] l) (sym (chosen_more f.line.after f.rotated old.rotated g le)) now))
 
 -- a place that stands does so after every further legal step
-pub stands_on : (stamped : List (List ℕ)) (history : History) (step : Step) → Legal stamped (step ∷ history) → (s : Stream)
+pub stands_on : (stamped : List (List ℕ)) (history : History) (step : Step)
+    → Legal stamped (step ∷ history) → (s : Stream)
     → IsTrue (is_source s.source) → (l : Line) → Stands history s l → Stands (step ∷ history) s l
 stands_on stamped history step legal s known l h =
     let f = h.first in

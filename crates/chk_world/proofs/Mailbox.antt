@@ -24,7 +24,8 @@ use Rattle.chk_world.proofs.SentMessages.{message_stays}
 use Rattle.chk_world.proofs.TakenFronts.{taken_is_front}
 use Rattle.chk_world.proofs.ToldCalls.{who_self}
 
--- the call leaves this taker's messages alone: it is none on messages, or another process's that doesn't name the mailbox
+-- the call leaves this taker's messages alone: it is none on messages, or another process's that
+-- doesn't name the mailbox
 pub record IsApart (taker : Who) (step : Step) : Type 0 where
   pub elsewhere : names_self (deed step.act) ≡ false
   pub apart : (is_message step.act.call ≡ false) ⊎ (same_who taker step.act.who ≡ false)
@@ -37,7 +38,8 @@ is_talk (TakesMore t) = true
 is_talk (Answers t bytes) = true
 is_talk call = false
 
-talk_same : (call : Call) (words : List (List ℕ)) (number max : ℕ) → is_message call ≡ is_talk (deed_by call words number max)
+talk_same : (call : Call) (words : List (List ℕ)) (number max : ℕ)
+    → is_message call ≡ is_talk (deed_by call words number max)
 talk_same Start words number max = refl
 talk_same LogRead words number max = refl
 talk_same LogNewest words number max = refl
@@ -69,16 +71,19 @@ no_talk_elsewhere call e = refl
 quiet_talk : (step : Step) → is_message step.act.call ≡ false → is_talk (deed step.act) ≡ false
 quiet_talk step e = sym (talk_same step.act.call step.act.words step.act.number step.act.max) ∙ e
 
-pub quiet_apart : (taker : Who) (step : Step) → is_message step.act.call ≡ false → IsApart taker step
+pub quiet_apart : (taker : Who) (step : Step) → is_message step.act.call ≡ false
+    → IsApart taker step
 quiet_apart taker step e =
     record { elsewhere = no_talk_elsewhere (deed step.act) (quiet_talk step e); apart = inl e }
 
-pub foreign_apart : (taker : Who) (step : Step) → names_self (deed step.act) ≡ false → same_who taker step.act.who ≡ false → IsApart taker step
+pub foreign_apart : (taker : Who) (step : Step) → names_self (deed step.act) ≡ false
+    → same_who taker step.act.who ≡ false → IsApart taker step
 foreign_apart taker step e other = record { elsewhere = e; apart = inr other }
 
 -- ---- what waits
 
-waiting_same : (call : Deed) (answer : ActAnswer) (own : Bool) (ws : List ℕ) → names_self call ≡ false → (own ≡ false) ⊎ (ws ≡ [])
+waiting_same : (call : Deed) (answer : ActAnswer) (own : Bool) (ws : List ℕ)
+    → names_self call ≡ false → (own ≡ false) ⊎ (ws ≡ [])
     → waiting_in call answer own ws ≡ ws
 waiting_same Starts answer own ws elsewhere (inl other) = rw other refl
 waiting_same Starts answer true ws elsewhere (inr none) = sym none
@@ -89,7 +94,7 @@ waiting_same call answer own ws elsewhere h = refl
 
 -- ---- what was taken
 
--- the same taking, of which more may have been taken since
+-- b is the taking a, of which more may have been taken since
 pub record IsSameTaking (a b : Taken) : Type 0 where
   pub taker : b.taker ≡ a.taker
   pub door : b.door ≡ a.door
@@ -98,9 +103,11 @@ pub record IsSameTaking (a b : Taken) : Type 0 where
 -- a taking of the step was there before, or is the step's own at this door
 data CameFrom (history : History) (step : Step) (u : ℕ) (k : Taken) : Type 0 where
   earlier : (a : Taken) → taken history u ≡ Some a → IsSameTaking a k → CameFrom history step u k
-  here : (door : List ℕ) (wait : ℕ) → deed step.act ≡ Takes door wait → k.door ≡ door → CameFrom history step u k
+  here : (door : List ℕ) (wait : ℕ) → deed step.act ≡ Takes door wait → k.door ≡ door
+      → CameFrom history step u k
 
-more_same : (who : Who) (more : List ℕ) (o : Option Taken) (k : Taken) → with_more who more o ≡ Some k → (a : Taken) × (o ≡ Some a) × IsSameTaking a k
+more_same : (who : Who) (more : List ℕ) (o : Option Taken) (k : Taken)
+    → with_more who more o ≡ Some k → (a : Taken) × (o ≡ Some a) × IsSameTaking a k
 more_same who more None k e = absurd (none-some k e)
 more_same who more (Some a) k e = go (same_who who a.taker) e
   where
@@ -113,13 +120,15 @@ more_same who more (Some a) k e = go (same_who who a.taker) e
         let is = same_Some _ _ h in
         (a, refl, record { taker = ap (λ (t : Taken). t.taker) (sym is); door = ap (λ (t : Taken). t.door) (sym is); of = ap (λ (t : Taken). t.of) (sym is) })
 
-came_from : (history : History) (step : Step) (u : ℕ) (k : Taken) → taken (step ∷ history) u ≡ Some k → CameFrom history step u k
+came_from : (history : History) (step : Step) (u : ℕ) (k : Taken)
+    → taken (step ∷ history) u ≡ Some k → CameFrom history step u k
 came_from history step u k e = go (deed step.act) step.act.answer refl e
   where
     as_was : taken history u ≡ Some k → CameFrom history step u k
     as_was h = earlier k h (record { taker = refl; door = refl; of = refl })
 
-    go : (call : Deed) (answer : ActAnswer) → deed step.act ≡ call → taken_in u call answer step.act.who (taken history u) ≡ Some k
+    go : (call : Deed) (answer : ActAnswer) → deed step.act ≡ call
+        → taken_in u call answer step.act.who (taken history u) ≡ Some k
         → CameFrom history step u k
     go (Takes door wait) (Done (bytes ∷ words) number of) is h = pick (u == number) h
       where
@@ -129,14 +138,18 @@ came_from history step u k e = go (deed step.act) step.act.answer refl e
         pick false g = as_was g
     go (TakesMore n) (Done (bytes ∷ words) number of) is h = pick (u == n) h
       where
-        pick : (b : Bool) → (if b then with_more step.act.who bytes (taken history u) else taken history u) ≡ Some k → CameFrom history step u k
+        pick : (b : Bool)
+            → (if b then with_more step.act.who bytes (taken history u) else taken history u) ≡ Some k
+            → CameFrom history step u k
         pick true g = let x = more_same step.act.who bytes (taken history u) k g in earlier x.0 x.1 x.2
         pick false g = as_was g
     go call answer is h = as_was h
 
 -- a taking that there is stays the same one
-taken_stays : (stamped : List (List ℕ)) (history : History) (step : Step) → Legal stamped (step ∷ history) → (u : ℕ) (a : Taken)
-    → taken history u ≡ Some a → (k : Taken) × (taken (step ∷ history) u ≡ Some k) × IsSameTaking a k
+taken_stays : (stamped : List (List ℕ)) (history : History) (step : Step)
+    → Legal stamped (step ∷ history) → (u : ℕ) (a : Taken)
+    → taken history u ≡ Some a
+    → (k : Taken) × (taken (step ∷ history) u ≡ Some k) × IsSameTaking a k
 taken_stays stamped history step legal u a e = go (deed step.act) step.act.answer legal.1.honest.agrees
   where
     Stays : Deed → ActAnswer → Type 0
@@ -145,7 +158,8 @@ taken_stays stamped history step legal u a e = go (deed step.act) step.act.answe
     as_was : (k : Taken) × (taken history u ≡ Some k) × IsSameTaking a k
     as_was = (a, e, record { taker = refl; door = refl; of = refl })
 
-    go : (call : Deed) (answer : ActAnswer) → Agrees history step.act.who call answer → Stays call answer
+    go : (call : Deed) (answer : ActAnswer) → Agrees history step.act.who call answer
+        → Stays call answer
     go (Takes door wait) (Done (bytes ∷ words) number of) agrees = pick (u == number) refl
       where
         pick : (b : Bool) → (u == number) ≡ b
@@ -162,13 +176,15 @@ taken_stays stamped history step legal u a e = go (deed step.act) step.act.answe
             grows true = (_, refl, record { taker = refl; door = refl; of = refl })
             grows false = (a, refl, record { taker = refl; door = refl; of = refl })
 
-        pick : (b : Bool) → (k : Taken) × ((if b then with_more step.act.who bytes (taken history u) else taken history u) ≡ Some k) × IsSameTaking a k
+        pick : (b : Bool)
+            → (k : Taken) × ((if b then with_more step.act.who bytes (taken history u) else taken history u) ≡ Some k) × IsSameTaking a k
         pick true = more
         pick false = as_was
     go call answer agrees = as_was
 
 -- the takings of the message at the mailbox are no more than before
-no_new : (history : History) (step : Step) (m u : ℕ) (k : Taken) → names_self (deed step.act) ≡ false → taken (step ∷ history) u ≡ Some k
+no_new : (history : History) (step : Step) (m u : ℕ) (k : Taken)
+    → names_self (deed step.act) ≡ false → taken (step ∷ history) u ≡ Some k
     → IsTakingOf m k → (a : Taken) × (taken history u ≡ Some a) × IsTakingOf m a
 no_new history step m u k elsewhere e of = go (came_from history step u k e)
   where
@@ -192,12 +208,15 @@ abbrev SureIn : Who → History → ℕ → Type 0
 SureIn taker history m = (u : ℕ) (k : Taken) → taken history u ≡ Some k → IsTakingOf m k → same_who taker k.taker ≡ true
 
 -- an answer that was added isn't sure
-replies_same : (taker : Who) (history : History) (step : Step) (m : ℕ) → IsApart taker step → SureIn taker history m
-    → (P : List Reply → Type 0) → ((r : Reply) → is_sure r ≡ false → P (replies history m) → P (r ∷ replies history m))
+replies_same : (taker : Who) (history : History) (step : Step) (m : ℕ) → IsApart taker step
+    → SureIn taker history m
+    → (P : List Reply → Type 0)
+    → ((r : Reply) → is_sure r ≡ false → P (replies history m) → P (r ∷ replies history m))
     → P (replies history m) → P (replies (step ∷ history) m)
 replies_same taker history step m apart mine P more h = go (deed step.act) refl
   where
-    go : (call : Deed) → deed step.act ≡ call → P (replies_in m call step.act.who (is_done step.act.answer) history (replies history m))
+    go : (call : Deed) → deed step.act ≡ call
+        → P (replies_in m call step.act.who (is_done step.act.answer) history (replies history m))
     go (Answers t bytes) is = pick (same_role step.act.who.role Collector) refl (taken history t) refl
       where
         R : Option Taken → Reply
@@ -218,7 +237,8 @@ replies_same taker history step m apart mine P more h = go (deed step.act) refl
             }) in
             absurd (true≢false (sym sure ∙ (ap (same_who taker) (sym me) ∙ other)))
 
-        pick : (role : Bool) → same_role step.act.who.role Collector ≡ role → (o : Option Taken) → taken history t ≡ o
+        pick : (role : Bool) → same_role step.act.who.role Collector ≡ role → (o : Option Taken)
+            → taken history t ≡ o
             → P (if role && is_of step.act.who m o then R o ∷ replies history m else replies history m)
         pick false role o e = h
         pick true role None e = h
@@ -231,7 +251,8 @@ replies_same taker history step m apart mine P more h = go (deed step.act) refl
             both false by b of = h
     go call is = h
 
-surely_more : (answer : Option (List ℕ)) (rs : List Reply) (r : Reply) → is_sure r ≡ false → AreSurely answer rs → AreSurely answer (r ∷ rs)
+surely_more : (answer : Option (List ℕ)) (rs : List Reply) (r : Reply) → is_sure r ≡ false
+    → AreSurely answer rs → AreSurely answer (r ∷ rs)
 surely_more None rs r not_sure h = ap (λ b. b || list_any is_sure rs) not_sure ∙ h
 surely_more (Some reply) rs r not_sure h = (
   ap (λ b. b || list_any is_sure rs) not_sure ∙ h.0,
@@ -243,12 +264,15 @@ surely_more (Some reply) rs r not_sure h = (
 same_mine : (taker : Who) (k : Taken) → k.taker ≡ taker → same_who taker k.taker ≡ true
 same_mine taker k e = ap (same_who taker) e ∙ who_self taker
 
-pub empty_stays : (taker : Who) (history : History) (step : Step) → IsApart taker step → IsEmptyFor taker history → IsEmptyFor taker (step ∷ history)
+pub empty_stays : (taker : Who) (history : History) (step : Step) → IsApart taker step
+    → IsEmptyFor taker history → IsEmptyFor taker (step ∷ history)
 empty_stays taker history step apart h =
     waiting_same (deed step.act) step.act.answer (same_who taker step.act.who) (waiting taker history) apart.elsewhere (inr h) ∙ h
 
-pub in_hand_stays : (stamped : List (List ℕ)) (taker : Who) (m t : ℕ) (answer : Option (List ℕ)) (history : History) (step : Step)
-    → Legal stamped (step ∷ history) → IsApart taker step → IsInHand taker m t answer history → IsInHand taker m t answer (step ∷ history)
+pub in_hand_stays : (stamped : List (List ℕ)) (taker : Who) (m t : ℕ) (answer : Option (List ℕ))
+    (history : History) (step : Step)
+    → Legal stamped (step ∷ history) → IsApart taker step → IsInHand taker m t answer history
+    → IsInHand taker m t answer (step ∷ history)
 in_hand_stays stamped taker m t answer history step legal apart h =
     let now = taken_stays stamped history step legal t h.taking h.is_taken in
     record {
@@ -268,8 +292,10 @@ in_hand_stays stamped taker m t answer history step legal apart h =
         same_mine taker k (ap (λ (a : Taken). a.taker) is ∙ h.by)
 
 -- over the steps of others: a start of the taker's own would empty the mailbox
-pub waits_stays : (stamped : List (List ℕ)) (taker : Who) (m : ℕ) (bytes : List ℕ) (history : History) (step : Step)
-    → Legal stamped (step ∷ history) → names_self (deed step.act) ≡ false → same_who taker step.act.who ≡ false
+pub waits_stays : (stamped : List (List ℕ)) (taker : Who) (m : ℕ) (bytes : List ℕ)
+    (history : History) (step : Step)
+    → Legal stamped (step ∷ history) → names_self (deed step.act) ≡ false
+    → same_who taker step.act.who ≡ false
     → Waits taker m bytes history → Waits taker m bytes (step ∷ history)
 waits_stays stamped taker m bytes history step legal elsewhere other h = record {
   alone = waiting_same (deed step.act) step.act.answer (same_who taker step.act.who) (waiting taker history) elsewhere (inl other) ∙ h.alone;
@@ -284,7 +310,8 @@ waits_stays stamped taker m bytes history step legal elsewhere other h = record 
 -- ---- the message's own steps
 
 -- a message that isn't there has no answer
-no_replies : (stamped : List (List ℕ)) (history : History) → Legal stamped history → (m : ℕ) → message history m ≡ None → replies history m ≡ []
+no_replies : (stamped : List (List ℕ)) (history : History) → Legal stamped history → (m : ℕ)
+    → message history m ≡ None → replies history m ≡ []
 no_replies stamped [] legal m none = refl
 no_replies stamped (step ∷ history) legal m none = go (deed step.act) (no_replies stamped history legal.0 m (earlier_none (message history m) refl))
   where
@@ -292,13 +319,15 @@ no_replies stamped (step ∷ history) legal m none = go (deed step.act) (no_repl
     earlier_none None e = e
     earlier_none (Some w) e = absurd (none-some w (sym none ∙ message_stays stamped history step legal m w e))
 
-    go : (call : Deed) → replies history m ≡ [] → replies_in m call step.act.who (is_done step.act.answer) history (replies history m) ≡ []
+    go : (call : Deed) → replies history m ≡ []
+        → replies_in m call step.act.who (is_done step.act.answer) history (replies history m) ≡ []
     go (Answers t bytes) before = pick (same_role step.act.who.role Collector) refl (taken history t) refl
       where
         R : Option Taken → Reply
         R o = record { bytes = bytes; done = is_done step.act.answer; inside = is_inside o }
 
-        pick : (role : Bool) → same_role step.act.who.role Collector ≡ role → (o : Option Taken) → taken history t ≡ o
+        pick : (role : Bool) → same_role step.act.who.role Collector ≡ role → (o : Option Taken)
+            → taken history t ≡ o
             → (if role && is_of step.act.who m o then R o ∷ replies history m else replies history m) ≡ []
         pick false role o e = before
         pick true role None e = before
@@ -315,8 +344,10 @@ no_replies stamped (step ∷ history) legal m none = go (deed step.act) (no_repl
     go call before = before
 
 -- the message is sent
-pub sends_waits : (stamped : List (List ℕ)) (taker : Who) (m : ℕ) (bytes : List ℕ) (history : History) (step : Step) (words : List (List ℕ)) (number of : ℕ)
-    → Legal stamped (step ∷ history) → deed step.act ≡ Sends m self_address bytes → step.act.answer ≡ Done words number of
+pub sends_waits : (stamped : List (List ℕ)) (taker : Who) (m : ℕ) (bytes : List ℕ)
+    (history : History) (step : Step) (words : List (List ℕ)) (number of : ℕ)
+    → Legal stamped (step ∷ history) → deed step.act ≡ Sends m self_address bytes
+    → step.act.answer ≡ Done words number of
     → IsEmptyFor taker history → Waits taker m bytes (step ∷ history)
 sends_waits stamped taker m bytes history step words number of legal is answer empty =
     let sent : Message = record { sender = step.act.who; address = self_address; bytes = bytes; done = is_done step.act.answer } in
@@ -337,18 +368,22 @@ sends_waits stamped taker m bytes history step words number of legal is answer e
           ∙ ap (list_any is_sure) (no_replies stamped history legal.0 m fresh);
     }
   where
-    no_taking : (u : ℕ) (k : Taken) → taken history u ≡ Some k → IsTakingOf m k → message history m ≡ None → ⊥
+    no_taking : (u : ℕ) (k : Taken) → taken history u ≡ Some k → IsTakingOf m k
+        → message history m ≡ None → ⊥
     no_taking u k e t fresh =
         subst (λ o. IsFrontOf o k.bytes) (ap (message history) t.message ∙ fresh) (taken_is_front stamped history legal.0 u k e t.collector)
 
--- it is taken: the taking gives all of it
-pub record TakesWhole (taker : Who) (m : ℕ) (bytes : List ℕ) (words : List (List ℕ)) (number of : ℕ) (history : History) : Type 0 where
+-- the oldest message is taken, and the taking gives all of it
+pub record TakesWhole (taker : Who) (m : ℕ) (bytes : List ℕ) (words : List (List ℕ)) (number of : ℕ)
+    (history : History) : Type 0 where
   pub words_are : words ≡ bytes ∷ []
   pub of_is : of ≡ m
   pub in_hand : IsInHand taker m number None history
 
-pub takes_whole : (stamped : List (List ℕ)) (taker : Who) (m : ℕ) (bytes : List ℕ) (history : History) (step : Step) (wait : ℕ) (words : List (List ℕ)) (number of : ℕ)
-    → taker.role ≡ Collector → Legal stamped (step ∷ history) → step.act.who ≡ taker → deed step.act ≡ Takes self_address wait → step.act.answer ≡ Done words number of
+pub takes_whole : (stamped : List (List ℕ)) (taker : Who) (m : ℕ) (bytes : List ℕ)
+    (history : History) (step : Step) (wait : ℕ) (words : List (List ℕ)) (number of : ℕ)
+    → taker.role ≡ Collector → Legal stamped (step ∷ history) → step.act.who ≡ taker
+    → deed step.act ≡ Takes self_address wait → step.act.answer ≡ Done words number of
     → Waits taker m bytes history → TakesWhole taker m bytes words number of (step ∷ history)
 takes_whole stamped taker m bytes history step wait words number of role legal by is answer h = record {
   words_are = ordered.1;
@@ -384,10 +419,13 @@ takes_whole stamped taker m bytes history step wait words number of role legal b
     given : step.act.answer ≡ Done (bytes ∷ []) number of
     given = answer ∙ ap (λ ws. Done ws number of) ordered.1
 
-    by_call : (P : Deed → ActAnswer → Type 0) → P (Takes self_address wait) (Done (bytes ∷ []) number of) → P (deed step.act) step.act.answer
+    by_call : (P : Deed → ActAnswer → Type 0)
+        → P (Takes self_address wait) (Done (bytes ∷ []) number of)
+        → P (deed step.act) step.act.answer
     by_call P h = subst (λ call. P call step.act.answer) (sym is) (subst (P (Takes self_address wait)) (sym given) h)
 
-    as_call : (P : Deed → ActAnswer → Type 0) → P (deed step.act) step.act.answer → P (Takes self_address wait) (Done (bytes ∷ []) number of)
+    as_call : (P : Deed → ActAnswer → Type 0) → P (deed step.act) step.act.answer
+        → P (Takes self_address wait) (Done (bytes ∷ []) number of)
     as_call P h = subst (P (Takes self_address wait)) given (subst (λ call. P call step.act.answer) is h)
 
     emptied : (if bytes_eq self_address self_address then filter (λ n. not (n == of)) (waiting taker history) else waiting taker history) ≡ []
@@ -407,14 +445,17 @@ tail_false : (b c : Bool) → b || c ≡ false → c ≡ false
 tail_false true c e = absurd (true≢false e)
 tail_false false c e = e
 
-none_sure : (rs : List Reply) (bytes : List ℕ) → list_any is_sure rs ≡ false → WholeOfSure rs bytes → ⊥
+none_sure : (rs : List Reply) (bytes : List ℕ) → list_any is_sure rs ≡ false → WholeOfSure rs bytes
+    → ⊥
 none_sure [] bytes e w = w
 none_sure (r ∷ rs) bytes e (inl w) = true≢false (sym (ap (λ b. b || list_any is_sure rs) w.0) ∙ e)
 none_sure (r ∷ rs) bytes e (inr w) = none_sure rs bytes (tail_false (is_sure r) (list_any is_sure rs) e) w
 
--- it is answered
-pub answers_surely : (stamped : List (List ℕ)) (taker : Who) (m t : ℕ) (reply : List ℕ) (history : History) (step : Step) (words : List (List ℕ)) (number of : ℕ)
-    → Legal stamped (step ∷ history) → step.act.who ≡ taker → deed step.act ≡ Answers t reply → step.act.answer ≡ Done words number of
+-- the taken message is answered
+pub answers_surely : (stamped : List (List ℕ)) (taker : Who) (m t : ℕ) (reply : List ℕ)
+    (history : History) (step : Step) (words : List (List ℕ)) (number of : ℕ)
+    → Legal stamped (step ∷ history) → step.act.who ≡ taker → deed step.act ≡ Answers t reply
+    → step.act.answer ≡ Done words number of
     → IsInHand taker m t None history → IsInHand taker m t (Some reply) (step ∷ history)
 answers_surely stamped taker m t reply history step words number of legal by is answer h =
     record {
@@ -452,8 +493,10 @@ answers_surely stamped taker m t reply history step words number of legal by is 
     sure = (refl, λ bytes whole. elim whole [ inl now ↦ now.1 | inr later ↦ absurd (none_sure (replies history m) bytes h.answers later) ])
 
 -- what is got for it is the answer
-pub got_is : (taker : Who) (m t : ℕ) (reply bytes : List ℕ) (history : History) (step : Step) (words : List (List ℕ)) (number of : ℕ)
-    → Agrees history step.act.who (deed step.act) step.act.answer → deed step.act ≡ Gets m → step.act.answer ≡ Done (bytes ∷ words) number of
+pub got_is : (taker : Who) (m t : ℕ) (reply bytes : List ℕ) (history : History) (step : Step)
+    (words : List (List ℕ)) (number of : ℕ)
+    → Agrees history step.act.who (deed step.act) step.act.answer → deed step.act ≡ Gets m
+    → step.act.answer ≡ Done (bytes ∷ words) number of
     → IsInHand taker m t (Some reply) history → bytes ≡ reply
 got_is taker m t reply bytes history step words number of agrees is answer h =
     let got : GotAnswer (replies history m) bytes =

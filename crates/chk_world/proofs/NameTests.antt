@@ -9,14 +9,14 @@ use Rattle.chk_world.specs.Names.{Folder, ArchiveFolder, DemuxFolder, JoinedFold
 use Rattle.chk_world.proofs.Ends.{bytes_same, bytes_self}
 use Rattle.chk_world.proofs.NameLemmas.{read-spell, spell-read}
 
--- they are the same folder
+-- whether two folders are the same
 abbrev pub same_folder : Folder → Folder → Bool
 same_folder ArchiveFolder ArchiveFolder = true
 same_folder DemuxFolder DemuxFolder = true
 same_folder JoinedFolder JoinedFolder = true
 same_folder _ _ = false
 
--- they are the same name
+-- whether two names are the same
 abbrev pub same_name : Name → Name → Bool
 same_name (BornFile c) (BornFile d) = bytes_eq c d
 same_name (SinkFile x) (SinkFile y) = same_stem x y

@@ -167,7 +167,7 @@ module _ (x : Stem) (who : Who) (other : same_who (collector x) who ≡ false) w
   piece_test (Temporary n) piece = refl
   piece_test (OtherFile w) piece = refl
 
-  -- it writes nothing to the sink
+  -- another's call writes nothing to the sink
   pub others_write : (call : Deed) (answer : ActAnswer) (files : Files) → Framed who files call → written_by x call answer ≡ []
   others_write (Appends w piece) (Done words number of) files framed =
       piece_test (read w) piece ∙ ap (λ b. if b then piece else []) (away (read w) (and_parts (owns who (read w)) (not (is_fixed (read w))) framed).0).sink

@@ -23,9 +23,6 @@ abbrev pub seen : View → List ℕ → Seen
 seen v wr = record { born = v.born; made = v.made; current = v.current; wrote = wr }
 
 module _ (x : Stem) (v : View) (wr : List ℕ) (before : Files) where
-  abbrev nf : Named
-  nf n = file before n
-
   abbrev S : Option File
   S = file before (SinkFile x)
 

@@ -23,7 +23,8 @@ module _ (stamped : List (List ℕ)) (history : History) (legal : Legal stamped 
       ap (λ k. chunks_in (if k then file (files_after history) (SegmentFile ArchiveFolder g.number) else None))
       (counts_in (file (files_after history) (BookFile ArchiveFolder)) ((readable stamped history legal).books ArchiveFolder) g one)
 
-  pub own_archive_is : (s : Stream) → own_archive (sight history) s ≡ archive_of_stream (files_after history) s
+  pub own_archive_is : (s : Stream)
+      → own_archive (sight history) s ≡ archive_of_stream (files_after history) s
   own_archive_is s =
       ap (λ cs. values (chunks_of_stream s cs))
       (flat_same (λ (g : Segment). chunks_in (own_files (files_after history) (SegmentFile ArchiveFolder g.number))) (segment_chunks (files_after history) ArchiveFolder) b.segments

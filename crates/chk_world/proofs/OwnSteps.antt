@@ -81,10 +81,6 @@ module _ (x : Stem) (known : Known x) (v : View) (wr : List ℕ) (before after :
   not_written w piece (Rotated suffix) e = refl
   not_written w piece (Deleted suffix) e = refl
 
-  -- the word's file, by its name
-  at_word : (files : Files) (w : List ℕ) → files w ≡ file files (read w)
-  at_word files w = ap files (sym (spell-read w))
-
   -- an append of which the answer is done
   appends_done : (w piece : List ℕ) (words : List (List ℕ)) (number of : ℕ) → AppendsOnlyToCleanSink v before (read w) piece
       → ((n : List ℕ) → after n ≡ changed (Grown w piece) before n) → Before → After (Appends w piece) (Done words number of)
@@ -92,7 +88,7 @@ module _ (x : Stem) (known : Known x) (v : View) (wr : List ℕ) (before after :
       at_change x known (seen (own_view before after v (Appends w piece) (Done words number of)) (wr ++ written_by x (Appends w piece) (Done words number of))) (Grown w piece) before after e
       (append_at x v wr before (read w) (size_in (before w)) piece may inv)
 
-  -- one that wasn't done
+  -- an append that wasn't done
   appends_not : (w piece bytes : List ℕ) (answer : ActAnswer) → is_done answer ≡ false → AppendsOnlyToCleanSink v before (read w) piece
       → ((n : List ℕ) → after n ≡ changed (Grown w bytes) before n) → Before → After (Appends w piece) answer
   appends_not w piece bytes answer not_done may e inv =
@@ -182,9 +178,6 @@ module _ (x : Stem) (known : Known x) (v : View) (wr : List ℕ) (before after :
   idle (Says bytes) answer not_done e inv = looks (Says bytes) answer refl e inv
 
 module _ (x : Stem) (known : Known x) (v : View) (wr : List ℕ) (history : History) (after : Files) where
-  abbrev at_first : Files
-  at_first n = files_after history n
-
   -- a sink's collector owns no other's `born`
   own_born : (d : List ℕ) (n : Name) → n ≡ BornFile d → IsTrue (owns (collector x) n) → d ≡ x.collector
   own_born d n is h = sym (bytes_same x.collector d (subst (λ n. IsTrue (owns (collector x) n)) is h))

@@ -1,10 +1,10 @@
 -- A fact of what a process sees and of its own files stays over steps of others.
-use Rattle.std.proofs.Common.{◌≡◌, ℕ, false, List, [], ◌∷◌, ◌++◌, Option, sym, subst, ◌∙◌}
+use Rattle.std.proofs.Common.{◌≡◌, ℕ, false, List, ◌∷◌, Option, sym, subst, ◌∙◌}
 use Rattle.std.specs.Prelude.{IsTrue, codes}
 use Rattle.chk_site.specs.declared.acts.Role.TheVariants.{Agent, Collector, Job}
 use Rattle.chk_site.specs.declared.acts.Who.{Who}
 use Rattle.chk_site.specs.Files.{File}
-use Rattle.chk_site.specs.History.{Step, History, Every, is_stopped}
+use Rattle.chk_site.specs.History.{Step, History, is_stopped}
 use Rattle.chk_world.specs.Names.{Name}
 use Rattle.chk_world.specs.Rules.{Legal}
 use Rattle.chk_world.specs.Places.{Foreign, AtTold, Place, SeenAt, IsPlace, Leaves, collector_at, agent_at, job_at}
@@ -39,14 +39,6 @@ told_stays stamped who B stays history step theirs f h =
       may_act = λ running. start_stays stamped who history step f ∙ h.may_act (was running);
       alive = λ running. stays history step h.legal f (h.alive (was running));
     }
-
--- steps of other processes, also of this site's own
-pub every_stays : (stamped : List (List ℕ)) (who : Who) (B : History → Type 0) → Stays stamped who B → (added history : History)
-    → Every (Foreign stamped who) added history → Legal stamped history → B history → Legal stamped (added ++ history) × B (added ++ history)
-every_stays stamped who B stays [] history f legal h = (legal, h)
-every_stays stamped who B stays (step ∷ added) history f legal h =
-    let earlier = every_stays stamped who B stays added history f.0 legal h in
-    ((earlier.0, f.1.obeys), stays (added ++ history) step earlier.0 f.1 earlier.1)
 
 leaves_place : {V : Type 0} (p : Place V) → ((stamped : List (List ℕ)) → SightStays stamped p) → Leaves p
 leaves_place p sight stamped history step test place theirs f h =

@@ -24,7 +24,7 @@ use Rattle.chk_world.specs.Committed.{OnFile, IsWhole}
 use Rattle.chk_world.specs.Collectors.{CollectorRule, view}
 use Rattle.chk_world.specs.Agents.{AgentRule}
 use Rattle.chk_world.specs.Jobs.{JobRule}
-use Rattle.chk_world.specs.Rules.{Framed, OnlyWritersGrowLogs, OnlyAgentsRequest, WriterRule, RoleMay, Legal, RenameFits, is_small, is_named_so, is_sink, is_fixed, may_remove}
+use Rattle.chk_world.specs.Rules.{Framed, OnlyWritersGrowLogs, OnlyAgentsPost, WriterRule, RoleMay, Legal, RenameFits, is_small, is_named_so, is_sink, is_fixed, may_remove}
 use Rattle.chk_world.specs.Places.{As, AtTold, Place, SeenAt, AtPlace, IsPlace}
 use Rattle.chk_world.proofs.NameLemmas.{read-spell}
 use Rattle.chk_world.proofs.NameTests.{same_name, name_self, named, applied, moved_named}
@@ -43,7 +43,7 @@ pub record Target {V : Type 0} (stamped : List (List ℕ)) (who : Who) (sees : H
   pub small : is_small n ≡ true
   pub apart_next : same_name a (Temporary n) ≡ false
 
--- the same of a fact that stays for another reason
+-- the files of a replacement, where what is known of them stays for a reason that is told apart
 pub record Aim {V : Type 0} (who : Who) (sees : History → V) (a n : Name) : Type 0 where
   pub place : IsPlace (around who sees a n)
   pub small : is_small n ≡ true
@@ -120,7 +120,7 @@ module _ (stamped : List (List ℕ)) (n : Name) (w : List ℕ) (reads : read w �
   next_framed who before call mine (on_append bytes) = subst (λ m. IsTrue (owns who m && not (is_fixed m))) (sym reads) (and_from _ _ mine refl)
   next_framed who before call mine on_sync = subst (λ m. IsTrue (owns who m)) (sym reads) mine
 
-  next_asks : (role : Role) (call : Deed) → OnNext w call → OnlyAgentsRequest role call
+  next_asks : (role : Role) (call : Deed) → OnNext w call → OnlyAgentsPost role call
   next_asks Agent call on = tt
   next_asks Collector call on_remove = tt
   next_asks Collector call on_create = tt
@@ -181,12 +181,12 @@ module _ (stamped : List (List ℕ)) (n : Name) (w : List ℕ) (reads : read w �
     rule = next_rule step.act.who.role history step on;
   }
 
--- and so is its rename, where the role's rule allows that
+-- the rename of a small file's next content to it fits
 rename_fits : (before : Files) (n : Name) → is_small n ≡ true → OnFile (file before (Temporary n)) IsWhole → RenameFits before (Temporary n) n
 rename_fits before n small sound =
     rw (small_no_sink n small, small) (refl, sound)
 
-rename_asks : (role : Role) (old new : List ℕ) → OnlyAgentsRequest role (Renames old new)
+rename_asks : (role : Role) (old new : List ℕ) → OnlyAgentsPost role (Renames old new)
 rename_asks Agent old new = tt
 rename_asks Collector old new = tt
 rename_asks Job old new = tt
@@ -467,7 +467,7 @@ replaced stamped who sees a n target name bytes e F R G known {result = result} 
     replaced_by stamped who sees a n (record { place = target.place; small = target.small; apart_next = target.apart_next }) (tmp name) name bytes
     (next_word name n e) e F R G known (λ U. seen_stays stamped (around who sees a n) (Next F U) target.place target.sight) script
 
--- the same of a fact that stays for another reason
+-- A small file is replaced, and a fact stays for a reason that is told apart.
 pub replaced_on : {V : Type 0} (stamped : List (List ℕ)) (who : Who) (sees : History → V) (a n : Name) → Aim who sees a n
     → (name bytes : List ℕ) → name ≡ spell n
     → (F : V → Option File → Option File → Type 0) (R : V → Type 0) (G : V → Option File → Option File → Option File → Type 0)

@@ -74,7 +74,7 @@ answer_stays stamped history step legal n bytes t = record {
   of_poll = λ acks good address stems poll. committed_stays history step acks (t.of_poll acks good address stems poll);
 }
 
--- and so of each front of the bytes
+-- what the bytes tell as a good reply each front of them tells
 pub front_tells : (history : History) (n : ℕ) (bytes front : List ℕ) → BeginsWith bytes front → AnswerTells history n bytes → AnswerTells history n front
 front_tells history n bytes front begins t = record {
   m = t.m;
@@ -96,8 +96,8 @@ line_is a stem small = and_from (is_stem a.stem) (nat_lt a.number limit) stem (i
     is_less : (m n : ℕ) → m < n → nat_lt m n ≡ true
     is_less m n h = grind (arith, h)
 
--- so each line of an append that stands
-told_are : (history : History) (chunks : List Chunk) (acks : List Ack) (ws : List Appended) → TellAll chunks acks ws → AllStand history ws
+-- lines that tell of appends that stand can be spelled
+pub told_are : (history : History) (chunks : List Chunk) (acks : List Ack) (ws : List Appended) → TellAll chunks acks ws → AllStand history ws
     → list_all is_ack acks ≡ true
 told_are history [] [] ws tells all = refl
 told_are history [] (a ∷ acks) ws tells all = absurd tells

@@ -1,16 +1,14 @@
 -- The report of a run whose listing showed no sink under writing is that of a complete run.
-use Rattle.std.proofs.Common.{◌≡◌, ℕ, ◌+◌, true, List, [], ◌∷◌, length, Option, Some, None, ap, sym, subst, ◌∙◌, refl, MatchBool}
+use Rattle.std.proofs.Common.{◌≡◌, ℕ, ◌+◌, true, List, ◌∷◌, length, Option, Some, None, ap, sym, subst, ◌∙◌, refl, MatchBool}
 use Rattle.std.specs.Prelude.{IsTrue, Any}
-use Rattle.std.proofs.lemmas.Option.{none-some}
 use Rattle.chk_site.specs.declared.acts.Role.TheVariants.{Job}
 use Rattle.chk_site.specs.declared.acts.ActAnswer.TheVariants.{Done}
 use Rattle.chk_site.specs.Files.{Files, changed}
 use Rattle.chk_site.specs.Acts.{Says, deed, change_of, same_role}
 use Rattle.chk_site.specs.History.{Step, History, files_after}
-use Rattle.chk_chunk.specs.Keys.{Stream, Covers}
+use Rattle.chk_chunk.specs.Keys.{Covers}
 use Rattle.chk_chunk.specs.Reach.{IsReach}
-use Rattle.chk_world.specs.Checkpoints.{Line, line_of}
-use Rattle.chk_world.specs.Streams.{Founding, founding, founded_by, or_else, start_at, start_of}
+use Rattle.chk_world.specs.Streams.{start_of}
 use Rattle.chk_world.specs.Committed.{archive_of_stream}
 use Rattle.chk_world.specs.ArchiveRuns.{Listing, listing_by, last_listing, unclosed_in, found, end_before, report, is_report, HasReached, IsArchiveRun}
 use Rattle.chk_world.specs.Jobs.{JobRule, ReportIsTrue, RanSo, TrueReport}
@@ -18,28 +16,8 @@ use Rattle.chk_world.specs.Rules.{Legal, RoleMay}
 use Rattle.chk_world.specs.Laws.{IsComplete, ReportsAreTrue}
 use Rattle.chk_world.proofs.Commits.{done_tails}
 
--- a stream that has not begun has no line
-no_line : (history : History) (s : Stream) → founding history s ≡ None → line_of (files_after history) s ≡ None
-no_line [] s e = refl
-no_line (step ∷ history) s e = go (founding history s) (line_of step.files s) e
-  where
-    go : (o : Option Founding) (l : Option Line) → or_else o (founded_by l (step.logs s.name)) ≡ None → l ≡ None
-    go o None e = refl
-    go None (Some l) e = absurd (none-some (record { line = l; rotated = (step.logs s.name).rotated }) (sym e))
-    go (Some f) (Some l) e = absurd (none-some f (sym e))
-
 -- the step leaves the files as they were
 module _ (history : History) (step : Step) (same : ◌≡◌ {A = Files} step.files (files_after history)) where
-  same_start : (s : Stream) → start_of (step ∷ history) s ≡ start_of history s
-  same_start s = go (founding history s) refl
-    where
-      go : (o : Option Founding) → founding history s ≡ o → start_of (step ∷ history) s ≡ start_of history s
-      go (Some f) e = ap (λ o. start_at (or_else o (founded_by (line_of step.files s) (step.logs s.name)))) e ∙ sym (ap start_at e)
-      go None e =
-          let none : line_of step.files s ≡ None = ap (λ files. line_of files s) same ∙ no_line history s e in
-          ap (λ o. start_at (or_else o (founded_by (line_of step.files s) (step.logs s.name)))) e
-          ∙ (ap (λ l. start_at (founded_by l (step.logs s.name))) none ∙ sym (ap start_at e))
-
   still_reached : (l : Listing) → HasReached history l → HasReached (step ∷ history) l
   still_reached l reached s =
       subst (λ files. IsReach (λ o. Any (Covers s o) (found l)) (end_before history l s) (start_of l.upto s + length (archive_of_stream files s)))

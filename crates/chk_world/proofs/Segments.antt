@@ -168,9 +168,6 @@ segment_owner Collector name folder k h = absurd (true≢false (sym h))
 segment_owner Writer name folder k h = absurd (true≢false (sym h))
 
 module _ (folder : Folder) (k : ℕ) (who : Who) (before : Files) (is : is_named before (SegmentFile folder k) ≡ true) where
-  abbrev Seg : Name
-  Seg = SegmentFile folder k
-
   -- a name that the process may change, and that the job leaves where it is named
   apart : (m : Name) → (same_name (SegmentFile folder k) m ≡ true → IsTrue (owns who m)) → (who.role ≡ Job → is_named before m ≡ false)
       → same_name (SegmentFile folder k) m ≡ false
@@ -227,7 +224,7 @@ pub record NewlyPublished (stamped : List (List ℕ)) (folder : Folder) (history
   pub from : read old ≡ Temporary (BookFile folder)
   pub to : read new ≡ BookFile folder
 
--- it is as it was, or a good new one
+-- the book is as it was, or a good new one
 pub record BookAfter (stamped : List (List ℕ)) (folder : Folder) (history : History) (step : Step) (o : Option File) : Type 0 where
   pub sound : OnFile o IsWhole
   pub outcome : (o ≡ file (files_after history) (BookFile folder)) ⊎ NewlyPublished stamped folder history step o

@@ -21,12 +21,14 @@ use Rattle.chk_world.proofs.SightStays.{WasDone, is_done_still, is_gone, was_don
 use Rattle.chk_world.proofs.Lifts.{with_own, lift_reads, lift_writes}
 
 -- the job's own files
-pub own_spared : (stamped : List (List ℕ)) (n : Name) → IsOwn job n → (before : History) (step : Step) → Legal stamped before → Foreign stamped job before step
+pub own_spared : (stamped : List (List ℕ)) (n : Name) → IsOwn job n
+    → (before : History) (step : Step) → Legal stamped before → Foreign stamped job before step
     → SparesFile (spell n) before step
 own_spared stamped n own before step legal f = files_stay stamped job before step n f own
 
 -- a sink that was done
-pub done_spared : (stamped : List (List ℕ)) (x : Stem) → IsTrue (is_stem x) → (before : History) (step : Step) → Legal stamped before → Foreign stamped job before step
+pub done_spared : (stamped : List (List ℕ)) (x : Stem) → IsTrue (is_stem x)
+    → (before : History) (step : Step) → Legal stamped before → Foreign stamped job before step
     → WasDone before x → SparesFile (spell (DoneFile x)) before step
 done_spared stamped x known before step legal f (is_gone g) = (stays_gone stamped before step (legal, f.obeys) x known g).done ∙ sym g.done
 done_spared stamped x known before step legal f (is_done_still d there) =
@@ -38,26 +40,33 @@ done_spared stamped x known before step legal f (is_done_still d there) =
 
 -- ---- so a call that reads a done sink, or a file of the job's own, is one over legal histories
 
-pub reads_done : (stamped : List (List ℕ)) (P : Sight → Type 0) (x : Stem) → IsTrue (is_stem x) → (A B : History → Type 0) {old new : Option History}
-    → Adds old new (Leads (anyhow (SparesFile (spell (DoneFile x)))) A B) → Adds old new (Every (IsOf ReadsFile))
+pub reads_done : (stamped : List (List ℕ)) (P : Sight → Type 0) (x : Stem) → IsTrue (is_stem x)
+    → (A B : History → Type 0) {old new : Option History}
+    → Adds old new (Leads (anyhow (SparesFile (spell (DoneFile x)))) A B)
+    → Adds old new (Every (IsOf ReadsFile))
     → Adds old new (Leads (As stamped job) (λ h. AtJob stamped P h × WasDone h x × A h) (λ h. AtJob stamped P h × WasDone h x × B h))
 reads_done stamped P x known A B raw own =
     lift_reads stamped P (λ h. WasDone h x) (SparesFile (spell (DoneFile x))) A B
     (λ before step legal q. was_done_stays stamped before step legal x known q)
     (λ before step legal q f. done_spared stamped x known before step legal f q) raw own
 
-pub reads_own : (stamped : List (List ℕ)) (P : Sight → Type 0) (n : Name) → IsOwn job n → (A B : History → Type 0) {old new : Option History}
-    → Adds old new (Leads (anyhow (SparesFile (spell n))) A B) → Adds old new (Every (IsOf ReadsFile))
+pub reads_own : (stamped : List (List ℕ)) (P : Sight → Type 0) (n : Name) → IsOwn job n
+    → (A B : History → Type 0) {old new : Option History}
+    → Adds old new (Leads (anyhow (SparesFile (spell n))) A B)
+    → Adds old new (Every (IsOf ReadsFile))
     → Adds old new (Leads (As stamped job) (λ h. AtJob stamped P h × Unit {0} × A h) (λ h. AtJob stamped P h × Unit {0} × B h))
 reads_own stamped P n mine A B raw own =
     lift_reads stamped P (λ h. Unit {0}) (SparesFile (spell n)) A B (λ before step legal q. tt)
     (λ before step legal q f. own_spared stamped n mine before step legal f) raw own
 
--- and one that writes a segment that no book names
-pub writes_segment : (stamped : List (List ℕ)) (P : Sight → Type 0) (folder : Folder) (k : ℕ) → IsTrue (is_known (SegmentFile folder k)) → (A B : History → Type 0) {old new : Option History}
+-- What the job knows of all but a segment that no book names stays over a call that writes that
+-- segment.
+pub writes_segment : (stamped : List (List ℕ)) (P : Sight → Type 0) (folder : Folder) (k : ℕ)
+    → IsTrue (is_known (SegmentFile folder k)) → (A B : History → Type 0) {old new : Option History}
     → ((history : History) → P (sight history) → is_named (files_after history) (SegmentFile folder k) ≡ false)
     → ((v : Sight) (o : Option File) → P v → P (with_own v (SegmentFile folder k) o))
-    → Adds old new (Leads (anyhow (SparesFile (spell (SegmentFile folder k)))) A B) → Adds old new (Every (IsOf (WritesTo (spell (SegmentFile folder k)))))
+    → Adds old new (Leads (anyhow (SparesFile (spell (SegmentFile folder k)))) A B)
+    → Adds old new (Every (IsOf (WritesTo (spell (SegmentFile folder k)))))
     → Adds old new (Leads (As stamped job) (λ h. AtJob stamped P h × Unit {0} × A h) (λ h. AtJob stamped P h × Unit {0} × B h))
 writes_segment stamped P folder k known A B unnamed free raw own =
     lift_writes folder k known (spell (SegmentFile folder k)) (read-spell (SegmentFile folder k) known) stamped P (λ h. Unit {0}) (SparesFile (spell (SegmentFile folder k))) A B

@@ -18,7 +18,7 @@ checkpoint_so text lines h =
     let s = spelling-Some (are_lines v) (checkpoint_text v) (guessed_lines (behind_first (parts_at 10 text))) lines text h in
     (v, s.1, s.2)
 
--- the same lines in another version that fits them
+-- lines that one version can spell another one can, where it fits them
 refit : (v w : Version) (lines : List Line) → list_all (fits_version w) lines ≡ true → IsTrue (are_lines v lines)
     → IsTrue (are_lines w lines)
 refit v w lines fit h =

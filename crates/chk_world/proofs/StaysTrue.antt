@@ -43,7 +43,7 @@ pub record IsFoundedChunk (history : History) (c : Chunk) : Type 0 where
   pub is_true : IsTrueChunk history c
   pub sent : WasSent history c
 
--- its data has a byte, and doesn't begin before the stream's start
+-- a chunk's data has a byte, and doesn't begin before the stream's start
 pub record HasRoom (c : Chunk) : Type 0 where
   pub some : 0 < length c.value
   pub low : c.key.start + length c.value ≤ c.key.seq

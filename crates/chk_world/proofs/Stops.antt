@@ -89,7 +89,7 @@ no_tail who (l ∷ left) n known mine none = go (no_tail who left n known mine) 
     go rest true e k = absurd (true≢false k)
     go rest false e k = here e (bytes_eq (spell n) l.name) refl ∙ rest k
 
--- and it can't leave one of a done sink
+-- a stop can't leave a tail of a done sink
 pub done_untailed : (x : Stem) (known : Known x) (s : Seen) (who : Who) (files : Files) (call : Deed) (left : List Left) (middle after : Files)
     → Framed who files call
     → ((w : List ℕ) → (after w ≡ option_map (with_tail (tail_of left w)) (middle w)) × TailFits (in_work call w) (tail_of left w) (middle w))

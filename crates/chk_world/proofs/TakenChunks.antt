@@ -22,7 +22,7 @@ use Rattle.chk_world.specs.Checkpoints.{Line, line_of}
 use Rattle.chk_world.specs.Streams.{Founding, founding, founded_by, or_else}
 use Rattle.chk_world.specs.Agents.{AgentRule}
 use Rattle.chk_world.specs.Collectors.{View, Handling, new_view, no_more_newest, with_bytes, with_answer, with_sync, with_appends, handled_after, view_after, view}
-use Rattle.chk_world.specs.Rules.{Legal, RoleMay, OnlyAgentsRequest, is_named_so}
+use Rattle.chk_world.specs.Rules.{Legal, RoleMay, OnlyAgentsPost, is_named_so}
 use Rattle.chk_world.proofs.Forms.{post_valid}
 use Rattle.chk_world.proofs.Law.{who_same}
 use Rattle.chk_world.proofs.ToldCalls.{who_self}
@@ -33,7 +33,7 @@ use Rattle.chk_world.proofs.StaysTrue.{SendsChunk, IsFoundedChunk, founded_after
 abbrev pub PostsTrue : History → List ℕ → Type 0
 PostsTrue history bytes = (chunks : List Chunk) → IsPostOf chunks bytes → (c : Chunk) → Contains chunks c → IsFoundedChunk history c
 
--- and so of each front of the bytes
+-- each chunk of a post that a front of the bytes begins with is a true one
 abbrev pub FrontsTrue : History → List ℕ → Type 0
 FrontsTrue history bytes = (front : List ℕ) → BeginsWith bytes front → PostsTrue history front
 
@@ -84,13 +84,13 @@ agent_sends stamped history step legal k address bytes agent named call (inr p) 
 send_true : (stamped : List (List ℕ)) (history : History) (step : Step) → Legal stamped (step ∷ history) → (k : ℕ) (address bytes : List ℕ)
     → deed step.act ≡ Sends k address bytes → FrontsTrue (step ∷ history) bytes
 send_true stamped history step legal k address bytes is =
-    go step.act.who.role refl (subst (OnlyAgentsRequest step.act.who.role) is legal.1.requests)
+    go step.act.who.role refl (subst (OnlyAgentsPost step.act.who.role) is legal.1.requests)
   where
     none : ¬ ((chunks : List Chunk) × IsPostOf chunks bytes) → FrontsTrue (step ∷ history) bytes
     none never front begins chunks post c one =
         absurd (never (chunks, (post.0, subst (PostRequest post.0) (sym begins.1) (PostRequest-append post.0 front begins.0 post.1), post.2)))
 
-    go : (role : Role) → step.act.who.role ≡ role → OnlyAgentsRequest role (Sends k address bytes) → FrontsTrue (step ∷ history) bytes
+    go : (role : Role) → step.act.who.role ≡ role → OnlyAgentsPost role (Sends k address bytes) → FrontsTrue (step ∷ history) bytes
     go Agent r never =
         agent_sends stamped history step legal k address bytes r (subst (λ role. IsTrue (is_named_so role step.act.who.name)) r legal.1.named) is
         (subst (AgentRule step.act.who history step) is (subst (λ role. RoleMay stamped role history step) r legal.1.rule))
@@ -217,7 +217,7 @@ module _ (stamped : List (List ℕ)) (history : History) (legal : Legal stamped 
     posts_true = subst (PostsTrue history) (sym (b h)) now.posts_true;
   }
 
-  -- and what the process itself does
+  -- what the process has taken is true after each call of its own
   own : (call : Deed) (answer : ActAnswer) (after : Files) → Agrees history me call answer → (hs : List Handling) → AllOf Now hs
       → AllOf (Then call answer me) (handled_after call answer after hs)
   own (Takes door wait) (Done (bytes ∷ words) number of) after agrees hs all = (

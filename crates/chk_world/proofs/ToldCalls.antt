@@ -1,5 +1,5 @@
 -- What a call of a process's own leads to, where the told history is legal and a fact holds.
-use Rattle.std.proofs.Common.{◌≡◌, ℕ, Bool, true, false, List, [], ◌∷◌, ◌++◌, Ok, Err, Option, Result, sym, subst, ◌∙◌, refl, true≢false}
+use Rattle.std.proofs.Common.{◌≡◌, ℕ, Bool, true, false, List, [], ◌∷◌, ◌++◌, Ok, Option, Result, sym, subst, ◌∙◌, refl, true≢false}
 use Rattle.std.specs.Prelude.{IsTrue, MatchBool, Some, None}
 use Rattle.std.proofs.lemmas.Bool.{and_right}
 use Rattle.std.proofs.lemmas.List.{append_cancel_right}
@@ -10,7 +10,7 @@ use Rattle.chk_site.specs.declared.acts.Who.{Who}
 use Rattle.chk_site.specs.declared.acts.Call.{Call}
 use Rattle.chk_site.specs.declared.acts.Call.TheVariants.{Start, Send, Take, More, Answer}
 use Rattle.chk_site.specs.declared.acts.CallFault.{CallFault}
-use Rattle.chk_site.specs.declared.acts.CallFault.TheVariants.{Failed, Exists}
+use Rattle.chk_site.specs.declared.acts.CallFault.TheVariants.{Failed}
 use Rattle.chk_site.specs.declared.acts.OutsideFault.{OutsideFault}
 use Rattle.chk_site.specs.declared.acts.OutsideFault.TheVariants.{Outside, NoMemory as no_memory}
 use Rattle.chk_site.specs.declared.acts.ActAnswer.{ActAnswer}
@@ -24,8 +24,8 @@ use Rattle.chk_site.specs.Honest.{Honest}
 use Rattle.chk_site.specs.Site.{Adds, Asked, asked, own_step, answered, plain, Calls, CallsSome, IsDone, Ends, WasDone, IsTaken, Took}
 use Rattle.chk_site.specs.Runs.{Side, Leads}
 use Rattle.chk_site.proofs.Runs.{adds_as}
-use Rattle.chk_site.proofs.Leads.{Keeps, Owned, Shows, done_leads, ok_leads, exists_leads, taken_leads, ends_leads}
-use Rattle.chk_world.specs.Rules.{Framed, OnlyWritersGrowLogs, OnlyAgentsRequest, StartsAfterStop, RoleMay, Obeys, Legal, is_named_so, must_start, starts_anew, stopped_by}
+use Rattle.chk_site.proofs.Leads.{Keeps, Owned, Shows, done_leads, ok_leads, taken_leads, ends_leads}
+use Rattle.chk_world.specs.Rules.{Framed, OnlyWritersGrowLogs, OnlyAgentsPost, StartsAfterStop, RoleMay, Obeys, Legal, is_named_so, must_start, starts_anew, stopped_by}
 use Rattle.chk_world.specs.Places.{Foreign, As, Making, IsBy, IsMadeBy, AtTold, is_message}
 use Rattle.chk_world.proofs.Ends.{bytes_self}
 use Rattle.chk_world.proofs.Outcomes.{CameTo, Leaves, went_on, was_stopped}
@@ -35,7 +35,7 @@ use Rattle.chk_world.proofs.PlacesStay.{Stays, told_stays}
 pub record Allowed (stamped : List (List ℕ)) (history : History) (step : Step) : Type 0 where
   pub own_files : Framed step.act.who (files_after history) (deed step.act)
   pub logs : OnlyWritersGrowLogs step.act.who.role (deed step.act)
-  pub requests : OnlyAgentsRequest step.act.who.role (deed step.act)
+  pub requests : OnlyAgentsPost step.act.who.role (deed step.act)
   pub rule : RoleMay stamped step.act.who.role history step
 
 -- an answer that is no stop
@@ -105,7 +105,7 @@ module _ (stamped : List (List ℕ)) (q : Asked) (named : IsTrue (is_named_so q.
   MayCall B = (before : History) (answer : ActAnswer) (files : Files) (logs : Logs) → Legal stamped before → B before
       → Allowed stamped before (own_step q answer files logs)
 
-  -- the same, where the step is honest
+  -- the rules allow the call wherever B holds and the step is honest
   abbrev pub MayHonestly : (History → Type 0) → Type 0
   MayHonestly B = (before : History) (answer : ActAnswer) (files : Files) (logs : Logs)
       → Honest before (own_step q answer files logs) → Legal stamped before → B before → Allowed stamped before (own_step q answer files logs)
@@ -216,13 +216,6 @@ module _ (stamped : List (List ℕ)) (q : Asked) (named : IsTrue (is_named_so q.
   told_ok B C answer stays may goes left told =
       ok_leads answer owned (told_keeps B stays) (told_shows B C (λ a. a ≡ answer) answer goes refl may left) told
 
-  -- the creation of a file that is there
-  pub told_exists : (B C : History → Type 0) {old new : Option History} → Stays stamped q.who B → MayCall B
-      → LeavesCall B (λ a. a ≡ Refused Exists) C → Adds old new (Calls q (Err Exists))
-      → Adds old new (Leads (Making stamped q.who q.call) (Told B) (Told C))
-  told_exists B C stays may left told =
-      exists_leads owned (told_keeps B stays) (told_shows B C (λ a. a ≡ Refused Exists) (Refused Exists) tt refl may left) told
-
   -- a call that ended the work: it failed, the site was stopped, or there was no memory
   pub honest_ends : (B : History → Type 0) (C : OutsideFault → History → Type 0) {V : Type 0} (how : V → ActAnswer) (given : Result V CallFault)
       (fault : OutsideFault) {old new : Option History} → Stays stamped q.who B → MayHonestly B
@@ -250,11 +243,11 @@ pub calls_start : (stamped : List (List ℕ)) (role : Role) (history : History) 
 calls_start stamped role history step is call = record {
   own_files = subst (Framed step.act.who (files_after history)) (sym call) tt;
   logs = subst (OnlyWritersGrowLogs step.act.who.role) (sym call) tt;
-  requests = subst (λ r. OnlyAgentsRequest r (deed step.act)) (sym is) (subst (OnlyAgentsRequest role) (sym call) (asks role));
+  requests = subst (λ r. OnlyAgentsPost r (deed step.act)) (sym is) (subst (OnlyAgentsPost role) (sym call) (asks role));
   rule = subst (λ r. RoleMay stamped r history step) (sym is) (rule role);
 }
   where
-    asks : (role : Role) → OnlyAgentsRequest role Starts
+    asks : (role : Role) → OnlyAgentsPost role Starts
     asks Agent = tt
     asks Collector = tt
     asks Job = tt

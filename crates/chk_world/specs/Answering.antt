@@ -1,4 +1,5 @@
--- What an agent keeps of what it sent and got, until a chunk is acknowledged and its checkpoint may pass it.
+-- What an agent keeps of what it sent and got, until a chunk is acknowledged and its checkpoint may
+-- pass it.
 use Rattle.std.specs.Prelude.{◌≡◌, ◌⊎◌, ℕ, ◌≤◌, ◌<◌, IsTrue, List, Any, Option, Some, None, MatchBool, Contains, find}
 use Rattle.chk_bytes.specs.Stems.{Stem}
 use Rattle.chk_control.specs.Classes.{is_plain}
@@ -65,7 +66,8 @@ pub record GoesOn (mine : List Step) (history : History) (s : Stream) (old new :
 pub record Begins (mine : List Step) (s : Stream) (new : Line) : Type 0 where
   pub first : new.first ≡ new.start
   pub offset : new.offset ≡ new.start
-  pub after : MatchBool (is_plain new.class) (new.after ≡ None) (last_newest s.name mine ≡ Some new.after)
+  pub after : MatchBool (is_plain new.class) (new.after ≡ None)
+      (last_newest s.name mine ≡ Some new.after)
 
 -- the line by the old one of its stream
 abbrev pub GoesOnOrBegins : List Step → History → Stream → Option Line → Line → Type 0
@@ -76,4 +78,5 @@ GoesOnOrBegins mine history s (Some old) new = GoesOn mine history s old new
 pub record LinesGoOn (who : Who) (old new : List Line) (history : History) : Type 0 where
   pub none_lost : (l : Line) → Contains old l → Any (λ m. IsTrue (same_log l m)) new
   pub each : (l : Line) → Contains new l
-      → GoesOnOrBegins (since_start who history) history (stream_of who.name l) (find (is_line_of (stream_of who.name l)) old) l
+      → GoesOnOrBegins (since_start who history) history (stream_of who.name l)
+      (find (is_line_of (stream_of who.name l)) old) l

@@ -96,7 +96,7 @@ once (c ∷ cs) = c ∷ filter (λ d. not (same_data c d)) (once cs)
 abbrev pub end_before : History → Listing → Stream → ℕ
 end_before history l s = start_of l.upto s + length (archive_of_stream (files_after l.upto) s)
 
--- and after it, counted from the same start
+-- the end of a stream's archive after the run, counted from the start that the stream had before it
 abbrev pub end_since : History → Listing → Stream → ℕ
 end_since history l s = start_of l.upto s + length (archive_of_stream (files_after history) s)
 

@@ -225,7 +225,7 @@ segment_chunks files folder g = chunks_in (file files (SegmentFile folder g.numb
 abbrev pub chunks_named : Files → Folder → Book → List Chunk
 chunks_named files folder b = flat_map (segment_chunks files folder) b.segments
 
--- those of one stream
+-- the chunks of one stream
 abbrev pub chunks_of_stream : Stream → List Chunk → List Chunk
 chunks_of_stream s chunks = filter (is_of s) chunks
 

@@ -76,11 +76,11 @@ is_line l =
     && (nat_le l.start l.first && (nat_le l.first l.offset && (nat_lt l.offset limit
     && (not (is_plain l.class) || (is_absent l.after && nat_eq l.first l.start)))))))))
 
--- they have one type and path
+-- both lines have one type and path
 abbrev pub same_log : Line → Line → Bool
 same_log l m = bytes_eq l.kind m.kind && bytes_eq l.path m.path
 
--- they can't stand in one checkpoint
+-- both lines can't stand in one checkpoint
 abbrev pub clash : Line → Line → Bool
 clash l m = same_log l m || (l.live && (m.live && bytes_eq l.name m.name))
 

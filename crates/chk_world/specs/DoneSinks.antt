@@ -23,11 +23,14 @@ pub record RemovesDone (step : Step) (x : Stem) : Type 0 where
   pub of : read word ≡ DoneFile x
   pub by : IsTrue (same_role step.act.who.role Job)
 
--- a legal step leaves a done sink as it is, but for the job's removal of it; and what is gone doesn't come again
+-- a legal step leaves a done sink as it is, but for the job's removal of it; and what is gone
+-- doesn't come again
 pub record DoneStays (history : History) (step : Step) (x : Stem) : Type 0 where
-  pub stays : (f : File) → file (files_after history) (DoneFile x) ≡ Some f → (RemovesDone step x → ⊥)
+  pub stays : (f : File) → file (files_after history) (DoneFile x) ≡ Some f
+      → (RemovesDone step x → ⊥)
       → file step.files (DoneFile x) ≡ Some f
-  pub goes : (f : File) → file (files_after history) (DoneFile x) ≡ Some f → file step.files (DoneFile x) ≡ None
+  pub goes : (f : File) → file (files_after history) (DoneFile x) ≡ Some f
+      → file step.files (DoneFile x) ≡ None
       → IsGone (step ∷ history) x
   pub gone : IsGone history x → IsGone (step ∷ history) x
 
@@ -44,5 +47,6 @@ IsDoneName name n = (x : Stem) × (n ≡ DoneFile x) × (name ≡ stem_text x ++
 abbrev pub ClosedAreDone : Type 0
 ClosedAreDone =
     (stamped : List (List ℕ)) (history : History) → Legal stamped history
-    → (name : List ℕ) → IsTrue (is_closed name) → (f : File) → files_after history (sink_path name) ≡ Some f
+    → (name : List ℕ) → IsTrue (is_closed name) → (f : File)
+    → files_after history (sink_path name) ≡ Some f
     → IsDoneName name (read (sink_path name))

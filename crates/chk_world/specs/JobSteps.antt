@@ -28,8 +28,8 @@ pub data ReadsFile : Deed → Type 0 where
 abbrev pub IsOf : (Deed → Type 0) → History → Step → Type 0
 IsOf K before step = IsTheirs before step ⊎ (IsOwnStep before step × K (deed step.act))
 
--- the step leaves the file of this name as it is. (A sync of a done sink by its collector touches it and leaves it so; that is
--- why it isn't asked that the step doesn't touch it.)
+-- the step leaves the file of this name as it is. (A sync of a done sink by its collector touches
+-- it and leaves it so; that is why it isn't asked that the step doesn't touch it.)
 abbrev pub SparesFile : List ℕ → History → Step → Type 0
 SparesFile name before step = step.files name ≡ files_after before name
 

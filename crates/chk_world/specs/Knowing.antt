@@ -37,8 +37,9 @@ pub record Knows (source cluster : List ℕ) (lines : List Line) (F : History �
   pub lines_are : checkpoint_lines (files_after history) source ≡ lines
   pub holds : F history
 
--- so it is in the told history, where the site wasn't stopped
-abbrev pub Told : List (List ℕ) → List ℕ → List ℕ → List Line → (History → Type 0) → History → Type 0
+-- the told history is legal, and where the site wasn't stopped the agent knows this of it
+abbrev pub Told : List (List ℕ) → List ℕ → List ℕ → List Line → (History → Type 0) → History
+    → Type 0
 Told stamped source cluster lines F history = AtTold stamped (agent source) (Knows source cluster lines F) history
 
 -- The chunk of so many bytes of the stream from the place on, with this value.
@@ -48,9 +49,11 @@ pub record IsChunkFrom (s : Stream) (l : Line) (value : List ℕ) (c : Chunk) : 
   pub seq : c.key.seq ≡ l.offset + length value
   pub value_is : c.value ≡ value
 
--- After a read that gave a piece, of which so many bytes are taken: the place behind them stands, so does each chunk of them, and the
--- place behind a generation that the piece ended.
+-- After a read that gave a piece, of which so many bytes are taken: the place behind them stands,
+-- so does each chunk of them, and the place behind a generation that the piece ended.
 pub record AfterRead (s : Stream) (l : Line) (piece : Piece) (n : ℕ) (history : History) : Type 0 where
   pub place : Stands history s (moved l n)
-  pub chunk : (c : Chunk) → IsTrue (is_chunk c) → IsChunkFrom s l (take n piece.bytes) c → ChunkStands history c
-  pub end : (suffix : List ℕ) → piece.ended ≡ Some suffix → Stands history s (passed l suffix (length piece.bytes))
+  pub chunk : (c : Chunk) → IsTrue (is_chunk c) → IsChunkFrom s l (take n piece.bytes) c
+      → ChunkStands history c
+  pub end : (suffix : List ℕ) → piece.ended ≡ Some suffix
+      → Stands history s (passed l suffix (length piece.bytes))

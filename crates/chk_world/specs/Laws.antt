@@ -122,7 +122,7 @@ pub record HasReadableFiles (files : Files) : Type 0 where
       → OnFile (file files (CheckFile source)) IsCheckpointFile
   pub books : (folder : Folder) → OnFile (file files (BookFile folder)) IsWholeBook
 
--- so it is after every legal history
+-- after every legal history the checkpoints and books can be read
 abbrev pub OwnFilesAreRead : Type 0
 OwnFilesAreRead =
     (stamped : List (List ℕ)) (history : History) → Legal stamped history → HasReadableFiles (files_after history)
@@ -139,7 +139,7 @@ pub record ArchiveGrows (history : History) (step : Step) (s : Stream) : Type 0 
   pub grows : BeginsWith (archive_of_stream step.files s) (archive_of_stream (files_after history) s)
   pub end : archived_end history s ≤ archived_end (step ∷ history) s
 
--- so does each legal step
+-- each legal step keeps every stream's archive, and may add to it
 abbrev pub ArchivesOnlyGrow : Type 0
 ArchivesOnlyGrow =
     (stamped : List (List ℕ)) (history : History) (step : Step) → Legal stamped (step ∷ history)
@@ -260,7 +260,7 @@ pub record IsOfLog (history : History) (c : Chunk) : Type 0 where
   pub founded : founding history c.key.stream ≡ Some first
   pub is_true : IsTrueChunk history c
 
--- so it is of each chunk that is kept, and of each of a done sink or set aside
+-- each chunk that is kept, and each of a done sink or set aside, is of its stream's log
 pub record HasTrueChunks (history : History) : Type 0 where
   pub kept : (c : Chunk) → IsKept (files_after history) c → IsOfLog history c
   pub sources : (c : Chunk) → IsSource (files_after history) c → IsOfLog history c

@@ -15,12 +15,13 @@ pub mod Places
 pub mod Together
 pub mod Mailbox
 pub mod Spelled
-pub mod Examples
 pub mod Standing
 pub mod Reading
 pub mod Answering
+pub mod NamedEnds
 pub mod Knowing
 pub mod TrueBooks
 pub mod DoneSinks
 pub mod Sight
 pub mod JobSteps
+pub mod Works

@@ -1,5 +1,5 @@
--- One message on its way through the mailbox inside a process: it waits, is taken whole, is answered, and its sender gets
--- the answer whole.
+-- One message on its way through the mailbox inside a process: it waits, is taken whole, is
+-- answered, and its sender gets the answer whole.
 use Rattle.std.specs.Prelude.{◌≡◌, ℕ, true, false, List, [], ◌∷◌, Option, Some, None}
 use Rattle.std.specs.List.{list_any}
 use Rattle.chk_site.specs.declared.acts.Role.TheVariants.{Collector}

@@ -42,7 +42,8 @@ pub record IsMadeBy (who : Who) (before : History) (step : Step) : Type 0 where
   pub by : step.act.who ≡ who
   pub running : is_stopped before ≡ false
 
--- and it leaves the messages alone
+-- what is promised of a step of the site's own that leaves the messages alone: it is by this process, and was made while the
+-- site wasn't stopped
 pub record IsBy (who : Who) (before : History) (step : Step) : Type 0 where
   pub by : step.act.who ≡ who
   pub running : is_stopped before ≡ false
@@ -135,7 +136,7 @@ Leaves {V} p =
     → AtPlace stamped p (λ v a b c. IsTrue (test v a b c)) history
     → AtPlace stamped p (λ v a b c. IsTrue (test v a b c)) (step ∷ history)
 
--- so it is for every collector, every agent and the job
+-- a step of others leaves the place of every collector, of every agent and of the job
 pub record OthersLeavePlaces : Type 0 where
   pub collectors : (name : List ℕ) (a b c : Name)
       → Leaves (collector_at (record { role = Collector; name = name }) a b c)

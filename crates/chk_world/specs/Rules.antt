@@ -103,10 +103,10 @@ OnlyWritersGrowLogs role (GrowsLog path piece) = IsTrue (same_role role Writer)
 OnlyWritersGrowLogs role call = Unit {0}
 
 -- no message that a collector, the job or a writer sends begins with a post of chunks; other requests are anyone's
-abbrev pub OnlyAgentsRequest : Role → Deed → Type 0
-OnlyAgentsRequest Agent call = Unit {0}
-OnlyAgentsRequest role (Sends m address bytes) = ¬ ((chunks : List Chunk) × IsPostOf chunks bytes)
-OnlyAgentsRequest role call = Unit {0}
+abbrev pub OnlyAgentsPost : Role → Deed → Type 0
+OnlyAgentsPost Agent call = Unit {0}
+OnlyAgentsPost role (Sends m address bytes) = ¬ ((chunks : List Chunk) × IsPostOf chunks bytes)
+OnlyAgentsPost role call = Unit {0}
 
 -- no checkpoint has a line that reads this path's base file alone
 abbrev pub IsRotatable : Files → List ℕ → Type 0
@@ -144,7 +144,7 @@ pub record Obeys (stamped : List (List ℕ)) (history : History) (step : Step) :
   pub starts : StartsAfterStop step.act.who history (deed step.act)
   pub own_files : Framed step.act.who (files_after history) (deed step.act)
   pub logs : OnlyWritersGrowLogs step.act.who.role (deed step.act)
-  pub requests : OnlyAgentsRequest step.act.who.role (deed step.act)
+  pub requests : OnlyAgentsPost step.act.who.role (deed step.act)
   pub rule : RoleMay stamped step.act.who.role history step
 
 -- each step obeys its rule

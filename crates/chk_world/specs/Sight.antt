@@ -1,4 +1,5 @@
--- What the job knows of the told history: its last listing, all its own files, and the done sinks of that listing.
+-- What the job knows of the told history: its last listing, all its own files, and the done sinks
+-- of that listing.
 use Rattle.std.specs.Prelude.{◌≡◌, ℕ, Bool, true, false, ◌&&◌, List, ◌∷◌, ◌++◌, bytes_eq, codes, flat_map, Option, Some, None, if◌then◌else◌}
 use Rattle.std.specs.List.{list_any}
 use Rattle.chk_bytes.specs.Stems.{Stem, is_stem, stem_text}

@@ -20,12 +20,12 @@ IsSuffixOf (Some suffix) gs = IsTrue (has_generation suffix gs)
 abbrev pub shown_as : Generation → Shown
 shown_as g = record { suffix = Some g.suffix; bytes = g.bytes }
 
--- those past a suffix
+-- the generations past a suffix
 abbrev pub past : Option (List ℕ) → List Generation → List Shown
 past after [] = []
 past after (g ∷ gs) = if is_after after g.suffix then shown_as g ∷ past after gs else past after gs
 
--- those of them that aren't deleted
+-- the generations past a suffix that aren't deleted
 abbrev pub open_past : Option (List ℕ) → List Generation → List Shown
 open_past after [] = []
 open_past after (g ∷ gs) =
@@ -35,7 +35,8 @@ open_past after (g ∷ gs) =
 abbrev pub ShowsLog : History → Stream → Option (List ℕ) → Type 0
 ShowsLog history s after = open_past after (logs_after history s.name).rotated ≡ past after (parts_of history s).rotated
 
--- the stream has begun, the place is a true one at which a reader may stop, and its suffix is one of the path's
+-- the stream has begun, the place is a true one at which a reader may stop, and its suffix is one
+-- of the path's
 pub record Stands (history : History) (s : Stream) (l : Line) : Type 0 where
   pub first : Founding
   pub founded : founding history s ≡ Some first

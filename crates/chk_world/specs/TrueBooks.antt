@@ -30,4 +30,5 @@ archived_chunks history s =
 abbrev pub ArchivesRun : Type 0
 ArchivesRun =
     (stamped : List (List ℕ)) (history : History) → Legal stamped history → (s : Stream)
-    → Run (start_of history s) (start_of history s) (archived_chunks history s) (archived_end history s)
+    → Run (start_of history s) (start_of history s) (archived_chunks history s)
+    (archived_end history s)

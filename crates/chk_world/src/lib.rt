@@ -3,14 +3,14 @@
 #![tactic(auto)]
 
 ghost use Rattle.chk_world.specs.DoneSinks.{ClosedAreDone, DoneSinksStay};
-ghost use Rattle.chk_world.specs.Examples.{NoPremiseIsEmpty};
 ghost use Rattle.chk_world.specs.Laws.{AcknowledgedIsSaved, ArchivesAreFronts, ArchivesOnlyGrow, CheckpointsMoveOn};
 ghost use Rattle.chk_world.specs.Laws.{CheckpointsAreSaved, CommitsAfterAppend, RunsCoverCheckpoints};
 ghost use Rattle.chk_world.specs.Laws.{KeptAreTrue, ReportsAreTrue};
 ghost use Rattle.chk_world.specs.Laws.{KeptStaysKept, LogsOnlyGrow, NamedSegmentsAreSound, OwnFilesAreRead};
 ghost use Rattle.chk_world.specs.Laws.{PassedIsAcknowledged, ReachedIsSaved, RunsTakeAllSaved, SinksHaveShape};
+ghost use Rattle.chk_world.specs.NamedEnds.{NamedEndsAreCommitted};
 ghost use Rattle.chk_world.specs.Places.{OthersLeavePlaces};
-ghost use Rattle.chk_world.specs.Reading.{ChunksStand, GenerationsRise, ReadsGiveLog};
+ghost use Rattle.chk_world.specs.Reading.{ChunksStand, GenerationsRise, ReadsFindEnd, ReadsGiveLog};
 ghost use Rattle.chk_world.specs.Rounds.{RoundsAreWhole};
 ghost use Rattle.chk_world.specs.Standing.{LinesStand, PlacesStand};
 ghost use Rattle.chk_world.specs.Sight.{OthersLeaveSight};
@@ -32,7 +32,7 @@ pub fn checkpoints_and_books_are_read()
 
 /// A law: what the files of a sink look like in every legal history. In particular the program's
 /// own numbers are never damaged there, and each record of a done sink is a chunk.
-pub fn sinks_have_shape()
+pub fn law_shape()
     ensures { SinksHaveShape }
 {}
 
@@ -72,6 +72,12 @@ pub fn generations_rise()
 /// A law: a read at a true place at or past a checkpoint's line gives the stream's log from there on.
 pub fn reads_give_log()
     ensures { ReadsGiveLog }
+{}
+
+/// A law: where a read at a true place at or past a checkpoint's line ends no generation, and no place comes behind its
+/// own among the bytes asked for at which the reader may stop, the stream's whole log ends at that place.
+pub fn reads_find_end()
+    ensures { ReadsFindEnd }
 {}
 
 /// A law: a true chunk that ends where a reader may stop stays so over every legal step.
@@ -117,7 +123,7 @@ pub fn others_leave_sight()
 {}
 
 /// A law: no legal step loses what a kept chunk covers, but where it is archived.
-pub fn kept_stays_kept()
+pub fn law_kept()
     ensures { KeptStaysKept }
 {}
 
@@ -127,7 +133,7 @@ pub fn archives_only_grow()
 {}
 
 /// A law: in every legal history the archive of each stream is a front of its log.
-pub fn archives_are_fronts()
+pub fn law_prefix()
     ensures { ArchivesAreFronts }
 {}
 
@@ -145,6 +151,14 @@ pub fn reached_is_saved()
 /// A law: what is acknowledged to the agent of a stream is kept or archived.
 pub fn acknowledged_is_saved()
     ensures { AcknowledgedIsSaved }
+{}
+
+/// A law: where all of each sink under writing of a collector is committed, as it is after a tick that was done, each
+/// end that the collector named in a good reply to a post is at or below its sink's committed length, or was until the
+/// job removed the done sink. Excepted are sinks that the collector cut or removed while they were under writing, as
+/// it does with one that it abandoned after a failure or as too large, and those behind a stop that named a file of it.
+pub fn named_ends_are_committed()
+    ensures { NamedEndsAreCommitted }
 {}
 
 /// A law: in every legal history each byte below each checkpoint is kept or archived.
@@ -172,12 +186,12 @@ pub fn runs_take_all_saved()
 
 /// A law: after a complete archive run the archive holds every byte up to each checkpoint, as that stood at the
 /// listing.
-pub fn runs_cover_checkpoints()
+pub fn law_covered()
     ensures { RunsCoverCheckpoints }
 {}
 
 /// A law: after a round of a stream the archive is the whole log that was read, byte for byte.
-pub fn rounds_are_whole()
+pub fn law_round()
     ensures { RoundsAreWhole }
 {}
 
@@ -185,11 +199,4 @@ pub fn rounds_are_whole()
 /// step of others that obeys its rule and is no stop that names a file of it.
 pub fn others_leave_places()
     ensures { OthersLeavePlaces }
-{}
-
-/// A law: there is a legal history of a whole round, from a collector's start to the removal of an
-/// archived sink and the report of that run; at its middle the log is kept and not yet acknowledged,
-/// and later it is; and there is one in which a stop leaves a false tail that the next start cuts off.
-pub fn no_premise_is_empty()
-    ensures { NoPremiseIsEmpty }
 {}

@@ -1,5 +1,0 @@
-use Rattle.chk_world.proofs.Law.{shape}
-use Rattle.chk_world.proofs.sinks_have_shape.Goals as goal
-
-pub returns : goal.returns
-returns c = shape
