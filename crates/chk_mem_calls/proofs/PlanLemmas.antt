@@ -5,32 +5,33 @@ use Rattle.chk_site.specs.declared.acts.Who.{Who}
 use Rattle.chk_site.specs.declared.acts.Call.{Call}
 use Rattle.chk_site.specs.declared.acts.ActAnswer.{ActAnswer}
 use Rattle.chk_site.specs.Acts.{deed_by, is_stop}
-use Rattle.chk_site.specs.History.{History}
 use Rattle.chk_site.specs.Honest.{Agrees}
 use Rattle.chk_site.specs.Site.{Asked, asked}
+use Rattle.chk_mem_store.specs.State.{State}
+use Rattle.chk_mem_store.specs.Told.{told_of}
 use Rattle.chk_mem_calls.specs.declared.plan.Planned.{Planned}
 use Rattle.chk_mem_calls.specs.Plans.{LosesNothing, Plans, act_of, planned_as}
 
 -- the call was done with an answer that says its value
 pub plans_done : {T E : Type 0} (result : Result (Planned T) E) (who : Who) (call : Call) (words words' : List (List ℕ)) (number max : ℕ)
-    (how : T → ActAnswer) (history : History) (answer : ActAnswer) (value : T)
+    (how : T → ActAnswer) (s : State) (answer : ActAnswer) (value : T)
     → IfOk result (λ p. p ≡ planned_as (act_of (asked who call words number max) answer) (Ok value))
-    → words ≡ words' → answer ≡ how value → Agrees history who (deed_by call words' number max) (how value)
-    → LosesNothing history who (deed_by call words' number max) (how value) → is_stop (how value) ≡ false → IfOk result (Plans (asked who call words' number max) how history)
-plans_done (Err e) who call words words' number max how history answer value is same says agrees loses runs = tt
-plans_done (Ok p) who call words words' number max how history answer value is same says agrees loses runs =
+    → words ≡ words' → answer ≡ how value → Agrees (told_of s.kept) who (deed_by call words' number max) (how value)
+    → LosesNothing s.repeats.numbers (told_of s.kept) who (deed_by call words' number max) (how value) → is_stop (how value) ≡ false → IfOk result (Plans (asked who call words' number max) how s)
+plans_done (Err e) who call words words' number max how s answer value is same says agrees loses runs = tt
+plans_done (Ok p) who call words words' number max how s answer value is same says agrees loses runs =
     let q = asked who call words' number max in
     let act_is = ap (λ (w : List (List ℕ)). planned_as (act_of (asked who call w number max) answer) (Ok value)) same in
-    subst (Plans q how history) (sym (is ∙ act_is)) (record {
+    subst (Plans q how s) (sym (is ∙ act_is)) (record {
       act_is = refl;
-      agrees = subst (Agrees history who (deed_by call words' number max)) (sym says) agrees;
-      loses = subst (LosesNothing history who (deed_by call words' number max)) (sym says) loses;
+      agrees = subst (Agrees (told_of s.kept) who (deed_by call words' number max)) (sym says) agrees;
+      loses = subst (LosesNothing s.repeats.numbers (told_of s.kept) who (deed_by call words' number max)) (sym says) loses;
       answers = says;
       runs = ap is_stop says ∙ runs;
     })
 
 -- the same by a number that is known only now
-pub plans_some : {T E : Type 0} (result : Result (Planned T) E) (n : ℕ) (q : ℕ → Asked) (how : ℕ → T → ActAnswer) (history : History)
-    → IfOk result (Plans (q n) (how n) history) → IfOk result (λ planned. (n : ℕ) × Plans (q n) (how n) history planned)
-plans_some (Err e) n q how history plans = tt
-plans_some (Ok p) n q how history plans = (n, plans)
+pub plans_some : {T E : Type 0} (result : Result (Planned T) E) (n : ℕ) (q : ℕ → Asked) (how : ℕ → T → ActAnswer) (s : State)
+    → IfOk result (Plans (q n) (how n) s) → IfOk result (λ planned. (n : ℕ) × Plans (q n) (how n) s planned)
+plans_some (Err e) n q how s plans = tt
+plans_some (Ok p) n q how s plans = (n, plans)

@@ -123,22 +123,22 @@ in_order h who door repeated box words of is order = by (bytes_eq door self_addr
     by false same = tt
 
 -- a taking from a mailbox agrees with the history and loses nothing
-pub record FollowsRules (h : History) (who : Who) (door : List ℕ) (words : List (List ℕ)) (number of : ℕ) : Type 0 where
+pub record FollowsRules (repeated : List ℕ) (h : History) (who : Who) (door : List ℕ) (words : List (List ℕ)) (number of : ℕ) : Type 0 where
   pub agrees : AtTake h who door words number of
-  pub loses : TakesOldest h who door words of
+  pub loses : TakesOldest repeated h who door words of
 
 pub none_taken : (h : History) (who : Who) (door repeated : List ℕ) (box : Mailbox) → IsMailbox who door repeated box
-    → IsNext h (waits box h) None → FollowsRules h who door [] 0 0
+    → IsNext h (waits box h) None → FollowsRules repeated h who door [] 0 0
 none_taken h who door repeated box is none =
     let order = none_order h (waits box h) none in
     record {
       agrees = (tt, in_order h who door repeated box [] 0 is order);
-      loses = record { repeated = repeated; box = box; at = is; oldest = order };
+      loses = record { box = box; at = is; oldest = order };
     }
 
 pub some_taken : (h : History) (who : Who) (door repeated : List ℕ) (box : Mailbox) (letter : Letter) (taking : Taking)
     → IsMailbox who door repeated box → IsNext h (waits box h) (Some letter) → IsTaking h letter taking
-    → FollowsRules h who door (taking.bytes ∷ []) taking.number letter.number
+    → FollowsRules repeated h who door (taking.bytes ∷ []) taking.number letter.number
 some_taken h who door repeated box letter taking is oldest takes =
     let order = next_order h (waits box h) letter taking oldest takes in
     record {
@@ -146,7 +146,7 @@ some_taken h who door repeated box letter taking is oldest takes =
         next_taken h who (waits box h) letter taking oldest takes,
         in_order h who door repeated box (taking.bytes ∷ []) letter.number is order,
       );
-      loses = record { repeated = repeated; box = box; at = is; oldest = order };
+      loses = record { box = box; at = is; oldest = order };
     }
 
 -- the message is there

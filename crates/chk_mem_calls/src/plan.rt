@@ -6,7 +6,6 @@ ghost use Rattle.chk_site.specs.declared.acts.ActAnswer.{ActAnswer as Answer};
 ghost use Rattle.chk_site.specs.declared.acts.ActAnswer.TheVariants.{Done, Refused};
 ghost use Rattle.chk_site.specs.Site.{Asked, asked};
 ghost use Rattle.chk_mem_calls.specs.Plans.{Plans, act_of, planned_as};
-ghost use Rattle.chk_mem_store.specs.Told.{told_of};
 
 use chk_bytes::{Bytes, NoMemory};
 use chk_mem_store::Keeper;
@@ -35,7 +34,7 @@ pub trait Question {
 
     /// The act that answers it in this state.
     fn plan(&self, alloc: Global, keeper: &Keeper) -> Result<Planned<Self::Gives>, NoMemory>
-        ensures plans { IfOk result (Plans (asks self.now) says (told_of keeper.now.kept)) }
+        ensures plans { IfOk result (Plans (asks self.now) says keeper.now) }
         ensures may { IfOk result (λ planned. may self.now planned.gives) };
 
     ghost may_fail: { (question : Self) → may question (Err Failed) };
@@ -58,7 +57,7 @@ pub trait Numbered {
 
     /// The act that answers it in this state.
     fn plan(&self, alloc: Global, keeper: &Keeper) -> Result<Planned<Self::Gives>, NoMemory>
-        ensures plans { IfOk result (λ planned. (n : ℕ) × Plans (asks self.now n) (says n) (told_of keeper.now.kept) planned) }
+        ensures plans { IfOk result (λ planned. (n : ℕ) × Plans (asks self.now n) (says n) keeper.now planned) }
         ensures may { IfOk result (λ planned. may self.now planned.gives) };
 
     ghost may_fail: { (question : Self) → may question (Err Failed) };

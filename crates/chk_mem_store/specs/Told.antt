@@ -18,11 +18,6 @@ pub record Kept : Type 0 where
   pub own : Bool
   pub act : Act
 
--- what a site in memory tells: its acts, the oldest first, and how often a call has failed
-pub record Memory : Type 0 where
-  pub kept : List Kept
-  pub faults : ℕ
-
 -- an act, kept as own or not
 abbrev pub kept_as : Bool → Act → Kept
 kept_as own act = record { own = own; act = act }

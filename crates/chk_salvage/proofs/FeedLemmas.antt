@@ -3,6 +3,7 @@ use Rattle.std.proofs.Common.{◌≡◌, ◌≢◌, ℕ, ◌+◌, ◌-◌, ◌^�
 use Rattle.std.proofs.lemmas.List.{length-append, length-take-le, length-drop, drop_at, take-append-le, drop-append-le, drop-drop, append-nil}
 use Rattle.std.proofs.lemmas.Bool.{cases_lt}
 use Rattle.chk_bytes.specs.Numbers.{spelled, spelled_at}
+use Rattle.chk_bytes.proofs.NumberLemmas.{spelled-be32}
 use Rattle.chk_seqfile.specs.declared.headers.HeaderRef.{HeaderRef}
 use Rattle.chk_seqfile.specs.declared.headers.HeaderFault.{HeaderFault}
 use Rattle.chk_seqfile.specs.declared.headers.HeaderFault.TheVariants.{Short}
@@ -347,6 +348,20 @@ stepped_long p marker need before used long (answers.Long at other) (at_place, s
       (λ stop none stands. is ∙ only_long (fed_limit p) fed marker place need there_long stop none stands);
 }
 
+-- a record that isn't too long is within the limit
+record_fits : (limit : ℕ) (bytes key value rest : List ℕ) (at : ℕ) → drop at bytes ≡ record_entry key value ++ rest
+    → 8 + length key + length value < 2 ^ 31 → NotLong limit bytes at → 8 + length key + length value ≤ limit
+record_fits limit bytes key value rest at found small short =
+    let size = 8 + length key + length value in
+    let sizes : length (drop at bytes) ≡ length (record_entry key value ++ rest) = ap length found in
+    let is : spelled_at at 4 bytes ≡ size = ap (λ x. spelled (take 4 x)) found ∙ spelled-be32 size (omega (arith, small)) in
+    ⊎_elim (λ over. absurd (short size (record {
+      there = omega (arith, sizes, length-drop at bytes);
+      is = sym is;
+      over = over;
+      small = small;
+    }))) (λ fits. fits) (cases_lt limit size)
+
 -- a record stands there
 no_other : (limit : ℕ) (fed marker : List ℕ) (place : ℕ) (key value : List ℕ) → entry_at marker (drop place fed) ≡ RecordEntry key value
     → NotLong limit fed place → (stop : Fed) → GivesNone stop → Stands limit fed (Some marker) place stop → ⊥
@@ -420,7 +435,11 @@ stepped_record old new marker key value before after limits items further places
     given = placed_same e (fed_place old) key value (omega (arith, begin, places)) (end ∙ places) (key_is ∙ key_there) (value_is ∙ value_there)
 
     stands_end : (fed : List ℕ) → Stands (fed_limit new) fed (fed_marker new) (fed_place new) (answers.Entry e)
-    stands_end fed = end
+    stands_end fed =
+        let fits = record_fits (fed_limit old) old.bytes.items key value _ old.used found small short in
+        let key_size : length e.key.now ≡ length key = ap length (key_is ∙ key_there) in
+        let value_size : length e.value.now ≡ length value = ap length (value_is ∙ value_there) in
+        (end, omega (arith, fits, key_size, value_size, limits))
 
 -- ---- the header is refused, or not whole
 

@@ -4,8 +4,7 @@ use Rattle.std.proofs.lemmas.List.{drop-drop, drop_all, length-drop}
 use Rattle.chk_seqfile.specs.declared.entries.Why.{Why}
 use Rattle.chk_seqfile.specs.Entries.{NoEntry, RecordEntry, Damaged, placed, size_of_record, entry_at, records_at}
 use Rattle.chk_seqfile.proofs.EntryLemmas.{entry_at-nil}
-use Rattle.chk_seqfile.proofs.RecordLemmas.{records_at-record, records_at-damaged}
-use Rattle.chk_seqfile.proofs.FoundEntries.{nothing_found}
+use Rattle.chk_seqfile.proofs.RecordLemmas.{records_at-record}
 use Rattle.chk_salvage.specs.declared.reader.Reader.{Reader}
 use Rattle.chk_salvage.specs.declared.reader.Next.{Next}
 use Rattle.chk_salvage.specs.declared.reader.Next.TheVariants as next
@@ -35,10 +34,7 @@ items_step marker bytes at key value first =
     salvaged_at-record marker at (drop at bytes) key value first
     ∙ ap (λ x. Kept (placed at key value) ∷ salvaged_at marker (at + size_of_record key value) x) (drop-drop (size_of_record key value) at bytes)
 
--- where nothing stands and where damage does, the longest front ends
-pub front_at_end : (marker bytes : List ℕ) (at : ℕ) → IsReadSo marker bytes at → entry_at marker (drop at bytes) ≡ NoEntry → IsFront bytes at
-front_at_end marker bytes at so first = front_here marker bytes at so (subst IsStopped (sym first) tt)
-
+-- where damage stands, the longest front ends
 pub front_at_damage : (marker bytes : List ℕ) (at : ℕ) (why : Why) → IsReadSo marker bytes at → entry_at marker (drop at bytes) ≡ Damaged why → IsFront bytes at
 front_at_damage marker bytes at why so first = front_here marker bytes at so (subst IsStopped (sym first) tt)
 
@@ -54,13 +50,6 @@ stop_of_damage marker bytes marker' bytes' at place why markers files here damag
       subst (λ n. IsFront bytes n) (sym here) (subst (λ b. IsFront b place) files front),
       damage_here,
     )
-
--- where it stops no records are left
-pub none_at_damage : (marker bytes : List ℕ) (at : ℕ) (why : Why) → entry_at marker (drop at bytes) ≡ Damaged why → records_at marker at (drop at bytes) ≡ []
-none_at_damage marker bytes at why first = records_at-damaged marker at (drop at bytes) first
-
-pub none_at_end : (marker bytes : List ℕ) (at : ℕ) → entry_at marker (drop at bytes) ≡ NoEntry → records_at marker at (drop at bytes) ≡ []
-none_at_end marker bytes at first = ap (records_at marker at) (nothing_found marker (drop at bytes) first)
 
 -- at the end nothing stands
 pub nothing_at_end : (marker bytes : List ℕ) (at : ℕ) → at ≡ length bytes → entry_at marker (drop at bytes) ≡ NoEntry

@@ -27,14 +27,6 @@ next_sync-cons_false : (marker : List ℕ) (at b : ℕ) (bytes : List ℕ) → s
     → next_sync marker at (b ∷ bytes) ≡ next_sync marker (at + 1) bytes
 next_sync-cons_false marker at b bytes none = ap (here_or at (next_sync marker (at + 1) bytes)) none
 
--- the same at a place in some bytes
-pub next_sync-here : (marker : List ℕ) (at : ℕ) (bytes : List ℕ) → at < length bytes → starts_with nat_eq (drop at bytes) (sync_entry marker) ≡ true
-    → next_sync marker at (drop at bytes) ≡ Some at
-next_sync-here marker at bytes inside stands =
-    let split : drop at bytes ≡ get_or bytes at 0 ∷ drop (at + 1) bytes = drop_more bytes at 0 inside in
-    ap (next_sync marker at) split ∙ next_sync-cons_true marker at (get_or bytes at 0) (drop (at + 1) bytes)
-    (ap (λ x. starts_with nat_eq x (sync_entry marker)) (sym split) ∙ stands)
-
 pub next_sync-later : (marker : List ℕ) (at : ℕ) (bytes : List ℕ) → at < length bytes → starts_with nat_eq (drop at bytes) (sync_entry marker) ≡ false
     → next_sync marker at (drop at bytes) ≡ next_sync marker (at + 1) (drop (at + 1) bytes)
 next_sync-later marker at bytes inside none =

@@ -5,15 +5,11 @@ use Rattle.chk_bytes.specs.Laws.{AreBytes}
 use Rattle.chk_seqfile.specs.Entries.{SyncEntry, sync_entry, entry_at, records_at}
 use Rattle.chk_seqfile.proofs.RecordLemmas.{records_at-sync, records_at-entry}
 use Rattle.chk_seqfile.proofs.FoundEntries.{sync_found}
-use Rattle.chk_seqfile.proofs.FileLemmas.{Entries-nil, Entries-append, Entries-sync, records_at-append}
+use Rattle.chk_seqfile.proofs.FileLemmas.{Entries-append, Entries-sync, records_at-append}
 use Rattle.chk_salvage.specs.Front.{salvaged_at}
 use Rattle.chk_salvage.specs.Skipping.{IsOnward, StandBetween}
 use Rattle.chk_salvage.proofs.SalvageLemmas.{salvaged_at-sync}
 use Rattle.chk_salvage.proofs.FrontLemmas.{read_so_sync}
-
--- nothing stands between a place and itself
-pub onward_none : (marker bytes : List ℕ) (at : ℕ) → at ≤ length bytes → IsOnward marker bytes at at
-onward_none marker bytes at within = record { onward = omega arith; within = within; records = refl; items = refl; read = λ so. so; none = λ other. refl }
 
 -- a sync entry has 20 bytes
 pub sync_fits : (marker bytes : List ℕ) (at : ℕ) → length marker ≡ 16 → at ≤ length bytes → AreBytes (drop at bytes) → entry_at marker (drop at bytes) ≡ SyncEntry
@@ -35,16 +31,6 @@ onward_more marker bytes at to wide are way first =
       read = λ so. read_so_sync marker bytes to wide are first (way.read so);
       none = λ other. absurd (other (ap (λ n. entry_at marker (drop n bytes)) (sym (way.none other)) ∙ first));
     }
-
--- nothing stands between a place and itself
-pub between_none : (marker bytes : List ℕ) (at : ℕ) → StandBetween marker bytes at at
-between_none marker bytes at = record {
-  syncs = [];
-  form = Entries-nil marker;
-  size = omega arith;
-  split = refl;
-  no_records = λ place. refl;
-}
 
 -- one sync entry more
 pub between_more : (marker bytes : List ℕ) (at to : ℕ) → length marker ≡ 16 → AreBytes (drop to bytes) → StandBetween marker bytes at to

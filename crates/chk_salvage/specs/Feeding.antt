@@ -38,12 +38,12 @@ pub record IsFed (p : Pieces) (fed : List ℕ) : Type 0 where
   pub rest : drop (fed_place p) fed ≡ fed_rest p
   pub so : IsFedSo (fed_marker p) fed (fed_place p)
 
--- how many of the bytes are read, and what stands there, after an answer. More comes where the bytes are a proper front
+-- how many of the bytes are read, and what stands there, after an answer. A record is no longer than the limit. More comes where the bytes are a proper front
 -- of a header, or where behind the header nothing or a part of an entry stands that isn't too long; Header where
 -- the header is refused for another reason; Damaged where more bytes can't mend what stands there; Long where a record
 -- is too long
 abbrev pub Stands : ℕ → List ℕ → Option (List ℕ) → ℕ → Fed → Type 0
-Stands limit fed marker place (Entry e) = e.end ≡ place
+Stands limit fed marker place (Entry e) = (e.end ≡ place) × (8 + length e.key.now + length e.value.now ≤ limit)
 Stands limit fed None place More = read_header fed ≡ Err Short
 Stands limit fed (Some marker) place More =
     ((place ≡ length fed) ⊎ DamageAt marker fed place Torn) × NotLong limit fed place × (length fed < place + (limit + 8))

@@ -85,9 +85,9 @@ impl Pieces {
         Ok(())
     }
 
-    /// The next record that is whole in what was fed, or why there is none. After any answer but a
-    /// record, the same answer comes again until more is fed; after `Header`, `Damaged` and `Long`
-    /// it stays.
+    /// The next record that is whole in what was fed and within the limit, or why there is none.
+    /// After any answer but a record, the same answer comes again until more is fed; after `Header`,
+    /// `Damaged` and `Long` it stays.
     pub fn next(&mut self) -> Fed<'_>
         ensures* { sem 𝓛 (follows_so the_row the_row self.entry.ghost_name none (λ _ _. ⊤) (λ after. Answered self.old after result)) }
     {

@@ -1,20 +1,20 @@
 -- What a call adds to the history.
-use Rattle.std.proofs.Common.{◌≡◌, inl, inr, ℕ, Bool, true, false, List, [], ◌∷◌, ◌++◌, Option, Some, Result, Ok, Err, refl, sym, ◌∙◌, ap, subst}
+use Rattle.std.proofs.Common.{◌≡◌, inl, inr, ℕ, true, false, List, [], ◌∷◌, ◌++◌, Option, Some, Result, Ok, Err, refl, sym, ◌∙◌, ap, subst}
 use Rattle.std.proofs.lemmas.Bool.{false≢true}
 use Rattle.chk_site.specs.declared.acts.Act.{Act}
 use Rattle.chk_site.specs.declared.lists.Left.{Left}
 use Rattle.chk_site.specs.declared.acts.CallFault.{CallFault}
 use Rattle.chk_site.specs.declared.acts.CallFault.TheVariants.{Failed, Missing, Exists, Short, NoMemory}
 use Rattle.chk_site.specs.declared.acts.ActAnswer.{ActAnswer}
-use Rattle.chk_site.specs.declared.acts.ActAnswer.TheVariants.{Done, Refused, Stopped, Rotated, Deleted}
-use Rattle.chk_site.specs.Acts.{Deed, ReadsLog, AsksNewest, GrowsLog, Creates, Appends, Syncs, Renames, Removes, Cuts, AsksSize, Reads, Lists, Sends, Gets, Takes, TakesMore, deed, deed_by, is_stop}
-use Rattle.chk_site.specs.Files.{Files}
+use Rattle.chk_site.specs.declared.acts.ActAnswer.TheVariants.{Refused, Stopped}
+use Rattle.chk_site.specs.Acts.{Deed, ReadsLog, AsksNewest, GrowsLog, Creates, Appends, Syncs, Renames, Removes, Cuts, AsksSize, Reads, Lists, Sends, Gets, Takes, TakesMore, deed_by}
 use Rattle.chk_site.specs.declared.acts.Who.{Who}
-use Rattle.chk_site.specs.History.{Step, History, Every, IsTheirs, Modelled, files_after, is_stopped}
+use Rattle.chk_site.specs.History.{Step, History, Every, IsTheirs, Modelled, is_stopped}
 use Rattle.chk_site.specs.Honest.{Honest, Agrees}
 use Rattle.chk_site.specs.Site.{Adds, Asked, own_step, answered, Acted, Added, Calls, CallsSome}
 use Rattle.chk_mem_calls.specs.declared.plan.Planned.{Planned}
-use Rattle.chk_mem_store.specs.Told.{with_answer}
+use Rattle.chk_mem_store.specs.State.{State}
+use Rattle.chk_mem_store.specs.Told.{told_of, with_answer}
 use Rattle.chk_mem_calls.specs.Plans.{Plans, act_of, planned_as}
 use Rattle.chk_mem_store.specs.Going.{TheirsSince, GoesOn}
 use Rattle.chk_site_mem.specs.Begun.{Becomes, Begins}
@@ -123,44 +123,44 @@ unmade_call q start now running since =
     theirs_add start now (Calls q (Err NoMemory)) since (λ added theirs. runs_so q (Err NoMemory) added start running theirs)
 
 -- a call whose act failed, was stopped or had no memory
-pub failed_call : {T : Type 0} (V : Type 0) (q : Asked) (how : T → ActAnswer) (planned : Planned T) (fault : CallFault) (start now next : History)
-    → is_stopped start ≡ false → TheirsSince start now → Plans q how now planned → Becomes {T = V} planned.act (Err fault) now next
+pub failed_call : {T : Type 0} (V : Type 0) (q : Asked) (how : T → ActAnswer) (planned : Planned T) (fault : CallFault) (start : History) (s : State) (next : History)
+    → is_stopped start ≡ false → TheirsSince start (told_of s.kept) → Plans q how s planned → Becomes {T = V} planned.act (Err fault) (told_of s.kept) next
     → Adds (Some start) (Some next) (Calls q (Err fault))
-failed_call V q how planned Failed start now next running since plans (inl goes) =
-    acted_adds q (Refused Failed) _ start now next (Calls q (Err Failed)) (ap (λ a. with_answer a (Refused Failed)) plans.act_is)
-    (agrees_failed now q.who (deed_asked q) planned.act.answer plans.agrees) running since goes
+failed_call V q how planned Failed start s next running since plans (inl goes) =
+    acted_adds q (Refused Failed) _ start (told_of s.kept) next (Calls q (Err Failed)) (ap (λ a. with_answer a (Refused Failed)) plans.act_is)
+    (agrees_failed (told_of s.kept) q.who (deed_asked q) planned.act.answer plans.agrees) running since goes
     (λ added acted. runs_so q (Err Failed) added start running (inl acted))
-failed_call V q how planned Failed start now next running since plans (inr stops) =
-    acted_adds q (Stopped stops.0) _ start now next (Calls q (Err Failed)) (ap (λ a. with_answer a (Stopped stops.0)) plans.act_is)
-    (agrees_stopped now q.who (deed_asked q) planned.act.answer stops.0 plans.agrees) running since stops.1
+failed_call V q how planned Failed start s next running since plans (inr stops) =
+    acted_adds q (Stopped stops.0) _ start (told_of s.kept) next (Calls q (Err Failed)) (ap (λ a. with_answer a (Stopped stops.0)) plans.act_is)
+    (agrees_stopped (told_of s.kept) q.who (deed_asked q) planned.act.answer stops.0 plans.agrees) running since stops.1
     (λ added acted. runs_so q (Err Failed) added start running (inr (stops.0, acted)))
-failed_call V q how planned NoMemory start now next running since plans same =
+failed_call V q how planned NoMemory start s next running since plans same =
     unmade_call q start next running (subst (λ (h : History). TheirsSince start h) (sym same) since)
-failed_call V q how planned Missing start now next running since plans none = absurd none
-failed_call V q how planned Exists start now next running since plans none = absurd none
-failed_call V q how planned (Short size) start now next running since plans none = absurd none
+failed_call V q how planned Missing start s next running since plans none = absurd none
+failed_call V q how planned Exists start s next running since plans none = absurd none
+failed_call V q how planned (Short size) start s next running since plans none = absurd none
 
 -- a call that gives what was planned
-pub made_call : {T : Type 0} (q : Asked) (how : T → ActAnswer) (act : Act) (gives : Result T CallFault) (start now next : History)
-    → is_stopped start ≡ false → TheirsSince start now → Plans q how now (planned_as act gives) → GoesOn act now next
+pub made_call : {T : Type 0} (q : Asked) (how : T → ActAnswer) (act : Act) (gives : Result T CallFault) (start : History) (s : State) (next : History)
+    → is_stopped start ≡ false → TheirsSince start (told_of s.kept) → Plans q how s (planned_as act gives) → GoesOn act (told_of s.kept) next
     → Adds (Some start) (Some next) (Calls q (answered how gives))
-made_call q how act (Ok value) start now next running since plans goes =
-    acted_adds q (how value) act start now next (Calls q (Ok (how value)))
-    (plans.act_is ∙ ap (act_of q) plans.answers) (subst (Agrees now q.who (deed_asked q)) plans.answers plans.agrees) running since goes
+made_call q how act (Ok value) start s next running since plans goes =
+    acted_adds q (how value) act start (told_of s.kept) next (Calls q (Ok (how value)))
+    (plans.act_is ∙ ap (act_of q) plans.answers) (subst (Agrees (told_of s.kept) q.who (deed_asked q)) plans.answers plans.agrees) running since goes
     (λ added acted. runs_so q (Ok (how value)) added start running acted)
-made_call q how act (Err Failed) start now next running since plans goes = absurd plans.answers
-made_call q how act (Err NoMemory) start now next running since plans goes = absurd plans.answers
-made_call q how act (Err Missing) start now next running since plans goes =
-    acted_adds q (Refused Missing) act start now next (Calls q (Err Missing))
-    (plans.act_is ∙ ap (act_of q) plans.answers) (subst (Agrees now q.who (deed_asked q)) plans.answers plans.agrees) running since goes
+made_call q how act (Err Failed) start s next running since plans goes = absurd plans.answers
+made_call q how act (Err NoMemory) start s next running since plans goes = absurd plans.answers
+made_call q how act (Err Missing) start s next running since plans goes =
+    acted_adds q (Refused Missing) act start (told_of s.kept) next (Calls q (Err Missing))
+    (plans.act_is ∙ ap (act_of q) plans.answers) (subst (Agrees (told_of s.kept) q.who (deed_asked q)) plans.answers plans.agrees) running since goes
     (λ added acted. runs_so q (Err Missing) added start running acted)
-made_call q how act (Err Exists) start now next running since plans goes =
-    acted_adds q (Refused Exists) act start now next (Calls q (Err Exists))
-    (plans.act_is ∙ ap (act_of q) plans.answers) (subst (Agrees now q.who (deed_asked q)) plans.answers plans.agrees) running since goes
+made_call q how act (Err Exists) start s next running since plans goes =
+    acted_adds q (Refused Exists) act start (told_of s.kept) next (Calls q (Err Exists))
+    (plans.act_is ∙ ap (act_of q) plans.answers) (subst (Agrees (told_of s.kept) q.who (deed_asked q)) plans.answers plans.agrees) running since goes
     (λ added acted. runs_so q (Err Exists) added start running acted)
-made_call q how act (Err (Short size)) start now next running since plans goes =
-    acted_adds q (Refused (Short size)) act start now next (Calls q (Err (Short size)))
-    (plans.act_is ∙ ap (act_of q) plans.answers) (subst (Agrees now q.who (deed_asked q)) plans.answers plans.agrees) running since goes
+made_call q how act (Err (Short size)) start s next running since plans goes =
+    acted_adds q (Refused (Short size)) act start (told_of s.kept) next (Calls q (Err (Short size)))
+    (plans.act_is ∙ ap (act_of q) plans.answers) (subst (Agrees (told_of s.kept) q.who (deed_asked q)) plans.answers plans.agrees) running since goes
     (λ added acted. runs_so q (Err (Short size)) added start running acted)
 
 -- a call that didn't begin: after a stop, or for want of memory

@@ -1,3 +1,4 @@
 pub mod Begun
 pub mod Lossless
+pub mod Memory
 pub mod Printed

@@ -1,6 +1,7 @@
 //! The outside in memory: two sites that tell their history, for tests.
 #![tactic(auto)]
 
+mod fate;
 mod others;
 mod printing;
 mod site_clean;

@@ -12,7 +12,7 @@ use Rattle.chk_site.specs.declared.acts.ActAnswer.TheVariants.{Refused, Stopped}
 use Rattle.chk_site.specs.Acts.{Says}
 use Rattle.chk_site.specs.History.{History, is_stopped}
 use Rattle.chk_site.specs.Site.{Adds, Asked, asked, answered, plain, Acted, Calls, IsDone, Ends, MayFail, LastFailed}
-use Rattle.chk_site.proofs.Runs.{adds_then, adds_as, adds_none, every_join, ran}
+use Rattle.chk_site.proofs.Runs.{adds_then, adds_as, every_join, ran}
 use Rattle.chk_replace.proofs.CallSteps.{call_each, ends_last, last_then}
 use Rattle.chk_salvage.specs.Front.{Item}
 use Rattle.chukwa_salvage.specs.Lines.{AreLines}
@@ -81,25 +81,6 @@ print_told who text given result few done may told =
           calls;
       last = print_last who text given result done calls;
     })
-
--- no print
-pub not_printed : (who : Who) (text : List ℕ) (now : Option History) → Adds now now (Prints who text text (Ok tt))
-not_printed who text now = adds_none now (Prints who text text (Ok tt)) (λ history. record { moves = refl; acts = tt; last = tt })
-
-pub none_printed : (who : Who) (text : List ℕ) (now : Option History) → text ≡ [] → Adds now now (Prints who text [] (Ok tt))
-none_printed who text now none =
-    adds_none now (Prints who text [] (Ok tt)) (λ history. record { moves = sym none; acts = tt; last = tt })
-
--- after a failure nothing is said of what is left
-pub failed_print : (who : Who) (text after : List ℕ) (fault : OutsideFault) {old new : Option History}
-    → Adds old new (Prints who text [] (Err fault)) → Adds old new (Prints who text after (Err fault))
-failed_print who text after fault told =
-    adds_as (Prints who text after (Err fault)) told (λ added history p. record { moves = p.moves; acts = p.acts; last = p.last })
-
--- nothing was said yet
-pub said_first : (who : Who) (items : List Item) (now : Option History) → Adds now now (HasSaid who items items [])
-said_first who items now =
-    adds_none now (HasSaid who items items []) (λ history. record { printed = []; split = refl; lines = refl; acts = tt })
 
 -- what was put behind a buffer, and what of it was then said
 said_then : (a b : History) (buffer line put after : List ℕ) → put ≡ buffer ++ line → text_of b ++ after ≡ put

@@ -14,7 +14,7 @@ returns-clause-plans c =
     let rs = replies h c.args.self.now.message in
     let got = c.in_ok-got.got.now in
     let bytes = c.in_ok-bytes.bytes in
-    plans_done c.give.result _ _ _ [] c.args.self.now.message 0 bytes_given h _ bytes c.give.ensures
+    plans_done c.give.result _ _ _ [] c.args.self.now.message 0 bytes_given c.args.keeper.now _ bytes c.give.ensures
     c.new-words.ensures
     (c.worded-given.ensures ∙ ap (λ (w : List (List ℕ)). Done w 0 0) (c.in_ok-one.ensures ∙ ap (λ (b : List ℕ). b ∷ []) (sym c.in_ok-bytes.ensures)))
     (subst (GotAnswer rs) (sym (c.in_ok-bytes.ensures ∙ c.in_ok-got.ensures)) (got_answers rs))
