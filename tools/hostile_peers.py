@@ -1,7 +1,7 @@
 #!/usr/bin/env python3
 """Tries the real site's door with hostile peers on 127.0.0.1, and prints its figures.
 
-usage: tools/hostile_peers.py
+usage: tools/hostile_peers.py [KIND TIMES]
 
 It wants `crates/chk_tool_measure/out/chk_tool_measure`, which `rt run` in that crate's folder leaves there. For
 each kind of peer it runs `chk_tool_measure take DOOR TURNS WAIT` anew, which takes each message, reads up
@@ -48,12 +48,31 @@ def connected(port):
 def asked(port, message=b"hello\n"):
     """The answer to a whole message."""
     with connected(port) as peer:
-        peer.sendall(message)
-        peer.shutdown(socket.SHUT_WR)
-        answer = b""
-        while piece := peer.recv(4096):
-            answer += piece
-        return answer
+        return answered(peer, message)
+
+
+def answered(peer, message=b"hello\n"):
+    peer.sendall(message)
+    peer.shutdown(socket.SHUT_WR)
+    answer = b""
+    while piece := peer.recv(4096):
+        answer += piece
+    return answer
+
+
+def since(began):
+    return (time.monotonic() - began) * 1000
+
+
+def honest_peer(port):
+    """Whether it got its answer, and how long it waited for its connection and for the answer."""
+    began = time.monotonic()
+    try:
+        with connected(port) as peer:
+            opened, began = since(began), time.monotonic()
+            return answered(peer) == b"taken\n", opened, since(began)
+    except OSError:
+        return False, 0, since(began)
 
 
 def silent(port):
@@ -125,18 +144,20 @@ def silent_thousand(port):
     return peers
 
 
-# The turns of the program, the faults that the peers may be, and whether the honest peer is waited for.
+# The turns of the program, the faults that the peers may be, and how long the honest peer may wait
+# for its answer: where all others are silent, 100 ms from its turn, which may come with the system's
+# second try, 200 ms later on Linux.
 KINDS = [
-    (silent, 30, 0),
-    (slow, 40, 0),
-    (reset, 40, 10),
-    (deaf, 30, 0),
-    (thousand, 1040, 0),
-    (silent_thousand, 80, 0),
+    (silent, 30, 0, 100),
+    (slow, 40, 0, None),
+    (reset, 40, 10, None),
+    (deaf, 30, 0, None),
+    (thousand, 1040, 0, None),
+    (silent_thousand, 80, 0, 300),
 ]
 
 
-def tried(kind, turns, most_faults):
+def tried(kind, turns, most_faults, most_wait):
     port = free_port()
     door = f"127.0.0.1:{port}"
     with tempfile.TemporaryDirectory() as room:
@@ -144,12 +165,7 @@ def tried(kind, turns, most_faults):
         program = subprocess.Popen(words, cwd=room, stdout=subprocess.PIPE, text=True)
         connected(port).close()
         peers = kind(port)
-        began = time.monotonic()
-        try:
-            honest = asked(port) == b"taken\n"
-        except OSError:
-            honest = False
-        took = (time.monotonic() - began) * 1000
+        honest, opened, took = honest_peer(port)
         try:
             line = program.communicate(timeout=90)[0].split()
         except subprocess.TimeoutExpired:
@@ -158,17 +174,21 @@ def tried(kind, turns, most_faults):
         for peer in peers:
             peer.close()
     figures = dict(zip(line[::2], map(int, line[1::2])))
-    good = program.returncode == 0 and honest
+    good = program.returncode == 0 and honest and took <= (most_wait or took)
     good = good and all(figures[call] <= bound + SLACK for call, bound in BOUNDS.items())
     good = good and figures["faults"] <= most_faults
-    print(f"{kind.__name__}: {' '.join(line)} honest {took:.0f} {'ok' if good else 'BAD'}", flush=True)
+    waits = f"connection {opened:.0f} honest {took:.0f}"
+    print(f"{kind.__name__}: {' '.join(line)} {waits} {'ok' if good else 'BAD'}", flush=True)
     return good
 
 
-def main():
+def main(words):
     print("load " + " ".join(f"{load:.1f}" for load in os.getloadavg()))
-    return 0 if all([tried(*kind) for kind in KINDS]) else 1
+    kinds = KINDS
+    if words:
+        kinds = [kind for kind in KINDS if kind[0].__name__ == words[0]] * int(words[1])
+    return 0 if all([tried(*kind) for kind in kinds]) else 1
 
 
 if __name__ == "__main__":
-    sys.exit(main())
+    sys.exit(main(sys.argv[1:]))

@@ -9,6 +9,9 @@ use std::{fs, io};
 /// The folders that are made at the start.
 const FOLDERS: [&str; 5] = ["sinks", "agents", "archive", "demux", "joined"];
 
+/// The system's error for a folder in place of a file.
+const IS_A_DIRECTORY: i32 = 21;
+
 /// Makes the folders that aren't there; 1 where one of them can't be made, else 0.
 pub fn make_folders<R: Files>(rt: &R) -> u64
     ensures { result ≤ 1 }
@@ -22,8 +25,9 @@ pub fn make_folders<R: Files>(rt: &R) -> u64
     faults
 }
 
-// A folder that was made stays after a stop of the machine. Another process may make it first.
-fn make_folder<R: Files>(rt: &R, folder: &str) -> io::Result<()> {
+/// Makes the folder where it isn't there. One that was made stays after a stop of the machine. Another
+/// process may make it first.
+pub fn make_folder<R: Files>(rt: &R, folder: &str) -> io::Result<()> {
     match fs::create_dir(rt, folder) {
         Ok(()) => sync_folder(rt, folder),
         Err(_) if is_folder(rt, folder) => Ok(()),
@@ -57,7 +61,8 @@ pub fn sync_folder<R: Files>(rt: &R, name: &str) -> io::Result<()> {
 pub fn file_size<R: Files>(rt: &R, name: &str) -> io::Result<Option<u64>> {
     match fs::metadata(rt, name) {
         Ok(found) if found.is_file() => Ok(Some(found.len())),
-        Ok(_) => Err(io::Error::from(ErrorKind::InvalidInput)),
+        Ok(found) if found.is_dir() => Err(io::Error::from_raw_os_error(IS_A_DIRECTORY)),
+        Ok(_) => Err(io::Error::new(ErrorKind::InvalidInput, "it is not a file")),
         Err(error) if error.kind() == ErrorKind::NotFound => Ok(None),
         Err(error) => Err(error),
     }

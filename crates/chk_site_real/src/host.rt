@@ -2,13 +2,12 @@
 //! last are kept open, so that a further piece costs one system call.
 ghost use Rattle.std.specs.Prelude.{◌≤◌, length, IfOk, IfSome, IsErr};
 ghost use Rattle.chk_site.specs.Site.{MayFail, MayExist, MayMiss, MayBeShort, MayMissOrBeShort};
+ghost use Rattle.chk_sockets.specs.Faults.{answer_of};
 
-use crate::faults::failed;
 use crate::folders::{file_size, folder_of, is_folder, sync_folder};
 use crate::kept::{Kept, is_named};
 use chk_bytes::Bytes;
-use chk_site::CallFault;
-use chk_sockets::text;
+use chk_sockets::{SystemFault, text};
 use std::alloc::Global;
 use std::fs;
 use std::fs::{File, OpenFile, OpenOptions};
@@ -35,8 +34,8 @@ impl<R: Files> Host<R> {
     }
 
     /// `Exists` where the file is there. The new file is kept open.
-    pub fn create(&mut self, alloc: Global, name: &str) -> Result<(), CallFault>
-        ensures { MayExist result }
+    pub fn create(&mut self, alloc: Global, name: &str) -> Result<(), SystemFault>
+        ensures { MayExist (answer_of result) }
     {
         let kept_name = text(alloc, name)?;
         match OpenOptions::new()
@@ -45,90 +44,96 @@ impl<R: Files> Host<R> {
             .open(&self.rt, name)
         {
             Ok(file) => {
-                sync_folder(&self.rt, name).map_err(failed)?;
+                sync_folder(&self.rt, name)?;
                 self.writing = Some(Kept::new(kept_name, file));
                 Ok(())
             }
-            Err(error) if error.kind() == ErrorKind::AlreadyExists => Err(CallFault::Exists),
-            Err(_) => Err(CallFault::Failed),
+            Err(error) if error.kind() == ErrorKind::AlreadyExists => Err(SystemFault::Exists),
+            Err(error) => Err(SystemFault::Failed(error)),
         }
     }
 
     /// A file that isn't there is `Failed`.
-    pub fn append(&mut self, alloc: Global, name: &str, bytes: &[u8]) -> Result<(), CallFault>
-        ensures { MayFail result }
+    pub fn append(&mut self, alloc: Global, name: &str, bytes: &[u8]) -> Result<(), SystemFault>
+        ensures { MayFail (answer_of result) }
     {
         let mut writer = self.writer(alloc, name)?;
-        writer.file.write_all(bytes).map_err(failed)?;
+        writer.file.write_all(bytes)?;
         self.writing = Some(writer);
         Ok(())
     }
 
     /// A file that isn't there is `Failed`.
-    pub fn sync(&mut self, alloc: Global, name: &str) -> Result<(), CallFault>
-        ensures { MayFail result }
+    pub fn sync(&mut self, alloc: Global, name: &str) -> Result<(), SystemFault>
+        ensures { MayFail (answer_of result) }
     {
         let writer = self.writer(alloc, name)?;
-        writer.file.sync_all().map_err(failed)?;
+        writer.file.sync_all()?;
         self.writing = Some(writer);
         Ok(())
     }
 
     /// A file that isn't there is `Failed`. The new length is synced.
-    pub fn cut(&mut self, alloc: Global, name: &str, length: u64) -> Result<(), CallFault>
-        ensures { MayBeShort result }
+    pub fn cut(&mut self, alloc: Global, name: &str, length: u64) -> Result<(), SystemFault>
+        ensures { MayBeShort (answer_of result) }
     {
         let writer = self.writer(alloc, name)?;
         let size = writer.size()?;
         if size < length {
-            return Err(CallFault::Short { size });
+            return Err(SystemFault::Short { size });
         }
         if size > length {
-            writer.file.set_len(length).map_err(failed)?;
-            writer.file.sync_all().map_err(failed)?;
+            writer.file.set_len(length)?;
+            writer.file.sync_all()?;
         }
         self.writing = Some(writer);
         Ok(())
     }
 
     /// A file that isn't there is `Failed`.
-    pub fn rename(&mut self, old: &str, new: &str) -> Result<(), CallFault>
-        ensures { MayFail result }
+    pub fn rename(&mut self, old: &str, new: &str) -> Result<(), SystemFault>
+        ensures { MayFail (answer_of result) }
     {
         self.forget(old);
         self.forget(new);
-        fs::rename(&self.rt, old, new).map_err(failed)?;
-        sync_folder(&self.rt, new).map_err(failed)?;
+        fs::rename(&self.rt, old, new)?;
+        sync_folder(&self.rt, new)?;
         if folder_of(old) != folder_of(new) {
-            sync_folder(&self.rt, old).map_err(failed)?;
+            sync_folder(&self.rt, old)?;
         }
         Ok(())
     }
 
-    pub fn remove(&mut self, name: &str) -> Result<(), CallFault>
-        ensures { MayMiss result }
+    pub fn remove(&mut self, name: &str) -> Result<(), SystemFault>
+        ensures { MayMiss (answer_of result) }
     {
         self.forget(name);
         match fs::remove_file(&self.rt, name) {
-            Ok(()) => sync_folder(&self.rt, name).map_err(failed),
+            Ok(()) => Ok(sync_folder(&self.rt, name)?),
             Err(error) if error.kind() == ErrorKind::NotFound => no_file(&self.rt, name),
-            Err(_) => Err(CallFault::Failed),
+            Err(error) => Err(SystemFault::Failed(error)),
         }
     }
 
-    pub fn size(&self, name: &str) -> Result<u64, CallFault>
-        ensures { MayMiss result }
+    pub fn size(&self, name: &str) -> Result<u64, SystemFault>
+        ensures { MayMiss (answer_of result) }
     {
         match file_size(&self.rt, name) {
             Ok(Some(size)) => Ok(size),
             Ok(None) => no_file(&self.rt, name),
-            Err(_) => Err(CallFault::Failed),
+            Err(error) => Err(SystemFault::Failed(error)),
         }
     }
 
-    pub fn read(&mut self, alloc: Global, name: &str, at: u64, max: u32) -> Result<Bytes, CallFault>
+    pub fn read(
+        &mut self,
+        alloc: Global,
+        name: &str,
+        at: u64,
+        max: u32,
+    ) -> Result<Bytes, SystemFault>
         ensures most { IfOk result (λ bytes. length bytes ≤ max) }
-        ensures only { MayMissOrBeShort result }
+        ensures only { MayMissOrBeShort (answer_of result) }
     {
         match self.read_found(alloc, name, at, max)? {
             Some(bytes) => Ok(bytes),
@@ -143,9 +148,9 @@ impl<R: Files> Host<R> {
         name: &str,
         at: u64,
         max: u32,
-    ) -> Result<Option<Bytes>, CallFault>
+    ) -> Result<Option<Bytes>, SystemFault>
         ensures most { IfOk result (λ found. IfSome found (λ bytes. length bytes ≤ max)) }
-        ensures only { MayBeShort result }
+        ensures only { MayBeShort (answer_of result) }
     {
         let Some(mut reader) = self.reader(alloc, name, at)? else {
             return Ok(None);
@@ -162,8 +167,8 @@ impl<R: Files> Host<R> {
     }
 
     // The file to append to, taken from what is kept.
-    fn writer(&mut self, alloc: Global, name: &str) -> Result<Kept<R>, CallFault>
-        ensures { MayFail result }
+    fn writer(&mut self, alloc: Global, name: &str) -> Result<Kept<R>, SystemFault>
+        ensures { MayFail (answer_of result) }
     {
         if let Some(kept) = self.writing.take() {
             if kept.name.as_str() == name {
@@ -171,28 +176,25 @@ impl<R: Files> Host<R> {
             }
         }
         let kept_name = text(alloc, name)?;
-        let file = OpenOptions::new()
-            .append(true)
-            .open(&self.rt, name)
-            .map_err(failed)?;
+        let file = OpenOptions::new().append(true).open(&self.rt, name)?;
         Ok(Kept::new(kept_name, file))
     }
 
     // The file to read, taken from what is kept; none where there is no such file. A read from the
     // front opens the file anew, since another may have taken its name.
-    fn reader(&mut self, alloc: Global, name: &str, at: u64) -> Result<Option<Kept<R>>, CallFault>
-        ensures { MayFail result }
+    fn reader(&mut self, alloc: Global, name: &str, at: u64) -> Result<Option<Kept<R>>, SystemFault>
+        ensures { MayFail (answer_of result) }
     {
         if let Some(kept) = self.reading.take() {
             if at > 0 && kept.name.as_str() == name {
                 return Ok(Some(kept));
             }
         }
-        if file_size(&self.rt, name).map_err(failed)?.is_none() {
+        if file_size(&self.rt, name)?.is_none() {
             return Ok(None);
         }
         let kept_name = text(alloc, name)?;
-        let file = File::open(&self.rt, name).map_err(failed)?;
+        let file = File::open(&self.rt, name)?;
         Ok(Some(Kept::new(kept_name, file)))
     }
 
@@ -213,13 +215,13 @@ impl<R: Files> Host<R> {
 }
 
 // A file that isn't there is missing only where its folder is there.
-fn no_file<T, R: Files>(rt: &R, name: &str) -> Result<T, CallFault>
+fn no_file<T, R: Files>(rt: &R, name: &str) -> Result<T, SystemFault>
     ensures refused { IsErr result }
-    ensures only { MayMiss result }
+    ensures only { MayMiss (answer_of result) }
 {
     if is_folder(rt, folder_of(name)) {
-        Err(CallFault::Missing)
+        Err(SystemFault::Missing)
     } else {
-        Err(CallFault::Failed)
+        Err(SystemFault::failed(ErrorKind::NotFound, "its folder is not there"))
     }
 }

@@ -1,11 +1,10 @@
 //! A file that is kept open.
 ghost use Rattle.std.specs.Prelude.{◌≤◌, length, IfOk};
 ghost use Rattle.chk_site.specs.Site.{MayBeShort, MayFail};
+ghost use Rattle.chk_sockets.specs.Faults.{answer_of};
 
-use crate::faults::failed;
 use chk_bytes::Bytes;
-use chk_site::CallFault;
-use chk_sockets::make_room;
+use chk_sockets::{SystemFault, make_room};
 use std::alloc::Global;
 use std::fs::OpenFile;
 use std::io::{Read, Seek, SeekFrom};
@@ -28,31 +27,31 @@ impl<R: Files> Kept<R> {
         }
     }
 
-    pub fn size(&self) -> Result<u64, CallFault>
-        ensures { MayFail result }
+    pub fn size(&self) -> Result<u64, SystemFault>
+        ensures { MayFail (answer_of result) }
     {
-        Ok(self.file.metadata().map_err(failed)?.len())
+        Ok(self.file.metadata()?.len())
     }
 
     /// `Short` where the file ends before the place.
-    pub fn reaches(&self, at: u64) -> Result<(), CallFault>
-        ensures { MayBeShort result }
+    pub fn reaches(&self, at: u64) -> Result<(), SystemFault>
+        ensures { MayBeShort (answer_of result) }
     {
         let size = self.size()?;
         if size < at {
-            return Err(CallFault::Short { size });
+            return Err(SystemFault::Short { size });
         }
         Ok(())
     }
 
-    pub fn go_to(&mut self, at: u64) -> Result<(), CallFault>
-        ensures { MayBeShort result }
+    pub fn go_to(&mut self, at: u64) -> Result<(), SystemFault>
+        ensures { MayBeShort (answer_of result) }
     {
         if self.place == at {
             return Ok(());
         }
         self.reaches(at)?;
-        self.file.seek(SeekFrom::Start(at)).map_err(failed)?;
+        self.file.seek(SeekFrom::Start(at))?;
         self.place = at;
         Ok(())
     }
@@ -63,9 +62,9 @@ impl<R: Files> Kept<R> {
         buffer: &mut Vec<u8>,
         alloc: Global,
         max: u32,
-    ) -> Result<Bytes, CallFault>
+    ) -> Result<Bytes, SystemFault>
         ensures most { IfOk result (λ bytes. length bytes ≤ max) }
-        ensures only { MayFail result }
+        ensures only { MayFail (answer_of result) }
     {
         make_room(buffer)?;
         let mut bytes = Bytes::new(alloc);
@@ -81,14 +80,14 @@ impl<R: Files> Kept<R> {
     }
 
     // How many bytes were read; none at the end of the file.
-    fn read_some(&mut self, buffer: &mut [u8]) -> Result<usize, CallFault>
+    fn read_some(&mut self, buffer: &mut [u8]) -> Result<usize, SystemFault>
         ensures most { IfOk result (λ count. count ≤ length buffer.new) }
-        ensures only { MayFail result }
+        ensures only { MayFail (answer_of result) }
     {
         if buffer.is_empty() {
             return Ok(0);
         }
-        let count = self.file.read(buffer).map_err(failed)?;
+        let count = self.file.read(buffer)?;
         self.place = self.place.saturating_add(count as u64);
         Ok(count)
     }

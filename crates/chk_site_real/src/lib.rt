@@ -2,14 +2,16 @@
 //! and the clock.
 #![tactic(auto)]
 
-mod faults;
+mod failure;
 mod folders;
 mod host;
 mod kept;
+mod locks;
 mod logs;
 mod names;
 mod site_real;
 
+pub use failure::Failure;
 pub use site_real::SiteReal;
 
 #[cfg(test)]

@@ -2,17 +2,18 @@
 ghost use Rattle.std.specs.Prelude.{◌≡◌, ◌≤◌, length, IfOk, IfSome, IsTrue};
 ghost use Rattle.chk_bytes.specs.Words.{text_lt};
 ghost use Rattle.chk_site.specs.Site.{EndsPast, MayBeShort, MayFail};
+ghost use Rattle.chk_site.specs.declared.acts.CallFault.TheVariants.{Failed};
+ghost use Rattle.chk_sockets.specs.Faults.{answer_of, call_fault};
 
-use crate::faults::failed;
 use crate::folders::{file_size, folder_of};
 use crate::host::Host;
 use crate::names::names_in;
 use chk_bytes::{Bytes, NoMemory, WordFault};
-use chk_site::{CallFault, Part, Piece, Suffix};
-use chk_sockets::text;
+use chk_site::{Part, Piece, Suffix};
+use chk_sockets::{SystemFault, text};
 use std::alloc::Global;
 use std::fs::OpenOptions;
-use std::io::Write;
+use std::io::{ErrorKind, Write};
 use std::rt::Files;
 
 /// How often a read is made again where the log's names changed meanwhile.
@@ -28,20 +29,19 @@ struct Front {
 impl<R: Files> Host<R> {
     /// Appends to the base file, and makes it where it isn't there. It is opened anew each time,
     /// since what was the base file may be a rotated generation now.
-    pub fn append_log(&self, path: &str, bytes: &[u8]) -> Result<(), CallFault>
-        ensures { MayFail result }
+    pub fn append_log(&self, path: &str, bytes: &[u8]) -> Result<(), SystemFault>
+        ensures { MayFail (answer_of result) }
     {
         let mut file = OpenOptions::new()
             .append(true)
             .create(true)
-            .open(&self.rt, path)
-            .map_err(failed)?;
-        file.write_all(bytes).map_err(failed)
+            .open(&self.rt, path)?;
+        Ok(file.write_all(bytes)?)
     }
 
     /// The greatest suffix, none where there is none.
-    pub fn newest_suffix(&self, alloc: Global, path: &str) -> Result<Option<Suffix>, CallFault>
-        ensures { MayFail result }
+    pub fn newest_suffix(&self, alloc: Global, path: &str) -> Result<Option<Suffix>, SystemFault>
+        ensures { MayFail (answer_of result) }
     {
         Ok(self.suffixes(alloc, path)?.pop())
     }
@@ -54,10 +54,10 @@ impl<R: Files> Host<R> {
         part: Part<'_>,
         at: u64,
         max: u32,
-    ) -> Result<Piece, CallFault>
+    ) -> Result<Piece, SystemFault>
         ensures most { IfOk result (λ piece. length piece.bytes ≤ max) }
         ensures past { IfOk result (λ piece. EndsPast part.entry piece.ended) }
-        ensures only { MayBeShort result }
+        ensures only { MayBeShort (answer_of result) }
     {
         match part {
             Part::Base => {
@@ -77,15 +77,15 @@ impl<R: Files> Host<R> {
         path: &str,
         at: u64,
         max: u32,
-    ) -> Result<Bytes, CallFault>
+    ) -> Result<Bytes, SystemFault>
         ensures most { IfOk result (λ bytes. length bytes ≤ max) }
-        ensures only { MayBeShort result }
+        ensures only { MayBeShort (answer_of result) }
     {
         self.stop_reading();
         match self.read_found(alloc, path, at, max)? {
             Some(bytes) => Ok(bytes),
             None if at == 0 => Ok(Bytes::new(alloc)),
-            None => Err(CallFault::Short { size: 0 }),
+            None => Err(SystemFault::Short { size: 0 }),
         }
     }
 
@@ -98,10 +98,10 @@ impl<R: Files> Host<R> {
         after: &str,
         at: u64,
         max: u32,
-    ) -> Result<Piece, CallFault>
+    ) -> Result<Piece, SystemFault>
         ensures most { IfOk result (λ piece. length piece.bytes ≤ max) }
         ensures past { IfOk result (λ piece. IfSome piece.ended (λ s. IsTrue (text_lt after.now s))) }
-        ensures only { MayBeShort result }
+        ensures only { MayBeShort (answer_of result) }
     {
         let mut first = self.first_after(alloc, path, after)?;
         for _ in 0..MORE_TRIES + 1 {
@@ -117,7 +117,7 @@ impl<R: Files> Host<R> {
             }
             first = again;
         }
-        Err(CallFault::Failed)
+        Err(SystemFault::failed(ErrorKind::Other, "its rotated generations keep changing"))
     }
 
     fn read_generation(
@@ -127,9 +127,9 @@ impl<R: Files> Host<R> {
         suffix: &Option<Suffix>,
         at: u64,
         max: u32,
-    ) -> Result<Front, CallFault>
+    ) -> Result<Front, SystemFault>
         ensures most { IfOk result (λ front. length front.bytes ≤ max) }
-        ensures only { MayBeShort result }
+        ensures only { MayBeShort (answer_of result) }
     {
         let Some(suffix) = suffix else {
             let bytes = self.read_base(alloc, path, at, max)?;
@@ -140,12 +140,12 @@ impl<R: Files> Host<R> {
         };
         let name = joined(alloc, path, suffix.as_str())?;
         let Some(bytes) = self.read_found(alloc, name.as_str(), at, max)? else {
-            return Err(CallFault::Failed);
+            return Err(generation_gone());
         };
         let end = at.saturating_add(bytes.len() as u64);
-        let is_whole = match file_size(&self.rt, name.as_str()).map_err(failed)? {
+        let is_whole = match file_size(&self.rt, name.as_str())? {
             Some(size) => size <= end,
-            None => return Err(CallFault::Failed),
+            None => return Err(generation_gone()),
         };
         Ok(Front { bytes, is_whole })
     }
@@ -156,9 +156,9 @@ impl<R: Files> Host<R> {
         alloc: Global,
         path: &str,
         after: &str,
-    ) -> Result<Option<Suffix>, CallFault>
+    ) -> Result<Option<Suffix>, SystemFault>
         ensures past { IfOk result (λ first. IfSome first (λ s. IsTrue (text_lt after.now s))) }
-        ensures only { MayFail result }
+        ensures only { MayFail (answer_of result) }
     {
         for suffix in self.suffixes(alloc, path)? {
             if comes_before(after, suffix.as_str()) {
@@ -169,8 +169,8 @@ impl<R: Files> Host<R> {
     }
 
     // The suffixes of the log's rotated generations, the least first.
-    fn suffixes(&self, alloc: Global, path: &str) -> Result<Vec<Suffix>, CallFault>
-        ensures { MayFail result }
+    fn suffixes(&self, alloc: Global, path: &str) -> Result<Vec<Suffix>, SystemFault>
+        ensures { MayFail (answer_of result) }
     {
         let base = base_of(path);
         let mut suffixes = Vec::new(alloc);
@@ -200,6 +200,15 @@ fn push_suffix(
         Err(WordFault::NoMemory) => Err(NoMemory),
         Err(_) => Ok(()),
     }
+}
+
+fn generation_gone() -> SystemFault
+    ensures { call_fault result ≡ Failed }
+{
+    SystemFault::failed(
+        ErrorKind::NotFound,
+        "a rotated generation is not there any more",
+    )
 }
 
 fn base_of(path: &str) -> &str {

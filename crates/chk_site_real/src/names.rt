@@ -1,9 +1,9 @@
 //! The names in a folder.
 ghost use Rattle.chk_site.specs.Site.{MayFail};
+ghost use Rattle.chk_sockets.specs.Faults.{answer_of};
 
-use crate::faults::failed;
 use chk_bytes::{NoMemory, Word, WordFault};
-use chk_site::CallFault;
+use chk_sockets::SystemFault;
 use std::alloc::Global;
 use std::io::{ErrorKind, Read};
 use std::rt::Files;
@@ -12,8 +12,8 @@ use std::rt::Files;
 const FOLDER_BYTES: usize = 32_768;
 
 /// The names in this folder that are words, in byte order; none where there is no such folder.
-pub fn sorted_names<R: Files>(rt: &R, alloc: Global, folder: &str) -> Result<Vec<Word>, CallFault>
-    ensures { MayFail result }
+pub fn sorted_names<R: Files>(rt: &R, alloc: Global, folder: &str) -> Result<Vec<Word>, SystemFault>
+    ensures { MayFail (answer_of result) }
 {
     let mut names = names_in(rt, alloc, folder, "")?;
     names.sort_unstable_by(|a, b| a.as_str().cmp(b.as_str()));
@@ -26,8 +26,8 @@ pub fn names_in<R: Files>(
     alloc: Global,
     folder: &str,
     front: &str,
-) -> Result<Vec<Word>, CallFault>
-    ensures { MayFail result }
+) -> Result<Vec<Word>, SystemFault>
+    ensures { MayFail (answer_of result) }
 {
     let mut names = Vec::new(alloc);
     let mut buffer = zeros(alloc)?;
@@ -35,7 +35,7 @@ pub fn names_in<R: Files>(
         return Ok(names);
     };
     for _ in 0..u64::MAX {
-        let count = folder.read(&mut buffer).map_err(failed)?;
+        let count = folder.read(&mut buffer)?;
         if count == 0 {
             break;
         }
@@ -51,14 +51,14 @@ fn zeros(alloc: Global) -> Result<Vec<u8>, NoMemory> {
 }
 
 // The slash makes the system follow a link to a folder.
-fn open_folder<R: Files>(rt: &R, alloc: Global, folder: &str) -> Result<Option<R::Dir>, CallFault>
-    ensures { MayFail result }
+fn open_folder<R: Files>(rt: &R, alloc: Global, folder: &str) -> Result<Option<R::Dir>, SystemFault>
+    ensures { MayFail (answer_of result) }
 {
     let path = with_slash(alloc, folder)?;
     match rt.open_dir(path.as_str()) {
         Ok(folder) => Ok(Some(folder)),
         Err(error) if error.kind() == ErrorKind::NotFound => Ok(None),
-        Err(_) => Err(CallFault::Failed),
+        Err(error) => Err(SystemFault::Failed(error)),
     }
 }
 

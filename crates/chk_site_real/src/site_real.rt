@@ -1,21 +1,26 @@
 //! The site of the real outside.
 ghost use Rattle.std.specs.Prelude.{◌≡◌, ◌≤◌, None};
 ghost use Rattle.chk_site.specs.Site.{CauseOf, MayFail};
+ghost use Rattle.chk_sockets.specs.Faults.{answer_of};
 
-use crate::faults::failed;
+use crate::failure::Failure;
 use crate::folders::make_folders;
 use crate::host::Host;
+use crate::locks::{Locks, lock_name};
 use crate::names::sorted_names;
 use chk_bytes::{Bytes, Word};
-use chk_site::{CallFault, Part, Piece, Role, Site, Suffix, Taking, Who};
-use chk_sockets::Messages;
+use chk_site::{Call, CallFault, Part, Piece, Role, Site, Suffix, Taking, Who};
+use chk_sockets::{Messages, SystemFault, text};
 use std::alloc::Global;
+use std::fs::File;
+use std::io::ErrorKind;
 use std::net::Net;
 use std::rt::Files;
 use std::thread;
 use std::time::{Clock, Duration};
 
-/// The outside as the machine has it. It tells no history, and counts the calls that failed.
+/// The outside as the machine has it. It tells no history, counts the calls that failed, and keeps
+/// the cause of the last one.
 ///
 /// Files are named from the current folder, with or without a folder before the name; logs by their
 /// paths. What was made, renamed, removed or cut is so after a stop of the machine too, and what was
@@ -27,16 +32,23 @@ use std::time::{Clock, Duration};
 /// A log's rotated generations are found by their names in its folder, which are listed before each
 /// read and after it; a read is made again up to three times where the first generation changed.
 ///
+/// A start takes the lock of its process, which no other process can hold meanwhile: on the file
+/// `locks/agent.<source>`, `locks/collector.<name>` or `locks/job`. It is kept as long as the site
+/// lives, also over further starts; where another process holds it, the start fails and changes
+/// nothing. The system lets go of a lock when its process ends, however that ends. A writer has none.
+///
 /// The clock counts milliseconds from an arbitrary start and never goes back. Messages are as
 /// `chk_sockets::Messages` has them.
 #[derive(Drop)]
-pub struct SiteReal<R: Files + Net + Clock + Print + Drop> {
+pub struct SiteReal<R: Files<File = File> + Net + Clock + Print + Drop> {
     faults: u64,
+    failure: Option<Failure>,
+    locks: Locks,
     host: Host<R>,
     messages: Messages<R>,
 }
 
-impl<R: Files + Net + Clock + Print + Drop> SiteReal<R> {
+impl<R: Files<File = File> + Net + Clock + Print + Drop> SiteReal<R> {
     /// Makes the folders where they aren't there. The count of faults begins at 0, or at 1 where a
     /// folder can't be made: then the calls on the files of that folder fail.
     pub fn new(rt: R, alloc: Global) -> SiteReal<R>
@@ -45,45 +57,81 @@ impl<R: Files + Net + Clock + Print + Drop> SiteReal<R> {
         let faults = make_folders(&rt);
         SiteReal {
             faults,
+            failure: None,
+            locks: Locks::new(alloc),
             host: Host::new(rt, alloc),
             messages: Messages::new(alloc),
         }
     }
 
-    // Counts a call that failed.
-    fn settle<T>(&mut self, given: Result<T, CallFault>) -> Result<T, CallFault>
-        ensures same { result ≡ given }
-        ensures cause { CauseOf self.old.faults self.new.faults result }
-    {
-        if let Err(CallFault::Failed) = &given {
-            self.faults = self.faults.saturating_add(1);
-        }
-        given
+    /// The last call that failed, for a message to the operator.
+    pub fn failure(&self) -> Option<&Failure> {
+        self.failure.as_ref()
     }
 
-    fn milliseconds(&self) -> Result<u64, CallFault>
-        ensures { MayFail result }
+    // Takes the lock of the process, where it doesn't hold it yet.
+    fn lock(&mut self, alloc: Global, who: &Who) -> Result<(), CallFault>
+        ensures only { MayFail result }
+        ensures cause { CauseOf self.old.faults self.new.faults result }
     {
-        let since_start = self.host.rt.monotonic().map_err(failed)?;
-        u64::try_from(since_start.as_millis()).map_err(|_| CallFault::Failed)
+        let Some(name) = lock_name(alloc, who)? else {
+            return Ok(());
+        };
+        let given = self.locks.take(&self.host.rt, alloc, name.as_str());
+        self.settle(alloc, Call::Start, name.as_str(), given)
+    }
+
+    // Counts a call that failed, and keeps its cause.
+    fn settle<T>(
+        &mut self,
+        alloc: Global,
+        call: Call,
+        name: &str,
+        given: Result<T, SystemFault>,
+    ) -> Result<T, CallFault>
+        ensures same { result ≡ answer_of given }
+        ensures cause { CauseOf self.old.faults self.new.faults result }
+    {
+        match given {
+            Ok(value) => Ok(value),
+            Err(fault) => {
+                if let SystemFault::Failed(error) = &fault {
+                    self.faults = self.faults.saturating_add(1);
+                    let name = text(alloc, name).unwrap_or(String::new(alloc));
+                    self.failure = Some(Failure::new(call, name, *error));
+                }
+                Err(fault.call_fault())
+            }
+        }
+    }
+
+    fn milliseconds(&self) -> Result<u64, SystemFault>
+        ensures { MayFail (answer_of result) }
+    {
+        let since_start = self.host.rt.monotonic()?;
+        match u64::try_from(since_start.as_millis()) {
+            Ok(milliseconds) => Ok(milliseconds),
+            Err(_) => Err(SystemFault::failed(ErrorKind::Other, "the clock ran too long")),
+        }
     }
 }
 
-impl<R: Files + Net + Clock + Print + Drop> Site for SiteReal<R> {
+impl<R: Files<File = File> + Net + Clock + Print + Drop> Site for SiteReal<R> {
     ghost told = { λ _. None };
 
     ghost fault_count = { λ s. s.faults };
 
-    fn start(&mut self, _alloc: Global, who: &Who) -> Result<(), CallFault> {
-        if who.role == Role::Collector {
+    fn start(&mut self, alloc: Global, who: &Who) -> Result<(), CallFault> {
+        let given = self.lock(alloc, who);
+        if given.is_ok() && who.role == Role::Collector {
             self.messages.start();
         }
-        Ok(())
+        given
     }
 
     fn create(&mut self, alloc: Global, _who: &Who, name: &str) -> Result<(), CallFault> {
         let given = self.host.create(alloc, name);
-        self.settle(given)
+        self.settle(alloc, Call::Create, name, given)
     }
 
     fn append(
@@ -94,33 +142,27 @@ impl<R: Files + Net + Clock + Print + Drop> Site for SiteReal<R> {
         bytes: &[u8],
     ) -> Result<(), CallFault> {
         let given = self.host.append(alloc, name, bytes);
-        self.settle(given)
+        self.settle(alloc, Call::Append, name, given)
     }
 
     fn sync(&mut self, alloc: Global, _who: &Who, name: &str) -> Result<(), CallFault> {
         let given = self.host.sync(alloc, name);
-        self.settle(given)
+        self.settle(alloc, Call::Sync, name, given)
     }
 
-    fn rename(
-        &mut self,
-        _alloc: Global,
-        _who: &Who,
-        old: &str,
-        new: &str,
-    ) -> Result<(), CallFault> {
+    fn rename(&mut self, alloc: Global, _who: &Who, old: &str, new: &str) -> Result<(), CallFault> {
         let given = self.host.rename(old, new);
-        self.settle(given)
+        self.settle(alloc, Call::Rename, old, given)
     }
 
-    fn remove(&mut self, _alloc: Global, _who: &Who, name: &str) -> Result<(), CallFault> {
+    fn remove(&mut self, alloc: Global, _who: &Who, name: &str) -> Result<(), CallFault> {
         let given = self.host.remove(name);
-        self.settle(given)
+        self.settle(alloc, Call::Remove, name, given)
     }
 
-    fn size(&mut self, _alloc: Global, _who: &Who, name: &str) -> Result<u64, CallFault> {
+    fn size(&mut self, alloc: Global, _who: &Who, name: &str) -> Result<u64, CallFault> {
         let given = self.host.size(name);
-        self.settle(given)
+        self.settle(alloc, Call::Size, name, given)
     }
 
     fn read(
@@ -132,12 +174,12 @@ impl<R: Files + Net + Clock + Print + Drop> Site for SiteReal<R> {
         max: u32,
     ) -> Result<Bytes, CallFault> {
         let given = self.host.read(alloc, name, at, max);
-        self.settle(given)
+        self.settle(alloc, Call::Read, name, given)
     }
 
-    fn say(&mut self, _alloc: Global, _who: &Who, bytes: &[u8]) -> Result<(), CallFault> {
-        let given = self.host.rt.write_all(bytes).map_err(failed);
-        self.settle(given)
+    fn say(&mut self, alloc: Global, _who: &Who, bytes: &[u8]) -> Result<(), CallFault> {
+        let given = self.host.rt.write_all(bytes).map_err(SystemFault::Failed);
+        self.settle(alloc, Call::Say, "", given)
     }
 
     fn log_read(
@@ -150,7 +192,7 @@ impl<R: Files + Net + Clock + Print + Drop> Site for SiteReal<R> {
         max: u32,
     ) -> Result<Piece, CallFault> {
         let given = self.host.read_log(alloc, path, part, at, max);
-        self.settle(given)
+        self.settle(alloc, Call::LogRead, path, given)
     }
 
     fn log_newest(
@@ -160,33 +202,33 @@ impl<R: Files + Net + Clock + Print + Drop> Site for SiteReal<R> {
         path: &str,
     ) -> Result<Option<Suffix>, CallFault> {
         let given = self.host.newest_suffix(alloc, path);
-        self.settle(given)
+        self.settle(alloc, Call::LogNewest, path, given)
     }
 
     fn log_append(
         &mut self,
-        _alloc: Global,
+        alloc: Global,
         _who: &Who,
         path: &str,
         bytes: &[u8],
     ) -> Result<(), CallFault> {
         let given = self.host.append_log(path, bytes);
-        self.settle(given)
+        self.settle(alloc, Call::LogAppend, path, given)
     }
 
     fn cut(&mut self, alloc: Global, _who: &Who, name: &str, length: u64) -> Result<(), CallFault> {
         let given = self.host.cut(alloc, name, length);
-        self.settle(given)
+        self.settle(alloc, Call::Cut, name, given)
     }
 
     fn list(&mut self, alloc: Global, _who: &Who, folder: &str) -> Result<Vec<Word>, CallFault> {
         let given = sorted_names(&self.host.rt, alloc, folder);
-        self.settle(given)
+        self.settle(alloc, Call::List, folder, given)
     }
 
-    fn clock(&mut self, _alloc: Global, _who: &Who) -> Result<u64, CallFault> {
+    fn clock(&mut self, alloc: Global, _who: &Who) -> Result<u64, CallFault> {
         let given = self.milliseconds();
-        self.settle(given)
+        self.settle(alloc, Call::Clock, "", given)
     }
 
     fn pause(&mut self, _alloc: Global, _who: &Who, ms: u64) -> Result<(), CallFault> {
@@ -202,12 +244,12 @@ impl<R: Files + Net + Clock + Print + Drop> Site for SiteReal<R> {
         bytes: &[u8],
     ) -> Result<u64, CallFault> {
         let given = self.messages.send(&self.host.rt, alloc, address, bytes);
-        self.settle(given)
+        self.settle(alloc, Call::Send, address, given)
     }
 
     fn got(&mut self, alloc: Global, _who: &Who, message: u64) -> Result<Bytes, CallFault> {
         let given = self.messages.got(&self.host.rt, alloc, message);
-        self.settle(given)
+        self.settle(alloc, Call::Got, "", given)
     }
 
     fn take(
@@ -218,12 +260,12 @@ impl<R: Files + Net + Clock + Print + Drop> Site for SiteReal<R> {
         wait: u64,
     ) -> Result<Option<Taking>, CallFault> {
         let given = self.messages.take(&self.host.rt, alloc, door, wait);
-        self.settle(given)
+        self.settle(alloc, Call::Take, door, given)
     }
 
     fn more(&mut self, alloc: Global, _who: &Who, taking: u64) -> Result<Bytes, CallFault> {
         let given = self.messages.more(alloc, taking);
-        self.settle(given)
+        self.settle(alloc, Call::More, "", given)
     }
 
     fn answer(
@@ -234,7 +276,7 @@ impl<R: Files + Net + Clock + Print + Drop> Site for SiteReal<R> {
         bytes: &[u8],
     ) -> Result<(), CallFault> {
         let given = self.messages.answer(&self.host.rt, alloc, taking, bytes);
-        self.settle(given)
+        self.settle(alloc, Call::Answer, "", given)
     }
 
     fn faults(&self) -> u64 {

@@ -67,7 +67,10 @@ fn a_file_is_made_and_changed(rt: HostRuntime) -> Result<(), Fail> {
         (Call::Size, 0, "", Ok(6)),
     ];
     for (call, length, text, wanted) in rows {
-        assert!(rt; outside.call(call, "sinks/a", length, text) == wanted);
+        assert!(rt;
+            outside.call(call, "sinks/a", length, text) == wanted,
+            "{call:?} {length}"
+        );
     }
     assert!(rt; is_file(&rt, "sinks/a", "hellp\n")?);
     assert!(rt; outside.site.faults() == 0);
@@ -87,7 +90,10 @@ fn a_renamed_file_takes_the_place_of_another(rt: HostRuntime) -> Result<(), Fail
         (Call::Size, "archive/b", "", Ok(3)),
     ];
     for (call, name, text, wanted) in rows {
-        assert!(rt; outside.call(call, name, 0, text) == wanted);
+        assert!(rt;
+            outside.call(call, name, 0, text) == wanted,
+            "{call:?} {name}"
+        );
     }
     assert!(rt; is_file(&rt, "archive/b", "new")?);
     assert!(rt; is_file(&rt, "sinks/b", "next")?);
@@ -108,8 +114,11 @@ fn a_file_that_is_not_there_is_missing(rt: HostRuntime) -> Result<(), Fail> {
         (Call::Rename, Err(CallFault::Failed), 4),
     ];
     for (call, wanted, faults) in rows {
-        assert!(rt; outside.call(call, "sinks/c", 0, "sinks/d") == wanted);
-        assert!(rt; outside.site.faults() == faults);
+        assert!(rt;
+            outside.call(call, "sinks/c", 0, "sinks/d") == wanted,
+            "{call:?}"
+        );
+        assert!(rt; outside.site.faults() == faults, "{call:?}");
     }
     Ok(())
 }
@@ -149,8 +158,14 @@ fn a_file_and_a_log_are_read_in_pieces(rt: HostRuntime) -> Result<(), Fail> {
         (u64::MAX, 4, "", Some(6)),
     ];
     for (at, max, text, short) in rows {
-        assert!(rt; is_given(outside.reads("p.log", at, max), text, short));
-        assert!(rt; is_given(outside.reads_base("p.log", at, max), text, short));
+        assert!(rt;
+            is_given(outside.reads("p.log", at, max), text, short),
+            "{at} {max}"
+        );
+        assert!(rt;
+            is_given(outside.reads_base("p.log", at, max), text, short),
+            "{at} {max}"
+        );
     }
     assert!(rt; outside.reads("none.log", 0, 4).err() == Some(CallFault::Missing));
     assert!(rt; is_given(outside.reads_base("none.log", 0, 4), "", None));
@@ -209,7 +224,7 @@ fn generations_are_read_in_the_order_of_their_suffixes(rt: HostRuntime) -> Resul
     ];
     for (after, at, max, text, ended) in rows {
         let piece = outside.reads_after(after, at, max)?;
-        assert!(rt; is_piece(&piece, text, ended));
+        assert!(rt; is_piece(&piece, text, ended), "{after} {at}");
     }
     let newest = outside
         .site
@@ -263,5 +278,124 @@ fn a_folder_that_cannot_be_made_is_a_fault(rt: HostRuntime) -> Result<(), Fail> 
         assert!(rt; outside.site.faults() == faults);
     }
     fs::remove_file(&rt, "joined")?;
+    Ok(())
+}
+
+// Starts a process, and answers whether it was started.
+fn starts(outside: &mut Outside, role: Role, name: &str) -> Result<bool, Fail> {
+    let name = Word::from_text(outside.alloc, name)?;
+    let who = Who { role, name };
+    Ok(outside.site.start(outside.alloc, &who).is_ok())
+}
+
+// The process may be started where no other one of its name is, over and over. A writer may always.
+fn starts_alone(rt: HostRuntime, role: Role, name: &str, other: &str) -> Result<bool, Fail> {
+    let mut later = begin(rt)?;
+    let (refused, free) = {
+        let mut first = begin(rt)?;
+        let held = starts(&mut first, role, name)? && starts(&mut first, role, name)?;
+        let again = starts(&mut later, role, name)?;
+        (
+            held && again == (role == Role::Writer),
+            starts(&mut later, role, other)?,
+        )
+    };
+    Ok(refused && free && starts(&mut later, role, name)?)
+}
+
+#[test]
+fn one_process_at_a_time_has_a_name(rt: HostRuntime) -> Result<(), Fail> {
+    let rows = [
+        (Role::Agent, "h1", "h2"),
+        (Role::Collector, "h1", "h2"),
+        (Role::Writer, "h1", "h2"),
+    ];
+    for (role, name, other) in rows {
+        assert!(rt; starts_alone(rt, role, name, other)?, "{role:?}");
+    }
+    let (mut first, mut second) = (begin(rt)?, begin(rt)?);
+    assert!(rt; starts(&mut first, Role::Job, "j1")?);
+    assert!(rt; !starts(&mut second, Role::Job, "j2")?);
+    assert!(rt; second.site.faults() == 1);
+    assert!(rt; tells(&second, "start locks/job: another process holds this lock")?);
+    Ok(())
+}
+
+// What is told of the last call that failed.
+fn tells(outside: &Outside, text: &str) -> io::Result<bool> {
+    match outside.site.failure() {
+        Some(failure) => Ok(failure.to_string(outside.alloc)?.as_str() == text),
+        None => Ok(text.is_empty()),
+    }
+}
+
+#[test]
+fn a_failure_tells_its_cause(rt: HostRuntime) -> Result<(), Fail> {
+    let mut outside = begin(rt)?;
+    let rows = [
+        (Call::Remove, "sinks/e", ""),
+        (
+            Call::Append,
+            "sinks/e",
+            "append sinks/e: No such file or directory (os error 2)",
+        ),
+        (
+            Call::Create,
+            "sinks",
+            "append sinks/e: No such file or directory (os error 2)",
+        ),
+        (
+            Call::Append,
+            "sinks",
+            "append sinks: Is a directory (os error 21)",
+        ),
+        (
+            Call::Create,
+            "no/e",
+            "create no/e: No such file or directory (os error 2)",
+        ),
+        (Call::Size, "no/e", "size no/e: its folder is not there"),
+        (
+            Call::Size,
+            "sinks",
+            "size sinks: Is a directory (os error 21)",
+        ),
+    ];
+    for (call, name, wanted) in rows {
+        let _given = outside.call(call, name, 0, "");
+        assert!(rt; tells(&outside, wanted)?, "{call:?} {name}");
+    }
+    assert!(rt; outside.reads_base("sinks", 0, 1).is_err());
+    assert!(rt; tells(&outside, "logread sinks: Is a directory (os error 21)")?);
+    Ok(())
+}
+
+#[test]
+fn a_failure_of_a_message_tells_its_cause(rt: HostRuntime) -> Result<(), Fail> {
+    let mut outside = begin(rt)?;
+    let (alloc, who) = (outside.alloc, &outside.who);
+    assert!(rt;
+        outside
+            .site
+            .send(alloc, who, "127.0.0.1:1", b"lost".as_slice())
+            .is_err()
+    );
+    assert!(rt;
+        tells(
+            &outside,
+            "send 127.0.0.1:1: Connection refused (os error 111)"
+        )?
+    );
+    let (alloc, who) = (outside.alloc, &outside.who);
+    assert!(rt; outside.site.take(alloc, who, "127.0.0.1", 0).is_err());
+    assert!(rt; tells(&outside, "take 127.0.0.1: invalid socket address")?);
+    let (alloc, who) = (outside.alloc, &outside.who);
+    assert!(rt;
+        outside
+            .site
+            .answer(alloc, who, 1, b"late".as_slice())
+            .is_err()
+    );
+    assert!(rt; tells(&outside, "answer: the taking has ended")?);
     Ok(())
 }

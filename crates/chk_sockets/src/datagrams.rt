@@ -1,9 +1,9 @@
 //! Datagrams, each of them a whole message.
 ghost use Rattle.chk_site.specs.Site.{MayFail};
+ghost use Rattle.chk_sockets.specs.Faults.{answer_of};
 
-use crate::faults::failed;
+use crate::faults::SystemFault;
 use chk_bytes::Bytes;
-use chk_site::CallFault;
 use std::alloc::Global;
 use std::io::ErrorKind;
 use std::net::UdpSocket;
@@ -16,14 +16,14 @@ pub fn next_datagram(
     alloc: Global,
     wait: Duration,
     buffer: &mut Vec<u8>,
-) -> Result<Option<Bytes>, CallFault>
-    ensures { MayFail result }
+) -> Result<Option<Bytes>, SystemFault>
+    ensures { MayFail (answer_of result) }
 {
     let wait = wait.max(Duration::from_millis(1));
-    socket.set_read_timeout(Some(wait)).map_err(failed)?;
+    socket.set_read_timeout(Some(wait))?;
     match socket.recv_from(buffer) {
         Ok((count, _)) => Ok(Some(Bytes::from_slice(alloc, &buffer[..count])?)),
         Err(error) if error.kind() == ErrorKind::WouldBlock => Ok(None),
-        Err(_) => Err(CallFault::Failed),
+        Err(error) => Err(SystemFault::Failed(error)),
     }
 }

@@ -1,14 +1,17 @@
 //! The doors at which messages are taken. They stay open, so that no message is lost between
 //! takings.
 ghost use Rattle.chk_site.specs.Site.{MayFail};
+ghost use Rattle.chk_sockets.specs.Faults.{answer_of};
 
+use crate::addresses::look_up;
 use crate::datagrams::next_datagram;
-use crate::faults::failed;
+use crate::faults::{SystemFault, taking_ended};
 use crate::memory::{make_place, make_room, text};
 use crate::stream_door::StreamDoor;
 use chk_bytes::Bytes;
-use chk_site::CallFault;
 use std::alloc::Global;
+use std::io;
+use std::io::ErrorKind;
 use std::net::{Net, SocketAddr, UdpSocket};
 use std::time::{Clock, Duration};
 
@@ -49,8 +52,8 @@ impl<R: Net + Clock> Doors<R> {
         name: &str,
         number: u64,
         wait: Duration,
-    ) -> Result<Option<Bytes>, CallFault>
-        ensures { MayFail result }
+    ) -> Result<Option<Bytes>, SystemFault>
+        ensures { MayFail (answer_of result) }
     {
         make_room(&mut self.buffer)?;
         self.open(rt, alloc, name)?;
@@ -59,12 +62,12 @@ impl<R: Net + Clock> Doors<R> {
                 return door.socket.take(rt, alloc, number, wait, &mut self.buffer);
             }
         }
-        Err(CallFault::Failed)
+        Err(SystemFault::failed(ErrorKind::NotFound, "the door is not open"))
     }
 
     /// The next piece; no bytes of a taking that ended or was of a datagram.
-    pub fn more(&mut self, alloc: Global, taking: u64) -> Result<Bytes, CallFault>
-        ensures { MayFail result }
+    pub fn more(&mut self, alloc: Global, taking: u64) -> Result<Bytes, SystemFault>
+        ensures { MayFail (answer_of result) }
     {
         make_room(&mut self.buffer)?;
         for door in self.doors.iter_mut() {
@@ -78,8 +81,8 @@ impl<R: Net + Clock> Doors<R> {
     }
 
     /// `Failed` where the taking ended or was of a datagram.
-    pub fn answer(&mut self, rt: &R, taking: u64, bytes: &[u8]) -> Result<(), CallFault>
-        ensures { MayFail result }
+    pub fn answer(&mut self, rt: &R, taking: u64, bytes: &[u8]) -> Result<(), SystemFault>
+        ensures { MayFail (answer_of result) }
     {
         make_room(&mut self.buffer)?;
         for door in self.doors.iter_mut() {
@@ -89,12 +92,12 @@ impl<R: Net + Clock> Doors<R> {
                 }
             }
         }
-        Err(CallFault::Failed)
+        Err(taking_ended())
     }
 
     // Opens the door where it isn't open.
-    fn open(&mut self, rt: &R, alloc: Global, name: &str) -> Result<(), CallFault>
-        ensures { MayFail result }
+    fn open(&mut self, rt: &R, alloc: Global, name: &str) -> Result<(), SystemFault>
+        ensures { MayFail (answer_of result) }
     {
         if self.doors.iter().any(|door| door.name.as_str() == name) {
             return Ok(());
@@ -105,20 +108,39 @@ impl<R: Net + Clock> Doors<R> {
             name: kept_name,
             socket: Socket::open(rt, alloc, name)?,
         };
-        self.doors.push(door).map_err(|_| CallFault::Failed)
+        self.doors.push(door).map_err(|_| SystemFault::failed(
+            ErrorKind::OutOfMemory,
+            "no place for the door",
+        ))
     }
 }
 
 impl<R: Net + Clock> Socket<R> {
-    fn open(rt: &R, alloc: Global, name: &str) -> Result<Socket<R>, CallFault>
-        ensures { MayFail result }
+    // Opens it at the first address of the host where that can be done.
+    fn open(rt: &R, alloc: Global, name: &str) -> Result<Socket<R>, SystemFault>
+        ensures { MayFail (answer_of result) }
     {
-        if let Some(address) = name.strip_prefix(DATAGRAMS) {
-            let socket = rt.bind_udp(address_of(address)?).map_err(failed)?;
-            return Ok(Socket::Datagrams(socket));
+        let datagrams = name.strip_prefix(DATAGRAMS);
+        let mut last = io::Error::new(ErrorKind::NotFound, "the host has no address");
+        for address in look_up(rt, alloc, datagrams.unwrap_or(name))? {
+            match Socket::open_at(rt, alloc, datagrams.is_some(), address) {
+                Ok(socket) => return Ok(socket),
+                Err(error) => last = error,
+            }
         }
-        let streams = StreamDoor::open(rt, alloc, address_of(name)?).map_err(failed)?;
-        Ok(Socket::Streams(streams))
+        Err(SystemFault::Failed(last))
+    }
+
+    fn open_at(
+        rt: &R,
+        alloc: Global,
+        is_for_datagrams: bool,
+        address: SocketAddr,
+    ) -> io::Result<Socket<R>> {
+        if is_for_datagrams {
+            return Ok(Socket::Datagrams(rt.bind_udp(address)?));
+        }
+        Ok(Socket::Streams(StreamDoor::open(rt, alloc, address)?))
     }
 
     fn take(
@@ -128,19 +150,12 @@ impl<R: Net + Clock> Socket<R> {
         number: u64,
         wait: Duration,
         buffer: &mut Vec<u8>,
-    ) -> Result<Option<Bytes>, CallFault>
-        ensures { MayFail result }
+    ) -> Result<Option<Bytes>, SystemFault>
+        ensures { MayFail (answer_of result) }
     {
         match self {
             Socket::Streams(streams) => streams.take(rt, alloc, number, wait, buffer),
             Socket::Datagrams(socket) => next_datagram(socket, alloc, wait, buffer),
         }
     }
-}
-
-/// An IP address and a port. A host's name is none, since looking it up may take any time.
-pub fn address_of(text: &str) -> Result<SocketAddr, CallFault>
-    ensures { MayFail result }
-{
-    text.parse::<SocketAddr>().map_err(|_| CallFault::Failed)
 }

@@ -1,6 +1,7 @@
 //! Messages: inside the process, on TCP and on UDP, with every wait bounded.
 #![tactic(auto)]
 
+mod addresses;
 mod datagrams;
 mod deadline;
 mod doors;
@@ -12,7 +13,8 @@ mod sends;
 mod stream_door;
 mod streams;
 
-pub use memory::{make_room, text};
+pub use faults::SystemFault;
+pub use memory::{make_place, make_room, text};
 pub use messages::Messages;
 
 #[cfg(test)]

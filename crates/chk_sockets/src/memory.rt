@@ -5,7 +5,7 @@ use chk_bytes::NoMemory;
 use std::alloc::Global;
 
 /// How many bytes one system call gives at most.
-const PIECE_BYTES: usize = 131_072;
+pub const PIECE_BYTES: usize = 131_072;
 
 /// A copy of the text.
 pub fn text(alloc: Global, text: &str) -> Result<String, NoMemory>
@@ -25,5 +25,10 @@ pub fn make_room(buffer: &mut Vec<u8>) -> Result<(), NoMemory> {
 /// Makes room for one more item.
 pub fn make_place<T>(items: &mut Vec<T>) -> Result<(), NoMemory> {
     items.reserve(1)?;
+    Ok(())
+}
+
+pub fn push<T: Drop>(items: &mut Vec<T>, item: T) -> Result<(), NoMemory> {
+    items.push(item)?;
     Ok(())
 }

@@ -1,23 +1,28 @@
 //! Messages, with the numbers of what was sent and taken.
 ghost use Rattle.std.specs.Prelude.{◌≡◌, ◌+◌, IfOk, IfSome};
 ghost use Rattle.chk_site.specs.Site.{MayFail};
+ghost use Rattle.chk_sockets.specs.Faults.{answer_of};
 
 use crate::doors::Doors;
+use crate::faults::SystemFault;
 use crate::mailbox::{Mailbox, SELF};
 use crate::sends::Sends;
 use chk_bytes::Bytes;
-use chk_site::{CallFault, Taking};
+use chk_site::Taking;
 use std::alloc::Global;
+use std::io::ErrorKind;
 use std::net::Net;
 use std::time::{Clock, Duration};
 
 /// What this process sent and took: at the address `self`, a mailbox inside it, and over the network.
 /// Messages and takings are numbered from 1.
 ///
-/// An address is an IP address and a port, as `127.0.0.1:9000`; a host's name is none, since looking
-/// it up may take any time. A door is such an address, or `udp:` and one. One wait for a peer takes
-/// at most 2,000 ms. The last 64 messages that were sent over the network keep their streams for
-/// the answer.
+/// An address is an IP address or a host's name, and a port, as `127.0.0.1:9000` or `logs:9000`. A
+/// name is looked up at a send or when a door is opened, by the system and in its time; up to four
+/// addresses of a host are tried. The one to which a message was sent is kept, for the last 64
+/// addresses, and looked up again after a send to it failed. A door is an address, or `udp:` and one.
+/// One wait for a peer takes at most 2,000 ms. The last 64 messages that were sent over the network
+/// keep their streams for the answer.
 #[derive(Drop)]
 pub struct Messages<R: Net> {
     mailbox: Mailbox,
@@ -51,15 +56,15 @@ impl<R: Net + Clock> Messages<R> {
         alloc: Global,
         address: &str,
         bytes: &[u8],
-    ) -> Result<u64, CallFault>
+    ) -> Result<u64, SystemFault>
         ensures number { IfOk result (λ n. (n ≡ self.old.last_message + 1) × (self.new.last_message ≡ n)) }
-        ensures only { MayFail result }
+        ensures only { MayFail (answer_of result) }
     {
         let message = next_number(self.last_message)?;
         if address == SELF {
             self.mailbox.send(alloc, message, bytes)?;
         } else {
-            self.sends.send(rt, message, address, bytes)?;
+            self.sends.send(rt, alloc, message, address, bytes)?;
         }
         self.last_message = message;
         Ok(message)
@@ -68,8 +73,8 @@ impl<R: Net + Clock> Messages<R> {
     /// The answer to the message, once: up to 1,048,576 bytes that came within 2,000 ms. `Failed` where
     /// nothing came, or the message has no stream any more. At the mailbox no bytes come while there
     /// is no answer.
-    pub fn got(&mut self, rt: &R, alloc: Global, message: u64) -> Result<Bytes, CallFault>
-        ensures { MayFail result }
+    pub fn got(&mut self, rt: &R, alloc: Global, message: u64) -> Result<Bytes, SystemFault>
+        ensures { MayFail (answer_of result) }
     {
         match self.mailbox.got(alloc, message) {
             Some(bytes) => Ok(bytes),
@@ -79,17 +84,17 @@ impl<R: Net + Clock> Messages<R> {
 
     /// Takes the first piece of the next message at the door, within `wait` ms; the taking before at
     /// this door ends. A door is opened at the first taking and stays open. `Failed` where it can't
-    /// be opened or used. Up to 64 peers that have sent nothing yet are let in, each for 2,000 ms; further
-    /// ones wait in the system's queue.
+    /// be opened or used. All peers that wait are let in, up to the first one whose bytes are there. Up
+    /// to 256 that have sent nothing yet are held, each for 2,000 ms; then the oldest one goes.
     pub fn take(
         &mut self,
         rt: &R,
         alloc: Global,
         door: &str,
         wait: u64,
-    ) -> Result<Option<Taking>, CallFault>
+    ) -> Result<Option<Taking>, SystemFault>
         ensures number { IfOk result (λ taken. IfSome taken (λ t. (t.number ≡ self.old.last_taking + 1) × (self.new.last_taking ≡ t.number))) }
-        ensures only { MayFail result }
+        ensures only { MayFail (answer_of result) }
     {
         let number = next_number(self.last_taking)?;
         let taken = if door == SELF {
@@ -107,8 +112,8 @@ impl<R: Net + Clock> Messages<R> {
 
     /// The next piece of the message; no bytes at its end, where nothing came within 2,000 ms, where the
     /// taking ended, and at the mailbox, where a message is taken whole.
-    pub fn more(&mut self, alloc: Global, taking: u64) -> Result<Bytes, CallFault>
-        ensures { MayFail result }
+    pub fn more(&mut self, alloc: Global, taking: u64) -> Result<Bytes, SystemFault>
+        ensures { MayFail (answer_of result) }
     {
         self.doors.more(alloc, taking)
     }
@@ -122,8 +127,8 @@ impl<R: Net + Clock> Messages<R> {
         alloc: Global,
         taking: u64,
         bytes: &[u8],
-    ) -> Result<(), CallFault>
-        ensures { MayFail result }
+    ) -> Result<(), SystemFault>
+        ensures { MayFail (answer_of result) }
     {
         if !self.mailbox.has(taking) {
             return self.doors.answer(rt, taking, bytes);
@@ -134,9 +139,12 @@ impl<R: Net + Clock> Messages<R> {
     }
 }
 
-fn next_number(last: u64) -> Result<u64, CallFault>
+fn next_number(last: u64) -> Result<u64, SystemFault>
     ensures next { IfOk result (λ n. n ≡ last + 1) }
-    ensures only { MayFail result }
+    ensures only { MayFail (answer_of result) }
 {
-    last.checked_add(1).ok_or(CallFault::Failed)
+    match last.checked_add(1) {
+        Some(number) => Ok(number),
+        None => Err(SystemFault::failed(ErrorKind::Other, "there is no further number")),
+    }
 }

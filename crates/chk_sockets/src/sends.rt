@@ -1,18 +1,20 @@
 //! Messages that were sent, each on a stream of its own, on which its answer comes.
 ghost use Rattle.chk_site.specs.Site.{MayFail};
+ghost use Rattle.chk_sockets.specs.Faults.{answer_of};
 
-use crate::doors::address_of;
-use crate::faults::failed;
-use crate::memory::{make_place, make_room};
-use crate::streams::{reply_on, sent_on};
+use crate::addresses::{Routes, look_up};
+use crate::faults::SystemFault;
+use crate::memory::{make_place, make_room, text};
+use crate::streams::{connected, longest_wait, put_message, reply_on, share_of_wait};
 use chk_bytes::Bytes;
-use chk_site::CallFault;
 use std::alloc::Global;
-use std::net::Net;
+use std::io;
+use std::io::ErrorKind;
+use std::net::{Net, SocketAddr};
 use std::time::Clock;
 
 /// How many messages keep their streams; then the oldest one goes.
-const MOST_STREAMS: usize = 64;
+pub const MOST_STREAMS: usize = 64;
 
 #[derive(Drop)]
 struct Sent<R: Net> {
@@ -23,6 +25,7 @@ struct Sent<R: Net> {
 #[derive(Drop)]
 pub struct Sends<R: Net> {
     open: Vec<Sent<R>>,
+    routes: Routes,
     buffer: Vec<u8>,
 }
 
@@ -30,6 +33,7 @@ impl<R: Net + Clock> Sends<R> {
     pub fn new(alloc: Global) -> Sends<R> {
         Sends {
             open: Vec::new(alloc),
+            routes: Routes::new(alloc),
             buffer: Vec::new(alloc),
         }
     }
@@ -38,29 +42,62 @@ impl<R: Net + Clock> Sends<R> {
     pub fn send(
         &mut self,
         rt: &R,
+        alloc: Global,
         message: u64,
         address: &str,
         bytes: &[u8],
-    ) -> Result<(), CallFault>
-        ensures { MayFail result }
+    ) -> Result<(), SystemFault>
+        ensures { MayFail (answer_of result) }
     {
-        let address = address_of(address)?;
         make_place(&mut self.open)?;
-        let stream = sent_on(rt, address, bytes).map_err(failed)?;
+        let kept_text = text(alloc, address)?;
+        let (mut stream, route) = self.stream_to(rt, alloc, address)?;
+        put_message(&mut stream, bytes)?;
+        self.routes.keep(kept_text, route);
         if self.open.len() >= MOST_STREAMS {
             let _oldest = self.open.remove(0);
         }
-        self.open
-            .push(Sent { message, stream })
-            .map_err(|_| CallFault::Failed)
+        self.open.push(Sent { message, stream }).map_err(|_| SystemFault::failed(
+            ErrorKind::OutOfMemory,
+            "no place for the stream",
+        ))
+    }
+
+    // What was found for the address is forgotten, so that it is looked up again where the send to it
+    // fails.
+    fn stream_to(
+        &mut self,
+        rt: &R,
+        alloc: Global,
+        address: &str,
+    ) -> Result<(R::Stream, SocketAddr), SystemFault>
+        ensures { MayFail (answer_of result) }
+    {
+        if let Some(route) = self.routes.take(address) {
+            let stream = connected(rt, route, longest_wait())?;
+            return Ok((stream, route));
+        }
+        let found = look_up(rt, alloc, address)?;
+        let wait = share_of_wait(found.len());
+        let mut last = io::Error::new(ErrorKind::NotFound, "the host has no address");
+        for route in found {
+            match connected(rt, route, wait) {
+                Ok(stream) => return Ok((stream, route)),
+                Err(error) => last = error,
+            }
+        }
+        Err(SystemFault::Failed(last))
     }
 
     /// The answer to this message; its stream ends.
-    pub fn got(&mut self, rt: &R, alloc: Global, message: u64) -> Result<Bytes, CallFault>
-        ensures { MayFail result }
+    pub fn got(&mut self, rt: &R, alloc: Global, message: u64) -> Result<Bytes, SystemFault>
+        ensures { MayFail (answer_of result) }
     {
         let Some(place) = self.open.iter().position(|sent| sent.message == message) else {
-            return Err(CallFault::Failed);
+            return Err(SystemFault::failed(
+                ErrorKind::NotConnected,
+                "the message has no stream any more",
+            ));
         };
         make_room(&mut self.buffer)?;
         let mut sent = self.open.remove(place);

@@ -1,12 +1,12 @@
 //! A door at a TCP address: a socket that listens, and the streams of its peers.
 ghost use Rattle.std.specs.Prelude.{◌≤◌, length, IfOk, IfSome};
 ghost use Rattle.chk_site.specs.Site.{MayFail};
+ghost use Rattle.chk_sockets.specs.Faults.{answer_of};
 
 use crate::deadline::Deadline;
-use crate::faults::failed;
+use crate::faults::{SystemFault, taking_ended};
 use crate::streams::{bound_waits, end_stream, longest_wait, next_piece, write_before};
 use chk_bytes::{Bytes, NoMemory};
-use chk_site::CallFault;
 use std::alloc::Global;
 use std::collections::VecDeque;
 use std::io::{ErrorKind, Read};
@@ -14,23 +14,28 @@ use std::net::{Net, OpenListener, OpenStream, SocketAddr};
 use std::time::{Clock, Duration};
 use std::{io, thread};
 
-/// The time between two looks at a door, in milliseconds: the first ones follow fast, since the next
-/// message often comes at once.
+/// The time between two looks at a door, in milliseconds: the first ones follow fast, and those after
+/// a look at which somebody came, since the next message often comes at once.
 const FAST_MS: u64 = 1;
 
 const SLOW_MS: u64 = 10;
 
 const FAST_LOOKS: u64 = 20;
 
-/// How many peers that have sent nothing yet are waited for at a time; further ones wait outside.
-const MOST_SILENT: usize = 64;
+/// How many peers that have sent nothing yet are held; then the oldest one goes.
+pub const MOST_SILENT: usize = 256;
+
+/// How many peers are let in at one look, so that a look ends.
+const MOST_LET_IN: u32 = 4_096;
 
 /// A listening socket. It stays open between takings.
 #[derive(Drop)]
 pub struct StreamDoor<R: Net> {
     listener: R::Listener,
-    /// The peers that have sent nothing yet.
+    /// The peers that have sent nothing yet, the oldest first.
     silent: VecDeque<Silent<R>>,
+    /// How many looks there were since somebody came or was taken.
+    quiet_looks: u64,
     taken: Option<Taken<R>>,
 }
 
@@ -60,6 +65,7 @@ impl<R: Net + Clock> StreamDoor<R> {
         Ok(StreamDoor {
             listener,
             silent: VecDeque::new(alloc),
+            quiet_looks: 0,
             taken: None,
         })
     }
@@ -79,12 +85,12 @@ impl<R: Net + Clock> StreamDoor<R> {
         number: u64,
         wait: Duration,
         buffer: &mut Vec<u8>,
-    ) -> Result<Option<Bytes>, CallFault>
-        ensures { MayFail result }
+    ) -> Result<Option<Bytes>, SystemFault>
+        ensures { MayFail (answer_of result) }
     {
         self.make_places()?;
         self.taken = None;
-        let Some(arrival) = self.wait_for(rt, wait, buffer).map_err(failed)? else {
+        let Some(arrival) = self.wait_for(rt, wait, buffer)? else {
             return Ok(None);
         };
         let bytes = Bytes::from_slice(alloc, &buffer[..arrival.count])?;
@@ -96,8 +102,8 @@ impl<R: Net + Clock> StreamDoor<R> {
     }
 
     /// The next piece of the message that was taken; no bytes at its end.
-    pub fn more(&mut self, alloc: Global, buffer: &mut Vec<u8>) -> Result<Bytes, CallFault>
-        ensures { MayFail result }
+    pub fn more(&mut self, alloc: Global, buffer: &mut Vec<u8>) -> Result<Bytes, SystemFault>
+        ensures { MayFail (answer_of result) }
     {
         let Some(mut taken) = self.taken.take() else {
             return Ok(Bytes::new(alloc));
@@ -109,20 +115,20 @@ impl<R: Net + Clock> StreamDoor<R> {
     }
 
     /// Answers the message that was taken, and ends it.
-    pub fn answer(&mut self, rt: &R, bytes: &[u8], buffer: &mut Vec<u8>) -> Result<(), CallFault>
-        ensures { MayFail result }
+    pub fn answer(&mut self, rt: &R, bytes: &[u8], buffer: &mut Vec<u8>) -> Result<(), SystemFault>
+        ensures { MayFail (answer_of result) }
     {
         let Some(mut taken) = self.taken.take() else {
-            return Err(CallFault::Failed);
+            return Err(taking_ended());
         };
-        let deadline = Deadline::after(rt, longest_wait()).map_err(failed)?;
-        write_before(rt, deadline, &mut taken.stream, bytes).map_err(failed)?;
+        let deadline = Deadline::after(rt, longest_wait())?;
+        write_before(rt, deadline, &mut taken.stream, bytes)?;
         end_stream(rt, &mut taken.stream, buffer);
         Ok(())
     }
 
     fn make_places(&mut self) -> Result<(), NoMemory> {
-        self.silent.reserve(MOST_SILENT)?;
+        self.silent.reserve(MOST_SILENT + 1)?;
         Ok(())
     }
 
@@ -136,7 +142,8 @@ impl<R: Net + Clock> StreamDoor<R> {
         ensures { IfOk result (λ found. IfSome found (λ arrival. arrival.count ≤ length buffer.new.items)) }
     {
         let deadline = Deadline::after(rt, wait)?;
-        for looks in 0..u64::MAX {
+        self.quiet_looks = 0;
+        for _ in 0..u64::MAX {
             if let Some(arrival) = self.look(rt, buffer)? {
                 return Ok(Some(arrival));
             }
@@ -144,17 +151,24 @@ impl<R: Net + Clock> StreamDoor<R> {
             if left.is_zero() {
                 break;
             }
-            let pause = if looks < FAST_LOOKS { FAST_MS } else { SLOW_MS };
-            thread::sleep(rt, left.min(Duration::from_millis(pause)));
+            thread::sleep(rt, left.min(self.pause()));
         }
         Ok(None)
     }
 
-    // One look at the door, without a wait.
+    fn pause(&self) -> Duration {
+        let pause = if self.quiet_looks < FAST_LOOKS {
+            FAST_MS
+        } else {
+            SLOW_MS
+        };
+        Duration::from_millis(pause)
+    }
+
+    // One look at the door, without a wait: at the peers that were let in, and then at those outside.
     fn look(&mut self, rt: &R, buffer: &mut Vec<u8>) -> io::Result<Option<Arrival<R>>>
         ensures { IfOk result (λ found. IfSome found (λ arrival. arrival.count ≤ length buffer.new.items)) }
     {
-        self.let_in(rt)?;
         for _ in 0..self.silent.len() {
             let Some(silent) = self.silent.pop_front() else {
                 break;
@@ -163,23 +177,59 @@ impl<R: Net + Clock> StreamDoor<R> {
                 return Ok(Some(arrival));
             }
         }
+        self.quiet_looks = self.quiet_looks.saturating_add(1);
+        self.let_in(rt, buffer)
+    }
+
+    // Lets in the peers that wait outside, up to the first one whose bytes are there.
+    fn let_in(&mut self, rt: &R, buffer: &mut Vec<u8>) -> io::Result<Option<Arrival<R>>>
+        ensures { IfOk result (λ found. IfSome found (λ arrival. arrival.count ≤ length buffer.new.items)) }
+    {
+        for _ in 0..MOST_LET_IN {
+            let stream = match self.listener.accept() {
+                Ok((stream, _)) => stream,
+                Err(error) if error.kind() == ErrorKind::WouldBlock => break,
+                Err(error) if went_away(error.kind()) => continue,
+                Err(error) => return Err(error),
+            };
+            self.quiet_looks = 0;
+            if let Some(arrival) = self.look_at_new(rt, stream, buffer)? {
+                return Ok(Some(arrival));
+            }
+        }
         Ok(None)
     }
 
-    // Accepts the peers that wait outside, as many as there is place for.
-    fn let_in(&mut self, rt: &R) -> io::Result<()> {
-        for _ in self.silent.len()..MOST_SILENT {
-            match self.listener.accept() {
-                Ok((stream, _)) if stream.set_nonblocking(true).is_ok() => {
-                    let deadline = Deadline::after(rt, longest_wait())?;
-                    self.silent.push_back(Silent { stream, deadline })?;
-                }
-                Ok(_) => {}
-                Err(error) if is_passing(error.kind()) => break,
-                Err(error) => return Err(error),
-            }
+    // Looks at a peer that comes in. Where too many are silent then, the oldest one is looked at for
+    // the last time.
+    fn look_at_new(
+        &mut self,
+        rt: &R,
+        stream: R::Stream,
+        buffer: &mut Vec<u8>,
+    ) -> io::Result<Option<Arrival<R>>>
+        ensures { IfOk result (λ found. IfSome found (λ arrival. arrival.count ≤ length buffer.new.items)) }
+    {
+        if stream.set_nonblocking(true).is_err() {
+            return Ok(None);
         }
-        Ok(())
+        let deadline = Deadline::after(rt, longest_wait())?;
+        if let Some(arrival) = self.look_at(rt, Silent { stream, deadline }, buffer)? {
+            return Ok(Some(arrival));
+        }
+        if self.silent.len() <= MOST_SILENT {
+            return Ok(None);
+        }
+        let Some(mut oldest) = self.silent.pop_front() else {
+            return Ok(None);
+        };
+        match first_bytes(&mut oldest.stream, buffer) {
+            Ok(Some(count)) => Ok(Some(Arrival {
+                stream: oldest.stream,
+                count,
+            })),
+            _ => Ok(None),
+        }
     }
 
     // Looks at one peer. It stays where it has sent nothing yet.
@@ -195,27 +245,42 @@ impl<R: Net + Clock> StreamDoor<R> {
             mut stream,
             deadline,
         } = silent;
-        match stream.read(buffer) {
-            Ok(count) if count > 0 && bound_waits(&stream).is_ok() => {
-                Ok(Some(Arrival { stream, count }))
-            }
-            Err(error) if error.kind() == ErrorKind::WouldBlock => {
+        match first_bytes(&mut stream, buffer) {
+            Ok(Some(count)) => Ok(Some(Arrival { stream, count })),
+            Ok(None) => {
                 if !deadline.left(rt)?.is_zero() {
                     self.silent.push_back(Silent { stream, deadline })?;
                 }
                 Ok(None)
             }
-            _ => Ok(None),
+            Err(_) => Ok(None),
         }
     }
 }
 
-// Nobody is there, or somebody went away again.
-fn is_passing(kind: ErrorKind) -> bool {
+// How many bytes a peer sent first, none where it is silent yet. It fails where the peer went away.
+fn first_bytes<S: Read + OpenStream>(
+    stream: &mut S,
+    buffer: &mut Vec<u8>,
+) -> io::Result<Option<usize>>
+    ensures { IfOk result (λ heard. IfSome heard (λ count. count ≤ length buffer.new.items)) }
+{
+    match stream.read(buffer) {
+        Ok(0) => Err(io::Error::from(ErrorKind::UnexpectedEof)),
+        Ok(count) => {
+            bound_waits(stream)?;
+            Ok(Some(count))
+        }
+        Err(error) if error.kind() == ErrorKind::WouldBlock => Ok(None),
+        Err(error) => Err(error),
+    }
+}
+
+// A peer that waited outside went away again.
+fn went_away(kind: ErrorKind) -> bool {
     matches!(
         kind,
-        ErrorKind::WouldBlock
-            | ErrorKind::Interrupted
+        ErrorKind::Interrupted
             | ErrorKind::ConnectionAborted
             | ErrorKind::ConnectionReset
             | ErrorKind::NetworkDown

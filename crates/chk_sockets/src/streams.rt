@@ -1,11 +1,11 @@
 //! Streams to peers, with every wait bounded.
 ghost use Rattle.std.specs.Prelude.{◌<◌, ◌≤◌, length, IfOk};
 ghost use Rattle.chk_site.specs.Site.{MayFail};
+ghost use Rattle.chk_sockets.specs.Faults.{answer_of};
 
 use crate::deadline::Deadline;
-use crate::faults::failed;
+use crate::faults::SystemFault;
 use chk_bytes::Bytes;
-use chk_site::CallFault;
 use std::alloc::Global;
 use std::io;
 use std::io::{ErrorKind, Read, Write};
@@ -13,10 +13,10 @@ use std::net::{Net, OpenStream, Shutdown, SocketAddr, TcpStream};
 use std::time::{Clock, Duration};
 
 /// How many milliseconds one wait for a peer takes at most.
-const WAIT_MS: u64 = 2_000;
+pub const WAIT_MS: u64 = 2_000;
 
 /// How many bytes of a reply are read at most.
-const MOST_REPLY: usize = 1_048_576;
+pub const MOST_REPLY: usize = 1_048_576;
 
 /// How often what follows an answer is read at most.
 const MOST_READS: u32 = 128;
@@ -25,13 +25,22 @@ pub fn longest_wait() -> Duration {
     Duration::from_millis(WAIT_MS)
 }
 
-/// A new stream to this address, with the message on it and its end.
-pub fn sent_on<R: Net>(rt: &R, address: SocketAddr, bytes: &[u8]) -> io::Result<R::Stream> {
-    let mut stream = TcpStream::connect_timeout(rt, &address, longest_wait())?;
+/// The time for each of so many addresses, that are all tried within one wait.
+pub fn share_of_wait(addresses: usize) -> Duration {
+    Duration::from_millis(WAIT_MS / (addresses as u64).max(1))
+}
+
+/// A new stream to this address.
+pub fn connected<R: Net>(rt: &R, address: SocketAddr, wait: Duration) -> io::Result<R::Stream> {
+    let stream = TcpStream::connect_timeout(rt, &address, wait)?;
     bound_waits(&stream)?;
-    stream.write_all(bytes)?;
-    stream.shutdown(Shutdown::Write)?;
     Ok(stream)
+}
+
+/// Puts the message on the stream, and its end.
+pub fn put_message<S: Write + OpenStream>(stream: &mut S, bytes: &[u8]) -> io::Result<()> {
+    stream.write_all(bytes)?;
+    stream.shutdown(Shutdown::Write)
 }
 
 /// Each read and each write ends in time.
@@ -83,12 +92,12 @@ pub fn reply_on<R: Clock, S: Read + OpenStream>(
     alloc: Global,
     stream: &mut S,
     buffer: &mut Vec<u8>,
-) -> Result<Bytes, CallFault>
+) -> Result<Bytes, SystemFault>
     ensures some { IfOk result (λ bytes. 0 < length bytes) }
-    ensures most { IfOk result (λ bytes. length bytes ≤ 1048576) }
-    ensures only { MayFail result }
+    ensures most { IfOk result (λ bytes. length bytes ≤ MOST_REPLY) }
+    ensures only { MayFail (answer_of result) }
 {
-    let deadline = Deadline::after(rt, longest_wait()).map_err(failed)?;
+    let deadline = Deadline::after(rt, longest_wait())?;
     let mut bytes = Bytes::new(alloc);
     for _ in 0..MOST_REPLY {
         let most = MOST_REPLY.saturating_sub(bytes.len());
@@ -99,7 +108,7 @@ pub fn reply_on<R: Clock, S: Read + OpenStream>(
         bytes.push_all(&buffer[..count])?;
     }
     if bytes.len() == 0 {
-        return Err(CallFault::Failed);
+        return Err(SystemFault::failed(ErrorKind::TimedOut, "no answer came"));
     }
     Ok(bytes)
 }

@@ -1,5 +1,5 @@
 // Messages over real sockets on the loopback interface.
-use crate::Messages;
+use crate::{Messages, SystemFault};
 use chk_bytes::Bytes;
 use chk_site::{CallFault, Taking};
 use std::alloc::Global;
@@ -30,16 +30,22 @@ fn begin(rt: HostRuntime) -> End {
 impl End {
     fn send(&mut self, address: &str, text: &str) -> Result<u64, CallFault> {
         let bytes = text.as_bytes();
-        self.messages.send(&self.rt, self.alloc, address, bytes)
+        self.messages
+            .send(&self.rt, self.alloc, address, bytes)
+            .map_err(SystemFault::call_fault)
     }
 
     fn take(&mut self, door: &str, wait: u64) -> Result<Option<Taking>, CallFault> {
-        self.messages.take(&self.rt, self.alloc, door, wait)
+        self.messages
+            .take(&self.rt, self.alloc, door, wait)
+            .map_err(SystemFault::call_fault)
     }
 
     fn answer(&mut self, taking: u64, text: &str) -> Result<(), CallFault> {
         let bytes = text.as_bytes();
-        self.messages.answer(&self.rt, self.alloc, taking, bytes)
+        self.messages
+            .answer(&self.rt, self.alloc, taking, bytes)
+            .map_err(SystemFault::call_fault)
     }
 
     // The next taking within a second is this one.
@@ -59,7 +65,7 @@ impl End {
     fn gets(&mut self, message: u64, wanted: Option<&str>) -> bool {
         match (self.messages.got(&self.rt, self.alloc, message), wanted) {
             (Ok(bytes), Some(text)) => is_text(&bytes, text),
-            (Err(CallFault::Failed), None) => true,
+            (Err(SystemFault::Failed(_)), None) => true,
             _ => false,
         }
     }
@@ -112,8 +118,31 @@ fn a_start_empties_the_mailbox(rt: HostRuntime) -> Result<(), Fail> {
 fn nobody_takes_what_is_sent_elsewhere(rt: HostRuntime) -> Result<(), Fail> {
     let address = free_address(&rt)?;
     let mut end = begin(rt);
-    for address in [address.as_str(), "localhost:80", ""] {
+    for address in [address.as_str(), "127.0.0.1", "localhost:99999", ""] {
         assert!(rt; end.send(address, "lost") == Err(CallFault::Failed));
+    }
+    Ok(())
+}
+
+// The port of an address, behind the name of this host.
+fn by_name(rt: &HostRuntime, address: &str) -> io::Result<String> {
+    let port = match address.rsplit_once(':') {
+        Some((_, port)) => port,
+        None => "",
+    };
+    Ok(format!(in rt.alloc(); "localhost:{port}")?)
+}
+
+#[test]
+fn a_host_is_found_by_its_name(rt: HostRuntime) -> Result<(), Fail> {
+    let address = by_name(&rt, free_address(&rt)?.as_str())?;
+    let door = address.as_str();
+    let (mut here, mut there) = (begin(rt), begin(rt));
+    assert!(rt; there.send(door, "lost") == Err(CallFault::Failed));
+    assert!(rt; here.finds_none(door));
+    for number in 1..=3 {
+        assert!(rt; round_trip(&mut here, &mut there, door, number)?);
+        assert!(rt; there.gets(number, Some("taken\n")));
     }
     Ok(())
 }
@@ -184,7 +213,7 @@ fn an_early_answer_is_not_lost(rt: HostRuntime) -> Result<(), Fail> {
     let (mut here, mut there) = (begin(rt), begin(rt));
     assert!(rt; here.finds_none(door));
     let bytes = vec![in rt.alloc(); 7u8; 200_000]?;
-    there.messages.send(&rt, rt.alloc(), door, &bytes)?;
+    assert!(rt; there.messages.send(&rt, rt.alloc(), door, &bytes).is_ok());
     assert!(rt; here.take(door, 1000)?.is_some());
     here.answer(1, "refused\n")?;
     assert!(rt; there.gets(1, Some("refused\n")));

@@ -1,8 +1,8 @@
 // `round` over a site in memory.
 use crate::outside::{failing_at, stop_at, with_file, with_log};
-use chk_test_calls::quiet;
 use chk_site::Script;
 use chk_site_mem::SiteMem;
+use chk_test_calls::quiet;
 use chukwa_run::run;
 use std::alloc::Global;
 use std::test::Fail;

@@ -1,6 +1,6 @@
 // A site in memory for a test: its files and logs are made by a writer before the first call.
-use chk_test_calls::{left_of, quiet, written};
 use chk_site::{Call, Script, StopAt};
+use chk_test_calls::{left_of, quiet, written};
 use std::alloc::Global;
 use std::test::Fail;
 

@@ -1,9 +1,9 @@
 // The replacement of a file, failed and stopped at each of its calls.
-use chk_test_calls::{failing, left_of, quiet, stopping};
 use chk_bytes::Word;
 use chk_replace::{load, replace};
 use chk_site::{Call, OutsideFault, Role, Script, Who};
 use chk_site_mem::SiteMem;
+use chk_test_calls::{failing, left_of, quiet, stopping};
 use std::alloc::Global;
 use std::test::Fail;
 

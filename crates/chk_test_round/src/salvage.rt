@@ -1,10 +1,10 @@
 // `salvage` over a site in memory.
 use crate::first_path::{HEADER, Ran, printed, run_on};
 use crate::outside::{failing_at, with_bytes};
-use chk_test_calls::quiet;
 use chk_bytes::Bytes;
 use chk_site::{Call, Script};
 use chk_site_mem::SiteMem;
+use chk_test_calls::quiet;
 use std::alloc::Global;
 use std::test::Fail;
 

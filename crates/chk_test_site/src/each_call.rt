@@ -1,7 +1,7 @@
 // Each call on a site in memory in each of its answers.
-use chk_test_calls::{collector, failing, follows, left_of, quiet, stopping};
 use chk_site::{Script, Site};
 use chk_site_mem::SiteMem;
+use chk_test_calls::{collector, failing, follows, left_of, quiet, stopping};
 use std::alloc::Global;
 use std::test::Fail;
 

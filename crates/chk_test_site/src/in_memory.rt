@@ -1,8 +1,8 @@
 // Scripts of a site in memory: messages between processes, takings that are repeated, and what stands after a stop.
-use chk_test_calls::{collector, failing, follows, left_of, quiet, repeating, stopping, written};
 use chk_bytes::Word;
 use chk_site::{Call, Role, Script, Who};
 use chk_site_mem::SiteMem;
+use chk_test_calls::{collector, failing, follows, left_of, quiet, repeating, stopping, written};
 use std::alloc::Global;
 use std::test::Fail;
 

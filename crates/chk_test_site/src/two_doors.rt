@@ -1,9 +1,9 @@
 // A message over the network: to the real site by a peer of std, and to the site in memory by an act of a sender. What
 // is taken, in pieces or whole, and the answer are the same.
-use chk_test_calls::{collector, quiet, written};
 use chk_site::{Call, Script, Site, Taking};
 use chk_site_mem::SiteMem;
 use chk_site_real::SiteReal;
+use chk_test_calls::{collector, quiet, written};
 use std::alloc::Global;
 use std::io;
 use std::io::{Read, Write};

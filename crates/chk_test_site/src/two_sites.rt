@@ -1,10 +1,10 @@
 // One program of calls over the real site, in a folder without files, and over the site in memory: both answer as it
 // says. What a writer does is done by std at the one, and by acts of the script at the other.
-use chk_test_calls::{collector, follows, quiet, written};
 use chk_bytes::Bytes;
 use chk_site::{ActAnswer, Call, Other, Script, Site, Words};
 use chk_site_mem::SiteMem;
 use chk_site_real::SiteReal;
+use chk_test_calls::{collector, follows, quiet, written};
 use std::alloc::Global;
 use std::fs::OpenOptions;
 use std::io::Write;

@@ -1,19 +1,19 @@
 -- What the printing of a last line leads to.
-use Rattle.std.proofs.Common.{◌≡◌, inl, inr, ℕ, ◌≤◌, List, [], ◌∷◌, ◌++◌, length, take, Ok, Err, Some, None, Option, Result, refl, sym, ◌∙◌, ap, subst, length-append, arith}
+use Rattle.std.proofs.Common.{◌≡◌, inl, inr, ℕ, List, [], ◌∷◌, ◌++◌, length, take, Some, None, Option, Result, refl, sym, ◌∙◌, ap, subst, length-append, arith}
 use Rattle.std.proofs.lemmas.List.{take-append-le, take_all}
 use Rattle.chk_site.specs.declared.acts.Act.{Act}
 use Rattle.chk_site.specs.declared.acts.Who.{Who}
 use Rattle.chk_site.specs.declared.acts.Call.TheVariants.{Say}
 use Rattle.chk_site.specs.declared.acts.CallFault.{CallFault}
-use Rattle.chk_site.specs.declared.acts.CallFault.TheVariants.{Failed, Missing, Exists, Short, NoMemory}
 use Rattle.chk_site.specs.declared.acts.ActAnswer.TheVariants.{Refused, Stopped}
 use Rattle.chk_site.specs.History.{History, Others}
-use Rattle.chk_site.specs.Site.{Adds, asked, answered, plain, Calls, CauseOf, Rose}
+use Rattle.chk_site.specs.Site.{Adds, asked, answered, plain, Calls}
 use Rattle.chk_site.specs.Runs.{anyhow, Leads}
 use Rattle.chk_site.proofs.Runs.{adds_as}
 use Rattle.chk_site.proofs.Leads.{any_leads}
 use Rattle.chukwa_run.specs.CommandWords.{Round, Asked as Wanted, Rounds, Salvages, asked as wanted_by, usage_of}
-use Rattle.chukwa_run.specs.Lines.{fault_status, usage_text, usage_line}
+use Rattle.chukwa_run.specs.Lines.{usage_text, usage_line}
+use Rattle.chukwa_run.specs.Statuses.{number_of, round_status}
 use Rattle.chukwa_run.specs.declared.command_words.Usage.{Usage}
 use Rattle.chukwa_run.specs.declared.faults.RunFault.{RunFault}
 use Rattle.chukwa_run.specs.declared.faults.RunFault.TheVariants.{Outside as OutsideCall, NoMemory as NoMemoryLeft, LogTooLong, SinkIsThere}
@@ -21,6 +21,7 @@ use Rattle.chukwa_run.specs.Rounds.{ClosedIsFront, IsForeign, StaysFront, RoundI
 use Rattle.chukwa_run.specs.Acts.{Anyone, ActedSo, GoesOn, writer_chukwa}
 use Rattle.chukwa_run.specs.Sayings.{ThenSaid, NoActs}
 use Rattle.chukwa_run.specs.Runs.{StaysFrontBy, ClosedStaysFront, RoundRuns, SaidUsage, RunsAs, RunsSo}
+use Rattle.chukwa_run.specs.Salvages.{SalvagePrints}
 use Rattle.chukwa_run.proofs.Kept.{foreign_keeps, quiet_shows, to_anything, anything_stays}
 use Rattle.chukwa_run.proofs.ActsCalls.{anyone_keeps, acted_shows, stop_shows, acts_as}
 
@@ -55,15 +56,6 @@ say_acts earlier Before line r told =
     (λ before held. acts_as earlier Before (ThenSaid Before line) before (unsaid Before line) held)
     told
 
--- a call never lowers the count of faults
-pub count_grows : {T : Type 0} (r : Result T CallFault) (before now : ℕ) → CauseOf before now r → before ≤ now
-count_grows (Ok value) before now cause = omega (arith, cause)
-count_grows (Err Failed) before now cause = cause.1
-count_grows (Err Missing) before now cause = omega (arith, cause)
-count_grows (Err Exists) before now cause = omega (arith, cause)
-count_grows (Err (Short size)) before now cause = omega (arith, cause)
-count_grows (Err NoMemory) before now cause = omega (arith, cause)
-
 -- what stands before an equal end is equal
 pub front_is : {A : Type 0} (a b c : List A) → a ++ c ≡ b ++ c → a ≡ b
 front_is {A = A} a b c e =
@@ -94,10 +86,6 @@ stays_front_by given status {old = old} {new = new} leads = record {
   untold = (leads []).untold;
 }
 
--- a later count has risen too
-pub rose_on : (before middle now : ℕ) → Rose before middle → middle ≤ now → Rose before now
-rose_on before middle now rose more = omega (arith, rose, more)
-
 -- a line that was said, by other names of the writer and the line
 pub said_as : (r : Result (Unit {0}) CallFault) {who who' : Who} {line line' : List ℕ} {old new : Option History} → who ≡ who' → line ≡ line'
     → Adds old new (Calls (asked who Say (line ∷ []) 0 0) (answered plain r)) → Adds old new (Calls (asked who' Say (line' ∷ []) 0 0) (answered plain r))
@@ -113,14 +101,14 @@ at_first given acts none = subst (GoesOn given) (sym none) (record { mine = tt; 
 pub whole_at_zero : (given : Round) (earlier h : History) → Holds given earlier (λ added. RoundIsWhole given added earlier) h → RoundRuns given earlier 0 h
 whole_at_zero given earlier h held = record { added = held.added; goes_on = held.goes_on; holds = (held.holds.0, λ e. held.holds.1) }
 
-never_zero : (fault : RunFault) → fault_status fault ≡ 0 → ⊥
+never_zero : (fault : RunFault) → number_of (round_status fault) ≡ 0 → ⊥
 never_zero (OutsideCall call) e = cc
 never_zero NoMemoryLeft e = cc
 never_zero LogTooLong e = cc
 never_zero SinkIsThere e = cc
 
 -- a round that isn't
-pub not_zero : (given : Round) (earlier : History) (fault : RunFault) {status : ℕ} → status ≡ fault_status fault → (h : History)
+pub not_zero : (given : Round) (earlier : History) (fault : RunFault) {status : ℕ} → status ≡ number_of (round_status fault) → (h : History)
     → Holds given earlier Anything h → RoundRuns given earlier status h
 not_zero given earlier fault e h held = record {
   added = held.added;
@@ -156,3 +144,22 @@ usage_acts words usage none is acts said =
 pub acts_if_asked : (words : List (List ℕ)) {wanted : Wanted} (status : ℕ) → wanted_by words ≡ Some wanted
     → (acts : List Act) → RunsAs (Some wanted) (usage_line words) status acts → RunsSo words status acts
 acts_if_asked words status e acts x = subst (λ (o : Option Wanted). RunsAs o (usage_line words) status acts) (sym e) x
+
+-- what is said of a status, by its number
+pub front_by_number : (wanted : Option Wanted) {status number : ℕ} {old new : Option History} → status ≡ number
+    → Adds old new (ClosedStaysFront wanted status) → Adds old new (ClosedStaysFront wanted number)
+front_by_number wanted {old = old} {new = new} e told =
+    subst (λ (n : ℕ). Adds old new (ClosedStaysFront wanted n)) e told
+
+-- of what was printed
+pub prints_by_number : (wanted : Option Wanted) {status number : ℕ} {old new : Option History} → status ≡ number
+    → Adds old new (SalvagePrints wanted status) → Adds old new (SalvagePrints wanted number)
+prints_by_number wanted {old = old} {new = new} e told =
+    subst (λ (n : ℕ). Adds old new (SalvagePrints wanted n)) e told
+
+-- and of the acts
+pub acts_by_number : (words : List (List ℕ)) (earlier : History) {status number : ℕ} {old new : Option History} → status ≡ number
+    → Adds old new (Leads (anyhow Anyone) (ActedSo earlier NoActs) (ActedSo earlier (RunsSo words status)))
+    → Adds old new (Leads (anyhow Anyone) (ActedSo earlier NoActs) (ActedSo earlier (RunsSo words number)))
+acts_by_number words earlier {old = old} {new = new} e told =
+    subst (λ (n : ℕ). Adds old new (Leads (anyhow Anyone) (ActedSo earlier NoActs) (ActedSo earlier (RunsSo words n)))) e told

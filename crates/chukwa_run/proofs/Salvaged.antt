@@ -19,7 +19,8 @@ use Rattle.chukwa_salvage.specs.declared.fault.SalvageFault.{SalvageFault}
 use Rattle.chukwa_salvage.specs.declared.fault.SalvageFault.TheVariants.{Outside, NoMemory as NoMemoryLeft, Damaged}
 use Rattle.chukwa_salvage.specs.Printing.{Printed, PrintsFile, LooksOrPrints, FailsLast, bytes_or_none, said, text_said}
 use Rattle.chukwa_run.specs.CommandWords.{Round, Asked as AskedFor, Rounds, Salvages}
-use Rattle.chukwa_run.specs.Lines.{salvage_fault_line, salvage_status}
+use Rattle.chukwa_run.specs.Lines.{salvage_fault_line}
+use Rattle.chukwa_run.specs.Statuses.{number_of, salvage_ends}
 use Rattle.chukwa_run.specs.Acts.{Anyone, ActedSo, FailedLast, writer_chukwa}
 use Rattle.chukwa_run.specs.Sayings.{NoActs, SaysAtMost}
 use Rattle.chukwa_run.specs.Salvages.{IsRefusedSo, SalvagePrintsBy, SalvagePrints, ReadsOrPrints, AreSalvageActs, SalvageEndsWith}
@@ -93,14 +94,14 @@ says_at_most line r told =
     ] in
     by (is_stopped history) refl)
 
-never_zero : (fault : SalvageFault) → salvage_status fault ≡ 0 → ⊥
+never_zero : (fault : SalvageFault) → number_of (salvage_ends fault) ≡ 0 → ⊥
 never_zero (Outside call) e = cc
 never_zero NoMemoryLeft e = cc
 never_zero Damaged e = cc
 
 -- after a refused header the line of the damage is all that was printed
 refused_so : (file bytes : List ℕ) (fault : SalvageFault) (a b before : History) → Printed bytes (Err fault) (said (own_acts a))
-    → SaysAtMost (salvage_fault_line file fault) b before → salvage_status fault ≡ 5 → IsRefusedSo file bytes (said (own_acts (b ++ a)))
+    → SaysAtMost (salvage_fault_line file fault) b before → number_of (salvage_ends fault) ≡ 5 → IsRefusedSo file bytes (said (own_acts (b ++ a)))
 refused_so file bytes (Outside call) a b before printed says e = absurd (let x : 3 ≡ 5 = e in cc)
 refused_so file bytes NoMemoryLeft a b before printed says e = absurd (let x : 4 ≡ 5 = e in cc)
 refused_so file bytes Damaged a b before printed says e =
@@ -118,10 +119,10 @@ refused_so file bytes Damaged a b before printed says e =
 -- what was printed, with the line of the fault
 pub fault_prints : (file : List ℕ) (fault : SalvageFault) {old mid new : Option History}
     → Adds old mid (PrintsFile file (Err fault)) → Adds mid new (SaysAtMost (salvage_fault_line file fault))
-    → Adds old new (SalvagePrintsBy file (salvage_status fault))
+    → Adds old new (SalvagePrintsBy file (number_of (salvage_ends fault)))
 fault_prints file fault p q =
     let O : History → Step → Type 0 = λ before step. step.own ≡ false → LeavesFile file before step in
-    adds_then (SalvagePrintsBy file (salvage_status fault)) p q
+    adds_then (SalvagePrintsBy file (number_of (salvage_ends fault))) p q
     (λ a b history x y. record {
       whole = λ content small others is e. absurd (never_zero fault e);
       refused =

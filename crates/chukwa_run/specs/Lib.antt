@@ -1,5 +1,6 @@
 pub mod CommandWords
 pub mod Faults
+pub mod Statuses
 pub mod Lines
 pub mod Rounds
 pub mod Acts

@@ -32,24 +32,11 @@ fault_line NoMemory = codes "out of memory\n"
 fault_line LogTooLong = codes "not built log\n"
 fault_line SinkIsThere = codes "not built sink\n"
 
--- the status with which a run ends so
-abbrev pub fault_status : RunFault → ℕ
-fault_status (Outside call) = 3
-fault_status NoMemory = 4
-fault_status LogTooLong = 10
-fault_status SinkIsThere = 10
-
 -- why a file wasn't printed whole
 abbrev pub salvage_fault_line : List ℕ → SalvageFault → List ℕ
 salvage_fault_line file (SalvageOutside call) = outside_line call
 salvage_fault_line file SalvageNoMemory = codes "out of memory\n"
 salvage_fault_line file Damaged = codes "damaged " ++ (file ++ codes " 0\n")
-
--- the status with which a salvage ends so
-abbrev pub salvage_status : SalvageFault → ℕ
-salvage_status (SalvageOutside call) = 3
-salvage_status SalvageNoMemory = 4
-salvage_status Damaged = 5
 
 -- the line that tells how the words should have been
 abbrev pub usage_line : List (List ℕ) → List ℕ

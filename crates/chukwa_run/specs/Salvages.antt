@@ -14,7 +14,9 @@ use Rattle.chukwa_salvage.specs.declared.fault.SalvageFault.{SalvageFault}
 use Rattle.chukwa_salvage.specs.declared.fault.SalvageFault.TheVariants.{Outside, NoMemory, Damaged}
 use Rattle.chukwa_salvage.specs.Printing.{IsWhole, bytes_or_none, said}
 use Rattle.chukwa_run.specs.CommandWords.{Asked, Rounds, Salvages}
-use Rattle.chukwa_run.specs.Lines.{salvage_fault_line, salvage_status}
+use Rattle.chukwa_run.specs.Lines.{salvage_fault_line}
+use Rattle.chukwa_run.specs.Statuses.{number_of, salvage_ends}
+use Rattle.chukwa_run.specs.declared.status.Status.TheVariants as Ends
 use Rattle.chukwa_run.specs.Acts.{FailedLast, writer_chukwa}
 use Rattle.chukwa_run.specs.Sayings.{ThenSaid}
 
@@ -27,9 +29,9 @@ pub record IsRefusedSo (file bytes text : List ℕ) : Type 0 where
 -- Suppose that no step of others touches the file. Then what was printed since is, by the status, what the file's bytes give.
 pub record SalvagePrintsBy (file : List ℕ) (status : ℕ) (added history : History) : Type 0 where
   pub whole : (content : Option File) → IsSmallFile content → Others (LeavesFile file) added history → files_after history file ≡ content
-      → status ≡ 0 → IsWhole (bytes_or_none content) (said (own_acts added))
+      → status ≡ number_of Ends.Done → IsWhole (bytes_or_none content) (said (own_acts added))
   pub refused : (content : Option File) → IsSmallFile content → Others (LeavesFile file) added history → files_after history file ≡ content
-      → status ≡ 5 → IsRefusedSo file (bytes_or_none content) (said (own_acts added))
+      → status ≡ number_of Ends.Damaged → IsRefusedSo file (bytes_or_none content) (said (own_acts added))
 
 -- the same of the file whose salvage was asked for, if it was
 abbrev pub SalvagePrints : Option Asked → ℕ → History → History → Type 0
@@ -59,5 +61,5 @@ SalvageTold file fault = ThenSaid (SalvageEndsWith file fault) (salvage_fault_li
 -- the acts of a salvage with this status: those of one that comes to its end, or that end with a fault of this status
 abbrev pub SalvageEnds : List ℕ → ℕ → List Act → Type 0
 SalvageEnds file status acts =
-    ((status ≡ 0) × AreSalvageActs file acts)
-    ⊎ ((fault : SalvageFault) × (status ≡ salvage_status fault) × SalvageTold file fault acts)
+    ((status ≡ number_of Ends.Done) × AreSalvageActs file acts)
+    ⊎ ((fault : SalvageFault) × (status ≡ number_of (salvage_ends fault)) × SalvageTold file fault acts)

@@ -1,12 +1,9 @@
 //! Why a run ends otherwise than well.
 
-ghost use Rattle.std.specs.Prelude.{◌≡◌};
-ghost use Rattle.chukwa_run.specs.Lines.{fault_status};
-
 use chk_bytes::NoMemory;
 use chk_site::{Call, OutsideFault};
 
-/// Why a run ends otherwise than well. Each has a status and a line of its own.
+/// Why a run ends otherwise than well. Each has a line of its own.
 #[derive(Clone, Copy, Debug, PartialEq, Eq)]
 pub enum RunFault {
     /// This call on the outside failed.
@@ -17,19 +14,6 @@ pub enum RunFault {
     LogTooLong,
     /// A sink of this name is under writing already.
     SinkIsThere,
-}
-
-impl RunFault {
-    /// The status with which the program ends.
-    pub fn status(self) -> u8
-        ensures { result ≡ fault_status self }
-    {
-        match self {
-            RunFault::Outside { call: _ } => 3,
-            RunFault::NoMemory => 4,
-            RunFault::LogTooLong | RunFault::SinkIsThere => 10,
-        }
-    }
 }
 
 impl From<NoMemory> for RunFault {

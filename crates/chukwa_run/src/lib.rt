@@ -8,5 +8,7 @@ mod round;
 mod runs;
 mod salvaging;
 mod saying;
+mod status;
 
 pub use runs::run;
+pub use status::Status;

@@ -10,6 +10,8 @@ ghost use Rattle.chukwa_run.specs.Acts.{Anyone, ActedSo, EndsWith};
 ghost use Rattle.chukwa_run.specs.Sayings.{NoActs};
 ghost use Rattle.chukwa_run.specs.Salvages.{SalvagePrints};
 ghost use Rattle.chukwa_run.specs.Lines.{usage_text};
+ghost use Rattle.chukwa_run.specs.Statuses.{number_of};
+ghost use Rattle.chukwa_run.specs.declared.status.Status.TheVariants.{Outside, Usage as WrongUse};
 ghost use Rattle.chukwa_run.specs.Runs.{ClosedStaysFront, RunsSo, RoundRuns, EndsSo, Told, SaidUsage};
 
 use crate::command_words::{Command, RoundWords, Usage, read_words};
@@ -18,6 +20,7 @@ use crate::lines::{fault_line, usage_line};
 use crate::round::round;
 use crate::salvaging::run_salvage;
 use crate::saying::writer;
+use crate::status::Status;
 use chk_site::Site;
 use std::alloc::Global;
 
@@ -33,39 +36,52 @@ use std::alloc::Global;
 /// for each record of a chunk, `other <at> <end>` for any other one, and `skipped <begin> <end>` for what can't be read. A
 /// file that isn't there counts as empty, and its header is refused.
 pub fn run<'a, S: Site>(alloc: Global, site: &mut S, words: &'a [&'a str]) -> u8
-    ensures usage { (result ≡ 2) ↔ (asked (map (λ w. w.now) words.now) ≡ None) }
+    ensures usage { (result ≡ number_of WrongUse) ↔ (asked (map (λ w. w.now) words.now) ≡ None) }
     ensures closed_stays_front { Adds (S.told site.old) (S.told site.new)
         (ClosedStaysFront (asked (map (λ w. w.now) words.now)) result) }
     ensures salvage_prints { Adds (S.told site.old) (S.told site.new)
         (SalvagePrints (asked (map (λ w. w.now) words.now)) result) }
     ensures acts { (earlier : History) → Adds (S.told site.old) (S.told site.new)
         (Leads (anyhow Anyone) (ActedSo earlier NoActs) (ActedSo earlier (RunsSo (map (λ w. w.now) words.now) result))) }
-    ensures outside_cause { result ≡ 3 → Rose (S.fault_count site.old) (S.fault_count site.new) }
+    ensures outside_cause { result ≡ number_of Outside → Rose (S.fault_count site.old) (S.fault_count site.new) }
+{
+    run_words(alloc, site, words).number()
+}
+
+fn run_words<'a, S: Site>(alloc: Global, site: &mut S, words: &'a [&'a str]) -> Status
+    ensures usage { (result ≡ WrongUse) ↔ (asked (map (λ w. w.now) words.now) ≡ None) }
+    ensures closed_stays_front { Adds (S.told site.old) (S.told site.new)
+        (ClosedStaysFront (asked (map (λ w. w.now) words.now)) (number_of result)) }
+    ensures salvage_prints { Adds (S.told site.old) (S.told site.new)
+        (SalvagePrints (asked (map (λ w. w.now) words.now)) (number_of result)) }
+    ensures acts { (earlier : History) → Adds (S.told site.old) (S.told site.new)
+        (Leads (anyhow Anyone) (ActedSo earlier NoActs) (ActedSo earlier (RunsSo (map (λ w. w.now) words.now) (number_of result)))) }
+    ensures outside_cause { result ≡ Outside → Rose (S.fault_count site.old) (S.fault_count site.new) }
 {
     match read_words(words) {
         Ok(Command::Round(given)) => run_round(alloc, site, &given),
         Ok(Command::Salvage(file)) => run_salvage(alloc, site, file),
         Err(usage) => {
             say_usage(alloc, site, usage);
-            2
+            Status::Usage
         }
     }
 }
 
-fn run_round<S: Site>(alloc: Global, site: &mut S, given: &RoundWords<'_>) -> u8
+fn run_round<S: Site>(alloc: Global, site: &mut S, given: &RoundWords<'_>) -> Status
     requires good { IsTrue (is_round (round_of given.now)) }
     ensures kept { (earlier : History) → Adds (S.told site.old) (S.told site.new)
-        (Leads (anyhow IsForeign) (Holds (round_of given.now) earlier Anything) (RoundRuns (round_of given.now) earlier result)) }
+        (Leads (anyhow IsForeign) (Holds (round_of given.now) earlier Anything) (RoundRuns (round_of given.now) earlier (number_of result))) }
     ensures acts { (earlier : History) → Adds (S.told site.old) (S.told site.new)
-        (Leads (anyhow Anyone) (ActedSo earlier NoActs) (ActedSo earlier (EndsSo (round_of given.now) result))) }
-    ensures cause { result ≡ 3 → Rose (S.fault_count site.old) (S.fault_count site.new) }
-    ensures no_usage { result ≢ 2 }
+        (Leads (anyhow Anyone) (ActedSo earlier NoActs) (ActedSo earlier (EndsSo (round_of given.now) (number_of result)))) }
+    ensures cause { result ≡ Outside → Rose (S.fault_count site.old) (S.fault_count site.new) }
+    ensures no_usage { result ≢ WrongUse }
 {
     match round(alloc, site, given) {
-        Ok(()) => 0,
+        Ok(()) => Status::Done,
         Err(fault) => {
             say_fault(alloc, site, given, fault);
-            fault.status()
+            Status::from(fault)
         }
     }
 }

@@ -5,43 +5,37 @@ ghost use Rattle.chk_site.specs.History.{History};
 ghost use Rattle.chk_site.specs.Site.{Adds, Rose};
 ghost use Rattle.chk_site.specs.Runs.{anyhow, Leads};
 ghost use Rattle.chukwa_run.specs.Acts.{Anyone, ActedSo, writer_chukwa};
-ghost use Rattle.chukwa_run.specs.Lines.{salvage_fault_line, salvage_status};
+ghost use Rattle.chukwa_run.specs.Lines.{salvage_fault_line};
+ghost use Rattle.chukwa_run.specs.Statuses.{number_of};
+ghost use Rattle.chukwa_run.specs.declared.status.Status.TheVariants.{Outside, Usage};
 ghost use Rattle.chukwa_run.specs.Sayings.{NoActs, SaysAtMost};
 ghost use Rattle.chukwa_run.specs.Salvages.{SalvagePrintsBy, SalvageEndsWith, SalvageTold, SalvageEnds};
 
 use crate::lines::salvage_fault_line;
 use crate::saying::writer;
+use crate::status::Status;
 use chk_site::{Site, Who};
 use chukwa_salvage::{SalvageFault, salvage};
 use std::alloc::Global;
 
-/// Prints what can be read of the file, and answers the status: 0, 3, 4 or 5.
-pub fn run_salvage<S: Site>(alloc: Global, site: &mut S, file: &str) -> u8
-    ensures prints { Adds (S.told site.old) (S.told site.new) (SalvagePrintsBy file.now result) }
+/// Prints what can be read of the file, and answers how the run ends: `Done`, `Outside`, `NoMemory`
+/// or `Damaged`.
+pub fn run_salvage<S: Site>(alloc: Global, site: &mut S, file: &str) -> Status
+    ensures prints { Adds (S.told site.old) (S.told site.new) (SalvagePrintsBy file.now (number_of result)) }
     ensures acts { (earlier : History) → Adds (S.told site.old) (S.told site.new)
-        (Leads (anyhow Anyone) (ActedSo earlier NoActs) (ActedSo earlier (SalvageEnds file.now result))) }
-    ensures cause { result ≡ 3 → Rose (S.fault_count site.old) (S.fault_count site.new) }
-    ensures no_usage { result ≢ 2 }
+        (Leads (anyhow Anyone) (ActedSo earlier NoActs) (ActedSo earlier (SalvageEnds file.now (number_of result)))) }
+    ensures cause { result ≡ Outside → Rose (S.fault_count site.old) (S.fault_count site.new) }
+    ensures no_usage { result ≢ Usage }
 {
     let Ok(writer) = writer(alloc) else {
-        return status(SalvageFault::NoMemory);
+        return Status::NoMemory;
     };
     match salvage(alloc, site, &writer, file) {
-        Ok(()) => 0,
+        Ok(()) => Status::Done,
         Err(fault) => {
             say_fault(alloc, site, &writer, file, fault);
-            status(fault)
+            Status::from(fault)
         }
-    }
-}
-
-fn status(fault: SalvageFault) -> u8
-    ensures { result ≡ salvage_status fault }
-{
-    match fault {
-        SalvageFault::Outside { call: _ } => 3,
-        SalvageFault::NoMemory => 4,
-        SalvageFault::Damaged => 5,
     }
 }
 
