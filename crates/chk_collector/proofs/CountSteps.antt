@@ -1,5 +1,12 @@
 -- The questions of a poll, as far as they've come.
-use Rattle.std.proofs.Common.{◌≡◌, ℕ, ◌*◌, ◌≤◌, List, [], ◌∷◌, ◌++◌, length, map, Option, Result, Ok, Err, refl, sym, ap, subst, ◌∙◌, append_assoc, append-nil, arith}
+use Rattle.chk_collector.specs.Handled.{OfPoll}
+use Rattle.chk_sink.specs.Works.{OfQuestion}
+use Rattle.chk_world.proofs.Working.{works_then, works_as}
+use Rattle.chk_world.specs.Works.{Works, rests}
+use Rattle.chk_site.specs.declared.acts.OutsideFault.{OutsideFault}
+use Rattle.std.proofs.lemmas.List.Elements.{Contains-append_right}
+use Rattle.std.specs.Prelude.{Contains}
+use Rattle.std.proofs.Common.{◌≡◌, ℕ, ◌*◌, ◌≤◌, List, [], ◌∷◌, ◌++◌, length, map, Option, Result, Ok, Err, refl, sym, ap, subst, ◌∙◌, append_assoc, append-nil, arith, zero, None}
 use Rattle.std.proofs.lemmas.List.{map-append}
 use Rattle.chk_bytes.specs.Stems.{Stem}
 use Rattle.chk_site.specs.History.{History}
@@ -31,6 +38,7 @@ pub record CountedSoFar (old now : Option History) (before count : ℕ) (s : Sta
   pub told : (stamped : List (List ℕ)) (handled : List Handling) (t : ℕ)
       → Adds old now (Leads (As stamped (process s)) (Ready stamped s handled) (Counted stamped s handled t done acks))
   pub damaged : Adds old now (DamageCause {T = Unit {0}} (Ok tt))
+  pub own : Works (process s) (OfPoll stems) None old now
   pub same : count ≡ before
 
 -- what the question for one stem leads to, whatever was asked before
@@ -52,25 +60,44 @@ count_begins now n s stems lines none = record {
   told = λ stamped handled t.
       leads_none now (λ h x. record { legal = x.legal; may_act = x.may_act; alive = λ r. record { handles = x.alive r; lengths = tt } });
   damaged = adds_none now (DamageCause {T = Unit {0}} (Ok tt)) (λ h. refl);
+  own = rests;
   same = refl;
 }
+
+-- the next one is of the poll
+asked_for : {old now : Option History} {before count : ℕ} {s : State} {stems rest : List Stem} {lines : List ℕ}
+    (so_far : CountedSoFar old now before count s stems rest lines) {x : Stem} {rest' : List Stem} → rest ≡ x ∷ rest' → Contains stems x
+asked_for so_far {x = x} {rest' = rest'} more =
+    subst (λ (l : List Stem). Contains l x) (sym (so_far.whole ∙ ap (λ l. so_far.done ++ l) more))
+    (Contains-append_right so_far.done (x ∷ rest') x (zero, omega arith, refl))
+
+-- the calls so far, and those of the next question
+pub asked_own : {old now new : Option History} {before count : ℕ} {s : State} {stems rest : List Stem} {lines : List ℕ}
+    (so_far : CountedSoFar old now before count s stems rest lines) {x : Stem} {rest' : List Stem} {fault : Option OutsideFault} → rest ≡ x ∷ rest'
+    → Works (process s) (OfQuestion x) fault now new → Works (process s) (OfPoll stems) fault old new
+asked_own {stems = stems} so_far {x = x} more own =
+    works_then so_far.own (works_as (OfPoll stems) (λ call may. (x, asked_for so_far more, may)) own)
 
 module _ {old now new : Option History} {before count count' : ℕ} {s : State} {stems rest : List Stem} {lines : List ℕ}
     (so_far : CountedSoFar old now before count s stems rest lines) where
   -- one more
   pub count_on : (x : Stem) (n : ℕ) (rest' : List Stem) (lines' : List ℕ) → rest ≡ x ∷ rest' → lines' ≡ lines ++ ack_text (ack_of x n)
       → length (ack_text (ack_of x n)) ≤ 126
-      → CountsOne now new s x (Ok n) → Adds now new (DamageCause {T = ℕ} (Ok n)) → count' ≡ count
+      → CountsOne now new s x (Ok n) → Adds now new (DamageCause {T = ℕ} (Ok n)) → Works (process s) (OfQuestion x) None now new → count' ≡ count
       → CountedSoFar old new before count' s stems rest' lines'
-  count_on x n rest' lines' more line short told damaged cause = record {
+  count_on x n rest' lines' more line short told damaged own cause = record {
     done = so_far.done ++ x ∷ [];
     whole = so_far.whole ∙ (ap (λ l. so_far.done ++ l) more ∙ sym (append_assoc so_far.done (x ∷ []) rest'));
     acks = so_far.acks ++ ack_of x n ∷ [];
     lines_are = line ∙ (ap (λ t. t ++ ack_text (ack_of x n)) so_far.lines_are ∙ acks_text-more so_far.acks (ack_of x n));
     of_stems = map-append (λ (a : Ack). a.stem) so_far.acks (ack_of x n ∷ []) ∙ ap (λ l. l ++ x ∷ []) so_far.of_stems;
     short = short_more lines lines' (ack_text (ack_of x n)) so_far.done x line so_far.short short;
-    told = λ stamped handled t. leads_then (so_far.told stamped handled t) (told stamped handled t so_far.done so_far.acks);
+    told = λ stamped handled t.
+        leads_then (so_far.told stamped handled t)
+        (leads_as (λ h y. y) (λ h y. record { legal = y.legal; may_act = y.may_act; alive = λ r. (y.alive r).counts })
+        (told stamped handled t so_far.done so_far.acks));
     damaged = damaged_then {U = Unit {0}} tt (Ok (tt {0})) so_far.damaged damaged;
+    own = asked_own so_far more own;
     same = cause ∙ so_far.same;
   }
 
@@ -85,18 +112,18 @@ module _ {old now new : Option History} {before count : ℕ} {s : State} {stems 
     where
       refused : (f : SinkFault) (h : History) → CountedOn stamped s handled t so_far.done so_far.acks x (Err f) h
           → CountedAll stamped s handled t stems lines (Err f) h
-      refused (Outside call) h y = record { legal = y.legal; may_act = y.may_act; alive = λ r. record { handles = y.alive r; told = tt } }
-      refused (Spent born) h y = record { legal = y.legal; may_act = y.may_act; alive = λ r. record { handles = y.alive r; told = tt } }
+      refused (Outside call) h y = record { legal = y.legal; may_act = y.may_act; alive = λ r. record { handles = y.alive r; told = tt; sound = tt } }
+      refused (Spent born) h y = record { legal = y.legal; may_act = y.may_act; alive = λ r. record { handles = y.alive r; told = tt; sound = tt } }
       refused (Damaged name at) h y = record { legal = y.legal; may_act = y.may_act; alive = λ r. absurd (y.alive r) }
-      refused NoMemory h y = record { legal = y.legal; may_act = y.may_act; alive = λ r. record { handles = y.alive r; told = tt } }
+      refused NoMemory h y = record { legal = y.legal; may_act = y.may_act; alive = λ r. record { handles = y.alive r; told = tt; sound = tt } }
 
   -- one was answered, and there was no memory for its line
-  pub count_unwritten : (x : Stem) (n : ℕ) (fault : SinkFault) (lines' : List ℕ) → CountsOne now new s x (Ok n)
+  pub count_unwritten : (x : Stem) (n : ℕ) (lines' : List ℕ) → CountsOne now new s x (Ok n)
       → (stamped : List (List ℕ)) (handled : List Handling) (t : ℕ)
-      → Adds old new (Leads (As stamped (process s)) (Ready stamped s handled) (CountedAll stamped s handled t stems lines' (Err fault)))
-  count_unwritten x n fault lines' told stamped handled t =
+      → Adds old new (Leads (As stamped (process s)) (Ready stamped s handled) (CountedAll stamped s handled t stems lines' (Err NoMemory)))
+  count_unwritten x n lines' told stamped handled t =
       leads_as (λ h y. y)
-      (λ h y. record { legal = y.legal; may_act = y.may_act; alive = λ r. record { handles = (y.alive r).handles; told = tt } })
+      (λ h y. record { legal = y.legal; may_act = y.may_act; alive = λ r. record { handles = (y.alive r).counts.handles; told = tt; sound = tt } })
       (leads_then (so_far.told stamped handled t) (told stamped handled t so_far.done so_far.acks))
 
 module _ {old now : Option History} {before count : ℕ} {s : State} {stems rest : List Stem} {lines : List ℕ}
@@ -119,6 +146,7 @@ module _ {old now : Option History} {before count : ℕ} {s : State} {stems rest
             lines_are = so_far.lines_are;
             lengths = subst (λ l. CommittedLengths (process s) h t l so_far.acks) (sym (all_done none)) (y.alive r).lengths;
           };
+          sound = tt;
         };
       })
       (so_far.told stamped handled t)

@@ -1,6 +1,12 @@
 -- What the end of a collector's work leads to.
-use Rattle.std.proofs.Common.{◌≡◌, ◌⊎◌, inl, inr, ℕ, Bool, true, false, List, Option, Some, None, Result, Ok, Err, refl, sym, subst, if◌then◌else◌}
-use Rattle.std.specs.Prelude.{OnOk}
+use Rattle.chk_sink.specs.Works.{OfClose, OfTick, commit_calls, close_calls}
+use Rattle.chk_sink.specs.Faults.{IsOutside}
+use Rattle.chk_world.proofs.Working.{works_as}
+use Rattle.chk_world.specs.Works.{Works, IsOneOf}
+use Rattle.chk_site.specs.declared.acts.OutsideFault.{OutsideFault}
+use Rattle.chk_site.specs.Acts.{Deed}
+use Rattle.std.proofs.Common.{◌≡◌, ◌⊎◌, inl, inr, ℕ, Bool, true, false, List, Option, Some, None, Result, Ok, Err, refl, sym, subst, if◌then◌else◌, ap, ◌∙◌}
+use Rattle.std.specs.Prelude.{OnOk, IfErr, OnErr}
 use Rattle.chk_bytes.specs.Stems.{Stem}
 use Rattle.chk_site.specs.History.{History}
 use Rattle.chk_site.specs.Site.{Adds}
@@ -8,10 +14,10 @@ use Rattle.chk_site.specs.Runs.{Leads}
 use Rattle.chk_site.proofs.Leads.{leads_then, leads_as}
 use Rattle.chk_world.specs.Places.{As}
 use Rattle.chk_sink.specs.declared.fault.SinkFault.{SinkFault}
-use Rattle.chk_sink.specs.States.{State, Writing, process, last_stem, with_current, ticked_state, ticked, is_closed_at, seen_first}
+use Rattle.chk_sink.specs.States.{State, Writing, process, last_stem, with_current, ticked_state, ticked, is_closed_at, seen_first, let_go}
 use Rattle.chk_sink.specs.Held.{Holds, Matches}
 use Rattle.chk_sink.specs.Closes.{WasClosed, Ticked, Closed}
-use Rattle.chk_collector.specs.Finishing.{Finished}
+use Rattle.chk_collector.specs.Finishing.{Finished, LeavesAfterFinish}
 
 -- without a sink that is written to, the state is as it was
 same_state : (s : State) → s.current ≡ None → s ≡ with_current s None
@@ -112,3 +118,34 @@ module _ (stamped : List (List ℕ)) (s : State) where
           → (t.current ≡ None → end ≡ mid)
           → Adds mid end (Leads (As stamped (process t)) (Matches stamped t) (Closed stamped t new result))
           → Adds old end (Leads (As stamped (process s)) (Matches stamped s) (Finished stamped s new result))
+
+-- ---- the calls, and what a refusal leaves
+
+-- the close refused
+pub finish_leaves : (s mid st : State) (result : Result (Unit {0}) SinkFault) (before after : Option History) → mid ≡ ticked_state 0 s
+    → IfErr result IsOutside → OnErr result (st ≡ let_go mid) → IfErr result (λ fault. LeavesAfterFinish s st fault before after)
+finish_leaves s mid st (Ok value) before after e only gone = tt
+finish_leaves s mid st (Err fault) before after e only gone = inr (only, gone ∙ ap let_go e)
+
+-- once a tick was done, a close calls for the same
+ticked_closes : (s : State) (call : Deed) → OfClose (ticked_state 0 s) call → OfClose s call
+ticked_closes s call = go s.current
+  where
+    by : (o : Writing) (b : Bool)
+        → IsOneOf (commit_calls (ticked_state 0 s) (if b then None else Some (record { size = o.size; sync_end = o.sync_end; marked = o.size; seen = Some (seen_first o.seen 0) }))) call
+        ⊎ IsOneOf (close_calls (ticked_state 0 s) (if b then None else Some (record { size = o.size; sync_end = o.sync_end; marked = o.size; seen = Some (seen_first o.seen 0) }))) call
+        → IsOneOf (commit_calls s (Some o)) call ⊎ IsOneOf (close_calls s (Some o)) call
+    by o true (inl one) = absurd one
+    by o true (inr one) = absurd one
+    by o false one = one
+
+    go : (k : Option Writing)
+        → IsOneOf (commit_calls (ticked_state 0 s) (ticked s.rotate 0 k)) call ⊎ IsOneOf (close_calls (ticked_state 0 s) (ticked s.rotate 0 k)) call
+        → IsOneOf (commit_calls s k) call ⊎ IsOneOf (close_calls s k) call
+    go None one = one
+    go (Some o) one = by o (is_closed_at s.rotate 0 o) one
+
+pub finish_works : (s mid : State) {f : Option OutsideFault} {old new : Option History} → mid ≡ ticked_state 0 s
+    → Works (process mid) (OfClose mid) f old new → Works (process s) (OfTick s) f old new
+finish_works s mid {f = f} {old = old} {new = new} is told =
+    works_as (OfTick s) (λ call one. inr (ticked_closes s call one)) (subst (λ (m : State). Works (process m) (OfClose m) f old new) is told)

@@ -3,9 +3,10 @@ pub mod Joining
 pub mod FinishTold
 pub mod Lines
 pub mod CountSteps
-pub mod Family
 pub mod PutSteps
+pub mod Handling
 pub mod PutLoop
 pub mod MayReply
 pub mod Outcome
 pub mod Refused
+pub mod AnswerStays

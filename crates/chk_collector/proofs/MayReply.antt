@@ -179,10 +179,10 @@ poll_told stamped s t request others stems lines done (Err fault) poll short acc
 
 -- ---- the lines are short
 
-pub post_short : (chunks : List Chunk) (lines : List ℕ) (done : Result (Unit {0}) SinkFault) → length chunks ≤ 1000 → OnceDone done (HasLineEach chunks lines)
+pub post_short : (s : State) (chunks : List Chunk) (lines : List ℕ) (done : Result (Unit {0}) SinkFault) → length chunks ≤ 1000 → OnceDone done (HasLineEach s chunks lines)
     → OnceDone done (length lines ≤ post_limit)
-post_short chunks lines (Ok value) few each = omega (arith, each.short)
-post_short chunks lines (Err fault) few each = tt
+post_short s chunks lines (Ok value) few each = omega (arith, each.short)
+post_short s chunks lines (Err fault) few each = tt
 
 pub poll_short : (stems : List Stem) (lines : List ℕ) (done : Result (Unit {0}) SinkFault) → length stems ≤ 64 → OnceDone done (HasLineOf stems lines)
     → OnceDone done (length lines ≤ post_limit)

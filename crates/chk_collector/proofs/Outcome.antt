@@ -1,5 +1,18 @@
 -- What a request comes to.
-use Rattle.std.proofs.Common.{◌≡◌, inl, inr, ℕ, List, Option, Some, Result, Ok, Err, refl, ap, subst, ◌∙◌}
+use Rattle.chk_collector.specs.Answering.{Taken}
+use Rattle.chk_collector.specs.Handled.{Puts, PutsThen, OfPosts, OfPoll, OfRequest, Unanswered}
+use Rattle.chk_sink.proofs.Owned.{works_harmless, put_harmless}
+use Rattle.chk_world.proofs.Working.{works_as, works_fine}
+use Rattle.chk_world.specs.Works.{Works, rests}
+use Rattle.chk_world.specs.Places.{As}
+use Rattle.chk_world.specs.Collectors.{Handling, begun}
+use Rattle.chk_site.proofs.Leads.{leads_as}
+use Rattle.chk_site.specs.Runs.{Leads}
+use Rattle.chk_site.specs.Acts.{Deed}
+use Rattle.chk_site.specs.declared.acts.ActAnswer.{ActAnswer}
+use Rattle.chk_site.specs.declared.acts.OutsideFault.{OutsideFault}
+use Rattle.chk_site.specs.declared.acts.Who.{Who}
+use Rattle.std.proofs.Common.{◌≡◌, inl, inr, ℕ, List, Option, Some, Result, Ok, Err, refl, ap, subst, ◌∙◌, ◌⊎◌, true, None, ◌∷◌, length}
 use Rattle.std.specs.Prelude.{IfOk, IfErr}
 use Rattle.std.proofs.lemmas.Result.{IfOk-weaker}
 use Rattle.chk_bytes.specs.Stems.{Stem}
@@ -17,14 +30,14 @@ use Rattle.chk_http.specs.Faults.{fault_code, fault_name}
 use Rattle.chk_http.specs.Written.{phrase_of}
 use Rattle.chk_sink.specs.declared.fault.SinkFault.{SinkFault}
 use Rattle.chk_sink.specs.declared.fault.SinkFault.TheVariants.{Outside, Damaged, Spent, NoMemory}
-use Rattle.chk_sink.specs.Faults.{SinkCause, FailsLast}
-use Rattle.chk_sink.specs.Damage.{DamageCause}
-use Rattle.chk_sink.specs.States.{State}
+use Rattle.chk_sink.specs.Faults.{SinkCause, FailsLast, ended_by}
+use Rattle.chk_sink.specs.Damage.{DamageCause, damage_by, damage_in}
+use Rattle.chk_sink.specs.States.{State, process}
 use Rattle.chk_sink.specs.Closes.{OnceDone}
 use Rattle.chk_sink.specs.Asked.{IsOfQuestion}
-use Rattle.chk_collector.specs.Outcomes.{Refused, BadPost, Lines, Fails, RefusedBy, MayFail, OutcomeLast, OutcomeDamage, OutcomeSpent, Replied, chunk_fault_name, line}
+use Rattle.chk_collector.specs.Outcomes.{Refused, BadPost, Lines, Fails, RefusedBy, MayFail, OutcomeLast, OutcomeDamage, OutcomeSpent, Replied, chunk_fault_name, line, OutcomeActs, OutcomeSound}
 use Rattle.chk_collector.specs.Posting.{HasLineEach, IsOfPut}
-use Rattle.chk_collector.specs.Polling.{HasLineOf}
+use Rattle.chk_collector.specs.Polling.{HasLineOf, CountedAll}
 use Rattle.chk_collector.specs.Replies.{MayHaveRisen, IsTold, IsReplyBy}
 
 -- ---- a post
@@ -35,20 +48,79 @@ post_may_fail request chunks (Damaged name at) post of_put told = absurd of_put
 post_may_fail request chunks (Spent born) post of_put told = (chunks, post)
 post_may_fail request chunks NoMemory post of_put told = told
 
-post_damages : (fault : SinkFault) {old new : Option History} → IsOfPut fault → Adds old new (FailsLast {T = Unit {0}} (Err fault))
-    → Adds old new (OutcomeDamage (Fails fault))
-post_damages (Outside call) of_put last = adds_as (OutcomeDamage (Fails (Outside call))) last (λ a h x. tt)
-post_damages (Damaged name at) of_put last = absurd of_put
-post_damages (Spent born) of_put last = adds_as (OutcomeDamage (Fails (Spent born))) last (λ a h x. tt)
-post_damages NoMemory of_put last = adds_as (OutcomeDamage (Fails NoMemory)) last (λ a h x. tt)
+-- a put shows no damage
+posts_harmless : (s : State) (call : Deed) → OfPosts s call → (answer : ActAnswer) → damage_by true call answer ≡ None
+posts_harmless s call may = put_harmless may.1 call may.3
+
+by_no_damage : (done : Result (Unit {0}) SinkFault) (added history : History) → IfErr done IsOfPut → damage_in added ≡ None → DamageCause done added history
+by_no_damage (Ok value) added history of_put none = none
+by_no_damage (Err (Outside call)) added history of_put none = none
+by_no_damage (Err (Damaged name at)) added history of_put none = absurd of_put
+by_no_damage (Err (Spent born)) added history of_put none = none
+by_no_damage (Err NoMemory) added history of_put none = tt
+
+post_damages : (s : State) (done : Result (Unit {0}) SinkFault) {who : Who} {old new : Option History} → IfErr done IsOfPut
+    → Works who (OfPosts s) (ended_by done) old new → Adds old new (DamageCause done)
+post_damages s done of_put own =
+    adds_as (DamageCause done) (works_harmless (posts_harmless s) own) (λ a h none. by_no_damage done a h of_put none)
+
+post_sound : (request : List ℕ) (s : State) (before after : Option History) (fault : SinkFault) → IsOfPut fault
+    → OutcomeSound request s before after (Fails fault)
+post_sound request s before after (Outside call) of_put = tt
+post_sound request s before after (Damaged name at) of_put = absurd of_put
+post_sound request s before after (Spent born) of_put = tt
+post_sound request s before after NoMemory of_put = tt
+
+-- the calls of a post, and of a poll
+pub post_own : {fault : Option OutsideFault} {who : Who} (request : List ℕ) (chunks : List Chunk) (s : State) {old new : Option History}
+    → IsPostOf chunks request → Works who (OfPosts s) fault old new → Works who (OfRequest request s) fault old new
+post_own request chunks s post own = works_as (OfRequest request s) (λ call may. inl (chunks, post, may)) own
+
+pub poll_own : {fault : Option OutsideFault} {who : Who} (request : List ℕ) (stems : List Stem) (s : State) {old new : Option History}
+    → PollRequest stems request → Works who (OfPoll stems) fault old new → Works who (OfRequest request s) fault old new
+poll_own request stems s poll own = works_as (OfRequest request s) (λ call may. inr (stems, poll, may)) own
+
+-- no memory for the reply to a post
+pub post_unanswered : {E : Type 0} (request : List ℕ) (chunks : List Chunk) (old new : State) (done : Result (Unit {0}) SinkFault)
+    (result : Result (List ℕ) E) {told_before told_after : Option History} → IsPostOf chunks request
+    → OnceDone done (Puts (length chunks) old new) → IfErr done (PutsThen old new) → Works (process old) (OfPosts old) (ended_by done) told_before told_after
+    → IfErr result (λ e. Unanswered request old new told_before told_after)
+post_unanswered request chunks old new done (Ok reply) post puts leaves own = tt
+post_unanswered request chunks old new done (Err e) post puts leaves own = record {
+  fault = ended_by done;
+  own = post_own request chunks old post own;
+  state = inr (chunks, post, by done puts leaves);
+}
+  where
+    by : (done : Result (Unit {0}) SinkFault) → OnceDone done (Puts (length chunks) old new) → IfErr done (PutsThen old new)
+        → Puts (length chunks) old new ⊎ ((why : SinkFault) × PutsThen old new why)
+    by (Ok value) puts leaves = inl puts
+    by (Err why) puts leaves = inr (why, leaves)
+
+-- to a poll
+pub poll_unanswered : {E : Type 0} (request : List ℕ) (stems : List Stem) (s : State) (done : Result (Unit {0}) SinkFault)
+    (result : Result (List ℕ) E) {told_before told_after : Option History} → PollRequest stems request
+    → Works (process s) (OfPoll stems) (ended_by done) told_before told_after
+    → IfErr result (λ e. Unanswered request s s told_before told_after)
+poll_unanswered request stems s done (Ok reply) poll own = tt
+poll_unanswered request stems s done (Err e) poll own =
+    record { fault = ended_by done; own = poll_own request stems s poll own; state = inl refl }
+
+-- to a request that is refused
+pub refused_unanswered : {E : Type 0} (request : List ℕ) (s : State) (result : Result (List ℕ) E) (told : Option History)
+    → IfErr result (λ e. Unanswered request s s told told)
+refused_unanswered request s (Ok reply) told = tt
+refused_unanswered request s (Err e) told = record { fault = None; own = rests; state = inl refl }
 
 pub post_replied : {E : Type 0} (request : List ℕ) (chunks : List Chunk) (old new : State) (before now : ℕ) (told_before told_after : Option History)
     (lines : List ℕ) (done : Result (Unit {0}) SinkFault) (result : Result (List ℕ) E) → IsPostOf chunks request
-    → OnceDone done (HasLineEach chunks lines) → IfErr done IsOfPut → IfErr done (λ fault. OutcomeSpent old new (Fails fault))
+    → OnceDone done (HasLineEach new chunks lines) → OnceDone done (Puts (length chunks) old new) → IfErr done (PutsThen old new)
+    → Works (process old) (OfPosts old) (ended_by done) told_before told_after
+    → IfErr done IsOfPut → IfErr done (λ fault. OutcomeSpent old new (Fails fault))
     → Adds told_before told_after (FailsLast done) → SinkCause before now done
     → IfOk result (IsReplyBy done lines)
     → IfOk result (Replied request old new before now told_before told_after)
-post_replied request chunks old new before now told_before told_after lines (Ok value) result post each of_put spent last cause written =
+post_replied request chunks old new before now told_before told_after lines (Ok value) result post each puts leaves own of_put spent last cause written =
     IfOk-weaker result _ (Replied request old new before now told_before told_after)
     (λ reply is. record {
       outcome = Lines each.acks;
@@ -56,11 +128,15 @@ post_replied request chunks old new before now told_before told_after lines (Ok 
       by_bytes = inl (chunks, post, each.as_many);
       cause = cause;
       last = adds_as (OutcomeLast (Lines each.acks)) last (λ a h x. tt);
-      damaged = adds_as (OutcomeDamage (Lines each.acks)) last (λ a h x. tt);
+      damaged = post_damages old (Ok value) tt own;
       spent = tt;
       untouched = tt;
+      own = post_own request chunks old post own;
+      acts = works_fine own;
+      state = inl (chunks, post, puts, each.place);
+      sound = tt;
     }) written
-post_replied request chunks old new before now told_before told_after lines (Err fault) result post each of_put spent last cause written =
+post_replied request chunks old new before now told_before told_after lines (Err fault) result post each puts leaves own of_put spent last cause written =
     IfOk-weaker result _ (Replied request old new before now told_before told_after)
     (λ reply is. record {
       outcome = Fails fault;
@@ -68,9 +144,13 @@ post_replied request chunks old new before now told_before told_after lines (Err
       by_bytes = post_may_fail request chunks fault post of_put is.told;
       cause = cause;
       last = last;
-      damaged = post_damages fault of_put last;
+      damaged = post_damages old (Err fault) of_put own;
       spent = spent;
       untouched = tt;
+      own = post_own request chunks old post own;
+      acts = last;
+      state = inl (chunks, post, leaves);
+      sound = post_sound request old told_before told_after fault of_put;
     }) written
 
 -- ---- a poll
@@ -81,12 +161,21 @@ poll_may_fail request stems (Damaged name at) poll of_question told = (stems, po
 poll_may_fail request stems (Spent born) poll of_question told = absurd of_question
 poll_may_fail request stems NoMemory poll of_question told = told
 
-poll_damages : (fault : SinkFault) {old new : Option History} → Adds old new (DamageCause {T = Unit {0}} (Err fault))
-    → Adds old new (OutcomeDamage (Fails fault))
-poll_damages (Outside call) damaged = adds_as (OutcomeDamage (Fails (Outside call))) damaged (λ a h x. tt)
-poll_damages (Damaged name at) damaged = damaged
-poll_damages (Spent born) damaged = adds_as (OutcomeDamage (Fails (Spent born))) damaged (λ a h x. tt)
-poll_damages NoMemory damaged = adds_as (OutcomeDamage (Fails NoMemory)) damaged (λ a h x. tt)
+-- what the questions of a poll lead to, by the history before them
+abbrev pub PollTold : List ℕ → State → List Stem → List ℕ → Result (Unit {0}) SinkFault → Option History → Option History → Type 0
+PollTold request s stems lines done before after =
+    (stamped : List (List ℕ)) (t : ℕ) (others : List Handling)
+    → Adds before after (Leads (As stamped (process s)) (Taken stamped s t request others)
+    (CountedAll stamped s (begun t request ∷ others) t stems lines done))
+
+poll_sound : (request : List ℕ) (s : State) (stems : List Stem) (lines : List ℕ) (before after : Option History) (fault : SinkFault)
+    → PollTold request s stems lines (Err fault) before after → OutcomeSound request s before after (Fails fault)
+poll_sound request s stems lines before after (Outside call) told = tt
+poll_sound request s stems lines before after (Damaged name at) told =
+    λ stamped t others.
+    leads_as (λ h x. x) (λ h x. record { legal = x.legal; may_act = x.may_act; alive = λ r. (x.alive r).sound }) (told stamped t others)
+poll_sound request s stems lines before after (Spent born) told = tt
+poll_sound request s stems lines before after NoMemory told = tt
 
 poll_spends : (s : State) (fault : SinkFault) → IsOfQuestion fault → OutcomeSpent s s (Fails fault)
 poll_spends s (Outside call) of_question = tt
@@ -96,11 +185,12 @@ poll_spends s NoMemory of_question = tt
 
 pub poll_replied : {E : Type 0} (request : List ℕ) (stems : List Stem) (s : State) (before now : ℕ) (told_before told_after : Option History)
     (lines : List ℕ) (done : Result (Unit {0}) SinkFault) (result : Result (List ℕ) E) → PollRequest stems request
+    → PollTold request s stems lines done told_before told_after → Works (process s) (OfPoll stems) (ended_by done) told_before told_after
     → OnceDone done (HasLineOf stems lines) → IfErr done IsOfQuestion
     → Adds told_before told_after (DamageCause done) → Adds told_before told_after (FailsLast done) → SinkCause before now done
     → IfOk result (IsReplyBy done lines)
     → IfOk result (Replied request s s before now told_before told_after)
-poll_replied request stems s before now told_before told_after lines (Ok value) result poll each of_question damaged last cause written =
+poll_replied request stems s before now told_before told_after lines (Ok value) result poll told own each of_question damaged last cause written =
     IfOk-weaker result _ (Replied request s s before now told_before told_after)
     (λ reply is. record {
       outcome = Lines each.acks;
@@ -108,11 +198,15 @@ poll_replied request stems s before now told_before told_after lines (Ok value) 
       by_bytes = inr (stems, poll, each.of_stems);
       cause = cause;
       last = adds_as (OutcomeLast (Lines each.acks)) last (λ a h x. tt);
-      damaged = adds_as (OutcomeDamage (Lines each.acks)) last (λ a h x. tt);
+      damaged = damaged;
       spent = tt;
       untouched = tt;
+      own = poll_own request stems s poll own;
+      acts = works_fine own;
+      state = inr (stems, poll, refl);
+      sound = tt;
     }) written
-poll_replied request stems s before now told_before told_after lines (Err fault) result poll each of_question damaged last cause written =
+poll_replied request stems s before now told_before told_after lines (Err fault) result poll told own each of_question damaged last cause written =
     IfOk-weaker result _ (Replied request s s before now told_before told_after)
     (λ reply is. record {
       outcome = Fails fault;
@@ -120,9 +214,13 @@ poll_replied request stems s before now told_before told_after lines (Err fault)
       by_bytes = poll_may_fail request stems fault poll of_question is.told;
       cause = cause;
       last = last;
-      damaged = poll_damages fault damaged;
+      damaged = damaged;
       spent = poll_spends s fault of_question;
       untouched = tt;
+      own = poll_own request stems s poll own;
+      acts = last;
+      state = inr (stems, poll, refl);
+      sound = poll_sound request s stems lines told_before told_after fault told;
     }) written
 
 -- ---- a request that is refused
@@ -144,7 +242,11 @@ bad_post_replied request body fault s count told result post first none written 
       };
       cause = refl;
       last = adds_none told (OutcomeLast (BadPost fault)) (λ h. tt);
-      damaged = adds_none told (OutcomeDamage (BadPost fault)) (λ h. tt);
+      damaged = adds_none told (OutcomeDamage (BadPost fault)) (λ h. refl);
+      own = rests;
+      acts = adds_none told (OutcomeActs (BadPost fault)) (λ h. refl);
+      state = refl;
+      sound = tt;
       spent = tt;
       untouched = (refl, refl);
     }) written
@@ -161,7 +263,11 @@ refused_replied request fault s count told result refused written =
       by_bytes = refused;
       cause = refl;
       last = adds_none told (OutcomeLast (Refused fault)) (λ h. tt);
-      damaged = adds_none told (OutcomeDamage (Refused fault)) (λ h. tt);
+      damaged = adds_none told (OutcomeDamage (Refused fault)) (λ h. refl);
+      own = rests;
+      acts = adds_none told (OutcomeActs (Refused fault)) (λ h. refl);
+      state = refl;
+      sound = tt;
       spent = tt;
       untouched = (refl, refl);
     }) written

@@ -1,5 +1,14 @@
 -- The puts of a post's chunks, as far as they've come.
-use Rattle.std.proofs.Common.{◌≡◌, ℕ, zero, ◌*◌, ◌≤◌, List, [], ◌∷◌, ◌++◌, length, length-append, map, Option, Result, Ok, Err, refl, sym, ap, subst, ◌∙◌, append_assoc, append-nil, arith}
+use Rattle.chk_collector.proofs.Handling.{place_more}
+use Rattle.chk_collector.specs.Handled.{Puts, begins, goes_on, PutsThen, EndsInPlace, OfPosts}
+use Rattle.chk_sink.specs.declared.fault.SinkFault.TheVariants.{NoMemory}
+use Rattle.chk_sink.specs.Puts.{IsPlaced, LeavesAfterPut, GoesOn}
+use Rattle.chk_sink.specs.Works.{OfPut}
+use Rattle.chk_sink.proofs.Owning.{made_by}
+use Rattle.chk_world.proofs.Working.{works_then, works_as}
+use Rattle.chk_world.specs.Works.{Works, rests}
+use Rattle.chk_site.specs.declared.acts.OutsideFault.{OutsideFault}
+use Rattle.std.proofs.Common.{◌≡◌, ℕ, zero, ◌*◌, ◌≤◌, List, [], ◌∷◌, ◌++◌, length, length-append, map, Option, Result, Ok, Err, refl, sym, ap, subst, ◌∙◌, append_assoc, append-nil, arith, suc, ◌+◌, None, inl}
 use Rattle.std.specs.Prelude.{Contains}
 use Rattle.std.proofs.lemmas.List.Elements.{Contains-append_right}
 use Rattle.chk_bytes.specs.Stems.{Stem}
@@ -17,7 +26,7 @@ use Rattle.chk_sink.specs.declared.fault.SinkFault.{SinkFault}
 use Rattle.chk_sink.specs.States.{State, IsSameStart, process}
 use Rattle.chk_sink.specs.Held.{Handles, Ready}
 use Rattle.chk_sink.proofs.Last.{Whatever, both}
-use Rattle.chk_collector.specs.Posting.{ArePosted, WroteAll}
+use Rattle.chk_collector.specs.Posting.{ArePosted, WroteAll, HasLineEach}
 use Rattle.chk_collector.proofs.Lines.{acks_text-more, short_more}
 use Rattle.chk_collector.proofs.PutSteps.{PutsOne, put_step, tells_on}
 
@@ -33,6 +42,9 @@ pub record PutSoFar (old now : Option History) (before count : ℕ) (first s : S
       → Adds old now (Leads (As stamped (process first)) (Ready stamped first handled) (WroteAll stamped s handled done lines (Ok tt)))
   pub goes_on : Adds old now Whatever
   pub same : IsSameStart first s
+  pub puts : Puts (length done) first s
+  pub place : EndsInPlace s acks
+  pub own : Works (process first) (OfPosts first) None old now
   pub cause : count ≡ before
 
 same_self : (s : State) → IsSameStart s s
@@ -52,6 +64,9 @@ no_appends (m ∷ handled) =
     ap (λ l. record { taking = m.taking; bytes = m.bytes; answered = m.answered; newest = m.newest; synced = m.synced; appends = l } ∷ handled)
     (sym (append-nil m.appends))
     ∙ ap (λ l. with_appends [] m ∷ l) (no_appends handled)
+
+one_more : (n : ℕ) → n + 1 ≡ suc n
+one_more n = omega arith
 
 -- none yet
 pub put_begins : (now : Option History) (n : ℕ) (first s : State) (chunks : List Chunk) (lines : List ℕ) → s ≡ first → lines ≡ []
@@ -79,6 +94,9 @@ put_begins now n first s chunks lines same none =
           });
       goes_on = adds_none now Whatever (λ h. tt);
       same = same_self first;
+      puts = begins;
+      place = tt;
+      own = rests;
       cause = refl;
     })
 
@@ -97,6 +115,13 @@ module _ {old now new : Option History} {before count : ℕ} {first s : State} {
       → Adds now new (Leads (As stamped (process first)) A B)
   by_same {A = A} {B = B} stamped told =
       subst (λ (name : List ℕ). Adds now new (Leads (As stamped (record { role = Collector; name = name })) A B)) so_far.same.collector told
+
+  -- the calls so far, and those of the next put
+  pub own_on : {fault : Option OutsideFault} → Works (process s) (OfPut s) fault now new → Works (process first) (OfPosts first) fault old new
+  own_on own =
+      works_then so_far.own
+      (works_as (OfPosts first) (λ call may. (length so_far.done, s, so_far.puts, may))
+      (made_by (λ i. record { role = Collector; name = so_far.same.collector i }) own))
 
   -- one more was put, and this is what is told of its line
   put_told : (c : Chunk) (rest' : List Chunk) (x : Stem) (n : ℕ) (s' : State) (lines' : List ℕ) → rest ≡ c ∷ rest' → lines' ≡ lines ++ ack_text (ack_of x n)
@@ -122,8 +147,9 @@ module _ {old now new : Option History} {before count : ℕ} {first s : State} {
   -- one more
   pub put_on : (c : Chunk) (rest' : List Chunk) (x : Stem) (n count' : ℕ) (s' : State) (lines' : List ℕ) {P : History → History → Type 0}
       → rest ≡ c ∷ rest' → lines' ≡ lines ++ ack_text (ack_of x n) → length (ack_text (ack_of x n)) ≤ 126 → PutsOne now new s s' c (Ok (x, n))
-      → Adds now new P → IsSameStart s s' → count' ≡ count → PutSoFar old new before count' first s' chunks rest' lines'
-  put_on c rest' x n count' s' lines' more line short told goes_on same cause = record {
+      → Adds now new P → IsSameStart s s' → GoesOn s s' → IsPlaced s' (x, n) → Works (process s) (OfPut s) None now new
+      → count' ≡ count → PutSoFar old new before count' first s' chunks rest' lines'
+  put_on c rest' x n count' s' lines' more line short told later same goes placed own cause = record {
     done = so_far.done ++ c ∷ [];
     whole = so_far.whole ∙ (ap (λ l. so_far.done ++ l) more ∙ sym (append_assoc so_far.done (c ∷ []) rest'));
     acks = so_far.acks ++ ack_of x n ∷ [];
@@ -132,7 +158,44 @@ module _ {old now new : Option History} {before count : ℕ} {first s : State} {
         (arith, so_far.as_many, length-append so_far.acks (ack_of x n ∷ []), length-append so_far.done (c ∷ []));
     short = short_more lines lines' (ack_text (ack_of x n)) so_far.done c line so_far.short short;
     told = put_told c rest' x n s' lines' more line told;
-    goes_on = both so_far.goes_on goes_on;
+    goes_on = both so_far.goes_on later;
     same = same_then first s s' so_far.same same;
+    puts = subst (λ k. Puts k first s') (sym (length-append so_far.done (c ∷ []) ∙ one_more (length so_far.done))) (goes_on so_far.puts goes);
+    place = place_more s' so_far.acks x n placed;
+    own = own_on own;
     cause = cause ∙ so_far.cause;
   }
+
+module _ {old now : Option History} {before count : ℕ} {first s : State} {chunks rest : List Chunk} {lines : List ℕ}
+    (so_far : PutSoFar old now before count first s chunks rest lines) where
+  -- a put that was refused ends the post
+  pub put_leaves : (s' : State) (fault : SinkFault) → LeavesAfterPut s s' fault → PutsThen first s' fault
+  put_leaves s' fault leaves = record { count = length so_far.done; reached = s; puts = so_far.puts; leaves = leaves }
+
+  -- and so does want of memory for its line
+  pub put_unwritten : (s' : State) → GoesOn s s' → PutsThen first s' NoMemory
+  put_unwritten s' goes = record { count = suc (length so_far.done); reached = s'; puts = goes_on so_far.puts goes; leaves = inl refl }
+
+module _ {old now : Option History} {before count : ℕ} {first s : State} {chunks rest : List Chunk} {lines : List ℕ}
+    (so_far : PutSoFar old now before count first s chunks rest lines) (none : rest ≡ []) where
+  all_put : so_far.done ≡ chunks
+  all_put = sym (so_far.whole ∙ (ap (λ l. so_far.done ++ l) none ∙ append-nil so_far.done))
+
+  -- all were put
+  pub puts_end : Puts (length chunks) first s
+  puts_end = subst (λ (l : List Chunk). Puts (length l) first s) all_put so_far.puts
+
+  pub lines_end : HasLineEach s chunks lines
+  lines_end = record {
+    acks = so_far.acks;
+    lines_are = so_far.lines_are;
+    as_many = so_far.as_many ∙ ap (λ l. length l) all_put;
+    short = subst (λ (l : List Chunk). length lines ≤ 126 * length l) all_put so_far.short;
+    place = so_far.place;
+  }
+
+  pub told_end : (stamped : List (List ℕ)) (handled : List Handling) → ArePosted handled chunks
+      → Adds old now (Leads (As stamped (process first)) (Ready stamped first handled) (WroteAll stamped s handled chunks lines (Ok tt)))
+  told_end stamped handled posted =
+      subst (λ (l : List Chunk). Adds old now (Leads (As stamped (process first)) (Ready stamped first handled) (WroteAll stamped s handled l lines (Ok tt))))
+      all_put (so_far.told stamped handled posted)

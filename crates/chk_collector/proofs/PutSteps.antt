@@ -19,7 +19,7 @@ use Rattle.chk_sink.specs.Closes.{OnceDone}
 use Rattle.chk_sink.proofs.Putting.{posted_on, appends_join}
 use Rattle.chk_collector.specs.Answering.{TellFirst}
 use Rattle.chk_collector.specs.Posting.{TellEach, TellAppends, WroteAll}
-use Rattle.chk_collector.proofs.Family.{leads_family}
+use Rattle.chk_site.proofs.Family.{leads_family}
 use Rattle.chk_collector.proofs.Lines.{acks_text-more}
 
 -- ---- lines and appends

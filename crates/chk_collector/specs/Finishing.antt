@@ -1,9 +1,11 @@
 -- The end of a collector's work.
-use Rattle.std.specs.Prelude.{ℕ, false, List, None, Result}
+use Rattle.chk_sink.specs.Works.{LeavesAfterTick}
+use Rattle.chk_sink.specs.Faults.{IsOutside}
+use Rattle.std.specs.Prelude.{ℕ, false, List, None, Result, ◌≡◌, ◌⊎◌, Option}
 use Rattle.chk_site.specs.History.{History}
 use Rattle.chk_world.specs.Places.{AtTold}
 use Rattle.chk_sink.specs.declared.fault.SinkFault.{SinkFault}
-use Rattle.chk_sink.specs.States.{State, process, last_stem}
+use Rattle.chk_sink.specs.States.{State, process, last_stem, let_go, ticked_state}
 use Rattle.chk_sink.specs.Held.{Holds}
 use Rattle.chk_sink.specs.Closes.{OnceDone, WasClosed}
 
@@ -17,6 +19,11 @@ finished s = record {
   current = None;
   abandoned = false;
 }
+
+-- what stands after a refusal: that of the tick, or the sink that it left was let go
+abbrev pub LeavesAfterFinish : State → State → SinkFault → Option History → Option History → Type 0
+LeavesAfterFinish old new fault before after =
+    LeavesAfterTick old new fault before after ⊎ (IsOutside fault × (new ≡ let_go (ticked_state 0 old)))
 
 -- the history holds the sinks, and at Ok the sink that was written to became a done one
 pub record FinishHolds (old new : State) (result : Result (Unit {0}) SinkFault) (history : History) : Type 0 where

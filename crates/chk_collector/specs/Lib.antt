@@ -4,3 +4,4 @@ pub mod Finishing
 pub mod Replies
 pub mod Posting
 pub mod Polling
+pub mod Handled

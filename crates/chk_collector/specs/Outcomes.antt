@@ -1,4 +1,11 @@
 -- What a request comes to, and its reply.
+use Rattle.chk_collector.specs.Handled.{Puts, PutsThen, EndsInPlace, OfRequest}
+use Rattle.chk_collector.specs.Answering.{Taken}
+use Rattle.chk_world.specs.Works.{Works, NoneFailed}
+use Rattle.chk_world.specs.Places.{As, AtTold}
+use Rattle.chk_world.specs.Collectors.{Handling}
+use Rattle.chk_site.specs.Runs.{Leads}
+use Rattle.chk_site.specs.declared.acts.OutsideFault.{OutsideFault}
 use Rattle.std.specs.Prelude.{◌≡◌, ◌⊎◌, ℕ, List, [], ◌∷◌, ◌++◌, length, map, codes, decimal, Option, Some, None, Err}
 use Rattle.chk_bytes.specs.Stems.{Stem}
 use Rattle.chk_site.specs.CallNames.{call_name}
@@ -17,9 +24,9 @@ use Rattle.chk_http.specs.Requests.{IsBadPath, IsBadMethod, IsBadQuery, IsWithou
 use Rattle.chk_http.specs.Written.{phrase_of}
 use Rattle.chk_sink.specs.declared.fault.SinkFault.{SinkFault}
 use Rattle.chk_sink.specs.declared.fault.SinkFault.TheVariants.{Outside, Damaged, Spent, NoMemory}
-use Rattle.chk_sink.specs.Faults.{SinkCause, FailsLast}
-use Rattle.chk_sink.specs.Damage.{damage_in}
-use Rattle.chk_sink.specs.States.{State, last_number}
+use Rattle.chk_sink.specs.Faults.{SinkCause, FailsLast, ended_by}
+use Rattle.chk_sink.specs.Damage.{damage_in, DamageCause}
+use Rattle.chk_sink.specs.States.{State, process, last_number}
 
 -- what a request comes to: it is refused, or its post is, or its reply has these lines, or a call of the sinks was refused
 pub data Outcome : Type 0 where
@@ -131,10 +138,41 @@ abbrev pub OutcomeLast : Outcome → History → History → Type 0
 OutcomeLast (Fails fault) added history = FailsLast {T = Unit {0}} (Err fault) added history
 OutcomeLast o added history = Unit {0}
 
--- the file that is damaged is one that an own step showed so
+-- a file is damaged exactly where an own step showed it
 abbrev pub OutcomeDamage : Outcome → History → History → Type 0
-OutcomeDamage (Fails (Damaged name at)) added history = (damage_in added ≡ Some name) × (at ≡ 0)
-OutcomeDamage o added history = Unit {0}
+OutcomeDamage (Fails fault) added history = DamageCause {T = Unit {0}} (Err fault) added history
+OutcomeDamage o added history = damage_in added ≡ None
+
+-- a reply that tells of a damaged file never comes in a legal history, where the site wasn't stopped
+abbrev pub OutcomeSound : List ℕ → State → Option History → Option History → Outcome → Type 0
+OutcomeSound request s told_before told_after (Fails (Damaged name at)) =
+    (stamped : List (List ℕ)) (t : ℕ) (others : List Handling) → Adds told_before told_after
+    (Leads (As stamped (process s)) (Taken stamped s t request others) (AtTold stamped (process s) (λ front. ⊥)))
+OutcomeSound request s told_before told_after o = Unit {0}
+
+-- what ended the work
+abbrev pub outcome_ended : Outcome → Option OutsideFault
+outcome_ended (Fails fault) = ended_by {T = Unit {0}} (Err fault)
+outcome_ended o = None
+
+-- a request that is refused makes no call, a reply with lines had none that failed, and one that failed is the last
+abbrev pub OutcomeActs : Outcome → History → History → Type 0
+OutcomeActs (Refused fault) added history = added ≡ []
+OutcomeActs (BadPost fault) added history = added ≡ []
+OutcomeActs (Lines acks) added history = NoneFailed added history
+OutcomeActs (Fails fault) added history = OutcomeLast (Fails fault) added history
+
+-- Where the sinks stand behind the reply. A poll leaves them, a post that was answered puts each of its chunks, and its
+-- last line is the place of the sink that is written to; a fault leaves what the refused put leaves.
+abbrev pub OutcomeState : List ℕ → State → State → Outcome → Type 0
+OutcomeState bytes old new (Refused fault) = new ≡ old
+OutcomeState bytes old new (BadPost fault) = new ≡ old
+OutcomeState bytes old new (Lines acks) =
+    ((chunks : List Chunk) × IsPostOf chunks bytes × Puts (length chunks) old new × EndsInPlace new acks)
+    ⊎ ((stems : List Stem) × PollRequest stems bytes × (new ≡ old))
+OutcomeState bytes old new (Fails fault) =
+    ((chunks : List Chunk) × IsPostOf chunks bytes × PutsThen old new fault)
+    ⊎ ((stems : List Stem) × PollRequest stems bytes × (new ≡ old))
 
 -- a number is spent only where the last sink of the start was created and none is written to
 abbrev pub OutcomeSpent : State → State → Outcome → Type 0
@@ -158,3 +196,7 @@ pub record Replied (request : List ℕ) (old new : State) (before now : ℕ) (to
   pub damaged : Adds told_before told_after (OutcomeDamage outcome)
   pub spent : OutcomeSpent old new outcome
   pub untouched : Untouched old new told_before told_after outcome
+  pub own : Works (process old) (OfRequest request old) (outcome_ended outcome) told_before told_after
+  pub acts : Adds told_before told_after (OutcomeActs outcome)
+  pub state : OutcomeState request old new outcome
+  pub sound : OutcomeSound request old told_before told_after outcome

@@ -1,5 +1,6 @@
 -- What the questions for the stems of a poll lead to.
-use Rattle.std.specs.Prelude.{◌≡◌, ℕ, ◌*◌, ◌≤◌, List, length, map, Result}
+use Rattle.chk_sink.specs.declared.fault.SinkFault.TheVariants.{Damaged}
+use Rattle.std.specs.Prelude.{◌≡◌, ℕ, ◌*◌, ◌≤◌, List, length, map, Result, Err}
 use Rattle.chk_bytes.specs.Stems.{Stem}
 use Rattle.chk_site.specs.declared.acts.Who.{Who}
 use Rattle.chk_site.specs.History.{History}
@@ -22,11 +23,17 @@ pub record TellLengths (who : Who) (t : ℕ) (stems : List Stem) (lines : List �
   pub lines_are : lines ≡ acks_text acks
   pub lengths : CommittedLengths who history t stems acks
 
+-- nothing of the collector's own is ever damaged
+abbrev pub IsSoundly : Result (Unit {0}) SinkFault → Type 0
+IsSoundly (Err (Damaged name at)) = ⊥
+IsSoundly result = Unit {0}
+
 -- the history holds the sinks and these messages, and where all stems were asked for the lines tell their lengths
 pub record PollHolds (s : State) (handled : List Handling) (t : ℕ) (stems : List Stem) (lines : List ℕ) (result : Result (Unit {0}) SinkFault)
     (history : History) : Type 0 where
   pub handles : Handles s handled history
   pub told : OnceDone result (TellLengths (process s) t stems lines history)
+  pub sound : IsSoundly result
 
 -- the same of a told history
 abbrev pub CountedAll : List (List ℕ) → State → List Handling → ℕ → List Stem → List ℕ → Result (Unit {0}) SinkFault → History → Type 0

@@ -1,4 +1,5 @@
 -- What the puts of a post's chunks lead to.
+use Rattle.chk_collector.specs.Handled.{EndsInPlace}
 use Rattle.std.specs.Prelude.{◌≡◌, ◌⊎◌, ℕ, ◌*◌, ◌≤◌, List, [], ◌∷◌, length, map, Contains, Result}
 use Rattle.chk_site.specs.History.{History}
 use Rattle.chk_chunk.specs.Keys.{Chunk}
@@ -45,12 +46,13 @@ pub record PutsHold (s : State) (handled : List Handling) (chunks : List Chunk) 
 abbrev pub WroteAll : List (List ℕ) → State → List Handling → List Chunk → List ℕ → Result (Unit {0}) SinkFault → History → Type 0
 WroteAll stamped s handled chunks lines result history = AtTold stamped (process s) (PutsHold s handled chunks lines result) history
 
--- there is one line for each chunk, none of more than 126 bytes
-pub record HasLineEach (chunks : List Chunk) (lines : List ℕ) : Type 0 where
+-- there is one line for each chunk, none of more than 126 bytes, and the last one is the place of the sink that is written to
+pub record HasLineEach (s : State) (chunks : List Chunk) (lines : List ℕ) : Type 0 where
   pub acks : List Ack
   pub lines_are : lines ≡ acks_text acks
   pub as_many : length acks ≡ length chunks
   pub short : length lines ≤ 126 * length chunks
+  pub place : EndsInPlace s acks
 
 -- a put finds nothing damaged
 abbrev pub IsOfPut : SinkFault → Type 0

@@ -1,6 +1,6 @@
 //! A collector and what it answers.
 
-ghost use Rattle.std.specs.Prelude.{◌≡◌, ◌⊎◌, ℕ, false, List, [], IsTrue, IfOk, IfErr, OnOk, None};
+ghost use Rattle.std.specs.Prelude.{◌≡◌, ℕ, false, List, [], IsTrue, IfOk, IfErr, OnOk, length};
 ghost use Rattle.chk_bytes.specs.Stems.{Stem as Parts, is_collector};
 ghost use Rattle.chk_site.specs.declared.acts.Role.TheVariants.{Collector as collector_role};
 ghost use Rattle.chk_site.specs.History.{Every};
@@ -11,18 +11,21 @@ ghost use Rattle.chk_http.specs.Queries.{IsQuery};
 ghost use Rattle.chk_world.specs.Collectors.{Handling};
 ghost use Rattle.chk_world.specs.Rules.{Legal};
 ghost use Rattle.chk_world.specs.Places.{As};
-ghost use Rattle.chk_sink.specs.Faults.{SinkCause, FailsLast};
+ghost use Rattle.chk_sink.specs.Faults.{SinkCause, FailsLast, ended_by};
+ghost use Rattle.chk_world.specs.Works.{Works, NoneFailed};
+ghost use Rattle.chk_sink.specs.Works.{OfStart, OfTick, LeavesAfterTick};
+ghost use Rattle.chk_collector.specs.Handled.{Puts, PutsThen, KeepsSeen, OfPosts, OfPoll, Unanswered};
 ghost use Rattle.chk_sink.specs.Damage.{DamageCause, SpentCause};
 ghost use Rattle.chk_sink.specs.States.{IsSameStart, process, ticked_state};
 ghost use Rattle.chk_sink.specs.Held.{Matches, Ready};
-ghost use Rattle.chk_sink.specs.Closes.{OnceDone, Ticked, LeavesAfterTick, IsOfTick, IsNoListing};
+ghost use Rattle.chk_sink.specs.Closes.{OnceDone, Ticked, IsOfTick, IsNoListing};
 ghost use Rattle.chk_sink.specs.Asked.{IsOfQuestion};
 ghost use Rattle.chk_sink.specs.Starts.{IsFresh, Started, IsLastStart};
 ghost use Rattle.chk_collector.specs.Outcomes.{Fails, OutcomeSpent, Replied};
 ghost use Rattle.chk_collector.specs.Posting.{ArePosted, WroteAll, HasLineEach, IsOfPut};
 ghost use Rattle.chk_collector.specs.Polling.{AsksFor, CountedAll, HasLineOf};
 ghost use Rattle.chk_collector.specs.Answering.{Taken, Answered};
-ghost use Rattle.chk_collector.specs.Finishing.{finished, Finished};
+ghost use Rattle.chk_collector.specs.Finishing.{finished, Finished, LeavesAfterFinish};
 ghost use Rattle.chk_collector.specs.Replies.{MayHaveRisen};
 
 use crate::names::chunk_fault_name;
@@ -67,6 +70,7 @@ impl Collector {
         ensures spent { IsLastStart result }
         ensures spent_exactly { Adds (S.told site.old) (S.told site.new) (SpentCause result) }
         ensures damaged { Adds (S.told site.old) (S.told site.new) (DamageCause result) }
+        ensures own { Works who.now (OfStart who.now) (ended_by result) (S.told site.old) (S.told site.new) }
         ensures last { Adds (S.told site.old) (S.told site.new) (FailsLast result) }
         ensures cause { SinkCause (S.fault_count site.old) (S.fault_count site.new) result }
     {
@@ -88,6 +92,9 @@ impl Collector {
             (Answered stamped self.new t request.now others result)) }
         ensures replied { IfOk result (Replied request.now self.old self.new (S.fault_count site.old)
             (S.fault_count site.new) (S.told site.old) (S.told site.new)) }
+        ensures unanswered { IfErr result (λ _. Unanswered request.now self.old self.new
+            (S.told site.old) (S.told site.new)) }
+        ensures seen { KeepsSeen self.old self.new }
         ensures same { IsSameStart self.old self.new }
         ensures count { IfErr result (λ _. MayHaveRisen (S.fault_count site.old) (S.fault_count site.new)) }
     {
@@ -112,6 +119,9 @@ impl Collector {
         ensures replied { (request : List ℕ) → PostRequest body.now request → IfOk result
             (Replied request self.old self.new (S.fault_count site.old) (S.fault_count site.new)
             (S.told site.old) (S.told site.new)) }
+        ensures unanswered { (request : List ℕ) → PostRequest body.now request → IfErr result
+            (λ _. Unanswered request self.old self.new (S.told site.old) (S.told site.new)) }
+        ensures seen { KeepsSeen self.old self.new }
         ensures same { IsSameStart self.old self.new }
         ensures count { IfErr result (λ _. MayHaveRisen (S.fault_count site.old) (S.fault_count site.new)) }
     {
@@ -137,7 +147,11 @@ impl Collector {
         ensures told { (stamped : List (List ℕ)) (handled : List Handling) → ArePosted handled post.entry.left
             → Adds (S.told site.old) (S.told site.new) (Leads (As stamped (process self.old))
             (Ready stamped self.old handled) (WroteAll stamped self.new handled post.entry.left lines.new result)) }
-        ensures lines { OnceDone result (HasLineEach post.entry.left lines.new) }
+        ensures lines { OnceDone result (HasLineEach self.new post.entry.left lines.new) }
+        ensures puts { OnceDone result (Puts (length post.entry.left) self.old self.new) }
+        ensures leaves { IfErr result (PutsThen self.old self.new) }
+        ensures own { Works (process self.old) (OfPosts self.old) (ended_by result)
+            (S.told site.old) (S.told site.new) }
         ensures same { IsSameStart self.old self.new }
         ensures only { IfErr result IsOfPut }
         ensures spent { IfErr result (λ fault. OutcomeSpent self.old self.new (Fails fault)) }
@@ -166,6 +180,8 @@ impl Collector {
         ensures replied { (request : List ℕ) → AsksFor query.now request → IfOk result
             (Replied request self.now self.now (S.fault_count site.old) (S.fault_count site.new)
             (S.told site.old) (S.told site.new)) }
+        ensures unanswered { (request : List ℕ) → AsksFor query.now request → IfErr result
+            (λ _. Unanswered request self.now self.now (S.told site.old) (S.told site.new)) }
         ensures count { IfErr result (λ _. MayHaveRisen (S.fault_count site.old) (S.fault_count site.new)) }
     {
         let Some(stems) = StemList::new(query) else {
@@ -189,6 +205,8 @@ impl Collector {
             → Adds (S.told site.old) (S.told site.new) (Leads (As stamped (process self.now))
             (Ready stamped self.now handled) (CountedAll stamped self.now handled t stems.entry lines.new result)) }
         ensures lines { OnceDone result (HasLineOf stems.entry lines.new) }
+        ensures own { Works (process self.now) (OfPoll stems.entry) (ended_by result)
+            (S.told site.old) (S.told site.new) }
         ensures only { IfErr result IsOfQuestion }
         ensures damaged { Adds (S.told site.old) (S.told site.new) (DamageCause result) }
         ensures last { Adds (S.told site.old) (S.told site.new) (FailsLast result) }
@@ -208,7 +226,11 @@ impl Collector {
             (Ticked stamped self.old self.new result)) }
         ensures same { IsSameStart self.old self.new }
         ensures ok { OnOk result (self.new ≡ ticked_state now self.old) }
-        ensures refused { IfErr result (λ _. LeavesAfterTick self.old self.new) }
+        ensures refused { IfErr result (λ fault. LeavesAfterTick self.old self.new fault
+            (S.told site.old) (S.told site.new)) }
+        ensures own { Works (process self.old) (OfTick self.old) (ended_by result)
+            (S.told site.old) (S.told site.new) }
+        ensures fine { OnOk result (Adds (S.told site.old) (S.told site.new) NoneFailed) }
         ensures only { IfErr result IsOfTick }
         ensures lists { self.old.abandoned ≡ false
             → Adds (S.told site.old) (S.told site.new) (Every IsNoListing) }
@@ -226,7 +248,11 @@ impl Collector {
             (Finished stamped self.old self.new result)) }
         ensures same { IsSameStart self.old self.new }
         ensures ok { OnOk result (self.new ≡ finished self.old) }
-        ensures refused { IfErr result (λ _. (self.new.current ≡ None) ⊎ LeavesAfterTick self.old self.new) }
+        ensures refused { IfErr result (λ fault. LeavesAfterFinish self.old self.new fault
+            (S.told site.old) (S.told site.new)) }
+        ensures own { Works (process self.old) (OfTick self.old) (ended_by result)
+            (S.told site.old) (S.told site.new) }
+        ensures fine { OnOk result (Adds (S.told site.old) (S.told site.new) NoneFailed) }
         ensures only { IfErr result IsOfTick }
         ensures damaged { Adds (S.told site.old) (S.told site.new) (DamageCause result) }
         ensures last { Adds (S.told site.old) (S.told site.new) (FailsLast result) }

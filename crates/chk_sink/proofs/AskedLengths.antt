@@ -24,7 +24,7 @@ use Rattle.chk_world.proofs.Law.{shape}
 use Rattle.chk_world.proofs.ToldCalls.{GoesOn, MayCall, LeavesCall, goes_on_taken, told_taken, told_ends}
 use Rattle.chk_sink.specs.States.{State, process}
 use Rattle.chk_sink.specs.Held.{Handles, Ready}
-use Rattle.chk_sink.specs.Asked.{Counts, Counted}
+use Rattle.chk_sink.specs.Asked.{Counts, CountsNow, Counted}
 use Rattle.chk_sink.specs.Asking.{CountsOpen}
 use Rattle.chk_sink.specs.Damage.{is_number_from}
 use Rattle.chk_sink.proofs.NumberBytes.{read_whole, number_good}
@@ -88,11 +88,14 @@ module _ (stamped : List (List ℕ)) (s : State) (messages : List Handling) (t :
     (named : IsTrue (is_collector s.collector)) (stem : HasStem s) (x : Stem) (good : IsTrue (is_stem x)) where
   -- the stem has this length too
   abbrev pub Length : ℕ → History → Type 0
-  Length n history = Counts s messages t (stems ++ x ∷ []) (acks ++ ack_of x n ∷ []) history
+  Length n history = CountsNow s messages t stems acks x n history
 
   with_length : (n : ℕ) (history : History) → Counts s messages t stems acks history → IsCommittedLength (process s) history t (ack_of x n)
-      → Length n history
-  with_length n history h one = record { handles = h.handles; lengths = lengths_add (process s) t history x n one stems acks h.lengths }
+      → n ≤ committed_length (files_after history) x → Length n history
+  with_length n history h one most = record {
+    counts = record { handles = h.handles; lengths = lengths_add (process s) t history x n one stems acks h.lengths };
+    most = most;
+  }
 
   -- ---- the length of the done sink
 
@@ -118,7 +121,7 @@ module _ (stamped : List (List ℕ)) (s : State) (messages : List Handling) (t :
         same_word s before step refl modelled tt goes (spell (DoneFile x)) ∙ (ap (files_after before) (sym w_is) ∙ there.1) in
         let is : n ≡ committed_length files x = size_just n (file files (DoneFile x)) (file files (MarkFile x)) there.0 done there.2 in
         with_length n (step ∷ before) (asked_counts s before step refl modelled tt goes messages t stems acks stem h)
-        (record { at_most = inl (omega (arith, is)); just = λ q. is })
+        (record { at_most = inl (omega (arith, is)); just = λ q. is }) (omega (arith, is))
     size_leaves None before answer files logs took legal h =
         let step = own_step AskSize answer files logs in
         let goes = goes_on_taken sized None answer (λ value. tt) took in
@@ -188,7 +191,8 @@ module _ (stamped : List (List ℕ)) (s : State) (messages : List Handling) (t :
                     λ q.
                     let p = quiet_on (process s) x t before step (asked_untaken s before step refl modelled tt goes t) q in
                     mark_just D M there.0 (same_word s before step refl modelled tt goes (spell (DoneFile x)) ∙ h.not_done p.1) mark;
-              })),
+              }))
+              (subst (λ b. spelled b ≤ committed_length files x) same (mark_most D M there.0 mark so.mark_of_done)),
         )
     mark_leaves None before answer files logs took legal h =
         let step = own_step AskMark answer files logs in
@@ -204,7 +208,7 @@ module _ (stamped : List (List ℕ)) (s : State) (messages : List Handling) (t :
               none_just (file files (DoneFile x)) (file files (MarkFile x))
               (same_word s before step refl modelled tt goes (spell (DoneFile x)) ∙ h.not_done p.1)
               (same_word s before step refl modelled tt goes (spell (MarkFile x)) ∙ (ap (files_after before) (sym w_is) ∙ gone));
-        })
+        }) (omega arith)
 
     mark_fails : LeavesCall stamped AskMark named Open (λ a. a ≡ Refused Failed) (Handles s messages)
     mark_fails before answer files logs failed legal h =

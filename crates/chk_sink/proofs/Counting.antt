@@ -106,7 +106,7 @@ module _ (stamped : List (List ℕ)) (s : State) (messages : List Handling) (t :
     number_on bytes (Ok n) is history h =
         subst (λ k. CountsOn s messages t stems acks x (Ok k) history) (sym is.1) h.1
     number_on bytes (Err (Damaged name at)) is history h = absurd (true≢false (sym h.0 ∙ is.0))
-    number_on bytes (Err NoMemory) is history h = h.1.handles
+    number_on bytes (Err NoMemory) is history h = h.1.counts.handles
     number_on bytes (Err (Outside call)) is history h = absurd is
     number_on bytes (Err (Spent number)) is history h = absurd is
 

@@ -38,3 +38,7 @@ pub mod LeftListed
 pub mod LeftLoop
 pub mod Settled
 pub mod StartBegins
+pub mod Owning
+pub mod Owned
+pub mod Refusing
+pub mod HoldsStay

@@ -1,5 +1,5 @@
 -- What the parts of a tick lead to.
-use Rattle.std.proofs.Common.{◌≡◌, ℕ, false, ◌&&◌, List, Option, Some, None, option_map, Result, Ok, Err, ap, sym, subst, ◌∙◌, refl, is_some}
+use Rattle.std.proofs.Common.{◌≡◌, ℕ, Bool, false, ◌&&◌, List, Option, Some, None, option_map, Result, Ok, Err, ap, sym, subst, ◌∙◌, refl, is_some}
 use Rattle.std.specs.Prelude.{IfErr, OnOk}
 use Rattle.chk_bytes.specs.Stems.{Stem, same_stem}
 use Rattle.chk_site.specs.Files.{Files}
@@ -28,6 +28,13 @@ none_mapped (Some c) e = absurd (cc)
 pub none_seen : (i : Inside) (s : State) → sinks_view i ≡ s → is_some i.current ≡ false → s.current ≡ None
 none_seen i s e none = subst (λ (s : State). s.current ≡ None) e (none_mapped i.current none)
 
+pub is_seen : (i : Inside) (s : State) (b : Bool) → sinks_view i ≡ s → is_some i.current ≡ b → is_some s.current ≡ b
+is_seen i s b e is = subst (λ (s : State). is_some s.current ≡ b) e (mapped i.current ∙ is)
+  where
+    mapped : (o : Option Current) → is_some (option_map writing_of o) ≡ is_some o
+    mapped None = refl
+    mapped (Some c) = refl
+
 -- where no sink is written to, nothing is called
 pub none_ticks : (stamped : List (List ℕ)) (s : State) (now : Option History) → s.current ≡ None
     → Adds now now (Leads (As stamped (process s)) (Matches stamped s) (Ticked stamped s s (Ok tt)))
@@ -55,6 +62,18 @@ outside_sound (Outside call) only name at e = cc
 outside_sound (Damaged n a) only name at e = only
 outside_sound (Spent born) only name at e = only
 outside_sound NoMemory only name at e = cc
+
+-- the commit was refused
+pub unmarked_ticks : (stamped : List (List ℕ)) (s st : State) (fault : SinkFault) {old new : Option History} → IsOutside fault
+    → Adds old new (Leads (As stamped (process s)) (Matches stamped s) (Committed stamped st (Err fault)))
+    → Adds old new (Leads (As stamped (process s)) (Matches stamped s) (Ticked stamped s st (Err fault)))
+unmarked_ticks stamped s st fault only commit =
+    leads_as (λ h x. x)
+    (λ h x. record {
+      legal = x.legal;
+      may_act = x.may_act;
+      alive = λ r. record { holds = (x.alive r).holds; committed = tt; closed = tt; sound = outside_sound fault only };
+    }) commit
 
 closed_holds : (s st : State) (result : Result (Unit {0}) SinkFault) (h : History) → IfErr result IsOutside → OnOk result (st ≡ with_current (committed_state s) None)
     → CloseHolds (committed_state s) st result h → TickHolds s st result h

@@ -1,8 +1,9 @@
 -- What the question for a committed length leads to.
-use Rattle.std.specs.Prelude.{ℕ, List, [], ◌∷◌, ◌++◌, Result, Ok, Err}
+use Rattle.std.specs.Prelude.{ℕ, ◌≤◌, List, [], ◌∷◌, ◌++◌, Result, Ok, Err}
 use Rattle.chk_bytes.specs.Stems.{Stem}
-use Rattle.chk_site.specs.History.{History}
+use Rattle.chk_site.specs.History.{History, files_after}
 use Rattle.chk_message.specs.Messages.{Ack, ack_of}
+use Rattle.chk_world.specs.Committed.{committed_length}
 use Rattle.chk_world.specs.Collectors.{Handling, CommittedLengths}
 use Rattle.chk_world.specs.Places.{AtTold}
 use Rattle.chk_sink.specs.declared.fault.SinkFault.{SinkFault}
@@ -20,10 +21,15 @@ pub record Counts (s : State) (handled : List Handling) (t : ℕ) (stems : List 
 abbrev pub Counted : List (List ℕ) → State → List Handling → ℕ → List Stem → List Ack → History → Type 0
 Counted stamped s handled t stems acks history = AtTold stamped (process s) (Counts s handled t stems acks) history
 
+-- one more stem has this length, which is at most the one that is committed now
+pub record CountsNow (s : State) (handled : List Handling) (t : ℕ) (stems : List Stem) (acks : List Ack) (x : Stem) (n : ℕ)
+    (history : History) : Type 0 where
+  pub counts : Counts s handled t (stems ++ x ∷ []) (acks ++ ack_of x n ∷ []) history
+  pub most : n ≤ committed_length (files_after history) x
+
 -- one more stem has its committed length, or the call failed or wanted memory; nothing is ever damaged
 abbrev pub CountsOn : State → List Handling → ℕ → List Stem → List Ack → Stem → Result ℕ SinkFault → History → Type 0
-CountsOn s handled t stems acks x (Ok n) history =
-    Counts s handled t (stems ++ x ∷ []) (acks ++ ack_of x n ∷ []) history
+CountsOn s handled t stems acks x (Ok n) history = CountsNow s handled t stems acks x n history
 CountsOn s handled t stems acks x (Err (Damaged name at)) history = ⊥
 CountsOn s handled t stems acks x (Err fault) history = Handles s handled history
 

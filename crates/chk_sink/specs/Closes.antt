@@ -72,12 +72,6 @@ pub record TickHolds (old new : State) (result : Result (Unit {0}) SinkFault) (h
 abbrev pub Ticked : List (List ℕ) → State → State → Result (Unit {0}) SinkFault → History → Type 0
 Ticked stamped old new result history = AtTold stamped (process new) (TickHolds old new result) history
 
--- what stands after a refused tick: some sink may have been left under writing, and the one that is written to is
--- still it or is abandoned
-pub record LeavesAfterTick (old new : State) : Type 0 where
-  pub abandoned : new.abandoned ≡ true
-  pub current : (new.current ≡ old.current) ⊎ (new.current ≡ None)
-
 -- a tick finds no number spent
 abbrev pub IsOfTick : SinkFault → Type 0
 IsOfTick (Spent number) = ⊥

@@ -1,5 +1,5 @@
 -- Why a call of the sinks is refused.
-use Rattle.std.specs.Prelude.{◌≡◌, ℕ, ◌≤◌, false, ◌++◌, Result, Ok, Err}
+use Rattle.std.specs.Prelude.{◌≡◌, ℕ, ◌≤◌, false, ◌++◌, Option, Some, None, Result, Ok, Err}
 use Rattle.chk_site.specs.declared.acts.OutsideFault.{OutsideFault}
 use Rattle.chk_site.specs.declared.acts.OutsideFault.TheVariants.{Outside as site_failed, NoMemory as no_memory}
 use Rattle.chk_site.specs.History.{History, is_stopped}
@@ -16,6 +16,12 @@ sink_fault no_memory = NoMemory
 abbrev pub sink_result : {T : Type 0} → Result T OutsideFault → Result T SinkFault
 sink_result (Ok value) = Ok value
 sink_result (Err fault) = Err (sink_fault fault)
+
+-- what ended the work: a call that failed, or want of memory
+abbrev pub ended_by : {T : Type 0} → Result T SinkFault → Option OutsideFault
+ended_by (Err (Outside call)) = Some (site_failed call)
+ended_by (Err NoMemory) = Some no_memory
+ended_by result = None
 
 -- a call failed, or there was no memory
 abbrev pub IsOutside : SinkFault → Type 0

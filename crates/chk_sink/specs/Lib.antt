@@ -13,3 +13,4 @@ pub mod Closing
 pub mod Starting
 pub mod Ticking
 pub mod Settling
+pub mod Works

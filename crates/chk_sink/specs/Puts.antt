@@ -1,5 +1,5 @@
 -- What the put of a chunk leads to.
-use Rattle.std.specs.Prelude.{◌≡◌, ◌⊎◌, ℕ, List, [], ◌∷◌, ◌++◌, map, Option, Some, None, Result, Ok, Err}
+use Rattle.std.specs.Prelude.{◌≡◌, ◌⊎◌, ℕ, ◌+◌, ◌≤◌, ◌||◌, is_some, MatchBool, List, [], ◌∷◌, ◌++◌, map, Option, Some, None, Result, Ok, Err}
 use Rattle.chk_bytes.specs.Stems.{Stem}
 use Rattle.chk_site.specs.History.{History}
 use Rattle.chk_seqfile.specs.Headers.{header}
@@ -9,7 +9,7 @@ use Rattle.chk_world.specs.Collectors.{Handling, Appended, Tells, marker, with_a
 use Rattle.chk_world.specs.Places.{AtTold}
 use Rattle.chk_sink.specs.declared.fault.SinkFault.{SinkFault}
 use Rattle.chk_sink.specs.declared.fault.SinkFault.TheVariants.{Outside, Damaged, Spent, NoMemory}
-use Rattle.chk_sink.specs.States.{State, Writing, process, last_stem, let_go, IsAbandoned, IsSpent}
+use Rattle.chk_sink.specs.States.{State, Writing, process, last_stem, let_go, needs_next, IsAbandoned, IsSpent}
 use Rattle.chk_sink.specs.Held.{Handles}
 
 -- the append wrote a sink's header
@@ -67,3 +67,29 @@ LeavesAfterPut old new (Damaged name at) = ⊥
 pub record SpentExactly {T : Type 0} (s : State) (result : Result T SinkFault) : Type 0 where
   pub where_spent : IsSpent s → result ≡ Err (Spent s.born)
   pub only : (born : ℕ) → result ≡ Err (Spent born) → IsSpent s
+
+-- the sink is the same one, and only its length and the place of its last sync entry are new
+abbrev pub IsGrown : Option Writing → Option Writing → Type 0
+IsGrown (Some o) (Some n) = (o.size ≤ n.size) × (n.marked ≡ o.marked) × (n.seen ≡ o.seen)
+IsGrown old new = ⊥
+
+-- the sink has no mark, and no tick saw it
+abbrev pub IsNew : Option Writing → Type 0
+IsNew None = ⊥
+IsNew (Some n) = (n.marked ≡ 0) × (n.seen ≡ None)
+
+-- the put went into the sink that is written to
+pub record GoesOnInSame (old new : State) : Type 0 where
+  pub number : new.number ≡ old.number
+  pub abandoned : new.abandoned ≡ old.abandoned
+  pub current : IsGrown old.current new.current
+
+-- the put made the next sink, and a full one before it is abandoned
+pub record GoesOnInNext (old new : State) : Type 0 where
+  pub number : new.number ≡ old.number + 1
+  pub abandoned : new.abandoned ≡ (old.abandoned || is_some old.current)
+  pub current : IsNew new.current
+
+-- how the sinks go on by a put that was done
+abbrev pub GoesOn : State → State → Type 0
+GoesOn old new = MatchBool (needs_next old.current) (GoesOnInNext old new) (GoesOnInSame old new)

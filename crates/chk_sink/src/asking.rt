@@ -9,7 +9,9 @@ ghost use Rattle.chk_site.specs.Runs.{Leads};
 ghost use Rattle.chk_world.specs.Collectors.{Handling};
 ghost use Rattle.chk_world.specs.Places.{As};
 ghost use Rattle.chk_sink.specs.States.{State, process};
-ghost use Rattle.chk_sink.specs.Faults.{SinkCause, FailsLast};
+ghost use Rattle.chk_world.specs.Works.{Works};
+ghost use Rattle.chk_sink.specs.Faults.{SinkCause, FailsLast, ended_by};
+ghost use Rattle.chk_sink.specs.Works.{OfQuestion};
 ghost use Rattle.chk_sink.specs.Damage.{DamageCause};
 ghost use Rattle.chk_sink.specs.Asked.{CountedOn, IsOfQuestion};
 ghost use Rattle.chk_sink.specs.Asking.{TakenOnce, IsMarkNumber, IsAsker, CountedOpen};
@@ -77,6 +79,7 @@ pub(crate) fn marked<S: Site>(
         (acks : List Ack) → IsAsker who.now s → Adds (S.told site.old) (S.told site.new)
         (Leads (As stamped (process s)) (CountedOpen stamped s handled t stems acks stem.now)
         (CountedOn stamped s handled t stems acks stem.now result)) }
+    ensures own { Works who.now (OfQuestion stem.now) (ended_by result) (S.told site.old) (S.told site.new) }
     ensures only { IfErr result IsOfQuestion }
     ensures damaged { Adds (S.told site.old) (S.told site.new) (DamageCause result) }
     ensures last { Adds (S.told site.old) (S.told site.new) (FailsLast result) }

@@ -7,7 +7,9 @@ ghost use Rattle.chk_site.specs.Site.{Adds};
 ghost use Rattle.chk_site.specs.Runs.{Leads};
 ghost use Rattle.chk_world.specs.Names.{SinkFile, MarkFile, DoneFile, spell};
 ghost use Rattle.chk_world.specs.Places.{As, AtTold};
-ghost use Rattle.chk_sink.specs.Faults.{SinkCause};
+ghost use Rattle.chk_world.specs.Works.{Works};
+ghost use Rattle.chk_sink.specs.Faults.{SinkCause, ended_by};
+ghost use Rattle.chk_sink.specs.Works.{IsListing, OfLeft, OfSettling};
 ghost use Rattle.chk_sink.specs.States.{State, process};
 ghost use Rattle.chk_sink.specs.Held.{IsOther, Matches};
 ghost use Rattle.chk_sink.specs.Closes.{IsOfTick};
@@ -29,6 +31,8 @@ pub(crate) fn settle_left<S: Site>(
     ensures told { (stamped : List (List ℕ)) (s : State) → IsSettling s who.now → kept.now ≡ kept_stem s
         → Adds (S.told site.old) (S.told site.new) (Leads (As stamped (process s))
         (Matches stamped s) (Found stamped s (λ _. HoldsBut s none_left) result)) }
+    ensures own { (s : State) → IsSettling s who.now → kept.now ≡ kept_stem s
+        → Works who.now (OfSettling s) (ended_by result) (S.told site.old) (S.told site.new) }
     ensures only { IfErr result IsOfTick }
     ensures caused { Adds (S.told site.old) (S.told site.new) (IsCaused result) }
     ensures cause { SinkCause (S.fault_count site.old) (S.fault_count site.new) result }
@@ -42,6 +46,7 @@ fn list_sinks<S: Site>(alloc: Global, site: &mut S, who: &Who) -> Result<Vec<Wor
     ensures told { (stamped : List (List ℕ)) (s : State) → IsSettling s who.now
         → Adds (S.told site.old) (S.told site.new) (Leads (As stamped (process s))
         (Matches stamped s) (Found stamped s (λ names. HoldsBut s (left_of names.items None)) result)) }
+    ensures own { Works who.now IsListing (ended_by result) (S.told site.old) (S.told site.new) }
     ensures only { IfErr result IsOfTick }
     ensures caused { Adds (S.told site.old) (S.told site.new) (IsCaused result) }
     ensures cause { SinkCause (S.fault_count site.old) (S.fault_count site.new) result }
@@ -66,6 +71,8 @@ fn settle_listed<S: Site>(
         → Adds (S.told site.old) (S.told site.new) (Leads (As stamped (process s))
         (AtTold stamped (process s) (HoldsBut s (left_of names.now None)))
         (Found stamped s (λ _. HoldsBut s none_left) result)) }
+    ensures own { (s : State) → IsSettling s who.now → kept.now ≡ kept_stem s
+        → Works who.now (OfSettling s) (ended_by result) (S.told site.old) (S.told site.new) }
     ensures only { IfErr result IsOfTick }
     ensures caused { Adds (S.told site.old) (S.told site.new) (IsCaused result) }
     ensures cause { SinkCause (S.fault_count site.old) (S.fault_count site.new) result }
@@ -90,6 +97,8 @@ fn settle_named<S: Site>(
         → Adds (S.told site.old) (S.told site.new) (Leads (As stamped (process s))
         (AtTold stamped (process s) (HoldsBut s (left_of (name.now ∷ names) last.old)))
         (Found stamped s (λ _. HoldsBut s (left_of names last.new)) result)) }
+    ensures own { (s : State) → IsSettling s who.now → kept.now ≡ kept_stem s
+        → Works who.now (OfSettling s) (ended_by result) (S.told site.old) (S.told site.new) }
     ensures only { IfErr result IsOfTick }
     ensures caused { Adds (S.told site.old) (S.told site.new) (IsCaused result) }
     ensures cause { SinkCause (S.fault_count site.old) (S.fault_count site.new) result }
@@ -150,6 +159,7 @@ fn settle_stem<S: Site>(alloc: Global, site: &mut S, who: &Who, stem: Stem) -> R
         → Adds (S.told site.old) (S.told site.new) (Leads (As stamped (process s))
         (AtTold stamped (process s) (HoldsAt s may stem AnyFiles))
         (Found stamped s (λ _. HoldsAt s may stem BothGone) result)) }
+    ensures own { Works who.now (OfLeft stem) (ended_by result) (S.told site.old) (S.told site.new) }
     ensures only { IfErr result IsOfTick }
     ensures caused { Adds (S.told site.old) (S.told site.new) (IsCaused result) }
     ensures cause { SinkCause (S.fault_count site.old) (S.fault_count site.new) result }
@@ -187,6 +197,7 @@ fn close_at<S: Site>(
         → Adds (S.told site.old) (S.told site.new) (Leads (As stamped (process s))
         (AtTold stamped (process s) (HoldsAt s may stem.now (MarkedBy length)))
         (Found stamped s (λ _. HoldsAt s may stem.now BothGone) result)) }
+    ensures own { Works who.now (OfLeft stem.now) (ended_by result) (S.told site.old) (S.told site.new) }
     ensures only { IfErr result IsOfTick }
     ensures caused { Adds (S.told site.old) (S.told site.new) (IsCaused result) }
     ensures cause { SinkCause (S.fault_count site.old) (S.fault_count site.new) result }
@@ -214,6 +225,7 @@ fn close_cut<S: Site>(
         → Adds (S.told site.old) (S.told site.new) (Leads (As stamped (process s))
         (AtTold stamped (process s) (HoldsAt s may stem.now (CutAt n)))
         (Found stamped s (λ _. HoldsAt s may stem.now BothGone) result)) }
+    ensures own { Works who.now (OfLeft stem.now) (ended_by result) (S.told site.old) (S.told site.new) }
     ensures only { IfErr result IsOfTick }
     ensures caused { Adds (S.told site.old) (S.told site.new) (IsCaused result) }
     ensures cause { SinkCause (S.fault_count site.old) (S.fault_count site.new) result }
@@ -234,6 +246,8 @@ fn read_mark<S: Site>(
         → mark.now ≡ spell (MarkFile x) → Adds (S.told site.old) (S.told site.new) (Leads (As stamped (process s))
         (AtTold stamped (process s) (HoldsAt s may x AnyFiles))
         (Found stamped s (λ found. HoldsAt s may x (MarkFound found)) result)) }
+    ensures own { (x : Parts) → mark.now ≡ spell (MarkFile x)
+        → Works who.now (OfLeft x) (ended_by result) (S.told site.old) (S.told site.new) }
     ensures only { IfErr result IsOfTick }
     ensures caused { (x : Parts) → IsTrue (is_stem x) → mark.now ≡ spell (MarkFile x)
         → Adds (S.told site.old) (S.told site.new) (IsCaused result) }
@@ -262,6 +276,8 @@ fn cut_to<S: Site>(
         → sink.now ≡ spell (SinkFile x) → Adds (S.told site.old) (S.told site.new) (Leads (As stamped (process s))
         (AtTold stamped (process s) (HoldsAt s may x (MarkedBy length)))
         (Found stamped s (λ there. HoldsAt s may x (CutFound length there)) result)) }
+    ensures own { (x : Parts) → sink.now ≡ spell (SinkFile x)
+        → Works who.now (OfLeft x) (ended_by result) (S.told site.old) (S.told site.new) }
     ensures only { IfErr result IsOfTick }
     ensures caused { (x : Parts) → IsTrue (is_stem x) → sink.now ≡ spell (SinkFile x) → mark.now ≡ spell (MarkFile x)
         → Adds (S.told site.old) (S.told site.new) (IsCaused result) }
@@ -290,6 +306,8 @@ fn rename_closed<S: Site>(
         → Adds (S.told site.old) (S.told site.new) (Leads (As stamped (process s))
         (AtTold stamped (process s) (HoldsAt s may x (CutAt n)))
         (Found stamped s (λ _. HoldsAt s may x NoSink) result)) }
+    ensures own { (x : Parts) → sink.now ≡ spell (SinkFile x) → closed.now ≡ spell (DoneFile x)
+        → Works who.now (OfLeft x) (ended_by result) (S.told site.old) (S.told site.new) }
     ensures only { IfErr result IsOfTick }
     ensures caused { Adds (S.told site.old) (S.told site.new) (IsCaused result) }
     ensures cause { SinkCause (S.fault_count site.old) (S.fault_count site.new) result }
@@ -305,6 +323,8 @@ fn remove_sink<S: Site>(alloc: Global, site: &mut S, who: &Who, sink: &str) -> R
         → sink.now ≡ spell (SinkFile x) → Adds (S.told site.old) (S.told site.new) (Leads (As stamped (process s))
         (AtTold stamped (process s) (HoldsAt s may x NoMark))
         (Found stamped s (λ _. HoldsAt s may x BothGone) result)) }
+    ensures own { (x : Parts) → sink.now ≡ spell (SinkFile x)
+        → Works who.now (OfLeft x) (ended_by result) (S.told site.old) (S.told site.new) }
     ensures only { IfErr result IsOfTick }
     ensures caused { Adds (S.told site.old) (S.told site.new) (IsCaused result) }
     ensures cause { SinkCause (S.fault_count site.old) (S.fault_count site.new) result }
@@ -320,6 +340,8 @@ fn remove_mark<S: Site>(alloc: Global, site: &mut S, who: &Who, mark: &str) -> R
         → mark.now ≡ spell (MarkFile x) → Adds (S.told site.old) (S.told site.new) (Leads (As stamped (process s))
         (AtTold stamped (process s) (HoldsAt s may x NoSink))
         (Found stamped s (λ _. HoldsAt s may x BothGone) result)) }
+    ensures own { (x : Parts) → mark.now ≡ spell (MarkFile x)
+        → Works who.now (OfLeft x) (ended_by result) (S.told site.old) (S.told site.new) }
     ensures only { IfErr result IsOfTick }
     ensures caused { Adds (S.told site.old) (S.told site.new) (IsCaused result) }
     ensures cause { SinkCause (S.fault_count site.old) (S.fault_count site.new) result }

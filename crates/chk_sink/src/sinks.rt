@@ -12,14 +12,16 @@ ghost use Rattle.chk_message.specs.Messages.{Ack};
 ghost use Rattle.chk_world.specs.Collectors.{Handling, IsPosted};
 ghost use Rattle.chk_world.specs.Rules.{Legal};
 ghost use Rattle.chk_world.specs.Places.{As};
-ghost use Rattle.chk_sink.specs.Faults.{IsOutside, SinkCause, FailsLast, sink_result};
+ghost use Rattle.chk_world.specs.Works.{Works, NoneFailed};
+ghost use Rattle.chk_sink.specs.Faults.{IsOutside, SinkCause, FailsLast, ended_by, sink_result};
+ghost use Rattle.chk_sink.specs.Works.{IsAppendTo, IsMaking, OfPut, OfCommit, OfClose, OfSettling, OfTick, OfStart, OfQuestion, LeavesAfterTick};
 ghost use Rattle.chk_sink.specs.Damage.{DamageCause, SpentCause};
 ghost use Rattle.chk_sink.specs.States.{IsSameStart, process, last_stem, next_stem, counted, begun, kept_where_done, let_go, needs_next, last_number, without_full, with_current, committed_state, settled_state, ticked_state};
 ghost use Rattle.chk_sink.specs.SinkFields.{IsOfStem, writing_of};
 ghost use Rattle.chk_sink.specs.Held.{Matches, Ready};
-ghost use Rattle.chk_sink.specs.Puts.{Wrote, IsPlaced, LeavesAfterPut, SpentExactly};
+ghost use Rattle.chk_sink.specs.Puts.{Wrote, IsPlaced, LeavesAfterPut, SpentExactly, GoesOn, GoesOnInSame, GoesOnInNext};
 ghost use Rattle.chk_sink.specs.Closing.{left_where_done};
-ghost use Rattle.chk_sink.specs.Closes.{Committed, Closed, IsMarked, Settled, Ticked, LeavesAfterTick, IsOfTick, IsNoListing};
+ghost use Rattle.chk_sink.specs.Closes.{Committed, Closed, IsMarked, Settled, Ticked, IsOfTick, IsNoListing};
 ghost use Rattle.chk_sink.specs.Starts.{IsFresh, Started, IsLastStart};
 ghost use Rattle.chk_sink.specs.Starting.{IsNoLastRead};
 ghost use Rattle.chk_sink.specs.Settling.{kept_stem};
@@ -91,6 +93,8 @@ impl Sinks {
         ensures spent { IsLastStart result }
         ensures spent_exactly { Adds (S.told site.old) (S.told site.new) (SpentCause result) }
         ensures damaged { Adds (S.told site.old) (S.told site.new) (DamageCause result) }
+        ensures own { Works who.now (OfStart who.now) (ended_by result)
+            (S.told site.old) (S.told site.new) }
         ensures last { Adds (S.told site.old) (S.told site.new) (FailsLast result) }
         ensures cause { SinkCause (S.fault_count site.old) (S.fault_count site.new) result }
     {
@@ -117,8 +121,11 @@ impl Sinks {
             (Ready stamped self.old handled) (Wrote stamped self.new handled (lent_chunk chunk.now) result)) }
         ensures same { IsSameStart self.old self.new }
         ensures placed { IfOk result (IsPlaced self.new) }
+        ensures goes_on { IfOk result (λ _. GoesOn self.old self.new) }
         ensures refused { IfErr result (LeavesAfterPut self.old self.new) }
         ensures spent { SpentExactly self.old result }
+        ensures own { Works (process self.old) (OfPut self.old) (ended_by result)
+            (S.told site.old) (S.told site.new) }
         ensures last { Adds (S.told site.old) (S.told site.new) (FailsLast result) }
         ensures cause { SinkCause (S.fault_count site.old) (S.fault_count site.new) result }
     {
@@ -165,8 +172,11 @@ impl Sinks {
             (Wrote stamped self.new handled c result)) }
         ensures same { IsSameStart self.old self.new }
         ensures placed { IfOk result (IsPlaced self.new) }
+        ensures goes_on { IfOk result (λ _. GoesOnInSame self.old self.new) }
         ensures refused { IfErr result (LeavesAfterPut self.old self.new) }
         ensures only { IfErr result IsOutside }
+        ensures own { Works (process self.old) (IsAppendTo (last_stem self.old)) (ended_by result)
+            (S.told site.old) (S.told site.new) }
         ensures last { Adds (S.told site.old) (S.told site.new) (FailsLast result) }
         ensures cause { SinkCause (S.fault_count site.old) (S.fault_count site.new) result }
     {
@@ -221,8 +231,11 @@ impl Sinks {
             (Wrote stamped self.new handled c result)) }
         ensures same { IsSameStart self.old self.new }
         ensures placed { IfOk result (IsPlaced self.new) }
+        ensures goes_on { IfOk result (λ _. GoesOnInNext self.old self.new) }
         ensures refused { IfErr result (LeavesAfterPut self.old self.new) }
         ensures only { IfErr result IsOutside }
+        ensures own { Works (process self.old) (IsMaking (next_stem self.old)) (ended_by result)
+            (S.told site.old) (S.told site.new) }
         ensures last { Adds (S.told site.old) (S.told site.new) (FailsLast result) }
         ensures cause { SinkCause (S.fault_count site.old) (S.fault_count site.new) result }
     {
@@ -284,6 +297,8 @@ impl Sinks {
         ensures idle { IsMarked self.old.current → S.told site.new ≡ S.told site.old }
         ensures lists { Adds (S.told site.old) (S.told site.new) (Every IsNoListing) }
         ensures damaged { Adds (S.told site.old) (S.told site.new) (DamageCause result) }
+        ensures own { Works (process self.old) (OfCommit self.old) (ended_by result)
+            (S.told site.old) (S.told site.new) }
         ensures last { Adds (S.told site.old) (S.told site.new) (FailsLast result) }
         ensures cause { SinkCause (S.fault_count site.old) (S.fault_count site.new) result }
     {
@@ -308,6 +323,8 @@ impl Sinks {
         ensures idle { self.old.current ≡ None → S.told site.new ≡ S.told site.old }
         ensures lists { Adds (S.told site.old) (S.told site.new) (Every IsNoListing) }
         ensures damaged { Adds (S.told site.old) (S.told site.new) (DamageCause result) }
+        ensures own { Works (process self.old) (OfClose self.old) (ended_by result)
+            (S.told site.old) (S.told site.new) }
         ensures last { Adds (S.told site.old) (S.told site.new) (FailsLast result) }
         ensures cause { SinkCause (S.fault_count site.old) (S.fault_count site.new) result }
     {
@@ -347,6 +364,8 @@ impl Sinks {
             → Adds (S.told site.old) (S.told site.new) (Every IsNoListing) }
         ensures unread { Adds (S.told site.old) (S.told site.new) (Every IsNoLastRead) }
         ensures damaged { Adds (S.told site.old) (S.told site.new) (DamageCause result) }
+        ensures own { Works (process self.old) (OfSettling self.old) (ended_by result)
+            (S.told site.old) (S.told site.new) }
         ensures last { Adds (S.told site.old) (S.told site.new) (FailsLast result) }
         ensures cause { SinkCause (S.fault_count site.old) (S.fault_count site.new) result }
     {
@@ -379,11 +398,15 @@ impl Sinks {
             (Ticked stamped self.old self.new result)) }
         ensures same { IsSameStart self.old self.new }
         ensures ok { OnOk result (self.new ≡ ticked_state now self.old) }
-        ensures refused { IfErr result (λ _. LeavesAfterTick self.old self.new) }
+        ensures refused { IfErr result (λ fault. LeavesAfterTick self.old self.new fault
+            (S.told site.old) (S.told site.new)) }
+        ensures fine { OnOk result (Adds (S.told site.old) (S.told site.new) NoneFailed) }
         ensures only { IfErr result IsOfTick }
         ensures lists { self.old.abandoned ≡ false
             → Adds (S.told site.old) (S.told site.new) (Every IsNoListing) }
         ensures damaged { Adds (S.told site.old) (S.told site.new) (DamageCause result) }
+        ensures own { Works (process self.old) (OfTick self.old) (ended_by result)
+            (S.told site.old) (S.told site.new) }
         ensures last { Adds (S.told site.old) (S.told site.new) (FailsLast result) }
         ensures cause { SinkCause (S.fault_count site.old) (S.fault_count site.new) result }
     {
@@ -395,7 +418,7 @@ impl Sinks {
     }
 
     /// The length that is committed of a sink, of whichever collector: that of the done sink, else the number in
-    /// its mark, else 0. It is at most the committed length at some moment of the call.
+    /// its mark, else 0. It is at most the length that is committed when the call returns.
     pub fn committed<S: Site>(
         &self,
         alloc: Global,
@@ -408,6 +431,8 @@ impl Sinks {
             (CountedOn stamped self.now handled t stems acks stem result)) }
         ensures only { IfErr result IsOfQuestion }
         ensures damaged { Adds (S.told site.old) (S.told site.new) (DamageCause result) }
+        ensures own { Works (process self.now) (OfQuestion stem) (ended_by result)
+            (S.told site.old) (S.told site.new) }
         ensures last { Adds (S.told site.old) (S.told site.new) (FailsLast result) }
         ensures cause { SinkCause (S.fault_count site.old) (S.fault_count site.new) result }
     {

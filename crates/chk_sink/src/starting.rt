@@ -11,7 +11,9 @@ ghost use Rattle.chk_replace.specs.Replace.{replacement};
 ghost use Rattle.chk_world.specs.Names.{BornFile, spell};
 ghost use Rattle.chk_world.specs.Rules.{Legal};
 ghost use Rattle.chk_world.specs.Places.{As};
-ghost use Rattle.chk_sink.specs.Faults.{SinkCause, FailsLast};
+ghost use Rattle.chk_world.specs.Works.{Works, fault_of};
+ghost use Rattle.chk_sink.specs.Faults.{SinkCause, FailsLast, ended_by};
+ghost use Rattle.chk_sink.specs.Works.{OfLook, OfPublishing};
 ghost use Rattle.chk_sink.specs.Damage.{DamageCause, SpentCause, IsInLimit};
 ghost use Rattle.chk_sink.specs.Calls.{MadeOnce};
 ghost use Rattle.chk_sink.specs.Starts.{IsLastStart};
@@ -53,6 +55,7 @@ pub(crate) fn publish_next<S: Site>(
     ensures spent { IsLastStart result }
     ensures spent_exactly { Adds (S.told site.old) (S.told site.new) (SpentCause result) }
     ensures damaged { Adds (S.told site.old) (S.told site.new) (DamageCause result) }
+    ensures own { Works who.now (OfPublishing who.now) (ended_by result) (S.told site.old) (S.told site.new) }
     ensures last { Adds (S.told site.old) (S.told site.new) (FailsLast result) }
     ensures cause { SinkCause (S.fault_count site.old) (S.fault_count site.new) result }
 {
@@ -84,6 +87,7 @@ fn last_start<S: Site>(
     ensures starts { IfOk result (λ _. Adds (S.told site.old) (S.told site.new) (HasStarted who.now)) }
     ensures number { IfOk result IsInLimit }
     ensures shown { Adds (S.told site.old) (S.told site.new) (ShowsStart name.now result) }
+    ensures own { Works who.now (OfLook who.now.name) (fault_of result) (S.told site.old) (S.told site.new) }
     ensures last { Adds (S.told site.old) (S.told site.new) (LastFailed result) }
     ensures cause { OutsideCause (S.fault_count site.old) (S.fault_count site.new) result }
 {

@@ -1,9 +1,10 @@
 // What posts and polls are answered.
 use crate::scene::{POLL, POST, expect, replies, start, start_second};
-use chk_test_calls::{failing, quiet};
 use chk_bytes::{Bytes, put_decimal, put_u32};
 use chk_collector::Collector;
+use chk_site::{Call, Script};
 use chk_site_mem::SiteMem;
+use chk_test_calls::{failing, quiet, written};
 use std::alloc::Global;
 use std::test::Fail;
 
@@ -222,4 +223,41 @@ fn many_stems(rt: HostRuntime) -> Result<(), Fail> {
     let reply = collector.respond(alloc, &mut site, request.as_slice())?;
     is_reply_of(reply.as_slice(), 69, b"\nc9.1.63 0\nc9.1.64 0\n")?;
     expect(site.acts().len() == 136, "not two calls a stem")
+}
+
+const OTHER_MARK: &[u8] = b"sinks/c9.1.1.mark";
+
+// What stands in the mark of another collector's sink, which isn't a length behind a header.
+const DAMAGED: [(&'static str, &[u8]); 5] = [
+    ("of no byte", b""),
+    ("of 7 bytes", b"\0\0\0\0\0\0\x90"),
+    ("of 9 bytes", b"\0\0\0\0\0\0\0\x90\0"),
+    ("of 95", b"\0\0\0\0\0\0\0\x5f"),
+    ("of 2^63", b"\x80\0\0\0\0\0\0\0"),
+];
+
+// A script in which the mark has these bytes.
+fn with_mark(alloc: Global, bytes: &[u8]) -> Result<Script, Fail> {
+    let mut script = quiet(alloc);
+    let made = written(alloc, Call::Create, &[OTHER_MARK])?;
+    script.others.push(made)?;
+    let filled = written(alloc, Call::Append, &[OTHER_MARK, bytes])?;
+    script.others.push(filled)?;
+    Ok(script)
+}
+
+#[test]
+fn poll_over_a_damaged_mark(rt: HostRuntime) -> Result<(), Fail> {
+    let alloc = rt.alloc();
+    for (row, bytes) in DAMAGED {
+        let mut site = SiteMem::new(alloc, with_mark(alloc, bytes)?)?;
+        let mut collector = start(alloc, &mut site)?;
+        let reply = collector.respond(alloc, &mut site, BOTH)?;
+        expect(is_damaged(reply.as_slice()), row)?;
+    }
+    Ok(())
+}
+
+fn is_damaged(reply: &[u8]) -> bool {
+    reply.starts_with(UNAVAILABLE) && reply.ends_with(b"\r\n\r\ndamaged sinks/c9.1.1.mark 0\n")
 }

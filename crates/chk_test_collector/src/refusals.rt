@@ -1,8 +1,8 @@
 // Requests that aren't in the grammar: the code and the name of each reply, by the bytes alone.
 use crate::scene::{expect, replies, start};
-use chk_test_calls::quiet;
 use chk_collector::Collector;
 use chk_site_mem::SiteMem;
+use chk_test_calls::quiet;
 use std::alloc::Global;
 use std::test::Fail;
 

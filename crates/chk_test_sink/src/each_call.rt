@@ -3,11 +3,11 @@
 use crate::scene::{
     FIRST, Names, SECOND, THIRD, expect, is_gone, is_long, puts, size, start, started, stopping_at,
 };
-use chk_test_calls::{failing, quiet};
 use chk_bytes::take_u64;
 use chk_sink::Sinks;
 use chk_site::Script;
 use chk_site_mem::SiteMem;
+use chk_test_calls::{failing, quiet};
 use std::alloc::Global;
 use std::test::Fail;
 

@@ -3,12 +3,12 @@ ghost use Rattle.std.specs.Prelude.{◌≡◌, IfOk, IsTrue};
 ghost use Rattle.chk_bytes.specs.Stems.{is_collector};
 ghost use Rattle.chk_site.specs.declared.acts.Role.TheVariants.{Collector};
 
-use chk_test_calls::{left_of, stopping};
 use chk_bytes::{Stem, Word};
 use chk_chunk::read_post;
 use chk_sink::{SinkFault, Sinks};
 use chk_site::{Call, Role, Script, Who};
 use chk_site_mem::SiteMem;
+use chk_test_calls::{left_of, stopping};
 use std::alloc::Global;
 use std::test::Fail;
 

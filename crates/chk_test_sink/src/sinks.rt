@@ -3,11 +3,11 @@ use crate::scene::{
     FIRST, SECOND, expect, fails_to_append, has_bytes, is_gone, is_long, puts, puts_at, size,
     start, started, stopping_at,
 };
-use chk_test_calls::{failing, quiet, written};
 use chk_bytes::Stem;
 use chk_sink::{SinkFault, Sinks};
 use chk_site::{Call, Script};
 use chk_site_mem::SiteMem;
+use chk_test_calls::{failing, quiet, written};
 use std::alloc::Global;
 use std::test::Fail;
 
@@ -227,4 +227,25 @@ fn are_closed(alloc: Global, site: &mut SiteMem, sinks: &mut Sinks) -> Result<()
     }
     let lists = site.acts().iter().filter(|act| act.call == Call::List);
     expect(lists.count() == 1, "not one listing")
+}
+
+// A put, and a tick at this moment: where the put's chunk ends, and how many calls were made up to the tick's end. A
+// start makes 8, the first put 3 and each further one 1, a commit 6 and a close 2.
+const BETWEEN: [(&'static str, u64, u64, usize); 3] = [
+    ("at the first tick", 0, 144, 17),
+    ("at a tick before the sink is old", 50, 192, 24),
+    ("at the tick that closes it", 100, 240, 33),
+];
+
+#[test]
+fn put_between_ticks(rt: HostRuntime) -> Result<(), Fail> {
+    let alloc = rt.alloc();
+    let mut site = SiteMem::new(alloc, quiet(alloc))?;
+    let mut sinks = started(alloc, &mut site)?;
+    for (row, now, end, calls) in BETWEEN {
+        puts_at(alloc, &mut site, &mut sinks, (1, 1), end)?;
+        expect(sinks.tick(alloc, &mut site, now).is_ok(), row)?;
+        expect(site.acts().len() == calls, row)?;
+    }
+    is_long(&site, FIRST.closed, 240)
 }

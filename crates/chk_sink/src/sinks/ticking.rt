@@ -5,9 +5,11 @@ ghost use Rattle.chk_site.specs.History.{Every};
 ghost use Rattle.chk_site.specs.Site.{Adds};
 ghost use Rattle.chk_site.specs.Runs.{Leads};
 ghost use Rattle.chk_world.specs.Places.{As};
-ghost use Rattle.chk_sink.specs.Faults.{IsOutside, SinkCause, FailsLast};
+ghost use Rattle.chk_world.specs.Works.{Works};
+ghost use Rattle.chk_sink.specs.Faults.{IsOutside, SinkCause, FailsLast, ended_by};
+ghost use Rattle.chk_sink.specs.Works.{OfClose, IsLetGo};
 ghost use Rattle.chk_sink.specs.Damage.{DamageCause};
-ghost use Rattle.chk_sink.specs.States.{IsSameStart, IsAbandoned, process};
+ghost use Rattle.chk_sink.specs.States.{IsSameStart, process};
 ghost use Rattle.chk_sink.specs.Held.{Matches};
 ghost use Rattle.chk_sink.specs.Closes.{Ticked, IsNoListing};
 ghost use Rattle.chk_sink.specs.Ticking.{noted_state};
@@ -31,10 +33,12 @@ impl Sinks {
             (Ticked stamped self.old self.new result)) }
         ensures same { IsSameStart self.old self.new }
         ensures ok { OnOk result (self.new ≡ noted_state now self.old) }
-        ensures refused { IfErr result (λ _. IsAbandoned self.new) }
+        ensures refused { IfErr result (λ _. IsLetGo self.old self.new) }
         ensures only { IfErr result IsOutside }
         ensures lists { Adds (S.told site.old) (S.told site.new) (Every IsNoListing) }
         ensures damaged { Adds (S.told site.old) (S.told site.new) (DamageCause result) }
+        ensures own { Works (process self.old) (OfClose self.old) (ended_by result)
+            (S.told site.old) (S.told site.new) }
         ensures last { Adds (S.told site.old) (S.told site.new) (FailsLast result) }
         ensures cause { SinkCause (S.fault_count site.old) (S.fault_count site.new) result }
     {

@@ -1,4 +1,8 @@
-use Rattle.std.proofs.Common.{◌∙◌, ap, sym, subst, Ok, Err, List, ℕ}
+use Rattle.chk_site.specs.Site.{asked, bytes_given}
+use Rattle.chk_site.specs.declared.acts.Call.TheVariants.{Read}
+use Rattle.chk_sink.proofs.Owned.{number_works}
+use Rattle.chk_sink.proofs.Owning.{made_err, made_none, taken_once}
+use Rattle.std.proofs.Common.{◌∙◌, ap, sym, subst, Ok, Err, List, ℕ, refl, [], ◌∷◌}
 use Rattle.std.proofs.lemmas.Result.{err_from_is_err_and}
 use Rattle.chk_world.specs.Names.{MarkFile, read}
 use Rattle.chk_world.proofs.NameLemmas.{read-spell}
@@ -49,3 +53,22 @@ returns-clause-damaged g c =
     let w_is = c.as_str.ensures.value ∙ c.in_ok-name.ensures in
     none_damaged c.args.who.now c.as_str.result.now c.args.stem.now (ap read w_is ∙ read-spell (MarkFile c.args.stem.now) c.requires)
     c.bytes_of.result (c.in_ok-read.was ∙ ap Ok c.in-None.is) c.bytes_of.ensures.told
+
+pub returns-in_err-name-clause-own : goal.returns-in_err-name-clause-own
+returns-in_err-name-clause-own g c =
+    let p = err_from_is_err_and c.from_residual.result c.from_residual.ensures.1 in
+    made_none c.from_residual.result _ (p.1 ∙ ap Err p.2)
+
+pub returns-in_err-read-clause-own : goal.returns-in_err-read-clause-own
+returns-in_err-read-clause-own g c =
+    let p = err_from_is_err_and c.from_residual-in_err-read.result c.from_residual-in_err-read.ensures.1 in
+    made_err c.from_residual-in_err-read.result c.in_err-read.field-0.0 (p.1 ∙ ap Err p.2)
+    (taken_once (asked c.args.who.now Read (c.as_str.result.now ∷ []) 0 9) bytes_given c.bytes_of.result _ c.in_err-read.was (λ v. tt) (c.as_str.ensures.value ∙ c.in_ok-name.ensures, refl, refl) c.bytes_of.ensures.told)
+
+pub returns-in-Some-clause-own : goal.returns-in-Some-clause-own
+returns-in-Some-clause-own g c =
+    number_works c.as_str-in-Some.result.now c.as_slice.result.now c.number_of.result c.number_of.ensures
+    (taken_once (asked c.args.who.now Read (c.as_str.result.now ∷ []) 0 9) bytes_given c.bytes_of.result _ c.in_ok-read.was (λ v. tt) (c.as_str.ensures.value ∙ c.in_ok-name.ensures, refl, refl) c.bytes_of.ensures.told)
+
+pub returns-clause-own : goal.returns-clause-own
+returns-clause-own g c = taken_once (asked c.args.who.now Read (c.as_str.result.now ∷ []) 0 9) bytes_given c.bytes_of.result _ c.in_ok-read.was (λ v. tt) (c.as_str.ensures.value ∙ c.in_ok-name.ensures, refl, refl) c.bytes_of.ensures.told

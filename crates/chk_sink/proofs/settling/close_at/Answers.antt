@@ -1,3 +1,5 @@
+use Rattle.chk_world.proofs.Working.{works_then}
+use Rattle.chk_sink.proofs.Owning.{made_as, made_ok}
 use Rattle.std.proofs.Common.{◌∙◌, ap, Ok, Err}
 use Rattle.std.proofs.lemmas.Result.{err_from_is_err_and}
 use Rattle.chk_sink.specs.Settling.{HoldsAt, CutFound, BothGone}
@@ -36,3 +38,17 @@ pub returns-else-branch-clause-caused : goal.returns-else-branch-clause-caused
 returns-else-branch-clause-caused g c =
     caused_then c.cut_to.result _ c.remove_mark.result c.in_ok-cut_to.was
     (c.cut_to.ensures.caused c.args.stem.now c.requires.good c.requires.sink c.requires.mark) c.remove_mark.ensures.caused
+
+pub returns-in_err-cut_to-clause-own : goal.returns-in_err-cut_to-clause-own
+returns-in_err-cut_to-clause-own g c =
+    let p = err_from_is_err_and c.from_residual.result c.from_residual.ensures.1 in
+    made_as c.cut_to.result c.from_residual.result _ c.in_err-cut_to.was (p.1 ∙ ap Err p.2) (c.cut_to.ensures.own c.args.stem.now c.requires.sink)
+
+pub returns-then-branch-clause-own : goal.returns-then-branch-clause-own
+returns-then-branch-clause-own g c =
+    works_then (made_ok c.cut_to.result _ c.in_ok-cut_to.was (c.cut_to.ensures.own c.args.stem.now c.requires.sink)) c.close_cut.ensures.own
+
+pub returns-else-branch-clause-own : goal.returns-else-branch-clause-own
+returns-else-branch-clause-own g c =
+    works_then (made_ok c.cut_to.result _ c.in_ok-cut_to.was (c.cut_to.ensures.own c.args.stem.now c.requires.sink))
+    (c.remove_mark.ensures.own c.args.stem.now c.requires.mark)

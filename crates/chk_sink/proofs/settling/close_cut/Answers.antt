@@ -1,3 +1,5 @@
+use Rattle.chk_world.proofs.Working.{works_then}
+use Rattle.chk_sink.proofs.Owning.{made_as, made_ok, made_none}
 use Rattle.std.proofs.Common.{◌∙◌, ap, Err}
 use Rattle.std.proofs.lemmas.Result.{err_from_is_err_and}
 use Rattle.chk_sink.specs.Settling.{HoldsAt, NoSink, BothGone}
@@ -23,3 +25,21 @@ returns-clause-told g c stamped s may n settles other =
 pub returns-clause-caused : goal.returns-clause-caused
 returns-clause-caused g c =
     caused_then c.rename_closed.result _ c.remove_mark.result c.in_ok-rename_closed.was c.rename_closed.ensures.caused c.remove_mark.ensures.caused
+
+pub returns-in_err-closed-clause-own : goal.returns-in_err-closed-clause-own
+returns-in_err-closed-clause-own g c =
+    let p = err_from_is_err_and c.from_residual.result c.from_residual.ensures.1 in
+    made_none c.from_residual.result _ (p.1 ∙ ap Err p.2)
+
+pub returns-in_err-rename_closed-clause-own : goal.returns-in_err-rename_closed-clause-own
+returns-in_err-rename_closed-clause-own g c =
+    let p = err_from_is_err_and c.from_residual-in_err-rename_closed.result c.from_residual-in_err-rename_closed.ensures.1 in
+    made_as c.rename_closed.result c.from_residual-in_err-rename_closed.result _ c.in_err-rename_closed.was (p.1 ∙ ap Err p.2)
+    (c.rename_closed.ensures.own c.args.stem.now c.requires.sink (c.as_str.ensures.value ∙ c.in_ok-closed.ensures))
+
+pub returns-clause-own : goal.returns-clause-own
+returns-clause-own g c =
+    works_then
+    (made_ok c.rename_closed.result _ c.in_ok-rename_closed.was
+    (c.rename_closed.ensures.own c.args.stem.now c.requires.sink (c.as_str.ensures.value ∙ c.in_ok-closed.ensures)))
+    (c.remove_mark.ensures.own c.args.stem.now c.requires.mark)

@@ -1,3 +1,4 @@
+use Rattle.chk_sink.proofs.Owning.{tried_works, damaged_works}
 use Rattle.std.proofs.Common.{◌∙◌, refl, sym, ap, Err, subst, Bool, true, false, [], ◌∷◌, Result}
 use Rattle.chk_site.specs.declared.acts.Call.TheVariants.{Cut}
 use Rattle.chk_site.specs.declared.acts.CallFault.{CallFault}
@@ -68,3 +69,25 @@ returns-in-Err-Missing-clause-caused g c x good named marked =
     cut_caused c.args.who.now c.args.sink.now c.args.length c.cut.result false
     (ap (λ (r : Result (Unit {0}) CallFault). shown (asked c.args.who.now Cut (c.args.sink.now ∷ []) c.args.length 0) (answered plain r)) (c.in-Err-Missing.is ∙ ap Err c.in-Err-Missing.field-0-is))
     c.cut.ensures.told
+
+pub returns-in-Ok-clause-own : goal.returns-in-Ok-clause-own
+returns-in-Ok-clause-own g c x named =
+    tried_works (asked c.args.who.now Cut (c.args.sink.now ∷ []) c.args.length 0) plain c.cut.result _ c.in-Ok.is (λ v. tt) named c.cut.ensures.told
+
+pub returns-in-Err-Failed-clause-own : goal.returns-in-Err-Failed-clause-own
+returns-in-Err-Failed-clause-own g c x named =
+    tried_works (asked c.args.who.now Cut (c.args.sink.now ∷ []) c.args.length 0) plain c.cut.result _ (c.in-Err-Failed.is ∙ ap Err c.in-Err-Failed.field-0-is) (λ v. tt) named c.cut.ensures.told
+
+pub returns-in-Err-NoMemory-clause-own : goal.returns-in-Err-NoMemory-clause-own
+returns-in-Err-NoMemory-clause-own g c x named =
+    tried_works (asked c.args.who.now Cut (c.args.sink.now ∷ []) c.args.length 0) plain c.cut.result _ (c.in-Err-NoMemory.is ∙ ap Err c.in-Err-NoMemory.field-0-is) (λ v. tt) named c.cut.ensures.told
+
+pub returns-in-Err-Missing-clause-own : goal.returns-in-Err-Missing-clause-own
+returns-in-Err-Missing-clause-own g c x named =
+    tried_works (asked c.args.who.now Cut (c.args.sink.now ∷ []) c.args.length 0) plain c.cut.result _ (c.in-Err-Missing.is ∙ ap Err c.in-Err-Missing.field-0-is) (λ v. tt) named c.cut.ensures.told
+
+pub returns-in-Err-Short-clause-own : goal.returns-in-Err-Short-clause-own
+returns-in-Err-Short-clause-own g c x named =
+    damaged_works Bool c.args.mark.now c.damaged.result c.damaged.ensures
+    (tried_works (asked c.args.who.now Cut (c.args.sink.now ∷ []) c.args.length 0) plain c.cut.result _
+    (c.in-Err-Short.is ∙ ap Err c.in-Err-Short.field-0-is) (λ v. tt) named c.cut.ensures.told)

@@ -1,3 +1,4 @@
+use Rattle.chk_sink.proofs.Owning.{tried_works}
 use Rattle.std.proofs.Common.{◌∙◌, refl, sym, ap, Err, subst, [], ◌∷◌}
 use Rattle.std.specs.Prelude.{codes}
 use Rattle.chk_site.specs.declared.acts.Call.TheVariants.{List as ListNames}
@@ -41,3 +42,17 @@ returns-in-Err-NoMemory-clause-caused g c =
     no_memory refl
     (subst (λ r. Ends ListNames r no_memory) (sym (c.in-Err-NoMemory.is ∙ ap Err c.in-Err-NoMemory.field-0-is)) refl)
     (record { failed = refl; stopped = λ left. refl }) (λ answer. refl) c.list.ensures.told
+
+pub returns-in-Ok-clause-own : goal.returns-in-Ok-clause-own
+returns-in-Ok-clause-own g c =
+    tried_works (asked c.args.who.now ListNames (codes "sinks" ∷ []) 0 0) (λ v. names_given v.items) c.list.result _ c.in-Ok.is (λ v. tt) refl c.list.ensures.told
+
+pub returns-in-Err-Failed-clause-own : goal.returns-in-Err-Failed-clause-own
+returns-in-Err-Failed-clause-own g c =
+    tried_works (asked c.args.who.now ListNames (codes "sinks" ∷ []) 0 0) (λ v. names_given v.items) c.list.result _
+    (c.in-Err-Failed.is ∙ ap Err c.in-Err-Failed.field-0-is) (λ v. tt) refl c.list.ensures.told
+
+pub returns-in-Err-NoMemory-clause-own : goal.returns-in-Err-NoMemory-clause-own
+returns-in-Err-NoMemory-clause-own g c =
+    tried_works (asked c.args.who.now ListNames (codes "sinks" ∷ []) 0 0) (λ v. names_given v.items) c.list.result _
+    (c.in-Err-NoMemory.is ∙ ap Err c.in-Err-NoMemory.field-0-is) (λ v. tt) refl c.list.ensures.told

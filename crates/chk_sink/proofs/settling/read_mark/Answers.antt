@@ -1,3 +1,5 @@
+use Rattle.chk_world.proofs.Working.{call_ends, taken_works}
+use Rattle.chk_sink.proofs.Owning.{made_err, damaged_works}
 use Rattle.std.proofs.Common.{◌∙◌, refl, sym, ap, Err, Some, None, subst, ℕ, [], ◌∷◌, Option}
 use Rattle.std.proofs.lemmas.Result.{err_from_is_err_and}
 use Rattle.chk_site.specs.declared.acts.Call.TheVariants.{Read}
@@ -71,3 +73,25 @@ returns-clause-caused g c x good named =
     let gave = taken_some c.read-read.result _ bytes c.in_ok-taken.ensures c.in-Some.is in
     let bad = number_none 96 bytes (sym (c.number_from.ensures.is ∙ ap (number_from 96) c.as_slice.ensures) ∙ c.in-None-number_from.is) in
     bad_caused c.args.who.now c.args.mark.now x good named bytes c.read-read.result gave {T = Option ℕ} c.damaged.result bad c.damaged.ensures c.read-read.ensures.told
+
+pub returns-in_err-taken-clause-own : goal.returns-in_err-taken-clause-own
+returns-in_err-taken-clause-own g c x named =
+    let p = err_from_is_err_and c.from_residual.result c.from_residual.ensures.1 in
+    made_err c.from_residual.result _ (p.1 ∙ ap Err p.2)
+    (call_ends (asked c.args.who.now Read (c.args.mark.now ∷ []) 0 9) bytes_given c.read-read.result _ (named, refl, refl) c.in_err-taken.ensures c.read-read.ensures.told)
+
+pub returns-in-None-clause-own : goal.returns-in-None-clause-own
+returns-in-None-clause-own g c x named =
+    taken_works (asked c.args.who.now Read (c.args.mark.now ∷ []) 0 9) bytes_given c.read-read.result _ (λ v. tt) (named, refl, refl)
+    c.in_ok-taken.ensures c.read-read.ensures.told
+
+pub returns-in-Some-number_from-clause-own : goal.returns-in-Some-number_from-clause-own
+returns-in-Some-number_from-clause-own g c x named =
+    taken_works (asked c.args.who.now Read (c.args.mark.now ∷ []) 0 9) bytes_given c.read-read.result _ (λ v. tt) (named, refl, refl)
+    c.in_ok-taken.ensures c.read-read.ensures.told
+
+pub returns-clause-own : goal.returns-clause-own
+returns-clause-own g c x named =
+    damaged_works (Option ℕ) c.args.mark.now c.damaged.result c.damaged.ensures
+    (taken_works (asked c.args.who.now Read (c.args.mark.now ∷ []) 0 9) bytes_given c.read-read.result _ (λ v. tt) (named, refl, refl)
+    c.in_ok-taken.ensures c.read-read.ensures.told)

@@ -1,4 +1,6 @@
-use Rattle.std.proofs.Common.{◌∙◌, refl, ap, Err, [], ◌∷◌}
+use Rattle.chk_world.proofs.Working.{call_ends, call_works}
+use Rattle.chk_sink.proofs.Owning.{made_err}
+use Rattle.std.proofs.Common.{◌∙◌, refl, ap, Err, [], ◌∷◌, inr}
 use Rattle.std.proofs.lemmas.Result.{err_from_is_err_and}
 use Rattle.chk_site.specs.declared.acts.Call.TheVariants.{Remove}
 use Rattle.chk_site.specs.Site.{asked, plain}
@@ -29,3 +31,13 @@ returns-in_err-done-clause-caused g c =
 pub returns-clause-caused : goal.returns-clause-caused
 returns-clause-caused g c =
     caused_done tt (asked c.args.who.now Remove (c.args.mark.now ∷ []) 0 0) plain c.remove-removed.result (λ answer. refl) (λ answer. refl) c.remove-removed.ensures.told
+
+pub returns-in_err-done-clause-own : goal.returns-in_err-done-clause-own
+returns-in_err-done-clause-own g c x named =
+    let p = err_from_is_err_and c.from_residual.result c.from_residual.ensures.1 in
+    made_err c.from_residual.result _ (p.1 ∙ ap Err p.2)
+    (call_ends (asked c.args.who.now Remove (c.args.mark.now ∷ []) 0 0) plain c.remove-removed.result _ (inr named) c.in_err-done.ensures c.remove-removed.ensures.told)
+
+pub returns-clause-own : goal.returns-clause-own
+returns-clause-own g c x named =
+    call_works (asked c.args.who.now Remove (c.args.mark.now ∷ []) 0 0) plain c.remove-removed.result (λ v. tt) (inr named) c.in_ok-done.ensures c.remove-removed.ensures.told

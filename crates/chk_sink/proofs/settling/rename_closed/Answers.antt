@@ -1,3 +1,5 @@
+use Rattle.chk_world.proofs.Working.{call_ends, call_works}
+use Rattle.chk_sink.proofs.Owning.{made_err}
 use Rattle.std.proofs.Common.{◌∙◌, refl, ap, Err, [], ◌∷◌}
 use Rattle.std.proofs.lemmas.Result.{err_from_is_err_and}
 use Rattle.chk_site.specs.declared.acts.Call.TheVariants.{Rename}
@@ -30,3 +32,13 @@ returns-in_err-done-clause-caused g c =
 pub returns-clause-caused : goal.returns-clause-caused
 returns-clause-caused g c =
     caused_done tt (asked c.args.who.now Rename (c.args.sink.now ∷ c.args.closed.now ∷ []) 0 0) plain c.rename-renamed.result (λ answer. refl) (λ answer. refl) c.rename-renamed.ensures.told
+
+pub returns-in_err-done-clause-own : goal.returns-in_err-done-clause-own
+returns-in_err-done-clause-own g c x named closed =
+    let p = err_from_is_err_and c.from_residual.result c.from_residual.ensures.1 in
+    made_err c.from_residual.result _ (p.1 ∙ ap Err p.2)
+    (call_ends (asked c.args.who.now Rename (c.args.sink.now ∷ c.args.closed.now ∷ []) 0 0) plain c.rename-renamed.result _ (named, closed) c.in_err-done.ensures c.rename-renamed.ensures.told)
+
+pub returns-clause-own : goal.returns-clause-own
+returns-clause-own g c x named closed =
+    call_works (asked c.args.who.now Rename (c.args.sink.now ∷ c.args.closed.now ∷ []) 0 0) plain c.rename-renamed.result (λ v. tt) (named, closed) c.in_ok-done.ensures c.rename-renamed.ensures.told

@@ -1,4 +1,7 @@
-use Rattle.std.proofs.Common.{◌∙◌, ap, Err, None}
+use Rattle.chk_sink.specs.Works.{OfSettling}
+use Rattle.chk_world.proofs.Working.{works_as, works_then}
+use Rattle.chk_sink.proofs.Owning.{made_as, made_ok}
+use Rattle.std.proofs.Common.{◌∙◌, ap, Err, None, inl}
 use Rattle.std.proofs.lemmas.Result.{err_from_is_err_and}
 use Rattle.chk_sink.specs.Settling.{HoldsBut, left_of, none_left}
 use Rattle.chk_sink.proofs.Founding.{found_as, found_then}
@@ -21,3 +24,14 @@ returns-clause-told g c stamped s settles kept =
 pub returns-clause-caused : goal.returns-clause-caused
 returns-clause-caused g c =
     caused_then c.list_sinks.result c.in_ok-names.names c.settle_listed.result c.in_ok-names.was c.list_sinks.ensures.caused c.settle_listed.ensures.caused
+
+pub returns-in_err-names-clause-own : goal.returns-in_err-names-clause-own
+returns-in_err-names-clause-own g c s settles kept =
+    let p = err_from_is_err_and c.from_residual.result c.from_residual.ensures.1 in
+    made_as c.list_sinks.result c.from_residual.result _ c.in_err-names.was (p.1 ∙ ap Err p.2)
+    (works_as (OfSettling s) (λ call l. inl l) c.list_sinks.ensures.own)
+
+pub returns-clause-own : goal.returns-clause-own
+returns-clause-own g c s settles kept =
+    works_then (made_ok c.list_sinks.result c.in_ok-names.names c.in_ok-names.was (works_as (OfSettling s) (λ call l. inl l) c.list_sinks.ensures.own))
+    (c.settle_listed.ensures.own s settles kept)

@@ -1,4 +1,8 @@
-use Rattle.std.proofs.Common.{◌∙◌, sym, ap, Err, Some, ◌∷◌}
+use Rattle.chk_sink.specs.Works.{OfSettling}
+use Rattle.chk_world.specs.Works.{rests}
+use Rattle.chk_world.proofs.Working.{works_as}
+use Rattle.chk_sink.proofs.Owning.{made_as, made_ok}
+use Rattle.std.proofs.Common.{◌∙◌, sym, ap, Err, Some, ◌∷◌, inr}
 use Rattle.std.proofs.lemmas.Result.{err_from_is_err_and}
 use Rattle.chk_site.specs.declared.acts.Who.{Who}
 use Rattle.chk_site.proofs.Leads.{leads_none, leads_as}
@@ -41,3 +45,23 @@ returns-clause-told g c stamped s names settles kept =
     (c.settle_stem.ensures.told stamped s may settles other.1))
     (leads_none _
     (told_less stamped s (HoldsAt s may x BothGone) (HoldsBut s (left_of names (Some x))) (λ h y. settled_one s last c.args.name.now names x h other.0 y)))
+
+pub returns-in_default-clause-own : goal.returns-in_default-clause-own
+returns-in_default-clause-own g c s settles kept = rests
+
+pub returns-in_err-settle_stem-clause-own : goal.returns-in_err-settle_stem-clause-own
+returns-in_err-settle_stem-clause-own g c s settles kept =
+    let p = err_from_is_err_and c.from_residual.result c.from_residual.ensures.1 in
+    let other = chosen_other s c.args.kept.now c.args.last.now (left_in c.args.name.now) c.in-Some.stem kept c.in-Some.ensures.good
+    (ap (λ (w : Who). chosen w.name c.args.kept.now c.args.last.now (left_in c.args.name.now)) (sym settles.writer)
+    ∙ (sym c.to_settle.ensures.chosen ∙ c.in-Some.is)) in
+    made_as c.settle_stem.result c.from_residual.result _ c.in_err-settle_stem.was (p.1 ∙ ap Err p.2)
+    (works_as (OfSettling s) (λ call may. inr (c.in-Some.stem, other.1, may)) c.settle_stem.ensures.own)
+
+pub returns-clause-own : goal.returns-clause-own
+returns-clause-own g c s settles kept =
+    let other = chosen_other s c.args.kept.now c.args.last.now (left_in c.args.name.now) c.in-Some.stem kept c.in-Some.ensures.good
+    (ap (λ (w : Who). chosen w.name c.args.kept.now c.args.last.now (left_in c.args.name.now)) (sym settles.writer)
+    ∙ (sym c.to_settle.ensures.chosen ∙ c.in-Some.is)) in
+    made_ok c.settle_stem.result _ c.in_ok-settle_stem.was
+    (works_as (OfSettling s) (λ call may. inr (c.in-Some.stem, other.1, may)) c.settle_stem.ensures.own)

@@ -1,3 +1,5 @@
+use Rattle.chk_world.proofs.Working.{works_then}
+use Rattle.chk_sink.proofs.Owning.{made_as, made_ok, made_none}
 use Rattle.std.proofs.Common.{◌∙◌, ap, Ok, Err}
 use Rattle.std.proofs.lemmas.Result.{err_from_is_err_and}
 use Rattle.chk_sink.specs.Settling.{HoldsAt, MarkFound, BothGone}
@@ -36,3 +38,27 @@ pub returns-clause-caused : goal.returns-clause-caused
 returns-clause-caused g c =
     caused_then c.read_mark.result _ c.remove_sink.result c.in_ok-length.was
     (c.read_mark.ensures.caused c.args.stem c.requires (c.as_str.ensures.value ∙ c.in_ok-mark.ensures)) c.remove_sink.ensures.caused
+
+pub returns-in_err-sink-clause-own : goal.returns-in_err-sink-clause-own
+returns-in_err-sink-clause-own g c =
+    let p = err_from_is_err_and c.from_residual.result c.from_residual.ensures.1 in
+    made_none c.from_residual.result _ (p.1 ∙ ap Err p.2)
+
+pub returns-in_err-mark-clause-own : goal.returns-in_err-mark-clause-own
+returns-in_err-mark-clause-own g c =
+    let p = err_from_is_err_and c.from_residual-in_err-mark.result c.from_residual-in_err-mark.ensures.1 in
+    made_none c.from_residual-in_err-mark.result _ (p.1 ∙ ap Err p.2)
+
+pub returns-in_err-length-clause-own : goal.returns-in_err-length-clause-own
+returns-in_err-length-clause-own g c =
+    let p = err_from_is_err_and c.from_residual-in_err-length.result c.from_residual-in_err-length.ensures.1 in
+    made_as c.read_mark.result c.from_residual-in_err-length.result _ c.in_err-length.was (p.1 ∙ ap Err p.2) (c.read_mark.ensures.own c.args.stem (c.as_str.ensures.value ∙ c.in_ok-mark.ensures))
+
+pub returns-in-Some-clause-own : goal.returns-in-Some-clause-own
+returns-in-Some-clause-own g c =
+    works_then (made_ok c.read_mark.result _ c.in_ok-length.was (c.read_mark.ensures.own c.args.stem (c.as_str.ensures.value ∙ c.in_ok-mark.ensures))) c.close_at.ensures.own
+
+pub returns-clause-own : goal.returns-clause-own
+returns-clause-own g c =
+    works_then (made_ok c.read_mark.result _ c.in_ok-length.was (c.read_mark.ensures.own c.args.stem (c.as_str.ensures.value ∙ c.in_ok-mark.ensures)))
+    (c.remove_sink.ensures.own c.args.stem (c.as_str-in-None.ensures.value ∙ c.in_ok-sink.ensures))

@@ -1,7 +1,11 @@
-use Rattle.std.proofs.Common.{◌≡◌, ◌∙◌, ap}
+use Rattle.chk_site.specs.declared.acts.Call.TheVariants.{Start}
+use Rattle.chk_sink.proofs.Owned.{reads_works}
+use Rattle.chk_world.proofs.Working.{works_then}
+use Rattle.chk_sink.proofs.Owning.{once_works}
+use Rattle.std.proofs.Common.{◌≡◌, ◌∙◌, ap, []}
 use Rattle.std.proofs.lemmas.Result.{err_from_is_err_and}
 use Rattle.chk_site.specs.declared.acts.OutsideFault.TheVariants.{NoMemory as no_memory}
-use Rattle.chk_site.specs.Site.{LastFailed}
+use Rattle.chk_site.specs.Site.{LastFailed, asked}
 use Rattle.chk_site.proofs.Runs.{adds_then}
 use Rattle.chk_replace.proofs.CallSteps.{last_then}
 use Rattle.chk_world.specs.Names.{BornFile, read}
@@ -44,3 +48,13 @@ returns-clause-last g c =
 pub returns-clause-starts : goal.returns-clause-starts
 returns-clause-starts g c =
     if_ok _ c.read_number.result (start_then c.args.who.now (start_begun c.args.who.now c.in_ok-begin.ensures.told) c.read_number.ensures.last)
+
+pub returns-in_err-begin-clause-own : goal.returns-in_err-begin-clause-own
+returns-in_err-begin-clause-own g c =
+    let p = err_from_is_err_and c.from_residual.result c.from_residual.ensures.1 in
+    rw (p.1, p.2) (once_works (asked c.args.who.now Start [] 0 0) c.begin.result _ c.in_err-begin.was tt c.begin.ensures.told)
+
+pub returns-clause-own : goal.returns-clause-own
+returns-clause-own g c =
+    works_then (once_works (asked c.args.who.now Start [] 0 0) c.begin.result _ c.in_ok-begin.was tt c.begin.ensures.told)
+    (reads_works c.args.who.now c.args.name.now c.read_number.result c.requires.name c.read_number.ensures.told)

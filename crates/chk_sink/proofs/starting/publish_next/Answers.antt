@@ -1,4 +1,8 @@
-use Rattle.std.proofs.Common.{Some, Ok, Err, ◌≡◌, ◌<◌, ◌+◌, ◌==◌, ◌∙◌, false, ap, arith, ℕ}
+use Rattle.chk_sink.specs.Works.{OfPublishing}
+use Rattle.chk_sink.proofs.Owned.{publish_works}
+use Rattle.chk_world.proofs.Working.{works_then, works_as}
+use Rattle.chk_sink.proofs.Owning.{made_err}
+use Rattle.std.proofs.Common.{Some, Ok, Err, ◌≡◌, ◌<◌, ◌+◌, ◌==◌, ◌∙◌, false, ap, arith, ℕ, inl}
 use Rattle.std.proofs.lemmas.Bool.{ne_eqb}
 use Rattle.std.proofs.lemmas.Result.{err_from_is_err_and}
 use Rattle.chk_bytes.specs.Numbers.{limit}
@@ -86,3 +90,26 @@ returns-clause-last g c = none_fails (c.in-Some.last + 1) (both c.last_start.ens
 
 pub returns-clause-starts : goal.returns-clause-starts
 returns-clause-starts g c = start_then c.args.who.now c.in_ok-looked.ensures.starts c.publish.ensures.last
+
+pub returns-in_err-looked-clause-own : goal.returns-in_err-looked-clause-own
+returns-in_err-looked-clause-own g c =
+    let p = err_from_is_err_and c.from_residual.result c.from_residual.ensures.1 in
+    made_err c.from_residual.result _ (p.1 ∙ ap Err p.2) (works_as (OfPublishing c.args.who.now) (λ call one. inl one) c.in_err-looked.ensures.own)
+
+pub returns-in_default-clause-own : goal.returns-in_default-clause-own
+returns-in_default-clause-own g c = (works_as (OfPublishing c.args.who.now) (λ call one. inl one) c.in_ok-looked.ensures.own)
+
+pub returns-then-last-eq-LAST_START-clause-own : goal.returns-then-last-eq-LAST_START-clause-own
+returns-then-last-eq-LAST_START-clause-own g c = (works_as (OfPublishing c.args.who.now) (λ call one. inl one) c.in_ok-looked.ensures.own)
+
+pub returns-in_err-publish-clause-own : goal.returns-in_err-publish-clause-own
+returns-in_err-publish-clause-own g c =
+    let p = err_from_is_err_and c.from_residual-in_err-publish.result c.from_residual-in_err-publish.ensures.1 in
+    made_err c.from_residual-in_err-publish.result _ (p.1 ∙ ap Err p.2)
+    (works_then (works_as (OfPublishing c.args.who.now) (λ call one. inl one) c.in_ok-looked.ensures.own)
+    (publish_works c.args.who.now c.as_str-2.result.now _ (Err c.in_err-publish.field-0.0) (c.as_str-2.ensures.text ∙ c.requires.name) c.in_err-publish.ensures.told))
+
+pub returns-clause-own : goal.returns-clause-own
+returns-clause-own g c =
+    works_then (works_as (OfPublishing c.args.who.now) (λ call one. inl one) c.in_ok-looked.ensures.own)
+    (publish_works c.args.who.now c.as_str-2.result.now _ (Ok tt) (c.as_str-2.ensures.text ∙ c.requires.name) c.in_ok-publish.ensures.told)

@@ -1,8 +1,13 @@
-use Rattle.std.proofs.Common.{Ok, Err, ℕ, ap, subst, ◌∙◌}
+use Rattle.chk_sink.proofs.Owning.{made_as, made_none}
+use Rattle.chk_world.proofs.Working.{works_then}
+use Rattle.chk_world.specs.Works.{Works}
+use Rattle.chk_sink.specs.Works.{OfQuestion}
+use Rattle.chk_sink.specs.Faults.{ended_by}
+use Rattle.std.proofs.Common.{Ok, Err, ℕ, ap, subst, ◌∙◌, None}
 use Rattle.std.proofs.lemmas.Result.{err_from_is_err_and}
-use Rattle.chk_sink.specs.States.{State}
+use Rattle.chk_sink.specs.States.{State, process}
 use Rattle.chk_collector.proofs.Joining.{last_then, damaged_then, unmade_damaged, unmade_last, fails_same, damaged_same}
-use Rattle.chk_collector.proofs.CountSteps.{CountsOne, count_begins, count_on, count_fails, count_unwritten, count_ends}
+use Rattle.chk_collector.proofs.CountSteps.{CountsOne, count_begins, count_on, count_fails, count_unwritten, count_ends, asked_own}
 use Rattle.chk_collector.proofs.collector.Collector.count_all.Goals as goal
 
 pub loop-stem-init : goal.loop-stem-init
@@ -15,7 +20,9 @@ loop-stem-preserved g c =
     c.put_line.ensures.short
     (subst (λ (s : State). CountsOne (g.S.Site.told c.loop-stem.site) (g.S.Site.told c.committed.new.site) s c.in-Some.stem (Ok c.in_ok-length.length)) c.self.view_is
     c.in_ok-length.ensures.told)
-    c.in_ok-length.ensures.damaged c.in_ok-length.ensures.cause
+    c.in_ok-length.ensures.damaged
+    (subst (λ (s : State). Works (process s) (OfQuestion c.in-Some.stem) None (g.S.Site.told c.loop-stem.site) (g.S.Site.told c.committed.new.site)) c.self.view_is c.in_ok-length.ensures.own)
+    c.in_ok-length.ensures.cause
 
 pub returns-in_err-length-clause-told : goal.returns-in_err-length-clause-told
 returns-in_err-length-clause-told g c stamped handled t =
@@ -39,7 +46,7 @@ returns-in_err-length-clause-last g c =
 pub returns-in_err-put_line-clause-told : goal.returns-in_err-put_line-clause-told
 returns-in_err-put_line-clause-told g c stamped handled t =
     let p = err_from_is_err_and c.from_residual-in_err-put_line.result c.from_residual-in_err-put_line.ensures.1 in
-    rw p.1 (count_unwritten c.loop-stem.invariant c.in-Some.stem c.in_ok-length.length p.0 c.put_line.new.lines
+    rw (p.1, p.2) (count_unwritten c.loop-stem.invariant c.in-Some.stem c.in_ok-length.length c.put_line.new.lines
     (subst (λ (s : State). CountsOne (g.S.Site.told c.loop-stem.site) (g.S.Site.told c.committed.new.site) s c.in-Some.stem (Ok c.in_ok-length.length)) c.self.view_is
     c.in_ok-length.ensures.told) stamped handled t)
 
@@ -57,3 +64,21 @@ returns-in_err-put_line-clause-last g c =
 
 pub returns-clause-told : goal.returns-clause-told
 returns-clause-told g c stamped handled t = count_ends c.loop-stem.invariant c.in_default.ensures.end.0 stamped handled t
+
+pub returns-in_err-length-clause-own : goal.returns-in_err-length-clause-own
+returns-in_err-length-clause-own g c =
+    let p = err_from_is_err_and c.from_residual.result c.from_residual.ensures.1 in
+    made_as c.committed.result c.from_residual.result _ c.in_err-length.was (p.1 ∙ ap Err p.2)
+    (asked_own c.loop-stem.invariant c.in-Some.ensures.item
+    (subst (λ (s : State). Works (process s) (OfQuestion c.in-Some.stem) (ended_by c.committed.result) (g.S.Site.told c.loop-stem.site) (g.S.Site.told c.committed.new.site)) c.self.view_is c.committed.ensures.own))
+
+pub returns-in_err-put_line-clause-own : goal.returns-in_err-put_line-clause-own
+returns-in_err-put_line-clause-own g c =
+    let p = err_from_is_err_and c.from_residual-in_err-put_line.result c.from_residual-in_err-put_line.ensures.1 in
+    works_then
+    (asked_own c.loop-stem.invariant c.in-Some.ensures.item
+    (subst (λ (s : State). Works (process s) (OfQuestion c.in-Some.stem) None (g.S.Site.told c.loop-stem.site) (g.S.Site.told c.committed.new.site)) c.self.view_is c.in_ok-length.ensures.own))
+    (made_none c.from_residual-in_err-put_line.result _ (p.1 ∙ ap Err p.2))
+
+pub returns-clause-own : goal.returns-clause-own
+returns-clause-own g c = c.loop-stem.invariant.own

@@ -1,10 +1,12 @@
-use Rattle.std.proofs.Common.{ℕ, Err, ap, ◌∙◌}
+use Rattle.chk_world.proofs.Working.{works_then}
+use Rattle.chk_sink.proofs.Owning.{made_as, made_none}
+use Rattle.std.proofs.Common.{ℕ, Err, ap, ◌∙◌, None}
 use Rattle.std.proofs.lemmas.Result.{err_from_is_err_and}
 use Rattle.chk_bytes.specs.Stems.{Stem}
 use Rattle.chk_chunk.specs.Lent.{lent_chunk}
 use Rattle.chk_sink.proofs.Last.{both}
 use Rattle.chk_collector.proofs.Joining.{last_then, unmade_last, fails_same}
-use Rattle.chk_collector.proofs.PutLoop.{put_begins, put_on, put_fails}
+use Rattle.chk_collector.proofs.PutLoop.{put_begins, put_on, put_fails, own_on, put_leaves, put_unwritten, puts_end, lines_end}
 use Rattle.chk_collector.proofs.collector.Collector.put_all.Goals as goal
 
 pub loop-chunk-init : goal.loop-chunk-init
@@ -16,7 +18,8 @@ pub loop-chunk-preserved : goal.loop-chunk-preserved
 loop-chunk-preserved g c =
     put_on c.loop-chunk.invariant (lent_chunk c.in-Some.chunk) c.next.new.self.left c.in_ok-stem.stem c.in_ok-stem.end (g.S.Site.fault_count c.put.new.site)
     c.put.new.self c.put_line.new.lines c.in-Some.ensures.first c.in_ok-put_line.ensures.ok c.put_line.ensures.short c.in_ok-stem.ensures.told
-    c.in_ok-stem.ensures.last c.in_ok-stem.ensures.same c.in_ok-stem.ensures.cause
+    c.in_ok-stem.ensures.last c.in_ok-stem.ensures.same c.in_ok-stem.ensures.goes_on c.in_ok-stem.ensures.placed c.in_ok-stem.ensures.own
+    c.in_ok-stem.ensures.cause
 
 pub returns-in_err-stem-clause-told : goal.returns-in_err-stem-clause-told
 returns-in_err-stem-clause-told g c stamped handled posted =
@@ -40,3 +43,32 @@ pub returns-in_err-put_line-clause-last : goal.returns-in_err-put_line-clause-la
 returns-in_err-put_line-clause-last g c =
     let p = err_from_is_err_and c.from_residual-in_err-put_line.result c.from_residual-in_err-put_line.ensures.1 in
     unmade_last c.from_residual-in_err-put_line.result (p.1 ∙ ap Err p.2) (both c.loop-chunk.invariant.goes_on c.put.ensures.last)
+
+pub returns-in_err-stem-clause-leaves : goal.returns-in_err-stem-clause-leaves
+returns-in_err-stem-clause-leaves g c =
+    let p = err_from_is_err_and c.from_residual.result c.from_residual.ensures.1 in
+    rw (p.1, p.2) (put_leaves c.loop-chunk.invariant c.put.new.self c.in_err-stem.field-0.0 c.in_err-stem.ensures.refused)
+
+pub returns-in_err-stem-clause-own : goal.returns-in_err-stem-clause-own
+returns-in_err-stem-clause-own g c =
+    let p = err_from_is_err_and c.from_residual.result c.from_residual.ensures.1 in
+    made_as c.put.result c.from_residual.result _ c.in_err-stem.was (p.1 ∙ ap Err p.2) (own_on c.loop-chunk.invariant c.put.ensures.own)
+
+pub returns-in_err-put_line-clause-leaves : goal.returns-in_err-put_line-clause-leaves
+returns-in_err-put_line-clause-leaves g c =
+    let p = err_from_is_err_and c.from_residual-in_err-put_line.result c.from_residual-in_err-put_line.ensures.1 in
+    rw (p.1, p.2) (put_unwritten c.loop-chunk.invariant c.put.new.self c.in_ok-stem.ensures.goes_on)
+
+pub returns-in_err-put_line-clause-own : goal.returns-in_err-put_line-clause-own
+returns-in_err-put_line-clause-own g c =
+    let p = err_from_is_err_and c.from_residual-in_err-put_line.result c.from_residual-in_err-put_line.ensures.1 in
+    works_then (own_on c.loop-chunk.invariant {fault = None} c.in_ok-stem.ensures.own) (made_none c.from_residual-in_err-put_line.result _ (p.1 ∙ ap Err p.2))
+
+pub returns-clause-puts : goal.returns-clause-puts
+returns-clause-puts g c = puts_end c.loop-chunk.invariant c.in_default.ensures.first
+
+pub returns-clause-lines : goal.returns-clause-lines
+returns-clause-lines g c = lines_end c.loop-chunk.invariant c.in_default.ensures.first
+
+pub returns-clause-own : goal.returns-clause-own
+returns-clause-own g c = c.loop-chunk.invariant.own

@@ -1,6 +1,7 @@
+use Rattle.chk_collector.proofs.Handling.{keeps_same}
 use Rattle.std.proofs.Common.{refl, sym, ◌∙◌}
 use Rattle.chk_collector.proofs.MayReply.{refused_told}
-use Rattle.chk_collector.proofs.Outcome.{refused_replied, has_not_risen}
+use Rattle.chk_collector.proofs.Outcome.{refused_replied, has_not_risen, refused_unanswered}
 use Rattle.chk_collector.proofs.Refused.{refused_by, bad_code}
 use Rattle.chk_collector.proofs.collector.Collector.respond.Goals as goal
 
@@ -40,3 +41,12 @@ returns-in-Ok-Acks-clause-told g c stamped t others =
 
 pub returns-in-Err-clause-count : goal.returns-in-Err-clause-count
 returns-in-Err-clause-count g c = has_not_risen (g.S.Site.fault_count c.args.site.now) c.refusal.result
+
+pub returns-in-Err-clause-unanswered : goal.returns-in-Err-clause-unanswered
+returns-in-Err-clause-unanswered g c = refused_unanswered c.args.request.now c.args.self.now c.refusal.result _
+
+pub returns-in-Err-clause-seen : goal.returns-in-Err-clause-seen
+returns-in-Err-clause-seen g c = keeps_same c.args.self.now
+
+pub returns-in-Ok-Acks-clause-seen : goal.returns-in-Ok-Acks-clause-seen
+returns-in-Ok-Acks-clause-seen g c = keeps_same c.args.self.now

@@ -1,3 +1,8 @@
+use Rattle.chk_sink.proofs.Owned.{close_works}
+use Rattle.chk_sink.specs.Works.{OfClose}
+use Rattle.chk_world.proofs.Working.{works_as, works_then}
+use Rattle.chk_sink.proofs.Owning.{made_as, made_ok, made_result}
+use Rattle.std.proofs.Common.{ap, ◌∙◌, Err, inl, inr}
 use Rattle.std.proofs.lemmas.Result.{err_from_is_err_and}
 use Rattle.chk_replace.proofs.CallSteps.{script_last}
 use Rattle.chk_sink.specs.SinkFields.{writing_of}
@@ -35,3 +40,23 @@ pub returns-clause-last : goal.returns-clause-last
 returns-clause-last g c =
     later_result_fails _ c.rename_to_done-closed.result c.leave_where_done.ensures.result c.commit.ensures.last
     (script_last c.rename_to_done-closed.ensures.told)
+
+pub returns-in_err-commit-clause-own : goal.returns-in_err-commit-clause-own
+returns-in_err-commit-clause-own g c =
+    let p = err_from_is_err_and c.from_residual.result c.from_residual.ensures.1 in
+    made_as c.commit.result c.from_residual.result _ c.in_err-commit.was (p.1 ∙ ap Err p.2)
+    (works_as (OfClose c.args.self.now) (λ call one. inl one) c.commit.ensures.own)
+
+pub returns-in_default-clause-own : goal.returns-in_default-clause-own
+returns-in_default-clause-own g c = works_as (OfClose c.args.self.now) (λ call one. inl one) (made_ok c.commit.result _ c.in_ok-commit.was c.commit.ensures.own)
+
+pub returns-clause-own : goal.returns-clause-own
+returns-clause-own g c =
+    let s = c.args.self.now in
+    let mid = c.commit.new.self in
+    let f = open_as c.self.inside mid c.in-Some.current c.self.view_is c.self.invariant c.in-Some.is in
+    works_then (works_as (OfClose s) (λ call one. inl one) (made_ok c.commit.result _ c.in_ok-commit.was c.commit.ensures.own))
+    (made_result _ c.rename_to_done-closed.result c.leave_where_done.ensures.result
+    (works_as (OfClose s) (λ call one. inr one)
+    (close_works s mid (writing_of c.in-Some.current) c.in_ok-commit.ensures.ok f.some c.self.inside.who
+    (seen_as c.self.inside mid c.self.view_is c.self.invariant).who c.in-Some.current.stem f.of_stem.stem c.rename_to_done-closed.ensures.told)))

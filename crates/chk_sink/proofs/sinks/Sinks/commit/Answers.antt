@@ -1,3 +1,6 @@
+use Rattle.chk_world.specs.Works.{rests}
+use Rattle.chk_sink.proofs.Owned.{commit_works}
+use Rattle.chk_sink.proofs.Owning.{made_result}
 use Rattle.std.proofs.Common.{ap}
 use Rattle.chk_replace.proofs.CallSteps.{script_last}
 use Rattle.chk_sink.specs.SinkFields.{writing_of}
@@ -30,3 +33,17 @@ returns-clause-damaged g c =
 
 pub returns-clause-last : goal.returns-clause-last
 returns-clause-last g c = result_fails _ c.publish-published.result c.keep_where_done.ensures.result (script_last c.publish-published.ensures.told)
+
+pub returns-in_default-clause-own : goal.returns-in_default-clause-own
+returns-in_default-clause-own g c = rests
+
+pub returns-then-current-clause-own : goal.returns-then-current-clause-own
+returns-then-current-clause-own g c = rests
+
+pub returns-clause-own : goal.returns-clause-own
+returns-clause-own g c =
+    let s = c.args.self.now in
+    let f = open_as c.self.inside s c.in-Some.current c.self.view_is c.self.invariant c.in-Some.is in
+    made_result _ c.publish-published.result c.keep_where_done.ensures.result
+    (commit_works s (writing_of c.in-Some.current) f.some c.self.inside.who (seen_as c.self.inside s c.self.view_is c.self.invariant).who
+    c.in-Some.current.stem f.of_stem.stem c.publish-published.ensures.told)

@@ -1,4 +1,9 @@
-use Rattle.std.proofs.Common.{◌∙◌, ap, Ok, Err}
+use Rattle.chk_site.specs.Site.{asked, sized}
+use Rattle.chk_site.specs.declared.acts.Call.TheVariants.{Size}
+use Rattle.chk_sink.proofs.Fields.{seen_as}
+use Rattle.chk_world.proofs.Working.{works_then}
+use Rattle.chk_sink.proofs.Owning.{made_err, made_none, made_by, taken_once}
+use Rattle.std.proofs.Common.{◌∙◌, ap, Ok, Err, [], ◌∷◌}
 use Rattle.std.proofs.lemmas.Result.{err_from_is_err_and}
 use Rattle.chk_site.proofs.Leads.{leads_then}
 use Rattle.chk_sink.proofs.Counting.{asker, size_given, size_none, size_ended}
@@ -46,3 +51,20 @@ returns-clause-damaged g c =
 
 pub returns-clause-last : goal.returns-clause-last
 returns-clause-last g c = then_fails c.marked.result c.size_of.ensures.told.told c.marked.ensures.last
+
+pub returns-in_err-name-clause-own : goal.returns-in_err-name-clause-own
+returns-in_err-name-clause-own g c =
+    let p = err_from_is_err_and c.from_residual.result c.from_residual.ensures.1 in
+    made_none c.from_residual.result _ (p.1 ∙ ap Err p.2)
+
+pub returns-in_err-size-clause-own : goal.returns-in_err-size-clause-own
+returns-in_err-size-clause-own g c =
+    let p = err_from_is_err_and c.from_residual-in_err-size.result c.from_residual-in_err-size.ensures.1 in
+    made_err c.from_residual-in_err-size.result c.in_err-size.field-0.0 (p.1 ∙ ap Err p.2)
+    (made_by (seen_as c.self.inside c.args.self.now c.self.view_is c.self.invariant).who (taken_once (asked c.self.inside.who Size (c.as_str.result.now ∷ []) 0 0) sized c.size_of.result _ c.in_err-size.was (λ v. tt) (c.as_str.ensures.value ∙ c.in_ok-name.ensures) c.size_of.ensures.told))
+
+pub returns-in-Some-clause-own : goal.returns-in-Some-clause-own
+returns-in-Some-clause-own g c = made_by (seen_as c.self.inside c.args.self.now c.self.view_is c.self.invariant).who (taken_once (asked c.self.inside.who Size (c.as_str.result.now ∷ []) 0 0) sized c.size_of.result _ c.in_ok-size.was (λ v. tt) (c.as_str.ensures.value ∙ c.in_ok-name.ensures) c.size_of.ensures.told)
+
+pub returns-clause-own : goal.returns-clause-own
+returns-clause-own g c = made_by (seen_as c.self.inside c.args.self.now c.self.view_is c.self.invariant).who (works_then (taken_once (asked c.self.inside.who Size (c.as_str.result.now ∷ []) 0 0) sized c.size_of.result _ c.in_ok-size.was (λ v. tt) (c.as_str.ensures.value ∙ c.in_ok-name.ensures) c.size_of.ensures.told) c.marked.ensures.own)

@@ -1,4 +1,8 @@
-use Rattle.std.proofs.Common.{◌∙◌, ◌++◌, ap, refl, List, ℕ}
+use Rattle.chk_sink.proofs.Ticks.{is_seen}
+use Rattle.chk_world.specs.Works.{rests}
+use Rattle.chk_sink.proofs.Owned.{current_puts, next_puts}
+use Rattle.chk_sink.proofs.Owning.{made_none}
+use Rattle.std.proofs.Common.{true, false, sym, ◌∙◌, ◌++◌, ap, refl, List, ℕ, Err}
 use Rattle.std.proofs.lemmas.Result.{err_from_is_err_and}
 use Rattle.chk_chunk.specs.Keys.{written_key}
 use Rattle.chk_chunk.specs.Lent.{lent_chunk}
@@ -40,3 +44,17 @@ returns-clause-told g c stamped handled posted =
     (c.put_in_next.ensures.told stamped handled (lent_chunk c.args.chunk.now) posted
     (chunk_key (lent_chunk c.args.chunk.now) _ c.requires
     (c.as_slice-else-is_some.ensures ∙ (c.in_ok-write_key.ensures.ok ∙ ap (λ (t : List ℕ). t ++ written_key (lent_chunk c.args.chunk.now).key) c.new-key.ensures))) refl)
+
+pub returns-then-self-eq-LAST_NUMBER-clause-own : goal.returns-then-self-eq-LAST_NUMBER-clause-own
+returns-then-self-eq-LAST_NUMBER-clause-own g c = rests
+
+pub returns-in_err-write_key-clause-own : goal.returns-in_err-write_key-clause-own
+returns-in_err-write_key-clause-own g c =
+    let p = err_from_is_err_and c.from_residual.result c.from_residual.ensures.1 in
+    made_none c.from_residual.result _ (p.1 ∙ ap Err p.2)
+
+pub returns-then-is_some-clause-own : goal.returns-then-is_some-clause-own
+returns-then-is_some-clause-own g c = current_puts c.args.self.now c.let_go_of_full.new.self c.let_go_of_full.ensures (is_seen c.self.inside c.let_go_of_full.new.self true c.self.view_is (sym c.if-is_some.ensures)) c.put_in_current.ensures.own
+
+pub returns-clause-own : goal.returns-clause-own
+returns-clause-own g c = next_puts c.args.self.now c.let_go_of_full.new.self c.let_go_of_full.ensures (is_seen c.self.inside c.let_go_of_full.new.self false c.self.view_is (sym c.if-is_some.ensures)) c.put_in_next.ensures.own

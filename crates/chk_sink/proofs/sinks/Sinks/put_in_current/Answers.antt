@@ -1,4 +1,8 @@
-use Rattle.std.proofs.Common.{Err, ◌≡◌, ◌+◌, ◌≤◌, ◌∙◌, ap, sym, refl, arith, List, ℕ, length}
+use Rattle.chk_site.specs.Site.{asked}
+use Rattle.chk_site.specs.declared.acts.Call.TheVariants.{Append}
+use Rattle.chk_sink.specs.Faults.{sink_result}
+use Rattle.chk_sink.proofs.Owning.{made_as, made_ok, made_none, made_by, made_result, once_works}
+use Rattle.std.proofs.Common.{Err, ◌≡◌, ◌+◌, ◌≤◌, ◌∙◌, ap, sym, refl, arith, List, ℕ, length, [], ◌∷◌}
 use Rattle.std.proofs.lemmas.Result.{err_from_is_err_and}
 use Rattle.chk_bytes.specs.Stems.{Stem}
 use Rattle.chk_seqfile.specs.Entries.{piece_at}
@@ -83,3 +87,35 @@ returns-in_err-keep_where_done-clause-last g c =
     let p = err_from_is_err_and c.from_residual-in_err-keep_where_done.result c.from_residual-in_err-keep_where_done.ensures.1 in
     kept_fails c.from_residual-in_err-keep_where_done.result c.append_to-appended.result _
     (sym c.keep_where_done.ensures.result ∙ c.in_err-keep_where_done.was) (p.1 ∙ ap Err p.2) c.append_to-appended.ensures.last
+
+pub returns-in_err-name-clause-own : goal.returns-in_err-name-clause-own
+returns-in_err-name-clause-own g c =
+    let p = err_from_is_err_and c.from_residual.result c.from_residual.ensures.1 in
+    made_none c.from_residual.result _ (p.1 ∙ ap Err p.2)
+
+pub returns-in_err-piece-clause-own : goal.returns-in_err-piece-clause-own
+returns-in_err-piece-clause-own g c =
+    let p = err_from_is_err_and c.from_residual-in_err-piece.result c.from_residual-in_err-piece.ensures.1 in
+    made_none c.from_residual-in_err-piece.result _ (p.1 ∙ ap Err p.2)
+
+pub returns-in_err-keep_where_done-clause-own : goal.returns-in_err-keep_where_done-clause-own
+returns-in_err-keep_where_done-clause-own g c =
+    let p = err_from_is_err_and c.from_residual-in_err-keep_where_done.result c.from_residual-in_err-keep_where_done.ensures.1 in
+    let s = c.args.self.now in
+    let f = open_as c.self.inside s c.in-Some.current c.self.view_is c.self.invariant c.in-Some.is in
+    let made = c.append_to-appended.result in
+    let own = made_result (sink_result made) made refl
+    (made_by (seen_as c.self.inside s c.self.view_is c.self.invariant).who
+    (once_works (asked c.self.inside.who Append (c.as_str.result.now ∷ c.as_slice.result.now ∷ []) 0 0) made _ refl (c.as_str.ensures.value ∙ (c.in_ok-name.ensures ∙ ap (λ (x : Stem). spell (SinkFile x)) f.of_stem.stem)) c.append_to-appended.ensures.told)) in
+    made_as (sink_result made) c.from_residual-in_err-keep_where_done.result _ (sym c.keep_where_done.ensures.result ∙ c.in_err-keep_where_done.was)
+    (p.1 ∙ ap Err p.2) own
+
+pub returns-clause-own : goal.returns-clause-own
+returns-clause-own g c =
+    let s = c.args.self.now in
+    let f = open_as c.self.inside s c.in-Some.current c.self.view_is c.self.invariant c.in-Some.is in
+    let made = c.append_to-appended.result in
+    let own = made_result (sink_result made) made refl
+    (made_by (seen_as c.self.inside s c.self.view_is c.self.invariant).who
+    (once_works (asked c.self.inside.who Append (c.as_str.result.now ∷ c.as_slice.result.now ∷ []) 0 0) made _ refl (c.as_str.ensures.value ∙ (c.in_ok-name.ensures ∙ ap (λ (x : Stem). spell (SinkFile x)) f.of_stem.stem)) c.append_to-appended.ensures.told)) in
+    made_ok (sink_result made) _ (sym c.keep_where_done.ensures.result ∙ c.in_ok-keep_where_done.was) own

@@ -1,4 +1,8 @@
-use Rattle.std.proofs.Common.{Err, ◌≡◌, ◌+◌, ◌∙◌, ap, List, ℕ, length}
+use Rattle.chk_site.specs.Site.{asked, plain}
+use Rattle.chk_site.specs.declared.acts.Call.TheVariants.{Append, Create}
+use Rattle.chk_world.proofs.Working.{works_then, call_works, call_ends}
+use Rattle.chk_sink.proofs.Owning.{made_err, made_none, made_by, once_works}
+use Rattle.std.proofs.Common.{Err, ◌≡◌, ◌+◌, ◌∙◌, ap, List, ℕ, length, [], ◌∷◌}
 use Rattle.std.proofs.lemmas.Result.{err_from_is_err_and}
 use Rattle.chk_bytes.specs.Stems.{Stem}
 use Rattle.chk_seqfile.specs.Headers.{header}
@@ -11,7 +15,7 @@ use Rattle.chk_sink.specs.SinkFields.{writing_of}
 use Rattle.chk_sink.proofs.Putting.{longer_writing}
 use Rattle.chk_sink.proofs.Beginning.{first_writing}
 use Rattle.chk_sink.proofs.Fields.{seen_as, put_refused, counted_done}
-use Rattle.chk_sink.proofs.Next.{uncreated_as, unheaded_as, unfilled_as, filled_as}
+use Rattle.chk_sink.proofs.Next.{uncreated_as, unheaded_as, unfilled_as, filled_as, counted_process}
 use Rattle.chk_sink.proofs.Last.{later_fails, both, none_fails}
 use Rattle.chk_sink.proofs.sinks.Sinks.put_in_next.Goals as goal
 
@@ -103,3 +107,62 @@ returns-clause-last g c =
     let placed : Stem × ℕ = (c.next_stem-stem.result, c.in_ok-name.longer.size) in
     none_fails placed
     (both (both c.create-created.ensures.told c.append_to.ensures.last) c.append_to-2.ensures.last)
+
+pub returns-in_err-name-clause-own : goal.returns-in_err-name-clause-own
+returns-in_err-name-clause-own g c =
+    let p = err_from_is_err_and c.from_residual.result c.from_residual.ensures.1 in
+    made_none c.from_residual.result _ (p.1 ∙ ap Err p.2)
+
+pub returns-in_err-done-clause-own : goal.returns-in_err-done-clause-own
+returns-in_err-done-clause-own g c =
+    let p = err_from_is_err_and c.from_residual-in_err-done.result c.from_residual-in_err-done.ensures.1 in
+    let s = c.args.self.now in
+    let known = seen_as c.self.inside s c.self.view_is c.self.invariant in
+    let name = c.in_ok-name.ensures.name ∙ ap (λ (y : Stem). spell (SinkFile y)) c.next_stem-stem.ensures.next in
+    let q = asked c.self.inside.who Create (c.as_str.result.now ∷ []) 0 0 in
+    made_err c.from_residual-in_err-done.result _ (p.1 ∙ ap Err p.2)
+    (made_by known.who (call_ends q plain c.create-created.result _ (c.as_str.ensures.value ∙ name) c.in_err-done.ensures c.create-created.ensures.told))
+
+pub returns-in_err-append_to-clause-own : goal.returns-in_err-append_to-clause-own
+returns-in_err-append_to-clause-own g c =
+    let p = err_from_is_err_and c.from_residual-in_err-append_to.result c.from_residual-in_err-append_to.ensures.1 in
+    let s = c.args.self.now in
+    let known = seen_as c.self.inside s c.self.view_is c.self.invariant in
+    let name = c.in_ok-name.ensures.name ∙ ap (λ (y : Stem). spell (SinkFile y)) c.next_stem-stem.ensures.next in
+    let q = asked c.self.inside.who Create (c.as_str.result.now ∷ []) 0 0 in
+    let later = (seen_as c.self-2.inside c.count.new.self c.self-2.view_is c.self-2.invariant).who
+    ∙ counted_process s c.count.new.self c.create-created.result c.count.ensures in
+    made_err c.from_residual-in_err-append_to.result _ (p.1 ∙ ap Err p.2)
+    (works_then (made_by known.who (call_works q plain c.create-created.result (λ v. tt) (c.as_str.ensures.value ∙ name) c.in_ok-done.ensures c.create-created.ensures.told))
+    (made_by later (once_works (asked c.self-2.inside.who Append (c.as_str-2.result.now ∷ c.as_slice.result.now ∷ []) 0 0) c.append_to.result _ c.in_err-append_to.was
+    (c.as_str-2.ensures.value ∙ name) c.append_to.ensures.told)))
+
+pub returns-in_err-append_to-2-clause-own : goal.returns-in_err-append_to-2-clause-own
+returns-in_err-append_to-2-clause-own g c =
+    let p = err_from_is_err_and c.from_residual-in_err-append_to-2.result c.from_residual-in_err-append_to-2.ensures.1 in
+    let s = c.args.self.now in
+    let known = seen_as c.self.inside s c.self.view_is c.self.invariant in
+    let name = c.in_ok-name.ensures.name ∙ ap (λ (y : Stem). spell (SinkFile y)) c.next_stem-stem.ensures.next in
+    let q = asked c.self.inside.who Create (c.as_str.result.now ∷ []) 0 0 in
+    let later = (seen_as c.self-2.inside c.count.new.self c.self-2.view_is c.self-2.invariant).who
+    ∙ counted_process s c.count.new.self c.create-created.result c.count.ensures in
+    made_err c.from_residual-in_err-append_to-2.result _ (p.1 ∙ ap Err p.2)
+    (works_then (made_by known.who (call_works q plain c.create-created.result (λ v. tt) (c.as_str.ensures.value ∙ name) c.in_ok-done.ensures c.create-created.ensures.told))
+    (works_then (made_by later (once_works (asked c.self-2.inside.who Append (c.as_str-2.result.now ∷ c.as_slice.result.now ∷ []) 0 0) c.append_to.result _ c.in_ok-append_to.was
+    (c.as_str-2.ensures.value ∙ name) c.append_to.ensures.told))
+    (made_by later (once_works (asked c.self-2.inside.who Append (c.as_str-3.result.now ∷ c.as_slice-2.result.now ∷ []) 0 0) c.append_to-2.result _ c.in_err-append_to-2.was
+    (c.as_str-3.ensures.value ∙ name) c.append_to-2.ensures.told))))
+
+pub returns-clause-own : goal.returns-clause-own
+returns-clause-own g c =
+    let s = c.args.self.now in
+    let known = seen_as c.self.inside s c.self.view_is c.self.invariant in
+    let name = c.in_ok-name.ensures.name ∙ ap (λ (y : Stem). spell (SinkFile y)) c.next_stem-stem.ensures.next in
+    let q = asked c.self.inside.who Create (c.as_str.result.now ∷ []) 0 0 in
+    let later = (seen_as c.self-2.inside c.count.new.self c.self-2.view_is c.self-2.invariant).who
+    ∙ counted_process s c.count.new.self c.create-created.result c.count.ensures in
+    works_then (made_by known.who (call_works q plain c.create-created.result (λ v. tt) (c.as_str.ensures.value ∙ name) c.in_ok-done.ensures c.create-created.ensures.told))
+    (works_then (made_by later (once_works (asked c.self-2.inside.who Append (c.as_str-2.result.now ∷ c.as_slice.result.now ∷ []) 0 0) c.append_to.result _ c.in_ok-append_to.was
+    (c.as_str-2.ensures.value ∙ name) c.append_to.ensures.told))
+    (made_by later (once_works (asked c.self-2.inside.who Append (c.as_str-3.result.now ∷ c.as_slice-2.result.now ∷ []) 0 0) c.append_to-2.result _ c.in_ok-append_to-2.was
+    (c.as_str-3.ensures.value ∙ name) c.append_to-2.ensures.told)))

@@ -1,3 +1,4 @@
+use Rattle.chk_world.specs.Works.{rests}
 use Rattle.std.proofs.Common.{◌∙◌, ap, refl, Ok, Err}
 use Rattle.std.proofs.lemmas.Result.{err_from_is_err_and}
 use Rattle.chk_site.specs.History.{Every}
@@ -25,3 +26,6 @@ returns-clause-told g c stamped =
 
 pub returns-clause-unread : goal.returns-clause-unread
 returns-clause-unread g c = adds_as (Every IsNoLastRead) c.settle_left.ensures.caused (λ a h x. x.unread)
+
+pub returns-then-not-self-clause-own : goal.returns-then-not-self-clause-own
+returns-then-not-self-clause-own g c = rests

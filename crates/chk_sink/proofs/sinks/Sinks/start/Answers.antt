@@ -1,4 +1,8 @@
-use Rattle.std.proofs.Common.{◌∙◌, ap}
+use Rattle.chk_sink.specs.Works.{OfStart}
+use Rattle.chk_sink.proofs.Owned.{settle_starts}
+use Rattle.chk_world.proofs.Working.{works_then, works_as}
+use Rattle.chk_sink.proofs.Owning.{made_as, made_none, made_ok}
+use Rattle.std.proofs.Common.{◌∙◌, ap, Err, inl}
 use Rattle.std.proofs.lemmas.Result.{err_from_is_err_and}
 use Rattle.chk_site.specs.declared.acts.Who.{Who}
 use Rattle.chk_sink.specs.Starting.{first_state}
@@ -53,3 +57,32 @@ returns-clause-last g c = none_fails c.settle.new.self (both c.publish_next.ensu
 
 pub returns-clause-starts : goal.returns-clause-starts
 returns-clause-starts g c = start_then c.args.who.now c.in_ok-born.ensures.starts c.settle.ensures.last
+
+pub returns-in_err-own-clause-own : goal.returns-in_err-own-clause-own
+returns-in_err-own-clause-own g c =
+    let p = err_from_is_err_and c.from_residual.result c.from_residual.ensures.1 in
+    made_none c.from_residual.result _ (p.1 ∙ ap Err p.2)
+
+pub returns-in_err-name-clause-own : goal.returns-in_err-name-clause-own
+returns-in_err-name-clause-own g c =
+    let p = err_from_is_err_and c.from_residual-in_err-name.result c.from_residual-in_err-name.ensures.1 in
+    made_none c.from_residual-in_err-name.result _ (p.1 ∙ ap Err p.2)
+
+pub returns-in_err-born-clause-own : goal.returns-in_err-born-clause-own
+returns-in_err-born-clause-own g c =
+    let p = err_from_is_err_and c.from_residual-in_err-born.result c.from_residual-in_err-born.ensures.1 in
+    made_as c.publish_next.result c.from_residual-in_err-born.result _ c.in_err-born.was (p.1 ∙ ap Err p.2)
+    (works_as (OfStart c.args.who.now) (λ call one. inl one) c.publish_next.ensures.own)
+
+pub returns-in_err-settle-clause-own : goal.returns-in_err-settle-clause-own
+returns-in_err-settle-clause-own g c =
+    let p = err_from_is_err_and c.from_residual-in_err-settle.result c.from_residual-in_err-settle.ensures.1 in
+    works_then (works_as (OfStart c.args.who.now) (λ call one. inl one) c.in_ok-born.ensures.own)
+    (made_as c.settle.result c.from_residual-in_err-settle.result _ c.in_err-settle.was (p.1 ∙ ap Err p.2)
+    (settle_starts c.args.who.now c.in_ok-born.born c.args.rotate c.first-sinks.result c.requires.role (c.first-sinks.ensures ∙ ap (λ (k : Who). first_state k c.in_ok-born.born c.args.rotate) c.in_ok-own.ensures) c.settle.ensures.own))
+
+pub returns-clause-own : goal.returns-clause-own
+returns-clause-own g c =
+    works_then (works_as (OfStart c.args.who.now) (λ call one. inl one) c.in_ok-born.ensures.own)
+    (made_ok c.settle.result _ c.in_ok-settle.was
+    (settle_starts c.args.who.now c.in_ok-born.born c.args.rotate c.first-sinks.result c.requires.role (c.first-sinks.ensures ∙ ap (λ (k : Who). first_state k c.in_ok-born.born c.args.rotate) c.in_ok-own.ensures) c.settle.ensures.own))

@@ -1,3 +1,10 @@
+use Rattle.chk_sink.proofs.Settled.{settling_as}
+use Rattle.chk_sink.proofs.Refusing.{unsettled_leaves, settled_leaves, ok_fine}
+use Rattle.chk_sink.proofs.Owned.{settled_works}
+use Rattle.chk_sink.specs.Works.{OfTick}
+use Rattle.chk_world.proofs.Working.{works_as, works_then}
+use Rattle.chk_sink.proofs.Owning.{made_as, made_ok}
+use Rattle.std.proofs.Common.{ap, ◌∙◌, Err, inl, inr}
 use Rattle.std.proofs.lemmas.Result.{err_from_is_err_and}
 use Rattle.chk_site.proofs.Runs.{adds_then}
 use Rattle.chk_sink.specs.Damage.{DamageCause}
@@ -25,3 +32,40 @@ pub returns-clause-last : goal.returns-clause-last
 returns-clause-last g c =
     adds_then (FailsLast c.tick_settled-2.result) c.settle.ensures.last c.tick_settled-2.ensures.last
     (λ a b h x y. fails_later c.tick_settled-2.result b a h y)
+
+pub returns-then-not-self-clause-own : goal.returns-then-not-self-clause-own
+returns-then-not-self-clause-own g c = works_as (OfTick c.args.self.now) (λ call one. inr one) c.tick_settled.ensures.own
+
+pub returns-in_err-settle-clause-own : goal.returns-in_err-settle-clause-own
+returns-in_err-settle-clause-own g c =
+    let p = err_from_is_err_and c.from_residual.result c.from_residual.ensures.1 in
+    made_as c.settle.result c.from_residual.result _ c.in_err-settle.was (p.1 ∙ ap Err p.2)
+    (works_as (OfTick c.args.self.now) (λ call one. inl one) c.settle.ensures.own)
+
+pub returns-clause-own : goal.returns-clause-own
+returns-clause-own g c =
+    works_then (works_as (OfTick c.args.self.now) (λ call one. inl one) (made_ok c.settle.result _ c.in_ok-settle.was c.settle.ensures.own))
+    (works_as (OfTick c.args.self.now) (λ call one. inr one)
+    (settled_works c.args.self.now c.settle.new.self c.in_ok-settle.ensures.ok c.tick_settled-2.ensures.own))
+
+pub returns-then-not-self-clause-refused : goal.returns-then-not-self-clause-refused
+returns-then-not-self-clause-refused g c =
+    unsettled_leaves c.args.self.now c.tick_settled.new.self c.tick_settled.result c.tick_settled.ensures.only c.tick_settled.ensures.refused
+    c.tick_settled.ensures.own
+
+pub returns-in_err-settle-clause-refused : goal.returns-in_err-settle-clause-refused
+returns-in_err-settle-clause-refused g c =
+    let p = err_from_is_err_and c.from_residual.result c.from_residual.ensures.1 in
+    let settles = settling_as c.self.inside c.args.self.now c.self.view_is c.self.invariant c.if-not-self.false in
+    rw (p.1, p.2) (inl (record { abandoned = settles.abandoned; same = c.in_err-settle.ensures.err; own = c.in_err-settle.ensures.own }))
+
+pub returns-clause-refused : goal.returns-clause-refused
+returns-clause-refused g c =
+    settled_leaves c.args.self.now c.settle.new.self c.tick_settled-2.new.self c.tick_settled-2.result c.in_ok-settle.ensures.ok
+    c.in_ok-settle.ensures.own c.tick_settled-2.ensures.only c.tick_settled-2.ensures.refused c.tick_settled-2.ensures.own
+
+pub returns-then-not-self-clause-fine : goal.returns-then-not-self-clause-fine
+returns-then-not-self-clause-fine g c = ok_fine c.tick_settled.result c.tick_settled.ensures.own
+
+pub returns-clause-fine : goal.returns-clause-fine
+returns-clause-fine g c = ok_fine c.tick_settled-2.result (returns-clause-own g c)

@@ -1,10 +1,18 @@
+use Rattle.chk_sink.proofs.Refusing.{commit_leaves, close_leaves}
+use Rattle.std.proofs.lemmas.Result.{err_from_is_err_and}
+use Rattle.chk_world.specs.Works.{rests}
+use Rattle.chk_sink.proofs.Owned.{marked_works}
+use Rattle.chk_sink.specs.Works.{OfClose}
+use Rattle.chk_world.proofs.Working.{works_as, works_then}
+use Rattle.chk_sink.proofs.Owning.{made_as, made_ok}
+use Rattle.std.proofs.Common.{ap, ◌∙◌, Err, inl, false, true, sym}
 use Rattle.chk_site.specs.History.{Every}
 use Rattle.chk_site.proofs.Runs.{adds_then, every_join}
 use Rattle.chk_sink.specs.Closes.{IsNoListing}
 use Rattle.chk_sink.specs.Damage.{DamageCause}
 use Rattle.chk_sink.specs.Faults.{FailsLast}
 use Rattle.chk_sink.proofs.JoinedCauses.{damage_later, fails_later}
-use Rattle.chk_sink.proofs.Ticks.{none_seen, none_ticks, close_ticks, see_ticks}
+use Rattle.chk_sink.proofs.Ticks.{none_seen, none_ticks, unmarked_ticks, close_ticks, see_ticks, is_seen}
 use Rattle.chk_sink.proofs.sinks.Sinks.tick_settled.Goals as goal
 
 pub returns-then-is_none-clause-told : goal.returns-then-is_none-clause-told
@@ -33,3 +41,36 @@ returns-then-is_due-clause-last g c =
 pub returns-clause-told : goal.returns-clause-told
 returns-clause-told g c stamped =
     see_ticks stamped c.args.now c.args.self.now c.commit.new.self c.see.new.self c.in_ok-commit.ensures.ok c.see.ensures (c.in_ok-commit.ensures.told stamped)
+
+pub returns-then-is_none-clause-own : goal.returns-then-is_none-clause-own
+returns-then-is_none-clause-own g c = rests
+
+pub returns-in_err-commit-clause-own : goal.returns-in_err-commit-clause-own
+returns-in_err-commit-clause-own g c =
+    let p = err_from_is_err_and c.from_residual.result c.from_residual.ensures.1 in
+    made_as c.commit.result c.from_residual.result _ c.in_err-commit.was (p.1 ∙ ap Err p.2)
+    (works_as (OfClose c.args.self.now) (λ call one. inl one) c.commit.ensures.own)
+
+pub returns-then-is_due-clause-own : goal.returns-then-is_due-clause-own
+returns-then-is_due-clause-own g c =
+    works_then (works_as (OfClose c.args.self.now) (λ call one. inl one) (made_ok c.commit.result _ c.in_ok-commit.was c.commit.ensures.own))
+    (marked_works c.args.self.now c.commit.new.self c.in_ok-commit.ensures.ok c.close.ensures.own)
+
+pub returns-clause-own : goal.returns-clause-own
+returns-clause-own g c = works_as (OfClose c.args.self.now) (λ call one. inl one) (made_ok c.commit.result _ c.in_ok-commit.was c.commit.ensures.own)
+
+pub returns-in_err-commit-clause-told : goal.returns-in_err-commit-clause-told
+returns-in_err-commit-clause-told g c stamped =
+    let p = err_from_is_err_and c.from_residual.result c.from_residual.ensures.1 in
+    rw (p.1, p.2) (unmarked_ticks stamped c.args.self.now c.commit.new.self c.in_err-commit.field-0.0 c.in_err-commit.ensures.only (c.in_err-commit.ensures.told stamped))
+
+pub returns-in_err-commit-clause-refused : goal.returns-in_err-commit-clause-refused
+returns-in_err-commit-clause-refused g c =
+    let p = err_from_is_err_and c.from_residual.result c.from_residual.ensures.1 in
+    let some = is_seen c.self.inside c.args.self.now true c.self.view_is c.if-is_none.ensures in
+    rw p.1 (commit_leaves c.args.self.now c.commit.new.self some c.in_err-commit.ensures.err)
+
+pub returns-then-is_due-clause-refused : goal.returns-then-is_due-clause-refused
+returns-then-is_due-clause-refused g c =
+    close_leaves c.args.self.now c.commit.new.self c.close.new.self c.close.result
+    (is_seen c.self.inside c.args.self.now true c.self.view_is c.if-is_none.ensures) c.in_ok-commit.ensures.ok c.close.ensures.err

@@ -1,0 +1,73 @@
+-- What stands behind a request: where its calls led the sinks, and which calls they were.
+use Rattle.std.specs.Prelude.{◌≡◌, ◌⊎◌, ℕ, zero, suc, ◌<◌, List, [], ◌∷◌, length, Contains, Option, Some, None}
+use Rattle.chk_bytes.specs.Stems.{Stem}
+use Rattle.chk_site.specs.declared.acts.OutsideFault.{OutsideFault}
+use Rattle.chk_site.specs.Acts.{Deed}
+use Rattle.chk_site.specs.History.{History}
+use Rattle.chk_chunk.specs.Keys.{Chunk}
+use Rattle.chk_message.specs.Messages.{Ack, PollRequest, IsPostOf}
+use Rattle.chk_world.specs.Works.{Works}
+use Rattle.chk_sink.specs.declared.fault.SinkFault.{SinkFault}
+use Rattle.chk_sink.specs.States.{State, Writing, process}
+use Rattle.chk_sink.specs.Puts.{IsPlaced, LeavesAfterPut, GoesOn}
+use Rattle.chk_sink.specs.Works.{OfPut, OfQuestion}
+
+-- ---- the state
+
+-- so many puts were done, one after the other
+pub data Puts : ℕ → State → State → Type 0 where
+  begins : {s : State} → Puts zero s s
+  goes_on : {n : ℕ} {s t u : State} → Puts n s t → GoesOn t u → Puts (suc n) s u
+
+-- some puts were done, and the next one was refused, or there was no memory for the line of the last
+pub record PutsThen (old new : State) (fault : SinkFault) : Type 0 where
+  pub count : ℕ
+  pub reached : State
+  pub puts : Puts count old reached
+  pub leaves : LeavesAfterPut reached new fault
+
+-- the last line is the place of the sink that is written to
+abbrev pub EndsInPlace : State → List Ack → Type 0
+EndsInPlace s [] = Unit {0}
+EndsInPlace s (a ∷ []) = IsPlaced s (a.stem, a.number)
+EndsInPlace s (a ∷ (b ∷ acks)) = EndsInPlace s (b ∷ acks)
+
+-- the same sink was first seen at the same moment
+abbrev pub IsSeenAlike : Option Writing → Option Writing → Type 0
+IsSeenAlike old None = Unit {0}
+IsSeenAlike None (Some n) = ⊥
+IsSeenAlike (Some o) (Some n) = n.seen ≡ o.seen
+
+-- no tick has seen the sink
+abbrev pub IsUnseen : Option Writing → Type 0
+IsUnseen None = Unit {0}
+IsUnseen (Some n) = n.seen ≡ None
+
+-- the moment at which a tick first saw the sink that is written to stays, and a new one was seen by none
+pub record KeepsSeen (old new : State) : Type 0 where
+  pub same : new.number ≡ old.number → IsSeenAlike old.current new.current
+  pub new_one : old.number < new.number → IsUnseen new.current
+
+-- ---- the calls
+
+-- those of a put that comes behind some others
+abbrev pub OfPosts : State → Deed → Type 0
+OfPosts s call = (n : ℕ) × (t : State) × Puts n s t × OfPut t call
+
+-- those of the question for one of these stems
+abbrev pub OfPoll : List Stem → Deed → Type 0
+OfPoll stems call = (x : Stem) × Contains stems x × OfQuestion x call
+
+-- a post calls for puts, a poll for the lengths of its stems, and no other request for anything
+abbrev pub OfRequest : List ℕ → State → Deed → Type 0
+OfRequest bytes s call =
+    ((chunks : List Chunk) × IsPostOf chunks bytes × OfPosts s call)
+    ⊎ ((stems : List Stem) × PollRequest stems bytes × OfPoll stems call)
+
+-- where there is no memory for a reply: the calls that were made, and the state, which a post alone changes
+pub record Unanswered (request : List ℕ) (old new : State) (told_before told_after : Option History) : Type 0 where
+  pub fault : Option OutsideFault
+  pub own : Works (process old) (OfRequest request old) fault told_before told_after
+  pub state : (new ≡ old)
+      ⊎ ((chunks : List Chunk) × IsPostOf chunks request
+      × (Puts (length chunks) old new ⊎ ((why : SinkFault) × PutsThen old new why)))
