@@ -9,7 +9,9 @@
 //! - `answer TIMES CHUNKS BYTES`: a collector answers a post of so many chunks of so many bytes, with a tick behind each;
 //! - `take DOOR TURNS WAIT`: messages are taken at the door, with this wait in milliseconds, and answered; what was
 //!   taken, the longest calls in milliseconds and the count of faults are printed;
-//! - `all TIMES`: each of these but the last.
+//! - `tail FILE`: a log is read to its end, its rotated generations first, and how many bytes it gave is printed;
+//! - `lines FILE`: the same by lines;
+//! - `all TIMES`: each of these but the last three.
 //!
 //! It ends with 0 where all was done, 2 for other words, 3 where the system doesn't give them, 4 without memory, and 5
 //! where something was refused or failed.
@@ -21,12 +23,13 @@ mod bodies;
 mod posts;
 mod requests;
 mod rounds;
+mod tails;
 mod takings;
 mod works;
 
 use chk_bytes::NoMemory;
 use chk_sink::SinkFault;
-use chk_site::CallFault;
+use chk_site::{CallFault, OutsideFault};
 use chk_site_real::SiteReal;
 use std::process::ExitCode;
 use std::{env, io};
@@ -72,6 +75,7 @@ fn done(rt: HostRuntime, work: Work<'_>) -> Result<bool, NoMemory> {
             bytes,
         } => answer(rt, times, chunks, bytes),
         Work::Take { door, turns, wait } => take(rt, door, turns, wait),
+        Work::Tail { path, lines } => tail(rt, path, lines),
         Work::All { times } => Ok(
             posts::posts(rt.alloc(), times)?
                 && requests::requests(rt.alloc(), times)?
@@ -120,5 +124,15 @@ fn take(rt: HostRuntime, door: &str, turns: u32, wait: u32) -> Result<bool, NoMe
         Ok(figures) => Ok(println!(rt; "{figures}").is_ok()),
         Err(CallFault::NoMemory) => Err(NoMemory),
         Err(_) => Ok(false),
+    }
+}
+
+fn tail(rt: HostRuntime, path: &str, lines: bool) -> Result<bool, NoMemory> {
+    let alloc = rt.alloc();
+    let mut site = SiteReal::new(rt, alloc);
+    match tails::tails(&mut site, alloc, path, lines) {
+        Ok(Some(given)) => Ok(println!(rt; "{given}").is_ok()),
+        Err(OutsideFault::NoMemory) => Err(NoMemory),
+        Ok(None) | Err(_) => Ok(false),
     }
 }

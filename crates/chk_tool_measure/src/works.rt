@@ -26,6 +26,10 @@ pub enum Work<'a> {
         turns: u32,
         wait: u32,
     },
+    Tail {
+        path: &'a str,
+        lines: bool,
+    },
     All {
         times: u32,
     },
@@ -35,6 +39,14 @@ impl<'a> Work<'a> {
     /// None where the words name no work.
     pub fn read(given: &'a [String]) -> Option<Work<'a>> {
         match given {
+            [work, path] if work.as_str() == "tail" => Some(Work::Tail {
+                path: path.as_str(),
+                lines: false,
+            }),
+            [work, path] if work.as_str() == "lines" => Some(Work::Tail {
+                path: path.as_str(),
+                lines: true,
+            }),
             [work, times] => plain_work(work.as_str(), number(times)?),
             [work, times, every] if work.as_str() == "append" => Some(Work::Append {
                 times: number(times)?,

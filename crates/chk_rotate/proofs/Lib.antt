@@ -1,0 +1,4 @@
+pub mod MarkLemmas
+pub mod Fields
+pub mod Walking
+pub mod Places

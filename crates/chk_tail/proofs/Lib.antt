@@ -1,0 +1,6 @@
+pub mod Newlines
+pub mod Takes
+pub mod ReadTakes
+pub mod OneRead
+pub mod Shifted
+pub mod WalkLast
