@@ -1,8 +1,13 @@
 -- The reading of a whole file.
-use Rattle.std.specs.Prelude.{◌≡◌, ◌⊎◌, ℕ, ◌-◌, ◌^◌, min, true, false, List, [], ◌++◌, take, drop, Option, Some, None, option_map, Result, Ok, Err}
+use Rattle.std.specs.Prelude.{◌≡◌, ◌⊎◌, ℕ, ◌-◌, ◌^◌, min, true, false, List, [], ◌∷◌, ◌++◌, length, take, drop, Option, Some, None, option_map, Result, Ok, Err}
 use Rattle.chk_bytes.specs.Words.{BeginsWith}
 use Rattle.chk_site.specs.declared.acts.Who.{Who}
 use Rattle.chk_site.specs.declared.acts.OutsideFault.{OutsideFault}
+use Rattle.chk_site.specs.declared.acts.OutsideFault.TheVariants.{Outside, NoMemory as no_memory}
+use Rattle.chk_site.specs.declared.acts.Call.TheVariants.{Read}
+use Rattle.chk_site.specs.declared.acts.CallFault.{CallFault}
+use Rattle.chk_site.specs.declared.acts.CallFault.TheVariants.{Missing, Short, Failed, NoMemory}
+use Rattle.chk_site.specs.Site.{Adds, asked, answered, bytes_given, Calls}
 use Rattle.chk_site.specs.Files.{File}
 use Rattle.chk_site.specs.Acts.{Reads, deed}
 use Rattle.chk_site.specs.History.{Step, History, IsTheirs, files_after, is_stopped}
@@ -57,3 +62,32 @@ IsFront bytes (Some file) = BeginsWith file.bytes bytes
 -- the file is still this one, and these bytes are a front of it
 abbrev pub HasFront : List ℕ → Option File → List ℕ → History → Type 0
 HasFront name file bytes history = Has name file history × IsFront bytes file
+
+-- what a read is taken for: a file that is gone has no piece, and one that ends before the place an empty one
+abbrev pub Came : Result (List ℕ) CallFault → Result (Option (List ℕ)) OutsideFault → Type 0
+Came (Ok piece) result = result ≡ Ok (Some piece)
+Came (Err Missing) result = result ≡ Ok None
+Came (Err (Short size)) result = result ≡ Ok (Some [])
+Came (Err Failed) result = result ≡ Err (Outside Read)
+Came (Err NoMemory) result = result ≡ Err no_memory
+Came (Err fault) result = ⊥
+
+-- one read of the file at a place, and what it is taken for
+pub record ReadOnce (who : Who) (name : List ℕ) (at : ℕ) (result : Result (Option (List ℕ)) OutsideFault) (old new : Option History) : Type 0 where
+  pub given : Result (List ℕ) CallFault
+  pub came : Came given result
+  pub told : Adds old new (Calls (asked who Read (name ∷ []) at (asks_at at)) (answered bytes_given given))
+
+-- The reads of a load in turn, each where the bytes so far end, up to an empty piece, a file that is gone, or a refusal.
+pub data ReadInTurn : Who → List ℕ → List ℕ → Result (Option (List ℕ)) OutsideFault → Option History → Option History → Type 0 where
+  gone : {who : Who} {name bytes : List ℕ} {old new : Option History} → ReadOnce who name (length bytes) (Ok None) old new
+      → ReadInTurn who name bytes (Ok None) old new
+  at_end : {who : Who} {name bytes : List ℕ} {old new : Option History} → ReadOnce who name (length bytes) (Ok (Some [])) old new
+      → ReadInTurn who name bytes (Ok (Some bytes)) old new
+  ended : {who : Who} {name bytes : List ℕ} {fault : OutsideFault} {old new : Option History} → ReadOnce who name (length bytes) (Err fault) old new
+      → ReadInTurn who name bytes (Err fault) old new
+  unkept : {who : Who} {name bytes : List ℕ} {old new : Option History} (piece : List ℕ) → ReadOnce who name (length bytes) (Ok (Some piece)) old new
+      → ReadInTurn who name bytes (Err no_memory) old new
+  went_on : {who : Who} {name bytes : List ℕ} {result : Result (Option (List ℕ)) OutsideFault} {old mid new : Option History} (piece : List ℕ)
+      → ReadOnce who name (length bytes) (Ok (Some piece)) old mid → ReadInTurn who name (bytes ++ piece) result mid new
+      → ReadInTurn who name bytes result old new

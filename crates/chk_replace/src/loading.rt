@@ -1,12 +1,12 @@
 // A file is read whole.
-ghost use Rattle.std.specs.Prelude.{◌≡◌, ℕ, Option};
+ghost use Rattle.std.specs.Prelude.{◌≡◌, ℕ, [], Option};
 ghost use Rattle.chk_site.specs.Files.{File};
 ghost use Rattle.chk_site.specs.Effect.{IsSmallFile};
 ghost use Rattle.chk_site.specs.History.{History, Every};
 ghost use Rattle.chk_site.specs.Site.{Adds, LastFailed, OutsideCause};
 ghost use Rattle.chk_site.specs.Runs.{anyhow, Leads};
 ghost use Rattle.chk_replace.specs.Replace.{LeavesFile};
-ghost use Rattle.chk_replace.specs.Load.{Has, HasPiece, IsGone, IsLook, Loaded};
+ghost use Rattle.chk_replace.specs.Load.{Has, HasPiece, IsGone, IsLook, Loaded, ReadInTurn, ReadOnce};
 
 use chk_bytes::Bytes;
 use chk_site::{Call, CallFault, OutsideFault, Site, Who};
@@ -28,6 +28,7 @@ pub fn load<S: Site>(
 ) -> Result<Option<Bytes>, OutsideFault>
     ensures whole { (file : Option File) → IsSmallFile file → Adds (S.told site.old) (S.told site.new)
         (Leads (anyhow (LeavesFile name.now)) (Has name.now file) (Loaded name.now file result)) }
+    ensures script { ReadInTurn who.now name.now [] result (S.told site.old) (S.told site.new) }
     ensures reads { Adds (S.told site.old) (S.told site.new) (Every (IsLook who.now name.now)) }
     ensures none { Adds (S.told site.old) (S.told site.new) (IsGone name.now result) }
     ensures last { Adds (S.told site.old) (S.told site.new) (LastFailed result) }
@@ -56,6 +57,7 @@ fn piece_at<S: Site>(
 ) -> Result<Option<Bytes>, OutsideFault>
     ensures whole { (file : Option File) → Adds (S.told site.old) (S.told site.new)
         (Leads (anyhow (LeavesFile name.now)) (Has name.now file) (HasPiece name.now at file result)) }
+    ensures script { ReadOnce who.now name.now at result (S.told site.old) (S.told site.new) }
     ensures reads { Adds (S.told site.old) (S.told site.new) (Every (IsLook who.now name.now)) }
     ensures none { Adds (S.told site.old) (S.told site.new) (IsGone name.now result) }
     ensures last { Adds (S.told site.old) (S.told site.new) (LastFailed result) }

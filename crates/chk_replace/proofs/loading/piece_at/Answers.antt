@@ -18,6 +18,7 @@ returns-in-Ok g c =
     let told = rw most at c.in-Ok.ensures.told in
     record {
       whole = piece_given who name at c.in-Ok.bytes told;
+      script = record { given = Ok c.in-Ok.bytes; came = refl; told = told };
       reads = piece_looks who name at (Ok (bytes_given c.in-Ok.bytes)) told;
       none = adds_as (IsGone name (Ok (Some c.in-Ok.bytes))) told (λ a history calls. tt);
       last = adds_as (LastFailed {T = Option (List ℕ)} (Ok (Some c.in-Ok.bytes))) told (λ a history calls. tt);
@@ -33,6 +34,7 @@ returns-in-Err-Missing g c =
     let told = rw most at (rw c.in-Err-Missing.field-0-is at c.in-Err-Missing.ensures.told) in
     record {
       whole = piece_missing who name at told;
+      script = record { given = Err Missing; came = refl; told = told };
       reads = piece_looks who name at (Err Missing) told;
       none = piece_gone who name at told;
       last = adds_as (LastFailed {T = Option (List ℕ)} (Ok None)) told (λ a history calls. tt);
@@ -48,6 +50,7 @@ returns-in-Err-Failed g c =
     let told = rw most at (rw c.in-Err-Failed.field-0-is at c.in-Err-Failed.ensures.told) in
     record {
       whole = not_read name at (Outside Read) told;
+      script = record { given = Err Failed; came = refl; told = told };
       reads = piece_looks who name at (Err Failed) told;
       none = adds_as (IsGone name (Err (Outside Read))) told (λ a history calls. tt);
       last = adds_as (LastFailed {T = Option (List ℕ)} (Err (Outside Read))) told
@@ -64,6 +67,7 @@ returns-in-Err-NoMemory g c =
     let told = rw most at (rw c.in-Err-NoMemory.field-0-is at c.in-Err-NoMemory.ensures.told) in
     record {
       whole = not_read name at no_memory told;
+      script = record { given = Err NoMemory; came = refl; told = told };
       reads = piece_looks who name at (Err NoMemory) told;
       none = adds_as (IsGone name (Err no_memory)) told (λ a history calls. tt);
       last = adds_as (LastFailed {T = Option (List ℕ)} (Err no_memory)) told (λ a history calls. tt);
@@ -81,6 +85,7 @@ returns-in-Err-Short g c =
     rw c.new.ensures
     (record {
       whole = piece_short who name at size told;
+      script = record { given = Err (Short size); came = refl; told = told };
       reads = piece_looks who name at (Err (Short size)) told;
       none = adds_as (IsGone name (Ok (Some []))) told (λ a history calls. tt);
       last = adds_as (LastFailed {T = Option (List ℕ)} (Ok (Some []))) told (λ a history calls. tt);

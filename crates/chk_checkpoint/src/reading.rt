@@ -1,0 +1,72 @@
+//! The lines of a text.
+
+ghost use Rattle.std.specs.Prelude.{◌≡◌, ◌≤◌, ◌==◌, ◌++◌, ◌∷◌, [], length, map, position, IfOk};
+ghost use Rattle.std.specs.Bool.{OnTrue};
+ghost use Rattle.chk_checkpoint.specs.Lines.{shown};
+ghost use Rattle.chk_checkpoint.specs.Fields.{lent};
+ghost use Rattle.chk_checkpoint.specs.Seen.{HasSeen, may_follow};
+ghost use Rattle.chk_checkpoint.specs.Damage.{IsReading};
+
+use crate::line::{LineRef, own_line, read_line};
+use crate::seen::Seen;
+use crate::version::version_of;
+use crate::{CheckFault, CheckLine, Checkpoint, MOST_LINES};
+use chk_bytes::NoMemory;
+use std::alloc::Global;
+
+/// The lines of a text. Its cost is the text's length, and for each line a look-up among the names and streams so far.
+pub(crate) fn read_text(alloc: Global, text: &[u8]) -> Result<Checkpoint, CheckFault>
+    ensures { IsReading text.now result }
+{
+    let Some(version) = version_of(text) else {
+        return Err(CheckFault::Damaged { at: 0 });
+    };
+    let mut lines = Vec::new(alloc);
+    let mut seen = Seen::new(alloc);
+    let mut at = version.first_line().len();
+    while at < text.len() {
+        let damaged = CheckFault::Damaged { at: at as u64 };
+        let rest = &text[at..];
+        let Some(size) = line_size(rest) else {
+            return Err(damaged);
+        };
+        let Some(line) = read_line(version, &rest[..size]) else {
+            return Err(damaged);
+        };
+        if !take_line(alloc, &mut lines, &mut seen, &line)? {
+            return Err(damaged);
+        }
+        at += size + 1;
+    }
+    Ok(Checkpoint { lines })
+}
+
+// Takes one more line, where it may follow those so far, and says whether it may.
+fn take_line<'a>(
+    alloc: Global,
+    lines: &mut Vec<CheckLine>,
+    seen: &mut Seen<'a>,
+    line: &LineRef<'a>,
+) -> Result<bool, NoMemory>
+    requires few { length lines.old.items ≤ 10000 }
+    requires seen { HasSeen seen.old (map shown lines.old.items) }
+    ensures taken { IfOk result (λ taken. taken ≡ may_follow (map shown lines.old.items) (lent line.now)) }
+    ensures lines { IfOk result (λ taken. OnTrue taken (map shown lines.new.items ≡ map shown lines.old.items ++ lent line.now ∷ [])) }
+    ensures seen { IfOk result (λ taken. OnTrue taken (HasSeen seen.new (map shown lines.new.items))) }
+{
+    if lines.len() == MOST_LINES {
+        return Ok(false);
+    }
+    if !seen.add(line)? {
+        return Ok(false);
+    }
+    lines.push(own_line(alloc, line)?)?;
+    Ok(true)
+}
+
+// How many bytes stand before the first newline.
+fn line_size(text: &[u8]) -> Option<usize>
+    ensures { result ≡ position (λ b. b == 10) text.now }
+{
+    text.iter().position(|b| *b == b'\n')
+}

@@ -1,0 +1,147 @@
+// The replacement of a checkpoint, failed and stopped at each of its calls.
+use chk_bytes::Word;
+use chk_checkpoint::{load_checkpoint, write_checkpoint};
+use chk_site::{Call, OutsideFault, Role, Script, Who};
+use chk_site_mem::SiteMem;
+use chk_test_calls::{failing, left_of, quiet, stopping, written};
+use std::alloc::Global;
+use std::test::Fail;
+
+const OLD: &[u8; 65] = b"chukwa-checkpoint 1\nadd adaptor_1 = LWFTAdaptor Log /a.log 6 0 -\n";
+
+const NEXT: &[u8; 60] = b"chukwa-checkpoint 2\nadd x = LWFTAdaptor Log /a.log 11 5 - 5\n";
+
+// The calls of the replacement, after the two reads of a load.
+const CALLS: [(u64, Call); 5] = [
+    (3, Call::Remove),
+    (4, Call::Create),
+    (5, Call::Append),
+    (6, Call::Sync),
+    (7, Call::Rename),
+];
+
+fn agent(alloc: Global, source: &str) -> Result<Who, Fail> {
+    Ok(Who {
+        role: Role::Agent,
+        name: Word::new(alloc, source.as_bytes())?,
+    })
+}
+
+// The same script, with a file of these bytes, all of them on the disk.
+fn with_file(alloc: Global, script: Script, name: &str, bytes: &[u8]) -> Result<Script, Fail> {
+    let mut script = script;
+    script
+        .others
+        .push(written(alloc, Call::Create, &[name.as_bytes()])?)?;
+    script
+        .others
+        .push(written(alloc, Call::Append, &[name.as_bytes(), bytes])?)?;
+    script
+        .others
+        .push(written(alloc, Call::Sync, &[name.as_bytes()])?)?;
+    Ok(script)
+}
+
+// The lines of the second agent are loaded, and written for the first.
+fn copied(alloc: Global, site: &mut SiteMem) -> Result<Result<(), OutsideFault>, Fail> {
+    let from = agent(alloc, "h2")?;
+    let to = agent(alloc, "h1")?;
+    let check = load_checkpoint(alloc, site, &from).map_err(|_| "no checkpoint")?;
+    Ok(write_checkpoint(alloc, site, &to, &check))
+}
+
+fn scene(alloc: Global, script: Script) -> Result<SiteMem, Fail> {
+    let script = with_file(alloc, script, "agents/h1.check", OLD.as_slice())?;
+    let script = with_file(alloc, script, "agents/h2.check", NEXT.as_slice())?;
+    Ok(SiteMem::new(alloc, script)?)
+}
+
+fn holds(site: &SiteMem, wanted: &[u8]) -> bool {
+    site.file("agents/h1.check")
+        .is_some_and(|bytes| bytes == wanted)
+}
+
+// After a restart the file is read, and a further replacement is done, of which nothing else is left.
+fn goes_on(alloc: Global, site: &mut SiteMem) -> Result<bool, Fail> {
+    site.restart(quiet(alloc));
+    let who = agent(alloc, "h1")?;
+    let check = load_checkpoint(alloc, site, &who).map_err(|_| "no checkpoint")?;
+    let done = copied(alloc, site)?;
+    Ok(
+        check.lines.as_slice().len() == 1
+            && done.is_ok()
+            && holds(site, NEXT.as_slice())
+            && site.file("agents/h1.check.tmp").is_none(),
+    )
+}
+
+#[test]
+fn checkpoint_is_replaced(rt: HostRuntime) -> Result<(), Fail> {
+    let alloc = rt.alloc();
+    let mut site = scene(alloc, quiet(alloc))?;
+    assert!(rt; copied(alloc, &mut site)?.is_ok());
+    assert!(rt; holds(&site, NEXT.as_slice()));
+    assert!(rt; goes_on(alloc, &mut site)?);
+    Ok(())
+}
+
+#[test]
+fn no_file_is_no_lines(rt: HostRuntime) -> Result<(), Fail> {
+    let alloc = rt.alloc();
+    let mut site = SiteMem::new(alloc, quiet(alloc))?;
+    let who = agent(alloc, "h1")?;
+    let check = load_checkpoint(alloc, &mut site, &who).map_err(|_| "no checkpoint")?;
+    assert!(rt; check.lines.as_slice().is_empty());
+    Ok(())
+}
+
+// The replacement ends at this call, and leaves these bytes; another one goes on.
+fn ends_at(alloc: Global, script: Script, call: Call, left: &[u8]) -> Result<bool, Fail> {
+    let mut site = scene(alloc, script)?;
+    let done = copied(alloc, &mut site)?;
+    let ended = done == Err(OutsideFault::Outside { call });
+    Ok(ended && holds(&site, left) && goes_on(alloc, &mut site)?)
+}
+
+#[test]
+fn replacement_fails_at_each_call(rt: HostRuntime) -> Result<(), Fail> {
+    let alloc = rt.alloc();
+    for (at, call) in CALLS {
+        let script = failing(alloc, at)?;
+        assert!(rt; ends_at(alloc, script, call, OLD.as_slice())?, "{call:?}");
+    }
+    Ok(())
+}
+
+// A rename that took place leaves the new file.
+fn left_by(call: Call, whole: bool) -> &'static [u8] {
+    if whole && call == Call::Rename {
+        NEXT.as_slice()
+    } else {
+        OLD.as_slice()
+    }
+}
+
+fn stops_at(alloc: Global, at: u64, call: Call, whole: bool, tail: &[u8]) -> Result<bool, Fail> {
+    let names = ["agents/h1.check", "agents/h1.check.tmp"];
+    let left = left_of(alloc, &names, tail, whole)?;
+    ends_at(alloc, stopping(alloc, at, left), call, left_by(call, whole))
+}
+
+#[test]
+fn replacement_is_stopped_at_each_call(rt: HostRuntime) -> Result<(), Fail> {
+    let alloc = rt.alloc();
+    for (at, call) in CALLS {
+        assert!(rt; stops_at(alloc, at, call, false, b"")?, "{call:?}");
+        assert!(rt;
+            stops_at(alloc, at, call, false, b"chukwa-check")?,
+            "{call:?}"
+        );
+        assert!(rt; stops_at(alloc, at, call, true, b"")?, "{call:?}");
+        assert!(rt;
+            stops_at(alloc, at, call, true, NEXT.as_slice())?,
+            "{call:?}"
+        );
+    }
+    Ok(())
+}
