@@ -283,7 +283,7 @@ fn a_folder_that_cannot_be_made_is_a_fault(rt: HostRuntime) -> Result<(), Fail> 
 
 // Starts a process, and answers whether it was started.
 fn starts(outside: &mut Outside, role: Role, name: &str) -> Result<bool, Fail> {
-    let name = Word::from_text(outside.alloc, name)?;
+    let name = Word::new(outside.alloc, name.as_bytes())?;
     let who = Who { role, name };
     Ok(outside.site.start(outside.alloc, &who).is_ok())
 }
