@@ -11,7 +11,8 @@
 //!   taken, the longest calls in milliseconds and the count of faults are printed;
 //! - `tail FILE`: a log is read to its end, its rotated generations first, and how many bytes it gave is printed;
 //! - `lines FILE`: the same by lines;
-//! - `all TIMES`: each of these but the last three.
+//! - `checkpoint TIMES`: the checkpoint `agents/measure.check` is loaded and written again;
+//! - `all TIMES`: each of these but the last four.
 //!
 //! It ends with 0 where all was done, 2 for other words, 3 where the system doesn't give them, 4 without memory, and 5
 //! where something was refused or failed.
@@ -20,6 +21,7 @@
 mod answers;
 mod appends;
 mod bodies;
+mod checkpoints;
 mod posts;
 mod requests;
 mod rounds;
@@ -28,6 +30,7 @@ mod takings;
 mod works;
 
 use chk_bytes::NoMemory;
+use chk_checkpoint::CheckFault;
 use chk_sink::SinkFault;
 use chk_site::{CallFault, OutsideFault};
 use chk_site_real::SiteReal;
@@ -76,6 +79,7 @@ fn done(rt: HostRuntime, work: Work<'_>) -> Result<bool, NoMemory> {
         } => answer(rt, times, chunks, bytes),
         Work::Take { door, turns, wait } => take(rt, door, turns, wait),
         Work::Tail { path, lines } => tail(rt, path, lines),
+        Work::Checkpoint { times } => checkpoint(rt, times),
         Work::All { times } => Ok(
             posts::posts(rt.alloc(), times)?
                 && requests::requests(rt.alloc(), times)?
@@ -134,5 +138,15 @@ fn tail(rt: HostRuntime, path: &str, lines: bool) -> Result<bool, NoMemory> {
         Ok(Some(given)) => Ok(println!(rt; "{given}").is_ok()),
         Err(OutsideFault::NoMemory) => Err(NoMemory),
         Ok(None) | Err(_) => Ok(false),
+    }
+}
+
+fn checkpoint(rt: HostRuntime, times: u32) -> Result<bool, NoMemory> {
+    let alloc = rt.alloc();
+    let mut site = SiteReal::new(rt, alloc);
+    match checkpoints::checkpoints(&mut site, alloc, times) {
+        Ok(whole) => Ok(whole),
+        Err(CheckFault::NoMemory) => Err(NoMemory),
+        Err(_) => Ok(false),
     }
 }

@@ -30,6 +30,9 @@ pub enum Work<'a> {
         path: &'a str,
         lines: bool,
     },
+    Checkpoint {
+        times: u32,
+    },
     All {
         times: u32,
     },
@@ -72,6 +75,7 @@ fn plain_work<'a>(work: &str, times: u32) -> Option<Work<'a>> {
         "queue" => Some(Work::Queue { times }),
         "request" => Some(Work::Request { times }),
         "sinks" => Some(Work::Sinks { times }),
+        "checkpoint" => Some(Work::Checkpoint { times }),
         "all" => Some(Work::All { times }),
         _ => None,
     }
