@@ -11,9 +11,6 @@ use Rattle.chk_mem_store.specs.Going.{TheirsSince, GoesOn}
 use Rattle.chk_mem_store.proofs.KeepLemmas.{told_push}
 
 -- others did nothing yet
-pub theirs_none : (history : History) → TheirsSince history history
-theirs_none history = record { added = []; goes_on = refl; theirs = tt }
-
 -- one act more of others
 pub theirs_one : (start : History) (kept : List Kept) (act : Act) → TheirsSince start (told_of kept)
     → Modelled (told_of kept) (step_of (told_of kept) (kept_as false act))
@@ -39,9 +36,6 @@ theirs_kept start old new act false since is modelled =
     subst (λ (s : State). TheirsSince start (told_of s.kept)) (sym is) since
 
 -- without memory nothing was added
-pub theirs_unmade : (start : History) (old new : State) → TheirsSince start (told_of old.kept) → new ≡ old → TheirsSince start (told_of new.kept)
-theirs_unmade start old new since is = subst (λ (s : State). TheirsSince start (told_of s.kept)) (sym is) since
-
 -- one own act more
 pub goes_kept : (old new : State) (act : Act) (kept : Bool) → kept ≡ true
     → new ≡ (if kept then after (kept_as true (fitted (files_after (told_of old.kept)) act)) old else old)

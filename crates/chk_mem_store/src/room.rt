@@ -9,7 +9,7 @@ use crate::changes::{first, second};
 use crate::files::{self, MemFile};
 use crate::logs::{self, MemLog};
 use crate::named::Named;
-use chk_site::{Act, ActAnswer, Call, is_suffix};
+use chk_site::{Act, ActAnswer, Call, LOG_BYTES, is_suffix};
 
 /// Whether the file model allows the act: a generation's suffix is one.
 pub fn is_allowed(act: &Act) -> bool
@@ -36,10 +36,10 @@ pub fn has_room(files: &[Named<MemFile>], logs: &[Named<MemLog>], act: &Act) -> 
             fits(size as u64, second(words).len(), 1 << 63)
         }
         Call::LogAppend => match logs::find(logs, first(words)) {
-            None => fits(0, second(words).len(), 1 << 62),
+            None => fits(0, second(words).len(), LOG_BYTES),
             Some(log) => match log.size() {
                 None => false,
-                Some(size) => fits(size, second(words).len(), 1 << 62),
+                Some(size) => fits(size, second(words).len(), LOG_BYTES),
             },
         },
         _ => true,

@@ -3,6 +3,7 @@
 
 mod acts;
 mod laws;
+mod limits;
 mod lists;
 mod scripts;
 mod site;
@@ -10,6 +11,7 @@ mod suffixes;
 
 pub use acts::{Act, ActAnswer, Call, CallFault, OutsideFault, Role, Who};
 pub use laws::law_cut_places;
+pub use limits::{LOG_BYTES, LOG_END, PIECE_BYTES};
 pub use lists::{Left, Lefts, Words};
 pub use scripts::{Other, Script, StopAt};
 pub use site::{Site, done, taken};

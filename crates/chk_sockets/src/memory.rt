@@ -2,10 +2,8 @@
 ghost use Rattle.std.specs.Prelude.{◌≡◌, string_bytes, IfOk};
 
 use chk_bytes::NoMemory;
+use chk_site::PIECE_BYTES;
 use std::alloc::Global;
-
-/// How many bytes one system call gives at most.
-pub const PIECE_BYTES: usize = 131_072;
 
 /// A copy of the text.
 pub fn text(alloc: Global, text: &str) -> Result<String, NoMemory>
