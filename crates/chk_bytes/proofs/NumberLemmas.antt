@@ -11,12 +11,6 @@ spelled_after-append n [] ys = refl
 spelled_after-append n (x ∷ xs) ys = spelled_after-append (n * 256 + x) xs ys
 
 -- one more byte
-pub spelled_more : (bytes : List ℕ) (i : ℕ) → i < length bytes
-    → spelled (take (i + 1) bytes) ≡ spelled (take i bytes) * 256 + get_or bytes i 0
-spelled_more bytes i within =
-    ap spelled (take_more bytes i 0 within)
-    ∙ spelled_after-append 0 (take i bytes) (get_or bytes i 0 ∷ [])
-
 -- a number of i bytes and one more byte
 pub grown : (n b i : ℕ) → n < 256 ^ i → b < 256 → n * 256 + b < 256 ^ (i + 1)
 grown n b i small byte = rw add-one (omega (arith, pow-suc 256 i))

@@ -266,11 +266,6 @@ length-stem_text x h =
           (arith, whole, numbers, born_length, number_length, s.at_most),
     )
 
-pub stem_text_word : (x : Stem) → IsTrue (is_stem x) → IsTrue (is_word (stem_text x))
-stem_text_word x h =
-    let bounds = length-stem_text x h in
-    plain_word (stem_text x) (stem_text_plain x h) bounds.0 (omega (arith, bounds.1))
-
 pub collector_word : (x : Stem) → IsTrue (is_stem x) → IsTrue (is_word x.collector)
 collector_word x h =
     let s = stem_facts x h in

@@ -51,10 +51,6 @@ word_bytes_above (b ∷ bs) zero h within =
 word_bytes_above (b ∷ bs) (suc i) h within =
     word_bytes_above bs i (and_parts (is_word_byte b) (list_all is_word_byte bs) h).1 (omega arith)
 
-pub word_byte : (text : List ℕ) (i : ℕ) → IsTrue (is_word text) → i < length text
-    → (32 < get_or text i 0) × (get_or text i 0 ≡ 127 → ⊥)
-word_byte text i h within = word_bytes_above text i (word_facts text h).word_bytes within
-
 -- a word has neither spaces nor line ends
 apart : (separator b : ℕ) → separator ≤ 32 → is_word_byte b ≡ true → not (b == separator) ≡ true
 apart separator b low h = grind (arith, nat_tests)
@@ -142,16 +138,4 @@ plain_behind_word word plain h h' fits =
       at_most = omega (arith, length-append word plain);
       word_bytes = word_bytes-append word plain w.word_bytes (plain_word_bytes plain h');
       utf8 = IsUtf8-append word plain w.utf8 (plain_utf8 plain h');
-    }
-
-pub plain_before_word : (plain word : List ℕ) → list_all is_plain_byte plain ≡ true
-    → IsTrue (is_word word)
-    → length plain + length word ≤ 4096 → IsTrue (is_word (plain ++ word))
-plain_before_word plain word h h' fits =
-    let w = word_facts word h' in
-    is_word-from_facts (plain ++ word) record {
-      some_byte = omega (arith, w.some_byte, length-append plain word);
-      at_most = omega (arith, length-append plain word);
-      word_bytes = word_bytes-append plain word (plain_word_bytes plain h) w.word_bytes;
-      utf8 = IsUtf8-append plain word (plain_utf8 plain h) w.utf8;
     }

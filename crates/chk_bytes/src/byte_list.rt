@@ -28,6 +28,14 @@ impl Bytes {
         }
     }
 
+    /// The empty list, with room for so many bytes, taken at once.
+    pub fn with_capacity(alloc: Global, capacity: usize) -> Result<Bytes, NoMemory>
+        ensures { IfOk result (λ b. b ≡ []) }
+    {
+        let items = Vec::with_capacity(alloc, capacity)?;
+        Ok(Bytes { items })
+    }
+
     /// Appends all of `more`, or without memory nothing. One append costs its own length, over
     /// many appends.
     pub fn push_all(&mut self, more: &[u8]) -> Result<(), NoMemory>

@@ -1,6 +1,6 @@
 -- Lists that grew at their ends.
 use Rattle.std.proofs.Common.{◌≡◌, ℕ, ◌+◌, List, ◌++◌, length, take, refl, sym, ap, ◌∙◌, append_assoc, arith, length-append}
-use Rattle.std.proofs.lemmas.List.{take_at, take-take}
+use Rattle.std.proofs.lemmas.List.{take_at, take-take, take_all}
 
 -- one part after another
 pub two_parts : (old a b mid new : List ℕ) → mid ≡ old ++ a → new ≡ mid ++ b → new ≡ old ++ (a ++ b)
@@ -23,3 +23,7 @@ kept_below old a mid new p q =
     let longer : length mid ≡ length old + length a = ap length p ∙ length-append old a in
     sym (take-take (length old) (length mid) new (omega arith))
     ∙ (ap (take (length old)) q ∙ (ap (take (length old)) p ∙ take_at old a (length old) refl))
+
+-- what didn't change still stands
+pub unchanged : (old new : List ℕ) → new ≡ old → take (length old) new ≡ old
+unchanged old new same = ap (take (length old)) same ∙ take_all (length old) old (omega arith)

@@ -72,6 +72,3 @@ text_sizes k words =
       name = word_fits k.stream.name facts.name;
       cluster = word_fits k.cluster a.1;
     }
-
-pub key_has_words : (k : Key) → IsTrue (is_key k) → IsTrue (has_words k)
-key_has_words k valid = let facts = key_facts k valid in and_from _ _ facts.stream facts.cluster

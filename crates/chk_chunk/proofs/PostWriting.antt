@@ -1,8 +1,8 @@
 -- Posts as they are written.
-use Rattle.std.proofs.Common.{subst, ◌≡◌, ℕ, zero, suc, ◌+◌, ◌<◌, ◌≤◌, List, [], ◌∷◌, ◌++◌, length, take, get_or, refl, sym, ap, ap₂, ◌∙◌, arith, append_assoc}
+use Rattle.std.proofs.Common.{subst, ◌≡◌, ℕ, zero, suc, ◌+◌, ◌<◌, ◌≤◌, List, [], ◌∷◌, ◌++◌, length, take, get_or, refl, sym, ap, ◌∙◌, arith, append_assoc}
 use Rattle.std.specs.Prelude.{IsTrue}
 use Rattle.std.proofs.lemmas.Bool.{and_parts}
-use Rattle.std.proofs.lemmas.List.{append-nil, length-append, length-map, map_more, take_all}
+use Rattle.std.proofs.lemmas.List.{append-nil, length-append, length-map, map_more}
 use Rattle.chk_bytes.specs.Numbers.{be32, with_length}
 use Rattle.chk_chunk.specs.Keys.{Chunk, is_key, is_chunk, has_value, chunk_limit, written_key}
 use Rattle.chk_chunk.specs.Posts.{IsPost, ArePostParts, AreChunks, post_limit, most_chunks, written_part, written_parts, written_post}
@@ -99,12 +99,6 @@ pub post_more : (chunks : List OwnedChunk) (i : ℕ) (c : OwnedChunk) (head post
 post_more chunks i c head post new within is so_far more =
     two_parts head (written_parts (chunks_of (take i chunks))) (written_part (chunk_of c)) post new so_far more
     ∙ ap (λ t. head ++ t) (sym (written_parts_more chunks i c within is))
-
-pub whole_post : (chunks : List OwnedChunk) (i : ℕ) (post : List ℕ) → length chunks ≤ i
-    → post ≡ be32 (length chunks) ++ written_parts (chunks_of (take i chunks)) → post ≡ written_post (chunks_of chunks)
-whole_post chunks i post last is =
-    is
-    ∙ ap₂ (λ n cs. be32 n ++ written_parts (chunks_of cs)) (sym (length-map chunks chunk_of)) (take_all i chunks last)
 
 pub post_of_valid : (chunks : List OwnedChunk) → 0 < length chunks → length chunks ≤ most_chunks → AreValid chunks
     → length (written_post (chunks_of chunks)) ≤ post_limit → IsPost (chunks_of chunks) (written_post (chunks_of chunks))

@@ -21,7 +21,16 @@ pub use keys::{read_key, write_key};
 pub use laws::{
     key_grammar, key_is_read, one_reading, post_grammar, prefix_free, written_is_in_grammar,
 };
-pub use posts::{PostRef, chunk_size, post_size, read_post, write_post};
+pub use posts::{PostRef, chunk_size, post_size, put_post, read_post, write_post};
+
+/// The most bytes of a chunk's data.
+pub const CHUNK_BYTES: u64 = 131_072;
+
+/// The most chunks of a post.
+pub const POST_CHUNKS: u32 = 1000;
+
+/// The most bytes of a post.
+pub const POST_BYTES: u64 = 4_194_304;
 
 /// A chunk that borrows its texts and its data.
 #[derive(Clone, Copy, Debug, PartialEq, Eq)]

@@ -1,7 +1,7 @@
 //! Posts.
 
 ghost use Rattle.std.specs.Prelude.{◌≡◌, ◌≢◌, ◌<◌, ◌≤◌, ◌^◌, ◌+◌, ◌∷◌, ◌++◌, [], List, length};
-ghost use Rattle.std.specs.Prelude.{IsTrue, IfOk, IfErr, OnOk, IsOkAnd, IfSome, IfNone};
+ghost use Rattle.std.specs.Prelude.{IsTrue, IfOk, IfErr, OnOk, OnErr, IsOkAnd, IfSome, IfNone, take};
 ghost use Rattle.std.specs.Prelude.{MatchOption, Some, None};
 ghost use Rattle.chk_bytes.specs.Numbers.{spelled_at};
 ghost use Rattle.chk_chunk.specs.Keys.{Chunk as ChunkSpec, is_chunk, is_key};
@@ -14,7 +14,7 @@ ghost use Rattle.chk_chunk.specs.Lent.{lent_key, lent_chunk, chunk_of, chunks_of
 
 use crate::fields::{end_at, u32_at};
 use crate::keys::{key_at, key_size, write_key};
-use crate::{Chunk, ChunkFault, ChunkRef, KeyRef};
+use crate::{CHUNK_BYTES, Chunk, ChunkFault, ChunkRef, KeyRef, POST_BYTES, POST_CHUNKS};
 use chk_bytes::{Bytes, NoMemory, put_u32};
 use std::alloc::Global;
 use std::marker::Model;
@@ -94,17 +94,18 @@ fn check_post(body: &[u8]) -> Result<u32, ChunkFault>
     ensures fine { IfOk result (λ _. post_fault body.now ≡ None) }
     ensures count { IfOk result (λ count. count ≡ spelled_at 0 4 body.now) }
 {
-    if body.len() > 4_194_304 {
+    let len = body.len() as u64;
+    if len > POST_BYTES {
         return Err(ChunkFault::TooLong {
-            limit: 4_194_304,
-            found: body.len() as u64,
+            limit: POST_BYTES,
+            found: len,
         });
     }
     let count = u32_at(body, 0)?;
     if count == 0 {
         return Err(ChunkFault::Empty { at: 0 });
     }
-    if count > 1000 {
+    if count > POST_CHUNKS {
         return Err(ChunkFault::TooMany { count });
     }
     check_chunks(body, count)?;
@@ -178,9 +179,9 @@ fn value_field_at<'a>(
         return Err(ChunkFault::Empty { at: at as u64 });
     }
     let len = u64::from(size);
-    if len > 131_072 {
+    if len > CHUNK_BYTES {
         return Err(ChunkFault::TooLong {
-            limit: 131_072,
+            limit: CHUNK_BYTES,
             found: len,
         });
     }
@@ -216,7 +217,7 @@ pub fn chunk_size(chunk: &Chunk) -> u64
     8 + key_size(&chunk.lend()) + chunk.body.len() as u64
 }
 
-/// The post of these chunks.
+/// The post of these chunks. Its memory is taken at once.
 pub fn write_post(alloc: Global, chunks: &[Chunk]) -> Result<Bytes, NoMemory>
     requires some { 0 < length chunks.now }
     requires few { length chunks.now ≤ most_chunks }
@@ -225,17 +226,44 @@ pub fn write_post(alloc: Global, chunks: &[Chunk]) -> Result<Bytes, NoMemory>
     ensures bytes { IfOk result (λ post. post ≡ written_post (chunks_of chunks.now)) }
     ensures post { IfOk result (λ post. IsPost (chunks_of chunks.now) post) }
 {
-    let mut post = Bytes::new(alloc);
-    put_u32(&mut post, chunks.len() as u32)?;
-    for chunk in chunks {
-        push_chunk(&mut post, chunk)?;
-    }
+    let mut post = Bytes::with_capacity(alloc, post_size(chunks) as usize)?;
+    put_post(&mut post, chunks)?;
     Ok(post)
+}
+
+/// Appends the post of these chunks, or without memory nothing. Each byte of a chunk is copied
+/// once where `out` has room for `post_size` more.
+pub fn put_post(out: &mut Bytes, chunks: &[Chunk]) -> Result<(), NoMemory>
+    requires few { length chunks.now ≤ most_chunks }
+    requires valid { AreValid chunks.now }
+    ensures ok { OnOk result (out.new ≡ out.old ++ written_post (chunks_of chunks.now)) }
+    ensures err { OnErr result (out.new ≡ out.old) }
+{
+    let before = out.len();
+    let put = push_post(out, chunks);
+    if put.is_err() {
+        out.truncate(before);
+    }
+    put
+}
+
+fn push_post(out: &mut Bytes, chunks: &[Chunk]) -> Result<(), NoMemory>
+    requires few { length chunks.now ≤ most_chunks }
+    requires valid { AreValid chunks.now }
+    ensures ok { OnOk result (out.new ≡ out.old ++ written_post (chunks_of chunks.now)) }
+    ensures err { OnErr result (take (length out.old) out.new ≡ out.old) }
+{
+    put_u32(out, chunks.len() as u32)?;
+    for chunk in chunks {
+        push_chunk(out, chunk)?;
+    }
+    Ok(())
 }
 
 fn push_chunk(out: &mut Bytes, chunk: &Chunk) -> Result<(), NoMemory>
     requires { IsTrue (is_chunk (chunk_of chunk.now)) }
-    ensures { OnOk result (out.new ≡ out.old ++ written_part (chunk_of chunk.now)) }
+    ensures ok { OnOk result (out.new ≡ out.old ++ written_part (chunk_of chunk.now)) }
+    ensures err { OnErr result (take (length out.old) out.new ≡ out.old) }
 {
     let lent = chunk.lend();
     put_u32(out, key_size(&lent) as u32)?;

@@ -134,9 +134,6 @@ pub record IsReadTo (count : ℕ) (body rest : List ℕ) (left : ℕ) : Type 0 w
   pub up : (acks : List Ack) → IsLines left acks rest → (all : List Ack) × IsLines count all body
   pub down : (all : List Ack) → IsLines count all body → (acks : List Ack) × IsLines left acks rest
 
-pub read_none : (count : ℕ) (body : List ℕ) → IsReadTo count body body count
-read_none count body = record { up = λ acks lines. (acks, lines); down = λ all lines. (all, lines) }
-
 pub read_more : (count : ℕ) (body rest : List ℕ) (n : ℕ) (line : Line) → BeginsWithLine rest line
     → IsReadTo count body rest (n + 1)
     → IsReadTo count body line.behind.now n
@@ -155,15 +152,6 @@ read_refused count body rest n none so_far all lines = let d = so_far.down all l
 pub read_all : (count : ℕ) (body rest : List ℕ) → rest ≡ [] → IsReadTo count body rest 0 → (all : List Ack)
     × IsLines count all body
 read_all count body rest empty so_far = so_far.up [] record { many = refl; are = refl; is = empty }
-
-pub read_all_refused : (count : ℕ) (body rest : List ℕ) → IsReadTo count body rest 0 → (all : List Ack)
-    → IsLines count all body → rest ≡ []
-read_all_refused count body rest so_far all lines =
-    let d = so_far.down all lines in nothing d.0 d.1
-  where
-    nothing : (acks : List Ack) → IsLines 0 acks rest → rest ≡ []
-    nothing [] lines = lines.is
-    nothing (a ∷ acks) lines = absurd (let many = lines.many in omega arith)
 
 -- ---- why no line stands in front
 

@@ -169,9 +169,6 @@ pub record IsLooked (text rest : List ℕ) (most : ℕ) : Type 0 where
   pub up : (stems : List Stem) → AreUpTo most stems rest → (all : List Stem) × AreUpTo 64 all text
   pub down : (all : List Stem) → AreUpTo 64 all text → (stems : List Stem) × AreUpTo most stems rest
 
-pub looked_none : (text : List ℕ) → IsLooked text text 64
-looked_none text = record { up = λ stems are. (stems, are); down = λ all are. (all, are) }
-
 pub looked_more : (text rest part behind : List ℕ) (n : ℕ) (x : Stem) → read_stem part ≡ Some x
     → SplitsAt 38 rest part behind
     → IsLooked text rest (n + 1) → IsLooked text behind n
@@ -216,13 +213,6 @@ looked_last_refused text rest n lacking looked all are =
     let d = looked.down all are in last_down n d.0 rest lacking d.1
 
 -- nothing is left of the 64
-pub looked_all : (text rest : List ℕ) → IsLooked text rest 0 → (all : List Stem) → AreUpTo 64 all text → ⊥
-looked_all text rest looked all are =
-    let d = looked.down all are in
-    let some = d.1.some in
-    let few = d.1.few in
-    omega arith
-
 -- ---- whether there is a stem
 
 pub none_there : (o : Option Stem) (b : Bool) → is_some o ≡ not b → b ≡ true → o ≡ None

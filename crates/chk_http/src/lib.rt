@@ -16,8 +16,8 @@ pub use fault::HttpFault;
 pub use line_list::LineList;
 pub use reply::{ReplyRef, read_reply};
 pub use request::{RequestRef, read_request};
-pub use stem_list::StemList;
-pub use writer::{write_acks_request, write_post_request, write_reply};
+pub use stem_list::{MOST_STEMS, StemList};
+pub use writer::{write_acks_request, write_post_head, write_post_request, write_reply};
 
 #[cfg(test)]
 mod tests;

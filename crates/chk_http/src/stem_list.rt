@@ -9,7 +9,7 @@ use chk_bytes::Stem;
 use std::marker::Model;
 
 /// The most stems of a query.
-const MOST_STEMS: usize = 64;
+pub const MOST_STEMS: usize = 64;
 
 /// The stems that a query still holds, in order, borrowed from it. A stem may come twice.
 #[derive(Debug, Drop)]

@@ -1,6 +1,6 @@
 //! Requests and replies, written.
 
-ghost use Rattle.std.specs.Prelude.{◌≡◌, ◌≤◌, ◌<◌, ◌++◌, ◌∷◌, [], IsTrue, IfOk, OnOk, length};
+ghost use Rattle.std.specs.Prelude.{List, ℕ, ◌≡◌, ◌≤◌, ◌<◌, ◌++◌, ◌∷◌, [], IsTrue, IfOk, OnOk, length};
 ghost use Rattle.std.specs.Prelude.{codes, decimal};
 ghost use Rattle.std.specs.List.{list_all};
 ghost use Rattle.http.specs.StatusCode.{code_digits};
@@ -16,6 +16,9 @@ use chk_bytes::{Bytes, NoMemory, Stem, put_decimal};
 use http::StatusCode;
 use std::alloc::Global;
 
+/// The most bytes of a post's head beside the address.
+const HEAD_BYTES: usize = 130;
+
 /// A request to post `body` to the collector at `address`, which is a word.
 pub fn write_post_request(alloc: Global, address: &str, body: &[u8]) -> Result<Bytes, NoMemory>
     requires word { IsTrue (is_word address.now) }
@@ -23,13 +26,27 @@ pub fn write_post_request(alloc: Global, address: &str, body: &[u8]) -> Result<B
     ensures accepted { IfOk result (λ bytes. length body.now ≤ post_limit
         → PostRequest body.now bytes) }
 {
-    let mut out = Bytes::new(alloc);
+    let mut out = write_post_head(alloc, address, body.len())?;
+    out.push_all(body)?;
+    Ok(out)
+}
+
+/// The head of a request to post a body of so many bytes to the collector at `address`, which is a
+/// word. The body is to be appended: its memory is taken with the head's, so it is copied once.
+pub fn write_post_head(alloc: Global, address: &str, size: usize) -> Result<Bytes, NoMemory>
+    requires word { IsTrue (is_word address.now) }
+    ensures written { IfOk result (λ head. (body : List ℕ) → length body ≡ size
+        → head ++ body ≡ written_post_request address.now body) }
+    ensures accepted { IfOk result (λ head. (body : List ℕ) → length body ≡ size
+        → size ≤ post_limit → PostRequest body (head ++ body)) }
+{
+    let head = address.len().saturating_add(HEAD_BYTES);
+    let mut out = Bytes::with_capacity(alloc, head.saturating_add(size))?;
     out.push_all(b"POST /chukwa HTTP/1.1\r\n")?;
     put_line(&mut out, b"Host: ", address.as_bytes())?;
     out.push_all(b"Content-Type: application/octet-stream\r\n")?;
-    put_length(&mut out, body.len())?;
+    put_length(&mut out, size)?;
     out.push_all(b"Connection: close\r\n\r\n")?;
-    out.push_all(body)?;
     Ok(out)
 }
 

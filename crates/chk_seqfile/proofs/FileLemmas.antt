@@ -106,11 +106,6 @@ records_at-piece marker place last_sync key value wide small =
 -- ---- whole files
 
 -- a header and entries are a file
-abbrev pub IsSequenceFile-from : (marker head entries : List ℕ) → IsHeader marker head
-    → Entries marker entries → IsSequenceFile (head ++ entries)
-IsSequenceFile-from marker head entries h form =
-    record { marker = marker; head = head; entries = entries; is = refl; header = h; form = form }
-
 -- a file with more entries is one
 abbrev pub IsSequenceFile-append : (bytes more : List ℕ) (f : IsSequenceFile bytes)
     → Entries f.marker more → IsSequenceFile (bytes ++ more)

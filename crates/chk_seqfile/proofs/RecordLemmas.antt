@@ -38,9 +38,6 @@ records_from-fuel (suc f) (suc g) marker at bytes less fewer =
     ]
 
 -- no bytes have no records
-pub records_at-nil : (marker : List ℕ) (at : ℕ) → records_at marker at [] ≡ []
-records_at-nil marker at = refl
-
 -- a sync entry has none
 pub records_at-sync : (marker : List ℕ) (at : ℕ) (bytes : List ℕ)
     → entry_at marker bytes ≡ SyncEntry
