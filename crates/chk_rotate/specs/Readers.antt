@@ -1,5 +1,6 @@
 -- A reader of a log over its generations.
-use Rattle.std.specs.Prelude.{◌≡◌, ℕ, Bool, true, List, [], ◌∷◌, ◌++◌, Option, Result, Ok, Err}
+use Rattle.std.specs.Prelude.{◌≡◌, ℕ, max, Bool, true, List, [], ◌∷◌, ◌++◌, take}
+use Rattle.std.specs.Prelude.{Option, Result, Ok, Err}
 use Rattle.chk_site.specs.declared.acts.Who.{Who}
 use Rattle.chk_site.specs.declared.acts.OutsideFault.{OutsideFault}
 use Rattle.chk_site.specs.History.{History}
@@ -55,3 +56,12 @@ pub record Stepped (who : Who) (old : Reader) (result : Result Step OutsideFault
 -- the reader goes back to an offset
 abbrev pub sent_back : ℕ → Reader → Reader
 sent_back o r = record r { marks = kept_to o r.marks; read = place_of r.marks o }
+
+-- the reader with these marks, at this offset or where the last of them begins
+abbrev pub at_least : List Spot → ℕ → Reader → Reader
+at_least marks o r =
+    record r { marks = marks; read = newest_at marks (max o (newest_at marks o).first) }
+
+-- the reader keeps the oldest marks, so many, but the first one always, and stands at this offset
+abbrev pub rewound : ℕ → ℕ → Reader → Reader
+rewound count o r = at_least (take (max count 1) r.marks) o r

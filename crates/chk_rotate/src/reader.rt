@@ -1,13 +1,14 @@
 // A reader of a log over its generations.
-ghost use Rattle.std.specs.Prelude.{◌≡◌, ◌↔◌, ◌+◌, ◌^◌, ◌<◌, ◌≤◌, IfOk, OnOk, OnErr, IsTrue, Ok};
+ghost use Rattle.std.specs.Prelude.{◌≡◌, ◌↔◌, ◌+◌, ◌^◌, ◌<◌, ◌≤◌, IfOk, OnOk, OnErr, IsTrue};
 ghost use Rattle.std.specs.Prelude.{is_some, length};
 ghost use Rattle.chk_site.specs.Site.{Adds, answered, piece_given, Calls, CauseOf};
 ghost use Rattle.chk_site.specs.Site.{LastFailed, MayBeShort, OutsideCause};
+ghost use Rattle.chk_tail.specs.Given.{IsGiven, AreGiven};
 ghost use Rattle.chk_tail.specs.Taking.{asks_at};
 ghost use Rattle.chk_tail.specs.Walks.{reading, in_file, EndsAfter};
 ghost use Rattle.chk_rotate.specs.Marks.{place_of, forgotten, BeginsBelow};
 ghost use Rattle.chk_rotate.specs.Readers.{spot_of, reader_at, IsRising, way_of};
-ghost use Rattle.chk_rotate.specs.Readers.{Stepped, sent_back};
+ghost use Rattle.chk_rotate.specs.Readers.{Stepped, sent_back, rewound};
 ghost use Rattle.chk_rotate.specs.ReaderFields.{given_of, mark_spot, past_piece, Walked};
 
 use crate::place::{Mark, Place, drop_first, known_to};
@@ -78,9 +79,10 @@ impl RotTail {
             (S.told site.old) (S.told site.new) }
         ensures last { Adds (S.told site.old) (S.told site.new) (LastFailed result) }
         ensures rises { IsRising self.new }
+        ensures given { IfOk result IsGiven }
         ensures cause { OutsideCause (S.fault_count site.old) (S.fault_count site.new) result }
     {
-        let passed = self.count();
+        let passed = self.marks();
         let result = self.walk(alloc, site, who);
         if result.is_err() {
             self.marks.truncate(passed);
@@ -97,6 +99,7 @@ impl RotTail {
     ) -> Result<Step, OutsideFault>
         ensures told { Walked who.now self.old result self.new (S.told site.old) (S.told site.new) }
         ensures offset { OnErr result (self.new.read.offset ≡ self.old.read.offset) }
+        ensures given { IfOk result IsGiven }
         ensures cause { OutsideCause (S.fault_count site.old) (S.fault_count site.new) result }
     {
         loop {
@@ -138,14 +141,6 @@ impl RotTail {
         site.log_read(alloc, who, self.path.as_str(), part, self.in_file(), max)
     }
 
-    // How many marks there are; they rise to the place read.
-    fn count(&self) -> usize
-        ensures count { result ≡ length self.now.marks }
-        ensures rises { IsRising self.now }
-    {
-        self.marks.len()
-    }
-
     // Where the generation read begins.
     fn newest(&self) -> &Mark
         ensures place { self.now.read
@@ -169,6 +164,7 @@ impl RotTail {
     fn give(&mut self, piece: Piece) -> Result<Option<Step>, NoMemory>
         requires room { length piece.bytes ≤ asks_at self.old.read.offset }
         ensures step { IfOk result (λ step. step ≡ given_of self.old piece) }
+        ensures given { IfOk result AreGiven }
         ensures ok { OnOk result (self.new ≡ past_piece piece self.old) }
         ensures err { OnErr result (self.new ≡ self.old) }
         ensures wanted { OnErr result (IsTrue (is_some piece.ended)) }
@@ -190,6 +186,22 @@ impl RotTail {
         self.offset = end;
         bytes.truncate(count);
         Ok(Some(Step::Bytes { bytes, end }))
+    }
+
+    /// How many generations it keeps: those that it passed and has not forgotten, and the one that
+    /// it reads.
+    pub fn marks(&self) -> usize
+        ensures count { result ≡ length self.now.marks }
+        ensures rises { IsRising self.now }
+    {
+        self.marks.len()
+    }
+
+    /// The offset up to which the log was read.
+    pub fn read_end(&self) -> u64
+        ensures { result ≡ self.now.read.offset }
+    {
+        self.offset
     }
 
     /// Whether the offset lies between the beginning of the oldest generation that it keeps and the
@@ -216,22 +228,34 @@ impl RotTail {
     /// Drops the generations that lie below the offset `committed`. The newest one that begins at
     /// or below it stays, and so does the last one.
     pub fn forget(&mut self, committed: u64)
-        ensures { self.new ≡ record self.old { marks = forgotten committed self.old.marks } }
+        ensures forgotten { self.new
+            ≡ record self.old { marks = forgotten committed self.old.marks } }
+        ensures rises { IsRising self.new }
     {
         let below = known_to(&self.marks, committed).saturating_sub(1);
         drop_first(&mut self.marks, below);
     }
 
+    /// Goes back to where it stood when it kept so many generations and had read up to the offset,
+    /// if it has only gone on since. Where it can't have stood so, the oldest generation stays, and
+    /// an offset below the newest one that stays counts as its beginning.
+    pub fn rewind(&mut self, marks: usize, offset: u64)
+        ensures back { self.new ≡ rewound marks offset self.old }
+        ensures rises { IsRising self.new }
+    {
+        self.marks.truncate(marks.max(1));
+        self.offset = offset.max(self.newest().first);
+    }
+
     /// Sets the place read to `place_of` that offset. It takes no memory.
-    pub fn back(&mut self, _alloc: Global, committed: u64) -> Result<(), NoMemory>
+    pub fn back(&mut self, committed: u64)
         requires from { BeginsBelow committed self.old.marks }
         requires to { committed ≤ self.old.read.offset }
-        ensures ok { result ≡ Ok tt }
         ensures back { self.new ≡ sent_back committed self.old }
+        ensures rises { IsRising self.new }
     {
         let known = known_to(&self.marks, committed);
         self.marks.truncate(known);
         self.offset = committed;
-        Ok(())
     }
 }

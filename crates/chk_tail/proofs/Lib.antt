@@ -2,5 +2,4 @@ pub mod Newlines
 pub mod Takes
 pub mod ReadTakes
 pub mod OneRead
-pub mod Shifted
 pub mod WalkLast

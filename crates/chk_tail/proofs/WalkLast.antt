@@ -44,7 +44,8 @@ pub walk_last : {way : Way} {result : Result Step OutsideFault} {next p : Spot} 
     {old new : Option History} → Walks way result next p marks old new
     → Adds old new (LastFailed result)
 walk_last {way = way} {result = result} {next = next} (decided {p = p} given told d) =
-    adds_as (LastFailed result) told (λ a h calls. decided_last way p next given result a h d calls)
+    adds_as (LastFailed result) told
+    (λ a h calls. decided_last way p next given result a h d calls)
 walk_last {result = result} (walked piece suffix ended ends none told rest) =
     adds_then (LastFailed result) told (walk_last rest) (λ a b h x y. last_of_both result b a h y)
 walk_last {result = result} (unkept piece some told is next_is) =

@@ -6,7 +6,7 @@ use Rattle.chk_site.specs.Logs.{part_of, read_from}
 use Rattle.chk_site.specs.History.{Step, History, logs_after, is_stopped}
 use Rattle.chk_site.specs.Site.{answered, Calls, piece_given}
 use Rattle.chk_tail.specs.Taking.{asks_at, TakesMost}
-use Rattle.chk_tail.specs.Walks.{Spot, Way, part, in_file, counted, reading}
+use Rattle.chk_tail.specs.Walks.{Spot, Way, part, in_file, reading}
 
 -- A read of the told history, where the site wasn't stopped: after steps of others it was of a
 -- generation, of which what a reader takes is the most, where it stood at a place at which it may
@@ -20,7 +20,7 @@ pub record ReadsMost (way : Way) (p : Spot) (piece : Piece) (added history : His
         let g = read_from (part_of (part way.rotated p.after))
         (logs_after (others ++ history) way.path) in
         MayStop way.lines g (in_file p)
-        → TakesMost way.lines piece g (in_file p) (asks_at (counted way.rotated p))
+        → TakesMost way.lines piece g (in_file p) (asks_at p.offset)
 
 -- each read of a walk that gave a piece is so
 abbrev pub EachReadTakesMost : Type 0

@@ -6,7 +6,7 @@ use Rattle.chk_site.specs.declared.acts.ActAnswer.TheVariants.{Done}
 use Rattle.chk_site.specs.Honest.{AtLogRead}
 use Rattle.chk_site.specs.Logs.{Shown}
 use Rattle.chk_site.specs.CutLaws.{MayStop}
-use Rattle.chk_tail.specs.declared.taking.TheConstants.{PIECE_BYTES, LOG_END}
+use Rattle.chk_site.specs.declared.limits.TheConstants.{PIECE_BYTES, LOG_END}
 
 -- how many bytes a read at this place asks for: none at or past the place at which each log ends
 abbrev pub asks_at : ℕ → ℕ

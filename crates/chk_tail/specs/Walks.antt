@@ -41,17 +41,11 @@ part true (Some suffix) = suffix
 abbrev pub in_file : Spot → ℕ
 in_file p = p.offset - p.first
 
--- the place that counts against the end of all places: over generations the offset, in the base
--- file the place of the file
-abbrev pub counted : Bool → Spot → ℕ
-counted false p = in_file p
-counted true p = p.offset
-
--- the read of a reader at a place
+-- the read of a reader at a place; the offset counts against the end of all places
 abbrev pub reading : Way → Spot → Asked
 reading way p =
     asked way.who LogRead (way.path ∷ part way.rotated p.after ∷ []) (in_file p)
-    (asks_at (counted way.rotated p))
+    (asks_at p.offset)
 
 -- the place behind some bytes, and behind the generation that they ended, where they ended one
 abbrev pub behind : Spot → Option (List ℕ) → ℕ → Spot

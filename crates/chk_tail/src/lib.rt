@@ -6,7 +6,8 @@ mod step;
 mod tail;
 mod taking;
 
+pub use chk_site::{LOG_END, PIECE_BYTES};
 pub use laws::reader_takes_most;
 pub use step::Step;
 pub use tail::Tail;
-pub use taking::{LOG_END, PIECE_BYTES, ask, take_of};
+pub use taking::{ask, take_of};

@@ -2,13 +2,7 @@
 ghost use Rattle.std.specs.Prelude.{◌≡◌, ◌+◌, ◌≤◌, length};
 ghost use Rattle.chk_tail.specs.Taking.{asks_at, taken_of, to_last_newline};
 
-use chk_site::Piece;
-
-/// The most bytes that one step asks for and gives: 128 KiB.
-pub const PIECE_BYTES: usize = 131_072;
-
-/// The place at which each log counts as ended: 2^63 - 1.
-pub const LOG_END: u64 = (1 << 63) - 1;
+use chk_site::{LOG_END, PIECE_BYTES, Piece};
 
 /// How many bytes a step at this place asks for: `PIECE_BYTES`, or fewer up to `LOG_END`.
 pub fn ask(at: u64) -> u32

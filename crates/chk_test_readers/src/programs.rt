@@ -104,6 +104,34 @@ turn .2010-11-08
 step = end
 place 106 = 106 106 .2010-11-08
 place 105 = 105 100 -
+open base 100 100 -
+step = end
+grow on
+step = [on] 102
+back 1 = done
+step = [n] 102
+";
+
+// A reader goes back to where it stood. The oldest generation stays, and the offset doesn't fall
+// below the newest one that stays.
+const REWOUND: &str = "\
+open all 0 0 -
+grow hello|
+step = [hello|] 6
+turn .2010-11-08
+grow world|
+step = [world|] 12
+place 6 = 6 6 .2010-11-08
+rewind 1 6 = done
+place 6 = 6 0 -
+step = [world|] 12
+place 6 = 6 6 .2010-11-08
+rewind 0 3 = done
+place 3 = 3 0 -
+step = [lo|] 6
+rewind 2 2 = done
+place 2 = 2 0 -
+step = [world|] 12
 ";
 
 // The rest of a rotated generation is given without a newline, and the step passes it.
@@ -224,6 +252,9 @@ open all 9223372036854775805 9223372036854775805 -
 grow abcd
 step = [ab] 9223372036854775807
 step = end
+open base 9223372036854775805 9223372036854775805 -
+step = [ab] 9223372036854775807
+step = end
 open base 9223372036854775807 0 -
 step = shrank 9223372036854775807 4
 ";
@@ -250,6 +281,11 @@ fn a_rotation(rt: HostRuntime) -> Result<(), Fail> {
 #[test]
 fn a_start_behind_a_deleted_generation(rt: HostRuntime) -> Result<(), Fail> {
     plays(rt.alloc(), DELETED)
+}
+
+#[test]
+fn a_step_undone(rt: HostRuntime) -> Result<(), Fail> {
+    plays(rt.alloc(), REWOUND)
 }
 
 #[test]

@@ -25,16 +25,22 @@ pub fn reader_of(alloc: Global, text: &str) -> Result<Reader, Fail> {
     let (kind, place) = text.split_once(' ').ok_or("no kind")?;
     let place = place_in(alloc, place)?;
     match kind {
-        "base" => base(alloc, false, place.offset),
-        "base-lines" => base(alloc, true, place.offset),
+        "base" => base(alloc, false, &place),
+        "base-lines" => base(alloc, true, &place),
         "all" => all(alloc, false, place),
         "all-lines" => all(alloc, true, place),
         _ => Err(Fail::from("no such kind")),
     }
 }
 
-fn base(alloc: Global, lines: bool, at: u64) -> Result<Reader, Fail> {
-    Ok(Reader::Base(Tail::new(word(alloc, PATH)?, lines, at)))
+// The base file begins at `first`.
+fn base(alloc: Global, lines: bool, place: &Place) -> Result<Reader, Fail> {
+    if place.first > place.offset {
+        return Err(Fail::from("a place before its generation"));
+    }
+    let at = place.offset - place.first;
+    let reader = Tail::new(word(alloc, PATH)?, lines, place.first, at);
+    Ok(Reader::Base(reader))
 }
 
 fn all(alloc: Global, lines: bool, place: Place) -> Result<Reader, Fail> {
@@ -94,8 +100,16 @@ impl Reader {
                 if !reader.keeps(to) {
                     return Ok(String::from_str(alloc, "unknown")?);
                 }
-                reader.back(alloc, to)?;
+                reader.back(to);
             }
+        }
+        Ok(String::from_str(alloc, "done")?)
+    }
+
+    pub fn rewind(&mut self, alloc: Global, text: &str) -> Result<String, Fail> {
+        let (marks, offset) = text.split_once(' ').ok_or("no offset")?;
+        if let Reader::All(reader) = self {
+            reader.rewind(marks.parse()?, offset.parse()?);
         }
         Ok(String::from_str(alloc, "done")?)
     }

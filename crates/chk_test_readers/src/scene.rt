@@ -87,6 +87,7 @@ impl Scene {
             }
             "place" => self.reader.place_of(self.alloc, text.parse()?),
             "back" => self.reader.back(self.alloc, text.parse()?),
+            "rewind" => self.reader.rewind(self.alloc, text),
             "forget" => self.reader.forget(self.alloc, text.parse()?),
             _ => Err(Fail::from("no such verb")),
         }
