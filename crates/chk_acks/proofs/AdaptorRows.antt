@@ -14,7 +14,7 @@ use Rattle.chk_acks.specs.Sound.{AreInTurn}
 use Rattle.chk_acks.proofs.Turns.{contiguous_after, end_after}
 
 -- a filter behind another, where the second is the third on what the first keeps
-filter_swap : {X : Type 0} (p q r : X → Bool) → ((x : X) → p x ≡ true → q x ≡ r x) → (xs : List X)
+pub filter_swap : {X : Type 0} (p q r : X → Bool) → ((x : X) → p x ≡ true → q x ≡ r x) → (xs : List X)
     → filter p (filter q xs) ≡ filter r (filter p xs)
 filter_swap p q r same [] = refl
 filter_swap {X} p q r same (x ∷ xs) = by (p x) (q x) refl refl (filter_swap p q r same xs)
@@ -30,11 +30,11 @@ filter_swap {X} p q r same (x ∷ xs) = by (p x) (q x) refl refl (filter_swap p 
     by false true p_is q_is rest = rw (q_is, p_is) rest
     by false false p_is q_is rest = rw (q_is, p_is) rest
 
-filter_all : {X : Type 0} (xs : List X) → filter (λ _. true) xs ≡ xs
+pub filter_all : {X : Type 0} (xs : List X) → filter (λ _. true) xs ≡ xs
 filter_all [] = refl
 filter_all (x ∷ xs) = ap (λ ys. x ∷ ys) (filter_all xs)
 
-filter_none : {X : Type 0} (xs : List X) → filter (λ _. false) xs ≡ []
+pub filter_none : {X : Type 0} (xs : List X) → filter (λ _. false) xs ≡ []
 filter_none [] = refl
 filter_none (x ∷ xs) = filter_none xs
 

@@ -5,5 +5,6 @@ pub mod Turns
 pub mod AdaptorRows
 pub mod Sounds
 pub mod Least
+pub mod ResetLemmas
 pub mod Settled
 pub mod History

@@ -14,7 +14,7 @@ use Rattle.chk_acks.specs.Sound.{AreInTurn, BeginsUnmarked, IsSound}
 use Rattle.chk_acks.proofs.Turns.{IsLeft, contiguous_after, contiguous_unique, end_after, gap_push, left_after, turn_marked, turn_push}
 use Rattle.chk_acks.proofs.AdaptorRows.{rows_of-dropped, rows_of-kept, rows_of-marked, rows_of-past}
 
-turn_as : {from from' to to' : ℕ} {rows rows' : List Row} → from ≡ from' → rows ≡ rows' → to ≡ to'
+pub turn_as : {from from' to to' : ℕ} {rows rows' : List Row} → from ≡ from' → rows ≡ rows' → to ≡ to'
     → AreInTurn from' rows' to' → AreInTurn from rows to
 turn_as is rows_are to_is turn = rw (is, rows_are, to_is) turn
 

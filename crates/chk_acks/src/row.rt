@@ -3,6 +3,7 @@
 ghost use Rattle.std.specs.Prelude.{◌≡◌, ◌<◌, ◌≤◌, ◌^◌, All, length, map, filter, fold, min, vec_capacity};
 ghost use Rattle.std.specs.List.{reduce};
 ghost use Rattle.chk_acks.specs.Rows.{expired_adaptors, is_expired, is_of_other, is_past, is_reached, marked_at};
+ghost use Rattle.chk_acks.specs.Resets.{ends_back, expired_marked, is_gone, is_of_kept};
 ghost use Rattle.chk_acks.specs.Passes.{moved_end, places_of};
 
 use chk_bytes::Stem;
@@ -90,6 +91,46 @@ pub(crate) fn drop_rows(rows: &mut Vec<Row>, adaptor: u32)
     ensures capacity { vec_capacity rows.new ≡ vec_capacity rows.old }
 {
     rows.retain(|row| row.adaptor != adaptor);
+}
+
+// Whether the adaptor is one of the marked.
+fn is_gone(gone: &[bool], adaptor: u32) -> bool
+    ensures { result ≡ is_gone gone.now adaptor }
+{
+    gone.get(adaptor as usize).copied().unwrap_or(false)
+}
+
+// Drops the rows of the marked adaptors.
+pub(crate) fn keep_others(rows: &mut Vec<Row>, gone: &[bool])
+    ensures rows { rows.new.items ≡ filter (is_of_kept gone.now) rows.old.items }
+    ensures capacity { vec_capacity rows.new ≡ vec_capacity rows.old }
+{
+    rows.retain(|row| !is_gone(gone, row.adaptor));
+}
+
+// Sets the last ends of the marked adaptors to their committed ones.
+pub(crate) fn set_back(last: &mut [u64], committed: &[u64], gone: &[bool])
+    requires committed { length committed.now ≡ length last.old }
+    requires gone { length gone.now ≡ length last.old }
+    ensures { last.new ≡ ends_back gone.now committed.now last.old }
+{
+    for (adaptor, is_gone) in gone.iter().enumerate() {
+        if *is_gone {
+            last[adaptor] = committed[adaptor];
+        }
+    }
+}
+
+// Marks the adaptor of each expired row.
+pub(crate) fn mark_expired(rows: &[Row], now: u64, age: u64, gone: &mut [bool])
+    requires { All (λ r. r.adaptor < length gone.old) rows.now }
+    ensures { gone.new ≡ fold (expired_marked now age) gone.old rows.now }
+{
+    for row in rows {
+        if row.is_expired(now, age) {
+            gone[row.adaptor as usize] = true;
+        }
+    }
 }
 
 // Lists the places of the unmarked rows.

@@ -1,12 +1,16 @@
 //! The table of answers.
 
-ghost use Rattle.std.specs.Prelude.{◌≡◌, ◌⊎◌, ◌↔◌, ◌+◌, ◌<◌, ◌≤◌, ℕ, [], All, Contains, IfOk, IfSome, IsNone, length, slice_index};
+ghost use Rattle.std.specs.Prelude.{◌≡◌, ◌⊎◌, ◌↔◌, ◌+◌, ◌<◌, ◌≤◌, ℕ, [], All, Contains, IfOk, IfSome, IsNone, fold, length, slice_index};
 ghost use Rattle.chk_acks.specs.Contiguous.{IsContiguousEnd};
 ghost use Rattle.chk_acks.specs.Rows.{IsReached, expired_adaptors, rows_of, waiting_after};
 ghost use Rattle.chk_acks.specs.Table.{IsKnown, IsSettled, Sees, added, answer_row, begun, empty_table};
+ghost use Rattle.chk_acks.specs.Resets.{expired_marked, without_rows};
 ghost use Rattle.chk_acks.specs.Sound.{IsSound};
 
-use crate::row::{Row, advance, drop_rows, keep_past, least_expired, list_unmarked, mark};
+use crate::row::{
+    Row, advance, drop_rows, keep_others, keep_past, least_expired, list_unmarked, mark,
+    mark_expired, set_back,
+};
 use chk_bytes::{NoMemory, Stem};
 use std::alloc::Global;
 use std::marker::Model;
@@ -66,6 +70,25 @@ impl Acks {
         list_unmarked(&mut self.unmarked, &self.rows);
         self.committed[adaptor as usize] = at;
         self.last[adaptor as usize] = at;
+    }
+
+    /// Drops the rows of each marked adaptor and sets its last end to its committed one, as `begin`
+    /// at that end would for each in turn. It takes time linear in the rows in use and the
+    /// adaptors.
+    pub fn reset(&mut self, gone: &[bool])
+        requires { length gone.now ≡ length self.old.committed }
+        ensures { self.new ≡ without_rows gone.now self.old }
+    {
+        keep_others(&mut self.rows, gone);
+        list_unmarked(&mut self.unmarked, &self.rows);
+        set_back(&mut self.last, &self.committed, gone);
+    }
+
+    /// How many adaptors there are.
+    pub fn adaptors(&self) -> u32
+        ensures { result ≡ length self.now.committed }
+    {
+        self.committed.len() as u32
     }
 
     /// How many more rows there is room for.
@@ -158,6 +181,15 @@ impl Acks {
         least_expired(&self.rows, now, age)
     }
 
+    /// Marks each adaptor with a row that is expired as `expired` says. It takes time linear in the
+    /// rows in use.
+    pub fn expired_all(&self, now: u64, age: u64, gone: &mut [bool])
+        requires { length gone.old ≡ length self.now.committed }
+        ensures { gone.new ≡ fold (expired_marked now age) gone.old self.now.rows }
+    {
+        mark_expired(&self.rows, now, age, gone);
+    }
+
     /// The sink and the offset of the unmarked row after so many unmarked ones, in order of
     /// answers. It takes constant time.
     pub fn waiting(&self, skip: u32) -> Option<(Stem, u64)>
@@ -234,6 +266,26 @@ mod tests {
         assert!(rt; acks.waiting(2).is_none());
         assert_eq!(rt; acks.last_end(0), 12);
         assert_eq!(rt; acks.committed_end(1), 6);
+        Ok(())
+    }
+
+    #[test]
+    fn expired_go_back(rt: HostRuntime) -> Result<(), Fail> {
+        let one = sink("c1")?;
+        let mut acks = Acks::new(rt.alloc(), 4, 3)?;
+        assert_eq!(rt; acks.adaptors(), 3);
+        acks.answered(2, 0, 6, one, 144, 0);
+        acks.answered(0, 0, 6, one, 192, 1);
+        acks.answered(2, 6, 12, sink("c2")?, 144, 7);
+        acks.seen(one, 144);
+        let mut gone = [false, false, false];
+        acks.expired_all(10, 3, &mut gone);
+        assert!(rt; gone == [true, false, true]);
+        acks.reset(&gone);
+        assert_eq!(rt; acks.free(), 4);
+        assert_eq!(rt; acks.last_end(0), 0);
+        assert_eq!(rt; acks.last_end(2), 6);
+        assert_eq!(rt; acks.committed_end(2), 6);
         Ok(())
     }
 }

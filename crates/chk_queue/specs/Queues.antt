@@ -1,5 +1,5 @@
 -- A queue of chunks: a list with a limit.
-use Rattle.std.specs.Prelude.{◌≡◌, ℕ, ◌+◌, ◌≤◌, ◌<◌, Bool, ◌&&◌, not, List, length, take, filter, sum_by, bytes_eq}
+use Rattle.std.specs.Prelude.{◌≡◌, ℕ, ◌+◌, ◌≤◌, ◌<◌, Bool, List, [], ◌∷◌, length, take, sum_by, if◌then◌else◌}
 use Rattle.chk_chunk.specs.Lent.{chunks_of}
 use Rattle.chk_chunk.specs.Posts.{written_post}
 use Rattle.chk_chunk.specs.declared.Chunk.{Chunk}
@@ -17,13 +17,11 @@ data_size chunks = sum_by (λ c. length c.body) chunks
 abbrev pub HasRoom : Waiting → ℕ → Type 0
 HasRoom q need = data_size q.chunks + need ≤ q.limit
 
--- the chunk is of a stream with this type and name
-abbrev pub is_of_stream : List ℕ → List ℕ → Chunk → Bool
-is_of_stream kind name c = bytes_eq c.kind kind && bytes_eq c.name name
-
--- the chunks of all other streams
-abbrev pub without_stream : List ℕ → List ℕ → List Chunk → List Chunk
-without_stream kind name chunks = filter (λ c. not (is_of_stream kind name c)) chunks
+-- the chunks whose places are marked
+abbrev pub marked : List Bool → List Chunk → List Chunk
+marked [] chunks = []
+marked (kept ∷ marks) [] = []
+marked (kept ∷ marks) (c ∷ chunks) = if kept then c ∷ marked marks chunks else marked marks chunks
 
 -- the longest front with at most so many chunks, whose post has at most so many bytes
 pub record IsLongestFront (chunks front : List Chunk) (most bytes : ℕ) : Type 0 where

@@ -4,7 +4,7 @@
 ghost use Rattle.std.specs.Prelude.{◌≡◌, ◌+◌, ◌^◌, ◌<◌, ◌≤◌, ◌↔◌, [], ◌∷◌, ◌++◌, length, take, drop};
 ghost use Rattle.std.specs.Prelude.{IsTrue, IfErr, OnOk, OnErr};
 ghost use Rattle.std.specs.List.{AllWithin};
-ghost use Rattle.chk_queue.specs.Queues.{data_size, HasRoom, is_of_stream, without_stream};
+ghost use Rattle.chk_queue.specs.Queues.{data_size, HasRoom, marked};
 ghost use Rattle.chk_queue.specs.Queues.{IsLongestFront};
 ghost use Rattle.chk_queue.specs.Refusals.{IsRefusal};
 
@@ -132,14 +132,15 @@ impl Queue {
         self.first = tidy(&mut self.chunks, end);
     }
 
-    /// Drops all chunks of the streams with this type and name, of any source. Its cost is that of
-    /// the queue's length.
-    pub fn drop_stream(&mut self, kind: &str, name: &str)
-        ensures { self.new ≡ record self.old { chunks = without_stream kind.now name.now self.old.chunks } }
+    /// Keeps just the chunks whose places are marked, in order. Its cost is that of the queue's
+    /// length.
+    pub fn keep(&mut self, kept: &[bool])
+        requires { length kept.now ≡ length self.old.chunks }
+        ensures { self.new ≡ record self.old { chunks = marked kept.now self.old.chunks } }
     {
         drop_first(&mut self.chunks, self.first);
         self.first = 0;
-        keep_others(&mut self.chunks, kind, name);
+        keep_marked(&mut self.chunks, kept);
         self.used = data_size(&self.chunks);
     }
 }
@@ -208,17 +209,19 @@ fn drop_first(chunks: &mut Vec<Chunk>, count: usize)
     chunks.truncate(chunks.len() - count);
 }
 
-// Takes the chunks of the streams with this type and name out.
-fn keep_others(chunks: &mut Vec<Chunk>, kind: &str, name: &str)
-    ensures { chunks.new.items ≡ without_stream kind.now name.now chunks.old.items }
+// Takes the chunks out whose places aren't marked.
+fn keep_marked(chunks: &mut Vec<Chunk>, kept: &[bool])
+    requires { length kept.now ≡ length chunks.old.items }
+    ensures { chunks.new.items ≡ marked kept.now chunks.old.items }
 {
-    chunks.retain(|chunk| !is_of_stream(chunk, kind, name));
-}
-
-fn is_of_stream(chunk: &Chunk, kind: &str, name: &str) -> bool
-    ensures { result ≡ is_of_stream kind.now name.now chunk.now }
-{
-    chunk.kind.as_str() == kind && chunk.name.as_str() == name
+    let mut count = 0;
+    for (place, keep) in kept.iter().enumerate() {
+        if *keep {
+            chunks.swap(count, place);
+            count += 1;
+        }
+    }
+    chunks.truncate(count);
 }
 
 #[cfg(test)]
@@ -282,21 +285,20 @@ mod tests {
         let alloc = rt.alloc();
         let mut queue = Queue::new(alloc, 100);
         for seq in 1..10 {
-            let kind = if seq % 2 == 0 { b"Log" } else { b"Sys" };
-            queue.put(sample(alloc, kind, seq, b"ab")?)?;
+            queue.put(sample(alloc, b"Log", seq, b"ab")?)?;
         }
         assert!(rt; queue.len() == 9 && queue.used() == 18);
         queue.drop_front(2);
         let front = queue.front(1, 1000);
         assert!(rt; front.len() == 1);
         assert!(rt; front[0].seq == 3 && queue.used() == 14);
-        queue.drop_stream("Sys", "/a.log");
+        queue.keep(&[false, true, false, true, false, true, false]);
         assert!(rt; queue.len() == 3 && queue.used() == 6);
         queue.drop_front(2);
         let front = queue.front(9, 1000);
         assert!(rt; front.len() == 1);
         assert!(rt; front[0].seq == 8 && queue.used() == 2);
-        queue.drop_stream("Log", "/b.log");
+        queue.keep(&[true]);
         assert!(rt; queue.len() == 1);
         Ok(())
     }

@@ -61,6 +61,7 @@ invariant_of-self c =
           ∙ sym (ap (places_of 0) (rows c) ∙ places_of-push 0 c.self.inside.rows.items (row c));
       rows_fit = omega (arith, c.push-2.ensures.capacity);
       places_fit = omega (arith, c.push.ensures.capacity);
+      numbered = c.self.invariant.numbered;
     }
 
 pub returns-clause-table : goal.returns-clause-table

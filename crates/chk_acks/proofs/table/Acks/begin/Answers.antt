@@ -1,4 +1,5 @@
 use Rattle.std.proofs.Common.{arith, ap, length, subst, sym, ◌<◌, ◌∙◌, ◌↔◌, slice_set}
+use Rattle.std.proofs.lemmas.List.{length-set}
 use Rattle.chk_acks.specs.declared.row.Row.{Row}
 use Rattle.chk_acks.specs.Rows.{is_of_other}
 use Rattle.chk_acks.specs.Passes.{places_of}
@@ -45,6 +46,7 @@ invariant_of-self c =
       places = c.list_unmarked.ensures.places ∙ ap (places_of 0) c.deref.ensures.value;
       rows_fit = omega (arith, c.drop_rows.ensures.capacity);
       places_fit = omega (arith, c.list_unmarked.ensures.capacity);
+      numbered = omega (arith, c.self.invariant.numbered, length-set c.self.inside.committed.items c.args.adaptor c.args.at);
     }
 
 pub returns-clause-table : goal.returns-clause-table

@@ -107,6 +107,7 @@ invariant_of-self c = record {
   places = c.list_unmarked.ensures.places ∙ ap (places_of 0) c.deref-3.ensures.value;
   rows_fit = omega (arith, c.keep_past.ensures.capacity);
   places_fit = omega (arith, c.list_unmarked.ensures.capacity);
+  numbered = omega (arith, c.self.invariant.numbered, (sees c).committed.as_many);
 }
 
 pub returns-clause-table : goal.returns-clause-table
