@@ -19,8 +19,8 @@ use std::rt::Files;
 pub struct Host<R: Files> {
     pub rt: R,
     writing: Option<Kept<R>>,
-    reading: Option<Kept<R>>,
-    buffer: Vec<u8>,
+    pub reading: Option<Kept<R>>,
+    pub buffer: Vec<u8>,
 }
 
 impl<R: Files> Host<R> {
@@ -141,7 +141,8 @@ impl<R: Files> Host<R> {
         }
     }
 
-    /// None where there is no such file. A file that was read to its end is let go.
+    /// None where there is no such file. A read from the front opens the file anew, and one that was
+    /// read to its end is let go.
     pub fn read_found(
         &mut self,
         alloc: Global,
@@ -152,7 +153,31 @@ impl<R: Files> Host<R> {
         ensures most { IfOk result (λ found. IfSome found (λ bytes. length bytes ≤ max)) }
         ensures only { MayBeShort (answer_of result) }
     {
-        let Some(mut reader) = self.reader(alloc, name, at)? else {
+        if at == 0 {
+            self.stop_reading();
+        }
+        let Some(bytes) = self.read_on(alloc, name, at, max)? else {
+            return Ok(None);
+        };
+        if bytes.len() < max as usize {
+            self.stop_reading();
+        }
+        Ok(Some(bytes))
+    }
+
+    /// Reads the file of this name that is kept open, or else opens it, and keeps it open. None where
+    /// there is no such file.
+    pub fn read_on(
+        &mut self,
+        alloc: Global,
+        name: &str,
+        at: u64,
+        max: u32,
+    ) -> Result<Option<Bytes>, SystemFault>
+        ensures most { IfOk result (λ found. IfSome found (λ bytes. length bytes ≤ max)) }
+        ensures only { MayBeShort (answer_of result) }
+    {
+        let Some(mut reader) = self.reader(alloc, name)? else {
             return Ok(None);
         };
         reader.go_to(at)?;
@@ -160,10 +185,16 @@ impl<R: Files> Host<R> {
         if bytes.len() == 0 {
             reader.reaches(at)?;
         }
-        if bytes.len() == max as usize {
-            self.reading = Some(reader);
-        }
+        self.reading = Some(reader);
         Ok(Some(bytes))
+    }
+
+    /// The file that is kept open to be read is the one that has this name now.
+    pub fn is_reading(&self, name: &str) -> bool {
+        match &self.reading {
+            Some(kept) => kept.name.as_str() == name && kept.has_its_name(&self.rt),
+            None => false,
+        }
     }
 
     // The file to append to, taken from what is kept.
@@ -180,13 +211,12 @@ impl<R: Files> Host<R> {
         Ok(Kept::new(kept_name, file))
     }
 
-    // The file to read, taken from what is kept; none where there is no such file. A read from the
-    // front opens the file anew, since another may have taken its name.
-    fn reader(&mut self, alloc: Global, name: &str, at: u64) -> Result<Option<Kept<R>>, SystemFault>
+    // The file to read, taken from what is kept; none where there is no such file.
+    fn reader(&mut self, alloc: Global, name: &str) -> Result<Option<Kept<R>>, SystemFault>
         ensures { MayFail (answer_of result) }
     {
         if let Some(kept) = self.reading.take() {
-            if at > 0 && kept.name.as_str() == name {
+            if kept.name.as_str() == name {
                 return Ok(Some(kept));
             }
         }

@@ -6,8 +6,10 @@ ghost use Rattle.chk_sockets.specs.Faults.{answer_of};
 use chk_bytes::Bytes;
 use chk_sockets::{SystemFault, make_room};
 use std::alloc::Global;
+use std::fs;
 use std::fs::OpenFile;
 use std::io::{Read, Seek, SeekFrom};
+use std::os::unix::fs::MetadataExt;
 use std::rt::Files;
 
 #[derive(Drop)]
@@ -25,6 +27,16 @@ impl<R: Files> Kept<R> {
             file,
             place: 0,
         }
+    }
+
+    /// The file that is open is the one that has its name now. Where the runtime numbers no files
+    /// that is never known.
+    pub fn has_its_name(&self, rt: &R) -> bool {
+        let (Ok(open), Ok(named)) = (self.file.metadata(), fs::metadata(rt, self.name.as_str()))
+        else {
+            return false;
+        };
+        open.ino() > 0 && open.ino() == named.ino() && open.dev() == named.dev()
     }
 
     pub fn size(&self) -> Result<u64, SystemFault>

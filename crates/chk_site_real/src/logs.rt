@@ -7,10 +7,11 @@ ghost use Rattle.chk_sockets.specs.Faults.{answer_of, call_fault};
 
 use crate::folders::{file_size, folder_of};
 use crate::host::Host;
+use crate::kept::is_named;
 use crate::names::names_in;
 use chk_bytes::{Bytes, NoMemory, WordFault};
 use chk_site::{Part, Piece, Suffix};
-use chk_sockets::{SystemFault, text};
+use chk_sockets::{SystemFault, make_room, text};
 use std::alloc::Global;
 use std::fs::OpenOptions;
 use std::io::{ErrorKind, Write};
@@ -40,7 +41,11 @@ impl<R: Files> Host<R> {
     }
 
     /// The greatest suffix, none where there is none.
-    pub fn newest_suffix(&self, alloc: Global, path: &str) -> Result<Option<Suffix>, SystemFault>
+    pub fn newest_suffix(
+        &mut self,
+        alloc: Global,
+        path: &str,
+    ) -> Result<Option<Suffix>, SystemFault>
         ensures { MayFail (answer_of result) }
     {
         Ok(self.suffixes(alloc, path)?.pop())
@@ -69,8 +74,8 @@ impl<R: Files> Host<R> {
         }
     }
 
-    // A base file that isn't there has no byte. It is opened anew each time, since what was the base
-    // file may be a rotated generation now.
+    // A base file that isn't there has no byte. The file that is kept open is read on only where it is
+    // still the base file, since it may be a rotated generation now.
     fn read_base(
         &mut self,
         alloc: Global,
@@ -81,8 +86,10 @@ impl<R: Files> Host<R> {
         ensures most { IfOk result (λ bytes. length bytes ≤ max) }
         ensures only { MayBeShort (answer_of result) }
     {
-        self.stop_reading();
-        match self.read_found(alloc, path, at, max)? {
+        if !self.is_reading(path) {
+            self.stop_reading();
+        }
+        match self.read_on(alloc, path, at, max)? {
             Some(bytes) => Ok(bytes),
             None if at == 0 => Ok(Bytes::new(alloc)),
             None => Err(SystemFault::Short { size: 0 }),
@@ -103,6 +110,9 @@ impl<R: Files> Host<R> {
         ensures past { IfOk result (λ piece. IfSome piece.ended (λ s. IsTrue (text_lt after.now s))) }
         ensures only { MayBeShort (answer_of result) }
     {
+        if let Some(bytes) = self.read_unrotated(alloc, path, after, at, max)? {
+            return Ok(Piece { bytes, ended: None });
+        }
         let mut first = self.first_after(alloc, path, after)?;
         for _ in 0..MORE_TRIES + 1 {
             let given = self.read_generation(alloc, path, &first, at, max);
@@ -118,6 +128,31 @@ impl<R: Files> Host<R> {
             first = again;
         }
         Err(SystemFault::failed(ErrorKind::Other, "its rotated generations keep changing"))
+    }
+
+    // Reads on in the base file that is kept open, where no suffix is above `after`. A file that had
+    // the log's name when it was opened, and has it after the read, was the base file all the while,
+    // so that no generation came in between. None where that isn't so.
+    fn read_unrotated(
+        &mut self,
+        alloc: Global,
+        path: &str,
+        after: &str,
+        at: u64,
+        max: u32,
+    ) -> Result<Option<Bytes>, SystemFault>
+        ensures most { IfOk result (λ found. IfSome found (λ bytes. length bytes ≤ max)) }
+        ensures only { MayBeShort (answer_of result) }
+    {
+        if !is_named(&self.reading, path) || self.first_after(alloc, path, after)?.is_some() {
+            return Ok(None);
+        }
+        let given = self.read_on(alloc, path, at, max);
+        if self.is_reading(path) {
+            given
+        } else {
+            Ok(None)
+        }
     }
 
     fn read_generation(
@@ -152,7 +187,7 @@ impl<R: Files> Host<R> {
 
     // The least suffix above `after`, none where there is none.
     fn first_after(
-        &self,
+        &mut self,
         alloc: Global,
         path: &str,
         after: &str,
@@ -169,12 +204,13 @@ impl<R: Files> Host<R> {
     }
 
     // The suffixes of the log's rotated generations, the least first.
-    fn suffixes(&self, alloc: Global, path: &str) -> Result<Vec<Suffix>, SystemFault>
+    fn suffixes(&mut self, alloc: Global, path: &str) -> Result<Vec<Suffix>, SystemFault>
         ensures { MayFail (answer_of result) }
     {
+        make_room(&mut self.buffer)?;
         let base = base_of(path);
         let mut suffixes = Vec::new(alloc);
-        for name in names_in(&self.rt, alloc, folder_of(path), base)? {
+        for name in names_in(&self.rt, alloc, folder_of(path), base, &mut self.buffer)? {
             push_suffix(alloc, name.as_str(), base, &mut suffixes)?;
         }
         suffixes.sort_unstable_by(|a, b| a.as_str().cmp(b.as_str()));

@@ -3,51 +3,44 @@ ghost use Rattle.chk_site.specs.Site.{MayFail};
 ghost use Rattle.chk_sockets.specs.Faults.{answer_of};
 
 use chk_bytes::{NoMemory, Word, WordFault};
-use chk_sockets::SystemFault;
+use chk_sockets::{SystemFault, make_room};
 use std::alloc::Global;
 use std::io::{ErrorKind, Read};
 use std::rt::Files;
-
-/// How many bytes of names one system call gives at most.
-const FOLDER_BYTES: usize = 32_768;
 
 /// The names in this folder that are words, in byte order; none where there is no such folder.
 pub fn sorted_names<R: Files>(rt: &R, alloc: Global, folder: &str) -> Result<Vec<Word>, SystemFault>
     ensures { MayFail (answer_of result) }
 {
-    let mut names = names_in(rt, alloc, folder, "")?;
+    let mut buffer = Vec::new(alloc);
+    make_room(&mut buffer)?;
+    let mut names = names_in(rt, alloc, folder, "", &mut buffer)?;
     names.sort_unstable_by(|a, b| a.as_str().cmp(b.as_str()));
     Ok(names)
 }
 
-/// Those that begin so, in no order.
+/// Those that begin so, in no order. The system gives them through the buffer.
 pub fn names_in<R: Files>(
     rt: &R,
     alloc: Global,
     folder: &str,
     front: &str,
+    buffer: &mut [u8],
 ) -> Result<Vec<Word>, SystemFault>
     ensures { MayFail (answer_of result) }
 {
     let mut names = Vec::new(alloc);
-    let mut buffer = zeros(alloc)?;
     let Some(mut folder) = open_folder(rt, alloc, folder)? else {
         return Ok(names);
     };
     for _ in 0..u64::MAX {
-        let count = folder.read(&mut buffer)?;
+        let count = folder.read(buffer)?;
         if count == 0 {
             break;
         }
         push_names(alloc, &buffer[..count], front.as_bytes(), &mut names)?;
     }
     Ok(names)
-}
-
-fn zeros(alloc: Global) -> Result<Vec<u8>, NoMemory> {
-    let mut buffer = Vec::new(alloc);
-    buffer.resize(FOLDER_BYTES, 0)?;
-    Ok(buffer)
 }
 
 // The slash makes the system follow a link to a folder.

@@ -30,7 +30,9 @@ use std::time::{Clock, Duration};
 /// written last and the one read last.
 ///
 /// A log's rotated generations are found by their names in its folder, which are listed before each
-/// read and after it; a read is made again up to three times where the first generation changed.
+/// read, and after it where the file that was read isn't known to have been the base file all the
+/// while; a read is made again up to three times where the first generation changed. A base file that
+/// was read is kept open, and read on as long as it is the one that has the log's name.
 ///
 /// A start takes the lock of its process, which no other process can hold meanwhile: on the file
 /// `locks/agent.<source>`, `locks/collector.<name>` or `locks/job`. It is kept as long as the site
