@@ -1,31 +1,12 @@
 -- How the accounts of several calls of the sinks join.
-use Rattle.std.proofs.Common.{◌≡◌, [], ◌∷◌, ◌++◌, Option, None, Result, Ok, Err, sym, ap, subst, ◌∙◌, append_assoc}
-use Rattle.chk_site.specs.declared.acts.Call.{Call}
-use Rattle.chk_site.specs.History.{History, is_stopped}
-use Rattle.chk_site.specs.Site.{Adds, EndsIn}
+use Rattle.std.proofs.Common.{◌≡◌, [], ◌∷◌, ◌++◌, Option, None, Result, Ok, Err, sym, ap, subst, ◌∙◌}
+use Rattle.chk_site.specs.History.{History}
+use Rattle.chk_site.specs.Site.{Adds}
 use Rattle.chk_site.specs.Acts.{deed}
 use Rattle.chk_site.proofs.Runs.{adds_then, adds_as}
 use Rattle.chk_sink.specs.declared.fault.SinkFault.{SinkFault}
 use Rattle.chk_sink.specs.declared.fault.SinkFault.TheVariants.{Outside, Damaged, Spent, NoMemory}
-use Rattle.chk_sink.specs.Faults.{FailsLast}
 use Rattle.chk_sink.specs.Damage.{DamageCause, damage_in, damage_by, first_name}
-
-ends_later : (call : Call) (b a : History) → EndsIn call b → EndsIn call (b ++ a)
-ends_later call [] a x = absurd x
-ends_later call (step ∷ b) a x = x
-
--- a failure that ends later calls ends all of them
-pub fails_later : {T : Type 0} (result : Result T SinkFault) (b a history : History) → FailsLast result b (a ++ history) → FailsLast result (b ++ a) history
-fails_later (Ok value) b a history x = tt
-fails_later (Err (Outside call)) b a history x =
-    λ running. ends_later call b a (x (ap is_stopped (sym (append_assoc b a history)) ∙ running))
-fails_later (Err (Damaged name at)) b a history x = tt
-fails_later (Err (Spent born)) b a history x = tt
-fails_later (Err NoMemory) b a history x = tt
-
-pub last_then : {T : Type 0} (result : Result T SinkFault) {P : History → History → Type 0} {old mid new : Option History} → Adds old mid P
-    → Adds mid new (FailsLast result) → Adds old new (FailsLast result)
-last_then result p q = adds_then (FailsLast result) p q (λ a b history x y. fails_later result b a history y)
 
 -- what later calls show to be damaged
 damage_later : (b a : History) → damage_in a ≡ None → damage_in (b ++ a) ≡ damage_in b
@@ -49,21 +30,7 @@ pub unmade_damaged : {T : Type 0} (result : Result T SinkFault) {P : History →
     → Adds old new P → Adds old new (DamageCause result)
 unmade_damaged result e p = adds_as (DamageCause result) p (λ a h x. subst (λ r. DamageCause r a h) (sym e) tt)
 
-pub unmade_last : {T : Type 0} (result : Result T SinkFault) {P : History → History → Type 0} {old new : Option History} → result ≡ Err NoMemory
-    → Adds old new P → Adds old new (FailsLast result)
-unmade_last result e p = adds_as (FailsLast result) p (λ a h x. subst (λ r. FailsLast r a h) (sym e) tt)
-
 -- the same fault of another call
-pub fails_same : {T : Type 0} (U : Type 0) (result : Result T SinkFault) (fault : SinkFault) {old new : Option History} → result ≡ Err fault
-    → Adds old new (FailsLast {T = U} (Err fault)) → Adds old new (FailsLast result)
-fails_same {T = T} U result fault e p =
-    adds_as (FailsLast result) p (λ a h x. subst (λ r. FailsLast r a h) (sym e) (of_fault fault a h x))
-  where
-    of_fault : (f : SinkFault) (a h : History) → FailsLast {T = U} (Err f) a h → FailsLast {T = T} (Err f) a h
-    of_fault (Outside call) a h x = x
-    of_fault (Damaged name at) a h x = tt
-    of_fault (Spent born) a h x = tt
-    of_fault NoMemory a h x = tt
 
 pub damaged_same : {T : Type 0} (U : Type 0) (result : Result T SinkFault) (fault : SinkFault) {old new : Option History} → result ≡ Err fault
     → Adds old new (DamageCause {T = U} (Err fault)) → Adds old new (DamageCause result)

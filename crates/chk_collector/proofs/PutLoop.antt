@@ -17,7 +17,6 @@ use Rattle.chk_site.specs.History.{History}
 use Rattle.chk_site.specs.Site.{Adds}
 use Rattle.chk_site.specs.Runs.{Leads}
 use Rattle.chk_site.proofs.Leads.{leads_then, leads_none}
-use Rattle.chk_site.proofs.Runs.{adds_none}
 use Rattle.chk_chunk.specs.Keys.{Chunk}
 use Rattle.chk_message.specs.Messages.{Ack, ack_of, ack_text, acks_text}
 use Rattle.chk_world.specs.Collectors.{Handling, with_appends}
@@ -25,7 +24,6 @@ use Rattle.chk_world.specs.Places.{As}
 use Rattle.chk_sink.specs.declared.fault.SinkFault.{SinkFault}
 use Rattle.chk_sink.specs.States.{State, IsSameStart, process}
 use Rattle.chk_sink.specs.Held.{Handles, Ready}
-use Rattle.chk_sink.proofs.Last.{Whatever, both}
 use Rattle.chk_collector.specs.Posting.{ArePosted, WroteAll, HasLineEach}
 use Rattle.chk_collector.proofs.Lines.{acks_text-more, short_more}
 use Rattle.chk_collector.proofs.PutSteps.{PutsOne, put_step, tells_on}
@@ -40,7 +38,6 @@ pub record PutSoFar (old now : Option History) (before count : ℕ) (first s : S
   pub short : length lines ≤ 126 * length done
   pub told : (stamped : List (List ℕ)) (handled : List Handling) → ArePosted handled chunks
       → Adds old now (Leads (As stamped (process first)) (Ready stamped first handled) (WroteAll stamped s handled done lines (Ok tt)))
-  pub goes_on : Adds old now Whatever
   pub same : IsSameStart first s
   pub puts : Puts (length done) first s
   pub place : EndsInPlace s acks
@@ -92,7 +89,6 @@ put_begins now n first s chunks lines same none =
               told = record { acks = []; lines_are = none; tell = tt; each = tt };
             };
           });
-      goes_on = adds_none now Whatever (λ h. tt);
       same = same_self first;
       puts = begins;
       place = tt;
@@ -145,11 +141,11 @@ module _ {old now new : Option History} {before count : ℕ} {first s : State} {
       lines lines' (Err fault) (λ appends later t a. tt) told))
 
   -- one more
-  pub put_on : (c : Chunk) (rest' : List Chunk) (x : Stem) (n count' : ℕ) (s' : State) (lines' : List ℕ) {P : History → History → Type 0}
+  pub put_on : (c : Chunk) (rest' : List Chunk) (x : Stem) (n count' : ℕ) (s' : State) (lines' : List ℕ)
       → rest ≡ c ∷ rest' → lines' ≡ lines ++ ack_text (ack_of x n) → length (ack_text (ack_of x n)) ≤ 126 → PutsOne now new s s' c (Ok (x, n))
-      → Adds now new P → IsSameStart s s' → GoesOn s s' → IsPlaced s' (x, n) → Works (process s) (OfPut s) None now new
+      → IsSameStart s s' → GoesOn s s' → IsPlaced s' (x, n) → Works (process s) (OfPut s) None now new
       → count' ≡ count → PutSoFar old new before count' first s' chunks rest' lines'
-  put_on c rest' x n count' s' lines' more line short told later same goes placed own cause = record {
+  put_on c rest' x n count' s' lines' more line short told same goes placed own cause = record {
     done = so_far.done ++ c ∷ [];
     whole = so_far.whole ∙ (ap (λ l. so_far.done ++ l) more ∙ sym (append_assoc so_far.done (c ∷ []) rest'));
     acks = so_far.acks ++ ack_of x n ∷ [];
@@ -158,7 +154,6 @@ module _ {old now new : Option History} {before count : ℕ} {first s : State} {
         (arith, so_far.as_many, length-append so_far.acks (ack_of x n ∷ []), length-append so_far.done (c ∷ []));
     short = short_more lines lines' (ack_text (ack_of x n)) so_far.done c line so_far.short short;
     told = put_told c rest' x n s' lines' more line told;
-    goes_on = both so_far.goes_on later;
     same = same_then first s s' so_far.same same;
     puts = subst (λ k. Puts k first s') (sym (length-append so_far.done (c ∷ []) ∙ one_more (length so_far.done))) (goes_on so_far.puts goes);
     place = place_more s' so_far.acks x n placed;

@@ -13,7 +13,7 @@ ghost use Rattle.chk_world.specs.Rules.{Legal};
 ghost use Rattle.chk_world.specs.Places.{As};
 ghost use Rattle.chk_sink.specs.Faults.{SinkCause, FailsLast, ended_by};
 ghost use Rattle.chk_world.specs.Works.{Works, NoneFailed};
-ghost use Rattle.chk_sink.specs.Works.{OfStart, OfTick, LeavesAfterTick};
+ghost use Rattle.chk_sink.specs.Works.{OfStart, OfClose, OfTick, LeavesAfterTick};
 ghost use Rattle.chk_collector.specs.Handled.{Puts, PutsThen, KeepsSeen, OfPosts, OfPoll, Unanswered};
 ghost use Rattle.chk_sink.specs.Damage.{DamageCause, SpentCause};
 ghost use Rattle.chk_sink.specs.States.{IsSameStart, process, ticked_state};
@@ -229,6 +229,8 @@ impl Collector {
         ensures refused { IfErr result (λ fault. LeavesAfterTick self.old self.new fault
             (S.told site.old) (S.told site.new)) }
         ensures own { Works (process self.old) (OfTick self.old) (ended_by result)
+            (S.told site.old) (S.told site.new) }
+        ensures closes { self.old.abandoned ≡ false → Works (process self.old) (OfClose self.old) (ended_by result)
             (S.told site.old) (S.told site.new) }
         ensures fine { OnOk result (Adds (S.told site.old) (S.told site.new) NoneFailed) }
         ensures only { IfErr result IsOfTick }

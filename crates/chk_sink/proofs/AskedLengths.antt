@@ -1,5 +1,5 @@
 -- What the questions for a sink's committed length lead to.
-use Rattle.std.proofs.Common.{◌≡◌, inl, ℕ, ◌≤◌, ◌<◌, true, List, [], ◌∷◌, ◌++◌, length, take, drop, Option, Some, None, Result, ap, sym, subst, ◌∙◌, refl, arith}
+use Rattle.std.proofs.Common.{◌≡◌, inl, ℕ, ◌≤◌, ◌<◌, true, List, [], ◌∷◌, length, take, drop, Option, Some, None, Result, ap, sym, subst, ◌∙◌, refl, arith}
 use Rattle.std.specs.Prelude.{IsTrue}
 use Rattle.chk_bytes.specs.Numbers.{spelled}
 use Rattle.chk_bytes.specs.Stems.{Stem, is_stem, is_collector}

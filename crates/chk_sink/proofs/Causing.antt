@@ -11,13 +11,12 @@ use Rattle.chk_site.specs.Acts.{Deed, deed_by}
 use Rattle.chk_site.specs.History.{History, is_stopped}
 use Rattle.chk_site.specs.Site.{Adds, Asked, answered, Acted, Added, Calls, Ends}
 use Rattle.chk_site.proofs.Runs.{adds_then, adds_as, adds_none, every_join}
-use Rattle.chk_replace.proofs.CallSteps.{ends_last}
 use Rattle.chk_sink.specs.declared.fault.SinkFault.{SinkFault}
 use Rattle.chk_sink.specs.Faults.{sink_fault}
 use Rattle.chk_sink.specs.Damage.{damage_by, damage_in, first_name}
 use Rattle.chk_sink.specs.Starting.{IsNoLastRead}
 use Rattle.chk_sink.specs.Settling.{IsCaused}
-use Rattle.chk_sink.proofs.JoinedCauses.{first_none, theirs_undamaged, damage_later, damage_as, fails_same, fails_later}
+use Rattle.chk_sink.proofs.JoinedCauses.{first_none, theirs_undamaged, damage_later, damage_as}
 use Rattle.chk_sink.proofs.Unread.{IsUnread, call_unread}
 
 -- what is asked
@@ -85,7 +84,6 @@ caused_done {T = T} value q how given none unread told =
     adds_as (IsCaused {T = T} (Ok value)) told
     (λ a h calls. record {
       damaged = harmless_shows q none (answered how given) calls;
-      last = tt;
       unread = call_unread q (answered how given) unread calls;
     })
 
@@ -108,21 +106,19 @@ caused_ends {T = T} {V = V} result q how given fault e ends quiet unread told =
     by : (fault : OutsideFault) (a h : History) → Ends q.call given fault → Calls q (answered how given) a h → IsCaused {T = T} (Err (sink_fault fault)) a h
     by (site_failed call) a h ends calls = record {
       damaged = call_shows q a h quiet (answered how given) calls ∙ failed given call ends;
-      last = ends_last T how given (site_failed call) ends calls;
       unread = call_unread q (answered how given) unread calls;
     }
-    by no_memory a h ends calls = record { damaged = tt; last = tt; unread = call_unread q (answered how given) unread calls }
+    by no_memory a h ends calls = record { damaged = tt; unread = call_unread q (answered how given) unread calls }
 
 -- no call
 pub caused_none : {T : Type 0} (value : T) (now : Option History) → Adds now now (IsCaused {T = T} (Ok value))
-caused_none {T = T} value now = adds_none now (IsCaused {T = T} (Ok value)) (λ history. record { damaged = refl; last = tt; unread = tt })
+caused_none {T = T} value now = adds_none now (IsCaused {T = T} (Ok value)) (λ history. record { damaged = refl; unread = tt })
 
 -- one part after another that was done
 both_caused : {T U : Type 0} (value : T) (r : Result U SinkFault) (b a history : History) → IsCaused {T = T} (Ok value) a history
     → IsCaused r b (a ++ history) → IsCaused r (b ++ a) history
 both_caused value r b a history x y = record {
   damaged = damage_later r b a history x.damaged y.damaged;
-  last = fails_later r b a history y.last;
   unread = every_join IsNoLastRead b a history x.unread y.unread;
 }
 
@@ -136,7 +132,6 @@ caused_then {T = T} part value r {old = old} {mid = mid} e p q =
 caused_kept : (T U : Type 0) (fault : SinkFault) (a history : History) → IsCaused {T = T} (Err fault) a history → IsCaused {T = U} (Err fault) a history
 caused_kept T U fault a history x = record {
   damaged = damage_as T U fault a history x.damaged;
-  last = fails_same T U fault a history x.last;
   unread = x.unread;
 }
 

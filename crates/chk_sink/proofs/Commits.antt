@@ -6,33 +6,18 @@ use Rattle.chk_bytes.specs.Stems.{Stem, is_stem, is_collector}
 use Rattle.chk_site.specs.declared.acts.Who.{Who}
 use Rattle.chk_site.specs.declared.acts.OutsideFault.{OutsideFault}
 use Rattle.chk_site.specs.History.{History, files_after}
-use Rattle.chk_site.specs.Site.{Adds, LastFailed}
+use Rattle.chk_site.specs.Site.{Adds}
 use Rattle.chk_site.specs.Runs.{Leads, MadeInTurn}
-use Rattle.chk_site.proofs.Runs.{adds_then, adds_as}
 use Rattle.chk_site.proofs.Leads.{leads_none, leads_as, leads_then}
-use Rattle.chk_replace.proofs.CallSteps.{last_then}
 use Rattle.chk_world.specs.Places.{As}
 use Rattle.chk_sink.specs.declared.fault.SinkFault.{SinkFault}
 use Rattle.chk_sink.specs.States.{State, Writing, process, last_stem, all_marked, kept_where_done, committed_state}
 use Rattle.chk_sink.specs.Held.{IsAsKept, Matches}
-use Rattle.chk_sink.specs.Faults.{FailsLast, sink_result}
+use Rattle.chk_sink.specs.Faults.{sink_result}
 use Rattle.chk_sink.specs.Closes.{IsCommitted, Committed, OnceDone, WasClosed, Closed}
 use Rattle.chk_sink.specs.Closing.{publishing, closing, left_where_done}
-use Rattle.chk_sink.proofs.Last.{last_fails}
 use Rattle.chk_sink.proofs.Committing.{marked_commit, published}
 use Rattle.chk_sink.proofs.DoneSinks.{closed_so}
-
--- the failure of the calls is that of the sinks
-pub result_fails : (result : Result (Unit {0}) SinkFault) (made : Result (Unit {0}) OutsideFault) {old new : Option History} → result ≡ sink_result made
-    → Adds old new (LastFailed made) → Adds old new (FailsLast result)
-result_fails result (Ok value) e told = adds_as (FailsLast result) told (λ a h x. subst (λ r. FailsLast r a h) (sym e) tt)
-result_fails result (Err fault) e told = last_fails (Unit {0}) result fault e told
-
--- after earlier calls
-pub later_result_fails : (result : Result (Unit {0}) SinkFault) (made : Result (Unit {0}) OutsideFault) {P : History → History → Type 0}
-    {old mid new : Option History} → result ≡ sink_result made → Adds old mid P → Adds mid new (LastFailed made) → Adds old new (FailsLast result)
-later_result_fails result made e before told =
-    result_fails result made e (adds_then (LastFailed made) before told (λ a b h x y. last_then made b a h y))
 
 module _ (stamped : List (List ℕ)) (s : State) (o : Writing) (some : s.current ≡ Some o) (good : IsTrue (is_stem (last_stem s))) (begun : 96 ≤ o.size) where
   -- the sink hasn't grown

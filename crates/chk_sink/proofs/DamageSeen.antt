@@ -17,10 +17,10 @@ use Rattle.chk_replace.proofs.CallSteps.{call_each}
 use Rattle.chk_world.specs.Names.{MarkFile, read}
 use Rattle.chk_sink.specs.declared.fault.SinkFault.{SinkFault}
 use Rattle.chk_sink.specs.declared.fault.SinkFault.TheVariants.{Outside, Damaged, Spent, NoMemory as wants_memory}
-use Rattle.chk_sink.specs.Faults.{FailsLast, sink_fault}
+use Rattle.chk_sink.specs.Faults.{sink_fault}
 use Rattle.chk_sink.specs.Damage.{is_number_from, is_number_of, damage_by, damage_in, DamageCause}
 use Rattle.chk_sink.specs.Asking.{TakenOnce, IsMarkNumber}
-use Rattle.chk_sink.proofs.JoinedCauses.{first_none, theirs_undamaged, damage_later, fails_later}
+use Rattle.chk_sink.proofs.JoinedCauses.{first_none, theirs_undamaged, damage_later}
 
 -- a step that shows no damage
 Harmless : History → Step → Type 0
@@ -151,8 +151,3 @@ pub size_then_damaged : (who : Who) (w : List ℕ) (made : Result (Option ℕ) O
     → Adds old new (DamageCause result)
 size_then_damaged who w made result m later =
     adds_then (DamageCause result) m.told later (λ a b history calls x. damage_later result b a history (size_harmless who w calls) x)
-
--- what failed comes last, whatever was called before it
-pub then_fails : {T : Type 0} (result : Result T SinkFault) {P : History → History → Type 0} {old mid new : Option History} → Adds old mid P
-    → Adds mid new (FailsLast result) → Adds old new (FailsLast result)
-then_fails result earlier later = adds_then (FailsLast result) earlier later (λ a b history p x. fails_later result b a history x)

@@ -1,29 +1,25 @@
 -- What the collector knows of its sinks stays over the steps of others, and over its own calls that change no file.
-use Rattle.std.proofs.Common.{◌≡◌, inl, inr, ℕ, Bool, true, false, List, [], ◌∷◌, Option, Some, None, refl, sym, subst, ap, ◌∙◌, true≢false, is_some}
+use Rattle.std.proofs.Common.{◌≡◌, ℕ, Bool, true, false, List, ◌∷◌, Option, Some, None, refl, sym, subst, ap, ◌∙◌, true≢false, is_some}
 use Rattle.std.specs.Prelude.{IsTrue, length}
 use Rattle.std.proofs.lemmas.Option.{none-some}
 use Rattle.chk_bytes.specs.Stems.{Stem, is_stem}
 use Rattle.chk_site.specs.declared.acts.Who.{Who}
-use Rattle.chk_site.specs.Files.{File, Files, Nothing}
-use Rattle.chk_site.specs.Acts.{Answers, deed, change_of}
+use Rattle.chk_site.specs.Files.{File, Nothing}
+use Rattle.chk_site.specs.Acts.{deed, change_of}
 use Rattle.chk_site.specs.History.{Step, History, files_after}
 use Rattle.chk_site.specs.Site.{WasDone}
 use Rattle.chk_world.specs.Names.{SinkFile, MarkFile, file}
 use Rattle.chk_world.specs.Committed.{HasFile, number_in}
-use Rattle.chk_world.specs.Collectors.{View, Handling, CollectorRule, AnswersWell, NoSyncBeforeAnswer, GoodAnswer, PollAnswerIsCommitted, handling_of, own_view, view}
+use Rattle.chk_world.specs.Collectors.{View, own_view, view}
 use Rattle.chk_world.specs.Rules.{Legal}
-use Rattle.chk_world.specs.Places.{Foreign}
-use Rattle.chk_world.proofs.Frames.{view_stays}
 use Rattle.chk_world.proofs.OwnFiles.{looked_file}
 use Rattle.chk_world.proofs.PlacesStay.{Stays}
 use Rattle.chk_world.proofs.CollectorCalls.{own_sight}
 use Rattle.chk_world.proofs.ToldCalls.{GoesOn}
 use Rattle.chk_sink.specs.States.{State, Writing, process, last_stem}
-use Rattle.chk_sink.specs.Held.{IsAsKept, Holds, Handles}
+use Rattle.chk_sink.specs.Held.{IsAsKept, Holds}
 use Rattle.chk_sink.proofs.Holding.{HasStem, absent_as, holds_alike, foreign_alike}
 use Rattle.chk_sink.proofs.NoStem.{no_stem_sink}
-use Rattle.chk_sink.proofs.Questions.{not_taken, length_left}
-use Rattle.chk_sink.proofs.Quiet.{length_on, lengths_on}
 
 -- the sink that is written to has a good stem, as its file shows
 pub has_stem : (stamped : List (List ℕ)) (s : State) (history : History) → Legal stamped history → Holds s history → HasStem s

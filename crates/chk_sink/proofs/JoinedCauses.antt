@@ -1,12 +1,10 @@
 -- What the steps of two parts of a call show, of what each shows.
 use Rattle.std.proofs.Common.{◌≡◌, Bool, true, false, ◌||◌, List, ℕ, [], ◌∷◌, ◌++◌, Option, Some, None, Result, Ok, Err, ap, sym, ◌∙◌, refl}
-use Rattle.chk_site.specs.declared.acts.OutsideFault.TheVariants.{Outside as site_failed}
 use Rattle.chk_site.specs.Acts.{deed}
 use Rattle.chk_site.specs.History.{Step, History, Every, IsTheirs}
-use Rattle.chk_replace.proofs.CallSteps.{OfOthers, last_then}
+use Rattle.chk_replace.proofs.CallSteps.{OfOthers}
 use Rattle.chk_sink.specs.declared.fault.SinkFault.{SinkFault}
 use Rattle.chk_sink.specs.declared.fault.SinkFault.TheVariants.{Outside, Damaged, Spent, NoMemory}
-use Rattle.chk_sink.specs.Faults.{FailsLast}
 use Rattle.chk_sink.specs.Damage.{damage_by, first_name, damage_in, DamageCause, reads_last, has_read_last}
 use Rattle.chk_sink.specs.Starting.{IsNoLastRead}
 
@@ -61,22 +59,6 @@ damage_as T U (Outside call) a history shows = shows
 damage_as T U (Damaged name at) a history shows = shows
 damage_as T U (Spent born) a history shows = shows
 damage_as T U NoMemory a history shows = tt
-
-pub fails_same : (T U : Type 0) (fault : SinkFault) (a history : History) → FailsLast {T = T} (Err fault) a history
-    → FailsLast {T = U} (Err fault) a history
-fails_same T U (Outside call) a history fails = fails
-fails_same T U (Damaged name at) a history fails = tt
-fails_same T U (Spent born) a history fails = tt
-fails_same T U NoMemory a history fails = tt
-
--- the call that failed is the last one of both parts
-pub fails_later : {T : Type 0} (result : Result T SinkFault) (b a history : History) → FailsLast result b (a ++ history)
-    → FailsLast result (b ++ a) history
-fails_later (Ok value) b a history fails = tt
-fails_later {T = T} (Err (Outside call)) b a history fails = last_then {T = T} (Err (site_failed call)) b a history fails
-fails_later (Err (Damaged name at)) b a history fails = tt
-fails_later (Err (Spent born)) b a history fails = tt
-fails_later (Err NoMemory) b a history fails = tt
 
 -- the step shows no damage, and reads no last number
 pub record ShowsNothing (before : History) (step : Step) : Type 0 where

@@ -7,7 +7,6 @@ pub mod Fields
 pub mod Beginning
 pub mod Whole
 pub mod Next
-pub mod Last
 pub mod Scripts
 pub mod Tidying
 pub mod Committing

@@ -52,8 +52,8 @@ caused_damage : {T : Type 0} (w : List ℕ) (fault : SinkFault) {old new : Optio
     → Adds old new (ShowsDamage w) → Adds old new (IsCaused {T = T} (Err fault))
 caused_damage {T = T} w (Damaged name at) is told =
     adds_as (IsCaused {T = T} (Err (Damaged name at))) told
-    (λ a h e. record { damaged = (e.0 ∙ ap (λ n. Some n) (sym is.0), is.1); last = tt; unread = e.1 })
-caused_damage {T = T} w NoRoom is told = adds_as (IsCaused {T = T} (Err NoRoom)) told (λ a h e. record { damaged = tt; last = tt; unread = e.1 })
+    (λ a h e. record { damaged = (e.0 ∙ ap (λ n. Some n) (sym is.0), is.1); unread = e.1 })
+caused_damage {T = T} w NoRoom is told = adds_as (IsCaused {T = T} (Err NoRoom)) told (λ a h e. record { damaged = tt; unread = e.1 })
 caused_damage w (Outside call) is told = absurd is
 caused_damage w (Spent born) is told = absurd is
 
@@ -71,7 +71,6 @@ module _ (who : Who) (w : List ℕ) where
       adds_as (IsCaused {T = T} (Ok value)) told
       (λ a h calls. record {
         damaged = call_shows R a h read_quiet (answered bytes_given given) calls ∙ none given is;
-        last = tt;
         unread = call_unread R (answered bytes_given given) unread calls;
       })
     where
@@ -96,7 +95,6 @@ module _ (who : Who) (w : List ℕ) where
           damaged = call_shows R a h read_quiet (answered bytes_given given) calls
               ∙ (ap (λ g. shown R (answered bytes_given g)) gave
               ∙ (ap (λ n. if is_number_of n bytes then None else Some w) reads ∙ ap (λ b. if b then None else Some w) marks));
-          last = tt;
           unread = call_unread R (answered bytes_given given) (mark_unread x good w w_is 0 9) calls;
         })
 
@@ -142,6 +140,5 @@ module _ (who : Who) (w : List ℕ) (n : ℕ) where
         adds_as (IsCaused {T = T} (Ok value)) told
         (λ a h calls. record {
           damaged = call_shows C a h cut_quiet (answered plain given) calls ∙ none;
-          last = tt;
           unread = call_unread C (answered plain given) (λ answer. refl) calls;
         })

@@ -1,5 +1,5 @@
 -- What a refused tick leaves.
-use Rattle.std.proofs.Common.{◌≡◌, inl, inr, Bool, true, false, ◌||◌, Option, Some, None, option_map, Result, Ok, Err, ap, sym, subst, refl, ◌∙◌, is_some}
+use Rattle.std.proofs.Common.{◌≡◌, inr, Bool, true, false, ◌||◌, Option, Some, None, option_map, Result, Ok, Err, ap, subst, refl, ◌∙◌, is_some}
 use Rattle.std.specs.Prelude.{IfErr, OnOk, OnErr}
 use Rattle.chk_site.specs.Acts.{Deed}
 use Rattle.chk_site.specs.declared.acts.Who.{Who}
@@ -10,7 +10,7 @@ use Rattle.chk_world.proofs.Working.{works_fine}
 use Rattle.chk_sink.specs.declared.fault.SinkFault.{SinkFault}
 use Rattle.chk_sink.specs.Faults.{IsOutside, ended_by}
 use Rattle.chk_sink.specs.States.{State, Writing, process, let_go, given_up, all_marked, committed_state, settled_state}
-use Rattle.chk_sink.specs.Works.{OfSettling, OfClose, IsLetGo, ClosingRefused, LeavesAfterTick}
+use Rattle.chk_sink.specs.Works.{OfSettling, OfClose, IsLetGo, LeavesAfterTick}
 use Rattle.chk_sink.proofs.Owning.{Made}
 use Rattle.chk_sink.proofs.Owned.{settled_works}
 

@@ -17,8 +17,7 @@ use Rattle.chk_sink.specs.Closes.{Settled, IsOfTick}
 use Rattle.chk_sink.specs.Starts.{Started}
 use Rattle.chk_sink.specs.Starting.{Published, first_state, IsNoLastRead}
 use Rattle.chk_sink.specs.Damage.{DamageCause, SpentCause}
-use Rattle.chk_sink.specs.Faults.{FailsLast}
-use Rattle.chk_sink.proofs.JoinedCauses.{last_behind, none_last, damage_behind, damage_as, damage_later, fails_same, fails_later}
+use Rattle.chk_sink.proofs.JoinedCauses.{last_behind, none_last, damage_behind, damage_as, damage_later}
 
 -- ---- what it leads to
 
@@ -116,9 +115,3 @@ pub unstarted_damage : (T : Type 0) (fault : SinkFault) (born : ℕ) {old mid ne
 unstarted_damage T fault born publish settle =
     adds_then (DamageCause {T = T} (Err fault)) publish settle
     (λ a b h x y. damage_later {T = T} (Err fault) b a h x (damage_as (Unit {0}) T fault b (a ++ h) y))
-
-pub unstarted_fails : (T : Type 0) (fault : SinkFault) {P : History → History → Type 0} {old mid new : Option History} → Adds old mid P
-    → Adds mid new (FailsLast {T = Unit {0}} (Err fault)) → Adds old new (FailsLast {T = T} (Err fault))
-unstarted_fails T fault publish settle =
-    adds_then (FailsLast {T = T} (Err fault)) publish settle
-    (λ a b h x y. fails_later {T = T} (Err fault) b a h (fails_same (Unit {0}) T fault b (a ++ h) y))

@@ -1,5 +1,5 @@
 -- What committing, closing and ticking lead to.
-use Rattle.std.specs.Prelude.{◌≡◌, ◌⊎◌, ℕ, true, List, length, Option, Some, None, Result, Ok, Err}
+use Rattle.std.specs.Prelude.{◌≡◌, ℕ, true, List, length, Option, Some, None, Result, Ok, Err}
 use Rattle.chk_bytes.specs.Stems.{Stem}
 use Rattle.chk_site.specs.Files.{Files}
 use Rattle.chk_site.specs.Acts.{Lists, deed}

@@ -15,7 +15,6 @@ use Rattle.chk_sink.specs.declared.fault.SinkFault.{SinkFault}
 use Rattle.chk_sink.specs.declared.fault.SinkFault.TheVariants.{Damaged}
 use Rattle.chk_sink.specs.States.{State, process, last_stem}
 use Rattle.chk_sink.specs.Held.{IsOther, Holds, Matches}
-use Rattle.chk_sink.specs.Faults.{FailsLast}
 use Rattle.chk_sink.specs.Damage.{DamageCause}
 use Rattle.chk_sink.specs.Starting.{IsNoLastRead}
 
@@ -124,9 +123,7 @@ Found stamped s P (Ok value) history = AtTold stamped (process s) (P value) hist
 Found stamped s P (Err (Damaged name at)) history = AtTold stamped (process s) (λ front. ⊥) history
 Found stamped s P (Err fault) history = Matches stamped s history
 
--- the result is one by its own acts: a file is damaged where one showed it, the call that failed is the last one, and
--- none reads the last number of starts
+-- the result is one by its own acts: a file is damaged where one showed it, and none reads the last number of starts
 pub record IsCaused {T : Type 0} (result : Result T SinkFault) (added history : History) : Type 0 where
   pub damaged : DamageCause result added history
-  pub last : FailsLast result added history
   pub unread : Every IsNoLastRead added history

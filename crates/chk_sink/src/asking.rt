@@ -4,13 +4,13 @@ ghost use Rattle.std.specs.Prelude.{◌≡◌, ℕ, ◌∷◌, [], List, IfErr, 
 ghost use Rattle.chk_bytes.specs.Stems.{Stem as Parts, is_stem};
 ghost use Rattle.chk_message.specs.Messages.{Ack};
 ghost use Rattle.chk_site.specs.declared.acts.Call.TheVariants.{Size, Read};
-ghost use Rattle.chk_site.specs.Site.{Adds, LastFailed, OutsideCause, asked, bytes_given, sized};
+ghost use Rattle.chk_site.specs.Site.{Adds, OutsideCause, asked, bytes_given, sized};
 ghost use Rattle.chk_site.specs.Runs.{Leads};
 ghost use Rattle.chk_world.specs.Collectors.{Handling};
 ghost use Rattle.chk_world.specs.Places.{As};
 ghost use Rattle.chk_sink.specs.States.{State, process};
 ghost use Rattle.chk_world.specs.Works.{Works};
-ghost use Rattle.chk_sink.specs.Faults.{SinkCause, FailsLast, ended_by};
+ghost use Rattle.chk_sink.specs.Faults.{SinkCause, ended_by};
 ghost use Rattle.chk_sink.specs.Works.{OfQuestion};
 ghost use Rattle.chk_sink.specs.Damage.{DamageCause};
 ghost use Rattle.chk_sink.specs.Asked.{CountedOn, IsOfQuestion};
@@ -82,7 +82,6 @@ pub(crate) fn marked<S: Site>(
     ensures own { Works who.now (OfQuestion stem.now) (ended_by result) (S.told site.old) (S.told site.new) }
     ensures only { IfErr result IsOfQuestion }
     ensures damaged { Adds (S.told site.old) (S.told site.new) (DamageCause result) }
-    ensures last { Adds (S.told site.old) (S.told site.new) (FailsLast result) }
     ensures cause { SinkCause (S.fault_count site.old) (S.fault_count site.new) result }
 {
     let name = names::mark(alloc, stem)?;

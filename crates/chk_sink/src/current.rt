@@ -7,7 +7,7 @@ ghost use Rattle.chk_world.specs.Names.{SinkFile, spell};
 ghost use Rattle.chk_world.specs.Collectors.{marker};
 ghost use Rattle.chk_seqfile.specs.Entries.{piece_at};
 ghost use Rattle.chk_site.specs.declared.acts.Call.TheVariants.{Append};
-ghost use Rattle.chk_site.specs.Site.{Adds, asked, LastFailed, OutsideCause};
+ghost use Rattle.chk_site.specs.Site.{asked, OutsideCause};
 ghost use Rattle.chk_sink.specs.Calls.{MadeOnce};
 ghost use Rattle.chk_sink.specs.SinkFields.{first_of, longer};
 ghost use Rattle.chk_sink.specs.Closing.{current_all_marked};
@@ -162,7 +162,6 @@ pub(crate) fn append_to<S: Site>(
 ) -> Result<(), OutsideFault>
     ensures told { MadeOnce (asked who.now Append (sink.now ∷ piece.now ∷ []) 0 0) result
         (S.told site.old) (S.told site.new) }
-    ensures last { Adds (S.told site.old) (S.told site.new) (LastFailed result) }
     ensures cause { OutsideCause (S.fault_count site.old) (S.fault_count site.new) result }
 {
     let appended = site.append(alloc, who, sink, piece);

@@ -177,7 +177,6 @@ impl Sinks {
         ensures only { IfErr result IsOutside }
         ensures own { Works (process self.old) (IsAppendTo (last_stem self.old)) (ended_by result)
             (S.told site.old) (S.told site.new) }
-        ensures last { Adds (S.told site.old) (S.told site.new) (FailsLast result) }
         ensures cause { SinkCause (S.fault_count site.old) (S.fault_count site.new) result }
     {
         let Some(current) = &self.current else {
@@ -236,7 +235,6 @@ impl Sinks {
         ensures only { IfErr result IsOutside }
         ensures own { Works (process self.old) (IsMaking (next_stem self.old)) (ended_by result)
             (S.told site.old) (S.told site.new) }
-        ensures last { Adds (S.told site.old) (S.told site.new) (FailsLast result) }
         ensures cause { SinkCause (S.fault_count site.old) (S.fault_count site.new) result }
     {
         let stem = self.next_stem();
@@ -366,7 +364,6 @@ impl Sinks {
         ensures damaged { Adds (S.told site.old) (S.told site.new) (DamageCause result) }
         ensures own { Works (process self.old) (OfSettling self.old) (ended_by result)
             (S.told site.old) (S.told site.new) }
-        ensures last { Adds (S.told site.old) (S.told site.new) (FailsLast result) }
         ensures cause { SinkCause (S.fault_count site.old) (S.fault_count site.new) result }
     {
         if !self.abandoned {
@@ -406,6 +403,8 @@ impl Sinks {
             → Adds (S.told site.old) (S.told site.new) (Every IsNoListing) }
         ensures damaged { Adds (S.told site.old) (S.told site.new) (DamageCause result) }
         ensures own { Works (process self.old) (OfTick self.old) (ended_by result)
+            (S.told site.old) (S.told site.new) }
+        ensures closes { self.old.abandoned ≡ false → Works (process self.old) (OfClose self.old) (ended_by result)
             (S.told site.old) (S.told site.new) }
         ensures last { Adds (S.told site.old) (S.told site.new) (FailsLast result) }
         ensures cause { SinkCause (S.fault_count site.old) (S.fault_count site.new) result }

@@ -5,14 +5,14 @@ ghost use Rattle.chk_bytes.specs.Numbers.{be64};
 ghost use Rattle.chk_bytes.specs.Stems.{is_collector, is_count};
 ghost use Rattle.chk_site.specs.declared.acts.Role.TheVariants.{Collector};
 ghost use Rattle.chk_site.specs.declared.acts.Call.TheVariants.{Start};
-ghost use Rattle.chk_site.specs.Site.{Adds, asked, LastFailed, OutsideCause};
+ghost use Rattle.chk_site.specs.Site.{Adds, asked, OutsideCause};
 ghost use Rattle.chk_site.specs.Runs.{HasStarted, Leads, MadeInTurn};
 ghost use Rattle.chk_replace.specs.Replace.{replacement};
 ghost use Rattle.chk_world.specs.Names.{BornFile, spell};
 ghost use Rattle.chk_world.specs.Rules.{Legal};
 ghost use Rattle.chk_world.specs.Places.{As};
 ghost use Rattle.chk_world.specs.Works.{Works, fault_of};
-ghost use Rattle.chk_sink.specs.Faults.{SinkCause, FailsLast, ended_by};
+ghost use Rattle.chk_sink.specs.Faults.{SinkCause, ended_by};
 ghost use Rattle.chk_sink.specs.Works.{OfLook, OfPublishing};
 ghost use Rattle.chk_sink.specs.Damage.{DamageCause, SpentCause, IsInLimit};
 ghost use Rattle.chk_sink.specs.Calls.{MadeOnce};
@@ -56,7 +56,6 @@ pub(crate) fn publish_next<S: Site>(
     ensures spent_exactly { Adds (S.told site.old) (S.told site.new) (SpentCause result) }
     ensures damaged { Adds (S.told site.old) (S.told site.new) (DamageCause result) }
     ensures own { Works who.now (OfPublishing who.now) (ended_by result) (S.told site.old) (S.told site.new) }
-    ensures last { Adds (S.told site.old) (S.told site.new) (FailsLast result) }
     ensures cause { SinkCause (S.fault_count site.old) (S.fault_count site.new) result }
 {
     let looked = last_start(alloc, site, who, name.as_str())?;
@@ -88,7 +87,6 @@ fn last_start<S: Site>(
     ensures number { IfOk result IsInLimit }
     ensures shown { Adds (S.told site.old) (S.told site.new) (ShowsStart name.now result) }
     ensures own { Works who.now (OfLook who.now.name) (fault_of result) (S.told site.old) (S.told site.new) }
-    ensures last { Adds (S.told site.old) (S.told site.new) (LastFailed result) }
     ensures cause { OutsideCause (S.fault_count site.old) (S.fault_count site.new) result }
 {
     begin(alloc, site, who)?;
@@ -98,7 +96,6 @@ fn last_start<S: Site>(
 // Starts the process.
 fn begin<S: Site>(alloc: Global, site: &mut S, who: &Who) -> Result<(), OutsideFault>
     ensures told { MadeOnce (asked who.now Start [] 0 0) result (S.told site.old) (S.told site.new) }
-    ensures last { Adds (S.told site.old) (S.told site.new) (LastFailed result) }
     ensures cause { OutsideCause (S.fault_count site.old) (S.fault_count site.new) result }
 {
     let started = site.start(alloc, who);
@@ -114,7 +111,6 @@ fn read_number<S: Site>(
 ) -> Result<Option<u64>, OutsideFault>
     ensures told { ReadsNumber who.now name.now result (S.told site.old) (S.told site.new) }
     ensures number { IfOk result IsInLimit }
-    ensures last { Adds (S.told site.old) (S.told site.new) (LastFailed result) }
     ensures cause { OutsideCause (S.fault_count site.old) (S.fault_count site.new) result }
 {
     let given = site.read(alloc, who, name, 0, 9);
@@ -134,7 +130,6 @@ fn publish<S: Site>(
     born: u64,
 ) -> Result<(), OutsideFault>
     ensures told { MadeInTurn (replacement who.now name.now (be64 born)) result (S.told site.old) (S.told site.new) }
-    ensures last { Adds (S.told site.old) (S.told site.new) (LastFailed result) }
     ensures cause { OutsideCause (S.fault_count site.old) (S.fault_count site.new) result }
 {
     replace(alloc, site, who, name, &born.to_be_bytes())

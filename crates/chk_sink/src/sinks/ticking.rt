@@ -6,7 +6,7 @@ ghost use Rattle.chk_site.specs.Site.{Adds};
 ghost use Rattle.chk_site.specs.Runs.{Leads};
 ghost use Rattle.chk_world.specs.Places.{As};
 ghost use Rattle.chk_world.specs.Works.{Works};
-ghost use Rattle.chk_sink.specs.Faults.{IsOutside, SinkCause, FailsLast, ended_by};
+ghost use Rattle.chk_sink.specs.Faults.{IsOutside, SinkCause, ended_by};
 ghost use Rattle.chk_sink.specs.Works.{OfClose, IsLetGo};
 ghost use Rattle.chk_sink.specs.Damage.{DamageCause};
 ghost use Rattle.chk_sink.specs.States.{IsSameStart, process};
@@ -39,7 +39,6 @@ impl Sinks {
         ensures damaged { Adds (S.told site.old) (S.told site.new) (DamageCause result) }
         ensures own { Works (process self.old) (OfClose self.old) (ended_by result)
             (S.told site.old) (S.told site.new) }
-        ensures last { Adds (S.told site.old) (S.told site.new) (FailsLast result) }
         ensures cause { SinkCause (S.fault_count site.old) (S.fault_count site.new) result }
     {
         if self.current.is_none() {

@@ -5,9 +5,7 @@ use Rattle.chk_sink.proofs.Owning.{once_works}
 use Rattle.std.proofs.Common.{◌≡◌, ◌∙◌, ap, []}
 use Rattle.std.proofs.lemmas.Result.{err_from_is_err_and}
 use Rattle.chk_site.specs.declared.acts.OutsideFault.TheVariants.{NoMemory as no_memory}
-use Rattle.chk_site.specs.Site.{LastFailed, asked}
-use Rattle.chk_site.proofs.Runs.{adds_then}
-use Rattle.chk_replace.proofs.CallSteps.{last_then}
+use Rattle.chk_site.specs.Site.{asked}
 use Rattle.chk_world.specs.Names.{BornFile, read}
 use Rattle.chk_world.proofs.NameLemmas.{read-spell}
 use Rattle.chk_site.proofs.Runs.{start_then}
@@ -40,14 +38,9 @@ returns-clause-shown g c =
     (begin_shows c.args.who.now name c.begin.result no_memory c.begin.ensures.told)
     (read_shows c.args.who.now name reads c.read_number.result c.read_number.ensures.told)
 
-pub returns-clause-last : goal.returns-clause-last
-returns-clause-last g c =
-    adds_then (LastFailed c.read_number.result) c.begin.ensures.last c.read_number.ensures.last
-    (λ a b history x y. last_then c.read_number.result b a history y)
-
 pub returns-clause-starts : goal.returns-clause-starts
 returns-clause-starts g c =
-    if_ok _ c.read_number.result (start_then c.args.who.now (start_begun c.args.who.now c.in_ok-begin.ensures.told) c.read_number.ensures.last)
+    if_ok _ c.read_number.result (start_then c.args.who.now (start_begun c.args.who.now c.in_ok-begin.ensures.told) c.read_number.ensures.told.told)
 
 pub returns-in_err-begin-clause-own : goal.returns-in_err-begin-clause-own
 returns-in_err-begin-clause-own g c =

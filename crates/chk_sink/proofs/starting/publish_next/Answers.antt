@@ -14,7 +14,7 @@ use Rattle.chk_sink.specs.Damage.{DamageCause, SpentCause, IsInLimit}
 use Rattle.chk_site.proofs.Runs.{start_then}
 use Rattle.chk_sink.proofs.StartTold.{published_told, unpublished_told, legal_published}
 use Rattle.chk_sink.proofs.StartShows.{done_causes, failed_causes}
-use Rattle.chk_sink.proofs.Last.{later_fails, both, none_fails}
+use Rattle.chk_replace.proofs.CallSteps.{script_last}
 use Rattle.chk_sink.proofs.starting.publish_next.Goals as goal
 
 pub returns-in_err-looked-clause-told : goal.returns-in_err-looked-clause-told
@@ -65,12 +65,6 @@ returns-in_err-publish-clause-damaged g c =
     (failed_causes c.args.who.now c.as_str.result.now c.as_str-2.result.now _ c.in-Some.last fault other (rw c.in-Some.is at c.in_ok-looked.ensures.shown) c.publish.ensures.told)
     (λ a h x. x.0))
 
-pub returns-in_err-publish-clause-last : goal.returns-in_err-publish-clause-last
-returns-in_err-publish-clause-last g c =
-    let p = err_from_is_err_and c.from_residual-in_err-publish.result c.from_residual-in_err-publish.ensures.1 in
-    later_fails c.from_residual-in_err-publish.result c.publish.result _ (p.1 ∙ ap Err p.2) c.in_err-publish.was
-    c.last_start.ensures.last c.publish.ensures.last
-
 pub returns-clause-spent_exactly : goal.returns-clause-spent_exactly
 returns-clause-spent_exactly g c =
     let other : (c.in-Some.last == last_number) ≡ false = ne_eqb _ _ c.if-last-eq-LAST_START.false in
@@ -85,11 +79,8 @@ returns-clause-damaged g c =
     (done_causes c.args.who.now c.as_str.result.now c.as_str-2.result.now _ c.in-Some.last (c.in-Some.last + 1) other (rw c.in-Some.is at c.in_ok-looked.ensures.shown) c.publish.ensures.told)
     (λ a h x. x.0)
 
-pub returns-clause-last : goal.returns-clause-last
-returns-clause-last g c = none_fails (c.in-Some.last + 1) (both c.last_start.ensures.last c.publish.ensures.last)
-
 pub returns-clause-starts : goal.returns-clause-starts
-returns-clause-starts g c = start_then c.args.who.now c.in_ok-looked.ensures.starts c.publish.ensures.last
+returns-clause-starts g c = start_then c.args.who.now c.in_ok-looked.ensures.starts (script_last c.publish.ensures.told)
 
 pub returns-in_err-looked-clause-own : goal.returns-in_err-looked-clause-own
 returns-in_err-looked-clause-own g c =

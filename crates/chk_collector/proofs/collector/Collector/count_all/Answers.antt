@@ -1,4 +1,4 @@
-use Rattle.chk_sink.proofs.Owning.{made_as, made_none}
+use Rattle.chk_sink.proofs.Owning.{made_as, made_none, fails_of}
 use Rattle.chk_world.proofs.Working.{works_then}
 use Rattle.chk_world.specs.Works.{Works}
 use Rattle.chk_sink.specs.Works.{OfQuestion}
@@ -6,7 +6,7 @@ use Rattle.chk_sink.specs.Faults.{ended_by}
 use Rattle.std.proofs.Common.{Ok, Err, ℕ, ap, subst, ◌∙◌, None}
 use Rattle.std.proofs.lemmas.Result.{err_from_is_err_and}
 use Rattle.chk_sink.specs.States.{State, process}
-use Rattle.chk_collector.proofs.Joining.{last_then, damaged_then, unmade_damaged, unmade_last, fails_same, damaged_same}
+use Rattle.chk_collector.proofs.Joining.{damaged_then, unmade_damaged, damaged_same}
 use Rattle.chk_collector.proofs.CountSteps.{CountsOne, count_begins, count_on, count_fails, count_unwritten, count_ends, asked_own}
 use Rattle.chk_collector.proofs.collector.Collector.count_all.Goals as goal
 
@@ -37,12 +37,6 @@ returns-in_err-length-clause-damaged g c =
     damaged_then {U = Unit {0}} tt c.from_residual.result c.loop-stem.invariant.damaged
     (damaged_same ℕ c.from_residual.result c.in_err-length.field-0.0 (p.1 ∙ ap Err p.2) c.in_err-length.ensures.damaged)
 
-pub returns-in_err-length-clause-last : goal.returns-in_err-length-clause-last
-returns-in_err-length-clause-last g c =
-    let p = err_from_is_err_and c.from_residual.result c.from_residual.ensures.1 in
-    last_then c.from_residual.result c.loop-stem.invariant.damaged
-    (fails_same ℕ c.from_residual.result c.in_err-length.field-0.0 (p.1 ∙ ap Err p.2) c.in_err-length.ensures.last)
-
 pub returns-in_err-put_line-clause-told : goal.returns-in_err-put_line-clause-told
 returns-in_err-put_line-clause-told g c stamped handled t =
     let p = err_from_is_err_and c.from_residual-in_err-put_line.result c.from_residual-in_err-put_line.ensures.1 in
@@ -54,12 +48,6 @@ pub returns-in_err-put_line-clause-damaged : goal.returns-in_err-put_line-clause
 returns-in_err-put_line-clause-damaged g c =
     let p = err_from_is_err_and c.from_residual-in_err-put_line.result c.from_residual-in_err-put_line.ensures.1 in
     unmade_damaged c.from_residual-in_err-put_line.result (p.1 ∙ ap Err p.2)
-    (damaged_then {U = Unit {0}} tt (Ok c.in_ok-length.length) c.loop-stem.invariant.damaged c.in_ok-length.ensures.damaged)
-
-pub returns-in_err-put_line-clause-last : goal.returns-in_err-put_line-clause-last
-returns-in_err-put_line-clause-last g c =
-    let p = err_from_is_err_and c.from_residual-in_err-put_line.result c.from_residual-in_err-put_line.ensures.1 in
-    unmade_last c.from_residual-in_err-put_line.result (p.1 ∙ ap Err p.2)
     (damaged_then {U = Unit {0}} tt (Ok c.in_ok-length.length) c.loop-stem.invariant.damaged c.in_ok-length.ensures.damaged)
 
 pub returns-clause-told : goal.returns-clause-told
@@ -82,3 +70,9 @@ returns-in_err-put_line-clause-own g c =
 
 pub returns-clause-own : goal.returns-clause-own
 returns-clause-own g c = c.loop-stem.invariant.own
+
+pub returns-in_err-length-clause-last : goal.returns-in_err-length-clause-last
+returns-in_err-length-clause-last g c = fails_of _ (returns-in_err-length-clause-own g c)
+
+pub returns-in_err-put_line-clause-last : goal.returns-in_err-put_line-clause-last
+returns-in_err-put_line-clause-last g c = fails_of _ (returns-in_err-put_line-clause-own g c)

@@ -1,4 +1,4 @@
-use Rattle.chk_sink.proofs.Owning.{made_as}
+use Rattle.chk_sink.proofs.Owning.{made_as, fails_of}
 use Rattle.chk_sink.specs.Works.{OfTick}
 use Rattle.chk_sink.specs.Faults.{ended_by}
 use Rattle.chk_world.proofs.Working.{works_then}
@@ -12,7 +12,7 @@ use Rattle.chk_world.specs.Places.{As}
 use Rattle.chk_sink.specs.States.{State, process, ticked_state}
 use Rattle.chk_sink.specs.Held.{Matches}
 use Rattle.chk_collector.specs.Finishing.{Finished, LeavesAfterFinish}
-use Rattle.chk_collector.proofs.Joining.{last_then, damaged_then}
+use Rattle.chk_collector.proofs.Joining.{damaged_then}
 use Rattle.chk_collector.proofs.FinishTold.{finish_as, finish_leaves, finish_works}
 use Rattle.chk_collector.proofs.collector.Collector.finish.Goals as goal
 
@@ -25,9 +25,6 @@ returns-clause-told g c stamped =
 
 pub returns-clause-damaged : goal.returns-clause-damaged
 returns-clause-damaged g c = damaged_then {U = Unit {0}} tt c.close.result c.in_ok-tick.ensures.damaged c.close.ensures.damaged
-
-pub returns-clause-last : goal.returns-clause-last
-returns-clause-last g c = last_then c.close.result c.in_ok-tick.ensures.last c.close.ensures.last
 
 pub returns-in_err-tick-clause-refused : goal.returns-in_err-tick-clause-refused
 returns-in_err-tick-clause-refused g c =
@@ -54,3 +51,9 @@ returns-clause-own g c =
 
 pub returns-clause-fine : goal.returns-clause-fine
 returns-clause-fine g c = ok_fine c.close.result (returns-clause-own g c)
+
+pub returns-in_err-tick-clause-last : goal.returns-in_err-tick-clause-last
+returns-in_err-tick-clause-last g c = fails_of _ (returns-in_err-tick-clause-own g c)
+
+pub returns-clause-last : goal.returns-clause-last
+returns-clause-last g c = fails_of _ (returns-clause-own g c)

@@ -1,11 +1,8 @@
 use Rattle.chk_world.proofs.Working.{works_then}
-use Rattle.chk_sink.proofs.Owning.{made_as, made_none}
-use Rattle.std.proofs.Common.{ℕ, Err, ap, ◌∙◌, None}
+use Rattle.chk_sink.proofs.Owning.{made_as, made_none, fails_of}
+use Rattle.std.proofs.Common.{Ok, Err, ap, ◌∙◌, None}
 use Rattle.std.proofs.lemmas.Result.{err_from_is_err_and}
-use Rattle.chk_bytes.specs.Stems.{Stem}
 use Rattle.chk_chunk.specs.Lent.{lent_chunk}
-use Rattle.chk_sink.proofs.Last.{both}
-use Rattle.chk_collector.proofs.Joining.{last_then, unmade_last, fails_same}
 use Rattle.chk_collector.proofs.PutLoop.{put_begins, put_on, put_fails, own_on, put_leaves, put_unwritten, puts_end, lines_end}
 use Rattle.chk_collector.proofs.collector.Collector.put_all.Goals as goal
 
@@ -18,7 +15,7 @@ pub loop-chunk-preserved : goal.loop-chunk-preserved
 loop-chunk-preserved g c =
     put_on c.loop-chunk.invariant (lent_chunk c.in-Some.chunk) c.next.new.self.left c.in_ok-stem.stem c.in_ok-stem.end (g.S.Site.fault_count c.put.new.site)
     c.put.new.self c.put_line.new.lines c.in-Some.ensures.first c.in_ok-put_line.ensures.ok c.put_line.ensures.short c.in_ok-stem.ensures.told
-    c.in_ok-stem.ensures.last c.in_ok-stem.ensures.same c.in_ok-stem.ensures.goes_on c.in_ok-stem.ensures.placed c.in_ok-stem.ensures.own
+    c.in_ok-stem.ensures.same c.in_ok-stem.ensures.goes_on c.in_ok-stem.ensures.placed c.in_ok-stem.ensures.own
     c.in_ok-stem.ensures.cause
 
 pub returns-in_err-stem-clause-told : goal.returns-in_err-stem-clause-told
@@ -27,22 +24,11 @@ returns-in_err-stem-clause-told g c stamped handled posted =
     rw p.1 (put_fails c.loop-chunk.invariant (lent_chunk c.in-Some.chunk) c.next.new.self.left (Err c.in_err-stem.field-0.0) p.0 c.put.new.self c.loop-chunk.lines
     c.in-Some.ensures.first c.in_err-stem.ensures.told stamped handled posted)
 
-pub returns-in_err-stem-clause-last : goal.returns-in_err-stem-clause-last
-returns-in_err-stem-clause-last g c =
-    let p = err_from_is_err_and c.from_residual.result c.from_residual.ensures.1 in
-    last_then c.from_residual.result c.loop-chunk.invariant.goes_on
-    (fails_same (Stem × ℕ) c.from_residual.result c.in_err-stem.field-0.0 (p.1 ∙ ap Err p.2) c.in_err-stem.ensures.last)
-
 pub returns-in_err-put_line-clause-told : goal.returns-in_err-put_line-clause-told
 returns-in_err-put_line-clause-told g c stamped handled posted =
     let p = err_from_is_err_and c.from_residual-in_err-put_line.result c.from_residual-in_err-put_line.ensures.1 in
     rw p.1 (put_fails c.loop-chunk.invariant (lent_chunk c.in-Some.chunk) c.next.new.self.left c.put.result p.0 c.put.new.self c.put_line.new.lines
     c.in-Some.ensures.first c.put.ensures.told stamped handled posted)
-
-pub returns-in_err-put_line-clause-last : goal.returns-in_err-put_line-clause-last
-returns-in_err-put_line-clause-last g c =
-    let p = err_from_is_err_and c.from_residual-in_err-put_line.result c.from_residual-in_err-put_line.ensures.1 in
-    unmade_last c.from_residual-in_err-put_line.result (p.1 ∙ ap Err p.2) (both c.loop-chunk.invariant.goes_on c.put.ensures.last)
 
 pub returns-in_err-stem-clause-leaves : goal.returns-in_err-stem-clause-leaves
 returns-in_err-stem-clause-leaves g c =
@@ -72,3 +58,12 @@ returns-clause-lines g c = lines_end c.loop-chunk.invariant c.in_default.ensures
 
 pub returns-clause-own : goal.returns-clause-own
 returns-clause-own g c = c.loop-chunk.invariant.own
+
+pub returns-in_err-stem-clause-last : goal.returns-in_err-stem-clause-last
+returns-in_err-stem-clause-last g c = fails_of _ (returns-in_err-stem-clause-own g c)
+
+pub returns-in_err-put_line-clause-last : goal.returns-in_err-put_line-clause-last
+returns-in_err-put_line-clause-last g c = fails_of _ (returns-in_err-put_line-clause-own g c)
+
+pub returns-clause-last : goal.returns-clause-last
+returns-clause-last g c = fails_of {T = Unit {0}} (Ok tt) c.loop-chunk.invariant.own

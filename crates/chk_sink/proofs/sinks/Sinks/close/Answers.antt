@@ -1,14 +1,13 @@
 use Rattle.chk_sink.proofs.Owned.{close_works}
 use Rattle.chk_sink.specs.Works.{OfClose}
 use Rattle.chk_world.proofs.Working.{works_as, works_then}
-use Rattle.chk_sink.proofs.Owning.{made_as, made_ok, made_result}
+use Rattle.chk_sink.proofs.Owning.{made_as, made_ok, made_result, fails_of}
 use Rattle.std.proofs.Common.{ap, ◌∙◌, Err, inl, inr}
 use Rattle.std.proofs.lemmas.Result.{err_from_is_err_and}
-use Rattle.chk_replace.proofs.CallSteps.{script_last}
 use Rattle.chk_sink.specs.SinkFields.{writing_of}
 use Rattle.chk_sink.proofs.Fields.{seen_as, open_as}
 use Rattle.chk_sink.proofs.Scripts.{closing_quiet, later_cause, later_lists}
-use Rattle.chk_sink.proofs.Commits.{later_result_fails, close_refused, close_made}
+use Rattle.chk_sink.proofs.Commits.{close_refused, close_made}
 use Rattle.chk_sink.proofs.sinks.Sinks.close.Goals as goal
 
 pub returns-in_err-commit-clause-told : goal.returns-in_err-commit-clause-told
@@ -36,11 +35,6 @@ returns-clause-damaged g c =
     later_cause c.commit.result _ c.rename_to_done-closed.result _ c.in_ok-commit.was c.leave_where_done.ensures.result c.commit.ensures.damaged
     (closing_quiet c.self.inside.who c.in-Some.current.stem c.rename_to_done-closed.ensures.told)
 
-pub returns-clause-last : goal.returns-clause-last
-returns-clause-last g c =
-    later_result_fails _ c.rename_to_done-closed.result c.leave_where_done.ensures.result c.commit.ensures.last
-    (script_last c.rename_to_done-closed.ensures.told)
-
 pub returns-in_err-commit-clause-own : goal.returns-in_err-commit-clause-own
 returns-in_err-commit-clause-own g c =
     let p = err_from_is_err_and c.from_residual.result c.from_residual.ensures.1 in
@@ -60,3 +54,9 @@ returns-clause-own g c =
     (works_as (OfClose s) (λ call one. inr one)
     (close_works s mid (writing_of c.in-Some.current) c.in_ok-commit.ensures.ok f.some c.self.inside.who
     (seen_as c.self.inside mid c.self.view_is c.self.invariant).who c.in-Some.current.stem f.of_stem.stem c.rename_to_done-closed.ensures.told)))
+
+pub returns-in_err-commit-clause-last : goal.returns-in_err-commit-clause-last
+returns-in_err-commit-clause-last g c = fails_of _ (returns-in_err-commit-clause-own g c)
+
+pub returns-clause-last : goal.returns-clause-last
+returns-clause-last g c = fails_of _ (returns-clause-own g c)

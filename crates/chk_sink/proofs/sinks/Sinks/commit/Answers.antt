@@ -1,12 +1,11 @@
 use Rattle.chk_world.specs.Works.{rests}
 use Rattle.chk_sink.proofs.Owned.{commit_works}
-use Rattle.chk_sink.proofs.Owning.{made_result}
+use Rattle.chk_sink.proofs.Owning.{made_result, fails_of}
 use Rattle.std.proofs.Common.{ap}
-use Rattle.chk_replace.proofs.CallSteps.{script_last}
 use Rattle.chk_sink.specs.SinkFields.{writing_of}
 use Rattle.chk_sink.proofs.Fields.{seen_as, open_as}
 use Rattle.chk_sink.proofs.Scripts.{publishing_quiet, quiet_cause, quiet_lists}
-use Rattle.chk_sink.proofs.Commits.{result_fails, commit_same, commit_made}
+use Rattle.chk_sink.proofs.Commits.{commit_same, commit_made}
 use Rattle.chk_sink.proofs.sinks.Sinks.commit.Goals as goal
 
 pub returns-then-current-clause-told : goal.returns-then-current-clause-told
@@ -31,9 +30,6 @@ returns-clause-damaged g c =
     quiet_cause _ c.publish-published.result c.keep_where_done.ensures.result
     (publishing_quiet c.self.inside.who c.in-Some.current.stem c.in-Some.current.size c.publish-published.ensures.told)
 
-pub returns-clause-last : goal.returns-clause-last
-returns-clause-last g c = result_fails _ c.publish-published.result c.keep_where_done.ensures.result (script_last c.publish-published.ensures.told)
-
 pub returns-in_default-clause-own : goal.returns-in_default-clause-own
 returns-in_default-clause-own g c = rests
 
@@ -47,3 +43,6 @@ returns-clause-own g c =
     made_result _ c.publish-published.result c.keep_where_done.ensures.result
     (commit_works s (writing_of c.in-Some.current) f.some c.self.inside.who (seen_as c.self.inside s c.self.view_is c.self.invariant).who
     c.in-Some.current.stem f.of_stem.stem c.publish-published.ensures.told)
+
+pub returns-clause-last : goal.returns-clause-last
+returns-clause-last g c = fails_of _ (returns-clause-own g c)

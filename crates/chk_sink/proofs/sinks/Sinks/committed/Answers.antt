@@ -2,12 +2,12 @@ use Rattle.chk_site.specs.Site.{asked, sized}
 use Rattle.chk_site.specs.declared.acts.Call.TheVariants.{Size}
 use Rattle.chk_sink.proofs.Fields.{seen_as}
 use Rattle.chk_world.proofs.Working.{works_then}
-use Rattle.chk_sink.proofs.Owning.{made_err, made_none, made_by, taken_once}
+use Rattle.chk_sink.proofs.Owning.{made_err, made_none, made_by, taken_once, fails_of}
 use Rattle.std.proofs.Common.{◌∙◌, ap, Ok, Err, [], ◌∷◌}
 use Rattle.std.proofs.lemmas.Result.{err_from_is_err_and}
 use Rattle.chk_site.proofs.Leads.{leads_then}
 use Rattle.chk_sink.proofs.Counting.{asker, size_given, size_none, size_ended}
-use Rattle.chk_sink.proofs.DamageSeen.{size_damaged, size_sound, size_then_damaged, then_fails}
+use Rattle.chk_sink.proofs.DamageSeen.{size_damaged, size_sound, size_then_damaged}
 use Rattle.chk_sink.proofs.sinks.Sinks.committed.Goals as goal
 
 pub returns-in_err-size-clause-told : goal.returns-in_err-size-clause-told
@@ -49,9 +49,6 @@ pub returns-clause-damaged : goal.returns-clause-damaged
 returns-clause-damaged g c =
     size_then_damaged c.self.inside.who c.as_str.result.now c.size_of.result c.marked.result c.size_of.ensures.told c.marked.ensures.damaged
 
-pub returns-clause-last : goal.returns-clause-last
-returns-clause-last g c = then_fails c.marked.result c.size_of.ensures.told.told c.marked.ensures.last
-
 pub returns-in_err-name-clause-own : goal.returns-in_err-name-clause-own
 returns-in_err-name-clause-own g c =
     let p = err_from_is_err_and c.from_residual.result c.from_residual.ensures.1 in
@@ -68,3 +65,15 @@ returns-in-Some-clause-own g c = made_by (seen_as c.self.inside c.args.self.now 
 
 pub returns-clause-own : goal.returns-clause-own
 returns-clause-own g c = made_by (seen_as c.self.inside c.args.self.now c.self.view_is c.self.invariant).who (works_then (taken_once (asked c.self.inside.who Size (c.as_str.result.now ∷ []) 0 0) sized c.size_of.result _ c.in_ok-size.was (λ v. tt) (c.as_str.ensures.value ∙ c.in_ok-name.ensures) c.size_of.ensures.told) c.marked.ensures.own)
+
+pub returns-in_err-name-clause-last : goal.returns-in_err-name-clause-last
+returns-in_err-name-clause-last g c = fails_of _ (returns-in_err-name-clause-own g c)
+
+pub returns-in_err-size-clause-last : goal.returns-in_err-size-clause-last
+returns-in_err-size-clause-last g c = fails_of _ (returns-in_err-size-clause-own g c)
+
+pub returns-in-Some-clause-last : goal.returns-in-Some-clause-last
+returns-in-Some-clause-last g c = fails_of (Ok c.in-Some.size) (returns-in-Some-clause-own g c)
+
+pub returns-clause-last : goal.returns-clause-last
+returns-clause-last g c = fails_of _ (returns-clause-own g c)

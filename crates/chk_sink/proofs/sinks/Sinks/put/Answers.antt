@@ -1,7 +1,7 @@
 use Rattle.chk_sink.proofs.Ticks.{is_seen}
 use Rattle.chk_world.specs.Works.{rests}
 use Rattle.chk_sink.proofs.Owned.{current_puts, next_puts}
-use Rattle.chk_sink.proofs.Owning.{made_none}
+use Rattle.chk_sink.proofs.Owning.{made_none, fails_of}
 use Rattle.std.proofs.Common.{true, false, sym, ◌∙◌, ◌++◌, ap, refl, List, ℕ, Err}
 use Rattle.std.proofs.lemmas.Result.{err_from_is_err_and}
 use Rattle.chk_chunk.specs.Keys.{written_key}
@@ -58,3 +58,12 @@ returns-then-is_some-clause-own g c = current_puts c.args.self.now c.let_go_of_f
 
 pub returns-clause-own : goal.returns-clause-own
 returns-clause-own g c = next_puts c.args.self.now c.let_go_of_full.new.self c.let_go_of_full.ensures (is_seen c.self.inside c.let_go_of_full.new.self false c.self.view_is (sym c.if-is_some.ensures)) c.put_in_next.ensures.own
+
+pub returns-in_err-write_key-clause-last : goal.returns-in_err-write_key-clause-last
+returns-in_err-write_key-clause-last g c = fails_of _ (returns-in_err-write_key-clause-own g c)
+
+pub returns-then-is_some-clause-last : goal.returns-then-is_some-clause-last
+returns-then-is_some-clause-last g c = fails_of _ (returns-then-is_some-clause-own g c)
+
+pub returns-clause-last : goal.returns-clause-last
+returns-clause-last g c = fails_of _ (returns-clause-own g c)

@@ -12,7 +12,6 @@ use Rattle.chk_sink.specs.SinkFields.{writing_of}
 use Rattle.chk_sink.proofs.Putting.{piece_of, longer_writing}
 use Rattle.chk_sink.proofs.Made.{kept_done, kept_ended}
 use Rattle.chk_sink.proofs.Fields.{seen_as, open_as, put_refused, placed_kept}
-use Rattle.chk_sink.proofs.Last.{kept_fails}
 use Rattle.chk_sink.proofs.sinks.Sinks.put_in_current.Goals as goal
 
 pub entry-requires-clause-ordered : goal.entry-requires-clause-ordered
@@ -81,12 +80,6 @@ returns-clause-placed g c =
     placed_kept s c.keep_where_done.new.self (writing_of c.in_ok-piece.longer) c.append_to-appended.result _
     (sym c.keep_where_done.ensures.result ∙ c.in_ok-keep_where_done.was) c.keep_where_done.ensures.new
     c.in_ok-piece.longer.stem c.in_ok-piece.longer.size (ap (λ (k : Current). k.stem) c.in_ok-piece.ensures.longer ∙ f.of_stem.stem) refl
-
-pub returns-in_err-keep_where_done-clause-last : goal.returns-in_err-keep_where_done-clause-last
-returns-in_err-keep_where_done-clause-last g c =
-    let p = err_from_is_err_and c.from_residual-in_err-keep_where_done.result c.from_residual-in_err-keep_where_done.ensures.1 in
-    kept_fails c.from_residual-in_err-keep_where_done.result c.append_to-appended.result _
-    (sym c.keep_where_done.ensures.result ∙ c.in_err-keep_where_done.was) (p.1 ∙ ap Err p.2) c.append_to-appended.ensures.last
 
 pub returns-in_err-name-clause-own : goal.returns-in_err-name-clause-own
 returns-in_err-name-clause-own g c =

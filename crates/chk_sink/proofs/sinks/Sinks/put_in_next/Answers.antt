@@ -16,7 +16,6 @@ use Rattle.chk_sink.proofs.Putting.{longer_writing}
 use Rattle.chk_sink.proofs.Beginning.{first_writing}
 use Rattle.chk_sink.proofs.Fields.{seen_as, put_refused, counted_done}
 use Rattle.chk_sink.proofs.Next.{uncreated_as, unheaded_as, unfilled_as, filled_as, counted_process}
-use Rattle.chk_sink.proofs.Last.{later_fails, both, none_fails}
 use Rattle.chk_sink.proofs.sinks.Sinks.put_in_next.Goals as goal
 
 pub returns-in_err-name-clause-told : goal.returns-in_err-name-clause-told
@@ -89,24 +88,6 @@ returns-clause-told g c stamped handled chunk posted is v =
     (c.begin.ensures ∙ (ap (λ (t : State). begun t (writing_of c.in_ok-name.longer) c.self.inside.abandoned) (c.count.ensures ∙ counted_done s c.create-created.result c.in_ok-done.ensures)
     ∙ (λ i. begun (record { collector = s.collector; born = s.born; number = s.number + 1; rotate = s.rotate; current = s.current; abandoned = s.abandoned }) (writing i) (known.abandoned i))))
     (λ i. (x i, (ap (λ (k : Current). k.size) c.in_ok-name.ensures.longer ∙ ap (λ (q : List ℕ). 96 + length q) piece) i))
-
-pub returns-in_err-append_to-clause-last : goal.returns-in_err-append_to-clause-last
-returns-in_err-append_to-clause-last g c =
-    let p = err_from_is_err_and c.from_residual-in_err-append_to.result c.from_residual-in_err-append_to.ensures.1 in
-    later_fails c.from_residual-in_err-append_to.result c.append_to.result _ (p.1 ∙ ap Err p.2) c.in_err-append_to.was
-    c.create-created.ensures.told c.append_to.ensures.last
-
-pub returns-in_err-append_to-2-clause-last : goal.returns-in_err-append_to-2-clause-last
-returns-in_err-append_to-2-clause-last g c =
-    let p = err_from_is_err_and c.from_residual-in_err-append_to-2.result c.from_residual-in_err-append_to-2.ensures.1 in
-    later_fails c.from_residual-in_err-append_to-2.result c.append_to-2.result _ (p.1 ∙ ap Err p.2) c.in_err-append_to-2.was
-    (both c.create-created.ensures.told c.append_to.ensures.last) c.append_to-2.ensures.last
-
-pub returns-clause-last : goal.returns-clause-last
-returns-clause-last g c =
-    let placed : Stem × ℕ = (c.next_stem-stem.result, c.in_ok-name.longer.size) in
-    none_fails placed
-    (both (both c.create-created.ensures.told c.append_to.ensures.last) c.append_to-2.ensures.last)
 
 pub returns-in_err-name-clause-own : goal.returns-in_err-name-clause-own
 returns-in_err-name-clause-own g c =

@@ -1,15 +1,14 @@
 use Rattle.chk_sink.specs.Works.{OfStart}
 use Rattle.chk_sink.proofs.Owned.{settle_starts}
 use Rattle.chk_world.proofs.Working.{works_then, works_as}
-use Rattle.chk_sink.proofs.Owning.{made_as, made_none, made_ok}
-use Rattle.std.proofs.Common.{◌∙◌, ap, Err, inl}
+use Rattle.chk_sink.proofs.Owning.{made_as, made_none, made_ok, fails_of}
+use Rattle.std.proofs.Common.{◌∙◌, ap, Ok, Err, inl}
 use Rattle.std.proofs.lemmas.Result.{err_from_is_err_and}
 use Rattle.chk_site.specs.declared.acts.Who.{Who}
 use Rattle.chk_sink.specs.Starting.{first_state}
 use Rattle.chk_sink.specs.States.{State}
 use Rattle.chk_site.proofs.Runs.{start_then}
-use Rattle.chk_sink.proofs.Last.{both, none_fails}
-use Rattle.chk_sink.proofs.Started.{started_told, unstarted_told, started_spent, unstarted_spent, started_damage, unstarted_damage, unstarted_fails}
+use Rattle.chk_sink.proofs.Started.{started_told, unstarted_told, started_spent, unstarted_spent, started_damage, unstarted_damage}
 use Rattle.chk_sink.proofs.sinks.Sinks.start.Goals as goal
 
 pub returns-in_err-settle-clause-told : goal.returns-in_err-settle-clause-told
@@ -32,12 +31,6 @@ returns-in_err-settle-clause-damaged g c =
     rw (p.1, p.2)
     (unstarted_damage State c.in_err-settle.field-0.0 c.in_ok-born.born c.in_ok-born.ensures.damaged c.in_err-settle.ensures.damaged)
 
-pub returns-in_err-settle-clause-last : goal.returns-in_err-settle-clause-last
-returns-in_err-settle-clause-last g c =
-    let p = err_from_is_err_and c.from_residual-in_err-settle.result c.from_residual-in_err-settle.ensures.1 in
-    rw (p.1, p.2)
-    (unstarted_fails State c.in_err-settle.field-0.0 c.publish_next.ensures.last c.in_err-settle.ensures.last)
-
 pub returns-clause-told : goal.returns-clause-told
 returns-clause-told g c stamped =
     started_told stamped c.args.who.now c.in_ok-born.born c.args.rotate c.first-sinks.result c.settle.new.self c.requires.role
@@ -52,11 +45,8 @@ pub returns-clause-damaged : goal.returns-clause-damaged
 returns-clause-damaged g c =
     started_damage State c.settle.new.self c.in_ok-born.born _ c.in_ok-born.ensures.damaged c.in_ok-settle.ensures.damaged
 
-pub returns-clause-last : goal.returns-clause-last
-returns-clause-last g c = none_fails c.settle.new.self (both c.publish_next.ensures.last c.settle.ensures.last)
-
 pub returns-clause-starts : goal.returns-clause-starts
-returns-clause-starts g c = start_then c.args.who.now c.in_ok-born.ensures.starts c.settle.ensures.last
+returns-clause-starts g c = start_then c.args.who.now c.in_ok-born.ensures.starts c.settle.ensures.unread
 
 pub returns-in_err-own-clause-own : goal.returns-in_err-own-clause-own
 returns-in_err-own-clause-own g c =
@@ -86,3 +76,18 @@ returns-clause-own g c =
     works_then (works_as (OfStart c.args.who.now) (λ call one. inl one) c.in_ok-born.ensures.own)
     (made_ok c.settle.result _ c.in_ok-settle.was
     (settle_starts c.args.who.now c.in_ok-born.born c.args.rotate c.first-sinks.result c.requires.role (c.first-sinks.ensures ∙ ap (λ (k : Who). first_state k c.in_ok-born.born c.args.rotate) c.in_ok-own.ensures) c.settle.ensures.own))
+
+pub returns-in_err-own-clause-last : goal.returns-in_err-own-clause-last
+returns-in_err-own-clause-last g c = fails_of _ (returns-in_err-own-clause-own g c)
+
+pub returns-in_err-name-clause-last : goal.returns-in_err-name-clause-last
+returns-in_err-name-clause-last g c = fails_of _ (returns-in_err-name-clause-own g c)
+
+pub returns-in_err-born-clause-last : goal.returns-in_err-born-clause-last
+returns-in_err-born-clause-last g c = fails_of _ (returns-in_err-born-clause-own g c)
+
+pub returns-in_err-settle-clause-last : goal.returns-in_err-settle-clause-last
+returns-in_err-settle-clause-last g c = fails_of _ (returns-in_err-settle-clause-own g c)
+
+pub returns-clause-last : goal.returns-clause-last
+returns-clause-last g c = fails_of (Ok c.settle.new.self) (returns-clause-own g c)

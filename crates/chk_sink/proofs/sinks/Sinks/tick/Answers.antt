@@ -3,13 +3,12 @@ use Rattle.chk_sink.proofs.Refusing.{unsettled_leaves, settled_leaves, ok_fine}
 use Rattle.chk_sink.proofs.Owned.{settled_works}
 use Rattle.chk_sink.specs.Works.{OfTick}
 use Rattle.chk_world.proofs.Working.{works_as, works_then}
-use Rattle.chk_sink.proofs.Owning.{made_as, made_ok}
-use Rattle.std.proofs.Common.{ap, ◌∙◌, Err, inl, inr}
+use Rattle.chk_sink.proofs.Owning.{made_as, made_ok, fails_of}
+use Rattle.std.proofs.Common.{ap, sym, ◌∙◌, Err, inl, inr, true≢false}
 use Rattle.std.proofs.lemmas.Result.{err_from_is_err_and}
 use Rattle.chk_site.proofs.Runs.{adds_then}
 use Rattle.chk_sink.specs.Damage.{DamageCause}
-use Rattle.chk_sink.specs.Faults.{FailsLast}
-use Rattle.chk_sink.proofs.JoinedCauses.{damage_later, fails_later}
+use Rattle.chk_sink.proofs.JoinedCauses.{damage_later}
 use Rattle.chk_sink.proofs.Ticks.{unsettled_ticks, settle_ticks}
 use Rattle.chk_sink.proofs.sinks.Sinks.tick.Goals as goal
 
@@ -27,11 +26,6 @@ pub returns-clause-damaged : goal.returns-clause-damaged
 returns-clause-damaged g c =
     adds_then (DamageCause c.tick_settled-2.result) c.in_ok-settle.ensures.damaged c.tick_settled-2.ensures.damaged
     (λ a b h x y. damage_later c.tick_settled-2.result b a h x y)
-
-pub returns-clause-last : goal.returns-clause-last
-returns-clause-last g c =
-    adds_then (FailsLast c.tick_settled-2.result) c.settle.ensures.last c.tick_settled-2.ensures.last
-    (λ a b h x y. fails_later c.tick_settled-2.result b a h y)
 
 pub returns-then-not-self-clause-own : goal.returns-then-not-self-clause-own
 returns-then-not-self-clause-own g c = works_as (OfTick c.args.self.now) (λ call one. inr one) c.tick_settled.ensures.own
@@ -69,3 +63,25 @@ returns-then-not-self-clause-fine g c = ok_fine c.tick_settled.result c.tick_set
 
 pub returns-clause-fine : goal.returns-clause-fine
 returns-clause-fine g c = ok_fine c.tick_settled-2.result (returns-clause-own g c)
+
+pub returns-then-not-self-clause-last : goal.returns-then-not-self-clause-last
+returns-then-not-self-clause-last g c = fails_of _ (returns-then-not-self-clause-own g c)
+
+pub returns-in_err-settle-clause-last : goal.returns-in_err-settle-clause-last
+returns-in_err-settle-clause-last g c = fails_of _ (returns-in_err-settle-clause-own g c)
+
+pub returns-clause-last : goal.returns-clause-last
+returns-clause-last g c = fails_of _ (returns-clause-own g c)
+
+pub returns-then-not-self-clause-closes : goal.returns-then-not-self-clause-closes
+returns-then-not-self-clause-closes g c none = c.tick_settled.ensures.own
+
+pub returns-in_err-settle-clause-closes : goal.returns-in_err-settle-clause-closes
+returns-in_err-settle-clause-closes g c none =
+    let settles = settling_as c.self.inside c.args.self.now c.self.view_is c.self.invariant c.if-not-self.false in
+    absurd (true≢false (sym settles.abandoned ∙ none))
+
+pub returns-clause-closes : goal.returns-clause-closes
+returns-clause-closes g c none =
+    let settles = settling_as c.self.inside c.args.self.now c.self.view_is c.self.invariant c.if-not-self.false in
+    absurd (true≢false (sym settles.abandoned ∙ none))

@@ -5,13 +5,12 @@ use Rattle.chk_sink.proofs.Owned.{marked_works}
 use Rattle.chk_sink.specs.Works.{OfClose}
 use Rattle.chk_world.proofs.Working.{works_as, works_then}
 use Rattle.chk_sink.proofs.Owning.{made_as, made_ok}
-use Rattle.std.proofs.Common.{ap, ◌∙◌, Err, inl, false, true, sym}
+use Rattle.std.proofs.Common.{ap, ◌∙◌, Err, inl, true}
 use Rattle.chk_site.specs.History.{Every}
 use Rattle.chk_site.proofs.Runs.{adds_then, every_join}
 use Rattle.chk_sink.specs.Closes.{IsNoListing}
 use Rattle.chk_sink.specs.Damage.{DamageCause}
-use Rattle.chk_sink.specs.Faults.{FailsLast}
-use Rattle.chk_sink.proofs.JoinedCauses.{damage_later, fails_later}
+use Rattle.chk_sink.proofs.JoinedCauses.{damage_later}
 use Rattle.chk_sink.proofs.Ticks.{none_seen, none_ticks, unmarked_ticks, close_ticks, see_ticks, is_seen}
 use Rattle.chk_sink.proofs.sinks.Sinks.tick_settled.Goals as goal
 
@@ -32,11 +31,6 @@ pub returns-then-is_due-clause-damaged : goal.returns-then-is_due-clause-damaged
 returns-then-is_due-clause-damaged g c =
     adds_then (DamageCause c.close.result) c.in_ok-commit.ensures.damaged c.close.ensures.damaged
     (λ a b h x y. damage_later c.close.result b a h x y)
-
-pub returns-then-is_due-clause-last : goal.returns-then-is_due-clause-last
-returns-then-is_due-clause-last g c =
-    adds_then (FailsLast c.close.result) c.commit.ensures.last c.close.ensures.last
-    (λ a b h x y. fails_later c.close.result b a h y)
 
 pub returns-clause-told : goal.returns-clause-told
 returns-clause-told g c stamped =
