@@ -128,20 +128,25 @@ fn stops_at(alloc: Global, at: u64, call: Call, whole: bool, tail: &[u8]) -> Res
     ends_at(alloc, stopping(alloc, at, left), call, left_by(call, whole))
 }
 
+// The tails of a stop, and whether its call took effect.
+const TAILS: [(&'static str, &[u8], bool); 4] = [
+    ("nothing left", b"", false),
+    ("a tail left", b"chukwa-check", false),
+    ("whole", b"", true),
+    (
+        "whole with a tail",
+        b"chukwa-checkpoint 2\nadd x = LWFTAdaptor Log /a.log 11 5 - 5\n",
+        true,
+    ),
+];
+
 #[test]
 fn replacement_is_stopped_at_each_call(rt: HostRuntime) -> Result<(), Fail> {
     let alloc = rt.alloc();
     for (at, call) in CALLS {
-        assert!(rt; stops_at(alloc, at, call, false, b"")?, "{call:?}");
-        assert!(rt;
-            stops_at(alloc, at, call, false, b"chukwa-check")?,
-            "{call:?}"
-        );
-        assert!(rt; stops_at(alloc, at, call, true, b"")?, "{call:?}");
-        assert!(rt;
-            stops_at(alloc, at, call, true, NEXT.as_slice())?,
-            "{call:?}"
-        );
+        for (row, tail, whole) in TAILS {
+            assert!(rt; stops_at(alloc, at, call, whole, tail)?, "{call:?}: {row}");
+        }
     }
     Ok(())
 }

@@ -39,11 +39,12 @@ const FILES: [&str; 6] = [
 ];
 
 // The tails of a stop, and whether its call took effect.
-const TAILS: [(&[u8], bool); 4] = [
-    (b"", false),
-    (b"\0\0\0\x28\0\0\0\x1e", false),
-    (b"", true),
+const TAILS: [(&'static str, &[u8], bool); 4] = [
+    ("stopped", b"", false),
+    ("stopped with a tail", b"\0\0\0\x28\0\0\0\x1e", false),
+    ("stopped whole", b"", true),
     (
+        "stopped whole with a long tail",
         b"a tail of more bytes than were ever appended to any of these files, so that it is cut",
         true,
     ),
@@ -112,30 +113,51 @@ fn closes(alloc: Global, site: &mut SiteMem, sinks: &mut Sinks) {
     let _done = sinks.close(alloc, site);
 }
 
+// A call of a script and what is to become of it, by which a failure is told.
+#[derive(Clone, Copy)]
+struct Row {
+    what: &'static str,
+    at: u64,
+}
+
+impl Row {
+    // The test goes on where this holds; else it ends, and names the row.
+    fn wants(self, alloc: Global, holds: bool, what: &str) -> Result<(), Fail> {
+        if holds {
+            return Ok(());
+        }
+        let Row { what: row, at } = self;
+        match format!(in alloc; "call {at} {row}: {what}") {
+            Ok(text) => Err(Fail::new(text.as_str())),
+            Err(_) => Err(Fail::from("a row failed, and no memory to tell which")),
+        }
+    }
+}
+
 // Another start settles all, and loses no committed length.
-fn recovers(alloc: Global, site: &mut SiteMem) -> Result<(), Fail> {
+fn recovers(alloc: Global, site: &mut SiteMem, row: Row) -> Result<(), Fail> {
     let before = lengths(site);
     site.restart(quiet(alloc));
     let _next = started(alloc, site)?;
-    expect(are_kept(before, lengths(site)), "a length was lost")?;
-    expect(is_settled(site), "a sink is left")
+    row.wants(alloc, are_kept(before, lengths(site)), "a length was lost")?;
+    row.wants(alloc, is_settled(site), "a sink is left")
 }
 
 // A collector works by this script, and what it leaves is settled.
-fn survives(alloc: Global, script: Script) -> Result<(), Fail> {
+fn survives(alloc: Global, row: Row, script: Script) -> Result<(), Fail> {
     let mut site = SiteMem::new(alloc, script)?;
     works(alloc, &mut site)?;
-    recovers(alloc, &mut site)
+    recovers(alloc, &mut site, row)
 }
 
 // The next start goes by this script over what was left behind, and the start after it settles all.
-fn survives_start(alloc: Global, script: Script) -> Result<(), Fail> {
+fn survives_start(alloc: Global, row: Row, script: Script) -> Result<(), Fail> {
     let mut site = left_behind(alloc)?;
     let before = lengths(&site);
     site.restart(script);
     starts(alloc, &mut site)?;
-    expect(are_kept(before, lengths(&site)), "a length was lost")?;
-    recovers(alloc, &mut site)
+    row.wants(alloc, are_kept(before, lengths(&site)), "a length was lost")?;
+    recovers(alloc, &mut site, row)
 }
 
 fn starts(alloc: Global, site: &mut SiteMem) -> Result<(), Fail> {
@@ -180,7 +202,9 @@ fn each_call_fails(rt: HostRuntime) -> Result<(), Fail> {
     let calls = calls(alloc)?;
     expect(calls > 40, "too few calls")?;
     for before in 0..calls {
-        survives(alloc, failing(alloc, before + 1)?)?;
+        let at = before + 1;
+        let row = Row { what: "failed", at };
+        survives(alloc, row, failing(alloc, at)?)?;
     }
     Ok(())
 }
@@ -190,8 +214,10 @@ fn each_call_is_stopped(rt: HostRuntime) -> Result<(), Fail> {
     let alloc = rt.alloc();
     let calls = calls(alloc)?;
     for before in 0..calls {
-        for (tail, whole) in TAILS {
-            survives(alloc, stopping_at(alloc, before + 1, &FILES, tail, whole)?)?;
+        let at = before + 1;
+        for (what, tail, whole) in TAILS {
+            let script = stopping_at(alloc, at, &FILES, tail, whole)?;
+            survives(alloc, Row { what, at }, script)?;
         }
     }
     Ok(())
@@ -216,9 +242,11 @@ fn is_left(site: &SiteMem) -> Result<(), Fail> {
 fn each_call_of_a_start_fails_or_is_stopped(rt: HostRuntime) -> Result<(), Fail> {
     let alloc = rt.alloc();
     for at in 1..20 {
-        survives_start(alloc, failing(alloc, at)?)?;
-        for (tail, whole) in TAILS {
-            survives_start(alloc, stopping_at(alloc, at, &FILES, tail, whole)?)?;
+        let row = Row { what: "failed", at };
+        survives_start(alloc, row, failing(alloc, at)?)?;
+        for (what, tail, whole) in TAILS {
+            let script = stopping_at(alloc, at, &FILES, tail, whole)?;
+            survives_start(alloc, Row { what, at }, script)?;
         }
     }
     Ok(())

@@ -16,11 +16,11 @@ use crate::lines::stream_line;
 use chk_bytes::{Bytes, NoMemory, Word};
 use chk_chunk::{ChunkRef, write_key};
 use chk_seqfile::{SeqWriter, header};
-use chk_site::{Call, Part, Role, Site, Who, done, taken};
+use chk_site::{Call, PIECE_BYTES, Part, Role, Site, Who, done, taken};
 use std::alloc::Global;
 
-/// The most bytes of a chunk.
-const LARGEST: usize = 131072;
+/// The most bytes of a chunk: those of a piece of a log.
+const LARGEST: usize = PIECE_BYTES;
 
 const STEM: &str = "c1.1.1";
 
@@ -100,7 +100,7 @@ fn store<S: Site>(
     bytes: &[u8],
 ) -> Result<(), RunFault>
     requires good { IsTrue (is_round (round_of given.now)) }
-    requires few { length bytes.now ≤ 131072 }
+    requires few { length bytes.now ≤ LARGEST }
     ensures kept { (earlier : History) → Adds (S.told site.old) (S.told site.new)
         (Leads (anyhow IsForeign) (Holds (round_of given.now) earlier (ReadNow (round_of given.now) earlier bytes.now))
         (ClosedOr (round_of given.now) earlier bytes.now result)) }
@@ -131,7 +131,7 @@ fn store<S: Site>(
 fn entry(alloc: Global, given: &RoundWords<'_>, bytes: &[u8]) -> Result<Bytes, NoMemory>
     requires good { IsTrue (is_round (round_of given.now)) }
     requires some { 0 < length bytes.now }
-    requires few { length bytes.now ≤ 131072 }
+    requires few { length bytes.now ≤ LARGEST }
     ensures { IfOk result (λ entry. entry ≡ entry_of (round_of given.now) bytes.now) }
 {
     let chunk = ChunkRef {
@@ -211,7 +211,7 @@ fn close_sink<S: Site>(
 ) -> Result<(), RunFault>
     requires good { IsTrue (is_round (round_of given.now)) }
     requires some { 0 < length bytes.now }
-    requires few { length bytes.now ≤ 131072 }
+    requires few { length bytes.now ≤ LARGEST }
     requires who { collector.now ≡ collector_c1 }
     ensures kept { (earlier : History) → Adds (S.told site.old) (S.told site.new)
         (Leads (anyhow IsForeign) (FullOr (round_of given.now) earlier bytes.now (Ok tt))
@@ -236,7 +236,7 @@ fn say_stream<S: Site>(
     bytes: &[u8],
 ) -> Result<(), RunFault>
     requires who { agent.now ≡ agent_of (round_of given.now) }
-    requires few { length bytes.now ≤ 131072 }
+    requires few { length bytes.now ≤ LARGEST }
     ensures kept { (earlier : History) → Adds (S.told site.old) (S.told site.new)
         (Leads (anyhow IsForeign) (ClosedOr (round_of given.now) earlier bytes.now (Ok tt)) (WholeOr (round_of given.now) earlier result)) }
     ensures acts { (earlier : History) → Adds (S.told site.old) (S.told site.new)
