@@ -1,0 +1,47 @@
+-- The lines of a past adaptor that lives again, and what keeps them.
+use Rattle.std.proofs.Common.{◌≡◌, ℕ, zero, suc, ◌≤◌, true, List, [], ◌∷◌, length, map, Some, Ok, ap, sym, subst, ◌∙◌, refl}
+use Rattle.std.specs.Prelude.{slice_get, slice_set, slice_index}
+use Rattle.std.proofs.lemmas.Option.{same_Some}
+use Rattle.chk_site.specs.History.{History}
+use Rattle.std.specs.Prelude.{Option}
+use Rattle.chk_checkpoint.specs.declared.CheckLine.{CheckLine}
+use Rattle.chk_checkpoint.specs.Lines.{shown}
+use Rattle.chk_world.specs.Checkpoints.{Line}
+use Rattle.chk_reading.specs.Adaptors.{Adaptor, line_at, revived}
+use Rattle.chk_agent.specs.States.{State, lines_at, lines_of}
+use Rattle.chk_agent.specs.Settles.{Writes, saved_now}
+use Rattle.chk_agent.specs.Adds.{revived_at}
+use Rattle.chk_agent.specs.Takes.{Keeps, kept}
+use Rattle.chk_agent.proofs.Soundness.{at_map}
+use Rattle.chk_agent.proofs.Listing.{line_get}
+use Rattle.chk_agent.proofs.SettlingLines.{lines_set}
+
+map_set : (lines : List CheckLine) (n : ℕ) (z : CheckLine) → map shown (slice_set lines n z) ≡ slice_set (map shown lines) n (shown z)
+map_set [] n z = refl
+map_set (l ∷ lines) zero z = refl
+map_set (l ∷ lines) (suc n) z = ap (λ ls. shown l ∷ ls) (map_set lines n z)
+
+pub lines_revived : (lines : List CheckLine) (y z : CheckLine) (xs : List Adaptor) (ends : List ℕ) (n : ℕ) (a : Adaptor) (name : List ℕ)
+    → map shown lines ≡ lines_at xs ends → length xs ≤ length ends → slice_get lines n ≡ Some y → slice_get xs n ≡ Some a
+    → shown z ≡ record (shown y) { live = true; name = name }
+    → map shown (slice_set lines n z) ≡ lines_at (slice_set xs n (revived name a)) ends
+lines_revived lines y z xs ends n a name are few got at is =
+    let same : shown y ≡ line_at (slice_index ends n) a =
+    same_Some (shown y) (line_at (slice_index ends n) a)
+    (sym (at_map shown lines n y got) ∙ (ap (λ ls. slice_get ls n) are ∙ line_get xs ends n a at)) in
+    map_set lines n z
+    ∙ (ap (λ ls. slice_set ls n (shown z)) are
+    ∙ (ap (λ k. slice_set (lines_at xs ends) n k) (is ∙ ap (λ (l : Line). record l { live = true; name = name }) same)
+    ∙ lines_set xs ends n (revived name a) few))
+
+pub kept_state : (s : State) (n : ℕ) (name : List ℕ) (a b : Adaptor) (lines : List Line) → b ≡ revived name a
+    → lines ≡ lines_of (revived_at s n name a)
+    → record s { adaptors = slice_set s.adaptors n b; saved = lines } ≡ saved_now (revived_at s n name a)
+kept_state s n name a b lines is are = λ i. record s { adaptors = slice_set s.adaptors n (is i); saved = are i }
+
+pub kept_by : (s : State) (n : ℕ) (name : List ℕ) (a b : Adaptor) (lines : List Line) → b ≡ revived name a
+    → lines ≡ lines_of (revived_at s n name a) → {old new : Option History} → Writes s lines (Ok tt) old new
+    → Keeps s (revived_at s n name a) (Ok tt) (record s { adaptors = slice_set s.adaptors n b; saved = lines }) old new
+kept_by s n name a b lines is are {old = old} {new = new} script =
+    subst (λ t. Keeps s (revived_at s n name a) (Ok tt) t old new) (sym (kept_state s n name a b lines is are))
+    (kept (subst (λ ls. Writes s ls (Ok tt) old new) are script))

@@ -1,0 +1,32 @@
+use Rattle.chk_world.specs.Places.{As}
+use Rattle.chk_delivery.specs.Scripts.{lengths_fail}
+use Rattle.chk_agent.specs.Fields.{agent_view}
+use Rattle.chk_agent.proofs.TalkingTold.{lengths_by, as_runs, talk_told, talk_cause}
+use Rattle.chk_agent.proofs.TalkingSound.{lengths_sound}
+use Rattle.chk_agent.proofs.agent.Agent.poll_reply.Goals as goal
+
+pub invariant_of-self : goal.invariant_of-self
+invariant_of-self g c = record {
+  role = c.self.invariant.role;
+  sound = lengths_sound c.self.inside.who
+      (agent_view c.self.inside) c.self.invariant.sound c.poll_reply-given.ensures.state
+      c.used-used.ensures.sound c.used-used.ensures.table;
+}
+
+pub returns-clause-state : goal.returns-clause-state
+returns-clause-state g c =
+    let call = c.poll_reply-given in
+    lengths_by c.self.inside c.args.self.now c.self.view_is c.self.invariant call.result
+    c.as_agent.result call.new.self c.as_agent.ensures
+    call.ensures.state
+
+pub returns-clause-told : goal.returns-clause-told
+returns-clause-told g c =
+    talk_told As as_runs c.self.inside c.args.self.now c.self.view_is c.self.invariant
+    c.requires.ready
+    c.poll_reply-given.new.self c.poll_reply-given.ensures.told
+
+pub returns-clause-cause : goal.returns-clause-cause
+returns-clause-cause g c =
+    let call = c.poll_reply-given in talk_cause _ _ call.result c.as_agent.result
+    (lengths_fail call.result) c.as_agent.ensures call.ensures.cause

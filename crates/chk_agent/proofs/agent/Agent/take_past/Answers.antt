@@ -1,0 +1,157 @@
+use Rattle.std.proofs.Common.{◌≡◌, ◌∙◌, ap, sym, subst, map, arith, refl, Some, None, Ok, Err}
+use Rattle.std.specs.Prelude.{IsTrue, slice_get}
+use Rattle.std.proofs.lemmas.Option.{get_or_from_slice_get}
+use Rattle.std.proofs.lemmas.Result.{err_from_is_err_and}
+use Rattle.chk_site.specs.declared.acts.OutsideFault.TheVariants.{Outside as site_failed, NoMemory as no_memory}
+use Rattle.chk_site.proofs.Leads.{leads_as}
+use Rattle.chk_checkpoint.specs.Lines.{shown, written_text}
+use Rattle.chk_world.specs.Checkpoints.{Two, are_lines, read_checkpoint}
+use Rattle.chk_reading.specs.Adaptors.{revived}
+use Rattle.chk_agent.specs.declared.answers.AgentFault.TheVariants.{Outside, NoMemory}
+use Rattle.chk_agent.specs.States.{State, lines_of}
+use Rattle.chk_agent.specs.Facts.{Matches}
+use Rattle.chk_agent.specs.Fields.{agent_view}
+use Rattle.chk_agent.specs.Fits.{IsSound}
+use Rattle.chk_agent.specs.Settles.{Writes, unsure}
+use Rattle.chk_agent.specs.Adds.{named_in, revived_at}
+use Rattle.chk_agent.specs.Takes.{Keeps, failed, unwritten, wanting}
+use Rattle.chk_agent.proofs.Soundness.{below_at, lines_spelled, sound_saved}
+use Rattle.chk_agent.proofs.SettlingTold.{lines_written, lines_unsure}
+use Rattle.chk_agent.proofs.AddingPast.{revived_sound, revived_matches}
+use Rattle.chk_agent.proofs.AddingLines.{kept_state, kept_by}
+use Rattle.chk_agent.proofs.agent.Agent.take_past.Goals as goal
+
+pub returns-in_err-check-clause-state : goal.returns-in_err-check-clause-state
+returns-in_err-check-clause-state g c a at =
+    let p = err_from_is_err_and c.from_residual.result c.from_residual.ensures.1 in rw (p.1, p.2) wanting
+
+pub write_lines-requires : goal.write_lines-requires
+write_lines-requires g c =
+    let sound = subst IsSound c.self.view_is c.self.invariant.sound in
+    let r = c.requires.there in
+    let t : State = revived_at c.args.self.now c.args.place c.args.name r.0 in
+    let good = revived_sound c.args.self.now sound c.args.place r.0 r.1 c.args.name c.requires.name c.requires.free in
+    subst (λ ls. IsTrue (are_lines Two ls)) (sym (c.in_ok-check.ensures r.0 r.1)) (lines_spelled t good)
+
+pub index_mut-requires : goal.index_mut-requires
+index_mut-requires g c =
+    let s = agent_view c.self.inside in
+    let r = c.requires.there in
+    let here : slice_get s.adaptors c.args.place ≡ Some r.0 = ap (λ (t : State). slice_get t.adaptors c.args.place) c.self.view_is ∙ r.1 in
+    let below = below_at s.adaptors c.args.place r.0 here in
+    let held = c.self.inside.adaptors.ok.0 in
+    omega (arith, below, held)
+
+pub returns-in-Ok-clause-state : goal.returns-in-Ok-clause-state
+returns-in-Ok-clause-state g c a at =
+    let s = agent_view c.self.inside in
+    let lines = map shown c.in_ok-check.check.lines.items in
+    let here : slice_get s.adaptors c.args.place ≡ Some a = ap (λ (t : State). slice_get t.adaptors c.args.place) c.self.view_is ∙ at in
+    let is : c.revive.new.self ≡ revived c.args.name a =
+    c.revive.ensures
+    ∙ ap (revived c.args.name) (c.index_mut.ensures.value ∙ get_or_from_slice_get s.adaptors c.args.place a c.index_mut.result.now here) in
+    let are : lines ≡ lines_of (revived_at s c.args.place c.args.name a) =
+    subst (λ (t : State). lines ≡ lines_of (revived_at t c.args.place c.args.name a)) (sym c.self.view_is) (c.in_ok-check.ensures a at) in
+    rw (← c.self.view_is)
+    (kept_by s c.args.place c.args.name a c.revive.new.self lines is are
+    (subst (λ (t : State). Writes t lines (Ok tt) (g.S.Site.told c.args.site.now) (g.S.Site.told c.write_lines.new.site)) (sym c.self.view_is)
+    c.in-Ok.ensures.told))
+
+pub invariant_of-self : goal.invariant_of-self
+invariant_of-self g c =
+    let s = agent_view c.self.inside in
+    let r = c.requires.there in
+    let lines = map shown c.in_ok-check.check.lines.items in
+    let here : slice_get s.adaptors c.args.place ≡ Some r.0 = ap (λ (t : State). slice_get t.adaptors c.args.place) c.self.view_is ∙ r.1 in
+    let is : c.revive.new.self ≡ revived c.args.name r.0 =
+    c.revive.ensures
+    ∙ ap (revived c.args.name) (c.index_mut.ensures.value ∙ get_or_from_slice_get s.adaptors c.args.place r.0 c.index_mut.result.now here) in
+    let are : lines ≡ lines_of (revived_at s c.args.place c.args.name r.0) =
+    subst (λ (t : State). lines ≡ lines_of (revived_at t c.args.place c.args.name r.0)) (sym c.self.view_is) (c.in_ok-check.ensures r.0 r.1) in
+    let good =
+    revived_sound s c.self.invariant.sound c.args.place r.0 here c.args.name c.requires.name
+    (subst (λ (t : State). named_in c.args.name 0 t.adaptors ≡ None) (sym c.self.view_is) c.requires.free) in
+    record {
+      role = c.self.invariant.role;
+      sound =
+          subst IsSound (sym (kept_state s c.args.place c.args.name r.0 c.revive.new.self lines is are))
+          (sound_saved (revived_at s c.args.place c.args.name r.0) good);
+    }
+
+pub returns-in-Ok-clause-told : goal.returns-in-Ok-clause-told
+returns-in-Ok-clause-told g c stamped =
+    let s = agent_view c.self.inside in
+    let r = c.requires.there in
+    let lines = map shown c.in_ok-check.check.lines.items in
+    let here : slice_get s.adaptors c.args.place ≡ Some r.0 = ap (λ (t : State). slice_get t.adaptors c.args.place) c.self.view_is ∙ r.1 in
+    let is : c.revive.new.self ≡ revived c.args.name r.0 =
+    c.revive.ensures
+    ∙ ap (revived c.args.name) (c.index_mut.ensures.value ∙ get_or_from_slice_get s.adaptors c.args.place r.0 c.index_mut.result.now here) in
+    let are : lines ≡ lines_of (revived_at s c.args.place c.args.name r.0) =
+    subst (λ (t : State). lines ≡ lines_of (revived_at t c.args.place c.args.name r.0)) (sym c.self.view_is) (c.in_ok-check.ensures r.0 r.1) in
+    let good =
+    revived_sound s c.self.invariant.sound c.args.place r.0 here c.args.name c.requires.name
+    (subst (λ (t : State). named_in c.args.name 0 t.adaptors ≡ None) (sym c.self.view_is) c.requires.free) in
+    let t : State = revived_at s c.args.place c.args.name r.0 in
+    let old = g.S.Site.told c.args.site.now in
+    let new = g.S.Site.told c.write_lines.new.site in
+    let script : Writes t (lines_of t) (Ok tt) old new =
+    subst (λ ls. Writes s ls (Ok tt) old new) are (subst (λ (t : State). Writes t lines (Ok tt) old new) (sym c.self.view_is) c.in-Ok.ensures.told) in
+    let is_read : read_checkpoint (written_text (lines_of t)) ≡ Some (lines_of t) =
+    subst (λ ls. read_checkpoint (written_text ls) ≡ Some ls) are c.in-Ok.ensures.read in
+    rw (← c.self.view_is)
+    (leads_as (revived_matches s c.self.invariant.sound c.args.place r.0 here c.args.name stamped)
+    (λ h x. subst (λ u. Matches stamped u h) (sym (kept_state s c.args.place c.args.name r.0 c.revive.new.self lines is are)) x)
+    (lines_written stamped t good (ap (λ (t : State). t.ready) c.self.view_is ∙ c.requires.ready) is_read script))
+
+pub returns-in-Err-Outside-clause-state : goal.returns-in-Err-Outside-clause-state
+returns-in-Err-Outside-clause-state g c a at =
+    let s = c.args.self.now in
+    let t : State = revived_at s c.args.place c.args.name a in
+    let old = g.S.Site.told c.args.site.now in
+    let new = g.S.Site.told c.write_lines.new.site in
+    let script : Writes s (lines_of t) (Err (site_failed c.in-Err-Outside.call)) old new =
+    subst (λ f. Writes s (lines_of t) (Err f) old new) c.in-Err-Outside.field-0-is
+    (subst (λ ls. Writes s ls (Err c.in-Err-Outside.field-0) old new) (c.in_ok-check.ensures a at) c.in-Err-Outside.ensures.told) in
+    subst (λ u. Keeps s t (Err (Outside c.in-Err-Outside.call)) (unsure u) old new) (sym c.self.view_is) (failed c.in-Err-Outside.call script)
+
+pub returns-clause-state : goal.returns-clause-state
+returns-clause-state g c a at =
+    let s = c.args.self.now in
+    let t : State = revived_at s c.args.place c.args.name a in
+    let old = g.S.Site.told c.args.site.now in
+    let new = g.S.Site.told c.write_lines.new.site in
+    let script : Writes s (lines_of t) (Err no_memory) old new =
+    subst (λ f. Writes s (lines_of t) (Err f) old new) c.in-Err-NoMemory.field-0-is
+    (subst (λ ls. Writes s ls (Err c.in-Err-NoMemory.field-0) old new) (c.in_ok-check.ensures a at) c.in-Err-NoMemory.ensures.told) in
+    subst (λ u. Keeps s t (Err NoMemory) (unsure u) old new) (sym c.self.view_is) (unwritten script)
+
+pub returns-in-Err-Outside-clause-told : goal.returns-in-Err-Outside-clause-told
+returns-in-Err-Outside-clause-told g c stamped =
+    let s = c.args.self.now in
+    let sound = subst IsSound c.self.view_is c.self.invariant.sound in
+    let r = c.requires.there in
+    let t : State = revived_at s c.args.place c.args.name r.0 in
+    let are = c.in_ok-check.ensures r.0 r.1 in
+    let good = revived_sound s sound c.args.place r.0 r.1 c.args.name c.requires.name c.requires.free in
+    leads_as (revived_matches s sound c.args.place r.0 r.1 c.args.name stamped)
+    (λ h x. subst (λ u. Matches stamped (unsure u) h) (sym c.self.view_is) x)
+    (lines_unsure stamped t good c.requires.ready (subst (λ ls. read_checkpoint (written_text ls) ≡ Some ls) are c.in-Err-Outside.ensures.read)
+    s refl c.in-Err-Outside.field-0
+    (subst (λ ls. Writes s ls (Err c.in-Err-Outside.field-0) (g.S.Site.told c.args.site.now) (g.S.Site.told c.write_lines.new.site)) are
+    c.in-Err-Outside.ensures.told))
+
+pub returns-clause-told : goal.returns-clause-told
+returns-clause-told g c stamped =
+    let s = c.args.self.now in
+    let sound = subst IsSound c.self.view_is c.self.invariant.sound in
+    let r = c.requires.there in
+    let t : State = revived_at s c.args.place c.args.name r.0 in
+    let are = c.in_ok-check.ensures r.0 r.1 in
+    let good = revived_sound s sound c.args.place r.0 r.1 c.args.name c.requires.name c.requires.free in
+    leads_as (revived_matches s sound c.args.place r.0 r.1 c.args.name stamped)
+    (λ h x. subst (λ u. Matches stamped (unsure u) h) (sym c.self.view_is) x)
+    (lines_unsure stamped t good c.requires.ready (subst (λ ls. read_checkpoint (written_text ls) ≡ Some ls) are c.in-Err-NoMemory.ensures.read)
+    s refl c.in-Err-NoMemory.field-0
+    (subst (λ ls. Writes s ls (Err c.in-Err-NoMemory.field-0) (g.S.Site.told c.args.site.now) (g.S.Site.told c.write_lines.new.site)) are
+    c.in-Err-NoMemory.ensures.told))

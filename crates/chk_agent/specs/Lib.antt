@@ -1,0 +1,16 @@
+pub mod Adds
+pub mod Commands
+pub mod DefaultNames
+pub mod Facts
+pub mod Faults
+pub mod Fields
+pub mod Fills
+pub mod Fits
+pub mod Loading
+pub mod Replies
+pub mod Settles
+pub mod Starts
+pub mod States
+pub mod Takes
+pub mod Turns
+pub mod Within

@@ -1,0 +1,20 @@
+//! The agent: it reads the logs of its checkpoint, sends what they give as chunks, asks which of
+//! them are committed, and moves its checkpoint on over those alone.
+#![tactic(auto)]
+
+mod adding;
+mod agent;
+mod answers;
+mod commanding;
+mod faults;
+mod filling;
+mod lines;
+mod naming;
+mod settling;
+mod starting;
+mod stepping;
+mod talking;
+mod turning;
+
+pub use agent::{Agent, Rules};
+pub use answers::{Added, AgentFault, Filled, Reply, Settled, Stepped, Then};

@@ -1,0 +1,35 @@
+//! The lines of an agent's checkpoint.
+
+ghost use Rattle.std.specs.Prelude.{◌≡◌, ◌≤◌, ℕ, Some, IfOk, length, slice_get, slice_index};
+ghost use Rattle.chk_rotate.specs.Marks.{BeginsBelow};
+ghost use Rattle.chk_reading.specs.Adaptors.{Adaptor as Reading};
+ghost use Rattle.chk_checkpoint.specs.Lines.{lines_of};
+ghost use Rattle.chk_agent.specs.States.{lines_at};
+
+use chk_bytes::NoMemory;
+use chk_checkpoint::Checkpoint;
+use chk_delivery::Delivery;
+use chk_reading::Adaptor;
+use std::alloc::Global;
+
+/// The lines of the adaptors, each at its committed end. It copies their words.
+pub(crate) fn lines_now(
+    alloc: Global,
+    adaptors: &[Adaptor],
+    delivery: &Delivery,
+) -> Result<Checkpoint, NoMemory>
+    requires known { length adaptors.now ≤ length delivery.now.table.committed }
+    requires few { length adaptors.now ≤ 10000 }
+    requires from { (i : ℕ) (a : Reading) → slice_get adaptors.now i ≡ Some a
+        → BeginsBelow (slice_index delivery.now.table.committed i) a.marks }
+    requires to { (i : ℕ) (a : Reading) → slice_get adaptors.now i ≡ Some a
+        → slice_index delivery.now.table.committed i ≤ a.read.offset }
+    ensures { IfOk result (λ check. lines_of check ≡ lines_at adaptors.now delivery.now.table.committed) }
+{
+    let mut lines = Vec::with_capacity(alloc, adaptors.len())?;
+    for (i, adaptor) in adaptors.iter().enumerate() {
+        let committed = delivery.committed_end(i as u32);
+        lines.push(adaptor.line(alloc, committed)?)?;
+    }
+    Ok(Checkpoint { lines })
+}

@@ -1,0 +1,154 @@
+//! The start of an agent.
+
+ghost use Rattle.std.specs.Prelude.{◌≡◌, ◌≤◌, ℕ, List, [], IsTrue, IfOk, map, length};
+ghost use Rattle.chk_site.specs.declared.acts.Role.TheVariants.{Agent as agent_role};
+ghost use Rattle.chk_site.specs.declared.acts.Call.TheVariants.{Start};
+ghost use Rattle.chk_site.specs.Site.{Adds, asked, LastFailed, OutsideCause};
+ghost use Rattle.chk_site.specs.Runs.{HasStarted, Leads};
+ghost use Rattle.chk_world.specs.Names.{is_source};
+ghost use Rattle.chk_world.specs.Checkpoints.{Two, are_lines};
+ghost use Rattle.chk_world.specs.Rules.{Legal};
+ghost use Rattle.chk_world.specs.Places.{As};
+ghost use Rattle.chk_checkpoint.specs.Lines.{shown, lines_of};
+ghost use Rattle.chk_reading.specs.Adaptors.{adaptor_of};
+ghost use Rattle.chk_agent.specs.Faults.{AgentCause, FailsLast};
+ghost use Rattle.chk_agent.specs.Loading.{MadeOnce, Loaded, IsEmptyFor, IsBegun, AreLines};
+ghost use Rattle.chk_agent.specs.Starts.{IsFresh, Started};
+
+use crate::agent::{Agent, Rules};
+use crate::answers::AgentFault;
+use crate::lines::lines_now;
+use chk_bytes::NoMemory;
+use chk_checkpoint::{CheckLine, Checkpoint, MOST_LINES, load_checkpoint};
+use chk_delivery::Delivery;
+use chk_failover::Ring;
+use chk_reading::Adaptor;
+use chk_site::{Call, OutsideFault, Site, Who, done};
+use std::alloc::Global;
+
+impl Agent {
+    /// Starts the agent: loads its checkpoint, and takes the tables for 10,000 adaptors. Each live
+    /// line is read on from its place. `Damaged` comes at the first byte of the checkpoint that
+    /// isn't in its grammar.
+    pub fn start<S: Site>(
+        alloc: Global,
+        site: &mut S,
+        who: &Who,
+        ring: Ring,
+        rules: Rules,
+    ) -> Result<Agent, AgentFault>
+        requires role { who.now.role ≡ agent_role }
+        requires name { IsTrue (is_source who.now.name) }
+        requires some_rows { 1 ≤ rules.rows }
+        requires a_piece { 131072 ≤ rules.queue }
+        ensures fresh { IfOk result (IsFresh who.now ring rules) }
+        ensures starts { IfOk result (λ _. Adds (S.told site.old) (S.told site.new) (HasStarted who.now)) }
+        ensures told { (stamped : List (List ℕ)) → Adds (S.told site.old) (S.told site.new)
+            (Leads (As stamped who.now) (Legal stamped) (Started stamped who.now result)) }
+        ensures last { Adds (S.told site.old) (S.told site.new) (FailsLast result) }
+        ensures cause { AgentCause (S.fault_count site.old) (S.fault_count site.new) result }
+    {
+        let check = begin_and_load(alloc, site, who)?;
+        let agent = new_agent(alloc, who, ring, rules, check)?;
+        Ok(agent)
+    }
+}
+
+// Starts the process, and loads its checkpoint.
+fn begin_and_load<S: Site>(alloc: Global, site: &mut S, who: &Who) -> Result<Checkpoint, AgentFault>
+    requires role { who.now.role ≡ agent_role }
+    requires name { IsTrue (is_source who.now.name) }
+    ensures lines { IfOk result (λ check. IsTrue (are_lines Two (lines_of check))) }
+    ensures starts { IfOk result (λ _. Adds (S.told site.old) (S.told site.new) (HasStarted who.now)) }
+    ensures told { (stamped : List (List ℕ)) (cluster : List ℕ) → Adds (S.told site.old) (S.told site.new)
+        (Leads (As stamped who.now) (Legal stamped) (Loaded stamped cluster who.now result)) }
+    ensures last { Adds (S.told site.old) (S.told site.new) (FailsLast result) }
+    ensures cause { AgentCause (S.fault_count site.old) (S.fault_count site.new) result }
+{
+    begin(alloc, site, who)?;
+    let check = load_checkpoint(alloc, site, who)?;
+    Ok(check)
+}
+
+// Starts the process.
+fn begin<S: Site>(alloc: Global, site: &mut S, who: &Who) -> Result<(), OutsideFault>
+    ensures told { MadeOnce (asked who.now Start [] 0 0) result (S.told site.old) (S.told site.new) }
+    ensures last { Adds (S.told site.old) (S.told site.new) (LastFailed result) }
+    ensures cause { OutsideCause (S.fault_count site.old) (S.fault_count site.new) result }
+{
+    let started = site.start(alloc, who);
+    done(Call::Start, started)
+}
+
+// The agent of these lines. It makes no call on the outside.
+fn new_agent(
+    alloc: Global,
+    who: &Who,
+    ring: Ring,
+    rules: Rules,
+    check: Checkpoint,
+) -> Result<Agent, NoMemory>
+    requires role { who.now.role ≡ agent_role }
+    requires name { IsTrue (is_source who.now.name) }
+    requires lines { IsTrue (are_lines Two (lines_of check)) }
+    ensures fresh { IfOk result (IsFresh who.now ring rules) }
+    ensures saved { IfOk result (λ agent. agent.saved ≡ lines_of check) }
+{
+    let limits = chk_delivery::Rules {
+        rows: rules.rows,
+        queue: rules.queue,
+        poll: rules.poll,
+        expire: rules.expire,
+    };
+    let mut delivery = new_delivery(alloc, ring, limits, MOST_LINES as u32)?;
+    begin_all(&mut delivery, &check.lines);
+    let adaptors = adaptors_of(alloc, check.lines)?;
+    let saved = lines_now(alloc, &adaptors, &delivery)?;
+    Ok(Agent {
+        who: who.copy()?,
+        cluster: rules.cluster,
+        adaptors,
+        last: None,
+        delivery,
+        saved: saved.lines,
+        ready: true,
+    })
+}
+
+// Nothing waits, and so many adaptors are known.
+fn new_delivery(
+    alloc: Global,
+    ring: Ring,
+    rules: chk_delivery::Rules,
+    adaptors: u32,
+) -> Result<Delivery, NoMemory>
+    ensures { IfOk result (IsEmptyFor ring rules adaptors) }
+{
+    Delivery::new(alloc, ring, rules, adaptors)
+}
+
+// The adaptor of each line begins at the line's offset.
+fn begin_all(delivery: &mut Delivery, lines: &[CheckLine])
+    requires none { delivery.old.owners ≡ [] }
+    requires no_rows { delivery.old.table.rows ≡ [] }
+    requires known { length lines.now ≤ length delivery.old.table.committed }
+    requires last { length delivery.old.table.last ≡ length delivery.old.table.committed }
+    requires few { length lines.now ≤ 10000 }
+    ensures { IsBegun (map shown lines.now) delivery.old delivery.new }
+{
+    for (i, line) in lines.iter().enumerate() {
+        delivery.begin(i as u32, line.place.offset);
+    }
+}
+
+// The adaptors of the lines, in their order.
+fn adaptors_of(alloc: Global, lines: Vec<CheckLine>) -> Result<Vec<Adaptor>, NoMemory>
+    requires { AreLines (map shown lines.items) }
+    ensures { IfOk result (λ adaptors. adaptors.items ≡ map adaptor_of (map shown lines.items)) }
+{
+    let mut adaptors = Vec::with_capacity(alloc, lines.len())?;
+    for line in lines {
+        adaptors.push(Adaptor::new(alloc, line)?)?;
+    }
+    Ok(adaptors)
+}

@@ -1,0 +1,70 @@
+-- The call that failed is the last one.
+use Rattle.std.proofs.Common.{ℕ, List, Option, Ok, Err, Result}
+use Rattle.std.specs.Prelude.{IfOk, IfErr, MatchResult}
+use Rattle.chk_site.specs.declared.acts.OutsideFault.{OutsideFault}
+use Rattle.chk_site.specs.declared.acts.OutsideFault.TheVariants.{Outside as site_failed, NoMemory as no_memory}
+use Rattle.chk_site.specs.declared.acts.CallFault.{CallFault}
+use Rattle.chk_site.specs.History.{History}
+use Rattle.chk_site.specs.Site.{Adds, LastFailed, answered, plain, names_given, IsDone, Calls, Ends}
+use Rattle.chk_site.specs.Runs.{MadeInTurn}
+use Rattle.chk_site.proofs.Runs.{adds_as, adds_then}
+use Rattle.chk_replace.proofs.CallSteps.{ends_last, last_then, script_last}
+use Rattle.chk_world.specs.Sight.{job}
+use Rattle.chk_heads.specs.Faults.{FailsLast, job_fault}
+use Rattle.chk_heads.specs.declared.fault.JobFault.{JobFault}
+use Rattle.chk_archive.specs.Calling.{removals, Listed}
+use Rattle.chk_archive.proofs.AllFiles.{fails_later}
+use Rattle.chk_archive.proofs.Started.{StartQ}
+
+-- of a listing, by its result
+pub listed_last : {T : Type 0} (items : T → List (List ℕ)) (folder : List ℕ)
+    (r : Result T OutsideFault) {old new : Option History}
+    → IfOk r (λ v. Listed job folder (Ok (items v)) old new) → IfErr r
+    (λ fault. Listed job folder (Err fault) old new)
+    → Adds old new (LastFailed r)
+listed_last items folder (Ok v) gave refused = adds_as (LastFailed (Ok v)) gave
+    (λ added history calls. tt)
+listed_last {T = T} items folder (Err fault) gave refused =
+    adds_as (LastFailed {T = T} (Err fault)) refused.2
+    (λ added history calls. ends_last T names_given refused.0 fault refused.1 calls)
+
+-- of removals behind other calls
+pub removals_last : {P : History → History → Type 0}
+    (ws : List (List ℕ)) {result : Result (Unit {0}) OutsideFault}
+    {old mid new : Option History} → Adds old mid P → MadeInTurn (removals job ws) result mid new
+    → Adds old new (LastFailed result)
+removals_last ws {result = result} so_far script =
+    adds_then (LastFailed result) so_far (script_last script)
+    (λ a b history p q. last_then result b a history q)
+
+-- without memory there is no such call
+pub none_last : (T : Type 0) {P : History → History → Type 0} {old new : Option History}
+    → Adds old new P
+    → Adds old new (LastFailed {T = T} (Err no_memory))
+none_last T told = adds_as (LastFailed {T = T} (Err no_memory)) told (λ added history p. tt)
+
+-- of the start
+pub start_last : (r : Result (Unit {0}) OutsideFault)
+    (given : Result (Unit {0}) CallFault) {old new : Option History}
+    → MatchResult r (λ _. IsDone given) (λ fault. Ends StartQ.call given fault)
+    → Adds old new (Calls StartQ (answered plain given)) → Adds old new (LastFailed r)
+start_last (Ok value) given is told = adds_as (LastFailed (Ok value)) told
+    (λ added history calls. tt)
+start_last (Err fault) given ends told =
+    adds_as (LastFailed {T = Unit {0}} (Err fault)) told
+    (λ added history calls. ends_last (Unit {0}) plain given fault ends calls)
+
+-- as a fault of the job
+pub as_fails : (T U : Type 0) (fault : OutsideFault) {old new : Option History} → Adds old new
+    (LastFailed {T = T} (Err fault))
+    → Adds old new (FailsLast {T = U} (Err (job_fault fault)))
+as_fails T U (site_failed call) told = told
+as_fails T U no_memory told = told
+
+-- behind other calls
+pub fails_behind : {T : Type 0} {P : History → History → Type 0}
+    (r : Result T JobFault) {old mid new : Option History}
+    → Adds old mid P → Adds mid new (FailsLast r) → Adds old new (FailsLast r)
+fails_behind (Ok value) so_far told = adds_then (FailsLast (Ok value)) so_far told
+    (λ a b history p q. tt)
+fails_behind {T = T} (Err fault) so_far told = fails_later T T fault so_far told

@@ -1,0 +1,13 @@
+mod InTurn
+mod StrayNames
+mod Looking
+mod Removing
+mod StraysGo
+mod TidyWorks
+mod SinksShown
+mod SinksGo
+mod OneFile
+mod AllFiles
+mod Started
+mod BookLoads
+mod Lasts

@@ -1,0 +1,11 @@
+pub mod ReadLists
+pub mod FieldFacts
+pub mod WholeBook
+pub mod WrittenLists
+pub mod NoDamage
+pub mod EndRaises
+pub mod EndPlaces
+pub mod Storing
+pub mod SegmentForms
+pub mod Segmented
+pub mod Added

@@ -1,0 +1,18 @@
+//! The book of a folder: which segments hold the folder's records, and where each stream begins and ends.
+#![tactic(auto)]
+
+mod book;
+mod fields;
+mod files;
+mod laws;
+mod lists;
+mod names;
+mod reading;
+mod segmenter;
+mod writing;
+
+pub use book::{Book, load_book};
+pub use chk_heads::JobFault;
+pub use laws::books_have_no_damage;
+pub use lists::{End, Ends, Segment, Segments};
+pub use segmenter::Segmenter;

@@ -1,0 +1,10 @@
+pub mod Orders
+pub mod Sorting
+mod Ranks
+pub mod PieceReads
+pub mod Rows
+pub mod Records
+pub mod FedRecords
+pub mod Gathering
+pub mod WholeReads
+pub mod NoDamage

@@ -1,0 +1,60 @@
+-- Which heads the rows stand for.
+use Rattle.std.specs.Prelude.{◌≡◌, ℕ, ◌<◌, ◌==◌, ◌&&◌, Bool, List, ◌++◌, map, length, bytes_eq, slice_index_or, All}
+use Rattle.chk_chunk.specs.Keys.{Key, no_cluster}
+use Rattle.chk_heads.specs.declared.origins.Origin.{Origin}
+use Rattle.chk_heads.specs.declared.gather.Row.{Row}
+use Rattle.chk_heads.specs.declared.gather.Heads.TheInside.{Inside}
+use Rattle.chk_heads.specs.Heads.{Head}
+
+abbrev pub no_origin : Origin
+no_origin = record { source = no_cluster; kind = no_cluster; name = no_cluster; start = 0; cluster = no_cluster }
+
+-- a key without its sequence id
+abbrev pub origin_of : Key → Origin
+origin_of k = record {
+  source = k.stream.source;
+  kind = k.stream.kind;
+  name = k.stream.name;
+  start = k.start;
+  cluster = k.cluster;
+}
+
+-- the origin is that of the key
+abbrev pub is_origin_of : Key → Origin → Bool
+is_origin_of k o =
+    o.start == k.start && (bytes_eq o.name k.stream.name && (bytes_eq o.source k.stream.source
+    && (bytes_eq o.kind k.stream.kind && bytes_eq o.cluster k.cluster)))
+
+-- the key's origin stands at this place
+pub record HasOrigin (origins : List Origin) (i : ℕ) (k : Key) : Type 0 where
+  pub there : i < length origins
+  pub is : slice_index_or origins i no_origin ≡ origin_of k
+
+-- others may stand behind them
+abbrev pub HasGrown : List Origin → List Origin → Type 0
+HasGrown old new = (more : List Origin) × (new ≡ old ++ more)
+
+-- the key of an origin with this sequence id
+abbrev pub origin_key : Origin → ℕ → Key
+origin_key o seq = record {
+  stream = record { source = o.source; kind = o.kind; name = o.name };
+  start = o.start;
+  cluster = o.cluster;
+  seq = seq;
+}
+
+-- the head that a row stands for
+abbrev pub head_in_row : List Origin → Row → Head
+head_in_row origins r = record {
+  key = origin_key (slice_index_or origins r.origin no_origin) r.end;
+  begin = r.begin;
+  file = r.file;
+  at = r.at;
+}
+
+abbrev pub heads_view : Inside → List Head
+heads_view h = map (head_in_row h.origins.items) h.rows.items
+
+-- each row's origin is there
+pub record AreSoundRows (h : Inside) : Type 0 where
+  pub known : All (λ (r : Row). r.origin < length h.origins.items) h.rows.items

@@ -1,0 +1,9 @@
+-- The heads of records.
+pub mod Faults
+pub mod Pieces
+pub mod Heads
+pub mod HeadRows
+pub mod Order
+pub mod Feeding
+pub mod Gathered
+pub mod Laws

@@ -1,0 +1,64 @@
+-- The order in which heads are gone through.
+use Rattle.std.specs.Prelude.{ℕ, Bool, true, false, ◌&&◌, ◌||◌, nat_lt, nat_eq, List, [], ◌∷◌, count_by, slice_index_or}
+use Rattle.chk_chunk.specs.Keys.{Stream, same_stream, stream_lt}
+use Rattle.chk_chunk.specs.Lent.{lent_key}
+use Rattle.chk_heads.specs.Heads.{Head}
+use Rattle.chk_heads.specs.HeadRows.{no_origin, origin_key}
+use Rattle.chk_heads.specs.declared.origins.Origin.{Origin}
+use Rattle.chk_heads.specs.declared.gather.Row.{Row}
+use Rattle.chk_heads.specs.declared.gather.order.HeadRef.{HeadRef}
+
+-- the element put behind those that come before it, and in front of the rest
+abbrev pub put_by : {X : Type 0} → (X → X → Bool) → X → List X → List X
+put_by lt x [] = x ∷ []
+put_by lt x (y ∷ ys) = elim (lt y x) [ true ↦ y ∷ put_by lt x ys | false ↦ x ∷ y ∷ ys ]
+
+-- in order; those that are alike keep the order that they had
+abbrev pub sort_by : {X : Type 0} → (X → X → Bool) → List X → List X
+sort_by lt [] = []
+sort_by lt (x ∷ xs) = put_by lt x (sort_by lt xs)
+
+-- by stream, then by first offset and sequence id
+abbrev pub head_before : Head → Head → Bool
+head_before h k =
+    stream_lt h.key.stream k.key.stream
+    || (same_stream h.key.stream k.key.stream
+    && (nat_lt h.begin k.begin || (nat_eq h.begin k.begin && nat_lt h.key.seq k.key.seq)))
+
+-- the heads in order
+abbrev pub in_head_order : List Head → List Head
+in_head_order heads = sort_by head_before heads
+
+abbrev pub origin_stream : Origin → Stream
+origin_stream o = record { source = o.source; kind = o.kind; name = o.name }
+
+-- the first one's stream comes before the other's
+abbrev pub origin_before : Origin → Origin → Bool
+origin_before o p = stream_lt (origin_stream o) (origin_stream p)
+
+-- how many of the origins come before one
+abbrev pub rank_in : List Origin → Origin → ℕ
+rank_in origins o = count_by (λ p. origin_before p o) origins
+
+-- the number that stands for the row's stream
+abbrev pub row_rank : List ℕ → Row → ℕ
+row_rank ranks r = slice_index_or ranks r.origin 0
+
+-- the order of rows, streams compared by these numbers
+abbrev pub row_before : List ℕ → Row → Row → Bool
+row_before ranks a b =
+    nat_lt (row_rank ranks a) (row_rank ranks b)
+    || (nat_eq (row_rank ranks a) (row_rank ranks b)
+    && (nat_lt a.begin b.begin || (nat_eq a.begin b.begin && nat_lt a.end b.end)))
+
+-- a head of no record
+abbrev pub no_head : Head
+no_head = record { key = origin_key no_origin 0; begin = 0; file = 0; at = 0 }
+
+-- the head that a borrowed head is
+abbrev pub lent_head : HeadRef → Head
+lent_head h = record { key = lent_key h.key; begin = h.begin; file = h.file; at = h.at }
+
+-- the heads are of one stream
+abbrev pub of_one_stream : Head → Head → Bool
+of_one_stream h k = same_stream h.key.stream k.key.stream

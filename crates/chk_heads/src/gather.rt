@@ -1,0 +1,282 @@
+//! Gathers the heads of a file's records, reading it in pieces.
+
+ghost use Rattle.std.specs.Prelude.{◌≡◌, ◌≤◌, ◌<◌, ◌++◌, ◌∷◌, [], ℕ, List, length, take, Option, IsTrue, IfOk, IfErr, OnOk, OnErr};
+ghost use Rattle.chk_site.specs.Files.{File};
+ghost use Rattle.chk_site.specs.Effect.{IsSmallFile};
+ghost use Rattle.chk_site.specs.History.{Every};
+ghost use Rattle.chk_site.specs.Site.{Adds};
+ghost use Rattle.chk_site.specs.Runs.{anyhow, Leads};
+ghost use Rattle.chk_replace.specs.Load.{Has};
+ghost use Rattle.chk_chunk.specs.Keys.{has_words, has_value, is_key};
+ghost use Rattle.chk_chunk.specs.Lent.{lent_key};
+ghost use Rattle.chk_seqfile.specs.Entries.{records_of};
+ghost use Rattle.chk_salvage.specs.Views.{placed_of};
+ghost use Rattle.chk_salvage.specs.Feeding.{IsFed, fed_limit, fed_place, fed_marker, Stands};
+ghost use Rattle.chk_salvage.specs.declared.fed.Fed.TheVariants.{More};
+ghost use Rattle.chk_bytes.specs.Words.{is_word};
+ghost use Rattle.chk_world.specs.Sight.{job};
+ghost use Rattle.chk_world.specs.JobSteps.{IsOf, ReadsFile, SparesFile};
+ghost use Rattle.chk_heads.specs.Faults.{JobCause, FailsLast, IsOfRead};
+ghost use Rattle.chk_heads.specs.Heads.{head_with, IsTaken};
+ghost use Rattle.chk_heads.specs.Pieces.{AsksInPieces};
+ghost use Rattle.chk_heads.specs.Feeding.{AreChunks, HasMore, IsEnd, TookFed};
+ghost use Rattle.chk_heads.specs.Gathered.{EndsSo};
+ghost use Rattle.chk_heads.specs.Gathered.{Gathered, GatheredFile};
+
+mod order;
+
+use crate::JobFault;
+use crate::fault::damaged;
+use crate::origins::{Origin, number_of};
+use crate::reading::read_bytes;
+use chk_bytes::NoMemory;
+use chk_chunk::{KeyRef, read_key};
+use chk_salvage::{EntryRef, Fed, Pieces};
+use chk_site::{Site, Who};
+pub use order::HeadRef;
+use std::alloc::Global;
+use std::marker::Model;
+
+/// How much longer than its value a record may say that it is. Its key and their lengths have less than this.
+pub const SLACK: u32 = 131_072;
+
+/// One row a record: which origin, the offsets, which file, and the place of the record in it.
+#[derive(Clone, Copy, Debug, PartialEq, Eq)]
+struct Row {
+    origin: u32,
+    file: u32,
+    begin: u64,
+    end: u64,
+    at: u64,
+}
+
+/// The heads of records, without their data. A row has 32 bytes; the texts of a stream are kept once.
+#[derive(Debug, Drop)]
+pub struct Heads {
+    origins: Vec<Origin>,
+    rows: Vec<Row>,
+}
+
+impl Model for Heads {
+    ghost use Rattle.std.specs.Prelude.{List};
+    ghost use Rattle.chk_heads.specs.Heads.{Head};
+    ghost use Rattle.chk_heads.specs.HeadRows.{heads_view, AreSoundRows};
+
+    ghost Value = { List Head };
+
+    ghost view = { heads_view };
+
+    ghost invariant = { AreSoundRows };
+}
+
+impl Heads {
+    /// No heads. It takes no memory before the first one comes.
+    pub fn new(alloc: Global) -> Heads
+        ensures { result ≡ [] }
+    {
+        Heads {
+            origins: Vec::new(alloc),
+            rows: Vec::new(alloc),
+        }
+    }
+
+    /// Adds the heads of a file's records, of values of at most `most` bytes, in their order, and says how many. A file
+    /// that isn't there counts as empty. `Damaged` comes exactly where the file isn't one of chunks, with its name and the
+    /// place from which on it isn't. After a refusal the heads are as before.
+    ///
+    /// The file is read once, in pieces of at most 1,048,576 bytes. Of its bytes no more are held than such a piece and one
+    /// record. A record of a stream that isn't the one before costs a pass over the streams that were seen.
+    pub fn gather<S: Site>(
+        &mut self,
+        alloc: Global,
+        site: &mut S,
+        who: &Who,
+        name: &str,
+        file: u32,
+        most: u32,
+    ) -> Result<u64, JobFault>
+        requires name { IsTrue (is_word name.now) }
+        requires most { most ≤ 1048576 }
+        ensures raw { (f : Option File) → IsSmallFile f → Adds (S.told site.old) (S.told site.new)
+            (Leads (anyhow (SparesFile name.now)) (Has name.now f) (Gathered most name.now f file self.old self.new result)) }
+        ensures same { OnErr result (self.new ≡ self.old) }
+        ensures own { who.now ≡ job → Adds (S.told site.old) (S.told site.new) (Every (IsOf ReadsFile)) }
+        ensures pieces { Adds (S.told site.old) (S.told site.new) (Every AsksInPieces) }
+        ensures only { IfErr result IsOfRead }
+        ensures last { Adds (S.told site.old) (S.told site.new) (FailsLast result) }
+        ensures cause { JobCause (S.fault_count site.old) (S.fault_count site.new) result }
+    {
+        let before = self.len();
+        match self.gather_file(alloc, site, who, name, file, most) {
+            Ok(()) => Ok((self.len() - before) as u64),
+            Err(fault) => {
+                self.truncate(before);
+                Err(fault)
+            }
+        }
+    }
+
+    /// The same without the count. After a refusal some heads may stand behind the others.
+    fn gather_file<S: Site>(
+        &mut self,
+        alloc: Global,
+        site: &mut S,
+        who: &Who,
+        name: &str,
+        file: u32,
+        most: u32,
+    ) -> Result<(), JobFault>
+        requires name { IsTrue (is_word name.now) }
+        requires most { most ≤ 1048576 }
+        ensures raw { (f : Option File) → IsSmallFile f → Adds (S.told site.old) (S.told site.new)
+            (Leads (anyhow (SparesFile name.now)) (Has name.now f) (GatheredFile most name.now f file self.old self.new result)) }
+        ensures grown { HasMore self.old self.new }
+        ensures own { who.now ≡ job → Adds (S.told site.old) (S.told site.new) (Every (IsOf ReadsFile)) }
+        ensures pieces { Adds (S.told site.old) (S.told site.new) (Every AsksInPieces) }
+        ensures only { IfErr result IsOfRead }
+        ensures last { Adds (S.told site.old) (S.told site.new) (FailsLast result) }
+        ensures cause { JobCause (S.fault_count site.old) (S.fault_count site.new) result }
+    {
+        let mut pieces = Pieces::new(alloc, most + SLACK);
+        let mut at = 0;
+        loop {
+            let piece = read_bytes(alloc, site, who, name, at)?;
+            if piece.len() == 0 {
+                return ended(alloc, &pieces, name);
+            }
+            pieces.feed(piece.as_slice())?;
+            at += piece.len() as u64;
+            if let Some(place) = self.take_fed(alloc, &mut pieces, file, most)? {
+                return Err(damaged(alloc, name, place));
+            }
+        }
+    }
+
+    /// Leaves the first `len` heads; nothing changes where there are no more.
+    pub fn truncate(&mut self, len: usize)
+        ensures { self.new ≡ take len self.old }
+    {
+        self.rows.truncate(len);
+    }
+
+    /// How many there are.
+    pub fn len(&self) -> usize
+        ensures { result ≡ length self.now }
+    {
+        self.rows.len()
+    }
+
+    /// Puts a head behind the others.
+    fn push(
+        &mut self,
+        alloc: Global,
+        key: &KeyRef<'_>,
+        begin: u64,
+        file: u32,
+        at: u64,
+    ) -> Result<(), NoMemory>
+        requires { IsTrue (has_words (lent_key key.now)) }
+        ensures ok { OnOk result (self.new ≡ self.old ++ head_with (lent_key key.now) begin file at ∷ []) }
+        ensures err { OnErr result (self.new ≡ self.old) }
+    {
+        let likely = self.rows.last().map_or(0, |row| row.origin as usize);
+        let origin = number_of(alloc, &mut self.origins, likely, key)?;
+        self.rows.push(Row {
+            origin,
+            file,
+            begin,
+            end: key.seq,
+            at,
+        })?;
+        Ok(())
+    }
+
+    /// Puts a record's head behind the others, where the record is a chunk of at most so many bytes, and says whether it
+    /// is one.
+    fn take_record(
+        &mut self,
+        alloc: Global,
+        found: &EntryRef<'_>,
+        file: u32,
+        most: u32,
+    ) -> Result<bool, NoMemory>
+        ensures ok { IfOk result (λ is. IsTaken is most file (placed_of found.now) self.old self.new) }
+        ensures err { OnErr result (self.new ≡ self.old) }
+    {
+        let key = match read_key(found.key) {
+            Ok(key) => key,
+            Err(_) => return Ok(false),
+        };
+        if !is_value(&key, found.value, most) {
+            return Ok(false);
+        }
+        let begin = key.seq - found.value.len() as u64;
+        self.push(alloc, &key, begin, file, found.at)?;
+        Ok(true)
+    }
+
+    /// Takes the heads of all records that are whole in what was fed. It says where the file can't be one of chunks,
+    /// whatever follows.
+    fn take_fed(
+        &mut self,
+        alloc: Global,
+        pieces: &mut Pieces,
+        file: u32,
+        most: u32,
+    ) -> Result<Option<u64>, NoMemory>
+        requires { (fed : List ℕ) × IsFed pieces.old fed }
+        ensures limit { fed_limit pieces.new ≡ fed_limit pieces.old }
+        ensures grown { HasMore self.old self.new }
+        ensures ok { IfOk result (λ stop. (fed : List ℕ) → IsFed pieces.old fed
+            → AreChunks most (records_of (take (fed_place pieces.old) fed))
+            → TookFed most file pieces.old pieces.new fed self.old self.new stop) }
+    {
+        let mut place = pieces.place();
+        loop {
+            match pieces.next() {
+                Fed::Entry(found) => {
+                    if !self.take_record(alloc, &found, file, most)? {
+                        return Ok(Some(found.at));
+                    }
+                    place = found.end;
+                }
+                Fed::More => return Ok(None),
+                Fed::Header(_) => return Ok(Some(0)),
+                Fed::Damaged { at, .. } => return Ok(Some(at)),
+                Fed::Long { at, .. } => return Ok(Some(at)),
+            }
+        }
+    }
+}
+
+/// Where the file is damaged, if it ends where all was fed: within its header, or within an entry.
+fn unfinished(pieces: &Pieces) -> Option<u64>
+    ensures { (fed : List ℕ) → IsFed pieces.now fed → Stands (fed_limit pieces.now) fed (fed_marker pieces.now) (fed_place pieces.now) More
+        → IsEnd fed (fed_place pieces.now) result }
+{
+    if pieces.place() == 0 || pieces.left() > 0 {
+        return Some(pieces.place());
+    }
+    None
+}
+
+/// Whether the file is whole, if it ends where all was fed.
+fn ended(alloc: Global, pieces: &Pieces, name: &str) -> Result<(), JobFault>
+    requires { IsTrue (is_word name.now) }
+    ensures { (fed : List ℕ) → IsFed pieces.now fed → Stands (fed_limit pieces.now) fed (fed_marker pieces.now) (fed_place pieces.now) More
+        → EndsSo name.now fed (fed_place pieces.now) result }
+{
+    match unfinished(pieces) {
+        Some(place) => Err(damaged(alloc, name, place)),
+        None => Ok(()),
+    }
+}
+
+/// The value has at least one byte, no more than `most`, and doesn't begin before the stream's start.
+fn is_value(key: &KeyRef<'_>, value: &[u8], most: u32) -> bool
+    requires { IsTrue (is_key (lent_key key.now)) }
+    ensures { result ≡ has_value most (lent_key key.now) value.now }
+{
+    let size = value.len() as u64;
+    size > 0 && size <= u64::from(most) && key.start + size <= key.seq
+}

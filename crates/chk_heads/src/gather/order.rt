@@ -1,0 +1,105 @@
+//! The order in which heads are gone through.
+
+ghost use Rattle.std.specs.Prelude.{◌≡◌, ◌<◌, length, map, slice_index_or, IfOk, OnOk, OnErr};
+ghost use Rattle.std.specs.Ordering.{is_lt};
+ghost use Rattle.chk_heads.specs.Order.{in_head_order, rank_in, row_rank, row_before, no_head, lent_head, of_one_stream};
+
+use super::{Heads, Row};
+use crate::origins::Origin;
+use chk_bytes::NoMemory;
+use chk_chunk::KeyRef;
+use std::alloc::Global;
+use std::cmp::Ordering;
+
+/// A head that borrows its texts: the key of the chunk, its first offset, the number of its file, and the place of its
+/// record there.
+#[derive(Clone, Copy, Debug)]
+pub struct HeadRef<'a> {
+    pub key: KeyRef<'a>,
+    pub begin: u64,
+    pub file: u32,
+    pub at: u64,
+}
+
+impl Heads {
+    /// Puts the heads in order: by stream, in byte order of source, type and name, then by first offset and by sequence id.
+    /// Those that are alike in these keep the order that they had. It takes memory for half of the heads, and a number for
+    /// each stream; a comparison reads no text. Without memory the heads are as before.
+    pub fn sort(&mut self, alloc: Global) -> Result<(), NoMemory>
+        ensures ok { OnOk result (self.new ≡ in_head_order self.old) }
+        ensures err { OnErr result (self.new ≡ self.old) }
+    {
+        let ranks = ranks_of(alloc, &self.origins)?;
+        self.rows.sort_by(|a, b| compare(&ranks, a, b))?;
+        Ok(())
+    }
+
+    /// The head at this place, without a copy.
+    pub fn get(&self, index: usize) -> HeadRef<'_>
+        requires { index < length self.now }
+        ensures { lent_head result ≡ slice_index_or self.now index no_head }
+    {
+        let row = &self.rows[index];
+        let origin = &self.origins[row.origin as usize];
+        HeadRef {
+            key: KeyRef {
+                source: origin.source.as_str(),
+                kind: origin.kind.as_str(),
+                name: origin.name.as_str(),
+                start: origin.start,
+                cluster: origin.cluster.as_str(),
+                seq: row.end,
+            },
+            begin: row.begin,
+            file: row.file,
+            at: row.at,
+        }
+    }
+
+    /// Whether the heads at two places are of one stream.
+    pub fn are_of_one(&self, i: usize, j: usize) -> bool
+        requires first { i < length self.now }
+        requires second { j < length self.now }
+        ensures { result ≡ of_one_stream (slice_index_or self.now i no_head) (slice_index_or self.now j no_head) }
+    {
+        let a = self.get(i).key;
+        let b = self.get(j).key;
+        a.source == b.source && a.kind == b.kind && a.name == b.name
+    }
+}
+
+/// How many of the origins come before one.
+fn rank_of(origins: &[Origin], of: &Origin) -> usize
+    ensures { result ≡ rank_in origins.now of.now }
+{
+    origins.iter().filter(|origin| origin.is_before(of)).count()
+}
+
+/// A number for each origin, which are in the order of their streams: how many come before it. It costs a comparison for each
+/// pair.
+fn ranks_of(alloc: Global, origins: &[Origin]) -> Result<Vec<usize>, NoMemory>
+    ensures { IfOk result (λ ranks. ranks.items ≡ map (rank_in origins.now) origins.now) }
+{
+    let ranks = origins
+        .iter()
+        .map(|origin| rank_of(origins, origin))
+        .collect(alloc)?;
+    Ok(ranks)
+}
+
+/// The number of a row's origin.
+fn rank(ranks: &[usize], row: &Row) -> usize
+    ensures { result ≡ row_rank ranks.now row.now }
+{
+    ranks.get(row.origin as usize).copied().unwrap_or(0)
+}
+
+/// Which row comes first.
+fn compare(ranks: &[usize], a: &Row, b: &Row) -> Ordering
+    ensures { is_lt result ≡ row_before ranks.now a.now b.now }
+{
+    rank(ranks, a)
+        .cmp(&rank(ranks, b))
+        .then(a.begin.cmp(&b.begin))
+        .then(a.end.cmp(&b.end))
+}

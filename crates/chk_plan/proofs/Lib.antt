@@ -1,0 +1,13 @@
+pub mod Reaching
+pub mod ChunkOrder
+pub mod Parts
+pub mod Runs
+pub mod Gaps
+pub mod BooksMay
+pub mod SetAside
+pub mod HeadOrder
+mod Blocks
+mod Bridges
+mod SpanBlocks
+mod MoreSpans
+mod Gives

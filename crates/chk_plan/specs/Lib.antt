@@ -1,0 +1,6 @@
+-- What an archive run takes and sets aside.
+pub mod Plan
+pub mod HeadsOf
+pub mod Passes
+pub mod NextBooks
+pub mod Laws

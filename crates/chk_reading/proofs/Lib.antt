@@ -1,0 +1,6 @@
+pub mod Named
+pub mod Fields
+pub mod WalkFacts
+pub mod Texts
+pub mod WalkTold
+pub mod Told

@@ -1,0 +1,4 @@
+pub mod Adaptors
+pub mod Steps
+pub mod Facts
+pub mod Fields

@@ -1,0 +1,11 @@
+//! Tests of books and heads over a site in memory.
+#![tactic(auto)]
+
+#[cfg(test)]
+mod books;
+#[cfg(test)]
+mod heads;
+#[cfg(test)]
+mod scene;
+#[cfg(test)]
+mod segments;
