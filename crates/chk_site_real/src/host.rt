@@ -6,6 +6,7 @@ ghost use Rattle.chk_sockets.specs.Faults.{answer_of};
 
 use crate::folders::{file_size, folder_of, is_folder, sync_folder};
 use crate::kept::{Kept, is_named};
+use crate::listings::Listings;
 use chk_bytes::Bytes;
 use chk_sockets::{SystemFault, text};
 use std::alloc::Global;
@@ -20,6 +21,7 @@ pub struct Host<R: Files> {
     pub rt: R,
     writing: Option<Kept<R>>,
     pub reading: Option<Kept<R>>,
+    pub listings: Listings,
     pub buffer: Vec<u8>,
 }
 
@@ -29,6 +31,7 @@ impl<R: Files> Host<R> {
             rt,
             writing: None,
             reading: None,
+            listings: Listings::new(alloc),
             buffer: Vec::new(alloc),
         }
     }
@@ -73,20 +76,20 @@ impl<R: Files> Host<R> {
         Ok(())
     }
 
-    /// A file that isn't there is `Failed`. The new length is synced.
+    /// `Missing` where the file isn't there, and its folder is. The new length is synced.
     pub fn cut(&mut self, alloc: Global, name: &str, length: u64) -> Result<(), SystemFault>
-        ensures { MayBeShort (answer_of result) }
+        ensures { MayMissOrBeShort (answer_of result) }
     {
-        let writer = self.writer(alloc, name)?;
-        let size = writer.size()?;
+        let size = self.size(name)?;
         if size < length {
             return Err(SystemFault::Short { size });
         }
         if size > length {
+            let writer = self.writer(alloc, name)?;
             writer.file.set_len(length)?;
             writer.file.sync_all()?;
+            self.writing = Some(writer);
         }
-        self.writing = Some(writer);
         Ok(())
     }
 
@@ -165,8 +168,8 @@ impl<R: Files> Host<R> {
         Ok(Some(bytes))
     }
 
-    /// Reads the file of this name that is kept open, or else opens it, and keeps it open. None where
-    /// there is no such file.
+    /// Reads the file of this name that is kept open, or else opens it where it has bytes at the place,
+    /// and keeps it open. None where there is no such file.
     pub fn read_on(
         &mut self,
         alloc: Global,
@@ -177,16 +180,46 @@ impl<R: Files> Host<R> {
         ensures most { IfOk result (λ found. IfSome found (λ bytes. length bytes ≤ max)) }
         ensures only { MayBeShort (answer_of result) }
     {
-        let Some(mut reader) = self.reader(alloc, name)? else {
-            return Ok(None);
-        };
+        match self.goes_on(name, at)? {
+            None => Ok(None),
+            Some(false) => Ok(Some(Bytes::new(alloc))),
+            Some(true) => Ok(Some(self.read_open(alloc, name, at, max)?)),
+        }
+    }
+
+    // Whether there may be bytes at the place; none where there is no such file. A file that is kept open
+    // isn't looked at.
+    fn goes_on(&self, name: &str, at: u64) -> Result<Option<bool>, SystemFault>
+        ensures { MayBeShort (answer_of result) }
+    {
+        if is_named(&self.reading, name) {
+            return Ok(Some(true));
+        }
+        match file_size(&self.rt, name)? {
+            None => Ok(None),
+            Some(size) if size < at => Err(SystemFault::Short { size }),
+            Some(size) => Ok(Some(size > at)),
+        }
+    }
+
+    fn read_open(
+        &mut self,
+        alloc: Global,
+        name: &str,
+        at: u64,
+        max: u32,
+    ) -> Result<Bytes, SystemFault>
+        ensures most { IfOk result (λ bytes. length bytes ≤ max) }
+        ensures only { MayBeShort (answer_of result) }
+    {
+        let mut reader = self.reader(alloc, name)?;
         reader.go_to(at)?;
         let bytes = reader.piece(&mut self.buffer, alloc, max)?;
         if bytes.len() == 0 {
             reader.reaches(at)?;
         }
         self.reading = Some(reader);
-        Ok(Some(bytes))
+        Ok(bytes)
     }
 
     /// The file that is kept open to be read is the one that has this name now.
@@ -211,21 +244,18 @@ impl<R: Files> Host<R> {
         Ok(Kept::new(kept_name, file))
     }
 
-    // The file to read, taken from what is kept; none where there is no such file.
-    fn reader(&mut self, alloc: Global, name: &str) -> Result<Option<Kept<R>>, SystemFault>
+    // The file to read, taken from what is kept.
+    fn reader(&mut self, alloc: Global, name: &str) -> Result<Kept<R>, SystemFault>
         ensures { MayFail (answer_of result) }
     {
         if let Some(kept) = self.reading.take() {
             if kept.name.as_str() == name {
-                return Ok(Some(kept));
+                return Ok(kept);
             }
-        }
-        if file_size(&self.rt, name)?.is_none() {
-            return Ok(None);
         }
         let kept_name = text(alloc, name)?;
         let file = File::open(&self.rt, name)?;
-        Ok(Some(Kept::new(kept_name, file)))
+        Ok(Kept::new(kept_name, file))
     }
 
     /// Closes the file that was read last, where it is kept.

@@ -56,14 +56,17 @@ impl<R: Files> Kept<R> {
         Ok(())
     }
 
+    /// The file may end before the place. `Short` comes only where it does and the system doesn't go there.
     pub fn go_to(&mut self, at: u64) -> Result<(), SystemFault>
         ensures { MayBeShort (answer_of result) }
     {
         if self.place == at {
             return Ok(());
         }
-        self.reaches(at)?;
-        self.file.seek(SeekFrom::Start(at))?;
+        if let Err(error) = self.file.seek(SeekFrom::Start(at)) {
+            self.reaches(at)?;
+            return Err(SystemFault::Failed(error));
+        }
         self.place = at;
         Ok(())
     }

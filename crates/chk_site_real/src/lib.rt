@@ -6,6 +6,7 @@ mod failure;
 mod folders;
 mod host;
 mod kept;
+mod listings;
 mod locks;
 mod logs;
 mod names;

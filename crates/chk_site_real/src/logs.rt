@@ -8,14 +8,16 @@ ghost use Rattle.chk_sockets.specs.Faults.{answer_of, call_fault};
 use crate::folders::{file_size, folder_of};
 use crate::host::Host;
 use crate::kept::is_named;
-use crate::names::names_in;
-use chk_bytes::{Bytes, NoMemory, WordFault};
+use crate::listings::{Listing, Stamp};
+use crate::names::{Wanted, names_in};
+use chk_bytes::{Bytes, NoMemory, Word, WordFault};
 use chk_site::{Part, Piece, Suffix};
 use chk_sockets::{SystemFault, make_room, text};
 use std::alloc::Global;
 use std::fs::OpenOptions;
 use std::io::{ErrorKind, Write};
 use std::rt::Files;
+use std::time::Clock;
 
 /// How often a read is made again where the log's names changed meanwhile.
 const MORE_TRIES: u32 = 3;
@@ -27,7 +29,7 @@ struct Front {
     is_whole: bool,
 }
 
-impl<R: Files> Host<R> {
+impl<R: Files + Clock> Host<R> {
     /// Appends to the base file, and makes it where it isn't there. It is opened anew each time,
     /// since what was the base file may be a rotated generation now.
     pub fn append_log(&self, path: &str, bytes: &[u8]) -> Result<(), SystemFault>
@@ -48,7 +50,11 @@ impl<R: Files> Host<R> {
     ) -> Result<Option<Suffix>, SystemFault>
         ensures { MayFail (answer_of result) }
     {
-        Ok(self.suffixes(alloc, path)?.pop())
+        let listing = self.listing(alloc, folder_of(path))?;
+        let base = base_of(path);
+        let newest = newest_of(alloc, listing.beginning_with(base), base)?;
+        self.listings.keep(listing);
+        Ok(newest)
     }
 
     /// Reads the first generation of the part.
@@ -86,7 +92,7 @@ impl<R: Files> Host<R> {
         ensures most { IfOk result (λ bytes. length bytes ≤ max) }
         ensures only { MayBeShort (answer_of result) }
     {
-        if !self.is_reading(path) {
+        if is_named(&self.reading, path) && !self.is_reading(path) {
             self.stop_reading();
         }
         match self.read_on(alloc, path, at, max)? {
@@ -195,46 +201,82 @@ impl<R: Files> Host<R> {
         ensures past { IfOk result (λ first. IfSome first (λ s. IsTrue (text_lt after.now s))) }
         ensures only { MayFail (answer_of result) }
     {
-        for suffix in self.suffixes(alloc, path)? {
+        let listing = self.listing(alloc, folder_of(path))?;
+        let base = base_of(path);
+        let first = first_of(alloc, listing.beginning_with(base), base, after)?;
+        self.listings.keep(listing);
+        Ok(first)
+    }
+
+    // What is kept of the folder, where it is still so, or else what is listed now. It is settled before
+    // the listing begins, so that a change behind the listing shows in the folder's stamp.
+    fn listing(&mut self, alloc: Global, folder: &str) -> Result<Listing, SystemFault>
+        ensures { MayFail (answer_of result) }
+    {
+        let stamp = Stamp::of(&self.rt, folder);
+        if let Some(kept) = self.listings.take(folder) {
+            if kept.is_current(&stamp) {
+                return Ok(kept);
+            }
+        }
+        let stamp = self.settled(stamp);
+        make_room(&mut self.buffer)?;
+        let names = names_in(&self.rt, alloc, folder, Wanted::Rotated, &mut self.buffer)?;
+        let folder = text(alloc, folder)?;
+        Ok(Listing {
+            folder,
+            stamp,
+            names,
+        })
+    }
+
+    // The stamp, where each change of the folder from now on leaves another one.
+    fn settled(&self, stamp: Option<Stamp>) -> Option<Stamp> {
+        match self.rt.since_1970() {
+            Ok(now) => stamp.filter(|stamp| stamp.is_settled(now)),
+            Err(_) => None,
+        }
+    }
+}
+
+// The greatest suffix behind the base name, of names in byte order.
+fn newest_of(alloc: Global, names: &[Word], base: &str) -> Result<Option<Suffix>, NoMemory> {
+    for name in names.iter().rev() {
+        if let Some(suffix) = suffix_of(alloc, name.as_str(), base)? {
+            return Ok(Some(suffix));
+        }
+    }
+    Ok(None)
+}
+
+// The least suffix behind the base name that is above `after`, of names in byte order.
+fn first_of(
+    alloc: Global,
+    names: &[Word],
+    base: &str,
+    after: &str,
+) -> Result<Option<Suffix>, NoMemory>
+    ensures { IfOk result (λ first. IfSome first (λ s. IsTrue (text_lt after.now s))) }
+{
+    for name in names {
+        if let Some(suffix) = suffix_of(alloc, name.as_str(), base)? {
             if comes_before(after, suffix.as_str()) {
                 return Ok(Some(suffix));
             }
         }
-        Ok(None)
     }
-
-    // The suffixes of the log's rotated generations, the least first.
-    fn suffixes(&mut self, alloc: Global, path: &str) -> Result<Vec<Suffix>, SystemFault>
-        ensures { MayFail (answer_of result) }
-    {
-        make_room(&mut self.buffer)?;
-        let base = base_of(path);
-        let mut suffixes = Vec::new(alloc);
-        for name in names_in(&self.rt, alloc, folder_of(path), base, &mut self.buffer)? {
-            push_suffix(alloc, name.as_str(), base, &mut suffixes)?;
-        }
-        suffixes.sort_unstable_by(|a, b| a.as_str().cmp(b.as_str()));
-        Ok(suffixes)
-    }
+    Ok(None)
 }
 
-// A name that has no suffix behind the base name is no generation's.
-fn push_suffix(
-    alloc: Global,
-    name: &str,
-    base: &str,
-    suffixes: &mut Vec<Suffix>,
-) -> Result<(), NoMemory> {
+// None where the name has no suffix behind the base name, and so is no generation's.
+fn suffix_of(alloc: Global, name: &str, base: &str) -> Result<Option<Suffix>, NoMemory> {
     let Some(rest) = name.strip_prefix(base) else {
-        return Ok(());
+        return Ok(None);
     };
     match Suffix::new(alloc, rest.as_bytes()) {
-        Ok(suffix) => {
-            suffixes.push(suffix)?;
-            Ok(())
-        }
+        Ok(suffix) => Ok(Some(suffix)),
         Err(WordFault::NoMemory) => Err(NoMemory),
-        Err(_) => Ok(()),
+        Err(_) => Ok(None),
     }
 }
 

@@ -3,10 +3,19 @@ ghost use Rattle.chk_site.specs.Site.{MayFail};
 ghost use Rattle.chk_sockets.specs.Faults.{answer_of};
 
 use chk_bytes::{NoMemory, Word, WordFault};
+use chk_site::is_suffix;
 use chk_sockets::{SystemFault, make_room};
 use std::alloc::Global;
 use std::io::{ErrorKind, Read};
 use std::rt::Files;
+
+/// Which names of a folder are asked for.
+#[derive(Clone, Copy)]
+pub enum Wanted {
+    All,
+    /// Those that may be a rotated generation's.
+    Rotated,
+}
 
 /// The names in this folder that are words, in byte order; none where there is no such folder.
 pub fn sorted_names<R: Files>(rt: &R, alloc: Global, folder: &str) -> Result<Vec<Word>, SystemFault>
@@ -14,17 +23,15 @@ pub fn sorted_names<R: Files>(rt: &R, alloc: Global, folder: &str) -> Result<Vec
 {
     let mut buffer = Vec::new(alloc);
     make_room(&mut buffer)?;
-    let mut names = names_in(rt, alloc, folder, "", &mut buffer)?;
-    names.sort_unstable_by(|a, b| a.as_str().cmp(b.as_str()));
-    Ok(names)
+    names_in(rt, alloc, folder, Wanted::All, &mut buffer)
 }
 
-/// Those that begin so, in no order. The system gives them through the buffer.
+/// Those that are asked for. The system gives them through the buffer.
 pub fn names_in<R: Files>(
     rt: &R,
     alloc: Global,
     folder: &str,
-    front: &str,
+    wanted: Wanted,
     buffer: &mut [u8],
 ) -> Result<Vec<Word>, SystemFault>
     ensures { MayFail (answer_of result) }
@@ -38,8 +45,9 @@ pub fn names_in<R: Files>(
         if count == 0 {
             break;
         }
-        push_names(alloc, &buffer[..count], front.as_bytes(), &mut names)?;
+        push_names(alloc, &buffer[..count], wanted, &mut names)?;
     }
+    names.sort_unstable_by(|a, b| a.as_str().cmp(b.as_str()));
     Ok(names)
 }
 
@@ -65,7 +73,7 @@ fn with_slash(alloc: Global, folder: &str) -> Result<String, NoMemory> {
 fn push_names(
     alloc: Global,
     names: &[u8],
-    front: &[u8],
+    wanted: Wanted,
     found: &mut Vec<Word>,
 ) -> Result<(), NoMemory> {
     let mut rest = names;
@@ -73,7 +81,7 @@ fn push_names(
         let Some(end) = rest.iter().position(|b| *b == 0) else {
             break;
         };
-        push_name(alloc, &rest[..end], front, found)?;
+        push_name(alloc, &rest[..end], wanted, found)?;
         rest = &rest[end + 1..];
     }
     Ok(())
@@ -82,10 +90,10 @@ fn push_names(
 fn push_name(
     alloc: Global,
     name: &[u8],
-    front: &[u8],
+    wanted: Wanted,
     found: &mut Vec<Word>,
 ) -> Result<(), NoMemory> {
-    if name == b".".as_slice() || name == b"..".as_slice() || !name.starts_with(front) {
+    if !is_wanted(name, wanted) {
         return Ok(());
     }
     match Word::new(alloc, name) {
@@ -96,4 +104,21 @@ fn push_name(
         Err(WordFault::NoMemory) => Err(NoMemory),
         Err(_) => Ok(()),
     }
+}
+
+fn is_wanted(name: &[u8], wanted: Wanted) -> bool {
+    match wanted {
+        Wanted::All => name != b".".as_slice() && name != b"..".as_slice(),
+        Wanted::Rotated => has_suffix(name),
+    }
+}
+
+// Some end of the name is the suffix of a rotated generation.
+fn has_suffix(name: &[u8]) -> bool {
+    for at in 0..name.len() {
+        if is_suffix(&name[at..]) {
+            return true;
+        }
+    }
+    false
 }

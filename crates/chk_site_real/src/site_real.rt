@@ -24,15 +24,19 @@ use std::time::{Clock, Duration};
 ///
 /// Files are named from the current folder, with or without a folder before the name; logs by their
 /// paths. What was made, renamed, removed or cut is so after a stop of the machine too, and what was
-/// appended once it is synced. To append to, sync, rename or cut a file that isn't there fails; only
-/// `remove`, `size` and `read` answer `Missing`, and they fail too where the file's folder isn't
-/// there. A read asks the machine for 131,072 bytes at a time. At most two files are open, the one
+/// appended once it is synced. To append to, sync or rename a file that isn't there fails; only
+/// `cut`, `remove`, `size` and `read` answer `Missing`, and they fail too where the file's folder
+/// isn't there. A read asks the machine for 131,072 bytes at a time. At most two files are open, the one
 /// written last and the one read last.
 ///
-/// A log's rotated generations are found by their names in its folder, which are listed before each
-/// read, and after it where the file that was read isn't known to have been the base file all the
-/// while; a read is made again up to three times where the first generation changed. A base file that
-/// was read is kept open, and read on as long as it is the one that has the log's name.
+/// A log's rotated generations are found by their names in its folder, before each read, and after it
+/// where the file that was read isn't known to have been the base file all the while; a read is made
+/// again up to three times where the first generation changed. The folder is listed for that where its
+/// times or its number changed since it was listed, or it was changed within the last three seconds. The
+/// names are kept of the 64 folders that were asked for last, up to 65,536 in all; other folders are
+/// listed each time. A base file that was read is kept open, and read on as long as it is the one that has
+/// the log's name. A file is opened only where it has bytes at the place, so that one that may not be
+/// read fails no earlier.
 ///
 /// A start takes the lock of its process, which no other process can hold meanwhile: on the file
 /// `locks/agent.<source>`, `locks/collector.<name>` or `locks/job`. It is kept as long as the site

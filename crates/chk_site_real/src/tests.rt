@@ -7,6 +7,8 @@ use std::process::Abort;
 use std::test::Fail;
 use std::{fs, io};
 
+mod listed;
+
 // A site in the test's folder, and who acts there.
 #[derive(Drop)]
 struct Outside {
@@ -134,8 +136,8 @@ fn call_and_count(rt: &impl Abort, outside: &mut Outside) {
         (Call::Size, Err(CallFault::Missing), 0),
         (Call::Append, Err(CallFault::Failed), 1),
         (Call::Sync, Err(CallFault::Failed), 2),
-        (Call::Cut, Err(CallFault::Failed), 3),
-        (Call::Rename, Err(CallFault::Failed), 4),
+        (Call::Cut, Err(CallFault::Missing), 2),
+        (Call::Rename, Err(CallFault::Failed), 3),
     ];
     for (call, wanted, faults) in rows {
         assert!(rt;
