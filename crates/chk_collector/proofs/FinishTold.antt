@@ -62,15 +62,16 @@ module _ (stamped : List (List ℕ)) (s : State) where
     alive = λ r. record {
       holds = subst (λ (t : State). Holds t h) (same_state After none) (x.alive r).holds;
       closed = (x.alive r).closed none;
+      sound = λ name at e. cc;
     };
   }
 
   -- the close refused
-  refused : (new : State) (fault : SinkFault) (h : History) → Closed stamped After new (Err fault) h → Finished stamped s new (Err fault) h
-  refused new fault h x = record {
+  refused : (new : State) (fault : SinkFault) → IsOutside fault → (h : History) → Closed stamped After new (Err fault) h → Finished stamped s new (Err fault) h
+  refused new fault only h x = record {
     legal = x.legal;
     may_act = x.may_act;
-    alive = λ r. record { holds = (x.alive r).holds; closed = tt };
+    alive = λ r. record { holds = (x.alive r).holds; closed = tt; sound = λ name at e. subst (λ r. IfErr r IsOutside) e only };
   }
 
   -- the close closed it
@@ -78,18 +79,22 @@ module _ (stamped : List (List ℕ)) (s : State) where
   closed_late new late h x = record {
     legal = x.legal;
     may_act = x.may_act;
-    alive = λ r. record { holds = (x.alive r).holds; closed = late (last_stem s) h (x.alive r).closed };
+    alive = λ r. record {
+      holds = (x.alive r).holds;
+      closed = late (last_stem s) h (x.alive r).closed;
+      sound = λ name at e. cc;
+    };
   }
 
   pub finish_told : (new : State) (result : Result (Unit {0}) SinkFault) {old mid end : Option History}
-      → OnOk result (new ≡ with_current After None)
+      → OnOk result (new ≡ with_current After None) → IfErr result IsOutside
       → Adds old mid (Leads (As stamped (process s)) (Matches stamped s) (Ticked stamped s After (Ok tt)))
       → (After.current ≡ None → end ≡ mid)
       → Adds mid end (Leads (As stamped (process s)) (Matches stamped After) (Closed stamped After new result))
       → Adds old end (Leads (As stamped (process s)) (Matches stamped s) (Finished stamped s new result))
-  finish_told new (Err fault) is tick idle close =
-      leads_as (λ h x. x) (refused new fault) (leads_then (leads_as (λ h x. x) ticked_holds tick) close)
-  finish_told new (Ok value) {old = old} {mid = mid} {end = end} is tick idle close = by (closed_by s.rotate s.current)
+  finish_told new (Err fault) is only tick idle close =
+      leads_as (λ h x. x) (refused new fault only) (leads_then (leads_as (λ h x. x) ticked_holds tick) close)
+  finish_told new (Ok value) {old = old} {mid = mid} {end = end} is only tick idle close = by (closed_by s.rotate s.current)
     where
       Whole : Option History → State → Type 0
       Whole end new = Adds old end (Leads (As stamped (process s)) (Matches stamped s) (Finished stamped s new (Ok tt)))
@@ -103,7 +108,7 @@ module _ (stamped : List (List ℕ)) (s : State) where
 
   -- the same of the state that the tick left
   pub finish_as : (after new : State) (result : Result (Unit {0}) SinkFault) {old mid end : Option History}
-      → after ≡ After → OnOk result (new ≡ with_current after None)
+      → after ≡ After → OnOk result (new ≡ with_current after None) → IfErr result IsOutside
       → Adds old mid (Leads (As stamped (process s)) (Matches stamped s) (Ticked stamped s after (Ok tt)))
       → (after.current ≡ None → end ≡ mid)
       → Adds mid end (Leads (As stamped (process after)) (Matches stamped after) (Closed stamped after new result))
@@ -113,7 +118,7 @@ module _ (stamped : List (List ℕ)) (s : State) where
     where
       Told : State → Type 0
       Told t =
-          OnOk result (new ≡ with_current t None)
+          OnOk result (new ≡ with_current t None) → IfErr result IsOutside
           → Adds old mid (Leads (As stamped (process s)) (Matches stamped s) (Ticked stamped s t (Ok tt)))
           → (t.current ≡ None → end ≡ mid)
           → Adds mid end (Leads (As stamped (process t)) (Matches stamped t) (Closed stamped t new result))

@@ -26,7 +26,7 @@ ghost use Rattle.chk_delivery.specs.Scripts.{TakesPollReply, IsNoPollReply};
 ghost use Rattle.chk_delivery.specs.Turns.{SeesAll, below_in, first_named, length_of};
 ghost use Rattle.chk_acks.specs.Rows.{is_unmarked};
 ghost use Rattle.chk_world.specs.Agents.{AreFor};
-ghost use Rattle.chk_delivery.specs.States.{Poll};
+ghost use Rattle.chk_delivery.specs.States.{Poll, free_rows};
 ghost use Rattle.chk_message.specs.Messages.{Ack, IsGoodReply};
 ghost use Rattle.chk_delivery.specs.Turns.{post_taken, answered_rows, asked_stems};
 ghost use Rattle.chk_bytes.specs.Stems.{same_stem};
@@ -482,9 +482,25 @@ impl Delivery {
 
     /// How many addresses there are.
     pub fn addresses(&self) -> u32
-        ensures { result ≡ length self.now.ring.addresses }
+        ensures count { result ≡ length self.now.ring.addresses }
+        ensures some { 0 < result }
     {
         self.ring.size()
+    }
+
+    /// How many more rows there is room for.
+    pub fn free_rows(&self) -> u32
+        ensures free { result ≡ free_rows self.now }
+        ensures table { IsSoundTable self.now.table }
+    {
+        self.acks.free()
+    }
+
+    /// How many rows there is room for.
+    pub fn most_rows(&self) -> u32
+        ensures { result ≡ self.now.table.room }
+    {
+        self.rules.rows
     }
 
     // No poll was sent, or the last one long enough before.

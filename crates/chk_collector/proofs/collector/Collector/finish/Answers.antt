@@ -20,7 +20,7 @@ pub returns-clause-told : goal.returns-clause-told
 returns-clause-told g c stamped =
     subst (λ (s : State). Adds (g.S.Site.told c.args.site.now) (g.S.Site.told c.close.new.site)
     (Leads (As stamped (process s)) (Matches stamped s) (Finished stamped s c.close.new.self c.close.result))) c.self.view_is
-    (finish_as stamped c.self.inside.sinks c.tick.new.self c.close.new.self c.close.result c.in_ok-tick.ensures.ok c.close.ensures.ok
+    (finish_as stamped c.self.inside.sinks c.tick.new.self c.close.new.self c.close.result c.in_ok-tick.ensures.ok c.close.ensures.ok c.close.ensures.only
     (c.in_ok-tick.ensures.told stamped) c.close.ensures.idle (c.close.ensures.told stamped))
 
 pub returns-clause-damaged : goal.returns-clause-damaged

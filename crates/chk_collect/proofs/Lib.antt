@@ -1,0 +1,13 @@
+pub mod Chains
+pub mod Counts
+pub mod Handling
+pub mod Reading
+pub mod RunEnds
+pub mod Running
+pub mod Serving
+pub mod SettledSinks
+pub mod Takings
+pub mod TickEnds
+pub mod Talking
+pub mod Turning
+pub mod NamedFound

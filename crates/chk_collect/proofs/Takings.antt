@@ -1,0 +1,207 @@
+-- Each taking of a turn finds all committed.
+use Rattle.std.proofs.Common.{◌≡◌, inl, inr, ℕ, Bool, true, false, List, [], ◌∷◌, ◌++◌, Option, Result, Ok, Err, sym, subst, ◌∙◌, refl, true≢false}
+use Rattle.chk_bytes.specs.declared.NoMemory.{NoMemory}
+use Rattle.chk_site.specs.declared.acts.ActAnswer.{ActAnswer}
+use Rattle.chk_site.specs.declared.acts.Call.{Call}
+use Rattle.chk_site.specs.declared.acts.Call.TheVariants.{Take}
+use Rattle.chk_site.specs.declared.acts.CallFault.{CallFault}
+use Rattle.chk_site.specs.declared.acts.CallFault.TheVariants.{Failed, Missing, Exists, Short, NoMemory as no_memory}
+use Rattle.chk_site.specs.declared.acts.Who.{Who}
+use Rattle.chk_site.specs.Acts.{deed, deed_by}
+use Rattle.chk_site.specs.History.{Step, History, Every, Others, IsTheirs, is_stopped}
+use Rattle.chk_site.specs.Runs.{Owns, Leads}
+use Rattle.chk_site.specs.Site.{Adds, Asked, asked, Acted, Added, Calls, CallsSome}
+use Rattle.chk_site.proofs.Leads.{call_owned, theirs_run}
+use Rattle.chk_site.proofs.Runs.{adds_then, adds_as, adds_both, adds_none, every_join, every_early, every_late}
+use Rattle.chk_world.specs.Places.{Foreign, IsBy, is_message}
+use Rattle.chk_world.proofs.PlacesStay.{told_stays}
+use Rattle.chk_sink.specs.declared.fault.SinkFault.{SinkFault}
+use Rattle.chk_sink.specs.Held.{Holds, Matches}
+use Rattle.chk_sink.specs.States.{State, process}
+use Rattle.chk_sink.proofs.HoldsStay.{holds_stay}
+use Rattle.chk_collect.specs.Legality.{IsSettled, is_take, FindsCommitted, Finds}
+use Rattle.chk_collect.specs.Messages.{IsReadOn, whole, came, over, broken, unread, unkept, IsReplied, sent, unreplied, unsent, IsAnswered, replied, IsTakenUpTo, enough, none, one, untaken, unanswered}
+use Rattle.chk_collect.proofs.SettledSinks.{all_committed}
+
+-- ---- steps that take nothing
+
+abbrev pub TakesNone : History → Step → Type 0
+TakesNone before step = is_take (deed step.act) → ⊥
+
+take_talks : (call : Call) (words : List (List ℕ)) (number max : ℕ)
+    → is_take (deed_by call words number max) → is_message call ≡ true
+take_talks Take words number max take = refl
+take_talks call words number max take = absurd (take)
+
+-- what makes no message takes none
+pub quiet_takes : {who : Who} {old new : Option History} → Adds old new (Owns (IsBy who))
+    → Adds old new (Owns TakesNone)
+quiet_takes {who = who} told = adds_as (Owns TakesNone) told go
+  where
+    go : (added history : History) → Owns (IsBy who) added history → Owns TakesNone added history
+    go [] history own = tt
+    go (step ∷ added) history own = (
+      go added history own.0,
+      λ mine take.
+          true≢false (sym (take_talks step.act.call step.act.words step.act.number step.act.max
+          take) ∙ (own.1 mine).quiet),
+    )
+
+-- nor does another call than a taking
+pub call_takes : {q : Asked} (given : Result ActAnswer CallFault) {old new : Option History}
+    → (is_take (deed_by q.call q.words q.number q.max) → ⊥) → Adds old new (Calls q given)
+    → Adds old new (Owns TakesNone)
+call_takes given no_take told =
+    adds_as (Owns TakesNone) told (λ added history calls. call_owned TakesNone given
+    (λ before answer files logs running. no_take) calls)
+
+pub takes_then : {old mid new : Option History} → Adds old mid (Owns TakesNone)
+    → Adds mid new (Owns TakesNone) → Adds old new (Owns TakesNone)
+takes_then p q =
+    adds_then (Owns TakesNone) p q (λ a b h x y. every_join (λ before step. step.own ≡ true
+    → TakesNone before step) b a h x y)
+
+read_takes : {who : Who} {t : ℕ} {bytes : List ℕ} {got : Result (Option (List ℕ)) NoMemory} {old
+    new : Option History}
+    → IsReadOn who t bytes got old new → Adds old new (Owns TakesNone)
+read_takes (whole shut) = adds_none _ (Owns TakesNone) (λ h. tt)
+read_takes (came piece yet some call more) = takes_then (call_takes _ (λ x. x) call) (read_takes
+    more)
+read_takes (over yet call) = call_takes _ (λ x. x) call
+read_takes (broken yet call) = call_takes _ (λ x. x) call
+read_takes (unread yet call) = call_takes _ (λ x. x) call
+read_takes (unkept piece yet some call) = call_takes _ (λ x. x) call
+
+reply_takes : {who : Who} {t : ℕ} {request : List ℕ} {s u : State}
+    {result : Result (Unit {0}) NoMemory} {old new : Option History}
+    → IsReplied who t request s result old u new → Adds old new (Owns TakesNone)
+reply_takes (sent reply given handled fine call) =
+    takes_then (quiet_takes handled.quiet) (call_takes _ (λ x. x) call)
+reply_takes (unreplied handled) = quiet_takes handled.quiet
+reply_takes (unsent reply handled call) =
+    takes_then (quiet_takes handled.quiet) (call_takes _ (λ x. x) call)
+
+pub message_takes : {who : Who} {t : ℕ} {bytes : List ℕ} {s u : State}
+    {result : Result (Unit {0}) NoMemory} {old new : Option History}
+    → IsAnswered who t bytes s result old u new → Adds old new (Owns TakesNone)
+message_takes (IsAnswered.broken read) = read_takes read
+message_takes (IsAnswered.unread read) = read_takes read
+message_takes (replied request read reply) = takes_then (read_takes read) (reply_takes reply)
+
+-- ---- how findings join
+
+pub finds_none : (S : History → Step → Type 0) (name : List ℕ) (A : History
+    → Type 0) {old new : Option History}
+    → Adds old new (Owns TakesNone) → Adds old new (Finds S name A)
+finds_none S name A told = adds_as (Finds S name A) told (λ added history own others a. go added
+    history own)
+  where
+    go : (added history : History) → Owns TakesNone added history
+        → Every (FindsCommitted name) added history
+    go [] history own = tt
+    go (step ∷ added) history own = (go added history own.0, λ mine take. absurd (own.1 mine take))
+
+pub finds_then : {S : History → Step → Type 0} {Mine : History → Step
+    → Type 0} (name : List ℕ) {A B : History → Type 0}
+    {old mid new : Option History} → Adds old mid (Leads (record { others = S; own = Mine }) A B)
+    → Adds old mid (Finds S name A)
+    → Adds mid new (Finds S name B) → Adds old new (Finds S name A)
+finds_then {S = S} name {A = A} {B = B} leads first second =
+    let O : History → Step → Type 0 = λ before step. step.own ≡ false → S before step in
+    let F : History → History → Type 0 = λ added history. Others S added history → A history
+    → Every (FindsCommitted name) added history × B (added ++ history) in
+    adds_then (Finds S name A)
+    (adds_both F leads first (λ added history x y others a. (y others a, x.leads others a))) second
+    (λ a b history x y others h.
+    let early = x (every_early O b a history others) h in
+    every_join (FindsCommitted name) b a history early.0 (y (every_late O b a history others)
+    early.1))
+
+-- ---- the taking
+
+module _ (stamped : List (List ℕ)) (s : State) (settled : IsSettled s) where
+  abbrev pub Found : History → History → Type 0
+  Found = Finds (Foreign stamped (process s)) s.collector (Matches stamped s)
+
+  theirs_match : (added history : History) → Every IsTheirs added history
+      → Others (Foreign stamped (process s)) added history
+      → Matches stamped s history → Matches stamped s (added ++ history)
+  theirs_match [] history theirs others h = h
+  theirs_match (step ∷ added) history theirs others h =
+      told_stays stamped (process s) (Holds s) (holds_stay stamped s) (added ++ history) step
+      theirs.1.0 (others.1 theirs.1.0)
+      (theirs_match added history theirs.0 others.0 h)
+
+  theirs_find : (added history : History) → Every IsTheirs added history
+      → Every (FindsCommitted s.collector) added history
+  theirs_find [] history theirs = tt
+  theirs_find (step ∷ added) history theirs =
+      (theirs_find added history theirs.0, λ mine. absurd (true≢false (sym mine ∙ theirs.1.0)))
+
+  acted_finds : {q : Asked} {answer : ActAnswer} {added history : History}
+      → Acted q answer added history → Found added history
+  acted_finds {history = history} acted =
+      subst (λ (a : History). Found a history) (sym acted.added_is)
+      (λ others h.
+      let before = theirs_match acted.others history acted.theirs others.0 h in
+      let running = theirs_run acted.others history acted.theirs acted.running in (
+        theirs_find acted.others history acted.theirs,
+        λ mine take. all_committed stamped s (acted.others ++ history) before.legal (before.alive
+            running) settled,
+      ))
+
+  added_finds : (q : Asked) (result : Result ActAnswer CallFault) (added history : History)
+      → Added q result added history → Found added history
+  added_finds q (Ok answer) added history a = acted_finds a
+  added_finds q (Err Failed) added history (inl a) = acted_finds a
+  added_finds q (Err Failed) added history (inr a) = acted_finds a.1
+  added_finds q (Err Missing) added history a = acted_finds a
+  added_finds q (Err Exists) added history a = acted_finds a
+  added_finds q (Err (Short size)) added history a = acted_finds a
+  added_finds q (Err no_memory) added history a = λ others h. theirs_find added history a
+
+  call_finds : {q : Asked} (result : Result ActAnswer CallFault) (added history : History)
+      → Calls q result added history → Found added history
+  call_finds {q = q} result added history calls = go (is_stopped history) refl
+    where
+      go : (b : Bool) → is_stopped history ≡ b → Found added history
+      go true e = subst (λ (a : History). Found a history) (sym (calls.stopped e).0) (λ others h.
+          tt)
+      go false e = added_finds q result added history (calls.running e)
+
+  some_finds : (q : ℕ → Asked) (result : ℕ → Result ActAnswer CallFault) {old new : Option History}
+      → Adds old new (CallsSome q result)
+      → Adds old new Found
+  some_finds q result told =
+      adds_as Found told (λ added history calls. call_finds {q = q calls.0} (result calls.0) added
+      history calls.1)
+
+  -- what comes behind takes none
+  pub found_then : {old mid new : Option History} → Adds old mid Found
+      → Adds mid new (Owns TakesNone) → Adds old new Found
+  found_then p q =
+      let O : History → Step → Type 0 = λ before step. step.own ≡ false
+      → Foreign stamped (process s) before step in
+      adds_then Found p (finds_none (λ before step. Unit {0}) s.collector (λ h. Unit {0}) q)
+      (λ a b history x y others h.
+      every_join (FindsCommitted s.collector) b a history (x (every_early O b a history others) h)
+      (y (anyone b (a ++ history)) tt))
+    where
+      anyone : (added history : History) → Others (λ before step. Unit {0}) added history
+      anyone [] history = tt
+      anyone (step ∷ added) history = (anyone added history, λ theirs. tt)
+
+  -- of one taking and what comes of it
+  pub taken_finds : {door : List ℕ} {wait : ℕ} {result : Result (Unit {0}) SinkFault} {u : State}
+      {old new : Option History}
+      → IsTakenUpTo (process s) door 1 wait s old result u new → Adds old new Found
+  taken_finds {door = door} {wait = wait} (none call) = some_finds (λ of. asked (process s) Take
+      (door ∷ []) wait 0) _ call
+  taken_finds {door = door} {wait = wait} (one taking call answer enough) =
+      found_then (some_finds (λ of. asked (process s) Take (door ∷ []) wait 0) _ call)
+      (message_takes answer)
+  taken_finds {door = door} {wait = wait} (untaken fault given ends call) =
+      some_finds (λ of. asked (process s) Take (door ∷ []) wait 0) _ call
+  taken_finds {door = door} {wait = wait} (unanswered taking fault call answer) =
+      found_then (some_finds (λ of. asked (process s) Take (door ∷ []) wait 0) _ call)
+      (message_takes answer)

@@ -1,0 +1,138 @@
+-- The parts of a turn, one after another.
+use Rattle.std.proofs.Common.{◌≡◌, ℕ, List, [], Option, Result, Ok, Err, ap, sym, subst, ◌∙◌}
+use Rattle.std.specs.Prelude.{IsTrue, OnOk}
+use Rattle.chk_bytes.specs.Stems.{is_collector}
+use Rattle.chk_site.specs.declared.acts.Call.{Call}
+use Rattle.chk_site.specs.declared.acts.Call.TheVariants.{Clock}
+use Rattle.chk_site.specs.declared.acts.CallFault.{CallFault}
+use Rattle.chk_site.specs.declared.acts.CallFault.TheVariants.{Failed, Missing, Exists, Short, NoMemory as no_memory}
+use Rattle.chk_site.specs.declared.acts.Role.TheVariants.{Collector}
+use Rattle.chk_site.specs.declared.acts.Who.{Who}
+use Rattle.chk_site.specs.History.{History}
+use Rattle.chk_site.specs.Runs.{Leads}
+use Rattle.chk_site.specs.Site.{Adds, asked, answered, sized, taking_given, Calls}
+use Rattle.chk_site.proofs.Leads.{leads_then, leads_as}
+use Rattle.chk_site.proofs.Runs.{adds_then, adds_as}
+use Rattle.chk_world.specs.Places.{As, Foreign, Talking}
+use Rattle.chk_sink.specs.declared.fault.SinkFault.{SinkFault}
+use Rattle.chk_sink.specs.declared.fault.SinkFault.TheVariants.{NoMemory}
+use Rattle.chk_sink.specs.Closes.{Ticked}
+use Rattle.chk_sink.specs.Faults.{FailsLast, IsOutside}
+use Rattle.chk_sink.specs.Held.{Matches}
+use Rattle.chk_sink.specs.States.{State, IsSameStart, process}
+use Rattle.chk_collect.specs.Legality.{IsSettled, TurnEnds, Finds}
+use Rattle.chk_collect.specs.Messages.{EndsBy, IsTakenUpTo, enough, none, one, untaken as not_taken, unanswered}
+use Rattle.chk_collect.specs.Turns.{IsCollectorTurn, IsCutTurn, untaken, untimed, unticked}
+use Rattle.chk_collect.proofs.Counts.{ended_so}
+use Rattle.chk_collect.proofs.SettledSinks.{tick_ends, outside_ends}
+use Rattle.chk_collect.proofs.Takings.{call_takes, quiet_takes, found_then, message_takes, taken_finds}
+use Rattle.chk_collect.proofs.Talking.{clocked, talking_as}
+
+-- a call that ended a turn failed, or wanted memory
+pub ends_outside : {T : Type 0} (call : Call) (given : Result T CallFault) (fault : SinkFault)
+    → EndsBy call given fault → IsOutside fault
+ends_outside call (Ok value) fault ends = absurd ends
+ends_outside call (Err Failed) fault ends = subst IsOutside (sym ends) tt
+ends_outside call (Err Missing) fault ends = absurd ends
+ends_outside call (Err Exists) fault ends = absurd ends
+ends_outside call (Err (Short size)) fault ends = absurd ends
+ends_outside call (Err no_memory) fault ends = subst IsOutside (sym ends) tt
+
+pub same_process : (s u : State) → IsSameStart s u → process u ≡ process s
+same_process s u same = ap (λ n. record { role = Collector; name = n }) same.collector
+
+-- of one taking, the call that failed is the last one
+pub taken_last : {who : Who} {door : List ℕ} {wait : ℕ} {s u : State} {result : Result (Unit {0})
+    SinkFault} {old new : Option History}
+    → IsTakenUpTo who door 1 wait s old result u new → Adds old new (FailsLast result)
+taken_last (none call) = adds_as (FailsLast {T = Unit {0}} (Ok tt)) call (λ a h calls. tt)
+taken_last (one taking call answer enough) =
+    adds_then (FailsLast {T = Unit {0}} (Ok tt)) call (message_takes answer) (λ b a h x y. tt)
+taken_last (not_taken fault given ends call) =
+    adds_as (FailsLast {T = Unit {0}} (Err fault)) call
+    (λ a h calls. ended_so (Unit {0}) (taking_given calls.0) given fault a h ends calls.1)
+taken_last (unanswered taking fault call answer) =
+    adds_then (FailsLast {T = Unit {0}} (Err NoMemory)) call (message_takes answer) (λ b a h x y.
+    tt)
+
+module _ (stamped : List (List ℕ)) (s : State) (named : IsTrue (is_collector s.collector)) where
+  -- what a part of the turn leads to, for the process under its name
+  abbrev Turn : Who → State → Result (Unit {0}) SinkFault → Option History → Option History → Type 0
+  Turn who t result old new = Adds old new (Leads (Talking stamped who) (Matches stamped s)
+      (TurnEnds stamped t result))
+
+  abbrev pub Served : State → Option History → Option History → Type 0
+  Served u old new = Adds old new (Leads (Talking stamped (process s)) (Matches stamped s) (Matches
+      stamped u))
+
+  pub cut_told : (who : Who) → who ≡ process s → (u : State) (fault : SinkFault)
+      → IsOutside fault → {old new : Option History}
+      → Served u old new → Turn who u (Err fault) old new
+  cut_told who is u fault only {old = old} {new = new} served =
+      subst (λ w. Turn w u (Err fault) old new) (sym is) (leads_as (λ h x. x) (outside_ends stamped
+      u fault only) served)
+
+  pub timed_told : (who : Who) → who ≡ process s → (u : State) → IsSameStart s u
+      → (given : Result ℕ CallFault)
+      → {old taken timed : Option History} → Served u old taken
+      → Adds taken timed (Calls (asked who Clock [] 0 0) (answered sized given))
+      → Served u old timed
+  timed_told who is u same given {taken = taken} {timed = timed} served call =
+      let e = same_process s u same in
+      leads_then served
+      (subst (λ w. Adds taken timed (Leads (Talking stamped w) (Matches stamped u) (Matches stamped
+      u))) e
+      (clocked stamped u (subst (λ (w : Who). IsTrue (is_collector w.name)) (sym e) named) given
+      (subst (λ w. Adds taken timed (Calls (asked w Clock [] 0 0) (answered sized given))) (is ∙
+      sym e) call)))
+
+  pub ticked_told : (who : Who) → who ≡ process s → (u t : State) → IsSameStart s u
+      → (result : Result (Unit {0}) SinkFault)
+      → OnOk result (IsSettled t) → {old timed new : Option History} → Served u old timed
+      → Adds timed new (Leads (As stamped (process u)) (Matches stamped u) (Ticked stamped u t
+      result)) → Turn who t result old new
+  ticked_told who is u t same result settled {old = old} {timed = timed} {new = new} served tick =
+      subst (λ w. Turn w t result old new) (sym is)
+      (leads_then served
+      (subst (λ w. Adds timed new (Leads (Talking stamped w) (Matches stamped u) (TurnEnds stamped
+      t result))) (same_process s u same)
+      (leads_as (λ h x. x) (tick_ends stamped u t result settled) (talking_as (process u) stamped
+      tick))))
+
+  -- ---- what the takings find
+
+  abbrev FoundBy : Who → Option History → Option History → Type 0
+  FoundBy who old new = Adds old new (Finds (Foreign stamped who) who.name (Matches stamped s))
+
+  turn_found : {door : List ℕ} {wait : ℕ} {t : State} {old new : Option History} → IsSettled s
+      → IsCollectorTurn (process s) door 1 wait s old t new → FoundBy (process s) old new
+  turn_found settled turn =
+      found_then stamped s settled (found_then stamped s settled (taken_finds stamped s settled
+      turn.messages)
+      (call_takes _ (λ x. x) turn.clock)) (quiet_takes turn.tick.quiet)
+
+  cut_found : {door : List ℕ} {wait : ℕ} {fault : SinkFault} {t : State} {old new : Option History}
+      → IsSettled s
+      → IsCutTurn (process s) door 1 wait fault s old t new → FoundBy (process s) old new
+  cut_found settled (untaken taken) = taken_finds stamped s settled taken
+  cut_found settled (untimed given taken ends call) =
+      found_then stamped s settled (taken_finds stamped s settled taken) (call_takes _ (λ x. x)
+      call)
+  cut_found settled (unticked now taken call tick) =
+      found_then stamped s settled (found_then stamped s settled (taken_finds stamped s settled
+      taken)
+      (call_takes _ (λ x. x) call)) (quiet_takes tick.quiet)
+
+  pub turn_finds : (who : Who) → who ≡ process s
+      → {door : List ℕ} {wait : ℕ} {t : State} {old new : Option History} → IsSettled s
+      → IsCollectorTurn who door 1 wait s old t new → FoundBy who old new
+  turn_finds who is {door = door} {wait = wait} {t = t} {old = old} {new = new} settled turn =
+      subst (λ w. IsCollectorTurn w door 1 wait s old t new
+      → FoundBy w old new) (sym is) (turn_found settled) turn
+
+  pub cut_finds : (who : Who) → who ≡ process s
+      → {door : List ℕ} {wait : ℕ} (fault : SinkFault) {t : State} {old new : Option History}
+      → IsSettled s → IsCutTurn who door 1 wait fault s old t new → FoundBy who old new
+  cut_finds who is {door = door} {wait = wait} fault {t = t} {old = old} {new = new} settled turn =
+      subst (λ w. IsCutTurn w door 1 wait fault s old t new
+      → FoundBy w old new) (sym is) (cut_found settled) turn

@@ -1,0 +1,5 @@
+pub mod Calls
+pub mod Legality
+pub mod Messages
+pub mod Runs
+pub mod Turns

@@ -1,0 +1,92 @@
+//! The command of a collector.
+
+ghost use Rattle.std.specs.Prelude.{◌≡◌, ℕ, List, Contains, IsTrue, IfErr, OnOk};
+ghost use Rattle.chk_bytes.specs.Stems.{is_collector};
+ghost use Rattle.chk_site.specs.declared.acts.Role.TheVariants.{Collector as collector_role};
+ghost use Rattle.chk_site.specs.declared.acts.Who.{Who as Process};
+ghost use Rattle.chk_site.specs.Site.{Adds};
+ghost use Rattle.chk_site.specs.Runs.{Leads};
+ghost use Rattle.chk_world.specs.Places.{Foreign, Talking};
+ghost use Rattle.chk_world.specs.Rules.{Legal};
+ghost use Rattle.chk_world.specs.Together.{Outside, Together};
+ghost use Rattle.chk_sink.specs.Closes.{IsOfTick};
+ghost use Rattle.chk_sink.specs.Faults.{FailsLast};
+ghost use Rattle.chk_sink.specs.Held.{Matches};
+ghost use Rattle.chk_sink.specs.Starts.{IsLastStart};
+ghost use Rattle.chk_sink.specs.States.{IsSameStart, process};
+ghost use Rattle.chk_collect.specs.Legality.{IsSettled, ChainEnds, Finds, FindsNamed, TurnCause};
+ghost use Rattle.chk_collect.specs.Turns.{AreTurned};
+ghost use Rattle.chk_collect.specs.Runs.{CollectorRan, IsCutRun, Collected};
+
+use crate::turn::collector_turn;
+use chk_bytes::Word;
+use chk_collector::Collector;
+use chk_sink::SinkFault;
+use chk_site::{Site, Who};
+use std::alloc::Global;
+
+/// The command: starts the collector, runs so many turns at that door, and finishes. A sink is closed
+/// after `rotate` milliseconds. After a refusal nothing more is called, and the finished parts stand;
+/// the next start settles what was left.
+pub fn collect<S: Site>(
+    alloc: Global,
+    site: &mut S,
+    who: &Who,
+    rotate: u64,
+    turns: u64,
+    door: &Word,
+) -> Result<(), SinkFault>
+    requires role { who.now.role ≡ collector_role }
+    requires name { IsTrue (is_collector who.now.name) }
+    ensures ran { OnOk result (CollectorRan who.now rotate turns door.now 1 1000
+        (S.told site.old) (S.told site.new)) }
+    ensures refused { IfErr result (λ fault. IsCutRun who.now rotate turns door.now 1 1000 fault
+        (S.told site.old) (S.told site.new)) }
+    ensures told { (stamped : List (List ℕ)) (started acting : List Process)
+        → Contains started who.now → Contains acting who.now
+        → Adds (S.told site.old) (S.told site.new)
+        (Leads (Together stamped started acting) (Legal stamped) (Collected stamped who.now result)) }
+    ensures finds { (stamped : List (List ℕ)) (started : List Process) → Contains started who.now
+        → Adds (S.told site.old) (S.told site.new)
+        (Finds (Outside stamped started) who.now.name (Legal stamped)) }
+    ensures named { (stamped : List (List ℕ)) (started : List Process) → Contains started who.now
+        → Adds (S.told site.old) (S.told site.new)
+        (FindsNamed (Outside stamped started) who.now (Legal stamped)) }
+    ensures spent { IsLastStart result }
+    ensures last { Adds (S.told site.old) (S.told site.new) (FailsLast result) }
+    ensures cause { TurnCause (S.fault_count site.old) (S.fault_count site.new) result }
+{
+    let mut collector = Collector::start(alloc, site, who, rotate)?;
+    run_turns(alloc, site, who, &mut collector, door, turns)?;
+    collector.finish(alloc, site)
+}
+
+// So many turns.
+fn run_turns<S: Site>(
+    alloc: Global,
+    site: &mut S,
+    who: &Who,
+    collector: &mut Collector,
+    door: &Word,
+    turns: u64,
+) -> Result<(), SinkFault>
+    requires started { who.now ≡ process collector.old }
+    requires named { IsTrue (is_collector who.now.name) }
+    requires settled { IsSettled collector.old }
+    ensures script { AreTurned who.now door.now 1 1000 turns collector.old (S.told site.old) result
+        collector.new (S.told site.new) }
+    ensures told { (stamped : List (List ℕ)) → Adds (S.told site.old) (S.told site.new)
+        (Leads (Talking stamped who.now) (Matches stamped collector.old)
+        (ChainEnds stamped collector.new result)) }
+    ensures finds { (stamped : List (List ℕ)) → Adds (S.told site.old) (S.told site.new)
+        (Finds (Foreign stamped who.now) who.now.name (Matches stamped collector.old)) }
+    ensures same { IsSameStart collector.old collector.new }
+    ensures only { IfErr result IsOfTick }
+    ensures last { Adds (S.told site.old) (S.told site.new) (FailsLast result) }
+    ensures cause { TurnCause (S.fault_count site.old) (S.fault_count site.new) result }
+{
+    for _turn in 0..turns {
+        collector_turn(alloc, site, who, collector, door)?;
+    }
+    Ok(())
+}

@@ -1,0 +1,86 @@
+//! One turn of a collector.
+
+ghost use Rattle.std.specs.Prelude.{◌≡◌, ℕ, List, IsTrue, IfErr, OnOk};
+ghost use Rattle.chk_bytes.specs.Stems.{is_collector};
+ghost use Rattle.chk_site.specs.Site.{Adds};
+ghost use Rattle.chk_site.specs.Runs.{Leads};
+ghost use Rattle.chk_world.specs.Places.{Foreign, Talking};
+ghost use Rattle.chk_sink.specs.Closes.{IsOfTick};
+ghost use Rattle.chk_sink.specs.Faults.{FailsLast, IsOutside};
+ghost use Rattle.chk_sink.specs.Held.{Matches};
+ghost use Rattle.chk_sink.specs.States.{IsSameStart, process};
+ghost use Rattle.chk_collect.specs.Messages.{IsTakenUpTo};
+ghost use Rattle.chk_collect.specs.Turns.{IsCollectorTurn, IsCutTurn};
+ghost use Rattle.chk_collect.specs.Legality.{IsSettled, TurnEnds, Finds, TurnCause};
+
+use crate::calls::{clock, take_one};
+use crate::message::handle;
+use chk_bytes::Word;
+use chk_collector::Collector;
+use chk_sink::SinkFault;
+use chk_site::{Site, Who};
+use std::alloc::Global;
+
+/// One turn at that door: it takes at most one message within 1,000 milliseconds, reads it on while
+/// it isn't whole and has fewer than 4,210,688 bytes, answers it, asks the clock and ticks. A call
+/// that fails while a message is read, handled or answered ends that message alone: `Outside` names
+/// the taking, the clock or a call of the tick. After a refusal the finished parts stand.
+pub fn collector_turn<S: Site>(
+    alloc: Global,
+    site: &mut S,
+    who: &Who,
+    collector: &mut Collector,
+    door: &Word,
+) -> Result<(), SinkFault>
+    requires started { who.now ≡ process collector.old }
+    requires named { IsTrue (is_collector who.now.name) }
+    ensures turn { OnOk result (IsCollectorTurn who.now door.now 1 1000 collector.old (S.told site.old)
+        collector.new (S.told site.new)) }
+    ensures refused { IfErr result (λ fault. IsCutTurn who.now door.now 1 1000 fault collector.old
+        (S.told site.old) collector.new (S.told site.new)) }
+    ensures told { (stamped : List (List ℕ)) → Adds (S.told site.old) (S.told site.new)
+        (Leads (Talking stamped who.now) (Matches stamped collector.old)
+        (TurnEnds stamped collector.new result)) }
+    ensures finds { (stamped : List (List ℕ)) → IsSettled collector.old
+        → Adds (S.told site.old) (S.told site.new)
+        (Finds (Foreign stamped who.now) who.now.name (Matches stamped collector.old)) }
+    ensures settled { OnOk result (IsSettled collector.new) }
+    ensures same { IsSameStart collector.old collector.new }
+    ensures only { IfErr result IsOfTick }
+    ensures last { Adds (S.told site.old) (S.told site.new) (FailsLast result) }
+    ensures cause { TurnCause (S.fault_count site.old) (S.fault_count site.new) result }
+{
+    serve(alloc, site, who, collector, door)?;
+    let now = clock(alloc, site, who)?;
+    collector.tick(alloc, site, now)
+}
+
+// Takes at most one message and answers it.
+fn serve<S: Site>(
+    alloc: Global,
+    site: &mut S,
+    who: &Who,
+    collector: &mut Collector,
+    door: &Word,
+) -> Result<(), SinkFault>
+    requires started { who.now ≡ process collector.old }
+    requires named { IsTrue (is_collector who.now.name) }
+    ensures script { IsTakenUpTo who.now door.now 1 1000 collector.old (S.told site.old) result
+        collector.new (S.told site.new) }
+    ensures told { (stamped : List (List ℕ)) → Adds (S.told site.old) (S.told site.new)
+        (Leads (Talking stamped (process collector.old)) (Matches stamped collector.old)
+        (Matches stamped collector.new)) }
+    ensures same { IsSameStart collector.old collector.new }
+    ensures only { IfErr result IsOutside }
+    ensures last { Adds (S.told site.old) (S.told site.new) (FailsLast result) }
+    ensures cause { TurnCause (S.fault_count site.old) (S.fault_count site.new) result }
+{
+    let taken = take_one(alloc, site, who, door)?;
+    match taken {
+        None => Ok(()),
+        Some(taking) => {
+            handle(alloc, site, who, collector, taking)?;
+            Ok(())
+        }
+    }
+}
