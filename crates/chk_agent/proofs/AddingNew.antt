@@ -158,7 +158,7 @@ module _ (s : State) (sound : IsSound s) (l : Line) (new : IsNewLine s l)
 
   pub new_sound : IsSoundDelivery (begun_at N l.start s.delivery) → IsSound (saved_now T)
   new_sound delivery =
-      sound_written T sound.source delivery (set_size s.delivery.table.committed N l.start ∙ sound.known) places
+      sound_written T sound.source delivery sound.enough (set_size s.delivery.table.committed N l.start ∙ sound.known) places
       (owned_on (basis_of s) (basis_of T) streams_more refl s.delivery.owners s.delivery.queue.chunks sound.owned)
 
   pub new_lines : lines_of T ≡ lines_of s ++ l ∷ []

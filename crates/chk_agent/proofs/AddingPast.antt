@@ -91,6 +91,7 @@ module _ (s : State) (sound : IsSound s) (n : ℕ) (a : Adaptor) (at : slice_get
   revived_sound good free = record {
     source = sound.source;
     delivery = sound.delivery;
+    enough = sound.enough;
     known = sound.known;
     few = let few = sound.few in let size = set_size s.adaptors n (revived name a) in omega (arith, few, size);
     each = λ i b there. elim (at_set s.adaptors n (revived name a) i b there) [

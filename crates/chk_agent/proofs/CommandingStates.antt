@@ -90,6 +90,7 @@ pub phases_sound : (s : State) → IsSound s → (bs : List Adaptor) → Rephase
 phases_sound s sound bs r = sound_changed s sound bs s.last s.delivery (record {
   on = r.on;
   delivery = sound.delivery;
+  rules = refl;
   known = refl;
   each = λ j b at.
       let k = r.each j b at in

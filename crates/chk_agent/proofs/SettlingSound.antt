@@ -101,6 +101,7 @@ sound_reset s sound gone ends left = sound_changed s sound (all_back gone s.deli
     (record {
       on = all_go_back gone s.delivery.table.committed 0 s.adaptors;
       delivery = left;
+      rules = refl;
       known = refl;
       each = λ i b at.
           let r = back_at gone s.delivery.table.committed s.adaptors 0 i i b (omega arith) at in
@@ -229,6 +230,7 @@ pub sound_settled : (s : State) → IsSound s → IsSound (settled s)
 sound_settled s sound = sound_changed s sound (settled_all s.adaptors s.delivery.table.committed) s.last s.delivery (record {
   on = all_settle s.adaptors s.delivery.table.committed;
   delivery = sound.delivery;
+  rules = refl;
   known = refl;
   each = λ i b at.
       let few = sound.few in

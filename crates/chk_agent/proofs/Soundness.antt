@@ -25,7 +25,7 @@ use Rattle.chk_delivery.specs.Basis.{Basis, AreOwned, IsSaved, Fits, stream_of_c
 use Rattle.chk_delivery.specs.Sound.{IsSound as IsSoundDelivery, next_begins}
 use Rattle.chk_agent.specs.States.{State, committed_at, lines_at, lines_of, basis_of}
 use Rattle.chk_agent.specs.Settles.{saved_now, unsure}
-use Rattle.chk_agent.specs.Fits.{mark_line, IsMarked, FitsPlace, FitsAdaptor, IsSound}
+use Rattle.chk_agent.specs.Fits.{IsEnough, mark_line, IsMarked, FitsPlace, FitsAdaptor, IsSound}
 use Rattle.chk_agent.proofs.Suffixes.{later_same, later_then, later_behind, later_past, place_later, place_read, place_among}
 
 -- ---- lists
@@ -322,11 +322,12 @@ owned_on b c streams cluster (i ∷ owners) (x ∷ chunks) owned = (
 
 -- a state whose lines are those that were saved
 pub sound_written : (s : State) → IsTrue (is_source s.source) → IsSoundDelivery s.delivery
-    → length s.delivery.table.committed ≡ 10000 → HavePlaces s.adaptors (next_begins s.delivery) s.delivery.table.committed
+    → IsEnough s.delivery.rules → length s.delivery.table.committed ≡ 10000 → HavePlaces s.adaptors (next_begins s.delivery) s.delivery.table.committed
     → AreOwned (basis_of s) s.delivery.owners s.delivery.queue.chunks → IsSound (saved_now s)
-sound_written s source delivery known h owned = record {
+sound_written s source delivery enough known h owned = record {
   source = source;
   delivery = delivery;
+  enough = enough;
   known = known;
   few = h.few;
   each = λ i a at. let f = h.each i a at in record {
@@ -350,7 +351,8 @@ sound_written s source delivery known h owned = record {
 
 -- the lines of the state were written
 pub sound_saved : (s : State) → IsSound s → IsSound (saved_now s)
-sound_saved s sound = sound_written s sound.source sound.delivery sound.known (have_places s sound) sound.owned
+sound_saved s sound =
+    sound_written s sound.source sound.delivery sound.enough sound.known (have_places s sound) sound.owned
 
 -- the adaptor is still of that stream and name, and a past one stays past
 pub record GoesOnAs (a b : Adaptor) : Type 0 where
@@ -459,6 +461,7 @@ apart_on (a ∷ xs) (b ∷ bs) on apart =
 pub record Changes (s : State) (bs : List Adaptor) (d : Delivery) : Type 0 where
   pub on : AllGoOn s.adaptors bs
   pub delivery : IsSoundDelivery d
+  pub rules : d.rules ≡ s.delivery.rules
   pub known : length d.table.committed ≡ length s.delivery.table.committed
   pub each : (i : ℕ) (b : Adaptor) → slice_get bs i ≡ Some b
       → FitsAdaptor s.source s.saved (slice_index (next_begins d) i) (slice_index d.table.committed i) b
@@ -469,6 +472,7 @@ pub sound_changed : (s : State) → IsSound s → (bs : List Adaptor) (last : Op
 sound_changed s sound bs last d c = record {
   source = sound.source;
   delivery = c.delivery;
+  enough = subst IsEnough (sym c.rules) sound.enough;
   known = c.known ∙ sound.known;
   few = let few = sound.few in let size = size_on s.adaptors bs c.on in omega (arith, few, size);
   each = c.each;
@@ -483,6 +487,7 @@ sound_changed s sound bs last d c = record {
 -- where it did, and each committed end goes on, up to the place read at most.
 pub record Delivers (s : State) (d : Delivery) : Type 0 where
   pub delivery : IsSoundDelivery d
+  pub rules : d.rules ≡ s.delivery.rules
   pub known : length d.table.committed ≡ length s.delivery.table.committed
   pub begins : (i : ℕ) (a : Adaptor) → slice_get s.adaptors i ≡ Some a
       → slice_index (next_begins d) i ≡ slice_index (next_begins s.delivery) i
@@ -494,6 +499,7 @@ pub sound_delivered : (s : State) → IsSound s → (d : Delivery) → Delivers 
 sound_delivered s sound d h = sound_changed s sound s.adaptors s.last d (record {
   on = go_on_same s.adaptors;
   delivery = h.delivery;
+  rules = h.rules;
   known = h.known;
   each = λ i a at.
       fits_on s.source s.saved (slice_index (next_begins s.delivery) i) (slice_index (next_begins d) i) (committed_at s i)
@@ -506,6 +512,7 @@ pub sound_unsure : (s : State) → IsSound s → IsSound (unsure s)
 sound_unsure s sound = record {
   source = sound.source;
   delivery = sound.delivery;
+  enough = sound.enough;
   known = sound.known;
   few = sound.few;
   each = sound.each;

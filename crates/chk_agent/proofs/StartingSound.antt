@@ -13,7 +13,7 @@ use Rattle.chk_reading.specs.Adaptors.{Adaptor, adaptor_of, is_past, line_at}
 use Rattle.chk_delivery.specs.Basis.{AreOwned}
 use Rattle.chk_delivery.specs.Sound.{IsSound as IsSoundDelivery, ends_after, next_begins}
 use Rattle.chk_agent.specs.States.{State, lines_at, basis_of}
-use Rattle.chk_agent.specs.Fits.{mark_line, FitsPlace, IsSound}
+use Rattle.chk_agent.specs.Fits.{IsEnough, mark_line, FitsPlace, IsSound}
 use Rattle.chk_failover.specs.Turns.{Turns}
 use Rattle.chk_delivery.specs.declared.delivery.Rules.{Rules}
 use Rattle.chk_delivery.specs.States.{State as Delivery}
@@ -155,10 +155,11 @@ made_lines lines adaptors d h =
     ap (λ xs. lines_at xs d.table.committed) h.are
     ∙ lines_again lines d.table.committed (λ i l at. (h.begun.begins i l at).committed)
 
-pub made_sound : (s : State) → IsTrue (is_source s.source) → IsMade s.saved s.adaptors s.delivery → IsSound s
-made_sound s source h =
+pub made_sound : (s : State) → IsTrue (is_source s.source) → IsEnough s.delivery.rules
+    → IsMade s.saved s.adaptors s.delivery → IsSound s
+made_sound s source enough h =
     subst (λ saved. IsSound (record s { saved = saved })) (made_lines s.saved s.adaptors s.delivery h)
-    (sound_written s source h.begun.sound h.begun.known (made_places s.saved s.adaptors s.delivery h)
+    (sound_written s source h.begun.sound enough h.begun.known (made_places s.saved s.adaptors s.delivery h)
     (subst (λ os. AreOwned (basis_of s) os s.delivery.queue.chunks) (sym h.begun.owners)
     (subst (AreOwned (basis_of s) []) (sym h.begun.chunks) tt)))
 

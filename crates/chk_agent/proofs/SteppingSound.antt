@@ -308,6 +308,11 @@ module _ (s : State) (sound : IsSound s) (i : ℕ) (a : Adaptor) (at : slice_get
   committed_after AtEnd = refl
   committed_after (is_short had size) = refl
 
+  rules_after : (step : Step) → (queued s i a step s.delivery).rules ≡ s.delivery.rules
+  rules_after (Bytes bytes end) = refl
+  rules_after AtEnd = refl
+  rules_after (is_short had size) = refl
+
   module _ (step : Step) (next : Spot) (marks : List Spot) (w : WalkEnds (way_of (process s) a) step a.read next marks)
       (on : is_stepped a.phase ≡ true) (within : EndsWithin next) (placed : IsPlaced (stepped marks next (Ok step) a))
       (ends : length s.delivery.table.last ≡ length s.delivery.table.committed) where
@@ -334,6 +339,7 @@ module _ (s : State) (sound : IsSound s) (i : ℕ) (a : Adaptor) (at : slice_get
     sound_step left = sound_changed s sound (slice_set s.adaptors i B) (Some i) (queued s i a step s.delivery) (record {
       on = go_on_at s.adaptors i a B at (record { name = refl; kind = refl; path = refl; past = still_past a.phase step next on });
       delivery = left;
+      rules = rules_after step;
       known = ap (λ (t : Table). length t.committed) (committed_after step);
       each = λ j c e.
           subst (λ (t : Table). FitsAdaptor s.source s.saved (slice_index (next_begins (queued s i a step s.delivery)) j) (slice_index t.committed j) c)

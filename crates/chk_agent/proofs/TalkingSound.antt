@@ -48,6 +48,7 @@ pub messages_sound : (s : State) (ring : Turns) (post : Option Post) (poll : Opt
 messages_sound s ring post poll polled sound d = record {
   source = sound.source;
   delivery = d;
+  enough = sound.enough;
   known = sound.known;
   few = sound.few;
   each = sound.each;
@@ -164,6 +165,7 @@ module _ (who : Who) (s : State) (sound : IsSound s) where
       λ i. ap (λ xs. slice_index xs i) ends in
       sound_delivered s sound (post_taken now p.count acks old) (record {
         delivery = d;
+        rules = refl;
         known = ap length ends;
         begins = λ i a at. ap (λ xs. slice_index xs i)
             (ends_behind now p.count old.owners old.queue.chunks acks old.table many
@@ -201,6 +203,7 @@ module _ (who : Who) (s : State) (sound : IsSound s) where
       let known = sound.known in omega (arith, below, few, known) in
       sound_delivered s sound (poll_taken t old) (record {
         delivery = d;
+        rules = refl;
         known = on.0;
         begins = λ i a at. ap (λ xs. slice_index
             (ends_after xs old.owners old.queue.chunks) i) last;

@@ -1,5 +1,5 @@
 -- A call of what is to be delivered leaves what the history holds of the readers.
-use Rattle.std.proofs.Common.{◌≡◌, ℕ, Bool, true, false, List, [], ◌∷◌, ◌++◌, Option, Result, Ok, Err, sym, subst, refl, arith}
+use Rattle.std.proofs.Common.{◌≡◌, ℕ, Bool, true, false, List, [], ◌∷◌, ◌++◌, Option, Result, Ok, Err, sym, subst, refl, arith, ap, ◌∙◌}
 use Rattle.std.specs.Prelude.{IsTrue, Contains}
 use Rattle.chk_bytes.specs.declared.NoMemory.{NoMemory}
 use Rattle.chk_site.specs.declared.acts.Who.{Who}
@@ -25,12 +25,16 @@ use Rattle.chk_delivery.specs.declared.answers.Posted.{Posted}
 use Rattle.chk_delivery.specs.declared.answers.Answered.{Answered}
 use Rattle.chk_delivery.specs.declared.answers.Polled.{Polled}
 use Rattle.chk_delivery.specs.declared.answers.PollAnswer.{PollAnswer}
-use Rattle.chk_delivery.specs.Scripts.{IsPosted, IsPostReplied, IsPolled, IsPollReplied, CauseBy}
+use Rattle.chk_delivery.specs.declared.answers.Posted.TheVariants.{Sent, Empty, NoRows, Failed as post_failed}
+use Rattle.chk_delivery.specs.declared.answers.Answered.TheVariants.{Taken, Refused, Silent, Nothing}
+use Rattle.chk_delivery.specs.declared.answers.Polled.TheVariants.{Sent as poll_sent, NoneWaiting, Failed as poll_failed}
+use Rattle.chk_delivery.specs.declared.answers.PollAnswer.TheVariants.{Lengths, Refused as poll_refused, Silent as poll_silent, Nothing as no_poll}
+use Rattle.chk_delivery.specs.Scripts.{IsPosted, IsPostReplied, IsPolled, IsPollReplied, CauseBy, post_fails, reply_fails, poll_fails, lengths_fail}
 use Rattle.chk_agent.specs.declared.answers.AgentFault.{AgentFault}
 use Rattle.chk_agent.specs.declared.agent.Agent.TheInside.{Inside}
 use Rattle.chk_agent.specs.States.{State, process, basis_of}
 use Rattle.chk_agent.specs.Facts.{Matches}
-use Rattle.chk_agent.specs.Faults.{AgentCause}
+use Rattle.chk_agent.specs.Faults.{AgentCause, fails_post, fails_answer, fails_poll, fails_lengths}
 use Rattle.chk_agent.specs.Turns.{Posts, GetsPostReply, Polls, GetsLengths, with_delivery, as_agent}
 use Rattle.chk_agent.specs.Fields.{agent_view, IsSoundInside}
 use Rattle.chk_agent.proofs.Soundness.{fits_basis}
@@ -68,7 +72,7 @@ readers_stay stamped s known history step legal h a one = record {
 abbrev pub Runs : Side → Type 0
 Runs S = (before : History) (step : Step) → S.own before step → is_stopped before ≡ false
 
-ran_before : (P : History → Step → Type 0) → ((before : History) (step : Step) → P before step
+pub ran_before : (P : History → Step → Type 0) → ((before : History) (step : Step) → P before step
     → is_stopped before ≡ false)
     → (added history : History) → Owns P added history → is_stopped (added ++ history) ≡ false
     → is_stopped history ≡ false
@@ -206,6 +210,60 @@ talk_cause {T = T} before now given result fails is cause = subst (AgentCause be
     go (Ok value) false cause = omega (arith, cause)
     go (Err fault) true cause = cause.1
     go (Err fault) false cause = omega (arith, cause)
+
+-- whether a call failed is told by its answer
+pub post_cause : (before now : ℕ) (given : Result Posted NoMemory) (result : Result Posted AgentFault)
+    → result ≡ as_agent given → CauseBy before now (post_fails given)
+    → CauseBy before now (fails_post result)
+post_cause before now given result is cause =
+    subst (CauseBy before now) (same given ∙ ap fails_post (sym is)) cause
+  where
+    same : (given : Result Posted NoMemory) → post_fails given ≡ fails_post (as_agent given)
+    same (Ok (Sent n)) = refl
+    same (Ok Empty) = refl
+    same (Ok NoRows) = refl
+    same (Ok post_failed) = refl
+    same (Err fault) = refl
+
+pub answer_cause : (before now : ℕ) (given : Result Answered NoMemory)
+    (result : Result Answered AgentFault)
+    → result ≡ as_agent given → CauseBy before now (reply_fails given)
+    → CauseBy before now (fails_answer result)
+answer_cause before now given result is cause =
+    subst (CauseBy before now) (same given ∙ ap fails_answer (sym is)) cause
+  where
+    same : (given : Result Answered NoMemory) → reply_fails given ≡ fails_answer (as_agent given)
+    same (Ok (Taken n)) = refl
+    same (Ok (Refused code)) = refl
+    same (Ok Silent) = refl
+    same (Ok Nothing) = refl
+    same (Err fault) = refl
+
+pub poll_cause : (before now : ℕ) (given : Result Polled NoMemory) (result : Result Polled AgentFault)
+    → result ≡ as_agent given → CauseBy before now (poll_fails given)
+    → CauseBy before now (fails_poll result)
+poll_cause before now given result is cause =
+    subst (CauseBy before now) (same given ∙ ap fails_poll (sym is)) cause
+  where
+    same : (given : Result Polled NoMemory) → poll_fails given ≡ fails_poll (as_agent given)
+    same (Ok (poll_sent n)) = refl
+    same (Ok NoneWaiting) = refl
+    same (Ok poll_failed) = refl
+    same (Err fault) = refl
+
+pub lengths_cause : (before now : ℕ) (given : Result PollAnswer NoMemory)
+    (result : Result PollAnswer AgentFault)
+    → result ≡ as_agent given → CauseBy before now (lengths_fail given)
+    → CauseBy before now (fails_lengths result)
+lengths_cause before now given result is cause =
+    subst (CauseBy before now) (same given ∙ ap fails_lengths (sym is)) cause
+  where
+    same : (given : Result PollAnswer NoMemory) → lengths_fail given ≡ fails_lengths (as_agent given)
+    same (Ok (Lengths n below)) = refl
+    same (Ok (poll_refused code)) = refl
+    same (Ok poll_silent) = refl
+    same (Ok no_poll) = refl
+    same (Err fault) = refl
 
 -- ---- what each of the four calls made
 

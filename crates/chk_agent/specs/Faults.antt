@@ -1,11 +1,19 @@
 -- The faults of an agent's calls.
-use Rattle.std.specs.Prelude.{◌≡◌, ℕ, ◌≤◌, false, ◌++◌, Result, Err}
+use Rattle.std.specs.Prelude.{◌≡◌, ℕ, ◌≤◌, Bool, true, false, ◌++◌, Result, Ok, Err}
 use Rattle.chk_site.specs.declared.acts.OutsideFault.{OutsideFault}
 use Rattle.chk_site.specs.declared.acts.OutsideFault.TheVariants.{Outside as site_failed, NoMemory as no_memory}
 use Rattle.chk_site.specs.History.{History, is_stopped}
 use Rattle.chk_site.specs.Site.{Rose, EndsIn}
 use Rattle.chk_checkpoint.specs.declared.fault.CheckFault.{CheckFault}
 use Rattle.chk_checkpoint.specs.declared.fault.CheckFault.TheVariants.{Damaged as check_damaged, Outside as check_failed, NoMemory as check_wanting}
+use Rattle.chk_delivery.specs.declared.answers.Posted.{Posted}
+use Rattle.chk_delivery.specs.declared.answers.Posted.TheVariants.{Failed as post_failed}
+use Rattle.chk_delivery.specs.declared.answers.Answered.{Answered}
+use Rattle.chk_delivery.specs.declared.answers.Answered.TheVariants.{Silent}
+use Rattle.chk_delivery.specs.declared.answers.Polled.{Polled}
+use Rattle.chk_delivery.specs.declared.answers.Polled.TheVariants.{Failed as poll_failed}
+use Rattle.chk_delivery.specs.declared.answers.PollAnswer.{PollAnswer}
+use Rattle.chk_delivery.specs.declared.answers.PollAnswer.TheVariants.{Silent as poll_silent}
 use Rattle.chk_agent.specs.declared.answers.AgentFault.{AgentFault}
 use Rattle.chk_agent.specs.declared.answers.AgentFault.TheVariants.{Damaged, Outside, NoMemory}
 
@@ -34,3 +42,20 @@ FailsLast result added history = Unit {0}
 abbrev pub IsUndamaged : {T : Type 0} → Result T AgentFault → Type 0
 IsUndamaged (Err (Damaged at)) = ⊥
 IsUndamaged result = Unit {0}
+
+-- a post or a poll, or the question for its reply, failed; it is no error
+abbrev pub fails_post : Result Posted AgentFault → Bool
+fails_post (Ok post_failed) = true
+fails_post result = false
+
+abbrev pub fails_answer : Result Answered AgentFault → Bool
+fails_answer (Ok Silent) = true
+fails_answer result = false
+
+abbrev pub fails_poll : Result Polled AgentFault → Bool
+fails_poll (Ok poll_failed) = true
+fails_poll result = false
+
+abbrev pub fails_lengths : Result PollAnswer AgentFault → Bool
+fails_lengths (Ok poll_silent) = true
+fails_lengths result = false

@@ -6,6 +6,7 @@ use Rattle.chk_world.specs.Names.{is_source}
 use Rattle.chk_world.specs.Checkpoints.{Line, is_line, is_line_of, same_log, are_apart}
 use Rattle.chk_world.specs.Answering.{MovesToLater}
 use Rattle.chk_reading.specs.Adaptors.{Adaptor, stream_at, line_at, read_line, IsPlaced}
+use Rattle.chk_delivery.specs.declared.delivery.Rules.{Rules}
 use Rattle.chk_delivery.specs.Sound.{IsSound as IsSoundDelivery, next_begins}
 use Rattle.chk_delivery.specs.Basis.{AreOwned}
 use Rattle.chk_agent.specs.States.{State, committed_at, basis_of}
@@ -45,12 +46,18 @@ pub record FitsAdaptor (source : List ℕ) (lines : List Line) (begin committed 
   pub on : saved.offset ≤ committed
   pub later : MovesToLater saved.after (place_of a.marks committed).after
 
+-- there is room for a row, and for the bytes of a chunk
+pub record IsEnough (rules : Rules) : Type 0 where
+  pub some_rows : 1 ≤ rules.rows
+  pub a_piece : 131072 ≤ rules.queue
+
 -- The table has 10,000 adaptors. No line of the checkpoint is lost, no two adaptors are of one
 -- stream, and no two live ones have one name; all this but the lines themselves is known of the
 -- adaptors at any offset.
 pub record IsSound (s : State) : Type 0 where
   pub source : IsTrue (is_source s.source)
   pub delivery : IsSoundDelivery s.delivery
+  pub enough : IsEnough s.delivery.rules
   pub known : length s.delivery.table.committed ≡ 10000
   pub few : length s.adaptors ≤ 10000
   pub each : (i : ℕ) (a : Adaptor) → slice_get s.adaptors i ≡ Some a

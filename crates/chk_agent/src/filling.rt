@@ -49,8 +49,8 @@ impl Agent {
         Ok(filled(self.delivery.used() - before))
     }
 
-    // Whether the adaptor's log is still read.
-    fn is_read_on(&self, adaptor: u32) -> bool
+    /// Whether the adaptor's log is still read: it is live, or is to end and hasn't come to its end.
+    pub fn is_read_on(&self, adaptor: u32) -> bool
         requires { adaptor < length self.now.adaptors }
         ensures { result ≡ is_read_on (slice_get self.now.adaptors adaptor) }
     {

@@ -6,6 +6,7 @@ mod adding;
 mod agent;
 mod answers;
 mod commanding;
+mod delivering;
 mod faults;
 mod filling;
 mod lines;

@@ -90,6 +90,8 @@ fn new_agent(
 ) -> Result<Agent, NoMemory>
     requires role { who.now.role ≡ agent_role }
     requires name { IsTrue (is_source who.now.name) }
+    requires some_rows { 1 ≤ rules.rows }
+    requires a_piece { 131072 ≤ rules.queue }
     requires lines { IsTrue (are_lines Two (lines_of check)) }
     ensures fresh { IfOk result (IsFresh who.now ring rules) }
     ensures saved { IfOk result (λ agent. agent.saved ≡ lines_of check) }

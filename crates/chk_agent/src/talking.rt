@@ -7,7 +7,8 @@ ghost use Rattle.chk_site.specs.Runs.{Leads};
 ghost use Rattle.chk_world.specs.Places.{As, Making};
 ghost use Rattle.chk_agent.specs.States.{process};
 ghost use Rattle.chk_agent.specs.Facts.{Matches};
-ghost use Rattle.chk_agent.specs.Faults.{AgentCause};
+ghost use Rattle.chk_delivery.specs.Scripts.{CauseBy};
+ghost use Rattle.chk_agent.specs.Faults.{AgentCause, fails_post, fails_answer, fails_poll, fails_lengths};
 ghost use Rattle.chk_agent.specs.Turns.{Posts, GetsPostReply, Polls, GetsLengths, as_agent};
 
 use crate::agent::Agent;
@@ -26,6 +27,7 @@ impl Agent {
             (Leads (Making stamped (process self.old) Send) (Matches stamped self.old)
             (Matches stamped self.new)) }
         ensures cause { AgentCause (S.fault_count site.old) (S.fault_count site.new) result }
+        ensures failed { CauseBy (S.fault_count site.old) (S.fault_count site.new) (fails_post result) }
     {
         let given = self.delivery.post(alloc, site, &self.who);
         let _used = self.delivery.used();
@@ -44,6 +46,7 @@ impl Agent {
         ensures told { (stamped : List (List ℕ)) → Adds (S.told site.old) (S.told site.new)
             (Leads (As stamped (process self.old)) (Matches stamped self.old) (Matches stamped self.new)) }
         ensures cause { AgentCause (S.fault_count site.old) (S.fault_count site.new) result }
+        ensures failed { CauseBy (S.fault_count site.old) (S.fault_count site.new) (fails_answer result) }
     {
         let given = self.delivery.post_reply(alloc, site, &self.who, now);
         let _used = self.delivery.used();
@@ -58,6 +61,7 @@ impl Agent {
             (Leads (Making stamped (process self.old) Send) (Matches stamped self.old)
             (Matches stamped self.new)) }
         ensures cause { AgentCause (S.fault_count site.old) (S.fault_count site.new) result }
+        ensures failed { CauseBy (S.fault_count site.old) (S.fault_count site.new) (fails_poll result) }
     {
         let given = self.delivery.poll(alloc, site, &self.who);
         let _used = self.delivery.used();
@@ -75,6 +79,7 @@ impl Agent {
         ensures told { (stamped : List (List ℕ)) → Adds (S.told site.old) (S.told site.new)
             (Leads (As stamped (process self.old)) (Matches stamped self.old) (Matches stamped self.new)) }
         ensures cause { AgentCause (S.fault_count site.old) (S.fault_count site.new) result }
+        ensures failed { CauseBy (S.fault_count site.old) (S.fault_count site.new) (fails_lengths result) }
     {
         let given = self.delivery.poll_reply(alloc, site, &self.who);
         let _used = self.delivery.used();

@@ -9,6 +9,7 @@ use Rattle.chk_reading.specs.Adaptors.{Adaptor, adaptor_of}
 use Rattle.chk_delivery.specs.declared.delivery.Rules.{Rules}
 use Rattle.chk_delivery.specs.Fields.{delivery_view}
 use Rattle.chk_agent.specs.States.{lines_at}
+use Rattle.chk_agent.specs.Fits.{IsEnough}
 use Rattle.chk_agent.proofs.StartingSound.{IsMade, are_good, is_made, made_places, made_known, made_lines, made_sound}
 use Rattle.chk_agent.proofs.starting.new_agent.Goals as goal
 
@@ -71,6 +72,9 @@ invariant_of-result c =
             saved = map shown c.in_ok-saved.saved.lines.items;
             ready = true;
           }) (subst (λ (w : Who). IsTrue (is_source w.name)) (sym who) c.requires.name)
+          (subst IsEnough (sym (ap (λ (d : Delivery). d.rules) c.begin_all.ensures.rest
+          ∙ c.in_ok-delivery.ensures.rules_are))
+          (record { some_rows = c.requires.some_rows; a_piece = c.requires.a_piece }))
           (subst (λ ls. IsMade ls c.in_ok-adaptors.adaptors.items c.begin_all.new.delivery) (sym (returns-clause-saved c)) made);
     }
 

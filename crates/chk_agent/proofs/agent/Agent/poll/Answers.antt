@@ -2,7 +2,7 @@ use Rattle.chk_site.specs.declared.acts.Call.TheVariants.{Send}
 use Rattle.chk_world.specs.Places.{Making}
 use Rattle.chk_delivery.specs.Scripts.{poll_fails}
 use Rattle.chk_agent.specs.Fields.{agent_view}
-use Rattle.chk_agent.proofs.TalkingTold.{polls_by, sending_runs, talk_told, talk_cause}
+use Rattle.chk_agent.proofs.TalkingTold.{polls_by, sending_runs, talk_told, talk_cause, poll_cause}
 use Rattle.chk_agent.proofs.TalkingSound.{polled_sound}
 use Rattle.chk_agent.proofs.agent.Agent.poll.Goals as goal
 
@@ -31,3 +31,8 @@ pub returns-clause-cause : goal.returns-clause-cause
 returns-clause-cause g c =
     let call = c.poll-given in talk_cause _ _ call.result c.as_agent.result
     (poll_fails call.result) c.as_agent.ensures call.ensures.cause
+
+pub returns-clause-failed : goal.returns-clause-failed
+returns-clause-failed g c =
+    let call = c.poll-given in
+    poll_cause _ _ call.result c.as_agent.result c.as_agent.ensures call.ensures.cause

@@ -1,7 +1,7 @@
 use Rattle.chk_world.specs.Places.{As}
 use Rattle.chk_delivery.specs.Scripts.{lengths_fail}
 use Rattle.chk_agent.specs.Fields.{agent_view}
-use Rattle.chk_agent.proofs.TalkingTold.{lengths_by, as_runs, talk_told, talk_cause}
+use Rattle.chk_agent.proofs.TalkingTold.{lengths_by, as_runs, talk_told, talk_cause, lengths_cause}
 use Rattle.chk_agent.proofs.TalkingSound.{lengths_sound}
 use Rattle.chk_agent.proofs.agent.Agent.poll_reply.Goals as goal
 
@@ -30,3 +30,8 @@ pub returns-clause-cause : goal.returns-clause-cause
 returns-clause-cause g c =
     let call = c.poll_reply-given in talk_cause _ _ call.result c.as_agent.result
     (lengths_fail call.result) c.as_agent.ensures call.ensures.cause
+
+pub returns-clause-failed : goal.returns-clause-failed
+returns-clause-failed g c =
+    let call = c.poll_reply-given in
+    lengths_cause _ _ call.result c.as_agent.result c.as_agent.ensures call.ensures.cause

@@ -1,7 +1,7 @@
 use Rattle.chk_world.specs.Places.{As}
 use Rattle.chk_delivery.specs.Scripts.{reply_fails}
 use Rattle.chk_agent.specs.Fields.{agent_view}
-use Rattle.chk_agent.proofs.TalkingTold.{replies_by, as_runs, talk_told, talk_cause}
+use Rattle.chk_agent.proofs.TalkingTold.{replies_by, as_runs, talk_told, talk_cause, answer_cause}
 use Rattle.chk_agent.proofs.TalkingSound.{replied_sound}
 use Rattle.chk_agent.proofs.agent.Agent.post_reply.Goals as goal
 
@@ -30,3 +30,8 @@ pub returns-clause-cause : goal.returns-clause-cause
 returns-clause-cause g c =
     let call = c.post_reply-given in talk_cause _ _ call.result c.as_agent.result
     (reply_fails call.result) c.as_agent.ensures call.ensures.cause
+
+pub returns-clause-failed : goal.returns-clause-failed
+returns-clause-failed g c =
+    let call = c.post_reply-given in
+    answer_cause _ _ call.result c.as_agent.result c.as_agent.ensures call.ensures.cause

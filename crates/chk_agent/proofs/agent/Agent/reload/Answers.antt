@@ -20,5 +20,5 @@ returns c =
     rw (← c.self.view_is)
     (did_as _ v _ c.in_ok-reply.reply _ refl
     (c.in_ok-reply.ensures ∙ ap (λ n. reply_of (answer_text
-    (Reloaded n)) Go) c.addresses-count.ensures)
+    (Reloaded n)) Go) c.addresses-count.ensures.count)
     (ap (with_delivery v) c.first_address.ensures))

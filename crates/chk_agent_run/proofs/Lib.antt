@@ -1,0 +1,17 @@
+pub mod Carried
+pub mod CallsTold
+pub mod Commanded
+pub mod LineLemmas
+pub mod MessageLemmas
+pub mod RunLines
+pub mod Messages
+pub mod Controls
+pub mod TurnChains
+pub mod InitialLines
+pub mod Started
+pub mod Accepted
+pub mod Turned
+pub mod RunFaults
+pub mod Endings
+pub mod LiveLemmas
+pub mod LineAdded

@@ -1,0 +1,9 @@
+pub mod Calls
+pub mod Closing
+pub mod Faults
+pub mod Initial
+pub mod Lent
+pub mod Lines
+pub mod Messages
+pub mod Runs
+pub mod Turns

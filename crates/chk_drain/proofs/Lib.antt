@@ -1,0 +1,16 @@
+pub mod Joining
+pub mod Trying
+pub mod Unmarked
+pub mod Kept
+pub mod Misses
+pub mod PostingOn
+pub mod PollingOn
+pub mod Pausing
+pub mod PollingRest
+pub mod PostingRest
+pub mod Steps
+pub mod ReadingOn
+pub mod ReadingAll
+pub mod Settled
+pub mod StaysReady
+pub mod DrainingAll

@@ -1,0 +1,29 @@
+//! Lines that a process prints.
+#![tactic(auto)]
+
+ghost use Rattle.std.specs.Prelude.{[], ◌∷◌, IsTrue};
+ghost use Rattle.chk_site.specs.Site.{OutsideCause};
+ghost use Rattle.chk_world.specs.ArchiveRuns.{is_one_line};
+ghost use Rattle.chk_prints.specs.Printing.{PrintsInTurn};
+
+use chk_site::{Call, CallFault, OutsideFault, Site, Who};
+use std::alloc::Global;
+
+/// Prints one line with its newline as this process. It costs one call.
+pub fn print_line<S: Site>(
+    alloc: Global,
+    site: &mut S,
+    who: &Who,
+    line: &[u8],
+) -> Result<(), OutsideFault>
+    requires line { IsTrue (is_one_line line.now) }
+    ensures told { PrintsInTurn who.now (line.now ∷ []) result (S.told site.old) (S.told site.new) }
+    ensures cause { OutsideCause (S.fault_count site.old) (S.fault_count site.new) result }
+{
+    match site.say(alloc, who, line) {
+        Ok(()) => Ok(()),
+        Err(CallFault::Failed) => Err(OutsideFault::Outside { call: Call::Say }),
+        Err(CallFault::NoMemory) => Err(OutsideFault::NoMemory),
+        Err(_) => unreachable!(),
+    }
+}

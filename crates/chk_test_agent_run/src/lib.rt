@@ -1,0 +1,11 @@
+//! Tests of a run of an agent over a site in memory.
+#![tactic(auto)]
+
+#[cfg(test)]
+mod each_call;
+#[cfg(test)]
+mod programs;
+#[cfg(test)]
+mod scene;
+#[cfg(test)]
+mod writing;

@@ -1,0 +1,15 @@
+//! An agent and two collectors over a site in memory, told line by line what to do.
+#![tactic(auto)]
+
+mod acts;
+mod agents;
+mod answers;
+mod collecting;
+mod draining;
+mod scene;
+mod sinks;
+mod starting;
+mod telling;
+mod writing;
+
+pub use scene::Scene;

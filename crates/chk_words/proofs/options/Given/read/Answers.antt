@@ -1,0 +1,19 @@
+use Rattle.std.proofs.Common.{◌≡◌, ◌∙◌, ap, map, subst}
+use Rattle.clap.specs.Faults.{fault_of, is_simple_and_free}
+use Rattle.clap.specs.Kinds.{HasKind}
+use Rattle.clap.specs.Simple.{App, app_of, matches_of}
+use Rattle.chk_words.specs.Options.{app_with}
+use Rattle.chk_words.specs.Usages.{option_names}
+use Rattle.chk_words.proofs.OptionLemmas.{all_simple, refused}
+use Rattle.chk_words.proofs.options.Given.read.Goals as goal
+
+pub returns-in-Err : goal.returns-in-Err
+returns-in-Err c =
+    let names = option_names c.args.usage in
+    let words = map (λ w. w.now) c.args.words.now in
+    let app : app_of c.in_ok-command.command ≡ app_with names =
+    c.in_ok-command.ensures ∙ ap app_with c.options.ensures in
+    let told = c.in-Err.ensures.kinds (ap is_simple_and_free app ∙ all_simple c.args.usage) in
+    let P : App → Type 0 = λ a. HasKind (fault_of a words) c.in-Err.error in
+    refused (matches_of (app_with names) words) (fault_of (app_with names) words) _ _
+    (subst P app told) c.fault_of.ensures

@@ -1,0 +1,10 @@
+pub mod Names
+pub mod Usages
+pub mod Options
+pub mod Given
+pub mod Commands
+pub mod Asked
+pub mod Good
+pub mod Lines
+pub mod Endings
+pub mod Loads

@@ -1,0 +1,18 @@
+//! The words of the commands, and the lines that they print.
+#![tactic(auto)]
+
+mod commands;
+mod endings;
+mod lines;
+mod load;
+mod names;
+mod options;
+mod reading;
+mod usage;
+
+pub use commands::{AgentWords, CollectorWords, Command, DrainWords, RoundWords, WordsFault};
+pub use endings::Ending;
+pub use lines::{put_archive, put_demux, put_end, put_load, put_stream};
+pub use load::{LoadLines, load_log};
+pub use reading::read_words;
+pub use usage::{Usage, put_usage, usage_of};
