@@ -1,13 +1,12 @@
 -- The load of the archive's book in a legal history.
-use Rattle.std.proofs.Common.{◌≡◌, ℕ, true, false, List, [], ◌∷◌, ◌++◌, Option, Some, None, Ok, Err, Result, ap, sym, subst, ◌∙◌, refl, true≢false, inl, inr, arith}
+use Rattle.std.proofs.Common.{◌≡◌, ℕ, false, List, [], ◌∷◌, ◌++◌, Option, Some, None, Ok, Err, Result, ap, sym, subst, ◌∙◌, refl, true≢false, inl, inr}
 use Rattle.std.specs.Prelude.{codes}
-use Rattle.std.proofs.lemmas.Bool.{cases_Bool, and_from}
+use Rattle.std.proofs.lemmas.Bool.{cases_Bool}
 use Rattle.std.proofs.lemmas.List.{append_cancel_right}
 use Rattle.std.proofs.lemmas.Option.{same_Some, none-some}
 use Rattle.chk_site.specs.declared.acts.OutsideFault.{OutsideFault}
 use Rattle.chk_site.specs.declared.acts.OutsideFault.TheVariants.{Outside as site_failed, NoMemory as no_memory}
-use Rattle.chk_bytes.proofs.WordLemmas.{plain_word}
-use Rattle.chk_heads.specs.Faults.{job_fault}
+use Rattle.chk_heads.specs.Faults.{job_fault, IsOfRead}
 use Rattle.chk_archive.specs.Archived.{Begun}
 use Rattle.chk_site.specs.Files.{File}
 use Rattle.chk_site.specs.Effect.{IsSmallFile}
@@ -34,15 +33,15 @@ use Rattle.chk_world.proofs.NameLemmas.{read-spell}
 use Rattle.chk_world.proofs.SmallFiles.{readable}
 use Rattle.chk_heads.specs.declared.fault.JobFault.{JobFault}
 use Rattle.chk_heads.specs.declared.fault.JobFault.TheVariants.{Outside, Damaged, Spent, NoMemory}
-use Rattle.chk_book.specs.Folders.{book_name, is_folder}
+use Rattle.chk_book.specs.Folders.{book_name}
 use Rattle.chk_book.specs.Loaded.{LoadedBook, IsNoBookAt, file_bytes}
 use Rattle.chk_book.proofs.NoDamage.{no_damage}
 use Rattle.chk_archive.specs.Beginning.{HasBegun, Begins, only_reads}
-use Rattle.chk_archive.specs.Gathering.{held, held_at, CanBeRead, own_book_file}
+use Rattle.chk_parts.specs.Gathering.{held, held_at, CanBeRead, own_book_file}
 use Rattle.chk_archive.specs.Tidying.{HasBook}
-use Rattle.chk_archive.proofs.OneFile.{Knows, stays_stopped, file_known, one_file}
+use Rattle.chk_parts.proofs.OneFile.{Knows, stays_stopped, file_known, one_file}
 
-legal_modelled : (stamped : List (List ℕ)) (history : History) → Legal stamped history
+pub legal_modelled : (stamped : List (List ℕ)) (history : History) → Legal stamped history
     → AllModelled history
 legal_modelled stamped [] legal = tt
 legal_modelled stamped (step ∷ history) legal =
@@ -51,7 +50,7 @@ legal_modelled stamped (step ∷ history) legal =
 abbrev W : List ℕ
 W = book_name (codes "archive")
 
-spelled : W ≡ spell (BookFile ArchiveFolder)
+pub spelled : W ≡ spell (BookFile ArchiveFolder)
 unfolding spell
 spelled = refl
 
@@ -182,6 +181,6 @@ pub begin_refused : (stamped : List (List ℕ)) (loaded : Book)
 begin_refused stamped loaded (site_failed call) told = told
 begin_refused stamped loaded no_memory told = told
 
--- the archive's folder can be named
-pub archive_folder : is_folder (codes "archive") ≡ true
-archive_folder = and_from _ _ (plain_word (codes "archive") refl (omega arith) (omega arith)) refl
+pub of_read : (fault : OutsideFault) → IsOfRead (job_fault fault)
+of_read (site_failed call) = tt
+of_read no_memory = tt

@@ -11,9 +11,7 @@ use Rattle.chk_site.proofs.Runs.{adds_as, adds_then}
 use Rattle.chk_replace.proofs.CallSteps.{ends_last, last_then, script_last}
 use Rattle.chk_world.specs.Sight.{job}
 use Rattle.chk_heads.specs.Faults.{FailsLast, job_fault}
-use Rattle.chk_heads.specs.declared.fault.JobFault.{JobFault}
 use Rattle.chk_archive.specs.Calling.{removals, Listed}
-use Rattle.chk_archive.proofs.AllFiles.{fails_later}
 use Rattle.chk_archive.proofs.Started.{StartQ}
 
 -- of a listing, by its result
@@ -60,11 +58,3 @@ pub as_fails : (T U : Type 0) (fault : OutsideFault) {old new : Option History} 
     → Adds old new (FailsLast {T = U} (Err (job_fault fault)))
 as_fails T U (site_failed call) told = told
 as_fails T U no_memory told = told
-
--- behind other calls
-pub fails_behind : {T : Type 0} {P : History → History → Type 0}
-    (r : Result T JobFault) {old mid new : Option History}
-    → Adds old mid P → Adds mid new (FailsLast r) → Adds old new (FailsLast r)
-fails_behind (Ok value) so_far told = adds_then (FailsLast (Ok value)) so_far told
-    (λ a b history p q. tt)
-fails_behind {T = T} (Err fault) so_far told = fails_later T T fault so_far told

@@ -5,9 +5,32 @@ mod Removing
 mod StraysGo
 mod TidyWorks
 mod SinksShown
-mod SinksGo
-mod OneFile
-mod AllFiles
+pub mod SinksGo
 mod Started
 mod BookLoads
 mod Lasts
+mod Listings
+mod FoundSources
+mod RaisedEnds
+mod BookFacts
+mod NextBook
+mod Spelling
+mod Published
+mod Preparing
+mod Planning
+mod Readied
+mod FoundPlan
+mod TakenIn
+mod ListingKept
+mod SinksSaved
+mod RunsDone
+pub mod OnceListed
+mod Finished
+mod MergeSteps
+mod MergeFacts
+mod MergedBook
+mod MergedMany
+mod Uncounted
+mod NoStrays
+mod Settled
+mod RunKinds

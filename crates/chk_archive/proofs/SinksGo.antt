@@ -45,12 +45,12 @@ use Rattle.chk_archive.proofs.Removing.{kept, gone}
 
 -- ---- names
 
-done_spelled : (x : Stem) → spell (DoneFile x) ≡ sink_path (stem_text x ++ codes ".done")
+pub done_spelled : (x : Stem) → spell (DoneFile x) ≡ sink_path (stem_text x ++ codes ".done")
 unfolding spell
 done_spelled x = refl
 
 -- a name that is read as that of a done sink is of a good stem
-good_stem : (w : List ℕ) (x : Stem) → read w ≡ DoneFile x → is_stem x ≡ true
+pub good_stem : (w : List ℕ) (x : Stem) → read w ≡ DoneFile x → is_stem x ≡ true
 unfolding read
 good_stem w x e = go (picked (λ t. Temporary (guessed_name t)) (before_end (codes ".tmp") w)
     (guessed_name w)) e
@@ -64,7 +64,7 @@ good_stem w x e = go (picked (λ t. Temporary (guessed_name t)) (before_end (cod
             (and_parts (is_known n) (bytes_eq (spell n) w) k).0
         test false k e = absurd (cc)
 
-in_any : (names : List (List ℕ)) (name : List ℕ) → Contains names name → list_any
+pub in_any : (names : List (List ℕ)) (name : List ℕ) → Contains names name → list_any
     (bytes_eq name) names ≡ true
 in_any names name one = go names one.0 one.1 one.2
   where
@@ -77,7 +77,7 @@ in_any names name one = go names one.0 one.1 one.2
     go (n ∷ ns) (suc k) low at = or_right (bytes_eq name n) (list_any (bytes_eq name) ns)
         (go ns k (omega (arith, low)) at)
 
-any_in : (names : List (List ℕ)) (name : List ℕ) → list_any (bytes_eq name) names ≡ true
+pub any_in : (names : List (List ℕ)) (name : List ℕ) → list_any (bytes_eq name) names ≡ true
     → Contains names name
 any_in [] name h = absurd (true≢false (sym h))
 any_in (n ∷ names) name h = elim (or_cases (bytes_eq name n) (list_any (bytes_eq name) names) h) [
@@ -336,7 +336,7 @@ all_shown names (n ∷ ns) in_names =
     )
     go false e rest = rest
 
-closed_text : (t : List ℕ) → is_closed (t ++ codes ".done") ≡ true
+pub closed_text : (t : List ℕ) → is_closed (t ++ codes ".done") ≡ true
 closed_text t =
     let size = length-append t (codes ".done") in
     let front : length (t ++ codes ".done") - length (codes ".done") ≡ length t = omega

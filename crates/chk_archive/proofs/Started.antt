@@ -1,11 +1,11 @@
 -- The start of the job leaves the archive's book.
-use Rattle.std.proofs.Common.{◌≡◌, ℕ, inl, inr, Bool, true, false, List, [], ◌∷◌, Option, Ok, Err, Result, ap, ◌∙◌, refl}
+use Rattle.std.proofs.Common.{◌≡◌, ℕ, inl, inr, Bool, true, false, List, [], ◌∷◌, Option, Ok, Err, Result, ap, sym, ◌∙◌, refl, true≢false}
 use Rattle.std.specs.Prelude.{MatchResult}
 use Rattle.chk_site.specs.declared.acts.OutsideFault.{OutsideFault}
 use Rattle.chk_site.specs.declared.acts.CallFault.{CallFault}
 use Rattle.chk_site.specs.declared.acts.ActAnswer.{ActAnswer}
 use Rattle.chk_site.specs.declared.acts.Call.TheVariants.{Start}
-use Rattle.chk_site.specs.Acts.{is_done}
+use Rattle.chk_site.specs.Acts.{Starts, Reads, is_done}
 use Rattle.chk_site.specs.History.{Step, History, Every, files_after}
 use Rattle.chk_site.specs.Site.{Adds, Asked, asked, own_step, answered, plain, WasDone, IsDone, Calls, Ends}
 use Rattle.chk_site.specs.Runs.{Leads}
@@ -17,6 +17,7 @@ use Rattle.chk_world.specs.Books.{Book, book_of, book_in}
 use Rattle.chk_world.specs.Places.{As, Foreign}
 use Rattle.chk_world.specs.Rules.{Legal}
 use Rattle.chk_world.specs.Sight.{job, AtJob}
+use Rattle.chk_heads.specs.Pieces.{AsksInPieces}
 use Rattle.chk_world.specs.JobSteps.{IsOf}
 use Rattle.chk_world.proofs.Frames.{files_stay}
 use Rattle.chk_world.proofs.OwnFiles.{done_file, refused_file}
@@ -110,3 +111,15 @@ pub start_so : (stamped : List (List ℕ)) (loaded : Book) (r : Result (Unit {0}
 start_so stamped loaded (Ok value) given is told = started stamped loaded given is told
 start_so stamped loaded
     (Err fault) given ends told = not_started stamped loaded given fault ends told
+
+-- it reads nothing
+no_read : (name : List ℕ) (at max : ℕ) → Starts ≡ Reads name at max → ⊥
+no_read name at max is = absurd (cc)
+
+pub start_pieces : (given : Result (Unit {0}) CallFault) {old new : Option History}
+    → Adds old new (Calls StartQ (answered plain given)) → Adds old new (Every AsksInPieces)
+start_pieces given told =
+    adds_as (Every AsksInPieces) told
+    (λ added history calls. call_each AsksInPieces (answered plain given)
+    (λ before step theirs mine name at max is. absurd (true≢false (sym mine ∙ theirs.0)))
+    (λ before answer files logs running honest mine name at max is. absurd (no_read name at max is)) calls)

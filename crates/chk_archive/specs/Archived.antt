@@ -1,7 +1,10 @@
 -- What one run of the archive job leads to.
-use Rattle.std.specs.Prelude.{◌≡◌, ◌⊎◌, ℕ, ◌-◌, ◌≤◌, ◌^◌, Bool, false, List, length, find, codes, bytes_eq, IsTrue, Contains, count_by, Some, Result, Ok, Err}
+use Rattle.std.specs.Prelude.{◌≡◌, ◌⊎◌, ℕ, ◌-◌, ◌≤◌, ◌^◌, Bool, false, ◌&&◌, List, length, find, codes, bytes_eq, IsTrue, Contains, count_by, Some, Result, Ok, Err}
 use Rattle.chk_site.specs.declared.acts.Act.{Act}
-use Rattle.chk_site.specs.Acts.{Deed, Starts, Lists, Removes, Renames, deed}
+use Rattle.chk_site.specs.declared.acts.ActAnswer.{ActAnswer}
+use Rattle.chk_site.specs.declared.acts.ActAnswer.TheVariants.{Done}
+use Rattle.chk_site.specs.declared.acts.Role.TheVariants.{Job}
+use Rattle.chk_site.specs.Acts.{Deed, Starts, Lists, Removes, Renames, deed, same_role}
 use Rattle.chk_site.specs.History.{History, files_after}
 use Rattle.chk_site.specs.Runs.{own_acts}
 use Rattle.chk_replace.specs.Replace.{tmp}
@@ -39,14 +42,14 @@ pub record RunDone (loaded : Book) (r : Report) (history : History) : Type 0 whe
       → length (book_of (files_after history) ArchiveFolder).segments ≤ 2
 
 -- At Ok the run is done, for the book that stood there as the call began. Nothing of the program's
--- own is ever damaged. The segment numbers are spent only where they are. After any other refusal
+-- own is ever damaged. The segment numbers are spent only where fewer are left than the run needs, two at most. After any other refusal
 -- the history is legal; the start may be what was refused, so that it isn't said that the job may act.
 abbrev pub Archived : List (List ℕ) → Book → Result Report JobFault → History → Type 0
 Archived stamped loaded (Ok r) history = AtTold stamped job (RunDone loaded r) history
 Archived stamped loaded (Err (Damaged name at)) history = AtTold stamped job (λ h. ⊥) history
 Archived stamped loaded (Err (Spent n)) history =
     AtTold stamped job (λ h. (n ≡ 2 ^ 63 - 1) ×
-    ((book_of (files_after h) ArchiveFolder).next ≡ 2 ^ 63 - 1)) history
+    (2 ^ 63 - 2 ≤ (book_of (files_after h) ArchiveFolder).next)) history
 Archived stamped loaded (Err fault) history = Legal stamped history
 
 -- the archive's book before the call
@@ -62,10 +65,36 @@ is_sinks_listing call = false
 abbrev pub lists_sinks : Act → Bool
 lists_sinks act = is_sinks_listing (deed act)
 
+abbrev pub ListsNoSinks : History → History → Type 0
+ListsNoSinks added history = count_by lists_sinks (own_acts added) ≡ 0
+
 -- a run that is done has listed the sinks once in this call
 abbrev pub ListedOnce : {T E : Type 0} → Result T E → History → History → Type 0
 ListedOnce (Ok value) added history = count_by lists_sinks (own_acts added) ≡ 1
 ListedOnce (Err fault) added history = count_by lists_sinks (own_acts added) ≤ 1
+
+-- the act is a listing of the sinks by the job, which was given their names
+abbrev pub gives_sinks : Deed → ActAnswer → Bool
+gives_sinks (Lists folder) (Done names number of) = bytes_eq folder (codes "sinks")
+gives_sinks call answer = false
+
+abbrev pub is_job_listing : Act → Bool
+is_job_listing act = same_role act.who.role Job && gives_sinks (deed act) act.answer
+
+-- the job was given the names of the sinks once in this call
+abbrev pub GivenOnce : History → History → Type 0
+GivenOnce added history = count_by is_job_listing (own_acts added) ≡ 1
+
+-- the calls that replace the archive's book
+pub data ReplacesBook : Deed → Type 0 where
+  writes_book : (call : Deed) → WritesTo (tmp (codes "archive/book")) call → ReplacesBook call
+  names_book : ReplacesBook (Renames (tmp (codes "archive/book")) (codes "archive/book"))
+
+-- the calls that merge: they read files, write segments of the archive, and replace its book
+pub data MergesBy : Deed → Type 0 where
+  merge_reads : (call : Deed) → ReadsFile call → MergesBy call
+  merge_writes : (k : ℕ) (call : Deed) → WritesTo (segment_name (codes "archive") k) call → MergesBy call
+  merge_replaces : (call : Deed) → ReplacesBook call → MergesBy call
 
 -- the calls of a run: it starts, lists two folders, reads, writes segments of the archive, replaces
 -- its book, and removes segments of the archive and done sinks
@@ -73,9 +102,5 @@ pub data ArchivesBy : Deed → Type 0 where
   starts : ArchivesBy Starts
   lists_archive : ArchivesBy (Lists (codes "archive"))
   lists_sinks_folder : ArchivesBy (Lists (codes "sinks"))
-  reads_file : (call : Deed) → ReadsFile call → ArchivesBy call
-  writes_segment : (k : ℕ) (call : Deed) → WritesTo (segment_name (codes "archive") k) call
-      → ArchivesBy call
-  writes_next_book : (call : Deed) → WritesTo (tmp (codes "archive/book")) call → ArchivesBy call
-  renames_book : ArchivesBy (Renames (tmp (codes "archive/book")) (codes "archive/book"))
+  reads_and_writes : (call : Deed) → MergesBy call → ArchivesBy call
   removes_sink : (name : List ℕ) → IsTrue (is_closed name) → ArchivesBy (Removes (sink_path name))

@@ -5,5 +5,12 @@ pub mod Tidying
 pub mod Sinks
 pub mod Reports
 pub mod Archived
-pub mod Gathering
 pub mod Beginning
+pub mod Listed
+pub mod Counting
+pub mod Publishing
+pub mod Numbers
+pub mod Taking
+pub mod Merged
+pub mod Running
+pub mod Reporting

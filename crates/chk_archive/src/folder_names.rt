@@ -37,7 +37,7 @@ pub(crate) fn closed(alloc: Global, names: &[Word]) -> Result<Vec<Word>, NoMemor
 }
 
 /// The file of this name in the folder. One that no call can name counts as want of memory.
-fn path(alloc: Global, folder: &str, name: &str) -> Result<Word, NoMemory>
+pub(crate) fn path(alloc: Global, folder: &str, name: &str) -> Result<Word, NoMemory>
     ensures { IfOk result (λ path. path ≡ in_folder folder.now name.now) }
 {
     let text = format!(in alloc; "{folder}/{name}")?;
@@ -45,7 +45,7 @@ fn path(alloc: Global, folder: &str, name: &str) -> Result<Word, NoMemory>
 }
 
 /// The name is that of a done sink.
-fn is_closed(name: &str) -> bool
+pub(crate) fn is_closed(name: &str) -> bool
     ensures { result ≡ is_closed name.now }
 {
     name.as_bytes().strip_suffix(b".done").is_some()

@@ -1,14 +1,20 @@
 //! The archive job: takes what is new of each stream from the done sinks into the archive.
 #![tactic(auto)]
 
+mod archiving;
 mod beginning;
 mod calling;
+mod counting;
 mod folder_names;
-mod gathering;
+mod merging;
+mod publishing;
+mod report;
+mod run;
 mod sinks;
+mod sources;
+mod taking;
 mod tidying;
 
-pub use beginning::begin;
-pub use gathering::gather_found;
-pub use sinks::{list_sinks, remove_sinks};
-pub use tidying::tidy;
+pub use archiving::archive;
+pub use chk_heads::JobFault;
+pub use report::Report;

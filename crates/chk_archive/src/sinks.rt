@@ -1,6 +1,6 @@
 //! The listing of the sinks, and their removal.
 
-ghost use Rattle.std.specs.Prelude.{◌≡◌, ℕ, List, Option, Ok, IfOk, OnErr};
+ghost use Rattle.std.specs.Prelude.{◌≡◌, ℕ, List, Option, Ok, IfOk, OnErr, OnOk};
 ghost use Rattle.chk_site.specs.Files.{File};
 ghost use Rattle.chk_site.specs.History.{Every};
 ghost use Rattle.chk_site.specs.Site.{Adds, LastFailed, OutsideCause};
@@ -10,6 +10,7 @@ ghost use Rattle.chk_world.specs.Places.{As};
 ghost use Rattle.chk_world.specs.Rules.{Legal};
 ghost use Rattle.chk_world.specs.Sight.{job, AtJob};
 ghost use Rattle.chk_world.specs.JobSteps.{IsOf};
+ghost use Rattle.chk_archive.specs.Archived.{GivenOnce, ListedOnce};
 ghost use Rattle.chk_archive.specs.Sinks.{OwnAre, MayGo, SinksListed, ListsSinks, RemovesShown, SinksRemoved};
 
 use crate::calling::{list_folder, remove_all};
@@ -19,7 +20,7 @@ use chk_site::{OutsideFault, Site, Who};
 use std::alloc::Global;
 
 /// The names of the files in the folder of sinks. It costs one call.
-pub fn list_sinks<S: Site>(
+pub(crate) fn list_sinks<S: Site>(
     alloc: Global,
     site: &mut S,
     who: &Who,
@@ -32,6 +33,8 @@ pub fn list_sinks<S: Site>(
         → OnErr result (Adds (S.told site.old) (S.told site.new)
         (Leads (As stamped job) (AtJob stamped (OwnAre own)) (Legal stamped))) }
     ensures own { Adds (S.told site.old) (S.told site.new) (Every (IsOf ListsSinks)) }
+    ensures once { Adds (S.told site.old) (S.told site.new) (ListedOnce result) }
+    ensures given { OnOk result (Adds (S.told site.old) (S.told site.new) GivenOnce) }
     ensures last { Adds (S.told site.old) (S.told site.new) (LastFailed result) }
     ensures cause { OutsideCause (S.fault_count site.old) (S.fault_count site.new) result }
 {
@@ -40,7 +43,7 @@ pub fn list_sinks<S: Site>(
 
 /// Removes each done sink that a listing showed, whether or not it is still there. `names` are those of the job's last listing
 /// of the sinks. It costs a call for each done sink.
-pub fn remove_sinks<S: Site>(
+pub(crate) fn remove_sinks<S: Site>(
     alloc: Global,
     site: &mut S,
     who: &Who,

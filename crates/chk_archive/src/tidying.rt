@@ -17,7 +17,7 @@ use chk_site::{OutsideFault, Site, Who};
 use std::alloc::Global;
 
 /// Removes each segment of the archive that the book doesn't name. It costs a call, and one for each of these segments.
-pub fn tidy<S: Site>(
+pub(crate) fn tidy<S: Site>(
     alloc: Global,
     site: &mut S,
     who: &Who,

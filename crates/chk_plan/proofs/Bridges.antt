@@ -96,7 +96,7 @@ heads_between i j hs cs all = heads_drop i (take j hs) (take j cs) (heads_take j
 
 -- ---- the pass
 
-goes_same : (reached : ℕ) (h : Head) (c : Chunk) → IsHeadOf h c → head_goes reached h
+pub goes_same : (reached : ℕ) (h : Head) (c : Chunk) → IsHeadOf h c → head_goes reached h
     ≡ goes_on reached c
 goes_same reached h c is =
     ap (λ n. nat_le n reached && nat_lt reached h.key.seq) is.begin

@@ -40,7 +40,7 @@ flat_blocks block f g (s ∷ ss) same =
     (flat_blocks block f g ss same.1)
 
 -- what a pass takes is how far it goes
-gain_from : (reached : ℕ) (cs : List Chunk) → Each HasBytes cs
+pub gain_from : (reached : ℕ) (cs : List Chunk) → Each HasBytes cs
     → length (values (parts_from reached cs)) + reached ≡ reached_from reached cs
 gain_from reached [] all = omega arith
 gain_from reached (c ∷ cs) all = go (goes_on reached c) refl (gain_from (chunk_end c) cs all.1)

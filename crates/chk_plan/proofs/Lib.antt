@@ -7,7 +7,7 @@ pub mod BooksMay
 pub mod SetAside
 pub mod HeadOrder
 mod Blocks
-mod Bridges
+pub mod Bridges
 mod SpanBlocks
 mod MoreSpans
-mod Gives
+pub mod Gives

@@ -1,5 +1,5 @@
 -- Which book may follow an archive's book.
-use Rattle.std.specs.Prelude.{◌≡◌, ◌⊎◌, ◌<◌, ◌≤◌, IsTrue, List, ◌++◌, filter, Contains, Any}
+use Rattle.std.specs.Prelude.{◌≡◌, ◌⊎◌, ◌≤◌, IsTrue, List, ◌++◌, filter, Contains, Any}
 use Rattle.chk_site.specs.History.{History, files_after}
 use Rattle.chk_chunk.specs.Keys.{Stream, Chunk, chunk_end, is_of, same_data}
 use Rattle.chk_world.specs.Names.{ArchiveFolder, SegmentFile, file}
@@ -12,7 +12,7 @@ use Rattle.chk_world.specs.TrueBooks.{HasBytes}
 -- the end is one of the old book, or that of the chunks' own start
 abbrev pub StartsSo : Book → List Chunk → End → Type 0
 StartsSo old cs e =
-    Any (λ f. (f.stream ≡ e.stream) × (f.start ≡ e.start) × (f.start < f.end)) old.ends
+    Any (λ f. (f.stream ≡ e.stream) × (f.start ≡ e.start)) old.ends
     ⊎ Any (λ c. (c.key.stream ≡ e.stream) × (c.key.start ≡ e.start)) cs
 
 -- the book names synced segments with the old one's records and then, for each stream, the parts

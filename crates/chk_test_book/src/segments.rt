@@ -1,45 +1,59 @@
 //! Numbers of segments, and books that are published.
-use crate::scene::{empty, job};
-use chk_book::{Book, JobFault, load_book};
+use crate::scene::{begun, empty, expect, is_published, loaded};
+use chk_book::{Book, JobFault};
+use chk_site_mem::SiteMem;
+use std::alloc::Global;
 use std::test::Fail;
 
 const LAST: u64 = (1 << 63) - 1;
 
+fn spent(alloc: Global, site: &mut SiteMem, book: &Book) -> Result<u64, Fail> {
+    match begun(alloc, site, book)? {
+        Err(JobFault::Spent { number }) => Ok(number),
+        _ => Err(Fail::from("not spent")),
+    }
+}
+
+fn is_spent(alloc: Global, site: &mut SiteMem) -> Result<(), Fail> {
+    let mut book = Book::new(alloc);
+    book.next = LAST;
+    let number = spent(alloc, site, &book)?;
+    expect(number == LAST, "another number")
+}
+
 #[test]
 fn the_last_number(rt: HostRuntime) -> Result<(), Fail> {
-    let who = job(rt.alloc())?;
     let mut site = empty(rt.alloc())?;
-    let mut book = Book::new(rt.alloc());
-    book.next = LAST;
-    match book.begin_segment(rt.alloc(), &mut site, &who, "archive") {
-        Err(JobFault::Spent { number }) => assert_eq!(rt; number, LAST),
-        _ => return Err(Fail::from("not spent")),
+    is_spent(rt.alloc(), &mut site)
+}
+
+fn is_long(site: &SiteMem, name: &str, length: usize) -> Result<(), Fail> {
+    match site.file(name) {
+        Some(bytes) => expect(bytes.len() == length, "another length"),
+        None => Err(Fail::from("no such file")),
     }
-    Ok(())
+}
+
+fn begins(alloc: Global, site: &mut SiteMem) -> Result<(), Fail> {
+    let book = Book::new(alloc);
+    expect(begun(alloc, site, &book)?.is_ok(), "not begun")?;
+    is_long(site, "archive/seg.1", 96)
 }
 
 #[test]
 fn a_segment_without_chunks(rt: HostRuntime) -> Result<(), Fail> {
-    let who = job(rt.alloc())?;
     let mut site = empty(rt.alloc())?;
-    let book = Book::new(rt.alloc());
-    assert!(rt;
-        book.begin_segment(rt.alloc(), &mut site, &who, "archive")
-            .is_ok()
-    );
-    let length = site.file("archive/seg.1").map_or(0, |bytes| bytes.len());
-    assert_eq!(rt; length, 96);
-    Ok(())
+    begins(rt.alloc(), &mut site)
+}
+
+fn publishes(alloc: Global, site: &mut SiteMem) -> Result<(), Fail> {
+    expect(is_published(alloc, site)?, "not published")?;
+    is_long(site, "archive/book", 21)?;
+    expect(loaded(alloc, site)?.is_ok(), "not loaded")
 }
 
 #[test]
 fn an_empty_book(rt: HostRuntime) -> Result<(), Fail> {
-    let who = job(rt.alloc())?;
     let mut site = empty(rt.alloc())?;
-    let book = Book::new(rt.alloc());
-    assert!(rt; book.publish(rt.alloc(), &mut site, &who, "archive").is_ok());
-    let length = site.file("archive/book").map_or(0, |bytes| bytes.len());
-    assert_eq!(rt; length, 21);
-    assert!(rt; load_book(rt.alloc(), &mut site, &who, "archive").is_ok());
-    Ok(())
+    publishes(rt.alloc(), &mut site)
 }

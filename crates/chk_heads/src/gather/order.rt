@@ -1,6 +1,8 @@
 //! The order in which heads are gone through.
 
-ghost use Rattle.std.specs.Prelude.{◌≡◌, ◌<◌, length, map, slice_index_or, IfOk, OnOk, OnErr};
+ghost use Rattle.std.specs.Prelude.{◌≡◌, ◌<◌, length, map, slice_index_or, IsTrue, IfOk, OnOk, OnErr};
+ghost use Rattle.chk_chunk.specs.Keys.{has_words};
+ghost use Rattle.chk_chunk.specs.Lent.{lent_key};
 ghost use Rattle.std.specs.Ordering.{is_lt};
 ghost use Rattle.chk_heads.specs.Order.{in_head_order, rank_in, row_rank, row_before, no_head, lent_head, of_one_stream};
 
@@ -37,7 +39,8 @@ impl Heads {
     /// The head at this place, without a copy.
     pub fn get(&self, index: usize) -> HeadRef<'_>
         requires { index < length self.now }
-        ensures { lent_head result ≡ slice_index_or self.now index no_head }
+        ensures head { lent_head result ≡ slice_index_or self.now index no_head }
+        ensures words { IsTrue (has_words (lent_key result.key)) }
     {
         let row = &self.rows[index];
         let origin = &self.origins[row.origin as usize];

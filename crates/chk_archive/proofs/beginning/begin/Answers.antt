@@ -4,9 +4,12 @@ use Rattle.chk_world.specs.JobSteps.{IsOf}
 use Rattle.chk_heads.proofs.Gathering.{every_then}
 use Rattle.chk_book.specs.Loaded.{book_result}
 use Rattle.chk_archive.specs.Beginning.{Begins}
-use Rattle.chk_archive.proofs.BookLoads.{book_loaded, load_works, begin_refused, archive_folder}
+use Rattle.chk_heads.specs.Pieces.{AsksInPieces}
+use Rattle.chk_archive.proofs.BookLoads.{book_loaded, load_works, begin_refused, of_read}
 use Rattle.chk_book.specs.declared.book.Book.{Book as Struct}
-use Rattle.chk_archive.proofs.Lasts.{as_fails, fails_behind}
+use Rattle.chk_parts.proofs.WholeSegments.{archive_folder}
+use Rattle.chk_parts.proofs.StepKinds.{fails_behind}
+use Rattle.chk_archive.proofs.Lasts.{as_fails}
 use Rattle.chk_archive.proofs.beginning.begin.Goals as goal
 
 pub returns-clause-told : goal.returns-clause-told
@@ -36,3 +39,11 @@ returns-in_err-start-clause-last g c =
 
 pub returns-clause-last : goal.returns-clause-last
 returns-clause-last g c = fails_behind c.load_book.result c.in_ok-start.ensures.own c.load_book.ensures.last
+
+pub returns-clause-pieces : goal.returns-clause-pieces
+returns-clause-pieces g c = every_then AsksInPieces c.in_ok-start.ensures.pieces c.load_book.ensures.pieces
+
+pub returns-in_err-start-clause-only : goal.returns-in_err-start-clause-only
+returns-in_err-start-clause-only g c =
+    let p = err_from_is_err_and c.from_residual.result c.from_residual.ensures.1 in
+    rw (p.1, p.2) (of_read c.in_err-start.field-0.0)

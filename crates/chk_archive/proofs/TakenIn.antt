@@ -1,0 +1,301 @@
+-- What was prepared is published, and so all is taken.
+use Rattle.std.proofs.Common.{◌≡◌, ℕ, ◌+◌, ◌<◌, ◌≤◌, Bool, false, List, [], ◌∷◌, length, Option, Ok, Err, Result, ap, sym, subst, ◌∙◌, refl, arith, append-nil, length-append}
+use Rattle.std.specs.Prelude.{count_by, flat_map}
+use Rattle.chk_bytes.specs.Stems.{Stem}
+use Rattle.chk_site.specs.declared.acts.OutsideFault.{OutsideFault}
+use Rattle.chk_site.specs.declared.acts.OutsideFault.TheVariants.{Outside as site_failed, NoMemory as no_memory}
+use Rattle.chk_site.specs.Acts.{Deed, Starts, Reads}
+use Rattle.chk_site.specs.History.{History, Every, files_after}
+use Rattle.chk_site.specs.Site.{Adds}
+use Rattle.chk_site.specs.Runs.{Leads}
+use Rattle.chk_site.proofs.Leads.{leads_as, leads_then}
+use Rattle.chk_chunk.specs.Keys.{Chunk}
+use Rattle.chk_world.specs.Names.{ArchiveFolder, SegmentFile}
+use Rattle.chk_world.specs.Books.{Segment, Book, chunks_in, chunks_named, chunks_of_stream, values, book_of}
+use Rattle.chk_world.specs.ArchiveRuns.{total_gain}
+use Rattle.chk_world.specs.Streams.{start_of}
+use Rattle.chk_world.specs.Jobs.{segment_list}
+use Rattle.chk_world.specs.Rules.{Legal}
+use Rattle.chk_world.specs.Places.{As}
+use Rattle.chk_world.specs.Sight.{job, Sight, sight, own_book, own_aside, AtJob}
+use Rattle.chk_world.specs.JobSteps.{IsOf}
+use Rattle.chk_world.proofs.Segments.{flat_same}
+use Rattle.chk_world.proofs.OwnArchive.{own_archive_is}
+use Rattle.chk_world.proofs.ToldCalls.{talks}
+use Rattle.chk_heads.specs.Faults.{job_fault, IsOfRead}
+use Rattle.chk_heads.specs.declared.fault.JobFault.{JobFault}
+use Rattle.chk_heads.specs.declared.fault.JobFault.TheVariants.{Outside, Damaged, Spent, NoMemory}
+use Rattle.chk_plan.specs.Plan.{parts_of, ends_of, set_aside}
+use Rattle.chk_parts.specs.declared.cuts.Cut.{Cut}
+use Rattle.chk_heads.specs.Heads.{Head}
+use Rattle.chk_parts.specs.Cuts.{cut_chunks, AreWithin}
+use Rattle.chk_parts.specs.Kept.{is_first}
+use Rattle.chk_parts.specs.Gathering.{heads_of, Found}
+use Rattle.chk_parts.specs.Records.{AreRecords}
+use Rattle.chk_parts.proofs.StepKinds.{writes_no_reads}
+use Rattle.chk_parts.specs.Writes.{HoldsChunks}
+use Rattle.chk_parts.proofs.OneFile.{Knows}
+use Rattle.chk_parts.proofs.FromKnown.{from_known, reach, reach_known}
+use Rattle.chk_archive.specs.Archived.{ReplacesBook, writes_book, names_book, MergesBy, merge_replaces}
+use Rattle.chk_archive.specs.Listed.{IsListed}
+use Rattle.chk_archive.specs.Publishing.{IsPublished, MayFollow, MayFollowIf, Published}
+use Rattle.chk_archive.specs.Taking.{CanPrepare, PartsAdded, nothing_taken, one_added, AsideNamed, none_kept, old_kept, new_kept, IsReady, Prepared, TookAll, TookSo}
+use Rattle.chk_archive.specs.declared.taking.Taken.{Taken}
+use Rattle.chk_archive.proofs.Listings.{limits_agree}
+use Rattle.chk_archive.proofs.FoundSources.{K}
+use Rattle.chk_archive.proofs.NextBook.{Ends, Cs, may_follow, now_reached}
+use Rattle.chk_archive.proofs.Preparing.{below_book, below_segment}
+use Rattle.chk_archive.proofs.FoundPlan.{Files, Hs, all_records, can_prepare}
+use Rattle.chk_archive.proofs.Readied.{merges_start, quiet_merge}
+
+-- ---- over a publication
+
+module _ (u : Sight) (c : Book) (w : Sight) (p : IsPublished u c w) where
+  segment_stays : (k : ℕ) → w.own (SegmentFile ArchiveFolder k) ≡ u.own (SegmentFile ArchiveFolder k)
+  segment_stays k = p.own (SegmentFile ArchiveFolder k) refl
+
+  holds_still : (g : Segment) (ds : List Chunk) → HoldsChunks u g ds → HoldsChunks w g ds
+  holds_still g ds h = record {
+    file = h.file;
+    there = segment_stays g.number ∙ h.there;
+    is = h.is;
+    synced = h.synced;
+    size = h.size;
+  }
+
+  pub added_still : (b new : Book) (parts : List Chunk) → PartsAdded u b new parts → PartsAdded w b new parts
+  added_still b new parts (nothing_taken none segments ends) = nothing_taken none segments ends
+  added_still b new parts (one_added g low holds segments ends) =
+      one_added g low (holds_still g parts holds) segments ends
+
+  chunks_still : (o : Option Segment)
+      → flat_map (λ (g : Segment). chunks_in (w.own (SegmentFile ArchiveFolder g.number))) (segment_list o)
+      ≡ flat_map (λ (g : Segment). chunks_in (u.own (SegmentFile ArchiveFolder g.number))) (segment_list o)
+  chunks_still o =
+      flat_same (λ (g : Segment). chunks_in (w.own (SegmentFile ArchiveFolder g.number)))
+      (λ (g : Segment). chunks_in (u.own (SegmentFile ArchiveFolder g.number))) (segment_list o)
+      (λ g one. ap chunks_in (segment_stays g.number))
+
+  pub aside_still : (b new : Book) (kept : List Chunk) → own_book w ArchiveFolder ≡ own_book u ArchiveFolder
+      → AsideNamed u b new kept → AsideNamed w b new kept
+  aside_still b new kept same (none_kept none is) = none_kept none is
+  aside_still b new kept same (old_kept are is) =
+      old_kept
+      (ap (λ (x : Book). flat_map (λ (g : Segment). chunks_in (w.own (SegmentFile ArchiveFolder g.number))) (segment_list x.aside)) same
+      ∙ (chunks_still (own_book u ArchiveFolder).aside ∙ are)) is
+  aside_still b new kept same (new_kept g low holds is) = new_kept g low (holds_still g kept holds) is
+
+  -- the aside segment of the book that is published
+  pub aside_now : (b : Book) (kept : List Chunk) → own_book u ArchiveFolder ≡ b → AsideNamed u b c kept
+      → own_aside w ≡ kept
+  aside_now b kept book named =
+      ap (λ (x : Book). flat_map (λ (g : Segment). chunks_in (w.own (SegmentFile ArchiveFolder g.number))) (segment_list x.aside)) p.book
+      ∙ (chunks_still c.aside ∙ go named)
+    where
+      go : AsideNamed u b c kept
+          → flat_map (λ (g : Segment). chunks_in (u.own (SegmentFile ArchiveFolder g.number))) (segment_list c.aside) ≡ kept
+      go (none_kept none is) =
+          ap (λ o. flat_map (λ (g : Segment). chunks_in (u.own (SegmentFile ArchiveFolder g.number))) (segment_list o)) is ∙ sym none
+      go (old_kept are is) =
+          ap (λ o. flat_map (λ (g : Segment). chunks_in (u.own (SegmentFile ArchiveFolder g.number))) (segment_list o)) is
+          ∙ (ap (λ (x : Book). flat_map (λ (g : Segment). chunks_in (u.own (SegmentFile ArchiveFolder g.number))) (segment_list x.aside)) (sym book)
+          ∙ are)
+      go (new_kept g low holds is) =
+          ap (λ o. flat_map (λ (g : Segment). chunks_in (u.own (SegmentFile ArchiveFolder g.number))) (segment_list o)) is
+          ∙ (append-nil (chunks_in (u.own (SegmentFile ArchiveFolder g.number)))
+          ∙ (ap chunks_in holds.there ∙ (limits_agree holds.file.bytes holds.is.form ∙ holds.is.are)))
+
+-- there is at most one segment more
+one_more : (u : Sight) (old new : Book) (parts : List Chunk) → PartsAdded u old new parts
+    → length new.segments ≤ length old.segments + 1
+one_more u old new parts (nothing_taken none segments ends) = let same = ap length segments in omega (arith, same)
+one_more u old new parts (one_added g low holds segments ends) =
+    let same = ap length segments in
+    let both = length-append old.segments (g ∷ []) in
+    omega (arith, same, both)
+
+-- ---- of what was listed
+
+module _ (stamped : List (List ℕ)) (names : List (List ℕ)) (b : Book) (v : Sight)
+    (at : IsListed stamped names b v) (new : Book) (parts kept : List Chunk)
+    (parts_are : parts ≡ parts_of (Ends stamped names b v at) (Cs stamped names b v at))
+    (kept_are : kept ≡ set_aside (ends_of (Ends stamped names b v at) (Cs stamped names b v at)) (Cs stamped names b v at)) where
+  module _ (u : Sight) (changed : Bool) (ready : IsReady v b new parts kept changed u) where
+    book_ready : own_book u ArchiveFolder ≡ b
+    book_ready = below_book b.next v u ready.same ∙ at.book
+
+    module _ (h : History) (c : Book) (p : IsPublished u c (sight h)) where
+      sinks_then : (x : Stem) → (sight h).sinks x ≡ v.sinks x
+      sinks_then x = p.sinks x ∙ ready.same.sinks x
+
+      old_then : (k : ℕ) → k < b.next → (sight h).own (SegmentFile ArchiveFolder k) ≡ v.own (SegmentFile ArchiveFolder k)
+      old_then k small = p.own (SegmentFile ArchiveFolder k) refl ∙ below_segment b.next v u ready.same k small
+
+    may_ready : MayFollow stamped u new
+    may_ready h legal p =
+        let same : own_book (sight h) ArchiveFolder ≡ own_book u ArchiveFolder = p.book in
+        may_follow stamped names b v at h (sinks_then h (own_book u ArchiveFolder) p) (old_then h (own_book u ArchiveFolder) p)
+        (same ∙ book_ready) legal new parts kept
+        (added_still u (own_book u ArchiveFolder) (sight h) p b new parts ready.parts_are)
+        (aside_still u (own_book u ArchiveFolder) (sight h) p b new kept same ready.aside) parts_are kept_are
+
+    pub may_if : MayFollowIf stamped u new changed
+    may_if = (λ e. may_ready, λ e. book_ready ∙ sym (ready.unchanged e))
+
+    pub took_all : (t : Taken) → t.taken ≡ total_gain (Ends stamped names b v at) (Cs stamped names b v at)
+        → t.held ≡ length kept → (h : History) → Legal stamped h → IsPublished u new (sight h)
+        → TookAll v new t (sight h)
+    took_all t taken held h legal p =
+        let aside = aside_now u new (sight h) p b kept book_ready ready.aside in
+        let book : book_of (files_after h) ArchiveFolder ≡ new = p.book in
+        record {
+          listing = p.listing ∙ ready.same.listing;
+          sinks = sinks_then h new p;
+          book = p.book;
+          few = subst (λ (x : Book). length new.segments ≤ length x.segments + 1) (sym at.book)
+              (one_more u b new parts ready.parts_are);
+          l = K stamped names b v at;
+          last = p.listing ∙ (ready.same.listing ∙ at.shows.last);
+          reached = λ s.
+              ap (λ x. start_of (K stamped names b v at).upto s + length x)
+              (own_archive_is stamped h legal s
+              ∙ ap (λ (x : Book). values (chunks_of_stream s (chunks_named (files_after h) ArchiveFolder x))) book)
+              ∙ now_reached stamped names b v at h (sinks_then h new p) (old_then h new p) new parts
+              (added_still u new (sight h) p b new parts ready.parts_are) parts_are s;
+          aside = aside ∙ kept_are;
+          taken = taken;
+          held = held ∙ sym (ap length aside);
+        }
+
+  -- ---- over histories
+
+  replaces_start : ReplacesBook Starts → ⊥
+  replaces_start k = merges_start (merge_replaces Starts k)
+
+  quiet_replace : (call : Deed) → ReplacesBook call → talks call ≡ false
+  quiet_replace call k = quiet_merge call (merge_replaces call k)
+
+  pub prepare_fails : (r : Result Bool JobFault) (fault : JobFault) → r ≡ Err fault → (h : History)
+      → Prepared stamped v b new parts kept r h → TookSo stamped v b new (Err fault) h
+  prepare_fails r fault e h k = go fault (subst (λ x. Prepared stamped v b new parts kept x h) e k)
+    where
+      go : (fault : JobFault) → Prepared stamped v b new parts kept (Err fault) h → TookSo stamped v b new (Err fault) h
+      go (Outside call) k = k
+      go (Damaged name place) k = k
+      go (Spent n) k = k
+      go NoMemory k = k
+
+  module _ (changed : Bool) (first : Result Bool JobFault) (e : first ≡ Ok changed)
+      (r : Result (Unit {0}) OutsideFault) {a m z : Option History}
+      (told : Adds a m (Leads (As stamped job) (Knows stamped v) (Prepared stamped v b new parts kept first)))
+      (own : Adds m z (Every (IsOf ReplacesBook)))
+      (second : (u : Sight) → MayFollowIf stamped u new changed
+      → Adds m z (Leads (As stamped job) (Knows stamped u) (Published stamped u new r))) where
+    is_prepared : Adds a m (Leads (As stamped job) (Knows stamped v) (AtJob stamped (IsReady v b new parts kept changed)))
+    is_prepared = leads_as (λ h k. k) (λ h k. subst (λ x. Prepared stamped v b new parts kept x h) e k) told
+
+    pub publish_fails : (fault : OutsideFault) → r ≡ Err fault
+        → Adds a z (Leads (As stamped job) (Knows stamped v) (TookSo stamped v b new (Err (job_fault fault))))
+    publish_fails fault is =
+        leads_then is_prepared
+        (from_known stamped ReplacesBook replaces_start quiet_replace (IsReady v b new parts kept changed)
+        (TookSo stamped v b new (Err (job_fault fault))) own
+        (λ h k runs.
+        let u = sight h in
+        reach_known stamped h (IsReady v b new parts kept changed) (TookSo stamped v b new (Err (job_fault fault)))
+        (leads_as (λ g j. j) (λ g j. of_fault fault g (subst (λ x. Published stamped u new x g) is j))
+        (second u (may_if u changed (k.alive runs)))) k)
+        (λ h x. of_fault fault h x.legal))
+      where
+        of_fault : (fault : OutsideFault) (h : History) → Legal stamped h → TookSo stamped v b new (Err (job_fault fault)) h
+        of_fault (site_failed call) h legal = legal
+        of_fault no_memory h legal = legal
+
+    pub published_all : (t : Taken) → t.taken ≡ total_gain (Ends stamped names b v at) (Cs stamped names b v at)
+        → t.held ≡ length kept → (value : Unit {0}) → r ≡ Ok value
+        → Adds a z (Leads (As stamped job) (Knows stamped v) (TookSo stamped v b new (Ok t)))
+    published_all t taken held value is =
+        leads_then is_prepared
+        (from_known stamped ReplacesBook replaces_start quiet_replace (IsReady v b new parts kept changed)
+        (TookSo stamped v b new (Ok t)) own
+        (λ h k runs.
+        let u = sight h in
+        let ready = k.alive runs in
+        reach_known stamped h (IsReady v b new parts kept changed) (TookSo stamped v b new (Ok t))
+        (leads_as (λ g j. j)
+        (λ g j.
+        let x = subst (λ y. Published stamped u new y g) is j in
+        record {
+          legal = x.legal;
+          may_act = x.may_act;
+          alive = λ still. took_all u changed ready t taken held g x.legal (x.alive still);
+        })
+        (second u (may_if u changed ready))) k)
+        (λ h x. record { legal = x.legal; may_act = x.may_act; alive = λ runs. absurd (x.alive runs) }))
+
+-- ---- what is read of the book's replacement
+
+pub replaces_no_reads : (call : Deed) → ReplacesBook call → (name : List ℕ) (place max : ℕ) → call ≡ Reads name place max → ⊥
+replaces_no_reads call (writes_book c k) name place max is = writes_no_reads _ c k name place max is
+replaces_no_reads call names_book name place max is = absurd (cc)
+
+pub of_replace : (call : Deed) → ReplacesBook call → MergesBy call
+of_replace call k = merge_replaces call k
+
+-- where nothing is changed
+pub unchanged_book : (v : Sight) (b : Book) → own_book v ArchiveFolder ≡ b → IsPublished v b v
+unchanged_book v b book =
+    record { listing = refl; sinks = λ x. refl; own = λ n apart. refl; book = book }
+
+-- ---- for files and heads that are these
+
+module _ (stamped : List (List ℕ)) (names : List (List ℕ)) (b : Book) (v : Sight)
+    (at : IsListed stamped names b v) (files : List (List ℕ)) (heads : List Head)
+    (files_are : files ≡ Files stamped names b v at) (heads_are : heads ≡ Hs stamped names b v at) where
+  pub all_args : AreRecords v files heads (Cs stamped names b v at)
+  all_args =
+      subst (λ f. AreRecords v f heads (Cs stamped names b v at)) (sym files_are)
+      (subst (λ h. AreRecords v (Files stamped names b v at) h (Cs stamped names b v at)) (sym heads_are)
+      (all_records stamped names b v at))
+
+  pub can_args : (count : ℕ) (before : List Head) → count ≡ count_by is_first before → before ≡ heads_of v 0 files
+      → (kept : List Cut) → AreWithin (length heads) kept
+      → CanPrepare v b files heads count kept (cut_chunks (Cs stamped names b v at) kept)
+  can_args count before is first kept within =
+      subst (λ f. CanPrepare v b f heads count kept (cut_chunks (Cs stamped names b v at) kept)) (sym files_are)
+      (subst (λ h. CanPrepare v b (Files stamped names b v at) h count kept (cut_chunks (Cs stamped names b v at) kept)) (sym heads_are)
+      (can_prepare stamped names b v at count
+      (is ∙ (ap (count_by is_first) first ∙ ap (λ f. count_by is_first (heads_of v 0 f)) files_are)) kept
+      (subst (λ h. AreWithin (length h) kept) heads_are within)))
+
+-- ---- behind the gathering
+
+module _ (stamped : List (List ℕ)) (v : Sight) (b new : Book) (ws : List (List ℕ)) where
+  took_bottom : (r : Result Taken JobFault) (h : History) → AtJob stamped (λ u. ⊥) h → TookSo stamped v b new r h
+  took_bottom (Ok t) h z = record { legal = z.legal; may_act = z.may_act; alive = λ runs. absurd (z.alive runs) }
+  took_bottom (Err (Outside call)) h z = z.legal
+  took_bottom (Err (Damaged name place)) h z = record { legal = z.legal; may_act = z.may_act; alive = z.alive }
+  took_bottom (Err (Spent n)) h z = record { legal = z.legal; may_act = z.may_act; alive = λ runs. absurd (z.alive runs) }
+  took_bottom (Err NoMemory) h z = z.legal
+
+  pub found_fails : (fault : JobFault) → IsOfRead fault → (h : History) → Found stamped v ws (Err fault) h
+      → TookSo stamped v b new (Err fault) h
+  found_fails (Outside call) only h k = k
+  found_fails (Damaged name place) only h k = k
+  found_fails (Spent n) only h k = absurd only
+  found_fails NoMemory only h k = k
+
+  pub found_taken : (heads : List Head) (r : Result Taken JobFault) {a m z : Option History}
+      → Adds a m (Leads (As stamped job) (Knows stamped v) (Found stamped v ws (Ok heads)))
+      → Adds m z (Every (IsOf MergesBy))
+      → (heads ≡ heads_of v 0 ws → Adds m z (Leads (As stamped job) (Knows stamped v) (TookSo stamped v b new r)))
+      → Adds a z (Leads (As stamped job) (Knows stamped v) (TookSo stamped v b new r))
+  found_taken heads r first own told =
+      leads_then first
+      (from_known stamped MergesBy merges_start quiet_merge (λ u. (u ≡ v) × (heads ≡ heads_of v 0 ws))
+      (TookSo stamped v b new r) own
+      (λ h k runs.
+      let x = k.alive runs in
+      reach stamped h (Knows stamped v) (TookSo stamped v b new r) (told x.1)
+      (record { legal = k.legal; may_act = k.may_act; alive = λ still. x.0 }))
+      (λ h y. took_bottom r h y))

@@ -1,0 +1,66 @@
+use Rattle.std.proofs.Common.{◌∙◌, ap, sym, subst, true, false, None}
+use Rattle.std.specs.Prelude.{codes}
+use Rattle.std.proofs.lemmas.Result.{err_from_is_err_and}
+use Rattle.chk_site.proofs.Leads.{leads_none, leads_as}
+use Rattle.chk_world.specs.Books.{Book}
+use Rattle.chk_world.specs.JobSteps.{ReadsOrWrites}
+use Rattle.chk_book.specs.Books.{book_view}
+use Rattle.chk_book.specs.Folders.{segment_name}
+use Rattle.chk_parts.specs.Cuts.{cut_chunks}
+use Rattle.chk_parts.proofs.StepKinds.{as_kind}
+use Rattle.chk_archive.specs.Archived.{MergesBy}
+use Rattle.chk_archive.specs.Taking.{HasAside}
+use Rattle.chk_archive.proofs.Preparing.{aside_stays, aside_goes, aside_written, aside_fails, of_merge, empty}
+use Rattle.chk_archive.proofs.taking.keep_aside.Goals as goal
+
+pub returns-then-stays-clause-told : goal.returns-then-stays-clause-told
+returns-then-stays-clause-told g c stamped v cs records free whole =
+    let b = book_view c.args.book.now in
+    let kept = cut_chunks cs c.args.kept.now in
+    leads_none (g.S.Site.told c.args.site.now)
+    (λ h k. record {
+      legal = k.legal;
+      may_act = k.may_act;
+      alive = λ runs. subst (HasAside v b b kept false) (sym (k.alive runs))
+          (aside_stays v b c.args.heads.now c.args.old cs c.args.kept.now
+          (sym c.stays.ensures ∙ c.if-stays.true) whole);
+    })
+
+pub returns-then-is_empty-clause-told : goal.returns-then-is_empty-clause-told
+returns-then-is_empty-clause-told g c stamped v cs records free whole =
+    let b = book_view c.args.book.now in
+    let kept = cut_chunks cs c.args.kept.now in
+    let after : Book = record { next = b.next; segments = b.segments; ends = b.ends; aside = None } in
+    leads_none (g.S.Site.told c.args.site.now)
+    (λ h k. record {
+      legal = k.legal;
+      may_act = k.may_act;
+      alive = λ runs. subst (HasAside v b after kept true) (sym (k.alive runs))
+          (aside_goes v b kept (ap (cut_chunks cs) (empty c.args.kept.now c.if-is_empty.ensures)));
+    })
+
+pub returns-in_err-add_aside-clause-told : goal.returns-in_err-add_aside-clause-told
+returns-in_err-add_aside-clause-told g c stamped v cs records free whole =
+    let p = err_from_is_err_and c.from_residual.result c.from_residual.ensures.1 in
+    rw (p.1, p.2)
+    (leads_as (λ h k. k)
+    (λ h k. aside_fails stamped v (book_view c.args.book.now) (book_view c.add_aside.new.book)
+    (cut_chunks cs c.args.kept.now) c.in_err-add_aside.field-0.0 c.in_err-add_aside.ensures.spent h k)
+    (c.in_err-add_aside.ensures.told stamped v cs records free))
+
+pub returns-in_err-add_aside-clause-own : goal.returns-in_err-add_aside-clause-own
+returns-in_err-add_aside-clause-own g c =
+    let n = (book_view c.args.book.now).next in
+    as_kind (ReadsOrWrites (segment_name (codes "archive") n)) MergesBy (of_merge n) c.add_aside.ensures.own
+
+pub returns-clause-told : goal.returns-clause-told
+returns-clause-told g c stamped v cs records free whole =
+    leads_as (λ h k. k)
+    (λ h k. aside_written stamped v (book_view c.args.book.now) (book_view c.add_aside.new.book)
+    (cut_chunks cs c.args.kept.now) c.in_ok-add_aside.field-0 h k)
+    (c.in_ok-add_aside.ensures.told stamped v cs records free)
+
+pub returns-clause-own : goal.returns-clause-own
+returns-clause-own g c =
+    let n = (book_view c.args.book.now).next in
+    as_kind (ReadsOrWrites (segment_name (codes "archive") n)) MergesBy (of_merge n) c.add_aside.ensures.own

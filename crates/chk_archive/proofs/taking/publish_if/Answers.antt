@@ -1,0 +1,19 @@
+use Rattle.std.proofs.Common.{sym, subst}
+use Rattle.chk_site.proofs.Leads.{leads_none}
+use Rattle.chk_book.specs.Books.{book_view}
+use Rattle.chk_archive.specs.Publishing.{IsPublished}
+use Rattle.chk_archive.proofs.TakenIn.{unchanged_book}
+use Rattle.chk_archive.proofs.taking.publish_if.Goals as goal
+
+pub returns-then-changed-clause-told : goal.returns-then-changed-clause-told
+returns-then-changed-clause-told g c stamped v may = c.publish_next.ensures.told stamped v (may.0 c.if-changed.true)
+
+pub returns-clause-told : goal.returns-clause-told
+returns-clause-told g c stamped v may =
+    let b = book_view c.args.book.now in
+    leads_none (g.S.Site.told c.args.site.now)
+    (λ h k. record {
+      legal = k.legal;
+      may_act = k.may_act;
+      alive = λ runs. subst (IsPublished v b) (sym (k.alive runs)) (unchanged_book v b (may.1 c.if-changed.false));
+    })

@@ -1,0 +1,57 @@
+use Rattle.std.proofs.Common.{◌≡◌, ◌∙◌, sym, subst}
+use Rattle.std.proofs.lemmas.Result.{err_from_is_err_and}
+use Rattle.chk_site.proofs.Leads.{leads_none, leads_as}
+use Rattle.chk_world.specs.JobSteps.{IsOf, ReadsFile}
+use Rattle.chk_heads.specs.Pieces.{AsksInPieces}
+use Rattle.chk_heads.proofs.Gathering.{every_then}
+use Rattle.chk_book.specs.Books.{book_view}
+use Rattle.chk_parts.specs.Gathering.{AreSound, heads_of}
+use Rattle.chk_parts.proofs.StepKinds.{as_kind, fails_behind}
+use Rattle.chk_archive.specs.Archived.{MergesBy, merge_reads}
+use Rattle.chk_archive.specs.Listed.{sources_in}
+use Rattle.chk_archive.proofs.Listings.{sources_sound}
+use Rattle.chk_archive.proofs.TakenIn.{found_fails, found_taken}
+use Rattle.chk_archive.proofs.taking.take_in.Goals as goal
+
+pub returns-in_err-files-clause-told : goal.returns-in_err-files-clause-told
+returns-in_err-files-clause-told g c stamped v at =
+    let q = err_from_is_err_and c.from_residual.result c.from_residual.ensures.1 in
+    rw (q.1, q.2) (leads_none (g.S.Site.told c.args.site.now) (λ h k. k.legal))
+
+pub returns-in_err-heads-clause-told : goal.returns-in_err-heads-clause-told
+returns-in_err-heads-clause-told g c stamped v at =
+    let q = err_from_is_err_and c.from_residual-in_err-heads.result c.from_residual-in_err-heads.ensures.1 in
+    let b = book_view c.args.book.now in
+    let names = c.args.names.now in
+    let files : c.as_slice.result.now ≡ sources_in b names = c.as_slice.ensures.value ∙ c.in_ok-files.ensures in
+    let sound : AreSound v c.as_slice.result.now = subst (AreSound v) (sym files) (sources_sound stamped names b v at) in
+    rw (q.1, q.2)
+    (leads_as (λ h k. k)
+    (λ h k. found_fails stamped v b b c.as_slice.result.now c.in_err-heads.field-0.0 c.in_err-heads.ensures.only h k)
+    (c.in_err-heads.ensures.told stamped v sound))
+
+pub returns-in_err-heads-clause-own : goal.returns-in_err-heads-clause-own
+returns-in_err-heads-clause-own g c = as_kind ReadsFile MergesBy (λ call k. merge_reads call k) c.gather_found.ensures.own
+
+pub returns-clause-told : goal.returns-clause-told
+returns-clause-told g c stamped v at =
+    let b = book_view c.args.book.now in
+    let names = c.args.names.now in
+    let files : c.as_slice.result.now ≡ sources_in b names = c.as_slice.ensures.value ∙ c.in_ok-files.ensures in
+    let again : c.as_slice-2.result.now ≡ sources_in b names = c.as_slice-2.ensures.value ∙ c.in_ok-files.ensures in
+    let sound : AreSound v c.as_slice.result.now = subst (AreSound v) (sym files) (sources_sound stamped names b v at) in
+    found_taken stamped v b (book_view c.take_found.new.book) c.as_slice.result.now c.in_ok-heads.heads c.take_found.result
+    (c.in_ok-heads.ensures.told stamped v sound) c.take_found.ensures.own
+    (λ is. c.take_found.ensures.told stamped v names at again
+    (subst (λ f. c.in_ok-heads.heads ≡ heads_of v 0 f) (files ∙ sym again) is))
+
+pub returns-clause-own : goal.returns-clause-own
+returns-clause-own g c =
+    every_then (IsOf MergesBy) (as_kind ReadsFile MergesBy (λ call k. merge_reads call k) c.gather_found.ensures.own)
+    c.take_found.ensures.own
+
+pub returns-clause-pieces : goal.returns-clause-pieces
+returns-clause-pieces g c = every_then AsksInPieces c.gather_found.ensures.pieces c.take_found.ensures.pieces
+
+pub returns-clause-last : goal.returns-clause-last
+returns-clause-last g c = fails_behind c.take_found.result c.gather_found.ensures.pieces c.take_found.ensures.last

@@ -1,0 +1,36 @@
+use Rattle.std.proofs.Common.{ap, sym, subst}
+use Rattle.chk_site.proofs.Leads.{leads_none, leads_as}
+use Rattle.chk_world.specs.JobSteps.{ReadsOrWrites}
+use Rattle.std.specs.Prelude.{codes}
+use Rattle.chk_book.specs.Books.{book_view}
+use Rattle.chk_book.specs.Folders.{segment_name}
+use Rattle.chk_parts.specs.Cuts.{cut_chunks}
+use Rattle.chk_parts.proofs.StepKinds.{as_kind}
+use Rattle.chk_archive.specs.Archived.{MergesBy}
+use Rattle.chk_archive.specs.Taking.{HasParts}
+use Rattle.chk_archive.proofs.Preparing.{none_taken, parts_taken, of_merge, empty}
+use Rattle.chk_archive.proofs.taking.take_parts.Goals as goal
+
+pub returns-then-is_empty-clause-told : goal.returns-then-is_empty-clause-told
+returns-then-is_empty-clause-told g c stamped v cs records book free =
+    let b = book_view c.args.book.now in
+    let parts = cut_chunks cs c.args.cuts.now in
+    leads_none (g.S.Site.told c.args.site.now)
+    (λ h k. record {
+      legal = k.legal;
+      may_act = k.may_act;
+      alive = λ runs. subst (HasParts v b b parts) (sym (k.alive runs))
+          (none_taken v b parts (ap (cut_chunks cs) (empty c.args.cuts.now c.if-is_empty.ensures)));
+    })
+
+pub returns-clause-told : goal.returns-clause-told
+returns-clause-told g c stamped v cs records book free =
+    leads_as (λ h k. k)
+    (λ h k. parts_taken stamped v (book_view c.args.book.now) (book_view c.add_parts.new.book) book
+    (cut_chunks cs c.args.cuts.now) c.add_parts.result c.add_parts.ensures.spent h k)
+    (c.add_parts.ensures.told stamped v cs records free)
+
+pub returns-clause-own : goal.returns-clause-own
+returns-clause-own g c =
+    let n = (book_view c.args.book.now).next in
+    as_kind (ReadsOrWrites (segment_name (codes "archive") n)) MergesBy (of_merge n) c.add_parts.ensures.own

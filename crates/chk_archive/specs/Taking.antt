@@ -1,0 +1,144 @@
+-- What an archive run takes, once the sinks are listed.
+use Rattle.std.specs.Prelude.{◌≡◌, ℕ, ◌+◌, ◌-◌, ◌≤◌, ◌^◌, Bool, false, not, ◌&&◌, IsTrue, List, [], ◌∷◌, ◌++◌, length, flat_map, sum_by, Contains, Some, None, Result, Ok, Err}
+use Rattle.chk_bytes.specs.Stems.{Stem}
+use Rattle.chk_site.specs.History.{History}
+use Rattle.chk_chunk.specs.Keys.{Stream, Chunk}
+use Rattle.chk_world.specs.Names.{Name, ArchiveFolder, SegmentFile, read}
+use Rattle.chk_world.specs.Books.{Segment, Book, is_nothing}
+use Rattle.chk_world.specs.Streams.{start_of}
+use Rattle.chk_world.specs.Committed.{archived_end}
+use Rattle.chk_world.specs.ArchiveRuns.{Listing, in_order, found, total_gain}
+use Rattle.chk_world.specs.Rules.{Legal}
+use Rattle.chk_world.specs.Places.{AtTold}
+use Rattle.chk_world.specs.Sight.{job, Sight, own_book, own_archive, own_aside, AtJob}
+use Rattle.chk_heads.specs.Heads.{Head}
+use Rattle.chk_heads.specs.declared.fault.JobFault.{JobFault}
+use Rattle.chk_heads.specs.declared.fault.JobFault.TheVariants.{Damaged, Spent}
+use Rattle.chk_book.specs.Books.{end_in}
+use Rattle.chk_book.specs.Segmenting.{raised_all, with_segment}
+use Rattle.chk_plan.specs.Passes.{begins_at, AreSpans}
+use Rattle.chk_plan.specs.Laws.{span_gain}
+use Rattle.chk_plan.specs.Plan.{ends_of, set_aside}
+use Rattle.chk_plan.specs.declared.spans.Known.{Known}
+use Rattle.chk_parts.specs.Cuts.{span_cuts, AreWithin}
+use Rattle.chk_parts.specs.Kept.{AreSpansWithin, are_old_aside}
+use Rattle.chk_parts.specs.declared.cuts.Cut.{Cut}
+use Rattle.chk_archive.specs.Numbers.{Numbered}
+use Rattle.chk_parts.specs.Writes.{HoldsChunks}
+use Rattle.chk_archive.specs.declared.taking.Planned.{Planned}
+use Rattle.chk_archive.specs.declared.taking.Taken.{Taken}
+
+-- the spans of heads in order, over the ends of the book; how many bytes their passes take, and what of each record
+pub record IsPlanned (b : Book) (heads : List Head) (p : Planned) : Type 0 where
+  pub known : List Known
+  pub ends : (h : Head) → begins_at known h ≡ end_in h.key.start b.ends h.key.stream
+  pub spans : AreSpans known heads 0 p.spans.items (length heads)
+  pub taken : p.taken ≡ sum_by span_gain p.spans.items
+  pub cuts : p.cuts ≡ flat_map (span_cuts heads) p.spans.items
+  pub within : AreWithin (length heads) p.cuts
+  pub spans_within : AreSpansWithin (length heads) p.spans.items
+
+-- all that the job knows is the same, but for the archive's segments of this number and above
+pub record SameBelow (next : ℕ) (v u : Sight) : Type 0 where
+  pub listing : u.listing ≡ v.listing
+  pub own : (n : Name) → ((k : ℕ) → next ≤ k → n ≡ SegmentFile ArchiveFolder k → ⊥) → u.own n ≡ v.own n
+  pub sinks : (x : Stem) → u.sinks x ≡ v.sinks x
+
+-- where the kept records are all of the book's aside segment, they are these chunks
+abbrev pub IsWhole : Sight → Book → List Head → ℕ → List Cut → List Chunk → Type 0
+IsWhole v b heads old kept chunks =
+    (g : Segment) → b.aside ≡ Some g → IsTrue (are_old_aside heads old kept) → own_aside v ≡ chunks
+
+-- The archive has this book, which names no segment from its next number on; none of the files is such a segment.
+pub record CanPrepare (v : Sight) (b : Book) (files : List (List ℕ)) (heads : List Head) (old : ℕ) (kept : List Cut)
+    (chunks : List Chunk) : Type 0 where
+  pub book : own_book v ArchiveFolder ≡ b
+  pub numbers : Numbered b
+  pub files_old : (w : List ℕ) → Contains files w → (k : ℕ) → b.next ≤ k → read w ≡ SegmentFile ArchiveFolder k → ⊥
+  pub whole : IsWhole v b heads old kept chunks
+
+-- the segments with one of these parts behind them, where there are parts
+pub data PartsAdded (u : Sight) (old new : Book) (parts : List Chunk) : Type 0 where
+  nothing_taken : parts ≡ [] → new.segments ≡ old.segments → new.ends ≡ old.ends → PartsAdded u old new parts
+  one_added : (g : Segment) → old.next ≤ g.number → HoldsChunks u g parts → new.segments ≡ old.segments ++ g ∷ []
+      → new.ends ≡ raised_all parts old.ends → PartsAdded u old new parts
+
+-- the aside segment that holds these chunks, or none where there are none
+pub data AsideNamed (u : Sight) (old new : Book) (kept : List Chunk) : Type 0 where
+  none_kept : kept ≡ [] → new.aside ≡ None → AsideNamed u old new kept
+  old_kept : own_aside u ≡ kept → new.aside ≡ old.aside → AsideNamed u old new kept
+  new_kept : (g : Segment) → old.next ≤ g.number → HoldsChunks u g kept → new.aside ≡ Some g → AsideNamed u old new kept
+
+-- the book with one segment of the parts, where there are parts
+pub data HasParts (v : Sight) (old new : Book) (parts : List Chunk) (u : Sight) : Type 0 where
+  no_parts : parts ≡ [] → new ≡ old → SameBelow old.next v u → HasParts v old new parts u
+  with_parts : (g : Segment) → g.number ≡ old.next → HoldsChunks u g parts → new ≡ with_segment old g parts
+      → (old.next ≡ 2 ^ 63 - 1 → ⊥) → SameBelow old.next v u → HasParts v old new parts u
+
+-- the numbers are spent only where the archive's book has at most one left
+abbrev pub IsSpent : ℕ → Sight → Type 0
+IsSpent n u = (n ≡ 2 ^ 63 - 1) × (2 ^ 63 - 2 ≤ (own_book u ArchiveFolder).next)
+
+abbrev pub PartsTaken : List (List ℕ) → Sight → Book → Book → List Chunk → Result Unit JobFault → History → Type 0
+PartsTaken stamped v old new parts (Ok value) history = AtJob stamped (HasParts v old new parts) history
+PartsTaken stamped v old new parts (Err (Damaged name at)) history = AtTold stamped job (λ h. ⊥) history
+PartsTaken stamped v old new parts (Err (Spent n)) history = AtJob stamped (IsSpent n) history
+PartsTaken stamped v old new parts (Err fault) history = Legal stamped history
+
+-- the book names a segment of what is kept, or none where that is nothing
+pub record HasAside (v : Sight) (old new : Book) (kept : List Chunk) (changed : Bool) (u : Sight) : Type 0 where
+  pub same : SameBelow old.next v u
+  pub segments : new.segments ≡ old.segments
+  pub ends : new.ends ≡ old.ends
+  pub aside : AsideNamed u old new kept
+  pub unchanged : changed ≡ false → new ≡ old
+
+-- where the numbers are spent, the next one is the last, and the archive has the book that it had
+abbrev pub IsLast : Book → Sight → ℕ → Sight → Type 0
+IsLast b v n u = (n ≡ 2 ^ 63 - 1) × (b.next ≡ 2 ^ 63 - 1) × (own_book u ArchiveFolder ≡ own_book v ArchiveFolder)
+
+abbrev pub AsideKept : List (List ℕ) → Sight → Book → Book → List Chunk → Result Bool JobFault → History → Type 0
+AsideKept stamped v old new kept (Ok changed) history = AtJob stamped (HasAside v old new kept changed) history
+AsideKept stamped v old new kept (Err (Damaged name at)) history = AtTold stamped job (λ h. ⊥) history
+AsideKept stamped v old new kept (Err (Spent n)) history = AtJob stamped (IsLast old v n) history
+AsideKept stamped v old new kept (Err fault) history = Legal stamped history
+
+-- what is kept is what the aside segment has, or there is none of both
+abbrev pub stays_aside : Book → List Head → ℕ → List Cut → Bool
+stays_aside b heads old [] = is_nothing b.aside
+stays_aside b heads old (k ∷ ks) = not (is_nothing b.aside) && are_old_aside heads old (k ∷ ks)
+
+-- the next book stands ready: its new segments are there, synced; where it didn't change it is the old one
+pub record IsReady (v : Sight) (old new : Book) (parts kept : List Chunk) (changed : Bool) (u : Sight) : Type 0 where
+  pub same : SameBelow old.next v u
+  pub parts_are : PartsAdded u old new parts
+  pub aside : AsideNamed u old new kept
+  pub unchanged : changed ≡ false → new ≡ old
+
+-- none of the files is damaged; the numbers are spent only where fewer are left than the run needs
+abbrev pub Prepared : List (List ℕ) → Sight → Book → Book → List Chunk → List Chunk → Result Bool JobFault → History → Type 0
+Prepared stamped v old new parts kept (Ok changed) history = AtJob stamped (IsReady v old new parts kept changed) history
+Prepared stamped v old new parts kept (Err (Damaged name at)) history = AtTold stamped job (λ h. ⊥) history
+Prepared stamped v old new parts kept (Err (Spent n)) history = AtJob stamped (IsSpent n) history
+Prepared stamped v old new parts kept (Err fault) history = Legal stamped history
+
+-- all that was found is taken, as far as it goes on without a gap, and what lies past a gap is set aside; so says the archive's
+-- book, which is this one. It names at most one segment more than before.
+pub record TookAll (v : Sight) (new : Book) (t : Taken) (u : Sight) : Type 0 where
+  pub listing : u.listing ≡ v.listing
+  pub sinks : (x : Stem) → u.sinks x ≡ v.sinks x
+  pub book : own_book u ArchiveFolder ≡ new
+  pub few : length new.segments ≤ length (own_book v ArchiveFolder).segments + 1
+  pub l : Listing
+  pub last : u.listing ≡ Some l
+  pub reached : (s : Stream) → start_of l.upto s + length (own_archive u s)
+      ≡ ends_of (archived_end l.upto) (in_order (found l)) s
+  pub aside : own_aside u ≡ set_aside (ends_of (archived_end l.upto) (in_order (found l))) (in_order (found l))
+  pub taken : t.taken ≡ total_gain (archived_end l.upto) (in_order (found l))
+  pub held : t.held ≡ length (own_aside u)
+
+abbrev pub TookSo : List (List ℕ) → Sight → Book → Book → Result Taken JobFault → History → Type 0
+TookSo stamped v old new (Ok t) history = AtJob stamped (TookAll v new t) history
+TookSo stamped v old new (Err (Damaged name at)) history = AtTold stamped job (λ h. ⊥) history
+TookSo stamped v old new (Err (Spent n)) history = AtJob stamped (IsSpent n) history
+TookSo stamped v old new (Err fault) history = Legal stamped history

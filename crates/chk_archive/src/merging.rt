@@ -1,0 +1,51 @@
+//! Many segments of the archive are merged into one.
+
+ghost use Rattle.std.specs.Prelude.{◌≡◌, ℕ, List, length, ◌<◌};
+ghost use Rattle.chk_site.specs.History.{Every};
+ghost use Rattle.chk_site.specs.Site.{Adds};
+ghost use Rattle.chk_site.specs.Runs.{Leads};
+ghost use Rattle.chk_world.specs.Places.{As};
+ghost use Rattle.chk_world.specs.Sight.{job, AtJob};
+ghost use Rattle.chk_world.specs.JobSteps.{IsOf};
+ghost use Rattle.chk_heads.specs.Faults.{JobCause, FailsLast};
+ghost use Rattle.chk_heads.specs.Pieces.{AsksInPieces};
+ghost use Rattle.chk_book.specs.Books.{book_view};
+ghost use Rattle.chk_archive.specs.Tidying.{IsTidy};
+ghost use Rattle.chk_archive.specs.Archived.{MergesBy};
+ghost use Rattle.chk_archive.specs.Merged.{Merged};
+
+use crate::publishing::publish_next;
+use chk_book::Book;
+use chk_heads::JobFault;
+use chk_merge::merge;
+use chk_site::{Site, Who};
+use std::alloc::Global;
+
+/// From this many segments on they are merged.
+const MANY: usize = 16;
+
+/// Where the archive's book names 16 or more segments, merges them into one and publishes the book. The aside segment isn't counted,
+/// and stays. After a refusal nothing is said of `book`. It reads each record twice and writes it once.
+pub(crate) fn merge_many<S: Site>(
+    alloc: Global,
+    site: &mut S,
+    who: &Who,
+    book: &mut Book,
+) -> Result<(), JobFault>
+    requires { who.now ≡ job }
+    ensures told { (stamped : List (List ℕ)) → Adds (S.told site.old) (S.told site.new)
+        (Leads (As stamped job) (AtJob stamped (IsTidy (book_view book.old)))
+        (Merged stamped (book_view book.old) (book_view book.new) result)) }
+    ensures few { length (book_view book.old).segments < 16 → S.told site.new ≡ S.told site.old }
+    ensures own { Adds (S.told site.old) (S.told site.new) (Every (IsOf MergesBy)) }
+    ensures pieces { Adds (S.told site.old) (S.told site.new) (Every AsksInPieces) }
+    ensures last { Adds (S.told site.old) (S.told site.new) (FailsLast result) }
+    ensures cause { JobCause (S.fault_count site.old) (S.fault_count site.new) result }
+{
+    if book.segments.as_slice().len() < MANY {
+        return Ok(());
+    }
+    merge(book, alloc, site, who, "archive")?;
+    publish_next(alloc, site, who, book)?;
+    Ok(())
+}

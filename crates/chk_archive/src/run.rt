@@ -1,0 +1,59 @@
+//! The end of an archive run: what follows its listing of the sinks.
+
+ghost use Rattle.std.specs.Prelude.{◌≡◌, ◌≤◌, ℕ, List, length};
+ghost use Rattle.chk_site.specs.History.{Every};
+ghost use Rattle.chk_site.specs.Site.{Adds};
+ghost use Rattle.chk_site.specs.Runs.{Leads};
+ghost use Rattle.chk_world.specs.Books.{Book as Parts};
+ghost use Rattle.chk_world.specs.Places.{As};
+ghost use Rattle.chk_world.specs.Sight.{job, Sight, AtJob};
+ghost use Rattle.chk_world.specs.JobSteps.{IsOf};
+ghost use Rattle.chk_heads.specs.Faults.{JobCause, FailsLast};
+ghost use Rattle.chk_heads.specs.Pieces.{AsksInPieces};
+ghost use Rattle.chk_book.specs.Books.{book_view};
+ghost use Rattle.chk_archive.specs.Archived.{Archived, NoStray};
+ghost use Rattle.chk_archive.specs.Listed.{IsListed};
+ghost use Rattle.chk_archive.specs.Reporting.{report_result};
+ghost use Rattle.chk_archive.specs.Running.{FinishesBy};
+
+use crate::counting::count_names;
+use crate::report::Report;
+use crate::sinks::remove_sinks;
+use crate::taking::take_in;
+use chk_book::Book;
+use chk_bytes::Word;
+use chk_heads::JobFault;
+use chk_site::{Site, Who};
+use std::alloc::Global;
+
+/// Takes what is new, publishes the book that says so, and removes each done sink that the listing showed.
+pub(crate) fn finish<S: Site>(
+    alloc: Global,
+    site: &mut S,
+    who: &Who,
+    mut book: Book,
+    names: &[Word],
+) -> Result<Report, JobFault>
+    requires { who.now ≡ job }
+    ensures told { (stamped : List (List ℕ)) (loaded : Parts) (v : Sight)
+        (at : IsListed stamped names.now (book_view book) v) → NoStray loaded at.shows.listing.upto
+        → (16 ≤ length loaded.segments → length (book_view book).segments ≤ 1)
+        → Adds (S.told site.old) (S.told site.new)
+        (Leads (As stamped job) (AtJob stamped (λ u. u ≡ v)) (Archived stamped loaded (report_result result))) }
+    ensures own { Adds (S.told site.old) (S.told site.new) (Every (IsOf FinishesBy)) }
+    ensures pieces { Adds (S.told site.old) (S.told site.new) (Every AsksInPieces) }
+    ensures last { Adds (S.told site.old) (S.told site.new) (FailsLast result) }
+    ensures cause { JobCause (S.fault_count site.old) (S.fault_count site.new) result }
+{
+    let counted = count_names(names)?;
+    let took = take_in(alloc, site, who, &mut book, names)?;
+    remove_sinks(alloc, site, who, names)?;
+    Ok(Report {
+        unclosed: counted.unclosed,
+        first_unclosed: counted.first_unclosed,
+        taken: took.taken,
+        held: took.held,
+        removed: counted.closed,
+        ends: book.ends,
+    })
+}

@@ -1,0 +1,267 @@
+//! What an archive run takes and sets aside, once the sinks are listed.
+
+ghost use Rattle.std.specs.Prelude.{◌≡◌, ◌==◌, ◌||◌, not, [], ℕ, List, length, IfOk};
+ghost use Rattle.chk_site.specs.History.{Every};
+ghost use Rattle.chk_site.specs.Site.{Adds, LastFailed, OutsideCause};
+ghost use Rattle.chk_site.specs.Runs.{Leads};
+ghost use Rattle.chk_chunk.specs.Keys.{Chunk};
+ghost use Rattle.chk_world.specs.Places.{As};
+ghost use Rattle.chk_world.specs.Sight.{job, Sight, own_book, AtJob};
+ghost use Rattle.chk_world.specs.JobSteps.{IsOf};
+ghost use Rattle.chk_world.specs.Names.{ArchiveFolder};
+ghost use Rattle.chk_heads.specs.Faults.{JobCause, FailsLast};
+ghost use Rattle.chk_heads.specs.Pieces.{AsksInPieces};
+ghost use Rattle.chk_book.specs.Books.{book_view};
+ghost use Rattle.chk_parts.specs.Cuts.{AreWithin, cut_chunks};
+ghost use Rattle.chk_parts.specs.Records.{AreRecords};
+ghost use Rattle.chk_archive.specs.Archived.{MergesBy, ReplacesBook};
+ghost use Rattle.chk_archive.specs.Listed.{IsListed, sources_in};
+ghost use Rattle.chk_archive.specs.Publishing.{MayFollowIf, Published};
+ghost use Rattle.chk_parts.specs.Gathering.{heads_of};
+ghost use Rattle.chk_archive.specs.Numbers.{Numbered};
+ghost use Rattle.chk_parts.specs.Writes.{IsFree};
+ghost use Rattle.chk_archive.specs.Taking.{IsPlanned, CanPrepare, IsWhole, Prepared, PartsTaken, AsideKept, stays_aside, TookSo};
+
+use crate::counting::count_of;
+use crate::publishing::publish_next;
+use crate::sources::sources;
+use chk_book::Book;
+use chk_bytes::{NoMemory, Word};
+use chk_heads::{Heads, JobFault};
+use chk_parts::{
+    Cut, Cuts, add_aside, add_parts, count_first, cuts_of, gather_found, is_old_aside, kept_of,
+    known_ends,
+};
+use chk_plan::{Span, plan, taken};
+use chk_site::{OutsideFault, Site, Who};
+use std::alloc::Global;
+
+/// What is taken of heads that stand in order.
+#[derive(Debug, Drop)]
+pub(crate) struct Planned {
+    pub spans: Vec<Span>,
+    /// How many bytes.
+    pub taken: u64,
+    pub cuts: Cuts,
+}
+
+/// How many bytes were taken, and how many chunks are set aside.
+#[derive(Clone, Copy, Debug, PartialEq, Eq)]
+pub(crate) struct Taken {
+    pub taken: u64,
+    pub held: u32,
+}
+
+/// Reads what stands in the aside segment and in the listed done sinks, takes what goes on from the archive's ends, sets aside what
+/// lies past a gap, and publishes the book that says so, where anything changed. Each file is read once for its heads, and once more
+/// for what is written. After a refusal nothing is said of `book`.
+pub(crate) fn take_in<S: Site>(
+    alloc: Global,
+    site: &mut S,
+    who: &Who,
+    book: &mut Book,
+    names: &[Word],
+) -> Result<Taken, JobFault>
+    requires { who.now ≡ job }
+    ensures told { (stamped : List (List ℕ)) (v : Sight) → IsListed stamped names.now (book_view book.old) v
+        → Adds (S.told site.old) (S.told site.new)
+        (Leads (As stamped job) (AtJob stamped (λ u. u ≡ v)) (TookSo stamped v (book_view book.old) (book_view book.new) result)) }
+    ensures own { Adds (S.told site.old) (S.told site.new) (Every (IsOf MergesBy)) }
+    ensures pieces { Adds (S.told site.old) (S.told site.new) (Every AsksInPieces) }
+    ensures last { Adds (S.told site.old) (S.told site.new) (FailsLast result) }
+    ensures cause { JobCause (S.fault_count site.old) (S.fault_count site.new) result }
+{
+    let files = sources(alloc, book, names)?;
+    let heads = gather_found(alloc, site, who, files.as_slice())?;
+    take_found(alloc, site, who, book, files.as_slice(), heads)
+}
+
+/// Takes what goes on, of the heads of all records in `files`, and publishes the book that says so.
+fn take_found<S: Site>(
+    alloc: Global,
+    site: &mut S,
+    who: &Who,
+    book: &mut Book,
+    files: &[Word],
+    heads: Heads,
+) -> Result<Taken, JobFault>
+    requires { who.now ≡ job }
+    ensures told { (stamped : List (List ℕ)) (v : Sight) (names : List (List ℕ)) → IsListed stamped names (book_view book.old) v
+        → (files.now ≡ sources_in (book_view book.old) names) → (heads ≡ heads_of v 0 files.now)
+        → Adds (S.told site.old) (S.told site.new)
+        (Leads (As stamped job) (AtJob stamped (λ u. u ≡ v)) (TookSo stamped v (book_view book.old) (book_view book.new) result)) }
+    ensures own { Adds (S.told site.old) (S.told site.new) (Every (IsOf MergesBy)) }
+    ensures pieces { Adds (S.told site.old) (S.told site.new) (Every AsksInPieces) }
+    ensures last { Adds (S.told site.old) (S.told site.new) (FailsLast result) }
+    ensures cause { JobCause (S.fault_count site.old) (S.fault_count site.new) result }
+{
+    let mut heads = heads;
+    let old = count_first(&heads);
+    heads.sort(alloc)?;
+    let planned = plan_of(alloc, &heads, book)?;
+    let kept = kept_of(alloc, &heads, planned.spans.as_slice())?;
+    let held = count_of(kept.as_slice().len())?;
+    let changed = prepare(
+        alloc,
+        site,
+        who,
+        book,
+        files,
+        &heads,
+        old,
+        planned.cuts.as_slice(),
+        kept.as_slice(),
+    )?;
+    publish_if(alloc, site, who, book, changed)?;
+    Ok(Taken {
+        taken: planned.taken,
+        held,
+    })
+}
+
+/// Publishes the archive's next book where it has changed.
+fn publish_if<S: Site>(
+    alloc: Global,
+    site: &mut S,
+    who: &Who,
+    book: &Book,
+    changed: bool,
+) -> Result<(), OutsideFault>
+    requires { who.now ≡ job }
+    ensures told { (stamped : List (List ℕ)) (v : Sight) → MayFollowIf stamped v (book_view book.now) changed
+        → Adds (S.told site.old) (S.told site.new)
+        (Leads (As stamped job) (AtJob stamped (λ u. u ≡ v)) (Published stamped v (book_view book.now) result)) }
+    ensures own { Adds (S.told site.old) (S.told site.new) (Every (IsOf ReplacesBook)) }
+    ensures last { Adds (S.told site.old) (S.told site.new) (LastFailed result) }
+    ensures cause { OutsideCause (S.fault_count site.old) (S.fault_count site.new) result }
+{
+    if changed {
+        return publish_next(alloc, site, who, book);
+    }
+    Ok(())
+}
+
+/// The plan over heads that stand in order. More bytes than 64 bits hold count as want of memory.
+fn plan_of(alloc: Global, heads: &Heads, book: &Book) -> Result<Planned, NoMemory>
+    ensures { IfOk result (λ planned. IsPlanned (book_view book.now) heads.now planned) }
+{
+    let known = known_ends(alloc, book)?;
+    let spans = plan(alloc, heads, known.as_slice())?;
+    let taken = taken(spans.as_slice()).ok_or(NoMemory)?;
+    let cuts = cuts_of(alloc, heads, spans.as_slice())?;
+    Ok(Planned { spans, taken, cuts })
+}
+
+/// Writes a segment of what is taken, where anything is, and one of what is set aside, where that isn't what the aside segment
+/// has. `old` is how many records that has. It says whether the book has changed.
+fn prepare<S: Site>(
+    alloc: Global,
+    site: &mut S,
+    who: &Who,
+    book: &mut Book,
+    files: &[Word],
+    heads: &Heads,
+    old: usize,
+    cuts: &[Cut],
+    kept: &[Cut],
+) -> Result<bool, JobFault>
+    requires job { who.now ≡ job }
+    requires cuts { AreWithin (length heads.now) cuts.now }
+    requires kept { AreWithin (length heads.now) kept.now }
+    ensures told { (stamped : List (List ℕ)) (v : Sight) (cs : List Chunk) → AreRecords v files.now heads.now cs
+        → CanPrepare v (book_view book.old) files.now heads.now old kept.now (cut_chunks cs kept.now)
+        → Adds (S.told site.old) (S.told site.new)
+        (Leads (As stamped job) (AtJob stamped (λ u. u ≡ v)) (Prepared stamped v (book_view book.old) (book_view book.new)
+        (cut_chunks cs cuts.now) (cut_chunks cs kept.now) result)) }
+    ensures own { Adds (S.told site.old) (S.told site.new) (Every (IsOf MergesBy)) }
+    ensures pieces { Adds (S.told site.old) (S.told site.new) (Every AsksInPieces) }
+    ensures last { Adds (S.told site.old) (S.told site.new) (FailsLast result) }
+    ensures cause { JobCause (S.fault_count site.old) (S.fault_count site.new) result }
+{
+    take_parts(alloc, site, who, book, files, heads, cuts)?;
+    let changed = keep_aside(alloc, site, who, book, files, heads, old, kept)?;
+    Ok(is_changed(cuts, changed))
+}
+
+/// Something was taken, or what is set aside has changed.
+fn is_changed(cuts: &[Cut], aside: bool) -> bool
+    ensures { result ≡ (not (length cuts.now == 0) || aside) }
+{
+    !cuts.is_empty() || aside
+}
+
+/// Writes a segment of what is taken, and the book has it; where that is nothing, nothing is written.
+fn take_parts<S: Site>(
+    alloc: Global,
+    site: &mut S,
+    who: &Who,
+    book: &mut Book,
+    files: &[Word],
+    heads: &Heads,
+    cuts: &[Cut],
+) -> Result<(), JobFault>
+    requires job { who.now ≡ job }
+    requires cuts { AreWithin (length heads.now) cuts.now }
+    ensures told { (stamped : List (List ℕ)) (v : Sight) (cs : List Chunk) → AreRecords v files.now heads.now cs
+        → (own_book v ArchiveFolder ≡ book_view book.old) → IsFree v files.now (book_view book.old).next
+        → Adds (S.told site.old) (S.told site.new)
+        (Leads (As stamped job) (AtJob stamped (λ u. u ≡ v)) (PartsTaken stamped v (book_view book.old) (book_view book.new)
+        (cut_chunks cs cuts.now) result)) }
+    ensures none { cuts.now ≡ [] → book_view book.new ≡ book_view book.old }
+    ensures own { Adds (S.told site.old) (S.told site.new) (Every (IsOf MergesBy)) }
+    ensures pieces { Adds (S.told site.old) (S.told site.new) (Every AsksInPieces) }
+    ensures last { Adds (S.told site.old) (S.told site.new) (FailsLast result) }
+    ensures cause { JobCause (S.fault_count site.old) (S.fault_count site.new) result }
+{
+    if cuts.is_empty() {
+        return Ok(());
+    }
+    add_parts(alloc, site, who, book, files, heads, cuts)
+}
+
+/// Writes the segment of what is set aside, where that isn't what the aside segment has, and the book names it; where it is nothing,
+/// the book names none. It says whether the book has changed.
+fn keep_aside<S: Site>(
+    alloc: Global,
+    site: &mut S,
+    who: &Who,
+    book: &mut Book,
+    files: &[Word],
+    heads: &Heads,
+    old: usize,
+    kept: &[Cut],
+) -> Result<bool, JobFault>
+    requires job { who.now ≡ job }
+    requires kept { AreWithin (length heads.now) kept.now }
+    ensures told { (stamped : List (List ℕ)) (v : Sight) (cs : List Chunk) → AreRecords v files.now heads.now cs
+        → IsFree v files.now (book_view book.old).next
+        → IsWhole v (book_view book.old) heads.now old kept.now (cut_chunks cs kept.now)
+        → Adds (S.told site.old) (S.told site.new)
+        (Leads (As stamped job) (AtJob stamped (λ u. u ≡ v)) (AsideKept stamped v (book_view book.old) (book_view book.new)
+        (cut_chunks cs kept.now) result)) }
+    ensures own { Adds (S.told site.old) (S.told site.new) (Every (IsOf MergesBy)) }
+    ensures pieces { Adds (S.told site.old) (S.told site.new) (Every AsksInPieces) }
+    ensures last { Adds (S.told site.old) (S.told site.new) (FailsLast result) }
+    ensures cause { JobCause (S.fault_count site.old) (S.fault_count site.new) result }
+{
+    if stays(book, heads, old, kept) {
+        return Ok(false);
+    }
+    if kept.is_empty() {
+        book.aside = None;
+        return Ok(true);
+    }
+    add_aside(alloc, site, who, book, files, heads, kept)?;
+    Ok(true)
+}
+
+/// What is kept is what the aside segment has, or there is none of both.
+fn stays(book: &Book, heads: &Heads, old: usize, kept: &[Cut]) -> bool
+    requires { AreWithin (length heads.now) kept.now }
+    ensures { result ≡ stays_aside (book_view book.now) heads.now old kept.now }
+{
+    if kept.is_empty() {
+        return book.aside.is_none();
+    }
+    book.aside.is_some() && is_old_aside(heads, old, kept)
+}

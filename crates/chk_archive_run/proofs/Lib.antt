@@ -1,0 +1,6 @@
+pub mod Lines
+pub mod RunStays
+pub mod TrueLines
+pub mod CallKinds
+pub mod Told
+pub mod InOrder

@@ -1,0 +1,56 @@
+use Rattle.std.proofs.Common.{◌∙◌, ℕ, List, refl}
+use Rattle.std.proofs.lemmas.Result.{err_from_is_err_and}
+use Rattle.chk_site.specs.History.{Every}
+use Rattle.chk_site.proofs.Runs.{adds_none}
+use Rattle.chk_site.proofs.Leads.{leads_then}
+use Rattle.chk_world.specs.JobSteps.{IsOf, ReadsFile}
+use Rattle.chk_heads.specs.Pieces.{AsksInPieces}
+use Rattle.chk_heads.proofs.Gathering.{every_then}
+use Rattle.chk_merge.specs.Streams.{stream_of}
+use Rattle.chk_merge.proofs.AllGathered.{fails_later}
+use Rattle.chk_merge.proofs.Joining.{none_joined, not_joined}
+use Rattle.chk_merge.proofs.archives.joined.Goals as goal
+
+pub loop-index-init : goal.loop-index-init
+loop-index-init g c = record {
+  so = λ most held few settled.
+      none_joined (stream_of c.args.stream.now) most c.args.names.now held c.args.heads.now c.new-reader.result
+      c.new-bytes.result (g.S.Site.told c.args.site.now) c.new-reader.ensures c.new-bytes.ensures;
+  own = λ is. adds_none (g.S.Site.told c.args.site.now) (Every (IsOf ReadsFile)) (λ history. tt);
+  pieces = adds_none (g.S.Site.told c.args.site.now) (Every AsksInPieces) (λ history. tt);
+  count = refl;
+}
+
+pub returns-in_err-join_one-clause-raw : goal.returns-in_err-join_one-clause-raw
+returns-in_err-join_one-clause-raw g c most held few settled =
+    let l = c.loop-index in
+    let p = err_from_is_err_and c.from_residual.result c.from_residual.ensures.1 in
+    rw (p.1, p.2)
+    (not_joined (stream_of c.args.stream.now) most c.args.names.now held c.args.heads.now l.reader
+    c.join_one.new.reader l.bytes c.join_one.new.bytes l.index
+    c.in_err-join_one.field-0.0 (l.invariant.so most held few settled)
+    (c.in_err-join_one.ensures.raw most held few settled))
+
+pub returns-in_err-join_one-clause-own : goal.returns-in_err-join_one-clause-own
+returns-in_err-join_one-clause-own g c = λ is. every_then (IsOf ReadsFile)
+    (c.loop-index.invariant.own is) (c.in_err-join_one.ensures.own is)
+
+pub returns-in_err-join_one-clause-pieces : goal.returns-in_err-join_one-clause-pieces
+returns-in_err-join_one-clause-pieces g c = every_then AsksInPieces c.loop-index.invariant.pieces
+    c.in_err-join_one.ensures.pieces
+
+pub returns-in_err-join_one-clause-last : goal.returns-in_err-join_one-clause-last
+returns-in_err-join_one-clause-last g c =
+    let p = err_from_is_err_and c.from_residual.result c.from_residual.ensures.1 in
+    rw (p.1, p.2) (fails_later (List ℕ) (Unit {0}) c.in_err-join_one.field-0.0
+    c.loop-index.invariant.pieces c.in_err-join_one.ensures.last)
+
+pub loop-index-preserved : goal.loop-index-preserved
+loop-index-preserved g c = record {
+  so = λ most held few settled. leads_then (c.loop-index.invariant.so most held few settled)
+      (c.in_ok-join_one.ensures.raw most held few settled);
+  own = λ is. every_then (IsOf ReadsFile) (c.loop-index.invariant.own is)
+      (c.in_ok-join_one.ensures.own is);
+  pieces = every_then AsksInPieces c.loop-index.invariant.pieces c.in_ok-join_one.ensures.pieces;
+  count = c.in_ok-join_one.ensures.cause ∙ c.loop-index.invariant.count;
+}

@@ -1,0 +1,24 @@
+//! Reads back the records whose heads are known; joins a stream's records, and merges a folder's
+//! segments.
+#![tactic(auto)]
+
+mod archives;
+mod checking;
+mod courses;
+mod faults;
+mod gathering;
+mod laws;
+mod merging;
+mod names;
+mod one_pass;
+mod parts;
+mod places;
+mod reader;
+mod reading;
+mod spans;
+
+pub use archives::archive_of;
+pub use chk_heads::JobFault;
+pub use laws::heads_stand_for_chunks;
+pub use merging::merge;
+pub use reader::RecordReader;

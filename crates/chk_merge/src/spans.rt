@@ -1,0 +1,88 @@
+//! Where records stand, and how far a read goes.
+
+ghost use Rattle.std.specs.Prelude.{◌≡◌, ◌≤◌, ◌<◌, min, length, slice_index_or, IfSome, IfNone};
+ghost use Rattle.chk_heads.specs.Order.{lent_head, no_head};
+ghost use Rattle.chk_merge.specs.Spans.{IsValueSpan, NoValueSpan, room_of};
+
+use chk_bytes::take_u32;
+use chk_heads::{HeadRef, Heads, PIECE};
+
+/// A run of bytes.
+#[derive(Clone, Copy, Debug, PartialEq, Eq)]
+pub(crate) struct Span {
+    pub start: usize,
+    pub size: usize,
+}
+
+/// Where the value of the record that begins at a place stands, if all of the record is there and
+/// the value has so many bytes.
+pub(crate) fn value_span(bytes: &[u8], at: usize, size: u64) -> Option<Span>
+    ensures some { IfSome result (λ span. IsValueSpan bytes.now at size span.start span.size) }
+    ensures none { IfNone result (NoValueSpan bytes.now at size) }
+{
+    let whole = take_u32(bytes, at)?;
+    let key = take_u32(bytes, at + 4)?;
+    let there = u64::from(whole).checked_sub(u64::from(key) + 4)?;
+    let start = at + 12 + key as usize;
+    if there == size && start + there as usize <= bytes.len() {
+        return Some(Span {
+            start,
+            size: there as usize,
+        });
+    }
+    None
+}
+
+/// The most bytes that the record of a head has, whatever way its key is spelled: at most
+/// 1,065,001.
+pub(crate) fn room(head: &HeadRef<'_>) -> u64
+    ensures is { result ≡ room_of (lent_head head.now) }
+    ensures few { result ≤ 1065001 }
+{
+    let key = &head.key;
+    let words = counted(key.source) + counted(key.kind) + counted(key.name) + counted(key.cluster);
+    41 + words + key.seq.saturating_sub(head.begin).min(PIECE)
+}
+
+/// How many bytes a word of a key has.
+fn counted(word: &str) -> u64
+    ensures { result ≡ min (length word.now) 4096 }
+{
+    word.len().min(4096) as u64
+}
+
+/// How many bytes from a head's record on are read at once: the record, and those of the next
+/// heads that follow it in its file, up to 1,048,576 bytes, as long as at least half of what is
+/// read was asked for. It costs the heads that it reaches.
+pub(crate) fn reach(heads: &Heads, index: usize) -> u64
+    requires { index < length heads.now }
+    ensures enough { room_of (slice_index_or heads.now index no_head) ≤ result }
+    ensures few { result ≤ 1065001 }
+{
+    let first = heads.get(index);
+    let count = heads.len();
+    let mut size = room(&first);
+    let mut wanted = size;
+    for next in index + 1..count {
+        let head = heads.get(next);
+        let end = end_past(&first, &head);
+        wanted = wanted.saturating_add(room(&head));
+        if end <= size || end > PIECE || end / 2 > wanted {
+            break;
+        }
+        size = end;
+    }
+    size
+}
+
+/// How far a head's record may reach behind the place of the first one's, in the same file; 0
+/// where it doesn't stand there.
+fn end_past(first: &HeadRef<'_>, head: &HeadRef<'_>) -> u64 {
+    if head.file != first.file {
+        return 0;
+    }
+    match head.at.checked_sub(first.at) {
+        Some(past) => past.saturating_add(room(head)),
+        None => 0,
+    }
+}

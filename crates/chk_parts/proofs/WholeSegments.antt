@@ -1,0 +1,101 @@
+-- A segment is begun, written and finished.
+use Rattle.std.proofs.Common.{◌≡◌, ℕ, List, [], Option, Some, Ok, Err, Result, ap, sym, subst, ◌∙◌, refl, true, arith}
+use Rattle.std.specs.Prelude.{codes, IfErr, OnOk}
+use Rattle.std.proofs.lemmas.Bool.{and_from}
+use Rattle.chk_site.specs.History.{History, Every}
+use Rattle.chk_site.specs.Site.{Adds}
+use Rattle.chk_site.specs.Runs.{Leads, anyhow}
+use Rattle.chk_site.proofs.Leads.{leads_as, leads_then}
+use Rattle.chk_chunk.specs.Keys.{Chunk}
+use Rattle.chk_world.specs.Books.{Book, Segment}
+use Rattle.chk_world.specs.Places.{As}
+use Rattle.chk_world.specs.Sight.{job, Sight, AtJob}
+use Rattle.chk_world.specs.JobSteps.{IsOf, WritesTo, SparesFile}
+use Rattle.chk_heads.specs.Faults.{IsOfRead, IsOfWrite}
+use Rattle.chk_heads.specs.declared.fault.JobFault.{JobFault}
+use Rattle.chk_heads.specs.declared.fault.JobFault.TheVariants.{Outside, Damaged, Spent, NoMemory}
+use Rattle.chk_bytes.proofs.WordLemmas.{plain_word}
+use Rattle.chk_book.specs.Folders.{is_folder, segment_name}
+use Rattle.chk_book.specs.Segmenting.{Writing, HoldsSegment, begun, segment_of, with_segment, with_aside}
+use Rattle.chk_book.specs.Written.{IsAt, HasEnded, HasEndedAside}
+use Rattle.chk_book.specs.declared.segmenter.Segmenter.{Segmenter}
+use Rattle.chk_parts.specs.Writes.{IsFree, IsForArchive, IsSoFar, PutSo, Written}
+use Rattle.chk_parts.proofs.OneFile.{Knows}
+use Rattle.chk_parts.proofs.OneSegment.{Fin, finish_so}
+
+-- the archive's folder can be named
+pub archive_folder : is_folder (codes "archive") ≡ true
+archive_folder = and_from _ _ (plain_word (codes "archive") refl (omega arith) (omega arith)) refl
+
+pub begun_for : (s : Segmenter) (n : ℕ) → IsAt s (begun (codes "archive") n) → IsForArchive s
+begun_for s n at = record { w = begun (codes "archive") n; at = at; folder = refl }
+
+-- what was begun couldn't be written
+pub write_fails : (stamped : List (List ℕ)) (v : Sight) (enter : Book → Segment → Book) (b after : Book)
+    (s t : Segmenter) (chunks : List Chunk) (result : Result (Unit {0}) JobFault) (fault : JobFault)
+    → result ≡ Err fault → IsOfRead fault → {old mid new : Option History}
+    → Adds old mid (Leads (As stamped job) (Knows stamped v) (AtJob stamped (IsSoFar v [] s)))
+    → Adds mid new (Leads (As stamped job) (AtJob stamped (IsSoFar v [] s)) (PutSo stamped v chunks t result))
+    → Adds old new (Leads (As stamped job) (Knows stamped v) (Written stamped enter v b after chunks (Err fault)))
+write_fails stamped v enter b after s t chunks result fault e only first told =
+    leads_then first
+    (leads_as (λ h k. k) (λ h k. go fault only h (subst (λ r. PutSo stamped v chunks t r h) e k)) told)
+  where
+    go : (fault : JobFault) → IsOfRead fault → (h : History) → PutSo stamped v chunks t (Err fault) h
+        → Written stamped enter v b after chunks (Err fault) h
+    go (Outside call) only h k = k
+    go (Damaged name at) only h k = k
+    go (Spent n) only h k = absurd only
+    go NoMemory only h k = k
+
+-- it was written
+pub all_written : (stamped : List (List ℕ)) (v : Sight) (s t : Segmenter) (chunks : List Chunk)
+    (result : Result (Unit {0}) JobFault) (value : Unit {0}) → result ≡ Ok value → {old mid new : Option History}
+    → Adds old mid (Leads (As stamped job) (Knows stamped v) (AtJob stamped (IsSoFar v [] s)))
+    → Adds mid new (Leads (As stamped job) (AtJob stamped (IsSoFar v [] s)) (PutSo stamped v chunks t result))
+    → Adds old new (Leads (As stamped job) (Knows stamped v) (AtJob stamped (IsSoFar v chunks t)))
+all_written stamped v s t chunks result value e first told =
+    leads_then first
+    (leads_as (λ h k. k) (λ h k. subst (λ r. PutSo stamped v chunks t r h) e k) told)
+
+module _ (stamped : List (List ℕ)) (v : Sight) (files : List (List ℕ)) (s : Segmenter) (b after : Book)
+    (of : s.number ≡ b.next) (free : IsFree v files b.next) (chunks : List Chunk)
+    (r : Result (Unit {0}) JobFault) (only : IfErr r IsOfWrite) {old mid new : Option History}
+    (so_far : Adds old mid (Leads (As stamped job) (Knows stamped v) (AtJob stamped (IsSoFar v chunks s))))
+    (own : Adds mid new (Every (IsOf (WritesTo (segment_name (codes "archive") s.number))))) where
+  owns : Adds mid new (Every (IsOf (WritesTo (segment_name (codes "archive") b.next))))
+  owns = subst (λ n. Adds mid new (Every (IsOf (WritesTo (segment_name (codes "archive") n))))) of own
+
+  -- it is entered
+  pub entered : ((w : Writing) → IsAt s w → Adds mid new
+      (Leads (anyhow (SparesFile (segment_name w.folder w.number))) (HoldsSegment w) (HasEnded w b after r)))
+      → Adds old new (Leads (As stamped job) (Knows stamped v)
+      (Written stamped (λ b g. with_segment b g chunks) v b after chunks r))
+  entered raw =
+      leads_then so_far
+      (finish_so stamped v files s b after of free chunks (λ b g. with_segment b g chunks)
+      (λ w. after ≡ with_segment b (segment_of w) w.chunks)
+      (λ w are is. is ∙ ap (with_segment b (segment_of w)) are) r
+      (λ w at. leads_as (λ h k. k) (λ h k. go r w h k) (raw w at)) owns only)
+    where
+      go : (r : Result (Unit {0}) JobFault) (w : Writing) (h : History) → HasEnded w b after r h
+          → Fin (λ w. after ≡ with_segment b (segment_of w) w.chunks) w r h
+      go (Ok value) w h k = k
+      go (Err fault) w h k = tt
+
+  -- it is the aside segment
+  pub set_by : ((w : Writing) → IsAt s w → Adds mid new
+      (Leads (anyhow (SparesFile (segment_name w.folder w.number))) (HoldsSegment w) (HasEndedAside w b after r)))
+      → Adds old new (Leads (As stamped job) (Knows stamped v)
+      (Written stamped (λ b g. with_aside b (Some g)) v b after chunks r))
+  set_by raw =
+      leads_then so_far
+      (finish_so stamped v files s b after of free chunks (λ b g. with_aside b (Some g))
+      (λ w. after ≡ with_aside b (Some (segment_of w)))
+      (λ w are is. is) r
+      (λ w at. leads_as (λ h k. k) (λ h k. go r w h k) (raw w at)) owns only)
+    where
+      go : (r : Result (Unit {0}) JobFault) (w : Writing) (h : History) → HasEndedAside w b after r h
+          → Fin (λ w. after ≡ with_aside b (Some (segment_of w))) w r h
+      go (Ok value) w h k = k
+      go (Err fault) w h k = tt

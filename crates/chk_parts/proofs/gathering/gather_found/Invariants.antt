@@ -1,0 +1,24 @@
+use Rattle.std.proofs.Common.{◌≡◌, ℕ, List, take}
+use Rattle.chk_site.specs.History.{Every}
+use Rattle.chk_site.specs.Site.{Adds}
+use Rattle.chk_site.specs.Runs.{Leads}
+use Rattle.chk_world.specs.Places.{As}
+use Rattle.chk_world.specs.Sight.{job, Sight}
+use Rattle.chk_world.specs.JobSteps.{IsOf, ReadsFile}
+use Rattle.chk_heads.specs.Pieces.{AsksInPieces}
+use Rattle.chk_parts.specs.Gathering.{AreSound}
+use Rattle.chk_parts.proofs.OneFile.{Knows}
+use Rattle.chk_parts.proofs.AllFiles.{HasHeads}
+use Rattle.chk_parts.proofs.gathering.gather_found.Given as goal
+
+abbrev pub invariant-loop-name : goal.invariant-loop-name
+invariant-loop-name g l = record {
+  so_far : (stamped : List (List ℕ)) (v : Sight) → AreSound v l.names
+      → Adds (g.S.Site.told l.fn.site) (g.S.Site.told l.site)
+      (Leads (As stamped job) (Knows stamped v)
+      (HasHeads stamped v (take l.name-index l.names) l.heads));
+  own : Adds (g.S.Site.told l.fn.site) (g.S.Site.told l.site) (Every (IsOf ReadsFile));
+  pieces : Adds (g.S.Site.told l.fn.site) (g.S.Site.told l.site) (Every AsksInPieces);
+  number : l.file ≡ l.name-index;
+  count : g.S.Site.fault_count l.site ≡ g.S.Site.fault_count l.fn.site;
+}

@@ -1,0 +1,92 @@
+//! What is written of each record.
+
+ghost use Rattle.std.specs.Prelude.{◌≡◌, ◌≤◌, ◌++◌, ◌∷◌, [], All, IfOk, OnOk, OnErr, flat_map, length};
+ghost use Rattle.chk_parts.specs.Cuts.{span_cuts};
+
+use chk_bytes::NoMemory;
+use chk_heads::Heads;
+use chk_plan::Span;
+use std::alloc::Global;
+use std::marker::Model;
+
+/// What is written of one record: all of its chunk but the first bytes.
+#[derive(Clone, Copy, Debug, PartialEq, Eq)]
+pub struct Cut {
+    /// The place of its head.
+    pub index: usize,
+    /// How many bytes of its data are left out.
+    pub skip: u64,
+}
+
+/// Cuts, in the order in which they are written. One has 16 bytes.
+#[derive(Debug, Drop)]
+pub struct Cuts {
+    items: Vec<Cut>,
+}
+
+impl Model for Cuts {
+    ghost use Rattle.std.specs.Prelude.{List};
+    ghost use Rattle.chk_parts.specs.declared.cuts.Cut.{Cut};
+
+    ghost Value = { List Cut };
+
+    ghost view = { λ c. c.items.items };
+}
+
+impl Cuts {
+    /// No cuts. It takes no memory before the first one comes.
+    pub fn new(alloc: Global) -> Cuts
+        ensures { result ≡ [] }
+    {
+        Cuts {
+            items: Vec::new(alloc),
+        }
+    }
+
+    /// Puts a cut behind the others, or without memory nothing.
+    pub(crate) fn push(&mut self, cut: Cut) -> Result<(), NoMemory>
+        ensures ok { OnOk result (self.new ≡ self.old ++ cut ∷ []) }
+        ensures err { OnErr result (self.new ≡ self.old) }
+    {
+        self.items.push(cut)?;
+        Ok(())
+    }
+
+    /// The cuts, without a copy.
+    pub fn as_slice(&self) -> &[Cut]
+        ensures { result.now ≡ self.now }
+    {
+        &self.items
+    }
+}
+
+/// What the passes over these spans take, in order. It costs the heads, and holds 16 bytes for each record that is taken.
+pub fn cuts_of(alloc: Global, heads: &Heads, spans: &[Span]) -> Result<Cuts, NoMemory>
+    requires { All (λ s. s.end ≤ length heads.now) spans.now }
+    ensures { IfOk result (λ cuts. cuts ≡ flat_map (span_cuts heads.now) spans.now) }
+{
+    let mut cuts = Cuts::new(alloc);
+    for span in spans {
+        push_cuts(&mut cuts, heads, span)?;
+    }
+    Ok(cuts)
+}
+
+/// Puts what the pass over one span takes behind the others.
+fn push_cuts(cuts: &mut Cuts, heads: &Heads, span: &Span) -> Result<(), NoMemory>
+    requires { span.now.end ≤ length heads.now }
+    ensures { OnOk result (cuts.new ≡ cuts.old ++ span_cuts heads.now span.now) }
+{
+    let mut reached = span.from;
+    for index in span.first..span.end {
+        let head = heads.get(index);
+        if head.begin <= reached && reached < head.key.seq {
+            cuts.push(Cut {
+                index,
+                skip: reached - head.begin,
+            })?;
+            reached = head.key.seq;
+        }
+    }
+    Ok(())
+}

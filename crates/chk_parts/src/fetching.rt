@@ -1,0 +1,49 @@
+//! Fetches records by the files that their heads name.
+
+ghost use Rattle.std.specs.Prelude.{◌≡◌, ◌<◌, length, slice_index_or, IfErr};
+ghost use Rattle.chk_site.specs.History.{Every};
+ghost use Rattle.chk_site.specs.Site.{Adds};
+ghost use Rattle.chk_site.specs.Runs.{anyhow, Leads};
+ghost use Rattle.chk_chunk.specs.Keys.{Chunk};
+ghost use Rattle.chk_world.specs.Sight.{job, Sight};
+ghost use Rattle.chk_world.specs.JobSteps.{IsOf, ReadsFile, SparesFile};
+ghost use Rattle.chk_heads.specs.Faults.{JobCause, FailsLast, IsOfRead};
+ghost use Rattle.chk_heads.specs.Order.{no_head};
+ghost use Rattle.chk_heads.specs.Pieces.{AsksInPieces};
+ghost use Rattle.chk_parts.specs.Gathering.{AreSound};
+ghost use Rattle.chk_parts.specs.Fetching.{head_file, CanFetch, Fetched, IsRecordAt};
+
+use chk_bytes::Word;
+use chk_heads::{Heads, JobFault};
+use chk_merge::RecordReader;
+use chk_site::{Site, Who};
+use std::alloc::Global;
+
+/// Makes the record of the head at `index` the one whose value the reader holds. A head of none of the files counts as want
+/// of memory.
+pub(crate) fn fetch<S: Site>(
+    alloc: Global,
+    site: &mut S,
+    who: &Who,
+    reader: &mut RecordReader,
+    files: &[Word],
+    heads: &Heads,
+    index: usize,
+) -> Result<(), JobFault>
+    requires job { who.now ≡ job }
+    requires index { index < length heads.now }
+    ensures raw { (v : Sight) (c : Chunk) → AreSound v files.now → IsRecordAt v files.now heads.now index c
+        → Adds (S.told site.old) (S.told site.new)
+        (Leads (anyhow (SparesFile (head_file files.now heads.now index))) (CanFetch v files.now heads.now index reader.old)
+        (Fetched v files.now heads.now index c reader.new result)) }
+    ensures own { Adds (S.told site.old) (S.told site.new) (Every (IsOf ReadsFile)) }
+    ensures pieces { Adds (S.told site.old) (S.told site.new) (Every AsksInPieces) }
+    ensures only { IfErr result IsOfRead }
+    ensures last { Adds (S.told site.old) (S.told site.new) (FailsLast result) }
+    ensures cause { JobCause (S.fault_count site.old) (S.fault_count site.new) result }
+{
+    match files.get(heads.get(index).file as usize) {
+        Some(name) => reader.fetch(alloc, site, who, name.as_str(), heads, index),
+        None => Err(JobFault::NoMemory),
+    }
+}

@@ -1,0 +1,55 @@
+//! The heads of the records in the files that an archive run reads.
+
+ghost use Rattle.std.specs.Prelude.{◌≡◌, ◌+◌, ℕ, List, IfOk, IfErr};
+ghost use Rattle.chk_heads.specs.declared.fault.JobFault.TheVariants.{NoMemory};
+ghost use Rattle.chk_site.specs.History.{Every};
+ghost use Rattle.chk_site.specs.Site.{Adds};
+ghost use Rattle.chk_site.specs.Runs.{Leads};
+ghost use Rattle.chk_world.specs.Places.{As};
+ghost use Rattle.chk_world.specs.Sight.{job, Sight, AtJob};
+ghost use Rattle.chk_world.specs.JobSteps.{IsOf, ReadsFile};
+ghost use Rattle.chk_heads.specs.Faults.{JobCause, FailsLast, IsOfRead};
+ghost use Rattle.chk_heads.specs.Pieces.{AsksInPieces};
+ghost use Rattle.chk_parts.specs.Gathering.{AreSound, Found};
+
+use chk_bytes::Word;
+use chk_heads::{Heads, JobFault};
+use chk_site::{Site, Who};
+use std::alloc::Global;
+
+/// The most bytes of a chunk's data.
+const MOST: u32 = 131_072;
+
+/// The heads of these files' records, file after file, each with the place of its file's name. A file is read once, in pieces of
+/// at most 1,048,576 bytes.
+pub fn gather_found<S: Site>(
+    alloc: Global,
+    site: &mut S,
+    who: &Who,
+    names: &[Word],
+) -> Result<Heads, JobFault>
+    requires { who.now ≡ job }
+    ensures told { (stamped : List (List ℕ)) (v : Sight) → AreSound v names.now → Adds (S.told site.old) (S.told site.new)
+        (Leads (As stamped job) (AtJob stamped (λ u. u ≡ v)) (Found stamped v names.now result)) }
+    ensures own { Adds (S.told site.old) (S.told site.new) (Every (IsOf ReadsFile)) }
+    ensures pieces { Adds (S.told site.old) (S.told site.new) (Every AsksInPieces) }
+    ensures only { IfErr result IsOfRead }
+    ensures last { Adds (S.told site.old) (S.told site.new) (FailsLast result) }
+    ensures cause { JobCause (S.fault_count site.old) (S.fault_count site.new) result }
+{
+    let mut heads = Heads::new(alloc);
+    let mut file = 0;
+    for name in names {
+        heads.gather(alloc, site, who, name.as_str(), file, MOST)?;
+        file = next(file)?;
+    }
+    Ok(heads)
+}
+
+/// The number behind this one.
+fn next(file: u32) -> Result<u32, JobFault>
+    ensures ok { IfOk result (λ n. n ≡ file + 1) }
+    ensures err { IfErr result (λ fault. fault ≡ NoMemory) }
+{
+    file.checked_add(1).ok_or(JobFault::NoMemory)
+}

@@ -1,0 +1,27 @@
+//! Where the archives of a book's streams end.
+
+ghost use Rattle.std.specs.Prelude.{◌≡◌, IfOk};
+ghost use Rattle.chk_heads.specs.Heads.{Head};
+ghost use Rattle.chk_plan.specs.Passes.{begins_at};
+ghost use Rattle.chk_book.specs.Books.{book_view, end_in};
+
+use chk_book::Book;
+use chk_bytes::NoMemory;
+use chk_plan::Known;
+use std::alloc::Global;
+
+/// The ends of a book's streams, in its order. It costs the number of streams.
+pub fn known_ends(alloc: Global, book: &Book) -> Result<Vec<Known<'_>>, NoMemory>
+    ensures { IfOk result (λ known. (h : Head) → begins_at known.items h ≡ end_in h.key.start (book_view book.now).ends h.key.stream) }
+{
+    let mut known = Vec::new(alloc);
+    for end in book.ends.as_slice() {
+        known.push(Known {
+            source: end.source.as_str(),
+            kind: end.kind.as_str(),
+            name: end.name.as_str(),
+            end: end.end,
+        })?;
+    }
+    Ok(known)
+}

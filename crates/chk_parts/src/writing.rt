@@ -1,0 +1,236 @@
+//! Writes a segment of the archive of records that are read back.
+
+ghost use Rattle.std.specs.Prelude.{◌≡◌, ◌<◌, ◌++◌, ◌∷◌, [], ◌-◌, ℕ, List, Some, codes, length, drop, map, IsTrue, IfSome, IfErr, OnOk, OnErr};
+ghost use Rattle.chk_site.specs.History.{Every};
+ghost use Rattle.chk_site.specs.Site.{Adds};
+ghost use Rattle.chk_site.specs.Runs.{Leads};
+ghost use Rattle.chk_chunk.specs.Keys.{Chunk};
+ghost use Rattle.chk_world.specs.Places.{As};
+ghost use Rattle.chk_world.specs.Sight.{job, Sight, AtJob};
+ghost use Rattle.chk_world.specs.JobSteps.{IsOf, ReadsOrWrites};
+ghost use Rattle.chk_heads.specs.Faults.{JobCause, FailsLast, IsOfRead, IsOfWrite};
+ghost use Rattle.chk_heads.specs.Pieces.{AsksInPieces};
+ghost use Rattle.chk_book.specs.Folders.{segment_name};
+ghost use Rattle.chk_book.specs.Books.{book_view};
+ghost use Rattle.chk_book.specs.Causes.{SpentBook};
+ghost use Rattle.chk_book.specs.Segmenting.{with_segment, with_aside};
+ghost use Rattle.chk_parts.specs.Cuts.{AreWithin, cut_chunks};
+ghost use Rattle.chk_parts.specs.Records.{AreRecords};
+ghost use Rattle.chk_chunk.specs.Lent.{lent_key, lent_chunk};
+ghost use Rattle.chk_chunk.specs.Keys.{is_key, has_value, has_words, chunk_limit};
+ghost use Rattle.chk_world.specs.JobSteps.{WritesTo};
+ghost use Rattle.chk_heads.specs.Order.{lent_head, no_head};
+ghost use Rattle.chk_merge.specs.ReadBack.{HoldsNothing};
+ghost use Rattle.chk_parts.specs.Fetching.{AreWindows, IsRecordAt};
+ghost use Rattle.chk_parts.specs.Gathering.{AreSound};
+ghost use Rattle.chk_parts.specs.Cuts.{cut_chunk, cut_of};
+ghost use Rattle.chk_parts.specs.Writes.{IsFree, Written, IsForArchive, IsSoFar, PutSo, CutSo};
+
+use crate::cuts::Cut;
+use crate::fetching::fetch;
+use chk_book::{Book, Segmenter};
+use chk_bytes::Word;
+use chk_chunk::ChunkRef;
+use chk_heads::{HeadRef, Heads, JobFault};
+use chk_merge::RecordReader;
+use chk_site::{Site, Who};
+use std::alloc::Global;
+
+/// Writes the archive's next segment of these cuts of records that stand in `files`, and enters it into the book, which isn't
+/// published. Each record is read once more. After a refusal the book is as before. `Damaged` comes where a file isn't what it was.
+pub fn add_parts<S: Site>(
+    alloc: Global,
+    site: &mut S,
+    who: &Who,
+    book: &mut Book,
+    files: &[Word],
+    heads: &Heads,
+    cuts: &[Cut],
+) -> Result<(), JobFault>
+    requires job { who.now ≡ job }
+    requires cuts { AreWithin (length heads.now) cuts.now }
+    ensures told { (stamped : List (List ℕ)) (v : Sight) (cs : List Chunk) → AreRecords v files.now heads.now cs
+        → IsFree v files.now (book_view book.old).next → Adds (S.told site.old) (S.told site.new)
+        (Leads (As stamped job) (AtJob stamped (λ u. u ≡ v)) (Written stamped (λ b g. with_segment b g (cut_chunks cs cuts.now)) v
+        (book_view book.old) (book_view book.new) (cut_chunks cs cuts.now) result)) }
+    ensures own { Adds (S.told site.old) (S.told site.new)
+        (Every (IsOf (ReadsOrWrites (segment_name (codes "archive") (book_view book.old).next)))) }
+    ensures same { OnErr result (book_view book.new ≡ book_view book.old) }
+    ensures spent { SpentBook (book_view book.old) result }
+    ensures pieces { Adds (S.told site.old) (S.told site.new) (Every AsksInPieces) }
+    ensures last { Adds (S.told site.old) (S.told site.new) (FailsLast result) }
+    ensures cause { JobCause (S.fault_count site.old) (S.fault_count site.new) result }
+{
+    let mut segmenter = book.begin_segment(alloc, site, who, "archive")?;
+    write_cuts(alloc, site, who, &mut segmenter, files, heads, cuts)?;
+    segmenter.finish(alloc, site, book)
+}
+
+/// Writes the archive's next segment of these cuts, as `add_parts` does, and makes it the book's aside segment.
+pub fn add_aside<S: Site>(
+    alloc: Global,
+    site: &mut S,
+    who: &Who,
+    book: &mut Book,
+    files: &[Word],
+    heads: &Heads,
+    cuts: &[Cut],
+) -> Result<(), JobFault>
+    requires job { who.now ≡ job }
+    requires cuts { AreWithin (length heads.now) cuts.now }
+    ensures told { (stamped : List (List ℕ)) (v : Sight) (cs : List Chunk) → AreRecords v files.now heads.now cs
+        → IsFree v files.now (book_view book.old).next → Adds (S.told site.old) (S.told site.new)
+        (Leads (As stamped job) (AtJob stamped (λ u. u ≡ v)) (Written stamped (λ b g. with_aside b (Some g)) v
+        (book_view book.old) (book_view book.new) (cut_chunks cs cuts.now) result)) }
+    ensures own { Adds (S.told site.old) (S.told site.new)
+        (Every (IsOf (ReadsOrWrites (segment_name (codes "archive") (book_view book.old).next)))) }
+    ensures same { OnErr result (book_view book.new ≡ book_view book.old) }
+    ensures spent { SpentBook (book_view book.old) result }
+    ensures pieces { Adds (S.told site.old) (S.told site.new) (Every AsksInPieces) }
+    ensures last { Adds (S.told site.old) (S.told site.new) (FailsLast result) }
+    ensures cause { JobCause (S.fault_count site.old) (S.fault_count site.new) result }
+{
+    let mut segmenter = book.begin_segment(alloc, site, who, "archive")?;
+    write_cuts(alloc, site, who, &mut segmenter, files, heads, cuts)?;
+    segmenter.finish_aside(alloc, site, book)
+}
+
+/// Writes these cuts behind what the segment has.
+fn write_cuts<S: Site>(
+    alloc: Global,
+    site: &mut S,
+    who: &Who,
+    segmenter: &mut Segmenter,
+    files: &[Word],
+    heads: &Heads,
+    cuts: &[Cut],
+) -> Result<(), JobFault>
+    requires job { who.now ≡ job }
+    requires writer { segmenter.old.who ≡ job }
+    requires segment { IsForArchive segmenter.old }
+    requires cuts { AreWithin (length heads.now) cuts.now }
+    ensures told { (stamped : List (List ℕ)) (v : Sight) (cs : List Chunk) → AreRecords v files.now heads.now cs
+        → IsFree v files.now segmenter.old.number → Adds (S.told site.old) (S.told site.new)
+        (Leads (As stamped job) (AtJob stamped (IsSoFar v [] segmenter.old))
+        (PutSo stamped v (cut_chunks cs cuts.now) segmenter.new result)) }
+    ensures segment { OnOk result (IsForArchive segmenter.new) }
+    ensures who { segmenter.new.who ≡ segmenter.old.who }
+    ensures number { OnOk result (segmenter.new.number ≡ segmenter.old.number) }
+    ensures own { Adds (S.told site.old) (S.told site.new)
+        (Every (IsOf (ReadsOrWrites (segment_name (codes "archive") segmenter.old.number)))) }
+    ensures only { IfErr result IsOfRead }
+    ensures pieces { Adds (S.told site.old) (S.told site.new) (Every AsksInPieces) }
+    ensures last { Adds (S.told site.old) (S.told site.new) (FailsLast result) }
+    ensures cause { JobCause (S.fault_count site.old) (S.fault_count site.new) result }
+{
+    let mut reader = RecordReader::new(alloc);
+    for cut in cuts {
+        write_cut(alloc, site, who, segmenter, &mut reader, files, heads, cut)?;
+    }
+    Ok(())
+}
+
+/// Writes one cut behind what the segment has.
+fn write_cut<S: Site>(
+    alloc: Global,
+    site: &mut S,
+    who: &Who,
+    segmenter: &mut Segmenter,
+    reader: &mut RecordReader,
+    files: &[Word],
+    heads: &Heads,
+    cut: &Cut,
+) -> Result<(), JobFault>
+    requires job { who.now ≡ job }
+    requires writer { segmenter.old.who ≡ job }
+    requires segment { IsForArchive segmenter.old }
+    requires index { cut.now.index < length heads.now }
+    ensures told { (stamped : List (List ℕ)) (v : Sight) (c : Chunk) (chunks : List Chunk) → AreSound v files.now
+        → IsRecordAt v files.now heads.now cut.now.index c
+        → IsFree v files.now segmenter.old.number → Adds (S.told site.old) (S.told site.new)
+        (Leads (As stamped job) (AtJob stamped (λ u. IsSoFar v chunks segmenter.old u × AreWindows v files.now reader.old))
+        (CutSo stamped v files.now (chunks ++ cut_of cut.now.skip c ∷ []) segmenter.new reader.new result)) }
+    ensures segment { OnOk result (IsForArchive segmenter.new) }
+    ensures who { segmenter.new.who ≡ segmenter.old.who }
+    ensures number { OnOk result (segmenter.new.number ≡ segmenter.old.number) }
+    ensures own { Adds (S.told site.old) (S.told site.new)
+        (Every (IsOf (ReadsOrWrites (segment_name (codes "archive") segmenter.old.number)))) }
+    ensures only { IfErr result IsOfRead }
+    ensures pieces { Adds (S.told site.old) (S.told site.new) (Every AsksInPieces) }
+    ensures last { Adds (S.told site.old) (S.told site.new) (FailsLast result) }
+    ensures cause { JobCause (S.fault_count site.old) (S.fault_count site.new) result }
+{
+    fetch(alloc, site, who, reader, files, heads, cut.index)?;
+    put_cut(
+        alloc,
+        site,
+        segmenter,
+        &heads.get(cut.index),
+        reader.value(),
+        cut.skip,
+    )
+}
+
+/// Writes the chunk of a head and its value, but for the first bytes, behind what the segment has. What can't be a chunk counts as
+/// want of memory.
+fn put_cut<S: Site>(
+    alloc: Global,
+    site: &mut S,
+    segmenter: &mut Segmenter,
+    head: &HeadRef<'_>,
+    value: &[u8],
+    skip: u64,
+) -> Result<(), JobFault>
+    requires job { segmenter.old.who ≡ job }
+    requires segment { IsForArchive segmenter.old }
+    requires words { IsTrue (has_words (lent_key head.now.key)) }
+    ensures told { (stamped : List (List ℕ)) (v : Sight) (files : List (List ℕ)) (chunks : List Chunk) → IsFree v files segmenter.old.number
+        → Adds (S.told site.old) (S.told site.new)
+        (Leads (As stamped job) (AtJob stamped (IsSoFar v chunks segmenter.old))
+        (PutSo stamped v (chunks ++ cut_of skip (record { key = lent_key head.now.key; value = value.now }) ∷ [])
+        segmenter.new result)) }
+    ensures segment { OnOk result (IsForArchive segmenter.new) }
+    ensures who { segmenter.new.who ≡ segmenter.old.who }
+    ensures number { OnOk result (segmenter.new.number ≡ segmenter.old.number) }
+    ensures own { Adds (S.told site.old) (S.told site.new)
+        (Every (IsOf (WritesTo (segment_name (codes "archive") segmenter.old.number)))) }
+    ensures only { IfErr result IsOfWrite }
+    ensures last { Adds (S.told site.old) (S.told site.new) (FailsLast result) }
+    ensures cause { JobCause (S.fault_count site.old) (S.fault_count site.new) result }
+{
+    let Some(chunk) = chunk_of(head, value, skip) else {
+        return Err(JobFault::NoMemory);
+    };
+    segmenter.part(alloc, site, &chunk)
+}
+
+/// The chunk of a head and its value, but for the first bytes, where it is one.
+fn chunk_of<'a>(head: &HeadRef<'a>, value: &'a [u8], skip: u64) -> Option<ChunkRef<'a>>
+    requires { IsTrue (has_words (lent_key head.now.key)) }
+    ensures is { IfSome result (λ c. lent_chunk c ≡ cut_of skip (record { key = lent_key head.now.key; value = value.now })) }
+    ensures key { IfSome result (λ c. IsTrue (is_key (lent_chunk c).key)) }
+    ensures value { IfSome result (λ c. IsTrue (has_value chunk_limit (lent_chunk c).key (lent_chunk c).value)) }
+{
+    let key = head.key;
+    if skip >= value.len() as u64
+        || key.start >= 1 << 62
+        || key.seq <= key.start
+        || key.seq >= 1 << 63
+    {
+        return None;
+    }
+    let body = &value[skip as usize..];
+    let size = body.len() as u64;
+    if size > 131_072 || key.start + size > key.seq {
+        return None;
+    }
+    Some(ChunkRef {
+        source: key.source,
+        kind: key.kind,
+        name: key.name,
+        start: key.start,
+        cluster: key.cluster,
+        seq: key.seq,
+        body,
+    })
+}

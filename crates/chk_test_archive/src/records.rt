@@ -1,0 +1,157 @@
+//! The bytes of sinks, segments and books, as `tools/archive_records.py` makes them.
+
+// The header of a sink or segment, up to its marker.
+pub(crate) const HEADER: &[u8] =
+    b"SEQ\x06\"org.apache.hadoop.io.BytesWritable\"org.apache.hadoop.io.BytesWritable\0\0\0\0\0\0";
+
+// Markers, by the stem of the sink or segment.
+const C1_1_1: &[u8] = b"\n\xf0\x97%\xe9P\xf7\x0fB\xf51\xed\xf65\xb2@";
+
+const C1_1_2: &[u8] = b"\x85\x0b\xd4\xe4\xda\x1b^-\xd8I\xc8\x06\x1c\x8a\xc4\x13";
+
+const C1_2_1: &[u8] = b"\x10/`\x0dxf\xb1\xc0XZ\xf40\xcf\xe4\xb2\xe0";
+
+const C2_1_1: &[u8] = b"\xad\xec:\x8f \xf6\x11\x89\xe7\xee\xa1\xef\xd9\xb1\x18\x0f";
+
+const C3_1_1: &[u8] = b"\x80\xa8\xf7\x1e\x9bP;{\x1c+\xcd\x95(\x82it";
+
+const SEG_1: &[u8] = b"\xe2\x1a\x9d\xaa\xd9xFH\xc0n\xfdgV1\xa9\x1a";
+
+const SEG_2: &[u8] = b"x\x90\x19\xc6\xc6\xcc\xcd\x9b\x16\xf0\x11\xd8\xa65\xeet";
+
+// Records of chunks.
+const HELLO: &[u8] =
+    b"\0\0\0(\0\0\0\x1e\0\0\0\x1a\x01\0\0\0\0\0\0\0\x06\0\x02h1\0\x03Log\0\x06/a.log\0\0\0\x06hello\n";
+
+const O_WORL: &[u8] =
+    b"\0\0\0(\0\0\0\x1e\0\0\0\x1a\x01\0\0\0\0\0\0\0\n\0\x02h1\0\x03Log\0\x06/a.log\0\0\0\x06o\nworl";
+
+const WORL: &[u8] =
+    b"\0\0\0&\0\0\0\x1e\0\0\0\x1a\x01\0\0\0\0\0\0\0\n\0\x02h1\0\x03Log\0\x06/a.log\0\0\0\x04worl";
+
+const WORLD: &[u8] =
+    b"\0\0\0(\0\0\0\x1e\0\0\0\x1a\x01\0\0\0\0\0\0\0\x0c\0\x02h1\0\x03Log\0\x06/a.log\0\0\0\x06world\n";
+
+const WORLD_OF_WEST: &[u8] =
+    b"\0\0\06\0\0\0,\0\0\0(\x02\0\0\0\0\0\0\0\x0c\0\0\0\0\0\0\0\0\0\x02h1\0\x03Log\0\x06/a.log\0\x04west\0\0\0\x06world\n";
+
+const HELLO_WORLD: &[u8] =
+    b"\0\0\0.\0\0\0\x1e\0\0\0\x1a\x01\0\0\0\0\0\0\0\x0c\0\x02h1\0\x03Log\0\x06/a.log\0\0\0\x0chello\nworld\n";
+
+const PAST: &[u8] =
+    b"\0\0\0&\0\0\0\x1e\0\0\0\x1a\x01\0\0\0\0\0\0\0\x16\0\x02h1\0\x03Log\0\x06/a.log\0\0\0\x04past";
+
+const EAST: &[u8] =
+    b"\0\0\04\0\0\0,\0\0\0(\x02\0\0\0\0\0\0\0h\0\0\0\0\0\0\0d\0\x02h2\0\x03Log\0\x06/a.log\0\x04east\0\0\0\x04abcd";
+
+const WEST: &[u8] =
+    b"\0\0\02\0\0\0,\0\0\0(\x02\0\0\0\0\0\0\0j\0\0\0\0\0\0\0d\0\x02h2\0\x03Log\0\x06/a.log\0\x04west\0\0\0\x02ef";
+
+const APP: &[u8] =
+    b"\0\0\0%\0\0\0\x1e\0\0\0\x1a\x01\0\0\0\0\0\0\0\x03\0\x02h1\0\x03App\0\x06/b.log\0\0\0\x03xyz";
+
+const EARLY: &[u8] =
+    b"\0\0\0$\0\0\0\x1e\0\0\0\x1a\x01\0\0\0\0\0\0\0\x02\0\x02a0\0\x03Log\0\x06/z.log\0\0\0\x02zz";
+
+const DAY_H1: &[u8] =
+    b"\0\0\x01\0\0\0\0:\0\0\06\x01\0\0\0\0\0\0\0\xc2\0\x02h1\0\tHadoopLog\0\x1c/var/log/hadoop/namenode.log\0\0\0\xc22010-11-08 09:00:00,001 INFO namenode: started\n2010-11-08 09:00:01,250 ERROR namenode: failed\njava.io.IOException: no space\n\tat a.b.C.d(C.java:10)\n2010-11-08 09:00:02,000 INFO namenode: stopped\n";
+
+const DAY_H2: &[u8] =
+    b"\0\0\x01\0\0\0\0:\0\0\06\x01\0\0\0\0\0\0\0\xc2\0\x02h2\0\tHadoopLog\0\x1c/var/log/hadoop/namenode.log\0\0\0\xc22010-11-08 09:00:00,001 INFO namenode: started\n2010-11-08 09:00:01,250 ERROR namenode: failed\njava.io.IOException: no space\n\tat a.b.C.d(C.java:10)\n2010-11-08 09:00:02,000 INFO namenode: stopped\n";
+
+const DAY_H3: &[u8] =
+    b"\0\0\x01\0\0\0\0:\0\0\06\x01\0\0\0\0\0\0\0\xc2\0\x02h3\0\tHadoopLog\0\x1c/var/log/hadoop/namenode.log\0\0\0\xc22010-11-08 09:00:00,001 INFO namenode: started\n2010-11-08 09:00:01,250 ERROR namenode: failed\njava.io.IOException: no space\n\tat a.b.C.d(C.java:10)\n2010-11-08 09:00:02,000 INFO namenode: stopped\n";
+
+// The record of two bytes of /a.log of h1, up to the last byte of the offset that it ends at, and
+// from there on.
+const LINE: &[u8] = b"\0\0\0\x24\0\0\0\x1e\0\0\0\x1a\x01\0\0\0\0\0\0\0";
+
+const REST: &[u8] = b"\0\x02h1\0\x03Log\0\x06/a.log\0\0\0\x02a\n";
+
+// Other files: how often a collector was born, and one byte.
+const BORN: &[u8] = b"\0\0\0\0\0\0\0\x01";
+
+const BYTE: &[u8] = b"x";
+
+// Books of the archive.
+const BOOK_SIX: &[u8] =
+    b"CHKB\x01\0\0\0\0\0\0\0\x02\0\0\0\x01\0\0\0\0\0\0\0\x01\0\0\0\0\0\0\0\x90\0\0\0\x01\0\0\0\0\0\0\0\x06\0\x02h1\0\x03Log\0\x06/a.log";
+
+const BOOK_TEN: &[u8] =
+    b"CHKB\x01\0\0\0\0\0\0\0\x02\0\0\0\x01\0\0\0\0\0\0\0\x01\0\0\0\0\0\0\0\xbe\0\0\0\x01\0\0\0\0\0\0\0\n\0\x02h1\0\x03Log\0\x06/a.log";
+
+const BOOK_ASIDE: &[u8] =
+    b"CHKB\x03\0\0\0\0\0\0\0\x02\0\0\0\0\0\0\0\0\0\0\0\0\0\0\0\x01\0\0\0\0\0\0\0\x90";
+
+const BOOK_TWO_ASIDE: &[u8] =
+    b"CHKB\x03\0\0\0\0\0\0\0\x02\0\0\0\0\0\0\0\0\0\0\0\0\0\0\0\x01\0\0\0\0\0\0\0\xbe";
+
+const BOOK_NEXT_ASIDE: &[u8] =
+    b"CHKB\x03\0\0\0\0\0\0\0\x03\0\0\0\0\0\0\0\0\0\0\0\0\0\0\0\x02\0\0\0\0\0\0\0\xbe";
+
+const BOOK_CLOSED: &[u8] =
+    b"CHKB\x01\0\0\0\0\0\0\0\x03\0\0\0\x01\0\0\0\0\0\0\0\x02\0\0\0\0\0\0\0\xc0\0\0\0\x01\0\0\0\0\0\0\0\x0c\0\x02h1\0\x03Log\0\x06/a.log";
+
+const BOOK_TWELVE: &[u8] =
+    b"CHKB\x01\0\0\0\0\0\0\0\x03\0\0\0\x02\0\0\0\0\0\0\0\x01\0\0\0\0\0\0\0\x90\0\0\0\0\0\0\0\x02\0\0\0\0\0\0\0\x90\0\0\0\x01\0\0\0\0\0\0\0\x0c\0\x02h1\0\x03Log\0\x06/a.log";
+
+const BOOK_STREAMS: &[u8] =
+    b"CHKB\x02\0\0\0\0\0\0\0\x02\0\0\0\x01\0\0\0\0\0\0\0\x01\0\0\0\0\0\0\x01_\0\0\0\x04\0\0\0\0\0\0\0\0\0\0\0\0\0\0\0\x02\0\x02a0\0\x03Log\0\x06/z.log\0\0\0\0\0\0\0\0\0\0\0\0\0\0\0\x03\0\x02h1\0\x03App\0\x06/b.log\0\0\0\0\0\0\0\0\0\0\0\0\0\0\0\x06\0\x02h1\0\x03Log\0\x06/a.log\0\0\0\0\0\0\0d\0\0\0\0\0\0\0j\0\x02h2\0\x03Log\0\x06/a.log";
+
+const BOOK_DAY: &[u8] =
+    b"CHKB\x01\0\0\0\0\0\0\0\x02\0\0\0\x01\0\0\0\0\0\0\0\x01\0\0\0\0\0\0\x03x\0\0\0\x03\0\0\0\0\0\0\0\xc2\0\x02h1\0\tHadoopLog\0\x1c/var/log/hadoop/namenode.log\0\0\0\0\0\0\0\xc2\0\x02h2\0\tHadoopLog\0\x1c/var/log/hadoop/namenode.log\0\0\0\0\0\0\0\xc2\0\x02h3\0\tHadoopLog\0\x1c/var/log/hadoop/namenode.log";
+
+// The marker of a sink or segment.
+pub(crate) fn marker(name: &str) -> Option<&'static [u8]> {
+    match name {
+        "C1_1_1" => Some(C1_1_1),
+        "C1_1_2" => Some(C1_1_2),
+        "C1_2_1" => Some(C1_2_1),
+        "C2_1_1" => Some(C2_1_1),
+        "C3_1_1" => Some(C3_1_1),
+        "SEG_1" => Some(SEG_1),
+        "SEG_2" => Some(SEG_2),
+        _ => None,
+    }
+}
+
+// A record, or a file that is none of the archive's.
+pub(crate) fn record(name: &str) -> Option<&'static [u8]> {
+    match name {
+        "HELLO" => Some(HELLO),
+        "O_WORL" => Some(O_WORL),
+        "WORL" => Some(WORL),
+        "WORLD" => Some(WORLD),
+        "WORLD_OF_WEST" => Some(WORLD_OF_WEST),
+        "HELLO_WORLD" => Some(HELLO_WORLD),
+        "PAST" => Some(PAST),
+        "EAST" => Some(EAST),
+        "WEST" => Some(WEST),
+        "APP" => Some(APP),
+        "EARLY" => Some(EARLY),
+        "DAY_H1" => Some(DAY_H1),
+        "DAY_H2" => Some(DAY_H2),
+        "DAY_H3" => Some(DAY_H3),
+        "LINE" => Some(LINE),
+        "REST" => Some(REST),
+        "BORN" => Some(BORN),
+        "BYTE" => Some(BYTE),
+        _ => None,
+    }
+}
+
+// A book.
+pub(crate) fn book(name: &str) -> Option<&'static [u8]> {
+    match name {
+        "BOOK_SIX" => Some(BOOK_SIX),
+        "BOOK_TEN" => Some(BOOK_TEN),
+        "BOOK_ASIDE" => Some(BOOK_ASIDE),
+        "BOOK_TWO_ASIDE" => Some(BOOK_TWO_ASIDE),
+        "BOOK_NEXT_ASIDE" => Some(BOOK_NEXT_ASIDE),
+        "BOOK_CLOSED" => Some(BOOK_CLOSED),
+        "BOOK_TWELVE" => Some(BOOK_TWELVE),
+        "BOOK_STREAMS" => Some(BOOK_STREAMS),
+        "BOOK_DAY" => Some(BOOK_DAY),
+        _ => None,
+    }
+}

@@ -1,0 +1,129 @@
+//! What a run takes, and the files that it leaves.
+use crate::scene::follows_each;
+use std::test::Fail;
+
+// A listing also shows names that are of no sink. A sink that was archived, and a segment that no
+// book names, are as after a stop behind the book's rename and before it. Streams are ordered by
+// source, type and name, whatever the sinks; one of them begins at 100, and its chunks are of two
+// clusters. A day is three hosts over two collectors.
+const PROGRAMS: &str = "\
+nothing
+put sinks/c1.born BORN
+put sinks/done BYTE
+run = unclosed 0 - taken 0 held 0 removed 0
+is archive/book
+is archive/seg.1
+is sinks/c1.born BORN
+is sinks/done BYTE
+
+one chunk
+put sinks/c1.1.1.done C1_1_1 HELLO
+run = unclosed 0 - taken 6 held 0 removed 1, h1 Log /a.log 0 6
+is archive/seg.1 SEG_1 HELLO
+is archive/book BOOK_SIX
+is sinks/c1.1.1.done
+
+two sinks that overlap
+put sinks/c1.1.1.done C1_1_1 HELLO
+put sinks/c1.1.2.done C1_1_2 O_WORL
+run = unclosed 0 - taken 10 held 0 removed 2, h1 Log /a.log 0 10
+is archive/seg.1 SEG_1 HELLO WORL
+is archive/book BOOK_TEN
+is sinks/c1.1.1.done
+is sinks/c1.1.2.done
+
+one post three times
+put sinks/c1.1.1.done C1_1_1 HELLO HELLO HELLO
+run = unclosed 0 - taken 6 held 0 removed 1, h1 Log /a.log 0 6
+is archive/seg.1 SEG_1 HELLO
+is archive/book BOOK_SIX
+is sinks/c1.1.1.done
+
+a sink that was archived
+put archive/seg.1 SEG_1 HELLO
+put archive/book BOOK_SIX
+put sinks/c1.1.1.done C1_1_1 HELLO
+run = unclosed 0 - taken 0 held 0 removed 1, h1 Log /a.log 0 6
+is archive/seg.1 SEG_1 HELLO
+is archive/book BOOK_SIX
+is sinks/c1.1.1.done
+
+a segment that no book names
+put archive/seg.1 SEG_1 HELLO WORLD
+put archive/seg.2 SEG_2 WORLD
+put sinks/c1.1.1.done C1_1_1 HELLO
+run = unclosed 0 - taken 6 held 0 removed 1, h1 Log /a.log 0 6
+is archive/seg.1 SEG_1 HELLO
+is archive/seg.2
+is archive/book BOOK_SIX
+
+a chunk that was half archived
+put sinks/c1.1.1.done C1_1_1 HELLO
+run = unclosed 0 - taken 6 held 0 removed 1, h1 Log /a.log 0 6
+is archive/book BOOK_SIX
+put sinks/c1.1.2.done C1_1_2 HELLO_WORLD
+run = unclosed 0 - taken 6 held 0 removed 1, h1 Log /a.log 0 12
+is archive/seg.1 SEG_1 HELLO
+is archive/seg.2 SEG_2 WORLD
+is archive/book BOOK_TWELVE
+
+sinks under writing stay
+put sinks/c1.1.1.done C1_1_1 HELLO
+put sinks/c2.1.1.chukwa C2_1_1 WORLD
+put sinks/c3.1.1.chukwa C3_1_1
+run = unclosed 2 c2.1.1.chukwa taken 6 held 0 removed 1, h1 Log /a.log 0 6
+is archive/seg.1 SEG_1 HELLO
+is sinks/c2.1.1.chukwa C2_1_1 WORLD
+is sinks/c3.1.1.chukwa C3_1_1
+
+a sink without a record
+put sinks/c1.1.1.done C1_1_1
+run = unclosed 0 - taken 0 held 0 removed 1
+is archive/book
+is sinks/c1.1.1.done
+
+streams in order
+put sinks/c1.1.1.done C1_1_1 WEST HELLO
+put sinks/c1.1.2.done C1_1_2 APP EAST
+put sinks/c2.1.1.done C2_1_1 EARLY
+run = unclosed 0 - taken 17 held 0 removed 3\
+, a0 Log /z.log 0 2\
+, h1 App /b.log 0 3\
+, h1 Log /a.log 0 6\
+, h2 Log /a.log 100 106
+is archive/seg.1 SEG_1 EARLY APP HELLO EAST WEST
+is archive/book BOOK_STREAMS
+
+a day
+put sinks/c1.2.1.done C1_2_1 DAY_H3 DAY_H1
+put sinks/c2.1.1.done C2_1_1 DAY_H2
+run = unclosed 0 - taken 582 held 0 removed 2\
+, h1 HadoopLog /var/log/hadoop/namenode.log 0 194\
+, h2 HadoopLog /var/log/hadoop/namenode.log 0 194\
+, h3 HadoopLog /var/log/hadoop/namenode.log 0 194
+is archive/seg.1 SEG_1 DAY_H1 DAY_H2 DAY_H3
+is archive/book BOOK_DAY
+";
+
+#[test]
+fn runs(rt: HostRuntime) -> Result<(), Fail> {
+    follows_each(rt.alloc(), PROGRAMS)
+}
+
+// Where there are sixteen segments, the next run merges them first, and then adds its line.
+const MANY: &str = "\
+sixteen segments
+lines 16
+book = next 17, 1 140, 2 140, 3 140, 4 140, 5 140, 6 140, 7 140, 8 140, 9 140, 10 140, 11 140\
+, 12 140, 13 140, 14 140, 15 140, 16 140
+
+merged segments
+lines 17
+book = next 19, 17 800, 18 140
+archive = a|a|a|a|a|a|a|a|a|a|a|a|a|a|a|a|a|
+";
+
+#[test]
+fn merged_segments(rt: HostRuntime) -> Result<(), Fail> {
+    follows_each(rt.alloc(), MANY)
+}

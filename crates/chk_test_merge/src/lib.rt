@@ -1,0 +1,9 @@
+//! Tests of archives over a site in memory.
+#![tactic(auto)]
+
+#[cfg(test)]
+mod archives;
+#[cfg(test)]
+mod records;
+#[cfg(test)]
+mod scene;
