@@ -1,0 +1,143 @@
+-- The new records' segment is entered.
+use Rattle.std.proofs.Common.{◌≡◌, ℕ, zero, suc, false, List, [], ◌∷◌, ◌++◌, Option, Some, None, Ok, Err, Result, ap, ap₂, sym, subst, arith, ◌∙◌, refl, append-nil}
+use Rattle.std.specs.Prelude.{nat_eq, Contains}
+use Rattle.std.specs.List.{list_any}
+use Rattle.std.proofs.lemmas.Bool.{or_parts}
+use Rattle.std.proofs.lemmas.List.Elements.{Contains-append_left}
+use Rattle.std.proofs.lemmas.Grind.{flat_map-append}
+use Rattle.chk_site.specs.declared.acts.OutsideFault.{OutsideFault}
+use Rattle.chk_site.specs.declared.acts.OutsideFault.TheVariants.{Outside as site_failed, NoMemory as no_memory}
+use Rattle.chk_site.specs.Acts.{Deed, Starts, Reads}
+use Rattle.chk_site.specs.History.{History, Every}
+use Rattle.chk_site.specs.Site.{Adds}
+use Rattle.chk_site.specs.Runs.{Leads}
+use Rattle.chk_site.proofs.Leads.{leads_as, leads_then}
+use Rattle.chk_chunk.specs.Keys.{Chunk}
+use Rattle.chk_world.specs.Names.{ArchiveFolder, DemuxFolder, BookFile, SegmentFile}
+use Rattle.chk_world.specs.Books.{Segment, Book, chunks_in, book_in}
+use Rattle.chk_world.specs.Jobs.{NewBook, all_segments, segment_list}
+use Rattle.chk_world.proofs.Segments.{flat_same}
+use Rattle.chk_world.specs.Places.{As}
+use Rattle.chk_world.specs.Sight.{job, Sight, sight, own_chunks, AtJob}
+use Rattle.chk_world.specs.JobSteps.{IsOf}
+use Rattle.chk_world.proofs.ToldCalls.{talks}
+use Rattle.chk_heads.specs.declared.fault.JobFault.{JobFault}
+use Rattle.chk_book.specs.declared.segmenter.Segmenter.{Segmenter}
+use Rattle.chk_parts.proofs.FromKnown.{from_known, reach_known}
+use Rattle.chk_parts.proofs.OneFile.{Knows}
+use Rattle.chk_parts.proofs.OneSegment.{no_write_starts, quiet_write}
+use Rattle.chk_parts.proofs.StepKinds.{writes_no_reads}
+use Rattle.chk_demux.specs.Demuxed.{ReplacesBook, writes_book, names_book}
+use Rattle.chk_demux.specs.Working.{EndsSo, job_result}
+use Rattle.chk_demux.specs.Writes.{IsFree, SoFar, IsSoFar}
+use Rattle.chk_demux.specs.Publishing.{IsPublished, MayFollow, Published}
+use Rattle.chk_demux.specs.Entering.{MayEnter, Entered}
+use Rattle.chk_demux.proofs.Ends.{ends_bottom, so_done}
+use Rattle.chk_demux.proofs.OneSegment.{HasWritten}
+
+pub replaces_no_reads : (call : Deed) → ReplacesBook call → (name : List ℕ) (place max : ℕ) → call ≡ Reads name place max → ⊥
+replaces_no_reads call (writes_book c k) name place max is = writes_no_reads _ c k name place max is
+replaces_no_reads call names_book name place max is = absurd (cc)
+
+pub replaces_start : ReplacesBook Starts → ⊥
+replaces_start (writes_book c k) = no_write_starts _ k
+
+pub quiet_replace : (call : Deed) → ReplacesBook call → talks call ≡ false
+quiet_replace call (writes_book c k) = quiet_write _ c k
+quiet_replace call names_book = refl
+
+module _ (stamped : List (List ℕ)) (v : Sight) (b : Book) (outs : List Chunk) (free : IsFree v b.next)
+    (may : MayEnter stamped v b outs) where
+  -- where none were written
+  pub none_entered : (u : Sight) → SoFar v outs None u → Entered v b outs u
+  none_entered u p =
+      subst (Entered v b outs) (sym p.1) (record {
+        archive = refl;
+        segments = λ k. refl;
+        records =
+            ap (λ (x : Book). own_chunks v DemuxFolder x.segments) may.0
+            ∙ (sym (append-nil (own_chunks v DemuxFolder b.segments))
+            ∙ ap (λ l. own_chunks v DemuxFolder b.segments ++ l) (sym p.0));
+      })
+
+  -- the old segments have other numbers
+  others : (gs : List Segment) → list_any (λ (g : Segment). nat_eq g.number b.next) gs ≡ false
+      → (g : Segment) → Contains gs g → nat_eq g.number b.next ≡ false
+  others [] misses g (k, low, at) = absurd (let z : ⊥ = omega (arith, low) in z)
+  others (f ∷ gs) misses g (zero, low, at) =
+      subst (λ (x : Segment). nat_eq x.number b.next ≡ false) at
+      (or_parts (nat_eq f.number b.next) (list_any (λ (g : Segment). nat_eq g.number b.next) gs) misses).0
+  others (f ∷ gs) misses g (suc k, low, at) =
+      others gs (or_parts (nat_eq f.number b.next) (list_any (λ (g : Segment). nat_eq g.number b.next) gs) misses).1
+      g (k, omega (arith, low), at)
+
+  other : (g : Segment) → Contains b.segments g → nat_eq g.number b.next ≡ false
+  other g one =
+      others (all_segments b)
+      (subst (λ (x : Book). list_any (λ (g : Segment). nat_eq g.number b.next) (all_segments x) ≡ false) may.0 free.unnamed)
+      g (Contains-append_left b.segments (segment_list b.aside) g one)
+
+  module _ (new : Book) (w : Sight) (p : HasWritten v b new outs w) where
+    may_follow : MayFollow stamped w new
+    may_follow history legal q =
+        subst (NewBook stamped DemuxFolder history) (sym p.book)
+        (may.1 p.segment p.number history legal
+        (q.book ∙ (ap book_in (p.same.own (BookFile DemuxFolder) refl) ∙ may.0))
+        (λ n beside apart. q.own n beside ∙ p.same.own n apart)
+        (record {
+          file = p.holds.file;
+          there = q.own (SegmentFile DemuxFolder p.segment.number) refl ∙ p.holds.there;
+          is = p.holds.is;
+          synced = p.holds.synced;
+          size = p.holds.size;
+        }))
+
+    entered_now : (u : Sight) → IsPublished w new u → Entered v b outs u
+    entered_now u q =
+        let there : u.own (SegmentFile DemuxFolder p.segment.number) ≡ Some p.holds.file =
+        q.own (SegmentFile DemuxFolder p.segment.number) refl ∙ p.holds.there in
+        record {
+          archive = ap book_in (q.own (BookFile ArchiveFolder) refl ∙ p.same.own (BookFile ArchiveFolder) refl);
+          segments = λ k. q.own (SegmentFile ArchiveFolder k) refl ∙ p.same.own (SegmentFile ArchiveFolder k) refl;
+          records =
+              ap (λ (x : Book). own_chunks u DemuxFolder x.segments) (q.book ∙ p.book)
+              ∙ (flat_map-append (λ (g : Segment). chunks_in (u.own (SegmentFile DemuxFolder g.number))) b.segments (p.segment ∷ [])
+              ∙ ap₂ (λ x y. x ++ y)
+              (flat_same (λ (g : Segment). chunks_in (u.own (SegmentFile DemuxFolder g.number)))
+              (λ (g : Segment). chunks_in (v.own (SegmentFile DemuxFolder g.number))) b.segments
+              (λ g one. ap chunks_in (q.own (SegmentFile DemuxFolder g.number) refl
+              ∙ p.same.own (SegmentFile DemuxFolder g.number) (other g one))))
+              (append-nil (chunks_in (u.own (SegmentFile DemuxFolder p.segment.number)))
+              ∙ (ap chunks_in there ∙ p.holds.is.are)));
+        }
+
+  module _ (s : Segmenter) (new : Book) (first : Result (Unit {0}) JobFault) (r : Result (Unit {0}) OutsideFault)
+      {a m z : Option History}
+      (finished : Adds a m (Leads (As stamped job) (AtJob stamped (IsSoFar v outs s))
+      (EndsSo stamped v b.next (λ value u. HasWritten v b new outs u) first)))
+      (value : Unit {0}) (done : first ≡ Ok value) (own : Adds m z (Every (IsOf ReplacesBook)))
+      (second : (w : Sight) → MayFollow stamped w new
+      → Adds m z (Leads (As stamped job) (Knows stamped w) (Published stamped w new r))) where
+    ended : (r : Result (Unit {0}) OutsideFault) (w : Sight) → HasWritten v b new outs w → (h : History)
+        → Published stamped w new r h → EndsSo stamped v b.next (λ (value : Unit {0}) u. Entered v b outs u) (job_result r) h
+    ended (Ok value) w p h k = record {
+      legal = k.legal;
+      may_act = k.may_act;
+      alive = λ runs. entered_now new w p (sight h) (k.alive runs);
+    }
+    ended (Err (site_failed call)) w p h k = k
+    ended (Err no_memory) w p h k = k
+
+    pub entered_so : Adds a z (Leads (As stamped job) (AtJob stamped (IsSoFar v outs s))
+        (EndsSo stamped v b.next (λ value u. Entered v b outs u) (job_result r)))
+    entered_so =
+        let C : History → Type 0 = EndsSo stamped v b.next (λ (value : Unit {0}) u. Entered v b outs u) (job_result r) in
+        leads_then
+        (so_done stamped v b.next (AtJob stamped (IsSoFar v outs s)) (λ value u. HasWritten v b new outs u) first value done finished)
+        (from_known stamped ReplacesBook replaces_start quiet_replace (HasWritten v b new outs) C own
+        (λ h k runs.
+        let w = sight h in
+        let p = k.alive runs in
+        reach_known stamped h (HasWritten v b new outs) C
+        (leads_as (λ g j. j) (λ g j. ended r w p g j) (second w (may_follow new w p))) k)
+        (λ h y. ends_bottom stamped v b.next (λ value u. Entered v b outs u) (job_result r) h y))

@@ -1,0 +1,304 @@
+-- What the parts of a demux run lead to, up to its end.
+use Rattle.std.proofs.Common.{◌≡◌, inl, inr, ℕ, false, List, [], Option, None, Ok, Err, Result, ap, sym, subst, ◌∙◌, refl}
+use Rattle.std.specs.Prelude.{codes, length, IfErr}
+use Rattle.chk_site.specs.Acts.{Deed}
+use Rattle.chk_site.specs.History.{History, Every, is_stopped}
+use Rattle.chk_site.specs.Site.{Adds}
+use Rattle.chk_site.specs.Runs.{Leads}
+use Rattle.chk_site.proofs.Leads.{leads_as, leads_then, leads_none}
+use Rattle.chk_chunk.specs.Keys.{Chunk}
+use Rattle.chk_world.specs.Names.{DemuxFolder, BookFile}
+use Rattle.chk_world.specs.Books.{Book, book_in}
+use Rattle.chk_world.specs.Places.{As}
+use Rattle.chk_world.specs.Sight.{job, Sight, sight, AtJob}
+use Rattle.chk_world.specs.JobSteps.{IsOf, ReadsFile, ReadsOrWrites}
+use Rattle.chk_heads.specs.declared.fault.JobFault.{JobFault}
+use Rattle.chk_heads.specs.declared.fault.JobFault.TheVariants.{Outside, Damaged, Spent, NoMemory}
+use Rattle.chk_heads.specs.Faults.{FailsLast, IsOfRead}
+use Rattle.chk_heads.specs.Pieces.{AsksInPieces}
+use Rattle.chk_heads.specs.Heads.{Head}
+use Rattle.chk_book.specs.Books.{book_view}
+use Rattle.chk_book.specs.Folders.{segment_name}
+use Rattle.chk_merge.specs.Segments.{names_of}
+use Rattle.chk_parts.specs.Gathering.{heads_of, AreSound, Found}
+use Rattle.chk_parts.specs.Records.{AreRecords}
+use Rattle.chk_parts.proofs.FromKnown.{from_known, reach, reach_known, with_fact}
+use Rattle.chk_demux.specs.Beginning.{HasBegun, HasBooks, Begins, starts as begins_it, only_reads as begins_reading}
+use Rattle.chk_demux.specs.Demuxed.{Begun, Demuxed, DemuxesBy, starts, only_reads, writes_records, replaces_book, WritesBook, writes_segment, replaces}
+use Rattle.chk_demux.specs.Running.{IsReady, Ran, RunsOn, goes_reading, goes_writing, goes_replacing}
+use Rattle.chk_demux.specs.Splitting.{all_chunks, all_left, SplitAll}
+use Rattle.chk_demux.specs.Working.{Worked, Failed, EndsSo}
+use Rattle.chk_demux.specs.Writes.{IsFree, IsOutput, SoFar, bytes_of}
+use Rattle.chk_demux.specs.Entering.{MayEnter, Entered}
+use Rattle.chk_demux.specs.declared.beginning.Books.{Books}
+use Rattle.chk_demux.specs.declared.output.Output.{Output}
+use Rattle.chk_demux.specs.declared.report.DemuxReport.{DemuxReport}
+use Rattle.chk_demux.proofs.Ends.{at_as, ends_bottom, so_done}
+use Rattle.chk_demux.proofs.Entries.{replaces_start, quiet_replace}
+use Rattle.chk_demux.proofs.RunFacts.{CanRun, News}
+use Rattle.chk_demux.proofs.Streams.{reads_or_writes_start, quiet_reads_or_writes}
+use Rattle.chk_demux.proofs.Works.{own_of, worked, works_as, works_then}
+use Rattle.chk_parts.proofs.OneSegment.{no_write_starts, quiet_write}
+use Rattle.chk_site.specs.Acts.{Starts}
+use Rattle.chk_world.proofs.ToldCalls.{talks}
+
+-- the calls that enter a segment are no starts, and quiet
+enters_start : (k : ℕ) → WritesBook k Starts → ⊥
+enters_start k (writes_segment c p) = no_write_starts _ p
+enters_start k (replaces c p) = replaces_start p
+
+quiet_enter : (k : ℕ) (call : Deed) → WritesBook k call → talks call ≡ false
+quiet_enter k call (writes_segment c p) = quiet_write _ c p
+quiet_enter k call (replaces c p) = quiet_replace c p
+
+module _ (stamped types : List (List ℕ)) (a b : Book) (v : Sight) (k : CanRun stamped types a b v) where
+  abbrev pub Start : History → Type 0
+  Start = AtJob stamped (λ u. u ≡ v)
+
+  abbrev Files : List (List ℕ)
+  Files = names_of (codes "archive") a
+
+  abbrev Hs : List Head
+  Hs = heads_of v 0 Files
+
+  abbrev pub Outs : List Chunk
+  Outs = News types a b v k.cs
+
+  -- what was refused ends the run so
+  ran_refused : (fault : JobFault) (h : History) → Failed stamped v b.next fault h → Ran stamped v (Err fault) h
+  ran_refused (Outside call) h f = f
+  ran_refused (Damaged name place) h f = f
+  ran_refused (Spent n) h f = record {
+    legal = f.legal;
+    may_act = f.may_act;
+    alive = λ runs.
+        let p = f.alive runs in (
+          p.1,
+          ap (λ o. (book_in o).next) (p.0.own (BookFile DemuxFolder) refl) ∙ (ap (λ (x : Book). x.next) k.book ∙ p.2),
+        );
+  }
+  ran_refused NoMemory h f = f
+
+  -- ---- the names
+
+  pub not_named : (now : Option History) → Adds now now (Leads (As stamped job) Start (Ran stamped v (Err NoMemory)))
+  not_named now = leads_none now (λ h z. z.legal)
+
+  -- ---- the heads
+
+  module _ (names : List (List ℕ)) (are : names ≡ Files) (q : Result (List Head) JobFault) (only : IfErr q IsOfRead)
+      {old mid : Option History}
+      (told : AreSound v names → Adds old mid (Leads (As stamped job) Start (Found stamped v names q))) where
+    at_files : Adds old mid (Leads (As stamped job) Start (Found stamped v Files q))
+    at_files =
+        subst (λ ws. Adds old mid (Leads (As stamped job) Start (Found stamped v ws q))) are
+        (told (subst (AreSound v) (sym are) k.sound))
+
+    pub not_found : (fault : JobFault) → q ≡ Err fault
+        → Adds old mid (Leads (As stamped job) Start (Ran stamped v (Err fault)))
+    not_found fault is =
+        leads_as (λ h z. z)
+        (λ h z. go fault (subst (λ q. IfErr q IsOfRead) is only) h (subst (λ q. Found stamped v Files q h) is z)) at_files
+      where
+        go : (fault : JobFault) → IsOfRead fault → (h : History) → Found stamped v Files (Err fault) h
+            → Ran stamped v (Err fault) h
+        go (Outside call) read h z = z
+        go (Damaged name place) read h z = z
+        go (Spent n) read h z = absurd read
+        go NoMemory read h z = z
+
+    pub found : (heads : List Head) → q ≡ Ok heads
+        → Adds old mid (Leads (As stamped job) Start (AtJob stamped (λ u. (u ≡ v) × (heads ≡ Hs))))
+    found heads is = leads_as (λ h z. z) (λ h z. subst (λ q. Found stamped v Files q h) is z) at_files
+
+  -- ---- the split
+
+  module _ (names : List (List ℕ)) (are : names ≡ Files) (heads : List Head) (o n : Output) (taken : o.taken ≡ 0) (entries : o.entries ≡ 0)
+      (segmenter : o.segmenter ≡ None) (q : Result ℕ JobFault) {old mid new : Option History}
+      (first : Adds old mid (Leads (As stamped job) Start (AtJob stamped (λ u. (u ≡ v) × (heads ≡ Hs)))))
+      (works : Adds mid new (Worked (ReadsOrWrites (segment_name (codes "demux") b.next)) q))
+      (told : (cs : List Chunk) → AreRecords v names heads cs → IsFree v b.next → SplitAll cs a.ends b
+      → Adds mid new (Leads (As stamped job) (AtJob stamped (IsOutput v [] o))
+      (EndsSo stamped v b.next (λ left u. IsOutput v (all_chunks types b heads cs a.ends) n u
+      × (left ≡ all_left types b cs a.ends)) q))) where
+    abbrev W : List ℕ
+    W = segment_name (codes "demux") b.next
+
+    abbrev Split : ℕ → Sight → Type 0
+    Split left u = IsOutput v Outs n u × (left ≡ all_left types b k.cs a.ends)
+
+    begins : (h : History) → AtJob stamped (λ u. (u ≡ v) × (heads ≡ Hs)) h → AtJob stamped (IsOutput v [] o) h
+    begins h z =
+        at_as stamped (λ u. (u ≡ v) × (heads ≡ Hs)) (IsOutput v [] o)
+        (λ u p. record {
+          taken = taken;
+          entries = entries;
+          so_far = subst (λ s. SoFar v [] s u) (sym segmenter) (refl, p.0);
+        }) h z
+
+    split_so : Adds old new (Leads (As stamped job) Start (EndsSo stamped v b.next Split q))
+    split_so =
+        leads_then first
+        (from_known stamped (ReadsOrWrites W) (reads_or_writes_start W) (quiet_reads_or_writes W)
+        (λ u. (u ≡ v) × (heads ≡ Hs)) (EndsSo stamped v b.next Split q)
+        (own_of (ReadsOrWrites W) q works)
+        (λ h z runs.
+        let is : heads ≡ Hs = (z.alive runs).1 in
+        reach stamped h (AtJob stamped (IsOutput v [] o)) (EndsSo stamped v b.next Split q)
+        (subst (λ hs. Adds mid new (Leads (As stamped job) (AtJob stamped (IsOutput v [] o))
+        (EndsSo stamped v b.next (λ left u. IsOutput v (all_chunks types b hs k.cs a.ends) n u
+        × (left ≡ all_left types b k.cs a.ends)) q))) is
+        (told k.cs (subst (λ ws. AreRecords v ws heads k.cs) (sym are)
+        (subst (λ hs. AreRecords v Files hs k.cs) (sym is) k.records)) k.free k.runs))
+        (begins h z))
+        (λ h z. ends_bottom stamped v b.next Split q h z))
+
+    pub not_split : (fault : JobFault) → q ≡ Err fault
+        → Adds old new (Leads (As stamped job) Start (Ran stamped v (Err fault)))
+    not_split fault is =
+        leads_as (λ h z. z)
+        (λ h z. ran_refused fault h (subst (λ q. EndsSo stamped v b.next Split q h) is z)) split_so
+
+    -- ---- the entry
+
+    module _ (left : ℕ) (done : q ≡ Ok left) (r : Result (Unit {0}) JobFault) {last : Option History}
+        (enters : Adds new last (Worked (WritesBook b.next) r))
+        (entered : (outs : List Chunk) → IsFree v b.next → MayEnter stamped v b outs
+        → Adds new last (Leads (As stamped job) (AtJob stamped (SoFar v outs n.segmenter))
+        (EndsSo stamped v b.next (λ (t : Unit {0}) u. Entered v b outs u) r))) where
+      abbrev Counted : Type 0
+      Counted = (n.taken ≡ bytes_of Outs) × (n.entries ≡ length Outs) × (left ≡ all_left types b k.cs a.ends)
+
+      abbrev In : Unit {0} → Sight → Type 0
+      In t u = Entered v b Outs u
+
+      entered_so : Adds old last (Leads (As stamped job) Start
+          (λ h. EndsSo stamped v b.next In r h × (is_stopped h ≡ false → Counted)))
+      entered_so =
+          leads_then
+          (leads_as (λ h z. z)
+          (λ h z. at_as stamped (Split left) (λ u. SoFar v Outs n.segmenter u × Counted)
+          (λ u p. (p.0.so_far, (p.0.taken, p.0.entries, p.1))) h z)
+          (so_done stamped v b.next Start Split q left done split_so))
+          (with_fact stamped (WritesBook b.next) (enters_start b.next) (quiet_enter b.next) Counted
+          (SoFar v Outs n.segmenter) (EndsSo stamped v b.next In r) (own_of (WritesBook b.next) r enters)
+          (entered Outs k.free k.may))
+
+      pub not_entered : (fault : JobFault) → r ≡ Err fault
+          → Adds old last (Leads (As stamped job) Start (Ran stamped v (Err fault)))
+      not_entered fault is =
+          leads_as (λ h z. z)
+          (λ h z. ran_refused fault h (subst (λ r. EndsSo stamped v b.next In r h) is z.0)) entered_so
+
+      pub all_ran : (value : Unit {0}) → r ≡ Ok value → (report : DemuxReport) → report.taken ≡ n.taken
+          → report.entries ≡ n.entries → report.left ≡ left
+          → Adds old last (Leads (As stamped job) Start (Ran stamped v (Ok report)))
+      all_ran value is report taken_is entries_is left_is =
+          leads_as (λ h z. z)
+          (λ h z.
+          let at : AtJob stamped (In value) h = subst (λ r. EndsSo stamped v b.next In r h) is z.0 in
+          record {
+            legal = at.legal;
+            may_act = at.may_act;
+            alive = λ runs.
+                let c = z.1 runs in
+                k.done h at.legal (at.alive runs) report
+                (record { taken = taken_is ∙ c.0; entries = entries_is ∙ c.1; left = left_is ∙ c.2 });
+          }) entered_so
+
+-- ---- the calls
+
+splits_on : (k : ℕ) (call : Deed) → ReadsOrWrites (segment_name (codes "demux") k) call → RunsOn call
+splits_on k call (inl p) = goes_reading call p
+splits_on k call (inr p) = goes_writing k call p
+
+enters_on : (k : ℕ) (call : Deed) → WritesBook k call → RunsOn call
+enters_on k call (writes_segment c p) = goes_writing k c p
+enters_on k call (replaces c p) = goes_replacing c p
+
+pub gathers : {T : Type 0} (q : Result T JobFault) {old new : Option History} → Adds old new (Every (IsOf ReadsFile))
+    → Adds old new (Every AsksInPieces) → Adds old new (FailsLast q) → Adds old new (Worked RunsOn q)
+gathers q own pieces last = works_as ReadsFile RunsOn (λ call p. goes_reading call p) q (worked ReadsFile q own pieces last)
+
+pub splits : {T U : Type 0} (k : ℕ) (s : Result T JobFault) (q : Result U JobFault) {old mid new : Option History}
+    → Adds old mid (Worked RunsOn s) → Adds mid new (Worked (ReadsOrWrites (segment_name (codes "demux") k)) q)
+    → Adds old new (Worked RunsOn q)
+splits k s q before told =
+    works_then RunsOn s q before (works_as (ReadsOrWrites (segment_name (codes "demux") k)) RunsOn (splits_on k) q told)
+
+pub enters : {T U : Type 0} (k : ℕ) (s : Result T JobFault) (q : Result U JobFault) {old mid new : Option History}
+    → Adds old mid (Worked RunsOn s) → Adds mid new (Worked (WritesBook k) q) → Adds old new (Worked RunsOn q)
+enters k s q before told = works_then RunsOn s q before (works_as (WritesBook k) RunsOn (enters_on k) q told)
+
+begins_by : (call : Deed) → Begins call → DemuxesBy call
+begins_by call begins_it = starts
+begins_by call (begins_reading c p) = only_reads c p
+
+runs_by : (call : Deed) → RunsOn call → DemuxesBy call
+runs_by call (goes_reading c p) = only_reads c p
+runs_by call (goes_writing k c p) = writes_records k c p
+runs_by call (goes_replacing c p) = replaces_book c p
+
+pub begun_works : (r : Result Books JobFault) {old new : Option History} → Adds old new (Worked Begins r)
+    → Adds old new (Worked DemuxesBy r)
+begun_works r told = works_as Begins DemuxesBy begins_by r told
+
+pub whole_works : (s : Result Books JobFault) (r : Result DemuxReport JobFault) {old mid new : Option History}
+    → Adds old mid (Worked Begins s) → Adds mid new (Worked RunsOn r) → Adds old new (Worked DemuxesBy r)
+whole_works s r before told =
+    works_then DemuxesBy s r (begun_works s before) (works_as RunsOn DemuxesBy runs_by r told)
+
+-- ---- from the start on
+
+no_start : RunsOn Starts → ⊥
+no_start (goes_reading c p) = reads_or_writes_start [] (inl p)
+no_start (goes_writing k c p) = no_write_starts _ p
+no_start (goes_replacing c p) = replaces_start p
+
+quiet_on : (call : Deed) → RunsOn call → talks call ≡ false
+quiet_on call (goes_reading c p) = quiet_reads_or_writes [] c (inl p)
+quiet_on call (goes_writing k c p) = quiet_write _ c p
+quiet_on call (goes_replacing c p) = quiet_replace c p
+
+demuxed_bottom : (stamped : List (List ℕ)) (before : List Chunk) (r : Result DemuxReport JobFault) (h : History)
+    → AtJob stamped (λ u. ⊥) h → Demuxed stamped before r h
+demuxed_bottom stamped before (Ok report) h z =
+    record { legal = z.legal; may_act = z.may_act; alive = λ runs. absurd (z.alive runs) }
+demuxed_bottom stamped before (Err (Outside call)) h z = z.legal
+demuxed_bottom stamped before (Err (Damaged name at)) h z =
+    record { legal = z.legal; may_act = z.may_act; alive = z.alive }
+demuxed_bottom stamped before (Err (Spent n)) h z =
+    record { legal = z.legal; may_act = z.may_act; alive = λ runs. absurd (z.alive runs) }
+demuxed_bottom stamped before (Err NoMemory) h z = z.legal
+
+module _ (stamped : List (List ℕ)) (before : List Chunk) (s : Result Books JobFault) {old mid : Option History}
+    (first : Adds old mid (Leads (As stamped job) (Begun stamped before) (HasBegun stamped before s))) where
+  pub not_begun : IfErr s IsOfRead → (fault : JobFault) → s ≡ Err fault
+      → Adds old mid (Leads (As stamped job) (Begun stamped before) (Demuxed stamped before (Err fault)))
+  not_begun only fault is =
+      leads_as (λ h z. z)
+      (λ h z. go fault (subst (λ s. IfErr s IsOfRead) is only) h (subst (λ s. HasBegun stamped before s h) is z)) first
+    where
+      go : (fault : JobFault) → IsOfRead fault → (h : History) → HasBegun stamped before (Err fault) h
+          → Demuxed stamped before (Err fault) h
+      go (Outside call) read h z = z
+      go (Damaged name place) read h z = z
+      go (Spent n) read h z = absurd read
+      go NoMemory read h z = z
+
+  pub whole_run : (b : Books) → s ≡ Ok b → (r : Result DemuxReport JobFault) {new : Option History}
+      → Adds mid new (Worked RunsOn r)
+      → ((v : Sight) → IsReady stamped (book_view b.archive) (book_view b.demux) v
+      → Adds mid new (Leads (As stamped job) (AtJob stamped (λ u. u ≡ v)) (Ran stamped v r)))
+      → Adds old new (Leads (As stamped job) (Begun stamped before) (Demuxed stamped before r))
+  whole_run b is r works second =
+      leads_then
+      (leads_as {B' = AtJob stamped (HasBooks before b)} (λ h z. z) (λ h z. subst (λ s. HasBegun stamped before s h) is z) first)
+      (from_known stamped RunsOn no_start quiet_on (HasBooks before b) (Demuxed stamped before r) (own_of RunsOn r works)
+      (λ h z runs.
+      let p : HasBooks before b (sight h) = z.alive runs in
+      reach_known stamped h (HasBooks before b) (Demuxed stamped before r)
+      (leads_as (λ g j. j) (λ g j. subst (λ l. Demuxed stamped l r g) p.records j)
+      (second (sight h)
+      (record { history = h; legal = z.legal; is = refl; has_archive = p.archive; has_demux = p.demux }))) z)
+      (λ h z. demuxed_bottom stamped before r h z))

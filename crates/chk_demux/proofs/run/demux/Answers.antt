@@ -1,0 +1,50 @@
+use Rattle.std.proofs.Common.{Err}
+use Rattle.std.proofs.lemmas.Result.{err_from_is_err_and}
+use Rattle.chk_demux.specs.Demuxed.{DemuxesBy}
+use Rattle.chk_demux.specs.declared.report.DemuxReport.{DemuxReport}
+use Rattle.chk_demux.proofs.RunSteps.{not_begun, whole_run, begun_works, whole_works}
+use Rattle.chk_demux.proofs.Works.{own_of, pieces_of_work, last_of_work, works_result}
+use Rattle.chk_demux.proofs.run.demux.Goals as goal
+
+pub returns-in_err-books-clause-told : goal.returns-in_err-books-clause-told
+returns-in_err-books-clause-told g c stamped before named =
+    let q = err_from_is_err_and c.from_residual.result c.from_residual.ensures.1 in
+    rw (q.1, q.2)
+    (not_begun stamped before c.begin.result (c.begin.ensures.told stamped before) c.begin.ensures.only
+    c.in_err-books.field-0.0 c.in_err-books.was)
+
+pub returns-clause-told : goal.returns-clause-told
+returns-clause-told g c stamped before named =
+    whole_run stamped before c.begin.result (c.begin.ensures.told stamped before) c.in_ok-books.books c.in_ok-books.was
+    c.split_archive.result c.split_archive.ensures.works (λ v ready. c.split_archive.ensures.told stamped v named ready)
+
+pub returns-in_err-books-clause-own : goal.returns-in_err-books-clause-own
+returns-in_err-books-clause-own g c =
+    own_of DemuxesBy c.begin.result (begun_works c.begin.result c.begin.ensures.works)
+
+pub returns-clause-own : goal.returns-clause-own
+returns-clause-own g c =
+    own_of DemuxesBy c.split_archive.result
+    (whole_works c.begin.result c.split_archive.result c.begin.ensures.works c.split_archive.ensures.works)
+
+pub returns-in_err-books-clause-pieces : goal.returns-in_err-books-clause-pieces
+returns-in_err-books-clause-pieces g c =
+    pieces_of_work DemuxesBy c.begin.result (begun_works c.begin.result c.begin.ensures.works)
+
+pub returns-clause-pieces : goal.returns-clause-pieces
+returns-clause-pieces g c =
+    pieces_of_work DemuxesBy c.split_archive.result
+    (whole_works c.begin.result c.split_archive.result c.begin.ensures.works c.split_archive.ensures.works)
+
+pub returns-in_err-books-clause-last : goal.returns-in_err-books-clause-last
+returns-in_err-books-clause-last g c =
+    let q = err_from_is_err_and c.from_residual.result c.from_residual.ensures.1 in
+    rw (q.1, q.2)
+    (last_of_work {T = DemuxReport} DemuxesBy (Err c.in_err-books.field-0.0)
+    (works_result DemuxReport DemuxesBy c.begin.result c.in_err-books.field-0.0 c.in_err-books.was
+    (begun_works c.begin.result c.begin.ensures.works)))
+
+pub returns-clause-last : goal.returns-clause-last
+returns-clause-last g c =
+    last_of_work DemuxesBy c.split_archive.result
+    (whole_works c.begin.result c.split_archive.result c.begin.ensures.works c.split_archive.ensures.works)

@@ -1,0 +1,34 @@
+use Rattle.std.proofs.Common.{◌≡◌, ◌∙◌, [], ap, subst}
+use Rattle.std.specs.Prelude.{slice_index_or}
+use Rattle.chk_site.specs.Site.{Adds}
+use Rattle.chk_site.specs.Runs.{Leads, anyhow}
+use Rattle.chk_world.specs.JobSteps.{SparesFile, ReadsFile}
+use Rattle.chk_heads.specs.Heads.{Head}
+use Rattle.chk_plan.specs.Passes.{head_in}
+use Rattle.chk_merge.specs.ReadBack.{CanRead, HasRead}
+use Rattle.chk_parts.specs.Fetching.{head_file}
+use Rattle.chk_parts.proofs.Fetches.{fetched}
+use Rattle.chk_demux.proofs.Works.{worked, works_memory}
+use Rattle.chk_demux.proofs.splitting.fetch.Goals as goal
+
+pub returns-in-Some-clause-raw : goal.returns-in-Some-clause-raw
+returns-in-Some-clause-raw g c v d sound is =
+    let files = c.args.files.now in
+    let heads = c.args.heads.now in
+    let h : Head = head_in heads c.args.index in
+    let r = c.args.reader.now in
+    let t = c.fetch.new.self in
+    let name : c.as_str.result.now ≡ head_file files heads c.args.index = c.as_str.ensures.text
+    ∙ (c.in-Some.ensures.lookup.3.1 [] ∙ ap (λ (x : Head). slice_index_or files x.file []) c.get.ensures.head) in
+    fetched v files heads c.args.index d sound is r t c.fetch.result
+    (λ most f low small.
+    subst (λ w. Adds (g.S.Site.told c.args.site.now) (g.S.Site.told c.fetch.new.site)
+    (Leads (anyhow (SparesFile w)) (CanRead most w f h r) (HasRead w f h t c.fetch.result))) name
+    (c.fetch.ensures.raw most f low small))
+
+pub returns-in-Some-clause-works : goal.returns-in-Some-clause-works
+returns-in-Some-clause-works g c =
+    worked ReadsFile c.fetch.result (c.fetch.ensures.own c.requires.job) c.fetch.ensures.pieces c.fetch.ensures.last
+
+pub returns-in-None-clause-works : goal.returns-in-None-clause-works
+returns-in-None-clause-works g c = works_memory _ ReadsFile (g.S.Site.told c.args.site.now)

@@ -1,0 +1,82 @@
+use Rattle.std.proofs.Common.{◌≡◌, ◌∙◌, ◌+◌, ◌-◌, ◌++◌, drop, ap, sym, subst, inl, inr, true, false}
+use Rattle.std.specs.Prelude.{codes, OnOk}
+use Rattle.std.proofs.lemmas.Result.{err_from_is_err_and}
+use Rattle.chk_site.proofs.Leads.{leads_none}
+use Rattle.chk_heads.specs.Heads.{Head}
+use Rattle.chk_plan.specs.Passes.{head_in}
+use Rattle.chk_book.specs.Books.{book_view}
+use Rattle.chk_book.specs.Views.{end_view}
+use Rattle.chk_book.specs.Folders.{segment_name}
+use Rattle.chk_world.specs.JobSteps.{ReadsFile, WritesTo, ReadsOrWrites}
+use Rattle.chk_demux.specs.Giving.{IsSplitting}
+use Rattle.chk_demux.specs.Splitting.{ends_past, SplitSoFar}
+use Rattle.chk_demux.proofs.Ends.{at_as}
+use Rattle.chk_demux.proofs.Fetches.{P, passed, not_fetched, record_split}
+use Rattle.chk_demux.proofs.Works.{works_none, works_as, works_result, works_then, own_of}
+use Rattle.chk_demux.proofs.splitting.split_record.Goals as goal
+
+pub returns-then-not-ends_past-clause-told : goal.returns-then-not-ends_past-clause-told
+returns-then-not-ends_past-clause-told g c stamped v cs outs b records free runs =
+    let heads = c.args.heads.now in
+    let e = end_view c.args.end.now in
+    let o = c.args.output.now in
+    let misses : ends_past e c.args.from (head_in heads c.args.index) ≡ false =
+    sym (ap (ends_past e c.args.from) c.get-head.ensures.head) ∙ (sym c.ends_past.ensures ∙ c.if-not-ends_past.true) in
+    leads_none (g.S.Site.told c.args.site.now)
+    (λ h k. at_as stamped
+    (P v c.args.files.now heads cs outs e c.args.from records runs c.args.index c.requires.index o c.args.reader.now c.args.splitter.now b)
+    (λ u. SplitSoFar v c.args.files.now heads cs outs e c.args.from (c.args.index + 1) b o c.args.reader.now c.args.splitter.now u)
+    (passed v c.args.files.now heads cs outs e c.args.from records runs c.args.index c.requires.index o c.args.reader.now
+    c.args.splitter.now b misses) h k)
+
+pub returns-then-not-ends_past-clause-works : goal.returns-then-not-ends_past-clause-works
+returns-then-not-ends_past-clause-works g c =
+    works_none (ReadsOrWrites (segment_name (codes "demux") (book_view c.args.book.now).next)) tt (g.S.Site.told c.args.site.now)
+
+pub returns-in_err-fetch-clause-told : goal.returns-in_err-fetch-clause-told
+returns-in_err-fetch-clause-told g c stamped v cs outs b records free runs =
+    let p = err_from_is_err_and c.from_residual.result c.from_residual.ensures.1 in
+    let heads = c.args.heads.now in
+    let e = end_view c.args.end.now in
+    let o = c.args.output.now in
+    rw (p.1, p.2)
+    (not_fetched v c.args.files.now heads cs outs e c.args.from records runs c.args.index c.requires.index o c.args.reader.now
+    c.args.splitter.now b stamped (book_view c.args.book.now).next c.fetch.new.reader c.fetch.result c.fetch.ensures.raw
+    c.fetch.ensures.own {U = Unit {0}}
+    (λ w u. SplitSoFar v c.args.files.now heads cs outs e c.args.from (c.args.index + 1) b o c.fetch.new.reader c.args.splitter.now u)
+    c.in_err-fetch.field-0.0 c.in_err-fetch.was c.in_err-fetch.ensures.only)
+
+pub returns-in_err-fetch-clause-works : goal.returns-in_err-fetch-clause-works
+returns-in_err-fetch-clause-works g c =
+    let p = err_from_is_err_and c.from_residual.result c.from_residual.ensures.1 in
+    let w = segment_name (codes "demux") (book_view c.args.book.now).next in
+    rw (p.1, p.2)
+    (works_result (Unit {0}) (ReadsOrWrites w) c.fetch.result c.in_err-fetch.field-0.0 c.in_err-fetch.was
+    (works_as ReadsFile (ReadsOrWrites w) (λ call k. inl k) c.fetch.result c.fetch.ensures.works))
+
+pub returns-clause-told : goal.returns-clause-told
+returns-clause-told g c stamped v cs outs b records free runs =
+    let heads = c.args.heads.now in
+    let e = end_view c.args.end.now in
+    let o = c.args.output.now in
+    let s = c.args.splitter.now in
+    let given = c.past-value.result.now in
+    let w = segment_name (codes "demux") (book_view c.args.book.now).next in
+    let passes : ends_past e c.args.from (head_in heads c.args.index) ≡ true =
+    sym (ap (ends_past e c.args.from) c.get-head.ensures.head) ∙ (sym c.ends_past.ensures ∙ c.if-not-ends_past.false) in
+    record_split v c.args.files.now heads cs outs e c.args.from records runs c.args.index c.requires.index o c.args.reader.now
+    s b stamped (book_view c.args.book.now).next c.fetch.new.reader c.fetch.result c.fetch.ensures.raw
+    c.fetch.ensures.own c.in_ok-fetch.field-0 c.in_ok-fetch.was passes given c.get-head.result.begin
+    (ap (λ (h : Head). h.begin) c.get-head.ensures.head) (c.past-value.ensures ∙ ap (λ l. drop (c.args.from - c.get-head.result.begin) l) c.value.ensures)
+    c.split_value.new.output c.split_value.new.splitter
+    c.split_value.result w (own_of (WritesTo w) c.split_value.result c.split_value.ensures.works)
+    (λ fed split value done. subst (λ r. OnOk r (IsSplitting b (fed ++ given) c.split_value.new.splitter)) done
+    (c.split_value.ensures.split b fed split))
+    (λ fed split placed. c.split_value.ensures.told stamped v outs c.args.from b fed free split placed)
+
+pub returns-clause-works : goal.returns-clause-works
+returns-clause-works g c =
+    let w = segment_name (codes "demux") (book_view c.args.book.now).next in
+    works_then (ReadsOrWrites w) c.fetch.result c.split_value.result
+    (works_as ReadsFile (ReadsOrWrites w) (λ call k. inl k) c.fetch.result c.fetch.ensures.works)
+    (works_as (WritesTo w) (ReadsOrWrites w) (λ call k. inr k) c.split_value.result c.split_value.ensures.works)

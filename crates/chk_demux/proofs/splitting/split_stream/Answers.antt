@@ -1,0 +1,122 @@
+use Rattle.std.proofs.Common.{◌≡◌, ◌∙◌, ◌+◌, ◌-◌, ◌++◌, ap, sym, subst, refl, arith, length, Ok, ℕ}
+use Rattle.std.specs.Prelude.{codes}
+use Rattle.std.proofs.lemmas.Result.{err_from_is_err_and}
+use Rattle.chk_site.specs.Site.{Adds}
+use Rattle.chk_site.proofs.Leads.{leads_none, leads_then, leads_as}
+use Rattle.chk_world.specs.Sight.{AtJob, sight}
+use Rattle.chk_world.specs.JobSteps.{ReadsOrWrites}
+use Rattle.chk_bytes.specs.Words.{joined}
+use Rattle.chk_book.specs.Books.{book_view}
+use Rattle.chk_book.specs.Views.{end_view}
+use Rattle.chk_book.specs.Folders.{segment_name}
+use Rattle.chk_parts.specs.Fetching.{AreWindows}
+use Rattle.chk_splitter.specs.Splitting.{fresh, pieces_of}
+use Rattle.chk_demux.specs.Working.{Worked}
+use Rattle.chk_demux.specs.Writes.{IsOutput}
+use Rattle.chk_demux.specs.Giving.{chunks_of_fed}
+use Rattle.chk_demux.specs.Splitting.{past_in, is_stamped, RunsSo, SplitSoFar, stream_chunks, stream_left}
+use Rattle.chk_demux.proofs.Ends.{at_as, so_fails, so_done}
+use Rattle.chk_demux.proofs.Places.{same_size}
+use Rattle.chk_demux.proofs.Streams.{stream_begun, stream_ended}
+use Rattle.chk_demux.proofs.Works.{works_none, works_then, works_result}
+use Rattle.chk_demux.proofs.splitting.split_stream.Goals as goal
+
+pub loop-index-init : goal.loop-index-init
+loop-index-init g c = record {
+  so_far = λ stamped v cs outs b records free runs is.
+      leads_none (g.S.Site.told c.args.site.now)
+      (λ h k. at_as stamped (λ u. IsOutput v outs c.args.output.now u × AreWindows v c.args.files.now c.args.reader.now)
+      (SplitSoFar v c.args.files.now c.args.heads.now cs outs (end_view c.args.end.now) c.split_from-from.result 0 b c.args.output.now
+      c.args.reader.now c.new-splitter.result)
+      (λ u p. stream_begun v c.args.files.now c.args.heads.now cs outs (end_view c.args.end.now) c.split_from-from.result b
+      c.args.output.now c.args.reader.now c.new-splitter.result u is p) h k);
+  writer = c.requires.writer;
+  works = works_none (ReadsOrWrites (segment_name (codes "demux") (book_view c.args.book.now).next)) tt (g.S.Site.told c.args.site.now);
+  count = refl;
+}
+
+pub loop-index-preserved : goal.loop-index-preserved
+loop-index-preserved g c =
+    let l = c.loop-index in
+    let next = (book_view c.args.book.now).next in
+    let w = segment_name (codes "demux") next in
+    let e = end_view c.args.end.now in
+    let from = c.split_from-from.result in
+    record {
+      so_far = λ stamped v cs outs b records free runs is.
+          leads_then (l.invariant.so_far stamped v cs outs b records free runs is)
+          (so_done {T = Unit {0}} stamped v next
+          (AtJob stamped (SplitSoFar v c.args.files.now c.args.heads.now cs outs e from l.index b l.output l.reader l.splitter))
+          (λ x u. SplitSoFar v c.args.files.now c.args.heads.now cs outs e from (l.index + 1) b c.split_record.new.output
+          c.split_record.new.reader c.split_record.new.splitter u)
+          c.split_record.result c.in_ok-split_record.field-0 c.in_ok-split_record.was
+          (c.split_record.ensures.told stamped v cs outs b records free runs));
+      writer = c.in_ok-split_record.ensures.writer;
+      works = works_then (ReadsOrWrites w) (Ok tt) (Ok tt) l.invariant.works
+          (subst (λ r. Adds (g.S.Site.told l.site) (g.S.Site.told c.split_record.new.site) (Worked (ReadsOrWrites w) r))
+          c.in_ok-split_record.was c.split_record.ensures.works);
+      count = c.in_ok-split_record.ensures.cause ∙ l.invariant.count;
+    }
+
+pub returns-in_err-split_record-clause-told : goal.returns-in_err-split_record-clause-told
+returns-in_err-split_record-clause-told g c stamped v cs outs records free runs =
+    let p = err_from_is_err_and c.from_residual.result c.from_residual.ensures.1 in
+    let l = c.loop-index in
+    let next = (book_view c.args.book.now).next in
+    let e = end_view c.args.end.now in
+    let from = c.split_from-from.result in
+    let types = c.args.types.now in
+    let b = is_stamped types e.stream.kind in
+    let here : RunsSo cs e from = subst (RunsSo cs e) (sym c.split_from-from.ensures) runs in
+    let is : c.new-splitter.result ≡ fresh b =
+    c.new-splitter.ensures ∙ ap fresh (c.is_stamped.ensures ∙ ap (is_stamped types) c.as_str.ensures.text) in
+    rw (p.1, p.2)
+    (leads_then (l.invariant.so_far stamped v cs outs b records free here is)
+    (so_fails {T = Unit {0}} {U = ℕ} stamped v next
+    (AtJob stamped (SplitSoFar v c.args.files.now c.args.heads.now cs outs e from l.index b l.output l.reader l.splitter))
+    (λ x u. SplitSoFar v c.args.files.now c.args.heads.now cs outs e from (l.index + 1) b c.split_record.new.output
+    c.split_record.new.reader c.split_record.new.splitter u)
+    (λ left u. IsOutput v (outs ++ stream_chunks types (book_view c.args.book.now) c.args.heads.now cs e) c.split_record.new.output u
+    × AreWindows v c.args.files.now c.split_record.new.reader × (left ≡ stream_left types (book_view c.args.book.now) cs e))
+    c.split_record.result c.in_err-split_record.field-0.0 c.in_err-split_record.was
+    (c.split_record.ensures.told stamped v cs outs b records free here)))
+
+pub returns-in_err-split_record-clause-works : goal.returns-in_err-split_record-clause-works
+returns-in_err-split_record-clause-works g c =
+    let p = err_from_is_err_and c.from_residual.result c.from_residual.ensures.1 in
+    let w = segment_name (codes "demux") (book_view c.args.book.now).next in
+    rw (p.1, p.2)
+    (works_result ℕ (ReadsOrWrites w) c.split_record.result c.in_err-split_record.field-0.0 c.in_err-split_record.was
+    (works_then (ReadsOrWrites w) (Ok tt) c.split_record.result c.loop-index.invariant.works c.split_record.ensures.works))
+
+pub returns-clause-told : goal.returns-clause-told
+returns-clause-told g c stamped v cs outs records free runs =
+    let l = c.loop-index in
+    let e = end_view c.args.end.now in
+    let from = c.split_from-from.result in
+    let types = c.args.types.now in
+    let heads = c.args.heads.now in
+    let files = c.args.files.now in
+    let b = is_stamped types e.stream.kind in
+    let here : RunsSo cs e from = subst (RunsSo cs e) (sym c.split_from-from.ensures) runs in
+    let is : c.new-splitter.result ≡ fresh b =
+    c.new-splitter.ensures ∙ ap fresh (c.is_stamped.ensures ∙ ap (is_stamped types) c.as_str.ensures.text) in
+    let size = same_size v files heads cs e from records here in
+    let high = c.loop-index-test.false in
+    let len = c.len-index-end.ensures in
+    let low = l.auto.index-end in
+    let all : l.index ≡ length heads = omega (arith, high, len, low) in
+    leads_as (λ h k. k)
+    (λ h k. record {
+      legal = k.legal;
+      may_act = k.may_act;
+      alive = λ running.
+          let p : SplitSoFar v files heads cs outs e from (length heads) b l.output l.reader l.splitter (sight h) =
+          subst (λ i. SplitSoFar v files heads cs outs e from i b l.output l.reader l.splitter (sight h)) all (k.alive running) in
+          let q = stream_ended v files heads cs outs e from b l.output l.reader l.splitter (sight h) size p in
+          subst (λ n. IsOutput v (outs ++ chunks_of_fed heads e n b (past_in n e.stream cs)) l.output (sight h)
+          × AreWindows v files l.reader
+          × (c.pending.result ≡ length (past_in n e.stream cs) - length (joined (pieces_of b (past_in n e.stream cs)))))
+          c.split_from-from.ensures (q.0, q.1, c.pending.ensures ∙ q.2);
+    })
+    (l.invariant.so_far stamped v cs outs b records free here is)

@@ -1,0 +1,31 @@
+use Rattle.std.proofs.Common.{◌≡◌, ℕ, Bool, List, Ok}
+use Rattle.std.specs.Prelude.{codes}
+use Rattle.chk_site.specs.Site.{Adds}
+use Rattle.chk_site.specs.Runs.{Leads}
+use Rattle.chk_chunk.specs.Keys.{Chunk}
+use Rattle.chk_world.specs.Places.{As}
+use Rattle.chk_world.specs.Sight.{job, Sight, AtJob}
+use Rattle.chk_world.specs.JobSteps.{ReadsOrWrites}
+use Rattle.chk_book.specs.Folders.{segment_name}
+use Rattle.chk_book.specs.Books.{book_view}
+use Rattle.chk_book.specs.Views.{end_view}
+use Rattle.chk_parts.specs.Records.{AreRecords}
+use Rattle.chk_parts.specs.Fetching.{AreWindows}
+use Rattle.chk_splitter.specs.Splitting.{fresh}
+use Rattle.chk_demux.specs.Working.{Worked}
+use Rattle.chk_demux.specs.Writes.{IsFree, IsWriter, IsOutput}
+use Rattle.chk_demux.specs.Splitting.{RunsSo, SplitSoFar}
+use Rattle.chk_demux.proofs.splitting.split_stream.Given as goal
+
+abbrev pub invariant-loop-index : goal.invariant-loop-index
+invariant-loop-index g l = record {
+  so_far : (stamped : List (List ℕ)) (v : Sight) (cs outs : List Chunk) (b : Bool) → AreRecords v l.files l.heads cs
+      → IsFree v (book_view l.book).next → RunsSo cs (end_view l.end) l.from → l.initial.splitter ≡ fresh b
+      → Adds (g.S.Site.told l.fn.site) (g.S.Site.told l.site) (Leads (As stamped job)
+      (AtJob stamped (λ u. IsOutput v outs l.fn.output u × AreWindows v l.files l.fn.reader))
+      (AtJob stamped (SplitSoFar v l.files l.heads cs outs (end_view l.end) l.from l.index b l.output l.reader l.splitter)));
+  writer : IsWriter (book_view l.book).next l.output.segmenter;
+  works : Adds (g.S.Site.told l.fn.site) (g.S.Site.told l.site)
+      (Worked {T = Unit {0}} (ReadsOrWrites (segment_name (codes "demux") (book_view l.book).next)) (Ok tt));
+  count : g.S.Site.fault_count l.site ≡ g.S.Site.fault_count l.fn.site;
+}

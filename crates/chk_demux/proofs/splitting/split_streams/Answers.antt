@@ -1,0 +1,205 @@
+use Rattle.std.proofs.Common.{◌≡◌, ◌∙◌, ◌+◌, ◌++◌, ◌<◌, ap, sym, subst, refl, arith, length, map, take, Ok, ℕ, [], ap₂}
+use Rattle.std.specs.Prelude.{codes, slice_index_or}
+use Rattle.std.proofs.lemmas.Result.{err_from_is_err_and}
+use Rattle.std.proofs.lemmas.List.{take_all, length-map}
+use Rattle.chk_site.specs.Site.{Adds}
+use Rattle.chk_site.proofs.Leads.{leads_none, leads_as}
+use Rattle.chk_world.specs.Places.{As}
+use Rattle.chk_world.specs.Sight.{job, Sight, AtJob, sight}
+use Rattle.chk_world.specs.JobSteps.{ReadsOrWrites}
+use Rattle.chk_book.specs.Books.{book_view}
+use Rattle.chk_book.specs.Views.{end_view}
+use Rattle.chk_book.specs.Folders.{segment_name}
+use Rattle.chk_plan.proofs.Bridges.{each_index}
+use Rattle.chk_parts.specs.Fetching.{AreWindows}
+use Rattle.chk_parts.proofs.CutLists.{nothing_windows}
+use Rattle.chk_demux.specs.Working.{Worked}
+use Rattle.chk_demux.specs.Writes.{IsOutput}
+use Rattle.chk_demux.specs.Splitting.{split_from, RunsSo, stream_chunks, stream_left, all_chunks, all_left}
+use Rattle.chk_demux.proofs.Ends.{at_as, no_more}
+use Rattle.chk_demux.proofs.Streams.{seen_at, chunks_more, left_more, stream_fails, stream_done}
+use Rattle.chk_demux.proofs.Works.{works_none, works_then, works_result, works_value, works_end}
+use Rattle.chk_demux.proofs.splitting.split_streams.Goals as goal
+
+pub loop-end-init : goal.loop-end-init
+loop-end-init g c = record {
+  so_far = λ stamped v cs records free runs.
+      leads_none (g.S.Site.told c.args.site.now)
+      (λ h k. record {
+        legal = k.legal;
+        may_act = k.may_act;
+        alive = λ running.
+            (k.alive running, nothing_windows v c.args.files.now c.new-reader.result c.new-reader.ensures, refl);
+      });
+  writer = c.requires.writer;
+  works = works_none (ReadsOrWrites (segment_name (codes "demux") (book_view c.args.book.now).next)) tt (g.S.Site.told c.args.site.now);
+  count = refl;
+}
+
+pub loop-end-preserved : goal.loop-end-preserved
+loop-end-preserved g c =
+    let l = c.loop-end in
+    let types = c.args.types.now in
+    let b = book_view c.args.book.now in
+    let heads = c.args.heads.now in
+    let files = c.args.files.now in
+    let ends = (book_view c.args.archive.now).ends in
+    let i = l.end-index in
+    let e = end_view c.end-item.result in
+    let high = c.loop-end-test.true in
+    let size = length-map c.args.archive.now.ends end_view in
+    let items = ap length c.as_slice-end-items.ensures in
+    let low : i < length ends = omega (arith, high, size, items) in
+    let is : slice_index_or ends i e ≡ e =
+    ap (λ xs. slice_index_or (map end_view xs) i e) (sym c.as_slice-end-items.ensures)
+    ∙ (seen_at end_view c.as_slice-end-items.result.now i c.end-item.result ∙ ap end_view (sym c.end-item.is)) in
+    let w = segment_name (codes "demux") b.next in
+    record {
+      so_far = λ stamped v cs records free runs.
+          let here : RunsSo cs e (split_from b e) =
+          subst (λ x. RunsSo cs x (split_from b x)) is (each_index (λ x. RunsSo cs x (split_from b x)) ends runs i low e) in
+          let so = all_chunks types b heads cs (take i ends) in
+          let P : Sight → Type 0 = λ u. IsOutput v so l.output u × AreWindows v files l.reader in
+          let X : Type 0 = l.left ≡ all_left types b cs (take i ends) in
+          let R : ℕ → Sight → Type 0 = λ n u. IsOutput v (so ++ stream_chunks types b heads cs e) c.split_stream.new.output u
+          × AreWindows v files c.split_stream.new.reader × (n ≡ stream_left types b cs e) in
+          let A = AtJob stamped (IsOutput v [] c.args.output.now) in
+          let first = leads_as {S = As stamped job} (λ h k. k)
+          (λ h k. at_as stamped (λ u. IsOutput v so l.output u × AreWindows v files l.reader × X) (λ u. P u × X) (λ u p. ((p.0, p.1), p.2)) h k)
+          (l.invariant.so_far stamped v cs records free runs) in
+          let second = c.split_stream.ensures.told stamped v cs so records free here in
+          let w = segment_name (codes "demux") b.next in
+          leads_as {S = As stamped job} (λ h k. k)
+          (λ h k. at_as stamped (λ u. R c.in_ok-more.more u × X)
+          (λ u. IsOutput v (all_chunks types b heads cs (take (i + 1) ends)) c.split_stream.new.output u
+          × AreWindows v files c.split_stream.new.reader × (c.in_ok-left.left ≡ all_left types b cs (take (i + 1) ends)))
+          (λ u p. (
+            subst (λ x. IsOutput v x c.split_stream.new.output u) (sym (chunks_more types b heads cs ends i low e is)) p.0.0,
+            p.0.1,
+            c.in_ok-left.ensures.sum ∙ (ap₂ (λ m n. m + n) p.1 p.0.2 ∙ sym (left_more types b heads cs ends i low e is)),
+          )) h k)
+          (stream_done stamped v b.next w A P P X R c.split_stream.result first second c.split_stream.ensures.works
+          c.in_ok-more.more c.in_ok-more.was);
+      writer = c.in_ok-more.ensures.writer;
+      works = works_then (ReadsOrWrites w) (Ok tt) (Ok tt) l.invariant.works
+          (works_value ℕ (Unit {0}) (ReadsOrWrites w) c.in_ok-more.more tt
+          (subst (λ r. Adds (g.S.Site.told l.site) (g.S.Site.told c.split_stream.new.site) (Worked (ReadsOrWrites w) r))
+          c.in_ok-more.was c.split_stream.ensures.works));
+      count = c.in_ok-more.ensures.cause ∙ l.invariant.count;
+    }
+
+pub returns-in_err-more-clause-told : goal.returns-in_err-more-clause-told
+returns-in_err-more-clause-told g c stamped v cs records free runs =
+    let p = err_from_is_err_and c.from_residual.result c.from_residual.ensures.1 in
+    let l = c.loop-end in
+    let types = c.args.types.now in
+    let b = book_view c.args.book.now in
+    let heads = c.args.heads.now in
+    let files = c.args.files.now in
+    let ends = (book_view c.args.archive.now).ends in
+    let i = l.end-index in
+    let e = end_view c.end-item.result in
+    let high = c.loop-end-test.true in
+    let size = length-map c.args.archive.now.ends end_view in
+    let items = ap length c.as_slice-end-items.ensures in
+    let low : i < length ends = omega (arith, high, size, items) in
+    let is : slice_index_or ends i e ≡ e =
+    ap (λ xs. slice_index_or (map end_view xs) i e) (sym c.as_slice-end-items.ensures)
+    ∙ (seen_at end_view c.as_slice-end-items.result.now i c.end-item.result ∙ ap end_view (sym c.end-item.is)) in
+    let here : RunsSo cs e (split_from b e) =
+    subst (λ x. RunsSo cs x (split_from b x)) is (each_index (λ x. RunsSo cs x (split_from b x)) ends runs i low e) in
+    let so = all_chunks types b heads cs (take i ends) in
+    let P : Sight → Type 0 = λ u. IsOutput v so l.output u × AreWindows v files l.reader in
+    let X : Type 0 = l.left ≡ all_left types b cs (take i ends) in
+    let R : ℕ → Sight → Type 0 = λ n u. IsOutput v (so ++ stream_chunks types b heads cs e) c.split_stream.new.output u
+    × AreWindows v files c.split_stream.new.reader × (n ≡ stream_left types b cs e) in
+    let A = AtJob stamped (IsOutput v [] c.args.output.now) in
+    let first = leads_as {S = As stamped job} (λ h k. k)
+    (λ h k. at_as stamped (λ u. IsOutput v so l.output u × AreWindows v files l.reader × X) (λ u. P u × X) (λ u p. ((p.0, p.1), p.2)) h k)
+    (l.invariant.so_far stamped v cs records free runs) in
+    let second = c.split_stream.ensures.told stamped v cs so records free here in
+    let w = segment_name (codes "demux") b.next in
+    rw (p.1, p.2)
+    (stream_fails stamped v b.next w A P P X R c.split_stream.result first second c.split_stream.ensures.works {U = ℕ}
+    (λ left u. IsOutput v (all_chunks types b heads cs ends) c.split_stream.new.output u
+    × (left ≡ all_left types b cs ends))
+    c.in_err-more.field-0.0 c.in_err-more.was)
+
+pub returns-in_err-more-clause-works : goal.returns-in_err-more-clause-works
+returns-in_err-more-clause-works g c =
+    let p = err_from_is_err_and c.from_residual.result c.from_residual.ensures.1 in
+    let w = segment_name (codes "demux") (book_view c.args.book.now).next in
+    rw (p.1, p.2)
+    (works_result ℕ (ReadsOrWrites w) c.split_stream.result c.in_err-more.field-0.0 c.in_err-more.was
+    (works_then (ReadsOrWrites w) (Ok tt) c.split_stream.result c.loop-end.invariant.works c.split_stream.ensures.works))
+
+pub returns-in_err-left-clause-told : goal.returns-in_err-left-clause-told
+returns-in_err-left-clause-told g c stamped v cs records free runs =
+    let p = err_from_is_err_and c.from_residual-in_err-left.result c.from_residual-in_err-left.ensures.1 in
+    let l = c.loop-end in
+    let types = c.args.types.now in
+    let b = book_view c.args.book.now in
+    let heads = c.args.heads.now in
+    let files = c.args.files.now in
+    let ends = (book_view c.args.archive.now).ends in
+    let i = l.end-index in
+    let e = end_view c.end-item.result in
+    let high = c.loop-end-test.true in
+    let size = length-map c.args.archive.now.ends end_view in
+    let items = ap length c.as_slice-end-items.ensures in
+    let low : i < length ends = omega (arith, high, size, items) in
+    let is : slice_index_or ends i e ≡ e =
+    ap (λ xs. slice_index_or (map end_view xs) i e) (sym c.as_slice-end-items.ensures)
+    ∙ (seen_at end_view c.as_slice-end-items.result.now i c.end-item.result ∙ ap end_view (sym c.end-item.is)) in
+    let here : RunsSo cs e (split_from b e) =
+    subst (λ x. RunsSo cs x (split_from b x)) is (each_index (λ x. RunsSo cs x (split_from b x)) ends runs i low e) in
+    let so = all_chunks types b heads cs (take i ends) in
+    let P : Sight → Type 0 = λ u. IsOutput v so l.output u × AreWindows v files l.reader in
+    let X : Type 0 = l.left ≡ all_left types b cs (take i ends) in
+    let R : ℕ → Sight → Type 0 = λ n u. IsOutput v (so ++ stream_chunks types b heads cs e) c.split_stream.new.output u
+    × AreWindows v files c.split_stream.new.reader × (n ≡ stream_left types b cs e) in
+    let A = AtJob stamped (IsOutput v [] c.args.output.now) in
+    let first = leads_as {S = As stamped job} (λ h k. k)
+    (λ h k. at_as stamped (λ u. IsOutput v so l.output u × AreWindows v files l.reader × X) (λ u. P u × X) (λ u p. ((p.0, p.1), p.2)) h k)
+    (l.invariant.so_far stamped v cs records free runs) in
+    let second = c.split_stream.ensures.told stamped v cs so records free here in
+    let w = segment_name (codes "demux") b.next in
+    rw (p.1, p.2, c.in_err-left.ensures.only)
+    (no_more {U = ℕ} stamped v b.next A (λ u. R c.in_ok-more.more u × X)
+    (λ left u. IsOutput v (all_chunks types b heads cs ends) c.split_stream.new.output u
+    × (left ≡ all_left types b cs ends))
+    (stream_done stamped v b.next w A P P X R c.split_stream.result first second c.split_stream.ensures.works
+    c.in_ok-more.more c.in_ok-more.was))
+
+pub returns-in_err-left-clause-works : goal.returns-in_err-left-clause-works
+returns-in_err-left-clause-works g c =
+    let p = err_from_is_err_and c.from_residual-in_err-left.result c.from_residual-in_err-left.ensures.1 in
+    let w = segment_name (codes "demux") (book_view c.args.book.now).next in
+    rw (p.1, p.2, c.in_err-left.ensures.only)
+    (works_end ℕ ℕ (ReadsOrWrites w) c.in_ok-more.more
+    (subst (λ r. Adds (g.S.Site.told c.args.site.now) (g.S.Site.told c.split_stream.new.site) (Worked (ReadsOrWrites w) r))
+    c.in_ok-more.was
+    (works_then (ReadsOrWrites w) (Ok tt) c.split_stream.result c.loop-end.invariant.works c.split_stream.ensures.works)))
+
+pub returns-clause-told : goal.returns-clause-told
+returns-clause-told g c stamped v cs records free runs =
+    let l = c.loop-end in
+    let types = c.args.types.now in
+    let b = book_view c.args.book.now in
+    let heads = c.args.heads.now in
+    let ends = (book_view c.args.archive.now).ends in
+    let high = c.loop-end-test.false in
+    let size = length-map c.args.archive.now.ends end_view in
+    let items = ap length c.as_slice-end-items.ensures in
+    let all : take l.end-index ends ≡ ends = take_all l.end-index ends (omega (arith, high, size, items)) in
+    leads_as (λ h k. k)
+    (λ h k. record {
+      legal = k.legal;
+      may_act = k.may_act;
+      alive = λ running.
+          let p = k.alive running in (
+            subst (λ x. IsOutput v (all_chunks types b heads cs x) l.output (sight h)) all p.0,
+            p.2 ∙ ap (all_left types b cs) all,
+          );
+    })
+    (l.invariant.so_far stamped v cs records free runs)

@@ -1,0 +1,31 @@
+use Rattle.std.proofs.Common.{◌≡◌, ℕ, List, [], take, Ok}
+use Rattle.std.specs.Prelude.{codes}
+use Rattle.chk_site.specs.Site.{Adds}
+use Rattle.chk_site.specs.Runs.{Leads}
+use Rattle.chk_chunk.specs.Keys.{Chunk}
+use Rattle.chk_world.specs.Places.{As}
+use Rattle.chk_world.specs.Sight.{job, Sight, AtJob}
+use Rattle.chk_world.specs.JobSteps.{ReadsOrWrites}
+use Rattle.chk_book.specs.Folders.{segment_name}
+use Rattle.chk_book.specs.Books.{book_view}
+use Rattle.chk_parts.specs.Records.{AreRecords}
+use Rattle.chk_parts.specs.Fetching.{AreWindows}
+use Rattle.chk_demux.specs.Working.{Worked}
+use Rattle.chk_demux.specs.Writes.{IsFree, IsWriter, IsOutput}
+use Rattle.chk_demux.specs.Splitting.{SplitAll, all_chunks, all_left}
+use Rattle.chk_demux.proofs.splitting.split_streams.Given as goal
+
+abbrev pub invariant-loop-end : goal.invariant-loop-end
+invariant-loop-end g l = record {
+  so_far : (stamped : List (List ℕ)) (v : Sight) (cs : List Chunk) → AreRecords v l.files l.heads cs
+      → IsFree v (book_view l.book).next → SplitAll cs (book_view l.archive).ends (book_view l.book)
+      → Adds (g.S.Site.told l.fn.site) (g.S.Site.told l.site) (Leads (As stamped job)
+      (AtJob stamped (IsOutput v [] l.fn.output))
+      (AtJob stamped (λ u. IsOutput v (all_chunks l.types (book_view l.book) l.heads cs (take l.end-index (book_view l.archive).ends)) l.output u
+      × AreWindows v l.files l.reader
+      × (l.left ≡ all_left l.types (book_view l.book) cs (take l.end-index (book_view l.archive).ends)))));
+  writer : IsWriter (book_view l.book).next l.output.segmenter;
+  works : Adds (g.S.Site.told l.fn.site) (g.S.Site.told l.site)
+      (Worked {T = Unit {0}} (ReadsOrWrites (segment_name (codes "demux") (book_view l.book).next)) (Ok tt));
+  count : g.S.Site.fault_count l.site ≡ g.S.Site.fault_count l.fn.site;
+}

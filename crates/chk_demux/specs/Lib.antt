@@ -1,0 +1,10 @@
+-- The demux run.
+pub mod Writes
+pub mod Working
+pub mod Demuxed
+pub mod Beginning
+pub mod Giving
+pub mod Splitting
+pub mod Publishing
+pub mod Entering
+pub mod Running

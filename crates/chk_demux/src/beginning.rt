@@ -1,0 +1,50 @@
+//! The beginning of a demux run.
+
+ghost use Rattle.std.specs.Prelude.{◌≡◌, ℕ, List, IfErr};
+ghost use Rattle.chk_site.specs.Site.{Adds, OutsideCause};
+ghost use Rattle.chk_site.specs.Runs.{Leads};
+ghost use Rattle.chk_chunk.specs.Keys.{Chunk};
+ghost use Rattle.chk_world.specs.Places.{As};
+ghost use Rattle.chk_world.specs.Sight.{job};
+ghost use Rattle.chk_heads.specs.Faults.{JobCause, IsOfRead};
+ghost use Rattle.chk_demux.specs.Demuxed.{Begun};
+ghost use Rattle.chk_demux.specs.Working.{Worked, job_result};
+ghost use Rattle.chk_demux.specs.Beginning.{Begins, HasStarted, HasBegun};
+
+use chk_book::{Book, load_book};
+use chk_heads::JobFault;
+use chk_site::{Call, OutsideFault, Site, Who, done};
+use std::alloc::Global;
+
+/// The books of the two folders.
+#[derive(Debug, Drop)]
+pub(crate) struct Books {
+    pub(crate) archive: Book,
+    pub(crate) demux: Book,
+}
+
+/// Starts the job, and loads the book of the archive and that of the records. It costs one call and the reads of the books.
+pub(crate) fn begin<S: Site>(alloc: Global, site: &mut S, who: &Who) -> Result<Books, JobFault>
+    requires { who.now ≡ job }
+    ensures told { (stamped : List (List ℕ)) (before : List Chunk) → Adds (S.told site.old) (S.told site.new)
+        (Leads (As stamped job) (Begun stamped before) (HasBegun stamped before result)) }
+    ensures works { Adds (S.told site.old) (S.told site.new) (Worked Begins result) }
+    ensures only { IfErr result IsOfRead }
+    ensures cause { JobCause (S.fault_count site.old) (S.fault_count site.new) result }
+{
+    start(alloc, site, who)?;
+    let archive = load_book(alloc, site, who, "archive")?;
+    let demux = load_book(alloc, site, who, "demux")?;
+    Ok(Books { archive, demux })
+}
+
+/// The job acts from here on.
+fn start<S: Site>(alloc: Global, site: &mut S, who: &Who) -> Result<(), OutsideFault>
+    requires { who.now ≡ job }
+    ensures told { (stamped : List (List ℕ)) (before : List Chunk) → Adds (S.told site.old) (S.told site.new)
+        (Leads (As stamped job) (Begun stamped before) (HasStarted stamped before result)) }
+    ensures works { Adds (S.told site.old) (S.told site.new) (Worked Begins (job_result result)) }
+    ensures cause { OutsideCause (S.fault_count site.old) (S.fault_count site.new) result }
+{
+    done(Call::Start, site.start(alloc, who))
+}

@@ -1,0 +1,236 @@
+//! The split of each stream of the archive from its last record on.
+
+ghost use Rattle.std.specs.Prelude.{Bool, ◌≡◌, ◌+◌, ◌-◌, ◌<◌, ◌≤◌, ◌++◌, ◌&&◌, [], ℕ, List, length, map, max, nat_lt, codes, drop, take, bytes_eq, slice_index_or, IsTrue, IfOk, IfErr, OnOk};
+ghost use Rattle.std.specs.List.{list_any};
+ghost use Rattle.chk_site.specs.History.{Every};
+ghost use Rattle.chk_site.specs.Site.{Adds};
+ghost use Rattle.chk_site.specs.Runs.{anyhow, Leads};
+ghost use Rattle.chk_chunk.specs.Keys.{Chunk};
+ghost use Rattle.chk_world.specs.Places.{As};
+ghost use Rattle.chk_world.specs.Sight.{job, Sight, AtJob};
+ghost use Rattle.chk_world.specs.JobSteps.{IsOf, ReadsFile, ReadsOrWrites, SparesFile};
+ghost use Rattle.chk_heads.specs.Faults.{JobCause, IsOfRead};
+ghost use Rattle.chk_heads.specs.declared.fault.JobFault.TheVariants.{NoMemory};
+ghost use Rattle.chk_heads.specs.Order.{lent_head, no_head};
+ghost use Rattle.chk_plan.specs.Passes.{head_in};
+ghost use Rattle.chk_parts.specs.Records.{AreRecords};
+ghost use Rattle.chk_parts.specs.Gathering.{AreSound};
+ghost use Rattle.chk_parts.specs.Fetching.{head_file, IsRecordAt, CanFetch, Fetched, AreWindows};
+ghost use Rattle.chk_book.specs.Folders.{segment_name};
+ghost use Rattle.chk_book.specs.Books.{book_view, end_in};
+ghost use Rattle.chk_book.specs.Views.{end_view};
+ghost use Rattle.chk_demux.specs.Working.{Worked, EndsSo};
+ghost use Rattle.chk_demux.specs.Writes.{IsFree, IsWriter, IsOutput};
+ghost use Rattle.chk_demux.specs.Splitting.{past_in, split_from, ends_past, is_stamped, RunsSo, SplitSoFar, SplitAll, stream_chunks, stream_left, all_chunks, all_left};
+
+use crate::giving::{is_of, split_value};
+use crate::output::Output;
+use chk_book::{Book, End};
+use chk_bytes::Word;
+use chk_heads::{HeadRef, Heads, JobFault};
+use chk_merge::RecordReader;
+use chk_site::{Site, Who};
+use chk_splitter::Splitter;
+use std::alloc::Global;
+
+/// The type is one of those that are split by stamps.
+fn is_stamped(kind: &str, types: &[Word]) -> bool
+    ensures { result ≡ list_any (bytes_eq kind.now) types.now }
+{
+    types.iter().any(|word| word.as_str() == kind)
+}
+
+/// Where the split of a stream goes on: behind its last record, or at its start.
+fn split_from(end: &End, book: &Book) -> u64
+    ensures { result ≡ split_from (book_view book.now) (end_view end.now) }
+{
+    let ended = book.archived_end(end.source.as_str(), end.kind.as_str(), end.name.as_str());
+    end.start.max(ended)
+}
+
+/// The head is of the end's stream, and its record ends past the offset `from`.
+fn ends_past(end: &End, from: u64, head: &HeadRef<'_>) -> bool
+    ensures { result ≡ ends_past (end_view end.now) from (lent_head head.now) }
+{
+    is_of(end, head) && head.key.seq > from
+}
+
+/// What of a record's bytes stands from the offset `from` on, of which the first one has the offset `begin`.
+fn past(value: &[u8], begin: u64, from: u64) -> &[u8]
+    ensures { result.now ≡ drop (from - begin) value.now }
+{
+    let skip = from.saturating_sub(begin);
+    if skip >= value.len() as u64 {
+        return &value[value.len()..];
+    }
+    &value[skip as usize..]
+}
+
+/// Makes the record of the head at `index` the one whose value the reader holds. A head of none of the files counts as want of
+/// memory.
+fn fetch<S: Site>(
+    alloc: Global,
+    site: &mut S,
+    who: &Who,
+    reader: &mut RecordReader,
+    files: &[Word],
+    heads: &Heads,
+    index: usize,
+) -> Result<(), JobFault>
+    requires job { who.now ≡ job }
+    requires index { index < length heads.now }
+    ensures raw { (v : Sight) (c : Chunk) → AreSound v files.now → IsRecordAt v files.now heads.now index c
+        → Adds (S.told site.old) (S.told site.new)
+        (Leads (anyhow (SparesFile (head_file files.now heads.now index))) (CanFetch v files.now heads.now index reader.old)
+        (Fetched v files.now heads.now index c reader.new result)) }
+    ensures own { Adds (S.told site.old) (S.told site.new) (Every (IsOf ReadsFile)) }
+    ensures works { Adds (S.told site.old) (S.told site.new) (Worked ReadsFile result) }
+    ensures only { IfErr result IsOfRead }
+    ensures cause { JobCause (S.fault_count site.old) (S.fault_count site.new) result }
+{
+    match files.get(heads.get(index).file as usize) {
+        Some(name) => reader.fetch(alloc, site, who, name.as_str(), heads, index),
+        None => Err(JobFault::NoMemory),
+    }
+}
+
+/// Splits what the record of the head at `index` has of the end's stream from the offset `from` on.
+fn split_record<S: Site>(
+    alloc: Global,
+    site: &mut S,
+    who: &Who,
+    book: &Book,
+    output: &mut Output,
+    reader: &mut RecordReader,
+    splitter: &mut Splitter,
+    files: &[Word],
+    heads: &Heads,
+    index: usize,
+    end: &End,
+    from: u64,
+) -> Result<(), JobFault>
+    requires job { who.now ≡ job }
+    requires writer { IsWriter (book_view book.now).next output.old.segmenter }
+    requires index { index < length heads.now }
+    ensures told { (stamped : List (List ℕ)) (v : Sight) (cs outs : List Chunk) (by_stamps : Bool)
+        → AreRecords v files.now heads.now cs → IsFree v (book_view book.now).next → RunsSo cs (end_view end.now) from
+        → Adds (S.told site.old) (S.told site.new)
+        (Leads (As stamped job)
+        (AtJob stamped (SplitSoFar v files.now heads.now cs outs (end_view end.now) from index by_stamps output.old reader.old splitter.old))
+        (EndsSo stamped v (book_view book.now).next
+        (λ t u. SplitSoFar v files.now heads.now cs outs (end_view end.now) from (index + 1) by_stamps output.new reader.new splitter.new u) result)) }
+    ensures writer { OnOk result (IsWriter (book_view book.now).next output.new.segmenter) }
+    ensures works { Adds (S.told site.old) (S.told site.new) (Worked (ReadsOrWrites (segment_name (codes "demux") (book_view book.now).next)) result) }
+    ensures cause { JobCause (S.fault_count site.old) (S.fault_count site.new) result }
+{
+    let head = heads.get(index);
+    if !ends_past(end, from, &head) {
+        return Ok(());
+    }
+    fetch(alloc, site, who, reader, files, heads, index)?;
+    let value = past(reader.value(), head.begin, from);
+    split_value(
+        alloc, site, who, book, output, splitter, heads, index, end, value,
+    )
+}
+
+/// Splits what the archive has of the end's stream from its last record on, and says how many bytes are of no complete record.
+fn split_stream<S: Site>(
+    alloc: Global,
+    site: &mut S,
+    who: &Who,
+    types: &[Word],
+    book: &Book,
+    output: &mut Output,
+    reader: &mut RecordReader,
+    files: &[Word],
+    heads: &Heads,
+    end: &End,
+) -> Result<u64, JobFault>
+    requires job { who.now ≡ job }
+    requires writer { IsWriter (book_view book.now).next output.old.segmenter }
+    ensures told { (stamped : List (List ℕ)) (v : Sight) (cs outs : List Chunk) → AreRecords v files.now heads.now cs
+        → IsFree v (book_view book.now).next → RunsSo cs (end_view end.now) (split_from (book_view book.now) (end_view end.now))
+        → Adds (S.told site.old) (S.told site.new)
+        (Leads (As stamped job) (AtJob stamped (λ u. IsOutput v outs output.old u × AreWindows v files.now reader.old))
+        (EndsSo stamped v (book_view book.now).next (λ left u. IsOutput v
+        (outs ++ stream_chunks types.now (book_view book.now) heads.now cs (end_view end.now)) output.new u
+        × AreWindows v files.now reader.new × (left ≡ stream_left types.now (book_view book.now) cs (end_view end.now))) result)) }
+    ensures writer { OnOk result (IsWriter (book_view book.now).next output.new.segmenter) }
+    ensures works { Adds (S.told site.old) (S.told site.new) (Worked (ReadsOrWrites (segment_name (codes "demux") (book_view book.now).next)) result) }
+    ensures cause { JobCause (S.fault_count site.old) (S.fault_count site.new) result }
+{
+    let from = split_from(end, book);
+    let mut splitter = Splitter::new(alloc, is_stamped(end.kind.as_str(), types));
+    for index in 0..heads.len() {
+        split_record(
+            alloc,
+            site,
+            who,
+            book,
+            output,
+            reader,
+            &mut splitter,
+            files,
+            heads,
+            index,
+            end,
+            from,
+        )?;
+    }
+    Ok(splitter.pending() as u64)
+}
+
+/// Splits what the archive has of each stream of its book, in the book's order, each from its last record on, and says how many
+/// bytes are of no complete record. Each record is read once. It costs the product of the streams and the heads.
+pub(crate) fn split_streams<S: Site>(
+    alloc: Global,
+    site: &mut S,
+    who: &Who,
+    types: &[Word],
+    archive: &Book,
+    book: &Book,
+    output: &mut Output,
+    files: &[Word],
+    heads: &Heads,
+) -> Result<u64, JobFault>
+    requires job { who.now ≡ job }
+    requires writer { IsWriter (book_view book.now).next output.old.segmenter }
+    ensures told { (stamped : List (List ℕ)) (v : Sight) (cs : List Chunk) → AreRecords v files.now heads.now cs
+        → IsFree v (book_view book.now).next → SplitAll cs (book_view archive.now).ends (book_view book.now)
+        → Adds (S.told site.old) (S.told site.new)
+        (Leads (As stamped job) (AtJob stamped (IsOutput v [] output.old))
+        (EndsSo stamped v (book_view book.now).next (λ left u. IsOutput v
+        (all_chunks types.now (book_view book.now) heads.now cs (book_view archive.now).ends) output.new u
+        × (left ≡ all_left types.now (book_view book.now) cs (book_view archive.now).ends)) result)) }
+    ensures writer { OnOk result (IsWriter (book_view book.now).next output.new.segmenter) }
+    ensures works { Adds (S.told site.old) (S.told site.new) (Worked (ReadsOrWrites (segment_name (codes "demux") (book_view book.now).next)) result) }
+    ensures cause { JobCause (S.fault_count site.old) (S.fault_count site.new) result }
+{
+    let mut reader = RecordReader::new(alloc);
+    let mut left: u64 = 0;
+    for end in archive.ends.as_slice() {
+        let more = split_stream(
+            alloc,
+            site,
+            who,
+            types,
+            book,
+            output,
+            &mut reader,
+            files,
+            heads,
+            end,
+        )?;
+        left = sum_of(left, more)?;
+    }
+    Ok(left)
+}
+
+/// The sum. One of more than 64 bits counts as want of memory.
+fn sum_of(a: u64, b: u64) -> Result<u64, JobFault>
+    ensures sum { IfOk result (λ n. n ≡ a + b) }
+    ensures only { IfErr result (λ fault. fault ≡ NoMemory) }
+{
+    a.checked_add(b).ok_or(JobFault::NoMemory)
+}

@@ -1,0 +1,4 @@
+mod Lines
+mod CallKinds
+mod Prints
+mod Told

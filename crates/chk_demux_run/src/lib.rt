@@ -1,0 +1,7 @@
+//! A demux run whose report is printed.
+#![tactic(auto)]
+
+mod running;
+mod telling;
+
+pub use running::run_demux;

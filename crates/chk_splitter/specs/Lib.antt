@@ -1,0 +1,4 @@
+pub mod Splitting
+pub mod LineFronts
+pub mod SplitterFields
+pub mod Laws
