@@ -1,0 +1,16 @@
+pub mod Reading
+pub mod Telling
+pub mod GoodReplies
+pub mod Joint
+pub mod Responding
+pub mod Serving
+pub mod Ending
+pub mod Given
+pub mod Lasting
+pub mod Ways
+pub mod Closing
+pub mod Keeping
+pub mod Whole
+pub mod Posting
+pub mod Polling
+pub mod Causes

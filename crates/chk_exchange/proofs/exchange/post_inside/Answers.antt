@@ -1,0 +1,150 @@
+use Rattle.std.proofs.Common.{Ok, Err, [], refl, subst, ◌∙◌}
+use Rattle.std.specs.Prelude.{Contains}
+use Rattle.std.proofs.lemmas.Result.{err_from_is_err_and}
+use Rattle.chk_exchange.specs.Exchanges.{PostsInside}
+use Rattle.chk_exchange.specs.Faults.{ServedCause}
+use Rattle.chk_exchange.proofs.Lasting.{last_then}
+use Rattle.chk_exchange.proofs.Posting.{closes_so, end_keeps, ends_so, post_is_out, sends_keep, sends_last, sends_outside, sent_message, sent_so}
+use Rattle.chk_exchange.proofs.Ways.{serves_last}
+use Rattle.chk_exchange.proofs.Ending.{serves_outside}
+use Rattle.chk_exchange.proofs.Keeping.{same_addresses, still_ready}
+use Rattle.chk_exchange.proofs.Whole.{fine_so, last_so, of_agent, of_later, served_told, told_so, unsent_told, unserved_told}
+use Rattle.chk_exchange.proofs.exchange.post_inside.Goals as goal
+
+pub returns-in_err-send_post-clause-script : goal.returns-in_err-send_post-clause-script
+returns-in_err-send_post-clause-script g c =
+    let p = err_from_is_err_and c.from_residual.result c.from_residual.ensures.1 in
+    rw (p.1, p.2)
+    (PostsInside.unsent c.in_err-send_post.field-0.0 c.in_err-send_post.ensures.script)
+
+pub returns-in_err-send_post-clause-told : goal.returns-in_err-send_post-clause-told
+returns-in_err-send_post-clause-told g c stamped started acting in_who in_a acts_who acts_a =
+    let in_c = subst (Contains started) c.requires.started in_who in
+    let acts_c = subst (Contains acting) c.requires.started acts_who in
+    let p = err_from_is_err_and c.from_residual.result c.from_residual.ensures.1 in
+    rw (p.1, p.2)
+    (unsent_told stamped started acting c.args.collector.now c.args.agent.now c.send_post.new.agent
+    in_c in_a acts_a
+    (c.in_err-send_post.ensures.told stamped) (Unit {0}) c.in_err-send_post.field-0.0
+    (sends_outside c.in_err-send_post.ensures.script))
+
+pub returns-in_err-send_post-clause-last : goal.returns-in_err-send_post-clause-last
+returns-in_err-send_post-clause-last g c =
+    let p = err_from_is_err_and c.from_residual.result c.from_residual.ensures.1 in
+    rw (p.1, p.2)
+    (sends_last (Unit {0}) c.in_err-send_post.ensures.script
+    (c.in_err-send_post.ensures.told []))
+
+pub returns-in_err-send_post-clause-ready : goal.returns-in_err-send_post-clause-ready
+returns-in_err-send_post-clause-ready g c =
+    still_ready (sends_keep c.in_err-send_post.ensures.script) c.requires.ready
+
+pub returns-in_err-send_post-clause-address : goal.returns-in_err-send_post-clause-address
+returns-in_err-send_post-clause-address g c =
+    same_addresses (sends_keep c.in_err-send_post.ensures.script)
+
+pub returns-in_err-made-clause-script : goal.returns-in_err-made-clause-script
+returns-in_err-made-clause-script g c =
+    let p = err_from_is_err_and c.from_residual-in_err-made.result
+    c.from_residual-in_err-made.ensures.1 in
+    let sent = sent_so c.in_ok-send_post.ensures.script in
+    rw (p.1, p.2)
+    (PostsInside.unserved sent.0 c.in_err-made.field-0.0 sent.1 c.in_err-made.ensures.script)
+
+pub returns-in_err-made-clause-told : goal.returns-in_err-made-clause-told
+returns-in_err-made-clause-told g c stamped started acting in_who in_a acts_who acts_a =
+    let in_c = subst (Contains started) c.requires.started in_who in
+    let acts_c = subst (Contains acting) c.requires.started acts_who in
+    let p = err_from_is_err_and c.from_residual-in_err-made.result
+    c.from_residual-in_err-made.ensures.1 in
+    let fault = c.in_err-made.field-0.0 in
+    rw (p.1, p.2)
+    (unserved_told stamped started acting c.args.collector.now c.serve.new.collector
+    c.args.agent.now c.send_post.new.agent c.requires.address in_c in_a acts_c acts_a
+    c.in_ok-send_post.ensures.sound (sent_message c.in_ok-send_post.ensures.script)
+    (c.in_ok-send_post.ensures.told stamped) (Err fault)
+    (c.in_err-made.ensures.told stamped started acting c.send_post.new.agent) (Unit {0}) fault refl
+    (serves_outside c.in_err-made.ensures.script))
+
+pub returns-in_err-made-clause-last : goal.returns-in_err-made-clause-last
+returns-in_err-made-clause-last g c =
+    let p = err_from_is_err_and c.from_residual-in_err-made.result
+    c.from_residual-in_err-made.ensures.1 in
+    rw (p.1, p.2)
+    (last_then {T = Unit {0}} (Err c.in_err-made.field-0.0) (c.in_ok-send_post.ensures.told [])
+    (serves_last (Unit {0}) c.in_err-made.ensures.script))
+
+pub returns-in_err-made-clause-ready : goal.returns-in_err-made-clause-ready
+returns-in_err-made-clause-ready g c =
+    still_ready (sends_keep c.in_ok-send_post.ensures.script) c.requires.ready
+
+pub returns-in_err-made-clause-address : goal.returns-in_err-made-clause-address
+returns-in_err-made-clause-address g c =
+    same_addresses (sends_keep c.in_ok-send_post.ensures.script)
+
+pub end_post-requires-clause-ready : goal.end_post-requires-clause-ready
+end_post-requires-clause-ready g c =
+    still_ready (sends_keep c.in_ok-send_post.ensures.script) c.requires.ready
+
+pub end_post-requires-clause-out : goal.end_post-requires-clause-out
+end_post-requires-clause-out g c = post_is_out c.in_ok-send_post.ensures.script
+
+pub returns-clause-script : goal.returns-clause-script
+returns-clause-script g c =
+    let sends = c.in_ok-send_post.ensures.script in
+    PostsInside.ended (sent_so sends).0 c.in_ok-made.made
+    (sent_so sends).1 c.in_ok-made.ensures.script
+    (ends_so sends c.end_post.ensures.script)
+
+pub returns-clause-told : goal.returns-clause-told
+returns-clause-told g c stamped started acting in_who in_a acts_who acts_a =
+    let s = c.args.collector.now in
+    let u = c.serve.new.collector in
+    let a = c.args.agent.now in
+    let b = c.send_post.new.agent in
+    let sends = c.in_ok-send_post.ensures.script in
+    let keeps = sends_keep sends in
+    let in_c = subst (Contains started) c.requires.started in_who in
+    let acts_c = subst (Contains acting) c.requires.started acts_who in
+    told_so (Unit {0}) c.args.who.now s u a b c.end_post.new.agent c.in_ok-made.made
+    c.end_post.result
+    (sent_message sends) (closes_so sends c.end_post.ensures.script) stamped started acting
+    (of_later started s u c.in_ok-made.ensures.same in_c) (of_agent started a b keeps in_a)
+    (of_agent acting a b keeps acts_a)
+    (served_told stamped started acting s u a b c.requires.address in_c in_a acts_c acts_a
+    c.in_ok-send_post.ensures.sound (sent_message sends) (c.in_ok-send_post.ensures.told stamped)
+    (Ok c.in_ok-made.made) (c.in_ok-made.ensures.told stamped started acting b))
+    (c.end_post.ensures.told stamped)
+
+pub returns-clause-fine : goal.returns-clause-fine
+returns-clause-fine g c =
+    let sends = c.in_ok-send_post.ensures.script in
+    fine_so (Unit {0}) c.args.who.now c.args.collector.now c.serve.new.collector c.args.agent.now
+    c.send_post.new.agent c.end_post.new.agent c.in_ok-made.made c.end_post.result
+    (sent_message sends) (closes_so sends c.end_post.ensures.script) c.in_ok-made.ensures.script
+    (c.end_post.ensures.told [])
+
+pub returns-clause-last : goal.returns-clause-last
+returns-clause-last g c =
+    let sends = c.in_ok-send_post.ensures.script in
+    last_so (Unit {0}) c.args.who.now c.args.collector.now c.serve.new.collector c.args.agent.now
+    c.send_post.new.agent c.end_post.new.agent c.in_ok-made.made c.end_post.result
+    (sent_message sends) (closes_so sends c.end_post.ensures.script) c.in_ok-made.ensures.script
+    (c.end_post.ensures.told [])
+
+pub returns-clause-cause : goal.returns-clause-cause
+returns-clause-cause g c =
+    c.end_post.ensures.cause (g.S.Site.fault_count c.args.site.now)
+    (subst (λ n. ServedCause n (g.S.Site.fault_count c.serve.new.site) (Ok c.in_ok-made.made))
+    c.in_ok-send_post.ensures.cause c.in_ok-made.ensures.cause)
+
+pub returns-clause-ready : goal.returns-clause-ready
+returns-clause-ready g c =
+    let sends = c.in_ok-send_post.ensures.script in
+    still_ready (end_keeps sends c.end_post.ensures.script)
+    (still_ready (sends_keep sends) c.requires.ready)
+
+pub returns-clause-address : goal.returns-clause-address
+returns-clause-address g c =
+    let sends = c.in_ok-send_post.ensures.script in
+    same_addresses (end_keeps sends c.end_post.ensures.script) ∙ same_addresses (sends_keep sends)

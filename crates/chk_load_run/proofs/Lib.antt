@@ -1,0 +1,11 @@
+pub mod Joined
+pub mod LineSizes
+pub mod Scripts
+pub mod Progress
+pub mod Writing
+pub mod OwnCalls
+pub mod Facts
+pub mod Unclosed
+pub mod Told
+pub mod LoadClauses
+pub mod Literals

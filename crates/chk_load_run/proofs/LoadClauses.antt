@@ -1,0 +1,171 @@
+-- The clauses of a load, end by end.
+use Rattle.std.proofs.Common.{◌≡◌, ℕ, List, [], Ok, Err, Option, Some, Result, subst, ◌∙◌}
+use Rattle.std.specs.Prelude.{codes}
+use Rattle.chk_site.specs.declared.acts.OutsideFault.{OutsideFault}
+use Rattle.chk_site.specs.declared.acts.OutsideFault.TheVariants.{Outside as site_failed, NoMemory as no_memory}
+use Rattle.chk_site.specs.declared.acts.Who.{Who}
+use Rattle.chk_site.specs.History.{History}
+use Rattle.chk_site.specs.Runs.{Owns, own_acts}
+use Rattle.chk_site.specs.Site.{Adds, LastFailed}
+use Rattle.chk_site.proofs.Runs.{adds_as}
+use Rattle.chk_world.specs.Together.{IsByOne}
+use Rattle.chk_round.specs.declared.faults.RoundFault.{RoundFault}
+use Rattle.chk_round.specs.declared.whole_round.Rounded.{Rounded}
+use Rattle.chk_round.specs.Processes.{IsRunOf, processes}
+use Rattle.chk_round.specs.Rounded.{RoundTo}
+use Rattle.chk_load_run.specs.declared.ends.LoadEnd.{LoadEnd}
+use Rattle.chk_load_run.specs.declared.ends.LoadEnd.TheVariants.{NoMemory, Outside, Round, Unclosed}
+use Rattle.chk_load_run.specs.declared.ends.LoadReport.{LoadReport}
+use Rattle.chk_load_run.specs.Ends.{of_outside}
+use Rattle.chk_load_run.specs.Loads.{AppendedSo, EndsRunning, IsReportOf, LoadFailsLast, LoadTo, LoadsBy, PrintedSo, SaysLine, SummedUp, summary_line}
+use Rattle.chk_load_run.specs.Pieces.{AppendsFront, WritesAll}
+use Rattle.chk_load_run.specs.Processes.{IsLoadRun, chukwa}
+use Rattle.chk_load_run.proofs.Facts.{Appended, appends_all, appends_cut, then_round, then_say}
+use Rattle.chk_load_run.proofs.Told.{all_told, behind, cut_told, round_told, unclosed_told, unsaid_told}
+
+-- what a load says of its result
+pub record Clauses (lines : ℕ) (result : Result LoadReport LoadEnd) (old new : Option History) : Type 0 where
+  pub told : (stamped : List (List ℕ)) (started acting : List Who) → IsLoadRun started acting
+      → Adds old new (LoadTo stamped started acting lines result)
+  pub appends : Adds old new (AppendedSo lines result)
+  pub own : Adds old new (Owns LoadsBy)
+  pub prints : Adds old new (PrintedSo result)
+  pub runs : Adds old new (EndsRunning result)
+  pub last : Adds old new (LoadFailsLast result)
+
+-- what the round says of its result
+abbrev pub RoundTold : List ℕ → Result Rounded RoundFault → Option History → Option History → Type 0
+RoundTold source r old new =
+    (stamped : List (List ℕ)) (started acting : List Who) → IsRunOf source started acting
+    → Adds old new (RoundTo stamped started acting source r)
+
+-- its own steps are by its processes
+round_by : (r : Result Rounded RoundFault) {old new : Option History} → RoundTold (codes "load") r old new
+    → Adds old new (Owns (IsByOne (processes (codes "load"))))
+round_by r told =
+    let three : List Who = processes (codes "load") in
+    adds_as (Owns (IsByOne three))
+    (told [] three three (record { started_all = λ who one. one; acts_all = λ who one. one })) (λ added history x. x.leads.own)
+
+outside_appended : (lines : ℕ) (fault : OutsideFault) (added history : History) → AppendsFront lines (own_acts added)
+    → AppendedSo lines (Err (of_outside fault)) added history
+outside_appended lines (site_failed call) added history front = front
+outside_appended lines no_memory added history front = front
+
+outside_last : (fault : OutsideFault) (added history : History) → LastFailed {T = Unit {0}} (Err fault) added history
+    → LoadFailsLast (Err (of_outside fault)) added history
+outside_last (site_failed call) added history last = last
+outside_last no_memory added history last = tt
+
+module _ (lines : ℕ) where
+  cut_clauses : (fault : OutsideFault) {old new : Option History} → WritesAll chukwa lines (Err fault) old new
+      → Clauses lines (Err (of_outside fault)) old new
+  cut_clauses fault writes =
+      let facts = appends_cut lines fault writes in
+      record {
+        told = λ stamped started acting run. cut_told stamped started acting lines run fault writes;
+        appends = adds_as (AppendedSo lines (Err (of_outside fault))) facts (λ a h x. outside_appended lines fault a h x.front);
+        own = adds_as (Owns LoadsBy) facts (λ a h x. x.own);
+        prints = adds_as (PrintedSo (Err (of_outside fault))) facts (λ a h x. x.silent);
+        runs = adds_as (EndsRunning (Err (of_outside fault))) facts (λ a h x. tt);
+        last = adds_as (LoadFailsLast (Err (of_outside fault))) facts (λ a h x. outside_last fault a h x.last);
+      }
+
+  module _ (n : ℕ) {old mid late : Option History} (writes : WritesAll chukwa lines (Ok n) old mid) where
+    facts : (r : Result Rounded RoundFault) → RoundTold (codes "load") r mid late → Adds old late (Appended lines)
+    facts r told = then_round lines (appends_all lines n writes) (round_by r told)
+
+    round_clauses : (fault : RoundFault) → RoundTold (codes "load") (Err fault) mid late → Clauses lines (Err (Round fault)) old late
+    round_clauses fault told = record {
+      told = λ stamped started acting run.
+          round_told stamped started acting lines run fault
+          (behind stamped started acting lines run n (Err fault) writes (appends_all lines n writes) (told stamped started acting run.round));
+      appends = adds_as (AppendedSo lines (Err (Round fault))) (facts (Err fault) told) (λ a h x. x.done);
+      own = adds_as (Owns LoadsBy) (facts (Err fault) told) (λ a h x. x.own);
+      prints = adds_as (PrintedSo (Err (Round fault))) (facts (Err fault) told) (λ a h x. x.silent);
+      runs = adds_as (EndsRunning (Err (Round fault))) (facts (Err fault) told) (λ a h x. tt);
+      last = adds_as (LoadFailsLast (Err (Round fault))) (facts (Err fault) told) (λ a h x. tt);
+    }
+
+    module _ (v : Rounded) (told : RoundTold (codes "load") (Ok v) mid late) where
+      unclosed_clauses : (name : List ℕ) → v.report.first_unclosed ≡ Some name → Clauses lines (Err (Unclosed name)) old late
+      unclosed_clauses name is = record {
+        told = λ stamped started acting run.
+            unclosed_told stamped started acting lines run v name is
+            (behind stamped started acting lines run n (Ok v) writes (appends_all lines n writes) (told stamped started acting run.round));
+        appends = adds_as (AppendedSo lines (Err (Unclosed name))) (facts (Ok v) told) (λ a h x. x.done);
+        own = adds_as (Owns LoadsBy) (facts (Ok v) told) (λ a h x. x.own);
+        prints = adds_as (PrintedSo (Err (Unclosed name))) (facts (Ok v) told) (λ a h x. x.silent);
+        runs = adds_as (EndsRunning (Err (Unclosed name))) (facts (Ok v) told) (λ a h x. tt);
+        last = adds_as (LoadFailsLast (Err (Unclosed name))) (facts (Ok v) told) (λ a h x. tt);
+      }
+
+      unsaid_clauses : (line : List ℕ) (fault : OutsideFault) {new : Option History} → SaysLine chukwa line (Err fault) late new
+          → Clauses lines (Err (of_outside fault)) old new
+      unsaid_clauses line fault says =
+          let whole = then_say lines line (facts (Ok v) told) says in
+          record {
+            told = λ stamped started acting run.
+                unsaid_told stamped started acting lines run v line fault
+                (behind stamped started acting lines run n (Ok v) writes (appends_all lines n writes) (told stamped started acting run.round)) says;
+            appends = adds_as (AppendedSo lines (Err (of_outside fault))) whole (λ a h x. outside_appended lines fault a h x.front);
+            own = adds_as (Owns LoadsBy) whole (λ a h x. x.own);
+            prints = adds_as (PrintedSo (Err (of_outside fault))) whole (λ a h x. x.said);
+            runs = adds_as (EndsRunning (Err (of_outside fault))) whole (λ a h x. tt);
+            last = adds_as (LoadFailsLast (Err (of_outside fault))) whole (λ a h x. outside_last fault a h x.last);
+          }
+
+      done_clauses : (report : LoadReport) → IsReportOf lines v report → {new : Option History}
+          → SaysLine chukwa (summary_line report) (Ok tt) late new → Clauses lines (Ok report) old new
+      done_clauses report is says =
+          let whole = then_say lines (summary_line report) (facts (Ok v) told) says in
+          record {
+            told = λ stamped started acting run.
+                all_told stamped started acting lines run v report (summary_line report) is
+                (behind stamped started acting lines run n (Ok v) writes (appends_all lines n writes) (told stamped started acting run.round)) says;
+            appends = adds_as (AppendedSo lines (Ok report)) whole (λ a h x. x.done);
+            own = adds_as (Owns LoadsBy) whole (λ a h x. x.own);
+            prints = adds_as (PrintedSo (Ok report)) whole (λ a h x. x.said);
+            runs = adds_as (EndsRunning (Ok report)) whole (λ a h x. x.running);
+            last = adds_as (LoadFailsLast (Ok report)) whole (λ a h x. tt);
+          }
+
+-- ---- by the writer and the source that are given
+
+module _ (lines : ℕ) (who : Who) (by : who ≡ chukwa) where
+  written : (r : Result ℕ OutsideFault) (old new : Option History) → WritesAll who lines r old new → WritesAll chukwa lines r old new
+  written r old new w = subst (λ (p : Who). WritesAll p lines r old new) by w
+
+  pub cut_end : (fault : OutsideFault) {old new : Option History} → WritesAll who lines (Err fault) old new
+      → Clauses lines (Err (of_outside fault)) old new
+  cut_end fault {old = old} {new = new} writes = cut_clauses lines fault (written (Err fault) old new writes)
+
+  module _ (n : ℕ) {old mid late : Option History} (writes : WritesAll who lines (Ok n) old mid) (source : List ℕ) (from : source ≡ codes "load") where
+    rounded : (r : Result Rounded RoundFault) → RoundTold source r mid late → RoundTold (codes "load") r mid late
+    rounded r told = subst (λ (s : List ℕ). RoundTold s r mid late) from told
+
+    pub round_end : (fault : RoundFault) → RoundTold source (Err fault) mid late → Clauses lines (Err (Round fault)) old late
+    round_end fault told = round_clauses lines n (written (Ok n) old mid writes) fault (rounded (Err fault) told)
+
+    module _ (v : Rounded) (told : RoundTold source (Ok v) mid late) where
+      pub unclosed_end : (e : LoadEnd) → SummedUp v lines n (Err e) → Clauses lines (Err e) old late
+      unclosed_end (Unclosed name) is = unclosed_clauses lines n (written (Ok n) old mid writes) v (rounded (Ok v) told) name is
+      unclosed_end (Outside call) is = absurd is
+      unclosed_end NoMemory is = absurd is
+      unclosed_end (Round fault) is = absurd is
+
+      said_by : (line : List ℕ) (r : Result (Unit {0}) OutsideFault) (new : Option History) → SaysLine who line r late new
+          → SaysLine chukwa line r late new
+      said_by line r new says = subst (λ (p : Who). SaysLine p line r late new) by says
+
+      pub unsaid_end : (line : List ℕ) (fault : OutsideFault) {new : Option History} → SaysLine who line (Err fault) late new
+          → Clauses lines (Err (of_outside fault)) old new
+      unsaid_end line fault {new = new} says =
+          unsaid_clauses lines n (written (Ok n) old mid writes) v (rounded (Ok v) told) line fault (said_by line (Err fault) new says)
+
+      pub done_end : (report : LoadReport) → SummedUp v lines n (Ok report) → {new : Option History}
+          → SaysLine who (summary_line report) (Ok tt) late new → Clauses lines (Ok report) old new
+      done_end report is {new = new} says =
+          done_clauses lines n (written (Ok n) old mid writes) v (rounded (Ok v) told) report
+          (record { lines_are = is.0; bytes_are = is.1 ∙ writes.2; archived_is = is.2; unclosed = is.3 })
+          (said_by (summary_line report) (Ok tt) new says)

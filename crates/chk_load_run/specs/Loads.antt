@@ -1,0 +1,147 @@
+-- What a load leads to.
+use Rattle.std.specs.Prelude.{◌≡◌, ℕ, ◌-◌, ◌≤◌, ◌^◌, min, true, false, List, [], ◌∷◌, ◌++◌, codes, Contains, Option, Some, None, Result, Ok, Err}
+use Rattle.chk_site.specs.declared.acts.Call.TheVariants.{Say}
+use Rattle.chk_site.specs.declared.acts.CallFault.{CallFault}
+use Rattle.chk_site.specs.declared.acts.OutsideFault.{OutsideFault}
+use Rattle.chk_site.specs.declared.acts.OutsideFault.TheVariants.{NoMemory as no_memory}
+use Rattle.chk_site.specs.declared.acts.Who.{Who}
+use Rattle.chk_site.specs.Acts.{Deed, GrowsLog, Says, deed}
+use Rattle.chk_site.specs.History.{Step, History, Others, files_after, is_stopped}
+use Rattle.chk_site.specs.Runs.{Leads, Owns, own_acts}
+use Rattle.chk_site.specs.Site.{Adds, Asked, Calls, Ends, EndsIn, Rose, answered, asked, plain}
+use Rattle.chk_world.specs.Agents.{stream_of}
+use Rattle.chk_world.specs.Checkpoints.{Line, checkpoint_lines}
+use Rattle.chk_world.specs.Rules.{Legal}
+use Rattle.chk_world.specs.Together.{Outside as OutsideOf, Together}
+use Rattle.chk_archive.specs.Reporting.{report_view}
+use Rattle.chk_words.specs.Lines.{load_line}
+use Rattle.chk_round.specs.declared.faults.RoundFault.TheVariants as round
+use Rattle.chk_round.specs.declared.whole_round.Rounded.{Rounded}
+use Rattle.chk_round.specs.Done.{ArchivedTo}
+use Rattle.chk_round.specs.Processes.{processes}
+use Rattle.chk_round.specs.Rounded.{AfterRound}
+use Rattle.chk_round.specs.Rounds.{RoundDone}
+use Rattle.chk_load_run.specs.declared.ends.LoadEnd.{LoadEnd}
+use Rattle.chk_load_run.specs.declared.ends.LoadEnd.TheVariants.{Outside, Round, Unclosed}
+use Rattle.chk_load_run.specs.declared.ends.LoadReport.{LoadReport}
+use Rattle.chk_load_run.specs.Archived.{archived_of}
+use Rattle.chk_load_run.specs.Lines.{bytes_of}
+use Rattle.chk_load_run.specs.Pieces.{AppendsFront, HasAppended, IsPiece, LogPiece, done_print, of_writer}
+use Rattle.chk_load_run.specs.Processes.{chukwa}
+
+-- ---- in a legal history
+
+-- The history is legal. What a round that ended otherwise left is what its own clause says.
+abbrev pub AfterLoad : List (List ℕ) → Result LoadReport LoadEnd → History → Type 0
+AfterLoad stamped (Err (Round fault)) history = AfterRound stamped (Err fault) history
+AfterLoad stamped result history = Legal stamped history
+
+-- the writer prints
+abbrev pub IsWritersPrint : History → Step → Type 0
+IsWritersPrint before step = (step.act.who ≡ chukwa) × (text : List ℕ) × (deed step.act ≡ Says text)
+
+-- All lines were appended, and the steps behind them are a whole round of the three logs. Behind it
+-- the writer prints, and nothing else is done.
+pub record IsLoaded (lines : ℕ) (r : Rounded) (added history : History) : Type 0 where
+  pub behind : History
+  pub rounded : History
+  pub appends : History
+  pub split : added ≡ behind ++ (rounded ++ appends)
+  pub appended : HasAppended lines (own_acts appends)
+  pub round : RoundDone (codes "c1") (codes "load") r.agent r.report rounded (appends ++ history)
+  pub printing : Owns IsWritersPrint behind (rounded ++ (appends ++ history))
+  -- Where no sink was listed under writing, the archive of each live line's stream is its whole log as
+  -- it was at a moment of the round, and the line's offset is that log's end.
+  pub archived : r.report.first_unclosed ≡ None → (l : Line)
+      → Contains (checkpoint_lines (files_after (rounded ++ (appends ++ history))) (codes "load")) l → l.live ≡ true
+      → ArchivedTo (stream_of (codes "load") l) l.offset rounded (appends ++ history)
+
+-- The report tells the lines, their bytes, and the sum of the archived ends, which is never past
+-- 64 bits where logs have fewer than 2^62 bytes.
+pub record IsReportOf (lines : ℕ) (r : Rounded) (report : LoadReport) : Type 0 where
+  pub lines_are : report.lines ≡ lines
+  pub bytes_are : report.bytes ≡ bytes_of lines 3
+  pub archived_is : report.archived ≡ min (archived_of (report_view r.report).ends 3) (2 ^ 64 - 1)
+  pub unclosed : r.report.first_unclosed ≡ None
+
+-- what a round that is done was summed up to
+abbrev pub SummedUp : Rounded → ℕ → ℕ → Result LoadReport LoadEnd → Type 0
+SummedUp r lines bytes (Ok report) =
+    (report.lines ≡ lines) × (report.bytes ≡ bytes)
+    × (report.archived ≡ min (archived_of (report_view r.report).ends 3) (2 ^ 64 - 1))
+    × (r.report.first_unclosed ≡ None)
+SummedUp r lines bytes (Err (Unclosed name)) = r.report.first_unclosed ≡ Some name
+SummedUp r lines bytes (Err fault) = ⊥
+
+-- at Ok, and where a sink of another collector was under writing, the load was done
+abbrev pub LoadDone : ℕ → Result LoadReport LoadEnd → History → History → Type 0
+LoadDone lines (Ok report) added history =
+    (r : Rounded) × IsLoaded lines r added history × IsReportOf lines r report
+LoadDone lines (Err (Unclosed name)) added history =
+    (r : Rounded) × IsLoaded lines r added history × (r.report.first_unclosed ≡ Some name)
+LoadDone lines result added history = Unit {0}
+
+-- from a legal history on
+pub record LoadTo (stamped : List (List ℕ)) (started acting : List Who) (lines : ℕ) (result : Result LoadReport LoadEnd)
+    (added history : History) : Type 0 where
+  pub leads : Leads (Together stamped started acting) (Legal stamped) (AfterLoad stamped result) added history
+  pub done : Others (OutsideOf stamped started) added history → Legal stamped history
+      → is_stopped (added ++ history) ≡ false → LoadDone lines result added history
+
+-- ---- whatever others do
+
+-- the call that prints a line
+abbrev pub saying : Who → List ℕ → Asked
+saying who line = asked who Say (line ∷ []) 0 0
+
+-- the line of the summary
+abbrev pub summary_line : LoadReport → List ℕ
+summary_line r = load_line r.lines r.bytes r.archived
+
+-- the line was printed, or its printing ended the work, or there was no memory for it
+pub data SaysLine (who : Who) (line : List ℕ) : Result Unit OutsideFault → Option History → Option History → Type 0 where
+  unsaid : {now : Option History} → SaysLine who line (Err no_memory) now now
+  said : {old new : Option History} → Adds old new (Calls (saying who line) (Ok (plain {T = Unit {0}} tt)))
+      → SaysLine who line (Ok tt) old new
+  unsayable : {fault : OutsideFault} {old new : Option History} (given : Result Unit CallFault) → Ends Say given fault
+      → Adds old new (Calls (saying who line) (answered plain given)) → SaysLine who line (Err fault) old new
+
+-- The calls of a load by the process that makes them: the writer appends pieces to the three logs
+-- and prints, and the processes of the round make its calls.
+pub data IsLoadCall : Who → Deed → Type 0 where
+  appends : (p : LogPiece) → IsPiece p → IsLoadCall chukwa (GrowsLog p.path p.bytes)
+  prints : (text : List ℕ) → IsLoadCall chukwa (Says text)
+  rounds : (who : Who) (call : Deed) → Contains (processes (codes "load")) who → IsLoadCall who call
+
+abbrev pub LoadsBy : History → Step → Type 0
+LoadsBy before step = IsLoadCall step.act.who (deed step.act)
+
+-- What was appended: all lines, where the load came to its round; and what was asked for is always
+-- a front of them.
+abbrev pub AppendedSo : ℕ → Result LoadReport LoadEnd → History → History → Type 0
+AppendedSo lines (Ok report) added history = HasAppended lines (own_acts added)
+AppendedSo lines (Err (Round fault)) added history = HasAppended lines (own_acts added)
+AppendedSo lines (Err (Unclosed name)) added history = HasAppended lines (own_acts added)
+AppendedSo lines (Err fault) added history = AppendsFront lines (own_acts added)
+
+-- at Ok the writer has printed the summary, and otherwise nothing
+abbrev pub PrintedSo : Result LoadReport LoadEnd → History → History → Type 0
+PrintedSo (Ok r) added history =
+    of_writer done_print (own_acts added) ≡ summary_line r ∷ []
+PrintedSo (Err fault) added history = of_writer done_print (own_acts added) ≡ []
+
+-- a call of the load itself that failed is the last one, where the site wasn't stopped
+abbrev pub LoadFailsLast : Result LoadReport LoadEnd → History → History → Type 0
+LoadFailsLast (Err (Outside call)) added history = is_stopped (added ++ history) ≡ false → EndsIn call added
+LoadFailsLast result added history = Unit {0}
+
+-- a load that is done wasn't stopped
+abbrev pub EndsRunning : Result LoadReport LoadEnd → History → History → Type 0
+EndsRunning (Ok report) added history = is_stopped (added ++ history) ≡ false
+EndsRunning (Err fault) added history = Unit {0}
+
+-- only a call of the outside that failed is told where the count rose
+abbrev pub LoadCause : ℕ → ℕ → Result LoadReport LoadEnd → Type 0
+LoadCause before now (Err (Outside call)) = Rose before now × (before ≤ now)
+LoadCause before now (Err (Round (round.Outside call))) = Rose before now × (before ≤ now)
+LoadCause before now result = before ≤ now

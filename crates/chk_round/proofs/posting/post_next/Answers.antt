@@ -1,0 +1,85 @@
+use Rattle.std.proofs.Common.{◌∙◌, Ok, Err, ap, sym}
+use Rattle.std.proofs.lemmas.Result.{err_from_is_err_and}
+use Rattle.chk_site.specs.declared.acts.Who.{Who}
+use Rattle.chk_queue.specs.Queues.{Waiting}
+use Rattle.chk_round.specs.Faults.{of_exchange}
+use Rattle.chk_round.proofs.Inside.{posted_some}
+use Rattle.chk_round.proofs.Joining.{exchange_ends, exchange_goes, joint_then, still_c}
+use Rattle.chk_round.proofs.Posts.{posted_then}
+use Rattle.chk_round.proofs.Sent.{post_sends, sends_on_then}
+use Rattle.chk_round.proofs.Lasting.{exchange_inside, inside_late, went_then}
+use Rattle.chk_round.proofs.NoRead.{exchange_no_read, exchange_plain, plain_length}
+use Rattle.chk_round.proofs.posting.post_next.Goals as goal
+
+pub returns-in_err-make_room-clause-joint : goal.returns-in_err-make_room-clause-joint
+returns-in_err-make_room-clause-joint g c stamped started acting run =
+    let p = err_from_is_err_and c.from_residual.result c.from_residual.ensures.1 in
+    rw (p.1, p.2) (c.in_err-make_room.ensures.joint stamped started acting run)
+
+pub returns-in_err-post_inside-clause-joint : goal.returns-in_err-post_inside-clause-joint
+returns-in_err-post_inside-clause-joint g c stamped started acting run =
+    let p = err_from_is_err_and c.from_residual-in_err-post_inside.result c.from_residual-in_err-post_inside.ensures.1 in
+    let free = c.in_ok-make_room.ensures.free in
+    rw (p.1, p.2)
+    (joint_then c.args.collector.now c.make_room.new.collector c.post_inside.new.collector c.args.agent.now c.make_room.new.agent
+    c.post_inside.new.agent (Err (of_exchange c.in_err-post_inside.field-0.0)) c.make_room.ensures.same.collector free.same.source
+    c.in_ok-make_room.ensures.joint
+    (exchange_ends c.args.collecting.now c.make_room.new.collector c.post_inside.new.collector c.make_room.new.agent
+    c.post_inside.new.agent (still_c c.args.collecting.now c.args.collector.now c.make_room.new.collector c.requires.started c.make_room.ensures.same.collector) (Unit {0})
+    c.in_err-post_inside.field-0.0 c.in_err-post_inside.ensures.told) stamped started acting run)
+
+pub returns-clause-joint : goal.returns-clause-joint
+returns-clause-joint g c =
+    let free = c.in_ok-make_room.ensures.free in
+    joint_then c.args.collector.now c.make_room.new.collector c.post_inside.new.collector c.args.agent.now c.make_room.new.agent
+    c.post_inside.new.agent (Ok tt) c.make_room.ensures.same.collector free.same.source
+    c.in_ok-make_room.ensures.joint
+    (exchange_goes c.args.collecting.now c.make_room.new.collector c.post_inside.new.collector c.make_room.new.agent
+    c.post_inside.new.agent (still_c c.args.collecting.now c.args.collector.now c.make_room.new.collector c.requires.started c.make_room.ensures.same.collector) (Unit {0}) tt
+    c.in_ok-post_inside.ensures.told)
+
+pub returns-clause-some : goal.returns-clause-some
+returns-clause-some g c =
+    let free = c.in_ok-make_room.ensures.free in
+    posted_then c.args.agent.now c.make_room.new.agent c.post_inside.new.agent free
+    (posted_some (λ none. c.requires.some (ap (λ (q : Waiting). q.chunks) (sym free.queue) ∙ none)) c.in_ok-post_inside.ensures.script)
+
+pub returns-clause-sends : goal.returns-clause-sends
+returns-clause-sends g c =
+    sends_on_then c.args.agent.now c.make_room.new.agent c.post_inside.new.agent c.in_ok-make_room.ensures.sends
+    (post_sends (ap (λ (w : Who). w.role) c.requires.started) c.in_ok-post_inside.ensures.script)
+
+pub returns-in_err-make_room-clause-last : goal.returns-in_err-make_room-clause-last
+returns-in_err-make_room-clause-last g c =
+    let p = err_from_is_err_and c.from_residual.result c.from_residual.ensures.1 in
+    rw (p.1, p.2) (c.in_err-make_room.ensures.last)
+
+pub returns-in_err-post_inside-clause-last : goal.returns-in_err-post_inside-clause-last
+returns-in_err-post_inside-clause-last g c =
+    let p = err_from_is_err_and c.from_residual-in_err-post_inside.result c.from_residual-in_err-post_inside.ensures.1 in
+    rw (p.1, p.2) (inside_late (Unit {0}) (Unit {0}) (of_exchange c.in_err-post_inside.field-0.0) c.in_ok-make_room.ensures.last
+    (exchange_inside (Unit {0}) (Unit {0}) c.in_err-post_inside.field-0.0 c.in_err-post_inside.ensures.last))
+
+pub returns-clause-last : goal.returns-clause-last
+returns-clause-last g c = went_then c.in_ok-make_room.ensures.last c.in_ok-post_inside.ensures.last
+
+pub returns-in_err-make_room-clause-only : goal.returns-in_err-make_room-clause-only
+returns-in_err-make_room-clause-only g c =
+    let p = err_from_is_err_and c.from_residual.result c.from_residual.ensures.1 in
+    rw (p.1, p.2) (c.in_err-make_room.ensures.only)
+
+pub returns-in_err-post_inside-clause-only : goal.returns-in_err-post_inside-clause-only
+returns-in_err-post_inside-clause-only g c =
+    let p = err_from_is_err_and c.from_residual-in_err-post_inside.result c.from_residual-in_err-post_inside.ensures.1 in
+    rw (p.1, p.2) (exchange_no_read c.in_err-post_inside.field-0.0)
+
+pub returns-in_err-make_room-clause-length : goal.returns-in_err-make_room-clause-length
+returns-in_err-make_room-clause-length g c =
+    let p = err_from_is_err_and c.from_residual.result c.from_residual.ensures.1 in
+    rw (p.1, p.2) (c.in_err-make_room.ensures.length)
+
+pub returns-in_err-post_inside-clause-length : goal.returns-in_err-post_inside-clause-length
+returns-in_err-post_inside-clause-length g c =
+    let p = err_from_is_err_and c.from_residual-in_err-post_inside.result c.from_residual-in_err-post_inside.ensures.1 in
+    rw (p.1, p.2) (plain_length (Unit {0}) (of_exchange c.in_err-post_inside.field-0.0) (exchange_plain c.in_err-post_inside.field-0.0)
+    (g.S.Site.told c.args.site.now) (g.S.Site.told c.post_inside.new.site))

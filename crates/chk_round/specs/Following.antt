@@ -1,0 +1,48 @@
+-- Which logs a round reads.
+use Rattle.std.specs.Prelude.{◌≡◌, ◌⊎◌, ℕ, true, List, length, Contains, Some, slice_get}
+use Rattle.chk_reading.specs.declared.adaptor.Phase.TheVariants.{Live}
+use Rattle.chk_reading.specs.Adaptors.{Adaptor}
+use Rattle.chk_world.specs.Checkpoints.{Line}
+use Rattle.chk_agent.specs.States.{State}
+
+-- a live adaptor reads the log of this path under this type
+pub record IsFollowed (kind path : List ℕ) (s : State) : Type 0 where
+  pub place : ℕ
+  pub adaptor : Adaptor
+  pub at : slice_get s.adaptors place ≡ Some adaptor
+  pub kind_is : adaptor.kind ≡ kind
+  pub path_is : adaptor.path ≡ path
+  pub live : adaptor.phase ≡ Live
+
+-- there is no room for it: 10,000 adaptors are there, and none of them has this type and path
+pub record HasNoRoom (kind path : List ℕ) (s : State) : Type 0 where
+  pub full : length s.adaptors ≡ 10000
+  pub none : (i : ℕ) (x : Adaptor) → slice_get s.adaptors i ≡ Some x → x.kind ≡ kind
+      → x.path ≡ path → ⊥
+
+abbrev pub Follows : List ℕ → List ℕ → State → Type 0
+Follows kind path s = IsFollowed kind path s ⊎ HasNoRoom kind path s
+
+-- what was so of a log is so still
+abbrev pub KeepsLogs : State → State → Type 0
+KeepsLogs s t = (kind path : List ℕ) → Follows kind path s → Follows kind path t
+
+-- ---- the lines
+
+-- a live line of this type and path
+pub record HasLiveLine (kind path : List ℕ) (lines : List Line) : Type 0 where
+  pub line : Line
+  pub one : Contains lines line
+  pub live : line.live ≡ true
+  pub kind_is : line.kind ≡ kind
+  pub path_is : line.path ≡ path
+
+-- there are 10,000 lines, and none of them has this type and path
+pub record IsFullWithout (kind path : List ℕ) (lines : List Line) : Type 0 where
+  pub full : length lines ≡ 10000
+  pub none : (l : Line) → Contains lines l → l.kind ≡ kind → l.path ≡ path → ⊥
+
+-- each of these logs has a live line of this type, but where the checkpoint is full without it
+abbrev pub HaveLines : List ℕ → List (List ℕ) → List Line → Type 0
+HaveLines kind logs lines =
+    (log : List ℕ) → Contains logs log → HasLiveLine kind log lines ⊎ IsFullWithout kind log lines

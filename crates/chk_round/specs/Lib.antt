@@ -1,0 +1,17 @@
+pub mod Processes
+pub mod Joint
+pub mod Faults
+pub mod Starts
+pub mod Adding
+pub mod Closing
+pub mod Polling
+pub mod Reading
+pub mod Scripts
+pub mod Lengths
+pub mod Delivering
+pub mod Sending
+pub mod Following
+pub mod Done
+pub mod Theirs
+pub mod Rounds
+pub mod Rounded

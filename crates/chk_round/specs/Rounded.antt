@@ -1,0 +1,34 @@
+-- What a whole round leads to.
+use Rattle.std.specs.Prelude.{◌≡◌, ℕ, false, List, ◌++◌, codes, Result, Ok, Err}
+use Rattle.chk_site.specs.declared.acts.Who.{Who}
+use Rattle.chk_site.specs.History.{History, Others, is_stopped}
+use Rattle.chk_site.specs.Runs.{Leads}
+use Rattle.chk_world.specs.Places.{AtTold}
+use Rattle.chk_world.specs.Rules.{Legal}
+use Rattle.chk_world.specs.Sight.{job}
+use Rattle.chk_world.specs.Together.{Outside as OutsideOf, Together}
+use Rattle.chk_agent.specs.Facts.{Matches as AgentMatches}
+use Rattle.chk_round.specs.declared.faults.RoundFault.{RoundFault}
+use Rattle.chk_round.specs.declared.faults.RoundFault.TheVariants.{Damaged, Checkpoint, Refused}
+use Rattle.chk_round.specs.declared.whole_round.Rounded.{Rounded}
+use Rattle.chk_round.specs.Closing.{HasRun}
+use Rattle.chk_round.specs.Joint.{OnlyStopped}
+use Rattle.chk_round.specs.Rounds.{RoundDone}
+
+-- At Ok the history is legal and as the agent knows it, and the job may act on, whose run is done.
+-- Nothing of the program's own is ever damaged, and the agent gets the replies that were made.
+abbrev pub AfterRound : List (List ℕ) → Result Rounded RoundFault → History → Type 0
+AfterRound stamped (Ok r) history =
+    AgentMatches stamped r.agent history × AtTold stamped job (HasRun r.report) history
+AfterRound stamped (Err (Damaged name at)) history = OnlyStopped stamped history
+AfterRound stamped (Err (Checkpoint at)) history = OnlyStopped stamped history
+AfterRound stamped (Err (Refused code)) history = OnlyStopped stamped history
+AfterRound stamped (Err fault) history = Legal stamped history
+
+-- from a legal history on
+pub record RoundTo (stamped : List (List ℕ)) (started acting : List Who) (source : List ℕ) (result : Result Rounded RoundFault)
+    (added history : History) : Type 0 where
+  pub leads : Leads (Together stamped started acting) (Legal stamped) (AfterRound stamped result) added history
+  pub source_is : (r : Rounded) → result ≡ Ok r → r.agent.source ≡ source
+  pub done : (r : Rounded) → result ≡ Ok r → Others (OutsideOf stamped started) added history → Legal stamped history
+      → is_stopped (added ++ history) ≡ false → RoundDone (codes "c1") source r.agent r.report added history

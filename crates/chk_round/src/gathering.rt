@@ -1,0 +1,70 @@
+//! Collector and agent start, and the logs of the words are added.
+
+ghost use Rattle.std.specs.Prelude.{◌≡◌, IfErr, ◌≤◌, ℕ, List, Contains, IsTrue, IfOk};
+ghost use Rattle.chk_site.specs.declared.acts.Who.{Who as Person};
+ghost use Rattle.chk_site.specs.Site.{Adds};
+ghost use Rattle.chk_site.specs.Runs.{Leads};
+ghost use Rattle.chk_world.specs.Names.{is_source};
+ghost use Rattle.chk_world.specs.Knowing.{agent};
+ghost use Rattle.chk_world.specs.Rules.{Legal};
+ghost use Rattle.chk_world.specs.Together.{Together};
+ghost use Rattle.chk_round.specs.Faults.{FailsInside, RoundCause};
+ghost use Rattle.chk_round.specs.Following.{Follows};
+ghost use Rattle.chk_round.specs.Processes.{AreBoth, c1};
+ghost use Rattle.chk_round.specs.Lengths.{IsPlain};
+ghost use Rattle.chk_round.specs.Rounds.{IsGathered};
+ghost use Rattle.chk_round.specs.Starts.{Met, inside};
+
+use crate::adding::add_logs;
+use crate::faults::RoundFault;
+use crate::starting::{Pair, start_pair};
+use crate::words::RoundWords;
+use chk_agent::Rules;
+use chk_failover::Ring;
+use chk_site::{Site, Who};
+use std::alloc::Global;
+
+/// Collector and agent start, and each log that no live adaptor reads is added.
+pub(crate) fn gather<S: Site>(
+    alloc: Global,
+    site: &mut S,
+    collecting: &Who,
+    reading: &Who,
+    ring: Ring,
+    rules: Rules,
+    given: &RoundWords,
+) -> Result<Pair, RoundFault>
+    requires collector { collecting.now ≡ c1 }
+    requires agent_is { reading.now ≡ agent reading.now.name }
+    requires name { IsTrue (is_source reading.now.name) }
+    requires ring { ring ≡ inside }
+    requires some_rows { 1 ≤ rules.rows }
+    requires a_piece { 131072 ≤ rules.queue }
+    ensures gathered { IfOk result (λ pair. IsGathered reading.now.name pair.collector pair.agent) }
+    ensures live { IfOk result (λ pair. (log : List ℕ) → Contains given.now.logs.items log
+        → Follows given.now.kind log pair.agent) }
+    ensures told { (stamped : List (List ℕ)) (started acting : List Person)
+        → AreBoth reading.now.name started acting → Adds (S.told site.old) (S.told site.new)
+        (Leads (Together stamped started acting) (Legal stamped) (Met stamped result)) }
+    ensures last { Adds (S.told site.old) (S.told site.new) (FailsInside result) }
+    ensures only { IfErr result IsPlain }
+    ensures cause { RoundCause (S.fault_count site.old) (S.fault_count site.new) result }
+{
+    let begun = start_pair(alloc, site, collecting, reading, ring, rules)?;
+    let now = begun.now;
+    let collector = begun.collector;
+    let mut agent = begun.agent;
+    add_logs(
+        alloc,
+        site,
+        &mut agent,
+        given.class,
+        &given.kind,
+        given.logs.as_slice(),
+    )?;
+    Ok(Pair {
+        collector,
+        agent,
+        now,
+    })
+}

@@ -1,0 +1,104 @@
+//! A round.
+
+ghost use Rattle.std.specs.Prelude.{◌≡◌, ◌≤◌, ℕ, List, IfOk, IsTrue};
+ghost use Rattle.chk_site.specs.declared.acts.Who.{Who as Person};
+ghost use Rattle.chk_site.specs.Site.{Adds};
+ghost use Rattle.chk_world.specs.Names.{is_source};
+ghost use Rattle.chk_agent.specs.States.{lines_of};
+ghost use Rattle.chk_round.specs.Faults.{FailsInside, RoundCause};
+ghost use Rattle.chk_round.specs.Following.{HaveLines};
+ghost use Rattle.chk_round.specs.Processes.{IsRunOf};
+ghost use Rattle.chk_round.specs.Lengths.{LengthCause};
+ghost use Rattle.chk_round.specs.Scripts.{RoundReads};
+ghost use Rattle.chk_round.specs.Rounded.{RoundTo};
+
+use crate::faults::RoundFault;
+use crate::gathering::gather;
+use crate::running::run_pair;
+use crate::starting::{ring_inside, rules_of};
+use crate::whos::{agent_of, collector_c1, job};
+use crate::words::{Limits, RoundWords};
+use chk_agent::Agent;
+use chk_archive::Report;
+use chk_site::Site;
+use std::alloc::Global;
+
+/// What a round came to.
+#[derive(Drop)]
+pub struct Rounded {
+    /// The agent at rest: its live streams and their committed ends are those of the checkpoint.
+    pub agent: Agent,
+    /// What the run of the archive job did.
+    pub report: Report,
+}
+
+/// Runs the agent of the given source, the collector `c1` and the archive job once, with 65,536
+/// rows of answers and 10,485,760 bytes of data that may wait. Each log that no live adaptor reads
+/// is added first, each live log is read until it gives nothing, and what they gave is sent through
+/// the mailbox of the process, committed and archived.
+pub fn round<S: Site>(
+    alloc: Global,
+    site: &mut S,
+    given: &RoundWords,
+) -> Result<Rounded, RoundFault>
+    requires name { IsTrue (is_source given.now.source) }
+    requires a_read { 1 ≤ given.now.reads }
+    ensures told { (stamped : List (List ℕ)) (started acting : List Person)
+        → IsRunOf given.now.source started acting → Adds (S.told site.old) (S.told site.new)
+        (RoundTo stamped started acting given.now.source result) }
+    ensures script { RoundReads given.now.source given.now.reads result (S.told site.old) (S.told site.new) }
+    ensures live { IfOk result (λ r. HaveLines given.now.kind given.now.logs.items
+        (lines_of r.agent)) }
+    ensures length { LengthCause result (S.told site.old) (S.told site.new) }
+    ensures last { Adds (S.told site.old) (S.told site.new) (FailsInside result) }
+    ensures cause { RoundCause (S.fault_count site.old) (S.fault_count site.new) result }
+{
+    let limits = Limits {
+        rows: 65_536,
+        queue: 10_485_760,
+    };
+    round_within(alloc, site, given, limits)
+}
+
+/// The same within other limits.
+pub fn round_within<S: Site>(
+    alloc: Global,
+    site: &mut S,
+    given: &RoundWords,
+    limits: Limits,
+) -> Result<Rounded, RoundFault>
+    requires name { IsTrue (is_source given.now.source) }
+    requires a_read { 1 ≤ given.now.reads }
+    requires some_rows { 1 ≤ limits.rows }
+    requires a_piece { 131072 ≤ limits.queue }
+    ensures told { (stamped : List (List ℕ)) (started acting : List Person)
+        → IsRunOf given.now.source started acting → Adds (S.told site.old) (S.told site.new)
+        (RoundTo stamped started acting given.now.source result) }
+    ensures script { RoundReads given.now.source given.now.reads result (S.told site.old) (S.told site.new) }
+    ensures live { IfOk result (λ r. HaveLines given.now.kind given.now.logs.items
+        (lines_of r.agent)) }
+    ensures length { LengthCause result (S.told site.old) (S.told site.new) }
+    ensures last { Adds (S.told site.old) (S.told site.new) (FailsInside result) }
+    ensures cause { RoundCause (S.fault_count site.old) (S.fault_count site.new) result }
+{
+    let collecting = collector_c1(alloc)?;
+    let reading = agent_of(&given.source)?;
+    let archiving = job(alloc)?;
+    let ring = ring_inside(alloc)?;
+    let rules = rules_of(given, limits)?;
+    let pair = gather(alloc, site, &collecting, &reading, ring, rules, given)?;
+    let now = pair.now;
+    let mut collector = pair.collector;
+    let mut agent = pair.agent;
+    let report = run_pair(
+        alloc,
+        site,
+        &mut agent,
+        &mut collector,
+        &collecting,
+        &archiving,
+        now,
+        given.reads,
+    )?;
+    Ok(Rounded { agent, report })
+}

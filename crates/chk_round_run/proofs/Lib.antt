@@ -1,0 +1,5 @@
+pub mod Lines
+pub mod Joined
+pub mod Prints
+pub mod Unclosed
+pub mod Runs
