@@ -2,10 +2,16 @@
 #![tactic(auto)]
 
 #[cfg(test)]
-mod first_path;
+mod calls;
+#[cfg(test)]
+mod faults;
 #[cfg(test)]
 mod outside;
 #[cfg(test)]
 mod replacing;
 #[cfg(test)]
+mod rounds;
+#[cfg(test)]
 mod salvage;
+#[cfg(test)]
+mod scene;

@@ -1,6 +1,6 @@
 // `salvage` over a site in memory.
-use crate::first_path::{HEADER, Ran, printed, run_on};
 use crate::outside::{failing_at, with_bytes};
+use crate::scene::{HEADER, Ran, printed, run_on};
 use chk_bytes::Bytes;
 use chk_site::{Call, Script};
 use chk_site_mem::SiteMem;

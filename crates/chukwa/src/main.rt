@@ -3,43 +3,44 @@
 #![tactic(auto)]
 
 use chk_site_real::SiteReal;
-use chukwa_run::{Status, run};
+use chukwa_run::run;
 use std::process::ExitCode;
 use std::{env, io};
+
+/// The status where the system doesn't give the words.
+const OUTSIDE: u8 = 3;
+
+/// The status for want of memory.
+const NO_MEMORY: u8 = 4;
 
 fn main(rt: HostRuntime) -> ExitCode {
     match words_given(rt) {
         Ok(given) => ExitCode::from(run_given(rt, given.as_slice())),
-        Err(status) => ExitCode::from(status.number()),
+        Err(status) => ExitCode::from(status),
     }
 }
 
 // The words, or how the program ends where the system doesn't give them.
-fn words_given(rt: HostRuntime) -> Result<Vec<String>, Status> {
+fn words_given(rt: HostRuntime) -> Result<Vec<String>, u8> {
     match env::args(&rt) {
-        Ok(words) => words
-            .skip(1)
-            .collect(rt.alloc())
-            .map_err(|_| Status::NoMemory),
-        Err(error) if error.kind() == io::ErrorKind::OutOfMemory => Err(Status::NoMemory),
-        Err(_) => Err(Status::Outside),
+        Ok(words) => words.skip(1).collect(rt.alloc()).map_err(|_| NO_MEMORY),
+        Err(error) if error.kind() == io::ErrorKind::OutOfMemory => Err(NO_MEMORY),
+        Err(_) => Err(OUTSIDE),
     }
 }
 
-// Runs the command. Where it wasn't done, the cause of the last call that failed is told too.
+// Runs the command. The cause of the last call that failed is told too, also where the command went on after it.
 fn run_given(rt: HostRuntime, given: &[String]) -> u8 {
     let mut words: Vec<&str> = Vec::new(rt.alloc());
     for word in given {
         if words.push(word.as_str()).is_err() {
-            return Status::NoMemory.number();
+            return NO_MEMORY;
         }
     }
     let mut site = SiteReal::new(rt, rt.alloc());
     let status = run(rt.alloc(), &mut site, words.as_slice());
-    if status != Status::Done.number() {
-        if let Some(failure) = site.failure() {
-            let _told = eprintln!(rt; "chukwa: {failure}");
-        }
+    if let Some(failure) = site.failure() {
+        let _told = eprintln!(rt; "chukwa: {failure}");
     }
     status
 }

@@ -1,52 +1,60 @@
--- What a run does, by its status.
-use Rattle.std.specs.Prelude.{◌≡◌, ◌⊎◌, ℕ, List, [], ◌∷◌, ◌++◌, Option, Some, None, codes}
-use Rattle.chk_site.specs.declared.acts.Act.{Act}
-use Rattle.chk_site.specs.History.{Step, History, Every, Others}
-use Rattle.chukwa_run.specs.CommandWords.{Round, Asked, Rounds, Salvages, asked}
-use Rattle.chukwa_run.specs.Lines.{fault_line, usage_line}
-use Rattle.chukwa_run.specs.Statuses.{number_of, round_status}
-use Rattle.chukwa_run.specs.declared.status.Status.TheVariants.{Done}
-use Rattle.chukwa_run.specs.Rounds.{ClosedIsFront, IsForeign, RoundIsWhole, Holds, Anything}
-use Rattle.chukwa_run.specs.Acts.{GoesOn, EndsWith}
-use Rattle.chukwa_run.specs.Sayings.{ThenSaid, NoActs}
-use Rattle.chukwa_run.specs.Salvages.{SalvageEnds}
-use Rattle.chukwa_run.specs.declared.faults.RunFault.{RunFault}
+-- What a run leads to.
+use Rattle.std.specs.Prelude.{◌≡◌, ◌⊎◌, ℕ, true, false, List, ◌++◌, Result, Ok, Err}
+use Rattle.chk_site.specs.History.{History, is_stopped}
+use Rattle.chk_site.specs.Runs.{Since, own_acts}
+use Rattle.chk_world.specs.Rules.{Legal}
+use Rattle.chk_words.specs.Commands.{Asked}
+use Rattle.chk_words.specs.declared.endings.Ending.{Ending}
+use Rattle.chk_words.specs.declared.endings.Ending.TheVariants.{NoMemory}
+use Rattle.chk_words.specs.Endings.{ending_line}
+use Rattle.chukwa_run.specs.Endings.{Ended, SaysAtMost}
+use Rattle.chukwa_run.specs.Showing.{Shows, IsOf}
+use Rattle.chukwa_run.specs.Whole.{Whole, Did}
 
--- Suppose that each step of others is as supposed, and that before the run the closed sink was a front of the log. Then it is
--- so after each step of the run, and where the status is 0 the round is whole.
-pub record StaysFrontBy (given : Round) (status : ℕ) (added history : History) : Type 0 where
-  pub kept : Others IsForeign added history → ClosedIsFront given.log history
-      → Every (λ before step. ClosedIsFront given.log (step ∷ before)) added history
-  pub whole : Others IsForeign added history → ClosedIsFront given.log history → status ≡ number_of Done → RoundIsWhole given added history
+-- a legal history before the run
+pub record Begins (stamped : List (List ℕ)) (earlier history : History) : Type 0 where
+  pub is : history ≡ earlier
+  pub legal : Legal stamped history
 
--- the same of the round that was asked for, if one was
-abbrev pub ClosedStaysFront : Option Asked → ℕ → History → History → Type 0
-ClosedStaysFront (Some (Rounds given)) status added history = StaysFrontBy given status added history
-ClosedStaysFront asked status added history = Unit {0}
+-- a legal history after it, which goes on from that one, and in which the run ended so
+pub record Ends (stamped : List (List ℕ)) (command : Asked) (status : ℕ) (earlier history : History) : Type 0 where
+  pub legal : Legal stamped history
+  pub since : Since earlier
+      (λ added. Ended (Whole stamped command earlier) (Shows command earlier) added earlier status) history
 
--- the round is whole where the status is 0
-abbrev pub RoundRuns : Round → History → ℕ → History → Type 0
-RoundRuns given earlier status = Holds given earlier (λ added. status ≡ number_of Done → RoundIsWhole given added earlier)
+-- what a run did by its own acts, whatever others do and whatever the site tells
+abbrev pub Caused : Asked → ℕ → History → History → Type 0
+Caused command status added earlier = Ended (Did command earlier) (IsOf command earlier) added earlier status
 
--- acts that end with the fault, and the fault's line
-abbrev pub Told : Round → RunFault → List Act → Type 0
-Told given fault = ThenSaid (EndsWith given fault) (fault_line fault)
+-- without words that ask for a command at most the usage line is said, or there was no memory to read them
+abbrev pub SaysUsage : List ℕ → ℕ → History → History → Type 0
+SaysUsage line status added earlier =
+    ((status ≡ 2) × SaysAtMost line (own_acts added)) ⊎ ((status ≡ 4) × SaysAtMost (ending_line NoMemory) (own_acts added))
 
--- the usage line, and nothing else
-abbrev pub SaidUsage : List ℕ → List Act → Type 0
-SaidUsage line = ThenSaid NoActs line
+-- ---- the same before the last line is said
 
--- the acts of a round with this status: those of one that goes on to its end, or that end with a fault of this status
-abbrev pub EndsSo : Round → ℕ → List Act → Type 0
-EndsSo given status acts =
-    ((status ≡ number_of Done) × GoesOn given acts) ⊎ ((fault : RunFault) × (status ≡ number_of (round_status fault)) × Told given fault acts)
+-- it isn't answered that all was done
+abbrev pub IsNotDone : Result Unit Ending → Type 0
+IsNotDone (Ok value) = ⊥
+IsNotDone (Err e) = Unit {0}
 
--- the acts of a run by what was asked for
-abbrev pub RunsAs : Option Asked → List ℕ → ℕ → List Act → Type 0
-RunsAs None line status = SaidUsage line
-RunsAs (Some (Rounds given)) line status = EndsSo given status
-RunsAs (Some (Salvages file)) line status = SalvageEnds file status
+-- by the result this was done, or that is shown
+abbrev pub Came : (History → Type 0) → (Ending → History → Type 0) → Result Unit Ending → History → Type 0
+Came Done Shows (Ok value) added = Done added
+Came Done Shows (Err e) added = Shows e added
 
--- the acts of a run with these words and this status
-abbrev pub RunsSo : List (List ℕ) → ℕ → List Act → Type 0
-RunsSo words status = RunsAs (asked words) (usage_line words) status
+-- where the site wasn't stopped, that is so; and where it was, it isn't answered that all was done
+pub record CameTo (Done : History → Type 0) (Shows : Ending → History → Type 0) (result : Result Unit Ending)
+    (added earlier : History) : Type 0 where
+  pub running : is_stopped (added ++ earlier) ≡ false → Came Done Shows result added
+  pub stopped : is_stopped (added ++ earlier) ≡ true → IsNotDone result
+
+-- a legal history after the command
+pub record EndsWith (stamped : List (List ℕ)) (command : Asked) (result : Result Unit Ending) (earlier history : History) : Type 0 where
+  pub legal : Legal stamped history
+  pub since : Since earlier
+      (λ added. CameTo (Whole stamped command earlier) (Shows command earlier) result added earlier) history
+
+-- what a command did by its own acts
+abbrev pub CausedBy : Asked → Result Unit Ending → History → History → Type 0
+CausedBy command result added earlier = CameTo (Did command earlier) (IsOf command earlier) result added earlier

@@ -1,14 +1,15 @@
 //! The commands of `chukwa`, over any outside.
 #![tactic(auto)]
 
-mod command_words;
-mod faults;
-mod lines;
-mod round;
+mod agenting;
+mod archiving;
+mod collecting;
+mod demuxing;
+mod draining;
+mod loading;
+mod rounding;
 mod runs;
 mod salvaging;
 mod saying;
-mod status;
 
 pub use runs::run;
-pub use status::Status;

@@ -1,114 +1,133 @@
 //! A run of the program.
 
-ghost use Rattle.std.specs.Prelude.{◌≡◌, ◌≢◌, ◌↔◌, ◌≤◌, map, None, IfOk, IsTrue};
+ghost use Rattle.std.specs.Prelude.{◌≡◌, ◌≢◌, ◌≤◌, ℕ, List, map, Some, None};
 ghost use Rattle.chk_site.specs.History.{History};
 ghost use Rattle.chk_site.specs.Site.{Adds, Rose};
-ghost use Rattle.chk_site.specs.Runs.{anyhow, Leads};
-ghost use Rattle.chukwa_run.specs.CommandWords.{round_of, asked, is_round};
-ghost use Rattle.chukwa_run.specs.Rounds.{IsForeign, Holds, Anything};
-ghost use Rattle.chukwa_run.specs.Acts.{Anyone, ActedSo, EndsWith};
-ghost use Rattle.chukwa_run.specs.Sayings.{NoActs};
-ghost use Rattle.chukwa_run.specs.Salvages.{SalvagePrints};
-ghost use Rattle.chukwa_run.specs.Lines.{usage_text};
-ghost use Rattle.chukwa_run.specs.Statuses.{number_of};
-ghost use Rattle.chukwa_run.specs.declared.status.Status.TheVariants.{Outside, Usage as WrongUse};
-ghost use Rattle.chukwa_run.specs.Runs.{ClosedStaysFront, RunsSo, RoundRuns, EndsSo, Told, SaidUsage};
+ghost use Rattle.chk_site.specs.Runs.{Leads};
+ghost use Rattle.chk_words.specs.Asked.{asked};
+ghost use Rattle.chk_words.specs.Commands.{Asked};
+ghost use Rattle.chukwa_run.specs.Asking.{usage_line};
+ghost use Rattle.chukwa_run.specs.Demuxing.{SuitsTypes};
+ghost use Rattle.chukwa_run.specs.Processes.{RunSide};
+ghost use Rattle.chukwa_run.specs.Runs.{Begins, Ends, Caused, SaysUsage};
+ghost use Rattle.chukwa_run.specs.Saying.{SaysEnding, IsOutsideEnd};
 
-use crate::command_words::{Command, RoundWords, Usage, read_words};
-use crate::faults::RunFault;
-use crate::lines::{fault_line, usage_line};
-use crate::round::round;
+use crate::agenting::run_agent_of;
+use crate::archiving::run_job;
+use crate::collecting::run_collector;
+use crate::demuxing::run_split;
+use crate::draining::run_drain_of;
+use crate::loading::run_load_of;
+use crate::rounding::run_whole_round;
 use crate::salvaging::run_salvage;
-use crate::saying::writer;
-use crate::status::Status;
+use crate::saying::{say_ending, say_usage};
 use chk_site::Site;
+use chk_words::{Command, Ending, WordsFault, read_words, usage_of};
 use std::alloc::Global;
 
-/// Runs the command that the words behind the program's name ask for, and answers the status with which the program
-/// ends: 0 where all was done, 2 where the words ask for nothing, 3 where a call on the outside failed, 4 for want of
-/// memory, 5 where the header of the file is refused, and 10 where the log has more than 131,072 bytes or the sink is there
-/// already. Each status but 0 has a line on standard output; where that can't be printed, the status stays.
+/// Runs the command that the words behind the program's name ask for, and answers the status with
+/// which the program ends: 0 where all was done, 2 where the words ask for nothing, 3 where a call on
+/// the outside failed, 4 for want of memory, 5 where a file isn't in its grammar, 6 where something
+/// is pending, 7 where a log is shorter than what was read of it, 8 where a number is the last one
+/// and another was to follow, and 9 where all collectors refused, or a reply inside the process
+/// wasn't the one that was made. Each status but 0 has a line on standard output; where that can't be
+/// printed, the status stays.
 ///
-/// `round SOURCE TYPE LOG` reads LOG once, writes what it read as one chunk into `sinks/c1.1.1.done`, a SequenceFile of
-/// version 6, and prints `stream SOURCE TYPE LOG <bytes>`. An empty log makes no sink.
+/// `round [--class CLASS] [--reads N] [--cluster NAME] SOURCE TYPE LOG...` runs the agent SOURCE, the collector `c1` and the
+/// archive job once in one process. Each LOG that isn't live is added, each live log is read until it gives nothing, and what
+/// they gave is delivered and archived. It prints `stream SOURCE <type> <log> <offset>` for each live adaptor, and then
+/// `archive unclosed <n> taken <n> held <n> removed <n>`. A sink of another collector under writing is told behind these lines.
+///
+/// `agent [--initial FILE] [--control ADDRESS] [--turns N] [--poll MS] [--expire MS] [--cluster NAME] SOURCE COLLECTOR...` starts
+/// the agent SOURCE, adds the streams of FILE, and in each turn does what the messages at its control door ask for, reads its
+/// logs, posts and polls, settles, and pauses for 200 ms.
+///
+/// `collector [--rotate MS] [--turns N] NAME ADDRESS` starts the collector NAME, and in each turn takes at most one message at
+/// ADDRESS within 1,000 ms, answers it, asks the clock and ticks. At its end it closes its sink.
+///
+/// `drain [--initial FILE] [--reads N] [--polls N] [--cluster NAME] SOURCE COLLECTOR...` starts the
+/// agent SOURCE, adds the streams of FILE, reads each log to its end, posts what they gave, polls
+/// every 1,000 ms until all of it is committed, and prints a line `stream SOURCE TYPE LOG <bytes>`
+/// for each stream.
+///
+/// `archive` runs the archive job once. It takes what is new of each stream from the closed sinks and removes these, and prints
+/// `archive unclosed <n> taken <n> held <n> removed <n>` and a line `end <source> <type> <name> <n>` for each stream of the archive.
+///
+/// `demux [TYPE...]` runs the demux job once: it splits what the archive has of each stream into records, those of the types by time
+/// stamps and all others by lines, adds the complete ones to `demux`, and prints `demux taken <n> entries <n> left <n>`.
 ///
 /// `salvage FILE` reads the SequenceFile FILE whole into memory, and prints a line `entry <at> <end> <source> <type> <name> <seq>`
 /// for each record of a chunk, `other <at> <end>` for any other one, and `skipped <begin> <end>` for what can't be read. A
 /// file that isn't there counts as empty, and its header is refused.
+///
+/// `load N` appends N generated lines to the logs `load.0.log`, `load.1.log` and `load.2.log`, and takes them to the archive by a
+/// round of the source `load` with the type `Load`. It prints `load lines <N> bytes <appended> archived <n>`, the last number
+/// being the sum of the archived ends of the three streams. Of its round it prints nothing.
 pub fn run<'a, S: Site>(alloc: Global, site: &mut S, words: &'a [&'a str]) -> u8
-    ensures usage { (result ≡ number_of WrongUse) ↔ (asked (map (λ w. w.now) words.now) ≡ None) }
-    ensures closed_stays_front { Adds (S.told site.old) (S.told site.new)
-        (ClosedStaysFront (asked (map (λ w. w.now) words.now)) result) }
-    ensures salvage_prints { Adds (S.told site.old) (S.told site.new)
-        (SalvagePrints (asked (map (λ w. w.now) words.now)) result) }
-    ensures acts { (earlier : History) → Adds (S.told site.old) (S.told site.new)
-        (Leads (anyhow Anyone) (ActedSo earlier NoActs) (ActedSo earlier (RunsSo (map (λ w. w.now) words.now) result))) }
-    ensures outside_cause { result ≡ number_of Outside → Rose (S.fault_count site.old) (S.fault_count site.new) }
+    ensures whole { (stamped : List (List ℕ)) (command : Asked) (earlier : History)
+        → SuitsTypes stamped command
+        → asked (map (λ w. w.now) words.now) ≡ Some command → Adds (S.told site.old) (S.told site.new)
+        (Leads (RunSide stamped command) (Begins stamped earlier) (Ends stamped command result earlier)) }
+    ensures causes { (command : Asked) → asked (map (λ w. w.now) words.now) ≡ Some command
+        → Adds (S.told site.old) (S.told site.new) (Caused command result) }
+    ensures usage { result ≡ 2 → asked (map (λ w. w.now) words.now) ≡ None }
+    ensures unasked { asked (map (λ w. w.now) words.now) ≡ None → Adds (S.told site.old) (S.told site.new)
+        (SaysUsage (usage_line (map (λ w. w.now) words.now)) result) }
+    ensures outside_cause { result ≡ 3 → Rose (S.fault_count site.old) (S.fault_count site.new) }
 {
-    run_words(alloc, site, words).number()
-}
-
-fn run_words<'a, S: Site>(alloc: Global, site: &mut S, words: &'a [&'a str]) -> Status
-    ensures usage { (result ≡ WrongUse) ↔ (asked (map (λ w. w.now) words.now) ≡ None) }
-    ensures closed_stays_front { Adds (S.told site.old) (S.told site.new)
-        (ClosedStaysFront (asked (map (λ w. w.now) words.now)) (number_of result)) }
-    ensures salvage_prints { Adds (S.told site.old) (S.told site.new)
-        (SalvagePrints (asked (map (λ w. w.now) words.now)) (number_of result)) }
-    ensures acts { (earlier : History) → Adds (S.told site.old) (S.told site.new)
-        (Leads (anyhow Anyone) (ActedSo earlier NoActs) (ActedSo earlier (RunsSo (map (λ w. w.now) words.now) (number_of result)))) }
-    ensures outside_cause { result ≡ Outside → Rose (S.fault_count site.old) (S.fault_count site.new) }
-{
-    match read_words(words) {
-        Ok(Command::Round(given)) => run_round(alloc, site, &given),
-        Ok(Command::Salvage(file)) => run_salvage(alloc, site, file),
-        Err(usage) => {
-            say_usage(alloc, site, usage);
-            Status::Usage
+    match read_words(alloc, words) {
+        Ok(Command::Round(given)) => {
+            let done = run_whole_round(alloc, site, &given);
+            ends(alloc, site, done)
         }
+        Ok(Command::Agent(given)) => {
+            let done = run_agent_of(alloc, site, &given);
+            ends(alloc, site, done)
+        }
+        Ok(Command::Collector(given)) => {
+            let done = run_collector(alloc, site, &given);
+            ends(alloc, site, done)
+        }
+        Ok(Command::Drain(given)) => {
+            let done = run_drain_of(alloc, site, &given);
+            ends(alloc, site, done)
+        }
+        Ok(Command::Archive) => {
+            let done = run_job(alloc, site);
+            ends(alloc, site, done)
+        }
+        Ok(Command::Demux(kinds)) => {
+            let done = run_split(alloc, site, kinds.as_slice());
+            ends(alloc, site, done)
+        }
+        Ok(Command::Salvage(file)) => {
+            let done = run_salvage(alloc, site, file);
+            ends(alloc, site, done)
+        }
+        Ok(Command::Load(lines)) => {
+            let done = run_load_of(alloc, site, lines);
+            ends(alloc, site, done)
+        }
+        Err(WordsFault::Usage) => {
+            say_usage(alloc, site, usage_of(words));
+            2
+        }
+        Err(WordsFault::NoMemory) => ends(alloc, site, Err(Ending::NoMemory)),
     }
 }
 
-fn run_round<S: Site>(alloc: Global, site: &mut S, given: &RoundWords<'_>) -> Status
-    requires good { IsTrue (is_round (round_of given.now)) }
-    ensures kept { (earlier : History) → Adds (S.told site.old) (S.told site.new)
-        (Leads (anyhow IsForeign) (Holds (round_of given.now) earlier Anything) (RoundRuns (round_of given.now) earlier (number_of result))) }
-    ensures acts { (earlier : History) → Adds (S.told site.old) (S.told site.new)
-        (Leads (anyhow Anyone) (ActedSo earlier NoActs) (ActedSo earlier (EndsSo (round_of given.now) (number_of result)))) }
-    ensures cause { result ≡ Outside → Rose (S.fault_count site.old) (S.fault_count site.new) }
-    ensures no_usage { result ≢ WrongUse }
-{
-    match round(alloc, site, given) {
-        Ok(()) => Status::Done,
-        Err(fault) => {
-            say_fault(alloc, site, given, fault);
-            Status::from(fault)
-        }
-    }
-}
-
-// Prints the fault's line, where there is memory for it.
-fn say_fault<S: Site>(alloc: Global, site: &mut S, given: &RoundWords<'_>, fault: RunFault)
-    ensures kept { (earlier : History) → Adds (S.told site.old) (S.told site.new)
-        (Leads (anyhow IsForeign) (Holds (round_of given.now) earlier Anything) (Holds (round_of given.now) earlier Anything)) }
-    ensures acts { (earlier : History) → Adds (S.told site.old) (S.told site.new)
-        (Leads (anyhow Anyone) (ActedSo earlier (EndsWith (round_of given.now) fault)) (ActedSo earlier (Told (round_of given.now) fault))) }
+// The status of a command's result, whose line is said where it has one.
+fn ends<S: Site>(alloc: Global, site: &mut S, done: Result<(), Ending>) -> u8
+    ensures says { SaysEnding done result (S.told site.old) (S.told site.new) }
+    ensures no_usage { result ≢ 2 }
+    ensures outside { result ≡ 3 → IsOutsideEnd done }
     ensures count { S.fault_count site.old ≤ S.fault_count site.new }
 {
-    let Ok(writer) = writer(alloc) else { return };
-    let Ok(line) = fault_line(alloc, fault) else {
-        return
-    };
-    let _said = site.say(alloc, &writer, line.as_slice());
-}
-
-// Prints the usage line, where there is memory for it.
-fn say_usage<S: Site>(alloc: Global, site: &mut S, usage: Usage)
-    ensures acts { (earlier : History) → Adds (S.told site.old) (S.told site.new)
-        (Leads (anyhow Anyone) (ActedSo earlier NoActs) (ActedSo earlier (SaidUsage (usage_text usage)))) }
-{
-    let Ok(writer) = writer(alloc) else { return };
-    let Ok(line) = usage_line(alloc, usage) else {
-        return
-    };
-    let _said = site.say(alloc, &writer, line.as_slice());
+    match done {
+        Ok(()) => 0,
+        Err(ending) => {
+            say_ending(alloc, site, &ending);
+            ending.status()
+        }
+    }
 }

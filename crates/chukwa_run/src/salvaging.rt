@@ -1,54 +1,50 @@
 //! The salvage of a file as a command.
 
-ghost use Rattle.std.specs.Prelude.{◌≡◌, ◌≢◌, ◌≤◌};
+ghost use Rattle.std.specs.Prelude.{◌≡◌, ◌≢◌, ◌≤◌, ℕ, List, IsTrue};
+ghost use Rattle.chk_bytes.specs.Words.{is_word};
 ghost use Rattle.chk_site.specs.History.{History};
-ghost use Rattle.chk_site.specs.Site.{Adds, Rose};
-ghost use Rattle.chk_site.specs.Runs.{anyhow, Leads};
-ghost use Rattle.chukwa_run.specs.Acts.{Anyone, ActedSo, writer_chukwa};
-ghost use Rattle.chukwa_run.specs.Lines.{salvage_fault_line};
-ghost use Rattle.chukwa_run.specs.Statuses.{number_of};
-ghost use Rattle.chukwa_run.specs.declared.status.Status.TheVariants.{Outside, Usage};
-ghost use Rattle.chukwa_run.specs.Sayings.{NoActs, SaysAtMost};
-ghost use Rattle.chukwa_run.specs.Salvages.{SalvagePrintsBy, SalvageEndsWith, SalvageTold, SalvageEnds};
+ghost use Rattle.chk_site.specs.Site.{Adds};
+ghost use Rattle.chk_site.specs.Runs.{Leads};
+ghost use Rattle.chk_words.specs.Commands.{Salvage};
+ghost use Rattle.chukwa_run.specs.Processes.{RunSide};
+ghost use Rattle.chukwa_run.specs.Runs.{Begins, EndsWith, CausedBy};
+ghost use Rattle.chukwa_run.specs.Causes.{EndingCause, IsEndingOf};
 
-use crate::lines::salvage_fault_line;
 use crate::saying::writer;
-use crate::status::Status;
-use chk_site::{Site, Who};
+use chk_bytes::Word;
+use chk_site::Site;
+use chk_words::Ending;
 use chukwa_salvage::{SalvageFault, salvage};
 use std::alloc::Global;
 
-/// Prints what can be read of the file, and answers how the run ends: `Done`, `Outside`, `NoMemory`
-/// or `Damaged`.
-pub fn run_salvage<S: Site>(alloc: Global, site: &mut S, file: &str) -> Status
-    ensures prints { Adds (S.told site.old) (S.told site.new) (SalvagePrintsBy file.now (number_of result)) }
-    ensures acts { (earlier : History) → Adds (S.told site.old) (S.told site.new)
-        (Leads (anyhow Anyone) (ActedSo earlier NoActs) (ActedSo earlier (SalvageEnds file.now (number_of result)))) }
-    ensures cause { result ≡ Outside → Rose (S.fault_count site.old) (S.fault_count site.new) }
-    ensures no_usage { result ≢ Usage }
+/// Prints what can be read of the file. Its header's refusal is `Damaged` at 0.
+pub fn run_salvage<S: Site>(alloc: Global, site: &mut S, file: &str) -> Result<(), Ending>
+    requires word { IsTrue (is_word file.now) }
+    ensures told { (stamped : List (List ℕ)) (earlier : History) → Adds (S.told site.old) (S.told site.new)
+        (Leads (RunSide stamped (Salvage file.now)) (Begins stamped earlier)
+        (EndsWith stamped (Salvage file.now) result earlier)) }
+    ensures causes { Adds (S.told site.old) (S.told site.new) (CausedBy (Salvage file.now) result) }
+    ensures cause { EndingCause (S.fault_count site.old) (S.fault_count site.new) result }
 {
     let Ok(writer) = writer(alloc) else {
-        return Status::NoMemory;
+        return Err(Ending::NoMemory);
     };
     match salvage(alloc, site, &writer, file) {
-        Ok(()) => Status::Done,
-        Err(fault) => {
-            say_fault(alloc, site, &writer, file, fault);
-            Status::from(fault)
-        }
+        Ok(()) => Ok(()),
+        Err(fault) => Err(ending_of(alloc, file, fault)),
     }
 }
 
-// Prints the fault's line, where there is memory for it.
-fn say_fault<S: Site>(alloc: Global, site: &mut S, who: &Who, file: &str, fault: SalvageFault)
-    requires who { who.now ≡ writer_chukwa }
-    ensures says { Adds (S.told site.old) (S.told site.new) (SaysAtMost (salvage_fault_line file.now fault)) }
-    ensures acts { (earlier : History) → Adds (S.told site.old) (S.told site.new)
-        (Leads (anyhow Anyone) (ActedSo earlier (SalvageEndsWith file.now fault)) (ActedSo earlier (SalvageTold file.now fault))) }
-    ensures count { S.fault_count site.old ≤ S.fault_count site.new }
+fn ending_of(alloc: Global, file: &str, fault: SalvageFault) -> Ending
+    requires word { IsTrue (is_word file.now) }
+    ensures { IsEndingOf file.now fault result }
 {
-    let Ok(line) = salvage_fault_line(alloc, file, fault) else {
-        return
-    };
-    let _said = site.say(alloc, who, line.as_slice());
+    match fault {
+        SalvageFault::Outside { call } => Ending::Outside { call },
+        SalvageFault::NoMemory => Ending::NoMemory,
+        SalvageFault::Damaged => match Word::from_text(alloc, file) {
+            Ok(name) => Ending::Damaged { name, at: 0 },
+            Err(_) => Ending::NoMemory,
+        },
+    }
 }

@@ -77,7 +77,7 @@ print_told who text given result few done may told =
       moves = print_moves who text given result done may calls;
       acts =
           call_each (OnlyPrints who) (answered plain given) (λ before step theirs. inl theirs)
-          (λ before answer files logs running honest. inr (record { own = refl; running = running; by = refl; text = text; says = refl; few = few }))
+          (λ before answer files logs running honest. inr (record { own = refl; running = running; honest = honest; by = refl; text = text; says = refl; few = few }))
           calls;
       last = print_last who text given result done calls;
     })

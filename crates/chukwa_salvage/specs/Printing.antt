@@ -8,6 +8,7 @@ use Rattle.chk_site.specs.Files.{File}
 use Rattle.chk_site.specs.Effect.{IsSmallFile}
 use Rattle.chk_site.specs.Acts.{Deed, Says, deed}
 use Rattle.chk_site.specs.History.{Step, History, Others, files_after, is_stopped}
+use Rattle.chk_site.specs.Honest.{Honest}
 use Rattle.chk_site.specs.Site.{Rose, EndsIn}
 use Rattle.chk_site.specs.Runs.{own_acts}
 use Rattle.chk_replace.specs.Replace.{LeavesFile}
@@ -73,6 +74,7 @@ pub record PrintsFile (name : List ℕ) (result : Result Unit SalvageFault) (add
 pub record IsPrint (who : Who) (before : History) (step : Step) : Type 0 where
   pub own : step.own ≡ true
   pub running : is_stopped before ≡ false
+  pub honest : Honest before step
   pub by : step.act.who ≡ who
   pub text : List ℕ
   pub says : deed step.act ≡ Says text
@@ -86,6 +88,16 @@ LooksOrPrints who name before step = IsLook who name before step ⊎ IsPrint who
 abbrev pub FailsLast : Result Unit SalvageFault → History → History → Type 0
 FailsLast (Err (Outside call)) added history = is_stopped (added ++ history) ≡ false → EndsIn call added
 FailsLast result added history = Unit {0}
+
+-- the site wasn't stopped, where it wasn't before
+abbrev pub GoesOnRunning : History → History → Type 0
+GoesOnRunning added history = is_stopped history ≡ false → is_stopped (added ++ history) ≡ false
+
+-- what ended otherwise than by a call or for want of memory did so on a site that wasn't stopped
+abbrev pub EndsRunning : Result Unit SalvageFault → History → History → Type 0
+EndsRunning (Err (Outside call)) added history = Unit {0}
+EndsRunning (Err NoMemory) added history = Unit {0}
+EndsRunning result added history = is_stopped (added ++ history) ≡ false
 
 -- only a failure raises the count of faults
 abbrev pub CauseOf : ℕ → ℕ → Result Unit SalvageFault → Type 0

@@ -4,7 +4,7 @@ ghost use Rattle.std.specs.Prelude.{◌≤◌, [], length, OnOk};
 ghost use Rattle.chk_site.specs.History.{Every};
 ghost use Rattle.chk_site.specs.Site.{Adds, OutsideCause};
 ghost use Rattle.chk_salvage.specs.Readers.{items_left};
-ghost use Rattle.chukwa_salvage.specs.Printing.{PrintsFile, LooksOrPrints, FailsLast, CauseOf};
+ghost use Rattle.chukwa_salvage.specs.Printing.{PrintsFile, LooksOrPrints, FailsLast, CauseOf, GoesOnRunning, EndsRunning};
 ghost use Rattle.chukwa_salvage.specs.Steps.{PrintsItems, Prints};
 
 use crate::fault::SalvageFault;
@@ -36,6 +36,7 @@ pub fn salvage<S: Site>(
     ensures prints { Adds (S.told site.old) (S.told site.new) (PrintsFile name.now result) }
     ensures acts { Adds (S.told site.old) (S.told site.new) (Every (LooksOrPrints who.now name.now)) }
     ensures last { Adds (S.told site.old) (S.told site.new) (FailsLast result) }
+    ensures runs { Adds (S.told site.old) (S.told site.new) (EndsRunning result) }
     ensures cause { CauseOf (S.fault_count site.old) (S.fault_count site.new) result }
 {
     let given = load(alloc, site, who, name)?;
@@ -55,6 +56,7 @@ fn print_items<S: Site>(
     reader: Reader<'_>,
 ) -> Result<(), OutsideFault>
     ensures told { Adds (S.told site.old) (S.told site.new) (PrintsItems who.now (items_left reader.entry) result) }
+    ensures runs { OnOk result (Adds (S.told site.old) (S.told site.new) GoesOnRunning) }
     ensures cause { OutsideCause (S.fault_count site.old) (S.fault_count site.new) result }
 {
     let mut reader = reader;
@@ -75,6 +77,7 @@ fn make_room<S: Site>(
     requires few { length buffer.old ≤ 65536 }
     ensures told { Adds (S.told site.old) (S.told site.new) (Prints who.now buffer.old buffer.new result) }
     ensures room { OnOk result (length buffer.new ≤ 53176) }
+    ensures runs { OnOk result (Adds (S.told site.old) (S.told site.new) GoesOnRunning) }
     ensures cause { OutsideCause (S.fault_count site.old) (S.fault_count site.new) result }
 {
     if buffer.len() <= FULL {
@@ -94,6 +97,7 @@ fn print_rest<S: Site>(
 ) -> Result<(), OutsideFault>
     requires few { length buffer.now ≤ 65536 }
     ensures told { Adds (S.told site.old) (S.told site.new) (Prints who.now buffer.now [] result) }
+    ensures runs { OnOk result (Adds (S.told site.old) (S.told site.new) GoesOnRunning) }
     ensures cause { OutsideCause (S.fault_count site.old) (S.fault_count site.new) result }
 {
     if buffer.len() == 0 {
@@ -105,6 +109,7 @@ fn print_rest<S: Site>(
 fn print<S: Site>(alloc: Global, site: &mut S, who: &Who, text: &[u8]) -> Result<(), OutsideFault>
     requires few { length text.now ≤ 65536 }
     ensures told { Adds (S.told site.old) (S.told site.new) (Prints who.now text.now [] result) }
+    ensures runs { OnOk result (Adds (S.told site.old) (S.told site.new) GoesOnRunning) }
     ensures cause { OutsideCause (S.fault_count site.old) (S.fault_count site.new) result }
 {
     let said = site.say(alloc, who, text);

@@ -1,32 +1,36 @@
-use Rattle.std.proofs.Common.{inl, inr, Ok, Err, refl, sym, ap}
-use Rattle.chk_site.proofs.Leads.{leads_then, leads_as}
-use Rattle.chukwa_run.specs.Salvages.{AreSalvageActs, SalvageTold, SalvageEnds}
-use Rattle.chukwa_run.specs.Statuses.{number_of}
-use Rattle.chukwa_run.proofs.ActsCalls.{acts_as}
-use Rattle.chukwa_run.proofs.Salvaged.{salvage_acts, fault_prints, acts_of_writer, prints_by_status}
+use Rattle.std.proofs.Common.{Ok, Err}
+use Rattle.chk_words.specs.Commands.{Salvage}
+use Rattle.chukwa_run.proofs.SalvageRun.{is_salvage, went_well, went_wrong, caused_so, told_so}
+use Rattle.chukwa_run.proofs.Unbegun.{unbegun, caused_nothing}
 use Rattle.chukwa_run.proofs.salvaging.run_salvage.Goals as goal
 
-pub returns-in-Ok-salvage-clause-acts : goal.returns-in-Ok-salvage-clause-acts
-returns-in-Ok-salvage-clause-acts g c earlier =
-    let file = c.args.file.now in
-    leads_as (λ h x. x)
-    (λ h x. acts_as earlier (AreSalvageActs file) (SalvageEnds file 0) h (λ acts p. inl (refl, p)) x)
-    (salvage_acts file (Ok tt) earlier
-    (acts_of_writer file c.in-Ok.ensures c.in-Ok-salvage.ensures.acts)
-    c.in-Ok-salvage.ensures.last)
+pub returns-in_default-clause-told : goal.returns-in_default-clause-told
+returns-in_default-clause-told g c stamped earlier =
+    unbegun stamped (Salvage c.args.file.now) earlier (g.S.Site.told c.args.site.now)
 
-pub returns-clause-prints : goal.returns-clause-prints
-returns-clause-prints g c =
-    prints_by_status c.args.file.now (sym (ap number_of c.from.ensures))
-    (fault_prints c.args.file.now c.in-Err.fault c.in-Err.ensures.prints c.say_fault.ensures.says)
+pub returns-in_default-clause-causes : goal.returns-in_default-clause-causes
+returns-in_default-clause-causes g c = caused_nothing (Salvage c.args.file.now) (g.S.Site.told c.args.site.now)
 
-pub returns-clause-acts : goal.returns-clause-acts
-returns-clause-acts g c earlier =
-    let file = c.args.file.now in
-    let fault = c.in-Err.fault in
-    leads_as (λ h x. x)
-    (λ h x. acts_as earlier (SalvageTold file fault) (SalvageEnds file (number_of c.from.result)) h (λ acts p. inr (fault, ap number_of c.from.ensures, p)) x)
-    (leads_then (salvage_acts file (Err fault) earlier
-    (acts_of_writer file c.in-Ok.ensures c.in-Err.ensures.acts)
-    c.in-Err.ensures.last)
-    (c.say_fault.ensures.acts earlier))
+pub returns-in-Ok-salvage-clause-told : goal.returns-in-Ok-salvage-clause-told
+returns-in-Ok-salvage-clause-told g c stamped earlier =
+    let s = c.in-Ok-salvage.ensures in
+    told_so c.args.file.now stamped earlier (went_well)
+    (is_salvage c.args.file.now (Ok tt) c.in-Ok.ensures s.prints s.acts s.last s.runs)
+
+pub returns-in-Ok-salvage-clause-causes : goal.returns-in-Ok-salvage-clause-causes
+returns-in-Ok-salvage-clause-causes g c =
+    let s = c.in-Ok-salvage.ensures in
+    caused_so c.args.file.now (went_well)
+    (is_salvage c.args.file.now (Ok tt) c.in-Ok.ensures s.prints s.acts s.last s.runs)
+
+pub returns-clause-told : goal.returns-clause-told
+returns-clause-told g c stamped earlier =
+    let s = c.in-Err.ensures in
+    told_so c.args.file.now stamped earlier (went_wrong c.ending_of.ensures)
+    (is_salvage c.args.file.now (Err c.in-Err.fault) c.in-Ok.ensures s.prints s.acts s.last s.runs)
+
+pub returns-clause-causes : goal.returns-clause-causes
+returns-clause-causes g c =
+    let s = c.in-Err.ensures in
+    caused_so c.args.file.now (went_wrong c.ending_of.ensures)
+    (is_salvage c.args.file.now (Err c.in-Err.fault) c.in-Ok.ensures s.prints s.acts s.last s.runs)

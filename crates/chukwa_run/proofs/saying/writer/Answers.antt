@@ -1,5 +1,7 @@
-use Rattle.chukwa_run.proofs.GoodWords.{chukwa_is_word}
+use Rattle.std.proofs.Common.{refl, arith}
+use Rattle.std.specs.Prelude.{codes}
+use Rattle.chk_bytes.proofs.WordLemmas.{plain_word}
 use Rattle.chukwa_run.proofs.saying.writer.Goals as goal
 
 pub from_text-requires : goal.from_text-requires
-from_text-requires c = record { word = chukwa_is_word }
+from_text-requires c = record { word = plain_word (codes "chukwa") refl (omega arith) (omega arith) }

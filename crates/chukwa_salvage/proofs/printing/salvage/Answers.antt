@@ -3,6 +3,7 @@ use Rattle.std.specs.Prelude.{unwrap_or}
 use Rattle.std.proofs.lemmas.Result.{err_from_is_err_and}
 use Rattle.chk_salvage.specs.Readers.{items_left}
 use Rattle.chukwa_salvage.proofs.Salvaged.{prints_items, prints_none, prints_unread, looks_alone, looks_and_prints, load_last, print_last, none_last, fault_cause}
+use Rattle.chukwa_salvage.proofs.Running.{load_runs, then_runs, as_damaged, ends_runs}
 use Rattle.chukwa_salvage.proofs.printing.salvage.Goals as goal
 
 pub returns-in_err-given : goal.returns-in_err-given
@@ -17,6 +18,7 @@ returns-in_err-given g c =
       prints = prints_unread who name fault reads;
       acts = looks_alone who name reads;
       last = load_last (Option (List ℕ)) fault c.in_err-given.ensures.last;
+      runs = ends_runs fault reads;
       cause = fault_cause (Option (List ℕ)) fault _ _ _ refl c.in_err-given.ensures.cause;
     })
 
@@ -29,6 +31,9 @@ returns-in_default-clause-prints g c =
 
 pub returns-in_default-clause-acts : goal.returns-in_default-clause-acts
 returns-in_default-clause-acts g c = looks_alone c.args.who.now c.args.name.now c.in_ok-given.ensures.reads
+
+pub returns-in_default-clause-runs : goal.returns-in_default-clause-runs
+returns-in_default-clause-runs g c = as_damaged (load_runs c.in_ok-given.ensures.script)
 
 pub returns-in_err-print_items : goal.returns-in_err-print_items
 returns-in_err-print_items g c =
@@ -48,6 +53,7 @@ returns-in_err-print_items g c =
           c.in-Ok.ensures.header c.in-Ok.ensures.items c.in_err-print_items.ensures.told;
       acts = looks_and_prints who name items (Err fault) reads c.in_err-print_items.ensures.told;
       last = print_last who name items fault reads c.in_err-print_items.ensures.told;
+      runs = ends_runs fault (looks_and_prints who name items (Err fault) reads c.in_err-print_items.ensures.told);
       cause = fault_cause (Unit {0}) fault _ _ _ c.in_ok-given.ensures.cause c.in_err-print_items.ensures.cause;
     })
 
@@ -66,5 +72,6 @@ returns g c =
           c.in-Ok.ensures.header c.in-Ok.ensures.items c.in_ok-print_items.ensures.told;
       acts = looks_and_prints who name items (Ok tt) reads c.in_ok-print_items.ensures.told;
       last = none_last (looks_and_prints who name items (Ok tt) reads c.in_ok-print_items.ensures.told);
+      runs = then_runs (load_runs c.in_ok-given.ensures.script) c.in_ok-print_items.ensures.runs;
       cause = c.in_ok-print_items.ensures.cause ∙ c.in_ok-given.ensures.cause;
     }

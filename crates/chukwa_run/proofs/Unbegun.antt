@@ -1,0 +1,49 @@
+-- A command that did nothing for want of memory.
+use Rattle.std.proofs.Common.{ℕ, List, [], Err, Option, refl}
+use Rattle.chk_site.specs.History.{History}
+use Rattle.chk_site.specs.Site.{Adds}
+use Rattle.chk_site.specs.Runs.{Leads}
+use Rattle.chk_site.proofs.Runs.{adds_none}
+use Rattle.chk_site.proofs.Leads.{leads_none}
+use Rattle.chk_words.specs.Commands.{Asked, Round, Agent, Collector, Drain, Archive, Demux, Salvage, Load}
+use Rattle.chk_words.specs.declared.endings.Ending.TheVariants.{NoMemory}
+use Rattle.chukwa_run.specs.Processes.{RunSide}
+use Rattle.chukwa_run.specs.Showing.{Shows, IsOf}
+use Rattle.chukwa_run.specs.Runs.{Begins, EndsWith, CausedBy}
+
+shows_nothing : (command : Asked) (earlier : History) → Shows command earlier NoMemory []
+shows_nothing (Round w) earlier = (tt, tt)
+shows_nothing (Agent w) earlier = (tt, tt)
+shows_nothing (Collector w) earlier = (tt, tt)
+shows_nothing (Drain w) earlier = (tt, tt)
+shows_nothing Archive earlier = ((tt, tt), tt)
+shows_nothing (Demux kinds) earlier = ((tt, tt), tt)
+shows_nothing (Salvage file) earlier = tt
+shows_nothing (Load lines) earlier = (record { own = tt; unprinted = refl; fault = tt }, tt)
+
+is_nothing : (command : Asked) (earlier : History) → IsOf command earlier NoMemory []
+is_nothing (Round w) earlier = tt
+is_nothing (Agent w) earlier = tt
+is_nothing (Collector w) earlier = tt
+is_nothing (Drain w) earlier = tt
+is_nothing Archive earlier = (tt, tt)
+is_nothing (Demux kinds) earlier = (tt, tt)
+is_nothing (Salvage file) earlier = (tt, tt)
+is_nothing (Load lines) earlier = record { own = tt; unprinted = refl; fault = tt }
+
+pub unbegun : (stamped : List (List ℕ)) (command : Asked) (earlier : History) (now : Option History)
+    → Adds now now (Leads (RunSide stamped command) (Begins stamped earlier) (EndsWith stamped command (Err NoMemory) earlier))
+unbegun stamped command earlier now =
+    leads_none now
+    (λ h begins. record {
+      legal = begins.legal;
+      since = record {
+        added = [];
+        goes_on = begins.is;
+        holds = record { running = λ r. shows_nothing command earlier; stopped = λ s. tt };
+      };
+    })
+
+pub caused_nothing : (command : Asked) (now : Option History) → Adds now now (CausedBy command (Err NoMemory))
+caused_nothing command now =
+    adds_none now (CausedBy command (Err NoMemory)) (λ history. record { running = λ r. is_nothing command history; stopped = λ s. tt })

@@ -1,0 +1,55 @@
+use Rattle.std.proofs.Common.{Ok, Err}
+use Rattle.chk_words.specs.Commands.{Collector}
+use Rattle.chk_words.specs.Commands.{collector_of}
+use Rattle.chukwa_run.proofs.CollectorRun.{collection, causes, told}
+use Rattle.chukwa_run.proofs.Unbegun.{unbegun, caused_nothing}
+use Rattle.chukwa_run.proofs.collecting.run_collector.Goals as goal
+
+pub returns-in_default-clause-told : goal.returns-in_default-clause-told
+returns-in_default-clause-told g c stamped earlier =
+    unbegun stamped (Collector (collector_of c.args.given.now)) earlier (g.S.Site.told c.args.site.now)
+
+pub returns-in_default-clause-causes : goal.returns-in_default-clause-causes
+returns-in_default-clause-causes g c = caused_nothing (Collector (collector_of c.args.given.now)) (g.S.Site.told c.args.site.now)
+
+pub returns-in_default-from_text-clause-told : goal.returns-in_default-from_text-clause-told
+returns-in_default-from_text-clause-told g c stamped earlier =
+    unbegun stamped (Collector (collector_of c.args.given.now)) earlier (g.S.Site.told c.args.site.now)
+
+pub returns-in_default-from_text-clause-causes : goal.returns-in_default-from_text-clause-causes
+returns-in_default-from_text-clause-causes g c =
+    caused_nothing (Collector (collector_of c.args.given.now)) (g.S.Site.told c.args.site.now)
+
+pub returns-in-Ok-collect-clause-told : goal.returns-in-Ok-collect-clause-told
+returns-in-Ok-collect-clause-told g c stamped earlier =
+    let w = collector_of c.args.given.now in
+    let s = c.in-Ok-collect.ensures in
+    told w stamped earlier (Ok tt)
+    (collection w (Ok tt) c.in-Ok.who c.in-Ok-from_text.door c.in-Ok.ensures c.in-Ok-from_text.ensures
+    (record { ran = s.ran; refused = s.refused; told = s.told; finds = s.finds; spent = s.spent; last = s.last }))
+
+pub returns-in-Ok-collect-clause-causes : goal.returns-in-Ok-collect-clause-causes
+returns-in-Ok-collect-clause-causes g c =
+    let w = collector_of c.args.given.now in
+    let s = c.in-Ok-collect.ensures in
+    causes w (Ok tt)
+    (collection w (Ok tt) c.in-Ok.who c.in-Ok-from_text.door c.in-Ok.ensures c.in-Ok-from_text.ensures
+    (record { ran = s.ran; refused = s.refused; told = s.told; finds = s.finds; spent = s.spent; last = s.last }))
+
+pub returns-clause-told : goal.returns-clause-told
+returns-clause-told g c stamped earlier =
+    let w = collector_of c.args.given.now in
+    let s = c.in-Err.ensures in
+    rw c.ending_of.ensures
+    (told w stamped earlier (Err c.in-Err.fault)
+    (collection w (Err c.in-Err.fault) c.in-Ok.who c.in-Ok-from_text.door c.in-Ok.ensures c.in-Ok-from_text.ensures
+    (record { ran = s.ran; refused = s.refused; told = s.told; finds = s.finds; spent = s.spent; last = s.last })))
+
+pub returns-clause-causes : goal.returns-clause-causes
+returns-clause-causes g c =
+    let w = collector_of c.args.given.now in
+    let s = c.in-Err.ensures in
+    rw c.ending_of.ensures
+    (causes w (Err c.in-Err.fault)
+    (collection w (Err c.in-Err.fault) c.in-Ok.who c.in-Ok-from_text.door c.in-Ok.ensures c.in-Ok-from_text.ensures
+    (record { ran = s.ran; refused = s.refused; told = s.told; finds = s.finds; spent = s.spent; last = s.last })))

@@ -1,0 +1,45 @@
+-- The script of a drain.
+use Rattle.std.specs.Prelude.{ℕ, List, ◌++◌, Option, Some, Result}
+use Rattle.chk_site.specs.History.{History}
+use Rattle.chk_failover.specs.Turns.{Turns}
+use Rattle.chk_agent.specs.declared.agent.Rules.{Rules}
+use Rattle.chk_drain_run.specs.declared.faults.DrainFault.{DrainFault}
+use Rattle.chk_drain_run.specs.declared.run.Work.{Work}
+use Rattle.chk_drain_run.specs.Drains.{HasDrained}
+use Rattle.chk_words.specs.Commands.{DrainAsked}
+use Rattle.chukwa_run.specs.declared.draining.Setting.{Setting}
+use Rattle.chukwa_run.specs.Processes.{the_agent, chukwa}
+
+-- the ring stands at its first address
+abbrev pub ring_at : List (List ℕ) → Turns
+ring_at addresses = record { addresses = addresses; place = 0; failures = 0 }
+
+-- polls lie 1,000 ms apart, and no chunk expires within the run
+abbrev pub drain_rules : List ℕ → Rules
+drain_rules cluster =
+    record { rows = 65536; queue = 10485760; poll = 1000; expire = 300000; cluster = cluster }
+
+abbrev pub drain_work : DrainAsked → Work
+drain_work w = record { initial = w.initial; reads = w.reads; polls = w.polls }
+
+-- with what a drain is run
+abbrev pub setting_of : DrainAsked → Setting
+setting_of w = record {
+  who = the_agent w.source;
+  writer = chukwa;
+  ring = ring_at w.collectors;
+  rules = drain_rules w.cluster;
+  work = drain_work w;
+}
+
+-- the script of a drain in this setting
+abbrev pub HasDrainedIn : Setting → Result Unit DrainFault → Option History → Option History
+    → Type 0
+HasDrainedIn s result old new = HasDrained s.who s.writer s.ring s.rules s.work result old new
+
+-- The script of the run: the reads of the initial file, the start, the time, the lines of the file,
+-- and the drain. Where it is done, the checkpoint says how far each stream that was live was read,
+-- and just the lines of these streams were printed; where none was live, nothing more.
+abbrev pub DrainScript : DrainAsked → Result Unit DrainFault → History → History → Type 0
+DrainScript w result earlier added =
+    HasDrainedIn (setting_of w) result (Some earlier) (Some (added ++ earlier))

@@ -1,0 +1,56 @@
+//! The archive job as a command.
+
+ghost use Rattle.std.specs.Prelude.{◌≡◌, ℕ, List, IfOk};
+ghost use Rattle.chk_site.specs.History.{History};
+ghost use Rattle.chk_site.specs.Site.{Adds};
+ghost use Rattle.chk_site.specs.Runs.{Leads};
+ghost use Rattle.chk_world.specs.Sight.{job};
+ghost use Rattle.chk_words.specs.Commands.{Archive};
+ghost use Rattle.chukwa_run.specs.Processes.{RunSide};
+ghost use Rattle.chukwa_run.specs.Runs.{Begins, EndsWith, CausedBy};
+ghost use Rattle.chukwa_run.specs.Causes.{EndingCause, job_ending};
+
+use chk_archive::JobFault;
+use chk_archive_run::run_archive;
+use chk_bytes::{NoMemory, Word};
+use chk_site::{Role, Site, Who};
+use chk_words::Ending;
+use std::alloc::Global;
+
+/// Runs the archive job once, and prints its report and where each stream's archive ends.
+pub fn run_job<S: Site>(alloc: Global, site: &mut S) -> Result<(), Ending>
+    ensures told { (stamped : List (List ℕ)) (earlier : History) → Adds (S.told site.old) (S.told site.new)
+        (Leads (RunSide stamped Archive) (Begins stamped earlier) (EndsWith stamped Archive result earlier)) }
+    ensures causes { Adds (S.told site.old) (S.told site.new) (CausedBy Archive result) }
+    ensures cause { EndingCause (S.fault_count site.old) (S.fault_count site.new) result }
+{
+    let Ok(who) = job(alloc) else {
+        return Err(Ending::NoMemory);
+    };
+    match run_archive(alloc, site, &who) {
+        Ok(_report) => Ok(()),
+        Err(fault) => Err(ending_of(fault)),
+    }
+}
+
+/// The job.
+pub(crate) fn job(alloc: Global) -> Result<Who, NoMemory>
+    ensures { IfOk result (λ who. who ≡ job) }
+{
+    Ok(Who {
+        role: Role::Job,
+        name: Word::from_text(alloc, "job")?,
+    })
+}
+
+/// The same fault.
+pub(crate) fn ending_of(fault: JobFault) -> Ending
+    ensures { result ≡ job_ending fault }
+{
+    match fault {
+        JobFault::Outside { call } => Ending::Outside { call },
+        JobFault::Damaged { name, at } => Ending::Damaged { name, at },
+        JobFault::Spent { number } => Ending::Spent { number },
+        JobFault::NoMemory => Ending::NoMemory,
+    }
+}

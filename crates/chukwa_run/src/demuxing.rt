@@ -1,0 +1,42 @@
+//! The demux job as a command.
+
+ghost use Rattle.std.specs.Prelude.{◌≡◌, ℕ, List, map, IsTrue};
+ghost use Rattle.std.specs.List.{list_all};
+ghost use Rattle.chk_bytes.specs.Words.{is_word};
+ghost use Rattle.chk_site.specs.History.{History};
+ghost use Rattle.chk_site.specs.Site.{Adds};
+ghost use Rattle.chk_site.specs.Runs.{Leads};
+ghost use Rattle.chk_demux.specs.Demuxed.{NamesStamped};
+ghost use Rattle.chk_words.specs.Commands.{Demux};
+ghost use Rattle.chukwa_run.specs.Processes.{RunSide};
+ghost use Rattle.chukwa_run.specs.Runs.{Begins, EndsWith, CausedBy};
+ghost use Rattle.chukwa_run.specs.Causes.{EndingCause};
+
+use crate::agenting::words_of;
+use crate::archiving::{ending_of, job};
+use chk_demux_run::run_demux;
+use chk_site::Site;
+use chk_words::Ending;
+use std::alloc::Global;
+
+/// Runs the demux job once, with these types split by time stamps, and prints its report.
+pub fn run_split<S: Site>(alloc: Global, site: &mut S, kinds: &[&str]) -> Result<(), Ending>
+    requires words { IsTrue (list_all is_word (map (λ t. t.now) kinds.now)) }
+    ensures told { (stamped : List (List ℕ)) (earlier : History) → NamesStamped stamped (map (λ t. t.now) kinds.now)
+        → Adds (S.told site.old) (S.told site.new)
+        (Leads (RunSide stamped (Demux (map (λ t. t.now) kinds.now))) (Begins stamped earlier)
+        (EndsWith stamped (Demux (map (λ t. t.now) kinds.now)) result earlier)) }
+    ensures causes { Adds (S.told site.old) (S.told site.new) (CausedBy (Demux (map (λ t. t.now) kinds.now)) result) }
+    ensures cause { EndingCause (S.fault_count site.old) (S.fault_count site.new) result }
+{
+    let Ok(who) = job(alloc) else {
+        return Err(Ending::NoMemory);
+    };
+    let Ok(types) = words_of(alloc, kinds) else {
+        return Err(Ending::NoMemory);
+    };
+    match run_demux(alloc, site, &who, types.as_slice()) {
+        Ok(_report) => Ok(()),
+        Err(fault) => Err(ending_of(fault)),
+    }
+}
