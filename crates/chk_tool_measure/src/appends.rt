@@ -1,6 +1,7 @@
 //! Appends to one file.
 
-use chk_bytes::{NoMemory, Word};
+use crate::names::measure;
+use chk_bytes::NoMemory;
 use chk_site::{CallFault, Role, Site, Who};
 use std::alloc::Global;
 
@@ -18,18 +19,29 @@ pub fn appends<S: Site>(
     times: u32,
     every: u32,
 ) -> Result<bool, CallFault> {
-    let who = writer(alloc)?;
-    let piece = piece(alloc)?;
+    let who = measure(alloc, Role::Writer)?;
     site.create(alloc, &who, NAME)?;
-    for time in 0..times {
-        site.append(alloc, &who, NAME, &piece)?;
-        if is_last_of(time, every) {
-            site.sync(alloc, &who, NAME)?;
-        }
-    }
+    appends_each(site, alloc, &who, times, every)?;
     let size = site.size(alloc, &who, NAME)?;
     site.remove(alloc, &who, NAME)?;
-    Ok(size == u64::from(times) * u64::from(BYTES))
+    Ok(size == times as u64 * BYTES as u64)
+}
+
+fn appends_each<S: Site>(
+    site: &mut S,
+    alloc: Global,
+    who: &Who,
+    times: u32,
+    every: u32,
+) -> Result<(), CallFault> {
+    let piece = piece(alloc)?;
+    for time in 0..times {
+        site.append(alloc, who, NAME, &piece)?;
+        if is_last_of(time, every) {
+            site.sync(alloc, who, NAME)?;
+        }
+    }
+    Ok(())
 }
 
 fn is_last_of(time: u32, every: u32) -> bool {
@@ -38,10 +50,4 @@ fn is_last_of(time: u32, every: u32) -> bool {
 
 fn piece(alloc: Global) -> Result<Vec<u8>, NoMemory> {
     Ok(vec![in alloc; 7u8; BYTES as usize]?)
-}
-
-fn writer(alloc: Global) -> Result<Who, NoMemory> {
-    let name = Word::new(alloc, b"measure".as_slice()).map_err(|_| NoMemory)?;
-    let role = Role::Writer;
-    Ok(Who { role, name })
 }

@@ -1,14 +1,14 @@
 //! A checkpoint that is loaded and written again.
 
-use chk_bytes::{NoMemory, Word};
+use crate::names::measure;
 use chk_checkpoint::{CheckFault, load_checkpoint, write_checkpoint};
-use chk_site::{Role, Site, Who};
+use chk_site::{Role, Site};
 use std::alloc::Global;
 
 /// Loads the checkpoint of the agent `measure` and writes the same lines, so many times. It isn't done where the file
 /// has no lines.
 pub fn checkpoints<S: Site>(site: &mut S, alloc: Global, times: u32) -> Result<bool, CheckFault> {
-    let who = agent(alloc)?;
+    let who = measure(alloc, Role::Agent)?;
     for _ in 0..times {
         let check = load_checkpoint(alloc, site, &who)?;
         if check.lines.is_empty() {
@@ -17,10 +17,4 @@ pub fn checkpoints<S: Site>(site: &mut S, alloc: Global, times: u32) -> Result<b
         write_checkpoint(alloc, site, &who, &check)?;
     }
     Ok(true)
-}
-
-fn agent(alloc: Global) -> Result<Who, NoMemory> {
-    let name = Word::new(alloc, b"measure".as_slice()).map_err(|_| NoMemory)?;
-    let role = Role::Agent;
-    Ok(Who { role, name })
 }

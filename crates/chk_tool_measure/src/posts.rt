@@ -2,8 +2,9 @@
 
 ghost use Rattle.chk_acks.specs.Table.{IsKnown};
 
+use crate::names::word;
 use chk_acks::Acks;
-use chk_bytes::{Bytes, NoMemory, Stem, Word};
+use chk_bytes::{Bytes, NoMemory, Stem};
 use chk_chunk::Chunk;
 use chk_queue::Queue;
 use std::alloc::Global;
@@ -24,10 +25,10 @@ pub fn posts(alloc: Global, times: u32) -> Result<bool, NoMemory> {
     };
     for time in 0..times {
         fill(alloc, &mut queue)?;
-        note_front(&mut queue, &mut acks, stem, u64::from(time));
-        see(&mut acks, stem, u64::from(time));
+        note_front(&mut queue, &mut acks, stem, time as u64);
+        see(&mut acks, stem, time as u64);
     }
-    let bytes = u64::from(times) * u64::from(CHUNKS) * DATA.len() as u64;
+    let bytes = times as u64 * CHUNKS as u64 * DATA.len() as u64;
     Ok(acks.committed_end(0) == bytes)
 }
 
@@ -79,8 +80,4 @@ fn see(acks: &mut Acks, stem: Stem, length: u64)
     ensures { IsKnown acks.new 0 }
 {
     acks.seen(stem, length);
-}
-
-fn word(alloc: Global, text: &[u8]) -> Result<Word, NoMemory> {
-    Word::new(alloc, text).map_err(|_| NoMemory)
 }

@@ -1,0 +1,396 @@
+#!/usr/bin/env python3
+"""Tries agents, collectors and the job as programs on 127.0.0.1.
+
+usage: tools/loopback.py [--program FILE] [CASE...]
+
+Each case, or each of those that are named, runs in a new folder, with ports that were free, and prints `ok`,
+`skipped` and why, or what differed. The script ends with 1 where a case differed; each case is over
+within a minute. A full disk wants a tmpfs that can be mounted, a missing permission root or none.
+"""
+import argparse
+import os
+import shutil
+import signal
+import subprocess
+import sys
+import tempfile
+import time
+
+from archive_reader import Archive, Damaged, checkpoint
+from kill_calls import sequence_file
+from running import Process, add_program, free_ports, listening, program_of, ran
+
+NOBODY = 65534
+REFUSED = "Connection refused (os error 111)"
+TAKEN = "Address already in use (os error 98)"
+
+
+class Differs(Exception):
+    """What a case wanted, and what came."""
+
+
+class Skipped(Exception):
+    """The machine doesn't allow this case."""
+
+
+class Room:
+    """A case's folder, and what runs in it."""
+
+    def __init__(self, program, folder):
+        self.program, self.folder, self.running = program, folder, []
+        os.mkdir(f"{folder}/logs")
+
+    def start(self, *words, below=""):
+        process = Process(words[0], [self.program, *words], f"{self.folder}/{below}")
+        self.running.append(process)
+        return process
+
+    def run(self, *words, below=""):
+        return ran([self.program, *words], f"{self.folder}/{below}", 50)
+
+    def write(self, name, data):
+        with open(f"{self.folder}/{name}", "wb") as file:
+            file.write(data)
+
+    def close(self):
+        for process in self.running:
+            process.close()
+
+
+def wanted(what, want, got):
+    if want != got:
+        raise Differs(f"{what}: wanted {want!r}, got {got!r}")
+
+
+def holds(what, piece, got):
+    if piece not in got:
+        raise Differs(f"{what}: wanted {piece!r} in it, got {got!r}")
+
+
+def until(what, seconds, is_so):
+    end = time.monotonic() + seconds
+    while not is_so():
+        if time.monotonic() > end:
+            raise Differs(f"{what}: not within {seconds} seconds")
+        time.sleep(0.05)
+
+
+def address(port):
+    return f"127.0.0.1:{port}"
+
+
+def opened(room, *words, name="c1", below=""):
+    """A collector that listens, and its address. A port that was taken meanwhile is tried again."""
+    for _ in range(5):
+        (port,) = free_ports(1)
+        process = room.start("collector", *words, name, address(port), below=below)
+        until("the collector's door", 20, lambda: process.status() is not None or listening(port))
+        if process.status() is None:
+            return process, address(port)
+        if TAKEN not in process.error():
+            raise Differs(f"the collector ended: {process.status()} {process.printed()} {process.error()}")
+    raise Skipped("no port is free")
+
+
+def add_lines(room, name, *paths, kind="CharFileTailingAdaptorUTF8"):
+    room.write(name, "".join(f"add {kind} Log {path} 0\n" for path in paths).encode())
+
+
+def committed(room, source, path, below=""):
+    row = checkpoint(f"{room.folder}/{below}", source).get(path)
+    return row.offset if row else 0
+
+
+def lines(first, count):
+    return b"".join(b"%d of the lines of %s, %s\n" % (n, first, b"x" * (n % 200)) for n in range(count))
+
+
+def archived(room, logs, below="", unclosed=0):
+    """The job runs, and each log is its archive."""
+    status, out, error = room.run("archive", below=below)
+    if status != 0 or not out.startswith(f"archive unclosed {unclosed} "):
+        raise Differs(f"archive: {status} {out!r} {error!r}")
+    archive = Archive(f"{room.folder}/{below}")
+    wanted("bytes lost and doubled", (0, 0), (archive.lost, archive.doubled))
+    wanted("the streams", sorted(logs), sorted(archive.book.streams))
+    for stream, data in logs.items():
+        if archive.bytes_of(stream) != data:
+            raise Differs(f"{stream}: {len(archive.bytes_of(stream))} bytes of {len(data)}, or others")
+
+
+def refused_connection(room):
+    """An agent whose collector isn't there goes on, tells the cause, and delivers once there is one."""
+    log = lines(b"h1", 20)
+    room.write("logs/a.log", log)
+    add_lines(room, "add", "logs/a.log")
+    (port,) = free_ports(1)
+    words = ["--initial", "add", "--poll", "200", "--expire", "600", "h1", address(port)]
+    status, out, error = room.run("agent", "--turns", "4", *words)
+    wanted("the agent without a collector", (0, ""), (status, out))
+    wanted("what it committed", 0, committed(room, "h1", "logs/a.log"))
+    agent = room.start("agent", *words)
+    time.sleep(1)
+    wanted("the status of an agent that runs on", None, agent.status())
+    room.start("collector", "--rotate", "200", "c1", address(port))
+    until("all is committed", 30, lambda: committed(room, "h1", "logs/a.log") == len(log))
+    holds("standard error of the agent without a collector", f"chukwa: send {address(port)}: {REFUSED}\n", error)
+
+
+def held_name(room):
+    """The second collector of a name ends, and the first goes on."""
+    log = lines(b"h1", 20)
+    room.write("logs/a.log", log)
+    add_lines(room, "add", "logs/a.log")
+    first, door = opened(room, "--rotate", "200")
+    second = room.run("collector", "--turns", "1", "c1", address(free_ports(1)[0]))
+    told = "chukwa: start locks/collector.c1: another process holds this lock\n"
+    wanted("the second collector", (3, "outside start\n", told), second)
+    wanted("the first one's status", None, first.status())
+    status = room.run("agent", "--initial", "add", "--turns", "25", "--poll", "200", "h1", door)[0]
+    wanted("the agent", 0, status)
+    wanted("what it committed", len(log), committed(room, "h1", "logs/a.log"))
+    wanted("the first one's status", None, first.status())
+
+
+def held_source(room):
+    """The second agent of a source ends, and the first goes on."""
+    first = room.start("agent", "h1", address(free_ports(1)[0]))
+    until("the lock", 20, lambda: os.path.exists(f"{room.folder}/locks/agent.h1"))
+    time.sleep(0.5)
+    second = room.run("agent", "--turns", "1", "h1", address(free_ports(1)[0]))
+    told = "chukwa: start locks/agent.h1: another process holds this lock\n"
+    wanted("the second agent", (3, "outside start\n", told), second)
+    wanted("the first one's status", None, first.status())
+
+
+def one_log(room):
+    """A log of some lines reaches the archive."""
+    log = lines(b"h1", 100)
+    room.write("logs/a.log", log)
+    add_lines(room, "add", "logs/a.log")
+    collector, door = opened(room, "--turns", "10", "--rotate", "100")
+    agent = room.run("agent", "--initial", "add", "--turns", "25", "--poll", "200", "h1", door)
+    wanted("the agent", (0, "", ""), agent)
+    wanted("the collector", (0, "", ""), (collector.wait(20), collector.printed(), collector.error()))
+    wanted("what is committed", len(log), committed(room, "h1", "logs/a.log"))
+    archived(room, {("h1", "Log", "logs/a.log"): log})
+
+
+def killed_collector(room):
+    """Two agents and two collectors, each in a folder of its own or of the collectors; one is killed."""
+    for name in ("h1", "h2", "store"):
+        os.mkdir(f"{room.folder}/{name}")
+    logs, doors = {}, []
+    collectors = []
+    for name in ("c1", "c2"):
+        collector, door = opened(room, "--rotate", "500", name=name, below="store")
+        collectors.append(collector)
+        doors.append(door)
+    for source in ("h1", "h2"):
+        path = f"{room.folder}/logs/{source}.log"
+        logs[(source, "Log", path)] = lines(source.encode(), 20_000)
+        room.write(f"logs/{source}.log", logs[(source, "Log", path)])
+        add_lines(room, f"{source}/add", path)
+        room.start("agent", "--initial", "add", "--poll", "200", "--expire", "2000", source, *doors, below=source)
+    until("some is committed", 30, lambda: sum(committed(room, *key[::2], below=key[0]) for key in logs) > 0)
+    collectors[0].kill()
+    time.sleep(0.5)
+    again = room.start("collector", "--rotate", "500", "c1", doors[0], below="store")
+    whole = sum(map(len, logs.values()))
+    until("all is committed", 45, lambda: sum(committed(room, *key[::2], below=key[0]) for key in logs) == whole)
+    for process in (again, collectors[1]):
+        process.kill()
+    for name, door in zip(("c1", "c2"), doors):
+        wanted(f"the end of {name}", 0, room.run("collector", "--turns", "1", name, door, below="store")[0])
+    archived(room, logs, below="store")
+
+
+def stopped_close(room):
+    """A collector that was stopped while it closed a sink, before it removed the mark, starts again."""
+    os.mkdir(f"{room.folder}/sinks")
+    chunk = (("h1", "Log", "/a.log"), lines(b"h1", 4), 0, 60)
+    size = sequence_file(f"{room.folder}/sinks/c1.1.1.done", [chunk])
+    room.write("sinks/c1.born", (1).to_bytes(8, "big"))
+    room.write("sinks/c1.1.1.mark", size.to_bytes(8, "big"))
+    room.write("sinks/c1.1.2.mark", size.to_bytes(8, "big"))
+    said = room.run("collector", "--turns", "1", "c1", address(free_ports(1)[0]))
+    wanted("the collector", (0, "", ""), said)
+    wanted("the sinks", ["c1.1.1.done", "c1.born"], sorted(os.listdir(f"{room.folder}/sinks")))
+
+
+def odd_logs(room):
+    """Long lines, odd bytes, no bytes, a log that comes late, and thirty rotations while no agent runs."""
+    odd = bytes(range(256)) * 700 + b"\r\n\n\0\n" + b"y" * 300_000 + b"\n"
+    logs = {"odd": odd + b"no end", "empty": b"", "late": b"late\r\n", "turned": b""}
+    paths = {name: f"logs/{name}.log" for name in logs} | {"late": "logs/below/late.log"}
+    kinds = {"c": "CharFileTailingAdaptorUTF8", "f": "FileTailingAdaptor", "l": "LWFTAdaptor"}
+    words = [f"add {kind} {kind[:4]} {path} 0\n" for kind in kinds.values() for path in paths.values()]
+    room.write("add", "".join(words).encode())
+    room.write(paths["odd"], logs["odd"])
+    room.write(paths["empty"], b"")
+    _, door = opened(room, "--rotate", "300")
+    said = room.run("agent", "--initial", "add", "--turns", "12", "--poll", "300", "h1", door)
+    wanted("the agent", (0, "", ""), said)
+    os.mkdir(f"{room.folder}/logs/below")
+    room.write(paths["late"], logs["late"])
+    for day in range(30):
+        base = lines(b"day", day % 7)
+        logs["turned"] += base
+        room.write(f"{paths['turned']}.{20_261_101 + day}", base)
+    room.write(paths["turned"], b"last\n")
+    said = room.run("agent", "--turns", "80", "--poll", "300", "h1", door)
+    wanted("the agent that runs again", (0, "", ""), said)
+    room.running[0].kill()
+    wanted("the collector's end", 0, room.run("collector", "--turns", "1", "c1", door)[0])
+    held = {}
+    for kind in kinds.values():
+        is_plain = kind.startswith("LWFT")
+        held[("h1", kind[:4], paths["odd"])] = odd if kind.startswith("Char") else logs["odd"]
+        held[("h1", kind[:4], paths["late"])] = logs["late"]
+        held[("h1", kind[:4], paths["turned"])] = b"last\n" if is_plain else logs["turned"] + b"last\n"
+    archived(room, held)
+
+
+def folder_for_log(room):
+    os.mkdir(f"{room.folder}/logs/a.log")
+    add_lines(room, "add", "logs/a.log")
+    agent = room.run("agent", "--initial", "add", "--turns", "5", "h1", address(free_ports(1)[0]))
+    told = "chukwa: logread logs/a.log: Is a directory (os error 21)\n"
+    wanted("the agent", (3, "outside logread\n", told), agent)
+
+
+def as_nobody(room):
+    """Words that run the program as another user than root, in a place that it can come to."""
+    if os.geteuid() == 0 and not shutil.which("setpriv"):
+        raise Skipped("setpriv isn't here")
+    os.chmod(room.folder, 0o777)
+    if os.geteuid() != 0:
+        return []
+    return ["setpriv", f"--reuid={NOBODY}", f"--regid={NOBODY}", "--clear-groups"]
+
+
+def unreadable_log(room):
+    room.write("logs/a.log", b"hello\n")
+    os.chmod(f"{room.folder}/logs/a.log", 0)
+    add_lines(room, "add", "logs/a.log")
+    words = [room.program, "agent", "--initial", "add", "--turns", "5", "h1", address(free_ports(1)[0])]
+    agent = ran([*as_nobody(room), *words], room.folder)
+    told = "chukwa: logread logs/a.log: Permission denied (os error 13)\n"
+    wanted("the agent", (3, "outside logread\n", told), agent)
+
+
+def closed_folder(room):
+    """No process can make its lock, and nothing is left behind."""
+    nobody = as_nobody(room)
+    os.chmod(room.folder, 0o555)
+    for words in (["collector", "--turns", "1", "c1"], ["agent", "--turns", "1", "h1"], ["archive"]):
+        lock = {"collector": "collector.c1", "agent": "agent.h1", "archive": "job"}[words[0]]
+        door = [] if words == ["archive"] else [address(free_ports(1)[0])]
+        told = f"chukwa: start locks/{lock}: Permission denied (os error 13)\n"
+        got = ran([*nobody, room.program, *words, *door], room.folder)
+        wanted(words[0], (3, "outside start\n", told), got)
+    wanted("what is there", ["logs"], os.listdir(room.folder))
+
+
+def mounted(folder, size):
+    os.mkdir(folder)
+    mount = ["mount", "-t", "tmpfs", "-o", f"size={size}", "tmpfs", folder]
+    if os.geteuid() != 0 or not shutil.which("mount") or subprocess.run(mount, stderr=subprocess.DEVNULL).returncode:
+        raise Skipped("no tmpfs can be mounted")
+
+
+def full_disk(room):
+    """The collectors' disk is full until a file on it goes; then all is delivered and archived."""
+    store = f"{room.folder}/store"
+    mounted(store, "1m")
+    try:
+        fill_and_free(room, store)
+    finally:
+        room.close()
+        subprocess.run(["umount", store], check=False)
+
+
+def fill_and_free(room, store):
+    log = lines(b"h1", 2000)
+    room.write("logs/a.log", log)
+    add_lines(room, "add", "logs/a.log")
+    collector, door = opened(room, "--rotate", "300", below="store")
+    with open(f"{store}/filler", "wb", buffering=0) as filler:
+        try:
+            while filler.write(bytes(4096)):
+                pass
+        except OSError:
+            pass
+    agent = room.start("agent", "--initial", "add", "--poll", "200", "--expire", "1000", "h1", door)
+    time.sleep(3)
+    wanted("the agent's status while the disk is full", None, agent.status())
+    if collector.status() is not None:
+        holds("the collector", "No space left on device (os error 28)\n", collector.error())
+        wanted("its status", 3, collector.status())
+    wanted("what is committed", 0, committed(room, "h1", "logs/a.log"))
+    os.remove(f"{store}/filler")
+    if collector.status() is not None:
+        collector = room.start("collector", "--rotate", "300", *collector.words[-2:], below="store")
+    until("all is committed", 30, lambda: committed(room, "h1", "logs/a.log") == len(log))
+    wanted("the collector's status", None, collector.status())
+    collector.kill()
+    wanted("its end", 0, room.run("collector", "--turns", "1", *collector.words[-2:], below="store")[0])
+    full_archive(room, store, {("h1", "Log", "logs/a.log"): log})
+
+
+def full_archive(room, store, logs):
+    """A job on a full disk ends with 3, and the next one is whole once there is room."""
+    with open(f"{store}/filler", "wb", buffering=0) as filler:
+        try:
+            while filler.write(bytes(4096)):
+                pass
+        except OSError:
+            pass
+    status, _, error = room.run("archive", below="store")
+    wanted("the job on a full disk", 3, status)
+    holds("its standard error", "No space left on device (os error 28)\n", error)
+    os.remove(f"{store}/filler")
+    archived(room, logs, below="store")
+
+
+CASES = [refused_connection, held_name, held_source, one_log, killed_collector, stopped_close, odd_logs]
+CASES += [folder_for_log, unreadable_log, closed_folder, full_disk]
+
+
+def tried(program, case):
+    """What differed, if anything."""
+    folder = tempfile.mkdtemp(prefix="loopback-")
+    room = Room(program, folder)
+    began = time.monotonic()
+    try:
+        case(room)
+        said = "ok"
+    except Skipped as why:
+        said = f"skipped, {why}"
+    except (Differs, Damaged, OSError) as why:
+        said = f"BAD\n  {why}"
+    finally:
+        room.close()
+        os.chmod(folder, 0o755)
+        shutil.rmtree(folder, ignore_errors=True)
+    print(f"{case.__name__} ({time.monotonic() - began:.0f} s): {said}", flush=True)
+    return not said.startswith("BAD")
+
+
+def main():
+    parser = argparse.ArgumentParser(description=__doc__.split("\n", 1)[0])
+    parser.add_argument("cases", nargs="*", metavar="CASE", help=", ".join(case.__name__ for case in CASES))
+    add_program(parser)
+    asked = parser.parse_args()
+    signal.signal(signal.SIGTERM, lambda *_: sys.exit(143))
+    with tempfile.TemporaryDirectory() as place:
+        # A copy that every user can run.
+        os.chmod(place, 0o755)
+        program = shutil.copy(program_of(asked), f"{place}/chukwa")
+        os.chmod(program, 0o755)
+        cases = [case for case in CASES if not asked.cases or case.__name__ in asked.cases]
+        return 0 if all([tried(program, case) for case in cases]) else 1
+
+
+if __name__ == "__main__":
+    sys.exit(main())
