@@ -15,16 +15,17 @@ use Rattle.chk_site.specs.Runs.{Leads}
 use Rattle.chk_site.proofs.Leads.{leads_then, leads_as, leads_none}
 use Rattle.chk_site.proofs.Runs.{adds_none}
 use Rattle.chk_message.specs.Messages.{Ack, ack_of, ack_text, acks_text}
-use Rattle.chk_world.specs.Collectors.{Handling, CommittedLengths}
+use Rattle.chk_world.specs.Collectors.{Handling}
 use Rattle.chk_world.specs.Places.{As}
 use Rattle.chk_sink.specs.declared.fault.SinkFault.{SinkFault}
-use Rattle.chk_sink.specs.declared.fault.SinkFault.TheVariants.{Outside, Damaged, Spent, NoMemory}
+use Rattle.chk_sink.specs.declared.fault.SinkFault.TheVariants.{Damaged, NoMemory}
 use Rattle.chk_sink.specs.States.{State, process}
 use Rattle.chk_sink.specs.Held.{Ready}
 use Rattle.chk_sink.specs.Damage.{DamageCause}
 use Rattle.chk_sink.specs.Asked.{Counted, CountedOn}
 use Rattle.chk_collector.specs.Polling.{CountedAll, HasLineOf}
-use Rattle.chk_collector.proofs.Joining.{damaged_then}
+use Rattle.chk_sink.proofs.Holding.{told_by, leads_by}
+use Rattle.chk_sink.proofs.JoinedCauses.{cause_then}
 use Rattle.chk_collector.proofs.Lines.{acks_text-more, short_more}
 
 -- the stems before the rest were asked for, and each has its line
@@ -57,8 +58,7 @@ count_begins now n s stems lines none = record {
   lines_are = none;
   of_stems = refl;
   short = omega (arith, ap length none);
-  told = λ stamped handled t.
-      leads_none now (λ h x. record { legal = x.legal; may_act = x.may_act; alive = λ r. record { handles = x.alive r; lengths = tt } });
+  told = λ stamped handled t. leads_none now (λ h x. told_by h (λ handles. record { handles = handles; lengths = tt }) x);
   damaged = adds_none now (DamageCause {T = Unit {0}} (Ok tt)) (λ h. refl);
   own = rests;
   same = refl;
@@ -93,10 +93,8 @@ module _ {old now new : Option History} {before count count' : ℕ} {s : State} 
     of_stems = map-append (λ (a : Ack). a.stem) so_far.acks (ack_of x n ∷ []) ∙ ap (λ l. l ++ x ∷ []) so_far.of_stems;
     short = short_more lines lines' (ack_text (ack_of x n)) so_far.done x line so_far.short short;
     told = λ stamped handled t.
-        leads_then (so_far.told stamped handled t)
-        (leads_as (λ h y. y) (λ h y. record { legal = y.legal; may_act = y.may_act; alive = λ r. (y.alive r).counts })
-        (told stamped handled t so_far.done so_far.acks));
-    damaged = damaged_then {U = Unit {0}} tt (Ok (tt {0})) so_far.damaged damaged;
+        leads_then (so_far.told stamped handled t) (leads_by (λ h y. y.counts) (told stamped handled t so_far.done so_far.acks));
+    damaged = cause_then (Ok (tt {0})) tt (Ok (tt {0})) refl so_far.damaged damaged;
     own = asked_own so_far more own;
     same = cause ∙ so_far.same;
   }
@@ -112,18 +110,15 @@ module _ {old now new : Option History} {before count : ℕ} {s : State} {stems 
     where
       refused : (f : SinkFault) (h : History) → CountedOn stamped s handled t so_far.done so_far.acks x (Err f) h
           → CountedAll stamped s handled t stems lines (Err f) h
-      refused (Outside call) h y = record { legal = y.legal; may_act = y.may_act; alive = λ r. record { handles = y.alive r; told = tt; sound = tt } }
-      refused (Spent born) h y = record { legal = y.legal; may_act = y.may_act; alive = λ r. record { handles = y.alive r; told = tt; sound = tt } }
-      refused (Damaged name at) h y = record { legal = y.legal; may_act = y.may_act; alive = λ r. absurd (y.alive r) }
-      refused NoMemory h y = record { legal = y.legal; may_act = y.may_act; alive = λ r. record { handles = y.alive r; told = tt; sound = tt } }
+      refused (Damaged name at) h y = told_by h (λ never. absurd never) y
+      refused f h y = told_by h (λ handles. record { handles = handles; told = tt; sound = tt }) y
 
   -- one was answered, and there was no memory for its line
   pub count_unwritten : (x : Stem) (n : ℕ) (lines' : List ℕ) → CountsOne now new s x (Ok n)
       → (stamped : List (List ℕ)) (handled : List Handling) (t : ℕ)
       → Adds old new (Leads (As stamped (process s)) (Ready stamped s handled) (CountedAll stamped s handled t stems lines' (Err NoMemory)))
   count_unwritten x n lines' told stamped handled t =
-      leads_as (λ h y. y)
-      (λ h y. record { legal = y.legal; may_act = y.may_act; alive = λ r. record { handles = (y.alive r).counts.handles; told = tt; sound = tt } })
+      leads_by (λ h y. record { handles = y.counts.handles; told = tt; sound = tt })
       (leads_then (so_far.told stamped handled t) (told stamped handled t so_far.done so_far.acks))
 
 module _ {old now : Option History} {before count : ℕ} {s : State} {stems rest : List Stem} {lines : List ℕ}
@@ -135,19 +130,11 @@ module _ {old now : Option History} {before count : ℕ} {s : State} {stems rest
   pub count_ends : rest ≡ [] → (stamped : List (List ℕ)) (handled : List Handling) (t : ℕ)
       → Adds old now (Leads (As stamped (process s)) (Ready stamped s handled) (CountedAll stamped s handled t stems lines (Ok tt)))
   count_ends none stamped handled t =
-      leads_as (λ h y. y)
+      leads_by
       (λ h y. record {
-        legal = y.legal;
-        may_act = y.may_act;
-        alive = λ r. record {
-          handles = (y.alive r).handles;
-          told = record {
-            acks = so_far.acks;
-            lines_are = so_far.lines_are;
-            lengths = subst (λ l. CommittedLengths (process s) h t l so_far.acks) (sym (all_done none)) (y.alive r).lengths;
-          };
-          sound = tt;
-        };
+        handles = y.handles;
+        told = record { acks = so_far.acks; lines_are = so_far.lines_are; lengths = rw (all_done none) y.lengths };
+        sound = tt;
       })
       (so_far.told stamped handled t)
 

@@ -5,7 +5,7 @@ use Rattle.chk_world.proofs.Working.{works_as}
 use Rattle.chk_world.specs.Works.{Works, IsOneOf}
 use Rattle.chk_site.specs.declared.acts.OutsideFault.{OutsideFault}
 use Rattle.chk_site.specs.Acts.{Deed}
-use Rattle.std.proofs.Common.{◌≡◌, ◌⊎◌, inl, inr, ℕ, Bool, true, false, List, Option, Some, None, Result, Ok, Err, refl, sym, subst, if◌then◌else◌, ap, ◌∙◌}
+use Rattle.std.proofs.Common.{◌≡◌, ◌⊎◌, inl, inr, ℕ, Bool, true, false, List, Option, Some, None, Result, Ok, Err, refl, subst, if◌then◌else◌, ap, ◌∙◌}
 use Rattle.std.specs.Prelude.{OnOk, IfErr, OnErr}
 use Rattle.chk_bytes.specs.Stems.{Stem}
 use Rattle.chk_site.specs.History.{History}
@@ -18,6 +18,7 @@ use Rattle.chk_sink.specs.States.{State, Writing, process, last_stem, with_curre
 use Rattle.chk_sink.specs.Held.{Holds, Matches}
 use Rattle.chk_sink.specs.Closes.{WasClosed, Ticked, Closed}
 use Rattle.chk_collector.specs.Finishing.{Finished, LeavesAfterFinish}
+use Rattle.chk_sink.proofs.Holding.{told_by}
 
 -- without a sink that is written to, the state is as it was
 same_state : (s : State) → s.current ≡ None → s ≡ with_current s None
@@ -52,39 +53,26 @@ module _ (stamped : List (List ℕ)) (s : State) where
   After = ticked_state 0 s
 
   ticked_holds : (h : History) → Ticked stamped s After (Ok tt) h → Matches stamped After h
-  ticked_holds h x = record { legal = x.legal; may_act = x.may_act; alive = λ r. (x.alive r).holds }
+  ticked_holds h x = told_by h (λ t. t.holds) x
 
   -- the tick closed it
   closed_early : After.current ≡ None → (h : History) → Ticked stamped s After (Ok tt) h → Finished stamped s (with_current After None) (Ok tt) h
-  closed_early none h x = record {
-    legal = x.legal;
-    may_act = x.may_act;
-    alive = λ r. record {
-      holds = subst (λ (t : State). Holds t h) (same_state After none) (x.alive r).holds;
-      closed = (x.alive r).closed none;
-      sound = λ name at e. cc;
-    };
-  }
+  closed_early none h x =
+      told_by h (λ t. record {
+        holds = subst (λ (a : State). Holds a h) (same_state After none) t.holds;
+        closed = t.closed none;
+        sound = λ name at e. cc;
+      }) x
 
   -- the close refused
   refused : (new : State) (fault : SinkFault) → IsOutside fault → (h : History) → Closed stamped After new (Err fault) h → Finished stamped s new (Err fault) h
-  refused new fault only h x = record {
-    legal = x.legal;
-    may_act = x.may_act;
-    alive = λ r. record { holds = (x.alive r).holds; closed = tt; sound = λ name at e. subst (λ r. IfErr r IsOutside) e only };
-  }
+  refused new fault only h x =
+      told_by h (λ c. record { holds = c.holds; closed = tt; sound = λ name at e. subst (λ r. IfErr r IsOutside) e only }) x
 
   -- the close closed it
   closed_late : (new : State) → ClosedLate s.rotate s.current → (h : History) → Closed stamped After new (Ok tt) h → Finished stamped s new (Ok tt) h
-  closed_late new late h x = record {
-    legal = x.legal;
-    may_act = x.may_act;
-    alive = λ r. record {
-      holds = (x.alive r).holds;
-      closed = late (last_stem s) h (x.alive r).closed;
-      sound = λ name at e. cc;
-    };
-  }
+  closed_late new late h x =
+      told_by h (λ c. record { holds = c.holds; closed = late (last_stem s) h c.closed; sound = λ name at e. cc }) x
 
   pub finish_told : (new : State) (result : Result (Unit {0}) SinkFault) {old mid end : Option History}
       → OnOk result (new ≡ with_current After None) → IfErr result IsOutside
@@ -94,16 +82,11 @@ module _ (stamped : List (List ℕ)) (s : State) where
       → Adds old end (Leads (As stamped (process s)) (Matches stamped s) (Finished stamped s new result))
   finish_told new (Err fault) is only tick idle close =
       leads_as (λ h x. x) (refused new fault only) (leads_then (leads_as (λ h x. x) ticked_holds tick) close)
-  finish_told new (Ok value) {old = old} {mid = mid} {end = end} is only tick idle close = by (closed_by s.rotate s.current)
+  finish_told new (Ok value) {old = old} {end = end} is only tick idle close = by (closed_by s.rotate s.current)
     where
-      Whole : Option History → State → Type 0
-      Whole end new = Adds old end (Leads (As stamped (process s)) (Matches stamped s) (Finished stamped s new (Ok tt)))
-
-      by : (After.current ≡ None) ⊎ ClosedLate s.rotate s.current → Whole end new
-      by (inl none) =
-          subst (λ (t : State). Whole end t) (sym is)
-          (subst (λ (e : Option History). Whole e (with_current After None)) (sym (idle none))
-          (leads_as (λ h x. x) (closed_early none) tick))
+      by : (After.current ≡ None) ⊎ ClosedLate s.rotate s.current
+          → Adds old end (Leads (As stamped (process s)) (Matches stamped s) (Finished stamped s new (Ok tt)))
+      by (inl none) = rw (is, idle none) (leads_as (λ h x. x) (closed_early none) tick)
       by (inr late) = leads_as (λ h x. x) (closed_late new late) (leads_then (leads_as (λ h x. x) ticked_holds tick) close)
 
   -- the same of the state that the tick left
@@ -113,16 +96,10 @@ module _ (stamped : List (List ℕ)) (s : State) where
       → (after.current ≡ None → end ≡ mid)
       → Adds mid end (Leads (As stamped (process after)) (Matches stamped after) (Closed stamped after new result))
       → Adds old end (Leads (As stamped (process s)) (Matches stamped s) (Finished stamped s new result))
-  finish_as after new result {old = old} {mid = mid} {end = end} same =
-      subst Told (sym same) (finish_told new result)
-    where
-      Told : State → Type 0
-      Told t =
-          OnOk result (new ≡ with_current t None) → IfErr result IsOutside
-          → Adds old mid (Leads (As stamped (process s)) (Matches stamped s) (Ticked stamped s t (Ok tt)))
-          → (t.current ≡ None → end ≡ mid)
-          → Adds mid end (Leads (As stamped (process t)) (Matches stamped t) (Closed stamped t new result))
-          → Adds old end (Leads (As stamped (process s)) (Matches stamped s) (Finished stamped s new result))
+  finish_as after new result same ok only tick idle close =
+      let leaves = rw same at ok in
+      let rests = rw same at idle in
+      finish_told new result leaves only (rw same at tick) rests (rw same at close)
 
 -- ---- the calls, and what a refusal leaves
 

@@ -1,5 +1,4 @@
 pub mod Sizes
-pub mod Joining
 pub mod FinishTold
 pub mod Lines
 pub mod CountSteps

@@ -21,6 +21,7 @@ use Rattle.chk_collector.specs.Answering.{Taken, TellFirst, MayAnswer, Stands, A
 use Rattle.chk_collector.specs.Posting.{ArePosted, PutsHold, WroteAll, HasLineEach}
 use Rattle.chk_collector.specs.Polling.{CountedAll, HasLineOf}
 use Rattle.chk_collector.specs.Replies.{code_by, body_by}
+use Rattle.chk_sink.proofs.Holding.{told_by}
 use Rattle.chk_collector.proofs.PutLoop.{no_appends}
 
 -- the last message taken is found
@@ -81,16 +82,12 @@ pub refused_told : {E : Type 0} (stamped : List (List ℕ)) (s : State) (t : ℕ
     → Adds now now (Leads (As stamped (process s)) (Taken stamped s t request others) (Answered stamped s t request others result))
 refused_told stamped s t request others code body (Ok reply) now other is =
     leads_none now
-    (λ h x. record {
-      legal = x.legal;
-      may_act = x.may_act;
-      alive = λ r. record {
-        answer = may_answer s (begun t request) others reply h refl (x.alive r) (not_good s h (Some (begun t request)) code body reply other is);
-        stands = none_stands s t request others h (x.alive r);
-      };
-    })
+    (λ h x. told_by h (λ handles. record {
+      answer = may_answer s (begun t request) others reply h refl handles (not_good s h (Some (begun t request)) code body reply other is);
+      stands = none_stands s t request others h handles;
+    }) x)
 refused_told stamped s t request others code body (Err fault) now other is =
-    leads_none now (λ h x. record { legal = x.legal; may_act = x.may_act; alive = λ r. none_stands s t request others h (x.alive r) })
+    leads_none now (λ h x. told_by h (none_stands s t request others h) x)
 
 -- ---- a post
 
@@ -110,37 +107,26 @@ pub post_told : {E : Type 0} (stamped : List (List ℕ)) (s : State) (t : ℕ) (
     (lines : List ℕ) (done : Result (Unit {0}) SinkFault) (result : Result (List ℕ) E) → IsPostOf chunks request → OnceDone done (length lines ≤ post_limit)
     → IfOk result (λ reply. OnceDone done (length lines ≤ post_limit) → IsReply (code_by done) (body_by done lines) reply)
     → (h : History) → WroteAll stamped s (begun t request ∷ others) chunks lines done h → Answered stamped s t request others result h
-post_told stamped s t request others chunks lines (Ok value) (Ok reply) post short accepted h x = record {
-  legal = x.legal;
-  may_act = x.may_act;
-  alive = λ r.
-      let q = x.alive r in
-      record {
-        answer =
-            may_answer s (with_appends q.appends (begun t request)) (map (with_appends q.appends) others) reply h refl q.handles
-            (λ text good. (
-              q.told.acks,
-              (IsReply-same 200 200 text lines reply good (accepted short)).1 ∙ q.told.lines_are,
-              inl record { newest = refl; open_yet = refl; chunks = chunks; post = post; lines = q.told.tell },
-            ));
-        stands = post_stands s t request others chunks lines (Ok value) h post q;
-      };
-}
-post_told stamped s t request others chunks lines (Err fault) (Ok reply) post short accepted h x = record {
-  legal = x.legal;
-  may_act = x.may_act;
-  alive = λ r.
-      let q = x.alive r in
-      let m = with_appends q.appends (begun t request) in
-      record {
-        answer =
-            may_answer s m (map (with_appends q.appends) others) reply h refl q.handles
-            (not_good s h (Some m) 503 (body_by (Err fault) lines) reply (λ e. omega (arith, e)) (accepted tt));
-        stands = post_stands s t request others chunks lines (Err fault) h post q;
-      };
-}
+post_told stamped s t request others chunks lines (Ok value) (Ok reply) post short accepted h x =
+    told_by h (λ q. record {
+      answer =
+          may_answer s (with_appends q.appends (begun t request)) (map (with_appends q.appends) others) reply h refl q.handles
+          (λ text good. (
+            q.told.acks,
+            (IsReply-same 200 200 text lines reply good (accepted short)).1 ∙ q.told.lines_are,
+            inl record { newest = refl; open_yet = refl; chunks = chunks; post = post; lines = q.told.tell },
+          ));
+      stands = post_stands s t request others chunks lines (Ok value) h post q;
+    }) x
+post_told stamped s t request others chunks lines (Err fault) (Ok reply) post short accepted h x =
+    told_by h (λ q. record {
+      answer =
+          may_answer s (with_appends q.appends (begun t request)) (map (with_appends q.appends) others) reply h refl q.handles
+          (not_good s h (Some (with_appends q.appends (begun t request))) 503 (body_by (Err fault) lines) reply (λ e. omega (arith, e)) (accepted tt));
+      stands = post_stands s t request others chunks lines (Err fault) h post q;
+    }) x
 post_told stamped s t request others chunks lines done (Err fault) post short accepted h x =
-    record { legal = x.legal; may_act = x.may_act; alive = λ r. post_stands s t request others chunks lines done h post (x.alive r) }
+    told_by h (post_stands s t request others chunks lines done h post) x
 
 -- ---- a poll
 
@@ -148,34 +134,26 @@ pub poll_told : {E : Type 0} (stamped : List (List ℕ)) (s : State) (t : ℕ) (
     (lines : List ℕ) (done : Result (Unit {0}) SinkFault) (result : Result (List ℕ) E) → PollRequest stems request → OnceDone done (length lines ≤ post_limit)
     → IfOk result (λ reply. OnceDone done (length lines ≤ post_limit) → IsReply (code_by done) (body_by done lines) reply)
     → (h : History) → CountedAll stamped s (begun t request ∷ others) t stems lines done h → Answered stamped s t request others result h
-poll_told stamped s t request others stems lines (Ok value) (Ok reply) poll short accepted h x = record {
-  legal = x.legal;
-  may_act = x.may_act;
-  alive = λ r.
-      let q = x.alive r in
-      record {
-        answer =
-            may_answer s (begun t request) others reply h refl q.handles
-            (λ text good. (
-              q.told.acks,
-              (IsReply-same 200 200 text lines reply good (accepted short)).1 ∙ q.told.lines_are,
-              inr record { stems = stems; poll = poll; lines = q.told.lengths },
-            ));
-        stands = none_stands s t request others h q.handles;
-      };
-}
-poll_told stamped s t request others stems lines (Err fault) (Ok reply) poll short accepted h x = record {
-  legal = x.legal;
-  may_act = x.may_act;
-  alive = λ r. record {
-    answer =
-        may_answer s (begun t request) others reply h refl (x.alive r).handles
-        (not_good s h (Some (begun t request)) 503 (body_by (Err fault) lines) reply (λ e. omega (arith, e)) (accepted tt));
-    stands = none_stands s t request others h (x.alive r).handles;
-  };
-}
+poll_told stamped s t request others stems lines (Ok value) (Ok reply) poll short accepted h x =
+    told_by h (λ q. record {
+      answer =
+          may_answer s (begun t request) others reply h refl q.handles
+          (λ text good. (
+            q.told.acks,
+            (IsReply-same 200 200 text lines reply good (accepted short)).1 ∙ q.told.lines_are,
+            inr record { stems = stems; poll = poll; lines = q.told.lengths },
+          ));
+      stands = none_stands s t request others h q.handles;
+    }) x
+poll_told stamped s t request others stems lines (Err fault) (Ok reply) poll short accepted h x =
+    told_by h (λ q. record {
+      answer =
+          may_answer s (begun t request) others reply h refl q.handles
+          (not_good s h (Some (begun t request)) 503 (body_by (Err fault) lines) reply (λ e. omega (arith, e)) (accepted tt));
+      stands = none_stands s t request others h q.handles;
+    }) x
 poll_told stamped s t request others stems lines done (Err fault) poll short accepted h x =
-    record { legal = x.legal; may_act = x.may_act; alive = λ r. none_stands s t request others h (x.alive r).handles }
+    told_by h (λ q. none_stands s t request others h q.handles) x
 
 -- ---- the lines are short
 

@@ -2,11 +2,11 @@
 use Rattle.chk_collector.specs.Answering.{Taken}
 use Rattle.chk_collector.specs.Handled.{Puts, PutsThen, OfPosts, OfPoll, OfRequest, Unanswered}
 use Rattle.chk_sink.proofs.Owned.{works_harmless, put_harmless}
+use Rattle.chk_sink.proofs.Holding.{leads_by}
 use Rattle.chk_world.proofs.Working.{works_as, works_fine}
 use Rattle.chk_world.specs.Works.{Works, rests}
 use Rattle.chk_world.specs.Places.{As}
 use Rattle.chk_world.specs.Collectors.{Handling, begun}
-use Rattle.chk_site.proofs.Leads.{leads_as}
 use Rattle.chk_site.specs.Runs.{Leads}
 use Rattle.chk_site.specs.Acts.{Deed}
 use Rattle.chk_site.specs.declared.acts.ActAnswer.{ActAnswer}
@@ -54,10 +54,9 @@ posts_harmless s call may = put_harmless may.1 call may.3
 
 by_no_damage : (done : Result (Unit {0}) SinkFault) (added history : History) → IfErr done IsOfPut → damage_in added ≡ None → DamageCause done added history
 by_no_damage (Ok value) added history of_put none = none
-by_no_damage (Err (Outside call)) added history of_put none = none
 by_no_damage (Err (Damaged name at)) added history of_put none = absurd of_put
-by_no_damage (Err (Spent born)) added history of_put none = none
 by_no_damage (Err NoMemory) added history of_put none = tt
+by_no_damage (Err fault) added history of_put none = none
 
 post_damages : (s : State) (done : Result (Unit {0}) SinkFault) {who : Who} {old new : Option History} → IfErr done IsOfPut
     → Works who (OfPosts s) (ended_by done) old new → Adds old new (DamageCause done)
@@ -66,10 +65,8 @@ post_damages s done of_put own =
 
 post_sound : (request : List ℕ) (s : State) (before after : Option History) (fault : SinkFault) → IsOfPut fault
     → OutcomeSound request s before after (Fails fault)
-post_sound request s before after (Outside call) of_put = tt
 post_sound request s before after (Damaged name at) of_put = absurd of_put
-post_sound request s before after (Spent born) of_put = tt
-post_sound request s before after NoMemory of_put = tt
+post_sound request s before after fault of_put = tt
 
 -- the calls of a post, and of a poll
 pub post_own : {fault : Option OutsideFault} {who : Who} (request : List ℕ) (chunks : List Chunk) (s : State) {old new : Option History}
@@ -170,18 +167,12 @@ PollTold request s stems lines done before after =
 
 poll_sound : (request : List ℕ) (s : State) (stems : List Stem) (lines : List ℕ) (before after : Option History) (fault : SinkFault)
     → PollTold request s stems lines (Err fault) before after → OutcomeSound request s before after (Fails fault)
-poll_sound request s stems lines before after (Outside call) told = tt
-poll_sound request s stems lines before after (Damaged name at) told =
-    λ stamped t others.
-    leads_as (λ h x. x) (λ h x. record { legal = x.legal; may_act = x.may_act; alive = λ r. (x.alive r).sound }) (told stamped t others)
-poll_sound request s stems lines before after (Spent born) told = tt
-poll_sound request s stems lines before after NoMemory told = tt
+poll_sound request s stems lines before after (Damaged name at) told = λ stamped t others. leads_by (λ h q. q.sound) (told stamped t others)
+poll_sound request s stems lines before after fault told = tt
 
 poll_spends : (s : State) (fault : SinkFault) → IsOfQuestion fault → OutcomeSpent s s (Fails fault)
-poll_spends s (Outside call) of_question = tt
-poll_spends s (Damaged name at) of_question = tt
 poll_spends s (Spent born) of_question = absurd of_question
-poll_spends s NoMemory of_question = tt
+poll_spends s fault of_question = tt
 
 pub poll_replied : {E : Type 0} (request : List ℕ) (stems : List Stem) (s : State) (before now : ℕ) (told_before told_after : Option History)
     (lines : List ℕ) (done : Result (Unit {0}) SinkFault) (result : Result (List ℕ) E) → PollRequest stems request
@@ -279,9 +270,7 @@ pub may_have_risen : {E : Type 0} (before now : ℕ) (done : Result (Unit {0}) S
 may_have_risen before now done (Ok reply) cause = tt
 may_have_risen before now (Ok value) (Err e) cause = inl cause
 may_have_risen before now (Err (Outside call)) (Err e) cause = inr cause
-may_have_risen before now (Err (Damaged name at)) (Err e) cause = inl cause
-may_have_risen before now (Err (Spent born)) (Err e) cause = inl cause
-may_have_risen before now (Err NoMemory) (Err e) cause = inl cause
+may_have_risen before now (Err fault) (Err e) cause = inl cause
 
 pub has_not_risen : {E : Type 0} (count : ℕ) (result : Result (List ℕ) E) → IfErr result (λ e. MayHaveRisen count count)
 has_not_risen count (Ok reply) = tt

@@ -5,6 +5,7 @@ use Rattle.chk_sink.specs.declared.fault.SinkFault.TheVariants.{NoMemory}
 use Rattle.chk_sink.specs.Puts.{IsPlaced, LeavesAfterPut, GoesOn}
 use Rattle.chk_sink.specs.Works.{OfPut}
 use Rattle.chk_sink.proofs.Owning.{made_by}
+use Rattle.chk_sink.proofs.Holding.{told_by}
 use Rattle.chk_world.proofs.Working.{works_then, works_as}
 use Rattle.chk_world.specs.Works.{Works, rests}
 use Rattle.chk_site.specs.declared.acts.OutsideFault.{OutsideFault}
@@ -79,16 +80,12 @@ put_begins now n first s chunks lines same none =
       short = omega (arith, ap length none);
       told = λ stamped handled posted.
           leads_none now
-          (λ h x. record {
-            legal = x.legal;
-            may_act = x.may_act;
-            alive = λ r. record {
-              appends = [];
-              handles = subst (λ ms. Handles first ms h) (no_appends handled) (x.alive r);
-              first = tt;
-              told = record { acks = []; lines_are = none; tell = tt; each = tt };
-            };
-          });
+          (λ h x. told_by h (λ handles. record {
+            appends = [];
+            handles = subst (λ ms. Handles first ms h) (no_appends handled) handles;
+            first = tt;
+            told = record { acks = []; lines_are = none; tell = tt; each = tt };
+          }) x);
       same = same_self first;
       puts = begins;
       place = tt;
@@ -192,5 +189,4 @@ module _ {old now : Option History} {before count : ℕ} {first s : State} {chun
   pub told_end : (stamped : List (List ℕ)) (handled : List Handling) → ArePosted handled chunks
       → Adds old now (Leads (As stamped (process first)) (Ready stamped first handled) (WroteAll stamped s handled chunks lines (Ok tt)))
   told_end stamped handled posted =
-      subst (λ (l : List Chunk). Adds old now (Leads (As stamped (process first)) (Ready stamped first handled) (WroteAll stamped s handled l lines (Ok tt))))
-      all_put (so_far.told stamped handled posted)
+      rw all_put at (so_far.told stamped handled posted)

@@ -17,6 +17,7 @@ use Rattle.chk_sink.specs.Held.{Handles, Ready}
 use Rattle.chk_sink.specs.Puts.{IsHeader, AreHeaders, IsAnswered, Wrote}
 use Rattle.chk_sink.specs.Closes.{OnceDone}
 use Rattle.chk_sink.proofs.Putting.{posted_on, appends_join}
+use Rattle.chk_sink.proofs.Holding.{told_by}
 use Rattle.chk_collector.specs.Answering.{TellFirst}
 use Rattle.chk_collector.specs.Posting.{TellEach, TellAppends, WroteAll}
 use Rattle.chk_site.proofs.Family.{leads_family}
@@ -166,19 +167,13 @@ module _ (stamped : List (List ℕ)) (handled : List Handling) (s s' : State) (c
       let q = p.alive e in
       let one = each (map (with_appends q.appends) handled, posted_on handled c q.appends posted)
       (record { legal = p.legal; may_act = p.may_act; alive = λ r. q.handles }) in
-      record {
-        legal = one.legal;
-        may_act = one.may_act;
-        alive = λ r. record {
-          appends = q.appends ++ (one.alive r).appends;
-          handles =
-              subst (λ ms. Handles s' ms (added ++ h)) (appends_join handled q.appends (one.alive r).appends) (one.alive r).handles;
-          first = subst (λ cs. TellFirst cs (q.appends ++ (one.alive r).appends)) (sym whole)
-              (each_then done (c ∷ rest) q.appends (one.alive r).appends q.told.each
-              (answered_first c rest result (one.alive r).appends (one.alive r).answer));
-          told = line q.appends (one.alive r).appends q.told (one.alive r).answer;
-        };
-      }
+      told_by (added ++ h) (λ put. record {
+        appends = q.appends ++ put.appends;
+        handles = subst (λ ms. Handles s' ms (added ++ h)) (appends_join handled q.appends put.appends) put.handles;
+        first = subst (λ cs. TellFirst cs (q.appends ++ put.appends)) (sym whole)
+            (each_then done (c ∷ rest) q.appends put.appends q.told.each (answered_first c rest result put.appends put.answer));
+        told = line q.appends put.appends q.told put.answer;
+      }) one
 
   -- behind the chunks that were put before
   pub put_step : {now new : Option History} → Line → PutsOne now new s s' c result

@@ -1,33 +1,32 @@
 -- An append to the sink that is written to.
-use Rattle.std.proofs.Common.{◌≡◌, ℕ, ◌+◌, Bool, true, false, ◌&&◌, List, [], ◌∷◌, ◌++◌, map, length, length-append, Option, Some, None, option_map, Result, ap, sym, subst, ◌∙◌, refl, is_some, if◌then◌else◌, true≢false}
+use Rattle.std.proofs.Common.{◌≡◌, ℕ, ◌+◌, Bool, true, false, ◌&&◌, List, [], ◌∷◌, ◌++◌, map, length, length-append, Option, Some, None, option_map, ap, sym, subst, ◌∙◌, refl, is_some, if◌then◌else◌}
 use Rattle.std.specs.Prelude.{IsTrue}
 use Rattle.std.proofs.lemmas.Bool.{and_from}
 use Rattle.chk_bytes.specs.Stems.{Stem, is_stem, is_collector, same_stem}
 use Rattle.chk_site.specs.declared.acts.Call.TheVariants.{Append}
-use Rattle.chk_site.specs.declared.acts.CallFault.{CallFault}
 use Rattle.chk_site.specs.declared.acts.CallFault.TheVariants.{Failed}
 use Rattle.chk_site.specs.declared.acts.OutsideFault.{OutsideFault}
 use Rattle.chk_site.specs.declared.acts.ActAnswer.{ActAnswer}
-use Rattle.chk_site.specs.declared.acts.ActAnswer.TheVariants.{Done, Refused, Stopped, Rotated, Deleted}
+use Rattle.chk_site.specs.declared.acts.ActAnswer.TheVariants.{Done, Refused}
 use Rattle.chk_site.specs.Files.{File, Files, grown}
 use Rattle.chk_site.specs.Acts.{Appends, is_done}
 use Rattle.chk_site.specs.History.{History, files_after}
-use Rattle.chk_site.specs.Site.{Adds, Asked, asked, own_step, answered, plain, Calls, IsDone, Ends, WasDone}
+use Rattle.chk_site.specs.Site.{Adds, Asked, asked, own_step, plain, WasDone}
 use Rattle.chk_site.specs.Runs.{Leads}
 use Rattle.chk_world.specs.Names.{Name, SinkFile, MarkFile, read, spell, file}
-use Rattle.chk_world.specs.Committed.{HasFile, IsAbsent, number_in}
+use Rattle.chk_world.specs.Committed.{HasFile, number_in}
 use Rattle.chk_world.specs.Collectors.{View, Current, Handling, Appended, view, still, sink_of, next_mark_of, size_in, appended_to, appended_at, sync_end_after, handled_after, with_appends, AppendsOnlyToCleanSink, IsCurrent, IsNextPiece}
 use Rattle.chk_world.specs.Places.{As, AtTold}
 use Rattle.chk_world.proofs.Ends.{bytes_self}
 use Rattle.chk_world.proofs.NameLemmas.{read-spell}
-use Rattle.chk_world.proofs.NameTests.{same_name, stem_self}
+use Rattle.chk_world.proofs.NameTests.{stem_self}
 use Rattle.chk_world.proofs.Kept.{there}
 use Rattle.chk_world.proofs.OwnFiles.{done_file, done_present}
 use Rattle.chk_world.proofs.ToldCalls.{GoesOn, MayCall, LeavesCall, goes_on_done, told_done, told_ends}
 use Rattle.chk_world.proofs.CollectorCalls.{own_sight, collector_rule}
 use Rattle.chk_sink.specs.States.{State, Writing, process, last_stem, with_current, given_up}
 use Rattle.chk_sink.specs.Held.{IsAsKept, Handles, Ready}
-use Rattle.chk_sink.proofs.Holding.{handles_stays, given_up_handles}
+use Rattle.chk_sink.proofs.Holding.{changed_by, WasMade, HasEnded, both_absent, given_up_with, handles_stays, given_up_handles}
 
 -- the sink with a piece more
 abbrev pub grown_writing : Writing → List ℕ → Writing
@@ -53,16 +52,16 @@ current_of s o = record { stem = last_stem s; sync_end = o.sync_end }
 done_handled : (w piece : List ℕ) (n : Name) (reads : read w ≡ n) (after : Files) (hs : List Handling) (answer : ActAnswer) → is_done answer ≡ true
     → handled_after (Appends w piece) answer after hs ≡ map (with_appends (appended_at n piece (size_in (after w)))) hs
 done_handled w piece n reads after hs (Done words number of) is = rw reads refl
-done_handled w piece n reads after hs (Refused fault) is = absurd (cc)
-done_handled w piece n reads after hs (Stopped left) is = absurd (cc)
-done_handled w piece n reads after hs (Rotated suffix) is = absurd (cc)
-done_handled w piece n reads after hs (Deleted suffix) is = absurd (cc)
+done_handled w piece n reads after hs answer is = absurd (cc)
 
 module _ (stamped : List (List ℕ)) (s : State) (o : Writing) (messages : List Handling) (named : IsTrue (is_collector s.collector))
-    (some : s.current ≡ Some o) (good : IsTrue (is_stem (last_stem s))) (w : List ℕ) (w_is : w ≡ spell (SinkFile (last_stem s)))
-    (piece : List ℕ) (next : IsNextPiece messages (current_of s o) o.size piece) where
+    (some : s.current ≡ Some o) (good : IsTrue (is_stem (last_stem s))) (piece : List ℕ)
+    (next : IsNextPiece messages (current_of s o) o.size piece) where
   abbrev X : Stem
   X = last_stem s
+
+  abbrev w : List ℕ
+  w = spell (SinkFile X)
 
   abbrev Q : Asked
   Q = asked (process s) Append (w ∷ piece ∷ []) 0 0
@@ -74,7 +73,7 @@ module _ (stamped : List (List ℕ)) (s : State) (o : Writing) (messages : List 
   C = Handles (appended_state s o piece) (map (with_appends (append_of s o piece ∷ [])) messages)
 
   reads : read w ≡ SinkFile X
-  reads = ap read w_is ∙ read-spell (SinkFile X) good
+  reads = read-spell (SinkFile X) good
 
   writing : (history : History) → B history → IsAsKept X (view (process s) history) (files_after history) (Some o)
   writing history h = subst (IsAsKept X (view (process s) history) (files_after history)) some h.holds.writing
@@ -104,10 +103,6 @@ module _ (stamped : List (List ℕ)) (s : State) (o : Writing) (messages : List 
       rule : AppendsOnlyToCleanSink (view (process s) before) (files_after before) (SinkFile X) piece
       rule = clean (file (files_after before) (SinkFile X)) kept.size
 
-  on_sink : (files : Name → Option File) (n : Name) → (if same_name n (read w) then option_map (grown piece) (files n) else files n)
-      ≡ (if same_name n (SinkFile X) then option_map (grown piece) (files n) else files n)
-  on_sink files n = ap (λ m. if same_name n m then option_map (grown piece) (files n) else files n) reads
-
   append_leaves : LeavesCall stamped Q named B WasDone C
   append_leaves before answer files logs was legal h =
       let step = own_step Q answer files logs in
@@ -115,23 +110,13 @@ module _ (stamped : List (List ℕ)) (s : State) (o : Writing) (messages : List 
       let honest = legal.1.honest in
       let kept = writing before h in
       let t = there (file (files_after before) (SinkFile X)) kept.size in
-      let word : files_after before w ≡ Some t.0 = ap (files_after before) w_is ∙ t.1 in
-      let is = done_present answer (files_after before w) was honest.agrees t.0 word in
+      let is = done_present answer (files_after before w) was honest.agrees t.0 t.1 in
       let sight = own_sight (process s) before step refl (goes_on_done answer was) in
-      let sink : file files (SinkFile X) ≡ Some (grown piece t.0) =
-      done_file before step (SinkFile X) honest is good
-      ∙ (on_sink (file (files_after before)) (SinkFile X)
-      ∙ (ap (λ b. if b then option_map (grown piece) (file (files_after before) (SinkFile X)) else file (files_after before) (SinkFile X)) (stem_self X)
-      ∙ ap (option_map (grown piece)) t.1)) in
+      let on = changed_by (SinkFile X) w refl good (option_map (grown piece)) (files_after before) files (λ n k. done_file before step n honest is k) in
+      let sink : file files (SinkFile X) ≡ Some (grown piece t.0) = on.there ∙ ap (option_map (grown piece)) t.1 in
       let longer : length (t.0.bytes ++ piece) ≡ o.size + length piece = length-append t.0.bytes piece ∙ ap (λ n. n + length piece) t.2 in
-      let others : (y : Stem) → IsTrue (is_stem y) → same_stem y X ≡ false → file files (SinkFile y) ≡ file (files_after before) (SinkFile y) =
-      λ y k e. done_file before step (SinkFile y) honest is k
-      ∙ (on_sink (file (files_after before)) (SinkFile y)
-      ∙ ap (λ b. if b then option_map (grown piece) (file (files_after before) (SinkFile y)) else file (files_after before) (SinkFile y)) e) in
-      let marks : (y : Stem) → IsTrue (is_stem y) → file files (MarkFile y) ≡ file (files_after before) (MarkFile y) =
-      λ y k. done_file before step (MarkFile y) honest is k ∙ on_sink (file (files_after before)) (MarkFile y) in
-      let size_before : size_in (files_after before w) ≡ o.size = ap size_in word ∙ t.2 in
-      let size_now : size_in (files w) ≡ o.size + length piece = ap (λ n. size_in (files n)) w_is ∙ (ap size_in sink ∙ longer) in
+      let size_before : size_in (files_after before w) ≡ o.size = ap size_in t.1 ∙ t.2 in
+      let size_now : size_in (files w) ≡ o.size + length piece = ap size_in sink ∙ longer in
       record {
         holds = record {
           born = ap (λ (v : View). v.born) sight ∙ h.holds.born;
@@ -139,13 +124,10 @@ module _ (stamped : List (List ℕ)) (s : State) (o : Writing) (messages : List 
           writing = record {
             current = ap (λ (v : View). v.current) sight ∙ now_current (is_done answer) (size_in (files_after before w)) is size_before v kept.current;
             size = subst (λ o'. HasFile o' (λ f. length f.bytes ≡ o.size + length piece)) (sym sink) longer;
-            marked = ap number_in (marks X good) ∙ kept.marked;
+            marked = ap number_in (on.others (MarkFile X) good refl) ∙ kept.marked;
           };
-          tidy = λ tidy y other.
-              let was = h.holds.tidy tidy y (record { own = other.own; stem = other.stem; other = as_other y other.other }) in (
-                subst IsAbsent (sym (others y other.stem other.other)) was.0,
-                subst IsAbsent (sym (marks y other.stem)) was.1,
-              );
+          tidy = λ tidy y other. both_absent (on.others (SinkFile y) other.stem other.other) (on.others (MarkFile y) other.stem refl)
+              (h.holds.tidy tidy y (record { own = other.own; stem = other.stem; other = as_other y other.other }));
         };
         handled = ap (λ (v : View). v.handled) sight
             ∙ (done_handled w piece (SinkFile X) reads files v.handled answer is
@@ -172,28 +154,19 @@ module _ (stamped : List (List ℕ)) (s : State) (o : Writing) (messages : List 
       let v = view (process s) before in
       let sight = own_sight (process s) before step refl (subst GoesOn (sym failed) tt) in
       record {
-        holds = record {
-          born = ap (λ (v : View). v.born) sight ∙ h.holds.born;
-          made = ap (λ (v : View). v.made) sight ∙ h.holds.made;
-          writing = tt;
-          tidy = λ e. absurd (true≢false e);
-        };
+        holds = given_up_with s (step ∷ before) (ap (λ (v : View). v.born) sight ∙ h.holds.born) (ap (λ (v : View). v.made) sight ∙ h.holds.made);
         handled = ap (λ (v : View). v.handled) sight ∙ (ap (λ a. handled_after (Appends w piece) a files v.handled) failed ∙ h.handled);
       }
 
   has_stem : is_some s.current ≡ true → IsTrue (is_stem (last_stem s))
   has_stem e = good
 
-  less : (history : History) → B history → Handles (given_up s) messages history
-  less history h = given_up_handles s messages history h
-
-  pub append_done : (given : Result (Unit {0}) CallFault) {old new : Option History} → IsDone given → Adds old new (Calls Q (answered plain given))
+  pub append_done : {old new : Option History} → WasMade Q old new
       → Adds old new (Leads (As stamped (process s)) (Ready stamped s messages) (AtTold stamped (process s) C))
-  append_done given is told = told_done stamped Q named B C given (handles_stays stamped s messages has_stem) append_may append_leaves is told
+  append_done m = told_done stamped Q named B C m.given (handles_stays stamped s messages has_stem) append_may append_leaves m.fine m.told
 
-  pub append_ends : (given : Result (Unit {0}) CallFault) (fault : OutsideFault) {old new : Option History} → Ends Append given fault
-      → Adds old new (Calls Q (answered plain given))
+  pub append_ends : {fault : OutsideFault} {old new : Option History} → HasEnded Q fault old new
       → Adds old new (Leads (As stamped (process s)) (Ready stamped s messages) (Ready stamped (given_up s) messages))
-  append_ends given fault ends told =
-      told_ends stamped Q named B (λ f. Handles (given_up s) messages) plain given fault (handles_stays stamped s messages has_stem)
-      append_may append_fails less ends told
+  append_ends {fault = fault} m =
+      told_ends stamped Q named B (λ f. Handles (given_up s) messages) plain m.given fault (handles_stays stamped s messages has_stem)
+      append_may append_fails (given_up_handles s messages) m.ends m.told

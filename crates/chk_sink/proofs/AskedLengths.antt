@@ -1,14 +1,14 @@
 -- What the questions for a sink's committed length lead to.
-use Rattle.std.proofs.Common.{◌≡◌, inl, ℕ, ◌≤◌, ◌<◌, true, List, [], ◌∷◌, length, take, drop, Option, Some, None, Result, ap, sym, subst, ◌∙◌, refl, arith}
+use Rattle.std.proofs.Common.{◌≡◌, inl, ℕ, ◌≤◌, true, List, [], ◌∷◌, length, take, drop, Option, Some, None, Result, ap, sym, subst, ◌∙◌, refl, arith, option_map, Ok, Err, is_some, true≢false}
 use Rattle.std.specs.Prelude.{IsTrue}
 use Rattle.chk_bytes.specs.Numbers.{spelled}
 use Rattle.chk_bytes.specs.Stems.{Stem, is_stem, is_collector}
 use Rattle.chk_site.specs.declared.acts.Call.TheVariants.{Size, Read}
 use Rattle.chk_site.specs.declared.acts.CallFault.{CallFault}
-use Rattle.chk_site.specs.declared.acts.CallFault.TheVariants.{Failed, Missing, Exists, Short, NoMemory}
+use Rattle.chk_site.specs.declared.acts.CallFault.TheVariants.{Failed, Missing, Exists, Short}
 use Rattle.chk_site.specs.declared.acts.OutsideFault.{OutsideFault}
 use Rattle.chk_site.specs.declared.acts.ActAnswer.{ActAnswer}
-use Rattle.chk_site.specs.declared.acts.ActAnswer.TheVariants.{Done, Refused, Stopped, Rotated, Deleted}
+use Rattle.chk_site.specs.declared.acts.ActAnswer.TheVariants.{Refused}
 use Rattle.chk_site.specs.Files.{File}
 use Rattle.chk_site.specs.History.{History, files_after}
 use Rattle.chk_site.specs.Honest.{AtSize, AtRead}
@@ -22,13 +22,23 @@ use Rattle.chk_world.specs.Laws.{IsMark}
 use Rattle.chk_world.specs.Places.{As, AtTold}
 use Rattle.chk_world.proofs.Law.{shape}
 use Rattle.chk_world.proofs.ToldCalls.{GoesOn, MayCall, LeavesCall, goes_on_taken, told_taken, told_ends}
-use Rattle.chk_sink.specs.States.{State, process}
+use Rattle.chk_sink.specs.States.{State, process, last_stem}
 use Rattle.chk_sink.specs.Held.{Handles, Ready}
-use Rattle.chk_sink.specs.Asked.{Counts, CountsNow, Counted}
-use Rattle.chk_sink.specs.Asking.{CountsOpen}
+use Rattle.chk_sink.specs.Asked.{Counts, CountsNow, Counted, CountsOn, CountedOn}
+use Rattle.chk_sink.specs.Asking.{CountsOpen, TakenOnce, IsMarkNumber, IsAsker, CountedOpen}
 use Rattle.chk_sink.specs.Damage.{is_number_from}
-use Rattle.chk_sink.proofs.NumberBytes.{read_whole, number_good}
-use Rattle.chk_sink.proofs.Holding.{HasStem, handles_alike}
+use Rattle.chk_site.specs.declared.acts.Who.{Who}
+use Rattle.chk_site.specs.declared.acts.OutsideFault.TheVariants.{Outside as site_failed, NoMemory as no_memory}
+use Rattle.chk_site.proofs.Leads.{leads_as}
+use Rattle.chk_sink.specs.declared.fault.SinkFault.{SinkFault}
+use Rattle.chk_sink.specs.declared.fault.SinkFault.TheVariants.{Damaged, NoMemory}
+use Rattle.chk_sink.specs.declared.current.Current.{Current}
+use Rattle.chk_sink.specs.declared.sinks.Sinks.TheInside.{Inside}
+use Rattle.chk_sink.specs.Faults.{sink_fault}
+use Rattle.chk_sink.specs.SinkFields.{sinks_view, writing_of, IsSoundCurrent, IsSound}
+use Rattle.chk_sink.proofs.Putting.{the_collector}
+use Rattle.chk_sink.proofs.NumberBytes.{read_whole, number_good, missing_read}
+use Rattle.chk_sink.proofs.Holding.{HasStem, handles_alike, leads_by}
 use Rattle.chk_sink.proofs.Quiet.{quiet_on, lengths_add}
 use Rattle.chk_sink.proofs.Questions.{counts_stay, open_stays, same_word, asked_alike, asked_counts, asked_untaken}
 
@@ -37,32 +47,15 @@ size_there n None agrees = absurd agrees
 size_there n (Some f) agrees = (f, refl, agrees)
 
 size_missing : (answer : ActAnswer) (o : Option File) → WasRefused answer → AtSize answer o → o ≡ None
-size_missing (Done words number of) o was agrees = absurd was
-size_missing (Refused Failed) o was agrees = absurd was
 size_missing (Refused Missing) o was agrees = agrees
 size_missing (Refused Exists) o was agrees = absurd agrees
 size_missing (Refused (Short size)) o was agrees = absurd agrees
-size_missing (Refused NoMemory) o was agrees = absurd was
-size_missing (Stopped left) o was agrees = absurd was
-size_missing (Rotated suffix) o was agrees = absurd was
-size_missing (Deleted suffix) o was agrees = absurd was
+size_missing answer o was agrees = absurd was
 
 read_there : (bytes : List ℕ) (at max : ℕ) (o : Option File) → AtRead (bytes_given bytes) at max o
     → (f : File) × (o ≡ Some f) × (bytes ∷ [] ≡ take max (drop at f.bytes) ∷ [])
 read_there bytes at max None agrees = absurd agrees
 read_there bytes at max (Some f) agrees = (f, refl, agrees.1)
-
-read_missing : (answer : ActAnswer) (max : ℕ) (o : Option File) → WasRefused answer → AtRead answer 0 max o → o ≡ None
-read_missing (Done words number of) max o was agrees = absurd was
-read_missing (Refused Failed) max o was agrees = absurd was
-read_missing (Refused Missing) max o was agrees = agrees
-read_missing (Refused Exists) max o was agrees = absurd agrees
-read_missing (Refused (Short size)) max None was agrees = absurd agrees
-read_missing (Refused (Short size)) max (Some f) was agrees = let less : length f.bytes < 0 = agrees.0 in absurd (omega (arith, less))
-read_missing (Refused NoMemory) max o was agrees = absurd was
-read_missing (Stopped left) max o was agrees = absurd was
-read_missing (Rotated suffix) max o was agrees = absurd was
-read_missing (Deleted suffix) max o was agrees = absurd was
 
 same_mark : (o : Option File) (f : File) → OnFile o IsMark → o ≡ Some f → IsMark f
 same_mark o f h e = subst (λ o. OnFile o IsMark) e h
@@ -198,7 +191,7 @@ module _ (stamped : List (List ℕ)) (s : State) (messages : List Handling) (t :
         let step = own_step AskMark answer files logs in
         let goes = goes_on_taken bytes_given None answer (λ value. tt) took in
         let modelled = legal.1.honest.modelled in
-        let gone = read_missing answer 9 (files_after before w) took legal.1.honest.agrees in
+        let gone = missing_read answer 9 (files_after before w) took legal.1.honest.agrees in
         with_length 0 (step ∷ before) (asked_counts s before step refl modelled tt goes messages t stems acks stem h.counts)
         (record {
           at_most = inl (omega arith);
@@ -229,3 +222,94 @@ module _ (stamped : List (List ℕ)) (s : State) (messages : List Handling) (t :
     mark_ends given fault ends told =
         told_ends stamped AskMark named Open (λ f. Handles s messages) bytes_given given fault
         (open_stays stamped s messages t stems acks stem x good) mark_may mark_fails (λ history h. h.counts.handles) ends told
+
+-- ---- by the results of the questions
+
+-- the sinks' process asks
+pub asker : (i : Inside) (s : State) → sinks_view i ≡ s → IsSound i → IsAsker i.who s
+asker i s e sound =
+    subst (IsAsker i.who) e
+    (record {
+      who_is = the_collector i.who i.who.name sound.role refl;
+      named = sound.name;
+      stem = λ some. of_current i.current some sound.current;
+    })
+  where
+    of_current : (o : Option Current) → is_some (option_map writing_of o) ≡ true → IsSoundCurrent (last_stem (sinks_view i)) o
+        → IsTrue (is_stem (last_stem (sinks_view i)))
+    of_current None some h = absurd (true≢false (sym some))
+    of_current (Some c) some h = h.good
+
+-- ---- over one state
+
+module _ (stamped : List (List ℕ)) (s : State) (messages : List Handling) (t : ℕ) (stems : List Stem) (acks : List Ack)
+    (who : Who) (asks : IsAsker who s) (x : Stem) (good : IsTrue (is_stem x)) where
+  abbrev From : (History → Type 0) → Option History → Option History → Result ℕ SinkFault → Type 0
+  From A old new result =
+      Adds old new (Leads (As stamped (process s)) A (CountedOn stamped s messages t stems acks x result))
+
+  fails_on : (fault : OutsideFault) (history : History) → Ready stamped s messages history
+      → CountedOn stamped s messages t stems acks x (Err (sink_fault fault)) history
+  fails_on (site_failed call) history h = h
+  fails_on no_memory history h = h
+
+  fails_so : {A : History → Type 0} {old new : Option History} (fault : OutsideFault) (result : Result ℕ SinkFault) → result ≡ Err (sink_fault fault)
+      → Adds old new (Leads (As stamped (process s)) A (Ready stamped s messages)) → From A old new result
+  fails_so fault result result_is told = rw result_is (leads_as (λ h k. k) (fails_on fault) told)
+
+  -- ---- the length of the done sink
+
+  module _ (w : List ℕ) (w_is : w ≡ spell (DoneFile x)) (made : Result (Option ℕ) OutsideFault) {old new : Option History}
+      (m : TakenOnce (asked who Size (w ∷ []) 0 0) sized made old new) where
+    -- it is there
+    pub size_given : (n : ℕ) → made ≡ Ok (Some n) → From (Counted stamped s messages t stems acks) old new (Ok n)
+    size_given n e =
+        let k = rw (asks.who_is, e) at m in
+        size_taken stamped s messages t stems acks asks.named asks.stem x good w w_is k.given (Some n) k.came k.told
+
+    -- it isn't
+    pub size_none : made ≡ Ok None
+        → Adds old new (Leads (As stamped (process s)) (Counted stamped s messages t stems acks) (CountedOpen stamped s messages t stems acks x))
+    size_none e =
+        let k = rw (asks.who_is, e) at m in
+        size_taken stamped s messages t stems acks asks.named asks.stem x good w w_is k.given None k.came k.told
+
+    pub size_ended : (fault : OutsideFault) (result : Result ℕ SinkFault) → made ≡ Err fault → result ≡ Err (sink_fault fault)
+        → From (Counted stamped s messages t stems acks) old new result
+    size_ended fault result e result_is =
+        let k = rw (asks.who_is, e) at m in
+        fails_so fault result result_is
+        (size_ends stamped s messages t stems acks asks.named asks.stem x good w w_is k.given fault k.came k.told)
+
+  -- ---- the mark
+
+  module _ (w : List ℕ) (w_is : w ≡ spell (MarkFile x)) (made : Result (Option (List ℕ)) OutsideFault) {old new : Option History}
+      (m : TakenOnce (asked who Read (w ∷ []) 0 9) bytes_given made old new) where
+    number_on : (bytes : List ℕ) (result : Result ℕ SinkFault) → IsMarkNumber w bytes result → (history : History)
+        → (is_number_from 96 bytes ≡ true) × Length stamped s messages t stems acks asks.named asks.stem x good (spelled bytes) history
+        → CountsOn s messages t stems acks x result history
+    number_on bytes (Ok n) is history h = rw is.1 h.1
+    number_on bytes (Err (Damaged name at)) is history h = absurd (true≢false (sym h.0 ∙ is.0))
+    number_on bytes (Err NoMemory) is history h = h.1.counts.handles
+    number_on bytes (Err fault) is history h = absurd is
+
+    -- it is there
+    pub mark_given : (bytes : List ℕ) (result : Result ℕ SinkFault) → made ≡ Ok (Some bytes) → IsMarkNumber w bytes result
+        → From (CountedOpen stamped s messages t stems acks x) old new result
+    mark_given bytes result e is =
+        let k = rw (asks.who_is, e) at m in
+        leads_by (number_on bytes result is)
+        (mark_taken stamped s messages t stems acks asks.named asks.stem x good w w_is k.given (Some bytes) k.came k.told)
+
+    -- it isn't
+    pub mark_none : made ≡ Ok None → From (CountedOpen stamped s messages t stems acks x) old new (Ok 0)
+    mark_none e =
+        let k = rw (asks.who_is, e) at m in
+        mark_taken stamped s messages t stems acks asks.named asks.stem x good w w_is k.given None k.came k.told
+
+    pub mark_ended : (fault : OutsideFault) (result : Result ℕ SinkFault) → made ≡ Err fault → result ≡ Err (sink_fault fault)
+        → From (CountedOpen stamped s messages t stems acks x) old new result
+    mark_ended fault result e result_is =
+        let k = rw (asks.who_is, e) at m in
+        fails_so fault result result_is
+        (mark_ends stamped s messages t stems acks asks.named asks.stem x good w w_is k.given fault k.came k.told)

@@ -12,10 +12,11 @@ use Rattle.chk_site.proofs.Leads.{leads_none, leads_as, leads_then}
 use Rattle.chk_world.specs.Places.{As}
 use Rattle.chk_sink.specs.declared.fault.SinkFault.{SinkFault}
 use Rattle.chk_sink.specs.States.{State, Writing, process, last_stem, all_marked, kept_where_done, committed_state}
-use Rattle.chk_sink.specs.Held.{IsAsKept, Matches}
+use Rattle.chk_sink.specs.Held.{Matches}
 use Rattle.chk_sink.specs.Faults.{sink_result}
 use Rattle.chk_sink.specs.Closes.{IsCommitted, Committed, OnceDone, WasClosed, Closed}
 use Rattle.chk_sink.specs.Closing.{publishing, closing, left_where_done}
+use Rattle.chk_sink.proofs.Holding.{told_by, leads_by, writing_kept}
 use Rattle.chk_sink.proofs.Committing.{marked_commit, published}
 use Rattle.chk_sink.proofs.DoneSinks.{closed_so}
 
@@ -25,18 +26,11 @@ module _ (stamped : List (List ℕ)) (s : State) (o : Writing) (some : s.current
       → Adds now now (Leads (As stamped (process s)) (Matches stamped s) (Committed stamped s (Ok tt)))
   commit_same now e =
       leads_none now
-      (λ h x. record {
-        legal = x.legal;
-        may_act = x.may_act;
-        alive =
-            λ r.
-            let kept = subst (IsAsKept (last_stem s) _ (files_after h)) some (x.alive r).writing in
-            record {
-              holds = x.alive r;
-              committed = subst (IsCommitted (last_stem s) (files_after h)) (sym some)
-                  (marked_commit stamped h (last_stem s) o.size x.legal good begun (kept.marked ∙ sym e));
-            };
-      })
+      (λ h x. told_by h (λ holds. record {
+        holds = holds;
+        committed = subst (IsCommitted (last_stem s) (files_after h)) (sym some)
+            (marked_commit stamped h (last_stem s) o.size x.legal good begun ((writing_kept s o some h holds).marked ∙ sym e));
+      }) x)
 
   -- it was synced, and its mark replaced
   pub commit_made : IsTrue (is_collector s.collector) → (who : Who) → who ≡ process s → (x : Stem) → x ≡ last_stem s
@@ -45,13 +39,9 @@ module _ (stamped : List (List ℕ)) (s : State) (o : Writing) (some : s.current
       → (result : Result (Unit {0}) SinkFault) → result ≡ sink_result made
       → Adds old new (Leads (As stamped (process s)) (Matches stamped s) (Committed stamped st result))
   commit_made named who who_is x x_is {made = made} {old = old} {new = new} script st next st_is next_is result result_is =
-      subst (λ t. Adds old new (Leads (As stamped (process s)) (Matches stamped s) (Committed stamped t result)))
-      (sym (st_is ∙ ap (λ n. kept_where_done s n made) next_is))
-      (subst (λ r. Adds old new (Leads (As stamped (process s)) (Matches stamped s) (Committed stamped (kept_where_done s (all_marked o) made) r)))
-      (sym result_is)
+      rw (st_is, next_is, result_is)
       (published stamped s o named some good begun
-      (subst (λ y. MadeInTurn (publishing (process s) y o.size) made old new) x_is
-      (subst (λ k. MadeInTurn (publishing k x o.size) made old new) who_is script))))
+      (subst (λ qs. MadeInTurn qs made old new) (λ i. publishing (who_is i) (x_is i) o.size) script))
 
 -- ---- a close
 
@@ -61,9 +51,7 @@ pub close_refused : (stamped : List (List ℕ)) (s st : State) (made result : Re
     → Adds old new (Leads (As stamped (process s)) (Matches stamped s) (Committed stamped st made))
     → Adds old new (Leads (As stamped (process s)) (Matches stamped s) (Closed stamped s st result))
 close_refused stamped s st made result fault told_as made_is result_is told =
-    leads_as (λ h x. x)
-    (λ h x. subst (λ r. Closed stamped s st r h) (sym result_is)
-    (record { legal = x.legal; may_act = x.may_act; alive = λ r. record { holds = (x.alive r).holds; closed = tt } })) told
+    rw result_is (leads_by (λ h c. record { holds = c.holds; closed = tt }) told)
 
 -- what was committed has a mark that says all of it
 said_all : (before : Option Writing) (o : Writing) → option_map all_marked before ≡ Some o → o.marked ≡ o.size
@@ -79,20 +67,10 @@ closed_before x (Some o) (Ok value) h was = was
 module _ (stamped : List (List ℕ)) (s mid_state : State) (o : Writing) (named : IsTrue (is_collector mid_state.collector))
     (some : mid_state.current ≡ Some o) (good : IsTrue (is_stem (last_stem mid_state))) (begun : 96 ≤ o.size)
     (is : mid_state ≡ committed_state s) (who : Who) (who_is : who ≡ process mid_state) (x : Stem) (x_is : x ≡ last_stem mid_state) where
-  as_process : {made : Result (Unit {0}) OutsideFault} {mid new : Option History} → MadeInTurn (closing who x) made mid new
-      → MadeInTurn (closing (process mid_state) (last_stem mid_state)) made mid new
-  as_process {made = made} {mid = mid} {new = new} script =
-      subst (λ y. MadeInTurn (closing (process mid_state) y) made mid new) x_is
-      (subst (λ k. MadeInTurn (closing k x) made mid new) who_is script)
-
   closed_as : (st : State) (result : Result (Unit {0}) SinkFault) (h : History) → Closed stamped mid_state st result h → Closed stamped s st result h
   closed_as st result h =
       subst (λ (m : State). Closed stamped m st result h → Closed stamped s st result h) (sym is)
-      (λ c. record {
-        legal = c.legal;
-        may_act = c.may_act;
-        alive = λ r. record { holds = (c.alive r).holds; closed = closed_before (last_stem s) s.current result h (c.alive r).closed };
-      })
+      (told_by h (λ c. record { holds = c.holds; closed = closed_before (last_stem s) s.current result h c.closed }))
 
   -- and then the sink became a done one, or was abandoned
   pub close_made : {made : Result (Unit {0}) OutsideFault} {old mid new : Option History} (first : Result (Unit {0}) SinkFault) (value : Unit {0})
@@ -103,10 +81,9 @@ module _ (stamped : List (List ℕ)) (s mid_state : State) (o : Writing) (named 
       → Adds old new (Leads (As stamped (process s)) (Matches stamped s) (Closed stamped s st result))
   close_made {made = made} {old = old} {mid = mid} {new = new} first value first_is told script st st_is result result_is =
       leads_then told
-      (leads_as (λ h c. record { legal = c.legal; may_act = c.may_act; alive = λ r. (c.alive r).holds }) (closed_as st result)
+      (leads_as (λ h c. told_by h (λ x. x.holds) c) (closed_as st result)
       (subst (λ (k : Who). Adds mid new (Leads (As stamped k) (Matches stamped mid_state) (Closed stamped mid_state st result)))
       (ap process is)
-      (subst (λ t. Adds mid new (Leads (As stamped (process mid_state)) (Matches stamped mid_state) (Closed stamped mid_state t result))) (sym st_is)
-      (subst (λ r. Adds mid new (Leads (As stamped (process mid_state)) (Matches stamped mid_state)
-      (Closed stamped mid_state (left_where_done mid_state made) r))) (sym result_is)
-      (closed_so stamped mid_state o named some good begun (said_all s.current o (sym (ap (λ (m : State). m.current) is) ∙ some)) (as_process script))))))
+      (rw (st_is, result_is)
+      (closed_so stamped mid_state o named some good begun (said_all s.current o (sym (ap (λ (m : State). m.current) is) ∙ some))
+      (subst (λ qs. MadeInTurn qs made mid new) (λ i. closing (who_is i) (x_is i)) script)))))

@@ -1,9 +1,9 @@
 -- A commit, over the sinks' state: the sink is synced, and its mark is replaced.
-use Rattle.std.proofs.Common.{◌≡◌, ℕ, ◌≤◌, ◌<◌, Bool, true, false, List, [], ◌∷◌, ◌++◌, length, Option, Some, None, option_map, Result, Ok, Err, ap, sym, subst, ◌∙◌, refl, arith, is_some, if◌then◌else◌, nat_lt}
+use Rattle.std.proofs.Common.{◌≡◌, ℕ, ◌≤◌, ◌<◌, Bool, true, false, List, [], ◌∷◌, ◌++◌, length, Option, Some, None, option_map, Result, Ok, Err, ap, sym, subst, ◌∙◌, refl, arith, is_some, nat_lt}
 use Rattle.std.specs.Prelude.{IsTrue}
 use Rattle.std.proofs.lemmas.Bool.{ltb-true, ltb-false}
 use Rattle.chk_bytes.specs.Numbers.{limit, be64, spelled}
-use Rattle.chk_bytes.specs.Stems.{Stem, is_stem, is_collector, same_stem}
+use Rattle.chk_bytes.specs.Stems.{Stem, is_stem, is_collector}
 use Rattle.chk_site.specs.declared.acts.Call.TheVariants.{Sync}
 use Rattle.chk_site.specs.declared.acts.CallFault.TheVariants.{Failed}
 use Rattle.chk_site.specs.declared.acts.OutsideFault.{OutsideFault}
@@ -20,13 +20,12 @@ use Rattle.chk_site.proofs.Leads.{leads_as, script_then, script_owned}
 use Rattle.chk_site.proofs.Small.{all_small}
 use Rattle.chk_replace.specs.Replace.{replacement}
 use Rattle.chk_world.specs.Names.{Name, SinkFile, MarkFile, DoneFile, Temporary, read, spell, file}
-use Rattle.chk_world.specs.Committed.{OnFile, HasFile, IsAbsent, number_in, committed_of, committed_length}
+use Rattle.chk_world.specs.Committed.{OnFile, HasFile, number_in, committed_of, committed_length}
 use Rattle.chk_world.specs.Collectors.{View, Current, view, still, sink_of, next_mark_of, either, IsCommitted}
 use Rattle.chk_world.specs.Rules.{Legal}
 use Rattle.chk_world.specs.Places.{As, AtTold}
 use Rattle.chk_world.proofs.Ends.{bytes_self}
 use Rattle.chk_world.proofs.NameLemmas.{read-spell}
-use Rattle.chk_world.proofs.NameTests.{same_name, stem_self}
 use Rattle.chk_world.proofs.Kept.{there}
 use Rattle.chk_world.proofs.Law.{shape}
 use Rattle.chk_world.proofs.OwnFiles.{done_file, done_present}
@@ -38,9 +37,9 @@ use Rattle.chk_sink.specs.Held.{IsAsKept, IsTidy, Holds, Matches}
 use Rattle.chk_sink.specs.Faults.{sink_fault, sink_result}
 use Rattle.chk_sink.specs.Closes.{Committed}
 use Rattle.chk_sink.specs.Closing.{publishing}
-use Rattle.chk_sink.proofs.Holding.{own_sink, own_mark, holds_stays, writing_kept, given_up_holds}
+use Rattle.chk_sink.proofs.Holding.{changed_by, told_by, both_absent, own_sink, own_mark, holds_stays, writing_kept, given_up_with, given_up_holds}
 use Rattle.chk_sink.proofs.Scripts.{StaysStopped, stopped_script}
-use Rattle.chk_sink.proofs.Tidying.{other_stem, stem_other, given_up_with, replacement_marks, stays_tidy}
+use Rattle.chk_sink.proofs.Tidying.{other_stem, stem_other, replacement_marks, stays_tidy}
 use Rattle.chk_sink.proofs.Appending.{current_of}
 
 -- ---- lengths
@@ -97,10 +96,6 @@ module _ (stamped : List (List ℕ)) (s : State) (o : Writing) (named : IsTrue (
     rule = collector_rule stamped (process s) before (own_step Q answer files logs) (Syncs (spell (SinkFile X))) refl refl refl tt;
   }
 
-  on_sink : (files : Name → Option File) (n : Name) → (if same_name n (read (spell (SinkFile X))) then option_map secured (files n) else files n)
-      ≡ (if same_name n (SinkFile X) then option_map secured (files n) else files n)
-  on_sink files n = ap (λ m. if same_name n m then option_map secured (files n) else files n) reads
-
   sync_leaves : LeavesCall stamped Q named (Holds s) WasDone Synced
   sync_leaves before answer files logs was legal h =
       let step = own_step Q answer files logs in
@@ -111,16 +106,8 @@ module _ (stamped : List (List ℕ)) (s : State) (o : Writing) (named : IsTrue (
       let t = there (fb (SinkFile X)) kept.size in
       let is = done_present answer (fb (SinkFile X)) was honest.agrees t.0 t.1 in
       let sight = own_sight (process s) before step refl (goes_on_done answer was) in
-      let sink : file files (SinkFile X) ≡ Some (secured t.0) =
-      done_file before step (SinkFile X) honest is good
-      ∙ (on_sink fb (SinkFile X)
-      ∙ (ap (λ b. if b then option_map secured (fb (SinkFile X)) else fb (SinkFile X)) (stem_self X)
-      ∙ ap (option_map secured) t.1)) in
-      let others : (y : Stem) → IsTrue (is_stem y) → same_stem y X ≡ false → file files (SinkFile y) ≡ fb (SinkFile y) =
-      λ y k e. done_file before step (SinkFile y) honest is k
-      ∙ (on_sink fb (SinkFile y) ∙ ap (λ b. if b then option_map secured (fb (SinkFile y)) else fb (SinkFile y)) e) in
-      let marks : (y : Stem) → IsTrue (is_stem y) → file files (MarkFile y) ≡ fb (MarkFile y) =
-      λ y k. done_file before step (MarkFile y) honest is k ∙ on_sink fb (MarkFile y) in
+      let on = changed_by (SinkFile X) _ refl good (option_map secured) (files_after before) files (λ n k. done_file before step n honest is k) in
+      let sink : file files (SinkFile X) ≡ Some (secured t.0) = on.there ∙ ap (option_map secured) t.1 in
       record {
         holds = record {
           born = ap (λ (v : View). v.born) sight ∙ h.born;
@@ -130,13 +117,10 @@ module _ (stamped : List (List ℕ)) (s : State) (o : Writing) (named : IsTrue (
                 ∙ (ap (λ d. still d (either (sink_of (read (spell (SinkFile X)))) (next_mark_of (read (spell (SinkFile X))))) v.current) is
                 ∙ (still_well _ v.current ∙ kept.current));
             size = subst (λ f. HasFile f (λ f. length f.bytes ≡ o.size)) (sym sink) t.2;
-            marked = ap number_in (marks X good) ∙ kept.marked;
+            marked = ap number_in (on.others (MarkFile X) good refl) ∙ kept.marked;
           });
-          tidy = λ tidy y other.
-              let was = h.tidy tidy y other in (
-                subst IsAbsent (sym (others y other.stem (other_stem s o some y other))) was.0,
-                subst IsAbsent (sym (marks y other.stem)) was.1,
-              );
+          tidy = λ tidy y other. both_absent (on.others (SinkFile y) other.stem (other_stem s o some y other)) (on.others (MarkFile y) other.stem refl)
+              (h.tidy tidy y other);
         };
         synced = subst (λ f. HasFile f (IsCommitted o.size)) (sym sink) (t.2, t.2);
       }
@@ -173,31 +157,17 @@ module _ (stamped : List (List ℕ)) (s : State) (o : Writing) (named : IsTrue (
   -- what the replacement leads to
   at_end : (result : Result (Unit {0}) OutsideFault) (history : History) → Replaced result history
       → Committed stamped (kept_where_done s (all_marked o) result) (sink_result result) history
-  at_end (Err fault) history h = record {
-    legal = h.legal;
-    may_act = h.may_act;
-    alive =
-        λ r.
-        let e = (h.alive r).0 in
-        record { holds = given_up_with s history e.born_is e.made_is; committed = tt };
-  }
-  at_end (Ok value) history h = record {
-    legal = h.legal;
-    may_act = h.may_act;
-    alive =
-        λ r.
-        let e = (h.alive r).0 in
-        let tidy = (h.alive r).1 in
-        record {
-          holds = record {
-            born = e.marking.born_is;
-            made = e.marking.made_is;
-            writing = record { current = e.marking.current; size = lengths (file (files_after history) (SinkFile X)) e.marking.synced; marked = e.mark };
-            tidy = λ none y other. tidy none y (stem_other s o some y other.own other.stem other.other);
-          };
-          committed = marked_commit stamped history X o.size h.legal good begun e.mark;
+  at_end (Err fault) history h = told_by history (λ e. record { holds = given_up_with s history e.0.born_is e.0.made_is; committed = tt }) h
+  at_end (Ok value) history h =
+      told_by history (λ e. record {
+        holds = record {
+          born = e.0.marking.born_is;
+          made = e.0.marking.made_is;
+          writing = record { current = e.0.marking.current; size = lengths (file (files_after history) (SinkFile X)) e.0.marking.synced; marked = e.0.mark };
+          tidy = λ none y other. e.1 none y (stem_other s o some y other.own other.stem other.other);
         };
-  }
+        committed = marked_commit stamped history X o.size h.legal good begun e.0.mark;
+      }) h
     where
       lengths : (f : Option File) → HasFile f (IsCommitted o.size) → HasFile f (λ f. length f.bytes ≡ o.size)
       lengths None h = absurd h
@@ -214,7 +184,7 @@ module _ (stamped : List (List ℕ)) (s : State) (o : Writing) (named : IsTrue (
         (λ added history led marks. record {
           leads =
               λ theirs h.
-              let end = led.leads theirs (record { legal = h.legal; may_act = h.may_act; alive = λ r. as_marking history (h.alive r) }) in
+              let end = led.leads theirs (told_by history (as_marking history) h) in
               record {
                 legal = end.legal;
                 may_act = end.may_act;
@@ -275,10 +245,9 @@ module _ (stamped : List (List ℕ)) (s : State) (o : Writing) (named : IsTrue (
       (λ given fault is told. leads_as (λ h x. x) (given_up_committed fault)
       (told_ends stamped Q named (Holds s) (λ f. Holds (given_up s)) plain given fault (holds_stays stamped s has_stem) sync_may sync_fails
       (λ history h. given_up_holds s history h) is told))
-      (λ h x. given_up_committed no_memory h (record { legal = x.legal; may_act = x.may_act; alive = λ r. given_up_holds s h (x.alive r) }))
+      (λ h x. given_up_committed no_memory h (told_by h (given_up_holds s h) x))
       (λ mid rest. replaced_so rest) script
     where
       given_up_committed : (fault : OutsideFault) (history : History) → Matches stamped (given_up s) history
           → Committed stamped (given_up s) (Err (sink_fault fault)) history
-      given_up_committed fault history x =
-          record { legal = x.legal; may_act = x.may_act; alive = λ r. record { holds = x.alive r; committed = tt } }
+      given_up_committed fault history x = told_by history (λ holds. record { holds = holds; committed = tt }) x

@@ -1,27 +1,26 @@
 -- The creation of the next sink.
-use Rattle.std.proofs.Common.{◌≡◌, inr, ℕ, ◌+◌, Bool, true, false, ◌&&◌, List, [], ◌∷◌, Option, Some, None, Result, Ok, Err, ap, sym, subst, ◌∙◌, refl, arith, is_some, if◌then◌else◌, true≢false}
+use Rattle.std.proofs.Common.{◌≡◌, inr, ℕ, ◌+◌, Bool, true, false, ◌&&◌, List, [], ◌∷◌, Option, Some, None, Result, Ok, Err, ap, sym, subst, ◌∙◌, refl, arith, is_some, true≢false}
 use Rattle.std.specs.Prelude.{IsTrue, length}
 use Rattle.std.proofs.lemmas.Bool.{and_from}
 use Rattle.chk_bytes.specs.Stems.{Stem, is_stem, is_collector, same_stem}
 use Rattle.chk_site.specs.declared.acts.Call.TheVariants.{Create}
 use Rattle.chk_site.specs.declared.acts.CallFault.{CallFault}
-use Rattle.chk_site.specs.declared.acts.CallFault.TheVariants.{Failed, Missing, Exists, Short, NoMemory}
+use Rattle.chk_site.specs.declared.acts.CallFault.TheVariants.{Failed, NoMemory}
 use Rattle.chk_site.specs.declared.acts.OutsideFault.{OutsideFault}
 use Rattle.chk_site.specs.declared.acts.OutsideFault.TheVariants.{Outside, NoMemory as no_memory}
 use Rattle.chk_site.specs.declared.acts.ActAnswer.TheVariants.{Refused}
 use Rattle.chk_site.specs.Files.{File, made}
 use Rattle.chk_site.specs.Acts.{Creates, is_done}
 use Rattle.chk_site.specs.History.{History, files_after}
-use Rattle.chk_site.specs.Site.{Adds, Asked, asked, own_step, answered, plain, Calls, IsDone, Ends, WasDone}
+use Rattle.chk_site.specs.Site.{Adds, Asked, asked, own_step, plain, Ends, WasDone}
 use Rattle.chk_site.specs.Runs.{Leads}
 use Rattle.chk_site.proofs.Leads.{leads_as}
-use Rattle.chk_world.specs.Names.{Name, SinkFile, MarkFile, read, spell, file}
+use Rattle.chk_world.specs.Names.{SinkFile, MarkFile, read, spell, file}
 use Rattle.chk_world.specs.Committed.{HasFile, IsAbsent, number_in}
 use Rattle.chk_world.specs.Collectors.{View, Handling, view, created, still, sink_of, next_mark_of, made_by, SinkNamesFresh}
 use Rattle.chk_world.specs.Places.{As, AtTold}
 use Rattle.chk_world.proofs.Ends.{bytes_self}
 use Rattle.chk_world.proofs.NameLemmas.{read-spell}
-use Rattle.chk_world.proofs.NameTests.{same_name, stem_self}
 use Rattle.chk_world.proofs.Law.{holds_always}
 use Rattle.chk_world.proofs.OwnSteps.{known_stem}
 use Rattle.chk_world.proofs.OwnFiles.{done_file, done_absent}
@@ -29,7 +28,7 @@ use Rattle.chk_world.proofs.ToldCalls.{GoesOn, MayCall, LeavesCall, goes_on_done
 use Rattle.chk_world.proofs.CollectorCalls.{own_sight, collector_rule}
 use Rattle.chk_sink.specs.States.{State, Writing, process, last_stem, next_stem, one_more, counted}
 use Rattle.chk_sink.specs.Held.{Handles, Ready}
-use Rattle.chk_sink.proofs.Holding.{handles_stays}
+use Rattle.chk_sink.proofs.Holding.{changed_by, WasMade, HasEnded, both_absent, handles_stays}
 
 -- the next sink, made and empty
 abbrev pub empty_writing : Writing
@@ -58,15 +57,18 @@ none_other None b e = refl
 none_other (Some o) b e = absurd (cc)
 
 module _ (stamped : List (List ℕ)) (s : State) (messages : List Handling) (named : IsTrue (is_collector s.collector))
-    (none : s.current ≡ None) (good : IsTrue (is_stem (next_stem s))) (w : List ℕ) (w_is : w ≡ spell (SinkFile (next_stem s))) where
+    (none : s.current ≡ None) (good : IsTrue (is_stem (next_stem s))) where
   abbrev X : Stem
   X = next_stem s
+
+  abbrev w : List ℕ
+  w = spell (SinkFile X)
 
   abbrev Q : Asked
   Q = asked (process s) Create (w ∷ []) 0 0
 
   reads : read w ≡ SinkFile X
-  reads = ap read w_is ∙ read-spell (SinkFile X) good
+  reads = read-spell (SinkFile X) good
 
   create_may : MayCall stamped Q named (Handles s messages)
   create_may before answer files logs legal h = record {
@@ -78,9 +80,6 @@ module _ (stamped : List (List ℕ)) (s : State) (messages : List Handling) (nam
         (h.holds.born, ap (λ n. n + 1) (sym h.holds.made)));
   }
 
-  on_sink : (files : Name → Option File) (n : Name) → (if same_name n (read w) then made (files n) else files n) ≡ (if same_name n (SinkFile X) then made (files n) else files n)
-  on_sink files n = ap (λ m. if same_name n m then made (files n) else files n) reads
-
   create_leaves : LeavesCall stamped Q named (Handles s messages) WasDone (Handles (with_empty s) messages)
   create_leaves before answer files logs was legal h =
       let step = own_step Q answer files logs in
@@ -88,20 +87,10 @@ module _ (stamped : List (List ℕ)) (s : State) (messages : List Handling) (nam
       let honest = legal.1.honest in
       let inv = holds_always X (known_stem X good) stamped before legal.0 in
       let fresh = inv.unused (inr (h.holds.born, omega (arith, h.holds.made))) in
-      let gone : files_after before w ≡ None = ap (files_after before) w_is ∙ absent_none _ fresh.0 in
-      let is = done_absent answer (files_after before w) was honest.agrees gone in
+      let is = done_absent answer (files_after before w) was honest.agrees (absent_none _ fresh.0) in
       let sight = own_sight (process s) before step refl (goes_on_done answer was) in
-      let sink : file files (SinkFile X) ≡ Some (record { bytes = []; synced = 0 }) =
-      done_file before step (SinkFile X) honest is good
-      ∙ (on_sink (file (files_after before)) (SinkFile X)
-      ∙ (ap (λ b. if b then made (file (files_after before) (SinkFile X)) else file (files_after before) (SinkFile X)) (stem_self X)
-      ∙ ap made (absent_none _ fresh.0))) in
-      let others : (y : Stem) → IsTrue (is_stem y) → same_stem y X ≡ false → file files (SinkFile y) ≡ file (files_after before) (SinkFile y) =
-      λ y k e. done_file before step (SinkFile y) honest is k
-      ∙ (on_sink (file (files_after before)) (SinkFile y)
-      ∙ ap (λ b. if b then made (file (files_after before) (SinkFile y)) else file (files_after before) (SinkFile y)) e) in
-      let marks : (y : Stem) → IsTrue (is_stem y) → file files (MarkFile y) ≡ file (files_after before) (MarkFile y) =
-      λ y k. done_file before step (MarkFile y) honest is k ∙ on_sink (file (files_after before)) (MarkFile y) in
+      let on = changed_by (SinkFile X) w refl good made (files_after before) files (λ n k. done_file before step n honest is k) in
+      let sink : file files (SinkFile X) ≡ Some (record { bytes = []; synced = 0 }) = on.there ∙ ap made (absent_none _ fresh.0) in
       record {
         holds = record {
           born = ap (λ (v : View). v.born) sight ∙ h.holds.born;
@@ -111,13 +100,10 @@ module _ (stamped : List (List ℕ)) (s : State) (messages : List Handling) (nam
                 ∙ (ap (λ n. created (sink_of n) (is_done answer) (still (is_done answer) (next_mark_of (read w)) v.current)) reads
                 ∙ ap (λ b. created (Some X) b (still (is_done answer) (next_mark_of (read w)) v.current)) is);
             size = subst (λ o. HasFile o (λ f. length f.bytes ≡ 0)) (sym sink) refl;
-            marked = ap number_in (marks X good) ∙ absent_number _ fresh.1;
+            marked = ap number_in (on.others (MarkFile X) good refl) ∙ absent_number _ fresh.1;
           };
-          tidy = λ tidy y other.
-              let was = h.holds.tidy tidy y (record { own = other.own; stem = other.stem; other = none_other s.current (same_stem y (last_stem s)) none }) in (
-                subst IsAbsent (sym (others y other.stem other.other)) was.0,
-                subst IsAbsent (sym (marks y other.stem)) was.1,
-              );
+          tidy = λ tidy y other. both_absent (on.others (SinkFile y) other.stem other.other) (on.others (MarkFile y) other.stem refl)
+              (h.holds.tidy tidy y (record { own = other.own; stem = other.stem; other = none_other s.current (same_stem y (last_stem s)) none }));
         };
         handled = ap (λ (v : View). v.handled) sight ∙ h.handled;
       }
@@ -141,12 +127,11 @@ module _ (stamped : List (List ℕ)) (s : State) (messages : List Handling) (nam
   no_stem e = absurd (cc)
 
   -- the creation was done
-  pub create_done : {V : Type 0} (given : Result V CallFault) {old new : Option History} → IsDone given
-      → Adds old new (Calls Q (answered plain given))
+  pub create_done : {old new : Option History} → WasMade Q old new
       → Adds old new (Leads (As stamped (process s)) (Ready stamped s messages) (Ready stamped (with_empty s) messages))
-  create_done given is told =
-      told_done stamped Q named (Handles s messages) (Handles (with_empty s) messages) given (handles_stays stamped s messages no_stem)
-      create_may create_leaves is told
+  create_done m =
+      told_done stamped Q named (Handles s messages) (Handles (with_empty s) messages) m.given (handles_stays stamped s messages no_stem)
+      create_may create_leaves m.fine m.told
 
   -- the creations that count, by what ended them
   abbrev Uncreated : OutsideFault → History → Type 0
@@ -157,16 +142,13 @@ module _ (stamped : List (List ℕ)) (s : State) (messages : List Handling) (nam
       → AtTold stamped (process s) (Uncreated fault) history → Ready stamped (counted s given) messages history
   by_count (Ok value) fault ends history h = absurd ends
   by_count (Err Failed) fault ends history h = subst (λ f. AtTold stamped (process s) (Uncreated f) history) ends h
-  by_count (Err Missing) fault ends history h = absurd ends
-  by_count (Err Exists) fault ends history h = absurd ends
-  by_count (Err (Short size)) fault ends history h = absurd ends
   by_count (Err NoMemory) fault ends history h = subst (λ f. AtTold stamped (process s) (Uncreated f) history) ends h
+  by_count (Err other) fault ends history h = absurd ends
 
   -- it ended the work
-  pub create_ends : (given : Result (Unit {0}) CallFault) (fault : OutsideFault) {old new : Option History} → Ends Create given fault
-      → Adds old new (Calls Q (answered plain given))
-      → Adds old new (Leads (As stamped (process s)) (Ready stamped s messages) (Ready stamped (counted s given) messages))
-  create_ends given fault ends told =
-      leads_as (λ h x. x) (by_count given fault ends)
-      (told_ends stamped Q named (Handles s messages) Uncreated plain given fault (handles_stays stamped s messages no_stem)
-      create_may create_fails (λ history h. h) ends told)
+  pub create_ends : {fault : OutsideFault} {old new : Option History} (m : HasEnded Q fault old new)
+      → Adds old new (Leads (As stamped (process s)) (Ready stamped s messages) (Ready stamped (counted s m.given) messages))
+  create_ends {fault = fault} m =
+      leads_as (λ h x. x) (by_count m.given fault m.ends)
+      (told_ends stamped Q named (Handles s messages) Uncreated plain m.given fault (handles_stays stamped s messages no_stem)
+      create_may create_fails (λ history h. h) m.ends m.told)

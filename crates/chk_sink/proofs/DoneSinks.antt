@@ -10,9 +10,8 @@ use Rattle.chk_site.specs.declared.acts.OutsideFault.{OutsideFault}
 use Rattle.chk_site.specs.declared.acts.OutsideFault.TheVariants.{NoMemory as no_memory}
 use Rattle.chk_site.specs.declared.acts.ActAnswer.TheVariants.{Refused}
 use Rattle.chk_site.specs.Files.{File, Files}
-use Rattle.chk_site.specs.Acts.{Renames, Removes, is_done}
+use Rattle.chk_site.specs.Acts.{Renames, Removes}
 use Rattle.chk_site.specs.History.{History, files_after}
-use Rattle.chk_site.specs.Honest.{Honest}
 use Rattle.chk_site.specs.Site.{Adds, Asked, asked, own_step, plain, WasDone}
 use Rattle.chk_site.specs.Runs.{Leads, MadeInTurn}
 use Rattle.chk_site.proofs.Leads.{leads_as, script_then, script_end}
@@ -27,7 +26,7 @@ use Rattle.chk_world.proofs.Kept.{Kept, there}
 use Rattle.chk_world.proofs.Law.{holds_always}
 use Rattle.chk_world.proofs.OwnSteps.{known_stem}
 use Rattle.chk_world.proofs.Frames.{files_stay, view_stays}
-use Rattle.chk_world.proofs.OwnFiles.{done_file, refused_file, done_present, MissedOrDone, was_done, was_missing, missed_or_done}
+use Rattle.chk_world.proofs.OwnFiles.{done_file, done_present}
 use Rattle.chk_world.proofs.PlacesStay.{Stays}
 use Rattle.chk_world.proofs.ToldCalls.{GoesOn, MayCall, LeavesCall, goes_on_done, told_done, told_ends}
 use Rattle.chk_world.proofs.CollectorCalls.{own_sight, collector_rule}
@@ -36,8 +35,9 @@ use Rattle.chk_sink.specs.Held.{IsTidy, Holds, Matches}
 use Rattle.chk_sink.specs.Faults.{sink_fault, sink_result}
 use Rattle.chk_sink.specs.Closes.{WasClosed, CloseHolds, Closed}
 use Rattle.chk_sink.specs.Closing.{closing, left_where_done}
-use Rattle.chk_sink.proofs.Holding.{own_sink, absent_as, holds_stays, writing_kept, given_up_holds}
-use Rattle.chk_sink.proofs.Tidying.{other_stem, stem_other, given_up_with, foreign_tidy}
+use Rattle.chk_sink.proofs.Holding.{told_by, own_sink, absent_as, both_absent, holds_stays, writing_kept, given_up_with, given_up_holds}
+use Rattle.chk_sink.proofs.LeftCalls.{removal_leaves}
+use Rattle.chk_sink.proofs.Tidying.{other_stem, stem_other, foreign_tidy}
 
 -- a sink of which the mark says all is synced
 at_mark : (wr : List ℕ) (sink mark shut : Option File) (n : ℕ) → Kept wr sink mark shut → 96 ≤ n → HasFile sink (λ f. length f.bytes ≡ n)
@@ -134,10 +134,8 @@ module _ (stamped : List (List ℕ)) (s : State) (o : Writing) (named : IsTrue (
         born = ap (λ (v : View). v.born) sight ∙ (no_born (files_after before) files _ ∙ h.born);
         made = ap (λ (v : View). v.made) sight ∙ h.made;
         tidy = λ e y other.
-            let earlier = h.tidy e y other in (
-              absent_as _ _ (moves (SinkFile y) other.stem ∙ ap (λ b. if b then None else fb (SinkFile y)) (other_stem s o some y other)) earlier.0,
-              absent_as _ _ (moves (MarkFile y) other.stem) earlier.1,
-            );
+            both_absent (moves (SinkFile y) other.stem ∙ ap (λ b. if b then None else fb (SinkFile y)) (other_stem s o some y other))
+            (moves (MarkFile y) other.stem) (h.tidy e y other);
         gone = absent_none _ (moves (SinkFile X) good ∙ ap (λ b. if b then None else fb (SinkFile X)) (stem_self X));
         closed = inl
             (subst (λ f. HasFile f (λ f. length f.bytes ≡ o.size))
@@ -173,42 +171,22 @@ module _ (stamped : List (List ℕ)) (s : State) (o : Writing) (named : IsTrue (
           subst (λ (z : Stem). IsAbsent (file files (SinkFile z)) × IsAbsent (file files (MarkFile z))) (sym (stem_same y X q))
           (absent_as _ _ (same (SinkFile X) good refl) h.gone, absent_none _ gone)
       go false q =
-          let earlier = h.tidy e y (stem_other s o some y other.own other.stem q) in
-          (absent_as _ _ (same (SinkFile y) other.stem refl) earlier.0, absent_as _ _ (same (MarkFile y) other.stem q) earlier.1)
+          both_absent (same (SinkFile y) other.stem refl) (same (MarkFile y) other.stem q) (h.tidy e y (stem_other s o some y other.own other.stem q))
 
   remove_leaves : LeavesCall stamped Removing named Renamed WasDone (CloseHolds s (with_current s None) (Ok tt))
-  remove_leaves before answer files logs was legal h = go (missed_or_done answer (files_after before (spell (MarkFile X))) was honest.agrees)
-    where
-      honest : Honest before (own_step Removing answer files logs)
-      honest = legal.1.honest
-
-      holds : ((n : Name) → IsTrue (is_known n) → same_name n (MarkFile X) ≡ false → file files n ≡ file (files_after before) n)
-          → file files (MarkFile X) ≡ None → CloseHolds s (with_current s None) (Ok tt) (own_step Removing answer files logs ∷ before)
-      holds same gone =
-          let sight = own_sight (process s) before (own_step Removing answer files logs) refl (goes_on_done answer was) in
-          record {
-            holds = record {
-              born = ap (λ (v : View). v.born) sight ∙ h.born;
-              made = ap (λ (v : View). v.made) sight ∙ h.made;
-              writing = tt;
-              tidy = λ e. all_tidy before files h same gone e;
-            };
-            closed = subst (λ (c : Option Writing). WasClosed X c (own_step Removing answer files logs ∷ before)) (sym some) (inr h.closed);
-          }
-
-      dropped : (n : Name) → (b : Bool) → same_name n (MarkFile X) ≡ b
-          → (if same_name n (read (spell (MarkFile X))) then None else file (files_after before) n) ≡ (if b then None else file (files_after before) n)
-      dropped n b e = ap (λ m. if same_name n m then None else file (files_after before) n) reads_mark ∙ ap (λ b. if b then None else file (files_after before) n) e
-
-      go : MissedOrDone answer (files_after before (spell (MarkFile X)))
-          → CloseHolds s (with_current s None) (Ok tt) (own_step Removing answer files logs ∷ before)
-      go (was_done is) =
-          holds (λ n k e. done_file before (own_step Removing answer files logs) n honest is k ∙ dropped n false e)
-          (done_file before (own_step Removing answer files logs) (MarkFile X) honest is good ∙ dropped (MarkFile X) true (stem_self X))
-      go (was_missing is none) =
-          let same : (n : Name) → file files n ≡ file (files_after before) n =
-          λ n. refused_file before (own_step Removing answer files logs) n honest was (ap is_done is) in
-          holds (λ n k e. same n) (same (MarkFile X) ∙ none)
+  remove_leaves before answer files logs was legal h =
+      let step = own_step Removing answer files logs in
+      let sight = own_sight (process s) before step refl (goes_on_done answer was) in
+      let r = removal_leaves (process s) (MarkFile X) (spell (MarkFile X)) refl good before answer files logs was legal.1.honest in
+      record {
+        holds = record {
+          born = ap (λ (v : View). v.born) sight ∙ h.born;
+          made = ap (λ (v : View). v.made) sight ∙ h.made;
+          writing = tt;
+          tidy = λ e. all_tidy before files h r.others r.there e;
+        };
+        closed = subst (λ (c : Option Writing). WasClosed X c (step ∷ before)) (sym some) (inr h.closed);
+      }
 
   remove_fails : LeavesCall stamped Removing named Renamed (λ a. a ≡ Refused Failed) (Holds (given_up s))
   remove_fails before answer files logs failed legal h =
@@ -221,13 +199,11 @@ module _ (stamped : List (List ℕ)) (s : State) (o : Writing) (named : IsTrue (
 
   given_up_closed : (fault : OutsideFault) (history : History) → Matches stamped (given_up s) history
       → Closed stamped s (given_up s) (Err (sink_fault fault)) history
-  given_up_closed fault history x =
-      record { legal = x.legal; may_act = x.may_act; alive = λ r. record { holds = x.alive r; closed = tt } }
+  given_up_closed fault history x = told_by history (λ holds. record { holds = holds; closed = tt }) x
 
   renamed_closed : (fault : OutsideFault) (history : History) → AtTold stamped (process s) Renamed history
       → Closed stamped s (given_up s) (Err (sink_fault fault)) history
-  renamed_closed fault history x =
-      given_up_closed fault history (record { legal = x.legal; may_act = x.may_act; alive = λ r. given_up_renamed history (x.alive r) })
+  renamed_closed fault history x = given_up_closed fault history (told_by history (given_up_renamed history) x)
 
   abbrev After : Result (Unit {0}) OutsideFault → History → Type 0
   After result history = Closed stamped s (left_where_done s result) (sink_result result) history
@@ -242,7 +218,7 @@ module _ (stamped : List (List ℕ)) (s : State) (o : Writing) (named : IsTrue (
       (λ given fault is told. leads_as (λ h x. x) (given_up_closed fault)
       (told_ends stamped Renaming named (Holds s) (λ f. Holds (given_up s)) plain given fault (holds_stays stamped s has_stem) rename_may rename_fails
       (λ history h. given_up_holds s history h) is told))
-      (λ h x. given_up_closed no_memory h (record { legal = x.legal; may_act = x.may_act; alive = λ r. given_up_holds s h (x.alive r) }))
+      (λ h x. given_up_closed no_memory h (told_by h (given_up_holds s h) x))
       (λ mid. script_then (After (Ok tt)) After
       (λ given mid is told. told_done stamped Removing named Renamed (CloseHolds s (with_current s None) (Ok tt)) given renamed_stays remove_may remove_leaves is told)
       (λ given fault is told. leads_as (λ h x. x) (given_up_closed fault)
@@ -250,6 +226,5 @@ module _ (stamped : List (List ℕ)) (s : State) (o : Writing) (named : IsTrue (
       given_up_renamed is told))
       (renamed_closed no_memory)
       (λ mid. script_end After
-      (λ h x. given_up_closed no_memory h
-      (record { legal = x.legal; may_act = x.may_act; alive = λ r. given_up_with s h (x.alive r).holds.born (x.alive r).holds.made }))
+      (λ h x. given_up_closed no_memory h (told_by h (λ c. given_up_with s h c.holds.born c.holds.made) x))
       (λ h x. x))) script

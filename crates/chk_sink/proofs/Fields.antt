@@ -3,7 +3,7 @@ use Rattle.std.proofs.Common.{◌≡◌, ℕ, List, Option, Some, option_map, Re
 use Rattle.std.specs.Prelude.{IsTrue}
 use Rattle.chk_bytes.specs.Stems.{Stem, is_collector}
 use Rattle.chk_site.specs.declared.acts.CallFault.{CallFault}
-use Rattle.chk_site.specs.declared.acts.CallFault.TheVariants.{Failed, Missing, Exists, Short, NoMemory}
+use Rattle.chk_site.specs.declared.acts.CallFault.TheVariants.{Failed, NoMemory}
 use Rattle.chk_site.specs.declared.acts.OutsideFault.{OutsideFault}
 use Rattle.chk_site.specs.History.{History}
 use Rattle.chk_site.specs.Site.{Adds, IsDone}
@@ -62,16 +62,11 @@ placed_kept s st next (Err f) u e st_is x n x_is n_is = absurd (cc)
 
 pub counted_collector : (s : State) (given : Result (Unit {0}) CallFault) → (counted s given).collector ≡ s.collector
 counted_collector s (Ok v) = refl
-counted_collector s (Err Failed) = refl
-counted_collector s (Err Missing) = refl
-counted_collector s (Err Exists) = refl
-counted_collector s (Err (Short size)) = refl
 counted_collector s (Err NoMemory) = refl
+counted_collector s (Err fault) = refl
 
 pub counted_done : (s : State) (given : Result (Unit {0}) CallFault) → IsDone given → counted s given ≡ one_more s
 counted_done s (Ok v) is = refl
 counted_done s (Err Failed) is = absurd is
-counted_done s (Err Missing) is = refl
-counted_done s (Err Exists) is = refl
-counted_done s (Err (Short size)) is = refl
 counted_done s (Err NoMemory) is = absurd is
+counted_done s (Err fault) is = refl

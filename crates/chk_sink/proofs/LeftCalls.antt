@@ -1,5 +1,5 @@
 -- The calls by which a left sink is settled.
-use Rattle.std.proofs.Common.{◌≡◌, ℕ, Bool, true, List, [], ◌∷◌, Option, Some, None, Result, Ok, Err, ap, sym, subst, ◌∙◌, refl, if◌then◌else◌}
+use Rattle.std.proofs.Common.{◌≡◌, ℕ, Bool, true, false, List, [], ◌∷◌, Option, Some, None, Result, Ok, Err, ap, sym, subst, ◌∙◌, refl}
 use Rattle.std.specs.Prelude.{IsTrue}
 use Rattle.std.proofs.lemmas.Bool.{and_from}
 use Rattle.chk_bytes.specs.Stems.{Stem, is_collector}
@@ -7,21 +7,23 @@ use Rattle.chk_site.specs.declared.acts.Call.TheVariants.{Remove}
 use Rattle.chk_site.specs.declared.acts.Who.{Who}
 use Rattle.chk_site.specs.declared.acts.Call.{Call}
 use Rattle.chk_site.specs.declared.acts.CallFault.{CallFault}
-use Rattle.chk_site.specs.declared.acts.CallFault.TheVariants.{Failed, Missing, Exists, Short, NoMemory}
+use Rattle.chk_site.specs.declared.acts.CallFault.TheVariants.{Failed, NoMemory}
 use Rattle.chk_site.specs.declared.acts.OutsideFault.{OutsideFault}
 use Rattle.chk_site.specs.declared.acts.OutsideFault.TheVariants.{Outside, NoMemory as no_memory}
 use Rattle.chk_site.specs.declared.acts.ActAnswer.{ActAnswer}
-use Rattle.chk_site.specs.Files.{File}
+use Rattle.chk_site.specs.Files.{File, Files}
+use Rattle.chk_site.specs.Logs.{Logs}
 use Rattle.chk_site.specs.Acts.{Removes, is_done}
 use Rattle.chk_site.specs.History.{History, files_after}
+use Rattle.chk_site.specs.Honest.{Honest}
 use Rattle.chk_site.specs.Site.{Adds, Asked, asked, own_step, answered, plain, Calls, IsDone, IsTaken, Ends, WasDone}
 use Rattle.chk_site.specs.Runs.{Leads}
-use Rattle.chk_world.specs.Names.{SinkFile, MarkFile, read, spell, file}
+use Rattle.chk_world.specs.Names.{Name, SinkFile, MarkFile, read, spell, file, is_known}
 use Rattle.chk_world.specs.Collectors.{MayRemove}
+use Rattle.chk_world.specs.Rules.{may_remove}
 use Rattle.chk_world.specs.Places.{As, Making, AtTold}
 use Rattle.chk_world.proofs.Ends.{bytes_self}
 use Rattle.chk_world.proofs.NameLemmas.{read-spell}
-use Rattle.chk_world.proofs.NameTests.{same_name, stem_self}
 use Rattle.chk_world.proofs.OwnFiles.{done_file, refused_file, missed_or_done, MissedOrDone, was_done, was_missing}
 use Rattle.chk_world.proofs.ToldCalls.{GoesOn, MayCall, LeavesCall, goes_on_done, goes_on_taken, told_done, told_taken, told_ends}
 use Rattle.chk_world.proofs.CollectorCalls.{collector_rule}
@@ -29,8 +31,8 @@ use Rattle.chk_world.proofs.PlacesStay.{Stays}
 use Rattle.chk_sink.specs.States.{State, process}
 use Rattle.chk_sink.specs.Held.{IsOther, Holds, Matches}
 use Rattle.chk_sink.specs.Settling.{HoldsAt, NoMark, NoSink, BothGone}
-use Rattle.chk_sink.proofs.Holding.{HasStem, foreign_alike, holds_alike, absent_as}
-use Rattle.chk_sink.proofs.Touching.{drops_sink, drops_mark, holds_on, at_on}
+use Rattle.chk_sink.proofs.Holding.{HasStem, foreign_alike, holds_alike, absent_as, both_absent, Changed, changed_by}
+use Rattle.chk_sink.proofs.Touching.{OnLeft, drops_sink, drops_mark, holds_on, at_on}
 
 -- what the sinks and the left one are known to be
 pub record IsLeft (s : State) (x : Stem) : Type 0 where
@@ -49,11 +51,7 @@ at_stays stamped s may x P left history step legal f h =
     let a = foreign_alike stamped s history step f in
     record {
       holds = holds_alike s history (step ∷ history) left.good a h.holds;
-      others = λ y o m e.
-          let was = h.others y o m e in (
-            absent_as _ _ (a.sinks y o.own o.stem) was.0,
-            absent_as _ _ (a.marks y o.own o.stem) was.1,
-          );
+      others = λ y o m e. both_absent (a.sinks y o.own o.stem) (a.marks y o.own o.stem) (h.others y o m e);
       there = along2 P _ _ _ _ (a.sinks x left.other.own left.other.stem) (a.marks x left.other.own left.other.stem) h.there;
     }
 
@@ -81,121 +79,93 @@ told_any stamped q named B C {V = V} how given {old = old} {new = new} stays may
         → Adds old new (Leads (Making stamped q.who q.call) (AtTold stamped q.who B) (AtTold stamped q.who C))
     by (Ok value) t = gave (Ok value) (Some value) refl t
     by (Err Failed) t = ends (Err Failed) (Outside q.call) refl t
-    by (Err Missing) t = gave (Err Missing) None refl t
-    by (Err Exists) t = gave (Err Exists) None refl t
-    by (Err (Short size)) t = gave (Err (Short size)) None refl t
     by (Err NoMemory) t = ends (Err NoMemory) no_memory refl t
+    by (Err fault) t = gave (Err fault) None refl t
 
 -- ---- the removals
 
-module _ (stamped : List (List ℕ)) (s : State) (may : Stem → Bool) (x : Stem) (left : IsLeft s x) (w : List ℕ) where
+-- what a removal leaves of the files
+pub removal_leaves : (who : Who) (n : Name) (w : List ℕ) → w ≡ spell n → IsTrue (is_known n) → (before : History) (answer : ActAnswer)
+    (files : Files) (logs : Logs) → WasDone answer → Honest before (own_step (asked who Remove (w ∷ []) 0 0) answer files logs)
+    → Changed n (λ o. None) (files_after before) files
+removal_leaves who n w w_is known before answer files logs was honest = go (missed_or_done answer (files_after before w) was honest.agrees)
+  where
+    go : MissedOrDone answer (files_after before w) → Changed n (λ o. None) (files_after before) files
+    go (was_done is) = changed_by n w w_is known (λ o. None) (files_after before) files (λ m k. done_file before _ m honest is k)
+    go (was_missing is none) =
+        let same : (m : Name) → file files m ≡ file (files_after before) m = λ m. refused_file before _ m honest was (ap is_done is) in
+        record { there = same n ∙ (ap (files_after before) (sym w_is) ∙ none); others = λ m k e. same m }
+
+-- the mark of the left sink, or the sink itself, and what is known before: the other one isn't there
+abbrev pub removed : Bool → Stem → Name
+removed true x = MarkFile x
+removed false x = SinkFile x
+
+abbrev pub Alone : Bool → Option File → Option File → Type 0
+Alone true = NoSink
+Alone false = NoMark
+
+module _ (stamped : List (List ℕ)) (s : State) (may : Stem → Bool) (x : Stem) (left : IsLeft s x) (mark : Bool) (w : List ℕ)
+    (w_is : w ≡ spell (removed mark x)) where
   abbrev Q : Asked
   Q = asked (process s) Remove (w ∷ []) 0 0
 
-  module _ (w_is : w ≡ spell (SinkFile x)) where
-    abbrev B : History → Type 0
-    B = HoldsAt s may x NoMark
+  abbrev B : History → Type 0
+  B = HoldsAt s may x (Alone mark)
 
-    reads : read w ≡ SinkFile x
-    reads = ap read w_is ∙ read-spell (SinkFile x) left.other.stem
+  good : (mark : Bool) → IsTrue (is_known (removed mark x))
+  good true = left.other.stem
+  good false = left.other.stem
 
-    sink_may : MayCall stamped Q left.named B
-    sink_may before answer files logs legal h = record {
-      own_files = rw (reads, left.other.own) (and_from _ _ (bytes_self s.collector) refl);
-      logs = tt;
-      requests = tt;
-      rule = collector_rule stamped (process s) before (own_step Q answer files logs) (Removes w) refl refl refl
-          (subst (MayRemove (files_after before)) (sym reads) h.there);
-    }
+  reads : read w ≡ removed mark x
+  reads = ap read w_is ∙ read-spell (removed mark x) (good mark)
 
-    sink_any : LeavesCall stamped Q left.named B GoesOn (Holds s)
-    sink_any before answer files logs goes legal h =
-        holds_on s x left.good left.other left.abandoned before (own_step Q answer files logs) refl goes legal.1.honest (drops_sink w refl reads) h.holds
+  owns : (mark : Bool) → read w ≡ removed mark x → IsTrue (may_remove (process s) (read w))
+  owns true e = rw (e, left.other.own) (bytes_self s.collector)
+  owns false e = rw (e, left.other.own) (and_from _ _ (bytes_self s.collector) refl)
 
-    sink_leaves : LeavesCall stamped Q left.named B WasDone (HoldsAt s may x BothGone)
-    sink_leaves before answer files logs was legal h =
-        at_on s x left.good left.other left.abandoned before (own_step Q answer files logs) refl (goes_on_done answer was) legal.1.honest (drops_sink w refl reads) may NoMark BothGone h
-        (gone (missed_or_done answer (files_after before w) was legal.1.honest.agrees))
-      where
-        gone : MissedOrDone answer (files_after before w) → BothGone (file files (SinkFile x)) (file files (MarkFile x))
-        gone (was_done is) = (
-          absent_as None _
-              (done_file before (own_step Q answer files logs) (SinkFile x) legal.1.honest is left.other.stem
-              ∙ (ap (λ n. if same_name (SinkFile x) n then None else file (files_after before) (SinkFile x)) reads
-              ∙ ap (λ b. if b then None else file (files_after before) (SinkFile x)) (stem_self x))) tt,
-          absent_as _ _
-              (done_file before (own_step Q answer files logs) (MarkFile x) legal.1.honest is left.other.stem
-              ∙ ap (λ n. if same_name (MarkFile x) n then None else file (files_after before) (MarkFile x)) reads) h.there,
-        )
-        gone (was_missing is none) =
-            let e = ap is_done is in (
-              absent_as None _
-                  (refused_file before (own_step Q answer files logs) (SinkFile x) legal.1.honest was e ∙ (ap (files_after before) (sym w_is) ∙ none)) tt,
-              absent_as _ _ (refused_file before (own_step Q answer files logs) (MarkFile x) legal.1.honest was e) h.there,
-            )
+  allows : (mark : Bool) (files : Files) → Alone mark (file files (SinkFile x)) (file files (MarkFile x)) → MayRemove files (removed mark x)
+  allows true files alone = alone
+  allows false files alone = alone
 
-    pub sink_removed : (given : Result (Unit {0}) CallFault) {old new : Option History} → IsDone given → Adds old new (Calls Q (answered plain given))
-        → Adds old new (Leads (As stamped (process s)) (AtTold stamped (process s) B) (AtTold stamped (process s) (HoldsAt s may x BothGone)))
-    sink_removed given is told =
-        told_done stamped Q left.named B (HoldsAt s may x BothGone) given (at_stays stamped s may x NoMark left) sink_may sink_leaves is told
+  drops : (mark : Bool) → read w ≡ removed mark x → OnLeft x (Removes w)
+  drops true e = drops_mark w e
+  drops false e = drops_sink w e
 
-    pub sink_tried : (given : Result (Unit {0}) CallFault) {old new : Option History} → Adds old new (Calls Q (answered plain given))
-        → Adds old new (Leads (As stamped (process s)) (AtTold stamped (process s) B) (Matches stamped s))
-    sink_tried given told =
-        told_any stamped Q left.named B (Holds s) plain given (at_stays stamped s may x NoMark left) sink_may (λ v. tt) sink_any (λ h y. y.holds) told
+  remove_may : MayCall stamped Q left.named B
+  remove_may before answer files logs legal h = record {
+    own_files = owns mark reads;
+    logs = tt;
+    requests = tt;
+    rule = collector_rule stamped (process s) before (own_step Q answer files logs) (Removes w) refl refl refl
+        (subst (MayRemove (files_after before)) (sym reads) (allows mark (files_after before) h.there));
+  }
 
-  module _ (w_is : w ≡ spell (MarkFile x)) where
-    abbrev D : History → Type 0
-    D = HoldsAt s may x NoSink
+  remove_any : LeavesCall stamped Q left.named B GoesOn (Holds s)
+  remove_any before answer files logs goes legal h =
+      holds_on s x left.good left.other left.abandoned before (own_step Q answer files logs) refl goes legal.1.honest (drops mark reads) h.holds
 
-    reads_mark_name : read w ≡ MarkFile x
-    reads_mark_name = ap read w_is ∙ read-spell (MarkFile x) left.other.stem
+  both_gone : (mark : Bool) (before after : Files) → Changed (removed mark x) (λ o. None) before after
+      → Alone mark (file before (SinkFile x)) (file before (MarkFile x)) → BothGone (file after (SinkFile x)) (file after (MarkFile x))
+  both_gone true before after r alone = (absent_as _ _ (r.others (SinkFile x) left.other.stem refl) alone, absent_as None _ r.there tt)
+  both_gone false before after r alone = (absent_as None _ r.there tt, absent_as _ _ (r.others (MarkFile x) left.other.stem refl) alone)
 
-    mark_may : MayCall stamped Q left.named D
-    mark_may before answer files logs legal h = record {
-      own_files = rw (reads_mark_name, left.other.own) (bytes_self s.collector);
-      logs = tt;
-      requests = tt;
-      rule = collector_rule stamped (process s) before (own_step Q answer files logs) (Removes w) refl refl refl
-          (subst (MayRemove (files_after before)) (sym reads_mark_name) h.there);
-    }
+  remove_leaves : LeavesCall stamped Q left.named B WasDone (HoldsAt s may x BothGone)
+  remove_leaves before answer files logs was legal h =
+      at_on s x left.good left.other left.abandoned before (own_step Q answer files logs) refl (goes_on_done answer was) legal.1.honest (drops mark reads)
+      may (Alone mark) BothGone h
+      (both_gone mark (files_after before) files
+      (removal_leaves (process s) (removed mark x) w w_is (good mark) before answer files logs was legal.1.honest) h.there)
 
-    mark_any : LeavesCall stamped Q left.named D GoesOn (Holds s)
-    mark_any before answer files logs goes legal h =
-        holds_on s x left.good left.other left.abandoned before (own_step Q answer files logs) refl goes legal.1.honest
-        (drops_mark w refl reads_mark_name) h.holds
+  pub removed_done : (given : Result (Unit {0}) CallFault) {old new : Option History} → IsDone given → Adds old new (Calls Q (answered plain given))
+      → Adds old new (Leads (As stamped (process s)) (AtTold stamped (process s) B) (AtTold stamped (process s) (HoldsAt s may x BothGone)))
+  removed_done given is told =
+      told_done stamped Q left.named B (HoldsAt s may x BothGone) given (at_stays stamped s may x (Alone mark) left) remove_may remove_leaves is told
 
-    mark_leaves : LeavesCall stamped Q left.named D WasDone (HoldsAt s may x BothGone)
-    mark_leaves before answer files logs was legal h =
-        at_on s x left.good left.other left.abandoned before (own_step Q answer files logs) refl (goes_on_done answer was) legal.1.honest (drops_mark w refl reads_mark_name) may NoSink BothGone h
-        (gone (missed_or_done answer (files_after before w) was legal.1.honest.agrees))
-      where
-        gone : MissedOrDone answer (files_after before w) → BothGone (file files (SinkFile x)) (file files (MarkFile x))
-        gone (was_done is) = (
-          absent_as _ _
-              (done_file before (own_step Q answer files logs) (SinkFile x) legal.1.honest is left.other.stem
-              ∙ ap (λ n. if same_name (SinkFile x) n then None else file (files_after before) (SinkFile x)) reads_mark_name) h.there,
-          absent_as None _
-              (done_file before (own_step Q answer files logs) (MarkFile x) legal.1.honest is left.other.stem
-              ∙ (ap (λ n. if same_name (MarkFile x) n then None else file (files_after before) (MarkFile x)) reads_mark_name
-              ∙ ap (λ b. if b then None else file (files_after before) (MarkFile x)) (stem_self x))) tt,
-        )
-        gone (was_missing is none) =
-            let e = ap is_done is in (
-              absent_as _ _ (refused_file before (own_step Q answer files logs) (SinkFile x) legal.1.honest was e) h.there,
-              absent_as None _
-                  (refused_file before (own_step Q answer files logs) (MarkFile x) legal.1.honest was e ∙ (ap (files_after before) (sym w_is) ∙ none)) tt,
-            )
-
-    pub mark_removed : (given : Result (Unit {0}) CallFault) {old new : Option History} → IsDone given → Adds old new (Calls Q (answered plain given))
-        → Adds old new (Leads (As stamped (process s)) (AtTold stamped (process s) D) (AtTold stamped (process s) (HoldsAt s may x BothGone)))
-    mark_removed given is told =
-        told_done stamped Q left.named D (HoldsAt s may x BothGone) given (at_stays stamped s may x NoSink left) mark_may mark_leaves is told
-
-    pub mark_tried : (given : Result (Unit {0}) CallFault) {old new : Option History} → Adds old new (Calls Q (answered plain given))
-        → Adds old new (Leads (As stamped (process s)) (AtTold stamped (process s) D) (Matches stamped s))
-    mark_tried given told =
-        told_any stamped Q left.named D (Holds s) plain given (at_stays stamped s may x NoSink left) mark_may (λ v. tt) mark_any (λ h y. y.holds) told
+  pub removed_tried : (given : Result (Unit {0}) CallFault) {old new : Option History} → Adds old new (Calls Q (answered plain given))
+      → Adds old new (Leads (As stamped (process s)) (AtTold stamped (process s) B) (Matches stamped s))
+  removed_tried given told =
+      told_any stamped Q left.named B (Holds s) plain given (at_stays stamped s may x (Alone mark) left) remove_may (λ v. tt) remove_any (λ h y. y.holds) told
 
 -- ---- the writer
 

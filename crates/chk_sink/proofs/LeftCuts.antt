@@ -1,18 +1,18 @@
 -- The reading of a left sink's mark, its cut to it, and its closing.
-use Rattle.std.proofs.Common.{◌≡◌, inl, inr, ℕ, ◌≤◌, ◌<◌, Bool, true, false, min, List, [], ◌∷◌, length, length-take, Option, Some, None, option_map, Result, Ok, Err, ap, sym, subst, ◌∙◌, refl, arith, if◌then◌else◌, true≢false}
+use Rattle.std.proofs.Common.{◌≡◌, inl, inr, ℕ, ◌≤◌, ◌<◌, Bool, true, min, List, [], ◌∷◌, length, length-take, Option, Some, None, option_map, Result, Ok, Err, ap, sym, subst, ◌∙◌, refl, arith, true≢false}
 use Rattle.std.proofs.lemmas.Bool.{and_from}
 use Rattle.chk_bytes.specs.Numbers.{spelled, limit}
 use Rattle.chk_bytes.specs.Stems.{Stem}
 use Rattle.chk_site.specs.declared.acts.Call.TheVariants.{Read, Rename, Cut}
 use Rattle.chk_site.specs.declared.acts.CallFault.{CallFault}
-use Rattle.chk_site.specs.declared.acts.CallFault.TheVariants.{Failed, Missing, Exists, Short, NoMemory}
+use Rattle.chk_site.specs.declared.acts.CallFault.TheVariants.{Missing, Exists, Short}
 use Rattle.chk_site.specs.declared.acts.ActAnswer.{ActAnswer}
-use Rattle.chk_site.specs.declared.acts.ActAnswer.TheVariants.{Done, Refused, Stopped, Rotated, Deleted}
+use Rattle.chk_site.specs.declared.acts.ActAnswer.TheVariants.{Done, Refused}
 use Rattle.chk_site.specs.Files.{File, shortened}
 use Rattle.chk_site.specs.Acts.{Renames, Cuts, Reads, is_done}
 use Rattle.chk_site.specs.History.{History, files_after}
 use Rattle.chk_site.specs.Honest.{AtRead, AtCut}
-use Rattle.chk_site.specs.Site.{Adds, Asked, asked, own_step, answered, plain, bytes_given, Calls, IsDone, IsTaken, WasDone, WasRefused}
+use Rattle.chk_site.specs.Site.{Acted, Took, Adds, Asked, asked, own_step, answered, plain, bytes_given, Calls, IsDone, IsTaken, WasDone, WasRefused}
 use Rattle.chk_site.specs.Runs.{Leads}
 use Rattle.chk_site.proofs.Runs.{adds_as, ran}
 use Rattle.chk_site.proofs.Leads.{acted_leads, call_owned}
@@ -25,7 +25,7 @@ use Rattle.chk_world.specs.Places.{As, AtTold}
 use Rattle.chk_world.proofs.Ends.{bytes_self}
 use Rattle.chk_world.proofs.Law.{shape}
 use Rattle.chk_world.proofs.NameLemmas.{read-spell}
-use Rattle.chk_world.proofs.NameTests.{same_name, stem_self, moved_named}
+use Rattle.chk_world.proofs.NameTests.{stem_self, moved_named}
 use Rattle.chk_world.proofs.OwnFiles.{done_file, done_present, refused_file, looked_file}
 use Rattle.chk_world.proofs.ToldCalls.{GoesOn, MayCall, LeavesCall, goes_on_done, owned, told_keeps, told_shows, told_done, told_taken, told_ok}
 use Rattle.chk_world.proofs.CollectorCalls.{collector_rule}
@@ -33,36 +33,12 @@ use Rattle.chk_sink.specs.States.{State, process}
 use Rattle.chk_sink.specs.Held.{Holds, Matches}
 use Rattle.chk_sink.specs.Damage.{is_number_from}
 use Rattle.chk_sink.specs.Settling.{HoldsAt, AnyFiles, NoMark, MarkedBy, CutAt, NoSink}
-use Rattle.chk_sink.proofs.NumberBytes.{read_whole, number_good}
-use Rattle.chk_sink.proofs.Holding.{absent_as}
+use Rattle.chk_sink.proofs.NumberBytes.{read_whole, number_good, refused_done, missing_read}
+use Rattle.chk_sink.proofs.Holding.{absent_as, changed_by}
 use Rattle.chk_sink.proofs.Touching.{reads_mark, cuts_sink, closes, holds_on, at_on}
 use Rattle.chk_sink.proofs.LeftCalls.{IsLeft, at_stays, told_any}
 
 -- ---- the reading of the mark
-
-was_refused : (answer : ActAnswer) → WasRefused answer → WasDone answer
-was_refused (Done words number of) h = absurd h
-was_refused (Refused Failed) h = absurd h
-was_refused (Refused Missing) h = tt
-was_refused (Refused Exists) h = tt
-was_refused (Refused (Short size)) h = tt
-was_refused (Refused NoMemory) h = absurd h
-was_refused (Stopped left) h = absurd h
-was_refused (Rotated suffix) h = absurd h
-was_refused (Deleted suffix) h = absurd h
-
--- a refused reading from the begin found no file
-none_read : (answer : ActAnswer) (o : Option File) → WasRefused answer → AtRead answer 0 9 o → o ≡ None
-none_read (Done words number of) o h a = absurd h
-none_read (Refused Failed) o h a = absurd h
-none_read (Refused Missing) o h a = a
-none_read (Refused Exists) o h a = absurd a
-none_read (Refused (Short size)) None h a = absurd a
-none_read (Refused (Short size)) (Some f) h a = let z : ⊥ = omega (arith, a.0) in absurd z
-none_read (Refused NoMemory) o h a = absurd h
-none_read (Stopped left) o h a = absurd h
-none_read (Rotated suffix) o h a = absurd h
-none_read (Deleted suffix) o h a = absurd h
 
 -- what was read of a mark is a number that may stand there, and all of the file
 read_is : (bytes : List ℕ) (o : Option File) → AtRead (bytes_given bytes) 0 9 o → OnFile o IsMark
@@ -92,59 +68,40 @@ module _ (stamped : List (List ℕ)) (s : State) (may : Stem → Bool) (x : Stem
 
   read_any : LeavesCall stamped R left.named A GoesOn (Holds s)
   read_any before answer files logs goes legal h =
-      holds_on s x left.good left.other left.abandoned before (own_step R answer files logs) refl goes legal.1.honest (reads_mark w 0 9 refl) h.holds
+      holds_on s x left.good left.other left.abandoned before (own_step R answer files logs) refl goes legal.1.honest (reads_mark w 0 9) h.holds
 
   none_leaves : LeavesCall stamped R left.named A WasRefused (HoldsAt s may x NoMark)
   none_leaves before answer files logs refused legal h =
-      at_on s x left.good left.other left.abandoned before (own_step R answer files logs) refl (goes_on_done answer (was_refused answer refused)) legal.1.honest
-      (reads_mark w 0 9 refl) may AnyFiles NoMark h
+      at_on s x left.good left.other left.abandoned before (own_step R answer files logs) refl (goes_on_done answer (refused_done answer refused)) legal.1.honest
+      (reads_mark w 0 9) may AnyFiles NoMark h
       (absent_as None _
-      (looked_file before (own_step R answer files logs) (MarkFile x) legal.1.honest refl (was_refused answer refused)
-      ∙ (ap (files_after before) (sym w_is) ∙ none_read answer (files_after before w) refused legal.1.honest.agrees)) tt)
+      (looked_file before (own_step R answer files logs) (MarkFile x) legal.1.honest refl (refused_done answer refused)
+      ∙ (ap (files_after before) (sym w_is) ∙ missing_read answer 9 (files_after before w) refused legal.1.honest.agrees)) tt)
 
-  module _ (bytes : List ℕ) where
-    read_mark : (before : History) (answer : ActAnswer) (files : _) (logs : _) → answer ≡ bytes_given bytes → Legal stamped (own_step R answer files logs ∷ before)
-        → (is_number_from 96 bytes ≡ true) × HasFile (file (files_after before) (MarkFile x)) (λ m. spelled m.bytes ≡ spelled bytes)
-    read_mark before answer files logs is legal =
-        read_is bytes (file (files_after before) (MarkFile x))
-        (subst (λ o. AtRead (bytes_given bytes) 0 9 o) (ap (files_after before) w_is)
-        (subst (λ a. AtRead a 0 9 (files_after before w)) is legal.1.honest.agrees))
-        (shape stamped before legal.0 x left.other.stem).mark
+  -- what holds where this was taken
+  abbrev pub MarkTaken : Option (List ℕ) → History → Type 0
+  MarkTaken None history = HoldsAt s may x NoMark history
+  MarkTaken (Some bytes) history = (is_number_from 96 bytes ≡ true) × HoldsAt s may x (MarkedBy (spelled bytes)) history
 
-    got_leaves : LeavesCall stamped R left.named A (λ a. a ≡ bytes_given bytes) (HoldsAt s may x (MarkedBy (spelled bytes)))
-    got_leaves before answer files logs is legal h =
-        at_on s x left.good left.other left.abandoned before (own_step R answer files logs) refl (subst GoesOn (sym is) tt) legal.1.honest
-        (reads_mark w 0 9 refl) may AnyFiles (MarkedBy (spelled bytes)) h
-        (subst (λ o. HasFile o (λ m. spelled m.bytes ≡ spelled bytes))
-        (sym (looked_file before (own_step R answer files logs) (MarkFile x) legal.1.honest refl (subst WasDone (sym is) tt)))
-        (read_mark before answer files logs is legal).1)
+  mark_leaves : (taken : Option (List ℕ)) → LeavesCall stamped R left.named A (Took bytes_given taken) (MarkTaken taken)
+  mark_leaves None before answer files logs took legal h = none_leaves before answer files logs took legal h
+  mark_leaves (Some bytes) before answer files logs took legal h =
+      let is = read_is bytes (file (files_after before) (MarkFile x)) (rw (ap (files_after before) w_is, took) at legal.1.honest.agrees)
+      (shape stamped before legal.0 x left.other.stem).mark in (
+        is.0,
+        at_on s x left.good left.other left.abandoned before (own_step R answer files logs) refl (subst GoesOn (sym took) tt) legal.1.honest
+            (reads_mark w 0 9) may AnyFiles (MarkedBy (spelled bytes)) h
+            (subst (λ o. HasFile o (λ m. spelled m.bytes ≡ spelled bytes))
+            (sym (looked_file before (own_step R answer files logs) (MarkFile x) legal.1.honest refl (subst WasDone (sym took) tt))) is.1),
+      )
 
-    bad_leaves : is_number_from 96 bytes ≡ false → LeavesCall stamped R left.named A (λ a. a ≡ bytes_given bytes) (λ h. ⊥)
-    bad_leaves bad before answer files logs is legal h =
-        true≢false (sym (read_mark before answer files logs is legal).0 ∙ bad)
-
-    -- the mark was read
-    pub mark_got : (n : ℕ) → spelled bytes ≡ n → (given : Result (List ℕ) CallFault) → given ≡ Ok bytes → {old new : Option History}
-        → Adds old new (Calls R (answered bytes_given given))
-        → Adds old new (Leads (As stamped (process s)) (AtTold stamped (process s) A) (AtTold stamped (process s) (HoldsAt s may x (MarkedBy n))))
-    mark_got n e given gave {old = old} {new = new} told =
-        subst (λ n. Adds old new (Leads (As stamped (process s)) (AtTold stamped (process s) A) (AtTold stamped (process s) (HoldsAt s may x (MarkedBy n))))) e
-        (told_ok stamped R left.named A (HoldsAt s may x (MarkedBy (spelled bytes))) (bytes_given bytes) (at_stays stamped s may x AnyFiles left) read_may tt got_leaves
-        (subst (λ g. Adds old new (Calls R (answered bytes_given g))) gave told))
-
-    -- it is never damaged
-    pub mark_bad : is_number_from 96 bytes ≡ false → (given : Result (List ℕ) CallFault) → given ≡ Ok bytes → {old new : Option History}
-        → Adds old new (Calls R (answered bytes_given given))
-        → Adds old new (Leads (As stamped (process s)) (AtTold stamped (process s) A) (AtTold stamped (process s) (λ h. ⊥)))
-    mark_bad bad given gave {old = old} {new = new} told =
-        told_ok stamped R left.named A (λ h. ⊥) (bytes_given bytes) (at_stays stamped s may x AnyFiles left) read_may tt (bad_leaves bad)
-        (subst (λ g. Adds old new (Calls R (answered bytes_given g))) gave told)
-
-  -- there is no mark
-  pub mark_none : (given : Result (List ℕ) CallFault) {old new : Option History} → IsTaken given None → Adds old new (Calls R (answered bytes_given given))
-      → Adds old new (Leads (As stamped (process s)) (AtTold stamped (process s) A) (AtTold stamped (process s) (HoldsAt s may x NoMark)))
-  mark_none given is told =
-      told_taken stamped R left.named A (HoldsAt s may x NoMark) bytes_given given None (at_stays stamped s may x AnyFiles left) read_may (λ b. tt) none_leaves is told
+  -- something was read of it, or there is none
+  pub mark_taken : (given : Result (List ℕ) CallFault) (taken : Option (List ℕ)) {old new : Option History} → IsTaken given taken
+      → Adds old new (Calls R (answered bytes_given given))
+      → Adds old new (Leads (As stamped (process s)) (AtTold stamped (process s) A) (AtTold stamped (process s) (MarkTaken taken)))
+  mark_taken given taken is told =
+      told_taken stamped R left.named A (MarkTaken taken) bytes_given given taken (at_stays stamped s may x AnyFiles left) read_may (λ b. tt)
+      (mark_leaves taken) is told
 
   -- whatever it answered
   pub mark_asked : (given : Result (List ℕ) CallFault) {old new : Option History} → Adds old new (Calls R (answered bytes_given given))
@@ -190,14 +147,10 @@ data CutCame (answer : ActAnswer) (o : Option File) : Type 0 where
 cut_came : (answer : ActAnswer) (n : ℕ) (o : Option File) → WasDone answer → AtCut answer n o → CutCame answer o
 cut_came (Done words number of) n None was a = absurd a
 cut_came (Done words number of) n (Some f) was a = was_cut refl f refl
-cut_came (Refused Failed) n o was a = absurd was
 cut_came (Refused Missing) n o was a = no_file refl a
 cut_came (Refused Exists) n o was a = absurd a
 cut_came (Refused (Short size)) n o was a = too_short size refl
-cut_came (Refused NoMemory) n o was a = absurd was
-cut_came (Stopped left) n o was a = absurd was
-cut_came (Rotated suffix) n o was a = absurd was
-cut_came (Deleted suffix) n o was a = absurd was
+cut_came answer n o was a = absurd was
 
 short_file : (n size : ℕ) (o : Option File) → AtCut (Refused (Short size)) n o → (f : File) × (o ≡ Some f) × (length f.bytes < n)
 short_file n size None a = absurd a
@@ -224,7 +177,7 @@ module _ (stamped : List (List ℕ)) (s : State) (may : Stem → Bool) (x : Stem
 
   cut_any : LeavesCall stamped C left.named M GoesOn (Holds s)
   cut_any before answer files logs goes legal h =
-      holds_on s x left.good left.other left.abandoned before (own_step C answer files logs) refl goes legal.1.honest (cuts_sink w n refl reads) h.holds
+      holds_on s x left.good left.other left.abandoned before (own_step C answer files logs) refl goes legal.1.honest (cuts_sink w n reads) h.holds
 
   shaped : (before : History) → Legal stamped before → Shape before x
   shaped before legal = shape stamped before legal x left.other.stem
@@ -245,7 +198,7 @@ module _ (stamped : List (List ℕ)) (s : State) (may : Stem → Bool) (x : Stem
   done_leaves : LeavesCall stamped C left.named M (λ a. a ≡ plain (tt {0})) (HoldsAt s may x (CutAt n))
   done_leaves before answer files logs is legal h =
       at_on s x left.good left.other left.abandoned before (own_step C answer files logs) refl (subst GoesOn (sym is) tt) legal.1.honest
-      (cuts_sink w n refl reads) may (MarkedBy n) (CutAt n) h
+      (cuts_sink w n reads) may (MarkedBy n) (CutAt n) h
       (by (cut_came answer n (files_after before w) (subst WasDone (sym is) tt) legal.1.honest.agrees))
     where
       done : is_done answer ≡ true
@@ -253,17 +206,11 @@ module _ (stamped : List (List ℕ)) (s : State) (may : Stem → Bool) (x : Stem
 
       by : CutCame answer (files_after before w) → CutAt n (file files (SinkFile x)) (file files (MarkFile x))
       by (was_cut d f there) =
-          let sink : file (files_after before) (SinkFile x) ≡ Some f = ap (files_after before) (sym w_is) ∙ there in (
-            subst (λ o. HasFile o (λ m. spelled m.bytes ≡ n))
-                (sym (done_file before (own_step C answer files logs) (MarkFile x) legal.1.honest done left.other.stem
-                ∙ ap (λ m. if same_name (MarkFile x) m then option_map (shortened n) (file (files_after before) (MarkFile x)) else file (files_after before) (MarkFile x)) reads))
-                h.there,
-            subst (λ o. HasFile o (IsCommitted n))
-                (sym (done_file before (own_step C answer files logs) (SinkFile x) legal.1.honest done left.other.stem
-                ∙ (ap (λ m. if same_name (SinkFile x) m then option_map (shortened n) (file (files_after before) (SinkFile x)) else file (files_after before) (SinkFile x)) reads
-                ∙ (ap (λ b. if b then option_map (shortened n) (file (files_after before) (SinkFile x)) else file (files_after before) (SinkFile x)) (stem_self x)
-                ∙ ap (option_map (shortened n)) sink))))
-                (cut_whole before legal.0 h f sink),
+          let sink : file (files_after before) (SinkFile x) ≡ Some f = ap (files_after before) (sym w_is) ∙ there in
+          let on = changed_by (SinkFile x) w w_is left.other.stem (option_map (shortened n)) (files_after before) files
+          (λ m k. done_file before _ m legal.1.honest done k) in (
+            subst (λ o. HasFile o (λ m. spelled m.bytes ≡ n)) (sym (on.others (MarkFile x) left.other.stem refl)) h.there,
+            subst (λ o. HasFile o (IsCommitted n)) (sym (on.there ∙ ap (option_map (shortened n)) sink)) (cut_whole before legal.0 h f sink),
           )
       by (no_file e none) = absurd (true≢false (sym done ∙ ap is_done e))
       by (too_short size e) = absurd (true≢false (sym done ∙ ap is_done e))
@@ -271,7 +218,7 @@ module _ (stamped : List (List ℕ)) (s : State) (may : Stem → Bool) (x : Stem
   missing_leaves : LeavesCall stamped C left.named M (λ a. a ≡ Refused Missing) (HoldsAt s may x NoSink)
   missing_leaves before answer files logs is legal h =
       at_on s x left.good left.other left.abandoned before (own_step C answer files logs) refl (subst GoesOn (sym is) tt) legal.1.honest
-      (cuts_sink w n refl reads) may (MarkedBy n) NoSink h
+      (cuts_sink w n reads) may (MarkedBy n) NoSink h
       (absent_as None _
       (refused_file before (own_step C answer files logs) (SinkFile x) legal.1.honest (subst WasDone (sym is) tt) (ap is_done is)
       ∙ (ap (files_after before) (sym w_is) ∙ subst (λ a. AtCut a n (files_after before w)) is legal.1.honest.agrees)) tt)
@@ -290,32 +237,30 @@ module _ (stamped : List (List ℕ)) (s : State) (may : Stem → Bool) (x : Stem
       told_ok stamped C left.named M (HoldsAt s may x (CutAt n)) (plain (tt {0})) (at_stays stamped s may x (MarkedBy n) left) cut_may tt done_leaves
       (subst (λ g. Adds old new (Calls C (answered plain g))) gave told)
 
+  -- it was refused so
+  cut_refused : (fault : CallFault) (C' : History → Type 0) {old new : Option History} → LeavesCall stamped C left.named M (λ a. a ≡ Refused fault) C'
+      → ((added history : History) → Calls C (Err fault) added history → Acted C (Refused fault) added history) → Adds old new (Calls C (Err fault))
+      → Adds old new (Leads (As stamped (process s)) (AtTold stamped (process s) M) (AtTold stamped (process s) C'))
+  cut_refused fault C' leaves acts told =
+      adds_as (Leads (As stamped (process s)) (AtTold stamped (process s) M) (AtTold stamped (process s) C')) told
+      (λ added history calls. record {
+        leads = acted_leads (AtTold stamped (process s) C') (told_keeps stamped C left.named M (at_stays stamped s may x (MarkedBy n) left))
+            (told_shows stamped C left.named M C' (λ a. a ≡ Refused fault) (Refused fault) tt refl cut_may leaves) (acts added history calls);
+        own = call_owned (As stamped (process s)).own (Err fault) (owned stamped C left.named) calls;
+      })
+
   -- there is no sink
   pub cut_missed : (given : Result (Unit {0}) CallFault) → given ≡ Err Missing → {old new : Option History} → Adds old new (Calls C (answered plain given))
       → Adds old new (Leads (As stamped (process s)) (AtTold stamped (process s) M) (AtTold stamped (process s) (HoldsAt s may x NoSink)))
-  cut_missed given gave {old = old} {new = new} told =
-      adds_as (Leads (As stamped (process s)) (AtTold stamped (process s) M) (AtTold stamped (process s) (HoldsAt s may x NoSink)))
-      (subst (λ g. Adds old new (Calls C (answered plain g))) gave told)
-      (λ added history calls. record {
-        leads = acted_leads (AtTold stamped (process s) (HoldsAt s may x NoSink)) (told_keeps stamped C left.named M (at_stays stamped s may x (MarkedBy n) left))
-            (told_shows stamped C left.named M (HoldsAt s may x NoSink) (λ a. a ≡ Refused Missing) (Refused Missing) tt refl cut_may missing_leaves)
-            (ran (Err Missing) (λ e. cc) calls);
-        own = call_owned (As stamped (process s)).own (Err Missing) (owned stamped C left.named) calls;
-      })
+  cut_missed given gave told =
+      cut_refused Missing (HoldsAt s may x NoSink) missing_leaves (λ a h calls. ran (Err Missing) (λ e. cc) calls) (rw gave at told)
 
   -- it is never shorter than its mark
   pub cut_short : (given : Result (Unit {0}) CallFault) (size : ℕ) → given ≡ Err (Short size) → {old new : Option History}
       → Adds old new (Calls C (answered plain given))
       → Adds old new (Leads (As stamped (process s)) (AtTold stamped (process s) M) (AtTold stamped (process s) (λ h. ⊥)))
-  cut_short given size gave {old = old} {new = new} told =
-      adds_as (Leads (As stamped (process s)) (AtTold stamped (process s) M) (AtTold stamped (process s) (λ h. ⊥)))
-      (subst (λ g. Adds old new (Calls C (answered plain g))) gave told)
-      (λ added history calls. record {
-        leads = acted_leads (AtTold stamped (process s) (λ h. ⊥)) (told_keeps stamped C left.named M (at_stays stamped s may x (MarkedBy n) left))
-            (told_shows stamped C left.named M (λ h. ⊥) (λ a. a ≡ Refused (Short size)) (Refused (Short size)) tt refl cut_may (short_leaves size))
-            (ran (Err (Short size)) (λ e. cc) calls);
-        own = call_owned (As stamped (process s)).own (Err (Short size)) (owned stamped C left.named) calls;
-      })
+  cut_short given size gave told =
+      cut_refused (Short size) (λ h. ⊥) (short_leaves size) (λ a h calls. ran (Err (Short size)) (λ e. cc) calls) (rw gave at told)
 
   -- whatever it answered
   pub cut_tried : (given : Result (Unit {0}) CallFault) {old new : Option History} → Adds old new (Calls C (answered plain given))
@@ -365,14 +310,14 @@ module _ (stamped : List (List ℕ)) (s : State) (may : Stem → Bool) (x : Stem
   close_any : LeavesCall stamped N left.named K GoesOn (Holds s)
   close_any before answer files logs goes legal h =
       holds_on s x left.good left.other left.abandoned before (own_step N answer files logs) refl goes legal.1.honest
-      (closes w v refl reads_old reads_new) h.holds
+      (closes w v reads_old reads_new) h.holds
 
   close_leaves : LeavesCall stamped N left.named K WasDone (HoldsAt s may x NoSink)
   close_leaves before answer files logs was legal h =
       let f = there_is (file (files_after before) (SinkFile x)) (IsCommitted n) h.there.1 in
       let done = done_present answer (files_after before w) was legal.1.honest.agrees f.0 (ap (files_after before) w_is ∙ f.1) in
       at_on s x left.good left.other left.abandoned before (own_step N answer files logs) refl (goes_on_done answer was) legal.1.honest
-      (closes w v refl reads_old reads_new) may (CutAt n) NoSink h
+      (closes w v reads_old reads_new) may (CutAt n) NoSink h
       (absent_as None _
       (done_file before (own_step N answer files logs) (SinkFile x) legal.1.honest done left.other.stem ∙ moved_on (file (files_after before)) f.0 f.1) tt)
     where

@@ -27,7 +27,7 @@ use Rattle.chk_world.proofs.CompleteRuns.{CanBeListed, can_be_listed, sink_name}
 use Rattle.chk_sink.specs.States.{State, process}
 use Rattle.chk_sink.specs.Held.{Holds, Matches}
 use Rattle.chk_sink.specs.Settling.{IsSettling, is_same, stem_of_either, left_in, left_of, IsGone, HoldsBut}
-use Rattle.chk_sink.proofs.Holding.{holds_alike, holds_stays, absent_as}
+use Rattle.chk_sink.proofs.Holding.{holds_alike, holds_stays, both_absent}
 use Rattle.chk_sink.proofs.LeftCalls.{told_any}
 
 -- ---- the names tell of their stems
@@ -132,10 +132,8 @@ module _ (stamped : List (List ℕ)) (s : State) (who : _) (settles : IsSettling
         record {
           holds = list_any_answer before answer files logs goes legal h;
           others = λ y o m.
-              let was = gone_unlisted (files_after before) names y o.stem listing m in (
-                absent_as _ _ (same_file before answer files logs goes honest (SinkFile y)) was.0,
-                absent_as _ _ (same_file before answer files logs goes honest (MarkFile y)) was.1,
-              );
+              both_absent (same_file before answer files logs goes honest (SinkFile y)) (same_file before answer files logs goes honest (MarkFile y))
+              (gone_unlisted (files_after before) names y o.stem listing m);
         }
 
     -- the folder was listed

@@ -1,5 +1,5 @@
 -- The settling of the listed sinks, one after the other.
-use Rattle.std.proofs.Common.{◌≡◌, ◌<◌, ◌+◌, ℕ, List, ◌∷◌, length, drop, get_or, Option, None, Result, Ok, Err, ap, sym, subst, ◌∙◌, refl}
+use Rattle.std.proofs.Common.{◌≡◌, ◌<◌, ◌+◌, ℕ, List, ◌∷◌, length, drop, get_or, Option, None, Result, Ok, ap, sym, ◌∙◌, refl}
 use Rattle.std.proofs.lemmas.List.{drop_more}
 use Rattle.chk_bytes.specs.Stems.{Stem}
 use Rattle.chk_site.specs.declared.acts.Who.{Who}
@@ -10,14 +10,14 @@ use Rattle.chk_site.proofs.Leads.{leads_then, leads_none}
 use Rattle.chk_world.specs.Places.{As, AtTold}
 use Rattle.chk_sink.specs.declared.fault.SinkFault.{SinkFault}
 use Rattle.chk_sink.specs.States.{State, process}
-use Rattle.chk_sink.specs.Settling.{IsSettling, IsCaused, Found, HoldsBut, kept_stem, left_of, none_left}
-use Rattle.chk_site.specs.Acts.{Deed}
+use Rattle.chk_sink.specs.Settling.{IsSettling, Found, HoldsBut, kept_stem, left_of}
 use Rattle.chk_world.specs.Works.{Works, rests}
 use Rattle.chk_world.proofs.Working.{works_then}
 use Rattle.chk_sink.specs.Works.{OfSettling}
-use Rattle.chk_sink.proofs.Owning.{Made, made_as, made_ok}
-use Rattle.chk_sink.proofs.Founding.{found_as}
-use Rattle.chk_sink.proofs.Causing.{caused_none, caused_then, caused_as}
+use Rattle.chk_sink.specs.Damage.{DamageCause}
+use Rattle.chk_site.proofs.Runs.{adds_none}
+use Rattle.chk_sink.proofs.Owning.{Made, made_ok}
+use Rattle.chk_sink.proofs.JoinedCauses.{cause_then}
 
 -- what the settling of the first names led to, where these names are still to come
 pub record IsSettledTo (who : Who) (kept : Option Stem) (names rest : List (List ℕ)) (last : Option Stem) (faults_old faults_now : ℕ)
@@ -25,7 +25,7 @@ pub record IsSettledTo (who : Who) (kept : Option Stem) (names rest : List (List
   pub told : (stamped : List (List ℕ)) (s : State) → IsSettling s who → kept ≡ kept_stem s
       → Adds old now (Leads (As stamped (process s)) (AtTold stamped (process s) (HoldsBut s (left_of names None)))
       (AtTold stamped (process s) (HoldsBut s (left_of rest last))))
-  pub caused : Adds old now (IsCaused {T = Unit {0}} (Ok tt))
+  pub damaged : Adds old now (DamageCause {T = Unit {0}} (Ok tt))
   pub own : (s : State) → IsSettling s who → kept ≡ kept_stem s → Works who (OfSettling s) None old now
   pub cause : faults_now ≡ faults_old
 
@@ -33,7 +33,12 @@ pub record IsSettledTo (who : Who) (kept : Option Stem) (names rest : List (List
 pub settle_begins : (who : Who) (kept : Option Stem) (names : List (List ℕ)) (faults : ℕ) (now : Option History)
     → IsSettledTo who kept names names None faults faults now now
 settle_begins who kept names faults now =
-    record { told = λ stamped s settles k. leads_none now (λ h x. x); caused = caused_none tt now; own = λ s settles k. rests; cause = refl }
+    record {
+      told = λ stamped s settles k. leads_none now (λ h x. x);
+      damaged = adds_none now (DamageCause {T = Unit {0}} (Ok tt)) (λ h. refl);
+      own = λ s settles k. rests;
+      cause = refl;
+    }
 
 module _ (who : Who) (kept : Option Stem) (names : List (List ℕ)) (name : List ℕ) (rest : List (List ℕ)) (last then : Option Stem)
     (faults_old faults_mid : ℕ) (old mid now : Option History) (so_far : IsSettledTo who kept names (name ∷ rest) last faults_old faults_mid old mid)
@@ -44,47 +49,19 @@ module _ (who : Who) (kept : Option Stem) (names : List (List ℕ)) (name : List
       (Found stamped s (λ v. HoldsBut s (left_of after then)) part))
 
   -- the next one was done
-  pub settled_on : (faults_now : ℕ) (value : Unit {0}) → part ≡ Ok value → Part → Adds mid now (IsCaused part) → faults_now ≡ faults_mid
+  pub settled_on : (faults_now : ℕ) (value : Unit {0}) → part ≡ Ok value → Part → Adds mid now (DamageCause part) → faults_now ≡ faults_mid
       → ((s : State) → IsSettling s who → kept ≡ kept_stem s → Made who (OfSettling s) part mid now)
       → IsSettledTo who kept names rest then faults_old faults_now old now
-  settled_on faults_now value is told caused faults own = record {
+  settled_on faults_now value is told damaged faults own = record {
     told = λ stamped s settles k.
-        leads_then (so_far.told stamped s settles k)
-        (subst (λ r. Adds mid now (Leads (As stamped (process s)) (AtTold stamped (process s) (HoldsBut s (left_of (name ∷ rest) last)))
-        (Found stamped s (λ v. HoldsBut s (left_of rest then)) r))) is (told stamped s rest settles k));
-    caused = caused_then {T = Unit {0}} (Ok tt) tt (Ok tt) (λ i. Ok tt) so_far.caused
-        (subst (λ (r : Result (Unit {0}) SinkFault). Adds mid now (IsCaused r)) is caused);
+        leads_then (so_far.told stamped s settles k) (rw is at (told stamped s rest settles k));
+    damaged = cause_then (Ok (tt {0})) tt (Ok (tt {0})) refl so_far.damaged (rw is at damaged);
     own = λ s settles k. works_then (so_far.own s settles k) (made_ok part value is (own s settles k));
     cause = faults ∙ so_far.cause;
   }
-
-  -- the next one was refused
-  pub refused_told : (result : Result (Unit {0}) SinkFault) (fault : SinkFault) → part ≡ Err fault → result ≡ Err fault → Part
-      → (stamped : List (List ℕ)) (s : State) → IsSettling s who → kept ≡ kept_stem s
-      → Adds old now (Leads (As stamped (process s)) (AtTold stamped (process s) (HoldsBut s (left_of names None)))
-      (Found stamped s (λ v. HoldsBut s none_left) result))
-  refused_told result fault is result_is told stamped s settles k =
-      leads_then (so_far.told stamped s settles k)
-      (found_as stamped s (λ v. HoldsBut s none_left) (λ v. HoldsBut s (left_of rest then)) part result fault is result_is (told stamped s rest settles k))
-
-  pub refused_caused : (result : Result (Unit {0}) SinkFault) (fault : SinkFault) → part ≡ Err fault → result ≡ Err fault → Adds mid now (IsCaused part)
-      → Adds old now (IsCaused result)
-  refused_caused result fault is result_is caused =
-      caused_then {T = Unit {0}} (Ok tt) tt result (λ i. Ok tt) so_far.caused (caused_as part result fault is result_is caused)
-
-pub refused_own : {who : Who} {P : Deed → Type 0} (part result : Result (Unit {0}) SinkFault) (fault : SinkFault) {old mid now : Option History}
-    → part ≡ Err fault → result ≡ Err fault → Works who P None old mid → Made who P part mid now → Made who P result old now
-refused_own part result fault is result_is so_far own = works_then so_far (made_as part result fault is result_is own)
 
 -- the next name
 pub next_named : (names : List (List ℕ)) (i : ℕ) (item name : List ℕ) → i < length names → item ≡ get_or names i item → name ≡ item
     → drop i names ≡ name ∷ drop (i + 1) names
 next_named names i item name within is text =
     drop_more names i item within ∙ ap (λ n. n ∷ drop (i + 1) names) (sym is ∙ sym text)
-
--- the names that were listed
-pub from_names : (stamped : List (List ℕ)) (s : State) (a b : List (List ℕ)) (Z : History → Type 0) {old now : Option History} → b ≡ a
-    → Adds old now (Leads (As stamped (process s)) (AtTold stamped (process s) (HoldsBut s (left_of b None))) Z)
-    → Adds old now (Leads (As stamped (process s)) (AtTold stamped (process s) (HoldsBut s (left_of a None))) Z)
-from_names stamped s a b Z {old = old} {now = now} e told =
-    subst (λ r. Adds old now (Leads (As stamped (process s)) (AtTold stamped (process s) (HoldsBut s (left_of r None))) Z)) e told

@@ -2,9 +2,7 @@ pub mod Holding
 pub mod Creating
 pub mod Appending
 pub mod Putting
-pub mod Made
 pub mod Fields
-pub mod Beginning
 pub mod Whole
 pub mod Next
 pub mod Scripts
@@ -17,8 +15,7 @@ pub mod NoStem
 pub mod Questions
 pub mod NumberBytes
 pub mod AskedLengths
-pub mod DamageSeen
-pub mod Counting
+pub mod Showing
 pub mod JoinedCauses
 pub mod StartShows
 pub mod StartTold
@@ -27,16 +24,12 @@ pub mod Ticks
 pub mod Started
 pub mod Touching
 pub mod LeftCalls
-pub mod Causing
 pub mod Founding
 pub mod LeftCuts
-pub mod MarkDamage
-pub mod Unread
 pub mod LeftNamed
 pub mod LeftListed
 pub mod LeftLoop
 pub mod Settled
-pub mod StartBegins
 pub mod Owning
 pub mod Owned
 pub mod Refusing

@@ -2,7 +2,7 @@
 use Rattle.std.proofs.Common.{◌≡◌, inl, inr, ℕ, zero, suc, ◌+◌, ◌*◌, ◌/◌, ◌%◌, ◌<◌, ◌≤◌, ◌^◌, ◌==◌, Bool, true, false, ◌&&◌, not, List, [], ◌∷◌, ◌++◌, length, Some, None, decimal, bytes_eq, refl, ap, sym, subst, ◌∙◌, if◌then◌else◌, append_assoc, arith, true≢false}
 use Rattle.std.specs.Prelude.{IsTrue, codes}
 use Rattle.std.specs.Fmt.{digits, digits_onto, digit_glyph}
-use Rattle.std.proofs.lemmas.Bool.{and_parts, and_from, cases_lt}
+use Rattle.std.proofs.lemmas.Bool.{and_from, cases_lt}
 use Rattle.std.proofs.lemmas.Fmt.{decimal_injective, length-decimal-le}
 use Rattle.std.proofs.lemmas.List.{append_cancel_left, append_cancel_right}
 use Rattle.chk_bytes.specs.Numbers.{limit}
@@ -11,7 +11,7 @@ use Rattle.chk_bytes.specs.Stems.{Stem, is_stem, stem_text}
 use Rattle.chk_bytes.proofs.PartLemmas.{lacks-separator}
 use Rattle.chk_bytes.proofs.StemLemmas.{stem_facts}
 use Rattle.chk_site.specs.declared.acts.Role.{Role}
-use Rattle.chk_site.specs.declared.acts.Role.TheVariants.{Agent, Collector, Job, Writer}
+use Rattle.chk_site.specs.declared.acts.Role.TheVariants.{Collector}
 use Rattle.chk_site.specs.History.{History, files_after}
 use Rattle.chk_world.specs.Names.{Name, SinkFile, MarkFile, DoneFile, Temporary, OtherFile, guessed_stem, guessed_sink, guessed_name, if_spelled, read, spell, file, owns_by}
 use Rattle.chk_world.specs.Rules.{Legal}
@@ -148,92 +148,77 @@ guessed_open t =
     let w = t ++ codes ".chukwa" in
     picked_some (λ t. SinkFile (guessed_stem t)) (before_end (codes ".chukwa") w) t _ (before_end-append t (codes ".chukwa"))
 
--- a stem of which the file's name is spelled so
-not_spelled : (b : Bool) (n : Name) (w : List ℕ) → (b ≡ true → ⊥) → (if b then n else OtherFile w) ≡ OtherFile w
-not_spelled true n w h = absurd (h refl)
-not_spelled false n w h = refl
+-- what the names of a kind of a sink's files are
+record IsKind (kind : Stem → Name) (ending : List ℕ) : Type 0 where
+  spelled : (y : Stem) → spell (kind y) ≡ below_sinks (stem_text y ++ ending)
+  guessed : (t : List ℕ) → guessed_sink (t ++ ending) ≡ kind (guessed_stem t)
+  no_next : (t : List ℕ) → before_end (codes ".tmp") (below_sinks (t ++ ending)) ≡ None
+  when : (y : Stem) (w : List ℕ) → if_spelled (kind y) w ≡ (if is_stem y && bytes_eq (spell (kind y)) w then kind y else OtherFile w)
 
-module _ (x : Stem) (bad : is_stem x ≡ false) where
-  no_other : (y : Stem) → is_stem y ≡ true → stem_text y ≡ stem_text x → ⊥
-  no_other y good same =
-      true≢false (sym good ∙ (ap is_stem (sym (stem_texts_same x y good (sym same))) ∙ bad))
+done_kind : IsKind DoneFile (codes ".done")
+unfolding spell
+done_kind = record {
+  spelled = λ y. refl;
+  guessed = guessed_done;
+  no_next = λ t. other_end (codes ".tm") 112 (codes "sinks/" ++ t) (codes ".don") 101 refl;
+  when = λ y w. refl;
+}
 
-  done_text : (y : Stem) → spell (DoneFile y) ≡ spell (DoneFile x) → stem_text y ≡ stem_text x
-  unfolding spell
-  done_text y e =
-      append_cancel_right (stem_text y) (stem_text x) (codes ".done")
-      (append_cancel_left (codes "sinks/") (stem_text y ++ codes ".done") (stem_text x ++ codes ".done") e)
+mark_kind : IsKind MarkFile (codes ".mark")
+unfolding spell
+mark_kind = record {
+  spelled = λ y. refl;
+  guessed = guessed_mark;
+  no_next = λ t. other_end (codes ".tm") 112 (codes "sinks/" ++ t) (codes ".mar") 107 refl;
+  when = λ y w. refl;
+}
 
-  mark_text : (y : Stem) → spell (MarkFile y) ≡ spell (MarkFile x) → stem_text y ≡ stem_text x
-  unfolding spell
-  mark_text y e =
-      append_cancel_right (stem_text y) (stem_text x) (codes ".mark")
-      (append_cancel_left (codes "sinks/") (stem_text y ++ codes ".mark") (stem_text x ++ codes ".mark") e)
-
-  sink_text : (y : Stem) → spell (SinkFile y) ≡ spell (SinkFile x) → stem_text y ≡ stem_text x
-  unfolding spell
-  sink_text y e =
-      append_cancel_right (stem_text y) (stem_text x) (codes ".chukwa")
-      (append_cancel_left (codes "sinks/") (stem_text y ++ codes ".chukwa") (stem_text x ++ codes ".chukwa") e)
-
-  read_sink : read (spell (SinkFile x)) ≡ OtherFile (spell (SinkFile x))
-  unfolding spell
-  read_sink =
-      let t = stem_text x in
-      let w = below_sinks (t ++ codes ".chukwa") in
-      let y = guessed_stem t in
-      guessed_below (t ++ codes ".chukwa") (other_end (codes ".tm") 112 (codes "sinks/" ++ t) (codes ".chukw") 97 refl)
-      ∙ (ap (λ n. if_spelled n w) (guessed_open t)
-      ∙ not_spelled (is_stem y && bytes_eq (spell (SinkFile y)) w) (SinkFile y) w
-      (λ h. let p = and_parts (is_stem y) (bytes_eq (spell (SinkFile y)) w) h in
-      no_other y p.0 (sink_text y (bytes_same (spell (SinkFile y)) w p.1))))
-
-  read_done : read (spell (DoneFile x)) ≡ OtherFile (spell (DoneFile x))
-  unfolding spell
-  read_done =
-      let t = stem_text x in
-      let w = below_sinks (t ++ codes ".done") in
-      let y = guessed_stem t in
-      guessed_below (t ++ codes ".done") (other_end (codes ".tm") 112 (codes "sinks/" ++ t) (codes ".don") 101 refl)
-      ∙ (ap (λ n. if_spelled n w) (guessed_done t)
-      ∙ not_spelled (is_stem y && bytes_eq (spell (DoneFile y)) w) (DoneFile y) w
-      (λ h. let p = and_parts (is_stem y) (bytes_eq (spell (DoneFile y)) w) h in
-      no_other y p.0 (done_text y (bytes_same (spell (DoneFile y)) w p.1))))
-
-  read_mark : read (spell (MarkFile x)) ≡ OtherFile (spell (MarkFile x))
-  unfolding spell
-  read_mark =
-      let t = stem_text x in
-      let w = below_sinks (t ++ codes ".mark") in
-      let y = guessed_stem t in
-      guessed_below (t ++ codes ".mark") (other_end (codes ".tm") 112 (codes "sinks/" ++ t) (codes ".mar") 107 refl)
-      ∙ (ap (λ n. if_spelled n w) (guessed_mark t)
-      ∙ not_spelled (is_stem y && bytes_eq (spell (MarkFile y)) w) (MarkFile y) w
-      (λ h. let p = and_parts (is_stem y) (bytes_eq (spell (MarkFile y)) w) h in
-      no_other y p.0 (mark_text y (bytes_same (spell (MarkFile y)) w p.1))))
+sink_kind : IsKind SinkFile (codes ".chukwa")
+unfolding spell
+sink_kind = record {
+  spelled = λ y. refl;
+  guessed = guessed_open;
+  no_next = λ t. other_end (codes ".tm") 112 (codes "sinks/" ++ t) (codes ".chukw") 97 refl;
+  when = λ y w. refl;
+}
 
 -- what lies there and is none of the program's names is nobody's
 owned_none : (role : Role) (name t : List ℕ) → owns_by role name (OtherFile (below_sinks t)) ≡ false
-owned_none Agent name t = refl
 owned_none Collector name t = refl
-owned_none Job name t = refl
-owned_none Writer name t = refl
+owned_none role name t = refl
 
--- a text that is no stem's has neither a done sink nor a mark
+-- a text that is no stem's has no such file
+module _ {kind : Stem → Name} {ending : List ℕ} (k : IsKind kind ending) (x : Stem) (bad : is_stem x ≡ false) where
+  not_spelled : (y : Stem) (b c : Bool) → is_stem y ≡ b → bytes_eq (spell (kind y)) (spell (kind x)) ≡ c
+      → (if b && c then kind y else OtherFile (spell (kind x))) ≡ OtherFile (spell (kind x))
+  not_spelled y false c good same = refl
+  not_spelled y true false good same = refl
+  not_spelled y true true good same =
+      let one = sym (k.spelled y) ∙ (bytes_same (spell (kind y)) (spell (kind x)) same ∙ k.spelled x) in
+      let texts = append_cancel_right (stem_text y) (stem_text x) ending
+      (append_cancel_left (codes "sinks/") (stem_text y ++ ending) (stem_text x ++ ending) one) in
+      absurd (true≢false (sym good ∙ (ap is_stem (sym (stem_texts_same x y good (sym texts))) ∙ bad)))
+
+  read_other : read (spell (kind x)) ≡ OtherFile (spell (kind x))
+  read_other =
+      let t = stem_text x ++ ending in
+      let y = guessed_stem (stem_text x) in
+      ap read (k.spelled x) ∙ (guessed_below t (k.no_next (stem_text x))
+      ∙ (ap (λ n. if_spelled n (below_sinks t)) (k.guessed (stem_text x)) ∙ (ap (if_spelled (kind y)) (sym (k.spelled x))
+      ∙ (k.when y (spell (kind x)) ∙ not_spelled y (is_stem y) (bytes_eq (spell (kind y)) (spell (kind x))) refl refl))))
+
+  none_there : (stamped : List (List ℕ)) (history : History) → Legal stamped history → file (files_after history) (kind x) ≡ None
+  none_there stamped history legal =
+      never_there (spell (kind x))
+      (λ who. ap (owns_by who.role who.name) (read_other ∙ ap OtherFile (k.spelled x)) ∙ owned_none who.role who.name (stem_text x ++ ending))
+      stamped history legal
+
+-- it has neither a done sink nor a mark
 pub no_stem_files : (stamped : List (List ℕ)) (history : History) → Legal stamped history → (x : Stem) → is_stem x ≡ false
     → (file (files_after history) (DoneFile x) ≡ None) × (file (files_after history) (MarkFile x) ≡ None)
-unfolding spell
-no_stem_files stamped history legal x bad = (
-  never_there (spell (DoneFile x))
-      (λ who. ap (owns_by who.role who.name) (read_done x bad) ∙ owned_none who.role who.name (stem_text x ++ codes ".done")) stamped history legal,
-  never_there (spell (MarkFile x))
-      (λ who. ap (owns_by who.role who.name) (read_mark x bad) ∙ owned_none who.role who.name (stem_text x ++ codes ".mark")) stamped history legal,
-)
+no_stem_files stamped history legal x bad = (none_there done_kind x bad stamped history legal, none_there mark_kind x bad stamped history legal)
 
 -- and no sink under writing
 pub no_stem_sink : (stamped : List (List ℕ)) (history : History) → Legal stamped history → (x : Stem) → is_stem x ≡ false
     → file (files_after history) (SinkFile x) ≡ None
-unfolding spell
-no_stem_sink stamped history legal x bad =
-    never_there (spell (SinkFile x))
-    (λ who. ap (owns_by who.role who.name) (read_sink x bad) ∙ owned_none who.role who.name (stem_text x ++ codes ".chukwa")) stamped history legal
+no_stem_sink stamped history legal x bad = none_there sink_kind x bad stamped history legal

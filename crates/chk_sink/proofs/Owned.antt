@@ -1,33 +1,37 @@
 -- Which calls the sinks make, by their state.
 use Rattle.std.proofs.Common.{◌≡◌, ◌⊎◌, inl, inr, ℕ, Bool, true, false, true≢false, List, [], ◌∷◌, Option, Some, None, option_map, Result, Ok, Err, ap, sym, subst, refl, ◌∙◌, is_some, if◌then◌else◌}
-use Rattle.std.specs.Prelude.{MatchBool}
+use Rattle.std.specs.Prelude.{IsTrue, IfErr, MatchBool}
 use Rattle.chk_bytes.specs.Numbers.{be64}
-use Rattle.chk_bytes.specs.Stems.{Stem}
+use Rattle.chk_bytes.specs.Stems.{Stem, is_stem}
 use Rattle.chk_site.specs.declared.acts.Role.TheVariants.{Collector}
 use Rattle.chk_site.specs.declared.acts.Who.{Who}
 use Rattle.chk_site.specs.declared.acts.Call.TheVariants.{Read}
 use Rattle.chk_site.specs.declared.acts.OutsideFault.{OutsideFault}
 use Rattle.chk_site.specs.declared.acts.ActAnswer.{ActAnswer}
-use Rattle.chk_site.specs.Acts.{Deed, Reads, Cuts}
-use Rattle.chk_site.proofs.Runs.{adds_then, adds_as, adds_none}
-use Rattle.chk_site.specs.History.{History}
-use Rattle.chk_site.specs.Site.{Adds, asked, bytes_given}
-use Rattle.chk_site.specs.Runs.{MadeInTurn}
+use Rattle.chk_site.specs.declared.acts.ActAnswer.TheVariants.{Done}
+use Rattle.chk_site.specs.Acts.{Deed, Creates, Appends, Syncs, Renames, Removes, Cuts, Reads, deed}
+use Rattle.chk_site.proofs.Runs.{adds_as}
+use Rattle.chk_site.specs.History.{History, Every}
+use Rattle.chk_site.specs.Site.{Adds, Asked, asked, bytes_given}
+use Rattle.chk_site.specs.Runs.{MadeInTurn, Owns}
 use Rattle.chk_replace.specs.Replace.{replacement}
-use Rattle.chk_world.specs.Names.{BornFile, spell}
-use Rattle.chk_world.specs.Works.{Works, unbegun, IsOneOf, fault_of, rests, works, ends, deed_of}
-use Rattle.chk_world.proofs.Working.{works_then, works_as, taken_works, call_ends, script_works}
+use Rattle.chk_world.specs.Names.{BornFile, MarkFile, read, spell}
+use Rattle.chk_world.proofs.NameLemmas.{read-spell}
+use Rattle.chk_world.specs.Works.{Works, Asks, unbegun, IsOneOf, fault_of, deed_of}
+use Rattle.chk_world.proofs.Working.{works_then, works_as, works_own, taken_works, call_ends, script_works}
 use Rattle.chk_sink.specs.declared.fault.SinkFault.{SinkFault}
-use Rattle.chk_sink.specs.declared.fault.SinkFault.TheVariants.{Outside, Damaged, Spent, NoMemory}
+use Rattle.chk_sink.specs.declared.fault.SinkFault.TheVariants.{Damaged, NoMemory}
 use Rattle.chk_sink.specs.Asking.{IsMarkNumber}
 use Rattle.chk_sink.specs.Closing.{publishing, closing}
 use Rattle.chk_sink.specs.Starting.{ReadsNumber, first_state}
 use Rattle.chk_sink.specs.States.{State, Writing, process, last_stem, next_stem, let_go, needs_next, without_full, all_marked, committed_state, settled_state}
-use Rattle.chk_sink.specs.Works.{IsAppendTo, IsMaking, OfPut, OfCommit, OfClose, OfSettling, OfLook, OfPublishing, OfStart, commit_calls, close_calls}
+use Rattle.chk_sink.specs.Works.{IsAppendTo, IsMaking, OfPut, OfCommit, OfClose, OfLeft, OfSettling, OfLook, OfPublishing, OfStart, commit_calls, close_calls}
+use Rattle.chk_sink.specs.Closes.{IsNoListing}
 use Rattle.chk_sink.proofs.Putting.{the_collector}
-use Rattle.chk_sink.specs.Damage.{damage_by, damage_in}
-use Rattle.chk_sink.proofs.JoinedCauses.{damage_behind}
-use Rattle.chk_sink.proofs.Causing.{harmless_shows}
+use Rattle.chk_sink.specs.Damage.{damage_by, damage_in, DamageCause}
+use Rattle.chk_sink.specs.Faults.{IsOutside}
+use Rattle.chk_sink.proofs.Showing.{damage, last, IsSilent, works_silent}
+use Rattle.chk_sink.proofs.JoinedCauses.{silent_cause}
 use Rattle.chk_sink.proofs.Owning.{Made, publishing_works, closing_works}
 
 -- the number of a mark, or its damage
@@ -36,8 +40,7 @@ pub number_works : {who : Who} {P : Deed → Type 0} (w bytes : List ℕ) (resul
 number_works w bytes (Ok n) is told = told
 number_works w bytes (Err (Damaged name at)) is told = told
 number_works w bytes (Err NoMemory) is told = works_then told unbegun
-number_works w bytes (Err (Outside call)) is told = absurd is
-number_works w bytes (Err (Spent born)) is told = absurd is
+number_works w bytes (Err fault) is told = absurd is
 
 -- ---- a commit and a close
 
@@ -47,8 +50,7 @@ pub commit_works : (s : State) (o : Writing) → s.current ≡ Some o → (who :
 commit_works s o some who who_is x x_is {made = made} {old = old} {new = new} script =
     subst (λ k. Works (process s) (IsOneOf (commit_calls s k)) (fault_of made) old new) (sym some)
     (publishing_works (process s) (last_stem s) o.size
-    (subst (λ y. MadeInTurn (publishing (process s) y o.size) made old new) x_is
-    (subst (λ k. MadeInTurn (publishing k x o.size) made old new) who_is script)))
+    (subst (λ qs. MadeInTurn qs made old new) (λ i. publishing (who_is i) (x_is i) o.size) script))
 
 pub close_works : (s mid : State) (o : Writing) → mid ≡ committed_state s → mid.current ≡ Some o → (who : Who) → who ≡ process mid
     → (x : Stem) → x ≡ last_stem mid → {made : Result (Unit {0}) OutsideFault} {old new : Option History} → MadeInTurn (closing who x) made old new
@@ -57,9 +59,7 @@ close_works s mid o mid_is some who who_is x x_is {made = made} {old = old} {new
     go s.current (sym (ap (λ (m : State). m.current) mid_is) ∙ some)
   where
     same : MadeInTurn (closing (process s) (last_stem s)) made old new
-    same =
-        subst (λ y. MadeInTurn (closing (process s) y) made old new) (x_is ∙ ap last_stem mid_is)
-        (subst (λ k. MadeInTurn (closing k x) made old new) (who_is ∙ ap process mid_is) script)
+    same = subst (λ qs. MadeInTurn qs made old new) ((λ i. closing (who_is i) (x_is i)) ∙ ap (λ m. closing (process m) (last_stem m)) mid_is) script
 
     go : (k : Option Writing) → option_map all_marked k ≡ Some o → Works (process s) (IsOneOf (close_calls s k)) (fault_of made) old new
     go None e = absurd (cc)
@@ -145,43 +145,104 @@ settle_starts who born rotate s {f = f} {old = old} {new = new} role is told =
 
 -- ---- what they show
 
--- no step shows damage where no allowed call can
-pub works_harmless : {who : Who} {P : Deed → Type 0} {f : Option OutsideFault} {old new : Option History}
-    → ((call : Deed) → P call → (answer : ActAnswer) → damage_by true call answer ≡ None) → Works who P f old new
-    → Adds old new (λ added history. damage_in added ≡ None)
-works_harmless none rests = adds_none _ (λ added history. damage_in added ≡ None) (λ h. refl)
-works_harmless none unbegun = adds_none _ (λ added history. damage_in added ≡ None) (λ h. refl)
-works_harmless none (works q given by may is told more) =
-    adds_then (λ added history. damage_in added ≡ None) told (works_harmless none more)
-    (λ a b h calls later. damage_behind b a (harmless_shows q (none (deed_of q) may) given calls) ∙ later)
-works_harmless none (ends q given by may is told) =
-    adds_as (λ added history. damage_in added ≡ None) told (λ a h calls. harmless_shows q (none (deed_of q) may) given calls)
+-- the call creates, appends, syncs, renames or removes
+abbrev pub writes : Deed → Bool
+writes (Creates w) = true
+writes (Appends w piece) = true
+writes (Syncs w) = true
+writes (Renames from to) = true
+writes (Removes w) = true
+writes call = false
 
--- the call doesn't read, and cuts nothing
-abbrev pub is_harmless : Deed → Bool
-is_harmless (Reads w at max) = false
-is_harmless (Cuts w n) = false
-is_harmless call = true
+-- such a call shows no damage, reads nothing, and lists nothing
+abbrev pub Writes : Deed → Type 0
+Writes call = writes call ≡ true
 
-harmless_by : (call : Deed) → is_harmless call ≡ true → (answer : ActAnswer) → damage_by true call answer ≡ None
-harmless_by (Reads w at max) e answer = absurd (true≢false (sym e))
-harmless_by (Cuts w n) e answer = absurd (true≢false (sym e))
-harmless_by call e answer = refl
+pub writes_silent : (call : Deed) → Writes call → IsSilent damage call
+writes_silent (Reads w at max) e answer = absurd (true≢false (sym e))
+writes_silent (Cuts w n) e answer = absurd (true≢false (sym e))
+writes_silent call e answer = refl
 
-append_harmless : (x : Stem) (call : Deed) → IsAppendTo x call → is_harmless call ≡ true
-append_harmless x (Reads w at max) is = absurd is
-append_harmless x (Cuts w n) is = absurd is
-append_harmless x call is = refl
+pub writes_cause : {T : Type 0} {who : Who} {P : Deed → Type 0} (result : Result T SinkFault) {old new : Option History}
+    → ((call : Deed) → P call → Writes call) → IfErr result IsOutside → Made who P result old new → Adds old new (DamageCause result)
+writes_cause result all only own = silent_cause result (λ call may. writes_silent call (all call may)) only own
 
-making_harmless : (x : Stem) (call : Deed) → IsMaking x call → is_harmless call ≡ true
-making_harmless x (Reads w at max) is = absurd is
-making_harmless x (Cuts w n) is = absurd is
-making_harmless x call is = refl
+pub writes_unread : (call : Deed) → Writes call → IsSilent last call
+writes_unread (Reads w at max) e answer = absurd (true≢false (sym e))
+writes_unread call e answer = refl
+
+none_listed : (who : Who) {P : Deed → Type 0} → ((call : Deed) → P call → Writes call) → (added history : History)
+    → Owns (Asks who P) added history → Every IsNoListing added history
+none_listed who all [] history own = tt
+none_listed who all (step ∷ added) history own = (
+  none_listed who all added history own.0,
+  λ folder mine lists. absurd (true≢false (sym (all (deed step.act) (own.1 mine).allowed) ∙ ap writes lists)),
+)
+
+pub writes_unlisted : {who : Who} {P : Deed → Type 0} {f : Option OutsideFault} {old new : Option History}
+    → ((call : Deed) → P call → Writes call) → Works who P f old new → Adds old new (Every IsNoListing)
+writes_unlisted {who = who} all own = adds_as (Every IsNoListing) (works_own own) (none_listed who all)
+
+-- the calls of a script
+abbrev AllWrite : List Asked → Type 0
+AllWrite [] = Unit {0}
+AllWrite (q ∷ qs) = Writes (deed_of q) × AllWrite qs
+
+one_writes : (qs : List Asked) → AllWrite qs → (call : Deed) → IsOneOf qs call → Writes call
+one_writes [] all call one = absurd one
+one_writes (q ∷ qs) all call (inl e) = subst Writes (sym e) all.0
+one_writes (q ∷ qs) all call (inr one) = one_writes qs all.1 call one
+
+pub replaced_writes : (who : Who) (w bytes : List ℕ) {result : Result (Unit {0}) OutsideFault} {old new : Option History}
+    → MadeInTurn (replacement who w bytes) result old new → Works who Writes (fault_of result) old new
+replaced_writes who w bytes script =
+    works_as Writes (one_writes (replacement who w bytes) (refl, (refl, (refl, (refl, (refl, tt))))))
+    (script_works who (replacement who w bytes) (refl, (refl, (refl, (refl, (refl, tt))))) script)
+
+pub commit_writes : (s : State) (call : Deed) → OfCommit s call → Writes call
+commit_writes s call = go s.current
+  where
+    go : (k : Option Writing) → IsOneOf (commit_calls s k) call → Writes call
+    go None one = absurd one
+    go (Some o) one =
+        one_writes (publishing (process s) (last_stem s) o.size) (refl, (refl, (refl, (refl, (refl, (refl, tt)))))) call one
+
+pub close_writes : (s : State) (call : Deed) → OfClose s call → Writes call
+close_writes s call (inl one) = commit_writes s call one
+close_writes s call (inr one) = go s.current one
+  where
+    go : (k : Option Writing) → IsOneOf (close_calls s k) call → Writes call
+    go None one = absurd one
+    go (Some o) one = one_writes (closing (process s) (last_stem s)) (refl, (refl, tt)) call one
+
+append_writes : (x : Stem) (call : Deed) → IsAppendTo x call → Writes call
+append_writes x (Appends w piece) is = refl
+append_writes x call is = absurd is
+
+making_writes : (x : Stem) (call : Deed) → IsMaking x call → Writes call
+making_writes x (Creates w) is = refl
+making_writes x (Appends w piece) is = refl
+making_writes x call is = absurd is
 
 -- a put shows no damage
 pub put_harmless : (s : State) (call : Deed) → OfPut s call → (answer : ActAnswer) → damage_by true call answer ≡ None
-put_harmless s call may = go (needs_next s.current) may
+put_harmless s call may = writes_silent call (go (needs_next s.current) may)
   where
-    go : (b : Bool) → MatchBool b (IsMaking (next_stem s) call) (IsAppendTo (last_stem s) call) → (answer : ActAnswer) → damage_by true call answer ≡ None
-    go true may = harmless_by call (making_harmless (next_stem s) call may)
-    go false may = harmless_by call (append_harmless (last_stem s) call may)
+    go : (b : Bool) → MatchBool b (IsMaking (next_stem s) call) (IsAppendTo (last_stem s) call) → Writes call
+    go true may = making_writes (next_stem s) call may
+    go false may = append_writes (last_stem s) call may
+
+pub works_harmless : {who : Who} {P : Deed → Type 0} {f : Option OutsideFault} {old new : Option History}
+    → ((call : Deed) → P call → (answer : ActAnswer) → damage_by true call answer ≡ None) → Works who P f old new
+    → Adds old new (λ added history. damage_in added ≡ None)
+works_harmless none own = works_silent damage none own
+
+-- a settling reads marks alone
+left_unread : (x : Stem) → IsTrue (is_stem x) → (call : Deed) → OfLeft x call → IsSilent last call
+left_unread x good (Reads w at max) is (Done (bytes ∷ words) number of) = rw (ap read is.0 ∙ read-spell (MarkFile x) good) refl
+left_unread x good (Reads w at max) is answer = refl
+left_unread x good call is answer = refl
+
+pub settling_unread : (s : State) (call : Deed) → OfSettling s call → IsSilent last call
+settling_unread s call (inl listing) = subst (IsSilent last) (sym listing) (λ answer. refl)
+settling_unread s call (inr left) = left_unread left.0 left.1.stem call left.2

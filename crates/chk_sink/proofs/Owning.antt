@@ -1,10 +1,12 @@
 -- Which calls the parts of the sinks make.
 use Rattle.std.proofs.Common.{◌≡◌, ℕ, List, Option, Some, None, Result, Ok, Err, ap, sym, subst, refl, ◌∙◌}
+use Rattle.std.specs.Prelude.{IsErrAnd}
+use Rattle.std.proofs.lemmas.Result.{err_from_is_err_and}
 use Rattle.chk_bytes.specs.Stems.{Stem}
 use Rattle.chk_site.specs.declared.acts.Who.{Who}
 use Rattle.chk_site.specs.declared.acts.Call.{Call}
 use Rattle.chk_site.specs.declared.acts.CallFault.{CallFault}
-use Rattle.chk_site.specs.declared.acts.CallFault.TheVariants.{Failed, Missing, Exists, Short, NoMemory as NoRoom}
+use Rattle.chk_site.specs.declared.acts.CallFault.TheVariants.{Failed, NoMemory as NoRoom}
 use Rattle.chk_site.specs.declared.acts.OutsideFault.{OutsideFault}
 use Rattle.chk_site.specs.declared.acts.OutsideFault.TheVariants.{Outside as site_failed, NoMemory as no_memory}
 use Rattle.chk_site.specs.declared.acts.ActAnswer.{ActAnswer}
@@ -24,6 +26,10 @@ use Rattle.chk_sink.specs.Faults.{FailsLast, ended_by, sink_fault, sink_result}
 use Rattle.chk_sink.specs.Closing.{publishing, closing}
 
 -- ---- what ended the work
+
+-- the refusal that a `?` hands on
+pub refused_by : {T E : Type 0} {result : Result T E} {fault : E} → IsErrAnd result (λ e. e ≡ fault) → result ≡ Err fault
+refused_by {result = result} told = let p = err_from_is_err_and result told in p.1 ∙ ap Err p.2
 
 -- the work of this process ended so
 abbrev pub Made : {T : Type 0} → Who → (Deed → Type 0) → Result T SinkFault → Option History → Option History → Type 0
@@ -103,18 +109,15 @@ tried_works {V = V} {P = P} {old = old} {new = new} q how given r is gives may t
     by : (given : Result V CallFault) → Adds old new (Calls q (answered how given)) → Works q.who P (given_fault q.call given) old new
     by (Ok value) told = call_works q how (Ok value) gives may tt told
     by (Err Failed) told = call_ends q how (Err Failed) (site_failed q.call) may refl told
-    by (Err Missing) told = call_works q how (Err Missing) gives may tt told
-    by (Err Exists) told = call_works q how (Err Exists) gives may tt told
-    by (Err (Short size)) told = call_works q how (Err (Short size)) gives may tt told
     by (Err NoRoom) told = call_ends q how (Err NoRoom) no_memory may refl told
+    by (Err fault) told = call_works q how (Err fault) gives may tt told
 
 -- it showed that a file is damaged
 pub damaged_works : (T : Type 0) {who : Who} {P : Deed → Type 0} (w : List ℕ) (fault : SinkFault) {old new : Option History} → IsDamageOf w fault
     → Works who P None old new → Made {T = T} who P (Err fault) old new
 damaged_works T w (Damaged name at) is told = told
 damaged_works T w NoMemory is told = works_then told unbegun
-damaged_works T w (Outside call) is told = absurd is
-damaged_works T w (Spent born) is told = absurd is
+damaged_works T w fault is told = absurd is
 
 -- the process is the sinks' own
 pub made_by : {f : Option OutsideFault} {who by : Who} {P : Deed → Type 0} {old new : Option History} → who ≡ by → Works who P f old new
@@ -138,6 +141,4 @@ pub fails_of : {T : Type 0} {who : Who} {P : Deed → Type 0} (result : Result T
     → Adds old new (FailsLast result)
 fails_of (Ok value) w = adds_as (FailsLast (Ok value)) (works_own w) (λ a h x. tt)
 fails_of {T = T} (Err (Outside call)) w = works_last T (site_failed call) w
-fails_of {T = T} (Err (Damaged name at)) w = adds_as (FailsLast {T = T} (Err (Damaged name at))) (works_own w) (λ a h x. tt)
-fails_of {T = T} (Err (Spent born)) w = adds_as (FailsLast {T = T} (Err (Spent born))) (works_own w) (λ a h x. tt)
-fails_of {T = T} (Err NoMemory) w = adds_as (FailsLast {T = T} (Err NoMemory)) (works_own w) (λ a h x. tt)
+fails_of {T = T} (Err fault) w = adds_as (FailsLast {T = T} (Err fault)) (works_own w) (λ a h x. tt)

@@ -1,14 +1,13 @@
 -- The parts of a put, over the sinks' state.
 use Rattle.std.proofs.Common.{◌≡◌, ◌⊎◌, inl, inr, ℕ, zero, suc, ◌+◌, ◌<◌, ◌≤◌, ◌==◌, Bool, true, false, List, [], ◌∷◌, ◌++◌, map, length, Option, Some, Result, Ok, Err, ap, sym, subst, ◌∙◌, refl, arith, append_assoc, append-nil, if◌then◌else◌}
 use Rattle.std.specs.Prelude.{IsTrue, MatchBool, Contains, slice_index_or}
-use Rattle.chk_bytes.specs.Stems.{is_stem, is_collector}
+use Rattle.chk_bytes.specs.Stems.{Stem, is_stem, is_collector}
 use Rattle.chk_site.specs.declared.acts.Role.TheVariants.{Collector}
 use Rattle.chk_site.specs.declared.acts.Who.{Who}
 use Rattle.chk_site.specs.declared.acts.Call.TheVariants.{Append}
-use Rattle.chk_site.specs.declared.acts.CallFault.{CallFault}
 use Rattle.chk_site.specs.declared.acts.OutsideFault.{OutsideFault}
 use Rattle.chk_site.specs.History.{History}
-use Rattle.chk_site.specs.Site.{Adds, asked, answered, plain, Calls, IsDone, Ends}
+use Rattle.chk_site.specs.Site.{Adds, Asked, asked}
 use Rattle.chk_site.specs.Runs.{Leads}
 use Rattle.chk_site.proofs.Leads.{leads_as}
 use Rattle.chk_seqfile.specs.Headers.{header}
@@ -19,9 +18,12 @@ use Rattle.chk_world.specs.Names.{SinkFile, spell}
 use Rattle.chk_world.specs.Collectors.{Handling, Appended, IsPosted, IsNextPiece, Tells, marker, with_appends}
 use Rattle.chk_world.specs.Places.{As}
 use Rattle.chk_sink.specs.declared.fault.SinkFault.{SinkFault}
-use Rattle.chk_sink.specs.States.{State, Writing, process, last_stem, with_current, given_up}
+use Rattle.chk_sink.specs.States.{State, Writing, process, last_stem, with_current, given_up, kept_where_done}
 use Rattle.chk_sink.specs.Held.{Handles, Ready}
 use Rattle.chk_sink.specs.Puts.{Wrote}
+use Rattle.chk_sink.specs.Calls.{MadeOnce}
+use Rattle.chk_sink.specs.Faults.{sink_result}
+use Rattle.chk_sink.proofs.Holding.{WasMade, HasEnded, was_made, has_ended, told_by, leads_by}
 use Rattle.chk_sink.proofs.Appending.{grown_writing, append_of, current_of, append_done, append_ends}
 
 -- a process that is a collector of this name
@@ -106,34 +108,25 @@ piece_of s o key value = piece_at (marker (last_stem s)) o.size o.sync_end key v
 pub put_done : (stamped : List (List ℕ)) (s : State) (o : Writing) (messages : List Handling) (c : Chunk) (key value : List ℕ)
     → IsTrue (is_collector s.collector) → s.current ≡ Some o → IsTrue (is_stem (last_stem s)) → 96 ≤ o.size
     → IsPosted messages c → IsKey c.key key → value ≡ c.value
-    → (w : List ℕ) → w ≡ spell (SinkFile (last_stem s)) → (given : Result (Unit {0}) CallFault) {old new : Option History} → IsDone given
-    → Adds old new (Calls (asked (process s) Append (w ∷ piece_of s o key value ∷ []) 0 0) (answered plain given))
+    → {old new : Option History} → WasMade (asked (process s) Append (spell (SinkFile (last_stem s)) ∷ piece_of s o key value ∷ []) 0 0) old new
     → Adds old new (Leads (As stamped (process s)) (Ready stamped s messages)
     (Wrote stamped (with_current s (Some (longer_writing o (piece_of s o key value)))) messages c
     (Ok (last_stem s, o.size + length (piece_of s o key value)))))
-put_done stamped s o messages c key value named some good begun posted is v w w_is given done told =
+put_done stamped s o messages c key value named some good begun posted is v m =
     let piece = piece_of s o key value in
-    leads_as (λ h x. x)
+    leads_by
     (λ h x. record {
-      legal = x.legal;
-      may_act = x.may_act;
-      alive = λ r. record {
-        appends = append_of s o piece ∷ [];
-        handles = subst (λ q. Handles (with_current s (Some q)) (map (with_appends (append_of s o piece ∷ [])) messages) h)
-            (longer_grown o piece begun) (x.alive r);
-        answer = record { earlier = []; last = append_of s o piece; is = refl; begins = tt; tells = entry_tells s o c key value is v };
-      };
+      appends = append_of s o piece ∷ [];
+      handles = subst (λ q. Handles (with_current s (Some q)) (map (with_appends (append_of s o piece ∷ [])) messages) h) (longer_grown o piece begun) x;
+      answer = record { earlier = []; last = append_of s o piece; is = refl; begins = tt; tells = entry_tells s o c key value is v };
     })
-    (append_done stamped s o messages named some good w w_is piece (entry_next messages s o c key value posted is v begun) given done told)
+    (append_done stamped s o messages named some good piece (entry_next messages s o c key value posted is v begun) m)
 
 -- nothing was called, or the call ended the work
 pub put_failed : (stamped : List (List ℕ)) (s : State) (messages : List Handling) (c : Chunk) (fault : SinkFault) (h : History)
     → Ready stamped s messages h → Wrote stamped s messages c (Err fault) h
-put_failed stamped s messages c fault h x = record {
-  legal = x.legal;
-  may_act = x.may_act;
-  alive = λ r. record { appends = []; handles = subst (λ ms. Handles s ms h) (sym (none messages)) (x.alive r); answer = tt };
-}
+put_failed stamped s messages c fault h x =
+    told_by h (λ handles. record { appends = []; handles = subst (λ ms. Handles s ms h) (sym (none messages)) handles; answer = tt }) x
   where
     none : (messages : List Handling) → map (with_appends []) messages ≡ messages
     none [] = refl
@@ -144,12 +137,46 @@ put_failed stamped s messages c fault h x = record {
 
 pub put_ended : (stamped : List (List ℕ)) (s : State) (o : Writing) (messages : List Handling) (c : Chunk) (key value : List ℕ)
     → IsTrue (is_collector s.collector) → s.current ≡ Some o → IsTrue (is_stem (last_stem s)) → 96 ≤ o.size
-    → IsPosted messages c → IsKey c.key key → value ≡ c.value
-    → (w : List ℕ) → w ≡ spell (SinkFile (last_stem s)) → (given : Result (Unit {0}) CallFault) (fault : OutsideFault) (told_as : SinkFault)
-    {old new : Option History} → Ends Append given fault
-    → Adds old new (Calls (asked (process s) Append (w ∷ piece_of s o key value ∷ []) 0 0) (answered plain given))
+    → IsPosted messages c → IsKey c.key key → value ≡ c.value → {fault : OutsideFault} (told_as : SinkFault) {old new : Option History}
+    → HasEnded (asked (process s) Append (spell (SinkFile (last_stem s)) ∷ piece_of s o key value ∷ []) 0 0) fault old new
     → Adds old new (Leads (As stamped (process s)) (Ready stamped s messages) (Wrote stamped (given_up s) messages c (Err told_as)))
-put_ended stamped s o messages c key value named some good begun posted is v w w_is given fault told_as ends told =
+put_ended stamped s o messages c key value named some good begun posted is v told_as m =
     leads_as (λ h x. x) (put_failed stamped (given_up s) messages c told_as)
-    (append_ends stamped s o messages named some good w w_is (piece_of s o key value) (entry_next messages s o c key value posted is v begun)
-    given fault ends told)
+    (append_ends stamped s o messages named some good (piece_of s o key value) (entry_next messages s o c key value posted is v begun) m)
+
+-- ---- the append of a put into the sink that is written to, over the sinks' fields
+
+module _ (stamped : List (List ℕ)) (s : State) (o : Writing) (messages : List Handling) (c : Chunk) (key value : List ℕ)
+    (named : IsTrue (is_collector s.collector)) (some : s.current ≡ Some o) (good : IsTrue (is_stem (last_stem s))) (begun : 96 ≤ o.size)
+    (posted : IsPosted messages c) (is : IsKey c.key key) (value_is : value ≡ c.value)
+    (who : Who) (who_is : who ≡ process s) (w piece : List ℕ) (w_is : w ≡ spell (SinkFile (last_stem s))) (piece_is : piece ≡ piece_of s o key value) where
+  abbrev Q : Asked
+  Q = asked who Append (w ∷ piece ∷ []) 0 0
+
+  abbrev Own : Asked
+  Own = asked (process s) Append (spell (SinkFile (last_stem s)) ∷ piece_of s o key value ∷ []) 0 0
+
+  own : Q ≡ Own
+  own = λ i. asked (who_is i) Append (w_is i ∷ piece_is i ∷ []) 0 0
+
+  -- the append was done, and the sink is as it is kept
+  pub kept_done : (made : Result (Unit {0}) OutsideFault) {old new : Option History} (u : Unit {0}) → sink_result made ≡ Ok u
+      → MadeOnce Q made old new → (st : State) (next : Writing) → st ≡ kept_where_done s next made → next ≡ longer_writing o (piece_of s o key value)
+      → (placed : Stem × ℕ) → placed ≡ (last_stem s, o.size + length (piece_of s o key value))
+      → Adds old new (Leads (As stamped (process s)) (Ready stamped s messages) (Wrote stamped st messages c (Ok placed)))
+  kept_done (Ok v) {old = old} {new = new} u e m st next st_is next_is placed placed_is =
+      rw (st_is, next_is, placed_is)
+      (put_done stamped s o messages c key value named some good begun posted is value_is
+      (was_made (Ok v) v refl (subst (λ q. MadeOnce q (Ok v) old new) own m)))
+  kept_done (Err f) u e m st next st_is next_is placed placed_is = absurd (cc)
+
+  -- it ended the work, and the sink is abandoned
+  pub kept_ended : (made : Result (Unit {0}) OutsideFault) {old new : Option History} (fault : SinkFault) → sink_result made ≡ Err fault
+      → MadeOnce Q made old new → (st : State) (next : Writing) → st ≡ kept_where_done s next made
+      → (told_as : SinkFault) (result : Result (Stem × ℕ) SinkFault) → result ≡ Err told_as
+      → Adds old new (Leads (As stamped (process s)) (Ready stamped s messages) (Wrote stamped st messages c result))
+  kept_ended (Ok v) fault e m st next st_is told_as result result_is = absurd (cc)
+  kept_ended (Err f) {old = old} {new = new} fault e m st next st_is told_as result result_is =
+      rw (st_is, result_is)
+      (put_ended stamped s o messages c key value named some good begun posted is value_is told_as
+      (has_ended (Err f) f refl (subst (λ q. MadeOnce q (Err f) old new) own m)))

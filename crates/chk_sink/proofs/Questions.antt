@@ -4,7 +4,7 @@ use Rattle.std.specs.Prelude.{IsTrue}
 use Rattle.std.proofs.lemmas.Bool.{and_right}
 use Rattle.chk_bytes.specs.Stems.{Stem, is_stem}
 use Rattle.chk_site.specs.declared.acts.ActAnswer.{ActAnswer}
-use Rattle.chk_site.specs.declared.acts.ActAnswer.TheVariants.{Done, Refused, Stopped, Rotated, Deleted}
+use Rattle.chk_site.specs.declared.acts.ActAnswer.TheVariants.{Stopped}
 use Rattle.chk_site.specs.Files.{Files}
 use Rattle.chk_site.specs.Acts.{Deed, AsksSize, Reads, deed, touches, tail_in}
 use Rattle.chk_site.specs.History.{Step, History, Modelled, files_after, is_by}
@@ -91,11 +91,8 @@ asks_gave (Reads w at max) t answer asks = refl
 asks_gave call t answer asks = absurd (asks)
 
 goes_tail : (answer : ActAnswer) (name : List ℕ) → GoesOn answer → tail_in answer name ≡ None
-goes_tail (Done words number of) name goes = refl
-goes_tail (Refused fault) name goes = refl
 goes_tail (Stopped left) name goes = absurd goes
-goes_tail (Rotated suffix) name goes = refl
-goes_tail (Deleted suffix) name goes = refl
+goes_tail answer name goes = refl
 
 module _ (s : State) (before : History) (step : Step) (by : step.act.who ≡ process s) (modelled : Modelled before step)
     (asks : Asks (deed step.act)) (goes : GoesOn step.act.answer) where

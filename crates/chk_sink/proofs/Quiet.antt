@@ -6,7 +6,7 @@ use Rattle.std.proofs.lemmas.Bool.{and_parts, not-true, or_from, or_parts}
 use Rattle.chk_bytes.specs.Stems.{Stem}
 use Rattle.chk_site.specs.declared.acts.Who.{Who}
 use Rattle.chk_site.specs.declared.acts.ActAnswer.{ActAnswer}
-use Rattle.chk_site.specs.declared.acts.ActAnswer.TheVariants.{Done, Refused, Stopped, Rotated, Deleted}
+use Rattle.chk_site.specs.declared.acts.ActAnswer.TheVariants.{Stopped}
 use Rattle.chk_site.specs.declared.lists.Left.{Left}
 use Rattle.chk_site.specs.Acts.{Deed, Creates, Appends, Syncs, Renames, Removes, Cuts, AsksSize, Reads, deed, touches, tail_of, tail_in}
 use Rattle.chk_site.specs.History.{Step, History, Modelled, files_after, is_by}
@@ -47,10 +47,7 @@ module _ (x : Stem) (n : Name) (known : IsTrue (is_known n)) (own : is_file_of x
 
   tail_none : (answer : ActAnswer) → stop_names_sink x answer ≡ false → tail_in answer (spell n) ≡ None
   tail_none (Stopped left) e = no_tail left e
-  tail_none (Done words number of) e = refl
-  tail_none (Refused fault) e = refl
-  tail_none (Rotated suffix) e = refl
-  tail_none (Deleted suffix) e = refl
+  tail_none answer e = refl
 
   changes_named : (call : Deed) → names_sink x call ≡ false → changes_sink x call ≡ false
   changes_named (AsksSize w) e = refl

@@ -6,9 +6,9 @@ use Rattle.chk_site.specs.History.{History}
 use Rattle.chk_site.specs.Site.{Adds}
 use Rattle.chk_site.specs.Runs.{Leads}
 use Rattle.chk_site.proofs.Leads.{leads_as}
-use Rattle.chk_world.specs.Places.{As, AtTold}
+use Rattle.chk_world.specs.Places.{As}
 use Rattle.chk_sink.specs.declared.fault.SinkFault.{SinkFault}
-use Rattle.chk_sink.specs.declared.fault.SinkFault.TheVariants.{Outside, Damaged, Spent, NoMemory}
+use Rattle.chk_sink.specs.declared.fault.SinkFault.TheVariants.{Damaged}
 use Rattle.chk_sink.specs.declared.current.Current.{Current}
 use Rattle.chk_sink.specs.declared.sinks.Sinks.TheInside.{Inside}
 use Rattle.chk_sink.specs.States.{State, process, last_stem, settled_state}
@@ -17,6 +17,7 @@ use Rattle.chk_sink.specs.Closes.{Settled}
 use Rattle.chk_sink.specs.SinkFields.{sinks_view, writing_of, IsSoundCurrent, IsSound}
 use Rattle.chk_sink.specs.Settling.{IsSettling, Found, HoldsBut, none_left}
 use Rattle.chk_sink.proofs.Fields.{seen_as}
+use Rattle.chk_sink.proofs.Holding.{leads_by}
 
 good_current : (x : Stem) (o : Option Current) → IsSoundCurrent x o → is_some (option_map writing_of o) ≡ true → IsTrue (is_stem x)
 good_current x None h some = absurd (cc)
@@ -49,26 +50,15 @@ module _ (stamped : List (List ℕ)) (s st : State) (result : Result (Unit {0}) 
       → Adds old new (Leads (As stamped (process s)) (Matches stamped s) (Found stamped s (λ v. HoldsBut s none_left) part))
       → Adds old new (Leads (As stamped (process s)) (Matches stamped s) (Settled stamped st result))
   settled_whole part value e f st_is told =
-      leads_as (λ h x. x)
-      (λ h x. subst (λ t. Settled stamped t result h) (sym st_is)
-      (subst (λ r. Settled stamped (settled_state s) r h) (sym f)
-      (as_settled h (subst (λ r. Found stamped s (λ v. HoldsBut s none_left) r h) e x)))) told
-    where
-      as_settled : (h : History) → AtTold stamped (process s) (HoldsBut s none_left) h → Matches stamped (settled_state s) h
-      as_settled h x = record { legal = x.legal; may_act = x.may_act; alive = λ r. all_tidy s h (x.alive r) }
+      rw (st_is, f) (leads_by (all_tidy s) (rw e at told))
 
   -- it was refused
   pub settled_refused : (part : Result (Unit {0}) SinkFault) (fault : SinkFault) {old new : Option History} → part ≡ Err fault → result ≡ Err fault
       → st ≡ s → Adds old new (Leads (As stamped (process s)) (Matches stamped s) (Found stamped s (λ v. HoldsBut s none_left) part))
       → Adds old new (Leads (As stamped (process s)) (Matches stamped s) (Settled stamped st result))
   settled_refused part fault e f st_is told =
-      leads_as (λ h x. x)
-      (λ h x. subst (λ t. Settled stamped t result h) (sym st_is)
-      (subst (λ r. Settled stamped s r h) (sym f)
-      (as_refused fault h (subst (λ r. Found stamped s (λ v. HoldsBut s none_left) r h) e x)))) told
+      rw (st_is, f) (leads_as (λ h x. x) (as_refused fault) (rw e at told))
     where
       as_refused : (fault : SinkFault) (h : History) → Found stamped s (λ (v : Unit {0}). HoldsBut s none_left) (Err fault) h → Settled stamped s (Err fault) h
-      as_refused (Outside call) h x = x
       as_refused (Damaged name at) h x = x
-      as_refused (Spent born) h x = x
-      as_refused NoMemory h x = x
+      as_refused fault h x = x

@@ -1,6 +1,6 @@
 -- What the calls of a start lead to.
-use Rattle.std.proofs.Common.{◌≡◌, ℕ, ◌+◌, ◌<◌, List, [], ◌∷◌, length, Option, Some, None, Result, Ok, Err, ap, sym, subst, ◌∙◌, refl, arith, if◌then◌else◌}
-use Rattle.std.specs.Prelude.{IsTrue}
+use Rattle.std.proofs.Common.{◌≡◌, inl, ℕ, ◌+◌, ◌<◌, List, [], ◌∷◌, Option, Some, None, Result, Ok, Err, ap, sym, subst, ◌∙◌, refl, arith, if◌then◌else◌}
+use Rattle.std.specs.Prelude.{IsTrue, IfOk}
 use Rattle.std.proofs.lemmas.Bool.{and_from}
 use Rattle.std.proofs.lemmas.Option.{same_Some}
 use Rattle.chk_bytes.specs.Numbers.{spelled, limit, be64}
@@ -8,16 +8,17 @@ use Rattle.chk_bytes.specs.Stems.{Stem, is_stem, is_collector}
 use Rattle.chk_site.specs.declared.acts.Role.TheVariants.{Collector}
 use Rattle.chk_site.specs.declared.acts.Who.{Who}
 use Rattle.chk_site.specs.declared.acts.Call.TheVariants.{Start, Read}
-use Rattle.chk_site.specs.declared.acts.CallFault.TheVariants.{Failed, Missing, Exists, Short, NoMemory}
+use Rattle.chk_site.specs.declared.acts.CallFault.TheVariants.{Failed}
 use Rattle.chk_site.specs.declared.acts.OutsideFault.{OutsideFault}
 use Rattle.chk_site.specs.declared.acts.OutsideFault.TheVariants.{Outside, NoMemory as no_memory}
 use Rattle.chk_site.specs.declared.acts.ActAnswer.{ActAnswer}
-use Rattle.chk_site.specs.declared.acts.ActAnswer.TheVariants.{Done, Refused, Stopped, Rotated, Deleted}
+use Rattle.chk_site.specs.declared.acts.ActAnswer.TheVariants.{Refused, Stopped}
 use Rattle.chk_site.specs.Files.{File}
 use Rattle.chk_site.specs.History.{History, files_after}
 use Rattle.chk_site.specs.Honest.{AtRead}
 use Rattle.chk_site.specs.Site.{Adds, Asked, asked, own_step, plain, bytes_given, WasDone, Took}
-use Rattle.chk_site.specs.Runs.{Leads, MadeInTurn}
+use Rattle.chk_site.specs.Runs.{HasStarted, Leads, MadeInTurn}
+use Rattle.chk_site.proofs.Runs.{adds_as, done_answer}
 use Rattle.chk_site.proofs.Leads.{Shows, leads_then, leads_as, ends_leads}
 use Rattle.chk_replace.specs.Replace.{replacement}
 use Rattle.chk_world.specs.Names.{BornFile, SinkFile, spell, file}
@@ -33,20 +34,15 @@ use Rattle.chk_world.proofs.ToldCalls.{MayCall, LeavesCall, goes_on_done, goes_o
 use Rattle.chk_world.proofs.CollectorCalls.{own_sight, collector_target, Unborn, NoneMade, Born, born_replaced}
 use Rattle.chk_sink.specs.Calls.{MadeOnce}
 use Rattle.chk_sink.specs.Faults.{sink_fault}
-use Rattle.chk_sink.proofs.NumberBytes.{read_whole, number_good}
+use Rattle.chk_sink.specs.declared.fault.SinkFault.{SinkFault}
+use Rattle.chk_sink.proofs.Holding.{told_by}
+use Rattle.chk_sink.proofs.Putting.{the_collector}
+use Rattle.chk_sink.proofs.NumberBytes.{read_whole, number_good, refused_done, missing_read}
 use Rattle.chk_sink.specs.Starting.{start_number, ReadsNumber, HasLooked, Looked, Published}
 
 took_done : (taken : Option (List ℕ)) (answer : ActAnswer) → Took bytes_given taken answer → WasDone answer
 took_done (Some bytes) answer took = subst WasDone (sym took) tt
-took_done None (Refused Failed) took = absurd took
-took_done None (Refused Missing) took = tt
-took_done None (Refused Exists) took = tt
-took_done None (Refused (Short size)) took = tt
-took_done None (Refused NoMemory) took = absurd took
-took_done None (Done words number of) took = absurd took
-took_done None (Stopped left) took = absurd took
-took_done None (Rotated suffix) took = absurd took
-took_done None (Deleted suffix) took = absurd took
+took_done None answer took = refused_done answer took
 
 -- what an honest read gives of the file is its number
 number_given : (taken : Option (List ℕ)) (answer : ActAnswer) (o : Option File) → Took bytes_given taken answer → AtRead answer 0 9 o
@@ -56,22 +52,18 @@ number_given (Some bytes) answer (Some f) took agrees sound =
     let at = subst (λ a. AtRead a 0 9 (Some f)) took agrees in
     let same : bytes ≡ f.bytes = read_whole bytes f at.1 sound.1 in
     ap (λ b. start_number (Some b)) same ∙ ap (λ b. if b then Some (spelled f.bytes) else None) (number_good 0 f.bytes sound.1 (omega arith) sound.2)
-number_given None (Refused Failed) o took agrees sound = absurd took
-number_given None (Refused Missing) o took agrees sound = rw agrees refl
-number_given None (Refused Exists) o took agrees sound = absurd agrees
-number_given None (Refused (Short size)) None took agrees sound = absurd agrees
-number_given None (Refused (Short size)) (Some f) took agrees sound = absurd (let h : length f.bytes < 0 = agrees.0 in omega (arith, h))
-number_given None (Refused NoMemory) o took agrees sound = absurd took
-number_given None (Done words number of) o took agrees sound = absurd took
-number_given None (Stopped left) o took agrees sound = absurd took
-number_given None (Rotated suffix) o took agrees sound = absurd took
-number_given None (Deleted suffix) o took agrees sound = absurd took
+number_given None answer o took agrees sound = rw (missing_read answer 9 o took agrees) refl
 
 -- after a call of the outside that ended the work the history is legal
 pub legal_published : (stamped : List (List ℕ)) (who : Who) (fault : OutsideFault) (h : History) → Legal stamped h
     → Published stamped who (Err (sink_fault fault)) h
 legal_published stamped who (Outside call) h legal = legal
 legal_published stamped who no_memory h legal = legal
+
+-- what the publishing of this number comes to
+abbrev pub published_as : ℕ → Result (Unit {0}) OutsideFault → Result ℕ SinkFault
+published_as born (Ok value) = Ok born
+published_as born (Err fault) = Err (sink_fault fault)
 
 module _ (stamped : List (List ℕ)) (c : List ℕ) (named : IsTrue (is_collector c)) where
   abbrev Me : Who
@@ -178,70 +170,50 @@ module _ (stamped : List (List ℕ)) (c : List ℕ) (named : IsTrue (is_collecto
 
     publishes : (last : ℕ) → last + 1 < limit → (result : Result (Unit {0}) OutsideFault) {old new : Option History}
         → MadeInTurn (replacement Me name (be64 (last + 1))) result old new
-        → Adds old new (Leads (As stamped Me) (AtTold stamped Me (HasLooked Me (Some last)))
-        (AtTold stamped Me (EndedAt Me (view Me) (SinkFile X) (BornFile c) NoneMade (Born (last + 1)) result)))
+        → Adds old new (Leads (As stamped Me) (AtTold stamped Me (HasLooked Me (Some last))) (Published stamped Me (published_as (last + 1) result)))
     publishes last small result script =
-        leads_as (λ h x. record { legal = x.legal; may_act = x.may_act; alive = λ r. looked_next last h (x.alive r) }) (λ h x. x)
+        leads_as (λ h x. told_by h (looked_next last h) x) (at_end result)
         (born_replaced stamped c (SinkFile X) target last small name name_is script)
-
-    published_me : (last : ℕ) → last + 1 < limit → (u : Unit {0}) {old new : Option History}
-        → MadeInTurn (replacement Me name (be64 (last + 1))) (Ok u) old new
-        → Adds old new (Leads (As stamped Me) (AtTold stamped Me (HasLooked Me (Some last))) (Published stamped Me (Ok (last + 1))))
-    published_me last small u script =
-        leads_as (λ h x. x)
-        (λ h x. record {
-          legal = x.legal;
-          may_act = x.may_act;
-          alive = λ r. record { born_is = (x.alive r).born; made = (x.alive r).made };
-        })
-        (publishes last small (Ok u) script)
-
-    unpublished_me : (last : ℕ) → last + 1 < limit → (fault : OutsideFault) {old new : Option History}
-        → MadeInTurn (replacement Me name (be64 (last + 1))) (Err fault) old new
-        → Adds old new (Leads (As stamped Me) (AtTold stamped Me (HasLooked Me (Some last))) (Published stamped Me (Err (sink_fault fault))))
-    unpublished_me last small fault script =
-        leads_as (λ h x. x) (λ h x. legal_published stamped Me fault h x.legal) (publishes last small (Err fault) script)
+      where
+        at_end : (result : Result (Unit {0}) OutsideFault) (h : History)
+            → AtTold stamped Me (EndedAt Me (view Me) (SinkFile X) (BornFile c) NoneMade (Born (last + 1)) result) h
+            → Published stamped Me (published_as (last + 1) result) h
+        at_end (Ok value) h x = told_by h (λ e. record { born_is = e.born; made = e.made }) x
+        at_end (Err fault) h x = legal_published stamped Me fault h x.legal
 
 -- ---- the same of a process that is a collector
 
-abbrev CollectorFact : (Who → Type 0) → Type 0
-CollectorFact F = (who : Who) → who.role ≡ Collector → IsTrue (is_collector who.name) → F who
-
-of_collector : (F : Who → Type 0) → ((c : List ℕ) → IsTrue (is_collector c) → F (record { role = Collector; name = c })) → CollectorFact F
-of_collector F each who role named = subst (λ r. F (record { role = r; name = who.name })) (sym role) (each who.name named)
-
-pub unbegun_told : (stamped : List (List ℕ)) (fault : OutsideFault) {old new : Option History}
-    → CollectorFact (λ who. MadeOnce (asked who Start [] 0 0) (Err fault) old new
-    → Adds old new (Leads (As stamped who) (Legal stamped) (Looked stamped who (Err fault))))
-unbegun_told stamped fault {old = old} {new = new} =
-    of_collector
-    (λ who. MadeOnce (asked who Start [] 0 0) (Err fault) old new
-    → Adds old new (Leads (As stamped who) (Legal stamped) (Looked stamped who (Err fault))))
-    (λ c named m. begin_ended stamped c named fault m)
+pub unbegun_told : (stamped : List (List ℕ)) (fault : OutsideFault) {old new : Option History} (who : Who) → who.role ≡ Collector
+    → IsTrue (is_collector who.name) → MadeOnce (asked who Start [] 0 0) (Err fault) old new
+    → Adds old new (Leads (As stamped who) (Legal stamped) (Looked stamped who (Err fault)))
+unbegun_told stamped fault who role named m =
+    let me = the_collector who who.name role refl in
+    rw me (begin_ended stamped who.name named fault (rw me at m))
 
 pub looked_told : (stamped : List (List ℕ)) (name : List ℕ) (u : Unit {0}) (result : Result (Option ℕ) OutsideFault) {old mid new : Option History}
-    → CollectorFact (λ who. name ≡ spell (BornFile who.name) → MadeOnce (asked who Start [] 0 0) (Ok u) old mid
-    → ReadsNumber who name result mid new → Adds old new (Leads (As stamped who) (Legal stamped) (Looked stamped who result)))
-looked_told stamped name u result {old = old} {mid = mid} {new = new} =
-    of_collector
-    (λ who. name ≡ spell (BornFile who.name) → MadeOnce (asked who Start [] 0 0) (Ok u) old mid
-    → ReadsNumber who name result mid new → Adds old new (Leads (As stamped who) (Legal stamped) (Looked stamped who result)))
-    (λ c named name_is m r. looked_me stamped c named name name_is u result m r)
+    (who : Who) → who.role ≡ Collector → IsTrue (is_collector who.name) → name ≡ spell (BornFile who.name)
+    → MadeOnce (asked who Start [] 0 0) (Ok u) old mid → ReadsNumber who name result mid new
+    → Adds old new (Leads (As stamped who) (Legal stamped) (Looked stamped who result))
+looked_told stamped name u result who role named name_is m r =
+    let me = the_collector who who.name role refl in
+    rw me (looked_me stamped who.name named name name_is u result (rw me at m) (rw me at r))
 
-pub published_told : (stamped : List (List ℕ)) (name : List ℕ) (last : ℕ) → last + 1 < limit → (u : Unit {0}) {old new : Option History}
-    → CollectorFact (λ who. name ≡ spell (BornFile who.name) → MadeInTurn (replacement who name (be64 (last + 1))) (Ok u) old new
-    → Adds old new (Leads (As stamped who) (AtTold stamped who (HasLooked who (Some last))) (Published stamped who (Ok (last + 1)))))
-published_told stamped name last small u {old = old} {new = new} =
-    of_collector
-    (λ who. name ≡ spell (BornFile who.name) → MadeInTurn (replacement who name (be64 (last + 1))) (Ok u) old new
-    → Adds old new (Leads (As stamped who) (AtTold stamped who (HasLooked who (Some last))) (Published stamped who (Ok (last + 1)))))
-    (λ c named name_is script. published_me stamped c named name name_is last small u script)
+pub published_told : (stamped : List (List ℕ)) (name : List ℕ) (last : ℕ) → last + 1 < limit → (result : Result (Unit {0}) OutsideFault)
+    {old new : Option History} (who : Who) → who.role ≡ Collector → IsTrue (is_collector who.name) → name ≡ spell (BornFile who.name)
+    → MadeInTurn (replacement who name (be64 (last + 1))) result old new
+    → Adds old new (Leads (As stamped who) (AtTold stamped who (HasLooked who (Some last))) (Published stamped who (published_as (last + 1) result)))
+published_told stamped name last small result who role named name_is script =
+    let me = the_collector who who.name role refl in
+    rw me (publishes stamped who.name named name name_is last small result (rw me at script))
 
-pub unpublished_told : (stamped : List (List ℕ)) (name : List ℕ) (last : ℕ) → last + 1 < limit → (fault : OutsideFault) {old new : Option History}
-    → CollectorFact (λ who. name ≡ spell (BornFile who.name) → MadeInTurn (replacement who name (be64 (last + 1))) (Err fault) old new
-    → Adds old new (Leads (As stamped who) (AtTold stamped who (HasLooked who (Some last))) (Published stamped who (Err (sink_fault fault)))))
-unpublished_told stamped name last small fault {old = old} {new = new} =
-    of_collector
-    (λ who. name ≡ spell (BornFile who.name) → MadeInTurn (replacement who name (be64 (last + 1))) (Err fault) old new
-    → Adds old new (Leads (As stamped who) (AtTold stamped who (HasLooked who (Some last))) (Published stamped who (Err (sink_fault fault)))))
-    (λ c named name_is script. unpublished_me stamped c named name name_is last small fault script)
+-- a start begins with the start of its process
+pub start_begun : (who : Who) {old new : Option History} → MadeOnce (asked who Start [] 0 0) (Ok tt) old new → Adds old new (HasStarted who)
+start_begun who m =
+    adds_as (HasStarted who) m.told
+    (λ added history calls.
+    let acted = (done_answer m.given m.came calls).2 in
+    subst (λ (a : History). HasStarted who a history) (sym acted.added_is) (inl (refl, refl)))
+
+pub if_ok : {T E : Type 0} (P : Type 0) (result : Result T E) → P → IfOk result (λ value. P)
+if_ok P (Ok value) p = p
+if_ok P (Err e) p = tt

@@ -19,6 +19,7 @@ use Rattle.chk_sink.specs.Held.{IsAsKept, Holds, Matches}
 use Rattle.chk_sink.specs.Closes.{IsCommitted, WasClosed, Committed, Closed, CloseHolds, Settled, TickHolds, Ticked}
 use Rattle.chk_sink.specs.Faults.{IsOutside}
 use Rattle.chk_sink.specs.Ticking.{seen_writing, seen_state}
+use Rattle.chk_sink.proofs.Holding.{told_by, leads_by}
 
 -- no sink is written to
 none_mapped : (o : Option Current) → is_some o ≡ false → option_map writing_of o ≡ None
@@ -40,16 +41,12 @@ pub none_ticks : (stamped : List (List ℕ)) (s : State) (now : Option History) 
     → Adds now now (Leads (As stamped (process s)) (Matches stamped s) (Ticked stamped s s (Ok tt)))
 none_ticks stamped s now none =
     leads_none now
-    (λ h x. record {
-      legal = x.legal;
-      may_act = x.may_act;
-      alive = λ r. record {
-        holds = x.alive r;
-        committed = subst (IsCommitted (last_stem s) (files_after h)) (sym none) tt;
-        closed = λ e. subst (λ o. WasClosed (last_stem s) o h) (sym none) tt;
-        sound = λ name at e. cc;
-      };
-    })
+    (λ h x. told_by h (λ holds. record {
+      holds = holds;
+      committed = subst (IsCommitted (last_stem s) (files_after h)) (sym none) tt;
+      closed = λ e. subst (λ o. WasClosed (last_stem s) o h) (sym none) tt;
+      sound = λ name at e. cc;
+    }) x)
 
 -- ---- the sink was committed, and is closed
 
@@ -68,12 +65,7 @@ pub unmarked_ticks : (stamped : List (List ℕ)) (s st : State) (fault : SinkFau
     → Adds old new (Leads (As stamped (process s)) (Matches stamped s) (Committed stamped st (Err fault)))
     → Adds old new (Leads (As stamped (process s)) (Matches stamped s) (Ticked stamped s st (Err fault)))
 unmarked_ticks stamped s st fault only commit =
-    leads_as (λ h x. x)
-    (λ h x. record {
-      legal = x.legal;
-      may_act = x.may_act;
-      alive = λ r. record { holds = (x.alive r).holds; committed = tt; closed = tt; sound = outside_sound fault only };
-    }) commit
+    leads_by (λ h x. record { holds = x.holds; committed = tt; closed = tt; sound = outside_sound fault only }) commit
 
 closed_holds : (s st : State) (result : Result (Unit {0}) SinkFault) (h : History) → IfErr result IsOutside → OnOk result (st ≡ with_current (committed_state s) None)
     → CloseHolds (committed_state s) st result h → TickHolds s st result h
@@ -95,21 +87,9 @@ pub close_ticks : (stamped : List (List ℕ)) (s mid st : State) (result : Resul
     → Adds old more (Leads (As stamped (process s)) (Matches stamped s) (Committed stamped mid (Ok tt)))
     → Adds more new (Leads (As stamped (process mid)) (Matches stamped mid) (Closed stamped mid st result))
     → Adds old new (Leads (As stamped (process s)) (Matches stamped s) (Ticked stamped s st result))
-close_ticks stamped s mid st result {old = old} {more = more} {new = new} mid_is only ok commit close =
-    subst Whole (sym mid_is) whole only ok commit close
-  where
-    Whole : State → Type 0
-    Whole mid = IfErr result IsOutside → OnOk result (st ≡ with_current mid None)
-        → Adds old more (Leads (As stamped (process s)) (Matches stamped s) (Committed stamped mid (Ok tt)))
-        → Adds more new (Leads (As stamped (process mid)) (Matches stamped mid) (Closed stamped mid st result))
-        → Adds old new (Leads (As stamped (process s)) (Matches stamped s) (Ticked stamped s st result))
-
-    whole : Whole (committed_state s)
-    whole only ok commit close =
-        leads_then
-        (leads_as (λ h x. x) (λ h x. record { legal = x.legal; may_act = x.may_act; alive = λ r. (x.alive r).holds }) commit)
-        (leads_as (λ h x. x)
-        (λ h x. record { legal = x.legal; may_act = x.may_act; alive = λ r. closed_holds s st result h only ok (x.alive r) }) close)
+close_ticks stamped s mid st result mid_is only ok commit close =
+    let done = rw mid_is at ok in
+    leads_then (leads_by (λ h x. x.holds) (rw mid_is at commit)) (leads_by (λ h x. closed_holds s st result h only done x) (rw mid_is at close))
 
 -- ---- the sink was committed, and is seen
 
@@ -144,33 +124,23 @@ none_before now x (Some o) h e = absurd (cc)
 pub see_ticks : (stamped : List (List ℕ)) (now : ℕ) (s mid st : State) {old new : Option History} → mid ≡ committed_state s → st ≡ seen_state now mid
     → Adds old new (Leads (As stamped (process s)) (Matches stamped s) (Committed stamped mid (Ok tt)))
     → Adds old new (Leads (As stamped (process s)) (Matches stamped s) (Ticked stamped s st (Ok tt)))
-see_ticks stamped now s mid st {old = old} {new = new} mid_is st_is commit =
-    subst (λ t. Adds old new (Leads (As stamped (process s)) (Matches stamped s) (Ticked stamped s t (Ok tt))))
-    (sym (st_is ∙ ap (seen_state now) mid_is))
-    (leads_as (λ h x. x)
-    (λ h x. record {
-      legal = x.legal;
-      may_act = x.may_act;
-      alive = λ r. record {
-        holds = seen_holds now (committed_state s) h (x.alive r).holds;
-        committed = committed_seen now (last_stem s) (files_after h) (committed_state s).current (x.alive r).committed;
-        closed = λ e. none_before now (last_stem s) s.current h e;
-        sound = λ name at e. cc;
-      };
+see_ticks stamped now s mid st mid_is st_is commit =
+    rw (st_is, mid_is)
+    (leads_by (λ h x. record {
+      holds = seen_holds now (committed_state s) h x.holds;
+      committed = committed_seen now (last_stem s) (files_after h) (committed_state s).current x.committed;
+      closed = λ e. none_before now (last_stem s) s.current h e;
+      sound = λ name at e. cc;
     })
-    (subst (λ t. Adds old new (Leads (As stamped (process s)) (Matches stamped s) (Committed stamped t (Ok tt)))) mid_is commit))
+    (rw mid_is at commit))
 
 -- ---- sinks are settled before
 
 unsettled_holds : (stamped : List (List ℕ)) (s st : State) (fault : SinkFault) (h : History) → st ≡ s → Settled stamped st (Err fault) h
     → Ticked stamped s st (Err fault) h
-unsettled_holds stamped s st (Damaged name at) h e x = record { legal = x.legal; may_act = x.may_act; alive = λ r. absurd (x.alive r) }
-unsettled_holds stamped s st (Outside call) h e x =
-    record { legal = x.legal; may_act = x.may_act; alive = λ r. record { holds = x.alive r; committed = tt; closed = tt; sound = λ name at e. cc } }
-unsettled_holds stamped s st (Spent born) h e x =
-    record { legal = x.legal; may_act = x.may_act; alive = λ r. record { holds = x.alive r; committed = tt; closed = tt; sound = λ name at e. cc } }
-unsettled_holds stamped s st NoMemory h e x =
-    record { legal = x.legal; may_act = x.may_act; alive = λ r. record { holds = x.alive r; committed = tt; closed = tt; sound = λ name at e. cc } }
+unsettled_holds stamped s st (Damaged name at) h e x = told_by h (λ never. absurd never) x
+unsettled_holds stamped s st fault h e x =
+    told_by h (λ holds. record { holds = holds; committed = tt; closed = tt; sound = λ name at e. cc }) x
 
 pub unsettled_ticks : (stamped : List (List ℕ)) (s st : State) (fault : SinkFault) {old new : Option History} → st ≡ s
     → Adds old new (Leads (As stamped (process s)) (Matches stamped s) (Settled stamped st (Err fault)))
@@ -181,18 +151,6 @@ pub settle_ticks : (stamped : List (List ℕ)) (s mid st : State) (result : Resu
     → Adds old more (Leads (As stamped (process s)) (Matches stamped s) (Matches stamped mid))
     → Adds more new (Leads (As stamped (process mid)) (Matches stamped mid) (Ticked stamped mid st result))
     → Adds old new (Leads (As stamped (process s)) (Matches stamped s) (Ticked stamped s st result))
-settle_ticks stamped s mid st result {old = old} {more = more} {new = new} mid_is settle tick =
-    leads_then
-    (subst (λ t. Adds old more (Leads (As stamped (process s)) (Matches stamped s) (Matches stamped t))) mid_is settle)
-    (leads_as (λ h x. x)
-    (λ h x. record {
-      legal = x.legal;
-      may_act = x.may_act;
-      alive = λ r. record {
-        holds = (x.alive r).holds;
-        committed = (x.alive r).committed;
-        closed = (x.alive r).closed;
-        sound = (x.alive r).sound;
-      };
-    })
-    (subst (λ t. Adds more new (Leads (As stamped (process t)) (Matches stamped t) (Ticked stamped t st result))) mid_is tick))
+settle_ticks stamped s mid st result mid_is settle tick =
+    leads_then (rw mid_is at settle)
+    (leads_by (λ h x. record { holds = x.holds; committed = x.committed; closed = x.closed; sound = x.sound }) (rw mid_is at tick))

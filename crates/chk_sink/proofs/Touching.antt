@@ -17,7 +17,7 @@ use Rattle.chk_world.proofs.CollectorCalls.{own_sight}
 use Rattle.chk_sink.specs.States.{State, Writing, process, last_stem}
 use Rattle.chk_sink.specs.Held.{IsAsKept, IsOther, Holds}
 use Rattle.chk_sink.specs.Settling.{HoldsAt}
-use Rattle.chk_sink.proofs.Holding.{HasStem, absent_as}
+use Rattle.chk_sink.proofs.Holding.{HasStem, both_absent}
 
 -- which test finds two stems apart
 pub apart_back : (a b : Stem) → same_stem a b ≡ false → same_stem b a ≡ false
@@ -28,12 +28,12 @@ apart_back a b e = go (same_stem b a) refl
     go true p = absurd (true≢false (sym (stem_self a) ∙ (ap (same_stem a) (sym (stem_same b a p)) ∙ e)))
 
 -- a call on the left sink, its mark, or its done sink
-pub data OnLeft (x : Stem) (call : Deed) : Type 0 where
-  reads_mark : (w : List ℕ) (at max : ℕ) → call ≡ Reads w at max → OnLeft x call
-  drops_sink : (w : List ℕ) → call ≡ Removes w → read w ≡ SinkFile x → OnLeft x call
-  drops_mark : (w : List ℕ) → call ≡ Removes w → read w ≡ MarkFile x → OnLeft x call
-  cuts_sink : (w : List ℕ) (n : ℕ) → call ≡ Cuts w n → read w ≡ SinkFile x → OnLeft x call
-  closes : (old new : List ℕ) → call ≡ Renames old new → read old ≡ SinkFile x → read new ≡ DoneFile x → OnLeft x call
+pub data OnLeft (x : Stem) : Deed → Type 0 where
+  reads_mark : (w : List ℕ) (at max : ℕ) → OnLeft x (Reads w at max)
+  drops_sink : (w : List ℕ) → read w ≡ SinkFile x → OnLeft x (Removes w)
+  drops_mark : (w : List ℕ) → read w ≡ MarkFile x → OnLeft x (Removes w)
+  cuts_sink : (w : List ℕ) (n : ℕ) → read w ≡ SinkFile x → OnLeft x (Cuts w n)
+  closes : (old new : List ℕ) → read old ≡ SinkFile x → read new ≡ DoneFile x → OnLeft x (Renames old new)
 
 -- it leaves the collector's view, but that the left sink can't be its current one any more
 pub record Spares (x : Stem) (v w : View) : Type 0 where
@@ -47,21 +47,11 @@ still_apart false x cur e = rw (e) refl
 
 module _ (x : Stem) (before after : Files) (v : View) (answer : ActAnswer) where
   spares : (call : Deed) → OnLeft x call → Spares x v (own_view before after v call answer)
-  spares call (reads_mark w at max is) =
-      subst (λ c. Spares x v (own_view before after v c answer)) (sym is)
-      (record { born = refl; made = refl; current = λ cur e h. h })
-  spares call (drops_sink w is reads) =
-      subst (λ c. Spares x v (own_view before after v c answer)) (sym is)
-      (record { born = refl; made = refl; current = λ cur e h. rw reads h })
-  spares call (drops_mark w is reads) =
-      subst (λ c. Spares x v (own_view before after v c answer)) (sym is)
-      (record { born = refl; made = refl; current = λ cur e h. rw reads h })
-  spares call (cuts_sink w n is reads) =
-      subst (λ c. Spares x v (own_view before after v c answer)) (sym is)
-      (record { born = refl; made = refl; current = λ cur e h. rw (reads, h) (still_apart false x cur e) })
-  spares call (closes old new is reads reads_new) =
-      subst (λ c. Spares x v (own_view before after v c answer)) (sym is)
-      (record { born = rw reads_new refl; made = refl; current = λ cur e h. rw reads_new h })
+  spares call (reads_mark w at max) = record { born = refl; made = refl; current = λ cur e h. h }
+  spares call (drops_sink w reads) = record { born = refl; made = refl; current = λ cur e h. rw reads h }
+  spares call (drops_mark w reads) = record { born = refl; made = refl; current = λ cur e h. rw reads h }
+  spares call (cuts_sink w n reads) = record { born = refl; made = refl; current = λ cur e h. rw (reads, h) (still_apart false x cur e) }
+  spares call (closes old new reads reads_new) = record { born = rw reads_new refl; made = refl; current = λ cur e h. rw reads_new h }
 
 -- a file of another stem
 abbrev pub IsBeside : Stem → Name → Type 0
@@ -91,24 +81,20 @@ moved_beside files n old new (Some f) p q = rw (p, q) refl
 
 module _ (x : Stem) (n : Name) (beside : IsBeside x n) (files : Name → Option File) where
   leaves_beside : (call : Deed) → OnLeft x call → applied (named (change_of call)) files n ≡ files n
-  leaves_beside call (reads_mark w at max is) = subst (λ c. applied (named (change_of c)) files n ≡ files n) (sym is) refl
-  leaves_beside call (drops_sink w is reads) =
-      subst (λ c. applied (named (change_of c)) files n ≡ files n) (sym is) (rw (reads, beside_sink x n beside) refl)
-  leaves_beside call (drops_mark w is reads) =
-      subst (λ c. applied (named (change_of c)) files n ≡ files n) (sym is) (rw (reads, beside_mark x n beside) refl)
-  leaves_beside call (cuts_sink w k is reads) =
-      subst (λ c. applied (named (change_of c)) files n ≡ files n) (sym is) (rw (reads, beside_sink x n beside) refl)
-  leaves_beside call (closes old new is reads reads_new) =
-      subst (λ c. applied (named (change_of c)) files n ≡ files n) (sym is)
-      (moved_beside files n (read old) (read new) (files (read old)) (ap (same_name n) reads ∙ beside_sink x n beside)
-      (ap (same_name n) reads_new ∙ beside_done x n beside))
+  leaves_beside call (reads_mark w at max) = refl
+  leaves_beside call (drops_sink w reads) = rw (reads, beside_sink x n beside) refl
+  leaves_beside call (drops_mark w reads) = rw (reads, beside_mark x n beside) refl
+  leaves_beside call (cuts_sink w k reads) = rw (reads, beside_sink x n beside) refl
+  leaves_beside call (closes old new reads reads_new) =
+      moved_beside files n (read old) (read new) (files (read old)) (ap (same_name n) reads ∙ beside_sink x n beside)
+      (ap (same_name n) reads_new ∙ beside_done x n beside)
 
 no_append : (x : Stem) (call : Deed) → OnLeft x call → (w piece : List ℕ) → call ≡ Appends w piece → ⊥
-no_append x call (reads_mark v at max is) w piece e = cc
-no_append x call (drops_sink v is reads) w piece e = cc
-no_append x call (drops_mark v is reads) w piece e = cc
-no_append x call (cuts_sink v n is reads) w piece e = cc
-no_append x call (closes old new is reads reads_new) w piece e = cc
+no_append x call (reads_mark v at max) w piece e = cc
+no_append x call (drops_sink v reads) w piece e = cc
+no_append x call (drops_mark v reads) w piece e = cc
+no_append x call (cuts_sink v n reads) w piece e = cc
+no_append x call (closes old new reads reads_new) w piece e = cc
 
 -- the step leaves the files of other stems, whatever it answers but a stop
 pub file_beside : (x : Stem) (before : History) (step : Step) (n : Name) → Honest before step → GoesOn step.act.answer
@@ -169,10 +155,6 @@ module _ (s : State) (x : Stem) (good : HasStem s) (other : IsOther s x) (abando
       → Q (file step.files (SinkFile x)) (file step.files (MarkFile x)) → HoldsAt s may x Q (step ∷ before)
   at_on may P Q h there = record {
     holds = holds_on h.holds;
-    others = λ y o m e.
-        let was = h.others y o m e in (
-          absent_as _ _ (sinks y o.stem e) was.0,
-          absent_as _ _ (marks y o.stem e) was.1,
-        );
+    others = λ y o m e. both_absent (sinks y o.stem e) (marks y o.stem e) (h.others y o m e);
     there = there;
   }

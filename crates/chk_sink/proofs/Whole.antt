@@ -13,13 +13,12 @@ use Rattle.chk_world.specs.Collectors.{Handling}
 use Rattle.chk_world.specs.Places.{As}
 use Rattle.chk_sink.specs.States.{State, process, let_go, needs_next, without_full}
 use Rattle.chk_sink.specs.Held.{Ready}
-use Rattle.chk_sink.proofs.Holding.{let_go_handles}
+use Rattle.chk_sink.proofs.Holding.{told_by, let_go_handles}
 
 -- a sink that is written to is let go of
 pub let_go_ready : (stamped : List (List ℕ)) (s : State) (messages : List Handling) (h : History) → Ready stamped s messages h
     → Ready stamped (let_go s) messages h
-let_go_ready stamped s messages h x =
-    record { legal = x.legal; may_act = x.may_act; alive = λ r. let_go_handles s messages h (x.alive r) }
+let_go_ready stamped s messages h x = told_by h (let_go_handles s messages h) x
 
 -- what is put once a full sink was let go of
 pub after_full : (stamped : List (List ℕ)) (s mid : State) (messages : List Handling) (After : History → Type 0) {old new : Option History}

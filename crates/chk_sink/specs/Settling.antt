@@ -6,7 +6,7 @@ use Rattle.chk_bytes.specs.Stems.{Stem, is_stem, is_collector, same_stem, read_s
 use Rattle.chk_bytes.specs.Words.{before_end}
 use Rattle.chk_site.specs.declared.acts.Who.{Who}
 use Rattle.chk_site.specs.Files.{File, Files}
-use Rattle.chk_site.specs.History.{History, Every, files_after}
+use Rattle.chk_site.specs.History.{History, files_after}
 use Rattle.chk_world.specs.Names.{SinkFile, MarkFile, file}
 use Rattle.chk_world.specs.Committed.{HasFile, IsAbsent}
 use Rattle.chk_world.specs.Collectors.{IsCommitted}
@@ -15,8 +15,6 @@ use Rattle.chk_sink.specs.declared.fault.SinkFault.{SinkFault}
 use Rattle.chk_sink.specs.declared.fault.SinkFault.TheVariants.{Damaged}
 use Rattle.chk_sink.specs.States.{State, process, last_stem}
 use Rattle.chk_sink.specs.Held.{IsOther, Holds, Matches}
-use Rattle.chk_sink.specs.Damage.{DamageCause}
-use Rattle.chk_sink.specs.Starting.{IsNoLastRead}
 
 -- the process writes these sinks, of which some may have been left under writing
 pub record IsSettling (s : State) (who : Who) : Type 0 where
@@ -122,8 +120,3 @@ abbrev pub Found : {T : Type 0} → List (List ℕ) → State → (T → History
 Found stamped s P (Ok value) history = AtTold stamped (process s) (P value) history
 Found stamped s P (Err (Damaged name at)) history = AtTold stamped (process s) (λ front. ⊥) history
 Found stamped s P (Err fault) history = Matches stamped s history
-
--- the result is one by its own acts: a file is damaged where one showed it, and none reads the last number of starts
-pub record IsCaused {T : Type 0} (result : Result T SinkFault) (added history : History) : Type 0 where
-  pub damaged : DamageCause result added history
-  pub unread : Every IsNoLastRead added history

@@ -4,8 +4,7 @@ use Rattle.chk_site.specs.declared.acts.Who.{Who}
 use Rattle.chk_site.specs.declared.acts.Call.TheVariants.{Read}
 use Rattle.chk_site.specs.declared.acts.CallFault.{CallFault}
 use Rattle.chk_site.specs.declared.acts.OutsideFault.{OutsideFault}
-use Rattle.chk_site.specs.Acts.{deed}
-use Rattle.chk_site.specs.History.{Step, History, Every, files_after}
+use Rattle.chk_site.specs.History.{History, Every, files_after}
 use Rattle.chk_site.specs.Site.{Adds, asked, answered, bytes_given, Calls, Ends, IsTaken}
 use Rattle.chk_world.specs.Names.{BornFile, file}
 use Rattle.chk_world.specs.Committed.{number_in}
@@ -15,7 +14,7 @@ use Rattle.chk_world.specs.Places.{AtTold}
 use Rattle.chk_sink.specs.declared.fault.SinkFault.{SinkFault}
 use Rattle.chk_sink.specs.declared.fault.SinkFault.TheVariants.{Damaged, Spent}
 use Rattle.chk_sink.specs.States.{State, last_number}
-use Rattle.chk_sink.specs.Damage.{number_from, damage_in, reads_last, has_read_last, IsLookOnly}
+use Rattle.chk_sink.specs.Damage.{number_from, damage_in, has_read_last, IsLookOnly}
 
 -- the number of the collector's last start, by what was read of its file; 0 where that isn't there
 abbrev pub start_number : Option (List ℕ) → Option ℕ
@@ -85,7 +84,3 @@ first_state who born rotate = record {
   current = None;
   abandoned = true;
 }
-
--- the step is no read of the last number of starts by the site's own process
-abbrev pub IsNoLastRead : History → Step → Type 0
-IsNoLastRead before step = reads_last step.own (deed step.act) step.act.answer ≡ false

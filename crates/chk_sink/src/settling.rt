@@ -13,7 +13,8 @@ ghost use Rattle.chk_sink.specs.Works.{IsListing, OfLeft, OfSettling};
 ghost use Rattle.chk_sink.specs.States.{State, process};
 ghost use Rattle.chk_sink.specs.Held.{IsOther, Matches};
 ghost use Rattle.chk_sink.specs.Closes.{IsOfTick};
-ghost use Rattle.chk_sink.specs.Settling.{IsSettling, IsCaused, kept_stem, left_in, is_same, chosen, left_of, none_left, HoldsBut, HoldsAt, AnyFiles, NoMark, MarkedBy, CutAt, NoSink, BothGone, MarkFound, CutFound, Found};
+ghost use Rattle.chk_sink.specs.Damage.{DamageCause};
+ghost use Rattle.chk_sink.specs.Settling.{IsSettling, kept_stem, left_in, is_same, chosen, left_of, none_left, HoldsBut, HoldsAt, AnyFiles, NoMark, MarkedBy, CutAt, NoSink, BothGone, MarkFound, CutFound, Found};
 
 use crate::numbers::{LEAST_MARK, damaged, number_from};
 use crate::{SinkFault, names};
@@ -34,7 +35,7 @@ pub(crate) fn settle_left<S: Site>(
     ensures own { (s : State) → IsSettling s who.now → kept.now ≡ kept_stem s
         → Works who.now (OfSettling s) (ended_by result) (S.told site.old) (S.told site.new) }
     ensures only { IfErr result IsOfTick }
-    ensures caused { Adds (S.told site.old) (S.told site.new) (IsCaused result) }
+    ensures damaged { Adds (S.told site.old) (S.told site.new) (DamageCause result) }
     ensures cause { SinkCause (S.fault_count site.old) (S.fault_count site.new) result }
 {
     let names = list_sinks(alloc, site, who)?;
@@ -48,7 +49,7 @@ fn list_sinks<S: Site>(alloc: Global, site: &mut S, who: &Who) -> Result<Vec<Wor
         (Matches stamped s) (Found stamped s (λ names. HoldsBut s (left_of names.items None)) result)) }
     ensures own { Works who.now IsListing (ended_by result) (S.told site.old) (S.told site.new) }
     ensures only { IfErr result IsOfTick }
-    ensures caused { Adds (S.told site.old) (S.told site.new) (IsCaused result) }
+    ensures damaged { Adds (S.told site.old) (S.told site.new) (DamageCause result) }
     ensures cause { SinkCause (S.fault_count site.old) (S.fault_count site.new) result }
 {
     match site.list(alloc, who, "sinks") {
@@ -74,7 +75,7 @@ fn settle_listed<S: Site>(
     ensures own { (s : State) → IsSettling s who.now → kept.now ≡ kept_stem s
         → Works who.now (OfSettling s) (ended_by result) (S.told site.old) (S.told site.new) }
     ensures only { IfErr result IsOfTick }
-    ensures caused { Adds (S.told site.old) (S.told site.new) (IsCaused result) }
+    ensures damaged { Adds (S.told site.old) (S.told site.new) (DamageCause result) }
     ensures cause { SinkCause (S.fault_count site.old) (S.fault_count site.new) result }
 {
     let mut last = None;
@@ -100,7 +101,7 @@ fn settle_named<S: Site>(
     ensures own { (s : State) → IsSettling s who.now → kept.now ≡ kept_stem s
         → Works who.now (OfSettling s) (ended_by result) (S.told site.old) (S.told site.new) }
     ensures only { IfErr result IsOfTick }
-    ensures caused { Adds (S.told site.old) (S.told site.new) (IsCaused result) }
+    ensures damaged { Adds (S.told site.old) (S.told site.new) (DamageCause result) }
     ensures cause { SinkCause (S.fault_count site.old) (S.fault_count site.new) result }
 {
     let Some(stem) = to_settle(who, kept, last, name) else {
@@ -161,7 +162,7 @@ fn settle_stem<S: Site>(alloc: Global, site: &mut S, who: &Who, stem: Stem) -> R
         (Found stamped s (λ _. HoldsAt s may stem BothGone) result)) }
     ensures own { Works who.now (OfLeft stem) (ended_by result) (S.told site.old) (S.told site.new) }
     ensures only { IfErr result IsOfTick }
-    ensures caused { Adds (S.told site.old) (S.told site.new) (IsCaused result) }
+    ensures damaged { Adds (S.told site.old) (S.told site.new) (DamageCause result) }
     ensures cause { SinkCause (S.fault_count site.old) (S.fault_count site.new) result }
 {
     let sink = names::sink(alloc, &stem)?;
@@ -199,7 +200,7 @@ fn close_at<S: Site>(
         (Found stamped s (λ _. HoldsAt s may stem.now BothGone) result)) }
     ensures own { Works who.now (OfLeft stem.now) (ended_by result) (S.told site.old) (S.told site.new) }
     ensures only { IfErr result IsOfTick }
-    ensures caused { Adds (S.told site.old) (S.told site.new) (IsCaused result) }
+    ensures damaged { Adds (S.told site.old) (S.told site.new) (DamageCause result) }
     ensures cause { SinkCause (S.fault_count site.old) (S.fault_count site.new) result }
 {
     if cut_to(alloc, site, who, sink, mark, length)? {
@@ -227,7 +228,7 @@ fn close_cut<S: Site>(
         (Found stamped s (λ _. HoldsAt s may stem.now BothGone) result)) }
     ensures own { Works who.now (OfLeft stem.now) (ended_by result) (S.told site.old) (S.told site.new) }
     ensures only { IfErr result IsOfTick }
-    ensures caused { Adds (S.told site.old) (S.told site.new) (IsCaused result) }
+    ensures damaged { Adds (S.told site.old) (S.told site.new) (DamageCause result) }
     ensures cause { SinkCause (S.fault_count site.old) (S.fault_count site.new) result }
 {
     let closed = names::closed(alloc, stem)?;
@@ -249,8 +250,8 @@ fn read_mark<S: Site>(
     ensures own { (x : Parts) → mark.now ≡ spell (MarkFile x)
         → Works who.now (OfLeft x) (ended_by result) (S.told site.old) (S.told site.new) }
     ensures only { IfErr result IsOfTick }
-    ensures caused { (x : Parts) → IsTrue (is_stem x) → mark.now ≡ spell (MarkFile x)
-        → Adds (S.told site.old) (S.told site.new) (IsCaused result) }
+    ensures damaged { (x : Parts) → IsTrue (is_stem x) → mark.now ≡ spell (MarkFile x)
+        → Adds (S.told site.old) (S.told site.new) (DamageCause result) }
     ensures cause { SinkCause (S.fault_count site.old) (S.fault_count site.new) result }
 {
     let read = site.read(alloc, who, mark, 0, 9);
@@ -279,8 +280,8 @@ fn cut_to<S: Site>(
     ensures own { (x : Parts) → sink.now ≡ spell (SinkFile x)
         → Works who.now (OfLeft x) (ended_by result) (S.told site.old) (S.told site.new) }
     ensures only { IfErr result IsOfTick }
-    ensures caused { (x : Parts) → IsTrue (is_stem x) → sink.now ≡ spell (SinkFile x) → mark.now ≡ spell (MarkFile x)
-        → Adds (S.told site.old) (S.told site.new) (IsCaused result) }
+    ensures damaged { (x : Parts) → IsTrue (is_stem x) → sink.now ≡ spell (SinkFile x) → mark.now ≡ spell (MarkFile x)
+        → Adds (S.told site.old) (S.told site.new) (DamageCause result) }
     ensures cause { SinkCause (S.fault_count site.old) (S.fault_count site.new) result }
 {
     match site.cut(alloc, who, sink, length) {
@@ -309,7 +310,7 @@ fn rename_closed<S: Site>(
     ensures own { (x : Parts) → sink.now ≡ spell (SinkFile x) → closed.now ≡ spell (DoneFile x)
         → Works who.now (OfLeft x) (ended_by result) (S.told site.old) (S.told site.new) }
     ensures only { IfErr result IsOfTick }
-    ensures caused { Adds (S.told site.old) (S.told site.new) (IsCaused result) }
+    ensures damaged { Adds (S.told site.old) (S.told site.new) (DamageCause result) }
     ensures cause { SinkCause (S.fault_count site.old) (S.fault_count site.new) result }
 {
     let renamed = site.rename(alloc, who, sink, closed);
@@ -326,7 +327,7 @@ fn remove_sink<S: Site>(alloc: Global, site: &mut S, who: &Who, sink: &str) -> R
     ensures own { (x : Parts) → sink.now ≡ spell (SinkFile x)
         → Works who.now (OfLeft x) (ended_by result) (S.told site.old) (S.told site.new) }
     ensures only { IfErr result IsOfTick }
-    ensures caused { Adds (S.told site.old) (S.told site.new) (IsCaused result) }
+    ensures damaged { Adds (S.told site.old) (S.told site.new) (DamageCause result) }
     ensures cause { SinkCause (S.fault_count site.old) (S.fault_count site.new) result }
 {
     let removed = site.remove(alloc, who, sink);
@@ -343,7 +344,7 @@ fn remove_mark<S: Site>(alloc: Global, site: &mut S, who: &Who, mark: &str) -> R
     ensures own { (x : Parts) → mark.now ≡ spell (MarkFile x)
         → Works who.now (OfLeft x) (ended_by result) (S.told site.old) (S.told site.new) }
     ensures only { IfErr result IsOfTick }
-    ensures caused { Adds (S.told site.old) (S.told site.new) (IsCaused result) }
+    ensures damaged { Adds (S.told site.old) (S.told site.new) (DamageCause result) }
     ensures cause { SinkCause (S.fault_count site.old) (S.fault_count site.new) result }
 {
     let removed = site.remove(alloc, who, mark);

@@ -23,7 +23,6 @@ ghost use Rattle.chk_sink.specs.Puts.{Wrote, IsPlaced, LeavesAfterPut, SpentExac
 ghost use Rattle.chk_sink.specs.Closing.{left_where_done};
 ghost use Rattle.chk_sink.specs.Closes.{Committed, Closed, IsMarked, Settled, Ticked, IsOfTick, IsNoListing};
 ghost use Rattle.chk_sink.specs.Starts.{IsFresh, Started, IsLastStart};
-ghost use Rattle.chk_sink.specs.Starting.{IsNoLastRead};
 ghost use Rattle.chk_sink.specs.Settling.{kept_stem};
 ghost use Rattle.chk_sink.specs.Asked.{Counted, CountedOn, IsOfQuestion};
 
@@ -360,7 +359,6 @@ impl Sinks {
         ensures only { IfErr result IsOfTick }
         ensures lists { self.old.abandoned ≡ false
             → Adds (S.told site.old) (S.told site.new) (Every IsNoListing) }
-        ensures unread { Adds (S.told site.old) (S.told site.new) (Every IsNoLastRead) }
         ensures damaged { Adds (S.told site.old) (S.told site.new) (DamageCause result) }
         ensures own { Works (process self.old) (OfSettling self.old) (ended_by result)
             (S.told site.old) (S.told site.new) }

@@ -1,18 +1,16 @@
 use Rattle.chk_world.proofs.Working.{works_then}
-use Rattle.chk_sink.proofs.Owning.{made_as, made_ok}
-use Rattle.std.proofs.Common.{◌∙◌, ap, Ok, Err}
-use Rattle.std.proofs.lemmas.Result.{err_from_is_err_and}
+use Rattle.chk_sink.proofs.Owning.{made_as, made_ok, refused_by}
+use Rattle.std.proofs.Common.{◌∙◌, ap, Ok}
 use Rattle.chk_sink.specs.Settling.{HoldsAt, CutFound, BothGone}
 use Rattle.chk_sink.proofs.Founding.{found_as, found_then}
-use Rattle.chk_sink.proofs.Causing.{caused_then}
+use Rattle.chk_sink.proofs.JoinedCauses.{cause_then}
 use Rattle.chk_sink.proofs.settling.close_at.Goals as goal
 
 pub returns-in_err-cut_to-clause-told : goal.returns-in_err-cut_to-clause-told
 returns-in_err-cut_to-clause-told g c stamped s may settles other =
-    let p = err_from_is_err_and c.from_residual.result c.from_residual.ensures.1 in
     let x = c.args.stem.now in
     found_as stamped s (λ v. HoldsAt s may x BothGone) (λ there. HoldsAt s may x (CutFound c.args.length there)) c.cut_to.result
-    c.from_residual.result _ c.in_err-cut_to.was (p.1 ∙ ap Err p.2)
+    c.from_residual.result _ c.in_err-cut_to.was (refused_by c.from_residual.ensures.1)
     (c.cut_to.ensures.told stamped s may x settles other c.requires.sink)
 
 pub returns-then-branch-clause-told : goal.returns-then-branch-clause-told
@@ -22,10 +20,10 @@ returns-then-branch-clause-told g c stamped s may settles other =
     (c.cut_to.ensures.told stamped s may x settles other c.requires.sink)
     (c.close_cut.ensures.told stamped s may c.args.length settles other)
 
-pub returns-then-branch-clause-caused : goal.returns-then-branch-clause-caused
-returns-then-branch-clause-caused g c =
-    caused_then c.cut_to.result _ c.close_cut.result c.in_ok-cut_to.was
-    (c.cut_to.ensures.caused c.args.stem.now c.requires.good c.requires.sink c.requires.mark) c.close_cut.ensures.caused
+pub returns-then-branch-clause-damaged : goal.returns-then-branch-clause-damaged
+returns-then-branch-clause-damaged g c =
+    cause_then c.cut_to.result _ c.close_cut.result c.in_ok-cut_to.was
+    (c.cut_to.ensures.damaged c.args.stem.now c.requires.good c.requires.sink c.requires.mark) c.close_cut.ensures.damaged
 
 pub returns-else-branch-clause-told : goal.returns-else-branch-clause-told
 returns-else-branch-clause-told g c stamped s may settles other =
@@ -34,15 +32,14 @@ returns-else-branch-clause-told g c stamped s may settles other =
     (c.cut_to.ensures.told stamped s may x settles other c.requires.sink)
     (c.remove_mark.ensures.told stamped s may x settles other c.requires.mark)
 
-pub returns-else-branch-clause-caused : goal.returns-else-branch-clause-caused
-returns-else-branch-clause-caused g c =
-    caused_then c.cut_to.result _ c.remove_mark.result c.in_ok-cut_to.was
-    (c.cut_to.ensures.caused c.args.stem.now c.requires.good c.requires.sink c.requires.mark) c.remove_mark.ensures.caused
+pub returns-else-branch-clause-damaged : goal.returns-else-branch-clause-damaged
+returns-else-branch-clause-damaged g c =
+    cause_then c.cut_to.result _ c.remove_mark.result c.in_ok-cut_to.was
+    (c.cut_to.ensures.damaged c.args.stem.now c.requires.good c.requires.sink c.requires.mark) c.remove_mark.ensures.damaged
 
 pub returns-in_err-cut_to-clause-own : goal.returns-in_err-cut_to-clause-own
 returns-in_err-cut_to-clause-own g c =
-    let p = err_from_is_err_and c.from_residual.result c.from_residual.ensures.1 in
-    made_as c.cut_to.result c.from_residual.result _ c.in_err-cut_to.was (p.1 ∙ ap Err p.2) (c.cut_to.ensures.own c.args.stem.now c.requires.sink)
+    made_as c.cut_to.result c.from_residual.result _ c.in_err-cut_to.was (refused_by c.from_residual.ensures.1) (c.cut_to.ensures.own c.args.stem.now c.requires.sink)
 
 pub returns-then-branch-clause-own : goal.returns-then-branch-clause-own
 returns-then-branch-clause-own g c =

@@ -1,9 +1,8 @@
 use Rattle.chk_sink.specs.Works.{OfSettling}
 use Rattle.chk_world.specs.Works.{rests}
 use Rattle.chk_world.proofs.Working.{works_as}
-use Rattle.chk_sink.proofs.Owning.{made_as, made_ok}
-use Rattle.std.proofs.Common.{◌∙◌, sym, ap, Err, Some, ◌∷◌, inr}
-use Rattle.std.proofs.lemmas.Result.{err_from_is_err_and}
+use Rattle.chk_sink.proofs.Owning.{made_as, made_ok, refused_by}
+use Rattle.std.proofs.Common.{◌∙◌, sym, ap, Some, ◌∷◌, inr}
 use Rattle.chk_site.specs.declared.acts.Who.{Who}
 use Rattle.chk_site.proofs.Leads.{leads_none, leads_as}
 use Rattle.chk_sink.specs.Settling.{HoldsAt, HoldsBut, AnyFiles, BothGone, left_in, left_of, chosen}
@@ -21,14 +20,13 @@ returns-in_default-clause-told g c stamped s names settles kept =
 
 pub returns-in_err-settle_stem-clause-told : goal.returns-in_err-settle_stem-clause-told
 returns-in_err-settle_stem-clause-told g c stamped s names settles kept =
-    let p = err_from_is_err_and c.from_residual.result c.from_residual.ensures.1 in
     let x = c.in-Some.stem in
     let may = left_of (c.args.name.now ∷ names) c.args.last.now in
     let other = chosen_other s c.args.kept.now c.args.last.now (left_in c.args.name.now) x kept c.in-Some.ensures.good
     (ap (λ (w : Who). chosen w.name c.args.kept.now c.args.last.now (left_in c.args.name.now)) (sym settles.writer)
     ∙ (sym c.to_settle.ensures.chosen ∙ c.in-Some.is)) in
     found_as stamped s (λ v. HoldsBut s (left_of names c.args.last.now)) (λ v. HoldsAt s may x BothGone) c.settle_stem.result
-    c.from_residual.result _ c.in_err-settle_stem.was (p.1 ∙ ap Err p.2)
+    c.from_residual.result _ c.in_err-settle_stem.was (refused_by c.from_residual.ensures.1)
     (leads_as (told_less stamped s (HoldsBut s may) (HoldsAt s may x AnyFiles) (begins_at s may x)) (λ h y. y)
     (c.settle_stem.ensures.told stamped s may settles other.1))
 
@@ -51,11 +49,10 @@ returns-in_default-clause-own g c s settles kept = rests
 
 pub returns-in_err-settle_stem-clause-own : goal.returns-in_err-settle_stem-clause-own
 returns-in_err-settle_stem-clause-own g c s settles kept =
-    let p = err_from_is_err_and c.from_residual.result c.from_residual.ensures.1 in
     let other = chosen_other s c.args.kept.now c.args.last.now (left_in c.args.name.now) c.in-Some.stem kept c.in-Some.ensures.good
     (ap (λ (w : Who). chosen w.name c.args.kept.now c.args.last.now (left_in c.args.name.now)) (sym settles.writer)
     ∙ (sym c.to_settle.ensures.chosen ∙ c.in-Some.is)) in
-    made_as c.settle_stem.result c.from_residual.result _ c.in_err-settle_stem.was (p.1 ∙ ap Err p.2)
+    made_as c.settle_stem.result c.from_residual.result _ c.in_err-settle_stem.was (refused_by c.from_residual.ensures.1)
     (works_as (OfSettling s) (λ call may. inr (c.in-Some.stem, other.1, may)) c.settle_stem.ensures.own)
 
 pub returns-clause-own : goal.returns-clause-own

@@ -1,29 +1,25 @@
 use Rattle.chk_site.specs.declared.acts.Call.TheVariants.{Start}
 use Rattle.chk_sink.proofs.Owned.{reads_works}
 use Rattle.chk_world.proofs.Working.{works_then}
-use Rattle.chk_sink.proofs.Owning.{once_works}
+use Rattle.chk_sink.proofs.Owning.{once_works, refused_by}
 use Rattle.std.proofs.Common.{◌≡◌, ◌∙◌, ap, []}
-use Rattle.std.proofs.lemmas.Result.{err_from_is_err_and}
 use Rattle.chk_site.specs.declared.acts.OutsideFault.TheVariants.{NoMemory as no_memory}
 use Rattle.chk_site.specs.Site.{asked}
 use Rattle.chk_world.specs.Names.{BornFile, read}
 use Rattle.chk_world.proofs.NameLemmas.{read-spell}
 use Rattle.chk_site.proofs.Runs.{start_then}
-use Rattle.chk_sink.proofs.StartBegins.{start_begun, if_ok}
 use Rattle.chk_sink.proofs.StartShows.{begin_shows, read_shows, shows_then}
-use Rattle.chk_sink.proofs.StartTold.{unbegun_told, looked_told}
+use Rattle.chk_sink.proofs.StartTold.{unbegun_told, looked_told, start_begun, if_ok}
 use Rattle.chk_sink.proofs.starting.last_start.Goals as goal
 
 pub returns-in_err-begin-clause-told : goal.returns-in_err-begin-clause-told
 returns-in_err-begin-clause-told g c stamped =
-    let p = err_from_is_err_and c.from_residual.result c.from_residual.ensures.1 in
-    rw (p.1, p.2)
+    rw (refused_by c.from_residual.ensures.1)
     (unbegun_told stamped c.in_err-begin.field-0.0 c.args.who.now c.requires.role c.requires.collector c.in_err-begin.ensures.told)
 
 pub returns-in_err-begin-clause-shown : goal.returns-in_err-begin-clause-shown
 returns-in_err-begin-clause-shown g c =
-    let p = err_from_is_err_and c.from_residual.result c.from_residual.ensures.1 in
-    rw (p.1, p.2) (begin_shows c.args.who.now c.args.name.now c.begin.result c.in_err-begin.field-0.0 c.begin.ensures.told)
+    rw (refused_by c.from_residual.ensures.1) (begin_shows c.args.who.now c.args.name.now c.begin.result c.in_err-begin.field-0.0 c.begin.ensures.told)
 
 pub returns-clause-told : goal.returns-clause-told
 returns-clause-told g c stamped =
@@ -44,8 +40,7 @@ returns-clause-starts g c =
 
 pub returns-in_err-begin-clause-own : goal.returns-in_err-begin-clause-own
 returns-in_err-begin-clause-own g c =
-    let p = err_from_is_err_and c.from_residual.result c.from_residual.ensures.1 in
-    rw (p.1, p.2) (once_works (asked c.args.who.now Start [] 0 0) c.begin.result _ c.in_err-begin.was tt c.begin.ensures.told)
+    rw (refused_by c.from_residual.ensures.1) (once_works (asked c.args.who.now Start [] 0 0) c.begin.result _ c.in_err-begin.was tt c.begin.ensures.told)
 
 pub returns-clause-own : goal.returns-clause-own
 returns-clause-own g c =

@@ -1,7 +1,6 @@
 use Rattle.chk_world.proofs.Working.{works_then}
-use Rattle.chk_sink.proofs.Owning.{made_as, made_none, fails_of}
-use Rattle.std.proofs.Common.{Ok, Err, ap, ◌∙◌, None}
-use Rattle.std.proofs.lemmas.Result.{err_from_is_err_and}
+use Rattle.chk_sink.proofs.Owning.{made_as, made_none, fails_of, refused_by}
+use Rattle.std.proofs.Common.{Ok, Err, None}
 use Rattle.chk_chunk.specs.Lent.{lent_chunk}
 use Rattle.chk_collector.proofs.PutLoop.{put_begins, put_on, put_fails, own_on, put_leaves, put_unwritten, puts_end, lines_end}
 use Rattle.chk_collector.proofs.collector.Collector.put_all.Goals as goal
@@ -20,35 +19,29 @@ loop-chunk-preserved g c =
 
 pub returns-in_err-stem-clause-told : goal.returns-in_err-stem-clause-told
 returns-in_err-stem-clause-told g c stamped handled posted =
-    let p = err_from_is_err_and c.from_residual.result c.from_residual.ensures.1 in
-    rw p.1 (put_fails c.loop-chunk.invariant (lent_chunk c.in-Some.chunk) c.next.new.self.left (Err c.in_err-stem.field-0.0) p.0 c.put.new.self c.loop-chunk.lines
+    rw (refused_by c.from_residual.ensures.1) (put_fails c.loop-chunk.invariant (lent_chunk c.in-Some.chunk) c.next.new.self.left (Err c.in_err-stem.field-0.0) _ c.put.new.self c.loop-chunk.lines
     c.in-Some.ensures.first c.in_err-stem.ensures.told stamped handled posted)
 
 pub returns-in_err-put_line-clause-told : goal.returns-in_err-put_line-clause-told
 returns-in_err-put_line-clause-told g c stamped handled posted =
-    let p = err_from_is_err_and c.from_residual-in_err-put_line.result c.from_residual-in_err-put_line.ensures.1 in
-    rw p.1 (put_fails c.loop-chunk.invariant (lent_chunk c.in-Some.chunk) c.next.new.self.left c.put.result p.0 c.put.new.self c.put_line.new.lines
+    rw (refused_by c.from_residual-in_err-put_line.ensures.1) (put_fails c.loop-chunk.invariant (lent_chunk c.in-Some.chunk) c.next.new.self.left c.put.result _ c.put.new.self c.put_line.new.lines
     c.in-Some.ensures.first c.put.ensures.told stamped handled posted)
 
 pub returns-in_err-stem-clause-leaves : goal.returns-in_err-stem-clause-leaves
 returns-in_err-stem-clause-leaves g c =
-    let p = err_from_is_err_and c.from_residual.result c.from_residual.ensures.1 in
-    rw (p.1, p.2) (put_leaves c.loop-chunk.invariant c.put.new.self c.in_err-stem.field-0.0 c.in_err-stem.ensures.refused)
+    rw (refused_by c.from_residual.ensures.1) (put_leaves c.loop-chunk.invariant c.put.new.self c.in_err-stem.field-0.0 c.in_err-stem.ensures.refused)
 
 pub returns-in_err-stem-clause-own : goal.returns-in_err-stem-clause-own
 returns-in_err-stem-clause-own g c =
-    let p = err_from_is_err_and c.from_residual.result c.from_residual.ensures.1 in
-    made_as c.put.result c.from_residual.result _ c.in_err-stem.was (p.1 ∙ ap Err p.2) (own_on c.loop-chunk.invariant c.put.ensures.own)
+    made_as c.put.result c.from_residual.result _ c.in_err-stem.was (refused_by c.from_residual.ensures.1) (own_on c.loop-chunk.invariant c.put.ensures.own)
 
 pub returns-in_err-put_line-clause-leaves : goal.returns-in_err-put_line-clause-leaves
 returns-in_err-put_line-clause-leaves g c =
-    let p = err_from_is_err_and c.from_residual-in_err-put_line.result c.from_residual-in_err-put_line.ensures.1 in
-    rw (p.1, p.2) (put_unwritten c.loop-chunk.invariant c.put.new.self c.in_ok-stem.ensures.goes_on)
+    rw (refused_by c.from_residual-in_err-put_line.ensures.1) (put_unwritten c.loop-chunk.invariant c.put.new.self c.in_ok-stem.ensures.goes_on)
 
 pub returns-in_err-put_line-clause-own : goal.returns-in_err-put_line-clause-own
 returns-in_err-put_line-clause-own g c =
-    let p = err_from_is_err_and c.from_residual-in_err-put_line.result c.from_residual-in_err-put_line.ensures.1 in
-    works_then (own_on c.loop-chunk.invariant {fault = None} c.in_ok-stem.ensures.own) (made_none c.from_residual-in_err-put_line.result _ (p.1 ∙ ap Err p.2))
+    works_then (own_on c.loop-chunk.invariant {fault = None} c.in_ok-stem.ensures.own) (made_none c.from_residual-in_err-put_line.result _ (refused_by c.from_residual-in_err-put_line.ensures.1))
 
 pub returns-clause-puts : goal.returns-clause-puts
 returns-clause-puts g c = puts_end c.loop-chunk.invariant c.in_default.ensures.first

@@ -1,20 +1,18 @@
-use Rattle.chk_sink.proofs.Owned.{close_works}
+use Rattle.chk_sink.proofs.Owned.{close_works, close_writes, writes_cause, writes_unlisted}
 use Rattle.chk_sink.specs.Works.{OfClose}
 use Rattle.chk_world.proofs.Working.{works_as, works_then}
-use Rattle.chk_sink.proofs.Owning.{made_as, made_ok, made_result, fails_of}
-use Rattle.std.proofs.Common.{ap, ◌∙◌, Err, inl, inr}
-use Rattle.std.proofs.lemmas.Result.{err_from_is_err_and}
+use Rattle.chk_sink.proofs.Owning.{made_as, made_ok, made_result, fails_of, refused_by}
+use Rattle.std.proofs.Common.{inl, inr}
 use Rattle.chk_sink.specs.SinkFields.{writing_of}
 use Rattle.chk_sink.proofs.Fields.{seen_as, open_as}
-use Rattle.chk_sink.proofs.Scripts.{closing_quiet, later_cause, later_lists}
+use Rattle.chk_sink.proofs.JoinedCauses.{of_outside}
 use Rattle.chk_sink.proofs.Commits.{close_refused, close_made}
 use Rattle.chk_sink.proofs.sinks.Sinks.close.Goals as goal
 
 pub returns-in_err-commit-clause-told : goal.returns-in_err-commit-clause-told
 returns-in_err-commit-clause-told g c stamped =
-    let p = err_from_is_err_and c.from_residual.result c.from_residual.ensures.1 in
-    close_refused stamped c.args.self.now c.commit.new.self c.commit.result c.from_residual.result _ p.0 c.in_err-commit.was p.1
-    (c.commit.ensures.told stamped)
+    close_refused stamped c.args.self.now c.commit.new.self c.commit.result _ _ _ c.in_err-commit.was
+    (refused_by c.from_residual.ensures.1) (c.commit.ensures.told stamped)
 
 pub returns-clause-told : goal.returns-clause-told
 returns-clause-told g c stamped =
@@ -26,19 +24,9 @@ returns-clause-told g c stamped =
     c.commit.result _ c.in_ok-commit.was (c.commit.ensures.told stamped) c.rename_to_done-closed.ensures.told
     c.leave_where_done.new.self c.leave_where_done.ensures.new _ c.leave_where_done.ensures.result
 
-pub returns-clause-lists : goal.returns-clause-lists
-returns-clause-lists g c =
-    later_lists c.commit.ensures.lists (closing_quiet c.self.inside.who c.in-Some.current.stem c.rename_to_done-closed.ensures.told)
-
-pub returns-clause-damaged : goal.returns-clause-damaged
-returns-clause-damaged g c =
-    later_cause c.commit.result _ c.rename_to_done-closed.result _ c.in_ok-commit.was c.leave_where_done.ensures.result c.commit.ensures.damaged
-    (closing_quiet c.self.inside.who c.in-Some.current.stem c.rename_to_done-closed.ensures.told)
-
 pub returns-in_err-commit-clause-own : goal.returns-in_err-commit-clause-own
 returns-in_err-commit-clause-own g c =
-    let p = err_from_is_err_and c.from_residual.result c.from_residual.ensures.1 in
-    made_as c.commit.result c.from_residual.result _ c.in_err-commit.was (p.1 ∙ ap Err p.2)
+    made_as c.commit.result c.from_residual.result _ c.in_err-commit.was (refused_by c.from_residual.ensures.1)
     (works_as (OfClose c.args.self.now) (λ call one. inl one) c.commit.ensures.own)
 
 pub returns-in_default-clause-own : goal.returns-in_default-clause-own
@@ -60,3 +48,11 @@ returns-in_err-commit-clause-last g c = fails_of _ (returns-in_err-commit-clause
 
 pub returns-clause-last : goal.returns-clause-last
 returns-clause-last g c = fails_of _ (returns-clause-own g c)
+
+pub returns-clause-lists : goal.returns-clause-lists
+returns-clause-lists g c = writes_unlisted (close_writes c.args.self.now) (returns-clause-own g c)
+
+pub returns-clause-damaged : goal.returns-clause-damaged
+returns-clause-damaged g c =
+    writes_cause _ (close_writes c.args.self.now) (of_outside _ c.rename_to_done-closed.result c.leave_where_done.ensures.result)
+    (returns-clause-own g c)

@@ -1,10 +1,10 @@
 use Rattle.chk_world.specs.Works.{rests}
-use Rattle.chk_sink.proofs.Owned.{commit_works}
+use Rattle.chk_sink.proofs.Owned.{commit_works, commit_writes, writes_cause, writes_unlisted}
 use Rattle.chk_sink.proofs.Owning.{made_result, fails_of}
 use Rattle.std.proofs.Common.{ap}
 use Rattle.chk_sink.specs.SinkFields.{writing_of}
 use Rattle.chk_sink.proofs.Fields.{seen_as, open_as}
-use Rattle.chk_sink.proofs.Scripts.{publishing_quiet, quiet_cause, quiet_lists}
+use Rattle.chk_sink.proofs.JoinedCauses.{of_outside}
 use Rattle.chk_sink.proofs.Commits.{commit_same, commit_made}
 use Rattle.chk_sink.proofs.sinks.Sinks.commit.Goals as goal
 
@@ -22,14 +22,6 @@ returns-clause-told g c stamped =
     c.in-Some.current.stem f.of_stem.stem c.publish-published.ensures.told c.keep_where_done.new.self (writing_of c.all_marked.result)
     c.keep_where_done.ensures.new (ap writing_of c.all_marked.ensures) _ c.keep_where_done.ensures.result
 
-pub returns-clause-lists : goal.returns-clause-lists
-returns-clause-lists g c = quiet_lists (publishing_quiet c.self.inside.who c.in-Some.current.stem c.in-Some.current.size c.publish-published.ensures.told)
-
-pub returns-clause-damaged : goal.returns-clause-damaged
-returns-clause-damaged g c =
-    quiet_cause _ c.publish-published.result c.keep_where_done.ensures.result
-    (publishing_quiet c.self.inside.who c.in-Some.current.stem c.in-Some.current.size c.publish-published.ensures.told)
-
 pub returns-in_default-clause-own : goal.returns-in_default-clause-own
 returns-in_default-clause-own g c = rests
 
@@ -46,3 +38,10 @@ returns-clause-own g c =
 
 pub returns-clause-last : goal.returns-clause-last
 returns-clause-last g c = fails_of _ (returns-clause-own g c)
+
+pub returns-clause-lists : goal.returns-clause-lists
+returns-clause-lists g c = writes_unlisted (commit_writes c.args.self.now) (returns-clause-own g c)
+
+pub returns-clause-damaged : goal.returns-clause-damaged
+returns-clause-damaged g c =
+    writes_cause _ (commit_writes c.args.self.now) (of_outside _ c.publish-published.result c.keep_where_done.ensures.result) (returns-clause-own g c)

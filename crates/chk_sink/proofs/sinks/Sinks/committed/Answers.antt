@@ -2,27 +2,19 @@ use Rattle.chk_site.specs.Site.{asked, sized}
 use Rattle.chk_site.specs.declared.acts.Call.TheVariants.{Size}
 use Rattle.chk_sink.proofs.Fields.{seen_as}
 use Rattle.chk_world.proofs.Working.{works_then}
-use Rattle.chk_sink.proofs.Owning.{made_err, made_none, made_by, taken_once, fails_of}
-use Rattle.std.proofs.Common.{◌∙◌, ap, Ok, Err, [], ◌∷◌}
-use Rattle.std.proofs.lemmas.Result.{err_from_is_err_and}
+use Rattle.chk_sink.proofs.Owning.{made_err, made_none, made_by, taken_once, fails_of, refused_by}
+use Rattle.std.proofs.Common.{◌∙◌, ap, refl, ℕ, Ok, [], ◌∷◌}
 use Rattle.chk_site.proofs.Leads.{leads_then}
-use Rattle.chk_sink.proofs.Counting.{asker, size_given, size_none, size_ended}
-use Rattle.chk_sink.proofs.DamageSeen.{size_damaged, size_sound, size_then_damaged}
+use Rattle.chk_sink.proofs.AskedLengths.{asker, size_given, size_none, size_ended}
+use Rattle.chk_sink.proofs.JoinedCauses.{ends_cause, done_cause, cause_then}
 use Rattle.chk_sink.proofs.sinks.Sinks.committed.Goals as goal
 
 pub returns-in_err-size-clause-told : goal.returns-in_err-size-clause-told
 returns-in_err-size-clause-told g c stamped handled t stems acks =
-    let p = err_from_is_err_and c.from_residual-in_err-size.result c.from_residual-in_err-size.ensures.1 in
     let s = c.args.self.now in
     size_ended stamped s handled t stems acks c.self.inside.who (asker c.self.inside s c.self.view_is c.self.invariant)
     c.args.stem c.stem_is_good.ensures c.as_str.result.now (c.as_str.ensures.value ∙ c.in_ok-name.ensures) c.size_of.result c.size_of.ensures.told
-    c.in_err-size.field-0.0 c.from_residual-in_err-size.result c.in_err-size.was (p.1 ∙ ap Err p.2)
-
-pub returns-in_err-size-clause-damaged : goal.returns-in_err-size-clause-damaged
-returns-in_err-size-clause-damaged g c =
-    let p = err_from_is_err_and c.from_residual-in_err-size.result c.from_residual-in_err-size.ensures.1 in
-    size_damaged c.self.inside.who c.as_str.result.now c.size_of.result c.in_err-size.field-0.0 c.from_residual-in_err-size.result
-    (p.1 ∙ ap Err p.2) c.size_of.ensures.told
+    c.in_err-size.field-0.0 c.from_residual-in_err-size.result c.in_err-size.was (refused_by c.from_residual-in_err-size.ensures.1)
 
 pub returns-in-Some-clause-told : goal.returns-in-Some-clause-told
 returns-in-Some-clause-told g c stamped handled t stems acks =
@@ -30,10 +22,6 @@ returns-in-Some-clause-told g c stamped handled t stems acks =
     size_given stamped s handled t stems acks c.self.inside.who (asker c.self.inside s c.self.view_is c.self.invariant)
     c.args.stem c.stem_is_good.ensures c.as_str.result.now (c.as_str.ensures.value ∙ c.in_ok-name.ensures) c.size_of.result c.size_of.ensures.told
     c.in-Some.size (c.in_ok-size.was ∙ ap Ok c.in-Some.is)
-
-pub returns-in-Some-clause-damaged : goal.returns-in-Some-clause-damaged
-returns-in-Some-clause-damaged g c =
-    size_sound c.self.inside.who c.as_str.result.now c.size_of.result c.in-Some.size c.size_of.ensures.told
 
 pub returns-clause-told : goal.returns-clause-told
 returns-clause-told g c stamped handled t stems acks =
@@ -45,19 +33,13 @@ returns-clause-told g c stamped handled t stems acks =
     (c.in_ok-size.was ∙ ap Ok c.in-None.is))
     (c.marked.ensures.told stamped s handled t stems acks asks)
 
-pub returns-clause-damaged : goal.returns-clause-damaged
-returns-clause-damaged g c =
-    size_then_damaged c.self.inside.who c.as_str.result.now c.size_of.result c.marked.result c.size_of.ensures.told c.marked.ensures.damaged
-
 pub returns-in_err-name-clause-own : goal.returns-in_err-name-clause-own
 returns-in_err-name-clause-own g c =
-    let p = err_from_is_err_and c.from_residual.result c.from_residual.ensures.1 in
-    made_none c.from_residual.result _ (p.1 ∙ ap Err p.2)
+    made_none c.from_residual.result _ (refused_by c.from_residual.ensures.1)
 
 pub returns-in_err-size-clause-own : goal.returns-in_err-size-clause-own
 returns-in_err-size-clause-own g c =
-    let p = err_from_is_err_and c.from_residual-in_err-size.result c.from_residual-in_err-size.ensures.1 in
-    made_err c.from_residual-in_err-size.result c.in_err-size.field-0.0 (p.1 ∙ ap Err p.2)
+    made_err c.from_residual-in_err-size.result c.in_err-size.field-0.0 (refused_by c.from_residual-in_err-size.ensures.1)
     (made_by (seen_as c.self.inside c.args.self.now c.self.view_is c.self.invariant).who (taken_once (asked c.self.inside.who Size (c.as_str.result.now ∷ []) 0 0) sized c.size_of.result _ c.in_err-size.was (λ v. tt) (c.as_str.ensures.value ∙ c.in_ok-name.ensures) c.size_of.ensures.told))
 
 pub returns-in-Some-clause-own : goal.returns-in-Some-clause-own
@@ -77,3 +59,18 @@ returns-in-Some-clause-last g c = fails_of (Ok c.in-Some.size) (returns-in-Some-
 
 pub returns-clause-last : goal.returns-clause-last
 returns-clause-last g c = fails_of _ (returns-clause-own g c)
+
+pub returns-in_err-size-clause-damaged : goal.returns-in_err-size-clause-damaged
+returns-in_err-size-clause-damaged g c =
+    let m = c.in_err-size.ensures.told in
+    ends_cause _ sized m.given _ m.told m.came (refused_by c.from_residual-in_err-size.ensures.1)
+
+pub returns-in-Some-clause-damaged : goal.returns-in-Some-clause-damaged
+returns-in-Some-clause-damaged g c =
+    let m = c.in_ok-size.ensures.told in
+    done_cause c.in-Some.size sized m.given m.told (λ answer. refl)
+
+pub returns-clause-damaged : goal.returns-clause-damaged
+returns-clause-damaged g c =
+    let m = c.in_ok-size.ensures.told in
+    cause_then {T = ℕ} (Ok 0) 0 c.marked.result refl (done_cause {T = ℕ} 0 sized m.given m.told (λ answer. refl)) c.marked.ensures.damaged

@@ -1,9 +1,8 @@
 use Rattle.chk_sink.proofs.Ticks.{is_seen}
 use Rattle.chk_world.specs.Works.{rests}
 use Rattle.chk_sink.proofs.Owned.{current_puts, next_puts}
-use Rattle.chk_sink.proofs.Owning.{made_none, fails_of}
-use Rattle.std.proofs.Common.{true, false, sym, ◌∙◌, ◌++◌, ap, refl, List, ℕ, Err}
-use Rattle.std.proofs.lemmas.Result.{err_from_is_err_and}
+use Rattle.chk_sink.proofs.Owning.{made_none, fails_of, refused_by}
+use Rattle.std.proofs.Common.{true, false, sym, ◌∙◌, ◌++◌, ap, refl, List, ℕ}
 use Rattle.chk_chunk.specs.Keys.{written_key}
 use Rattle.chk_chunk.specs.Lent.{lent_chunk}
 use Rattle.chk_sink.proofs.Fields.{put_refused}
@@ -17,9 +16,8 @@ returns-then-self-eq-LAST_NUMBER-clause-told g c stamped handled posted =
 
 pub returns-in_err-write_key-clause-told : goal.returns-in_err-write_key-clause-told
 returns-in_err-write_key-clause-told g c stamped handled posted =
-    let p = err_from_is_err_and c.from_residual.result c.from_residual.ensures.1 in
     after_full stamped c.args.self.now c.let_go_of_full.new.self handled _ c.let_go_of_full.ensures
-    (put_refused stamped c.let_go_of_full.new.self handled (lent_chunk c.args.chunk.now) c.from_residual.result p.0 p.1 _)
+    (put_refused stamped c.let_go_of_full.new.self handled (lent_chunk c.args.chunk.now) c.from_residual.result _ (refused_by c.from_residual.ensures.1) _)
 
 pub put_in_current-requires-clause-small : goal.put_in_current-requires-clause-small
 put_in_current-requires-clause-small g c =
@@ -50,8 +48,7 @@ returns-then-self-eq-LAST_NUMBER-clause-own g c = rests
 
 pub returns-in_err-write_key-clause-own : goal.returns-in_err-write_key-clause-own
 returns-in_err-write_key-clause-own g c =
-    let p = err_from_is_err_and c.from_residual.result c.from_residual.ensures.1 in
-    made_none c.from_residual.result _ (p.1 ∙ ap Err p.2)
+    made_none c.from_residual.result _ (refused_by c.from_residual.ensures.1)
 
 pub returns-then-is_some-clause-own : goal.returns-then-is_some-clause-own
 returns-then-is_some-clause-own g c = current_puts c.args.self.now c.let_go_of_full.new.self c.let_go_of_full.ensures (is_seen c.self.inside c.let_go_of_full.new.self true c.self.view_is (sym c.if-is_some.ensures)) c.put_in_current.ensures.own

@@ -1,16 +1,14 @@
 use Rattle.chk_site.specs.Site.{asked}
 use Rattle.chk_site.specs.declared.acts.Call.TheVariants.{Append}
 use Rattle.chk_sink.specs.Faults.{sink_result}
-use Rattle.chk_sink.proofs.Owning.{made_as, made_ok, made_none, made_by, made_result, once_works}
-use Rattle.std.proofs.Common.{Err, ◌≡◌, ◌+◌, ◌≤◌, ◌∙◌, ap, sym, refl, arith, List, ℕ, length, [], ◌∷◌}
-use Rattle.std.proofs.lemmas.Result.{err_from_is_err_and}
+use Rattle.chk_sink.proofs.Owning.{made_as, made_ok, made_none, made_by, made_result, once_works, refused_by}
+use Rattle.std.proofs.Common.{◌≡◌, ◌+◌, ◌≤◌, ◌∙◌, ap, sym, refl, arith, List, ℕ, length, [], ◌∷◌}
 use Rattle.chk_bytes.specs.Stems.{Stem}
 use Rattle.chk_seqfile.specs.Entries.{piece_at}
 use Rattle.chk_world.specs.Names.{SinkFile, spell}
 use Rattle.chk_sink.specs.declared.current.Current.{Current}
 use Rattle.chk_sink.specs.SinkFields.{writing_of}
-use Rattle.chk_sink.proofs.Putting.{piece_of, longer_writing}
-use Rattle.chk_sink.proofs.Made.{kept_done, kept_ended}
+use Rattle.chk_sink.proofs.Putting.{piece_of, longer_writing, kept_done, kept_ended}
 use Rattle.chk_sink.proofs.Fields.{seen_as, open_as, put_refused, placed_kept}
 use Rattle.chk_sink.proofs.sinks.Sinks.put_in_current.Goals as goal
 
@@ -33,17 +31,14 @@ keep_where_done-requires g c =
 
 pub returns-in_err-name-clause-told : goal.returns-in_err-name-clause-told
 returns-in_err-name-clause-told g c stamped handled chunk posted is v =
-    let p = err_from_is_err_and c.from_residual.result c.from_residual.ensures.1 in
-    put_refused stamped c.args.self.now handled chunk c.from_residual.result p.0 p.1 _
+    put_refused stamped c.args.self.now handled chunk c.from_residual.result _ (refused_by c.from_residual.ensures.1) _
 
 pub returns-in_err-piece-clause-told : goal.returns-in_err-piece-clause-told
 returns-in_err-piece-clause-told g c stamped handled chunk posted is v =
-    let p = err_from_is_err_and c.from_residual-in_err-piece.result c.from_residual-in_err-piece.ensures.1 in
-    put_refused stamped c.args.self.now handled chunk c.from_residual-in_err-piece.result p.0 p.1 _
+    put_refused stamped c.args.self.now handled chunk c.from_residual-in_err-piece.result _ (refused_by c.from_residual-in_err-piece.ensures.1) _
 
 pub returns-in_err-keep_where_done-clause-told : goal.returns-in_err-keep_where_done-clause-told
 returns-in_err-keep_where_done-clause-told g c stamped handled chunk posted is v =
-    let p = err_from_is_err_and c.from_residual-in_err-keep_where_done.result c.from_residual-in_err-keep_where_done.ensures.1 in
     let s = c.args.self.now in
     let cur = c.in-Some.current in
     let known = seen_as c.self.inside s c.self.view_is c.self.invariant in
@@ -53,7 +48,8 @@ returns-in_err-keep_where_done-clause-told g c stamped handled chunk posted is v
     (c.as_str.ensures.value ∙ (c.in_ok-name.ensures ∙ ap (λ (x : Stem). spell (SinkFile x)) f.of_stem.stem))
     (c.as_slice.ensures ∙ (c.in_ok-piece.ensures.piece ∙ ap (λ (m : List ℕ). piece_at m cur.size cur.sync_end c.args.key.now c.args.value.now) f.of_stem.marker))
     c.append_to-appended.result _ (sym c.keep_where_done.ensures.result ∙ c.in_err-keep_where_done.was) c.append_to-appended.ensures.told
-    c.keep_where_done.new.self (writing_of c.in_ok-piece.longer) c.keep_where_done.ensures.new p.0 _ p.1
+    c.keep_where_done.new.self (writing_of c.in_ok-piece.longer) c.keep_where_done.ensures.new _ _
+    (refused_by c.from_residual-in_err-keep_where_done.ensures.1)
 
 pub returns-clause-told : goal.returns-clause-told
 returns-clause-told g c stamped handled chunk posted is v =
@@ -83,17 +79,14 @@ returns-clause-placed g c =
 
 pub returns-in_err-name-clause-own : goal.returns-in_err-name-clause-own
 returns-in_err-name-clause-own g c =
-    let p = err_from_is_err_and c.from_residual.result c.from_residual.ensures.1 in
-    made_none c.from_residual.result _ (p.1 ∙ ap Err p.2)
+    made_none c.from_residual.result _ (refused_by c.from_residual.ensures.1)
 
 pub returns-in_err-piece-clause-own : goal.returns-in_err-piece-clause-own
 returns-in_err-piece-clause-own g c =
-    let p = err_from_is_err_and c.from_residual-in_err-piece.result c.from_residual-in_err-piece.ensures.1 in
-    made_none c.from_residual-in_err-piece.result _ (p.1 ∙ ap Err p.2)
+    made_none c.from_residual-in_err-piece.result _ (refused_by c.from_residual-in_err-piece.ensures.1)
 
 pub returns-in_err-keep_where_done-clause-own : goal.returns-in_err-keep_where_done-clause-own
 returns-in_err-keep_where_done-clause-own g c =
-    let p = err_from_is_err_and c.from_residual-in_err-keep_where_done.result c.from_residual-in_err-keep_where_done.ensures.1 in
     let s = c.args.self.now in
     let f = open_as c.self.inside s c.in-Some.current c.self.view_is c.self.invariant c.in-Some.is in
     let made = c.append_to-appended.result in
@@ -101,7 +94,7 @@ returns-in_err-keep_where_done-clause-own g c =
     (made_by (seen_as c.self.inside s c.self.view_is c.self.invariant).who
     (once_works (asked c.self.inside.who Append (c.as_str.result.now ∷ c.as_slice.result.now ∷ []) 0 0) made _ refl (c.as_str.ensures.value ∙ (c.in_ok-name.ensures ∙ ap (λ (x : Stem). spell (SinkFile x)) f.of_stem.stem)) c.append_to-appended.ensures.told)) in
     made_as (sink_result made) c.from_residual-in_err-keep_where_done.result _ (sym c.keep_where_done.ensures.result ∙ c.in_err-keep_where_done.was)
-    (p.1 ∙ ap Err p.2) own
+    (refused_by c.from_residual-in_err-keep_where_done.ensures.1) own
 
 pub returns-clause-own : goal.returns-clause-own
 returns-clause-own g c =

@@ -3,19 +3,15 @@ use Rattle.chk_sink.proofs.Refusing.{unsettled_leaves, settled_leaves, ok_fine}
 use Rattle.chk_sink.proofs.Owned.{settled_works}
 use Rattle.chk_sink.specs.Works.{OfTick}
 use Rattle.chk_world.proofs.Working.{works_as, works_then}
-use Rattle.chk_sink.proofs.Owning.{made_as, made_ok, fails_of}
-use Rattle.std.proofs.Common.{ap, sym, ◌∙◌, Err, inl, inr, true≢false}
-use Rattle.std.proofs.lemmas.Result.{err_from_is_err_and}
-use Rattle.chk_site.proofs.Runs.{adds_then}
-use Rattle.chk_sink.specs.Damage.{DamageCause}
-use Rattle.chk_sink.proofs.JoinedCauses.{damage_later}
+use Rattle.chk_sink.proofs.Owning.{made_as, made_ok, fails_of, refused_by}
+use Rattle.std.proofs.Common.{sym, ◌∙◌, inl, inr, true≢false}
+use Rattle.chk_sink.proofs.JoinedCauses.{cause_then}
 use Rattle.chk_sink.proofs.Ticks.{unsettled_ticks, settle_ticks}
 use Rattle.chk_sink.proofs.sinks.Sinks.tick.Goals as goal
 
 pub returns-in_err-settle-clause-told : goal.returns-in_err-settle-clause-told
 returns-in_err-settle-clause-told g c stamped =
-    let p = err_from_is_err_and c.from_residual.result c.from_residual.ensures.1 in
-    rw (p.1, p.2) (unsettled_ticks stamped c.args.self.now c.settle.new.self c.in_err-settle.field-0.0 c.in_err-settle.ensures.err (c.in_err-settle.ensures.told stamped))
+    rw (refused_by c.from_residual.ensures.1) (unsettled_ticks stamped c.args.self.now c.settle.new.self c.in_err-settle.field-0.0 c.in_err-settle.ensures.err (c.in_err-settle.ensures.told stamped))
 
 pub returns-clause-told : goal.returns-clause-told
 returns-clause-told g c stamped =
@@ -24,16 +20,14 @@ returns-clause-told g c stamped =
 
 pub returns-clause-damaged : goal.returns-clause-damaged
 returns-clause-damaged g c =
-    adds_then (DamageCause c.tick_settled-2.result) c.in_ok-settle.ensures.damaged c.tick_settled-2.ensures.damaged
-    (λ a b h x y. damage_later c.tick_settled-2.result b a h x y)
+    cause_then c.settle.result _ c.tick_settled-2.result c.in_ok-settle.was c.settle.ensures.damaged c.tick_settled-2.ensures.damaged
 
 pub returns-then-not-self-clause-own : goal.returns-then-not-self-clause-own
 returns-then-not-self-clause-own g c = works_as (OfTick c.args.self.now) (λ call one. inr one) c.tick_settled.ensures.own
 
 pub returns-in_err-settle-clause-own : goal.returns-in_err-settle-clause-own
 returns-in_err-settle-clause-own g c =
-    let p = err_from_is_err_and c.from_residual.result c.from_residual.ensures.1 in
-    made_as c.settle.result c.from_residual.result _ c.in_err-settle.was (p.1 ∙ ap Err p.2)
+    made_as c.settle.result c.from_residual.result _ c.in_err-settle.was (refused_by c.from_residual.ensures.1)
     (works_as (OfTick c.args.self.now) (λ call one. inl one) c.settle.ensures.own)
 
 pub returns-clause-own : goal.returns-clause-own
@@ -49,9 +43,8 @@ returns-then-not-self-clause-refused g c =
 
 pub returns-in_err-settle-clause-refused : goal.returns-in_err-settle-clause-refused
 returns-in_err-settle-clause-refused g c =
-    let p = err_from_is_err_and c.from_residual.result c.from_residual.ensures.1 in
     let settles = settling_as c.self.inside c.args.self.now c.self.view_is c.self.invariant c.if-not-self.false in
-    rw (p.1, p.2) (inl (record { abandoned = settles.abandoned; same = c.in_err-settle.ensures.err; own = c.in_err-settle.ensures.own }))
+    rw (refused_by c.from_residual.ensures.1) (inl (record { abandoned = settles.abandoned; same = c.in_err-settle.ensures.err; own = c.in_err-settle.ensures.own }))
 
 pub returns-clause-refused : goal.returns-clause-refused
 returns-clause-refused g c =
