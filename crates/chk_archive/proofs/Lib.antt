@@ -14,8 +14,6 @@ mod FoundSources
 mod RaisedEnds
 mod BookFacts
 mod NextBook
-mod Spelling
-mod Published
 mod Preparing
 mod Planning
 mod Readied

@@ -16,7 +16,7 @@ use Rattle.chk_world.proofs.Each.{filter_in, passes_in}
 use Rattle.chk_world.proofs.Segments.{flat_same, data_self}
 use Rattle.chk_parts.proofs.OneSegment.{segment_spelled, segment_own, some_has}
 use Rattle.chk_archive.specs.FolderNames.{names_segment}
-use Rattle.chk_archive.specs.Publishing.{IsPublished, MayFollow}
+use Rattle.chk_parts.specs.Publishing.{IsPublished, MayFollow}
 use Rattle.chk_archive.proofs.FoundSources.{from_both}
 use Rattle.chk_archive.proofs.Listings.{limits_agree}
 use Rattle.chk_archive.proofs.MergeFacts.{facts, true_book, counted, stream_self}
@@ -54,7 +54,7 @@ module _ (stamped : List (List ℕ)) (h : History) (legal : Legal stamped h) (b 
       ∙ ap (files_after h) (segment_spelled g.number)))
 
 module _ (stamped : List (List ℕ)) (b new : Book) (u : Sight) (m : IsMergedFor b new u) (h : History)
-    (legal : Legal stamped h) (p : IsPublished u (own_book u ArchiveFolder) (sight h)) where
+    (legal : Legal stamped h) (p : IsPublished ArchiveFolder u (own_book u ArchiveFolder) (sight h)) where
   abbrev F : Files
   F = files_after h
 
@@ -142,5 +142,5 @@ module _ (stamped : List (List ℕ)) (b new : Book) (u : Sight) (m : IsMergedFor
   pub merged_new : NewBook stamped ArchiveFolder h new
   merged_new = (names, by_parts)
 
-pub merged_may : (stamped : List (List ℕ)) (b new : Book) (u : Sight) → IsMergedFor b new u → MayFollow stamped u new
+pub merged_may : (stamped : List (List ℕ)) (b new : Book) (u : Sight) → IsMergedFor b new u → MayFollow stamped ArchiveFolder u new
 merged_may stamped b new u m h legal p = merged_new stamped b new u m h legal p

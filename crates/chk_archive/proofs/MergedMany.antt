@@ -8,7 +8,6 @@ use Rattle.chk_bytes.specs.Stems.{is_count}
 use Rattle.chk_site.specs.declared.acts.OutsideFault.{OutsideFault}
 use Rattle.chk_site.specs.declared.acts.OutsideFault.TheVariants.{Outside as site_failed, NoMemory as no_memory}
 use Rattle.chk_site.specs.Files.{File, Files}
-use Rattle.chk_site.specs.Acts.{Starts}
 use Rattle.chk_site.specs.History.{Step, History, Every, files_after}
 use Rattle.chk_site.specs.Site.{Adds}
 use Rattle.chk_site.specs.Runs.{Leads, anyhow}
@@ -36,14 +35,14 @@ use Rattle.chk_merge.specs.Merging.{SparesBoth, AreApart, MergedInto, HasMerged}
 use Rattle.chk_parts.specs.Writes.{SameBut, IsFree}
 use Rattle.chk_parts.proofs.OneSegment.{segment_spelled, segment_own, same_self, still_unnamed}
 use Rattle.chk_parts.proofs.FromKnown.{from_known, reach, reach_known}
-use Rattle.chk_archive.specs.Archived.{ReplacesBook, merge_replaces}
+use Rattle.chk_archive.specs.Archived.{ReplacesBook}
 use Rattle.chk_archive.specs.FolderNames.{names_segment}
 use Rattle.chk_archive.specs.Tidying.{IsTidy}
 use Rattle.chk_archive.specs.Merged.{IsMerged, Merged}
-use Rattle.chk_archive.specs.Publishing.{IsPublished, MayFollow, Published}
+use Rattle.chk_parts.specs.Publishing.{IsPublished, MayFollow, Published}
+use Rattle.chk_parts.proofs.Published.{replaces_no_start, quiet_replace}
 use Rattle.chk_archive.proofs.BookFacts.{unnamed}
 use Rattle.chk_archive.proofs.Preparing.{but_book}
-use Rattle.chk_archive.proofs.Readied.{merges_start, quiet_merge}
 use Rattle.chk_archive.proofs.MergeSteps.{no_merge_starts, quiet_merging, over_merge}
 use Rattle.chk_archive.proofs.MergeFacts.{facts, counted, in_map, settled, named_chunks, never_damaged, apart}
 use Rattle.chk_archive.proofs.MergedBook.{IsMergedFor, known_chunks, merged_may}
@@ -211,7 +210,7 @@ merge_fails stamped b new last NoMemory h k = k
 
 -- ---- the publication
 
-published_merged : (b new : Book) (u w : Sight) → IsMergedFor b new u → IsPublished u new w → IsMerged b new w
+published_merged : (b new : Book) (u w : Sight) → IsMergedFor b new u → IsPublished ArchiveFolder u new w → IsMerged b new w
 published_merged b new u w m p = record {
   book = p.book;
   strays = λ k count. elim (m.strays k count) [
@@ -230,17 +229,17 @@ published_merged b new u w m p = record {
 module _ (stamped : List (List ℕ)) (b new : Book) (r : Result (Unit {0}) OutsideFault) {a m z : Option History}
     (told : Adds a m (Leads (As stamped job) (AtJob stamped (IsTidy b)) (AtJob stamped (IsMergedFor b new))))
     (own : Adds m z (Every (IsOf ReplacesBook)))
-    (second : (u : Sight) → MayFollow stamped u new
-    → Adds m z (Leads (As stamped job) (AtJob stamped (λ w. w ≡ u)) (Published stamped u new r))) where
+    (second : (u : Sight) → MayFollow stamped ArchiveFolder u new
+    → Adds m z (Leads (As stamped job) (AtJob stamped (λ w. w ≡ u)) (Published stamped ArchiveFolder u new r))) where
   pub publish_fails : (last : Book) (fault : OutsideFault) → r ≡ Err fault
       → Adds a z (Leads (As stamped job) (AtJob stamped (IsTidy b)) (Merged stamped b last (Err (job_fault fault))))
   publish_fails last fault is =
       leads_then told
-      (from_known stamped ReplacesBook (λ k. merges_start (merge_replaces Starts k)) (λ call k. quiet_merge call (merge_replaces call k)) (IsMergedFor b new)
+      (from_known stamped ReplacesBook (replaces_no_start (codes "archive")) (quiet_replace (codes "archive")) (IsMergedFor b new)
       (Merged stamped b last (Err (job_fault fault))) own
       (λ h k runs.
       reach_known stamped h (IsMergedFor b new) (Merged stamped b last (Err (job_fault fault)))
-      (leads_as (λ g j. j) (λ g j. of_fault fault g (subst (λ x. Published stamped (sight h) new x g) is j))
+      (leads_as (λ g j. j) (λ g j. of_fault fault g (subst (λ x. Published stamped ArchiveFolder (sight h) new x g) is j))
       (second (sight h) (merged_may stamped b new (sight h) (k.alive runs)))) k)
       (λ h x. of_fault fault h x.legal))
     where
@@ -252,13 +251,13 @@ module _ (stamped : List (List ℕ)) (b new : Book) (r : Result (Unit {0}) Outsi
       → Adds a z (Leads (As stamped job) (AtJob stamped (IsTidy b)) (Merged stamped b new (Ok value)))
   all_merged value is =
       leads_then told
-      (from_known stamped ReplacesBook (λ k. merges_start (merge_replaces Starts k)) (λ call k. quiet_merge call (merge_replaces call k)) (IsMergedFor b new) (Merged stamped b new (Ok value)) own
+      (from_known stamped ReplacesBook (replaces_no_start (codes "archive")) (quiet_replace (codes "archive")) (IsMergedFor b new) (Merged stamped b new (Ok value)) own
       (λ h k runs.
       let ready = k.alive runs in
       reach_known stamped h (IsMergedFor b new) (Merged stamped b new (Ok value))
       (leads_as (λ g j. j)
       (λ g j.
-      let x = subst (λ y. Published stamped (sight h) new y g) is j in
+      let x = subst (λ y. Published stamped ArchiveFolder (sight h) new y g) is j in
       record {
         legal = x.legal;
         may_act = x.may_act;

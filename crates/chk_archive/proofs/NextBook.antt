@@ -38,7 +38,8 @@ use Rattle.chk_archive.proofs.Listings.{legal_then, own_then, book_then, limits_
 use Rattle.chk_archive.proofs.FoundSources.{K, then_files, StillThere, source_found, are_found, founded, found_bytes, true_book, from_both, listed_end}
 use Rattle.chk_archive.specs.Numbers.{Numbered}
 use Rattle.chk_archive.proofs.BookFacts.{numbered}
-use Rattle.chk_archive.proofs.RaisedEnds.{sorted, EndsAre, ends_by, pass_ends, ends_follow, starts_follow, Lists, all_listed, parts_listed}
+use Rattle.chk_parts.proofs.EndsInOrder.{sorted, Has, has_any, any_has}
+use Rattle.chk_archive.proofs.RaisedEnds.{EndsAre, ends_by, pass_ends, ends_follow, starts_follow, all_listed, parts_listed}
 
 known_file : (t : Bool) (o : Option File) (f : File) → (if t then o else None) ≡ Some f → o ≡ Some f
 known_file true o f e = e
@@ -357,11 +358,12 @@ module _ (stamped : List (List ℕ)) (names : List (List ℕ)) (b : Book) (v : S
           → Any (λ (e : End). e.stream ≡ c.key.stream) new.ends
       each_listed c one =
           subst (Any (λ (e : End). e.stream ≡ c.key.stream)) (sym new_ends)
+          (any_has c.key.stream (raised_all parts b.ends)
           (elim (from_both (chunks_named N ArchiveFolder b) parts c (subst (λ l. Contains l c) named one)) [
-            | inl old ↦ all_listed c.key.stream parts b.ends (old_book.listed c old)
-            | inr part ↦ each_at (λ (c : Chunk). Lists c.key.stream (raised_all parts b.ends)) parts c
+            | inl old ↦ all_listed c.key.stream parts b.ends (has_any c.key.stream b.ends (old_book.listed c old))
+            | inr part ↦ each_at (λ (c : Chunk). Has c.key.stream (raised_all parts b.ends)) parts c
                 (parts_listed parts b.ends) part
-          ])
+          ]))
 
       names_parts : NamesParts h b new Cs
       names_parts = record {

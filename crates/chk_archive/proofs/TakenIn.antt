@@ -1,10 +1,10 @@
 -- What was prepared is published, and so all is taken.
-use Rattle.std.proofs.Common.{◌≡◌, ℕ, ◌+◌, ◌<◌, ◌≤◌, Bool, false, List, [], ◌∷◌, length, Option, Ok, Err, Result, ap, sym, subst, ◌∙◌, refl, arith, append-nil, length-append}
-use Rattle.std.specs.Prelude.{count_by, flat_map}
+use Rattle.std.proofs.Common.{◌≡◌, ℕ, ◌+◌, ◌<◌, ◌≤◌, Bool, List, [], ◌∷◌, length, Option, Ok, Err, Result, ap, sym, subst, ◌∙◌, refl, arith, append-nil, length-append}
+use Rattle.std.specs.Prelude.{codes, count_by, flat_map}
 use Rattle.chk_bytes.specs.Stems.{Stem}
 use Rattle.chk_site.specs.declared.acts.OutsideFault.{OutsideFault}
 use Rattle.chk_site.specs.declared.acts.OutsideFault.TheVariants.{Outside as site_failed, NoMemory as no_memory}
-use Rattle.chk_site.specs.Acts.{Deed, Starts, Reads}
+use Rattle.chk_site.specs.Acts.{Deed}
 use Rattle.chk_site.specs.History.{History, Every, files_after}
 use Rattle.chk_site.specs.Site.{Adds}
 use Rattle.chk_site.specs.Runs.{Leads}
@@ -21,7 +21,6 @@ use Rattle.chk_world.specs.Sight.{job, Sight, sight, own_book, own_aside, AtJob}
 use Rattle.chk_world.specs.JobSteps.{IsOf}
 use Rattle.chk_world.proofs.Segments.{flat_same}
 use Rattle.chk_world.proofs.OwnArchive.{own_archive_is}
-use Rattle.chk_world.proofs.ToldCalls.{talks}
 use Rattle.chk_heads.specs.Faults.{job_fault, IsOfRead}
 use Rattle.chk_heads.specs.declared.fault.JobFault.{JobFault}
 use Rattle.chk_heads.specs.declared.fault.JobFault.TheVariants.{Outside, Damaged, Spent, NoMemory}
@@ -32,14 +31,14 @@ use Rattle.chk_parts.specs.Cuts.{cut_chunks, AreWithin}
 use Rattle.chk_parts.specs.Kept.{is_first}
 use Rattle.chk_parts.specs.Gathering.{heads_of, Found}
 use Rattle.chk_parts.specs.Records.{AreRecords}
-use Rattle.chk_parts.proofs.StepKinds.{writes_no_reads}
 use Rattle.chk_parts.specs.Writes.{HoldsChunks}
 use Rattle.chk_parts.proofs.OneFile.{Knows}
 use Rattle.chk_parts.proofs.FromKnown.{from_known, reach, reach_known}
-use Rattle.chk_archive.specs.Archived.{ReplacesBook, writes_book, names_book, MergesBy, merge_replaces}
+use Rattle.chk_archive.specs.Archived.{ReplacesBook, MergesBy, merge_replaces}
 use Rattle.chk_archive.specs.Listed.{IsListed}
-use Rattle.chk_archive.specs.Publishing.{IsPublished, MayFollow, MayFollowIf, Published}
-use Rattle.chk_archive.specs.Taking.{CanPrepare, PartsAdded, nothing_taken, one_added, AsideNamed, none_kept, old_kept, new_kept, IsReady, Prepared, TookAll, TookSo}
+use Rattle.chk_parts.specs.Publishing.{IsPublished, MayFollow, Published}
+use Rattle.chk_parts.proofs.Published.{replaces_no_start, quiet_replace}
+use Rattle.chk_archive.specs.Taking.{CanPrepare, MayFollowIf, PartsAdded, nothing_taken, one_added, AsideNamed, none_kept, old_kept, new_kept, IsReady, Prepared, TookAll, TookSo}
 use Rattle.chk_archive.specs.declared.taking.Taken.{Taken}
 use Rattle.chk_archive.proofs.Listings.{limits_agree}
 use Rattle.chk_archive.proofs.FoundSources.{K}
@@ -50,7 +49,7 @@ use Rattle.chk_archive.proofs.Readied.{merges_start, quiet_merge}
 
 -- ---- over a publication
 
-module _ (u : Sight) (c : Book) (w : Sight) (p : IsPublished u c w) where
+module _ (u : Sight) (c : Book) (w : Sight) (p : IsPublished ArchiveFolder u c w) where
   segment_stays : (k : ℕ) → w.own (SegmentFile ArchiveFolder k) ≡ u.own (SegmentFile ArchiveFolder k)
   segment_stays k = p.own (SegmentFile ArchiveFolder k) refl
 
@@ -124,14 +123,14 @@ module _ (stamped : List (List ℕ)) (names : List (List ℕ)) (b : Book) (v : S
     book_ready : own_book u ArchiveFolder ≡ b
     book_ready = below_book b.next v u ready.same ∙ at.book
 
-    module _ (h : History) (c : Book) (p : IsPublished u c (sight h)) where
+    module _ (h : History) (c : Book) (p : IsPublished ArchiveFolder u c (sight h)) where
       sinks_then : (x : Stem) → (sight h).sinks x ≡ v.sinks x
       sinks_then x = p.sinks x ∙ ready.same.sinks x
 
       old_then : (k : ℕ) → k < b.next → (sight h).own (SegmentFile ArchiveFolder k) ≡ v.own (SegmentFile ArchiveFolder k)
       old_then k small = p.own (SegmentFile ArchiveFolder k) refl ∙ below_segment b.next v u ready.same k small
 
-    may_ready : MayFollow stamped u new
+    may_ready : MayFollow stamped ArchiveFolder u new
     may_ready h legal p =
         let same : own_book (sight h) ArchiveFolder ≡ own_book u ArchiveFolder = p.book in
         may_follow stamped names b v at h (sinks_then h (own_book u ArchiveFolder) p) (old_then h (own_book u ArchiveFolder) p)
@@ -143,7 +142,7 @@ module _ (stamped : List (List ℕ)) (names : List (List ℕ)) (b : Book) (v : S
     may_if = (λ e. may_ready, λ e. book_ready ∙ sym (ready.unchanged e))
 
     pub took_all : (t : Taken) → t.taken ≡ total_gain (Ends stamped names b v at) (Cs stamped names b v at)
-        → t.held ≡ length kept → (h : History) → Legal stamped h → IsPublished u new (sight h)
+        → t.held ≡ length kept → (h : History) → Legal stamped h → IsPublished ArchiveFolder u new (sight h)
         → TookAll v new t (sight h)
     took_all t taken held h legal p =
         let aside = aside_now u new (sight h) p b kept book_ready ready.aside in
@@ -169,12 +168,6 @@ module _ (stamped : List (List ℕ)) (names : List (List ℕ)) (b : Book) (v : S
 
   -- ---- over histories
 
-  replaces_start : ReplacesBook Starts → ⊥
-  replaces_start k = merges_start (merge_replaces Starts k)
-
-  quiet_replace : (call : Deed) → ReplacesBook call → talks call ≡ false
-  quiet_replace call k = quiet_merge call (merge_replaces call k)
-
   pub prepare_fails : (r : Result Bool JobFault) (fault : JobFault) → r ≡ Err fault → (h : History)
       → Prepared stamped v b new parts kept r h → TookSo stamped v b new (Err fault) h
   prepare_fails r fault e h k = go fault (subst (λ x. Prepared stamped v b new parts kept x h) e k)
@@ -190,7 +183,7 @@ module _ (stamped : List (List ℕ)) (names : List (List ℕ)) (b : Book) (v : S
       (told : Adds a m (Leads (As stamped job) (Knows stamped v) (Prepared stamped v b new parts kept first)))
       (own : Adds m z (Every (IsOf ReplacesBook)))
       (second : (u : Sight) → MayFollowIf stamped u new changed
-      → Adds m z (Leads (As stamped job) (Knows stamped u) (Published stamped u new r))) where
+      → Adds m z (Leads (As stamped job) (Knows stamped u) (Published stamped ArchiveFolder u new r))) where
     is_prepared : Adds a m (Leads (As stamped job) (Knows stamped v) (AtJob stamped (IsReady v b new parts kept changed)))
     is_prepared = leads_as (λ h k. k) (λ h k. subst (λ x. Prepared stamped v b new parts kept x h) e k) told
 
@@ -198,12 +191,12 @@ module _ (stamped : List (List ℕ)) (names : List (List ℕ)) (b : Book) (v : S
         → Adds a z (Leads (As stamped job) (Knows stamped v) (TookSo stamped v b new (Err (job_fault fault))))
     publish_fails fault is =
         leads_then is_prepared
-        (from_known stamped ReplacesBook replaces_start quiet_replace (IsReady v b new parts kept changed)
+        (from_known stamped ReplacesBook (replaces_no_start (codes "archive")) (quiet_replace (codes "archive")) (IsReady v b new parts kept changed)
         (TookSo stamped v b new (Err (job_fault fault))) own
         (λ h k runs.
         let u = sight h in
         reach_known stamped h (IsReady v b new parts kept changed) (TookSo stamped v b new (Err (job_fault fault)))
-        (leads_as (λ g j. j) (λ g j. of_fault fault g (subst (λ x. Published stamped u new x g) is j))
+        (leads_as (λ g j. j) (λ g j. of_fault fault g (subst (λ x. Published stamped ArchiveFolder u new x g) is j))
         (second u (may_if u changed (k.alive runs)))) k)
         (λ h x. of_fault fault h x.legal))
       where
@@ -216,7 +209,7 @@ module _ (stamped : List (List ℕ)) (names : List (List ℕ)) (b : Book) (v : S
         → Adds a z (Leads (As stamped job) (Knows stamped v) (TookSo stamped v b new (Ok t)))
     published_all t taken held value is =
         leads_then is_prepared
-        (from_known stamped ReplacesBook replaces_start quiet_replace (IsReady v b new parts kept changed)
+        (from_known stamped ReplacesBook (replaces_no_start (codes "archive")) (quiet_replace (codes "archive")) (IsReady v b new parts kept changed)
         (TookSo stamped v b new (Ok t)) own
         (λ h k runs.
         let u = sight h in
@@ -224,7 +217,7 @@ module _ (stamped : List (List ℕ)) (names : List (List ℕ)) (b : Book) (v : S
         reach_known stamped h (IsReady v b new parts kept changed) (TookSo stamped v b new (Ok t))
         (leads_as (λ g j. j)
         (λ g j.
-        let x = subst (λ y. Published stamped u new y g) is j in
+        let x = subst (λ y. Published stamped ArchiveFolder u new y g) is j in
         record {
           legal = x.legal;
           may_act = x.may_act;
@@ -233,17 +226,13 @@ module _ (stamped : List (List ℕ)) (names : List (List ℕ)) (b : Book) (v : S
         (second u (may_if u changed ready))) k)
         (λ h x. record { legal = x.legal; may_act = x.may_act; alive = λ runs. absurd (x.alive runs) }))
 
--- ---- what is read of the book's replacement
-
-pub replaces_no_reads : (call : Deed) → ReplacesBook call → (name : List ℕ) (place max : ℕ) → call ≡ Reads name place max → ⊥
-replaces_no_reads call (writes_book c k) name place max is = writes_no_reads _ c k name place max is
-replaces_no_reads call names_book name place max is = absurd (cc)
+-- ---- the calls of the book's replacement merge
 
 pub of_replace : (call : Deed) → ReplacesBook call → MergesBy call
 of_replace call k = merge_replaces call k
 
 -- where nothing is changed
-pub unchanged_book : (v : Sight) (b : Book) → own_book v ArchiveFolder ≡ b → IsPublished v b v
+pub unchanged_book : (v : Sight) (b : Book) → own_book v ArchiveFolder ≡ b → IsPublished ArchiveFolder v b v
 unchanged_book v b book =
     record { listing = refl; sinks = λ x. refl; own = λ n apart. refl; book = book }
 

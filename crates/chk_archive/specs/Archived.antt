@@ -4,10 +4,9 @@ use Rattle.chk_site.specs.declared.acts.Act.{Act}
 use Rattle.chk_site.specs.declared.acts.ActAnswer.{ActAnswer}
 use Rattle.chk_site.specs.declared.acts.ActAnswer.TheVariants.{Done}
 use Rattle.chk_site.specs.declared.acts.Role.TheVariants.{Job}
-use Rattle.chk_site.specs.Acts.{Deed, Starts, Lists, Removes, Renames, deed, same_role}
+use Rattle.chk_site.specs.Acts.{Deed, Starts, Lists, Removes, deed, same_role}
 use Rattle.chk_site.specs.History.{History, files_after}
 use Rattle.chk_site.specs.Runs.{own_acts}
-use Rattle.chk_replace.specs.Replace.{tmp}
 use Rattle.chk_world.specs.Names.{ArchiveFolder, SegmentFile, file}
 use Rattle.chk_world.specs.Books.{Segment, Book, book_of}
 use Rattle.chk_world.specs.Committed.{IsAbsent}
@@ -20,6 +19,8 @@ use Rattle.chk_world.specs.JobSteps.{ReadsFile, WritesTo}
 use Rattle.chk_book.specs.Folders.{segment_name}
 use Rattle.chk_heads.specs.declared.fault.JobFault.{JobFault}
 use Rattle.chk_heads.specs.declared.fault.JobFault.TheVariants.{Damaged, Spent}
+use Rattle.chk_parts.specs.Publishing.{ReplacesBookOf}
+pub use Rattle.chk_parts.specs.Publishing.{writes_book, names_book}
 use Rattle.chk_archive.specs.Reports.{Report}
 
 -- each segment file that was there at the listing is named by the book then, or by the one that the
@@ -86,9 +87,8 @@ abbrev pub GivenOnce : History → History → Type 0
 GivenOnce added history = count_by is_job_listing (own_acts added) ≡ 1
 
 -- the calls that replace the archive's book
-pub data ReplacesBook : Deed → Type 0 where
-  writes_book : (call : Deed) → WritesTo (tmp (codes "archive/book")) call → ReplacesBook call
-  names_book : ReplacesBook (Renames (tmp (codes "archive/book")) (codes "archive/book"))
+abbrev pub ReplacesBook : Deed → Type 0
+ReplacesBook = ReplacesBookOf (codes "archive")
 
 -- the calls that merge: they read files, write segments of the archive, and replace its book
 pub data MergesBy : Deed → Type 0 where

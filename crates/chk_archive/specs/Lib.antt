@@ -8,7 +8,6 @@ pub mod Archived
 pub mod Beginning
 pub mod Listed
 pub mod Counting
-pub mod Publishing
 pub mod Numbers
 pub mod Taking
 pub mod Merged

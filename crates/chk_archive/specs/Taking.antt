@@ -1,5 +1,5 @@
 -- What an archive run takes, once the sinks are listed.
-use Rattle.std.specs.Prelude.{◌≡◌, ℕ, ◌+◌, ◌-◌, ◌≤◌, ◌^◌, Bool, false, not, ◌&&◌, IsTrue, List, [], ◌∷◌, ◌++◌, length, flat_map, sum_by, Contains, Some, None, Result, Ok, Err}
+use Rattle.std.specs.Prelude.{◌≡◌, ℕ, ◌+◌, ◌-◌, ◌≤◌, ◌^◌, Bool, true, false, not, ◌&&◌, IsTrue, List, [], ◌∷◌, ◌++◌, length, flat_map, sum_by, Contains, Some, None, Result, Ok, Err}
 use Rattle.chk_bytes.specs.Stems.{Stem}
 use Rattle.chk_site.specs.History.{History}
 use Rattle.chk_chunk.specs.Keys.{Stream, Chunk}
@@ -24,6 +24,7 @@ use Rattle.chk_parts.specs.Cuts.{span_cuts, AreWithin}
 use Rattle.chk_parts.specs.Kept.{AreSpansWithin, are_old_aside}
 use Rattle.chk_parts.specs.declared.cuts.Cut.{Cut}
 use Rattle.chk_archive.specs.Numbers.{Numbered}
+use Rattle.chk_parts.specs.Publishing.{MayFollow}
 use Rattle.chk_parts.specs.Writes.{HoldsChunks}
 use Rattle.chk_archive.specs.declared.taking.Planned.{Planned}
 use Rattle.chk_archive.specs.declared.taking.Taken.{Taken}
@@ -142,3 +143,8 @@ TookSo stamped v old new (Ok t) history = AtJob stamped (TookAll v new t) histor
 TookSo stamped v old new (Err (Damaged name at)) history = AtTold stamped job (λ h. ⊥) history
 TookSo stamped v old new (Err (Spent n)) history = AtJob stamped (IsSpent n) history
 TookSo stamped v old new (Err fault) history = Legal stamped history
+
+-- where the book has changed it may be published, else the archive has it
+abbrev pub MayFollowIf : List (List ℕ) → Sight → Book → Bool → Type 0
+MayFollowIf stamped v b changed =
+    (changed ≡ true → MayFollow stamped ArchiveFolder v b) × (changed ≡ false → own_book v ArchiveFolder ≡ b)

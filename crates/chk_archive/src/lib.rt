@@ -7,7 +7,6 @@ mod calling;
 mod counting;
 mod folder_names;
 mod merging;
-mod publishing;
 mod report;
 mod run;
 mod sinks;

@@ -14,10 +14,10 @@ ghost use Rattle.chk_archive.specs.Tidying.{IsTidy};
 ghost use Rattle.chk_archive.specs.Archived.{MergesBy};
 ghost use Rattle.chk_archive.specs.Merged.{Merged};
 
-use crate::publishing::publish_next;
 use chk_book::Book;
 use chk_heads::JobFault;
 use chk_merge::merge;
+use chk_parts::publish_next;
 use chk_site::{Site, Who};
 use std::alloc::Global;
 
@@ -46,6 +46,6 @@ pub(crate) fn merge_many<S: Site>(
         return Ok(());
     }
     merge(book, alloc, site, who, "archive")?;
-    publish_next(alloc, site, who, book)?;
+    publish_next(alloc, site, who, book, "archive")?;
     Ok(())
 }

@@ -16,21 +16,20 @@ ghost use Rattle.chk_parts.specs.Cuts.{AreWithin, cut_chunks};
 ghost use Rattle.chk_parts.specs.Records.{AreRecords};
 ghost use Rattle.chk_archive.specs.Archived.{MergesBy, ReplacesBook};
 ghost use Rattle.chk_archive.specs.Listed.{IsListed, sources_in};
-ghost use Rattle.chk_archive.specs.Publishing.{MayFollowIf, Published};
 ghost use Rattle.chk_parts.specs.Gathering.{heads_of};
+ghost use Rattle.chk_parts.specs.Publishing.{Published};
 ghost use Rattle.chk_archive.specs.Numbers.{Numbered};
 ghost use Rattle.chk_parts.specs.Writes.{IsFree};
-ghost use Rattle.chk_archive.specs.Taking.{IsPlanned, CanPrepare, IsWhole, Prepared, PartsTaken, AsideKept, stays_aside, TookSo};
+ghost use Rattle.chk_archive.specs.Taking.{IsPlanned, CanPrepare, IsWhole, Prepared, PartsTaken, AsideKept, stays_aside, MayFollowIf, TookSo};
 
 use crate::counting::count_of;
-use crate::publishing::publish_next;
 use crate::sources::sources;
 use chk_book::Book;
 use chk_bytes::{NoMemory, Word};
 use chk_heads::{Heads, JobFault};
 use chk_parts::{
-    Cut, Cuts, add_aside, add_parts, count_first, cuts_of, gather_found, is_old_aside, kept_of,
-    known_ends,
+    Cut, Cuts, Purpose, add_segment, count_first, cuts_of, gather_found, is_old_aside, kept_of,
+    known_ends, publish_next,
 };
 use chk_plan::{Span, plan, taken};
 use chk_site::{OutsideFault, Site, Who};
@@ -130,13 +129,13 @@ fn publish_if<S: Site>(
     requires { who.now ≡ job }
     ensures told { (stamped : List (List ℕ)) (v : Sight) → MayFollowIf stamped v (book_view book.now) changed
         → Adds (S.told site.old) (S.told site.new)
-        (Leads (As stamped job) (AtJob stamped (λ u. u ≡ v)) (Published stamped v (book_view book.now) result)) }
+        (Leads (As stamped job) (AtJob stamped (λ u. u ≡ v)) (Published stamped ArchiveFolder v (book_view book.now) result)) }
     ensures own { Adds (S.told site.old) (S.told site.new) (Every (IsOf ReplacesBook)) }
     ensures last { Adds (S.told site.old) (S.told site.new) (LastFailed result) }
     ensures cause { OutsideCause (S.fault_count site.old) (S.fault_count site.new) result }
 {
     if changed {
-        return publish_next(alloc, site, who, book);
+        return publish_next(alloc, site, who, book, "archive");
     }
     Ok(())
 }
@@ -216,7 +215,7 @@ fn take_parts<S: Site>(
     if cuts.is_empty() {
         return Ok(());
     }
-    add_parts(alloc, site, who, book, files, heads, cuts)
+    add_segment(alloc, site, who, book, files, heads, cuts, Purpose::Parts)
 }
 
 /// Writes the segment of what is set aside, where that isn't what the aside segment has, and the book names it; where it is nothing,
@@ -251,7 +250,7 @@ fn keep_aside<S: Site>(
         book.aside = None;
         return Ok(true);
     }
-    add_aside(alloc, site, who, book, files, heads, kept)?;
+    add_segment(alloc, site, who, book, files, heads, kept, Purpose::Aside)?;
     Ok(true)
 }
 

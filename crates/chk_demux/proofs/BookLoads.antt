@@ -39,7 +39,7 @@ use Rattle.chk_parts.proofs.FromKnown.{from_known, reach}
 use Rattle.chk_demux.specs.Beginning.{HasRecords, HasStarted, HasBegun, Begins, only_reads}
 use Rattle.chk_demux.specs.Working.{Worked}
 use Rattle.chk_demux.specs.declared.beginning.Books.{Books}
-use Rattle.chk_demux.proofs.BookNames.{book_spelled}
+use Rattle.chk_parts.proofs.Published.{book_named}
 use Rattle.chk_demux.proofs.Works.{worked, works_as, works_value}
 
 legal_modelled : (stamped : List (List ℕ)) (history : History) → Legal stamped history → AllModelled history
@@ -103,7 +103,7 @@ module _ (stamped : List (List ℕ)) (P : Sight → Type 0) (f : Folder) (text :
       (λ h k runs.
       let o : Option File = files_after h (spell (BookFile f)) in
       let Q : Sight → Type 0 = λ u. P u × (u.own (BookFile f) ≡ o) in
-      let name : book_name text ≡ spell (BookFile f) = book_spelled f text is in
+      let name : book_name text ≡ spell (BookFile f) = book_named f text is in
       let small : IsSmallFile o = (all_small h (legal_modelled stamped h k.legal)).files (spell (BookFile f)) in
       reach stamped h (λ h. AtJob stamped Q h × Unit {0} × Has (spell (BookFile f)) o h) (HasLoaded stamped P f r)
       (leads_as (λ g j. j) (λ g z. ended r o ((readable stamped h k.legal).books f) g z.0 z.2)

@@ -1,13 +1,12 @@
 -- The new records' segment is entered.
 use Rattle.std.proofs.Common.{◌≡◌, ℕ, zero, suc, false, List, [], ◌∷◌, ◌++◌, Option, Some, None, Ok, Err, Result, ap, ap₂, sym, subst, arith, ◌∙◌, refl, append-nil}
-use Rattle.std.specs.Prelude.{nat_eq, Contains}
+use Rattle.std.specs.Prelude.{codes, nat_eq, Contains}
 use Rattle.std.specs.List.{list_any}
 use Rattle.std.proofs.lemmas.Bool.{or_parts}
 use Rattle.std.proofs.lemmas.List.Elements.{Contains-append_left}
 use Rattle.std.proofs.lemmas.Grind.{flat_map-append}
 use Rattle.chk_site.specs.declared.acts.OutsideFault.{OutsideFault}
 use Rattle.chk_site.specs.declared.acts.OutsideFault.TheVariants.{Outside as site_failed, NoMemory as no_memory}
-use Rattle.chk_site.specs.Acts.{Deed, Starts, Reads}
 use Rattle.chk_site.specs.History.{History, Every}
 use Rattle.chk_site.specs.Site.{Adds}
 use Rattle.chk_site.specs.Runs.{Leads}
@@ -20,31 +19,18 @@ use Rattle.chk_world.proofs.Segments.{flat_same}
 use Rattle.chk_world.specs.Places.{As}
 use Rattle.chk_world.specs.Sight.{job, Sight, sight, own_chunks, AtJob}
 use Rattle.chk_world.specs.JobSteps.{IsOf}
-use Rattle.chk_world.proofs.ToldCalls.{talks}
 use Rattle.chk_heads.specs.declared.fault.JobFault.{JobFault}
 use Rattle.chk_book.specs.declared.segmenter.Segmenter.{Segmenter}
 use Rattle.chk_parts.proofs.FromKnown.{from_known, reach_known}
 use Rattle.chk_parts.proofs.OneFile.{Knows}
-use Rattle.chk_parts.proofs.OneSegment.{no_write_starts, quiet_write}
-use Rattle.chk_parts.proofs.StepKinds.{writes_no_reads}
-use Rattle.chk_demux.specs.Demuxed.{ReplacesBook, writes_book, names_book}
+use Rattle.chk_demux.specs.Demuxed.{ReplacesBook}
 use Rattle.chk_demux.specs.Working.{EndsSo, job_result}
 use Rattle.chk_demux.specs.Writes.{IsFree, SoFar, IsSoFar}
-use Rattle.chk_demux.specs.Publishing.{IsPublished, MayFollow, Published}
+use Rattle.chk_parts.specs.Publishing.{IsPublished, MayFollow, Published}
+use Rattle.chk_parts.proofs.Published.{replaces_no_start, quiet_replace}
 use Rattle.chk_demux.specs.Entering.{MayEnter, Entered}
 use Rattle.chk_demux.proofs.Ends.{ends_bottom, so_done}
 use Rattle.chk_demux.proofs.OneSegment.{HasWritten}
-
-pub replaces_no_reads : (call : Deed) → ReplacesBook call → (name : List ℕ) (place max : ℕ) → call ≡ Reads name place max → ⊥
-replaces_no_reads call (writes_book c k) name place max is = writes_no_reads _ c k name place max is
-replaces_no_reads call names_book name place max is = absurd (cc)
-
-pub replaces_start : ReplacesBook Starts → ⊥
-replaces_start (writes_book c k) = no_write_starts _ k
-
-pub quiet_replace : (call : Deed) → ReplacesBook call → talks call ≡ false
-quiet_replace call (writes_book c k) = quiet_write _ c k
-quiet_replace call names_book = refl
 
 module _ (stamped : List (List ℕ)) (v : Sight) (b : Book) (outs : List Chunk) (free : IsFree v b.next)
     (may : MayEnter stamped v b outs) where
@@ -78,7 +64,7 @@ module _ (stamped : List (List ℕ)) (v : Sight) (b : Book) (outs : List Chunk) 
       g (Contains-append_left b.segments (segment_list b.aside) g one)
 
   module _ (new : Book) (w : Sight) (p : HasWritten v b new outs w) where
-    may_follow : MayFollow stamped w new
+    may_follow : MayFollow stamped DemuxFolder w new
     may_follow history legal q =
         subst (NewBook stamped DemuxFolder history) (sym p.book)
         (may.1 p.segment p.number history legal
@@ -92,7 +78,7 @@ module _ (stamped : List (List ℕ)) (v : Sight) (b : Book) (outs : List Chunk) 
           size = p.holds.size;
         }))
 
-    entered_now : (u : Sight) → IsPublished w new u → Entered v b outs u
+    entered_now : (u : Sight) → IsPublished DemuxFolder w new u → Entered v b outs u
     entered_now u q =
         let there : u.own (SegmentFile DemuxFolder p.segment.number) ≡ Some p.holds.file =
         q.own (SegmentFile DemuxFolder p.segment.number) refl ∙ p.holds.there in
@@ -116,10 +102,10 @@ module _ (stamped : List (List ℕ)) (v : Sight) (b : Book) (outs : List Chunk) 
       (finished : Adds a m (Leads (As stamped job) (AtJob stamped (IsSoFar v outs s))
       (EndsSo stamped v b.next (λ value u. HasWritten v b new outs u) first)))
       (value : Unit {0}) (done : first ≡ Ok value) (own : Adds m z (Every (IsOf ReplacesBook)))
-      (second : (w : Sight) → MayFollow stamped w new
-      → Adds m z (Leads (As stamped job) (Knows stamped w) (Published stamped w new r))) where
+      (second : (w : Sight) → MayFollow stamped DemuxFolder w new
+      → Adds m z (Leads (As stamped job) (Knows stamped w) (Published stamped DemuxFolder w new r))) where
     ended : (r : Result (Unit {0}) OutsideFault) (w : Sight) → HasWritten v b new outs w → (h : History)
-        → Published stamped w new r h → EndsSo stamped v b.next (λ (value : Unit {0}) u. Entered v b outs u) (job_result r) h
+        → Published stamped DemuxFolder w new r h → EndsSo stamped v b.next (λ (value : Unit {0}) u. Entered v b outs u) (job_result r) h
     ended (Ok value) w p h k = record {
       legal = k.legal;
       may_act = k.may_act;
@@ -134,7 +120,7 @@ module _ (stamped : List (List ℕ)) (v : Sight) (b : Book) (outs : List Chunk) 
         let C : History → Type 0 = EndsSo stamped v b.next (λ (value : Unit {0}) u. Entered v b outs u) (job_result r) in
         leads_then
         (so_done stamped v b.next (AtJob stamped (IsSoFar v outs s)) (λ value u. HasWritten v b new outs u) first value done finished)
-        (from_known stamped ReplacesBook replaces_start quiet_replace (HasWritten v b new outs) C own
+        (from_known stamped ReplacesBook (replaces_no_start (codes "demux")) (quiet_replace (codes "demux")) (HasWritten v b new outs) C own
         (λ h k runs.
         let w = sight h in
         let p = k.alive runs in

@@ -9,9 +9,6 @@ mod Fetches
 mod Streams
 mod FoundRecords
 mod Prefixes
-mod BookNames
-mod Spelling
-mod Published
 mod Entries
 mod Started
 mod BookLoads

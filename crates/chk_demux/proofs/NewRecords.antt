@@ -39,7 +39,8 @@ use Rattle.chk_demux.specs.Writes.{bytes_of}
 use Rattle.chk_demux.proofs.Ordered.{of_stream}
 use Rattle.chk_demux.proofs.Places.{past_values}
 use Rattle.chk_demux.proofs.Prefixes.{records_are_the_split, split_none}
-use Rattle.chk_demux.proofs.SortedEnds.{Sorted, sorted, Has, has_any, EndOf, find_end, not_has, none_of, just_of, sum_each, sum_both, bytes_over}
+use Rattle.chk_parts.proofs.EndsInOrder.{Sorted, sorted, Has, has_any}
+use Rattle.chk_demux.proofs.SortedEnds.{EndOf, find_end, not_has, none_of, just_of, sum_each, sum_both, bytes_over}
 
 -- ---- how many bytes the records have
 

@@ -34,7 +34,7 @@ use Rattle.chk_demux.specs.declared.beginning.Books.{Books}
 use Rattle.chk_demux.specs.declared.output.Output.{Output}
 use Rattle.chk_demux.specs.declared.report.DemuxReport.{DemuxReport}
 use Rattle.chk_demux.proofs.Ends.{at_as, ends_bottom, so_done}
-use Rattle.chk_demux.proofs.Entries.{replaces_start, quiet_replace}
+use Rattle.chk_parts.proofs.Published.{replaces_no_start, quiet_replace}
 use Rattle.chk_demux.proofs.RunFacts.{CanRun, News}
 use Rattle.chk_demux.proofs.Streams.{reads_or_writes_start, quiet_reads_or_writes}
 use Rattle.chk_demux.proofs.Works.{own_of, worked, works_as, works_then}
@@ -45,11 +45,11 @@ use Rattle.chk_world.proofs.ToldCalls.{talks}
 -- the calls that enter a segment are no starts, and quiet
 enters_start : (k : ℕ) → WritesBook k Starts → ⊥
 enters_start k (writes_segment c p) = no_write_starts _ p
-enters_start k (replaces c p) = replaces_start p
+enters_start k (replaces c p) = replaces_no_start (codes "demux") p
 
 quiet_enter : (k : ℕ) (call : Deed) → WritesBook k call → talks call ≡ false
 quiet_enter k call (writes_segment c p) = quiet_write _ c p
-quiet_enter k call (replaces c p) = quiet_replace c p
+quiet_enter k call (replaces c p) = quiet_replace (codes "demux") c p
 
 module _ (stamped types : List (List ℕ)) (a b : Book) (v : Sight) (k : CanRun stamped types a b v) where
   abbrev pub Start : History → Type 0
@@ -253,12 +253,12 @@ whole_works s r before told =
 no_start : RunsOn Starts → ⊥
 no_start (goes_reading c p) = reads_or_writes_start [] (inl p)
 no_start (goes_writing k c p) = no_write_starts _ p
-no_start (goes_replacing c p) = replaces_start p
+no_start (goes_replacing c p) = replaces_no_start (codes "demux") p
 
 quiet_on : (call : Deed) → RunsOn call → talks call ≡ false
 quiet_on call (goes_reading c p) = quiet_reads_or_writes [] c (inl p)
 quiet_on call (goes_writing k c p) = quiet_write _ c p
-quiet_on call (goes_replacing c p) = quiet_replace c p
+quiet_on call (goes_replacing c p) = quiet_replace (codes "demux") c p
 
 demuxed_bottom : (stamped : List (List ℕ)) (before : List Chunk) (r : Result DemuxReport JobFault) (h : History)
     → AtJob stamped (λ u. ⊥) h → Demuxed stamped before r h

@@ -1,74 +1,17 @@
--- Ends of streams that stand in order, each stream once: what chunks of one stream are among those of all, and sums over the streams.
+-- Over ends of streams that stand in order: what chunks of one stream are among those of all, and sums over the streams.
 use Rattle.std.proofs.Common.{◌≡◌, ◌⊎◌, inl, inr, ℕ, zero, suc, ◌+◌, ◌<◌, Bool, true, false, cond, List, [], ◌∷◌, ◌++◌, length, ap, ap₂, sym, subst, ◌∙◌, refl, arith, append-nil, true≢false, if◌then◌else◌}
-use Rattle.std.specs.Prelude.{Any, Contains, filter, flat_map, sum_by, slice_index_or}
-use Rattle.std.proofs.lemmas.Bool.{and_parts, cases_Bool}
+use Rattle.std.specs.Prelude.{Contains, filter, flat_map, sum_by, slice_index_or}
 use Rattle.std.proofs.lemmas.List.Elements.{filter-append}
 use Rattle.std.proofs.lemmas.List.Sums.{sum_by-cons}
 use Rattle.chk_chunk.specs.Keys.{Stream, Chunk, same_stream, stream_lt, is_of}
-use Rattle.chk_world.specs.Books.{End, ends_rise}
+use Rattle.chk_world.specs.Books.{End}
 use Rattle.chk_world.proofs.NameTests.{streams_same}
 use Rattle.chk_world.proofs.Each.{Each, each_as, each_at, each_from, later_one}
-use Rattle.chk_heads.proofs.Orders.{streams}
 use Rattle.chk_plan.proofs.Parts.{stream_self}
+use Rattle.chk_parts.proofs.EndsInOrder.{apart, apart_from, Sorted, Has}
 use Rattle.chk_demux.specs.Writes.{bytes_of}
 
--- ---- streams in order
-
-pub before_on : (a b c : Stream) → stream_lt a b ≡ true → stream_lt b c ≡ true → stream_lt a c ≡ true
-before_on a b c p q = elim (cases_Bool (stream_lt a c)) [
-  | inl h ↦ h
-  | inr unlike ↦ absurd (true≢false (sym p
-      ∙ streams.order.onward a c b unlike (streams.order.one_way b c q)))
-]
-
--- one that comes before another is not the same
-pub apart : (a b : Stream) → stream_lt a b ≡ true → same_stream a b ≡ false
-apart a b p = elim (cases_Bool (same_stream a b)) [
-  | inr unlike ↦ unlike
-  | inl same ↦ absurd (true≢false (sym p ∙ (streams.neither a b same).0))
-]
-
-pub apart_from : (a b : Stream) → stream_lt a b ≡ true → same_stream b a ≡ false
-apart_from a b p = elim (cases_Bool (same_stream b a)) [
-  | inr unlike ↦ unlike
-  | inl same ↦ absurd (true≢false (sym p ∙ (streams.neither b a same).1))
-]
-
--- each stream stands once, in order
-abbrev pub Sorted : List End → Type 0
-Sorted [] = Unit {0}
-Sorted (e ∷ es) = Each (λ (f : End). stream_lt e.stream f.stream ≡ true) es × Sorted es
-
-pub sorted : (es : List End) → ends_rise es ≡ true → Sorted es
-sorted [] h = tt
-sorted (e ∷ []) h = (tt, tt)
-sorted (e ∷ f ∷ es) h =
-    let p = and_parts (stream_lt e.stream f.stream) (ends_rise (f ∷ es)) h in
-    let rest = sorted (f ∷ es) p.1 in (
-      (
-        p.0,
-        each_as (λ (g : End). stream_lt f.stream g.stream ≡ true) (λ (g : End). stream_lt e.stream g.stream ≡ true) es
-            (λ g q. before_on e.stream f.stream g.stream p.0 q) rest.0,
-      ),
-      rest,
-    )
-
 -- ---- whether a stream is among them
-
--- one of the ends is the stream's
-abbrev pub Has : Stream → List End → Type 0
-Has s [] = ⊥
-Has s (e ∷ es) = (e.stream ≡ s) ⊎ Has s es
-
-pub has_any : (s : Stream) (es : List End) → Any (λ (e : End). e.stream ≡ s) es → Has s es
-has_any s [] (k, e, low, at, is) = absurd (let z : ⊥ = omega (arith, low) in z)
-has_any s (f ∷ es) (zero, e, low, at, is) = inl (ap (λ (x : End). x.stream) at ∙ is)
-has_any s (f ∷ es) (suc k, e, low, at, is) = inr (has_any s es (k, e, omega (arith, low), at, is))
-
-pub any_has : (s : Stream) (es : List End) → Has s es → Any (λ (e : End). e.stream ≡ s) es
-any_has s [] h = absurd h
-any_has s (e ∷ es) (inl is) = (0, e, omega arith, refl, is)
-any_has s (e ∷ es) (inr later) = let k = any_has s es later in (suc k.0, k.1, omega (arith, k.2), k.3, k.4)
 
 at_has : (P : Stream → Type 0) (s : Stream) (es : List End) → Each (λ (e : End). P e.stream) es → Has s es → P s
 at_has P s [] all h = absurd h

@@ -1,5 +1,6 @@
 -- The own calls of the parts of a run, one behind the other.
 use Rattle.std.proofs.Common.{◌≡◌, ℕ, List, Option, Ok, Err, Result, subst}
+use Rattle.std.specs.Prelude.{codes}
 use Rattle.chk_site.specs.declared.acts.OutsideFault.{OutsideFault}
 use Rattle.chk_site.specs.declared.acts.OutsideFault.TheVariants.{Outside as site_failed, NoMemory as no_memory}
 use Rattle.chk_site.specs.Acts.{Deed}
@@ -13,6 +14,8 @@ use Rattle.chk_heads.specs.declared.fault.JobFault.{JobFault}
 use Rattle.chk_heads.specs.declared.fault.JobFault.TheVariants.{Outside, Damaged, Spent, NoMemory}
 use Rattle.chk_heads.proofs.Gathering.{every_then}
 use Rattle.chk_parts.proofs.StepKinds.{as_kind, no_reads, writes_no_reads, fails_behind}
+use Rattle.chk_parts.proofs.Published.{replaces_no_reads}
+use Rattle.chk_demux.specs.Demuxed.{ReplacesBook}
 use Rattle.chk_demux.specs.Working.{Worked, job_result}
 
 pub worked : {T : Type 0} (K : Deed → Type 0) (r : Result T JobFault) {old new : Option History}
@@ -95,6 +98,12 @@ pub as_job : {T : Type 0} (r : Result T OutsideFault) {old new : Option History}
 as_job (Ok value) told = adds_as (FailsLast (Ok value)) told (λ added history k. tt)
 as_job {T = T} (Err (site_failed call)) told = adds_as (FailsLast {T = T} (Err (Outside call))) told (λ added history k. k)
 as_job {T = T} (Err no_memory) told = adds_as (FailsLast {T = T} (Err NoMemory)) told (λ added history k. tt)
+
+-- the replacement of the book of the records
+pub worked_replaces : {T : Type 0} (r : Result T OutsideFault) {old new : Option History}
+    → Adds old new (Every (IsOf ReplacesBook)) → Adds old new (LastFailed r) → Adds old new (Worked ReplacesBook (job_result r))
+worked_replaces r own last =
+    worked ReplacesBook (job_result r) own (no_reads ReplacesBook (replaces_no_reads (codes "demux")) own) (as_job r last)
 
 -- by what it answered
 pub works_result : {T : Type 0} (U : Type 0) (K : Deed → Type 0) (r : Result T JobFault) (fault : JobFault) → r ≡ Err fault

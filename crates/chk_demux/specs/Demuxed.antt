@@ -1,10 +1,9 @@
 -- What one run of the demux job leads to.
 use Rattle.std.specs.Prelude.{◌≡◌, ℕ, ◌+◌, ◌-◌, ◌≤◌, ◌<◌, ◌^◌, false, List, [], ◌∷◌, ◌++◌, length, codes, bytes_eq, Contains, Result, Ok, Err}
 use Rattle.std.specs.List.{list_any}
-use Rattle.chk_site.specs.Acts.{Deed, Starts, Renames}
+use Rattle.chk_site.specs.Acts.{Deed, Starts}
 use Rattle.chk_site.specs.Files.{Files}
 use Rattle.chk_site.specs.History.{History, files_after}
-use Rattle.chk_replace.specs.Replace.{tmp}
 use Rattle.chk_chunk.specs.Keys.{Stream, Chunk, chunk_begin, chunk_end, stream_lt}
 use Rattle.chk_world.specs.Names.{Folder, ArchiveFolder, DemuxFolder}
 use Rattle.chk_world.specs.Books.{book_of, chunks_named}
@@ -19,6 +18,8 @@ use Rattle.chk_world.proofs.Each.{Each}
 use Rattle.chk_book.specs.Folders.{segment_name}
 use Rattle.chk_heads.specs.declared.fault.JobFault.{JobFault}
 use Rattle.chk_heads.specs.declared.fault.JobFault.TheVariants.{Damaged, Spent}
+use Rattle.chk_parts.specs.Publishing.{ReplacesBookOf}
+pub use Rattle.chk_parts.specs.Publishing.{writes_book, names_book}
 use Rattle.chk_demux.specs.Writes.{bytes_of}
 use Rattle.chk_demux.specs.declared.report.DemuxReport.{DemuxReport}
 
@@ -76,9 +77,8 @@ Demuxed stamped before (Err (Spent n)) history =
 Demuxed stamped before (Err fault) history = Legal stamped history
 
 -- the calls that replace the book of the records
-pub data ReplacesBook : Deed → Type 0 where
-  writes_book : (call : Deed) → WritesTo (tmp (codes "demux/book")) call → ReplacesBook call
-  names_book : ReplacesBook (Renames (tmp (codes "demux/book")) (codes "demux/book"))
+abbrev pub ReplacesBook : Deed → Type 0
+ReplacesBook = ReplacesBookOf (codes "demux")
 
 -- the calls that finish a segment of records and replace the book
 pub data WritesBook (k : ℕ) : Deed → Type 0 where

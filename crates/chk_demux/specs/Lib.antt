@@ -5,6 +5,5 @@ pub mod Demuxed
 pub mod Beginning
 pub mod Giving
 pub mod Splitting
-pub mod Publishing
 pub mod Entering
 pub mod Running

@@ -29,6 +29,7 @@ use chk_book::{Book, End};
 use chk_bytes::Word;
 use chk_heads::{HeadRef, Heads, JobFault};
 use chk_merge::RecordReader;
+use chk_parts::fetch;
 use chk_site::{Site, Who};
 use chk_splitter::Splitter;
 use std::alloc::Global;
@@ -64,34 +65,6 @@ fn past(value: &[u8], begin: u64, from: u64) -> &[u8]
         return &value[value.len()..];
     }
     &value[skip as usize..]
-}
-
-/// Makes the record of the head at `index` the one whose value the reader holds. A head of none of the files counts as want of
-/// memory.
-fn fetch<S: Site>(
-    alloc: Global,
-    site: &mut S,
-    who: &Who,
-    reader: &mut RecordReader,
-    files: &[Word],
-    heads: &Heads,
-    index: usize,
-) -> Result<(), JobFault>
-    requires job { who.now ≡ job }
-    requires index { index < length heads.now }
-    ensures raw { (v : Sight) (c : Chunk) → AreSound v files.now → IsRecordAt v files.now heads.now index c
-        → Adds (S.told site.old) (S.told site.new)
-        (Leads (anyhow (SparesFile (head_file files.now heads.now index))) (CanFetch v files.now heads.now index reader.old)
-        (Fetched v files.now heads.now index c reader.new result)) }
-    ensures own { Adds (S.told site.old) (S.told site.new) (Every (IsOf ReadsFile)) }
-    ensures works { Adds (S.told site.old) (S.told site.new) (Worked ReadsFile result) }
-    ensures only { IfErr result IsOfRead }
-    ensures cause { JobCause (S.fault_count site.old) (S.fault_count site.new) result }
-{
-    match files.get(heads.get(index).file as usize) {
-        Some(name) => reader.fetch(alloc, site, who, name.as_str(), heads, index),
-        None => Err(JobFault::NoMemory),
-    }
 }
 
 /// Splits what the record of the head at `index` has of the end's stream from the offset `from` on.

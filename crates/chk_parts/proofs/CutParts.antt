@@ -1,14 +1,14 @@
 -- What the passes take are the parts of the chunks.
 use Rattle.std.proofs.Common.{◌≡◌, ℕ, ◌+◌, ◌-◌, ◌≤◌, ◌<◌, Bool, true, false, List, [], ◌∷◌, ◌++◌, length, take, drop, ap, sym, subst, ◌∙◌, refl, arith, length-drop, inl, inr, ◌⊎◌}
-use Rattle.std.specs.Prelude.{All, nat_le, map, flat_map, slice_index_or}
+use Rattle.std.specs.Prelude.{nat_le, map, flat_map, slice_index_or}
 use Rattle.std.proofs.Math.ListN.{drop_of_length-le}
 use Rattle.std.proofs.lemmas.List.{drop_more, map-append, length-take-le}
 use Rattle.std.proofs.lemmas.Bool.Decides.{leb_tells}
 use Rattle.std.proofs.lemmas.List.Elements.{All-head, All-tail}
-use Rattle.chk_chunk.specs.Keys.{Chunk, chunk_begin, chunk_end}
+use Rattle.chk_chunk.specs.Keys.{Chunk, chunk_end}
 use Rattle.chk_heads.specs.Heads.{Head}
 use Rattle.chk_plan.specs.HeadsOf.{AreHeads}
-use Rattle.chk_plan.specs.Passes.{between, head_goes}
+use Rattle.chk_plan.specs.Passes.{between}
 use Rattle.chk_plan.specs.Plan.{goes_on, part_past, parts_from}
 use Rattle.chk_plan.specs.declared.spans.Span.{Span}
 use Rattle.chk_plan.proofs.Bridges.{between_drop, goes_same, heads_between, same_size}

@@ -1,5 +1,5 @@
 -- A record that is fetched of a file that the job knows.
-use Rattle.std.proofs.Common.{◌≡◌, ℕ, zero, suc, ◌+◌, ◌<◌, ◌≤◌, false, List, [], ◌∷◌, ◌++◌, length, take, drop, Option, Ok, Err, Result, ap, sym, subst, ◌∙◌, refl, arith}
+use Rattle.std.proofs.Common.{◌≡◌, ℕ, zero, suc, ◌<◌, ◌≤◌, false, List, [], ◌∷◌, ◌++◌, length, take, drop, Option, Ok, Err, Result, ap, sym, subst, ◌∙◌, refl, arith}
 use Rattle.std.specs.Prelude.{Contains, IsFalse, codes, slice_index_or}
 use Rattle.chk_site.specs.Files.{File}
 use Rattle.chk_site.specs.Effect.{IsSmallFile}
@@ -10,7 +10,7 @@ use Rattle.chk_site.proofs.Runs.{adds_as}
 use Rattle.chk_site.proofs.Leads.{leads_as, leads_then}
 use Rattle.chk_replace.specs.Load.{Has}
 use Rattle.chk_chunk.specs.Keys.{Key, Chunk, chunk_limit}
-use Rattle.chk_world.specs.Names.{ArchiveFolder, Name, BookFile, SegmentFile, DoneFile, read}
+use Rattle.chk_world.specs.Names.{ArchiveFolder, Name, BookFile, SegmentFile, read}
 use Rattle.chk_world.specs.Places.{As}
 use Rattle.chk_world.specs.Sight.{job, Sight, sight, AtJob}
 use Rattle.chk_world.specs.JobSteps.{IsOf, ReadsFile, WritesTo, SparesFile}

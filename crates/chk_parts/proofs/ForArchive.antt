@@ -1,5 +1,5 @@
 -- A segmenter that writes a segment of the archive still does.
-use Rattle.std.proofs.Common.{◌≡◌, ℕ, List, Option, Ok, Err, Result, ap, sym, subst, ◌∙◌}
+use Rattle.std.proofs.Common.{◌≡◌, Option, Ok, Err, Result, sym, subst, ◌∙◌}
 use Rattle.std.specs.Prelude.{OnOk, codes}
 use Rattle.chk_site.specs.History.{History, Every}
 use Rattle.chk_site.specs.Site.{Adds}

@@ -1,14 +1,13 @@
 -- The heads that are gathered are those of the records that were found, and so they are in order.
 use Rattle.std.proofs.Common.{◌≡◌, ℕ, ◌+◌, ◌<◌, List, [], ◌∷◌, ◌++◌, length, Option, Some, None, ap, sym, subst, ◌∙◌, refl, arith, length-append, append_assoc}
-use Rattle.std.specs.Prelude.{Contains, filter_map, option_map, map, slice_index_or}
+use Rattle.std.specs.Prelude.{Contains, filter_map, option_map, map}
 use Rattle.std.specs.List.{AllZip, cons_option}
 use Rattle.std.proofs.lemmas.List.Elements.{Contains-append_right}
-use Rattle.chk_chunk.specs.Keys.{Chunk, chunk_begin, chunk_limit}
+use Rattle.chk_chunk.specs.Keys.{Chunk, chunk_limit}
 use Rattle.chk_seqfile.specs.Entries.{Placed, records_of}
 use Rattle.chk_world.specs.Books.{chunk_of, chunks_within}
 use Rattle.chk_world.specs.ArchiveRuns.{in_order}
 use Rattle.chk_world.specs.Sight.{Sight}
-use Rattle.chk_world.proofs.Each.{later_one}
 use Rattle.chk_heads.specs.Heads.{Head, head_of, head_at, heads_in}
 use Rattle.chk_heads.specs.Order.{in_head_order}
 use Rattle.chk_heads.specs.Pieces.{bytes_in}

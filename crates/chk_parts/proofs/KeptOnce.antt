@@ -1,9 +1,9 @@
 -- What is kept of chunks that stand in order is each one once.
-use Rattle.std.proofs.Common.{◌≡◌, ◌⊎◌, inl, inr, ℕ, zero, suc, ◌+◌, ◌-◌, ◌≤◌, ◌<◌, ◌&&◌, ◌||◌, not, Bool, true, false, cond, List, [], ◌∷◌, ◌++◌, length, take, drop, map, Option, Some, None, ap, sym, subst, ◌∙◌, refl, arith, true≢false, append_assoc}
-use Rattle.std.specs.Prelude.{Contains, filter, flat_map, nat_eq, nat_lt, bytes_eq, option_map, slice_index_or}
+use Rattle.std.proofs.Common.{◌≡◌, ℕ, zero, suc, ◌+◌, ◌-◌, ◌≤◌, ◌<◌, ◌&&◌, ◌||◌, not, Bool, true, false, cond, List, [], ◌∷◌, ◌++◌, length, take, drop, Option, Some, None, ap, sym, subst, ◌∙◌, refl, arith, true≢false, append_assoc}
+use Rattle.std.specs.Prelude.{Contains, filter, nat_eq, nat_lt, bytes_eq, slice_index_or}
 use Rattle.std.proofs.lemmas.Bool.{and_parts, and_from, eqb-true, eq-eqb}
 use Rattle.std.proofs.lemmas.List.{map-append, drop_more, length-take-le, get_or-take, drop-drop}
-use Rattle.chk_chunk.specs.Keys.{Stream, Chunk, chunk_begin, chunk_end, same_stream, stream_lt, same_data}
+use Rattle.chk_chunk.specs.Keys.{Chunk, chunk_begin, chunk_end, same_stream, stream_lt, same_data}
 use Rattle.chk_world.specs.ArchiveRuns.{comes_before, in_order, once}
 use Rattle.chk_world.proofs.Each.{Each, each_from, each_as, later_one, each_filter, each_both, filter_each}
 use Rattle.chk_world.proofs.Ends.{bytes_self, bytes_same}

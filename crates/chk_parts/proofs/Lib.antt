@@ -13,3 +13,6 @@ pub mod OneSegment
 pub mod Rising
 pub mod OldAsides
 pub mod KeptOnce
+mod Spelling
+pub mod Published
+pub mod EndsInOrder

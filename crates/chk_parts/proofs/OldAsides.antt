@@ -1,5 +1,5 @@
 -- Records of the first file at rising places, as many as it has, are all that it has.
-use Rattle.std.proofs.Common.{◌≡◌, ◌⊎◌, inl, inr, ℕ, zero, suc, ◌+◌, ◌≤◌, ◌<◌, ◌&&◌, Bool, true, false, List, [], ◌∷◌, length, map, drop, ap, sym, subst, ◌∙◌, refl, arith}
+use Rattle.std.proofs.Common.{◌≡◌, ℕ, zero, suc, ◌<◌, ◌&&◌, true, List, [], ◌∷◌, length, map, ap, sym, subst, ◌∙◌, refl, arith}
 use Rattle.std.specs.List.{AllZip}
 use Rattle.std.specs.Prelude.{IsTrue, Contains, nat_eq, nat_lt, All, slice_index_or}
 use Rattle.std.proofs.lemmas.Bool.{and_parts, eqb-true, ltb-true}
@@ -12,7 +12,7 @@ use Rattle.chk_heads.specs.Order.{no_head}
 use Rattle.chk_heads.specs.Pieces.{bytes_in}
 use Rattle.chk_plan.specs.Passes.{head_in}
 use Rattle.chk_parts.specs.declared.cuts.Cut.{Cut}
-use Rattle.chk_parts.specs.Cuts.{no_chunk, cut_of, cut_chunk, cut_chunks}
+use Rattle.chk_parts.specs.Cuts.{no_chunk, cut_of, cut_chunks}
 use Rattle.chk_merge.specs.ReadBack.{chunk_at}
 use Rattle.chk_merge.proofs.Records.{chunks_of_heads}
 use Rattle.chk_parts.specs.Gathering.{held}

@@ -1,24 +1,22 @@
 -- One segment of the archive that no book names is written.
-use Rattle.std.proofs.Common.{◌≡◌, ℕ, Bool, true, false, List, [], ◌∷◌, ◌++◌, length, Option, Some, None, Ok, Err, Result, ap, sym, subst, ◌∙◌, refl, if◌then◌else◌}
+use Rattle.std.proofs.Common.{◌≡◌, ℕ, false, List, [], ◌∷◌, ◌++◌, length, Option, Some, None, Ok, Err, Result, ap, sym, subst, ◌∙◌, refl, if◌then◌else◌}
 use Rattle.std.specs.Prelude.{IsTrue, IsFalse, codes, nat_eq, OnOk, IfErr}
 use Rattle.std.specs.List.{list_any}
 use Rattle.chk_bytes.specs.Stems.{is_count}
 use Rattle.chk_site.specs.Files.{File}
 use Rattle.chk_site.specs.Acts.{Deed, Starts}
-use Rattle.chk_site.specs.History.{History, Every, files_after, is_stopped}
+use Rattle.chk_site.specs.History.{History, Every, files_after}
 use Rattle.chk_site.specs.Site.{Adds}
 use Rattle.chk_site.specs.Runs.{Leads, anyhow}
 use Rattle.chk_site.proofs.Leads.{leads_as}
 use Rattle.chk_chunk.specs.Keys.{Chunk, chunk_limit}
-use Rattle.chk_world.specs.Names.{ArchiveFolder, Name, BookFile, SegmentFile, spell, file}
+use Rattle.chk_world.specs.Names.{ArchiveFolder, BookFile, SegmentFile, spell, file}
 use Rattle.chk_world.specs.Books.{Book, Segment, book_in}
 use Rattle.chk_world.specs.Committed.{HasFile}
 use Rattle.chk_world.specs.Jobs.{all_segments, is_named}
-use Rattle.chk_world.specs.Places.{As, AtTold}
-use Rattle.chk_world.specs.Rules.{Legal}
-use Rattle.chk_world.specs.Sight.{job, Sight, sight, own_book, AtJob}
+use Rattle.chk_world.specs.Places.{As}
+use Rattle.chk_world.specs.Sight.{job, Sight, sight, AtJob}
 use Rattle.chk_world.specs.JobSteps.{IsOf, WritesTo, removes, creates, appends, syncs, SparesFile}
-use Rattle.chk_world.proofs.NameTests.{same_name}
 use Rattle.chk_world.proofs.Lifts.{with_own}
 use Rattle.chk_world.proofs.Spares.{writes_segment}
 use Rattle.chk_world.proofs.ToldCalls.{talks}
@@ -29,7 +27,8 @@ use Rattle.chk_book.specs.Folders.{segment_name, most_in}
 use Rattle.chk_book.specs.Segmenting.{Writing, HoldsSegment, IsFinished, IsSegmentOf, all_bytes, segment_of, begun}
 use Rattle.chk_book.specs.Written.{IsAt, taken, HasTaken, HasBegun}
 use Rattle.chk_book.specs.declared.segmenter.Segmenter.{Segmenter}
-use Rattle.chk_parts.specs.Writes.{SameBut, IsFree, IsSoFar, PutSo, HoldsChunks, Written}
+use Rattle.chk_parts.specs.Writes.{SameBut, IsFree, IsSoFar, PutSo, HoldsChunks, with_new, HasEntered, Written}
+use Rattle.chk_parts.specs.declared.writing.Purpose.{Purpose}
 use Rattle.chk_parts.proofs.OneFile.{Knows}
 use Rattle.chk_parts.proofs.FromKnown.{from_known, reach}
 
@@ -260,17 +259,11 @@ module _ (stamped : List (List ℕ)) (v : Sight) (files : List (List ℕ)) (s t 
 
 -- ---- it is finished
 
--- at Ok the file is whole, and this holds of what was written
-abbrev pub Fin : (Writing → Type 0) → Writing → Result (Unit {0}) JobFault → History → Type 0
-Fin Q w (Ok value) h = IsFinished w h × Q w
-Fin Q w (Err fault) h = Unit {0}
-
 module _ (stamped : List (List ℕ)) (v : Sight) (files : List (List ℕ)) (s : Segmenter) (b after : Book) (of : s.number ≡ b.next)
-    (free : IsFree v files b.next) (chunks : List Chunk) (enter : Book → Segment → Book) (Q : Writing → Type 0)
-    (entered : (w : Writing) → w.chunks ≡ chunks → Q w → after ≡ enter b (segment_of w))
+    (free : IsFree v files b.next) (chunks : List Chunk) (purpose : Purpose)
     (r : Result (Unit {0}) JobFault) {old new : Option History}
     (raw : (w : Writing) → IsAt s w → Adds old new
-    (Leads (anyhow (SparesFile (segment_name w.folder w.number))) (HoldsSegment w) (Fin Q w r)))
+    (Leads (anyhow (SparesFile (segment_name w.folder w.number))) (HoldsSegment w) (HasEntered purpose w b after r)))
     (own : Adds old new (Every (IsOf (WritesTo (segment_name (codes "archive") b.next))))) where
   abbrev V : List ℕ
   V = segment_name (codes "archive") b.next
@@ -301,8 +294,8 @@ module _ (stamped : List (List ℕ)) (v : Sight) (files : List (List ℕ)) (s : 
 
   finished : (r : Result (Unit {0}) JobFault) (w : Writing) → IsAt s w → w.folder ≡ codes "archive"
       → w.chunks ≡ chunks → IfErr r IsOfWrite → (h : History)
-      → AtJob stamped (SameBut b.next v) h → Fin Q w r h
-      → Written stamped enter v b after chunks r h
+      → AtJob stamped (SameBut b.next v) h → HasEntered purpose w b after r h
+      → Written stamped (with_new purpose chunks) v b after chunks r h
   finished (Ok value) w a folder are only h same fin = record {
     legal = same.legal;
     may_act = same.may_act;
@@ -311,7 +304,7 @@ module _ (stamped : List (List ℕ)) (v : Sight) (files : List (List ℕ)) (s : 
       segment = segment_of w;
       number = numbered w a;
       holds = all_there w a folder are h fin.0;
-      book = entered w are fin.1;
+      book = fin.1 ∙ ap (λ l. with_new purpose l b (segment_of w)) are;
     };
   }
   finished (Err (Outside call)) w a folder are only h same fin = same.legal
@@ -328,19 +321,19 @@ module _ (stamped : List (List ℕ)) (v : Sight) (files : List (List ℕ)) (s : 
 
   pub finish_so : IfErr r IsOfWrite
       → Adds old new (Leads (As stamped job) (AtJob stamped (IsSoFar v chunks s))
-      (Written stamped enter v b after chunks r))
+      (Written stamped (with_new purpose chunks) v b after chunks r))
   finish_so only =
       from_known stamped (WritesTo V) (no_write_starts V) (quiet_write V) (IsSoFar v chunks s)
-      (Written stamped enter v b after chunks r) own
+      (Written stamped (with_new purpose chunks) v b after chunks r) own
       (λ h k runs.
       let p : IsSoFar v chunks s (sight h) = k.alive runs in
       let w : Writing = p.w in
       reach stamped h (λ h. AtJob stamped (SameBut b.next v) h × Unit {0} × HoldsSegment w h)
-      (Written stamped enter v b after chunks r)
+      (Written stamped (with_new purpose chunks) v b after chunks r)
       (leads_as (λ h k. k)
       (λ h z. finished r w p.at p.folder p.chunks_are only h z.0 z.2)
-      (over_segment stamped v files b.next free (HoldsSegment w) (Fin Q w r)
-      (subst (λ n. Adds old new (Leads (anyhow (SparesFile n)) (HoldsSegment w) (Fin Q w r)))
+      (over_segment stamped v files b.next free (HoldsSegment w) (HasEntered purpose w b after r)
+      (subst (λ n. Adds old new (Leads (anyhow (SparesFile n)) (HoldsSegment w) (HasEntered purpose w b after r)))
       (called w p.at p.folder) (raw w p.at)) own)) (
         record {
           legal = k.legal;
@@ -350,4 +343,4 @@ module _ (stamped : List (List ℕ)) (v : Sight) (files : List (List ℕ)) (s : 
         tt,
         still_holds h p,
       ))
-      (λ h z. written_bottom stamped enter v b after chunks r h z)
+      (λ h z. written_bottom stamped (with_new purpose chunks) v b after chunks r h z)

@@ -1,5 +1,5 @@
 -- What a call's own steps are, by their kind.
-use Rattle.std.proofs.Common.{◌≡◌, inl, inr, ℕ, true, false, List, [], ◌∷◌, ◌++◌, Option, Ok, Err, Result, sym, ◌∙◌, true≢false}
+use Rattle.std.proofs.Common.{◌≡◌, inl, inr, ℕ, List, [], ◌∷◌, Option, Ok, Err, Result, sym, ◌∙◌, true≢false}
 use Rattle.chk_site.specs.Acts.{Deed, Reads, deed}
 use Rattle.chk_site.specs.History.{History, Every}
 use Rattle.chk_site.specs.Site.{Adds}

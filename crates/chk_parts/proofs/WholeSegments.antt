@@ -1,6 +1,6 @@
 -- A segment is begun, written and finished.
-use Rattle.std.proofs.Common.{◌≡◌, ℕ, List, [], Option, Some, Ok, Err, Result, ap, sym, subst, ◌∙◌, refl, true, arith}
-use Rattle.std.specs.Prelude.{codes, IfErr, OnOk}
+use Rattle.std.proofs.Common.{◌≡◌, ℕ, List, [], Option, Ok, Err, Result, subst, refl, true, arith}
+use Rattle.std.specs.Prelude.{codes, IfErr}
 use Rattle.std.proofs.lemmas.Bool.{and_from}
 use Rattle.chk_site.specs.History.{History, Every}
 use Rattle.chk_site.specs.Site.{Adds}
@@ -16,12 +16,14 @@ use Rattle.chk_heads.specs.declared.fault.JobFault.{JobFault}
 use Rattle.chk_heads.specs.declared.fault.JobFault.TheVariants.{Outside, Damaged, Spent, NoMemory}
 use Rattle.chk_bytes.proofs.WordLemmas.{plain_word}
 use Rattle.chk_book.specs.Folders.{is_folder, segment_name}
-use Rattle.chk_book.specs.Segmenting.{Writing, HoldsSegment, begun, segment_of, with_segment, with_aside}
+use Rattle.chk_book.specs.Segmenting.{Writing, HoldsSegment, begun}
 use Rattle.chk_book.specs.Written.{IsAt, HasEnded, HasEndedAside}
 use Rattle.chk_book.specs.declared.segmenter.Segmenter.{Segmenter}
-use Rattle.chk_parts.specs.Writes.{IsFree, IsForArchive, IsSoFar, PutSo, Written}
+use Rattle.chk_parts.specs.Writes.{IsFree, IsForArchive, IsSoFar, PutSo, with_new, HasEntered, Written}
+use Rattle.chk_parts.specs.declared.writing.Purpose.{Purpose}
+use Rattle.chk_parts.specs.declared.writing.Purpose.TheVariants.{Parts, Aside}
 use Rattle.chk_parts.proofs.OneFile.{Knows}
-use Rattle.chk_parts.proofs.OneSegment.{Fin, finish_so}
+use Rattle.chk_parts.proofs.OneSegment.{finish_so}
 
 -- the archive's folder can be named
 pub archive_folder : is_folder (codes "archive") ≡ true
@@ -58,44 +60,27 @@ all_written stamped v s t chunks result value e first told =
     leads_then first
     (leads_as (λ h k. k) (λ h k. subst (λ r. PutSo stamped v chunks t r h) e k) told)
 
+-- and is entered
 module _ (stamped : List (List ℕ)) (v : Sight) (files : List (List ℕ)) (s : Segmenter) (b after : Book)
-    (of : s.number ≡ b.next) (free : IsFree v files b.next) (chunks : List Chunk)
+    (of : s.number ≡ b.next) (free : IsFree v files b.next) (chunks : List Chunk) (purpose : Purpose)
     (r : Result (Unit {0}) JobFault) (only : IfErr r IsOfWrite) {old mid new : Option History}
     (so_far : Adds old mid (Leads (As stamped job) (Knows stamped v) (AtJob stamped (IsSoFar v chunks s))))
     (own : Adds mid new (Every (IsOf (WritesTo (segment_name (codes "archive") s.number))))) where
-  owns : Adds mid new (Every (IsOf (WritesTo (segment_name (codes "archive") b.next))))
-  owns = subst (λ n. Adds mid new (Every (IsOf (WritesTo (segment_name (codes "archive") n))))) of own
-
-  -- it is entered
   pub entered : ((w : Writing) → IsAt s w → Adds mid new
-      (Leads (anyhow (SparesFile (segment_name w.folder w.number))) (HoldsSegment w) (HasEnded w b after r)))
-      → Adds old new (Leads (As stamped job) (Knows stamped v)
-      (Written stamped (λ b g. with_segment b g chunks) v b after chunks r))
+      (Leads (anyhow (SparesFile (segment_name w.folder w.number))) (HoldsSegment w) (HasEntered purpose w b after r)))
+      → Adds old new (Leads (As stamped job) (Knows stamped v) (Written stamped (with_new purpose chunks) v b after chunks r))
   entered raw =
       leads_then so_far
-      (finish_so stamped v files s b after of free chunks (λ b g. with_segment b g chunks)
-      (λ w. after ≡ with_segment b (segment_of w) w.chunks)
-      (λ w are is. is ∙ ap (with_segment b (segment_of w)) are) r
-      (λ w at. leads_as (λ h k. k) (λ h k. go r w h k) (raw w at)) owns only)
-    where
-      go : (r : Result (Unit {0}) JobFault) (w : Writing) (h : History) → HasEnded w b after r h
-          → Fin (λ w. after ≡ with_segment b (segment_of w) w.chunks) w r h
-      go (Ok value) w h k = k
-      go (Err fault) w h k = tt
+      (finish_so stamped v files s b after of free chunks purpose r raw
+      (subst (λ n. Adds mid new (Every (IsOf (WritesTo (segment_name (codes "archive") n))))) of own) only)
 
-  -- it is the aside segment
-  pub set_by : ((w : Writing) → IsAt s w → Adds mid new
-      (Leads (anyhow (SparesFile (segment_name w.folder w.number))) (HoldsSegment w) (HasEndedAside w b after r)))
-      → Adds old new (Leads (As stamped job) (Knows stamped v)
-      (Written stamped (λ b g. with_aside b (Some g)) v b after chunks r))
-  set_by raw =
-      leads_then so_far
-      (finish_so stamped v files s b after of free chunks (λ b g. with_aside b (Some g))
-      (λ w. after ≡ with_aside b (Some (segment_of w)))
-      (λ w are is. is) r
-      (λ w at. leads_as (λ h k. k) (λ h k. go r w h k) (raw w at)) owns only)
-    where
-      go : (r : Result (Unit {0}) JobFault) (w : Writing) (h : History) → HasEndedAside w b after r h
-          → Fin (λ w. after ≡ with_aside b (Some (segment_of w))) w r h
-      go (Ok value) w h k = k
-      go (Err fault) w h k = tt
+-- what the book's two calls leave
+pub for_parts : (r : Result (Unit {0}) JobFault) (w : Writing) (b after : Book) (h : History) → HasEnded w b after r h
+    → HasEntered Parts w b after r h
+for_parts (Ok value) w b after h k = k
+for_parts (Err fault) w b after h k = k
+
+pub for_aside : (r : Result (Unit {0}) JobFault) (w : Writing) (b after : Book) (h : History) → HasEndedAside w b after r h
+    → HasEntered Aside w b after r h
+for_aside (Ok value) w b after h k = k
+for_aside (Err fault) w b after h k = k

@@ -1,5 +1,5 @@
 -- A record that is fetched by its head.
-use Rattle.std.specs.Prelude.{◌≡◌, ℕ, ◌<◌, List, length, Result, Ok, Err, slice_index_or}
+use Rattle.std.specs.Prelude.{◌≡◌, ℕ, List, Result, Ok, Err}
 use Rattle.chk_site.specs.History.{History}
 use Rattle.chk_replace.specs.Load.{Has}
 use Rattle.chk_chunk.specs.Keys.{Chunk}

@@ -1,7 +1,8 @@
--- What an archive run reads and writes of records.
+-- What the job reads and writes.
 pub mod Gathering
 pub mod Cuts
 pub mod Records
 pub mod Fetching
 pub mod Kept
 pub mod Writes
+pub mod Publishing

@@ -1,6 +1,6 @@
 -- What the writing of one segment of the archive leaves.
 use Rattle.std.specs.List.{list_any}
-use Rattle.std.specs.Prelude.{◌≡◌, ℕ, nat_eq, IsTrue, IsFalse, Contains, List, codes, length, Option, Some, Result, Ok, Err}
+use Rattle.std.specs.Prelude.{◌≡◌, ℕ, nat_eq, IsTrue, IsFalse, Contains, List, codes, length, Some, Result, Ok, Err}
 use Rattle.chk_bytes.specs.Stems.{Stem, is_count}
 use Rattle.chk_site.specs.Files.{File}
 use Rattle.chk_site.specs.History.{History}
@@ -14,11 +14,13 @@ use Rattle.chk_world.specs.Sight.{job, Sight, own_book, AtJob}
 use Rattle.chk_world.proofs.NameTests.{same_name}
 use Rattle.chk_heads.specs.declared.fault.JobFault.{JobFault}
 use Rattle.chk_heads.specs.declared.fault.JobFault.TheVariants.{Damaged, Spent}
-use Rattle.chk_book.specs.Segmenting.{Writing, IsSegmentOf}
+use Rattle.chk_book.specs.Segmenting.{Writing, IsSegmentOf, IsFinished, segment_of, with_segment, with_aside}
 use Rattle.chk_book.specs.Written.{IsAt}
 use Rattle.chk_book.specs.declared.segmenter.Segmenter.{Segmenter}
 use Rattle.chk_merge.specs.declared.reader.RecordReader.{RecordReader}
 use Rattle.chk_parts.specs.Fetching.{AreWindows}
+use Rattle.chk_parts.specs.declared.writing.Purpose.{Purpose}
+use Rattle.chk_parts.specs.declared.writing.Purpose.TheVariants.{Parts, Aside}
 
 -- all that the job knows is the same, but for the archive's segment of this number
 pub record SameBut (k : ℕ) (v u : Sight) : Type 0 where
@@ -48,6 +50,16 @@ pub record HasWritten (enter : Book → Segment → Book) (v : Sight) (old new :
   pub number : segment.number ≡ old.next
   pub holds : HoldsChunks u segment chunks
   pub book : new ≡ enter old segment
+
+-- the book with this segment: its chunks go on from the book's ends, or lie past a gap
+abbrev pub with_new : Purpose → List Chunk → Book → Segment → Book
+with_new Parts chunks b g = with_segment b g chunks
+with_new Aside chunks b g = with_aside b (Some g)
+
+-- at Ok the file holds all of the segment, synced, and the book has it; else the book is as before
+abbrev pub HasEntered : Purpose → Writing → Book → Book → Result Unit JobFault → History → Type 0
+HasEntered purpose w old new (Ok value) history = IsFinished w history × (new ≡ with_new purpose w.chunks old (segment_of w))
+HasEntered purpose w old new (Err fault) history = new ≡ old
 
 -- At Ok it is so; none of the files that are read is damaged. Where the numbers are spent the job knows what it knew but for that
 -- segment.

@@ -21,7 +21,7 @@ use std::alloc::Global;
 
 /// Makes the record of the head at `index` the one whose value the reader holds. A head of none of the files counts as want
 /// of memory.
-pub(crate) fn fetch<S: Site>(
+pub fn fetch<S: Site>(
     alloc: Global,
     site: &mut S,
     who: &Who,

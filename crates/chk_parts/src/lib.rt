@@ -1,5 +1,5 @@
-//! What an archive run reads and writes of records: heads are gathered of all files, what is taken of each record and what is
-//! set aside is chosen by them, and both are written as segments.
+//! What the job reads and writes: heads are gathered of all files, what an archive run takes of each record and what it sets aside is
+//! chosen by them, both are written as segments, and a folder's next book is published.
 #![tactic(auto)]
 
 mod aside;
@@ -9,12 +9,15 @@ mod gathering;
 mod kept;
 mod known;
 mod laws;
+mod publishing;
 mod writing;
 
 pub use aside::{count_first, is_old_aside};
 pub use cuts::{Cut, Cuts, cuts_of};
+pub use fetching::fetch;
 pub use gathering::gather_found;
 pub use kept::kept_of;
 pub use known::known_ends;
 pub use laws::{cuts_are_parts, kept_are_once, old_asides_are_whole};
-pub use writing::{add_aside, add_parts};
+pub use publishing::publish_next;
+pub use writing::{Purpose, add_segment};

@@ -3,7 +3,7 @@
 ghost use Rattle.std.specs.Prelude.{◌≡◌, ◌<◌, ◌++◌, ◌∷◌, [], ◌-◌, ℕ, List, Some, codes, length, drop, map, IsTrue, IfSome, IfErr, OnOk, OnErr};
 ghost use Rattle.chk_site.specs.History.{Every};
 ghost use Rattle.chk_site.specs.Site.{Adds};
-ghost use Rattle.chk_site.specs.Runs.{Leads};
+ghost use Rattle.chk_site.specs.Runs.{Leads, anyhow};
 ghost use Rattle.chk_chunk.specs.Keys.{Chunk};
 ghost use Rattle.chk_world.specs.Places.{As};
 ghost use Rattle.chk_world.specs.Sight.{job, Sight, AtJob};
@@ -13,18 +13,19 @@ ghost use Rattle.chk_heads.specs.Pieces.{AsksInPieces};
 ghost use Rattle.chk_book.specs.Folders.{segment_name};
 ghost use Rattle.chk_book.specs.Books.{book_view};
 ghost use Rattle.chk_book.specs.Causes.{SpentBook};
-ghost use Rattle.chk_book.specs.Segmenting.{with_segment, with_aside};
+ghost use Rattle.chk_book.specs.Segmenting.{Writing, HoldsSegment};
+ghost use Rattle.chk_book.specs.Written.{IsAt};
 ghost use Rattle.chk_parts.specs.Cuts.{AreWithin, cut_chunks};
 ghost use Rattle.chk_parts.specs.Records.{AreRecords};
 ghost use Rattle.chk_chunk.specs.Lent.{lent_key, lent_chunk};
 ghost use Rattle.chk_chunk.specs.Keys.{is_key, has_value, has_words, chunk_limit};
-ghost use Rattle.chk_world.specs.JobSteps.{WritesTo};
+ghost use Rattle.chk_world.specs.JobSteps.{WritesTo, SparesFile};
 ghost use Rattle.chk_heads.specs.Order.{lent_head, no_head};
 ghost use Rattle.chk_merge.specs.ReadBack.{HoldsNothing};
 ghost use Rattle.chk_parts.specs.Fetching.{AreWindows, IsRecordAt};
 ghost use Rattle.chk_parts.specs.Gathering.{AreSound};
 ghost use Rattle.chk_parts.specs.Cuts.{cut_chunk, cut_of};
-ghost use Rattle.chk_parts.specs.Writes.{IsFree, Written, IsForArchive, IsSoFar, PutSo, CutSo};
+ghost use Rattle.chk_parts.specs.Writes.{with_new, HasEntered, IsFree, Written, IsForArchive, IsSoFar, PutSo, CutSo};
 
 use crate::cuts::Cut;
 use crate::fetching::fetch;
@@ -36,38 +37,18 @@ use chk_merge::RecordReader;
 use chk_site::{Site, Who};
 use std::alloc::Global;
 
-/// Writes the archive's next segment of these cuts of records that stand in `files`, and enters it into the book, which isn't
-/// published. Each record is read once more. After a refusal the book is as before. `Damaged` comes where a file isn't what it was.
-pub fn add_parts<S: Site>(
-    alloc: Global,
-    site: &mut S,
-    who: &Who,
-    book: &mut Book,
-    files: &[Word],
-    heads: &Heads,
-    cuts: &[Cut],
-) -> Result<(), JobFault>
-    requires job { who.now ≡ job }
-    requires cuts { AreWithin (length heads.now) cuts.now }
-    ensures told { (stamped : List (List ℕ)) (v : Sight) (cs : List Chunk) → AreRecords v files.now heads.now cs
-        → IsFree v files.now (book_view book.old).next → Adds (S.told site.old) (S.told site.new)
-        (Leads (As stamped job) (AtJob stamped (λ u. u ≡ v)) (Written stamped (λ b g. with_segment b g (cut_chunks cs cuts.now)) v
-        (book_view book.old) (book_view book.new) (cut_chunks cs cuts.now) result)) }
-    ensures own { Adds (S.told site.old) (S.told site.new)
-        (Every (IsOf (ReadsOrWrites (segment_name (codes "archive") (book_view book.old).next)))) }
-    ensures same { OnErr result (book_view book.new ≡ book_view book.old) }
-    ensures spent { SpentBook (book_view book.old) result }
-    ensures pieces { Adds (S.told site.old) (S.told site.new) (Every AsksInPieces) }
-    ensures last { Adds (S.told site.old) (S.told site.new) (FailsLast result) }
-    ensures cause { JobCause (S.fault_count site.old) (S.fault_count site.new) result }
-{
-    let mut segmenter = book.begin_segment(alloc, site, who, "archive")?;
-    write_cuts(alloc, site, who, &mut segmenter, files, heads, cuts)?;
-    segmenter.finish(alloc, site, book)
+/// What a new segment of the archive is for.
+#[derive(Clone, Copy, Debug)]
+pub enum Purpose {
+    /// Its chunks go on from the archive's ends.
+    Parts,
+    /// It is the aside segment: its chunks lie past a gap.
+    Aside,
 }
 
-/// Writes the archive's next segment of these cuts, as `add_parts` does, and makes it the book's aside segment.
-pub fn add_aside<S: Site>(
+/// Writes the archive's next segment of these cuts of records that stand in `files`, and enters it into the book, which isn't
+/// published. Each record is read once more. After a refusal the book is as before. `Damaged` comes where a file isn't what it was.
+pub fn add_segment<S: Site>(
     alloc: Global,
     site: &mut S,
     who: &Who,
@@ -75,12 +56,13 @@ pub fn add_aside<S: Site>(
     files: &[Word],
     heads: &Heads,
     cuts: &[Cut],
+    purpose: Purpose,
 ) -> Result<(), JobFault>
     requires job { who.now ≡ job }
     requires cuts { AreWithin (length heads.now) cuts.now }
     ensures told { (stamped : List (List ℕ)) (v : Sight) (cs : List Chunk) → AreRecords v files.now heads.now cs
         → IsFree v files.now (book_view book.old).next → Adds (S.told site.old) (S.told site.new)
-        (Leads (As stamped job) (AtJob stamped (λ u. u ≡ v)) (Written stamped (λ b g. with_aside b (Some g)) v
+        (Leads (As stamped job) (AtJob stamped (λ u. u ≡ v)) (Written stamped (with_new purpose (cut_chunks cs cuts.now)) v
         (book_view book.old) (book_view book.new) (cut_chunks cs cuts.now) result)) }
     ensures own { Adds (S.told site.old) (S.told site.new)
         (Every (IsOf (ReadsOrWrites (segment_name (codes "archive") (book_view book.old).next)))) }
@@ -92,7 +74,32 @@ pub fn add_aside<S: Site>(
 {
     let mut segmenter = book.begin_segment(alloc, site, who, "archive")?;
     write_cuts(alloc, site, who, &mut segmenter, files, heads, cuts)?;
-    segmenter.finish_aside(alloc, site, book)
+    finish_for(alloc, site, segmenter, book, purpose)
+}
+
+/// Finishes the segment, and the book has it by its purpose.
+fn finish_for<S: Site>(
+    alloc: Global,
+    site: &mut S,
+    segmenter: Segmenter,
+    book: &mut Book,
+    purpose: Purpose,
+) -> Result<(), JobFault>
+    requires { segmenter.number ≡ (book_view book.old).next }
+    ensures raw { (w : Writing) → IsAt segmenter w → Adds (S.told site.old) (S.told site.new)
+        (Leads (anyhow (SparesFile (segment_name w.folder w.number))) (HoldsSegment w)
+        (HasEntered purpose w (book_view book.old) (book_view book.new) result)) }
+    ensures own { (w : Writing) → IsAt segmenter w → segmenter.who ≡ job → Adds (S.told site.old) (S.told site.new)
+        (Every (IsOf (WritesTo (segment_name w.folder w.number)))) }
+    ensures same { OnErr result (book_view book.new ≡ book_view book.old) }
+    ensures only { IfErr result IsOfWrite }
+    ensures last { Adds (S.told site.old) (S.told site.new) (FailsLast result) }
+    ensures cause { JobCause (S.fault_count site.old) (S.fault_count site.new) result }
+{
+    match purpose {
+        Purpose::Parts => segmenter.finish(alloc, site, book),
+        Purpose::Aside => segmenter.finish_aside(alloc, site, book),
+    }
 }
 
 /// Writes these cuts behind what the segment has.

@@ -1,9 +1,10 @@
-use Rattle.std.proofs.Common.{◌≡◌, ◌<◌, ◌≤◌, arith, length, map, Ok, Err, sym, subst}
+use Rattle.std.proofs.Common.{◌≡◌, ◌<◌, ◌≤◌, arith, length, map, Ok, Err, refl, sym, subst}
 use Rattle.std.specs.Prelude.{codes}
 use Rattle.std.proofs.lemmas.List.{length-map}
 use Rattle.std.proofs.lemmas.Result.{err_from_is_err_and}
 use Rattle.chk_site.proofs.Leads.{leads_none, leads_as}
 use Rattle.chk_site.proofs.Runs.{adds_as}
+use Rattle.chk_world.specs.Names.{ArchiveFolder}
 use Rattle.chk_world.specs.Sight.{sight}
 use Rattle.chk_world.specs.JobSteps.{IsOf, ReadsOrWrites}
 use Rattle.chk_heads.specs.Faults.{FailsLast, job_fault}
@@ -17,12 +18,16 @@ use Rattle.chk_parts.proofs.WholeSegments.{archive_folder}
 use Rattle.chk_archive.specs.Archived.{MergesBy, ReplacesBook}
 use Rattle.chk_archive.proofs.Lasts.{as_fails}
 use Rattle.chk_archive.proofs.Preparing.{of_merge}
-use Rattle.chk_archive.proofs.TakenIn.{replaces_no_reads, of_replace}
+use Rattle.chk_parts.proofs.Published.{replaces_no_reads}
+use Rattle.chk_archive.proofs.TakenIn.{of_replace}
 use Rattle.chk_archive.proofs.MergedMany.{few_left, merged_so, merge_fails, publish_fails, all_merged}
 use Rattle.chk_archive.proofs.merging.merge_many.Goals as goal
 
 pub merge-requires : goal.merge-requires
 merge-requires g c = archive_folder
+
+pub publish_next-requires-clause-folder : goal.publish_next-requires-clause-folder
+publish_next-requires-clause-folder g c = archive_folder
 
 pub returns-in_err-merge-clause-told : goal.returns-in_err-merge-clause-told
 returns-in_err-merge-clause-told g c stamped =
@@ -51,7 +56,7 @@ returns-in_err-publish_next-clause-told g c stamped =
     (publish_fails stamped b new c.publish_next.result
     (merged_so stamped b new (Ok tt) c.in_ok-merge.ensures.spent
     (λ held settled apart. c.in_ok-merge.ensures.raw held c.requires settled apart) (c.in_ok-merge.ensures.own c.requires))
-    c.publish_next.ensures.own (λ u may. c.publish_next.ensures.told stamped u may) new c.in_err-publish_next.field-0.0
+    c.publish_next.ensures.own (λ u may. c.publish_next.ensures.told stamped ArchiveFolder u refl may) new c.in_err-publish_next.field-0.0
     c.in_err-publish_next.was)
 
 pub returns-in_err-publish_next-clause-own : goal.returns-in_err-publish_next-clause-own
@@ -63,7 +68,7 @@ returns-in_err-publish_next-clause-own g c =
 
 pub returns-in_err-publish_next-clause-pieces : goal.returns-in_err-publish_next-clause-pieces
 returns-in_err-publish_next-clause-pieces g c =
-    every_then AsksInPieces (c.in_ok-merge.ensures.pieces c.requires) (no_reads ReplacesBook replaces_no_reads c.publish_next.ensures.own)
+    every_then AsksInPieces (c.in_ok-merge.ensures.pieces c.requires) (no_reads ReplacesBook (replaces_no_reads (codes "archive")) c.publish_next.ensures.own)
 
 pub returns-in_err-publish_next-clause-last : goal.returns-in_err-publish_next-clause-last
 returns-in_err-publish_next-clause-last g c =
@@ -79,7 +84,7 @@ returns-clause-told g c stamped =
     all_merged stamped b new c.publish_next.result
     (merged_so stamped b new (Ok tt) c.in_ok-merge.ensures.spent
     (λ held settled apart. c.in_ok-merge.ensures.raw held c.requires settled apart) (c.in_ok-merge.ensures.own c.requires))
-    c.publish_next.ensures.own (λ u may. c.publish_next.ensures.told stamped u may) tt c.in_ok-publish_next.was
+    c.publish_next.ensures.own (λ u may. c.publish_next.ensures.told stamped ArchiveFolder u refl may) tt c.in_ok-publish_next.was
 
 pub returns-clause-own : goal.returns-clause-own
 returns-clause-own g c =
@@ -90,12 +95,12 @@ returns-clause-own g c =
 
 pub returns-clause-pieces : goal.returns-clause-pieces
 returns-clause-pieces g c =
-    every_then AsksInPieces (c.in_ok-merge.ensures.pieces c.requires) (no_reads ReplacesBook replaces_no_reads c.publish_next.ensures.own)
+    every_then AsksInPieces (c.in_ok-merge.ensures.pieces c.requires) (no_reads ReplacesBook (replaces_no_reads (codes "archive")) c.publish_next.ensures.own)
 
 pub returns-clause-last : goal.returns-clause-last
 returns-clause-last g c =
     adds_as (FailsLast {T = Unit {0}} (Ok tt))
-    (every_then AsksInPieces (c.in_ok-merge.ensures.pieces c.requires) (no_reads ReplacesBook replaces_no_reads c.publish_next.ensures.own))
+    (every_then AsksInPieces (c.in_ok-merge.ensures.pieces c.requires) (no_reads ReplacesBook (replaces_no_reads (codes "archive")) c.publish_next.ensures.own))
     (λ added history k. tt)
 
 pub returns-then-as_slice-lt-MANY-clause-told : goal.returns-then-as_slice-lt-MANY-clause-told

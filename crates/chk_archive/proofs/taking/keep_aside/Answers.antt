@@ -39,28 +39,28 @@ returns-then-is_empty-clause-told g c stamped v cs records free whole =
           (aside_goes v b kept (ap (cut_chunks cs) (empty c.args.kept.now c.if-is_empty.ensures)));
     })
 
-pub returns-in_err-add_aside-clause-told : goal.returns-in_err-add_aside-clause-told
-returns-in_err-add_aside-clause-told g c stamped v cs records free whole =
+pub returns-in_err-add_segment-clause-told : goal.returns-in_err-add_segment-clause-told
+returns-in_err-add_segment-clause-told g c stamped v cs records free whole =
     let p = err_from_is_err_and c.from_residual.result c.from_residual.ensures.1 in
     rw (p.1, p.2)
     (leads_as (λ h k. k)
-    (λ h k. aside_fails stamped v (book_view c.args.book.now) (book_view c.add_aside.new.book)
-    (cut_chunks cs c.args.kept.now) c.in_err-add_aside.field-0.0 c.in_err-add_aside.ensures.spent h k)
-    (c.in_err-add_aside.ensures.told stamped v cs records free))
+    (λ h k. aside_fails stamped v (book_view c.args.book.now) (book_view c.add_segment.new.book)
+    (cut_chunks cs c.args.kept.now) c.in_err-add_segment.field-0.0 c.in_err-add_segment.ensures.spent h k)
+    (c.in_err-add_segment.ensures.told stamped v cs records free))
 
-pub returns-in_err-add_aside-clause-own : goal.returns-in_err-add_aside-clause-own
-returns-in_err-add_aside-clause-own g c =
+pub returns-in_err-add_segment-clause-own : goal.returns-in_err-add_segment-clause-own
+returns-in_err-add_segment-clause-own g c =
     let n = (book_view c.args.book.now).next in
-    as_kind (ReadsOrWrites (segment_name (codes "archive") n)) MergesBy (of_merge n) c.add_aside.ensures.own
+    as_kind (ReadsOrWrites (segment_name (codes "archive") n)) MergesBy (of_merge n) c.add_segment.ensures.own
 
 pub returns-clause-told : goal.returns-clause-told
 returns-clause-told g c stamped v cs records free whole =
     leads_as (λ h k. k)
-    (λ h k. aside_written stamped v (book_view c.args.book.now) (book_view c.add_aside.new.book)
-    (cut_chunks cs c.args.kept.now) c.in_ok-add_aside.field-0 h k)
-    (c.in_ok-add_aside.ensures.told stamped v cs records free)
+    (λ h k. aside_written stamped v (book_view c.args.book.now) (book_view c.add_segment.new.book)
+    (cut_chunks cs c.args.kept.now) c.in_ok-add_segment.field-0 h k)
+    (c.in_ok-add_segment.ensures.told stamped v cs records free)
 
 pub returns-clause-own : goal.returns-clause-own
 returns-clause-own g c =
     let n = (book_view c.args.book.now).next in
-    as_kind (ReadsOrWrites (segment_name (codes "archive") n)) MergesBy (of_merge n) c.add_aside.ensures.own
+    as_kind (ReadsOrWrites (segment_name (codes "archive") n)) MergesBy (of_merge n) c.add_segment.ensures.own

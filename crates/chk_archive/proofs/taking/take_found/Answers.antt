@@ -1,4 +1,5 @@
 use Rattle.std.proofs.Common.{◌≡◌, ◌∙◌, None, Ok, Err, ap, sym, subst, length}
+use Rattle.std.specs.Prelude.{codes}
 use Rattle.std.proofs.lemmas.List.{length-map}
 use Rattle.std.proofs.lemmas.Result.{err_from_is_err_and}
 use Rattle.chk_site.proofs.Runs.{adds_as}
@@ -20,7 +21,8 @@ use Rattle.chk_archive.specs.declared.taking.Taken.{Taken}
 use Rattle.chk_archive.proofs.Lasts.{as_fails}
 use Rattle.chk_archive.proofs.NextBook.{Ends, Cs}
 use Rattle.chk_archive.proofs.FoundPlan.{Hs, parts_are, kept_are, taken_is}
-use Rattle.chk_archive.proofs.TakenIn.{all_args, can_args, prepare_fails, publish_fails, published_all, replaces_no_reads, of_replace}
+use Rattle.chk_parts.proofs.Published.{replaces_no_reads}
+use Rattle.chk_archive.proofs.TakenIn.{all_args, can_args, prepare_fails, publish_fails, published_all, of_replace}
 use Rattle.chk_archive.proofs.taking.take_found.Goals as goal
 
 pub returns-in_err-kept-clause-told : goal.returns-in_err-kept-clause-told
@@ -99,7 +101,7 @@ returns-in_err-publish_if-clause-own g c =
 
 pub returns-in_err-publish_if-clause-pieces : goal.returns-in_err-publish_if-clause-pieces
 returns-in_err-publish_if-clause-pieces g c =
-    every_then AsksInPieces c.prepare.ensures.pieces (no_reads ReplacesBook replaces_no_reads c.publish_if.ensures.own)
+    every_then AsksInPieces c.prepare.ensures.pieces (no_reads ReplacesBook (replaces_no_reads (codes "archive")) c.publish_if.ensures.own)
 
 pub returns-in_err-publish_if-clause-last : goal.returns-in_err-publish_if-clause-last
 returns-in_err-publish_if-clause-last g c =
@@ -146,7 +148,7 @@ returns-clause-own g c =
 
 pub returns-clause-pieces : goal.returns-clause-pieces
 returns-clause-pieces g c =
-    every_then AsksInPieces c.prepare.ensures.pieces (no_reads ReplacesBook replaces_no_reads c.publish_if.ensures.own)
+    every_then AsksInPieces c.prepare.ensures.pieces (no_reads ReplacesBook (replaces_no_reads (codes "archive")) c.publish_if.ensures.own)
 
 pub returns-clause-last : goal.returns-clause-last
 returns-clause-last g c =

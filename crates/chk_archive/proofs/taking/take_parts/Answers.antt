@@ -26,11 +26,11 @@ returns-then-is_empty-clause-told g c stamped v cs records book free =
 pub returns-clause-told : goal.returns-clause-told
 returns-clause-told g c stamped v cs records book free =
     leads_as (λ h k. k)
-    (λ h k. parts_taken stamped v (book_view c.args.book.now) (book_view c.add_parts.new.book) book
-    (cut_chunks cs c.args.cuts.now) c.add_parts.result c.add_parts.ensures.spent h k)
-    (c.add_parts.ensures.told stamped v cs records free)
+    (λ h k. parts_taken stamped v (book_view c.args.book.now) (book_view c.add_segment.new.book) book
+    (cut_chunks cs c.args.cuts.now) c.add_segment.result c.add_segment.ensures.spent h k)
+    (c.add_segment.ensures.told stamped v cs records free)
 
 pub returns-clause-own : goal.returns-clause-own
 returns-clause-own g c =
     let n = (book_view c.args.book.now).next in
-    as_kind (ReadsOrWrites (segment_name (codes "archive") n)) MergesBy (of_merge n) c.add_parts.ensures.own
+    as_kind (ReadsOrWrites (segment_name (codes "archive") n)) MergesBy (of_merge n) c.add_segment.ensures.own

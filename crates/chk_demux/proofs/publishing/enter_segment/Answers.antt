@@ -1,9 +1,10 @@
-use Rattle.std.proofs.Common.{ap, subst, Result}
+use Rattle.std.proofs.Common.{ap, refl, subst, Result}
 use Rattle.std.specs.Prelude.{codes}
 use Rattle.std.proofs.lemmas.Result.{err_from_is_err_and}
 use Rattle.chk_site.specs.declared.acts.OutsideFault.{OutsideFault}
 use Rattle.chk_site.specs.Site.{Adds}
 use Rattle.chk_site.specs.Runs.{Leads}
+use Rattle.chk_world.specs.Names.{DemuxFolder}
 use Rattle.chk_world.specs.Places.{As}
 use Rattle.chk_world.specs.Sight.{job, AtJob}
 use Rattle.chk_world.specs.JobSteps.{WritesTo}
@@ -16,12 +17,15 @@ use Rattle.chk_demux.specs.Writes.{IsSoFar}
 use Rattle.chk_demux.specs.Entering.{Entered}
 use Rattle.chk_demux.proofs.Ends.{so_fails}
 use Rattle.chk_demux.proofs.Entries.{entered_so}
-use Rattle.chk_demux.proofs.OneSegment.{HasWritten, finish_so, writes_it}
-use Rattle.chk_demux.proofs.Works.{own_of, works_as, works_result, works_then, worked_writes}
+use Rattle.chk_demux.proofs.OneSegment.{demux_folder, HasWritten, finish_so, writes_it}
+use Rattle.chk_demux.proofs.Works.{works_as, works_result, works_then, worked_writes, worked_replaces}
 use Rattle.chk_demux.proofs.publishing.enter_segment.Goals as goal
 
 pub finish-requires : goal.finish-requires
 finish-requires g c = c.requires.writer.number
+
+pub publish_next-requires-clause-folder : goal.publish_next-requires-clause-folder
+publish_next-requires-clause-folder g c = demux_folder
 
 pub returns-in_err-finish-clause-told : goal.returns-in_err-finish-clause-told
 returns-in_err-finish-clause-told g c stamped v outs free may =
@@ -60,8 +64,7 @@ returns-in_err-publish_next-clause-told g c stamped v outs free may =
     (entered_so stamped v b outs free may s new c.finish.result c.publish_next.result
     (finish_so stamped v s b new c.requires.writer.number free outs c.finish.result c.finish.ensures.raw own c.finish.ensures.only)
     tt c.in_ok-finish.was
-    (own_of ReplacesBook (job_result c.publish_next.result) c.publish_next.ensures.works)
-    (λ w may. c.publish_next.ensures.told stamped w may)))
+    c.publish_next.ensures.own (λ w may. c.publish_next.ensures.told stamped DemuxFolder w refl may)))
 
 pub returns-in_err-publish_next-clause-works : goal.returns-in_err-publish_next-clause-works
 returns-in_err-publish_next-clause-works g c =
@@ -76,7 +79,7 @@ returns-in_err-publish_next-clause-works g c =
     (works_as (WritesTo w) (WritesBook b.next) (λ call k. writes_segment call k) c.finish.result
     (worked_writes w c.finish.result own c.finish.ensures.last))
     (works_as ReplacesBook (WritesBook b.next) (λ call k. replaces call k) (job_result c.publish_next.result)
-    c.publish_next.ensures.works)))
+    (worked_replaces c.publish_next.result c.publish_next.ensures.own c.publish_next.ensures.last))))
 
 pub returns-clause-told : goal.returns-clause-told
 returns-clause-told g c stamped v outs free may =
@@ -90,8 +93,7 @@ returns-clause-told g c stamped v outs free may =
     (entered_so stamped v b outs free may s new c.finish.result c.publish_next.result
     (finish_so stamped v s b new c.requires.writer.number free outs c.finish.result c.finish.ensures.raw own c.finish.ensures.only)
     tt c.in_ok-finish.was
-    (own_of ReplacesBook (job_result c.publish_next.result) c.publish_next.ensures.works)
-    (λ w may. c.publish_next.ensures.told stamped w may))
+    c.publish_next.ensures.own (λ w may. c.publish_next.ensures.told stamped DemuxFolder w refl may))
 
 pub returns-clause-works : goal.returns-clause-works
 returns-clause-works g c =
@@ -104,4 +106,4 @@ returns-clause-works g c =
     (works_as (WritesTo w) (WritesBook b.next) (λ call k. writes_segment call k) c.finish.result
     (worked_writes w c.finish.result own c.finish.ensures.last))
     (works_as ReplacesBook (WritesBook b.next) (λ call k. replaces call k) (job_result c.publish_next.result)
-    c.publish_next.ensures.works))
+    (worked_replaces c.publish_next.result c.publish_next.ensures.own c.publish_next.ensures.last)))

@@ -12,7 +12,7 @@ use Rattle.chk_demux.specs.Giving.{IsSplitting}
 use Rattle.chk_demux.specs.Splitting.{ends_past, SplitSoFar}
 use Rattle.chk_demux.proofs.Ends.{at_as}
 use Rattle.chk_demux.proofs.Fetches.{P, passed, not_fetched, record_split}
-use Rattle.chk_demux.proofs.Works.{works_none, works_as, works_result, works_then, own_of}
+use Rattle.chk_demux.proofs.Works.{worked, works_none, works_as, works_result, works_then, own_of}
 use Rattle.chk_demux.proofs.splitting.split_record.Goals as goal
 
 pub returns-then-not-ends_past-clause-told : goal.returns-then-not-ends_past-clause-told
@@ -52,7 +52,8 @@ returns-in_err-fetch-clause-works g c =
     let w = segment_name (codes "demux") (book_view c.args.book.now).next in
     rw (p.1, p.2)
     (works_result (Unit {0}) (ReadsOrWrites w) c.fetch.result c.in_err-fetch.field-0.0 c.in_err-fetch.was
-    (works_as ReadsFile (ReadsOrWrites w) (λ call k. inl k) c.fetch.result c.fetch.ensures.works))
+    (works_as ReadsFile (ReadsOrWrites w) (λ call k. inl k) c.fetch.result
+    (worked ReadsFile c.fetch.result c.fetch.ensures.own c.fetch.ensures.pieces c.fetch.ensures.last)))
 
 pub returns-clause-told : goal.returns-clause-told
 returns-clause-told g c stamped v cs outs b records free runs =
@@ -78,5 +79,6 @@ pub returns-clause-works : goal.returns-clause-works
 returns-clause-works g c =
     let w = segment_name (codes "demux") (book_view c.args.book.now).next in
     works_then (ReadsOrWrites w) c.fetch.result c.split_value.result
-    (works_as ReadsFile (ReadsOrWrites w) (λ call k. inl k) c.fetch.result c.fetch.ensures.works)
+    (works_as ReadsFile (ReadsOrWrites w) (λ call k. inl k) c.fetch.result
+    (worked ReadsFile c.fetch.result c.fetch.ensures.own c.fetch.ensures.pieces c.fetch.ensures.last))
     (works_as (WritesTo w) (ReadsOrWrites w) (λ call k. inr k) c.split_value.result c.split_value.ensures.works)

@@ -1,6 +1,5 @@
-use Rattle.std.proofs.Common.{◌≡◌, ◌∙◌, ℕ, [], ap, subst, Option}
+use Rattle.std.proofs.Common.{◌≡◌, ◌∙◌, [], ap, subst}
 use Rattle.std.specs.Prelude.{slice_index_or}
-use Rattle.chk_site.specs.Files.{File}
 use Rattle.chk_site.specs.Site.{Adds}
 use Rattle.chk_site.specs.Runs.{Leads, anyhow}
 use Rattle.chk_world.specs.JobSteps.{SparesFile}

@@ -1,4 +1,4 @@
-use Rattle.std.proofs.Common.{map, length, ap, sym, subst, ◌≡◌, ◌∙◌, ◌++◌, append-nil}
+use Rattle.std.proofs.Common.{map, ap, sym, subst, ◌≡◌, ◌∙◌, ◌++◌, append-nil}
 use Rattle.std.proofs.Math.ListN.{drop_of_length-le}
 use Rattle.chk_book.specs.Views.{end_view}
 use Rattle.chk_book.specs.Books.{end_in}

@@ -1,4 +1,4 @@
-use Rattle.std.proofs.Common.{◌≡◌, ◌∙◌, ◌++◌, ◌∷◌, [], inl, inr, ap, refl}
+use Rattle.std.proofs.Common.{◌++◌, ◌∷◌, [], inl, inr, ap}
 use Rattle.std.specs.Prelude.{codes}
 use Rattle.std.proofs.lemmas.Result.{err_from_is_err_and}
 use Rattle.chk_world.specs.JobSteps.{IsOf, ReadsFile, WritesTo, ReadsOrWrites}

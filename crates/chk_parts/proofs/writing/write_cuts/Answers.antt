@@ -1,21 +1,18 @@
-use Rattle.std.proofs.Common.{◌≡◌, ◌∙◌, ℕ, List, [], ap, sym, subst, refl, take, length}
+use Rattle.std.proofs.Common.{◌∙◌, [], sym, subst, refl, take}
 use Rattle.std.specs.Prelude.{codes}
 use Rattle.std.proofs.lemmas.Result.{err_from_is_err_and}
 use Rattle.std.proofs.lemmas.List.{take_all}
 use Rattle.chk_site.specs.History.{History, Every}
 use Rattle.chk_site.specs.Site.{Adds}
-use Rattle.chk_site.specs.Runs.{Leads}
 use Rattle.chk_site.proofs.Runs.{adds_none}
 use Rattle.chk_site.proofs.Leads.{leads_none, leads_as}
-use Rattle.chk_world.specs.Places.{As}
-use Rattle.chk_world.specs.Sight.{job, sight, AtJob}
+use Rattle.chk_world.specs.Sight.{sight, AtJob}
 use Rattle.chk_world.specs.JobSteps.{IsOf, ReadsOrWrites}
 use Rattle.chk_heads.specs.Pieces.{AsksInPieces}
 use Rattle.chk_heads.proofs.Gathering.{every_then}
 use Rattle.chk_book.specs.Folders.{segment_name}
 use Rattle.chk_parts.specs.Cuts.{cut_chunks}
-use Rattle.chk_parts.specs.Writes.{IsFree, IsSoFar, PutSo}
-use Rattle.chk_parts.specs.Fetching.{AreWindows}
+use Rattle.chk_parts.specs.Writes.{IsFree, IsSoFar}
 use Rattle.chk_parts.proofs.CutLists.{nothing_windows, is_record, D, cut_more, cut_fails}
 use Rattle.chk_parts.proofs.AllFiles.{fails_later}
 use Rattle.chk_parts.proofs.writing.write_cuts.Goals as goal

@@ -3,7 +3,7 @@ use Rattle.std.specs.Prelude.{slice_index_or, IsTrue}
 use Rattle.chk_chunk.specs.Keys.{stream_lt}
 use Rattle.chk_book.specs.Views.{end_view}
 use Rattle.chk_book.specs.declared.lists.End.{End}
-use Rattle.chk_archive.proofs.publishing.ends_rise.Given as goal
+use Rattle.chk_parts.proofs.publishing.ends_rise.Given as goal
 
 abbrev pub invariant-loop-i : goal.invariant-loop-i
 invariant-loop-i l =

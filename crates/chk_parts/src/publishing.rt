@@ -1,6 +1,6 @@
-//! The archive's next book is published.
+//! A folder's next book is published.
 
-ghost use Rattle.std.specs.Prelude.{◌≡◌, ◌+◌, ◌<◌, ℕ, true, List, codes, length, map, option_map, nat_eq, slice_index_or, IsTrue};
+ghost use Rattle.std.specs.Prelude.{◌≡◌, ◌+◌, ◌<◌, ℕ, true, List, length, map, option_map, nat_eq, slice_index_or, IsTrue};
 ghost use Rattle.std.specs.List.{list_all, list_any};
 ghost use Rattle.chk_bytes.specs.Stems.{is_count};
 ghost use Rattle.chk_bytes.specs.Words.{text_lt};
@@ -8,14 +8,15 @@ ghost use Rattle.chk_chunk.specs.Keys.{stream_lt};
 ghost use Rattle.chk_site.specs.History.{Every};
 ghost use Rattle.chk_site.specs.Site.{Adds, LastFailed, OutsideCause};
 ghost use Rattle.chk_site.specs.Runs.{Leads};
+ghost use Rattle.chk_world.specs.Names.{Folder, folder_text};
 ghost use Rattle.chk_world.specs.Books.{is_book, is_segment, is_end, is_aside, written_version};
 ghost use Rattle.chk_world.specs.Places.{As};
 ghost use Rattle.chk_world.specs.Sight.{job, Sight, AtJob};
 ghost use Rattle.chk_world.specs.JobSteps.{IsOf};
+ghost use Rattle.chk_book.specs.Folders.{is_folder};
 ghost use Rattle.chk_book.specs.Books.{book_view};
 ghost use Rattle.chk_book.specs.Views.{segment_view, end_view};
-ghost use Rattle.chk_archive.specs.Publishing.{MayFollow, Published, NumbersRise, StreamsRise};
-ghost use Rattle.chk_archive.specs.Archived.{ReplacesBook};
+ghost use Rattle.chk_parts.specs.Publishing.{MayFollow, Published, ReplacesBookOf, NumbersRise, StreamsRise};
 
 use chk_book::{Book, End, Segment};
 use chk_site::{OutsideFault, Site, Who};
@@ -24,26 +25,28 @@ use std::alloc::Global;
 /// A book has fewer segments, and fewer streams.
 const MANY: usize = 1 << 32;
 
-/// Publishes the archive's next book, which is the old one or this one at every moment. One that can't be spelled, as with 2^32
+/// Publishes the folder's next book, which is the old one or this one at every moment. One that can't be spelled, as with 2^32
 /// streams, counts as want of memory. It costs five calls.
-pub(crate) fn publish_next<S: Site>(
+pub fn publish_next<S: Site>(
     alloc: Global,
     site: &mut S,
     who: &Who,
     book: &Book,
+    folder: &str,
 ) -> Result<(), OutsideFault>
-    requires { who.now ≡ job }
-    ensures told { (stamped : List (List ℕ)) (v : Sight) → MayFollow stamped v (book_view book.now)
-        → Adds (S.told site.old) (S.told site.new)
-        (Leads (As stamped job) (AtJob stamped (λ u. u ≡ v)) (Published stamped v (book_view book.now) result)) }
-    ensures own { Adds (S.told site.old) (S.told site.new) (Every (IsOf ReplacesBook)) }
+    requires job { who.now ≡ job }
+    requires folder { IsTrue (is_folder folder.now) }
+    ensures told { (stamped : List (List ℕ)) (f : Folder) (v : Sight) → (folder.now ≡ folder_text f)
+        → MayFollow stamped f v (book_view book.now) → Adds (S.told site.old) (S.told site.new)
+        (Leads (As stamped job) (AtJob stamped (λ u. u ≡ v)) (Published stamped f v (book_view book.now) result)) }
+    ensures own { Adds (S.told site.old) (S.told site.new) (Every (IsOf (ReplacesBookOf folder.now))) }
     ensures last { Adds (S.told site.old) (S.told site.new) (LastFailed result) }
     ensures cause { OutsideCause (S.fault_count site.old) (S.fault_count site.new) result }
 {
     if !can_be_spelled(book) {
         return Err(OutsideFault::NoMemory);
     }
-    book.publish(alloc, site, who, "archive")
+    book.publish(alloc, site, who, folder)
 }
 
 /// The book can be spelled.

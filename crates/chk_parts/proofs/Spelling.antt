@@ -1,5 +1,5 @@
 -- A book of which each part can be spelled can be.
-use Rattle.std.proofs.Common.{◌≡◌, ℕ, suc, ◌+◌, ◌<◌, Bool, true, false, ◌&&◌, ◌||◌, not, List, [], ◌∷◌, length, Option, Some, None, ap, sym, subst, ◌∙◌, refl, arith, true≢false}
+use Rattle.std.proofs.Common.{◌≡◌, ℕ, suc, ◌+◌, ◌<◌, Bool, true, false, ◌&&◌, ◌||◌, not, List, [], ◌∷◌, length, Option, Some, None, ap, sym, subst, ◌∙◌, refl, arith}
 use Rattle.std.specs.Prelude.{IsTrue, map, option_map, slice_index_or, nat_lt, nat_eq}
 use Rattle.std.specs.List.{list_all, list_any}
 use Rattle.std.proofs.lemmas.Bool.{and_from}
@@ -12,9 +12,9 @@ use Rattle.chk_book.specs.declared.book.Book.{Book as Struct}
 use Rattle.chk_bytes.specs.Stems.{is_count}
 use Rattle.chk_book.specs.declared.lists.Segment.{Segment as SegmentStruct}
 use Rattle.chk_book.specs.declared.lists.End.{End as EndStruct}
-use Rattle.chk_demux.specs.Publishing.{NumbersRise, StreamsRise}
+use Rattle.chk_parts.specs.Publishing.{NumbersRise, StreamsRise}
 
-pub numbers_rise : (gs : List SegmentStruct) → NumbersRise gs → segments_rise (map segment_view gs) ≡ true
+numbers_rise : (gs : List SegmentStruct) → NumbersRise gs → segments_rise (map segment_view gs) ≡ true
 numbers_rise [] rise = refl
 numbers_rise (g ∷ []) rise = refl
 numbers_rise (g ∷ h ∷ gs) rise =
@@ -25,7 +25,7 @@ numbers_rise (g ∷ h ∷ gs) rise =
     subst (λ m. (slice_index_or (h ∷ gs) i d).number < (slice_index_or (g ∷ h ∷ gs) m d).number) e
     (rise (suc i) d (omega (arith, k)))))
 
-pub streams_rise : (es : List EndStruct) → StreamsRise es → ends_rise (map end_view es) ≡ true
+streams_rise : (es : List EndStruct) → StreamsRise es → ends_rise (map end_view es) ≡ true
 streams_rise [] rise = refl
 streams_rise (e ∷ []) rise = refl
 streams_rise (e ∷ f ∷ es) rise =
@@ -41,12 +41,12 @@ all_mapped : {X Y : Type 0} (p : Y → Bool) (f : X → Y) (xs : List X)
 all_mapped p f [] = refl
 all_mapped p f (x ∷ xs) = ap (λ b. p (f x) && b) (all_mapped p f xs)
 
-pub all_views : {X Y : Type 0} (p : Y → Bool) (f : X → Y) (xs : List X) → list_all (λ x. p (f x)) xs ≡ true
+all_views : {X Y : Type 0} (p : Y → Bool) (f : X → Y) (xs : List X) → list_all (λ x. p (f x)) xs ≡ true
     → list_all p (map f xs) ≡ true
 all_views p f xs h = all_mapped p f xs ∙ h
 
 -- the version that is written says all of it
-pub fits_written : (b : Book) → fits_version (written_version b) b ≡ true
+fits_written : (b : Book) → fits_version (written_version b) b ≡ true
 fits_written b = go b.aside refl (list_all begins_at_0 b.ends) refl
   where
     go : (o : Option Segment) → b.aside ≡ o → (t : Bool) → list_all begins_at_0 b.ends ≡ t
@@ -55,14 +55,10 @@ fits_written b = go b.aside refl (list_all begins_at_0 b.ends) refl
     go None e true k = rw (e, k) (and_from (list_all begins_at_0 b.ends) true k refl)
     go None e false k = rw (e, k) refl
 
-pub any_mapped : {X Y : Type 0} (p : Y → Bool) (f : X → Y) (xs : List X)
+any_mapped : {X Y : Type 0} (p : Y → Bool) (f : X → Y) (xs : List X)
     → list_any p (map f xs) ≡ list_any (λ x. p (f x)) xs
 any_mapped p f [] = refl
 any_mapped p f (x ∷ xs) = ap (λ b. p (f x) || b) (any_mapped p f xs)
-
-pub none_mapped : (gs : List SegmentStruct) (n : ℕ) → list_any (λ (g : SegmentStruct). nat_eq g.number n) gs ≡ false
-    → not (list_any (λ (g : Segment). nat_eq g.number n) (map segment_view gs)) ≡ true
-none_mapped gs n h = ap not (any_mapped (λ (g : Segment). nat_eq g.number n) segment_view gs ∙ h)
 
 pub aside_so : (next : ℕ) (gs : List SegmentStruct) (o : Option SegmentStruct) (g : SegmentStruct) → o ≡ Some g
     → is_segment next (segment_view g) ≡ true → (r : Bool)
@@ -90,7 +86,3 @@ book_spelled b count few_segments segments rise few_ends ends streams aside =
     (and_from (ends_rise (map end_view b.ends)) _ (streams_rise b.ends streams)
     (and_from (is_aside b.next (map segment_view b.segments) (option_map segment_view b.aside)) _ aside
     (fits_written (book_view b)))))))))
-
-pub not_false : (b : Bool) → not b ≡ false → b ≡ true
-not_false true h = refl
-not_false false h = absurd (true≢false h)

@@ -1,23 +1,21 @@
-use Rattle.std.proofs.Common.{◌≡◌, ◌∙◌, inl, inr, ℕ, List, [], ap, sym, subst, Some}
+use Rattle.std.proofs.Common.{◌∙◌, inr, sym, subst}
 use Rattle.std.specs.Prelude.{codes}
 use Rattle.std.proofs.lemmas.Result.{err_from_is_err_and}
 use Rattle.chk_site.specs.History.{Every}
 use Rattle.chk_site.specs.Site.{Adds}
-use Rattle.chk_world.specs.Books.{Book, Segment}
 use Rattle.chk_world.specs.JobSteps.{IsOf, WritesTo, ReadsOrWrites}
 use Rattle.chk_heads.specs.Pieces.{AsksInPieces}
 use Rattle.chk_heads.proofs.Gathering.{every_then}
 use Rattle.chk_book.specs.Books.{book_view}
 use Rattle.chk_book.specs.Folders.{segment_name}
-use Rattle.chk_book.specs.Segmenting.{with_aside}
 use Rattle.chk_parts.specs.Cuts.{cut_chunks}
-use Rattle.chk_parts.specs.Writes.{IsFree}
+use Rattle.chk_parts.specs.Writes.{IsFree, with_new}
 use Rattle.chk_parts.proofs.AllFiles.{fails_later}
 use Rattle.chk_parts.proofs.ForArchive.{writes_it}
 use Rattle.chk_parts.proofs.OneSegment.{begun_so, not_begun}
 use Rattle.chk_parts.proofs.StepKinds.{as_kind, no_reads, writes_no_reads, fails_behind}
-use Rattle.chk_parts.proofs.WholeSegments.{archive_folder, write_fails, all_written, set_by}
-use Rattle.chk_parts.proofs.writing.add_aside.Goals as goal
+use Rattle.chk_parts.proofs.WholeSegments.{archive_folder, write_fails, all_written, entered}
+use Rattle.chk_parts.proofs.writing.add_segment.Goals as goal
 
 pub begin_segment-requires : goal.begin_segment-requires
 begin_segment-requires g c = archive_folder
@@ -28,7 +26,7 @@ returns-in_err-segmenter-clause-told g c stamped v cs records free =
     let b = book_view c.args.book.now in
     let chunks = cut_chunks cs c.args.cuts.now in
     rw (p.1, p.2)
-    (not_begun stamped v c.args.files.now b free (λ (b : Book) (g : Segment). with_aside b (Some g)) b chunks c.in_err-segmenter.field-0.0
+    (not_begun stamped v c.args.files.now b free (with_new c.args.purpose chunks) b chunks c.in_err-segmenter.field-0.0
     c.in_err-segmenter.ensures.only c.in_err-segmenter.ensures.raw (c.begin_segment.ensures.own c.requires.job))
 
 pub returns-in_err-segmenter-clause-own : goal.returns-in_err-segmenter-clause-own
@@ -51,7 +49,7 @@ returns-in_err-write_cuts-clause-told g c stamped v cs records free =
     let chunks = cut_chunks cs c.args.cuts.now in
     let now : IsFree v files s.number = subst (IsFree v files) (sym at.number) free in
     rw (p.1, p.2)
-    (write_fails stamped v (λ (b : Book) (g : Segment). with_aside b (Some g)) b b s c.write_cuts.new.segmenter chunks c.write_cuts.result
+    (write_fails stamped v (with_new c.args.purpose chunks) b b s c.write_cuts.new.segmenter chunks c.write_cuts.result
     c.in_err-write_cuts.field-0.0 c.in_err-write_cuts.was c.in_err-write_cuts.ensures.only
     (begun_so stamped v files b free s at c.in_ok-segmenter.ensures.raw (c.begin_segment.ensures.own c.requires.job))
     (c.write_cuts.ensures.told stamped v cs records now))
@@ -87,21 +85,21 @@ returns-clause-told g c stamped v cs records free =
     let t = c.write_cuts.new.segmenter in
     let chunks = cut_chunks cs c.args.cuts.now in
     let now : IsFree v files s.number = subst (IsFree v files) (sym at.number) free in
-    set_by stamped v files t b (book_view c.finish_aside.new.book) (c.in_ok-write_cuts.ensures.number ∙ at.number) free chunks
-    c.finish_aside.result c.finish_aside.ensures.only
+    entered stamped v files t b (book_view c.finish_for.new.book) (c.in_ok-write_cuts.ensures.number ∙ at.number) free chunks c.args.purpose
+    c.finish_for.result c.finish_for.ensures.only
     (all_written stamped v s t chunks c.write_cuts.result c.in_ok-write_cuts.field-0 c.in_ok-write_cuts.was
     (begun_so stamped v files b free s at c.in_ok-segmenter.ensures.raw (c.begin_segment.ensures.own c.requires.job))
     (c.write_cuts.ensures.told stamped v cs records now))
-    (writes_it t c.in_ok-write_cuts.ensures.segment c.finish_aside.ensures.own
+    (writes_it t c.in_ok-write_cuts.ensures.segment c.finish_for.ensures.own
     (c.write_cuts.ensures.who ∙ (c.in_ok-segmenter.ensures.who ∙ c.requires.job)))
-    c.finish_aside.ensures.raw
+    c.finish_for.ensures.raw
 
 pub returns-clause-own : goal.returns-clause-own
 returns-clause-own g c =
     let w = segment_name (codes "archive") (book_view c.args.book.now).next in
     let t = c.write_cuts.new.segmenter in
     let mid = g.S.Site.told c.write_cuts.new.site in
-    let last = g.S.Site.told c.finish_aside.new.site in
+    let last = g.S.Site.told c.finish_for.new.site in
     let at = c.in_ok-segmenter.ensures.at in
     every_then (IsOf (ReadsOrWrites w))
     (every_then (IsOf (ReadsOrWrites w))
@@ -111,7 +109,7 @@ returns-clause-own g c =
     (as_kind (WritesTo w) (ReadsOrWrites w) (λ call k. inr k)
     (subst (λ n. Adds mid last (Every (IsOf (WritesTo (segment_name (codes "archive") n)))))
     (c.in_ok-write_cuts.ensures.number ∙ at.number)
-    (writes_it t c.in_ok-write_cuts.ensures.segment c.finish_aside.ensures.own
+    (writes_it t c.in_ok-write_cuts.ensures.segment c.finish_for.ensures.own
     (c.write_cuts.ensures.who ∙ (c.in_ok-segmenter.ensures.who ∙ c.requires.job)))))
 
 pub returns-clause-pieces : goal.returns-clause-pieces
@@ -123,13 +121,13 @@ returns-clause-pieces g c =
     (every_then AsksInPieces
     (no_reads (WritesTo w) (writes_no_reads w) (c.begin_segment.ensures.own c.requires.job)) c.write_cuts.ensures.pieces)
     (no_reads (WritesTo x) (writes_no_reads x)
-    (writes_it t c.in_ok-write_cuts.ensures.segment c.finish_aside.ensures.own
+    (writes_it t c.in_ok-write_cuts.ensures.segment c.finish_for.ensures.own
     (c.write_cuts.ensures.who ∙ (c.in_ok-segmenter.ensures.who ∙ c.requires.job))))
 
 pub returns-clause-last : goal.returns-clause-last
 returns-clause-last g c =
-    fails_behind c.finish_aside.result
+    fails_behind c.finish_for.result
     (every_then AsksInPieces
     (no_reads (WritesTo (segment_name (codes "archive") (book_view c.args.book.now).next))
     (writes_no_reads (segment_name (codes "archive") (book_view c.args.book.now).next))
-    (c.begin_segment.ensures.own c.requires.job)) c.write_cuts.ensures.pieces) c.finish_aside.ensures.last
+    (c.begin_segment.ensures.own c.requires.job)) c.write_cuts.ensures.pieces) c.finish_for.ensures.last

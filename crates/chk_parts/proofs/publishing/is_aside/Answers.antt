@@ -1,6 +1,6 @@
 use Rattle.std.proofs.Common.{sym, ◌∙◌}
-use Rattle.chk_archive.proofs.Spelling.{aside_so}
-use Rattle.chk_archive.proofs.publishing.is_aside.Goals as goal
+use Rattle.chk_parts.proofs.Spelling.{aside_so}
+use Rattle.chk_parts.proofs.publishing.is_aside.Goals as goal
 
 pub returns-then-is_segment : goal.returns-then-is_segment
 returns-then-is_segment c =

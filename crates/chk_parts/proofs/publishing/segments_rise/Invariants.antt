@@ -1,7 +1,7 @@
 use Rattle.std.proofs.Common.{ℕ, ◌+◌, ◌<◌}
 use Rattle.std.specs.Prelude.{slice_index_or}
 use Rattle.chk_book.specs.declared.lists.Segment.{Segment}
-use Rattle.chk_archive.proofs.publishing.segments_rise.Given as goal
+use Rattle.chk_parts.proofs.publishing.segments_rise.Given as goal
 
 abbrev pub invariant-loop-i : goal.invariant-loop-i
 invariant-loop-i l =

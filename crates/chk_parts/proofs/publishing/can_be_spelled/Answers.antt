@@ -2,9 +2,9 @@ use Rattle.std.proofs.Common.{◌≡◌, ◌<◌, true, sym, subst, ◌∙◌, r
 use Rattle.std.specs.List.{list_all}
 use Rattle.chk_world.specs.Books.{is_segment, is_end, is_aside}
 use Rattle.chk_book.specs.Views.{segment_view, end_view}
-use Rattle.chk_archive.specs.Publishing.{NumbersRise, StreamsRise}
-use Rattle.chk_archive.proofs.Spelling.{book_spelled}
-use Rattle.chk_archive.proofs.publishing.can_be_spelled.Goals as goal
+use Rattle.chk_parts.specs.Publishing.{NumbersRise, StreamsRise}
+use Rattle.chk_parts.proofs.Spelling.{book_spelled}
+use Rattle.chk_parts.proofs.publishing.can_be_spelled.Goals as goal
 
 pub returns : goal.returns
 returns c is =
