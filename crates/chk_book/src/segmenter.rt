@@ -22,6 +22,9 @@ const BUFFER: usize = 1 << 20;
 /// Behind this many bytes nothing more is written to a segment.
 const MOST_BYTES: u64 = 1 << 62;
 
+/// A key has room for this many bytes from its begin, which most keys don't pass.
+const KEY_BYTES: usize = 256;
+
 /// A segment under writing. It holds at most 1,048,576 bytes and one record that aren't appended yet.
 #[derive(Drop)]
 pub struct Segmenter {
@@ -238,7 +241,7 @@ impl Segmenter {
         if self.writer.place > MOST_BYTES {
             return Err(NoMemory);
         }
-        let mut key = Bytes::new(alloc);
+        let mut key = Bytes::with_capacity(alloc, KEY_BYTES)?;
         write_key(&mut key, chunk)?;
         self.ends.note(alloc, chunk)?;
         self.writer

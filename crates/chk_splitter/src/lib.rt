@@ -8,6 +8,3 @@ mod splitter;
 pub use laws::{feeds_split, split_goes_on};
 pub use lines::{LINE_BYTES, RECORD_BYTES};
 pub use splitter::Splitter;
-
-#[cfg(test)]
-mod tests;

@@ -2,8 +2,10 @@
 ghost use Rattle.std.specs.Prelude.{◌≡◌, ◌≤◌, ◌<◌, ◌||◌, nat_lt, length, take, drop};
 ghost use Rattle.chk_chunk.specs.Keys.{chunk_limit, record_limit};
 ghost use Rattle.chk_world.specs.Splits.{fits_pattern, has_stamp};
-ghost use Rattle.chk_splitter.specs.LineFronts.{GoesOn, ends_line, fits_one};
+ghost use Rattle.chk_splitter.specs.LineFronts.{GoesOn, fits_one};
 ghost use Rattle.chk_splitter.specs.Splitting.{complete_size};
+
+use memchr::memchr;
 
 /// The most bytes of a line: it ends after so many without a newline.
 pub const LINE_BYTES: usize = 131_072;
@@ -25,23 +27,18 @@ pub(crate) fn line_front(line: &[u8], bytes: &[u8]) -> LineFront
     ensures some { 0 < length bytes.now → 0 < result.taken }
     ensures front { GoesOn line.now (take result.taken bytes.now) result.ends }
 {
-    for (at, byte) in bytes.iter().enumerate() {
-        let taken = at + 1;
-        if ends_line(*byte, line.len() + taken) {
-            return LineFront { taken, ends: true };
-        }
+    let room = LINE_BYTES - line.len();
+    let front = &bytes[..bytes.len().min(room)];
+    match memchr(b'\n', front) {
+        Some(at) => LineFront {
+            taken: at + 1,
+            ends: true,
+        },
+        None => LineFront {
+            taken: front.len(),
+            ends: line.len() + front.len() >= LINE_BYTES,
+        },
     }
-    LineFront {
-        taken: bytes.len(),
-        ends: false,
-    }
-}
-
-// The byte ends a line of so many bytes, with it.
-fn ends_line(byte: u8, size: usize) -> bool
-    ensures { result ≡ ends_line byte size }
-{
-    byte == b'\n' || size >= LINE_BYTES
 }
 
 // How many of the first bytes are a complete record, where a line behind the first `begun` ones has
