@@ -22,8 +22,8 @@ use Rattle.chk_agent.proofs.TurningTold.{talks_then}
 use Rattle.chk_drain.specs.declared.answers.Drained.{Drained}
 use Rattle.chk_drain.specs.declared.answers.Drained.TheVariants.{Pending}
 use Rattle.chk_drain.specs.Drains as drain
-use Rattle.chk_drain.specs.Drains.{Progress, AllEnded, MayPoll, Drains, Pauses, WaitsOn, begun, poll_good}
-use Rattle.chk_drain.specs.Parts.{EndsEarly, EndsLast, FailsLastBut, Freed, IsFresh, IsUntried, Part, PausesOnce, PolledBy, PolledTo, Polling, SameRest, Talks, WantsRows, count_rows, pending_by, unmarked_in}
+use Rattle.chk_drain.specs.Drains.{Progress, AllEnded, MayPoll, PollGives, Drains, WaitsOn, begun, poll_good}
+use Rattle.chk_drain.specs.Parts.{EndsEarly, EndsLast, FailsLastBut, Freed, IsFresh, IsUntried, Part, PausesBetween, PolledBy, PolledTo, Polling, SameRest, Talks, WantsRows, count_rows, pending_by, unmarked_in}
 use Rattle.chk_drain.proofs.Joining.{cause_then, last_later, part_map, part_none, part_then, reading_then, rest_then}
 use Rattle.chk_drain.proofs.Kept.{poll_good as good_behind}
 use Rattle.chk_drain.proofs.PollingOn.{good_gives, may_as}
@@ -74,6 +74,17 @@ fails_but (Damaged at) added history x = tt
 fails_but (Outside call) added history x = λ other. x
 fails_but NoMemory added history x = tt
 
+-- a poll with a good reply goes on behind its pause, or at once where nothing is left
+goes_on : {now reads polls : ℕ} {p q : Progress} {s t u : State} {result : Result Drained AgentFault}
+    {old mid next new : Option History}
+    → MayPoll p s → PollGives p s q t old mid → WaitsOn polls q → PausesBetween t (Ok tt) mid next
+    → Drains now reads polls q t result u next new → Drains now reads polls p s result u old new
+goes_on {now = now} {reads = reads} {polls = polls} {q = q} {t = t} {u = u} {result = result}
+    {new = new} may gives waits (inl none) rest =
+    drain.polled_last may gives none.0
+    (subst (λ h. Drains now reads polls q t result u h new) none.1 rest)
+goes_on may gives waits (inr some) rest = drain.polled may gives waits some.0 some.1 rest
+
 -- behind a good reply the agent is as ready
 pub polled_ready : {now reads polls : ℕ} {p : Progress} (s : State) (below : Option Below)
     (t : State)
@@ -114,7 +125,7 @@ module _ (now reads polls left : ℕ) (p : Progress) (s : State) (may : MayPoll 
       | inr more ↦ inr (omega (arith, more, so, same))
     ]
 
-    pub polls_waited : asked_stems s.delivery.table ≢ [] → Pauses t (Ok tt) mid new → b ≤ c
+    pub polls_waited : asked_stems s.delivery.table ≢ [] → PausesBetween t (Ok tt) mid new → b ≤ c
         → Part now reads polls p s (PolledBy left p s) None t old new a c
     polls_waited some pauses on = part_then to.tries (λ q k.
         let seen = good_behind below (λ none. some (ap asked_stems (sym k.table) ∙ none)) to.gives
@@ -139,7 +150,7 @@ module _ (now reads polls left : ℕ) (p : Progress) (s : State) (may : MayPoll 
             };
             source = seen.same.source;
             ready = seen.same.ready;
-            onward = λ result v later rest. drain.polled
+            onward = λ result v later rest. goes_on
                 (may_as p q s to.state k.rest.adaptors k.queue k.table k.reading may)
                 (good_gives q below to.gives refl) (on_so q k.polls) pauses rest;
           };
@@ -149,7 +160,7 @@ module _ (now reads polls left : ℕ) (p : Progress) (s : State) (may : MayPoll 
         })
 
     pub polls_unpaused : (fault : AgentFault) → asked_stems s.delivery.table ≢ []
-        → PausesOnce t (Err fault) mid new
+        → PausesBetween t (Err fault) mid new
         → Adds mid new (FailsLast {T = Unit {0}} (Err fault))
         → AgentCause {T = Unit {0}} b c (Err fault)
         → IsUndamaged {T = Unit {0}} (Err fault)
@@ -158,10 +169,10 @@ module _ (now reads polls left : ℕ) (p : Progress) (s : State) (may : MayPoll 
         let seen = good_behind below (λ none. some (ap asked_stems (sym k.table) ∙ none)) to.gives
         refl in
         record {
-          comes = subst (λ f. Drains now reads polls q to.state (Err f) t to.mid new) (sym pauses.4)
-              (drain.unpaused pauses.0 pauses.1
+          comes = subst (λ f. Drains now reads polls q to.state (Err f) t to.mid new)
+              (sym pauses.1.4) (drain.unpaused pauses.1.0 pauses.1.1
               (may_as p q s to.state k.rest.adaptors k.queue k.table k.reading may)
-              (good_gives q below to.gives refl) (on_so q k.polls) pauses.2 pauses.3);
+              (good_gives q below to.gives refl) (on_so q k.polls) pauses.0 pauses.1.2 pauses.1.3);
           talks = talks_then to.state t t
               (record { source = seen.same.source; ready = seen.same.ready }) to.talks paused;
           last = adds_then (EndsLast (Some (Err fault))) (to.talks []) last

@@ -64,14 +64,17 @@ drains_ready {s = s} {t = u} {result = result} (drain.unposted {t = t} tries mor
     stays_then result s t u (post_tries tries) (drains_ready rest)
 drains_ready {s = s} {t = t} (drain.none_took {q = q} tries all) = stays (tried_answer q) s t
     (post_tries tries)
-drains_ready {s = s} {t = u} {result = result} (drain.polled {t = t} may gives waits pauses rest) =
+drains_ready {s = s} {t = u} {result = result}
+    (drain.polled {t = t} may gives waits left pauses rest) =
+    stays_then result s t u (poll_gives gives) (drains_ready rest)
+drains_ready {s = s} {t = u} {result = result} (drain.polled_last {t = t} may gives none rest) =
     stays_then result s t u (poll_gives gives) (drains_ready rest)
 drains_ready (drain.pending b may gives most is) = poll_gives gives
 drains_ready {s = s} {t = u} {result = result} (drain.unpolled {t = t} may tries more rest) =
     stays_then result s t u (poll_tries tries) (drains_ready rest)
 drains_ready {s = s} {t = t} (drain.none_told {q = q} may tries all) = stays (tried_answer q) s t
     (poll_tries tries)
-drains_ready (drain.unpaused given fault may gives waits ends pauses) = tt
+drains_ready (drain.unpaused given fault may gives waits left ends pauses) = tt
 drains_ready (drain.wanting wants) = tt
 drains_ready (drain.unsettled fault ended none rows settled) = tt
 drains_ready (drain.done_all settled ended is all) = settled_ready is

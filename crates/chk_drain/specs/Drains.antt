@@ -95,6 +95,14 @@ MayPoll p s = (free_rows s.delivery ≡ 0) ⊎ ((s.delivery.queue.chunks ≡ [])
 abbrev pub WaitsOn : ℕ → Progress → Type 0
 WaitsOn polls p = (p.below ≡ None) ⊎ (p.polls < polls)
 
+-- nothing is left to poll for: no chunk waits to be sent, and no row to be committed
+abbrev pub NoneLeft : State → Type 0
+NoneLeft s = (s.delivery.queue.chunks ≡ []) × (s.delivery.table.rows ≡ [])
+
+-- a chunk waits to be sent, or a row to be committed, so that another poll is to follow
+abbrev pub SomeLeft : State → Type 0
+SomeLeft s = (s.delivery.queue.chunks ≢ []) ⊎ (s.delivery.table.rows ≢ [])
+
 -- all addresses were tried in a row: none of the calls failed, or this one was the last that did
 abbrev pub tried_answer : Progress → Result Drained AgentFault
 tried_answer p = elim p.failed [
@@ -102,7 +110,7 @@ tried_answer p = elim p.failed [
   | Some call ↦ Err (Outside call)
 ]
 
--- a drain waits a second between two polls
+-- a drain waits a second between two polls with a good reply
 abbrev pub Pauses : State → Result (Unit {0}) CallFault → Option History → Option History → Type 0
 Pauses s given old new = Adds old new
     (Calls (asked (process s) Pause [] 1000 0) (answered plain given))
@@ -214,8 +222,13 @@ pub data Drains (now reads polls : ℕ) : Progress → State → Result Drained 
       → Drains now reads polls p s (tried_answer q) t old new
   polled : {p q : Progress} {s t u : State} {result : Result Drained AgentFault}
       {old mid next new : Option History}
-      → MayPoll p s → PollGives p s q t old mid → WaitsOn polls q → Pauses t (Ok tt) mid next
+      → MayPoll p s → PollGives p s q t old mid → WaitsOn polls q → SomeLeft t
+      → Pauses t (Ok tt) mid next
       → Drains now reads polls q t result u next new → Drains now reads polls p s result u old new
+  polled_last : {p q : Progress} {s t u : State} {result : Result Drained AgentFault}
+      {old mid new : Option History}
+      → MayPoll p s → PollGives p s q t old mid → NoneLeft t
+      → Drains now reads polls q t result u mid new → Drains now reads polls p s result u old new
   pending : {p q : Progress} {s t : State} {old new : Option History} (b : Below)
       → MayPoll p s → PollGives p s q t old new → polls ≤ q.polls → q.below ≡ Some b
       → Drains now reads polls p s (Ok (Pending b.stem b.got b.want)) t old new
@@ -228,8 +241,8 @@ pub data Drains (now reads polls : ℕ) : Progress → State → Result Drained 
       → Drains now reads polls p s (tried_answer q) t old new
   unpaused : {p q : Progress} {s t : State} {old mid new : Option History}
       (given : Result (Unit {0}) CallFault) (fault : OutsideFault)
-      → MayPoll p s → PollGives p s q t old mid → WaitsOn polls q → Ends Pause given fault
-      → Pauses t given mid new
+      → MayPoll p s → PollGives p s q t old mid → WaitsOn polls q → SomeLeft t
+      → Ends Pause given fault → Pauses t given mid new
       → Drains now reads polls p s (Err (fault_of fault)) t old new
   wanting : {p : Progress} {s t : State} {old new : Option History} → Wants now s t old new
       → Drains now reads polls p s (Err NoMemory) t old new

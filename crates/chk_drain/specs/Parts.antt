@@ -30,7 +30,7 @@ use Rattle.chk_drain.specs.declared.answers.Drained.TheVariants.{Done, Pending}
 use Rattle.chk_drain.specs.declared.tries.Miss.{Miss}
 use Rattle.chk_drain.specs.declared.tries.Miss.TheVariants.{Unsent, Silent as no_reply, Refused as other_reply}
 use Rattle.chk_drain.specs.declared.tries.Tries.{Tries}
-use Rattle.chk_drain.specs.Drains.{Progress, AllEnded, Drains, Pauses, Wants, tried_by, tried_for}
+use Rattle.chk_drain.specs.Drains.{Progress, AllEnded, Drains, NoneLeft, Pauses, SomeLeft, Wants, tried_by, tried_for}
 
 -- ---- one post, one poll
 
@@ -297,6 +297,18 @@ PausesOnce s (Ok value) old new = Pauses s (Ok tt) old new
 PausesOnce s (Err fault) old new =
     (given : Result (Unit {0}) CallFault) × (outside : OutsideFault)
     × Ends Pause given outside × Pauses s given old new × (fault ≡ fault_of outside)
+
+-- whether nothing is left to poll for
+abbrev pub Leaves : Bool → State → Type 0
+Leaves true s = NoneLeft s
+Leaves false s = SomeLeft s
+
+-- the pause behind a poll with a good reply, where another poll is to follow; or else none
+abbrev pub PausesBetween : State → Result (Unit {0}) AgentFault → Option History → Option History
+    → Type 0
+PausesBetween s (Ok value) old new =
+    (NoneLeft s × (new ≡ old)) ⊎ (SomeLeft s × PausesOnce s (Ok value) old new)
+PausesBetween s (Err fault) old new = SomeLeft s × PausesOnce s (Err fault) old new
 
 -- all is delivered but for the checkpoint
 pub record DeliveredBy (s : State) (q : Progress) (t : State) : Type 0 where

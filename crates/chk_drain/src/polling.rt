@@ -5,7 +5,7 @@ ghost use Rattle.chk_site.specs.Site.{Adds};
 ghost use Rattle.chk_delivery.specs.Turns.{asked_stems};
 ghost use Rattle.chk_agent.specs.Faults.{AgentCause, FailsLast, IsUndamaged};
 ghost use Rattle.chk_drain.specs.Drains.{Progress, MayPoll};
-ghost use Rattle.chk_drain.specs.Parts.{Freed, IsFresh, IsUntried, MissCause, Part, PausesOnce, PolledBy, PollsOn, PollsOnce, Talks, WantsRows, pending_by};
+ghost use Rattle.chk_drain.specs.Parts.{Freed, IsFresh, IsUntried, Leaves, MissCause, Part, PausesBetween, PausesOnce, PolledBy, PollsOn, PollsOnce, Talks, WantsRows, pending_by};
 
 use crate::answers::Drained;
 use crate::tries::{Miss, Tries};
@@ -83,8 +83,31 @@ fn pause<S: Site>(alloc: Global, agent: &Agent, site: &mut S) -> Result<(), Agen
     Ok(())
 }
 
-// Polls up to a good reply, and waits. So many polls with one were left since the last post; where
-// this is the last of them, and a row stays below its offset, that is the drain's answer.
+// Whether nothing is left to poll for: no chunk waits to be sent, and no row to be committed.
+fn is_all_committed(agent: &Agent) -> bool
+    ensures { Leaves result agent.now }
+{
+    agent.is_empty() && agent.free_rows() >= agent.most_rows()
+}
+
+// Waits a second where another poll is to follow.
+fn pause_between<S: Site>(alloc: Global, agent: &Agent, site: &mut S) -> Result<(), AgentFault>
+    requires ready { agent.now.ready ≡ true }
+    ensures state { PausesBetween agent.now result (S.told site.old) (S.told site.new) }
+    ensures talks { Talks agent.now agent.now (S.told site.old) (S.told site.new) }
+    ensures undamaged { IsUndamaged result }
+    ensures last { Adds (S.told site.old) (S.told site.new) (FailsLast result) }
+    ensures cause { AgentCause (S.fault_count site.old) (S.fault_count site.new) result }
+{
+    if is_all_committed(agent) {
+        return Ok(());
+    }
+    pause(alloc, agent, site)
+}
+
+// Polls up to a good reply, and waits where another poll is to follow. So many polls with one were
+// left since the last post; where this is the last of them, and a row stays below its offset, that
+// is the drain's answer.
 fn poll_and_wait<S: Site>(
     alloc: Global,
     agent: &mut Agent,
@@ -101,7 +124,7 @@ fn poll_and_wait<S: Site>(
     match poll_on(alloc, agent, site) {
         Ok(below) => match pending(below, left) {
             Some(answer) => Some(Ok(answer)),
-            None => match pause(alloc, agent, site) {
+            None => match pause_between(alloc, agent, site) {
                 Ok(()) => None,
                 Err(fault) => Some(Err(fault)),
             },

@@ -11,8 +11,8 @@ struct Limits {
     polls: u32,
 }
 
-// What comes before the drain, its calls with what collectors do between them, how it is limited,
-// what it answers, and what is there behind it.
+// What comes before the drain, all of its calls with what collectors do between them, how it is
+// limited, what it answers, and what is there behind it.
 #[derive(Clone, Copy)]
 struct Row<'a> {
     before: &'a str,
@@ -44,24 +44,39 @@ grow /a.log hello|
 add plain Log /a.log => new 0
 ";
 
-fn rehearses(scene: &mut Scene, row: &Row<'_>) -> Result<Vec<Other>, Fail> {
-    scene.follows(row.before)?;
-    let acts = scene.acts();
-    scene.follows(row.calls)?;
-    scene.others_behind(acts)
+// What others did in a rehearsal of the drain, and how many calls the agent made in it.
+#[derive(Drop)]
+struct Rehearsal {
+    others: Vec<Other>,
+    calls: u64,
 }
 
-// What others do in the drain, by a rehearsal of it.
-fn rehearsed(alloc: Global, row: &Row<'_>) -> Result<Vec<Other>, Fail> {
+fn rehearses(scene: &mut Scene, row: &Row<'_>) -> Result<Rehearsal, Fail> {
+    scene.follows(row.before)?;
+    let acts = scene.acts();
+    let before = scene.acts_of_agents();
+    scene.follows(row.calls)?;
+    Ok(Rehearsal {
+        others: scene.others_behind(acts)?,
+        calls: scene.acts_of_agents().saturating_sub(before),
+    })
+}
+
+fn rehearsed(alloc: Global, row: &Row<'_>) -> Result<Rehearsal, Fail> {
     let mut scene = Scene::new(alloc, "rehearsal")?;
     rehearses(&mut scene, row)
 }
 
 fn plays_in(alloc: Global, scene: &mut Scene, row: &Row<'_>) -> Result<(), Fail> {
     scene.follows(row.before)?;
-    scene.others_act(rehearsed(alloc, row)?);
+    let rehearsal = rehearsed(alloc, row)?;
+    scene.others_act(rehearsal.others);
+    let before = scene.acts_of_agents();
     let answer = scene.drains(row.limits.reads, row.limits.polls)?;
     scene.expects("the answer", row.answer, answer.as_str())?;
+    if scene.acts_of_agents().saturating_sub(before) != rehearsal.calls {
+        return Err(Fail::from("another number of calls"));
+    }
     scene.follows(row.after)
 }
 
@@ -86,6 +101,7 @@ tick c1 0 => done
 poll => sent 1
 serve c1 => 200 c1.1.1 144|
 lengths => lengths 1
+settle 0 => reset 0 written
 ",
             limits: WIDE,
             answer: "done",
@@ -121,6 +137,7 @@ tick c1 0 => done
 poll => sent 1
 serve c1 => 200 c1.1.1 144|
 lengths => lengths 1
+settle 0 => reset 0 written
 ",
             limits: Limits { reads: 9, polls: 2 },
             answer: "done",
@@ -255,6 +272,7 @@ tick c2 0 => done
 poll => sent 1
 serve c2 => 200 c2.1.1 144|
 lengths => lengths 1
+settle 0 => reset 0 written
 ",
             limits: WIDE,
             answer: "done",
@@ -300,6 +318,7 @@ tick c2 0 => done
 poll => sent 2
 serve c2 => 200 c1.1.1 144|c2.1.1 144|
 lengths => lengths 2
+settle 0 => reset 0 written
 ",
             limits: WIDE,
             answer: "done",
@@ -340,6 +359,7 @@ tick c1 0 => done
 poll => sent 1
 serve c1 => 200 c1.1.1 144|
 lengths => lengths 1
+settle 0 => reset 0 written
 ",
             limits: WIDE,
             answer: "done",
@@ -398,7 +418,10 @@ fn no_log(rt: HostRuntime) -> Result<(), Fail> {
 start 16 1048576 none c1:80 => started 0
 add plain Log /a.log => new 0
 ",
-            calls: "step 0 => end\n",
+            calls: "\
+step 0 => end
+settle 0 => reset 0 same
+",
             limits: WIDE,
             answer: "done",
             after: "\
@@ -436,6 +459,7 @@ tick c1 0 => done
 poll => sent 1
 serve c1 => 200 c1.1.1 192|
 lengths => lengths 1
+settle 0 => reset 0 written
 ",
             limits: WIDE,
             answer: "done",
@@ -479,6 +503,7 @@ tick c1 0 => done
 poll => sent 1
 serve c1 => 200 c1.1.1 192|
 lengths => lengths 1
+settle 0 => reset 0 written
 ",
             limits: WIDE,
             answer: "done",
@@ -523,6 +548,7 @@ tick c1 0 => done
 poll => sent 1
 serve c1 => 200 c1.1.1 192|
 lengths => lengths 1
+settle 0 => reset 0 written
 ",
             limits: WIDE,
             answer: "done",

@@ -28,7 +28,6 @@ tick c1 0
 poll
 serve c1
 lengths
-pause
 ";
 
 // What is there at last. The collector closes its sinks at a start and at its end.
@@ -127,8 +126,10 @@ fn calls(alloc: Global) -> Result<u64, Fail> {
 fn each_call_fails(rt: HostRuntime) -> Result<(), Fail> {
     let alloc = rt.alloc();
     let calls = calls(alloc)?;
-    if calls < 12 {
-        return Err(Fail::from("too few calls"));
+    // Two of the start, five of each of the two checkpoints, and two reads, a post and a poll with
+    // their replies. No pause is among them.
+    if calls != 18 {
+        return Err(Fail::from("another number of calls"));
     }
     for before in 0..calls {
         recovers(alloc, Harm::Failed { call: before + 1 })?;

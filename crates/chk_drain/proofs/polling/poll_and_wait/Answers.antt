@@ -4,8 +4,8 @@ use Rattle.chk_drain.proofs.Joining.{part_ends}
 use Rattle.chk_drain.proofs.PollingRest.{polled_ready, polls_pending, polls_unpaused, polls_waited, waits_by}
 use Rattle.chk_drain.proofs.polling.poll_and_wait.Goals as goal
 
-pub pause-requires : goal.pause-requires
-pause-requires g c =
+pub pause_between-requires : goal.pause_between-requires
+pause_between-requires g c =
     let m = c.requires.may in
     record {
       ready = polled_ready c.args.agent.now c.in-Ok.below c.poll_on.new.agent c.requires.waiting
@@ -28,8 +28,8 @@ returns-in-Some g c now reads polls p untried may so =
     (c.poll_on.ensures now reads polls p untried may))
     c.in-Some.answer (sym c.in-Some.is ∙ c.pending.ensures)
 
-pub returns-in-Ok-pause : goal.returns-in-Ok-pause
-returns-in-Ok-pause g c now reads polls p untried may so =
+pub returns-in-Ok-pause_between : goal.returns-in-Ok-pause_between
+returns-in-Ok-pause_between g c now reads polls p untried may so =
     polls_waited now reads polls c.args.left p c.args.agent.now may so c.in-Ok.below
     c.poll_on.new.agent
     (subst (λ r. PollsOn now reads polls p c.args.agent.now r c.poll_on.new.agent
@@ -38,11 +38,11 @@ returns-in-Ok-pause g c now reads polls p untried may so =
     (g.S.Site.fault_count c.poll_on.new.site)) c.in-Ok.is
     (c.poll_on.ensures now reads polls p untried may))
     (waits_by c.args.left c.in-Ok.below (sym c.in-None.is ∙ c.pending.ensures)) _
-    c.pause.ensures.talks
-    c.requires.waiting c.in-Ok-pause.ensures.state c.in-Ok-pause.ensures.cause
+    c.pause_between.ensures.talks
+    c.requires.waiting c.in-Ok-pause_between.ensures.state c.in-Ok-pause_between.ensures.cause
 
-pub returns-in-Err-pause : goal.returns-in-Err-pause
-returns-in-Err-pause g c now reads polls p untried may so =
+pub returns-in-Err-pause_between : goal.returns-in-Err-pause_between
+returns-in-Err-pause_between g c now reads polls p untried may so =
     polls_unpaused now reads polls c.args.left p c.args.agent.now may so c.in-Ok.below
     c.poll_on.new.agent
     (subst (λ r. PollsOn now reads polls p c.args.agent.now r c.poll_on.new.agent
@@ -51,9 +51,9 @@ returns-in-Err-pause g c now reads polls p untried may so =
     (g.S.Site.fault_count c.poll_on.new.site)) c.in-Ok.is
     (c.poll_on.ensures now reads polls p untried may))
     (waits_by c.args.left c.in-Ok.below (sym c.in-None.is ∙ c.pending.ensures)) _
-    c.pause.ensures.talks
-    c.in-Err-pause.fault c.requires.waiting c.in-Err-pause.ensures.state c.in-Err-pause.ensures.last
-    c.in-Err-pause.ensures.cause c.in-Err-pause.ensures.undamaged
+    c.pause_between.ensures.talks
+    c.in-Err-pause_between.fault c.requires.waiting c.in-Err-pause_between.ensures.state c.in-Err-pause_between.ensures.last
+    c.in-Err-pause_between.ensures.cause c.in-Err-pause_between.ensures.undamaged
 
 pub returns-in-Err : goal.returns-in-Err
 returns-in-Err g c now reads polls p untried may so =
