@@ -6,3 +6,9 @@ pub mod LiveOnes
 pub mod SameSource
 pub mod Finished
 pub mod Ran
+pub mod Keeping
+pub mod Silent
+pub mod Adding
+pub mod Saved
+pub mod DoneParts
+pub mod DoneAll

@@ -52,11 +52,13 @@ drains_source (drain.posted n m may posts replies rest) =
     drains_source rest ∙ ((replies_same replies).source ∙ (posts_same posts).source)
 drains_source (drain.unposted tries more rest) = drains_source rest ∙ post_tries tries
 drains_source (drain.none_took tries all) = post_tries tries
-drains_source (drain.polled may gives waits pauses rest) = drains_source rest ∙ poll_gives gives
+drains_source (drain.polled may gives waits left pauses rest) =
+    drains_source rest ∙ poll_gives gives
+drains_source (drain.polled_last may gives none rest) = drains_source rest ∙ poll_gives gives
 drains_source (drain.pending b may gives most is) = poll_gives gives
 drains_source (drain.unpolled may tries more rest) = drains_source rest ∙ poll_tries tries
 drains_source (drain.none_told may tries all) = poll_tries tries
-drains_source (drain.unpaused given fault may gives waits ends pauses) = poll_gives gives
+drains_source (drain.unpaused given fault may gives waits left ends pauses) = poll_gives gives
 drains_source (drain.wanting found_none) = wants found_none
 drains_source (drain.unsettled fault ended none rows settled) = settled_source settled
 drains_source (drain.done_all settled ended is all) = settled_source is

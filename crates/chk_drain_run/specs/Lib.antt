@@ -1,3 +1,5 @@
 pub mod Streams
 pub mod Begins
 pub mod Drains
+pub mod Done
+pub mod Parts

@@ -10,6 +10,7 @@ ghost use Rattle.chk_agent.specs.States.{process};
 ghost use Rattle.chk_agent_run.specs.Faults.{RunCause, LastOfRun};
 ghost use Rattle.chk_agent_run.specs.Runs.{InRun};
 ghost use Rattle.chk_drain_run.specs.Begins.{Begins, BeginsWith};
+ghost use Rattle.chk_drain_run.specs.Parts.{BeginsSo};
 
 use chk_agent::{Agent, Rules};
 use chk_agent_run::{RunFault, add_lines, clock, read_initial};
@@ -45,6 +46,8 @@ pub(crate) fn begin<S: Site>(
     ensures told { (stamped : List (List ℕ)) → Adds (S.told site.old) (S.told site.new)
         (Leads (InRun stamped who.now writer.now) (Legal stamped)
         (BeginsWith stamped who.now result)) }
+    ensures done { (stamped : List (List ℕ)) → Adds (S.told site.old) (S.told site.new)
+        (BeginsSo stamped who.now writer.now initial.now result) }
     ensures ready { IfOk result (λ begun. begun.agent.ready ≡ true) }
     ensures me { IfOk result (λ begun. who.now ≡ process begun.agent) }
     ensures last { Adds (S.told site.old) (S.told site.new) (LastOfRun result) }

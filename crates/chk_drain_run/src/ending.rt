@@ -7,6 +7,7 @@ ghost use Rattle.chk_world.specs.Places.{Talking};
 ghost use Rattle.chk_agent.specs.States.{process};
 ghost use Rattle.chk_agent.specs.Facts.{Matches};
 ghost use Rattle.chk_drain_run.specs.Drains.{Finishes, IsUndone, IsNotDone, IsNoDamage, told_as, LastOfDrain, DrainCause};
+ghost use Rattle.chk_drain_run.specs.Parts.{FinishesSo};
 ghost use Rattle.chk_drain_run.specs.Streams.{IsPathAt};
 ghost use Rattle.std.specs.Prelude.{IfOk};
 
@@ -39,6 +40,8 @@ pub(crate) fn finish<S: Site>(
     ensures told { (stamped : List (List ℕ)) → Adds (S.told site.old) (S.told site.new)
         (Leads (Talking stamped (process agent.old)) (Matches stamped agent.old)
         (Matches stamped agent.new)) }
+    ensures done { (stamped : List (List ℕ)) → Adds (S.told site.old) (S.told site.new)
+        (FinishesSo stamped who.now agent.old result agent.new) }
     ensures undamaged { IsNoDamage result }
     ensures last { Adds (S.told site.old) (S.told site.new) (LastOfDrain result) }
     ensures cause { DrainCause (S.fault_count site.old) (S.fault_count site.new) result }

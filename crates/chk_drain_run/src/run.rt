@@ -8,6 +8,7 @@ ghost use Rattle.chk_world.specs.Names.{is_source};
 ghost use Rattle.chk_world.specs.Rules.{Legal};
 ghost use Rattle.chk_agent_run.specs.Runs.{InRun};
 ghost use Rattle.chk_drain_run.specs.Drains.{HasDrained, DrainEnds, LastOfDrain, DrainCause};
+ghost use Rattle.chk_drain_run.specs.Done.{DoneSo};
 
 use crate::begin::begin;
 use crate::ending::finish;
@@ -32,7 +33,9 @@ pub struct Work {
 /// Reads the initial file, starts the agent, adds the streams of the file, reads each log to its
 /// end, sends what they gave and waits until all of it is committed; then it prints the line of
 /// each stream. The writer makes the reads of the file, and the agent all other calls. Where no
-/// stream is live nothing is read, sent or printed.
+/// stream is live nothing is read, sent or printed. Where it is done, the checkpoint has a live
+/// line for each stream that had one behind the start and for each stream of the file, and for no
+/// other; the offset of each was the end of its whole log at a moment of the drain.
 pub fn run_drain<S: Site>(
     alloc: Global,
     site: &mut S,
@@ -54,6 +57,8 @@ pub fn run_drain<S: Site>(
     ensures told { (stamped : List (List ℕ)) → Adds (S.told site.old) (S.told site.new)
         (Leads (InRun stamped who.now writer.now) (Legal stamped)
         (DrainEnds stamped who.now result)) }
+    ensures done { (stamped : List (List ℕ)) → Adds (S.told site.old) (S.told site.new)
+        (DoneSo stamped who.now writer.now work.now.initial result) }
     ensures last { Adds (S.told site.old) (S.told site.new) (LastOfDrain result) }
     ensures cause { DrainCause (S.fault_count site.old) (S.fault_count site.new) result }
 {

@@ -23,6 +23,18 @@ check => chukwa-checkpoint 1|add adaptor_1 = LWFTAdaptor Log /a.log 0 0 -|
 count send => 0
 ";
 
+// A live stream stays so, a past one isn't read, and a blank line adds none. The live lines of the
+// checkpoint are printed, in its order.
+const KEPT: &str = "\
+file agents/h1.check chukwa-checkpoint 1|past x = LWFTAdaptor Log /b.log 4 0 -|\
+add y = LWFTAdaptor Log /c.log 0 0 -|
+file F |add LWFTAdaptor Log /a.log 0|add LWFTAdaptor Log /c.log 0|
+drain --initial F h1 A => 0 [stream h1 Log /c.log 0|stream h1 Log /a.log 0|]
+check => chukwa-checkpoint 1|past x = LWFTAdaptor Log /b.log 4 0 -|\
+add y = LWFTAdaptor Log /c.log 0 0 -|add adaptor_1 = LWFTAdaptor Log /a.log 0 0 -|
+count send => 0
+";
+
 // The reply to the post tells a length of the sink, and that to the poll that it is committed.
 const COMMITTED: &str = "\
 reply 14 1 200 c1.1.1 144|
@@ -32,7 +44,7 @@ check => chukwa-checkpoint 1|add adaptor_1 = LWFTAdaptor Log /a.log 6 0 -|
 ";
 
 const CALLS: &str =
-    "read read start read clock remove create append sync rename logread logread send got send got pause remove create append sync rename say";
+    "read read start read clock remove create append sync rename logread logread send got send got remove create append sync rename say";
 
 const FIRST_POLL: &str = "\
 reply 14 1 200 c1.1.1 144|
@@ -40,6 +52,15 @@ reply 16 2 200 c1.1.1 0|
 drain --initial F --polls 1 h1 A => 6 [pending length c1.1.1 0 144|]
 count pause => 0
 check => chukwa-checkpoint 1|add adaptor_1 = LWFTAdaptor Log /a.log 0 0 -|
+";
+
+// Call 17 is the pause between the first poll and the second one.
+const FAILED_PAUSE: &str = "\
+fail 17
+reply 14 1 200 c1.1.1 144|
+reply 16 2 200 c1.1.1 0|
+drain --initial F h1 A => 3 [outside pause|]
+count send => 2
 ";
 
 const SIXTY_POLLS: &str = "\
@@ -107,6 +128,7 @@ fn done(rt: HostRuntime) -> Result<(), Fail> {
     let alloc = rt.alloc();
     plays_alone(alloc, "nothing", NOTHING)?;
     plays_alone(alloc, "no log", NO_LOG)?;
+    plays_alone(alloc, "kept", KEPT)?;
     plays(alloc, "committed", COMMITTED)
 }
 
@@ -114,6 +136,7 @@ fn done(rt: HostRuntime) -> Result<(), Fail> {
 fn not_done(rt: HostRuntime) -> Result<(), Fail> {
     let alloc = rt.alloc();
     plays(alloc, "one poll", FIRST_POLL)?;
+    plays(alloc, "a failed pause", FAILED_PAUSE)?;
     plays(alloc, "sixty polls", SIXTY_POLLS)?;
     plays(alloc, "refused", REFUSED)?;
     plays(alloc, "twice", TWICE)?;

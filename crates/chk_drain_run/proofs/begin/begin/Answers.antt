@@ -8,7 +8,7 @@ use Rattle.chk_agent.specs.States.{State}
 use Rattle.chk_agent_run.specs.declared.faults.RunFault.{RunFault}
 use Rattle.chk_agent_run.specs.declared.turn.Ended.{Ended}
 use Rattle.chk_agent_run.specs.declared.turn.Ended.TheVariants.{Over}
-use Rattle.chk_agent_run.specs.Faults.{fault_of}
+use Rattle.chk_agent_run.specs.Faults.{fault_of, outside_fault}
 use Rattle.chk_agent_run.specs.Initial.{ReadsInitial, AreAdded}
 use Rattle.chk_agent_run.specs.Runs.{InRun}
 use Rattle.chk_agent_run.proofs.Carried.{carried_none, carried_by, ends_with}
@@ -19,6 +19,7 @@ use Rattle.chk_agent_run.proofs.RunFaults.{run_last, run_cause, no_checkpoint, n
 use Rattle.chk_drain_run.specs.declared.begin.Begun.{Begun}
 use Rattle.chk_drain_run.specs.Begins.{BeginsWith, unread, unstarted, untimed, unadded, begun}
 use Rattle.chk_drain_run.proofs.BeginEnds.{begins_so, begun_leads}
+use Rattle.chk_drain_run.proofs.DoneParts.{begun_to, nothing_begun}
 use Rattle.chk_drain_run.proofs.begin.begin.Goals as goal
 
 pub returns-in_err-text-clause-ran : goal.returns-in_err-text-clause-ran
@@ -42,6 +43,15 @@ returns-in_err-text-clause-told g c stamped =
     (begins_so stamped c.args.who.now c.args.writer.now _
     (unread_leads stamped c.args.who.now c.args.writer.now c.requires.writer
     c.read_initial.ensures.reads c.in_err-text.field-0.0))
+
+pub returns-in_err-text-clause-done : goal.returns-in_err-text-clause-done
+returns-in_err-text-clause-done g c stamped =
+    let p = err_from_is_err_and c.from_residual.result
+    c.from_residual.ensures.1 in
+    nothing_begun stamped c.args.who.now c.args.writer.now c.args.initial.now
+    (outside_fault c.in_err-text.field-0.0)
+    c.from_residual.result (p.1 ∙ ap Err p.2)
+    (returns-in_err-text-clause-told g c stamped)
 
 pub returns-in_err-text-clause-last : goal.returns-in_err-text-clause-last
 returns-in_err-text-clause-last g c =
@@ -80,6 +90,15 @@ returns-in_err-agent-clause-told g c stamped =
     (unstarted_leads stamped c.args.who.now c.args.writer.now c.requires.writer
     c.read_initial.ensures.reads c.in_err-agent.field-0.0
     (c.in_err-agent.ensures.told stamped)))
+
+pub returns-in_err-agent-clause-done : goal.returns-in_err-agent-clause-done
+returns-in_err-agent-clause-done g c stamped =
+    let p = err_from_is_err_and c.from_residual-in_err-agent.result
+    c.from_residual-in_err-agent.ensures.1 in
+    nothing_begun stamped c.args.who.now c.args.writer.now c.args.initial.now
+    (fault_of c.in_err-agent.field-0.0)
+    c.from_residual-in_err-agent.result (p.1 ∙ ap Err p.2)
+    (returns-in_err-agent-clause-told g c stamped)
 
 pub returns-in_err-agent-clause-last : goal.returns-in_err-agent-clause-last
 returns-in_err-agent-clause-last g c =
@@ -133,6 +152,15 @@ returns-in_err-now-clause-told g c stamped =
     (Err (fault_of c.in_err-now.field-0.0))
     (no_checkpoint {T = Ended} ℕ c.in_err-now.field-0.0
     (Err (fault_of c.in_err-now.field-0.0)) refl c.in_err-now.ensures.undamaged)))
+
+pub returns-in_err-now-clause-done : goal.returns-in_err-now-clause-done
+returns-in_err-now-clause-done g c stamped =
+    let p = err_from_is_err_and c.from_residual-in_err-now.result
+    c.from_residual-in_err-now.ensures.1 in
+    nothing_begun stamped c.args.who.now c.args.writer.now c.args.initial.now
+    (fault_of c.in_err-now.field-0.0)
+    c.from_residual-in_err-now.result (p.1 ∙ ap Err p.2)
+    (returns-in_err-now-clause-told g c stamped)
 
 pub returns-in_err-now-clause-last : goal.returns-in_err-now-clause-last
 returns-in_err-now-clause-last g c =
@@ -192,6 +220,15 @@ returns-in_err-add_lines-clause-told g c stamped =
     (none_of {T = Ended} (Unit {0}) c.in_err-add_lines.field-0.0
     (Err c.in_err-add_lines.field-0.0) refl c.in_err-add_lines.ensures.undamaged)))
 
+pub returns-in_err-add_lines-clause-done : goal.returns-in_err-add_lines-clause-done
+returns-in_err-add_lines-clause-done g c stamped =
+    let p = err_from_is_err_and c.from_residual-in_err-add_lines.result
+    c.from_residual-in_err-add_lines.ensures.1 in
+    nothing_begun stamped c.args.who.now c.args.writer.now c.args.initial.now
+    c.in_err-add_lines.field-0.0
+    c.from_residual-in_err-add_lines.result (p.1 ∙ ap Err p.2)
+    (returns-in_err-add_lines-clause-told g c stamped)
+
 pub returns-in_err-add_lines-clause-last : goal.returns-in_err-add_lines-clause-last
 returns-in_err-add_lines-clause-last g c =
     let p = err_from_is_err_and c.from_residual-in_err-add_lines.result
@@ -236,6 +273,27 @@ returns-clause-told g c stamped =
     (ends_with c.in_ok-agent.agent c.in_ok-agent.agent c.add_lines.new.agent
     (carried_by c.in_ok-agent.agent c.in_ok-agent.agent refl c.in_ok-agent.ensures.fresh.ready
     c.in_ok-agent.ensures.fresh.ready c.clock.ensures.told) c.add_lines.ensures.told)
+
+pub returns-clause-done : goal.returns-clause-done
+returns-clause-done g c stamped =
+    begun_to stamped c.args.who.now c.args.writer.now c.requires.writer c.args.initial.now
+    c.in_ok-text.text
+    c.in_ok-agent.agent c.add_lines.new.agent c.args.ring c.args.rules c.in_ok-agent.ensures.fresh
+    c.read_initial.ensures.reads
+    (subst (λ (o : Option (List ℕ)). ReadsInitial c.args.writer.now o (Ok c.in_ok-text.text)
+    (g.S.Site.told c.args.site.now)
+    (g.S.Site.told c.read_initial.new.site))
+    (word_copied c.as_ref.result _ c.as_ref.ensures.value) c.in_ok-text.ensures.script)
+    c.in_ok-agent.ensures.starts
+    (c.in_ok-agent.ensures.told stamped)
+    (ends_with c.in_ok-agent.agent c.in_ok-agent.agent c.add_lines.new.agent
+    (carried_by c.in_ok-agent.agent c.in_ok-agent.agent refl c.in_ok-agent.ensures.fresh.ready
+    c.in_ok-agent.ensures.fresh.ready c.clock.ensures.told) c.add_lines.ensures.told)
+    c.in_ok-now.ensures.made
+    (subst (λ (b : List ℕ). AreAdded 0 (parts_at 10 b) c.in_ok-agent.agent
+    (Ok tt) c.add_lines.new.agent
+    (g.S.Site.told c.clock.new.site) (g.S.Site.told c.add_lines.new.site)) c.as_slice.ensures
+    c.in_ok-add_lines.ensures.script)
 
 pub returns-clause-me : goal.returns-clause-me
 returns-clause-me g c =

@@ -1,4 +1,6 @@
+use Rattle.chk_drain_run.specs.declared.faults.DrainFault.TheVariants.{Run}
 use Rattle.chk_drain_run.specs.Drains.{HasDrained}
+use Rattle.chk_drain_run.proofs.DoneAll.{done_so, not_begun_so}
 use Rattle.chk_drain_run.proofs.Ran.{unbegun_ends, unbegun_last, unbegun_cause, ran_ends, ran_last, ran_cause}
 use Rattle.chk_drain_run.proofs.run.run_drain.Goals as goal
 
@@ -9,6 +11,11 @@ returns-in-Ok g c = record {
       c.finish.new.agent c.finish.result
       c.in-Ok.ensures.me c.finish.ensures.undamaged
       (c.in-Ok.ensures.told stamped) c.finish.ensures.told;
+  done = λ stamped. done_so stamped c.args.who.now c.args.writer.now c.args.work.now.initial
+      c.in-Ok.begun.agent c.finish.new.agent c.in-Ok.ensures.me c.in-Ok.begun.now
+      c.args.work.now.reads c.args.work.now.polls c.finish.result
+      (c.in-Ok.ensures.told stamped) (c.in-Ok.ensures.done stamped) c.finish.ensures.script
+      c.finish.ensures.told (c.finish.ensures.done stamped);
   last = ran_last c.finish.result c.in-Ok.ensures.last c.finish.ensures.last;
   cause = ran_cause c.finish.result _ _ _ c.in-Ok.ensures.cause c.finish.ensures.cause;
 }
@@ -18,6 +25,8 @@ returns-in-Err g c = record {
   ran = HasDrained.not_begun c.in-Err.fault c.in-Err.ensures.ran;
   told = λ stamped. unbegun_ends stamped c.args.who.now c.args.writer.now c.in-Err.fault
       (c.in-Err.ensures.told stamped);
+  done = λ stamped. not_begun_so stamped c.args.who.now c.args.writer.now
+      c.args.work.now.initial (Run c.in-Err.fault) (c.in-Err.ensures.told stamped);
   last = unbegun_last c.in-Err.fault c.in-Err.ensures.last;
   cause = unbegun_cause _ _ c.in-Err.fault c.in-Err.ensures.cause;
 }
