@@ -11,15 +11,19 @@ use Rattle.chk_site.proofs.Runs.{adds_as}
 use Rattle.chk_world.specs.Together.{IsByOne}
 use Rattle.chk_round.specs.declared.faults.RoundFault.{RoundFault}
 use Rattle.chk_round.specs.declared.whole_round.Rounded.{Rounded}
+use Rattle.chk_round.specs.declared.words.RoundWords.{RoundWords}
+use Rattle.chk_round.specs.Faults.{FailsInside}
+use Rattle.chk_round.specs.Lengths.{LengthCause}
 use Rattle.chk_round.specs.Processes.{IsRunOf, processes}
 use Rattle.chk_round.specs.Rounded.{RoundTo}
+use Rattle.chk_round.specs.Scripts.{RoundReads}
 use Rattle.chk_load_run.specs.declared.ends.LoadEnd.{LoadEnd}
 use Rattle.chk_load_run.specs.declared.ends.LoadEnd.TheVariants.{NoMemory, Outside, Round, Unclosed}
 use Rattle.chk_load_run.specs.declared.ends.LoadReport.{LoadReport}
 use Rattle.chk_load_run.specs.Ends.{of_outside}
-use Rattle.chk_load_run.specs.Loads.{AppendedSo, EndsRunning, IsReportOf, LoadFailsLast, LoadTo, LoadsBy, PrintedSo, SaysLine, SummedUp, summary_line}
-use Rattle.chk_load_run.specs.Pieces.{AppendsFront, WritesAll}
-use Rattle.chk_load_run.specs.Processes.{IsLoadRun, chukwa}
+use Rattle.chk_load_run.specs.Loads.{AppendedSo, EndsRunning, IsReportOf, LoadFailsLast, LoadTo, LoadsBy, PrintedSo, RoundEndsSo, SaysLine, SummedUp, summary_line}
+use Rattle.chk_load_run.specs.Pieces.{AppendsFront, HasAppended, WritesAll}
+use Rattle.chk_load_run.specs.Processes.{IsLoadRound, IsLoadRun, chukwa}
 use Rattle.chk_load_run.proofs.Facts.{Appended, appends_all, appends_cut, then_round, then_say}
 use Rattle.chk_load_run.proofs.Told.{all_told, behind, cut_told, round_told, unclosed_told, unsaid_told}
 
@@ -169,3 +173,40 @@ module _ (lines : ℕ) (who : Who) (by : who ≡ chukwa) where
           done_clauses lines n (written (Ok n) old mid writes) v (rounded (Ok v) told) report
           (record { lines_are = is.0; bytes_are = is.1 ∙ writes.2; archived_is = is.2; unclosed = is.3 })
           (said_by (summary_line report) (Ok tt) new says)
+
+-- ---- how its round ended
+
+-- what the round says of its fault, with these words
+pub record RoundSays (source : List ℕ) (reads : ℕ) (fault : RoundFault) (old new : Option History) : Type 0 where
+  pub script : RoundReads {T = Unit {0}} source reads (Err fault) old new
+  pub length : LengthCause {T = Unit {0}} (Err fault) old new
+  pub last : Adds old new (FailsInside {T = Unit {0}} (Err fault))
+
+pub round_ends : (lines : ℕ) (who : Who) (by : who ≡ chukwa) (n : ℕ) {old mid new : Option History}
+    → WritesAll who lines (Ok n) old mid → (words : RoundWords) → IsLoadRound words → (fault : RoundFault)
+    → RoundSays words.source words.reads fault mid new → RoundEndsSo lines (Err (Round fault)) old new
+round_ends lines who by n {old = old} {mid = mid} {new = new} writes words are fault says =
+    let said : RoundSays (codes "load") 1000000 fault mid new =
+    subst (λ (s : List ℕ). RoundSays s 1000000 fault mid new) are.source
+    (subst (λ (k : ℕ). RoundSays words.source k fault mid new) are.reads says) in
+    record {
+      mid = mid;
+      appends =
+          adds_as (λ a h. HasAppended lines (own_acts a)) (appends_all lines n (written lines who by (Ok n) old mid writes))
+          (λ a h x. x.done);
+      script = said.script;
+      length = said.length;
+      last = said.last;
+    }
+
+-- another end isn't one of the round
+pub outside_ends : (lines : ℕ) (fault : OutsideFault) (old new : Option History) → RoundEndsSo lines (Err (of_outside fault)) old new
+outside_ends lines (site_failed call) old new = tt
+outside_ends lines no_memory old new = tt
+
+pub summed_ends : (v : Rounded) (lines n : ℕ) (e : LoadEnd) (old new : Option History) → SummedUp v lines n (Err e)
+    → RoundEndsSo lines (Err e) old new
+summed_ends v lines n (Unclosed name) old new is = tt
+summed_ends v lines n (Outside call) old new is = absurd is
+summed_ends v lines n NoMemory old new is = absurd is
+summed_ends v lines n (Round fault) old new is = absurd is

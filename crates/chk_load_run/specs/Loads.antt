@@ -15,12 +15,16 @@ use Rattle.chk_world.specs.Rules.{Legal}
 use Rattle.chk_world.specs.Together.{Outside as OutsideOf, Together}
 use Rattle.chk_archive.specs.Reporting.{report_view}
 use Rattle.chk_words.specs.Lines.{load_line}
+use Rattle.chk_round.specs.declared.faults.RoundFault.{RoundFault}
 use Rattle.chk_round.specs.declared.faults.RoundFault.TheVariants as round
 use Rattle.chk_round.specs.declared.whole_round.Rounded.{Rounded}
 use Rattle.chk_round.specs.Done.{ArchivedTo}
+use Rattle.chk_round.specs.Faults.{FailsInside}
+use Rattle.chk_round.specs.Lengths.{LengthCause}
 use Rattle.chk_round.specs.Processes.{processes}
 use Rattle.chk_round.specs.Rounded.{AfterRound}
 use Rattle.chk_round.specs.Rounds.{RoundDone}
+use Rattle.chk_round.specs.Scripts.{RoundReads}
 use Rattle.chk_load_run.specs.declared.ends.LoadEnd.{LoadEnd}
 use Rattle.chk_load_run.specs.declared.ends.LoadEnd.TheVariants.{Outside, Round, Unclosed}
 use Rattle.chk_load_run.specs.declared.ends.LoadReport.{LoadReport}
@@ -134,6 +138,22 @@ PrintedSo (Err fault) added history = of_writer done_print (own_acts added) ≡ 
 abbrev pub LoadFailsLast : Result LoadReport LoadEnd → History → History → Type 0
 LoadFailsLast (Err (Outside call)) added history = is_stopped (added ++ history) ≡ false → EndsIn call added
 LoadFailsLast result added history = Unit {0}
+
+-- All lines were appended, and the round behind that ended so. A log that grows or shrank shows in
+-- the reads of the agent `load`, 1,000,000 of a log at most, and a length below an answered offset
+-- in the last poll. Where the site wasn't stopped, a failed call is the last one or one inside the
+-- round.
+pub record EndsAsRound (lines : ℕ) (fault : RoundFault) (old new : Option History) : Type 0 where
+  pub mid : Option History
+  pub appends : Adds old mid (λ added history. HasAppended lines (own_acts added))
+  pub script : RoundReads {T = Unit {0}} (codes "load") 1000000 (Err fault) mid new
+  pub length : LengthCause {T = Unit {0}} (Err fault) mid new
+  pub last : Adds mid new (FailsInside {T = Unit {0}} (Err fault))
+
+-- where its round wasn't done, the load ended so
+abbrev pub RoundEndsSo : ℕ → Result LoadReport LoadEnd → Option History → Option History → Type 0
+RoundEndsSo lines (Err (Round fault)) old new = EndsAsRound lines fault old new
+RoundEndsSo lines result old new = Unit {0}
 
 -- a load that is done wasn't stopped
 abbrev pub EndsRunning : Result LoadReport LoadEnd → History → History → Type 0

@@ -6,7 +6,7 @@ ghost use Rattle.chk_site.specs.Site.{Adds, OutsideCause};
 ghost use Rattle.chk_site.specs.Runs.{Owns};
 ghost use Rattle.chk_words.specs.Lines.{load_line};
 ghost use Rattle.chk_load_run.specs.Loads.{AppendedSo, EndsRunning, LoadCause, LoadFailsLast};
-ghost use Rattle.chk_load_run.specs.Loads.{LoadTo, LoadsBy, PrintedSo, SaysLine};
+ghost use Rattle.chk_load_run.specs.Loads.{LoadTo, LoadsBy, PrintedSo, RoundEndsSo, SaysLine};
 ghost use Rattle.chk_load_run.specs.Loads.{SummedUp, summary_line};
 ghost use Rattle.chk_load_run.specs.Processes.{IsLoadRun};
 
@@ -34,6 +34,7 @@ pub fn run_load<S: Site>(alloc: Global, site: &mut S, lines: u64) -> Result<Load
     ensures prints { Adds (S.told site.old) (S.told site.new) (PrintedSo result) }
     ensures runs { Adds (S.told site.old) (S.told site.new) (EndsRunning result) }
     ensures last { Adds (S.told site.old) (S.told site.new) (LoadFailsLast result) }
+    ensures round { RoundEndsSo lines result (S.told site.old) (S.told site.new) }
     ensures cause { LoadCause (S.fault_count site.old) (S.fault_count site.new) result }
 {
     let writer = writer(alloc)?;

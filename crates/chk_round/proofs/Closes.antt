@@ -27,9 +27,10 @@ use Rattle.chk_heads.specs.declared.fault.JobFault.TheVariants.{Outside as job_f
 use Rattle.chk_archive.specs.declared.report.Report.{Report}
 use Rattle.chk_archive.specs.Archived.{Archived, Begun}
 use Rattle.chk_archive.specs.Reporting.{report_result}
-use Rattle.chk_round.specs.Closing.{Closed, HasRun, IsSpentArchive}
+use Rattle.chk_round.specs.Closing.{Closed, HasRun}
 use Rattle.chk_round.specs.Faults.{of_job, of_sinks}
 use Rattle.chk_round.specs.Joint.{AreIn, BothAt}
+use Rattle.chk_round.specs.Spent.{IsSpentArchive}
 use Rattle.chk_round.proofs.Sides.{collector_acts, job_acts}
 
 -- ---- the archive run, whatever the book was

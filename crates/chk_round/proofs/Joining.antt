@@ -11,7 +11,7 @@ use Rattle.chk_world.specs.Places.{As}
 use Rattle.chk_world.specs.Together.{Together}
 use Rattle.chk_sink.specs.declared.fault.SinkFault.{SinkFault}
 use Rattle.chk_sink.specs.declared.fault.SinkFault.TheVariants.{Outside as sink_failed, Damaged as sink_damaged, Spent as sink_spent, NoMemory as sink_wanting}
-use Rattle.chk_sink.specs.Closes.{Ticked}
+use Rattle.chk_sink.specs.Closes.{IsOfTick, Ticked}
 use Rattle.chk_sink.specs.Held.{Matches as SinksMatch}
 use Rattle.chk_sink.specs.States.{State as Sinks, process}
 use Rattle.chk_agent.specs.Fits.{IsSound}
@@ -22,7 +22,9 @@ use Rattle.chk_exchange.specs.Legality.{Exchanged}
 use Rattle.chk_round.specs.declared.faults.RoundFault.{RoundFault}
 use Rattle.chk_round.specs.Faults.{of_exchange, of_sinks}
 use Rattle.chk_round.specs.Joint.{AreIn, BothAt, GoesOn, IsSameAgent, JointTo}
+use Rattle.chk_round.specs.Spent.{ToldSpent}
 use Rattle.chk_round.proofs.Sides.{collector_acts, collector_goes}
+use Rattle.chk_round.proofs.Spending.{Tells, last_sink}
 
 -- ---- the same pair
 
@@ -66,13 +68,13 @@ joint_then s t u a b c r c_is a_is p q stamped started acting run =
 
 -- ---- a tick
 
-ticked : (stamped : List (List ℕ)) (s t : Sinks) (a : Agents) (fault : SinkFault) (h : History)
+ticked : (stamped : List (List ℕ)) (s t : Sinks) (a : Agents) (fault : SinkFault) → IsOfTick fault → (h : History)
     → Ticked stamped s t (Err fault) h → GoesOn stamped t a (Err (of_sinks fault)) h
-ticked stamped s t a (sink_failed call) h x = x.legal
-ticked stamped s t a (sink_damaged name at) h x =
+ticked stamped s t a (sink_failed call) only h x = x.legal
+ticked stamped s t a (sink_damaged name at) only h x =
     record { legal = x.legal; never = λ running. (x.alive running).sound name at refl }
-ticked stamped s t a (sink_spent born) h x = x.legal
-ticked stamped s t a sink_wanting h x = x.legal
+ticked stamped s t a (sink_spent born) only h x = absurd only
+ticked stamped s t a sink_wanting only h x = x.legal
 
 module _ (s t : Sinks) (a : Agents) (sound : IsSound a) (same : t.collector ≡ s.collector) where
   pub tick_goes : {old new : Option History}
@@ -83,23 +85,28 @@ module _ (s t : Sinks) (a : Agents) (sound : IsSound a) (same : t.collector ≡ 
       (leads_as (λ h x. x)
       (λ h x. record { legal = x.legal; may_act = x.may_act; alive = λ running. (x.alive running).holds }) (told stamped))
 
-  pub tick_ends : (fault : SinkFault) {old new : Option History}
+  pub tick_ends : (fault : SinkFault) → IsOfTick fault → {old new : Option History}
       → ((stamped : List (List ℕ)) → Adds old new (Leads (As stamped (process s)) (SinksMatch stamped s) (Ticked stamped s t (Err fault))))
       → JointTo s a t a (Err (of_sinks fault)) old new
-  tick_ends fault told stamped started acting run =
-      leads_as (λ h x. x) (λ h x. ticked stamped s t a fault h x.0)
+  tick_ends fault only told stamped started acting run =
+      leads_as (λ h x. x) (λ h x. ticked stamped s t a fault only h x.0)
       (collector_acts stamped started acting s.collector a sound run.collector_started run.collector_acts run.agent_started
       (λ h x. x.legal) (told stamped))
 
 -- ---- an exchange
 
-exchanged : (T : Type 0) (stamped : List (List ℕ)) (s : Sinks) (a : Agents) (fault : ExchangeFault) (h : History)
+-- the fault tells no number spent
+abbrev IsUnspent : ExchangeFault → Type 0
+IsUnspent (Spent n) = ⊥
+IsUnspent fault = Unit {0}
+
+exchanged : (T : Type 0) (stamped : List (List ℕ)) (s : Sinks) (a : Agents) (fault : ExchangeFault) → IsUnspent fault → (h : History)
     → Exchanged {T = T} stamped s a (Err fault) h → GoesOn stamped s a (Err (of_exchange fault)) h
-exchanged T stamped s a (Outside call) h x = x
-exchanged T stamped s a NoMemory h x = x
-exchanged T stamped s a (Damaged name at) h x = record { legal = x.legal; never = x.alive }
-exchanged T stamped s a (Spent number) h x = x
-exchanged T stamped s a (Refused code) h x = record { legal = x.legal; never = x.alive }
+exchanged T stamped s a (Outside call) un h x = x
+exchanged T stamped s a NoMemory un h x = x
+exchanged T stamped s a (Damaged name at) un h x = record { legal = x.legal; never = x.alive }
+exchanged T stamped s a (Spent number) un h x = absurd un
+exchanged T stamped s a (Refused code) un h x = record { legal = x.legal; never = x.alive }
 
 -- what an exchange leads to
 abbrev pub ExchangeTo : {T : Type 0} → Who → Sinks → Agents → Sinks → Agents → Result T ExchangeFault → Option History
@@ -124,6 +131,10 @@ module _ (who : Who) (s t : Sinks) (a b : Agents) (is : who ≡ process s) where
   exchange_goes T value told stamped started acting run = told_of T (Ok value) told stamped started acting run
 
   pub exchange_ends : (T : Type 0) (fault : ExchangeFault) {old new : Option History}
-      → ExchangeTo {T = T} who s a t b (Err fault) old new → JointTo s a t b (Err (of_exchange fault)) old new
-  exchange_ends T fault told stamped started acting run =
-      leads_as (λ h x. x) (exchanged T stamped t b fault) (told_of T (Err fault) told stamped started acting run)
+      → ExchangeTo {T = T} who s a t b (Err fault) old new → Tells {T = T} who s t (Err fault) old new
+      → t.collector ≡ s.collector → JointTo s a t b (Err (of_exchange fault)) old new
+  exchange_ends T (Spent n) {old = old} {new = new} told tells same stamped started acting run =
+      last_sink stamped started acting s t a n (told_of T (Err (Spent n)) told stamped started acting run)
+      (subst (λ w. ToldSpent w n s t old new) is tells) same
+  exchange_ends T fault told tells same stamped started acting run =
+      leads_as (λ h x. x) (exchanged T stamped t b fault tt) (told_of T (Err fault) told stamped started acting run)

@@ -11,7 +11,10 @@ pub mod QueueBelow
 pub mod SendsInside
 pub mod WholeRounds
 pub mod Lasting
+pub mod Acts
 pub mod NoRead
+pub mod Digits
+pub mod Spending
 pub mod Lengths
 pub mod Given
 pub mod Sent

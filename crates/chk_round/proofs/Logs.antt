@@ -22,8 +22,9 @@ use Rattle.chk_round.specs.Reading.{AfterReadOut, ReadOn, ReadsAll, ReadsOn}
 use Rattle.chk_round.specs.Sending.{NonePast, SendsBelow, SendsOthers}
 use Rattle.chk_round.proofs.Joining.{in_on}
 use Rattle.chk_round.specs.Scripts as scripts
-use Rattle.chk_round.specs.Scripts.{Anything, ReadsEach, ReadsOut}
-use Rattle.chk_round.proofs.Lasting.{went_none, went_then}
+use Rattle.chk_round.specs.Scripts.{ReadsEach, ReadsOut}
+use Rattle.chk_round.specs.Calls.{RoundCalls}
+use Rattle.chk_round.proofs.Acts.{acts_none, acts_then}
 use Rattle.chk_round.proofs.Polls.{starts_none, starts_then}
 use Rattle.chk_round.proofs.Sent.{IsOther, adds_each}
 use Rattle.chk_round.proofs.WholeRounds.{read_now, read_on}
@@ -57,7 +58,7 @@ pub record ReadingTo (n : ℕ) (s : Sinks) (a : Agents) (t : Sinks) (b : Agents)
   pub starts : IsSameStart s t
   pub on : ReadsOn a b
   pub lives : KeepsLogs a b
-  pub went : Adds old now Anything
+  pub acts : Adds old now RoundCalls
   pub later : (k : ℕ) (c : Adaptor) → n ≤ k → slice_get b.adaptors k ≡ Some c → slice_get a.adaptors k ≡ Some c
   pub faults : before ≤ after
 
@@ -103,7 +104,7 @@ reading_begun s a now m = record {
     idle = λ i x y there off at. same_Some y x (sym at ∙ there);
   };
   lives = λ kind path f. f;
-  went = went_none now;
+  acts = acts_none now;
   later = λ k c from there. there;
   faults = omega arith;
 }
@@ -150,7 +151,7 @@ module _ (n : ℕ) (s t : Sinks) (a b : Agents) {old mid : Option History} {befo
     starts = so.starts;
     on = so.on;
     lives = so.lives;
-    went = so.went;
+    acts = so.acts;
     later = λ k c from there. so.later k c (omega (arith, from)) there;
     faults = so.faults;
   }
@@ -179,7 +180,7 @@ module _ (n : ℕ) (s t : Sinks) (a b : Agents) {old mid : Option History} {befo
         })
 
     module _ (is : result ≡ Ok tt) (one : ReadOn n b c) (sends : SendsOthers n b mid new)
-        (lives : KeepsLogs b c) (more : Adds mid new Anything) where
+        (lives : KeepsLogs b c) (more : Adds mid new RoundCalls) where
       -- the stream of the adaptor that was read
       stream_is : (x d : Adaptor) → slice_get a.adaptors n ≡ Some x → slice_get c.adaptors n ≡ Some d
           → stream_at c.source d ≡ stream_at a.source x
@@ -280,7 +281,7 @@ module _ (n : ℕ) (s t : Sinks) (a b : Agents) {old mid : Option History} {befo
               idle = idle_still reads;
             };
             lives = λ kind path f. lives kind path (so.lives kind path f);
-            went = went_then so.went more;
+            acts = acts_then so.acts more;
             later = λ k d from there. so.later k d (omega (arith, from))
                 (one.adaptors.others k d (λ e. let z : ⊥ = omega (arith, from, e) in z) there);
             faults = omega (arith, first, le);

@@ -12,8 +12,8 @@ use Rattle.chk_drain.proofs.Unmarked.{some_asked}
 use Rattle.chk_round.specs.declared.faults.RoundFault.{RoundFault}
 use Rattle.chk_round.specs.Joint.{IsSameAgent, JointTo}
 use Rattle.chk_round.specs.Sending.{SendsOn}
-use Rattle.chk_round.specs.Scripts.{Anything}
-use Rattle.chk_round.proofs.Lasting.{went_none, went_then}
+use Rattle.chk_round.specs.Calls.{RoundCalls}
+use Rattle.chk_round.proofs.Acts.{acts_none, acts_then}
 use Rattle.chk_round.proofs.Joining.{joint_none, joint_then, same_none, same_then}
 use Rattle.chk_round.proofs.Sent.{sends_on_none, sends_on_then}
 
@@ -39,7 +39,7 @@ pub record Talked (s : Sinks) (a : Agents) (t : Sinks) (b : Agents) (old now : O
   pub starts : IsSameStart s t
   pub same : IsSameAgent a b
   pub sends : SendsOn a b old now
-  pub went : Adds old now Anything
+  pub acts : Adds old now RoundCalls
   pub count : before ≤ after
 
 pub talked_none : (s : Sinks) (a : Agents) (now : Option History) (n : ℕ) → Talked s a s a now now n n
@@ -48,14 +48,14 @@ talked_none s a now n = record {
   starts = starts_none s;
   same = same_none a;
   sends = sends_on_none a now;
-  went = went_none now;
+  acts = acts_none now;
   count = omega arith;
 }
 
 module _ {s t : Sinks} {a b : Agents} {old now : Option History} {before mid : ℕ} (so : Talked s a t b old now before mid)
     (u : Sinks) (c : Agents) {new : Option History} (after : ℕ) where
   pub talked_more : JointTo t b u c (Ok tt) now new → IsSameStart t u → IsSameAgent b c
-      → SendsOn b c now new → Adds now new Anything → mid ≤ after → Talked s a u c old new before after
+      → SendsOn b c now new → Adds now new RoundCalls → mid ≤ after → Talked s a u c old new before after
   talked_more joint starts same sends more on =
       let first = so.count in
       record {
@@ -63,7 +63,7 @@ module _ {s t : Sinks} {a b : Agents} {old now : Option History} {before mid : �
         starts = starts_then s t u so.starts starts;
         same = same_then a b c so.same same;
         sends = sends_on_then a b c so.sends sends;
-        went = went_then so.went more;
+        acts = acts_then so.acts more;
         count = omega (arith, first, on);
       }
 

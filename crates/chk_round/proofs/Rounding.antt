@@ -28,6 +28,7 @@ use Rattle.chk_round.specs.Joint.{AreIn, BothAt}
 use Rattle.chk_round.specs.Processes.{AreBoth, IsRunOf, both, processes}
 use Rattle.chk_round.specs.Rounded.{AfterRound, RoundTo}
 use Rattle.chk_round.specs.Rounds.{AfterRun, AllSteady, IsGathered, RoundDone, RunsTo}
+use Rattle.chk_round.specs.Spent.{starts}
 use Rattle.chk_round.specs.Starts.{Met}
 use Rattle.chk_round.proofs.Given.{GivenNone, given_join, pair, pair_given}
 use Rattle.chk_round.proofs.Logs.{both_lead, early, late}
@@ -44,7 +45,8 @@ met_round stamped (Checkpoint at) h x = x
 met_round stamped (Length stem got want) h x = x
 met_round stamped (Growing path reads) h x = x
 met_round stamped (Shrank path had size) h x = x
-met_round stamped (Spent number) h x = x.legal
+met_round stamped (Spent number) h x =
+    record { legal = x.legal; alive = λ running. starts (x.alive running).0 (x.alive running).1 }
 met_round stamped (Refused code) h x = x
 
 -- what a round answers by what its run came to
@@ -52,7 +54,7 @@ abbrev pub round_of : Agents → Result Report RoundFault → Result Rounded Rou
 round_of b (Ok r) = Ok (record { agent = b; report = r })
 round_of b (Err fault) = Err fault
 
-run_round : (stamped : List (List ℕ)) (b : Agents) (r : Result Report RoundFault) (h : History) → AfterRun stamped b r h
+run_round : (stamped : List (List ℕ)) (b : Agents) (r : Result Report RoundFault) (h : History) → AfterRun stamped (codes "c1") b r h
     → AfterRound stamped (round_of b r) h
 run_round stamped b (Ok r) h x = x
 run_round stamped b (Err (Outside call)) h x = x
@@ -189,7 +191,8 @@ module _ (stamped : List (List ℕ)) (source : List ℕ) (started acting : List 
     pub rounds : Adds old new (RoundTo stamped started acting source (round_of b r))
     rounds = adds_then (RoundTo stamped started acting source (round_of b r)) first runs (λ x y history one two. record {
       leads = both_lead (Together stamped started acting) x y history one.0 (record {
-        leads = λ others h. run_round stamped b r (y ++ (x ++ history)) (two.leads.leads others h);
+        leads = λ others h. run_round stamped b r (y ++ (x ++ history))
+            (subst (λ c. AfterRun stamped c b r (y ++ (x ++ history))) so.collector_is (two.leads.leads others h));
         own = two.leads.own;
       });
       source_is = source_on r two.source_is;

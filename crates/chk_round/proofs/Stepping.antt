@@ -1,5 +1,5 @@
 -- The reads of one adaptor so far.
-use Rattle.std.proofs.Common.{◌≡◌, ℕ, ◌+◌, ◌*◌, ◌-◌, ◌≤◌, ◌<◌, true, List, [], length, Option, Some, Result, Ok, Err, refl, ap, sym, ◌∙◌, arith, subst}
+use Rattle.std.proofs.Common.{◌≡◌, ℕ, ◌+◌, ◌*◌, ◌-◌, ◌≤◌, ◌<◌, true, List, length, Option, Some, Result, Ok, Err, refl, ap, sym, ◌∙◌, arith, subst}
 use Rattle.std.specs.Prelude.{slice_get}
 use Rattle.std.proofs.lemmas.Option.{same_Some}
 use Rattle.chk_site.specs.declared.acts.Who.{Who}
@@ -42,7 +42,9 @@ use Rattle.chk_round.proofs.Following.{keeps_same, step_keeps_logs}
 use Rattle.chk_round.proofs.Joining.{in_on, joint_none, joint_then}
 use Rattle.chk_round.specs.Scripts as scripts
 use Rattle.chk_round.specs.Scripts.{Anything, IsNoRead, ReadsOut}
-use Rattle.chk_round.proofs.Lasting.{went_none, went_then}
+use Rattle.chk_round.specs.Calls.{RoundCalls}
+use Rattle.chk_round.proofs.Acts.{acts_none, acts_then, step_acts}
+use Rattle.chk_round.proofs.Lasting.{went}
 use Rattle.chk_round.proofs.NonePast.{quiet_none_past, sends_none, sends_then}
 use Rattle.chk_round.proofs.Polls.{starts_none, starts_then}
 use Rattle.chk_round.proofs.Sent.{other_low, some_at}
@@ -53,6 +55,7 @@ use Rattle.chk_round.proofs.Sides.{agent_acts}
 abbrev pub EndsLegally : RoundFault → Type 0
 EndsLegally (Damaged name at) = ⊥
 EndsLegally (Checkpoint at) = ⊥
+EndsLegally (Spent number) = ⊥
 EndsLegally (Refused code) = ⊥
 EndsLegally fault = Unit {0}
 
@@ -65,7 +68,7 @@ legal_goes stamped s a (Checkpoint at) is h x = absurd is
 legal_goes stamped s a (Length stem got want) is h x = x
 legal_goes stamped s a (Growing path reads) is h x = x
 legal_goes stamped s a (Shrank path had size) is h x = x
-legal_goes stamped s a (Spent number) is h x = x
+legal_goes stamped s a (Spent number) is h x = absurd is
 legal_goes stamped s a (Refused code) is h x = absurd is
 
 pub growing_legal : {path : List ℕ} {reads : ℕ} {fault : RoundFault} → IsGrowing path reads fault → EndsLegally fault
@@ -188,7 +191,7 @@ pub record Reading (i count reads : ℕ) (s : Sinks) (a : Agents) (t : Sinks) (b
   pub here : IsReadOn i b
   pub sends : SendsOthers i a old now
   pub lives : KeepsLogs a b
-  pub went : Adds old now Anything
+  pub acts : Adds old now RoundCalls
   pub script : ReadSoFar i reads a count b old now
   pub few : count < reads
   pub faults : before ≤ after
@@ -202,7 +205,7 @@ reading_none i reads s a now n some here = record {
   here = here;
   sends = λ stamped started one k x other at. sends_none (stream_at a.source x) x.read.offset stamped started now;
   lives = λ kind path f. f;
-  went = went_none now;
+  acts = acts_none now;
   script = λ r u new x. x;
   few = omega (arith, some);
   faults = omega arith;
@@ -218,8 +221,8 @@ module _ (i count reads : ℕ) (s t : Sinks) (a b : Agents) {old now : Option Hi
   source_on : b.source ≡ a.source
   source_on = so.on.source
 
-  pub stepped_went : Adds old next Anything
-  stepped_went = went_then so.went (told [])
+  pub stepped_acts : Adds old next RoundCalls
+  stepped_acts = acts_then so.acts (step_acts one)
 
   -- nothing was sent of the streams of others
   pub ended_sends : SendsOthers i a old next
@@ -242,7 +245,7 @@ module _ (i count reads : ℕ) (s t : Sinks) (a b : Agents) {old now : Option Hi
         lives = λ kind path f.
             step_keeps_logs (subst (λ r. IsOneStepped i so.here.0 b r c now next) is one) so.here.1
             (λ had size e. let z : ⊥ = cc in z) kind path (so.lives kind path f);
-        went = stepped_went;
+        acts = stepped_acts;
         script = λ r u new later.
             so.script r u new
             (scripts.read_on so.here.0 n so.here.1 few (subst (λ q. IsOneStepped i so.here.0 b q c now next) is one) later);
@@ -351,7 +354,7 @@ module _ (i count reads : ℕ) (s t : Sinks) (a b : Agents) {old now : Option Hi
           (joint_then s t t a b c (Ok tt) so.starts.collector source_on so.joint (step_goes t i b c result told)) joint
 
       module _ (joint : JointTo t c u d (Ok tt) next new) (starts : IsSameStart t u) (posted : PostedSome c d)
-          (sound : IsSound c) (sends : SendsOn c d next new) (more : Adds next new Anything) where
+          (sound : IsSound c) (sends : SendsOn c d next new) (more : Adds next new RoundCalls) where
         kept : d.adaptors ≡ b.adaptors
         kept = posted.same.rest.adaptors ∙ ap (λ (k : Agents). k.adaptors) same
 
@@ -370,10 +373,10 @@ module _ (i count reads : ℕ) (s t : Sinks) (a b : Agents) {old now : Option Hi
                   sends_then s x.read.offset stamped started (ended_sends stamped started one k x other at)
                   (sends stamped started s x.read.offset one low).0;
               lives = λ kind path f. keeps_same b d kept kind path (so.lives kind path f);
-              went = went_then stepped_went more;
+              acts = acts_then stepped_acts more;
               script = λ r w last later.
                   so.script r w last
-                  (scripts.held so.here.0 used so.here.1 (subst (λ q. IsOneStepped i so.here.0 b q c now next) is one) more posted later);
+                  (scripts.held so.here.0 used so.here.1 (subst (λ q. IsOneStepped i so.here.0 b q c now next) is one) (went more) posted later);
               few = so.few;
               faults = omega (arith, first, on_late);
             }

@@ -39,6 +39,7 @@ use Rattle.chk_round.specs.Joint.{AreIn, BothAt, GoesOn, JointTo}
 use Rattle.chk_round.specs.Reading.{ReadsAll, ReadsOn}
 use Rattle.chk_round.specs.Rounds.{AfterRun, AllSteady, RoundDone, RunsTo}
 use Rattle.chk_round.specs.Sending.{NonePast, QueueBelow, SendsBelow, SendsNone, SendsRest}
+use Rattle.chk_round.specs.Spent.{LastSink, sinks, segments}
 use Rattle.chk_round.specs.Theirs.{ListsTheirs, NoneOf, TheirsOnly}
 use Rattle.chk_round.proofs.Given.{GivenNone, given_join, pair, pair_given}
 use Rattle.chk_round.proofs.Joining.{in_on}
@@ -50,30 +51,33 @@ use Rattle.chk_round.proofs.WholeRounds.{adaptor_whole, done_ran, job_ran_whole,
 
 -- ---- the ends
 
-goes_run : (stamped : List (List ℕ)) (s : Sinks) (a b : Agents) (fault : RoundFault) (h : History)
-    → GoesOn stamped s a (Err fault) h → AfterRun stamped b (Err fault) h
-goes_run stamped s a b (Outside call) h x = x
-goes_run stamped s a b NoMemory h x = x
-goes_run stamped s a b (Damaged name at) h x = x
-goes_run stamped s a b (Checkpoint at) h x = x
-goes_run stamped s a b (Length stem got want) h x = x
-goes_run stamped s a b (Growing path reads) h x = x
-goes_run stamped s a b (Shrank path had size) h x = x
-goes_run stamped s a b (Spent number) h x = x
-goes_run stamped s a b (Refused code) h x = x
+goes_run : (stamped : List (List ℕ)) (c : List ℕ) (s : Sinks) (a b : Agents) → s.collector ≡ c → (fault : RoundFault) (h : History)
+    → GoesOn stamped s a (Err fault) h → AfterRun stamped c b (Err fault) h
+goes_run stamped c s a b same (Outside call) h x = x
+goes_run stamped c s a b same NoMemory h x = x
+goes_run stamped c s a b same (Damaged name at) h x = x
+goes_run stamped c s a b same (Checkpoint at) h x = x
+goes_run stamped c s a b same (Length stem got want) h x = x
+goes_run stamped c s a b same (Growing path reads) h x = x
+goes_run stamped c s a b same (Shrank path had size) h x = x
+goes_run stamped c s a b same (Spent number) h x = record {
+  legal = x.legal;
+  alive = λ running. sinks (subst (λ k. LastSink k number h) same (x.alive running));
+}
+goes_run stamped c s a b same (Refused code) h x = x
 
-closed_run : (stamped : List (List ℕ)) (s : Sinks) (b : Agents) (r : Result Report RoundFault) (h : History)
-    → Closed stamped s b r h → AfterRun stamped b r h
-closed_run stamped s b (Ok r) h x = (x.1.1, x.0)
-closed_run stamped s b (Err (Outside call)) h x = x
-closed_run stamped s b (Err NoMemory) h x = x
-closed_run stamped s b (Err (Damaged name at)) h x = x
-closed_run stamped s b (Err (Checkpoint at)) h x = x
-closed_run stamped s b (Err (Length stem got want)) h x = x
-closed_run stamped s b (Err (Growing path reads)) h x = x
-closed_run stamped s b (Err (Shrank path had size)) h x = x
-closed_run stamped s b (Err (Spent number)) h x = x.legal
-closed_run stamped s b (Err (Refused code)) h x = x
+closed_run : (stamped : List (List ℕ)) (c : List ℕ) (s : Sinks) (b : Agents) (r : Result Report RoundFault) (h : History)
+    → Closed stamped s b r h → AfterRun stamped c b r h
+closed_run stamped c s b (Ok r) h x = (x.1.1, x.0)
+closed_run stamped c s b (Err (Outside call)) h x = x
+closed_run stamped c s b (Err NoMemory) h x = x
+closed_run stamped c s b (Err (Damaged name at)) h x = x
+closed_run stamped c s b (Err (Checkpoint at)) h x = x
+closed_run stamped c s b (Err (Length stem got want)) h x = x
+closed_run stamped c s b (Err (Growing path reads)) h x = x
+closed_run stamped c s b (Err (Shrank path had size)) h x = x
+closed_run stamped c s b (Err (Spent number)) h x = record { legal = x.legal; alive = λ running. segments (x.alive running) }
+closed_run stamped c s b (Err (Refused code)) h x = x
 
 -- ---- the parts in turn
 
@@ -98,12 +102,12 @@ not_past false e = refl
 
 module _ (stamped : List (List ℕ)) (started acting : List Who) (s : Sinks) (a : Agents) where
   -- it ends with the reads
-  pub reads_end : (t : Sinks) (b : Agents) (fault : RoundFault) {old new : Option History}
+  pub reads_end : (t : Sinks) (b : Agents) → t.collector ≡ s.collector → (fault : RoundFault) {old new : Option History}
       → Adds old new (ReadsAll stamped started acting s a t b (Err fault))
       → Adds old new (RunsTo stamped started acting s a b (Err fault))
-  reads_end t b fault told = adds_as (RunsTo stamped started acting s a b (Err fault)) told (λ x history read. record {
+  reads_end t b same fault told = adds_as (RunsTo stamped started acting s a b (Err fault)) told (λ x history read. record {
     leads = record {
-      leads = λ others h. goes_run stamped t b b fault (x ++ history) (read.leads.leads others h);
+      leads = λ others h. goes_run stamped s.collector t b b same fault (x ++ history) (read.leads.leads others h);
       own = read.leads.own;
     };
     source_is = λ r e. absurd (let z : ⊥ = cc in z);
@@ -129,13 +133,13 @@ module _ (stamped : List (List ℕ)) (started acting : List Who) (s : Sinks) (a 
         (λ x h r. pair_given s.collector a.source x h r.leads.own)
 
     -- it ends with the delivery
-    pub delivery_ends : (t : Sinks) (b : Agents) (fault : RoundFault) {new : Option History} → JointTo s1 a1 t b (Err fault) mid new
+    pub delivery_ends : (t : Sinks) (b : Agents) → t.collector ≡ s1.collector → (fault : RoundFault) {new : Option History} → JointTo s1 a1 t b (Err fault) mid new
         → Adds old new (RunsTo stamped started acting s a b (Err fault))
-    delivery_ends t b fault joint =
+    delivery_ends t b still fault joint =
         adds_then (RunsTo stamped started acting s a b (Err fault)) read (joint stamped started acting run_on)
         (λ x y history first second. record {
           leads = both_lead (Together stamped started acting) x y history first.leads (record {
-            leads = λ others h. goes_run stamped t b b fault (y ++ (x ++ history)) (second.leads others h);
+            leads = λ others h. goes_run stamped s.collector t b b (still ∙ same) fault (y ++ (x ++ history)) (second.leads others h);
             own = second.own;
           });
           source_is = λ r e. absurd (let z : ⊥ = cc in z);
@@ -151,7 +155,7 @@ module _ (stamped : List (List ℕ)) (started acting : List Who) (s : Sinks) (a 
           adds_then (RunsTo stamped started acting s a b (Err fault)) read (leads_then (joint stamped started acting run_on) closed)
           (λ x w history first second. record {
             leads = both_lead (Together stamped started acting) x w history first.leads (record {
-              leads = λ others h. closed_run stamped t b (Err fault) (w ++ (x ++ history)) (second.leads others h);
+              leads = λ others h. closed_run stamped s.collector t b (Err fault) (w ++ (x ++ history)) (second.leads others h);
               own = second.own;
             });
             source_is = λ r e. absurd (let z : ⊥ = cc in z);
@@ -410,7 +414,7 @@ module _ (stamped : List (List ℕ)) (started acting : List Who) (s : Sinks) (a 
           pub round_ends : Adds old new (RunsTo stamped started acting s a b (Ok v))
           round_ends = adds_then (RunsTo stamped started acting s a b (Ok v)) settled ended (λ w z history first second. record {
             leads = both_lead (Together stamped started acting) w z history first.leads (record {
-              leads = λ others h. closed_run stamped t b (Ok v) (z ++ (w ++ history)) (second.closing.leads others h);
+              leads = λ others h. closed_run stamped s.collector t b (Ok v) (z ++ (w ++ history)) (second.closing.leads others h);
               own = second.closing.own;
             });
             source_is = λ w e. delivered.source ∙ on.source;

@@ -1,8 +1,7 @@
 -- The end of a round: the collector closes its sink, and the archive job runs once.
-use Rattle.std.specs.Prelude.{◌≡◌, ℕ, ◌-◌, ◌≤◌, ◌^◌, List, Result, Ok, Err}
-use Rattle.chk_site.specs.History.{History, files_after}
-use Rattle.chk_world.specs.Books.{Book, book_of}
-use Rattle.chk_world.specs.Names.{ArchiveFolder}
+use Rattle.std.specs.Prelude.{ℕ, List, Result, Ok, Err}
+use Rattle.chk_site.specs.History.{History}
+use Rattle.chk_world.specs.Books.{Book}
 use Rattle.chk_world.specs.Places.{AtTold}
 use Rattle.chk_world.specs.Rules.{Legal}
 use Rattle.chk_world.specs.Sight.{job}
@@ -16,15 +15,11 @@ use Rattle.chk_archive.specs.Reporting.{report_view}
 use Rattle.chk_round.specs.declared.faults.RoundFault.{RoundFault}
 use Rattle.chk_round.specs.declared.faults.RoundFault.TheVariants.{Damaged, Spent, Checkpoint, Refused}
 use Rattle.chk_round.specs.Joint.{OnlyStopped}
+use Rattle.chk_round.specs.Spent.{IsSpentArchive}
 
 -- the run of the archive job that began with the last listing of the sinks is this one
 abbrev pub HasRun : Report → History → Type 0
 HasRun r history = (loaded : Book) × RunDone loaded (report_view r) history
-
--- fewer numbers for segments are left than a run needs
-abbrev pub IsSpentArchive : ℕ → History → Type 0
-IsSpentArchive n history =
-    (n ≡ 2 ^ 63 - 1) × (2 ^ 63 - 2 ≤ (book_of (files_after history) ArchiveFolder).next)
 
 -- At Ok the run is done, and sinks and agent know the history. Nothing of the program's own is ever
 -- damaged, and numbers are spent only where the archive has none left.

@@ -1,4 +1,5 @@
 pub mod Processes
+pub mod Spent
 pub mod Joint
 pub mod Faults
 pub mod Starts
@@ -7,6 +8,7 @@ pub mod Closing
 pub mod Polling
 pub mod Reading
 pub mod Scripts
+pub mod Calls
 pub mod Lengths
 pub mod Delivering
 pub mod Sending

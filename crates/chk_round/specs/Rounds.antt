@@ -22,10 +22,11 @@ use Rattle.chk_agent.specs.States.{State as Agents, lines_of}
 use Rattle.chk_archive.specs.declared.report.Report.{Report}
 use Rattle.chk_drain.specs.Whole.{Meanwhile}
 use Rattle.chk_round.specs.declared.faults.RoundFault.{RoundFault}
-use Rattle.chk_round.specs.declared.faults.RoundFault.TheVariants.{Damaged, Checkpoint, Refused}
+use Rattle.chk_round.specs.declared.faults.RoundFault.TheVariants.{Damaged, Spent, Checkpoint, Refused}
 use Rattle.chk_round.specs.Closing.{HasRun}
 use Rattle.chk_round.specs.Done.{ArchivedTo, JobRan}
 use Rattle.chk_round.specs.Joint.{BothAt, OnlyStopped}
+use Rattle.chk_round.specs.Spent.{IsSpentRound, WhereRunning}
 use Rattle.chk_round.specs.Theirs.{NoneOf}
 
 -- each adaptor that isn't past is live
@@ -34,13 +35,16 @@ AllSteady a =
     (i : ℕ) (x : Adaptor) → slice_get a.adaptors i ≡ Some x → is_past x.phase ≡ false → x.phase ≡ Live
 
 -- At Ok the history is legal and as the agent knows it, and the job may act on, whose run is done.
--- Nothing of the program's own is ever damaged, and the agent gets the replies that were made.
-abbrev pub AfterRun : List (List ℕ) → Agents → Result Report RoundFault → History → Type 0
-AfterRun stamped b (Ok r) history = AgentMatches stamped b history × AtTold stamped job (HasRun r) history
-AfterRun stamped b (Err (Damaged name at)) history = OnlyStopped stamped history
-AfterRun stamped b (Err (Checkpoint at)) history = OnlyStopped stamped history
-AfterRun stamped b (Err (Refused code)) history = OnlyStopped stamped history
-AfterRun stamped b (Err fault) history = Legal stamped history
+-- Nothing of the program's own is ever damaged, the agent gets the replies that were made, and where
+-- numbers are spent it is said which.
+abbrev pub AfterRun : List (List ℕ) → List ℕ → Agents → Result Report RoundFault → History → Type 0
+AfterRun stamped c b (Ok r) history =
+    AgentMatches stamped b history × AtTold stamped job (HasRun r) history
+AfterRun stamped c b (Err (Damaged name at)) history = OnlyStopped stamped history
+AfterRun stamped c b (Err (Checkpoint at)) history = OnlyStopped stamped history
+AfterRun stamped c b (Err (Refused code)) history = OnlyStopped stamped history
+AfterRun stamped c b (Err (Spent n)) history = WhereRunning stamped (IsSpentRound c n) history
+AfterRun stamped c b (Err fault) history = Legal stamped history
 
 -- What a round has done, with the checkpoint's lines those of the agent.
 pub record RoundDone (collector source : List ℕ) (b : Agents) (r : Report) (added history : History)
@@ -69,7 +73,7 @@ pub record RoundDone (collector source : List ℕ) (b : Agents) (r : Report) (ad
 -- from a collector and an agent that know the history
 pub record RunsTo (stamped : List (List ℕ)) (started acting : List Who) (s : Sinks) (a b : Agents)
     (result : Result Report RoundFault) (added history : History) : Type 0 where
-  pub leads : Leads (Together stamped started acting) (BothAt stamped s a) (AfterRun stamped b result) added history
+  pub leads : Leads (Together stamped started acting) (BothAt stamped s a) (AfterRun stamped s.collector b result) added history
   pub source_is : (r : Report) → result ≡ Ok r → b.source ≡ a.source
   pub done : (r : Report) → result ≡ Ok r → Others (OutsideOf stamped started) added history → BothAt stamped s a history
       → is_stopped (added ++ history) ≡ false → RoundDone s.collector a.source b r added history

@@ -17,6 +17,7 @@ ghost use Rattle.chk_round.specs.Joint.{AreIn, BothAt};
 ghost use Rattle.chk_round.specs.Lengths.{IsPlain};
 ghost use Rattle.chk_round.specs.Sending.{SendsNone};
 ghost use Rattle.chk_round.specs.Theirs.{ListsTheirs};
+ghost use Rattle.chk_round.specs.Calls.{RoundCalls};
 
 use crate::faults::RoundFault;
 use chk_archive::{Report, archive};
@@ -41,6 +42,7 @@ pub(crate) fn close<S: Site>(
     ensures given { OnOk result (Adds (S.told site.old) (S.told site.new) GivenOnce) }
     ensures same { IsSameStart collector.old collector.new }
     ensures finished { OnOk result (collector.new ≡ finished collector.old) }
+    ensures acts { Adds (S.told site.old) (S.told site.new) RoundCalls }
     ensures last { Adds (S.told site.old) (S.told site.new) (FailsLast result) }
     ensures only { IfErr result IsPlain }
     ensures cause { RoundCause (S.fault_count site.old) (S.fault_count site.new) result }

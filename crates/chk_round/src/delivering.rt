@@ -12,6 +12,7 @@ ghost use Rattle.chk_round.specs.Joint.{JointTo};
 ghost use Rattle.chk_round.specs.Lengths.{LengthCause};
 ghost use Rattle.chk_round.specs.Scripts.{IsNoRead};
 ghost use Rattle.chk_round.specs.Sending.{SendsRest};
+ghost use Rattle.chk_round.specs.Calls.{RoundCalls};
 
 use crate::faults::RoundFault;
 use crate::polling::commit_rows;
@@ -40,6 +41,7 @@ pub(crate) fn deliver<S: Site>(
     ensures sends { OnOk result (SendsRest agent.old (S.told site.old) (S.told site.new)) }
     ensures same { IsSameStart collector.old collector.new }
     ensures length { LengthCause result (S.told site.old) (S.told site.new) }
+    ensures acts { Adds (S.told site.old) (S.told site.new) RoundCalls }
     ensures last { Adds (S.told site.old) (S.told site.new) (FailsInside result) }
     ensures only { IfErr result IsNoRead }
     ensures cause { RoundCause (S.fault_count site.old) (S.fault_count site.new) result }

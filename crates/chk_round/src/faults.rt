@@ -24,7 +24,8 @@ pub enum RoundFault {
     Growing { path: Word, reads: u64 },
     /// This log has `is` bytes in its generation, fewer than the place `had` to be read.
     Shrank { path: Word, had: u64, is: u64 },
-    /// This number is the last one of its kind, and another one was needed.
+    /// No number is left for a start of the collector, for a sink of its start, or for a segment.
+    /// It is the last number, and for a sink that of the start.
     Spent { number: u64 },
     /// The reply that the agent got has this code, 0 where it can't be read, and isn't the one that
     /// was made for it.

@@ -14,6 +14,7 @@ ghost use Rattle.chk_round.specs.Processes.{AreBoth, c1};
 ghost use Rattle.chk_round.specs.Lengths.{IsPlain};
 ghost use Rattle.chk_round.specs.Rounds.{IsGathered};
 ghost use Rattle.chk_round.specs.Starts.{Met, inside};
+ghost use Rattle.chk_round.specs.Calls.{BegunActs, TimedActs};
 
 use crate::adding::add_logs;
 use crate::faults::RoundFault;
@@ -46,6 +47,8 @@ pub(crate) fn gather<S: Site>(
     ensures told { (stamped : List (List ℕ)) (started acting : List Person)
         → AreBoth reading.now.name started acting → Adds (S.told site.old) (S.told site.new)
         (Leads (Together stamped started acting) (Legal stamped) (Met stamped result)) }
+    ensures acts { Adds (S.told site.old) (S.told site.new) (BegunActs reading.now.name) }
+    ensures timed { IfOk result (λ _. Adds (S.told site.old) (S.told site.new) (TimedActs reading.now.name)) }
     ensures last { Adds (S.told site.old) (S.told site.new) (FailsInside result) }
     ensures only { IfErr result IsPlain }
     ensures cause { RoundCause (S.fault_count site.old) (S.fault_count site.new) result }

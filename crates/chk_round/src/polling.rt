@@ -12,6 +12,7 @@ ghost use Rattle.chk_round.specs.Lengths.{LengthCause};
 ghost use Rattle.chk_round.specs.Scripts.{IsNoRead};
 ghost use Rattle.chk_round.specs.Polling.{HasFree, PolledAll};
 ghost use Rattle.chk_round.specs.Sending.{SendsOn};
+ghost use Rattle.chk_round.specs.Calls.{RoundCalls};
 
 use crate::faults::RoundFault;
 use chk_agent::Agent;
@@ -41,6 +42,7 @@ pub(crate) fn commit_rows<S: Site>(
     ensures sends { OnOk result (SendsOn agent.old agent.new (S.told site.old) (S.told site.new)) }
     ensures same { IsSameStart collector.old collector.new }
     ensures length { LengthCause result (S.told site.old) (S.told site.new) }
+    ensures acts { Adds (S.told site.old) (S.told site.new) RoundCalls }
     ensures last { Adds (S.told site.old) (S.told site.new) (FailsInside result) }
     ensures only { IfErr result IsNoRead }
     ensures cause { RoundCause (S.fault_count site.old) (S.fault_count site.new) result }
@@ -69,6 +71,7 @@ fn poll_until_free<S: Site>(
     ensures sends { OnOk result (SendsOn agent.old agent.new (S.told site.old) (S.told site.new)) }
     ensures same { IsSameStart collector.old collector.new }
     ensures length { LengthCause result (S.told site.old) (S.told site.new) }
+    ensures acts { Adds (S.told site.old) (S.told site.new) RoundCalls }
     ensures last { Adds (S.told site.old) (S.told site.new) (FailsInside result) }
     ensures only { IfErr result IsNoRead }
     ensures cause { RoundCause (S.fault_count site.old) (S.fault_count site.new) result }
@@ -97,6 +100,7 @@ fn poll_whole<S: Site>(
     ensures sends { OnOk result (SendsOn agent.old agent.new (S.told site.old) (S.told site.new)) }
     ensures same { IsSameStart collector.old collector.new }
     ensures length { LengthCause result (S.told site.old) (S.told site.new) }
+    ensures acts { Adds (S.told site.old) (S.told site.new) RoundCalls }
     ensures last { Adds (S.told site.old) (S.told site.new) (FailsInside result) }
     ensures only { IfErr result IsNoRead }
     ensures cause { RoundCause (S.fault_count site.old) (S.fault_count site.new) result }

@@ -16,6 +16,7 @@ ghost use Rattle.chk_round.specs.Reading.{AfterReadOut, IsGrowing, IsShrank, Rea
 ghost use Rattle.chk_round.specs.Lengths.{LengthCause};
 ghost use Rattle.chk_round.specs.Scripts.{ReadsEach, ReadsOut};
 ghost use Rattle.chk_round.specs.Sending.{SendsOthers};
+ghost use Rattle.chk_round.specs.Calls.{RoundCalls};
 
 use crate::faults::RoundFault;
 use crate::posting::post_next;
@@ -49,6 +50,7 @@ pub(crate) fn read_all<S: Site>(
     ensures live { OnOk result (KeepsLogs agent.old agent.new) }
     ensures same { IsSameStart collector.old collector.new }
     ensures length { LengthCause result (S.told site.old) (S.told site.new) }
+    ensures acts { Adds (S.told site.old) (S.told site.new) RoundCalls }
     ensures last { Adds (S.told site.old) (S.told site.new) (FailsInside result) }
     ensures cause { RoundCause (S.fault_count site.old) (S.fault_count site.new) result }
 {
@@ -92,6 +94,7 @@ fn read_out<S: Site>(
         (S.told site.old) (S.told site.new)) }
     ensures same { IsSameStart collector.old collector.new }
     ensures length { LengthCause result (S.told site.old) (S.told site.new) }
+    ensures acts { Adds (S.told site.old) (S.told site.new) RoundCalls }
     ensures last { Adds (S.told site.old) (S.told site.new) (FailsInside result) }
     ensures cause { RoundCause (S.fault_count site.old) (S.fault_count site.new) result }
 {

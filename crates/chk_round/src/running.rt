@@ -13,6 +13,7 @@ ghost use Rattle.chk_round.specs.Joint.{AreIn};
 ghost use Rattle.chk_round.specs.Lengths.{LengthCause};
 ghost use Rattle.chk_round.specs.Scripts.{RunReads};
 ghost use Rattle.chk_round.specs.Rounds.{AllSteady, RunsTo};
+ghost use Rattle.chk_round.specs.Calls.{RoundCalls};
 
 use crate::closing::close;
 use crate::delivering::deliver;
@@ -47,6 +48,7 @@ pub(crate) fn run_pair<S: Site>(
     ensures script { RunReads reads agent.old result (S.told site.old) (S.told site.new) }
     ensures live { OnOk result (KeepsLogs agent.old agent.new) }
     ensures length { LengthCause result (S.told site.old) (S.told site.new) }
+    ensures acts { Adds (S.told site.old) (S.told site.new) RoundCalls }
     ensures last { Adds (S.told site.old) (S.told site.new) (FailsInside result) }
     ensures cause { RoundCause (S.fault_count site.old) (S.fault_count site.new) result }
 {

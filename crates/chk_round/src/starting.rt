@@ -3,7 +3,7 @@
 ghost use Rattle.std.specs.Prelude.{◌≡◌, IfErr, ◌≤◌, ℕ, List, IsTrue, IfOk};
 ghost use Rattle.chk_site.specs.declared.acts.Who.{Who as Person};
 ghost use Rattle.chk_site.specs.Site.{Adds};
-ghost use Rattle.chk_site.specs.Runs.{Leads};
+ghost use Rattle.chk_site.specs.Runs.{Leads, Owns};
 ghost use Rattle.chk_world.specs.Names.{is_source};
 ghost use Rattle.chk_world.specs.Knowing.{agent};
 ghost use Rattle.chk_world.specs.Rules.{Legal};
@@ -11,6 +11,7 @@ ghost use Rattle.chk_world.specs.Together.{Together};
 ghost use Rattle.chk_round.specs.Faults.{FailsLast, RoundCause};
 ghost use Rattle.chk_round.specs.Processes.{AreBoth, c1};
 ghost use Rattle.chk_round.specs.Lengths.{IsPlain};
+ghost use Rattle.chk_round.specs.Calls.{IsStarting};
 ghost use Rattle.chk_round.specs.Starts.{AreFresh, ClockGave, EndsWithClock, Met, inside, rules_of};
 
 use crate::faults::RoundFault;
@@ -59,6 +60,7 @@ pub(crate) fn start_pair<S: Site>(
         (Leads (Together stamped started acting) (Legal stamped) (Met stamped result)) }
     ensures clock { IfOk result (λ pair. Adds (S.told site.old) (S.told site.new)
         (EndsWithClock reading.now pair.now)) }
+    ensures acts { Adds (S.told site.old) (S.told site.new) (Owns (IsStarting reading.now.name)) }
     ensures last { Adds (S.told site.old) (S.told site.new) (FailsLast result) }
     ensures only { IfErr result IsPlain }
     ensures cause { RoundCause (S.fault_count site.old) (S.fault_count site.new) result }

@@ -11,6 +11,7 @@ ghost use Rattle.chk_round.specs.Processes.{IsRunOf};
 ghost use Rattle.chk_round.specs.Lengths.{LengthCause};
 ghost use Rattle.chk_round.specs.Scripts.{RoundReads};
 ghost use Rattle.chk_round.specs.Rounded.{RoundTo};
+ghost use Rattle.chk_round.specs.Calls.{RoundActs};
 
 use crate::faults::RoundFault;
 use crate::gathering::gather;
@@ -50,6 +51,7 @@ pub fn round<S: Site>(
     ensures live { IfOk result (λ r. HaveLines given.now.kind given.now.logs.items
         (lines_of r.agent)) }
     ensures length { LengthCause result (S.told site.old) (S.told site.new) }
+    ensures acts { Adds (S.told site.old) (S.told site.new) (RoundActs given.now.source) }
     ensures last { Adds (S.told site.old) (S.told site.new) (FailsInside result) }
     ensures cause { RoundCause (S.fault_count site.old) (S.fault_count site.new) result }
 {
@@ -78,6 +80,7 @@ pub fn round_within<S: Site>(
     ensures live { IfOk result (λ r. HaveLines given.now.kind given.now.logs.items
         (lines_of r.agent)) }
     ensures length { LengthCause result (S.told site.old) (S.told site.new) }
+    ensures acts { Adds (S.told site.old) (S.told site.new) (RoundActs given.now.source) }
     ensures last { Adds (S.told site.old) (S.told site.new) (FailsInside result) }
     ensures cause { RoundCause (S.fault_count site.old) (S.fault_count site.new) result }
 {

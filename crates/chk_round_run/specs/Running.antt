@@ -15,27 +15,37 @@ use Rattle.chk_agent.specs.States.{lines_of}
 use Rattle.chk_archive.specs.Reporting.{report_view}
 use Rattle.chk_prints.specs.Printing.{printed}
 use Rattle.chk_round.specs.declared.faults.RoundFault.{RoundFault}
-use Rattle.chk_round.specs.declared.faults.RoundFault.TheVariants.{Outside, NoMemory, Damaged, Checkpoint, Refused}
+use Rattle.chk_round.specs.declared.faults.RoundFault.TheVariants.{Outside, NoMemory, Damaged, Spent, Checkpoint, Refused}
 use Rattle.chk_round.specs.declared.whole_round.Rounded.{Rounded}
+use Rattle.chk_round.specs.Calls.{RoundActs}
 use Rattle.chk_round.specs.Done.{ArchivedTo}
 use Rattle.chk_round.specs.Faults.{FailsInside}
 use Rattle.chk_round.specs.Following.{HaveLines}
 use Rattle.chk_round.specs.Joint.{OnlyStopped}
+use Rattle.chk_round.specs.Lengths.{LengthCause}
 use Rattle.chk_round.specs.Processes.{IsRunOf}
 use Rattle.chk_round.specs.Rounded.{RoundTo}
 use Rattle.chk_round.specs.Rounds.{RoundDone}
+use Rattle.chk_round.specs.Scripts.{RoundReads}
+use Rattle.chk_round.specs.Spent.{IsSpentRound, WhereRunning}
 use Rattle.chk_round_run.specs.declared.ends.RoundEnd.{RoundEnd}
 use Rattle.chk_round_run.specs.declared.ends.RoundEnd.TheVariants.{Fault, Unclosed}
 use Rattle.chk_round_run.specs.Telling.{Tells, end_by, print_end, round_prints}
 
 -- ---- the script
 
--- what a round of this source says of its steps, which reads these logs under this type
-pub record IsRound (source kind : List ℕ) (logs : List (List ℕ)) (result : Result Rounded RoundFault) (old new : Option History) : Type 0 where
+-- What a round of this source says of its steps, which reads these logs under this type. A log
+-- that grows or shrank shows in the reads that the source's agent made, so many of a log at most,
+-- and a length below an answered offset in the last poll.
+pub record IsRound (source kind : List ℕ) (logs : List (List ℕ)) (reads : ℕ)
+    (result : Result Rounded RoundFault) (old new : Option History) : Type 0 where
   pub told : (stamped : List (List ℕ)) (started acting : List Who) → IsRunOf source started acting
       → Adds old new (RoundTo stamped started acting source result)
   pub live : IfOk result (λ r. HaveLines kind logs (lines_of r.agent))
+  pub script : RoundReads source reads result old new
+  pub length : LengthCause result old new
   pub last : Adds old new (FailsInside result)
+  pub acts : Adds old new (RoundActs source)
 
 -- the lines of a round
 abbrev pub TellsRound : List ℕ → Rounded → Result (Unit {0}) OutsideFault → Option History → Option History → Type 0
@@ -43,15 +53,19 @@ TellsRound source r result old new =
     Tells (agent source) job (lines_of r.agent) (report_view r.report) result old new
 
 -- A round, and where it is done its lines, up to one that wasn't printed. Nothing else is done.
-pub data RunsRound (source kind : List ℕ) (logs : List (List ℕ))
+pub data RunsRound (source kind : List ℕ) (logs : List (List ℕ)) (reads : ℕ)
     : Result (Unit {0}) RoundEnd → Option History → Option History → Type 0 where
-  unbegun : {now : Option History} → RunsRound source kind logs (Err (Fault NoMemory)) now now
-  undone : {old new : Option History} (fault : RoundFault) → IsRound source kind logs (Err fault) old new
-      → RunsRound source kind logs (Err (Fault fault)) old new
-  untold : {old mid new : Option History} (r : Rounded) (fault : OutsideFault) → IsRound source kind logs (Ok r) old mid
-      → TellsRound source r (Err fault) mid new → RunsRound source kind logs (Err (print_end fault)) old new
-  ran : {old mid new : Option History} (r : Rounded) → IsRound source kind logs (Ok r) old mid
-      → TellsRound source r (Ok tt) mid new → RunsRound source kind logs (end_by r.report.first_unclosed) old new
+  unbegun : {now : Option History}
+      → RunsRound source kind logs reads (Err (Fault NoMemory)) now now
+  undone : {old new : Option History} (fault : RoundFault)
+      → IsRound source kind logs reads (Err fault) old new
+      → RunsRound source kind logs reads (Err (Fault fault)) old new
+  untold : {old mid new : Option History} (r : Rounded) (fault : OutsideFault)
+      → IsRound source kind logs reads (Ok r) old mid → TellsRound source r (Err fault) mid new
+      → RunsRound source kind logs reads (Err (print_end fault)) old new
+  ran : {old mid new : Option History} (r : Rounded)
+      → IsRound source kind logs reads (Ok r) old mid → TellsRound source r (Ok tt) mid new
+      → RunsRound source kind logs reads (end_by r.report.first_unclosed) old new
 
 -- where the site wasn't stopped, the call that failed is the last one, or one inside the round
 abbrev pub EndsByCall : Result (Unit {0}) RoundEnd → History → History → Type 0
@@ -60,12 +74,14 @@ EndsByCall result added history = Unit {0}
 
 -- ---- from a legal history
 
--- The history is legal. Nothing of the program's own is ever damaged, and the agent gets the replies
--- that were made.
+-- The history is legal. Nothing of the program's own is ever damaged, the agent gets the replies that
+-- were made, and where numbers are spent it is said which.
 abbrev pub AfterRun : List (List ℕ) → Result (Unit {0}) RoundEnd → History → Type 0
 AfterRun stamped (Err (Fault (Damaged name at))) history = OnlyStopped stamped history
 AfterRun stamped (Err (Fault (Checkpoint at))) history = OnlyStopped stamped history
 AfterRun stamped (Err (Fault (Refused code))) history = OnlyStopped stamped history
+AfterRun stamped (Err (Fault (Spent n))) history =
+    WhereRunning stamped (IsSpentRound (codes "c1") n) history
 AfterRun stamped result history = Legal stamped history
 
 -- all was done and printed, whatever other collectors have under writing

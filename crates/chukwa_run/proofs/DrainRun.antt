@@ -3,12 +3,13 @@ use Rattle.std.proofs.Common.{◌≡◌, inl, inr, ℕ, false, List, ◌++◌, O
 use Rattle.chk_site.specs.declared.acts.Who.{Who}
 use Rattle.chk_site.specs.declared.acts.OutsideFault.{OutsideFault}
 use Rattle.chk_site.specs.declared.acts.OutsideFault.TheVariants as site_faults
-use Rattle.chk_site.specs.History.{History, is_stopped}
+use Rattle.chk_site.specs.History.{History, Others, is_stopped}
 use Rattle.chk_site.specs.Site.{Adds}
 use Rattle.chk_site.specs.Runs.{Leads}
 use Rattle.chk_site.proofs.Runs.{adds_both, adds_as}
 use Rattle.chk_failover.specs.Turns.{Turns}
 use Rattle.chk_world.specs.Rules.{Legal}
+use Rattle.chk_world.specs.Together.{Outside}
 use Rattle.chk_agent.specs.declared.agent.Rules.{Rules}
 use Rattle.chk_agent.specs.States.{State}
 use Rattle.chk_agent_run.specs.declared.faults.RunFault.{RunFault}
@@ -17,12 +18,13 @@ use Rattle.chk_agent_run.specs.Runs.{InRun}
 use Rattle.chk_drain_run.specs.declared.faults.DrainFault.{DrainFault}
 use Rattle.chk_drain_run.specs.declared.faults.DrainFault.TheVariants as drains
 use Rattle.chk_drain_run.specs.Begins.{Begins}
+use Rattle.chk_drain_run.specs.Done.{DoneSo}
 use Rattle.chk_drain_run.specs.Drains.{Finishes, HasDrained, DrainEnds, LastOfDrain, told_as}
 use Rattle.chk_drain_run.specs.Streams.{told_line}
 use Rattle.chk_words.specs.Commands.{DrainAsked}
 use Rattle.chk_words.specs.declared.endings.Ending.{Ending}
 use Rattle.chk_words.specs.Commands.{Drain}
-use Rattle.chukwa_run.specs.Processes.{RunSide}
+use Rattle.chukwa_run.specs.Processes.{RunSide, started_by}
 use Rattle.chukwa_run.specs.Draining.{setting_of, HasDrainedIn, DrainScript}
 use Rattle.chukwa_run.specs.declared.draining.Setting.{Setting}
 use Rattle.chukwa_run.specs.Whole.{Whole}
@@ -75,6 +77,8 @@ pub record IsRunIn (s : Setting) (result : Result (Unit {0}) DrainFault)
   pub ran : HasDrainedIn s result old new
   pub told : (stamped : List (List ℕ)) → Adds old new
       (Leads (InRun stamped s.who s.writer) (Legal stamped) (DrainEnds stamped s.who result))
+  pub done : (stamped : List (List ℕ)) → Adds old new
+      (DoneSo stamped s.who s.writer s.work.initial result)
   pub last : Adds old new (LastOfDrain result)
 
 module _ (w : DrainAsked) where
@@ -198,15 +202,24 @@ module _ (w : DrainAsked) where
     stopped = λ stop. tt;
   }
 
+  -- what is said of a drain that is done, where others act as is supposed
+  abbrev SaysSo : List (List ℕ) → Result (Unit {0}) DrainFault → History → History → Type 0
+  SaysSo stamped result added history =
+      DoneSo stamped (setting_of w).who (setting_of w).writer w.initial result added history
+
   came_legally : (stamped : List (List ℕ)) (result : Result (Unit {0}) DrainFault)
       (r : Result (Unit {0}) Ending)
       (added history : History) → IsResultOf result r → IsAt result added history
       → DrainEnds stamped (setting_of w).who result (added ++ history)
+      → SaysSo stamped result added history
+      → Others (Outside stamped (started_by (Drain w))) added history → Legal stamped history
       → CameTo (Whole stamped (Drain w) history) (Shows (Drain w) history) r added history
-  came_legally stamped result r added history went_well at c =
-      let by = came (Ok tt) (Ok tt) added history went_well at in
-      record { running = by.running; stopped = by.stopped }
-  came_legally stamped result r added history (went_wrong {fault = fault} {e = e} is) at c =
+  came_legally stamped result r added history went_well at c done others legal = record {
+    running = λ run. record { ran = at.script; done = done others legal run };
+    stopped = (came (Ok tt) (Ok tt) added history went_well at).stopped;
+  }
+  came_legally stamped result r added history (went_wrong {fault = fault} {e = e} is) at c done
+      others legal =
       record {
         running =
             λ run. (
@@ -233,7 +246,10 @@ module _ (w : DrainAsked) where
     told stamped earlier =
         adds_both (Leads (RunSide stamped (Drain w)) (BeginsLegal stamped earlier)
         (EndsWith stamped (Drain w) r earlier))
-        (at_end result so) (so.told stamped)
+        (adds_both
+        (λ added history. IsAt result added history × SaysSo stamped result added history)
+        (at_end result so) (so.done stamped) (λ added history at d. (at, d)))
+        (so.told stamped)
         (λ added history at y. record {
           leads =
               λ others begins.
@@ -246,7 +262,8 @@ module _ (w : DrainAsked) where
                   holds =
                       subst (λ (h : History). CameTo (Whole stamped (Drain w) h)
                       (Shows (Drain w) h) r added h) begins.is
-                      (came_legally stamped result r added history is at c);
+                      (came_legally stamped result r added history is at.0 c at.1 others
+                      begins.legal);
                 };
               };
           own = y.own;

@@ -16,6 +16,7 @@ pub mod AgentEndings
 pub mod RoundRun
 pub mod CheckName
 pub mod LoadRun
+pub mod Statuses
 pub mod WorksAlive
 pub mod DrainFaults
 pub mod DrainRun

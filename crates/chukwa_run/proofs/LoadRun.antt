@@ -1,10 +1,10 @@
 -- A load under the rules of all processes.
-use Rattle.std.proofs.Common.{◌≡◌, inl, inr, ℕ, false, List, [], ◌∷◌, ◌++◌, Ok, Err, Option, Result, refl, sym, ◌∙◌, ap, subst, true≢false, arith}
-use Rattle.std.specs.Prelude.{Contains, codes}
+use Rattle.std.proofs.Common.{◌≡◌, inl, inr, ℕ, false, List, [], ◌∷◌, ◌++◌, Ok, Err, Option, Some, Result, refl, sym, ◌∙◌, ap, subst, true≢false, arith}
+use Rattle.std.specs.Prelude.{codes}
 use Rattle.std.proofs.lemmas.List.Elements.{Contains-append_left, Contains-append_right}
 use Rattle.chk_site.specs.declared.acts.Who.{Who}
 use Rattle.chk_site.specs.History.{History, is_stopped}
-use Rattle.chk_site.specs.Runs.{Leads, Owns, own_acts}
+use Rattle.chk_site.specs.Runs.{Leads, Owns}
 use Rattle.chk_site.specs.Site.{Adds}
 use Rattle.chk_site.proofs.Runs.{adds_as, adds_both}
 use Rattle.chk_world.specs.Rules.{Legal}
@@ -15,15 +15,14 @@ use Rattle.chk_round.specs.Rounded.{AfterRound}
 use Rattle.chk_load_run.specs.declared.ends.LoadEnd.{LoadEnd}
 use Rattle.chk_load_run.specs.declared.ends.LoadEnd.TheVariants as loads
 use Rattle.chk_load_run.specs.declared.ends.LoadReport.{LoadReport}
-use Rattle.chk_load_run.specs.Loads.{AfterLoad, AppendedSo, EndsRunning, LoadDone, LoadFailsLast, LoadTo, LoadsBy, PrintedSo}
-use Rattle.chk_load_run.specs.Pieces.{HasAppended}
+use Rattle.chk_load_run.specs.Loads.{AfterLoad, AppendedSo, EndsRunning, LoadDone, LoadFailsLast, LoadTo, LoadsBy, PrintedSo, RoundEndsSo}
 use Rattle.chk_load_run.specs.Processes.{IsLoadRun}
 use Rattle.chk_words.specs.declared.endings.Ending.{Ending}
 use Rattle.chk_words.specs.Commands.{Load}
 use Rattle.chukwa_run.specs.Processes.{RunSide, acting_for, chukwa, started_by}
 use Rattle.chukwa_run.specs.Whole.{Whole}
 use Rattle.chukwa_run.specs.Showing.{Shows}
-use Rattle.chukwa_run.specs.Loading.{IsLoadEnding, IsRoundEnding, LoadCut, LoadFault, LoadFits, LoadedOnce}
+use Rattle.chukwa_run.specs.Loading.{IsLoadEnding, IsRoundEnding, IsRoundOfLoad, LoadCut, LoadFault, LoadFits, LoadedOnce}
 use Rattle.chukwa_run.specs.Runs.{Begins, CameTo, CausedBy, EndsWith}
 
 -- the processes of the round are started, and they and the writer act
@@ -36,6 +35,14 @@ load_run lines = record {
   writes = Contains-append_right (processes (codes "load")) (chukwa ∷ []) chukwa (0, omega arith, refl);
 }
 
+-- what relates two told histories, of the steps that were added
+at_steps : (R : Option History → Option History → Type 0) {P : History → History → Type 0} {old new : Option History}
+    → R old new → Adds old new P → Adds old new (λ a h. P a h × R (Some h) (Some (a ++ h)))
+at_steps R {old = old} r p = record {
+  told = λ h e. let t = p.told h e in (t.0, t.1, (t.2, subst (λ o. R o (Some (t.0 ++ h))) e (subst (R old) t.1 r)));
+  untold = p.untold;
+}
+
 module _ (lines : ℕ) where
   -- what the library says of the load, between these told histories
   pub record IsLoad (result : Result LoadReport LoadEnd) (old new : Option History) : Type 0 where
@@ -46,6 +53,7 @@ module _ (lines : ℕ) where
     pub prints : Adds old new (PrintedSo result)
     pub runs : Adds old new (EndsRunning result)
     pub last : Adds old new (LoadFailsLast result)
+    pub round : RoundEndsSo lines result old new
 
   -- the result of the command by that of the library
   pub data IsResultOf : Result LoadReport LoadEnd → Result (Unit {0}) Ending → Type 0 where
@@ -59,37 +67,38 @@ module _ (lines : ℕ) where
     prints : PrintedSo result added history
     runs : EndsRunning result added history
     last : LoadFailsLast result added history
+    round : RoundEndsSo lines result (Some history) (Some (added ++ history))
 
   at_end : (result : Result LoadReport LoadEnd) {old new : Option History} → IsLoad result old new → Adds old new (IsAt result)
   at_end result s =
       adds_both (IsAt result)
-      (adds_both (λ a h. AppendedSo lines result a h × Owns LoadsBy a h) s.appends s.own (λ a h x y. (x, y)))
+      (at_steps (RoundEndsSo lines result) s.round
+      (adds_both (λ a h. AppendedSo lines result a h × Owns LoadsBy a h) s.appends s.own (λ a h x y. (x, y))))
       (adds_both (λ a h. PrintedSo result a h × EndsRunning result a h × LoadFailsLast result a h) s.prints
       (adds_both (λ a h. EndsRunning result a h × LoadFailsLast result a h) s.runs s.last (λ a h x y. (x, y))) (λ a h x y. (x, y.0, y.1)))
-      (λ a h x y. record { appends = x.0; own = x.1; prints = y.0; runs = y.1; last = y.2 })
+      (λ a h x y. record { appends = x.0.0; own = x.0.1; round = x.1; prints = y.0; runs = y.1; last = y.2 })
 
   -- ---- by the acts alone
 
-  round_fault : (fault : RoundFault) (e : Ending) (added : History) → IsRoundEnding fault e → HasAppended lines (own_acts added)
-      → LoadFault lines e added
-  round_fault (rounds.Outside call) e added is done = subst (λ (e : Ending). LoadFault lines e added) (sym is) (inr done)
-  round_fault rounds.NoMemory e added is done = subst (λ (e : Ending). LoadFault lines e added) (sym is) tt
-  round_fault (rounds.Damaged name at) e added is done = subst (λ (e : Ending). LoadFault lines e added) (sym is) done
-  round_fault (rounds.Checkpoint at) e added (inl is) done = subst (λ (e : Ending). LoadFault lines e added) (sym is) done
-  round_fault (rounds.Checkpoint at) e added (inr is) done = subst (λ (e : Ending). LoadFault lines e added) (sym is) tt
-  round_fault (rounds.Length stem got want) e added is done = subst (λ (e : Ending). LoadFault lines e added) (sym is) done
-  round_fault (rounds.Growing path reads) e added is done = subst (λ (e : Ending). LoadFault lines e added) (sym is) done
-  round_fault (rounds.Shrank path had size) e added is done = subst (λ (e : Ending). LoadFault lines e added) (sym is) done
-  round_fault (rounds.Spent number) e added is done = subst (λ (e : Ending). LoadFault lines e added) (sym is) done
-  round_fault (rounds.Refused code) e added is done = subst (λ (e : Ending). LoadFault lines e added) (sym is) done
+  round_fault : (fault : RoundFault) (e : Ending) (added history : History) → IsRoundEnding fault e
+      → IsRoundOfLoad lines fault history added → LoadFault lines history e added
+  round_fault (rounds.Outside call) e added history is so = rw is (inr so)
+  round_fault rounds.NoMemory e added history is so = rw is tt
+  round_fault (rounds.Damaged name at) e added history is so = rw is (inl so)
+  round_fault (rounds.Checkpoint at) e added history (inl is) so = rw is (inr (refl, so))
+  round_fault (rounds.Checkpoint at) e added history (inr is) so = rw is tt
+  round_fault (rounds.Length stem got want) e added history is so = rw is so
+  round_fault (rounds.Growing path reads) e added history is so = rw is so
+  round_fault (rounds.Shrank path had size) e added history is so = rw is so
+  round_fault (rounds.Spent number) e added history is so = rw is so
+  round_fault (rounds.Refused code) e added history is so = rw is so
 
   fault_so : (end : LoadEnd) (e : Ending) (added history : History) → IsLoadEnding end e → IsAt (Err end) added history
-      → is_stopped (added ++ history) ≡ false → LoadFault lines e added
-  fault_so (loads.Outside call) e added history is at running =
-      subst (λ (e : Ending). LoadFault lines e added) (sym is) (inl (at.last running, at.appends))
-  fault_so loads.NoMemory e added history is at running = subst (λ (e : Ending). LoadFault lines e added) (sym is) tt
-  fault_so (loads.Round fault) e added history is at running = round_fault fault e added is at.appends
-  fault_so (loads.Unclosed name) e added history is at running = subst (λ (e : Ending). LoadFault lines e added) (sym is) at.appends
+      → is_stopped (added ++ history) ≡ false → LoadFault lines history e added
+  fault_so (loads.Outside call) e added history is at running = rw is (inl (at.last running, at.appends))
+  fault_so loads.NoMemory e added history is at running = rw is tt
+  fault_so (loads.Round fault) e added history is at running = round_fault fault e added history is (at.appends, at.round)
+  fault_so (loads.Unclosed name) e added history is at running = rw is at.appends
 
   cut_so : (end : LoadEnd) (e : Ending) (added history : History) → IsLoadEnding end e → IsAt (Err end) added history
       → is_stopped (added ++ history) ≡ false → LoadCut lines history e added
@@ -129,7 +138,7 @@ module _ (lines : ℕ) where
   round_fits stamped (rounds.Shrank path had size) e added history is c running =
       subst (λ (e : Ending). LoadFits lines history e added) (sym is) tt
   round_fits stamped (rounds.Spent number) e added history is c running =
-      subst (λ (e : Ending). LoadFits lines history e added) (sym is) tt
+      subst (λ (e : Ending). LoadFits lines history e added) (sym is) (c.alive running)
   round_fits stamped (rounds.Refused code) e added history is c running = absurd (c.never running)
 
   fits_so : (stamped : List (List ℕ)) (end : LoadEnd) (e : Ending) (added history : History) → IsLoadEnding end e
@@ -149,7 +158,7 @@ module _ (lines : ℕ) where
   round_legal stamped (rounds.Length stem got want) h c = c
   round_legal stamped (rounds.Growing path reads) h c = c
   round_legal stamped (rounds.Shrank path had size) h c = c
-  round_legal stamped (rounds.Spent number) h c = c
+  round_legal stamped (rounds.Spent number) h c = c.legal
   round_legal stamped (rounds.Refused code) h c = c.legal
 
   legal_so : (stamped : List (List ℕ)) (result : Result LoadReport LoadEnd) (h : History) → AfterLoad stamped result h → Legal stamped h

@@ -27,8 +27,9 @@ use Rattle.chukwa_run.specs.Showing.{Shows}
 use Rattle.chukwa_run.specs.Whole.{Whole}
 
 -- what the library says of the run, between these told histories
-pub record IsRoundRun (source kind : List ℕ) (logs : List (List ℕ)) (result : Result (Unit {0}) RoundEnd) (old new : Option History) : Type 0 where
-  pub ran : RunsRound source kind logs result old new
+pub record IsRoundRun (source kind : List ℕ) (logs : List (List ℕ)) (reads : ℕ) (result : Result (Unit {0}) RoundEnd)
+    (old new : Option History) : Type 0 where
+  pub ran : RunsRound source kind logs reads result old new
   pub last : Adds old new (EndsByCall result)
   pub told : (stamped : List (List ℕ)) (started acting : List Who) → IsRunOf source started acting
       → Adds old new (RunsTo stamped started acting source kind logs result)
@@ -39,11 +40,12 @@ pub data IsResultOf (source : List ℕ) : Result (Unit {0}) RoundEnd → Result 
   went_wrong : {end : RoundEnd} {e : Ending} → IsRoundEnding source end e → IsResultOf source (Err end) (Err e)
 
 pub of_words : (w : RoundAsked) (given : RoundWords) → AreWordsOf w given → (result : Result (Unit {0}) RoundEnd) {old new : Option History}
-    → IsRoundRun given.source given.kind given.logs.items result old new → IsRoundRun w.source w.kind w.logs result old new
+    → IsRoundRun given.source given.kind given.logs.items given.reads result old new → IsRoundRun w.source w.kind w.logs w.reads result old new
 of_words w given are result {old = old} {new = new} run =
-    subst (λ ls. IsRoundRun w.source w.kind ls result old new) are.logs
-    (subst (λ k. IsRoundRun w.source k given.logs.items result old new) are.kind
-    (subst (λ n. IsRoundRun n given.kind given.logs.items result old new) are.source run))
+    subst (λ m. IsRoundRun w.source w.kind w.logs m result old new) are.reads
+    (subst (λ ls. IsRoundRun w.source w.kind ls given.reads result old new) are.logs
+    (subst (λ k. IsRoundRun w.source k given.logs.items given.reads result old new) are.kind
+    (subst (λ n. IsRoundRun n given.kind given.logs.items given.reads result old new) are.source run)))
 
 module _ (w : RoundAsked) where
   -- the processes of the run are those that the command starts
@@ -87,7 +89,7 @@ module _ (w : RoundAsked) where
     to : RunsTo stamped started acting w.source w.kind w.logs result added history
 
   at_end : (result : Result (Unit {0}) RoundEnd) (stamped : List (List ℕ)) (started acting : List Who) → IsRunOf w.source started acting
-      → {old new : Option History} → IsRoundRun w.source w.kind w.logs result old new → Adds old new (IsAt result stamped started acting)
+      → {old new : Option History} → IsRoundRun w.source w.kind w.logs w.reads result old new → Adds old new (IsAt result stamped started acting)
   at_end result stamped started acting run {old = old} {new = new} s =
       let both : Adds old new (λ added history. RunsTo stamped started acting w.source w.kind w.logs result added history
       × EndsByCall result added history) =
@@ -101,8 +103,8 @@ module _ (w : RoundAsked) where
               t.1,
               record {
                 script =
-                    subst (λ (o : Option History). RunsRound w.source w.kind w.logs result o (Some (t.0 ++ history))) e
-                    (subst (λ (n : Option History). RunsRound w.source w.kind w.logs result old n) t.1 s.ran);
+                    subst (λ (o : Option History). RunsRound w.source w.kind w.logs w.reads result o (Some (t.0 ++ history))) e
+                    (subst (λ (n : Option History). RunsRound w.source w.kind w.logs w.reads result old n) t.1 s.ran);
                 last = t.2.1;
                 to = t.2.0;
               },
@@ -124,7 +126,7 @@ module _ (w : RoundAsked) where
   }
 
   pub causes : (result : Result (Unit {0}) RoundEnd) (r : Result (Unit {0}) Ending) {old new : Option History} → IsResultOf w.source result r
-      → IsRoundRun w.source w.kind w.logs result old new → Adds old new (CausedBy (Round w) r)
+      → IsRoundRun w.source w.kind w.logs w.reads result old new → Adds old new (CausedBy (Round w) r)
   causes result r is s =
       adds_as (CausedBy (Round w) r) (at_end result [] (processes w.source) (processes w.source) alone s)
       (λ added history at. came result r added history is at)
@@ -144,7 +146,7 @@ module _ (w : RoundAsked) where
     fault_fits (rounds.Length stem got want) e earlier added is c running = subst (λ (e : Ending). RoundFits w earlier e added) (sym is) tt
     fault_fits (rounds.Growing path reads) e earlier added is c running = subst (λ (e : Ending). RoundFits w earlier e added) (sym is) tt
     fault_fits (rounds.Shrank path had has) e earlier added is c running = subst (λ (e : Ending). RoundFits w earlier e added) (sym is) tt
-    fault_fits (rounds.Spent number) e earlier added is c running = subst (λ (e : Ending). RoundFits w earlier e added) (sym is) tt
+    fault_fits (rounds.Spent number) e earlier added is c running = subst (λ (e : Ending). RoundFits w earlier e added) (sym is) (c.alive running)
     fault_fits (rounds.Refused code) e earlier added is c running = absurd (c.never running)
 
     fits_so : (end : RoundEnd) (e : Ending) (earlier added : History) → IsRoundEnding w.source end e → At (Err end) added earlier
@@ -163,7 +165,7 @@ module _ (w : RoundAsked) where
     fault_legal (rounds.Length stem got want) h c = c
     fault_legal (rounds.Growing path reads) h c = c
     fault_legal (rounds.Shrank path had has) h c = c
-    fault_legal (rounds.Spent number) h c = c
+    fault_legal (rounds.Spent number) h c = c.legal
     fault_legal (rounds.Refused code) h c = c.legal
 
     legal_so : (result : Result (Unit {0}) RoundEnd) (h : History) → AfterRun stamped result h → Legal stamped h
@@ -184,7 +186,7 @@ module _ (w : RoundAsked) where
     }
 
     pub told : (earlier : History) (result : Result (Unit {0}) RoundEnd) (r : Result (Unit {0}) Ending) {old new : Option History}
-        → IsResultOf w.source result r → IsRoundRun w.source w.kind w.logs result old new
+        → IsResultOf w.source result r → IsRoundRun w.source w.kind w.logs w.reads result old new
         → Adds old new (Leads (RunSide stamped (Round w)) (Begins stamped earlier) (EndsWith stamped (Round w) r earlier))
     told earlier result r is s =
         adds_as (Leads (RunSide stamped (Round w)) (Begins stamped earlier) (EndsWith stamped (Round w) r earlier))

@@ -1,10 +1,11 @@
--- The script of a drain.
-use Rattle.std.specs.Prelude.{ℕ, List, ◌++◌, Option, Some, Result}
+-- A drain as a command: its script, and what the status 0 says of it.
+use Rattle.std.specs.Prelude.{ℕ, List, ◌++◌, Option, Some, Result, Ok}
 use Rattle.chk_site.specs.History.{History}
 use Rattle.chk_failover.specs.Turns.{Turns}
 use Rattle.chk_agent.specs.declared.agent.Rules.{Rules}
 use Rattle.chk_drain_run.specs.declared.faults.DrainFault.{DrainFault}
 use Rattle.chk_drain_run.specs.declared.run.Work.{Work}
+use Rattle.chk_drain_run.specs.Done.{DrainDone}
 use Rattle.chk_drain_run.specs.Drains.{HasDrained}
 use Rattle.chk_words.specs.Commands.{DrainAsked}
 use Rattle.chukwa_run.specs.declared.draining.Setting.{Setting}
@@ -43,3 +44,10 @@ HasDrainedIn s result old new = HasDrained s.who s.writer s.ring s.rules s.work 
 abbrev pub DrainScript : DrainAsked → Result Unit DrainFault → History → History → Type 0
 DrainScript w result earlier added =
     HasDrainedIn (setting_of w) result (Some earlier) (Some (added ++ earlier))
+
+-- Each live line of the checkpoint is at the end that the whole log of its stream had at a moment
+-- behind the start, and just the live lines were printed then. Live are the streams that were so
+-- at the start, and those that the initial file adds.
+pub record DrainWhole (w : DrainAsked) (earlier added : History) : Type 0 where
+  pub ran : DrainScript w (Ok tt) earlier added
+  pub done : DrainDone (the_agent w.source) chukwa w.initial added earlier

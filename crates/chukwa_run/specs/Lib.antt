@@ -9,4 +9,5 @@ pub mod Whole
 pub mod Showing
 pub mod Causes
 pub mod Saying
+pub mod Statuses
 pub mod Runs

@@ -1,14 +1,15 @@
 -- What a load that is a command comes to.
-use Rattle.std.specs.Prelude.{◌≡◌, ◌⊎◌, ℕ, List, [], ◌∷◌, ◌++◌, codes, Ok, Err}
+use Rattle.std.specs.Prelude.{◌≡◌, ◌⊎◌, ℕ, [], ◌∷◌, ◌++◌, codes, Some, Ok, Err}
 use Rattle.chk_site.specs.History.{History}
 use Rattle.chk_site.specs.Runs.{Owns, own_acts}
 use Rattle.chk_site.specs.Site.{EndsIn}
 use Rattle.chk_round.specs.declared.faults.RoundFault.{RoundFault}
 use Rattle.chk_round.specs.declared.faults.RoundFault.TheVariants as rounds
+use Rattle.chk_round.specs.Spent.{IsSpentRound}
 use Rattle.chk_load_run.specs.declared.ends.LoadEnd.{LoadEnd}
 use Rattle.chk_load_run.specs.declared.ends.LoadEnd.TheVariants as loads
 use Rattle.chk_load_run.specs.declared.ends.LoadReport.{LoadReport}
-use Rattle.chk_load_run.specs.Loads.{LoadDone, LoadsBy, summary_line}
+use Rattle.chk_load_run.specs.Loads.{EndsAsRound, LoadDone, LoadsBy, summary_line}
 use Rattle.chk_load_run.specs.Pieces.{AppendsFront, HasAppended, done_print, of_writer}
 use Rattle.chk_words.specs.declared.endings.Ending.{Ending}
 use Rattle.chk_words.specs.declared.endings.Ending.TheVariants.{Outside, NoMemory, Damaged, Length, Growing, Unclosed, Shrank, Spent, Refused}
@@ -30,26 +31,50 @@ LoadWhole lines earlier added =
 
 -- ---- how it ends otherwise
 
+-- all lines were appended, and the round behind that ended by this fault
+abbrev pub IsRoundOfLoad : ℕ → RoundFault → History → History → Type 0
+IsRoundOfLoad lines fault earlier added =
+    HasAppended lines (own_acts added)
+    × EndsAsRound lines fault (Some earlier) (Some (added ++ earlier))
+
 -- A call of the load's own that failed is the last one. Each other end than want of memory comes
--- from the round, before which all lines were appended.
-abbrev pub LoadFault : ℕ → Ending → History → Type 0
-LoadFault lines (Outside call) added =
-    (EndsIn call added × AppendsFront lines (own_acts added)) ⊎ HasAppended lines (own_acts added)
-LoadFault lines NoMemory added = Unit {0}
-LoadFault lines e added = HasAppended lines (own_acts added)
+-- from the round, before which all lines were appended: it is the round's fault, or the checkpoint
+-- of its agent is damaged, or the round is done and found a sink of another collector.
+abbrev pub LoadFault : ℕ → History → Ending → History → Type 0
+LoadFault lines earlier (Outside call) added =
+    (EndsIn call added × AppendsFront lines (own_acts added))
+    ⊎ IsRoundOfLoad lines (rounds.Outside call) earlier added
+LoadFault lines earlier NoMemory added = Unit {0}
+LoadFault lines earlier (Damaged name at) added =
+    IsRoundOfLoad lines (rounds.Damaged name at) earlier added
+    ⊎ ((name ≡ codes "agents/load.check")
+    × IsRoundOfLoad lines (rounds.Checkpoint at) earlier added)
+LoadFault lines earlier (Length stem got want) added =
+    IsRoundOfLoad lines (rounds.Length stem got want) earlier added
+LoadFault lines earlier (Growing path reads) added =
+    IsRoundOfLoad lines (rounds.Growing path reads) earlier added
+LoadFault lines earlier (Unclosed name) added = HasAppended lines (own_acts added)
+LoadFault lines earlier (Shrank path had has) added =
+    IsRoundOfLoad lines (rounds.Shrank path had has) earlier added
+LoadFault lines earlier (Spent number) added =
+    IsRoundOfLoad lines (rounds.Spent number) earlier added
+LoadFault lines earlier (Refused code) added =
+    IsRoundOfLoad lines (rounds.Refused code) earlier added
 
 -- no summary was printed
 pub record LoadCut (lines : ℕ) (earlier : History) (e : Ending) (added : History) : Type 0 where
   pub own : Owns LoadsBy added earlier
   pub unprinted : of_writer done_print (own_acts added) ≡ []
-  pub fault : LoadFault lines e added
+  pub fault : LoadFault lines earlier e added
 
 -- In a legal history nothing of the program's own is damaged, and the agent gets the replies that
--- were made. A sink of another collector under writing ends only a load that is done.
+-- were made. A sink of another collector under writing ends only a load that is done. Where a number
+-- is spent it is that of the collector's starts, of its sinks or of the archive's segments.
 abbrev pub LoadFits : ℕ → History → Ending → History → Type 0
 LoadFits lines earlier (Damaged name at) added = ⊥
 LoadFits lines earlier (Refused code) added = ⊥
 LoadFits lines earlier (Unclosed name) added = LoadDone lines (Err (loads.Unclosed name)) added earlier
+LoadFits lines earlier (Spent n) added = IsSpentRound (codes "c1") n (added ++ earlier)
 LoadFits lines earlier e added = Unit {0}
 
 -- ---- which ending a fault is

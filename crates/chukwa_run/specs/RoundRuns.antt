@@ -1,10 +1,11 @@
 -- A round as a command: what the status 0 says of it, and what its other ends show.
-use Rattle.std.specs.Prelude.{◌≡◌, ◌⊎◌, ℕ, List, ◌++◌, Some, Result, Ok, Err}
+use Rattle.std.specs.Prelude.{◌≡◌, ◌⊎◌, ℕ, List, ◌++◌, codes, Some, Result, Ok, Err}
 use Rattle.chk_site.specs.History.{History}
 use Rattle.chk_world.specs.Names.{CheckFile, spell}
 use Rattle.chk_round.specs.declared.faults.RoundFault.{RoundFault}
 use Rattle.chk_round.specs.declared.faults.RoundFault.TheVariants as rounds
 use Rattle.chk_round.specs.declared.words.RoundWords.{RoundWords}
+use Rattle.chk_round.specs.Spent.{IsSpentRound}
 use Rattle.chk_round_run.specs.declared.ends.RoundEnd.{RoundEnd}
 use Rattle.chk_round_run.specs.declared.ends.RoundEnd.TheVariants.{Fault, Unclosed as FoundUnclosed}
 use Rattle.chk_round_run.specs.Running.{DoneAndTold, EndsByCall, RunsRound}
@@ -25,7 +26,8 @@ pub record AreWordsOf (w : RoundAsked) (given : RoundWords) : Type 0 where
 
 -- the script of the run: a round, and then its lines
 abbrev pub RoundScript : RoundAsked → Result (Unit {0}) RoundEnd → History → History → Type 0
-RoundScript w result earlier added = RunsRound w.source w.kind w.logs result (Some earlier) (Some (added ++ earlier))
+RoundScript w result earlier added =
+    RunsRound w.source w.kind w.logs w.reads result (Some earlier) (Some (added ++ earlier))
 
 -- the round was done in the first of these steps, and in those behind it just its lines were printed
 pub record RoundWhole (w : RoundAsked) (earlier added : History) : Type 0 where
@@ -70,9 +72,11 @@ RoundCut w earlier (Spent number) added = IsRoundCut w (rounds.Spent number) ear
 RoundCut w earlier (Refused code) added = IsRoundCut w (rounds.Refused code) earlier added
 
 -- In a legal history nothing of its own is damaged, and the agent gets the replies that were made.
--- Where another collector's sink is under writing, all else was done and told.
+-- Where a number is spent it is that of the collector's starts, of its sinks or of the archive's
+-- segments. Where another collector's sink is under writing, all else was done and told.
 abbrev pub RoundFits : RoundAsked → History → Ending → History → Type 0
 RoundFits w earlier (Damaged name at) added = ⊥
 RoundFits w earlier (Refused code) added = ⊥
 RoundFits w earlier (Unclosed name) added = DoneAndTold w.source w.kind w.logs (Err (FoundUnclosed name)) added earlier
+RoundFits w earlier (Spent n) added = IsSpentRound (codes "c1") n (added ++ earlier)
 RoundFits w earlier e added = Unit {0}

@@ -31,7 +31,7 @@ use Rattle.chukwa_run.specs.Demuxing.{DemuxedOnce, DemuxWhole}
 use Rattle.chukwa_run.specs.Loading.{LoadDid, LoadWhole}
 use Rattle.chukwa_run.specs.RoundRuns.{RoundScript, RoundWhole}
 use Rattle.chukwa_run.specs.Processes.{the_agent, the_collector, chukwa}
-use Rattle.chukwa_run.specs.Draining.{DrainScript}
+use Rattle.chukwa_run.specs.Draining.{DrainScript, DrainWhole}
 
 -- ---- a salvage
 
@@ -113,7 +113,7 @@ abbrev pub Whole : List (List ℕ) → Asked → History → History → Type 0
 Whole stamped (Round w) earlier added = RoundWhole w earlier added
 Whole stamped (Agent w) earlier added = AgentWhole w earlier added
 Whole stamped (Collector w) earlier added = CollectorWhole w earlier added
-Whole stamped (Drain w) earlier added = DrainScript w (Ok tt) earlier added
+Whole stamped (Drain w) earlier added = DrainWhole w earlier added
 Whole stamped Archive earlier added = ArchiveWhole earlier added
 Whole stamped (Demux kinds) earlier added = DemuxWhole stamped earlier added
 Whole stamped (Salvage file) earlier added = SalvagePrinted file earlier added

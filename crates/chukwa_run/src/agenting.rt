@@ -17,6 +17,7 @@ ghost use Rattle.chukwa_run.specs.Processes.{the_agent, RunSide};
 ghost use Rattle.chukwa_run.specs.Whole.{ring_of, rules_of, work_of};
 ghost use Rattle.chukwa_run.specs.Runs.{Begins, EndsWith, CausedBy};
 ghost use Rattle.chukwa_run.specs.Causes.{EndingCause, IsRunEnding, IsDamagedAt};
+ghost use Rattle.chukwa_run.specs.Statuses.{HasItsStatus};
 
 use crate::saying::writer;
 use chk_agent::Rules;
@@ -41,6 +42,7 @@ pub fn run_agent_of<S: Site>(
         (EndsWith stamped (AgentCommand (agent_of given.now)) result earlier)) }
     ensures causes { Adds (S.told site.old) (S.told site.new) (CausedBy (AgentCommand (agent_of given.now)) result) }
     ensures cause { EndingCause (S.fault_count site.old) (S.fault_count site.new) result }
+    ensures status { HasItsStatus (AgentCommand (agent_of given.now)) result }
 {
     let Ok(who) = agent(alloc, given.source) else {
         return Err(Ending::NoMemory);

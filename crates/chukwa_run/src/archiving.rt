@@ -9,6 +9,7 @@ ghost use Rattle.chk_words.specs.Commands.{Archive};
 ghost use Rattle.chukwa_run.specs.Processes.{RunSide};
 ghost use Rattle.chukwa_run.specs.Runs.{Begins, EndsWith, CausedBy};
 ghost use Rattle.chukwa_run.specs.Causes.{EndingCause, job_ending};
+ghost use Rattle.chukwa_run.specs.Statuses.{HasItsStatus};
 
 use chk_archive::JobFault;
 use chk_archive_run::run_archive;
@@ -23,6 +24,7 @@ pub fn run_job<S: Site>(alloc: Global, site: &mut S) -> Result<(), Ending>
         (Leads (RunSide stamped Archive) (Begins stamped earlier) (EndsWith stamped Archive result earlier)) }
     ensures causes { Adds (S.told site.old) (S.told site.new) (CausedBy Archive result) }
     ensures cause { EndingCause (S.fault_count site.old) (S.fault_count site.new) result }
+    ensures status { HasItsStatus Archive result }
 {
     let Ok(who) = job(alloc) else {
         return Err(Ending::NoMemory);

@@ -11,6 +11,7 @@ ghost use Rattle.chukwa_run.specs.Processes.{the_collector, RunSide};
 ghost use Rattle.chukwa_run.specs.Runs.{Begins, EndsWith, CausedBy};
 ghost use Rattle.chk_words.specs.Commands.{collector_of};
 ghost use Rattle.chukwa_run.specs.Causes.{EndingCause, sink_ending};
+ghost use Rattle.chukwa_run.specs.Statuses.{HasItsStatus};
 
 use chk_bytes::{NoMemory, Word};
 use chk_collect::collect;
@@ -33,6 +34,7 @@ pub fn run_collector<S: Site>(
         (EndsWith stamped (CollectorCommand (collector_of given.now)) result earlier)) }
     ensures causes { Adds (S.told site.old) (S.told site.new) (CausedBy (CollectorCommand (collector_of given.now)) result) }
     ensures cause { EndingCause (S.fault_count site.old) (S.fault_count site.new) result }
+    ensures status { HasItsStatus (CollectorCommand (collector_of given.now)) result }
 {
     let Ok(who) = collector(alloc, given.name) else {
         return Err(Ending::NoMemory);

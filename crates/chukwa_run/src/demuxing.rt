@@ -11,6 +11,7 @@ ghost use Rattle.chk_words.specs.Commands.{Demux};
 ghost use Rattle.chukwa_run.specs.Processes.{RunSide};
 ghost use Rattle.chukwa_run.specs.Runs.{Begins, EndsWith, CausedBy};
 ghost use Rattle.chukwa_run.specs.Causes.{EndingCause};
+ghost use Rattle.chukwa_run.specs.Statuses.{HasItsStatus};
 
 use crate::agenting::words_of;
 use crate::archiving::{ending_of, job};
@@ -28,6 +29,7 @@ pub fn run_split<S: Site>(alloc: Global, site: &mut S, kinds: &[&str]) -> Result
         (EndsWith stamped (Demux (map (λ t. t.now) kinds.now)) result earlier)) }
     ensures causes { Adds (S.told site.old) (S.told site.new) (CausedBy (Demux (map (λ t. t.now) kinds.now)) result) }
     ensures cause { EndingCause (S.fault_count site.old) (S.fault_count site.new) result }
+    ensures status { HasItsStatus (Demux (map (λ t. t.now) kinds.now)) result }
 {
     let Ok(who) = job(alloc) else {
         return Err(Ending::NoMemory);

@@ -14,6 +14,7 @@ ghost use Rattle.chukwa_run.specs.Processes.{RunSide};
 ghost use Rattle.chukwa_run.specs.Draining.{setting_of, drain_rules, drain_work};
 ghost use Rattle.chukwa_run.specs.Runs.{Begins, EndsWith, CausedBy};
 ghost use Rattle.chukwa_run.specs.Causes.{EndingCause, IsDrainEnding};
+ghost use Rattle.chukwa_run.specs.Statuses.{HasItsStatus};
 
 use crate::agenting::{agent, ending_of as run_ending, ring, word_if_any};
 use crate::saying::writer;
@@ -53,6 +54,7 @@ pub fn run_drain_of<S: Site>(
     ensures causes { Adds (S.told site.old) (S.told site.new)
         (CausedBy (Drain (drain_of given.now)) result) }
     ensures cause { EndingCause (S.fault_count site.old) (S.fault_count site.new) result }
+    ensures status { HasItsStatus (Drain (drain_of given.now)) result }
 {
     let Ok(setting) = set_up(alloc, given) else {
         return Err(Ending::NoMemory);

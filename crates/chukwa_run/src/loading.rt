@@ -10,6 +10,7 @@ ghost use Rattle.chukwa_run.specs.Processes.{RunSide};
 ghost use Rattle.chukwa_run.specs.Runs.{Begins, EndsWith, CausedBy};
 ghost use Rattle.chukwa_run.specs.Causes.{EndingCause};
 ghost use Rattle.chukwa_run.specs.Loading.{IsLoadEnding, IsRoundEnding};
+ghost use Rattle.chukwa_run.specs.Statuses.{HasItsStatus};
 
 use chk_bytes::Word;
 use chk_load_run::{LoadEnd, run_load};
@@ -25,6 +26,7 @@ pub fn run_load_of<S: Site>(alloc: Global, site: &mut S, lines: u64) -> Result<(
         (Leads (RunSide stamped (Load lines)) (Begins stamped earlier) (EndsWith stamped (Load lines) result earlier)) }
     ensures causes { Adds (S.told site.old) (S.told site.new) (CausedBy (Load lines) result) }
     ensures cause { EndingCause (S.fault_count site.old) (S.fault_count site.new) result }
+    ensures status { HasItsStatus (Load lines) result }
 {
     match run_load(alloc, site, lines) {
         Ok(_report) => Ok(()),

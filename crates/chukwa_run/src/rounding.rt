@@ -12,6 +12,7 @@ ghost use Rattle.chukwa_run.specs.Processes.{RunSide};
 ghost use Rattle.chukwa_run.specs.Runs.{Begins, EndsWith, CausedBy};
 ghost use Rattle.chukwa_run.specs.Causes.{EndingCause};
 ghost use Rattle.chukwa_run.specs.RoundRuns.{AreWordsOf, IsFaultEnding, IsRoundEnding};
+ghost use Rattle.chukwa_run.specs.Statuses.{HasItsStatus};
 
 use crate::agenting::{check_name, damaged, words_of};
 use chk_bytes::{NoMemory, Word};
@@ -34,6 +35,7 @@ pub fn run_whole_round<S: Site>(
         (EndsWith stamped (RoundCommand (round_of given.now)) result earlier)) }
     ensures causes { Adds (S.told site.old) (S.told site.new) (CausedBy (RoundCommand (round_of given.now)) result) }
     ensures cause { EndingCause (S.fault_count site.old) (S.fault_count site.new) result }
+    ensures status { HasItsStatus (RoundCommand (round_of given.now)) result }
 {
     let Ok(words) = owned(alloc, given) else {
         return Err(Ending::NoMemory);

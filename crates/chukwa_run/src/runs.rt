@@ -1,6 +1,6 @@
 //! A run of the program.
 
-ghost use Rattle.std.specs.Prelude.{◌≡◌, ◌≢◌, ◌≤◌, ℕ, List, map, Some, None};
+ghost use Rattle.std.specs.Prelude.{◌≡◌, ◌≢◌, ◌⊎◌, ◌≤◌, ℕ, List, map, Contains, Some, None};
 ghost use Rattle.chk_site.specs.History.{History};
 ghost use Rattle.chk_site.specs.Site.{Adds, Rose};
 ghost use Rattle.chk_site.specs.Runs.{Leads};
@@ -11,6 +11,7 @@ ghost use Rattle.chukwa_run.specs.Demuxing.{SuitsTypes};
 ghost use Rattle.chukwa_run.specs.Processes.{RunSide};
 ghost use Rattle.chukwa_run.specs.Runs.{Begins, Ends, Caused, SaysUsage};
 ghost use Rattle.chukwa_run.specs.Saying.{SaysEnding, IsOutsideEnd};
+ghost use Rattle.chukwa_run.specs.Statuses.{statuses_of};
 
 use crate::agenting::run_agent_of;
 use crate::archiving::run_job;
@@ -74,6 +75,9 @@ pub fn run<'a, S: Site>(alloc: Global, site: &mut S, words: &'a [&'a str]) -> u8
     ensures unasked { asked (map (λ w. w.now) words.now) ≡ None → Adds (S.told site.old) (S.told site.new)
         (SaysUsage (usage_line (map (λ w. w.now) words.now)) result) }
     ensures outside_cause { result ≡ 3 → Rose (S.fault_count site.old) (S.fault_count site.new) }
+    ensures refused { asked (map (λ w. w.now) words.now) ≡ None → (result ≡ 2) ⊎ (result ≡ 4) }
+    ensures statuses { (command : Asked) → asked (map (λ w. w.now) words.now) ≡ Some command
+        → Contains (statuses_of command) result }
 {
     match read_words(alloc, words) {
         Ok(Command::Round(given)) => {

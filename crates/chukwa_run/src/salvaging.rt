@@ -9,6 +9,7 @@ ghost use Rattle.chk_words.specs.Commands.{Salvage};
 ghost use Rattle.chukwa_run.specs.Processes.{RunSide};
 ghost use Rattle.chukwa_run.specs.Runs.{Begins, EndsWith, CausedBy};
 ghost use Rattle.chukwa_run.specs.Causes.{EndingCause, IsEndingOf};
+ghost use Rattle.chukwa_run.specs.Statuses.{HasItsStatus};
 
 use crate::saying::writer;
 use chk_bytes::Word;
@@ -25,6 +26,7 @@ pub fn run_salvage<S: Site>(alloc: Global, site: &mut S, file: &str) -> Result<(
         (EndsWith stamped (Salvage file.now) result earlier)) }
     ensures causes { Adds (S.told site.old) (S.told site.new) (CausedBy (Salvage file.now) result) }
     ensures cause { EndingCause (S.fault_count site.old) (S.fault_count site.new) result }
+    ensures status { HasItsStatus (Salvage file.now) result }
 {
     let Ok(writer) = writer(alloc) else {
         return Err(Ending::NoMemory);

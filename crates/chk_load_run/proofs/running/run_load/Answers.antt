@@ -1,6 +1,6 @@
 use Rattle.std.proofs.lemmas.Result.{err_from_is_err_and}
 use Rattle.chk_load_run.specs.Loads.{summary_line}
-use Rattle.chk_load_run.proofs.LoadClauses.{cut_end, done_end, round_end, unclosed_end, unsaid_end}
+use Rattle.chk_load_run.proofs.LoadClauses.{cut_end, done_end, outside_ends, round_end, round_ends, summed_ends, unclosed_end, unsaid_end}
 use Rattle.chk_load_run.proofs.running.run_load.Goals as goal
 
 pub returns-in_err-bytes-clause-told : goal.returns-in_err-bytes-clause-told
@@ -210,3 +210,28 @@ returns-clause-last g c =
     (done_end c.args.lines c.in_ok-writer.writer c.in_ok-writer.ensures c.in_ok-bytes.bytes c.in_ok-bytes.ensures.writes
     c.in_ok-words.words.source c.in_ok-words.ensures.source c.in_ok-rounded.rounded c.in_ok-rounded.ensures.told
     c.in_ok-report.report c.in_ok-report.ensures c.in_ok-tell.ensures.says).last
+
+pub returns-in_err-bytes-clause-round : goal.returns-in_err-bytes-clause-round
+returns-in_err-bytes-clause-round g c =
+    let p = err_from_is_err_and c.from_residual-in_err-bytes.result c.from_residual-in_err-bytes.ensures.1 in
+    rw (p.1, p.2) (outside_ends c.args.lines c.in_err-bytes.field-0.0 _ _)
+
+pub returns-in_err-rounded-clause-round : goal.returns-in_err-rounded-clause-round
+returns-in_err-rounded-clause-round g c =
+    let p = err_from_is_err_and c.from_residual-in_err-rounded.result c.from_residual-in_err-rounded.ensures.1 in
+    let s = c.in_err-rounded.ensures in
+    rw (p.1, p.2)
+    (round_ends c.args.lines c.in_ok-writer.writer c.in_ok-writer.ensures c.in_ok-bytes.bytes c.in_ok-bytes.ensures.writes
+    c.in_ok-words.words c.in_ok-words.ensures c.in_err-rounded.field-0.0
+    (record { script = s.script; length = s.length; last = s.last }))
+
+pub returns-in_err-report-clause-round : goal.returns-in_err-report-clause-round
+returns-in_err-report-clause-round g c =
+    let p = err_from_is_err_and c.from_residual-in_err-report.result c.from_residual-in_err-report.ensures.1 in
+    rw (p.1, p.2)
+    (summed_ends c.in_ok-rounded.rounded c.args.lines c.in_ok-bytes.bytes c.in_err-report.field-0.0 _ _ c.in_err-report.ensures)
+
+pub returns-in_err-tell-clause-round : goal.returns-in_err-tell-clause-round
+returns-in_err-tell-clause-round g c =
+    let p = err_from_is_err_and c.from_residual-in_err-tell.result c.from_residual-in_err-tell.ensures.1 in
+    rw (p.1, p.2) (outside_ends c.args.lines c.in_err-tell.field-0.0 _ _)

@@ -15,6 +15,7 @@ use Rattle.chk_round.proofs.Given.{given_behind}
 use Rattle.chk_round.proofs.NonePast.{quiet_none_past, sends_then}
 use Rattle.chk_round.proofs.Theirs.{closes_theirs}
 use Rattle.chk_round.proofs.NoRead.{job_plain, sinks_plain}
+use Rattle.chk_round.proofs.Acts.{acts_then, archive_acts, tick_acts}
 use Rattle.chk_round.proofs.closing.close.Goals as goal
 
 pub returns-in_err-finish-clause-told : goal.returns-in_err-finish-clause-told
@@ -79,3 +80,14 @@ pub returns-in_err-report-clause-only : goal.returns-in_err-report-clause-only
 returns-in_err-report-clause-only g c =
     let p = err_from_is_err_and c.from_residual-in_err-report.result c.from_residual-in_err-report.ensures.1 in
     rw (p.1, p.2) (job_plain c.in_err-report.field-0.0)
+
+pub returns-in_err-finish-clause-acts : goal.returns-in_err-finish-clause-acts
+returns-in_err-finish-clause-acts g c = tick_acts c.args.collector.now c.finish.ensures.own
+
+pub returns-in_err-report-clause-acts : goal.returns-in_err-report-clause-acts
+returns-in_err-report-clause-acts g c =
+    acts_then (tick_acts c.args.collector.now c.finish.ensures.own) (archive_acts c.archive.ensures.own)
+
+pub returns-clause-acts : goal.returns-clause-acts
+returns-clause-acts g c =
+    acts_then (tick_acts c.args.collector.now c.finish.ensures.own) (archive_acts c.archive.ensures.own)

@@ -12,6 +12,7 @@ use Rattle.chk_round.proofs.NonePast.{quiet_none_past, sends_then}
 use Rattle.chk_round.proofs.Polls.{starts_then}
 use Rattle.chk_round.proofs.Lasting.{inside_late, last_inside, went_then}
 use Rattle.chk_round.proofs.NoRead.{agent_no_read, agent_plain, length_late, plain_length}
+use Rattle.chk_round.proofs.Acts.{acts_then, settle_acts}
 use Rattle.chk_round.proofs.delivering.deliver.Goals as goal
 
 pub post_rest-requires : goal.post_rest-requires
@@ -197,3 +198,17 @@ returns-in_err-_settled-clause-length g c =
     let p = err_from_is_err_and c.from_residual-in_err-_settled.result c.from_residual-in_err-_settled.ensures.1 in
     rw (p.1, p.2) (plain_length (Unit {0}) (of_agent c.in_err-_settled.field-0.0) (agent_plain c.in_err-_settled.field-0.0)
     (g.S.Site.told c.args.site.now) (g.S.Site.told c.settle.new.site))
+
+pub returns-in_err-post_rest-clause-acts : goal.returns-in_err-post_rest-clause-acts
+returns-in_err-post_rest-clause-acts g c = c.post_rest.ensures.acts
+
+pub returns-in_err-commit_rows-clause-acts : goal.returns-in_err-commit_rows-clause-acts
+returns-in_err-commit_rows-clause-acts g c = acts_then c.post_rest.ensures.acts c.commit_rows.ensures.acts
+
+pub returns-in_err-_settled-clause-acts : goal.returns-in_err-_settled-clause-acts
+returns-in_err-_settled-clause-acts g c =
+    acts_then (acts_then c.post_rest.ensures.acts c.commit_rows.ensures.acts) (settle_acts c.in_err-_settled.ensures.state)
+
+pub returns-clause-acts : goal.returns-clause-acts
+returns-clause-acts g c =
+    acts_then (acts_then c.post_rest.ensures.acts c.commit_rows.ensures.acts) (settle_acts c.in_ok-_settled.ensures.state)

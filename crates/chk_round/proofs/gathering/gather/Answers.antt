@@ -9,6 +9,9 @@ use Rattle.chk_round.proofs.Following.{logs_follow}
 use Rattle.chk_round.proofs.Gathers.{fresh_steady, gathered, logs_met, logs_steady, logs_unmet}
 use Rattle.chk_round.proofs.Lasting.{inside_late, last_inside, went_then}
 use Rattle.chk_round.proofs.NoRead.{call_plain}
+use Rattle.chk_site.specs.Site.{Adds}
+use Rattle.chk_round.specs.Starts.{EndsWithClock}
+use Rattle.chk_round.proofs.Acts.{begun_of, logs_acts, only_begun, timed, timed_then}
 use Rattle.chk_round.proofs.gathering.gather.Goals as goal
 
 pub returns-in_err-begun-clause-told : goal.returns-in_err-begun-clause-told
@@ -85,3 +88,26 @@ pub returns-in_err-add_logs-clause-only : goal.returns-in_err-add_logs-clause-on
 returns-in_err-add_logs-clause-only g c =
     let p = err_from_is_err_and c.from_residual-in_err-add_logs.result c.from_residual-in_err-add_logs.ensures.1 in
     rw (p.1, p.2) (call_plain c.in_err-add_logs.field-0.0 c.in_err-add_logs.ensures.only)
+
+pub returns-in_err-begun-clause-acts : goal.returns-in_err-begun-clause-acts
+returns-in_err-begun-clause-acts g c = only_begun c.args.reading.now.name c.start_pair.ensures.acts
+
+pub returns-in_err-add_logs-clause-acts : goal.returns-in_err-add_logs-clause-acts
+returns-in_err-add_logs-clause-acts g c =
+    begun_of c.args.reading.now.name
+    (timed_then c.args.reading.now.name
+    (timed c.args.reading.now.name c.in_ok-begun.begun.now c.start_pair.ensures.acts
+    (subst (λ w. Adds (g.S.Site.told c.args.site.now) (g.S.Site.told c.start_pair.new.site) (EndsWithClock w c.in_ok-begun.begun.now))
+    c.requires.agent_is c.in_ok-begun.ensures.clock))
+    (logs_acts c.add_logs.ensures.script))
+
+pub returns-clause-timed : goal.returns-clause-timed
+returns-clause-timed g c =
+    timed_then c.args.reading.now.name
+    (timed c.args.reading.now.name c.in_ok-begun.begun.now c.start_pair.ensures.acts
+    (subst (λ w. Adds (g.S.Site.told c.args.site.now) (g.S.Site.told c.start_pair.new.site) (EndsWithClock w c.in_ok-begun.begun.now))
+    c.requires.agent_is c.in_ok-begun.ensures.clock))
+    (logs_acts c.add_logs.ensures.script)
+
+pub returns-clause-acts : goal.returns-clause-acts
+returns-clause-acts g c = begun_of c.args.reading.now.name (returns-clause-timed g c)

@@ -9,6 +9,7 @@ use Rattle.chk_round.proofs.NonePast.{quiet_none_past}
 use Rattle.chk_round.proofs.Sent.{on_ok, sends_on_then}
 use Rattle.chk_round.proofs.Lasting.{inside_then, last_inside}
 use Rattle.chk_round.proofs.NoRead.{length_then, plain_length, sinks_no_read, sinks_plain}
+use Rattle.chk_round.proofs.Acts.{acts_then, tick_acts}
 use Rattle.chk_round.proofs.polling.commit_rows.Goals as goal
 
 pub returns-in_err-tick-clause-joint : goal.returns-in_err-tick-clause-joint
@@ -16,7 +17,7 @@ returns-in_err-tick-clause-joint g c stamped started acting run =
     let p = err_from_is_err_and c.from_residual.result c.from_residual.ensures.1 in
     rw (p.1, p.2)
     (tick_ends c.args.collector.now c.tick.new.self c.args.agent.now c.ready-sound.ensures.sound c.tick.ensures.same.collector
-    c.in_err-tick.field-0.0 c.in_err-tick.ensures.told stamped started acting run)
+    c.in_err-tick.field-0.0 c.in_err-tick.ensures.only c.in_err-tick.ensures.told stamped started acting run)
 
 pub poll_until_free-requires : goal.poll_until_free-requires
 poll_until_free-requires g c = record {
@@ -72,3 +73,9 @@ returns-in_err-tick-clause-length g c =
 
 pub returns-clause-length : goal.returns-clause-length
 returns-clause-length g c = length_then c.poll_until_free.result (g.S.Site.told c.poll_until_free.new.site) (c.in_ok-tick.ensures.told []) c.poll_until_free.ensures.length
+
+pub returns-in_err-tick-clause-acts : goal.returns-in_err-tick-clause-acts
+returns-in_err-tick-clause-acts g c = tick_acts c.args.collector.now c.tick.ensures.own
+
+pub returns-clause-acts : goal.returns-clause-acts
+returns-clause-acts g c = acts_then (tick_acts c.args.collector.now c.tick.ensures.own) c.poll_until_free.ensures.acts

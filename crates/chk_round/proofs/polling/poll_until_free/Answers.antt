@@ -5,8 +5,9 @@ use Rattle.chk_round.specs.declared.faults.RoundFault.{RoundFault}
 use Rattle.chk_round.specs.Faults.{RoundCause}
 use Rattle.chk_round.proofs.Ends.{late_cause}
 use Rattle.chk_round.proofs.Polls.{may_ask, polling_none, starts_then, talked_ends, talked_more}
-use Rattle.chk_round.proofs.Lasting.{inside_late}
+use Rattle.chk_round.proofs.Lasting.{inside_late, went}
 use Rattle.chk_round.proofs.NoRead.{length_late}
+use Rattle.chk_round.proofs.Acts.{acts_then}
 use Rattle.chk_round.proofs.polling.poll_until_free.Goals as goal
 
 pub polls-init : goal.polls-init
@@ -53,7 +54,7 @@ polls-preserved g c =
     record {
       talked = talked_more c.polls.invariant.talked c.poll_whole.new.collector c.poll_whole.new.agent
           (g.S.Site.fault_count c.poll_whole.new.site) c.in_ok-poll_whole.ensures.joint c.poll_whole.ensures.same all.same
-          c.in_ok-poll_whole.ensures.sends c.in_ok-poll_whole.ensures.last c.in_ok-poll_whole.ensures.cause;
+          c.in_ok-poll_whole.ensures.sends c.in_ok-poll_whole.ensures.acts c.in_ok-poll_whole.ensures.cause;
       queue = all.queue ∙ c.polls.invariant.queue;
     }
 
@@ -85,10 +86,10 @@ returns-clause-sends g c = c.polls.invariant.talked.sends
 pub returns-in_err-poll_whole-clause-last : goal.returns-in_err-poll_whole-clause-last
 returns-in_err-poll_whole-clause-last g c =
     let p = err_from_is_err_and c.from_residual.result c.from_residual.ensures.1 in
-    rw (p.1, p.2) (inside_late (Unit {0}) (Unit {0}) c.in_err-poll_whole.field-0.0 c.polls.invariant.talked.went c.in_err-poll_whole.ensures.last)
+    rw (p.1, p.2) (inside_late (Unit {0}) (Unit {0}) c.in_err-poll_whole.field-0.0 c.polls.invariant.talked.acts c.in_err-poll_whole.ensures.last)
 
 pub returns-clause-last : goal.returns-clause-last
-returns-clause-last g c = c.polls.invariant.talked.went
+returns-clause-last g c = went c.polls.invariant.talked.acts
 
 pub returns-in_err-poll_whole-clause-only : goal.returns-in_err-poll_whole-clause-only
 returns-in_err-poll_whole-clause-only g c =
@@ -98,4 +99,10 @@ returns-in_err-poll_whole-clause-only g c =
 pub returns-in_err-poll_whole-clause-length : goal.returns-in_err-poll_whole-clause-length
 returns-in_err-poll_whole-clause-length g c =
     let p = err_from_is_err_and c.from_residual.result c.from_residual.ensures.1 in
-    rw (p.1, p.2) (length_late (Unit {0}) (Unit {0}) c.in_err-poll_whole.field-0.0 (g.S.Site.told c.poll_whole.new.site) c.polls.invariant.talked.went c.in_err-poll_whole.ensures.length)
+    rw (p.1, p.2) (length_late (Unit {0}) (Unit {0}) c.in_err-poll_whole.field-0.0 (g.S.Site.told c.poll_whole.new.site) c.polls.invariant.talked.acts c.in_err-poll_whole.ensures.length)
+
+pub returns-in_err-poll_whole-clause-acts : goal.returns-in_err-poll_whole-clause-acts
+returns-in_err-poll_whole-clause-acts g c = acts_then c.polls.invariant.talked.acts c.in_err-poll_whole.ensures.acts
+
+pub returns-clause-acts : goal.returns-clause-acts
+returns-clause-acts g c = c.polls.invariant.talked.acts

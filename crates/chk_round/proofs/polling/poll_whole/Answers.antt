@@ -6,10 +6,12 @@ use Rattle.chk_exchange.specs.Exchanges.{PollsInside}
 use Rattle.chk_round.proofs.Joining.{exchange_ends, exchange_goes}
 use Rattle.chk_round.proofs.Inside.{polled_all}
 use Rattle.chk_round.proofs.Sent.{poll_sends}
+use Rattle.chk_round.proofs.Spending.{poll_tells}
 use Rattle.chk_round.proofs.Lasting.{exchange_inside, went}
 use Rattle.chk_round.specs.Faults.{of_exchange}
 use Rattle.chk_round.proofs.NoRead.{exchange_no_read, exchange_plain, plain_length}
 use Rattle.chk_round.proofs.Lengths.{below_cause, below_goes, below_inside, below_length, below_no_read}
+use Rattle.chk_round.proofs.Acts.{poll_acts}
 use Rattle.chk_round.proofs.polling.poll_whole.Goals as goal
 
 pub returns-in_err-below-clause-joint : goal.returns-in_err-below-clause-joint
@@ -18,7 +20,8 @@ returns-in_err-below-clause-joint g c stamped started acting run =
     rw (p.1, p.2)
     (exchange_ends c.args.collecting.now c.args.collector.now c.poll_inside.new.collector c.args.agent.now
     c.poll_inside.new.agent c.requires.started (Option Below)
-    c.in_err-below.field-0.0 c.in_err-below.ensures.told stamped started acting run)
+    c.in_err-below.field-0.0 c.in_err-below.ensures.told (poll_tells c.in_err-below.ensures.script)
+    c.poll_inside.ensures.same.collector stamped started acting run)
 
 pub returns-in-None-clause-joint : goal.returns-in-None-clause-joint
 returns-in-None-clause-joint g c =
@@ -81,3 +84,15 @@ returns-in-Some-clause-length g c =
     (subst (λ (b : Option Below). PollsInside c.args.collecting.now c.args.collector.now c.args.agent.now (Ok b)
     c.poll_inside.new.collector c.poll_inside.new.agent (g.S.Site.told c.args.site.now) (g.S.Site.told c.poll_inside.new.site))
     c.in-Some.is c.in_ok-below.ensures.script)
+
+pub returns-in_err-below-clause-acts : goal.returns-in_err-below-clause-acts
+returns-in_err-below-clause-acts g c =
+    poll_acts (ap (λ (w : Who). w.role) c.requires.started) c.requires.address c.poll_inside.ensures.script
+
+pub returns-in-None-clause-acts : goal.returns-in-None-clause-acts
+returns-in-None-clause-acts g c =
+    poll_acts (ap (λ (w : Who). w.role) c.requires.started) c.requires.address c.poll_inside.ensures.script
+
+pub returns-in-Some-clause-acts : goal.returns-in-Some-clause-acts
+returns-in-Some-clause-acts g c =
+    poll_acts (ap (λ (w : Who). w.role) c.requires.started) c.requires.address c.poll_inside.ensures.script

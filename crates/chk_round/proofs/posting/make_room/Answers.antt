@@ -1,5 +1,6 @@
 use Rattle.chk_round.proofs.Sent.{sends_on_none}
 use Rattle.chk_round.proofs.Lasting.{went_none}
+use Rattle.chk_round.proofs.Acts.{acts_none}
 use Rattle.chk_round.proofs.posting.make_room.Goals as goal
 
 pub returns-then-free_rows-gt0-clause-sends : goal.returns-then-free_rows-gt0-clause-sends
@@ -7,3 +8,6 @@ returns-then-free_rows-gt0-clause-sends g c = sends_on_none c.args.agent.now (g.
 
 pub returns-then-free_rows-gt0-clause-last : goal.returns-then-free_rows-gt0-clause-last
 returns-then-free_rows-gt0-clause-last g c = went_none (g.S.Site.told c.args.site.now)
+
+pub returns-then-free_rows-gt0-clause-acts : goal.returns-then-free_rows-gt0-clause-acts
+returns-then-free_rows-gt0-clause-acts g c = acts_none (g.S.Site.told c.args.site.now)

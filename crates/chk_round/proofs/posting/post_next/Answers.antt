@@ -7,8 +7,10 @@ use Rattle.chk_round.proofs.Inside.{posted_some}
 use Rattle.chk_round.proofs.Joining.{exchange_ends, exchange_goes, joint_then, still_c}
 use Rattle.chk_round.proofs.Posts.{posted_then}
 use Rattle.chk_round.proofs.Sent.{post_sends, sends_on_then}
+use Rattle.chk_round.proofs.Spending.{post_tells}
 use Rattle.chk_round.proofs.Lasting.{exchange_inside, inside_late, went_then}
 use Rattle.chk_round.proofs.NoRead.{exchange_no_read, exchange_plain, plain_length}
+use Rattle.chk_round.proofs.Acts.{acts_then, post_acts}
 use Rattle.chk_round.proofs.posting.post_next.Goals as goal
 
 pub returns-in_err-make_room-clause-joint : goal.returns-in_err-make_room-clause-joint
@@ -26,7 +28,8 @@ returns-in_err-post_inside-clause-joint g c stamped started acting run =
     c.in_ok-make_room.ensures.joint
     (exchange_ends c.args.collecting.now c.make_room.new.collector c.post_inside.new.collector c.make_room.new.agent
     c.post_inside.new.agent (still_c c.args.collecting.now c.args.collector.now c.make_room.new.collector c.requires.started c.make_room.ensures.same.collector) (Unit {0})
-    c.in_err-post_inside.field-0.0 c.in_err-post_inside.ensures.told) stamped started acting run)
+    c.in_err-post_inside.field-0.0 c.in_err-post_inside.ensures.told (post_tells c.in_err-post_inside.ensures.script)
+    c.post_inside.ensures.same.collector) stamped started acting run)
 
 pub returns-clause-joint : goal.returns-clause-joint
 returns-clause-joint g c =
@@ -83,3 +86,18 @@ returns-in_err-post_inside-clause-length g c =
     let p = err_from_is_err_and c.from_residual-in_err-post_inside.result c.from_residual-in_err-post_inside.ensures.1 in
     rw (p.1, p.2) (plain_length (Unit {0}) (of_exchange c.in_err-post_inside.field-0.0) (exchange_plain c.in_err-post_inside.field-0.0)
     (g.S.Site.told c.args.site.now) (g.S.Site.told c.post_inside.new.site))
+
+pub returns-in_err-make_room-clause-acts : goal.returns-in_err-make_room-clause-acts
+returns-in_err-make_room-clause-acts g c = c.make_room.ensures.acts
+
+pub returns-in_err-post_inside-clause-acts : goal.returns-in_err-post_inside-clause-acts
+returns-in_err-post_inside-clause-acts g c =
+    acts_then c.make_room.ensures.acts
+    (post_acts (ap (λ (w : Who). w.role) c.requires.started)
+    (c.in_ok-make_room.ensures.free.same.rest.addresses ∙ c.requires.address) c.post_inside.ensures.script)
+
+pub returns-clause-acts : goal.returns-clause-acts
+returns-clause-acts g c =
+    acts_then c.make_room.ensures.acts
+    (post_acts (ap (λ (w : Who). w.role) c.requires.started)
+    (c.in_ok-make_room.ensures.free.same.rest.addresses ∙ c.requires.address) c.post_inside.ensures.script)

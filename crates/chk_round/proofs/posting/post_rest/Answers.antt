@@ -1,7 +1,8 @@
 use Rattle.std.proofs.Common.{Err}
 use Rattle.std.proofs.lemmas.Result.{err_from_is_err_and}
 use Rattle.chk_round.proofs.Polls.{talked_ends, talked_more, talked_none}
-use Rattle.chk_round.proofs.Lasting.{inside_late}
+use Rattle.chk_round.proofs.Acts.{acts_then}
+use Rattle.chk_round.proofs.Lasting.{inside_late, went}
 use Rattle.chk_round.proofs.NoRead.{length_late}
 use Rattle.chk_round.proofs.posting.post_rest.Goals as goal
 
@@ -13,7 +14,7 @@ pub posts-preserved : goal.posts-preserved
 posts-preserved g c =
     talked_more c.posts.invariant c.post_next.new.collector c.post_next.new.agent
     (g.S.Site.fault_count c.post_next.new.site) c.in_ok-post_next.ensures.joint c.post_next.ensures.same
-    c.in_ok-post_next.ensures.some.same c.in_ok-post_next.ensures.sends c.in_ok-post_next.ensures.last c.in_ok-post_next.ensures.cause
+    c.in_ok-post_next.ensures.some.same c.in_ok-post_next.ensures.sends c.in_ok-post_next.ensures.acts c.in_ok-post_next.ensures.cause
 
 pub returns-in_err-post_next-clause-joint : goal.returns-in_err-post_next-clause-joint
 returns-in_err-post_next-clause-joint g c stamped started acting run =
@@ -28,10 +29,10 @@ returns-clause-sends g c = c.posts.invariant.sends
 pub returns-in_err-post_next-clause-last : goal.returns-in_err-post_next-clause-last
 returns-in_err-post_next-clause-last g c =
     let p = err_from_is_err_and c.from_residual.result c.from_residual.ensures.1 in
-    rw (p.1, p.2) (inside_late (Unit {0}) (Unit {0}) c.in_err-post_next.field-0.0 c.posts.invariant.went c.in_err-post_next.ensures.last)
+    rw (p.1, p.2) (inside_late (Unit {0}) (Unit {0}) c.in_err-post_next.field-0.0 c.posts.invariant.acts c.in_err-post_next.ensures.last)
 
 pub returns-clause-last : goal.returns-clause-last
-returns-clause-last g c = c.posts.invariant.went
+returns-clause-last g c = went c.posts.invariant.acts
 
 pub returns-in_err-post_next-clause-only : goal.returns-in_err-post_next-clause-only
 returns-in_err-post_next-clause-only g c =
@@ -41,4 +42,10 @@ returns-in_err-post_next-clause-only g c =
 pub returns-in_err-post_next-clause-length : goal.returns-in_err-post_next-clause-length
 returns-in_err-post_next-clause-length g c =
     let p = err_from_is_err_and c.from_residual.result c.from_residual.ensures.1 in
-    rw (p.1, p.2) (length_late (Unit {0}) (Unit {0}) c.in_err-post_next.field-0.0 (g.S.Site.told c.post_next.new.site) c.posts.invariant.went c.in_err-post_next.ensures.length)
+    rw (p.1, p.2) (length_late (Unit {0}) (Unit {0}) c.in_err-post_next.field-0.0 (g.S.Site.told c.post_next.new.site) c.posts.invariant.acts c.in_err-post_next.ensures.length)
+
+pub returns-in_err-post_next-clause-acts : goal.returns-in_err-post_next-clause-acts
+returns-in_err-post_next-clause-acts g c = acts_then c.posts.invariant.acts c.in_err-post_next.ensures.acts
+
+pub returns-clause-acts : goal.returns-clause-acts
+returns-clause-acts g c = c.posts.invariant.acts

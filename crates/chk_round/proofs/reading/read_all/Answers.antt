@@ -8,7 +8,8 @@ use Rattle.chk_round.specs.Faults.{RoundCause}
 use Rattle.chk_round.proofs.Ends.{late_cause}
 use Rattle.chk_round.proofs.Logs.{all_read, each_next, each_of, each_skips, reading_begun, reading_ends, reading_next, reading_skips}
 use Rattle.chk_round.proofs.Polls.{starts_then}
-use Rattle.chk_round.proofs.Lasting.{inside_late}
+use Rattle.chk_round.proofs.Acts.{acts_then}
+use Rattle.chk_round.proofs.Lasting.{inside_late, went}
 use Rattle.chk_round.specs.Scripts as scripts
 use Rattle.chk_round.proofs.NoRead.{length_late}
 use Rattle.chk_round.proofs.reading.read_all.Goals as goal
@@ -68,7 +69,7 @@ loop-adaptor-preserved g c =
           rw (w.agent-is, w.collector-is, w.site-is)
           (each_of (reading_next c.loop-adaptor.adaptor c.args.collector.now c.loop-adaptor.collector c.args.agent.now c.loop-adaptor.agent
           c.loop-adaptor.invariant.so w.read_out.new.collector w.read_out.new.agent (Ok tt) w.in_ok-read_out.ensures.read refl
-          w.in_ok-read_out.ensures.on w.in_ok-read_out.ensures.sends w.in_ok-read_out.ensures.live w.in_ok-read_out.ensures.last (sym w.if-is_read_on.ensures) w.read_out.ensures.same (g.S.Site.fault_count w.read_out.new.site)
+          w.in_ok-read_out.ensures.on w.in_ok-read_out.ensures.sends w.in_ok-read_out.ensures.live w.in_ok-read_out.ensures.acts (sym w.if-is_read_on.ensures) w.read_out.ensures.same (g.S.Site.fault_count w.read_out.new.site)
           w.in_ok-read_out.ensures.cause)
           (each_next c.args.reads c.loop-adaptor.adaptor c.args.agent.now c.loop-adaptor.agent w.read_out.new.agent
           (sym w.if-is_read_on.ensures) w.in_ok-read_out.ensures.script c.loop-adaptor.invariant.script))
@@ -101,10 +102,10 @@ returns-clause-live g c = c.loop-adaptor.invariant.so.lives
 pub returns-in_err-read_out-clause-last : goal.returns-in_err-read_out-clause-last
 returns-in_err-read_out-clause-last g c =
     let p = err_from_is_err_and c.from_residual.result c.from_residual.ensures.1 in
-    rw (p.1, p.2) (inside_late (Unit {0}) (Unit {0}) c.in_err-read_out.field-0.0 c.loop-adaptor.invariant.so.went c.in_err-read_out.ensures.last)
+    rw (p.1, p.2) (inside_late (Unit {0}) (Unit {0}) c.in_err-read_out.field-0.0 c.loop-adaptor.invariant.so.acts c.in_err-read_out.ensures.last)
 
 pub returns-clause-last : goal.returns-clause-last
-returns-clause-last g c = c.loop-adaptor.invariant.so.went
+returns-clause-last g c = went c.loop-adaptor.invariant.so.acts
 
 pub returns-in_err-read_out-clause-script : goal.returns-in_err-read_out-clause-script
 returns-in_err-read_out-clause-script g c =
@@ -123,4 +124,10 @@ returns-clause-script g c =
 pub returns-in_err-read_out-clause-length : goal.returns-in_err-read_out-clause-length
 returns-in_err-read_out-clause-length g c =
     let p = err_from_is_err_and c.from_residual.result c.from_residual.ensures.1 in
-    rw (p.1, p.2) (length_late (Unit {0}) (Unit {0}) c.in_err-read_out.field-0.0 (g.S.Site.told c.read_out.new.site) c.loop-adaptor.invariant.so.went c.in_err-read_out.ensures.length)
+    rw (p.1, p.2) (length_late (Unit {0}) (Unit {0}) c.in_err-read_out.field-0.0 (g.S.Site.told c.read_out.new.site) c.loop-adaptor.invariant.so.acts c.in_err-read_out.ensures.length)
+
+pub returns-in_err-read_out-clause-acts : goal.returns-in_err-read_out-clause-acts
+returns-in_err-read_out-clause-acts g c = acts_then c.loop-adaptor.invariant.so.acts c.in_err-read_out.ensures.acts
+
+pub returns-clause-acts : goal.returns-clause-acts
+returns-clause-acts g c = c.loop-adaptor.invariant.so.acts

@@ -1,12 +1,13 @@
 use Rattle.std.proofs.Common.{Ok, Err, ap, ◌∙◌, refl, arith}
 use Rattle.std.proofs.lemmas.Result.{err_from_is_err_and}
 use Rattle.chk_drain.proofs.ReadingOn.{held_some}
-use Rattle.chk_round.proofs.Stepping.{ended_lives, ended_on, ended_script, ended_sends, grown_script, shrank_script, unposted_script, unread_script, growing_cause, growing_legal, held_ends, held_is, held_next, held_smaller, held_so, read_smaller, reading_ended, reading_fails, reading_none, reading_read, reading_stops, shrank_cause, shrank_legal, stepped_went, still_there}
+use Rattle.chk_round.proofs.Stepping.{ended_lives, ended_on, ended_script, ended_sends, grown_script, shrank_script, unposted_script, unread_script, growing_cause, growing_legal, held_ends, held_is, held_next, held_smaller, held_so, read_smaller, reading_ended, reading_fails, reading_none, reading_read, reading_stops, shrank_cause, shrank_legal, stepped_acts, still_there}
 use Rattle.chk_agent.specs.declared.answers.Stepped.{Stepped}
 use Rattle.chk_round.specs.Faults.{of_agent}
 use Rattle.chk_round.proofs.Ends.{agent_last}
 use Rattle.chk_round.proofs.Lasting.{went, growing_inside, inside_late, last_inside, shrank_inside}
 use Rattle.chk_round.proofs.NoRead.{agent_plain, growing_length, length_late, plain_length, shrank_length}
+use Rattle.chk_round.proofs.Acts.{acts_then}
 use Rattle.chk_round.proofs.reading.read_out.Goals as goal
 
 pub reads-init : goal.reads-init
@@ -58,7 +59,7 @@ reads-smaller-in-Continue-branch-2 g c =
     c.reads.invariant c.step.new.self (Ok c.in_ok-step.step) c.in_ok-step.ensures.told c.in_ok-step.ensures.state
     c.in-Held.used (ap Ok c.in-Held.is) c.post_next.new.collector c.post_next.new.agent
     c.in_ok-post_next-in-Held.ensures.joint c.post_next.ensures.same c.in_ok-post_next-in-Held.ensures.some
-    c.free_rows-free.ensures.sound c.in_ok-post_next-in-Held.ensures.sends c.in_ok-post_next-in-Held.ensures.last
+    c.free_rows-free.ensures.sound c.in_ok-post_next-in-Held.ensures.sends c.in_ok-post_next-in-Held.ensures.acts
 
 pub reads-preserved-in-Continue-branch-2 : goal.reads-preserved-in-Continue-branch-2
 reads-preserved-in-Continue-branch-2 g c =
@@ -66,7 +67,7 @@ reads-preserved-in-Continue-branch-2 g c =
     c.reads.invariant c.step.new.self (Ok c.in_ok-step.step) c.in_ok-step.ensures.told c.in_ok-step.ensures.state
     c.in-Held.used (ap Ok c.in-Held.is) c.post_next.new.collector c.post_next.new.agent
     c.in_ok-post_next-in-Held.ensures.joint c.post_next.ensures.same c.in_ok-post_next-in-Held.ensures.some
-    c.free_rows-free.ensures.sound c.in_ok-post_next-in-Held.ensures.sends c.in_ok-post_next-in-Held.ensures.last
+    c.free_rows-free.ensures.sound c.in_ok-post_next-in-Held.ensures.sends c.in_ok-post_next-in-Held.ensures.acts
     (g.S.Site.fault_count c.post_next.new.site)
     (let one = c.in_ok-step.ensures.cause in let two = c.in_ok-post_next-in-Held.ensures.cause in omega (arith, one, two))
 
@@ -138,7 +139,7 @@ returns-in-AtEnd-clause-live g c =
 pub returns-in_err-step-clause-last : goal.returns-in_err-step-clause-last
 returns-in_err-step-clause-last g c =
     let p = err_from_is_err_and c.from_residual.result c.from_residual.ensures.1 in
-    rw (p.1, p.2) (inside_late (Unit {0}) (Unit {0}) (of_agent c.in_err-step.field-0.0) c.reads.invariant.went
+    rw (p.1, p.2) (inside_late (Unit {0}) (Unit {0}) (of_agent c.in_err-step.field-0.0) c.reads.invariant.acts
     (last_inside (Unit {0}) (Unit {0}) (of_agent c.in_err-step.field-0.0)
     (agent_last (Unit {0}) Stepped c.in_err-step.field-0.0 c.in_err-step.ensures.last)))
 
@@ -146,26 +147,27 @@ pub returns-in_err-post_next-in-Held-clause-last : goal.returns-in_err-post_next
 returns-in_err-post_next-in-Held-clause-last g c =
     let p = err_from_is_err_and c.from_residual-in_err-post_next-in-Held.result c.from_residual-in_err-post_next-in-Held.ensures.1 in
     rw (p.1, p.2) (inside_late (Unit {0}) (Unit {0}) c.in_err-post_next-in-Held.field-0.0
-    (stepped_went c.args.adaptor c.reads.count c.args.reads c.args.collector.now c.reads.collector c.args.agent.now c.reads.agent
+    (stepped_acts c.args.adaptor c.reads.count c.args.reads c.args.collector.now c.reads.collector c.args.agent.now c.reads.agent
     c.reads.invariant c.step.new.self (Ok c.in_ok-step.step) c.in_ok-step.ensures.told c.in_ok-step.ensures.state)
     c.in_err-post_next-in-Held.ensures.last)
 
 pub returns-in-AtEnd-clause-last : goal.returns-in-AtEnd-clause-last
 returns-in-AtEnd-clause-last g c =
-    stepped_went c.args.adaptor c.reads.count c.args.reads c.args.collector.now c.reads.collector c.args.agent.now c.reads.agent
-    c.reads.invariant c.step.new.self (Ok c.in_ok-step.step) c.in_ok-step.ensures.told c.in_ok-step.ensures.state
+    went
+    (stepped_acts c.args.adaptor c.reads.count c.args.reads c.args.collector.now c.reads.collector c.args.agent.now c.reads.agent
+    c.reads.invariant c.step.new.self (Ok c.in_ok-step.step) c.in_ok-step.ensures.told c.in_ok-step.ensures.state)
 
 pub returns-then-count-reads-clause-last : goal.returns-then-count-reads-clause-last
 returns-then-count-reads-clause-last g c =
     growing_inside c.growing.ensures.kind.1
-    (stepped_went c.args.adaptor c.reads.count c.args.reads c.args.collector.now c.reads.collector c.args.agent.now c.reads.agent
-    c.reads.invariant c.step.new.self (Ok c.in_ok-step.step) c.in_ok-step.ensures.told c.in_ok-step.ensures.state)
+    (went (stepped_acts c.args.adaptor c.reads.count c.args.reads c.args.collector.now c.reads.collector c.args.agent.now c.reads.agent
+    c.reads.invariant c.step.new.self (Ok c.in_ok-step.step) c.in_ok-step.ensures.told c.in_ok-step.ensures.state))
 
 pub returns-in-Shrank-clause-last : goal.returns-in-Shrank-clause-last
 returns-in-Shrank-clause-last g c =
     shrank_inside c.shrank.ensures.kind.1
-    (stepped_went c.args.adaptor c.reads.count c.args.reads c.args.collector.now c.reads.collector c.args.agent.now c.reads.agent
-    c.reads.invariant c.step.new.self (Ok c.in_ok-step.step) c.in_ok-step.ensures.told c.in_ok-step.ensures.state)
+    (went (stepped_acts c.args.adaptor c.reads.count c.args.reads c.args.collector.now c.reads.collector c.args.agent.now c.reads.agent
+    c.reads.invariant c.step.new.self (Ok c.in_ok-step.step) c.in_ok-step.ensures.told c.in_ok-step.ensures.state))
 
 pub returns-in_err-step-clause-script : goal.returns-in_err-step-clause-script
 returns-in_err-step-clause-script g c =
@@ -212,7 +214,7 @@ pub returns-in_err-post_next-in-Held-clause-length : goal.returns-in_err-post_ne
 returns-in_err-post_next-in-Held-clause-length g c =
     let p = err_from_is_err_and c.from_residual-in_err-post_next-in-Held.result c.from_residual-in_err-post_next-in-Held.ensures.1 in
     rw (p.1, p.2) (length_late (Unit {0}) (Unit {0}) c.in_err-post_next-in-Held.field-0.0 (g.S.Site.told c.post_next.new.site)
-    (stepped_went c.args.adaptor c.reads.count c.args.reads c.args.collector.now c.reads.collector c.args.agent.now c.reads.agent
+    (stepped_acts c.args.adaptor c.reads.count c.args.reads c.args.collector.now c.reads.collector c.args.agent.now c.reads.agent
     c.reads.invariant c.step.new.self (Ok c.in_ok-step.step) c.in_ok-step.ensures.told c.in_ok-step.ensures.state)
     c.in_err-post_next-in-Held.ensures.length)
 
@@ -221,3 +223,30 @@ returns-then-count-reads-clause-length g c = growing_length (g.S.Site.told c.arg
 
 pub returns-in-Shrank-clause-length : goal.returns-in-Shrank-clause-length
 returns-in-Shrank-clause-length g c = shrank_length (g.S.Site.told c.args.site.now) (g.S.Site.told c.step.new.site) c.shrank.ensures.kind.1
+
+pub returns-in-AtEnd-clause-acts : goal.returns-in-AtEnd-clause-acts
+returns-in-AtEnd-clause-acts g c =
+    stepped_acts c.args.adaptor c.reads.count c.args.reads c.args.collector.now c.reads.collector c.args.agent.now c.reads.agent
+    c.reads.invariant c.step.new.self (Ok c.in_ok-step.step) c.in_ok-step.ensures.told c.in_ok-step.ensures.state
+
+pub returns-then-count-reads-clause-acts : goal.returns-then-count-reads-clause-acts
+returns-then-count-reads-clause-acts g c =
+    stepped_acts c.args.adaptor c.reads.count c.args.reads c.args.collector.now c.reads.collector c.args.agent.now c.reads.agent
+    c.reads.invariant c.step.new.self (Ok c.in_ok-step.step) c.in_ok-step.ensures.told c.in_ok-step.ensures.state
+
+pub returns-in-Shrank-clause-acts : goal.returns-in-Shrank-clause-acts
+returns-in-Shrank-clause-acts g c =
+    stepped_acts c.args.adaptor c.reads.count c.args.reads c.args.collector.now c.reads.collector c.args.agent.now c.reads.agent
+    c.reads.invariant c.step.new.self (Ok c.in_ok-step.step) c.in_ok-step.ensures.told c.in_ok-step.ensures.state
+
+pub returns-in_err-step-clause-acts : goal.returns-in_err-step-clause-acts
+returns-in_err-step-clause-acts g c =
+    stepped_acts c.args.adaptor c.reads.count c.args.reads c.args.collector.now c.reads.collector c.args.agent.now c.reads.agent
+    c.reads.invariant c.step.new.self (Err c.in_err-step.field-0.0) c.in_err-step.ensures.told c.in_err-step.ensures.state
+
+pub returns-in_err-post_next-in-Held-clause-acts : goal.returns-in_err-post_next-in-Held-clause-acts
+returns-in_err-post_next-in-Held-clause-acts g c =
+    acts_then
+    (stepped_acts c.args.adaptor c.reads.count c.args.reads c.args.collector.now c.reads.collector c.args.agent.now c.reads.agent
+    c.reads.invariant c.step.new.self (Ok c.in_ok-step.step) c.in_ok-step.ensures.told c.in_ok-step.ensures.state)
+    c.in_err-post_next-in-Held.ensures.acts

@@ -8,6 +8,7 @@ use Rattle.chk_round.proofs.Joining.{in_on, still_c}
 use Rattle.chk_round.proofs.Whole.{close_ends, delivery_ends, reads_end, reads_given, round_ends}
 use Rattle.chk_round.proofs.Lasting.{inside_late, last_inside, went_none, went_then}
 use Rattle.chk_round.proofs.NoRead.{length_late, plain_length, plain_no_read}
+use Rattle.chk_round.proofs.Acts.{acts_then}
 use Rattle.chk_round.proofs.running.run_pair.Goals as goal
 
 pub read_all-requires : goal.read_all-requires
@@ -24,7 +25,7 @@ returns-in_err-read_all-clause-told g c stamped started acting run j_in j_acts s
     let p = err_from_is_err_and c.from_residual.result c.from_residual.ensures.1 in
     rw (p.1, p.2)
     (reads_end stamped started acting c.args.collector.now c.args.agent.now c.read_all.new.collector c.read_all.new.agent
-    c.in_err-read_all.field-0.0 (c.in_err-read_all.ensures.read stamped started acting run))
+    c.read_all.ensures.same.collector c.in_err-read_all.field-0.0 (c.in_err-read_all.ensures.read stamped started acting run))
 
 pub returns-in_err-read_all-clause-cause : goal.returns-in_err-read_all-clause-cause
 returns-in_err-read_all-clause-cause g c =
@@ -51,7 +52,8 @@ returns-in_err-deliver-clause-told g c stamped started acting run j_in j_acts st
     rw (p.1, p.2)
     (delivery_ends stamped started acting c.args.collector.now c.args.agent.now run c.read_all.new.collector c.read_all.new.agent
     c.read_all.ensures.same.collector c.in_ok-read_all.ensures.on (c.in_ok-read_all.ensures.read stamped started acting run)
-    c.deliver.new.collector c.deliver.new.agent c.in_err-deliver.field-0.0 c.in_err-deliver.ensures.joint)
+    c.deliver.new.collector c.deliver.new.agent c.deliver.ensures.same.collector c.in_err-deliver.field-0.0
+    c.in_err-deliver.ensures.joint)
 
 pub returns-in_err-deliver-clause-cause : goal.returns-in_err-deliver-clause-cause
 returns-in_err-deliver-clause-cause g c =
@@ -168,3 +170,17 @@ returns-in_err-report-clause-length g c =
     let p = err_from_is_err_and c.from_residual-in_err-report.result c.from_residual-in_err-report.ensures.1 in
     rw (p.1, p.2) (plain_length Report c.in_err-report.field-0.0 c.in_err-report.ensures.only
     (g.S.Site.told c.args.site.now) (g.S.Site.told c.close.new.site))
+
+pub returns-in_err-read_all-clause-acts : goal.returns-in_err-read_all-clause-acts
+returns-in_err-read_all-clause-acts g c = c.read_all.ensures.acts
+
+pub returns-in_err-deliver-clause-acts : goal.returns-in_err-deliver-clause-acts
+returns-in_err-deliver-clause-acts g c = acts_then c.read_all.ensures.acts c.deliver.ensures.acts
+
+pub returns-in_err-report-clause-acts : goal.returns-in_err-report-clause-acts
+returns-in_err-report-clause-acts g c =
+    acts_then (acts_then c.read_all.ensures.acts c.deliver.ensures.acts) c.close.ensures.acts
+
+pub returns-clause-acts : goal.returns-clause-acts
+returns-clause-acts g c =
+    acts_then (acts_then c.read_all.ensures.acts c.deliver.ensures.acts) c.close.ensures.acts

@@ -16,6 +16,10 @@ use Rattle.chk_round.specs.Starts.{ClockGave}
 use Rattle.chk_round.proofs.Ends.{agent_last, last_late, nothing_last}
 use Rattle.chk_round.proofs.Meeting.{agent_met, agent_unmet, clock_met, clock_unmet, ends_with_clock, sinks_met, sinks_unmet}
 use Rattle.chk_round.proofs.NoRead.{agent_plain, sinks_plain}
+use Rattle.chk_round.proofs.Acts.{agent_begins, begins_then, collector_begins, time_begins}
+use Rattle.chk_sink.specs.Faults.{ended_by}
+use Rattle.chk_sink.specs.Works.{OfStart}
+use Rattle.chk_world.specs.Works.{Works}
 use Rattle.chk_round.proofs.starting.start_pair.Goals as goal
 
 pub returns-in_err-collector-clause-told : goal.returns-in_err-collector-clause-told
@@ -121,3 +125,44 @@ pub returns-in_err-now-clause-only : goal.returns-in_err-now-clause-only
 returns-in_err-now-clause-only g c =
     let p = err_from_is_err_and c.from_residual-in_err-now.result c.from_residual-in_err-now.ensures.1 in
     rw (p.1, p.2) (c.in_err-now.ensures.only)
+
+pub returns-in_err-collector-clause-acts : goal.returns-in_err-collector-clause-acts
+returns-in_err-collector-clause-acts g c =
+    collector_begins c.args.reading.now.name
+    (subst (λ w. Works w (OfStart w) (ended_by c.start.result) (g.S.Site.told c.args.site.now) (g.S.Site.told c.start.new.site))
+    c.requires.collector c.start.ensures.own)
+
+pub returns-in_err-agent-clause-acts : goal.returns-in_err-agent-clause-acts
+returns-in_err-agent-clause-acts g c =
+    begins_then c.args.reading.now.name (collector_begins c.args.reading.now.name
+    (subst (λ w. Works w (OfStart w) (ended_by c.start.result) (g.S.Site.told c.args.site.now) (g.S.Site.told c.start.new.site))
+    c.requires.collector c.start.ensures.own))
+    (agent_begins c.args.reading.now.name
+    (subst (λ w. Adds (g.S.Site.told c.start.new.site) (g.S.Site.told c.start-2.new.site)
+    (Leads (As [] w) (Legal []) (AgentStarted [] w (Err c.in_err-agent.field-0.0)))) c.requires.agent_is (c.in_err-agent.ensures.told [])))
+
+pub returns-in_err-now-clause-acts : goal.returns-in_err-now-clause-acts
+returns-in_err-now-clause-acts g c =
+    begins_then c.args.reading.now.name
+    (begins_then c.args.reading.now.name (collector_begins c.args.reading.now.name
+    (subst (λ w. Works w (OfStart w) (ended_by c.start.result) (g.S.Site.told c.args.site.now) (g.S.Site.told c.start.new.site))
+    c.requires.collector c.start.ensures.own))
+    (agent_begins c.args.reading.now.name
+    (subst (λ w. Adds (g.S.Site.told c.start.new.site) (g.S.Site.told c.start-2.new.site)
+    (Leads (As [] w) (Legal []) (AgentStarted [] w (Ok c.in_ok-agent.agent)))) c.requires.agent_is (c.in_ok-agent.ensures.told []))))
+    (time_begins c.args.reading.now.name (Err c.in_err-now.field-0.0)
+    (subst (λ w. ClockGave w (Err c.in_err-now.field-0.0) (g.S.Site.told c.start-2.new.site) (g.S.Site.told c.clock.new.site))
+    c.requires.agent_is c.in_err-now.ensures.gave))
+
+pub returns-clause-acts : goal.returns-clause-acts
+returns-clause-acts g c =
+    begins_then c.args.reading.now.name
+    (begins_then c.args.reading.now.name (collector_begins c.args.reading.now.name
+    (subst (λ w. Works w (OfStart w) (ended_by c.start.result) (g.S.Site.told c.args.site.now) (g.S.Site.told c.start.new.site))
+    c.requires.collector c.start.ensures.own))
+    (agent_begins c.args.reading.now.name
+    (subst (λ w. Adds (g.S.Site.told c.start.new.site) (g.S.Site.told c.start-2.new.site)
+    (Leads (As [] w) (Legal []) (AgentStarted [] w (Ok c.in_ok-agent.agent)))) c.requires.agent_is (c.in_ok-agent.ensures.told []))))
+    (time_begins c.args.reading.now.name (Ok c.in_ok-now.now)
+    (subst (λ w. ClockGave w (Ok c.in_ok-now.now) (g.S.Site.told c.start-2.new.site) (g.S.Site.told c.clock.new.site))
+    c.requires.agent_is c.in_ok-now.ensures.gave))

@@ -1,4 +1,4 @@
-use Rattle.std.proofs.Common.{inl, inr, Result, Ok, Err, ap, sym, ◌∙◌, subst, refl, arith}
+use Rattle.std.proofs.Common.{[], inl, inr, Result, Ok, Err, ap, sym, ◌∙◌, subst, refl, arith}
 use Rattle.std.specs.Prelude.{IsTrue}
 use Rattle.std.proofs.lemmas.Result.{err_from_is_err_and}
 use Rattle.chk_bytes.specs.Stems.{is_collector}
@@ -18,6 +18,9 @@ use Rattle.chk_round.proofs.Following.{has_line}
 use Rattle.chk_round.proofs.Rounding.{both_of, rounds, unbegun, unmet}
 use Rattle.chk_round.proofs.Lasting.{inside_late, went, went_none, went_then}
 use Rattle.chk_round.proofs.NoRead.{length_late, plain_length, plain_no_read}
+use Rattle.chk_round.proofs.Acts.{all_acts, begun_of, timed_then, unbegun_acts}
+use Rattle.chk_round.specs.Calls.{BegunActs, TimedActs}
+use Rattle.chk_site.specs.Site.{Adds}
 use Rattle.chk_round.proofs.whole_round.round_within.Goals as goal
 
 pub returns-in_err-collecting-clause-told : goal.returns-in_err-collecting-clause-told
@@ -277,3 +280,50 @@ pub returns-in_err-report-clause-length : goal.returns-in_err-report-clause-leng
 returns-in_err-report-clause-length g c =
     let p = err_from_is_err_and c.from_residual-in_err-report.result c.from_residual-in_err-report.ensures.1 in
     rw (p.1, p.2) (length_late Rounded Report c.in_err-report.field-0.0 (g.S.Site.told c.run_pair.new.site) c.in_ok-pair.ensures.last c.in_err-report.ensures.length)
+
+pub returns-in_err-collecting-clause-acts : goal.returns-in_err-collecting-clause-acts
+returns-in_err-collecting-clause-acts g c =
+    all_acts c.args.given.now.source (returns-in_err-collecting-clause-told g c [])
+    (unbegun_acts c.args.given.now.source (g.S.Site.told c.args.site.now))
+
+pub returns-in_err-reading-clause-acts : goal.returns-in_err-reading-clause-acts
+returns-in_err-reading-clause-acts g c =
+    all_acts c.args.given.now.source (returns-in_err-reading-clause-told g c [])
+    (unbegun_acts c.args.given.now.source (g.S.Site.told c.args.site.now))
+
+pub returns-in_err-archiving-clause-acts : goal.returns-in_err-archiving-clause-acts
+returns-in_err-archiving-clause-acts g c =
+    all_acts c.args.given.now.source (returns-in_err-archiving-clause-told g c [])
+    (unbegun_acts c.args.given.now.source (g.S.Site.told c.args.site.now))
+
+pub returns-in_err-ring-clause-acts : goal.returns-in_err-ring-clause-acts
+returns-in_err-ring-clause-acts g c =
+    all_acts c.args.given.now.source (returns-in_err-ring-clause-told g c [])
+    (unbegun_acts c.args.given.now.source (g.S.Site.told c.args.site.now))
+
+pub returns-in_err-rules-clause-acts : goal.returns-in_err-rules-clause-acts
+returns-in_err-rules-clause-acts g c =
+    all_acts c.args.given.now.source (returns-in_err-rules-clause-told g c [])
+    (unbegun_acts c.args.given.now.source (g.S.Site.told c.args.site.now))
+
+pub returns-in_err-pair-clause-acts : goal.returns-in_err-pair-clause-acts
+returns-in_err-pair-clause-acts g c =
+    all_acts c.args.given.now.source (returns-in_err-pair-clause-told g c [])
+    (subst (λ n. Adds (g.S.Site.told c.args.site.now) (g.S.Site.told c.gather.new.site) (BegunActs n))
+    (ap (λ (w : Who). w.name) c.in_ok-reading.ensures) c.gather.ensures.acts)
+
+pub returns-in_err-report-clause-acts : goal.returns-in_err-report-clause-acts
+returns-in_err-report-clause-acts g c =
+    all_acts c.args.given.now.source (returns-in_err-report-clause-told g c [])
+    (begun_of c.args.given.now.source (timed_then c.args.given.now.source
+    (subst (λ n. Adds (g.S.Site.told c.args.site.now) (g.S.Site.told c.gather.new.site) (TimedActs n))
+    (ap (λ (w : Who). w.name) c.in_ok-reading.ensures) c.in_ok-pair.ensures.timed)
+    c.run_pair.ensures.acts))
+
+pub returns-clause-acts : goal.returns-clause-acts
+returns-clause-acts g c =
+    all_acts c.args.given.now.source (returns-clause-told g c [])
+    (begun_of c.args.given.now.source (timed_then c.args.given.now.source
+    (subst (λ n. Adds (g.S.Site.told c.args.site.now) (g.S.Site.told c.gather.new.site) (TimedActs n))
+    (ap (λ (w : Who). w.name) c.in_ok-reading.ensures) c.in_ok-pair.ensures.timed)
+    c.run_pair.ensures.acts))

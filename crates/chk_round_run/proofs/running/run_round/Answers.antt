@@ -21,7 +21,14 @@ pub returns-in_err-rounded-clause-ran : goal.returns-in_err-rounded-clause-ran
 returns-in_err-rounded-clause-ran g c =
     let p = err_from_is_err_and c.from_residual-in_err-rounded.result c.from_residual-in_err-rounded.ensures.1 in
     rw (p.1, p.2) (undone c.in_err-rounded.field-0.0
-    (record { told = c.in_err-rounded.ensures.told; live = tt; last = c.in_err-rounded.ensures.last }))
+    (record {
+      told = c.in_err-rounded.ensures.told;
+      live = tt;
+      script = c.in_err-rounded.ensures.script;
+      length = c.in_err-rounded.ensures.length;
+      last = c.in_err-rounded.ensures.last;
+      acts = c.in_err-rounded.ensures.acts;
+    }))
 
 pub returns-in_err-rounded-clause-told : goal.returns-in_err-rounded-clause-told
 returns-in_err-rounded-clause-told g c stamped started acting run =
@@ -35,7 +42,14 @@ returns-in_err-tell-clause-ran g c =
     let p = err_from_is_err_and c.from_residual-in_err-tell.result c.from_residual-in_err-tell.ensures.1 in
     rw (p.1, p.2)
     (untold c.in_ok-rounded.rounded c.in_err-tell.field-0.0
-    (record { told = c.in_ok-rounded.ensures.told; live = c.in_ok-rounded.ensures.live; last = c.in_ok-rounded.ensures.last })
+    (record {
+      told = c.in_ok-rounded.ensures.told;
+      live = c.in_ok-rounded.ensures.live;
+      script = c.in_ok-rounded.ensures.script;
+      length = c.in_ok-rounded.ensures.length;
+      last = c.in_ok-rounded.ensures.last;
+      acts = c.in_ok-rounded.ensures.acts;
+    })
     (tells_by c.args.given.now.source c.in_ok-rounded.rounded c.in_ok-reading.reading c.in_ok-archiving.archiving (Err c.in_err-tell.field-0.0)
     c.in_ok-reading.ensures c.in_ok-archiving.ensures c.in_err-tell.ensures.told))
 
@@ -55,10 +69,17 @@ returns-in_err-tell-clause-cause g c =
 
 pub returns-clause-ran : goal.returns-clause-ran
 returns-clause-ran g c =
-    subst (λ (r : Result (Unit {0}) RoundEnd). RunsRound c.args.given.now.source c.args.given.now.kind c.args.given.now.logs.items r (g.S.Site.told c.args.site.now) (g.S.Site.told c.tell.new.site))
+    subst (λ (r : Result (Unit {0}) RoundEnd). RunsRound c.args.given.now.source c.args.given.now.kind c.args.given.now.logs.items c.args.given.now.reads r (g.S.Site.told c.args.site.now) (g.S.Site.told c.tell.new.site))
     (sym c.end_by.ensures)
     (ran c.in_ok-rounded.rounded
-    (record { told = c.in_ok-rounded.ensures.told; live = c.in_ok-rounded.ensures.live; last = c.in_ok-rounded.ensures.last })
+    (record {
+      told = c.in_ok-rounded.ensures.told;
+      live = c.in_ok-rounded.ensures.live;
+      script = c.in_ok-rounded.ensures.script;
+      length = c.in_ok-rounded.ensures.length;
+      last = c.in_ok-rounded.ensures.last;
+      acts = c.in_ok-rounded.ensures.acts;
+    })
     (tells_by c.args.given.now.source c.in_ok-rounded.rounded c.in_ok-reading.reading c.in_ok-archiving.archiving (Ok tt)
     c.in_ok-reading.ensures c.in_ok-archiving.ensures c.in_ok-tell.ensures.told))
 

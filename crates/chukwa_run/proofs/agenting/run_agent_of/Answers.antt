@@ -8,6 +8,7 @@ use Rattle.chk_words.specs.Commands.{agent_of}
 use Rattle.chukwa_run.proofs.AgentRun.{run_of, causes, told, went_well, went_wrong}
 use Rattle.chukwa_run.proofs.AgentFaults.{no_bad_line, has_file}
 use Rattle.chukwa_run.proofs.Unbegun.{unbegun, caused_nothing}
+use Rattle.chukwa_run.proofs.Statuses.{agent_status}
 use Rattle.chukwa_run.proofs.agenting.run_agent_of.Goals as goal
 
 -- the ring of these addresses
@@ -93,3 +94,6 @@ ending_of-requires-clause-initial g c k is =
     (ap (λ (x : Work). x.initial) c.in-Ok-work.ensures
     ∙ ap (λ (o : Option (Bor (List ℕ))). option_map {T = Bor (List ℕ)} {U = List ℕ} (λ t. t.now) o) none))
     k is
+
+pub returns-clause-status : goal.returns-clause-status
+returns-clause-status g c = agent_status (agent_of c.args.given.now) c.in-Err.fault c.ending_of.result c.ending_of.ensures

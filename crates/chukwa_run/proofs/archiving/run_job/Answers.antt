@@ -2,6 +2,7 @@ use Rattle.std.proofs.Common.{Ok, Err}
 use Rattle.chk_words.specs.Commands.{Archive}
 use Rattle.chukwa_run.proofs.ArchiveRun.{causes, told}
 use Rattle.chukwa_run.proofs.Unbegun.{unbegun, caused_nothing}
+use Rattle.chukwa_run.proofs.Statuses.{job_status}
 use Rattle.chukwa_run.proofs.archiving.run_job.Goals as goal
 
 pub returns-in_default-clause-told : goal.returns-in_default-clause-told
@@ -35,3 +36,6 @@ returns-clause-causes g c =
     rw c.ending_of.ensures
     (causes (Err c.in-Err.fault)
     (record { told = s.told; own = s.own; once = s.once; prints = s.prints; runs = s.runs; last = s.last }))
+
+pub returns-clause-status : goal.returns-clause-status
+returns-clause-status g c = rw c.ending_of.ensures (job_status c.in-Err.fault)

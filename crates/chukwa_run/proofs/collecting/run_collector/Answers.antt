@@ -3,6 +3,7 @@ use Rattle.chk_words.specs.Commands.{Collector}
 use Rattle.chk_words.specs.Commands.{collector_of}
 use Rattle.chukwa_run.proofs.CollectorRun.{collection, causes, told}
 use Rattle.chukwa_run.proofs.Unbegun.{unbegun, caused_nothing}
+use Rattle.chukwa_run.proofs.Statuses.{sink_status}
 use Rattle.chukwa_run.proofs.collecting.run_collector.Goals as goal
 
 pub returns-in_default-clause-told : goal.returns-in_default-clause-told
@@ -53,3 +54,6 @@ returns-clause-causes g c =
     (causes w (Err c.in-Err.fault)
     (collection w (Err c.in-Err.fault) c.in-Ok.who c.in-Ok-from_text.door c.in-Ok.ensures c.in-Ok-from_text.ensures
     (record { ran = s.ran; refused = s.refused; told = s.told; finds = s.finds; spent = s.spent; last = s.last })))
+
+pub returns-clause-status : goal.returns-clause-status
+returns-clause-status g c = rw c.ending_of.ensures (sink_status (collector_of c.args.given.now) c.in-Err.fault)

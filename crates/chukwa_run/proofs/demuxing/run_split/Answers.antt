@@ -3,6 +3,7 @@ use Rattle.chk_demux.specs.Demuxed.{NamesStamped}
 use Rattle.chk_words.specs.Commands.{Demux}
 use Rattle.chukwa_run.proofs.DemuxRun.{causes, told}
 use Rattle.chukwa_run.proofs.Unbegun.{unbegun, caused_nothing}
+use Rattle.chukwa_run.proofs.Statuses.{split_status}
 use Rattle.chukwa_run.proofs.demuxing.run_split.Goals as goal
 
 pub returns-in_default-clause-told : goal.returns-in_default-clause-told
@@ -76,3 +77,7 @@ returns-clause-causes g c =
       runs = s.runs;
       last = s.last;
     }))
+
+pub returns-clause-status : goal.returns-clause-status
+returns-clause-status g c =
+    rw c.ending_of.ensures (split_status (map {A = Bor (List ℕ)} {B = List ℕ} (λ t. t.now) c.args.kinds.now) c.in-Err.fault)

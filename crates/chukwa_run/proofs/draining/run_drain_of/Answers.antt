@@ -7,6 +7,7 @@ use Rattle.chukwa_run.specs.declared.draining.Setting.{Setting}
 use Rattle.chukwa_run.proofs.DrainFaults.{has_drain_file, no_bad_drain}
 use Rattle.chukwa_run.proofs.DrainRun.{causes, told, went_well, went_wrong}
 use Rattle.chukwa_run.proofs.Unbegun.{unbegun, caused_nothing}
+use Rattle.chukwa_run.proofs.Statuses.{drain_status}
 use Rattle.chukwa_run.proofs.draining.run_drain_of.Goals as goal
 
 pub returns-in_default-clause-told : goal.returns-in_default-clause-told
@@ -20,25 +21,25 @@ pub returns-in-Ok-run_drain-clause-told : goal.returns-in-Ok-run_drain-clause-to
 returns-in-Ok-run_drain-clause-told g c stamped earlier =
     let s = c.in-Ok-run_drain.ensures in
     told (drain_of c.args.given.now) _ (Ok tt) went_well c.in-Ok.setting c.in-Ok.ensures
-    (record { ran = s.ran; told = s.told; last = s.last }) stamped earlier
+    (record { ran = s.ran; told = s.told; done = s.done; last = s.last }) stamped earlier
 
 pub returns-in-Ok-run_drain-clause-causes : goal.returns-in-Ok-run_drain-clause-causes
 returns-in-Ok-run_drain-clause-causes g c =
     let s = c.in-Ok-run_drain.ensures in
     causes (drain_of c.args.given.now) _ (Ok tt) went_well c.in-Ok.setting c.in-Ok.ensures
-    (record { ran = s.ran; told = s.told; last = s.last })
+    (record { ran = s.ran; told = s.told; done = s.done; last = s.last })
 
 pub returns-clause-told : goal.returns-clause-told
 returns-clause-told g c stamped earlier =
     let s = c.in-Err.ensures in
     told (drain_of c.args.given.now) (Err c.in-Err.fault) (Err c.ending_of.result) (went_wrong c.ending_of.ensures)
-    c.in-Ok.setting c.in-Ok.ensures (record { ran = s.ran; told = s.told; last = s.last }) stamped earlier
+    c.in-Ok.setting c.in-Ok.ensures (record { ran = s.ran; told = s.told; done = s.done; last = s.last }) stamped earlier
 
 pub returns-clause-causes : goal.returns-clause-causes
 returns-clause-causes g c =
     let s = c.in-Err.ensures in
     causes (drain_of c.args.given.now) (Err c.in-Err.fault) (Err c.ending_of.result) (went_wrong c.ending_of.ensures)
-    c.in-Ok.setting c.in-Ok.ensures (record { ran = s.ran; told = s.told; last = s.last })
+    c.in-Ok.setting c.in-Ok.ensures (record { ran = s.ran; told = s.told; done = s.done; last = s.last })
 
 pub ending_of-requires-clause-initial : goal.ending_of-requires-clause-initial
 ending_of-requires-clause-initial g c k is =
@@ -49,3 +50,6 @@ ending_of-requires-clause-initial g c k is =
     (ap (λ (s : Setting). s.work.initial) c.in-Ok.ensures
     ∙ ap (λ (o : Option (Bor (List ℕ))). option_map {T = Bor (List ℕ)} {U = List ℕ} (λ t. t.now) o) none))
     k is
+
+pub returns-clause-status : goal.returns-clause-status
+returns-clause-status g c = drain_status (drain_of c.args.given.now) c.in-Err.fault c.ending_of.result c.ending_of.ensures

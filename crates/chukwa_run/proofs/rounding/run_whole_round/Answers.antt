@@ -3,6 +3,7 @@ use Rattle.chk_words.specs.Commands.{round_of}
 use Rattle.chk_words.specs.Commands.{Round}
 use Rattle.chukwa_run.proofs.RoundRun.{causes, of_words, told, went_well, went_wrong}
 use Rattle.chukwa_run.proofs.Unbegun.{unbegun, caused_nothing}
+use Rattle.chukwa_run.proofs.Statuses.{round_status}
 use Rattle.chukwa_run.proofs.rounding.run_whole_round.Goals as goal
 
 pub returns-in_default-clause-told : goal.returns-in_default-clause-told
@@ -39,3 +40,6 @@ returns-clause-causes g c =
     let s = c.in-Err.ensures in
     causes w (Err c.in-Err.end) (Err c.ending_of.result) (went_wrong c.ending_of.ensures)
     (of_words w c.in-Ok.words c.in-Ok.ensures (Err c.in-Err.end) (record { ran = s.ran; last = s.last; told = s.told }))
+
+pub returns-clause-status : goal.returns-clause-status
+returns-clause-status g c = round_status (round_of c.args.given.now) c.ending_of.result

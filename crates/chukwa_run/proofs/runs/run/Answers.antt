@@ -1,4 +1,5 @@
-use Rattle.std.proofs.Common.{◌∙◌, ℕ, List, map, Some, Bor, subst, ap}
+use Rattle.std.proofs.Common.{◌∙◌, inr, ℕ, List, map, Err, Some, Bor, subst, ap}
+use Rattle.std.specs.Prelude.{Contains}
 use Rattle.chk_site.specs.Site.{Adds}
 use Rattle.chk_site.specs.Runs.{Leads}
 use Rattle.chk_demux.specs.Demuxed.{NamesStamped}
@@ -7,11 +8,14 @@ use Rattle.chk_words.specs.declared.usage.Usage.{Usage}
 use Rattle.chk_words.specs.Commands.{Asked, Round, Agent, Collector, Drain, Archive, Demux, Salvage, Load}
 use Rattle.chk_words.specs.Commands.{asked_of}
 use Rattle.chk_words.specs.Usages.{usage_text}
+use Rattle.chk_words.specs.declared.endings.Ending.TheVariants.{NoMemory}
 use Rattle.chukwa_run.specs.Asking.{usage_line}
 use Rattle.chukwa_run.specs.Demuxing.{SuitsTypes}
 use Rattle.chukwa_run.specs.Processes.{RunSide}
 use Rattle.chukwa_run.specs.Runs.{Begins, Ends, EndsWith, Caused, CausedBy, SaysUsage}
+use Rattle.chukwa_run.specs.Statuses.{statuses_of}
 use Rattle.chukwa_run.proofs.Asking.{of_command, ends_told, ends_caused, unread_told, unread_caused, unread_says, usage_says}
+use Rattle.chukwa_run.proofs.Statuses.{its_status, unread_status}
 use Rattle.chukwa_run.proofs.runs.run.Goals as goal
 
 pub returns-in-Ok-Round-clause-whole : goal.returns-in-Ok-Round-clause-whole
@@ -215,3 +219,74 @@ pub returns-in-Err-NoMemory-clause-unasked : goal.returns-in-Err-NoMemory-clause
 returns-in-Err-NoMemory-clause-unasked g c none =
     unread_says (usage_line (map {A = Bor (List ℕ)} {B = List ℕ} (λ w. w.now) c.args.words.now)) c.ends-in-Err-NoMemory.result
     (g.S.Site.told c.ends-in-Err-NoMemory.new.site) c.ends-in-Err-NoMemory.ensures.says
+
+pub returns-in-Ok-Round-clause-statuses : goal.returns-in-Ok-Round-clause-statuses
+returns-in-Ok-Round-clause-statuses g c command is =
+    let this = Round (round_of c.in-Ok-Round.given) in
+    of_command this (c.in-Ok-Round.ensures.asked ∙ ap (λ k. Some (asked_of k)) c.in-Ok-Round.field-0-is)
+    (λ (k : Asked). Contains (statuses_of k) c.ends.result)
+    (its_status this c.run_whole_round-done.result c.ends.result _ _ c.run_whole_round-done.ensures.status c.ends.ensures.says)
+    command is
+
+pub returns-in-Ok-Agent-clause-statuses : goal.returns-in-Ok-Agent-clause-statuses
+returns-in-Ok-Agent-clause-statuses g c command is =
+    let this = Agent (agent_of c.in-Ok-Agent.given) in
+    of_command this (c.in-Ok-Agent.ensures.asked ∙ ap (λ k. Some (asked_of k)) c.in-Ok-Agent.field-0-is)
+    (λ (k : Asked). Contains (statuses_of k) c.ends-in-Ok-Agent.result)
+    (its_status this c.run_agent_of-done.result c.ends-in-Ok-Agent.result _ _ c.run_agent_of-done.ensures.status c.ends-in-Ok-Agent.ensures.says)
+    command is
+
+pub returns-in-Ok-Collector-clause-statuses : goal.returns-in-Ok-Collector-clause-statuses
+returns-in-Ok-Collector-clause-statuses g c command is =
+    let this = Collector (collector_of c.in-Ok-Collector.given) in
+    of_command this (c.in-Ok-Collector.ensures.asked ∙ ap (λ k. Some (asked_of k)) c.in-Ok-Collector.field-0-is)
+    (λ (k : Asked). Contains (statuses_of k) c.ends-in-Ok-Collector.result)
+    (its_status this c.run_collector-done.result c.ends-in-Ok-Collector.result _ _ c.run_collector-done.ensures.status c.ends-in-Ok-Collector.ensures.says)
+    command is
+
+pub returns-in-Ok-Drain-clause-statuses : goal.returns-in-Ok-Drain-clause-statuses
+returns-in-Ok-Drain-clause-statuses g c command is =
+    let this = Drain (drain_of c.in-Ok-Drain.given) in
+    of_command this (c.in-Ok-Drain.ensures.asked ∙ ap (λ k. Some (asked_of k)) c.in-Ok-Drain.field-0-is)
+    (λ (k : Asked). Contains (statuses_of k) c.ends-in-Ok-Drain.result)
+    (its_status this c.run_drain_of-done.result c.ends-in-Ok-Drain.result _ _ c.run_drain_of-done.ensures.status c.ends-in-Ok-Drain.ensures.says)
+    command is
+
+pub returns-in-Ok-Archive-clause-statuses : goal.returns-in-Ok-Archive-clause-statuses
+returns-in-Ok-Archive-clause-statuses g c command is =
+    let this = Archive in
+    of_command this (c.in-Ok-Archive.ensures.asked ∙ ap (λ k. Some (asked_of k)) c.in-Ok-Archive.field-0-is)
+    (λ (k : Asked). Contains (statuses_of k) c.ends-in-Ok-Archive.result)
+    (its_status this c.run_job-done.result c.ends-in-Ok-Archive.result _ _ c.run_job-done.ensures.status c.ends-in-Ok-Archive.ensures.says)
+    command is
+
+pub returns-in-Ok-Demux-clause-statuses : goal.returns-in-Ok-Demux-clause-statuses
+returns-in-Ok-Demux-clause-statuses g c command is =
+    let this = Demux (map {A = Bor (List ℕ)} {B = List ℕ} (λ w. w.now) c.in-Ok-Demux.kinds.items) in
+    of_command this (c.in-Ok-Demux.ensures.asked ∙ ap (λ k. Some (asked_of k)) c.in-Ok-Demux.field-0-is)
+    (λ (k : Asked). Contains (statuses_of k) c.ends-in-Ok-Demux.result)
+    (its_status this c.run_split-done.result c.ends-in-Ok-Demux.result _ _ c.run_split-done.ensures.status c.ends-in-Ok-Demux.ensures.says)
+    command is
+
+pub returns-in-Ok-Salvage-clause-statuses : goal.returns-in-Ok-Salvage-clause-statuses
+returns-in-Ok-Salvage-clause-statuses g c command is =
+    let this = Salvage c.in-Ok-Salvage.file.now in
+    of_command this (c.in-Ok-Salvage.ensures.asked ∙ ap (λ k. Some (asked_of k)) c.in-Ok-Salvage.field-0-is)
+    (λ (k : Asked). Contains (statuses_of k) c.ends-in-Ok-Salvage.result)
+    (its_status this c.run_salvage-done.result c.ends-in-Ok-Salvage.result _ _ c.run_salvage-done.ensures.status c.ends-in-Ok-Salvage.ensures.says)
+    command is
+
+pub returns-in-Ok-Load-clause-statuses : goal.returns-in-Ok-Load-clause-statuses
+returns-in-Ok-Load-clause-statuses g c command is =
+    let this = Load c.in-Ok-Load.lines in
+    of_command this (c.in-Ok-Load.ensures.asked ∙ ap (λ k. Some (asked_of k)) c.in-Ok-Load.field-0-is)
+    (λ (k : Asked). Contains (statuses_of k) c.ends-in-Ok-Load.result)
+    (its_status this c.run_load_of-done.result c.ends-in-Ok-Load.result _ _ c.run_load_of-done.ensures.status c.ends-in-Ok-Load.ensures.says)
+    command is
+
+pub returns-in-Err-NoMemory-clause-statuses : goal.returns-in-Err-NoMemory-clause-statuses
+returns-in-Err-NoMemory-clause-statuses g c command is =
+    its_status command (Err NoMemory) c.ends-in-Err-NoMemory.result _ _ (unread_status command) c.ends-in-Err-NoMemory.ensures.says
+
+pub returns-in-Err-NoMemory-clause-refused : goal.returns-in-Err-NoMemory-clause-refused
+returns-in-Err-NoMemory-clause-refused g c none = inr c.ends-in-Err-NoMemory.ensures.says.0

@@ -2,6 +2,7 @@ use Rattle.std.proofs.Common.{Ok, Err}
 use Rattle.chk_words.specs.Commands.{Salvage}
 use Rattle.chukwa_run.proofs.SalvageRun.{is_salvage, went_well, went_wrong, caused_so, told_so}
 use Rattle.chukwa_run.proofs.Unbegun.{unbegun, caused_nothing}
+use Rattle.chukwa_run.proofs.Statuses.{salvage_status}
 use Rattle.chukwa_run.proofs.salvaging.run_salvage.Goals as goal
 
 pub returns-in_default-clause-told : goal.returns-in_default-clause-told
@@ -34,3 +35,6 @@ returns-clause-causes g c =
     let s = c.in-Err.ensures in
     caused_so c.args.file.now (went_wrong c.ending_of.ensures)
     (is_salvage c.args.file.now (Err c.in-Err.fault) c.in-Ok.ensures s.prints s.acts s.last s.runs)
+
+pub returns-clause-status : goal.returns-clause-status
+returns-clause-status g c = salvage_status c.args.file.now c.in-Err.fault c.ending_of.result c.ending_of.ensures
