@@ -12,17 +12,24 @@ const FOLDERS: [&str; 5] = ["sinks", "agents", "archive", "demux", "joined"];
 /// The system's error for a folder in place of a file.
 const IS_A_DIRECTORY: i32 = 21;
 
-/// Makes the folders that aren't there; 1 where one of them can't be made, else 0.
+/// Makes the folders that aren't there, and writes the names in each through to the disk: a rename that
+/// an earlier process made and didn't sync stays from then on. 1 where one of them can't be made or
+/// synced, else 0.
 pub fn make_folders<R: Files>(rt: &R) -> u64
     ensures { result ≤ 1 }
 {
     let mut faults = 0;
     for folder in FOLDERS {
-        if make_folder(rt, folder).is_err() {
+        if settle_folder(rt, folder).is_err() {
             faults = 1;
         }
     }
     faults
+}
+
+fn settle_folder<R: Files>(rt: &R, folder: &str) -> io::Result<()> {
+    make_folder(rt, folder)?;
+    File::open(rt, folder)?.sync_all()
 }
 
 /// Makes the folder where it isn't there. One that was made stays after a stop of the machine. Another

@@ -6,8 +6,8 @@ ghost use Rattle.chk_sockets.specs.Faults.{answer_of};
 
 use crate::folders::{file_size, folder_of, is_folder, sync_folder};
 use crate::kept::{Kept, is_named};
-use crate::listings::Listings;
 use chk_bytes::Bytes;
+use chk_listings::Listings;
 use chk_sockets::{SystemFault, text};
 use std::alloc::Global;
 use std::fs;
@@ -139,9 +139,23 @@ impl<R: Files> Host<R> {
         ensures only { MayMissOrBeShort (answer_of result) }
     {
         match self.read_found(alloc, name, at, max)? {
-            Some(bytes) => Ok(bytes),
+            Some(bytes) => {
+                self.settle_name(name)?;
+                Ok(bytes)
+            }
             None => no_file(&self.rt, name),
         }
+    }
+
+    // Another collector may have renamed a mark to this name and not synced it yet. What was read of a
+    // mark is told to agents, so it stays on the disk before it is answered.
+    fn settle_name(&self, name: &str) -> Result<(), SystemFault>
+        ensures { MayFail (answer_of result) }
+    {
+        if name.ends_with(".mark") {
+            sync_folder(&self.rt, name)?;
+        }
+        Ok(())
     }
 
     /// None where there is no such file. A read from the front opens the file anew, and one that was

@@ -6,7 +6,6 @@ mod failure;
 mod folders;
 mod host;
 mod kept;
-mod listings;
 mod locks;
 mod logs;
 mod names;
@@ -14,6 +13,3 @@ mod site_real;
 
 pub use failure::Failure;
 pub use site_real::SiteReal;
-
-#[cfg(test)]
-mod tests;

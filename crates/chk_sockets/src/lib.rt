@@ -16,6 +16,3 @@ mod streams;
 pub use faults::SystemFault;
 pub use memory::{make_place, make_room, text};
 pub use messages::Messages;
-
-#[cfg(test)]
-mod tests;

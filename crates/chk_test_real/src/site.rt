@@ -1,7 +1,7 @@
 // The real outside: what `std` writes on the one side is read on the other.
-use crate::SiteReal;
 use chk_bytes::{Bytes, Word};
 use chk_site::{Call, CallFault, Part, Piece, Role, Site, Suffix, Who};
+use chk_site_real::SiteReal;
 use std::alloc::Global;
 use std::process::Abort;
 use std::test::Fail;

@@ -1,5 +1,5 @@
 // Messages over real sockets on the loopback interface.
-use crate::{Messages, SystemFault};
+use chk_sockets::{Messages, SystemFault};
 use chk_bytes::Bytes;
 use chk_site::{CallFault, Taking};
 use std::alloc::Global;

@@ -1,7 +1,7 @@
 // Listings that are kept.
 use super::{Outside, begin, is_piece};
-use crate::listings::{Listing, Listings, MOST_FOLDERS, MOST_NAMES, Stamp};
 use chk_bytes::Word;
+use chk_listings::{Listing, Listings, MOST_FOLDERS, MOST_NAMES, Stamp};
 use chk_site::Site;
 use std::alloc::Global;
 use std::process::Abort;

@@ -1,0 +1,4 @@
+pub mod Fronts
+pub mod Rooms
+pub mod Stamping
+pub mod Takes
