@@ -30,6 +30,20 @@ const FIRST: &[u8] = b"\0\0\0\0\0\0\0\x01";
 
 const SPENT: &[u8] = b"\x7f\xff\xff\xff\xff\xff\xff\xff";
 
+// A segment of the archive with `a\nb`, and its book.
+const OPEN: &[u8] =
+    b"SEQ\x06\x22org.apache.hadoop.io.BytesWritable\x22org.apache.hadoop.io.BytesWritable\0\0\0\0\0\0\xe2\x1a\x9d\xaa\xd9xFH\xc0n\xfdgV1\xa9\x1a\0\0\0%\0\0\0\x1e\0\0\0\x1a\x01\0\0\0\0\0\0\0\x03\0\x02h1\0\x03Log\0\x06/a.log\0\0\0\x03a\nb";
+
+const OPEN_BOOK: &[u8] =
+    b"CHKB\x01\0\0\0\0\0\0\0\x02\0\0\0\x01\0\0\0\0\0\0\0\x01\0\0\0\0\0\0\0\x8d\0\0\0\x01\0\0\0\0\0\0\0\x03\0\x02h1\0\x03Log\0\x06/a.log";
+
+// The segment of its one line, and the book.
+const SPLIT: &[u8] =
+    b"SEQ\x06\x22org.apache.hadoop.io.BytesWritable\x22org.apache.hadoop.io.BytesWritable\0\0\0\0\0\0\xe2\x1a\x9d\xaa\xd9xFH\xc0n\xfdgV1\xa9\x1a\0\0\0$\0\0\0\x1e\0\0\0\x1a\x01\0\0\0\0\0\0\0\x02\0\x02h1\0\x03Log\0\x06/a.log\0\0\0\x02a\n";
+
+const SPLIT_BOOK: &[u8] =
+    b"CHKB\x01\0\0\0\0\0\0\0\x02\0\0\0\x01\0\0\0\0\0\0\0\x01\0\0\0\0\0\0\0\x8c\0\0\0\x01\0\0\0\0\0\0\0\x02\0\x02h1\0\x03Log\0\x06/a.log";
+
 // Files of control lines.
 const COMMENT: &[u8] = b"# none\n\n";
 
@@ -46,6 +60,10 @@ pub(crate) fn bytes_named(name: &str) -> Result<&'static [u8], Fail> {
         "HELLO_2" => Ok(HELLO_2),
         "WORL_2" => Ok(WORL_2),
         "LAST" => Ok(LAST),
+        "OPEN" => Ok(OPEN),
+        "OPEN_BOOK" => Ok(OPEN_BOOK),
+        "SPLIT" => Ok(SPLIT),
+        "SPLIT_BOOK" => Ok(SPLIT_BOOK),
         "FIRST" => Ok(FIRST),
         "SPENT" => Ok(SPENT),
         "COMMENT" => Ok(COMMENT),

@@ -10,6 +10,8 @@ mod bytes;
 #[cfg(test)]
 mod collector;
 #[cfg(test)]
+mod demux;
+#[cfg(test)]
 mod scene;
 #[cfg(test)]
 mod usage;
