@@ -91,6 +91,3 @@ pub struct KeyRef<'a> {
     pub cluster: &'a str,
     pub seq: u64,
 }
-
-#[cfg(test)]
-mod tests;

@@ -38,6 +38,3 @@ impl Class {
         }
     }
 }
-
-#[cfg(test)]
-mod tests;

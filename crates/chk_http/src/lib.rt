@@ -18,6 +18,3 @@ pub use reply::{ReplyRef, read_reply};
 pub use request::{RequestRef, read_request};
 pub use stem_list::{MOST_STEMS, StemList};
 pub use writer::{write_acks_request, write_post_head, write_post_request, write_reply};
-
-#[cfg(test)]
-mod tests;

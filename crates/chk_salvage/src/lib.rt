@@ -21,6 +21,3 @@ pub use outcome::{Front, FrontFault, FrontStop, Salvaged};
 pub use pieces::Pieces;
 pub use reader::{Next, Reader};
 pub use whole::{front, salvage};
-
-#[cfg(test)]
-mod tests;

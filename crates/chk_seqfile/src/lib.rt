@@ -17,6 +17,3 @@ pub use entries::Why;
 pub use headers::{HeaderFault, HeaderRef, TextsLeft, header, read_header, read_header_on};
 pub use laws::{law_cut, law_written_file};
 pub use writer::SeqWriter;
-
-#[cfg(test)]
-mod tests;

@@ -9,6 +9,3 @@ mod site_mem;
 
 pub use site_clean::SiteClean;
 pub use site_mem::SiteMem;
-
-#[cfg(test)]
-mod tests;

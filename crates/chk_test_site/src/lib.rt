@@ -2,6 +2,8 @@
 #![tactic(auto)]
 
 #[cfg(test)]
+mod clean;
+#[cfg(test)]
 mod each_call;
 #[cfg(test)]
 mod in_memory;

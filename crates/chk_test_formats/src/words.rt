@@ -1,6 +1,10 @@
 //! Rows by hand, and by Hadoop's `WritableUtils`.
 
-use super::*;
+use chk_bytes::{
+    Bytes, NoMemory, Stem, VintFault, Word, WordFault, put_decimal, put_u16, put_u32, put_u64,
+    put_vint, take_decimal, take_plain_decimal, take_u16, take_u32, take_u64, take_vint,
+    word_fault,
+};
 
 #[test]
 fn vints_as_hadoop_writes_them(rt: HostRuntime) -> Result<(), NoMemory> {

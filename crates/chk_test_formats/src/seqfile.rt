@@ -1,4 +1,4 @@
-use super::*;
+use chk_seqfile::{HeaderFault, HeaderRef, SeqWriter, header, read_header, read_header_on};
 use std::alloc::{AllocError, Global};
 use std::test::Fail;
 

@@ -3,7 +3,7 @@ use Rattle.std.proofs.lemmas.List.{take-append-drop, take-take}
 use Rattle.chk_seqfile.specs.declared.headers.TextsLeft.{TextsLeft}
 use Rattle.chk_seqfile.specs.HeaderSteps.{HasCome}
 use Rattle.chk_seqfile.proofs.HeaderStepLemmas.{HasCome-append}
-use Rattle.chk_seqfile.proofs.tests.reads_on_byte_by_byte.Goals as goal
+use Rattle.chk_test_formats.proofs.seqfile.reads_on_byte_by_byte.Goals as goal
 
 -- what was read of a front stays read
 come_all : (from : Option TextsLeft) (n : ℕ) (bytes : List ℕ) → HasCome from (take n bytes) → HasCome from bytes

@@ -1,7 +1,7 @@
-// What a site without failures lists; calls that fail, stops and messages are tried where tests cross crates.
-use crate::SiteClean;
+// What a site without failures lists.
 use chk_bytes::Word;
 use chk_site::{Role, Site, Who};
+use chk_site_mem::SiteClean;
 use std::alloc::Global;
 use std::test::Fail;
 

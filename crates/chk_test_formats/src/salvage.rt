@@ -1,4 +1,7 @@
-use super::*;
+use chk_salvage::{
+    EntryRef, Fed, FrontFault, FrontStop, HeaderFault, Next, Pieces, Reader, Span, Why, front,
+    salvage,
+};
 use std::alloc::{AllocError, Global};
 use std::test::Fail;
 

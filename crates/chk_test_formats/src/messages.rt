@@ -1,7 +1,10 @@
 //! Requests, replies and lists with answers by hand.
 
-use super::*;
 use chk_bytes::{Bytes, NoMemory, Stem, Word};
+use chk_http::{
+    HttpFault, LineList, ReplyRef, RequestRef, StemList, read_reply, read_request,
+    write_acks_request, write_post_request, write_reply,
+};
 use std::alloc::Global;
 use std::test::Fail;
 

@@ -1,6 +1,6 @@
 use Rattle.std.proofs.Common.{◌-◌, take}
 use Rattle.chk_seqfile.specs.HeaderSteps.{HasCome}
-use Rattle.chk_seqfile.proofs.tests.reads_on_byte_by_byte.Given as goal
+use Rattle.chk_test_formats.proofs.seqfile.reads_on_byte_by_byte.Given as goal
 
 abbrev pub invariant-loop-end : goal.invariant-loop-end
 invariant-loop-end w l = HasCome l.from (take l.size l.bytes.items)

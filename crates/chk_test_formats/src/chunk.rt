@@ -4,7 +4,8 @@ ghost use Rattle.std.specs.Prelude.{◌<◌, ◌^◌, IfOk, IsTrue};
 ghost use Rattle.chk_chunk.specs.Keys.{is_chunk};
 ghost use Rattle.chk_chunk.specs.Lent.{chunk_of};
 
-use super::*;
+use chk_bytes::{Bytes, Word};
+use chk_chunk::{Chunk, ChunkFault, post_size, read_key, read_post, write_key, write_post};
 use std::alloc::Global;
 use std::test::Fail;
 

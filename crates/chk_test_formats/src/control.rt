@@ -1,7 +1,7 @@
 //! Lines as they are typed, and answers as they are shown.
 
-use super::*;
 use chk_bytes::{Bytes, Word, WordFault};
+use chk_control::{Answer, Class, Command, LineFault, State, read_line, write_answer};
 use std::alloc::Global;
 
 fn word(alloc: Global, text: &str) -> Result<Word, WordFault> {
