@@ -1,14 +1,17 @@
 #!/usr/bin/env python3
 """Reads what the program leaves in a folder: sequence files, keys, books, checkpoints and archives.
 
-usage: tools/archive_reader.py FOLDER
+usage: tools/archive_reader.py FOLDER [SOURCE TYPE NAME]
 
-It prints `stream <source> <type> <name> <start> <end>` for each archived stream of FOLDER, and ends with 1
-where a file isn't as docs/FORMATS.md says, or a stream's records don't follow one another. It shares no
-line with the program: other scripts compare by it what the program wrote with what it was given.
+It prints `stream <source> <type> <name> <start> <end>` for each archived stream of FOLDER; with SOURCE, TYPE and
+NAME it writes that stream's archived bytes to standard output. It ends with 1 where a file isn't as
+docs/FORMATS.md says, a stream's records don't follow one another, or there is no such stream. Let no job run
+meanwhile. It shares no line with the program: other scripts compare by it what the program wrote with what
+it was given.
 """
 import collections
 import hashlib
+import mmap
 import os
 import struct
 import sys
@@ -34,6 +37,14 @@ class Damaged(Exception):
 def contents(name):
     with open(name, "rb") as file:
         return file.read()
+
+
+def mapped(name):
+    """The bytes of a file that nobody changes, each read where it is asked for."""
+    with open(name, "rb") as file:
+        if os.fstat(file.fileno()).st_size == 0:
+            return b""
+        return mmap.mmap(file.fileno(), 0, access=mmap.ACCESS_READ)
 
 
 def word(data, at):
@@ -100,7 +111,7 @@ def chunks(name, most=MOST_DATA["archive"]):
     """The chunks of a whole sink or segment."""
     stem = os.path.basename(name)
     stem = stem.removesuffix(".done").removesuffix(".chukwa")
-    for key, value in records(contents(name), stem):
+    for key, value in records(mapped(name), stem):
         yield read_chunk(key, value, most)
 
 
@@ -177,6 +188,49 @@ class Archive:
         return sum(a != b for a, b in zip(held, log)) + max(len(held) - len(log), 0)
 
 
+class Comparison:
+    """An archive beside its logs, each given as a file. One chunk is held at a time.
+
+    `lost`, `doubled` and `misplaced` count bytes: those that a record leaves out behind the one before, those that
+    are there twice, and those that aren't the log's at their places."""
+
+    def __init__(self, folder, logs, below="archive"):
+        self.book, self.lost, self.doubled, self.misplaced = book_of(folder, below), 0, 0, 0
+        self.sizes = {stream: os.path.getsize(name) for stream, name in logs.items()}
+        self.ends = {stream: start for stream, (start, _) in self.book.streams.items()}
+        files = {stream: open(name, "rb") for stream, name in logs.items()}
+        try:
+            for number, length in self.book.segments:
+                for chunk in Archive.segment(f"{folder}/{below}", number, length):
+                    self.take(chunk, files)
+        finally:
+            for file in files.values():
+                file.close()
+        if self.ends != {stream: end for stream, (_, end) in self.book.streams.items()}:
+            raise Damaged(f"the records end at {self.ends}, the book says {self.book.streams}")
+
+    def take(self, chunk, files):
+        if chunk.stream not in self.ends or chunk.stream not in files:
+            raise Damaged(f"a record of {chunk.stream}, which the book or the caller doesn't name")
+        end = self.ends[chunk.stream]
+        self.lost += max(chunk.first - end, 0)
+        self.doubled += max(end - chunk.first, 0)
+        self.ends[chunk.stream] = chunk.end
+        whole = os.pread(files[chunk.stream].fileno(), len(chunk.data), chunk.first)
+        if whole != chunk.data:
+            self.misplaced += sum(a != b for a, b in zip(whole, chunk.data)) + len(chunk.data) - len(whole)
+
+    def difference(self):
+        """What the archive has other than the whole logs, if anything."""
+        if self.lost or self.doubled or self.misplaced:
+            return f"bytes lost {self.lost} doubled {self.doubled} misplaced {self.misplaced}"
+        missing = {stream: (self.ends.get(stream, 0), size) for stream, size in self.sizes.items()
+                   if self.ends.get(stream, 0) != size}
+        if missing or self.book.aside:
+            return f"ends and sizes {missing}, aside {self.book.aside}"
+        return None
+
+
 def read_row(line):
     left, right = line.split(" = ")
     (state, name), found = left.split(" "), right.split(" ")
@@ -198,18 +252,42 @@ def checkpoint(folder, source):
     return {row.path: row for row in map(read_row, lines)}
 
 
-def main(folder):
+class Ends:
+    """Where the streams of an archive end, and each stream's records one after the other."""
+
+    def __init__(self, folder, wanted=None):
+        self.folder, self.book, self.wanted = folder, book_of(folder), wanted
+        self.ends = {stream: start for stream, (start, _) in self.book.streams.items()}
+
+    def read(self):
+        """Goes over the records, and writes those of the wanted stream."""
+        for number, length in self.book.segments:
+            for chunk in Archive.segment(f"{self.folder}/archive", number, length):
+                if self.ends.get(chunk.stream) != chunk.first:
+                    raise Damaged(f"seg.{number}: a record of {chunk.stream} from {chunk.first} on")
+                self.ends[chunk.stream] = chunk.end
+                if chunk.stream == self.wanted:
+                    sys.stdout.buffer.write(chunk.data)
+        if self.ends != {stream: end for stream, (_, end) in self.book.streams.items()}:
+            raise Damaged(f"the records end at {self.ends}, the book says {self.book.streams}")
+
+
+def main(folder, *stream):
     try:
-        archive = Archive(folder)
+        found = Ends(folder, stream)
+        if stream and stream not in found.ends:
+            sys.exit(f"the book doesn't name {stream}")
+        found.read()
+    except BrokenPipeError:
+        os.dup2(os.open(os.devnull, os.O_WRONLY), sys.stdout.fileno())
+        sys.exit(1)
     except (Damaged, OSError, struct.error, UnicodeDecodeError) as why:
         sys.exit(f"damaged: {why}")
-    for stream, (start, end) in sorted(archive.book.streams.items()):
-        print("stream", *stream, start, end)
-    if archive.lost or archive.doubled:
-        sys.exit(f"lost {archive.lost} doubled {archive.doubled}")
+    for each, (start, end) in sorted(found.book.streams.items()) if not stream else ():
+        print("stream", *each, start, end)
 
 
 if __name__ == "__main__":
-    if len(sys.argv) != 2 or sys.argv[1].startswith("-"):
+    if len(sys.argv) not in (2, 5) or sys.argv[1].startswith("-"):
         sys.exit(__doc__)
-    main(sys.argv[1])
+    main(*sys.argv[1:])

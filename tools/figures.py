@@ -1,124 +1,178 @@
 #!/usr/bin/env python3
-"""Times logs through `agent` and `collector` over 127.0.0.1 into committed sinks, beside copies of them.
+"""Times logs through `drain` or `agent` and a `collector` over 127.0.0.1 into committed sinks, beside copies.
 
-usage: tools/figures.py [--mb N] [--logs N]... [--program FILE]
+usage: tools/figures.py [--mb N] [--logs N]... [--only drain|agent] [--tenfold] [--rounds N] [--program FILE]
 
-N megabytes (200) of lines of 100 to 300 bytes stand in 1, 8 and 64 logs, or as many as `--logs` says, in a new
-folder below the current one, which needs four times the bytes. An agent with `--poll 200` and a collector run
-from the agent's start until the checkpoint says that all is committed; the two are then ended, the sinks
-closed and archived, and each archive has to be its log. Beside it, `dd conv=fsync` writes the same bytes from
-`cat`, and a loop of `sendfile` copies them with one `fsync`. A row has MB/s, seconds, processor seconds and the
-peak of the resident memory; the agent pauses 200 ms in each turn, in which it takes at most 131,072 bytes of a
-log and posts at most 4,194,304, and this bounds its speed.
+N megabytes (200) of lines of 100 to 300 bytes stand in logs in a new folder below the current one, which
+needs four times the bytes. A `drain` of 1 log, and an `agent` with `--poll 200` over 64 logs, or each of
+both over as many as `--logs` says, run beside a collector until all is committed: the drain to its end, the
+agent until its checkpoint says so. Then the sinks are closed and archived, and each archive has to be its
+log, byte for byte; another one, and another status than 0, ends the script with 1. Beside it `dd conv=fsync`
+writes the same bytes from `cat`, and a loop of `sendfile` copies them with one `fsync`.
+
+A row has MB/s, seconds, processor seconds and the peak of the resident memory. Goals are told, and don't
+change the status: a drain has half of sendfile's MB/s, and each process holds less than 48 MB. An agent
+pauses 200 ms in each turn, in which it takes at most 131,072 bytes of a log and posts at most 4,194,304:
+its row tells how much of that ceiling it has, and its logs have no more bytes than 15 seconds of it.
+`--tenfold` drains logs that are ten times as long too, to show that the memory is the same.
 """
-import argparse
 import os
-import random
 import signal
 import sys
 import tempfile
 import time
 
-from archive_reader import Archive, checkpoint, contents
-from running import Used, add_program, free_ports, load, program_of, ran, row
+import copies
+from archive_reader import Comparison, checkpoint
+from running import Used, add_program, free_ports, listening, load, parser_of, program_of, ran, row
 
-SEED = 7
-COPY = """
-import os, sys
-made = os.open("copied", os.O_WRONLY | os.O_CREAT | os.O_TRUNC)
-for name in sorted(os.listdir("logs")):
-    log = os.open("logs/" + name, os.O_RDONLY)
-    while os.sendfile(made, log, None, 1 << 22):
-        pass
-    os.close(log)
-os.fsync(made)
-"""
+PIECE = 131_072
+POST = 4_194_304
+# A chunk in a post has this and its data, where the path is `logs/00.log`.
+CHUNK = 8 + 15 + len("h1" "Log" "logs/00.log")
+PAUSE = 0.2
+AGENT_SECONDS = 15
+SHARE_GOAL = 50
 
 
-def write_logs(folder, size, count):
-    """Logs of lines of 100 to 300 bytes, and each one's bytes."""
-    chance = random.Random(SEED)
-    filler = bytes(chance.choices(b"abcdefghijklmnopqrstuvwxyz 0123456789", k=4096))
-    os.mkdir(f"{folder}/logs")
-    for number in range(count):
-        left = size // count
-        with open(f"{folder}/logs/{number:02}.log", "wb") as log:
-            while left > 0:
-                length = min(chance.randrange(100, 301), left)
-                place = chance.randrange(4096 - 300)
-                log.write(filler[place : place + length - 1] + b"\n")
-                left -= length
-    return [f"logs/{number:02}.log" for number in range(count)]
+def ceiling(count):
+    """How many bytes an agent may post in a second."""
+    return min(count, (POST - 4) // (PIECE + CHUNK)) * PIECE / PAUSE
 
 
-def committed(folder):
-    return sum(line.offset for line in checkpoint(folder, "h1").values())
+class Delivery:
+    """A collector that runs beside a drain or an agent over some logs, in one folder."""
 
+    def __init__(self, asked, folder, paths):
+        self.program, self.seconds, self.folder, self.paths = asked.program, asked.seconds, folder, paths
+        self.size = sum(os.path.getsize(f"{folder}/{path}") for path in paths)
+        self.door = f"127.0.0.1:{free_ports(1)[0]}"
+        self.collector = self.sender = None
+        with open(f"{folder}/add", "w", encoding="ascii") as file:
+            file.write("".join(f"add FileTailingAdaptor Log {path} 0\n" for path in paths))
 
-def delivered(program, folder, paths, size, seconds):
-    """What agent and collector took until all was committed."""
-    with open(f"{folder}/add", "w", encoding="ascii") as file:
-        file.write("".join(f"add FileTailingAdaptor Log {path} 0\n" for path in paths))
-    door = f"127.0.0.1:{free_ports(1)[0]}"
-    collector = Used([program, "collector", "c1", door], folder)
-    agent = None
-    try:
-        time.sleep(0.5)
-        agent = Used([program, "agent", "--initial", "add", "--poll", "200", "h1", door], folder)
-        while committed(folder) < size:
-            if agent.look() or collector.look() or time.monotonic() - agent.began > seconds:
-                sys.exit(f"of {size} bytes {committed(folder)} were committed: {agent.status} {collector.status}")
-            time.sleep(0.05)
-        took = time.monotonic() - agent.began
-    finally:
-        for each in (agent, collector):
+    def open(self):
+        self.collector = Used([self.program, "collector", "c1", self.door], self.folder)
+        while not listening(int(self.door.rpartition(":")[2])):
+            self.goes_on(self.collector.look())
+
+    def goes_on(self, is_wrong):
+        began = (self.sender or self.collector).began
+        if is_wrong or time.monotonic() - began > self.seconds:
+            ends = [each and each.status for each in (self.sender, self.collector)]
+            sys.exit(f"of {self.size} bytes {self.committed()} were committed: statuses {ends}")
+        time.sleep(0.005)
+
+    def committed(self):
+        return sum(line.offset for line in checkpoint(self.folder, "h1").values())
+
+    def drain(self):
+        words = [self.program, "drain", "--initial", "add", "h1", self.door]
+        with open(f"{self.folder}/said", "wb") as said:
+            self.sender = Used(words, self.folder, said)
+        while not self.sender.look():
+            self.goes_on(self.collector.look())
+        with open(f"{self.folder}/said", encoding="utf-8") as said:
+            printed = said.read()
+        wanted = [f"stream h1 Log {path} {os.path.getsize(f'{self.folder}/{path}')}\n" for path in self.paths]
+        if self.sender.status != 0 or printed != "".join(wanted):
+            sys.exit(f"drain: status {self.sender.status} {printed}")
+
+    def agent(self):
+        words = [self.program, "agent", "--initial", "add", "--poll", "200", "h1", self.door]
+        self.sender = Used(words, self.folder)
+        while self.committed() < self.size:
+            self.goes_on(self.sender.look() or self.collector.look())
+        took = time.monotonic() - self.sender.began
+        self.sender.end()
+        self.sender.seconds = took
+
+    def close(self):
+        for each in (self.sender, self.collector):
             if each and each.status is None:
                 each.end()
-    agent.seconds = collector.seconds = took
-    return agent, collector, door
+
+    def compare(self):
+        """The sinks are closed and archived, and each archive is its log."""
+        for words in (["collector", "--turns", "1", "c1", self.door], ["archive"]):
+            status, out, error = ran([self.program, *words], self.folder, 600)
+            if status != 0:
+                sys.exit(f"{words[0]}: {status} {out} {error}")
+        logs = {("h1", "Log", path): f"{self.folder}/{path}" for path in self.paths}
+        if why := Comparison(self.folder, logs).difference():
+            sys.exit(f"an archive isn't its log: {why}")
 
 
-def compare(program, folder, paths, door):
-    """The sinks are closed and archived, and each archive is its log."""
-    for words in (["collector", "--turns", "1", "c1", door], ["archive"]):
-        status, out, error = ran([program, *words], folder, 600)
-        if status != 0:
-            sys.exit(f"{words[0]}: {status} {out} {error}")
-    archive = Archive(folder)
-    for path in paths:
-        if archive.bytes_of(("h1", "Log", path)) != contents(f"{folder}/{path}"):
-            sys.exit(f"{path}: its archive differs")
+def delivered(asked, folder, paths, sender):
+    """What a delivery took, the sender first."""
+    delivery = Delivery(asked, folder, paths)
+    try:
+        delivery.open()
+        sender(delivery)
+    finally:
+        delivery.close()
+    delivery.collector.seconds = delivery.sender.seconds
+    delivery.compare()
+    return delivery.sender, delivery.collector
 
 
-def measured(asked, count):
-    what = f"{asked.mb} MB in {count} log{'s' if count > 1 else ''}"
+def copied(what, size, folder):
+    copies.settled(folder, "logs/*.log")
+    print(row(f"{what}: cat and dd conv=fsync", size, copies.dumped(folder)))
+    sent = copies.sent(folder)
+    print(row(f"{what}: sendfile and fsync", size, sent), flush=True)
+    return sent
+
+
+def sized(size, count):
+    return f"{size / 1e6:.0f} MB in {count} log{'s' if count > 1 else ''}"
+
+
+def drained(asked, size, count):
+    what = sized(size, count)
     with tempfile.TemporaryDirectory(dir=".", prefix="figures-") as folder:
-        paths = write_logs(folder, asked.mb * 1_000_000, count)
-        size = sum(os.path.getsize(f"{folder}/{path}") for path in paths)
-        Used(["sh", "-c", "sync -f . && cat logs/*.log >/dev/null"], folder).wait(600)
-        copy = "cat logs/*.log | dd of=written bs=4M iflag=fullblock conv=fsync 2>/dev/null"
-        print(row(f"{what}: cat and dd conv=fsync", size, Used(["sh", "-c", copy], folder).wait(600)))
-        print(row(f"{what}: sendfile and fsync", size, Used([sys.executable, "-c", COPY], folder).wait(600)))
-        for name in ("written", "copied"):
-            os.remove(f"{folder}/{name}")
-        agent, collector, door = delivered(asked.program, folder, paths, size, asked.seconds)
-        print(row(f"{what}: agent", size, agent))
-        print(row(f"{what}: collector", size, collector), flush=True)
-        compare(asked.program, folder, paths, door)
+        paths = copies.write_logs(folder, size, count)
+        sent = copied(what, size, folder)
+        drain, collector = delivered(asked, folder, paths, Delivery.drain)
+    print(row(f"{what}: drain", size, drain))
+    print(row(f"{what}: its collector", size, collector))
+    print(copies.share(f"{what}: drain and sendfile", drain, sent, SHARE_GOAL, collector), flush=True)
+
+
+def followed(asked, size, count):
+    size = min(size, int(AGENT_SECONDS * ceiling(count)))
+    what = sized(size, count)
+    with tempfile.TemporaryDirectory(dir=".", prefix="figures-") as folder:
+        paths = copies.write_logs(folder, size, count)
+        sent = copied(what, size, folder)
+        agent, collector = delivered(asked, folder, paths, Delivery.agent)
+    print(row(f"{what}: agent", size, agent))
+    print(row(f"{what}: its collector", size, collector))
+    part = 100 * size / agent.seconds / ceiling(count)
+    print(f"{what}: agent: {part:.0f} % of the ceiling of {ceiling(count) / 1e6:.1f} MB/s")
+    print(copies.share(f"{what}: agent and sendfile", agent, sent, None, collector), flush=True)
 
 
 def main():
-    parser = argparse.ArgumentParser(description=__doc__.split("\n", 1)[0])
+    parser = parser_of(__doc__)
     parser.add_argument("--mb", type=int, default=200, help="megabytes of lines (200)")
-    parser.add_argument("--logs", type=int, action="append", help="numbers of logs (1, 8 and 64)")
-    parser.add_argument("--seconds", type=int, default=900, help="what a delivery may take (900)")
+    parser.add_argument("--logs", type=int, action="append", help="numbers of logs (drain 1, agent 64)")
+    parser.add_argument("--only", choices=["drain", "agent"], help="one of both alone")
+    parser.add_argument("--tenfold", action="store_true", help="a drain of ten times the bytes too")
+    parser.add_argument("--rounds", type=int, default=1, help="runs of each row (1)")
+    parser.add_argument("--seconds", type=int, default=200, help="what a delivery may take (200)")
     add_program(parser)
     asked = parser.parse_args()
     asked.program = program_of(asked)
     signal.signal(signal.SIGTERM, lambda *_: sys.exit(143))
     print(load())
-    for count in asked.logs or [1, 8, 64]:
-        measured(asked, count)
+    for _ in range(asked.rounds):
+        for count in (asked.logs or [1]) if asked.only != "agent" else []:
+            drained(asked, asked.mb * 1_000_000, count)
+            if asked.tenfold:
+                drained(asked, asked.mb * 10_000_000, count)
+        for count in (asked.logs or [64]) if asked.only != "drain" else []:
+            followed(asked, asked.mb * 1_000_000, count)
 
 
 if __name__ == "__main__":

@@ -1,16 +1,16 @@
 #!/usr/bin/env python3
-"""Kills an agent or a collector before each of its calls on files, makes each fail, and runs it again.
+"""Kills an agent, a drain or a collector before each of its calls on files, makes each fail, and runs it again.
 
-usage: tools/kill_servers.py [--every N] [--jobs N] [--error NAME]... [--program FILE] agent|collector
+usage: tools/kill_servers.py [--every N] [--jobs N] [--error NAME]... [--program FILE] agent|drain|collector
 
-It is `tools/kill_calls.py` for the two commands that have peers. The `collector` starts over a sink that an
+It is `tools/kill_calls.py` for the commands that have peers. The `collector` starts over a sink that an
 earlier start left and gets posts and polls on 127.0.0.1: what a poll said is committed has to be in a closed sink
 after the next start, whatever was killed or failed. The `agent` reads a log with two rotated generations and
 another one, and a stand-in takes its posts: its checkpoint has to stay readable, never passes what was
-committed, and after a run without a fault both logs have arrived, byte for byte. JOBS tries (4) go on at a
+committed, and after a run without a fault both logs have arrived, byte for byte. The `drain` reads the same
+logs; with 0 it has to have delivered them. JOBS tries (4) go on at a
 time, since most of their time is pauses. It wants `strace`, and ends with 1 where something was wrong.
 """
-import argparse
 import collections
 import concurrent.futures
 import os
@@ -26,8 +26,9 @@ import time
 
 import archive_records as made
 from archive_reader import Damaged, checkpoint, chunks, read_chunk
-from kill_calls import NAMES, WRITING, Wrong, folders, lines, points_of, sequence_file
-from running import Process, add_program, free_ports, listening, load, program_of
+from kill_calls import NAMES, WRITING, points_of
+from running import Process, add_program, free_ports, listening, load, parser_of, program_of
+from scenes import Wrong, folders, lines, sequence_file
 
 ONE, TWO = ("h1", "Log", "a.log"), ("h1", "Log", "b.log")
 CLOSED = "Connection: close\r\n\r\n"
@@ -134,6 +135,14 @@ class CollectorScene:
                 raise Wrong(f"{name}: false bytes of {chunk.stream} at {chunk.first}")
         return [(chunk.stream, chunk.first, chunk.end) for chunk in found]
 
+    def ended(self, out):
+        """It prints nothing where it ends with 0."""
+        if out:
+            raise Wrong(f"it printed {out!r}")
+
+    def lines(self):
+        return []
+
     def close(self):
         pass
 
@@ -221,11 +230,36 @@ class AgentScene:
             if is_whole and offset != len(log):
                 raise Wrong(f"{stream}: of {len(log)} bytes {offset} are committed")
 
+    def ended(self, out):
+        """It prints nothing where it ends with 0."""
+        if out:
+            raise Wrong(f"it printed {out!r}")
+
+    def lines(self):
+        return []
+
     def close(self):
         self.door.close()
 
 
-SCENES = {"agent": AgentScene, "collector": CollectorScene}
+class DrainScene(AgentScene):
+    """A drain over the logs and the checkpoint of the agent's scene."""
+
+    def __init__(self, folder):
+        super().__init__(folder)
+        self.words = ["drain", "--initial", "add", "--polls", "5", "h1", self.words[-1]]
+
+    def ended(self, out):
+        """With 0 it has printed both logs and delivered them."""
+        if out != "".join(self.lines()):
+            raise Wrong(f"it printed {out!r}, not {self.lines()}")
+        self.check(True)
+
+    def lines(self):
+        return [f"stream {' '.join(stream)} {len(log)}\n" for stream, log in self.logs.items()]
+
+
+SCENES = {"agent": AgentScene, "drain": DrainScene, "collector": CollectorScene}
 
 
 def run(program, scene, before=()):
@@ -249,9 +283,10 @@ class Tries:
             traced += ["-e", "trace=" + ",".join(f"?{name}" for name in NAMES)]
             said = run(self.given.program, scene, traced)
             scene.close()
-            scene.check(True)
             if said[0] != 0:
                 sys.exit(f"without a fault: {said}")
+            scene.ended(said[1])
+            scene.check(True)
             return points_of(f"{folder}/trace")
 
     def one(self, point):
@@ -266,9 +301,12 @@ class Tries:
                     raise Wrong(f"ended with {status} {out} {error}")
                 self.ended["killed" if status == -signal.SIGKILL else f"ended with {status}"] += 1
                 scene.check(False)
+                if status == 0:
+                    scene.ended(out)
                 again = run(self.given.program, scene)
                 if again[0] != 0:
                     raise Wrong(f"without a fault: {again}")
+                scene.ended(again[1])
                 scene.check(True)
             except (Wrong, Damaged, OSError, struct.error) as why:
                 self.wrong += 1
@@ -288,7 +326,7 @@ class Tries:
 
 
 def main():
-    parser = argparse.ArgumentParser(description=__doc__.split("\n", 1)[0])
+    parser = parser_of(__doc__)
     parser.add_argument("command", choices=SCENES, help="the command that is killed")
     parser.add_argument("--every", type=int, default=1, help="try each N-th call alone (1)")
     parser.add_argument("--jobs", type=int, default=4, help="tries at a time (4)")
@@ -303,8 +341,10 @@ def main():
     points = tries.points()
     print(f"{given.command}: {len(points)} calls on files", flush=True)
     tries.all(points)
-    print(f"points {sum(tries.ended.values())}: " + ", ".join(f"{n} {how}" for how, n in tries.ended.items()))
-    print(f"seconds {time.monotonic() - began:.0f}: {f'{tries.wrong} BAD' if tries.wrong else 'ok'}")
+    ended = ", ".join(f"{n} {how}" for how, n in sorted(tries.ended.items()))
+    print(f"{given.command}: points {sum(tries.ended.values())}: {ended}")
+    wrong = f"{tries.wrong} BAD" if tries.wrong else "ok"
+    print(f"{given.command}: seconds {time.monotonic() - began:.0f}: {wrong}")
     return 1 if tries.wrong else 0
 
 

@@ -7,7 +7,6 @@ Each case, or each of those that are named, runs in a new folder, with ports tha
 `skipped` and why, or what differed. The script ends with 1 where a case differed; each case is over
 within a minute. A full disk wants a tmpfs that can be mounted, a missing permission root or none.
 """
-import argparse
 import os
 import shutil
 import signal
@@ -16,11 +15,12 @@ import sys
 import tempfile
 import time
 
-from archive_reader import Archive, Damaged, checkpoint
-from kill_calls import sequence_file
-from running import Process, add_program, free_ports, listening, program_of, ran
+from archive_reader import Archive, Damaged, checkpoint, contents
+from running import Process, add_program, asked_at, free_ports, listening, parser_of, program_of, ran
+from scenes import sequence_bytes, sequence_file
 
 NOBODY = 65534
+PIECE = 131_072
 REFUSED = "Connection refused (os error 111)"
 TAKEN = "Address already in use (os error 98)"
 
@@ -176,33 +176,193 @@ def one_log(room):
     archived(room, {("h1", "Log", "logs/a.log"): log})
 
 
+def pieces_of(stream, log):
+    """A log in chunks that are as large as can be."""
+    return [(stream, log, at, min(at + PIECE, len(log))) for at in range(0, len(log), PIECE)]
+
+
+def ended(room, what, process, seconds=30):
+    wanted(what, (0, "", ""), (process.wait(seconds), process.printed(), process.error()))
+
+
+def drain_to_sink(room):
+    """A drain takes logs to a collector that makes twenty turns: its one sink has them, and then the archive."""
+    log, small = lines(b"h1", 3000), b"hello\n"
+    room.write("logs/a.log", log)
+    room.write("logs/b.log", small)
+    add_lines(room, "add", "logs/a.log", "logs/b.log", "logs/none.log", kind="FileTailingAdaptor")
+    collector, door = opened(room, "--turns", "20")
+    ends = [("logs/a.log", len(log)), ("logs/b.log", 6), ("logs/none.log", 0)]
+    told = "".join(f"stream h1 Log {path} {end}\n" for path, end in ends)
+    wanted("the drain", (0, told, ""), room.run("drain", "--initial", "add", "h1", door))
+    wanted("what is committed", [end for _, end in ends], [committed(room, "h1", path) for path, _ in ends])
+    ended(room, "the collector", collector)
+    wanted("the sinks", ["c1.1.1.done", "c1.born"], sorted(os.listdir(f"{room.folder}/sinks")))
+    a, b = (("h1", "Log", path) for path, _ in ends[:2])
+    sink = sequence_bytes("c1.1.1", pieces_of(a, log) + pieces_of(b, small))
+    wanted("the sink's bytes", True, contents(f"{room.folder}/sinks/c1.1.1.done") == sink)
+    archived(room, {a: log, b: small})
+
+
+def agent_to_sink(room):
+    """An agent of 25 turns and a collector of ten: the one sink has the log's six bytes, and the checkpoint says so."""
+    room.write("logs/a.log", b"hello\n")
+    add_lines(room, "add", "logs/a.log")
+    collector, door = opened(room, "--turns", "10")
+    agent = room.run("agent", "--initial", "add", "--turns", "25", "--poll", "200", "h1", door)
+    wanted("the agent", (0, "", ""), agent)
+    ended(room, "the collector", collector)
+    stream = ("h1", "Log", "logs/a.log")
+    sink = sequence_bytes("c1.1.1", [(stream, b"hello\n", 0, 6)])
+    wanted("the sink's bytes", sink, contents(f"{room.folder}/sinks/c1.1.1.done"))
+    check = "chukwa-checkpoint 1\nadd adaptor_1 = CharFileTailingAdaptorUTF8 Log logs/a.log 6 0 -\n"
+    wanted("the checkpoint", check, contents(f"{room.folder}/agents/h1.check").decode())
+    archived(room, {stream: b"hello\n"})
+
+
+class Growing:
+    """A log that grows, and is rotated where its class goes over rotations."""
+
+    def __init__(self, room, kind, name, path):
+        self.room, self.kind, self.name, self.path = room, kind, name, path
+        self.stream, self.log, self.days = ("h1", "Log", path), b"", 0
+
+    def grow(self, count):
+        more = lines(b"%s from %d on" % (self.path.encode(), len(self.log)), count)
+        self.log += more
+        with open(f"{self.room.folder}/{self.path}", "ab") as file:
+            file.write(more)
+
+    def rotate(self):
+        self.days += 1
+        base = f"{self.room.folder}/{self.path}"
+        os.rename(base, f"{base}.{20_261_100 + self.days}")
+
+    def line(self, name=""):
+        return f"add {name}{self.kind} Log {self.path} 0\n"
+
+    def listed(self):
+        end = len(self.log)
+        return f"{self.name} {self.kind} Log {self.path} {end} {end} live\n"
+
+    def is_committed(self):
+        return committed(self.room, "h1", self.path) == len(self.log)
+
+
+def grown(logs, turns):
+    """Some seconds in which logs grow and are rotated."""
+    for turn in range(turns):
+        for log in logs:
+            log.grow(turn % 9)
+            if turn % 7 == 3 and log.kind != "LWFTAdaptor":
+                log.rotate()
+                log.grow(turn % 3)
+        time.sleep(0.1)
+
+
+def control_session(room):
+    """Logs that grow and are rotated, of an agent that gets them, loses one and stops by its control door."""
+    a, b, c = logs = [Growing(room, "FileTailingAdaptor", "a", "logs/a.log"),
+                      Growing(room, "CharFileTailingAdaptorUTF8", "adaptor_1", "logs/b.log"),
+                      Growing(room, "LWFTAdaptor", "adaptor_2", "logs/c.log")]
+    collector, door = opened(room, "--rotate", "400")
+    (control,) = free_ports(1)
+    agent = room.start("agent", "--control", address(control), "--poll", "200", "--expire", "2000", "h1", door)
+    until("the control door", 20, lambda: agent.status() is not None or listening(control))
+    said = asked_at(control, a.line("a = ") + b.line() + c.line() + "list\n")
+    added = "".join(f"OK add completed; new ID is {log.name}\n" for log in logs)
+    wanted("three logs", added + "".join(log.listed() for log in logs) + "OK 3 adaptors\n", said)
+    wrong = "stop b\n lst \n\nadd x\nadd LWFTAdaptor Log logs/d.log -5\n"
+    said = asked_at(control, c.line("a = ") + a.line() + wrong)
+    refused = ["9 NameInUse", "10 StreamInUse", "12 NoAdaptor", "1 Unknown", "2 MissingWord", "3 BadOffset"]
+    wanted("what is refused", "".join(f"BAD {why}\n" for why in refused), said)
+    grown(logs, 40)
+    until("all is committed", 30, lambda: all(log.is_committed() for log in logs))
+    said = asked_at(control, "list\nstop a\nreloadcollectors\n")
+    listed = "".join(log.listed() for log in logs) + "OK 3 adaptors\n"
+    wanted("the list", listed + "OK adaptor a stopped\nOK 1 collectors\n", said)
+    grown(logs, 10)
+    until("the others are committed", 30, lambda: b.is_committed() and c.is_committed())
+    wanted("what is committed of the stopped one", True, committed(room, "h1", a.path) < len(a.log))
+    wanted("it is added again", "OK add completed; new ID is a\n", asked_at(control, a.line("a = ")))
+    until("all is committed", 30, lambda: a.is_committed())
+    wanted("the end", "".join(log.listed() for log in logs) + "OK 3 adaptors\nOK agent stops\n",
+           asked_at(control, "list\nstopagent\nlist\n"))
+    ended(room, "the agent", agent)
+    collector.kill()
+    wanted("the collector's end", 0, room.run("collector", "--turns", "1", "c1", door)[0])
+    archived(room, {log.stream: log.log for log in logs})
+
+
+class Pair:
+    """Two agents, each in a folder of its own, and two collectors in one, and a log of each agent."""
+
+    def __init__(self, room, count):
+        self.room, self.logs, self.doors, self.collectors, self.agents = room, {}, [], [], []
+        for name in ("h1", "h2", "store"):
+            os.mkdir(f"{room.folder}/{name}")
+        for name in ("c1", "c2"):
+            collector, door = opened(room, "--rotate", "500", name=name, below="store")
+            self.collectors.append(collector)
+            self.doors.append(door)
+        self.controls = dict(zip(("h1", "h2"), free_ports(2)))
+        for source in self.controls:
+            path = f"{room.folder}/logs/{source}.log"
+            self.logs[(source, "Log", path)] = log = lines(source.encode(), count)
+            room.write(f"logs/{source}.log", log)
+            add_lines(room, f"{source}/add", path)
+
+    def start_agents(self):
+        for source, port in self.controls.items():
+            words = ["--initial", "add", "--control", address(port), "--poll", "200", "--expire", "2000", source]
+            self.agents.append(self.room.start("agent", *words, *self.doors, below=source))
+
+    def committed(self):
+        return [committed(self.room, source, path, below=source) for source, _, path in self.logs]
+
+    def kill_and_start(self):
+        """One of the collectors, once some bytes are committed."""
+        until("some is committed", 30, lambda: sum(self.committed()) > 0)
+        self.collectors[0].kill()
+        time.sleep(0.5)
+        self.collectors[0] = self.room.start("collector", "--rotate", "500", "c1", self.doors[0], below="store")
+
+    def close(self):
+        """The collectors end, close their sinks at a further start, and the job runs."""
+        for process in self.collectors:
+            process.kill()
+        for name, door in zip(("c1", "c2"), self.doors):
+            wanted(f"the end of {name}", 0, self.room.run("collector", "--turns", "1", name, door, below="store")[0])
+        archived(self.room, self.logs, below="store")
+
+
 def killed_collector(room):
-    """Two agents and two collectors, each in a folder of its own or of the collectors; one is killed."""
-    for name in ("h1", "h2", "store"):
-        os.mkdir(f"{room.folder}/{name}")
-    logs, doors = {}, []
-    collectors = []
-    for name in ("c1", "c2"):
-        collector, door = opened(room, "--rotate", "500", name=name, below="store")
-        collectors.append(collector)
-        doors.append(door)
-    for source in ("h1", "h2"):
-        path = f"{room.folder}/logs/{source}.log"
-        logs[(source, "Log", path)] = lines(source.encode(), 20_000)
-        room.write(f"logs/{source}.log", logs[(source, "Log", path)])
-        add_lines(room, f"{source}/add", path)
-        room.start("agent", "--initial", "add", "--poll", "200", "--expire", "2000", source, *doors, below=source)
-    until("some is committed", 30, lambda: sum(committed(room, *key[::2], below=key[0]) for key in logs) > 0)
-    collectors[0].kill()
-    time.sleep(0.5)
-    again = room.start("collector", "--rotate", "500", "c1", doors[0], below="store")
-    whole = sum(map(len, logs.values()))
-    until("all is committed", 45, lambda: sum(committed(room, *key[::2], below=key[0]) for key in logs) == whole)
-    for process in (again, collectors[1]):
-        process.kill()
-    for name, door in zip(("c1", "c2"), doors):
-        wanted(f"the end of {name}", 0, room.run("collector", "--turns", "1", name, door, below="store")[0])
-    archived(room, logs, below="store")
+    """Of two collectors one is killed and started again: the agents deliver all."""
+    pair = Pair(room, 20_000)
+    pair.start_agents()
+    pair.kill_and_start()
+    ends = [len(log) for log in pair.logs.values()]
+    until("all is committed", 45, lambda: pair.committed() == ends)
+    pair.close()
+
+
+def killed_then_drained(room):
+    """Of two collectors one is killed and started again, the agents stop in mid-work, and drains deliver the rest."""
+    pair = Pair(room, 60_000)
+    pair.start_agents()
+    pair.kill_and_start()
+    time.sleep(1)
+    for source, agent in zip(pair.controls, pair.agents):
+        wanted(f"the control door of {source}", "OK agent stops\n", asked_at(pair.controls[source], "stopagent\n"))
+        wanted(f"the end of {source}", (0, ""), (agent.wait(30), agent.printed()))
+    ends = [len(log) for log in pair.logs.values()]
+    parts = [0 < part < end for part, end in zip(pair.committed(), ends)]
+    wanted("whether parts of the logs are committed", [True, True], parts)
+    for (source, kind, path), end in zip(pair.logs, ends):
+        status, out, _ = room.run("drain", source, *pair.doors, below=source)
+        wanted(f"the drain of {source}", (0, f"stream {source} {kind} {path} {end}\n"), (status, out))
+    wanted("what is committed", ends, pair.committed())
+    pair.close()
 
 
 def stopped_close(room):
@@ -353,8 +513,9 @@ def full_archive(room, store, logs):
     archived(room, logs, below="store")
 
 
-CASES = [refused_connection, held_name, held_source, one_log, killed_collector, stopped_close, odd_logs]
-CASES += [folder_for_log, unreadable_log, closed_folder, full_disk]
+CASES = [drain_to_sink, agent_to_sink, control_session, killed_collector, killed_then_drained, one_log, odd_logs]
+CASES += [refused_connection, held_name, held_source, stopped_close, folder_for_log, unreadable_log]
+CASES += [closed_folder, full_disk]
 
 
 def tried(program, case):
@@ -378,7 +539,7 @@ def tried(program, case):
 
 
 def main():
-    parser = argparse.ArgumentParser(description=__doc__.split("\n", 1)[0])
+    parser = parser_of(__doc__)
     parser.add_argument("cases", nargs="*", metavar="CASE", help=", ".join(case.__name__ for case in CASES))
     add_program(parser)
     asked = parser.parse_args()

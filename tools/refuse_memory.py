@@ -1,20 +1,23 @@
 #!/usr/bin/env python3
 """Refuses each allocation of a command in turn, and runs it again.
 
-usage: tools/refuse_memory.py [--every N] [--program FILE] COMMAND
+usage: tools/refuse_memory.py [--every N] [--jobs N] [--program FILE] COMMAND...
        tools/refuse_memory.py [--every N] tests CRATE
 
-COMMAND is one of those of tools/kill_calls.py, over the same files. It wants a C compiler `cc`. For N from
-1 until none is refused any more, in an own folder, the command's N-th allocation gets no memory, and in a
-further run none from the N-th on. Each run has to end with 4 (`out of memory`), with 0 and be whole, or,
-where the memory was one that the system wanted for a call, with 3. The archive has to be a prefix of the
-logs, and a run without a fault to make it whole. With `tests` the allocations of each test of CRATE are
-refused one at a time; `rt test` in the crate's folder leaves its program there. A test may pass, or fail with
-what it tells; a fault and a hang are wrong. It prints how the runs ended, and ends with 1 where something was
-wrong. `tools/refuse_memory.sh` tries a crate's tests without a proof.
+COMMAND is one of those of tools/kill_calls.py and of tools/kill_servers.py, over the same files. It wants a C
+compiler `cc`. For N from 1 until none is refused any more, in an own folder, the command's N-th allocation
+gets no memory, and in a further run none from the N-th on. Each run has to end with 4 (`out of memory`), or with
+0 and be whole: a small command's lines and files are then those of a run without a refusal, byte for byte.
+Another status is wrong. The archive has to be a prefix of the logs, a run without a refusal to make it whole, and
+a further one to have nothing to do. JOBS tries (2) go on at a time. It prints how the runs ended, the points and
+the seconds, and ends with 1 where something was wrong.
+
+With `tests` the allocations of each test of CRATE are refused one at a time; `rt test` in the crate's folder
+leaves its program there. A test may pass, or fail with what it tells; a fault and a hang are wrong.
+`tools/refuse_memory.sh` tries a crate's tests without a proof.
 """
-import argparse
 import collections
+import concurrent.futures
 import os
 import struct
 import subprocess
@@ -23,10 +26,12 @@ import tempfile
 import time
 
 from archive_reader import Damaged
-from kill_calls import SCENES, Wrong, again, prefixes
-from running import HERE, add_program, load, program_of, ran
+from kill_servers import SCENES as PEERS, run
+from running import HERE, add_program, load, parser_of, program_of, ran
+from scenes import SCENES, SMALL, Wrong, again, listed, prefixes
 
 MOST = 1_000_000
+LAST = "out of memory\n"
 # The status of a test that failed.
 FAILED = 101
 
@@ -38,46 +43,146 @@ def built(folder):
 
 
 class Refusals:
-    def __init__(self, program, scene, shim):
-        self.program, self.scene, self.shim = program, scene, shim
+    def __init__(self, asked, shim, command):
+        self.program, self.every, self.jobs, self.shim = asked.program, asked.every, asked.jobs, shim
+        self.command, self.is_small = command, command in SMALL
+        self.scene = {**SCENES, **SMALL}[command]()
         self.ended, self.wrong = collections.Counter(), 0
 
     def faulted(self, folder, number, is_all):
-        """Whether an allocation was refused, and the status."""
+        """Whether an allocation was refused, the status and what was printed."""
         told = f"{folder}/told"
         words = ["env", f"LD_PRELOAD={self.shim}", f"REFUSE_AT={number}", f"REFUSE_TOLD={told}"]
         words += ["REFUSE_ALL=1"] if is_all else []
         status, out, error = ran([*words, self.program, *self.scene.words], folder)
-        if status not in (0, 3, 4):
+        if status not in (0, 4):
             raise Wrong(f"ended with {status} {out} {error}")
-        # Where no memory comes any more, the line can't be printed either.
-        if status == 4 and out not in ("out of memory\n", "") and not out.endswith("\nout of memory\n"):
+        if status == 4:
+            self.interrupted(folder, out, is_all)
+        return os.path.exists(told), status, out
+
+    def interrupted(self, folder, out, is_all):
+        """A run that ends with 4 may have printed some of its lines before. Where no memory comes any more, its
+        last line can't be printed either; and it prints nothing where it hasn't got its words."""
+        rest, is_begun = out.removesuffix(LAST), bool(listed(folder, "locks"))
+        if rest == out and not is_all and is_begun:
             raise Wrong(f"ended with 4 and {out!r}")
-        return os.path.exists(told), status
+        if self.is_small and rest not in self.scene.fronts():
+            raise Wrong(f"ended with 4 and {out!r}, of {self.scene.lines!r}")
+
+    def after(self, folder, status, out):
+        """What a run left is right, and so is what further runs make of it."""
+        prefixes(self.scene, folder)
+        if status == 0:
+            self.scene.whole(folder)
+        if status == 0 and self.is_small:
+            self.scene.told(out)
+            self.scene.exact(folder)
+        again(self.program, self.scene.words, folder)
+        self.scene.whole(folder)
+        self.scene.further(self.program, folder)
+
+    def whole(self):
+        """A run without a refusal, and what comes behind it, are right."""
+        with tempfile.TemporaryDirectory(prefix="refuse-memory-") as folder:
+            self.scene.make(folder)
+            self.after(folder, 0, again(self.program, self.scene.words, folder))
 
     def one(self, number, is_all):
         """Whether an allocation was refused."""
         with tempfile.TemporaryDirectory(prefix="refuse-memory-") as folder:
             try:
                 self.scene.make(folder)
-                was_refused, status = self.faulted(folder, number, is_all)
+                was_refused, status, out = self.faulted(folder, number, is_all)
                 if not was_refused:
                     return False
                 self.ended[status] += 1
-                prefixes(self.scene, folder)
-                if status == 0:
-                    self.scene.whole(folder)
-                again(self.program, self.scene.words, folder)
-                self.scene.whole(folder)
-                self.scene.further(self.program, folder)
-            except (Wrong, Damaged, OSError, struct.error) as why:
+                self.after(folder, status, out)
+            except (Wrong, Damaged, OSError, struct.error, KeyError) as why:
                 self.wrong += 1
                 print(f"wrong: {number} {'and all behind it' if is_all else 'alone'}: {why}", flush=True)
         return True
 
+    def both(self, number):
+        return self.one(number, False) and self.one(number, True)
+
+    def all(self):
+        """Goes on to the first number of which none is refused, and tells how many numbers were."""
+        step = 16 * self.jobs
+        with concurrent.futures.ThreadPoolExecutor(self.jobs) as pool:
+            for first in range(1, MOST, step * self.every):
+                numbers = range(first, first + step * self.every, self.every)
+                refused = list(pool.map(self.both, numbers))
+                if not all(refused):
+                    return (first - 1) // self.every + sum(refused)
+        raise AssertionError("the allocations have no end")
+
+
+class PeerRefusals(Refusals):
+    """The commands that have peers, over the scenes of tools/kill_servers.py."""
+
+    def __init__(self, asked, shim, command):
+        self.program, self.every, self.jobs, self.shim = asked.program, asked.every, asked.jobs, shim
+        self.command, self.ended, self.wrong = command, collections.Counter(), 0
+
+    def whole(self):
+        with tempfile.TemporaryDirectory(prefix="refuse-memory-") as folder:
+            scene = PEERS[self.command](folder)
+            self.after(scene)
+            scene.close()
+
+    @staticmethod
+    def is_front(scene, out):
+        """Whether a run that ended early may have printed this much."""
+        lines = scene.lines()
+        return out in ["".join(lines[:count]) for count in range(len(lines) + 1)]
+
+    def after(self, scene):
+        """A run without a refusal is whole."""
+        status, out, error = run(self.program, scene)
+        if status != 0:
+            raise Wrong(f"without a refusal: {status} {out} {error}")
+        scene.ended(out)
+        scene.check(True)
+
+    def one(self, number, is_all):
+        with tempfile.TemporaryDirectory(prefix="refuse-memory-") as folder:
+            scene, told = PEERS[self.command](folder), f"{folder}/told"
+            before = ["env", f"LD_PRELOAD={self.shim}", f"REFUSE_AT={number}", f"REFUSE_TOLD={told}"]
+            before += ["REFUSE_ALL=1"] if is_all else []
+            try:
+                status, out, error = run(self.program, scene, before)
+                if not os.path.exists(told):
+                    return False
+                self.ended[status] += 1
+                if status not in (0, 4) or status == 4 and not self.is_front(scene, out.removesuffix(LAST)):
+                    raise Wrong(f"ended with {status} {out} {error}")
+                scene.check(False)
+                if status == 0:
+                    scene.ended(out)
+                self.after(scene)
+            except (Wrong, Damaged, OSError, struct.error, KeyError) as why:
+                self.wrong += 1
+                print(f"wrong: {number} {'and all behind it' if is_all else 'alone'}: {why}", flush=True)
+            finally:
+                scene.close()
+        return True
+
+
+def refused_command(asked, shim, command):
+    """Whether all was right with a command."""
+    began, tries = time.monotonic(), (PeerRefusals if command in PEERS else Refusals)(asked, shim, command)
+    tries.whole()
+    numbers = tries.all()
+    ended = ", ".join(f"{count} ended with {status}" for status, count in sorted(tries.ended.items()))
+    print(f"{command}: allocations {numbers}, points {2 * numbers}: {ended}")
+    wrong = f"{tries.wrong} BAD" if tries.wrong else "ok"
+    print(f"{command}: seconds {time.monotonic() - began:.0f}: {wrong}", flush=True)
+    return tries.wrong == 0 and numbers > 0
+
 
 def refused_tests(program, every, shim):
-    """How the tests of a crate end where an allocation is refused, and how many ended by a fault or never."""
+    """Whether no test of a crate ended by a fault or never where an allocation was refused."""
     ended, wrong = collections.Counter(), 0
     names = [line.removesuffix(": test") for line in ran([program, "--list"], ".")[1].splitlines()]
     for name in names:
@@ -96,41 +201,29 @@ def refused_tests(program, every, shim):
                 print(f"wrong: {name} {number}: status {status} {out} {error}", flush=True)
     for how, count in ended.most_common():
         print(f"{count}: {how}")
-    print(f"tests {len(names)} runs {sum(ended.values()) + wrong}")
-    return wrong
-
-
-def refused_command(tries, every):
-    for number in range(1, MOST, every):
-        if not tries.one(number, False):
-            break
-        tries.one(number, True)
-    print(f"allocations {number - 1}, runs {sum(tries.ended.values())}: ", end="")
-    print(", ".join(f"{count} ended with {status}" for status, count in sorted(tries.ended.items())))
-    return tries.wrong if tries.ended else 1
+    print(f"tests {len(names)} runs {sum(ended.values()) + wrong}: {f'{wrong} BAD' if wrong else 'ok'}")
+    return wrong == 0
 
 
 def main():
-    parser = argparse.ArgumentParser(description=__doc__.split("\n", 1)[0])
-    parser.add_argument("command", choices=[*SCENES, "tests"], help="the command whose memory is refused")
-    parser.add_argument("crate", nargs="?", help="the crate whose tests' memory is refused")
+    parser = parser_of(__doc__)
+    choices = [*SCENES, *SMALL, *PEERS]
+    parser.add_argument("words", nargs="+", metavar="COMMAND", help=", ".join(choices) + "; or tests CRATE")
     parser.add_argument("--every", type=int, default=1, help="refuse each N-th allocation alone (1)")
+    parser.add_argument("--jobs", type=int, default=2, help="tries at a time (2)")
     add_program(parser)
     asked = parser.parse_args()
-    if (asked.command == "tests") != bool(asked.crate):
-        parser.error("tests wants a crate, and a command none")
-    began = time.monotonic()
+    is_tests = asked.words[0] == "tests"
+    if (len(asked.words) != 2) if is_tests else not set(asked.words) <= set(choices):
+        parser.error("tests wants a crate; a command is one of " + ", ".join(choices))
     print(load(), flush=True)
     with tempfile.TemporaryDirectory() as place:
         shim = built(place)
-        if asked.crate:
-            program = os.path.abspath(f"{HERE}/../crates/{asked.crate}/out/{asked.crate}_tests")
-            wrong = refused_tests(program, asked.every, shim)
-        else:
-            tries = Refusals(program_of(asked), SCENES[asked.command](), shim)
-            wrong = refused_command(tries, asked.every)
-    print(f"seconds {time.monotonic() - began:.0f}: {f'{wrong} BAD' if wrong else 'ok'}")
-    return 1 if wrong else 0
+        if is_tests:
+            program = os.path.abspath(f"{HERE}/../crates/{asked.words[1]}/out/{asked.words[1]}_tests")
+            return 0 if refused_tests(program, asked.every, shim) else 1
+        asked.program = program_of(asked)
+        return 0 if all([refused_command(asked, shim, command) for command in asked.words]) else 1
 
 
 if __name__ == "__main__":

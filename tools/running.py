@@ -1,4 +1,5 @@
 """Runs the program for the other scripts here: its place, free ports, and what a run takes."""
+import argparse
 import os
 import random
 import resource
@@ -12,6 +13,13 @@ import time
 HERE = os.path.dirname(os.path.abspath(__file__))
 PROGRAM = os.path.abspath(os.path.join(HERE, "../crates/chukwa/out/chukwa"))
 MIB = 1 << 20
+
+
+def parser_of(doc):
+    """A parser whose help is the text at a script's head."""
+    what, _, more = doc.split("\n\n", 2)
+    shown = argparse.RawDescriptionHelpFormatter
+    return argparse.ArgumentParser(description=what, epilog=more.strip(), formatter_class=shown)
 
 
 def add_program(parser):
@@ -51,6 +59,20 @@ def listening(port):
     local = f"0100007F:{port:04X}"
     with open("/proc/net/tcp", encoding="ascii") as table:
         return any(row.split()[1] == local and row.split()[3] == "0A" for row in table.readlines()[1:])
+
+
+def asked_at(port, lines):
+    """What an agent answers to a control message at its door."""
+    said = b""
+    try:
+        with socket.create_connection(("127.0.0.1", port), timeout=20) as door:
+            door.sendall(lines.encode())
+            door.shutdown(socket.SHUT_WR)
+            while piece := door.recv(65_536):
+                said += piece
+    except OSError as why:
+        return f"{said.decode()}{why}"
+    return said.decode()
 
 
 class Process:

@@ -1,32 +1,35 @@
 #!/usr/bin/env python3
-"""Kills agents, collectors and the job at random while logs grow, and compares each log with its archive.
+"""Kills agents, collectors and jobs at random while logs grow, and compares each log with its archive.
 
 usage: tools/soak.py [--seconds N] [--seed N] [--kb N] [--program FILE]
 
-Two agents, two collectors and the archive job run as programs on 127.0.0.1, in a new folder below the
-current one. Logs of each reader's class grow and are rotated, and generations that the checkpoint has
-passed are deleted. Each process is killed with SIGKILL at random and started again. All along, the
-archive of each log has to be a prefix of it. After N seconds (60) nothing is killed any more: the agents
-run until all is committed, the collectors close their sinks, the job runs, and the archives have to be
-the logs. At most five minutes later the script is over. All logs together grow by N kilobytes a second
-(400); a slow machine wants fewer, since an agent whose collector takes two seconds for a post sends it
-again. It ends with 1 where a byte is lost, doubled or in a wrong place, where a process ended by itself, or
-where not all was committed in time.
+Two agents, two collectors and the jobs `archive` and `demux` run as programs on 127.0.0.1, in a new folder
+below the current one. Logs of each reader's class grow and are rotated, and generations that the checkpoint
+has passed are deleted. Each process is killed with SIGKILL at random and started again. All along, the archive
+of each log has to be a prefix of it, and the records of `demux` its lines from the first one on. After N
+seconds (60) nothing is killed any more: the agents run until all is committed, the collectors close their
+sinks, the jobs run, and the archives have to be the logs, and the records their lines. At most five minutes
+later the script is over. All logs together grow by N kilobytes a second (400), and the folder takes about six
+times their bytes; a slow machine wants fewer, since an agent whose collector takes two seconds for a post
+sends it again. A line each minute, and at the end, tells the kills of each process, the rotations and the
+deleted generations, the runs of jobs and the comparisons. It ends with 1 where a byte is lost, doubled or in a
+wrong place, where a process ended by itself, or where not all was committed in time. The seed of what is done
+at random is told; the same seed doesn't give the same moments.
 """
-import argparse
 import os
 import random
 import signal
-import socket
 import sys
 import tempfile
 import time
 
-from archive_reader import Archive, Damaged, checkpoint, contents
-from running import Process, add_program, free_ports, load, program_of, ran
+from archive_reader import Comparison, Damaged, checkpoint
+from running import Process, add_program, asked_at, free_ports, load, parser_of, program_of, ran
 
 CLASSES = ["FileTailingAdaptor", "CharFileTailingAdaptorUTF8", "LWFTAdaptor"]
 FINISH = 150
+# How often it tells what was done, in seconds.
+TELLING = 60
 # Kilobytes that all logs grow in a second, at the sizes below.
 GROWTH = 400
 # How often a second each happens, to each of those that it can happen to.
@@ -122,7 +125,7 @@ class Server:
 
 
 class Job:
-    """Archive runs, one at a time, some of which are killed."""
+    """Runs of `archive`, and one in four of `demux`, one at a time, some of which are killed."""
 
     def __init__(self, soak):
         self.soak, self.process, self.until = soak, None, None
@@ -131,7 +134,8 @@ class Job:
     def tend(self, now, chance, step, may_kill=True):
         if self.process is None:
             if chance.random() < JOBS * step:
-                self.process = Process("job", [self.soak.program, "archive"], self.soak.folder)
+                command = chance.choice(["archive", "archive", "archive", "demux"])
+                self.process = Process(command, [self.soak.program, command], self.soak.folder)
                 self.until = now + FINISH
                 if may_kill and chance.random() < 0.5:
                     self.until = now + chance.uniform(0, 0.06)
@@ -143,9 +147,19 @@ class Job:
             self.process.kill()
             self.kills += 1
         elif self.process.status() not in (0, -9):
-            self.soak.wrong(f"job: {self.process.status()} {self.process.printed()} {self.process.error()}")
+            process = self.process
+            self.soak.wrong(f"{process.name}: {process.status()} {process.printed()} {process.error()}")
         self.process.close()
         self.process = None
+
+
+class Lines(Comparison):
+    """The records of `demux`, each of which has to be a line of its log."""
+
+    def take(self, chunk, files):
+        super().take(chunk, files)
+        if chunk.data.find(b"\n") != len(chunk.data) - 1:
+            raise Damaged(f"the record of {chunk.stream} from {chunk.first} on isn't a line")
 
 
 class Soak:
@@ -155,7 +169,7 @@ class Soak:
         for name in ("logs", "copies"):
             os.mkdir(f"{folder}/{name}")
         self.logs = [Log(folder, source, kind) for source in ("h1", "h2") for kind in CLASSES]
-        self.ends = {log.stream: 0 for log in self.logs}
+        self.ends = {"archive": {}, "demux": {}}
         ports = free_ports(4)
         self.doors = {"h1": ports[0], "h2": ports[1]}
         self.addresses = [f"127.0.0.1:{port}" for port in ports[2:]]
@@ -187,24 +201,24 @@ class Soak:
                 log.rotate()
 
     def check(self):
-        """Each archive is a prefix of its log, and no shorter than before."""
-        archive = Archive(self.folder)
+        """Each archive is a prefix of its log and no shorter than before, and so are the records of its lines."""
+        logs = {log.stream: log.copy for log in self.logs if os.path.exists(log.copy)}
+        archive, records = Comparison(self.folder, logs), Lines(self.folder, logs, "demux")
         self.checks += 1
-        if archive.lost or archive.doubled:
-            self.wrong(f"lost {archive.lost} doubled {archive.doubled}")
-        for log in self.logs:
-            end = archive.ends.get(log.stream, 0)
-            if end < self.ends[log.stream]:
-                self.wrong(f"{log.path}: its archive went from {self.ends[log.stream]} to {end}")
-            self.ends[log.stream] = end
-            if os.path.exists(log.copy) and archive.differs(log.stream, contents(log.copy)):
-                self.wrong(f"{log.path}: its archive is no prefix of it")
-        return archive
+        for what, found in (("archive", archive), ("demux", records)):
+            if found.lost or found.doubled or found.misplaced:
+                self.wrong(f"{what}: lost {found.lost} doubled {found.doubled} out of order {found.misplaced}")
+            for log in self.logs:
+                end = found.ends.get(log.stream, 0)
+                if end < self.ends[what].get(log.stream, 0):
+                    self.wrong(f"{log.path}: {what} went from {self.ends[what][log.stream]} to {end}")
+            self.ends[what] = found.ends
+        return archive, records
 
     def run(self, seconds):
         """Kills and writes until the time is over."""
         began = last = time.monotonic()
-        looked = checked = began
+        looked = checked = told = began
         while last - began < seconds:
             time.sleep(0.02)
             now = time.monotonic()
@@ -217,8 +231,12 @@ class Soak:
                 for log in self.logs:
                     log.delete_passed()
             if now >= checked and self.job.process is None:
-                self.check()
+                archive, _ = self.check()
                 checked = time.monotonic() + max(2, 9 * (time.monotonic() - now))
+                if now - told > TELLING:
+                    told = now
+                    print(f"after {now - began:.0f} s {sum(archive.ends.values())} bytes are archived")
+                    self.tell()
 
     def rest(self):
         """Nothing is killed any more, until all is committed."""
@@ -244,7 +262,7 @@ class Soak:
             if server.process is None:
                 continue
             if server.name in self.doors:
-                said = asked(self.doors[server.name], "list\nstopagent\n")
+                said = asked_at(self.doors[server.name], "list\nstopagent\n")
                 if not said.endswith("OK 3 adaptors\nOK agent stops\n") or server.process.wait(20) != 0:
                     self.wrong(f"{server.name}: {said} {server.process.status()} {server.process.error()}")
             server.process.close()
@@ -253,6 +271,8 @@ class Soak:
             self.done(server.name, words, "")
         self.done("job", [self.program, "archive"], "archive unclosed 0 ")
         self.done("job", [self.program, "archive"], "archive unclosed 0 taken 0 held 0 removed 0\n")
+        self.done("job", [self.program, "demux"], "demux taken ")
+        self.done("job", [self.program, "demux"], "demux taken 0 entries 0 left 0\n")
         left = [name for name in os.listdir(f"{self.folder}/sinks") if name.endswith((".done", ".chukwa", ".mark"))]
         if left:
             self.wrong(f"sinks are left: {left}")
@@ -263,23 +283,21 @@ class Soak:
             self.wrong(f"{name}: {status} {out} {error}")
 
     def report(self):
-        archive = self.check()
-        size = lost = doubled = misplaced = 0
-        for log in self.logs:
-            whole = contents(log.copy)
-            held = archive.bytes_of(log.stream)
-            size += len(whole)
-            lost += max(len(whole) - len(held), 0)
-            doubled += max(len(held) - len(whole), 0)
-            misplaced += archive.differs(log.stream, whole)
-        lost, doubled = lost + archive.lost, doubled + archive.doubled
-        if lost or doubled or misplaced:
-            self.wrong("the archives aren't the logs")
-        print(f"bytes {size} lost {lost} doubled {doubled} out of order {misplaced}")
+        archive, records = self.check()
+        for what, found in (("archives", archive), ("records", records)):
+            if why := found.difference():
+                self.wrong(f"the {what} aren't the logs: {why}")
+        size = sum(archive.sizes.values())
+        lost = archive.lost + size - sum(archive.ends.values())
+        print(f"bytes {size} lost {lost} doubled {archive.doubled} out of order {archive.misplaced}")
+        self.tell()
+
+    def tell(self):
+        """What was done so far."""
         kills = {server.name: server.kills for server in self.servers} | {"job": self.job.kills}
         print(f"kills {sum(kills.values())}: " + ", ".join(f"{name} {count}" for name, count in kills.items()))
         rotations, deleted = (sum(getattr(log, what) for log in self.logs) for what in ("rotations", "deleted"))
-        print(f"rotations {rotations} deleted {deleted} archive runs {self.job.runs} comparisons {self.checks}")
+        print(f"rotations {rotations} deleted {deleted} job runs {self.job.runs} comparisons {self.checks}", flush=True)
 
     def close(self):
         for each in (*self.servers, getattr(self, "job", None)):
@@ -287,22 +305,8 @@ class Soak:
                 each.process.close()
 
 
-def asked(port, lines):
-    """What an agent answers at its control door."""
-    said = b""
-    try:
-        with socket.create_connection(("127.0.0.1", port), timeout=20) as door:
-            door.sendall(lines.encode())
-            door.shutdown(socket.SHUT_WR)
-            while piece := door.recv(65_536):
-                said += piece
-    except OSError as why:
-        return f"{said.decode()}{why}"
-    return said.decode()
-
-
 def main():
-    parser = argparse.ArgumentParser(description=__doc__.split("\n", 1)[0])
+    parser = parser_of(__doc__)
     parser.add_argument("--seconds", type=float, default=60, help="how long processes are killed (60)")
     parser.add_argument("--seed", type=int, default=1, help="of what is done at random (1)")
     parser.add_argument("--kb", type=float, default=GROWTH, help="kilobytes that the logs grow in a second (400)")
