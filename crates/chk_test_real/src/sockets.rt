@@ -1,7 +1,7 @@
 // Messages over real sockets on the loopback interface.
-use chk_sockets::{Messages, SystemFault};
 use chk_bytes::Bytes;
 use chk_site::{CallFault, Taking};
+use chk_sockets::{Messages, SystemFault};
 use std::alloc::Global;
 use std::io;
 use std::io::Write;
