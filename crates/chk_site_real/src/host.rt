@@ -17,15 +17,15 @@ use std::rt::Files;
 
 /// At most two files are open: one to append to, and one to read.
 #[derive(Drop)]
-pub struct Host<R: Files> {
+pub struct Host<R: Files<File = File>> {
     pub rt: R,
-    writing: Option<Kept<R>>,
-    pub reading: Option<Kept<R>>,
+    writing: Option<Kept>,
+    pub reading: Option<Kept>,
     pub listings: Listings,
     pub buffer: Vec<u8>,
 }
 
-impl<R: Files> Host<R> {
+impl<R: Files<File = File>> Host<R> {
     pub fn new(rt: R, alloc: Global) -> Host<R> {
         Host {
             rt,
@@ -226,12 +226,8 @@ impl<R: Files> Host<R> {
         ensures most { IfOk result (λ bytes. length bytes ≤ max) }
         ensures only { MayBeShort (answer_of result) }
     {
-        let mut reader = self.reader(alloc, name)?;
-        reader.go_to(at)?;
-        let bytes = reader.piece(&mut self.buffer, alloc, max)?;
-        if bytes.len() == 0 {
-            reader.reaches(at)?;
-        }
+        let reader = self.reader(alloc, name)?;
+        let bytes = reader.piece(&mut self.buffer, alloc, at, max)?;
         self.reading = Some(reader);
         Ok(bytes)
     }
@@ -245,7 +241,7 @@ impl<R: Files> Host<R> {
     }
 
     // The file to append to, taken from what is kept.
-    fn writer(&mut self, alloc: Global, name: &str) -> Result<Kept<R>, SystemFault>
+    fn writer(&mut self, alloc: Global, name: &str) -> Result<Kept, SystemFault>
         ensures { MayFail (answer_of result) }
     {
         if let Some(kept) = self.writing.take() {
@@ -259,7 +255,7 @@ impl<R: Files> Host<R> {
     }
 
     // The file to read, taken from what is kept.
-    fn reader(&mut self, alloc: Global, name: &str) -> Result<Kept<R>, SystemFault>
+    fn reader(&mut self, alloc: Global, name: &str) -> Result<Kept, SystemFault>
         ensures { MayFail (answer_of result) }
     {
         if let Some(kept) = self.reading.take() {

@@ -7,31 +7,24 @@ use chk_bytes::Bytes;
 use chk_sockets::{SystemFault, make_room};
 use std::alloc::Global;
 use std::fs;
-use std::fs::OpenFile;
-use std::io::{Read, Seek, SeekFrom};
-use std::os::unix::fs::MetadataExt;
+use std::fs::{File, OpenFile};
+use std::os::unix::fs::{FileExt, MetadataExt};
 use std::rt::Files;
 
 #[derive(Drop)]
-pub struct Kept<R: Files> {
+pub struct Kept {
     pub name: String,
-    pub file: R::File,
-    /// The place of the next read.
-    place: u64,
+    pub file: File,
 }
 
-impl<R: Files> Kept<R> {
-    pub fn new(name: String, file: R::File) -> Kept<R> {
-        Kept {
-            name,
-            file,
-            place: 0,
-        }
+impl Kept {
+    pub fn new(name: String, file: File) -> Kept {
+        Kept { name, file }
     }
 
     /// The file that is open is the one that has its name now. Where the runtime numbers no files
     /// that is never known.
-    pub fn has_its_name(&self, rt: &R) -> bool {
+    pub fn has_its_name<R: Files>(&self, rt: &R) -> bool {
         let (Ok(open), Ok(named)) = (self.file.metadata(), fs::metadata(rt, self.name.as_str()))
         else {
             return false;
@@ -39,77 +32,61 @@ impl<R: Files> Kept<R> {
         open.ino() > 0 && open.ino() == named.ino() && open.dev() == named.dev()
     }
 
-    pub fn size(&self) -> Result<u64, SystemFault>
-        ensures { MayFail (answer_of result) }
-    {
-        Ok(self.file.metadata()?.len())
-    }
-
-    /// `Short` where the file ends before the place.
-    pub fn reaches(&self, at: u64) -> Result<(), SystemFault>
-        ensures { MayBeShort (answer_of result) }
-    {
-        let size = self.size()?;
-        if size < at {
-            return Err(SystemFault::Short { size });
-        }
-        Ok(())
-    }
-
-    /// The file may end before the place. `Short` comes only where it does and the system doesn't go there.
-    pub fn go_to(&mut self, at: u64) -> Result<(), SystemFault>
-        ensures { MayBeShort (answer_of result) }
-    {
-        if self.place == at {
-            return Ok(());
-        }
-        if let Err(error) = self.file.seek(SeekFrom::Start(at)) {
-            self.reaches(at)?;
-            return Err(SystemFault::Failed(error));
-        }
-        self.place = at;
-        Ok(())
-    }
-
-    /// The next bytes, up to `max` of them or the end of the file.
+    /// The bytes from the place on, up to `max` of them or the end of the file. `Short` where it ends
+    /// before the place.
     pub fn piece(
-        &mut self,
+        &self,
         buffer: &mut Vec<u8>,
         alloc: Global,
+        at: u64,
         max: u32,
     ) -> Result<Bytes, SystemFault>
         ensures most { IfOk result (λ bytes. length bytes ≤ max) }
-        ensures only { MayFail (answer_of result) }
+        ensures only { MayBeShort (answer_of result) }
     {
+        let room = self.rest(at)?.min(max as u64) as usize;
+        if room == 0 {
+            return Ok(Bytes::new(alloc));
+        }
         make_room(buffer)?;
-        let mut bytes = Bytes::new(alloc);
-        for _ in 0..max {
-            let most = (max as usize - bytes.len()).min(buffer.len());
-            let count = self.read_some(&mut buffer[..most])?;
+        let mut bytes = Bytes::with_capacity(alloc, room)?;
+        for _ in 0..room {
+            let most = (room - bytes.len()).min(buffer.len());
+            let place = at.saturating_add(bytes.len() as u64);
+            let count = self.read_some(&mut buffer[..most], place)?;
             if count == 0 {
                 break;
             }
             bytes.push_all(&buffer[..count])?;
         }
+        if bytes.len() == 0 {
+            self.rest(at)?;
+        }
         Ok(bytes)
     }
 
+    // How many bytes there are from the place on; `Short` where the file ends before it.
+    fn rest(&self, at: u64) -> Result<u64, SystemFault>
+        ensures { MayBeShort (answer_of result) }
+    {
+        let size = self.file.metadata()?.len();
+        size.checked_sub(at).ok_or(SystemFault::Short { size })
+    }
+
     // How many bytes were read; none at the end of the file.
-    fn read_some(&mut self, buffer: &mut [u8]) -> Result<usize, SystemFault>
+    fn read_some(&self, buffer: &mut [u8], place: u64) -> Result<usize, SystemFault>
         ensures most { IfOk result (λ count. count ≤ length buffer.new) }
         ensures only { MayFail (answer_of result) }
     {
         if buffer.is_empty() {
             return Ok(0);
         }
-        let count = self.file.read(buffer)?;
-        self.place = self.place.saturating_add(count as u64);
-        Ok(count)
+        Ok(self.file.read_at(buffer, place)?)
     }
 }
 
 /// The kept file is the one of this name.
-pub fn is_named<R: Files>(kept: &Option<Kept<R>>, name: &str) -> bool {
+pub fn is_named(kept: &Option<Kept>, name: &str) -> bool {
     match kept {
         Some(kept) => kept.name.as_str() == name,
         None => false,

@@ -14,7 +14,7 @@ use chk_listings::{Listing, Stamp};
 use chk_site::{Part, Piece, Suffix};
 use chk_sockets::{SystemFault, make_room, text};
 use std::alloc::Global;
-use std::fs::OpenOptions;
+use std::fs::{File, OpenOptions};
 use std::io::{ErrorKind, Write};
 use std::rt::Files;
 use std::time::Clock;
@@ -29,7 +29,7 @@ struct Front {
     is_whole: bool,
 }
 
-impl<R: Files + Clock> Host<R> {
+impl<R: Files<File = File> + Clock> Host<R> {
     /// Appends to the base file, and makes it where it isn't there. It is opened anew each time,
     /// since what was the base file may be a rotated generation now.
     pub fn append_log(&self, path: &str, bytes: &[u8]) -> Result<(), SystemFault>

@@ -2,4 +2,4 @@ use Rattle.std.proofs.Common.{◌≤◌, length}
 use Rattle.chk_site_real.proofs.kept.Kept.piece.Given as goal
 
 abbrev pub invariant-loop : goal.invariant-loop
-invariant-loop g l = length l.bytes ≤ l.max
+invariant-loop l = length l.bytes ≤ l.room
