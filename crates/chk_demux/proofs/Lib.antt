@@ -4,10 +4,10 @@ mod Works
 mod OneSegment
 mod Feeding
 mod Places
+mod HeadsInOrder
 mod Outputs
 mod Fetches
 mod Streams
-mod FoundRecords
 mod Prefixes
 mod Entries
 mod Started
@@ -15,6 +15,7 @@ mod BookLoads
 mod Sources
 mod Ordered
 mod SortedEnds
+mod ChunksInOrder
 mod RaisedEnds
 mod NewRecords
 mod NewKeys

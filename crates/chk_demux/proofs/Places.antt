@@ -74,7 +74,7 @@ begins_past start from to (c ∷ cs) all r =
 -- ---- at one of all chunks
 
 -- what holds of those that pass
-unfiltered : (P : Chunk → Type 0) (p : Chunk → Bool) (cs : List Chunk) → Each P (filter p cs)
+pub unfiltered : (P : Chunk → Type 0) (p : Chunk → Bool) (cs : List Chunk) → Each P (filter p cs)
     → Each (λ c. p c ≡ true → P c) cs
 unfiltered P p [] all = tt
 unfiltered P p (c ∷ cs) all = go (p c) refl (λ h. unfiltered P p cs h) all

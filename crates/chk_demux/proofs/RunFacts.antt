@@ -4,6 +4,7 @@ use Rattle.std.specs.Prelude.{Contains, codes, filter, flat_map}
 use Rattle.chk_site.specs.History.{History, files_after}
 use Rattle.chk_chunk.specs.Keys.{Stream, Chunk, is_of}
 use Rattle.chk_world.specs.Names.{ArchiveFolder, DemuxFolder, BookFile, SegmentFile}
+use Rattle.chk_world.specs.ArchiveRuns.{in_order}
 use Rattle.chk_world.specs.Books.{Segment, End, Book, book_in, book_of, chunks_in, values}
 use Rattle.chk_world.specs.Jobs.{NewBook}
 use Rattle.chk_world.specs.Rules.{Legal}
@@ -11,10 +12,12 @@ use Rattle.chk_world.specs.Sight.{Sight, sight, own_book, own_chunks}
 use Rattle.chk_world.specs.Splits.{record_in, split}
 use Rattle.chk_world.specs.Streams.{start_of}
 use Rattle.chk_world.specs.TrueBooks.{HasBytes}
-use Rattle.chk_world.proofs.Each.{Each, each_at, each_filter, later_one}
+use Rattle.chk_world.proofs.Each.{Each, each_as, each_at, each_filter, later_one}
 use Rattle.chk_world.proofs.Segments.{flat_same}
 use Rattle.chk_world.proofs.BooksTrue.{books_stay_true, each_append, each_named, has_start_is}
 use Rattle.chk_heads.specs.Heads.{Head}
+use Rattle.chk_heads.specs.Order.{in_head_order}
+use Rattle.chk_plan.proofs.Runs.{all_put}
 use Rattle.chk_merge.specs.Segments.{names_of}
 use Rattle.chk_parts.specs.Gathering.{AreSound, heads_of}
 use Rattle.chk_parts.specs.Records.{AreRecords}
@@ -26,6 +29,7 @@ use Rattle.chk_demux.specs.Running.{IsReady}
 use Rattle.chk_demux.specs.Splitting.{RunsSo, SplitAll, split_from, stream_chunks, all_chunks, all_left}
 use Rattle.chk_demux.specs.Writes.{IsFree, HoldsChunks, bytes_of}
 use Rattle.chk_demux.specs.declared.report.DemuxReport.{DemuxReport}
+use Rattle.chk_demux.proofs.ChunksInOrder.{runs_in_order, all_run, same_chunks, same_left}
 use Rattle.chk_demux.proofs.NewKeys.{keys_found}
 use Rattle.chk_demux.proofs.NewRecords.{whole_split, left_is, new_fits, archive_sorted, archive_rises}
 use Rattle.chk_demux.proofs.NextRecords.{may_publish}
@@ -36,7 +40,7 @@ use Rattle.chk_demux.proofs.Started.{named_known}
 
 -- the new records, of these archived ones
 abbrev pub News : List (List ℕ) → Book → Book → Sight → List Chunk → List Chunk
-News types a b v cs = all_chunks types b (heads_of v 0 (names_of (codes "archive") a)) cs a.ends
+News types a b v cs = all_chunks types b (in_head_order (heads_of v 0 (names_of (codes "archive") a))) cs a.ends
 
 -- the report counts them
 pub record Counts (types : List (List ℕ)) (a b : Book) (v : Sight) (cs : List Chunk) (r : DemuxReport) : Type 0 where
@@ -47,7 +51,7 @@ pub record Counts (types : List (List ℕ)) (a b : Book) (v : Sight) (cs : List 
 pub record CanRun (stamped types : List (List ℕ)) (a b : Book) (v : Sight) : Type 0 where
   pub cs : List Chunk
   pub sound : AreSound v (names_of (codes "archive") a)
-  pub records : AreRecords v (names_of (codes "archive") a) (heads_of v 0 (names_of (codes "archive") a)) cs
+  pub records : AreRecords v (names_of (codes "archive") a) (in_head_order (heads_of v 0 (names_of (codes "archive") a))) cs
   pub runs : SplitAll cs a.ends b
   pub free : IsFree v b.next
   pub book : own_book v DemuxFolder ≡ b
@@ -78,7 +82,7 @@ module _ (stamped types : List (List ℕ)) (named : NamesStamped stamped types) 
   D = own_book V DemuxFolder
 
   abbrev Heads : List Head
-  Heads = heads_of V 0 (names_of (codes "archive") A)
+  Heads = in_head_order (heads_of V 0 (names_of (codes "archive") A))
 
   abbrev Cs : List Chunk
   Cs = all_named (files_after history) ArchiveFolder
@@ -149,9 +153,12 @@ module _ (stamped types : List (List ℕ)) (named : NamesStamped stamped types) 
         (just_of (stream_chunks types D Heads Cs) (λ e. of_stream Heads e _) A.ends
         (archive_sorted stamped types named history legal Heads) e one)
         (each_filter HasBytes (is_of e.stream) Outs bytes) in
-        keys_found V (names_of (codes "archive") A) Heads Cs e (split_from D e) (archive_records stamped history legal)
-        (each_at (λ (e : End). RunsSo Cs e (split_from D e)) A.ends e (archive_runs stamped history legal D) one)
-        (split_from D e) _ (low (split_from D e)) (new_fits stamped types named history legal Heads e one) own
+        each_as (HasKey (in_order Cs)) (HasKey Cs) (stream_chunks types D Heads Cs e)
+        (λ c has. (has.0, all_put Cs has.0 has.1, has.2))
+        (keys_found V (names_of (codes "archive") A) Heads (in_order Cs) e (split_from D e) (archive_records stamped history legal)
+        (runs_in_order Cs e (split_from D e)
+        (each_at (λ (e : End). RunsSo Cs e (split_from D e)) A.ends e (archive_runs stamped history legal D) one))
+        (split_from D e) _ (low (split_from D e)) (new_fits stamped types named history legal Heads e one) own)
       where
         low : (n : ℕ) → n ≤ n
         low n = omega arith
@@ -174,16 +181,25 @@ module _ (stamped types : List (List ℕ)) (named : NamesStamped stamped types) 
           ∙ (left_is stamped types named history legal Heads ∙ ap bytes_of (sym archive_is));
     }
 
+  -- what is split is the archive's records in order, of which each stream's are the same
+  same_news : News types A D V (in_order Cs) ≡ Outs
+  same_news = same_chunks types D Heads Cs A.ends (archive_runs stamped history legal D)
+
   can_run_here : CanRun stamped types A D V
   can_run_here = record {
-    cs = Cs;
+    cs = in_order Cs;
     sound = archive_sound stamped history legal;
     records = archive_records stamped history legal;
-    runs = archive_runs stamped history legal D;
+    runs = all_run types D Heads Cs A.ends (archive_runs stamped history legal D);
     free = records_free stamped history legal;
     book = refl;
-    may = may_enter;
-    done = done_so;
+    may = subst (MayEnter stamped V D) (sym same_news) may_enter;
+    done = λ h legal_then entered r counts.
+        done_so h legal_then (subst (λ l. Entered V D l (sight h)) same_news entered) r (record {
+          taken = counts.taken ∙ ap bytes_of same_news;
+          entries = counts.entries ∙ ap length same_news;
+          left = counts.left ∙ same_left types D Heads Cs A.ends (archive_runs stamped history legal D);
+        });
   }
 
 pub can_run : (stamped types : List (List ℕ)) → NamesStamped stamped types → (a b : Book) (v : Sight) → IsReady stamped a b v

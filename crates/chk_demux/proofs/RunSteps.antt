@@ -17,6 +17,7 @@ use Rattle.chk_heads.specs.declared.fault.JobFault.TheVariants.{Outside, Damaged
 use Rattle.chk_heads.specs.Faults.{FailsLast, IsOfRead}
 use Rattle.chk_heads.specs.Pieces.{AsksInPieces}
 use Rattle.chk_heads.specs.Heads.{Head}
+use Rattle.chk_heads.specs.Order.{in_head_order}
 use Rattle.chk_book.specs.Books.{book_view}
 use Rattle.chk_book.specs.Folders.{segment_name}
 use Rattle.chk_merge.specs.Segments.{names_of}
@@ -26,7 +27,7 @@ use Rattle.chk_parts.proofs.FromKnown.{from_known, reach, reach_known, with_fact
 use Rattle.chk_demux.specs.Beginning.{HasBegun, HasBooks, Begins, starts as begins_it, only_reads as begins_reading}
 use Rattle.chk_demux.specs.Demuxed.{Begun, Demuxed, DemuxesBy, starts, only_reads, writes_records, replaces_book, WritesBook, writes_segment, replaces}
 use Rattle.chk_demux.specs.Running.{IsReady, Ran, RunsOn, goes_reading, goes_writing, goes_replacing}
-use Rattle.chk_demux.specs.Splitting.{all_chunks, all_left, SplitAll}
+use Rattle.chk_demux.specs.Splitting.{all_chunks, all_left, SplitAll, StreamsRise}
 use Rattle.chk_demux.specs.Working.{Worked, Failed, EndsSo}
 use Rattle.chk_demux.specs.Writes.{IsFree, IsOutput, SoFar, bytes_of}
 use Rattle.chk_demux.specs.Entering.{MayEnter, Entered}
@@ -35,6 +36,7 @@ use Rattle.chk_demux.specs.declared.output.Output.{Output}
 use Rattle.chk_demux.specs.declared.report.DemuxReport.{DemuxReport}
 use Rattle.chk_demux.proofs.Ends.{at_as, ends_bottom, so_done}
 use Rattle.chk_parts.proofs.Published.{replaces_no_start, quiet_replace}
+use Rattle.chk_demux.proofs.HeadsInOrder.{streams_rise}
 use Rattle.chk_demux.proofs.RunFacts.{CanRun, News}
 use Rattle.chk_demux.proofs.Streams.{reads_or_writes_start, quiet_reads_or_writes}
 use Rattle.chk_demux.proofs.Works.{own_of, worked, works_as, works_then}
@@ -59,7 +61,7 @@ module _ (stamped types : List (List ℕ)) (a b : Book) (v : Sight) (k : CanRun 
   Files = names_of (codes "archive") a
 
   abbrev Hs : List Head
-  Hs = heads_of v 0 Files
+  Hs = in_head_order (heads_of v 0 Files)
 
   abbrev pub Outs : List Chunk
   Outs = News types a b v k.cs
@@ -107,9 +109,15 @@ module _ (stamped types : List (List ℕ)) (a b : Book) (v : Sight) (k : CanRun 
         go (Spent n) read h z = absurd read
         go NoMemory read h z = z
 
-    pub found : (heads : List Head) → q ≡ Ok heads
-        → Adds old mid (Leads (As stamped job) Start (AtJob stamped (λ u. (u ≡ v) × (heads ≡ Hs))))
-    found heads is = leads_as (λ h z. z) (λ h z. subst (λ q. Found stamped v Files q h) is z) at_files
+    pub found : (heads sorted : List Head) → q ≡ Ok heads → sorted ≡ in_head_order heads
+        → Adds old mid (Leads (As stamped job) Start (AtJob stamped (λ u. (u ≡ v) × (sorted ≡ Hs))))
+    found heads sorted is order =
+        leads_as (λ h z. z)
+        (λ h z. at_as stamped (λ u. (u ≡ v) × (heads ≡ heads_of v 0 Files)) (λ u. (u ≡ v) × (sorted ≡ Hs))
+        (λ u p. (p.0, order ∙ ap in_head_order p.1)) h (subst (λ q. Found stamped v Files q h) is z)) at_files
+
+    pub not_sorted : (heads : List Head) → q ≡ Ok heads → Adds old mid (Leads (As stamped job) Start (Ran stamped v (Err NoMemory)))
+    not_sorted heads is = leads_as (λ h z. z) (λ h z. z.legal) (found heads (in_head_order heads) is refl)
 
   -- ---- the split
 
@@ -118,7 +126,7 @@ module _ (stamped types : List (List ℕ)) (a b : Book) (v : Sight) (k : CanRun 
       (first : Adds old mid (Leads (As stamped job) Start (AtJob stamped (λ u. (u ≡ v) × (heads ≡ Hs)))))
       (works : Adds mid new (Worked (ReadsOrWrites (segment_name (codes "demux") b.next)) q))
       (told : (cs : List Chunk) → AreRecords v names heads cs → IsFree v b.next → SplitAll cs a.ends b
-      → Adds mid new (Leads (As stamped job) (AtJob stamped (IsOutput v [] o))
+      → StreamsRise heads → Adds mid new (Leads (As stamped job) (AtJob stamped (IsOutput v [] o))
       (EndsSo stamped v b.next (λ left u. IsOutput v (all_chunks types b heads cs a.ends) n u
       × (left ≡ all_left types b cs a.ends)) q))) where
     abbrev W : List ℕ
@@ -149,7 +157,8 @@ module _ (stamped types : List (List ℕ)) (a b : Book) (v : Sight) (k : CanRun 
         (EndsSo stamped v b.next (λ left u. IsOutput v (all_chunks types b hs k.cs a.ends) n u
         × (left ≡ all_left types b k.cs a.ends)) q))) is
         (told k.cs (subst (λ ws. AreRecords v ws heads k.cs) (sym are)
-        (subst (λ hs. AreRecords v Files hs k.cs) (sym is) k.records)) k.free k.runs))
+        (subst (λ hs. AreRecords v Files hs k.cs) (sym is) k.records)) k.free k.runs
+        (subst StreamsRise (sym is) (streams_rise (heads_of v 0 Files)))))
         (begins h z))
         (λ h z. ends_bottom stamped v b.next Split q h z))
 

@@ -13,6 +13,7 @@ use Rattle.chk_site.proofs.Small.{all_small}
 use Rattle.chk_chunk.specs.Keys.{Key, Chunk, chunk_limit, record_limit, has_value, read_key}
 use Rattle.chk_seqfile.specs.Entries.{Placed, records_of}
 use Rattle.chk_world.specs.Names.{ArchiveFolder, DemuxFolder, BookFile, SegmentFile, read, file}
+use Rattle.chk_world.specs.ArchiveRuns.{in_order}
 use Rattle.chk_world.specs.Books.{Segment, Book, Version, book_in, book_of, AllChunks, chunk_if, chunk_with, chunk_of, chunks_within, chunks_in, segment_chunks, is_book, is_segment, segments_rise, is_end, ends_rise, is_aside, fits_version}
 use Rattle.chk_world.specs.Committed.{OnFile, HasFile}
 use Rattle.chk_world.specs.Jobs.{IsSoundSegment, segment_list, all_segments}
@@ -25,18 +26,19 @@ use Rattle.chk_world.proofs.SmallFiles.{readable}
 use Rattle.chk_world.proofs.SpelledLemmas.{book_so}
 use Rattle.chk_world.proofs.Segments.{counts_in, none_in, book_is}
 use Rattle.chk_world.proofs.BooksTrue.{books_stay_true, each_named}
+use Rattle.chk_heads.specs.Order.{in_head_order}
 use Rattle.chk_heads.specs.Pieces.{bytes_in}
 use Rattle.chk_book.specs.Folders.{segment_name}
 use Rattle.chk_book.specs.Books.{end_in}
 use Rattle.chk_merge.specs.Segments.{names_of}
 use Rattle.chk_parts.specs.Gathering.{held, held_at, CanBeRead, own_segment, IsSoundFile, AreSound, heads_of}
 use Rattle.chk_parts.specs.Records.{chunks_held, found_in, AreRecords}
+use Rattle.chk_parts.proofs.FoundRecords.{records_in_order}
 use Rattle.chk_parts.proofs.OneFile.{file_known}
 use Rattle.chk_parts.proofs.OneSegment.{segment_spelled}
 use Rattle.chk_demux.specs.Demuxed.{all_named}
 use Rattle.chk_demux.specs.Splitting.{split_from, RunsSo, SplitAll}
 use Rattle.chk_demux.specs.Writes.{IsFree}
-use Rattle.chk_demux.proofs.FoundRecords.{found_records}
 
 -- ---- chunks of at most so many bytes are chunks of at most more
 
@@ -175,11 +177,11 @@ module _ (stamped : List (List ℕ)) (history : History) (legal : Legal stamped 
       go (g ∷ gs) of =
           ap₂ (λ x y. x ++ y) (segment_chunks_are g (of g (0, omega arith, refl))) (go gs (λ f m. of f (later_one g gs f m)))
 
-  pub archive_records : AreRecords v (names_of (codes "archive") b) (heads_of v 0 (names_of (codes "archive") b))
-      (all_named (files_after history) ArchiveFolder)
+  pub archive_records : AreRecords v (names_of (codes "archive") b) (in_head_order (heads_of v 0 (names_of (codes "archive") b)))
+      (in_order (all_named (files_after history) ArchiveFolder))
   archive_records =
-      subst (AreRecords v (names_of (codes "archive") b) (heads_of v 0 (names_of (codes "archive") b))) archive_found
-      (found_records v (names_of (codes "archive") b) archive_sound)
+      subst (λ cs. AreRecords v (names_of (codes "archive") b) (in_head_order (heads_of v 0 (names_of (codes "archive") b)))
+      (in_order cs)) archive_found (records_in_order v (names_of (codes "archive") b) archive_sound)
 
   -- each of its streams runs
   pub archive_runs : (d : Book) → SplitAll (all_named (files_after history) ArchiveFolder) b.ends d

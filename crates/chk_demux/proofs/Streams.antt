@@ -1,5 +1,5 @@
 -- A stream is split from its first chunk to its last one, and all streams in turn.
-use Rattle.std.proofs.Common.{◌≡◌, inl, inr, Option, Ok, Err, Result, ℕ, zero, suc, ◌+◌, ◌-◌, ◌<◌, Bool, true, false, List, [], ◌∷◌, ◌++◌, length, take, map, ap, sym, subst, ◌∙◌, refl, arith, append-nil}
+use Rattle.std.proofs.Common.{◌≡◌, inl, inr, Option, Ok, Err, Result, ℕ, zero, suc, ◌+◌, ◌-◌, ◌<◌, ◌≤◌, Bool, true, false, List, [], ◌∷◌, ◌++◌, length, take, map, ap, sym, subst, ◌∙◌, refl, arith, append-nil}
 use Rattle.std.specs.Prelude.{slice_index_or}
 use Rattle.std.proofs.lemmas.Grind.{flat_map-append}
 use Rattle.std.proofs.lemmas.List.{take_all, take_more}
@@ -11,6 +11,7 @@ use Rattle.chk_world.specs.Sight.{job, Sight, AtJob}
 use Rattle.chk_heads.specs.Heads.{Head}
 use Rattle.chk_merge.specs.declared.reader.RecordReader.{RecordReader}
 use Rattle.chk_parts.specs.Fetching.{AreWindows}
+use Rattle.chk_parts.specs.Records.{AreRecords}
 use Rattle.chk_splitter.specs.Splitting.{Splitting, fresh, pieces_of}
 use Rattle.chk_site.specs.Acts.{Deed, Starts}
 use Rattle.chk_site.specs.History.{History}
@@ -26,9 +27,11 @@ use Rattle.chk_parts.proofs.OneSegment.{no_write_starts, quiet_write}
 use Rattle.chk_demux.specs.Working.{EndsSo, Worked}
 use Rattle.chk_demux.specs.Writes.{IsOutput}
 use Rattle.chk_demux.specs.Giving.{IsSplitting, chunks_of_fed, pending_of}
-use Rattle.chk_demux.specs.Splitting.{past_in, SplitSoFar, stream_chunks, stream_left, all_chunks, all_left}
+use Rattle.chk_demux.specs.Splitting.{past_in, RunsSo, HoldsStream, SplitSoFar, stream_chunks, stream_left, all_chunks, all_left}
 use Rattle.chk_demux.specs.declared.output.Output.{Output}
 use Rattle.chk_demux.proofs.Ends.{at_as, so_fails, so_done}
+use Rattle.chk_demux.proofs.HeadsInOrder.{others_give}
+use Rattle.chk_demux.proofs.Places.{same_size}
 use Rattle.chk_demux.proofs.Works.{own_of}
 use Rattle.chk_demux.proofs.Feeding.{fresh_splits, held_size}
 
@@ -38,26 +41,42 @@ none_fed heads e from false = refl
 
 module _ (v : Sight) (files : List (List ℕ)) (heads : List Head) (cs outs : List Chunk) (e : End) (from : ℕ) (b : Bool)
     (o : Output) (r : RecordReader) (s : Splitting) (u : Sight) where
-  pub stream_begun : s ≡ fresh b → IsOutput v outs o u × AreWindows v files r
-      → SplitSoFar v files heads cs outs e from 0 b o r s u
-  stream_begun is p = record {
-    output = subst (λ l. IsOutput v l o u)
-        (sym (ap (λ l. outs ++ l) (none_fed heads e from b) ∙ append-nil outs)) p.0;
-    windows = p.1;
-    splits = subst (IsSplitting b []) (sym is) (fresh_splits b);
-  }
+  -- nothing stands before its first head, and nothing behind its last one
+  module _ (first past : ℕ) (low : first ≤ past) (high : past ≤ length heads) (records : AreRecords v files heads cs)
+      (runs : RunsSo cs e from) (holds : HoldsStream heads e.stream first past) where
+    none_before : past_in from e.stream (take first cs) ≡ []
+    none_before =
+        ap (λ n. past_in from e.stream (take n cs)) (let z : first ≡ 0 + first = omega arith in z)
+        ∙ others_give v files heads cs e from records runs 0 first (omega (arith, low, high)) (λ k a b. holds.before k (omega (arith, b)))
 
-  pub stream_ended : length heads ≡ length cs → SplitSoFar v files heads cs outs e from (length heads) b o r s u
-      → IsOutput v (outs ++ chunks_of_fed heads e from b (past_in from e.stream cs)) o u
-      × AreWindows v files r
-      × (pending_of s ≡ length (past_in from e.stream cs) - length (joined (pieces_of b (past_in from e.stream cs))))
-  stream_ended size p =
-      let all : take (length heads) cs ≡ cs = take_all (length heads) cs (omega (arith, size)) in
-      let held = held_size b (past_in from e.stream cs) s (subst (λ l. IsSplitting b (past_in from e.stream l) s) all p.splits) in (
-        subst (λ l. IsOutput v (outs ++ chunks_of_fed heads e from b (past_in from e.stream l)) o u) all p.output,
-        p.windows,
-        omega (arith, held),
-      )
+    none_behind : past_in from e.stream cs ≡ past_in from e.stream (take past cs)
+    none_behind =
+        let size = same_size v files heads cs e from records runs in
+        ap (past_in from e.stream)
+        (sym (take_all (past + (length heads - past)) cs (omega (arith, size, high))))
+        ∙ others_give v files heads cs e from records runs past (length heads - past) (omega (arith, high))
+        (λ k a b. holds.behind k a (omega (arith, b, high)))
+
+    pub stream_begun : s ≡ fresh b → IsOutput v outs o u × AreWindows v files r
+        → SplitSoFar v files heads cs outs e from first b o r s u
+    stream_begun is p = record {
+      output = subst (λ l. IsOutput v l o u)
+          (sym (ap (λ l. outs ++ chunks_of_fed heads e from b l) none_before
+          ∙ (ap (λ l. outs ++ l) (none_fed heads e from b) ∙ append-nil outs))) p.0;
+      windows = p.1;
+      splits = subst (λ l. IsSplitting b l s) (sym none_before) (subst (IsSplitting b []) (sym is) (fresh_splits b));
+    }
+
+    pub stream_ended : SplitSoFar v files heads cs outs e from past b o r s u
+        → IsOutput v (outs ++ chunks_of_fed heads e from b (past_in from e.stream cs)) o u
+        × AreWindows v files r
+        × (pending_of s ≡ length (past_in from e.stream cs) - length (joined (pieces_of b (past_in from e.stream cs))))
+    stream_ended p =
+        let held = held_size b (past_in from e.stream cs) s (subst (λ l. IsSplitting b l s) (sym none_behind) p.splits) in (
+          subst (λ l. IsOutput v (outs ++ chunks_of_fed heads e from b l) o u) (sym none_behind) p.output,
+          p.windows,
+          omega (arith, held),
+        )
 
 -- one stream more
 module _ (types : List (List ℕ)) (b : Book) (heads : List Head) (cs : List Chunk) (ends : List End) (i : ℕ) (low : i < length ends)

@@ -1,14 +1,15 @@
 -- The split of each stream from its last record on.
-use Rattle.std.specs.Prelude.{ℕ, ◌-◌, ◌≤◌, Bool, ◌&&◌, nat_lt, max, List, length, ◌++◌, take, drop, filter, flat_map, sum_by, bytes_eq}
+use Rattle.std.specs.Prelude.{ℕ, ◌-◌, ◌<◌, ◌≤◌, Bool, ◌&&◌, nat_lt, max, IsTrue, IsFalse, List, length, ◌++◌, take, drop, filter, flat_map, sum_by, bytes_eq}
 use Rattle.std.specs.List.{list_any}
 use Rattle.chk_bytes.specs.Words.{joined}
-use Rattle.chk_chunk.specs.Keys.{Stream, Chunk, chunk_begin, is_of}
+use Rattle.chk_chunk.specs.Keys.{Stream, Chunk, chunk_begin, stream_lt, is_of}
 use Rattle.chk_world.specs.Books.{End, Book}
 use Rattle.chk_world.specs.Jobs.{Run}
 use Rattle.chk_world.specs.Sight.{Sight}
 use Rattle.chk_world.specs.TrueBooks.{HasBytes}
 use Rattle.chk_world.proofs.Each.{Each}
 use Rattle.chk_heads.specs.Heads.{Head}
+use Rattle.chk_plan.specs.Passes.{head_in}
 use Rattle.chk_merge.specs.Courses.{is_head_of}
 use Rattle.chk_merge.specs.declared.reader.RecordReader.{RecordReader}
 use Rattle.chk_book.specs.Books.{end_in}
@@ -43,6 +44,22 @@ pub record RunsSo (cs : List Chunk) (e : End) (from : ℕ) : Type 0 where
 -- the type is one of these
 abbrev pub is_stamped : List (List ℕ) → List ℕ → Bool
 is_stamped types kind = list_any (bytes_eq kind) types
+
+-- no head's stream stands before that of an earlier one
+abbrev pub StreamsRise : List Head → Type 0
+StreamsRise heads =
+    (i j : ℕ) → i < j → j < length heads → IsFalse (stream_lt (head_in heads j).key.stream (head_in heads i).key.stream)
+
+-- a head of the stream stands there, and none right before it
+pub record FirstStands (heads : List Head) (s : Stream) (at : ℕ) : Type 0 where
+  pub there : at < length heads
+  pub own : IsTrue (is_head_of s (head_in heads at))
+  pub first : 0 < at → IsFalse (is_head_of s (head_in heads (at - 1)))
+
+-- no head of the stream stands before the one place, and none from the other one on
+pub record HoldsStream (heads : List Head) (s : Stream) (first end : ℕ) : Type 0 where
+  pub before : (k : ℕ) → k < first → IsFalse (is_head_of s (head_in heads k))
+  pub behind : (k : ℕ) → end ≤ k → k < length heads → IsFalse (is_head_of s (head_in heads k))
 
 -- of the first chunks, so many, those of the end's stream are split
 pub record SplitSoFar (v : Sight) (files : List (List ℕ)) (heads : List Head) (cs outs : List Chunk) (e : End) (from index : ℕ)

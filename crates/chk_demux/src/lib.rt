@@ -2,6 +2,7 @@
 #![tactic(auto)]
 
 mod beginning;
+mod blocks;
 mod giving;
 mod output;
 mod publishing;

@@ -66,7 +66,8 @@ fn split_archive<S: Site>(
 {
     let Books { archive, mut demux } = books;
     let files = segment_names(alloc, &archive)?;
-    let heads = gather_found(alloc, site, who, files.as_slice())?;
+    let mut heads = gather_found(alloc, site, who, files.as_slice())?;
+    heads.sort(alloc)?;
     let mut output = Output::new();
     let left = split_streams(
         alloc,
@@ -96,10 +97,10 @@ fn split_archive<S: Site>(
 /// by lines, writes the complete records as one segment of `demux`, in the order of the archive's book, and publishes the book that
 /// names it. Where no record is complete, nothing is written.
 ///
-/// The archive's segments are read once for the heads of their records, and each record that ends past its stream's last one once
-/// more, in pieces of at most 1,048,576 bytes. Held are a head of 32 bytes for each archived record, such a piece, one record, and
-/// the bytes of the segment that aren't appended yet, at most 1,048,576 and a record. It costs the product of the streams and the
-/// heads.
+/// All bytes of the archive's segments are read once, for the heads of their records, and each record that ends past its stream's
+/// last one once more, in pieces of at most 1,048,576 bytes. Held are a head of 32 bytes for each archived record, half of that
+/// again while they are put in order, such a piece, one record, and the bytes of the segment that aren't appended yet, at most
+/// 1,048,576 and a record. Once the heads stand in order it goes over them once; for each stream it searches the book of the records.
 ///
 /// `Damaged` comes where a book or a segment of the archive isn't in its grammar. `Spent` comes where a segment is needed and its
 /// number is 2^63 - 1. More bytes or records than 64 bits count come as want of memory. After a refusal the old book stands, or

@@ -21,8 +21,9 @@ ghost use Rattle.chk_book.specs.Books.{book_view, end_in};
 ghost use Rattle.chk_book.specs.Views.{end_view};
 ghost use Rattle.chk_demux.specs.Working.{Worked, EndsSo};
 ghost use Rattle.chk_demux.specs.Writes.{IsFree, IsWriter, IsOutput};
-ghost use Rattle.chk_demux.specs.Splitting.{past_in, split_from, ends_past, is_stamped, RunsSo, SplitSoFar, SplitAll, stream_chunks, stream_left, all_chunks, all_left};
+ghost use Rattle.chk_demux.specs.Splitting.{past_in, split_from, ends_past, is_stamped, RunsSo, SplitSoFar, SplitAll, StreamsRise, HoldsStream, stream_chunks, stream_left, all_chunks, all_left};
 
+use crate::blocks::{Block, block_of};
 use crate::giving::{is_of, split_value};
 use crate::output::Output;
 use chk_book::{Book, End};
@@ -107,7 +108,8 @@ fn split_record<S: Site>(
     )
 }
 
-/// Splits what the archive has of the end's stream from its last record on, and says how many bytes are of no complete record.
+/// Splits what the archive has of the end's stream from its last record on, and says how many bytes are of no complete record. The
+/// stream's heads stand in the block.
 fn split_stream<S: Site>(
     alloc: Global,
     site: &mut S,
@@ -119,11 +121,14 @@ fn split_stream<S: Site>(
     files: &[Word],
     heads: &Heads,
     end: &End,
+    block: Block,
 ) -> Result<u64, JobFault>
     requires job { who.now ≡ job }
     requires writer { IsWriter (book_view book.now).next output.old.segmenter }
+    requires block { (block.first ≤ block.end) × (block.end ≤ length heads.now) }
     ensures told { (stamped : List (List ℕ)) (v : Sight) (cs outs : List Chunk) → AreRecords v files.now heads.now cs
         → IsFree v (book_view book.now).next → RunsSo cs (end_view end.now) (split_from (book_view book.now) (end_view end.now))
+        → HoldsStream heads.now (end_view end.now).stream block.first block.end
         → Adds (S.told site.old) (S.told site.new)
         (Leads (As stamped job) (AtJob stamped (λ u. IsOutput v outs output.old u × AreWindows v files.now reader.old))
         (EndsSo stamped v (book_view book.now).next (λ left u. IsOutput v
@@ -135,7 +140,7 @@ fn split_stream<S: Site>(
 {
     let from = split_from(end, book);
     let mut splitter = Splitter::new(alloc, is_stamped(end.kind.as_str(), types));
-    for index in 0..heads.len() {
+    for index in block.first..block.end {
         split_record(
             alloc,
             site,
@@ -155,7 +160,8 @@ fn split_stream<S: Site>(
 }
 
 /// Splits what the archive has of each stream of its book, in the book's order, each from its last record on, and says how many
-/// bytes are of no complete record. Each record is read once. It costs the product of the streams and the heads.
+/// bytes are of no complete record. The heads stand in order, which is that of the book's streams too, so that it goes over the heads
+/// once, and reads each record once. A stream that has no heads costs a pass over all of them.
 pub(crate) fn split_streams<S: Site>(
     alloc: Global,
     site: &mut S,
@@ -171,7 +177,7 @@ pub(crate) fn split_streams<S: Site>(
     requires writer { IsWriter (book_view book.now).next output.old.segmenter }
     ensures told { (stamped : List (List ℕ)) (v : Sight) (cs : List Chunk) → AreRecords v files.now heads.now cs
         → IsFree v (book_view book.now).next → SplitAll cs (book_view archive.now).ends (book_view book.now)
-        → Adds (S.told site.old) (S.told site.new)
+        → StreamsRise heads.now → Adds (S.told site.old) (S.told site.new)
         (Leads (As stamped job) (AtJob stamped (IsOutput v [] output.old))
         (EndsSo stamped v (book_view book.now).next (λ left u. IsOutput v
         (all_chunks types.now (book_view book.now) heads.now cs (book_view archive.now).ends) output.new u
@@ -182,7 +188,9 @@ pub(crate) fn split_streams<S: Site>(
 {
     let mut reader = RecordReader::new(alloc);
     let mut left: u64 = 0;
+    let mut next = 0;
     for end in archive.ends.as_slice() {
+        let block = block_of(heads, end, &mut next);
         let more = split_stream(
             alloc,
             site,
@@ -194,6 +202,7 @@ pub(crate) fn split_streams<S: Site>(
             files,
             heads,
             end,
+            block,
         )?;
         left = sum_of(left, more)?;
     }

@@ -16,20 +16,20 @@ use Rattle.chk_demux.specs.Writes.{IsOutput}
 use Rattle.chk_demux.specs.Giving.{chunks_of_fed}
 use Rattle.chk_demux.specs.Splitting.{past_in, is_stamped, RunsSo, SplitSoFar, stream_chunks, stream_left}
 use Rattle.chk_demux.proofs.Ends.{at_as, so_fails, so_done}
-use Rattle.chk_demux.proofs.Places.{same_size}
 use Rattle.chk_demux.proofs.Streams.{stream_begun, stream_ended}
 use Rattle.chk_demux.proofs.Works.{works_none, works_then, works_result}
 use Rattle.chk_demux.proofs.splitting.split_stream.Goals as goal
 
 pub loop-index-init : goal.loop-index-init
 loop-index-init g c = record {
-  so_far = λ stamped v cs outs b records free runs is.
+  so_far = λ stamped v cs outs b records free runs holds is.
       leads_none (g.S.Site.told c.args.site.now)
       (λ h k. at_as stamped (λ u. IsOutput v outs c.args.output.now u × AreWindows v c.args.files.now c.args.reader.now)
-      (SplitSoFar v c.args.files.now c.args.heads.now cs outs (end_view c.args.end.now) c.split_from-from.result 0 b c.args.output.now
+      (SplitSoFar v c.args.files.now c.args.heads.now cs outs (end_view c.args.end.now) c.split_from-from.result c.args.block.first b c.args.output.now
       c.args.reader.now c.new-splitter.result)
       (λ u p. stream_begun v c.args.files.now c.args.heads.now cs outs (end_view c.args.end.now) c.split_from-from.result b
-      c.args.output.now c.args.reader.now c.new-splitter.result u is p) h k);
+      c.args.output.now c.args.reader.now c.new-splitter.result u c.args.block.first c.args.block.end c.requires.block.0
+      c.requires.block.1 records runs holds is p) h k);
   writer = c.requires.writer;
   works = works_none (ReadsOrWrites (segment_name (codes "demux") (book_view c.args.book.now).next)) tt (g.S.Site.told c.args.site.now);
   count = refl;
@@ -43,8 +43,8 @@ loop-index-preserved g c =
     let e = end_view c.args.end.now in
     let from = c.split_from-from.result in
     record {
-      so_far = λ stamped v cs outs b records free runs is.
-          leads_then (l.invariant.so_far stamped v cs outs b records free runs is)
+      so_far = λ stamped v cs outs b records free runs holds is.
+          leads_then (l.invariant.so_far stamped v cs outs b records free runs holds is)
           (so_done {T = Unit {0}} stamped v next
           (AtJob stamped (SplitSoFar v c.args.files.now c.args.heads.now cs outs e from l.index b l.output l.reader l.splitter))
           (λ x u. SplitSoFar v c.args.files.now c.args.heads.now cs outs e from (l.index + 1) b c.split_record.new.output
@@ -59,7 +59,7 @@ loop-index-preserved g c =
     }
 
 pub returns-in_err-split_record-clause-told : goal.returns-in_err-split_record-clause-told
-returns-in_err-split_record-clause-told g c stamped v cs outs records free runs =
+returns-in_err-split_record-clause-told g c stamped v cs outs records free runs holds =
     let p = err_from_is_err_and c.from_residual.result c.from_residual.ensures.1 in
     let l = c.loop-index in
     let next = (book_view c.args.book.now).next in
@@ -71,7 +71,7 @@ returns-in_err-split_record-clause-told g c stamped v cs outs records free runs 
     let is : c.new-splitter.result ≡ fresh b =
     c.new-splitter.ensures ∙ ap fresh (c.is_stamped.ensures ∙ ap (is_stamped types) c.as_str.ensures.text) in
     rw (p.1, p.2)
-    (leads_then (l.invariant.so_far stamped v cs outs b records free here is)
+    (leads_then (l.invariant.so_far stamped v cs outs b records free here holds is)
     (so_fails {T = Unit {0}} {U = ℕ} stamped v next
     (AtJob stamped (SplitSoFar v c.args.files.now c.args.heads.now cs outs e from l.index b l.output l.reader l.splitter))
     (λ x u. SplitSoFar v c.args.files.now c.args.heads.now cs outs e from (l.index + 1) b c.split_record.new.output
@@ -90,7 +90,7 @@ returns-in_err-split_record-clause-works g c =
     (works_then (ReadsOrWrites w) (Ok tt) c.split_record.result c.loop-index.invariant.works c.split_record.ensures.works))
 
 pub returns-clause-told : goal.returns-clause-told
-returns-clause-told g c stamped v cs outs records free runs =
+returns-clause-told g c stamped v cs outs records free runs holds =
     let l = c.loop-index in
     let e = end_view c.args.end.now in
     let from = c.split_from-from.result in
@@ -101,22 +101,23 @@ returns-clause-told g c stamped v cs outs records free runs =
     let here : RunsSo cs e from = subst (RunsSo cs e) (sym c.split_from-from.ensures) runs in
     let is : c.new-splitter.result ≡ fresh b =
     c.new-splitter.ensures ∙ ap fresh (c.is_stamped.ensures ∙ ap (is_stamped types) c.as_str.ensures.text) in
-    let size = same_size v files heads cs e from records here in
+    let first = c.args.block.first in
+    let past = c.args.block.end in
     let high = c.loop-index-test.false in
-    let len = c.len-index-end.ensures in
     let low = l.auto.index-end in
-    let all : l.index ≡ length heads = omega (arith, high, len, low) in
+    let all : l.index ≡ past = omega (arith, high, low) in
     leads_as (λ h k. k)
     (λ h k. record {
       legal = k.legal;
       may_act = k.may_act;
       alive = λ running.
-          let p : SplitSoFar v files heads cs outs e from (length heads) b l.output l.reader l.splitter (sight h) =
+          let p : SplitSoFar v files heads cs outs e from past b l.output l.reader l.splitter (sight h) =
           subst (λ i. SplitSoFar v files heads cs outs e from i b l.output l.reader l.splitter (sight h)) all (k.alive running) in
-          let q = stream_ended v files heads cs outs e from b l.output l.reader l.splitter (sight h) size p in
+          let q = stream_ended v files heads cs outs e from b l.output l.reader l.splitter (sight h) first past c.requires.block.0
+          c.requires.block.1 records here holds p in
           subst (λ n. IsOutput v (outs ++ chunks_of_fed heads e n b (past_in n e.stream cs)) l.output (sight h)
           × AreWindows v files l.reader
           × (c.pending.result ≡ length (past_in n e.stream cs) - length (joined (pieces_of b (past_in n e.stream cs)))))
           c.split_from-from.ensures (q.0, q.1, c.pending.ensures ∙ q.2);
     })
-    (l.invariant.so_far stamped v cs outs b records free here is)
+    (l.invariant.so_far stamped v cs outs b records free here holds is)

@@ -14,13 +14,14 @@ use Rattle.chk_parts.specs.Fetching.{AreWindows}
 use Rattle.chk_splitter.specs.Splitting.{fresh}
 use Rattle.chk_demux.specs.Working.{Worked}
 use Rattle.chk_demux.specs.Writes.{IsFree, IsWriter, IsOutput}
-use Rattle.chk_demux.specs.Splitting.{RunsSo, SplitSoFar}
+use Rattle.chk_demux.specs.Splitting.{RunsSo, HoldsStream, SplitSoFar}
 use Rattle.chk_demux.proofs.splitting.split_stream.Given as goal
 
 abbrev pub invariant-loop-index : goal.invariant-loop-index
 invariant-loop-index g l = record {
   so_far : (stamped : List (List ℕ)) (v : Sight) (cs outs : List Chunk) (b : Bool) → AreRecords v l.files l.heads cs
-      → IsFree v (book_view l.book).next → RunsSo cs (end_view l.end) l.from → l.initial.splitter ≡ fresh b
+      → IsFree v (book_view l.book).next → RunsSo cs (end_view l.end) l.from
+      → HoldsStream l.heads (end_view l.end).stream l.fn.block.first l.fn.block.end → l.initial.splitter ≡ fresh b
       → Adds (g.S.Site.told l.fn.site) (g.S.Site.told l.site) (Leads (As stamped job)
       (AtJob stamped (λ u. IsOutput v outs l.fn.output u × AreWindows v l.files l.fn.reader))
       (AtJob stamped (SplitSoFar v l.files l.heads cs outs (end_view l.end) l.from l.index b l.output l.reader l.splitter)));

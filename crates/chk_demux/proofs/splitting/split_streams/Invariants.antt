@@ -12,13 +12,14 @@ use Rattle.chk_parts.specs.Records.{AreRecords}
 use Rattle.chk_parts.specs.Fetching.{AreWindows}
 use Rattle.chk_demux.specs.Working.{Worked}
 use Rattle.chk_demux.specs.Writes.{IsFree, IsWriter, IsOutput}
-use Rattle.chk_demux.specs.Splitting.{SplitAll, all_chunks, all_left}
+use Rattle.chk_demux.specs.Splitting.{SplitAll, StreamsRise, all_chunks, all_left}
 use Rattle.chk_demux.proofs.splitting.split_streams.Given as goal
 
 abbrev pub invariant-loop-end : goal.invariant-loop-end
 invariant-loop-end g l = record {
   so_far : (stamped : List (List ℕ)) (v : Sight) (cs : List Chunk) → AreRecords v l.files l.heads cs
       → IsFree v (book_view l.book).next → SplitAll cs (book_view l.archive).ends (book_view l.book)
+      → StreamsRise l.heads
       → Adds (g.S.Site.told l.fn.site) (g.S.Site.told l.site) (Leads (As stamped job)
       (AtJob stamped (IsOutput v [] l.fn.output))
       (AtJob stamped (λ u. IsOutput v (all_chunks l.types (book_view l.book) l.heads cs (take l.end-index (book_view l.archive).ends)) l.output u
