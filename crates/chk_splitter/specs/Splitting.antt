@@ -1,5 +1,5 @@
 -- A splitter: what it has of a stream's bytes, and what a feed gives.
-use Rattle.std.specs.Prelude.{◌≡◌, ℕ, ◌+◌, ◌≤◌, Bool, ◌||◌, nat_lt, List, [], ◌∷◌, ◌++◌, length, if◌then◌else◌}
+use Rattle.std.specs.Prelude.{◌≡◌, ◌⊎◌, ℕ, ◌+◌, ◌≤◌, Bool, ◌||◌, nat_lt, List, [], ◌∷◌, ◌++◌, length, if◌then◌else◌}
 use Rattle.chk_chunk.specs.Keys.{chunk_limit, record_limit}
 use Rattle.chk_world.specs.Splits.{lines_from, has_stamp, records_behind, stamped_records}
 
@@ -47,6 +47,10 @@ pub record Feeds (old new : Splitting) (bytes : List ℕ) : Type 0 where
   pub ahead : (more : List ℕ)
       → records_ahead old (bytes ++ more) ≡ record_of new.given ++ records_ahead new more
   pub most : length new.given + length new.begun + length new.line ≤ record_limit + chunk_limit
+
+-- of the bytes, so many were taken: all of them, or those up to the end of a line
+abbrev pub TakesLine : Splitting → List ℕ → ℕ → Type 0
+TakesLine s bytes taken = (taken ≡ length bytes) ⊎ (s.line ≡ [])
 
 -- the line begins a record behind the one that has begun
 abbrev pub begins_record : List ℕ → List ℕ → Bool

@@ -1,5 +1,5 @@
 //! Where a line ends, whether it begins with a stamp, and what it completes.
-ghost use Rattle.std.specs.Prelude.{◌≡◌, ◌≤◌, ◌<◌, ◌||◌, nat_lt, length, take, drop};
+ghost use Rattle.std.specs.Prelude.{◌≡◌, ◌≤◌, ◌<◌, ◌||◌, false, nat_lt, length, take, drop};
 ghost use Rattle.chk_chunk.specs.Keys.{chunk_limit, record_limit};
 ghost use Rattle.chk_world.specs.Splits.{fits_pattern, has_stamp};
 ghost use Rattle.chk_splitter.specs.LineFronts.{GoesOn, fits_one};
@@ -26,6 +26,7 @@ pub(crate) fn line_front(line: &[u8], bytes: &[u8]) -> LineFront
     ensures within { result.taken ≤ length bytes.now }
     ensures some { 0 < length bytes.now → 0 < result.taken }
     ensures front { GoesOn line.now (take result.taken bytes.now) result.ends }
+    ensures most { result.ends ≡ false → result.taken ≡ length bytes.now }
 {
     let room = LINE_BYTES - line.len();
     let front = &bytes[..bytes.len().min(room)];

@@ -1,7 +1,7 @@
 //! A splitter of a stream's bytes into records.
 ghost use Rattle.std.specs.Prelude.{◌≡◌, ◌+◌, ◌≤◌, ◌<◌, [], length, take, drop};
 ghost use Rattle.std.specs.Prelude.{IfOk, OnErr, MatchOption};
-ghost use Rattle.chk_splitter.specs.Splitting.{Feeds, fresh, without_given};
+ghost use Rattle.chk_splitter.specs.Splitting.{Feeds, TakesLine, fresh, without_given};
 
 use crate::lines::{complete_size, line_front};
 use chk_bytes::NoMemory;
@@ -55,6 +55,7 @@ impl Splitter {
         ensures within { IfOk result (λ n. n ≤ length bytes.now) }
         ensures some { IfOk result (λ n. 0 < length bytes.now → 0 < n) }
         ensures fed { IfOk result (λ n. Feeds self.old self.new (take n bytes.now)) }
+        ensures most { IfOk result (λ n. TakesLine self.new bytes.now n) }
         ensures refused { OnErr result (self.new ≡ without_given self.old) }
     {
         drop_first(&mut self.held, self.given);
