@@ -12,7 +12,10 @@ use Rattle.chk_world.specs.Together.{IsByOne}
 use Rattle.chk_round.specs.declared.faults.RoundFault.{RoundFault}
 use Rattle.chk_round.specs.declared.whole_round.Rounded.{Rounded}
 use Rattle.chk_round.specs.declared.words.RoundWords.{RoundWords}
+use Rattle.chk_agent.specs.States.{lines_of}
+use Rattle.chk_round.specs.Calls.{RoundActs}
 use Rattle.chk_round.specs.Faults.{FailsInside}
+use Rattle.chk_round.specs.Following.{HaveLines}
 use Rattle.chk_round.specs.Lengths.{LengthCause}
 use Rattle.chk_round.specs.Processes.{IsRunOf, processes}
 use Rattle.chk_round.specs.Rounded.{RoundTo}
@@ -23,9 +26,9 @@ use Rattle.chk_load_run.specs.declared.ends.LoadReport.{LoadReport}
 use Rattle.chk_load_run.specs.Ends.{of_outside}
 use Rattle.chk_load_run.specs.Loads.{AppendedSo, EndsRunning, IsReportOf, LoadFailsLast, LoadTo, LoadsBy, PrintedSo, RoundEndsSo, SaysLine, SummedUp, summary_line}
 use Rattle.chk_load_run.specs.Pieces.{AppendsFront, HasAppended, WritesAll}
-use Rattle.chk_load_run.specs.Processes.{IsLoadRound, IsLoadRun, chukwa}
+use Rattle.chk_load_run.specs.Processes.{IsLoadRound, IsLoadRun, chukwa, load_logs}
 use Rattle.chk_load_run.proofs.Facts.{Appended, appends_all, appends_cut, then_round, then_say}
-use Rattle.chk_load_run.proofs.Told.{all_told, behind, cut_told, round_told, unclosed_told, unsaid_told}
+use Rattle.chk_load_run.proofs.Told.{HaveLogs, IsBehind, all_told, behind, cut_told, round_told, unclosed_told, unsaid_told}
 
 -- what a load says of its result
 pub record Clauses (lines : ℕ) (result : Result LoadReport LoadEnd) (old new : Option History) : Type 0 where
@@ -79,11 +82,13 @@ module _ (lines : ℕ) where
     facts : (r : Result Rounded RoundFault) → RoundTold (codes "load") r mid late → Adds old late (Appended lines)
     facts r told = then_round lines (appends_all lines n writes) (round_by r told)
 
-    round_clauses : (fault : RoundFault) → RoundTold (codes "load") (Err fault) mid late → Clauses lines (Err (Round fault)) old late
-    round_clauses fault told = record {
+    round_clauses : (fault : RoundFault) → RoundTold (codes "load") (Err fault) mid late
+        → Adds mid late (RoundActs (codes "load")) → Clauses lines (Err (Round fault)) old late
+    round_clauses fault told acts = record {
       told = λ stamped started acting run.
           round_told stamped started acting lines run fault
-          (behind stamped started acting lines run n (Err fault) writes (appends_all lines n writes) (told stamped started acting run.round));
+          (behind stamped started acting lines run n (Err fault) writes (appends_all lines n writes) (told stamped started acting run.round)
+          acts (λ v is. absurd (let z : ⊥ = cc in z)));
       appends = adds_as (AppendedSo lines (Err (Round fault))) (facts (Err fault) told) (λ a h x. x.done);
       own = adds_as (Owns LoadsBy) (facts (Err fault) told) (λ a h x. x.own);
       prints = adds_as (PrintedSo (Err (Round fault))) (facts (Err fault) told) (λ a h x. x.silent);
@@ -91,12 +96,20 @@ module _ (lines : ℕ) where
       last = adds_as (LoadFailsLast (Err (Round fault))) (facts (Err fault) told) (λ a h x. tt);
     }
 
-    module _ (v : Rounded) (told : RoundTold (codes "load") (Ok v) mid late) where
+    module _ (v : Rounded) (told : RoundTold (codes "load") (Ok v) mid late)
+        (acts : Adds mid late (RoundActs (codes "load"))) (live : HaveLogs v) where
+      on_round : (stamped : List (List ℕ)) (started acting : List Who) (run : IsLoadRun started acting)
+          → Adds old late (IsBehind stamped started acting lines run (Ok v))
+      on_round stamped started acting run =
+          behind stamped started acting lines run n (Ok v) writes (appends_all lines n writes)
+          (told stamped started acting run.round) acts
+          (λ w is. subst HaveLogs (let same : v ≡ w = cc in same) live)
+
       unclosed_clauses : (name : List ℕ) → v.report.first_unclosed ≡ Some name → Clauses lines (Err (Unclosed name)) old late
       unclosed_clauses name is = record {
         told = λ stamped started acting run.
             unclosed_told stamped started acting lines run v name is
-            (behind stamped started acting lines run n (Ok v) writes (appends_all lines n writes) (told stamped started acting run.round));
+            (on_round stamped started acting run);
         appends = adds_as (AppendedSo lines (Err (Unclosed name))) (facts (Ok v) told) (λ a h x. x.done);
         own = adds_as (Owns LoadsBy) (facts (Ok v) told) (λ a h x. x.own);
         prints = adds_as (PrintedSo (Err (Unclosed name))) (facts (Ok v) told) (λ a h x. x.silent);
@@ -111,7 +124,7 @@ module _ (lines : ℕ) where
           record {
             told = λ stamped started acting run.
                 unsaid_told stamped started acting lines run v line fault
-                (behind stamped started acting lines run n (Ok v) writes (appends_all lines n writes) (told stamped started acting run.round)) says;
+                (on_round stamped started acting run) says;
             appends = adds_as (AppendedSo lines (Err (of_outside fault))) whole (λ a h x. outside_appended lines fault a h x.front);
             own = adds_as (Owns LoadsBy) whole (λ a h x. x.own);
             prints = adds_as (PrintedSo (Err (of_outside fault))) whole (λ a h x. x.said);
@@ -126,7 +139,7 @@ module _ (lines : ℕ) where
           record {
             told = λ stamped started acting run.
                 all_told stamped started acting lines run v report (summary_line report) is
-                (behind stamped started acting lines run n (Ok v) writes (appends_all lines n writes) (told stamped started acting run.round)) says;
+                (on_round stamped started acting run) says;
             appends = adds_as (AppendedSo lines (Ok report)) whole (λ a h x. x.done);
             own = adds_as (Owns LoadsBy) whole (λ a h x. x.own);
             prints = adds_as (PrintedSo (Ok report)) whole (λ a h x. x.said);
@@ -144,16 +157,29 @@ module _ (lines : ℕ) (who : Who) (by : who ≡ chukwa) where
       → Clauses lines (Err (of_outside fault)) old new
   cut_end fault {old = old} {new = new} writes = cut_clauses lines fault (written (Err fault) old new writes)
 
-  module _ (n : ℕ) {old mid late : Option History} (writes : WritesAll who lines (Ok n) old mid) (source : List ℕ) (from : source ≡ codes "load") where
-    rounded : (r : Result Rounded RoundFault) → RoundTold source r mid late → RoundTold (codes "load") r mid late
-    rounded r told = subst (λ (s : List ℕ). RoundTold s r mid late) from told
+  module _ (n : ℕ) {old mid late : Option History} (writes : WritesAll who lines (Ok n) old mid) (words : RoundWords)
+      (are : IsLoadRound words) where
+    rounded : (r : Result Rounded RoundFault) → RoundTold words.source r mid late → RoundTold (codes "load") r mid late
+    rounded r told = subst (λ (s : List ℕ). RoundTold s r mid late) are.source told
 
-    pub round_end : (fault : RoundFault) → RoundTold source (Err fault) mid late → Clauses lines (Err (Round fault)) old late
-    round_end fault told = round_clauses lines n (written (Ok n) old mid writes) fault (rounded (Err fault) told)
+    by_load : Adds mid late (RoundActs words.source) → Adds mid late (RoundActs (codes "load"))
+    by_load acts = subst (λ (s : List ℕ). Adds mid late (RoundActs s)) are.source acts
 
-    module _ (v : Rounded) (told : RoundTold source (Ok v) mid late) where
+    pub round_end : (fault : RoundFault) → RoundTold words.source (Err fault) mid late
+        → Adds mid late (RoundActs words.source) → Clauses lines (Err (Round fault)) old late
+    round_end fault told acts =
+        round_clauses lines n (written (Ok n) old mid writes) fault (rounded (Err fault) told) (by_load acts)
+
+    module _ (v : Rounded) (told : RoundTold words.source (Ok v) mid late) (acts : Adds mid late (RoundActs words.source))
+        (live : HaveLines words.kind words.logs.items (lines_of v.agent)) where
+      of_logs : HaveLogs v
+      of_logs =
+          subst (λ (k : List ℕ). HaveLines k load_logs (lines_of v.agent)) are.kind
+          (subst (λ (ls : List (List ℕ)). HaveLines words.kind ls (lines_of v.agent)) are.logs live)
+
       pub unclosed_end : (e : LoadEnd) → SummedUp v lines n (Err e) → Clauses lines (Err e) old late
-      unclosed_end (Unclosed name) is = unclosed_clauses lines n (written (Ok n) old mid writes) v (rounded (Ok v) told) name is
+      unclosed_end (Unclosed name) is =
+          unclosed_clauses lines n (written (Ok n) old mid writes) v (rounded (Ok v) told) (by_load acts) of_logs name is
       unclosed_end (Outside call) is = absurd is
       unclosed_end NoMemory is = absurd is
       unclosed_end (Round fault) is = absurd is
@@ -165,12 +191,13 @@ module _ (lines : ℕ) (who : Who) (by : who ≡ chukwa) where
       pub unsaid_end : (line : List ℕ) (fault : OutsideFault) {new : Option History} → SaysLine who line (Err fault) late new
           → Clauses lines (Err (of_outside fault)) old new
       unsaid_end line fault {new = new} says =
-          unsaid_clauses lines n (written (Ok n) old mid writes) v (rounded (Ok v) told) line fault (said_by line (Err fault) new says)
+          unsaid_clauses lines n (written (Ok n) old mid writes) v (rounded (Ok v) told) (by_load acts) of_logs line fault
+          (said_by line (Err fault) new says)
 
       pub done_end : (report : LoadReport) → SummedUp v lines n (Ok report) → {new : Option History}
           → SaysLine who (summary_line report) (Ok tt) late new → Clauses lines (Ok report) old new
       done_end report is {new = new} says =
-          done_clauses lines n (written (Ok n) old mid writes) v (rounded (Ok v) told) report
+          done_clauses lines n (written (Ok n) old mid writes) v (rounded (Ok v) told) (by_load acts) of_logs report
           (record { lines_are = is.0; bytes_are = is.1 ∙ writes.2; archived_is = is.2; unclosed = is.3 })
           (said_by (summary_line report) (Ok tt) new says)
 
@@ -181,6 +208,7 @@ pub record RoundSays (source : List ℕ) (reads : ℕ) (fault : RoundFault) (old
   pub script : RoundReads {T = Unit {0}} source reads (Err fault) old new
   pub length : LengthCause {T = Unit {0}} (Err fault) old new
   pub last : Adds old new (FailsInside {T = Unit {0}} (Err fault))
+  pub acts : Adds old new (RoundActs source)
 
 pub round_ends : (lines : ℕ) (who : Who) (by : who ≡ chukwa) (n : ℕ) {old mid new : Option History}
     → WritesAll who lines (Ok n) old mid → (words : RoundWords) → IsLoadRound words → (fault : RoundFault)
@@ -197,6 +225,7 @@ round_ends lines who by n {old = old} {mid = mid} {new = new} writes words are f
       script = said.script;
       length = said.length;
       last = said.last;
+      acts = said.acts;
     }
 
 -- another end isn't one of the round

@@ -14,7 +14,10 @@ use Rattle.chk_world.specs.Rules.{Legal}
 use Rattle.chk_world.specs.Together.{Outside as OutsideOf, Together}
 use Rattle.chk_round.specs.declared.faults.RoundFault.{RoundFault}
 use Rattle.chk_round.specs.declared.whole_round.Rounded.{Rounded}
+use Rattle.chk_agent.specs.States.{lines_of}
+use Rattle.chk_round.specs.Calls.{RoundActs}
 use Rattle.chk_round.specs.Done.{ArchivedTo}
+use Rattle.chk_round.specs.Following.{HaveLines}
 use Rattle.chk_round.specs.Rounded.{AfterRound, RoundTo}
 use Rattle.chk_round.specs.Rounds.{RoundDone}
 use Rattle.chk_load_run.specs.declared.ends.LoadEnd.{LoadEnd}
@@ -23,7 +26,7 @@ use Rattle.chk_load_run.specs.declared.ends.LoadReport.{LoadReport}
 use Rattle.chk_load_run.specs.Ends.{of_outside}
 use Rattle.chk_load_run.specs.Loads.{AfterLoad, IsLoaded, IsReportOf, IsWritersPrint, LoadDone, LoadTo, SaysLine, unsaid, said, unsayable, saying}
 use Rattle.chk_load_run.specs.Pieces.{HasAppended, WritesAll}
-use Rattle.chk_load_run.specs.Processes.{IsLoadRun, chukwa}
+use Rattle.chk_load_run.specs.Processes.{IsLoadRun, chukwa, load_logs}
 use Rattle.chk_load_run.proofs.Facts.{Appended}
 use Rattle.chk_load_run.proofs.OwnCalls.{say_only}
 use Rattle.chk_load_run.proofs.Unclosed.{none_unclosed}
@@ -51,6 +54,10 @@ outside_after stamped no_memory h legal = legal
 outside_done : (lines : ℕ) (fault : OutsideFault) (added history : History) → LoadDone lines (Err (of_outside fault)) added history
 outside_done lines (site_failed call) added history = tt
 outside_done lines no_memory added history = tt
+
+-- the three logs have live lines, as the round says it of its agent
+abbrev pub HaveLogs : Rounded → Type 0
+HaveLogs v = HaveLines (codes "Load") load_logs (lines_of v.agent)
 
 module _ (stamped : List (List ℕ)) (started acting : List Who) (lines : ℕ) where
   abbrev T : Side
@@ -84,6 +91,8 @@ module _ (stamped : List (List ℕ)) (started acting : List Who) (lines : ℕ) w
       split : added ≡ rounded ++ appends
       appended : HasAppended lines (own_acts appends)
       round : RoundDone (codes "c1") (codes "load") v.agent v.report rounded (appends ++ history)
+      live : HaveLogs v
+      acts : RoundActs (codes "load") rounded (appends ++ history)
 
     pub record IsBehind (r : Result Rounded RoundFault) (added history : History) : Type 0 where
       leads : Leads T (Legal stamped) (AfterRound stamped r) added history
@@ -92,23 +101,27 @@ module _ (stamped : List (List ℕ)) (started acting : List Who) (lines : ℕ) w
 
     pub behind : (n : ℕ) (r : Result Rounded RoundFault) {old mid new : Option History} → WritesAll chukwa lines (Ok n) old mid
         → Adds old mid (Appended lines) → Adds mid new (RoundTo stamped started acting (codes "load") r)
+        → Adds mid new (RoundActs (codes "load")) → ((v : Rounded) → r ≡ Ok v → HaveLogs v)
         → Adds old new (IsBehind r)
-    behind n r (ps, script, size, fits) facts told =
+    behind n r (ps, script, size, fits) facts told acts live =
         adds_then (IsBehind r)
         (adds_both (λ a h. Leads T (Legal stamped) (Legal stamped) a h × Appended lines a h)
         (appends_lead stamped started acting run.writes script) facts (λ a h x y. (x, y)))
-        told
+        (adds_both (λ b h. RoundTo stamped started acting (codes "load") r b h × RoundActs (codes "load") b h)
+        told acts (λ b h x y. (x, y)))
         (λ a b history x y. record {
-          leads = lead_both T b a history x.0 y.leads;
+          leads = lead_both T b a history x.0 y.0.leads;
           done = λ v is others legal running. record {
             rounded = b;
             appends = a;
             split = refl;
             appended = x.1.done;
             round =
-                y.done v is (every_late (λ before step. step.own ≡ false → OutsideOf stamped started before step) b a history others)
+                y.0.done v is (every_late (λ before step. step.own ≡ false → OutsideOf stamped started before step) b a history others)
                 (x.0.leads (every_early (λ before step. step.own ≡ false → OutsideOf stamped started before step) b a history others) legal)
                 (subst (λ (h : History). is_stopped h ≡ false) (append_assoc b a history) running);
+            live = live v is;
+            acts = y.1;
           };
         })
 
@@ -126,6 +139,12 @@ module _ (stamped : List (List ℕ)) (started acting : List Who) (lines : ℕ) w
     archived_in v {history = history} on none l one live =
         on.round.each l one live (none_unclosed (codes "load") v on.rounded (on.appends ++ history) on.round none)
 
+    -- the checkpoint has the lines of the agent
+    live_in : (v : Rounded) {added history : History} (on : OnRound v added history)
+        → HaveLines (codes "Load") load_logs
+        (checkpoint_lines (files_after (on.rounded ++ (on.appends ++ history))) (codes "load"))
+    live_in v on = subst (HaveLines (codes "Load") load_logs) (sym on.round.lines) on.live
+
     -- nothing stands behind the round
     loaded : (v : Rounded) (added history : History) → OnRound v added history → IsLoaded lines v added history
     loaded v added history on = record {
@@ -135,6 +154,8 @@ module _ (stamped : List (List ℕ)) (started acting : List Who) (lines : ℕ) w
       split = on.split;
       appended = on.appended;
       round = on.round;
+      live = live_in v on;
+      acts = on.acts;
       printing = tt;
       archived = archived_in v on;
     }
@@ -193,6 +214,8 @@ module _ (stamped : List (List ℕ)) (started acting : List Who) (lines : ℕ) w
       split = ap (λ (t : History). b ++ t) on.split;
       appended = on.appended;
       round = on.round;
+      live = live_in v on;
+      acts = on.acts;
       archived = archived_in v on;
       printing =
           subst (Owns IsWritersPrint b)

@@ -18,8 +18,10 @@ use Rattle.chk_words.specs.Lines.{load_line}
 use Rattle.chk_round.specs.declared.faults.RoundFault.{RoundFault}
 use Rattle.chk_round.specs.declared.faults.RoundFault.TheVariants as round
 use Rattle.chk_round.specs.declared.whole_round.Rounded.{Rounded}
+use Rattle.chk_round.specs.Calls.{RoundActs}
 use Rattle.chk_round.specs.Done.{ArchivedTo}
 use Rattle.chk_round.specs.Faults.{FailsInside}
+use Rattle.chk_round.specs.Following.{HaveLines}
 use Rattle.chk_round.specs.Lengths.{LengthCause}
 use Rattle.chk_round.specs.Processes.{processes}
 use Rattle.chk_round.specs.Rounded.{AfterRound}
@@ -31,7 +33,7 @@ use Rattle.chk_load_run.specs.declared.ends.LoadReport.{LoadReport}
 use Rattle.chk_load_run.specs.Archived.{archived_of}
 use Rattle.chk_load_run.specs.Lines.{bytes_of}
 use Rattle.chk_load_run.specs.Pieces.{AppendsFront, HasAppended, IsPiece, LogPiece, done_print, of_writer}
-use Rattle.chk_load_run.specs.Processes.{chukwa}
+use Rattle.chk_load_run.specs.Processes.{chukwa, load_logs}
 
 -- ---- in a legal history
 
@@ -54,8 +56,13 @@ pub record IsLoaded (lines : ℕ) (r : Rounded) (added history : History) : Type
   pub appended : HasAppended lines (own_acts appends)
   pub round : RoundDone (codes "c1") (codes "load") r.agent r.report rounded (appends ++ history)
   pub printing : Owns IsWritersPrint behind (rounded ++ (appends ++ history))
+  -- each of the three logs has a live line, but where the checkpoint is full without it
+  pub live : HaveLines (codes "Load") load_logs
+      (checkpoint_lines (files_after (rounded ++ (appends ++ history))) (codes "load"))
+  -- the calls of that round, of which none prints
+  pub acts : RoundActs (codes "load") rounded (appends ++ history)
   -- Where no sink was listed under writing, the archive of each live line's stream is its whole log as
-  -- it was at a moment of the round, and the line's offset is that log's end.
+  -- it was when the agent read it in the round, and the line's offset is that log's end.
   pub archived : r.report.first_unclosed ≡ None → (l : Line)
       → Contains (checkpoint_lines (files_after (rounded ++ (appends ++ history))) (codes "load")) l → l.live ≡ true
       → ArchivedTo (stream_of (codes "load") l) l.offset rounded (appends ++ history)
@@ -142,13 +149,14 @@ LoadFailsLast result added history = Unit {0}
 -- All lines were appended, and the round behind that ended so. A log that grows or shrank shows in
 -- the reads of the agent `load`, 1,000,000 of a log at most, and a length below an answered offset
 -- in the last poll. Where the site wasn't stopped, a failed call is the last one or one inside the
--- round.
+-- round, whose calls are those of a round.
 pub record EndsAsRound (lines : ℕ) (fault : RoundFault) (old new : Option History) : Type 0 where
   pub mid : Option History
   pub appends : Adds old mid (λ added history. HasAppended lines (own_acts added))
   pub script : RoundReads {T = Unit {0}} (codes "load") 1000000 (Err fault) mid new
   pub length : LengthCause {T = Unit {0}} (Err fault) mid new
   pub last : Adds mid new (FailsInside {T = Unit {0}} (Err fault))
+  pub acts : Adds mid new (RoundActs (codes "load"))
 
 -- where its round wasn't done, the load ended so
 abbrev pub RoundEndsSo : ℕ → Result LoadReport LoadEnd → Option History → Option History → Type 0

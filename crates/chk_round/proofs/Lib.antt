@@ -9,6 +9,7 @@ pub mod Inside
 pub mod NonePast
 pub mod QueueBelow
 pub mod SendsInside
+pub mod OwnReads
 pub mod WholeRounds
 pub mod Lasting
 pub mod Acts

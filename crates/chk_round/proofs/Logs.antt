@@ -6,12 +6,15 @@ use Rattle.chk_site.specs.declared.acts.Who.{Who}
 use Rattle.chk_site.specs.History.{History, Step, Others, is_stopped}
 use Rattle.chk_site.specs.Site.{Adds}
 use Rattle.chk_site.specs.Runs.{Leads, Side}
-use Rattle.chk_site.proofs.Runs.{adds_as, adds_none, adds_then, every_early, every_join, every_late}
+use Rattle.chk_site.proofs.Runs.{adds_as, adds_both, adds_none, adds_then, every_early, every_join, every_late}
+use Rattle.chk_chunk.specs.Keys.{Stream}
+use Rattle.chk_world.specs.Laws.{agent_of}
 use Rattle.chk_world.specs.Streams.{whole_end}
 use Rattle.chk_world.specs.Together.{IsByOne, Outside as OutsideOf, Together}
 use Rattle.chk_sink.specs.States.{IsSameStart, State as Sinks}
 use Rattle.chk_reading.specs.Adaptors.{Adaptor, is_stepped, stream_at}
-use Rattle.chk_agent.specs.States.{State as Agents, is_read_on}
+use Rattle.chk_agent.specs.States.{State as Agents, is_read_on, process}
+use Rattle.chk_agent.proofs.FillingOn.{read_one}
 use Rattle.chk_agent.proofs.Soundness.{below_at}
 use Rattle.chk_agent.proofs.TalkingTold.{ran_before}
 use Rattle.chk_round.specs.declared.faults.RoundFault.{RoundFault}
@@ -27,6 +30,7 @@ use Rattle.chk_round.specs.Calls.{RoundCalls}
 use Rattle.chk_round.proofs.Acts.{acts_none, acts_then}
 use Rattle.chk_round.proofs.Polls.{starts_none, starts_then}
 use Rattle.chk_round.proofs.Sent.{IsOther, adds_each}
+use Rattle.chk_round.proofs.OwnReads.{EndsWithRead, ends_more, out_ends}
 use Rattle.chk_round.proofs.WholeRounds.{read_now, read_on}
 
 -- ---- two parts in turn, of one side
@@ -180,7 +184,8 @@ module _ (n : ℕ) (s t : Sinks) (a b : Agents) {old mid : Option History} {befo
         })
 
     module _ (is : result ≡ Ok tt) (one : ReadOn n b c) (sends : SendsOthers n b mid new)
-        (lives : KeepsLogs b c) (more : Adds mid new RoundCalls) where
+        (lives : KeepsLogs b c) (more : Adds mid new RoundCalls) (reads : ℕ)
+        (out : ReadsOut n reads 0 b (Ok tt) c mid new) where
       -- the stream of the adaptor that was read
       stream_is : (x d : Adaptor) → slice_get a.adaptors n ≡ Some x → slice_get c.adaptors n ≡ Some d
           → stream_at c.source d ≡ stream_at a.source x
@@ -192,7 +197,7 @@ module _ (n : ℕ) (s t : Sinks) (a b : Agents) {old mid : Option History} {befo
           let path = m.3 ∙ ap (λ (k : Adaptor). k.path) (sym same) in
           λ j. record { source = source j; kind = kind j; name = path j }
 
-      -- that of another one
+      -- that of one before
       same_stream : (i : ℕ) (x d : Adaptor) → slice_get a.adaptors i ≡ Some x → slice_get b.adaptors i ≡ Some d
           → stream_at b.source d ≡ stream_at a.source x
       same_stream i x d there at =
@@ -204,12 +209,19 @@ module _ (n : ℕ) (s t : Sinks) (a b : Agents) {old mid : Option History} {befo
       abbrev Apart : List (List ℕ) → List Who → IsOther n b → History → History → Type 0
       Apart stamped started k = SendsBelow stamped started (stream_at b.source k.adaptor) k.adaptor.read.offset
 
+      abbrev Told : List (List ℕ) → List Who → List Who → History → History → Type 0
+      Told stamped started acting y h =
+          Leads (Together stamped started acting) (BothAt stamped t b) (AfterReadOut stamped n u c (Ok tt)) y h
+          × ((k : IsOther n b) → Apart stamped started k y h)
+
       whole_then : (stamped : List (List ℕ)) (started acting : List Who) (x y history : History)
           → ReadsBelow stamped started acting n s a t b x history
           → Leads (Together stamped started acting) (BothAt stamped t b) (AfterReadOut stamped n u c (Ok tt)) y (x ++ history)
           → ((k : IsOther n b) → Apart stamped started k y (x ++ history))
+          → (r : Adaptor) → slice_get b.adaptors n ≡ Some r
+          → EndsWithRead (process b) r.path y (x ++ history)
           → ReadsBelow stamped started acting (n + 1) s a u c (y ++ x) history
-      whole_then stamped started acting x y history first second none = record {
+      whole_then stamped started acting x y history first second none r is_r last = record {
         leads = both_lead (Together stamped started acting) x y history first.leads
             (record { leads = λ others h. (second.leads others h).0; own = second.own });
         whole = λ others h running i k d below there steps at.
@@ -229,6 +241,8 @@ module _ (n : ℕ) (s t : Sinks) (a b : Agents) {old mid : Option History} {befo
                   let end = (second.leads late_others (first.leads.leads first_others h)).1
                   (ap is_stopped (sym (append_assoc y x history)) ∙ running) d here in
                   read_now (stream_at a.source k) d.read.offset (y ++ x) history
+                  (subst (λ (q : Stream). EndsWithRead (agent_of q) q.name (y ++ x) history)
+                  (same_stream n k r was is_r) (ends_more y x history last))
                   (ap (λ j. whole_end j (stream_at a.source k)) (append_assoc y x history)
                   ∙ (ap (whole_end (y ++ (x ++ history))) (sym (stream_is k d was here)) ∙ end))
             ];
@@ -250,27 +264,31 @@ module _ (n : ℕ) (s t : Sinks) (a b : Agents) {old mid : Option History} {befo
 
       idle_still : is_read_on (slice_get b.adaptors n) ≡ true → (i : ℕ) (x y : Adaptor) → slice_get a.adaptors i ≡ Some x
           → is_stepped x.phase ≡ false → slice_get c.adaptors i ≡ Some y → y ≡ x
-      idle_still reads i x y there off at = elim (where_is i) [
+      idle_still on i x y there off at = elim (where_is i) [
         | inl same ↦
             let m = one.adaptors.here y (ap (λ j. slice_get c.adaptors j) (sym same) ∙ at) in
             let was = so.later n m.0 (omega arith) m.1 in
             let is = same_Some m.0 x (sym was ∙ (ap (λ j. slice_get a.adaptors j) (sym same) ∙ there)) in
-            absurd (true≢false (sym reads ∙ (ap is_read_on m.1 ∙ (ap (λ (k : Adaptor). is_stepped k.phase) is ∙ off))))
+            absurd (true≢false (sym on ∙ (ap is_read_on m.1 ∙ (ap (λ (k : Adaptor). is_stepped k.phase) is ∙ off))))
         | inr other ↦ so.on.idle i x y there off (one.adaptors.others i y other at)
       ]
 
       pub reading_next : is_read_on (slice_get b.adaptors n) ≡ true → IsSameStart t u → (late : ℕ) → after ≤ late → ReadingTo (n + 1) s a u c old new before late
-      reading_next reads starts late_count le =
+      reading_next on starts late_count le =
           let first = so.faults in
+          let r = read_one (slice_get b.adaptors n) on in
           record {
             told = λ stamped started acting run. adds_then (ReadsBelow stamped started acting (n + 1) s a u c)
                 (so.told stamped started acting run)
+                (adds_both (λ y h. Told stamped started acting y h × EndsWithRead (process b) r.0.path y h)
                 (adds_each (Apart stamped started)
                 (subst (λ r. Adds mid new (Leads (Together stamped started acting) (BothAt stamped t b)
                 (AfterReadOut stamped n u c r))) is (late_told stamped started acting run))
                 (λ k. sends stamped started (in_on s t a b so.starts.collector so.on.source run).agent_started
                 k.place k.adaptor k.apart k.at))
-                (λ x y history first second. whole_then stamped started acting x y history first second.0 second.1);
+                (out_ends refl out r.0 r.1) (λ y h p q. (p, q)))
+                (λ x y history first second. whole_then stamped started acting x y history first second.0.0 second.0.1
+                r.0 r.1 second.1);
             starts = starts_then s t u so.starts starts;
             on = record {
               source = one.source ∙ so.on.source;
@@ -278,7 +296,7 @@ module _ (n : ℕ) (s t : Sinks) (a b : Agents) {old mid : Option History} {befo
               addresses = one.addresses ∙ so.on.addresses;
               size = one.adaptors.size ∙ so.on.size;
               streams = streams_still;
-              idle = idle_still reads;
+              idle = idle_still on;
             };
             lives = λ kind path f. lives kind path (so.lives kind path f);
             acts = acts_then so.acts more;

@@ -33,6 +33,7 @@ use Rattle.chk_round.specs.Starts.{Met}
 use Rattle.chk_round.proofs.Given.{GivenNone, given_join, pair, pair_given}
 use Rattle.chk_round.proofs.Logs.{both_lead, early, late}
 use Rattle.chk_round.proofs.Meeting.{are_in}
+use Rattle.chk_round.proofs.OwnReads.{at_read_late}
 
 -- ---- the ends
 
@@ -83,17 +84,13 @@ both_of source started acting run = record {
 
 archived_behind : (s : Stream) (end : ℕ) (y x h : History) → ArchivedTo s end y (x ++ h) → ArchivedTo s end (y ++ x) h
 archived_behind s end y x h m =
-    let assoc = append_assoc m.earlier x h in
-    record {
-      later = m.later;
-      earlier = m.earlier ++ x;
-      split = ap (λ z. z ++ x) m.split ∙ append_assoc m.later m.earlier x;
-      holds = (
-        ap (λ (k : History). whole_end k s) assoc ∙ m.holds.0,
-        ap (λ (k : History). archive_of_stream (files_after k) s) (append_assoc y x h)
-            ∙ (m.holds.1 ∙ ap (λ (k : History). whole_log k s) (sym assoc)),
-      );
-    }
+    at_read_late
+    (λ read. (whole_end read s ≡ end) × (archive_of_stream (files_after (y ++ (x ++ h))) s ≡ whole_log read s))
+    (λ read. (whole_end read s ≡ end) × (archive_of_stream (files_after ((y ++ x) ++ h)) s ≡ whole_log read s))
+    (λ read holds. (
+      holds.0,
+      ap (λ (k : History). archive_of_stream (files_after k) s) (append_assoc y x h) ∙ holds.1,
+    )) y x h m
 
 moved : (c source : List ℕ) (b : Agents) (r : Report) (y x h : History) → GivenNone x h
     → RoundDone c source b r y (x ++ h) → RoundDone c source b r (y ++ x) h
@@ -104,13 +101,9 @@ moved c source b r y x h none done =
           archived_behind (stream_of source l) l.offset y x h
           (done.each l (subst (λ (k : History). Contains (checkpoint_lines (files_after k) source) l) assoc one) live closed);
       read = λ l one live.
-          let m = done.read l (subst (λ (k : History). Contains (checkpoint_lines (files_after k) source) l) assoc one) live in
-          record {
-            later = m.later;
-            earlier = m.earlier ++ x;
-            split = ap (λ z. z ++ x) m.split ∙ append_assoc m.later m.earlier x;
-            holds = ap (λ (k : History). whole_end k (stream_of source l)) (append_assoc m.earlier x h) ∙ m.holds;
-          };
+          let P : History → Type 0 = λ read. whole_end read (stream_of source l) ≡ l.offset in
+          at_read_late P P (λ read holds. holds) y x h
+          (done.read l (subst (λ (k : History). Contains (checkpoint_lines (files_after k) source) l) assoc one) live);
       lines = ap (λ (k : History). checkpoint_lines (files_after k) source) assoc ∙ done.lines;
       run = record {
         once = (let all = given_join y x in let p = none in let q = done.run.once in omega (arith, all, p, q));

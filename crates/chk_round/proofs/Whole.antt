@@ -28,13 +28,11 @@ use Rattle.chk_agent.proofs.Soundness.{below_at, line_in}
 use Rattle.chk_archive.specs.declared.report.Report.{Report}
 use Rattle.chk_archive.specs.Archived.{GivenOnce}
 use Rattle.chk_archive.specs.Reporting.{report_view}
-use Rattle.chk_drain.specs.Whole.{Meanwhile}
-use Rattle.chk_drain.proofs.ReadingAll.{meanwhile_early}
 use Rattle.chk_round.specs.declared.faults.RoundFault.{RoundFault}
 use Rattle.chk_round.specs.declared.faults.RoundFault.TheVariants.{Outside, NoMemory, Damaged, Length, Growing, Shrank, Spent, Refused, Checkpoint}
 use Rattle.chk_round.specs.Closing.{Closed, HasRun}
 use Rattle.chk_round.specs.Delivering.{Delivered}
-use Rattle.chk_round.specs.Done.{ArchivedTo, ReadTo}
+use Rattle.chk_round.specs.Done.{ArchivedTo, AtRead, ReadTo}
 use Rattle.chk_round.specs.Joint.{AreIn, BothAt, GoesOn, JointTo}
 use Rattle.chk_round.specs.Reading.{ReadsAll, ReadsOn}
 use Rattle.chk_round.specs.Rounds.{AfterRun, AllSteady, RoundDone, RunsTo}
@@ -44,6 +42,7 @@ use Rattle.chk_round.specs.Theirs.{ListsTheirs, NoneOf, TheirsOnly}
 use Rattle.chk_round.proofs.Given.{GivenNone, given_join, pair, pair_given}
 use Rattle.chk_round.proofs.Joining.{in_on}
 use Rattle.chk_round.proofs.Logs.{both_lead, early, late, ran}
+use Rattle.chk_round.proofs.OwnReads.{at_read_early}
 use Rattle.chk_round.proofs.QueueBelow.{queue_below}
 use Rattle.chk_round.proofs.Sent.{Known, Waits, adds_each, some_at}
 use Rattle.chk_round.proofs.Theirs.{found_in}
@@ -374,14 +373,11 @@ module _ (stamped : List (List ℕ)) (started acting : List Who) (s : Sinks) (a 
 
             -- that its offset was the end of the whole log
             was_read : (l : Line) → LineRead a.source b l w history
-                → Meanwhile (λ h. whole_end h (stream_of a.source l) ≡ l.offset) (z ++ w) history
+                → AtRead (stream_of a.source l) (λ h. whole_end h (stream_of a.source l) ≡ l.offset) (z ++ w) history
             was_read l m =
-                meanwhile_early (λ h. whole_end h (stream_of a.source l) ≡ l.offset) z w history (record {
-                  later = m.read.later;
-                  earlier = m.read.earlier;
-                  split = m.read.split;
-                  holds = ap (whole_end (m.read.earlier ++ history)) (sym m.stream) ∙ (m.read.whole ∙ m.offset);
-                })
+                subst (λ (q : Stream). AtRead q (λ h. whole_end h q ≡ l.offset) (z ++ w) history) m.stream
+                (subst (λ n. AtRead (stream_at b.source m.adaptor) (λ h. whole_end h (stream_at b.source m.adaptor) ≡ n) (z ++ w) history)
+                m.offset (at_read_early (λ h. whole_end h (stream_at b.source m.adaptor) ≡ m.adaptor.read.offset) z w history m.read.at))
 
             theirs_only : (h : History) → h ≡ z ++ (w ++ history) → (l : Listing) → last_listing h ≡ Some l
                 → NoneOf s.collector l.names

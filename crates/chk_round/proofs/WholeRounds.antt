@@ -16,10 +16,10 @@ use Rattle.chk_world.specs.ArchiveRuns.{IsArchiveRun, Listing, last_listing, lis
 use Rattle.chk_world.specs.Books.{Book}
 use Rattle.chk_world.specs.Checkpoints.{Line, checkpoint_of, is_line_of, offset_in}
 use Rattle.chk_world.specs.Committed.{archive_of_stream}
-use Rattle.chk_world.specs.Laws.{IsComplete}
+use Rattle.chk_world.specs.Laws.{IsComplete, agent_of}
 use Rattle.chk_world.specs.Rounds.{HoldsRound, SendsNonePast}
 use Rattle.chk_world.specs.Rules.{Legal}
-use Rattle.chk_world.specs.Streams.{whole_end}
+use Rattle.chk_world.specs.Streams.{whole_end, whole_log}
 use Rattle.chk_world.proofs.AcknowledgedSaved.{law_covered}
 use Rattle.chk_world.proofs.Rounds.{rounds_whole}
 use Rattle.chk_reading.specs.Adaptors.{Adaptor, is_past, stream_at}
@@ -33,29 +33,45 @@ use Rattle.chk_drain.specs.Drains.{AllDelivered}
 use Rattle.chk_round.specs.Done.{ArchivedTo, JobRan, RanWhole, ReadTo}
 use Rattle.chk_round.specs.Sending.{NonePast}
 use Rattle.chk_round.proofs.NonePast.{none_past_in, none_past_join}
+use Rattle.chk_round.proofs.OwnReads.{EndsWithRead, at_read_early}
 
 -- ---- a log that was read
 
 module _ (s : Stream) (end : ℕ) where
-  -- the last of these moments
-  pub read_now : (added history : History) → whole_end (added ++ history) s ≡ end
-      → ReadTo s end added history
-  read_now added history whole =
-      record { later = []; earlier = added; split = refl; whole = whole; no_more = tt }
+  -- the last of these steps
+  pub read_now : (added history : History) → EndsWithRead (agent_of s) s.name added history
+      → whole_end (added ++ history) s ≡ end → ReadTo s end added history
+  read_now added history last whole = record {
+    at = record {
+      later = [];
+      step = last.step;
+      earlier = last.earlier;
+      split = last.is;
+      read = last.read;
+      holds = ap (λ (k : History). whole_end (k ++ history) s) (sym last.is) ∙ whole;
+    };
+    no_more = tt;
+  }
 
   -- steps behind it
   pub read_on : (more added history : History) → ReadTo s end added history
       → NonePast s end more (added ++ history) → ReadTo s end (more ++ added) history
-  read_on more added history r none = record {
-    later = more ++ r.later;
-    earlier = r.earlier;
-    split = ap (λ k. more ++ k) r.split ∙ sym (append_assoc more r.later r.earlier);
-    whole = r.whole;
-    no_more =
-        none_past_join s end more r.later (r.earlier ++ history) r.no_more
-        (subst (λ (k : History). NonePast s end more k)
-        (ap (λ k. k ++ history) r.split ∙ append_assoc r.later r.earlier history) none);
-  }
+  read_on more added history r none =
+      let upto : History = r.at.step ∷ r.at.earlier in
+      record {
+        at = record {
+          later = more ++ r.at.later;
+          step = r.at.step;
+          earlier = r.at.earlier;
+          split = ap (λ k. more ++ k) r.at.split ∙ sym (append_assoc more r.at.later upto);
+          read = r.at.read;
+          holds = r.at.holds;
+        };
+        no_more =
+            none_past_join s end more r.at.later (upto ++ history) r.no_more
+            (subst (λ (k : History). NonePast s end more k)
+            (ap (λ k. k ++ history) r.at.split ∙ append_assoc r.at.later upto history) none);
+      }
 
 -- ---- the checkpoint
 
@@ -185,36 +201,38 @@ module _ (stamped : List (List ℕ)) (s : Stream) (end : ℕ) (closing settled h
     (none : NonePast s end closing (settled ++ history))
     (ran : RanWhole closing (settled ++ history)) where
   abbrev read : History
-  read = r.earlier ++ history
+  read = r.at.step ∷ r.at.earlier ++ history
 
-  settled_is : settled ++ history ≡ r.later ++ read
-  settled_is = ap (λ k. k ++ history) r.split ∙ append_assoc r.later r.earlier history
+  settled_is : settled ++ history ≡ r.at.later ++ read
+  settled_is =
+      ap (λ k. k ++ history) r.at.split
+      ∙ append_assoc r.at.later (r.at.step ∷ r.at.earlier) history
 
-  history_is : closing ++ (settled ++ history) ≡ ran.later ++ (ran.earlier ++ (r.later ++ read))
+  history_is : closing ++ (settled ++ history) ≡ ran.later ++ (ran.earlier ++ (r.at.later ++ read))
   history_is =
       ap (λ k. k ++ (settled ++ history)) ran.split
       ∙ (append_assoc ran.later ran.earlier (settled ++ history)
       ∙ ap (λ k. ran.later ++ (ran.earlier ++ k)) settled_is)
 
-  none_behind : NonePast s end (ran.later ++ (ran.earlier ++ r.later)) read
+  none_behind : NonePast s end (ran.later ++ (ran.earlier ++ r.at.later)) read
   none_behind =
       subst (λ (k : History). NonePast s end k read)
-      (ap (λ k. k ++ r.later) ran.split ∙ append_assoc ran.later ran.earlier r.later)
-      (none_past_join s end closing r.later read r.no_more
+      (ap (λ k. k ++ r.at.later) ran.split ∙ append_assoc ran.later ran.earlier r.at.later)
+      (none_past_join s end closing r.at.later read r.no_more
       (subst (λ (k : History). NonePast s end closing k) settled_is none))
 
   round_of : HoldsRound (closing ++ (settled ++ history)) s
   round_of = record {
     read = read;
-    till_checkpoint = r.later;
+    till_checkpoint = r.at.later;
     till_listing = ran.earlier;
     till_end = ran.later;
     is = history_is;
     checkpointed =
-        ap (λ k. checkpoint_of (files_after k) s) (sym settled_is) ∙ (at_end ∙ sym r.whole);
+        ap (λ k. checkpoint_of (files_after k) s) (sym settled_is) ∙ (at_end ∙ sym r.at.holds);
     no_more = λ step one.
-        subst (λ n. SendsNonePast s n step) (sym r.whole)
-        (none_past_in s end (ran.later ++ (ran.earlier ++ r.later)) read none_behind step one);
+        subst (λ n. SendsNonePast s n step) (sym r.at.holds)
+        (none_past_in s end (ran.later ++ (ran.earlier ++ r.at.later)) read none_behind step one);
     names = ran.names;
     run =
         subst (λ (k : History). IsComplete (closing ++ (settled ++ history))
@@ -224,16 +242,23 @@ module _ (stamped : List (List ℕ)) (s : Stream) (end : ℕ) (closing settled h
 
   pub stream_whole : ArchivedTo s end (closing ++ settled) history
   unfolding round_of
-  stream_whole = record {
-    later = closing ++ r.later;
-    earlier = r.earlier;
-    split = ap (λ k. closing ++ k) r.split ∙ sym (append_assoc closing r.later r.earlier);
-    holds = (
-      r.whole,
-      ap (λ k. archive_of_stream (files_after k) s) (append_assoc closing settled history)
-          ∙ rounds_whole law_covered stamped (closing ++ (settled ++ history)) legal s round_of,
-    );
-  }
+  stream_whole =
+      at_read_early
+      (λ (h : History). (whole_end h s ≡ end)
+      × (archive_of_stream (files_after ((closing ++ settled) ++ history)) s ≡ whole_log h s))
+      closing settled history
+      (record {
+        later = r.at.later;
+        step = r.at.step;
+        earlier = r.at.earlier;
+        split = r.at.split;
+        read = r.at.read;
+        holds = (
+          r.at.holds,
+          ap (λ k. archive_of_stream (files_after k) s) (append_assoc closing settled history)
+              ∙ rounds_whole law_covered stamped (closing ++ (settled ++ history)) legal s round_of,
+        );
+      })
 
 -- ---- an adaptor whose log was read to its end
 

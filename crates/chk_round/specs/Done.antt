@@ -1,23 +1,51 @@
 -- When the archive of a stream is the whole log that was read.
-use Rattle.std.specs.Prelude.{◌≡◌, ℕ, List, ◌++◌, Some}
-use Rattle.chk_site.specs.History.{History, files_after}
+use Rattle.std.specs.Prelude.{◌≡◌, ℕ, true, List, ◌∷◌, ◌++◌, Some}
+use Rattle.chk_site.specs.declared.acts.Who.{Who}
+use Rattle.chk_site.specs.declared.suffixes.Piece.{Piece}
+use Rattle.chk_site.specs.Acts.{ReadsLog, deed}
+use Rattle.chk_site.specs.History.{History, Step, files_after}
+use Rattle.chk_site.specs.Logs.{Part}
+use Rattle.chk_site.specs.Site.{piece_given}
 use Rattle.chk_chunk.specs.Keys.{Stream}
 use Rattle.chk_world.specs.ArchiveRuns.{IsArchiveRun, Listing, last_listing}
 use Rattle.chk_world.specs.Committed.{archive_of_stream}
-use Rattle.chk_world.specs.Laws.{IsComplete}
+use Rattle.chk_world.specs.Laws.{IsComplete, agent_of}
 use Rattle.chk_world.specs.Streams.{whole_end, whole_log}
 use Rattle.chk_archive.specs.Archived.{GivenOnce}
-use Rattle.chk_drain.specs.Whole.{Meanwhile}
 use Rattle.chk_round.specs.Sending.{NonePast}
 
--- At one of these moments the whole log of the stream ended at this offset, and behind it nothing
--- of the stream was sent past that.
-pub record ReadTo (s : Stream) (end : ℕ) (added history : History) : Type 0 where
+-- ---- the reads
+
+-- the site's own call by which this process read the log of this path, and was given a piece of it
+pub record IsOwnRead (who : Who) (path : List ℕ) (step : Step) : Type 0 where
+  pub own : step.own ≡ true
+  pub by : step.act.who ≡ who
+  pub part : Part
+  pub at : ℕ
+  pub max : ℕ
+  pub asks : deed step.act ≡ ReadsLog path part at max
+  pub piece : Piece
+  pub gave : step.act.answer ≡ piece_given piece
+
+-- One of these steps is such a read, and P holds of the history up to it and with it.
+pub record AtOwnRead (who : Who) (path : List ℕ) (P : History → Type 0) (added history : History)
+    : Type 0 where
   pub later : History
+  pub step : Step
   pub earlier : History
-  pub split : added ≡ later ++ earlier
-  pub whole : whole_end (earlier ++ history) s ≡ end
-  pub no_more : NonePast s end later (earlier ++ history)
+  pub split : added ≡ later ++ step ∷ earlier
+  pub read : IsOwnRead who path step
+  pub holds : P (step ∷ earlier ++ history)
+
+-- the same of a read of the stream's log by its own agent
+abbrev pub AtRead : Stream → (History → Type 0) → History → History → Type 0
+AtRead s = AtOwnRead (agent_of s) s.name
+
+-- At such a read the whole log of the stream ended at this offset, and behind it nothing of the
+-- stream was sent past that.
+pub record ReadTo (s : Stream) (end : ℕ) (added history : History) : Type 0 where
+  pub at : AtRead s (λ read. whole_end read s ≡ end) added history
+  pub no_more : NonePast s end at.later (at.step ∷ at.earlier ++ history)
 
 -- ---- the run of the job
 
@@ -38,11 +66,10 @@ pub record RanWhole (added history : History) : Type 0 where
 
 -- ---- the archive
 
--- at one of these moments the whole log of the stream ended at this offset, and the archive is now
--- that log
+-- at such a read the whole log of the stream ended at this offset, and the archive is now that log
 abbrev pub ArchivedTo : Stream → ℕ → History → History → Type 0
 ArchivedTo s end added history =
-    Meanwhile
+    AtRead s
     (λ read. (whole_end read s ≡ end)
     × (archive_of_stream (files_after (added ++ history)) s ≡ whole_log read s))
     added history

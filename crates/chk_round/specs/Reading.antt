@@ -49,8 +49,8 @@ AfterReadOut stamped i t b (Ok value) history =
     BothAt stamped t b history × (is_stopped history ≡ false → IsAtWholeEnd b i history)
 AfterReadOut stamped i t b (Err fault) history = GoesOn stamped t b (Err fault) history
 
--- Behind the reads of all adaptors. Each that was read on is read to the end of its whole log at a
--- moment of these reads, and nothing of its stream was sent past that since.
+-- Behind the reads of all adaptors. Each that was read on is read to the end of its whole log by one
+-- of these reads, and nothing of its stream was sent past that since.
 pub record ReadsAll (stamped : List (List ℕ)) (started acting : List Who) (s : Sinks) (a : Agents) (t : Sinks) (b : Agents)
     (result : Result (Unit {0}) RoundFault) (added history : History) : Type 0 where
   pub leads : Leads (Together stamped started acting) (BothAt stamped s a) (GoesOn stamped t b result) added history

@@ -20,11 +20,10 @@ use Rattle.chk_reading.specs.Adaptors.{Adaptor, is_past}
 use Rattle.chk_agent.specs.Facts.{Matches as AgentMatches}
 use Rattle.chk_agent.specs.States.{State as Agents, lines_of}
 use Rattle.chk_archive.specs.declared.report.Report.{Report}
-use Rattle.chk_drain.specs.Whole.{Meanwhile}
 use Rattle.chk_round.specs.declared.faults.RoundFault.{RoundFault}
 use Rattle.chk_round.specs.declared.faults.RoundFault.TheVariants.{Damaged, Spent, Checkpoint, Refused}
 use Rattle.chk_round.specs.Closing.{HasRun}
-use Rattle.chk_round.specs.Done.{ArchivedTo, JobRan}
+use Rattle.chk_round.specs.Done.{ArchivedTo, AtRead, JobRan}
 use Rattle.chk_round.specs.Joint.{BothAt, OnlyStopped}
 use Rattle.chk_round.specs.Spent.{IsSpentRound, WhereRunning}
 use Rattle.chk_round.specs.Theirs.{NoneOf}
@@ -50,12 +49,15 @@ AfterRun stamped c b (Err fault) history = Legal stamped history
 pub record RoundDone (collector source : List ℕ) (b : Agents) (r : Report) (added history : History)
     : Type 0 where
   -- Where the job's listing showed no sink under writing, the archive of each live line's stream is
-  -- its whole log as it was at a moment of these steps, and the line's offset is that log's end.
+  -- its whole log as it was when the agent of the stream read it in these steps, and the line's
+  -- offset is that log's end.
   pub each : (l : Line) → Contains (checkpoint_lines (files_after (added ++ history)) source) l
       → l.live ≡ true → r.unclosed ≡ 0 → ArchivedTo (stream_of source l) l.offset added history
-  -- whatever the listing showed, each live line's offset was the end of the whole log then
+  -- whatever the listing showed, each live line's offset was the end of the whole log at such a read
   pub read : (l : Line) → Contains (checkpoint_lines (files_after (added ++ history)) source) l
-      → l.live ≡ true → Meanwhile (λ h. whole_end h (stream_of source l) ≡ l.offset) added history
+      → l.live ≡ true
+      → AtRead (stream_of source l) (λ read. whole_end read (stream_of source l) ≡ l.offset)
+      added history
   pub lines : checkpoint_lines (files_after (added ++ history)) source ≡ lines_of b
   -- one run of the archive job came to this report, and the job was given the names of the sinks
   -- once in these steps

@@ -105,7 +105,7 @@ pub record DoneAndTold (source kind : List ℕ) (logs : List (List ℕ)) (result
       ≡ round_prints (agent source) job (checkpoint_lines (files_after (body ++ history)) source) (report_view rounded.report)
   pub ends : result ≡ end_by rounded.report.first_unclosed
   -- where it ended well, no sink was listed under writing, and the archive of each live line's stream
-  -- is its whole log as it was at a moment of the round; the line's offset is that log's end
+  -- is its whole log as it was when the agent read it in the round; the line's offset is its end
   pub closed : result ≡ Ok tt → rounded.report.unclosed ≡ 0
   pub archived : result ≡ Ok tt → (l : Line) → Contains (checkpoint_lines (files_after (body ++ history)) source) l
       → l.live ≡ true → ArchivedTo (stream_of source l) l.offset body history

@@ -69,7 +69,8 @@ loop-adaptor-preserved g c =
           rw (w.agent-is, w.collector-is, w.site-is)
           (each_of (reading_next c.loop-adaptor.adaptor c.args.collector.now c.loop-adaptor.collector c.args.agent.now c.loop-adaptor.agent
           c.loop-adaptor.invariant.so w.read_out.new.collector w.read_out.new.agent (Ok tt) w.in_ok-read_out.ensures.read refl
-          w.in_ok-read_out.ensures.on w.in_ok-read_out.ensures.sends w.in_ok-read_out.ensures.live w.in_ok-read_out.ensures.acts (sym w.if-is_read_on.ensures) w.read_out.ensures.same (g.S.Site.fault_count w.read_out.new.site)
+          w.in_ok-read_out.ensures.on w.in_ok-read_out.ensures.sends w.in_ok-read_out.ensures.live w.in_ok-read_out.ensures.acts
+          c.args.reads w.in_ok-read_out.ensures.script (sym w.if-is_read_on.ensures) w.read_out.ensures.same (g.S.Site.fault_count w.read_out.new.site)
           w.in_ok-read_out.ensures.cause)
           (each_next c.args.reads c.loop-adaptor.adaptor c.args.agent.now c.loop-adaptor.agent w.read_out.new.agent
           (sym w.if-is_read_on.ensures) w.in_ok-read_out.ensures.script c.loop-adaptor.invariant.script))
