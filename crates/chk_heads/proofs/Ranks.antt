@@ -5,14 +5,17 @@ use Rattle.std.proofs.lemmas.Bool.{cases_Bool, lt-ltb, le-ltb}
 use Rattle.std.proofs.lemmas.List.Sums.{sum_by-cons}
 use Rattle.std.proofs.lemmas.List.{get_or-map, get_or_default}
 use Rattle.std.proofs.lemmas.List.Elements.{All-contains}
-use Rattle.std.specs.List.Sorted.{IsSortedBy, IsStableBy}
+use Rattle.std.specs.Borrow.{Bor}
+use Rattle.std.specs.Cmp.{IsStrictWeakOrder}
+use Rattle.std.specs.List.Sorted.{IsSortedBy, IsStableBy, IsPartitionedBy, IsPartitionPoint}
+use Rattle.std.proofs.lemmas.List.Sorted.{sorted_far, sum_by-IsPermutation}
 use Rattle.chk_chunk.specs.Keys.{same_stream, stream_lt}
 use Rattle.chk_heads.specs.declared.origins.Origin.{Origin}
 use Rattle.chk_heads.specs.declared.gather.Row.{Row}
 use Rattle.chk_heads.specs.HeadRows.{no_origin, head_in_row}
-use Rattle.chk_heads.specs.Order.{head_before, origin_stream, origin_before, rank_in, row_rank, row_before, in_head_order}
+use Rattle.chk_heads.specs.Order.{head_before, origin_stream, origin_before, rank_in, row_rank, row_before, in_head_order, AreInOrder}
 use Rattle.chk_world.proofs.Each.{Each, each_from}
-use Rattle.chk_heads.proofs.Sorting.{sorted_is, sort_through}
+use Rattle.chk_heads.proofs.Sorting.{as_std, sorted_is, sort_through}
 use Rattle.chk_heads.proofs.Orders.{WeakOrder, Tested, through, tested_through, numbers, lex, streams}
 
 -- ---- counts
@@ -104,6 +107,66 @@ rank_lt origins o p one = go (origin_before o p) refl
           | inl is_so ↦ is_so
           | inr not_so ↦ absurd (true≢false (sym h ∙ w.onward x o p not_so e))
         ]) origins)
+
+-- ---- ranks by a search
+
+-- as many pass as stand before the place behind which none passes
+counted_to : {X : Type 0} (p : X → Bool) (xs : List X) (i : ℕ) → i ≤ length xs
+    → IsPartitionPoint (λ y. p y ≡ true) (λ y. p y ≡ false) xs i → i ≡ count_by p xs
+counted_to p [] zero most at = refl
+counted_to p [] (suc i) most at = absurd (let z : ⊥ = omega arith in z)
+counted_to p (x ∷ xs) zero most at =
+    let off = ap {B = ℕ} (λ b. cond b 1 0) (at.1 zero x (omega arith) (omega arith)) in
+    let rest : 0 ≡ count_by p xs = counted_to p xs zero (omega arith) (
+      (λ k d low high. absurd (let z : ⊥ = omega (arith, high) in z)),
+      (λ k d low high. at.1 (suc k) d (omega arith) (omega (arith, high))),
+    ) in
+    omega (arith, off, rest, count_cons p x xs)
+counted_to p (x ∷ xs) (suc i) most at =
+    let on = ap {B = ℕ} (λ b. cond b 1 0) (at.0 zero x (omega arith) (omega arith)) in
+    let rest : i ≡ count_by p xs = counted_to p xs i (omega (arith, most)) (
+      (λ k d low high. at.0 (suc k) d (omega arith) (omega (arith, high))),
+      (λ k d low high. at.1 (suc k) d (omega (arith, low)) (omega (arith, high))),
+    ) in
+    omega (arith, on, rest, count_cons p x xs)
+
+count_map : {X Y : Type 0} (f : X → Y) (q : Y → Bool) (xs : List X)
+    → count_by q (map f xs) ≡ count_by (λ x. q (f x)) xs
+count_map f q [] = refl
+count_map f q (x ∷ xs) =
+    count_cons q (f x) (map f xs)
+    ∙ (ap (λ n. cond (q (f x)) 1 0 + n) (count_map f q xs) ∙ sym (count_cons (λ x. q (f x)) x xs))
+
+pub refs_ordered : IsStrictWeakOrder (λ (a b : Bor Origin). origin_before a.now b.now)
+refs_ordered = as_std (λ a b. origin_before a.now b.now)
+    (through (λ (x : Bor Origin). x.now) origin_before by_stream.order)
+
+-- a search among origins in order finds where those that come before one end
+pub parted : (sorted : List (Bor Origin)) (o : Origin)
+    → IsSortedBy (λ a b. origin_before a.now b.now) sorted
+    → IsPartitionedBy (λ (x : Bor Origin). origin_before x.now o) sorted
+parted sorted o rise i j d low high on = elim (cases_Bool (origin_before (slice_index_or sorted i d).now o)) [
+  | inl is_so ↦ is_so
+  | inr not_so ↦
+      absurd
+      (true≢false
+      (sym on
+      ∙ by_stream.order.onward (slice_index_or sorted j d).now (slice_index_or sorted i d).now o
+      (sorted_far (λ a b. origin_before a.now b.now) refs_ordered sorted rise i j d low high)
+      not_so))
+]
+
+-- that place is the rank
+pub ranked : (origins : List Origin) (sorted : List (Bor Origin)) (o : Origin) (i : ℕ)
+    → i ≤ length sorted → AreInOrder origins sorted
+    → IsPartitionPoint (λ (x : Bor Origin). origin_before x.now o ≡ true)
+    (λ (x : Bor Origin). origin_before x.now o ≡ false) sorted i
+    → i ≡ rank_in origins o
+ranked origins sorted o i most order at =
+    counted_to (λ (x : Bor Origin). origin_before x.now o) sorted i most at
+    ∙ (sym (count_map (λ (x : Bor Origin). x.now) (λ p. origin_before p o) sorted)
+    ∙ sum_by-IsPermutation (λ p. cond (origin_before p o) 1 0) origins (map (λ x. x.now) sorted)
+    order.same)
 
 -- orders that agree have the same alike
 alike_same : {X : Type 0} (lt alike lt2 alike2 : X → X → Bool) → Tested lt alike → Tested lt2 alike2

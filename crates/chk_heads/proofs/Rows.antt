@@ -1,16 +1,17 @@
 -- Rows and the origins that they name.
-use Rattle.std.proofs.Common.{◌≡◌, ℕ, ◌<◌, true, List, [], ◌∷◌, ◌++◌, length, map, Some, refl, sym, ap, subst, ◌∙◌, arith, length-append, All}
-use Rattle.std.specs.Prelude.{position, slice_index_or, bytes_eq, nat_eq}
+use Rattle.std.proofs.Common.{◌≡◌, ℕ, ◌<◌, true, List, [], ◌∷◌, ◌++◌, length, map, refl, sym, ap, subst, ◌∙◌, arith, length-append, All}
+use Rattle.std.specs.Prelude.{slice_index_or, bytes_eq, nat_eq}
 use Rattle.std.proofs.lemmas.Bool.{and_parts, eqb-true}
-use Rattle.std.proofs.lemmas.List.{get_or_append_left}
+use Rattle.std.proofs.lemmas.List.{get_or_append_left, get_or-map}
 use Rattle.std.proofs.lemmas.List.Elements.{All-nil, All-cons, All-head, All-tail, All-append}
-use Rattle.std.proofs.lemmas.List.Quantifiers.{position-Some}
 use Rattle.std.proofs.lemmas.Slice.Eq.{bytes_eq-Decides}
-use Rattle.chk_chunk.specs.Keys.{Key}
+use Rattle.chk_chunk.specs.Keys.{Key, Stream, same_stream}
+use Rattle.chk_world.proofs.Ends.{bytes_self}
 use Rattle.chk_heads.specs.declared.origins.Origin.{Origin}
 use Rattle.chk_heads.specs.declared.gather.Row.{Row}
 use Rattle.chk_heads.specs.Heads.{head_with}
 use Rattle.chk_heads.specs.HeadRows.{no_origin, origin_of, is_origin_of, HasOrigin, HasGrown, origin_key, head_in_row}
+use Rattle.chk_heads.specs.Order.{no_head, of_one_stream, origin_stream}
 
 -- an origin that is the key's
 origin_is : (k : Key) (o : Origin) → is_origin_of k o ≡ true → o ≡ origin_of k
@@ -25,15 +26,6 @@ origin_is k o h =
     let kind = (bytes_eq-Decides o.kind k.stream.kind).0 t.0 in
     let cluster = (bytes_eq-Decides o.cluster k.cluster).0 t.1 in
     λ i. record { source = source i; kind = kind i; name = name i; start = start i; cluster = cluster i }
-
-pub origin_here : (k : Key) (origins : List Origin) (i : ℕ) → i < length origins → is_origin_of k (slice_index_or origins i no_origin) ≡ true
-    → HasOrigin origins i k
-origin_here k origins i there h = record { there = there; is = origin_is k (slice_index_or origins i no_origin) h }
-
-pub origin_found : (k : Key) (origins : List Origin) (i : ℕ) → position (is_origin_of k) origins ≡ Some i → HasOrigin origins i k
-origin_found k origins i e =
-    let f = position-Some (is_origin_of k) origins i no_origin e in
-    origin_here k origins i f.0 f.1
 
 -- a row stands for the same head when origins are put behind the others
 abbrev pub Known : List Origin → Row → Type 0
@@ -83,3 +75,22 @@ known_pushed old new rows r k known grown has =
     All-append (Known new) rows (r ∷ [])
     (subst (λ o. All (Known o) rows) (sym grown.1) (rows_known old grown.0 rows known))
     (All-cons (Known new) r [] has.there (All-nil (Known new)))
+
+-- heads of one origin are of one stream
+pub one_origin : (origins : List Origin) (rows : List Row) (i j : ℕ) (a b : Row) → i < length rows → j < length rows
+    → a ≡ slice_index_or rows i a → b ≡ slice_index_or rows j b → a.origin ≡ b.origin
+    → of_one_stream (slice_index_or (map (head_in_row origins) rows) i no_head) (slice_index_or (map (head_in_row origins) rows) j no_head) ≡ true
+one_origin origins rows i j a b low high is is2 one =
+    ap (λ h. of_one_stream h (slice_index_or (map (head_in_row origins) rows) j no_head)) (head_of a i low is)
+    ∙ (ap (of_one_stream (head_in_row origins a)) (head_of b j high is2)
+    ∙ (ap (λ n. same_stream (stream_at a.origin) (stream_at n)) (sym one) ∙ stream_self (stream_at a.origin)))
+  where
+    head_of : (r : Row) (k : ℕ) → k < length rows → r ≡ slice_index_or rows k r
+        → slice_index_or (map (head_in_row origins) rows) k no_head ≡ head_in_row origins r
+    head_of r k there at = get_or-map (head_in_row origins) rows k r no_head there ∙ ap (head_in_row origins) (sym at)
+
+    stream_at : ℕ → Stream
+    stream_at n = origin_stream (slice_index_or origins n no_origin)
+
+    stream_self : (s : Stream) → same_stream s s ≡ true
+    stream_self s = rw (bytes_self s.source, bytes_self s.kind, bytes_self s.name) refl

@@ -1,5 +1,7 @@
 -- The order in which heads are gone through.
-use Rattle.std.specs.Prelude.{ℕ, Bool, true, false, ◌&&◌, ◌||◌, nat_lt, nat_eq, List, [], ◌∷◌, count_by, slice_index_or}
+use Rattle.std.specs.Prelude.{ℕ, Bool, true, false, ◌&&◌, ◌||◌, nat_lt, nat_eq, List, [], ◌∷◌, count_by, map, slice_index_or}
+use Rattle.std.specs.Borrow.{Bor}
+use Rattle.std.specs.List.Sorted.{IsSortedBy, IsPermutation}
 use Rattle.chk_chunk.specs.Keys.{Stream, same_stream, stream_lt}
 use Rattle.chk_chunk.specs.Lent.{lent_key}
 use Rattle.chk_heads.specs.Heads.{Head}
@@ -39,6 +41,11 @@ origin_before o p = stream_lt (origin_stream o) (origin_stream p)
 -- how many of the origins come before one
 abbrev pub rank_in : List Origin → Origin → ℕ
 rank_in origins o = count_by (λ p. origin_before p o) origins
+
+-- references to the same origins, in the order of their streams
+pub record AreInOrder (origins : List Origin) (sorted : List (Bor Origin)) : Type 0 where
+  pub same : IsPermutation origins (map (λ o. o.now) sorted)
+  pub rise : IsSortedBy (λ o p. origin_before o.now p.now) sorted
 
 -- the number that stands for the row's stream
 abbrev pub row_rank : List ℕ → Row → ℕ

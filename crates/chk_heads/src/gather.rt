@@ -50,10 +50,13 @@ struct Row {
     at: u64,
 }
 
-/// The heads of records, without their data. A row has 32 bytes; the texts of a stream are kept once.
+/// The heads of records, without their data. A row has 32 bytes; the texts of a stream are kept once, with four bytes for their
+/// place in the order.
 #[derive(Debug, Drop)]
 pub struct Heads {
     origins: Vec<Origin>,
+    /// The numbers of the origins, in the order of their texts.
+    order: Vec<u32>,
     rows: Vec<Row>,
 }
 
@@ -76,6 +79,7 @@ impl Heads {
     {
         Heads {
             origins: Vec::new(alloc),
+            order: Vec::new(alloc),
             rows: Vec::new(alloc),
         }
     }
@@ -85,7 +89,7 @@ impl Heads {
     /// place from which on it isn't. After a refusal the heads are as before.
     ///
     /// The file is read once, in pieces of at most 1,048,576 bytes. Of its bytes no more are held than such a piece and one
-    /// record. A record of a stream that isn't the one before costs a pass over the streams that were seen.
+    /// record. A record of a stream that isn't the one before costs a search among the streams that were seen.
     pub fn gather<S: Site>(
         &mut self,
         alloc: Global,
@@ -179,8 +183,8 @@ impl Heads {
         ensures ok { OnOk result (self.new ≡ self.old ++ head_with (lent_key key.now) begin file at ∷ []) }
         ensures err { OnErr result (self.new ≡ self.old) }
     {
-        let likely = self.rows.last().map_or(0, |row| row.origin as usize);
-        let origin = number_of(alloc, &mut self.origins, likely, key)?;
+        let likely = self.rows.last().map_or(0, |row| row.origin);
+        let origin = number_of(alloc, &mut self.origins, &mut self.order, likely, key)?;
         self.rows.push(Row {
             origin,
             file,

@@ -1,6 +1,7 @@
 //! The streams that records are of, each kept once.
 
-ghost use Rattle.std.specs.Prelude.{◌≡◌, ◌<◌, ◌++◌, ◌∷◌, [], List, IsTrue, OnErr, IfOk, IfSome, position};
+ghost use Rattle.std.specs.Prelude.{◌≡◌, ◌<◌, ◌++◌, ◌∷◌, [], List, length, IsTrue, OnErr, IfOk};
+ghost use Rattle.std.specs.List.Sorted.{IsSearchInRange};
 ghost use Rattle.chk_chunk.specs.Keys.{has_words};
 ghost use Rattle.chk_chunk.specs.Lent.{lent_key};
 ghost use Rattle.chk_bytes.specs.Words.{text_lt};
@@ -10,6 +11,7 @@ ghost use Rattle.chk_heads.specs.HeadRows.{is_origin_of, origin_of, HasOrigin, H
 use chk_bytes::{NoMemory, Word};
 use chk_chunk::KeyRef;
 use std::alloc::Global;
+use std::cmp::Ordering;
 
 /// A stream with a start and a cluster, as keys name them.
 #[derive(Debug, Drop)]
@@ -45,6 +47,17 @@ impl Origin {
             && self.cluster.as_str() == key.cluster
     }
 
+    /// How it stands to the key's, by source, type, name, start and cluster.
+    fn compare(&self, key: &KeyRef<'_>) -> Ordering {
+        self.source
+            .as_str()
+            .cmp(key.source)
+            .then_with(|| self.kind.as_str().cmp(key.kind))
+            .then_with(|| self.name.as_str().cmp(key.name))
+            .then(self.start.cmp(&key.start))
+            .then_with(|| self.cluster.as_str().cmp(key.cluster))
+    }
+
     /// Its stream comes before the other's, in byte order of source, type and name.
     pub(crate) fn is_before(&self, other: &Origin) -> bool
         ensures { result ≡ origin_before self.now other.now }
@@ -64,39 +77,54 @@ fn comes_before(a: &str, b: &str) -> bool
     a < b
 }
 
-/// Where the first origin that is the key's stands.
-fn place_of(origins: &[Origin], key: &KeyRef<'_>) -> Option<usize>
-    ensures { result ≡ position (is_origin_of (lent_key key.now)) origins.now }
+/// The origin of this number is there, and is the key's.
+fn is_at(origins: &[Origin], number: u32, key: &KeyRef<'_>) -> bool
+    ensures { IsTrue result → HasOrigin origins.now number (lent_key key.now) }
 {
-    origins.iter().position(|origin| origin.is_of(key))
+    let number = number as usize;
+    number < origins.len() && origins[number].is_of(key)
 }
 
-/// Where the key's origin stands, if it is there. The one at `likely` is tried first, and then all from the first on.
-fn find(origins: &[Origin], likely: usize, key: &KeyRef<'_>) -> Option<usize>
-    ensures { IfSome result (λ i. HasOrigin origins.now i (lent_key key.now)) }
+/// Where the key's origin stands in the order, or where it is to be put in.
+fn place_of(origins: &[Origin], order: &[u32], key: &KeyRef<'_>) -> Result<usize, usize>
+    ensures { IsSearchInRange result (length order.now) }
 {
-    if likely < origins.len() && origins[likely].is_of(key) {
-        return Some(likely);
-    }
-    place_of(origins, key)
+    order.binary_search_by(|number| match origins.get(*number as usize) {
+        Some(origin) => origin.compare(key),
+        None => Ordering::Less,
+    })
 }
 
-/// The number of the key's origin, which is put behind the others where it is new. The one at `likely` is tried first.
+/// The number of the key's origin, which is put behind the others where it is new. The one at `likely` is tried first, and then
+/// a search in `order`, the numbers of the origins in the order of their texts. What is found is compared once more, so that no
+/// order leads to a wrong one.
 pub(crate) fn number_of(
     alloc: Global,
     origins: &mut Vec<Origin>,
-    likely: usize,
+    order: &mut Vec<u32>,
+    likely: u32,
     key: &KeyRef<'_>,
 ) -> Result<u32, NoMemory>
     requires { IsTrue (has_words (lent_key key.now)) }
     ensures found { IfOk result (λ n. HasOrigin origins.new.items n (lent_key key.now)) }
     ensures grown { HasGrown origins.old.items origins.new.items }
 {
-    if let Some(found) = find(origins, likely, key) {
-        return u32::try_from(found).map_err(|_| NoMemory);
+    if is_at(origins, likely, key) {
+        return Ok(likely);
     }
+    let place = match place_of(origins, order, key) {
+        Ok(place) => {
+            let number = order[place];
+            if is_at(origins, number, key) {
+                return Ok(number);
+            }
+            place
+        }
+        Err(place) => place,
+    };
     let number = u32::try_from(origins.len()).map_err(|_| NoMemory)?;
     let origin = Origin::new(alloc, key)?;
     origins.push(origin)?;
+    order.insert(place, number)?;
     Ok(number)
 }

@@ -1,10 +1,11 @@
 //! The order in which heads are gone through.
 
-ghost use Rattle.std.specs.Prelude.{◌≡◌, ◌<◌, length, map, slice_index_or, IsTrue, IfOk, OnOk, OnErr};
+ghost use Rattle.std.specs.Prelude.{◌≡◌, ◌<◌, List, length, map, slice_index_or, IsTrue, IfOk, OnOk, OnErr};
 ghost use Rattle.chk_chunk.specs.Keys.{has_words};
 ghost use Rattle.chk_chunk.specs.Lent.{lent_key};
 ghost use Rattle.std.specs.Ordering.{is_lt};
-ghost use Rattle.chk_heads.specs.Order.{in_head_order, rank_in, row_rank, row_before, no_head, lent_head, of_one_stream};
+ghost use Rattle.chk_heads.specs.Order.{in_head_order, rank_in, row_rank, row_before, origin_before, no_head, lent_head, of_one_stream, AreInOrder};
+ghost use Rattle.chk_heads.specs.declared.origins.Origin.{Origin};
 
 use super::{Heads, Row};
 use crate::origins::Origin;
@@ -25,8 +26,8 @@ pub struct HeadRef<'a> {
 
 impl Heads {
     /// Puts the heads in order: by stream, in byte order of source, type and name, then by first offset and by sequence id.
-    /// Those that are alike in these keep the order that they had. It takes memory for half of the heads, and a number for
-    /// each stream; a comparison reads no text. Without memory the heads are as before.
+    /// Those that are alike in these keep the order that they had. It takes memory for half of the heads, and a number
+    /// and a reference for each stream; a comparison of heads reads no text. Without memory the heads are as before.
     pub fn sort(&mut self, alloc: Global) -> Result<(), NoMemory>
         ensures ok { OnOk result (self.new ≡ in_head_order self.old) }
         ensures err { OnErr result (self.new ≡ self.old) }
@@ -65,28 +66,54 @@ impl Heads {
         requires second { j < length self.now }
         ensures { result ≡ of_one_stream (slice_index_or self.now i no_head) (slice_index_or self.now j no_head) }
     {
+        if self.rows[i].origin == self.rows[j].origin {
+            return true;
+        }
         let a = self.get(i).key;
         let b = self.get(j).key;
         a.source == b.source && a.kind == b.kind && a.name == b.name
     }
 }
 
-/// How many of the origins come before one.
-fn rank_of(origins: &[Origin], of: &Origin) -> usize
-    ensures { result ≡ rank_in origins.now of.now }
+/// The origins in the order of their streams.
+fn in_order<'a>(alloc: Global, origins: &'a [Origin]) -> Result<Vec<&'a Origin>, NoMemory>
+    ensures { IfOk result (λ sorted. AreInOrder origins.now sorted.items) }
 {
-    origins.iter().filter(|origin| origin.is_before(of)).count()
+    let mut sorted: Vec<&Origin> = origins.iter().collect(alloc)?;
+    sorted.sort_by(|a, b| compare_streams(a, b))?;
+    Ok(sorted)
 }
 
-/// A number for each origin, which are in the order of their streams: how many come before it. It costs a comparison for each
-/// pair.
+/// How the streams of two origins stand to each other.
+fn compare_streams(a: &Origin, b: &Origin) -> Ordering
+    ensures { is_lt result ≡ origin_before a.now b.now }
+{
+    if a.is_before(b) {
+        Ordering::Less
+    } else if b.is_before(a) {
+        Ordering::Greater
+    } else {
+        Ordering::Equal
+    }
+}
+
+/// How many of the origins, which are given in order, come before one.
+fn rank_of(sorted: &[&Origin], of: &Origin) -> usize
+    ensures { (origins : List Origin) → AreInOrder origins sorted.now → result ≡ rank_in origins of.now }
+{
+    sorted.partition_point(|origin| origin.is_before(of))
+}
+
+/// A number for each origin, which are in the order of their streams: how many come before it. It costs a sort of the origins,
+/// and holds a reference to each meanwhile.
 fn ranks_of(alloc: Global, origins: &[Origin]) -> Result<Vec<usize>, NoMemory>
     ensures { IfOk result (λ ranks. ranks.items ≡ map (rank_in origins.now) origins.now) }
 {
-    let ranks = origins
-        .iter()
-        .map(|origin| rank_of(origins, origin))
-        .collect(alloc)?;
+    let sorted = in_order(alloc, origins)?;
+    let mut ranks = Vec::new(alloc);
+    for origin in origins {
+        ranks.push(rank_of(&sorted, origin))?;
+    }
     Ok(ranks)
 }
 
