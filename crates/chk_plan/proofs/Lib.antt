@@ -9,5 +9,6 @@ pub mod HeadOrder
 mod Blocks
 pub mod Bridges
 mod SpanBlocks
+pub mod KnownSearch
 mod MoreSpans
 pub mod Gives

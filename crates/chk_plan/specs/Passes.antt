@@ -1,6 +1,7 @@
 -- What a pass over heads that stand in order reaches, stream after stream.
 use Rattle.std.specs.Prelude.{◌≡◌, ℕ, ◌≤◌, ◌<◌, Bool, true, false, ◌&&◌, nat_lt, nat_le, IsTrue, IsFalse, List, [], ◌∷◌, length, take, drop, slice_index_or, if◌then◌else◌}
-use Rattle.chk_chunk.specs.Keys.{Stream, same_stream}
+use Rattle.std.specs.List.Sorted.{IsSortedBy}
+use Rattle.chk_chunk.specs.Keys.{Stream, same_stream, stream_lt}
 use Rattle.chk_heads.specs.Heads.{Head}
 use Rattle.chk_heads.specs.Order.{no_head, of_one_stream}
 use Rattle.chk_plan.specs.declared.spans.Span.{Span}
@@ -29,6 +30,13 @@ pass_past reached (h ∷ hs) = elim (head_goes reached h) [
   | true ↦ pass_past h.key.seq hs
   | false ↦ elim (nat_lt reached h.begin) [ true ↦ h ∷ hs | false ↦ pass_past reached hs ]
 ]
+
+abbrev pub known_stream : Known → Stream
+known_stream k = record { source = k.source.now; kind = k.kind.now; name = k.name.now }
+
+-- no known stream comes before the one in front of it
+abbrev pub AreSorted : List Known → Type 0
+AreSorted ks = IsSortedBy (λ k l. stream_lt (known_stream k) (known_stream l)) ks
 
 -- where a stream's archive ends: as it is known, or else at the head's own start
 abbrev pub begins_at : List Known → Head → ℕ

@@ -1,8 +1,10 @@
 //! The pass over heads that stand in order.
 
 ghost use Rattle.std.specs.Prelude.{◌≡◌, ◌≤◌, ◌<◌, ◌^◌, ℕ, length, sum_by, IsTrue, IsFalse, IfOk, IfSome, None};
+ghost use Rattle.chk_bytes.specs.Words.{text_lt};
+ghost use Rattle.chk_chunk.specs.Keys.{same_stream, stream_lt};
 ghost use Rattle.chk_heads.specs.Order.{lent_head, of_one_stream};
-ghost use Rattle.chk_plan.specs.Passes.{between, pass_end, pass_past, begins_at, head_in, IsSpan, AreSpans};
+ghost use Rattle.chk_plan.specs.Passes.{between, pass_end, pass_past, begins_at, head_in, known_stream, AreSorted, IsSpan, AreSpans};
 ghost use Rattle.chk_plan.specs.Laws.{span_gain};
 
 use chk_bytes::NoMemory;
@@ -33,15 +35,36 @@ pub struct Known<'a> {
     pub end: u64,
 }
 
+impl Known<'_> {
+    /// Both are of one stream.
+    fn is_with(&self, other: &Known<'_>) -> bool
+        ensures { result ≡ same_stream (known_stream self.now) (known_stream other.now) }
+    {
+        self.source == other.source && self.kind == other.kind && self.name == other.name
+    }
+
+    /// Its stream comes before the other one.
+    fn is_before(&self, other: &Known<'_>) -> bool
+        ensures { result ≡ stream_lt (known_stream self.now) (known_stream other.now) }
+    {
+        comes_before(self.source, other.source)
+            || (self.source == other.source
+                && (comes_before(self.kind, other.kind)
+                    || (self.kind == other.kind && comes_before(self.name, other.name))))
+    }
+}
+
 /// Goes over heads that stand in order, once, and gives a span for each stream. A stream that isn't known begins at the start
-/// that its first head names. It costs the heads, and for each stream those that are known.
+/// that its first head names. It costs the heads, and for each stream a search among those that are known; where these aren't
+/// sorted by source, type and name, all of them.
 pub fn plan(alloc: Global, heads: &Heads, known: &[Known<'_>]) -> Result<Vec<Span>, NoMemory>
     ensures { IfOk result (λ spans. AreSpans known.now heads.now 0 spans.items (length heads.now)) }
 {
     let mut spans = Vec::new(alloc);
     let mut first = 0;
+    let are_sorted = are_sorted(known);
     while first < heads.len() {
-        let span = span_at(heads, first, known);
+        let span = span_at(heads, first, known, are_sorted);
         first = span.end;
         spans.push(span)?;
     }
@@ -61,13 +84,14 @@ pub fn taken(spans: &[Span]) -> Option<u64>
 }
 
 /// The span that begins there.
-fn span_at(heads: &Heads, first: usize, known: &[Known<'_>]) -> Span
-    requires { first < length heads.now }
+fn span_at(heads: &Heads, first: usize, known: &[Known<'_>], are_sorted: bool) -> Span
+    requires first { first < length heads.now }
+    requires sorted { IsTrue are_sorted → AreSorted known.now }
     ensures first { result.first ≡ first }
     ensures span { IsSpan known.now heads.now result }
 {
     let end = span_end(heads, first);
-    let from = begins_at(known, &heads.get(first));
+    let from = begins_at(known, are_sorted, &heads.get(first));
     pass(heads, first, end, from)
 }
 
@@ -90,8 +114,45 @@ fn span_end(heads: &Heads, first: usize) -> usize
     len
 }
 
-/// Where the archive of the head's stream ends.
-fn begins_at(known: &[Known<'_>], head: &HeadRef<'_>) -> u64
+/// Where the archive of the head's stream ends. It costs a search where the known streams are sorted, and else all of them.
+fn begins_at(known: &[Known<'_>], are_sorted: bool, head: &HeadRef<'_>) -> u64
+    requires { IsTrue are_sorted → AreSorted known.now }
+    ensures { result ≡ begins_at known.now (lent_head head.now) }
+{
+    if are_sorted {
+        searched(known, head)
+    } else {
+        gone_through(known, head)
+    }
+}
+
+/// The known streams stand in byte order of source, type and name.
+fn are_sorted(known: &[Known<'_>]) -> bool
+    ensures { IsTrue result → AreSorted known.now }
+{
+    known.is_sorted_by(|one, next| !next.is_before(one))
+}
+
+/// Where the archive of the head's stream ends, by a search among sorted streams.
+fn searched(known: &[Known<'_>], head: &HeadRef<'_>) -> u64
+    requires { AreSorted known.now }
+    ensures { result ≡ begins_at known.now (lent_head head.now) }
+{
+    let of = Known {
+        source: head.key.source,
+        kind: head.key.kind,
+        name: head.key.name,
+        end: head.key.start,
+    };
+    let at = known.partition_point(|one| one.is_before(&of));
+    if at < known.len() && known[at].is_with(&of) {
+        return known[at].end;
+    }
+    of.end
+}
+
+/// Where the archive of the head's stream ends, by going through the streams.
+fn gone_through(known: &[Known<'_>], head: &HeadRef<'_>) -> u64
     ensures { result ≡ begins_at known.now (lent_head head.now) }
 {
     for one in known {
@@ -100,6 +161,13 @@ fn begins_at(known: &[Known<'_>], head: &HeadRef<'_>) -> u64
         }
     }
     head.key.start
+}
+
+/// In byte order.
+fn comes_before(a: &str, b: &str) -> bool
+    ensures { result ≡ text_lt a.now b.now }
+{
+    a < b
 }
 
 /// Goes over the heads of one stream from the end before on.

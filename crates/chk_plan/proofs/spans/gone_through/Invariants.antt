@@ -1,7 +1,7 @@
 use Rattle.std.proofs.Common.{◌≡◌, drop}
 use Rattle.chk_heads.specs.Order.{lent_head}
 use Rattle.chk_plan.specs.Passes.{begins_at}
-use Rattle.chk_plan.proofs.spans.begins_at.Given as goal
+use Rattle.chk_plan.proofs.spans.gone_through.Given as goal
 
 abbrev pub invariant-loop-one : goal.invariant-loop-one
 invariant-loop-one l =
