@@ -3,13 +3,15 @@ use Rattle.std.proofs.Common.{◌≡◌, ◌⊎◌, inl, inr, ℕ, zero, suc, �
 use Rattle.std.specs.Prelude.{slice_set}
 use Rattle.std.proofs.Math.Seq.{drop-cons, take-suc}
 use Rattle.std.proofs.lemmas.List.{take-append-drop, take-set, drop-set, take-map, drop-map, drop_all, map-append, length-drop, length-map}
-use Rattle.chk_chunk.specs.Keys.{same_stream, stream_lt}
+use Rattle.std.proofs.lemmas.Bool.{cases_lt}
+use Rattle.chk_chunk.specs.Keys.{Stream, same_stream, stream_lt}
+use Rattle.chk_heads.proofs.Orders.{streams}
 use Rattle.chk_world.specs.Books.{End}
 use Rattle.chk_book.specs.declared.lists.End.{End as EndStruct}
 use Rattle.chk_book.specs.Views.{end_view}
 use Rattle.chk_book.specs.Segmenting.{raised_end, raised_by}
-use Rattle.chk_book.specs.Raising.{IsPlaceOf, goes_by}
-use Rattle.chk_book.proofs.EndRaises.{ending_at, raised_same, raised_put, raised_on, raised_by-behind, raised_by-last}
+use Rattle.chk_book.specs.Raising.{IsPlaceOf, ArePassed, AreUpTo, goes_by}
+use Rattle.chk_book.proofs.EndRaises.{stream_self, ending_at, raised_same, raised_put, raised_on, raised_by-behind, raised_by-last}
 
 both_not : (a b : Bool) → (not a && not b) ≡ true → (a ≡ false) × (b ≡ false)
 both_not true b e = absurd (true≢false (sym e))
@@ -82,6 +84,82 @@ stops_last d xs at last so_far =
       front = so_far;
       stops = inl (drop_all at (map end_view xs) (omega (arith, e, last)));
     }
+
+-- ---- the first ones are gone by, one by one
+
+by_both : (a b : Bool) → a ≡ false → b ≡ false → (not a && not b) ≡ true
+by_both a b e f = ap (λ t. not t && not b) e ∙ ap not f
+
+pub none_passed : (d : End) (xs : List EndStruct) → ArePassed d xs 0
+none_passed d xs = record { within = omega arith; passed = λ k x low. absurd (let z : ⊥ = omega (arith, low) in z) }
+
+pub one_more_passed : (d : End) (xs : List EndStruct) (n : ℕ) (x : EndStruct) → n < length xs → goes_by d (end_view (get_or xs n x)) ≡ true
+    → ArePassed d xs n → ArePassed d xs (n + 1)
+one_more_passed d xs n x low by are = record {
+  within = omega (arith, low);
+  passed = λ k y below. elim (cases_lt k n) [
+    | inl early ↦ are.passed k y early
+    | inr late ↦
+        let at : n ≡ k = omega (arith, late, below) in
+        subst (λ (m : ℕ). goes_by d (end_view (get_or xs m y)) ≡ true) at
+        (subst (λ (z : EndStruct). goes_by d (end_view z) ≡ true) (same_item xs n x y low) by)
+  ];
+}
+
+gone_with : (d : End) (xs : List EndStruct) (x : EndStruct) (n : ℕ) → ArePassed d xs n → GoneBy d xs n
+gone_with d xs x zero are = refl
+gone_with d xs x (suc n) are =
+    let most = are.within in
+    let rest = gone_with d xs x n (record { within = omega (arith, most); passed = λ k y below. are.passed k y (omega (arith, below)) }) in
+    subst (GoneBy d xs) (let e : n + 1 ≡ suc n = omega arith in e) (goes_on d xs n x (omega (arith, most)) (are.passed n x (omega arith)) rest)
+
+pub gone_to : (d : End) (xs : List EndStruct) (n : ℕ) → ArePassed d xs n → GoneBy d xs n
+gone_to d [] zero are = refl
+gone_to d [] (suc n) are = absurd (let most = are.within in let z : ⊥ = omega (arith, most) in z)
+gone_to d (x ∷ xs) n are = gone_with d (x ∷ xs) x n are
+
+-- behind one that comes before the end, where none of those up to it comes behind it
+pub passed_from : (d : End) (xs : List EndStruct) (n : ℕ) (x : EndStruct) → n < length xs
+    → stream_lt (end_view (get_or xs n x)).stream d.stream ≡ true → AreUpTo xs n → ArePassed d xs (n + 1)
+passed_from d xs n x low before up = record {
+  within = omega (arith, low);
+  passed = λ k y below. go (end_view (get_or xs n y)).stream (end_view (get_or xs k y)).stream
+      (subst (λ (z : EndStruct). stream_lt (end_view z).stream d.stream ≡ true) (same_item xs n x y low) before)
+      (up k y (omega (arith, below)) low);
+}
+  where
+    go : (s t : Stream) → stream_lt s d.stream ≡ true → stream_lt s t ≡ false
+        → (not (same_stream t d.stream) && not (stream_lt d.stream t)) ≡ true
+    go s t first up = by_both (same_stream t d.stream) (stream_lt d.stream t)
+        (other (same_stream t d.stream) refl)
+        (streams.order.onward d.stream s t (streams.order.one_way s d.stream first) up)
+      where
+        other : (b : Bool) → same_stream t d.stream ≡ b → b ≡ false
+        other false e = refl
+        other true e = absurd (true≢false (sym first ∙ streams.order.onward s t d.stream up (streams.neither t d.stream e).0))
+
+-- the end stands at its place
+pub stands_last : (d : End) (xs ys : List EndStruct) (at : ℕ) → ArePassed d xs at
+    → ((k : ℕ) (x : EndStruct) → k < at → get_or ys k x ≡ get_or xs k x)
+    → ((x : EndStruct) → (end_view (get_or ys at x)).stream ≡ d.stream) → AreUpTo ys at
+stands_last d xs ys at are front here k x most low =
+    subst (λ (s : Stream). stream_lt s (end_view (get_or ys k x)).stream ≡ false) (sym (here x))
+    (elim (cases_lt k at) [
+      | inl early ↦
+          subst (λ (z : EndStruct). stream_lt d.stream (end_view z).stream ≡ false) (sym (front k x early))
+          (both_not (same_stream (end_view (get_or xs k x)).stream d.stream) (stream_lt d.stream (end_view (get_or xs k x)).stream)
+          (are.passed k x early)).1
+      | inr late ↦
+          let same : at ≡ k = omega (arith, late, most) in
+          subst (λ (m : ℕ). stream_lt d.stream (end_view (get_or ys m x)).stream ≡ false) same
+          (subst (λ (s : Stream). stream_lt d.stream s ≡ false) (sym (here x)) (streams.neither d.stream d.stream (stream_self d.stream)).0)
+    ])
+
+pub first_alone : (xs : List EndStruct) → AreUpTo xs 0
+first_alone xs k x most low =
+    let same : 0 ≡ k = omega (arith, most) in
+    let s = (end_view (get_or xs 0 x)).stream in
+    subst (λ (m : ℕ). stream_lt s (end_view (get_or xs m x)).stream ≡ false) same (streams.neither s s (stream_self s)).0
 
 set_parts : (xs : List EndStruct) (at : ℕ) (y : EndStruct) → at < length xs → slice_set xs at y ≡ take at xs ++ y ∷ drop (at + 1) xs
 set_parts xs at y within =

@@ -9,7 +9,7 @@ use Rattle.chk_book.specs.Segmenting.{raised_end, raised_by}
 bytes_self : (a : List ℕ) → bytes_eq a a ≡ true
 bytes_self a = (bytes_eq-Decides a a).1 refl
 
-stream_self : (s : Stream) → same_stream s s ≡ true
+pub stream_self : (s : Stream) → same_stream s s ≡ true
 stream_self s = rw (bytes_self s.source, bytes_self s.kind, bytes_self s.name) refl
 
 -- the end with another end

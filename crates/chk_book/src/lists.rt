@@ -6,7 +6,7 @@ ghost use Rattle.chk_chunk.specs.Lent.{lent_chunk};
 ghost use Rattle.chk_world.specs.Books.{End as BookEnd};
 ghost use Rattle.chk_book.specs.Views.{end_view, lent_stream, last_stream};
 ghost use Rattle.chk_book.specs.Segmenting.{end_of, raised_end, raised_by};
-ghost use Rattle.chk_book.specs.Raising.{IsPlaceOf, goes_by};
+ghost use Rattle.chk_book.specs.Raising.{IsPlaceOf, ArePassed, AreUpTo, goes_by};
 
 use crate::fields::comes_before;
 use chk_bytes::{NoMemory, Word};
@@ -185,7 +185,18 @@ impl Ends {
         ensures ok { OnOk result (map end_view self.new ≡ raised_end (end_view end) (map end_view self.old)) }
         ensures err { OnErr result (self.new ≡ self.old) }
     {
-        let at = self.place_of(&end);
+        let at = self.place_of(&end, 0);
+        self.put_at(end, at)
+    }
+
+    /// Raises the end of a stream that stands in this place, or puts it in there.
+    fn put_at(&mut self, end: End, at: usize) -> Result<(), NoMemory>
+        requires place { IsPlaceOf (end_view end) (map end_view self.old) at }
+        requires passed { ArePassed (end_view end) self.old at }
+        ensures ok { OnOk result (map end_view self.new ≡ raised_end (end_view end) (map end_view self.old)) }
+        ensures err { OnErr result (self.new ≡ self.old) }
+        ensures last { OnOk result (AreUpTo self.new at) }
+    {
         if at < self.items.len() && self.items[at].is_with(&end) {
             self.items[at].end = end.end;
             return Ok(());
@@ -194,11 +205,13 @@ impl Ends {
         Ok(())
     }
 
-    /// Where a stream stands in the order, or is to be put in.
-    fn place_of(&self, end: &End) -> usize
-        ensures { IsPlaceOf (end_view end.now) (map end_view self.now) result }
+    /// Where a stream stands in the order, or is to be put in. Those in front of `from` are passed by.
+    fn place_of(&self, end: &End, from: usize) -> usize
+        requires { ArePassed (end_view end.now) self.now from }
+        ensures place { IsPlaceOf (end_view end.now) (map end_view self.now) result }
+        ensures passed { ArePassed (end_view end.now) self.now result }
     {
-        for at in 0..self.items.len() {
+        for at in from..self.items.len() {
             if !self.items[at].is_passed(end) {
                 return at;
             }
@@ -206,13 +219,29 @@ impl Ends {
         self.items.len()
     }
 
-    /// These ends with those of the other list raised, in turn. It costs both lists and their product.
+    /// From where on the place of a stream is looked for: behind the stream at `near`, where that comes before it.
+    fn begin_for(&self, end: &End, near: usize) -> usize
+        requires { AreUpTo self.now near }
+        ensures { ArePassed (end_view end.now) self.now result }
+    {
+        if near < self.items.len() && self.items[near].is_before(end) {
+            near + 1
+        } else {
+            0
+        }
+    }
+
+    /// These ends with those of the other list raised, in turn. It costs both lists; each of the others that doesn't come behind
+    /// the one before it costs these once more.
     pub(crate) fn raised_by(&self, alloc: Global, others: &Ends) -> Result<Ends, NoMemory>
         ensures { IfOk result (λ ends. map end_view ends ≡ raised_by (map end_view others.now) (map end_view self.now)) }
     {
         let mut ends = self.copy(alloc)?;
+        let mut at = 0;
         for other in others.as_slice() {
-            ends.raise(other.copy()?)?;
+            let end = other.copy()?;
+            at = ends.place_of(&end, ends.begin_for(&end, at));
+            ends.put_at(end, at)?;
         }
         Ok(ends)
     }

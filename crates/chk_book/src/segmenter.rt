@@ -33,6 +33,8 @@ pub struct Segmenter {
     pub number: u64,
     pub writer: SeqWriter,
     pub buffer: Bytes,
+    /// The key of the last record, whose memory the next one's key takes.
+    key: Bytes,
     /// The ends that its parts give their streams, in turn; those of neighbours of one stream as one.
     pub ends: Ends,
     ghost folder_can: { IsTrue (is_folder folder) },
@@ -151,6 +153,7 @@ impl Segmenter {
             number,
             writer: SeqWriter::after_header(stem.as_str()),
             buffer: Bytes::new(alloc),
+            key: Bytes::with_capacity(alloc, KEY_BYTES)?,
             ends: Ends::new(alloc),
         })
     }
@@ -241,11 +244,11 @@ impl Segmenter {
         if self.writer.place > MOST_BYTES {
             return Err(NoMemory);
         }
-        let mut key = Bytes::with_capacity(alloc, KEY_BYTES)?;
-        write_key(&mut key, chunk)?;
+        self.key.truncate(0);
+        write_key(&mut self.key, chunk)?;
         self.ends.note(alloc, chunk)?;
         self.writer
-            .entry_to(&mut self.buffer, key.as_slice(), chunk.body)
+            .entry_to(&mut self.buffer, self.key.as_slice(), chunk.body)
     }
 
     /// Appends what is in the buffer.
