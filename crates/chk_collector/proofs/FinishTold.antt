@@ -5,7 +5,7 @@ use Rattle.chk_world.proofs.Working.{works_as}
 use Rattle.chk_world.specs.Works.{Works, IsOneOf}
 use Rattle.chk_site.specs.declared.acts.OutsideFault.{OutsideFault}
 use Rattle.chk_site.specs.Acts.{Deed}
-use Rattle.std.proofs.Common.{◌≡◌, ◌⊎◌, inl, inr, ℕ, Bool, true, false, List, Option, Some, None, Result, Ok, Err, refl, subst, if◌then◌else◌, ap, ◌∙◌}
+use Rattle.std.proofs.Common.{◌≡◌, ◌⊎◌, inl, inr, ℕ, Bool, true, false, List, Option, Some, None, Result, Ok, Err, refl, sym, subst, if◌then◌else◌, ap, ◌∙◌}
 use Rattle.std.specs.Prelude.{OnOk, IfErr, OnErr}
 use Rattle.chk_bytes.specs.Stems.{Stem}
 use Rattle.chk_site.specs.History.{History}
@@ -16,8 +16,9 @@ use Rattle.chk_world.specs.Places.{As}
 use Rattle.chk_sink.specs.declared.fault.SinkFault.{SinkFault}
 use Rattle.chk_sink.specs.States.{State, Writing, process, last_stem, with_current, ticked_state, ticked, is_closed_at, seen_first, let_go}
 use Rattle.chk_sink.specs.Held.{Holds, Matches}
-use Rattle.chk_sink.specs.Closes.{WasClosed, Ticked, Closed}
-use Rattle.chk_collector.specs.Finishing.{Finished, LeavesAfterFinish}
+use Rattle.chk_sink.specs.Ticking.{is_due_in}
+use Rattle.chk_sink.specs.Closes.{IsMarked, IsIdleAt, WasClosed, Ticked, Closed}
+use Rattle.chk_collector.specs.Finishing.{Finished, LeavesAfterFinish, IsAtEnd}
 use Rattle.chk_sink.proofs.Holding.{told_by}
 
 -- without a sink that is written to, the state is as it was
@@ -131,3 +132,21 @@ pub finish_works : (s mid : State) {f : Option OutsideFault} {old new : Option H
     → Works (process mid) (OfClose mid) f old new → Works (process s) (OfTick s) f old new
 finish_works s mid {f = f} {old = old} {new = new} is told =
     works_as (OfTick s) (λ call one. inr (ticked_closes s call one)) (subst (λ (m : State). Works (process m) (OfClose m) f old new) is told)
+
+-- with nothing abandoned before, they are only those of a commit and a close
+pub finish_closes : (s mid : State) {f : Option OutsideFault} {old new : Option History} → mid ≡ ticked_state 0 s
+    → Works (process mid) (OfClose mid) f old new → Works (process s) (OfClose s) f old new
+finish_closes s mid {f = f} {old = old} {new = new} is told =
+    works_as (OfClose s) (ticked_closes s) (subst (λ (m : State). Works (process m) (OfClose m) f old new) is told)
+
+-- ---- nothing is to be done
+
+pub idle_tick : (s : State) → IsAtEnd s → IsIdleAt 0 s
+idle_tick s end = record {
+  settled = end.settled;
+  marked = subst IsMarked (sym end.current) tt;
+  early = subst (λ o. is_due_in s.rotate 0 o ≡ false) (sym end.current) refl;
+}
+
+pub none_ticked : (s mid : State) → IsAtEnd s → mid ≡ ticked_state 0 s → mid.current ≡ None
+none_ticked s mid end is = ap (λ (t : State). t.current) is ∙ ap (λ o. ticked s.rotate 0 o) end.current

@@ -1,14 +1,14 @@
 -- Where the puts of a post lead the sinks.
-use Rattle.std.proofs.Common.{◌≡◌, inl, inr, ℕ, ◌≤◌, ◌<◌, Bool, true, false, List, [], ◌∷◌, ◌++◌, Option, Some, None, Result, Ok, Err, ap, sym, subst, refl, ◌∙◌, arith, ◌⊎◌}
+use Rattle.std.proofs.Common.{◌≡◌, inl, inr, ℕ, ◌≤◌, ◌<◌, Bool, true, false, List, [], ◌∷◌, ◌++◌, Option, Some, None, Result, Ok, Err, ap, sym, subst, refl, ◌∙◌, arith, ◌⊎◌, if◌then◌else◌}
 use Rattle.std.specs.Prelude.{IfErr, MatchBool}
 use Rattle.chk_bytes.specs.Stems.{Stem}
 use Rattle.chk_message.specs.Messages.{Ack, ack_of}
 use Rattle.chk_sink.specs.declared.fault.SinkFault.{SinkFault}
 use Rattle.chk_sink.specs.declared.fault.SinkFault.TheVariants.{Outside, Damaged, Spent, NoMemory}
-use Rattle.chk_sink.specs.States.{State, Writing, needs_next}
+use Rattle.chk_sink.specs.States.{State, Writing, needs_next, let_go}
 use Rattle.chk_sink.specs.Puts.{IsPlaced, LeavesAfterPut, IsGrown, IsNew, GoesOnInSame, GoesOnInNext, GoesOn}
 use Rattle.chk_sink.specs.Closes.{OnceDone}
-use Rattle.chk_collector.specs.Handled.{Puts, begins, goes_on, PutsThen, EndsInPlace, IsSeenAlike, IsUnseen, KeepsSeen}
+use Rattle.chk_collector.specs.Handled.{Puts, begins, goes_on, IsRefusedNext, IsUnwritten, PutsThen, EndsInPlace, IsSeenAlike, IsUnseen, KeepsSeen}
 
 -- one more line
 pub place_more : (s : State) (acks : List Ack) (x : Stem) (n : ℕ) → IsPlaced s (x, n) → EndsInPlace s (acks ++ ack_of x n ∷ [])
@@ -94,14 +94,22 @@ leaves_keeps : (s t : State) (fault : SinkFault) → LeavesAfterPut s t fault �
 leaves_keeps s t (Outside call) left = inr left.current
 leaves_keeps s t (Damaged name at) left = absurd left
 leaves_keeps s t (Spent born) left = inr (ap (λ (n : State). n.current) left)
-leaves_keeps s t NoMemory (inl same) = inl same
-leaves_keeps s t NoMemory (inr left) = inr left.current
+leaves_keeps s t NoMemory (inl same) = go (needs_next s.current) same
+  where
+    go : (b : Bool) → t ≡ (if b then let_go s else s) → (t ≡ s) ⊎ (t.current ≡ None)
+    go true e = inr (ap (λ (n : State). n.current) e)
+    go false e = inl e
+leaves_keeps s t NoMemory (inr left) = inr left.1.abandoned.current
 
 -- the puts of a post keep it, whether or not all were done
-pub posts_keep : (n : ℕ) (s t : State) (done : Result (Unit {0}) SinkFault) → OnceDone done (Puts n s t) → IfErr done (PutsThen s t) → KeepsSeen s t
+pub posts_keep : (n : ℕ) (s t : State) (done : Result (Unit {0}) SinkFault) → OnceDone done (Puts n s t) → IfErr done (PutsThen n s t) → KeepsSeen s t
 posts_keep n s t (Ok value) puts left = (puts_steps puts).keeps
-posts_keep n s t (Err fault) puts left = by (leaves_keeps left.reached t fault left.leaves)
+posts_keep n s t (Err fault) puts left = by (ends_keeps left.ends)
   where
+    ends_keeps : IsRefusedNext n left.count left.reached t fault ⊎ IsUnwritten n left.count left.reached t fault → (t ≡ left.reached) ⊎ (t.current ≡ None)
+    ends_keeps (inl refused) = leaves_keeps left.reached t fault refused.leaves
+    ends_keeps (inr unwritten) = inl unwritten.same
+
     by : (t ≡ left.reached) ⊎ (t.current ≡ None) → KeepsSeen s t
     by (inl same) = subst (KeepsSeen s) (sym same) (puts_steps left.puts).keeps
     by (inr none) = keeps_none s t none

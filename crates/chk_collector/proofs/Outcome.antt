@@ -80,7 +80,7 @@ poll_own request stems s poll own = works_as (OfRequest request s) (λ call may.
 -- no memory for the reply to a post
 pub post_unanswered : {E : Type 0} (request : List ℕ) (chunks : List Chunk) (old new : State) (done : Result (Unit {0}) SinkFault)
     (result : Result (List ℕ) E) {told_before told_after : Option History} → IsPostOf chunks request
-    → OnceDone done (Puts (length chunks) old new) → IfErr done (PutsThen old new) → Works (process old) (OfPosts old) (ended_by done) told_before told_after
+    → OnceDone done (Puts (length chunks) old new) → IfErr done (PutsThen (length chunks) old new) → Works (process old) (OfPosts old) (ended_by done) told_before told_after
     → IfErr result (λ e. Unanswered request old new told_before told_after)
 post_unanswered request chunks old new done (Ok reply) post puts leaves own = tt
 post_unanswered request chunks old new done (Err e) post puts leaves own = record {
@@ -89,8 +89,8 @@ post_unanswered request chunks old new done (Err e) post puts leaves own = recor
   state = inr (chunks, post, by done puts leaves);
 }
   where
-    by : (done : Result (Unit {0}) SinkFault) → OnceDone done (Puts (length chunks) old new) → IfErr done (PutsThen old new)
-        → Puts (length chunks) old new ⊎ ((why : SinkFault) × PutsThen old new why)
+    by : (done : Result (Unit {0}) SinkFault) → OnceDone done (Puts (length chunks) old new) → IfErr done (PutsThen (length chunks) old new)
+        → Puts (length chunks) old new ⊎ ((why : SinkFault) × PutsThen (length chunks) old new why)
     by (Ok value) puts leaves = inl puts
     by (Err why) puts leaves = inr (why, leaves)
 
@@ -111,7 +111,7 @@ refused_unanswered request s (Err e) told = record { fault = None; own = rests; 
 
 pub post_replied : {E : Type 0} (request : List ℕ) (chunks : List Chunk) (old new : State) (before now : ℕ) (told_before told_after : Option History)
     (lines : List ℕ) (done : Result (Unit {0}) SinkFault) (result : Result (List ℕ) E) → IsPostOf chunks request
-    → OnceDone done (HasLineEach new chunks lines) → OnceDone done (Puts (length chunks) old new) → IfErr done (PutsThen old new)
+    → OnceDone done (HasLineEach new chunks lines) → OnceDone done (Puts (length chunks) old new) → IfErr done (PutsThen (length chunks) old new)
     → Works (process old) (OfPosts old) (ended_by done) told_before told_after
     → IfErr done IsOfPut → IfErr done (λ fault. OutcomeSpent old new (Fails fault))
     → Adds told_before told_after (FailsLast done) → SinkCause before now done

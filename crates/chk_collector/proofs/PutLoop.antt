@@ -2,14 +2,14 @@
 use Rattle.chk_collector.proofs.Handling.{place_more}
 use Rattle.chk_collector.specs.Handled.{Puts, begins, goes_on, PutsThen, EndsInPlace, OfPosts}
 use Rattle.chk_sink.specs.declared.fault.SinkFault.TheVariants.{NoMemory}
-use Rattle.chk_sink.specs.Puts.{IsPlaced, LeavesAfterPut, GoesOn}
+use Rattle.chk_sink.specs.Puts.{IsPlaced, LeavesAfterPut, SpentExactly, GoesOn}
 use Rattle.chk_sink.specs.Works.{OfPut}
 use Rattle.chk_sink.proofs.Owning.{made_by}
 use Rattle.chk_sink.proofs.Holding.{told_by}
 use Rattle.chk_world.proofs.Working.{works_then, works_as}
 use Rattle.chk_world.specs.Works.{Works, rests}
 use Rattle.chk_site.specs.declared.acts.OutsideFault.{OutsideFault}
-use Rattle.std.proofs.Common.{◌≡◌, ℕ, zero, ◌*◌, ◌≤◌, List, [], ◌∷◌, ◌++◌, length, length-append, map, Option, Result, Ok, Err, refl, sym, ap, subst, ◌∙◌, append_assoc, append-nil, arith, suc, ◌+◌, None, inl}
+use Rattle.std.proofs.Common.{◌≡◌, ℕ, zero, ◌*◌, ◌≤◌, List, [], ◌∷◌, ◌++◌, length, length-append, map, Option, Result, Ok, Err, refl, sym, ap, subst, ◌∙◌, append_assoc, append-nil, arith, suc, ◌+◌, ◌<◌, None, inl, inr}
 use Rattle.std.specs.Prelude.{Contains}
 use Rattle.std.proofs.lemmas.List.Elements.{Contains-append_right}
 use Rattle.chk_bytes.specs.Stems.{Stem}
@@ -160,13 +160,29 @@ module _ {old now new : Option History} {before count : ℕ} {first s : State} {
 
 module _ {old now : Option History} {before count : ℕ} {first s : State} {chunks rest : List Chunk} {lines : List ℕ}
     (so_far : PutSoFar old now before count first s chunks rest lines) where
+  -- the chunks that were put are fewer than all
+  more_chunks : (c : Chunk) (rest' : List Chunk) → rest ≡ c ∷ rest' → length so_far.done < length chunks
+  more_chunks c rest' more =
+      omega (arith, ap length (so_far.whole ∙ ap (λ l. so_far.done ++ l) more), length-append so_far.done (c ∷ rest'))
+
   -- a put that was refused ends the post
-  pub put_leaves : (s' : State) (fault : SinkFault) → LeavesAfterPut s s' fault → PutsThen first s' fault
-  put_leaves s' fault leaves = record { count = length so_far.done; reached = s; puts = so_far.puts; leaves = leaves }
+  pub put_leaves : (c : Chunk) (rest' : List Chunk) → rest ≡ c ∷ rest' → (s' : State) (fault : SinkFault) → LeavesAfterPut s s' fault
+      → SpentExactly {T = Stem × ℕ} s (Err fault) → PutsThen (length chunks) first s' fault
+  put_leaves c rest' more s' fault leaves spent = record {
+    count = length so_far.done;
+    reached = s;
+    puts = so_far.puts;
+    ends = inl (record { few = more_chunks c rest' more; leaves = leaves; spent = spent });
+  }
 
   -- and so does want of memory for its line
-  pub put_unwritten : (s' : State) → GoesOn s s' → PutsThen first s' NoMemory
-  put_unwritten s' goes = record { count = suc (length so_far.done); reached = s'; puts = goes_on so_far.puts goes; leaves = inl refl }
+  pub put_unwritten : (c : Chunk) (rest' : List Chunk) → rest ≡ c ∷ rest' → (s' : State) → GoesOn s s' → PutsThen (length chunks) first s' NoMemory
+  put_unwritten c rest' more s' goes = record {
+    count = suc (length so_far.done);
+    reached = s';
+    puts = goes_on so_far.puts goes;
+    ends = inr (record { few = more_chunks c rest' more; wants = refl; same = refl });
+  }
 
 module _ {old now : Option History} {before count : ℕ} {first s : State} {chunks rest : List Chunk} {lines : List ℕ}
     (so_far : PutSoFar old now before count first s chunks rest lines) (none : rest ≡ []) where

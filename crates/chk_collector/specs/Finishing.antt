@@ -21,6 +21,11 @@ finished s = record {
   abandoned = false;
 }
 
+-- no sink is written to, and none was abandoned
+pub record IsAtEnd (s : State) : Type 0 where
+  pub current : s.current ≡ None
+  pub settled : s.abandoned ≡ false
+
 -- what stands after a refusal: that of the tick, or the sink that it left was let go
 abbrev pub LeavesAfterFinish : State → State → SinkFault → Option History → Option History → Type 0
 LeavesAfterFinish old new fault before after =

@@ -1,5 +1,5 @@
 -- What stands behind a request: where its calls led the sinks, and which calls they were.
-use Rattle.std.specs.Prelude.{◌≡◌, ◌⊎◌, ℕ, zero, suc, ◌<◌, List, [], ◌∷◌, length, Contains, Option, Some, None}
+use Rattle.std.specs.Prelude.{◌≡◌, ◌⊎◌, ℕ, zero, suc, ◌<◌, ◌≤◌, List, [], ◌∷◌, length, Contains, Option, Some, None, Err}
 use Rattle.chk_bytes.specs.Stems.{Stem}
 use Rattle.chk_site.specs.declared.acts.OutsideFault.{OutsideFault}
 use Rattle.chk_site.specs.Acts.{Deed}
@@ -8,8 +8,9 @@ use Rattle.chk_chunk.specs.Keys.{Chunk}
 use Rattle.chk_message.specs.Messages.{Ack, PollRequest, IsPostOf}
 use Rattle.chk_world.specs.Works.{Works}
 use Rattle.chk_sink.specs.declared.fault.SinkFault.{SinkFault}
+use Rattle.chk_sink.specs.declared.fault.SinkFault.TheVariants.{NoMemory}
 use Rattle.chk_sink.specs.States.{State, Writing, process}
-use Rattle.chk_sink.specs.Puts.{IsPlaced, LeavesAfterPut, GoesOn}
+use Rattle.chk_sink.specs.Puts.{IsPlaced, LeavesAfterPut, SpentExactly, GoesOn}
 use Rattle.chk_sink.specs.Works.{OfPut, OfQuestion}
 
 -- ---- the state
@@ -19,12 +20,24 @@ pub data Puts : ℕ → State → State → Type 0 where
   begins : {s : State} → Puts zero s s
   goes_on : {n : ℕ} {s t u : State} → Puts n s t → GoesOn t u → Puts (suc n) s u
 
--- some puts were done, and the next one was refused, or there was no memory for the line of the last
-pub record PutsThen (old new : State) (fault : SinkFault) : Type 0 where
+-- the next put was refused: so many were done before, of so many at most
+pub record IsRefusedNext (most count : ℕ) (reached new : State) (fault : SinkFault) : Type 0 where
+  pub few : count < most
+  pub leaves : LeavesAfterPut reached new fault
+  pub spent : SpentExactly {T = Stem × ℕ} reached (Err fault)
+
+-- there was no memory for the line of the last put
+pub record IsUnwritten (most count : ℕ) (reached new : State) (fault : SinkFault) : Type 0 where
+  pub few : count ≤ most
+  pub wants : fault ≡ NoMemory
+  pub same : new ≡ reached
+
+-- of so many puts some were done, and the next one was refused, or there was no memory for the line of the last
+pub record PutsThen (most : ℕ) (old new : State) (fault : SinkFault) : Type 0 where
   pub count : ℕ
   pub reached : State
   pub puts : Puts count old reached
-  pub leaves : LeavesAfterPut reached new fault
+  pub ends : IsRefusedNext most count reached new fault ⊎ IsUnwritten most count reached new fault
 
 -- the last line is the place of the sink that is written to
 abbrev pub EndsInPlace : State → List Ack → Type 0
@@ -70,4 +83,4 @@ pub record Unanswered (request : List ℕ) (old new : State) (told_before told_a
   pub own : Works (process old) (OfRequest request old) fault told_before told_after
   pub state : (new ≡ old)
       ⊎ ((chunks : List Chunk) × IsPostOf chunks request
-      × (Puts (length chunks) old new ⊎ ((why : SinkFault) × PutsThen old new why)))
+      × (Puts (length chunks) old new ⊎ ((why : SinkFault) × PutsThen (length chunks) old new why)))

@@ -171,7 +171,7 @@ OutcomeState bytes old new (Lines acks) =
     ((chunks : List Chunk) × IsPostOf chunks bytes × Puts (length chunks) old new × EndsInPlace new acks)
     ⊎ ((stems : List Stem) × PollRequest stems bytes × (new ≡ old))
 OutcomeState bytes old new (Fails fault) =
-    ((chunks : List Chunk) × IsPostOf chunks bytes × PutsThen old new fault)
+    ((chunks : List Chunk) × IsPostOf chunks bytes × PutsThen (length chunks) old new fault)
     ⊎ ((stems : List Stem) × PollRequest stems bytes × (new ≡ old))
 
 -- a number is spent only where the last sink of the start was created and none is written to

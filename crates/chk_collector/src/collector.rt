@@ -18,14 +18,14 @@ ghost use Rattle.chk_collector.specs.Handled.{Puts, PutsThen, KeepsSeen, OfPosts
 ghost use Rattle.chk_sink.specs.Damage.{DamageCause, SpentCause};
 ghost use Rattle.chk_sink.specs.States.{IsSameStart, process, ticked_state};
 ghost use Rattle.chk_sink.specs.Held.{Matches, Ready};
-ghost use Rattle.chk_sink.specs.Closes.{OnceDone, Ticked, IsOfTick, IsNoListing};
+ghost use Rattle.chk_sink.specs.Closes.{OnceDone, Idles, IsIdleAt, Ticked, IsOfTick, IsNoListing};
 ghost use Rattle.chk_sink.specs.Asked.{IsOfQuestion};
 ghost use Rattle.chk_sink.specs.Starts.{IsFresh, Started, IsLastStart};
 ghost use Rattle.chk_collector.specs.Outcomes.{Fails, OutcomeSpent, Replied};
 ghost use Rattle.chk_collector.specs.Posting.{ArePosted, WroteAll, HasLineEach, IsOfPut};
 ghost use Rattle.chk_collector.specs.Polling.{AsksFor, CountedAll, HasLineOf};
 ghost use Rattle.chk_collector.specs.Answering.{Taken, Answered};
-ghost use Rattle.chk_collector.specs.Finishing.{finished, Finished, LeavesAfterFinish};
+ghost use Rattle.chk_collector.specs.Finishing.{finished, Finished, LeavesAfterFinish, IsAtEnd};
 ghost use Rattle.chk_collector.specs.Replies.{MayHaveRisen};
 
 use crate::names::chunk_fault_name;
@@ -149,7 +149,7 @@ impl Collector {
             (Ready stamped self.old handled) (WroteAll stamped self.new handled post.entry.left lines.new result)) }
         ensures lines { OnceDone result (HasLineEach self.new post.entry.left lines.new) }
         ensures puts { OnceDone result (Puts (length post.entry.left) self.old self.new) }
-        ensures leaves { IfErr result (PutsThen self.old self.new) }
+        ensures leaves { IfErr result (PutsThen (length post.entry.left) self.old self.new) }
         ensures own { Works (process self.old) (OfPosts self.old) (ended_by result)
             (S.told site.old) (S.told site.new) }
         ensures same { IsSameStart self.old self.new }
@@ -233,6 +233,7 @@ impl Collector {
         ensures closes { self.old.abandoned ≡ false → Works (process self.old) (OfClose self.old) (ended_by result)
             (S.told site.old) (S.told site.new) }
         ensures fine { OnOk result (Adds (S.told site.old) (S.told site.new) NoneFailed) }
+        ensures idle { IsIdleAt now self.old → Idles result (S.told site.old) (S.told site.new) }
         ensures only { IfErr result IsOfTick }
         ensures lists { self.old.abandoned ≡ false
             → Adds (S.told site.old) (S.told site.new) (Every IsNoListing) }
@@ -243,7 +244,7 @@ impl Collector {
         self.sinks.tick(alloc, site, now)
     }
 
-    /// Settles, commits and closes. At Ok no sink of this start is under writing.
+    /// Settles, commits and closes. At Ok no sink of this start is under writing. Where none is, nothing is called.
     pub fn finish<S: Site>(&mut self, alloc: Global, site: &mut S) -> Result<(), SinkFault>
         ensures told { (stamped : List (List ℕ)) → Adds (S.told site.old) (S.told site.new)
             (Leads (As stamped (process self.old)) (Matches stamped self.old)
@@ -254,8 +255,13 @@ impl Collector {
             (S.told site.old) (S.told site.new)) }
         ensures own { Works (process self.old) (OfTick self.old) (ended_by result)
             (S.told site.old) (S.told site.new) }
+        ensures closes { self.old.abandoned ≡ false → Works (process self.old) (OfClose self.old) (ended_by result)
+            (S.told site.old) (S.told site.new) }
         ensures fine { OnOk result (Adds (S.told site.old) (S.told site.new) NoneFailed) }
+        ensures idle { IsAtEnd self.old → Idles result (S.told site.old) (S.told site.new) }
         ensures only { IfErr result IsOfTick }
+        ensures lists { self.old.abandoned ≡ false
+            → Adds (S.told site.old) (S.told site.new) (Every IsNoListing) }
         ensures damaged { Adds (S.told site.old) (S.told site.new) (DamageCause result) }
         ensures last { Adds (S.told site.old) (S.told site.new) (FailsLast result) }
         ensures cause { SinkCause (S.fault_count site.old) (S.fault_count site.new) result }

@@ -6,6 +6,7 @@ use Rattle.chk_bytes.specs.Stems.{Stem, is_stem, is_collector, same_stem}
 use Rattle.chk_site.specs.declared.acts.Call.TheVariants.{Append}
 use Rattle.chk_site.specs.declared.acts.CallFault.TheVariants.{Failed}
 use Rattle.chk_site.specs.declared.acts.OutsideFault.{OutsideFault}
+use Rattle.chk_site.specs.declared.acts.OutsideFault.TheVariants.{Outside as site_failed, NoMemory as no_memory}
 use Rattle.chk_site.specs.declared.acts.ActAnswer.{ActAnswer}
 use Rattle.chk_site.specs.declared.acts.ActAnswer.TheVariants.{Done, Refused}
 use Rattle.chk_site.specs.Files.{File, Files, grown}
@@ -170,3 +171,14 @@ module _ (stamped : List (List ℕ)) (s : State) (o : Writing) (messages : List 
   append_ends {fault = fault} m =
       told_ends stamped Q named B (λ f. Handles (given_up s) messages) plain m.given fault (handles_stays stamped s messages has_stem)
       append_may append_fails (given_up_handles s messages) m.ends m.told
+
+  -- an append that wanted memory was none
+  abbrev Left : OutsideFault → History → Type 0
+  Left (site_failed call) = Handles (given_up s) messages
+  Left no_memory = B
+
+  pub append_wants : {old new : Option History} → HasEnded Q no_memory old new
+      → Adds old new (Leads (As stamped (process s)) (Ready stamped s messages) (Ready stamped s messages))
+  append_wants m =
+      told_ends stamped Q named B Left plain m.given no_memory (handles_stays stamped s messages has_stem)
+      append_may append_fails (λ history h. h) m.ends m.told

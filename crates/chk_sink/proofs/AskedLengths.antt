@@ -42,22 +42,22 @@ use Rattle.chk_sink.proofs.Holding.{HasStem, handles_alike, leads_by}
 use Rattle.chk_sink.proofs.Quiet.{quiet_on, lengths_add}
 use Rattle.chk_sink.proofs.Questions.{counts_stay, open_stays, same_word, asked_alike, asked_counts, asked_untaken}
 
-size_there : (n : ℕ) (o : Option File) → AtSize (sized n) o → (f : File) × (o ≡ Some f) × (n ≡ length f.bytes)
+pub size_there : (n : ℕ) (o : Option File) → AtSize (sized n) o → (f : File) × (o ≡ Some f) × (n ≡ length f.bytes)
 size_there n None agrees = absurd agrees
 size_there n (Some f) agrees = (f, refl, agrees)
 
-size_missing : (answer : ActAnswer) (o : Option File) → WasRefused answer → AtSize answer o → o ≡ None
+pub size_missing : (answer : ActAnswer) (o : Option File) → WasRefused answer → AtSize answer o → o ≡ None
 size_missing (Refused Missing) o was agrees = agrees
 size_missing (Refused Exists) o was agrees = absurd agrees
 size_missing (Refused (Short size)) o was agrees = absurd agrees
 size_missing answer o was agrees = absurd was
 
-read_there : (bytes : List ℕ) (at max : ℕ) (o : Option File) → AtRead (bytes_given bytes) at max o
+pub read_there : (bytes : List ℕ) (at max : ℕ) (o : Option File) → AtRead (bytes_given bytes) at max o
     → (f : File) × (o ≡ Some f) × (bytes ∷ [] ≡ take max (drop at f.bytes) ∷ [])
 read_there bytes at max None agrees = absurd agrees
 read_there bytes at max (Some f) agrees = (f, refl, agrees.1)
 
-same_mark : (o : Option File) (f : File) → OnFile o IsMark → o ≡ Some f → IsMark f
+pub same_mark : (o : Option File) (f : File) → OnFile o IsMark → o ≡ Some f → IsMark f
 same_mark o f h e = subst (λ o. OnFile o IsMark) e h
 
 -- the number of a mark is at most the committed length
@@ -68,13 +68,13 @@ mark_most (Some d) mark f e h =
     let same : spelled f.bytes ≡ length d.bytes = subst (λ o. OnFile o (λ m. spelled m.bytes ≡ length d.bytes)) e h in
     omega (arith, same)
 
-mark_just : (shut mark : Option File) (f : File) → shut ≡ None → mark ≡ Some f → spelled f.bytes ≡ committed_of shut mark
+pub mark_just : (shut mark : Option File) (f : File) → shut ≡ None → mark ≡ Some f → spelled f.bytes ≡ committed_of shut mark
 mark_just shut mark f none e = rw (none, e) refl
 
-none_just : (shut mark : Option File) → shut ≡ None → mark ≡ None → 0 ≡ committed_of shut mark
+pub none_just : (shut mark : Option File) → shut ≡ None → mark ≡ None → 0 ≡ committed_of shut mark
 none_just shut mark none e = rw (none, e) refl
 
-size_just : (n : ℕ) (shut mark : Option File) (f : File) → shut ≡ Some f → n ≡ length f.bytes → n ≡ committed_of shut mark
+pub size_just : (n : ℕ) (shut mark : Option File) (f : File) → shut ≡ Some f → n ≡ length f.bytes → n ≡ committed_of shut mark
 size_just n shut mark f e is = rw e is
 
 module _ (stamped : List (List ℕ)) (s : State) (messages : List Handling) (t : ℕ) (stems : List Stem) (acks : List Ack)

@@ -15,7 +15,7 @@ use Rattle.chk_world.specs.Places.{As}
 use Rattle.chk_sink.specs.declared.fault.SinkFault.{SinkFault}
 use Rattle.chk_sink.specs.declared.current.Current.{Current}
 use Rattle.chk_sink.specs.declared.sinks.Sinks.TheInside.{Inside}
-use Rattle.chk_sink.specs.States.{State, Writing, process, last_stem, kept_where_done, counted, one_more}
+use Rattle.chk_sink.specs.States.{State, Writing, process, last_stem, grown_where_done, counted, one_more}
 use Rattle.chk_sink.specs.Held.{Ready}
 use Rattle.chk_sink.specs.Faults.{sink_result}
 use Rattle.chk_sink.specs.Puts.{Wrote, IsPlaced}
@@ -56,7 +56,7 @@ put_refused stamped s messages c result fault e now =
 
 -- where the call was done, the sink that is written to ends where it is said
 pub placed_kept : (s st : State) (next : Writing) (made : Result (Unit {0}) OutsideFault) (u : Unit {0}) → sink_result made ≡ Ok u
-    → st ≡ kept_where_done s next made → (x : Stem) (n : ℕ) → x ≡ last_stem s → next.size ≡ n → IsPlaced st (x, n)
+    → st ≡ grown_where_done s next made → (x : Stem) (n : ℕ) → x ≡ last_stem s → next.size ≡ n → IsPlaced st (x, n)
 placed_kept s st next (Ok v) u e st_is x n x_is n_is = subst (λ t. IsPlaced t (x, n)) (sym st_is) (x_is, n_is)
 placed_kept s st next (Err f) u e st_is x n x_is n_is = absurd (cc)
 

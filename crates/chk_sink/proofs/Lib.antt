@@ -15,6 +15,7 @@ pub mod NoStem
 pub mod Questions
 pub mod NumberBytes
 pub mod AskedLengths
+pub mod ExactLengths
 pub mod Showing
 pub mod JoinedCauses
 pub mod StartShows

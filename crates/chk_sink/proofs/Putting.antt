@@ -6,6 +6,7 @@ use Rattle.chk_site.specs.declared.acts.Role.TheVariants.{Collector}
 use Rattle.chk_site.specs.declared.acts.Who.{Who}
 use Rattle.chk_site.specs.declared.acts.Call.TheVariants.{Append}
 use Rattle.chk_site.specs.declared.acts.OutsideFault.{OutsideFault}
+use Rattle.chk_site.specs.declared.acts.OutsideFault.TheVariants.{Outside as site_failed, NoMemory as no_memory}
 use Rattle.chk_site.specs.History.{History}
 use Rattle.chk_site.specs.Site.{Adds, Asked, asked}
 use Rattle.chk_site.specs.Runs.{Leads}
@@ -18,13 +19,13 @@ use Rattle.chk_world.specs.Names.{SinkFile, spell}
 use Rattle.chk_world.specs.Collectors.{Handling, Appended, IsPosted, IsNextPiece, Tells, marker, with_appends}
 use Rattle.chk_world.specs.Places.{As}
 use Rattle.chk_sink.specs.declared.fault.SinkFault.{SinkFault}
-use Rattle.chk_sink.specs.States.{State, Writing, process, last_stem, with_current, given_up, kept_where_done}
+use Rattle.chk_sink.specs.States.{State, Writing, process, last_stem, with_current, given_up, grown_where_done}
 use Rattle.chk_sink.specs.Held.{Handles, Ready}
 use Rattle.chk_sink.specs.Puts.{Wrote}
 use Rattle.chk_sink.specs.Calls.{MadeOnce}
 use Rattle.chk_sink.specs.Faults.{sink_result}
 use Rattle.chk_sink.proofs.Holding.{WasMade, HasEnded, was_made, has_ended, told_by, leads_by}
-use Rattle.chk_sink.proofs.Appending.{grown_writing, append_of, current_of, append_done, append_ends}
+use Rattle.chk_sink.proofs.Appending.{grown_writing, append_of, current_of, append_done, append_ends, append_wants}
 
 -- a process that is a collector of this name
 pub the_collector : (who : Who) (c : List ℕ) → who.role ≡ Collector → who.name ≡ c → who ≡ record { role = Collector; name = c }
@@ -161,7 +162,7 @@ module _ (stamped : List (List ℕ)) (s : State) (o : Writing) (messages : List 
 
   -- the append was done, and the sink is as it is kept
   pub kept_done : (made : Result (Unit {0}) OutsideFault) {old new : Option History} (u : Unit {0}) → sink_result made ≡ Ok u
-      → MadeOnce Q made old new → (st : State) (next : Writing) → st ≡ kept_where_done s next made → next ≡ longer_writing o (piece_of s o key value)
+      → MadeOnce Q made old new → (st : State) (next : Writing) → st ≡ grown_where_done s next made → next ≡ longer_writing o (piece_of s o key value)
       → (placed : Stem × ℕ) → placed ≡ (last_stem s, o.size + length (piece_of s o key value))
       → Adds old new (Leads (As stamped (process s)) (Ready stamped s messages) (Wrote stamped st messages c (Ok placed)))
   kept_done (Ok v) {old = old} {new = new} u e m st next st_is next_is placed placed_is =
@@ -172,11 +173,16 @@ module _ (stamped : List (List ℕ)) (s : State) (o : Writing) (messages : List 
 
   -- it ended the work, and the sink is abandoned
   pub kept_ended : (made : Result (Unit {0}) OutsideFault) {old new : Option History} (fault : SinkFault) → sink_result made ≡ Err fault
-      → MadeOnce Q made old new → (st : State) (next : Writing) → st ≡ kept_where_done s next made
+      → MadeOnce Q made old new → (st : State) (next : Writing) → st ≡ grown_where_done s next made
       → (told_as : SinkFault) (result : Result (Stem × ℕ) SinkFault) → result ≡ Err told_as
       → Adds old new (Leads (As stamped (process s)) (Ready stamped s messages) (Wrote stamped st messages c result))
   kept_ended (Ok v) fault e m st next st_is told_as result result_is = absurd (cc)
-  kept_ended (Err f) {old = old} {new = new} fault e m st next st_is told_as result result_is =
+  kept_ended (Err no_memory) {old = old} {new = new} fault e m st next st_is told_as result result_is =
+      rw (st_is, result_is)
+      (leads_as (λ h x. x) (put_failed stamped s messages c told_as)
+      (append_wants stamped s o messages named some good (piece_of s o key value) (entry_next messages s o c key value posted is value_is begun)
+      (has_ended (Err no_memory) no_memory refl (subst (λ q. MadeOnce q (Err no_memory) old new) own m))))
+  kept_ended (Err (site_failed call)) {old = old} {new = new} fault e m st next st_is told_as result result_is =
       rw (st_is, result_is)
       (put_ended stamped s o messages c key value named some good begun posted is value_is told_as
-      (has_ended (Err f) f refl (subst (λ q. MadeOnce q (Err f) old new) own m)))
+      (has_ended (Err (site_failed call)) (site_failed call) refl (subst (λ q. MadeOnce q (Err (site_failed call)) old new) own m)))

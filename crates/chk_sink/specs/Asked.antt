@@ -1,10 +1,12 @@
 -- What the question for a committed length leads to.
-use Rattle.std.specs.Prelude.{ℕ, ◌≤◌, List, [], ◌∷◌, ◌++◌, Result, Ok, Err}
+use Rattle.std.specs.Prelude.{◌≡◌, ℕ, ◌≤◌, Bool, true, ◌&&◌, List, [], ◌∷◌, ◌++◌, Result, Ok, Err}
 use Rattle.chk_bytes.specs.Stems.{Stem}
+use Rattle.chk_site.specs.declared.acts.Who.{Who}
 use Rattle.chk_site.specs.History.{History, files_after}
+use Rattle.chk_site.specs.Runs.{Since}
 use Rattle.chk_message.specs.Messages.{Ack, ack_of}
 use Rattle.chk_world.specs.Committed.{committed_length}
-use Rattle.chk_world.specs.Collectors.{Handling, CommittedLengths}
+use Rattle.chk_world.specs.Collectors.{Handling, CommittedLengths, leaves_sink}
 use Rattle.chk_world.specs.Places.{AtTold}
 use Rattle.chk_sink.specs.declared.fault.SinkFault.{SinkFault}
 use Rattle.chk_sink.specs.declared.fault.SinkFault.TheVariants.{Damaged, Spent}
@@ -43,3 +45,21 @@ CountedOn stamped s handled t stems acks x result history =
 abbrev pub IsOfQuestion : SinkFault → Type 0
 IsOfQuestion (Spent number) = ⊥
 IsOfQuestion fault = Unit {0}
+
+-- the steps leave the sink alone: others name none of its files, and the process itself changes none
+abbrev pub all_leave : Who → Stem → History → Bool
+all_leave who x [] = true
+all_leave who x (step ∷ added) = leaves_sink who x step && all_leave who x added
+
+-- the history goes on from an earlier one, and where the steps since then leave the sink alone, P holds of it
+abbrev pub QuietSince : Who → Stem → History → (History → Type 0) → History → Type 0
+QuietSince who x earlier P history = Since earlier (λ added. all_leave who x added ≡ true → P history) history
+
+-- where they do, the sink has this committed length
+abbrev pub ExactSince : List (List ℕ) → State → History → Stem → ℕ → History → Type 0
+ExactSince stamped s earlier x n history =
+    AtTold stamped (process s) (QuietSince (process s) x earlier (λ h. n ≡ committed_length (files_after h) x)) history
+
+-- the told history is this one
+abbrev pub IsToldAt : List (List ℕ) → State → History → History → Type 0
+IsToldAt stamped s earlier history = AtTold stamped (process s) (λ h. h ≡ earlier) history

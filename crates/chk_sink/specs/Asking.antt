@@ -15,7 +15,7 @@ use Rattle.chk_world.specs.Places.{AtTold}
 use Rattle.chk_sink.specs.declared.fault.SinkFault.{SinkFault}
 use Rattle.chk_sink.specs.declared.fault.SinkFault.TheVariants.{Damaged, NoMemory}
 use Rattle.chk_sink.specs.States.{State, process, last_stem}
-use Rattle.chk_sink.specs.Asked.{Counts}
+use Rattle.chk_sink.specs.Asked.{Counts, QuietSince}
 use Rattle.chk_sink.specs.Damage.{is_number_from}
 
 -- the call was made, and gave this, or was refused for the state of the files, or else it ended the work
@@ -35,6 +35,11 @@ pub record CountsOpen (s : State) (handled : List Handling) (t : ℕ) (stems : L
 abbrev pub CountedOpen : List (List ℕ) → State → List Handling → ℕ → List Stem → List Ack → Stem → History → Type 0
 CountedOpen stamped s handled t stems acks x history =
     AtTold stamped (process s) (CountsOpen s handled t stems acks x) history
+
+-- where the steps since then leave the sink alone, it isn't done
+abbrev pub OpenSince : List (List ℕ) → State → History → Stem → History → Type 0
+OpenSince stamped s earlier x history =
+    AtTold stamped (process s) (QuietSince (process s) x earlier (λ h. file (files_after h) (DoneFile x) ≡ None)) history
 
 -- the process is that of the sinks, and may have its name; a sink that is written to is a stem's
 pub record IsAsker (who : Who) (s : State) : Type 0 where

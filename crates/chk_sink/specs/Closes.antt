@@ -1,5 +1,5 @@
 -- What committing, closing and ticking lead to.
-use Rattle.std.specs.Prelude.{◌≡◌, ℕ, true, List, length, Option, Some, None, Result, Ok, Err}
+use Rattle.std.specs.Prelude.{◌≡◌, ℕ, true, false, List, length, Option, Some, None, Result, Ok, Err}
 use Rattle.chk_bytes.specs.Stems.{Stem}
 use Rattle.chk_site.specs.Files.{Files}
 use Rattle.chk_site.specs.Acts.{Lists, deed}
@@ -11,6 +11,7 @@ use Rattle.chk_sink.specs.declared.fault.SinkFault.{SinkFault}
 use Rattle.chk_sink.specs.declared.fault.SinkFault.TheVariants.{Damaged, Spent}
 use Rattle.chk_sink.specs.States.{State, Writing, process, last_stem}
 use Rattle.chk_sink.specs.Held.{Holds, Matches}
+use Rattle.chk_sink.specs.Ticking.{is_due}
 
 -- where a sink is written to, all of it is committed
 abbrev pub IsCommitted : Stem → Files → Option Writing → Type 0
@@ -21,6 +22,11 @@ IsCommitted x files (Some o) = committed_length files x ≡ o.size
 abbrev pub IsMarked : Option Writing → Type 0
 IsMarked None = Unit {0}
 IsMarked (Some o) = o.marked ≡ o.size
+
+-- the call was done, and called nothing
+pub record Idles (result : Result (Unit {0}) SinkFault) (before after : Option History) : Type 0 where
+  pub done : result ≡ Ok tt
+  pub uncalled : after ≡ before
 
 -- where the call was done, P holds
 abbrev pub OnceDone : Result (Unit {0}) SinkFault → Type 0 → Type 0
@@ -71,6 +77,13 @@ pub record TickHolds (old new : State) (result : Result (Unit {0}) SinkFault) (h
 -- the same of a told history
 abbrev pub Ticked : List (List ℕ) → State → State → Result (Unit {0}) SinkFault → History → Type 0
 Ticked stamped old new result history = AtTold stamped (process new) (TickHolds old new result) history
+
+-- a tick at this moment has nothing to do: no sink was abandoned, the mark of the one that is written to says all of it,
+-- and it isn't closed
+pub record IsIdleAt (now : ℕ) (s : State) : Type 0 where
+  pub settled : s.abandoned ≡ false
+  pub marked : IsMarked s.current
+  pub early : is_due now s ≡ false
 
 -- a tick finds no number spent
 abbrev pub IsOfTick : SinkFault → Type 0

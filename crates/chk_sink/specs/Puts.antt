@@ -1,5 +1,5 @@
 -- What the put of a chunk leads to.
-use Rattle.std.specs.Prelude.{◌≡◌, ◌⊎◌, ℕ, ◌+◌, ◌≤◌, ◌||◌, is_some, MatchBool, List, [], ◌∷◌, ◌++◌, map, Option, Some, None, Result, Ok, Err}
+use Rattle.std.specs.Prelude.{◌≡◌, ◌⊎◌, ℕ, ◌+◌, ◌≤◌, ◌||◌, IsTrue, is_some, MatchBool, List, [], ◌∷◌, ◌++◌, map, Option, Some, None, Result, Ok, Err}
 use Rattle.chk_bytes.specs.Stems.{Stem}
 use Rattle.chk_site.specs.History.{History}
 use Rattle.chk_seqfile.specs.Headers.{header}
@@ -9,7 +9,7 @@ use Rattle.chk_world.specs.Collectors.{Handling, Appended, Tells, marker, with_a
 use Rattle.chk_world.specs.Places.{AtTold}
 use Rattle.chk_sink.specs.declared.fault.SinkFault.{SinkFault}
 use Rattle.chk_sink.specs.declared.fault.SinkFault.TheVariants.{Outside, Damaged, Spent, NoMemory}
-use Rattle.chk_sink.specs.States.{State, Writing, process, last_stem, let_go, needs_next, IsAbandoned, IsSpent}
+use Rattle.chk_sink.specs.States.{State, Writing, process, last_stem, let_go, needs_next, without_full, IsAbandoned, IsSpent}
 use Rattle.chk_sink.specs.Held.{Handles}
 
 -- the append wrote a sink's header
@@ -55,11 +55,28 @@ EndsAt (Some o) end = o.size ≡ end
 abbrev pub IsPlaced : State → Stem × ℕ → Type 0
 IsPlaced s placed = (placed.0 ≡ last_stem s) × EndsAt s.current placed.1
 
--- What stands after a refused put. After a failed call the sink is abandoned, after want of memory it is abandoned or
--- all is as it was, and where no number is left a full sink is.
+-- the next sink was created, and is abandoned without a record
+pub record IsUnfilled (old new : State) : Type 0 where
+  pub number : new.number ≡ old.number + 1
+  pub abandoned : IsAbandoned new
+
+-- what stands after a refused put into the sink that is written to
+abbrev pub LeavesInSame : State → State → SinkFault → Type 0
+LeavesInSame old new (Outside call) = IsAbandoned new
+LeavesInSame old new NoMemory = new ≡ old
+LeavesInSame old new fault = ⊥
+
+-- what stands after a refused put into the next sink
+abbrev pub LeavesInNext : State → State → SinkFault → Type 0
+LeavesInNext old new (Outside call) = IsAbandoned new
+LeavesInNext old new NoMemory = (new ≡ old) ⊎ IsUnfilled old new
+LeavesInNext old new fault = ⊥
+
+-- What stands after a refused put. After a failed call the sink is abandoned. For want of memory only a full sink is, or
+-- a next one that was created by this put. Where no number is left a full sink is.
 abbrev pub LeavesAfterPut : State → State → SinkFault → Type 0
 LeavesAfterPut old new (Outside call) = IsAbandoned new
-LeavesAfterPut old new NoMemory = (new ≡ old) ⊎ IsAbandoned new
+LeavesAfterPut old new NoMemory = (new ≡ without_full old) ⊎ (IsTrue (needs_next old.current) × IsUnfilled old new)
 LeavesAfterPut old new (Spent born) = new ≡ let_go old
 LeavesAfterPut old new (Damaged name at) = ⊥
 

@@ -6,6 +6,7 @@ use Rattle.chk_site.specs.declared.acts.Who.{Who}
 use Rattle.chk_site.specs.declared.acts.CallFault.{CallFault}
 use Rattle.chk_site.specs.declared.acts.CallFault.TheVariants.{NoMemory}
 use Rattle.chk_site.specs.declared.acts.OutsideFault.{OutsideFault}
+use Rattle.chk_site.specs.declared.acts.OutsideFault.TheVariants.{NoMemory as no_memory}
 
 -- the sink that is written to: its length, where its header or last sync entry ends, the number in its mark or 0,
 -- and the moment of the first tick that saw it
@@ -81,6 +82,11 @@ given_up s = record {
 abbrev pub kept_where_done : State → Writing → Result (Unit {0}) OutsideFault → State
 kept_where_done s next (Ok value) = with_current s (Some next)
 kept_where_done s next (Err fault) = given_up s
+
+-- after an append to it: one that wanted memory was none
+abbrev pub grown_where_done : State → Writing → Result (Unit {0}) OutsideFault → State
+grown_where_done s next (Err no_memory) = s
+grown_where_done s next done = kept_where_done s next done
 
 -- one more sink was created, which is abandoned as yet
 abbrev pub one_more : State → State

@@ -1,10 +1,11 @@
 //! The questions for a sink's committed length.
 
-ghost use Rattle.std.specs.Prelude.{◌≡◌, ℕ, ◌∷◌, [], List, IfErr, IsTrue};
+ghost use Rattle.std.specs.Prelude.{◌≡◌, ℕ, ◌∷◌, [], List, IfOk, IfErr, IsTrue};
 ghost use Rattle.chk_bytes.specs.Stems.{Stem as Parts, is_stem};
 ghost use Rattle.chk_message.specs.Messages.{Ack};
 ghost use Rattle.chk_site.specs.declared.acts.Call.TheVariants.{Size, Read};
 ghost use Rattle.chk_site.specs.Site.{Adds, OutsideCause, asked, bytes_given, sized};
+ghost use Rattle.chk_site.specs.History.{History};
 ghost use Rattle.chk_site.specs.Runs.{Leads};
 ghost use Rattle.chk_world.specs.Collectors.{Handling};
 ghost use Rattle.chk_world.specs.Places.{As};
@@ -13,8 +14,8 @@ ghost use Rattle.chk_world.specs.Works.{Works};
 ghost use Rattle.chk_sink.specs.Faults.{SinkCause, ended_by};
 ghost use Rattle.chk_sink.specs.Works.{OfQuestion};
 ghost use Rattle.chk_sink.specs.Damage.{DamageCause};
-ghost use Rattle.chk_sink.specs.Asked.{CountedOn, IsOfQuestion};
-ghost use Rattle.chk_sink.specs.Asking.{TakenOnce, IsMarkNumber, IsAsker, CountedOpen};
+ghost use Rattle.chk_sink.specs.Asked.{CountedOn, ExactSince, IsOfQuestion};
+ghost use Rattle.chk_sink.specs.Asking.{TakenOnce, IsMarkNumber, IsAsker, CountedOpen, OpenSince};
 
 use crate::numbers::{LEAST_MARK, damaged, number_from};
 use crate::{SinkFault, names};
@@ -79,6 +80,9 @@ pub(crate) fn marked<S: Site>(
         (acks : List Ack) → IsAsker who.now s → Adds (S.told site.old) (S.told site.new)
         (Leads (As stamped (process s)) (CountedOpen stamped s handled t stems acks stem.now)
         (CountedOn stamped s handled t stems acks stem.now result)) }
+    ensures exact { IfOk result (λ n. (stamped : List (List ℕ)) (s : State) (earlier : History) → IsAsker who.now s
+        → Adds (S.told site.old) (S.told site.new) (Leads (As stamped (process s))
+        (OpenSince stamped s earlier stem.now) (ExactSince stamped s earlier stem.now n))) }
     ensures own { Works who.now (OfQuestion stem.now) (ended_by result) (S.told site.old) (S.told site.new) }
     ensures only { IfErr result IsOfQuestion }
     ensures damaged { Adds (S.told site.old) (S.told site.new) (DamageCause result) }

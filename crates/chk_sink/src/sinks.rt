@@ -3,7 +3,7 @@
 ghost use Rattle.std.specs.Prelude.{◌≡◌, ◌+◌, ◌≤◌, ◌<◌, ℕ, false, List, None, IsTrue, IsFalse, IfOk, IfErr, OnOk, OnErr, is_some, length};
 ghost use Rattle.chk_bytes.specs.Stems.{Stem as Parts, is_collector, is_stem};
 ghost use Rattle.chk_site.specs.declared.acts.Role.TheVariants.{Collector};
-ghost use Rattle.chk_site.specs.History.{Every};
+ghost use Rattle.chk_site.specs.History.{History, Every};
 ghost use Rattle.chk_site.specs.Site.{Adds};
 ghost use Rattle.chk_site.specs.Runs.{HasStarted, Leads};
 ghost use Rattle.chk_chunk.specs.Keys.{Chunk, IsKey, is_chunk};
@@ -16,15 +16,15 @@ ghost use Rattle.chk_world.specs.Works.{Works, NoneFailed};
 ghost use Rattle.chk_sink.specs.Faults.{IsOutside, SinkCause, FailsLast, ended_by, sink_result};
 ghost use Rattle.chk_sink.specs.Works.{IsAppendTo, IsMaking, OfPut, OfCommit, OfClose, OfSettling, OfTick, OfStart, OfQuestion, LeavesAfterTick};
 ghost use Rattle.chk_sink.specs.Damage.{DamageCause, SpentCause};
-ghost use Rattle.chk_sink.specs.States.{IsSameStart, process, last_stem, next_stem, counted, begun, kept_where_done, let_go, needs_next, last_number, without_full, with_current, committed_state, settled_state, ticked_state};
+ghost use Rattle.chk_sink.specs.States.{IsSameStart, process, last_stem, next_stem, counted, begun, kept_where_done, grown_where_done, let_go, needs_next, last_number, without_full, with_current, committed_state, settled_state, ticked_state};
 ghost use Rattle.chk_sink.specs.SinkFields.{IsOfStem, writing_of};
 ghost use Rattle.chk_sink.specs.Held.{Matches, Ready};
-ghost use Rattle.chk_sink.specs.Puts.{Wrote, IsPlaced, LeavesAfterPut, SpentExactly, GoesOn, GoesOnInSame, GoesOnInNext};
+ghost use Rattle.chk_sink.specs.Puts.{Wrote, IsPlaced, LeavesInSame, LeavesInNext, LeavesAfterPut, SpentExactly, GoesOn, GoesOnInSame, GoesOnInNext};
 ghost use Rattle.chk_sink.specs.Closing.{left_where_done};
-ghost use Rattle.chk_sink.specs.Closes.{Committed, Closed, IsMarked, Settled, Ticked, IsOfTick, IsNoListing};
+ghost use Rattle.chk_sink.specs.Closes.{Committed, Closed, IsMarked, Idles, IsIdleAt, Settled, Ticked, IsOfTick, IsNoListing};
 ghost use Rattle.chk_sink.specs.Starts.{IsFresh, Started, IsLastStart};
 ghost use Rattle.chk_sink.specs.Settling.{kept_stem};
-ghost use Rattle.chk_sink.specs.Asked.{Counted, CountedOn, IsOfQuestion};
+ghost use Rattle.chk_sink.specs.Asked.{Counted, CountedOn, ExactSince, IsToldAt, IsOfQuestion};
 
 use crate::asking::{marked, size_of, stem_is_good};
 use crate::closing::{publish, rename_to_done};
@@ -172,7 +172,7 @@ impl Sinks {
         ensures same { IsSameStart self.old self.new }
         ensures placed { IfOk result (IsPlaced self.new) }
         ensures goes_on { IfOk result (λ _. GoesOnInSame self.old self.new) }
-        ensures refused { IfErr result (LeavesAfterPut self.old self.new) }
+        ensures refused { IfErr result (LeavesInSame self.old self.new) }
         ensures only { IfErr result IsOutside }
         ensures own { Works (process self.old) (IsAppendTo (last_stem self.old)) (ended_by result)
             (S.told site.old) (S.told site.new) }
@@ -185,8 +185,25 @@ impl Sinks {
         let (piece, longer) = current.entry(alloc, key, value)?;
         let placed = (longer.stem, longer.size);
         let appended = append_to(alloc, site, &self.who, name.as_str(), piece.as_slice());
-        self.keep_where_done(longer, appended)?;
+        self.grow_where_done(longer, appended)?;
         Ok(placed)
+    }
+
+    // The sink that is written to is as it is given where the append was done. One that wanted memory was none, and
+    // after a failed one the sink is abandoned.
+    fn grow_where_done(
+        &mut self,
+        next: Current,
+        done: Result<(), OutsideFault>,
+    ) -> Result<(), SinkFault>
+        requires { IsOfStem (last_stem self.old) next }
+        ensures new { self.new ≡ grown_where_done self.old (writing_of next) done }
+        ensures result { result ≡ sink_result done }
+    {
+        match done {
+            Err(OutsideFault::NoMemory) => Err(SinkFault::NoMemory),
+            done => self.keep_where_done(next, done),
+        }
     }
 
     // The sink that is written to is as it is given where the call on it was done. Else it is abandoned.
@@ -230,7 +247,7 @@ impl Sinks {
         ensures same { IsSameStart self.old self.new }
         ensures placed { IfOk result (IsPlaced self.new) }
         ensures goes_on { IfOk result (λ _. GoesOnInNext self.old self.new) }
-        ensures refused { IfErr result (LeavesAfterPut self.old self.new) }
+        ensures refused { IfErr result (LeavesInNext self.old self.new) }
         ensures only { IfErr result IsOutside }
         ensures own { Works (process self.old) (IsMaking (next_stem self.old)) (ended_by result)
             (S.told site.old) (S.told site.new) }
@@ -291,7 +308,7 @@ impl Sinks {
         ensures ok { OnOk result (self.new ≡ committed_state self.old) }
         ensures err { OnErr result (self.new ≡ let_go self.old) }
         ensures only { IfErr result IsOutside }
-        ensures idle { IsMarked self.old.current → S.told site.new ≡ S.told site.old }
+        ensures idle { IsMarked self.old.current → Idles result (S.told site.old) (S.told site.new) }
         ensures lists { Adds (S.told site.old) (S.told site.new) (Every IsNoListing) }
         ensures damaged { Adds (S.told site.old) (S.told site.new) (DamageCause result) }
         ensures own { Works (process self.old) (OfCommit self.old) (ended_by result)
@@ -317,7 +334,7 @@ impl Sinks {
         ensures ok { OnOk result (self.new ≡ with_current self.old None) }
         ensures err { OnErr result (self.new ≡ let_go self.old) }
         ensures only { IfErr result IsOutside }
-        ensures idle { self.old.current ≡ None → S.told site.new ≡ S.told site.old }
+        ensures idle { self.old.current ≡ None → Idles result (S.told site.old) (S.told site.new) }
         ensures lists { Adds (S.told site.old) (S.told site.new) (Every IsNoListing) }
         ensures damaged { Adds (S.told site.old) (S.told site.new) (DamageCause result) }
         ensures own { Works (process self.old) (OfClose self.old) (ended_by result)
@@ -385,8 +402,8 @@ impl Sinks {
 
     /// Settles the sinks that were abandoned, commits, and closes the sink that is written to where it has at least
     /// 67,108,864 bytes, or where `rotate` milliseconds have passed since the first tick that saw it. `now` is the
-    /// moment in milliseconds; a clock that fell closes nothing. After a refusal the sink that was worked on is
-    /// abandoned, or stays so.
+    /// moment in milliseconds; a clock that fell closes nothing. Where there is nothing to do, nothing is called. After
+    /// a refusal the sink that was worked on is abandoned, or stays so.
     pub fn tick<S: Site>(&mut self, alloc: Global, site: &mut S, now: u64) -> Result<(), SinkFault>
         ensures told { (stamped : List (List ℕ)) → Adds (S.told site.old) (S.told site.new)
             (Leads (As stamped (process self.old)) (Matches stamped self.old)
@@ -396,6 +413,7 @@ impl Sinks {
         ensures refused { IfErr result (λ fault. LeavesAfterTick self.old self.new fault
             (S.told site.old) (S.told site.new)) }
         ensures fine { OnOk result (Adds (S.told site.old) (S.told site.new) NoneFailed) }
+        ensures idle { IsIdleAt now self.old → Idles result (S.told site.old) (S.told site.new) }
         ensures only { IfErr result IsOfTick }
         ensures lists { self.old.abandoned ≡ false
             → Adds (S.told site.old) (S.told site.new) (Every IsNoListing) }
@@ -415,7 +433,8 @@ impl Sinks {
     }
 
     /// The length that is committed of a sink, of whichever collector: that of the done sink, else the number in
-    /// its mark, else 0. It is at most the length that is committed when the call returns.
+    /// its mark, else 0. It is at most the length that is committed when the call returns, and just that where nobody
+    /// else touched the sink during the call.
     pub fn committed<S: Site>(
         &self,
         alloc: Global,
@@ -426,6 +445,9 @@ impl Sinks {
             (stems : List Parts) (acks : List Ack) → Adds (S.told site.old) (S.told site.new) (Leads (As stamped (process self.now))
             (Counted stamped self.now handled t stems acks)
             (CountedOn stamped self.now handled t stems acks stem result)) }
+        ensures exact { IfOk result (λ n. (stamped : List (List ℕ)) (earlier : History)
+            → Adds (S.told site.old) (S.told site.new) (Leads (As stamped (process self.now))
+            (IsToldAt stamped self.now earlier) (ExactSince stamped self.now earlier stem n))) }
         ensures only { IfErr result IsOfQuestion }
         ensures damaged { Adds (S.told site.old) (S.told site.new) (DamageCause result) }
         ensures own { Works (process self.now) (OfQuestion stem) (ended_by result)

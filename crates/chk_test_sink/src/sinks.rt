@@ -199,13 +199,15 @@ fn damaged_and_spent_numbers(rt: HostRuntime) -> Result<(), Fail> {
     expect(is_spent(&fault), "not spent")
 }
 
-// The moments of ticks, and whether the sink is closed by each.
-const TICKS: [(u64, bool); 5] = [
-    (1000, false),
-    (1099, false),
-    (0, false),
-    (999, false),
-    (1100, true),
+// The moments of ticks over a committed sink, whether it is closed behind each, and how many calls were made up to its
+// end: only the one that closes it makes any.
+const TICKS: [(u64, bool, usize); 6] = [
+    (1000, false, 17),
+    (1099, false, 17),
+    (0, false, 17),
+    (999, false, 17),
+    (1100, true, 19),
+    (1200, true, 19),
 ];
 
 #[test]
@@ -218,12 +220,13 @@ fn sinks_are_closed_by_the_clock(rt: HostRuntime) -> Result<(), Fail> {
 }
 
 fn are_closed(alloc: Global, site: &mut SiteMem, sinks: &mut Sinks) -> Result<(), Fail> {
-    for (now, closed) in TICKS {
+    for (now, closed, calls) in TICKS {
         expect(sinks.tick(alloc, site, now).is_ok(), "no tick")?;
         expect(
             size(site, FIRST.closed).is_some() == closed,
             "at another tick",
         )?;
+        expect(site.acts().len() == calls, "another count of calls")?;
     }
     let lists = site.acts().iter().filter(|act| act.call == Call::List);
     expect(lists.count() == 1, "not one listing")

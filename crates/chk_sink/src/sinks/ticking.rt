@@ -1,6 +1,6 @@
 //! A tick once no sink is left under writing.
 
-ghost use Rattle.std.specs.Prelude.{◌≡◌, ℕ, List, IfErr, OnOk};
+ghost use Rattle.std.specs.Prelude.{◌≡◌, ℕ, false, List, IfErr, OnOk};
 ghost use Rattle.chk_site.specs.History.{Every};
 ghost use Rattle.chk_site.specs.Site.{Adds};
 ghost use Rattle.chk_site.specs.Runs.{Leads};
@@ -11,8 +11,8 @@ ghost use Rattle.chk_sink.specs.Works.{OfClose, IsLetGo};
 ghost use Rattle.chk_sink.specs.Damage.{DamageCause};
 ghost use Rattle.chk_sink.specs.States.{IsSameStart, process};
 ghost use Rattle.chk_sink.specs.Held.{Matches};
-ghost use Rattle.chk_sink.specs.Closes.{Ticked, IsNoListing};
-ghost use Rattle.chk_sink.specs.Ticking.{noted_state};
+ghost use Rattle.chk_sink.specs.Closes.{IsMarked, Idles, Ticked, IsNoListing};
+ghost use Rattle.chk_sink.specs.Ticking.{is_due, noted_state};
 
 use crate::SinkFault;
 use crate::sinks::Sinks;
@@ -34,6 +34,8 @@ impl Sinks {
         ensures same { IsSameStart self.old self.new }
         ensures ok { OnOk result (self.new ≡ noted_state now self.old) }
         ensures refused { IfErr result (λ _. IsLetGo self.old self.new) }
+        ensures idle { IsMarked self.old.current → is_due now self.old ≡ false
+            → Idles result (S.told site.old) (S.told site.new) }
         ensures only { IfErr result IsOutside }
         ensures lists { Adds (S.told site.old) (S.told site.new) (Every IsNoListing) }
         ensures damaged { Adds (S.told site.old) (S.told site.new) (DamageCause result) }

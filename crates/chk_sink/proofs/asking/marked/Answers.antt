@@ -6,6 +6,7 @@ use Rattle.std.proofs.Common.{◌∙◌, ap, sym, subst, Ok, List, ℕ, refl, []
 use Rattle.chk_world.specs.Names.{MarkFile, read}
 use Rattle.chk_world.proofs.NameLemmas.{read-spell}
 use Rattle.chk_sink.specs.Asking.{IsMarkNumber}
+use Rattle.chk_sink.proofs.ExactLengths.{number_exact, unmarked_exact}
 use Rattle.chk_sink.proofs.AskedLengths.{mark_given, mark_none, mark_ended}
 use Rattle.chk_sink.proofs.JoinedCauses.{ends_cause, mark_cause, number_causes}
 use Rattle.chk_sink.proofs.asking.marked.Goals as goal
@@ -68,3 +69,16 @@ returns-clause-damaged g c =
     let w_is = c.as_str.ensures.value ∙ c.in_ok-name.ensures in
     mark_cause c.args.who.now c.as_str.result.now c.args.stem.now (ap read w_is ∙ read-spell (MarkFile c.args.stem.now) c.requires) {T = ℕ} (Ok 0)
     m.given _ m.came (rw c.in-None.is refl) m.told
+
+pub returns-in-Some-clause-exact : goal.returns-in-Some-clause-exact
+returns-in-Some-clause-exact g c =
+    let w : List ℕ = c.as_str.result.now in
+    let is = subst (λ v. IsMarkNumber v c.in-Some.bytes c.number_of.result) (c.as_str-in-Some.ensures.value ∙ sym c.as_str.ensures.value)
+    (subst (λ b. IsMarkNumber c.as_str-in-Some.result.now b c.number_of.result) c.as_slice.ensures c.number_of.ensures) in
+    number_exact c.args.who.now c.args.stem.now c.requires w (c.as_str.ensures.value ∙ c.in_ok-name.ensures) c.bytes_of.result c.bytes_of.ensures.told
+    c.in-Some.bytes c.number_of.result (c.in_ok-read.was ∙ ap Ok c.in-Some.is) is
+
+pub returns-clause-exact : goal.returns-clause-exact
+returns-clause-exact g c stamped s earlier asks =
+    unmarked_exact stamped s earlier c.args.who.now asks c.args.stem.now c.requires c.as_str.result.now
+    (c.as_str.ensures.value ∙ c.in_ok-name.ensures) c.bytes_of.result c.bytes_of.ensures.told (c.in_ok-read.was ∙ ap Ok c.in-None.is)

@@ -29,7 +29,8 @@ returns-in_err-put_line-clause-told g c stamped handled posted =
 
 pub returns-in_err-stem-clause-leaves : goal.returns-in_err-stem-clause-leaves
 returns-in_err-stem-clause-leaves g c =
-    rw (refused_by c.from_residual.ensures.1) (put_leaves c.loop-chunk.invariant c.put.new.self c.in_err-stem.field-0.0 c.in_err-stem.ensures.refused)
+    rw (refused_by c.from_residual.ensures.1) (put_leaves c.loop-chunk.invariant (lent_chunk c.in-Some.chunk) c.next.new.self.left c.in-Some.ensures.first c.put.new.self
+    c.in_err-stem.field-0.0 c.in_err-stem.ensures.refused c.in_err-stem.ensures.spent)
 
 pub returns-in_err-stem-clause-own : goal.returns-in_err-stem-clause-own
 returns-in_err-stem-clause-own g c =
@@ -37,7 +38,8 @@ returns-in_err-stem-clause-own g c =
 
 pub returns-in_err-put_line-clause-leaves : goal.returns-in_err-put_line-clause-leaves
 returns-in_err-put_line-clause-leaves g c =
-    rw (refused_by c.from_residual-in_err-put_line.ensures.1) (put_unwritten c.loop-chunk.invariant c.put.new.self c.in_ok-stem.ensures.goes_on)
+    rw (refused_by c.from_residual-in_err-put_line.ensures.1) (put_unwritten c.loop-chunk.invariant (lent_chunk c.in-Some.chunk) c.next.new.self.left c.in-Some.ensures.first
+    c.put.new.self c.in_ok-stem.ensures.goes_on)
 
 pub returns-in_err-put_line-clause-own : goal.returns-in_err-put_line-clause-own
 returns-in_err-put_line-clause-own g c =

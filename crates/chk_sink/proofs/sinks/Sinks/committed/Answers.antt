@@ -5,6 +5,8 @@ use Rattle.chk_world.proofs.Working.{works_then}
 use Rattle.chk_sink.proofs.Owning.{made_err, made_none, made_by, taken_once, fails_of, refused_by}
 use Rattle.std.proofs.Common.{◌∙◌, ap, refl, ℕ, Ok, [], ◌∷◌}
 use Rattle.chk_site.proofs.Leads.{leads_then}
+use Rattle.std.proofs.lemmas.Result.{IfOk-weaker}
+use Rattle.chk_sink.proofs.ExactLengths.{size_exact, size_open}
 use Rattle.chk_sink.proofs.AskedLengths.{asker, size_given, size_none, size_ended}
 use Rattle.chk_sink.proofs.JoinedCauses.{ends_cause, done_cause, cause_then}
 use Rattle.chk_sink.proofs.sinks.Sinks.committed.Goals as goal
@@ -74,3 +76,23 @@ pub returns-clause-damaged : goal.returns-clause-damaged
 returns-clause-damaged g c =
     let m = c.in_ok-size.ensures.told in
     cause_then {T = ℕ} (Ok 0) 0 c.marked.result refl (done_cause {T = ℕ} 0 sized m.given m.told (λ answer. refl)) c.marked.ensures.damaged
+
+pub returns-in-Some-clause-exact : goal.returns-in-Some-clause-exact
+returns-in-Some-clause-exact g c stamped earlier =
+    let s = c.args.self.now in
+    size_exact stamped s earlier c.self.inside.who (asker c.self.inside s c.self.view_is c.self.invariant)
+    c.args.stem c.stem_is_good.ensures c.as_str.result.now (c.as_str.ensures.value ∙ c.in_ok-name.ensures) c.size_of.result c.size_of.ensures.told
+    c.in-Some.size (c.in_ok-size.was ∙ ap Ok c.in-Some.is)
+
+pub returns-clause-exact : goal.returns-clause-exact
+returns-clause-exact g c =
+    let s = c.args.self.now in
+    let asks = asker c.self.inside s c.self.view_is c.self.invariant in
+    IfOk-weaker c.marked.result _ _
+    (λ n exact stamped earlier.
+    leads_then
+    (size_open stamped s earlier c.self.inside.who asks
+    c.args.stem c.stem_is_good.ensures c.as_str.result.now (c.as_str.ensures.value ∙ c.in_ok-name.ensures) c.size_of.result c.size_of.ensures.told
+    (c.in_ok-size.was ∙ ap Ok c.in-None.is))
+    (exact stamped s earlier asks))
+    c.marked.ensures.exact

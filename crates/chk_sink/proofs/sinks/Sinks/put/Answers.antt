@@ -1,4 +1,4 @@
-use Rattle.chk_sink.proofs.Ticks.{is_seen}
+use Rattle.chk_sink.proofs.Ticks.{none_seen, is_seen}
 use Rattle.chk_world.specs.Works.{rests}
 use Rattle.chk_sink.proofs.Owned.{current_puts, next_puts}
 use Rattle.chk_sink.proofs.Owning.{made_none, fails_of, refused_by}
@@ -6,7 +6,7 @@ use Rattle.std.proofs.Common.{true, false, sym, ◌∙◌, ◌++◌, ap, refl, L
 use Rattle.chk_chunk.specs.Keys.{written_key}
 use Rattle.chk_chunk.specs.Lent.{lent_chunk}
 use Rattle.chk_sink.proofs.Fields.{put_refused}
-use Rattle.chk_sink.proofs.Whole.{after_full, chunk_small, chunk_key}
+use Rattle.chk_sink.proofs.Whole.{after_full, chunk_small, chunk_key, same_leaves, next_leaves}
 use Rattle.chk_sink.proofs.sinks.Sinks.put.Goals as goal
 
 pub returns-then-self-eq-LAST_NUMBER-clause-told : goal.returns-then-self-eq-LAST_NUMBER-clause-told
@@ -64,3 +64,13 @@ returns-then-is_some-clause-last g c = fails_of _ (returns-then-is_some-clause-o
 
 pub returns-clause-last : goal.returns-clause-last
 returns-clause-last g c = fails_of _ (returns-clause-own g c)
+
+pub returns-then-is_some-clause-refused : goal.returns-then-is_some-clause-refused
+returns-then-is_some-clause-refused g c =
+    same_leaves c.args.self.now c.let_go_of_full.new.self c.put_in_current.new.self c.put_in_current.result c.let_go_of_full.ensures
+    c.put_in_current.ensures.refused
+
+pub returns-clause-refused : goal.returns-clause-refused
+returns-clause-refused g c =
+    next_leaves c.args.self.now c.let_go_of_full.new.self c.put_in_next.new.self c.put_in_next.result c.let_go_of_full.ensures
+    (none_seen c.self.inside c.let_go_of_full.new.self c.self.view_is (sym c.if-is_some.ensures)) c.put_in_next.ensures.refused

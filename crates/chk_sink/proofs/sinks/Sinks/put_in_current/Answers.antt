@@ -15,8 +15,8 @@ use Rattle.chk_sink.proofs.sinks.Sinks.put_in_current.Goals as goal
 pub entry-requires-clause-ordered : goal.entry-requires-clause-ordered
 entry-requires-clause-ordered g c = (open_as c.self.inside c.args.self.now c.in-Some.current c.self.view_is c.self.invariant c.in-Some.is).of_stem.ordered
 
-pub keep_where_done-requires : goal.keep_where_done-requires
-keep_where_done-requires g c =
+pub grow_where_done-requires : goal.grow_where_done-requires
+grow_where_done-requires g c =
     let f = open_as c.self.inside c.args.self.now c.in-Some.current c.self.view_is c.self.invariant c.in-Some.is in
     let l = c.in_ok-piece.ensures.longer in
     let size : c.in_ok-piece.longer.size ≡ c.in-Some.current.size + length c.in_ok-piece.piece = ap (λ (k : Current). k.size) l in
@@ -37,8 +37,8 @@ pub returns-in_err-piece-clause-told : goal.returns-in_err-piece-clause-told
 returns-in_err-piece-clause-told g c stamped handled chunk posted is v =
     put_refused stamped c.args.self.now handled chunk c.from_residual-in_err-piece.result _ (refused_by c.from_residual-in_err-piece.ensures.1) _
 
-pub returns-in_err-keep_where_done-clause-told : goal.returns-in_err-keep_where_done-clause-told
-returns-in_err-keep_where_done-clause-told g c stamped handled chunk posted is v =
+pub returns-in_err-grow_where_done-clause-told : goal.returns-in_err-grow_where_done-clause-told
+returns-in_err-grow_where_done-clause-told g c stamped handled chunk posted is v =
     let s = c.args.self.now in
     let cur = c.in-Some.current in
     let known = seen_as c.self.inside s c.self.view_is c.self.invariant in
@@ -47,9 +47,9 @@ returns-in_err-keep_where_done-clause-told g c stamped handled chunk posted is v
     c.self.inside.who known.who c.as_str.result.now c.as_slice.result.now
     (c.as_str.ensures.value ∙ (c.in_ok-name.ensures ∙ ap (λ (x : Stem). spell (SinkFile x)) f.of_stem.stem))
     (c.as_slice.ensures ∙ (c.in_ok-piece.ensures.piece ∙ ap (λ (m : List ℕ). piece_at m cur.size cur.sync_end c.args.key.now c.args.value.now) f.of_stem.marker))
-    c.append_to-appended.result _ (sym c.keep_where_done.ensures.result ∙ c.in_err-keep_where_done.was) c.append_to-appended.ensures.told
-    c.keep_where_done.new.self (writing_of c.in_ok-piece.longer) c.keep_where_done.ensures.new _ _
-    (refused_by c.from_residual-in_err-keep_where_done.ensures.1)
+    c.append_to-appended.result _ (sym c.grow_where_done.ensures.result ∙ c.in_err-grow_where_done.was) c.append_to-appended.ensures.told
+    c.grow_where_done.new.self (writing_of c.in_ok-piece.longer) c.grow_where_done.ensures.new _ _
+    (refused_by c.from_residual-in_err-grow_where_done.ensures.1)
 
 pub returns-clause-told : goal.returns-clause-told
 returns-clause-told g c stamped handled chunk posted is v =
@@ -63,8 +63,8 @@ returns-clause-told g c stamped handled chunk posted is v =
     c.self.inside.who known.who c.as_str.result.now c.as_slice.result.now
     (c.as_str.ensures.value ∙ (c.in_ok-name.ensures ∙ ap (λ (x : Stem). spell (SinkFile x)) f.of_stem.stem))
     (c.as_slice.ensures ∙ piece)
-    c.append_to-appended.result _ (sym c.keep_where_done.ensures.result ∙ c.in_ok-keep_where_done.was) c.append_to-appended.ensures.told
-    c.keep_where_done.new.self (writing_of c.in_ok-piece.longer) c.keep_where_done.ensures.new
+    c.append_to-appended.result _ (sym c.grow_where_done.ensures.result ∙ c.in_ok-grow_where_done.was) c.append_to-appended.ensures.told
+    c.grow_where_done.new.self (writing_of c.in_ok-piece.longer) c.grow_where_done.ensures.new
     (ap writing_of c.in_ok-piece.ensures.longer ∙ ap (λ (p : List ℕ). longer_writing (writing_of cur) p) piece)
     (c.in_ok-piece.longer.stem, c.in_ok-piece.longer.size)
     (ap (λ (k : Current). (k.stem, k.size)) c.in_ok-piece.ensures.longer ∙ (λ i. (f.of_stem.stem i, cur.size + length (piece i))))
@@ -73,8 +73,8 @@ pub returns-clause-placed : goal.returns-clause-placed
 returns-clause-placed g c =
     let s = c.args.self.now in
     let f = open_as c.self.inside s c.in-Some.current c.self.view_is c.self.invariant c.in-Some.is in
-    placed_kept s c.keep_where_done.new.self (writing_of c.in_ok-piece.longer) c.append_to-appended.result _
-    (sym c.keep_where_done.ensures.result ∙ c.in_ok-keep_where_done.was) c.keep_where_done.ensures.new
+    placed_kept s c.grow_where_done.new.self (writing_of c.in_ok-piece.longer) c.append_to-appended.result _
+    (sym c.grow_where_done.ensures.result ∙ c.in_ok-grow_where_done.was) c.grow_where_done.ensures.new
     c.in_ok-piece.longer.stem c.in_ok-piece.longer.size (ap (λ (k : Current). k.stem) c.in_ok-piece.ensures.longer ∙ f.of_stem.stem) refl
 
 pub returns-in_err-name-clause-own : goal.returns-in_err-name-clause-own
@@ -85,16 +85,16 @@ pub returns-in_err-piece-clause-own : goal.returns-in_err-piece-clause-own
 returns-in_err-piece-clause-own g c =
     made_none c.from_residual-in_err-piece.result _ (refused_by c.from_residual-in_err-piece.ensures.1)
 
-pub returns-in_err-keep_where_done-clause-own : goal.returns-in_err-keep_where_done-clause-own
-returns-in_err-keep_where_done-clause-own g c =
+pub returns-in_err-grow_where_done-clause-own : goal.returns-in_err-grow_where_done-clause-own
+returns-in_err-grow_where_done-clause-own g c =
     let s = c.args.self.now in
     let f = open_as c.self.inside s c.in-Some.current c.self.view_is c.self.invariant c.in-Some.is in
     let made = c.append_to-appended.result in
     let own = made_result (sink_result made) made refl
     (made_by (seen_as c.self.inside s c.self.view_is c.self.invariant).who
     (once_works (asked c.self.inside.who Append (c.as_str.result.now ∷ c.as_slice.result.now ∷ []) 0 0) made _ refl (c.as_str.ensures.value ∙ (c.in_ok-name.ensures ∙ ap (λ (x : Stem). spell (SinkFile x)) f.of_stem.stem)) c.append_to-appended.ensures.told)) in
-    made_as (sink_result made) c.from_residual-in_err-keep_where_done.result _ (sym c.keep_where_done.ensures.result ∙ c.in_err-keep_where_done.was)
-    (refused_by c.from_residual-in_err-keep_where_done.ensures.1) own
+    made_as (sink_result made) c.from_residual-in_err-grow_where_done.result _ (sym c.grow_where_done.ensures.result ∙ c.in_err-grow_where_done.was)
+    (refused_by c.from_residual-in_err-grow_where_done.ensures.1) own
 
 pub returns-clause-own : goal.returns-clause-own
 returns-clause-own g c =
@@ -104,4 +104,4 @@ returns-clause-own g c =
     let own = made_result (sink_result made) made refl
     (made_by (seen_as c.self.inside s c.self.view_is c.self.invariant).who
     (once_works (asked c.self.inside.who Append (c.as_str.result.now ∷ c.as_slice.result.now ∷ []) 0 0) made _ refl (c.as_str.ensures.value ∙ (c.in_ok-name.ensures ∙ ap (λ (x : Stem). spell (SinkFile x)) f.of_stem.stem)) c.append_to-appended.ensures.told)) in
-    made_ok (sink_result made) _ (sym c.keep_where_done.ensures.result ∙ c.in_ok-keep_where_done.was) own
+    made_ok (sink_result made) _ (sym c.grow_where_done.ensures.result ∙ c.in_ok-grow_where_done.was) own
