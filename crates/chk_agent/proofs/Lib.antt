@@ -20,6 +20,7 @@ pub mod StartingLists
 pub mod AddingFound
 pub mod StartingLooks
 pub mod StartingTold
+pub mod StartingFinds
 pub mod StartingHolds
 pub mod StartingSound
 pub mod StartingMatches

@@ -13,7 +13,7 @@ ghost use Rattle.chk_checkpoint.specs.Lines.{shown, lines_of};
 ghost use Rattle.chk_reading.specs.Adaptors.{adaptor_of};
 ghost use Rattle.chk_agent.specs.Faults.{AgentCause, FailsLast};
 ghost use Rattle.chk_agent.specs.Loading.{MadeOnce, Loaded, IsEmptyFor, IsBegun, AreLines};
-ghost use Rattle.chk_agent.specs.Starts.{IsFresh, Started};
+ghost use Rattle.chk_agent.specs.Starts.{IsFresh, Started, StartsAndReads, FindsCheckpoint};
 
 use crate::agent::{Agent, Rules};
 use crate::answers::AgentFault;
@@ -27,9 +27,9 @@ use chk_site::{Call, OutsideFault, Site, Who, done};
 use std::alloc::Global;
 
 impl Agent {
-    /// Starts the agent: loads its checkpoint, and takes the tables for 10,000 adaptors. Each live
-    /// line is read on from its place. `Damaged` comes at the first byte of the checkpoint that
-    /// isn't in its grammar.
+    /// Starts the agent: starts the process, loads its checkpoint, and takes the tables for 10,000
+    /// adaptors. It makes no other calls. Each live line is read on from its place. `Damaged` comes
+    /// at the first byte of the checkpoint that isn't in its grammar.
     pub fn start<S: Site>(
         alloc: Global,
         site: &mut S,
@@ -45,6 +45,9 @@ impl Agent {
         ensures starts { IfOk result (λ _. Adds (S.told site.old) (S.told site.new) (HasStarted who.now)) }
         ensures told { (stamped : List (List ℕ)) → Adds (S.told site.old) (S.told site.new)
             (Leads (As stamped who.now) (Legal stamped) (Started stamped who.now result)) }
+        ensures acts { StartsAndReads who.now result (S.told site.old) (S.told site.new) }
+        ensures whole { FindsCheckpoint (λ agent. agent.saved) who.now result
+            (S.told site.old) (S.told site.new) }
         ensures last { Adds (S.told site.old) (S.told site.new) (FailsLast result) }
         ensures cause { AgentCause (S.fault_count site.old) (S.fault_count site.new) result }
     {
@@ -62,6 +65,9 @@ fn begin_and_load<S: Site>(alloc: Global, site: &mut S, who: &Who) -> Result<Che
     ensures starts { IfOk result (λ _. Adds (S.told site.old) (S.told site.new) (HasStarted who.now)) }
     ensures told { (stamped : List (List ℕ)) (cluster : List ℕ) → Adds (S.told site.old) (S.told site.new)
         (Leads (As stamped who.now) (Legal stamped) (Loaded stamped cluster who.now result)) }
+    ensures acts { StartsAndReads who.now result (S.told site.old) (S.told site.new) }
+    ensures whole { FindsCheckpoint (λ check. lines_of check) who.now result
+        (S.told site.old) (S.told site.new) }
     ensures last { Adds (S.told site.old) (S.told site.new) (FailsLast result) }
     ensures cause { AgentCause (S.fault_count site.old) (S.fault_count site.new) result }
 {
