@@ -36,6 +36,7 @@ use Rattle.chk_round.specs.Done.{ArchivedTo, AtRead, ReadTo}
 use Rattle.chk_round.specs.Joint.{AreIn, BothAt, GoesOn, JointTo}
 use Rattle.chk_round.specs.Reading.{ReadsAll, ReadsOn}
 use Rattle.chk_round.specs.Rounds.{AfterRun, AllSteady, RoundDone, RunsTo}
+use Rattle.chk_round.specs.Scripts.{WereRead}
 use Rattle.chk_round.specs.Sending.{NonePast, QueueBelow, SendsBelow, SendsNone, SendsRest}
 use Rattle.chk_round.specs.Spent.{LastSink, sinks, segments}
 use Rattle.chk_round.specs.Theirs.{ListsTheirs, NoneOf, TheirsOnly}
@@ -98,6 +99,33 @@ record LineBefore (source : List ℕ) (a1 b : Agents) (l : Line) (added history 
 not_past : (p : Bool) → not p ≡ true → p ≡ false
 not_past true e = absurd (true≢false (sym e))
 not_past false e = refl
+
+-- an adaptor that isn't past behind the reads was to be read
+was_stepped : (a a1 : Agents) → AllSteady a → ReadsOn a a1 → (i : ℕ) (k y : Adaptor)
+    → slice_get a.adaptors i ≡ Some k → slice_get a1.adaptors i ≡ Some y → is_past y.phase ≡ false
+    → is_stepped k.phase ≡ true
+was_stepped a a1 steady on i k y there at lives = go (is_stepped k.phase) refl
+  where
+    go : (p : Bool) → is_stepped k.phase ≡ p → is_stepped k.phase ≡ true
+    go true is = is
+    go false is =
+        let same = on.idle i k y there is at in
+        ap is_stepped (steady i k there (ap (λ (m : Adaptor). is_past m.phase) (sym same) ∙ lives))
+
+-- and behind the delivery
+pub were_read : (a a1 b : Agents) → AllSteady a → ReadsOn a a1 → Delivered a1 b → WereRead a b
+were_read a a1 b steady on delivered i y at lives =
+    let far = delivered.adaptors i y at in
+    let below = below_at a1.adaptors i far.0 far.1 in
+    let size = on.size in
+    let x = some_at a.adaptors i (omega (arith, below, size)) in
+    let stream = on.streams i x.0 far.0 x.1 far.1 in (
+      x.0,
+      x.1,
+      was_stepped a a1 steady on i x.0 far.0 x.1 far.1 (far.2.lives lives),
+      sym (far.2.kind ∙ stream.0),
+      sym (far.2.path ∙ stream.1),
+    )
 
 module _ (stamped : List (List ℕ)) (started acting : List Who) (s : Sinks) (a : Agents) where
   -- it ends with the reads
@@ -186,7 +214,7 @@ module _ (stamped : List (List ℕ)) (started acting : List Who) (s : Sinks) (a 
             stream_same (sym source) (sym (far.2.kind ∙ stream.0)) (sym (far.2.path ∙ stream.1)) in
             let now : stream_at a1.source far.0 ≡ stream_at b.source k =
             stream_same (sym delivered.source) (sym far.2.kind) (sym far.2.path) in
-            let found = whole i first.0 far.0 first.1 (stepped i first.0 far.0 first.1 far.1 (far.2.lives lives)) far.1 in
+            let found = whole i first.0 far.0 first.1 (was_stepped a a1 steady on i first.0 far.0 first.1 far.1 (far.2.lives lives)) far.1 in
             record {
               line = record {
                 place = i;
@@ -206,16 +234,6 @@ module _ (stamped : List (List ℕ)) (started acting : List Who) (s : Sinks) (a 
             stream_same : {p q k m n o : List ℕ} → p ≡ q → k ≡ m → n ≡ o
                 → ◌≡◌ {A = Stream} (record { source = p; kind = k; name = n }) (record { source = q; kind = m; name = o })
             stream_same source kind path = λ j. record { source = source j; kind = kind j; name = path j }
-
-            stepped : (i : ℕ) (k y : Adaptor) → slice_get a.adaptors i ≡ Some k → slice_get a1.adaptors i ≡ Some y
-                → is_past y.phase ≡ false → is_stepped k.phase ≡ true
-            stepped i k y there at lives = go (is_stepped k.phase) refl
-              where
-                go : (p : Bool) → is_stepped k.phase ≡ p → is_stepped k.phase ≡ true
-                go true is = is
-                go false is =
-                    let same = on.idle i k y there is at in
-                    ap is_stepped (steady i k there (ap (λ (m : Adaptor). is_past m.phase) (sym same) ∙ lives))
 
         record Settled (added history : History) : Type 0 where
           leads : Leads (Together stamped started acting) (BothAt stamped s a) (BothAt stamped s2 b) added history

@@ -2,7 +2,7 @@
 use Rattle.std.specs.Prelude.{List, ◌≡◌, ◌⊎◌, ℕ, ◌+◌, ◌<◌, ◌≤◌, true, false, length, slice_get, Option, Some, Result, Ok, Err}
 use Rattle.chk_site.specs.History.{History}
 use Rattle.chk_site.specs.Site.{Adds}
-use Rattle.chk_reading.specs.Adaptors.{Adaptor}
+use Rattle.chk_reading.specs.Adaptors.{Adaptor, is_past, is_stepped}
 use Rattle.chk_agent.specs.declared.answers.AgentFault.{AgentFault}
 use Rattle.chk_agent.specs.declared.answers.Stepped.TheVariants.{AtEnd, Held, Read, Shrank as step_shrank}
 use Rattle.chk_agent.specs.Fills.{IsOneStepped}
@@ -91,3 +91,21 @@ RoundReads source reads (Err fault) old new =
     IsNoRead fault
     ⊎ ((s : State) × (s.source ≡ source) × (mid : Option History) × Adds old mid Anything
     × ReadsTo reads s (Err fault) mid new)
+
+-- each adaptor of the later state that isn't past was to be read in the earlier one
+abbrev pub WereRead : State → State → Type 0
+WereRead s t =
+    (i : ℕ) (y : Adaptor) → slice_get t.adaptors i ≡ Some y → is_past y.phase ≡ false
+    → (x : Adaptor) × (slice_get s.adaptors i ≡ Some x) × (is_stepped x.phase ≡ true)
+    × (x.kind ≡ y.kind) × (x.path ≡ y.path)
+
+-- Behind the calls that begin a round this source's agent read its logs, each to its end, by fewer
+-- than so many reads that gave bytes. The log of each adaptor that is live now was among them.
+pub record ReadsLogs (source : List ℕ) (reads : ℕ) (now : State) (old new : Option History)
+    : Type 0 where
+  pub begun : State
+  pub source_is : begun.source ≡ source
+  pub mid : Option History
+  pub before : Adds old mid Anything
+  pub script : RunReads {T = Unit {0}} reads begun (Ok tt) mid new
+  pub each : WereRead begun now

@@ -11,7 +11,7 @@ ghost use Rattle.chk_round.specs.Faults.{FailsInside, RoundCause};
 ghost use Rattle.chk_round.specs.Following.{KeepsLogs};
 ghost use Rattle.chk_round.specs.Joint.{AreIn};
 ghost use Rattle.chk_round.specs.Lengths.{LengthCause};
-ghost use Rattle.chk_round.specs.Scripts.{RunReads};
+ghost use Rattle.chk_round.specs.Scripts.{RunReads, WereRead};
 ghost use Rattle.chk_round.specs.Rounds.{AllSteady, RunsTo};
 ghost use Rattle.chk_round.specs.Calls.{RoundCalls};
 
@@ -46,6 +46,7 @@ pub(crate) fn run_pair<S: Site>(
         → Contains started job → Contains acting job → AllSteady agent.old → Adds (S.told site.old) (S.told site.new)
         (RunsTo stamped started acting collector.old agent.old agent.new result) }
     ensures script { RunReads reads agent.old result (S.told site.old) (S.told site.new) }
+    ensures each { OnOk result (AllSteady agent.old → WereRead agent.old agent.new) }
     ensures live { OnOk result (KeepsLogs agent.old agent.new) }
     ensures length { LengthCause result (S.told site.old) (S.told site.new) }
     ensures acts { Adds (S.told site.old) (S.told site.new) RoundCalls }

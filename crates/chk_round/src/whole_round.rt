@@ -9,7 +9,7 @@ ghost use Rattle.chk_round.specs.Faults.{FailsInside, RoundCause};
 ghost use Rattle.chk_round.specs.Following.{HaveLines};
 ghost use Rattle.chk_round.specs.Processes.{IsRunOf};
 ghost use Rattle.chk_round.specs.Lengths.{LengthCause};
-ghost use Rattle.chk_round.specs.Scripts.{RoundReads};
+ghost use Rattle.chk_round.specs.Scripts.{ReadsLogs, RoundReads};
 ghost use Rattle.chk_round.specs.Rounded.{RoundTo};
 ghost use Rattle.chk_round.specs.Calls.{RoundActs};
 
@@ -48,6 +48,8 @@ pub fn round<S: Site>(
         → IsRunOf given.now.source started acting → Adds (S.told site.old) (S.told site.new)
         (RoundTo stamped started acting given.now.source result) }
     ensures script { RoundReads given.now.source given.now.reads result (S.told site.old) (S.told site.new) }
+    ensures reads { IfOk result (λ r. ReadsLogs given.now.source given.now.reads r.agent
+        (S.told site.old) (S.told site.new)) }
     ensures live { IfOk result (λ r. HaveLines given.now.kind given.now.logs.items
         (lines_of r.agent)) }
     ensures length { LengthCause result (S.told site.old) (S.told site.new) }
@@ -77,6 +79,8 @@ pub fn round_within<S: Site>(
         → IsRunOf given.now.source started acting → Adds (S.told site.old) (S.told site.new)
         (RoundTo stamped started acting given.now.source result) }
     ensures script { RoundReads given.now.source given.now.reads result (S.told site.old) (S.told site.new) }
+    ensures reads { IfOk result (λ r. ReadsLogs given.now.source given.now.reads r.agent
+        (S.told site.old) (S.told site.new)) }
     ensures live { IfOk result (λ r. HaveLines given.now.kind given.now.logs.items
         (lines_of r.agent)) }
     ensures length { LengthCause result (S.told site.old) (S.told site.new) }

@@ -26,7 +26,7 @@ use Rattle.chk_round.specs.Lengths.{LengthCause}
 use Rattle.chk_round.specs.Processes.{IsRunOf}
 use Rattle.chk_round.specs.Rounded.{RoundTo}
 use Rattle.chk_round.specs.Rounds.{RoundDone}
-use Rattle.chk_round.specs.Scripts.{RoundReads}
+use Rattle.chk_round.specs.Scripts.{ReadsLogs, RoundReads}
 use Rattle.chk_round.specs.Spent.{IsSpentRound, WhereRunning}
 use Rattle.chk_round_run.specs.declared.ends.RoundEnd.{RoundEnd}
 use Rattle.chk_round_run.specs.declared.ends.RoundEnd.TheVariants.{Fault, Unclosed}
@@ -36,13 +36,15 @@ use Rattle.chk_round_run.specs.Telling.{Tells, end_by, print_end, round_prints}
 
 -- What a round of this source says of its steps, which reads these logs under this type. A log
 -- that grows or shrank shows in the reads that the source's agent made, so many of a log at most,
--- and a length below an answered offset in the last poll.
+-- and a length below an answered offset in the last poll. Where it is done, each live log was read
+-- to its end by fewer than so many reads that gave bytes.
 pub record IsRound (source kind : List ℕ) (logs : List (List ℕ)) (reads : ℕ)
     (result : Result Rounded RoundFault) (old new : Option History) : Type 0 where
   pub told : (stamped : List (List ℕ)) (started acting : List Who) → IsRunOf source started acting
       → Adds old new (RoundTo stamped started acting source result)
   pub live : IfOk result (λ r. HaveLines kind logs (lines_of r.agent))
   pub script : RoundReads source reads result old new
+  pub read : IfOk result (λ r. ReadsLogs source reads r.agent old new)
   pub length : LengthCause result old new
   pub last : Adds old new (FailsInside result)
   pub acts : Adds old new (RoundActs source)

@@ -5,7 +5,7 @@ use Rattle.chk_round.specs.declared.faults.RoundFault.{RoundFault}
 use Rattle.chk_round.specs.Faults.{RoundCause}
 use Rattle.chk_round.proofs.Ends.{late_cause}
 use Rattle.chk_round.proofs.Joining.{in_on, still_c}
-use Rattle.chk_round.proofs.Whole.{close_ends, delivery_ends, reads_end, reads_given, round_ends}
+use Rattle.chk_round.proofs.Whole.{close_ends, delivery_ends, reads_end, reads_given, round_ends, were_read}
 use Rattle.chk_round.proofs.Lasting.{inside_late, last_inside, went_none, went_then}
 use Rattle.chk_round.proofs.NoRead.{length_late, plain_length, plain_no_read}
 use Rattle.chk_round.proofs.Acts.{acts_then}
@@ -184,3 +184,8 @@ returns-in_err-report-clause-acts g c =
 pub returns-clause-acts : goal.returns-clause-acts
 returns-clause-acts g c =
     acts_then (acts_then c.read_all.ensures.acts c.deliver.ensures.acts) c.close.ensures.acts
+
+pub returns-clause-each : goal.returns-clause-each
+returns-clause-each g c steady =
+    were_read c.args.agent.now c.read_all.new.agent c.deliver.new.agent steady c.in_ok-read_all.ensures.on
+    c.in_ok-deliver.ensures.all

@@ -327,3 +327,13 @@ returns-clause-acts g c =
     (subst (λ n. Adds (g.S.Site.told c.args.site.now) (g.S.Site.told c.gather.new.site) (TimedActs n))
     (ap (λ (w : Who). w.name) c.in_ok-reading.ensures) c.in_ok-pair.ensures.timed)
     c.run_pair.ensures.acts))
+
+pub returns-clause-reads : goal.returns-clause-reads
+returns-clause-reads g c = record {
+  begun = c.in_ok-pair.pair.agent;
+  source_is = c.in_ok-pair.ensures.gathered.source_is ∙ ap (λ (w : Who). w.name) c.in_ok-reading.ensures;
+  mid = g.S.Site.told c.gather.new.site;
+  before = went c.in_ok-pair.ensures.last;
+  script = c.in_ok-report.ensures.script;
+  each = c.in_ok-report.ensures.each c.in_ok-pair.ensures.gathered.steady;
+}
