@@ -7,7 +7,7 @@ use Rattle.chk_world.proofs.Each.{Each}
 use Rattle.chk_world.proofs.NameTests.{streams_same}
 use Rattle.chk_heads.specs.Heads.{Head}
 use Rattle.chk_merge.specs.Courses.{is_head_of, is_end_of, end_of, first_head, IsBreakBy}
-use Rattle.chk_merge.specs.Checking.{GoesWell, EndGoesWell, HeadGoesWell, AllGoWell}
+use Rattle.chk_merge.specs.Checking.{EndGoesWell, HeadGoesWell, AllGoWell}
 
 -- what is found is of the stream, and has what each one has
 pub end_found : (P : End → Type 0) (s : Stream) (es : List End) (e : End) → Each P es → end_of s es ≡ Some e → (is_end_of s e ≡ true) × P e

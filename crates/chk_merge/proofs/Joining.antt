@@ -12,7 +12,7 @@ use Rattle.chk_site.specs.Site.{Adds}
 use Rattle.chk_site.specs.Runs.{anyhow, Leads}
 use Rattle.chk_site.proofs.Runs.{adds_as}
 use Rattle.chk_site.proofs.Leads.{leads_as, leads_none, leads_then, owned_anyhow}
-use Rattle.chk_chunk.specs.Keys.{Stream, Chunk, chunk_begin}
+use Rattle.chk_chunk.specs.Keys.{Stream, chunk_begin}
 use Rattle.chk_seqfile.specs.Entries.{records_of}
 use Rattle.chk_world.specs.Books.{End, chunks_within, chunks_of_stream, values}
 use Rattle.chk_world.specs.Jobs.{Run}

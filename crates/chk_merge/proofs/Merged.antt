@@ -1,15 +1,13 @@
 -- A merged segment, from its header to its end.
-use Rattle.std.proofs.Common.{◌≡◌, ℕ, List, [], ◌∷◌, ◌++◌, map, take, length, Option, None, Some, Ok, Err, Result, refl, sym, ◌∙◌, ap, subst}
-use Rattle.chk_site.specs.Files.{File, Files}
-use Rattle.chk_site.specs.History.{History, Every, Others, files_after}
+use Rattle.std.proofs.Common.{◌≡◌, ℕ, List, ◌++◌, map, take, Option, Ok, Err, refl, sym, ◌∙◌, ap, subst}
+use Rattle.chk_site.specs.Files.{Files}
+use Rattle.chk_site.specs.History.{History, Every, Others}
 use Rattle.chk_site.specs.Site.{Adds}
 use Rattle.chk_site.specs.Runs.{anyhow, Leads}
 use Rattle.chk_site.proofs.Runs.{adds_as, adds_both}
-use Rattle.chk_site.proofs.Leads.{leads_as, leads_then, owned_anyhow}
-use Rattle.chk_replace.specs.Load.{Has}
+use Rattle.chk_site.proofs.Leads.{leads_as, owned_anyhow}
 use Rattle.chk_world.specs.Books.{Book}
 use Rattle.chk_world.specs.JobSteps.{IsOf, WritesTo, ReadsOrWrites, SparesFile}
-use Rattle.chk_world.proofs.Each.{Each}
 use Rattle.chk_heads.specs.Faults.{IsOfWrite}
 use Rattle.chk_heads.specs.Heads.{Head}
 use Rattle.chk_heads.specs.declared.fault.JobFault.{JobFault}
@@ -21,8 +19,8 @@ use Rattle.chk_book.specs.Written.{IsAt, HasEnded}
 use Rattle.chk_merge.specs.declared.reader.RecordReader.{RecordReader}
 use Rattle.chk_merge.specs.ReadBack.{HoldsNothing}
 use Rattle.chk_merge.specs.Segments.{HasFiles, SparesFiles, AreSettled}
-use Rattle.chk_merge.specs.Archives.{IsKnown, chunk_in}
-use Rattle.chk_merge.specs.Merging.{SparesBoth, AreApart, CanWrite, WroteOne, CanBegin, bare_book, IsMergedSegment, WroteMerged}
+use Rattle.chk_merge.specs.Archives.{chunk_in}
+use Rattle.chk_merge.specs.Merging.{SparesBoth, AreApart, CanWrite, WroteOne, CanBegin, bare_book, WroteMerged}
 use Rattle.chk_merge.proofs.Frames.{stays_so, spares_one}
 use Rattle.chk_merge.proofs.AllRead.{no_windows}
 use Rattle.chk_merge.proofs.Writing.{NoDamage, others_as, writes_quiet}

@@ -1,5 +1,5 @@
 -- What the merged segment has of each stream, and what the book is then.
-use Rattle.std.proofs.Common.{◌≡◌, ℕ, ◌+◌, ◌-◌, ◌^◌, Bool, true, false, List, [], ◌∷◌, ◌++◌, map, length, Option, None, Some, Ok, Err, Result, refl, sym, ◌∙◌, ap, subst, if◌then◌else◌}
+use Rattle.std.proofs.Common.{◌≡◌, ℕ, ◌+◌, ◌-◌, ◌^◌, Bool, true, false, List, [], ◌∷◌, ◌++◌, map, length, Option, None, Some, Ok, Err, refl, sym, ◌∙◌, ap, subst, if◌then◌else◌}
 use Rattle.std.specs.Prelude.{filter}
 use Rattle.std.proofs.lemmas.Option.{none-some}
 use Rattle.chk_site.specs.Files.{File, Files}
@@ -20,8 +20,8 @@ use Rattle.chk_heads.specs.declared.fault.JobFault.{JobFault}
 use Rattle.chk_heads.specs.declared.fault.JobFault.TheVariants.{Outside, Damaged, Spent, NoMemory}
 use Rattle.chk_book.specs.Causes.{SpentBook}
 use Rattle.chk_book.specs.Folders.{segment_name, most_in}
-use Rattle.chk_book.specs.Segmenting.{Writing, all_bytes, segment_of}
-use Rattle.chk_merge.specs.Segments.{names_of, HasFiles, SparesFiles, IsSound, heads_from, chunks_in_files}
+use Rattle.chk_book.specs.Segmenting.{Writing, all_bytes}
+use Rattle.chk_merge.specs.Segments.{names_of, HasFiles, SparesFiles, heads_from, chunks_in_files, IsSound}
 use Rattle.chk_merge.specs.Courses.{is_head_of, end_of, first_head, break_by}
 use Rattle.chk_merge.specs.Checking.{GoesWell, AllGoWell}
 use Rattle.chk_merge.specs.Archives.{IsKnown, chunk_in}
@@ -89,15 +89,21 @@ module _ (folder : List ℕ) (old : Book) (held : Files) where
         (known_from (most_in folder) (names_of folder old) held 0 [] (names_of folder old) refl refl)),
   )
 
-  into : (heads : List Head) (new m : Book) (w : Writing) (history : History) → AllGoWell old.ends (heads_from (most_in folder) held 0 (names_of folder old))
+  into : (heads : List Head) (new m : Book) (w : Writing) (history : History) → Each (IsSound (most_in folder) held) (names_of folder old)
+      → AllGoWell old.ends (heads_from (most_in folder) held 0 (names_of folder old))
       → heads ≡ in_head_order (heads_from (most_in folder) held 0 (names_of folder old))
       → new.next ≡ m.next → new.segments ≡ m.segments → new.ends ≡ old.ends → new.aside ≡ old.aside
       → IsMergedSegment folder old.next (names_of folder old) held heads m w history → MergedInto folder old new held history
-  into heads new m w history well are next segments ends aside is =
+  into heads new m w history whole well are next segments ends aside is =
       go (files_after history (segment_name w.folder w.number)) refl is.finished
     where
       name : segment_name w.folder w.number ≡ segment_name folder old.next
       name = ap (λ x. segment_name x w.number) is.folder_is ∙ ap (segment_name folder) is.number_is
+
+      chunks : (f : File) → f.bytes ≡ all_bytes w → chunks_within (most_in folder) f.bytes
+          ≡ map (chunk_in (names_of folder old) held) (in_head_order (heads_from (most_in folder) held 0 (names_of folder old)))
+      chunks f same =
+          ap (chunks_within (most_in folder)) same ∙ (is.form.are ∙ (is.chunks_are ∙ ap (map (chunk_in (names_of folder old) held)) are))
 
       go : (o : Option File) → files_after history (segment_name w.folder w.number) ≡ o
           → HasFile o (λ f. (f.bytes ≡ all_bytes w) × (f.synced ≡ length (all_bytes w))) → MergedInto folder old new held history
@@ -107,10 +113,10 @@ module _ (folder : List ℕ) (old : Book) (held : Files) where
         there = ap (files_after history) (sym name) ∙ e;
         synced = has.1 ∙ ap length (sym has.0);
         sound = subst (AllChunks (most_in folder)) (sym has.0) is.form.form;
-        same = λ s.
-            ap (chunks_of_stream s)
-            (ap (chunks_within (most_in folder)) has.0 ∙ (is.form.are ∙ (is.chunks_are ∙ ap (map (chunk_in (names_of folder old) held)) are)))
-            ∙ stream_same s well;
+        same = λ s. ap (chunks_of_stream s) (chunks f has.0) ∙ stream_same s well;
+        in_turn = chunks f has.0;
+        whole = whole;
+        well = well;
         next = next ∙ (ap (λ (b : Book). b.next) is.book_is ∙ ap (λ n. n + 1) is.number_is);
         alone = segments ∙ (ap (λ (b : Book). b.segments) is.book_is
             ∙ (ap (λ n. (let g : Segment = record { number = n; length = length (all_bytes w) } in g) ∷ []) is.number_is
@@ -145,7 +151,7 @@ module _ (folder : List ℕ) (old : Book) (held : Files) where
       (λ added history x. record {
         leads = λ s h.
             let y = x.leads s (can_begin heads history h) in
-            (y.0, into heads new m y.1.0 (added ++ history) h.2 h.3 next segments ends aside y.1.1);
+            (y.0, into heads new m y.1.0 (added ++ history) h.1 h.2 h.3 next segments ends aside y.1.1);
         own = x.own;
       }))
 

@@ -1,12 +1,11 @@
 -- The heads of all records that a book names, checked and in order.
-use Rattle.std.proofs.Common.{◌≡◌, inl, inr, ℕ, List, [], Option, None, Ok, Err, Result, refl, ◌∙◌, ap, subst}
+use Rattle.std.proofs.Common.{◌≡◌, inl, inr, ℕ, List, [], Option, None, Ok, Err, Result, ◌∙◌, ap, subst}
 use Rattle.chk_site.specs.Files.{Files}
 use Rattle.chk_site.specs.History.{History}
 use Rattle.chk_site.specs.Site.{Adds}
 use Rattle.chk_site.specs.Runs.{anyhow, Leads}
 use Rattle.chk_site.proofs.Runs.{adds_as}
 use Rattle.chk_site.proofs.Leads.{leads_as, owned_anyhow}
-use Rattle.chk_chunk.specs.Keys.{Stream}
 use Rattle.chk_world.specs.Books.{Book}
 use Rattle.chk_world.proofs.Each.{Each}
 use Rattle.chk_heads.specs.Heads.{Head}

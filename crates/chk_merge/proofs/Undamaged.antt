@@ -1,10 +1,10 @@
 -- Segments whose records run as their book says are never damaged.
-use Rattle.std.proofs.Common.{◌≡◌, ℕ, ◌≤◌, ◌-◌, Bool, true, false, ◌&&◌, List, [], ◌∷◌, ◌++◌, length, map, Option, Some, None, refl, sym, ◌∙◌, ap, subst, arith, if◌then◌else◌, true≢false}
+use Rattle.std.proofs.Common.{◌≡◌, ℕ, ◌≤◌, ◌-◌, Bool, true, false, ◌&&◌, List, [], ◌∷◌, ◌++◌, length, map, Option, Some, None, refl, sym, ◌∙◌, ap, subst, arith, if◌then◌else◌}
 use Rattle.std.specs.Prelude.{Contains, nat_le, ◌==◌}
 use Rattle.std.proofs.lemmas.Bool.{and_from}
 use Rattle.std.proofs.lemmas.Option.{none-some}
 use Rattle.chk_site.specs.Files.{Files}
-use Rattle.chk_chunk.specs.Keys.{Stream, Chunk, chunk_begin, chunk_end}
+use Rattle.chk_chunk.specs.Keys.{Stream, Chunk, chunk_end}
 use Rattle.chk_world.specs.Books.{End, Book, chunks_of_stream}
 use Rattle.chk_world.specs.Jobs.{Run}
 use Rattle.chk_world.proofs.Each.{Each, each_at, later_one}
@@ -13,7 +13,7 @@ use Rattle.chk_heads.specs.Pieces.{bytes_in}
 use Rattle.chk_heads.proofs.NoDamage.{no_damage}
 use Rattle.chk_book.specs.Folders.{most_in}
 use Rattle.chk_merge.specs.Segments.{names_of, IsSound, heads_from, chunks_in_files}
-use Rattle.chk_merge.specs.Courses.{is_head_of, end_of, goes_on, first_break, first_head, reached, break_by, reaches, IsBreakBy}
+use Rattle.chk_merge.specs.Courses.{is_head_of, end_of, goes_on, first_break, first_head, reached, IsBreakBy}
 use Rattle.chk_merge.specs.Archives.{chunk_in, RunsSo, bad_segment, broken, unreached, IsDamagedAt}
 use Rattle.chk_merge.proofs.Joining.{BeginsSo, chunks_from, begin_from}
 

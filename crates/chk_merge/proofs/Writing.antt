@@ -1,6 +1,5 @@
 -- Records that are fetched and written in turn.
-use Rattle.std.proofs.Common.{◌≡◌, inl, inr, ℕ, ◌+◌, ◌<◌, false, List, [], ◌∷◌, ◌++◌, map, take, length, get_or, Option, Ok, Err, Result, refl, sym, ◌∙◌, ap, subst, bytes_eq, true≢false}
-use Rattle.std.specs.Prelude.{Contains}
+use Rattle.std.proofs.Common.{◌≡◌, inl, inr, ℕ, ◌<◌, false, List, [], ◌∷◌, ◌++◌, map, take, length, get_or, Option, Ok, Err, Result, refl, sym, ◌∙◌, ap, subst, bytes_eq, true≢false}
 use Rattle.std.proofs.lemmas.List.{take_more, map-append}
 use Rattle.chk_site.specs.Files.{File, Files}
 use Rattle.chk_site.specs.Acts.{Deed, Reads, deed, touches}
@@ -10,7 +9,6 @@ use Rattle.chk_site.specs.Runs.{anyhow, Leads}
 use Rattle.chk_site.proofs.Runs.{adds_as, adds_both}
 use Rattle.chk_site.proofs.Leads.{leads_as, leads_then, owned_anyhow}
 use Rattle.chk_replace.specs.Load.{Has}
-use Rattle.chk_chunk.specs.Keys.{Chunk}
 use Rattle.chk_world.specs.Committed.{HasFile}
 use Rattle.chk_world.specs.JobSteps.{IsOf, ReadsFile, WritesTo, ReadsOrWrites, removes, creates, appends, syncs, SparesFile}
 use Rattle.chk_heads.specs.Heads.{Head}
@@ -24,9 +22,8 @@ use Rattle.chk_book.specs.Segmenting.{Writing, HoldsSegment}
 use Rattle.chk_book.specs.Written.{taken, HasTaken}
 use Rattle.chk_merge.specs.declared.reader.RecordReader.{RecordReader}
 use Rattle.chk_merge.specs.Spans.{StaysAtOk}
-use Rattle.chk_merge.specs.ReadBack.{value_held}
-use Rattle.chk_merge.specs.Segments.{HasFiles, SparesFiles, AreSettled}
-use Rattle.chk_merge.specs.Archives.{CanReadAll, HasReadAll, value_in, chunk_in}
+use Rattle.chk_merge.specs.Segments.{SparesFiles, AreSettled}
+use Rattle.chk_merge.specs.Archives.{CanReadAll, HasReadAll, chunk_in}
 use Rattle.chk_merge.specs.Merging.{SparesBoth, AreApart, CanWrite, chunk_read, WroteOne, FetchedBeside}
 use Rattle.chk_merge.proofs.Frames.{stays_so, spares_one}
 use Rattle.chk_merge.proofs.AllRead.{adds_all}

@@ -1,9 +1,9 @@
 -- What a merge of a folder's segments gives.
-use Rattle.std.specs.Prelude.{◌≡◌, ℕ, ◌+◌, List, [], ◌∷◌, length, map, take, bytes_eq, false, Contains, Option, Some, None, Result, Ok, Err}
+use Rattle.std.specs.Prelude.{◌≡◌, ℕ, ◌+◌, List, [], ◌∷◌, length, map, take, bytes_eq, false, Contains, Some, None, Result, Ok, Err}
 use Rattle.chk_site.specs.Files.{File, Files}
 use Rattle.chk_site.specs.History.{Step, History, files_after}
 use Rattle.chk_chunk.specs.Keys.{Stream, Key, Chunk}
-use Rattle.chk_world.specs.Books.{Segment, Book, AllChunks, chunks_within, chunks_of_stream}
+use Rattle.chk_world.specs.Books.{Book, AllChunks, chunks_within, chunks_of_stream}
 use Rattle.chk_world.specs.JobSteps.{SparesFile}
 use Rattle.chk_world.proofs.Each.{Each}
 use Rattle.chk_heads.specs.Heads.{Head}
@@ -29,8 +29,9 @@ SoundHeads folder b held (Ok heads) history =
 SoundHeads folder b held (Err (Damaged name at)) history = (s : Stream) × IsDamagedAt folder b held s name at
 SoundHeads folder b held (Err fault) history = Unit {0}
 
--- the merged segment's file is whole and synced, has all records of the named ones, each stream's in its order, and all of
--- them stream after stream; the book names it alone, and has the ends and the aside segment that it had
+-- the merged segment's file is whole and synced, and has all records of the named ones: each stream's in its order, and one stream
+-- behind the other, in byte order as the book has them; the named ones are of chunks, and all streams' records run as the book says,
+-- so that nothing was damaged. The book names the segment alone, and has the ends and the aside segment that it had.
 pub record MergedInto (folder : List ℕ) (old new : Book) (held : Files) (history : History) : Type 0 where
   pub f : File
   pub there : files_after history (segment_name folder old.next) ≡ Some f
@@ -38,6 +39,10 @@ pub record MergedInto (folder : List ℕ) (old new : Book) (held : Files) (histo
   pub sound : AllChunks (most_in folder) f.bytes
   pub same : (s : Stream) → chunks_of_stream s (chunks_within (most_in folder) f.bytes)
       ≡ chunks_of_stream s (chunks_in_files (most_in folder) held (names_of folder old))
+  pub in_turn : chunks_within (most_in folder) f.bytes
+      ≡ map (chunk_in (names_of folder old) held) (in_head_order (heads_from (most_in folder) held 0 (names_of folder old)))
+  pub whole : Each (IsSound (most_in folder) held) (names_of folder old)
+  pub well : AllGoWell old.ends (heads_from (most_in folder) held 0 (names_of folder old))
   pub next : new.next ≡ old.next + 1
   pub alone : new.segments ≡ record { number = old.next; length = length f.bytes } ∷ []
   pub ends : new.ends ≡ old.ends

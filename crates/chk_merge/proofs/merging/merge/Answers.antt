@@ -1,16 +1,15 @@
-use Rattle.std.proofs.Common.{◌≡◌, ◌∙◌, ◌^◌, ◌-◌, ℕ, List, Ok, Err, refl, ap, sym, subst, arith}
+use Rattle.std.proofs.Common.{◌∙◌, Ok, Err, refl, sym, subst}
 use Rattle.std.proofs.lemmas.Result.{err_from_is_err_and}
 use Rattle.chk_site.specs.Site.{Adds}
 use Rattle.chk_site.specs.Runs.{anyhow, Leads}
 use Rattle.chk_site.proofs.Runs.{adds_then}
-use Rattle.chk_world.specs.Books.{Book}
 use Rattle.chk_world.specs.JobSteps.{IsOf, ReadsOrWrites}
 use Rattle.chk_heads.specs.Pieces.{AsksInPieces}
 use Rattle.chk_heads.proofs.Gathering.{every_then}
 use Rattle.chk_book.specs.declared.book.Book.{Book as Struct}
 use Rattle.chk_book.specs.Books.{book_view}
 use Rattle.chk_book.specs.Folders.{segment_name, most_in}
-use Rattle.chk_merge.specs.Segments.{names_of, AreSettled}
+use Rattle.chk_merge.specs.Segments.{AreSettled}
 use Rattle.chk_merge.specs.Merging.{SparesBoth, AreApart, CanBegin, WroteMerged, bare_book}
 use Rattle.chk_merge.proofs.AllGathered.{fails_later}
 use Rattle.chk_merge.proofs.Writing.{reads_as}

@@ -1,4 +1,4 @@
-use Rattle.std.proofs.Common.{◌≡◌, ◌∙◌, ℕ, List, Ok, Err, sym, subst}
+use Rattle.std.proofs.Common.{List, Ok, Err, sym, subst}
 use Rattle.std.proofs.lemmas.Result.{err_from_is_err_and}
 use Rattle.chk_heads.specs.Heads.{Head}
 use Rattle.chk_heads.specs.declared.fault.JobFault.TheVariants.{NoMemory}

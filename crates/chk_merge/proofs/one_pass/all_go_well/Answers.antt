@@ -1,4 +1,4 @@
-use Rattle.std.proofs.Common.{◌≡◌, ◌∙◌, ◌<◌, ◌≤◌, ◌+◌, length, length-set, map, drop, get_or, refl, ap, sym, subst, below_more, arith}
+use Rattle.std.proofs.Common.{◌∙◌, ◌<◌, ◌≤◌, ◌+◌, length, length-set, map, drop, get_or, refl, ap, sym, subst, below_more, arith}
 use Rattle.std.proofs.lemmas.List.{length-map, drop_more, drop_all}
 use Rattle.chk_heads.specs.Order.{no_head}
 use Rattle.chk_book.specs.declared.lists.End.{End as EndStruct}
