@@ -17,7 +17,7 @@ use Rattle.chk_agent.specs.declared.agent.Rules.{Rules}
 use Rattle.chk_agent.specs.declared.answers.AgentFault.{AgentFault}
 use Rattle.chk_agent.specs.declared.answers.AgentFault.TheVariants.{Damaged, Outside as agent_failed, NoMemory as agent_wanting}
 use Rattle.chk_agent.specs.States.{State, process}
-use Rattle.chk_agent.specs.Starts.{IsFresh, Started}
+use Rattle.chk_agent.specs.Starts.{IsFresh, Started, StartsAndReads, FindsCheckpoint}
 use Rattle.chk_agent.specs.Facts.{Matches}
 use Rattle.chk_agent.proofs.TurningTold.{TalksOn}
 use Rattle.chk_agent_run.specs.declared.faults.RunFault.{RunFault}
@@ -25,14 +25,20 @@ use Rattle.chk_agent_run.specs.declared.faults.RunFault.TheVariants.{Initial, Ch
 use Rattle.chk_agent_run.specs.declared.turn.Ended.{Ended}
 use Rattle.chk_agent_run.specs.Faults.{fault_of, outside_fault, IsNoCheckpoint}
 use Rattle.chk_agent_run.specs.Initial.{LooksAt}
-use Rattle.chk_agent_run.specs.Runs.{IsStarted, InRun, RunEnds}
+use Rattle.chk_agent_run.specs.Runs.{StartsSo, InRun, RunEnds}
 use Rattle.chk_agent_run.proofs.Carried.{Carried, ends_with}
 use Rattle.chk_agent_run.proofs.Started.{talks_in_run, acts_in_run, reads_in_run}
 
--- the start's own steps are by the agent
-pub start_own : (who : Who) (result : Result State AgentFault) {old new : Option History}
-    → Adds old new (Leads (As [] who) (Legal []) (Started [] who result)) → Adds old new (Owns (IsBy who))
-start_own who result p = adds_as (Owns (IsBy who)) p (λ a h x. x.own)
+-- what the clauses of the start say; its own steps are by the agent
+pub start_so : (who : Who) (result : Result State AgentFault) {old new : Option History}
+    → Adds old new (Leads (As [] who) (Legal []) (Started [] who result))
+    → StartsAndReads who result old new → FindsCheckpoint (λ s. s.saved) who result old new
+    → StartsSo who result old new
+start_so who result p acts whole = record {
+  own = adds_as (Owns (IsBy who)) p (λ a h x. x.own);
+  acts = acts;
+  whole = whole;
+}
 
 pub who_started : (who : Who) (ring : Turns) (rules : Rules) (s : State) → who.role ≡ Agent → IsFresh who ring rules s → who ≡ process s
 who_started who ring rules s role fresh = λ i. record { role = role i; name = source i }

@@ -13,7 +13,7 @@ use Rattle.chk_world.specs.Together.{Together}
 use Rattle.chk_agent.specs.declared.agent.Rules.{Rules}
 use Rattle.chk_agent.specs.declared.answers.AgentFault.{AgentFault}
 use Rattle.chk_agent.specs.States.{State}
-use Rattle.chk_agent.specs.Starts.{IsFresh}
+use Rattle.chk_agent.specs.Starts.{IsFresh, StartsAndReads, FindsCheckpoint}
 use Rattle.chk_agent_run.specs.declared.faults.RunFault.{RunFault}
 use Rattle.chk_agent_run.specs.declared.faults.RunFault.TheVariants.{Checkpoint}
 use Rattle.chk_agent_run.specs.declared.run.Work.{Work}
@@ -22,11 +22,20 @@ use Rattle.chk_agent_run.specs.Faults.{fault_of, outside_fault}
 use Rattle.chk_agent_run.specs.Initial.{ReadsInitial, AreAdded}
 use Rattle.chk_agent_run.specs.Turns.{AreAgentTurns}
 
--- the agent was started, which left this state; all steps of the start are by it, and leave messages alone
+-- How an agent's start comes to its answer: all its steps are by the agent, and leave messages
+-- alone; the process is started and its checkpoint read, and nothing else is called; and where
+-- others leave the checkpoint, the answer is by the file that stands there.
+pub record StartsSo (who : Who) (result : Result State AgentFault) (old new : Option History)
+    : Type 0 where
+  pub own : Adds old new (Owns (IsBy who))
+  pub acts : StartsAndReads who result old new
+  pub whole : FindsCheckpoint (λ s. s.saved) who result old new
+
+-- the agent was so started, which left this state
 pub record IsStarted (who : Who) (ring : Turns) (rules : Rules) (s : State) (old new : Option History) : Type 0 where
   pub fresh : IsFresh who ring rules s
   pub starts : Adds old new (HasStarted who)
-  pub own : Adds old new (Owns (IsBy who))
+  pub so : StartsSo who (Ok s) old new
 
 -- the answer of the turns as that of the run
 abbrev pub ended_as : Result Ended AgentFault → Result Ended RunFault
@@ -39,7 +48,7 @@ pub data HasRun (who writer : Who) (ring : Turns) (rules : Rules) (work : Work) 
   unread : {old new : Option History} (fault : OutsideFault) → ReadsInitial writer work.initial (Err fault) old new
       → HasRun who writer ring rules work (Err (outside_fault fault)) old new
   unstarted : {old mid new : Option History} (text : List ℕ) (fault : AgentFault)
-      → ReadsInitial writer work.initial (Ok text) old mid → Adds mid new (Owns (IsBy who))
+      → ReadsInitial writer work.initial (Ok text) old mid → StartsSo who (Err fault) mid new
       → HasRun who writer ring rules work (Err (fault_of fault)) old new
   unadded : {s t : State} {old mid next new : Option History} (text : List ℕ) (fault : RunFault)
       → ReadsInitial writer work.initial (Ok text) old mid → IsStarted who ring rules s mid next

@@ -4,11 +4,9 @@ use Rattle.chk_bytes.specs.Words.{parts_at}
 use Rattle.chk_site.specs.declared.acts.Who.{Who}
 use Rattle.chk_site.specs.declared.acts.OutsideFault.{OutsideFault}
 use Rattle.chk_site.specs.History.{History}
-use Rattle.chk_site.specs.Site.{Adds}
-use Rattle.chk_site.specs.Runs.{Owns}
 use Rattle.chk_failover.specs.Turns.{Turns}
 use Rattle.chk_world.specs.Rules.{Legal}
-use Rattle.chk_world.specs.Places.{IsBy, AtTold}
+use Rattle.chk_world.specs.Places.{AtTold}
 use Rattle.chk_agent.specs.declared.agent.Rules.{Rules}
 use Rattle.chk_agent.specs.declared.answers.AgentFault.{AgentFault}
 use Rattle.chk_agent.specs.States.{State}
@@ -18,7 +16,7 @@ use Rattle.chk_agent_run.specs.declared.faults.RunFault.TheVariants.{Checkpoint}
 use Rattle.chk_agent_run.specs.Calls.{Clocked}
 use Rattle.chk_agent_run.specs.Faults.{fault_of, outside_fault}
 use Rattle.chk_agent_run.specs.Initial.{ReadsInitial, AreAdded}
-use Rattle.chk_agent_run.specs.Runs.{IsStarted}
+use Rattle.chk_agent_run.specs.Runs.{IsStarted, StartsSo}
 use Rattle.chk_drain_run.specs.declared.begin.Begun.{Begun}
 
 -- The initial file is read, the agent is started, the time is asked for, and each line of the file
@@ -29,7 +27,7 @@ pub data Begins (who writer : Who) (ring : Turns) (rules : Rules) (initial : Opt
       → ReadsInitial writer initial (Err fault) old new
       → Begins who writer ring rules initial (Err (outside_fault fault)) old new
   unstarted : {old mid new : Option History} (text : List ℕ) (fault : AgentFault)
-      → ReadsInitial writer initial (Ok text) old mid → Adds mid new (Owns (IsBy who))
+      → ReadsInitial writer initial (Ok text) old mid → StartsSo who (Err fault) mid new
       → Begins who writer ring rules initial (Err (fault_of fault)) old new
   untimed : {s : State} {old mid next new : Option History} (text : List ℕ) (fault : AgentFault)
       → ReadsInitial writer initial (Ok text) old mid → IsStarted who ring rules s mid next

@@ -15,7 +15,7 @@ use Rattle.chk_agent_run.specs.Runs.{InRun, RunEnds, unread, unstarted, unadded,
 use Rattle.chk_agent_run.proofs.Carried.{carried_none, carried_by, ends_with}
 use Rattle.chk_agent_run.proofs.Turned.{process_on}
 use Rattle.chk_agent_run.proofs.LineAdded.{word_copied}
-use Rattle.chk_agent_run.proofs.Endings.{start_own, who_started, unread_leads, unstarted_leads, late_ends}
+use Rattle.chk_agent_run.proofs.Endings.{start_so, who_started, unread_leads, unstarted_leads, late_ends}
 use Rattle.chk_agent_run.proofs.RunFaults.{run_last, run_cause, no_checkpoint, none_of, last_of, outside_last, outside_cause, nothing_last}
 use Rattle.chk_agent_run.proofs.run.run_agent.Goals as goal
 
@@ -52,7 +52,8 @@ returns-in_err-agent-clause-ran g c =
     (unstarted c.in_ok-text.text c.in_err-agent.field-0.0
     (subst (λ (o : Option (List ℕ)). ReadsInitial c.args.writer.now o (Ok c.in_ok-text.text) (g.S.Site.told c.args.site.now)
     (g.S.Site.told c.read_initial.new.site)) (word_copied c.as_ref.result _ c.as_ref.ensures.value) c.in_ok-text.ensures.script)
-    (start_own c.args.who.now c.start.result (c.start.ensures.told [])))
+    (start_so c.args.who.now (Err c.in_err-agent.field-0.0) (c.in_err-agent.ensures.told [])
+    c.in_err-agent.ensures.acts c.in_err-agent.ensures.whole))
 
 pub returns-in_err-agent-clause-told : goal.returns-in_err-agent-clause-told
 returns-in_err-agent-clause-told g c stamped =
@@ -85,7 +86,9 @@ returns-in_err-add_lines-clause-ran g c =
     (record {
       fresh = c.in_ok-agent.ensures.fresh;
       starts = c.in_ok-agent.ensures.starts;
-      own = start_own c.args.who.now c.start.result (c.start.ensures.told []);
+      so =
+          start_so c.args.who.now (Ok c.in_ok-agent.agent) (c.in_ok-agent.ensures.told [])
+          c.in_ok-agent.ensures.acts c.in_ok-agent.ensures.whole;
     })
     (subst (λ (b : List ℕ). AreAdded 0 (parts_at 10 b) c.in_ok-agent.agent (Err c.in_err-add_lines.field-0.0) c.add_lines.new.agent
     (g.S.Site.told c.start.new.site) (g.S.Site.told c.add_lines.new.site)) c.as_slice.ensures c.in_err-add_lines.ensures.script))
@@ -122,7 +125,9 @@ returns-in_err-ended-clause-ran g c =
     (record {
       fresh = c.in_ok-agent.ensures.fresh;
       starts = c.in_ok-agent.ensures.starts;
-      own = start_own c.args.who.now c.start.result (c.start.ensures.told []);
+      so =
+          start_so c.args.who.now (Ok c.in_ok-agent.agent) (c.in_ok-agent.ensures.told [])
+          c.in_ok-agent.ensures.acts c.in_ok-agent.ensures.whole;
     })
     (subst (λ (b : List ℕ). AreAdded 0 (parts_at 10 b) c.in_ok-agent.agent (Ok tt) c.add_lines.new.agent
     (g.S.Site.told c.start.new.site) (g.S.Site.told c.add_lines.new.site)) c.as_slice.ensures c.in_ok-add_lines.ensures.script)
@@ -163,7 +168,9 @@ returns-clause-ran g c =
     (record {
       fresh = c.in_ok-agent.ensures.fresh;
       starts = c.in_ok-agent.ensures.starts;
-      own = start_own c.args.who.now c.start.result (c.start.ensures.told []);
+      so =
+          start_so c.args.who.now (Ok c.in_ok-agent.agent) (c.in_ok-agent.ensures.told [])
+          c.in_ok-agent.ensures.acts c.in_ok-agent.ensures.whole;
     })
     (subst (λ (b : List ℕ). AreAdded 0 (parts_at 10 b) c.in_ok-agent.agent (Ok tt) c.add_lines.new.agent
     (g.S.Site.told c.start.new.site) (g.S.Site.told c.add_lines.new.site)) c.as_slice.ensures c.in_ok-add_lines.ensures.script)

@@ -14,7 +14,7 @@ use Rattle.chk_agent_run.specs.Runs.{InRun}
 use Rattle.chk_agent_run.proofs.Carried.{carried_none, carried_by, ends_with}
 use Rattle.chk_agent_run.proofs.Turned.{process_on}
 use Rattle.chk_agent_run.proofs.LineAdded.{word_copied}
-use Rattle.chk_agent_run.proofs.Endings.{start_own, who_started, unread_leads, unstarted_leads, late_ends}
+use Rattle.chk_agent_run.proofs.Endings.{start_so, who_started, unread_leads, unstarted_leads, late_ends}
 use Rattle.chk_agent_run.proofs.RunFaults.{run_last, run_cause, no_checkpoint, none_of, last_of, outside_last, outside_cause, nothing_last}
 use Rattle.chk_drain_run.specs.declared.begin.Begun.{Begun}
 use Rattle.chk_drain_run.specs.Begins.{BeginsWith, unread, unstarted, untimed, unadded, begun}
@@ -75,7 +75,8 @@ returns-in_err-agent-clause-ran g c =
     (g.S.Site.told c.args.site.now)
     (g.S.Site.told c.read_initial.new.site))
     (word_copied c.as_ref.result _ c.as_ref.ensures.value) c.in_ok-text.ensures.script)
-    (start_own c.args.who.now c.start.result (c.start.ensures.told [])))
+    (start_so c.args.who.now (Err c.in_err-agent.field-0.0) (c.in_err-agent.ensures.told [])
+    c.in_err-agent.ensures.acts c.in_err-agent.ensures.whole))
 
 pub returns-in_err-agent-clause-told : goal.returns-in_err-agent-clause-told
 returns-in_err-agent-clause-told g c stamped =
@@ -128,7 +129,9 @@ returns-in_err-now-clause-ran g c =
     (record {
       fresh = c.in_ok-agent.ensures.fresh;
       starts = c.in_ok-agent.ensures.starts;
-      own = start_own c.args.who.now c.start.result (c.start.ensures.told []);
+      so =
+          start_so c.args.who.now (Ok c.in_ok-agent.agent) (c.in_ok-agent.ensures.told [])
+          c.in_ok-agent.ensures.acts c.in_ok-agent.ensures.whole;
     })
     c.in_err-now.ensures.made)
 
@@ -189,7 +192,9 @@ returns-in_err-add_lines-clause-ran g c =
     (record {
       fresh = c.in_ok-agent.ensures.fresh;
       starts = c.in_ok-agent.ensures.starts;
-      own = start_own c.args.who.now c.start.result (c.start.ensures.told []);
+      so =
+          start_so c.args.who.now (Ok c.in_ok-agent.agent) (c.in_ok-agent.ensures.told [])
+          c.in_ok-agent.ensures.acts c.in_ok-agent.ensures.whole;
     })
     c.in_ok-now.ensures.made
     (subst (λ (b : List ℕ). AreAdded 0 (parts_at 10 b) c.in_ok-agent.agent
@@ -254,7 +259,9 @@ returns-clause-ran g c =
     (record {
       fresh = c.in_ok-agent.ensures.fresh;
       starts = c.in_ok-agent.ensures.starts;
-      own = start_own c.args.who.now c.start.result (c.start.ensures.told []);
+      so =
+          start_so c.args.who.now (Ok c.in_ok-agent.agent) (c.in_ok-agent.ensures.told [])
+          c.in_ok-agent.ensures.acts c.in_ok-agent.ensures.whole;
     })
     c.in_ok-now.ensures.made
     (subst (λ (b : List ℕ). AreAdded 0 (parts_at 10 b) c.in_ok-agent.agent
