@@ -9,8 +9,8 @@ of 4,096 bytes in 20 streams that take turns, and of 200 bytes in one stream and
 round (1), the sinks are read once, copied by `cp` to another folder with `sync` of it, and archived. A row
 has MB/s of the chunks' bytes, seconds, processor seconds and the peak of the resident memory. The printed
 lines, the segment and the book have to be those that docs/FORMATS.md asks for, byte for byte, and the
-sinks to be gone: otherwise the script ends with 1. Whether it holds less than 48 MB, besides 64 bytes a
-chunk, is told.
+sinks to be gone: otherwise the script ends with 1. Whether it has half of the speed of `cp`, and holds less than
+64 MB besides 32 bytes a chunk, is told.
 """
 import hashlib
 import os
@@ -27,8 +27,11 @@ from sequence_files import SequenceFile
 SINK = 64 * MIB
 LINE = b"2010-11-08 09:00:00,001 INFO namenode: block %012d was received from a peer\n"
 SHAPES = [(131_072, 1), (4_096, 20), (200, 1), (200, 20)]
-# What the job may hold of each chunk: 32 bytes in a list that doubles where it is full.
-ROW = 64
+# What the job may hold, in bytes: for itself, and of each chunk.
+ITSELF = 64_000_000
+ROW = 32
+# How fast it is to be, as a part of the speed of `cp`, in percent.
+SPEED_GOAL = 50
 
 
 class Scene:
@@ -99,8 +102,8 @@ def measured(asked, chunk, count):
     size = scene.chunks * chunk
     print(row(f"{what}: cp and sync", size, copied))
     print(row(f"{what}: archive", size, used))
-    held = copies.MEMORY_GOAL + ROW * scene.chunks
-    print(copies.share(f"{what}: archive and cp", used, copied, None, most=held), flush=True)
+    held = ITSELF + ROW * scene.chunks
+    print(copies.share(f"{what}: archive and cp", used, copied, SPEED_GOAL, most=held), flush=True)
 
 
 def main():

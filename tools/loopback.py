@@ -10,6 +10,7 @@ within a minute. A full disk wants a tmpfs that can be mounted, a missing permis
 import os
 import shutil
 import signal
+import socket
 import subprocess
 import sys
 import tempfile
@@ -134,6 +135,15 @@ def refused_connection(room):
     room.start("collector", "--rotate", "200", "c1", address(port))
     until("all is committed", 30, lambda: committed(room, "h1", "logs/a.log") == len(log))
     holds("standard error of the agent without a collector", f"chukwa: send {address(port)}: {REFUSED}\n", error)
+
+
+def port_in_use(room):
+    """A collector whose port another program has ends, and makes no sink."""
+    with socket.create_server(("127.0.0.1", 0)) as other:
+        door = address(other.getsockname()[1])
+        said = room.run("collector", "--turns", "1", "c1", door)
+    wanted("the collector", (3, "outside take\n", f"chukwa: take {door}: {TAKEN}\n"), said)
+    wanted("the sinks", ["c1.born"], os.listdir(f"{room.folder}/sinks"))
 
 
 def held_name(room):
@@ -514,7 +524,7 @@ def full_archive(room, store, logs):
 
 
 CASES = [drain_to_sink, agent_to_sink, control_session, killed_collector, killed_then_drained, one_log, odd_logs]
-CASES += [refused_connection, held_name, held_source, stopped_close, folder_for_log, unreadable_log]
+CASES += [refused_connection, port_in_use, held_name, held_source, stopped_close, folder_for_log, unreadable_log]
 CASES += [closed_folder, full_disk]
 
 
