@@ -101,14 +101,17 @@ pub length_late : (T U : Type 0) (fault : RoundFault) {P : History → History �
     (new : Option History) → Adds old mid P → LengthCause {T = U} (Err fault) mid new → LengthCause {T = T} (Err fault) old new
 length_late T U (Length stem got want) new p x = record {
   who = x.who;
+  committed = x.committed;
+  waiting = x.waiting;
   sinks = x.sinks;
-  sinks_then = x.sinks_then;
   agent = x.agent;
+  sinks_then = x.sinks_then;
   agent_then = x.agent_then;
-  below = x.below;
-  is = x.is;
+  behind = x.behind;
   mid = x.mid;
   went = went_then p x.went;
+  all = x.all;
+  polls_on = x.polls_on;
   polls = x.polls;
 }
 length_late T U (Outside call) new p x = tt

@@ -1,5 +1,6 @@
 -- The polls so far, behind a commit.
 use Rattle.std.proofs.Common.{◌≡◌, ◌≢◌, ℕ, ◌≤◌, ◌<◌, List, [], length, Option, Result, Ok, refl, ap, ◌∙◌, arith}
+use Rattle.chk_site.specs.declared.acts.Who.{Who}
 use Rattle.chk_site.specs.History.{History}
 use Rattle.chk_site.specs.Site.{Adds}
 use Rattle.chk_acks.specs.declared.row.Row.{Row}
@@ -11,6 +12,7 @@ use Rattle.chk_agent.specs.States.{State as Agents}
 use Rattle.chk_drain.proofs.Unmarked.{some_asked}
 use Rattle.chk_round.specs.declared.faults.RoundFault.{RoundFault}
 use Rattle.chk_round.specs.Joint.{IsSameAgent, JointTo}
+use Rattle.chk_round.specs.Lengths.{PollsOn}
 use Rattle.chk_round.specs.Sending.{SendsOn}
 use Rattle.chk_round.specs.Calls.{RoundCalls}
 use Rattle.chk_round.proofs.Acts.{acts_none, acts_then}
@@ -85,9 +87,16 @@ may_ask a b wanted same few short sound =
     let room = same.rest.room in
     some_asked b.delivery.table sound (rows_there b.delivery wanted (omega (arith, few, room)) short)
 
-pub record Polling (s : Sinks) (a : Agents) (t : Sinks) (b : Agents) (old now : Option History) (before after : ℕ) : Type 0 where
+pub record Polling (who : Who) (s : Sinks) (a : Agents) (t : Sinks) (b : Agents)
+    (old now : Option History) (before after : ℕ) : Type 0 where
   pub talked : Talked s a t b old now before after
   pub queue : b.delivery.queue ≡ a.delivery.queue
+  pub on : PollsOn who s a t b old now
 
-pub polling_none : (s : Sinks) (a : Agents) (now : Option History) (n : ℕ) → Polling s a s a now now n n
-polling_none s a now n = record { talked = talked_none s a now n; queue = refl }
+pub polling_none : (who : Who) (s : Sinks) (a : Agents) (now : Option History) (n : ℕ)
+    → Polling who s a s a now now n n
+polling_none who s a now n = record {
+  talked = talked_none s a now n;
+  queue = refl;
+  on = PollsOn.begins;
+}

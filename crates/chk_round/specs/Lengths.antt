@@ -1,29 +1,54 @@
 -- When a length below an answered offset ends a round.
-use Rattle.std.specs.Prelude.{◌≡◌, ℕ, Option, Some, Result, Ok, Err}
+use Rattle.std.specs.Prelude.{◌≡◌, ℕ, false, Option, Some, None, Result, Ok, Err}
 use Rattle.chk_bytes.specs.Stems.{Stem}
 use Rattle.chk_site.specs.declared.acts.Who.{Who}
 use Rattle.chk_site.specs.History.{History}
 use Rattle.chk_site.specs.Site.{Adds}
+use Rattle.chk_sink.specs.Closes.{IsMarked}
 use Rattle.chk_sink.specs.States.{State as Sinks}
-use Rattle.chk_delivery.specs.declared.answers.Below.{Below}
 use Rattle.chk_agent.specs.States.{State as Agents}
 use Rattle.chk_exchange.specs.Exchanges.{PollsInside}
 use Rattle.chk_round.specs.declared.faults.RoundFault.{RoundFault}
 use Rattle.chk_round.specs.declared.faults.RoundFault.TheVariants.{Growing, Length, Shrank}
 use Rattle.chk_round.specs.Scripts.{Anything}
 
--- the last one of these exchanges is a poll whose first length below an answered offset is this one
+-- all that the collector holds is committed, and it has left no other sink under writing
+pub record HasCommitted (s : Sinks) : Type 0 where
+  pub marked : IsMarked s.current
+  pub settled : s.abandoned ≡ false
+
+-- polls one after the other, none of which gave a length below an answered offset
+pub data PollsOn (who : Who) (s : Sinks) (a : Agents) : Sinks → Agents → Option History
+    → Option History → Type 0 where
+  begins : {now : Option History} → PollsOn who s a s a now now
+  goes_on : {t u : Sinks} {b c : Agents} {old mid new : Option History}
+      → PollsOn who s a t b old mid → PollsInside who t b (Ok None) u c mid new
+      → PollsOn who s a u c old new
+
+-- one poll, which gave this length below an answered offset, or none
+abbrev pub PolledOnce : Who → Sinks → Agents → Result (Unit {0}) RoundFault → Sinks → Agents
+    → Option History → Option History → Type 0
+PolledOnce who s a (Ok value) t b old new = PollsInside who s a (Ok None) t b old new
+PolledOnce who s a (Err (Length stem got want)) t b old new =
+    PollsInside who s a (Ok (Some (record { stem = stem; got = got; want = want }))) t b old new
+PolledOnce who s a (Err fault) t b old new = Unit {0}
+
+-- The last one of these exchanges is a poll whose first length below an answered offset is this
+-- one. Behind a moment at which the collector had committed all, nothing else came but polls.
 pub record PolledBelow (stem : Stem) (got want : ℕ) (old new : Option History) : Type 0 where
   pub who : Who
+  pub committed : Sinks
+  pub waiting : Agents
   pub sinks : Sinks
-  pub sinks_then : Sinks
   pub agent : Agents
+  pub sinks_then : Sinks
   pub agent_then : Agents
-  pub below : Below
-  pub is : below ≡ record { stem = stem; got = got; want = want }
+  pub behind : Option History
   pub mid : Option History
-  pub went : Adds old mid Anything
-  pub polls : PollsInside who sinks agent (Ok (Some below)) sinks_then agent_then mid new
+  pub went : Adds old behind Anything
+  pub all : HasCommitted committed
+  pub polls_on : PollsOn who committed waiting sinks agent behind mid
+  pub polls : PolledOnce who sinks agent (Err (Length stem got want)) sinks_then agent_then mid new
 
 -- such an end comes of such a poll
 abbrev pub LengthCause : {T : Type 0} → Result T RoundFault → Option History → Option History → Type 0

@@ -8,7 +8,7 @@ ghost use Rattle.chk_sink.specs.States.{IsSameStart, process};
 ghost use Rattle.chk_delivery.specs.Turns.{asked_stems};
 ghost use Rattle.chk_round.specs.Faults.{FailsInside, RoundCause};
 ghost use Rattle.chk_round.specs.Joint.{JointTo};
-ghost use Rattle.chk_round.specs.Lengths.{LengthCause};
+ghost use Rattle.chk_round.specs.Lengths.{HasCommitted, LengthCause, PolledOnce};
 ghost use Rattle.chk_round.specs.Scripts.{IsNoRead};
 ghost use Rattle.chk_round.specs.Polling.{HasFree, PolledAll};
 ghost use Rattle.chk_round.specs.Sending.{SendsOn};
@@ -21,6 +21,37 @@ use chk_delivery::Below;
 use chk_exchange::poll_inside;
 use chk_site::{Site, Who};
 use std::alloc::Global;
+
+/// Where no row is free, the collector commits, and the agent polls until one is.
+pub(crate) fn make_room<S: Site>(
+    alloc: Global,
+    site: &mut S,
+    agent: &mut Agent,
+    collector: &mut Collector,
+    collecting: &Who,
+    now: u64,
+) -> Result<(), RoundFault>
+    requires started { collecting.now ≡ process collector.old }
+    requires named { IsTrue (is_collector collecting.now.name) }
+    requires ready { agent.old.ready ≡ true }
+    requires address { agent.old.delivery.ring.addresses ≡ self_address ∷ [] }
+    ensures joint { JointTo collector.old agent.old collector.new agent.new result (S.told site.old) (S.told site.new) }
+    ensures free { OnOk result (HasFree 1 agent.old agent.new) }
+    ensures sends { OnOk result (SendsOn agent.old agent.new (S.told site.old) (S.told site.new)) }
+    ensures same { IsSameStart collector.old collector.new }
+    ensures length { LengthCause result (S.told site.old) (S.told site.new) }
+    ensures acts { Adds (S.told site.old) (S.told site.new) RoundCalls }
+    ensures last { Adds (S.told site.old) (S.told site.new) (FailsInside result) }
+    ensures only { IfErr result IsNoRead }
+    ensures cause { RoundCause (S.fault_count site.old) (S.fault_count site.new) result }
+{
+    let _most = agent.most_rows();
+    if agent.free_rows() > 0 {
+        Ok(())
+    } else {
+        commit_rows(alloc, site, agent, collector, collecting, now, 1)
+    }
+}
 
 /// The collector commits, and the agent polls until so many rows are free.
 pub(crate) fn commit_rows<S: Site>(
@@ -66,6 +97,7 @@ fn poll_until_free<S: Site>(
     requires ready { agent.old.ready ≡ true }
     requires address { agent.old.delivery.ring.addresses ≡ self_address ∷ [] }
     requires few { wanted ≤ agent.old.delivery.table.room }
+    requires committed { HasCommitted collector.old }
     ensures joint { JointTo collector.old agent.old collector.new agent.new result (S.told site.old) (S.told site.new) }
     ensures free { OnOk result (HasFree wanted agent.old agent.new) }
     ensures sends { OnOk result (SendsOn agent.old agent.new (S.told site.old) (S.told site.new)) }
@@ -99,7 +131,8 @@ fn poll_whole<S: Site>(
     ensures all { OnOk result (PolledAll agent.old agent.new) }
     ensures sends { OnOk result (SendsOn agent.old agent.new (S.told site.old) (S.told site.new)) }
     ensures same { IsSameStart collector.old collector.new }
-    ensures length { LengthCause result (S.told site.old) (S.told site.new) }
+    ensures polls { PolledOnce collecting.now collector.old agent.old result collector.new agent.new
+        (S.told site.old) (S.told site.new) }
     ensures acts { Adds (S.told site.old) (S.told site.new) RoundCalls }
     ensures last { Adds (S.told site.old) (S.told site.new) (FailsInside result) }
     ensures only { IfErr result IsNoRead }

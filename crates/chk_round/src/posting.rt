@@ -1,6 +1,6 @@
 //! The posts of a round.
 
-ghost use Rattle.std.specs.Prelude.{◌≡◌, IfErr, ◌≢◌, ◌≤◌, ◌∷◌, [], IsTrue, OnOk, true};
+ghost use Rattle.std.specs.Prelude.{◌≡◌, IfErr, ◌≢◌, ◌∷◌, [], IsTrue, OnOk, true};
 ghost use Rattle.chk_bytes.specs.Stems.{is_collector};
 ghost use Rattle.chk_site.specs.Messages.{self_address};
 ghost use Rattle.chk_site.specs.Site.{Adds};
@@ -10,12 +10,12 @@ ghost use Rattle.chk_round.specs.Faults.{FailsInside, RoundCause};
 ghost use Rattle.chk_round.specs.Joint.{JointTo};
 ghost use Rattle.chk_round.specs.Lengths.{LengthCause};
 ghost use Rattle.chk_round.specs.Scripts.{IsNoRead};
-ghost use Rattle.chk_round.specs.Polling.{HasFree, PostedAll, PostedSome};
+ghost use Rattle.chk_round.specs.Polling.{PostedAll, PostedSome};
 ghost use Rattle.chk_round.specs.Sending.{SendsOn};
 ghost use Rattle.chk_round.specs.Calls.{RoundCalls};
 
 use crate::faults::RoundFault;
-use crate::polling::commit_rows;
+use crate::polling::make_room;
 use chk_agent::Agent;
 use chk_collector::Collector;
 use chk_exchange::post_inside;
@@ -78,35 +78,4 @@ pub(crate) fn post_next<S: Site>(
     make_room(alloc, site, agent, collector, collecting, now)?;
     post_inside(alloc, site, agent, collector, collecting, now)?;
     Ok(())
-}
-
-// Where no row is free, the collector commits, and the agent polls until one is.
-fn make_room<S: Site>(
-    alloc: Global,
-    site: &mut S,
-    agent: &mut Agent,
-    collector: &mut Collector,
-    collecting: &Who,
-    now: u64,
-) -> Result<(), RoundFault>
-    requires started { collecting.now ≡ process collector.old }
-    requires named { IsTrue (is_collector collecting.now.name) }
-    requires ready { agent.old.ready ≡ true }
-    requires address { agent.old.delivery.ring.addresses ≡ self_address ∷ [] }
-    ensures joint { JointTo collector.old agent.old collector.new agent.new result (S.told site.old) (S.told site.new) }
-    ensures free { OnOk result (HasFree 1 agent.old agent.new) }
-    ensures sends { OnOk result (SendsOn agent.old agent.new (S.told site.old) (S.told site.new)) }
-    ensures same { IsSameStart collector.old collector.new }
-    ensures length { LengthCause result (S.told site.old) (S.told site.new) }
-    ensures acts { Adds (S.told site.old) (S.told site.new) RoundCalls }
-    ensures last { Adds (S.told site.old) (S.told site.new) (FailsInside result) }
-    ensures only { IfErr result IsNoRead }
-    ensures cause { RoundCause (S.fault_count site.old) (S.fault_count site.new) result }
-{
-    let _most = agent.most_rows();
-    if agent.free_rows() > 0 {
-        Ok(())
-    } else {
-        commit_rows(alloc, site, agent, collector, collecting, now, 1)
-    }
 }

@@ -36,8 +36,8 @@ use Rattle.chk_round_run.specs.Telling.{Tells, end_by, print_end, round_prints}
 
 -- What a round of this source says of its steps, which reads these logs under this type. A log
 -- that grows or shrank shows in the reads that the source's agent made, so many of a log at most,
--- and a length below an answered offset in the last poll. Where it is done, each live log was read
--- to its end by fewer than so many reads that gave bytes.
+-- and a length below an answered offset in the last poll behind a commit. Where it is done, each
+-- live log was read to its end by fewer than so many reads that gave bytes.
 pub record IsRound (source kind : List ℕ) (logs : List (List ℕ)) (reads : ℕ)
     (result : Result Rounded RoundFault) (old new : Option History) : Type 0 where
   pub told : (stamped : List (List ℕ)) (started acting : List Who) → IsRunOf source started acting

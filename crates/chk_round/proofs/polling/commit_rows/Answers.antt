@@ -1,7 +1,9 @@
-use Rattle.std.proofs.Common.{[], ap, sym, ◌∙◌, refl, arith}
+use Rattle.std.proofs.Common.{[], ap, sym, subst, ◌∙◌, refl, arith}
 use Rattle.std.proofs.lemmas.Result.{err_from_is_err_and}
 use Rattle.chk_sink.specs.States.{process}
 use Rattle.chk_round.specs.Faults.{of_sinks}
+use Rattle.chk_round.specs.Lengths.{HasCommitted}
+use Rattle.chk_round.proofs.Lengths.{ticked_all}
 use Rattle.chk_round.proofs.Ends.{later_cause, sinks_last}
 use Rattle.chk_round.proofs.Joining.{joint_then, tick_ends, tick_goes}
 use Rattle.chk_round.proofs.Polls.{starts_then}
@@ -26,6 +28,7 @@ poll_until_free-requires g c = record {
   ready = c.requires.ready;
   address = c.requires.address;
   few = c.requires.few;
+  committed = subst HasCommitted (sym c.in_ok-tick.ensures.ok) (ticked_all c.args.now c.args.collector.now);
 }
 
 pub returns-clause-joint : goal.returns-clause-joint

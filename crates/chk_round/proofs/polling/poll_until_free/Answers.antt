@@ -6,13 +6,14 @@ use Rattle.chk_round.specs.Faults.{RoundCause}
 use Rattle.chk_round.proofs.Ends.{late_cause}
 use Rattle.chk_round.proofs.Polls.{may_ask, polling_none, starts_then, talked_ends, talked_more}
 use Rattle.chk_round.proofs.Lasting.{inside_late, went}
-use Rattle.chk_round.proofs.NoRead.{length_late}
+use Rattle.chk_round.specs.Lengths.{PollsOn}
+use Rattle.chk_round.proofs.Lengths.{once_length}
 use Rattle.chk_round.proofs.Acts.{acts_then}
 use Rattle.chk_round.proofs.polling.poll_until_free.Goals as goal
 
 pub polls-init : goal.polls-init
 polls-init g c =
-    polling_none c.args.collector.now c.args.agent.now (g.S.Site.told c.args.site.now) (g.S.Site.fault_count c.args.site.now)
+    polling_none c.args.collecting.now c.args.collector.now c.args.agent.now (g.S.Site.told c.args.site.now) (g.S.Site.fault_count c.args.site.now)
 
 pub poll_whole-requires : goal.poll_whole-requires
 poll_whole-requires g c =
@@ -56,6 +57,7 @@ polls-preserved g c =
           (g.S.Site.fault_count c.poll_whole.new.site) c.in_ok-poll_whole.ensures.joint c.poll_whole.ensures.same all.same
           c.in_ok-poll_whole.ensures.sends c.in_ok-poll_whole.ensures.acts c.in_ok-poll_whole.ensures.cause;
       queue = all.queue ∙ c.polls.invariant.queue;
+      on = PollsOn.goes_on c.polls.invariant.on c.in_ok-poll_whole.ensures.polls;
     }
 
 pub polls-smaller : goal.polls-smaller
@@ -99,7 +101,9 @@ returns-in_err-poll_whole-clause-only g c =
 pub returns-in_err-poll_whole-clause-length : goal.returns-in_err-poll_whole-clause-length
 returns-in_err-poll_whole-clause-length g c =
     let p = err_from_is_err_and c.from_residual.result c.from_residual.ensures.1 in
-    rw (p.1, p.2) (length_late (Unit {0}) (Unit {0}) c.in_err-poll_whole.field-0.0 (g.S.Site.told c.poll_whole.new.site) c.polls.invariant.talked.acts c.in_err-poll_whole.ensures.length)
+    rw (p.1, p.2)
+    (once_length c.requires.committed c.polls.invariant.on c.poll_whole.new.collector c.poll_whole.new.agent
+    (g.S.Site.told c.poll_whole.new.site) c.in_err-poll_whole.field-0.0 c.in_err-poll_whole.ensures.polls)
 
 pub returns-in_err-poll_whole-clause-acts : goal.returns-in_err-poll_whole-clause-acts
 returns-in_err-poll_whole-clause-acts g c = acts_then c.polls.invariant.talked.acts c.in_err-poll_whole.ensures.acts

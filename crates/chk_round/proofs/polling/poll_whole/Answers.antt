@@ -9,8 +9,8 @@ use Rattle.chk_round.proofs.Sent.{poll_sends}
 use Rattle.chk_round.proofs.Spending.{poll_tells}
 use Rattle.chk_round.proofs.Lasting.{exchange_inside, went}
 use Rattle.chk_round.specs.Faults.{of_exchange}
-use Rattle.chk_round.proofs.NoRead.{exchange_no_read, exchange_plain, plain_length}
-use Rattle.chk_round.proofs.Lengths.{below_cause, below_goes, below_inside, below_length, below_no_read}
+use Rattle.chk_round.proofs.NoRead.{exchange_no_read, exchange_plain}
+use Rattle.chk_round.proofs.Lengths.{below_cause, below_goes, below_inside, below_no_read, below_once, plain_once}
 use Rattle.chk_round.proofs.Acts.{poll_acts}
 use Rattle.chk_round.proofs.polling.poll_whole.Goals as goal
 
@@ -71,19 +71,27 @@ returns-in_err-below-clause-only g c =
     let p = err_from_is_err_and c.from_residual.result c.from_residual.ensures.1 in
     rw (p.1, p.2) (exchange_no_read c.in_err-below.field-0.0)
 
-pub returns-in_err-below-clause-length : goal.returns-in_err-below-clause-length
-returns-in_err-below-clause-length g c =
+pub returns-in_err-below-clause-polls : goal.returns-in_err-below-clause-polls
+returns-in_err-below-clause-polls g c =
     let p = err_from_is_err_and c.from_residual.result c.from_residual.ensures.1 in
-    rw (p.1, p.2) (plain_length (Unit {0}) (of_exchange c.in_err-below.field-0.0) (exchange_plain c.in_err-below.field-0.0)
+    rw (p.1, p.2)
+    (plain_once c.args.collecting.now c.args.collector.now c.poll_inside.new.collector
+    c.args.agent.now c.poll_inside.new.agent (of_exchange c.in_err-below.field-0.0)
+    (exchange_plain c.in_err-below.field-0.0)
     (g.S.Site.told c.args.site.now) (g.S.Site.told c.poll_inside.new.site))
 
-pub returns-in-Some-clause-length : goal.returns-in-Some-clause-length
-returns-in-Some-clause-length g c =
-    below_length c.in-Some.below c.too_short.result c.too_short.ensures
-    (g.S.Site.told c.args.site.now) (g.S.Site.told c.poll_inside.new.site)
+pub returns-in-Some-clause-polls : goal.returns-in-Some-clause-polls
+returns-in-Some-clause-polls g c =
+    below_once c.in-Some.below c.too_short.result c.too_short.ensures
     (subst (λ (b : Option Below). PollsInside c.args.collecting.now c.args.collector.now c.args.agent.now (Ok b)
     c.poll_inside.new.collector c.poll_inside.new.agent (g.S.Site.told c.args.site.now) (g.S.Site.told c.poll_inside.new.site))
     c.in-Some.is c.in_ok-below.ensures.script)
+
+pub returns-in-None-clause-polls : goal.returns-in-None-clause-polls
+returns-in-None-clause-polls g c =
+    subst (λ (b : Option Below). PollsInside c.args.collecting.now c.args.collector.now c.args.agent.now (Ok b)
+    c.poll_inside.new.collector c.poll_inside.new.agent (g.S.Site.told c.args.site.now) (g.S.Site.told c.poll_inside.new.site))
+    c.in-None.is c.in_ok-below.ensures.script
 
 pub returns-in_err-below-clause-acts : goal.returns-in_err-below-clause-acts
 returns-in_err-below-clause-acts g c =

@@ -1,7 +1,7 @@
 use Rattle.chk_round.proofs.Sent.{sends_on_none}
 use Rattle.chk_round.proofs.Lasting.{went_none}
 use Rattle.chk_round.proofs.Acts.{acts_none}
-use Rattle.chk_round.proofs.posting.make_room.Goals as goal
+use Rattle.chk_round.proofs.polling.make_room.Goals as goal
 
 pub returns-then-free_rows-gt0-clause-sends : goal.returns-then-free_rows-gt0-clause-sends
 returns-then-free_rows-gt0-clause-sends g c = sends_on_none c.args.agent.now (g.S.Site.told c.args.site.now)
