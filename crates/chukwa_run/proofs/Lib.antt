@@ -17,6 +17,7 @@ pub mod RoundRun
 pub mod CheckName
 pub mod LoadRun
 pub mod Statuses
+pub mod Complete
 pub mod WorksAlive
 pub mod DrainFaults
 pub mod DrainRun

@@ -7,6 +7,7 @@ pub mod Loading
 pub mod Draining
 pub mod Whole
 pub mod Showing
+pub mod Complete
 pub mod Causes
 pub mod Saying
 pub mod Statuses

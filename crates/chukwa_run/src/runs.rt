@@ -7,6 +7,7 @@ ghost use Rattle.chk_site.specs.Runs.{Leads};
 ghost use Rattle.chk_words.specs.Asked.{asked};
 ghost use Rattle.chk_words.specs.Commands.{Asked};
 ghost use Rattle.chukwa_run.specs.Asking.{usage_line};
+ghost use Rattle.chukwa_run.specs.Complete.{Completes};
 ghost use Rattle.chukwa_run.specs.Demuxing.{SuitsTypes};
 ghost use Rattle.chukwa_run.specs.Processes.{RunSide};
 ghost use Rattle.chukwa_run.specs.Runs.{Begins, Ends, Caused, SaysUsage};
@@ -75,6 +76,12 @@ pub fn run<'a, S: Site>(alloc: Global, site: &mut S, words: &'a [&'a str]) -> u8
     ensures unasked { asked (map (λ w. w.now) words.now) ≡ None → Adds (S.told site.old) (S.told site.new)
         (SaysUsage (usage_line (map (λ w. w.now) words.now)) result) }
     ensures outside_cause { result ≡ 3 → Rose (S.fault_count site.old) (S.fault_count site.new) }
+    ensures complete { (stamped : List (List ℕ)) (command : Asked) (earlier : History)
+        → SuitsTypes stamped command
+        → asked (map (λ w. w.now) words.now) ≡ Some command
+        → ¬ Rose (S.fault_count site.old) (S.fault_count site.new)
+        → Adds (S.told site.old) (S.told site.new)
+        (Leads (RunSide stamped command) (Begins stamped earlier) (Completes stamped command result earlier)) }
     ensures refused { asked (map (λ w. w.now) words.now) ≡ None → (result ≡ 2) ⊎ (result ≡ 4) }
     ensures statuses { (command : Asked) → asked (map (λ w. w.now) words.now) ≡ Some command
         → Contains (statuses_of command) result }

@@ -15,6 +15,7 @@ use Rattle.chukwa_run.specs.Processes.{RunSide}
 use Rattle.chukwa_run.specs.Runs.{Begins, Ends, EndsWith, Caused, CausedBy, SaysUsage}
 use Rattle.chukwa_run.specs.Statuses.{statuses_of}
 use Rattle.chukwa_run.proofs.Asking.{of_command, ends_told, ends_caused, unread_told, unread_caused, unread_says, usage_says}
+use Rattle.chukwa_run.proofs.Complete.{calm_status, completes}
 use Rattle.chukwa_run.proofs.Statuses.{its_status, unread_status}
 use Rattle.chukwa_run.proofs.runs.run.Goals as goal
 
@@ -290,3 +291,66 @@ returns-in-Err-NoMemory-clause-statuses g c command is =
 
 pub returns-in-Err-NoMemory-clause-refused : goal.returns-in-Err-NoMemory-clause-refused
 returns-in-Err-NoMemory-clause-refused g c none = inr c.ends-in-Err-NoMemory.ensures.says.0
+
+-- ---- where no fault rose
+
+pub returns-in-Ok-Round-clause-complete : goal.returns-in-Ok-Round-clause-complete
+returns-in-Ok-Round-clause-complete g c stamped command earlier suits is calm =
+    completes stamped command earlier c.ends.result
+    (calm_status c.run_whole_round-done.result c.ends.result _ _ _
+    c.ends.ensures.outside c.run_whole_round-done.ensures.cause c.ends.ensures.count calm)
+    (returns-in-Ok-Round-clause-whole g c stamped command earlier suits is)
+
+pub returns-in-Ok-Agent-clause-complete : goal.returns-in-Ok-Agent-clause-complete
+returns-in-Ok-Agent-clause-complete g c stamped command earlier suits is calm =
+    completes stamped command earlier c.ends-in-Ok-Agent.result
+    (calm_status c.run_agent_of-done.result c.ends-in-Ok-Agent.result _ _ _
+    c.ends-in-Ok-Agent.ensures.outside c.run_agent_of-done.ensures.cause c.ends-in-Ok-Agent.ensures.count calm)
+    (returns-in-Ok-Agent-clause-whole g c stamped command earlier suits is)
+
+pub returns-in-Ok-Collector-clause-complete : goal.returns-in-Ok-Collector-clause-complete
+returns-in-Ok-Collector-clause-complete g c stamped command earlier suits is calm =
+    completes stamped command earlier c.ends-in-Ok-Collector.result
+    (calm_status c.run_collector-done.result c.ends-in-Ok-Collector.result _ _ _
+    c.ends-in-Ok-Collector.ensures.outside c.run_collector-done.ensures.cause c.ends-in-Ok-Collector.ensures.count calm)
+    (returns-in-Ok-Collector-clause-whole g c stamped command earlier suits is)
+
+pub returns-in-Ok-Drain-clause-complete : goal.returns-in-Ok-Drain-clause-complete
+returns-in-Ok-Drain-clause-complete g c stamped command earlier suits is calm =
+    completes stamped command earlier c.ends-in-Ok-Drain.result
+    (calm_status c.run_drain_of-done.result c.ends-in-Ok-Drain.result _ _ _
+    c.ends-in-Ok-Drain.ensures.outside c.run_drain_of-done.ensures.cause c.ends-in-Ok-Drain.ensures.count calm)
+    (returns-in-Ok-Drain-clause-whole g c stamped command earlier suits is)
+
+pub returns-in-Ok-Archive-clause-complete : goal.returns-in-Ok-Archive-clause-complete
+returns-in-Ok-Archive-clause-complete g c stamped command earlier suits is calm =
+    completes stamped command earlier c.ends-in-Ok-Archive.result
+    (calm_status c.run_job-done.result c.ends-in-Ok-Archive.result _ _ _
+    c.ends-in-Ok-Archive.ensures.outside c.run_job-done.ensures.cause c.ends-in-Ok-Archive.ensures.count calm)
+    (returns-in-Ok-Archive-clause-whole g c stamped command earlier suits is)
+
+pub returns-in-Ok-Demux-clause-complete : goal.returns-in-Ok-Demux-clause-complete
+returns-in-Ok-Demux-clause-complete g c stamped command earlier suits is calm =
+    completes stamped command earlier c.ends-in-Ok-Demux.result
+    (calm_status c.run_split-done.result c.ends-in-Ok-Demux.result _ _ _
+    c.ends-in-Ok-Demux.ensures.outside c.run_split-done.ensures.cause c.ends-in-Ok-Demux.ensures.count calm)
+    (returns-in-Ok-Demux-clause-whole g c stamped command earlier suits is)
+
+pub returns-in-Ok-Salvage-clause-complete : goal.returns-in-Ok-Salvage-clause-complete
+returns-in-Ok-Salvage-clause-complete g c stamped command earlier suits is calm =
+    completes stamped command earlier c.ends-in-Ok-Salvage.result
+    (calm_status c.run_salvage-done.result c.ends-in-Ok-Salvage.result _ _ _
+    c.ends-in-Ok-Salvage.ensures.outside c.run_salvage-done.ensures.cause c.ends-in-Ok-Salvage.ensures.count calm)
+    (returns-in-Ok-Salvage-clause-whole g c stamped command earlier suits is)
+
+pub returns-in-Ok-Load-clause-complete : goal.returns-in-Ok-Load-clause-complete
+returns-in-Ok-Load-clause-complete g c stamped command earlier suits is calm =
+    completes stamped command earlier c.ends-in-Ok-Load.result
+    (calm_status c.run_load_of-done.result c.ends-in-Ok-Load.result _ _ _
+    c.ends-in-Ok-Load.ensures.outside c.run_load_of-done.ensures.cause c.ends-in-Ok-Load.ensures.count calm)
+    (returns-in-Ok-Load-clause-whole g c stamped command earlier suits is)
+
+pub returns-in-Err-NoMemory-clause-complete : goal.returns-in-Err-NoMemory-clause-complete
+returns-in-Err-NoMemory-clause-complete g c stamped command earlier suits is calm =
+    completes stamped command earlier c.ends-in-Err-NoMemory.result c.ends-in-Err-NoMemory.ensures.outside
+    (returns-in-Err-NoMemory-clause-whole g c stamped command earlier suits is)
