@@ -13,7 +13,6 @@ use Rattle.chk_site.specs.Runs.{Leads, anyhow}
 use Rattle.chk_site.proofs.Leads.{leads_as}
 use Rattle.chk_site.proofs.Small.{all_small}
 use Rattle.chk_replace.specs.Load.{Has}
-use Rattle.chk_chunk.specs.Keys.{Chunk}
 use Rattle.chk_world.specs.Names.{Folder, ArchiveFolder, DemuxFolder, BookFile, folder_text, spell}
 use Rattle.chk_world.specs.Books.{book_in}
 use Rattle.chk_world.specs.Laws.{IsWholeBook}
@@ -36,6 +35,7 @@ use Rattle.chk_book.specs.Loaded.{LoadedBook, IsNoBookAt, book_result, file_byte
 use Rattle.chk_book.specs.declared.book.Book.{Book as Struct}
 use Rattle.chk_book.proofs.NoDamage.{no_damage}
 use Rattle.chk_parts.proofs.FromKnown.{from_known, reach}
+use Rattle.chk_demux.specs.Demuxed.{Earlier}
 use Rattle.chk_demux.specs.Beginning.{HasRecords, HasStarted, HasBegun, Begins, only_reads}
 use Rattle.chk_demux.specs.Working.{Worked}
 use Rattle.chk_demux.specs.declared.beginning.Books.{Books}
@@ -115,7 +115,7 @@ module _ (stamped : List (List ℕ)) (P : Sight → Type 0) (f : Folder) (text :
       (λ h z. bottom stamped P f r h z)
 
 -- a start that was refused
-pub begin_refused : (stamped : List (List ℕ)) (before : List Chunk) (r : Result (Unit {0}) OutsideFault) (fault : OutsideFault)
+pub begin_refused : (stamped : List (List ℕ)) (before : Earlier) (r : Result (Unit {0}) OutsideFault) (fault : OutsideFault)
     → r ≡ Err fault → {A : History → Type 0} {old new : Option History}
     → Adds old new (Leads (As stamped job) A (HasStarted stamped before r))
     → Adds old new (Leads (As stamped job) A (HasBegun stamped before (Err (job_fault fault))))
@@ -128,7 +128,7 @@ begin_refused stamped before r fault e {A = A} {old = old} {new = new} told =
     go no_memory t = t
 
 -- and a book that wasn't loaded
-pub load_refused : (stamped : List (List ℕ)) (before : List Chunk) (P : Sight → Type 0) (f : Folder) (r : Result Struct JobFault)
+pub load_refused : (stamped : List (List ℕ)) (before : Earlier) (P : Sight → Type 0) (f : Folder) (r : Result Struct JobFault)
     (fault : JobFault) → r ≡ Err fault → {A : History → Type 0} {old new : Option History}
     → Adds old new (Leads (As stamped job) A (HasLoaded stamped P f r))
     → Adds old new (Leads (As stamped job) A (HasBegun stamped before (Err fault)))
@@ -150,7 +150,7 @@ load_done stamped P f r b e told =
     leads_as (λ h k. k) (λ h k. subst (λ (x : Result Struct JobFault). HasLoaded stamped P f x h) e k) told
 
 -- and both
-pub both_loaded : (stamped : List (List ℕ)) (before : List Chunk) (a d : Struct) {A : History → Type 0} {old new : Option History}
+pub both_loaded : (stamped : List (List ℕ)) (before : Earlier) (a d : Struct) {A : History → Type 0} {old new : Option History}
     → Adds old new (Leads (As stamped job) A (AtJob stamped
     (λ v. (HasRecords before v × (own_book v ArchiveFolder ≡ book_view a)) × (own_book v DemuxFolder ≡ book_view d))))
     → Adds old new (Leads (As stamped job) A (HasBegun stamped before (Ok (record { archive = a; demux = d }))))

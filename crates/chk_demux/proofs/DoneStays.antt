@@ -12,7 +12,7 @@ use Rattle.chk_world.specs.Streams.{start_of}
 use Rattle.chk_world.proofs.NameTests.{streams_same}
 use Rattle.chk_world.proofs.Each.{Each, each_at, filter_each, filter_in, first_in}
 use Rattle.chk_world.proofs.BooksTrue.{books_stay_true, has_start_is}
-use Rattle.chk_demux.specs.Demuxed.{all_named, HasKey, DemuxDone}
+use Rattle.chk_demux.specs.Demuxed.{Earlier, all_named, OneMore, HasKey, DemuxDone}
 use Rattle.chk_demux.specs.Writes.{bytes_of}
 use Rattle.chk_demux.specs.declared.report.DemuxReport.{DemuxReport}
 use Rattle.chk_demux.proofs.Prefixes.{split_none}
@@ -60,7 +60,7 @@ module _ (stamped : List (List ℕ)) (h g : History) (legal : Legal stamped h) (
           ∙ sym (ap (λ l. split stamped s (start_of g s) (values l)) none ∙ split_none stamped s (start_of g s)))
       go (inr is) = ap (λ n. split stamped s n (values (Archived s))) is
 
-  pub done_stays : (before : List Chunk) (r : DemuxReport) → DemuxDone stamped before r h → DemuxDone stamped before r g
+  pub done_stays : (before : Earlier) (r : DemuxReport) → DemuxDone stamped before r h → DemuxDone stamped before r g
   done_stays before r d = record {
     all = λ s.
         ap (λ l. map record_in (filter (is_of s) l)) (named_same DemuxFolder)
@@ -69,6 +69,7 @@ module _ (stamped : List (List ℕ)) (h g : History) (legal : Legal stamped h) (
         ∙ ap (λ l. split stamped s (start_of g s) (values (filter (is_of s) l))) (sym (named_same ArchiveFolder))));
     added = d.added;
     are = named_same DemuxFolder ∙ d.are;
+    segments = subst (λ (v : Sight). OneMore before.segments d.added (own_book v DemuxFolder).segments) (sym same) d.segments;
     order = d.order;
     keys = subst (λ l. Each (HasKey l) d.added) (sym (named_same ArchiveFolder)) d.keys;
     taken = d.taken;

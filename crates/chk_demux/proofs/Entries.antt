@@ -35,15 +35,16 @@ use Rattle.chk_demux.proofs.OneSegment.{HasWritten}
 module _ (stamped : List (List ℕ)) (v : Sight) (b : Book) (outs : List Chunk) (free : IsFree v b.next)
     (may : MayEnter stamped v b outs) where
   -- where none were written
-  pub none_entered : (u : Sight) → SoFar v outs None u → Entered v b outs u
+  pub none_entered : (u : Sight) → SoFar v outs None u → Entered v b outs None u
   none_entered u p =
-      subst (Entered v b outs) (sym p.1) (record {
+      subst (Entered v b outs None) (sym p.1) (record {
         archive = refl;
         segments = λ k. refl;
         records =
             ap (λ (x : Book). own_chunks v DemuxFolder x.segments) may.0
             ∙ (sym (append-nil (own_chunks v DemuxFolder b.segments))
             ∙ ap (λ l. own_chunks v DemuxFolder b.segments ++ l) (sym p.0));
+        more = (p.0, ap (λ (x : Book). x.segments) may.0);
       })
 
   -- the old segments have other numbers
@@ -78,8 +79,8 @@ module _ (stamped : List (List ℕ)) (v : Sight) (b : Book) (outs : List Chunk) 
           size = p.holds.size;
         }))
 
-    entered_now : (u : Sight) → IsPublished DemuxFolder w new u → Entered v b outs u
-    entered_now u q =
+    entered_now : (s : Segmenter) (u : Sight) → IsPublished DemuxFolder w new u → Entered v b outs (Some s) u
+    entered_now s u q =
         let there : u.own (SegmentFile DemuxFolder p.segment.number) ≡ Some p.holds.file =
         q.own (SegmentFile DemuxFolder p.segment.number) refl ∙ p.holds.there in
         record {
@@ -95,6 +96,7 @@ module _ (stamped : List (List ℕ)) (v : Sight) (b : Book) (outs : List Chunk) 
               ∙ p.same.own (SegmentFile DemuxFolder g.number) (other g one))))
               (append-nil (chunks_in (u.own (SegmentFile DemuxFolder p.segment.number)))
               ∙ (ap chunks_in there ∙ p.holds.is.are)));
+          more = (p.segment, ap (λ (x : Book). x.segments) (q.book ∙ p.book));
         }
 
   module _ (s : Segmenter) (new : Book) (first : Result (Unit {0}) JobFault) (r : Result (Unit {0}) OutsideFault)
@@ -105,19 +107,19 @@ module _ (stamped : List (List ℕ)) (v : Sight) (b : Book) (outs : List Chunk) 
       (second : (w : Sight) → MayFollow stamped DemuxFolder w new
       → Adds m z (Leads (As stamped job) (Knows stamped w) (Published stamped DemuxFolder w new r))) where
     ended : (r : Result (Unit {0}) OutsideFault) (w : Sight) → HasWritten v b new outs w → (h : History)
-        → Published stamped DemuxFolder w new r h → EndsSo stamped v b.next (λ (value : Unit {0}) u. Entered v b outs u) (job_result r) h
+        → Published stamped DemuxFolder w new r h → EndsSo stamped v b.next (λ (value : Unit {0}) u. Entered v b outs (Some s) u) (job_result r) h
     ended (Ok value) w p h k = record {
       legal = k.legal;
       may_act = k.may_act;
-      alive = λ runs. entered_now new w p (sight h) (k.alive runs);
+      alive = λ runs. entered_now new w p s (sight h) (k.alive runs);
     }
     ended (Err (site_failed call)) w p h k = k
     ended (Err no_memory) w p h k = k
 
     pub entered_so : Adds a z (Leads (As stamped job) (AtJob stamped (IsSoFar v outs s))
-        (EndsSo stamped v b.next (λ value u. Entered v b outs u) (job_result r)))
+        (EndsSo stamped v b.next (λ value u. Entered v b outs (Some s) u) (job_result r)))
     entered_so =
-        let C : History → Type 0 = EndsSo stamped v b.next (λ (value : Unit {0}) u. Entered v b outs u) (job_result r) in
+        let C : History → Type 0 = EndsSo stamped v b.next (λ (value : Unit {0}) u. Entered v b outs (Some s) u) (job_result r) in
         leads_then
         (so_done stamped v b.next (AtJob stamped (IsSoFar v outs s)) (λ value u. HasWritten v b new outs u) first value done finished)
         (from_known stamped ReplacesBook (replaces_no_start (codes "demux")) (quiet_replace (codes "demux")) (HasWritten v b new outs) C own
@@ -126,4 +128,4 @@ module _ (stamped : List (List ℕ)) (v : Sight) (b : Book) (outs : List Chunk) 
         let p = k.alive runs in
         reach_known stamped h (HasWritten v b new outs) C
         (leads_as (λ g j. j) (λ g j. ended r w p g j) (second w (may_follow new w p))) k)
-        (λ h y. ends_bottom stamped v b.next (λ value u. Entered v b outs u) (job_result r) h y))
+        (λ h y. ends_bottom stamped v b.next (λ value u. Entered v b outs (Some s) u) (job_result r) h y))

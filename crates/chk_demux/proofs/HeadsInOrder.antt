@@ -1,5 +1,5 @@
 -- A stream's heads stand together among heads in order, and the rest of them gives it nothing.
-use Rattle.std.proofs.Common.{◌≡◌, inl, inr, ℕ, zero, suc, ◌+◌, ◌-◌, ◌<◌, ◌≤◌, Bool, true, false, ◌&&◌, ◌||◌, List, [], ◌∷◌, ◌++◌, length, take, ap, sym, subst, ◌∙◌, refl, arith, true≢false}
+use Rattle.std.proofs.Common.{◌≡◌, inl, inr, ℕ, zero, suc, ◌+◌, ◌-◌, ◌<◌, ◌≤◌, Bool, true, false, ◌&&◌, ◌||◌, List, [], ◌∷◌, length, take, ap, sym, subst, ◌∙◌, refl, arith, true≢false}
 use Rattle.std.specs.Prelude.{nat_lt, nat_eq}
 use Rattle.std.proofs.lemmas.Bool.{and_left, or_parts, cases_Bool}
 use Rattle.chk_chunk.specs.Keys.{Stream, Chunk, same_stream, stream_lt}
@@ -14,7 +14,7 @@ use Rattle.chk_plan.specs.Passes.{head_in}
 use Rattle.chk_plan.proofs.Bridges.{each_index}
 use Rattle.chk_merge.specs.Courses.{is_head_of}
 use Rattle.chk_parts.specs.Records.{AreRecords}
-use Rattle.chk_demux.specs.Splitting.{ends_past, past_in, RunsSo, StreamsRise, FirstStands, HoldsStream}
+use Rattle.chk_demux.specs.Splitting.{past_in, RunsSo, StreamsRise, FirstStands, HoldsStream}
 use Rattle.chk_demux.proofs.Places.{not_past}
 
 -- ---- the order of heads

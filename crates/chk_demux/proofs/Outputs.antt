@@ -16,7 +16,7 @@ use Rattle.chk_book.specs.declared.segmenter.Segmenter.{Segmenter}
 use Rattle.chk_parts.proofs.FromKnown.{with_fact}
 use Rattle.chk_parts.proofs.OneSegment.{no_write_starts, quiet_write}
 use Rattle.chk_demux.specs.Working.{EndsSo, Worked}
-use Rattle.chk_demux.specs.Writes.{IsSoFar, SoFar, IsOutput, IsForDemux, IsWriter, bytes_of}
+use Rattle.chk_demux.specs.Writes.{IsSoFar, SoFar, IsOutput, IsForDemux, IsWriter, HasSome, bytes_of}
 use Rattle.chk_demux.specs.declared.output.Output.{Output}
 use Rattle.chk_demux.proofs.Ends.{at_as, so_fails, so_done}
 use Rattle.chk_demux.proofs.Works.{works_value, works_end}
@@ -80,6 +80,7 @@ module _ (stamped : List (List ℕ)) (v : Sight) (next : ℕ) (outs : List Chunk
               taken = taken ∙ (ap (λ m. m + length c.value) before.0 ∙ sym (one_more outs c));
               entries = omega (arith, entries, count, size);
               so_far = subst (λ s. SoFar v (outs ++ c ∷ []) s (sight h)) (sym segmenter) (k.alive runs);
+              some = subst (λ s. HasSome s (outs ++ c ∷ [])) (sym segmenter) (omega (arith, size));
             };
       }
       ended (Err fault) taken entries only h k counted =

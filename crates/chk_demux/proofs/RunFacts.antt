@@ -1,5 +1,5 @@
 -- What a demux run supposes of what the job knows, and what its end says, at a legal history.
-use Rattle.std.proofs.Common.{◌≡◌, ℕ, ◌+◌, ◌≤◌, List, [], ◌∷◌, ◌++◌, length, map, ap, ap₂, sym, subst, ◌∙◌, refl, arith}
+use Rattle.std.proofs.Common.{◌≡◌, ℕ, ◌+◌, ◌≤◌, List, [], ◌∷◌, ◌++◌, length, map, Option, Some, None, ap, ap₂, sym, subst, ◌∙◌, refl, arith}
 use Rattle.std.specs.Prelude.{Contains, codes, filter, flat_map}
 use Rattle.chk_site.specs.History.{History, files_after}
 use Rattle.chk_chunk.specs.Keys.{Stream, Chunk, is_of}
@@ -22,12 +22,13 @@ use Rattle.chk_merge.specs.Segments.{names_of}
 use Rattle.chk_parts.specs.Gathering.{AreSound, heads_of}
 use Rattle.chk_parts.specs.Records.{AreRecords}
 use Rattle.chk_book.specs.Segmenting.{with_segment}
-use Rattle.chk_demux.specs.Demuxed.{all_named, NamesStamped, HasKey, DemuxDone}
-use Rattle.chk_demux.specs.Beginning.{own_records}
-use Rattle.chk_demux.specs.Entering.{MayEnter, SameBeside, Entered}
+use Rattle.chk_book.specs.declared.segmenter.Segmenter.{Segmenter}
+use Rattle.chk_demux.specs.Demuxed.{all_named, NamesStamped, OneMore, HasKey, DemuxDone}
+use Rattle.chk_demux.specs.Beginning.{own_earlier}
+use Rattle.chk_demux.specs.Entering.{MayEnter, SameBeside, NamesMore, Entered}
 use Rattle.chk_demux.specs.Running.{IsReady}
 use Rattle.chk_demux.specs.Splitting.{RunsSo, SplitAll, split_from, stream_chunks, all_chunks, all_left}
-use Rattle.chk_demux.specs.Writes.{IsFree, HoldsChunks, bytes_of}
+use Rattle.chk_demux.specs.Writes.{IsFree, HasSome, HoldsChunks, bytes_of}
 use Rattle.chk_demux.specs.declared.report.DemuxReport.{DemuxReport}
 use Rattle.chk_demux.proofs.ChunksInOrder.{runs_in_order, all_run, same_chunks, same_left}
 use Rattle.chk_demux.proofs.NewKeys.{keys_found}
@@ -56,8 +57,9 @@ pub record CanRun (stamped types : List (List ℕ)) (a b : Book) (v : Sight) : T
   pub free : IsFree v b.next
   pub book : own_book v DemuxFolder ≡ b
   pub may : MayEnter stamped v b (News types a b v cs)
-  pub done : (h : History) → Legal stamped h → Entered v b (News types a b v cs) (sight h) → (r : DemuxReport)
-      → Counts types a b v cs r → DemuxDone stamped (own_records v) r h
+  pub done : (h : History) → Legal stamped h → (s : Option Segmenter) → HasSome s (News types a b v cs)
+      → Entered v b (News types a b v cs) s (sight h) → (r : DemuxReport) → Counts types a b v cs r
+      → DemuxDone stamped (own_earlier v) r h
 
 each_flat_in : (P : Chunk → Type 0) (f : End → List Chunk) (es : List End) → ((e : End) → Contains es e → Each P (f e))
     → Each P (flat_map f es)
@@ -69,6 +71,13 @@ each_flat_in P f (e ∷ es) all =
 each_back : (P : Chunk → Type 0) (xs ys : List Chunk) → Each P (xs ++ ys) → Each P ys
 each_back P [] ys all = all
 each_back P (x ∷ xs) ys all = each_back P xs ys all.1
+
+-- the book names one more segment where there are records
+one_more : (s : Option Segmenter) (outs : List Chunk) (b new : Book) → HasSome s outs → NamesMore s b outs new
+    → OneMore b.segments outs new.segments
+one_more None outs b new some m = subst (λ l. OneMore b.segments l new.segments) (sym m.0) m.1
+one_more (Some s) [] b new some m = absurd (let z : ⊥ = omega (arith, some) in z)
+one_more (Some s) (c ∷ outs) b new some m = m
 
 module _ (stamped types : List (List ℕ)) (named : NamesStamped stamped types) (history : History)
     (legal : Legal stamped history) where
@@ -125,11 +134,12 @@ module _ (stamped types : List (List ℕ)) (named : NamesStamped stamped types) 
 
   -- ---- once the segment is entered
 
-  module _ (h : History) (then_legal : Legal stamped h) (entered : Entered V D Outs (sight h)) where
+  module _ (h : History) (then_legal : Legal stamped h) (s : Option Segmenter) (some : HasSome s Outs)
+      (entered : Entered V D Outs s (sight h)) where
     archive_is : all_named (files_after h) ArchiveFolder ≡ Cs
     archive_is = same_archive h then_legal entered.archive entered.segments
 
-    records_are : all_named (files_after h) DemuxFolder ≡ own_records V ++ Outs
+    records_are : all_named (files_after h) DemuxFolder ≡ (own_earlier V).records ++ Outs
     records_are = sym (named_known stamped h then_legal DemuxFolder) ∙ entered.records
 
     records_here : all_named (files_after h) DemuxFolder ≡ Olds ++ Outs
@@ -163,7 +173,7 @@ module _ (stamped types : List (List ℕ)) (named : NamesStamped stamped types) 
         low : (n : ℕ) → n ≤ n
         low n = omega arith
 
-    done_so : (r : DemuxReport) → Counts types A D V Cs r → DemuxDone stamped (own_records V) r h
+    done_so : (r : DemuxReport) → Counts types A D V Cs r → DemuxDone stamped (own_earlier V) r h
     done_so r counts = record {
       all = λ s.
           ap (λ l. map record_in (filter (is_of s) l)) records_here
@@ -171,6 +181,7 @@ module _ (stamped types : List (List ℕ)) (named : NamesStamped stamped types) 
           ∙ ap (λ l. split stamped s (start_of h s) (values (filter (is_of s) l))) (sym archive_is));
       added = Outs;
       are = records_are;
+      segments = one_more s Outs D (own_book (sight h) DemuxFolder) some entered.more;
       order = all_in_order types D Heads Cs A.ends (archive_rises stamped types named history legal Heads);
       keys = subst (λ l. Each (HasKey l) Outs) (sym archive_is)
           (each_flat_in (HasKey Cs) (stream_chunks types D Heads Cs) A.ends each_key);
@@ -194,8 +205,8 @@ module _ (stamped types : List (List ℕ)) (named : NamesStamped stamped types) 
     free = records_free stamped history legal;
     book = refl;
     may = subst (MayEnter stamped V D) (sym same_news) may_enter;
-    done = λ h legal_then entered r counts.
-        done_so h legal_then (subst (λ l. Entered V D l (sight h)) same_news entered) r (record {
+    done = λ h legal_then s some entered r counts.
+        done_so h legal_then s (subst (HasSome s) same_news some) (subst (λ l. Entered V D l s (sight h)) same_news entered) r (record {
           taken = counts.taken ∙ ap bytes_of same_news;
           entries = counts.entries ∙ ap length same_news;
           left = counts.left ∙ same_left types D Heads Cs A.ends (archive_runs stamped history legal D);

@@ -25,11 +25,11 @@ use Rattle.chk_parts.specs.Gathering.{heads_of, AreSound, Found}
 use Rattle.chk_parts.specs.Records.{AreRecords}
 use Rattle.chk_parts.proofs.FromKnown.{from_known, reach, reach_known, with_fact}
 use Rattle.chk_demux.specs.Beginning.{HasBegun, HasBooks, Begins, starts as begins_it, only_reads as begins_reading}
-use Rattle.chk_demux.specs.Demuxed.{Begun, Demuxed, DemuxesBy, starts, only_reads, writes_records, replaces_book, WritesBook, writes_segment, replaces}
+use Rattle.chk_demux.specs.Demuxed.{Earlier, Begun, Demuxed, DemuxesBy, starts, only_reads, writes_records, replaces_book, WritesBook, writes_segment, replaces}
 use Rattle.chk_demux.specs.Running.{IsReady, Ran, RunsOn, goes_reading, goes_writing, goes_replacing}
 use Rattle.chk_demux.specs.Splitting.{all_chunks, all_left, SplitAll, StreamsRise}
 use Rattle.chk_demux.specs.Working.{Worked, Failed, EndsSo}
-use Rattle.chk_demux.specs.Writes.{IsFree, IsOutput, SoFar, bytes_of}
+use Rattle.chk_demux.specs.Writes.{IsFree, IsOutput, SoFar, HasSome, bytes_of}
 use Rattle.chk_demux.specs.Entering.{MayEnter, Entered}
 use Rattle.chk_demux.specs.declared.beginning.Books.{Books}
 use Rattle.chk_demux.specs.declared.output.Output.{Output}
@@ -142,6 +142,7 @@ module _ (stamped types : List (List ℕ)) (a b : Book) (v : Sight) (k : CanRun 
           taken = taken;
           entries = entries;
           so_far = subst (λ s. SoFar v [] s u) (sym segmenter) (refl, p.0);
+          some = subst (λ s. HasSome s []) (sym segmenter) tt;
         }) h z
 
     split_so : Adds old new (Leads (As stamped job) Start (EndsSo stamped v b.next Split q))
@@ -174,12 +175,12 @@ module _ (stamped types : List (List ℕ)) (a b : Book) (v : Sight) (k : CanRun 
         (enters : Adds new last (Worked (WritesBook b.next) r))
         (entered : (outs : List Chunk) → IsFree v b.next → MayEnter stamped v b outs
         → Adds new last (Leads (As stamped job) (AtJob stamped (SoFar v outs n.segmenter))
-        (EndsSo stamped v b.next (λ (t : Unit {0}) u. Entered v b outs u) r))) where
+        (EndsSo stamped v b.next (λ (t : Unit {0}) u. Entered v b outs n.segmenter u) r))) where
       abbrev Counted : Type 0
-      Counted = (n.taken ≡ bytes_of Outs) × (n.entries ≡ length Outs) × (left ≡ all_left types b k.cs a.ends)
+      Counted = HasSome n.segmenter Outs × (n.taken ≡ bytes_of Outs) × (n.entries ≡ length Outs) × (left ≡ all_left types b k.cs a.ends)
 
       abbrev In : Unit {0} → Sight → Type 0
-      In t u = Entered v b Outs u
+      In t u = Entered v b Outs n.segmenter u
 
       entered_so : Adds old last (Leads (As stamped job) Start
           (λ h. EndsSo stamped v b.next In r h × (is_stopped h ≡ false → Counted)))
@@ -187,7 +188,7 @@ module _ (stamped types : List (List ℕ)) (a b : Book) (v : Sight) (k : CanRun 
           leads_then
           (leads_as (λ h z. z)
           (λ h z. at_as stamped (Split left) (λ u. SoFar v Outs n.segmenter u × Counted)
-          (λ u p. (p.0.so_far, (p.0.taken, p.0.entries, p.1))) h z)
+          (λ u p. (p.0.so_far, (p.0.some, p.0.taken, p.0.entries, p.1))) h z)
           (so_done stamped v b.next Start Split q left done split_so))
           (with_fact stamped (WritesBook b.next) (enters_start b.next) (quiet_enter b.next) Counted
           (SoFar v Outs n.segmenter) (EndsSo stamped v b.next In r) (own_of (WritesBook b.next) r enters)
@@ -211,8 +212,8 @@ module _ (stamped types : List (List ℕ)) (a b : Book) (v : Sight) (k : CanRun 
             may_act = at.may_act;
             alive = λ runs.
                 let c = z.1 runs in
-                k.done h at.legal (at.alive runs) report
-                (record { taken = taken_is ∙ c.0; entries = entries_is ∙ c.1; left = left_is ∙ c.2 });
+                k.done h at.legal n.segmenter c.0 (at.alive runs) report
+                (record { taken = taken_is ∙ c.1; entries = entries_is ∙ c.2; left = left_is ∙ c.3 });
           }) entered_so
 
 -- ---- the calls
@@ -269,7 +270,7 @@ quiet_on call (goes_reading c p) = quiet_reads_or_writes [] c (inl p)
 quiet_on call (goes_writing k c p) = quiet_write _ c p
 quiet_on call (goes_replacing c p) = quiet_replace (codes "demux") c p
 
-demuxed_bottom : (stamped : List (List ℕ)) (before : List Chunk) (r : Result DemuxReport JobFault) (h : History)
+demuxed_bottom : (stamped : List (List ℕ)) (before : Earlier) (r : Result DemuxReport JobFault) (h : History)
     → AtJob stamped (λ u. ⊥) h → Demuxed stamped before r h
 demuxed_bottom stamped before (Ok report) h z =
     record { legal = z.legal; may_act = z.may_act; alive = λ runs. absurd (z.alive runs) }
@@ -280,7 +281,7 @@ demuxed_bottom stamped before (Err (Spent n)) h z =
     record { legal = z.legal; may_act = z.may_act; alive = λ runs. absurd (z.alive runs) }
 demuxed_bottom stamped before (Err NoMemory) h z = z.legal
 
-module _ (stamped : List (List ℕ)) (before : List Chunk) (s : Result Books JobFault) {old mid : Option History}
+module _ (stamped : List (List ℕ)) (before : Earlier) (s : Result Books JobFault) {old mid : Option History}
     (first : Adds old mid (Leads (As stamped job) (Begun stamped before) (HasBegun stamped before s))) where
   pub not_begun : IfErr s IsOfRead → (fault : JobFault) → s ≡ Err fault
       → Adds old mid (Leads (As stamped job) (Begun stamped before) (Demuxed stamped before (Err fault)))

@@ -28,8 +28,8 @@ use Rattle.chk_world.proofs.SightStays.{sight_stays}
 use Rattle.chk_world.proofs.OwnFiles.{done_file, refused_file}
 use Rattle.chk_world.proofs.ToldCalls.{owned, told_start}
 use Rattle.chk_heads.specs.Pieces.{AsksInPieces}
-use Rattle.chk_demux.specs.Demuxed.{Begun, all_named}
-use Rattle.chk_demux.specs.Beginning.{own_records, HasRecords, HasStarted, Begins, starts}
+use Rattle.chk_demux.specs.Demuxed.{Earlier, Begun, all_named}
+use Rattle.chk_demux.specs.Beginning.{own_earlier, HasRecords, HasStarted, Begins, starts}
 use Rattle.chk_demux.specs.Working.{Worked, job_result}
 use Rattle.chk_demux.proofs.Works.{worked, as_job}
 
@@ -49,6 +49,9 @@ named_known stamped history legal folder =
     b : Book
     b = book_of (files_after history) folder
 
+abbrev earlier_of : List Chunk → List Segment → Earlier
+earlier_of records segments = record { records = records; segments = segments }
+
 own_same : (f g : Files) (n : Name) → (is_known n ≡ true → file f n ≡ file g n) → own_files f n ≡ own_files g n
 own_same f g n same = go (is_job_file n) (is_known n) same
   where
@@ -58,30 +61,33 @@ own_same f g n same = go (is_job_file n) (is_known n) same
     go true true s = s refl
     go true false s = refl
 
-records_same : (u v : Sight) → ((n : Name) → u.own n ≡ v.own n) → own_records u ≡ own_records v
+records_same : (u v : Sight) → ((n : Name) → u.own n ≡ v.own n) → own_earlier u ≡ own_earlier v
 records_same u v same =
-    ap (λ (b : Book). own_chunks u DemuxFolder b.segments) (ap book_in (same (BookFile DemuxFolder)))
-    ∙ flat_same (λ (g : Segment). chunks_in (u.own (SegmentFile DemuxFolder g.number)))
+    ap (λ (b : Book). earlier_of (own_chunks u DemuxFolder b.segments) b.segments) (ap book_in (same (BookFile DemuxFolder)))
+    ∙ ap (λ l. earlier_of l (own_book v DemuxFolder).segments) (flat_same (λ (g : Segment). chunks_in (u.own (SegmentFile DemuxFolder g.number)))
     (λ (g : Segment). chunks_in (v.own (SegmentFile DemuxFolder g.number))) (own_book v DemuxFolder).segments
-    (λ g one. ap chunks_in (same (SegmentFile DemuxFolder g.number)))
+    (λ g one. ap chunks_in (same (SegmentFile DemuxFolder g.number))))
 
-abbrev Ready : List (List ℕ) → List Chunk → History → Type 0
-Ready stamped before history = Legal stamped history × (own_records (sight history) ≡ before)
+abbrev Ready : List (List ℕ) → Earlier → History → Type 0
+Ready stamped before history = Legal stamped history × (own_earlier (sight history) ≡ before)
 
-ready : (stamped : List (List ℕ)) (before : List Chunk) (h : History) → Begun stamped before h → Ready stamped before h
-ready stamped before h k = (k.0, named_known stamped h k.0 DemuxFolder ∙ k.1)
+ready : (stamped : List (List ℕ)) (before : Earlier) (h : History) → Begun stamped before h → Ready stamped before h
+ready stamped before h k = (
+  k.0,
+  ap (λ l. earlier_of l (own_book (sight h) DemuxFolder).segments) (named_known stamped h k.0 DemuxFolder) ∙ k.1,
+)
 
-module _ (stamped : List (List ℕ)) (all : List Chunk) where
+module _ (stamped : List (List ℕ)) (all : Earlier) where
   keeps : (before : History) (step : Step) → Ready stamped all before
       → (f : Foreign stamped job before step)
       → Ready stamped all (step ∷ before)
   keeps before step h f = (
     (h.0, f.obeys),
-    ap own_records (sight_stays stamped before step h.0 f) ∙ h.1,
+    ap own_earlier (sight_stays stamped before step h.0 f) ∙ h.1,
   )
 
   records_stay : (answer : ActAnswer) → WasDone answer
-      → Shows (Ready stamped all) (λ h. own_records (sight h) ≡ all) StartQ answer
+      → Shows (Ready stamped all) (λ h. own_earlier (sight h) ≡ all) StartQ answer
   records_stay answer was before files logs running honest h =
       records_same (sight (step ∷ before)) (sight before)
       (λ n. own_same files (files_after before) n (λ known. same n known (is_done answer) refl)) ∙ h.1
@@ -101,7 +107,7 @@ module _ (stamped : List (List ℕ)) (all : List Chunk) where
       adds_both (Leads (As stamped job) (Ready stamped all) (AtJob stamped (HasRecords all)))
       (told_start stamped job (λ h. Unit {0}) given refl
       (λ before answer files logs was legal. tt) is told)
-      (done_leads {S = As stamped job} {B = λ h. own_records (sight h) ≡ all} given (owned stamped StartQ refl) is
+      (done_leads {S = As stamped job} {B = λ h. own_earlier (sight h) ≡ all} given (owned stamped StartQ refl) is
       (λ before step theirs f h. keeps before step h f) records_stay told)
       (λ added history x y. record {
         leads = λ others h.

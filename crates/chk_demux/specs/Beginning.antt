@@ -3,7 +3,6 @@ use Rattle.std.specs.Prelude.{◌≡◌, List, ℕ, Result, Ok, Err}
 use Rattle.chk_site.specs.declared.acts.OutsideFault.{OutsideFault}
 use Rattle.chk_site.specs.Acts.{Deed, Starts}
 use Rattle.chk_site.specs.History.{History}
-use Rattle.chk_chunk.specs.Keys.{Chunk}
 use Rattle.chk_world.specs.Names.{ArchiveFolder, DemuxFolder}
 use Rattle.chk_world.specs.Rules.{Legal}
 use Rattle.chk_world.specs.Places.{AtTold}
@@ -12,29 +11,33 @@ use Rattle.chk_world.specs.JobSteps.{ReadsFile}
 use Rattle.chk_book.specs.Books.{book_view}
 use Rattle.chk_heads.specs.declared.fault.JobFault.{JobFault}
 use Rattle.chk_heads.specs.declared.fault.JobFault.TheVariants.{Damaged}
+use Rattle.chk_demux.specs.Demuxed.{Earlier}
 use Rattle.chk_demux.specs.declared.beginning.Books.{Books}
 
--- what the job knows of all records that the book of the folder names
-abbrev pub own_records : Sight → List Chunk
-own_records v = own_chunks v DemuxFolder (own_book v DemuxFolder).segments
+-- what the job knows of the records and of the segments that their book names
+abbrev pub own_earlier : Sight → Earlier
+own_earlier v = record {
+  records = own_chunks v DemuxFolder (own_book v DemuxFolder).segments;
+  segments = (own_book v DemuxFolder).segments;
+}
 
--- these are all demultiplexed records
-abbrev pub HasRecords : List Chunk → Sight → Type 0
-HasRecords before v = own_records v ≡ before
+-- this stands there
+abbrev pub HasRecords : Earlier → Sight → Type 0
+HasRecords before v = own_earlier v ≡ before
 
 -- at Ok the job may act, and the records are those before; else the history is legal
-abbrev pub HasStarted : {T : Type 0} → List (List ℕ) → List Chunk → Result T OutsideFault → History → Type 0
+abbrev pub HasStarted : {T : Type 0} → List (List ℕ) → Earlier → Result T OutsideFault → History → Type 0
 HasStarted stamped before (Ok value) history = AtJob stamped (HasRecords before) history
 HasStarted stamped before (Err fault) history = Legal stamped history
 
 -- the folders have these books, and the records are those before
-pub record HasBooks (before : List Chunk) (b : Books) (v : Sight) : Type 0 where
-  pub records : own_records v ≡ before
+pub record HasBooks (before : Earlier) (b : Books) (v : Sight) : Type 0 where
+  pub records : own_earlier v ≡ before
   pub archive : own_book v ArchiveFolder ≡ book_view b.archive
   pub demux : own_book v DemuxFolder ≡ book_view b.demux
 
 -- at Ok it is so; neither book is ever damaged
-abbrev pub HasBegun : List (List ℕ) → List Chunk → Result Books JobFault → History → Type 0
+abbrev pub HasBegun : List (List ℕ) → Earlier → Result Books JobFault → History → Type 0
 HasBegun stamped before (Ok b) history = AtJob stamped (HasBooks before b) history
 HasBegun stamped before (Err (Damaged name at)) history = AtTold stamped job (λ h. ⊥) history
 HasBegun stamped before (Err fault) history = Legal stamped history

@@ -6,7 +6,7 @@ use Rattle.chk_site.specs.Files.{Files}
 use Rattle.chk_site.specs.History.{History, files_after}
 use Rattle.chk_chunk.specs.Keys.{Stream, Chunk, chunk_begin, chunk_end, stream_lt}
 use Rattle.chk_world.specs.Names.{Folder, ArchiveFolder, DemuxFolder}
-use Rattle.chk_world.specs.Books.{book_of, chunks_named}
+use Rattle.chk_world.specs.Books.{Segment, book_of, chunks_named}
 use Rattle.chk_world.specs.Streams.{start_of}
 use Rattle.chk_world.specs.Committed.{archive_of_stream}
 use Rattle.chk_world.specs.Splits.{split, demuxed_records}
@@ -31,9 +31,22 @@ NamesStamped stamped names = (kind : List ℕ) → list_any (bytes_eq kind) stam
 abbrev pub all_named : Files → Folder → List Chunk
 all_named files folder = chunks_named files folder (book_of files folder)
 
--- before the call the history is legal, and these are all demultiplexed records
-abbrev pub Begun : List (List ℕ) → List Chunk → History → Type 0
-Begun stamped before history = Legal stamped history × (all_named (files_after history) DemuxFolder ≡ before)
+-- what stands before a run: all demultiplexed records, and the segments that their book names
+pub record Earlier : Type 0 where
+  pub records : List Chunk
+  pub segments : List Segment
+
+abbrev pub earlier_in : Files → Earlier
+earlier_in files = record { records = all_named files DemuxFolder; segments = (book_of files DemuxFolder).segments }
+
+-- before the call the history is legal, and this stands there
+abbrev pub Begun : List (List ℕ) → Earlier → History → Type 0
+Begun stamped before history = Legal stamped history × (earlier_in (files_after history) ≡ before)
+
+-- the segments are the old ones, and one more where records were added
+abbrev pub OneMore : List Segment → List Chunk → List Segment → Type 0
+OneMore old [] new = new ≡ old
+OneMore old (c ∷ added) new = (g : Segment) × (new ≡ old ++ g ∷ [])
 
 -- the archived record holds the first byte of the other one, which has its stream, start and cluster
 pub record IsKeyFrom (archived new : Chunk) : Type 0 where
@@ -53,12 +66,13 @@ InStreamOrder [] = Unit {0}
 InStreamOrder (c ∷ cs) = Each (λ d. stream_lt d.key.stream c.key.stream ≡ false) cs × InStreamOrder cs
 
 -- The records of each stream are the split of its archive. The new ones stand behind those before, stream by stream, each with its
--- key; the report counts their bytes and them, and the archived bytes that are of no record.
-pub record DemuxDone (stamped : List (List ℕ)) (before : List Chunk) (r : DemuxReport) (history : History) : Type 0 where
+-- key, and are one segment; the report counts their bytes and them, and the archived bytes that are of no record.
+pub record DemuxDone (stamped : List (List ℕ)) (before : Earlier) (r : DemuxReport) (history : History) : Type 0 where
   pub all : (s : Stream) → demuxed_records (files_after history) s
       ≡ split stamped s (start_of history s) (archive_of_stream (files_after history) s)
   pub added : List Chunk
-  pub are : all_named (files_after history) DemuxFolder ≡ before ++ added
+  pub are : all_named (files_after history) DemuxFolder ≡ before.records ++ added
+  pub segments : OneMore before.segments added (book_of (files_after history) DemuxFolder).segments
   pub order : InStreamOrder added
   pub keys : Each (HasKey (all_named (files_after history) ArchiveFolder)) added
   pub taken : r.taken ≡ bytes_of added
@@ -69,7 +83,7 @@ pub record DemuxDone (stamped : List (List ℕ)) (before : List Chunk) (r : Demu
 -- At Ok the split is done. Nothing of the program's own is ever damaged. The numbers are spent only where the next segment's is the
 -- last one. After any other refusal the history is legal; the start may be what was refused, so that it isn't said that the job may
 -- act.
-abbrev pub Demuxed : List (List ℕ) → List Chunk → Result DemuxReport JobFault → History → Type 0
+abbrev pub Demuxed : List (List ℕ) → Earlier → Result DemuxReport JobFault → History → Type 0
 Demuxed stamped before (Ok r) history = AtTold stamped job (DemuxDone stamped before r) history
 Demuxed stamped before (Err (Damaged name at)) history = AtTold stamped job (λ h. ⊥) history
 Demuxed stamped before (Err (Spent n)) history =

@@ -1,5 +1,5 @@
 -- What it is to enter the new records' segment.
-use Rattle.std.specs.Prelude.{◌≡◌, ℕ, IsFalse, List, ◌++◌}
+use Rattle.std.specs.Prelude.{◌≡◌, ℕ, IsFalse, List, [], ◌∷◌, ◌++◌, Option, Some, None}
 use Rattle.chk_site.specs.History.{History}
 use Rattle.chk_chunk.specs.Keys.{Chunk}
 use Rattle.chk_world.specs.Names.{ArchiveFolder, DemuxFolder, Name, SegmentFile}
@@ -10,6 +10,7 @@ use Rattle.chk_world.specs.Sight.{Sight, sight, own_book, own_chunks}
 use Rattle.chk_world.proofs.NameTests.{same_name}
 use Rattle.chk_world.proofs.Publishing.{is_of_book}
 use Rattle.chk_book.specs.Segmenting.{with_segment}
+use Rattle.chk_book.specs.declared.segmenter.Segmenter.{Segmenter}
 use Rattle.chk_demux.specs.Writes.{HoldsChunks}
 
 -- the job's own files are the same, but for the segment of records of this number and how their book is spelled
@@ -25,8 +26,14 @@ MayEnter stamped v b outs =
     → own_book (sight history) DemuxFolder ≡ b → SameBeside b.next v (sight history)
     → HoldsChunks (sight history) g outs → NewBook stamped DemuxFolder history (with_segment b g outs))
 
+-- the book names the old one's segments, and one more where one was written; else there are no records
+abbrev pub NamesMore : Option Segmenter → Book → List Chunk → Book → Type 0
+NamesMore None b outs new = (outs ≡ []) × (new.segments ≡ b.segments)
+NamesMore (Some s) b outs new = (g : Segment) × (new.segments ≡ b.segments ++ g ∷ [])
+
 -- the archive is as it was, and these records stand behind those of the old book
-pub record Entered (v : Sight) (b : Book) (outs : List Chunk) (u : Sight) : Type 0 where
+pub record Entered (v : Sight) (b : Book) (outs : List Chunk) (s : Option Segmenter) (u : Sight) : Type 0 where
   pub archive : own_book u ArchiveFolder ≡ own_book v ArchiveFolder
   pub segments : (k : ℕ) → u.own (SegmentFile ArchiveFolder k) ≡ v.own (SegmentFile ArchiveFolder k)
   pub records : own_chunks u DemuxFolder (own_book u DemuxFolder).segments ≡ own_chunks v DemuxFolder b.segments ++ outs
+  pub more : NamesMore s b outs (own_book u DemuxFolder)

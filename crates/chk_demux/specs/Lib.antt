@@ -7,3 +7,4 @@ pub mod Giving
 pub mod Splitting
 pub mod Entering
 pub mod Running
+pub mod Laws

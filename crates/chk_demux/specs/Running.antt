@@ -10,7 +10,7 @@ use Rattle.chk_world.specs.JobSteps.{ReadsFile, WritesTo}
 use Rattle.chk_book.specs.Folders.{segment_name}
 use Rattle.chk_heads.specs.declared.fault.JobFault.{JobFault}
 use Rattle.chk_demux.specs.Demuxed.{Demuxed, ReplacesBook}
-use Rattle.chk_demux.specs.Beginning.{own_records}
+use Rattle.chk_demux.specs.Beginning.{own_earlier}
 use Rattle.chk_demux.specs.declared.report.DemuxReport.{DemuxReport}
 
 -- in a legal history the job knows this, and the folders have these books
@@ -23,7 +23,7 @@ pub record IsReady (stamped : List (List ℕ)) (archive demux : Book) (v : Sight
 
 -- from the records that the job knew on
 abbrev pub Ran : List (List ℕ) → Sight → Result DemuxReport JobFault → History → Type 0
-Ran stamped v r history = Demuxed stamped (own_records v) r history
+Ran stamped v r history = Demuxed stamped (own_earlier v) r history
 
 -- the calls behind the start
 pub data RunsOn : Deed → Type 0 where

@@ -1,6 +1,6 @@
 -- What the writing of one segment of records leaves.
 use Rattle.std.specs.List.{list_any}
-use Rattle.std.specs.Prelude.{◌≡◌, ℕ, nat_eq, IsTrue, IsFalse, List, [], codes, length, sum_by, Option, Some, None}
+use Rattle.std.specs.Prelude.{◌≡◌, ℕ, ◌<◌, nat_eq, IsTrue, IsFalse, List, [], codes, length, sum_by, Option, Some, None}
 use Rattle.chk_bytes.specs.Stems.{Stem, is_count}
 use Rattle.chk_site.specs.Files.{File}
 use Rattle.chk_chunk.specs.Keys.{Chunk, record_limit}
@@ -66,8 +66,14 @@ SoFar v chunks (Some s) u = IsSoFar v chunks s u
 abbrev pub bytes_of : List Chunk → ℕ
 bytes_of chunks = sum_by (λ (c : Chunk). length c.value) chunks
 
+-- where there is a segment, there are records
+abbrev pub HasSome : Option Segmenter → List Chunk → Type 0
+HasSome None chunks = Unit {0}
+HasSome (Some s) chunks = 0 < length chunks
+
 -- so far these records are written, and counted
 pub record IsOutput (v : Sight) (chunks : List Chunk) (o : Output) (u : Sight) : Type 0 where
   pub taken : o.taken ≡ bytes_of chunks
   pub entries : o.entries ≡ length chunks
   pub so_far : SoFar v chunks o.segmenter u
+  pub some : HasSome o.segmenter chunks

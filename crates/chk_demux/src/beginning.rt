@@ -3,11 +3,10 @@
 ghost use Rattle.std.specs.Prelude.{◌≡◌, ℕ, List, IfErr};
 ghost use Rattle.chk_site.specs.Site.{Adds, OutsideCause};
 ghost use Rattle.chk_site.specs.Runs.{Leads};
-ghost use Rattle.chk_chunk.specs.Keys.{Chunk};
 ghost use Rattle.chk_world.specs.Places.{As};
 ghost use Rattle.chk_world.specs.Sight.{job};
 ghost use Rattle.chk_heads.specs.Faults.{JobCause, IsOfRead};
-ghost use Rattle.chk_demux.specs.Demuxed.{Begun};
+ghost use Rattle.chk_demux.specs.Demuxed.{Earlier, Begun};
 ghost use Rattle.chk_demux.specs.Working.{Worked, job_result};
 ghost use Rattle.chk_demux.specs.Beginning.{Begins, HasStarted, HasBegun};
 
@@ -26,7 +25,7 @@ pub(crate) struct Books {
 /// Starts the job, and loads the book of the archive and that of the records. It costs one call and the reads of the books.
 pub(crate) fn begin<S: Site>(alloc: Global, site: &mut S, who: &Who) -> Result<Books, JobFault>
     requires { who.now ≡ job }
-    ensures told { (stamped : List (List ℕ)) (before : List Chunk) → Adds (S.told site.old) (S.told site.new)
+    ensures told { (stamped : List (List ℕ)) (before : Earlier) → Adds (S.told site.old) (S.told site.new)
         (Leads (As stamped job) (Begun stamped before) (HasBegun stamped before result)) }
     ensures works { Adds (S.told site.old) (S.told site.new) (Worked Begins result) }
     ensures only { IfErr result IsOfRead }
@@ -41,7 +40,7 @@ pub(crate) fn begin<S: Site>(alloc: Global, site: &mut S, who: &Who) -> Result<B
 /// The job acts from here on.
 fn start<S: Site>(alloc: Global, site: &mut S, who: &Who) -> Result<(), OutsideFault>
     requires { who.now ≡ job }
-    ensures told { (stamped : List (List ℕ)) (before : List Chunk) → Adds (S.told site.old) (S.told site.new)
+    ensures told { (stamped : List (List ℕ)) (before : Earlier) → Adds (S.told site.old) (S.told site.new)
         (Leads (As stamped job) (Begun stamped before) (HasStarted stamped before result)) }
     ensures works { Adds (S.told site.old) (S.told site.new) (Worked Begins (job_result result)) }
     ensures cause { OutsideCause (S.fault_count site.old) (S.fault_count site.new) result }

@@ -32,9 +32,9 @@ use std::alloc::Global;
 pub(crate) fn is_of(end: &End, head: &HeadRef<'_>) -> bool
     ensures { result ≡ is_head_of (end_view end.now).stream (lent_head head.now) }
 {
-    end.source.as_str() == head.key.source
+    end.name.as_str() == head.key.name
+        && end.source.as_str() == head.key.source
         && end.kind.as_str() == head.key.kind
-        && end.name.as_str() == head.key.name
 }
 
 /// The head is of the end's stream and begins at the offset `at` or below it.

@@ -4,11 +4,13 @@
 mod beginning;
 mod blocks;
 mod giving;
+mod laws;
 mod output;
 mod publishing;
 mod report;
 mod run;
 mod splitting;
 
+pub use laws::records_are_the_split;
 pub use report::DemuxReport;
 pub use run::demux;

@@ -1,6 +1,6 @@
 //! The new records' segment is finished, and the book that names it is published.
 
-ghost use Rattle.std.specs.Prelude.{◌≡◌, ℕ, List};
+ghost use Rattle.std.specs.Prelude.{◌≡◌, ℕ, List, Some};
 ghost use Rattle.chk_chunk.specs.Keys.{Chunk};
 ghost use Rattle.chk_site.specs.Site.{Adds};
 ghost use Rattle.chk_site.specs.Runs.{Leads};
@@ -33,7 +33,7 @@ pub(crate) fn enter<S: Site>(
     ensures told { (stamped : List (List ℕ)) (v : Sight) (outs : List Chunk) → IsFree v (book_view book.old).next
         → MayEnter stamped v (book_view book.old) outs → Adds (S.told site.old) (S.told site.new)
         (Leads (As stamped job) (AtJob stamped (SoFar v outs segmenter))
-        (EndsSo stamped v (book_view book.old).next (λ t u. Entered v (book_view book.old) outs u) result)) }
+        (EndsSo stamped v (book_view book.old).next (λ t u. Entered v (book_view book.old) outs segmenter u) result)) }
     ensures works { Adds (S.told site.old) (S.told site.new) (Worked (WritesBook (book_view book.old).next) result) }
     ensures cause { JobCause (S.fault_count site.old) (S.fault_count site.new) result }
 {
@@ -56,7 +56,7 @@ fn enter_segment<S: Site>(
     ensures told { (stamped : List (List ℕ)) (v : Sight) (outs : List Chunk) → IsFree v (book_view book.old).next
         → MayEnter stamped v (book_view book.old) outs → Adds (S.told site.old) (S.told site.new)
         (Leads (As stamped job) (AtJob stamped (IsSoFar v outs segmenter))
-        (EndsSo stamped v (book_view book.old).next (λ t u. Entered v (book_view book.old) outs u) result)) }
+        (EndsSo stamped v (book_view book.old).next (λ t u. Entered v (book_view book.old) outs (Some segmenter) u) result)) }
     ensures works { Adds (S.told site.old) (S.told site.new) (Worked (WritesBook (book_view book.old).next) result) }
     ensures cause { JobCause (S.fault_count site.old) (S.fault_count site.new) result }
 {

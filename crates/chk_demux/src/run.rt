@@ -4,7 +4,6 @@ ghost use Rattle.std.specs.Prelude.{◌≡◌, ℕ, List, IfOk, codes};
 ghost use Rattle.chk_site.specs.History.{Every};
 ghost use Rattle.chk_site.specs.Site.{Adds};
 ghost use Rattle.chk_site.specs.Runs.{Leads};
-ghost use Rattle.chk_chunk.specs.Keys.{Chunk};
 ghost use Rattle.chk_world.specs.Places.{As};
 ghost use Rattle.chk_world.specs.Sight.{job, Sight, AtJob};
 ghost use Rattle.chk_world.specs.JobSteps.{IsOf};
@@ -13,7 +12,7 @@ ghost use Rattle.chk_heads.specs.Pieces.{AsksInPieces};
 ghost use Rattle.chk_book.specs.Books.{book_view};
 ghost use Rattle.chk_book.specs.Folders.{segment_name};
 ghost use Rattle.chk_merge.specs.Segments.{names_of};
-ghost use Rattle.chk_demux.specs.Demuxed.{Begun, Demuxed, DemuxesBy, NamesStamped};
+ghost use Rattle.chk_demux.specs.Demuxed.{Earlier, Begun, Demuxed, DemuxesBy, NamesStamped};
 ghost use Rattle.chk_demux.specs.Working.{Worked};
 ghost use Rattle.chk_demux.specs.Running.{IsReady, Ran, RunsOn};
 
@@ -112,7 +111,7 @@ pub fn demux<S: Site>(
     types: &[Word],
 ) -> Result<DemuxReport, JobFault>
     requires { who.now ≡ job }
-    ensures told { (stamped : List (List ℕ)) (before : List Chunk) → NamesStamped stamped types.now
+    ensures told { (stamped : List (List ℕ)) (before : Earlier) → NamesStamped stamped types.now
         → Adds (S.told site.old) (S.told site.new)
         (Leads (As stamped job) (Begun stamped before) (Demuxed stamped before result)) }
     ensures own { Adds (S.told site.old) (S.told site.new) (Every (IsOf DemuxesBy)) }

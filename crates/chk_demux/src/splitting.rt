@@ -54,7 +54,7 @@ fn split_from(end: &End, book: &Book) -> u64
 fn ends_past(end: &End, from: u64, head: &HeadRef<'_>) -> bool
     ensures { result ≡ ends_past (end_view end.now) from (lent_head head.now) }
 {
-    is_of(end, head) && head.key.seq > from
+    head.key.seq > from && is_of(end, head)
 }
 
 /// What of a record's bytes stands from the offset `from` on, of which the first one has the offset `begin`.

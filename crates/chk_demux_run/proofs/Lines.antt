@@ -1,7 +1,6 @@
 -- The line of a report is a single line, and no report of an archive run.
 use Rattle.std.proofs.Common.{◌≡◌, ℕ, false, List, [], ◌∷◌, ◌<◌, refl}
 use Rattle.std.specs.Prelude.{IsTrue, decimal, ◌^◌, codes}
-use Rattle.std.specs.List.{list_all}
 use Rattle.std.proofs.lemmas.Bool.{and_from}
 use Rattle.chk_bytes.specs.Words.{lacks, joined_at}
 use Rattle.chk_world.specs.ArchiveRuns.{is_one_line, is_report}

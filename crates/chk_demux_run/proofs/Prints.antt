@@ -1,5 +1,5 @@
 -- The rules allow the job to print the line of its report, and the run stays done.
-use Rattle.std.proofs.Common.{◌≡◌, ℕ, Bool, true, false, List, [], ◌∷◌, Option, Ok, Err, Result, MatchBool, ◌&&◌, None, if◌then◌else◌, ap, sym, subst, ◌∙◌, refl}
+use Rattle.std.proofs.Common.{◌≡◌, ℕ, Bool, false, List, [], ◌∷◌, Option, Ok, Err, Result, MatchBool, ◌&&◌, None, if◌then◌else◌, ap, sym, subst, refl}
 use Rattle.std.specs.Prelude.{IsTrue}
 use Rattle.chk_site.specs.declared.acts.OutsideFault.{OutsideFault}
 use Rattle.chk_site.specs.declared.acts.Call.TheVariants.{Say}
@@ -15,7 +15,6 @@ use Rattle.chk_site.specs.Runs.{Leads}
 use Rattle.chk_site.proofs.Stays.{unnamed_stays}
 use Rattle.chk_site.proofs.Leads.{leads_as, leads_then, leads_none}
 use Rattle.chk_bytes.specs.Stems.{Stem}
-use Rattle.chk_chunk.specs.Keys.{Chunk}
 use Rattle.chk_world.specs.Names.{Name, DoneFile, spell, is_known}
 use Rattle.chk_world.specs.ArchiveRuns.{last_listing, is_one_line, is_report}
 use Rattle.chk_world.specs.Jobs.{TrueReport, ReportIsTrue}
@@ -25,7 +24,7 @@ use Rattle.chk_world.specs.Sight.{sight, job, is_job_file, own_files, listed_sin
 use Rattle.chk_world.proofs.PlacesStay.{Stays}
 use Rattle.chk_world.proofs.SightStays.{sight_stays}
 use Rattle.chk_world.proofs.ToldCalls.{MayCall, told_ok, told_ends}
-use Rattle.chk_demux.specs.Demuxed.{DemuxDone}
+use Rattle.chk_demux.specs.Demuxed.{Earlier, DemuxDone}
 use Rattle.chk_demux.specs.declared.report.DemuxReport.{DemuxReport}
 use Rattle.chk_demux.proofs.DoneStays.{done_stays}
 use Rattle.chk_prints.specs.Printing.{PrintsInTurn, all_printed, unprinted, printed_on, ended, printing}
@@ -36,11 +35,11 @@ AllOthers [] = Unit {0}
 AllOthers (line ∷ lines) = (is_report line ≡ false) × AllOthers lines
 
 -- by the result of the prints: the run is done still, or the history is legal
-abbrev pub StaysDone : List (List ℕ) → List Chunk → DemuxReport → Result (Unit {0}) OutsideFault → History → Type 0
+abbrev pub StaysDone : List (List ℕ) → Earlier → DemuxReport → Result (Unit {0}) OutsideFault → History → Type 0
 StaysDone stamped before r (Ok value) history = AtTold stamped job (DemuxDone stamped before r) history
 StaysDone stamped before r (Err fault) history = Legal stamped history
 
-module _ (stamped : List (List ℕ)) (before : List Chunk) (r : DemuxReport) where
+module _ (stamped : List (List ℕ)) (before : Earlier) (r : DemuxReport) where
   abbrev Done : History → Type 0
   Done = DemuxDone stamped before r
 

@@ -1,5 +1,5 @@
 -- What a demux run prints, and what it does besides.
-use Rattle.std.specs.Prelude.{◌≡◌, ℕ, false, List, [], ◌∷◌, ◌++◌, Result, Ok, Err}
+use Rattle.std.specs.Prelude.{◌≡◌, ◌⊎◌, ℕ, false, List, [], ◌∷◌, ◌++◌, Result, Ok, Err}
 use Rattle.chk_site.specs.Acts.{Deed, Says}
 use Rattle.chk_site.specs.History.{History, is_stopped}
 use Rattle.chk_site.specs.Runs.{own_acts}
@@ -14,10 +14,12 @@ use Rattle.chk_demux.specs.declared.report.DemuxReport.{DemuxReport}
 abbrev pub run_line : DemuxReport → List ℕ
 run_line r = demux_line r.taken r.entries r.left
 
--- a run that is done has printed just the line of its report, as the job
+-- A run that is done has printed just the line of its report, as the job. One that isn't has printed nothing, or the line of one
+-- report.
 abbrev pub IsTold : Result DemuxReport JobFault → History → History → Type 0
 IsTold (Ok r) added history = printed (own_acts added) ≡ by job (run_line r) ∷ []
-IsTold (Err fault) added history = Unit {0}
+IsTold (Err fault) added history =
+    (printed (own_acts added) ≡ []) ⊎ ((r : DemuxReport) × (printed (own_acts added) ≡ by job (run_line r) ∷ []))
 
 -- the calls: those of a demux run, and prints
 pub data DemuxesAndTells : Deed → Type 0 where

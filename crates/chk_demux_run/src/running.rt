@@ -4,12 +4,11 @@ ghost use Rattle.std.specs.Prelude.{◌≡◌, ℕ, List};
 ghost use Rattle.chk_site.specs.History.{Every};
 ghost use Rattle.chk_site.specs.Site.{Adds};
 ghost use Rattle.chk_site.specs.Runs.{Leads};
-ghost use Rattle.chk_chunk.specs.Keys.{Chunk};
 ghost use Rattle.chk_world.specs.Places.{As};
 ghost use Rattle.chk_world.specs.Sight.{job};
 ghost use Rattle.chk_world.specs.JobSteps.{IsOf};
 ghost use Rattle.chk_heads.specs.Faults.{JobCause, FailsLast};
-ghost use Rattle.chk_demux.specs.Demuxed.{Begun, Demuxed, NamesStamped};
+ghost use Rattle.chk_demux.specs.Demuxed.{Earlier, Begun, Demuxed, NamesStamped};
 ghost use Rattle.chk_demux_run.specs.Telling.{DemuxesAndTells, IsTold, EndsRunning};
 
 use crate::telling::tell;
@@ -28,7 +27,7 @@ pub fn run_demux<S: Site>(
     types: &[Word],
 ) -> Result<DemuxReport, JobFault>
     requires { who.now ≡ job }
-    ensures told { (stamped : List (List ℕ)) (before : List Chunk) → NamesStamped stamped types.now
+    ensures told { (stamped : List (List ℕ)) (before : Earlier) → NamesStamped stamped types.now
         → Adds (S.told site.old) (S.told site.new)
         (Leads (As stamped job) (Begun stamped before) (Demuxed stamped before result)) }
     ensures own { Adds (S.told site.old) (S.told site.new) (Every (IsOf DemuxesAndTells)) }

@@ -5,8 +5,6 @@ use Rattle.chk_site.specs.History.{History, Every, is_stopped, files_after}
 use Rattle.chk_site.specs.Site.{Adds}
 use Rattle.chk_site.specs.Runs.{Leads, own_acts}
 use Rattle.chk_site.proofs.Runs.{adds_as, adds_both}
-use Rattle.chk_chunk.specs.Keys.{Chunk}
-use Rattle.chk_world.specs.Names.{DemuxFolder}
 use Rattle.chk_world.specs.Rules.{Legal}
 use Rattle.chk_world.specs.Places.{As, IsBy}
 use Rattle.chk_world.specs.Sight.{job}
@@ -16,7 +14,7 @@ use Rattle.chk_world.proofs.Beside.{others_foreign, owns_as, by_one}
 use Rattle.chk_heads.specs.declared.fault.JobFault.{JobFault}
 use Rattle.chk_heads.specs.declared.fault.JobFault.TheVariants as Jobs
 use Rattle.chk_heads.specs.Faults.{FailsLast}
-use Rattle.chk_demux.specs.Demuxed.{all_named, NamesStamped, Begun, Demuxed, DemuxDone}
+use Rattle.chk_demux.specs.Demuxed.{Earlier, earlier_in, NamesStamped, Begun, Demuxed, DemuxDone}
 use Rattle.chk_demux.specs.declared.report.DemuxReport.{DemuxReport}
 use Rattle.chk_demux_run.specs.Telling.{DemuxesAndTells, IsTold, EndsRunning}
 use Rattle.chk_words.specs.declared.endings.Ending.{Ending}
@@ -46,7 +44,7 @@ ending (Err fault) = Err (job_ending fault)
 
 -- what the library says of the run, between these told histories
 pub record IsRun (kinds : List (List ℕ)) (result : Result DemuxReport JobFault) (old new : Option History) : Type 0 where
-  pub told : (stamped : List (List ℕ)) (before : List Chunk) → NamesStamped stamped kinds
+  pub told : (stamped : List (List ℕ)) (before : Earlier) → NamesStamped stamped kinds
       → Adds old new (Leads (As stamped job) (Begun stamped before) (Demuxed stamped before result))
   pub own : Adds old new (Every (IsOfKind DemuxesAndTells))
   pub prints : Adds old new (IsTold result)
@@ -87,7 +85,7 @@ module _ (kinds : List (List ℕ)) where
     stopped = λ stop. absurd (true≢false (sym stop ∙ at.runs));
   }
   came (Err fault) added history at = record {
-    running = λ r. (at.acts, fault_so fault added history at.last r);
+    running = λ r. (at.acts, fault_so fault added history at.last r, at.prints);
     stopped = λ stop. tt;
   }
 
@@ -97,14 +95,14 @@ module _ (kinds : List (List ℕ)) where
 
   -- ---- from a legal history
 
-  fits_so : (stamped : List (List ℕ)) (before : List Chunk) (fault : JobFault) (h : History) → Demuxed stamped before (Err fault) h
+  fits_so : (stamped : List (List ℕ)) (before : Earlier) (fault : JobFault) (h : History) → Demuxed stamped before (Err fault) h
       → is_stopped h ≡ false → DemuxFits h (job_ending fault)
   fits_so stamped before (Jobs.Outside call) h c running = tt
   fits_so stamped before (Jobs.Damaged name at) h c running = c.alive running
   fits_so stamped before (Jobs.Spent number) h c running = c.alive running
   fits_so stamped before Jobs.NoMemory h c running = tt
 
-  legal_so : (stamped : List (List ℕ)) (before : List Chunk) (result : Result DemuxReport JobFault) (h : History)
+  legal_so : (stamped : List (List ℕ)) (before : Earlier) (result : Result DemuxReport JobFault) (h : History)
       → Demuxed stamped before result h → Legal stamped h
   legal_so stamped before (Ok report) h c = c.legal
   legal_so stamped before (Err (Jobs.Outside call)) h c = c
@@ -112,20 +110,20 @@ module _ (kinds : List (List ℕ)) where
   legal_so stamped before (Err (Jobs.Spent number)) h c = c.legal
   legal_so stamped before (Err Jobs.NoMemory) h c = c
 
-  came_legally : (stamped : List (List ℕ)) (before : List Chunk) (result : Result DemuxReport JobFault) (added history : History)
-      → before ≡ all_named (files_after history) DemuxFolder → IsAt result added history
+  came_legally : (stamped : List (List ℕ)) (before : Earlier) (result : Result DemuxReport JobFault) (added history : History)
+      → before ≡ earlier_in (files_after history) → IsAt result added history
       → Demuxed stamped before result (added ++ history)
       → CameTo (Whole stamped This history) (Shows This history) (ending result) added history
   came_legally stamped before (Ok report) added history is at c = record {
     running = λ r. record {
       report = report;
       acts = record { each = at.acts; printed_is = at.prints };
-      done = subst (λ (l : List Chunk). DemuxDone stamped l report (added ++ history)) is (c.alive r);
+      done = subst (λ (l : Earlier). DemuxDone stamped l report (added ++ history)) is (c.alive r);
     };
     stopped = λ stop. absurd (true≢false (sym stop ∙ at.runs));
   }
   came_legally stamped before (Err fault) added history is at c = record {
-    running = λ r. ((at.acts, fault_so fault added history at.last r), fits_so stamped before fault (added ++ history) c r);
+    running = λ r. ((at.acts, fault_so fault added history at.last r, at.prints), fits_so stamped before fault (added ++ history) c r);
     stopped = λ stop. tt;
   }
 
@@ -139,14 +137,14 @@ module _ (kinds : List (List ℕ)) where
       → {old new : Option History} → IsRun kinds result old new
       → Adds old new (Leads (RunSide stamped This) (Begins stamped earlier) (EndsWith stamped This (ending result) earlier))
   told stamped earlier named result s =
-      let before : List Chunk = all_named (files_after earlier) DemuxFolder in
+      let before : Earlier = earlier_in (files_after earlier) in
       adds_both (Leads (RunSide stamped This) (Begins stamped earlier) (EndsWith stamped This (ending result) earlier))
       (at_end result s) (s.told stamped before named)
       (λ added history at y. record {
         leads =
             λ others begins.
-            let is : all_named (files_after history) DemuxFolder ≡ before =
-            ap (λ (h : History). all_named (files_after h) DemuxFolder) begins.is in
+            let is : earlier_in (files_after history) ≡ before =
+            ap (λ (h : History). earlier_in (files_after h)) begins.is in
             let c = y.leads (others_foreign stamped (job ∷ []) job the_job added history others) (begins.legal, is) in
             record {
               legal = legal_so stamped before result (added ++ history) c;

@@ -1,5 +1,5 @@
 -- A command that did nothing for want of memory.
-use Rattle.std.proofs.Common.{ℕ, List, [], Err, Option, refl}
+use Rattle.std.proofs.Common.{inl, ℕ, List, [], Err, Option, refl}
 use Rattle.chk_site.specs.History.{History}
 use Rattle.chk_site.specs.Site.{Adds}
 use Rattle.chk_site.specs.Runs.{Leads}
@@ -17,7 +17,7 @@ shows_nothing (Agent w) earlier = (tt, tt)
 shows_nothing (Collector w) earlier = (tt, tt)
 shows_nothing (Drain w) earlier = (tt, tt)
 shows_nothing Archive earlier = ((tt, tt), tt)
-shows_nothing (Demux kinds) earlier = ((tt, tt), tt)
+shows_nothing (Demux kinds) earlier = ((tt, tt, inl refl), tt)
 shows_nothing (Salvage file) earlier = tt
 shows_nothing (Load lines) earlier = (record { own = tt; unprinted = refl; fault = tt }, tt)
 
@@ -27,7 +27,7 @@ is_nothing (Agent w) earlier = tt
 is_nothing (Collector w) earlier = tt
 is_nothing (Drain w) earlier = tt
 is_nothing Archive earlier = (tt, tt)
-is_nothing (Demux kinds) earlier = (tt, tt)
+is_nothing (Demux kinds) earlier = (tt, tt, inl refl)
 is_nothing (Salvage file) earlier = (tt, tt)
 is_nothing (Load lines) earlier = record { own = tt; unprinted = refl; fault = tt }
 

@@ -1,5 +1,5 @@
 -- What a demux run did, and what its end shows.
-use Rattle.std.specs.Prelude.{◌≡◌, ℕ, ◌-◌, ◌^◌, List, [], ◌∷◌, ◌++◌}
+use Rattle.std.specs.Prelude.{◌≡◌, ◌⊎◌, ℕ, ◌-◌, ◌^◌, List, [], ◌∷◌, ◌++◌}
 use Rattle.chk_site.specs.declared.acts.Act.{Act}
 use Rattle.chk_site.specs.Acts.{deed}
 use Rattle.chk_site.specs.History.{History, files_after}
@@ -7,7 +7,7 @@ use Rattle.chk_site.specs.Runs.{own_acts}
 use Rattle.chk_world.specs.Books.{book_of}
 use Rattle.chk_world.specs.Names.{DemuxFolder}
 use Rattle.chk_world.specs.Sight.{job}
-use Rattle.chk_demux.specs.Demuxed.{all_named, NamesStamped, DemuxDone}
+use Rattle.chk_demux.specs.Demuxed.{earlier_in, NamesStamped, DemuxDone}
 use Rattle.chk_demux.specs.declared.report.DemuxReport.{DemuxReport}
 use Rattle.chk_prints.specs.Printing.{by, printed}
 use Rattle.chk_demux_run.specs.Telling.{DemuxesAndTells, run_line}
@@ -25,16 +25,20 @@ abbrev pub AreDemuxActs : List Act → Type 0
 AreDemuxActs [] = Unit {0}
 AreDemuxActs (act ∷ acts) = (act.who ≡ job) × DemuxesAndTells (deed act) × AreDemuxActs acts
 
+-- nothing was printed, or the line of one report
+abbrev pub DemuxedAtMost : List Act → Type 0
+DemuxedAtMost acts = (printed acts ≡ []) ⊎ ((r : DemuxReport) × (printed acts ≡ by job (run_line r) ∷ []))
+
 -- just the line of this report was printed
 pub record DemuxedOnce (report : DemuxReport) (acts : List Act) : Type 0 where
   pub each : AreDemuxActs acts
   pub printed_is : printed acts ≡ by job (run_line report) ∷ []
 
--- and the report is that of the run, which began with the records that stood there before
+-- and the report is that of the run, which began with the records and the segments that stood there before
 pub record DemuxWhole (stamped : List (List ℕ)) (earlier added : History) : Type 0 where
   pub report : DemuxReport
   pub acts : DemuxedOnce report (own_acts added)
-  pub done : DemuxDone stamped (all_named (files_after earlier) DemuxFolder) report (added ++ earlier)
+  pub done : DemuxDone stamped (earlier_in (files_after earlier)) report (added ++ earlier)
 
 -- In a legal history nothing of its own is damaged, and the segment numbers are spent only where the next one is the last.
 abbrev pub DemuxFits : History → Ending → Type 0

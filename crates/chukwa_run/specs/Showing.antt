@@ -24,7 +24,7 @@ use Rattle.chk_drain_run.specs.declared.faults.DrainFault.TheVariants as drains
 use Rattle.chk_words.specs.Commands.{AgentAsked, CollectorAsked, DrainAsked}
 use Rattle.chukwa_salvage.specs.Printing.{bytes_or_none, said}
 use Rattle.chk_words.specs.Commands.{Asked, Round, Agent, Collector, Drain, Archive, Demux, Salvage, Load}
-use Rattle.chukwa_run.specs.Demuxing.{AreDemuxActs, DemuxFits}
+use Rattle.chukwa_run.specs.Demuxing.{AreDemuxActs, DemuxedAtMost, DemuxFits}
 use Rattle.chukwa_run.specs.Loading.{LoadCut, LoadFits}
 use Rattle.chukwa_run.specs.RoundRuns.{RoundCut, RoundFits}
 use Rattle.chukwa_run.specs.Processes.{the_collector}
@@ -156,9 +156,9 @@ ArchiveFits history e = Unit {0}
 
 -- ---- a demux run
 
--- it made only calls of a demux run and of its print
+-- it made only calls of a demux run and of its print, and printed at most one line
 abbrev pub DemuxCut : Ending → History → Type 0
-DemuxCut e added = AreDemuxActs (own_acts added) × ArchiveFault e added
+DemuxCut e added = AreDemuxActs (own_acts added) × ArchiveFault e added × DemuxedAtMost (own_acts added)
 
 -- ---- a salvage
 

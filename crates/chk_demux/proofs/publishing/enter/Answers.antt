@@ -19,16 +19,16 @@ returns-in-Some-clause-told g c stamped v outs free may =
     let b = book_view c.args.book.now in
     subst (λ o. Adds (g.S.Site.told c.args.site.now) (g.S.Site.told c.enter_segment.new.site)
     (Leads (As stamped job) (AtJob stamped (SoFar v outs o))
-    (EndsSo stamped v b.next (λ (t : Unit {0}) u. Entered v b outs u) c.enter_segment.result))) (sym c.in-Some.is)
+    (EndsSo stamped v b.next (λ (t : Unit {0}) u. Entered v b outs o u) c.enter_segment.result))) (sym c.in-Some.is)
     (c.enter_segment.ensures.told stamped v outs free may)
 
 pub returns-in-None-clause-told : goal.returns-in-None-clause-told
 returns-in-None-clause-told g c stamped v outs free may =
     let b = book_view c.args.book.now in
     let now = g.S.Site.told c.args.site.now in
-    subst (λ o. Adds now now (Leads (As stamped job) (AtJob stamped (SoFar v outs o)) (AtJob stamped (λ u. Entered v b outs u))))
+    subst (λ o. Adds now now (Leads (As stamped job) (AtJob stamped (SoFar v outs o)) (AtJob stamped (λ u. Entered v b outs o u))))
     (sym c.in-None.is)
-    (leads_none now (λ h k. at_as stamped (SoFar v outs None) (λ u. Entered v b outs u)
+    (leads_none now (λ h k. at_as stamped (SoFar v outs None) (λ u. Entered v b outs None u)
     (λ u p. none_entered stamped v b outs free may u p) h k))
 
 pub returns-in-None-clause-works : goal.returns-in-None-clause-works

@@ -1,13 +1,13 @@
-use Rattle.std.proofs.Common.{Ok, Err, refl}
+use Rattle.std.proofs.Common.{inl, Ok, Err, refl}
 use Rattle.std.proofs.lemmas.Result.{err_from_is_err_and}
 use Rattle.chk_site.proofs.Runs.{adds_as}
-use Rattle.chk_heads.specs.Faults.{FailsLast}
+use Rattle.chk_heads.specs.Faults.{FailsLast, job_fault}
 use Rattle.chk_demux.specs.Demuxed.{DemuxesBy}
 use Rattle.chk_demux.specs.declared.report.DemuxReport.{DemuxReport}
 use Rattle.chk_parts.proofs.StepKinds.{as_kind}
-use Rattle.chk_demux_run.specs.Telling.{DemuxesAndTells}
-use Rattle.chk_demux_run.proofs.CallKinds.{of_demux}
-use Rattle.chk_demux_run.proofs.Told.{told_done, told_fails, own_both, prints_both, runs_both, last_both}
+use Rattle.chk_demux_run.specs.Telling.{DemuxesAndTells, IsTold}
+use Rattle.chk_demux_run.proofs.CallKinds.{demux_silent, of_demux}
+use Rattle.chk_demux_run.proofs.Told.{told_done, told_fails, own_both, prints_both, prints_none, runs_both, last_both}
 use Rattle.chk_demux_run.proofs.running.run_demux.Goals as goal
 
 pub returns-in_err-report-clause-told : goal.returns-in_err-report-clause-told
@@ -31,12 +31,17 @@ returns-in_err-tell-clause-own g c =
     own_both c.in_ok-report.report (Err c.in_err-tell.field-0.0) c.demux.ensures.own c.args.who.now c.requires
     c.in_err-tell.ensures.told
 
+pub returns-in_err-report-clause-prints : goal.returns-in_err-report-clause-prints
+returns-in_err-report-clause-prints g c =
+    let q = err_from_is_err_and c.from_residual.result c.from_residual.ensures.1 in
+    rw (q.1, q.2) (adds_as (IsTold (Err c.in_err-report.field-0.0)) (demux_silent c.demux.ensures.own) (λ added history none. inl none))
+
 pub returns-in_err-tell-clause-prints : goal.returns-in_err-tell-clause-prints
 returns-in_err-tell-clause-prints g c =
     let q = err_from_is_err_and c.from_residual-in_err-tell.result c.from_residual-in_err-tell.ensures.1 in
     rw (q.1, q.2)
-    (adds_as (λ added history. Unit {0}) (own_both c.in_ok-report.report (Err c.in_err-tell.field-0.0) c.demux.ensures.own c.args.who.now c.requires
-    c.in_err-tell.ensures.told) (λ added history k. tt))
+    (prints_none c.in_ok-report.report (Err c.in_err-tell.field-0.0) c.demux.ensures.own c.args.who.now c.requires
+    c.in_err-tell.ensures.told (job_fault c.in_err-tell.field-0.0))
 
 pub returns-in_err-tell-clause-runs : goal.returns-in_err-tell-clause-runs
 returns-in_err-tell-clause-runs g c =
