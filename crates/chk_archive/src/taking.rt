@@ -1,6 +1,6 @@
 //! What an archive run takes and sets aside, once the sinks are listed.
 
-ghost use Rattle.std.specs.Prelude.{◌≡◌, ◌==◌, ◌||◌, not, [], ℕ, List, length, IfOk};
+ghost use Rattle.std.specs.Prelude.{◌≡◌, ◌==◌, ◌||◌, not, false, [], ℕ, List, length, IsTrue, IfOk};
 ghost use Rattle.chk_site.specs.History.{Every};
 ghost use Rattle.chk_site.specs.Site.{Adds, LastFailed, OutsideCause};
 ghost use Rattle.chk_site.specs.Runs.{Leads};
@@ -238,6 +238,8 @@ fn keep_aside<S: Site>(
         → Adds (S.told site.old) (S.told site.new)
         (Leads (As stamped job) (AtJob stamped (λ u. u ≡ v)) (AsideKept stamped v (book_view book.old) (book_view book.new)
         (cut_chunks cs kept.now) result)) }
+    ensures stays { IsTrue (stays_aside (book_view book.old) heads.now old kept.now)
+        → (result ≡ Ok false) × (book_view book.new ≡ book_view book.old) × (S.told site.new ≡ S.told site.old) }
     ensures own { Adds (S.told site.old) (S.told site.new) (Every (IsOf MergesBy)) }
     ensures pieces { Adds (S.told site.old) (S.told site.new) (Every AsksInPieces) }
     ensures last { Adds (S.told site.old) (S.told site.new) (FailsLast result) }

@@ -1,4 +1,4 @@
-use Rattle.std.proofs.Common.{◌∙◌, ap, sym, subst, true, false, None}
+use Rattle.std.proofs.Common.{◌∙◌, ap, sym, subst, true, false, true≢false, None}
 use Rattle.std.specs.Prelude.{codes}
 use Rattle.std.proofs.lemmas.Result.{err_from_is_err_and}
 use Rattle.chk_site.proofs.Leads.{leads_none, leads_as}
@@ -64,3 +64,12 @@ pub returns-clause-own : goal.returns-clause-own
 returns-clause-own g c =
     let n = (book_view c.args.book.now).next in
     as_kind (ReadsOrWrites (segment_name (codes "archive") n)) MergesBy (of_merge n) c.add_segment.ensures.own
+
+pub returns-then-is_empty-clause-stays : goal.returns-then-is_empty-clause-stays
+returns-then-is_empty-clause-stays g c = λ yes. absurd (true≢false (sym yes ∙ (sym c.stays.ensures ∙ c.if-stays.false)))
+
+pub returns-in_err-add_segment-clause-stays : goal.returns-in_err-add_segment-clause-stays
+returns-in_err-add_segment-clause-stays g c = λ yes. absurd (true≢false (sym yes ∙ (sym c.stays.ensures ∙ c.if-stays.false)))
+
+pub returns-clause-stays : goal.returns-clause-stays
+returns-clause-stays g c = λ yes. absurd (true≢false (sym yes ∙ (sym c.stays.ensures ∙ c.if-stays.false)))

@@ -25,6 +25,16 @@ use Rattle.chk_parts.proofs.Published.{replaces_no_reads}
 use Rattle.chk_archive.proofs.TakenIn.{all_args, can_args, prepare_fails, publish_fails, published_all, of_replace}
 use Rattle.chk_archive.proofs.taking.take_found.Goals as goal
 
+pub returns-in_err-sort-clause-told : goal.returns-in_err-sort-clause-told
+returns-in_err-sort-clause-told g c stamped v names at files_are heads_are =
+    let q = err_from_is_err_and c.from_residual.result c.from_residual.ensures.1 in
+    rw (q.1, q.2) (leads_none (g.S.Site.told c.args.site.now) (λ h k. k.legal))
+
+pub returns-in_err-planned-clause-told : goal.returns-in_err-planned-clause-told
+returns-in_err-planned-clause-told g c stamped v names at files_are heads_are =
+    let q = err_from_is_err_and c.from_residual-in_err-planned.result c.from_residual-in_err-planned.ensures.1 in
+    rw (q.1, q.2) (leads_none (g.S.Site.told c.args.site.now) (λ h k. k.legal))
+
 pub returns-in_err-kept-clause-told : goal.returns-in_err-kept-clause-told
 returns-in_err-kept-clause-told g c stamped v names at files_are heads_are =
     let q = err_from_is_err_and c.from_residual-in_err-kept.result c.from_residual-in_err-kept.ensures.1 in
