@@ -112,6 +112,11 @@ fn rotated_by_lines(rt: HostRuntime) -> Result<(), Fail> {
 }
 
 #[test]
+fn not_rotated(rt: HostRuntime) -> Result<(), Fail> {
+    reads_all(rt.alloc(), "all 0 0 -", false, false)
+}
+
+#[test]
 fn not_rotated_by_lines(rt: HostRuntime) -> Result<(), Fail> {
     reads_all(rt.alloc(), "all-lines 0 0 -", true, false)
 }
