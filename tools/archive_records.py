@@ -62,7 +62,7 @@ def book(following, segments, ends, aside=None):
 
 
 def markers():
-    stems = ["c1.1.1", "c1.1.2", "c1.2.1", "c2.1.1", "c3.1.1", "seg.1", "seg.2"]
+    stems = ["c1.1.1", "c1.1.2", "c1.2.1", "c2.1.1", "c3.1.1", "seg.1", "seg.2", "seg.17"]
     return [(stem.upper().replace(".", "_"), hashlib.md5(stem.encode()).digest()) for stem in stems]
 
 
@@ -81,6 +81,7 @@ def records():
         ("WEST", record(106, b"ef", ("h2", "Log", "/a.log"), 100, "west")),
         ("APP", record(3, b"xyz", ("h1", "App", "/b.log"))),
         ("EARLY", record(2, b"zz", ("a0", "Log", "/z.log"))),
+        ("FIFTEEN", b"".join(record(2 * line, b"a\n") for line in range(1, 16))),
     ] + day
 
 

@@ -5,3 +5,5 @@
 mod each_call;
 #[cfg(test)]
 mod programs;
+#[cfg(test)]
+mod turns;

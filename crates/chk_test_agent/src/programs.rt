@@ -198,6 +198,8 @@ settle 0 => reset 0 written
 check => chukwa-checkpoint 1|add adaptor_1 = FileTailingAdaptor Log /a.log 12 6 .2010-11-08|
 delete /a.log .2010-11-08
 fill => ends
+start 16 1048576 none c1:80 => started 1
+ends 0 => at 12 12
 rotate /a.log .2010-11-09
 rotate /a.log .2010-11-10
 fill => ends
@@ -486,6 +488,13 @@ const MANY: &str = "\
 start 16 1048576 none c1:80 => started 10000
 add plain Log /1.log => live 0
 add plain Log /new.log => too many
+command add LWFTAdaptor Log /new.log 0 => BAD 11 TooMany| go
+fill => ends
+grow /5000.log hello|
+fill => read 6
+turn 0 => done
+ends 4999 => at 6 0
+ends 5000 => at 0 0
 command stop adaptor_10000 => OK adaptor adaptor_10000 stopped| go
 state 9999 => past
 add plain Log /10000.log => new 9999

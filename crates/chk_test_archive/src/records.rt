@@ -19,6 +19,8 @@ const SEG_1: &[u8] = b"\xe2\x1a\x9d\xaa\xd9xFH\xc0n\xfdgV1\xa9\x1a";
 
 const SEG_2: &[u8] = b"x\x90\x19\xc6\xc6\xcc\xcd\x9b\x16\xf0\x11\xd8\xa65\xeet";
 
+const SEG_17: &[u8] = b"\xff\x0d+\x94\xd29\n\x91\x1b\xa9\xeb\xb0-\x07\x9e(";
+
 // Records of chunks.
 const HELLO: &[u8] =
     b"\0\0\0(\0\0\0\x1e\0\0\0\x1a\x01\0\0\0\0\0\0\0\x06\0\x02h1\0\x03Log\0\x06/a.log\0\0\0\x06hello\n";
@@ -52,6 +54,9 @@ const APP: &[u8] =
 
 const EARLY: &[u8] =
     b"\0\0\0$\0\0\0\x1e\0\0\0\x1a\x01\0\0\0\0\0\0\0\x02\0\x02a0\0\x03Log\0\x06/z.log\0\0\0\x02zz";
+
+const FIFTEEN: &[u8] =
+    b"\0\0\0$\0\0\0\x1e\0\0\0\x1a\x01\0\0\0\0\0\0\0\x02\0\x02h1\0\x03Log\0\x06/a.log\0\0\0\x02a\n\0\0\0$\0\0\0\x1e\0\0\0\x1a\x01\0\0\0\0\0\0\0\x04\0\x02h1\0\x03Log\0\x06/a.log\0\0\0\x02a\n\0\0\0$\0\0\0\x1e\0\0\0\x1a\x01\0\0\0\0\0\0\0\x06\0\x02h1\0\x03Log\0\x06/a.log\0\0\0\x02a\n\0\0\0$\0\0\0\x1e\0\0\0\x1a\x01\0\0\0\0\0\0\0\x08\0\x02h1\0\x03Log\0\x06/a.log\0\0\0\x02a\n\0\0\0$\0\0\0\x1e\0\0\0\x1a\x01\0\0\0\0\0\0\0\n\0\x02h1\0\x03Log\0\x06/a.log\0\0\0\x02a\n\0\0\0$\0\0\0\x1e\0\0\0\x1a\x01\0\0\0\0\0\0\0\x0c\0\x02h1\0\x03Log\0\x06/a.log\0\0\0\x02a\n\0\0\0$\0\0\0\x1e\0\0\0\x1a\x01\0\0\0\0\0\0\0\x0e\0\x02h1\0\x03Log\0\x06/a.log\0\0\0\x02a\n\0\0\0$\0\0\0\x1e\0\0\0\x1a\x01\0\0\0\0\0\0\0\x10\0\x02h1\0\x03Log\0\x06/a.log\0\0\0\x02a\n\0\0\0$\0\0\0\x1e\0\0\0\x1a\x01\0\0\0\0\0\0\0\x12\0\x02h1\0\x03Log\0\x06/a.log\0\0\0\x02a\n\0\0\0$\0\0\0\x1e\0\0\0\x1a\x01\0\0\0\0\0\0\0\x14\0\x02h1\0\x03Log\0\x06/a.log\0\0\0\x02a\n\0\0\0$\0\0\0\x1e\0\0\0\x1a\x01\0\0\0\0\0\0\0\x16\0\x02h1\0\x03Log\0\x06/a.log\0\0\0\x02a\n\0\0\0$\0\0\0\x1e\0\0\0\x1a\x01\0\0\0\0\0\0\0\x18\0\x02h1\0\x03Log\0\x06/a.log\0\0\0\x02a\n\0\0\0$\0\0\0\x1e\0\0\0\x1a\x01\0\0\0\0\0\0\0\x1a\0\x02h1\0\x03Log\0\x06/a.log\0\0\0\x02a\n\0\0\0$\0\0\0\x1e\0\0\0\x1a\x01\0\0\0\0\0\0\0\x1c\0\x02h1\0\x03Log\0\x06/a.log\0\0\0\x02a\n\0\0\0$\0\0\0\x1e\0\0\0\x1a\x01\0\0\0\0\0\0\0\x1e\0\x02h1\0\x03Log\0\x06/a.log\0\0\0\x02a\n";
 
 const DAY_H1: &[u8] =
     b"\0\0\x01\0\0\0\0:\0\0\06\x01\0\0\0\0\0\0\0\xc2\0\x02h1\0\tHadoopLog\0\x1c/var/log/hadoop/namenode.log\0\0\0\xc22010-11-08 09:00:00,001 INFO namenode: started\n2010-11-08 09:00:01,250 ERROR namenode: failed\njava.io.IOException: no space\n\tat a.b.C.d(C.java:10)\n2010-11-08 09:00:02,000 INFO namenode: stopped\n";
@@ -111,6 +116,7 @@ pub(crate) fn marker(name: &str) -> Option<&'static [u8]> {
         "C3_1_1" => Some(C3_1_1),
         "SEG_1" => Some(SEG_1),
         "SEG_2" => Some(SEG_2),
+        "SEG_17" => Some(SEG_17),
         _ => None,
     }
 }
@@ -129,6 +135,7 @@ pub(crate) fn record(name: &str) -> Option<&'static [u8]> {
         "WEST" => Some(WEST),
         "APP" => Some(APP),
         "EARLY" => Some(EARLY),
+        "FIFTEEN" => Some(FIFTEEN),
         "DAY_H1" => Some(DAY_H1),
         "DAY_H2" => Some(DAY_H2),
         "DAY_H3" => Some(DAY_H3),

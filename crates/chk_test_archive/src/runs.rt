@@ -29,6 +29,7 @@ put sinks/c1.1.2.done C1_1_2 O_WORL
 run = unclosed 0 - taken 10 held 0 removed 2, h1 Log /a.log 0 10
 is archive/seg.1 SEG_1 HELLO WORL
 is archive/book BOOK_TEN
+archive = hello|worl
 is sinks/c1.1.1.done
 is sinks/c1.1.2.done
 
@@ -76,6 +77,15 @@ is archive/seg.1 SEG_1 HELLO
 is sinks/c2.1.1.chukwa C2_1_1 WORLD
 is sinks/c3.1.1.chukwa C3_1_1
 
+names that are no stem's
+put sinks/x.done C1_1_1 HELLO
+put sinks/x.chukwa BYTE
+run = unclosed 1 x.chukwa taken 6 held 0 removed 1, h1 Log /a.log 0 6
+is archive/seg.1 SEG_1 HELLO
+is archive/book BOOK_SIX
+is sinks/x.done
+is sinks/x.chukwa BYTE
+
 a sink without a record
 put sinks/c1.1.1.done C1_1_1
 run = unclosed 0 - taken 0 held 0 removed 1
@@ -110,7 +120,8 @@ fn runs(rt: HostRuntime) -> Result<(), Fail> {
     follows_each(rt.alloc(), PROGRAMS)
 }
 
-// Where there are sixteen segments, the next run merges them first, and then adds its line.
+// Where there are sixteen segments, the next run merges them first, and then adds its line. A merged
+// segment has its streams in order.
 const MANY: &str = "\
 sixteen segments
 lines 16
@@ -121,6 +132,15 @@ merged segments
 lines 17
 book = next 19, 17 800, 18 140
 archive = a|a|a|a|a|a|a|a|a|a|a|a|a|a|a|a|a|
+
+merged streams
+put sinks/c2.1.1.done C2_1_1 EAST
+run = unclosed 0 - taken 4 held 0 removed 1, h2 Log /a.log 100 104
+lines 16
+book = next 19, 17 816, 18 140
+is archive/seg.17 SEG_17 FIFTEEN EAST
+archive = a|a|a|a|a|a|a|a|a|a|a|a|a|a|a|a|
+run = unclosed 0 - taken 0 held 0 removed 0, h1 Log /a.log 0 32, h2 Log /a.log 100 104
 ";
 
 #[test]

@@ -8,7 +8,7 @@ use std::test::Fail;
 
 const BOOK: &str = "archive/book";
 
-// The first field, the next number 2, the counts 0 to 2, a segment of 144 bytes.
+// The first field, the next number 2, the counts 0 to 2, a segment of 144 bytes, and its length.
 const HEAD: &[u8] = b"CHKB\x01";
 
 const NEXT: &[u8] = b"\0\0\0\0\0\0\0\x02";
@@ -24,6 +24,8 @@ const TWO: &[u8] = b"\0\0\0\x02";
 const FIRST: &[u8] = b"\0\0\0\0\0\0\0\x01\0\0\0\0\0\0\0\x90";
 
 const SECOND: &[u8] = b"\0\0\0\0\0\0\0\x02\0\0\0\0\0\0\0\x90";
+
+const LENGTH: &[u8] = b"\0\0\0\0\0\0\0\x90";
 
 const SHORT: &[u8] = b"\0\0\0\0\0\0\0\x01\0\0\0\0\0\0\0\x5f";
 
@@ -59,12 +61,15 @@ const BYTE: &[u8] = b"\0";
 // What the parts of each row are, and where they are damaged; `book` where they are a book.
 const ROWS: &str = "\
 a book: HEAD NEXT ONE FIRST ONE SIX TEXTS = book
+a start: HEAD_2 NEXT ONE FIRST ONE SIX SEVEN TEXTS = book
+one aside: HEAD_3 NEXT_3 ONE FIRST ONE SIX SEVEN TEXTS SECOND = book
 no bytes: NOTHING = 0
 another letter: OTHER NEXT NONE NONE = 0
 version 4: FOURTH NEXT NONE NONE = 0
 next number 0: HEAD ZERO NONE NONE = 5
 no count of segments: HEAD NEXT = 13
 the next number: HEAD NEXT ONE SECOND NONE = 17
+number 0: HEAD NEXT ONE ZERO LENGTH NONE = 17
 95 bytes: HEAD NEXT ONE SHORT NONE = 25
 falling numbers: HEAD NEXT_3 TWO SECOND FIRST NONE = 33
 a number twice: HEAD NEXT_3 TWO FIRST FIRST NONE = 33
@@ -94,6 +99,7 @@ fn part(name: &str) -> Result<&'static [u8], Fail> {
         "FOURTH" => Ok(FOURTH),
         "ZERO" => Ok(ZERO),
         "SECOND" => Ok(SECOND),
+        "LENGTH" => Ok(LENGTH),
         "SHORT" => Ok(SHORT),
         "NEXT_3" => Ok(NEXT_3),
         "TWO" => Ok(TWO),
