@@ -60,10 +60,16 @@ def write_log(path, name, size, lines):
             number += 1
 
 
+def log_paths(count):
+    """Paths of so many logs, which stand in byte order."""
+    width = max(2, len(str(count - 1)))
+    return [f"logs/{number:0{width}}.log" for number in range(count)]
+
+
 def write_logs(folder, size, count):
     """So many logs of so many bytes together, and their paths below the folder."""
     os.makedirs(f"{folder}/logs")
-    lines, paths = block(), [f"logs/{number:02}.log" for number in range(count)]
+    lines, paths = block(), log_paths(count)
     for number, path in enumerate(paths):
         write_log(f"{folder}/{path}", path, size // count + (number < size % count), lines)
     return paths

@@ -30,7 +30,7 @@ SPEED_GOAL = 50
 
 
 def streams(count):
-    return [("h1", KIND, f"logs/{number:02}.log") for number in range(count)]
+    return [("h1", KIND, path) for path in copies.log_paths(count)]
 
 
 def write_archive(folder, count):
