@@ -206,44 +206,6 @@ fn read_none(rt: &impl Abort, outside: &mut Outside) {
     assert!(rt; is_given(outside.reads_base("none.log", 1, 4), "", Some(0)));
 }
 
-// Bytes of which those a piece apart differ.
-fn long(alloc: Global) -> Result<Bytes, Fail> {
-    let mut bytes = Bytes::new(alloc);
-    for number in 0..300_000 {
-        bytes.push_all(&[(number % 251) as u8])?;
-    }
-    Ok(bytes)
-}
-
-#[test]
-fn a_long_file_is_read_over_many_pieces(rt: HostRuntime) -> Result<(), Fail> {
-    let mut outside = begin(rt)?;
-    let bytes = long(rt.alloc())?;
-    fs::write(&rt, "long.log", bytes.as_slice())?;
-    read_long(&rt, &mut outside, bytes.as_slice());
-    Ok(())
-}
-
-// From each place to the one behind it, and to the end where the file has fewer bytes.
-fn read_long(rt: &impl Abort, outside: &mut Outside, bytes: &[u8]) {
-    let rows = [
-        (0, 300_000, 300_000),
-        (0, 300_000, 1_048_576),
-        (1, 262_146, 262_145),
-        (131_072, 262_144, 131_072),
-        (100_000, 300_000, u32::MAX),
-        (299_999, 300_000, 2),
-        (300_000, 300_000, 1),
-    ];
-    for (at, end, max) in rows {
-        let given = outside.reads("long.log", at as u64, max).ok();
-        assert!(rt;
-            given.as_ref().map(|given| given.as_slice()) == bytes.get(at..end),
-            "{at} {max}"
-        );
-    }
-}
-
 #[test]
 fn a_log_is_made_and_grows(rt: HostRuntime) -> Result<(), Fail> {
     let mut outside = begin(rt)?;
