@@ -23,6 +23,9 @@ use Rattle.chk_sink.specs.States.{State, process}
 use Rattle.chk_sink.specs.Held.{Ready}
 use Rattle.chk_sink.specs.Damage.{DamageCause}
 use Rattle.chk_sink.specs.Asked.{Counted, CountedOn}
+use Rattle.chk_sink.specs.Least.{AtLeast}
+use Rattle.chk_collector.specs.Least.{TellLeast}
+use Rattle.chk_collector.proofs.LeastLines.{least_none, least_more}
 use Rattle.chk_collector.specs.Polling.{CountedAll, HasLineOf}
 use Rattle.chk_sink.proofs.Holding.{told_by, leads_by}
 use Rattle.chk_sink.proofs.JoinedCauses.{cause_then}
@@ -36,6 +39,7 @@ pub record CountedSoFar (old now : Option History) (before count : ℕ) (s : Sta
   pub lines_are : lines ≡ acks_text acks
   pub of_stems : map (λ a. a.stem) acks ≡ done
   pub short : length lines ≤ 126 * length done
+  pub least : TellLeast (process s) acks old now
   pub told : (stamped : List (List ℕ)) (handled : List Handling) (t : ℕ)
       → Adds old now (Leads (As stamped (process s)) (Ready stamped s handled) (Counted stamped s handled t done acks))
   pub damaged : Adds old now (DamageCause {T = Unit {0}} (Ok tt))
@@ -58,6 +62,7 @@ count_begins now n s stems lines none = record {
   lines_are = none;
   of_stems = refl;
   short = omega (arith, ap length none);
+  least = least_none (process s) now;
   told = λ stamped handled t. leads_none now (λ h x. told_by h (λ handles. record { handles = handles; lengths = tt }) x);
   damaged = adds_none now (DamageCause {T = Unit {0}} (Ok tt)) (λ h. refl);
   own = rests;
@@ -83,15 +88,16 @@ module _ {old now new : Option History} {before count count' : ℕ} {s : State} 
   -- one more
   pub count_on : (x : Stem) (n : ℕ) (rest' : List Stem) (lines' : List ℕ) → rest ≡ x ∷ rest' → lines' ≡ lines ++ ack_text (ack_of x n)
       → length (ack_text (ack_of x n)) ≤ 126
-      → CountsOne now new s x (Ok n) → Adds now new (DamageCause {T = ℕ} (Ok n)) → Works (process s) (OfQuestion x) None now new → count' ≡ count
+      → CountsOne now new s x (Ok n) → AtLeast (process s) x n now new → Adds now new (DamageCause {T = ℕ} (Ok n)) → Works (process s) (OfQuestion x) None now new → count' ≡ count
       → CountedSoFar old new before count' s stems rest' lines'
-  count_on x n rest' lines' more line short told damaged own cause = record {
+  count_on x n rest' lines' more line short told least damaged own cause = record {
     done = so_far.done ++ x ∷ [];
     whole = so_far.whole ∙ (ap (λ l. so_far.done ++ l) more ∙ sym (append_assoc so_far.done (x ∷ []) rest'));
     acks = so_far.acks ++ ack_of x n ∷ [];
     lines_are = line ∙ (ap (λ t. t ++ ack_text (ack_of x n)) so_far.lines_are ∙ acks_text-more so_far.acks (ack_of x n));
     of_stems = map-append (λ (a : Ack). a.stem) so_far.acks (ack_of x n ∷ []) ∙ ap (λ l. l ++ x ∷ []) so_far.of_stems;
     short = short_more lines lines' (ack_text (ack_of x n)) so_far.done x line so_far.short short;
+    least = least_more (process s) so_far.acks x n so_far.least least;
     told = λ stamped handled t.
         leads_then (so_far.told stamped handled t) (leads_by (λ h y. y.counts) (told stamped handled t so_far.done so_far.acks));
     damaged = cause_then (Ok (tt {0})) tt (Ok (tt {0})) refl so_far.damaged damaged;
@@ -138,10 +144,11 @@ module _ {old now : Option History} {before count : ℕ} {s : State} {stems rest
       })
       (so_far.told stamped handled t)
 
-  pub has_line_of : rest ≡ [] → HasLineOf stems lines
+  pub has_line_of : rest ≡ [] → HasLineOf (process s) stems lines old now
   has_line_of none = record {
     acks = so_far.acks;
     lines_are = so_far.lines_are;
     of_stems = so_far.of_stems ∙ sym (all_done none);
     short = subst (λ (l : List Stem). length lines ≤ 126 * length l) (sym (all_done none)) so_far.short;
+    least = so_far.least;
   }

@@ -2,6 +2,7 @@
 use Rattle.std.proofs.Common.{◌≡◌, inl, inr, ℕ, ◌≤◌, ◌==◌, true, false, List, [], ◌∷◌, length, map, Option, Some, Result, Ok, Err, refl, sym, ap, subst, ◌∙◌, arith, if◌then◌else◌}
 use Rattle.std.specs.Prelude.{IfOk}
 use Rattle.chk_bytes.specs.Stems.{Stem}
+use Rattle.chk_site.specs.declared.acts.Who.{Who}
 use Rattle.chk_site.specs.History.{History}
 use Rattle.chk_site.specs.Site.{Adds}
 use Rattle.chk_site.specs.Runs.{Leads}
@@ -162,7 +163,7 @@ pub post_short : (s : State) (chunks : List Chunk) (lines : List ℕ) (done : Re
 post_short s chunks lines (Ok value) few each = omega (arith, each.short)
 post_short s chunks lines (Err fault) few each = tt
 
-pub poll_short : (stems : List Stem) (lines : List ℕ) (done : Result (Unit {0}) SinkFault) → length stems ≤ 64 → OnceDone done (HasLineOf stems lines)
-    → OnceDone done (length lines ≤ post_limit)
-poll_short stems lines (Ok value) few each = omega (arith, each.short)
-poll_short stems lines (Err fault) few each = tt
+pub poll_short : (who : Who) (stems : List Stem) (lines : List ℕ) (done : Result (Unit {0}) SinkFault) (old new : Option History)
+    → length stems ≤ 64 → OnceDone done (HasLineOf who stems lines old new) → OnceDone done (length lines ≤ post_limit)
+poll_short who stems lines (Ok value) old new few each = omega (arith, each.short)
+poll_short who stems lines (Err fault) old new few each = tt

@@ -39,6 +39,7 @@ use Rattle.chk_collector.specs.Outcomes.{Refused, BadPost, Lines, Fails, Refused
 use Rattle.chk_collector.specs.Posting.{HasLineEach, IsOfPut}
 use Rattle.chk_collector.specs.Polling.{HasLineOf, CountedAll}
 use Rattle.chk_collector.specs.Replies.{MayHaveRisen, IsTold, IsReplyBy}
+use Rattle.chk_collector.proofs.LeastLines.{poll_least, post_least}
 
 -- ---- a post
 
@@ -132,6 +133,7 @@ post_replied request chunks old new before now told_before told_after lines (Ok 
       acts = works_fine own;
       state = inl (chunks, post, puts, each.place);
       sound = tt;
+      least = post_least request old each.acks chunks told_before told_after post;
     }) written
 post_replied request chunks old new before now told_before told_after lines (Err fault) result post each puts leaves own of_put spent last cause written =
     IfOk-weaker result _ (Replied request old new before now told_before told_after)
@@ -148,6 +150,7 @@ post_replied request chunks old new before now told_before told_after lines (Err
       acts = last;
       state = inl (chunks, post, leaves);
       sound = post_sound request old told_before told_after fault of_put;
+      least = tt;
     }) written
 
 -- ---- a poll
@@ -177,7 +180,7 @@ poll_spends s fault of_question = tt
 pub poll_replied : {E : Type 0} (request : List ℕ) (stems : List Stem) (s : State) (before now : ℕ) (told_before told_after : Option History)
     (lines : List ℕ) (done : Result (Unit {0}) SinkFault) (result : Result (List ℕ) E) → PollRequest stems request
     → PollTold request s stems lines done told_before told_after → Works (process s) (OfPoll stems) (ended_by done) told_before told_after
-    → OnceDone done (HasLineOf stems lines) → IfErr done IsOfQuestion
+    → OnceDone done (HasLineOf (process s) stems lines told_before told_after) → IfErr done IsOfQuestion
     → Adds told_before told_after (DamageCause done) → Adds told_before told_after (FailsLast done) → SinkCause before now done
     → IfOk result (IsReplyBy done lines)
     → IfOk result (Replied request s s before now told_before told_after)
@@ -196,6 +199,7 @@ poll_replied request stems s before now told_before told_after lines (Ok value) 
       acts = works_fine own;
       state = inr (stems, poll, refl);
       sound = tt;
+      least = poll_least request s each.acks each.least;
     }) written
 poll_replied request stems s before now told_before told_after lines (Err fault) result poll told own each of_question damaged last cause written =
     IfOk-weaker result _ (Replied request s s before now told_before told_after)
@@ -212,6 +216,7 @@ poll_replied request stems s before now told_before told_after lines (Err fault)
       acts = last;
       state = inr (stems, poll, refl);
       sound = poll_sound request s stems lines told_before told_after fault told;
+      least = tt;
     }) written
 
 -- ---- a request that is refused
@@ -238,6 +243,7 @@ bad_post_replied request body fault s count told result post first none written 
       acts = adds_none told (OutcomeActs (BadPost fault)) (λ h. refl);
       state = refl;
       sound = tt;
+      least = tt;
       spent = tt;
       untouched = (refl, refl);
     }) written
@@ -259,6 +265,7 @@ refused_replied request fault s count told result refused written =
       acts = adds_none told (OutcomeActs (Refused fault)) (λ h. refl);
       state = refl;
       sound = tt;
+      least = tt;
       spent = tt;
       untouched = (refl, refl);
     }) written

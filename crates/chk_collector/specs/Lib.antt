@@ -5,3 +5,4 @@ pub mod Replies
 pub mod Posting
 pub mod Polling
 pub mod Handled
+pub mod Least

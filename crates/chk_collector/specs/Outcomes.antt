@@ -1,6 +1,7 @@
 -- What a request comes to, and its reply.
 use Rattle.chk_collector.specs.Handled.{Puts, PutsThen, EndsInPlace, OfRequest}
 use Rattle.chk_collector.specs.Answering.{Taken}
+use Rattle.chk_collector.specs.Least.{TellLeast}
 use Rattle.chk_world.specs.Works.{Works, NoneFailed}
 use Rattle.chk_world.specs.Places.{As, AtTold}
 use Rattle.chk_world.specs.Collectors.{Handling}
@@ -179,6 +180,12 @@ abbrev pub OutcomeSpent : State → State → Outcome → Type 0
 OutcomeSpent old new (Fails (Spent born)) = (born ≡ old.born) × (new.current ≡ None) × (new.number ≡ last_number)
 OutcomeSpent old new o = Unit {0}
 
+-- each line of a poll's reply for a sink of this collector tells at least what stays committed
+abbrev pub OutcomeLeast : List ℕ → State → Option History → Option History → Outcome → Type 0
+OutcomeLeast request s told_before told_after (Lines acks) =
+    (stems : List Stem) → PollRequest stems request → TellLeast (process s) acks told_before told_after
+OutcomeLeast request s told_before told_after o = Unit {0}
+
 -- where the request is refused nothing is called, and nothing changes
 abbrev pub Untouched : State → State → Option History → Option History → Outcome → Type 0
 Untouched old new told_before told_after (Refused fault) = (new ≡ old) × (told_after ≡ told_before)
@@ -200,3 +207,4 @@ pub record Replied (request : List ℕ) (old new : State) (before now : ℕ) (to
   pub acts : Adds told_before told_after (OutcomeActs outcome)
   pub state : OutcomeState request old new outcome
   pub sound : OutcomeSound request old told_before told_after outcome
+  pub least : OutcomeLeast request old told_before told_after outcome

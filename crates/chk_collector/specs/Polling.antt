@@ -1,6 +1,6 @@
 -- What the questions for the stems of a poll lead to.
 use Rattle.chk_sink.specs.declared.fault.SinkFault.TheVariants.{Damaged}
-use Rattle.std.specs.Prelude.{◌≡◌, ℕ, ◌*◌, ◌≤◌, List, length, map, Result, Err}
+use Rattle.std.specs.Prelude.{◌≡◌, ℕ, ◌*◌, ◌≤◌, List, length, map, Option, Result, Err}
 use Rattle.chk_bytes.specs.Stems.{Stem}
 use Rattle.chk_site.specs.declared.acts.Who.{Who}
 use Rattle.chk_site.specs.History.{History}
@@ -12,6 +12,7 @@ use Rattle.chk_sink.specs.declared.fault.SinkFault.{SinkFault}
 use Rattle.chk_sink.specs.States.{State, process}
 use Rattle.chk_sink.specs.Held.{Handles}
 use Rattle.chk_sink.specs.Closes.{OnceDone}
+use Rattle.chk_collector.specs.Least.{TellLeast}
 
 -- the request is a poll for the stems of this query
 abbrev pub AsksFor : List ℕ → List ℕ → Type 0
@@ -39,9 +40,12 @@ pub record PollHolds (s : State) (handled : List Handling) (t : ℕ) (stems : Li
 abbrev pub CountedAll : List (List ℕ) → State → List Handling → ℕ → List Stem → List ℕ → Result (Unit {0}) SinkFault → History → Type 0
 CountedAll stamped s handled t stems lines result history = AtTold stamped (process s) (PollHolds s handled t stems lines result) history
 
--- there is a line for each stem, in order, none of more than 126 bytes
-pub record HasLineOf (stems : List Stem) (lines : List ℕ) : Type 0 where
+-- there is a line for each stem, in order, none of more than 126 bytes; those of this collector's
+-- sinks tell at least what stays committed
+pub record HasLineOf (who : Who) (stems : List Stem) (lines : List ℕ) (old new : Option History)
+    : Type 0 where
   pub acks : List Ack
   pub lines_are : lines ≡ acks_text acks
   pub of_stems : map (λ a. a.stem) acks ≡ stems
   pub short : length lines ≤ 126 * length stems
+  pub least : TellLeast who acks old new

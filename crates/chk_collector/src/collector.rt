@@ -204,7 +204,8 @@ impl Collector {
         ensures told { (stamped : List (List ℕ)) (handled : List Handling) (t : ℕ)
             → Adds (S.told site.old) (S.told site.new) (Leads (As stamped (process self.now))
             (Ready stamped self.now handled) (CountedAll stamped self.now handled t stems.entry lines.new result)) }
-        ensures lines { OnceDone result (HasLineOf stems.entry lines.new) }
+        ensures lines { OnceDone result (HasLineOf (process self.now) stems.entry lines.new
+            (S.told site.old) (S.told site.new)) }
         ensures own { Works (process self.now) (OfPoll stems.entry) (ended_by result)
             (S.told site.old) (S.told site.new) }
         ensures only { IfErr result IsOfQuestion }

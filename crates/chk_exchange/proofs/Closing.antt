@@ -79,16 +79,17 @@ module _ (T : Type 0) (who : Who) (s u : Sinks) (b : Agents) (m : ℕ) (bytes : 
 module _ (stamped : List (List ℕ)) (started acting : List Who) (u : Sinks) (b c : Agents) (m : ℕ)
     (bytes : List ℕ) (made : Option ExchangeFault) (in_c : Contains started (process u))
     (in_b : Contains started (agent_of b)) (acts_b : Contains acting (agent_of b))
-    {old new : Option History}
+    {Such : List ℕ → List ℕ → Type 0} {old new : Option History}
     (reply_told : Adds old new
     (Leads (As stamped (agent_of b)) (AgentMatches stamped b) (AgentMatches stamped c))) where
   not_got : Adds old new (Leads (Together stamped started acting)
-      (IsServed stamped u b m bytes made) (Legal stamped))
+      (IsServed stamped u b m bytes Such made) (Legal stamped))
   not_got = ungot_so stamped started acting u b c m bytes made in_c in_b acts_b reply_told
 
   pub closes_told : (T : Type 0) (result : Result T ExchangeFault)
       → Closes T b m bytes made result old new
-      → Adds old new (Leads (Together stamped started acting) (IsServed stamped u b m bytes made)
+      → Adds old new
+      (Leads (Together stamped started acting) (IsServed stamped u b m bytes Such made)
       (Exchanged stamped u c result))
   closes_told T result ungot = not_got
   closes_told T result (silent asks) = not_got

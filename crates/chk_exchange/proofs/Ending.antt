@@ -168,16 +168,17 @@ module _ (stamped : List (List ℕ)) (started acting : List Who) (u : Sinks) (b 
   end_so got reply (Err NoMemory) never h x = x.0.legal
   end_so got reply (Err (Spent number)) never h x = x.0.legal
 
-  pub got_so : {T : Type 0} (got : List ℕ) (result : Result T ExchangeFault)
+  pub got_so : {T : Type 0} {Such : List ℕ → List ℕ → Type 0} (got : List ℕ)
+      (result : Result T ExchangeFault)
       → NeverEnds bytes made got result
       → {old new : Option History}
       → Adds old new
       (Leads (As stamped (agent_of b)) (AgentMatches stamped b) (AgentMatches stamped c))
       → Adds old new (Calls (asked (agent_of b) Got [] m 0) (Ok (bytes_given got)))
-      → Side (IsServed stamped u b m bytes made) (Exchanged stamped u c result) old new
-  got_so got result never told call =
+      → Side (IsServed stamped u b m bytes Such made) (Exchanged stamped u c result) old new
+  got_so {Such = Such} got result never told call =
       leads_family {I = List ℕ × ℕ} (λ i. Held i.0 i.1) (λ i. Ended got i.0)
-      (IsServed stamped u b m bytes made)
+      (IsServed stamped u b m bytes Such made)
       (Exchanged stamped u c result) ([], 0)
       (λ i. got_all stamped started acting u b in_c in_b acts_b c bytes i.0 made m i.1 got told
       call)
@@ -185,11 +186,27 @@ module _ (stamped : List (List ℕ)) (started acting : List Who) (u : Sinks) (b 
       end_so got served.reply result never (added ++ history)
       (each (served.reply, served.taking) (served.agent, (served.sinks, served.in_hand))))
 
-  pub ungot_so : {old new : Option History}
+  -- what was got is such a reply
+  pub got_such : {Such : List ℕ → List ℕ → Type 0} (got : List ℕ) {old new : Option History}
       → Adds old new
       (Leads (As stamped (agent_of b)) (AgentMatches stamped b) (AgentMatches stamped c))
-      → Side (IsServed stamped u b m bytes made) (Legal stamped) old new
-  ungot_so told =
+      → Adds old new (Calls (asked (agent_of b) Got [] m 0) (Ok (bytes_given got)))
+      → Side (IsServed stamped u b m bytes Such made) (λ h. Legal stamped h × Such bytes got) old new
+  got_such {Such = Such} got told call =
+      leads_family {I = List ℕ × ℕ} (λ i. Held i.0 i.1) (λ i. Ended got i.0)
+      (IsServed stamped u b m bytes Such made)
+      (λ h. Legal stamped h × Such bytes got) ([], 0)
+      (λ i. got_all stamped started acting u b in_c in_b acts_b c bytes i.0 made m i.1 got told
+      call)
+      (λ added history each served.
+      let x = each (served.reply, served.taking) (served.agent, (served.sinks, served.in_hand)) in
+      (x.0.legal, subst (Such bytes) (sym x.1.1.1) served.such))
+
+  pub ungot_so : {Such : List ℕ → List ℕ → Type 0} {old new : Option History}
+      → Adds old new
+      (Leads (As stamped (agent_of b)) (AgentMatches stamped b) (AgentMatches stamped c))
+      → Side (IsServed stamped u b m bytes Such made) (Legal stamped) old new
+  ungot_so {Such = Such} told =
       leads_as (λ h x. (x.agent, x)) (λ h x. x)
       (get_failed stamped started acting u b in_c in_b acts_b c
-      (IsServed stamped u b m bytes made) told)
+      (IsServed stamped u b m bytes Such made) told)

@@ -8,9 +8,12 @@ pub mod Ending
 pub mod Given
 pub mod Lasting
 pub mod Ways
+pub mod LeastTold
 pub mod Closing
 pub mod Keeping
 pub mod Whole
 pub mod Posting
 pub mod Polling
+pub mod Unreached
+pub mod Leasts
 pub mod Causes

@@ -360,7 +360,7 @@ module _ {a b : Agents} {old mid : Option History} (sends : SendsPoll a (Ok tt) 
   pub poll_is_out : is_some b.delivery.poll ≡ true
   poll_is_out = ap is_some out_poll
 
-  is_written : IsWritten b out.bytes poll_out
+  pub is_written : IsWritten b sent_message.bytes poll_out
   is_written = record {
     address = address_now a.delivery.ring;
     written = out.written;

@@ -203,14 +203,15 @@ module _ (stamped : List (List ℕ)) (started acting : List Who) (s : Sinks) (a 
         (sym same) (λ told. failed_at u given told call) told
 
     -- it was answered, and the reply was read
-    sent_at : (v : Sinks) (made : Option ExchangeFault) (o : Outcome) {old mid new : Option History}
+    sent_at : (v : Sinks) (made : Option ExchangeFault) (o : Outcome)
+        (Such : List ℕ → List ℕ → Type 0) → Such request reply → {old mid new : Option History}
         → IsReadSo request reply made o
         → OutcomeSound request s old mid o
         → Tells s (record v { collector = s.collector }) request (Ok reply) old mid
         → Answers who t reply (Ok tt) mid new
-        → Leading (Served stamped (record v { collector = s.collector }) a m request (Ok made)) old
-        new
-    sent_at v made o so sound_o told call =
+        → Leading (Served stamped (record v { collector = s.collector }) a m request Such (Ok made))
+        old new
+    sent_at v made o Such such so sound_o told call =
         let u : Sinks = record v { collector = s.collector } in
         let K : Type 0 = IsReplyTo request reply made in
         leads_then
@@ -228,18 +229,20 @@ module _ (stamped : List (List ℕ)) (started acting : List Who) (s : Sinks) (a 
             alive = λ r. record { holds = (x.0.alive r).0; reply_to = (x.0.alive r).1 };
           };
           in_hand = x.1.1;
+          such = such;
         })
         (answered_all stamped started acting s a in_c in_a acts_c sound named v reply K m t
         (by_s (Ok tt) call)))
 
     pub sent_so : (u : Sinks) → u.collector ≡ s.collector
         → (made : Option ExchangeFault) (o : Outcome)
-        {old mid new : Option History}
+        (Such : List ℕ → List ℕ → Type 0) → Such request reply
+        → {old mid new : Option History}
         → IsReadSo request reply made o → OutcomeSound request s old mid o
         → Tells s u request (Ok reply) old mid
         → Answers who t reply (Ok tt) mid new
-        → Leading (Served stamped u a m request (Ok made)) old new
-    sent_so u same made o {old = old} {mid = mid} {new = new} so sound_o told call =
+        → Leading (Served stamped u a m request Such (Ok made)) old new
+    sent_so u same made o Such such {old = old} {mid = mid} {new = new} so sound_o told call =
         subst (λ n. Tells s (record u { collector = n }) request (Ok reply) old mid
-        → Leading (Served stamped (record u { collector = n }) a m request (Ok made)) old new)
-        (sym same) (λ told. sent_at u made o so sound_o told call) told
+        → Leading (Served stamped (record u { collector = n }) a m request Such (Ok made)) old new)
+        (sym same) (λ told. sent_at u made o Such such so sound_o told call) told

@@ -1,5 +1,5 @@
 -- What the collector's part leads to.
-use Rattle.std.proofs.Common.{◌≡◌, ℕ, List, Option, Some, None, Result, Ok, subst}
+use Rattle.std.proofs.Common.{◌≡◌, ℕ, List, Option, Some, None, Result, Ok, Err, subst}
 use Rattle.std.specs.Prelude.{IsTrue, Contains}
 use Rattle.chk_bytes.specs.Stems.{is_collector}
 use Rattle.chk_site.specs.declared.acts.Who.{Who}
@@ -46,24 +46,40 @@ module _ (stamped : List (List ℕ)) (started acting : List Who) (s : Sinks) (a 
       take_failed stamped started acting s a in_c in_a acts_c sound
       (named_at s who is named) m bytes given (by_s given call)
 
-  pub none_so : {old new : Option History} → Takes who (Ok None) old new
-      → Leading (Served stamped s a m bytes (Ok None)) old new
-  none_so call =
+  pub none_so : (Such : List ℕ → List ℕ → Type 0) {old new : Option History}
+      → Takes who (Ok None) old new
+      → Leading (Served stamped s a m bytes Such (Ok None)) old new
+  none_so Such call =
       none_taken stamped started acting s a in_c in_a acts_c sound (named_at s who is named) m bytes
-      (Served stamped s a m bytes (Ok None)) (by_s (Ok None) call)
+      (Served stamped s a m bytes Such (Ok None)) (by_s (Ok None) call)
 
   pub taken_so : (taking : Taking) (u : Sinks)
       (result : Result (Option ExchangeFault) ExchangeFault)
-      {old mid new : Option History} → Takes who (Ok (Some taking)) old mid
+      (Such There : List ℕ → List ℕ → Type 0)
+      → ((request reply : List ℕ) → There request reply → Such request reply)
+      → {old mid new : Option History} → Takes who (Ok (Some taking)) old mid
       → Adds mid new
       (Leads (Together stamped started acting)
       (AllTaken stamped s a m taking.number taking.bytes)
-      (Served stamped u a m taking.bytes result))
-      → Leading (Served stamped u a m bytes result) old new
-  taken_so taking u result call told =
+      (Served stamped u a m taking.bytes There result))
+      → Leading (Served stamped u a m bytes Such result) old new
+  taken_so taking u result Such There more call told =
       leads_then
       (taken_all stamped started acting s a in_c in_a acts_c sound
       (named_at s who is named) m bytes taking
       (by_s (Ok (Some taking)) call))
-      (leads_as (λ h x. x) (λ h x. subst (λ b. Served stamped u a m b result h) x.1 x.0)
+      (leads_as (λ h x. x) (λ h x. subst (λ b. Served stamped u a m b Such result h) x.1 (such result h x.0))
       (leads_frame (λ h. taking.bytes ≡ bytes) (λ h step e. e) told))
+    where
+      such : (r : Result (Option ExchangeFault) ExchangeFault) (h : History)
+          → Served stamped u a m taking.bytes There r h
+          → Served stamped u a m taking.bytes Such r h
+      such (Ok made) h x = record {
+        agent = x.agent;
+        reply = x.reply;
+        taking = x.taking;
+        sinks = x.sinks;
+        in_hand = x.in_hand;
+        such = more taking.bytes x.reply x.such;
+      }
+      such (Err fault) h x = x

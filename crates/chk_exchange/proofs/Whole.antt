@@ -80,13 +80,13 @@ module _ (stamped : List (List ℕ)) (started acting : List Who) (s u : Sinks) (
     (sent : SentMessage a b old mid)
     (send_told : Adds old mid
     (Leads (Making stamped (agent_of a) Send) (AgentMatches stamped a) (AgentMatches stamped b)))
-    (served : Result (Option ExchangeFault) ExchangeFault)
+    (Such : List ℕ → List ℕ → Type 0) (served : Result (Option ExchangeFault) ExchangeFault)
     (serve_told : (m : ℕ) (bytes : List ℕ) → IsSound b → Contains started (process s)
     → Contains started (agent_of b) → Contains acting (process s)
     → Adds mid new (Leads (Together stamped started acting) (AllWaiting stamped s b m bytes)
-    (Served stamped u b m bytes served))) where
+    (Served stamped u b m bytes Such served))) where
   pub served_told : Adds old new (Leads (Together stamped started acting) (BothAt stamped s a)
-      (Served stamped u b sent.message sent.bytes served))
+      (Served stamped u b sent.message sent.bytes Such served))
   served_told =
       leads_then
       (waits_told stamped started acting s a b in_c in_a acts_a send_told sent.message
@@ -101,7 +101,7 @@ module _ (stamped : List (List ℕ)) (started acting : List Who) (s u : Sinks) (
       leads_as (λ h x. x)
       (λ h x.
       legal_ends T stamped u b fault outside h
-      (subst (λ r. Served stamped u b sent.message sent.bytes r h) is x)) served_told
+      (subst (λ r. Served stamped u b sent.message sent.bytes Such r h) is x)) served_told
 
 -- ---- the whole exchange
 
@@ -128,9 +128,9 @@ module _ (T : Type 0) (who : Who) (s u : Sinks) (a b c : Agents) (made : Option 
 
   pub told_so : (stamped : List (List ℕ)) (started acting : List Who)
       → Contains started (process u) → Contains started (agent_of b) → Contains acting (agent_of b)
-      → {P : History → Type 0}
+      → {P : History → Type 0} {Such : List ℕ → List ℕ → Type 0}
       → Adds old next (Leads (Together stamped started acting) P
-      (Served stamped u b sent.message sent.bytes (Ok made)))
+      (Served stamped u b sent.message sent.bytes Such (Ok made)))
       → Adds next new
       (Leads (As stamped (agent_of b)) (AgentMatches stamped b) (AgentMatches stamped c))
       → Adds old new (Leads (Together stamped started acting) P (Exchanged stamped u c result))

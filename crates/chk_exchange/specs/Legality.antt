@@ -71,16 +71,19 @@ AllTaken stamped s a m taking bytes history =
     AgentMatches stamped a history
     × (HasTaken stamped s taking bytes history × IsInHand (process s) m taking None history)
 
--- the message was taken and has this answer alone
+-- the message was taken and has this answer alone, which is one as is said of the message
 pub record IsServed (stamped : List (List ℕ)) (s : Sinks) (a : Agents) (m : ℕ) (bytes : List ℕ)
-    (made : Option ExchangeFault) (history : History) : Type 0 where
+    (Such : List ℕ → List ℕ → Type 0) (made : Option ExchangeFault) (history : History)
+    : Type 0 where
   pub agent : AgentMatches stamped a history
   pub reply : List ℕ
   pub taking : ℕ
   pub sinks : AtTold stamped (process s) (HoldsBehind s bytes reply made) history
   pub in_hand : IsInHand (process s) m taking (Some reply) history
+  pub such : Such bytes reply
 
-abbrev pub Served : List (List ℕ) → Sinks → Agents → ℕ → List ℕ
+abbrev pub Served : List (List ℕ) → Sinks → Agents → ℕ → List ℕ → (List ℕ → List ℕ → Type 0)
     → Result (Option ExchangeFault) ExchangeFault → History → Type 0
-Served stamped s a m bytes (Ok made) history = IsServed stamped s a m bytes made history
-Served stamped s a m bytes (Err fault) history = Legal stamped history
+Served stamped s a m bytes Such (Ok made) history =
+    IsServed stamped s a m bytes Such made history
+Served stamped s a m bytes Such (Err fault) history = Legal stamped history

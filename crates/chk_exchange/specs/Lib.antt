@@ -1,3 +1,4 @@
 pub mod Faults
 pub mod Exchanges
+pub mod Least
 pub mod Legality

@@ -12,6 +12,7 @@ ghost use Rattle.chk_agent.specs.Fits.{IsSound};
 ghost use Rattle.chk_agent.specs.States.{State as Agents, process as agent_of};
 ghost use Rattle.chk_exchange.specs.Exchanges.{Responds, Serves};
 ghost use Rattle.chk_exchange.specs.Faults.{ExchangeCause, ServedCause};
+ghost use Rattle.chk_exchange.specs.Least.{RepliedIn};
 ghost use Rattle.chk_exchange.specs.Legality.{AllTaken, AllWaiting, Served};
 
 use crate::calls::{send_answer, take_waiting};
@@ -38,7 +39,8 @@ pub(crate) fn serve<S: Site>(
         → Contains started (agent_of a) → Contains acting (process collector.old)
         → Adds (S.told site.old) (S.told site.new) (Leads (Together stamped started acting)
         (AllWaiting stamped collector.old a m bytes)
-        (Served stamped collector.new a m bytes result)) }
+        (Served stamped collector.new a m bytes (RepliedIn collector.old collector.new
+        (S.told site.old) (S.told site.new)) result)) }
     ensures cause { ServedCause (S.fault_count site.old) (S.fault_count site.new) result }
     ensures same { IsSameStart collector.old collector.new }
     ensures seen { KeepsSeen collector.old collector.new }
@@ -67,7 +69,8 @@ fn respond<S: Site>(
         → Contains acting (process collector.old)
         → Adds (S.told site.old) (S.told site.new) (Leads (Together stamped started acting)
         (AllTaken stamped collector.old a m taking.number taking.bytes)
-        (Served stamped collector.new a m taking.bytes result)) }
+        (Served stamped collector.new a m taking.bytes (RepliedIn collector.old collector.new
+        (S.told site.old) (S.told site.new)) result)) }
     ensures cause { ServedCause (S.fault_count site.old) (S.fault_count site.new) result }
     ensures same { IsSameStart collector.old collector.new }
     ensures seen { KeepsSeen collector.old collector.new }

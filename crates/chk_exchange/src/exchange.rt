@@ -1,6 +1,6 @@
 //! One message inside the process.
 
-ghost use Rattle.std.specs.Prelude.{◌≡◌, ◌≢◌, ℕ, List, [], ◌∷◌, Contains, IsTrue, OnOk, Ok, Some, option_map, is_some, length, true};
+ghost use Rattle.std.specs.Prelude.{◌≡◌, ◌≢◌, ℕ, List, [], ◌∷◌, Contains, IfOk, IsTrue, OnOk, Ok, Some, option_map, is_some, length, true};
 ghost use Rattle.chk_bytes.specs.Stems.{Stem, is_collector};
 ghost use Rattle.chk_site.specs.declared.acts.Call.TheVariants.{Send};
 ghost use Rattle.chk_site.specs.declared.acts.Who.{Who as Person};
@@ -20,6 +20,7 @@ ghost use Rattle.chk_agent.specs.States.{process as agent_of};
 ghost use Rattle.chk_exchange.specs.declared.fault.ExchangeFault.{ExchangeFault as Fault};
 ghost use Rattle.chk_exchange.specs.Exchanges.{SendsPost, EndsPost, PostsInside, SendsPoll, EndsPoll, PollsInside};
 ghost use Rattle.chk_exchange.specs.Faults.{IsOtherCode, ExchangeCause, ServedCause, FailsLast};
+ghost use Rattle.chk_exchange.specs.Least.{TellsLeast};
 ghost use Rattle.chk_exchange.specs.Legality.{BothAt, Exchanged};
 
 use crate::answering::serve;
@@ -152,6 +153,8 @@ pub fn poll_inside<S: Site>(
     requires some { asked_stems agent.old.delivery.table ≢ [] }
     ensures script { PollsInside who.now collector.old agent.old result collector.new agent.new
         (S.told site.old) (S.told site.new) }
+    ensures least { IfOk result (λ below. TellsLeast who.now collector.old agent.old below
+        (S.told site.old) (S.told site.new)) }
     ensures told { (stamped : List (List ℕ)) (started acting : List Person)
         → Contains started who.now → Contains started (agent_of agent.old)
         → Contains acting who.now → Contains acting (agent_of agent.old)

@@ -16,6 +16,7 @@ pub mod Questions
 pub mod NumberBytes
 pub mod AskedLengths
 pub mod ExactLengths
+pub mod LeastLengths
 pub mod Showing
 pub mod JoinedCauses
 pub mod StartShows

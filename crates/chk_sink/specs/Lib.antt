@@ -6,6 +6,7 @@ pub mod Closes
 pub mod Starts
 pub mod Asked
 pub mod Asking
+pub mod Least
 pub mod Faults
 pub mod Damage
 pub mod SinkFields

@@ -16,6 +16,7 @@ ghost use Rattle.chk_sink.specs.Works.{OfQuestion};
 ghost use Rattle.chk_sink.specs.Damage.{DamageCause};
 ghost use Rattle.chk_sink.specs.Asked.{CountedOn, ExactSince, IsOfQuestion};
 ghost use Rattle.chk_sink.specs.Asking.{TakenOnce, IsMarkNumber, IsAsker, CountedOpen, OpenSince};
+ghost use Rattle.chk_sink.specs.Least.{ReadsMark};
 
 use crate::numbers::{LEAST_MARK, damaged, number_from};
 use crate::{SinkFault, names};
@@ -83,6 +84,7 @@ pub(crate) fn marked<S: Site>(
     ensures exact { IfOk result (λ n. (stamped : List (List ℕ)) (s : State) (earlier : History) → IsAsker who.now s
         → Adds (S.told site.old) (S.told site.new) (Leads (As stamped (process s))
         (OpenSince stamped s earlier stem.now) (ExactSince stamped s earlier stem.now n))) }
+    ensures reads { IfOk result (λ n. Adds (S.told site.old) (S.told site.new) (ReadsMark stem.now n)) }
     ensures own { Works who.now (OfQuestion stem.now) (ended_by result) (S.told site.old) (S.told site.new) }
     ensures only { IfErr result IsOfQuestion }
     ensures damaged { Adds (S.told site.old) (S.told site.new) (DamageCause result) }

@@ -25,6 +25,7 @@ ghost use Rattle.chk_sink.specs.Closes.{Committed, Closed, IsMarked, Idles, IsId
 ghost use Rattle.chk_sink.specs.Starts.{IsFresh, Started, IsLastStart};
 ghost use Rattle.chk_sink.specs.Settling.{kept_stem};
 ghost use Rattle.chk_sink.specs.Asked.{Counted, CountedOn, ExactSince, IsToldAt, IsOfQuestion};
+ghost use Rattle.chk_sink.specs.Least.{AtLeast};
 
 use crate::asking::{marked, size_of, stem_is_good};
 use crate::closing::{publish, rename_to_done};
@@ -448,6 +449,7 @@ impl Sinks {
         ensures exact { IfOk result (λ n. (stamped : List (List ℕ)) (earlier : History)
             → Adds (S.told site.old) (S.told site.new) (Leads (As stamped (process self.now))
             (IsToldAt stamped self.now earlier) (ExactSince stamped self.now earlier stem n))) }
+        ensures least { IfOk result (λ n. AtLeast (process self.now) stem n (S.told site.old) (S.told site.new)) }
         ensures only { IfErr result IsOfQuestion }
         ensures damaged { Adds (S.told site.old) (S.told site.new) (DamageCause result) }
         ensures own { Works (process self.now) (OfQuestion stem) (ended_by result)

@@ -5,6 +5,7 @@ use Rattle.chk_exchange.specs.Exchanges.{unreplied, unsent, unread, sent}
 use Rattle.chk_exchange.proofs.Causes.{after_reply}
 use Rattle.chk_exchange.proofs.Ending.{ends_outside}
 use Rattle.chk_exchange.proofs.Responding.{unreplied_so, failed_so, sent_so}
+use Rattle.chk_exchange.proofs.LeastTold.{replied_in}
 use Rattle.chk_exchange.proofs.Serving.{named_at}
 use Rattle.chk_exchange.proofs.answering.respond.Goals as goal
 
@@ -96,7 +97,10 @@ returns-clause-told g c stamped started acting a m sound in_c in_a acts_c =
     (named_at c.args.collector.now c.args.who.now c.requires.started c.requires.named)
     c.args.who.now c.requires.started
     c.in_ok-reply.reply c.respond.new.self c.in_ok-reply.ensures.same.collector c.in_ok-made.made
-    replied.outcome
+    replied.outcome _
+    (replied_in replied
+    ((rw c.as_slice-3.ensures at c.in_ok-made.ensures.read) replied.outcome replied.is)
+    (rw c.as_slice-2.ensures at c.in_ok-send_answer.ensures.call))
     (record {
       by_bytes = replied.by_bytes;
       is_made = (rw c.as_slice-3.ensures at c.in_ok-made.ensures.told) replied.outcome replied.is;

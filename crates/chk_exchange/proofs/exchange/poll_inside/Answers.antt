@@ -5,6 +5,7 @@ use Rattle.chk_delivery.specs.declared.answers.Below.{Below}
 use Rattle.chk_exchange.specs.Exchanges.{PollsInside}
 use Rattle.chk_exchange.specs.Faults.{ServedCause}
 use Rattle.chk_exchange.proofs.Lasting.{last_then}
+use Rattle.chk_exchange.proofs.Leasts.{ends_least}
 use Rattle.chk_exchange.proofs.Polling.{closes_so, end_keeps, ends_so, poll_is_out, sends_keep, sends_last, sends_outside, sent_message, sent_so}
 use Rattle.chk_exchange.proofs.Ways.{serves_last}
 use Rattle.chk_exchange.proofs.Ending.{serves_outside}
@@ -63,7 +64,8 @@ returns-in_err-made-clause-told g c stamped started acting in_who in_a acts_who 
     (unserved_told stamped started acting c.args.collector.now c.serve.new.collector
     c.args.agent.now c.send_poll.new.agent c.requires.address in_c in_a acts_c acts_a
     c.in_ok-send_poll.ensures.sound (sent_message c.in_ok-send_poll.ensures.script)
-    (c.in_ok-send_poll.ensures.told stamped) (Err fault)
+    (c.in_ok-send_poll.ensures.told stamped)
+    (λ request reply. Unit {0}) (Err fault)
     (c.in_err-made.ensures.told stamped started acting c.send_poll.new.agent)
     (Option Below) fault refl
     (serves_outside c.in_err-made.ensures.script))
@@ -115,7 +117,7 @@ returns-clause-told g c stamped started acting in_who in_a acts_who acts_a =
     (of_agent acting a b keeps acts_a)
     (served_told stamped started acting s u a b c.requires.address in_c in_a acts_c acts_a
     c.in_ok-send_poll.ensures.sound (sent_message sends) (c.in_ok-send_poll.ensures.told stamped)
-    (Ok c.in_ok-made.made) (c.in_ok-made.ensures.told stamped started acting b))
+    _ (Ok c.in_ok-made.made) (c.in_ok-made.ensures.told stamped started acting b))
     (c.end_poll.ensures.told stamped)
 
 pub returns-clause-fine : goal.returns-clause-fine
@@ -152,3 +154,18 @@ pub returns-clause-address : goal.returns-clause-address
 returns-clause-address g c =
     let sends = c.in_ok-send_poll.ensures.script in
     same_addresses (end_keeps sends c.end_poll.ensures.script) ∙ same_addresses (sends_keep sends)
+
+pub returns-clause-least : goal.returns-clause-least
+returns-clause-least g c =
+    let s = c.args.collector.now in
+    let u = c.serve.new.collector in
+    let a = c.args.agent.now in
+    let b = c.send_poll.new.agent in
+    let sends = c.in_ok-send_poll.ensures.script in
+    ends_least c.args.who.now s u a b c.end_poll.new.agent c.in_ok-made.made c.requires.started
+    c.in_ok-made.ensures.same sends
+    (λ stamped started acting in_c in_a acts_c acts_a.
+    served_told stamped started acting s u a b c.requires.address in_c in_a acts_c acts_a
+    c.in_ok-send_poll.ensures.sound (sent_message sends) (c.in_ok-send_poll.ensures.told stamped)
+    _ (Ok c.in_ok-made.made) (c.in_ok-made.ensures.told stamped started acting b))
+    c.end_poll.ensures.told (ends_so sends c.end_poll.ensures.script)

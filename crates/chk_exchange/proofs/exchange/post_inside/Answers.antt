@@ -62,7 +62,8 @@ returns-in_err-made-clause-told g c stamped started acting in_who in_a acts_who 
     (unserved_told stamped started acting c.args.collector.now c.serve.new.collector
     c.args.agent.now c.send_post.new.agent c.requires.address in_c in_a acts_c acts_a
     c.in_ok-send_post.ensures.sound (sent_message c.in_ok-send_post.ensures.script)
-    (c.in_ok-send_post.ensures.told stamped) (Err fault)
+    (c.in_ok-send_post.ensures.told stamped)
+    (λ request reply. Unit {0}) (Err fault)
     (c.in_err-made.ensures.told stamped started acting c.send_post.new.agent) (Unit {0}) fault refl
     (serves_outside c.in_err-made.ensures.script))
 
@@ -113,7 +114,7 @@ returns-clause-told g c stamped started acting in_who in_a acts_who acts_a =
     (of_agent acting a b keeps acts_a)
     (served_told stamped started acting s u a b c.requires.address in_c in_a acts_c acts_a
     c.in_ok-send_post.ensures.sound (sent_message sends) (c.in_ok-send_post.ensures.told stamped)
-    (Ok c.in_ok-made.made) (c.in_ok-made.ensures.told stamped started acting b))
+    _ (Ok c.in_ok-made.made) (c.in_ok-made.ensures.told stamped started acting b))
     (c.end_post.ensures.told stamped)
 
 pub returns-clause-fine : goal.returns-clause-fine

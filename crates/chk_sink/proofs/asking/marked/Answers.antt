@@ -7,6 +7,7 @@ use Rattle.chk_world.specs.Names.{MarkFile, read}
 use Rattle.chk_world.proofs.NameLemmas.{read-spell}
 use Rattle.chk_sink.specs.Asking.{IsMarkNumber}
 use Rattle.chk_sink.proofs.ExactLengths.{number_exact, unmarked_exact}
+use Rattle.chk_sink.proofs.LeastLengths.{reads_number, reads_none}
 use Rattle.chk_sink.proofs.AskedLengths.{mark_given, mark_none, mark_ended}
 use Rattle.chk_sink.proofs.JoinedCauses.{ends_cause, mark_cause, number_causes}
 use Rattle.chk_sink.proofs.asking.marked.Goals as goal
@@ -82,3 +83,16 @@ pub returns-clause-exact : goal.returns-clause-exact
 returns-clause-exact g c stamped s earlier asks =
     unmarked_exact stamped s earlier c.args.who.now asks c.args.stem.now c.requires c.as_str.result.now
     (c.as_str.ensures.value ∙ c.in_ok-name.ensures) c.bytes_of.result c.bytes_of.ensures.told (c.in_ok-read.was ∙ ap Ok c.in-None.is)
+
+pub returns-in-Some-clause-reads : goal.returns-in-Some-clause-reads
+returns-in-Some-clause-reads g c =
+    let w : List ℕ = c.as_str.result.now in
+    let is = subst (λ v. IsMarkNumber v c.in-Some.bytes c.number_of.result) (c.as_str-in-Some.ensures.value ∙ sym c.as_str.ensures.value)
+    (subst (λ b. IsMarkNumber c.as_str-in-Some.result.now b c.number_of.result) c.as_slice.ensures c.number_of.ensures) in
+    reads_number c.args.who.now c.args.stem.now c.requires w (c.as_str.ensures.value ∙ c.in_ok-name.ensures) c.bytes_of.result c.bytes_of.ensures.told
+    c.in-Some.bytes c.number_of.result (c.in_ok-read.was ∙ ap Ok c.in-Some.is) is
+
+pub returns-clause-reads : goal.returns-clause-reads
+returns-clause-reads g c =
+    reads_none c.args.who.now c.args.stem.now c.requires c.as_str.result.now (c.as_str.ensures.value ∙ c.in_ok-name.ensures)
+    c.bytes_of.result c.bytes_of.ensures.told (c.in_ok-read.was ∙ ap Ok c.in-None.is)

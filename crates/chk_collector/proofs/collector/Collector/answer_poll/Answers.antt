@@ -1,4 +1,5 @@
 use Rattle.chk_site.proofs.Leads.{leads_as}
+use Rattle.chk_sink.specs.States.{process}
 use Rattle.chk_world.specs.Collectors.{begun}
 use Rattle.chk_collector.proofs.MayReply.{poll_told, poll_short}
 use Rattle.chk_collector.proofs.Outcome.{poll_replied, may_have_risen, poll_unanswered}
@@ -10,7 +11,7 @@ returns-clause-told g c stamped t request others poll =
     leads_as (λ h x. x)
     (poll_told stamped c.args.self.now t request others c.in-Some.stems c.count_all-done.new.lines c.count_all-done.result c.reply.result
     (poll c.in-Some.stems c.in-Some.ensures.some)
-    (poll_short c.in-Some.stems c.count_all-done.new.lines c.count_all-done.result c.in-Some.ensures.some.few c.count_all-done.ensures.lines)
+    (poll_short (process c.args.self.now) c.in-Some.stems c.count_all-done.new.lines c.count_all-done.result _ _ c.in-Some.ensures.some.few c.count_all-done.ensures.lines)
     (rw c.as_slice.ensures at c.reply.ensures.accepted))
     (c.count_all-done.ensures.told stamped (begun t request ∷ others) t)
 

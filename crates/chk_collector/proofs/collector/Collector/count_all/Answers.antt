@@ -16,7 +16,7 @@ pub loop-stem-preserved : goal.loop-stem-preserved
 loop-stem-preserved g c =
     count_on c.loop-stem.invariant c.in-Some.stem c.in_ok-length.length c.next.new.self c.put_line.new.lines c.in-Some.ensures.item c.in_ok-put_line.ensures.ok
     c.put_line.ensures.short
-    (rw c.self.view_is at c.in_ok-length.ensures.told) c.in_ok-length.ensures.damaged (rw c.self.view_is at c.in_ok-length.ensures.own)
+    (rw c.self.view_is at c.in_ok-length.ensures.told) (rw c.self.view_is at c.in_ok-length.ensures.least) c.in_ok-length.ensures.damaged (rw c.self.view_is at c.in_ok-length.ensures.own)
     c.in_ok-length.ensures.cause
 
 pub returns-in_err-length-clause-told : goal.returns-in_err-length-clause-told

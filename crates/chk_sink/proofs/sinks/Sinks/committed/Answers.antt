@@ -7,6 +7,7 @@ use Rattle.std.proofs.Common.{◌∙◌, ap, refl, ℕ, Ok, [], ◌∷◌}
 use Rattle.chk_site.proofs.Leads.{leads_then}
 use Rattle.std.proofs.lemmas.Result.{IfOk-weaker}
 use Rattle.chk_sink.proofs.ExactLengths.{size_exact, size_open}
+use Rattle.chk_sink.proofs.LeastLengths.{least_done, least_marked}
 use Rattle.chk_sink.proofs.AskedLengths.{asker, size_given, size_none, size_ended}
 use Rattle.chk_sink.proofs.JoinedCauses.{ends_cause, done_cause, cause_then}
 use Rattle.chk_sink.proofs.sinks.Sinks.committed.Goals as goal
@@ -96,3 +97,20 @@ returns-clause-exact g c =
     (c.in_ok-size.was ∙ ap Ok c.in-None.is))
     (exact stamped s earlier asks))
     c.marked.ensures.exact
+
+pub returns-in-Some-clause-least : goal.returns-in-Some-clause-least
+returns-in-Some-clause-least g c =
+    let s = c.args.self.now in
+    let asks = asker c.self.inside s c.self.view_is c.self.invariant in
+    least_done s c.args.stem c.stem_is_good.ensures c.as_str.result.now (c.as_str.ensures.value ∙ c.in_ok-name.ensures) c.size_of.result
+    (rw asks.who_is at c.size_of.ensures.told) c.in-Some.size (c.in_ok-size.was ∙ ap Ok c.in-Some.is)
+
+pub returns-clause-least : goal.returns-clause-least
+returns-clause-least g c =
+    let s = c.args.self.now in
+    let asks = asker c.self.inside s c.self.view_is c.self.invariant in
+    IfOk-weaker c.marked.result _ _
+    (λ n reads.
+    least_marked s c.args.stem c.stem_is_good.ensures c.as_str.result.now (c.as_str.ensures.value ∙ c.in_ok-name.ensures) c.size_of.result
+    (rw asks.who_is at c.size_of.ensures.told) n (c.in_ok-size.was ∙ ap Ok c.in-None.is) reads)
+    c.marked.ensures.reads
