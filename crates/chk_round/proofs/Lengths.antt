@@ -3,9 +3,6 @@ use Rattle.std.proofs.Common.{◌≡◌, ℕ, ◌≤◌, Bool, true, false, List
 use Rattle.chk_site.specs.declared.acts.Who.{Who}
 use Rattle.chk_site.specs.History.{History}
 use Rattle.chk_site.specs.Site.{Adds}
-use Rattle.chk_site.specs.Runs.{Leads}
-use Rattle.chk_site.proofs.Leads.{leads_as}
-use Rattle.chk_world.specs.Together.{Together}
 use Rattle.chk_sink.specs.Closes.{IsMarked}
 use Rattle.chk_sink.specs.States.{State as Sinks, Writing, is_closed_at, seen_first, ticked, ticked_state}
 use Rattle.chk_delivery.specs.declared.answers.Below.{Below}
@@ -14,19 +11,11 @@ use Rattle.chk_exchange.specs.Exchanges.{PollsInside}
 use Rattle.chk_round.specs.declared.faults.RoundFault.{RoundFault}
 use Rattle.chk_round.specs.declared.faults.RoundFault.TheVariants.{Outside, NoMemory, Damaged, Length, Growing, Shrank, Spent, Refused, Checkpoint}
 use Rattle.chk_round.specs.Faults.{FailsInside, RoundCause}
-use Rattle.chk_round.specs.Joint.{BothAt, GoesOn}
 use Rattle.chk_round.specs.Lengths.{HasCommitted, IsPlain, LengthCause, PolledOnce, PollsOn}
 use Rattle.chk_round.specs.Scripts.{Anything, IsNoRead}
 use Rattle.chk_round.proofs.Lasting.{went_none}
 
 module _ (b : Below) (fault : RoundFault) (is : fault ≡ Length b.stem b.got b.want) where
-  pub below_goes : (stamped : List (List ℕ)) (s : Sinks) (a : Agents) {started acting : List Who} {A : History → Type 0}
-      {old new : Option History} → Adds old new (Leads (Together stamped started acting) A (BothAt stamped s a))
-      → Adds old new (Leads (Together stamped started acting) A (GoesOn stamped s a (Err fault)))
-  below_goes stamped s a {started = started} {acting = acting} {A = A} {old = old} {new = new} told =
-      subst (λ f. Adds old new (Leads (Together stamped started acting) A (GoesOn stamped s a (Err f)))) (sym is)
-      (leads_as (λ h x. x) (λ h x. x.0.legal) told)
-
   pub below_inside : {old new : Option History} → Adds old new Anything
       → Adds old new (FailsInside {T = Unit {0}} (Err fault))
   below_inside {old = old} {new = new} p = subst (λ f. Adds old new (FailsInside {T = Unit {0}} (Err f))) (sym is) p

@@ -17,6 +17,9 @@ pub mod NoRead
 pub mod Digits
 pub mod Spending
 pub mod Lengths
+pub mod Rows
+pub mod Reached
+pub mod LastPolls
 pub mod Given
 pub mod Sent
 pub mod Polls

@@ -56,6 +56,7 @@ abbrev pub EndsLegally : RoundFault → Type 0
 EndsLegally (Damaged name at) = ⊥
 EndsLegally (Checkpoint at) = ⊥
 EndsLegally (Spent number) = ⊥
+EndsLegally (Length stem got want) = ⊥
 EndsLegally (Refused code) = ⊥
 EndsLegally fault = Unit {0}
 
@@ -65,7 +66,7 @@ legal_goes stamped s a (Outside call) is h x = x
 legal_goes stamped s a NoMemory is h x = x
 legal_goes stamped s a (Damaged name at) is h x = absurd is
 legal_goes stamped s a (Checkpoint at) is h x = absurd is
-legal_goes stamped s a (Length stem got want) is h x = x
+legal_goes stamped s a (Length stem got want) is h x = absurd is
 legal_goes stamped s a (Growing path reads) is h x = x
 legal_goes stamped s a (Shrank path had size) is h x = x
 legal_goes stamped s a (Spent number) is h x = absurd is

@@ -38,7 +38,8 @@ use Rattle.chk_round.specs.Reading.{ReadsAll, ReadsOn}
 use Rattle.chk_round.specs.Rounds.{AfterRun, AllSteady, RoundDone, RunsTo}
 use Rattle.chk_round.specs.Scripts.{WereRead}
 use Rattle.chk_round.specs.Sending.{NonePast, QueueBelow, SendsBelow, SendsNone, SendsRest}
-use Rattle.chk_round.specs.Spent.{LastSink, sinks, segments}
+use Rattle.chk_round.specs.LastPolls.{LastPoll}
+use Rattle.chk_round.specs.Spent.{LastSink, WhereRunning, sinks, segments}
 use Rattle.chk_round.specs.Theirs.{ListsTheirs, NoneOf, TheirsOnly}
 use Rattle.chk_round.proofs.Given.{GivenNone, given_join, pair, pair_given}
 use Rattle.chk_round.proofs.Joining.{in_on}
@@ -57,7 +58,8 @@ goes_run stamped c s a b same (Outside call) h x = x
 goes_run stamped c s a b same NoMemory h x = x
 goes_run stamped c s a b same (Damaged name at) h x = x
 goes_run stamped c s a b same (Checkpoint at) h x = x
-goes_run stamped c s a b same (Length stem got want) h x = x
+goes_run stamped c s a b same (Length stem got want) h x =
+    subst (λ k. WhereRunning stamped (LastPoll k stem got want) h) same x
 goes_run stamped c s a b same (Growing path reads) h x = x
 goes_run stamped c s a b same (Shrank path had size) h x = x
 goes_run stamped c s a b same (Spent number) h x = record {
@@ -73,7 +75,7 @@ closed_run stamped c s b (Err (Outside call)) h x = x
 closed_run stamped c s b (Err NoMemory) h x = x
 closed_run stamped c s b (Err (Damaged name at)) h x = x
 closed_run stamped c s b (Err (Checkpoint at)) h x = x
-closed_run stamped c s b (Err (Length stem got want)) h x = x
+closed_run stamped c s b (Err (Length stem got want)) h x = absurd x
 closed_run stamped c s b (Err (Growing path reads)) h x = x
 closed_run stamped c s b (Err (Shrank path had size)) h x = x
 closed_run stamped c s b (Err (Spent number)) h x = record { legal = x.legal; alive = λ running. segments (x.alive running) }

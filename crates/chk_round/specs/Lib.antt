@@ -10,6 +10,8 @@ pub mod Reading
 pub mod Scripts
 pub mod Calls
 pub mod Lengths
+pub mod LastPolls
+pub mod Polled
 pub mod Delivering
 pub mod Sending
 pub mod Following

@@ -8,7 +8,9 @@ ghost use Rattle.chk_sink.specs.States.{IsSameStart, process};
 ghost use Rattle.chk_delivery.specs.Turns.{asked_stems};
 ghost use Rattle.chk_round.specs.Faults.{FailsInside, RoundCause};
 ghost use Rattle.chk_round.specs.Joint.{JointTo};
+ghost use Rattle.chk_round.specs.LastPolls.{LengthTold};
 ghost use Rattle.chk_round.specs.Lengths.{HasCommitted, LengthCause, PolledOnce};
+ghost use Rattle.chk_round.specs.Polled.{PollTo};
 ghost use Rattle.chk_round.specs.Scripts.{IsNoRead};
 ghost use Rattle.chk_round.specs.Polling.{HasFree, PolledAll};
 ghost use Rattle.chk_round.specs.Sending.{SendsOn};
@@ -127,7 +129,8 @@ fn poll_whole<S: Site>(
     requires ready { agent.old.ready ≡ true }
     requires address { agent.old.delivery.ring.addresses ≡ self_address ∷ [] }
     requires some { asked_stems agent.old.delivery.table ≢ [] }
-    ensures joint { JointTo collector.old agent.old collector.new agent.new result (S.told site.old) (S.told site.new) }
+    ensures joint { PollTo collector.old agent.old collector.new agent.new result (S.told site.old) (S.told site.new) }
+    ensures least { LengthTold collecting.now collector.old agent.old result (S.told site.old) (S.told site.new) }
     ensures all { OnOk result (PolledAll agent.old agent.new) }
     ensures sends { OnOk result (SendsOn agent.old agent.new (S.told site.old) (S.told site.new)) }
     ensures same { IsSameStart collector.old collector.new }

@@ -35,7 +35,7 @@ of_round : (w : RoundAsked) → Leaves (Round w)
 of_round w earlier added (Outside call) calm shows = absurd (calm refl)
 of_round w earlier added NoMemory calm shows = inl refl
 of_round w earlier added (Damaged name at) calm shows = absurd shows.1
-of_round w earlier added (Length stem got want) calm shows = inr shows.0
+of_round w earlier added (Length stem got want) calm shows = inr shows
 of_round w earlier added (Growing path reads) calm shows = inr shows.0
 of_round w earlier added (Unclosed name) calm shows = inr shows
 of_round w earlier added (Shrank path had has) calm shows = inr shows.0
@@ -112,7 +112,7 @@ of_load : (lines : ℕ) → Leaves (Load lines)
 of_load lines earlier added (Outside call) calm shows = absurd (calm refl)
 of_load lines earlier added NoMemory calm shows = inl refl
 of_load lines earlier added (Damaged name at) calm shows = absurd shows.1
-of_load lines earlier added (Length stem got want) calm shows = inr shows.0.fault
+of_load lines earlier added (Length stem got want) calm shows = inr (shows.0.fault, shows.1)
 of_load lines earlier added (Growing path reads) calm shows = inr shows.0.fault
 of_load lines earlier added (Unclosed name) calm shows = inr shows.1
 of_load lines earlier added (Shrank path had has) calm shows = inr shows.0.fault

@@ -132,7 +132,7 @@ module _ (lines : ℕ) where
   round_fits stamped (rounds.Damaged name at) e added history is c running = absurd (c.never running)
   round_fits stamped (rounds.Checkpoint at) e added history is c running = absurd (c.never running)
   round_fits stamped (rounds.Length stem got want) e added history is c running =
-      subst (λ (e : Ending). LoadFits lines history e added) (sym is) tt
+      subst (λ (e : Ending). LoadFits lines history e added) (sym is) (c.alive running)
   round_fits stamped (rounds.Growing path reads) e added history is c running =
       subst (λ (e : Ending). LoadFits lines history e added) (sym is) tt
   round_fits stamped (rounds.Shrank path had size) e added history is c running =
@@ -155,7 +155,7 @@ module _ (lines : ℕ) where
   round_legal stamped rounds.NoMemory h c = c
   round_legal stamped (rounds.Damaged name at) h c = c.legal
   round_legal stamped (rounds.Checkpoint at) h c = c.legal
-  round_legal stamped (rounds.Length stem got want) h c = c
+  round_legal stamped (rounds.Length stem got want) h c = c.legal
   round_legal stamped (rounds.Growing path reads) h c = c
   round_legal stamped (rounds.Shrank path had size) h c = c
   round_legal stamped (rounds.Spent number) h c = c.legal

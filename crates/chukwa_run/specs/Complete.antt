@@ -3,6 +3,7 @@ use Rattle.std.specs.Prelude.{◌≡◌, ℕ, false, List, ◌++◌, codes, Err}
 use Rattle.chk_site.specs.History.{History, is_stopped}
 use Rattle.chk_site.specs.Runs.{Since}
 use Rattle.chk_round.specs.declared.faults.RoundFault.TheVariants as rounds
+use Rattle.chk_round.specs.LastPolls.{LastPoll}
 use Rattle.chk_round.specs.Spent.{IsSpentRound}
 use Rattle.chk_round_run.specs.declared.ends.RoundEnd.TheVariants.{Unclosed as FoundUnclosed}
 use Rattle.chk_round_run.specs.Running.{DoneAndTold}
@@ -26,7 +27,8 @@ use Rattle.chukwa_run.specs.Whole.{Whole}
 
 -- a log gave bytes at each of the stated reads; a sink of another collector was under writing at the
 -- listing, and all else was done and told; numbers of starts, of sinks or of segments are spent; the
--- last poll gave a length below an answered offset; a log was shorter than its place
+-- last poll gave a length below an answered offset, of a sink that was given up or is gone; a log was
+-- shorter than its place
 abbrev pub LeftOfRound : RoundAsked → History → Ending → History → Type 0
 LeftOfRound w earlier (Growing path reads) added = IsRoundCut w (rounds.Growing path reads) earlier added
 LeftOfRound w earlier (Unclosed name) added =
@@ -35,6 +37,7 @@ LeftOfRound w earlier (Unclosed name) added =
 LeftOfRound w earlier (Spent n) added = IsSpentRound (codes "c1") n (added ++ earlier)
 LeftOfRound w earlier (Length stem got want) added =
     IsRoundCut w (rounds.Length stem got want) earlier added
+    × LastPoll (codes "c1") stem got want (added ++ earlier)
 LeftOfRound w earlier (Shrank path had has) added =
     IsRoundCut w (rounds.Shrank path had has) earlier added
 LeftOfRound w earlier e added = ⊥
@@ -88,6 +91,7 @@ LeftOfLoad lines earlier (Spent n) added =
     IsRoundOfLoad lines (rounds.Spent n) earlier added × IsSpentRound (codes "c1") n (added ++ earlier)
 LeftOfLoad lines earlier (Length stem got want) added =
     IsRoundOfLoad lines (rounds.Length stem got want) earlier added
+    × LastPoll (codes "c1") stem got want (added ++ earlier)
 LeftOfLoad lines earlier (Shrank path had has) added =
     IsRoundOfLoad lines (rounds.Shrank path had has) earlier added
 LeftOfLoad lines earlier e added = ⊥

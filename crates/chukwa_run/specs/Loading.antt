@@ -5,6 +5,7 @@ use Rattle.chk_site.specs.Runs.{Owns, own_acts}
 use Rattle.chk_site.specs.Site.{EndsIn}
 use Rattle.chk_round.specs.declared.faults.RoundFault.{RoundFault}
 use Rattle.chk_round.specs.declared.faults.RoundFault.TheVariants as rounds
+use Rattle.chk_round.specs.LastPolls.{LastPoll}
 use Rattle.chk_round.specs.Spent.{IsSpentRound}
 use Rattle.chk_load_run.specs.declared.ends.LoadEnd.{LoadEnd}
 use Rattle.chk_load_run.specs.declared.ends.LoadEnd.TheVariants as loads
@@ -69,11 +70,14 @@ pub record LoadCut (lines : ℕ) (earlier : History) (e : Ending) (added : Histo
 
 -- In a legal history nothing of the program's own is damaged, and the agent gets the replies that
 -- were made. A sink of another collector under writing ends only a load that is done. Where a number
--- is spent it is that of the collector's starts, of its sinks or of the archive's segments.
+-- is spent it is that of the collector's starts, of its sinks or of the archive's segments. A length
+-- was told by the last poll.
 abbrev pub LoadFits : ℕ → History → Ending → History → Type 0
 LoadFits lines earlier (Damaged name at) added = ⊥
 LoadFits lines earlier (Refused code) added = ⊥
 LoadFits lines earlier (Unclosed name) added = LoadDone lines (Err (loads.Unclosed name)) added earlier
+LoadFits lines earlier (Length stem got want) added =
+    LastPoll (codes "c1") stem got want (added ++ earlier)
 LoadFits lines earlier (Spent n) added = IsSpentRound (codes "c1") n (added ++ earlier)
 LoadFits lines earlier e added = Unit {0}
 

@@ -5,6 +5,7 @@ use Rattle.chk_world.specs.Names.{CheckFile, spell}
 use Rattle.chk_round.specs.declared.faults.RoundFault.{RoundFault}
 use Rattle.chk_round.specs.declared.faults.RoundFault.TheVariants as rounds
 use Rattle.chk_round.specs.declared.words.RoundWords.{RoundWords}
+use Rattle.chk_round.specs.LastPolls.{LastPoll}
 use Rattle.chk_round.specs.Spent.{IsSpentRound}
 use Rattle.chk_round_run.specs.declared.ends.RoundEnd.{RoundEnd}
 use Rattle.chk_round_run.specs.declared.ends.RoundEnd.TheVariants.{Fault, Unclosed as FoundUnclosed}
@@ -73,10 +74,13 @@ RoundCut w earlier (Refused code) added = IsRoundCut w (rounds.Refused code) ear
 
 -- In a legal history nothing of its own is damaged, and the agent gets the replies that were made.
 -- Where a number is spent it is that of the collector's starts, of its sinks or of the archive's
--- segments. Where another collector's sink is under writing, all else was done and told.
+-- segments. A length was told by the last poll. Where another collector's sink is under writing, all
+-- else was done and told.
 abbrev pub RoundFits : RoundAsked → History → Ending → History → Type 0
 RoundFits w earlier (Damaged name at) added = ⊥
 RoundFits w earlier (Refused code) added = ⊥
 RoundFits w earlier (Unclosed name) added = DoneAndTold w.source w.kind w.logs (Err (FoundUnclosed name)) added earlier
+RoundFits w earlier (Length stem got want) added =
+    LastPoll (codes "c1") stem got want (added ++ earlier)
 RoundFits w earlier (Spent n) added = IsSpentRound (codes "c1") n (added ++ earlier)
 RoundFits w earlier e added = Unit {0}

@@ -4,7 +4,8 @@ use Rattle.chk_sink.specs.States.{process}
 use Rattle.chk_round.specs.declared.faults.RoundFault.{RoundFault}
 use Rattle.chk_round.specs.Faults.{RoundCause}
 use Rattle.chk_round.proofs.Ends.{late_cause}
-use Rattle.chk_round.proofs.Polls.{may_ask, polling_none, starts_then, talked_ends, talked_more}
+use Rattle.chk_round.proofs.LastPolls.{until_ends}
+use Rattle.chk_round.proofs.Polls.{may_ask, polling_none, starts_then, talked_more}
 use Rattle.chk_round.proofs.Lasting.{inside_late, went}
 use Rattle.chk_round.specs.Lengths.{PollsOn}
 use Rattle.chk_round.proofs.Lengths.{once_length}
@@ -30,11 +31,15 @@ poll_whole-requires g c =
     }
 
 pub returns-in_err-poll_whole-clause-joint : goal.returns-in_err-poll_whole-clause-joint
-returns-in_err-poll_whole-clause-joint g c stamped started acting run =
+returns-in_err-poll_whole-clause-joint g c =
     let p = err_from_is_err_and c.from_residual.result c.from_residual.ensures.1 in
+    let so = c.polls.invariant.talked in
     rw (p.1, p.2)
-    (talked_ends c.polls.invariant.talked c.poll_whole.new.collector c.poll_whole.new.agent 0
-    (Err c.in_err-poll_whole.field-0.0) c.in_err-poll_whole.ensures.joint stamped started acting run)
+    (until_ends c.args.collecting.now c.args.collector.now c.polls.collector c.poll_whole.new.collector
+    c.args.agent.now c.polls.agent c.poll_whole.new.agent c.requires.started so.starts.collector so.same.source
+    c.poll_whole.ensures.same.collector c.requires.ready c.requires.committed c.polls.invariant.on so.joint
+    c.in_err-poll_whole.field-0.0 c.in_err-poll_whole.ensures.polls c.in_err-poll_whole.ensures.least
+    c.in_err-poll_whole.ensures.joint)
 
 pub returns-in_err-poll_whole-clause-same : goal.returns-in_err-poll_whole-clause-same
 returns-in_err-poll_whole-clause-same g c =

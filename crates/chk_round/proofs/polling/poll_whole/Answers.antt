@@ -10,18 +10,28 @@ use Rattle.chk_round.proofs.Spending.{poll_tells}
 use Rattle.chk_round.proofs.Lasting.{exchange_inside, went}
 use Rattle.chk_round.specs.Faults.{of_exchange}
 use Rattle.chk_round.proofs.NoRead.{exchange_no_read, exchange_plain}
-use Rattle.chk_round.proofs.Lengths.{below_cause, below_goes, below_inside, below_no_read, below_once, plain_once}
+use Rattle.chk_exchange.specs.Least.{TellsLeast}
+use Rattle.chk_round.proofs.LastPolls.{below_polled, below_told, polled_ends, untold_length}
+use Rattle.chk_round.proofs.Lengths.{below_cause, below_inside, below_no_read, below_once, plain_once}
 use Rattle.chk_round.proofs.Acts.{poll_acts}
 use Rattle.chk_round.proofs.polling.poll_whole.Goals as goal
 
 pub returns-in_err-below-clause-joint : goal.returns-in_err-below-clause-joint
-returns-in_err-below-clause-joint g c stamped started acting run =
+returns-in_err-below-clause-joint g c =
     let p = err_from_is_err_and c.from_residual.result c.from_residual.ensures.1 in
     rw (p.1, p.2)
+    (polled_ends c.args.collector.now c.poll_inside.new.collector c.args.agent.now c.poll_inside.new.agent c.in_err-below.field-0.0
     (exchange_ends c.args.collecting.now c.args.collector.now c.poll_inside.new.collector c.args.agent.now
     c.poll_inside.new.agent c.requires.started (Option Below)
     c.in_err-below.field-0.0 c.in_err-below.ensures.told (poll_tells c.in_err-below.ensures.script)
-    c.poll_inside.ensures.same.collector stamped started acting run)
+    c.poll_inside.ensures.same.collector))
+
+pub returns-in_err-below-clause-least : goal.returns-in_err-below-clause-least
+returns-in_err-below-clause-least g c =
+    let p = err_from_is_err_and c.from_residual.result c.from_residual.ensures.1 in
+    rw (p.1, p.2)
+    (untold_length c.args.collecting.now c.args.collector.now c.args.agent.now c.in_err-below.field-0.0
+    (g.S.Site.told c.args.site.now) (g.S.Site.told c.poll_inside.new.site))
 
 pub returns-in-None-clause-joint : goal.returns-in-None-clause-joint
 returns-in-None-clause-joint g c =
@@ -29,11 +39,17 @@ returns-in-None-clause-joint g c =
     c.poll_inside.new.agent c.requires.started (Option Below) c.in_ok-below.field-0 c.in_ok-below.ensures.told
 
 pub returns-in-Some-clause-joint : goal.returns-in-Some-clause-joint
-returns-in-Some-clause-joint g c stamped started acting run =
-    below_goes c.in-Some.below c.too_short.result c.too_short.ensures stamped c.poll_inside.new.collector c.poll_inside.new.agent
+returns-in-Some-clause-joint g c =
+    below_polled c.in-Some.below c.too_short.result c.too_short.ensures c.args.collector.now c.poll_inside.new.collector
+    c.args.agent.now c.poll_inside.new.agent
     (exchange_goes c.args.collecting.now c.args.collector.now c.poll_inside.new.collector c.args.agent.now
-    c.poll_inside.new.agent c.requires.started (Option Below) c.in_ok-below.field-0 c.in_ok-below.ensures.told
-    stamped started acting run)
+    c.poll_inside.new.agent c.requires.started (Option Below) c.in_ok-below.field-0 c.in_ok-below.ensures.told)
+
+pub returns-in-Some-clause-least : goal.returns-in-Some-clause-least
+returns-in-Some-clause-least g c =
+    below_told c.in-Some.below c.too_short.result c.too_short.ensures c.args.collecting.now c.args.collector.now c.args.agent.now
+    (subst (λ (b : Option Below). TellsLeast c.args.collecting.now c.args.collector.now c.args.agent.now b
+    (g.S.Site.told c.args.site.now) (g.S.Site.told c.poll_inside.new.site)) c.in-Some.is c.in_ok-below.ensures.least)
 
 pub returns-in-None-clause-all : goal.returns-in-None-clause-all
 returns-in-None-clause-all g c =

@@ -1,0 +1,40 @@
+-- What stands behind a round that a length below an answered offset ended.
+use Rattle.std.specs.Prelude.{◌≡◌, ◌⊎◌, ℕ, ◌<◌, IsTrue, List, ◌++◌, Option, Some, Result, Ok, Err}
+use Rattle.chk_bytes.specs.Stems.{Stem}
+use Rattle.chk_site.specs.declared.acts.Who.{Who}
+use Rattle.chk_site.specs.History.{History}
+use Rattle.chk_world.specs.DoneSinks.{IsGone}
+use Rattle.chk_world.specs.NamedEnds.{gave_up}
+use Rattle.chk_sink.specs.Held.{Holds}
+use Rattle.chk_sink.specs.States.{State as Sinks, process}
+use Rattle.chk_agent.specs.States.{State as Agents}
+use Rattle.chk_exchange.specs.Exchanges.{PollsInside}
+use Rattle.chk_exchange.specs.Least.{TellsLeast}
+use Rattle.chk_round.specs.declared.faults.RoundFault.{RoundFault}
+use Rattle.chk_round.specs.declared.faults.RoundFault.TheVariants.{Length}
+
+-- The last steps are a poll inside the process, which left this offset of the sink above the length
+-- that it gave. Where the sink is one of the collector's, it was given up before, or it is gone.
+pub record LastPoll (collector : List ℕ) (stem : Stem) (got want : ℕ) (history : History)
+    : Type 0 where
+  pub polled : History
+  pub earlier : History
+  pub split : history ≡ polled ++ earlier
+  pub sinks : Sinks
+  pub agent : Agents
+  pub sinks_then : Sinks
+  pub agent_then : Agents
+  pub collector_is : sinks.collector ≡ collector
+  pub held : Holds sinks earlier
+  pub polls : PollsInside (process sinks) sinks agent
+      (Ok (Some (record { stem = stem; got = got; want = want }))) sinks_then agent_then
+      (Some earlier) (Some history)
+  pub below : got < want
+  pub lost : stem.collector ≡ collector → IsTrue (gave_up stem history) ⊎ IsGone history stem
+
+-- where such a poll ended so, the length is at least what stayed committed
+abbrev pub LengthTold : {T : Type 0} → Who → Sinks → Agents → Result T RoundFault → Option History
+    → Option History → Type 0
+LengthTold who s a (Err (Length stem got want)) old new =
+    TellsLeast who s a (Some (record { stem = stem; got = got; want = want })) old new
+LengthTold who s a result old new = Unit {0}
