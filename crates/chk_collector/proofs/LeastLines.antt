@@ -1,15 +1,15 @@
 -- The lines of a poll's reply are at least what stays committed.
-use Rattle.std.proofs.Common.{◌≡◌, ℕ, ◌≤◌, List, [], ◌∷◌, ◌++◌, Option, Result, Ok, sym, subst, refl, arith}
+use Rattle.std.proofs.Common.{◌≡◌, ℕ, ◌≤◌, List, [], ◌∷◌, ◌++◌, Option, sym, subst, arith}
 use Rattle.chk_bytes.specs.Stems.{Stem}
 use Rattle.chk_site.specs.declared.acts.Who.{Who}
-use Rattle.chk_site.specs.History.{Step, History, files_after}
+use Rattle.chk_site.specs.History.{History, files_after}
 use Rattle.chk_site.specs.Site.{Adds}
-use Rattle.chk_site.proofs.Runs.{adds_as, adds_both, adds_none, adds_then}
-use Rattle.chk_message.specs.Messages.{Ack, PollRequest, IsPostOf, ack_of}
+use Rattle.chk_site.proofs.Runs.{adds_both, adds_none, adds_then}
+use Rattle.chk_message.specs.Messages.{Ack, IsPostOf, ack_of}
 use Rattle.chk_message.proofs.Accepted.{never_both}
 use Rattle.chk_chunk.specs.Keys.{Chunk}
 use Rattle.chk_world.specs.Committed.{committed_length}
-use Rattle.chk_sink.specs.Least.{AtLeast, EachFront, IsLeast, StaysReached}
+use Rattle.chk_sink.specs.Least.{AtLeast, EachFront, StaysReached}
 use Rattle.chk_sink.specs.States.{State, process}
 use Rattle.chk_sink.proofs.LeastLengths.{early, late}
 use Rattle.chk_collector.specs.Least.{LineIsLeast, LinesAreLeast, TellLeast}

@@ -1,6 +1,6 @@
 -- A poll tells at least what stays committed.
-use Rattle.std.proofs.Common.{◌≡◌, inl, inr, ℕ, ◌≤◌, ◌<◌, Bool, true, false, nat_lt, List, [], ◌∷◌, ◌++◌, length, map, Option, Some, None, Result, Ok, Err, refl, ap, sym, subst, ◌∙◌, arith, if◌then◌else◌}
-use Rattle.std.specs.Prelude.{IfOk, IsTrue, Contains, filter, find, is_some, option_map}
+use Rattle.std.proofs.Common.{◌≡◌, inl, inr, ℕ, ◌≤◌, ◌<◌, Bool, true, false, nat_lt, List, [], ◌∷◌, ◌++◌, length, map, Option, Some, None, Result, Ok, refl, ap, sym, subst, ◌∙◌, arith, if◌then◌else◌}
+use Rattle.std.specs.Prelude.{IfOk, Contains, filter, find, is_some, option_map}
 use Rattle.std.specs.List.{list_all}
 use Rattle.std.proofs.lemmas.Bool.{and_parts, and_from}
 use Rattle.std.proofs.lemmas.List.{append_cancel_right}
@@ -9,7 +9,7 @@ use Rattle.chk_bytes.specs.declared.NoMemory.{NoMemory as Wanting}
 use Rattle.chk_bytes.specs.Numbers.{limit}
 use Rattle.chk_bytes.specs.Stems.{Stem, is_stem, same_stem}
 use Rattle.chk_site.specs.declared.acts.Who.{Who}
-use Rattle.chk_site.specs.History.{History, Others, files_after}
+use Rattle.chk_site.specs.History.{History, Others}
 use Rattle.chk_site.specs.Site.{Adds}
 use Rattle.chk_site.specs.Runs.{Leads}
 use Rattle.chk_site.proofs.Leads.{leads_then}
@@ -18,12 +18,11 @@ use Rattle.chk_message.specs.Messages.{Ack, is_ack, acks_text, PollRequest, IsRe
 use Rattle.chk_message.proofs.Accepted.{IsReply-same, never_both}
 use Rattle.chk_message.proofs.Apart.{acks_text-same}
 use Rattle.chk_message.proofs.Written.{written_is_poll}
-use Rattle.chk_world.specs.Committed.{committed_length}
 use Rattle.chk_world.specs.Places.{As, Foreign}
 use Rattle.chk_world.specs.Rules.{Legal}
 use Rattle.chk_world.specs.Together.{Outside, Together}
 use Rattle.chk_world.proofs.NameTests.{stem_same}
-use Rattle.chk_sink.specs.Least.{EachFront, StaysReached}
+use Rattle.chk_sink.specs.Least.{StaysReached}
 use Rattle.chk_sink.specs.States.{State as Sinks, IsSameStart, process}
 use Rattle.chk_sink.proofs.LeastLengths.{early, late}
 use Rattle.chk_collector.specs.Least.{LinesAreLeast, TellLeast}

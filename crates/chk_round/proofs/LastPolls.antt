@@ -1,14 +1,14 @@
 -- A length ends a round only where the sink was given up or is gone.
-use Rattle.std.proofs.Common.{◌≡◌, ◌≢◌, ◌⊎◌, inl, inr, ℕ, ◌≤◌, ◌<◌, Bool, true, false, List, [], ◌∷◌, ◌++◌, length, Option, Some, None, Result, Ok, Err, refl, ap, sym, subst, ◌∙◌, arith, append_assoc}
+use Rattle.std.proofs.Common.{◌≡◌, ◌⊎◌, inl, inr, ℕ, ◌≤◌, ◌<◌, Bool, true, false, List, ◌++◌, length, Option, Some, Ok, Err, refl, ap, sym, subst, ◌∙◌, arith, append_assoc}
 use Rattle.std.specs.Prelude.{Contains, IsTrue}
 use Rattle.std.proofs.lemmas.List.{append_cancel_right}
 use Rattle.std.proofs.lemmas.Option.{same_Some}
-use Rattle.chk_bytes.specs.Stems.{Stem, is_stem}
+use Rattle.chk_bytes.specs.Stems.{is_stem}
 use Rattle.chk_site.specs.declared.acts.Who.{Who}
 use Rattle.chk_site.specs.History.{History, Others, files_after, is_stopped}
 use Rattle.chk_site.specs.Site.{Adds}
 use Rattle.chk_site.specs.Runs.{Leads}
-use Rattle.chk_site.proofs.Leads.{leads_as, leads_then}
+use Rattle.chk_site.proofs.Leads.{leads_as}
 use Rattle.chk_site.proofs.Runs.{every_early, every_join, every_late}
 use Rattle.chk_agent.proofs.TalkingTold.{ran_before}
 use Rattle.chk_world.specs.Committed.{committed_length}
@@ -21,7 +21,6 @@ use Rattle.chk_world.specs.Together.{IsByOne, Outside, Together}
 use Rattle.chk_sink.specs.Least.{EachFront}
 use Rattle.chk_sink.specs.States.{State as Sinks, process}
 use Rattle.chk_collect.proofs.SettledSinks.{all_committed}
-use Rattle.chk_acks.specs.declared.row.Row.{Row}
 use Rattle.chk_message.specs.Messages.{ack_of}
 use Rattle.chk_delivery.specs.declared.answers.Below.{Below}
 use Rattle.chk_agent.specs.States.{State as Agents}
@@ -38,7 +37,7 @@ use Rattle.chk_round.specs.Lengths.{HasCommitted, PolledOnce, PollsOn}
 use Rattle.chk_round.specs.Polled.{PollTo, PolledTo}
 use Rattle.chk_round.specs.Spent.{WhereRunning}
 use Rattle.chk_round.proofs.Joining.{in_on, joint_then}
-use Rattle.chk_round.proofs.Reached.{IsHere, answered_within, gave_early, gone_on, here_all, here_at}
+use Rattle.chk_round.proofs.Reached.{answered_within, gave_early, gone_on, here_all, here_at}
 use Rattle.chk_round.proofs.Rows.{all_rows, polled_rows, rows_on}
 
 -- ---- one poll

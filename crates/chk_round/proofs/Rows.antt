@@ -1,5 +1,5 @@
 -- What holds of the sink and the offset of each row stays so over polls.
-use Rattle.std.proofs.Common.{◌≡◌, ℕ, suc, zero, Bool, true, false, not, if◌then◌else◌, List, [], ◌∷◌, map, Option, Some, None, Result, Ok, Err, ap, sym, subst, ◌∙◌, refl, arith}
+use Rattle.std.proofs.Common.{◌≡◌, ℕ, suc, zero, Bool, true, false, not, if◌then◌else◌, List, [], ◌∷◌, map, Option, Some, None, Result, Ok, ap, sym, subst, ◌∙◌, refl, arith}
 use Rattle.std.specs.Prelude.{Contains, filter, is_some, option_map}
 use Rattle.std.proofs.lemmas.Option.{same_Some, none-some}
 use Rattle.chk_bytes.specs.declared.NoMemory.{NoMemory as Wanting}

@@ -8,7 +8,7 @@ use Rattle.chk_site.specs.declared.acts.Call.TheVariants.{Size, Read}
 use Rattle.chk_site.specs.declared.acts.OutsideFault.{OutsideFault}
 use Rattle.chk_site.specs.declared.acts.ActAnswer.{ActAnswer}
 use Rattle.chk_site.specs.Files.{File}
-use Rattle.chk_site.specs.History.{Step, History, Every, IsTheirs, Others, files_after}
+use Rattle.chk_site.specs.History.{History, Every, IsTheirs, Others, files_after}
 use Rattle.chk_site.specs.Honest.{AtSize, AtRead}
 use Rattle.chk_site.specs.Site.{Adds, Asked, Acted, asked, own_step, sized, bytes_given, Took}
 use Rattle.chk_site.proofs.Runs.{adds_as, adds_then, every_early, every_late, taken_answer}
