@@ -54,11 +54,11 @@ added_cluster : {class : Class} {kind path : List ℕ} {s t : State} {added : Ad
 added_cluster (adds.live found is past) = refl
 added_cluster (adds.too_many is full) = refl
 added_cluster {s = s} (adds.new name found is may named (adds.written {t = t} after newest same writes)) =
-    ap (λ (k : State). k.cluster) same ∙ go found
+    ap (λ (k : State). k.cluster) same ∙ go found _
   where
-    go : (found : Option Found) {l : Line} → (with_added s found l).cluster ≡ s.cluster
-    go None = refl
-    go (Some f) = refl
+    go : (found : Option Found) (l : Line) → (with_added s found l).cluster ≡ s.cluster
+    go None l = refl
+    go (Some f) l = refl
 
 pub logs_cluster : {class : Class} {kind : List ℕ} {logs : List (List ℕ)} {s t : State} {old new : Option History}
     → AddsLogs class kind logs s (Ok tt) t old new → t.cluster ≡ s.cluster
