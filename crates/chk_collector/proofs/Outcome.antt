@@ -1,6 +1,6 @@
 -- What a request comes to.
 use Rattle.chk_collector.specs.Answering.{Taken}
-use Rattle.chk_collector.specs.Handled.{Puts, PutsThen, OfPosts, OfPoll, OfRequest, Unanswered}
+use Rattle.chk_collector.specs.Handled.{Puts, PutsThen, OfPosts, OfPoll, OfRequest, LeavesUnanswered, Unanswered}
 use Rattle.chk_sink.proofs.Owned.{works_harmless, put_harmless}
 use Rattle.chk_sink.proofs.Holding.{leads_by}
 use Rattle.chk_world.proofs.Working.{works_as, works_fine}
@@ -84,16 +84,13 @@ pub post_unanswered : {E : Type 0} (request : List ℕ) (chunks : List Chunk) (o
     → OnceDone done (Puts (length chunks) old new) → IfErr done (PutsThen (length chunks) old new) → Works (process old) (OfPosts old) (ended_by done) told_before told_after
     → IfErr result (λ e. Unanswered request old new told_before told_after)
 post_unanswered request chunks old new done (Ok reply) post puts leaves own = tt
-post_unanswered request chunks old new done (Err e) post puts leaves own = record {
-  fault = ended_by done;
-  own = post_own request chunks old post own;
-  state = inr (chunks, post, by done puts leaves);
-}
+post_unanswered request chunks old new done (Err e) post puts leaves own =
+    record { done = done; own = post_own request chunks old post own; state = by done puts leaves }
   where
     by : (done : Result (Unit {0}) SinkFault) → OnceDone done (Puts (length chunks) old new) → IfErr done (PutsThen (length chunks) old new)
-        → Puts (length chunks) old new ⊎ ((why : SinkFault) × PutsThen (length chunks) old new why)
-    by (Ok value) puts leaves = inl puts
-    by (Err why) puts leaves = inr (why, leaves)
+        → LeavesUnanswered request old new done
+    by (Ok value) puts leaves = inr (chunks, post, puts)
+    by (Err why) puts leaves = inr (chunks, post, leaves)
 
 -- to a poll
 pub poll_unanswered : {E : Type 0} (request : List ℕ) (stems : List Stem) (s : State) (done : Result (Unit {0}) SinkFault)
@@ -102,13 +99,17 @@ pub poll_unanswered : {E : Type 0} (request : List ℕ) (stems : List Stem) (s :
     → IfErr result (λ e. Unanswered request s s told_before told_after)
 poll_unanswered request stems s done (Ok reply) poll own = tt
 poll_unanswered request stems s done (Err e) poll own =
-    record { fault = ended_by done; own = poll_own request stems s poll own; state = inl refl }
+    record { done = done; own = poll_own request stems s poll own; state = by done }
+  where
+    by : (done : Result (Unit {0}) SinkFault) → LeavesUnanswered request s s done
+    by (Ok value) = inl refl
+    by (Err why) = inl refl
 
 -- to a request that is refused
 pub refused_unanswered : {E : Type 0} (request : List ℕ) (s : State) (result : Result (List ℕ) E) (told : Option History)
     → IfErr result (λ e. Unanswered request s s told told)
 refused_unanswered request s (Ok reply) told = tt
-refused_unanswered request s (Err e) told = record { fault = None; own = rests; state = inl refl }
+refused_unanswered request s (Err e) told = record { done = Ok tt; own = rests; state = inl refl }
 
 pub post_replied : {E : Type 0} (request : List ℕ) (chunks : List Chunk) (old new : State) (before now : ℕ) (told_before told_after : Option History)
     (lines : List ℕ) (done : Result (Unit {0}) SinkFault) (result : Result (List ℕ) E) → IsPostOf chunks request

@@ -1,7 +1,6 @@
 -- What stands behind a request: where its calls led the sinks, and which calls they were.
-use Rattle.std.specs.Prelude.{◌≡◌, ◌⊎◌, ℕ, zero, suc, ◌<◌, ◌≤◌, List, [], ◌∷◌, length, Contains, Option, Some, None, Err}
+use Rattle.std.specs.Prelude.{◌≡◌, ◌⊎◌, ℕ, zero, suc, ◌<◌, ◌≤◌, List, [], ◌∷◌, length, Contains, Option, Some, None, Result, Ok, Err}
 use Rattle.chk_bytes.specs.Stems.{Stem}
-use Rattle.chk_site.specs.declared.acts.OutsideFault.{OutsideFault}
 use Rattle.chk_site.specs.Acts.{Deed}
 use Rattle.chk_site.specs.History.{History}
 use Rattle.chk_chunk.specs.Keys.{Chunk}
@@ -9,6 +8,7 @@ use Rattle.chk_message.specs.Messages.{Ack, PollRequest, IsPostOf}
 use Rattle.chk_world.specs.Works.{Works}
 use Rattle.chk_sink.specs.declared.fault.SinkFault.{SinkFault}
 use Rattle.chk_sink.specs.declared.fault.SinkFault.TheVariants.{NoMemory}
+use Rattle.chk_sink.specs.Faults.{ended_by}
 use Rattle.chk_sink.specs.States.{State, Writing, process}
 use Rattle.chk_sink.specs.Puts.{IsPlaced, LeavesAfterPut, SpentExactly, GoesOn}
 use Rattle.chk_sink.specs.Works.{OfPut, OfQuestion}
@@ -77,10 +77,17 @@ OfRequest bytes s call =
     ((chunks : List Chunk) × IsPostOf chunks bytes × OfPosts s call)
     ⊎ ((stems : List Stem) × PollRequest stems bytes × OfPoll stems call)
 
--- where there is no memory for a reply: the calls that were made, and the state, which a post alone changes
+-- where a request without a reply led the sinks, by what came of its calls: nothing changed, or of a post each chunk was put
+-- or the next put was refused so
+abbrev pub LeavesUnanswered : List ℕ → State → State → Result (Unit {0}) SinkFault → Type 0
+LeavesUnanswered request old new (Ok value) =
+    (new ≡ old) ⊎ ((chunks : List Chunk) × IsPostOf chunks request × Puts (length chunks) old new)
+LeavesUnanswered request old new (Err fault) =
+    (new ≡ old) ⊎ ((chunks : List Chunk) × IsPostOf chunks request × PutsThen (length chunks) old new fault)
+
+-- where there is no memory for a reply: what came of the sinks' calls, which calls they were, and the state, which a post alone
+-- changes
 pub record Unanswered (request : List ℕ) (old new : State) (told_before told_after : Option History) : Type 0 where
-  pub fault : Option OutsideFault
-  pub own : Works (process old) (OfRequest request old) fault told_before told_after
-  pub state : (new ≡ old)
-      ⊎ ((chunks : List Chunk) × IsPostOf chunks request
-      × (Puts (length chunks) old new ⊎ ((why : SinkFault) × PutsThen (length chunks) old new why)))
+  pub done : Result (Unit {0}) SinkFault
+  pub own : Works (process old) (OfRequest request old) (ended_by done) told_before told_after
+  pub state : LeavesUnanswered request old new done
