@@ -1,4 +1,6 @@
 pub mod Anys
+pub mod Keeps
+pub mod Gathers
 pub mod PassLemmas
 pub mod Places
 pub mod Turns

@@ -8,17 +8,16 @@ use Rattle.chk_acks.specs.declared.table.Acks.TheInside.{Inside}
 -- the table that the fields hold
 abbrev pub table_of : Inside → Table
 table_of a = record {
-  rows = a.rows.items;
+  rows = a.rows.rows;
   committed = a.committed.items;
   last = a.last.items;
-  room = a.room;
+  room = a.rows.room;
 }
 
--- the table is sound, the places of its unmarked rows are listed, both lists have their memory, and
--- each adaptor has a number
+-- the table is sound, the places of its unmarked rows are listed, the list has its memory, and each
+-- adaptor has a number
 pub record IsHeld (a : Inside) : Type 0 where
   pub sound : IsSound (table_of a)
-  pub places : a.unmarked.items ≡ places_of 0 a.rows.items
-  pub rows_fit : a.room ≤ vec_capacity a.rows
-  pub places_fit : a.room ≤ vec_capacity a.unmarked
+  pub places : a.unmarked.items ≡ places_of 0 a.rows.rows
+  pub places_fit : a.rows.room ≤ vec_capacity a.unmarked
   pub numbered : length a.committed.items < 2 ^ 32

@@ -4,5 +4,6 @@ pub mod Passes
 pub mod Table
 pub mod Resets
 pub mod Sound
+pub mod Keeping
 pub mod Held
 pub mod Calls

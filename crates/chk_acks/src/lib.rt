@@ -2,8 +2,10 @@
 //! which end each log is committed without a gap.
 #![tactic(auto)]
 
+mod kept;
 mod laws;
 mod row;
+mod rows;
 mod table;
 
 pub use laws::law_committed_is_contiguous;

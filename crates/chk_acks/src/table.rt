@@ -4,13 +4,11 @@ ghost use Rattle.std.specs.Prelude.{◌≡◌, ◌⊎◌, ◌↔◌, ◌+◌, �
 ghost use Rattle.chk_acks.specs.Contiguous.{IsContiguousEnd};
 ghost use Rattle.chk_acks.specs.Rows.{IsReached, expired_adaptors, rows_of, waiting_after};
 ghost use Rattle.chk_acks.specs.Table.{IsKnown, IsSettled, Sees, added, answer_row, begun, empty_table};
-ghost use Rattle.chk_acks.specs.Resets.{expired_marked, without_rows};
+ghost use Rattle.chk_acks.specs.Resets.{ends_back, expired_marked, without_rows};
 ghost use Rattle.chk_acks.specs.Sound.{IsSound};
 
-use crate::row::{
-    Row, advance, drop_rows, keep_others, keep_past, least_expired, list_unmarked, mark,
-    mark_expired, set_back,
-};
+use crate::row::Row;
+use crate::rows::Rows;
 use chk_bytes::{NoMemory, Stem};
 use std::alloc::Global;
 use std::marker::Model;
@@ -18,12 +16,11 @@ use std::marker::Model;
 /// The answers to an agent's chunks that don't yet lie below a committed end, and the committed and
 /// the last end of each of its adaptors. An adaptor is named by its number, from 0.
 ///
-/// It takes 140 bytes a row and 16 an adaptor.
+/// It takes 52 bytes a row, 88 for each run of rows of one sink in order of answers, and 16 an
+/// adaptor. So where each row names another sink than the one before it, a row takes 140.
 #[derive(Drop)]
 pub struct Acks {
-    room: u32,
-    // The rows in use, in order of answers.
-    rows: Vec<Row>,
+    rows: Rows,
     // The places of the unmarked ones.
     unmarked: Vec<u32>,
     committed: Vec<u64>,
@@ -49,8 +46,7 @@ impl Acks {
         ensures { IfOk result (λ acks. acks ≡ empty_table rows adaptors) }
     {
         Ok(Acks {
-            room: rows,
-            rows: Vec::with_capacity(alloc, rows as usize)?,
+            rows: Rows::new(alloc, rows)?,
             unmarked: Vec::with_capacity(alloc, rows as usize)?,
             committed: vec![in alloc; 0u64; adaptors as usize]?,
             last: vec![in alloc; 0u64; adaptors as usize]?,
@@ -66,8 +62,8 @@ impl Acks {
         // What lies below the offset counts as settled, and nothing else of the adaptor does.
         ensures settled { (offset : ℕ) → IsSettled self.new adaptor offset ↔ (offset < at) }
     {
-        drop_rows(&mut self.rows, adaptor);
-        list_unmarked(&mut self.unmarked, &self.rows);
+        self.rows.drop_adaptor(adaptor);
+        self.rows.list_unmarked(&mut self.unmarked);
         self.committed[adaptor as usize] = at;
         self.last[adaptor as usize] = at;
     }
@@ -79,8 +75,8 @@ impl Acks {
         requires { length gone.now ≡ length self.old.committed }
         ensures { self.new ≡ without_rows gone.now self.old }
     {
-        keep_others(&mut self.rows, gone);
-        list_unmarked(&mut self.unmarked, &self.rows);
+        self.rows.keep_others(gone);
+        self.rows.list_unmarked(&mut self.unmarked);
         set_back(&mut self.last, &self.committed, gone);
     }
 
@@ -96,7 +92,7 @@ impl Acks {
         ensures free { result + length self.now.rows ≡ self.now.room }
         ensures sound { IsSound self.now }
     {
-        self.room - self.rows.len() as u32
+        self.rows.room() - self.rows.len()
     }
 
     /// Adds a row for a chunk from `begin` to `end` of the adaptor's stream, answered at `now` with
@@ -118,8 +114,8 @@ impl Acks {
         ensures settled { (other place : ℕ)
             → IsSettled self.new other place ↔ IsSettled self.old other place }
     {
-        let _ = self.unmarked.push(self.rows.len() as u32);
-        let _ = self.rows.push(Row {
+        let _ = self.unmarked.push(self.rows.len());
+        self.rows.push(Row {
             adaptor,
             begin,
             end,
@@ -143,10 +139,10 @@ impl Acks {
             ↔ (IsSettled self.old adaptor offset
             ⊎ IsReached stem length (rows_of adaptor self.old.rows) offset) }
     {
-        mark(&mut self.rows, stem, length);
-        advance(&mut self.committed, &self.rows);
-        keep_past(&mut self.rows, &self.committed);
-        list_unmarked(&mut self.unmarked, &self.rows);
+        self.rows.mark(stem, length);
+        self.rows.advance(&mut self.committed);
+        self.rows.keep_past(&self.committed);
+        self.rows.list_unmarked(&mut self.unmarked);
     }
 
     /// The greatest end up to which each byte is in a marked row, or below the offset of `begin`.
@@ -178,7 +174,7 @@ impl Acks {
             (λ adaptor. All (λ other. adaptor ≤ other) (expired_adaptors now age self.now.rows)) }
         ensures known { IfSome result (IsKnown self.now) }
     {
-        least_expired(&self.rows, now, age)
+        self.rows.least_expired(now, age)
     }
 
     /// Marks each adaptor with a row that is expired as `expired` says. It takes time linear in the
@@ -187,7 +183,7 @@ impl Acks {
         requires { length gone.old ≡ length self.now.committed }
         ensures { gone.new ≡ fold (expired_marked now age) gone.old self.now.rows }
     {
-        mark_expired(&self.rows, now, age, gone);
+        self.rows.mark_expired(now, age, gone);
     }
 
     /// The sink and the offset of the unmarked row after so many unmarked ones, in order of
@@ -196,7 +192,19 @@ impl Acks {
         ensures { result ≡ waiting_after skip self.now.rows }
     {
         let place = *self.unmarked.get(skip as usize)?;
-        let row = &self.rows[place as usize];
-        Some((row.stem, row.offset))
+        Some(self.rows.named_at(place))
+    }
+}
+
+// Sets the last ends of the marked adaptors to their committed ones.
+fn set_back(last: &mut [u64], committed: &[u64], gone: &[bool])
+    requires committed { length committed.now ≡ length last.old }
+    requires gone { length gone.now ≡ length last.old }
+    ensures { last.new ≡ ends_back gone.now committed.now last.old }
+{
+    for (adaptor, is_gone) in gone.iter().enumerate() {
+        if *is_gone {
+            last[adaptor] = committed[adaptor];
+        }
     }
 }

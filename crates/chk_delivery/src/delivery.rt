@@ -77,8 +77,8 @@ pub(crate) struct OutPoll {
 /// The chunks that wait, each with the number of its adaptor, the answers, the addresses, and the
 /// messages that are out.
 ///
-/// It holds at most the data of its limit, 140 bytes a row, 16 an adaptor, and one message at a
-/// time while it is sent.
+/// It holds at most the data of its limit, 52 bytes a row and 88 for each run of rows of one sink,
+/// 16 an adaptor, and one message at a time while it is sent.
 #[derive(Drop)]
 pub struct Delivery {
     rules: Rules,

@@ -1,6 +1,7 @@
 use Rattle.std.proofs.Common.{arith, ap, ap₂, length, subst, sym, ◌<◌, ◌≡◌, ◌∙◌, slice_set, slice_index, ◌++◌, ◌∷◌, [], ◌↔◌, refl, ℕ}
 use Rattle.std.proofs.lemmas.Bool.{cond-true}
 use Rattle.chk_acks.specs.declared.row.Row.{Row}
+use Rattle.chk_acks.specs.Keeping.{Answers}
 use Rattle.chk_acks.specs.Passes.{places_of}
 use Rattle.chk_acks.specs.Table.{IsSettled, Table, added, answer_row}
 use Rattle.chk_acks.specs.Sound.{IsSound}
@@ -14,16 +15,10 @@ use Rattle.chk_acks.proofs.table.Acks.answered.Goals as goal
 row : (c : goal.After-self-1) → Row
 row c = answer_row c.args.adaptor c.args.begin c.args.end c.args.stem c.args.offset c.args.now
 
-free : (c : goal.After-self-1) → length c.self.inside.rows.items < c.self.inside.room
+free : (c : goal.After-self-1) → length c.self.inside.rows.rows < c.self.inside.rows.room
 free c = subst (λ (t : Table). length t.rows < t.room) (sym c.self.view_is) c.requires.free
 
--- there was memory for it
-rows : (c : goal.After-self-1) → c.push-2.new.self.items ≡ c.self.inside.rows.items ++ (row c ∷ [])
-unfolding row
-rows c = let fits =
-    free c in c.push-2.ensures.items ∙ cond-true _ _ _ (c.push-2.ensures.succeeds (omega arith))
-
--- and for its place
+-- there was memory for its place
 listed : (c : goal.After-self-1) → c.push.new.self.items ≡ c.self.inside.unmarked.items
     ++ (c.len.result ∷ [])
 listed c =
@@ -31,7 +26,7 @@ listed c =
     c.push.ensures.items ∙ cond-true _ _ _ (c.push.ensures.succeeds
     (omega (
       arith,
-      length-places_of 0 c.self.inside.rows.items,
+      length-places_of 0 c.self.inside.rows.rows,
       ap (length {A = ℕ})
           c.self.invariant.places,
     )))
@@ -46,21 +41,26 @@ invariant_of-self c =
     c.requires.next ∙ ap (λ (t : Table). slice_index t.last c.args.adaptor) (sym c.self.view_is) in
     record {
       sound = subst
-          (λ rows. IsSound (record {
-            rows = rows;
+          (λ (a : Answers). IsSound (record {
+            rows = a.rows;
             committed = c.self.inside.committed.items;
             last = slice_set c.self.inside.last.items c.args.adaptor c.args.end;
-            room = c.self.inside.room;
+            room = a.room;
           }))
-          (sym (rows c))
+          (sym c.push-2.ensures)
           (sound_added (row c) (table_of c.self.inside) known (free c) next c.requires.some refl
           c.self.invariant.sound);
       places =
           listed c ∙ ap₂ (λ ps n. ps ++ (n ∷ [])) c.self.invariant.places
-          (c.len.ensures ∙ omega arith)
-          ∙ sym (ap (places_of 0) (rows c) ∙ places_of-push 0 c.self.inside.rows.items (row c));
-      rows_fit = omega (arith, c.push-2.ensures.capacity);
-      places_fit = omega (arith, c.push.ensures.capacity);
+          (c.len.ensures.len ∙ omega arith)
+          ∙ sym (ap (λ (a : Answers). places_of 0 a.rows) c.push-2.ensures
+          ∙ places_of-push 0 c.self.inside.rows.rows (row c));
+      places_fit = omega (
+        arith,
+        ap (λ (a : Answers). a.room) c.push-2.ensures,
+        c.push.ensures.capacity,
+        c.self.invariant.places_fit,
+      );
       numbered = c.self.invariant.numbered;
     }
 
@@ -68,13 +68,13 @@ pub returns-clause-table : goal.returns-clause-table
 unfolding row
 returns-clause-table c =
     ap
-    (λ rows. record {
-      rows = rows;
+    (λ (a : Answers). record {
+      rows = a.rows;
       committed = c.self.inside.committed.items;
       last = slice_set c.self.inside.last.items c.args.adaptor c.args.end;
-      room = c.self.inside.room;
+      room = a.room;
     })
-    (rows c)
+    c.push-2.ensures
     ∙ ap (added (row c)) c.self.view_is
 
 pub returns-clause-settled : goal.returns-clause-settled

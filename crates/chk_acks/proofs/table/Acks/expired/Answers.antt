@@ -15,7 +15,7 @@ found : (c : goal.After-least_expired) → c.least_expired.result
 found c =
     c.least_expired.ensures
     ∙ ap (λ rows. reduce min (expired_adaptors c.args.now c.args.age rows))
-    (c.deref.ensures.value ∙ ap (λ (t : Table). t.rows) c.self.view_is)
+    (ap (λ (t : Table). t.rows) c.self.view_is)
 
 pub returns-clause-none : goal.returns-clause-none
 returns-clause-none c = (

@@ -1,9 +1,10 @@
-use Rattle.std.proofs.Common.{arith, ap, length, sym, ◌<◌, ◌∙◌, Some}
+use Rattle.std.proofs.Common.{ap, sym, ◌∙◌, [], Some}
 use Rattle.std.specs.List.{filter, slice_get}
 use Rattle.std.specs.Option.{option_map}
+use Rattle.chk_bytes.specs.Stems.{stem_of}
 use Rattle.chk_acks.specs.declared.row.Row.{Row}
 use Rattle.chk_acks.specs.Rows.{is_unmarked}
-use Rattle.chk_acks.specs.Table.{Table}
+use Rattle.chk_acks.specs.Table.{Table, answer_row}
 use Rattle.chk_acks.proofs.Places.{none_at, place_within, row_at}
 use Rattle.chk_acks.proofs.table.Acks.waiting.Goals as goal
 
@@ -12,26 +13,24 @@ returns-in_err-place c =
     c.from_residual.ensures
     ∙ ap (option_map (λ (row : Row). (row.stem, row.offset)))
     (sym (ap (λ (t : Table). slice_get (filter is_unmarked t.rows) c.args.skip) (sym c.self.view_is)
-    ∙ none_at c.self.inside.rows.items c.deref.result.now
+    ∙ none_at c.self.inside.rows.rows c.deref.result.now
     (c.deref.ensures.value ∙ c.self.invariant.places) c.args.skip
     c.in_err-place.ensures.lookup.3))
 
-pub index-row-requires : goal.index-row-requires
-index-row-requires c =
+pub named_at-requires : goal.named_at-requires
+named_at-requires c =
     let lookup = c.in_ok-place.ensures.lookup in
-    let within : c.in_ok-place.field-0.now < length c.self.inside.rows.items =
-    place_within c.self.inside.rows.items c.deref.result.now
+    place_within c.self.inside.rows.rows c.deref.result.now
     (c.deref.ensures.value ∙ c.self.invariant.places) c.args.skip
-    c.in_ok-place.field-0.now lookup.3.0 (lookup.3.1 0) in
-    omega arith
+    c.in_ok-place.field-0.now lookup.3.0 (lookup.3.1 0)
 
 pub returns : goal.returns
 returns c =
     let lookup = c.in_ok-place.ensures.lookup in
-    ap (option_map (λ (row : Row). (row.stem, row.offset)))
-    (ap Some c.index-row.ensures
-    ∙ sym (ap (λ (t : Table). slice_get (filter is_unmarked t.rows) c.args.skip)
+    ap Some c.named_at.ensures
+    ∙ ap (option_map (λ (row : Row). (row.stem, row.offset)))
+    (sym (ap (λ (t : Table). slice_get (filter is_unmarked t.rows) c.args.skip)
     (sym c.self.view_is)
-    ∙ row_at c.self.inside.rows.items c.deref.result.now
+    ∙ row_at c.self.inside.rows.rows c.deref.result.now
     (c.deref.ensures.value ∙ c.self.invariant.places) c.args.skip
-    c.in_ok-place.field-0.now lookup.3.0 (lookup.3.1 0) c.index-row.result.now))
+    c.in_ok-place.field-0.now lookup.3.0 (lookup.3.1 0) (answer_row 0 0 0 (stem_of [] 0 0) 0 0)))

@@ -1,8 +1,8 @@
 use Rattle.std.proofs.Common.{◌∙◌, ap, sym, set, slice_index, add-one}
 use Rattle.chk_acks.specs.Resets.{back_to}
 use Rattle.chk_acks.proofs.ResetLemmas.{back_more, back_same}
-use Rattle.chk_acks.proofs.row.set_back.Goals as goal
-use Rattle.chk_acks.proofs.row.set_back.Goals.{then-is_gone, else-is_gone}
+use Rattle.chk_acks.proofs.table.set_back.Goals as goal
+use Rattle.chk_acks.proofs.table.set_back.Goals.{then-is_gone, else-is_gone}
 
 pub loop-adaptor-preserved : goal.loop-adaptor-preserved
 loop-adaptor-preserved c =

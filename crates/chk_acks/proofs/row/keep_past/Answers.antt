@@ -1,9 +1,0 @@
-use Rattle.std.proofs.Common.{rules}
-use Rattle.std.proofs.lemmas.Fn.{filter_same}
-use Rattle.chk_acks.specs.Rows.{is_past}
-use Rattle.chk_acks.proofs.row.keep_past.Goals as goal
-
-pub returns-clause-rows : goal.returns-clause-rows
-returns-clause-rows c =
-    filter_same _ (is_past c.args.committed.now) _ (λ x b f' k. search rules) _ _
-    c.retain.ensures.filtered
