@@ -87,8 +87,8 @@ fn open<S: Site>(
     }
 }
 
-/// Writes a record behind the others; the first one begins the segment. After a refusal nothing is said of `output`.
-pub(crate) fn put<S: Site>(
+/// Writes the first record; a segment that is there takes it too.
+fn put_first<S: Site>(
     alloc: Global,
     site: &mut S,
     who: &Who,
@@ -111,5 +111,34 @@ pub(crate) fn put<S: Site>(
     let mut segmenter = open(alloc, site, who, book, output.segmenter.take())?;
     segmenter.part(alloc, site, chunk)?;
     output.segmenter = Some(segmenter);
+    output.count(chunk.body.len())
+}
+
+/// Writes a record behind the others; the first one begins the segment, which then stays in its place. After a refusal nothing is
+/// said of `output`.
+pub(crate) fn put<S: Site>(
+    alloc: Global,
+    site: &mut S,
+    who: &Who,
+    book: &Book,
+    output: &mut Output,
+    chunk: &ChunkRef<'_>,
+) -> Result<(), JobFault>
+    requires job { who.now ≡ job }
+    requires writer { IsWriter (book_view book.now).next output.old.segmenter }
+    requires key { IsTrue (is_key (lent_chunk chunk.now).key) }
+    requires value { IsTrue (has_value record_limit (lent_chunk chunk.now).key (lent_chunk chunk.now).value) }
+    ensures told { (stamped : List (List ℕ)) (v : Sight) (outs : List Chunk) → IsFree v (book_view book.now).next
+        → Adds (S.told site.old) (S.told site.new)
+        (Leads (As stamped job) (AtJob stamped (IsOutput v outs output.old))
+        (EndsSo stamped v (book_view book.now).next (λ t u. IsOutput v (outs ++ lent_chunk chunk.now ∷ []) output.new u) result)) }
+    ensures writer { OnOk result (IsWriter (book_view book.now).next output.new.segmenter) }
+    ensures works { Adds (S.told site.old) (S.told site.new) (Worked (WritesTo (segment_name (codes "demux") (book_view book.now).next)) result) }
+    ensures cause { JobCause (S.fault_count site.old) (S.fault_count site.new) result }
+{
+    let Some(segmenter) = &mut output.segmenter else {
+        return put_first(alloc, site, who, book, output, chunk);
+    };
+    segmenter.part(alloc, site, chunk)?;
     output.count(chunk.body.len())
 }

@@ -12,7 +12,7 @@ use std::alloc::Global;
 
 /// Reads the values of records whose heads are known. It holds a window of one file: the last
 /// record that was asked for, and those of the next heads where they lie close, in all at most
-/// 1,048,576 bytes, or one larger record.
+/// 262,144 bytes, or one larger record.
 #[derive(Debug, Drop)]
 pub struct RecordReader {
     file: u32,
@@ -59,8 +59,8 @@ impl RecordReader {
     /// After a refusal nothing is held.
     ///
     /// Where the window holds the record, no call is made. Else it costs one read of the record,
-    /// or of the records of this and the next heads, as long as they follow in the same file and
-    /// at least half of the bytes are theirs; a record of more than 1,048,576 bytes costs two.
+    /// or of the records of this and the next heads, as long as they follow in the same file with
+    /// at most 4,096 bytes between two of them; a record of more than 1,048,576 bytes costs two.
     pub fn fetch<S: Site>(
         &mut self,
         alloc: Global,

@@ -7,6 +7,12 @@ ghost use Rattle.chk_merge.specs.Spans.{IsValueSpan, NoValueSpan, room_of};
 use chk_bytes::take_u32;
 use chk_heads::{HeadRef, Heads, PIECE};
 
+/// The most bytes between two records that are read with them: a read of its own costs as much.
+const GAP: u64 = 4096;
+
+/// How far a read goes on to further records. So many bytes stay in the processor's cache.
+const WINDOW: u64 = 262_144;
+
 /// A run of bytes.
 #[derive(Clone, Copy, Debug, PartialEq, Eq)]
 pub(crate) struct Span {
@@ -52,8 +58,8 @@ fn counted(word: &str) -> u64
 }
 
 /// How many bytes from a head's record on are read at once: the record, and those of the next
-/// heads that follow it in its file, up to 1,048,576 bytes, as long as at least half of what is
-/// read was asked for. It costs the heads that it reaches.
+/// heads that follow it in its file, up to 262,144 bytes, as long as at most 4,096 bytes lie
+/// between two of them. It costs the heads that it reaches.
 pub(crate) fn reach(heads: &Heads, index: usize) -> u64
     requires { index < length heads.now }
     ensures enough { room_of (slice_index_or heads.now index no_head) ≤ result }
@@ -62,12 +68,9 @@ pub(crate) fn reach(heads: &Heads, index: usize) -> u64
     let first = heads.get(index);
     let count = heads.len();
     let mut size = room(&first);
-    let mut wanted = size;
     for next in index + 1..count {
-        let head = heads.get(next);
-        let end = end_past(&first, &head);
-        wanted = wanted.saturating_add(room(&head));
-        if end <= size || end > PIECE || end / 2 > wanted {
+        let end = end_near(&first, &heads.get(next), size);
+        if end <= size || end > WINDOW {
             break;
         }
         size = end;
@@ -76,13 +79,13 @@ pub(crate) fn reach(heads: &Heads, index: usize) -> u64
 }
 
 /// How far a head's record may reach behind the place of the first one's, in the same file; 0
-/// where it doesn't stand there.
-fn end_past(first: &HeadRef<'_>, head: &HeadRef<'_>) -> u64 {
+/// where it doesn't stand there, or too far behind the first `size` bytes.
+fn end_near(first: &HeadRef<'_>, head: &HeadRef<'_>, size: u64) -> u64 {
     if head.file != first.file {
         return 0;
     }
     match head.at.checked_sub(first.at) {
-        Some(past) => past.saturating_add(room(head)),
-        None => 0,
+        Some(past) if past.saturating_sub(size) <= GAP => past.saturating_add(room(head)),
+        _ => 0,
     }
 }

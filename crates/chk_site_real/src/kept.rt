@@ -11,6 +11,12 @@ use std::fs::{File, OpenFile};
 use std::os::unix::fs::{FileExt, MetadataExt};
 use std::rt::Files;
 
+/// A read of so many bytes or fewer takes the room for all of them, without a look at the file's size.
+const SMALL: u32 = 16_384;
+
+/// No file has bytes from here on.
+const FAR: u64 = 1 << 62;
+
 #[derive(Drop)]
 pub struct Kept {
     pub name: String,
@@ -44,7 +50,7 @@ impl Kept {
         ensures most { IfOk result (λ bytes. length bytes ≤ max) }
         ensures only { MayBeShort (answer_of result) }
     {
-        let room = self.rest(at)?.min(max as u64) as usize;
+        let room = self.room(at, max)?;
         if room == 0 {
             return Ok(Bytes::new(alloc));
         }
@@ -63,6 +69,17 @@ impl Kept {
             self.rest(at)?;
         }
         Ok(bytes)
+    }
+
+    // The room that a read takes. `Short` where the file is known to end before the place.
+    fn room(&self, at: u64, max: u32) -> Result<usize, SystemFault>
+        ensures most { IfOk result (λ room. room ≤ max) }
+        ensures only { MayBeShort (answer_of result) }
+    {
+        if max > 0 && max <= SMALL && at < FAR {
+            return Ok(max as usize);
+        }
+        Ok(self.rest(at)?.min(max as u64) as usize)
     }
 
     // How many bytes there are from the place on; `Short` where the file ends before it.
