@@ -20,6 +20,8 @@ use std::rt::Files;
 pub struct Host<R: Files<File = File>> {
     pub rt: R,
     writing: Option<Kept>,
+    /// The file that was created last, as long as its folder isn't synced.
+    unsettled: Option<String>,
     pub reading: Option<Kept>,
     pub listings: Listings,
     pub buffer: Vec<u8>,
@@ -30,26 +32,30 @@ impl<R: Files<File = File>> Host<R> {
         Host {
             rt,
             writing: None,
+            unsettled: None,
             reading: None,
             listings: Listings::new(alloc),
             buffer: Vec::new(alloc),
         }
     }
 
-    /// `Exists` where the file is there. The new file is kept open.
+    /// `Exists` where the file is there. The new file is kept open. Its folder is synced, but of a file
+    /// that is to be renamed: there the rename does it.
     pub fn create(&mut self, alloc: Global, name: &str) -> Result<(), SystemFault>
         ensures { MayExist (answer_of result) }
     {
+        self.settle()?;
         let kept_name = text(alloc, name)?;
+        let new_name = text(alloc, name)?;
         match OpenOptions::new()
             .append(true)
             .create_new(true)
             .open(&self.rt, name)
         {
             Ok(file) => {
-                sync_folder(&self.rt, name)?;
                 self.writing = Some(Kept::new(kept_name, file));
-                Ok(())
+                self.unsettled = Some(new_name);
+                self.settle_lasting(name)
             }
             Err(error) if error.kind() == ErrorKind::AlreadyExists => Err(SystemFault::Exists),
             Err(error) => Err(SystemFault::Failed(error)),
@@ -58,6 +64,14 @@ impl<R: Files<File = File>> Host<R> {
 
     /// A file that isn't there is `Failed`.
     pub fn append(&mut self, alloc: Global, name: &str, bytes: &[u8]) -> Result<(), SystemFault>
+        ensures { MayFail (answer_of result) }
+    {
+        self.settle_other(name)?;
+        let given = self.append_kept(alloc, name, bytes);
+        self.settle_failed(given)
+    }
+
+    fn append_kept(&mut self, alloc: Global, name: &str, bytes: &[u8]) -> Result<(), SystemFault>
         ensures { MayFail (answer_of result) }
     {
         let mut writer = self.writer(alloc, name)?;
@@ -70,6 +84,14 @@ impl<R: Files<File = File>> Host<R> {
     pub fn sync(&mut self, alloc: Global, name: &str) -> Result<(), SystemFault>
         ensures { MayFail (answer_of result) }
     {
+        self.settle_other(name)?;
+        let given = self.sync_kept(alloc, name);
+        self.settle_failed(given)
+    }
+
+    fn sync_kept(&mut self, alloc: Global, name: &str) -> Result<(), SystemFault>
+        ensures { MayFail (answer_of result) }
+    {
         let writer = self.writer(alloc, name)?;
         writer.file.sync_all()?;
         self.writing = Some(writer);
@@ -80,6 +102,7 @@ impl<R: Files<File = File>> Host<R> {
     pub fn cut(&mut self, alloc: Global, name: &str, length: u64) -> Result<(), SystemFault>
         ensures { MayMissOrBeShort (answer_of result) }
     {
+        self.settle()?;
         let size = self.size(name)?;
         if size < length {
             return Err(SystemFault::Short { size });
@@ -97,6 +120,15 @@ impl<R: Files<File = File>> Host<R> {
     pub fn rename(&mut self, old: &str, new: &str) -> Result<(), SystemFault>
         ensures { MayFail (answer_of result) }
     {
+        self.settle_other(old)?;
+        let given = self.rename_settled(old, new);
+        self.settle_failed(given)
+    }
+
+    // Both folders are synced behind the rename, so that nothing of the new file is unsettled.
+    fn rename_settled(&mut self, old: &str, new: &str) -> Result<(), SystemFault>
+        ensures { MayFail (answer_of result) }
+    {
         self.forget(old);
         self.forget(new);
         fs::rename(&self.rt, old, new)?;
@@ -104,12 +136,14 @@ impl<R: Files<File = File>> Host<R> {
         if folder_of(old) != folder_of(new) {
             sync_folder(&self.rt, old)?;
         }
+        self.unsettled = None;
         Ok(())
     }
 
     pub fn remove(&mut self, name: &str) -> Result<(), SystemFault>
         ensures { MayMiss (answer_of result) }
     {
+        self.settle()?;
         self.forget(name);
         match fs::remove_file(&self.rt, name) {
             Ok(()) => Ok(sync_folder(&self.rt, name)?),
@@ -271,6 +305,50 @@ impl<R: Files<File = File>> Host<R> {
     /// Closes the file that was read last, where it is kept.
     pub fn stop_reading(&mut self) {
         self.reading = None;
+    }
+
+    // Syncs the folder of the new file, but where the file is to be renamed. The calls that follow are then
+    // its appends, its sync and its rename, which nobody sees before the rename. Where the machine stops
+    // between them and the file is gone, it is as if the stop had come in the creation.
+    fn settle_lasting(&mut self, name: &str) -> Result<(), SystemFault>
+        ensures { MayFail (answer_of result) }
+    {
+        if name.ends_with(".tmp") {
+            return Ok(());
+        }
+        self.settle()
+    }
+
+    // Before a call on another file the folder of the new one is synced.
+    fn settle_other(&mut self, name: &str) -> Result<(), SystemFault>
+        ensures { MayFail (answer_of result) }
+    {
+        match &self.unsettled {
+            Some(new_name) if new_name.as_str() != name => self.settle(),
+            _ => Ok(()),
+        }
+    }
+
+    // Behind a call on the new file that failed any other call may come.
+    fn settle_failed(&mut self, given: Result<(), SystemFault>) -> Result<(), SystemFault>
+        requires { MayFail (answer_of given) }
+        ensures { MayFail (answer_of result) }
+    {
+        if given.is_err() {
+            self.settle()?;
+        }
+        given
+    }
+
+    // Syncs the folder of the file that was created last, where it isn't synced yet.
+    fn settle(&mut self) -> Result<(), SystemFault>
+        ensures { MayFail (answer_of result) }
+    {
+        if let Some(name) = &self.unsettled {
+            sync_folder(&self.rt, name.as_str())?;
+            self.unsettled = None;
+        }
+        Ok(())
     }
 
     // Closes the file of this name.

@@ -24,10 +24,10 @@ use std::time::{Clock, Duration};
 ///
 /// Files are named from the current folder, with or without a folder before the name; logs by their
 /// paths. What was made, renamed, removed or cut is so after a stop of the machine too, and what was
-/// appended once it is synced. To append to, sync or rename a file that isn't there fails; only
-/// `cut`, `remove`, `size` and `read` answer `Missing`, and they fail too where the file's folder
-/// isn't there. A read asks the machine for 131,072 bytes at a time. At most two files are open, the one
-/// written last and the one read last.
+/// appended once it is synced; a new file `.tmp` stays from its rename on. To append to, sync or rename a
+/// file that isn't there fails; only `cut`, `remove`, `size` and `read` answer `Missing`, and they fail too
+/// where the file's folder isn't there. A read asks the machine for 131,072 bytes at a time. At most two
+/// files are open, the one written last and the one read last.
 ///
 /// A log's rotated generations are found by their names in its folder, before each read, and after it
 /// where the file that was read isn't known to have been the base file all the while; a read is made

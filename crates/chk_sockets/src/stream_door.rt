@@ -14,13 +14,13 @@ use std::net::{Net, OpenListener, OpenStream, SocketAddr};
 use std::time::{Clock, Duration};
 use std::{io, thread};
 
-/// The time between two looks at a door, in milliseconds: the first ones follow fast, and those after
-/// a look at which somebody came, since the next message often comes at once.
-const FAST_MS: u64 = 1;
+/// The longest time between two looks at a door, in milliseconds. It is 1 ms at first, and behind a look
+/// at which somebody came, since the next message often comes at once.
+const LONGEST_PAUSE: u64 = 10;
 
-const SLOW_MS: u64 = 10;
-
-const FAST_LOOKS: u64 = 20;
+/// After so many looks at which nobody came the time grows by 1 ms: where a message comes each 200 ms,
+/// a look comes within 4 ms.
+const LOOKS_A_STEP: u64 = 32;
 
 /// How many peers that have sent nothing yet are held; then the oldest one goes.
 pub const MOST_SILENT: usize = 256;
@@ -157,12 +157,8 @@ impl<R: Net + Clock> StreamDoor<R> {
     }
 
     fn pause(&self) -> Duration {
-        let pause = if self.quiet_looks < FAST_LOOKS {
-            FAST_MS
-        } else {
-            SLOW_MS
-        };
-        Duration::from_millis(pause)
+        let steps = (self.quiet_looks / LOOKS_A_STEP).min(LONGEST_PAUSE - 1);
+        Duration::from_millis(1 + steps)
     }
 
     // One look at the door, without a wait: at the peers that were let in, and then at those outside.
