@@ -36,6 +36,13 @@ impl Bytes {
         Ok(Bytes { items })
     }
 
+    /// The list of these bytes, without a copy.
+    pub fn from_vec(items: Vec<u8>) -> Bytes
+        ensures { result ≡ items.items }
+    {
+        Bytes { items }
+    }
+
     /// Appends all of `more`, or without memory nothing. One append costs its own length, over
     /// many appends.
     pub fn push_all(&mut self, more: &[u8]) -> Result<(), NoMemory>

@@ -261,7 +261,7 @@ impl<R: Files<File = File>> Host<R> {
         ensures only { MayBeShort (answer_of result) }
     {
         let reader = self.reader(alloc, name)?;
-        let bytes = reader.piece(&mut self.buffer, alloc, at, max)?;
+        let bytes = reader.piece(alloc, at, max)?;
         self.reading = Some(reader);
         Ok(bytes)
     }

@@ -1,10 +1,10 @@
 //! A file that is kept open.
-ghost use Rattle.std.specs.Prelude.{◌≤◌, length, IfOk};
+ghost use Rattle.std.specs.Prelude.{◌≡◌, ◌≤◌, length, IfOk};
 ghost use Rattle.chk_site.specs.Site.{MayBeShort, MayFail};
 ghost use Rattle.chk_sockets.specs.Faults.{answer_of};
 
-use chk_bytes::Bytes;
-use chk_sockets::{SystemFault, make_room};
+use chk_bytes::{Bytes, NoMemory};
+use chk_sockets::SystemFault;
 use std::alloc::Global;
 use std::fs;
 use std::fs::{File, OpenFile};
@@ -38,15 +38,9 @@ impl Kept {
         open.ino() > 0 && open.ino() == named.ino() && open.dev() == named.dev()
     }
 
-    /// The bytes from the place on, up to `max` of them or the end of the file. `Short` where it ends
-    /// before the place.
-    pub fn piece(
-        &self,
-        buffer: &mut Vec<u8>,
-        alloc: Global,
-        at: u64,
-        max: u32,
-    ) -> Result<Bytes, SystemFault>
+    /// The bytes from the place on, up to `max` of them or the end of the file. They are read where
+    /// they stay. `Short` where the file ends before the place.
+    pub fn piece(&self, alloc: Global, at: u64, max: u32) -> Result<Bytes, SystemFault>
         ensures most { IfOk result (λ bytes. length bytes ≤ max) }
         ensures only { MayBeShort (answer_of result) }
     {
@@ -54,21 +48,21 @@ impl Kept {
         if room == 0 {
             return Ok(Bytes::new(alloc));
         }
-        make_room(buffer)?;
-        let mut bytes = Bytes::with_capacity(alloc, room)?;
+        let mut bytes = zeroes(alloc, room)?;
+        let mut filled = 0;
         for _ in 0..room {
-            let most = (room - bytes.len()).min(buffer.len());
-            let place = at.saturating_add(bytes.len() as u64);
-            let count = self.read_some(&mut buffer[..most], place)?;
+            let place = at.saturating_add(filled as u64);
+            let count = self.read_some(&mut bytes[filled..], place)?;
             if count == 0 {
                 break;
             }
-            bytes.push_all(&buffer[..count])?;
+            filled += count;
         }
-        if bytes.len() == 0 {
+        if filled == 0 {
             self.rest(at)?;
         }
-        Ok(bytes)
+        bytes.truncate(filled);
+        Ok(Bytes::from_vec(bytes))
     }
 
     // The room that a read takes. `Short` where the file is known to end before the place.
@@ -100,6 +94,15 @@ impl Kept {
         }
         Ok(self.file.read_at(buffer, place)?)
     }
+}
+
+// So many bytes to be read over.
+fn zeroes(alloc: Global, size: usize) -> Result<Vec<u8>, NoMemory>
+    ensures { IfOk result (λ bytes. length bytes.items ≡ size) }
+{
+    let mut bytes = Vec::with_capacity(alloc, size)?;
+    bytes.resize(size, 0)?;
+    Ok(bytes)
 }
 
 /// The kept file is the one of this name.
