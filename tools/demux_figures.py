@@ -59,7 +59,7 @@ def by_stamps(log):
     """A line with a stamp begins a record, and the last record waits for the line behind it."""
     held = []
     for line in log:
-        if held and line.startswith(copies.STAMP):
+        if held and line.startswith(copies.STAMP.rstrip()):
             yield b"".join(held)
             held = []
         held.append(line)

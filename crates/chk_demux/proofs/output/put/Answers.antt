@@ -24,10 +24,16 @@ returns-in_err-part-clause-told g c stamped v outs free =
     (leads_none (g.S.Site.told c.args.site.now)
     (λ h k. subst (λ o. AtJob stamped (SoFar v outs o) h) c.in-Some.is k))
     s c.part.new.self refl (lent_chunk c.args.chunk.now) c.part.result
-    (put_so stamped v next s c.part.new.self f.number free outs (lent_chunk c.args.chunk.now) c.part.result
-    c.part.ensures.raw c.part.ensures.at (writes_it next s f c.part.ensures.own) c.part.ensures.only)
+    (put_so stamped v next s c.part.new.self f.number free outs (lent_chunk c.args.chunk.now)
+    c.part.result c.part.ensures.raw c.part.ensures.at (writes_it next s f c.part.ensures.own)
+    c.part.ensures.only)
     {U = Unit {0}} (λ t u. IsOutput v (outs ++ lent_chunk c.args.chunk.now ∷ [])
-    (record { segmenter = Some c.part.new.self; taken = c.args.output.now.taken; entries = c.args.output.now.entries }) u)
+    (record {
+      segmenter = Some c.part.new.self;
+      taken = c.args.output.now.taken;
+      entries = c.args.output.now.entries;
+    })
+    u)
     c.in_err-part.field-0.0 c.in_err-part.was)
 
 pub returns-in_err-part-clause-works : goal.returns-in_err-part-clause-works
@@ -38,7 +44,8 @@ returns-in_err-part-clause-works g c =
     let f = subst (IsWriter next) c.in-Some.is c.requires.writer in
     rw (p.1, p.2)
     (works_result (Unit {0}) (WritesTo w) c.part.result c.in_err-part.field-0.0 c.in_err-part.was
-    (worked_writes w c.part.result (writes_it next c.in-Some.segmenter f c.part.ensures.own) c.part.ensures.last))
+    (worked_writes w c.part.result (writes_it next c.in-Some.segmenter f c.part.ensures.own)
+    c.part.ensures.last))
 
 pub returns-clause-told : goal.returns-clause-told
 returns-clause-told g c stamped v outs free =
@@ -51,15 +58,18 @@ returns-clause-told g c stamped v outs free =
     (leads_none (g.S.Site.told c.args.site.now)
     (λ h k. subst (λ o. AtJob stamped (SoFar v outs o) h) c.in-Some.is k))
     s c.part.new.self refl (lent_chunk c.args.chunk.now) c.part.result
-    (put_so stamped v next s c.part.new.self f.number free outs (lent_chunk c.args.chunk.now) c.part.result
-    c.part.ensures.raw c.part.ensures.at own c.part.ensures.only)
+    (put_so stamped v next s c.part.new.self f.number free outs (lent_chunk c.args.chunk.now)
+    c.part.result c.part.ensures.raw c.part.ensures.at own c.part.ensures.only)
     c.in_ok-part.field-0 c.in_ok-part.was w own
-    c.count.new.self c.count.result c.count.ensures.taken c.count.ensures.entries c.count.ensures.segmenter c.count.ensures.only
+    c.count.new.self c.count.result c.count.ensures.taken c.count.ensures.entries
+    c.count.ensures.segmenter c.count.ensures.only
 
 pub returns-clause-works : goal.returns-clause-works
 returns-clause-works g c =
     let next = (book_view c.args.book.now).next in
     let w = segment_name (codes "demux") next in
     let f = subst (IsWriter next) c.in-Some.is c.requires.writer in
-    counted_works w c.count.result c.count.ensures.only c.part.result c.in_ok-part.field-0 c.in_ok-part.was
-    (worked_writes w c.part.result (writes_it next c.in-Some.segmenter f c.part.ensures.own) c.part.ensures.last)
+    counted_works w c.count.result c.count.ensures.only c.part.result c.in_ok-part.field-0
+    c.in_ok-part.was
+    (worked_writes w c.part.result (writes_it next c.in-Some.segmenter f c.part.ensures.own)
+    c.part.ensures.last)
