@@ -1,46 +1,25 @@
 //! Lines as they are typed, and answers as they are shown.
-
+use crate::answers::{answers_each, plain, same};
 use chk_bytes::{Bytes, Word, WordFault};
 use chk_control::{Answer, Class, Command, LineFault, State, read_line, write_answer};
 use std::alloc::Global;
+use std::test::Fail;
 
 fn word(alloc: Global, text: &str) -> Result<Word, WordFault> {
     Word::new(alloc, text.as_bytes())
 }
 
-fn is_add(
-    command: &Command,
-    wanted_name: &str,
-    wanted_class: Class,
-    wanted_path: &str,
-    wanted_offset: u64,
-) -> bool {
-    match command {
-        Command::Add {
-            name,
-            class,
-            kind,
-            path,
-            offset,
-        } => {
-            let name = match name {
-                Some(name) => name.as_str(),
-                None => "",
-            };
-            name == wanted_name
-                && *class == wanted_class
-                && kind.as_str() == "Log"
-                && path.as_str() == wanted_path
-                && *offset == wanted_offset
-        }
-        _ => false,
+fn name_text(name: &Option<Word>) -> &str {
+    match name {
+        Some(name) => name.as_str(),
+        None => "-",
     }
 }
 
-/// A command's own word and the name behind it.
+// A command's own word and the name behind it.
 fn verb_and_name(command: &Command) -> (&str, &str) {
     match command {
-        Command::Blank => ("", ""),
+        Command::Blank => ("blank", ""),
         Command::Add { .. } => ("add", ""),
         Command::Close => ("close", ""),
         Command::Help => ("help", ""),
@@ -53,122 +32,75 @@ fn verb_and_name(command: &Command) -> (&str, &str) {
     }
 }
 
-#[test]
-fn added_adaptors(rt: HostRuntime) -> Result<(), LineFault> {
-    for (line, name, class, path, offset) in [
-        (
-            "add x = filetailer.LWFTAdaptor Log /a.log 0",
-            "x",
-            Class::Plain,
-            "/a.log",
-            0,
-        ),
-        (
-            "add y = filetailer.LWFTAdaptor Log /a.log 0\r",
-            "y",
-            Class::Plain,
-            "/a.log",
-            0,
-        ),
-        (
-            "add LWFTAdaptor Log /b.log 5",
-            "",
-            Class::Plain,
-            "/b.log",
-            5,
-        ),
-        (
-            "\tadd  FileTailingAdaptor\tLog /b.log 6 ",
-            "",
-            Class::Rotating,
-            "/b.log",
-            6,
-        ),
-        (
-            "add org.apache.hadoop.chukwa.datacollection.adaptor.filetailer.CharFileTailingAdaptorUTF8 Log = 4611686018427387903",
-            "",
-            Class::Lines,
-            "=",
-            4_611_686_018_427_387_903,
-        ),
-    ] {
-        let command = read_line(rt.alloc(), line.as_bytes())?;
-        assert!(rt; is_add(&command, name, class, path, offset), "{line}");
-    }
-    Ok(())
+fn other_text(alloc: Global, command: &Command) -> Result<String, Fail> {
+    let (verb, name) = verb_and_name(command);
+    let text = format!(in alloc; "{verb} {name}")?;
+    plain(alloc, text.as_str().trim_end())
 }
 
-#[test]
-fn other_commands(rt: HostRuntime) -> Result<(), LineFault> {
-    for (line, verb, name) in [
-        (b"".as_slice(), "", ""),
-        ([b' '; 16_384].as_slice(), "", ""),
-        (b"close\r".as_slice(), "close", ""),
-        (b"help".as_slice(), "help", ""),
-        (b"list".as_slice(), "list", ""),
-        (b"reloadcollectors".as_slice(), "reloadcollectors", ""),
-        (b"stop adaptor_1".as_slice(), "stop", "adaptor_1"),
-        (b"stopall".as_slice(), "stopall", ""),
-        (b"shutdown x".as_slice(), "shutdown", "x"),
-        (b"stopagent".as_slice(), "stopagent", ""),
-    ] {
-        let command = read_line(rt.alloc(), line)?;
-        let found = verb_and_name(&command);
-        assert!(rt; found.0 == verb && found.1 == name, "{line:?}");
+fn command_text(alloc: Global, command: &Command) -> Result<String, Fail> {
+    match command {
+        Command::Add {
+            name,
+            class,
+            kind,
+            path,
+            offset,
+        } => {
+            let (name, kind, path) = (name_text(name), kind.as_str(), path.as_str());
+            Ok(format!(in alloc; "add {name} {class:?} {kind} {path} {offset}")?)
+        }
+        other => other_text(alloc, other),
     }
-    Ok(())
 }
 
-#[test]
-fn refused_lines(rt: HostRuntime) {
-    for (line, fault, number) in [
-        (b"lst".as_slice(), LineFault::Unknown, 1),
-        (b"stop".as_slice(), LineFault::MissingWord, 2),
-        (
-            b"add LWFTAdaptor Log /b.log -5".as_slice(),
-            LineFault::BadOffset,
-            3,
-        ),
-        (
-            b"add LWFTAdaptor Log /b.log 05".as_slice(),
-            LineFault::BadOffset,
-            3,
-        ),
-        (
-            b"add LWFTAdaptor Log /b.log 4611686018427387904".as_slice(),
-            LineFault::BadOffset,
-            3,
-        ),
-        (
-            b"add SocketAdaptor Log /b.log -5".as_slice(),
-            LineFault::BadClass,
-            4,
-        ),
-        (b"stop \xFF".as_slice(), LineFault::NotUtf8, 5),
-        ([b' '; 16_385].as_slice(), LineFault::LongLine, 6),
-        (b"close now".as_slice(), LineFault::ExtraWord, 7),
-        (
-            b"add = LWFTAdaptor Log /b.log 0".as_slice(),
-            LineFault::ExtraWord,
-            7,
-        ),
-        (
-            b"add = = LWFTAdaptor Log /b.log 0".as_slice(),
-            LineFault::BadWord,
-            8,
-        ),
-        (
-            b"add SocketAdaptor Log /b\x7F.log 0".as_slice(),
-            LineFault::BadWord,
-            8,
-        ),
-    ] {
-        let Err(found) = read_line(rt.alloc(), line) else {
-            panic!(rt; "{fault:?}");
-        };
-        assert!(rt; found == fault && found != LineFault::NoMemory, "{fault:?}");
-        assert_eq!(rt; found.number(), number);
+fn fault_text(alloc: Global, fault: LineFault) -> Result<String, Fail> {
+    if fault == LineFault::NoMemory {
+        return Err(Fail::from("no memory"));
     }
+    let number = fault.number();
+    Ok(format!(in alloc; "{fault:?} {number}")?)
+}
+
+// The command, or the fault and its number.
+pub(crate) fn line(alloc: Global, bytes: &[u8]) -> Result<String, Fail> {
+    match read_line(alloc, bytes) {
+        Ok(command) => command_text(alloc, &command),
+        Err(fault) => fault_text(alloc, fault),
+    }
+}
+
+const LINES: &str = "\
+add x = filetailer.LWFTAdaptor Log /a.log 0 => add x Plain Log /a.log 0
+add y = filetailer.LWFTAdaptor Log /a.log 0%0D => add y Plain Log /a.log 0
+add LWFTAdaptor Log /b.log 5 => add - Plain Log /b.log 5
+%09add  FileTailingAdaptor%09Log /b.log 6  => add - Rotating Log /b.log 6
+add org.apache.hadoop.chukwa.datacollection.adaptor.filetailer.CharFileTailingAdaptorUTF8 Log = 4611686018427387903 => add - Lines Log = 4611686018427387903
+ => blank
+close%0D => close
+help => help
+list => list
+reloadcollectors => reloadcollectors
+stop adaptor_1 => stop adaptor_1
+stopall => stopall
+shutdown x => shutdown x
+stopagent => stopagent
+lst => Unknown 1
+stop => MissingWord 2
+add LWFTAdaptor Log /b.log -5 => BadOffset 3
+add LWFTAdaptor Log /b.log 05 => BadOffset 3
+add LWFTAdaptor Log /b.log 4611686018427387904 => BadOffset 3
+add SocketAdaptor Log /b.log -5 => BadClass 4
+stop %FF => NotUtf8 5
+close now => ExtraWord 7
+add = LWFTAdaptor Log /b.log 0 => ExtraWord 7
+add = = LWFTAdaptor Log /b.log 0 => BadWord 8
+add SocketAdaptor Log /b%7F.log 0 => BadWord 8
+";
+
+#[test]
+fn lines(rt: HostRuntime) -> Result<(), Fail> {
+    answers_each(rt.alloc(), "line", LINES)
 }
 
 fn adaptor(alloc: Global, name: &str, path: &str, offset: u64) -> Result<Answer, WordFault> {
@@ -219,52 +151,47 @@ fn show(out: &mut Bytes, answer: &Answer) -> Result<(), WordFault> {
     }
 }
 
+// `FORM|TEXT|NUMBER|LINE`.
+const ANSWERS: &str = "\
+added|x|0|OK add completed; new ID is x
+added|adaptor_1|0|OK add completed; new ID is adaptor_1
+bad||9|BAD 9 NameInUse
+bad||10|BAD 10 StreamInUse
+bad||3|BAD 3 BadOffset
+bad||12|BAD 12 NoAdaptor
+bad||14|BAD 14 OtherStart
+bad||1|BAD 1 Unknown
+x|/a.log|0|x LWFTAdaptor Log /a.log 0 0 live
+adaptor_1|/b.log|5|adaptor_1 LWFTAdaptor Log /b.log 5 5 live
+listed||2|OK 2 adaptors
+stopped|x|0|OK adaptor x stopped
+stopped|adaptor_1|0|OK adaptor adaptor_1 stopped
+stopping|x|0|OK adaptor x stopping
+closed||0|OK close
+help||0|commands: add close help list reloadcollectors stop stopall shutdown stopagent
+reloaded||3|OK 3 collectors
+all stopped||4294967295|OK stopped 4294967295 adaptors
+agent stops||0|OK agent stops
+";
+
+fn shows(alloc: Global, row: &str) -> Result<(), Fail> {
+    let (form, rest) = row.split_once('|').ok_or("no text")?;
+    let (text, rest) = rest.split_once('|').ok_or("no number")?;
+    let (number, shown) = rest.split_once('|').ok_or("no line")?;
+    let mut out = Bytes::new(alloc);
+    show(&mut out, &answer(alloc, form, text, number.parse()?)?)?;
+    same(
+        alloc,
+        row,
+        std::str::from_utf8(out.as_slice())?.trim_end(),
+        shown,
+    )
+}
+
 #[test]
-fn answers(rt: HostRuntime) -> Result<(), WordFault> {
-    for (form, text, number, shown) in [
-        ("added", "x", 0, "OK add completed; new ID is x\n"),
-        ("bad", "", 9, "BAD 9 NameInUse\n"),
-        ("bad", "", 10, "BAD 10 StreamInUse\n"),
-        ("bad", "", 3, "BAD 3 BadOffset\n"),
-        (
-            "added",
-            "adaptor_1",
-            0,
-            "OK add completed; new ID is adaptor_1\n",
-        ),
-        ("x", "/a.log", 0, "x LWFTAdaptor Log /a.log 0 0 live\n"),
-        (
-            "adaptor_1",
-            "/b.log",
-            5,
-            "adaptor_1 LWFTAdaptor Log /b.log 5 5 live\n",
-        ),
-        ("listed", "", 2, "OK 2 adaptors\n"),
-        ("stopped", "x", 0, "OK adaptor x stopped\n"),
-        ("bad", "", 12, "BAD 12 NoAdaptor\n"),
-        ("stopped", "adaptor_1", 0, "OK adaptor adaptor_1 stopped\n"),
-        ("bad", "", 14, "BAD 14 OtherStart\n"),
-        ("bad", "", 1, "BAD 1 Unknown\n"),
-        ("closed", "", 0, "OK close\n"),
-        (
-            "help",
-            "",
-            0,
-            "commands: add close help list reloadcollectors stop stopall shutdown stopagent\n",
-        ),
-        ("reloaded", "", 3, "OK 3 collectors\n"),
-        (
-            "all stopped",
-            "",
-            4_294_967_295,
-            "OK stopped 4294967295 adaptors\n",
-        ),
-        ("stopping", "x", 0, "OK adaptor x stopping\n"),
-        ("agent stops", "", 0, "OK agent stops\n"),
-    ] {
-        let mut out = Bytes::new(rt.alloc());
-        show(&mut out, &answer(rt.alloc(), form, text, number)?)?;
-        assert!(rt; out.as_slice() == shown.as_bytes(), "{shown}");
+fn answers(rt: HostRuntime) -> Result<(), Fail> {
+    for row in ANSWERS.lines() {
+        shows(rt.alloc(), row)?;
     }
     Ok(())
 }

@@ -2,7 +2,7 @@
 #![tactic(auto)]
 
 #[cfg(test)]
-mod chunk;
+mod answers;
 #[cfg(test)]
 mod control;
 #[cfg(test)]
@@ -12,4 +12,8 @@ mod salvage;
 #[cfg(test)]
 mod seqfile;
 #[cfg(test)]
-mod words;
+mod tables;
+#[cfg(test)]
+mod texts;
+#[cfg(test)]
+mod written;

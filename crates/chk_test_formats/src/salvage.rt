@@ -1,220 +1,130 @@
-use chk_salvage::{
-    EntryRef, Fed, FrontFault, FrontStop, HeaderFault, Next, Pieces, Reader, Span, Why, front,
-    salvage,
-};
-use std::alloc::{AllocError, Global};
+//! SequenceFiles read in pieces and behind damage, as text.
+ghost use Rattle.std.specs.Prelude.{◌≤◌};
+
+use crate::texts::bytes_of;
+use chk_salvage::{EntryRef, Fed, Next, Pieces, Reader, Salvaged, salvage};
+use std::alloc::Global;
 use std::test::Fail;
 
-/// A header of the stem `c1.1.1`, with the MD5 of that.
-const HEADER: &[&[u8]] = &[b"SEQ\x06", CLASS, CLASS, &[0; 6], MARKER];
+// A header, a sync entry, the record of `hello\n` and a sync entry.
+const BEFORE: &str =
+    "SEQ%06%CL%CL%ZZ%MK%FF%FF%FF%FF%MK%00%00%00%28%00%00%00%1E%00%00%00%1A%01%ZZ%00%06%00%02h1%00%03Log%00%06/a.log%00%00%00%06hello%0A%FF%FF%FF%FF%MK";
 
-/// The class of keys and values, behind its length.
-const CLASS: &[u8] = b"\x22org.apache.hadoop.io.BytesWritable";
-
-const MARKER: &[u8] = b"\x0a\xf0\x97\x25\xe9\x50\xf7\x0f\x42\xf5\x31\xed\xf6\x35\xb2\x40";
-
-const SYNC: &[u8] =
-    b"\xff\xff\xff\xff\x0a\xf0\x97\x25\xe9\x50\xf7\x0f\x42\xf5\x31\xed\xf6\x35\xb2\x40";
-
-const KEY: &[u8] = b"\x01\0\0\0\0\0\0\0\x06\0\x02h1\0\x03Log\0\x06/a.log";
-
-/// The three lengths of a record with that key and the value `hello`, and that value.
-const SIZES: &[u8] = b"\0\0\0\x28\0\0\0\x1e\0\0\0\x1a";
-
-const HELLO: &[u8] = b"\0\0\0\x06hello\n";
-
-/// The same with a value of 1,958 bytes.
-const LONG_SIZES: &[u8] = b"\0\0\x07\xc8\0\0\0\x1e\0\0\0\x1a";
-
-const LONG_VALUE: &[u8] = b"\0\0\x07\xa6";
-
-/// A header and these parts.
-fn file(alloc: Global, parts: &[&[u8]]) -> Result<Vec<u8>, AllocError> {
-    let mut bytes = Vec::new(alloc);
-    for part in HEADER {
-        bytes.extend_from_slice(part)?;
-    }
-    for part in parts {
-        bytes.extend_from_slice(part)?;
-    }
-    Ok(bytes)
+// Where the record begins and ends, and how long its key and its value are.
+fn entry_text(alloc: Global, entry: &EntryRef<'_>) -> Result<String, Fail> {
+    let (at, end) = (entry.at, entry.end);
+    let (key, value) = (entry.key.len(), entry.value.len());
+    Ok(format!(in alloc; "{at} {end} {key} {value}")?)
 }
 
-#[test]
-fn fronts_of_cut_files(rt: HostRuntime) -> Result<(), Fail> {
-    let bytes = file(rt.alloc(), &[SIZES, KEY, HELLO])?;
-    assert_eq!(rt; bytes.len(), 144);
-    let short = Err(FrontFault::Header(HeaderFault::Short));
-    let torn = FrontStop::Damaged {
-        at: 96,
-        why: Why::Torn,
+fn next_text(alloc: Global, next: Next<'_>) -> Result<String, Fail> {
+    match next {
+        Next::Entry(entry) => entry_text(alloc, &entry),
+        other => Ok(format!(in alloc; "{other:?}")?),
+    }
+}
+
+// What a reader gives of the file, and gives again.
+fn given_thrice(alloc: Global, reader: &mut Reader<'_>) -> Result<String, Fail> {
+    let first = next_text(alloc, reader.next())?;
+    let then = next_text(alloc, reader.next())?;
+    let again = next_text(alloc, reader.next())?;
+    let same = if then.as_str() == again.as_str() {
+        "twice"
+    } else {
+        "once"
     };
-    for (cut, expected) in [
-        (0, short),
-        (95, short),
-        (96, Ok((0, FrontStop::End))),
-        (97, Ok((0, torn))),
-        (143, Ok((0, torn))),
-        (144, Ok((1, FrontStop::End))),
-    ] {
-        let found = front(rt.alloc(), &bytes[..cut.min(144)]);
-        let found = found.map(|front| (front.entries.as_slice().len(), front.stop));
-        assert_eq!(rt; found, expected, "cut at {cut}");
-    }
-    let found = front(rt.alloc(), b"SEX").map(|front| front.stop);
-    assert_eq!(rt; found, Err(FrontFault::Header(HeaderFault::NotSeq)));
-    Ok(())
+    Ok(format!(in alloc; "{first}, {same} {then}")?)
 }
 
-#[test]
-fn reads_records_and_damage(rt: HostRuntime) -> Result<(), Fail> {
-    let ends: [(&[&[u8]], Why); 9] = [
-        (&[b"\0\0\0"], Why::Torn),
-        (&[b"\x80\0\0\0"], Why::BadLength),
-        (&[b"\xff\xff\xff\xff", &[7; 16]], Why::BadMarker),
-        (&[&SYNC[..19]], Why::Torn),
-        (&[b"\0\0\0\x08\0\0\0\x03"], Why::BadLength),
-        (&[b"\0\0\0\x08\0\0\0\x05"], Why::BadLength),
-        (&[b"\0\0\0\x08\0\0\0\x04\0\0\0"], Why::Torn),
-        (&[b"\0\0\0\x08\0\0\0\x04\0\0\0\x01\0\0\0\0"], Why::BadLength),
-        (&[b"\0\0\0\x08\0\0\0\x04\0\0\0\0\0\0\0\x01"], Why::BadLength),
-    ];
-    for (parts, why) in ends {
-        let mut bytes = file(rt.alloc(), &[SYNC, SIZES, KEY, HELLO, SYNC])?;
-        for part in parts {
-            bytes.extend_from_slice(part)?;
-        }
-        let Ok(mut reader) = Reader::new(&bytes) else {
-            return Err(Fail::from("no header"));
-        };
-        let entry = EntryRef {
-            at: 116,
-            end: 164,
-            key: KEY,
-            value: b"hello\n",
-        };
-        assert_eq!(rt; reader.next(), Next::Entry(entry));
-        assert_eq!(rt; reader.next(), Next::Damaged { at: 184, why });
-        assert_eq!(rt; reader.next(), Next::Damaged { at: 184, why });
+// What is read of these bytes behind a record and a sync entry.
+pub(crate) fn damage(alloc: Global, bytes: &[u8]) -> Result<String, Fail> {
+    let mut file = bytes_of(alloc, BEFORE)?;
+    file.push_all(bytes)?;
+    match Reader::new(file.as_slice()) {
+        Ok(mut reader) => given_thrice(alloc, &mut reader),
+        Err(fault) => Ok(format!(in alloc; "{fault:?}")?),
+    }
+}
+
+fn fed_text(alloc: Global, fed: Fed<'_>) -> Result<String, Fail> {
+    match fed {
+        Fed::Entry(entry) => entry_text(alloc, &entry),
+        other => Ok(format!(in alloc; "{other:?}")?),
+    }
+}
+
+// What is given of these bytes, fed at once.
+pub(crate) fn fed(alloc: Global, limit: u32, bytes: &[u8]) -> Result<String, Fail>
+    requires { 64 ≤ limit }
+{
+    let mut pieces = Pieces::new(alloc, limit);
+    if bytes.len() > 1000 {
+        return Err(Fail::from("too many bytes"));
+    }
+    pieces.feed(bytes)?;
+    fed_text(alloc, pieces.next())
+}
+
+fn feed_next(pieces: &mut Pieces, byte: u8) -> Result<(), Fail> {
+    if pieces.next() != Fed::More {
+        return Err(Fail::from("an early answer"));
+    }
+    if pieces.place() > 1000 || pieces.left() > 1000 {
+        return Err(Fail::from("too many bytes"));
+    }
+    Ok(pieces.feed(&[byte])?)
+}
+
+fn feed_each(pieces: &mut Pieces, bytes: &[u8]) -> Result<(), Fail> {
+    for byte in bytes {
+        feed_next(pieces, *byte)?;
     }
     Ok(())
 }
 
-#[test]
-fn salvages_behind_damage(rt: HostRuntime) -> Result<(), Fail> {
-    let entry = EntryRef {
-        at: 2116,
-        end: 2164,
-        key: KEY,
-        value: b"hello\n",
-    };
-    let zeros: &[u8] = &[0; 1958];
-    let bytes = file(
-        rt.alloc(),
-        &[
-            b"\x7f",
-            &LONG_SIZES[1..],
-            KEY,
-            LONG_VALUE,
-            zeros,
-            SYNC,
-            SIZES,
-            KEY,
-            HELLO,
-        ],
-    )?;
-    let found = salvage(rt.alloc(), &bytes)?;
-    let skipped = [Span {
-        begin: 96,
-        end: 2096,
-    }];
-    assert_eq!(rt; found.skipped.as_slice(), skipped.as_slice());
-    assert_eq!(rt; found.entries.as_slice(), [entry].as_slice());
+fn given_twice(alloc: Global, pieces: &mut Pieces) -> Result<String, Fail> {
+    let first = fed_text(alloc, pieces.next())?;
+    let then = fed_text(alloc, pieces.next())?;
+    let (place, left) = (pieces.place(), pieces.left());
+    Ok(format!(in alloc; "{first}, {then}, {place} {left}")?)
+}
 
-    let bytes = file(rt.alloc(), &[b"\x7f", &SIZES[1..], KEY, HELLO])?;
-    let found = salvage(rt.alloc(), &bytes)?;
-    let skipped = [Span {
-        begin: 96,
-        end: 144,
-    }];
-    assert_eq!(rt; found.skipped.as_slice(), skipped.as_slice());
-    assert!(rt; found.entries.as_slice().is_empty());
+// Fed byte by byte, nothing is given before the last byte; then the two next answers, the place and
+// how many bytes are left.
+pub(crate) fn fed_slowly(alloc: Global, bytes: &[u8]) -> Result<String, Fail> {
+    let mut pieces = Pieces::new(alloc, 64);
+    feed_each(&mut pieces, bytes)?;
+    given_twice(alloc, &mut pieces)
+}
+
+fn add_entries(text: &mut String, entries: &[EntryRef<'_>]) -> Result<(), Fail> {
+    for entry in entries {
+        let (at, end) = (entry.at, entry.end);
+        write!(text, "entry {at} {end} ")?;
+    }
     Ok(())
 }
 
-#[test]
-fn reads_byte_by_byte(rt: HostRuntime) -> Result<(), Fail> {
-    let bytes = file(rt.alloc(), &[SIZES, KEY, HELLO])?;
-    assert_eq!(rt; bytes.len(), 144);
-    let mut pieces = Pieces::new(rt.alloc(), 64);
-    for place in 0..143 {
-        assert!(rt; pieces.place() + pieces.left() == place as u64);
-        pieces.feed(&bytes[place..place + 1])?;
-        assert_eq!(rt; pieces.next(), Fed::More, "at {place}");
+fn add_skipped(text: &mut String, found: &Salvaged<'_>) -> Result<(), Fail> {
+    for span in found.skipped.as_slice() {
+        let (begin, end) = (span.begin, span.end);
+        write!(text, "skipped {begin} {end} ")?;
     }
-    assert!(rt; pieces.place() + pieces.left() == 143);
-    pieces.feed(&bytes[143..])?;
-    let entry = EntryRef {
-        at: 96,
-        end: 144,
-        key: KEY,
-        value: b"hello\n",
-    };
-    assert_eq!(rt; pieces.next(), Fed::Entry(entry));
-    assert_eq!(rt; pieces.next(), Fed::More);
-    assert_eq!(rt; (pieces.place(), pieces.left()), (144, 0));
     Ok(())
 }
 
-#[test]
-fn reads_metadata_byte_by_byte(rt: HostRuntime) -> Result<(), Fail> {
-    let texts: &[u8] = b"\x01a\0\x8f\x02bc\x03def\x8e\0\x01g\x01h";
-    let parts = [b"SEQ\x06", CLASS, CLASS, b"\0\0\0\0\0\x03", texts, MARKER];
-    let mut pieces = Pieces::new(rt.alloc(), 64);
-    for part in parts {
-        for byte in part {
-            assert_eq!(rt; pieces.next(), Fed::More);
-            assert_eq!(rt; pieces.place(), 0);
-            assert!(rt; pieces.left() < 113);
-            pieces.feed(&[*byte])?;
-        }
-    }
-    assert_eq!(rt; pieces.next(), Fed::More);
-    assert_eq!(rt; (pieces.place(), pieces.left()), (113, 0));
-    Ok(())
+fn salvaged_text(alloc: Global, found: &Salvaged<'_>) -> Result<String, Fail> {
+    let mut text = String::new(alloc);
+    add_entries(&mut text, found.entries.as_slice())?;
+    add_skipped(&mut text, found)?;
+    Ok(String::from_str(alloc, text.as_str().trim_end())?)
 }
 
-#[test]
-fn stops_when_fed(rt: HostRuntime) -> Result<(), Fail> {
-    let value: &[u8] = &[7; 31];
-    let sizes: &[u8] = b"\0\0\0\x41\0\0\0\x1e\0\0\0\x1a";
-    let whole = EntryRef {
-        at: 96,
-        end: 169,
-        key: KEY,
-        value,
-    };
-    for (limit, expected) in [
-        (64, Fed::Long { at: 96, need: 65 }),
-        (65, Fed::Entry(whole)),
-    ] {
-        let bytes = file(rt.alloc(), &[sizes, KEY, b"\0\0\0\x1f", value])?;
-        assert!(rt; bytes.len() < 1000);
-        let mut pieces = Pieces::new(rt.alloc(), limit);
-        pieces.feed(&bytes)?;
-        assert_eq!(rt; pieces.next(), expected);
+// The records, and what is skipped.
+pub(crate) fn salvaged(alloc: Global, bytes: &[u8]) -> Result<String, Fail> {
+    match salvage(alloc, bytes) {
+        Ok(found) => salvaged_text(alloc, &found),
+        Err(fault) => Ok(format!(in alloc; "{fault:?}")?),
     }
-    let mut pieces = Pieces::new(rt.alloc(), 64);
-    pieces.feed(b"SEX")?;
-    assert_eq!(rt; pieces.next(), Fed::Header(HeaderFault::NotSeq));
-    let bytes = file(rt.alloc(), &[b"\xff\xff\xff\xff", &[7; 16]])?;
-    assert!(rt; bytes.len() < 1000);
-    let mut pieces = Pieces::new(rt.alloc(), 64);
-    pieces.feed(&bytes)?;
-    let damaged = Fed::Damaged {
-        at: 96,
-        why: Why::BadMarker,
-    };
-    assert_eq!(rt; pieces.next(), damaged);
-    Ok(())
 }

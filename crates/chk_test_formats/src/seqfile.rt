@@ -1,4 +1,4 @@
-use chk_seqfile::{HeaderFault, HeaderRef, SeqWriter, header, read_header, read_header_on};
+use chk_seqfile::{HeaderFault, HeaderRef, SeqWriter, header, read_header_on};
 use std::alloc::{AllocError, Global};
 use std::test::Fail;
 
@@ -55,95 +55,6 @@ fn sync_entry_at_2000(rt: HostRuntime) -> Result<(), Fail> {
         assert_eq!(rt; writer.place(), second_end);
         let sync = joined(rt.alloc(), &[&[255; 4], &MARKER])?;
         assert_eq!(rt; piece.as_slice().starts_with(&sync), synced);
-    }
-    Ok(())
-}
-
-#[test]
-fn reads_headers(rt: HostRuntime) -> Result<(), Fail> {
-    let front: &[u8] = b"SEQ\x06";
-    let text: &[u8] = b"\x19org.apache.hadoop.io.Text";
-    let none: &[u8] = &[0; 6];
-    let ends: [(&[&[u8]], Result<u64, HeaderFault>); 19] = [
-        (&[front, CLASS, CLASS, none, &MARKER], Ok(96)),
-        (&[front, CLASS, CLASS, none, &MARKER, b"more"], Ok(96)),
-        (
-            &[front, CLASS, CLASS, b"\0\0\0\0\0\x01\x01a\x01b", &MARKER],
-            Ok(100),
-        ),
-        (&[], Err(HeaderFault::Short)),
-        (&[b"SE"], Err(HeaderFault::Short)),
-        (&[b"SEX"], Err(HeaderFault::NotSeq)),
-        (&[b"SEQ\x03"], Err(HeaderFault::Version { found: 3 })),
-        (&[front, b"\x23"], Err(HeaderFault::OtherClass)),
-        (&[front, text], Err(HeaderFault::OtherClass)),
-        (&[front, CLASS, text, b"\x01"], Err(HeaderFault::OtherClass)),
-        (&[front, CLASS, b"\x8e\0"], Err(HeaderFault::Short)),
-        (&[front, CLASS, b"\x8e\x01"], Err(HeaderFault::OtherClass)),
-        (
-            &[front, CLASS, CLASS, b"\x01"],
-            Err(HeaderFault::Compressed),
-        ),
-        (
-            &[front, CLASS, CLASS, b"\0\x01"],
-            Err(HeaderFault::Compressed),
-        ),
-        (
-            &[front, CLASS, CLASS, b"\0\0\x80"],
-            Err(HeaderFault::BadMeta { at: 76 }),
-        ),
-        (
-            &[front, CLASS, CLASS, b"\0\0\0\0\0\x01\xff"],
-            Err(HeaderFault::BadMeta { at: 80 }),
-        ),
-        (
-            &[front, CLASS, CLASS, b"\0\0\0\0\0\x01\0\x8c\x80"],
-            Err(HeaderFault::BadMeta { at: 81 }),
-        ),
-        (
-            &[front, CLASS, CLASS, b"\0\0\0\0\0\x01\x8c\x7f"],
-            Err(HeaderFault::Short),
-        ),
-        (
-            &[front, CLASS, CLASS, none, &MARKER[..15]],
-            Err(HeaderFault::Short),
-        ),
-    ];
-    for (parts, expected) in ends {
-        let bytes = joined(rt.alloc(), parts)?;
-        let found = read_header(&bytes);
-        assert_eq!(rt; found.map(|head| head.end), expected);
-    }
-    Ok(())
-}
-
-#[test]
-fn reads_each_spelling_of_34(rt: HostRuntime) -> Result<(), Fail> {
-    let spellings: [&[u8]; 9] = [
-        b"\x22",
-        b"\x8f\x22",
-        b"\x8e\0\x22",
-        b"\x8d\0\0\x22",
-        b"\x8c\0\0\0\x22",
-        b"\x8b\0\0\0\0\x22",
-        b"\x8a\0\0\0\0\0\x22",
-        b"\x89\0\0\0\0\0\0\x22",
-        b"\x88\0\0\0\0\0\0\0\x22",
-    ];
-    for spelling in spellings {
-        let name = &CLASS[1..];
-        let bytes = joined(
-            rt.alloc(),
-            &[b"SEQ\x06", spelling, name, CLASS, &[0; 6], &MARKER],
-        )?;
-        let end = 95 + spelling.len() as u64;
-        assert_eq!(rt;
-            read_header(&bytes),
-            Ok(HeaderRef {
-                marker: MARKER,
-                end
-            })
-        );
     }
     Ok(())
 }
