@@ -60,17 +60,22 @@ pub fn place_of(acts: &[Act], first: usize, at: u64) -> Result<usize, Fail> {
 
 // The file that the act makes, or the new name of one.
 fn made(act: &Act) -> Option<&Bytes> {
-    match (act.call, act.words.as_slice()) {
-        (Call::Create, [name, ..]) => Some(name),
-        (Call::Rename, [_, name, ..]) => Some(name),
-        _ => None,
+    if act.call == Call::Create {
+        return act.words.as_slice().first();
     }
+    if act.call == Call::Rename {
+        return act.words.as_slice().get(1);
+    }
+    None
 }
 
 // The file and the piece of an append.
 fn append_in(act: &Act) -> Option<(&[u8], &[u8])> {
-    match (act.call, act.words.as_slice()) {
-        (Call::Append, [name, piece]) => Some((name.as_slice(), piece.as_slice())),
+    if act.call != Call::Append {
+        return None;
+    }
+    match act.words.as_slice() {
+        [name, piece] => Some((name.as_slice(), piece.as_slice())),
         _ => None,
     }
 }
@@ -162,10 +167,16 @@ fn appended(alloc: Global, before: &[Act], name: &[u8], piece: &[u8]) -> Result<
     left_of_one(alloc, name, tail)
 }
 
+fn changes_file(call: Call) -> bool {
+    call == Call::Create || call == Call::Rename || call == Call::Remove || call == Call::Cut
+}
+
 fn whole(alloc: Global, before: &[Act], act: &Act) -> Result<Lefts, Fail> {
-    match (act.call, act.words.as_slice()) {
-        (Call::Append, [name, piece]) => appended(alloc, before, name.as_slice(), piece.as_slice()),
-        (Call::Create | Call::Rename | Call::Remove | Call::Cut, [name, ..]) => {
+    if let Some((name, piece)) = append_in(act) {
+        return appended(alloc, before, name, piece);
+    }
+    match act.words.as_slice().first() {
+        Some(name) if changes_file(act.call) => {
             left_of_one(alloc, name.as_slice(), Bytes::new(alloc))
         }
         _ => Ok(Lefts::new(alloc)),

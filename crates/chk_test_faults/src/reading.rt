@@ -122,8 +122,11 @@ fn reached<'a>(answer: &ActAnswer, piece: &'a [u8]) -> &'a [u8] {
 }
 
 fn appended<'a>(act: &'a Act, path: &str) -> &'a [u8] {
-    match (act.call, act.words.as_slice()) {
-        (Call::LogAppend, [log, piece]) if log.as_slice() == path.as_bytes() => {
+    if act.call != Call::LogAppend {
+        return &[];
+    }
+    match act.words.as_slice() {
+        [log, piece] if log.as_slice() == path.as_bytes() => {
             reached(&act.answer, piece.as_slice())
         }
         _ => &[],
