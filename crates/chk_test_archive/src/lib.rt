@@ -10,6 +10,6 @@ mod runs;
 #[cfg(test)]
 mod scene;
 #[cfg(test)]
-mod stops;
+mod syncs;
 #[cfg(test)]
 mod telling;

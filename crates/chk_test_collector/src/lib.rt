@@ -1,9 +1,11 @@
-//! Tests of the collector over a site in memory.
+//! Tests of what a collector replies, over a site in memory.
 #![tactic(auto)]
 
 #[cfg(test)]
 mod answers;
 #[cfg(test)]
-mod refusals;
+mod programs;
+#[cfg(test)]
+mod requests;
 #[cfg(test)]
 mod scene;

@@ -1,6 +1,12 @@
-//! Tests of the real outside: files and messages over loopback.
+//! Tests of the real outside: files, messages over loopback, and kept listings of folders.
 #![tactic(auto)]
 
+#[cfg(test)]
+mod listed;
+#[cfg(test)]
+mod locks;
+#[cfg(test)]
+mod programs;
 #[cfg(test)]
 mod site;
 #[cfg(test)]

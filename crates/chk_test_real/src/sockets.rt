@@ -1,4 +1,4 @@
-// Messages over real sockets on the loopback interface.
+//! Messages over real sockets on the loopback interface.
 use chk_bytes::Bytes;
 use chk_site::{CallFault, Taking};
 use chk_sockets::{Messages, SystemFault};
@@ -88,40 +88,56 @@ fn free_address(rt: &HostRuntime) -> io::Result<String> {
     Ok(format!(in rt.alloc(); "{address}")?)
 }
 
-#[test]
-fn the_mailbox_keeps_its_order(rt: HostRuntime) -> Result<(), Fail> {
-    let mut end = begin(rt);
-    assert!(rt; end.send("self", "one")? == 1);
-    assert!(rt; end.send("self", "two")? == 2);
-    for (number, text) in [(1, "one"), (2, "two")] {
-        assert!(rt; end.gets(number, Some("")));
-        assert!(rt; end.takes("self", number, text));
-        end.answer(number, text)?;
-        assert!(rt; end.answer(number, text) == Err(CallFault::Failed));
-        assert!(rt; end.gets(number, Some(text)));
-        assert!(rt; end.gets(number, None));
-    }
-    assert!(rt; end.finds_none("self"));
-    Ok(())
+fn expect(holds: bool, what: &str) -> Result<(), Fail> {
+    if holds { Ok(()) } else { Err(Fail::new(what)) }
+}
+
+// The oldest message in the mailbox is this one; it is answered once, and its answer is got once.
+fn is_next(end: &mut End, number: u64, text: &str) -> Result<(), Fail> {
+    expect(end.gets(number, Some("")), "an early answer")?;
+    expect(end.takes("self", number, text), text)?;
+    end.answer(number, text)?;
+    expect(
+        end.answer(number, text) == Err(CallFault::Failed),
+        "two answers",
+    )?;
+    expect(end.gets(number, Some(text)), "an answer")?;
+    expect(end.gets(number, None), "an answer again")
+}
+
+fn keeps_order(end: &mut End) -> Result<(), Fail> {
+    expect(end.send("self", "one")? == 1, "the first message")?;
+    expect(end.send("self", "two")? == 2, "the second message")?;
+    is_next(end, 1, "one")?;
+    is_next(end, 2, "two")?;
+    expect(end.finds_none("self"), "an empty mailbox")?;
+    end.send("self", "three")?;
+    end.messages.start();
+    expect(end.finds_none("self"), "a start empties the mailbox")
 }
 
 #[test]
-fn a_start_empties_the_mailbox(rt: HostRuntime) -> Result<(), Fail> {
+fn the_mailbox_keeps_its_order(rt: HostRuntime) -> Result<(), Fail> {
     let mut end = begin(rt);
-    end.send("self", "one")?;
-    end.messages.start();
-    assert!(rt; end.finds_none("self"));
-    Ok(())
+    keeps_order(&mut end)
+}
+
+fn is_lost(end: &mut End, address: &str) -> Result<(), Fail> {
+    expect(end.send(address, "lost") == Err(CallFault::Failed), address)
+}
+
+fn loses(end: &mut End, address: &str) -> Result<(), Fail> {
+    is_lost(end, address)?;
+    is_lost(end, "127.0.0.1")?;
+    is_lost(end, "localhost:99999")?;
+    is_lost(end, "")
 }
 
 #[test]
 fn nobody_takes_what_is_sent_elsewhere(rt: HostRuntime) -> Result<(), Fail> {
     let address = free_address(&rt)?;
     let mut end = begin(rt);
-    for address in [address.as_str(), "127.0.0.1", "localhost:99999", ""] {
-        assert!(rt; end.send(address, "lost") == Err(CallFault::Failed));
-    }
-    Ok(())
+    loses(&mut end, address.as_str())
 }
 
 // The port of an address, behind the name of this host.
@@ -133,106 +149,162 @@ fn by_name(rt: &HostRuntime, address: &str) -> io::Result<String> {
     Ok(format!(in rt.alloc(); "localhost:{port}")?)
 }
 
-#[test]
-fn a_host_is_found_by_its_name(rt: HostRuntime) -> Result<(), Fail> {
-    let address = by_name(&rt, free_address(&rt)?.as_str())?;
-    let door = address.as_str();
-    let (mut here, mut there) = (begin(rt), begin(rt));
-    assert!(rt; there.send(door, "lost") == Err(CallFault::Failed));
-    assert!(rt; here.finds_none(door));
+// One message to the door and its answer.
+fn goes_round(here: &mut End, there: &mut End, door: &str, number: u64) -> Result<(), Fail> {
+    expect(there.send(door, "hello\n")? == number, "a message")?;
+    expect(here.takes(door, number, "hello\n"), "a taking")?;
+    expect(here.has_more(number, ""), "all of it")?;
+    Ok(here.answer(number, "taken\n")?)
+}
+
+fn goes_by_name(here: &mut End, there: &mut End, door: &str) -> Result<(), Fail> {
+    is_lost(there, door)?;
+    expect(here.finds_none(door), "a message")?;
     for number in 1..=3 {
-        assert!(rt; round_trip(&mut here, &mut there, door, number)?);
-        assert!(rt; there.gets(number, Some("taken\n")));
+        goes_round(here, there, door, number)?;
+        expect(there.gets(number, Some("taken\n")), "an answer")?;
     }
     Ok(())
 }
 
-// One message to the door and its answer.
-fn round_trip(here: &mut End, there: &mut End, door: &str, number: u64) -> Result<bool, CallFault> {
-    let sent = there.send(door, "hello\n")?;
-    let taken = here.takes(door, number, "hello\n") && here.has_more(number, "");
-    here.answer(number, "taken\n")?;
-    Ok(sent == number && taken)
+#[test]
+fn a_host_is_found_by_its_name(rt: HostRuntime) -> Result<(), Fail> {
+    let address = by_name(&rt, free_address(&rt)?.as_str())?;
+    let mut here = begin(rt);
+    let mut there = begin(rt);
+    goes_by_name(&mut here, &mut there, address.as_str())
+}
+
+// The oldest two have no stream any more.
+fn has_last_answers(there: &mut End) -> Result<(), Fail> {
+    for number in 1..=66 {
+        let wanted = if number > 2 { Some("taken\n") } else { None };
+        expect(there.gets(number, wanted), "an answer")?;
+    }
+    Ok(())
+}
+
+fn goes_often(here: &mut End, there: &mut End, door: &str) -> Result<(), Fail> {
+    expect(here.finds_none(door), "a message")?;
+    for number in 1..=66 {
+        goes_round(here, there, door, number)?;
+    }
+    has_last_answers(there)
 }
 
 #[test]
 fn the_last_streams_carry_answers(rt: HostRuntime) -> Result<(), Fail> {
     let address = free_address(&rt)?;
-    let door = address.as_str();
-    let (mut here, mut there) = (begin(rt), begin(rt));
-    assert!(rt; here.finds_none(door));
-    for number in 1..=66 {
-        assert!(rt; round_trip(&mut here, &mut there, door, number)?);
-    }
-    // The oldest two have no stream any more.
-    for number in 1..=66 {
-        let wanted = if number > 2 { Some("taken\n") } else { None };
-        assert!(rt; there.gets(number, wanted));
-    }
-    Ok(())
+    let mut here = begin(rt);
+    let mut there = begin(rt);
+    goes_often(&mut here, &mut there, address.as_str())
+}
+
+fn takes_a_part(here: &mut End, door: &str, slow: &mut TcpStream) -> Result<(), Fail> {
+    slow.write_all(b"tw".as_slice())?;
+    expect(here.takes(door, 1, "one"), "the first message")?;
+    expect(here.takes(door, 2, "tw"), "a part of the second message")?;
+    slow.write_all(b"o".as_slice())?;
+    expect(here.has_more(2, "o"), "the rest of the second message")?;
+    expect(here.has_more(1, ""), "the first message has no more")?;
+    expect(
+        here.answer(1, "late") == Err(CallFault::Failed),
+        "a late answer",
+    )
+}
+
+fn takes_the_next(here: &mut End, there: &mut End, door: &str) -> Result<(), Fail> {
+    expect(here.finds_none(door), "a message")?;
+    there.send(door, "one")?;
+    let mut slow = TcpStream::connect(&here.rt, door)?;
+    takes_a_part(here, door, &mut slow)?;
+    expect(there.gets(1, None), "no answer")
 }
 
 #[test]
 fn a_taking_without_an_answer_ends_at_the_next(rt: HostRuntime) -> Result<(), Fail> {
     let address = free_address(&rt)?;
-    let door = address.as_str();
-    let (mut here, mut there) = (begin(rt), begin(rt));
-    assert!(rt; here.finds_none(door));
-    there.send(door, "one")?;
-    let mut slow = TcpStream::connect(&rt, door)?;
-    slow.write_all(b"tw".as_slice())?;
-    assert!(rt; here.takes(door, 1, "one"));
-    assert!(rt; here.takes(door, 2, "tw"));
-    slow.write_all(b"o".as_slice())?;
-    assert!(rt; here.has_more(2, "o"));
-    assert!(rt; here.has_more(1, ""));
-    assert!(rt; here.answer(1, "late") == Err(CallFault::Failed));
-    assert!(rt; there.gets(1, None));
-    Ok(())
+    let mut here = begin(rt);
+    let mut there = begin(rt);
+    takes_the_next(&mut here, &mut there, address.as_str())
 }
 
 fn go_away(_stream: TcpStream) {}
 
+fn passes_silent_peers(here: &mut End, there: &mut End, door: &str) -> Result<(), Fail> {
+    expect(here.finds_none(door), "a message")?;
+    go_away(TcpStream::connect(&here.rt, door)?);
+    let _silent = TcpStream::connect(&here.rt, door)?;
+    there.send(door, "one")?;
+    expect(here.takes(door, 1, "one"), "the message of a third peer")
+}
+
 #[test]
 fn a_peer_that_sends_nothing_is_no_message(rt: HostRuntime) -> Result<(), Fail> {
     let address = free_address(&rt)?;
-    let door = address.as_str();
-    let (mut here, mut there) = (begin(rt), begin(rt));
-    assert!(rt; here.finds_none(door));
-    go_away(TcpStream::connect(&rt, door)?);
-    let _silent = TcpStream::connect(&rt, door)?;
-    there.send(door, "one")?;
-    assert!(rt; here.takes(door, 1, "one"));
-    Ok(())
+    let mut here = begin(rt);
+    let mut there = begin(rt);
+    passes_silent_peers(&mut here, &mut there, address.as_str())
+}
+
+fn sends_long(there: &mut End, door: &str, bytes: &[u8]) -> Result<(), Fail> {
+    let sent = there.messages.send(&there.rt, there.alloc, door, bytes);
+    expect(sent.is_ok(), "a long message")
+}
+
+fn answers_early(here: &mut End, there: &mut End, door: &str, bytes: &[u8]) -> Result<(), Fail> {
+    expect(here.finds_none(door), "a message")?;
+    sends_long(there, door, bytes)?;
+    expect(here.take(door, 1000)?.is_some(), "no message")?;
+    here.answer(1, "refused\n")?;
+    expect(there.gets(1, Some("refused\n")), "an early answer")
 }
 
 #[test]
 fn an_early_answer_is_not_lost(rt: HostRuntime) -> Result<(), Fail> {
     let address = free_address(&rt)?;
-    let door = address.as_str();
-    let (mut here, mut there) = (begin(rt), begin(rt));
-    assert!(rt; here.finds_none(door));
     let bytes = vec![in rt.alloc(); 7u8; 200_000]?;
-    assert!(rt; there.messages.send(&rt, rt.alloc(), door, &bytes).is_ok());
-    assert!(rt; here.take(door, 1000)?.is_some());
-    here.answer(1, "refused\n")?;
-    assert!(rt; there.gets(1, Some("refused\n")));
-    Ok(())
+    let mut here = begin(rt);
+    let mut there = begin(rt);
+    answers_early(&mut here, &mut there, address.as_str(), bytes.as_slice())
+}
+
+fn answers_long(here: &mut End, bytes: &[u8]) -> Result<(), Fail> {
+    let began = here.rt.monotonic()?;
+    let answered = here.messages.answer(&here.rt, here.alloc, 1, bytes);
+    expect(answered.is_err(), "an answer that nobody reads")?;
+    let took = here.rt.monotonic()?.saturating_sub(began);
+    expect(
+        took < Duration::from_millis(3000),
+        "more than three seconds",
+    )
+}
+
+fn isnt_read(here: &mut End, there: &mut End, door: &str, bytes: &[u8]) -> Result<(), Fail> {
+    expect(here.finds_none(door), "a message")?;
+    there.send(door, "one")?;
+    expect(here.takes(door, 1, "one"), "no message")?;
+    answers_long(here, bytes)
 }
 
 #[test]
 fn an_answer_that_is_not_read_fails_in_time(rt: HostRuntime) -> Result<(), Fail> {
     let address = free_address(&rt)?;
-    let door = address.as_str();
-    let (mut here, mut there) = (begin(rt), begin(rt));
-    assert!(rt; here.finds_none(door));
-    there.send(door, "one")?;
-    assert!(rt; here.takes(door, 1, "one"));
     let bytes = vec![in rt.alloc(); 7u8; 16_000_000]?;
-    let began = rt.monotonic()?;
-    assert!(rt; here.messages.answer(&rt, rt.alloc(), 1, &bytes).is_err());
-    assert!(rt; rt.monotonic()?.saturating_sub(began) < Duration::from_millis(3000));
-    Ok(())
+    let mut here = begin(rt);
+    let mut there = begin(rt);
+    isnt_read(&mut here, &mut there, address.as_str(), bytes.as_slice())
+}
+
+fn takes_datagrams(here: &mut End, address: &str, door: &str) -> Result<(), Fail> {
+    expect(here.finds_none(door), "a message")?;
+    let socket = UdpSocket::bind(&here.rt, "127.0.0.1:0")?;
+    socket.send_to(b"ab".as_slice(), address)?;
+    expect(here.takes(door, 1, "ab"), "a datagram")?;
+    socket.send_to(b"".as_slice(), address)?;
+    expect(here.takes(door, 2, ""), "an empty datagram")?;
+    socket.send_to(b"c\n".as_slice(), address)?;
+    expect(here.takes(door, 3, "c\n"), "a third datagram")
 }
 
 #[test]
@@ -240,11 +312,5 @@ fn a_datagram_is_a_whole_message(rt: HostRuntime) -> Result<(), Fail> {
     let address = free_address(&rt)?;
     let door = format!(in rt.alloc(); "udp:{address}")?;
     let mut here = begin(rt);
-    assert!(rt; here.finds_none(door.as_str()));
-    let socket = UdpSocket::bind(&rt, "127.0.0.1:0")?;
-    for (number, text) in [(1, "ab"), (2, ""), (3, "c\n")] {
-        socket.send_to(text.as_bytes(), address.as_str())?;
-        assert!(rt; here.takes(door.as_str(), number, text));
-    }
-    Ok(())
+    takes_datagrams(&mut here, address.as_str(), door.as_str())
 }

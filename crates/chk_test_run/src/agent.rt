@@ -5,27 +5,27 @@ use std::test::Fail;
 // The first call is the start.
 const PROGRAMS: &str = "\
 a turn in an empty folder
-run agent --turns 1 h1 A = 0
+run agent --turns 1 h1 A => 0
 
 a comment
-file F COMMENT
-run agent --initial F --turns 1 h1 A = 5 damaged F 0|
+file F # none||
+run agent --initial F --turns 1 h1 A => 5 damaged F 0|
 
 a line that isn't an add
-file F STOPS
-run agent --initial F --turns 1 h1 A = 5 damaged F 1|
+file F |stopagent|
+run agent --initial F --turns 1 h1 A => 5 damaged F 1|
 
 empty lines
-file F BLANK
-run agent --initial F --turns 1 h1 A = 0
+file F ||
+run agent --initial F --turns 1 h1 A => 0
 
 a damaged checkpoint
-file agents/h1.check BYTE
-run agent --initial F --turns 1 h1 A = 5 damaged agents/h1.check 0|
+file agents/h1.check x
+run agent --initial F --turns 1 h1 A => 5 damaged agents/h1.check 0|
 
 the start fails
 fail 1
-run agent --turns 1 h1 A = 3 outside start|
+run agent --turns 1 h1 A => 3 outside start|
 ";
 
 #[test]

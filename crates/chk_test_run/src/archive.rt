@@ -5,62 +5,62 @@ use std::test::Fail;
 // The last programs are the calls of a run in an empty folder, as they fail.
 const PROGRAMS: &str = "\
 an empty folder
-run archive = 0 archive unclosed 0 taken 0 held 0 removed 0|
+run archive => 0 archive unclosed 0 taken 0 held 0 removed 0|
 
 two sinks that overlap
-file sinks/c1.1.1.done HELLO
-file sinks/c2.1.1.done WORL_2
-run archive = 0 archive unclosed 0 taken 10 held 0 removed 2|end h1 Log /a.log 10|
-size sinks/c1.1.1.done = none
-size sinks/c2.1.1.done = none
-size archive/seg.1 = 190
+bytes sinks/c1.1.1.done HEADER C1_1_1 HELLO
+bytes sinks/c2.1.1.done HEADER C2_1_1 WORL
+run archive => 0 archive unclosed 0 taken 10 held 0 removed 2|end h1 Log /a.log 10|
+size sinks/c1.1.1.done => none
+size sinks/c2.1.1.done => none
+size archive/seg.1 => 190
 
 past a gap
-file sinks/c1.1.1.done WORLD
-run archive = 0 archive unclosed 0 taken 0 held 1 removed 1|
+bytes sinks/c1.1.1.done HEADER C1_1_1 WORLD
+run archive => 0 archive unclosed 0 taken 0 held 1 removed 1|
 
 two sinks in another order
-file sinks/c1.1.1.done WORLD
-file sinks/c2.1.1.done HELLO_2
-run archive = 0 archive unclosed 0 taken 12 held 0 removed 2|end h1 Log /a.log 12|
+bytes sinks/c1.1.1.done HEADER C1_1_1 WORLD
+bytes sinks/c2.1.1.done HEADER C2_1_1 HELLO
+run archive => 0 archive unclosed 0 taken 12 held 0 removed 2|end h1 Log /a.log 12|
 
 a sink under writing
-file sinks/c1.1.1.done HELLO
-file sinks/c2.1.1.chukwa NOTHING
-run archive = 0 archive unclosed 1 taken 6 held 0 removed 1|end h1 Log /a.log 6|
+bytes sinks/c1.1.1.done HEADER C1_1_1 HELLO
+bytes sinks/c2.1.1.chukwa NOTHING
+run archive => 0 archive unclosed 1 taken 6 held 0 removed 1|end h1 Log /a.log 6|
 
 a damaged book
-file archive/book BYTE
-run archive = 5 damaged archive/book 0|
+bytes archive/book x
+run archive => 5 damaged archive/book 0|
 
 a damaged sink
-file sinks/c1.1.1.done BYTE
-run archive = 5 damaged sinks/c1.1.1.done 0|
+bytes sinks/c1.1.1.done x
+run archive => 5 damaged sinks/c1.1.1.done 0|
 
 the last number of a segment
-file archive/book LAST
-file sinks/c1.1.1.done HELLO
-run archive = 8 spent 9223372036854775807|
+bytes archive/book LAST_BOOK
+bytes sinks/c1.1.1.done HEADER C1_1_1 HELLO
+run archive => 8 spent 9223372036854775807|
 
 the start fails
 fail 1
-run archive = 3 outside start|
+run archive => 3 outside start|
 
 the second call fails
 fail 2
-run archive = 3 outside read|
+run archive => 3 outside read|
 
 the third call fails
 fail 3
-run archive = 3 outside list|
+run archive => 3 outside list|
 
 the fourth call fails
 fail 4
-run archive = 3 outside list|
+run archive => 3 outside list|
 
 the fifth call fails
 fail 5
-run archive = 3 outside say|
+run archive => 3 outside say|
 ";
 
 #[test]

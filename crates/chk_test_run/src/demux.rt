@@ -6,92 +6,128 @@ use std::test::Fail;
 // the calls of a run in an empty folder, as they fail.
 const PROGRAMS: &str = "\
 an empty folder
-run demux Log = 0 demux taken 0 entries 0 left 0|
-size demux/seg.1 = none
-size demux/book = none
+run demux Log => 0 demux taken 0 entries 0 left 0|
+size demux/seg.1 => none
+size demux/book => none
 
 by lines
-file archive/seg.1 OPEN
-file archive/book OPEN_BOOK
-run demux = 0 demux taken 2 entries 1 left 1|
-is demux/seg.1 SPLIT
-is demux/book SPLIT_BOOK
-is archive/seg.1 OPEN
-is archive/book OPEN_BOOK
+bytes archive/seg.1 HEADER SEG_1 A_B
+bytes archive/book A_B_BOOK
+run demux => 0 demux taken 2 entries 1 left 1|
+is demux/seg.1 HEADER SEG_1 A
+is demux/book A_BOOK
+is archive/seg.1 HEADER SEG_1 A_B
+is archive/book A_B_BOOK
 
 by lines, since the type is of another case
-file archive/seg.1 OPEN
-file archive/book OPEN_BOOK
-run demux log LOG = 0 demux taken 2 entries 1 left 1|
-is demux/seg.1 SPLIT
+bytes archive/seg.1 HEADER SEG_1 A_B
+bytes archive/book A_B_BOOK
+run demux log LOG => 0 demux taken 2 entries 1 left 1|
+is demux/seg.1 HEADER SEG_1 A
 
 by stamps
-file archive/seg.1 OPEN
-file archive/book OPEN_BOOK
-run demux App Log = 0 demux taken 0 entries 0 left 3|
-size demux/seg.1 = none
-size demux/book = none
+bytes archive/seg.1 HEADER SEG_1 A_B
+bytes archive/book A_B_BOOK
+run demux App Log => 0 demux taken 0 entries 0 left 3|
+size demux/seg.1 => none
+size demux/book => none
 
 what was taken before
-file archive/seg.1 OPEN
-file archive/book OPEN_BOOK
-file demux/seg.1 SPLIT
-file demux/book SPLIT_BOOK
-run demux = 0 demux taken 0 entries 0 left 1|
-size demux/seg.2 = none
-is demux/book SPLIT_BOOK
+bytes archive/seg.1 HEADER SEG_1 A_B
+bytes archive/book A_B_BOOK
+bytes demux/seg.1 HEADER SEG_1 A
+bytes demux/book A_BOOK
+run demux => 0 demux taken 0 entries 0 left 1|
+size demux/seg.2 => none
+is demux/book A_BOOK
 
 a damaged book of the archive
-file archive/book BYTE
-run demux = 5 damaged archive/book 0|
+bytes archive/book x
+run demux => 5 damaged archive/book 0|
 
 a damaged book of the records
-file archive/seg.1 OPEN
-file archive/book OPEN_BOOK
-file demux/book BYTE
-run demux = 5 damaged demux/book 0|
+bytes archive/seg.1 HEADER SEG_1 A_B
+bytes archive/book A_B_BOOK
+bytes demux/book x
+run demux => 5 damaged demux/book 0|
 
 a damaged segment
-file archive/seg.1 BYTE
-file archive/book OPEN_BOOK
-run demux = 5 damaged archive/seg.1 0|
+bytes archive/seg.1 x
+bytes archive/book A_B_BOOK
+run demux => 5 damaged archive/seg.1 0|
 
 a segment that isn't there
-file archive/book OPEN_BOOK
-run demux = 5 damaged archive/seg.1 0|
+bytes archive/book A_B_BOOK
+run demux => 5 damaged archive/seg.1 0|
 
 the last number of a segment
-file archive/seg.1 OPEN
-file archive/book OPEN_BOOK
-file demux/book LAST
-run demux = 8 spent 9223372036854775807|
+bytes archive/seg.1 HEADER SEG_1 A_B
+bytes archive/book A_B_BOOK
+bytes demux/book LAST_BOOK
+run demux => 8 spent 9223372036854775807|
 
 no segment is needed
-file archive/seg.1 OPEN
-file archive/book OPEN_BOOK
-file demux/book LAST
-run demux Log = 0 demux taken 0 entries 0 left 3|
+bytes archive/seg.1 HEADER SEG_1 A_B
+bytes archive/book A_B_BOOK
+bytes demux/book LAST_BOOK
+run demux Log => 0 demux taken 0 entries 0 left 3|
 
 the start fails
 fail 1
-run demux = 3 outside start|
+run demux => 3 outside start|
 
 the second call fails
 fail 2
-run demux = 3 outside read|
+run demux => 3 outside read|
 
 the third call fails
 fail 3
-run demux = 3 outside read|
+run demux => 3 outside read|
 
 the fourth call fails
 fail 4
-run demux = 3 outside say|
+run demux => 3 outside say|
 ";
 
 #[test]
 fn splits(rt: HostRuntime) -> Result<(), Fail> {
     follows_each(rt.alloc(), PROGRAMS)
+}
+
+// Blocks of 131,072 bytes without a newline, and of 256 lines of 64 bytes.
+const LONG: &str = "\
+lines without end
+chunks 8 OPEN_LINE xyz
+run demux => 0 demux taken 1048576 entries 8 left 3|
+
+one line without end
+chunks 0 OPEN_LINE xyz
+run demux => 0 demux taken 0 entries 0 left 3|
+
+by stamps they are one record
+chunks 8 OPEN_LINE xyz
+run demux Log => 0 demux taken 0 entries 0 left 1048579|
+
+up to a further line
+chunks 9 OPEN_LINE xyz
+run demux Log => 0 demux taken 1048576 entries 1 left 131075|
+
+a record of the limit isn't complete
+chunks 64 PLAIN NOTHING
+run demux Log => 0 demux taken 0 entries 0 left 1048576|
+
+a stamp completes it
+chunks 64 PLAIN STAMP
+run demux Log => 0 demux taken 1048576 entries 1 left 64|
+
+a line over the limit completes it
+chunks 64 PLAIN PLAIN
+run demux Log => 0 demux taken 1048576 entries 1 left 64|
+";
+
+#[test]
+fn long_lines_and_records(rt: HostRuntime) -> Result<(), Fail> {
+    follows_each(rt.alloc(), LONG)
 }
 
 // An option is no type, and neither is a word with a control character.

@@ -5,6 +5,9 @@ use std::test::Fail;
 // The usage lines; a newline stands as `|`.
 const ALL: &str = "usage: chukwa round|agent|collector|drain|archive|demux|salvage|load|";
 
+const ROUND: &str =
+    "usage: chukwa round [--class CLASS] [--reads N] [--cluster NAME] SOURCE TYPE LOG...|";
+
 const AGENT: &str =
     "usage: chukwa agent [--initial FILE] [--control ADDRESS] [--turns N] [--poll MS] [--expire MS] [--cluster NAME] SOURCE COLLECTOR...|";
 
@@ -22,7 +25,16 @@ const SALVAGE: &str = "usage: chukwa salvage FILE|";
 const LOAD: &str = "usage: chukwa load N|";
 
 // The first row has no words.
-const OTHERS: &str = "\nnothing\n--turns\n";
+const OTHERS: &str = "\nnothing\nrounds\n--turns\n";
+
+const ROUNDS: &str = "\
+round
+round h1 Log
+round h1 -x /a.log
+round --reads 0 h1 Log /a.log
+round --class Other h1 Log /a.log
+round .h1 Log /a.log
+";
 
 const AGENTS: &str = "\
 agent
@@ -60,6 +72,7 @@ const LOADS: &str = "load\nload 0\nload 200001\nload 1 2\n";
 #[test]
 fn usage(rt: HostRuntime) -> Result<(), Fail> {
     refuses_each(rt.alloc(), OTHERS, ALL)?;
+    refuses_each(rt.alloc(), ROUNDS, ROUND)?;
     refuses_each(rt.alloc(), AGENTS, AGENT)?;
     refuses_each(rt.alloc(), COLLECTORS, COLLECTOR)?;
     refuses_each(rt.alloc(), DRAINS, DRAIN)?;

@@ -1,17 +1,10 @@
-//! Each call of a run fails, is stopped, or has a sync of a collector before it, in turn. The next
-//! run ends as one without faults.
+//! Each call of a run has a sync of a collector before it, in turn. The run ends as one without it.
 use crate::scene::{empty, follows, runs};
 use chk_site::{Call, Script};
 use chk_site_mem::SiteMem;
-use chk_test_calls::{collector, failing, left_of, quiet, stopping, written};
+use chk_test_calls::{collector, quiet, written};
 use std::alloc::Global;
 use std::test::Fail;
-
-// The files of which a stop leaves a tail.
-const FILES: [&str; 3] = ["archive/seg.1", "archive/seg.2", "archive/book.tmp"];
-
-// A tail of more bytes than were ever appended to any of these files, so that it is cut.
-const TAIL: [u8; 400] = [35; 400];
 
 // Two sinks: what lies past a gap and past another one, and what the first gap lacks.
 const BEGINS: &str = "\
@@ -57,70 +50,6 @@ fn calls_in(alloc: Global, site: &mut SiteMem) -> Result<u64, Fail> {
 fn calls(alloc: Global) -> Result<u64, Fail> {
     let mut site = empty(alloc)?;
     calls_in(alloc, &mut site)
-}
-
-// A run that is refused, and then one without faults.
-fn recovers_in(alloc: Global, site: &mut SiteMem, script: Script, row: &str) -> Result<(), Fail> {
-    follows(alloc, site, row, BEGINS)?;
-    site.restart(script);
-    if runs(alloc, site)?.is_ok() {
-        return Err(Fail::new(row));
-    }
-    site.restart(quiet(alloc));
-    is_whole(alloc, site, row)
-}
-
-fn recovers(alloc: Global, script: Script, row: &str) -> Result<(), Fail> {
-    let mut site = empty(alloc)?;
-    recovers_in(alloc, &mut site, script, row)
-}
-
-fn fails_at(alloc: Global, at: u64) -> Result<(), Fail> {
-    let row = format!(in alloc; "failed at call {at}")?;
-    recovers(alloc, failing(alloc, at)?, row.as_str())
-}
-
-fn is_unfailed(alloc: Global, site: &mut SiteMem, at: u64) -> Result<bool, Fail> {
-    follows(alloc, site, "no call failed", BEGINS)?;
-    site.restart(failing(alloc, at)?);
-    Ok(runs(alloc, site)?.is_ok())
-}
-
-// The call of this number doesn't come.
-fn never_fails(alloc: Global, at: u64) -> Result<(), Fail> {
-    let mut site = empty(alloc)?;
-    if is_unfailed(alloc, &mut site, at)? {
-        Ok(())
-    } else {
-        Err(Fail::from("another call failed"))
-    }
-}
-
-#[test]
-fn each_call_fails(rt: HostRuntime) -> Result<(), Fail> {
-    let alloc = rt.alloc();
-    let count = calls(alloc)?;
-    for at in 1..=count {
-        fails_at(alloc, at)?;
-    }
-    never_fails(alloc, count.saturating_add(1))
-}
-
-fn stops_at(alloc: Global, at: u64, tail: &[u8], whole: bool) -> Result<(), Fail> {
-    let size = tail.len();
-    let row = format!(in alloc; "stopped at call {at} with a tail of {size}")?;
-    let left = left_of(alloc, &FILES, tail, whole)?;
-    recovers(alloc, stopping(alloc, at, left), row.as_str())
-}
-
-#[test]
-fn each_call_is_stopped(rt: HostRuntime) -> Result<(), Fail> {
-    let alloc = rt.alloc();
-    for at in 1..=calls(alloc)? {
-        stops_at(alloc, at, b"", false)?;
-        stops_at(alloc, at, &TAIL, true)?;
-    }
-    Ok(())
 }
 
 // A sync of the first sink by the collector c1 before the call of this number.
