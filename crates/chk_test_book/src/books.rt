@@ -29,6 +29,10 @@ const LENGTH: &[u8] = b"\0\0\0\0\0\0\0\x90";
 
 const SHORT: &[u8] = b"\0\0\0\0\0\0\0\x01\0\0\0\0\0\0\0\x5f";
 
+const SECOND_SHORT: &[u8] = b"\0\0\0\0\0\0\0\x02\0\0\0\0\0\0\0\x5f";
+
+const UNIT: &[u8] = b"\0\0\0\0\0\0\0\x01";
+
 // A stream's end 6, its start 7, and its texts.
 const SIX: &[u8] = b"\0\0\0\0\0\0\0\x06";
 
@@ -36,12 +40,20 @@ const SEVEN: &[u8] = b"\0\0\0\0\0\0\0\x07";
 
 const HIGH: &[u8] = b"\x80\0\0\0\0\0\0\0";
 
+const FAR: &[u8] = b"\x40\0\0\0\0\0\0\0";
+
 const TEXTS: &[u8] = b"\0\x02h1\0\x03Log\0\x06/a.log";
 
 const BEFORE: &[u8] = b"\0\x02h0\0\x03Log\0\x06/a.log";
 
-// The first field of a book of another letter, and of the versions 2 to 4.
+const TYPED_BEFORE: &[u8] = b"\0\x02h1\0\x03App\0\x06/a.log";
+
+const CUT: &[u8] = b"\0\x02h1\0\x03Log\0\x06/a.lo";
+
+// The first field of a book of another letter, and of the versions 0 and 2 to 4.
 const OTHER: &[u8] = b"CHKX\x01";
+
+const ZEROTH: &[u8] = b"CHKB\0";
 
 const HEAD_2: &[u8] = b"CHKB\x02";
 
@@ -51,10 +63,12 @@ const FOURTH: &[u8] = b"CHKB\x04";
 
 const ZERO: &[u8] = b"\0\0\0\0\0\0\0\0";
 
-// An empty source, one with a space, and a byte.
+// An empty source, one with a space, one that isn't UTF-8, and a byte.
 const EMPTY: &[u8] = b"\0\0";
 
 const SPACE: &[u8] = b"\0\x02h ";
+
+const NO_UTF8: &[u8] = b"\0\x02h\xff";
 
 const BYTE: &[u8] = b"\0";
 
@@ -66,23 +80,35 @@ one aside: HEAD_3 NEXT_3 ONE FIRST ONE SIX SEVEN TEXTS SECOND = book
 no bytes: NOTHING = 0
 another letter: OTHER NEXT NONE NONE = 0
 version 4: FOURTH NEXT NONE NONE = 0
+version 0: ZEROTH NEXT NONE NONE = 0
 next number 0: HEAD ZERO NONE NONE = 5
+next number 2^63: HEAD HIGH NONE NONE = 5
 no count of segments: HEAD NEXT = 13
 the next number: HEAD NEXT ONE SECOND NONE = 17
 number 0: HEAD NEXT ONE ZERO LENGTH NONE = 17
 95 bytes: HEAD NEXT ONE SHORT NONE = 25
+2^63 bytes: HEAD NEXT ONE UNIT HIGH NONE = 25
 falling numbers: HEAD NEXT_3 TWO SECOND FIRST NONE = 33
 a number twice: HEAD NEXT_3 TWO FIRST FIRST NONE = 33
 no count of streams: HEAD NEXT ONE FIRST = 33
 an end of 2^63: HEAD NEXT ONE FIRST ONE HIGH TEXTS = 37
 an empty source: HEAD NEXT ONE FIRST ONE SIX EMPTY = 45
 a space: HEAD NEXT ONE FIRST ONE SIX SPACE = 47
+no UTF-8: HEAD NEXT ONE FIRST ONE SIX NO_UTF8 = 47
+a cut name: HEAD NEXT ONE FIRST ONE SIX CUT = 56
 a stream twice: HEAD NEXT ONE FIRST TWO SIX TEXTS SIX TEXTS = 81
 falling sources: HEAD NEXT ONE FIRST TWO SIX TEXTS SIX BEFORE = 72
+falling types: HEAD NEXT ONE FIRST TWO SIX TEXTS SIX TYPED_BEFORE = 76
 a byte behind: HEAD NEXT ONE FIRST ONE SIX TEXTS BYTE = 62
+a start of 2^62: HEAD_2 NEXT ONE FIRST ONE FAR HIGH TEXTS = 37
 a start past the end: HEAD_2 NEXT ONE FIRST ONE SEVEN SIX TEXTS = 45
+the same beside one aside: HEAD_3 NEXT_3 ONE FIRST ONE SEVEN SIX TEXTS SECOND = 45
 no aside segment: HEAD_3 NEXT ONE FIRST ONE SIX SIX TEXTS = 70
 a segment aside: HEAD_3 NEXT ONE FIRST ONE SIX SIX TEXTS FIRST = 70
+number 0 aside: HEAD_3 NEXT ONE FIRST ONE SIX SIX TEXTS ZERO LENGTH = 70
+the next number aside: HEAD_3 NEXT ONE FIRST ONE SIX SIX TEXTS SECOND = 70
+95 bytes aside: HEAD_3 NEXT_3 ONE FIRST ONE SIX SIX TEXTS SECOND_SHORT = 78
+a byte behind one aside: HEAD_3 NEXT_3 ONE FIRST ONE SIX SIX TEXTS SECOND BYTE = 86
 ";
 
 fn part(name: &str) -> Result<&'static [u8], Fail> {
@@ -111,6 +137,13 @@ fn part(name: &str) -> Result<&'static [u8], Fail> {
         "HEAD_2" => Ok(HEAD_2),
         "SEVEN" => Ok(SEVEN),
         "HEAD_3" => Ok(HEAD_3),
+        "ZEROTH" => Ok(ZEROTH),
+        "SECOND_SHORT" => Ok(SECOND_SHORT),
+        "UNIT" => Ok(UNIT),
+        "FAR" => Ok(FAR),
+        "TYPED_BEFORE" => Ok(TYPED_BEFORE),
+        "CUT" => Ok(CUT),
+        "NO_UTF8" => Ok(NO_UTF8),
         _ => Err(Fail::from("no such part")),
     }
 }

@@ -2,6 +2,8 @@
 #![tactic(auto)]
 
 #[cfg(test)]
+mod added;
+#[cfg(test)]
 mod books;
 #[cfg(test)]
 mod heads;
