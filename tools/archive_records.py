@@ -79,6 +79,8 @@ def records():
         ("PAST", record(22, b"past")),
         ("EAST", record(104, b"abcd", ("h2", "Log", "/a.log"), 100, "east")),
         ("WEST", record(106, b"ef", ("h2", "Log", "/a.log"), 100, "west")),
+        ("SHORT_NAME", record(6, b"hello\n", ("h1", "Log", "a.log"))),
+        ("MOVED", record(11, b"hello\n", LOG, 5, "demo")),
         ("APP", record(3, b"xyz", ("h1", "App", "/b.log"))),
         ("EARLY", record(2, b"zz", ("a0", "Log", "/z.log"))),
         ("FIFTEEN", b"".join(record(2 * line, b"a\n") for line in range(1, 16))),
@@ -96,6 +98,8 @@ def books():
     day = [((host, "HadoopLog", "/var/log/hadoop/namenode.log"), 194, 0) for host in ("h1", "h2", "h3")]
     return [
         ("BOOK_SIX", book(2, [(1, size("HELLO"))], [(LOG, 6, 0)])),
+        ("BOOK_SHORT_NAME", book(2, [(1, size("SHORT_NAME"))], [(("h1", "Log", "a.log"), 6, 0)])),
+        ("BOOK_MOVED", book(2, [(1, size("MOVED"))], [(LOG, 11, 5)])),
         ("BOOK_TEN", book(2, [(1, size("HELLO", "WORL"))], [(LOG, 10, 0)])),
         ("BOOK_ASIDE", book(2, [], [], (1, size("WORLD")))),
         ("BOOK_TWO_ASIDE", book(2, [], [], (1, size("WORLD", "PAST")))),

@@ -49,6 +49,12 @@ const EAST: &[u8] =
 const WEST: &[u8] =
     b"\0\0\02\0\0\0,\0\0\0(\x02\0\0\0\0\0\0\0j\0\0\0\0\0\0\0d\0\x02h2\0\x03Log\0\x06/a.log\0\x04west\0\0\0\x02ef";
 
+const SHORT_NAME: &[u8] =
+    b"\0\0\0'\0\0\0\x1d\0\0\0\x19\x01\0\0\0\0\0\0\0\x06\0\x02h1\0\x03Log\0\x05a.log\0\0\0\x06hello\n";
+
+const MOVED: &[u8] =
+    b"\0\0\06\0\0\0,\0\0\0(\x02\0\0\0\0\0\0\0\x0b\0\0\0\0\0\0\0\x05\0\x02h1\0\x03Log\0\x06/a.log\0\x04demo\0\0\0\x06hello\n";
+
 const APP: &[u8] =
     b"\0\0\0%\0\0\0\x1e\0\0\0\x1a\x01\0\0\0\0\0\0\0\x03\0\x02h1\0\x03App\0\x06/b.log\0\0\0\x03xyz";
 
@@ -81,6 +87,12 @@ const BYTE: &[u8] = b"x";
 // Books of the archive.
 const BOOK_SIX: &[u8] =
     b"CHKB\x01\0\0\0\0\0\0\0\x02\0\0\0\x01\0\0\0\0\0\0\0\x01\0\0\0\0\0\0\0\x90\0\0\0\x01\0\0\0\0\0\0\0\x06\0\x02h1\0\x03Log\0\x06/a.log";
+
+const BOOK_SHORT_NAME: &[u8] =
+    b"CHKB\x01\0\0\0\0\0\0\0\x02\0\0\0\x01\0\0\0\0\0\0\0\x01\0\0\0\0\0\0\0\x8f\0\0\0\x01\0\0\0\0\0\0\0\x06\0\x02h1\0\x03Log\0\x05a.log";
+
+const BOOK_MOVED: &[u8] =
+    b"CHKB\x02\0\0\0\0\0\0\0\x02\0\0\0\x01\0\0\0\0\0\0\0\x01\0\0\0\0\0\0\0\x9e\0\0\0\x01\0\0\0\0\0\0\0\x05\0\0\0\0\0\0\0\x0b\0\x02h1\0\x03Log\0\x06/a.log";
 
 const BOOK_TEN: &[u8] =
     b"CHKB\x01\0\0\0\0\0\0\0\x02\0\0\0\x01\0\0\0\0\0\0\0\x01\0\0\0\0\0\0\0\xbe\0\0\0\x01\0\0\0\0\0\0\0\n\0\x02h1\0\x03Log\0\x06/a.log";
@@ -133,6 +145,8 @@ pub(crate) fn record(name: &str) -> Option<&'static [u8]> {
         "PAST" => Some(PAST),
         "EAST" => Some(EAST),
         "WEST" => Some(WEST),
+        "SHORT_NAME" => Some(SHORT_NAME),
+        "MOVED" => Some(MOVED),
         "APP" => Some(APP),
         "EARLY" => Some(EARLY),
         "FIFTEEN" => Some(FIFTEEN),
@@ -151,6 +165,8 @@ pub(crate) fn record(name: &str) -> Option<&'static [u8]> {
 pub(crate) fn book(name: &str) -> Option<&'static [u8]> {
     match name {
         "BOOK_SIX" => Some(BOOK_SIX),
+        "BOOK_SHORT_NAME" => Some(BOOK_SHORT_NAME),
+        "BOOK_MOVED" => Some(BOOK_MOVED),
         "BOOK_TEN" => Some(BOOK_TEN),
         "BOOK_ASIDE" => Some(BOOK_ASIDE),
         "BOOK_TWO_ASIDE" => Some(BOOK_TWO_ASIDE),

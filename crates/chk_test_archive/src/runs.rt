@@ -23,6 +23,25 @@ is archive/seg.1 SEG_1 HELLO
 is archive/book BOOK_SIX
 is sinks/c1.1.1.done
 
+a shorter name
+put sinks/c1.1.1.done C1_1_1 SHORT_NAME
+run = unclosed 0 - taken 6 held 0 removed 1, h1 Log a.log 0 6
+is archive/seg.1 SEG_1 SHORT_NAME
+is archive/book BOOK_SHORT_NAME
+
+a log that was moved
+put sinks/c1.1.1.done C1_1_1 MOVED
+run = unclosed 0 - taken 6 held 0 removed 1, h1 Log /a.log 5 11
+is archive/seg.1 SEG_1 MOVED
+is archive/book BOOK_MOVED
+
+a chunk that came again behind a restart
+put sinks/c1.2.1.done C1_2_1 HELLO
+run = unclosed 0 - taken 6 held 0 removed 1, h1 Log /a.log 0 6
+is archive/seg.1 SEG_1 HELLO
+is archive/book BOOK_SIX
+is sinks/c1.2.1.done
+
 two sinks that overlap
 put sinks/c1.1.1.done C1_1_1 HELLO
 put sinks/c1.1.2.done C1_1_2 O_WORL
