@@ -7,11 +7,14 @@ use crate::requests::request_of;
 use chk_bytes::{Bytes, Word};
 use chk_collector::Collector;
 use chk_http::read_reply;
-use chk_site::{Call, Role, Script, Who};
+use chk_site::{Call, Other, Role, Script, Who};
 use chk_site_mem::SiteMem;
 use chk_test_calls::{failing, quiet, written};
 use std::alloc::Global;
 use std::test::Fail;
+
+// The mark of a sink of another collector.
+const FOREIGN_MARK: &str = "sinks/c9.1.1.mark";
 
 // The collector c1.
 fn first(alloc: Global) -> Result<Who, Fail>
@@ -211,13 +214,23 @@ fn hex(alloc: Global, digits: &str) -> Result<Bytes, Fail> {
     Ok(bytes)
 }
 
+// The mark of another collector's sink is made.
+fn makes_mark(alloc: Global) -> Result<Other, Fail> {
+    written(alloc, Call::Create, &[FOREIGN_MARK.as_bytes()])
+}
+
+// It gets these bytes.
+fn fills_mark(alloc: Global, bytes: &[u8]) -> Result<Other, Fail> {
+    written(alloc, Call::Append, &[FOREIGN_MARK.as_bytes(), bytes])
+}
+
 // The mark of another collector's sink has these bytes.
 fn with_mark(alloc: Global, digits: &str) -> Result<Script, Fail> {
-    let name = b"sinks/c9.1.1.mark".as_slice();
     let bytes = hex(alloc, digits)?;
+    let made = makes_mark(alloc)?;
+    let filled = fills_mark(alloc, bytes.as_slice())?;
     let mut script = quiet(alloc);
-    script.others.push(written(alloc, Call::Create, &[name])?)?;
-    let filled = written(alloc, Call::Append, &[name, bytes.as_slice()])?;
+    script.others.push(made)?;
     script.others.push(filled)?;
     Ok(script)
 }
