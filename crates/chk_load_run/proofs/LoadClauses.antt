@@ -171,11 +171,14 @@ module _ (lines : ℕ) (who : Who) (by : who ≡ chukwa) where
         round_clauses lines n (written (Ok n) old mid writes) fault (rounded (Err fault) told) (by_load acts)
 
     module _ (v : Rounded) (told : RoundTold words.source (Ok v) mid late) (acts : Adds mid late (RoundActs words.source))
-        (live : HaveLines words.kind words.logs.items (lines_of v.agent)) where
+        (live : HaveLines words.kind words.logs.items (lines_of v.agent)) (same : v.agent.cluster ≡ words.cluster) where
       of_logs : HaveLogs v
-      of_logs =
-          subst (λ (k : List ℕ). HaveLines k load_logs (lines_of v.agent)) are.kind
-          (subst (λ (ls : List (List ℕ)). HaveLines words.kind ls (lines_of v.agent)) are.logs live)
+      of_logs = record {
+        lines =
+            subst (λ (k : List ℕ). HaveLines k load_logs (lines_of v.agent)) are.kind
+            (subst (λ (ls : List (List ℕ)). HaveLines words.kind ls (lines_of v.agent)) are.logs live);
+        cluster = same ∙ are.cluster;
+      }
 
       pub unclosed_end : (e : LoadEnd) → SummedUp v lines n (Err e) → Clauses lines (Err e) old late
       unclosed_end (Unclosed name) is =

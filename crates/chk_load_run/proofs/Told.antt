@@ -4,12 +4,13 @@ use Rattle.std.specs.Prelude.{Contains, codes}
 use Rattle.chk_site.specs.declared.acts.OutsideFault.{OutsideFault}
 use Rattle.chk_site.specs.declared.acts.OutsideFault.TheVariants.{Outside as site_failed, NoMemory as no_memory}
 use Rattle.chk_site.specs.declared.acts.Who.{Who}
-use Rattle.chk_site.specs.History.{History, Others, files_after, is_stopped}
+use Rattle.chk_site.specs.History.{History, Others, files_after, is_stopped, since_start}
 use Rattle.chk_site.specs.Runs.{Leads, Owns, Side, own_acts}
 use Rattle.chk_site.specs.Site.{Acted, Adds, plain}
 use Rattle.chk_site.proofs.Runs.{adds_as, adds_both, adds_none, adds_then, every_early, every_join, every_late, ran}
-use Rattle.chk_world.specs.Agents.{stream_of}
+use Rattle.chk_world.specs.Agents.{AllOfCluster, stream_of}
 use Rattle.chk_world.specs.Checkpoints.{Line, checkpoint_lines}
+use Rattle.chk_world.specs.Knowing.{agent}
 use Rattle.chk_world.specs.Rules.{Legal}
 use Rattle.chk_world.specs.Together.{Outside as OutsideOf, Together}
 use Rattle.chk_round.specs.declared.faults.RoundFault.{RoundFault}
@@ -55,9 +56,10 @@ outside_done : (lines : ℕ) (fault : OutsideFault) (added history : History) �
 outside_done lines (site_failed call) added history = tt
 outside_done lines no_memory added history = tt
 
--- the three logs have live lines, as the round says it of its agent
-abbrev pub HaveLogs : Rounded → Type 0
-HaveLogs v = HaveLines (codes "Load") load_logs (lines_of v.agent)
+-- the three logs have live lines, and the cluster is `none`, as the round says it of its agent
+pub record HaveLogs (v : Rounded) : Type 0 where
+  pub lines : HaveLines (codes "Load") load_logs (lines_of v.agent)
+  pub cluster : v.agent.cluster ≡ codes "none"
 
 module _ (stamped : List (List ℕ)) (started acting : List Who) (lines : ℕ) where
   abbrev T : Side
@@ -143,7 +145,13 @@ module _ (stamped : List (List ℕ)) (started acting : List Who) (lines : ℕ) w
     live_in : (v : Rounded) {added history : History} (on : OnRound v added history)
         → HaveLines (codes "Load") load_logs
         (checkpoint_lines (files_after (on.rounded ++ (on.appends ++ history))) (codes "load"))
-    live_in v on = subst (HaveLines (codes "Load") load_logs) (sym on.round.lines) on.live
+    live_in v on = subst (HaveLines (codes "Load") load_logs) (sym on.round.lines) on.live.lines
+
+    of_cluster_in : (v : Rounded) {added history : History} (on : OnRound v added history)
+        → AllOfCluster (codes "none") (since_start (agent (codes "load")) (on.rounded ++ (on.appends ++ history)))
+    of_cluster_in v {history = history} on =
+        subst (λ n. AllOfCluster n (since_start (agent (codes "load")) (on.rounded ++ (on.appends ++ history))))
+        on.live.cluster on.round.one_cluster
 
     -- nothing stands behind the round
     loaded : (v : Rounded) (added history : History) → OnRound v added history → IsLoaded lines v added history
@@ -154,6 +162,7 @@ module _ (stamped : List (List ℕ)) (started acting : List Who) (lines : ℕ) w
       split = on.split;
       appended = on.appended;
       round = on.round;
+      of_cluster = of_cluster_in v on;
       live = live_in v on;
       acts = on.acts;
       printing = tt;
@@ -214,6 +223,7 @@ module _ (stamped : List (List ℕ)) (started acting : List Who) (lines : ℕ) w
       split = ap (λ (t : History). b ++ t) on.split;
       appended = on.appended;
       round = on.round;
+      of_cluster = of_cluster_in v on;
       live = live_in v on;
       acts = on.acts;
       archived = archived_in v on;

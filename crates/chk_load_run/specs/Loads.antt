@@ -6,11 +6,12 @@ use Rattle.chk_site.specs.declared.acts.OutsideFault.{OutsideFault}
 use Rattle.chk_site.specs.declared.acts.OutsideFault.TheVariants.{NoMemory as no_memory}
 use Rattle.chk_site.specs.declared.acts.Who.{Who}
 use Rattle.chk_site.specs.Acts.{Deed, GrowsLog, Says, deed}
-use Rattle.chk_site.specs.History.{Step, History, Others, files_after, is_stopped}
+use Rattle.chk_site.specs.History.{Step, History, Others, files_after, is_stopped, since_start}
 use Rattle.chk_site.specs.Runs.{Leads, Owns, own_acts}
 use Rattle.chk_site.specs.Site.{Adds, Asked, Calls, Ends, EndsIn, Rose, answered, asked, plain}
-use Rattle.chk_world.specs.Agents.{stream_of}
+use Rattle.chk_world.specs.Agents.{AllOfCluster, stream_of}
 use Rattle.chk_world.specs.Checkpoints.{Line, checkpoint_lines}
+use Rattle.chk_world.specs.Knowing.{agent}
 use Rattle.chk_world.specs.Rules.{Legal}
 use Rattle.chk_world.specs.Together.{Outside as OutsideOf, Together}
 use Rattle.chk_archive.specs.Reporting.{report_view}
@@ -56,6 +57,9 @@ pub record IsLoaded (lines : ℕ) (r : Rounded) (added history : History) : Type
   pub appended : HasAppended lines (own_acts appends)
   pub round : RoundDone (codes "c1") (codes "load") r.agent r.report rounded (appends ++ history)
   pub printing : Owns IsWritersPrint behind (rounded ++ (appends ++ history))
+  -- each chunk that the round's agent has sent since its start is of the cluster `none`
+  pub of_cluster : AllOfCluster (codes "none")
+      (since_start (agent (codes "load")) (rounded ++ (appends ++ history)))
   -- each of the three logs has a live line, but where the checkpoint is full without it
   pub live : HaveLines (codes "Load") load_logs
       (checkpoint_lines (files_after (rounded ++ (appends ++ history))) (codes "load"))

@@ -48,6 +48,23 @@ added_same {s = s} (adds.too_many is full) = same_agent s
 added_same {s = s} (adds.new name found is may named (adds.written {t = t} after newest same writes)) =
     let k = same_as s t _ same (with_same s found _) in record { source = k.source; ready = k.ready }
 
+-- the cluster stays
+added_cluster : {class : Class} {kind path : List ℕ} {s t : State} {added : Added} {old new : Option History}
+    → IsAdded class kind path s (Ok added) t old new → t.cluster ≡ s.cluster
+added_cluster (adds.live found is past) = refl
+added_cluster (adds.too_many is full) = refl
+added_cluster {s = s} (adds.new name found is may named (adds.written {t = t} after newest same writes)) =
+    ap (λ (k : State). k.cluster) same ∙ go found
+  where
+    go : (found : Option Found) {l : Line} → (with_added s found l).cluster ≡ s.cluster
+    go None = refl
+    go (Some f) = refl
+
+pub logs_cluster : {class : Class} {kind : List ℕ} {logs : List (List ℕ)} {s t : State} {old new : Option History}
+    → AddsLogs class kind logs s (Ok tt) t old new → t.cluster ≡ s.cluster
+logs_cluster adding.all = refl
+logs_cluster (adding.one added is rest) = logs_cluster rest ∙ added_cluster is
+
 -- the source stays also where it was refused
 pub added_source : {class : Class} {kind path : List ℕ} {s t : State} {fault : AgentFault} {old new : Option History}
     → IsAdded class kind path s (Err fault) t old new → t.source ≡ s.source

@@ -157,6 +157,14 @@ module _ (now : ℕ) (s : Agents) (sound : IsSound s) (rows : s.delivery.table.r
       keeps_list (settle.saved_now (settle.settled (settle.reset (settle.gone_at now s) s)))
       (ap (λ xs. settle.settled_all xs s.delivery.table.committed) (all_there now s rows))
 
+settled_cluster : {now : ℕ} {s t : Agents} {result : Result Settled AgentFault} {old new : Option History}
+    → IsSettled now s result t old new → t.cluster ≡ s.cluster
+settled_cluster (settle.same same) = refl
+settled_cluster (settle.written other writes) = refl
+settled_cluster (settle.failed call other writes) = refl
+settled_cluster (settle.unwritten other writes) = refl
+settled_cluster settle.wanting = refl
+
 -- ---- all of it
 
 pub delivered : (now : ℕ) (a b c d : Agents) → PostedAll a b → HasFree b.delivery.table.room b c → 1 ≤ b.delivery.table.room
@@ -170,6 +178,7 @@ delivered now a b c d posted free some sound table ready is =
     let same = same_then a b c posted.same free.same in
     record {
       source = settled_source is ∙ same.source;
+      cluster = settled_cluster is ∙ same.cluster;
       ready = settled_ready is ∙ (same.ready ∙ ready);
       delivered = settled_delivered now c sound none rows (all_committed c sound table none rows) is;
       adaptors = λ i y at.

@@ -1,5 +1,5 @@
 -- What an exchange leaves of the agent.
-use Rattle.std.proofs.Common.{◌≢◌, ℕ, [], Option, None, Result, Ok, refl}
+use Rattle.std.proofs.Common.{◌≢◌, ℕ, List, [], Option, None, Result, Ok, refl, ap, ◌∙◌}
 use Rattle.std.proofs.lemmas.Option.{none-some}
 use Rattle.chk_bytes.specs.declared.NoMemory.{NoMemory as Wanting}
 use Rattle.chk_site.specs.declared.acts.Who.{Who}
@@ -77,12 +77,20 @@ lengths p = record { given = p.given; delivery = p.delivery; made = answered p.m
 
 -- ---- an exchange that was answered
 
+abbrev cluster_of : State → List ℕ
+cluster_of s = s.cluster
+
 pub posted_some : {who : Who} {now : ℕ} {s u : Sinks} {a b : State} {old new : Option History}
     → a.delivery.queue.chunks ≢ [] → PostsInside who now s a (Ok tt) u b old new → PostedSome a b
 posted_some {now = now} {a = a} {b = b} some (inside.ended count made sent serves (inside.taken none replies)) =
     let good = post_good {now = now} {s = a} {t = b} some (once.good count count (posts sent) (post_replies replies)) refl in
     record {
-      same = record { source = good.same.source; ready = good.same.ready; rest = good.same.rest };
+      same = record {
+        source = good.same.source;
+        cluster = ap cluster_of replies.state_is ∙ ap cluster_of sent.state_is;
+        ready = good.same.ready;
+        rest = good.same.rest;
+      };
       fewer = good.fewer;
     }
 
@@ -91,7 +99,12 @@ pub polled_all : {who : Who} {s u : Sinks} {a b : State} {old new : Option Histo
 polled_all {a = a} {b = b} some (inside.ended count made sent serves (inside.taken below none replies)) =
     let good = poll_good {now = 0} {s = a} {t = b} None some (once.good count count None (polls sent) (lengths replies)) refl in
     record {
-      same = record { source = good.same.source; ready = good.same.ready; rest = good.same.rest };
+      same = record {
+        source = good.same.source;
+        cluster = ap cluster_of replies.state_is ∙ ap cluster_of sent.state_is;
+        ready = good.same.ready;
+        rest = good.same.rest;
+      };
       queue = good.queue;
       fewer = good.fewer refl;
     }

@@ -42,11 +42,12 @@ pub still_c : (who : Who) (s t : Sinks) → who ≡ process s → t.collector �
 still_c who s t is same = is ∙ ap (λ n. record { role = Collector; name = n }) (sym same)
 
 pub same_none : (a : Agents) → IsSameAgent a a
-same_none a = record { source = refl; ready = refl; rest = record { adaptors = refl; addresses = refl; room = refl } }
+same_none a = record { source = refl; cluster = refl; ready = refl; rest = record { adaptors = refl; addresses = refl; room = refl } }
 
 pub same_then : (a b c : Agents) → IsSameAgent a b → IsSameAgent b c → IsSameAgent a c
 same_then a b c p q = record {
   source = q.source ∙ p.source;
+  cluster = q.cluster ∙ p.cluster;
   ready = q.ready ∙ p.ready;
   rest = record {
     adaptors = q.rest.adaptors ∙ p.rest.adaptors;

@@ -99,6 +99,7 @@ reading_begun s a now m = record {
   starts = starts_none s;
   on = record {
     source = refl;
+    cluster = refl;
     ready = refl;
     addresses = refl;
     size = refl;
@@ -292,6 +293,7 @@ module _ (n : ℕ) (s t : Sinks) (a b : Agents) {old mid : Option History} {befo
             starts = starts_then s t u so.starts starts;
             on = record {
               source = one.source ∙ so.on.source;
+              cluster = one.cluster ∙ so.on.cluster;
               ready = one.ready ∙ so.on.ready;
               addresses = one.addresses ∙ so.on.addresses;
               size = one.adaptors.size ∙ so.on.size;

@@ -2,15 +2,16 @@
 use Rattle.std.proofs.Common.{◌≡◌, ℕ, zero, suc, false, List, ◌++◌, Option, Result, Ok, Err, ap, sym, subst, ◌∙◌, refl, arith, append_assoc}
 use Rattle.std.specs.Prelude.{Contains, codes}
 use Rattle.chk_site.specs.declared.acts.Who.{Who}
-use Rattle.chk_site.specs.History.{History, Others, files_after, is_stopped}
+use Rattle.chk_site.specs.History.{History, Others, files_after, is_stopped, since_start}
 use Rattle.chk_site.specs.Site.{Adds}
 use Rattle.chk_site.specs.Runs.{Leads}
 use Rattle.chk_site.proofs.Runs.{adds_as, adds_both, adds_none, adds_then}
 use Rattle.chk_chunk.specs.Keys.{Stream}
-use Rattle.chk_world.specs.Agents.{stream_of}
+use Rattle.chk_world.specs.Agents.{AllOfCluster, stream_of}
 use Rattle.chk_world.specs.ArchiveRuns.{IsArchiveRun, last_listing}
 use Rattle.chk_world.specs.Checkpoints.{checkpoint_lines}
 use Rattle.chk_world.specs.Committed.{IsAbsent, archive_of_stream}
+use Rattle.chk_world.specs.Knowing.{agent}
 use Rattle.chk_world.specs.Names.{SinkFile, file}
 use Rattle.chk_world.specs.Rules.{Legal}
 use Rattle.chk_world.specs.Sight.{job}
@@ -105,6 +106,7 @@ moved c source b r y x h none done =
           at_read_late P P (λ read holds. holds) y x h
           (done.read l (subst (λ (k : History). Contains (checkpoint_lines (files_after k) source) l) assoc one) live);
       lines = ap (λ (k : History). checkpoint_lines (files_after k) source) assoc ∙ done.lines;
+      one_cluster = subst (λ (k : History). AllOfCluster b.cluster (since_start (agent source) k)) (sym assoc) done.one_cluster;
       run = record {
         once = (let all = given_join y x in let p = none in let q = done.run.once in omega (arith, all, p, q));
         listing = done.run.listing;

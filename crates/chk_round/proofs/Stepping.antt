@@ -109,6 +109,14 @@ step_keeps (fill.refused b fault held is) = refl
 step_keeps (fill.unkept b step held is) = refl
 step_keeps (fill.wanting held) = refl
 
+step_cluster : {i : ℕ} {a : Adaptor} {s t : Agents} {result : Result Stepped AgentFault} {old new : Option History}
+    → IsOneStepped i a s result t old new → t.cluster ≡ s.cluster
+step_cluster (fill.held is) = refl
+step_cluster (fill.made b step held is) = refl
+step_cluster (fill.refused b fault held is) = refl
+step_cluster (fill.unkept b step held is) = refl
+step_cluster (fill.wanting held) = refl
+
 -- the queue had no room, and nothing changed
 pub step_held : {i : ℕ} {a : Adaptor} {s t : Agents} {result : Result Stepped AgentFault} {old new : Option History} (used : ℕ)
     → IsOneStepped i a s result t old new → result ≡ Ok (Held used) → (t ≡ s) × (is_held s.delivery ≡ true)
@@ -128,14 +136,21 @@ pub step_on : {i : ℕ} {a : Adaptor} {s t : Agents} {result : Result Stepped Ag
     → IsOneStepped i a s result t old new → slice_get s.adaptors i ≡ Some a → ReadOn i s t
 step_on is there =
     let leaves = step_leaves is there in
-    record { source = leaves.source; ready = leaves.ready; addresses = step_keeps is; adaptors = leaves.adaptors }
+    record {
+      source = leaves.source;
+      cluster = step_cluster is;
+      ready = leaves.ready;
+      addresses = step_keeps is;
+      adaptors = leaves.adaptors;
+    }
 
 pub on_none : (i : ℕ) (a : Agents) → ReadOn i a a
-on_none i a = record { source = refl; ready = refl; addresses = refl; adaptors = but_same i a a refl }
+on_none i a = record { source = refl; cluster = refl; ready = refl; addresses = refl; adaptors = but_same i a a refl }
 
 pub on_then : (i : ℕ) (a b c : Agents) → ReadOn i a b → ReadOn i b c → ReadOn i a c
 on_then i a b c p q = record {
   source = q.source ∙ p.source;
+  cluster = q.cluster ∙ p.cluster;
   ready = q.ready ∙ p.ready;
   addresses = q.addresses ∙ p.addresses;
   adaptors = but_then i a b c p.adaptors q.adaptors;
@@ -144,6 +159,7 @@ on_then i a b c p q = record {
 pub on_same : (i : ℕ) (a b : Agents) → IsSameAgent a b → ReadOn i a b
 on_same i a b same = record {
   source = same.source;
+  cluster = same.cluster;
   ready = same.ready;
   addresses = same.rest.addresses;
   adaptors = but_same i a b same.rest.adaptors;

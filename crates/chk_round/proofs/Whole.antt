@@ -4,16 +4,17 @@ use Rattle.std.specs.Prelude.{Contains, IsFalse, IsTrue, codes, is_some, ◌&&�
 use Rattle.chk_bytes.specs.Stems.{Stem, is_stem, same_stem, stem_text}
 use Rattle.chk_site.specs.declared.acts.Role.TheVariants.{Agent, Collector}
 use Rattle.chk_site.specs.declared.acts.Who.{Who}
-use Rattle.chk_site.specs.History.{History, Others, files_after, is_stopped}
+use Rattle.chk_site.specs.History.{History, Others, files_after, is_stopped, since_start}
 use Rattle.chk_site.specs.Site.{Adds}
 use Rattle.chk_site.specs.Runs.{Leads}
 use Rattle.chk_site.proofs.Leads.{leads_then}
 use Rattle.chk_site.proofs.Runs.{adds_as, adds_both, adds_then}
 use Rattle.chk_chunk.specs.Keys.{Stream}
-use Rattle.chk_world.specs.Agents.{stream_of}
+use Rattle.chk_world.specs.Agents.{AllOfCluster, stream_of}
 use Rattle.chk_world.specs.ArchiveRuns.{IsArchiveRun, Listing, is_unclosed, last_listing}
 use Rattle.chk_world.specs.Checkpoints.{Line, checkpoint_lines}
 use Rattle.chk_world.specs.Committed.{IsAbsent}
+use Rattle.chk_world.specs.Knowing.{agent}
 use Rattle.chk_world.specs.Names.{SinkFile, file}
 use Rattle.chk_world.specs.Sight.{job}
 use Rattle.chk_world.specs.Streams.{whole_end}
@@ -363,6 +364,12 @@ module _ (stamped : List (List ℕ)) (started acting : List Who) (s : Sinks) (a 
                 ∙ (ap (checkpoint_lines (files_after (z ++ (w ++ history)))) (sym source)
                 ∙ ((end.1.1.alive goes delivered.ready).lines_are ∙ delivered.delivered.saved))
 
+            all_of_cluster : AllOfCluster b.cluster (since_start (agent a.source) ((z ++ w) ++ history))
+            all_of_cluster =
+                subst (λ n. AllOfCluster b.cluster (since_start (agent n) ((z ++ w) ++ history))) (delivered.source ∙ on.source)
+                (subst (λ (k : History). AllOfCluster b.cluster (since_start (agent b.source) k)) (sym (append_assoc z w history))
+                (end.1.1.alive goes delivered.ready).one_cluster)
+
             line_at_rest : (l : Line) → Contains (checkpoint_lines (files_after ((z ++ w) ++ history)) a.source) l → l.live ≡ true
                 → LineRead a.source b l w history
             line_at_rest l one live =
@@ -410,6 +417,7 @@ module _ (stamped : List (List ℕ)) (started acting : List Who) (s : Sinks) (a 
                   each = λ l one live none. archived l (line_at_rest l one live) none;
                   read = λ l one live. was_read l (line_at_rest l one live);
                   lines = lines_are;
+                  one_cluster = all_of_cluster;
                   run = record {
                     once = (let all = given_join z w in let p = first.none in let q = second.once in omega (arith, all, p, q));
                     listing = has.1.listing;

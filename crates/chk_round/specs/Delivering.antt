@@ -14,6 +14,7 @@ pub record ReadAsFar (a b : Adaptor) : Type 0 where
 -- All is delivered: the checkpoint has the end of what was read of each adaptor that isn't past.
 pub record Delivered (s t : State) : Type 0 where
   pub source : t.source ≡ s.source
+  pub cluster : t.cluster ≡ s.cluster
   pub ready : t.ready ≡ true
   pub delivered : AllDelivered t
   pub adaptors : (i : ℕ) (b : Adaptor) → slice_get t.adaptors i ≡ Some b

@@ -50,8 +50,9 @@ JointTo s a t b result old new =
     (stamped : List (List ℕ)) (started acting : List Who) → AreIn started acting s a
     → Adds old new (Leads (Together stamped started acting) (BothAt stamped s a) (GoesOn stamped t b result))
 
--- the same agent, with its adaptors, its addresses and its room for rows
+-- the same agent, with its cluster, its adaptors, its addresses and its room for rows
 pub record IsSameAgent (s t : Agents) : Type 0 where
   pub source : t.source ≡ s.source
+  pub cluster : t.cluster ≡ s.cluster
   pub ready : t.ready ≡ s.ready
   pub rest : SameRest s t

@@ -4,6 +4,7 @@ pub mod Joint
 pub mod Faults
 pub mod Starts
 pub mod Adding
+pub mod Begun
 pub mod Closing
 pub mod Polling
 pub mod Reading

@@ -27,6 +27,7 @@ pub data IsShrank (path : List ℕ) (had is : ℕ) : RoundFault → Type 0 where
 -- the agent is the same but for what is to be delivered and one adaptor, which is of the same stream
 pub record ReadOn (i : ℕ) (s t : Agents) : Type 0 where
   pub source : t.source ≡ s.source
+  pub cluster : t.cluster ≡ s.cluster
   pub ready : t.ready ≡ s.ready
   pub addresses : t.delivery.ring.addresses ≡ s.delivery.ring.addresses
   pub adaptors : AdaptorsBut i s t
@@ -34,6 +35,7 @@ pub record ReadOn (i : ℕ) (s t : Agents) : Type 0 where
 -- the agent is the same but for what is to be delivered and its adaptors, which are as many
 pub record ReadsOn (s t : Agents) : Type 0 where
   pub source : t.source ≡ s.source
+  pub cluster : t.cluster ≡ s.cluster
   pub ready : t.ready ≡ s.ready
   pub addresses : t.delivery.ring.addresses ≡ s.delivery.ring.addresses
   pub size : length t.adaptors ≡ length s.adaptors

@@ -2,12 +2,13 @@
 use Rattle.std.specs.Prelude.{◌≡◌, ℕ, true, false, IsTrue, List, [], ◌∷◌, ◌++◌, codes, Contains, slice_get, Some, Result, Ok, Err}
 use Rattle.chk_bytes.specs.Stems.{Stem, is_stem, stem_text}
 use Rattle.chk_site.specs.declared.acts.Who.{Who}
-use Rattle.chk_site.specs.History.{History, Others, files_after, is_stopped}
+use Rattle.chk_site.specs.History.{History, Others, files_after, is_stopped, since_start}
 use Rattle.chk_site.specs.Messages.{self_address}
 use Rattle.chk_site.specs.Runs.{Leads}
-use Rattle.chk_world.specs.Agents.{stream_of}
+use Rattle.chk_world.specs.Agents.{AllOfCluster, stream_of}
 use Rattle.chk_world.specs.Checkpoints.{Line, checkpoint_lines}
 use Rattle.chk_world.specs.Committed.{IsAbsent}
+use Rattle.chk_world.specs.Knowing.{agent}
 use Rattle.chk_world.specs.Names.{SinkFile, file}
 use Rattle.chk_world.specs.Places.{AtTold}
 use Rattle.chk_world.specs.Rules.{Legal}
@@ -59,6 +60,8 @@ pub record RoundDone (collector source : List ℕ) (b : Agents) (r : Report) (ad
       → AtRead (stream_of source l) (λ read. whole_end read (stream_of source l) ≡ l.offset)
       added history
   pub lines : checkpoint_lines (files_after (added ++ history)) source ≡ lines_of b
+  -- each chunk that the agent has sent since its start is of its cluster
+  pub one_cluster : AllOfCluster b.cluster (since_start (agent source) (added ++ history))
   -- one run of the archive job came to this report, and the job was given the names of the sinks
   -- once in these steps
   pub run : JobRan r.unclosed r.taken r.held r.removed added history

@@ -1,5 +1,6 @@
 -- Which steps a round makes of each log, and how its reads end.
 use Rattle.std.specs.Prelude.{List, ◌≡◌, ◌⊎◌, ℕ, ◌+◌, ◌<◌, ◌≤◌, true, false, length, slice_get, Option, Some, Result, Ok, Err}
+use Rattle.chk_control.specs.declared.Class.{Class}
 use Rattle.chk_site.specs.History.{History}
 use Rattle.chk_site.specs.Site.{Adds}
 use Rattle.chk_reading.specs.Adaptors.{Adaptor, is_past, is_stepped}
@@ -9,6 +10,7 @@ use Rattle.chk_agent.specs.Fills.{IsOneStepped}
 use Rattle.chk_agent.specs.States.{State, is_read_on}
 use Rattle.chk_round.specs.declared.faults.RoundFault.{RoundFault}
 use Rattle.chk_round.specs.declared.faults.RoundFault.TheVariants.{Growing, Shrank}
+use Rattle.chk_round.specs.Begun.{BeginsSo}
 use Rattle.chk_round.specs.Faults.{of_agent}
 use Rattle.chk_round.specs.Polling.{PostedSome}
 use Rattle.chk_round.specs.Reading.{IsGrowing, IsShrank}
@@ -99,13 +101,14 @@ WereRead s t =
     → (x : Adaptor) × (slice_get s.adaptors i ≡ Some x) × (is_stepped x.phase ≡ true)
     × (x.kind ≡ y.kind) × (x.path ≡ y.path)
 
--- Behind the calls that begin a round this source's agent read its logs, each to its end, by fewer
--- than so many reads that gave bytes. The log of each adaptor that is live now was among them.
-pub record ReadsLogs (source : List ℕ) (reads : ℕ) (now : State) (old new : Option History)
-    : Type 0 where
+-- Behind the start of this source's agent, and the adding of these logs, it read its logs, each to
+-- its end, by fewer than so many reads that gave bytes. The log of each adaptor that is live now was
+-- among them.
+pub record ReadsLogs (source kind : List ℕ) (class : Class) (cluster : List ℕ)
+    (logs : List (List ℕ)) (reads : ℕ) (now : State) (old new : Option History) : Type 0 where
   pub begun : State
   pub source_is : begun.source ≡ source
   pub mid : Option History
-  pub before : Adds old mid Anything
+  pub before : BeginsSo source kind class cluster logs begun old mid
   pub script : RunReads {T = Unit {0}} reads begun (Ok tt) mid new
   pub each : WereRead begun now

@@ -8,6 +8,7 @@ ghost use Rattle.chk_world.specs.Names.{is_source};
 ghost use Rattle.chk_world.specs.Knowing.{agent};
 ghost use Rattle.chk_world.specs.Rules.{Legal};
 ghost use Rattle.chk_world.specs.Together.{Together};
+ghost use Rattle.chk_round.specs.Begun.{BeginsSo};
 ghost use Rattle.chk_round.specs.Faults.{FailsInside, RoundCause};
 ghost use Rattle.chk_round.specs.Following.{Follows};
 ghost use Rattle.chk_round.specs.Processes.{AreBoth, c1};
@@ -44,6 +45,8 @@ pub(crate) fn gather<S: Site>(
     ensures gathered { IfOk result (λ pair. IsGathered reading.now.name pair.collector pair.agent) }
     ensures live { IfOk result (λ pair. (log : List ℕ) → Contains given.now.logs.items log
         → Follows given.now.kind log pair.agent) }
+    ensures begins { IfOk result (λ pair. BeginsSo reading.now.name given.now.kind given.now.class
+        rules.cluster given.now.logs.items pair.agent (S.told site.old) (S.told site.new)) }
     ensures told { (stamped : List (List ℕ)) (started acting : List Person)
         → AreBoth reading.now.name started acting → Adds (S.told site.old) (S.told site.new)
         (Leads (Together stamped started acting) (Legal stamped) (Met stamped result)) }

@@ -48,6 +48,7 @@ pub(crate) fn run_pair<S: Site>(
     ensures script { RunReads reads agent.old result (S.told site.old) (S.told site.new) }
     ensures each { OnOk result (AllSteady agent.old → WereRead agent.old agent.new) }
     ensures live { OnOk result (KeepsLogs agent.old agent.new) }
+    ensures cluster { OnOk result (agent.new.cluster ≡ agent.old.cluster) }
     ensures length { LengthCause result (S.told site.old) (S.told site.new) }
     ensures acts { Adds (S.told site.old) (S.told site.new) RoundCalls }
     ensures last { Adds (S.told site.old) (S.told site.new) (FailsInside result) }

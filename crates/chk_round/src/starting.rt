@@ -8,6 +8,7 @@ ghost use Rattle.chk_world.specs.Names.{is_source};
 ghost use Rattle.chk_world.specs.Knowing.{agent};
 ghost use Rattle.chk_world.specs.Rules.{Legal};
 ghost use Rattle.chk_world.specs.Together.{Together};
+ghost use Rattle.chk_round.specs.Begun.{AgentBegan};
 ghost use Rattle.chk_round.specs.Faults.{FailsLast, RoundCause};
 ghost use Rattle.chk_round.specs.Processes.{AreBoth, c1};
 ghost use Rattle.chk_round.specs.Lengths.{IsPlain};
@@ -58,6 +59,8 @@ pub(crate) fn start_pair<S: Site>(
     ensures told { (stamped : List (List ℕ)) (started acting : List Person)
         → AreBoth reading.now.name started acting → Adds (S.told site.old) (S.told site.new)
         (Leads (Together stamped started acting) (Legal stamped) (Met stamped result)) }
+    ensures began { IfOk result (λ pair. AgentBegan reading.now ring rules pair.agent
+        (S.told site.old) (S.told site.new)) }
     ensures clock { IfOk result (λ pair. Adds (S.told site.old) (S.told site.new)
         (EndsWithClock reading.now pair.now)) }
     ensures acts { Adds (S.told site.old) (S.told site.new) (Owns (IsStarting reading.now.name)) }

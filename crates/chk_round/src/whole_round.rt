@@ -48,8 +48,10 @@ pub fn round<S: Site>(
         → IsRunOf given.now.source started acting → Adds (S.told site.old) (S.told site.new)
         (RoundTo stamped started acting given.now.source result) }
     ensures script { RoundReads given.now.source given.now.reads result (S.told site.old) (S.told site.new) }
-    ensures reads { IfOk result (λ r. ReadsLogs given.now.source given.now.reads r.agent
+    ensures reads { IfOk result (λ r. ReadsLogs given.now.source given.now.kind given.now.class
+        given.now.cluster given.now.logs.items given.now.reads r.agent
         (S.told site.old) (S.told site.new)) }
+    ensures cluster { IfOk result (λ r. r.agent.cluster ≡ given.now.cluster) }
     ensures live { IfOk result (λ r. HaveLines given.now.kind given.now.logs.items
         (lines_of r.agent)) }
     ensures length { LengthCause result (S.told site.old) (S.told site.new) }
@@ -79,8 +81,10 @@ pub fn round_within<S: Site>(
         → IsRunOf given.now.source started acting → Adds (S.told site.old) (S.told site.new)
         (RoundTo stamped started acting given.now.source result) }
     ensures script { RoundReads given.now.source given.now.reads result (S.told site.old) (S.told site.new) }
-    ensures reads { IfOk result (λ r. ReadsLogs given.now.source given.now.reads r.agent
+    ensures reads { IfOk result (λ r. ReadsLogs given.now.source given.now.kind given.now.class
+        given.now.cluster given.now.logs.items given.now.reads r.agent
         (S.told site.old) (S.told site.new)) }
+    ensures cluster { IfOk result (λ r. r.agent.cluster ≡ given.now.cluster) }
     ensures live { IfOk result (λ r. HaveLines given.now.kind given.now.logs.items
         (lines_of r.agent)) }
     ensures length { LengthCause result (S.told site.old) (S.told site.new) }

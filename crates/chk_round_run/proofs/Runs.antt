@@ -4,11 +4,12 @@ use Rattle.std.specs.Prelude.{IsTrue, if◌then◌else◌}
 use Rattle.chk_site.specs.declared.acts.Who.{Who}
 use Rattle.chk_site.specs.declared.acts.OutsideFault.{OutsideFault}
 use Rattle.chk_site.specs.declared.acts.OutsideFault.TheVariants.{Outside as site_failed, NoMemory as site_wanting}
-use Rattle.chk_site.specs.History.{History, Others, is_stopped}
+use Rattle.chk_site.specs.History.{History, Others, is_stopped, since_start}
 use Rattle.chk_site.specs.Site.{Adds, LastFailed, OutsideCause}
 use Rattle.chk_site.specs.Runs.{Leads, own_acts}
 use Rattle.chk_site.proofs.Runs.{adds_as, adds_both, adds_none, adds_then}
 use Rattle.chk_replace.proofs.CallSteps.{last_then, script_last}
+use Rattle.chk_world.specs.Agents.{AllOfCluster}
 use Rattle.chk_world.specs.Checkpoints.{Line}
 use Rattle.chk_world.specs.Knowing.{agent}
 use Rattle.chk_world.specs.Names.{is_source}
@@ -88,10 +89,10 @@ module _ (stamped : List (List ℕ)) (source : List ℕ) where
     printed_is : result ≡ Ok tt
         → printed (own_acts added) ≡ round_prints (agent source) job (lines_of r.agent) (report_view r.report)
 
-  module _ (kind : List ℕ) (logs : List (List ℕ)) (named : IsTrue (is_source source)) (started acting : List Who)
+  module _ (kind cluster : List ℕ) (logs : List (List ℕ)) (named : IsTrue (is_source source)) (started acting : List Who)
       (run : IsRunOf source started acting) where
     abbrev To : Result (Unit {0}) RoundEnd → History → History → Type 0
-    To result = RunsTo stamped started acting source kind logs result
+    To result = RunsTo stamped started acting source kind cluster logs result
 
     tells_cut : (r : Rounded) (fault : OutsideFault) {old new : Option History} → TellsRound source r (Err fault) old new
         → Adds old new (TellsTo started acting r (Err fault))
@@ -160,9 +161,9 @@ module _ (stamped : List (List ℕ)) (source : List ℕ) where
             done = λ all. absurd (print_ends fault all);
           })
 
-      pub ran_to : HaveLines kind logs (lines_of r.agent) → TellsRound source r (Ok tt) mid new
+      pub ran_to : r.agent.cluster ≡ cluster → HaveLines kind logs (lines_of r.agent) → TellsRound source r (Ok tt) mid new
           → Adds old new (To (end_by r.report.first_unclosed))
-      ran_to live tells =
+      ran_to same live tells =
           adds_then (To (end_by r.report.first_unclosed)) first (tells_all r tells)
           (λ a b history x y.
           let both = leads_both r (Ok tt) a b history x y in
@@ -182,6 +183,7 @@ module _ (stamped : List (List ℕ)) (source : List ℕ) where
                   body = a;
                   split = refl;
                   done = done;
+                  of_cluster = subst (λ n. AllOfCluster n (since_start (agent source) (a ++ history))) same done.one_cluster;
                   live = subst (HaveLines kind logs) (sym done.lines) live;
                   printed_is = y.printed_is refl
                       ∙ ap (λ (ls : List Line). round_prints (agent source) job ls (report_view r.report)) (sym done.lines);

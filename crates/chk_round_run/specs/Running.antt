@@ -1,11 +1,12 @@
 -- A round as a run.
 use Rattle.std.specs.Prelude.{◌≡◌, ℕ, ◌≤◌, true, false, List, ◌++◌, codes, Contains, IfOk, Option, Result, Ok, Err}
+use Rattle.chk_control.specs.declared.Class.{Class}
 use Rattle.chk_site.specs.declared.acts.Who.{Who}
 use Rattle.chk_site.specs.declared.acts.OutsideFault.{OutsideFault}
-use Rattle.chk_site.specs.History.{History, Others, files_after, is_stopped}
+use Rattle.chk_site.specs.History.{History, Others, files_after, is_stopped, since_start}
 use Rattle.chk_site.specs.Runs.{Leads, own_acts}
 use Rattle.chk_site.specs.Site.{Adds, Rose}
-use Rattle.chk_world.specs.Agents.{stream_of}
+use Rattle.chk_world.specs.Agents.{AllOfCluster, stream_of}
 use Rattle.chk_world.specs.Checkpoints.{Line, checkpoint_lines}
 use Rattle.chk_world.specs.Knowing.{agent}
 use Rattle.chk_world.specs.Rules.{Legal}
@@ -36,15 +37,17 @@ use Rattle.chk_round_run.specs.Telling.{Tells, end_by, print_end, round_prints}
 
 -- What a round of this source says of its steps, which reads these logs under this type. A log
 -- that grows or shrank shows in the reads that the source's agent made, so many of a log at most,
--- and a length below an answered offset in the last poll behind a commit. Where it is done, each
--- live log was read to its end by fewer than so many reads that gave bytes.
-pub record IsRound (source kind : List ℕ) (logs : List (List ℕ)) (reads : ℕ)
+-- and a length below an answered offset in the last poll behind a commit. Where it is done, the logs
+-- were added behind the agent's start, a new one with this class, and each live log was read to its
+-- end by fewer than so many reads that gave bytes.
+pub record IsRound (source kind : List ℕ) (class : Class) (cluster : List ℕ)
+    (logs : List (List ℕ)) (reads : ℕ)
     (result : Result Rounded RoundFault) (old new : Option History) : Type 0 where
   pub told : (stamped : List (List ℕ)) (started acting : List Who) → IsRunOf source started acting
       → Adds old new (RoundTo stamped started acting source result)
   pub live : IfOk result (λ r. HaveLines kind logs (lines_of r.agent))
   pub script : RoundReads source reads result old new
-  pub read : IfOk result (λ r. ReadsLogs source reads r.agent old new)
+  pub read : IfOk result (λ r. ReadsLogs source kind class cluster logs reads r.agent old new)
   pub length : LengthCause result old new
   pub last : Adds old new (FailsInside result)
   pub acts : Adds old new (RoundActs source)
@@ -55,19 +58,19 @@ TellsRound source r result old new =
     Tells (agent source) job (lines_of r.agent) (report_view r.report) result old new
 
 -- A round, and where it is done its lines, up to one that wasn't printed. Nothing else is done.
-pub data RunsRound (source kind : List ℕ) (logs : List (List ℕ)) (reads : ℕ)
-    : Result (Unit {0}) RoundEnd → Option History → Option History → Type 0 where
+pub data RunsRound (source kind : List ℕ) (class : Class) (cluster : List ℕ)
+    (logs : List (List ℕ)) (reads : ℕ) : Result (Unit {0}) RoundEnd → Option History → Option History → Type 0 where
   unbegun : {now : Option History}
-      → RunsRound source kind logs reads (Err (Fault NoMemory)) now now
+      → RunsRound source kind class cluster logs reads (Err (Fault NoMemory)) now now
   undone : {old new : Option History} (fault : RoundFault)
-      → IsRound source kind logs reads (Err fault) old new
-      → RunsRound source kind logs reads (Err (Fault fault)) old new
+      → IsRound source kind class cluster logs reads (Err fault) old new
+      → RunsRound source kind class cluster logs reads (Err (Fault fault)) old new
   untold : {old mid new : Option History} (r : Rounded) (fault : OutsideFault)
-      → IsRound source kind logs reads (Ok r) old mid → TellsRound source r (Err fault) mid new
-      → RunsRound source kind logs reads (Err (print_end fault)) old new
+      → IsRound source kind class cluster logs reads (Ok r) old mid → TellsRound source r (Err fault) mid new
+      → RunsRound source kind class cluster logs reads (Err (print_end fault)) old new
   ran : {old mid new : Option History} (r : Rounded)
-      → IsRound source kind logs reads (Ok r) old mid → TellsRound source r (Ok tt) mid new
-      → RunsRound source kind logs reads (end_by r.report.first_unclosed) old new
+      → IsRound source kind class cluster logs reads (Ok r) old mid → TellsRound source r (Ok tt) mid new
+      → RunsRound source kind class cluster logs reads (end_by r.report.first_unclosed) old new
 
 -- where the site wasn't stopped, the call that failed is the last one, or one inside the round
 abbrev pub EndsByCall : Result (Unit {0}) RoundEnd → History → History → Type 0
@@ -94,13 +97,15 @@ IsAllTold (Err (Fault fault)) = ⊥
 
 -- The round was done in the first of these steps, and in those behind it just its lines were printed. Their
 -- numbers are those of the live lines of the checkpoint, and of the archive run.
-pub record DoneAndTold (source kind : List ℕ) (logs : List (List ℕ)) (result : Result (Unit {0}) RoundEnd)
-    (added history : History) : Type 0 where
+pub record DoneAndTold (source kind cluster : List ℕ) (logs : List (List ℕ))
+    (result : Result (Unit {0}) RoundEnd) (added history : History) : Type 0 where
   pub rounded : Rounded
   pub tail : History
   pub body : History
   pub split : added ≡ tail ++ body
   pub done : RoundDone (codes "c1") source rounded.agent rounded.report body history
+  -- each chunk that the agent has sent since its start is of this cluster
+  pub of_cluster : AllOfCluster cluster (since_start (agent source) (body ++ history))
   -- each of the logs has a live line, but where the checkpoint is full without it
   pub live : HaveLines kind logs (checkpoint_lines (files_after (body ++ history)) source)
   pub printed_is : printed (own_acts tail)
@@ -113,12 +118,12 @@ pub record DoneAndTold (source kind : List ℕ) (logs : List (List ℕ)) (result
       → l.live ≡ true → ArchivedTo (stream_of source l) l.offset body history
 
 -- from a legal history on
-pub record RunsTo (stamped : List (List ℕ)) (started acting : List Who) (source kind : List ℕ)
+pub record RunsTo (stamped : List (List ℕ)) (started acting : List Who) (source kind cluster : List ℕ)
     (logs : List (List ℕ)) (result : Result (Unit {0}) RoundEnd) (added history : History) : Type 0 where
   pub leads : Leads (Together stamped started acting) (Legal stamped) (AfterRun stamped result) added history
   pub running : IsAllTold result → is_stopped (added ++ history) ≡ false
   pub done : IsAllTold result → Others (OutsideOf stamped started) added history → Legal stamped history
-      → DoneAndTold source kind logs result added history
+      → DoneAndTold source kind cluster logs result added history
 
 -- only a call of the outside that failed is told where the count rose
 abbrev pub RunCause : ℕ → ℕ → Result (Unit {0}) RoundEnd → Type 0

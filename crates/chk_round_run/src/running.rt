@@ -25,11 +25,12 @@ use std::alloc::Global;
 pub fn run_round<S: Site>(alloc: Global, site: &mut S, given: &RoundWords) -> Result<(), RoundEnd>
     requires name { IsTrue (is_source given.now.source) }
     requires a_read { 1 ≤ given.now.reads }
-    ensures ran { RunsRound given.now.source given.now.kind given.now.logs.items given.now.reads
-        result (S.told site.old) (S.told site.new) }
+    ensures ran { RunsRound given.now.source given.now.kind given.now.class given.now.cluster
+        given.now.logs.items given.now.reads result (S.told site.old) (S.told site.new) }
     ensures told { (stamped : List (List ℕ)) (started acting : List Person)
         → IsRunOf given.now.source started acting → Adds (S.told site.old) (S.told site.new)
-        (RunsTo stamped started acting given.now.source given.now.kind given.now.logs.items result) }
+        (RunsTo stamped started acting given.now.source given.now.kind given.now.cluster
+        given.now.logs.items result) }
     ensures last { Adds (S.told site.old) (S.told site.new) (EndsByCall result) }
     ensures cause { RunCause (S.fault_count site.old) (S.fault_count site.new) result }
 {

@@ -2,6 +2,7 @@
 use Rattle.std.proofs.Common.{◌≡◌, inl, inr, ℕ, ◌≤◌, true, false, List, ◌∷◌, [], ◌++◌, Ok, Err, Option, Some, Result, refl, sym, ◌∙◌, ap, subst, true≢false}
 use Rattle.std.specs.Prelude.{Contains}
 use Rattle.std.proofs.lemmas.List.Elements.{Contains-append_left}
+use Rattle.chk_control.specs.declared.Class.{Class}
 use Rattle.chk_site.specs.declared.acts.Who.{Who}
 use Rattle.chk_site.specs.History.{History, Others, is_stopped}
 use Rattle.chk_site.specs.Site.{Adds}
@@ -27,12 +28,12 @@ use Rattle.chukwa_run.specs.Showing.{Shows}
 use Rattle.chukwa_run.specs.Whole.{Whole}
 
 -- what the library says of the run, between these told histories
-pub record IsRoundRun (source kind : List ℕ) (logs : List (List ℕ)) (reads : ℕ) (result : Result (Unit {0}) RoundEnd)
-    (old new : Option History) : Type 0 where
-  pub ran : RunsRound source kind logs reads result old new
+pub record IsRoundRun (source kind : List ℕ) (class : Class) (cluster : List ℕ) (logs : List (List ℕ)) (reads : ℕ)
+    (result : Result (Unit {0}) RoundEnd) (old new : Option History) : Type 0 where
+  pub ran : RunsRound source kind class cluster logs reads result old new
   pub last : Adds old new (EndsByCall result)
   pub told : (stamped : List (List ℕ)) (started acting : List Who) → IsRunOf source started acting
-      → Adds old new (RunsTo stamped started acting source kind logs result)
+      → Adds old new (RunsTo stamped started acting source kind cluster logs result)
 
 -- the result of a run by that of the library
 pub data IsResultOf (source : List ℕ) : Result (Unit {0}) RoundEnd → Result (Unit {0}) Ending → Type 0 where
@@ -40,12 +41,16 @@ pub data IsResultOf (source : List ℕ) : Result (Unit {0}) RoundEnd → Result 
   went_wrong : {end : RoundEnd} {e : Ending} → IsRoundEnding source end e → IsResultOf source (Err end) (Err e)
 
 pub of_words : (w : RoundAsked) (given : RoundWords) → AreWordsOf w given → (result : Result (Unit {0}) RoundEnd) {old new : Option History}
-    → IsRoundRun given.source given.kind given.logs.items given.reads result old new → IsRoundRun w.source w.kind w.logs w.reads result old new
+    → IsRoundRun given.source given.kind given.class given.cluster given.logs.items given.reads result old new
+    → IsRoundRun w.source w.kind w.class w.cluster w.logs w.reads result old new
 of_words w given are result {old = old} {new = new} run =
-    subst (λ m. IsRoundRun w.source w.kind w.logs m result old new) are.reads
-    (subst (λ ls. IsRoundRun w.source w.kind ls given.reads result old new) are.logs
-    (subst (λ k. IsRoundRun w.source k given.logs.items given.reads result old new) are.kind
-    (subst (λ n. IsRoundRun n given.kind given.logs.items given.reads result old new) are.source run)))
+    subst (λ m. IsRoundRun w.source w.kind w.class w.cluster w.logs m result old new) are.reads
+    (subst (λ ls. IsRoundRun w.source w.kind w.class w.cluster ls given.reads result old new) are.logs
+    (subst (λ n. IsRoundRun w.source w.kind w.class n given.logs.items given.reads result old new) are.cluster
+    (subst (λ k. IsRoundRun w.source w.kind k given.cluster given.logs.items given.reads result old new) are.class
+    (subst (λ k. IsRoundRun w.source k given.class given.cluster given.logs.items given.reads result old new) are.kind
+    (subst (λ n. IsRoundRun n given.kind given.class given.cluster given.logs.items given.reads result old new) are.source
+    run)))))
 
 module _ (w : RoundAsked) where
   -- the processes of the run are those that the command starts
@@ -86,14 +91,14 @@ module _ (w : RoundAsked) where
   record IsAt (result : Result (Unit {0}) RoundEnd) (stamped : List (List ℕ)) (started acting : List Who) (added history : History) : Type 0 where
     script : RoundScript w result history added
     last : EndsByCall result added history
-    to : RunsTo stamped started acting w.source w.kind w.logs result added history
+    to : RunsTo stamped started acting w.source w.kind w.cluster w.logs result added history
 
   at_end : (result : Result (Unit {0}) RoundEnd) (stamped : List (List ℕ)) (started acting : List Who) → IsRunOf w.source started acting
-      → {old new : Option History} → IsRoundRun w.source w.kind w.logs w.reads result old new → Adds old new (IsAt result stamped started acting)
+      → {old new : Option History} → IsRoundRun w.source w.kind w.class w.cluster w.logs w.reads result old new → Adds old new (IsAt result stamped started acting)
   at_end result stamped started acting run {old = old} {new = new} s =
-      let both : Adds old new (λ added history. RunsTo stamped started acting w.source w.kind w.logs result added history
+      let both : Adds old new (λ added history. RunsTo stamped started acting w.source w.kind w.cluster w.logs result added history
       × EndsByCall result added history) =
-      adds_both (λ added history. RunsTo stamped started acting w.source w.kind w.logs result added history × EndsByCall result added history)
+      adds_both (λ added history. RunsTo stamped started acting w.source w.kind w.cluster w.logs result added history × EndsByCall result added history)
       (s.told stamped started acting run) s.last (λ added history x y. (x, y)) in
       record {
         told =
@@ -103,8 +108,8 @@ module _ (w : RoundAsked) where
               t.1,
               record {
                 script =
-                    subst (λ (o : Option History). RunsRound w.source w.kind w.logs w.reads result o (Some (t.0 ++ history))) e
-                    (subst (λ (n : Option History). RunsRound w.source w.kind w.logs w.reads result old n) t.1 s.ran);
+                    subst (λ (o : Option History). RunsRound w.source w.kind w.class w.cluster w.logs w.reads result o (Some (t.0 ++ history))) e
+                    (subst (λ (n : Option History). RunsRound w.source w.kind w.class w.cluster w.logs w.reads result old n) t.1 s.ran);
                 last = t.2.1;
                 to = t.2.0;
               },
@@ -126,7 +131,7 @@ module _ (w : RoundAsked) where
   }
 
   pub causes : (result : Result (Unit {0}) RoundEnd) (r : Result (Unit {0}) Ending) {old new : Option History} → IsResultOf w.source result r
-      → IsRoundRun w.source w.kind w.logs w.reads result old new → Adds old new (CausedBy (Round w) r)
+      → IsRoundRun w.source w.kind w.class w.cluster w.logs w.reads result old new → Adds old new (CausedBy (Round w) r)
   causes result r is s =
       adds_as (CausedBy (Round w) r) (at_end result [] (processes w.source) (processes w.source) alone s)
       (λ added history at. came result r added history is at)
@@ -186,7 +191,7 @@ module _ (w : RoundAsked) where
     }
 
     pub told : (earlier : History) (result : Result (Unit {0}) RoundEnd) (r : Result (Unit {0}) Ending) {old new : Option History}
-        → IsResultOf w.source result r → IsRoundRun w.source w.kind w.logs w.reads result old new
+        → IsResultOf w.source result r → IsRoundRun w.source w.kind w.class w.cluster w.logs w.reads result old new
         → Adds old new (Leads (RunSide stamped (Round w)) (Begins stamped earlier) (EndsWith stamped (Round w) r earlier))
     told earlier result r is s =
         adds_as (Leads (RunSide stamped (Round w)) (Begins stamped earlier) (EndsWith stamped (Round w) r earlier))

@@ -31,7 +31,7 @@ abbrev pub LeftOfRound : RoundAsked → History → Ending → History → Type 
 LeftOfRound w earlier (Growing path reads) added = IsRoundCut w (rounds.Growing path reads) earlier added
 LeftOfRound w earlier (Unclosed name) added =
     RoundScript w (Err (FoundUnclosed name)) earlier added
-    × DoneAndTold w.source w.kind w.logs (Err (FoundUnclosed name)) added earlier
+    × DoneAndTold w.source w.kind w.cluster w.logs (Err (FoundUnclosed name)) added earlier
 LeftOfRound w earlier (Spent n) added = IsSpentRound (codes "c1") n (added ++ earlier)
 LeftOfRound w earlier (Length stem got want) added =
     IsRoundCut w (rounds.Length stem got want) earlier added

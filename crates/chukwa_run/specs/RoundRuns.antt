@@ -27,12 +27,12 @@ pub record AreWordsOf (w : RoundAsked) (given : RoundWords) : Type 0 where
 -- the script of the run: a round, and then its lines
 abbrev pub RoundScript : RoundAsked → Result (Unit {0}) RoundEnd → History → History → Type 0
 RoundScript w result earlier added =
-    RunsRound w.source w.kind w.logs w.reads result (Some earlier) (Some (added ++ earlier))
+    RunsRound w.source w.kind w.class w.cluster w.logs w.reads result (Some earlier) (Some (added ++ earlier))
 
 -- the round was done in the first of these steps, and in those behind it just its lines were printed
 pub record RoundWhole (w : RoundAsked) (earlier added : History) : Type 0 where
   pub ran : RoundScript w (Ok tt) earlier added
-  pub done : DoneAndTold w.source w.kind w.logs (Ok tt) added earlier
+  pub done : DoneAndTold w.source w.kind w.cluster w.logs (Ok tt) added earlier
 
 -- ---- the other ends
 
@@ -77,6 +77,6 @@ RoundCut w earlier (Refused code) added = IsRoundCut w (rounds.Refused code) ear
 abbrev pub RoundFits : RoundAsked → History → Ending → History → Type 0
 RoundFits w earlier (Damaged name at) added = ⊥
 RoundFits w earlier (Refused code) added = ⊥
-RoundFits w earlier (Unclosed name) added = DoneAndTold w.source w.kind w.logs (Err (FoundUnclosed name)) added earlier
+RoundFits w earlier (Unclosed name) added = DoneAndTold w.source w.kind w.cluster w.logs (Err (FoundUnclosed name)) added earlier
 RoundFits w earlier (Spent n) added = IsSpentRound (codes "c1") n (added ++ earlier)
 RoundFits w earlier e added = Unit {0}

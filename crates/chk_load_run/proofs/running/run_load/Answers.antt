@@ -89,7 +89,7 @@ returns-in_err-report-clause-told g c stamped started acting run =
     rw (p.1, p.2)
     ((unclosed_end c.args.lines c.in_ok-writer.writer c.in_ok-writer.ensures c.in_ok-bytes.bytes c.in_ok-bytes.ensures.writes
     c.in_ok-words.words c.in_ok-words.ensures c.in_ok-rounded.rounded c.in_ok-rounded.ensures.told
-    c.round.ensures.acts c.in_ok-rounded.ensures.live
+    c.round.ensures.acts c.in_ok-rounded.ensures.live c.in_ok-rounded.ensures.cluster
     c.in_err-report.field-0.0 c.in_err-report.ensures).told stamped started acting run)
 
 pub returns-in_err-report-clause-appends : goal.returns-in_err-report-clause-appends
@@ -98,14 +98,14 @@ returns-in_err-report-clause-appends g c =
     rw (p.1, p.2)
     ((unclosed_end c.args.lines c.in_ok-writer.writer c.in_ok-writer.ensures c.in_ok-bytes.bytes c.in_ok-bytes.ensures.writes
     c.in_ok-words.words c.in_ok-words.ensures c.in_ok-rounded.rounded c.in_ok-rounded.ensures.told
-    c.round.ensures.acts c.in_ok-rounded.ensures.live
+    c.round.ensures.acts c.in_ok-rounded.ensures.live c.in_ok-rounded.ensures.cluster
     c.in_err-report.field-0.0 c.in_err-report.ensures).appends)
 
 pub returns-in_err-report-clause-own : goal.returns-in_err-report-clause-own
 returns-in_err-report-clause-own g c =
     (unclosed_end c.args.lines c.in_ok-writer.writer c.in_ok-writer.ensures c.in_ok-bytes.bytes c.in_ok-bytes.ensures.writes
     c.in_ok-words.words c.in_ok-words.ensures c.in_ok-rounded.rounded c.in_ok-rounded.ensures.told
-    c.round.ensures.acts c.in_ok-rounded.ensures.live
+    c.round.ensures.acts c.in_ok-rounded.ensures.live c.in_ok-rounded.ensures.cluster
     c.in_err-report.field-0.0 c.in_err-report.ensures).own
 
 pub returns-in_err-report-clause-prints : goal.returns-in_err-report-clause-prints
@@ -114,7 +114,7 @@ returns-in_err-report-clause-prints g c =
     rw (p.1, p.2)
     ((unclosed_end c.args.lines c.in_ok-writer.writer c.in_ok-writer.ensures c.in_ok-bytes.bytes c.in_ok-bytes.ensures.writes
     c.in_ok-words.words c.in_ok-words.ensures c.in_ok-rounded.rounded c.in_ok-rounded.ensures.told
-    c.round.ensures.acts c.in_ok-rounded.ensures.live
+    c.round.ensures.acts c.in_ok-rounded.ensures.live c.in_ok-rounded.ensures.cluster
     c.in_err-report.field-0.0 c.in_err-report.ensures).prints)
 
 pub returns-in_err-report-clause-runs : goal.returns-in_err-report-clause-runs
@@ -123,7 +123,7 @@ returns-in_err-report-clause-runs g c =
     rw (p.1, p.2)
     ((unclosed_end c.args.lines c.in_ok-writer.writer c.in_ok-writer.ensures c.in_ok-bytes.bytes c.in_ok-bytes.ensures.writes
     c.in_ok-words.words c.in_ok-words.ensures c.in_ok-rounded.rounded c.in_ok-rounded.ensures.told
-    c.round.ensures.acts c.in_ok-rounded.ensures.live
+    c.round.ensures.acts c.in_ok-rounded.ensures.live c.in_ok-rounded.ensures.cluster
     c.in_err-report.field-0.0 c.in_err-report.ensures).runs)
 
 pub returns-in_err-report-clause-last : goal.returns-in_err-report-clause-last
@@ -132,7 +132,7 @@ returns-in_err-report-clause-last g c =
     rw (p.1, p.2)
     ((unclosed_end c.args.lines c.in_ok-writer.writer c.in_ok-writer.ensures c.in_ok-bytes.bytes c.in_ok-bytes.ensures.writes
     c.in_ok-words.words c.in_ok-words.ensures c.in_ok-rounded.rounded c.in_ok-rounded.ensures.told
-    c.round.ensures.acts c.in_ok-rounded.ensures.live
+    c.round.ensures.acts c.in_ok-rounded.ensures.live c.in_ok-rounded.ensures.cluster
     c.in_err-report.field-0.0 c.in_err-report.ensures).last)
 
 pub returns-in_err-tell-clause-told : goal.returns-in_err-tell-clause-told
@@ -141,7 +141,7 @@ returns-in_err-tell-clause-told g c stamped started acting run =
     rw (p.1, p.2)
     ((unsaid_end c.args.lines c.in_ok-writer.writer c.in_ok-writer.ensures c.in_ok-bytes.bytes c.in_ok-bytes.ensures.writes
     c.in_ok-words.words c.in_ok-words.ensures c.in_ok-rounded.rounded c.in_ok-rounded.ensures.told
-    c.round.ensures.acts c.in_ok-rounded.ensures.live
+    c.round.ensures.acts c.in_ok-rounded.ensures.live c.in_ok-rounded.ensures.cluster
     (summary_line c.in_ok-report.report) c.in_err-tell.field-0.0 c.in_err-tell.ensures.says).told stamped started acting run)
 
 pub returns-in_err-tell-clause-appends : goal.returns-in_err-tell-clause-appends
@@ -150,14 +150,14 @@ returns-in_err-tell-clause-appends g c =
     rw (p.1, p.2)
     ((unsaid_end c.args.lines c.in_ok-writer.writer c.in_ok-writer.ensures c.in_ok-bytes.bytes c.in_ok-bytes.ensures.writes
     c.in_ok-words.words c.in_ok-words.ensures c.in_ok-rounded.rounded c.in_ok-rounded.ensures.told
-    c.round.ensures.acts c.in_ok-rounded.ensures.live
+    c.round.ensures.acts c.in_ok-rounded.ensures.live c.in_ok-rounded.ensures.cluster
     (summary_line c.in_ok-report.report) c.in_err-tell.field-0.0 c.in_err-tell.ensures.says).appends)
 
 pub returns-in_err-tell-clause-own : goal.returns-in_err-tell-clause-own
 returns-in_err-tell-clause-own g c =
     (unsaid_end c.args.lines c.in_ok-writer.writer c.in_ok-writer.ensures c.in_ok-bytes.bytes c.in_ok-bytes.ensures.writes
     c.in_ok-words.words c.in_ok-words.ensures c.in_ok-rounded.rounded c.in_ok-rounded.ensures.told
-    c.round.ensures.acts c.in_ok-rounded.ensures.live
+    c.round.ensures.acts c.in_ok-rounded.ensures.live c.in_ok-rounded.ensures.cluster
     (summary_line c.in_ok-report.report) c.in_err-tell.field-0.0 c.in_err-tell.ensures.says).own
 
 pub returns-in_err-tell-clause-prints : goal.returns-in_err-tell-clause-prints
@@ -166,7 +166,7 @@ returns-in_err-tell-clause-prints g c =
     rw (p.1, p.2)
     ((unsaid_end c.args.lines c.in_ok-writer.writer c.in_ok-writer.ensures c.in_ok-bytes.bytes c.in_ok-bytes.ensures.writes
     c.in_ok-words.words c.in_ok-words.ensures c.in_ok-rounded.rounded c.in_ok-rounded.ensures.told
-    c.round.ensures.acts c.in_ok-rounded.ensures.live
+    c.round.ensures.acts c.in_ok-rounded.ensures.live c.in_ok-rounded.ensures.cluster
     (summary_line c.in_ok-report.report) c.in_err-tell.field-0.0 c.in_err-tell.ensures.says).prints)
 
 pub returns-in_err-tell-clause-runs : goal.returns-in_err-tell-clause-runs
@@ -175,7 +175,7 @@ returns-in_err-tell-clause-runs g c =
     rw (p.1, p.2)
     ((unsaid_end c.args.lines c.in_ok-writer.writer c.in_ok-writer.ensures c.in_ok-bytes.bytes c.in_ok-bytes.ensures.writes
     c.in_ok-words.words c.in_ok-words.ensures c.in_ok-rounded.rounded c.in_ok-rounded.ensures.told
-    c.round.ensures.acts c.in_ok-rounded.ensures.live
+    c.round.ensures.acts c.in_ok-rounded.ensures.live c.in_ok-rounded.ensures.cluster
     (summary_line c.in_ok-report.report) c.in_err-tell.field-0.0 c.in_err-tell.ensures.says).runs)
 
 pub returns-in_err-tell-clause-last : goal.returns-in_err-tell-clause-last
@@ -184,49 +184,49 @@ returns-in_err-tell-clause-last g c =
     rw (p.1, p.2)
     ((unsaid_end c.args.lines c.in_ok-writer.writer c.in_ok-writer.ensures c.in_ok-bytes.bytes c.in_ok-bytes.ensures.writes
     c.in_ok-words.words c.in_ok-words.ensures c.in_ok-rounded.rounded c.in_ok-rounded.ensures.told
-    c.round.ensures.acts c.in_ok-rounded.ensures.live
+    c.round.ensures.acts c.in_ok-rounded.ensures.live c.in_ok-rounded.ensures.cluster
     (summary_line c.in_ok-report.report) c.in_err-tell.field-0.0 c.in_err-tell.ensures.says).last)
 
 pub returns-clause-told : goal.returns-clause-told
 returns-clause-told g c stamped started acting run =
     (done_end c.args.lines c.in_ok-writer.writer c.in_ok-writer.ensures c.in_ok-bytes.bytes c.in_ok-bytes.ensures.writes
     c.in_ok-words.words c.in_ok-words.ensures c.in_ok-rounded.rounded c.in_ok-rounded.ensures.told
-    c.round.ensures.acts c.in_ok-rounded.ensures.live
+    c.round.ensures.acts c.in_ok-rounded.ensures.live c.in_ok-rounded.ensures.cluster
     c.in_ok-report.report c.in_ok-report.ensures c.in_ok-tell.ensures.says).told stamped started acting run
 
 pub returns-clause-appends : goal.returns-clause-appends
 returns-clause-appends g c =
     (done_end c.args.lines c.in_ok-writer.writer c.in_ok-writer.ensures c.in_ok-bytes.bytes c.in_ok-bytes.ensures.writes
     c.in_ok-words.words c.in_ok-words.ensures c.in_ok-rounded.rounded c.in_ok-rounded.ensures.told
-    c.round.ensures.acts c.in_ok-rounded.ensures.live
+    c.round.ensures.acts c.in_ok-rounded.ensures.live c.in_ok-rounded.ensures.cluster
     c.in_ok-report.report c.in_ok-report.ensures c.in_ok-tell.ensures.says).appends
 
 pub returns-clause-own : goal.returns-clause-own
 returns-clause-own g c =
     (done_end c.args.lines c.in_ok-writer.writer c.in_ok-writer.ensures c.in_ok-bytes.bytes c.in_ok-bytes.ensures.writes
     c.in_ok-words.words c.in_ok-words.ensures c.in_ok-rounded.rounded c.in_ok-rounded.ensures.told
-    c.round.ensures.acts c.in_ok-rounded.ensures.live
+    c.round.ensures.acts c.in_ok-rounded.ensures.live c.in_ok-rounded.ensures.cluster
     c.in_ok-report.report c.in_ok-report.ensures c.in_ok-tell.ensures.says).own
 
 pub returns-clause-prints : goal.returns-clause-prints
 returns-clause-prints g c =
     (done_end c.args.lines c.in_ok-writer.writer c.in_ok-writer.ensures c.in_ok-bytes.bytes c.in_ok-bytes.ensures.writes
     c.in_ok-words.words c.in_ok-words.ensures c.in_ok-rounded.rounded c.in_ok-rounded.ensures.told
-    c.round.ensures.acts c.in_ok-rounded.ensures.live
+    c.round.ensures.acts c.in_ok-rounded.ensures.live c.in_ok-rounded.ensures.cluster
     c.in_ok-report.report c.in_ok-report.ensures c.in_ok-tell.ensures.says).prints
 
 pub returns-clause-runs : goal.returns-clause-runs
 returns-clause-runs g c =
     (done_end c.args.lines c.in_ok-writer.writer c.in_ok-writer.ensures c.in_ok-bytes.bytes c.in_ok-bytes.ensures.writes
     c.in_ok-words.words c.in_ok-words.ensures c.in_ok-rounded.rounded c.in_ok-rounded.ensures.told
-    c.round.ensures.acts c.in_ok-rounded.ensures.live
+    c.round.ensures.acts c.in_ok-rounded.ensures.live c.in_ok-rounded.ensures.cluster
     c.in_ok-report.report c.in_ok-report.ensures c.in_ok-tell.ensures.says).runs
 
 pub returns-clause-last : goal.returns-clause-last
 returns-clause-last g c =
     (done_end c.args.lines c.in_ok-writer.writer c.in_ok-writer.ensures c.in_ok-bytes.bytes c.in_ok-bytes.ensures.writes
     c.in_ok-words.words c.in_ok-words.ensures c.in_ok-rounded.rounded c.in_ok-rounded.ensures.told
-    c.round.ensures.acts c.in_ok-rounded.ensures.live
+    c.round.ensures.acts c.in_ok-rounded.ensures.live c.in_ok-rounded.ensures.cluster
     c.in_ok-report.report c.in_ok-report.ensures c.in_ok-tell.ensures.says).last
 
 pub returns-in_err-bytes-clause-round : goal.returns-in_err-bytes-clause-round

@@ -1,4 +1,4 @@
-use Rattle.std.proofs.Common.{Result, Err, ap, sym, ◌∙◌, subst, arith}
+use Rattle.std.proofs.Common.{Result, Ok, Err, refl, ap, sym, ◌∙◌, subst, arith}
 use Rattle.std.specs.Prelude.{Contains}
 use Rattle.std.proofs.lemmas.Result.{err_from_is_err_and}
 use Rattle.chk_round.specs.declared.faults.RoundFault.{RoundFault}
@@ -10,7 +10,9 @@ use Rattle.chk_round.proofs.Gathers.{fresh_steady, gathered, logs_met, logs_stea
 use Rattle.chk_round.proofs.Lasting.{inside_late, last_inside, went_then}
 use Rattle.chk_round.proofs.NoRead.{call_plain}
 use Rattle.chk_site.specs.Site.{Adds}
-use Rattle.chk_round.specs.Starts.{EndsWithClock}
+use Rattle.chk_round.specs.Adding.{AddsLogs}
+use Rattle.chk_round.specs.Begun.{AgentBegan}
+use Rattle.chk_round.specs.Starts.{EndsWithClock, inside}
 use Rattle.chk_round.proofs.Acts.{begun_of, logs_acts, only_begun, timed, timed_then}
 use Rattle.chk_round.proofs.gathering.gather.Goals as goal
 
@@ -46,6 +48,23 @@ returns-clause-gathered g c =
     gathered c.args.reading.now.name c.args.ring c.args.rules c.in_ok-begun.begun.collector c.in_ok-begun.begun.agent
     c.add_logs.new.agent c.requires.ring c.in_ok-begun.ensures.fresh (logs_steady c.in_ok-add_logs.ensures.script)
     c.add_logs.ensures.source c.in_ok-add_logs.ensures.ready
+
+pub returns-clause-begins : goal.returns-clause-begins
+returns-clause-begins g c =
+    let fresh = c.in_ok-begun.begun.agent in
+    let old = g.S.Site.told c.args.site.now in
+    let mid = g.S.Site.told c.start_pair.new.site in
+    record {
+      rules = c.args.rules;
+      cluster_is = refl;
+      fresh = fresh;
+      mid = mid;
+      began = subst (λ w. AgentBegan w inside c.args.rules fresh old mid) c.requires.agent_is
+          (subst (λ r. AgentBegan c.args.reading.now r c.args.rules fresh old mid) c.requires.ring
+          c.in_ok-begun.ensures.began);
+      adds = subst (λ ls. AddsLogs c.args.given.now.class c.args.given.now.kind ls fresh (Ok tt) c.add_logs.new.agent mid
+          (g.S.Site.told c.add_logs.new.site)) c.as_slice.ensures.value c.in_ok-add_logs.ensures.script;
+    }
 
 pub returns-clause-told : goal.returns-clause-told
 returns-clause-told g c stamped started acting run =

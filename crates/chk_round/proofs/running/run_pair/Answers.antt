@@ -109,6 +109,9 @@ returns-clause-cause g c =
     let three = c.in_ok-report.ensures.cause in
     omega (arith, one, two, three)
 
+pub returns-clause-cluster : goal.returns-clause-cluster
+returns-clause-cluster g c = c.in_ok-deliver.ensures.all.cluster ∙ c.in_ok-read_all.ensures.on.cluster
+
 pub returns-clause-live : goal.returns-clause-live
 returns-clause-live g c kind path f =
     c.in_ok-deliver.ensures.live kind path (c.in_ok-read_all.ensures.live kind path f)

@@ -20,6 +20,7 @@ use Rattle.chk_round.proofs.Acts.{agent_begins, begins_then, collector_begins, t
 use Rattle.chk_sink.specs.Faults.{ended_by}
 use Rattle.chk_sink.specs.Works.{OfStart}
 use Rattle.chk_world.specs.Works.{Works}
+use Rattle.chk_world.proofs.Working.{works_own}
 use Rattle.chk_round.proofs.starting.start_pair.Goals as goal
 
 pub returns-in_err-collector-clause-told : goal.returns-in_err-collector-clause-told
@@ -102,6 +103,21 @@ returns-clause-told g c stamped started acting run =
     c.in_ok-agent.ensures.fresh.source c.ready-sound.ensures.sound c.in_ok-agent.ensures.fresh.ready c.in_ok-now.now
     (subst (λ w. ClockGave w (Ok c.in_ok-now.now) (g.S.Site.told c.start-2.new.site) (g.S.Site.told c.clock.new.site))
     c.requires.agent_is c.in_ok-now.ensures.gave))
+
+pub returns-clause-began : goal.returns-clause-began
+returns-clause-began g c = record {
+  mid = g.S.Site.told c.start.new.site;
+  next = g.S.Site.told c.start-2.new.site;
+  collector = works_own
+      (subst (λ w. Works w (OfStart w) (ended_by c.start.result) (g.S.Site.told c.args.site.now) (g.S.Site.told c.start.new.site))
+      c.requires.collector c.start.ensures.own);
+  fresh = c.in_ok-agent.ensures.fresh;
+  started = c.in_ok-agent.ensures.starts;
+  acts = c.in_ok-agent.ensures.acts;
+  finds = c.in_ok-agent.ensures.whole;
+  now = c.in_ok-now.now;
+  timed = c.in_ok-now.ensures.gave;
+}
 
 pub returns-clause-clock : goal.returns-clause-clock
 returns-clause-clock g c =

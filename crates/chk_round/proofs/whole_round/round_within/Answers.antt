@@ -11,8 +11,10 @@ use Rattle.chk_archive.specs.declared.report.Report.{Report}
 use Rattle.chk_round.specs.declared.faults.RoundFault.{RoundFault}
 use Rattle.chk_round.specs.declared.starting.Pair.{Pair}
 use Rattle.chk_round.specs.declared.whole_round.Rounded.{Rounded}
+use Rattle.chk_round.specs.Begun.{BeginsSo}
 use Rattle.chk_round.specs.Faults.{RoundCause}
 use Rattle.chk_round.specs.Processes.{AreBoth}
+use Rattle.chk_round.proofs.Added.{logs_cluster}
 use Rattle.chk_round.proofs.Ends.{late_cause}
 use Rattle.chk_round.proofs.Following.{has_line}
 use Rattle.chk_round.proofs.Rounding.{both_of, rounds, unbegun, unmet}
@@ -328,12 +330,25 @@ returns-clause-acts g c =
     (ap (λ (w : Who). w.name) c.in_ok-reading.ensures) c.in_ok-pair.ensures.timed)
     c.run_pair.ensures.acts))
 
+pub returns-clause-cluster : goal.returns-clause-cluster
+returns-clause-cluster g c =
+    let begins = c.in_ok-pair.ensures.begins in
+    c.in_ok-report.ensures.cluster ∙ (logs_cluster begins.adds
+    ∙ (begins.began.fresh.cluster ∙ (begins.cluster_is ∙ ap (λ (r : Rules). r.cluster) c.in_ok-rules.ensures)))
+
 pub returns-clause-reads : goal.returns-clause-reads
 returns-clause-reads g c = record {
   begun = c.in_ok-pair.pair.agent;
   source_is = c.in_ok-pair.ensures.gathered.source_is ∙ ap (λ (w : Who). w.name) c.in_ok-reading.ensures;
   mid = g.S.Site.told c.gather.new.site;
-  before = went c.in_ok-pair.ensures.last;
+  before =
+      let w = c.args.given.now in
+      let old = g.S.Site.told c.args.site.now in
+      let new = g.S.Site.told c.gather.new.site in
+      subst (λ n. BeginsSo w.source w.kind w.class n w.logs.items c.in_ok-pair.pair.agent old new)
+      (ap (λ (r : Rules). r.cluster) c.in_ok-rules.ensures)
+      (subst (λ n. BeginsSo n w.kind w.class c.in_ok-rules.rules.cluster w.logs.items c.in_ok-pair.pair.agent old new)
+      (ap (λ (w : Who). w.name) c.in_ok-reading.ensures) c.in_ok-pair.ensures.begins);
   script = c.in_ok-report.ensures.script;
   each = c.in_ok-report.ensures.each c.in_ok-pair.ensures.gathered.steady;
 }

@@ -35,7 +35,7 @@ pub returns-in_err-rounded-clause-told : goal.returns-in_err-rounded-clause-told
 returns-in_err-rounded-clause-told g c stamped started acting run =
     let p = err_from_is_err_and c.from_residual-in_err-rounded.result c.from_residual-in_err-rounded.ensures.1 in
     rw (p.1, p.2)
-    (undone_to stamped c.args.given.now.source c.args.given.now.kind c.args.given.now.logs.items c.requires.name started acting run c.in_err-rounded.field-0.0
+    (undone_to stamped c.args.given.now.source c.args.given.now.kind c.args.given.now.cluster c.args.given.now.logs.items c.requires.name started acting run c.in_err-rounded.field-0.0
     (c.in_err-rounded.ensures.told stamped started acting run))
 
 pub returns-in_err-tell-clause-ran : goal.returns-in_err-tell-clause-ran
@@ -59,7 +59,7 @@ pub returns-in_err-tell-clause-told : goal.returns-in_err-tell-clause-told
 returns-in_err-tell-clause-told g c stamped started acting run =
     let p = err_from_is_err_and c.from_residual-in_err-tell.result c.from_residual-in_err-tell.ensures.1 in
     rw (p.1, p.2)
-    (untold_to stamped c.args.given.now.source c.args.given.now.kind c.args.given.now.logs.items c.requires.name started acting run c.in_ok-rounded.rounded
+    (untold_to stamped c.args.given.now.source c.args.given.now.kind c.args.given.now.cluster c.args.given.now.logs.items c.requires.name started acting run c.in_ok-rounded.rounded
     (c.in_ok-rounded.ensures.told stamped started acting run) c.in_err-tell.field-0.0
     (tells_by c.args.given.now.source c.in_ok-rounded.rounded c.in_ok-reading.reading c.in_ok-archiving.archiving (Err c.in_err-tell.field-0.0)
     c.in_ok-reading.ensures c.in_ok-archiving.ensures c.in_err-tell.ensures.told))
@@ -71,7 +71,8 @@ returns-in_err-tell-clause-cause g c =
 
 pub returns-clause-ran : goal.returns-clause-ran
 returns-clause-ran g c =
-    subst (λ (r : Result (Unit {0}) RoundEnd). RunsRound c.args.given.now.source c.args.given.now.kind c.args.given.now.logs.items c.args.given.now.reads r (g.S.Site.told c.args.site.now) (g.S.Site.told c.tell.new.site))
+    subst (λ (r : Result (Unit {0}) RoundEnd). RunsRound c.args.given.now.source c.args.given.now.kind c.args.given.now.class
+    c.args.given.now.cluster c.args.given.now.logs.items c.args.given.now.reads r (g.S.Site.told c.args.site.now) (g.S.Site.told c.tell.new.site))
     (sym c.end_by.ensures)
     (ran c.in_ok-rounded.rounded
     (record {
@@ -89,9 +90,9 @@ returns-clause-ran g c =
 pub returns-clause-told : goal.returns-clause-told
 returns-clause-told g c stamped started acting run =
     subst (λ (r : Result (Unit {0}) RoundEnd). Adds (g.S.Site.told c.args.site.now) (g.S.Site.told c.tell.new.site)
-    (RunsTo stamped started acting c.args.given.now.source c.args.given.now.kind c.args.given.now.logs.items r)) (sym c.end_by.ensures)
-    (ran_to stamped c.args.given.now.source c.args.given.now.kind c.args.given.now.logs.items c.requires.name started acting run c.in_ok-rounded.rounded
-    (c.in_ok-rounded.ensures.told stamped started acting run) c.in_ok-rounded.ensures.live
+    (RunsTo stamped started acting c.args.given.now.source c.args.given.now.kind c.args.given.now.cluster c.args.given.now.logs.items r)) (sym c.end_by.ensures)
+    (ran_to stamped c.args.given.now.source c.args.given.now.kind c.args.given.now.cluster c.args.given.now.logs.items c.requires.name started acting run c.in_ok-rounded.rounded
+    (c.in_ok-rounded.ensures.told stamped started acting run) c.in_ok-rounded.ensures.cluster c.in_ok-rounded.ensures.live
     (tells_by c.args.given.now.source c.in_ok-rounded.rounded c.in_ok-reading.reading c.in_ok-archiving.archiving (Ok tt)
     c.in_ok-reading.ensures c.in_ok-archiving.ensures c.in_ok-tell.ensures.told))
 
@@ -121,12 +122,12 @@ pub returns-in_err-reading-clause-told : goal.returns-in_err-reading-clause-told
 returns-in_err-reading-clause-told g c stamped started acting run =
     let p = err_from_is_err_and c.from_residual.result c.from_residual.ensures.1 in
     rw (p.1, p.2)
-    (unbegun_to stamped c.args.given.now.source c.args.given.now.kind c.args.given.now.logs.items c.requires.name started acting run
+    (unbegun_to stamped c.args.given.now.source c.args.given.now.kind c.args.given.now.cluster c.args.given.now.logs.items c.requires.name started acting run
     (g.S.Site.told c.args.site.now))
 
 pub returns-in_err-archiving-clause-told : goal.returns-in_err-archiving-clause-told
 returns-in_err-archiving-clause-told g c stamped started acting run =
     let p = err_from_is_err_and c.from_residual-in_err-archiving.result c.from_residual-in_err-archiving.ensures.1 in
     rw (p.1, p.2)
-    (unbegun_to stamped c.args.given.now.source c.args.given.now.kind c.args.given.now.logs.items c.requires.name started acting run
+    (unbegun_to stamped c.args.given.now.source c.args.given.now.kind c.args.given.now.cluster c.args.given.now.logs.items c.requires.name started acting run
     (g.S.Site.told c.args.site.now))
