@@ -7,7 +7,7 @@ use Rattle.chk_bytes.specs.declared.NoMemory.{NoMemory as Wanting}
 use Rattle.chk_bytes.specs.Numbers.{limit}
 use Rattle.chk_bytes.specs.Words.{is_word}
 use Rattle.chk_site.specs.declared.acts.OutsideFault.{OutsideFault}
-use Rattle.chk_site.specs.History.{History}
+use Rattle.chk_site.specs.History.{History, is_stopped}
 use Rattle.chk_site.specs.Site.{Adds}
 use Rattle.chk_site.specs.Runs.{Leads}
 use Rattle.chk_site.specs.declared.acts.Role.TheVariants.{Agent}

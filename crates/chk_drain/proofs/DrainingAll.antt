@@ -86,32 +86,36 @@ pub record EndedSo (now reads polls : ℕ) (s : State) (result : Result Drained 
   pub cause : AgentCause before after result
 
 -- where a drain ends at a shorter log, the site was stopped
+abbrev IsNever : List (List ℕ) → State → Result Drained AgentFault → History → History → Type 0
+IsNever stamped s result added history =
+    IsShort result → Others (Foreign stamped (process s)) added history
+    → Matches stamped s history → is_stopped (added ++ history) ≡ false → ⊥
+
 long_of : (s t : State) (result : Result Drained AgentFault) {old new : Option History}
     → Talks (first_again s) t old new → NeverShort (first_again s) (Some result) old new
-    → (stamped : List (List ℕ)) → Adds old new (λ added history. IsShort result
-    → Others (Foreign stamped (process s)) added history → Matches stamped s history
-    → is_stopped (added ++ history) ≡ false → ⊥)
+    → (stamped : List (List ℕ)) → Adds old new (IsNever stamped s result)
 long_of s t result {old = old} {new = new} talks long stamped = go result long
   where
-    abbrev Never : Result Drained AgentFault → History → History → Type 0
-    Never result added history =
-        IsShort result → Others (Foreign stamped (process s)) added history
-        → Matches stamped s history → is_stopped (added ++ history) ≡ false → ⊥
-
     go : (result : Result Drained AgentFault)
-        → NeverShort (first_again s) (Some result) old new → Adds old new (Never result)
+        → NeverShort (first_again s) (Some result) old new
+        → Adds old new (IsNever stamped s result)
     go (Ok (Shrank i had is)) long =
-        adds_as (Never (Ok (Shrank i had is))) (long stamped)
+        adds_as (IsNever stamped s (Ok (Shrank i had is))) (long stamped)
         (λ added history y short others h running. y.leads others (first_matches stamped s history h)
         running)
-    go (Ok Done) long = adds_as (Never (Ok Done)) (talks stamped) (λ a h y short. absurd short)
+    go (Ok Done) long =
+        adds_as (IsNever stamped s (Ok Done)) (talks stamped) (λ a h y short. absurd short)
     go (Ok (Pending stem got want)) long =
-        adds_as (Never (Ok (Pending stem got want))) (talks stamped) (λ a h y short. absurd short)
+        adds_as (IsNever stamped s (Ok (Pending stem got want))) (talks stamped)
+        (λ a h y short. absurd short)
     go (Ok (Growing i reads)) long =
-        adds_as (Never (Ok (Growing i reads))) (talks stamped) (λ a h y short. absurd short)
+        adds_as (IsNever stamped s (Ok (Growing i reads))) (talks stamped)
+        (λ a h y short. absurd short)
     go (Ok (AllTried count code)) long =
-        adds_as (Never (Ok (AllTried count code))) (talks stamped) (λ a h y short. absurd short)
-    go (Err fault) long = adds_as (Never (Err fault)) (talks stamped) (λ a h y short. absurd short)
+        adds_as (IsNever stamped s (Ok (AllTried count code))) (talks stamped)
+        (λ a h y short. absurd short)
+    go (Err fault) long =
+        adds_as (IsNever stamped s (Err fault)) (talks stamped) (λ a h y short. absurd short)
 
 pub ends_so : {now reads polls : ℕ} (s t : State) (result : Result Drained AgentFault)
     {K : Progress → State → Type 0} {old new : Option History} {a b : ℕ}

@@ -125,23 +125,23 @@ comes_then L None u new g x = record {
 
 -- an end at a shorter log, behind an earlier part
 long_then : (s t : State) (end : Option (Result Drained AgentFault)) → t.source ≡ s.source
-    → {old mid new : Option History} → Talks s t old mid → NeverShort t end mid new
+    → (old mid new : Option History) → Talks s t old mid → NeverShort t end mid new
     → NeverShort s end old new
-long_then s t (Some (Ok (Shrank i had is))) source {mid = mid} {new = new} talks long stamped =
-    leads_then (talks stamped)
+long_then s t (Some (Ok (Shrank i had is))) source old mid new talks long =
+    λ stamped. leads_then (talks stamped)
     (subst (λ n. Adds mid new (Leads (Talking stamped (record { role = Agent; name = n }))
     (Matches stamped t) (λ h. is_stopped h ≡ false → ⊥))) source (long stamped))
-long_then s t (Some (Ok Done)) source talks long = tt
-long_then s t (Some (Ok (Pending stem got want))) source talks long = tt
-long_then s t (Some (Ok (Growing i reads))) source talks long = tt
-long_then s t (Some (Ok (AllTried count code))) source talks long = tt
-long_then s t (Some (Err fault)) source talks long = tt
-long_then s t None source talks long = tt
+long_then s t (Some (Ok Done)) source old mid new talks long = tt
+long_then s t (Some (Ok (Pending stem got want))) source old mid new talks long = tt
+long_then s t (Some (Ok (Growing i reads))) source old mid new talks long = tt
+long_then s t (Some (Ok (AllTried count code))) source old mid new talks long = tt
+long_then s t (Some (Err fault)) source old mid new talks long = tt
+long_then s t None source old mid new talks long = tt
 
 -- no end behind tries at all addresses is one at a shorter log
-pub long_tried : (s : State) (q : Progress) {old new : Option History}
+pub long_tried : (s : State) (q : Progress) (old new : Option History)
     → NeverShort s (Some (tried_answer q)) old new
-long_tried s q {old = old} {new = new} = go q.failed
+long_tried s q old new = go q.failed
   where
     go : (failed : Option Call) → NeverShort s (Some (elim failed [
       | None ↦ Ok (AllTried q.tried q.code)
@@ -157,13 +157,14 @@ pub part_then : {now reads polls : ℕ} {p : Progress} {s t u : State}
     → Part now reads polls p s K None t old mid a b
     → ((q : Progress) → K q t → Part now reads polls q t L end u mid new b c)
     → Part now reads polls p s L end u old new a c
-part_then {s = s} {t = t} {u = u} {L = L} {end = end} {new = new} {a = a} {b = b} {c = c} x next =
+part_then {s = s} {t = t} {u = u} {L = L} {end = end} {old = old} {mid = mid} {new = new} {a = a}
+    {b = b} {c = c} x next =
     let g = x.comes in
     let y = next g.progress g.known in
     record {
       comes = comes_then L end u new g y.comes;
       talks = talks_then s t u (record { source = g.source; ready = g.ready }) x.talks y.talks;
-      long = long_then s t end g.source x.talks y.long;
+      long = long_then s t end g.source old mid new x.talks y.long;
       last = adds_then (EndsLast end) x.last y.last
           (λ before later h m n. last_later end later before h n);
       cause = cause_then a b c end x.cause y.cause;

@@ -183,7 +183,7 @@ module _ (tries : Tries) (s t u : State) {old mid new : Option History} (a b c :
               (drain.none_told here (miss_tries q miss (made now) is)
               (are.count ∙ all ∙ ap length (sym on.kept_so.within.addresses)));
           talks = both;
-          long = long_tried s (missed miss q);
+          long = long_tried s (missed miss q) old new;
           last = adds_as (EndsLast (Some (tried_answer (missed miss q)))) (both [])
               (λ added h y. tried_last next (missed miss q) are talking added h);
           cause = tried_cause next (missed miss q) a c are risen;

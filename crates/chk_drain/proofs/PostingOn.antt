@@ -178,7 +178,7 @@ module _ (now : ℕ) (tries : Tries) (s t u : State) {old mid new : Option Histo
               (drain.none_took (miss_tries q miss here made is)
               (are.count ∙ all ∙ ap length (sym on.kept_so.within.addresses)));
           talks = both;
-          long = long_tried s (missed miss q);
+          long = long_tried s (missed miss q) old new;
           last = adds_as (EndsLast (Some (tried_answer (missed miss q)))) (both [])
               (λ added h y. tried_last next (missed miss q) are talking added h);
           cause = tried_cause next (missed miss q) a c are risen;

@@ -211,34 +211,38 @@ module _ (stamped : List (List ℕ)) (who : Who) (s : State) where
   unfinished t fault p = adds_as (FinishesSo stamped who s (Err (Run fault)) t) p (λ a h x. tt)
 
   -- but that no log is shorter than what was read of it
+  abbrev UndoneTo : State → Option History → Option History → DrainFault → Type 0
+  UndoneTo t old new fault = Adds old new (FinishesSo stamped who s (Err fault) t)
+
   pub undone_to : (t : State) (answer : Drained) (fault : DrainFault) → IsUndone t answer fault
       → {old new : Option History} → Adds old new (DrainsTo stamped s (Ok answer) t)
       → Adds old new (FinishesSo stamped who s (Err fault) t)
   undone_to t answer fault is {old = old} {new = new} told = go answer is told
     where
-      abbrev So : DrainFault → Type 0
-      So fault = Adds old new (FinishesSo stamped who s (Err fault) t)
-
-      wanting : {P : History → History → Type 0} → Adds old new P → So (Run runs.NoMemory)
+      wanting : {P : History → History → Type 0} → Adds old new P
+          → UndoneTo t old new (Run runs.NoMemory)
       wanting p = unfinished t runs.NoMemory p
 
       go : (answer : Drained) → IsUndone t answer fault
-          → Adds old new (DrainsTo stamped s (Ok answer) t) → So fault
+          → Adds old new (DrainsTo stamped s (Ok answer) t)
+          → UndoneTo t old new fault
       go Done is told = absurd is
       go (drained.Pending stem got want) is told =
-          subst So (sym is)
+          subst (UndoneTo t old new) (sym is)
           (adds_as (FinishesSo stamped who s (Err (Pending stem got want)) t) told (λ a h x. tt))
       go (drained.Growing i reads) (inl k) told =
-          subst So (sym k.2)
+          subst (UndoneTo t old new) (sym k.2)
           (adds_as (FinishesSo stamped who s (Err (Growing k.0 reads)) t) told (λ a h x. tt))
-      go (drained.Growing i reads) (inr is) told = subst So (sym is) (wanting told)
+      go (drained.Growing i reads) (inr is) told =
+          subst (UndoneTo t old new) (sym is) (wanting told)
       go (drained.Shrank i had size) (inl k) told =
-          subst So (sym k.2)
+          subst (UndoneTo t old new) (sym k.2)
           (adds_as (FinishesSo stamped who s (Err (drains.Shrank k.0 had size)) t) told
           (λ a h x others known running. x.long tt others known running))
-      go (drained.Shrank i had size) (inr is) told = subst So (sym is) (wanting told)
+      go (drained.Shrank i had size) (inr is) told =
+          subst (UndoneTo t old new) (sym is) (wanting told)
       go (drained.AllTried count code) is told =
-          subst So (sym is)
+          subst (UndoneTo t old new) (sym is)
           (adds_as (FinishesSo stamped who s (Err (Refused code)) t) told (λ a h x. tt))
 
   -- it was drained, and its lines were printed up to a call that failed
