@@ -7,7 +7,7 @@ use Rattle.chk_bytes.specs.declared.NoMemory.{NoMemory as Wanting}
 use Rattle.chk_bytes.specs.Numbers.{limit}
 use Rattle.chk_bytes.specs.Words.{is_word}
 use Rattle.chk_site.specs.declared.acts.OutsideFault.{OutsideFault}
-use Rattle.chk_site.specs.History.{History}
+use Rattle.chk_site.specs.History.{History, is_stopped}
 use Rattle.chk_site.specs.Site.{Adds}
 use Rattle.chk_site.specs.Runs.{Leads}
 use Rattle.chk_site.specs.declared.acts.Role.TheVariants.{Agent}
@@ -39,7 +39,7 @@ use Rattle.chk_delivery.specs.Turns.{is_held, with_chunk}
 use Rattle.chk_agent.specs.declared.answers.AgentFault.{AgentFault}
 use Rattle.chk_agent.specs.declared.answers.AgentFault.TheVariants.{NoMemory}
 use Rattle.chk_agent.specs.declared.answers.Stepped.{Stepped}
-use Rattle.chk_agent.specs.declared.answers.Stepped.TheVariants.{AtEnd as step_at_end}
+use Rattle.chk_agent.specs.declared.answers.Stepped.TheVariants.{AtEnd as step_at_end, Shrank as step_shrank}
 use Rattle.chk_agent.specs.States.{State, process, committed_at, chunk_given}
 use Rattle.chk_agent.specs.Fills.{queued, after_step, step_answer, IsOneStepped, made, unkept}
 use Rattle.chk_agent.specs.Facts.{Holds, Matches, AfterStep, AtEndOf}
@@ -51,7 +51,7 @@ use Rattle.chk_agent.proofs.SteppingHolds.{IsValid}
 use Rattle.chk_agent.proofs.Soundness.{in_at, below_at, past_line}
 use Rattle.chk_agent.proofs.SettlingTold.{state_grows}
 use Rattle.chk_agent.proofs.SteppingEnds.{walk_ends_told}
-use Rattle.chk_agent.proofs.SteppingTold.{stream_stepped, made_told}
+use Rattle.chk_agent.proofs.SteppingTold.{stream_stepped, made_told, step_on}
 
 -- what holds of a value that is there
 pub if_ok : {T E : Type 0} (r : Result T E) (P Q : T → Type 0) → ((x : T) → P x → Q x) → IfOk r P → IfOk r Q
@@ -202,6 +202,23 @@ end_on s sound i a b at {old = old} {new = new} st stamped ready named placed =
     (leads_as (λ h x. record { legal = x.legal; may_act = x.may_act; alive = λ run. x.alive run ready }) (λ h x. x)
     (walk_ends_told stamped s.source sound.source s.cluster s.saved (read_line a) st.next (Holds s) (state_grows stamped s sound) a.read st.marks
     (reader_at_end s sound i a at) named (λ h x. (x.readers a (in_at s.adaptors i a at)).read) st.walks)))
+
+-- ---- at a log that is shorter than the place, which never comes
+
+pub short_on : (s : State) (sound : IsSound s) (i : ℕ) (a b : Adaptor) (at : slice_get s.adaptors i ≡ Some a) (had size : ℕ)
+    {old new : Option History} → IsStepped (process s) a (Ok (is_short had size)) b old new → (stamped : List (List ℕ)) → s.ready ≡ true
+    → IsTrue (is_after_text a.read.after) → IsPlaced b
+    → Adds old new (Leads (As stamped (process s)) (Matches stamped s)
+    (AfterStep stamped i (record s { adaptors = slice_set s.adaptors i b; last = Some i }) (Ok (step_shrank had size))))
+short_on s sound i a b at had size st stamped ready named placed =
+    leads_as (λ h x. record { legal = x.legal; may_act = x.may_act; alive = λ run. x.alive run ready })
+    (λ h x.
+    let never : is_stopped h ≡ false → ⊥ = λ run. (x.alive run).holds.two.long in
+    record {
+      matches = record { legal = x.legal; may_act = x.may_act; alive = λ run. absurd (never run) };
+      whole = never;
+    })
+    (step_on stamped s sound ready i a b at named placed (Ok (is_short had size)) st)
 
 -- ---- what the calls gave
 

@@ -31,7 +31,7 @@ stream_stepped source a b (Err fault) st = ap (stream_at source) st.is
 module _ (stamped : List (List ℕ)) (s : State) (sound : IsSound s) (ready : s.ready ≡ true) (i : ℕ) (a b : Adaptor)
     (at : slice_get s.adaptors i ≡ Some a) (named : IsTrue (is_after_text a.read.after)) (placed : IsPlaced b)
     (result : Result Step OutsideFault) {old new : Option History} (st : IsStepped (process s) a result b old new) where
-  step_on : Adds old new (Leads (As stamped (process s)) (Told stamped s.source s.cluster s.saved (Holds s))
+  pub step_on : Adds old new (Leads (As stamped (process s)) (Told stamped s.source s.cluster s.saved (Holds s))
       (Told stamped s.source s.cluster s.saved (Both (Holds s) (StepStands s.source a result b))))
   step_on =
       let f = sound.each i a at in

@@ -9,7 +9,7 @@ use Rattle.chk_reading.specs.Facts.{ReaderStands}
 use Rattle.chk_delivery.specs.Facts.{Holds as HoldsDelivery}
 use Rattle.chk_agent.specs.declared.answers.AgentFault.{AgentFault}
 use Rattle.chk_agent.specs.declared.answers.Stepped.{Stepped}
-use Rattle.chk_agent.specs.declared.answers.Stepped.TheVariants.{AtEnd}
+use Rattle.chk_agent.specs.declared.answers.Stepped.TheVariants.{AtEnd, Shrank}
 use Rattle.chk_agent.specs.States.{State, process, basis_of}
 
 pub record Holds (s : State) (history : History) : Type 0 where
@@ -27,9 +27,10 @@ abbrev pub IsAtWholeEnd : State → ℕ → History → Type 0
 IsAtWholeEnd s i history =
     (a : Adaptor) → slice_get s.adaptors i ≡ Some a → whole_end history (stream_at s.source a) ≡ a.read.offset
 
--- after a step at which an adaptor came to the end of its log
+-- after a step at which an adaptor came to the end of its log; no log is ever shorter than the place
 abbrev pub AtEndOf : ℕ → State → Result Stepped AgentFault → History → Type 0
 AtEndOf i s (Ok AtEnd) history = is_stopped history ≡ false → IsAtWholeEnd s i history
+AtEndOf i s (Ok (Shrank had is)) history = is_stopped history ≡ false → ⊥
 AtEndOf i s result history = Unit {0}
 
 pub record AfterStep (stamped : List (List ℕ)) (i : ℕ) (s : State) (result : Result Stepped AgentFault) (history : History) : Type 0 where

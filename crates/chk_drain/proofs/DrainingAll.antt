@@ -1,13 +1,13 @@
 -- A drain from its begin to its end.
-use Rattle.std.proofs.Common.{◌≡◌, ℕ, ◌≤◌, ◌<◌, zero, suc, true, List, [], ◌∷◌, ◌++◌, length, Option, Some, None, Result, Ok, Err, ap, sym, subst, ◌∙◌, refl, arith}
+use Rattle.std.proofs.Common.{◌≡◌, ℕ, ◌≤◌, ◌<◌, zero, suc, true, false, List, [], ◌∷◌, ◌++◌, length, Option, Some, None, Result, Ok, Err, ap, sym, subst, ◌∙◌, refl, arith}
 use Rattle.std.specs.Prelude.{IfOk, slice_get}
 use Rattle.chk_site.specs.declared.acts.Role.TheVariants.{Agent}
-use Rattle.chk_site.specs.History.{History}
+use Rattle.chk_site.specs.History.{History, Others, is_stopped}
 use Rattle.chk_site.specs.Site.{Adds}
 use Rattle.chk_site.specs.Runs.{Leads}
-use Rattle.chk_site.proofs.Runs.{adds_as, adds_then}
+use Rattle.chk_site.proofs.Runs.{adds_as, adds_both, adds_then}
 use Rattle.chk_world.specs.Streams.{whole_end}
-use Rattle.chk_world.specs.Places.{As, Talking}
+use Rattle.chk_world.specs.Places.{As, Foreign, Talking}
 use Rattle.chk_reading.specs.Adaptors.{Adaptor, stream_at}
 use Rattle.chk_agent.specs.declared.answers.AgentFault.{AgentFault}
 use Rattle.chk_agent.specs.declared.answers.AgentFault.TheVariants.{Damaged, Outside, NoMemory}
@@ -24,8 +24,8 @@ use Rattle.chk_drain.specs.declared.answers.Drained.{Drained}
 use Rattle.chk_drain.specs.declared.answers.Drained.TheVariants.{Done, Pending, Growing, Shrank, AllTried}
 use Rattle.chk_drain.specs.Drains as drain
 use Rattle.chk_drain.specs.Drains.{Progress, AllEnded, IsDrained, begun}
-use Rattle.chk_drain.specs.Parts.{AllRead, DeliveredBy, EndsEarly, EndsLast, FailsLastBut, IsFresh, IsUnread, Part, Talks}
-use Rattle.chk_drain.specs.Whole.{DrainsTo, EndsReading, WasWhole}
+use Rattle.chk_drain.specs.Parts.{AllRead, DeliveredBy, EndsEarly, EndsLast, FailsLastBut, IsFresh, IsUnread, NeverShort, Part, Talks}
+use Rattle.chk_drain.specs.Whole.{DrainsTo, EndsReading, IsShort, WasWhole}
 use Rattle.chk_drain.proofs.Joining.{part_then}
 use Rattle.chk_drain.proofs.PollingRest.{all_ended, ended_fresh}
 use Rattle.chk_drain.proofs.PostingRest.{begun_fresh}
@@ -85,14 +85,48 @@ pub record EndedSo (now reads polls : ℕ) (s : State) (result : Result Drained 
   pub last : Adds old new (FailsLastBut result)
   pub cause : AgentCause before after result
 
+-- where a drain ends at a shorter log, the site was stopped
+abbrev IsNever : List (List ℕ) → State → Result Drained AgentFault → History → History → Type 0
+IsNever stamped s result added history =
+    IsShort result → Others (Foreign stamped (process s)) added history
+    → Matches stamped s history → is_stopped (added ++ history) ≡ false → ⊥
+
+long_of : (s t : State) (result : Result Drained AgentFault) {old new : Option History}
+    → Talks (first_again s) t old new → NeverShort (first_again s) (Some result) old new
+    → (stamped : List (List ℕ)) → Adds old new (IsNever stamped s result)
+long_of s t result {old = old} {new = new} talks long stamped = go result long
+  where
+    go : (result : Result Drained AgentFault)
+        → NeverShort (first_again s) (Some result) old new
+        → Adds old new (IsNever stamped s result)
+    go (Ok (Shrank i had is)) long =
+        adds_as (IsNever stamped s (Ok (Shrank i had is))) (long stamped)
+        (λ added history y short others h running. y.leads others (first_matches stamped s history h)
+        running)
+    go (Ok Done) long =
+        adds_as (IsNever stamped s (Ok Done)) (talks stamped) (λ a h y short. absurd short)
+    go (Ok (Pending stem got want)) long =
+        adds_as (IsNever stamped s (Ok (Pending stem got want))) (talks stamped)
+        (λ a h y short. absurd short)
+    go (Ok (Growing i reads)) long =
+        adds_as (IsNever stamped s (Ok (Growing i reads))) (talks stamped)
+        (λ a h y short. absurd short)
+    go (Ok (AllTried count code)) long =
+        adds_as (IsNever stamped s (Ok (AllTried count code))) (talks stamped)
+        (λ a h y short. absurd short)
+    go (Err fault) long =
+        adds_as (IsNever stamped s (Err fault)) (talks stamped) (λ a h y short. absurd short)
+
 pub ends_so : {now reads polls : ℕ} (s t : State) (result : Result Drained AgentFault)
     {K : Progress → State → Type 0} {old new : Option History} {a b : ℕ}
     → Part now reads polls begun (first_again s) K (Some result) t old new a b
     → EndedSo now reads polls s result t old new a b
 ends_so s t result x = record {
   state = x.comes;
-  told = λ stamped. adds_as (DrainsTo stamped s result t) (x.talks stamped)
-      (λ added history y. record {
+  told = λ stamped. adds_both (DrainsTo stamped s result t) (x.talks stamped)
+      (long_of s t result x.talks x.long stamped)
+      (λ added history y z. record {
+        long = z;
         leads = record {
           leads = λ others h. y.leads others (first_matches stamped s history h);
           own = y.own;
@@ -185,6 +219,7 @@ module _ (now reads polls : ℕ) (s first t : State) {old mid : Option History} 
                 comes = drain.unsettled fault k.ended k.queue k.rows
                     (subst (λ g. IsSettled now u g v next new) e settled);
                 talks = talks;
+                long = tt;
                 last = adds_as (EndsLast (Some (Err fault)))
                     (subst (λ g. Adds next new (FailsLast g)) e failed)
                     (λ x h y. fails_but fault x h y);
@@ -275,6 +310,7 @@ module _ (now reads polls : ℕ) (s first t : State) {old mid : Option History} 
                     x history
                     (before.whole refl early (first_matches stamped s history h)
                     (ran stamped s.source y x history behind running) i c b.0 there steps b.1));
+                long = λ short. absurd short;
               }
 
               pub done_told : Adds old new (DrainsTo stamped s (Ok Done) v)

@@ -1,16 +1,21 @@
 -- How the parts of a drain join.
-use Rattle.std.proofs.Common.{ℕ, ◌≤◌, [], ◌∷◌, ◌++◌, Option, Some, None, Result, Ok, Err, ap, sym, ◌∙◌, refl, append_assoc, arith}
+use Rattle.std.proofs.Common.{◌≡◌, ℕ, ◌≤◌, false, List, [], ◌∷◌, ◌++◌, Option, Some, None, Result, Ok, Err, ap, sym, subst, ◌∙◌, refl, append_assoc, arith}
 use Rattle.chk_site.specs.declared.acts.Call.{Call}
 use Rattle.chk_site.specs.History.{History, is_stopped}
-use Rattle.chk_site.specs.Site.{EndsIn, Rose}
+use Rattle.chk_site.specs.Site.{Adds, EndsIn, Rose}
+use Rattle.chk_site.specs.declared.acts.Role.TheVariants.{Agent}
+use Rattle.chk_site.specs.Runs.{Leads}
 use Rattle.chk_site.proofs.Runs.{adds_then, adds_none}
-use Rattle.chk_site.proofs.Leads.{leads_none}
+use Rattle.chk_site.proofs.Leads.{leads_none, leads_then}
 use Rattle.chk_agent.specs.declared.answers.AgentFault.TheVariants.{Damaged, Outside, NoMemory}
+use Rattle.chk_world.specs.Places.{Talking}
+use Rattle.chk_agent.specs.Facts.{Matches}
 use Rattle.chk_agent.specs.States.{State}
 use Rattle.chk_agent.proofs.TurningTold.{talks_then}
 use Rattle.chk_drain.specs.declared.answers.Drained.{Drained}
-use Rattle.chk_drain.specs.Drains.{Progress}
-use Rattle.chk_drain.specs.Parts.{Part, GoesOn, Comes, EndsLast, EndCause, SameReading, SameRest}
+use Rattle.chk_drain.specs.declared.answers.Drained.TheVariants.{AllTried, Done, Growing, Pending, Shrank}
+use Rattle.chk_drain.specs.Drains.{Progress, tried_answer}
+use Rattle.chk_drain.specs.Parts.{Part, GoesOn, Comes, EndsLast, EndCause, NeverShort, SameReading, SameRest, Talks}
 use Rattle.chk_agent.specs.declared.answers.AgentFault.{AgentFault}
 
 -- ---- the count of faults
@@ -72,6 +77,7 @@ part_map {now = now} {reads = reads} {polls = polls} {p = p} {s = s} {t = t} {K 
     {old = old} {new = new} less x = record {
       comes = comes_as now reads polls p s t K L old new end less x.comes;
       talks = x.talks;
+      long = x.long;
       last = x.last;
       cause = x.cause;
     }
@@ -81,7 +87,7 @@ pub part_ends : {now reads polls : ℕ} {p : Progress} {s t : State} {K L : Prog
     {result : Result Drained AgentFault} {old new : Option History} {a b : ℕ}
     → Part now reads polls p s K (Some result) t old new a b
     → Part now reads polls p s L (Some result) t old new a b
-part_ends x = record { comes = x.comes; talks = x.talks; last = x.last; cause = x.cause }
+part_ends x = record { comes = x.comes; talks = x.talks; long = x.long; last = x.last; cause = x.cause }
 
 -- no part
 pub part_none : (now reads polls : ℕ) (p : Progress) (s : State) (K : Progress → State → Type 0)
@@ -96,6 +102,7 @@ part_none now reads polls p s K at a known = record {
     onward = λ result u new rest. rest;
   };
   talks = λ stamped. leads_none at (λ h x. x);
+  long = tt;
   last = adds_none at (EndsLast None) (λ history. tt);
   cause = omega arith;
 }
@@ -116,6 +123,33 @@ comes_then L None u new g x = record {
   onward = λ result v later rest. g.onward result v later (x.onward result v later rest);
 }
 
+-- an end at a shorter log, behind an earlier part
+long_then : (s t : State) (end : Option (Result Drained AgentFault)) → t.source ≡ s.source
+    → (old mid new : Option History) → Talks s t old mid → NeverShort t end mid new
+    → NeverShort s end old new
+long_then s t (Some (Ok (Shrank i had is))) source old mid new talks long =
+    λ stamped. leads_then (talks stamped)
+    (subst (λ n. Adds mid new (Leads (Talking stamped (record { role = Agent; name = n }))
+    (Matches stamped t) (λ h. is_stopped h ≡ false → ⊥))) source (long stamped))
+long_then s t (Some (Ok Done)) source old mid new talks long = tt
+long_then s t (Some (Ok (Pending stem got want))) source old mid new talks long = tt
+long_then s t (Some (Ok (Growing i reads))) source old mid new talks long = tt
+long_then s t (Some (Ok (AllTried count code))) source old mid new talks long = tt
+long_then s t (Some (Err fault)) source old mid new talks long = tt
+long_then s t None source old mid new talks long = tt
+
+-- no end behind tries at all addresses is one at a shorter log
+pub long_tried : (s : State) (q : Progress) (old new : Option History)
+    → NeverShort s (Some (tried_answer q)) old new
+long_tried s q old new = go q.failed
+  where
+    go : (failed : Option Call) → NeverShort s (Some (elim failed [
+      | None ↦ Ok (AllTried q.tried q.code)
+      | Some call ↦ Err (Outside call)
+    ])) old new
+    go None = tt
+    go (Some call) = tt
+
 -- one part after another
 pub part_then : {now reads polls : ℕ} {p : Progress} {s t u : State}
     {K L : Progress → State → Type 0}
@@ -123,12 +157,14 @@ pub part_then : {now reads polls : ℕ} {p : Progress} {s t u : State}
     → Part now reads polls p s K None t old mid a b
     → ((q : Progress) → K q t → Part now reads polls q t L end u mid new b c)
     → Part now reads polls p s L end u old new a c
-part_then {s = s} {t = t} {u = u} {L = L} {end = end} {new = new} {a = a} {b = b} {c = c} x next =
+part_then {s = s} {t = t} {u = u} {L = L} {end = end} {old = old} {mid = mid} {new = new} {a = a}
+    {b = b} {c = c} x next =
     let g = x.comes in
     let y = next g.progress g.known in
     record {
       comes = comes_then L end u new g y.comes;
       talks = talks_then s t u (record { source = g.source; ready = g.ready }) x.talks y.talks;
+      long = long_then s t end g.source old mid new x.talks y.long;
       last = adds_then (EndsLast end) x.last y.last
           (λ before later h m n. last_later end later before h n);
       cause = cause_then a b c end x.cause y.cause;

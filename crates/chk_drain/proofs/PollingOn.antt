@@ -18,7 +18,7 @@ use Rattle.chk_drain.specs.Drains as drain
 use Rattle.chk_drain.specs.Drains.{Progress, MayPoll, PollGives, PollTries, Drains, poll_good, tried_answer}
 use Rattle.chk_drain.specs.Parts as once
 use Rattle.chk_drain.specs.Parts.{Anything, AreTries, EndsLast, IsTalk, IsUntried, MissCause, Part, PollsOnce, PolledTo, RoseIf, SameReading, Talks, TriedPolls, failed_by, missed}
-use Rattle.chk_drain.proofs.Joining.{part_map, part_none, part_then, reading_then}
+use Rattle.chk_drain.proofs.Joining.{long_tried, part_map, part_none, part_then, reading_then}
 use Rattle.chk_drain.proofs.Kept.{IsKept, kept, kept_then, poll_missed}
 use Rattle.chk_drain.proofs.Misses.{last_none, last_wanting, miss_on, missed_polls, missed_same, rose_on, talk_on, tried_cause, tried_last}
 
@@ -158,6 +158,7 @@ module _ (tries : Tries) (s t u : State) {old mid new : Option History} (a b c :
                   rest;
             };
             talks = talks;
+            long = tt;
             last = last_none t u talks;
             cause = miss_on (Option Below) miss b c (subst (MissCause b c) is cause);
           });
@@ -182,6 +183,7 @@ module _ (tries : Tries) (s t u : State) {old mid new : Option History} (a b c :
               (drain.none_told here (miss_tries q miss (made now) is)
               (are.count ∙ all ∙ ap length (sym on.kept_so.within.addresses)));
           talks = both;
+          long = long_tried s (missed miss q) old new;
           last = adds_as (EndsLast (Some (tried_answer (missed miss q)))) (both [])
               (λ added h y. tried_last next (missed miss q) are talking added h);
           cause = tried_cause next (missed miss q) a c are risen;
@@ -224,6 +226,7 @@ module _ (tries : Tries) (s t u : State) {old mid new : Option History} (a b c :
       (record {
         comes = wants.1;
         talks = talks;
+        long = tt;
         last = last_wanting t u talks;
         cause = (subst (MissCause b c) is cause, tt);
       }))

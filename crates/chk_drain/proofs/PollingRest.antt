@@ -113,6 +113,7 @@ module _ (now reads polls left : ℕ) (p : Progress) (s : State) (may : MayPoll 
             k.reading may)
             (good_gives q below to.gives refl) (omega (arith, most, so, same)) h.is;
         talks = to.talks;
+        long = tt;
         last = last_answer to.state t (Pending h.row.stem h.row.got h.row.want) to.talks;
         cause = (to.on, tt);
       }))
@@ -155,6 +156,7 @@ module _ (now reads polls left : ℕ) (p : Progress) (s : State) (may : MayPoll 
                 (good_gives q below to.gives refl) (on_so q k.polls) pauses rest;
           };
           talks = talks;
+          long = tt;
           last = last_none to.state t talks;
           cause = omega (arith, first, on);
         })
@@ -175,6 +177,7 @@ module _ (now reads polls left : ℕ) (p : Progress) (s : State) (may : MayPoll 
               (good_gives q below to.gives refl) (on_so q k.polls) pauses.0 pauses.1.2 pauses.1.3);
           talks = talks_then to.state t t
               (record { source = seen.same.source; ready = seen.same.ready }) to.talks paused;
+          long = tt;
           last = adds_then (EndsLast (Some (Err fault))) (to.talks []) last
               (λ x y h m n. last_later (Some (Err fault)) y x h (fails_but fault y (x ++ h) n));
           cause = cause_then to.count b c (Some (Err fault)) to.on
@@ -285,7 +288,7 @@ module _ (polls left wanted : ℕ) (s t : State) {old mid : Option History} {a b
         (on.part now reads p fresh wants) (λ q k.
         let x = subst (λ r. Part now reads polls q t (PolledBy left q t) r u mid new b c) e
         (next now reads polls q k.untried (may short p q wants k) k.remain) in
-        record { comes = x.comes; talks = x.talks; last = x.last; cause = x.cause })
+        record { comes = x.comes; talks = x.talks; long = x.long; last = x.last; cause = x.cause })
 
     -- it goes on
     module _ (e : end ≡ None) where

@@ -17,7 +17,7 @@ use Rattle.chk_drain.specs.Drains as drain
 use Rattle.chk_drain.specs.Drains.{Progress, MayPost, PostTries, Drains, post_good, tried_answer}
 use Rattle.chk_drain.specs.Parts as once
 use Rattle.chk_drain.specs.Parts.{Anything, AreTries, EndsLast, IsTalk, IsUntried, MissCause, Part, PostedBy, PostsOnce, RoseIf, SameReading, SameRest, Talks, failed_by, missed}
-use Rattle.chk_drain.proofs.Joining.{part_none, part_then, reading_then}
+use Rattle.chk_drain.proofs.Joining.{long_tried, part_none, part_then, reading_then}
 use Rattle.chk_drain.proofs.Kept.{IsKept, kept, kept_then, post_good as good_behind, post_missed}
 use Rattle.chk_drain.proofs.Misses.{last_none, last_wanting, miss_on, missed_same, rose_on, talk_on, tried_cause, tried_last}
 
@@ -153,6 +153,7 @@ module _ (now : ℕ) (tries : Tries) (s t u : State) {old mid new : Option Histo
                   rest;
             };
             talks = talks;
+            long = tt;
             last = last_none t u talks;
             cause = miss_on (Unit {0}) miss b c (subst (MissCause b c) is cause);
           });
@@ -177,6 +178,7 @@ module _ (now : ℕ) (tries : Tries) (s t u : State) {old mid new : Option Histo
               (drain.none_took (miss_tries q miss here made is)
               (are.count ∙ all ∙ ap length (sym on.kept_so.within.addresses)));
           talks = both;
+          long = long_tried s (missed miss q) old new;
           last = adds_as (EndsLast (Some (tried_answer (missed miss q)))) (both [])
               (λ added h y. tried_last next (missed miss q) are talking added h);
           cause = tried_cause next (missed miss q) a c are risen;
@@ -210,6 +212,7 @@ module _ (now : ℕ) (tries : Tries) (s t u : State) {old mid new : Option Histo
           onward = λ result v later rest. good_goes q here made is rest;
         };
         talks = talks;
+        long = tt;
         last = last_none t u talks;
         cause = subst (MissCause b c) is cause;
       })
@@ -225,6 +228,7 @@ module _ (now : ℕ) (tries : Tries) (s t u : State) {old mid new : Option Histo
       (sym wants.0) (record {
         comes = wants.1;
         talks = talks;
+        long = tt;
         last = last_wanting t u talks;
         cause = (subst (MissCause b c) is cause, tt);
       }))

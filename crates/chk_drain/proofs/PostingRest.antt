@@ -30,7 +30,7 @@ module _ (now polls : ℕ) (s t : State) {old mid : Option History} {a b : ℕ}
   freed_ends result e reads p fresh may =
       let x = subst (λ r. Part now reads polls p s (Freed 1 p s) r t old mid a b) e
       (freed reads p fresh (inl refl)) in
-      record { comes = x.comes; talks = x.talks; last = x.last; cause = x.cause }
+      record { comes = x.comes; talks = x.talks; long = x.long; last = x.last; cause = x.cause }
 
   module _ (none : end ≡ None) where
     one : (reads : ℕ) (p : Progress) → IsFresh p
@@ -115,7 +115,7 @@ module _ (now polls : ℕ) (s t : State) {old mid : Option History} {a b : ℕ}
     posting_ends result e reads p fresh all = part_then (on.part reads p fresh all) (λ q k.
         let x = subst (λ r. Part now reads polls q t (PostedBy q t) r u mid new b c) e
         (next reads q k.fresh (some, inr (ended_on p q s t k.reading k.rest.adaptors all))) in
-        record { comes = x.comes; talks = x.talks; last = x.last; cause = x.cause })
+        record { comes = x.comes; talks = x.talks; long = x.long; last = x.last; cause = x.cause })
 
     module _ (none : end ≡ None) where
       pub posting_next : PostingOn now polls s u old new a c
@@ -164,7 +164,7 @@ module _ (now polls : ℕ) (s t : State) {old mid : Option History} {a b : ℕ}
   posted_ends result e reads p fresh all =
       let x = subst (λ r. Part now reads polls p s (PostedAll p s) r t old mid a b) e
       (posted reads p fresh all) in
-      record { comes = x.comes; talks = x.talks; last = x.last; cause = x.cause }
+      record { comes = x.comes; talks = x.talks; long = x.long; last = x.last; cause = x.cause }
 
   module _ (none : end ≡ None) where
     rest : (reads : ℕ) (p : Progress) → IsFresh p → AllEnded p s

@@ -184,7 +184,7 @@ module _ (now reads polls n : ℕ) (s t : State) {old mid : Option History} {a b
     reading_ends result e p fresh unread = part_then (on.part p fresh unread) (λ q k.
         let x = subst (λ r. Part now reads polls q t (ReadOut n q t) r u mid new b c) e
         (next q k.fresh (k.rest n (omega arith))) in
-        record { comes = x.comes; talks = x.talks; last = x.last; cause = x.cause })
+        record { comes = x.comes; talks = x.talks; long = x.long; last = x.last; cause = x.cause })
 
     module _ (none : end ≡ None) where
       by : (p : Progress) → IsFresh p → WasNotRead n p

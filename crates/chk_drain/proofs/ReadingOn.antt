@@ -139,6 +139,7 @@ module _ (now reads polls i count : ℕ) (s t : State) {old mid : Option History
                   (made on.here.0 on.here.1)) rest;
             };
             talks = talks;
+            long = tt;
             last = last_none t u talks;
             cause = step_on b c (Read n) (subst (AgentCause b c) is cause);
           });
@@ -167,6 +168,7 @@ module _ (now reads polls i count : ℕ) (s t : State) {old mid : Option History
               (omega (arith, reads_are, last, few))
               (subst (λ g. IsOneStepped i on.here.0 t g u mid new) is (made on.here.0 on.here.1));
           talks = talks;
+          long = tt;
           last = last_answer t u (Growing i reads) talks;
           cause = (step_on b c (Read n) (subst (AgentCause b c) is cause), tt);
         })
@@ -194,18 +196,24 @@ module _ (now reads polls i count : ℕ) (s t : State) {old mid : Option History
             rest;
       };
       talks = talks;
+      long = tt;
       last = last_none t u talks;
       cause = step_on b c AtEnd (subst (AgentCause b c) is cause);
     })
 
     -- the log is shorter
-    pub stepping_shrank : (had size : ℕ) → given ≡ Ok (Shrank had size) → (p : Progress)
-        → IsFresh p → WasNotRead i p
+    pub stepping_shrank : (had size : ℕ) → given ≡ Ok (Shrank had size)
+        → ((stamped : List (List ℕ)) → Adds mid new (Leads (As stamped (process t))
+        (Matches stamped t) (AfterStep stamped i u given)))
+        → (p : Progress) → IsFresh p → WasNotRead i p
         → Part now reads polls p s (ReadOut i p s) (Some (Ok (has_shrunk i had size))) u old new a c
-    stepping_shrank had size is p fresh unread = part_then (on.part p fresh unread) (λ q k. record {
+    stepping_shrank had size is told p fresh unread = part_then (on.part p fresh unread) (λ q k. record {
       comes = drain.shrank i had size on.here.0 on.here.1 on.here.2 k.ended
           (subst (λ g. IsOneStepped i on.here.0 t g u mid new) is (made on.here.0 on.here.1));
       talks = talks;
+      long = λ stamped. talking_as (process t) stamped (leads_as (λ h x. x) (λ h x. x.whole)
+          (subst (λ g. Adds mid new (Leads (As stamped (process t)) (Matches stamped t)
+          (AfterStep stamped i u g))) is (told stamped)));
       last = last_answer t u (has_shrunk i had size) talks;
       cause = (step_on b c (Shrank had size) (subst (AgentCause b c) is cause), tt);
     })
@@ -220,6 +228,7 @@ module _ (now reads polls i count : ℕ) (s t : State) {old mid : Option History
           comes = drain.unread i on.here.0 fault on.here.1 on.here.2 k.ended
               (subst (λ g. IsOneStepped i on.here.0 t g u mid new) is (made on.here.0 on.here.1));
           talks = talks;
+          long = tt;
           last = adds_as (EndsLast (Some (Err fault))) (subst (λ g. Adds mid new (FailsLast g)) is last)
               (λ x h y. fails_but fault x h y);
           cause = (
@@ -267,6 +276,7 @@ module _ (now reads polls i count : ℕ) (s t : State) {old mid : Option History
                 onward = λ result v later rest. rest;
               }));
           talks = talks;
+          long = tt;
           last = last_none t u talks;
           cause = step_on b c (Held n) (subst (AgentCause b c) is cause);
         });
@@ -292,7 +302,7 @@ module _ (now reads polls i count : ℕ) (s t : State) {old mid : Option History
         held_ends result e p fresh unread = part_then (same.part p fresh unread) (λ q k.
             let x = subst (λ r. Part now reads polls q u (PostedBy q u) r v new later c d) e
             (next reads q k.fresh (may q)) in
-            record { comes = x.comes; talks = x.talks; last = x.last; cause = x.cause })
+            record { comes = x.comes; talks = x.talks; long = x.long; last = x.last; cause = x.cause })
 
         module _ (none : end ≡ None) where
           by : (reads : ℕ) (q : Progress) → IsFresh q

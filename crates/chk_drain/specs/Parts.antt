@@ -26,7 +26,7 @@ use Rattle.chk_agent.specs.Faults.{AgentCause, fault_of}
 use Rattle.chk_agent.specs.Fits.{IsSound}
 use Rattle.chk_agent.specs.Turns.{Posts, GetsPostReply, Polls, GetsLengths}
 use Rattle.chk_drain.specs.declared.answers.Drained.{Drained}
-use Rattle.chk_drain.specs.declared.answers.Drained.TheVariants.{Done, Pending}
+use Rattle.chk_drain.specs.declared.answers.Drained.TheVariants.{Done, Pending, Shrank}
 use Rattle.chk_drain.specs.declared.tries.Miss.{Miss}
 use Rattle.chk_drain.specs.declared.tries.Miss.TheVariants.{Unsent, Silent as no_reply, Refused as other_reply}
 use Rattle.chk_drain.specs.declared.tries.Tries.{Tries}
@@ -155,6 +155,15 @@ Talks s t old new =
     (stamped : List (List ℕ)) → Adds old new
     (Leads (Talking stamped (process s)) (Matches stamped s) (Matches stamped t))
 
+-- Where a drain ends at a log that is shorter than what was read of it, the site was stopped: in a
+-- legal history no log is.
+abbrev pub NeverShort : State → Option (Result Drained AgentFault) → Option History
+    → Option History → Type 0
+NeverShort s (Some (Ok (Shrank i had is))) old new =
+    (stamped : List (List ℕ)) → Adds old new
+    (Leads (Talking stamped (process s)) (Matches stamped s) (λ h. is_stopped h ≡ false → ⊥))
+NeverShort s end old new = Unit {0}
+
 -- the call that failed is the last one, but for a send or the question for a reply
 abbrev pub FailsLastBut : Result Drained AgentFault → History → History → Type 0
 FailsLastBut (Err (Outside call)) added history =
@@ -182,6 +191,7 @@ pub record Part (now reads polls : ℕ) (p : Progress) (s : State) (Known : Prog
     (before after : ℕ) : Type 0 where
   pub comes : Comes now reads polls p s Known end t old new
   pub talks : Talks s t old new
+  pub long : NeverShort s end old new
   pub last : Adds old new (EndsLast end)
   pub cause : EndCause before after end
 

@@ -9,7 +9,7 @@ use Rattle.chk_agent.specs.declared.answers.AgentFault.{AgentFault}
 use Rattle.chk_agent.specs.States.{State, process, committed_at}
 use Rattle.chk_agent.specs.Facts.{Matches, IsAtWholeEnd}
 use Rattle.chk_drain.specs.declared.answers.Drained.{Drained}
-use Rattle.chk_drain.specs.declared.answers.Drained.TheVariants.{Done}
+use Rattle.chk_drain.specs.declared.answers.Drained.TheVariants.{Done, Shrank}
 
 -- P holds at one of the moments between an earlier history and the later one that these steps make
 -- of it
@@ -54,10 +54,16 @@ pub record EndsReading (stamped : List (List ℕ)) (s : State)
       → is_stepped a.phase ≡ true → slice_get t.adaptors i ≡ Some b
       → WasWhole s a b.read.offset added history
 
+-- the drain ended at a log that is shorter than what was read of it
+abbrev pub IsShort : Result Drained AgentFault → Type 0
+IsShort (Ok (Shrank i had is)) = Unit {0}
+IsShort result = ⊥
+
 -- From a legal history each step obeys the agent's rules, and the history holds the later state.
 -- Where the drain is done,
 -- the committed end of each adaptor that was read is the end of its whole log at a moment of this
--- drain.
+-- drain. It doesn't end at a log that is shorter than what was read of it, but where the site was
+-- stopped.
 pub record DrainsTo (stamped : List (List ℕ)) (s : State) (result : Result Drained AgentFault)
     (t : State)
     (added history : History) : Type 0 where
@@ -68,3 +74,5 @@ pub record DrainsTo (stamped : List (List ℕ)) (s : State) (result : Result Dra
       → is_stopped (added ++ history) ≡ false → (i : ℕ) (a : Adaptor)
       → slice_get s.adaptors i ≡ Some a
       → is_stepped a.phase ≡ true → WasWhole s a (committed_at t i) added history
+  pub long : IsShort result → Others (Foreign stamped (process s)) added history
+      → Matches stamped s history → is_stopped (added ++ history) ≡ false → ⊥

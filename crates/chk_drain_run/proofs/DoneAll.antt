@@ -18,11 +18,13 @@ use Rattle.chk_agent.specs.Facts.{Matches}
 use Rattle.chk_agent.specs.States.{State, process}
 use Rattle.chk_agent.proofs.TalkingTold.{ran_before}
 use Rattle.chk_agent.proofs.TurningTold.{TalksOn}
+use Rattle.chk_agent_run.specs.declared.faults.RunFault.{RunFault}
 use Rattle.chk_agent_run.specs.Runs.{InRun}
 use Rattle.chk_drain.specs.Whole.{Meanwhile}
 use Rattle.chk_prints.specs.Printing.{by}
 use Rattle.chk_prints.proofs.Printed.{prints_join}
 use Rattle.chk_drain_run.specs.declared.faults.DrainFault.{DrainFault}
+use Rattle.chk_drain_run.specs.declared.faults.DrainFault.TheVariants.{Growing, Pending, Refused, Run, Shrank}
 use Rattle.chk_drain_run.specs.Done.{DoneSo, DrainDone, HasLiveLine, lines_here, lines_then}
 use Rattle.chk_drain_run.specs.Drains.{Finishes}
 use Rattle.chk_drain_run.specs.Parts.{AreSteady, BegunTo, FinishedTo, FinishesSo, SavedAreRead}
@@ -179,13 +181,34 @@ pub done_so : (stamped : List (List ℕ)) (who writer : Who) (initial : Option (
 done_so stamped who writer initial s t me now reads polls (Ok value) began begun script talks
     finished =
     done_all stamped who writer initial s t me (saved_for script refl) began begun talks finished
-done_so stamped who writer initial s t me now reads polls (Err fault) began begun script talks
-    finished =
-    adds_then (DoneSo stamped who writer initial (Err fault)) began finished (λ a b history x y. tt)
+done_so stamped who writer initial s t me now reads polls (Err (Shrank path had size)) began begun
+    script talks finished =
+    adds_then (DoneSo stamped who writer initial (Err (Shrank path had size))) began finished
+    (λ a b history x y others legal running.
+    y (subst (λ (w : Who). Others (Foreign stamped w) b (a ++ history)) me
+    (others_foreign stamped (who ∷ []) who (0, omega arith, refl) b (a ++ history)
+    (every_late (λ before step. step.own ≡ false → Outside stamped (who ∷ []) before step) b a
+    history others)))
+    (x.leads (every_early (λ before step. step.own ≡ false → Outside stamped (who ∷ []) before step)
+    b a history others) legal)
+    (ap is_stopped (sym (append_assoc b a history)) ∙ running))
+done_so stamped who writer initial s t me now reads polls (Err (Run fault)) began begun script talks
+    finished = adds_then (DoneSo stamped who writer initial (Err (Run fault))) began finished
+    (λ a b history x y. tt)
+done_so stamped who writer initial s t me now reads polls (Err (Pending stem got want)) began begun
+    script talks finished = adds_then
+    (DoneSo stamped who writer initial (Err (Pending stem got want))) began finished
+    (λ a b history x y. tt)
+done_so stamped who writer initial s t me now reads polls (Err (Growing path most)) began begun
+    script talks finished = adds_then (DoneSo stamped who writer initial (Err (Growing path most)))
+    began finished (λ a b history x y. tt)
+done_so stamped who writer initial s t me now reads polls (Err (Refused code)) began begun script
+    talks finished = adds_then (DoneSo stamped who writer initial (Err (Refused code))) began finished
+    (λ a b history x y. tt)
 
 -- where it didn't begin nothing is said
 pub not_begun_so : (stamped : List (List ℕ)) (who writer : Who) (initial : Option (List ℕ))
-    (fault : DrainFault) {P : History → History → Type 0} {old new : Option History}
-    → Adds old new P → Adds old new (DoneSo stamped who writer initial (Err fault))
+    (fault : RunFault) {P : History → History → Type 0} {old new : Option History}
+    → Adds old new P → Adds old new (DoneSo stamped who writer initial (Err (Run fault)))
 not_begun_so stamped who writer initial fault p =
-    adds_as (DoneSo stamped who writer initial (Err fault)) p (λ a h x. tt)
+    adds_as (DoneSo stamped who writer initial (Err (Run fault))) p (λ a h x. tt)

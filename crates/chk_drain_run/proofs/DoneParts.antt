@@ -27,19 +27,24 @@ use Rattle.chk_agent.specs.States.{State, committed_at, process}
 use Rattle.chk_agent.proofs.TalkingTold.{ran_before}
 use Rattle.chk_agent.proofs.TurningTold.{TalksOn}
 use Rattle.chk_agent_run.specs.declared.faults.RunFault.{RunFault}
+use Rattle.chk_agent_run.specs.declared.faults.RunFault.TheVariants as runs
 use Rattle.chk_agent_run.specs.Calls.{Clocked}
 use Rattle.chk_agent_run.specs.Initial.{AreAdded, LooksAt, ReadsInitial}
 use Rattle.chk_agent_run.specs.Runs.{InRun}
 use Rattle.chk_agent_run.proofs.Started.{reads_in_run}
+use Rattle.chk_drain.specs.declared.answers.Drained.{Drained}
 use Rattle.chk_drain.specs.declared.answers.Drained.TheVariants.{Done}
+use Rattle.chk_drain.specs.declared.answers.Drained.TheVariants as drained
 use Rattle.chk_drain.specs.Whole.{DrainsTo}
 use Rattle.chk_drain.proofs.ReadingAll.{meanwhile_early, others_early, ran}
 use Rattle.chk_prints.specs.Printing.{PrintsInTurn, by}
 use Rattle.chk_prints.proofs.Printed.{Printed, prints_join, prints_told}
 use Rattle.chk_drain_run.specs.declared.begin.Begun.{Begun}
 use Rattle.chk_drain_run.specs.declared.faults.DrainFault.{DrainFault}
+use Rattle.chk_drain_run.specs.declared.faults.DrainFault.TheVariants.{Growing, Pending, Refused, Run}
+use Rattle.chk_drain_run.specs.declared.faults.DrainFault.TheVariants as drains
 use Rattle.chk_drain_run.specs.Done.{lines_then}
-use Rattle.chk_drain_run.specs.Drains.{told_as}
+use Rattle.chk_drain_run.specs.Drains.{IsUndone, told_as}
 use Rattle.chk_drain_run.specs.Parts.{BeginsSo, BegunTo, FinishedTo, FinishesSo}
 use Rattle.chk_drain_run.specs.Streams.{told_line}
 use Rattle.chk_drain_run.proofs.Adding.{all_added, line_read, starts_with}
@@ -200,10 +205,45 @@ module _ (stamped : List (List ℕ)) (who : Who) (s : State) where
       lives Past steps = absurd (true≢false (sym steps))
 
   -- where it ended early nothing is said
-  pub unfinished : (t : State) (fault : DrainFault) {P : History → History → Type 0}
+  pub unfinished : (t : State) (fault : RunFault) {P : History → History → Type 0}
       {old new : Option History} → Adds old new P
+      → Adds old new (FinishesSo stamped who s (Err (Run fault)) t)
+  unfinished t fault p = adds_as (FinishesSo stamped who s (Err (Run fault)) t) p (λ a h x. tt)
+
+  -- but that no log is shorter than what was read of it
+  abbrev UndoneTo : State → Option History → Option History → DrainFault → Type 0
+  UndoneTo t old new fault = Adds old new (FinishesSo stamped who s (Err fault) t)
+
+  pub undone_to : (t : State) (answer : Drained) (fault : DrainFault) → IsUndone t answer fault
+      → {old new : Option History} → Adds old new (DrainsTo stamped s (Ok answer) t)
       → Adds old new (FinishesSo stamped who s (Err fault) t)
-  unfinished t fault p = adds_as (FinishesSo stamped who s (Err fault) t) p (λ a h x. tt)
+  undone_to t answer fault is {old = old} {new = new} told = go answer is told
+    where
+      wanting : {P : History → History → Type 0} → Adds old new P
+          → UndoneTo t old new (Run runs.NoMemory)
+      wanting p = unfinished t runs.NoMemory p
+
+      go : (answer : Drained) → IsUndone t answer fault
+          → Adds old new (DrainsTo stamped s (Ok answer) t)
+          → UndoneTo t old new fault
+      go Done is told = absurd is
+      go (drained.Pending stem got want) is told =
+          subst (UndoneTo t old new) (sym is)
+          (adds_as (FinishesSo stamped who s (Err (Pending stem got want)) t) told (λ a h x. tt))
+      go (drained.Growing i reads) (inl k) told =
+          subst (UndoneTo t old new) (sym k.2)
+          (adds_as (FinishesSo stamped who s (Err (Growing k.0 reads)) t) told (λ a h x. tt))
+      go (drained.Growing i reads) (inr is) told =
+          subst (UndoneTo t old new) (sym is) (wanting told)
+      go (drained.Shrank i had size) (inl k) told =
+          subst (UndoneTo t old new) (sym k.2)
+          (adds_as (FinishesSo stamped who s (Err (drains.Shrank k.0 had size)) t) told
+          (λ a h x others known running. x.long tt others known running))
+      go (drained.Shrank i had size) (inr is) told =
+          subst (UndoneTo t old new) (sym is) (wanting told)
+      go (drained.AllTried count code) is told =
+          subst (UndoneTo t old new) (sym is)
+          (adds_as (FinishesSo stamped who s (Err (Refused code)) t) told (λ a h x. tt))
 
   -- it was drained, and its lines were printed up to a call that failed
   pub told_to : (t : State) (sound : IsSound t) (ready : t.ready ≡ true) (me : who ≡ process t)

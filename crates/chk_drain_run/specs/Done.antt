@@ -16,6 +16,7 @@ use Rattle.chk_drain.specs.Whole.{Meanwhile}
 use Rattle.chk_words.specs.Lines.{stream_line}
 use Rattle.chk_prints.specs.Printing.{by, printed}
 use Rattle.chk_drain_run.specs.declared.faults.DrainFault.{DrainFault}
+use Rattle.chk_drain_run.specs.declared.faults.DrainFault.TheVariants.{Shrank}
 
 -- ---- the lines of a checkpoint
 
@@ -88,10 +89,13 @@ pub record DrainDone (who writer : Who) (initial : Option (List ℕ)) (added his
       ⊎ IsAskedFor text kind path
 
 -- Where the drain is done, from a legal history on, the steps of others are as is supposed, and the
--- site wasn't stopped.
+-- site wasn't stopped. So no log is shorter than what was read of it.
 abbrev pub DoneSo : List (List ℕ) → Who → Who → Option (List ℕ) → Result Unit DrainFault → History
     → History → Type 0
 DoneSo stamped who writer initial (Ok value) added history =
     Others (Outside stamped (who ∷ [])) added history → Legal stamped history
     → is_stopped (added ++ history) ≡ false → DrainDone who writer initial added history
+DoneSo stamped who writer initial (Err (Shrank path had is)) added history =
+    Others (Outside stamped (who ∷ [])) added history → Legal stamped history
+    → is_stopped (added ++ history) ≡ false → ⊥
 DoneSo stamped who writer initial (Err fault) added history = Unit {0}

@@ -21,6 +21,7 @@ use Rattle.chk_drain.specs.Whole.{WasWhole}
 use Rattle.chk_prints.specs.Printing.{by, printed}
 use Rattle.chk_drain_run.specs.declared.begin.Begun.{Begun}
 use Rattle.chk_drain_run.specs.declared.faults.DrainFault.{DrainFault}
+use Rattle.chk_drain_run.specs.declared.faults.DrainFault.TheVariants.{Shrank}
 use Rattle.chk_drain_run.specs.Done.{HasLiveLine, IsAskedFor, lines_then}
 use Rattle.chk_drain_run.specs.Streams.{told_line}
 
@@ -98,4 +99,7 @@ pub record FinishedTo (stamped : List (List ℕ)) (who : Who) (s t : State) (add
 abbrev pub FinishesSo : List (List ℕ) → Who → State → Result Unit DrainFault → State → History
     → History → Type 0
 FinishesSo stamped who s (Ok value) t added history = FinishedTo stamped who s t added history
+FinishesSo stamped who s (Err (Shrank path had is)) t added history =
+    Others (Foreign stamped (process s)) added history → Matches stamped s history
+    → is_stopped (added ++ history) ≡ false → ⊥
 FinishesSo stamped who s (Err fault) t added history = Unit {0}

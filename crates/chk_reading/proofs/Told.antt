@@ -157,7 +157,7 @@ step_stands : (history : History) (source : List ℕ) (a b : Adaptor) (marks : L
     → StepStands source a result b history
 step_stands history source a b marks next (Err fault) h placed begins at_end is w =
     subst (λ (c : Adaptor). StepStands source a (Err fault) c history) (sym is)
-    (record { reader = h; chunk = tt })
+    (record { reader = h; chunk = tt; long = tt })
 step_stands history source a b marks next (Ok step) h placed begins at_end is w =
     let c : Adaptor = stepped marks next (Ok step) a in
     let there = subst IsPlaced is at_end in
@@ -172,6 +172,7 @@ step_stands history source a b marks next (Ok step) h placed begins at_end is w 
             w.next_stands (placed_ends c.marks c.read.offset next there.rises there.newest) refl;
       };
       chunk = w.chunk;
+      long = w.long;
     })
 
 -- ---- the step

@@ -7,7 +7,7 @@ use Rattle.chk_world.specs.Checkpoints.{Line}
 use Rattle.chk_world.specs.Standing.{Stands}
 use Rattle.chk_tail.specs.declared.step.Step.{Step}
 use Rattle.chk_tail.specs.Walks.{Spot}
-use Rattle.chk_reading.specs.Facts.{GaveChunk}
+use Rattle.chk_reading.specs.Facts.{GaveChunk, IsLong}
 
 -- a line at this place
 abbrev pub at_spot : Line → Spot → Line
@@ -22,9 +22,10 @@ MarksAre s l p (m ∷ marks) next history =
     × MarksAre s l m marks next history
 
 -- The place behind the step stands, so do those behind the generations that it passed, and each
--- chunk of the bytes that it gave.
+-- chunk of the bytes that it gave. The log isn't shorter than the place.
 pub record WalkFacts (s : Stream) (l : Line) (p : Spot) (marks : List Spot)
     (result : Result Step OutsideFault) (next : Spot) (history : History) : Type 0 where
   pub next_stands : Stands history s (at_spot l next)
   pub marks_are : MarksAre s l p marks next history
   pub chunk : GaveChunk s l.start result history
+  pub long : IsLong result

@@ -33,7 +33,8 @@ use Rattle.chk_tail.specs.declared.step.Step.{Step}
 use Rattle.chk_tail.specs.Taking.{asks_at, taken_of}
 use Rattle.chk_tail.specs.Walks.{Spot, Way, part, reading, behind, mark_behind, given_marks}
 use Rattle.chk_tail.specs.Walks.{Decides, Walks, decided, walked, unkept}
-use Rattle.chk_reading.specs.Facts.{GaveChunk}
+use Rattle.chk_reading.specs.Facts.{GaveChunk, IsLong}
+use Rattle.chk_reading.proofs.Unshort.{short_told}
 use Rattle.chk_reading.proofs.WalkFacts.{at_spot, MarksAre, WalkFacts}
 
 -- ---- what a read adds grows
@@ -184,6 +185,7 @@ module _ (stamped : List (List ℕ)) (source : List ℕ) (known : IsTrue (is_sou
           next_stands = subst (λ q. Stands h S (at_spot l q)) (sym next_is) (stands h x);
           marks_are = tt;
           chunk = tt;
+          long = tt;
         };
       })
       (read_ends stamped source known cluster lines F grows (at_spot l p) reader stands
@@ -219,6 +221,7 @@ module _ (stamped : List (List ℕ)) (source : List ℕ) (known : IsTrue (is_sou
                     (taken_within (breaks_lines l.class) piece)));
                 value_is = value;
               }));
+          long = subst IsLong (sym result_is) tt;
         };
       }) (one_read F grows p reader named stands (Ok piece) (Some piece) refl call)
     where
@@ -245,18 +248,14 @@ module _ (stamped : List (List ℕ)) (source : List ℕ) (known : IsTrue (is_sou
           marks_are = subst (λ o. MarksAre S l p (mark_behind p o (Count piece)) next h)
               (sym not_ended) tt;
           chunk = subst (λ r. GaveChunk S l.start r h) (sym result_is) tt;
+          long = subst IsLong (sym result_is) tt;
         };
       }) (one_read F grows p reader named stands (Ok piece) (Some piece) refl call)
   by_decision F grows p reader named stands (Err (Short size)) result next call
       (result_is, next_is) =
-      told_as (λ h x. record {
-        one = x.one;
-        two = record {
-          next_stands = subst (λ q. Stands h S (at_spot l q)) (sym next_is) (stands h x.one);
-          marks_are = tt;
-          chunk = subst (λ r. GaveChunk S l.start r h) (sym result_is) tt;
-        };
-      }) (one_read F grows p reader named stands (Err (Short size)) None refl call)
+      told_as (λ h x. record { one = x.one; two = absurd x.two })
+      (short_told stamped source known cluster lines F grows (at_spot l p) reader stands
+      (part W.rotated p.after) (part_is l.class p.after named) (Most p) size call)
   by_decision F grows p reader named stands (Err Failed) (Ok gave) next call d = absurd d
   by_decision F grows p reader named stands (Err Missing) (Ok gave) next call d = absurd d
   by_decision F grows p reader named stands (Err Exists) (Ok gave) next call d = absurd d
@@ -307,6 +306,7 @@ module _ (stamped : List (List ℕ)) (source : List ℕ) (known : IsTrue (is_sou
             x.two.marks_are,
           );
           chunk = x.two.chunk;
+          long = x.two.long;
         };
       }) (leads_then first second)
   walk_told result next F grows p [] reader named stands
@@ -317,5 +317,6 @@ module _ (stamped : List (List ℕ)) (source : List ℕ) (known : IsTrue (is_sou
           next_stands = subst (λ q. Stands h S (at_spot l q)) (sym next_is) (stands h x.one);
           marks_are = tt;
           chunk = subst (λ r. GaveChunk S l.start r h) (sym result_is) tt;
+          long = subst IsLong (sym result_is) tt;
         };
       }) (one_read F grows p reader named stands (Ok piece) (Some piece) refl call)

@@ -4,7 +4,7 @@ use Rattle.chk_site.specs.declared.acts.OutsideFault.{OutsideFault}
 use Rattle.chk_site.specs.History.{History}
 use Rattle.chk_chunk.specs.Keys.{Stream, Chunk, is_chunk}
 use Rattle.chk_tail.specs.declared.step.Step.{Step}
-use Rattle.chk_tail.specs.declared.step.Step.TheVariants.{Bytes}
+use Rattle.chk_tail.specs.declared.step.Step.TheVariants.{Bytes, Shrank}
 use Rattle.chk_tail.specs.Walks.{Spot}
 use Rattle.chk_world.specs.Checkpoints.{Line}
 use Rattle.chk_world.specs.Standing.{Stands}
@@ -38,8 +38,15 @@ GaveChunk s start (Ok (Bytes bytes end)) history =
     → ChunkStands history c
 GaveChunk s start result history = Unit {0}
 
--- after a step: the reader stands, and so does each chunk of the bytes that it gave
+-- the log isn't shorter than the place
+abbrev pub IsLong : Result Step OutsideFault → Type 0
+IsLong (Ok (Shrank had is)) = ⊥
+IsLong result = Unit {0}
+
+-- After a step: the reader stands, and so does each chunk of the bytes that it gave. The log is never
+-- shorter than the place.
 pub record StepStands (source : List ℕ) (old : Adaptor) (result : Result Step OutsideFault)
     (new : Adaptor) (history : History) : Type 0 where
   pub reader : ReaderStands source new history
   pub chunk : GaveChunk (stream_at source old) old.start result history
+  pub long : IsLong result

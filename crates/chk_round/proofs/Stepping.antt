@@ -33,7 +33,7 @@ use Rattle.chk_round.specs.declared.faults.RoundFault.{RoundFault}
 use Rattle.chk_round.specs.declared.faults.RoundFault.TheVariants.{Outside, NoMemory, Damaged, Length, Growing, Shrank, Spent, Refused, Checkpoint}
 use Rattle.chk_round.specs.Faults.{of_agent, RoundCause}
 use Rattle.chk_round.specs.Following.{KeepsLogs}
-use Rattle.chk_round.specs.Joint.{AreIn, BothAt, GoesOn, IsSameAgent, JointTo}
+use Rattle.chk_round.specs.Joint.{AreIn, BothAt, GoesOn, IsSameAgent, JointTo, OnlyStopped}
 use Rattle.chk_round.specs.Polling.{PostedSome}
 use Rattle.chk_round.specs.Reading as told
 use Rattle.chk_round.specs.Reading.{AfterReadOut, IsGrowing, IsShrank, ReadOn}
@@ -55,6 +55,7 @@ use Rattle.chk_round.proofs.Sides.{agent_acts}
 abbrev pub EndsLegally : RoundFault → Type 0
 EndsLegally (Damaged name at) = ⊥
 EndsLegally (Checkpoint at) = ⊥
+EndsLegally (Shrank path had size) = ⊥
 EndsLegally (Spent number) = ⊥
 EndsLegally (Length stem got want) = ⊥
 EndsLegally (Refused code) = ⊥
@@ -68,7 +69,7 @@ legal_goes stamped s a (Damaged name at) is h x = absurd is
 legal_goes stamped s a (Checkpoint at) is h x = absurd is
 legal_goes stamped s a (Length stem got want) is h x = absurd is
 legal_goes stamped s a (Growing path reads) is h x = x
-legal_goes stamped s a (Shrank path had size) is h x = x
+legal_goes stamped s a (Shrank path had size) is h x = absurd is
 legal_goes stamped s a (Spent number) is h x = absurd is
 legal_goes stamped s a (Refused code) is h x = absurd is
 
@@ -76,9 +77,10 @@ pub growing_legal : {path : List ℕ} {reads : ℕ} {fault : RoundFault} → IsG
 growing_legal told.grows = tt
 growing_legal told.untold = tt
 
-pub shrank_legal : {path : List ℕ} {had size : ℕ} {fault : RoundFault} → IsShrank path had size fault → EndsLegally fault
-shrank_legal told.shrinks = tt
-shrank_legal told.untold = tt
+shrank_goes : (stamped : List (List ℕ)) (s : Sinks) (a : Agents) {path : List ℕ} {had size : ℕ} {fault : RoundFault}
+    → IsShrank path had size fault → (h : History) → OnlyStopped stamped h → GoesOn stamped s a (Err fault) h
+shrank_goes stamped s a told.shrinks h x = x
+shrank_goes stamped s a told.untold h x = x.legal
 
 pub growing_cause : {path : List ℕ} {reads : ℕ} {fault : RoundFault} (before now : ℕ) → IsGrowing path reads fault → before ≤ now
     → RoundCause {T = Unit {0}} before now (Err fault)
@@ -192,6 +194,15 @@ step_stops s i a b result fault legal told stamped started acting run =
     leads_as (λ h x. x) (λ h x. legal_goes stamped s b fault legal h x.0.matches.legal)
     (step_beside s i a b result told stamped started acting run)
 
+-- a log is shorter than the place only where the site was stopped
+step_shrinks : (s : Sinks) (i : ℕ) (a b : Agents) {path : List ℕ} (had size : ℕ) {fault : RoundFault}
+    → IsShrank path had size fault → {old new : Option History} → StepTold i a b (Ok (step_shrank had size)) old new
+    → JointTo s a s b (Err fault) old new
+step_shrinks s i a b had size short told stamped started acting run =
+    leads_as (λ h x. x)
+    (λ h x. shrank_goes stamped s b short h (record { legal = x.0.matches.legal; never = x.0.whole }))
+    (step_beside s i a b (Ok (step_shrank had size)) told stamped started acting run)
+
 -- what is left of the reads makes all of them
 abbrev pub ReadSoFar : ℕ → ℕ → Agents → ℕ → Agents → Option History → Option History → Type 0
 ReadSoFar i reads a n b old now =
@@ -280,6 +291,14 @@ module _ (i count reads : ℕ) (s t : Sinks) (a b : Agents) {old now : Option Hi
       (AfterReadOut stamped i t c (Err fault)))
   reading_stops fault legal =
       joint_then s t t a b c (Err fault) so.starts.collector source_on so.joint (step_stops t i b c result fault legal told)
+
+  pub reading_shrinks : (had size : ℕ) → result ≡ Ok (step_shrank had size) → {path : List ℕ} {fault : RoundFault}
+      → IsShrank path had size fault → (stamped : List (List ℕ)) (started acting : List Who)
+      → AreIn started acting s a → Adds old next (Leads (Together stamped started acting) (BothAt stamped s a)
+      (AfterReadOut stamped i t c (Err fault)))
+  reading_shrinks had size is {fault = fault} short =
+      joint_then s t t a b c (Err fault) so.starts.collector source_on so.joint
+      (step_shrinks t i b c had size short (subst (λ r. StepTold i b c r now next) is told))
 
   pub reading_fails : (fault : AgentFault) → IsUndamaged {T = Stepped} (Err fault) → (stamped : List (List ℕ)) (started acting : List Who)
       → AreIn started acting s a → Adds old next (Leads (Together stamped started acting) (BothAt stamped s a)

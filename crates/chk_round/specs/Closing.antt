@@ -13,7 +13,7 @@ use Rattle.chk_archive.specs.declared.report.Report.{Report}
 use Rattle.chk_archive.specs.Archived.{RunDone}
 use Rattle.chk_archive.specs.Reporting.{report_view}
 use Rattle.chk_round.specs.declared.faults.RoundFault.{RoundFault}
-use Rattle.chk_round.specs.declared.faults.RoundFault.TheVariants.{Damaged, Spent, Checkpoint, Length, Refused}
+use Rattle.chk_round.specs.declared.faults.RoundFault.TheVariants.{Damaged, Length, Shrank, Spent, Checkpoint, Refused}
 use Rattle.chk_round.specs.Joint.{OnlyStopped}
 use Rattle.chk_round.specs.Spent.{IsSpentArchive}
 
@@ -31,5 +31,6 @@ Closed stamped s a (Err (Damaged name at)) history = OnlyStopped stamped history
 Closed stamped s a (Err (Checkpoint at)) history = OnlyStopped stamped history
 Closed stamped s a (Err (Refused code)) history = OnlyStopped stamped history
 Closed stamped s a (Err (Length stem got want)) history = ⊥
+Closed stamped s a (Err (Shrank path had is)) history = OnlyStopped stamped history
 Closed stamped s a (Err (Spent n)) history = AtTold stamped job (IsSpentArchive n) history
 Closed stamped s a (Err fault) history = Legal stamped history

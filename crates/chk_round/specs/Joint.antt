@@ -13,7 +13,7 @@ use Rattle.chk_agent.specs.Facts.{Matches as AgentMatches}
 use Rattle.chk_agent.specs.States.{State as Agents, process as agent_of}
 use Rattle.chk_drain.specs.Parts.{SameRest}
 use Rattle.chk_round.specs.declared.faults.RoundFault.{RoundFault}
-use Rattle.chk_round.specs.declared.faults.RoundFault.TheVariants.{Damaged, Spent, Checkpoint, Length, Refused}
+use Rattle.chk_round.specs.declared.faults.RoundFault.TheVariants.{Damaged, Length, Shrank, Spent, Checkpoint, Refused}
 use Rattle.chk_round.specs.LastPolls.{LastPoll}
 use Rattle.chk_round.specs.Spent.{LastSink, WhereRunning}
 
@@ -35,9 +35,9 @@ pub record OnlyStopped (stamped : List (List ℕ)) (history : History) : Type 0 
   pub legal : Legal stamped history
   pub never : is_stopped history ≡ false → ⊥
 
--- At Ok both know the history. Nothing of the program's own is ever damaged, the agent gets the
--- replies that were made, numbers are spent only where the start's last sink was created, and a
--- length ends it that was told by the last poll.
+-- At Ok both know the history. Nothing of the program's own is ever damaged, no log is shorter than
+-- what was read of it, the agent gets the replies that were made, numbers are spent only where the
+-- start's last sink was created, and a length ends it that was told by the last poll.
 abbrev pub GoesOn : List (List ℕ) → Sinks → Agents → Result (Unit {0}) RoundFault → History → Type 0
 GoesOn stamped s a (Ok value) history = BothAt stamped s a history
 GoesOn stamped s a (Err (Damaged name at)) history = OnlyStopped stamped history
@@ -45,6 +45,7 @@ GoesOn stamped s a (Err (Checkpoint at)) history = OnlyStopped stamped history
 GoesOn stamped s a (Err (Refused code)) history = OnlyStopped stamped history
 GoesOn stamped s a (Err (Length stem got want)) history =
     WhereRunning stamped (LastPoll s.collector stem got want) history
+GoesOn stamped s a (Err (Shrank path had is)) history = OnlyStopped stamped history
 GoesOn stamped s a (Err (Spent n)) history = WhereRunning stamped (LastSink s.collector n) history
 GoesOn stamped s a (Err fault) history = Legal stamped history
 

@@ -9,7 +9,7 @@ use Rattle.chk_world.specs.Sight.{job}
 use Rattle.chk_world.specs.Together.{Outside as OutsideOf, Together}
 use Rattle.chk_agent.specs.Facts.{Matches as AgentMatches}
 use Rattle.chk_round.specs.declared.faults.RoundFault.{RoundFault}
-use Rattle.chk_round.specs.declared.faults.RoundFault.TheVariants.{Damaged, Spent, Checkpoint, Length, Refused}
+use Rattle.chk_round.specs.declared.faults.RoundFault.TheVariants.{Damaged, Length, Shrank, Spent, Checkpoint, Refused}
 use Rattle.chk_round.specs.declared.whole_round.Rounded.{Rounded}
 use Rattle.chk_round.specs.Closing.{HasRun}
 use Rattle.chk_round.specs.Joint.{OnlyStopped}
@@ -18,8 +18,9 @@ use Rattle.chk_round.specs.Rounds.{RoundDone}
 use Rattle.chk_round.specs.Spent.{IsSpentRound, WhereRunning}
 
 -- At Ok the history is legal and as the agent knows it, and the job may act on, whose run is done.
--- Nothing of the program's own is ever damaged, the agent gets the replies that were made, where
--- numbers are spent it is said which, and a length ends it that was told by the last poll.
+-- Nothing of the program's own is ever damaged, no log is shorter than what was read of it, the agent
+-- gets the replies that were made, where numbers are spent it is said which, and a length ends it
+-- that was told by the last poll.
 abbrev pub AfterRound : List (List ℕ) → Result Rounded RoundFault → History → Type 0
 AfterRound stamped (Ok r) history =
     AgentMatches stamped r.agent history × AtTold stamped job (HasRun r.report) history
@@ -28,6 +29,7 @@ AfterRound stamped (Err (Checkpoint at)) history = OnlyStopped stamped history
 AfterRound stamped (Err (Refused code)) history = OnlyStopped stamped history
 AfterRound stamped (Err (Length stem got want)) history =
     WhereRunning stamped (LastPoll (codes "c1") stem got want) history
+AfterRound stamped (Err (Shrank path had is)) history = OnlyStopped stamped history
 AfterRound stamped (Err (Spent n)) history =
     WhereRunning stamped (IsSpentRound (codes "c1") n) history
 AfterRound stamped (Err fault) history = Legal stamped history

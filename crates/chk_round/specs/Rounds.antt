@@ -22,7 +22,7 @@ use Rattle.chk_agent.specs.Facts.{Matches as AgentMatches}
 use Rattle.chk_agent.specs.States.{State as Agents, lines_of}
 use Rattle.chk_archive.specs.declared.report.Report.{Report}
 use Rattle.chk_round.specs.declared.faults.RoundFault.{RoundFault}
-use Rattle.chk_round.specs.declared.faults.RoundFault.TheVariants.{Damaged, Spent, Checkpoint, Length, Refused}
+use Rattle.chk_round.specs.declared.faults.RoundFault.TheVariants.{Damaged, Length, Shrank, Spent, Checkpoint, Refused}
 use Rattle.chk_round.specs.Closing.{HasRun}
 use Rattle.chk_round.specs.Done.{ArchivedTo, AtRead, JobRan}
 use Rattle.chk_round.specs.Joint.{BothAt, OnlyStopped}
@@ -36,8 +36,9 @@ AllSteady a =
     (i : ℕ) (x : Adaptor) → slice_get a.adaptors i ≡ Some x → is_past x.phase ≡ false → x.phase ≡ Live
 
 -- At Ok the history is legal and as the agent knows it, and the job may act on, whose run is done.
--- Nothing of the program's own is ever damaged, the agent gets the replies that were made, where
--- numbers are spent it is said which, and a length ends it that was told by the last poll.
+-- Nothing of the program's own is ever damaged, no log is shorter than what was read of it, the agent
+-- gets the replies that were made, where numbers are spent it is said which, and a length ends it
+-- that was told by the last poll.
 abbrev pub AfterRun : List (List ℕ) → List ℕ → Agents → Result Report RoundFault → History → Type 0
 AfterRun stamped c b (Ok r) history =
     AgentMatches stamped b history × AtTold stamped job (HasRun r) history
@@ -46,6 +47,7 @@ AfterRun stamped c b (Err (Checkpoint at)) history = OnlyStopped stamped history
 AfterRun stamped c b (Err (Refused code)) history = OnlyStopped stamped history
 AfterRun stamped c b (Err (Length stem got want)) history =
     WhereRunning stamped (LastPoll c stem got want) history
+AfterRun stamped c b (Err (Shrank path had is)) history = OnlyStopped stamped history
 AfterRun stamped c b (Err (Spent n)) history = WhereRunning stamped (IsSpentRound c n) history
 AfterRun stamped c b (Err fault) history = Legal stamped history
 

@@ -19,7 +19,7 @@ use Rattle.chk_agent.specs.declared.agent.Rules.{Rules}
 use Rattle.chk_agent.specs.Starts.{IsFresh as IsFreshAgent}
 use Rattle.chk_agent.specs.States.{State as Agents}
 use Rattle.chk_round.specs.declared.faults.RoundFault.{RoundFault}
-use Rattle.chk_round.specs.declared.faults.RoundFault.TheVariants.{Outside, NoMemory, Damaged, Length, Spent, Checkpoint, Refused}
+use Rattle.chk_round.specs.declared.faults.RoundFault.TheVariants.{Outside, NoMemory, Damaged, Length, Shrank, Spent, Checkpoint, Refused}
 use Rattle.chk_round.specs.declared.starting.Pair.{Pair}
 use Rattle.chk_round.specs.declared.words.Limits.{Limits}
 use Rattle.chk_round.specs.declared.words.RoundWords.{RoundWords}
@@ -52,6 +52,7 @@ Met stamped (Err (Damaged name at)) history = OnlyStopped stamped history
 Met stamped (Err (Checkpoint at)) history = OnlyStopped stamped history
 Met stamped (Err (Refused code)) history = OnlyStopped stamped history
 Met stamped (Err (Length stem got want)) history = ⊥
+Met stamped (Err (Shrank path had is)) history = OnlyStopped stamped history
 Met stamped (Err (Spent n)) history =
     AtTold stamped c1 (λ front. (n ≡ last_number)
     × (number_in (file (files_after front) (BornFile (codes "c1"))) ≡ last_number)) history

@@ -16,7 +16,7 @@ use Rattle.chk_agent.specs.States.{lines_of}
 use Rattle.chk_archive.specs.Reporting.{report_view}
 use Rattle.chk_prints.specs.Printing.{printed}
 use Rattle.chk_round.specs.declared.faults.RoundFault.{RoundFault}
-use Rattle.chk_round.specs.declared.faults.RoundFault.TheVariants.{Outside, NoMemory, Damaged, Length, Spent, Checkpoint, Refused}
+use Rattle.chk_round.specs.declared.faults.RoundFault.TheVariants.{Outside, NoMemory, Damaged, Length, Shrank, Spent, Checkpoint, Refused}
 use Rattle.chk_round.specs.declared.whole_round.Rounded.{Rounded}
 use Rattle.chk_round.specs.Calls.{RoundActs}
 use Rattle.chk_round.specs.Done.{ArchivedTo}
@@ -80,15 +80,16 @@ EndsByCall result added history = Unit {0}
 
 -- ---- from a legal history
 
--- The history is legal. Nothing of the program's own is ever damaged, the agent gets the replies that
--- were made, where numbers are spent it is said which, and a length ends it that was told by the
--- last poll.
+-- The history is legal. Nothing of the program's own is ever damaged, no log is shorter than what was
+-- read of it, the agent gets the replies that were made, where numbers are spent it is said which, and
+-- a length ends it that was told by the last poll.
 abbrev pub AfterRun : List (List ℕ) → Result (Unit {0}) RoundEnd → History → Type 0
 AfterRun stamped (Err (Fault (Damaged name at))) history = OnlyStopped stamped history
 AfterRun stamped (Err (Fault (Checkpoint at))) history = OnlyStopped stamped history
 AfterRun stamped (Err (Fault (Refused code))) history = OnlyStopped stamped history
 AfterRun stamped (Err (Fault (Length stem got want))) history =
     WhereRunning stamped (LastPoll (codes "c1") stem got want) history
+AfterRun stamped (Err (Fault (Shrank path had is))) history = OnlyStopped stamped history
 AfterRun stamped (Err (Fault (Spent n))) history =
     WhereRunning stamped (IsSpentRound (codes "c1") n) history
 AfterRun stamped result history = Legal stamped history

@@ -38,7 +38,7 @@ of_round w earlier added (Damaged name at) calm shows = absurd shows.1
 of_round w earlier added (Length stem got want) calm shows = inr shows
 of_round w earlier added (Growing path reads) calm shows = inr shows.0
 of_round w earlier added (Unclosed name) calm shows = inr shows
-of_round w earlier added (Shrank path had has) calm shows = inr shows.0
+of_round w earlier added (Shrank path had has) calm shows = absurd shows.1
 of_round w earlier added (Spent n) calm shows = inr shows.1
 of_round w earlier added (Refused code) calm shows = absurd shows.1
 
@@ -71,7 +71,7 @@ of_drain w earlier added (Damaged name at) calm shows = inr shows.1
 of_drain w earlier added (Length stem got want) calm shows = inr shows.0
 of_drain w earlier added (Growing path reads) calm shows = inr shows.0
 of_drain w earlier added (Unclosed name) calm shows = absurd shows.0
-of_drain w earlier added (Shrank path had has) calm shows = inr shows.0
+of_drain w earlier added (Shrank path had has) calm shows = absurd shows.1
 of_drain w earlier added (Spent n) calm shows = absurd shows.0
 of_drain w earlier added (Refused code) calm shows = inr shows.0
 
@@ -115,7 +115,7 @@ of_load lines earlier added (Damaged name at) calm shows = absurd shows.1
 of_load lines earlier added (Length stem got want) calm shows = inr (shows.0.fault, shows.1)
 of_load lines earlier added (Growing path reads) calm shows = inr shows.0.fault
 of_load lines earlier added (Unclosed name) calm shows = inr shows.1
-of_load lines earlier added (Shrank path had has) calm shows = inr shows.0.fault
+of_load lines earlier added (Shrank path had has) calm shows = absurd shows.1
 of_load lines earlier added (Spent n) calm shows = inr (shows.0.fault, shows.1)
 of_load lines earlier added (Refused code) calm shows = absurd shows.1
 

@@ -118,32 +118,54 @@ module _ (w : DrainAsked) where
   cut_so (drains.Refused code) e added history is script last running =
       as_cut added history is script
 
+  -- what is said of a drain that is done, where others act as is supposed
+  abbrev SaysSo : List (List ℕ) → Result (Unit {0}) DrainFault → History → History → Type 0
+  SaysSo stamped result added history =
+      DoneSo stamped (setting_of w).who (setting_of w).writer w.initial result added history
+
   as_fit : (added history : History) {e f : Ending} → e ≡ f → DrainFits w history f added
       → DrainFits w history e added
   as_fit added history is shows = subst (λ (e : Ending). DrainFits w history e added) (sym is) shows
+
+  -- the drain didn't end at a log that is shorter than what was read of it
+  abbrev IsLongEnd : DrainFault → Type 0
+  IsLongEnd (drains.Shrank path had size) = ⊥
+  IsLongEnd fault = Unit {0}
+
+  long_so : (stamped : List (List ℕ)) (fault : DrainFault) (added history : History)
+      → SaysSo stamped (Err fault) added history
+      → Others (Outside stamped (started_by (Drain w))) added history → Legal stamped history
+      → is_stopped (added ++ history) ≡ false → IsLongEnd fault
+  long_so stamped (drains.Shrank path had size) added history done others legal running =
+      done others legal running
+  long_so stamped (drains.Run fault) added history done others legal running = tt
+  long_so stamped (drains.Pending stem got want) added history done others legal running = tt
+  long_so stamped (drains.Growing path reads) added history done others legal running = tt
+  long_so stamped (drains.Refused code) added history done others legal running = tt
 
   fits_so : (stamped : List (List ℕ)) (fault : DrainFault) (e : Ending) (added history : History)
       → IsDrainEnding w fault e
       → DrainScript w (Err fault) history added
       → DrainEnds stamped (setting_of w).who (Err fault) (added ++ history)
+      → (is_stopped (added ++ history) ≡ false → IsLongEnd fault)
       → is_stopped (added ++ history) ≡ false → DrainFits w history e added
-  fits_so stamped (drains.Run (runs.Outside call)) e added history is script c running =
+  fits_so stamped (drains.Run (runs.Outside call)) e added history is script c long running =
       as_fit added history is tt
-  fits_so stamped (drains.Run runs.NoMemory) e added history is script c running =
+  fits_so stamped (drains.Run runs.NoMemory) e added history is script c long running =
       as_fit added history is tt
-  fits_so stamped (drains.Run (runs.Initial at)) e added history (inl is) script c running =
+  fits_so stamped (drains.Run (runs.Initial at)) e added history (inl is) script c long running =
       as_fit added history is.2 (is.1, script)
-  fits_so stamped (drains.Run (runs.Initial at)) e added history (inr is) script c running =
+  fits_so stamped (drains.Run (runs.Initial at)) e added history (inr is) script c long running =
       as_fit added history is tt
-  fits_so stamped (drains.Run (runs.Checkpoint at)) e added history is script c running = absurd
+  fits_so stamped (drains.Run (runs.Checkpoint at)) e added history is script c long running = absurd
       (c.alive running)
-  fits_so stamped (drains.Pending stem got want) e added history is script c running =
+  fits_so stamped (drains.Pending stem got want) e added history is script c long running =
       as_fit added history is tt
-  fits_so stamped (drains.Growing path reads) e added history is script c running =
+  fits_so stamped (drains.Growing path reads) e added history is script c long running =
       as_fit added history is tt
-  fits_so stamped (drains.Shrank path had size) e added history is script c running =
-      as_fit added history is tt
-  fits_so stamped (drains.Refused code) e added history is script c running =
+  fits_so stamped (drains.Shrank path had size) e added history is script c long running = absurd
+      (long running)
+  fits_so stamped (drains.Refused code) e added history is script c long running =
       as_fit added history is tt
 
   legal_so : (stamped : List (List ℕ)) (result : Result (Unit {0}) DrainFault) (h : History)
@@ -202,11 +224,6 @@ module _ (w : DrainAsked) where
     stopped = λ stop. tt;
   }
 
-  -- what is said of a drain that is done, where others act as is supposed
-  abbrev SaysSo : List (List ℕ) → Result (Unit {0}) DrainFault → History → History → Type 0
-  SaysSo stamped result added history =
-      DoneSo stamped (setting_of w).who (setting_of w).writer w.initial result added history
-
   came_legally : (stamped : List (List ℕ)) (result : Result (Unit {0}) DrainFault)
       (r : Result (Unit {0}) Ending)
       (added history : History) → IsResultOf result r → IsAt result added history
@@ -224,7 +241,8 @@ module _ (w : DrainAsked) where
         running =
             λ run. (
               cut_so fault e added history is at.script at.last run,
-              fits_so stamped fault e added history is at.script c run,
+              fits_so stamped fault e added history is at.script c
+                  (long_so stamped fault added history done others legal) run,
             );
         stopped = λ stop. tt;
       }

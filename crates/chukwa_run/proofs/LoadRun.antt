@@ -135,8 +135,7 @@ module _ (lines : ℕ) where
       subst (λ (e : Ending). LoadFits lines history e added) (sym is) (c.alive running)
   round_fits stamped (rounds.Growing path reads) e added history is c running =
       subst (λ (e : Ending). LoadFits lines history e added) (sym is) tt
-  round_fits stamped (rounds.Shrank path had size) e added history is c running =
-      subst (λ (e : Ending). LoadFits lines history e added) (sym is) tt
+  round_fits stamped (rounds.Shrank path had size) e added history is c running = absurd (c.never running)
   round_fits stamped (rounds.Spent number) e added history is c running =
       subst (λ (e : Ending). LoadFits lines history e added) (sym is) (c.alive running)
   round_fits stamped (rounds.Refused code) e added history is c running = absurd (c.never running)
@@ -157,7 +156,7 @@ module _ (lines : ℕ) where
   round_legal stamped (rounds.Checkpoint at) h c = c.legal
   round_legal stamped (rounds.Length stem got want) h c = c.legal
   round_legal stamped (rounds.Growing path reads) h c = c
-  round_legal stamped (rounds.Shrank path had size) h c = c
+  round_legal stamped (rounds.Shrank path had size) h c = c.legal
   round_legal stamped (rounds.Spent number) h c = c.legal
   round_legal stamped (rounds.Refused code) h c = c.legal
 

@@ -150,7 +150,7 @@ module _ (w : RoundAsked) where
     fault_fits (rounds.Checkpoint at) e earlier added is c running = absurd (c.never running)
     fault_fits (rounds.Length stem got want) e earlier added is c running = subst (λ (e : Ending). RoundFits w earlier e added) (sym is) (c.alive running)
     fault_fits (rounds.Growing path reads) e earlier added is c running = subst (λ (e : Ending). RoundFits w earlier e added) (sym is) tt
-    fault_fits (rounds.Shrank path had has) e earlier added is c running = subst (λ (e : Ending). RoundFits w earlier e added) (sym is) tt
+    fault_fits (rounds.Shrank path had has) e earlier added is c running = absurd (c.never running)
     fault_fits (rounds.Spent number) e earlier added is c running = subst (λ (e : Ending). RoundFits w earlier e added) (sym is) (c.alive running)
     fault_fits (rounds.Refused code) e earlier added is c running = absurd (c.never running)
 
@@ -169,7 +169,7 @@ module _ (w : RoundAsked) where
     fault_legal (rounds.Checkpoint at) h c = c.legal
     fault_legal (rounds.Length stem got want) h c = c.legal
     fault_legal (rounds.Growing path reads) h c = c
-    fault_legal (rounds.Shrank path had has) h c = c
+    fault_legal (rounds.Shrank path had has) h c = c.legal
     fault_legal (rounds.Spent number) h c = c.legal
     fault_legal (rounds.Refused code) h c = c.legal
 

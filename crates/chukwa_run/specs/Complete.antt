@@ -14,7 +14,7 @@ use Rattle.chk_words.specs.Commands.{RoundAsked, AgentAsked, CollectorAsked, Dra
 use Rattle.chk_words.specs.Commands.{Asked, Round, Agent, Collector, Drain, Archive, Demux, Salvage, Load}
 use Rattle.chk_words.specs.Endings.{ending_status, ending_line}
 use Rattle.chk_words.specs.declared.endings.Ending.{Ending}
-use Rattle.chk_words.specs.declared.endings.Ending.TheVariants.{Damaged, Length, Growing, Unclosed, Shrank, Spent, Refused}
+use Rattle.chk_words.specs.declared.endings.Ending.TheVariants.{Damaged, Length, Growing, Unclosed, Spent, Refused}
 use Rattle.chukwa_run.specs.Demuxing.{DemuxFits}
 use Rattle.chukwa_run.specs.Draining.{DrainScript}
 use Rattle.chukwa_run.specs.Endings.{EndedBy}
@@ -27,8 +27,7 @@ use Rattle.chukwa_run.specs.Whole.{Whole}
 
 -- a log gave bytes at each of the stated reads; a sink of another collector was under writing at the
 -- listing, and all else was done and told; numbers of starts, of sinks or of segments are spent; the
--- last poll gave a length below an answered offset, of a sink that was given up or is gone; a log was
--- shorter than its place
+-- last poll gave a length below an answered offset, of a sink that was given up or is gone
 abbrev pub LeftOfRound : RoundAsked → History → Ending → History → Type 0
 LeftOfRound w earlier (Growing path reads) added = IsRoundCut w (rounds.Growing path reads) earlier added
 LeftOfRound w earlier (Unclosed name) added =
@@ -38,8 +37,6 @@ LeftOfRound w earlier (Spent n) added = IsSpentRound (codes "c1") n (added ++ ea
 LeftOfRound w earlier (Length stem got want) added =
     IsRoundCut w (rounds.Length stem got want) earlier added
     × LastPoll (codes "c1") stem got want (added ++ earlier)
-LeftOfRound w earlier (Shrank path had has) added =
-    IsRoundCut w (rounds.Shrank path had has) earlier added
 LeftOfRound w earlier e added = ⊥
 
 -- a line of the initial file is neither blank, nor of a stream that is read, nor an accepted `add`
@@ -53,8 +50,7 @@ LeftOfCollector w earlier (Spent n) added = CollectorFits w (added ++ earlier) (
 LeftOfCollector w earlier e added = ⊥
 
 -- a line of the initial file, as of an agent; a log gave bytes at each of the stated reads; the polls
--- didn't reach an answered offset within their number; all addresses in a row gave no good reply; a
--- log was shorter than its place
+-- didn't reach an answered offset within their number; all addresses in a row gave no good reply
 abbrev pub LeftOfDrain : DrainAsked → History → Ending → History → Type 0
 LeftOfDrain w earlier (Damaged name at) added = IsBadDrainLine w name at earlier added
 LeftOfDrain w earlier (Growing path reads) added =
@@ -62,8 +58,6 @@ LeftOfDrain w earlier (Growing path reads) added =
 LeftOfDrain w earlier (Length stem got want) added =
     DrainScript w (Err (drains.Pending stem got want)) earlier added
 LeftOfDrain w earlier (Refused code) added = DrainScript w (Err (drains.Refused code)) earlier added
-LeftOfDrain w earlier (Shrank path had is) added =
-    DrainScript w (Err (drains.Shrank path had is)) earlier added
 LeftOfDrain w earlier e added = ⊥
 
 -- fewer numbers of segments are left than a run needs
@@ -92,14 +86,13 @@ LeftOfLoad lines earlier (Spent n) added =
 LeftOfLoad lines earlier (Length stem got want) added =
     IsRoundOfLoad lines (rounds.Length stem got want) earlier added
     × LastPoll (codes "c1") stem got want (added ++ earlier)
-LeftOfLoad lines earlier (Shrank path had has) added =
-    IsRoundOfLoad lines (rounds.Shrank path had has) earlier added
 LeftOfLoad lines earlier e added = ⊥
 
 -- ---- all of them
 
--- The ending may still come, and this shows it. So no failed call ends a run here; a file that isn't
--- in its grammar ends only an agent, a drain or a salvage, and refusals only a drain.
+-- The ending may still come, and this shows it. So no failed call ends a run here, and no log that is
+-- shorter than what was read of it; a file that isn't in its grammar ends only an agent, a drain or a
+-- salvage, and refusals only a drain.
 abbrev pub LeftOver : Asked → History → Ending → History → Type 0
 LeftOver (Round w) earlier e added = LeftOfRound w earlier e added
 LeftOver (Agent w) earlier e added = LeftOfAgent w earlier e added

@@ -68,13 +68,14 @@ pub record LoadCut (lines : ℕ) (earlier : History) (e : Ending) (added : Histo
   pub unprinted : of_writer done_print (own_acts added) ≡ []
   pub fault : LoadFault lines earlier e added
 
--- In a legal history nothing of the program's own is damaged, and the agent gets the replies that
--- were made. A sink of another collector under writing ends only a load that is done. Where a number
--- is spent it is that of the collector's starts, of its sinks or of the archive's segments. A length
--- was told by the last poll.
+-- In a legal history nothing of the program's own is damaged, no log is shorter than what was read of
+-- it, and the agent gets the replies that were made. A sink of another collector under writing ends
+-- only a load that is done. Where a number is spent it is that of the collector's starts, of its sinks
+-- or of the archive's segments. A length was told by the last poll.
 abbrev pub LoadFits : ℕ → History → Ending → History → Type 0
 LoadFits lines earlier (Damaged name at) added = ⊥
 LoadFits lines earlier (Refused code) added = ⊥
+LoadFits lines earlier (Shrank path had has) added = ⊥
 LoadFits lines earlier (Unclosed name) added = LoadDone lines (Err (loads.Unclosed name)) added earlier
 LoadFits lines earlier (Length stem got want) added =
     LastPoll (codes "c1") stem got want (added ++ earlier)

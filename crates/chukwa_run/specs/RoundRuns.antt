@@ -72,13 +72,14 @@ RoundCut w earlier (Shrank path had has) added = IsRoundCut w (rounds.Shrank pat
 RoundCut w earlier (Spent number) added = IsRoundCut w (rounds.Spent number) earlier added
 RoundCut w earlier (Refused code) added = IsRoundCut w (rounds.Refused code) earlier added
 
--- In a legal history nothing of its own is damaged, and the agent gets the replies that were made.
--- Where a number is spent it is that of the collector's starts, of its sinks or of the archive's
--- segments. A length was told by the last poll. Where another collector's sink is under writing, all
--- else was done and told.
+-- In a legal history nothing of its own is damaged, no log is shorter than what was read of it, and the
+-- agent gets the replies that were made. Where a number is spent it is that of the collector's starts,
+-- of its sinks or of the archive's segments. A length was told by the last poll. Where another
+-- collector's sink is under writing, all else was done and told.
 abbrev pub RoundFits : RoundAsked → History → Ending → History → Type 0
 RoundFits w earlier (Damaged name at) added = ⊥
 RoundFits w earlier (Refused code) added = ⊥
+RoundFits w earlier (Shrank path had has) added = ⊥
 RoundFits w earlier (Unclosed name) added = DoneAndTold w.source w.kind w.cluster w.logs (Err (FoundUnclosed name)) added earlier
 RoundFits w earlier (Length stem got want) added =
     LastPoll (codes "c1") stem got want (added ++ earlier)

@@ -127,9 +127,10 @@ DrainCut w earlier (Shrank path had is) added =
 DrainCut w earlier (refused_all code) added = DrainScript w (Err (drains.Refused code)) earlier added
 DrainCut w earlier e added = ⊥
 
--- in a legal history its own checkpoint is never damaged
+-- in a legal history its own checkpoint is never damaged, and no log is shorter than what was read of it
 abbrev pub DrainFits : DrainAsked → History → Ending → History → Type 0
 DrainFits w earlier (Damaged name at) added = IsBadDrainLine w name at earlier added
+DrainFits w earlier (Shrank path had is) added = ⊥
 DrainFits w earlier e added = Unit {0}
 
 -- ---- an archive run

@@ -143,6 +143,7 @@ returns-in-Ok-Shrank-clause-part g c =
     (step_talks c.reads.agent c.step.new.self c.args.adaptor c.step.result c.step.ensures.told)
     c.step.ensures.cause
     c.in-Ok-Shrank.had c.in-Ok-Shrank.is' (c.in-Ok-Shrank.is ∙ ap Ok c.in-Ok-Shrank.field-0-is)
+    c.step.ensures.told
 
 pub returns-in-Ok-Shrank-clause-told : goal.returns-in-Ok-Shrank-clause-told
 returns-in-Ok-Shrank-clause-told g c =

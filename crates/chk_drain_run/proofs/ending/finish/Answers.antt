@@ -14,7 +14,7 @@ use Rattle.chk_drain_run.specs.declared.faults.DrainFault.TheVariants.{Run}
 use Rattle.chk_drain_run.specs.Drains.{Finishes, LastOfDrain}
 use Rattle.chk_drain_run.specs.Parts.{FinishesSo}
 use Rattle.chk_drain_run.specs.Streams.{told_line}
-use Rattle.chk_drain_run.proofs.DoneParts.{idle_to, told_to, unfinished}
+use Rattle.chk_drain_run.proofs.DoneParts.{idle_to, told_to, undone_to, unfinished}
 use Rattle.chk_drain_run.proofs.Silent.{drained_silent}
 use Rattle.chk_drain_run.proofs.SameSource.{drained_source}
 use Rattle.chk_drain_run.proofs.Finished.{drain_talks, refused_undamaged, refused_last, refused_cause, undone_undamaged, undone_last, undone_cause, told_talks, told_undamaged, told_last, told_cause}
@@ -94,7 +94,7 @@ returns-in-Ok-drain g c =
     record {
       script = Finishes.undone drained fault c.in-Ok-drain.ensures.state c.undone.ensures;
       told = drain_talks s _ t c.in-Ok-drain.ensures.told;
-      done = λ stamped. unfinished stamped c.args.who.now s t fault
+      done = λ stamped. undone_to stamped c.args.who.now s t drained fault c.undone.ensures
           (c.in-Ok-drain.ensures.told stamped);
       undamaged = undone_undamaged t drained fault c.undone.ensures;
       last = undone_last t drained fault c.undone.ensures c.in-Ok-drain.ensures.last;
@@ -109,7 +109,7 @@ returns g c =
       script = Finishes.refused fault c.in-Err.ensures.state;
       told = drain_talks c.args.agent.now _ c.drain.new.agent c.in-Err.ensures.told;
       done = λ stamped. unfinished stamped c.args.who.now c.args.agent.now c.drain.new.agent
-          (Run (fault_of fault)) (c.in-Err.ensures.told stamped);
+          (fault_of fault) (c.in-Err.ensures.told stamped);
       undamaged = refused_undamaged fault c.in-Err.ensures.undamaged;
       last = refused_last fault c.in-Err.ensures.last;
       cause = refused_cause _ _ fault c.in-Err.ensures.cause;

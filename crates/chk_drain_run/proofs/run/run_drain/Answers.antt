@@ -26,7 +26,7 @@ returns-in-Err g c = record {
   told = λ stamped. unbegun_ends stamped c.args.who.now c.args.writer.now c.in-Err.fault
       (c.in-Err.ensures.told stamped);
   done = λ stamped. not_begun_so stamped c.args.who.now c.args.writer.now
-      c.args.work.now.initial (Run c.in-Err.fault) (c.in-Err.ensures.told stamped);
+      c.args.work.now.initial c.in-Err.fault (c.in-Err.ensures.told stamped);
   last = unbegun_last c.in-Err.fault c.in-Err.ensures.last;
   cause = unbegun_cause _ _ c.in-Err.fault c.in-Err.ensures.cause;
 }

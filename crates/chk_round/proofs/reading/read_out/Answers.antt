@@ -1,7 +1,7 @@
 use Rattle.std.proofs.Common.{Ok, Err, ap, ◌∙◌, refl, arith}
 use Rattle.std.proofs.lemmas.Result.{err_from_is_err_and}
 use Rattle.chk_drain.proofs.ReadingOn.{held_some}
-use Rattle.chk_round.proofs.Stepping.{ended_lives, ended_on, ended_script, ended_sends, grown_script, shrank_script, unposted_script, unread_script, growing_cause, growing_legal, held_ends, held_is, held_next, held_smaller, held_so, read_smaller, reading_ended, reading_fails, reading_none, reading_read, reading_stops, shrank_cause, shrank_legal, stepped_acts, still_there}
+use Rattle.chk_round.proofs.Stepping.{ended_lives, ended_on, ended_script, ended_sends, grown_script, shrank_script, unposted_script, unread_script, growing_cause, growing_legal, held_ends, held_is, held_next, held_smaller, held_so, read_smaller, reading_ended, reading_fails, reading_none, reading_read, reading_shrinks, reading_stops, shrank_cause, stepped_acts, still_there}
 use Rattle.chk_agent.specs.declared.answers.Stepped.{Stepped}
 use Rattle.chk_round.specs.Faults.{of_agent}
 use Rattle.chk_round.proofs.Ends.{agent_last}
@@ -116,9 +116,9 @@ shrank-requires g c =
 
 pub returns-in-Shrank-clause-read : goal.returns-in-Shrank-clause-read
 returns-in-Shrank-clause-read g c =
-    reading_stops c.args.adaptor c.reads.count c.args.reads c.args.collector.now c.reads.collector c.args.agent.now c.reads.agent
+    reading_shrinks c.args.adaptor c.reads.count c.args.reads c.args.collector.now c.reads.collector c.args.agent.now c.reads.agent
     c.reads.invariant c.step.new.self (Ok c.in_ok-step.step) c.in_ok-step.ensures.told c.in_ok-step.ensures.state
-    c.shrank.result (shrank_legal c.shrank.ensures.kind.1)
+    c.in-Shrank.had c.in-Shrank.is' (ap Ok c.in-Shrank.is) c.shrank.ensures.kind.1
 
 pub returns-in-Shrank-clause-cause : goal.returns-in-Shrank-clause-cause
 returns-in-Shrank-clause-cause g c =

@@ -22,7 +22,7 @@ use Rattle.chk_agent.specs.Fields.{agent_view}
 use Rattle.chk_agent.specs.Within.{chunk_made}
 use Rattle.chk_agent.proofs.Soundness.{below_at}
 use Rattle.chk_agent.proofs.SteppingTold.{kept_told}
-use Rattle.chk_agent.proofs.SteppingExits.{if_ok, set_there, was_stepped, at_index, put_is, undone_is, own_state, made_sound, made_state, made_on, undone_state, chunk_is, chunk_valid, chunk_next, chunk_known, end_on, after_of}
+use Rattle.chk_agent.proofs.SteppingExits.{if_ok, set_there, was_stepped, at_index, put_is, undone_is, own_state, made_sound, made_state, made_on, undone_state, chunk_is, chunk_valid, chunk_next, chunk_known, end_on, short_on, after_of}
 use Rattle.chk_agent.proofs.agent.Agent.step.Goals as goal
 
 pub keep-requires-clause-valid : goal.keep-requires-clause-valid
@@ -340,7 +340,7 @@ returns-in-Shrank-clause-told g c stamped =
     let m = was_stepped c.self.inside.who s x a b (Ok c.in_ok-step.step) (Ok (is_short c.in-Shrank.had c.in-Shrank.is')) c.self.invariant.role refl same (ap Ok c.in-Shrank.is) c.in_ok-step.ensures.state c.in_ok-step.ensures.named c.in_ok-step.ensures.placed in
     let ready = ap (λ (s : State). s.ready) c.self.view_is ∙ c.requires.ready in
     rw (← c.self.view_is)
-    (after_of stamped s _ i _ (λ h. tt) (made_on s sound i a b at (is_short c.in-Shrank.had c.in-Shrank.is') m.step stamped ready m.named m.placed tt s.delivery refl))
+    (short_on s sound i a b at c.in-Shrank.had c.in-Shrank.is' m.step stamped ready m.named m.placed)
 
 pub invariant_of-self-in-Shrank : goal.invariant_of-self-in-Shrank
 invariant_of-self-in-Shrank g c =
