@@ -10,7 +10,7 @@ const VINTS: &str = "\
 %22 => 34 1
 %7F => 127 1
 %8F%80 => 128 2
-%8F%C8 => 200 2
+%8F%c8 => 200 2
 %8E%01%00 => 256 3
 %8D%01%00%00 => 65536 4
 %8C%7F%FF%FF%FF => 2147483647 5
@@ -31,7 +31,7 @@ const WORDS: &str = "\
  => Empty
 größe => word
 a b%FF => NotUtf8 { at: 3 }
-a%C3 => NotUtf8 { at: 1 }
+a%c3 => NotUtf8 { at: 1 }
 ab c => NotWord { at: 2 }
 a%7F%0A => NotWord { at: 1 }
 ";
@@ -289,7 +289,7 @@ collector;;x;64; => fits
 collector;;x;65; => none
 line;; ;16384; => blank
 line;; ;16385; => LongLine 6
-salvaged;SEQ%06%CL%CL%ZZ%MK%7F%00%07%C8%00%00%00%1E%00%00%00%1A%01%ZZ%00%06%00%02h1%00%03Log%00%06/a.log%00%00%07%A6;%00;1958;%FF%FF%FF%FF%MK%00%00%00%28%00%00%00%1E%00%00%00%1A%01%ZZ%00%06%00%02h1%00%03Log%00%06/a.log%00%00%00%06hello%0A => entry 2116 2164 skipped 96 2096
+salvaged;SEQ%06%CL%CL%ZZ%MK%7F%00%07%c8%00%00%00%1E%00%00%00%1A%01%ZZ%00%06%00%02h1%00%03Log%00%06/a.log%00%00%07%A6;%00;1958;%FF%FF%FF%FF%MK%00%00%00%28%00%00%00%1E%00%00%00%1A%01%ZZ%00%06%00%02h1%00%03Log%00%06/a.log%00%00%00%06hello%0A => entry 2116 2164 skipped 96 2096
 post;;a;4194305; => TooLong { limit: 4194304, found: 4194305 }
 ";
 

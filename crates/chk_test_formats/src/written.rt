@@ -15,7 +15,7 @@ vint 0 %00
 vint 34 %22
 vint 127 %7F
 vint 128 %8F%80
-vint 200 %8F%C8
+vint 200 %8F%c8
 vint 256 %8E%01%00
 vint 65536 %8D%01%00%00
 vint 2147483647 %8C%7F%FF%FF%FF
