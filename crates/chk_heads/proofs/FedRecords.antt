@@ -39,7 +39,7 @@ module _ (most : ℕ) (r : Placed) (c : Chunk) (is : chunk_of most r ≡ Some c)
   one_head : (file : ℕ) → filter_map (head_at most file) (r ∷ []) ≡ head_of file r.at c ∷ []
   one_head file = rw is refl
 
-  chunks_more : (more : List Placed) → AreChunks most more → AreChunks most (more ++ r ∷ [])
+  pub chunks_more : (more : List Placed) → AreChunks most more → AreChunks most (more ++ r ∷ [])
   chunks_more more all =
       let a = ap length (filter_map-append (chunk_of most) more (r ∷ [])) in
       let b = length-append (filter_map (chunk_of most) more) (filter_map (chunk_of most) (r ∷ [])) in
@@ -47,7 +47,7 @@ module _ (most : ℕ) (r : Placed) (c : Chunk) (is : chunk_of most r ≡ Some c)
       let e = length-append more (r ∷ []) in
       omega arith
 
-  heads_more : (file : ℕ) (more : List Placed) → filter_map (head_at most file) (more ++ r ∷ []) ≡ filter_map (head_at most file) more ++ head_of file r.at c ∷ []
+  pub heads_more : (file : ℕ) (more : List Placed) → filter_map (head_at most file) (more ++ r ∷ []) ≡ filter_map (head_at most file) more ++ head_of file r.at c ∷ []
   heads_more file more = filter_map-append (head_at most file) more (r ∷ []) ∙ ap (λ hs. filter_map (head_at most file) more ++ hs) (one_head file)
 
 -- what was gone over, and then one answer

@@ -1,7 +1,7 @@
 -- A file that is gathered, piece by piece.
-use Rattle.std.proofs.Common.{◌≡◌, ◌⊎◌, inl, inr, ℕ, ◌+◌, ◌-◌, ◌<◌, ◌^◌, min, List, [], ◌++◌, length, take, drop, Option, Some, None, Ok, Err, Result, refl, sym, ap, subst, ◌∙◌, append_assoc, append-nil, arith, length-append, length-take}
-use Rattle.std.specs.Prelude.{filter_map}
-use Rattle.std.proofs.lemmas.List.{take_at, nil_from_length, take-append-drop, take-append-le, take_all}
+use Rattle.std.proofs.Common.{◌≡◌, ◌⊎◌, inl, inr, ℕ, zero, suc, ◌+◌, ◌-◌, ◌<◌, ◌≤◌, ◌^◌, min, List, [], ◌∷◌, ◌++◌, length, take, drop, Option, Some, None, Ok, Err, Result, refl, sym, ap, ap₂, subst, ◌∙◌, append_assoc, append-nil, arith, length-append, length-take}
+use Rattle.std.specs.Prelude.{filter_map, unwrap_or, true}
+use Rattle.std.proofs.lemmas.List.{take_at, nil_from_length, length-drop, length-take-le, take-append-drop, take-append-le, take_all, drop-drop}
 use Rattle.std.proofs.lemmas.List.Elements.{filter_map-append}
 use Rattle.std.proofs.Math.Seq.{drop-append_seam}
 use Rattle.chk_bytes.specs.Words.{BeginsWith}
@@ -14,98 +14,108 @@ use Rattle.chk_site.specs.Site.{Adds, LastFailed}
 use Rattle.chk_site.specs.Runs.{anyhow, Leads}
 use Rattle.chk_site.proofs.Runs.{adds_then, adds_as, every_join}
 use Rattle.chk_site.proofs.Leads.{leads_then, leads_none, owned_anyhow}
-use Rattle.chk_replace.specs.Load.{asks_at, Has}
+use Rattle.chk_replace.specs.Load.{Has}
 use Rattle.chk_replace.proofs.CallSteps.{last_then}
-use Rattle.chk_seqfile.specs.Headers.{read_header, read_fields, read_front}
+use Rattle.chk_seqfile.specs.Headers.{read_header}
 use Rattle.chk_seqfile.specs.declared.headers.HeaderFault.TheVariants.{Short}
 use Rattle.chk_seqfile.specs.declared.entries.Why.TheVariants.{Torn}
-use Rattle.chk_seqfile.specs.Entries.{IsSequenceFile, records_of}
+use Rattle.chk_seqfile.specs.Entries.{IsSequenceFile, Placed, records_of}
 use Rattle.chk_salvage.specs.declared.pieces.Pieces.{Pieces}
+use Rattle.chk_salvage.specs.declared.fed.Ahead.{Ahead}
 use Rattle.chk_salvage.specs.declared.fed.Fed.TheVariants.{More}
 use Rattle.chk_salvage.specs.Front.{IsReadSo, DamageAt}
-use Rattle.chk_salvage.specs.Feeding.{fed_place, fed_limit, fed_marker, IsFed, IsFedSo, Stands}
+use Rattle.chk_salvage.specs.Feeding.{fed_place, fed_rest, fed_limit, fed_marker, IsFed, Stands}
+use Rattle.chk_salvage.specs.Ahead.{IsAhead, IsWholeBy, placed_ahead}
 use Rattle.chk_salvage.proofs.FeedLemmas.{records_of-nil}
 use Rattle.chk_world.specs.JobSteps.{SparesFile}
 use Rattle.chk_heads.specs.declared.fault.JobFault.{JobFault}
 use Rattle.chk_heads.specs.declared.fault.JobFault.TheVariants.{Outside, Damaged, Spent, NoMemory}
 use Rattle.chk_heads.specs.Faults.{job_fault, FailsLast, IsDamage}
-use Rattle.chk_heads.specs.Heads.{Head, head_at, heads_in}
-use Rattle.chk_heads.specs.Feeding.{AreChunks, limit_of, WentOver, IsSpoiled, IsBadAt, no_header, torn, spoiled}
-use Rattle.chk_heads.specs.Pieces.{bytes_in, HasBytes}
+use Rattle.chk_heads.specs.Heads.{Head, head_of, head_at, heads_in, IsTaken}
+use Rattle.chk_heads.specs.Feeding.{AreChunks, limit_of, WentOver, TookFed, TookAhead, FedFrom, IsSpoiled, IsBadAt, no_header, torn, spoiled}
+use Rattle.chk_heads.specs.Pieces.{bytes_in, asks_for, HasBytes}
 use Rattle.chk_heads.specs.Gathered.{Gathered, GatheredFile, EndsSo}
-use Rattle.chk_heads.proofs.FedRecords.{both_chunks}
+use Rattle.chk_heads.proofs.FedRecords.{both_chunks, chunks_more, heads_more}
 
--- these bytes are a front of the file, and it is still this one
-abbrev pub HasFront : List ℕ → Option File → List ℕ → History → Type 0
-HasFront name f fed history = Has name f history × BeginsWith (bytes_in f) fed
-
--- a front of the file was fed, and the heads of its records stand behind the others
-pub record IsGathered (old now : Option History) (name : List ℕ) (most file : ℕ) (p : Pieces) (at : ℕ) (hs ks : List Head) : Type 0 where
-  pub fed : List ℕ
+-- all of these bytes was fed or passed over, and the heads of its records up to the reader's place stand behind the others
+pub record HasTaken (most file : ℕ) (p : Pieces) (at : ℕ) (hs ks : List Head) (fed : List ℕ) : Type 0 where
   pub state : IsFed p fed
-  pub limit : fed_limit p ≡ limit_of most
   pub size : at ≡ length fed
-  pub small : at < 2 ^ 63
   pub chunks : AreChunks most (records_of (take (fed_place p) fed))
   pub heads : ks ≡ hs ++ filter_map (head_at most file) (records_of (take (fed_place p) fed))
-  pub stands : Stands (fed_limit p) fed (fed_marker p) (fed_place p) More
-  pub raw : (f : Option File) → IsSmallFile f → Adds old now (Leads (anyhow (SparesFile name)) (Has name f) (HasFront name f fed))
+
+-- it is so of a front of the file, and it is still this one
+abbrev pub HasFront : List ℕ → Option File → ℕ → ℕ → Pieces → ℕ → List Head → List Head → History → Type 0
+HasFront name f most file p at hs ks history =
+    Has name f history × (fed : List ℕ) × BeginsWith (bytes_in f) fed × HasTaken most file p at hs ks fed
+
+-- it is so of some bytes, and of a front of each file that the history bears out
+pub record IsGathered (old now : Option History) (name : List ℕ) (most file : ℕ) (p : Pieces) (at : ℕ) (hs ks : List Head) : Type 0 where
+  pub some : List ℕ
+  pub taken : HasTaken most file p at hs ks some
+  pub limit : fed_limit p ≡ limit_of most
+  pub small : at < 2 ^ 63
+  pub raw : (f : Option File) → IsSmallFile f
+      → Adds old now (Leads (anyhow (SparesFile name)) (Has name f) (HasFront name f most file p at hs ks))
 
 -- ---- the bytes
-
-front_more : (fed piece : List ℕ) (at : ℕ) (f : Option File) → at ≡ length fed → piece ≡ take (asks_at at) (drop at (bytes_in f))
-    → BeginsWith (bytes_in f) fed → BeginsWith (bytes_in f) (fed ++ piece)
-front_more fed piece at f here given front =
-    let rest = front.0 in
-    let n = asks_at at in
-    let left : drop at (bytes_in f) ≡ rest = ap (λ k. drop k (bytes_in f)) here ∙ (ap (drop (length fed)) front.1 ∙ drop-append_seam fed rest) in
-    let is : piece ≡ take n rest = given ∙ ap (take n) left in (
-      drop n rest,
-      front.1 ∙ (ap (λ t. fed ++ t) (sym (take-append-drop n rest)) ∙ (sym (append_assoc fed (take n rest) (drop n rest))
-          ∙ ap (λ t. (fed ++ t) ++ drop n rest) (sym is))),
-    )
 
 small_bytes : (f : Option File) → IsSmallFile f → length (bytes_in f) < 2 ^ 63
 small_bytes None small = omega arith
 small_bytes (Some file) small = small
 
-front_whole : (fed piece : List ℕ) (at : ℕ) (f : Option File) → at ≡ length fed → length piece ≡ 0 → IsSmallFile f
-    → piece ≡ take (asks_at at) (drop at (bytes_in f)) → BeginsWith (bytes_in f) fed → bytes_in f ≡ fed
-front_whole fed piece at f here empty small given front =
-    let rest = front.0 in
-    let n = asks_at at in
-    let left : drop at (bytes_in f) ≡ rest = ap (λ k. drop k (bytes_in f)) here ∙ (ap (drop (length fed)) front.1 ∙ drop-append_seam fed rest) in
-    let is : piece ≡ take n rest = given ∙ ap (take n) left in
-    let few : length piece ≡ min n (length rest) = ap length is ∙ length-take n rest in
-    let all : length (bytes_in f) ≡ length fed + length rest = ap length front.1 ∙ length-append fed rest in
-    let size = small_bytes f small in
-    let none : rest ≡ [] = nil_from_length rest (omega arith) in
-    front.1 ∙ (ap (λ t. fed ++ t) none ∙ append-nil fed)
+-- what is behind a front of some bytes, from a place on
+module _ (bytes fed rest : List ℕ) (at from : ℕ) (here : at ≡ length fed) (on : at ≤ from) (front : bytes ≡ fed ++ rest) where
+  left : drop from bytes ≡ drop (from - at) rest
+  left =
+      let sum : at + (from - at) ≡ from = omega arith in
+      ap (λ n. drop n bytes) (sym sum) ∙ sym (drop-drop (from - at) at bytes)
+      ∙ ap (drop (from - at)) (ap₂ (λ n b. drop n b) here front ∙ drop-append_seam fed rest)
 
--- one piece more is known of the file
-with_piece : (name : List ℕ) (f : Option File) (fed piece : List ℕ) (at : ℕ) (B : History → Type 0) {old mid new : Option History}
-    → ((h : History) → Has name f h → BeginsWith (bytes_in f) fed → piece ≡ take (asks_at at) (drop at (bytes_in f)) → B h)
-    → Adds old mid (Leads (anyhow (SparesFile name)) (Has name f) (HasFront name f fed))
-    → Adds mid new (Leads (anyhow (SparesFile name)) (Has name f) (HasBytes name at f (Ok piece)))
+  -- where a piece is read there, what lies before it was passed over
+  piece_behind : (n : ℕ) (piece : List ℕ) → piece ≡ take n (drop from bytes) → 0 < length piece
+      → (missing : List ℕ) × (length fed + length missing ≡ from) × BeginsWith bytes (fed ++ (missing ++ piece))
+  piece_behind n piece given some =
+      let missing : List ℕ = take (from - at) rest in
+      let more : List ℕ = drop (from - at) rest in
+      let is : piece ≡ take n more = given ∙ ap (take n) left in
+      let few : length piece ≡ min n (length more) = ap length is ∙ length-take n more in
+      let size : length missing ≡ from - at = length-take-le (from - at) rest (omega (arith, few, some, length-drop (from - at) rest)) in
+      let parts : rest ≡ missing ++ (piece ++ drop n more) =
+      sym (take-append-drop (from - at) rest)
+      ∙ ap (λ x. missing ++ x) (sym (take-append-drop n more) ∙ ap (λ x. x ++ drop n more) (sym is)) in (
+        missing,
+        omega (arith, size, here, on),
+        (
+          drop n more,
+          front ∙ ap (λ x. fed ++ x) (parts ∙ sym (append_assoc missing piece (drop n more))) ∙ sym (append_assoc fed (missing ++ piece) (drop n more)),
+        ),
+      )
+
+-- where nothing is read there, the bytes have ended
+ended_before : (bytes : List ℕ) (from n : ℕ) (piece : List ℕ) → piece ≡ take (asks_for n from) (drop from bytes) → length piece ≡ 0 → 0 < n
+    → length bytes < 2 ^ 63 → length bytes ≤ from
+ended_before bytes from n piece given empty some low =
+    let few : length piece ≡ min (asks_for n from) (length (drop from bytes)) = ap length given ∙ length-take (asks_for n from) (drop from bytes) in
+    omega (arith, few, empty, some, low, length-drop from bytes)
+
+-- a piece is known of the file
+with_piece : (name : List ℕ) (f : Option File) (most file : ℕ) (p : Pieces) (at from n : ℕ) (hs ks : List Head) (piece : List ℕ) (B : History → Type 0)
+    {old mid new : Option History}
+    → ((h : History) → Has name f h → (fed : List ℕ) → BeginsWith (bytes_in f) fed → HasTaken most file p at hs ks fed
+    → piece ≡ take (asks_for n from) (drop from (bytes_in f)) → B h)
+    → Adds old mid (Leads (anyhow (SparesFile name)) (Has name f) (HasFront name f most file p at hs ks))
+    → Adds mid new (Leads (anyhow (SparesFile name)) (Has name f) (HasBytes name from n f (Ok piece)))
     → Adds old new (Leads (anyhow (SparesFile name)) (Has name f) B)
-with_piece name f fed piece at B join so_far given =
+with_piece name f most file p at from n hs ks piece B join so_far given =
     leads_then so_far
-    (adds_as (Leads (anyhow (SparesFile name)) (HasFront name f fed) B) given
-    (λ added history x. record { leads = λ s h. let y = x.leads s h.0 in join (added ++ history) y.0 h.1 y.1; own = x.own }))
+    (adds_as (Leads (anyhow (SparesFile name)) (HasFront name f most file p at hs ks) B) given
+    (λ added history x. record {
+      leads = λ s h. let y = x.leads s h.0 in join (added ++ history) y.0 h.1 h.2 h.3 y.1;
+      own = x.own;
+    }))
 
 -- ---- before the first piece
-
-no_file : IsSequenceFile [] → ⊥
-no_file s = let h = s.header in let z : ⊥ = omega (arith, ap length s.is, length-append s.head s.entries, ap length h.is) in z
-
-short_nil : read_header [] ≡ Err Short
-unfolding read_header read_fields read_front
-short_nil = refl
-
-nothing_stands : (p : Pieces) → IsFed p [] → (m : Option (List ℕ)) → IsFedSo m [] (fed_place p) → Stands (fed_limit p) [] m (fed_place p) More
-nothing_stands p state None so = short_nil
-nothing_stands p state (Some marker) so =
-    absurd (no_file (subst IsSequenceFile (take_all (fed_place p) [] (omega arith)) so.file))
 
 no_records : (place : ℕ) → records_of (take place []) ≡ []
 no_records place = ap records_of (take_all place [] (omega arith)) ∙ records_of-nil
@@ -113,113 +123,282 @@ no_records place = ap records_of (take_all place [] (omega arith)) ∙ records_o
 pub begins : (now : Option History) (name : List ℕ) (most file : ℕ) (p : Pieces) (hs : List Head) → fed_limit p ≡ limit_of most → IsFed p []
     → IsGathered now now name most file p 0 hs hs
 begins now name most file p hs limits state = record {
-  fed = [];
-  state = state;
+  some = [];
+  taken = taken;
   limit = limits;
-  size = refl;
   small = omega arith;
-  chunks = subst (AreChunks most) (sym (no_records (fed_place p))) refl;
-  heads = sym (ap (λ rs. hs ++ filter_map (head_at most file) rs) (no_records (fed_place p)) ∙ append-nil hs);
-  stands = nothing_stands p state (fed_marker p) state.so;
-  raw = λ f small. leads_none now (λ h has. (has, (bytes_in f, refl)));
+  raw = λ f small. leads_none now (λ h has. (has, [], (bytes_in f, refl), taken));
 }
+  where
+    taken : HasTaken most file p 0 hs hs []
+    taken = record {
+      state = state;
+      size = refl;
+      chunks = subst (AreChunks most) (sym (no_records (fed_place p))) refl;
+      heads = sym (ap (λ rs. hs ++ filter_map (head_at most file) rs) (no_records (fed_place p)) ∙ append-nil hs);
+    }
+
+-- ---- going on over what was fed, and then over a record that is ahead
+
+took : (most file : ℕ) (p q : Pieces) (at : ℕ) (hs ks js : List Head) (fed : List ℕ) → HasTaken most file p at hs ks fed
+    → WentOver most file p q fed ks js → HasTaken most file q at hs js fed
+took most file p q at hs ks js fed t w = record {
+  state = w.state;
+  size = t.size;
+  chunks = subst (AreChunks most) (sym w.records) (both_chunks most (records_of (take (fed_place p) fed)) w.more t.chunks w.chunks);
+  heads = w.heads
+      ∙ (ap (λ x. x ++ filter_map (head_at most file) w.more) t.heads
+      ∙ (append_assoc hs (filter_map (head_at most file) (records_of (take (fed_place p) fed))) (filter_map (head_at most file) w.more)
+      ∙ ap (λ x. hs ++ x) (sym (ap (filter_map (head_at most file)) w.records
+      ∙ filter_map-append (head_at most file) (records_of (take (fed_place p) fed)) w.more))));
+}
+
+module _ (most file : ℕ) (p q : Pieces) (at : ℕ) (hs ks js : List Head) (piece : List ℕ) (fed missing : List ℕ) (t : HasTaken most file p at hs ks fed)
+    (some : 0 < length piece) where
+  length_whole : length (fed ++ (missing ++ piece)) ≡ length fed + length missing + length piece
+  length_whole = let a = length-append fed (missing ++ piece) in let b = length-append missing piece in omega arith
+
+  -- nothing is ahead
+  onward_none : FedFrom p q None piece → js ≡ ks → length fed + length missing ≡ at
+      → HasTaken most file q (at + length piece) hs js (fed ++ (missing ++ piece))
+  onward_none fedfrom same all = record {
+    state = fedfrom.state fed missing t.state (all ∙ t.size);
+    size = let a = length_whole in omega arith;
+    chunks = subst (AreChunks most) (sym records) t.chunks;
+    heads = same ∙ t.heads ∙ ap (λ r. hs ++ filter_map (head_at most file) r) (sym records);
+  }
+    where
+      records : records_of (take (fed_place q) (fed ++ (missing ++ piece))) ≡ records_of (take (fed_place p) fed)
+      records = ap (λ n. records_of (take n (fed ++ (missing ++ piece)))) fedfrom.place
+          ∙ ap records_of (take-append-le (fed_place p) fed (missing ++ piece) t.state.within)
+
+  -- a record is
+  onward_some : (last : ℕ) → FedFrom p q (Some last) piece → TookAhead most file p ks js (Some last) → length fed + length missing ≡ last
+      → HasTaken most file q (last + length piece) hs js (fed ++ (missing ++ piece))
+  onward_some last fedfrom (a, ahead, end, taken) all = record {
+    state = fedfrom.state fed missing t.state all;
+    size = let a = length_whole in omega arith;
+    chunks = subst (AreChunks most) (sym records)
+        (chunks_more most r c.0 c.1 (records_of (take (fed_place p) fed)) t.chunks);
+    heads = c.2 ∙ ap (λ x. x ++ head_of file r.at c.0 ∷ []) t.heads
+        ∙ append_assoc hs (filter_map (head_at most file) (records_of (take (fed_place p) fed))) (head_of file r.at c.0 ∷ [])
+        ∙ ap (λ x. hs ++ x) (sym (ap (filter_map (head_at most file)) records ∙ heads_more most r c.0 c.1 file (records_of (take (fed_place p) fed))));
+  }
+    where
+      one : List ℕ
+      one = take 1 piece
+
+      size_one : length (take 1 piece) ≡ 1
+      size_one = omega (arith, length-take 1 piece, some)
+
+      upto : length fed + length (missing ++ take 1 piece) ≡ a.end
+      upto = let s = size_one in let b = length-append missing (take 1 piece) in omega (arith, end, all)
+
+      w : IsWholeBy ahead.marker fed (missing ++ take 1 piece) a
+      w = ahead.whole fed (missing ++ take 1 piece) t.state upto
+
+      r : Placed
+      r = placed_ahead a w.value
+
+      c : IsTaken true most file r ks js
+      c = taken w.value w.size
+
+      front : take (last + 1) (fed ++ (missing ++ piece)) ≡ take a.end (fed ++ (missing ++ take 1 piece))
+      front =
+          let b : List ℕ = fed ++ (missing ++ take 1 piece) in
+          let size : length b ≡ a.end = length-append fed (missing ++ take 1 piece) ∙ upto in
+          let split : fed ++ (missing ++ piece) ≡ b ++ drop 1 piece =
+          ap (λ x. fed ++ (missing ++ x)) (sym (take-append-drop 1 piece))
+          ∙ ap (λ x. fed ++ x) (sym (append_assoc missing (take 1 piece) (drop 1 piece)))
+          ∙ sym (append_assoc fed (missing ++ take 1 piece) (drop 1 piece)) in
+          ap₂ (λ n x. take n x) (sym end) split ∙ take-append-le a.end b (drop 1 piece) (omega (arith, size))
+
+      records : records_of (take (fed_place q) (fed ++ (missing ++ piece))) ≡ records_of (take (fed_place p) fed) ++ r ∷ []
+      records = ap (λ n. records_of (take n (fed ++ (missing ++ piece)))) fedfrom.place
+          ∙ ap records_of front ∙ w.records ∙ ap (λ n. records_of (take n fed) ++ r ∷ []) ahead.at
 
 -- ---- a piece more
 
-module _ (old mid new : Option History) (name : List ℕ) (most file : ℕ) (p : Pieces) (at : ℕ) (hs ks : List Head)
-    (g : IsGathered old mid name most file p at hs ks) (piece : List ℕ)
-    (given : (f : Option File) → Adds mid new (Leads (anyhow (SparesFile name)) (Has name f) (HasBytes name at f (Ok piece)))) where
-  more_raw : (f : Option File) → IsSmallFile f → Adds old new (Leads (anyhow (SparesFile name)) (Has name f) (HasFront name f (g.fed ++ piece)))
-  more_raw f small =
-      with_piece name f g.fed piece at (HasFront name f (g.fed ++ piece))
-      (λ h has front is. (has, front_more g.fed piece at f g.size is front)) (g.raw f small) (given f)
+-- as many bytes as are wanted
+abbrev zeros : ℕ → List ℕ
+zeros zero = []
+zeros (suc n) = 0 ∷ zeros n
 
-  -- what is known of the reader that it was fed to
-  module _ (q : Pieces) (fed : (b : List ℕ) → IsFed p b → IsFed q (b ++ piece))
-      (same : (fed_limit q ≡ fed_limit p) × (fed_marker q ≡ fed_marker p) × (fed_place q ≡ fed_place p)) where
-    pub fed_state : IsFed q (g.fed ++ piece)
-    fed_state = fed g.fed g.state
+length-zeros : (n : ℕ) → length (zeros n) ≡ n
+length-zeros zero = refl
+length-zeros (suc n) = ap suc (length-zeros n)
 
-    old_records : records_of (take (fed_place q) (g.fed ++ piece)) ≡ records_of (take (fed_place p) g.fed)
-    old_records =
-        ap (λ k. records_of (take k (g.fed ++ piece))) same.2
-        ∙ ap records_of (take-append-le (fed_place p) g.fed piece g.state.within)
+-- the reader was fed all from its place on
+all_fed : (p : Pieces) (fed : List ℕ) → IsFed p fed → length fed ≡ fed_place p + length (fed_rest p)
+all_fed p fed h = let within = h.within in let rest = ap length h.rest in omega (arith, length-drop (fed_place p) fed)
 
-    pub old_chunks : AreChunks most (records_of (take (fed_place q) (g.fed ++ piece)))
-    old_chunks = subst (AreChunks most) (sym old_records) g.chunks
+-- the next read begins where all was fed, or past it
+from_on : (most file : ℕ) (p : Pieces) (at : ℕ) (ks js : List Head) (fed : List ℕ) → IsFed p fed → at ≡ length fed → (last : Option ℕ)
+    → TookAhead most file p ks js last → at ≤ unwrap_or last at
+from_on most file p at ks js fed h size None same = omega arith
+from_on most file p at ks js fed h size (Some last) (a, ahead, end, taken) =
+    let all = all_fed p fed h in let owed = ahead.owed in let place = ahead.at in omega arith
 
-    pub goes_on : (r : Pieces) (next : ℕ) (js : List Head) → next ≡ at + length piece → next < 2 ^ 63 → fed_limit r ≡ fed_limit q
-        → WentOver most file q r (g.fed ++ piece) ks js → Stands (fed_limit q) (g.fed ++ piece) (fed_marker r) (fed_place r) More
-        → IsGathered old new name most file r next hs js
-    goes_on r next js is small limits w stands = record {
-      fed = g.fed ++ piece;
-      state = w.state;
-      limit = limits ∙ (same.0 ∙ g.limit);
-      size = omega (arith, is, g.size, length-append g.fed piece);
-      small = small;
-      chunks = subst (AreChunks most) (sym w.records) (both_chunks most (records_of (take (fed_place q) (g.fed ++ piece))) w.more old_chunks w.chunks);
-      heads = w.heads
-          ∙ (ap (λ t. t ++ filter_map (head_at most file) w.more) g.heads
-          ∙ (append_assoc hs (filter_map (head_at most file) (records_of (take (fed_place p) g.fed))) (filter_map (head_at most file) w.more)
-          ∙ ap (λ t. hs ++ t) (sym (ap (filter_map (head_at most file)) (w.records ∙ ap (λ t. t ++ w.more) old_records)
-          ∙ filter_map-append (head_at most file) (records_of (take (fed_place p) g.fed)) w.more))));
-      stands = subst (λ l. Stands l (g.fed ++ piece) (fed_marker r) (fed_place r) More) (sym limits) stands;
-      raw = more_raw;
-    }
+onward : (most file : ℕ) (p q : Pieces) (at : ℕ) (hs ks js : List Head) (piece fed missing : List ℕ) → HasTaken most file p at hs ks fed → 0 < length piece
+    → (last : Option ℕ) → FedFrom p q last piece → TookAhead most file p ks js last → length fed + length missing ≡ unwrap_or last at
+    → HasTaken most file q (unwrap_or last at + length piece) hs js (fed ++ (missing ++ piece))
+onward most file p q at hs ks js piece fed missing t some None fedfrom ahead all =
+    onward_none most file p q at hs ks js piece fed missing t some fedfrom ahead all
+onward most file p q at hs ks js piece fed missing t some (Some last) fedfrom ahead all =
+    onward_some most file p q at hs ks js piece fed missing t some last fedfrom ahead all
 
-    pub is_spoiled : (js : List Head) (place : ℕ) (fault : JobFault) → IsSpoiled most (fed_limit q) (g.fed ++ piece) place → IsDamage name place fault
-        → (f : Option File) → IsSmallFile f → Adds old new (Leads (anyhow (SparesFile name)) (Has name f) (GatheredFile most name f file hs js (Err fault)))
-    is_spoiled js place fault bad damage f small =
-        adds_as (Leads (anyhow (SparesFile name)) (Has name f) (GatheredFile most name f file hs js (Err fault))) (more_raw f small)
-        (λ added history x. record {
-          leads = λ s h. said fault damage (added ++ history) (x.leads s h).1;
-          own = x.own;
-        })
-      where
-        said : (fault : JobFault) → IsDamage name place fault → (h : History) → BeginsWith (bytes_in f) (g.fed ++ piece) → GatheredFile most name f file hs js (Err fault) h
-        said (Outside call) damage h front = tt
-        said (Damaged which at) damage h front = (
-          damage.0,
-          spoiled (g.fed ++ piece) front (subst (λ k. IsSpoiled most (limit_of most) (g.fed ++ piece) k) (sym damage.1)
-              (subst (λ l. IsSpoiled most l (g.fed ++ piece) place) (same.0 ∙ g.limit) bad)),
-        )
-        said (Spent number) damage h front = tt
-        said NoMemory damage h front = tt
-
--- ---- the end of the file
+-- each place lies before that at which a file counts as ended
+low_from : (most file : ℕ) (p : Pieces) (at : ℕ) (ks js : List Head) → at < 2 ^ 63 → (last : Option ℕ) → TookAhead most file p ks js last
+    → unwrap_or last at < 2 ^ 63
+low_from most file p at ks js low None same = low
+low_from most file p at ks js low (Some last) (a, ahead, end, taken) = let fits = ahead.fits in omega arith
 
 module _ (old mid new : Option History) (name : List ℕ) (most file : ℕ) (p : Pieces) (at : ℕ) (hs ks : List Head)
-    (g : IsGathered old mid name most file p at hs ks) (piece : List ℕ) (empty : length piece ≡ 0)
-    (given : (f : Option File) → Adds mid new (Leads (anyhow (SparesFile name)) (Has name f) (HasBytes name at f (Ok piece)))) where
-  pub is_ended : (result : Result (Unit {0}) JobFault) → EndsSo name g.fed (fed_place p) result
-      → (f : Option File) → IsSmallFile f → Adds old new (Leads (anyhow (SparesFile name)) (Has name f) (GatheredFile most name f file hs ks result))
-  is_ended result ends f small =
-      with_piece name f g.fed piece at (GatheredFile most name f file hs ks result)
-      (λ h has front is. said result ends h has (front_whole g.fed piece at f g.size empty small is front)) (g.raw f small) (given f)
+    (g : IsGathered old mid name most file p at hs ks) (q : Pieces) (js ms : List Head) (limits : fed_limit q ≡ fed_limit p)
+    (went : (fed : List ℕ) → IsFed p fed → AreChunks most (records_of (take (fed_place p) fed)) → TookFed most file p q fed ks js None)
+    (last : Option ℕ) (ahead : TookAhead most file q js ms last) (n : ℕ) (piece : List ℕ)
+    (given : (f : Option File) → Adds mid new (Leads (anyhow (SparesFile name)) (Has name f) (HasBytes name (unwrap_or last at) n f (Ok piece)))) where
+  -- what was fed was gone over
+  over : (fed : List ℕ) → HasTaken most file p at hs ks fed → HasTaken most file q at hs js fed
+  over fed t = took most file p q at hs ks js fed t (went fed t.state t.chunks).0
+
+  stood : (fed : List ℕ) → HasTaken most file p at hs ks fed → Stands (fed_limit q) fed (fed_marker q) (fed_place q) More
+  stood fed t = subst (λ l. Stands l fed (fed_marker q) (fed_place q) More) (sym limits) (went fed t.state t.chunks).1
+
+  begun : (fed : List ℕ) → HasTaken most file p at hs ks fed → at ≤ unwrap_or last at
+  begun fed t = from_on most file q at js ms fed (over fed t).state t.size last ahead
+
+  pub goes_on : (r : Pieces) (next : ℕ) → 0 < length piece → FedFrom q r last piece → next ≡ unwrap_or last at + length piece → next < 2 ^ 63
+      → fed_limit r ≡ fed_limit q → IsGathered old new name most file r next hs ms
+  goes_on r next some fedfrom is small same = record {
+    some = g.some ++ (zeros (unwrap_or last at - at) ++ piece);
+    taken = then g.some g.taken (zeros (unwrap_or last at - at))
+        (let b = begun g.some g.taken in let z = length-zeros (unwrap_or last at - at) in let t = g.taken.size in omega arith);
+    limit = same ∙ (limits ∙ g.limit);
+    small = small;
+    raw = λ f tiny.
+        with_piece name f most file p at (unwrap_or last at) n hs ks piece (HasFront name f most file r next hs ms)
+        (λ h has fed front t given_is.
+        let m = piece_behind (bytes_in f) fed front.0 at (unwrap_or last at) t.size (begun fed t) front.1 (asks_for n (unwrap_or last at)) piece given_is some in
+        (has, fed ++ (m.0 ++ piece), m.2, then fed t m.0 m.1))
+        (g.raw f tiny) (given f);
+  }
     where
-      said : (result : Result (Unit {0}) JobFault) → EndsSo name g.fed (fed_place p) result → (h : History) → Has name f h → bytes_in f ≡ g.fed
-          → GatheredFile most name f file hs ks result h
-      said (Ok value) ends h has whole =
-          let all : take (fed_place p) g.fed ≡ bytes_in f = take_all (fed_place p) g.fed (omega (arith, ends.2)) ∙ sym whole in (
+      then : (fed : List ℕ) → HasTaken most file p at hs ks fed → (missing : List ℕ) → length fed + length missing ≡ unwrap_or last at
+          → HasTaken most file r next hs ms (fed ++ (missing ++ piece))
+      then fed t missing all =
+          subst (λ k. HasTaken most file r k hs ms (fed ++ (missing ++ piece))) (sym is)
+          (onward most file q r at hs js ms piece fed missing (over fed t) some last fedfrom ahead all)
+
+  -- what was read ends below that place
+  pub room : length piece ≤ asks_for n (unwrap_or last at) → unwrap_or last at + length piece < 2 ^ 63
+  room few = let low = low_from most file q at js ms g.small last ahead in omega arith
+
+  pub room_fed : length piece ≤ asks_for n (unwrap_or last at) → unwrap_or last (fed_place q + length (fed_rest q)) + length piece < 2 ^ 63
+  room_fed few =
+      let here : at ≡ fed_place q + length (fed_rest q) = g.taken.size ∙ all_fed q g.some (over g.some g.taken).state in
+      subst (λ k. unwrap_or last k + length piece < 2 ^ 63) here (room few)
+
+  -- the reader goes on
+  pub further : 0 < length piece → at < unwrap_or last at + length piece
+  further some = let b = begun g.some g.taken in omega arith
+
+  -- ---- the end of the file
+
+  pub some_ends : (result : Result (Unit {0}) JobFault)
+      → ((fed : List ℕ) → IsFed q fed → Stands (fed_limit q) fed (fed_marker q) (fed_place q) More → EndsSo name fed (fed_place q) result)
+      → EndsSo name g.some (fed_place q) result
+  some_ends result ends = ends g.some (over g.some g.taken).state (stood g.some g.taken)
+
+  pub is_ended : (result : Result (Unit {0}) JobFault) → length piece ≡ 0 → 0 < n
+      → ((fed : List ℕ) → IsFed q fed → Stands (fed_limit q) fed (fed_marker q) (fed_place q) More → EndsSo name fed (fed_place q) result)
+      → (f : Option File) → IsSmallFile f → Adds old new (Leads (anyhow (SparesFile name)) (Has name f) (GatheredFile most name f file hs ms result))
+  is_ended result empty some ends f small =
+      with_piece name f most file p at (unwrap_or last at) n hs ks piece (GatheredFile most name f file hs ms result)
+      (λ h has fed front t given_is.
+      let past : length (bytes_in f) ≤ unwrap_or last at =
+      ended_before (bytes_in f) (unwrap_or last at) n piece given_is empty some (small_bytes f small) in
+      said last ahead past result h has fed front (over fed t) (ends fed (over fed t).state (stood fed t)))
+      (g.raw f small) (given f)
+    where
+      ends_here : js ≡ ms → (result : Result (Unit {0}) JobFault) → (h : History) → Has name f h → (fed : List ℕ) → bytes_in f ≡ fed
+          → HasTaken most file q at hs js fed → EndsSo name fed (fed_place q) result → GatheredFile most name f file hs ms result h
+      ends_here same (Ok value) h has fed same_bytes t ends =
+          let all : take (fed_place q) fed ≡ bytes_in f = take_all (fed_place q) fed (omega (arith, ends.2)) ∙ sym same_bytes in (
             has,
             record {
               form = subst IsSequenceFile all ends.1.file;
-              all = subst (λ b. AreChunks most (records_of b)) all g.chunks;
+              all = subst (λ b. AreChunks most (records_of b)) all t.chunks;
             },
-            g.heads ∙ ap (λ b. hs ++ filter_map (head_at most file) (records_of b)) all,
+            sym same ∙ t.heads ∙ ap (λ b. hs ++ filter_map (head_at most file) (records_of b)) all,
           )
-      said (Err (Outside call)) ends h has whole = tt
-      said (Err (Spent number)) ends h has whole = tt
-      said (Err NoMemory) ends h has whole = tt
-      said (Err (Damaged which place)) (found, end, damage) h has whole = (
+      ends_here same (Err (Outside call)) h has fed same_bytes t ends = tt
+      ends_here same (Err (Spent number)) h has fed same_bytes t ends = tt
+      ends_here same (Err NoMemory) h has fed same_bytes t ends = tt
+      ends_here same (Err (Damaged which place)) h has fed same_bytes t (found, end, damage) = (
         damage.0,
-        subst (λ b. IsBadAt most b place) (sym whole) (subst (IsBadAt most g.fed) (sym damage.1) (bad end.1)),
+        subst (λ b. IsBadAt most b place) (sym same_bytes) (subst (IsBadAt most fed) (sym damage.1) (bad end.1)),
       )
         where
-          bad : (read_header g.fed ≡ Err Short × (found ≡ 0)) ⊎ ((marker : List ℕ) × IsReadSo marker g.fed found × DamageAt marker g.fed found Torn)
-              → IsBadAt most g.fed found
+          bad : (read_header fed ≡ Err Short × (found ≡ 0)) ⊎ ((marker : List ℕ) × IsReadSo marker fed found × DamageAt marker fed found Torn)
+              → IsBadAt most fed found
           bad (inl none) = no_header none.0 none.1
-          bad (inr t) = torn t.0 t.1 t.2 (subst (λ k. AreChunks most (records_of (take k g.fed))) (sym end.0) g.chunks)
+          bad (inr torn_there) = torn torn_there.0 torn_there.1 torn_there.2
+              (subst (λ k. AreChunks most (records_of (take k fed))) (sym end.0) t.chunks)
+
+      ends_ahead : (a : Ahead) → IsAhead q a → (result : Result (Unit {0}) JobFault) → (h : History) → (fed rest : List ℕ) → bytes_in f ≡ fed ++ rest
+          → length fed + length rest < a.end → HasTaken most file q at hs js fed → EndsSo name fed (fed_place q) result
+          → GatheredFile most name f file hs ms result h
+      ends_ahead a is (Ok value) h fed rest front short t ends =
+          let all = all_fed q fed t.state in let come = is.come in let last = ends.2 in absurd (let z : ⊥ = omega arith in z)
+      ends_ahead a is (Err (Outside call)) h fed rest front short t ends = tt
+      ends_ahead a is (Err (Spent number)) h fed rest front short t ends = tt
+      ends_ahead a is (Err NoMemory) h fed rest front short t ends = tt
+      ends_ahead a is (Err (Damaged which place)) h fed rest front short t (found, end, damage) =
+          let there : place ≡ a.at = damage.1 ∙ end.0 ∙ sym is.at in
+          let torn_there = is.torn fed rest t.state short in
+          let same : take a.at (fed ++ rest) ≡ take (fed_place q) fed =
+          ap (λ k. take k (fed ++ rest)) is.at ∙ take-append-le (fed_place q) fed rest t.state.within in (
+            damage.0,
+            subst (λ b. IsBadAt most b place) (sym front) (subst (IsBadAt most (fed ++ rest)) (sym there)
+                (torn is.marker torn_there.0 torn_there.1 (subst (λ b. AreChunks most (records_of b)) (sym same) t.chunks))),
+          )
+
+      said : (o : Option ℕ) → TookAhead most file q js ms o → length (bytes_in f) ≤ unwrap_or o at → (result : Result (Unit {0}) JobFault)
+          → (h : History) → Has name f h → (fed : List ℕ) → BeginsWith (bytes_in f) fed → HasTaken most file q at hs js fed
+          → EndsSo name fed (fed_place q) result → GatheredFile most name f file hs ms result h
+      said None same past result h has fed (rest, front) t ends =
+          let all : length (bytes_in f) ≡ length fed + length rest = ap length front ∙ length-append fed rest in
+          let none : rest ≡ [] = nil_from_length rest (omega (arith, all, past, t.size)) in
+          ends_here (sym same) result h has fed (front ∙ (ap (λ x. fed ++ x) none ∙ append-nil fed)) t ends
+      said (Some l) (a, is, end, taken) past result h has fed (rest, front) t ends =
+          let all : length (bytes_in f) ≡ length fed + length rest = ap length front ∙ length-append fed rest in
+          ends_ahead a is result h fed rest front (omega (arith, all, past, end)) t ends
+
+-- ---- the file is damaged
+
+pub is_spoiled : (old now : Option History) (name : List ℕ) (most file : ℕ) (p : Pieces) (at : ℕ) (hs ks : List Head)
+    → IsGathered old now name most file p at hs ks → (js : List Head) (place : ℕ) (fault : JobFault)
+    → ((fed : List ℕ) → IsFed p fed → AreChunks most (records_of (take (fed_place p) fed)) → IsSpoiled most (fed_limit p) fed place)
+    → IsDamage name place fault
+    → (f : Option File) → IsSmallFile f → Adds old now (Leads (anyhow (SparesFile name)) (Has name f) (GatheredFile most name f file hs js (Err fault)))
+is_spoiled old now name most file p at hs ks g js place fault bad damage f small =
+    adds_as (Leads (anyhow (SparesFile name)) (Has name f) (GatheredFile most name f file hs js (Err fault))) (g.raw f small)
+    (λ added history x. record {
+      leads = λ s h. let y = x.leads s h in said fault damage (added ++ history) y.1 y.2 y.3;
+      own = x.own;
+    })
+  where
+    said : (fault : JobFault) → IsDamage name place fault → (h : History) → (fed : List ℕ) → BeginsWith (bytes_in f) fed
+        → HasTaken most file p at hs ks fed → GatheredFile most name f file hs js (Err fault) h
+    said (Outside call) damage h fed front t = tt
+    said (Damaged which at) damage h fed front t = (
+      damage.0,
+      spoiled fed front (subst (λ k. IsSpoiled most (limit_of most) fed k) (sym damage.1)
+          (subst (λ l. IsSpoiled most l fed place) g.limit (bad fed t.state t.chunks))),
+    )
+    said (Spent number) damage h fed front t = tt
+    said NoMemory damage h fed front t = tt
 
 -- ---- what each step is, and which one comes last
 

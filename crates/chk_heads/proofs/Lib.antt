@@ -5,6 +5,7 @@ pub mod PieceReads
 pub mod Rows
 pub mod Records
 pub mod FedRecords
+mod Passing
 pub mod Gathering
 pub mod WholeReads
 pub mod NoDamage

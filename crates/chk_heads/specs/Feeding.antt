@@ -1,5 +1,5 @@
 -- How heads are taken of what was fed to a reader, and where a file stops being one of chunks.
-use Rattle.std.specs.Prelude.{◌≡◌, ◌≢◌, ◌⊎◌, ℕ, ◌+◌, List, [], ◌∷◌, ◌++◌, length, take, filter_map, Option, Some, None, Err}
+use Rattle.std.specs.Prelude.{◌≡◌, ◌≢◌, ◌⊎◌, ℕ, ◌+◌, List, [], ◌∷◌, ◌++◌, length, take, filter_map, unwrap_or, true, Option, Some, None, Err}
 use Rattle.chk_bytes.specs.Words.{BeginsWith}
 use Rattle.chk_seqfile.specs.Headers.{read_header}
 use Rattle.chk_seqfile.specs.Entries.{Placed, records_of}
@@ -12,8 +12,10 @@ use Rattle.chk_salvage.specs.declared.fed.Fed.TheVariants.{More}
 use Rattle.chk_salvage.specs.Front.{IsReadSo, DamageAt}
 use Rattle.chk_salvage.specs.Longs.{IsLong}
 use Rattle.chk_salvage.specs.Feeding.{fed_place, fed_limit, fed_marker, IsFed, Stands}
+use Rattle.chk_salvage.specs.Ahead.{IsAhead, placed_ahead}
+use Rattle.chk_salvage.specs.declared.fed.Ahead.{Ahead}
 use Rattle.chk_world.specs.Books.{chunk_of}
-use Rattle.chk_heads.specs.Heads.{Head, head_at}
+use Rattle.chk_heads.specs.Heads.{Head, head_at, IsTaken}
 
 -- each of the records is a chunk of at most so many bytes
 abbrev pub AreChunks : ℕ → List Placed → Type 0
@@ -51,6 +53,24 @@ abbrev pub TookFed : ℕ → ℕ → Pieces → Pieces → List ℕ → List Hea
 TookFed most file p q fed old new None =
     WentOver most file p q fed old new × Stands (fed_limit p) fed (fed_marker q) (fed_place q) More
 TookFed most file p q fed old new (Some at) = IsSpoiled most (fed_limit p) fed at
+
+-- the head of the record that is ahead stands behind the others, whatever its value is, and its last byte stands there; or
+-- nothing was taken
+abbrev pub TookAhead : ℕ → ℕ → Pieces → List Head → List Head → Option ℕ → Type 0
+TookAhead most file p old new None = new ≡ old
+TookAhead most file p old new (Some last) = (a : Ahead) × IsAhead p a × (a.end ≡ last + 1)
+    × ((value : List ℕ) → length value ≡ a.size → IsTaken true most file (placed_ahead a value) old new)
+
+-- the place behind the last byte, if there is one
+abbrev pub behind : ℕ → Option ℕ → ℕ
+behind place None = place
+behind place (Some last) = last + 1
+
+-- the reader was fed the piece: behind what it was fed, or from the last byte of a record on, which it passed over with
+-- whatever is missing before that byte
+pub record FedFrom (p q : Pieces) (last : Option ℕ) (piece : List ℕ) : Type 0 where
+  pub place : fed_place q ≡ behind (fed_place p) last
+  pub state : (fed missing : List ℕ) → IsFed p fed → length fed + length missing ≡ unwrap_or last (length fed) → IsFed q (fed ++ (missing ++ piece))
 
 -- the file isn't one of chunks: it ends within its header, or within an entry, or a front of it can't begin one
 pub data IsBadAt (most : ℕ) (bytes : List ℕ) (at : ℕ) : Type 0 where

@@ -1,6 +1,6 @@
 //! Gathers the heads of a file's records, reading it in pieces.
 
-ghost use Rattle.std.specs.Prelude.{◌≡◌, ◌≤◌, ◌<◌, ◌++◌, ◌∷◌, [], ℕ, List, length, take, Option, IsTrue, IfOk, IfErr, OnOk, OnErr};
+ghost use Rattle.std.specs.Prelude.{◌≡◌, ◌≤◌, ◌<◌, ◌+◌, ◌^◌, ◌++◌, ◌∷◌, [], ℕ, List, length, take, Option, unwrap_or, IsTrue, IfOk, IfErr, IfSome, OnOk, OnErr};
 ghost use Rattle.chk_site.specs.Files.{File};
 ghost use Rattle.chk_site.specs.Effect.{IsSmallFile};
 ghost use Rattle.chk_site.specs.History.{Every};
@@ -11,7 +11,9 @@ ghost use Rattle.chk_chunk.specs.Keys.{has_words, has_value, is_key};
 ghost use Rattle.chk_chunk.specs.Lent.{lent_key};
 ghost use Rattle.chk_seqfile.specs.Entries.{records_of};
 ghost use Rattle.chk_salvage.specs.Views.{placed_of};
-ghost use Rattle.chk_salvage.specs.Feeding.{IsFed, fed_limit, fed_place, fed_marker, Stands};
+ghost use Rattle.chk_salvage.specs.Feeding.{IsFed, fed_limit, fed_place, fed_marker, fed_rest, Stands};
+ghost use Rattle.chk_salvage.specs.Ahead.{IsAhead};
+ghost use Rattle.chk_salvage.specs.declared.fed.Ahead.{Ahead};
 ghost use Rattle.chk_salvage.specs.declared.fed.Fed.TheVariants.{More};
 ghost use Rattle.chk_bytes.specs.Words.{is_word};
 ghost use Rattle.chk_world.specs.Sight.{job};
@@ -19,7 +21,7 @@ ghost use Rattle.chk_world.specs.JobSteps.{IsOf, ReadsFile, SparesFile};
 ghost use Rattle.chk_heads.specs.Faults.{JobCause, FailsLast, IsOfRead};
 ghost use Rattle.chk_heads.specs.Heads.{head_with, IsTaken};
 ghost use Rattle.chk_heads.specs.Pieces.{AsksInPieces};
-ghost use Rattle.chk_heads.specs.Feeding.{AreChunks, HasMore, IsEnd, TookFed};
+ghost use Rattle.chk_heads.specs.Feeding.{AreChunks, HasMore, IsEnd, TookFed, TookAhead, FedFrom};
 ghost use Rattle.chk_heads.specs.Gathered.{EndsSo};
 ghost use Rattle.chk_heads.specs.Gathered.{Gathered, GatheredFile};
 
@@ -28,7 +30,7 @@ mod order;
 use crate::JobFault;
 use crate::fault::damaged;
 use crate::origins::{Origin, number_of};
-use crate::reading::read_bytes;
+use crate::reading::{PIECE, read_bytes};
 use chk_bytes::NoMemory;
 use chk_chunk::{KeyRef, read_key};
 use chk_salvage::{EntryRef, Fed, Pieces};
@@ -36,6 +38,13 @@ use chk_site::{Site, Who};
 pub use order::HeadRef;
 use std::alloc::Global;
 use std::marker::Model;
+
+/// How many bytes that haven't come are passed over: reading so many costs more than another read.
+const PASSED: u64 = 65_536;
+
+/// How many bytes a read behind a record that is passed over asks for: the next key comes with it, and it costs one call on
+/// the machine.
+const LOOK: u32 = 16_384;
 
 /// How much longer than its value a record may say that it is. Its key and their lengths have less than this.
 pub const SLACK: u32 = 131_072;
@@ -88,8 +97,10 @@ impl Heads {
     /// that isn't there counts as empty. `Damaged` comes exactly where the file isn't one of chunks, with its name and the
     /// place from which on it isn't. After a refusal the heads are as before.
     ///
-    /// The file is read once, in pieces of at most 1,048,576 bytes. Of its bytes no more are held than such a piece and one
-    /// record. A record of a stream that isn't the one before costs a search among the streams that were seen.
+    /// The file is read in pieces of at most 1,048,576 bytes. Where 65,536 bytes of a record or more haven't come with its
+    /// key, they are passed over: the next read, of at most 16,384 bytes, begins at the record's last byte, so that it is
+    /// seen where the file ends before. The first read asks for as few. Of the file's bytes no more are held than one piece
+    /// and one record. A record of a stream that isn't the one before costs a search among the streams that were seen.
     pub fn gather<S: Site>(
         &mut self,
         alloc: Global,
@@ -144,15 +155,17 @@ impl Heads {
         let mut pieces = Pieces::new(alloc, most + SLACK);
         let mut at = 0;
         loop {
-            let piece = read_bytes(alloc, site, who, name, at)?;
-            if piece.len() == 0 {
-                return ended(alloc, &pieces, name);
-            }
-            pieces.feed(piece.as_slice())?;
-            at += piece.len() as u64;
             if let Some(place) = self.take_fed(alloc, &mut pieces, file, most)? {
                 return Err(damaged(alloc, name, place));
             }
+            let last = self.take_ahead(alloc, &pieces, file, most)?;
+            let from = last.unwrap_or(at);
+            let piece = read_bytes(alloc, site, who, name, from, amount(at, last))?;
+            if piece.len() == 0 {
+                return ended(alloc, &pieces, name);
+            }
+            feed_from(&mut pieces, last, piece.as_slice())?;
+            at = from + piece.len() as u64;
         }
     }
 
@@ -211,12 +224,44 @@ impl Heads {
             Ok(key) => key,
             Err(_) => return Ok(false),
         };
-        if !is_value(&key, found.value, most) {
+        let size = found.value.len() as u64;
+        if !is_size(&key, size, most) {
             return Ok(false);
         }
-        let begin = key.seq - found.value.len() as u64;
+        let begin = key.seq - size;
         self.push(alloc, &key, begin, file, found.at)?;
         Ok(true)
+    }
+
+    /// Puts the head of the record that is ahead behind the others, where it is a chunk of at most so many bytes and enough of
+    /// them haven't come, and says where its last byte stands.
+    fn take_ahead(
+        &mut self,
+        alloc: Global,
+        pieces: &Pieces,
+        file: u32,
+        most: u32,
+    ) -> Result<Option<u64>, NoMemory>
+        ensures ok { IfOk result (λ last. TookAhead most file pieces.now self.old self.new last) }
+        ensures err { OnErr result (self.new ≡ self.old) }
+        ensures grown { HasMore self.old self.new }
+    {
+        let Some(found) = pieces.ahead() else {
+            return Ok(None);
+        };
+        if found.end - found.at - pieces.left() < PASSED {
+            return Ok(None);
+        }
+        let key = match read_key(found.key) {
+            Ok(key) => key,
+            Err(_) => return Ok(None),
+        };
+        if !is_size(&key, found.size, most) {
+            return Ok(None);
+        }
+        let begin = key.seq - found.size;
+        self.push(alloc, &key, begin, file, found.at)?;
+        Ok(Some(found.end - 1))
     }
 
     /// Takes the heads of all records that are whole in what was fed. It says where the file can't be one of chunks,
@@ -276,11 +321,41 @@ fn ended(alloc: Global, pieces: &Pieces, name: &str) -> Result<(), JobFault>
     }
 }
 
-/// The value has at least one byte, no more than `most`, and doesn't begin before the stream's start.
-fn is_value(key: &KeyRef<'_>, value: &[u8], most: u32) -> bool
+/// A value of this size has at least one byte, no more than `most`, and doesn't begin before the stream's start.
+fn is_size(key: &KeyRef<'_>, size: u64, most: u32) -> bool
     requires { IsTrue (is_key (lent_key key.now)) }
-    ensures { result ≡ has_value most (lent_key key.now) value.now }
+    ensures is { (value : List ℕ) → length value ≡ size → result ≡ has_value most (lent_key key.now) value }
+    ensures fits { IsTrue result → size ≤ key.now.seq }
 {
-    let size = value.len() as u64;
-    size > 0 && size <= u64::from(most) && key.start + size <= key.seq
+    size > 0 && size <= u64::from(most) && key.start <= key.seq && size <= key.seq - key.start
+}
+
+/// How many bytes are asked for: few at the front and behind a record that is passed over, since others may be passed over then.
+fn amount(at: u64, last: Option<u64>) -> u32
+    ensures some { 0 < result }
+    ensures most { result ≤ 1048576 }
+{
+    if at == 0 || last.is_some() {
+        LOOK
+    } else {
+        PIECE as u32
+    }
+}
+
+/// Feeds what was read where all was fed, or at the last byte of the record that is ahead, which is passed over then.
+fn feed_from(pieces: &mut Pieces, last: Option<u64>, piece: &[u8]) -> Result<(), NoMemory>
+    requires some { 0 < length piece.now }
+    requires ahead { IfSome last (λ last. (a : Ahead) × IsAhead pieces.old a × (a.end ≡ last + 1)) }
+    requires room { unwrap_or last (fed_place pieces.old + length (fed_rest pieces.old)) + length piece.now < 2 ^ 63 }
+    ensures limit { fed_limit pieces.new ≡ fed_limit pieces.old }
+    ensures ok { OnOk result (FedFrom pieces.old pieces.new last piece.now) }
+{
+    match last {
+        Some(last) => {
+            pieces.pass(last + 1);
+            pieces.feed(&piece[1..])?;
+        }
+        None => pieces.feed(piece)?,
+    }
+    Ok(())
 }

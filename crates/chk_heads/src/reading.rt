@@ -9,7 +9,7 @@ ghost use Rattle.chk_site.specs.Runs.{anyhow, Leads};
 ghost use Rattle.chk_replace.specs.Load.{asks_at, Has, HasPiece, Loaded};
 ghost use Rattle.chk_world.specs.Sight.{job};
 ghost use Rattle.chk_world.specs.JobSteps.{IsOf, ReadsFile, SparesFile};
-ghost use Rattle.chk_heads.specs.Pieces.{AsksInPieces, HasBytes};
+ghost use Rattle.chk_heads.specs.Pieces.{AsksInPieces, asks_for, HasMost, HasBytes};
 
 use chk_bytes::Bytes;
 use chk_site::{Call, CallFault, OutsideFault, Site, Who};
@@ -38,7 +38,28 @@ pub fn read_piece<S: Site>(
     ensures last { Adds (S.told site.old) (S.told site.new) (LastFailed result) }
     ensures cause { OutsideCause (S.fault_count site.old) (S.fault_count site.new) result }
 {
-    let max = END.saturating_sub(at).min(PIECE) as u32;
+    read_most(alloc, site, who, name, at, PIECE as u32)
+}
+
+/// What a file has from a place on, at most so many bytes.
+fn read_most<S: Site>(
+    alloc: Global,
+    site: &mut S,
+    who: &Who,
+    name: &str,
+    at: u64,
+    most: u32,
+) -> Result<Option<Bytes>, OutsideFault>
+    requires { most ≤ 1048576 }
+    ensures raw { (file : Option File) → Adds (S.told site.old) (S.told site.new)
+        (Leads (anyhow (SparesFile name.now)) (Has name.now file) (HasMost name.now at most file result)) }
+    ensures own { who.now ≡ job → Adds (S.told site.old) (S.told site.new) (Every (IsOf ReadsFile)) }
+    ensures pieces { Adds (S.told site.old) (S.told site.new) (Every AsksInPieces) }
+    ensures few { IfOk result (λ given. IfSome given (λ bytes. length bytes ≤ asks_for most at)) }
+    ensures last { Adds (S.told site.old) (S.told site.new) (LastFailed result) }
+    ensures cause { OutsideCause (S.fault_count site.old) (S.fault_count site.new) result }
+{
+    let max = END.saturating_sub(at).min(most as u64) as u32;
     match site.read(alloc, who, name, at, max) {
         Ok(bytes) => Ok(Some(bytes)),
         Err(CallFault::Missing) => Ok(None),
@@ -77,23 +98,25 @@ pub fn read_file<S: Site>(
     }
 }
 
-/// What a file has from a place on, where one that isn't there counts as empty.
+/// What a file has from a place on, at most so many bytes, where one that isn't there counts as empty.
 pub(crate) fn read_bytes<S: Site>(
     alloc: Global,
     site: &mut S,
     who: &Who,
     name: &str,
     at: u64,
+    most: u32,
 ) -> Result<Bytes, OutsideFault>
+    requires { most ≤ 1048576 }
     ensures raw { (file : Option File) → Adds (S.told site.old) (S.told site.new)
-        (Leads (anyhow (SparesFile name.now)) (Has name.now file) (HasBytes name.now at file result)) }
+        (Leads (anyhow (SparesFile name.now)) (Has name.now file) (HasBytes name.now at most file result)) }
     ensures own { who.now ≡ job → Adds (S.told site.old) (S.told site.new) (Every (IsOf ReadsFile)) }
     ensures pieces { Adds (S.told site.old) (S.told site.new) (Every AsksInPieces) }
-    ensures few { IfOk result (λ bytes. length bytes ≤ asks_at at) }
+    ensures few { IfOk result (λ bytes. length bytes ≤ asks_for most at) }
     ensures last { Adds (S.told site.old) (S.told site.new) (LastFailed result) }
     ensures cause { OutsideCause (S.fault_count site.old) (S.fault_count site.new) result }
 {
-    match read_piece(alloc, site, who, name, at) {
+    match read_most(alloc, site, who, name, at, most) {
         Ok(Some(bytes)) => Ok(bytes),
         Ok(None) => Ok(Bytes::new(alloc)),
         Err(fault) => Err(fault),

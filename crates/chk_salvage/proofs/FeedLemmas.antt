@@ -34,7 +34,7 @@ use Rattle.chk_salvage.proofs.ReaderLemmas.{nothing_at_end}
 -- ---- more bytes
 
 -- what was read stays read
-read_so_longer : (marker bytes more : List ℕ) (place : ℕ) → IsReadSo marker bytes place → IsReadSo marker (bytes ++ more) place
+pub read_so_longer : (marker bytes more : List ℕ) (place : ℕ) → IsReadSo marker bytes place → IsReadSo marker (bytes ++ more) place
 read_so_longer marker bytes more place so =
     let within = so.within in
     let same : take place (bytes ++ more) ≡ take place bytes = take-append-le place bytes more within in

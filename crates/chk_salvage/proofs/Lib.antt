@@ -4,5 +4,6 @@ pub mod FrontLemmas
 pub mod SkippingLemmas
 pub mod ReaderLemmas
 pub mod FeedLemmas
+pub mod AheadLemmas
 pub mod RunLemmas
 pub mod LawLemmas

@@ -5,6 +5,7 @@ pub mod Skipping
 pub mod Whole
 pub mod Longs
 pub mod Feeding
+pub mod Ahead
 pub mod Steps
 pub mod Runs
 pub mod Laws

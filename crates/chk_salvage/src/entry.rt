@@ -1,10 +1,12 @@
 //! One entry, where it stands.
 
-ghost use Rattle.std.specs.Prelude.{◌≡◌, ◌+◌, ◌-◌, ◌≤◌, ◌^◌, ◌<◌, ◌==◌, ◌↔◌, IsTrue, length, drop, nat_eq};
+ghost use Rattle.std.specs.Prelude.{◌≡◌, ◌+◌, ◌-◌, ◌≤◌, ◌^◌, ◌<◌, ◌==◌, ◌↔◌, IsTrue, IfSome, IfNone, ℕ, length, drop, nat_eq};
 ghost use Rattle.std.specs.List.{starts_with};
+ghost use Rattle.chk_bytes.specs.Laws.{AreBytes};
 ghost use Rattle.chk_bytes.specs.Numbers.{spelled_at};
 ghost use Rattle.chk_salvage.specs.Views.{entry_of, IsWithin};
 ghost use Rattle.chk_salvage.specs.Skipping.{StandsThere};
+ghost use Rattle.chk_salvage.specs.Ahead.{HasHead};
 ghost use Rattle.chk_seqfile.specs.Entries.{sync_entry, entry_at, sync_or_not, record_of, fitting};
 
 use chk_bytes::take_u32;
@@ -107,6 +109,29 @@ fn fitting(size: usize, key_size: usize, bytes: &[u8]) -> Seen<'_>
         Seen::Record { key, value }
     } else {
         Seen::Damaged(Why::BadLength)
+    }
+}
+
+/// How long the key and the value of a record are.
+#[derive(Clone, Copy)]
+pub(crate) struct Lengths {
+    pub key: usize,
+    pub value: usize,
+}
+
+/// The lengths of the record that begins these bytes, where they and its key have come, and agree.
+pub(crate) fn lengths_of(bytes: &[u8]) -> Option<Lengths>
+    ensures some { IfSome result (λ l. HasHead bytes.now l.key l.value × AreBytes bytes.now) }
+    ensures none { IfNone result ((k v : ℕ) → HasHead bytes.now k v → ⊥) }
+{
+    let size = take_u32(bytes, 0)? as usize;
+    let key_part = take_u32(bytes, 4)? as usize;
+    let key = take_u32(bytes, 8)? as usize;
+    let value = take_u32(bytes, 12 + key)? as usize;
+    if size < 1 << 31 && key_part == 4 + key && size == 8 + key + value {
+        Some(Lengths { key, value })
+    } else {
+        None
     }
 }
 

@@ -18,6 +18,18 @@ pub enum Fed<'a> {
     Long { at: u64, need: u64 },
 }
 
+/// A record of which its lengths and its key have come, but not all of its value.
+#[derive(Clone, Copy, Debug, PartialEq, Eq)]
+pub struct Ahead<'a> {
+    /// The place at which the record begins, with its length.
+    pub at: u64,
+    /// The place behind it.
+    pub end: u64,
+    pub key: &'a [u8],
+    /// How many bytes its value has.
+    pub size: u64,
+}
+
 /// A step of the reader, without the bytes of the record.
 #[derive(Clone, Copy)]
 pub(crate) enum Step {

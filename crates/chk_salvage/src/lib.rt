@@ -14,7 +14,7 @@ mod whole;
 
 pub use chk_seqfile::{HeaderFault, Why};
 pub use entry::EntryRef;
-pub use fed::Fed;
+pub use fed::{Ahead, Fed};
 pub use laws::{law_front, law_pieces, law_salvage};
 pub use lists::{EntryRefs, Span, Spans};
 pub use outcome::{Front, FrontFault, FrontStop, Salvaged};

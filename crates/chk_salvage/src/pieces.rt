@@ -7,8 +7,8 @@ ghost use Rattle.chk_seqfile.specs.Entries.{SyncEntry, entry_at};
 ghost use Rattle.chk_salvage.specs.Longs.{IsLong, NotLong};
 ghost use Rattle.std.proofs.Props.{props};
 
-use crate::entry::{EntryRef, Seen, entry_from};
-use crate::fed::{Fed, Step};
+use crate::entry::{EntryRef, Seen, entry_from, lengths_of};
+use crate::fed::{Ahead, Fed, Step};
 use crate::scan::behind_syncs;
 use chk_bytes::{NoMemory, take_u32};
 use chk_seqfile::{HeaderFault, TextsLeft, Why, read_header_on};
@@ -46,6 +46,8 @@ impl Pieces {
     ghost use denote.Follow.{follows_so};
     ghost use Rattle.chk_salvage.specs.contracts.pieces.Pieces.{the_row};
     ghost use Rattle.chk_salvage.specs.Feeding.{fed_place, fed_rest, fed_limit, fed_marker, IsFed, Answered};
+    ghost use Rattle.chk_salvage.specs.Ahead.{IsAhead, OwesValue};
+    ghost use Rattle.chk_salvage.specs.declared.fed.Ahead.{Ahead};
     ghost use Rattle.chk_salvage.specs.Steps.{GoesOn, LiesIn, IsShown, Stepped};
 
     /// A reader that nothing was fed to, which takes records of at most `limit` bytes: that is the
@@ -190,6 +192,44 @@ impl Pieces {
             },
             Seen::Sync => unreachable!(),
         }
+    }
+
+    /// The record that begins at the place, where its key and its lengths have come, but not all of its
+    /// value. None is there where `next` would answer anything but `More`.
+    pub fn ahead(&self) -> Option<Ahead<'_>>
+        ensures some { IfSome result (λ a. IsAhead self.now a) }
+        ensures none { IfNone result ((k v : ℕ) → OwesValue self.now k v → ⊥) }
+    {
+        let Some(_) = self.marker else {
+            return None;
+        };
+        let rest = &self.bytes[self.used..];
+        let lengths = lengths_of(rest)?;
+        let size = 16 + lengths.key + lengths.value;
+        let end = self.place + size as u64;
+        if rest.len() >= size || size - 8 > self.limit as usize || end >= 1 << 63 {
+            return None;
+        }
+        Some(Ahead {
+            at: self.place,
+            end,
+            key: &rest[12..12 + lengths.key],
+            size: lengths.value as u64,
+        })
+    }
+
+    /// Goes on behind the record that is ahead, which ends at `end`, as if its other bytes were fed. They
+    /// aren't looked at: a SequenceFile asks nothing of a value but its length. What is fed next has to
+    /// stand behind the record, and that the file goes on up to there is for the caller to see.
+    pub fn pass(&mut self, end: u64)
+        requires { (a : Ahead) × IsAhead self.old a × (a.end ≡ end) }
+        ensures same { (fed_limit self.new ≡ fed_limit self.old) × (fed_marker self.new ≡ fed_marker self.old) }
+        ensures past { (fed_place self.new ≡ end) × (fed_rest self.new ≡ []) }
+        ensures fed { (fed missing : List ℕ) → IsFed self.old fed → length fed + length missing ≡ end
+            → IsFed self.new (fed ++ missing) }
+    {
+        self.place = end;
+        self.used = self.bytes.len();
     }
 
     /// The place behind the header, the last record or the last sync entry that was read, counted

@@ -8,6 +8,8 @@ mod books;
 #[cfg(test)]
 mod heads;
 #[cfg(test)]
+mod passed;
+#[cfg(test)]
 mod scene;
 #[cfg(test)]
 mod segments;
