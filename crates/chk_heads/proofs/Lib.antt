@@ -1,6 +1,7 @@
 pub mod Orders
 pub mod Sorting
 mod Ranks
+pub mod Turning
 pub mod PieceReads
 pub mod Rows
 pub mod Records

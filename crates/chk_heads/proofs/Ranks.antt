@@ -7,20 +7,20 @@ use Rattle.std.proofs.lemmas.List.{get_or-map, get_or_default}
 use Rattle.std.proofs.lemmas.List.Elements.{All-contains}
 use Rattle.std.specs.Borrow.{Bor}
 use Rattle.std.specs.Cmp.{IsStrictWeakOrder}
-use Rattle.std.specs.List.Sorted.{IsSortedBy, IsStableBy, IsPartitionedBy, IsPartitionPoint}
+use Rattle.std.specs.List.Sorted.{IsSortedBy, IsPartitionedBy, IsPartitionPoint}
 use Rattle.std.proofs.lemmas.List.Sorted.{sorted_far, sum_by-IsPermutation}
 use Rattle.chk_chunk.specs.Keys.{same_stream, stream_lt}
 use Rattle.chk_heads.specs.declared.origins.Origin.{Origin}
 use Rattle.chk_heads.specs.declared.gather.Row.{Row}
-use Rattle.chk_heads.specs.HeadRows.{no_origin, head_in_row}
-use Rattle.chk_heads.specs.Order.{head_before, origin_stream, origin_before, rank_in, row_rank, row_before, in_head_order, AreInOrder}
+use Rattle.chk_heads.specs.HeadRows.{no_origin, row_begin, head_in_row}
+use Rattle.chk_heads.specs.Order.{head_before, origin_stream, origin_before, rank_in, row_rank, row_before, row_first, sort_by, in_head_order, AreInOrder}
 use Rattle.chk_world.proofs.Each.{Each, each_from}
-use Rattle.chk_heads.proofs.Sorting.{as_std, sorted_is, sort_through}
-use Rattle.chk_heads.proofs.Orders.{WeakOrder, Tested, through, tested_through, numbers, lex, streams}
+use Rattle.chk_heads.proofs.Sorting.{as_std, sort_through}
+use Rattle.chk_heads.proofs.Orders.{WeakOrder, Tested, through, tested_through, numbers, lex, lex_tested, streams}
 
 -- ---- counts
 
-count_cons : {X : Type 0} (p : X → Bool) (x : X) (xs : List X)
+pub count_cons : {X : Type 0} (p : X → Bool) (x : X) (xs : List X)
     → count_by p (x ∷ xs) ≡ cond (p x) 1 0 + count_by p xs
 count_cons p x xs = sum_by-cons (λ y. cond (p y) 1 0) x xs
 
@@ -221,7 +221,7 @@ pub rows_compare : (origins : List Origin) (a b : Row) → IsKnown origins a →
 rows_compare origins a b ka kb =
     let o = origin_at origins a in
     let p = origin_at origins b in
-    let rest = nat_lt a.begin b.begin || (nat_eq a.begin b.begin && nat_lt a.end b.end) in
+    let rest = nat_lt (row_begin a) (row_begin b) || (nat_eq (row_begin a) (row_begin b) && nat_lt a.end b.end) in
     ap (λ n. nat_lt n (row_rank (map (rank_in origins) origins) b) ||
     (nat_eq n (row_rank (map (rank_in origins) origins) b) && rest)) (rank_is origins a ka)
     ∙ (ap (λ n. nat_lt (rank_in origins o) n || (nat_eq (rank_in origins o) n && rest))
@@ -232,30 +232,59 @@ rows_compare origins a b ka kb =
     (rank_eq origins o p (there origins a ka) (there origins b kb))))
 
 -- by any numbers of streams
+by_rank : (ranks : List ℕ) → Tested (λ (a b : Row). nat_lt (row_rank ranks a) (row_rank ranks b))
+    (λ (a b : Row). nat_eq (row_rank ranks a) (row_rank ranks b))
+by_rank ranks = tested_through (row_rank ranks) nat_lt nat_eq numbers
+
+by_begin : Tested (λ (a b : Row). nat_lt (row_begin a) (row_begin b)) (λ (a b : Row). nat_eq (row_begin a) (row_begin b))
+by_begin = tested_through row_begin nat_lt nat_eq numbers
+
+by_end : Tested (λ (a b : Row). nat_lt a.end b.end) (λ (a b : Row). nat_eq a.end b.end)
+by_end = tested_through (λ (a : Row). a.end) nat_lt nat_eq numbers
+
+by_turn : Tested (λ (a b : Row). nat_lt a.turn b.turn) (λ (a b : Row). nat_eq a.turn b.turn)
+by_turn = tested_through (λ (a : Row). a.turn) nat_lt nat_eq numbers
+
 pub rows_ordered : (ranks : List ℕ) → WeakOrder (row_before ranks)
 rows_ordered ranks =
     lex (λ (a b : Row). nat_lt (row_rank ranks a) (row_rank ranks b))
     (λ (a b : Row). nat_eq (row_rank ranks a) (row_rank ranks b))
-    (λ (a b : Row). nat_lt a.begin b.begin || (nat_eq a.begin b.begin && nat_lt a.end b.end))
-    (tested_through (row_rank ranks) nat_lt nat_eq numbers)
-    (lex (λ (a b : Row). nat_lt a.begin b.begin) (λ (a b : Row). nat_eq a.begin b.begin)
-    (λ (a b : Row). nat_lt a.end b.end)
-    (tested_through (λ (a : Row). a.begin) nat_lt nat_eq numbers)
-    (through (λ (a : Row). a.end) nat_lt numbers.order))
+    (λ (a b : Row). nat_lt (row_begin a) (row_begin b) || (nat_eq (row_begin a) (row_begin b) && nat_lt a.end b.end))
+    (by_rank ranks)
+    (lex (λ (a b : Row). nat_lt (row_begin a) (row_begin b)) (λ (a b : Row). nat_eq (row_begin a) (row_begin b))
+    (λ (a b : Row). nat_lt a.end b.end) by_begin by_end.order)
 
-each_known : (origins : List Origin) (rows : List Row) → All (IsKnown origins) rows → Each
+-- of one rank and turn, and alike in the rest
+abbrev pub row_alike : List ℕ → Row → Row → Bool
+row_alike ranks a b =
+    nat_eq (row_rank ranks a) (row_rank ranks b)
+    && (nat_eq (row_begin a) (row_begin b) && (nat_eq a.end b.end && nat_eq a.turn b.turn))
+
+-- with turns
+pub rows_first : (ranks : List ℕ) → Tested (row_first ranks) (row_alike ranks)
+rows_first ranks =
+    lex_tested (λ (a b : Row). nat_lt (row_rank ranks a) (row_rank ranks b))
+    (λ (a b : Row). nat_eq (row_rank ranks a) (row_rank ranks b))
+    (λ (a b : Row). nat_lt (row_begin a) (row_begin b) || (nat_eq (row_begin a) (row_begin b)
+    && (nat_lt a.end b.end || (nat_eq a.end b.end && nat_lt a.turn b.turn))))
+    (λ (a b : Row). nat_eq (row_begin a) (row_begin b) && (nat_eq a.end b.end && nat_eq a.turn b.turn))
+    (by_rank ranks)
+    (lex_tested (λ (a b : Row). nat_lt (row_begin a) (row_begin b)) (λ (a b : Row). nat_eq (row_begin a) (row_begin b))
+    (λ (a b : Row). nat_lt a.end b.end || (nat_eq a.end b.end && nat_lt a.turn b.turn))
+    (λ (a b : Row). nat_eq a.end b.end && nat_eq a.turn b.turn)
+    by_begin
+    (lex_tested (λ (a b : Row). nat_lt a.end b.end) (λ (a b : Row). nat_eq a.end b.end)
+    (λ (a b : Row). nat_lt a.turn b.turn) (λ (a b : Row). nat_eq a.turn b.turn) by_end by_turn))
+
+pub each_known : (origins : List Origin) (rows : List Row) → All (IsKnown origins) rows → Each
     (IsKnown origins) rows
 each_known origins rows known = each_from (IsKnown origins) rows
     (λ r one. All-contains (IsKnown origins) rows r known one)
 
--- rows that std's stable sort put in order by these numbers stand for the heads in order
-pub sorted_rows : (origins : List Origin) (rows sorted : List Row) → All (IsKnown origins) rows
-    → IsSortedBy (row_before (map (rank_in origins) origins)) sorted
-    → IsStableBy (row_before (map (rank_in origins) origins)) rows sorted
-    → map (head_in_row origins) sorted ≡ in_head_order (map (head_in_row origins) rows)
-sorted_rows origins rows sorted known up stable =
-    let ranks = map (rank_in origins) origins in
-    ap (map (head_in_row origins)) (sorted_is (row_before ranks)
-    (rows_ordered ranks) rows sorted up stable)
-    ∙ sort_through (head_in_row origins) (row_before ranks) head_before (IsKnown origins)
+-- rows in order by these numbers stand for the heads in order
+pub sorted_rows : (origins : List Origin) (rows : List Row) → All (IsKnown origins) rows
+    → map (head_in_row origins) (sort_by (row_before (map (rank_in origins) origins)) rows)
+    ≡ in_head_order (map (head_in_row origins) rows)
+sorted_rows origins rows known =
+    sort_through (head_in_row origins) (row_before (map (rank_in origins) origins)) head_before (IsKnown origins)
     (rows_compare origins) rows (each_known origins rows known)

@@ -10,7 +10,7 @@ use Rattle.chk_world.proofs.Ends.{bytes_self}
 use Rattle.chk_heads.specs.declared.origins.Origin.{Origin}
 use Rattle.chk_heads.specs.declared.gather.Row.{Row}
 use Rattle.chk_heads.specs.Heads.{head_with}
-use Rattle.chk_heads.specs.HeadRows.{no_origin, origin_of, is_origin_of, HasOrigin, HasGrown, origin_key, head_in_row}
+use Rattle.chk_heads.specs.HeadRows.{no_origin, origin_of, is_origin_of, HasOrigin, HasGrown, origin_key, row_begin, head_in_row}
 use Rattle.chk_heads.specs.Order.{no_head, of_one_stream, origin_stream}
 
 -- an origin that is the key's
@@ -37,7 +37,7 @@ rows_same origins more [] known = refl
 rows_same origins more (r ∷ rs) known =
     let here = get_or_append_left origins more no_origin r.origin (All-head (Known origins) r rs known) in
     let rest = rows_same origins more rs (All-tail (Known origins) r rs known) in
-    λ i. (record { key = origin_key (here i) r.end; begin = r.begin; file = r.file; at = r.at }) ∷ rest i
+    λ i. (record { key = origin_key (here i) r.end; begin = row_begin r; file = r.file; at = r.at }) ∷ rest i
 
 pub rows_known : (origins more : List Origin) (rows : List Row) → All (Known origins) rows → All (Known (origins ++ more)) rows
 rows_known origins more [] known = All-nil (Known (origins ++ more))
@@ -48,9 +48,9 @@ rows_known origins more (r ∷ rs) known =
 
 -- the head that a new row stands for
 pub row_head : (origins : List Origin) (r : Row) (k : Key) → HasOrigin origins r.origin k → r.end ≡ k.seq
-    → head_in_row origins r ≡ head_with k r.begin r.file r.at
+    → head_in_row origins r ≡ head_with k (row_begin r) r.file r.at
 row_head origins r k has end =
-    λ i. record { key = origin_key ((has.is) i) (end i); begin = r.begin; file = r.file; at = r.at }
+    λ i. record { key = origin_key ((has.is) i) (end i); begin = row_begin r; file = r.file; at = r.at }
 
 map_push : {Y : Type 0} (f : Row → Y) (rows : List Row) (r : Row) → map f (rows ++ r ∷ []) ≡ map f rows ++ f r ∷ []
 map_push f [] r = refl
@@ -63,7 +63,7 @@ view_grown old new rows known grown = ap (λ o. map (head_in_row o) rows) grown.
 
 pub view_pushed : (old new : List Origin) (rows : List Row) (r : Row) (k : Key) → All (Known old) rows → HasGrown old new
     → HasOrigin new r.origin k → r.end ≡ k.seq
-    → map (head_in_row new) (rows ++ r ∷ []) ≡ map (head_in_row old) rows ++ head_with k r.begin r.file r.at ∷ []
+    → map (head_in_row new) (rows ++ r ∷ []) ≡ map (head_in_row old) rows ++ head_with k (row_begin r) r.file r.at ∷ []
 view_pushed old new rows r k known grown has end =
     map_push (head_in_row new) rows r
     ∙ (ap (λ hs. hs ++ head_in_row new r ∷ []) (view_grown old new rows known grown)

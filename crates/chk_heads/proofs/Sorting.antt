@@ -102,7 +102,7 @@ one_order {X = X} lt w (x ∷ xs) (y ∷ ys) p q same = go (ties lt x y) refl
         (first_passes (ties lt y) y (filter (ties lt y) ys) xs in_xs) in
         absurd (true≢false (sym (ties_of lt x y a b) ∙ t))
 
-each_put : {X : Type 0} (lt : X → X → Bool) (P : X → Type 0) (c : X) (ds : List X) → P c → Each P ds
+pub each_put : {X : Type 0} (lt : X → X → Bool) (P : X → Type 0) (c : X) (ds : List X) → P c → Each P ds
     → Each P (put_by lt c ds)
 each_put lt P c [] pc all = (pc, tt)
 each_put lt P c (d ∷ ds) pc all =

@@ -1,5 +1,5 @@
 -- Which heads the rows stand for.
-use Rattle.std.specs.Prelude.{◌≡◌, ℕ, ◌<◌, ◌==◌, ◌&&◌, Bool, List, ◌++◌, map, length, bytes_eq, slice_index_or, All}
+use Rattle.std.specs.Prelude.{◌≡◌, ℕ, ◌-◌, ◌<◌, ◌==◌, ◌&&◌, Bool, List, ◌++◌, map, length, bytes_eq, slice_index_or, All}
 use Rattle.chk_chunk.specs.Keys.{Key, no_cluster}
 use Rattle.chk_heads.specs.declared.origins.Origin.{Origin}
 use Rattle.chk_heads.specs.declared.gather.Row.{Row}
@@ -43,11 +43,15 @@ origin_key o seq = record {
   seq = seq;
 }
 
+-- its first offset
+abbrev pub row_begin : Row → ℕ
+row_begin r = r.end - r.size
+
 -- the head that a row stands for
 abbrev pub head_in_row : List Origin → Row → Head
 head_in_row origins r = record {
   key = origin_key (slice_index_or origins r.origin no_origin) r.end;
-  begin = r.begin;
+  begin = row_begin r;
   file = r.file;
   at = r.at;
 }

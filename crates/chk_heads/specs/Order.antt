@@ -1,11 +1,12 @@
 -- The order in which heads are gone through.
-use Rattle.std.specs.Prelude.{ℕ, Bool, true, false, ◌&&◌, ◌||◌, nat_lt, nat_eq, List, [], ◌∷◌, count_by, map, slice_index_or}
+use Rattle.std.specs.Prelude.{ℕ, ◌<◌, Bool, true, false, ◌&&◌, ◌||◌, nat_lt, nat_eq, List, [], ◌∷◌, count_by, map, slice_index_or}
+use Rattle.std.specs.List.{AllPairs}
 use Rattle.std.specs.Borrow.{Bor}
 use Rattle.std.specs.List.Sorted.{IsSortedBy, IsPermutation}
 use Rattle.chk_chunk.specs.Keys.{Stream, same_stream, stream_lt}
 use Rattle.chk_chunk.specs.Lent.{lent_key}
 use Rattle.chk_heads.specs.Heads.{Head}
-use Rattle.chk_heads.specs.HeadRows.{no_origin, origin_key}
+use Rattle.chk_heads.specs.HeadRows.{no_origin, origin_key, row_begin}
 use Rattle.chk_heads.specs.declared.origins.Origin.{Origin}
 use Rattle.chk_heads.specs.declared.gather.Row.{Row}
 use Rattle.chk_heads.specs.declared.gather.order.HeadRef.{HeadRef}
@@ -56,7 +57,27 @@ abbrev pub row_before : List ℕ → Row → Row → Bool
 row_before ranks a b =
     nat_lt (row_rank ranks a) (row_rank ranks b)
     || (nat_eq (row_rank ranks a) (row_rank ranks b)
-    && (nat_lt a.begin b.begin || (nat_eq a.begin b.begin && nat_lt a.end b.end)))
+    && (nat_lt (row_begin a) (row_begin b) || (nat_eq (row_begin a) (row_begin b) && nat_lt a.end b.end)))
+
+-- by what rows are compared
+abbrev pub row_key : List ℕ → Row → ℕ × ℕ × ℕ × ℕ
+row_key ranks r = (row_rank ranks r, row_begin r, r.end, r.turn)
+
+-- the same order, and by turns where that tells nothing
+abbrev pub row_first : List ℕ → Row → Row → Bool
+row_first ranks a b =
+    nat_lt (row_rank ranks a) (row_rank ranks b)
+    || (nat_eq (row_rank ranks a) (row_rank ranks b)
+    && (nat_lt (row_begin a) (row_begin b) || (nat_eq (row_begin a) (row_begin b)
+    && (nat_lt a.end b.end || (nat_eq a.end b.end && nat_lt a.turn b.turn)))))
+
+-- each row has a later turn than those before it
+abbrev pub TakeTurns : List Row → Type 0
+TakeTurns rows = AllPairs (λ (r s : Row). r.turn < s.turn) rows
+
+-- a row but for its turn
+abbrev pub without_turn : Row → Row
+without_turn r = record { origin = r.origin; file = r.file; size = r.size; turn = 0; end = r.end; at = r.at }
 
 -- a head of no record
 abbrev pub no_head : Head

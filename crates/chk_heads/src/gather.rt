@@ -19,6 +19,7 @@ ghost use Rattle.chk_bytes.specs.Words.{is_word};
 ghost use Rattle.chk_world.specs.Sight.{job};
 ghost use Rattle.chk_world.specs.JobSteps.{IsOf, ReadsFile, SparesFile};
 ghost use Rattle.chk_heads.specs.Faults.{JobCause, FailsLast, IsOfRead};
+ghost use Rattle.chk_heads.specs.HeadRows.{row_begin};
 ghost use Rattle.chk_heads.specs.Heads.{head_with, IsTaken};
 ghost use Rattle.chk_heads.specs.Pieces.{AsksInPieces};
 ghost use Rattle.chk_heads.specs.Feeding.{AreChunks, HasMore, IsEnd, TookFed, TookAhead, FedFrom};
@@ -49,14 +50,25 @@ const LOOK: u32 = 16_384;
 /// How much longer than its value a record may say that it is. Its key and their lengths have less than this.
 pub const SLACK: u32 = 131_072;
 
-/// One row a record: which origin, the offsets, which file, and the place of the record in it.
+/// One row a record: which origin, which file, how many offsets it has, the end of them, and the place of the record in the
+/// file. The turn says nothing of the record: a sort numbers the rows by it.
 #[derive(Clone, Copy, Debug, PartialEq, Eq)]
 struct Row {
     origin: u32,
     file: u32,
-    begin: u64,
+    size: u32,
+    turn: u32,
     end: u64,
     at: u64,
+}
+
+impl Row {
+    /// The first offset.
+    fn begin(&self) -> u64
+        ensures { result ≡ row_begin self.now }
+    {
+        self.end.saturating_sub(u64::from(self.size))
+    }
 }
 
 /// The heads of records, without their data. A row has 32 bytes; the texts of a stream are kept once, with four bytes for their
@@ -183,7 +195,7 @@ impl Heads {
         self.rows.len()
     }
 
-    /// Puts a head behind the others.
+    /// Puts a head behind the others. One of more than 4,294,967,295 offsets counts as want of memory.
     fn push(
         &mut self,
         alloc: Global,
@@ -196,12 +208,14 @@ impl Heads {
         ensures ok { OnOk result (self.new ≡ self.old ++ head_with (lent_key key.now) begin file at ∷ []) }
         ensures err { OnErr result (self.new ≡ self.old) }
     {
+        let size = size_of(begin, key.seq)?;
         let likely = self.rows.last().map_or(0, |row| row.origin);
         let origin = number_of(alloc, &mut self.origins, &mut self.order, likely, key)?;
         self.rows.push(Row {
             origin,
             file,
-            begin,
+            size,
+            turn: 0,
             end: key.seq,
             at,
         })?;
@@ -319,6 +333,14 @@ fn ended(alloc: Global, pieces: &Pieces, name: &str) -> Result<(), JobFault>
         Some(place) => Err(damaged(alloc, name, place)),
         None => Ok(()),
     }
+}
+
+/// How many offsets there are from one to another one, where 32 bits hold that.
+fn size_of(begin: u64, end: u64) -> Result<u32, NoMemory>
+    ensures { IfOk result (λ size. begin + size ≡ end) }
+{
+    let size = end.checked_sub(begin).ok_or(NoMemory)?;
+    u32::try_from(size).map_err(|_| NoMemory)
 }
 
 /// A value of this size has at least one byte, no more than `most`, and doesn't begin before the stream's start.

@@ -30,7 +30,7 @@ pub fn is_old_aside(heads: &Heads, count: usize, cuts: &[Cut]) -> bool
     }
     let mut last = 0;
     for cut in cuts {
-        let head = heads.get(cut.index);
+        let head = heads.get(cut.index as usize);
         if head.file != 0 || cut.skip != 0 || head.at <= last {
             return false;
         }

@@ -13,12 +13,24 @@ use std::marker::Model;
 #[derive(Clone, Copy, Debug, PartialEq, Eq)]
 pub struct Cut {
     /// The place of its head.
-    pub index: usize,
+    pub index: u32,
     /// How many bytes of its data are left out.
-    pub skip: u64,
+    pub skip: u32,
 }
 
-/// Cuts, in the order in which they are written. One has 16 bytes.
+impl Cut {
+    /// The cut at this place, where 32 bits hold the place and what is left out; else it counts as want of memory.
+    pub(crate) fn new(index: usize, skip: u64) -> Result<Cut, NoMemory>
+        ensures index { IfOk result (λ cut. cut.index ≡ index) }
+        ensures skip { IfOk result (λ cut. cut.skip ≡ skip) }
+    {
+        let index = u32::try_from(index).map_err(|_| NoMemory)?;
+        let skip = u32::try_from(skip).map_err(|_| NoMemory)?;
+        Ok(Cut { index, skip })
+    }
+}
+
+/// Cuts, in the order in which they are written. One has 8 bytes.
 #[derive(Debug, Drop)]
 pub struct Cuts {
     items: Vec<Cut>,
@@ -60,7 +72,7 @@ impl Cuts {
     }
 }
 
-/// What the passes over these spans take, in order. It costs the heads, and holds 16 bytes for each record that is taken.
+/// What the passes over these spans take, in order. It costs the heads, and holds 8 bytes for each record that is taken.
 pub fn cuts_of(alloc: Global, heads: &Heads, spans: &[Span]) -> Result<Cuts, NoMemory>
     requires { All (λ s. s.end ≤ length heads.now) spans.now }
     ensures { IfOk result (λ cuts. cuts ≡ flat_map (span_cuts heads.now) spans.now) }
@@ -81,10 +93,7 @@ fn push_cuts(cuts: &mut Cuts, heads: &Heads, span: &Span) -> Result<(), NoMemory
     for index in span.first..span.end {
         let head = heads.get(index);
         if head.begin <= reached && reached < head.key.seq {
-            cuts.push(Cut {
-                index,
-                skip: reached - head.begin,
-            })?;
+            cuts.push(Cut::new(index, reached - head.begin)?)?;
             reached = head.key.seq;
         }
     }

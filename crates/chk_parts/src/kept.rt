@@ -12,7 +12,7 @@ use chk_plan::Span;
 use std::alloc::Global;
 
 /// Which records past the gaps are set aside, in order: of neighbours of one stream that have the same offsets the first alone,
-/// since the data of both is what the log has there. It costs the heads past the gaps, and 16 bytes for each that is kept.
+/// since the data of both is what the log has there. It costs the heads past the gaps, and 8 bytes for each that is kept.
 pub fn kept_of(alloc: Global, heads: &Heads, spans: &[Span]) -> Result<Cuts, NoMemory>
     requires { AreSpansWithin (length heads.now) spans.now }
     ensures kept { IfOk result (λ cuts. cuts ≡ kept_in heads.now None spans.now) }
@@ -66,7 +66,7 @@ fn push_new(
         ++ kept_one index (option_map (head_in heads.now) last) (head_in heads.now index)) }
 {
     if !is_repeat(heads, last, index) {
-        cuts.push(Cut { index, skip: 0 })?;
+        cuts.push(Cut::new(index, 0)?)?;
     }
     Ok(())
 }

@@ -167,12 +167,13 @@ fn write_cut<S: Site>(
     ensures last { Adds (S.told site.old) (S.told site.new) (FailsLast result) }
     ensures cause { JobCause (S.fault_count site.old) (S.fault_count site.new) result }
 {
-    fetch(alloc, site, who, reader, files, heads, cut.index)?;
+    let index = cut.index as usize;
+    fetch(alloc, site, who, reader, files, heads, index)?;
     put_cut(
         alloc,
         site,
         segmenter,
-        &heads.get(cut.index),
+        &heads.get(index),
         reader.value(),
         cut.skip,
     )
@@ -186,7 +187,7 @@ fn put_cut<S: Site>(
     segmenter: &mut Segmenter,
     head: &HeadRef<'_>,
     value: &[u8],
-    skip: u64,
+    skip: u32,
 ) -> Result<(), JobFault>
     requires job { segmenter.old.who ≡ job }
     requires segment { IsForArchive segmenter.old }
@@ -212,21 +213,18 @@ fn put_cut<S: Site>(
 }
 
 /// The chunk of a head and its value, but for the first bytes, where it is one.
-fn chunk_of<'a>(head: &HeadRef<'a>, value: &'a [u8], skip: u64) -> Option<ChunkRef<'a>>
+fn chunk_of<'a>(head: &HeadRef<'a>, value: &'a [u8], skip: u32) -> Option<ChunkRef<'a>>
     requires { IsTrue (has_words (lent_key head.now.key)) }
     ensures is { IfSome result (λ c. lent_chunk c ≡ cut_of skip (record { key = lent_key head.now.key; value = value.now })) }
     ensures key { IfSome result (λ c. IsTrue (is_key (lent_chunk c).key)) }
     ensures value { IfSome result (λ c. IsTrue (has_value chunk_limit (lent_chunk c).key (lent_chunk c).value)) }
 {
     let key = head.key;
-    if skip >= value.len() as u64
-        || key.start >= 1 << 62
-        || key.seq <= key.start
-        || key.seq >= 1 << 63
-    {
+    let skip = skip as usize;
+    if skip >= value.len() || key.start >= 1 << 62 || key.seq <= key.start || key.seq >= 1 << 63 {
         return None;
     }
-    let body = &value[skip as usize..];
+    let body = &value[skip..];
     let size = body.len() as u64;
     if size > 131_072 || key.start + size > key.seq {
         return None;

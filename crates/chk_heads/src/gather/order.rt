@@ -4,7 +4,7 @@ ghost use Rattle.std.specs.Prelude.{◌≡◌, ◌<◌, List, length, map, slice
 ghost use Rattle.chk_chunk.specs.Keys.{has_words};
 ghost use Rattle.chk_chunk.specs.Lent.{lent_key};
 ghost use Rattle.std.specs.Ordering.{is_lt};
-ghost use Rattle.chk_heads.specs.Order.{in_head_order, rank_in, row_rank, row_before, origin_before, no_head, lent_head, of_one_stream, AreInOrder};
+ghost use Rattle.chk_heads.specs.Order.{in_head_order, rank_in, row_rank, row_key, row_first, without_turn, TakeTurns, origin_before, no_head, lent_head, of_one_stream, AreInOrder};
 ghost use Rattle.chk_heads.specs.declared.origins.Origin.{Origin};
 
 use super::{Heads, Row};
@@ -26,14 +26,16 @@ pub struct HeadRef<'a> {
 
 impl Heads {
     /// Puts the heads in order: by stream, in byte order of source, type and name, then by first offset and by sequence id.
-    /// Those that are alike in these keep the order that they had. It takes memory for half of the heads, and a number
-    /// and a reference for each stream; a comparison of heads reads no text. Without memory the heads are as before.
+    /// Those that are alike in these keep the order that they had. It takes memory for a number and a reference for each
+    /// stream, and none for the heads; a comparison of heads reads no text. Without memory the heads are as before; so are
+    /// more than 4,294,967,295 of them, which count as want of memory.
     pub fn sort(&mut self, alloc: Global) -> Result<(), NoMemory>
         ensures ok { OnOk result (self.new ≡ in_head_order self.old) }
         ensures err { OnErr result (self.new ≡ self.old) }
     {
         let ranks = ranks_of(alloc, &self.origins)?;
-        self.rows.sort_by(|a, b| compare(&ranks, a, b))?;
+        take_turns(&mut self.rows)?;
+        self.rows.sort_unstable_by(|a, b| compare(&ranks, a, b));
         Ok(())
     }
 
@@ -54,7 +56,7 @@ impl Heads {
                 cluster: origin.cluster.as_str(),
                 seq: row.end,
             },
-            begin: row.begin,
+            begin: row.begin(),
             file: row.file,
             at: row.at,
         }
@@ -124,12 +126,33 @@ fn rank(ranks: &[usize], row: &Row) -> usize
     ranks.get(row.origin as usize).copied().unwrap_or(0)
 }
 
+/// By what a row is compared: the first of these tells that differs.
+fn key(ranks: &[usize], row: &Row) -> (usize, u64, u64, u32)
+    ensures { result ≡ row_key ranks.now row.now }
+{
+    (rank(ranks, row), row.begin(), row.end, row.turn)
+}
+
 /// Which row comes first.
 fn compare(ranks: &[usize], a: &Row, b: &Row) -> Ordering
-    ensures { is_lt result ≡ row_before ranks.now a.now b.now }
+    ensures { is_lt result ≡ row_first ranks.now a.now b.now }
 {
-    rank(ranks, a)
-        .cmp(&rank(ranks, b))
-        .then(a.begin.cmp(&b.begin))
-        .then(a.end.cmp(&b.end))
+    key(ranks, a).cmp(&key(ranks, b))
+}
+
+/// Numbers the rows as they stand, so that no two of them are alike: a sort that doesn't keep the order of those that are
+/// alike has one result then.
+fn take_turns(rows: &mut [Row]) -> Result<(), NoMemory>
+    ensures same { map without_turn rows.new ≡ map without_turn rows.old }
+    ensures turns { OnOk result (TakeTurns rows.new) }
+{
+    if rows.len() > u32::MAX as usize {
+        return Err(NoMemory);
+    }
+    let mut next = 0;
+    for row in rows.iter_mut() {
+        row.turn = next;
+        next += 1;
+    }
+    Ok(())
 }
