@@ -62,7 +62,7 @@ def book(following, segments, ends, aside=None):
 
 
 def markers():
-    stems = ["c1.1.1", "c1.1.2", "c1.2.1", "c2.1.1", "c3.1.1", "seg.1", "seg.2", "seg.17"]
+    stems = ["c1.1.1", "c1.1.2", "c1.2.1", "c2.1.1", "c3.1.1", "seg.1", "seg.2", "seg.17", "seg.18"]
     return [(stem.upper().replace(".", "_"), hashlib.md5(stem.encode()).digest()) for stem in stems]
 
 
@@ -84,6 +84,9 @@ def records():
         ("APP", record(3, b"xyz", ("h1", "App", "/b.log"))),
         ("EARLY", record(2, b"zz", ("a0", "Log", "/z.log"))),
         ("FIFTEEN", b"".join(record(2 * line, b"a\n") for line in range(1, 16))),
+        ("SIXTEENTH", record(32, b"a\n")),
+        ("SEVENTEENTH", record(34, b"a\n")),
+        ("FALSE", record(2, b"b\n")),
     ] + day
 
 
@@ -106,6 +109,7 @@ def books():
         ("BOOK_NEXT_ASIDE", book(3, [], [], (2, size("WORLD", "PAST")))),
         ("BOOK_CLOSED", book(3, [(2, size("HELLO", "WORLD"))], [(LOG, 12, 0)])),
         ("BOOK_TWELVE", book(3, [(1, size("HELLO")), (2, size("WORLD"))], [(LOG, 12, 0)])),
+        ("BOOK_SIXTEEN", book(17, [(number, size("SIXTEENTH")) for number in range(1, 17)], [(LOG, 32, 0)])),
         ("BOOK_STREAMS", book(2, [(1, size("EARLY", "APP", "HELLO", "EAST", "WEST"))], streams)),
         ("BOOK_DAY", book(2, [(1, size("DAY_H1", "DAY_H2", "DAY_H3"))], day)),
     ]

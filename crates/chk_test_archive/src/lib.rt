@@ -10,6 +10,8 @@ mod runs;
 #[cfg(test)]
 mod scene;
 #[cfg(test)]
+mod stops;
+#[cfg(test)]
 mod syncs;
 #[cfg(test)]
 mod telling;

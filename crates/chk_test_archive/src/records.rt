@@ -21,6 +21,8 @@ const SEG_2: &[u8] = b"x\x90\x19\xc6\xc6\xcc\xcd\x9b\x16\xf0\x11\xd8\xa65\xeet";
 
 const SEG_17: &[u8] = b"\xff\x0d+\x94\xd29\n\x91\x1b\xa9\xeb\xb0-\x07\x9e(";
 
+const SEG_18: &[u8] = b"/\xa9\x81E\x9e\x01s\xb8\xd0\x9b\xcd\xc6\xeaa\xe4\x83";
+
 // Records of chunks.
 const HELLO: &[u8] =
     b"\0\0\0(\0\0\0\x1e\0\0\0\x1a\x01\0\0\0\0\0\0\0\x06\0\x02h1\0\x03Log\0\x06/a.log\0\0\0\x06hello\n";
@@ -63,6 +65,15 @@ const EARLY: &[u8] =
 
 const FIFTEEN: &[u8] =
     b"\0\0\0$\0\0\0\x1e\0\0\0\x1a\x01\0\0\0\0\0\0\0\x02\0\x02h1\0\x03Log\0\x06/a.log\0\0\0\x02a\n\0\0\0$\0\0\0\x1e\0\0\0\x1a\x01\0\0\0\0\0\0\0\x04\0\x02h1\0\x03Log\0\x06/a.log\0\0\0\x02a\n\0\0\0$\0\0\0\x1e\0\0\0\x1a\x01\0\0\0\0\0\0\0\x06\0\x02h1\0\x03Log\0\x06/a.log\0\0\0\x02a\n\0\0\0$\0\0\0\x1e\0\0\0\x1a\x01\0\0\0\0\0\0\0\x08\0\x02h1\0\x03Log\0\x06/a.log\0\0\0\x02a\n\0\0\0$\0\0\0\x1e\0\0\0\x1a\x01\0\0\0\0\0\0\0\n\0\x02h1\0\x03Log\0\x06/a.log\0\0\0\x02a\n\0\0\0$\0\0\0\x1e\0\0\0\x1a\x01\0\0\0\0\0\0\0\x0c\0\x02h1\0\x03Log\0\x06/a.log\0\0\0\x02a\n\0\0\0$\0\0\0\x1e\0\0\0\x1a\x01\0\0\0\0\0\0\0\x0e\0\x02h1\0\x03Log\0\x06/a.log\0\0\0\x02a\n\0\0\0$\0\0\0\x1e\0\0\0\x1a\x01\0\0\0\0\0\0\0\x10\0\x02h1\0\x03Log\0\x06/a.log\0\0\0\x02a\n\0\0\0$\0\0\0\x1e\0\0\0\x1a\x01\0\0\0\0\0\0\0\x12\0\x02h1\0\x03Log\0\x06/a.log\0\0\0\x02a\n\0\0\0$\0\0\0\x1e\0\0\0\x1a\x01\0\0\0\0\0\0\0\x14\0\x02h1\0\x03Log\0\x06/a.log\0\0\0\x02a\n\0\0\0$\0\0\0\x1e\0\0\0\x1a\x01\0\0\0\0\0\0\0\x16\0\x02h1\0\x03Log\0\x06/a.log\0\0\0\x02a\n\0\0\0$\0\0\0\x1e\0\0\0\x1a\x01\0\0\0\0\0\0\0\x18\0\x02h1\0\x03Log\0\x06/a.log\0\0\0\x02a\n\0\0\0$\0\0\0\x1e\0\0\0\x1a\x01\0\0\0\0\0\0\0\x1a\0\x02h1\0\x03Log\0\x06/a.log\0\0\0\x02a\n\0\0\0$\0\0\0\x1e\0\0\0\x1a\x01\0\0\0\0\0\0\0\x1c\0\x02h1\0\x03Log\0\x06/a.log\0\0\0\x02a\n\0\0\0$\0\0\0\x1e\0\0\0\x1a\x01\0\0\0\0\0\0\0\x1e\0\x02h1\0\x03Log\0\x06/a.log\0\0\0\x02a\n";
+
+const SIXTEENTH: &[u8] =
+    b"\0\0\0$\0\0\0\x1e\0\0\0\x1a\x01\0\0\0\0\0\0\0 \0\x02h1\0\x03Log\0\x06/a.log\0\0\0\x02a\n";
+
+const SEVENTEENTH: &[u8] =
+    b"\0\0\0$\0\0\0\x1e\0\0\0\x1a\x01\0\0\0\0\0\0\0\"\0\x02h1\0\x03Log\0\x06/a.log\0\0\0\x02a\n";
+
+const FALSE: &[u8] =
+    b"\0\0\0$\0\0\0\x1e\0\0\0\x1a\x01\0\0\0\0\0\0\0\x02\0\x02h1\0\x03Log\0\x06/a.log\0\0\0\x02b\n";
 
 const DAY_H1: &[u8] =
     b"\0\0\x01\0\0\0\0:\0\0\06\x01\0\0\0\0\0\0\0\xc2\0\x02h1\0\tHadoopLog\0\x1c/var/log/hadoop/namenode.log\0\0\0\xc22010-11-08 09:00:00,001 INFO namenode: started\n2010-11-08 09:00:01,250 ERROR namenode: failed\njava.io.IOException: no space\n\tat a.b.C.d(C.java:10)\n2010-11-08 09:00:02,000 INFO namenode: stopped\n";
@@ -112,6 +123,9 @@ const BOOK_CLOSED: &[u8] =
 const BOOK_TWELVE: &[u8] =
     b"CHKB\x01\0\0\0\0\0\0\0\x03\0\0\0\x02\0\0\0\0\0\0\0\x01\0\0\0\0\0\0\0\x90\0\0\0\0\0\0\0\x02\0\0\0\0\0\0\0\x90\0\0\0\x01\0\0\0\0\0\0\0\x0c\0\x02h1\0\x03Log\0\x06/a.log";
 
+const BOOK_SIXTEEN: &[u8] =
+    b"CHKB\x01\0\0\0\0\0\0\0\x11\0\0\0\x10\0\0\0\0\0\0\0\x01\0\0\0\0\0\0\0\x8c\0\0\0\0\0\0\0\x02\0\0\0\0\0\0\0\x8c\0\0\0\0\0\0\0\x03\0\0\0\0\0\0\0\x8c\0\0\0\0\0\0\0\x04\0\0\0\0\0\0\0\x8c\0\0\0\0\0\0\0\x05\0\0\0\0\0\0\0\x8c\0\0\0\0\0\0\0\x06\0\0\0\0\0\0\0\x8c\0\0\0\0\0\0\0\x07\0\0\0\0\0\0\0\x8c\0\0\0\0\0\0\0\x08\0\0\0\0\0\0\0\x8c\0\0\0\0\0\0\0\t\0\0\0\0\0\0\0\x8c\0\0\0\0\0\0\0\n\0\0\0\0\0\0\0\x8c\0\0\0\0\0\0\0\x0b\0\0\0\0\0\0\0\x8c\0\0\0\0\0\0\0\x0c\0\0\0\0\0\0\0\x8c\0\0\0\0\0\0\0\x0d\0\0\0\0\0\0\0\x8c\0\0\0\0\0\0\0\x0e\0\0\0\0\0\0\0\x8c\0\0\0\0\0\0\0\x0f\0\0\0\0\0\0\0\x8c\0\0\0\0\0\0\0\x10\0\0\0\0\0\0\0\x8c\0\0\0\x01\0\0\0\0\0\0\0 \0\x02h1\0\x03Log\0\x06/a.log";
+
 const BOOK_STREAMS: &[u8] =
     b"CHKB\x02\0\0\0\0\0\0\0\x02\0\0\0\x01\0\0\0\0\0\0\0\x01\0\0\0\0\0\0\x01_\0\0\0\x04\0\0\0\0\0\0\0\0\0\0\0\0\0\0\0\x02\0\x02a0\0\x03Log\0\x06/z.log\0\0\0\0\0\0\0\0\0\0\0\0\0\0\0\x03\0\x02h1\0\x03App\0\x06/b.log\0\0\0\0\0\0\0\0\0\0\0\0\0\0\0\x06\0\x02h1\0\x03Log\0\x06/a.log\0\0\0\0\0\0\0d\0\0\0\0\0\0\0j\0\x02h2\0\x03Log\0\x06/a.log";
 
@@ -129,6 +143,7 @@ pub(crate) fn marker(name: &str) -> Option<&'static [u8]> {
         "SEG_1" => Some(SEG_1),
         "SEG_2" => Some(SEG_2),
         "SEG_17" => Some(SEG_17),
+        "SEG_18" => Some(SEG_18),
         _ => None,
     }
 }
@@ -150,6 +165,9 @@ pub(crate) fn record(name: &str) -> Option<&'static [u8]> {
         "APP" => Some(APP),
         "EARLY" => Some(EARLY),
         "FIFTEEN" => Some(FIFTEEN),
+        "SIXTEENTH" => Some(SIXTEENTH),
+        "SEVENTEENTH" => Some(SEVENTEENTH),
+        "FALSE" => Some(FALSE),
         "DAY_H1" => Some(DAY_H1),
         "DAY_H2" => Some(DAY_H2),
         "DAY_H3" => Some(DAY_H3),
@@ -173,6 +191,7 @@ pub(crate) fn book(name: &str) -> Option<&'static [u8]> {
         "BOOK_NEXT_ASIDE" => Some(BOOK_NEXT_ASIDE),
         "BOOK_CLOSED" => Some(BOOK_CLOSED),
         "BOOK_TWELVE" => Some(BOOK_TWELVE),
+        "BOOK_SIXTEEN" => Some(BOOK_SIXTEEN),
         "BOOK_STREAMS" => Some(BOOK_STREAMS),
         "BOOK_DAY" => Some(BOOK_DAY),
         _ => None,

@@ -1,5 +1,5 @@
 //! Each call of a run has a sync of a collector before it, in turn. The run ends as one without it.
-use crate::scene::{empty, follows, runs};
+use crate::scene::{calls, empty, follows, runs};
 use chk_site::{Call, Script};
 use chk_site_mem::SiteMem;
 use chk_test_calls::{collector, quiet, written};
@@ -33,25 +33,6 @@ fn is_whole(alloc: Global, site: &mut SiteMem, row: &str) -> Result<(), Fail> {
     }
 }
 
-fn acts(site: &SiteMem) -> u64 {
-    site.acts().len() as u64
-}
-
-fn calls_in(alloc: Global, site: &mut SiteMem) -> Result<u64, Fail> {
-    follows(alloc, site, "without faults", BEGINS)?;
-    let before = acts(site);
-    if runs(alloc, site)?.is_err() {
-        return Err(Fail::from("refused without faults"));
-    }
-    Ok(acts(site).saturating_sub(before))
-}
-
-// How many calls a run without faults makes.
-fn calls(alloc: Global) -> Result<u64, Fail> {
-    let mut site = empty(alloc)?;
-    calls_in(alloc, &mut site)
-}
-
 // A sync of the first sink by the collector c1 before the call of this number.
 fn synced(alloc: Global, at: u64) -> Result<Script, Fail> {
     let mut other = written(alloc, Call::Sync, &[b"sinks/c1.1.1.done"])?;
@@ -78,7 +59,7 @@ fn syncs_at(alloc: Global, at: u64) -> Result<(), Fail> {
 #[test]
 fn each_call_has_a_sync_before_it(rt: HostRuntime) -> Result<(), Fail> {
     let alloc = rt.alloc();
-    for at in 1..=calls(alloc)? {
+    for at in 1..=calls(alloc, BEGINS)? {
         syncs_at(alloc, at)?;
     }
     Ok(())
