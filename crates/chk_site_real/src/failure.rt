@@ -1,5 +1,7 @@
 //! The last call that failed, as it is told to people.
 
+ghost use Rattle.std.specs.Prelude.{◌≡◌};
+
 use chk_site::Call;
 use std::fmt::{Display, Formatter};
 use std::{fmt, io};
@@ -14,7 +16,11 @@ pub struct Failure {
 }
 
 impl Failure {
-    pub fn new(call: Call, name: String, error: io::Error) -> Failure {
+    pub fn new(call: Call, name: String, error: io::Error) -> Failure
+        ensures call { result.call ≡ call }
+        ensures name { result.name ≡ name }
+        ensures error { result.error ≡ error }
+    {
         Failure { call, name, error }
     }
 }

@@ -1,5 +1,6 @@
 //! The folders that the files stand in.
-ghost use Rattle.std.specs.Prelude.{◌≤◌};
+ghost use Rattle.std.specs.Prelude.{◌≡◌, ◌≤◌};
+ghost use Rattle.chk_site_real.specs.Folders.{IsFolderOf, folder_before};
 
 use std::fs::{File, OpenFile};
 use std::io::ErrorKind;
@@ -51,12 +52,20 @@ pub fn is_folder<R: Files>(rt: &R, name: &str) -> bool {
 }
 
 /// The folder that a file of this name stands in.
-pub fn folder_of(name: &str) -> &str {
-    match name.rsplit_once('/') {
-        Some(("", _)) => "/",
-        Some((folder, _)) => folder,
+pub fn folder_of(name: &str) -> &str
+    ensures { IsFolderOf name.now result.now }
+{
+    match name.rfind('/') {
+        Some(slash) => folder_before(&name[..slash]),
         None => ".",
     }
+}
+
+// The folder, of what stands before its slash.
+fn folder_before(front: &str) -> &str
+    ensures { result.now ≡ folder_before front.now }
+{
+    if front.is_empty() { "/" } else { front }
 }
 
 /// Writes the names in the folder of this name through to the disk.

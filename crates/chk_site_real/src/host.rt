@@ -1,6 +1,6 @@
 //! The machine: its runtime, and files by their names. The file written last and the file read
 //! last are kept open, so that a further piece costs one system call.
-ghost use Rattle.std.specs.Prelude.{◌≤◌, length, IfOk, IfSome, IsErr};
+ghost use Rattle.std.specs.Prelude.{◌≡◌, ◌≤◌, [], None, length, IfOk, IfSome, IsErr};
 ghost use Rattle.chk_site.specs.Site.{MayFail, MayExist, MayMiss, MayBeShort, MayMissOrBeShort};
 ghost use Rattle.chk_sockets.specs.Faults.{answer_of};
 
@@ -28,7 +28,13 @@ pub struct Host<R: Files<File = File>> {
 }
 
 impl<R: Files<File = File>> Host<R> {
-    pub fn new(rt: R, alloc: Global) -> Host<R> {
+    pub fn new(rt: R, alloc: Global) -> Host<R>
+        ensures writing { result.writing ≡ None }
+        ensures unsettled { result.unsettled ≡ None }
+        ensures reading { result.reading ≡ None }
+        ensures listings { result.listings ≡ [] }
+        ensures buffer { result.buffer.items ≡ [] }
+    {
         Host {
             rt,
             writing: None,
@@ -303,7 +309,9 @@ impl<R: Files<File = File>> Host<R> {
     }
 
     /// Closes the file that was read last, where it is kept.
-    pub fn stop_reading(&mut self) {
+    pub fn stop_reading(&mut self)
+        ensures { self.new.reading ≡ None }
+    {
         self.reading = None;
     }
 

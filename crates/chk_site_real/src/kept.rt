@@ -24,7 +24,10 @@ pub struct Kept {
 }
 
 impl Kept {
-    pub fn new(name: String, file: File) -> Kept {
+    pub fn new(name: String, file: File) -> Kept
+        ensures name { result.name ≡ name }
+        ensures file { result.file ≡ file }
+    {
         Kept { name, file }
     }
 

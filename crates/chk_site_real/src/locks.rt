@@ -1,5 +1,5 @@
 //! The locks by which one process at a time acts under a name.
-ghost use Rattle.std.specs.Prelude.{◌≡◌, ◌++◌, option_map, string_bytes, IfOk};
+ghost use Rattle.std.specs.Prelude.{◌≡◌, ◌++◌, [], option_map, string_bytes, IfOk};
 ghost use Rattle.chk_site.specs.Site.{MayFail};
 ghost use Rattle.chk_site.specs.declared.acts.CallFault.TheVariants.{Failed};
 ghost use Rattle.chk_sockets.specs.Faults.{answer_of, call_fault};
@@ -31,7 +31,9 @@ pub struct Locks {
 }
 
 impl Locks {
-    pub fn new(alloc: Global) -> Locks {
+    pub fn new(alloc: Global) -> Locks
+        ensures { result.held.items ≡ [] }
+    {
         Locks {
             held: Vec::new(alloc),
         }

@@ -1,4 +1,5 @@
 //! Addresses: each of them an IP address or a host's name, and a port.
+ghost use Rattle.std.specs.Prelude.{◌≡◌, []};
 ghost use Rattle.chk_site.specs.Site.{MayFail};
 ghost use Rattle.chk_sockets.specs.Faults.{answer_of};
 
@@ -39,7 +40,9 @@ pub struct Routes {
 }
 
 impl Routes {
-    pub fn new(alloc: Global) -> Routes {
+    pub fn new(alloc: Global) -> Routes
+        ensures { result.kept.items ≡ [] }
+    {
         Routes {
             kept: Vec::new(alloc),
         }

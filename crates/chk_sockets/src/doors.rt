@@ -1,5 +1,6 @@
 //! The doors at which messages are taken. They stay open, so that no message is lost between
 //! takings.
+ghost use Rattle.std.specs.Prelude.{◌≡◌, []};
 ghost use Rattle.chk_site.specs.Site.{MayFail};
 ghost use Rattle.chk_sockets.specs.Faults.{answer_of};
 
@@ -37,7 +38,10 @@ pub struct Doors<R: Net> {
 }
 
 impl<R: Net + Clock> Doors<R> {
-    pub fn new(alloc: Global) -> Doors<R> {
+    pub fn new(alloc: Global) -> Doors<R>
+        ensures doors { result.doors.items ≡ [] }
+        ensures buffer { result.buffer.items ≡ [] }
+    {
         Doors {
             doors: Vec::new(alloc),
             buffer: Vec::new(alloc),

@@ -1,5 +1,5 @@
 //! Messages, with the numbers of what was sent and taken.
-ghost use Rattle.std.specs.Prelude.{◌≡◌, ◌+◌, IfOk, IfSome};
+ghost use Rattle.std.specs.Prelude.{◌≡◌, ◌+◌, [], None, IfOk, IfSome};
 ghost use Rattle.chk_site.specs.Site.{MayFail};
 ghost use Rattle.chk_sockets.specs.Faults.{answer_of};
 
@@ -33,7 +33,13 @@ pub struct Messages<R: Net> {
 }
 
 impl<R: Net + Clock> Messages<R> {
-    pub fn new(alloc: Global) -> Messages<R> {
+    pub fn new(alloc: Global) -> Messages<R>
+        ensures waiting { result.mailbox.waiting.items ≡ [] }
+        ensures held { result.mailbox.held ≡ None }
+        ensures answered { result.mailbox.answered.items ≡ [] }
+        ensures message { result.last_message ≡ 0 }
+        ensures taking { result.last_taking ≡ 0 }
+    {
         Messages {
             mailbox: Mailbox::new(alloc),
             sends: Sends::new(alloc),
@@ -44,7 +50,11 @@ impl<R: Net + Clock> Messages<R> {
     }
 
     /// Lets go what waits in the mailbox, as a collector does at its start.
-    pub fn start(&mut self) {
+    pub fn start(&mut self)
+        ensures waiting { self.new.mailbox.waiting.items ≡ [] }
+        ensures held { self.new.mailbox.held ≡ None }
+        ensures answered { self.new.mailbox.answered ≡ self.old.mailbox.answered }
+    {
         self.mailbox.empty();
     }
 

@@ -1,4 +1,5 @@
 //! Messages that were sent, each on a stream of its own, on which its answer comes.
+ghost use Rattle.std.specs.Prelude.{◌≡◌, []};
 ghost use Rattle.chk_site.specs.Site.{MayFail};
 ghost use Rattle.chk_sockets.specs.Faults.{answer_of};
 
@@ -30,7 +31,11 @@ pub struct Sends<R: Net> {
 }
 
 impl<R: Net + Clock> Sends<R> {
-    pub fn new(alloc: Global) -> Sends<R> {
+    pub fn new(alloc: Global) -> Sends<R>
+        ensures open { result.open.items ≡ [] }
+        ensures routes { result.routes.kept.items ≡ [] }
+        ensures buffer { result.buffer.items ≡ [] }
+    {
         Sends {
             open: Vec::new(alloc),
             routes: Routes::new(alloc),
