@@ -1,4 +1,4 @@
-//! Tests of what a collector replies, over a site in memory.
+//! Tests of a collector's sinks, and of what it replies, over a site in memory.
 #![tactic(auto)]
 
 #[cfg(test)]
@@ -9,3 +9,9 @@ mod programs;
 mod requests;
 #[cfg(test)]
 mod scene;
+#[cfg(test)]
+mod sink_calls;
+#[cfg(test)]
+mod sink_programs;
+#[cfg(test)]
+mod sinks;

@@ -17,7 +17,7 @@ use std::test::Fail;
 const FOREIGN_MARK: &str = "sinks/c9.1.1.mark";
 
 // The collector c1.
-fn first(alloc: Global) -> Result<Who, Fail>
+pub(crate) fn first(alloc: Global) -> Result<Who, Fail>
     ensures role { IfOk result (λ who. who.role ≡ collector_role) }
     ensures name { IfOk result (λ who. IsTrue (is_collector who.name)) }
 {
@@ -56,11 +56,11 @@ fn start_second(alloc: Global, site: &mut SiteMem) -> Result<Collector, Fail> {
     }
 }
 
-fn plain(alloc: Global, text: &str) -> Result<String, Fail> {
+pub(crate) fn plain(alloc: Global, text: &str) -> Result<String, Fail> {
     Ok(String::from_str(alloc, text)?)
 }
 
-fn number(alloc: Global, number: usize) -> Result<String, Fail> {
+pub(crate) fn number(alloc: Global, number: usize) -> Result<String, Fail> {
     Ok(format!(in alloc; "{number}")?)
 }
 
@@ -111,7 +111,7 @@ fn outlines(
     outline(alloc, told.as_str())
 }
 
-fn done(alloc: Global, is_done: bool) -> Result<String, Fail> {
+pub(crate) fn done(alloc: Global, is_done: bool) -> Result<String, Fail> {
     plain(alloc, if is_done { "done" } else { "refused" })
 }
 
@@ -126,7 +126,7 @@ fn starts_again(
     plain(alloc, "done")
 }
 
-fn size(alloc: Global, site: &SiteMem, name: &str) -> Result<String, Fail> {
+pub(crate) fn size(alloc: Global, site: &SiteMem, name: &str) -> Result<String, Fail> {
     match site.file(name) {
         Some(bytes) => number(alloc, bytes.len()),
         None => plain(alloc, "none"),
@@ -169,7 +169,13 @@ fn does(
     }
 }
 
-fn same(alloc: Global, row: &str, line: &str, given: &str, wanted: &str) -> Result<(), Fail> {
+pub(crate) fn same(
+    alloc: Global,
+    row: &str,
+    line: &str,
+    given: &str,
+    wanted: &str,
+) -> Result<(), Fail> {
     if given == wanted {
         return Ok(());
     }
@@ -204,7 +210,7 @@ fn follows(
 }
 
 // The bytes of hexadecimal digits.
-fn hex(alloc: Global, digits: &str) -> Result<Bytes, Fail> {
+pub(crate) fn hex(alloc: Global, digits: &str) -> Result<Bytes, Fail> {
     let mut bytes = Bytes::new(alloc);
     for word in digits.split('.') {
         if !word.is_empty() {
