@@ -5,6 +5,7 @@ pub mod LeastLines
 pub mod CountSteps
 pub mod PutSteps
 pub mod Handling
+pub mod Passing
 pub mod PutLoop
 pub mod MayReply
 pub mod Outcome
