@@ -1,3 +1,6 @@
+pub mod Keeping
+pub mod KeptInside
+pub mod KeptTicks
 pub mod Sides
 pub mod Clock
 pub mod Ends

@@ -34,6 +34,7 @@ use Rattle.chk_round.specs.declared.faults.RoundFault.TheVariants.{Outside, NoMe
 use Rattle.chk_round.specs.Faults.{of_agent, RoundCause}
 use Rattle.chk_round.specs.Following.{KeepsLogs}
 use Rattle.chk_round.specs.Joint.{AreIn, BothAt, GoesOn, IsSameAgent, JointTo, OnlyStopped}
+use Rattle.chk_round.specs.Keeping.{SinksKept}
 use Rattle.chk_round.specs.Polling.{PostedSome}
 use Rattle.chk_round.specs.Reading as told
 use Rattle.chk_round.specs.Reading.{AfterReadOut, IsGrowing, IsShrank, ReadOn}
@@ -177,7 +178,7 @@ StepTold i a b result old new =
 step_beside : (s : Sinks) (i : ℕ) (a b : Agents) (result : Result Stepped AgentFault) {old new : Option History}
     → StepTold i a b result old new → (stamped : List (List ℕ)) (started acting : List Who) → AreIn started acting s a
     → Adds old new (Leads (Together stamped started acting) (BothAt stamped s a)
-    (λ h. AfterStep stamped i b result h × (SinksMatch stamped s h × IsEmptyFor (process s) h)))
+    (λ h. AfterStep stamped i b result h × (SinksMatch stamped s h × (IsEmptyFor (process s) h × SinksKept s h))))
 step_beside s i a b result told stamped started acting run =
     leads_as (λ h x. (x.1.0, (x.0, x.1.1))) (λ h x. x)
     (agent_acts stamped started acting s a.source run.collector_started run.agent_started run.agent_acts

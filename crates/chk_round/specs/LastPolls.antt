@@ -7,6 +7,7 @@ use Rattle.chk_world.specs.DoneSinks.{IsGone}
 use Rattle.chk_world.specs.NamedEnds.{gave_up}
 use Rattle.chk_sink.specs.Held.{Holds}
 use Rattle.chk_sink.specs.States.{State as Sinks, process}
+use Rattle.chk_collector.specs.Passing.{HasPassed}
 use Rattle.chk_agent.specs.States.{State as Agents}
 use Rattle.chk_exchange.specs.Exchanges.{PollsInside}
 use Rattle.chk_exchange.specs.Least.{TellsLeast}
@@ -14,7 +15,8 @@ use Rattle.chk_round.specs.declared.faults.RoundFault.{RoundFault}
 use Rattle.chk_round.specs.declared.faults.RoundFault.TheVariants.{Length}
 
 -- The last steps are a poll inside the process, which left this offset of the sink above the length
--- that it gave. Where the sink is one of the collector's, it was given up before, or it is gone.
+-- that it gave. Where the sink is one of the collector's, it was given up before, or it is gone. One
+-- of the collector's start was given up only where one of that start has passed 2^62 bytes.
 pub record LastPoll (collector : List ℕ) (stem : Stem) (got want : ℕ) (history : History)
     : Type 0 where
   pub polled : History
@@ -31,6 +33,8 @@ pub record LastPoll (collector : List ℕ) (stem : Stem) (got want : ℕ) (histo
       (Some earlier) (Some history)
   pub below : got < want
   pub lost : stem.collector ≡ collector → IsTrue (gave_up stem history) ⊎ IsGone history stem
+  pub passed : stem.collector ≡ collector → stem.born ≡ sinks.born → IsTrue (gave_up stem history)
+      → HasPassed collector sinks.born history
 
 -- where such a poll ended so, the length is at least what stayed committed
 abbrev pub LengthTold : {T : Type 0} → Who → Sinks → Agents → Result T RoundFault → Option History

@@ -1,5 +1,6 @@
 pub mod Processes
 pub mod Spent
+pub mod Keeping
 pub mod Joint
 pub mod Faults
 pub mod Starts

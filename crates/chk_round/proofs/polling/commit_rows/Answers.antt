@@ -36,7 +36,7 @@ returns-clause-joint g c =
     joint_then c.args.collector.now c.tick.new.self c.poll_until_free.new.collector c.args.agent.now c.args.agent.now
     c.poll_until_free.new.agent c.poll_until_free.result c.tick.ensures.same.collector refl
     (tick_goes c.args.collector.now c.tick.new.self c.args.agent.now c.ready-sound.ensures.sound c.tick.ensures.same.collector
-    c.in_ok-tick.ensures.told) c.poll_until_free.ensures.joint
+    c.args.now c.in_ok-tick.ensures.ok c.in_ok-tick.ensures.closes c.in_ok-tick.ensures.told) c.poll_until_free.ensures.joint
 
 pub returns-clause-same : goal.returns-clause-same
 returns-clause-same g c =

@@ -37,7 +37,7 @@ returns-in_err-poll_whole-clause-joint g c =
     rw (p.1, p.2)
     (until_ends c.args.collecting.now c.args.collector.now c.polls.collector c.poll_whole.new.collector
     c.args.agent.now c.polls.agent c.poll_whole.new.agent c.requires.started so.starts.collector so.same.source
-    c.poll_whole.ensures.same.collector c.requires.ready c.requires.committed c.polls.invariant.on so.joint
+    c.requires.named c.poll_whole.ensures.same c.requires.ready c.requires.committed c.polls.invariant.on so.joint
     c.in_err-poll_whole.field-0.0 c.in_err-poll_whole.ensures.polls c.in_err-poll_whole.ensures.least
     c.in_err-poll_whole.ensures.joint)
 

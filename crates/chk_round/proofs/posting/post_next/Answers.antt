@@ -5,6 +5,7 @@ use Rattle.chk_queue.specs.Queues.{Waiting}
 use Rattle.chk_round.specs.Faults.{of_exchange}
 use Rattle.chk_round.proofs.Inside.{posted_some}
 use Rattle.chk_round.proofs.Joining.{exchange_ends, exchange_goes, joint_then, still_c}
+use Rattle.chk_round.proofs.KeptInside.{post_keeps_by}
 use Rattle.chk_round.proofs.Posts.{posted_then}
 use Rattle.chk_round.proofs.Sent.{post_sends, sends_on_then}
 use Rattle.chk_round.proofs.Spending.{post_tells}
@@ -39,7 +40,9 @@ returns-clause-joint g c =
     c.in_ok-make_room.ensures.joint
     (exchange_goes c.args.collecting.now c.make_room.new.collector c.post_inside.new.collector c.make_room.new.agent
     c.post_inside.new.agent (still_c c.args.collecting.now c.args.collector.now c.make_room.new.collector c.requires.started c.make_room.ensures.same.collector) (Unit {0}) tt
-    c.in_ok-post_inside.ensures.told)
+    c.in_ok-post_inside.ensures.told
+    (post_keeps_by (still_c c.args.collecting.now c.args.collector.now c.make_room.new.collector c.requires.started c.make_room.ensures.same.collector)
+    c.requires.named c.post_inside.ensures.same c.in_ok-post_inside.ensures.script))
 
 pub returns-clause-some : goal.returns-clause-some
 returns-clause-some g c =
