@@ -12,7 +12,7 @@ use Rattle.chk_site.specs.Acts.{Deed}
 use Rattle.chk_site.specs.declared.acts.ActAnswer.{ActAnswer}
 use Rattle.chk_site.specs.declared.acts.OutsideFault.{OutsideFault}
 use Rattle.chk_site.specs.declared.acts.Who.{Who}
-use Rattle.std.proofs.Common.{◌≡◌, inl, inr, ℕ, List, Option, Some, Result, Ok, Err, refl, ap, subst, ◌∙◌, ◌⊎◌, true, None, ◌∷◌, length}
+use Rattle.std.proofs.Common.{◌≡◌, inl, inr, ℕ, List, Option, Some, Result, Ok, Err, refl, ap, subst, ◌∙◌, true, None, ◌∷◌, length}
 use Rattle.std.specs.Prelude.{IfOk, IfErr}
 use Rattle.std.proofs.lemmas.Result.{IfOk-weaker}
 use Rattle.chk_bytes.specs.Stems.{Stem}
@@ -40,6 +40,7 @@ use Rattle.chk_collector.specs.Posting.{HasLineEach, IsOfPut}
 use Rattle.chk_collector.specs.Polling.{HasLineOf, CountedAll}
 use Rattle.chk_collector.specs.Replies.{MayHaveRisen, IsTold, IsReplyBy}
 use Rattle.chk_collector.proofs.LeastLines.{poll_least, post_least}
+use Rattle.chk_collector.proofs.OwnLines.{poll_of_start}
 
 -- ---- a post
 
@@ -135,6 +136,7 @@ post_replied request chunks old new before now told_before told_after lines (Ok 
       state = inl (chunks, post, puts, each.place);
       sound = tt;
       least = post_least request old each.acks chunks told_before told_after post;
+      of_start = λ cs p. each.of_start;
     }) written
 post_replied request chunks old new before now told_before told_after lines (Err fault) result post each puts leaves own of_put spent last cause written =
     IfOk-weaker result _ (Replied request old new before now told_before told_after)
@@ -152,6 +154,7 @@ post_replied request chunks old new before now told_before told_after lines (Err
       state = inl (chunks, post, leaves);
       sound = post_sound request old told_before told_after fault of_put;
       least = tt;
+      of_start = tt;
     }) written
 
 -- ---- a poll
@@ -201,6 +204,7 @@ poll_replied request stems s before now told_before told_after lines (Ok value) 
       state = inr (stems, poll, refl);
       sound = tt;
       least = poll_least request s each.acks each.least;
+      of_start = poll_of_start request s each.acks stems poll;
     }) written
 poll_replied request stems s before now told_before told_after lines (Err fault) result poll told own each of_question damaged last cause written =
     IfOk-weaker result _ (Replied request s s before now told_before told_after)
@@ -218,6 +222,7 @@ poll_replied request stems s before now told_before told_after lines (Err fault)
       state = inr (stems, poll, refl);
       sound = poll_sound request s stems lines told_before told_after fault told;
       least = tt;
+      of_start = tt;
     }) written
 
 -- ---- a request that is refused
@@ -245,6 +250,7 @@ bad_post_replied request body fault s count told result post first none written 
       state = refl;
       sound = tt;
       least = tt;
+      of_start = tt;
       spent = tt;
       untouched = (refl, refl);
     }) written
@@ -267,6 +273,7 @@ refused_replied request fault s count told result refused written =
       state = refl;
       sound = tt;
       least = tt;
+      of_start = tt;
       spent = tt;
       untouched = (refl, refl);
     }) written

@@ -6,3 +6,4 @@ pub mod Posting
 pub mod Polling
 pub mod Handled
 pub mod Least
+pub mod OwnLines
