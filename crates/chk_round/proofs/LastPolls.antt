@@ -32,7 +32,7 @@ use Rattle.chk_round.specs.declared.faults.RoundFault.{RoundFault}
 use Rattle.chk_round.specs.declared.faults.RoundFault.TheVariants.{Outside as failed, NoMemory, Damaged, Length, Growing, Shrank, Spent, Refused, Checkpoint}
 use Rattle.chk_round.specs.Faults.{of_exchange}
 use Rattle.chk_round.specs.Joint.{AreIn, BothAt, GoesOn, JointTo}
-use Rattle.chk_round.specs.LastPolls.{LastPoll, LengthTold}
+use Rattle.chk_round.specs.LastPolls.{LengthTold, MayBeLost}
 use Rattle.chk_round.specs.Lengths.{HasCommitted, PolledOnce, PollsOn}
 use Rattle.chk_round.specs.Polled.{PollTo, PolledTo}
 use Rattle.chk_round.specs.Spent.{WhereRunning}
@@ -90,6 +90,17 @@ module _ (who : Who) (s t u : Sinks) (a b c : Agents) (is : who ≡ process s) (
     run_t : AreIn started acting t b
     run_t = in_on s t a b c_is a_is run
 
+    -- so much was written to the sink
+    place_at : (history : History) → BothAt stamped s a history → is_stopped history ≡ false
+        → IsTrue (is_stem x.stem) × (x.want ≤ length (wrote x.stem history))
+    place_at history both running =
+        (polled_rows (Some x) polls (λ z n. IsTrue (is_stem z) × (n ≤ length (wrote z history)))
+        (rows_on on (λ z n. IsTrue (is_stem z) × (n ≤ length (wrote z history)))
+        (all_rows (λ z n. IsTrue (is_stem z) × (n ≤ length (wrote z history))) a.delivery.table.rows
+        (λ row one.
+        let r = ((both.1.0.alive running) ready).holds.delivery.rows row one in
+        answered_within stamped history both.0.legal (agent a.source) r.c (ack_of row.stem row.offset) r.answered)))).left x refl
+
     -- behind the first polls, and behind the last one
     lost_at : (early late history : History) → mid ≡ Some (early ++ history) → new ≡ Some (late ++ (early ++ history))
         → Others (Outside stamped started) late (early ++ history)
@@ -100,13 +111,7 @@ module _ (who : Who) (s t u : Sinks) (a b c : Agents) (is : who ≡ process s) (
         go (gave_up x.stem (late ++ (early ++ history))) refl
       where
         place : IsTrue (is_stem x.stem) × (x.want ≤ length (wrote x.stem history))
-        place =
-            (polled_rows (Some x) polls (λ z n. IsTrue (is_stem z) × (n ≤ length (wrote z history)))
-            (rows_on on (λ z n. IsTrue (is_stem z) × (n ≤ length (wrote z history)))
-            (all_rows (λ z n. IsTrue (is_stem z) × (n ≤ length (wrote z history))) a.delivery.table.rows
-            (λ row one.
-            let r = ((both.1.0.alive running) ready).holds.delivery.rows row one in
-            answered_within stamped history both.0.legal (agent a.source) r.c (ack_of row.stem row.offset) r.answered)))).left x refl
+        place = place_at history both running
 
         committed : IsAllCommitted x.stem.collector (files_after history)
         committed =
@@ -150,7 +155,7 @@ module _ (who : Who) (s t u : Sinks) (a b c : Agents) (is : who ≡ process s) (
 
     last_poll : Adds old new
         (Leads (Together stamped started acting) (BothAt stamped s a)
-        (WhereRunning stamped (LastPoll u.collector x.stem x.got x.want)))
+        (WhereRunning stamped (MayBeLost u.collector x.stem x.got x.want)))
     last_poll =
         let one = joint stamped started acting run in
         let two = told stamped started acting run_t in
@@ -167,26 +172,29 @@ module _ (who : Who) (s t u : Sinks) (a b c : Agents) (is : who ≡ process s) (
                       let both_t = y.2.leads (every_early (λ before step. step.own ≡ false → Outside stamped started before step) z.0 y.0 history others) both in
                       let later = every_late (λ before step. step.own ≡ false → Outside stamped started before step) z.0 y.0 history others in
                       let legal = z.2.leads later both_t in
-                      subst (WhereRunning stamped (LastPoll u.collector x.stem x.got x.want)) (sym split)
+                      subst (WhereRunning stamped (MayBeLost u.collector x.stem x.got x.want)) (sym split)
                       (record {
                         legal = legal;
                         alive = λ running.
                             let ran_t = ran_before (IsByOne acting) (λ before step by. by.running) z.0 (y.0 ++ history) z.2.own running in
                             let ran_s = ran_before (IsByOne acting) (λ before step by. by.running) y.0 history y.2.own ran_t in
                             record {
-                              polled = z.0;
-                              earlier = y.0 ++ history;
-                              split = refl;
-                              sinks = t;
-                              agent = b;
-                              sinks_then = u;
-                              agent_then = c;
-                              collector_is = sym last_is;
-                              held = both_t.0.alive ran_t;
-                              polls = subst (λ w. PollsInside w t b (Ok (Some x)) u c (Some (y.0 ++ history)) (Some (z.0 ++ (y.0 ++ history)))) same_t
-                                  (subst (λ o. PollsInside who t b (Ok (Some x)) u c o (Some (z.0 ++ (y.0 ++ history)))) y.1
-                                  (subst (λ o. PollsInside who t b (Ok (Some x)) u c mid o) z.1 polls));
-                              below = least.0;
+                              poll = record {
+                                polled = z.0;
+                                earlier = y.0 ++ history;
+                                split = refl;
+                                sinks = t;
+                                agent = b;
+                                sinks_then = u;
+                                agent_then = c;
+                                collector_is = sym last_is;
+                                held = both_t.0.alive ran_t;
+                                polls = subst (λ w. PollsInside w t b (Ok (Some x)) u c (Some (y.0 ++ history)) (Some (z.0 ++ (y.0 ++ history)))) same_t
+                                    (subst (λ o. PollsInside who t b (Ok (Some x)) u c o (Some (z.0 ++ (y.0 ++ history)))) y.1
+                                    (subst (λ o. PollsInside who t b (Ok (Some x)) u c mid o) z.1 polls));
+                                below = least.0;
+                                known = (place_at history both ran_s).0;
+                              };
                               lost = λ own. lost_at y.0 z.0 history y.1 z.1 later both both_t legal ran_s own;
                             };
                       });

@@ -14,7 +14,7 @@ use Rattle.chk_agent.specs.States.{State as Agents, process as agent_of}
 use Rattle.chk_drain.specs.Parts.{SameRest}
 use Rattle.chk_round.specs.declared.faults.RoundFault.{RoundFault}
 use Rattle.chk_round.specs.declared.faults.RoundFault.TheVariants.{Damaged, Length, Shrank, Spent, Checkpoint, Refused}
-use Rattle.chk_round.specs.LastPolls.{LastPoll}
+use Rattle.chk_round.specs.LastPolls.{MayBeLost}
 use Rattle.chk_round.specs.Spent.{LastSink, WhereRunning}
 
 -- the history is as the sinks and the agent know it, and no message waits for the collector in the
@@ -44,7 +44,7 @@ GoesOn stamped s a (Err (Damaged name at)) history = OnlyStopped stamped history
 GoesOn stamped s a (Err (Checkpoint at)) history = OnlyStopped stamped history
 GoesOn stamped s a (Err (Refused code)) history = OnlyStopped stamped history
 GoesOn stamped s a (Err (Length stem got want)) history =
-    WhereRunning stamped (LastPoll s.collector stem got want) history
+    WhereRunning stamped (MayBeLost s.collector stem got want) history
 GoesOn stamped s a (Err (Shrank path had is)) history = OnlyStopped stamped history
 GoesOn stamped s a (Err (Spent n)) history = WhereRunning stamped (LastSink s.collector n) history
 GoesOn stamped s a (Err fault) history = Legal stamped history
