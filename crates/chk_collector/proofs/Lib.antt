@@ -2,9 +2,11 @@ pub mod Sizes
 pub mod FinishTold
 pub mod Lines
 pub mod LeastLines
+pub mod OwnLines
 pub mod CountSteps
 pub mod PutSteps
 pub mod Handling
+pub mod Passing
 pub mod PutLoop
 pub mod MayReply
 pub mod Outcome

@@ -12,7 +12,7 @@ use Rattle.chk_site.specs.Acts.{Deed}
 use Rattle.chk_site.specs.declared.acts.ActAnswer.{ActAnswer}
 use Rattle.chk_site.specs.declared.acts.OutsideFault.{OutsideFault}
 use Rattle.chk_site.specs.declared.acts.Who.{Who}
-use Rattle.std.proofs.Common.{◌≡◌, inl, inr, ℕ, List, Option, Some, Result, Ok, Err, refl, ap, subst, ◌∙◌, ◌⊎◌, true, None, ◌∷◌, length}
+use Rattle.std.proofs.Common.{◌≡◌, inl, inr, ℕ, List, Option, Some, Result, Ok, Err, refl, ap, subst, ◌∙◌, true, None, ◌∷◌, length}
 use Rattle.std.specs.Prelude.{IfOk, IfErr}
 use Rattle.std.proofs.lemmas.Result.{IfOk-weaker}
 use Rattle.chk_bytes.specs.Stems.{Stem}
@@ -40,6 +40,10 @@ use Rattle.chk_collector.specs.Posting.{HasLineEach, IsOfPut}
 use Rattle.chk_collector.specs.Polling.{HasLineOf, CountedAll}
 use Rattle.chk_collector.specs.Replies.{MayHaveRisen, IsTold, IsReplyBy}
 use Rattle.chk_collector.proofs.LeastLines.{poll_least, post_least}
+use Rattle.chk_collector.specs.Passing.{PutsLeaveFull}
+use Rattle.chk_collector.proofs.MayReply.{are_posted}
+use Rattle.chk_site.proofs.Leads.{leads_as}
+use Rattle.chk_collector.proofs.OwnLines.{poll_of_start}
 
 -- ---- a post
 
@@ -114,12 +118,13 @@ refused_unanswered request s (Err e) told = record { done = Ok tt; own = rests; 
 pub post_replied : {E : Type 0} (request : List ℕ) (chunks : List Chunk) (old new : State) (before now : ℕ) (told_before told_after : Option History)
     (lines : List ℕ) (done : Result (Unit {0}) SinkFault) (result : Result (List ℕ) E) → IsPostOf chunks request
     → OnceDone done (HasLineEach new chunks lines) → OnceDone done (Puts (length chunks) old new) → IfErr done (PutsThen (length chunks) old new)
+    → OnceDone done (PutsLeaveFull old new chunks told_before told_after)
     → Works (process old) (OfPosts old) (ended_by done) told_before told_after
     → IfErr done IsOfPut → IfErr done (λ fault. OutcomeSpent old new (Fails fault))
     → Adds told_before told_after (FailsLast done) → SinkCause before now done
     → IfOk result (IsReplyBy done lines)
     → IfOk result (Replied request old new before now told_before told_after)
-post_replied request chunks old new before now told_before told_after lines (Ok value) result post each puts leaves own of_put spent last cause written =
+post_replied request chunks old new before now told_before told_after lines (Ok value) result post each puts leaves full own of_put spent last cause written =
     IfOk-weaker result _ (Replied request old new before now told_before told_after)
     (λ reply is. record {
       outcome = Lines each.acks;
@@ -135,8 +140,10 @@ post_replied request chunks old new before now told_before told_after lines (Ok 
       state = inl (chunks, post, puts, each.place);
       sound = tt;
       least = post_least request old each.acks chunks told_before told_after post;
+      full = λ stamped t others. full stamped (begun t request ∷ others) (are_posted t request others chunks post);
+      of_start = λ cs p. each.of_start;
     }) written
-post_replied request chunks old new before now told_before told_after lines (Err fault) result post each puts leaves own of_put spent last cause written =
+post_replied request chunks old new before now told_before told_after lines (Err fault) result post each puts leaves full own of_put spent last cause written =
     IfOk-weaker result _ (Replied request old new before now told_before told_after)
     (λ reply is. record {
       outcome = Fails fault;
@@ -152,6 +159,8 @@ post_replied request chunks old new before now told_before told_after lines (Err
       state = inl (chunks, post, leaves);
       sound = post_sound request old told_before told_after fault of_put;
       least = tt;
+      full = tt;
+      of_start = tt;
     }) written
 
 -- ---- a poll
@@ -201,6 +210,8 @@ poll_replied request stems s before now told_before told_after lines (Ok value) 
       state = inr (stems, poll, refl);
       sound = tt;
       least = poll_least request s each.acks each.least;
+      full = λ stamped t others. leads_as (λ h x. x) (λ h x r left. inl left) (told stamped t others);
+      of_start = poll_of_start request s each.acks stems poll;
     }) written
 poll_replied request stems s before now told_before told_after lines (Err fault) result poll told own each of_question damaged last cause written =
     IfOk-weaker result _ (Replied request s s before now told_before told_after)
@@ -218,6 +229,8 @@ poll_replied request stems s before now told_before told_after lines (Err fault)
       state = inr (stems, poll, refl);
       sound = poll_sound request s stems lines told_before told_after fault told;
       least = tt;
+      full = tt;
+      of_start = tt;
     }) written
 
 -- ---- a request that is refused
@@ -245,6 +258,8 @@ bad_post_replied request body fault s count told result post first none written 
       state = refl;
       sound = tt;
       least = tt;
+      full = tt;
+      of_start = tt;
       spent = tt;
       untouched = (refl, refl);
     }) written
@@ -267,6 +282,8 @@ refused_replied request fault s count told result refused written =
       state = refl;
       sound = tt;
       least = tt;
+      full = tt;
+      of_start = tt;
       spent = tt;
       untouched = (refl, refl);
     }) written

@@ -9,24 +9,29 @@ use Rattle.chk_sink.proofs.Holding.{told_by}
 use Rattle.chk_world.proofs.Working.{works_then, works_as}
 use Rattle.chk_world.specs.Works.{Works, rests}
 use Rattle.chk_site.specs.declared.acts.OutsideFault.{OutsideFault}
-use Rattle.std.proofs.Common.{◌≡◌, ℕ, zero, ◌*◌, ◌≤◌, List, [], ◌∷◌, ◌++◌, length, length-append, map, Option, Result, Ok, Err, refl, sym, ap, subst, ◌∙◌, append_assoc, append-nil, arith, suc, ◌+◌, ◌<◌, None, inl, inr}
-use Rattle.std.specs.Prelude.{Contains}
+use Rattle.std.proofs.Common.{◌≡◌, ℕ, zero, ◌*◌, ◌≤◌, List, [], ◌∷◌, ◌++◌, length, length-append, map, Option, Result, Ok, Err, refl, sym, ap, subst, ◌∙◌, append_assoc, append-nil, arith, suc, ◌+◌, ◌<◌, ◌^◌, None, inl, inr}
+use Rattle.std.specs.Prelude.{Contains, IsTrue}
 use Rattle.std.proofs.lemmas.List.Elements.{Contains-append_right}
-use Rattle.chk_bytes.specs.Stems.{Stem}
+use Rattle.chk_bytes.specs.Stems.{Stem, is_stem}
 use Rattle.chk_site.specs.declared.acts.Role.TheVariants.{Collector}
 use Rattle.chk_site.specs.History.{History}
 use Rattle.chk_site.specs.Site.{Adds}
-use Rattle.chk_site.specs.Runs.{Leads}
+use Rattle.chk_site.specs.Runs.{Leads, Owns}
 use Rattle.chk_site.proofs.Leads.{leads_then, leads_none}
+use Rattle.chk_site.proofs.Runs.{adds_as, adds_both}
 use Rattle.chk_chunk.specs.Keys.{Chunk}
 use Rattle.chk_message.specs.Messages.{Ack, ack_of, ack_text, acks_text}
 use Rattle.chk_world.specs.Collectors.{Handling, with_appends}
-use Rattle.chk_world.specs.Places.{As}
+use Rattle.chk_world.specs.Places.{As, IsBy}
 use Rattle.chk_sink.specs.declared.fault.SinkFault.{SinkFault}
 use Rattle.chk_sink.specs.States.{State, IsSameStart, process}
 use Rattle.chk_sink.specs.Held.{Handles, Ready}
 use Rattle.chk_collector.specs.Posting.{ArePosted, WroteAll, HasLineEach}
+use Rattle.chk_collector.specs.Passing.{LeavesFull, PutsLeaveFull}
+use Rattle.chk_collector.proofs.Passing.{full_before, passed_on, runs_before}
 use Rattle.chk_collector.proofs.Lines.{acks_text-more, short_more}
+use Rattle.chk_collector.proofs.OwnLines.{of_start_more}
+use Rattle.chk_collector.specs.OwnLines.{AreOfStart}
 use Rattle.chk_collector.proofs.PutSteps.{PutsOne, put_step, tells_on}
 
 -- the chunks before the rest were put, and each has its line
@@ -41,7 +46,9 @@ pub record PutSoFar (old now : Option History) (before count : ℕ) (first s : S
       → Adds old now (Leads (As stamped (process first)) (Ready stamped first handled) (WroteAll stamped s handled done lines (Ok tt)))
   pub same : IsSameStart first s
   pub puts : Puts (length done) first s
+  pub full : PutsLeaveFull first s chunks old now
   pub place : EndsInPlace s acks
+  pub of_start : AreOfStart s acks
   pub own : Works (process first) (OfPosts first) None old now
   pub cause : count ≡ before
 
@@ -88,7 +95,9 @@ put_begins now n first s chunks lines same none =
           }) x);
       same = same_self first;
       puts = begins;
+      full = λ stamped handled posted. leads_none now (λ h x r left. inl left);
       place = tt;
+      of_start = tt;
       own = rests;
       cause = refl;
     })
@@ -137,12 +146,36 @@ module _ {old now new : Option History} {before count : ℕ} {first s : State} {
       (put_step stamped handled s s' c result (posted c (next_is so_far c rest' more)) so_far.done rest' chunks (so_far.whole ∙ ap (λ l. so_far.done ++ l) more)
       lines lines' (Err fault) (λ appends later t a. tt) told))
 
+  -- a sink is abandoned by it only where one was full
+  put_full : (c : Chunk) (rest' : List Chunk) (x : Stem) (n : ℕ) (s' : State) → rest ≡ c ∷ rest' → PutsOne now new s s' c (Ok (x, n))
+      → GoesOn s s' → PutsLeaveFull first s' chunks old new
+  put_full c rest' x n s' more told goes stamped handled posted =
+      leads_then
+      (adds_both (Leads (As stamped (process first)) (Ready stamped first handled) Both)
+      (so_far.told stamped handled posted) (so_far.full stamped handled posted)
+      (λ added h x y. record { leads = λ others ready. (x.leads others ready, y.leads others ready); own = x.own }))
+      (adds_as (Leads (As stamped (process first)) Both (LeavesFull first s'))
+      (by_same stamped (told stamped handled (posted c (next_is so_far c rest' more))))
+      (λ added h z. record { leads = λ others both. later added h z.own both; own = z.own }))
+    where
+      Both : History → Type 0
+      Both h = WroteAll stamped s handled so_far.done lines (Ok tt) h × LeavesFull first s h
+
+      later : (added h : History) → Owns (IsBy (process first)) added h → Both h → LeavesFull first s' (added ++ h)
+      later added h own both running left =
+          let r = runs_before (IsBy (process first)) (λ before step by. by.running) added h own running in
+          elim (full_before stamped first s s' so_far.same goes h both.0.legal (both.0.alive r).handles.holds (both.1 r) left) [
+            | inl was ↦ inl was
+            | inr passed ↦ inr (passed_on added h passed)
+          ]
+
   -- one more
   pub put_on : (c : Chunk) (rest' : List Chunk) (x : Stem) (n count' : ℕ) (s' : State) (lines' : List ℕ)
-      → rest ≡ c ∷ rest' → lines' ≡ lines ++ ack_text (ack_of x n) → length (ack_text (ack_of x n)) ≤ 126 → PutsOne now new s s' c (Ok (x, n))
+      → rest ≡ c ∷ rest' → lines' ≡ lines ++ ack_text (ack_of x n) → length (ack_text (ack_of x n)) ≤ 126
+      → IsTrue (is_stem x) → n < 2 ^ 64 → PutsOne now new s s' c (Ok (x, n))
       → IsSameStart s s' → GoesOn s s' → IsPlaced s' (x, n) → Works (process s) (OfPut s) None now new
       → count' ≡ count → PutSoFar old new before count' first s' chunks rest' lines'
-  put_on c rest' x n count' s' lines' more line short told same goes placed own cause = record {
+  put_on c rest' x n count' s' lines' more line short stem wide told same goes placed own cause = record {
     done = so_far.done ++ c ∷ [];
     whole = so_far.whole ∙ (ap (λ l. so_far.done ++ l) more ∙ sym (append_assoc so_far.done (c ∷ []) rest'));
     acks = so_far.acks ++ ack_of x n ∷ [];
@@ -153,7 +186,9 @@ module _ {old now new : Option History} {before count : ℕ} {first s : State} {
     told = put_told c rest' x n s' lines' more line told;
     same = same_then first s s' so_far.same same;
     puts = subst (λ k. Puts k first s') (sym (length-append so_far.done (c ∷ []) ∙ one_more (length so_far.done))) (goes_on so_far.puts goes);
+    full = put_full c rest' x n s' more told goes;
     place = place_more s' so_far.acks x n placed;
+    of_start = of_start_more s s' so_far.acks x n same so_far.of_start placed stem wide;
     own = own_on own;
     cause = cause ∙ so_far.cause;
   }
@@ -193,6 +228,9 @@ module _ {old now : Option History} {before count : ℕ} {first s : State} {chun
   pub puts_end : Puts (length chunks) first s
   puts_end = subst (λ (l : List Chunk). Puts (length l) first s) all_put so_far.puts
 
+  pub full_end : PutsLeaveFull first s chunks old now
+  full_end = so_far.full
+
   pub lines_end : HasLineEach s chunks lines
   lines_end = record {
     acks = so_far.acks;
@@ -200,6 +238,7 @@ module _ {old now : Option History} {before count : ℕ} {first s : State} {chun
     as_many = so_far.as_many ∙ ap (λ l. length l) all_put;
     short = subst (λ (l : List Chunk). length lines ≤ 126 * length l) all_put so_far.short;
     place = so_far.place;
+    of_start = so_far.of_start;
   }
 
   pub told_end : (stamped : List (List ℕ)) (handled : List Handling) → ArePosted handled chunks

@@ -6,3 +6,5 @@ pub mod Posting
 pub mod Polling
 pub mod Handled
 pub mod Least
+pub mod Passing
+pub mod OwnLines

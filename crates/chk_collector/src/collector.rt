@@ -23,6 +23,7 @@ ghost use Rattle.chk_sink.specs.Asked.{IsOfQuestion};
 ghost use Rattle.chk_sink.specs.Starts.{IsFresh, Started, IsLastStart};
 ghost use Rattle.chk_collector.specs.Outcomes.{Fails, OutcomeSpent, Replied};
 ghost use Rattle.chk_collector.specs.Posting.{ArePosted, WroteAll, HasLineEach, IsOfPut};
+ghost use Rattle.chk_collector.specs.Passing.{PutsLeaveFull};
 ghost use Rattle.chk_collector.specs.Polling.{AsksFor, CountedAll, HasLineOf};
 ghost use Rattle.chk_collector.specs.Answering.{Taken, Answered};
 ghost use Rattle.chk_collector.specs.Finishing.{finished, Finished, LeavesAfterFinish, IsAtEnd};
@@ -149,6 +150,8 @@ impl Collector {
             (Ready stamped self.old handled) (WroteAll stamped self.new handled post.entry.left lines.new result)) }
         ensures lines { OnceDone result (HasLineEach self.new post.entry.left lines.new) }
         ensures puts { OnceDone result (Puts (length post.entry.left) self.old self.new) }
+        ensures full { OnceDone result (PutsLeaveFull self.old self.new post.entry.left
+            (S.told site.old) (S.told site.new)) }
         ensures leaves { IfErr result (PutsThen (length post.entry.left) self.old self.new) }
         ensures own { Works (process self.old) (OfPosts self.old) (ended_by result)
             (S.told site.old) (S.told site.new) }

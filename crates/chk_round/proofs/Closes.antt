@@ -92,7 +92,7 @@ module _ (stamped : List (List ℕ)) (started acting : List Who) (s t : Sinks) (
       → Adds old new (Leads (As stamped (process s)) (SinksMatch stamped s) (Finished stamped s t r))
       → Go (BothAt stamped s a) (λ h. Finished stamped s t r h × AgentMatches stamped a h) old new
   finish_beside r told =
-      leads_as (λ h x. x) (λ h x. (x.0, x.1.0))
+      leads_as (λ h x. (x.0, (x.1.0, x.1.1.0))) (λ h x. (x.0, x.1.0))
       (collector_acts stamped started acting s.collector a sound run.collector_started run.collector_acts run.agent_started
       (λ h x. x.legal) told)
 

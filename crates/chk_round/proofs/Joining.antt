@@ -1,28 +1,34 @@
 -- Parts of a round in turn, each from the states that the one before left.
-use Rattle.std.proofs.Common.{◌≡◌, ℕ, List, Option, Result, Ok, Err, refl, sym, subst, ap, ◌∙◌}
+use Rattle.std.proofs.Common.{◌≡◌, ℕ, false, List, Option, Result, Ok, Err, refl, sym, subst, ap, ◌∙◌}
 use Rattle.std.specs.Prelude.{Contains}
 use Rattle.chk_site.specs.declared.acts.Role.TheVariants.{Agent, Collector}
+use Rattle.chk_site.specs.declared.acts.OutsideFault.{OutsideFault}
 use Rattle.chk_site.specs.declared.acts.Who.{Who}
 use Rattle.chk_site.specs.History.{History}
 use Rattle.chk_site.specs.Site.{Adds}
 use Rattle.chk_site.specs.Runs.{Leads}
 use Rattle.chk_site.proofs.Leads.{leads_as, leads_none, leads_then}
+use Rattle.chk_site.proofs.Runs.{adds_both}
 use Rattle.chk_world.specs.Places.{As}
 use Rattle.chk_world.specs.Together.{Together}
+use Rattle.chk_world.specs.Works.{Works}
 use Rattle.chk_sink.specs.declared.fault.SinkFault.{SinkFault}
 use Rattle.chk_sink.specs.declared.fault.SinkFault.TheVariants.{Outside as sink_failed, Damaged as sink_damaged, Spent as sink_spent, NoMemory as sink_wanting}
 use Rattle.chk_sink.specs.Closes.{IsOfTick, Ticked}
 use Rattle.chk_sink.specs.Held.{Matches as SinksMatch}
-use Rattle.chk_sink.specs.States.{State as Sinks, process}
+use Rattle.chk_sink.specs.States.{State as Sinks, process, ticked_state}
+use Rattle.chk_sink.specs.Works.{OfClose}
 use Rattle.chk_agent.specs.Fits.{IsSound}
 use Rattle.chk_agent.specs.States.{State as Agents}
 use Rattle.chk_exchange.specs.declared.fault.ExchangeFault.{ExchangeFault}
 use Rattle.chk_exchange.specs.declared.fault.ExchangeFault.TheVariants.{Outside, NoMemory, Damaged, Spent, Refused}
-use Rattle.chk_exchange.specs.Legality.{Exchanged}
+use Rattle.chk_exchange.specs.Legality.{BothAt as BothInside, Exchanged}
 use Rattle.chk_round.specs.declared.faults.RoundFault.{RoundFault}
 use Rattle.chk_round.specs.Faults.{of_exchange, of_sinks}
 use Rattle.chk_round.specs.Joint.{AreIn, BothAt, GoesOn, IsSameAgent, JointTo}
 use Rattle.chk_round.specs.Spent.{ToldSpent}
+use Rattle.chk_round.proofs.KeptInside.{KeepsOver}
+use Rattle.chk_round.proofs.KeptTicks.{tick_keeps}
 use Rattle.chk_round.proofs.Sides.{collector_acts, collector_goes}
 use Rattle.chk_round.proofs.Spending.{Tells, last_sink}
 
@@ -78,19 +84,21 @@ ticked stamped s t a (sink_spent born) only h x = absurd only
 ticked stamped s t a sink_wanting only h x = x.legal
 
 module _ (s t : Sinks) (a : Agents) (sound : IsSound a) (same : t.collector ≡ s.collector) where
-  pub tick_goes : {old new : Option History}
+  pub tick_goes : (now : ℕ) {fault : Option OutsideFault} {old new : Option History} → t ≡ ticked_state now s
+      → (s.abandoned ≡ false → Works (process s) (OfClose s) fault old new)
       → ((stamped : List (List ℕ)) → Adds old new (Leads (As stamped (process s)) (SinksMatch stamped s) (Ticked stamped s t (Ok tt))))
       → JointTo s a t a (Ok tt) old new
-  tick_goes told stamped started acting run =
+  tick_goes now is closes told stamped started acting run =
       collector_goes stamped started acting s a run sound t same
       (leads_as (λ h x. x)
       (λ h x. record { legal = x.legal; may_act = x.may_act; alive = λ running. (x.alive running).holds }) (told stamped))
+      (tick_keeps now s t (told stamped) closes is)
 
   pub tick_ends : (fault : SinkFault) → IsOfTick fault → {old new : Option History}
       → ((stamped : List (List ℕ)) → Adds old new (Leads (As stamped (process s)) (SinksMatch stamped s) (Ticked stamped s t (Err fault))))
       → JointTo s a t a (Err (of_sinks fault)) old new
   tick_ends fault only told stamped started acting run =
-      leads_as (λ h x. x) (λ h x. ticked stamped s t a fault only h x.0)
+      leads_as (λ h x. (x.0, (x.1.0, x.1.1.0))) (λ h x. ticked stamped s t a fault only h x.0)
       (collector_acts stamped started acting s.collector a sound run.collector_started run.collector_acts run.agent_started
       (λ h x. x.legal) (told stamped))
 
@@ -116,7 +124,7 @@ ExchangeTo who s a t b result old new =
     (stamped : List (List ℕ)) (started acting : List Who)
     → Contains started who → Contains started (record { role = Agent; name = a.source })
     → Contains acting who → Contains acting (record { role = Agent; name = a.source })
-    → Adds old new (Leads (Together stamped started acting) (BothAt stamped s a) (Exchanged stamped t b result))
+    → Adds old new (Leads (Together stamped started acting) (BothInside stamped s a) (Exchanged stamped t b result))
 
 module _ (who : Who) (s t : Sinks) (a b : Agents) (is : who ≡ process s) where
   -- it, of the collector itself
@@ -124,12 +132,21 @@ module _ (who : Who) (s t : Sinks) (a b : Agents) (is : who ≡ process s) where
       → (stamped : List (List ℕ)) (started acting : List Who) → AreIn started acting s a
       → Adds old new (Leads (Together stamped started acting) (BothAt stamped s a) (Exchanged stamped t b result))
   told_of T result told stamped started acting run =
-      told stamped started acting (subst (Contains started) (sym is) run.collector_started) run.agent_started
-      (subst (Contains acting) (sym is) run.collector_acts) run.agent_acts
+      leads_as (λ h x. (x.0, (x.1.0, x.1.1.0))) (λ h x. x)
+      (told stamped started acting (subst (Contains started) (sym is) run.collector_started) run.agent_started
+      (subst (Contains acting) (sym is) run.collector_acts) run.agent_acts)
 
   pub exchange_goes : (T : Type 0) (value : T) {old new : Option History} → ExchangeTo who s a t b (Ok value) old new
-      → JointTo s a t b (Ok tt) old new
-  exchange_goes T value told stamped started acting run = told_of T (Ok value) told stamped started acting run
+      → KeepsOver s t old new → JointTo s a t b (Ok tt) old new
+  exchange_goes T value told keeps stamped started acting run =
+      adds_both (Leads (Together stamped started acting) (BothAt stamped s a) (BothAt stamped t b))
+      (told_of T (Ok value) told stamped started acting run) (keeps stamped started acting run.collector_started)
+      (λ added history x y. record {
+        leads = λ others h.
+            let end = x.leads others h in
+            (end.0, (end.1.0, (end.1.1, y end.0.legal others x.own (h.0, h.1.1.1))));
+        own = x.own;
+      })
 
   pub exchange_ends : (T : Type 0) (fault : ExchangeFault) {old new : Option History}
       → ExchangeTo {T = T} who s a t b (Err fault) old new → Tells {T = T} who s t (Err fault) old new

@@ -1,5 +1,5 @@
 -- Collector and agent start, and the agent asks for the time.
-use Rattle.std.proofs.Common.{◌≡◌, inl, inr, ℕ, true, List, [], ◌++◌, Option, Result, Ok, Err, refl, sym, subst, ap, ◌∙◌, append_assoc, arith}
+use Rattle.std.proofs.Common.{◌≡◌, inl, inr, ℕ, true, false, List, [], ◌++◌, Option, Result, Ok, Err, refl, sym, subst, ap, ◌∙◌, append_assoc, arith}
 use Rattle.std.specs.Prelude.{Contains, codes}
 use Rattle.chk_site.specs.declared.acts.Role.TheVariants.{Agent, Collector}
 use Rattle.chk_site.specs.declared.acts.Who.{Who}
@@ -29,9 +29,11 @@ use Rattle.chk_agent.specs.States.{State as Agents}
 use Rattle.chk_round.specs.declared.faults.RoundFault.{RoundFault}
 use Rattle.chk_round.specs.Faults.{of_agent, of_sinks}
 use Rattle.chk_round.specs.Joint.{AreIn, BothAt}
+use Rattle.chk_round.specs.Keeping.{SinksKept}
 use Rattle.chk_round.specs.Processes.{AreBoth, c1}
 use Rattle.chk_round.specs.Starts.{ClockGave, EndsWithClock, Met}
 use Rattle.chk_round.proofs.Clock.{clock_leaves}
+use Rattle.chk_round.proofs.Keeping.{fresh_keeps}
 use Rattle.chk_round.proofs.Sides.{agent_acts, agent_goes, start_empties}
 
 -- ---- who is in the run
@@ -105,17 +107,22 @@ module _ (stamped : List (List ℕ)) (source : List ℕ) (started acting : List 
 
   module _ (s : Sinks) (c_is : s.collector ≡ codes "c1") where
     abbrev Alone : History → Type 0
-    Alone h = SinksMatch stamped s h × IsEmptyFor (process s) h
+    Alone h = SinksMatch stamped s h × (IsEmptyFor (process s) h × SinksKept s h)
 
     is_c1 : process s ≡ c1
     is_c1 = ap (λ n. record { role = Collector; name = n }) c_is
 
-    pub sinks_met : {old new : Option History}
+    alone : s.number ≡ 0 → s.abandoned ≡ false → (h : History) → AtTold stamped (process s) (Holds s) h × IsEmptyFor (process s) h
+        → Alone h
+    alone first settled h x =
+        (x.0, (x.1, λ running. fresh_keeps stamped s h x.0.legal (x.0.alive running) first settled))
+
+    pub sinks_met : s.number ≡ 0 → s.abandoned ≡ false → {old new : Option History}
         → Adds old new (Leads (As stamped c1) (Legal stamped) (SinksStarted stamped c1 (Ok s)))
         → Adds old new (HasStarted c1) → Go (Legal stamped) Alone old new
-    sinks_met told starts =
+    sinks_met first settled told starts =
         leads_as (λ h x. x)
-        (λ h x. subst (λ w. AtTold stamped w (Holds s) h × IsEmptyFor w h) (sym is_c1) x)
+        (λ h x. alone first settled h (subst (λ w. AtTold stamped w (Holds s) h × IsEmptyFor w h) (sym is_c1) x))
         (start_empties stamped started acting c1 (c1_started run) (c1_acts run) refl (λ h x. x.legal) told starts)
 
     c_in : Contains started (process s)

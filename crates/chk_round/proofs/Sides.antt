@@ -28,6 +28,9 @@ use Rattle.chk_agent.specs.Fits.{IsSound}
 use Rattle.chk_agent.specs.States.{State as Agents, process as agent_of}
 use Rattle.chk_agent.proofs.SettlingTold.{state_grows}
 use Rattle.chk_round.specs.Joint.{AreIn, BothAt}
+use Rattle.chk_round.specs.Keeping.{SinksKept}
+use Rattle.chk_round.proofs.Keeping.{other_over}
+use Rattle.chk_round.proofs.KeptInside.{KeepsOver}
 
 -- what the agent knows stays over the steps of others
 pub agent_stays : (stamped : List (List ℕ)) (a : Agents) → IsSound a
@@ -90,13 +93,15 @@ module _ (stamped : List (List ℕ)) (started acting : List Who) where
       → {A B : History → Type 0} → ((h : History) → B h → Legal stamped h) → {old new : Option History}
       → Adds old new (Leads (As stamped (record { role = Agent; name = source })) A B)
       → Adds old new (Leads (Together stamped started acting)
-      (λ h. A h × (SinksMatch stamped s h × IsEmptyFor (process s) h))
-      (λ h. B h × (SinksMatch stamped s h × IsEmptyFor (process s) h)))
+      (λ h. A h × (SinksMatch stamped s h × (IsEmptyFor (process s) h × SinksKept s h)))
+      (λ h. B h × (SinksMatch stamped s h × (IsEmptyFor (process s) h × SinksKept s h))))
   agent_acts s source c_in a_in a_acts legal told =
       acts_beside stamped started acting (record { role = Agent; name = source }) a_in a_acts
-      (λ h. SinksMatch stamped s h × IsEmptyFor (process s) h)
+      (λ h. SinksMatch stamped s h × (IsEmptyFor (process s) h × SinksKept s h))
       (stay_both (stay_by stamped started (record { role = Agent; name = source }) (process s) c_in refl (Holds s) (holds_stay stamped s))
-      (empty_over stamped started (process s) (record { role = Agent; name = source }) c_in)) legal told
+      (stay_both (empty_over stamped started (process s) (record { role = Agent; name = source }) c_in)
+      (other_over stamped started s c_in (record { role = Agent; name = source }) refl (IsBy (record { role = Agent; name = source }))
+      (λ before step own. own.by) (λ before step own. own.running)))) legal told
 
   -- the collector acts beside the agent
   pub collector_acts : (c : List ℕ) (a : Agents) → IsSound a
@@ -142,9 +147,23 @@ module _ (stamped : List (List ℕ)) (started acting : List Who) where
 
     pub collector_goes : IsSound a → (t : Sinks) → t.collector ≡ s.collector → {old new : Option History}
         → Adds old new (Leads (As stamped (process s)) (SinksMatch stamped s) (SinksMatch stamped t))
+        → KeepsOver s t old new
         → Adds old new (Leads (Together stamped started acting) (BothAt stamped s a) (BothAt stamped t a))
-    collector_goes sound t same told =
-        leads_as (λ h x. x)
-        (λ h x. (x.0, (x.1.0, subst (λ c. IsEmptyFor (record { role = Collector; name = c }) h) (sym same) x.1.1)))
+    collector_goes sound t same told keeps =
+        adds_both (Leads (Together stamped started acting) (BothAt stamped s a) (BothAt stamped t a))
         (collector_acts s.collector a sound run.collector_started run.collector_acts run.agent_started
-        (λ h x. x.legal) told)
+        (λ h x. x.legal) told) (keeps stamped started acting run.collector_started)
+        (λ added history x y. record {
+          leads = λ others h.
+              let end = x.leads others (h.0, (h.1.0, h.1.1.0)) in (
+                end.0,
+                (
+                  end.1.0,
+                  (
+                    subst (λ c. IsEmptyFor (record { role = Collector; name = c }) (added ++ history)) (sym same) end.1.1,
+                    y end.0.legal others x.own (h.0, h.1.1.1),
+                  ),
+                ),
+              );
+          own = x.own;
+        })

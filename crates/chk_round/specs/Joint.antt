@@ -14,14 +14,16 @@ use Rattle.chk_agent.specs.States.{State as Agents, process as agent_of}
 use Rattle.chk_drain.specs.Parts.{SameRest}
 use Rattle.chk_round.specs.declared.faults.RoundFault.{RoundFault}
 use Rattle.chk_round.specs.declared.faults.RoundFault.TheVariants.{Damaged, Length, Shrank, Spent, Checkpoint, Refused}
-use Rattle.chk_round.specs.LastPolls.{LastPoll}
+use Rattle.chk_round.specs.Keeping.{SinksKept}
+use Rattle.chk_round.specs.LastPolls.{MayBeLost}
 use Rattle.chk_round.specs.Spent.{LastSink, WhereRunning}
 
--- the history is as the sinks and the agent know it, and no message waits for the collector in the
--- mailbox
+-- the history is as the sinks and the agent know it, no message waits for the collector in the
+-- mailbox, and no sink of the collector's start was given up, unless one was full
 abbrev pub BothAt : List (List ℕ) → Sinks → Agents → History → Type 0
 BothAt stamped s a history =
-    SinksMatch stamped s history × (AgentMatches stamped a history × IsEmptyFor (process s) history)
+    SinksMatch stamped s history
+    × (AgentMatches stamped a history × (IsEmptyFor (process s) history × SinksKept s history))
 
 -- the run started both, and both act in it
 pub record AreIn (started acting : List Who) (s : Sinks) (a : Agents) : Type 0 where
@@ -44,7 +46,7 @@ GoesOn stamped s a (Err (Damaged name at)) history = OnlyStopped stamped history
 GoesOn stamped s a (Err (Checkpoint at)) history = OnlyStopped stamped history
 GoesOn stamped s a (Err (Refused code)) history = OnlyStopped stamped history
 GoesOn stamped s a (Err (Length stem got want)) history =
-    WhereRunning stamped (LastPoll s.collector stem got want) history
+    WhereRunning stamped (MayBeLost s.collector s.born stem got want) history
 GoesOn stamped s a (Err (Shrank path had is)) history = OnlyStopped stamped history
 GoesOn stamped s a (Err (Spent n)) history = WhereRunning stamped (LastSink s.collector n) history
 GoesOn stamped s a (Err fault) history = Legal stamped history

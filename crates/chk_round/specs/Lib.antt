@@ -1,5 +1,6 @@
 pub mod Processes
 pub mod Spent
+pub mod Keeping
 pub mod Joint
 pub mod Faults
 pub mod Starts
@@ -12,6 +13,7 @@ pub mod Scripts
 pub mod Calls
 pub mod Lengths
 pub mod LastPolls
+pub mod OwnRows
 pub mod Polled
 pub mod Delivering
 pub mod Sending

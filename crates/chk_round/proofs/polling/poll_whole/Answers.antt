@@ -4,6 +4,7 @@ use Rattle.chk_site.specs.declared.acts.Who.{Who}
 use Rattle.chk_delivery.specs.declared.answers.Below.{Below}
 use Rattle.chk_exchange.specs.Exchanges.{PollsInside}
 use Rattle.chk_round.proofs.Joining.{exchange_ends, exchange_goes}
+use Rattle.chk_round.proofs.KeptInside.{poll_keeps_by}
 use Rattle.chk_round.proofs.Inside.{polled_all}
 use Rattle.chk_round.proofs.Sent.{poll_sends}
 use Rattle.chk_round.proofs.Spending.{poll_tells}
@@ -37,13 +38,15 @@ pub returns-in-None-clause-joint : goal.returns-in-None-clause-joint
 returns-in-None-clause-joint g c =
     exchange_goes c.args.collecting.now c.args.collector.now c.poll_inside.new.collector c.args.agent.now
     c.poll_inside.new.agent c.requires.started (Option Below) c.in_ok-below.field-0 c.in_ok-below.ensures.told
+    (poll_keeps_by c.requires.started c.requires.named c.poll_inside.ensures.same c.in_ok-below.ensures.script)
 
 pub returns-in-Some-clause-joint : goal.returns-in-Some-clause-joint
 returns-in-Some-clause-joint g c =
     below_polled c.in-Some.below c.too_short.result c.too_short.ensures c.args.collector.now c.poll_inside.new.collector
     c.args.agent.now c.poll_inside.new.agent
     (exchange_goes c.args.collecting.now c.args.collector.now c.poll_inside.new.collector c.args.agent.now
-    c.poll_inside.new.agent c.requires.started (Option Below) c.in_ok-below.field-0 c.in_ok-below.ensures.told)
+    c.poll_inside.new.agent c.requires.started (Option Below) c.in_ok-below.field-0 c.in_ok-below.ensures.told
+    (poll_keeps_by c.requires.started c.requires.named c.poll_inside.ensures.same c.in_ok-below.ensures.script))
 
 pub returns-in-Some-clause-least : goal.returns-in-Some-clause-least
 returns-in-Some-clause-least g c =

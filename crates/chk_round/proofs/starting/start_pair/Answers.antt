@@ -39,6 +39,7 @@ returns-in_err-agent-clause-told g c stamped started acting run =
     rw (p.1, p.2)
     (leads_then
     (sinks_met stamped c.args.reading.now.name started acting run c.in_ok-collector.collector c_is
+    c.in_ok-collector.ensures.fresh.number c.in_ok-collector.ensures.fresh.abandoned
     (subst (λ w. Adds (g.S.Site.told c.args.site.now) (g.S.Site.told c.start.new.site)
     (Leads (As stamped w) (Legal stamped) (SinksStarted stamped w (Ok c.in_ok-collector.collector)))) c.requires.collector
     (c.in_ok-collector.ensures.told stamped))
@@ -63,6 +64,7 @@ returns-in_err-now-clause-told g c stamped started acting run =
     rw (p.1, p.2)
     (leads_then (leads_then
     (sinks_met stamped c.args.reading.now.name started acting run c.in_ok-collector.collector c_is
+    c.in_ok-collector.ensures.fresh.number c.in_ok-collector.ensures.fresh.abandoned
     (subst (λ w. Adds (g.S.Site.told c.args.site.now) (g.S.Site.told c.start.new.site)
     (Leads (As stamped w) (Legal stamped) (SinksStarted stamped w (Ok c.in_ok-collector.collector)))) c.requires.collector
     (c.in_ok-collector.ensures.told stamped))
@@ -90,6 +92,7 @@ returns-clause-told g c stamped started acting run =
     let c_is = c.in_ok-collector.ensures.fresh.collector ∙ ap (λ (w : Who). w.name) c.requires.collector in
     leads_then (leads_then
     (sinks_met stamped c.args.reading.now.name started acting run c.in_ok-collector.collector c_is
+    c.in_ok-collector.ensures.fresh.number c.in_ok-collector.ensures.fresh.abandoned
     (subst (λ w. Adds (g.S.Site.told c.args.site.now) (g.S.Site.told c.start.new.site)
     (Leads (As stamped w) (Legal stamped) (SinksStarted stamped w (Ok c.in_ok-collector.collector)))) c.requires.collector
     (c.in_ok-collector.ensures.told stamped))

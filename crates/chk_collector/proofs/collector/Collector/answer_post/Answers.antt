@@ -28,7 +28,7 @@ returns-in-Ok-clause-told g c stamped t request others post =
 pub returns-in-Ok-clause-replied : goal.returns-in-Ok-clause-replied
 returns-in-Ok-clause-replied g c request post =
     post_replied request c.in-Ok.post.left c.args.self.now c.put_all-done.new.self _ _ _ _ c.put_all-done.new.lines c.put_all-done.result c.reply.result
-    (c.args.body.now, post, c.in-Ok.ensures.post) c.put_all-done.ensures.lines c.put_all-done.ensures.puts c.put_all-done.ensures.leaves c.put_all-done.ensures.own
+    (c.args.body.now, post, c.in-Ok.ensures.post) c.put_all-done.ensures.lines c.put_all-done.ensures.puts c.put_all-done.ensures.leaves c.put_all-done.ensures.full c.put_all-done.ensures.own
     c.put_all-done.ensures.only c.put_all-done.ensures.spent
     c.put_all-done.ensures.last c.put_all-done.ensures.cause
     (rw c.as_slice.ensures at c.reply.ensures.written)

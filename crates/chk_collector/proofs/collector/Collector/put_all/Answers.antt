@@ -2,7 +2,7 @@ use Rattle.chk_world.proofs.Working.{works_then}
 use Rattle.chk_sink.proofs.Owning.{made_as, made_none, fails_of, refused_by}
 use Rattle.std.proofs.Common.{Ok, Err, None}
 use Rattle.chk_chunk.specs.Lent.{lent_chunk}
-use Rattle.chk_collector.proofs.PutLoop.{put_begins, put_on, put_fails, own_on, put_leaves, put_unwritten, puts_end, lines_end}
+use Rattle.chk_collector.proofs.PutLoop.{put_begins, put_on, put_fails, own_on, put_leaves, put_unwritten, puts_end, lines_end, full_end}
 use Rattle.chk_collector.proofs.collector.Collector.put_all.Goals as goal
 
 pub loop-chunk-init : goal.loop-chunk-init
@@ -13,7 +13,7 @@ loop-chunk-init g c =
 pub loop-chunk-preserved : goal.loop-chunk-preserved
 loop-chunk-preserved g c =
     put_on c.loop-chunk.invariant (lent_chunk c.in-Some.chunk) c.next.new.self.left c.in_ok-stem.stem c.in_ok-stem.end (g.S.Site.fault_count c.put.new.site)
-    c.put.new.self c.put_line.new.lines c.in-Some.ensures.first c.in_ok-put_line.ensures.ok c.put_line.ensures.short c.in_ok-stem.ensures.told
+    c.put.new.self c.put_line.new.lines c.in-Some.ensures.first c.in_ok-put_line.ensures.ok c.put_line.ensures.short c.put_line.ensures.of_sink c.put_line.ensures.wide c.in_ok-stem.ensures.told
     c.in_ok-stem.ensures.same c.in_ok-stem.ensures.goes_on c.in_ok-stem.ensures.placed c.in_ok-stem.ensures.own
     c.in_ok-stem.ensures.cause
 
@@ -47,6 +47,9 @@ returns-in_err-put_line-clause-own g c =
 
 pub returns-clause-puts : goal.returns-clause-puts
 returns-clause-puts g c = puts_end c.loop-chunk.invariant c.in_default.ensures.first
+
+pub returns-clause-full : goal.returns-clause-full
+returns-clause-full g c = full_end c.loop-chunk.invariant c.in_default.ensures.first
 
 pub returns-clause-lines : goal.returns-clause-lines
 returns-clause-lines g c = lines_end c.loop-chunk.invariant c.in_default.ensures.first
