@@ -30,7 +30,7 @@ use std::alloc::Global;
 /// removes the done sinks that its listing showed. After a refusal or a stop, wherever it came, the next run goes on from there.
 /// `Damaged` comes only where something else wrote into the folders, and `Spent` only where the archive has fewer numbers left than the
 /// run needs, two at most. Each file is read in pieces of at most 1,048,576 bytes, once for its heads and once more for what is written.
-/// It holds 32 bytes for each chunk that it finds, 16 for each that it writes, and the window that it reads through.
+/// It holds 32 bytes for each chunk that it finds, 8 for each that it writes, and the window that it reads through.
 pub fn archive<S: Site>(alloc: Global, site: &mut S, who: &Who) -> Result<Report, JobFault>
     requires { who.now ≡ job }
     ensures told { (stamped : List (List ℕ)) (loaded : Parts) → Adds (S.told site.old) (S.told site.new)
