@@ -15,8 +15,7 @@ use Rattle.chk_heads.specs.declared.gather.Row.{Row}
 use Rattle.chk_heads.specs.HeadRows.{row_begin, head_in_row}
 use Rattle.chk_heads.specs.Order.{put_by, sort_by, in_head_order, rank_in, row_rank, row_before, row_first, without_turn, TakeTurns}
 use Rattle.chk_heads.proofs.Sorting.{each_put, sorted_is}
-use Rattle.chk_heads.proofs.Orders.{WeakOrder, Tested}
-use Rattle.chk_heads.proofs.Ranks.{IsKnown, row_alike, rows_first, sorted_rows, count_cons}
+use Rattle.chk_heads.proofs.Ranks.{IsKnown, rows_first, sorted_rows, count_cons}
 
 -- ---- one list by turns alone
 

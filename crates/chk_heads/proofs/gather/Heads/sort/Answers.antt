@@ -1,11 +1,11 @@
-use Rattle.std.proofs.Common.{◌≡◌, rules, map, List, ℕ, length, take, drop, ◌++◌, Ok, Err, Result, subst, sym, ap, arith, ◌∙◌, All}
+use Rattle.std.proofs.Common.{◌≡◌, rules, map, List, ℕ, Ok, Err, Result, subst, sym, ap, arith, ◌∙◌, All}
 use Rattle.std.specs.Prelude.{OnErr}
 use Rattle.std.specs.Ordering.{is_lt}
 use Rattle.std.specs.List.Sorted.{IsSortedBy, IsPermutation}
 use Rattle.std.proofs.lemmas.Fn.{always_returns_same}
 use Rattle.std.proofs.lemmas.List.Sorted.{All-permutation}
 use Rattle.chk_heads.specs.HeadRows.{head_in_row}
-use Rattle.chk_heads.specs.Order.{in_head_order, rank_in, row_first, without_turn, TakeTurns}
+use Rattle.chk_heads.specs.Order.{in_head_order, rank_in, row_first, without_turn}
 use Rattle.chk_heads.proofs.Ranks.{IsKnown, rows_first}
 use Rattle.chk_heads.proofs.Turning.{heads_same, kept_known, written, turned_rows}
 use Rattle.chk_heads.proofs.Sorting.{as_std}

@@ -1,7 +1,6 @@
-use Rattle.std.proofs.Common.{arith, ap, sym, subst, ◌∙◌, ◌+◌, length, take, refl}
+use Rattle.std.proofs.Common.{arith, ap, sym, subst, ◌∙◌, ◌+◌, take, refl}
 use Rattle.std.specs.Prelude.{slice_index_or}
-use Rattle.std.proofs.lemmas.List.{take_more_set, take_all}
-use Rattle.chk_heads.specs.Order.{TakeTurns}
+use Rattle.std.proofs.lemmas.List.{take_more_set}
 use Rattle.chk_heads.proofs.Turning.{Numbered, number_more, no_row, with_turn, turn_same}
 use Rattle.chk_heads.proofs.gather.order.take_turns.Goals as goal
 
