@@ -1,6 +1,18 @@
-//! Tests of archive runs over a site in memory.
+//! Tests of books, of the archives of streams, and of archive runs, over a site in memory.
 #![tactic(auto)]
 
+#[cfg(test)]
+mod added;
+#[cfg(test)]
+mod archives;
+#[cfg(test)]
+mod books;
+#[cfg(test)]
+mod calls;
+#[cfg(test)]
+mod fields;
+#[cfg(test)]
+mod files;
 #[cfg(test)]
 mod gaps;
 #[cfg(test)]
@@ -9,6 +21,8 @@ mod records;
 mod runs;
 #[cfg(test)]
 mod scene;
+#[cfg(test)]
+mod segments;
 #[cfg(test)]
 mod stops;
 #[cfg(test)]
