@@ -35,15 +35,15 @@ def stream(of):
     return b"".join(word(text) for text in of)
 
 
-def key(of, end, start, cluster):
-    if start == 0 and cluster == "none":
+def key(of, end, start, cluster, version=1):
+    if start == 0 and cluster == "none" and version == 1:
         return b"\x01" + big_endian(end, 8) + stream(of)
     return b"\x02" + big_endian(end, 8) + big_endian(start, 8) + stream(of) + word(cluster)
 
 
-def record(end, data, of=LOG, start=0, cluster="none"):
-    """The record of a chunk that ends there."""
-    first = key(of, end, start, cluster)
+def record(end, data, of=LOG, start=0, cluster="none", version=1):
+    """The record of a chunk that ends there; with version 2 its key has that version also where 1 would do."""
+    first = key(of, end, start, cluster, version)
     first = big_endian(len(first), 4) + first
     second = big_endian(len(data), 4) + data
     return big_endian(len(first) + len(second), 4) + big_endian(len(first), 4) + first + second
@@ -84,9 +84,14 @@ def records():
         ("APP", record(3, b"xyz", ("h1", "App", "/b.log"))),
         ("EARLY", record(2, b"zz", ("a0", "Log", "/z.log"))),
         ("FIFTEEN", b"".join(record(2 * line, b"a\n") for line in range(1, 16))),
-        ("SIXTEENTH", record(32, b"a\n")),
-        ("SEVENTEENTH", record(34, b"a\n")),
         ("FALSE", record(2, b"b\n")),
+        ("LATER", record(11, b"worl")),
+        ("EARLIER", record(9, b"worl")),
+        ("STARTED", record(10, b"worl", LOG, 6)),
+        ("SPELLED", record(10, b"worl", version=2)),
+        ("BEGUN", record(11, b"hello\n", LOG, 5)),
+        ("OTHER", record(2, b"x\n", ("h2", "Log", "/a.log"))),
+        ("HALF", record(6, b"hello\n")[:-10]),
     ] + day
 
 
@@ -109,7 +114,6 @@ def books():
         ("BOOK_NEXT_ASIDE", book(3, [], [], (2, size("WORLD", "PAST")))),
         ("BOOK_CLOSED", book(3, [(2, size("HELLO", "WORLD"))], [(LOG, 12, 0)])),
         ("BOOK_TWELVE", book(3, [(1, size("HELLO")), (2, size("WORLD"))], [(LOG, 12, 0)])),
-        ("BOOK_SIXTEEN", book(17, [(number, size("SIXTEENTH")) for number in range(1, 17)], [(LOG, 32, 0)])),
         ("BOOK_STREAMS", book(2, [(1, size("EARLY", "APP", "HELLO", "EAST", "WEST"))], streams)),
         ("BOOK_DAY", book(2, [(1, size("DAY_H1", "DAY_H2", "DAY_H3"))], day)),
     ]
@@ -129,11 +133,17 @@ def constant(name, data):
 
 # Parts that the test joins with others, and files that are none of the archive's.
 PIECES = r"""
-// The record of two bytes of /a.log of h1, up to the last byte of the offset that it ends at, and
-// from there on.
-const LINE: &[u8] = b"\0\0\0\x24\0\0\0\x1e\0\0\0\x1a\x01\0\0\0\0\0\0\0";
+// The record of two bytes of /a.log of h1, up to the offset that it ends at, and behind that.
+const LINE: &[u8] = b"\0\0\0\x24\0\0\0\x1e\0\0\0\x1a\x01";
 
 const REST: &[u8] = b"\0\x02h1\0\x03Log\0\x06/a.log\0\0\0\x02a\n";
+
+// The size of a record and no more, one of a key that is too long, and a file of another kind.
+const TORN: &[u8] = b"\0\0\0\x28";
+
+const LONG: &[u8] = b"\0\x04\0\x01";
+
+const NO_SEQ: &[u8] = b"SEX";
 
 // Other files: how often a collector was born, and one byte.
 const BORN: &[u8] = b"\0\0\0\0\0\0\0\x01";
@@ -167,7 +177,7 @@ def text():
     made += PIECES
     made += group("Books of the archive.", books())
     made += lookup("marker", "The marker of a sink or segment.", names_of(markers()))
-    pieces = ["LINE", "REST", "BORN", "BYTE"]
+    pieces = ["LINE", "REST", "TORN", "LONG", "NO_SEQ", "BORN", "BYTE"]
     what = "A record, or a file that is none of the archive's."
     made += lookup("record", what, names_of(records()) + pieces)
     made += lookup("book", "A book.", names_of(books()))

@@ -66,14 +66,29 @@ const EARLY: &[u8] =
 const FIFTEEN: &[u8] =
     b"\0\0\0$\0\0\0\x1e\0\0\0\x1a\x01\0\0\0\0\0\0\0\x02\0\x02h1\0\x03Log\0\x06/a.log\0\0\0\x02a\n\0\0\0$\0\0\0\x1e\0\0\0\x1a\x01\0\0\0\0\0\0\0\x04\0\x02h1\0\x03Log\0\x06/a.log\0\0\0\x02a\n\0\0\0$\0\0\0\x1e\0\0\0\x1a\x01\0\0\0\0\0\0\0\x06\0\x02h1\0\x03Log\0\x06/a.log\0\0\0\x02a\n\0\0\0$\0\0\0\x1e\0\0\0\x1a\x01\0\0\0\0\0\0\0\x08\0\x02h1\0\x03Log\0\x06/a.log\0\0\0\x02a\n\0\0\0$\0\0\0\x1e\0\0\0\x1a\x01\0\0\0\0\0\0\0\n\0\x02h1\0\x03Log\0\x06/a.log\0\0\0\x02a\n\0\0\0$\0\0\0\x1e\0\0\0\x1a\x01\0\0\0\0\0\0\0\x0c\0\x02h1\0\x03Log\0\x06/a.log\0\0\0\x02a\n\0\0\0$\0\0\0\x1e\0\0\0\x1a\x01\0\0\0\0\0\0\0\x0e\0\x02h1\0\x03Log\0\x06/a.log\0\0\0\x02a\n\0\0\0$\0\0\0\x1e\0\0\0\x1a\x01\0\0\0\0\0\0\0\x10\0\x02h1\0\x03Log\0\x06/a.log\0\0\0\x02a\n\0\0\0$\0\0\0\x1e\0\0\0\x1a\x01\0\0\0\0\0\0\0\x12\0\x02h1\0\x03Log\0\x06/a.log\0\0\0\x02a\n\0\0\0$\0\0\0\x1e\0\0\0\x1a\x01\0\0\0\0\0\0\0\x14\0\x02h1\0\x03Log\0\x06/a.log\0\0\0\x02a\n\0\0\0$\0\0\0\x1e\0\0\0\x1a\x01\0\0\0\0\0\0\0\x16\0\x02h1\0\x03Log\0\x06/a.log\0\0\0\x02a\n\0\0\0$\0\0\0\x1e\0\0\0\x1a\x01\0\0\0\0\0\0\0\x18\0\x02h1\0\x03Log\0\x06/a.log\0\0\0\x02a\n\0\0\0$\0\0\0\x1e\0\0\0\x1a\x01\0\0\0\0\0\0\0\x1a\0\x02h1\0\x03Log\0\x06/a.log\0\0\0\x02a\n\0\0\0$\0\0\0\x1e\0\0\0\x1a\x01\0\0\0\0\0\0\0\x1c\0\x02h1\0\x03Log\0\x06/a.log\0\0\0\x02a\n\0\0\0$\0\0\0\x1e\0\0\0\x1a\x01\0\0\0\0\0\0\0\x1e\0\x02h1\0\x03Log\0\x06/a.log\0\0\0\x02a\n";
 
-const SIXTEENTH: &[u8] =
-    b"\0\0\0$\0\0\0\x1e\0\0\0\x1a\x01\0\0\0\0\0\0\0 \0\x02h1\0\x03Log\0\x06/a.log\0\0\0\x02a\n";
-
-const SEVENTEENTH: &[u8] =
-    b"\0\0\0$\0\0\0\x1e\0\0\0\x1a\x01\0\0\0\0\0\0\0\"\0\x02h1\0\x03Log\0\x06/a.log\0\0\0\x02a\n";
-
 const FALSE: &[u8] =
     b"\0\0\0$\0\0\0\x1e\0\0\0\x1a\x01\0\0\0\0\0\0\0\x02\0\x02h1\0\x03Log\0\x06/a.log\0\0\0\x02b\n";
+
+const LATER: &[u8] =
+    b"\0\0\0&\0\0\0\x1e\0\0\0\x1a\x01\0\0\0\0\0\0\0\x0b\0\x02h1\0\x03Log\0\x06/a.log\0\0\0\x04worl";
+
+const EARLIER: &[u8] =
+    b"\0\0\0&\0\0\0\x1e\0\0\0\x1a\x01\0\0\0\0\0\0\0\t\0\x02h1\0\x03Log\0\x06/a.log\0\0\0\x04worl";
+
+const STARTED: &[u8] =
+    b"\0\0\04\0\0\0,\0\0\0(\x02\0\0\0\0\0\0\0\n\0\0\0\0\0\0\0\x06\0\x02h1\0\x03Log\0\x06/a.log\0\x04none\0\0\0\x04worl";
+
+const SPELLED: &[u8] =
+    b"\0\0\04\0\0\0,\0\0\0(\x02\0\0\0\0\0\0\0\n\0\0\0\0\0\0\0\0\0\x02h1\0\x03Log\0\x06/a.log\0\x04none\0\0\0\x04worl";
+
+const BEGUN: &[u8] =
+    b"\0\0\06\0\0\0,\0\0\0(\x02\0\0\0\0\0\0\0\x0b\0\0\0\0\0\0\0\x05\0\x02h1\0\x03Log\0\x06/a.log\0\x04none\0\0\0\x06hello\n";
+
+const OTHER: &[u8] =
+    b"\0\0\0$\0\0\0\x1e\0\0\0\x1a\x01\0\0\0\0\0\0\0\x02\0\x02h2\0\x03Log\0\x06/a.log\0\0\0\x02x\n";
+
+const HALF: &[u8] =
+    b"\0\0\0(\0\0\0\x1e\0\0\0\x1a\x01\0\0\0\0\0\0\0\x06\0\x02h1\0\x03Log\0\x06/a.log";
 
 const DAY_H1: &[u8] =
     b"\0\0\x01\0\0\0\0:\0\0\06\x01\0\0\0\0\0\0\0\xc2\0\x02h1\0\tHadoopLog\0\x1c/var/log/hadoop/namenode.log\0\0\0\xc22010-11-08 09:00:00,001 INFO namenode: started\n2010-11-08 09:00:01,250 ERROR namenode: failed\njava.io.IOException: no space\n\tat a.b.C.d(C.java:10)\n2010-11-08 09:00:02,000 INFO namenode: stopped\n";
@@ -84,11 +99,17 @@ const DAY_H2: &[u8] =
 const DAY_H3: &[u8] =
     b"\0\0\x01\0\0\0\0:\0\0\06\x01\0\0\0\0\0\0\0\xc2\0\x02h3\0\tHadoopLog\0\x1c/var/log/hadoop/namenode.log\0\0\0\xc22010-11-08 09:00:00,001 INFO namenode: started\n2010-11-08 09:00:01,250 ERROR namenode: failed\njava.io.IOException: no space\n\tat a.b.C.d(C.java:10)\n2010-11-08 09:00:02,000 INFO namenode: stopped\n";
 
-// The record of two bytes of /a.log of h1, up to the last byte of the offset that it ends at, and
-// from there on.
-const LINE: &[u8] = b"\0\0\0\x24\0\0\0\x1e\0\0\0\x1a\x01\0\0\0\0\0\0\0";
+// The record of two bytes of /a.log of h1, up to the offset that it ends at, and behind that.
+const LINE: &[u8] = b"\0\0\0\x24\0\0\0\x1e\0\0\0\x1a\x01";
 
 const REST: &[u8] = b"\0\x02h1\0\x03Log\0\x06/a.log\0\0\0\x02a\n";
+
+// The size of a record and no more, one of a key that is too long, and a file of another kind.
+const TORN: &[u8] = b"\0\0\0\x28";
+
+const LONG: &[u8] = b"\0\x04\0\x01";
+
+const NO_SEQ: &[u8] = b"SEX";
 
 // Other files: how often a collector was born, and one byte.
 const BORN: &[u8] = b"\0\0\0\0\0\0\0\x01";
@@ -122,9 +143,6 @@ const BOOK_CLOSED: &[u8] =
 
 const BOOK_TWELVE: &[u8] =
     b"CHKB\x01\0\0\0\0\0\0\0\x03\0\0\0\x02\0\0\0\0\0\0\0\x01\0\0\0\0\0\0\0\x90\0\0\0\0\0\0\0\x02\0\0\0\0\0\0\0\x90\0\0\0\x01\0\0\0\0\0\0\0\x0c\0\x02h1\0\x03Log\0\x06/a.log";
-
-const BOOK_SIXTEEN: &[u8] =
-    b"CHKB\x01\0\0\0\0\0\0\0\x11\0\0\0\x10\0\0\0\0\0\0\0\x01\0\0\0\0\0\0\0\x8c\0\0\0\0\0\0\0\x02\0\0\0\0\0\0\0\x8c\0\0\0\0\0\0\0\x03\0\0\0\0\0\0\0\x8c\0\0\0\0\0\0\0\x04\0\0\0\0\0\0\0\x8c\0\0\0\0\0\0\0\x05\0\0\0\0\0\0\0\x8c\0\0\0\0\0\0\0\x06\0\0\0\0\0\0\0\x8c\0\0\0\0\0\0\0\x07\0\0\0\0\0\0\0\x8c\0\0\0\0\0\0\0\x08\0\0\0\0\0\0\0\x8c\0\0\0\0\0\0\0\t\0\0\0\0\0\0\0\x8c\0\0\0\0\0\0\0\n\0\0\0\0\0\0\0\x8c\0\0\0\0\0\0\0\x0b\0\0\0\0\0\0\0\x8c\0\0\0\0\0\0\0\x0c\0\0\0\0\0\0\0\x8c\0\0\0\0\0\0\0\x0d\0\0\0\0\0\0\0\x8c\0\0\0\0\0\0\0\x0e\0\0\0\0\0\0\0\x8c\0\0\0\0\0\0\0\x0f\0\0\0\0\0\0\0\x8c\0\0\0\0\0\0\0\x10\0\0\0\0\0\0\0\x8c\0\0\0\x01\0\0\0\0\0\0\0 \0\x02h1\0\x03Log\0\x06/a.log";
 
 const BOOK_STREAMS: &[u8] =
     b"CHKB\x02\0\0\0\0\0\0\0\x02\0\0\0\x01\0\0\0\0\0\0\0\x01\0\0\0\0\0\0\x01_\0\0\0\x04\0\0\0\0\0\0\0\0\0\0\0\0\0\0\0\x02\0\x02a0\0\x03Log\0\x06/z.log\0\0\0\0\0\0\0\0\0\0\0\0\0\0\0\x03\0\x02h1\0\x03App\0\x06/b.log\0\0\0\0\0\0\0\0\0\0\0\0\0\0\0\x06\0\x02h1\0\x03Log\0\x06/a.log\0\0\0\0\0\0\0d\0\0\0\0\0\0\0j\0\x02h2\0\x03Log\0\x06/a.log";
@@ -165,14 +183,22 @@ pub(crate) fn record(name: &str) -> Option<&'static [u8]> {
         "APP" => Some(APP),
         "EARLY" => Some(EARLY),
         "FIFTEEN" => Some(FIFTEEN),
-        "SIXTEENTH" => Some(SIXTEENTH),
-        "SEVENTEENTH" => Some(SEVENTEENTH),
         "FALSE" => Some(FALSE),
+        "LATER" => Some(LATER),
+        "EARLIER" => Some(EARLIER),
+        "STARTED" => Some(STARTED),
+        "SPELLED" => Some(SPELLED),
+        "BEGUN" => Some(BEGUN),
+        "OTHER" => Some(OTHER),
+        "HALF" => Some(HALF),
         "DAY_H1" => Some(DAY_H1),
         "DAY_H2" => Some(DAY_H2),
         "DAY_H3" => Some(DAY_H3),
         "LINE" => Some(LINE),
         "REST" => Some(REST),
+        "TORN" => Some(TORN),
+        "LONG" => Some(LONG),
+        "NO_SEQ" => Some(NO_SEQ),
         "BORN" => Some(BORN),
         "BYTE" => Some(BYTE),
         _ => None,
@@ -191,7 +217,6 @@ pub(crate) fn book(name: &str) -> Option<&'static [u8]> {
         "BOOK_NEXT_ASIDE" => Some(BOOK_NEXT_ASIDE),
         "BOOK_CLOSED" => Some(BOOK_CLOSED),
         "BOOK_TWELVE" => Some(BOOK_TWELVE),
-        "BOOK_SIXTEEN" => Some(BOOK_SIXTEEN),
         "BOOK_STREAMS" => Some(BOOK_STREAMS),
         "BOOK_DAY" => Some(BOOK_DAY),
         _ => None,

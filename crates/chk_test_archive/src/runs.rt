@@ -48,7 +48,7 @@ put sinks/c1.1.2.done C1_1_2 O_WORL
 run = unclosed 0 - taken 10 held 0 removed 2, h1 Log /a.log 0 10
 is archive/seg.1 SEG_1 HELLO WORL
 is archive/book BOOK_TEN
-archive = hello|worl
+archive h1 = [hello|worl]
 is sinks/c1.1.1.done
 is sinks/c1.1.2.done
 
@@ -145,20 +145,20 @@ const MANY: &str = "\
 sixteen segments
 lines 16
 book = next 17, 1 140, 2 140, 3 140, 4 140, 5 140, 6 140, 7 140, 8 140, 9 140, 10 140, 11 140\
-, 12 140, 13 140, 14 140, 15 140, 16 140
+, 12 140, 13 140, 14 140, 15 140, 16 140, h1 Log /a.log 0 32
 
 merged segments
 lines 17
-book = next 19, 17 800, 18 140
-archive = a|a|a|a|a|a|a|a|a|a|a|a|a|a|a|a|a|
+book = next 19, 17 800, 18 140, h1 Log /a.log 0 34
+archive h1 = [a|a|a|a|a|a|a|a|a|a|a|a|a|a|a|a|a|]
 
 merged streams
 put sinks/c2.1.1.done C2_1_1 EAST
 run = unclosed 0 - taken 4 held 0 removed 1, h2 Log /a.log 100 104
 lines 16
-book = next 19, 17 816, 18 140
+book = next 19, 17 816, 18 140, h1 Log /a.log 0 32, h2 Log /a.log 100 104
 is archive/seg.17 SEG_17 FIFTEEN EAST
-archive = a|a|a|a|a|a|a|a|a|a|a|a|a|a|a|a|
+archive h1 = [a|a|a|a|a|a|a|a|a|a|a|a|a|a|a|a|]
 run = unclosed 0 - taken 0 held 0 removed 0, h1 Log /a.log 0 32, h2 Log /a.log 100 104
 ";
 

@@ -1,20 +1,14 @@
-//! What a run finds, what it reports, and what it leaves.
-ghost use Rattle.std.specs.Prelude.{◌≡◌, IfOk};
-ghost use Rattle.chk_world.specs.Sight.{job};
-
-use crate::records::{HEADER, book, marker, record};
-use crate::telling::{book_text, bytes_text, plain, report_text};
-use chk_archive::{JobFault, Report, archive};
-use chk_book::{Book, load_book};
-use chk_bytes::{Bytes, Word};
-use chk_merge::archive_of;
-use chk_site::{Lefts, Role, Site, Who};
+//! A site in memory, told line by line what to do.
+use crate::added::adds_hello;
+use crate::calls::{archived, begun, gathers, is_published, loaded, runs};
+use crate::files::{bytes_of, looks, puts};
+use crate::telling::{book_text, bytes_text, fault_text, numbers_text, plain, report_text};
+use chk_book::Book;
+use chk_site::{Call, Lefts, Script};
 use chk_site_mem::SiteMem;
-use chk_test_calls::{failing, left_of, quiet, stopping};
+use chk_test_calls::{collector, failing, left_of, quiet, stopping, written};
 use std::alloc::Global;
 use std::test::Fail;
-
-const FOLDER: &str = "archive";
 
 // The files of which a stop leaves a tail, and whose creation, renaming or removal may have taken
 // place.
@@ -26,107 +20,19 @@ const LEFT: [&str; 5] = [
     "sinks/c1.1.1.done",
 ];
 
-fn archiver(alloc: Global) -> Result<Who, Fail>
-    ensures { IfOk result (λ who. who ≡ job) }
-{
-    Ok(Who {
-        role: Role::Job,
-        name: Word::new(alloc, b"job".as_slice())?,
-    })
-}
-
 // A site in memory without a file.
 pub(crate) fn empty(alloc: Global) -> Result<SiteMem, Fail> {
     Ok(SiteMem::new(alloc, quiet(alloc))?)
 }
 
-// A marker stands behind a header.
-fn add_part(bytes: &mut Bytes, name: &str) -> Result<(), Fail> {
-    if let Some(marker) = marker(name) {
-        bytes.push_all(HEADER)?;
-        bytes.push_all(marker)?;
-        return Ok(());
-    }
-    let part = record(name).or(book(name)).ok_or("no such part")?;
-    bytes.push_all(part)?;
-    Ok(())
-}
-
-fn bytes_of(alloc: Global, parts: &str) -> Result<Bytes, Fail> {
-    let mut bytes = Bytes::new(alloc);
-    for name in parts.split(' ') {
-        add_part(&mut bytes, name)?;
-    }
-    Ok(bytes)
-}
-
-// Makes a file, not yet synced.
-fn writes(alloc: Global, site: &mut SiteMem, name: &str, bytes: &[u8]) -> Result<(), Fail> {
-    let who = archiver(alloc)?;
-    if site.create(alloc, &who, name).is_err() {
-        return Err(Fail::new(name));
-    }
-    if site.append(alloc, &who, name, bytes).is_err() {
-        return Err(Fail::new(name));
-    }
-    Ok(())
-}
-
-fn syncs(alloc: Global, site: &mut SiteMem, name: &str) -> Result<(), Fail> {
-    let who = archiver(alloc)?;
-    if site.sync(alloc, &who, name).is_err() {
-        return Err(Fail::new(name));
-    }
-    Ok(())
-}
-
-// `NAME PARTS`.
-fn puts(alloc: Global, site: &mut SiteMem, verb: &str, text: &str) -> Result<String, Fail> {
-    let (name, parts) = text.split_once(' ').ok_or("no parts")?;
-    let bytes = bytes_of(alloc, parts)?;
-    writes(alloc, site, name, bytes.as_slice())?;
-    if verb == "put" {
-        syncs(alloc, site, name)?;
-    }
-    plain(alloc, "done")
-}
-
-// `NAME PARTS`, or `NAME` alone where there is to be no such file.
-fn is_file(alloc: Global, site: &SiteMem, text: &str) -> Result<bool, Fail> {
-    let Some((name, parts)) = text.split_once(' ') else {
-        return Ok(site.file(text).is_none());
-    };
-    let bytes = bytes_of(alloc, parts)?;
-    Ok(site.file(name) == Some(bytes.as_slice()))
-}
-
-fn looks(alloc: Global, site: &SiteMem, text: &str) -> Result<String, Fail> {
-    plain(
-        alloc,
-        if is_file(alloc, site, text)? {
-            "done"
-        } else {
-            "other bytes"
-        },
-    )
-}
-
-pub(crate) fn runs(alloc: Global, site: &mut SiteMem) -> Result<Result<Report, JobFault>, Fail> {
-    let who = archiver(alloc)?;
-    Ok(archive(alloc, site, &who))
-}
-
-fn report(alloc: Global, site: &mut SiteMem) -> Result<String, Fail> {
+fn report(alloc: Global, site: &mut SiteMem, verb: &str) -> Result<String, Fail> {
     match runs(alloc, site)? {
+        Ok(_) if verb == "goes" => plain(alloc, "done"),
+        Ok(report) if verb == "counts" => numbers_text(alloc, &report),
         Ok(report) => report_text(alloc, &report),
-        Err(_) => plain(alloc, "refused"),
+        Err(_) if verb == "goes" => plain(alloc, "refused"),
+        Err(fault) => fault_text(alloc, fault),
     }
-}
-
-// A run that isn't refused.
-fn goes(alloc: Global, site: &mut SiteMem) -> Result<String, Fail> {
-    let is_done = runs(alloc, site)?.is_ok();
-    plain(alloc, if is_done { "done" } else { "refused" })
 }
 
 // `AT`.
@@ -151,105 +57,122 @@ fn stops(alloc: Global, site: &mut SiteMem, text: &str) -> Result<String, Fail> 
     plain(alloc, "done")
 }
 
+// A sync of the first sink by the collector c1 before the call of this number.
+fn synced(alloc: Global, at: u64) -> Result<Script, Fail> {
+    let mut other = written(alloc, Call::Sync, &[b"sinks/c1.1.1.done"])?;
+    other.before = at;
+    other.act.who = collector(alloc)?;
+    let mut script = quiet(alloc);
+    script.others.push(other)?;
+    Ok(script)
+}
+
+// `AT`.
+fn syncs(alloc: Global, site: &mut SiteMem, text: &str) -> Result<String, Fail> {
+    site.restart(synced(alloc, text.parse()?)?);
+    plain(alloc, "done")
+}
+
 fn restarts(alloc: Global, site: &mut SiteMem) -> Result<String, Fail> {
     site.restart(quiet(alloc));
     plain(alloc, "done")
 }
 
-fn loaded(alloc: Global, site: &mut SiteMem) -> Result<Book, Fail> {
-    let who = archiver(alloc)?;
-    match load_book(alloc, site, &who, FOLDER) {
-        Ok(book) => Ok(book),
-        Err(_) => Err(Fail::from("no book")),
-    }
-}
-
-// Of /a.log of h1.
-fn archived(alloc: Global, site: &mut SiteMem, book: &Book) -> Result<Bytes, Fail> {
-    let who = archiver(alloc)?;
-    match archive_of(book, alloc, site, &who, FOLDER, "h1", "Log", "/a.log") {
-        Ok(bytes) => Ok(bytes),
-        Err(_) => Err(Fail::from("no archive")),
-    }
-}
-
 fn told_book(alloc: Global, site: &mut SiteMem) -> Result<String, Fail> {
-    let book = loaded(alloc, site)?;
-    book_text(alloc, &book)
-}
-
-fn told_archive(alloc: Global, site: &mut SiteMem) -> Result<String, Fail> {
-    let book = loaded(alloc, site)?;
-    let bytes = archived(alloc, site, &book)?;
-    bytes_text(alloc, bytes.as_slice())
-}
-
-// A sink or segment of one line, which ends there. Any marker does for a reader.
-fn line_of(alloc: Global, end: u8) -> Result<Bytes, Fail> {
-    let mut bytes = bytes_of(alloc, "C1_1_1 LINE")?;
-    bytes.push_all(&[end])?;
-    add_part(&mut bytes, "REST")?;
-    Ok(bytes)
-}
-
-fn puts_line(alloc: Global, site: &mut SiteMem, name: &str, end: u8) -> Result<(), Fail> {
-    let bytes = line_of(alloc, end)?;
-    writes(alloc, site, name, bytes.as_slice())?;
-    syncs(alloc, site, name)
-}
-
-fn takes_line(alloc: Global, site: &mut SiteMem, end: u8) -> Result<(), Fail> {
-    puts_line(alloc, site, "sinks/c1.1.1.done", end)?;
-    match runs(alloc, site)? {
-        Ok(report) if report.taken == 2 && report.removed == 1 => Ok(()),
-        _ => Err(Fail::from("another report of a line")),
+    match loaded(alloc, site)? {
+        Ok(book) => book_text(alloc, &book),
+        Err(fault) => fault_text(alloc, fault),
     }
 }
 
-fn has_line(alloc: Global, site: &mut SiteMem, number: u8) -> Result<(), Fail> {
-    let name = format!(in alloc; "archive/seg.{number}")?;
-    puts_line(alloc, site, name.as_str(), number.saturating_mul(2))
-}
-
-// So many lines of two bytes: a run over a sink of each, or a segment of each.
-fn has_lines(alloc: Global, site: &mut SiteMem, verb: &str, count: &str) -> Result<String, Fail> {
-    let count: u8 = count.parse()?;
-    for number in 1..=count {
-        if verb == "lines" {
-            takes_line(alloc, site, number.saturating_mul(2))?;
-        } else {
-            has_line(alloc, site, number)?;
+fn told_end(alloc: Global, site: &mut SiteMem) -> Result<String, Fail> {
+    match loaded(alloc, site)? {
+        Ok(book) => {
+            let end = book.archived_end("h1", "Log", "/a.log");
+            Ok(format!(in alloc; "{end}")?)
         }
+        Err(fault) => fault_text(alloc, fault),
     }
-    plain(alloc, "done")
 }
 
-// - `put NAME PARTS`, `write NAME PARTS`: a file comes, synced or not.
-// - `lines COUNT`, `segments COUNT`: so many runs, each over a sink of a line; so many segments, each
-//   of a line.
-// - `fails AT`: the call of this number fails, from here on counted.
-// - `stops PARTS AT`, `stops - AT`: a stop at that call, which leaves these bytes, or none, past the
-//   synced lengths, and what the call does to names or nothing of it.
-// - `restarts`: from here on no call fails.
-// - `goes`: a run that isn't refused.
-// - `is NAME PARTS`, `is NAME`: a file has just these bytes, or isn't there.
-// - `run`, `book`, `archive`: the report of a run, the archive's book, the archive of /a.log of h1.
-fn does(alloc: Global, site: &mut SiteMem, verb: &str, text: &str) -> Result<String, Fail> {
+fn told_of(alloc: Global, site: &mut SiteMem, book: &Book, source: &str) -> Result<String, Fail> {
+    match archived(alloc, site, book, source)? {
+        Ok(bytes) => bytes_text(alloc, bytes.as_slice()),
+        Err(fault) => fault_text(alloc, fault),
+    }
+}
+
+fn told_archive(alloc: Global, site: &mut SiteMem, source: &str) -> Result<String, Fail> {
+    match loaded(alloc, site)? {
+        Ok(book) => told_of(alloc, site, &book, source),
+        Err(fault) => fault_text(alloc, fault),
+    }
+}
+
+fn told_heads(alloc: Global, site: &mut SiteMem) -> Result<String, Fail> {
+    match gathers(alloc, site)? {
+        Ok(count) => Ok(format!(in alloc; "heads {count}")?),
+        Err(fault) => fault_text(alloc, fault),
+    }
+}
+
+// `NEXT`.
+fn begins(alloc: Global, site: &mut SiteMem, next: &str) -> Result<String, Fail> {
+    let mut book = Book::new(alloc);
+    book.next = next.parse()?;
+    match begun(alloc, site, &book)? {
+        Ok(_) => plain(alloc, "done"),
+        Err(fault) => fault_text(alloc, fault),
+    }
+}
+
+fn publishes(alloc: Global, site: &mut SiteMem) -> Result<String, Fail> {
+    let is_done = is_published(alloc, site)?;
+    plain(alloc, if is_done { "done" } else { "refused" })
+}
+
+// - `book`, `end`, `archive SOURCE`: what the archive's book has, the end of /a.log of h1 there, and
+//   the archive of /a.log of this source; or why there is none.
+// - `heads`: how many heads the sink c1.1.1 has, or where it is damaged.
+// - `part NAME START`, `aside NAME START`: the book of a segment of the first six bytes of this log
+//   of h1, which are of its stream or set aside.
+// - `begins NEXT`: a segment is begun by a book with this next number.
+// - `publishes`: a book without segments is published.
+fn asks(alloc: Global, site: &mut SiteMem, verb: &str, text: &str) -> Result<String, Fail> {
     match verb {
-        "put" | "write" => puts(alloc, site, verb, text),
-        "lines" | "segments" => has_lines(alloc, site, verb, text),
-        "fails" => fails(alloc, site, text),
-        "stops" => stops(alloc, site, text),
-        "restarts" => restarts(alloc, site),
-        "goes" => goes(alloc, site),
-        "is" => looks(alloc, site, text),
-        "run" => report(alloc, site),
         "book" => told_book(alloc, site),
-        "archive" => told_archive(alloc, site),
+        "end" => told_end(alloc, site),
+        "archive" => told_archive(alloc, site, text),
+        "heads" => told_heads(alloc, site),
+        "part" | "aside" => adds_hello(alloc, site, verb, text),
+        "begins" => begins(alloc, site, text),
+        "publishes" => publishes(alloc, site),
         _ => Err(Fail::from("no such verb")),
     }
 }
 
+// - `put NAME PARTS`, `write NAME PARTS`: a file comes, synced or not.
+// - `is NAME PARTS`, `is NAME`: a file has just these bytes, or isn't there.
+// - `run`, `counts`, `goes`: the report of a run, its numbers, or whether it was done.
+// - `fails AT`: the call of this number fails, from here on counted.
+// - `stops PARTS AT`, `stops - AT`: a stop at that call, which leaves these bytes, or none, past the
+//   synced lengths, and what the call does to names or nothing of it.
+// - `syncs AT`: the collector c1 syncs the sink c1.1.1 before that call.
+// - `restarts`: from here on no call fails.
+fn does(alloc: Global, site: &mut SiteMem, verb: &str, text: &str) -> Result<String, Fail> {
+    match verb {
+        "put" | "write" => puts(alloc, site, verb, text),
+        "is" => looks(alloc, site, text),
+        "run" | "counts" | "goes" => report(alloc, site, verb),
+        "fails" => fails(alloc, site, text),
+        "stops" => stops(alloc, site, text),
+        "syncs" => syncs(alloc, site, text),
+        "restarts" => restarts(alloc, site),
+        _ => asks(alloc, site, verb, text),
+    }
+}
+
+// A line is `VERB TEXT = ANSWER`, or `VERB TEXT` where the answer is `done`.
 fn plays(alloc: Global, site: &mut SiteMem, row: &str, line: &str) -> Result<(), Fail> {
     let (asked, wanted) = line.split_once(" = ").unwrap_or((line, "done"));
     let (verb, text) = asked.split_once(' ').unwrap_or((asked, ""));
@@ -262,7 +185,26 @@ fn plays(alloc: Global, site: &mut SiteMem, row: &str, line: &str) -> Result<(),
     Err(Fail::new(text.as_str()))
 }
 
-// Each line is `VERB TEXT = ANSWER`, or `VERB TEXT` where the answer is `done`.
+fn takes_line(alloc: Global, site: &mut SiteMem, row: &str, end: u64) -> Result<(), Fail> {
+    let put = format!(in alloc; "put sinks/c1.1.1.done C1_1_1 LINE {end} REST")?;
+    plays(alloc, site, row, put.as_str())?;
+    plays(
+        alloc,
+        site,
+        row,
+        "counts = unclosed 0 - taken 2 held 0 removed 1",
+    )
+}
+
+fn takes_lines(alloc: Global, site: &mut SiteMem, row: &str, count: &str) -> Result<(), Fail> {
+    let count: u32 = count.parse()?;
+    for number in 1..=count {
+        takes_line(alloc, site, row, u64::from(number) * 2)?;
+    }
+    Ok(())
+}
+
+// `lines COUNT` is so many runs, each over a sink of a line of two bytes.
 pub(crate) fn follows(
     alloc: Global,
     site: &mut SiteMem,
@@ -270,7 +212,10 @@ pub(crate) fn follows(
     lines: &str,
 ) -> Result<(), Fail> {
     for line in lines.lines() {
-        plays(alloc, site, row, line)?;
+        match line.strip_prefix("lines ") {
+            Some(count) => takes_lines(alloc, site, row, count)?,
+            None => plays(alloc, site, row, line)?,
+        }
     }
     Ok(())
 }
@@ -285,19 +230,17 @@ fn acts(site: &SiteMem) -> u64 {
     site.acts().len() as u64
 }
 
-fn calls_in(alloc: Global, site: &mut SiteMem, lines: &str) -> Result<u64, Fail> {
-    follows(alloc, site, "without faults", lines)?;
+fn calls_in(alloc: Global, site: &mut SiteMem, begins: &str, line: &str) -> Result<u64, Fail> {
+    follows(alloc, site, "without faults", begins)?;
     let before = acts(site);
-    if runs(alloc, site)?.is_err() {
-        return Err(Fail::from("refused without faults"));
-    }
+    plays(alloc, site, "without faults", line)?;
     Ok(acts(site).saturating_sub(before))
 }
 
-// How many calls a run makes behind these lines, where none fails.
-pub(crate) fn calls(alloc: Global, lines: &str) -> Result<u64, Fail> {
+// How many calls this line makes behind these, where none fails.
+pub(crate) fn calls(alloc: Global, begins: &str, line: &str) -> Result<u64, Fail> {
     let mut site = empty(alloc)?;
-    calls_in(alloc, &mut site, lines)
+    calls_in(alloc, &mut site, begins, line)
 }
 
 // Programs with an empty line between them, each at a site of its own. The first line is the name.

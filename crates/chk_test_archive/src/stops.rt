@@ -6,9 +6,25 @@ use std::test::Fail;
 
 // The archive as sixteen runs leave it, over a sink of one line each, and a sink of one more.
 const BEGINS: &str = "\
-segments 16
-put archive/book BOOK_SIXTEEN
-put sinks/c1.1.1.done C1_1_1 SEVENTEENTH
+put archive/seg.1 SEG_1 LINE 2 REST
+put archive/seg.2 SEG_1 LINE 4 REST
+put archive/seg.3 SEG_1 LINE 6 REST
+put archive/seg.4 SEG_1 LINE 8 REST
+put archive/seg.5 SEG_1 LINE 10 REST
+put archive/seg.6 SEG_1 LINE 12 REST
+put archive/seg.7 SEG_1 LINE 14 REST
+put archive/seg.8 SEG_1 LINE 16 REST
+put archive/seg.9 SEG_1 LINE 18 REST
+put archive/seg.10 SEG_1 LINE 20 REST
+put archive/seg.11 SEG_1 LINE 22 REST
+put archive/seg.12 SEG_1 LINE 24 REST
+put archive/seg.13 SEG_1 LINE 26 REST
+put archive/seg.14 SEG_1 LINE 28 REST
+put archive/seg.15 SEG_1 LINE 30 REST
+put archive/seg.16 SEG_1 LINE 32 REST
+put archive/book HEAD 17 #16 1 140 2 140 3 140 4 140 5 140 6 140 7 140 8 140 \
+9 140 10 140 11 140 12 140 13 140 14 140 15 140 16 140 #1 32 TEXTS
+put sinks/c1.1.1.done C1_1_1 LINE 34 REST
 ";
 
 // The call fails; or it is stopped, and nothing is left of what wasn't synced, or other bytes in its
@@ -21,17 +37,17 @@ stops SEG_17 FALSE FIFTEEN";
 
 // The segments that were merged go with the run behind the one that publishes the merged one.
 const ENDS: &str = "\
-run = refused
+goes = refused
 restarts
 goes
 run = unclosed 0 - taken 0 held 0 removed 0, h1 Log /a.log 0 34
-book = next 19, 17 800, 18 140
+book = next 19, 17 800, 18 140, h1 Log /a.log 0 34
 is archive/seg.1
 is archive/seg.16
-is archive/seg.17 SEG_17 FIFTEEN SIXTEENTH
-is archive/seg.18 SEG_18 SEVENTEENTH
+is archive/seg.17 SEG_17 FIFTEEN LINE 32 REST
+is archive/seg.18 SEG_18 LINE 34 REST
 is sinks/c1.1.1.done
-archive = a|a|a|a|a|a|a|a|a|a|a|a|a|a|a|a|a|
+archive h1 = [a|a|a|a|a|a|a|a|a|a|a|a|a|a|a|a|a|]
 ";
 
 // `HARM AT`: what happens at the call of this number.
@@ -56,7 +72,7 @@ fn never_comes(alloc: Global, at: u64) -> Result<(), Fail> {
 #[test]
 fn each_call_of_a_merge(rt: HostRuntime) -> Result<(), Fail> {
     let alloc = rt.alloc();
-    let count = calls(alloc, BEGINS)?;
+    let count = calls(alloc, BEGINS, "goes")?;
     for at in 1..=count {
         recovers_at(alloc, at)?;
     }

@@ -1,5 +1,5 @@
 //! What is answered, as text.
-use chk_archive::Report;
+use chk_archive::{JobFault, Report};
 use chk_book::{Book, End, Segment};
 use chk_bytes::Word;
 use std::alloc::Global;
@@ -9,13 +9,26 @@ pub(crate) fn plain(alloc: Global, text: &str) -> Result<String, Fail> {
     Ok(String::from_str(alloc, text)?)
 }
 
-// A newline stands as `|`.
+// In brackets; a newline stands as `|`.
 pub(crate) fn bytes_text(alloc: Global, bytes: &[u8]) -> Result<String, Fail> {
-    let mut text = String::new(alloc);
+    let mut text = String::from_str(alloc, "[")?;
     for b in bytes {
         text.push(if *b == b'\n' { '|' } else { char::from(*b) })?;
     }
+    text.push(']')?;
     Ok(text)
+}
+
+pub(crate) fn fault_text(alloc: Global, fault: JobFault) -> Result<String, Fail> {
+    match fault {
+        JobFault::Damaged { name, at } => {
+            let name = name.as_str();
+            Ok(format!(in alloc; "damaged {name} {at}")?)
+        }
+        JobFault::Outside { call } => plain(alloc, call.name()),
+        JobFault::Spent { number } => Ok(format!(in alloc; "spent {number}")?),
+        JobFault::NoMemory => Err(Fail::from("no memory")),
+    }
 }
 
 fn first_text(name: &Option<Word>) -> &str {
@@ -25,7 +38,7 @@ fn first_text(name: &Option<Word>) -> &str {
     }
 }
 
-fn numbers_text(alloc: Global, report: &Report) -> Result<String, Fail> {
+pub(crate) fn numbers_text(alloc: Global, report: &Report) -> Result<String, Fail> {
     let (unclosed, first) = (report.unclosed, first_text(&report.first_unclosed));
     let (taken, held, removed) = (report.taken, report.held, report.removed);
     Ok(format!(in alloc;
@@ -60,10 +73,16 @@ fn add_segments(text: &mut String, segments: &[Segment]) -> Result<(), Fail> {
     Ok(())
 }
 
-// The next number, and the number and the length of each segment.
+// The next number, the number and the length of each segment, each stream with its start and its
+// end, and the aside segment.
 pub(crate) fn book_text(alloc: Global, book: &Book) -> Result<String, Fail> {
     let next = book.next;
     let mut text = format!(in alloc; "next {next}")?;
     add_segments(&mut text, book.segments.as_slice())?;
+    add_ends(&mut text, book.ends.as_slice())?;
+    if let Some(aside) = &book.aside {
+        let (number, length) = (aside.number, aside.length);
+        write!(text, ", aside {number} {length}")?;
+    }
     Ok(text)
 }

@@ -15,7 +15,9 @@
 //! - `turns TIMES`: an agent starts from that checkpoint and takes turns; how many adaptors it has is printed;
 //! - `deliver`: an agent starts from that checkpoint, reads its logs to their ends and posts them to a stand-in in the
 //!   same process; how many bytes it read is printed;
-//! - `all TIMES`: each of these but the last six.
+//! - `archive SOURCE TYPE NAME`: the bytes of a stream in the archive below the current folder are read, and how many
+//!   these are is printed;
+//! - `all TIMES`: each of these but the last seven.
 //!
 //! It ends with 0 where all was done, 2 for other words, 3 where the system doesn't give them, 4 without memory, and 5
 //! where something was refused or failed.
@@ -24,6 +26,7 @@
 mod agents;
 mod answers;
 mod appends;
+mod archives;
 mod bodies;
 mod checkpoints;
 mod names;

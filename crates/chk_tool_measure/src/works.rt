@@ -3,6 +3,7 @@
 use crate::agents::{deliveries, turns};
 use crate::answers::answers;
 use crate::appends::appends;
+use crate::archives::archived;
 use crate::checkpoints::checkpoints;
 use crate::posts::posts;
 use crate::requests::requests;
@@ -12,6 +13,7 @@ use crate::takings::takings;
 use chk_agent::AgentFault;
 use chk_bytes::NoMemory;
 use chk_checkpoint::CheckFault;
+use chk_merge::JobFault;
 use chk_sink::SinkFault;
 use chk_site::{CallFault, OutsideFault};
 use chk_site_real::SiteReal;
@@ -118,6 +120,10 @@ fn works_thrice(
     second: &String,
     third: &String,
 ) -> End {
+    if work == "archive" {
+        let given = archived(site, alloc, first.as_str(), second.as_str(), third.as_str());
+        return joined(rt, given);
+    }
     let (Some(second), Some(third)) = (number(second), number(third)) else {
         return End::Words;
     };
@@ -246,5 +252,13 @@ fn deliver(rt: HostRuntime, alloc: Global, site: &mut SiteReal<HostRuntime>) -> 
         Ok(Some(bytes)) => done(println!(rt; "bytes {bytes}").is_ok()),
         Err(AgentFault::NoMemory) => End::NoMemory,
         Ok(None) | Err(_) => End::Refused,
+    }
+}
+
+fn joined(rt: HostRuntime, given: Result<u64, JobFault>) -> End {
+    match given {
+        Ok(bytes) => done(println!(rt; "bytes {bytes}").is_ok()),
+        Err(JobFault::NoMemory) => End::NoMemory,
+        Err(_) => End::Refused,
     }
 }

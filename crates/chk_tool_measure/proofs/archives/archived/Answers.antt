@@ -1,0 +1,11 @@
+use Rattle.std.proofs.Common.{refl, arith}
+use Rattle.std.specs.Prelude.{codes}
+use Rattle.std.proofs.lemmas.Bool.{and_from}
+use Rattle.chk_bytes.proofs.WordLemmas.{plain_word}
+use Rattle.chk_tool_measure.proofs.archives.archived.Goals as goal
+
+pub load_book-requires : goal.load_book-requires
+load_book-requires c c' = and_from _ _ (plain_word (codes "archive") refl (omega arith) (omega arith)) refl
+
+pub archive_of-requires : goal.archive_of-requires
+archive_of-requires c c' = and_from _ _ (plain_word (codes "archive") refl (omega arith) (omega arith)) refl
