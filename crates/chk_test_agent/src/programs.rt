@@ -3,8 +3,9 @@ use chk_test_scene::Scene;
 use std::alloc::Global;
 use std::test::Fail;
 
-// Control lines and their answers.
-const COMMANDS: &str = "\
+// Programs with an empty line between them, of which the first line is the name.
+const PROGRAMS: &str = "\
+control lines and their answers
 start 16 1048576 none c1:80 => started 0
 command add x = filetailer.LWFTAdaptor Log /a.log 0 => OK add completed; new ID is x| go
 command add x = filetailer.LWFTAdaptor Log /a.log 0 => BAD 9 NameInUse| go
@@ -29,10 +30,8 @@ command stopall => OK stopped 2 adaptors| go
 command list => OK 0 adaptors| go
 command close => OK close| close
 command stopagent => OK agent stops| end
-";
 
-// A log is read, sent, committed, and the checkpoint moves on behind it.
-const DELIVERED: &str = "\
+delivered: a log is read, sent, committed, and the checkpoint moves on behind it
 collector c1 => done
 start 16 1048576 none c1:80 => started 0
 add plain Log /a.log => new 0
@@ -68,10 +67,8 @@ closed => hello|
 start 16 1048576 none c1:80 => started 1
 ends 0 => at 6 6
 fill => ends
-";
 
-// A start of 5 and a cluster; then the agent is started with another cluster.
-const CLUSTERS: &str = "\
+clusters: a start of 5 and a cluster; then the agent is started with another cluster
 collector c1 => done
 start 16 1048576 demo c1:80 => started 0
 grow /a.log hello|
@@ -97,10 +94,8 @@ reply 0 => taken 1
 finish c1 => done
 size sinks/c1.1.1.done => size 221
 closed => hello|world|
-";
 
-// Two chunks at two collectors, of which the second alone commits; then both are sent again.
-const GAP: &str = "\
+a gap: two chunks at two collectors, of which the second alone commits; then both are sent again
 collector c1 => done
 collector c2 => done
 start 16 1048576 none c1:80,c2:80 => started 0
@@ -138,10 +133,8 @@ ends 0 => at 12 12
 settle 300000 => reset 0 written
 finish c2 => done
 closed => hello|world|
-";
 
-// The collector stops before its mark is there, and loses its sink; the chunk is sent again.
-const STOPPED: &str = "\
+a stopped collector: the collector stops before its mark is there, and loses its sink; the chunk is sent again
 collector c1 => done
 start 16 131072 none c1:80 => started 0
 grow /a.log hello|
@@ -166,10 +159,8 @@ serve c1 => 200 c1.2.1 144|
 reply 300000 => taken 1
 finish c1 => done
 closed => hello|
-";
 
-// Rotations are followed, over generations that are deleted behind the checkpoint.
-const ROTATED: &str = "\
+rotations are followed, over generations that are deleted behind the checkpoint
 collector c1 => done
 start 16 1048576 none c1:80 => started 0
 add rotating Log /a.log => new 0
@@ -214,10 +205,8 @@ serve c1 => 200 c1.1.1 240|
 reply 0 => taken 1
 finish c1 => done
 closed => hello|world|again|
-";
 
-// A stream that begins when there are generations already begins behind the newest of them.
-const BEHIND: &str = "\
+behind the newest generation: a stream that begins when there are generations already begins behind the newest of them
 start 16 131072 none c1:80 => started 0
 grow /a.log old|
 rotate /a.log .2010-11-08
@@ -227,10 +216,8 @@ grow /a.log new|
 add rotating Log /a.log => new 0
 check => chukwa-checkpoint 1|add adaptor_1 = FileTailingAdaptor Log /a.log 0 0 .2010-11-09|
 fill => read 4
-";
 
-// A post is lost, one is answered after nobody asks any more, and one is taken twice.
-const REPEATED: &str = "\
+repeated posts: a post is lost, one is answered after nobody asks any more, and one is taken twice
 collector c1 => done
 start 16 131072 none c1:80 => started 0
 grow /a.log hello|
@@ -255,10 +242,8 @@ lengths => lengths 1
 ends 0 => at 6 6
 finish c1 => done
 closed => hello|
-";
 
-// Replies that aren't good for what was asked.
-const OTHERWISE: &str = "\
+other replies: replies that aren't good for what was asked
 collector c1 => done
 start 16 131072 none c1:80 => started 0
 grow /a.log hello|
@@ -291,10 +276,8 @@ serve c1 => 200 c1.1.1 0|
 fail 1
 lengths => silent
 ends 0 => at 6 0
-";
 
-// A poll for the first chunk is answered before the post of the second one.
-const CROSSED: &str = "\
+a poll before a post: a poll for the first chunk is answered before the post of the second one
 collector c1 => done
 start 16 1048576 none c1:80 => started 0
 grow /a.log hello|
@@ -321,10 +304,8 @@ serve c1 => 200 c1.1.1 192|
 lengths => lengths 1
 ends 0 => at 12 12
 closed => hello|world|
-";
 
-// An adaptor that is to end goes back before its end, and ends at the next end of its log.
-const SHUT_DOWN: &str = "\
+shut down: an adaptor that is to end goes back before its end, and ends at the next end of its log
 collector c1 => done
 start 16 1048576 none c1:80 => started 0
 grow /a.log hello|
@@ -357,10 +338,8 @@ state 0 => past
 check => chukwa-checkpoint 1|past adaptor_1 = LWFTAdaptor Log /a.log 12 0 -|
 add plain Log /a.log => new 0
 check => chukwa-checkpoint 1|add adaptor_1 = LWFTAdaptor Log /a.log 12 0 -|
-";
 
-// An adaptor is stopped while its chunk waits, and one while its post is out.
-const HALTED: &str = "\
+stopped adaptors: an adaptor is stopped while its chunk waits, and one while its post is out
 collector c1 => done
 start 16 1048576 none c1:80 => started 0
 grow /a.log hello|
@@ -378,10 +357,8 @@ post => sent 1
 command stopall => OK stopped 1 adaptors| go
 reply 0 => nothing
 poll => none
-";
 
-// The log is shorter than what was read of it, and isn't read any more.
-const SHRANK: &str = "\
+a log that shrank: the log is shorter than what was read of it, and isn't read any more
 file agents/h1.check chukwa-checkpoint 1|add adaptor_1 = LWFTAdaptor Log /a.log 6 0 -|
 grow /a.log abc
 start 16 131072 none c1:80 => started 1
@@ -389,16 +366,12 @@ fill => shrank 0 6 3
 state 0 => shrank
 fill => ends
 command list => adaptor_1 LWFTAdaptor Log /a.log 6 6 shrank|OK 1 adaptors| go
-";
 
-// A checkpoint that isn't one.
-const DAMAGED: &str = "\
+a damaged checkpoint: a checkpoint that isn't one
 file agents/h1.check x
 start 16 131072 none c1:80 => damaged 0
-";
 
-// Rows of answers and the queue are full.
-const FULL: &str = "\
+full: rows of answers and the queue are full
 collector c1 => done
 start 1 131072 none c1:80 => started 0
 grow /a.log hello|
@@ -451,13 +424,15 @@ fn a_piece(alloc: Global, path: &str) -> Result<String, Fail> {
     Ok(text)
 }
 
+fn grows_a_piece(alloc: Global, scene: &mut Scene, path: &str) -> Result<(), Fail> {
+    let text = a_piece(alloc, path)?;
+    scene.grows(1, text.as_str())
+}
+
 fn fills_three(alloc: Global, scene: &mut Scene) -> Result<(), Fail> {
-    let first = a_piece(alloc, "/a.log")?;
-    scene.grows(1, first.as_str())?;
-    let second = a_piece(alloc, "/b.log")?;
-    scene.grows(1, second.as_str())?;
-    let third = a_piece(alloc, "/c.log")?;
-    scene.grows(1, third.as_str())?;
+    for path in ["/a.log", "/b.log", "/c.log"] {
+        grows_a_piece(alloc, scene, path)?;
+    }
     scene.follows(PIECES)
 }
 
@@ -517,76 +492,10 @@ fn ten_thousand_adaptors(rt: HostRuntime) -> Result<(), Fail> {
 }
 
 #[test]
-fn control_lines(rt: HostRuntime) -> Result<(), Fail> {
-    plays(rt.alloc(), "control lines", COMMANDS)
-}
-
-#[test]
-fn delivered(rt: HostRuntime) -> Result<(), Fail> {
-    plays(rt.alloc(), "delivered", DELIVERED)
-}
-
-#[test]
-fn clusters(rt: HostRuntime) -> Result<(), Fail> {
-    plays(rt.alloc(), "clusters", CLUSTERS)
-}
-
-#[test]
-fn a_gap(rt: HostRuntime) -> Result<(), Fail> {
-    plays(rt.alloc(), "a gap", GAP)
-}
-
-#[test]
-fn a_stopped_collector(rt: HostRuntime) -> Result<(), Fail> {
-    plays(rt.alloc(), "a stopped collector", STOPPED)
-}
-
-#[test]
-fn rotations(rt: HostRuntime) -> Result<(), Fail> {
-    plays(rt.alloc(), "rotations", ROTATED)
-}
-
-#[test]
-fn behind_the_newest_generation(rt: HostRuntime) -> Result<(), Fail> {
-    plays(rt.alloc(), "behind the newest generation", BEHIND)
-}
-
-#[test]
-fn repeated_posts(rt: HostRuntime) -> Result<(), Fail> {
-    plays(rt.alloc(), "repeated posts", REPEATED)
-}
-
-#[test]
-fn other_replies(rt: HostRuntime) -> Result<(), Fail> {
-    plays(rt.alloc(), "other replies", OTHERWISE)
-}
-
-#[test]
-fn a_poll_before_a_post(rt: HostRuntime) -> Result<(), Fail> {
-    plays(rt.alloc(), "a poll before a post", CROSSED)
-}
-
-#[test]
-fn shut_down(rt: HostRuntime) -> Result<(), Fail> {
-    plays(rt.alloc(), "shut down", SHUT_DOWN)
-}
-
-#[test]
-fn stopped_adaptors(rt: HostRuntime) -> Result<(), Fail> {
-    plays(rt.alloc(), "stopped adaptors", HALTED)
-}
-
-#[test]
-fn a_log_that_shrank(rt: HostRuntime) -> Result<(), Fail> {
-    plays(rt.alloc(), "a log that shrank", SHRANK)
-}
-
-#[test]
-fn a_damaged_checkpoint(rt: HostRuntime) -> Result<(), Fail> {
-    plays(rt.alloc(), "a damaged checkpoint", DAMAGED)
-}
-
-#[test]
-fn full(rt: HostRuntime) -> Result<(), Fail> {
-    plays(rt.alloc(), "full", FULL)
+fn programs(rt: HostRuntime) -> Result<(), Fail> {
+    for program in PROGRAMS.split("\n\n") {
+        let (row, lines) = program.split_once('\n').ok_or("no name")?;
+        plays(rt.alloc(), row, lines)?;
+    }
+    Ok(())
 }

@@ -3,7 +3,7 @@ ghost use Rattle.std.specs.Prelude.{◌≡◌, IfOk, IsTrue};
 ghost use Rattle.chk_bytes.specs.Stems.{is_collector};
 ghost use Rattle.chk_site.specs.declared.acts.Role.TheVariants.{Collector as collector_role};
 
-use crate::telling::{Told, lines_text};
+use crate::telling::{Told, lines_text, number_in};
 use crate::writing::bytes_in;
 use chk_bytes::{Bytes, Word};
 use chk_collector::Collector;
@@ -17,8 +17,9 @@ use std::test::Fail;
 // milliseconds.
 const ROTATE: u64 = 1_000_000_000;
 
+/// Two collectors, c1 and c2, and a message that one has taken and not answered.
 #[derive(Drop)]
-pub(crate) struct Collecting {
+pub struct Collecting {
     first: Option<Collector>,
     second: Option<Collector>,
     held: Option<Taking>,
@@ -172,7 +173,8 @@ fn responds(
 }
 
 impl Collecting {
-    pub(crate) fn new() -> Collecting {
+    /// Neither has started.
+    pub fn new() -> Collecting {
         Collecting {
             first: None,
             second: None,
@@ -229,26 +231,9 @@ impl Collecting {
         }
     }
 
-    // `collector NAME`, `hold NAME`, `lose NAME`, `tick NAME NOW`, `finish NAME`.
-    pub(crate) fn does(
-        &mut self,
-        alloc: Global,
-        site: &mut SiteMem,
-        verb: &str,
-        name: &str,
-        now: u64,
-    ) -> Result<Told, Fail> {
-        match verb {
-            "collector" => self.starts(alloc, site, name),
-            "hold" => self.holds(alloc, site, name),
-            "lose" => loses(alloc, site, name),
-            _ => Ok(self.works(alloc, site, verb, name, now)),
-        }
-    }
-
     // Takes a message and answers it, or answers the one that is held: the code and the body of
     // the reply.
-    pub(crate) fn serves(
+    fn serves(
         &mut self,
         alloc: Global,
         site: &mut SiteMem,
@@ -268,6 +253,41 @@ impl Collecting {
             None => Told::word("no collector").text(alloc),
         }
     }
+
+    // `hold`, `lose`, `say CODE BODY`, `tick NOW`, `finish`.
+    fn tells(
+        &mut self,
+        alloc: Global,
+        site: &mut SiteMem,
+        name: &str,
+        verb: &str,
+        text: &str,
+    ) -> Result<Told, Fail> {
+        match verb {
+            "hold" => self.holds(alloc, site, name),
+            "lose" => loses(alloc, site, name),
+            "say" => says(alloc, site, name, text),
+            "tick" => Ok(self.works(alloc, site, verb, name, number_in(text)?)),
+            "finish" => Ok(self.works(alloc, site, verb, name, 0)),
+            _ => Err(Fail::from("no such verb of a collector")),
+        }
+    }
+
+    /// What `VERB TEXT` is answered by the collector of this name.
+    pub fn does(
+        &mut self,
+        alloc: Global,
+        site: &mut SiteMem,
+        name: &str,
+        verb: &str,
+        text: &str,
+    ) -> Result<String, Fail> {
+        match verb {
+            "collector" => self.starts(alloc, site, name)?.text(alloc),
+            "serve" | "release" => self.serves(alloc, site, verb, name),
+            _ => self.tells(alloc, site, name, verb, text)?.text(alloc),
+        }
+    }
 }
 
 // A message is taken and never answered.
@@ -277,12 +297,7 @@ fn loses(alloc: Global, site: &mut SiteMem, name: &str) -> Result<Told, Fail> {
 }
 
 // A message is taken and answered with this code and body.
-pub(crate) fn says(
-    alloc: Global,
-    site: &mut SiteMem,
-    name: &str,
-    text: &str,
-) -> Result<Told, Fail> {
+fn says(alloc: Global, site: &mut SiteMem, name: &str, text: &str) -> Result<Told, Fail> {
     let Some(taking) = takes(alloc, site, name)? else {
         return Ok(Told::word("no message"));
     };

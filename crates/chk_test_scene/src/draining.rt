@@ -9,17 +9,38 @@ use chk_site_mem::SiteMem;
 use std::alloc::Global;
 use std::test::Fail;
 
-pub(crate) fn drains(
+// Of the moment `now`, with so many reads of a log and polls.
+fn drained(
     alloc: Global,
     site: &mut SiteMem,
     agent: &mut Agent,
+    now: u64,
     reads: u64,
     polls: u32,
 ) -> Result<String, Fail> {
     if !agent.ready() || reads == 0 || polls == 0 {
         return plain(alloc, "not ready");
     }
-    drained_text(alloc, drain(alloc, agent, site, 0, reads, polls))
+    drained_text(alloc, drain(alloc, agent, site, now, reads, polls))
+}
+
+// `NOW READS POLLS`.
+pub(crate) fn drains(
+    alloc: Global,
+    site: &mut SiteMem,
+    agent: &mut Agent,
+    text: &str,
+) -> Result<String, Fail> {
+    let (now, limits) = text.split_once(' ').ok_or("no reads")?;
+    let (reads, polls) = limits.split_once(' ').ok_or("no polls")?;
+    drained(
+        alloc,
+        site,
+        agent,
+        now.parse()?,
+        reads.parse()?,
+        polls.parse()?,
+    )
 }
 
 fn drained_text(alloc: Global, given: Result<Drained, AgentFault>) -> Result<String, Fail> {

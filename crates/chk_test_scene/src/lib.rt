@@ -6,10 +6,13 @@ mod agents;
 mod answers;
 mod collecting;
 mod draining;
+mod host;
 mod scene;
 mod sinks;
 mod starting;
 mod telling;
 mod writing;
 
+pub use collecting::Collecting;
+pub use host::Host;
 pub use scene::Scene;

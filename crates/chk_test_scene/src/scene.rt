@@ -1,15 +1,11 @@
 //! The scene, told line by line what to do.
 
 use crate::acts::others_in;
-use crate::agents::{asks, asks_lengths, commands, settles, stands};
-use crate::answers::faulted;
-use crate::collecting::{Collecting, says};
-use crate::draining::drains;
+use crate::collecting::Collecting;
+use crate::host::Host;
 use crate::sinks::closed;
-use crate::starting::started;
-use crate::telling::{Told, index_in, lines_text, number_in, parted, plain};
+use crate::telling::{Told, lines_text, number_in, parted, plain};
 use crate::writing::Writing;
-use chk_agent::Agent;
 use chk_site::{Act, Call, Other, Role};
 use chk_site_mem::SiteMem;
 use chk_test_calls::quiet;
@@ -25,7 +21,7 @@ pub struct Scene {
     alloc: Global,
     row: String,
     site: SiteMem,
-    agent: Option<Agent>,
+    host: Host,
     collecting: Collecting,
     writing: Writing,
 }
@@ -37,10 +33,10 @@ fn told_file(alloc: Global, site: &SiteMem, name: &str) -> Result<String, Fail> 
     }
 }
 
-fn size_of(site: &SiteMem, name: &str) -> Result<Told, Fail> {
+fn size_of(site: &SiteMem, name: &str) -> Told {
     match site.file(name) {
-        Some(bytes) => Ok(Told::one("size", bytes.len() as u64)),
-        None => Ok(Told::word("none")),
+        Some(bytes) => Told::one("size", bytes.len() as u64),
+        None => Told::word("none"),
     }
 }
 
@@ -65,16 +61,18 @@ fn acts_of_agents(acts: &[Act]) -> u64 {
 }
 
 impl Scene {
-    /// Nobody has started, and there is no file.
-    pub fn new(alloc: Global, row: &str) -> Result<Scene, Fail> {
-        Ok(Scene {
+    /// Nobody has started, and there is no file. It is boxed, since owners of a large value are dear to
+    /// prove.
+    pub fn new(alloc: Global, row: &str) -> Result<Box<Scene>, Fail> {
+        let scene = Scene {
             alloc,
             row: plain(alloc, row)?,
             site: SiteMem::new(alloc, quiet(alloc))?,
-            agent: None,
+            host: Host::new(),
             collecting: Collecting::new(),
             writing: Writing::new(alloc),
-        })
+        };
+        Ok(Box::new(alloc, scene)?)
     }
 
     /// Each line is `VERB TEXT`, of what happens, or `VERB TEXT => ANSWER`, of what is answered.
@@ -134,81 +132,22 @@ impl Scene {
         self.goes_on();
         let (verb, text) = parted(asked);
         match verb {
-            "lengths" | "settle" | "command" => self.says_more(verb, text),
-            "serve" | "release" => self.serves(verb, text),
             "check" => told_file(self.alloc, &self.site, "agents/h1.check"),
             "closed" => lines_text(self.alloc, closed(self.alloc, &self.site)?.as_slice()),
-            _ => self.tells(verb, text)?.text(self.alloc),
-        }
-    }
-
-    fn tells(&mut self, verb: &str, text: &str) -> Result<Told, Fail> {
-        match verb {
-            "start" => self.starts(text),
-            "collector" | "hold" | "lose" | "say" | "tick" | "finish" => self.collects(verb, text),
-            "size" => size_of(&self.site, text),
-            "written" => Ok(Told::one("written", acts_of_writers(self.site.acts()))),
-            "ready" | "ends" | "state" => self.stands(verb, text),
-            _ => self.asks(verb, text),
-        }
-    }
-
-    // `ROWS QUEUE CLUSTER ADDRESSES`.
-    fn starts(&mut self, text: &str) -> Result<Told, Fail> {
-        match started(self.alloc, &mut self.site, text)? {
-            Ok(agent) => {
-                let count = agent.adaptors();
-                self.agent = Some(agent);
-                Ok(Told::one("started", count as u64))
+            "collector" | "hold" | "lose" | "say" | "tick" | "finish" | "serve" | "release" => {
+                self.collects(verb, text)
             }
-            Err(fault) => {
-                self.agent = None;
-                Ok(faulted(fault))
-            }
+            "size" => size_of(&self.site, text).text(self.alloc),
+            "written" => Told::one("written", acts_of_writers(self.site.acts())).text(self.alloc),
+            _ => self.host.does(self.alloc, &mut self.site, verb, text),
         }
     }
 
     // `NAME`, `NAME NOW` or `NAME CODE BODY`.
-    fn collects(&mut self, verb: &str, text: &str) -> Result<Told, Fail> {
+    fn collects(&mut self, verb: &str, text: &str) -> Result<String, Fail> {
         let (name, rest) = parted(text);
-        if verb == "say" {
-            return says(self.alloc, &mut self.site, name, rest);
-        }
-        let now = if verb == "tick" { number_in(rest)? } else { 0 };
         self.collecting
-            .does(self.alloc, &mut self.site, verb, name, now)
-    }
-
-    fn serves(&mut self, verb: &str, name: &str) -> Result<String, Fail> {
-        self.collecting
-            .serves(self.alloc, &mut self.site, verb, name)
-    }
-
-    fn stands(&self, verb: &str, text: &str) -> Result<Told, Fail> {
-        match &self.agent {
-            Some(agent) => stands(agent, verb, text),
-            None => Ok(Told::word("no agent")),
-        }
-    }
-
-    fn asks(&mut self, verb: &str, text: &str) -> Result<Told, Fail> {
-        match &mut self.agent {
-            Some(agent) => asks(self.alloc, &mut self.site, agent, verb, text),
-            None => Ok(Told::word("no agent")),
-        }
-    }
-
-    // `lengths`, `settle NOW`, `command LINE`.
-    fn says_more(&mut self, verb: &str, text: &str) -> Result<String, Fail> {
-        let alloc = self.alloc;
-        let Some(agent) = &mut self.agent else {
-            return plain(alloc, "no agent");
-        };
-        match verb {
-            "lengths" => asks_lengths(alloc, &mut self.site, agent),
-            "settle" => settles(alloc, &mut self.site, agent, number_in(text)?),
-            _ => commands(alloc, &mut self.site, agent, text),
-        }
+            .does(self.alloc, &mut self.site, name, verb, rest)
     }
 
     /// `PATH BYTES` are appended to a log before the call of this number, counted from the next one.
@@ -241,15 +180,6 @@ impl Scene {
     /// These acts of others happen from the next call on.
     pub fn others_act(&mut self, others: Vec<Other>) {
         self.writing.acts(others);
-    }
-
-    /// What a drain at the moment 0 answers, with so many reads of a log and polls.
-    pub fn drains(&mut self, reads: u64, polls: u32) -> Result<String, Fail> {
-        self.goes_on();
-        match &mut self.agent {
-            Some(agent) => drains(self.alloc, &mut self.site, agent, reads, polls),
-            None => plain(self.alloc, "no agent"),
-        }
     }
 
     /// How many acts of agents there were.

@@ -3,7 +3,7 @@
 use crate::scene::LOG;
 use chk_bytes::Bytes;
 use chk_chunk::read_key;
-use chk_salvage::front;
+use chk_salvage::{EntryRef, front};
 use chk_site_mem::SiteMem;
 use std::alloc::Global;
 use std::test::Fail;
@@ -13,29 +13,41 @@ const MOST: u64 = 5;
 
 // Adds what a closed sink holds past what is there already.
 fn add_sink(alloc: Global, sink: &[u8], whole: &mut Bytes) -> Result<(), Fail> {
-    let held = front(alloc, sink).map_err(|_| "no sink")?;
+    let Ok(held) = front(alloc, sink) else {
+        return Err(Fail::from("no sink"));
+    };
     for entry in held.entries.as_slice() {
-        let key = read_key(entry.key).map_err(|_| "no key")?;
-        if key.source == "h1" && key.name == LOG {
-            add_chunk(key.seq, key.start, entry.value, whole)?;
-        }
+        add_entry(entry, whole)?;
     }
     Ok(())
 }
 
+fn add_entry(entry: &EntryRef<'_>, whole: &mut Bytes) -> Result<(), Fail> {
+    let Ok(key) = read_key(entry.key) else {
+        return Err(Fail::from("no key"));
+    };
+    if key.source == "h1" && key.name == LOG {
+        add_chunk(key.seq, key.start, entry.value, whole)?;
+    }
+    Ok(())
+}
+
+// Where the chunk begins and ends, counted from the start.
+fn ends_of(seq: u64, start: u64, size: u64) -> Result<(u64, u64), Fail> {
+    let end = seq.checked_sub(start).ok_or("a chunk before the start")?;
+    let begin = end.checked_sub(size).ok_or("a chunk before the start")?;
+    Ok((begin, end))
+}
+
 // Adds what a chunk holds past what is there, where it leaves no gap. Offsets count from the start.
 fn add_chunk(seq: u64, start: u64, value: &[u8], whole: &mut Bytes) -> Result<(), Fail> {
-    let end = seq.checked_sub(start).ok_or("a chunk before the start")?;
-    let begin = end
-        .checked_sub(value.len() as u64)
-        .ok_or("a chunk before the start")?;
-    let there = whole.as_slice().len() as u64;
+    let (begin, end) = ends_of(seq, start, value.len() as u64)?;
+    let there = whole.len() as u64;
     if begin > there || end <= there {
         return Ok(());
     }
-    let more = value.get((there - begin) as usize..).ok_or("no more")?;
-    whole.push_all(more)?;
-    Ok(())
+    let skipped = there.saturating_sub(begin) as usize;
+    Ok(whole.push_all(value.get(skipped..).unwrap_or(b""))?)
 }
 
 fn add_collector(alloc: Global, site: &SiteMem, name: &str, whole: &mut Bytes) -> Result<(), Fail> {

@@ -1,8 +1,9 @@
-//! The agent h1 and its start.
+//! The agents h1, h2 and h3, and their starts.
 ghost use Rattle.std.specs.Prelude.{◌≡◌, ◌≤◌, IfOk, IsTrue};
 ghost use Rattle.chk_site.specs.declared.acts.Role.TheVariants.{Agent as agent_role};
 ghost use Rattle.chk_world.specs.Names.{is_source};
 
+use crate::telling::parted;
 use chk_agent::{Agent, AgentFault, Rules};
 use chk_bytes::Word;
 use chk_failover::Ring;
@@ -23,6 +24,37 @@ fn h1(alloc: Global) -> Result<Who, Fail>
         role: Role::Agent,
         name: Word::new(alloc, b"h1".as_slice())?,
     })
+}
+
+fn h2(alloc: Global) -> Result<Who, Fail>
+    ensures role { IfOk result (λ who. who.role ≡ agent_role) }
+    ensures name { IfOk result (λ who. IsTrue (is_source who.name)) }
+{
+    Ok(Who {
+        role: Role::Agent,
+        name: Word::new(alloc, b"h2".as_slice())?,
+    })
+}
+
+fn h3(alloc: Global) -> Result<Who, Fail>
+    ensures role { IfOk result (λ who. who.role ≡ agent_role) }
+    ensures name { IfOk result (λ who. IsTrue (is_source who.name)) }
+{
+    Ok(Who {
+        role: Role::Agent,
+        name: Word::new(alloc, b"h3".as_slice())?,
+    })
+}
+
+fn who_of(alloc: Global, name: &str) -> Result<Who, Fail>
+    ensures role { IfOk result (λ who. who.role ≡ agent_role) }
+    ensures name { IfOk result (λ who. IsTrue (is_source who.name)) }
+{
+    match name {
+        "h2" => h2(alloc),
+        "h3" => h3(alloc),
+        _ => h1(alloc),
+    }
 }
 
 // Addresses joined by commas.
@@ -66,14 +98,25 @@ fn rules_in(alloc: Global, text: &str) -> Result<Rules, Fail>
     rules(alloc, count, queue, words.next().ok_or("no cluster")?)
 }
 
-// `ROWS QUEUE CLUSTER ADDRESSES`.
+// The agent's name, where one stands there, and the rest.
+fn named(text: &str) -> (&str, &str) {
+    if text.starts_with('h') {
+        parted(text)
+    } else {
+        ("h1", text)
+    }
+}
+
+// `ROWS QUEUE CLUSTER ADDRESSES`, behind a name that isn't h1.
 pub(crate) fn started(
     alloc: Global,
     site: &mut SiteMem,
     text: &str,
 ) -> Result<Result<Agent, AgentFault>, Fail> {
+    let (name, text) = named(text);
+    let who = who_of(alloc, name)?;
     let (limits, addresses) = text.rsplit_once(' ').ok_or("no addresses")?;
     let rules = rules_in(alloc, limits)?;
     let ring = ring_of(alloc, addresses)?;
-    Ok(Agent::start(alloc, site, &h1(alloc)?, ring, rules))
+    Ok(Agent::start(alloc, site, &who, ring, rules))
 }

@@ -25,14 +25,6 @@ pub(crate) fn bytes_in(alloc: Global, text: &str) -> Result<Bytes, Fail> {
     Ok(bytes)
 }
 
-// A file of these bytes is made, all of it on the disk.
-fn file_of(alloc: Global, name: &[u8], bytes: &[u8]) -> Result<[Other; 3], Fail> {
-    let made = written(alloc, Call::Create, &[name])?;
-    let grown = written(alloc, Call::Append, &[name, bytes])?;
-    let synced = written(alloc, Call::Sync, &[name])?;
-    Ok([made, grown, synced])
-}
-
 // The log's base file becomes a generation of this suffix, or that generation is deleted.
 fn turned(alloc: Global, verb: &str, path: &str, suffix: &str) -> Result<Other, Fail> {
     let suffix = Bytes::from_slice(alloc, suffix.as_bytes())?;
@@ -85,10 +77,9 @@ impl Writing {
     pub(crate) fn puts(&mut self, alloc: Global, text: &str) -> Result<(), Fail> {
         let (name, text) = parted(text);
         let bytes = bytes_in(alloc, text)?;
-        for other in file_of(alloc, name.as_bytes(), bytes.as_slice())? {
-            self.adds(other)?;
-        }
-        Ok(())
+        self.adds(written(alloc, Call::Create, &[name.as_bytes()])?)?;
+        self.adds(written(alloc, Call::Append, &[name.as_bytes(), bytes.as_slice()])?)?;
+        self.adds(written(alloc, Call::Sync, &[name.as_bytes()])?)
     }
 
     // The call of this number, counted from the next one, fails.

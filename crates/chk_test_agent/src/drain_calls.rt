@@ -54,7 +54,7 @@ fn works(scene: &mut Scene, others: Vec<Other>) -> Result<String, Fail> {
     scene.others_act(others);
     let _started = scene.does("start 16 1048576 none c1:80")?;
     let _added = scene.does("add plain Log /a.log")?;
-    scene.drains(9, 60)
+    scene.does("drain 0 9 60")
 }
 
 fn rehearses_first(scene: &mut Scene) -> Result<Vec<Other>, Fail> {
@@ -123,7 +123,7 @@ fn calls(alloc: Global) -> Result<u64, Fail> {
 }
 
 #[test]
-fn each_call_fails(rt: HostRuntime) -> Result<(), Fail> {
+fn each_call_of_a_drain_fails(rt: HostRuntime) -> Result<(), Fail> {
     let alloc = rt.alloc();
     let calls = calls(alloc)?;
     // Two of the start, five of each of the two checkpoints, and two reads, a post and a poll with
@@ -138,7 +138,7 @@ fn each_call_fails(rt: HostRuntime) -> Result<(), Fail> {
 }
 
 #[test]
-fn each_call_is_stopped(rt: HostRuntime) -> Result<(), Fail> {
+fn each_call_of_a_drain_is_stopped(rt: HostRuntime) -> Result<(), Fail> {
     let alloc = rt.alloc();
     for before in 0..calls(alloc)? {
         recovers(alloc, Harm::Stopped { call: before + 1 })?;
