@@ -157,7 +157,7 @@ impl<R: Files<File = File> + Net + Clock + Print + Drop> Site for SiteReal<R> {
     }
 
     fn rename(&mut self, alloc: Global, _who: &Who, old: &str, new: &str) -> Result<(), CallFault> {
-        let given = self.host.rename(old, new);
+        let given = self.host.rename(alloc, old, new);
         self.settle(alloc, Call::Rename, old, given)
     }
 
