@@ -5,6 +5,7 @@ ghost use Rattle.chk_sockets.specs.Faults.{answer_of};
 
 use crate::deadline::Deadline;
 use crate::faults::{SystemFault, taking_ended};
+use crate::memory::front_of;
 use crate::streams::{bound_waits, end_stream, longest_wait, next_piece, write_before};
 use crate::watching::Watch;
 use chk_bytes::{Bytes, NoMemory};
@@ -88,7 +89,7 @@ impl<R: Net + Clock> StreamDoor<R> {
         let Some(arrival) = self.wait_for(rt, wait, buffer)? else {
             return Ok(None);
         };
-        let bytes = Bytes::from_slice(alloc, &buffer[..arrival.count])?;
+        let bytes = front_of(alloc, buffer, arrival.count)?;
         self.taken = Some(Taken {
             number,
             stream: arrival.stream,
@@ -104,7 +105,7 @@ impl<R: Net + Clock> StreamDoor<R> {
             return Ok(Bytes::new(alloc));
         };
         let count = next_piece(&mut taken.stream, buffer);
-        let bytes = Bytes::from_slice(alloc, &buffer[..count])?;
+        let bytes = front_of(alloc, buffer, count)?;
         self.taken = Some(taken);
         Ok(bytes)
     }
