@@ -22,6 +22,8 @@ pub struct Host<R: Files<File = File>> {
     writing: Option<Kept>,
     /// The file that was created last, as long as its folder isn't synced.
     unsettled: Option<String>,
+    /// The mark that was renamed last, whose folder was synced behind that.
+    settled_mark: Option<String>,
     pub reading: Option<Kept>,
     pub listings: Listings,
     pub buffer: Vec<u8>,
@@ -31,6 +33,7 @@ impl<R: Files<File = File>> Host<R> {
     pub fn new(rt: R, alloc: Global) -> Host<R>
         ensures writing { result.writing ≡ None }
         ensures unsettled { result.unsettled ≡ None }
+        ensures settled { result.settled_mark ≡ None }
         ensures reading { result.reading ≡ None }
         ensures listings { result.listings ≡ [] }
         ensures buffer { result.buffer.items ≡ [] }
@@ -39,6 +42,7 @@ impl<R: Files<File = File>> Host<R> {
             rt,
             writing: None,
             unsettled: None,
+            settled_mark: None,
             reading: None,
             listings: Listings::new(alloc),
             buffer: Vec::new(alloc),
@@ -123,11 +127,14 @@ impl<R: Files<File = File>> Host<R> {
     }
 
     /// A file that isn't there is `Failed`.
-    pub fn rename(&mut self, old: &str, new: &str) -> Result<(), SystemFault>
+    pub fn rename(&mut self, alloc: Global, old: &str, new: &str) -> Result<(), SystemFault>
         ensures { MayFail (answer_of result) }
     {
         self.settle_other(old)?;
         let given = self.rename_settled(old, new);
+        if given.is_ok() && is_mark(new) {
+            self.settled_mark = text(alloc, new).ok();
+        }
         self.settle_failed(given)
     }
 
@@ -188,14 +195,22 @@ impl<R: Files<File = File>> Host<R> {
     }
 
     // Another collector may have renamed a mark to this name and not synced it yet. What was read of a
-    // mark is told to agents, so it stays on the disk before it is answered.
+    // mark is told to agents, so it stays on the disk before it is answered. The mark that this process
+    // renamed last is on the disk, and nobody else renames to its name.
     fn settle_name(&self, name: &str) -> Result<(), SystemFault>
         ensures { MayFail (answer_of result) }
     {
-        if name.ends_with(".mark") {
+        if is_mark(name) && !self.has_settled(name) {
             sync_folder(&self.rt, name)?;
         }
         Ok(())
+    }
+
+    fn has_settled(&self, name: &str) -> bool {
+        match &self.settled_mark {
+            Some(mark) => mark.as_str() == name,
+            None => false,
+        }
     }
 
     /// None where there is no such file. A read from the front opens the file anew, and one that was
@@ -367,7 +382,14 @@ impl<R: Files<File = File>> Host<R> {
         if is_named(&self.reading, name) {
             self.reading = None;
         }
+        if self.has_settled(name) {
+            self.settled_mark = None;
+        }
     }
+}
+
+fn is_mark(name: &str) -> bool {
+    name.ends_with(".mark")
 }
 
 // A file that isn't there is missing only where its folder is there.

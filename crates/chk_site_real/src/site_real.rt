@@ -11,13 +11,16 @@ use crate::names::sorted_names;
 use chk_bytes::{Bytes, Word};
 use chk_site::{Call, CallFault, Part, Piece, Role, Site, Suffix, Taking, Who};
 use chk_sockets::{Messages, SystemFault, text};
-use std::alloc::Global;
+use std::alloc::{AllocError, Global};
 use std::fs::File;
 use std::io::ErrorKind;
 use std::net::Net;
 use std::rt::Files;
 use std::thread;
 use std::time::{Clock, Duration};
+
+/// How many bytes the longest message has, with its head.
+const LONGEST_MESSAGE: usize = 4_210_688;
 
 /// The outside as the machine has it. It tells no history, counts the calls that failed, and keeps
 /// the cause of the last one.
@@ -60,6 +63,7 @@ impl<R: Files<File = File> + Net + Clock + Print + Drop> SiteReal<R> {
     pub fn new(rt: R, alloc: Global) -> SiteReal<R>
         ensures { result.faults ≤ 1 }
     {
+        keep_freed_memory(alloc);
         let faults = make_folders(&rt);
         SiteReal {
             faults,
@@ -122,6 +126,13 @@ impl<R: Files<File = File> + Net + Clock + Print + Drop> SiteReal<R> {
     }
 }
 
+// Takes memory for the longest message, and lets it go untouched. The C library keeps what is let go for
+// later calls, but for pieces that are longer than each one that was let go before: these go back to the
+// system, and each page of them is made anew.
+fn keep_freed_memory(alloc: Global) {
+    let _longest: Result<Vec<u8>, AllocError> = Vec::with_capacity(alloc, LONGEST_MESSAGE);
+}
+
 impl<R: Files<File = File> + Net + Clock + Print + Drop> Site for SiteReal<R> {
     ghost told = { λ _. None };
 
@@ -157,7 +168,7 @@ impl<R: Files<File = File> + Net + Clock + Print + Drop> Site for SiteReal<R> {
     }
 
     fn rename(&mut self, alloc: Global, _who: &Who, old: &str, new: &str) -> Result<(), CallFault> {
-        let given = self.host.rename(old, new);
+        let given = self.host.rename(alloc, old, new);
         self.settle(alloc, Call::Rename, old, given)
     }
 

@@ -12,6 +12,7 @@ mod messages;
 mod sends;
 mod stream_door;
 mod streams;
+mod watching;
 
 pub use faults::SystemFault;
 pub use memory::{make_place, make_room, text};

@@ -1,9 +1,10 @@
 //! Memory that is taken before a call changes anything.
-ghost use Rattle.std.specs.Prelude.{◌≡◌, string_bytes, IfOk};
+ghost use Rattle.std.specs.Prelude.{◌≡◌, ◌≤◌, length, string_bytes, take, IfOk};
 
-use chk_bytes::NoMemory;
+use chk_bytes::{Bytes, NoMemory};
 use chk_site::PIECE_BYTES;
 use std::alloc::Global;
+use std::mem;
 
 /// A copy of the text.
 pub fn text(alloc: Global, text: &str) -> Result<String, NoMemory>
@@ -18,6 +19,20 @@ pub fn make_room(buffer: &mut Vec<u8>) -> Result<(), NoMemory> {
         buffer.resize(PIECE_BYTES, 0)?;
     }
     Ok(())
+}
+
+/// The bytes that were read into the front of the buffer. The buffer itself is handed out where they fill
+/// half of it: new room costs less than a copy of them.
+pub fn front_of(alloc: Global, buffer: &mut Vec<u8>, count: usize) -> Result<Bytes, NoMemory>
+    requires { count ≤ length buffer.old.items }
+    ensures { IfOk result (λ bytes. bytes ≡ take count buffer.old.items) }
+{
+    if count < buffer.len() / 2 {
+        return Bytes::from_slice(alloc, &buffer[..count]);
+    }
+    let mut bytes = mem::replace(buffer, Vec::new(alloc));
+    bytes.truncate(count);
+    Ok(Bytes::from_vec(bytes))
 }
 
 /// Makes room for one more item.

@@ -5,22 +5,16 @@ ghost use Rattle.chk_sockets.specs.Faults.{answer_of};
 
 use crate::deadline::Deadline;
 use crate::faults::{SystemFault, taking_ended};
+use crate::memory::front_of;
 use crate::streams::{bound_waits, end_stream, longest_wait, next_piece, write_before};
+use crate::watching::Watch;
 use chk_bytes::{Bytes, NoMemory};
 use std::alloc::Global;
 use std::collections::VecDeque;
+use std::io;
 use std::io::{ErrorKind, Read};
 use std::net::{Net, OpenListener, OpenStream, SocketAddr};
 use std::time::{Clock, Duration};
-use std::{io, thread};
-
-/// The longest time between two looks at a door, in milliseconds. It is 1 ms at first, and behind a look
-/// at which somebody came, since the next message often comes at once.
-const LONGEST_PAUSE: u64 = 10;
-
-/// After so many looks at which nobody came the time grows by 1 ms: where a message comes each 200 ms,
-/// a look comes within 4 ms.
-const LOOKS_A_STEP: u64 = 32;
 
 /// How many peers that have sent nothing yet are held; then the oldest one goes.
 pub const MOST_SILENT: usize = 256;
@@ -34,8 +28,8 @@ pub struct StreamDoor<R: Net> {
     listener: R::Listener,
     /// The peers that have sent nothing yet, the oldest first.
     silent: VecDeque<Silent<R>>,
-    /// How many looks there were since somebody came or was taken.
-    quiet_looks: u64,
+    /// What a wait ends by: the listener, and the silent peers.
+    watch: Watch,
     taken: Option<Taken<R>>,
 }
 
@@ -62,10 +56,12 @@ impl<R: Net + Clock> StreamDoor<R> {
     pub fn open(rt: &R, alloc: Global, address: SocketAddr) -> io::Result<StreamDoor<R>> {
         let listener = rt.bind(address)?;
         listener.set_nonblocking(true)?;
+        let watch = Watch::new(rt, alloc)?;
+        watch.add(&listener);
         Ok(StreamDoor {
             listener,
             silent: VecDeque::new(alloc),
-            quiet_looks: 0,
+            watch,
             taken: None,
         })
     }
@@ -93,7 +89,7 @@ impl<R: Net + Clock> StreamDoor<R> {
         let Some(arrival) = self.wait_for(rt, wait, buffer)? else {
             return Ok(None);
         };
-        let bytes = Bytes::from_slice(alloc, &buffer[..arrival.count])?;
+        let bytes = front_of(alloc, buffer, arrival.count)?;
         self.taken = Some(Taken {
             number,
             stream: arrival.stream,
@@ -109,7 +105,7 @@ impl<R: Net + Clock> StreamDoor<R> {
             return Ok(Bytes::new(alloc));
         };
         let count = next_piece(&mut taken.stream, buffer);
-        let bytes = Bytes::from_slice(alloc, &buffer[..count])?;
+        let bytes = front_of(alloc, buffer, count)?;
         self.taken = Some(taken);
         Ok(bytes)
     }
@@ -142,7 +138,6 @@ impl<R: Net + Clock> StreamDoor<R> {
         ensures { IfOk result (λ found. IfSome found (λ arrival. arrival.count ≤ length buffer.new.items)) }
     {
         let deadline = Deadline::after(rt, wait)?;
-        self.quiet_looks = 0;
         for _ in 0..u64::MAX {
             if let Some(arrival) = self.look(rt, buffer)? {
                 return Ok(Some(arrival));
@@ -151,14 +146,9 @@ impl<R: Net + Clock> StreamDoor<R> {
             if left.is_zero() {
                 break;
             }
-            thread::sleep(rt, left.min(self.pause()));
+            self.watch.wait(rt, left);
         }
         Ok(None)
-    }
-
-    fn pause(&self) -> Duration {
-        let steps = (self.quiet_looks / LOOKS_A_STEP).min(LONGEST_PAUSE - 1);
-        Duration::from_millis(1 + steps)
     }
 
     // One look at the door, without a wait: at the peers that were let in, and then at those outside.
@@ -173,7 +163,6 @@ impl<R: Net + Clock> StreamDoor<R> {
                 return Ok(Some(arrival));
             }
         }
-        self.quiet_looks = self.quiet_looks.saturating_add(1);
         self.let_in(rt, buffer)
     }
 
@@ -188,7 +177,6 @@ impl<R: Net + Clock> StreamDoor<R> {
                 Err(error) if went_away(error.kind()) => continue,
                 Err(error) => return Err(error),
             };
-            self.quiet_looks = 0;
             if let Some(arrival) = self.look_at_new(rt, stream, buffer)? {
                 return Ok(Some(arrival));
             }
@@ -212,6 +200,9 @@ impl<R: Net + Clock> StreamDoor<R> {
         let deadline = Deadline::after(rt, longest_wait())?;
         if let Some(arrival) = self.look_at(rt, Silent { stream, deadline }, buffer)? {
             return Ok(Some(arrival));
+        }
+        if let Some(newest) = self.silent.back() {
+            self.watch.add(&newest.stream);
         }
         if self.silent.len() <= MOST_SILENT {
             return Ok(None);
