@@ -47,7 +47,8 @@ module _ (most : ℕ) (r : Placed) (c : Chunk) (is : chunk_of most r ≡ Some c)
       let e = length-append more (r ∷ []) in
       omega arith
 
-  pub heads_more : (file : ℕ) (more : List Placed) → filter_map (head_at most file) (more ++ r ∷ []) ≡ filter_map (head_at most file) more ++ head_of file r.at c ∷ []
+  pub heads_more : (file : ℕ) (more : List Placed)
+      → filter_map (head_at most file) (more ++ r ∷ []) ≡ filter_map (head_at most file) more ++ head_of file r.at c ∷ []
   heads_more file more = filter_map-append (head_at most file) more (r ∷ []) ∙ ap (λ hs. filter_map (head_at most file) more ++ hs) (one_head file)
 
 -- what was gone over, and then one answer

@@ -279,7 +279,8 @@ module _ (old mid new : Option History) (name : List ℕ) (most file : ℕ) (p :
     raw = λ f tiny.
         with_piece name f most file p at (unwrap_or last at) n hs ks piece (HasFront name f most file r next hs ms)
         (λ h has fed front t given_is.
-        let m = piece_behind (bytes_in f) fed front.0 at (unwrap_or last at) t.size (begun fed t) front.1 (asks_for n (unwrap_or last at)) piece given_is some in
+        let m =
+        piece_behind (bytes_in f) fed front.0 at (unwrap_or last at) t.size (begun fed t) front.1 (asks_for n (unwrap_or last at)) piece given_is some in
         (has, fed ++ (m.0 ++ piece), m.2, then fed t m.0 m.1))
         (g.raw f tiny) (given f);
   }

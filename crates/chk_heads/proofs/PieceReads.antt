@@ -53,7 +53,8 @@ no_piece size at most (Some file) agrees =
     let past : length file.bytes ≤ at = omega (arith, agrees.0) in
     ap (λ bytes. Some bytes) (sym (ap (take (asks_for most at)) (drop_all at file.bytes past) ∙ take-nil (asks_for most at)))
 
-pub piece_given : (who : Who) (name : List ℕ) (at most : ℕ) (bytes : List ℕ) {old new : Option History} → Adds old new (Calls (read_for who name at most) (Ok (bytes_given bytes)))
+pub piece_given : (who : Who) (name : List ℕ) (at most : ℕ) (bytes : List ℕ) {old new : Option History}
+    → Adds old new (Calls (read_for who name at most) (Ok (bytes_given bytes)))
     → (file : Option File) → Adds old new (Leads (anyhow (SparesFile name)) (Has name file) (HasMost name at most file (Ok (Some bytes))))
 piece_given who name at most bytes told file =
     let B = HasMost name at most file (Ok (Some bytes)) in
@@ -80,7 +81,8 @@ piece_missing who name at most told file =
       own = owned_anyhow added history;
     })
 
-pub piece_short : (who : Who) (name : List ℕ) (at most size : ℕ) {old new : Option History} → Adds old new (Calls (read_for who name at most) (Err (Short size)))
+pub piece_short : (who : Who) (name : List ℕ) (at most size : ℕ) {old new : Option History}
+    → Adds old new (Calls (read_for who name at most) (Err (Short size)))
     → (file : Option File) → Adds old new (Leads (anyhow (SparesFile name)) (Has name file) (HasMost name at most file (Ok (Some []))))
 piece_short who name at most size told file =
     let B = HasMost name at most file (Ok (Some [])) in
@@ -97,7 +99,8 @@ piece_short who name at most size told file =
 pub not_read : {P : History → History → Type 0} (name : List ℕ) (at most : ℕ) (fault : OutsideFault) {old new : Option History} → Adds old new P
     → (file : Option File) → Adds old new (Leads (anyhow (SparesFile name)) (Has name file) (HasMost name at most file (Err fault)))
 not_read name at most fault told file =
-    adds_as (Leads (anyhow (SparesFile name)) (Has name file) (HasMost name at most file (Err fault))) told (λ added history p. record { leads = λ s h. tt; own = owned_anyhow added history })
+    adds_as (Leads (anyhow (SparesFile name)) (Has name file) (HasMost name at most file (Err fault))) told
+    (λ added history p. record { leads = λ s h. tt; own = owned_anyhow added history })
 
 -- each step of it is of others, or a read of the job's
 pub piece_own : (who : Who) (name : List ℕ) (at most : ℕ) (given : Result ActAnswer CallFault) {old new : Option History} → who ≡ job

@@ -1,6 +1,6 @@
 //! What each reader answers to bytes, as text.
 use crate::control::line;
-use crate::salvage::{damage, fed, fed_slowly, salvaged};
+use crate::salvage::{damage, fed, fed_slowly, passed, salvaged};
 use crate::texts::bytes_of;
 use chk_bytes::{
     Bytes, Stem, Word, take_decimal, take_plain_decimal, take_u16, take_u32, take_u64, take_vint,
@@ -184,6 +184,7 @@ fn answer_of_pieces(alloc: Global, kind: &str, bytes: &[u8]) -> Result<String, F
         "fed 64" => fed(alloc, 64, bytes),
         "fed 65" => fed(alloc, 65, bytes),
         "fed slowly" => fed_slowly(alloc, bytes),
+        "passed" => passed(alloc, bytes),
         "salvaged" => salvaged(alloc, bytes),
         _ => answer_of_message(alloc, kind, bytes),
     }

@@ -98,6 +98,29 @@ pub(crate) fn fed_slowly(alloc: Global, bytes: &[u8]) -> Result<String, Fail> {
     given_twice(alloc, &mut pieces)
 }
 
+// The record that is ahead, and where the reader stands when it has passed over it.
+fn passed_text(alloc: Global, pieces: &mut Pieces) -> Result<String, Fail> {
+    let Some(found) = pieces.ahead() else {
+        return Ok(String::from_str(alloc, "none")?);
+    };
+    let (at, end) = (found.at, found.end);
+    let (key, size) = (found.key.len(), found.size);
+    pieces.pass(end);
+    let (place, left) = (pieces.place(), pieces.left());
+    Ok(format!(in alloc; "{at} {end} {key} {size}, {place} {left}")?)
+}
+
+// What is ahead behind the answer to these bytes, with a limit of 64 bytes.
+pub(crate) fn passed(alloc: Global, bytes: &[u8]) -> Result<String, Fail> {
+    let mut pieces = Pieces::new(alloc, 64);
+    if bytes.len() > 1000 {
+        return Err(Fail::from("too many bytes"));
+    }
+    pieces.feed(bytes)?;
+    let _ = pieces.next();
+    passed_text(alloc, &mut pieces)
+}
+
 fn add_entries(text: &mut String, entries: &[EntryRef<'_>]) -> Result<(), Fail> {
     for entry in entries {
         let (at, end) = (entry.at, entry.end);

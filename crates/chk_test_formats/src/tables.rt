@@ -183,6 +183,22 @@ SEQ%06%CL%CL%ZZ%MK%00%00%00%28%00%00%00%1E%00%00%00%1A%01%ZZ%00%06%00%02h1%00%03
 SEQ%06%CL%CL%00%00%00%00%00%03%01a%00%8F%02bc%03def%8E%00%01g%01h%MK => More, More, 113 0
 ";
 
+// The record that is ahead with its lengths, the place behind it and how many bytes are left; or none is.
+const PASSED: &str = "\
+SEQ%06%CL%CL%ZZ%MK%00%00%00%28%00%00%00%1E%00%00%00%1A%01%ZZ%00%06%00%02h1%00%03Log%00%06/a.log%00%00%00%06 => 96 144 26 6, 144 0
+SEQ%06%CL%CL%ZZ%MK%00%00%00%28%00%00%00%1E%00%00%00%1A%01%ZZ%00%06%00%02h1%00%03Log%00%06/a.log%00%00%00%06hel => 96 144 26 6, 144 0
+SEQ%06%CL%CL%ZZ%MK%00%00%00%28%00%00%00%1E%00%00%00%1A%01%ZZ%00%06%00%02h1%00%03Log%00%06/a.log%00%00%00%06hello => 96 144 26 6, 144 0
+SEQ%06%CL%CL%ZZ%MK%FF%FF%FF%FF%MK%00%00%00%28%00%00%00%1E%00%00%00%1A%01%ZZ%00%06%00%02h1%00%03Log%00%06/a.log%00%00%00%06hello => 116 164 26 6, 164 0
+SEQ%06%CL%CL%ZZ%MK%00%00%00%28%00%00%00%1E%00%00%00%1A%01%ZZ%00%06%00%02h1%00%03Log%00%06/a.log%00%00%00%06hello%0A => none
+SEQ%06%CL%CL%ZZ%MK%00%00%00%28%00%00%00%1E%00%00%00%1A%01%ZZ%00%06%00%02h1%00%03Log%00%06/a.log%00%00%00 => none
+SEQ%06%CL%CL%ZZ%MK%00%00%00%28%00%00%00%1E%00%00%00%1A%01 => none
+SEQ%06%CL%CL%ZZ%MK%00%00%00%28%00%00%00%1E%00%00%00%1A%01%ZZ%00%06%00%02h1%00%03Log%00%06/a.log%00%00%00%07hello => none
+SEQ%06%CL%CL%ZZ%MK%00%00%00%28%00%00%00%1F%00%00%00%1A%01%ZZ%00%06%00%02h1%00%03Log%00%06/a.log%00%00%00%06hello => none
+SEQ%06%CL%CL%ZZ%MK%00%00%00%41%00%00%00%1E%00%00%00%1A%01%ZZ%00%06%00%02h1%00%03Log%00%06/a.log%00%00%00%1F01234 => none
+SEQ%06%CL%CL%ZZ%MK => none
+SEQ%06%CL => none
+";
+
 const SALVAGED: &str = "\
 SEQ%06%CL%CL%ZZ%MK%7F%00%00%28%00%00%00%1E%00%00%00%1A%01%ZZ%00%06%00%02h1%00%03Log%00%06/a.log%00%00%00%06hello%0A => skipped 96 144
 ";
@@ -192,6 +208,7 @@ fn files_in_pieces(rt: HostRuntime) -> Result<(), Fail> {
     answers_each(rt.alloc(), "fed 64", FED_64)?;
     answers_each(rt.alloc(), "fed 65", FED_65)?;
     answers_each(rt.alloc(), "fed slowly", FED_SLOWLY)?;
+    answers_each(rt.alloc(), "passed", PASSED)?;
     answers_each(rt.alloc(), "salvaged", SALVAGED)
 }
 

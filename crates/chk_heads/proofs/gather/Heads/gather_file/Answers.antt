@@ -47,7 +47,8 @@ returns-in_err-piece-clause-last g c =
 -- the end
 pub returns-then-len-eq0-clause-raw : goal.returns-then-len-eq0-clause-raw
 returns-then-len-eq0-clause-raw g c =
-    is_ended (g.S.Site.told c.args.site.now) (g.S.Site.told c.loop-pieces.site) (g.S.Site.told c.read_bytes.new.site) c.args.name.now c.args.most c.args.file
+    is_ended (g.S.Site.told c.args.site.now) (g.S.Site.told c.loop-pieces.site) (g.S.Site.told c.read_bytes.new.site)
+    c.args.name.now c.args.most c.args.file
     c.loop-pieces.pieces c.loop-pieces.at c.args.self.now c.loop-pieces.self c.loop-pieces.invariant.so c.take_fed.new.pieces c.take_fed.new.self
     c.take_ahead.new.self c.take_fed.ensures.limit (rw c.in_default.is at c.in_ok-place.ensures.ok) c.in_ok-last.last c.in_ok-last.ensures.ok
     c.amount.result c.in_ok-piece.piece (rw c.unwrap_or-from.ensures at c.in_ok-piece.ensures.raw)
@@ -63,7 +64,8 @@ pub returns-then-len-eq0-clause-last : goal.returns-then-len-eq0-clause-last
 returns-then-len-eq0-clause-last g c =
     no_failure c.ended.result
     (ends_no_call c.args.name.now c.loop-pieces.invariant.so.some (fed_place c.take_fed.new.pieces) c.ended.result
-    (some_ends (g.S.Site.told c.args.site.now) (g.S.Site.told c.loop-pieces.site) (g.S.Site.told c.read_bytes.new.site) c.args.name.now c.args.most c.args.file
+    (some_ends (g.S.Site.told c.args.site.now) (g.S.Site.told c.loop-pieces.site) (g.S.Site.told c.read_bytes.new.site)
+    c.args.name.now c.args.most c.args.file
     c.loop-pieces.pieces c.loop-pieces.at c.args.self.now c.loop-pieces.self c.loop-pieces.invariant.so c.take_fed.new.pieces c.take_fed.new.self
     c.take_ahead.new.self c.take_fed.ensures.limit (rw c.in_default.is at c.in_ok-place.ensures.ok) c.in_ok-last.last c.in_ok-last.ensures.ok
     c.amount.result c.in_ok-piece.piece (rw c.unwrap_or-from.ensures at c.in_ok-piece.ensures.raw)
@@ -74,7 +76,8 @@ returns-then-len-eq0-clause-last g c =
 pub feed_from-requires-clause-room : goal.feed_from-requires-clause-room
 feed_from-requires-clause-room g c =
     rw c.as_slice.ensures
-    (room_fed (g.S.Site.told c.args.site.now) (g.S.Site.told c.loop-pieces.site) (g.S.Site.told c.read_bytes.new.site) c.args.name.now c.args.most c.args.file
+    (room_fed (g.S.Site.told c.args.site.now) (g.S.Site.told c.loop-pieces.site) (g.S.Site.told c.read_bytes.new.site)
+    c.args.name.now c.args.most c.args.file
     c.loop-pieces.pieces c.loop-pieces.at c.args.self.now c.loop-pieces.self c.loop-pieces.invariant.so c.take_fed.new.pieces c.take_fed.new.self
     c.take_ahead.new.self c.take_fed.ensures.limit (rw c.in_default.is at c.in_ok-place.ensures.ok) c.in_ok-last.last c.in_ok-last.ensures.ok
     c.amount.result c.in_ok-piece.piece (rw c.unwrap_or-from.ensures at c.in_ok-piece.ensures.raw)
@@ -103,7 +106,9 @@ returns-in_err-feed_from-clause-last g c =
 pub loop-pieces-smaller : goal.loop-pieces-smaller
 loop-pieces-smaller g c =
     let some : 0 < length c.in_ok-piece.piece = let a = c.len.ensures in let b = c.if-len-eq0.false in omega arith in
-    let on = further (g.S.Site.told c.args.site.now) (g.S.Site.told c.loop-pieces.site) (g.S.Site.told c.read_bytes.new.site) c.args.name.now c.args.most c.args.file
+    let on =
+    further (g.S.Site.told c.args.site.now) (g.S.Site.told c.loop-pieces.site) (g.S.Site.told c.read_bytes.new.site)
+    c.args.name.now c.args.most c.args.file
     c.loop-pieces.pieces c.loop-pieces.at c.args.self.now c.loop-pieces.self c.loop-pieces.invariant.so c.take_fed.new.pieces c.take_fed.new.self
     c.take_ahead.new.self c.take_fed.ensures.limit (rw c.in_default.is at c.in_ok-place.ensures.ok) c.in_ok-last.last c.in_ok-last.ensures.ok
     c.amount.result c.in_ok-piece.piece (rw c.unwrap_or-from.ensures at c.in_ok-piece.ensures.raw) some in
@@ -112,13 +117,16 @@ loop-pieces-smaller g c =
 pub loop-pieces-preserved : goal.loop-pieces-preserved
 loop-pieces-preserved g c =
     let some : 0 < length c.in_ok-piece.piece = let a = c.len.ensures in let b = c.if-len-eq0.false in omega arith in
-    let low = room (g.S.Site.told c.args.site.now) (g.S.Site.told c.loop-pieces.site) (g.S.Site.told c.read_bytes.new.site) c.args.name.now c.args.most c.args.file
+    let low =
+    room (g.S.Site.told c.args.site.now) (g.S.Site.told c.loop-pieces.site) (g.S.Site.told c.read_bytes.new.site)
+    c.args.name.now c.args.most c.args.file
     c.loop-pieces.pieces c.loop-pieces.at c.args.self.now c.loop-pieces.self c.loop-pieces.invariant.so c.take_fed.new.pieces c.take_fed.new.self
     c.take_ahead.new.self c.take_fed.ensures.limit (rw c.in_default.is at c.in_ok-place.ensures.ok) c.in_ok-last.last c.in_ok-last.ensures.ok
     c.amount.result c.in_ok-piece.piece (rw c.unwrap_or-from.ensures at c.in_ok-piece.ensures.raw)
     (rw c.unwrap_or-from.ensures at c.in_ok-piece.ensures.few) in
     record {
-      so = goes_on (g.S.Site.told c.args.site.now) (g.S.Site.told c.loop-pieces.site) (g.S.Site.told c.read_bytes.new.site) c.args.name.now c.args.most c.args.file
+      so = goes_on (g.S.Site.told c.args.site.now) (g.S.Site.told c.loop-pieces.site) (g.S.Site.told c.read_bytes.new.site)
+          c.args.name.now c.args.most c.args.file
           c.loop-pieces.pieces c.loop-pieces.at c.args.self.now c.loop-pieces.self c.loop-pieces.invariant.so c.take_fed.new.pieces c.take_fed.new.self
           c.take_ahead.new.self c.take_fed.ensures.limit (rw c.in_default.is at c.in_ok-place.ensures.ok) c.in_ok-last.last c.in_ok-last.ensures.ok
           c.amount.result c.in_ok-piece.piece (rw c.unwrap_or-from.ensures at c.in_ok-piece.ensures.raw)

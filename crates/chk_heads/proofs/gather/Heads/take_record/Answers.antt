@@ -8,12 +8,16 @@ pub returns-in-Err-clause-ok : goal.returns-in-Err-clause-ok
 returns-in-Err-clause-ok c = (no_key c.args.most (placed_of c.args.found.now) c.in-Err.ensures.every_key, refl)
 
 pub returns-then-not-is_size-clause-ok : goal.returns-then-not-is_size-clause-ok
-returns-then-not-is_size-clause-ok c =
-    (no_value c.args.most (placed_of c.args.found.now) (lent_key c.in-Ok.key) c.in-Ok.ensures.key (sym (c.is_size.ensures.is c.args.found.now.value.now refl) ∙ c.if-not-is_size.true), refl)
+returns-then-not-is_size-clause-ok c = (
+  no_value c.args.most (placed_of c.args.found.now) (lent_key c.in-Ok.key) c.in-Ok.ensures.key
+      (sym (c.is_size.ensures.is c.args.found.now.value.now refl) ∙ c.if-not-is_size.true),
+  refl,
+)
 
 pub returns-clause-ok : goal.returns-clause-ok
 returns-clause-ok c = (
   record { key = lent_key c.in-Ok.key; value = c.args.found.now.value.now },
-  is_chunk c.args.most (placed_of c.args.found.now) (lent_key c.in-Ok.key) c.in-Ok.ensures.key (sym (c.is_size.ensures.is c.args.found.now.value.now refl) ∙ c.if-not-is_size.false),
+  is_chunk c.args.most (placed_of c.args.found.now) (lent_key c.in-Ok.key) c.in-Ok.ensures.key
+      (sym (c.is_size.ensures.is c.args.found.now.value.now refl) ∙ c.if-not-is_size.false),
   c.in_ok-push.ensures.ok,
 )

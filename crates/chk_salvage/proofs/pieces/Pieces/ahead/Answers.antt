@@ -19,5 +19,8 @@ returns-clause-some c =
     stands_ahead self _ c.in_ok-lengths.lengths.key c.in_ok-lengths.lengths.value _ c.in-Some.is
     (subst AreBytes rest c.in_ok-lengths.ensures.some.1)
     (subst (λ b. HasHead b c.in_ok-lengths.lengths.key c.in_ok-lengths.lengths.value) rest c.in_ok-lengths.ensures.some.0)
-    refl (ap₂ (λ n b. take n (drop 12 b)) (let e : 12 + c.in_ok-lengths.lengths.key - 12 ≡ c.in_ok-lengths.lengths.key = omega arith in e) rest) refl refl (subst (λ b. length b < 16 + c.in_ok-lengths.lengths.key + c.in_ok-lengths.lengths.value) rest few)
+    refl
+    (ap₂ (λ n b. take n (drop 12 b)) (let e : 12 + c.in_ok-lengths.lengths.key - 12 ≡ c.in_ok-lengths.lengths.key = omega arith in e) rest)
+    refl refl
+    (subst (λ b. length b < 16 + c.in_ok-lengths.lengths.key + c.in_ok-lengths.lengths.value) rest few)
     (omega arith) (omega arith)
