@@ -11,6 +11,7 @@ use chk_chunk::Chunk;
 use chk_site::Who;
 use chk_site_mem::SiteMem;
 use std::alloc::Global;
+use std::slice;
 use std::test::Fail;
 
 const FOLDER: &str = "archive";
@@ -40,10 +41,8 @@ fn adds(alloc: Global, site: &mut SiteMem, book: &mut Book, chunk: Chunk) -> Res
     requires { IsTrue (is_chunk (chunk_of chunk)) }
 {
     let who = archiver(alloc)?;
-    Ok(
-        book.add_segment(alloc, site, &who, FOLDER, &[chunk])
-            .is_ok(),
-    )
+    let parts = slice::from_ref(&chunk);
+    Ok(book.add_segment(alloc, site, &who, FOLDER, parts).is_ok())
 }
 
 fn sets_aside(

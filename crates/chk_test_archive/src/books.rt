@@ -2,7 +2,8 @@
 use crate::scene::follows_each;
 use std::test::Fail;
 
-// The fields of a book, and what is loaded, or where the first wrong field begins.
+// The fields of a book, and what is loaded, or where the first wrong field begins. A number has eight
+// bytes, and four where `#` stands before it.
 const BOOKS: &str = "\
 a book
 put archive/book HEAD 2 #1 1 144 #1 6 TEXTS
