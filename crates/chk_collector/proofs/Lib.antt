@@ -2,6 +2,7 @@ pub mod Sizes
 pub mod FinishTold
 pub mod Lines
 pub mod LeastLines
+pub mod OwnLines
 pub mod CountSteps
 pub mod PutSteps
 pub mod Handling

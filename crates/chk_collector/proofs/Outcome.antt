@@ -43,6 +43,7 @@ use Rattle.chk_collector.proofs.LeastLines.{poll_least, post_least}
 use Rattle.chk_collector.specs.Passing.{PutsLeaveFull}
 use Rattle.chk_collector.proofs.MayReply.{are_posted}
 use Rattle.chk_site.proofs.Leads.{leads_as}
+use Rattle.chk_collector.proofs.OwnLines.{poll_of_start}
 
 -- ---- a post
 
@@ -140,6 +141,7 @@ post_replied request chunks old new before now told_before told_after lines (Ok 
       sound = tt;
       least = post_least request old each.acks chunks told_before told_after post;
       full = λ stamped t others. full stamped (begun t request ∷ others) (are_posted t request others chunks post);
+      of_start = λ cs p. each.of_start;
     }) written
 post_replied request chunks old new before now told_before told_after lines (Err fault) result post each puts leaves full own of_put spent last cause written =
     IfOk-weaker result _ (Replied request old new before now told_before told_after)
@@ -158,6 +160,7 @@ post_replied request chunks old new before now told_before told_after lines (Err
       sound = post_sound request old told_before told_after fault of_put;
       least = tt;
       full = tt;
+      of_start = tt;
     }) written
 
 -- ---- a poll
@@ -208,6 +211,7 @@ poll_replied request stems s before now told_before told_after lines (Ok value) 
       sound = tt;
       least = poll_least request s each.acks each.least;
       full = λ stamped t others. leads_as (λ h x. x) (λ h x r left. inl left) (told stamped t others);
+      of_start = poll_of_start request s each.acks stems poll;
     }) written
 poll_replied request stems s before now told_before told_after lines (Err fault) result poll told own each of_question damaged last cause written =
     IfOk-weaker result _ (Replied request s s before now told_before told_after)
@@ -226,6 +230,7 @@ poll_replied request stems s before now told_before told_after lines (Err fault)
       sound = poll_sound request s stems lines told_before told_after fault told;
       least = tt;
       full = tt;
+      of_start = tt;
     }) written
 
 -- ---- a request that is refused
@@ -254,6 +259,7 @@ bad_post_replied request body fault s count told result post first none written 
       sound = tt;
       least = tt;
       full = tt;
+      of_start = tt;
       spent = tt;
       untouched = (refl, refl);
     }) written
@@ -277,6 +283,7 @@ refused_replied request fault s count told result refused written =
       sound = tt;
       least = tt;
       full = tt;
+      of_start = tt;
       spent = tt;
       untouched = (refl, refl);
     }) written

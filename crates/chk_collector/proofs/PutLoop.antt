@@ -9,10 +9,10 @@ use Rattle.chk_sink.proofs.Holding.{told_by}
 use Rattle.chk_world.proofs.Working.{works_then, works_as}
 use Rattle.chk_world.specs.Works.{Works, rests}
 use Rattle.chk_site.specs.declared.acts.OutsideFault.{OutsideFault}
-use Rattle.std.proofs.Common.{◌≡◌, ℕ, zero, ◌*◌, ◌≤◌, List, [], ◌∷◌, ◌++◌, length, length-append, map, Option, Result, Ok, Err, refl, sym, ap, subst, ◌∙◌, append_assoc, append-nil, arith, suc, ◌+◌, ◌<◌, None, inl, inr}
-use Rattle.std.specs.Prelude.{Contains}
+use Rattle.std.proofs.Common.{◌≡◌, ℕ, zero, ◌*◌, ◌≤◌, List, [], ◌∷◌, ◌++◌, length, length-append, map, Option, Result, Ok, Err, refl, sym, ap, subst, ◌∙◌, append_assoc, append-nil, arith, suc, ◌+◌, ◌<◌, ◌^◌, None, inl, inr}
+use Rattle.std.specs.Prelude.{Contains, IsTrue}
 use Rattle.std.proofs.lemmas.List.Elements.{Contains-append_right}
-use Rattle.chk_bytes.specs.Stems.{Stem}
+use Rattle.chk_bytes.specs.Stems.{Stem, is_stem}
 use Rattle.chk_site.specs.declared.acts.Role.TheVariants.{Collector}
 use Rattle.chk_site.specs.History.{History}
 use Rattle.chk_site.specs.Site.{Adds}
@@ -30,6 +30,8 @@ use Rattle.chk_collector.specs.Posting.{ArePosted, WroteAll, HasLineEach}
 use Rattle.chk_collector.specs.Passing.{LeavesFull, PutsLeaveFull}
 use Rattle.chk_collector.proofs.Passing.{full_before, passed_on, runs_before}
 use Rattle.chk_collector.proofs.Lines.{acks_text-more, short_more}
+use Rattle.chk_collector.proofs.OwnLines.{of_start_more}
+use Rattle.chk_collector.specs.OwnLines.{AreOfStart}
 use Rattle.chk_collector.proofs.PutSteps.{PutsOne, put_step, tells_on}
 
 -- the chunks before the rest were put, and each has its line
@@ -46,6 +48,7 @@ pub record PutSoFar (old now : Option History) (before count : ℕ) (first s : S
   pub puts : Puts (length done) first s
   pub full : PutsLeaveFull first s chunks old now
   pub place : EndsInPlace s acks
+  pub of_start : AreOfStart s acks
   pub own : Works (process first) (OfPosts first) None old now
   pub cause : count ≡ before
 
@@ -94,6 +97,7 @@ put_begins now n first s chunks lines same none =
       puts = begins;
       full = λ stamped handled posted. leads_none now (λ h x r left. inl left);
       place = tt;
+      of_start = tt;
       own = rests;
       cause = refl;
     })
@@ -167,10 +171,11 @@ module _ {old now new : Option History} {before count : ℕ} {first s : State} {
 
   -- one more
   pub put_on : (c : Chunk) (rest' : List Chunk) (x : Stem) (n count' : ℕ) (s' : State) (lines' : List ℕ)
-      → rest ≡ c ∷ rest' → lines' ≡ lines ++ ack_text (ack_of x n) → length (ack_text (ack_of x n)) ≤ 126 → PutsOne now new s s' c (Ok (x, n))
+      → rest ≡ c ∷ rest' → lines' ≡ lines ++ ack_text (ack_of x n) → length (ack_text (ack_of x n)) ≤ 126
+      → IsTrue (is_stem x) → n < 2 ^ 64 → PutsOne now new s s' c (Ok (x, n))
       → IsSameStart s s' → GoesOn s s' → IsPlaced s' (x, n) → Works (process s) (OfPut s) None now new
       → count' ≡ count → PutSoFar old new before count' first s' chunks rest' lines'
-  put_on c rest' x n count' s' lines' more line short told same goes placed own cause = record {
+  put_on c rest' x n count' s' lines' more line short stem wide told same goes placed own cause = record {
     done = so_far.done ++ c ∷ [];
     whole = so_far.whole ∙ (ap (λ l. so_far.done ++ l) more ∙ sym (append_assoc so_far.done (c ∷ []) rest'));
     acks = so_far.acks ++ ack_of x n ∷ [];
@@ -183,6 +188,7 @@ module _ {old now new : Option History} {before count : ℕ} {first s : State} {
     puts = subst (λ k. Puts k first s') (sym (length-append so_far.done (c ∷ []) ∙ one_more (length so_far.done))) (goes_on so_far.puts goes);
     full = put_full c rest' x n s' more told goes;
     place = place_more s' so_far.acks x n placed;
+    of_start = of_start_more s s' so_far.acks x n same so_far.of_start placed stem wide;
     own = own_on own;
     cause = cause ∙ so_far.cause;
   }
@@ -232,6 +238,7 @@ module _ {old now : Option History} {before count : ℕ} {first s : State} {chun
     as_many = so_far.as_many ∙ ap (λ l. length l) all_put;
     short = subst (λ (l : List Chunk). length lines ≤ 126 * length l) all_put so_far.short;
     place = so_far.place;
+    of_start = so_far.of_start;
   }
 
   pub told_end : (stamped : List (List ℕ)) (handled : List Handling) → ArePosted handled chunks

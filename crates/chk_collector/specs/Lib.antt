@@ -7,3 +7,4 @@ pub mod Polling
 pub mod Handled
 pub mod Least
 pub mod Passing
+pub mod OwnLines

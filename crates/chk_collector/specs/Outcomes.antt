@@ -3,6 +3,7 @@ use Rattle.chk_collector.specs.Handled.{Puts, PutsThen, EndsInPlace, OfRequest}
 use Rattle.chk_collector.specs.Answering.{Taken}
 use Rattle.chk_collector.specs.Least.{TellLeast}
 use Rattle.chk_collector.specs.Passing.{RequestLeavesFull}
+use Rattle.chk_collector.specs.OwnLines.{AreOfStart}
 use Rattle.chk_world.specs.Works.{Works, NoneFailed}
 use Rattle.chk_world.specs.Places.{As, AtTold}
 use Rattle.chk_world.specs.Collectors.{Handling}
@@ -192,6 +193,12 @@ abbrev pub OutcomeFull : List ℕ → State → State → Option History → Opt
 OutcomeFull request old new told_before told_after (Lines acks) = RequestLeavesFull request old new told_before told_after
 OutcomeFull request old new told_before told_after o = Unit {0}
 
+-- each line of a post's reply is of a sink of this start
+abbrev pub OutcomeOfStart : List ℕ → State → Outcome → Type 0
+OutcomeOfStart request s (Lines acks) =
+    (chunks : List Chunk) → IsPostOf chunks request → AreOfStart s acks
+OutcomeOfStart request s o = Unit {0}
+
 -- where the request is refused nothing is called, and nothing changes
 abbrev pub Untouched : State → State → Option History → Option History → Outcome → Type 0
 Untouched old new told_before told_after (Refused fault) = (new ≡ old) × (told_after ≡ told_before)
@@ -215,3 +222,4 @@ pub record Replied (request : List ℕ) (old new : State) (before now : ℕ) (to
   pub sound : OutcomeSound request old told_before told_after outcome
   pub least : OutcomeLeast request old told_before told_after outcome
   pub full : OutcomeFull request old new told_before told_after outcome
+  pub of_start : OutcomeOfStart request new outcome

@@ -13,6 +13,7 @@ use Rattle.chk_sink.specs.Held.{Handles}
 use Rattle.chk_sink.specs.Puts.{IsHeader}
 use Rattle.chk_sink.specs.Closes.{OnceDone}
 use Rattle.chk_collector.specs.Answering.{TellFirst}
+use Rattle.chk_collector.specs.OwnLines.{AreOfStart}
 
 -- each is a chunk of a post that was taken and not yet answered
 abbrev pub ArePosted : List Handling → List Chunk → Type 0
@@ -46,13 +47,15 @@ pub record PutsHold (s : State) (handled : List Handling) (chunks : List Chunk) 
 abbrev pub WroteAll : List (List ℕ) → State → List Handling → List Chunk → List ℕ → Result (Unit {0}) SinkFault → History → Type 0
 WroteAll stamped s handled chunks lines result history = AtTold stamped (process s) (PutsHold s handled chunks lines result) history
 
--- there is one line for each chunk, none of more than 126 bytes, and the last one is the place of the sink that is written to
+-- there is one line for each chunk, none of more than 126 bytes, of a sink of the start, and the last one is the place of the
+-- sink that is written to
 pub record HasLineEach (s : State) (chunks : List Chunk) (lines : List ℕ) : Type 0 where
   pub acks : List Ack
   pub lines_are : lines ≡ acks_text acks
   pub as_many : length acks ≡ length chunks
   pub short : length lines ≤ 126 * length chunks
   pub place : EndsInPlace s acks
+  pub of_start : AreOfStart s acks
 
 -- a put finds nothing damaged
 abbrev pub IsOfPut : SinkFault → Type 0

@@ -1,6 +1,7 @@
 //! The replies of a collector.
 
-ghost use Rattle.std.specs.Prelude.{◌≡◌, ◌≤◌, ◌++◌, IsTrue, IfOk, OnOk, length};
+ghost use Rattle.std.specs.Prelude.{◌≡◌, ◌<◌, ◌≤◌, ◌^◌, ◌++◌, IsTrue, IfOk, OnOk, length};
+ghost use Rattle.chk_bytes.specs.Stems.{is_stem};
 ghost use Rattle.chk_chunk.specs.Posts.{post_limit};
 ghost use Rattle.chk_message.specs.Messages.{IsReply, ack_of, ack_text, written_reply};
 ghost use Rattle.chk_http.specs.Written.{is_answer_code, phrase_of};
@@ -17,6 +18,8 @@ use std::alloc::Global;
 pub(crate) fn put_line(lines: &mut Bytes, stem: &Stem, number: u64) -> Result<(), NoMemory>
     ensures ok { OnOk result (lines.new ≡ lines.old ++ ack_text (ack_of stem.now number)) }
     ensures short { length (ack_text (ack_of stem.now number)) ≤ 126 }
+    ensures of_sink { IsTrue (is_stem stem.now) }
+    ensures wide { number < 2 ^ 64 }
 {
     let _of_sink = stem.number();
     stem.write(lines)?;

@@ -16,4 +16,5 @@ pub mod Posting
 pub mod Polling
 pub mod Unreached
 pub mod Leasts
+pub mod OwnRows
 pub mod Causes

@@ -363,7 +363,7 @@ module _ {a b : Agents} {old mid : Option History} (sends : SendsPost a (Ok tt) 
   pub post_is_out : is_some b.delivery.post ≡ true
   post_is_out = ap is_some out_post
 
-  is_written : IsWritten Count b out.bytes post_out
+  pub is_written : IsWritten Count b out.bytes post_out
   is_written = record {
     address = address_now a.delivery.ring;
     front = out.front;

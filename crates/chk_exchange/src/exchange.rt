@@ -22,6 +22,7 @@ ghost use Rattle.chk_exchange.specs.Exchanges.{SendsPost, EndsPost, PostsInside,
 ghost use Rattle.chk_exchange.specs.Faults.{IsOtherCode, ExchangeCause, ServedCause, FailsLast};
 ghost use Rattle.chk_exchange.specs.Least.{TellsLeast};
 ghost use Rattle.chk_exchange.specs.Legality.{BothAt, Exchanged};
+ghost use Rattle.chk_exchange.specs.OwnRows.{KeepsOwn};
 
 use crate::answering::serve;
 use crate::fault::ExchangeFault;
@@ -57,6 +58,8 @@ pub fn post_inside<S: Site>(
         → Adds (S.told site.old) (S.told site.new) (Leads (Together stamped started acting)
         (BothAt stamped collector.old agent.old)
         (Exchanged stamped collector.new agent.new result)) }
+    ensures rows { OnOk result (KeepsOwn who.now collector.old agent.old collector.new agent.new
+        (S.told site.old) (S.told site.new)) }
     ensures fine { OnOk result (Adds (S.told site.old) (S.told site.new) NoneFailed) }
     ensures last { Adds (S.told site.old) (S.told site.new) (FailsLast result) }
     ensures cause { ExchangeCause (S.fault_count site.old) (S.fault_count site.new) result }

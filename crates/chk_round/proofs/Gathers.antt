@@ -1,6 +1,6 @@
 -- Collector and agent have begun, and the logs are added.
-use Rattle.std.proofs.Common.{◌≡◌, inl, inr, ◌⊎◌, ℕ, zero, suc, Bool, true, false, if◌then◌else◌, List, [], ◌∷◌, ◌++◌, map, Option, Some, None, Ok, Err, ap, sym, subst, ◌∙◌, refl, true≢false}
-use Rattle.std.specs.Prelude.{codes, slice_get}
+use Rattle.std.proofs.Common.{◌≡◌, inl, inr, ◌⊎◌, ℕ, zero, suc, Bool, true, false, if◌then◌else◌, List, [], ◌∷◌, ◌++◌, length, map, Option, Some, None, Ok, Err, ap, sym, subst, ◌∙◌, refl, true≢false}
+use Rattle.std.specs.Prelude.{codes, filter, slice_get}
 use Rattle.std.proofs.lemmas.Option.{same_Some, none-some}
 use Rattle.chk_control.specs.declared.Class.{Class}
 use Rattle.chk_site.specs.declared.acts.Who.{Who}
@@ -8,6 +8,7 @@ use Rattle.chk_site.specs.History.{History}
 use Rattle.chk_site.specs.Site.{Adds}
 use Rattle.chk_site.specs.Runs.{Leads}
 use Rattle.chk_site.proofs.Leads.{leads_as, leads_then}
+use Rattle.chk_acks.specs.Rows.{is_of_other}
 use Rattle.chk_failover.specs.Turns.{Turns}
 use Rattle.chk_world.specs.Checkpoints.{Line}
 use Rattle.chk_world.specs.Places.{As}
@@ -63,12 +64,14 @@ more_at (z ∷ xs) x (suc i) y at = more_at xs x i y at
 pub record StaysSteady (s t : Agents) : Type 0 where
   pub addresses : t.delivery.ring.addresses ≡ s.delivery.ring.addresses
   pub steady : AllSteady s → AllSteady t
+  pub rows : s.delivery.table.rows ≡ [] → t.delivery.table.rows ≡ []
 
 with_steady : (s : Agents) (found : Option Found) (l : Line) → StaysSteady s (with_added s found l)
 with_steady s None l = record {
   addresses = refl;
   steady = λ h i x at past. elim (more_at s.adaptors (adaptor_of l) i x at)
       [ inl old ↦ h i x old past | inr new ↦ line_steady l x new past ];
+  rows = λ none. ap (λ rows. filter (is_of_other (length s.adaptors)) rows) none;
 }
 with_steady s (Some found) l = record {
   addresses = refl;
@@ -76,23 +79,28 @@ with_steady s (Some found) l = record {
     | inl new ↦ ap (λ (k : Adaptor). k.phase) new.1
     | inr old ↦ h i x old.1 past
   ];
+  rows = λ none. none;
 }
 
 pub added_steady : {class : Class} {kind path : List ℕ} {s t : Agents} {added : Added} {old new : Option History}
     → IsAdded class kind path s (Ok added) t old new → StaysSteady s t
-added_steady (adds.live found is past) = record { addresses = refl; steady = λ h. h }
-added_steady (adds.too_many is full) = record { addresses = refl; steady = λ h. h }
+added_steady (adds.live found is past) = record { addresses = refl; steady = λ h. h; rows = λ none. none }
+added_steady (adds.too_many is full) = record { addresses = refl; steady = λ h. h; rows = λ none. none }
 added_steady {s = s} (adds.new name found is may named (adds.written {t = t} after newest same writes)) =
     let k = subst (StaysSteady s) (sym same) (with_steady s found _) in
-    record { addresses = k.addresses; steady = k.steady }
+    record { addresses = k.addresses; steady = k.steady; rows = k.rows }
 
 pub logs_steady : {class : Class} {kind : List ℕ} {logs : List (List ℕ)} {s t : Agents} {old new : Option History}
     → AddsLogs class kind logs s (Ok tt) t old new → StaysSteady s t
-logs_steady adding.all = record { addresses = refl; steady = λ h. h }
+logs_steady adding.all = record { addresses = refl; steady = λ h. h; rows = λ none. none }
 logs_steady (adding.one added is rest) =
     let one = added_steady is in
     let more = logs_steady rest in
-    record { addresses = more.addresses ∙ one.addresses; steady = λ h. more.steady (one.steady h) }
+    record {
+      addresses = more.addresses ∙ one.addresses;
+      steady = λ h. more.steady (one.steady h);
+      rows = λ none. more.rows (one.rows none);
+    }
 
 -- ---- both have begun
 
@@ -109,6 +117,8 @@ gathered source ring rules s a b is fresh stays same ready = record {
   ready = ready;
   addresses = stays.addresses ∙ (ap (λ (r : Turns). r.addresses) fresh.agent_is.ring_is ∙ ap (λ (r : Turns). r.addresses) is);
   steady = stays.steady (fresh_steady source ring rules s a fresh);
+  rows = stays.rows fresh.agent_is.rows;
+  number = fresh.sinks.number;
 }
 
 call_met : (stamped : List (List ℕ)) (fault : RoundFault) → IsOfCall fault → (h : History) → Legal stamped h

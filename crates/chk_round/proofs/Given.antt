@@ -42,7 +42,7 @@ none_given P apart (step ∷ added) history own =
 abbrev pub pair : List ℕ → List ℕ → List Who
 pair c n = record { role = Collector; name = c } ∷ record { role = Agent; name = n } ∷ []
 
-pair_apart : (c n : List ℕ) (who : Who) → Contains (pair c n) who → same_role who.role Job ≡ false
+pub pair_apart : (c n : List ℕ) (who : Who) → Contains (pair c n) who → same_role who.role Job ≡ false
 pair_apart c n who (zero, below, at) = ap (λ (w : Who). same_role w.role Job) (sym at)
 pair_apart c n who (suc zero, below, at) = ap (λ (w : Who). same_role w.role Job) (sym at)
 pair_apart c n who (suc (suc k), below, at) = absurd (let z : ⊥ = omega (arith, below) in z)

@@ -207,7 +207,8 @@ serves_keeps : (stamped : List (List ℕ)) (started acting : List Who) {s u : Si
     → Serves (process s) s (Ok None) u old new
     → Carries stamped started acting (Known stamped s) (SinksKept u) old new
 serves_keeps stamped started acting {s = s} one same named (Serves.none call) =
-    carries_as stamped started acting (SinksKept s) (Known stamped s) (SinksKept s) (SinksKept s) (λ h x. x.1) (λ h x. x) (take_keeps stamped started acting s s one same named (Ok None) call)
+    carries_as stamped started acting (SinksKept s) (Known stamped s) (SinksKept s) (SinksKept s) (λ h x. x.1) (λ h x. x)
+    (take_keeps stamped started acting s s one same named (Ok None) call)
 serves_keeps stamped started acting {s = s} {u = u} one same named (Serves.taken taking call responds) =
     carries_then stamped started acting (Known stamped s) (λ h. HasTaken stamped s taking.number taking.bytes h × SinksKept s h)
     (SinksKept u) (taken stamped started acting s u one same named taking call)

@@ -34,7 +34,7 @@ use Rattle.chk_round.specs.declared.faults.RoundFault.TheVariants.{Outside as fa
 use Rattle.chk_round.specs.Faults.{of_exchange}
 use Rattle.chk_round.specs.Joint.{AreIn, BothAt, GoesOn, JointTo}
 use Rattle.chk_round.specs.Keeping.{KeepsSinks, NoneGivenUp, SinksKept}
-use Rattle.chk_round.specs.LastPolls.{LastPoll, LengthTold}
+use Rattle.chk_round.specs.LastPolls.{LengthTold, MayBeLost}
 use Rattle.chk_round.specs.Lengths.{HasCommitted, PolledOnce, PollsOn}
 use Rattle.chk_round.specs.Polled.{PollTo, PolledTo}
 use Rattle.chk_round.specs.Spent.{WhereRunning}
@@ -96,7 +96,7 @@ module _ (who : Who) (s t u : Sinks) (a b c : Agents) (is : who ≡ process s) (
     run_t : AreIn started acting t b
     run_t = in_on s t a b c_is a_is run
 
-    -- the sink, and so many bytes that were written to it
+    -- so much was written to the sink
     place_at : (history : History) → BothAt stamped s a history → is_stopped history ≡ false
         → IsTrue (is_stem x.stem) × (x.want ≤ length (wrote x.stem history))
     place_at history both running =
@@ -109,12 +109,12 @@ module _ (who : Who) (s t u : Sinks) (a b c : Agents) (is : who ≡ process s) (
 
     -- where the sink was given up, one of the start was full
     passed_at : (history : History) → IsTrue (is_stem x.stem) → KeepsSinks u history → x.stem.collector ≡ u.collector
-        → x.stem.born ≡ t.born → IsTrue (gave_up x.stem history) → HasPassed u.collector t.born history
+        → x.stem.born ≡ u.born → IsTrue (gave_up x.stem history) → HasPassed u.collector u.born history
     passed_at history good keeps own born gave = go keeps.none
       where
-        go : NoneGivenUp u history ⊎ HasPassed u.collector u.born history → HasPassed u.collector t.born history
-        go (inl none) = absurd (true≢false (sym gave ∙ none x.stem good own (born ∙ sym same.born)))
-        go (inr passed) = subst (λ b. HasPassed u.collector b history) same.born passed
+        go : NoneGivenUp u history ⊎ HasPassed u.collector u.born history → HasPassed u.collector u.born history
+        go (inl none) = absurd (true≢false (sym gave ∙ none x.stem good own born))
+        go (inr passed) = passed
 
     -- behind the first polls, and behind the last one
     lost_at : (early late history : History) → mid ≡ Some (early ++ history) → new ≡ Some (late ++ (early ++ history))
@@ -171,7 +171,7 @@ module _ (who : Who) (s t u : Sinks) (a b c : Agents) (is : who ≡ process s) (
 
     last_poll : Adds old new
         (Leads (Together stamped started acting) (BothAt stamped s a)
-        (WhereRunning stamped (LastPoll u.collector x.stem x.got x.want)))
+        (WhereRunning stamped (MayBeLost u.collector u.born x.stem x.got x.want)))
     last_poll =
         let one = joint stamped started acting run in
         let two = adds_both Last (told stamped started acting run_t)
@@ -190,26 +190,29 @@ module _ (who : Who) (s t u : Sinks) (a b c : Agents) (is : who ≡ process s) (
                       let later = every_late (λ before step. step.own ≡ false → Outside stamped started before step) z.0 y.0 history others in
                       let legal = z.2.0.leads later both_t in
                       let kept = z.2.1 legal later z.2.0.own (both_t.0, both_t.1.1.1) in
-                      subst (WhereRunning stamped (LastPoll u.collector x.stem x.got x.want)) (sym split)
+                      subst (WhereRunning stamped (MayBeLost u.collector u.born x.stem x.got x.want)) (sym split)
                       (record {
                         legal = legal;
                         alive = λ running.
                             let ran_t = ran_before (IsByOne acting) (λ before step by. by.running) z.0 (y.0 ++ history) z.2.0.own running in
                             let ran_s = ran_before (IsByOne acting) (λ before step by. by.running) y.0 history y.2.own ran_t in
                             record {
-                              polled = z.0;
-                              earlier = y.0 ++ history;
-                              split = refl;
-                              sinks = t;
-                              agent = b;
-                              sinks_then = u;
-                              agent_then = c;
-                              collector_is = sym last_is;
-                              held = both_t.0.alive ran_t;
-                              polls = subst (λ w. PollsInside w t b (Ok (Some x)) u c (Some (y.0 ++ history)) (Some (z.0 ++ (y.0 ++ history)))) same_t
-                                  (subst (λ o. PollsInside who t b (Ok (Some x)) u c o (Some (z.0 ++ (y.0 ++ history)))) y.1
-                                  (subst (λ o. PollsInside who t b (Ok (Some x)) u c mid o) z.1 polls));
-                              below = least.0;
+                              poll = record {
+                                polled = z.0;
+                                earlier = y.0 ++ history;
+                                split = refl;
+                                sinks = t;
+                                agent = b;
+                                sinks_then = u;
+                                agent_then = c;
+                                collector_is = sym last_is;
+                                held = both_t.0.alive ran_t;
+                                polls = subst (λ w. PollsInside w t b (Ok (Some x)) u c (Some (y.0 ++ history)) (Some (z.0 ++ (y.0 ++ history)))) same_t
+                                    (subst (λ o. PollsInside who t b (Ok (Some x)) u c o (Some (z.0 ++ (y.0 ++ history)))) y.1
+                                    (subst (λ o. PollsInside who t b (Ok (Some x)) u c mid o) z.1 polls));
+                                below = least.0;
+                                known = (place_at history both ran_s).0;
+                              };
                               lost = λ own. lost_at y.0 z.0 history y.1 z.1 later both both_t legal ran_s own;
                               passed = passed_at (z.0 ++ (y.0 ++ history)) (place_at history both ran_s).0 (kept running);
                             };

@@ -24,12 +24,14 @@ pub mod Rows
 pub mod Reached
 pub mod LastPolls
 pub mod Given
+pub mod Gone
 pub mod Sent
 pub mod Polls
 pub mod Posts
 pub mod Following
 pub mod Stepping
 pub mod Logs
+pub mod OwnRows
 pub mod Theirs
 pub mod Delivers
 pub mod Whole

@@ -20,7 +20,8 @@ use Rattle.chk_agent.proofs.TalkingTold.{ran_before}
 use Rattle.chk_round.specs.declared.faults.RoundFault.{RoundFault}
 use Rattle.chk_round.specs.Done.{ReadTo}
 use Rattle.chk_round.specs.Following.{KeepsLogs}
-use Rattle.chk_round.specs.Joint.{AreIn, BothAt}
+use Rattle.chk_round.specs.Joint.{AreIn, BothAt, JointTo}
+use Rattle.chk_round.specs.OwnRows.{OwnTo}
 use Rattle.chk_round.specs.Reading.{AfterReadOut, ReadOn, ReadsAll, ReadsOn}
 use Rattle.chk_round.specs.Sending.{NonePast, SendsBelow, SendsOthers}
 use Rattle.chk_round.proofs.Joining.{in_on}
@@ -28,6 +29,7 @@ use Rattle.chk_round.specs.Scripts as scripts
 use Rattle.chk_round.specs.Scripts.{ReadsEach, ReadsOut}
 use Rattle.chk_round.specs.Calls.{RoundCalls}
 use Rattle.chk_round.proofs.Acts.{acts_none, acts_then}
+use Rattle.chk_round.proofs.OwnRows.{own_none, own_then}
 use Rattle.chk_round.proofs.Polls.{starts_none, starts_then}
 use Rattle.chk_round.proofs.Sent.{IsOther, adds_each}
 use Rattle.chk_round.proofs.OwnReads.{EndsWithRead, ends_more, out_ends}
@@ -62,6 +64,7 @@ pub record ReadingTo (n : ℕ) (s : Sinks) (a : Agents) (t : Sinks) (b : Agents)
   pub starts : IsSameStart s t
   pub on : ReadsOn a b
   pub lives : KeepsLogs a b
+  pub rows : OwnTo s a t b (Ok tt) old now
   pub acts : Adds old now RoundCalls
   pub later : (k : ℕ) (c : Adaptor) → n ≤ k → slice_get b.adaptors k ≡ Some c → slice_get a.adaptors k ≡ Some c
   pub faults : before ≤ after
@@ -109,6 +112,7 @@ reading_begun s a now m = record {
     idle = λ i x y there off at. same_Some y x (sym at ∙ there);
   };
   lives = λ kind path f. f;
+  rows = own_none s a now;
   acts = acts_none now;
   later = λ k c from there. there;
   faults = omega arith;
@@ -156,6 +160,7 @@ module _ (n : ℕ) (s t : Sinks) (a b : Agents) {old mid : Option History} {befo
     starts = so.starts;
     on = so.on;
     lives = so.lives;
+    rows = so.rows;
     acts = so.acts;
     later = λ k c from there. so.later k c (omega (arith, from)) there;
     faults = so.faults;
@@ -163,6 +168,15 @@ module _ (n : ℕ) (s t : Sinks) (a b : Agents) {old mid : Option History} {befo
     where
       none_steps : (c : Adaptor) → slice_get b.adaptors n ≡ Some c → is_stepped c.phase ≡ true → ⊥
       none_steps c there steps = true≢false (sym steps ∙ (ap is_read_on (sym there) ∙ off))
+
+  pub reading_joint : JointTo s a t b (Ok tt) old mid
+  reading_joint stamped started acting run =
+      adds_as (Leads (Together stamped started acting) (BothAt stamped s a) (BothAt stamped t b)) (so.told stamped started acting run)
+      (λ added history x. x.leads)
+
+  pub reading_own : (u : Sinks) (c : Agents) (r : Result (Unit {0}) RoundFault) {new : Option History} → OwnTo t b u c r mid new
+      → OwnTo s a u c r old new
+  reading_own u c r rows = own_then s t u a b c r so.starts.collector so.on.source so.rows reading_joint rows
 
   module _ (u : Sinks) (c : Agents) {new : Option History} (result : Result (Unit {0}) RoundFault)
       (told : (stamped : List (List ℕ)) (started acting : List Who) → AreIn started acting t b → Adds mid new
@@ -185,7 +199,7 @@ module _ (n : ℕ) (s t : Sinks) (a b : Agents) {old mid : Option History} {befo
         })
 
     module _ (is : result ≡ Ok tt) (one : ReadOn n b c) (sends : SendsOthers n b mid new)
-        (lives : KeepsLogs b c) (more : Adds mid new RoundCalls) (reads : ℕ)
+        (lives : KeepsLogs b c) (more : Adds mid new RoundCalls) (rows : OwnTo t b u c (Ok tt) mid new) (reads : ℕ)
         (out : ReadsOut n reads 0 b (Ok tt) c mid new) where
       -- the stream of the adaptor that was read
       stream_is : (x d : Adaptor) → slice_get a.adaptors n ≡ Some x → slice_get c.adaptors n ≡ Some d
@@ -301,6 +315,7 @@ module _ (n : ℕ) (s t : Sinks) (a b : Agents) {old mid : Option History} {befo
               idle = idle_still on;
             };
             lives = λ kind path f. lives kind path (so.lives kind path f);
+            rows = reading_own u c (Ok tt) rows;
             acts = acts_then so.acts more;
             later = λ k d from there. so.later k d (omega (arith, from))
                 (one.adaptors.others k d (λ e. let z : ⊥ = omega (arith, from, e) in z) there);

@@ -13,10 +13,12 @@ use Rattle.chk_drain.proofs.Unmarked.{some_asked}
 use Rattle.chk_round.specs.declared.faults.RoundFault.{RoundFault}
 use Rattle.chk_round.specs.Joint.{IsSameAgent, JointTo}
 use Rattle.chk_round.specs.Lengths.{PollsOn}
+use Rattle.chk_round.specs.OwnRows.{OwnTo}
 use Rattle.chk_round.specs.Sending.{SendsOn}
 use Rattle.chk_round.specs.Calls.{RoundCalls}
 use Rattle.chk_round.proofs.Acts.{acts_none, acts_then}
 use Rattle.chk_round.proofs.Joining.{joint_none, joint_then, same_none, same_then}
+use Rattle.chk_round.proofs.OwnRows.{own_none, own_then}
 use Rattle.chk_round.proofs.Sent.{sends_on_none, sends_on_then}
 
 -- sinks of the same start
@@ -38,6 +40,7 @@ starts_then s t u p q =
 
 pub record Talked (s : Sinks) (a : Agents) (t : Sinks) (b : Agents) (old now : Option History) (before after : ℕ) : Type 0 where
   pub joint : JointTo s a t b (Ok tt) old now
+  pub rows : OwnTo s a t b (Ok tt) old now
   pub starts : IsSameStart s t
   pub same : IsSameAgent a b
   pub sends : SendsOn a b old now
@@ -47,6 +50,7 @@ pub record Talked (s : Sinks) (a : Agents) (t : Sinks) (b : Agents) (old now : O
 pub talked_none : (s : Sinks) (a : Agents) (now : Option History) (n : ℕ) → Talked s a s a now now n n
 talked_none s a now n = record {
   joint = joint_none s a now;
+  rows = own_none s a now;
   starts = starts_none s;
   same = same_none a;
   sends = sends_on_none a now;
@@ -56,12 +60,17 @@ talked_none s a now n = record {
 
 module _ {s t : Sinks} {a b : Agents} {old now : Option History} {before mid : ℕ} (so : Talked s a t b old now before mid)
     (u : Sinks) (c : Agents) {new : Option History} (after : ℕ) where
+  pub talked_own : (r : Result (Unit {0}) RoundFault) → OwnTo t b u c r now new → OwnTo s a u c r old new
+  talked_own r rows = own_then s t u a b c r so.starts.collector so.same.source so.rows so.joint rows
+
   pub talked_more : JointTo t b u c (Ok tt) now new → IsSameStart t u → IsSameAgent b c
-      → SendsOn b c now new → Adds now new RoundCalls → mid ≤ after → Talked s a u c old new before after
-  talked_more joint starts same sends more on =
+      → SendsOn b c now new → Adds now new RoundCalls → OwnTo t b u c (Ok tt) now new → mid ≤ after
+      → Talked s a u c old new before after
+  talked_more joint starts same sends more rows on =
       let first = so.count in
       record {
         joint = joint_then s t u a b c (Ok tt) so.starts.collector so.same.source so.joint joint;
+        rows = talked_own (Ok tt) rows;
         starts = starts_then s t u so.starts starts;
         same = same_then a b c so.same same;
         sends = sends_on_then a b c so.sends sends;

@@ -19,6 +19,7 @@ use Rattle.chk_world.specs.Streams.{whole_end, whole_log}
 use Rattle.chk_world.specs.Together.{Outside as OutsideOf, Together}
 use Rattle.chk_sink.specs.States.{State as Sinks}
 use Rattle.chk_agent.specs.States.{State as Agents}
+use Rattle.chk_exchange.specs.OwnRows.{AllRows, IsOwnSink}
 use Rattle.chk_archive.specs.declared.report.Report.{Report}
 use Rattle.chk_round.specs.declared.faults.RoundFault.{RoundFault}
 use Rattle.chk_round.specs.declared.faults.RoundFault.TheVariants.{Outside, NoMemory, Damaged, Length, Growing, Shrank, Spent, Refused, Checkpoint}
@@ -26,12 +27,14 @@ use Rattle.chk_round.specs.declared.whole_round.Rounded.{Rounded}
 use Rattle.chk_round.specs.Closing.{HasRun}
 use Rattle.chk_round.specs.Done.{ArchivedTo}
 use Rattle.chk_round.specs.Joint.{AreIn, BothAt}
+use Rattle.chk_round.specs.OwnRows.{FromStart}
 use Rattle.chk_round.specs.Processes.{AreBoth, IsRunOf, both, processes}
 use Rattle.chk_round.specs.Rounded.{AfterRound, RoundTo}
 use Rattle.chk_round.specs.Rounds.{AfterRun, AllSteady, IsGathered, RoundDone, RunsTo}
 use Rattle.chk_round.specs.Spent.{starts}
 use Rattle.chk_round.specs.Starts.{Met}
 use Rattle.chk_round.proofs.Given.{GivenNone, given_join, pair, pair_given}
+use Rattle.chk_round.proofs.Gone.{fresh_none}
 use Rattle.chk_round.proofs.Logs.{both_lead, early, late}
 use Rattle.chk_round.proofs.Meeting.{are_in}
 use Rattle.chk_round.proofs.OwnReads.{at_read_late}
@@ -162,6 +165,21 @@ module _ (stamped : List (List ℕ)) (source : List ℕ) (started acting : List 
         (λ x h led. pair_given (codes "c1") name x h led.own))
         (λ x h p q. (p, q))
 
+    -- no row is there yet, and no sink is created
+    from_fresh : (x history : History) → Leads (Together stamped started acting) (Legal stamped) (BothAt stamped s a) x history
+        → Leads (Together stamped started acting) (Legal stamped) (FromStart stamped s a) x history
+    from_fresh x history led = record {
+      leads = λ others h.
+          let both = led.leads others h in (
+            both,
+            (
+              subst (AllRows (λ z n. IsOwnSink s z)) (sym so.rows) tt,
+              λ running. fresh_none stamped s (x ++ history) both.0.legal (both.0.alive running) so.number,
+            ),
+          );
+      own = led.own;
+    }
+
     ended : (x y history : History) → Leads (Together stamped started acting) (Legal stamped) (BothAt stamped s a) x history
         → GivenNone x history → (q : Result Report RoundFault) → RunsTo stamped started acting s a b q y (x ++ history)
         → (v : Rounded) → round_of b q ≡ Ok v → Others (OutsideOf stamped started) (y ++ x) history → Legal stamped history
@@ -185,7 +203,7 @@ module _ (stamped : List (List ℕ)) (source : List ℕ) (started acting : List 
 
     pub rounds : Adds old new (RoundTo stamped started acting source (round_of b r))
     rounds = adds_then (RoundTo stamped started acting source (round_of b r)) first runs (λ x y history one two. record {
-      leads = both_lead (Together stamped started acting) x y history one.0 (record {
+      leads = both_lead (Together stamped started acting) x y history (from_fresh x history one.0) (record {
         leads = λ others h. run_round stamped b r (y ++ (x ++ history))
             (subst (λ c. AfterRun stamped c b r (y ++ (x ++ history))) so.collector_is (two.leads.leads others h));
         own = two.leads.own;

@@ -22,12 +22,9 @@ use Rattle.chk_delivery.specs.Turns.{SeesAll, below_in, below_row, first_below, 
 use Rattle.chk_agent.specs.States.{State as Agents}
 use Rattle.chk_exchange.specs.Exchanges as inside
 use Rattle.chk_exchange.specs.Exchanges.{PollsInside}
+use Rattle.chk_exchange.specs.OwnRows.{AllRows}
 use Rattle.chk_exchange.proofs.Given.{given_is}
 use Rattle.chk_round.specs.Lengths.{PollsOn}
-
-abbrev pub AllRows : (Stem → ℕ → Type 0) → List Row → Type 0
-AllRows P [] = Unit {0}
-AllRows P (row ∷ rows) = P row.stem row.offset × AllRows P rows
 
 pub all_rows : (P : Stem → ℕ → Type 0) (rows : List Row)
     → ((row : Row) → Contains rows row → P row.stem row.offset) → AllRows P rows

@@ -1,5 +1,5 @@
 -- The reads of one adaptor so far.
-use Rattle.std.proofs.Common.{◌≡◌, ℕ, ◌+◌, ◌*◌, ◌-◌, ◌≤◌, ◌<◌, true, List, length, Option, Some, Result, Ok, Err, refl, ap, sym, ◌∙◌, arith, subst}
+use Rattle.std.proofs.Common.{◌≡◌, ℕ, ◌+◌, ◌*◌, ◌-◌, ◌≤◌, ◌<◌, true, List, [], length, Option, Some, Result, Ok, Err, refl, ap, sym, ◌∙◌, arith, subst}
 use Rattle.std.specs.Prelude.{slice_get}
 use Rattle.std.proofs.lemmas.Option.{same_Some}
 use Rattle.chk_site.specs.declared.acts.Who.{Who}
@@ -35,6 +35,7 @@ use Rattle.chk_round.specs.Faults.{of_agent, RoundCause}
 use Rattle.chk_round.specs.Following.{KeepsLogs}
 use Rattle.chk_round.specs.Joint.{AreIn, BothAt, GoesOn, IsSameAgent, JointTo, OnlyStopped}
 use Rattle.chk_round.specs.Keeping.{SinksKept}
+use Rattle.chk_round.specs.OwnRows.{OwnTo}
 use Rattle.chk_round.specs.Polling.{PostedSome}
 use Rattle.chk_round.specs.Reading as told
 use Rattle.chk_round.specs.Reading.{AfterReadOut, IsGrowing, IsShrank, ReadOn}
@@ -47,6 +48,7 @@ use Rattle.chk_round.specs.Calls.{RoundCalls}
 use Rattle.chk_round.proofs.Acts.{acts_none, acts_then, step_acts}
 use Rattle.chk_round.proofs.Lasting.{went}
 use Rattle.chk_round.proofs.NonePast.{quiet_none_past, sends_none, sends_then}
+use Rattle.chk_round.proofs.OwnRows.{own_none, own_step, own_then}
 use Rattle.chk_round.proofs.Polls.{starts_none, starts_then}
 use Rattle.chk_round.proofs.Sent.{other_low, some_at}
 use Rattle.chk_round.proofs.Sides.{agent_acts}
@@ -220,6 +222,7 @@ pub record Reading (i count reads : ℕ) (s : Sinks) (a : Agents) (t : Sinks) (b
   pub here : IsReadOn i b
   pub sends : SendsOthers i a old now
   pub lives : KeepsLogs a b
+  pub rows : OwnTo s a t b (Ok tt) old now
   pub acts : Adds old now RoundCalls
   pub script : ReadSoFar i reads a count b old now
   pub few : count < reads
@@ -234,6 +237,7 @@ reading_none i reads s a now n some here = record {
   here = here;
   sends = λ stamped started one k x other at. sends_none (stream_at a.source x) x.read.offset stamped started now;
   lives = λ kind path f. f;
+  rows = own_none s a now;
   acts = acts_none now;
   script = λ r u new x. x;
   few = omega (arith, some);
@@ -253,6 +257,12 @@ module _ (i count reads : ℕ) (s t : Sinks) (a b : Agents) {old now : Option Hi
   pub stepped_acts : Adds old next RoundCalls
   stepped_acts = acts_then so.acts (step_acts one)
 
+  joint_stepped : JointTo s a t c (Ok tt) old next
+  joint_stepped = joint_then s t t a b c (Ok tt) so.starts.collector source_on so.joint (step_goes t i b c result told)
+
+  pub own_stepped : OwnTo s a t c (Ok tt) old next
+  own_stepped = own_then s t t a b c (Ok tt) so.starts.collector source_on so.rows so.joint (own_step t one (told []))
+
   -- nothing was sent of the streams of others
   pub ended_sends : SendsOthers i a old next
   ended_sends stamped started one k x other at =
@@ -271,6 +281,7 @@ module _ (i count reads : ℕ) (s t : Sinks) (a b : Agents) {old now : Option Hi
         on = on_then i a b c so.on (step_on one so.here.1);
         here = step_read n one is so.here.1 so.here.2;
         sends = ended_sends;
+        rows = own_stepped;
         lives = λ kind path f.
             step_keeps_logs (subst (λ r. IsOneStepped i so.here.0 b r c now next) is one) so.here.1
             (λ had size e. let z : ⊥ = cc in z) kind path (so.lives kind path f);
@@ -390,8 +401,12 @@ module _ (i count reads : ℕ) (s t : Sinks) (a b : Agents) {old now : Option Hi
           joint_then s t u a c d (Err fault) so.starts.collector (held_so).source
           (joint_then s t t a b c (Ok tt) so.starts.collector source_on so.joint (step_goes t i b c result told)) joint
 
+      pub held_own : (r : Result (Unit {0}) RoundFault) → OwnTo t c u d r next new → OwnTo s a u d r old new
+      held_own r rows = own_then s t u a c d r so.starts.collector (held_so).source own_stepped joint_stepped rows
+
       module _ (joint : JointTo t c u d (Ok tt) next new) (starts : IsSameStart t u) (posted : PostedSome c d)
-          (sound : IsSound c) (sends : SendsOn c d next new) (more : Adds next new RoundCalls) where
+          (sound : IsSound c) (sends : SendsOn c d next new) (more : Adds next new RoundCalls)
+          (rows : OwnTo t c u d (Ok tt) next new) where
         kept : d.adaptors ≡ b.adaptors
         kept = posted.same.rest.adaptors ∙ ap (λ (k : Agents). k.adaptors) same
 
@@ -410,6 +425,7 @@ module _ (i count reads : ℕ) (s t : Sinks) (a b : Agents) {old now : Option Hi
                   sends_then s x.read.offset stamped started (ended_sends stamped started one k x other at)
                   (sends stamped started s x.read.offset one low).0;
               lives = λ kind path f. keeps_same b d kept kind path (so.lives kind path f);
+              rows = held_own (Ok tt) rows;
               acts = acts_then stepped_acts more;
               script = λ r w last later.
                   so.script r w last

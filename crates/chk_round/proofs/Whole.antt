@@ -1,12 +1,12 @@
 -- The parts of a round in turn.
-use Rattle.std.proofs.Common.{◌≡◌, ℕ, Bool, true, false, not, List, ◌++◌, Option, Some, None, Result, Ok, Err, ap, sym, subst, ◌∙◌, refl, arith, append_assoc, true≢false}
+use Rattle.std.proofs.Common.{◌≡◌, ◌⊎◌, inl, inr, ℕ, Bool, true, false, not, List, ◌++◌, Option, Some, None, Result, Ok, Err, ap, sym, subst, ◌∙◌, refl, arith, append_assoc, true≢false}
 use Rattle.std.specs.Prelude.{Contains, IsFalse, IsTrue, codes, is_some, ◌&&◌, slice_get}
 use Rattle.chk_bytes.specs.Stems.{Stem, is_stem, same_stem, stem_text}
 use Rattle.chk_site.specs.declared.acts.Role.TheVariants.{Agent, Collector}
 use Rattle.chk_site.specs.declared.acts.Who.{Who}
 use Rattle.chk_site.specs.History.{History, Others, files_after, is_stopped, since_start}
 use Rattle.chk_site.specs.Site.{Adds}
-use Rattle.chk_site.specs.Runs.{Leads}
+use Rattle.chk_site.specs.Runs.{Leads, Owns}
 use Rattle.chk_site.proofs.Leads.{leads_then}
 use Rattle.chk_site.proofs.Runs.{adds_as, adds_both, adds_then}
 use Rattle.chk_chunk.specs.Keys.{Stream}
@@ -14,18 +14,22 @@ use Rattle.chk_world.specs.Agents.{AllOfCluster, stream_of}
 use Rattle.chk_world.specs.ArchiveRuns.{IsArchiveRun, Listing, is_unclosed, last_listing}
 use Rattle.chk_world.specs.Checkpoints.{Line, checkpoint_lines}
 use Rattle.chk_world.specs.Committed.{IsAbsent}
+use Rattle.chk_world.specs.DoneSinks.{IsGone}
 use Rattle.chk_world.specs.Knowing.{agent}
+use Rattle.chk_world.specs.NamedEnds.{gave_up}
 use Rattle.chk_world.specs.Names.{SinkFile, file}
+use Rattle.chk_world.specs.Rules.{Legal}
 use Rattle.chk_world.specs.Sight.{job}
 use Rattle.chk_world.specs.Streams.{whole_end}
-use Rattle.chk_world.specs.Together.{Outside as OutsideOf, Together}
+use Rattle.chk_world.specs.Together.{IsByOne, Outside as OutsideOf, Together}
 use Rattle.chk_sink.specs.Held.{Matches as SinksMatch}
-use Rattle.chk_sink.specs.States.{State as Sinks, Writing, last_stem}
+use Rattle.chk_sink.specs.States.{IsSameStart, State as Sinks, Writing, last_stem}
 use Rattle.chk_collector.specs.Finishing.{finished}
 use Rattle.chk_reading.specs.Adaptors.{Adaptor, is_past, is_stepped, stream_at}
 use Rattle.chk_agent.specs.Fits.{IsSound}
 use Rattle.chk_agent.specs.States.{State as Agents, lines_of}
 use Rattle.chk_agent.proofs.Soundness.{below_at, line_in}
+use Rattle.chk_exchange.specs.OwnRows.{RowsOwn}
 use Rattle.chk_archive.specs.declared.report.Report.{Report}
 use Rattle.chk_archive.specs.Archived.{GivenOnce}
 use Rattle.chk_archive.specs.Reporting.{report_view}
@@ -39,10 +43,13 @@ use Rattle.chk_round.specs.Reading.{ReadsAll, ReadsOn}
 use Rattle.chk_round.specs.Rounds.{AfterRun, AllSteady, RoundDone, RunsTo}
 use Rattle.chk_round.specs.Scripts.{WereRead}
 use Rattle.chk_round.specs.Sending.{NonePast, QueueBelow, SendsBelow, SendsNone, SendsRest}
-use Rattle.chk_round.specs.LastPolls.{LastPoll}
-use Rattle.chk_round.specs.Spent.{LastSink, WhereRunning, sinks, segments}
+use Rattle.chk_collector.specs.Passing.{HasPassed}
+use Rattle.chk_round.specs.LastPolls.{LastPoll, MayBeLost}
+use Rattle.chk_round.specs.OwnRows.{FromStart, NoneGone, OwnBehind, OwnTo}
+use Rattle.chk_round.specs.Spent.{LastSink, sinks, segments}
 use Rattle.chk_round.specs.Theirs.{ListsTheirs, NoneOf, TheirsOnly}
 use Rattle.chk_round.proofs.Given.{GivenNone, given_join, pair, pair_given}
+use Rattle.chk_round.proofs.Gone.{none_gone_on}
 use Rattle.chk_round.proofs.Joining.{in_on}
 use Rattle.chk_round.proofs.Logs.{both_lead, early, late, ran}
 use Rattle.chk_round.proofs.OwnReads.{at_read_early}
@@ -53,21 +60,48 @@ use Rattle.chk_round.proofs.WholeRounds.{adaptor_whole, done_ran, job_ran_whole,
 
 -- ---- the ends
 
-goes_run : (stamped : List (List ℕ)) (c : List ℕ) (s : Sinks) (a b : Agents) → s.collector ≡ c → (fault : RoundFault) (h : History)
-    → GoesOn stamped s a (Err fault) h → AfterRun stamped c b (Err fault) h
-goes_run stamped c s a b same (Outside call) h x = x
-goes_run stamped c s a b same NoMemory h x = x
-goes_run stamped c s a b same (Damaged name at) h x = x
-goes_run stamped c s a b same (Checkpoint at) h x = x
-goes_run stamped c s a b same (Length stem got want) h x =
-    subst (λ k. WhereRunning stamped (LastPoll k stem got want) h) same x
-goes_run stamped c s a b same (Growing path reads) h x = x
-goes_run stamped c s a b same (Shrank path had size) h x = x
-goes_run stamped c s a b same (Spent number) h x = record {
+-- of a sink that isn't gone it is said that it was given up, and that one of the start was full
+given_up : (stamped : List (List ℕ)) (c : List ℕ) (s : Sinks) (stem : Stem) (got want : ℕ) (h : History)
+    → MayBeLost c s.born stem got want h → stem.collector ≡ c → stem.born ≡ s.born → s.collector ≡ c → NoneGone s h
+    → LastPoll c stem got want h
+given_up stamped c s stem got want h m own born same none =
+    record {
+      poll = m.poll;
+      own = own;
+      lost = lost;
+      passed = subst (λ b. HasPassed c b h) (sym born) (m.passed own born lost);
+    }
+  where
+    go : IsTrue (gave_up stem h) ⊎ IsGone h stem → (b : Bool) → gave_up stem h ≡ b → IsTrue b
+    go lost true e = refl
+    go (inl given) false e = absurd (true≢false (sym given ∙ e))
+    go (inr gone) false e = absurd (none stem m.poll.known (own ∙ sym same) born e gone)
+
+    lost : IsTrue (gave_up stem h)
+    lost = go (m.lost own) (gave_up stem h) refl
+
+goes_run : (stamped : List (List ℕ)) (s t : Sinks) (a b : Agents) → IsSameStart s t → (fault : RoundFault) (h : History)
+    → GoesOn stamped t a (Err fault) h → OwnBehind t a (Err fault)
+    → (Legal stamped h → is_stopped h ≡ false → NoneGone s h) → AfterRun stamped s.collector b (Err fault) h
+goes_run stamped s t a b same (Outside call) h x own none = x
+goes_run stamped s t a b same NoMemory h x own none = x
+goes_run stamped s t a b same (Damaged name at) h x own none = x
+goes_run stamped s t a b same (Checkpoint at) h x own none = x
+goes_run stamped s t a b same (Length stem got want) h x own none = record {
   legal = x.legal;
-  alive = λ running. sinks (subst (λ k. LastSink k number h) same (x.alive running));
+  alive = λ running.
+      given_up stamped s.collector s stem got want h
+      (subst (λ k. MayBeLost k s.born stem got want h) same.collector
+      (subst (λ n. MayBeLost t.collector n stem got want h) same.born (x.alive running)))
+      (own.collector ∙ same.collector) (own.born ∙ same.born) refl (none x.legal running);
 }
-goes_run stamped c s a b same (Refused code) h x = x
+goes_run stamped s t a b same (Growing path reads) h x own none = x
+goes_run stamped s t a b same (Shrank path had size) h x own none = x
+goes_run stamped s t a b same (Spent number) h x own none = record {
+  legal = x.legal;
+  alive = λ running. sinks (subst (λ k. LastSink k number h) same.collector (x.alive running));
+}
+goes_run stamped s t a b same (Refused code) h x own none = x
 
 closed_run : (stamped : List (List ℕ)) (c : List ℕ) (s : Sinks) (b : Agents) (r : Result Report RoundFault) (h : History)
     → Closed stamped s b r h → AfterRun stamped c b r h
@@ -81,6 +115,14 @@ closed_run stamped c s b (Err (Growing path reads)) h x = x
 closed_run stamped c s b (Err (Shrank path had size)) h x = x
 closed_run stamped c s b (Err (Spent number)) h x = record { legal = x.legal; alive = λ running. segments (x.alive running) }
 closed_run stamped c s b (Err (Refused code)) h x = x
+
+-- the reads as a part of a round
+pub reads_joint : (s : Sinks) (a : Agents) (t : Sinks) (b : Agents) (r : Result (Unit {0}) RoundFault) {old new : Option History}
+    → ((stamped : List (List ℕ)) (started acting : List Who) → AreIn started acting s a
+    → Adds old new (ReadsAll stamped started acting s a t b r)) → JointTo s a t b r old new
+reads_joint s a t b r told stamped started acting run =
+    adds_as (Leads (Together stamped started acting) (BothAt stamped s a) (GoesOn stamped t b r)) (told stamped started acting run)
+    (λ x h read. read.leads)
 
 -- ---- the parts in turn
 
@@ -131,18 +173,44 @@ were_read a a1 b steady on delivered i y at lives =
     )
 
 module _ (stamped : List (List ℕ)) (started acting : List Who) (s : Sinks) (a : Agents) where
-  -- it ends with the reads
-  pub reads_end : (t : Sinks) (b : Agents) → t.collector ≡ s.collector → (fault : RoundFault) {old new : Option History}
-      → Adds old new (ReadsAll stamped started acting s a t b (Err fault))
+  -- from more than both know
+  from_start : {C : History → Type 0} {added history : History}
+      → Leads (Together stamped started acting) (BothAt stamped s a) C added history
+      → Leads (Together stamped started acting) (FromStart stamped s a) C added history
+  from_start led = record { leads = λ others h. led.leads others h.0; own = led.own }
+
+  -- only collector and agent act up to there
+  in_pair : AreIn started acting s a → AreIn started (pair s.collector a.source) s a
+  in_pair run = record {
+    collector_started = run.collector_started;
+    collector_acts = (0, omega arith, refl);
+    agent_started = run.agent_started;
+    agent_acts = (1, omega arith, refl);
+  }
+
+  -- it ends before the job acts
+  pub joint_ends : AreIn started acting s a → Contains started job → (t : Sinks) (b : Agents) → IsSameStart s t → (fault : RoundFault)
+      {old new : Option History} → JointTo s a t b (Err fault) old new → OwnTo s a t b (Err fault) old new
       → Adds old new (RunsTo stamped started acting s a b (Err fault))
-  reads_end t b same fault told = adds_as (RunsTo stamped started acting s a b (Err fault)) told (λ x history read. record {
-    leads = record {
-      leads = λ others h. goes_run stamped s.collector t b b same fault (x ++ history) (read.leads.leads others h);
-      own = read.leads.own;
-    };
-    source_is = λ r e. absurd (let z : ⊥ = cc in z);
-    done = λ r e. absurd (let z : ⊥ = cc in z);
-  })
+  joint_ends run j_in t b same fault {old = old} {new = new} joint rows =
+      adds_both (RunsTo stamped started acting s a b (Err fault)) (joint stamped started acting run)
+      (adds_both Alone (rows stamped started acting run) (joint stamped started (pair s.collector a.source) (in_pair run))
+      (λ x history own led. (own, led.own)))
+      (λ x history led alone. record {
+        leads = record {
+          leads = λ others h.
+              goes_run stamped s t b b same fault (x ++ history) (led.leads others h.0) (alone.0 others h.0 h.1.0)
+              (λ legal running. none_gone_on stamped started j_in s a.source x history others alone.1 h.1.1 legal running);
+          own = led.own;
+        };
+        source_is = λ r e. absurd (let z : ⊥ = cc in z);
+        done = λ r e. absurd (let z : ⊥ = cc in z);
+      })
+    where
+      Alone : History → History → Type 0
+      Alone x history =
+          (Others (OutsideOf stamped started) x history → BothAt stamped s a history → RowsOwn s a → OwnBehind t b (Err fault))
+          × Owns (IsByOne (pair s.collector a.source)) x history
 
   module _ (run : AreIn started acting s a) (s1 : Sinks) (a1 : Agents) (same : s1.collector ≡ s.collector) (on : ReadsOn a a1)
       {old mid : Option History} (read : Adds old mid (ReadsAll stamped started acting s a s1 a1 (Ok tt))) where
@@ -162,20 +230,6 @@ module _ (stamped : List (List ℕ)) (started acting : List Who) (s : Sinks) (a 
         }))
         (λ x h r. pair_given s.collector a.source x h r.leads.own)
 
-    -- it ends with the delivery
-    pub delivery_ends : (t : Sinks) (b : Agents) → t.collector ≡ s1.collector → (fault : RoundFault) {new : Option History} → JointTo s1 a1 t b (Err fault) mid new
-        → Adds old new (RunsTo stamped started acting s a b (Err fault))
-    delivery_ends t b still fault joint =
-        adds_then (RunsTo stamped started acting s a b (Err fault)) read (joint stamped started acting run_on)
-        (λ x y history first second. record {
-          leads = both_lead (Together stamped started acting) x y history first.leads (record {
-            leads = λ others h. goes_run stamped s.collector t b b (still ∙ same) fault (y ++ (x ++ history)) (second.leads others h);
-            own = second.own;
-          });
-          source_is = λ r e. absurd (let z : ⊥ = cc in z);
-          done = λ r e. absurd (let z : ⊥ = cc in z);
-        })
-
     module _ (s2 : Sinks) (b : Agents) {late_at : Option History} (joint : JointTo s1 a1 s2 b (Ok tt) mid late_at) where
       -- it ends with the close
       pub close_ends : (t : Sinks) (fault : RoundFault) {new : Option History}
@@ -184,7 +238,7 @@ module _ (stamped : List (List ℕ)) (started acting : List Who) (s : Sinks) (a 
       close_ends t fault closed =
           adds_then (RunsTo stamped started acting s a b (Err fault)) read (leads_then (joint stamped started acting run_on) closed)
           (λ x w history first second. record {
-            leads = both_lead (Together stamped started acting) x w history first.leads (record {
+            leads = both_lead (Together stamped started acting) x w history (from_start first.leads) (record {
               leads = λ others h. closed_run stamped s.collector t b (Err fault) (w ++ (x ++ history)) (second.leads others h);
               own = second.own;
             });
@@ -437,7 +491,7 @@ module _ (stamped : List (List ℕ)) (started acting : List Who) (s : Sinks) (a 
 
           pub round_ends : Adds old new (RunsTo stamped started acting s a b (Ok v))
           round_ends = adds_then (RunsTo stamped started acting s a b (Ok v)) settled ended (λ w z history first second. record {
-            leads = both_lead (Together stamped started acting) w z history first.leads (record {
+            leads = both_lead (Together stamped started acting) w z history (from_start first.leads) (record {
               leads = λ others h. closed_run stamped s.collector t b (Ok v) (z ++ (w ++ history)) (second.closing.leads others h);
               own = second.closing.own;
             });

@@ -15,7 +15,7 @@ use Rattle.chk_drain.specs.Parts.{SameRest}
 use Rattle.chk_round.specs.declared.faults.RoundFault.{RoundFault}
 use Rattle.chk_round.specs.declared.faults.RoundFault.TheVariants.{Damaged, Length, Shrank, Spent, Checkpoint, Refused}
 use Rattle.chk_round.specs.Keeping.{SinksKept}
-use Rattle.chk_round.specs.LastPolls.{LastPoll}
+use Rattle.chk_round.specs.LastPolls.{MayBeLost}
 use Rattle.chk_round.specs.Spent.{LastSink, WhereRunning}
 
 -- the history is as the sinks and the agent know it, no message waits for the collector in the
@@ -46,7 +46,7 @@ GoesOn stamped s a (Err (Damaged name at)) history = OnlyStopped stamped history
 GoesOn stamped s a (Err (Checkpoint at)) history = OnlyStopped stamped history
 GoesOn stamped s a (Err (Refused code)) history = OnlyStopped stamped history
 GoesOn stamped s a (Err (Length stem got want)) history =
-    WhereRunning stamped (LastPoll s.collector stem got want) history
+    WhereRunning stamped (MayBeLost s.collector s.born stem got want) history
 GoesOn stamped s a (Err (Shrank path had is)) history = OnlyStopped stamped history
 GoesOn stamped s a (Err (Spent n)) history = WhereRunning stamped (LastSink s.collector n) history
 GoesOn stamped s a (Err fault) history = Legal stamped history

@@ -1,6 +1,6 @@
 -- What stands behind a round that a length below an answered offset ended.
 use Rattle.std.specs.Prelude.{◌≡◌, ◌⊎◌, ℕ, ◌<◌, IsTrue, List, ◌++◌, Option, Some, Result, Ok, Err}
-use Rattle.chk_bytes.specs.Stems.{Stem}
+use Rattle.chk_bytes.specs.Stems.{Stem, is_stem}
 use Rattle.chk_site.specs.declared.acts.Who.{Who}
 use Rattle.chk_site.specs.History.{History}
 use Rattle.chk_world.specs.DoneSinks.{IsGone}
@@ -15,9 +15,8 @@ use Rattle.chk_round.specs.declared.faults.RoundFault.{RoundFault}
 use Rattle.chk_round.specs.declared.faults.RoundFault.TheVariants.{Length}
 
 -- The last steps are a poll inside the process, which left this offset of the sink above the length
--- that it gave. Where the sink is one of the collector's, it was given up before, or it is gone. One
--- of the collector's start was given up only where one of that start has passed 2^62 bytes.
-pub record LastPoll (collector : List ℕ) (stem : Stem) (got want : ℕ) (history : History)
+-- that it gave.
+pub record IsLastPoll (collector : List ℕ) (stem : Stem) (got want : ℕ) (history : History)
     : Type 0 where
   pub polled : History
   pub earlier : History
@@ -32,9 +31,25 @@ pub record LastPoll (collector : List ℕ) (stem : Stem) (got want : ℕ) (histo
       (Ok (Some (record { stem = stem; got = got; want = want }))) sinks_then agent_then
       (Some earlier) (Some history)
   pub below : got < want
+  pub known : IsTrue (is_stem stem)
+
+-- Where the sink is one of the collector's, it was given up before, or it is gone. One of this start
+-- was given up only where one of the start has passed 2^62 bytes.
+pub record MayBeLost (collector : List ℕ) (born : ℕ) (stem : Stem) (got want : ℕ)
+    (history : History) : Type 0 where
+  pub poll : IsLastPoll collector stem got want history
   pub lost : stem.collector ≡ collector → IsTrue (gave_up stem history) ⊎ IsGone history stem
-  pub passed : stem.collector ≡ collector → stem.born ≡ sinks.born → IsTrue (gave_up stem history)
-      → HasPassed collector sinks.born history
+  pub passed : stem.collector ≡ collector → stem.born ≡ born → IsTrue (gave_up stem history)
+      → HasPassed collector born history
+
+-- The last steps are such a poll, of a sink of the collector's own, which was given up before, since
+-- a sink of the same start has passed 2^62 bytes.
+pub record LastPoll (collector : List ℕ) (stem : Stem) (got want : ℕ) (history : History)
+    : Type 0 where
+  pub poll : IsLastPoll collector stem got want history
+  pub own : stem.collector ≡ collector
+  pub lost : IsTrue (gave_up stem history)
+  pub passed : HasPassed collector stem.born history
 
 -- where such a poll ended so, the length is at least what stayed committed
 abbrev pub LengthTold : {T : Type 0} → Who → Sinks → Agents → Result T RoundFault → Option History

@@ -13,6 +13,7 @@ pub mod Scripts
 pub mod Calls
 pub mod Lengths
 pub mod LastPolls
+pub mod OwnRows
 pub mod Polled
 pub mod Delivering
 pub mod Sending

@@ -20,7 +20,7 @@ use Rattle.chk_round.specs.Spent.{IsSpentRound, WhereRunning}
 -- At Ok the history is legal and as the agent knows it, and the job may act on, whose run is done.
 -- Nothing of the program's own is ever damaged, no log is shorter than what was read of it, the agent
 -- gets the replies that were made, where numbers are spent it is said which, and a length ends it
--- that was told by the last poll.
+-- that was told by the last poll, of a sink of the collector that was given up.
 abbrev pub AfterRound : List (List ℕ) → Result Rounded RoundFault → History → Type 0
 AfterRound stamped (Ok r) history =
     AgentMatches stamped r.agent history × AtTold stamped job (HasRun r.report) history

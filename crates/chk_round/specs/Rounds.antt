@@ -27,6 +27,7 @@ use Rattle.chk_round.specs.Closing.{HasRun}
 use Rattle.chk_round.specs.Done.{ArchivedTo, AtRead, JobRan}
 use Rattle.chk_round.specs.Joint.{BothAt, OnlyStopped}
 use Rattle.chk_round.specs.LastPolls.{LastPoll}
+use Rattle.chk_round.specs.OwnRows.{FromStart}
 use Rattle.chk_round.specs.Spent.{IsSpentRound, WhereRunning}
 use Rattle.chk_round.specs.Theirs.{NoneOf}
 
@@ -38,7 +39,7 @@ AllSteady a =
 -- At Ok the history is legal and as the agent knows it, and the job may act on, whose run is done.
 -- Nothing of the program's own is ever damaged, no log is shorter than what was read of it, the agent
 -- gets the replies that were made, where numbers are spent it is said which, and a length ends it
--- that was told by the last poll.
+-- that was told by the last poll, of a sink of the collector that was given up.
 abbrev pub AfterRun : List (List ℕ) → List ℕ → Agents → Result Report RoundFault → History → Type 0
 AfterRun stamped c b (Ok r) history =
     AgentMatches stamped b history × AtTold stamped job (HasRun r) history
@@ -80,10 +81,10 @@ pub record RoundDone (collector source : List ℕ) (b : Agents) (r : Report) (ad
   pub none_left : (x : Stem) → IsTrue (is_stem x) → x.collector ≡ collector
       → IsAbsent (file (files_after (added ++ history)) (SinkFile x))
 
--- from a collector and an agent that know the history
+-- from a collector and an agent that know the history, whose rows are of sinks of the start
 pub record RunsTo (stamped : List (List ℕ)) (started acting : List Who) (s : Sinks) (a b : Agents)
     (result : Result Report RoundFault) (added history : History) : Type 0 where
-  pub leads : Leads (Together stamped started acting) (BothAt stamped s a) (AfterRun stamped s.collector b result) added history
+  pub leads : Leads (Together stamped started acting) (FromStart stamped s a) (AfterRun stamped s.collector b result) added history
   pub source_is : (r : Report) → result ≡ Ok r → b.source ≡ a.source
   pub done : (r : Report) → result ≡ Ok r → Others (OutsideOf stamped started) added history → BothAt stamped s a history
       → is_stopped (added ++ history) ≡ false → RoundDone s.collector a.source b r added history
@@ -95,3 +96,5 @@ pub record IsGathered (source : List ℕ) (s : Sinks) (a : Agents) : Type 0 wher
   pub ready : a.ready ≡ true
   pub addresses : a.delivery.ring.addresses ≡ self_address ∷ []
   pub steady : AllSteady a
+  pub rows : a.delivery.table.rows ≡ []
+  pub number : s.number ≡ 0

@@ -1,6 +1,6 @@
 //! What waits is delivered, and the checkpoint says so.
 
-ghost use Rattle.std.specs.Prelude.{◌≡◌, IfErr, ◌∷◌, [], IsTrue, OnOk, true};
+ghost use Rattle.std.specs.Prelude.{◌≡◌, IfErr, ◌∷◌, [], Err, IsTrue, OnOk, true};
 ghost use Rattle.chk_bytes.specs.Stems.{is_collector};
 ghost use Rattle.chk_site.specs.Messages.{self_address};
 ghost use Rattle.chk_site.specs.Site.{Adds};
@@ -10,6 +10,7 @@ ghost use Rattle.chk_round.specs.Faults.{FailsInside, RoundCause};
 ghost use Rattle.chk_round.specs.Following.{KeepsLogs};
 ghost use Rattle.chk_round.specs.Joint.{JointTo};
 ghost use Rattle.chk_round.specs.Lengths.{LengthCause};
+ghost use Rattle.chk_round.specs.OwnRows.{OwnTo};
 ghost use Rattle.chk_round.specs.Scripts.{IsNoRead};
 ghost use Rattle.chk_round.specs.Sending.{SendsRest};
 ghost use Rattle.chk_round.specs.Calls.{RoundCalls};
@@ -36,6 +37,8 @@ pub(crate) fn deliver<S: Site>(
     requires ready { agent.old.ready ≡ true }
     requires address { agent.old.delivery.ring.addresses ≡ self_address ∷ [] }
     ensures joint { JointTo collector.old agent.old collector.new agent.new result (S.told site.old) (S.told site.new) }
+    ensures rows { IfErr result (λ fault. OwnTo collector.old agent.old collector.new agent.new (Err fault)
+        (S.told site.old) (S.told site.new)) }
     ensures live { OnOk result (KeepsLogs agent.old agent.new) }
     ensures all { OnOk result (Delivered agent.old agent.new) }
     ensures sends { OnOk result (SendsRest agent.old (S.told site.old) (S.told site.new)) }

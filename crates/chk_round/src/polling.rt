@@ -10,6 +10,7 @@ ghost use Rattle.chk_round.specs.Faults.{FailsInside, RoundCause};
 ghost use Rattle.chk_round.specs.Joint.{JointTo};
 ghost use Rattle.chk_round.specs.LastPolls.{LengthTold};
 ghost use Rattle.chk_round.specs.Lengths.{HasCommitted, LengthCause, PolledOnce};
+ghost use Rattle.chk_round.specs.OwnRows.{OwnTo};
 ghost use Rattle.chk_round.specs.Polled.{PollTo};
 ghost use Rattle.chk_round.specs.Scripts.{IsNoRead};
 ghost use Rattle.chk_round.specs.Polling.{HasFree, PolledAll};
@@ -38,6 +39,7 @@ pub(crate) fn make_room<S: Site>(
     requires ready { agent.old.ready ≡ true }
     requires address { agent.old.delivery.ring.addresses ≡ self_address ∷ [] }
     ensures joint { JointTo collector.old agent.old collector.new agent.new result (S.told site.old) (S.told site.new) }
+    ensures rows { OwnTo collector.old agent.old collector.new agent.new result (S.told site.old) (S.told site.new) }
     ensures free { OnOk result (HasFree 1 agent.old agent.new) }
     ensures sends { OnOk result (SendsOn agent.old agent.new (S.told site.old) (S.told site.new)) }
     ensures same { IsSameStart collector.old collector.new }
@@ -71,6 +73,7 @@ pub(crate) fn commit_rows<S: Site>(
     requires address { agent.old.delivery.ring.addresses ≡ self_address ∷ [] }
     requires few { wanted ≤ agent.old.delivery.table.room }
     ensures joint { JointTo collector.old agent.old collector.new agent.new result (S.told site.old) (S.told site.new) }
+    ensures rows { OwnTo collector.old agent.old collector.new agent.new result (S.told site.old) (S.told site.new) }
     ensures free { OnOk result (HasFree wanted agent.old agent.new) }
     ensures sends { OnOk result (SendsOn agent.old agent.new (S.told site.old) (S.told site.new)) }
     ensures same { IsSameStart collector.old collector.new }
@@ -101,6 +104,7 @@ fn poll_until_free<S: Site>(
     requires few { wanted ≤ agent.old.delivery.table.room }
     requires committed { HasCommitted collector.old }
     ensures joint { JointTo collector.old agent.old collector.new agent.new result (S.told site.old) (S.told site.new) }
+    ensures rows { OwnTo collector.old agent.old collector.new agent.new result (S.told site.old) (S.told site.new) }
     ensures free { OnOk result (HasFree wanted agent.old agent.new) }
     ensures sends { OnOk result (SendsOn agent.old agent.new (S.told site.old) (S.told site.new)) }
     ensures same { IsSameStart collector.old collector.new }

@@ -9,6 +9,7 @@ ghost use Rattle.chk_delivery.specs.States.{free_rows};
 ghost use Rattle.chk_round.specs.Faults.{FailsInside, RoundCause};
 ghost use Rattle.chk_round.specs.Joint.{JointTo};
 ghost use Rattle.chk_round.specs.Lengths.{LengthCause};
+ghost use Rattle.chk_round.specs.OwnRows.{OwnTo};
 ghost use Rattle.chk_round.specs.Scripts.{IsNoRead};
 ghost use Rattle.chk_round.specs.Polling.{PostedAll, PostedSome};
 ghost use Rattle.chk_round.specs.Sending.{SendsOn};
@@ -36,6 +37,7 @@ pub(crate) fn post_rest<S: Site>(
     requires ready { agent.old.ready ≡ true }
     requires address { agent.old.delivery.ring.addresses ≡ self_address ∷ [] }
     ensures joint { JointTo collector.old agent.old collector.new agent.new result (S.told site.old) (S.told site.new) }
+    ensures rows { OwnTo collector.old agent.old collector.new agent.new result (S.told site.old) (S.told site.new) }
     ensures all { OnOk result (PostedAll agent.old agent.new) }
     ensures sends { OnOk result (SendsOn agent.old agent.new (S.told site.old) (S.told site.new)) }
     ensures same { IsSameStart collector.old collector.new }
@@ -66,6 +68,7 @@ pub(crate) fn post_next<S: Site>(
     requires address { agent.old.delivery.ring.addresses ≡ self_address ∷ [] }
     requires some { agent.old.delivery.queue.chunks ≢ [] }
     ensures joint { JointTo collector.old agent.old collector.new agent.new result (S.told site.old) (S.told site.new) }
+    ensures rows { OwnTo collector.old agent.old collector.new agent.new result (S.told site.old) (S.told site.new) }
     ensures some { OnOk result (PostedSome agent.old agent.new) }
     ensures sends { OnOk result (SendsOn agent.old agent.new (S.told site.old) (S.told site.new)) }
     ensures same { IsSameStart collector.old collector.new }

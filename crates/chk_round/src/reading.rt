@@ -14,6 +14,7 @@ ghost use Rattle.chk_round.specs.Following.{KeepsLogs};
 ghost use Rattle.chk_round.specs.Joint.{AreIn, BothAt};
 ghost use Rattle.chk_round.specs.Reading.{AfterReadOut, IsGrowing, IsShrank, ReadOn, ReadsAll, ReadsOn};
 ghost use Rattle.chk_round.specs.Lengths.{LengthCause};
+ghost use Rattle.chk_round.specs.OwnRows.{OwnTo};
 ghost use Rattle.chk_round.specs.Scripts.{ReadsEach, ReadsOut};
 ghost use Rattle.chk_round.specs.Sending.{SendsOthers};
 ghost use Rattle.chk_round.specs.Calls.{RoundCalls};
@@ -44,6 +45,7 @@ pub(crate) fn read_all<S: Site>(
     ensures read { (stamped : List (List ℕ)) (started acting : List Person) → AreIn started acting collector.old agent.old
         → Adds (S.told site.old) (S.told site.new)
         (ReadsAll stamped started acting collector.old agent.old collector.new agent.new result) }
+    ensures rows { OwnTo collector.old agent.old collector.new agent.new result (S.told site.old) (S.told site.new) }
     ensures script { ReadsEach reads 0 agent.old result agent.new
         (S.told site.old) (S.told site.new) }
     ensures on { OnOk result (ReadsOn agent.old agent.new) }
@@ -86,6 +88,7 @@ fn read_out<S: Site>(
     ensures read { (stamped : List (List ℕ)) (started acting : List Person) → AreIn started acting collector.old agent.old
         → Adds (S.told site.old) (S.told site.new) (Leads (Together stamped started acting)
         (BothAt stamped collector.old agent.old) (AfterReadOut stamped adaptor collector.new agent.new result)) }
+    ensures rows { OwnTo collector.old agent.old collector.new agent.new result (S.told site.old) (S.told site.new) }
     ensures script { ReadsOut adaptor reads 0 agent.old result agent.new
         (S.told site.old) (S.told site.new) }
     ensures on { OnOk result (ReadOn adaptor agent.old agent.new) }

@@ -82,7 +82,8 @@ EndsByCall result added history = Unit {0}
 
 -- The history is legal. Nothing of the program's own is ever damaged, no log is shorter than what was
 -- read of it, the agent gets the replies that were made, where numbers are spent it is said which, and
--- a length ends it that was told by the last poll.
+-- a length ends it that was told by the last poll, of a sink of `c1` that was given up,
+-- since one of its start was full.
 abbrev pub AfterRun : List (List ℕ) → Result (Unit {0}) RoundEnd → History → Type 0
 AfterRun stamped (Err (Fault (Damaged name at))) history = OnlyStopped stamped history
 AfterRun stamped (Err (Fault (Checkpoint at))) history = OnlyStopped stamped history

@@ -27,7 +27,8 @@ use Rattle.chukwa_run.specs.Whole.{Whole}
 
 -- a log gave bytes at each of the stated reads; a sink of another collector was under writing at the
 -- listing, and all else was done and told; numbers of starts, of sinks or of segments are spent; the
--- last poll gave a length below an answered offset, of a sink that was given up or is gone
+-- last poll gave a length below an answered offset, of a sink of `c1` that was given up, since one
+-- of its start was full
 abbrev pub LeftOfRound : RoundAsked → History → Ending → History → Type 0
 LeftOfRound w earlier (Growing path reads) added = IsRoundCut w (rounds.Growing path reads) earlier added
 LeftOfRound w earlier (Unclosed name) added =

@@ -71,7 +71,8 @@ pub record LoadCut (lines : ℕ) (earlier : History) (e : Ending) (added : Histo
 -- In a legal history nothing of the program's own is damaged, no log is shorter than what was read of
 -- it, and the agent gets the replies that were made. A sink of another collector under writing ends
 -- only a load that is done. Where a number is spent it is that of the collector's starts, of its sinks
--- or of the archive's segments. A length was told by the last poll.
+-- or of the archive's segments. A length was told by the last poll, of a sink of `c1` that was given
+-- up, since one of its start was full.
 abbrev pub LoadFits : ℕ → History → Ending → History → Type 0
 LoadFits lines earlier (Damaged name at) added = ⊥
 LoadFits lines earlier (Refused code) added = ⊥

@@ -74,8 +74,9 @@ RoundCut w earlier (Refused code) added = IsRoundCut w (rounds.Refused code) ear
 
 -- In a legal history nothing of its own is damaged, no log is shorter than what was read of it, and the
 -- agent gets the replies that were made. Where a number is spent it is that of the collector's starts,
--- of its sinks or of the archive's segments. A length was told by the last poll. Where another
--- collector's sink is under writing, all else was done and told.
+-- of its sinks or of the archive's segments. A length was told by the last poll, of a sink of `c1` that
+-- was given up, since one of its start was full. Where another collector's sink is under writing,
+-- all else was done and told.
 abbrev pub RoundFits : RoundAsked → History → Ending → History → Type 0
 RoundFits w earlier (Damaged name at) added = ⊥
 RoundFits w earlier (Refused code) added = ⊥

@@ -4,6 +4,7 @@ use Rattle.std.proofs.lemmas.Result.{err_from_is_err_and}
 use Rattle.chk_exchange.specs.Exchanges.{PostsInside}
 use Rattle.chk_exchange.specs.Faults.{ServedCause}
 use Rattle.chk_exchange.proofs.Lasting.{last_then}
+use Rattle.chk_exchange.proofs.OwnRows.{ends_own}
 use Rattle.chk_exchange.proofs.Posting.{closes_so, end_keeps, ends_so, post_is_out, sends_keep, sends_last, sends_outside, sent_message, sent_so}
 use Rattle.chk_exchange.proofs.Ways.{serves_last}
 use Rattle.chk_exchange.proofs.Ending.{serves_outside}
@@ -149,3 +150,18 @@ pub returns-clause-address : goal.returns-clause-address
 returns-clause-address g c =
     let sends = c.in_ok-send_post.ensures.script in
     same_addresses (end_keeps sends c.end_post.ensures.script) ∙ same_addresses (sends_keep sends)
+
+pub returns-clause-rows : goal.returns-clause-rows
+returns-clause-rows g c =
+    let s = c.args.collector.now in
+    let u = c.serve.new.collector in
+    let a = c.args.agent.now in
+    let b = c.send_post.new.agent in
+    let sends = c.in_ok-send_post.ensures.script in
+    ends_own c.args.who.now c.args.now s u a b c.end_post.new.agent c.in_ok-made.made c.requires.started
+    c.in_ok-made.ensures.same sends
+    (λ stamped started acting in_c in_a acts_c acts_a.
+    served_told stamped started acting s u a b c.requires.address in_c in_a acts_c acts_a
+    c.in_ok-send_post.ensures.sound (sent_message sends) (c.in_ok-send_post.ensures.told stamped)
+    _ (Ok c.in_ok-made.made) (c.in_ok-made.ensures.told stamped started acting b))
+    c.end_post.ensures.told (ends_so sends c.end_post.ensures.script)

@@ -9,6 +9,7 @@ use Rattle.chk_round.proofs.Delivers.{agent_call, delivered, delivered_logs, set
 use Rattle.chk_round.proofs.Ends.{agent_cause, agent_last, late_cause}
 use Rattle.chk_round.proofs.Joining.{joint_then, still_c}
 use Rattle.chk_round.proofs.NonePast.{quiet_none_past, sends_then}
+use Rattle.chk_round.proofs.OwnRows.{own_plain, own_then}
 use Rattle.chk_round.proofs.Polls.{starts_then}
 use Rattle.chk_round.proofs.Lasting.{inside_late, last_inside, went_then}
 use Rattle.chk_round.proofs.NoRead.{agent_no_read, agent_plain, length_late, plain_length}
@@ -212,3 +213,26 @@ returns-in_err-_settled-clause-acts g c =
 pub returns-clause-acts : goal.returns-clause-acts
 returns-clause-acts g c =
     acts_then (acts_then c.post_rest.ensures.acts c.commit_rows.ensures.acts) (settle_acts c.in_ok-_settled.ensures.state)
+
+pub returns-in_err-post_rest-clause-rows : goal.returns-in_err-post_rest-clause-rows
+returns-in_err-post_rest-clause-rows g c =
+    let p = err_from_is_err_and c.from_residual.result c.from_residual.ensures.1 in
+    rw (p.1, p.2) (c.in_err-post_rest.ensures.rows)
+
+pub returns-in_err-commit_rows-clause-rows : goal.returns-in_err-commit_rows-clause-rows
+returns-in_err-commit_rows-clause-rows g c =
+    let p = err_from_is_err_and c.from_residual-in_err-commit_rows.result c.from_residual-in_err-commit_rows.ensures.1 in
+    rw (p.1, p.2)
+    (own_then c.args.collector.now c.post_rest.new.collector c.commit_rows.new.collector c.args.agent.now c.post_rest.new.agent
+    c.commit_rows.new.agent (Err c.in_err-commit_rows.field-0.0) c.post_rest.ensures.same.collector
+    c.in_ok-post_rest.ensures.all.same.source c.in_ok-post_rest.ensures.rows c.in_ok-post_rest.ensures.joint
+    c.in_err-commit_rows.ensures.rows)
+
+pub returns-in_err-_settled-clause-rows : goal.returns-in_err-_settled-clause-rows
+returns-in_err-_settled-clause-rows g c =
+    let p = err_from_is_err_and c.from_residual-in_err-_settled.result c.from_residual-in_err-_settled.ensures.1 in
+    rw (p.1, p.2)
+    (own_plain c.args.collector.now c.commit_rows.new.collector c.args.agent.now c.settle.new.self
+    (of_agent c.in_err-_settled.field-0.0)
+    (acts_then (acts_then c.post_rest.ensures.acts c.commit_rows.ensures.acts) (settle_acts c.in_err-_settled.ensures.state))
+    (agent_plain c.in_err-_settled.field-0.0))

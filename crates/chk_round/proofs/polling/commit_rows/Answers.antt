@@ -6,6 +6,7 @@ use Rattle.chk_round.specs.Lengths.{HasCommitted}
 use Rattle.chk_round.proofs.Lengths.{ticked_all}
 use Rattle.chk_round.proofs.Ends.{later_cause, sinks_last}
 use Rattle.chk_round.proofs.Joining.{joint_then, tick_ends, tick_goes}
+use Rattle.chk_round.proofs.OwnRows.{own_plain, own_then, own_tick}
 use Rattle.chk_round.proofs.Polls.{starts_then}
 use Rattle.chk_round.proofs.NonePast.{quiet_none_past}
 use Rattle.chk_round.proofs.Sent.{on_ok, sends_on_then}
@@ -82,3 +83,19 @@ returns-in_err-tick-clause-acts g c = tick_acts c.args.collector.now c.tick.ensu
 
 pub returns-clause-acts : goal.returns-clause-acts
 returns-clause-acts g c = acts_then (tick_acts c.args.collector.now c.tick.ensures.own) c.poll_until_free.ensures.acts
+
+pub returns-in_err-tick-clause-rows : goal.returns-in_err-tick-clause-rows
+returns-in_err-tick-clause-rows g c stamped started acting run =
+    let p = err_from_is_err_and c.from_residual.result c.from_residual.ensures.1 in
+    rw (p.1, p.2)
+    (own_plain c.args.collector.now c.tick.new.self c.args.agent.now c.args.agent.now (of_sinks c.in_err-tick.field-0.0)
+    (c.in_err-tick.ensures.told [])
+    (sinks_plain c.in_err-tick.field-0.0) stamped started acting run)
+
+pub returns-clause-rows : goal.returns-clause-rows
+returns-clause-rows g c =
+    own_then c.args.collector.now c.tick.new.self c.poll_until_free.new.collector c.args.agent.now c.args.agent.now
+    c.poll_until_free.new.agent c.poll_until_free.result c.tick.ensures.same.collector refl
+    (own_tick c.args.collector.now c.tick.new.self c.args.agent.now c.tick.ensures.same (c.in_ok-tick.ensures.told []))
+    (tick_goes c.args.collector.now c.tick.new.self c.args.agent.now c.ready-sound.ensures.sound c.tick.ensures.same.collector
+    c.args.now c.in_ok-tick.ensures.ok c.in_ok-tick.ensures.closes c.in_ok-tick.ensures.told) c.poll_until_free.ensures.rows

@@ -5,7 +5,8 @@ use Rattle.chk_round.specs.declared.faults.RoundFault.{RoundFault}
 use Rattle.chk_round.specs.Faults.{RoundCause}
 use Rattle.chk_round.proofs.Ends.{late_cause}
 use Rattle.chk_round.proofs.LastPolls.{until_ends}
-use Rattle.chk_round.proofs.Polls.{may_ask, polling_none, starts_then, talked_more}
+use Rattle.chk_round.proofs.OwnRows.{own_once, own_polls}
+use Rattle.chk_round.proofs.Polls.{may_ask, polling_none, starts_then, talked_more, talked_own}
 use Rattle.chk_round.proofs.Lasting.{inside_late, went}
 use Rattle.chk_round.specs.Lengths.{PollsOn}
 use Rattle.chk_round.proofs.Lengths.{once_length}
@@ -60,7 +61,10 @@ polls-preserved g c =
     record {
       talked = talked_more c.polls.invariant.talked c.poll_whole.new.collector c.poll_whole.new.agent
           (g.S.Site.fault_count c.poll_whole.new.site) c.in_ok-poll_whole.ensures.joint c.poll_whole.ensures.same all.same
-          c.in_ok-poll_whole.ensures.sends c.in_ok-poll_whole.ensures.acts c.in_ok-poll_whole.ensures.cause;
+          c.in_ok-poll_whole.ensures.sends c.in_ok-poll_whole.ensures.acts
+          (own_polls c.args.collecting.now c.polls.collector c.poll_whole.new.collector c.polls.agent c.poll_whole.new.agent
+          (PollsOn.goes_on PollsOn.begins c.in_ok-poll_whole.ensures.polls) c.poll_whole.ensures.same c.in_ok-poll_whole.ensures.acts)
+          c.in_ok-poll_whole.ensures.cause;
       queue = all.queue ∙ c.polls.invariant.queue;
       on = PollsOn.goes_on c.polls.invariant.on c.in_ok-poll_whole.ensures.polls;
     }
@@ -115,3 +119,16 @@ returns-in_err-poll_whole-clause-acts g c = acts_then c.polls.invariant.talked.a
 
 pub returns-clause-acts : goal.returns-clause-acts
 returns-clause-acts g c = c.polls.invariant.talked.acts
+
+pub returns-in_err-poll_whole-clause-rows : goal.returns-in_err-poll_whole-clause-rows
+returns-in_err-poll_whole-clause-rows g c stamped started acting run =
+    let p = err_from_is_err_and c.from_residual.result c.from_residual.ensures.1 in
+    rw (p.1, p.2)
+    (talked_own c.polls.invariant.talked c.poll_whole.new.collector c.poll_whole.new.agent 0
+    (Err c.in_err-poll_whole.field-0.0)
+    (own_once c.args.collecting.now c.polls.collector c.polls.collector c.polls.agent c.polls.agent PollsOn.begins
+    c.poll_whole.new.collector c.poll_whole.new.agent c.poll_whole.ensures.same c.in_err-poll_whole.field-0.0
+    c.in_err-poll_whole.ensures.polls c.in_err-poll_whole.ensures.acts) stamped started acting run)
+
+pub returns-clause-rows : goal.returns-clause-rows
+returns-clause-rows g c = c.polls.invariant.talked.rows

@@ -6,6 +6,7 @@ use Rattle.chk_round.specs.Faults.{of_exchange}
 use Rattle.chk_round.proofs.Inside.{posted_some}
 use Rattle.chk_round.proofs.Joining.{exchange_ends, exchange_goes, joint_then, still_c}
 use Rattle.chk_round.proofs.KeptInside.{post_keeps_by}
+use Rattle.chk_round.proofs.OwnRows.{own_plain, own_posted, own_then}
 use Rattle.chk_round.proofs.Posts.{posted_then}
 use Rattle.chk_round.proofs.Sent.{post_sends, sends_on_then}
 use Rattle.chk_round.proofs.Spending.{post_tells}
@@ -104,3 +105,27 @@ returns-clause-acts g c =
     acts_then c.make_room.ensures.acts
     (post_acts (ap (λ (w : Who). w.role) c.requires.started)
     (c.in_ok-make_room.ensures.free.same.rest.addresses ∙ c.requires.address) c.post_inside.ensures.script)
+
+pub returns-in_err-make_room-clause-rows : goal.returns-in_err-make_room-clause-rows
+returns-in_err-make_room-clause-rows g c stamped started acting run =
+    let p = err_from_is_err_and c.from_residual.result c.from_residual.ensures.1 in
+    rw (p.1, p.2) (c.in_err-make_room.ensures.rows stamped started acting run)
+
+pub returns-in_err-post_inside-clause-rows : goal.returns-in_err-post_inside-clause-rows
+returns-in_err-post_inside-clause-rows g c stamped started acting run =
+    let p = err_from_is_err_and c.from_residual-in_err-post_inside.result c.from_residual-in_err-post_inside.ensures.1 in
+    rw (p.1, p.2)
+    (own_plain c.args.collector.now c.post_inside.new.collector c.args.agent.now c.post_inside.new.agent
+    (of_exchange c.in_err-post_inside.field-0.0)
+    (went_then c.in_ok-make_room.ensures.last c.in_err-post_inside.ensures.last)
+    (exchange_plain c.in_err-post_inside.field-0.0) stamped started acting run)
+
+pub returns-clause-rows : goal.returns-clause-rows
+returns-clause-rows g c =
+    own_then c.args.collector.now c.make_room.new.collector c.post_inside.new.collector c.args.agent.now c.make_room.new.agent
+    c.post_inside.new.agent (Ok tt) c.make_room.ensures.same.collector c.in_ok-make_room.ensures.free.same.source
+    c.in_ok-make_room.ensures.rows c.in_ok-make_room.ensures.joint
+    (own_posted c.args.collecting.now c.make_room.new.collector c.post_inside.new.collector c.make_room.new.agent
+    c.post_inside.new.agent
+    (still_c c.args.collecting.now c.args.collector.now c.make_room.new.collector c.requires.started c.make_room.ensures.same.collector)
+    c.in_ok-post_inside.ensures.rows)

@@ -1,6 +1,6 @@
 use Rattle.std.proofs.Common.{Err}
 use Rattle.std.proofs.lemmas.Result.{err_from_is_err_and}
-use Rattle.chk_round.proofs.Polls.{talked_ends, talked_more, talked_none}
+use Rattle.chk_round.proofs.Polls.{talked_ends, talked_more, talked_none, talked_own}
 use Rattle.chk_round.proofs.Acts.{acts_then}
 use Rattle.chk_round.proofs.Lasting.{inside_late, went}
 use Rattle.chk_round.proofs.NoRead.{length_late}
@@ -14,7 +14,8 @@ pub posts-preserved : goal.posts-preserved
 posts-preserved g c =
     talked_more c.posts.invariant c.post_next.new.collector c.post_next.new.agent
     (g.S.Site.fault_count c.post_next.new.site) c.in_ok-post_next.ensures.joint c.post_next.ensures.same
-    c.in_ok-post_next.ensures.some.same c.in_ok-post_next.ensures.sends c.in_ok-post_next.ensures.acts c.in_ok-post_next.ensures.cause
+    c.in_ok-post_next.ensures.some.same c.in_ok-post_next.ensures.sends c.in_ok-post_next.ensures.acts c.in_ok-post_next.ensures.rows
+    c.in_ok-post_next.ensures.cause
 
 pub returns-in_err-post_next-clause-joint : goal.returns-in_err-post_next-clause-joint
 returns-in_err-post_next-clause-joint g c stamped started acting run =
@@ -49,3 +50,13 @@ returns-in_err-post_next-clause-acts g c = acts_then c.posts.invariant.acts c.in
 
 pub returns-clause-acts : goal.returns-clause-acts
 returns-clause-acts g c = c.posts.invariant.acts
+
+pub returns-in_err-post_next-clause-rows : goal.returns-in_err-post_next-clause-rows
+returns-in_err-post_next-clause-rows g c stamped started acting run =
+    let p = err_from_is_err_and c.from_residual.result c.from_residual.ensures.1 in
+    rw (p.1, p.2)
+    (talked_own c.posts.invariant c.post_next.new.collector c.post_next.new.agent 0
+    (Err c.in_err-post_next.field-0.0) c.in_err-post_next.ensures.rows stamped started acting run)
+
+pub returns-clause-rows : goal.returns-clause-rows
+returns-clause-rows g c = c.posts.invariant.rows

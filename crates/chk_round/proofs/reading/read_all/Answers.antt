@@ -6,7 +6,7 @@ use Rattle.chk_agent.proofs.FillingOn.{read_one}
 use Rattle.chk_round.specs.declared.faults.RoundFault.{RoundFault}
 use Rattle.chk_round.specs.Faults.{RoundCause}
 use Rattle.chk_round.proofs.Ends.{late_cause}
-use Rattle.chk_round.proofs.Logs.{all_read, each_next, each_of, each_skips, reading_begun, reading_ends, reading_next, reading_skips}
+use Rattle.chk_round.proofs.Logs.{all_read, each_next, each_of, each_skips, reading_begun, reading_ends, reading_next, reading_own, reading_skips}
 use Rattle.chk_round.proofs.Polls.{starts_then}
 use Rattle.chk_round.proofs.Acts.{acts_then}
 use Rattle.chk_round.proofs.Lasting.{inside_late, went}
@@ -70,6 +70,7 @@ loop-adaptor-preserved g c =
           (each_of (reading_next c.loop-adaptor.adaptor c.args.collector.now c.loop-adaptor.collector c.args.agent.now c.loop-adaptor.agent
           c.loop-adaptor.invariant.so w.read_out.new.collector w.read_out.new.agent (Ok tt) w.in_ok-read_out.ensures.read refl
           w.in_ok-read_out.ensures.on w.in_ok-read_out.ensures.sends w.in_ok-read_out.ensures.live w.in_ok-read_out.ensures.acts
+          w.in_ok-read_out.ensures.rows
           c.args.reads w.in_ok-read_out.ensures.script (sym w.if-is_read_on.ensures) w.read_out.ensures.same (g.S.Site.fault_count w.read_out.new.site)
           w.in_ok-read_out.ensures.cause)
           (each_next c.args.reads c.loop-adaptor.adaptor c.args.agent.now c.loop-adaptor.agent w.read_out.new.agent
@@ -132,3 +133,14 @@ returns-in_err-read_out-clause-acts g c = acts_then c.loop-adaptor.invariant.so.
 
 pub returns-clause-acts : goal.returns-clause-acts
 returns-clause-acts g c = c.loop-adaptor.invariant.so.acts
+
+pub returns-in_err-read_out-clause-rows : goal.returns-in_err-read_out-clause-rows
+returns-in_err-read_out-clause-rows g c stamped started acting run =
+    let p = err_from_is_err_and c.from_residual.result c.from_residual.ensures.1 in
+    rw (p.1, p.2)
+    (reading_own c.loop-adaptor.adaptor c.args.collector.now c.loop-adaptor.collector c.args.agent.now c.loop-adaptor.agent
+    c.loop-adaptor.invariant.so c.read_out.new.collector c.read_out.new.agent (Err c.in_err-read_out.field-0.0)
+    c.in_err-read_out.ensures.rows stamped started acting run)
+
+pub returns-clause-rows : goal.returns-clause-rows
+returns-clause-rows g c = c.loop-adaptor.invariant.so.rows

@@ -1,11 +1,12 @@
 use Rattle.std.proofs.Common.{Ok, Err, ap, ◌∙◌, refl, arith}
 use Rattle.std.proofs.lemmas.Result.{err_from_is_err_and}
 use Rattle.chk_drain.proofs.ReadingOn.{held_some}
-use Rattle.chk_round.proofs.Stepping.{ended_lives, ended_on, ended_script, ended_sends, grown_script, shrank_script, unposted_script, unread_script, growing_cause, growing_legal, held_ends, held_is, held_next, held_smaller, held_so, read_smaller, reading_ended, reading_fails, reading_none, reading_read, reading_shrinks, reading_stops, shrank_cause, stepped_acts, still_there}
+use Rattle.chk_round.proofs.Stepping.{ended_lives, ended_on, held_own, own_stepped, ended_script, ended_sends, grown_script, shrank_script, unposted_script, unread_script, growing_cause, growing_legal, held_ends, held_is, held_next, held_smaller, held_so, read_smaller, reading_ended, reading_fails, reading_none, reading_read, reading_shrinks, reading_stops, shrank_cause, stepped_acts, still_there}
 use Rattle.chk_agent.specs.declared.answers.Stepped.{Stepped}
 use Rattle.chk_round.specs.Faults.{of_agent}
 use Rattle.chk_round.proofs.Ends.{agent_last}
 use Rattle.chk_round.proofs.Lasting.{went, growing_inside, inside_late, last_inside, shrank_inside}
+use Rattle.chk_round.proofs.OwnRows.{own_growing, own_plain, own_shrank}
 use Rattle.chk_round.proofs.NoRead.{agent_plain, growing_length, length_late, plain_length, shrank_length}
 use Rattle.chk_round.proofs.Acts.{acts_then}
 use Rattle.chk_round.proofs.reading.read_out.Goals as goal
@@ -60,6 +61,7 @@ reads-smaller-in-Continue-branch-2 g c =
     c.in-Held.used (ap Ok c.in-Held.is) c.post_next.new.collector c.post_next.new.agent
     c.in_ok-post_next-in-Held.ensures.joint c.post_next.ensures.same c.in_ok-post_next-in-Held.ensures.some
     c.free_rows-free.ensures.sound c.in_ok-post_next-in-Held.ensures.sends c.in_ok-post_next-in-Held.ensures.acts
+    c.in_ok-post_next-in-Held.ensures.rows
 
 pub reads-preserved-in-Continue-branch-2 : goal.reads-preserved-in-Continue-branch-2
 reads-preserved-in-Continue-branch-2 g c =
@@ -68,6 +70,7 @@ reads-preserved-in-Continue-branch-2 g c =
     c.in-Held.used (ap Ok c.in-Held.is) c.post_next.new.collector c.post_next.new.agent
     c.in_ok-post_next-in-Held.ensures.joint c.post_next.ensures.same c.in_ok-post_next-in-Held.ensures.some
     c.free_rows-free.ensures.sound c.in_ok-post_next-in-Held.ensures.sends c.in_ok-post_next-in-Held.ensures.acts
+    c.in_ok-post_next-in-Held.ensures.rows
     (g.S.Site.fault_count c.post_next.new.site)
     (let one = c.in_ok-step.ensures.cause in let two = c.in_ok-post_next-in-Held.ensures.cause in omega (arith, one, two))
 
@@ -250,3 +253,40 @@ returns-in_err-post_next-in-Held-clause-acts g c =
     (stepped_acts c.args.adaptor c.reads.count c.args.reads c.args.collector.now c.reads.collector c.args.agent.now c.reads.agent
     c.reads.invariant c.step.new.self (Ok c.in_ok-step.step) c.in_ok-step.ensures.told c.in_ok-step.ensures.state)
     c.in_err-post_next-in-Held.ensures.acts
+
+pub returns-in_err-step-clause-rows : goal.returns-in_err-step-clause-rows
+returns-in_err-step-clause-rows g c stamped started acting run =
+    let p = err_from_is_err_and c.from_residual.result c.from_residual.ensures.1 in
+    rw (p.1, p.2)
+    (own_plain c.args.collector.now c.reads.collector c.args.agent.now c.step.new.self (of_agent c.in_err-step.field-0.0)
+    (stepped_acts c.args.adaptor c.reads.count c.args.reads c.args.collector.now c.reads.collector c.args.agent.now c.reads.agent
+    c.reads.invariant c.step.new.self (Err c.in_err-step.field-0.0) c.in_err-step.ensures.told c.in_err-step.ensures.state)
+    (agent_plain c.in_err-step.field-0.0) stamped started acting run)
+
+pub returns-in-AtEnd-clause-rows : goal.returns-in-AtEnd-clause-rows
+returns-in-AtEnd-clause-rows g c =
+    own_stepped c.args.adaptor c.reads.count c.args.reads c.args.collector.now c.reads.collector c.args.agent.now c.reads.agent
+    c.reads.invariant c.step.new.self (Ok c.in_ok-step.step) c.in_ok-step.ensures.told c.in_ok-step.ensures.state
+
+pub returns-in_err-post_next-in-Held-clause-rows : goal.returns-in_err-post_next-in-Held-clause-rows
+returns-in_err-post_next-in-Held-clause-rows g c stamped started acting run =
+    let p = err_from_is_err_and c.from_residual-in_err-post_next-in-Held.result c.from_residual-in_err-post_next-in-Held.ensures.1 in
+    rw (p.1, p.2)
+    (held_own c.args.adaptor c.reads.count c.args.reads c.args.collector.now c.reads.collector c.args.agent.now c.reads.agent
+    c.reads.invariant c.step.new.self (Ok c.in_ok-step.step) c.in_ok-step.ensures.told c.in_ok-step.ensures.state
+    c.in-Held.used (ap Ok c.in-Held.is) c.post_next.new.collector c.post_next.new.agent
+    (Err c.in_err-post_next-in-Held.field-0.0) c.in_err-post_next-in-Held.ensures.rows stamped started acting run)
+
+pub returns-then-count-reads-clause-rows : goal.returns-then-count-reads-clause-rows
+returns-then-count-reads-clause-rows g c =
+    own_growing c.args.collector.now c.reads.collector c.args.agent.now c.step.new.self c.growing.result
+    (stepped_acts c.args.adaptor c.reads.count c.args.reads c.args.collector.now c.reads.collector c.args.agent.now c.reads.agent
+    c.reads.invariant c.step.new.self (Ok c.in_ok-step.step) c.in_ok-step.ensures.told c.in_ok-step.ensures.state)
+    c.growing.ensures.kind.1
+
+pub returns-in-Shrank-clause-rows : goal.returns-in-Shrank-clause-rows
+returns-in-Shrank-clause-rows g c =
+    own_shrank c.args.collector.now c.reads.collector c.args.agent.now c.step.new.self c.shrank.result
+    (stepped_acts c.args.adaptor c.reads.count c.args.reads c.args.collector.now c.reads.collector c.args.agent.now c.reads.agent
+    c.reads.invariant c.step.new.self (Ok c.in_ok-step.step) c.in_ok-step.ensures.told c.in_ok-step.ensures.state)
+    c.shrank.ensures.kind.1

@@ -1,11 +1,13 @@
-use Rattle.std.proofs.Common.{inl, inr, Result, Err, ap, sym, ◌∙◌, subst, arith}
+use Rattle.std.proofs.Common.{inl, inr, Result, Ok, Err, ap, sym, ◌∙◌, subst, arith}
 use Rattle.std.proofs.lemmas.Result.{err_from_is_err_and}
 use Rattle.chk_archive.specs.declared.report.Report.{Report}
 use Rattle.chk_round.specs.declared.faults.RoundFault.{RoundFault}
 use Rattle.chk_round.specs.Faults.{RoundCause}
 use Rattle.chk_round.proofs.Ends.{late_cause}
-use Rattle.chk_round.proofs.Joining.{in_on, still_c}
-use Rattle.chk_round.proofs.Whole.{close_ends, delivery_ends, reads_end, reads_given, round_ends, were_read}
+use Rattle.chk_round.proofs.Joining.{in_on, joint_then, still_c}
+use Rattle.chk_round.proofs.OwnRows.{own_then}
+use Rattle.chk_round.proofs.Polls.{starts_then}
+use Rattle.chk_round.proofs.Whole.{close_ends, joint_ends, reads_given, reads_joint, round_ends, were_read}
 use Rattle.chk_round.proofs.Lasting.{inside_late, last_inside, went_none, went_then}
 use Rattle.chk_round.proofs.NoRead.{length_late, plain_length, plain_no_read}
 use Rattle.chk_round.proofs.Acts.{acts_then}
@@ -24,8 +26,10 @@ pub returns-in_err-read_all-clause-told : goal.returns-in_err-read_all-clause-to
 returns-in_err-read_all-clause-told g c stamped started acting run j_in j_acts steady =
     let p = err_from_is_err_and c.from_residual.result c.from_residual.ensures.1 in
     rw (p.1, p.2)
-    (reads_end stamped started acting c.args.collector.now c.args.agent.now c.read_all.new.collector c.read_all.new.agent
-    c.read_all.ensures.same.collector c.in_err-read_all.field-0.0 (c.in_err-read_all.ensures.read stamped started acting run))
+    (joint_ends stamped started acting c.args.collector.now c.args.agent.now run j_in c.read_all.new.collector c.read_all.new.agent
+    c.read_all.ensures.same c.in_err-read_all.field-0.0
+    (reads_joint c.args.collector.now c.args.agent.now c.read_all.new.collector c.read_all.new.agent
+    (Err c.in_err-read_all.field-0.0) c.in_err-read_all.ensures.read) c.in_err-read_all.ensures.rows)
 
 pub returns-in_err-read_all-clause-cause : goal.returns-in_err-read_all-clause-cause
 returns-in_err-read_all-clause-cause g c =
@@ -49,11 +53,19 @@ deliver-requires g c =
 pub returns-in_err-deliver-clause-told : goal.returns-in_err-deliver-clause-told
 returns-in_err-deliver-clause-told g c stamped started acting run j_in j_acts steady =
     let p = err_from_is_err_and c.from_residual-in_err-deliver.result c.from_residual-in_err-deliver.ensures.1 in
+    let s = c.args.collector.now in
+    let a = c.args.agent.now in
+    let t = c.read_all.new.collector in
+    let b = c.read_all.new.agent in
+    let u = c.deliver.new.collector in
+    let joint = reads_joint s a t b (Ok tt) c.in_ok-read_all.ensures.read in
     rw (p.1, p.2)
-    (delivery_ends stamped started acting c.args.collector.now c.args.agent.now run c.read_all.new.collector c.read_all.new.agent
-    c.read_all.ensures.same.collector c.in_ok-read_all.ensures.on (c.in_ok-read_all.ensures.read stamped started acting run)
-    c.deliver.new.collector c.deliver.new.agent c.deliver.ensures.same.collector c.in_err-deliver.field-0.0
-    c.in_err-deliver.ensures.joint)
+    (joint_ends stamped started acting s a run j_in u c.deliver.new.agent
+    (starts_then s t u c.read_all.ensures.same c.deliver.ensures.same) c.in_err-deliver.field-0.0
+    (joint_then s t u a b c.deliver.new.agent (Err c.in_err-deliver.field-0.0) c.read_all.ensures.same.collector
+    c.in_ok-read_all.ensures.on.source joint c.in_err-deliver.ensures.joint)
+    (own_then s t u a b c.deliver.new.agent (Err c.in_err-deliver.field-0.0) c.read_all.ensures.same.collector
+    c.in_ok-read_all.ensures.on.source c.in_ok-read_all.ensures.rows joint c.in_err-deliver.ensures.rows))
 
 pub returns-in_err-deliver-clause-cause : goal.returns-in_err-deliver-clause-cause
 returns-in_err-deliver-clause-cause g c =

@@ -132,6 +132,8 @@ returns-in_err-report-clause-told g c stamped started acting run =
       ready = so.ready;
       addresses = so.addresses;
       steady = so.steady;
+      rows = so.rows;
+      number = so.number;
     }) c.in_ok-reading.reading.name (c.in_ok-pair.ensures.told stamped started) (sym name)
     (Err c.in_err-report.field-0.0) (c.in_err-report.ensures.told stamped started acting))
 
@@ -153,6 +155,8 @@ returns-clause-told g c stamped started acting run =
       ready = so.ready;
       addresses = so.addresses;
       steady = so.steady;
+      rows = so.rows;
+      number = so.number;
     }) c.in_ok-reading.reading.name (c.in_ok-pair.ensures.told stamped started) (sym name)
     (Ok c.in_ok-report.report) (c.in_ok-report.ensures.told stamped started acting)
 

@@ -13,7 +13,7 @@ loop-chunk-init g c =
 pub loop-chunk-preserved : goal.loop-chunk-preserved
 loop-chunk-preserved g c =
     put_on c.loop-chunk.invariant (lent_chunk c.in-Some.chunk) c.next.new.self.left c.in_ok-stem.stem c.in_ok-stem.end (g.S.Site.fault_count c.put.new.site)
-    c.put.new.self c.put_line.new.lines c.in-Some.ensures.first c.in_ok-put_line.ensures.ok c.put_line.ensures.short c.in_ok-stem.ensures.told
+    c.put.new.self c.put_line.new.lines c.in-Some.ensures.first c.in_ok-put_line.ensures.ok c.put_line.ensures.short c.put_line.ensures.of_sink c.put_line.ensures.wide c.in_ok-stem.ensures.told
     c.in_ok-stem.ensures.same c.in_ok-stem.ensures.goes_on c.in_ok-stem.ensures.placed c.in_ok-stem.ensures.own
     c.in_ok-stem.ensures.cause
 
