@@ -1,7 +1,5 @@
 // A day's log, read once up to each of its places and then to its end.
 use crate::scene::Scene;
-use chk_bytes::Bytes;
-use chk_site::ActAnswer;
 use std::alloc::Global;
 use std::test::Fail;
 
@@ -12,111 +10,139 @@ java.io.IOException: no space\n\
 \tat a.b.C.d(C.java:10)\n\
 2010-11-08 09:00:02,000 INFO namenode: stopped\n";
 
-// Where a reader of lines stops when the log has from so many to so many bytes.
-struct Stop {
-    from: u64,
-    to: u64,
-    at: u64,
+// `FROM TO AT`: where a reader of lines stops when the log has from so many to so many bytes.
+const STOPS: &str = "\
+0 46 0
+47 93 47
+94 123 94
+124 146 124
+147 193 147
+194 194 194
+";
+
+// Whether the reader is one of lines, whether the log is rotated in between, and the reader.
+const READERS: &str = "\
+bytes stays base 0 0 -
+lines stays base-lines 0 0 -
+bytes rotated all 0 0 -
+lines rotated all-lines 0 0 -
+bytes stays all 0 0 -
+lines stays all-lines 0 0 -
+";
+
+// How a log is read.
+#[derive(Clone, Copy)]
+struct Way<'a> {
+    lines: bool,
+    rotated: bool,
+    kind: &'a str,
 }
 
-const STOPS: [Stop; 6] = [
-    Stop {
-        from: 0,
-        to: 46,
-        at: 0,
-    },
-    Stop {
-        from: 47,
-        to: 93,
-        at: 47,
-    },
-    Stop {
-        from: 94,
-        to: 123,
-        at: 94,
-    },
-    Stop {
-        from: 124,
-        to: 146,
-        at: 124,
-    },
-    Stop {
-        from: 147,
-        to: 193,
-        at: 147,
-    },
-    Stop {
-        from: 194,
-        to: 194,
-        at: 194,
-    },
-];
+fn reads_front(
+    alloc: Global,
+    scene: &mut Scene,
+    log: &[u8],
+    place: u64,
+    stop: u64,
+) -> Result<u64, Fail> {
+    let front = log.get(..place as usize).ok_or("no such place")?;
+    scene.writing.grows(alloc, front)?;
+    scene.reads(log, 0, &[stop])
+}
+
+fn reads_rest(
+    alloc: Global,
+    scene: &mut Scene,
+    log: &[u8],
+    place: u64,
+    at: u64,
+) -> Result<(), Fail> {
+    let rest = log.get(place as usize..).ok_or("no such place")?;
+    scene.writing.grows(alloc, rest)?;
+    let _place = scene.reads(log, at, &[log.len() as u64])?;
+    Ok(())
+}
+
+// The generation is read to its end, and then the base file.
+fn reads_both(
+    alloc: Global,
+    scene: &mut Scene,
+    log: &[u8],
+    place: u64,
+    at: u64,
+) -> Result<(), Fail> {
+    scene.writing.turns(alloc, "turn", ".2010-11-08")?;
+    let rest = log.get(place as usize..).ok_or("no such place")?;
+    scene.writing.grows(alloc, rest)?;
+    let _place = scene.reads(log, at, &[place, log.len() as u64])?;
+    Ok(())
+}
+
+fn reads_in(
+    alloc: Global,
+    scene: &mut Scene,
+    log: &[u8],
+    way: Way<'_>,
+    place: u64,
+    stop: u64,
+) -> Result<(), Fail> {
+    let at = reads_front(alloc, scene, log, place, stop)?;
+    if way.rotated {
+        reads_both(alloc, scene, log, place, at)
+    } else {
+        reads_rest(alloc, scene, log, place, at)
+    }
+}
 
 // The log is read when it has so many bytes, where the reader stops at `stop`, and again when it is
 // whole. In between it may be rotated.
-fn reads_twice(
-    alloc: Global,
-    kind: &str,
-    place: u64,
-    stop: u64,
-    rotated: bool,
-) -> Result<(), Fail> {
+fn reads_twice(alloc: Global, way: Way<'_>, place: u64, stop: u64) -> Result<(), Fail> {
+    let kind = way.kind;
     let row = format!(in alloc; "{kind}, {place} bytes")?;
     let mut scene = Scene::new(alloc, row, kind)?;
-    let (front, rest) = DAY.split_at_checked(place as usize).ok_or("no such place")?;
-    scene.writing.grows(alloc, front)?;
-    let at = scene.reads(DAY, 0, &[stop])?;
-    if rotated {
-        turns(alloc, &mut scene)?;
-    }
-    scene.writing.grows(alloc, rest)?;
-    let ends = if rotated { [place, 194] } else { [194, 194] };
-    scene.reads(DAY, at, &ends)?;
-    Ok(())
+    reads_in(alloc, &mut scene, DAY, way, place, stop)
 }
 
-fn turns(alloc: Global, scene: &mut Scene) -> Result<(), Fail> {
-    let suffix = Bytes::from_slice(alloc, b".2010-11-08".as_slice())?;
-    scene.writing.changes(alloc, ActAnswer::Rotated { suffix })
-}
-
-// With lines or without, at each place.
-fn reads_all(alloc: Global, kind: &str, lines: bool, rotated: bool) -> Result<(), Fail> {
-    for Stop { from, to, at } in &STOPS {
-        for place in *from..=*to {
-            let stop = if lines { *at } else { place };
-            reads_twice(alloc, kind, place, stop, rotated)?;
-        }
+fn reads_between(alloc: Global, way: Way<'_>, from: u64, to: u64, at: u64) -> Result<(), Fail> {
+    for place in from..=to {
+        let stop = if way.lines { at } else { place };
+        reads_twice(alloc, way, place, stop)?;
     }
     Ok(())
 }
 
-#[test]
-fn base_file(rt: HostRuntime) -> Result<(), Fail> {
-    reads_all(rt.alloc(), "base 0 0 -", false, false)
+fn reads_row(alloc: Global, way: Way<'_>, row: &str) -> Result<(), Fail> {
+    let (from, rest) = row.split_once(' ').ok_or("no end")?;
+    let (to, at) = rest.split_once(' ').ok_or("no stop")?;
+    reads_between(alloc, way, from.parse()?, to.parse()?, at.parse()?)
+}
+
+// At each place.
+fn reads_all(alloc: Global, way: Way<'_>) -> Result<(), Fail> {
+    for row in STOPS.lines() {
+        reads_row(alloc, way, row)?;
+    }
+    Ok(())
+}
+
+fn reads_so(alloc: Global, row: &str) -> Result<(), Fail> {
+    let (stops, rest) = row.split_once(' ').ok_or("no turn")?;
+    let (turn, kind) = rest.split_once(' ').ok_or("no reader")?;
+    let (lines, rotated) = (stops == "lines", turn == "rotated");
+    reads_all(
+        alloc,
+        Way {
+            lines,
+            rotated,
+            kind,
+        },
+    )
 }
 
 #[test]
-fn base_file_by_lines(rt: HostRuntime) -> Result<(), Fail> {
-    reads_all(rt.alloc(), "base-lines 0 0 -", true, false)
-}
-
-#[test]
-fn rotated(rt: HostRuntime) -> Result<(), Fail> {
-    reads_all(rt.alloc(), "all 0 0 -", false, true)
-}
-
-#[test]
-fn rotated_by_lines(rt: HostRuntime) -> Result<(), Fail> {
-    reads_all(rt.alloc(), "all-lines 0 0 -", true, true)
-}
-
-#[test]
-fn not_rotated(rt: HostRuntime) -> Result<(), Fail> {
-    reads_all(rt.alloc(), "all 0 0 -", false, false)
-}
-
-#[test]
-fn not_rotated_by_lines(rt: HostRuntime) -> Result<(), Fail> {
-    reads_all(rt.alloc(), "all-lines 0 0 -", true, false)
+fn a_day_read_twice(rt: HostRuntime) -> Result<(), Fail> {
+    for row in READERS.lines() {
+        reads_so(rt.alloc(), row)?;
+    }
+    Ok(())
 }

@@ -1,7 +1,6 @@
 // Lines about as long as the most bytes of a step.
 use crate::scene::Scene;
 use chk_bytes::Bytes;
-use chk_site::ActAnswer;
 use std::alloc::Global;
 use std::test::Fail;
 
@@ -57,14 +56,19 @@ const BYTES: &str = "\
 131073 - = 131072 131073
 ";
 
+fn add_lines(log: &mut Bytes, text: &str) -> Result<(), Fail> {
+    for b in text.as_bytes() {
+        let b = if *b == b'|' { b'\n' } else { *b };
+        log.push_all(&[b])?;
+    }
+    Ok(())
+}
+
 fn log_of(alloc: Global, letters: usize, rest: &str) -> Result<Bytes, Fail> {
-    let mut log = Bytes::new(alloc);
-    log.push_all(&vec![in alloc; b'x'; letters]?)?;
+    let letters = vec![in alloc; b'x'; letters]?;
+    let mut log = Bytes::from_slice(alloc, letters.as_slice())?;
     if rest != "-" {
-        for b in rest.as_bytes() {
-            let b = if *b == b'|' { b'\n' } else { *b };
-            log.push_all(&[b])?;
-        }
+        add_lines(&mut log, rest)?;
     }
     Ok(log)
 }
@@ -77,21 +81,6 @@ fn ends_of(alloc: Global, text: &str) -> Result<Vec<u64>, Fail> {
     Ok(ends)
 }
 
-fn reads_row(alloc: Global, kind: &str, row: &str, rotated: bool) -> Result<(), Fail> {
-    let (line, ends) = row.split_once(" =").ok_or("no ends")?;
-    let (letters, rest) = line.split_once(' ').ok_or("no rest")?;
-    let log = log_of(alloc, letters.parse()?, rest)?;
-    let name = format!(in alloc; "{kind}, {row}")?;
-    let mut scene = Scene::new(alloc, name, kind)?;
-    reads(
-        alloc,
-        &mut scene,
-        log.as_slice(),
-        &ends_of(alloc, ends)?,
-        rotated,
-    )
-}
-
 fn reads(
     alloc: Global,
     scene: &mut Scene,
@@ -101,11 +90,34 @@ fn reads(
 ) -> Result<(), Fail> {
     scene.writing.grows(alloc, log)?;
     if rotated {
-        let suffix = Bytes::from_slice(alloc, b".2010-11-08".as_slice())?;
-        scene.writing.changes(alloc, ActAnswer::Rotated { suffix })?;
+        scene.writing.turns(alloc, "turn", ".2010-11-08")?;
     }
-    scene.reads(log, 0, ends)?;
+    let _place = scene.reads(log, 0, ends)?;
     Ok(())
+}
+
+fn named(alloc: Global, kind: &str, row: &str) -> Result<Scene, Fail> {
+    let name = format!(in alloc; "{kind}, {row}")?;
+    Scene::new(alloc, name, kind)
+}
+
+fn reads_ends(
+    alloc: Global,
+    scene: &mut Scene,
+    line: &str,
+    ends: &str,
+    rotated: bool,
+) -> Result<(), Fail> {
+    let (letters, rest) = line.split_once(' ').ok_or("no rest")?;
+    let log = log_of(alloc, letters.parse()?, rest)?;
+    let ends = ends_of(alloc, ends)?;
+    reads(alloc, scene, log.as_slice(), ends.as_slice(), rotated)
+}
+
+fn reads_row(alloc: Global, kind: &str, row: &str, rotated: bool) -> Result<(), Fail> {
+    let (line, ends) = row.split_once(" =").ok_or("no ends")?;
+    let mut scene = named(alloc, kind, row)?;
+    reads_ends(alloc, &mut scene, line, ends, rotated)
 }
 
 fn reads_rows(alloc: Global, kind: &str, rows: &str, rotated: bool) -> Result<(), Fail> {
@@ -116,26 +128,11 @@ fn reads_rows(alloc: Global, kind: &str, rows: &str, rotated: bool) -> Result<()
 }
 
 #[test]
-fn base_file(rt: HostRuntime) -> Result<(), Fail> {
-    reads_rows(rt.alloc(), "base 0 0 -", BYTES, false)
-}
-
-#[test]
-fn base_file_by_lines(rt: HostRuntime) -> Result<(), Fail> {
-    reads_rows(rt.alloc(), "base-lines 0 0 -", LINES, false)
-}
-
-#[test]
-fn not_rotated_by_lines(rt: HostRuntime) -> Result<(), Fail> {
-    reads_rows(rt.alloc(), "all-lines 0 0 -", LINES, false)
-}
-
-#[test]
-fn rotated_by_lines(rt: HostRuntime) -> Result<(), Fail> {
-    reads_rows(rt.alloc(), "all-lines 0 0 -", ROTATED, true)
-}
-
-#[test]
-fn rotated(rt: HostRuntime) -> Result<(), Fail> {
-    reads_rows(rt.alloc(), "all 0 0 -", BYTES, true)
+fn long_lines(rt: HostRuntime) -> Result<(), Fail> {
+    let alloc = rt.alloc();
+    reads_rows(alloc, "base 0 0 -", BYTES, false)?;
+    reads_rows(alloc, "base-lines 0 0 -", LINES, false)?;
+    reads_rows(alloc, "all-lines 0 0 -", LINES, false)?;
+    reads_rows(alloc, "all-lines 0 0 -", ROTATED, true)?;
+    reads_rows(alloc, "all 0 0 -", BYTES, true)
 }

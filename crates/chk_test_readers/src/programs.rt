@@ -3,7 +3,9 @@ use crate::scene::Scene;
 use std::alloc::Global;
 use std::test::Fail;
 
-const UNFINISHED: &str = "\
+// Programs with an empty line between them, of which the first line is the name.
+const PROGRAMS: &str = "\
+unfinished lines
 open base-lines 0 0 -
 grow a|b
 step = [a|] 2
@@ -13,10 +15,8 @@ step = [bc|] 5
 step = end
 back 2 = done
 step = [bc|] 5
-";
 
-// A rotation empties the file that is read.
-const BASE: &str = "\
+the base file alone: a rotation empties the file that is read
 open base 0 0 -
 step = end
 grow hello|wor
@@ -33,10 +33,8 @@ step = shrank 12 0
 step = shrank 12 0
 back 0 = done
 step = end
-";
 
-// A log is rotated behind a reader that has read all of it.
-const ROTATION: &str = "\
+a rotation: a log is rotated behind a reader that has read all of it
 open all 0 0 -
 grow hello|
 step = [hello|] 6
@@ -60,10 +58,8 @@ forget 12 = done
 place 6 = 6 6 .2010-11-08
 place 5 = unknown
 back 5 = unknown
-";
 
-// The generation behind the place is deleted, and then come two empty ones.
-const DELETED: &str = "\
+a start behind a deleted generation: the generation behind the place is deleted, and then come two empty ones
 open all 0 0 -
 grow hello|
 step = [hello|] 6
@@ -91,30 +87,8 @@ step = [on] 14
 forget 13 = done
 place 14 = 14 12 .2010-11-10
 place 11 = unknown
-";
 
-// A stream whose first byte has the offset 100.
-const STARTS: &str = "\
-open all 100 100 -
-grow hello|
-step = [hello|] 106
-place 106 = 106 100 -
-place 99 = unknown
-turn .2010-11-08
-step = end
-place 106 = 106 106 .2010-11-08
-place 105 = 105 100 -
-open base 100 100 -
-step = end
-grow on
-step = [on] 102
-back 1 = done
-step = [n] 102
-";
-
-// A reader goes back to where it stood. The oldest generation stays, and the offset doesn't fall
-// below the newest one that stays.
-const REWOUND: &str = "\
+a step undone: a reader goes back to where it stood. The oldest generation stays, and the offset doesn't fall below the newest one that stays
 open all 0 0 -
 grow hello|
 step = [hello|] 6
@@ -132,10 +106,25 @@ step = [lo|] 6
 rewind 2 2 = done
 place 2 = 2 0 -
 step = [world|] 12
-";
 
-// The rest of a rotated generation is given without a newline, and the step passes it.
-const LINES: &str = "\
+a first offset: a stream whose first byte has the offset 100
+open all 100 100 -
+grow hello|
+step = [hello|] 106
+place 106 = 106 100 -
+place 99 = unknown
+turn .2010-11-08
+step = end
+place 106 = 106 106 .2010-11-08
+place 105 = 105 100 -
+open base 100 100 -
+step = end
+grow on
+step = [on] 102
+back 1 = done
+step = [n] 102
+
+lines over a rotation: the rest of a rotated generation is given without a newline, and the step passes it
 open all-lines 0 0 -
 grow one|tw
 step = [one|] 4
@@ -147,10 +136,8 @@ place 6 = 6 6 .2010-11-08
 step = end
 grow |
 step = [three|] 12
-";
 
-// The log is shorter than the place, as the base file and as a generation.
-const SHRANK: &str = "\
+a log that shrank: the log is shorter than the place, as the base file and as a generation
 open base 9 0 -
 grow hello|
 step = shrank 9 6
@@ -168,10 +155,8 @@ step = shrank 14 12
 place 20 = 20 6 .2010-11-08
 open all 106 100 -
 step = [world|world|] 118
-";
 
-// A rotation before each call of one step.
-const BETWEEN: &str = "\
+rotations between calls: a rotation before each call of one step
 open all 0 0 -
 grow hello|
 step = [hello|] 6
@@ -185,10 +170,8 @@ turn .2010-11-11
 step = end
 place 6 = 6 6 .2010-11-11
 place 5 = 5 0 -
-";
 
-// What is appended between two calls is given, and the generation that it ends is passed with it.
-const GROWS_BETWEEN: &str = "\
+rotations between calls: what is appended between two calls is given, and the generation that it ends is passed with it
 open all 0 0 -
 grow hello|
 step = [hello|] 6
@@ -203,10 +186,8 @@ step = [world|] 12
 place 12 = 12 12 .2010-11-10
 place 11 = 11 6 .2010-11-09
 step = [more] 16
-";
 
-// The next generation is deleted between two calls, and the one behind it is read.
-const DELETED_BETWEEN: &str = "\
+rotations between calls: the next generation is deleted between two calls, and the one behind it is read
 open all-lines 0 0 -
 grow hello|
 step = [hello|] 6
@@ -218,10 +199,8 @@ grow wor
 turn .2010-11-10
 step = [wor] 9
 place 9 = 9 9 .2010-11-10
-";
 
-// A refused step leaves the reader before the generations that it passed, at whichever call.
-const REFUSED: &str = "\
+refused steps: a refused step leaves the reader before the generations that it passed, at whichever call
 open all 0 0 -
 grow ab
 step = [ab] 2
@@ -244,10 +223,8 @@ place 2 = 2 2 .2010-11-09
 back 1 = done
 drop .2010-11-08
 step = shrank 1 0
-";
 
-// The last place is 2^63 - 1.
-const LAST: &str = "\
+the last place: the last place is 2^63 - 1
 open all 9223372036854775805 9223372036854775805 -
 grow abcd
 step = [ab] 9223372036854775807
@@ -260,62 +237,16 @@ step = shrank 9223372036854775807 4
 ";
 
 fn plays(alloc: Global, program: &str) -> Result<(), Fail> {
-    Scene::new(alloc, String::new(alloc), "base 0 0 -")?.follows(program)
+    let (row, lines) = program.split_once('\n').ok_or("no name")?;
+    let row = String::from_str(alloc, row)?;
+    let mut scene = Scene::new(alloc, row, "base 0 0 -")?;
+    scene.follows(lines)
 }
 
 #[test]
-fn unfinished_lines(rt: HostRuntime) -> Result<(), Fail> {
-    plays(rt.alloc(), UNFINISHED)
-}
-
-#[test]
-fn the_base_file_alone(rt: HostRuntime) -> Result<(), Fail> {
-    plays(rt.alloc(), BASE)
-}
-
-#[test]
-fn a_rotation(rt: HostRuntime) -> Result<(), Fail> {
-    plays(rt.alloc(), ROTATION)
-}
-
-#[test]
-fn a_start_behind_a_deleted_generation(rt: HostRuntime) -> Result<(), Fail> {
-    plays(rt.alloc(), DELETED)
-}
-
-#[test]
-fn a_step_undone(rt: HostRuntime) -> Result<(), Fail> {
-    plays(rt.alloc(), REWOUND)
-}
-
-#[test]
-fn a_first_offset(rt: HostRuntime) -> Result<(), Fail> {
-    plays(rt.alloc(), STARTS)
-}
-
-#[test]
-fn lines_over_a_rotation(rt: HostRuntime) -> Result<(), Fail> {
-    plays(rt.alloc(), LINES)
-}
-
-#[test]
-fn a_log_that_shrank(rt: HostRuntime) -> Result<(), Fail> {
-    plays(rt.alloc(), SHRANK)
-}
-
-#[test]
-fn rotations_between_calls(rt: HostRuntime) -> Result<(), Fail> {
-    plays(rt.alloc(), BETWEEN)?;
-    plays(rt.alloc(), GROWS_BETWEEN)?;
-    plays(rt.alloc(), DELETED_BETWEEN)
-}
-
-#[test]
-fn refused_steps(rt: HostRuntime) -> Result<(), Fail> {
-    plays(rt.alloc(), REFUSED)
-}
-
-#[test]
-fn the_last_place(rt: HostRuntime) -> Result<(), Fail> {
-    plays(rt.alloc(), LAST)
+fn programs(rt: HostRuntime) -> Result<(), Fail> {
+    for program in PROGRAMS.split("\n\n") {
+        plays(rt.alloc(), program)?;
+    }
+    Ok(())
 }

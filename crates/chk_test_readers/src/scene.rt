@@ -49,18 +49,18 @@ impl Scene {
         Ok(())
     }
 
+    fn asks(&mut self, line: &str, asked: &str, wanted: &str) -> Result<(), Fail> {
+        let (verb, text) = asked.split_once(' ').unwrap_or((asked, ""));
+        let given = self.answer(verb, text)?;
+        self.compares(line, wanted, given.as_str())
+    }
+
     fn plays(&mut self, line: &str) -> Result<(), Fail> {
-        match line.split_once(" = ") {
-            Some((asked, wanted)) => {
-                let (verb, text) = asked.split_once(' ').unwrap_or((asked, ""));
-                let given = self.answer(verb, text)?;
-                self.compares(line, wanted, given.as_str())
-            }
-            None => {
-                let (verb, text) = line.split_once(' ').unwrap_or((line, ""));
-                self.happens(verb, text)
-            }
+        if let Some((asked, wanted)) = line.split_once(" = ") {
+            return self.asks(line, asked, wanted);
         }
+        let (verb, text) = line.split_once(' ').unwrap_or((line, ""));
+        self.happens(verb, text)
     }
 
     fn compares(&self, line: &str, wanted: &str, given: &str) -> Result<(), Fail> {
@@ -104,28 +104,33 @@ impl Scene {
         }
         match self.step()? {
             Ok(Step::AtEnd) => Ok(at),
-            other => self.otherwise("end", other),
+            other => Err(self.otherwise("end", other)?),
         }
+    }
+
+    fn is_piece(&self, log: &[u8], at: u64, to: u64, bytes: &[u8]) -> Result<(), Fail> {
+        if log.get(at as usize..to as usize) == Some(bytes) {
+            return Ok(());
+        }
+        Err(self.fails("a piece", "other bytes"))
     }
 
     fn reads_to(&mut self, log: &[u8], at: u64, to: u64) -> Result<(), Fail> {
         match self.step()? {
             Ok(Step::Bytes { bytes, end }) if end == to => {
-                if log.get(at as usize..to as usize) == Some(bytes.as_slice()) {
-                    return Ok(());
-                }
-                Err(self.fails("a piece", "other bytes"))
+                self.is_piece(log, at, to, bytes.as_slice())
             }
-            other => self.otherwise("a piece", other),
+            other => Err(self.otherwise("a piece", other)?),
         }
     }
 
-    fn otherwise<T>(&self, wanted: &str, given: Result<Step, OutsideFault>) -> Result<T, Fail> {
+    // What is told of another answer.
+    fn otherwise(&self, wanted: &str, given: Result<Step, OutsideFault>) -> Result<Fail, Fail> {
         let text = match given {
             Ok(Step::Bytes { end, .. }) => format!(in self.alloc; "a piece to {end}")?,
             other => step_text(self.alloc, other)?,
         };
-        Err(self.fails(wanted, text.as_str()))
+        Ok(self.fails(wanted, text.as_str()))
     }
 
     fn fails(&self, wanted: &str, given: &str) -> Fail {

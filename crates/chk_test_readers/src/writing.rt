@@ -27,6 +27,24 @@ fn bytes_in(alloc: Global, text: &str) -> Result<Bytes, Fail> {
     Ok(bytes)
 }
 
+fn breaking(alloc: Global, fails: Option<u64>, stops: Option<u64>) -> Result<Script, Fail> {
+    if let Some(call) = fails {
+        return failing(alloc, call);
+    }
+    match stops {
+        Some(call) => Ok(stopping(alloc, call, Lefts::new(alloc))),
+        None => Ok(quiet(alloc)),
+    }
+}
+
+fn change_of(verb: &str, suffix: Bytes) -> ActAnswer {
+    if verb == "turn" {
+        ActAnswer::Rotated { suffix }
+    } else {
+        ActAnswer::Deleted { suffix }
+    }
+}
+
 impl Writing {
     pub fn new(alloc: Global) -> Writing {
         Writing {
@@ -46,7 +64,7 @@ impl Writing {
     }
 
     // The base file becomes a generation, or one is deleted.
-    pub fn changes(&mut self, alloc: Global, answer: ActAnswer) -> Result<(), Fail> {
+    fn changes(&mut self, alloc: Global, answer: ActAnswer) -> Result<(), Fail> {
         let nothing: &[u8] = &[];
         let mut other = written(alloc, Call::LogAppend, &[PATH.as_bytes(), nothing])?;
         other.before = self.before;
@@ -67,15 +85,10 @@ impl Writing {
         }
     }
 
-    fn turns(&mut self, alloc: Global, verb: &str, text: &str) -> Result<(), Fail> {
+    // `turn SUFFIX`, `drop SUFFIX`.
+    pub fn turns(&mut self, alloc: Global, verb: &str, text: &str) -> Result<(), Fail> {
         let suffix = Bytes::from_slice(alloc, text.as_bytes())?;
-        self.changes(
-            alloc,
-            match verb {
-                "turn" => ActAnswer::Rotated { suffix },
-                _ => ActAnswer::Deleted { suffix },
-            },
-        )
+        self.changes(alloc, change_of(verb, suffix))
     }
 
     fn waits(&mut self, text: &str) -> Result<(), Fail> {
@@ -95,11 +108,7 @@ impl Writing {
 
     // The script of the next step; nothing is left for the one after.
     pub fn script(&mut self, alloc: Global) -> Result<Script, Fail> {
-        let mut script = match (self.fails, self.stops) {
-            (Some(call), _) => failing(alloc, call)?,
-            (None, Some(call)) => stopping(alloc, call, Lefts::new(alloc)),
-            (None, None) => quiet(alloc),
-        };
+        let mut script = breaking(alloc, self.fails, self.stops)?;
         script.others = mem::replace(&mut self.others, Vec::new(alloc));
         self.before = 1;
         self.fails = None;
