@@ -316,7 +316,7 @@ collector;;x;64; => fits
 collector;;x;65; => none
 line;; ;16384; => blank
 line;; ;16385; => LongLine 6
-salvaged;SEQ%06%CL%CL%ZZ%MK%7F%00%07%c8%00%00%00%1E%00%00%00%1A%01%ZZ%00%06%00%02h1%00%03Log%00%06/a.log%00%00%07%A6;%00;1958;%FF%FF%FF%FF%MK%00%00%00%28%00%00%00%1E%00%00%00%1A%01%ZZ%00%06%00%02h1%00%03Log%00%06/a.log%00%00%00%06hello%0A => entry 2116 2164 skipped 96 2096
+salvaged;SEQ%06%CL%CL%ZZ%MK%7F%00%07%c8%00%00%00%1E%00%00%00%1A%01%ZZ%00%06%00%02h1%00%03Log%00%06/a.log%00%00%07%a6;%00;1958;%FF%FF%FF%FF%MK%00%00%00%28%00%00%00%1E%00%00%00%1A%01%ZZ%00%06%00%02h1%00%03Log%00%06/a.log%00%00%00%06hello%0A => entry 2116 2164 skipped 96 2096
 post;;a;4194305; => TooLong { limit: 4194304, found: 4194305 }
 ";
 
