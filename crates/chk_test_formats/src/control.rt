@@ -145,9 +145,14 @@ fn answer(alloc: Global, form: &str, text: &str, number: u32) -> Result<Answer, 
 }
 
 fn show(out: &mut Bytes, answer: &Answer) -> Result<(), WordFault> {
-    match answer {
-        Answer::Bad { number } if *number < 1 || *number > 14 => Err(WordFault::Empty),
-        answer => write_answer(out, answer).map_err(|_| WordFault::NoMemory),
+    if let Answer::Bad { number } = answer {
+        if *number < 1 || *number > 14 {
+            return Err(WordFault::Empty);
+        }
+    }
+    match write_answer(out, answer) {
+        Ok(()) => Ok(()),
+        Err(_) => Err(WordFault::NoMemory),
     }
 }
 

@@ -30,13 +30,26 @@ fn push_part(bytes: &mut Bytes, part: &str) -> Result<(), Fail> {
     Ok(bytes.push_all(rest.as_bytes())?)
 }
 
-pub(crate) fn bytes_of(alloc: Global, text: &str) -> Result<Bytes, Fail> {
+fn push_text(bytes: &mut Bytes, text: &str) -> Result<(), Fail> {
     let mut parts = text.split('%');
-    let mut bytes = Bytes::from_slice(alloc, parts.next().unwrap_or("").as_bytes())?;
+    bytes.push_all(parts.next().unwrap_or("").as_bytes())?;
     for part in parts {
-        push_part(&mut bytes, part)?;
+        push_part(bytes, part)?;
     }
+    Ok(())
+}
+
+pub(crate) fn bytes_of(alloc: Global, text: &str) -> Result<Bytes, Fail> {
+    let mut bytes = Bytes::new(alloc);
+    push_text(&mut bytes, text)?;
     Ok(bytes)
+}
+
+fn push_times(bytes: &mut Bytes, piece: &str, times: u32) -> Result<(), Fail> {
+    for _time in 0..times {
+        push_text(bytes, piece)?;
+    }
+    Ok(())
 }
 
 // The bytes are those of the text.
@@ -56,11 +69,9 @@ pub(crate) fn repeated(
     times: u32,
     back: &str,
 ) -> Result<Bytes, Fail> {
-    let mut out = bytes_of(alloc, front)?;
-    let piece = bytes_of(alloc, piece)?;
-    for _time in 0..times {
-        out.push_all(piece.as_slice())?;
-    }
-    out.push_all(bytes_of(alloc, back)?.as_slice())?;
+    let mut out = Bytes::new(alloc);
+    push_text(&mut out, front)?;
+    push_times(&mut out, piece, times)?;
+    push_text(&mut out, back)?;
     Ok(out)
 }

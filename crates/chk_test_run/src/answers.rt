@@ -1,5 +1,7 @@
 //! What is asked of a site: its files, its acts and its messages.
+use crate::messages::messages_so;
 use crate::parts::bytes_of;
+use crate::records::records_so;
 use chk_bytes::{Bytes, Word};
 use chk_site::{Act, ActAnswer, Call, Part, Role, Site, Who};
 use chk_site_mem::SiteMem;
@@ -22,7 +24,7 @@ pub(crate) fn add_lines(text: &mut String, bytes: &[u8]) -> Result<(), Fail> {
     Ok(())
 }
 
-fn lines_text(alloc: Global, bytes: &[u8]) -> Result<String, Fail> {
+pub(crate) fn lines_text(alloc: Global, bytes: &[u8]) -> Result<String, Fail> {
     let mut text = String::new(alloc);
     add_lines(&mut text, bytes)?;
     Ok(text)
@@ -185,6 +187,21 @@ fn names_text(alloc: Global, acts: &[Act]) -> Result<String, Fail> {
     plain(alloc, text.as_str().trim_end())
 }
 
+fn act_text(alloc: Global, act: &Act) -> Result<String, Fail> {
+    let (who, call) = (act.who.name.as_str(), act.call.name());
+    let is_stopped = matches!(&act.answer, ActAnswer::Stopped { .. });
+    let end = if is_stopped { "stopped" } else { "returned" };
+    Ok(format!(in alloc; "{who} {call} {end}")?)
+}
+
+fn last_text(alloc: Global, acts: &[Act]) -> Result<String, Fail> {
+    match acts.last() {
+        Some(act) => act_text(alloc, act),
+        None => plain(alloc, "none"),
+    }
+}
+
+// - `last`: who acted last, by which call, and whether it was stopped.
 // - `appended NAME`: how many bytes were appended to the file or log.
 // - `count CALL`: how many acts were this call; `-` stands for any.
 // - `calls`: the names of the calls of h1 and of the program.
@@ -194,6 +211,7 @@ fn acts_so(alloc: Global, acts: &[Act], verb: &str, text: &str) -> Result<String
         "appended" => number(alloc, appended(acts, text)),
         "count" => number(alloc, count_of(acts, text)),
         "calls" => names_text(alloc, acts),
+        "last" => last_text(alloc, acts),
         _ => acts_text(alloc, acts.get(text.parse()?..).unwrap_or(&[])),
     }
 }
@@ -206,13 +224,22 @@ fn who(alloc: Global, role: Role, name: &str) -> Result<Who, Fail> {
 }
 
 // The number of the message.
-fn sends(alloc: Global, site: &mut SiteMem, parts: &str) -> Result<String, Fail> {
+pub(crate) fn sent(
+    alloc: Global,
+    site: &mut SiteMem,
+    door: &str,
+    bytes: &[u8],
+) -> Result<String, Fail> {
     let who = who(alloc, Role::Agent, "h1")?;
-    let bytes = bytes_of(alloc, parts)?;
-    match site.send(alloc, &who, "c1:80", bytes.as_slice()) {
+    match site.send(alloc, &who, door, bytes) {
         Ok(message) => number(alloc, message),
         Err(_) => plain(alloc, "refused"),
     }
+}
+
+fn sends(alloc: Global, site: &mut SiteMem, parts: &str) -> Result<String, Fail> {
+    let bytes = bytes_of(alloc, parts)?;
+    sent(alloc, site, "c1:80", bytes.as_slice())
 }
 
 fn gets(alloc: Global, site: &mut SiteMem, message: u64) -> Result<String, Fail> {
@@ -252,10 +279,12 @@ pub(crate) fn stands(
 ) -> Result<Option<String>, Fail> {
     match verb {
         "size" | "is" | "end" | "text" => Ok(Some(file_so(alloc, site, verb, text)?)),
-        "appended" | "count" | "calls" | "acts" => {
+        "appended" | "count" | "calls" | "last" | "acts" => {
             Ok(Some(acts_so(alloc, site.acts(), verb, text)?))
         }
         "send" | "got" | "read" => Ok(Some(asks(alloc, site, verb, text)?)),
+        "request" | "control" | "answered" => Ok(Some(messages_so(alloc, site, verb, text)?)),
+        "prefix" | "whole" | "sizes" | "sinks" => Ok(Some(records_so(alloc, site, verb, text)?)),
         _ => Ok(None),
     }
 }

@@ -9,7 +9,7 @@ run archive => 0 archive unclosed 0 taken 0 held 0 removed 0|
 
 two sinks that overlap
 bytes sinks/c1.1.1.done HEADER C1_1_1 HELLO
-bytes sinks/c2.1.1.done HEADER C2_1_1 WORL
+bytes sinks/c2.1.1.done HEADER C1_1_2 WORL
 run archive => 0 archive unclosed 0 taken 10 held 0 removed 2|end h1 Log /a.log 10|
 size sinks/c1.1.1.done => none
 size sinks/c2.1.1.done => none
@@ -21,7 +21,7 @@ run archive => 0 archive unclosed 0 taken 0 held 1 removed 1|
 
 two sinks in another order
 bytes sinks/c1.1.1.done HEADER C1_1_1 WORLD
-bytes sinks/c2.1.1.done HEADER C2_1_1 HELLO
+bytes sinks/c2.1.1.done HEADER C1_1_2 HELLO
 run archive => 0 archive unclosed 0 taken 12 held 0 removed 2|end h1 Log /a.log 12|
 
 a sink under writing

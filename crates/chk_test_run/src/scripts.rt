@@ -3,8 +3,8 @@ use crate::chunks::put_chunks;
 use crate::parts::bytes_of;
 use crate::replies::{polls, replies};
 use chk_bytes::Bytes;
-use chk_site::{ActAnswer, Call, Script};
-use chk_test_calls::{quiet, written};
+use chk_site::{ActAnswer, Call, Script, StopAt};
+use chk_test_calls::{left_of, quiet, written};
 use std::alloc::Global;
 use std::test::Fail;
 
@@ -122,12 +122,20 @@ fn comes_so(
     comes(alloc, script, name, bytes.as_slice())
 }
 
+fn stops(alloc: Global, script: &mut Script, name: &str) -> Result<(), Fail> {
+    let left = left_of(alloc, &[name], b"", false)?;
+    script.stop = Some(StopAt { at: 1, left });
+    Ok(())
+}
+
 // - `fail N`: the call of this number of the run fails.
+// - `stop NAME`: the next call is stopped. Of this file just the synced bytes are left.
 // - `chunks COUNT BLOCK LAST`: an archive of so many chunks of this block, and a last one, comes.
 // - `reply CALL MESSAGE CODE BODY` and `polls CALL MESSAGE COUNT BODY`.
 fn fails_so(alloc: Global, script: &mut Script, verb: &str, text: &str) -> Result<(), Fail> {
     match verb {
         "fail" => Ok(script.failing.push(text.parse()?)?),
+        "stop" => stops(alloc, script, text),
         "chunks" => archives(alloc, script, text),
         "reply" => replies(alloc, script, text),
         "polls" => polls(alloc, script, text),
