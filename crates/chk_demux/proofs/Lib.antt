@@ -8,6 +8,7 @@ mod HeadsInOrder
 mod Outputs
 mod Fetches
 mod Streams
+mod RecordedEnds
 mod Prefixes
 mod Entries
 mod Started

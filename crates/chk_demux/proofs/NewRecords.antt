@@ -258,8 +258,11 @@ module _ (stamped types : List (List ℕ)) (named : NamesStamped stamped types) 
   pub archive_sorted : Sorted A.ends
   archive_sorted = sorted A.ends archive_rises
 
+  pub records_rise : ends_rise D.ends ≡ true
+  records_rise = rise_in (file F (BookFile DemuxFolder)) ((readable stamped history legal).books DemuxFolder)
+
   pub records_sorted : Sorted D.ends
-  records_sorted = sorted D.ends (rise_in (file F (BookFile DemuxFolder)) ((readable stamped history legal).books DemuxFolder))
+  records_sorted = sorted D.ends records_rise
 
   -- ---- of one stream
 

@@ -1,11 +1,11 @@
 -- What a demux run supposes of what the job knows, and what its end says, at a legal history.
 use Rattle.std.proofs.Common.{◌≡◌, ℕ, ◌+◌, ◌≤◌, List, [], ◌∷◌, ◌++◌, length, map, Option, Some, None, ap, ap₂, sym, subst, ◌∙◌, refl, arith}
-use Rattle.std.specs.Prelude.{Contains, codes, filter, flat_map}
+use Rattle.std.specs.Prelude.{Contains, IsTrue, codes, filter, flat_map}
 use Rattle.chk_site.specs.History.{History, files_after}
 use Rattle.chk_chunk.specs.Keys.{Stream, Chunk, is_of}
 use Rattle.chk_world.specs.Names.{ArchiveFolder, DemuxFolder, BookFile, SegmentFile}
 use Rattle.chk_world.specs.ArchiveRuns.{in_order}
-use Rattle.chk_world.specs.Books.{Segment, End, Book, book_in, book_of, chunks_in, values}
+use Rattle.chk_world.specs.Books.{Segment, End, Book, ends_rise, book_in, book_of, chunks_in, values}
 use Rattle.chk_world.specs.Jobs.{NewBook}
 use Rattle.chk_world.specs.Rules.{Legal}
 use Rattle.chk_world.specs.Sight.{Sight, sight, own_book, own_chunks}
@@ -32,7 +32,7 @@ use Rattle.chk_demux.specs.Writes.{IsFree, HasSome, HoldsChunks, bytes_of}
 use Rattle.chk_demux.specs.declared.report.DemuxReport.{DemuxReport}
 use Rattle.chk_demux.proofs.ChunksInOrder.{runs_in_order, all_run, same_chunks, same_left}
 use Rattle.chk_demux.proofs.NewKeys.{keys_found}
-use Rattle.chk_demux.proofs.NewRecords.{whole_split, left_is, new_fits, archive_sorted, archive_rises}
+use Rattle.chk_demux.proofs.NewRecords.{whole_split, left_is, new_fits, archive_sorted, archive_rises, records_rise}
 use Rattle.chk_demux.proofs.NextRecords.{may_publish}
 use Rattle.chk_demux.proofs.Ordered.{all_in_order, of_stream}
 use Rattle.chk_demux.proofs.SortedEnds.{just_of}
@@ -54,6 +54,7 @@ pub record CanRun (stamped types : List (List ℕ)) (a b : Book) (v : Sight) : T
   pub sound : AreSound v (names_of (codes "archive") a)
   pub records : AreRecords v (names_of (codes "archive") a) (in_head_order (heads_of v 0 (names_of (codes "archive") a))) cs
   pub runs : SplitAll cs a.ends b
+  pub rises : IsTrue (ends_rise b.ends)
   pub free : IsFree v b.next
   pub book : own_book v DemuxFolder ≡ b
   pub may : MayEnter stamped v b (News types a b v cs)
@@ -202,6 +203,7 @@ module _ (stamped types : List (List ℕ)) (named : NamesStamped stamped types) 
     sound = archive_sound stamped history legal;
     records = archive_records stamped history legal;
     runs = all_run types D Heads Cs A.ends (archive_runs stamped history legal D);
+    rises = records_rise stamped types named history legal Heads;
     free = records_free stamped history legal;
     book = refl;
     may = subst (MayEnter stamped V D) (sym same_news) may_enter;

@@ -1,6 +1,6 @@
 -- What the parts of a demux run lead to, up to its end.
 use Rattle.std.proofs.Common.{◌≡◌, inl, inr, ℕ, false, List, [], Option, None, Ok, Err, Result, ap, sym, subst, ◌∙◌, refl}
-use Rattle.std.specs.Prelude.{codes, length, IfErr}
+use Rattle.std.specs.Prelude.{codes, length, IsTrue, IfErr}
 use Rattle.chk_site.specs.Acts.{Deed}
 use Rattle.chk_site.specs.History.{History, Every, is_stopped}
 use Rattle.chk_site.specs.Site.{Adds}
@@ -8,7 +8,7 @@ use Rattle.chk_site.specs.Runs.{Leads}
 use Rattle.chk_site.proofs.Leads.{leads_as, leads_then, leads_none}
 use Rattle.chk_chunk.specs.Keys.{Chunk}
 use Rattle.chk_world.specs.Names.{DemuxFolder, BookFile}
-use Rattle.chk_world.specs.Books.{Book, book_in}
+use Rattle.chk_world.specs.Books.{Book, book_in, ends_rise}
 use Rattle.chk_world.specs.Places.{As}
 use Rattle.chk_world.specs.Sight.{job, Sight, sight, AtJob}
 use Rattle.chk_world.specs.JobSteps.{IsOf, ReadsFile, ReadsOrWrites}
@@ -126,7 +126,7 @@ module _ (stamped types : List (List ℕ)) (a b : Book) (v : Sight) (k : CanRun 
       (first : Adds old mid (Leads (As stamped job) Start (AtJob stamped (λ u. (u ≡ v) × (heads ≡ Hs)))))
       (works : Adds mid new (Worked (ReadsOrWrites (segment_name (codes "demux") b.next)) q))
       (told : (cs : List Chunk) → AreRecords v names heads cs → IsFree v b.next → SplitAll cs a.ends b
-      → StreamsRise heads → Adds mid new (Leads (As stamped job) (AtJob stamped (IsOutput v [] o))
+      → StreamsRise heads → IsTrue (ends_rise b.ends) → Adds mid new (Leads (As stamped job) (AtJob stamped (IsOutput v [] o))
       (EndsSo stamped v b.next (λ left u. IsOutput v (all_chunks types b heads cs a.ends) n u
       × (left ≡ all_left types b cs a.ends)) q))) where
     abbrev W : List ℕ
@@ -159,7 +159,7 @@ module _ (stamped types : List (List ℕ)) (a b : Book) (v : Sight) (k : CanRun 
         × (left ≡ all_left types b k.cs a.ends)) q))) is
         (told k.cs (subst (λ ws. AreRecords v ws heads k.cs) (sym are)
         (subst (λ hs. AreRecords v Files hs k.cs) (sym is) k.records)) k.free k.runs
-        (subst StreamsRise (sym is) (streams_rise (heads_of v 0 Files)))))
+        (subst StreamsRise (sym is) (streams_rise (heads_of v 0 Files))) k.rises))
         (begins h z))
         (λ h z. ends_bottom stamped v b.next Split q h z))
 

@@ -1,13 +1,22 @@
 -- The records that bytes of a stream complete.
-use Rattle.std.specs.Prelude.{◌≡◌, ℕ, zero, suc, ◌+◌, ◌-◌, ◌<◌, Bool, ◌&&◌, nat_le, List, [], ◌∷◌, ◌++◌, length, map, if◌then◌else◌}
+use Rattle.std.specs.Prelude.{◌≡◌, ℕ, zero, suc, ◌+◌, ◌-◌, ◌<◌, Bool, ◌&&◌, nat_le, IsTrue, List, [], ◌∷◌, ◌++◌, length, map, if◌then◌else◌}
 use Rattle.chk_bytes.specs.Words.{joined}
-use Rattle.chk_chunk.specs.Keys.{Stream, Chunk}
+use Rattle.chk_chunk.specs.Keys.{Stream, Chunk, has_words}
+use Rattle.chk_chunk.specs.Lent.{lent_key}
 use Rattle.chk_world.specs.Books.{End}
 use Rattle.chk_world.specs.Splits.{Record, ends_from}
 use Rattle.chk_heads.specs.Heads.{Head}
+use Rattle.chk_heads.specs.Order.{lent_head}
+use Rattle.chk_heads.specs.declared.gather.order.HeadRef.{HeadRef}
 use Rattle.chk_plan.specs.Passes.{head_in}
 use Rattle.chk_merge.specs.Courses.{is_head_of}
 use Rattle.chk_splitter.specs.Splitting.{Splitting, pieces_of, records_ahead}
+
+-- the borrowed head is the one at this place, which is of the stream
+pub record IsOwnHead (heads : List Head) (s : Stream) (index : ℕ) (h : HeadRef) : Type 0 where
+  pub there : lent_head h ≡ head_in heads index
+  pub own : IsTrue (is_head_of s (head_in heads index))
+  pub words : IsTrue (has_words (lent_key h.key))
 
 -- the head is of the stream and begins at this offset or below it
 abbrev pub holds_byte : Stream → ℕ → Head → Bool

@@ -1,7 +1,7 @@
 //! Where a stream's heads stand among heads in order.
 
 ghost use Rattle.std.specs.Prelude.{◌≡◌, ◌<◌, ◌≤◌, ◌-◌, true, false, length, IsTrue, IsFalse};
-ghost use Rattle.chk_heads.specs.Order.{lent_head};
+ghost use Rattle.chk_heads.specs.Order.{lent_head, of_one_stream};
 ghost use Rattle.chk_plan.specs.Passes.{head_in};
 ghost use Rattle.chk_merge.specs.Courses.{is_head_of};
 ghost use Rattle.chk_book.specs.Views.{end_view};
@@ -33,7 +33,7 @@ pub(crate) fn block_of(heads: &Heads, end: &End, next: &mut usize) -> Block
         };
     }
     let first = *next;
-    let past = past_last(heads, end, first);
+    let past = past_last(heads, first);
     *next = past;
     Block { first, end: past }
 }
@@ -48,16 +48,16 @@ fn begins_at(heads: &Heads, end: &End, at: usize) -> bool
     at == 0 || !is_of(end, &heads.get(at - 1))
 }
 
-/// The place past the heads of the end's stream that stand from `first` on.
-fn past_last(heads: &Heads, end: &End, first: usize) -> usize
+/// The place past the heads that stand from `first` on and are of the stream of the head there.
+fn past_last(heads: &Heads, first: usize) -> usize
     requires { first < length heads.now }
     ensures beyond { first < result }
     ensures within { result ≤ length heads.now }
-    ensures next { result < length heads.now → IsFalse (is_head_of (end_view end.now).stream (head_in heads.now result)) }
+    ensures next { result < length heads.now → IsFalse (of_one_stream (head_in heads.now first) (head_in heads.now result)) }
 {
     let len = heads.len();
     for i in first + 1..len {
-        if !is_of(end, &heads.get(i)) {
+        if !heads.are_of_one(first, i) {
             return i;
         }
     }

@@ -18,7 +18,7 @@ ghost use Rattle.chk_book.specs.Books.{book_view};
 ghost use Rattle.chk_book.specs.Views.{end_view};
 ghost use Rattle.chk_demux.specs.Working.{Worked, EndsSo};
 ghost use Rattle.chk_demux.specs.Writes.{IsFree, IsWriter, IsOutput};
-ghost use Rattle.chk_demux.specs.Giving.{holds_byte, cluster_back, keyed, given_chunks, place_given, IsSplitting, IsPlaced, chunks_of_fed};
+ghost use Rattle.chk_demux.specs.Giving.{IsOwnHead, holds_byte, cluster_back, keyed, given_chunks, place_given, IsSplitting, IsPlaced, chunks_of_fed};
 
 use crate::output::{Output, put};
 use chk_book::{Book, End};
@@ -59,6 +59,27 @@ fn holder(heads: &Heads, end: &End, at: u64, count: usize) -> Option<usize>
     None
 }
 
+/// The cluster of the last one of the heads up to that at `index`, which is given too, that is of the end's stream and begins
+/// at the offset `at` or below it. The given one is of that stream, and where it begins so no other one is looked at.
+fn cluster_at<'a>(
+    heads: &'a Heads,
+    index: usize,
+    head: &HeadRef<'a>,
+    end: &End,
+    at: u64,
+) -> Option<&'a str>
+    requires index { index < length heads.now }
+    requires head { IsOwnHead heads.now (end_view end.now).stream index head.now }
+    ensures cluster { IfSome result (λ c. c.now ≡ cluster_back heads.now (end_view end.now).stream at (index + 1)) }
+    ensures word { IfSome result (λ c. IsTrue (is_word c.now)) }
+{
+    if head.begin <= at {
+        return Some(head.key.cluster);
+    }
+    let held = holder(heads, end, at, index)?;
+    Some(heads.get(held).key.cluster)
+}
+
 /// Where a record ends in its stream, of which so many bytes were fed behind it, before so many others of a record that ends at
 /// `seq`.
 fn place_of(seq: u64, pending: usize, behind: usize) -> Option<u64>
@@ -97,8 +118,8 @@ fn record_chunk<'a>(
     })
 }
 
-/// Writes the record that the splitter gives, if it gives one. The head at `index` is that of the record whose bytes were fed, but
-/// for the last `behind` ones.
+/// Writes the record that the splitter gives, if it gives one. The head is that of the record whose bytes were fed, but for the
+/// last `behind` ones.
 fn give<S: Site>(
     alloc: Global,
     site: &mut S,
@@ -108,12 +129,14 @@ fn give<S: Site>(
     splitter: &Splitter,
     heads: &Heads,
     index: usize,
+    head: &HeadRef<'_>,
     end: &End,
     behind: usize,
 ) -> Result<(), JobFault>
     requires job { who.now ≡ job }
     requires writer { IsWriter (book_view book.now).next output.old.segmenter }
     requires index { index < length heads.now }
+    requires head { IsOwnHead heads.now (end_view end.now).stream index head.now }
     ensures told { (stamped : List (List ℕ)) (v : Sight) (outs : List Chunk) → IsFree v (book_view book.now).next
         → Adds (S.told site.old) (S.told site.new)
         (Leads (As stamped job) (AtJob stamped (IsOutput v outs output.old))
@@ -127,11 +150,11 @@ fn give<S: Site>(
     let Some(record) = splitter.complete() else {
         return Ok(());
     };
-    let Some(place) = place_of(heads.get(index).key.seq, splitter.pending(), behind) else {
+    let Some(place) = place_of(head.key.seq, splitter.pending(), behind) else {
         return Err(JobFault::NoMemory);
     };
     write_record(
-        alloc, site, who, book, output, heads, index, end, place, record,
+        alloc, site, who, book, output, heads, index, head, end, place, record,
     )
 }
 
@@ -144,6 +167,7 @@ fn write_record<S: Site>(
     output: &mut Output,
     heads: &Heads,
     index: usize,
+    head: &HeadRef<'_>,
     end: &End,
     place: u64,
     bytes: &[u8],
@@ -151,6 +175,7 @@ fn write_record<S: Site>(
     requires job { who.now ≡ job }
     requires writer { IsWriter (book_view book.now).next output.old.segmenter }
     requires index { index < length heads.now }
+    requires head { IsOwnHead heads.now (end_view end.now).stream index head.now }
     requires some { 0 < length bytes.now }
     ensures told { (stamped : List (List ℕ)) (v : Sight) (outs : List Chunk) → IsFree v (book_view book.now).next
         → Adds (S.told site.old) (S.told site.new)
@@ -161,21 +186,17 @@ fn write_record<S: Site>(
     ensures works { Adds (S.told site.old) (S.told site.new) (Worked (WritesTo (segment_name (codes "demux") (book_view book.now).next)) result) }
     ensures cause { JobCause (S.fault_count site.old) (S.fault_count site.new) result }
 {
-    let len = heads.len();
-    prove!(index < len);
     let at = place.saturating_sub(bytes.len() as u64);
-    let Some(held) = holder(heads, end, at, index + 1) else {
+    let Some(cluster) = cluster_at(heads, index, head, end, at) else {
         return Err(JobFault::NoMemory);
     };
-    let head = heads.get(held);
-    let Some(chunk) = record_chunk(end, head.key.cluster, place, bytes) else {
+    let Some(chunk) = record_chunk(end, cluster, place, bytes) else {
         return Err(JobFault::NoMemory);
     };
     put(alloc, site, who, book, output, &chunk)
 }
 
-/// Feeds bytes to the splitter, and writes each record that they complete. They are the last ones of the record of the head at
-/// `index`, which is of the end's stream.
+/// Feeds bytes to the splitter, and writes each record that they complete. They are the last ones of the head's record.
 pub(crate) fn split_value<S: Site>(
     alloc: Global,
     site: &mut S,
@@ -185,12 +206,14 @@ pub(crate) fn split_value<S: Site>(
     splitter: &mut Splitter,
     heads: &Heads,
     index: usize,
+    head: &HeadRef<'_>,
     end: &End,
     value: &[u8],
 ) -> Result<(), JobFault>
     requires job { who.now ≡ job }
     requires writer { IsWriter (book_view book.now).next output.old.segmenter }
     requires index { index < length heads.now }
+    requires head { IsOwnHead heads.now (end_view end.now).stream index head.now }
     ensures told { (stamped : List (List ℕ)) (v : Sight) (outs : List Chunk) (from : ℕ) (by_stamps : Bool) (fed : List ℕ)
         → IsFree v (book_view book.now).next → IsSplitting by_stamps fed splitter.old
         → IsPlaced heads.now (end_view end.now) index from (fed ++ value.now)
@@ -211,7 +234,7 @@ pub(crate) fn split_value<S: Site>(
         at += taken;
         let behind = value.len() - at;
         give(
-            alloc, site, who, book, output, splitter, heads, index, end, behind,
+            alloc, site, who, book, output, splitter, heads, index, head, end, behind,
         )?;
     }
     Ok(())

@@ -7,6 +7,7 @@ mod giving;
 mod laws;
 mod output;
 mod publishing;
+mod recorded;
 mod report;
 mod run;
 mod splitting;

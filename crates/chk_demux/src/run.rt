@@ -99,7 +99,7 @@ fn split_archive<S: Site>(
 /// All bytes of the archive's segments are read once, for the heads of their records, and each record that ends past its stream's
 /// last one once more, in pieces of at most 1,048,576 bytes. Held are a head of 32 bytes for each archived record, such a piece,
 /// one record, and the bytes of the segment that aren't appended yet, at most 1,048,576 and a record. Once the heads stand in
-/// order it goes over them once; for each stream it searches the book of the records.
+/// order it goes over them once, and over the streams of the archive's book and of the records' book once, side by side.
 ///
 /// `Damaged` comes where a book or a segment of the archive isn't in its grammar. `Spent` comes where a segment is needed and its
 /// number is 2^63 - 1. More bytes or records than 64 bits count come as want of memory. After a refusal the old book stands, or

@@ -6,6 +6,7 @@ ghost use Rattle.chk_site.specs.History.{Every};
 ghost use Rattle.chk_site.specs.Site.{Adds};
 ghost use Rattle.chk_site.specs.Runs.{anyhow, Leads};
 ghost use Rattle.chk_chunk.specs.Keys.{Chunk};
+ghost use Rattle.chk_world.specs.Books.{ends_rise};
 ghost use Rattle.chk_world.specs.Places.{As};
 ghost use Rattle.chk_world.specs.Sight.{job, Sight, AtJob};
 ghost use Rattle.chk_world.specs.JobSteps.{IsOf, ReadsFile, ReadsOrWrites, SparesFile};
@@ -26,6 +27,7 @@ ghost use Rattle.chk_demux.specs.Splitting.{past_in, split_from, ends_past, is_s
 use crate::blocks::{Block, block_of};
 use crate::giving::{is_of, split_value};
 use crate::output::Output;
+use crate::recorded::recorded_end;
 use chk_book::{Book, End};
 use chk_bytes::Word;
 use chk_heads::{HeadRef, Heads, JobFault};
@@ -42,11 +44,12 @@ fn is_stamped(kind: &str, types: &[Word]) -> bool
     types.iter().any(|word| word.as_str() == kind)
 }
 
-/// Where the split of a stream goes on: behind its last record, or at its start.
-fn split_from(end: &End, book: &Book) -> u64
-    ensures { result ≡ split_from (book_view book.now) (end_view end.now) }
+/// Where the split of a stream goes on: behind its last record, or at its start. That record's end is looked for as
+/// `recorded_end` does from `next` on.
+fn split_from(end: &End, book: &Book, next: &mut usize) -> u64
+    ensures { IsTrue (ends_rise (book_view book.now).ends) → result ≡ split_from (book_view book.now) (end_view end.now) }
 {
-    let ended = book.archived_end(end.source.as_str(), end.kind.as_str(), end.name.as_str());
+    let ended = recorded_end(book.ends.as_slice(), end, next);
     end.start.max(ended)
 }
 
@@ -104,12 +107,12 @@ fn split_record<S: Site>(
     fetch(alloc, site, who, reader, files, heads, index)?;
     let value = past(reader.value(), head.begin, from);
     split_value(
-        alloc, site, who, book, output, splitter, heads, index, end, value,
+        alloc, site, who, book, output, splitter, heads, index, &head, end, value,
     )
 }
 
-/// Splits what the archive has of the end's stream from its last record on, and says how many bytes are of no complete record. The
-/// stream's heads stand in the block.
+/// Splits what the archive has of the end's stream from the offset `from` on, where its split goes on, and says how many
+/// bytes are of no complete record. The stream's heads stand in the block.
 fn split_stream<S: Site>(
     alloc: Global,
     site: &mut S,
@@ -121,6 +124,7 @@ fn split_stream<S: Site>(
     files: &[Word],
     heads: &Heads,
     end: &End,
+    from: u64,
     block: Block,
 ) -> Result<u64, JobFault>
     requires job { who.now ≡ job }
@@ -129,6 +133,7 @@ fn split_stream<S: Site>(
     ensures told { (stamped : List (List ℕ)) (v : Sight) (cs outs : List Chunk) → AreRecords v files.now heads.now cs
         → IsFree v (book_view book.now).next → RunsSo cs (end_view end.now) (split_from (book_view book.now) (end_view end.now))
         → HoldsStream heads.now (end_view end.now).stream block.first block.end
+        → (from ≡ split_from (book_view book.now) (end_view end.now))
         → Adds (S.told site.old) (S.told site.new)
         (Leads (As stamped job) (AtJob stamped (λ u. IsOutput v outs output.old u × AreWindows v files.now reader.old))
         (EndsSo stamped v (book_view book.now).next (λ left u. IsOutput v
@@ -138,7 +143,6 @@ fn split_stream<S: Site>(
     ensures works { Adds (S.told site.old) (S.told site.new) (Worked (ReadsOrWrites (segment_name (codes "demux") (book_view book.now).next)) result) }
     ensures cause { JobCause (S.fault_count site.old) (S.fault_count site.new) result }
 {
-    let from = split_from(end, book);
     let mut splitter = Splitter::new(alloc, is_stamped(end.kind.as_str(), types));
     for index in block.first..block.end {
         split_record(
@@ -160,8 +164,8 @@ fn split_stream<S: Site>(
 }
 
 /// Splits what the archive has of each stream of its book, in the book's order, each from its last record on, and says how many
-/// bytes are of no complete record. The heads stand in order, which is that of the book's streams too, so that it goes over the heads
-/// once, and reads each record once. A stream that has no heads costs a pass over all of them.
+/// bytes are of no complete record. The heads stand in order, which is that of both books' streams too, so that it goes over
+/// the heads and over both books once, and reads each record once. A stream that has no heads costs a pass over all of them.
 pub(crate) fn split_streams<S: Site>(
     alloc: Global,
     site: &mut S,
@@ -177,7 +181,7 @@ pub(crate) fn split_streams<S: Site>(
     requires writer { IsWriter (book_view book.now).next output.old.segmenter }
     ensures told { (stamped : List (List ℕ)) (v : Sight) (cs : List Chunk) → AreRecords v files.now heads.now cs
         → IsFree v (book_view book.now).next → SplitAll cs (book_view archive.now).ends (book_view book.now)
-        → StreamsRise heads.now → Adds (S.told site.old) (S.told site.new)
+        → StreamsRise heads.now → IsTrue (ends_rise (book_view book.now).ends) → Adds (S.told site.old) (S.told site.new)
         (Leads (As stamped job) (AtJob stamped (IsOutput v [] output.old))
         (EndsSo stamped v (book_view book.now).next (λ left u. IsOutput v
         (all_chunks types.now (book_view book.now) heads.now cs (book_view archive.now).ends) output.new u
@@ -189,8 +193,10 @@ pub(crate) fn split_streams<S: Site>(
     let mut reader = RecordReader::new(alloc);
     let mut left: u64 = 0;
     let mut next = 0;
+    let mut recorded = 0;
     for end in archive.ends.as_slice() {
         let block = block_of(heads, end, &mut next);
+        let from = split_from(end, book, &mut recorded);
         let more = split_stream(
             alloc,
             site,
@@ -202,6 +208,7 @@ pub(crate) fn split_streams<S: Site>(
             files,
             heads,
             end,
+            from,
             block,
         )?;
         left = sum_of(left, more)?;

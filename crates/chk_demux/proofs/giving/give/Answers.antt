@@ -41,7 +41,7 @@ returns-clause-told g c stamped v outs free =
     let s = c.args.splitter.now in
     let place : c.in-Some-place_of.place ≡ place_given heads c.args.index c.args.behind s =
     c.in-Some-place_of.ensures
-    ∙ ap₂ (λ m n. m - c.args.behind - n) (ap (λ (h : Head). h.key.seq) c.get.ensures.head) c.pending.ensures in
+    ∙ ap₂ (λ m n. m - c.args.behind - n) (ap (λ (h : Head). h.key.seq) c.requires.head.there) c.pending.ensures in
     subst (λ l. Adds (g.S.Site.told c.args.site.now) (g.S.Site.told c.write_record.new.site)
     (Leads (As stamped job) (AtJob stamped (IsOutput v outs c.args.output.now))
     (EndsSo stamped v (book_view c.args.book.now).next (λ t u. IsOutput v (outs ++ l) c.write_record.new.output u) c.write_record.result)))

@@ -6,7 +6,6 @@ use Rattle.chk_chunk.specs.Lent.{lent_chunk}
 use Rattle.chk_world.specs.Places.{As}
 use Rattle.chk_world.specs.Sight.{job, AtJob}
 use Rattle.chk_world.specs.JobSteps.{WritesTo}
-use Rattle.chk_heads.specs.Heads.{Head}
 use Rattle.chk_book.specs.Books.{book_view}
 use Rattle.chk_book.specs.Views.{end_view}
 use Rattle.chk_book.specs.Folders.{segment_name}
@@ -34,9 +33,8 @@ returns-clause-told g c stamped v outs free =
     let is : lent_chunk c.in-Some-record_chunk.chunk ≡ made_chunk heads e (c.args.index + 1) seq bytes =
     c.in-Some-record_chunk.ensures.is
     ∙ ap (λ k. keyed e k seq bytes)
-    (ap (λ (h : Head). h.key.cluster) c.get-head.ensures.head
-    ∙ (c.in-Some.ensures.cluster
-    ∙ ap (λ n. cluster_back heads e.stream n (c.args.index + 1)) c.saturating_sub-at.ensures)) in
+    (c.in-Some.ensures.cluster
+    ∙ ap (λ n. cluster_back heads e.stream n (c.args.index + 1)) c.saturating_sub-at.ensures) in
     subst (λ l. Adds (g.S.Site.told c.args.site.now) (g.S.Site.told c.put.new.site)
     (Leads (As stamped job) (AtJob stamped (IsOutput v outs c.args.output.now))
     (EndsSo stamped v (book_view c.args.book.now).next (λ t u. IsOutput v (outs ++ l) c.put.new.output u) c.put.result)))

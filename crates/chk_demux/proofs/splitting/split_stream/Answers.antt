@@ -25,9 +25,9 @@ loop-index-init g c = record {
   so_far = λ stamped v cs outs b records free runs holds is.
       leads_none (g.S.Site.told c.args.site.now)
       (λ h k. at_as stamped (λ u. IsOutput v outs c.args.output.now u × AreWindows v c.args.files.now c.args.reader.now)
-      (SplitSoFar v c.args.files.now c.args.heads.now cs outs (end_view c.args.end.now) c.split_from-from.result c.args.block.first b c.args.output.now
+      (SplitSoFar v c.args.files.now c.args.heads.now cs outs (end_view c.args.end.now) c.args.from c.args.block.first b c.args.output.now
       c.args.reader.now c.new-splitter.result)
-      (λ u p. stream_begun v c.args.files.now c.args.heads.now cs outs (end_view c.args.end.now) c.split_from-from.result b
+      (λ u p. stream_begun v c.args.files.now c.args.heads.now cs outs (end_view c.args.end.now) c.args.from b
       c.args.output.now c.args.reader.now c.new-splitter.result u c.args.block.first c.args.block.end c.requires.block.0
       c.requires.block.1 records runs holds is p) h k);
   writer = c.requires.writer;
@@ -41,7 +41,7 @@ loop-index-preserved g c =
     let next = (book_view c.args.book.now).next in
     let w = segment_name (codes "demux") next in
     let e = end_view c.args.end.now in
-    let from = c.split_from-from.result in
+    let from = c.args.from in
     record {
       so_far = λ stamped v cs outs b records free runs holds is.
           leads_then (l.invariant.so_far stamped v cs outs b records free runs holds is)
@@ -59,15 +59,15 @@ loop-index-preserved g c =
     }
 
 pub returns-in_err-split_record-clause-told : goal.returns-in_err-split_record-clause-told
-returns-in_err-split_record-clause-told g c stamped v cs outs records free runs holds =
+returns-in_err-split_record-clause-told g c stamped v cs outs records free runs holds goes =
     let p = err_from_is_err_and c.from_residual.result c.from_residual.ensures.1 in
     let l = c.loop-index in
     let next = (book_view c.args.book.now).next in
     let e = end_view c.args.end.now in
-    let from = c.split_from-from.result in
+    let from = c.args.from in
     let types = c.args.types.now in
     let b = is_stamped types e.stream.kind in
-    let here : RunsSo cs e from = subst (RunsSo cs e) (sym c.split_from-from.ensures) runs in
+    let here : RunsSo cs e from = subst (RunsSo cs e) (sym goes) runs in
     let is : c.new-splitter.result ≡ fresh b =
     c.new-splitter.ensures ∙ ap fresh (c.is_stamped.ensures ∙ ap (is_stamped types) c.as_str.ensures.text) in
     rw (p.1, p.2)
@@ -90,15 +90,15 @@ returns-in_err-split_record-clause-works g c =
     (works_then (ReadsOrWrites w) (Ok tt) c.split_record.result c.loop-index.invariant.works c.split_record.ensures.works))
 
 pub returns-clause-told : goal.returns-clause-told
-returns-clause-told g c stamped v cs outs records free runs holds =
+returns-clause-told g c stamped v cs outs records free runs holds goes =
     let l = c.loop-index in
     let e = end_view c.args.end.now in
-    let from = c.split_from-from.result in
+    let from = c.args.from in
     let types = c.args.types.now in
     let heads = c.args.heads.now in
     let files = c.args.files.now in
     let b = is_stamped types e.stream.kind in
-    let here : RunsSo cs e from = subst (RunsSo cs e) (sym c.split_from-from.ensures) runs in
+    let here : RunsSo cs e from = subst (RunsSo cs e) (sym goes) runs in
     let is : c.new-splitter.result ≡ fresh b =
     c.new-splitter.ensures ∙ ap fresh (c.is_stamped.ensures ∙ ap (is_stamped types) c.as_str.ensures.text) in
     let first = c.args.block.first in
@@ -118,6 +118,6 @@ returns-clause-told g c stamped v cs outs records free runs holds =
           subst (λ n. IsOutput v (outs ++ chunks_of_fed heads e n b (past_in n e.stream cs)) l.output (sight h)
           × AreWindows v files l.reader
           × (c.pending.result ≡ length (past_in n e.stream cs) - length (joined (pieces_of b (past_in n e.stream cs)))))
-          c.split_from-from.ensures (q.0, q.1, c.pending.ensures ∙ q.2);
+          goes (q.0, q.1, c.pending.ensures ∙ q.2);
     })
     (l.invariant.so_far stamped v cs outs b records free here holds is)

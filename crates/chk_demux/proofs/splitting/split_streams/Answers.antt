@@ -23,7 +23,7 @@ use Rattle.chk_demux.proofs.splitting.split_streams.Goals as goal
 
 pub loop-end-init : goal.loop-end-init
 loop-end-init g c = record {
-  so_far = λ stamped v cs records free runs rise.
+  so_far = λ stamped v cs records free runs rise rises.
       leads_none (g.S.Site.told c.args.site.now)
       (λ h k. record {
         legal = k.legal;
@@ -55,7 +55,7 @@ loop-end-preserved g c =
     ∙ (seen_at end_view c.as_slice-end-items.result.now i c.end-item.result ∙ ap end_view (sym c.end-item.is)) in
     let w = segment_name (codes "demux") b.next in
     record {
-      so_far = λ stamped v cs records free runs rise.
+      so_far = λ stamped v cs records free runs rise rises.
           let here : RunsSo cs e (split_from b e) =
           subst (λ x. RunsSo cs x (split_from b x)) is (each_index (λ x. RunsSo cs x (split_from b x)) ends runs i low e) in
           let so = all_chunks types b heads cs (take i ends) in
@@ -66,8 +66,9 @@ loop-end-preserved g c =
           let A = AtJob stamped (IsOutput v [] c.args.output.now) in
           let first = leads_as {S = As stamped job} (λ h k. k)
           (λ h k. at_as stamped (λ u. IsOutput v so l.output u × AreWindows v files l.reader × X) (λ u. P u × X) (λ u p. ((p.0, p.1), p.2)) h k)
-          (l.invariant.so_far stamped v cs records free runs rise) in
-          let second = c.split_stream.ensures.told stamped v cs so records free here (c.block_of-block.ensures.holds rise) in
+          (l.invariant.so_far stamped v cs records free runs rise rises) in
+          let second = c.split_stream.ensures.told stamped v cs so records free here (c.block_of-block.ensures.holds rise)
+          (c.split_from-from.ensures rises) in
           let w = segment_name (codes "demux") b.next in
           leads_as {S = As stamped job} (λ h k. k)
           (λ h k. at_as stamped (λ u. R c.in_ok-more.more u × X)
@@ -89,7 +90,7 @@ loop-end-preserved g c =
     }
 
 pub returns-in_err-more-clause-told : goal.returns-in_err-more-clause-told
-returns-in_err-more-clause-told g c stamped v cs records free runs rise =
+returns-in_err-more-clause-told g c stamped v cs records free runs rise rises =
     let p = err_from_is_err_and c.from_residual.result c.from_residual.ensures.1 in
     let l = c.loop-end in
     let types = c.args.types.now in
@@ -116,8 +117,9 @@ returns-in_err-more-clause-told g c stamped v cs records free runs rise =
     let A = AtJob stamped (IsOutput v [] c.args.output.now) in
     let first = leads_as {S = As stamped job} (λ h k. k)
     (λ h k. at_as stamped (λ u. IsOutput v so l.output u × AreWindows v files l.reader × X) (λ u. P u × X) (λ u p. ((p.0, p.1), p.2)) h k)
-    (l.invariant.so_far stamped v cs records free runs rise) in
-    let second = c.split_stream.ensures.told stamped v cs so records free here (c.block_of-block.ensures.holds rise) in
+    (l.invariant.so_far stamped v cs records free runs rise rises) in
+    let second = c.split_stream.ensures.told stamped v cs so records free here (c.block_of-block.ensures.holds rise)
+    (c.split_from-from.ensures rises) in
     let w = segment_name (codes "demux") b.next in
     rw (p.1, p.2)
     (stream_fails stamped v b.next w A P P X R c.split_stream.result first second c.split_stream.ensures.works {U = ℕ}
@@ -134,7 +136,7 @@ returns-in_err-more-clause-works g c =
     (works_then (ReadsOrWrites w) (Ok tt) c.split_stream.result c.loop-end.invariant.works c.split_stream.ensures.works))
 
 pub returns-in_err-left-clause-told : goal.returns-in_err-left-clause-told
-returns-in_err-left-clause-told g c stamped v cs records free runs rise =
+returns-in_err-left-clause-told g c stamped v cs records free runs rise rises =
     let p = err_from_is_err_and c.from_residual-in_err-left.result c.from_residual-in_err-left.ensures.1 in
     let l = c.loop-end in
     let types = c.args.types.now in
@@ -161,8 +163,9 @@ returns-in_err-left-clause-told g c stamped v cs records free runs rise =
     let A = AtJob stamped (IsOutput v [] c.args.output.now) in
     let first = leads_as {S = As stamped job} (λ h k. k)
     (λ h k. at_as stamped (λ u. IsOutput v so l.output u × AreWindows v files l.reader × X) (λ u. P u × X) (λ u p. ((p.0, p.1), p.2)) h k)
-    (l.invariant.so_far stamped v cs records free runs rise) in
-    let second = c.split_stream.ensures.told stamped v cs so records free here (c.block_of-block.ensures.holds rise) in
+    (l.invariant.so_far stamped v cs records free runs rise rises) in
+    let second = c.split_stream.ensures.told stamped v cs so records free here (c.block_of-block.ensures.holds rise)
+    (c.split_from-from.ensures rises) in
     let w = segment_name (codes "demux") b.next in
     rw (p.1, p.2, c.in_err-left.ensures.only)
     (no_more {U = ℕ} stamped v b.next A (λ u. R c.in_ok-more.more u × X)
@@ -182,7 +185,7 @@ returns-in_err-left-clause-works g c =
     (works_then (ReadsOrWrites w) (Ok tt) c.split_stream.result c.loop-end.invariant.works c.split_stream.ensures.works)))
 
 pub returns-clause-told : goal.returns-clause-told
-returns-clause-told g c stamped v cs records free runs rise =
+returns-clause-told g c stamped v cs records free runs rise rises =
     let l = c.loop-end in
     let types = c.args.types.now in
     let b = book_view c.args.book.now in
@@ -202,4 +205,4 @@ returns-clause-told g c stamped v cs records free runs rise =
             p.2 ∙ ap (all_left types b cs) all,
           );
     })
-    (l.invariant.so_far stamped v cs records free runs rise)
+    (l.invariant.so_far stamped v cs records free runs rise rises)

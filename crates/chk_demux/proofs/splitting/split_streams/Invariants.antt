@@ -1,8 +1,9 @@
 use Rattle.std.proofs.Common.{◌≡◌, ℕ, List, [], take, Ok}
-use Rattle.std.specs.Prelude.{codes}
+use Rattle.std.specs.Prelude.{codes, IsTrue}
 use Rattle.chk_site.specs.Site.{Adds}
 use Rattle.chk_site.specs.Runs.{Leads}
 use Rattle.chk_chunk.specs.Keys.{Chunk}
+use Rattle.chk_world.specs.Books.{ends_rise}
 use Rattle.chk_world.specs.Places.{As}
 use Rattle.chk_world.specs.Sight.{job, Sight, AtJob}
 use Rattle.chk_world.specs.JobSteps.{ReadsOrWrites}
@@ -19,7 +20,7 @@ abbrev pub invariant-loop-end : goal.invariant-loop-end
 invariant-loop-end g l = record {
   so_far : (stamped : List (List ℕ)) (v : Sight) (cs : List Chunk) → AreRecords v l.files l.heads cs
       → IsFree v (book_view l.book).next → SplitAll cs (book_view l.archive).ends (book_view l.book)
-      → StreamsRise l.heads
+      → StreamsRise l.heads → IsTrue (ends_rise (book_view l.book).ends)
       → Adds (g.S.Site.told l.fn.site) (g.S.Site.told l.site) (Leads (As stamped job)
       (AtJob stamped (IsOutput v [] l.fn.output))
       (AtJob stamped (λ u. IsOutput v (all_chunks l.types (book_view l.book) l.heads cs (take l.end-index (book_view l.archive).ends)) l.output u
