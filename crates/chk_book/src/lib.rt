@@ -4,6 +4,7 @@
 mod book;
 mod fields;
 mod files;
+mod last_key;
 mod laws;
 mod lists;
 mod names;
