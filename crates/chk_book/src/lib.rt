@@ -4,10 +4,10 @@
 mod book;
 mod fields;
 mod files;
-mod last_key;
 mod laws;
 mod lists;
 mod names;
+mod noting;
 mod reading;
 mod segmenter;
 mod writing;

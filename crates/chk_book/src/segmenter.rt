@@ -6,11 +6,12 @@ ghost use Rattle.chk_book.specs.Recent.{IsRecent};
 
 use crate::book::Book;
 use crate::files::{append_to, begin_segment_file, finish_file};
-use crate::last_key::LastKey;
 use crate::lists::{Ends, Segment};
+use crate::noting::note;
 use crate::{JobFault, names};
 use chk_bytes::{Bytes, NoMemory, Word};
 use chk_chunk::{Chunk, ChunkRef};
+use chk_last_key::LastKey;
 use chk_seqfile::SeqWriter;
 use chk_site::{OutsideFault, Site, Who};
 use std::alloc::Global;
@@ -37,7 +38,7 @@ pub struct Segmenter {
     pub ends: Ends,
     ghost folder_can: { IsTrue (is_folder folder) },
     ghost numbered: { number < 2 ^ 63 - 1 },
-    ghost recent: { IsRecent key.bytes.items ends },
+    ghost recent: { IsRecent key ends },
 }
 
 impl Book {
@@ -245,9 +246,9 @@ impl Segmenter {
         if self.writer.place > MOST_BYTES {
             return Err(NoMemory);
         }
-        self.key.note(&mut self.ends, alloc, chunk)?;
+        note(&mut self.key, &mut self.ends, alloc, chunk)?;
         self.writer
-            .entry_to(&mut self.buffer, self.key.bytes.as_slice(), chunk.body)
+            .entry_to(&mut self.buffer, self.key.as_slice(), chunk.body)
     }
 
     /// Appends what is in the buffer.
