@@ -5,6 +5,7 @@ pub mod WrittenLists
 pub mod NoDamage
 pub mod EndRaises
 pub mod EndPlaces
+pub mod Recent
 pub mod Storing
 pub mod SegmentForms
 pub mod Segmented

@@ -8,6 +8,7 @@ pub mod Books
 pub mod Loaded
 pub mod Segmenting
 pub mod Raising
+pub mod Recent
 pub mod Storing
 pub mod Written
 pub mod Adding

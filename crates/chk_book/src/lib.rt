@@ -7,6 +7,7 @@ mod files;
 mod laws;
 mod lists;
 mod names;
+mod noting;
 mod reading;
 mod segmenter;
 mod writing;

@@ -7,6 +7,7 @@ ghost use Rattle.chk_world.specs.Books.{End as BookEnd};
 ghost use Rattle.chk_book.specs.Views.{end_view, lent_stream, last_stream};
 ghost use Rattle.chk_book.specs.Segmenting.{end_of, raised_end, raised_by};
 ghost use Rattle.chk_book.specs.Raising.{IsPlaceOf, ArePassed, AreUpTo, goes_by};
+ghost use Rattle.chk_book.specs.Recent.{IsLast};
 
 use crate::fields::comes_before;
 use chk_bytes::{NoMemory, Word};
@@ -259,16 +260,31 @@ impl Ends {
     /// Notes the end that a chunk gives its stream: behind the others, or in place of the last one where that is of this stream.
     pub(crate) fn note(&mut self, alloc: Global, chunk: &ChunkRef<'_>) -> Result<(), NoMemory>
         requires { IsTrue (has_words (lent_chunk chunk.now).key) }
-        ensures { OnOk result ((es : List BookEnd) →
-            raised_by (map end_view self.new) es ≡ raised_end (end_of (lent_chunk chunk.now)) (raised_by (map end_view self.old) es)) }
+        ensures ends { OnOk result ((es : List BookEnd) →
+            raised_by (map end_view self.new) es
+            ≡ raised_end (end_of (lent_chunk chunk.now)) (raised_by (map end_view self.old) es)) }
+        ensures last { OnOk result (IsLast (lent_chunk chunk.now).key.stream self.new) }
+        ensures err { OnErr result (self.new ≡ self.old) }
     {
         let count = self.items.len();
         if count > 0 && self.items[count - 1].is_of(chunk) {
-            self.items[count - 1].end = chunk.seq;
+            self.raise_last(chunk);
             return Ok(());
         }
         self.items.push(End::of(alloc, chunk)?)?;
         Ok(())
+    }
+
+    /// Raises the last end to the one that a chunk of its stream gives it.
+    pub(crate) fn raise_last(&mut self, chunk: &ChunkRef<'_>)
+        requires { IsLast (lent_chunk chunk.now).key.stream self.old }
+        ensures ends { (es : List BookEnd) →
+            raised_by (map end_view self.new) es
+            ≡ raised_end (end_of (lent_chunk chunk.now)) (raised_by (map end_view self.old) es) }
+        ensures last { IsLast (lent_chunk chunk.now).key.stream self.new }
+    {
+        let last = self.items.len() - 1;
+        self.items[last].end = chunk.seq;
     }
 
     /// The last one.

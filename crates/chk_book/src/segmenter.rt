@@ -2,13 +2,16 @@
 
 ghost use Rattle.std.specs.Prelude.{◌≡◌, ◌-◌, ◌^◌, ◌<◌, IsTrue};
 ghost use Rattle.chk_book.specs.Folders.{is_folder};
+ghost use Rattle.chk_book.specs.Recent.{IsRecent};
 
 use crate::book::Book;
 use crate::files::{append_to, begin_segment_file, finish_file};
 use crate::lists::{Ends, Segment};
+use crate::noting::note;
 use crate::{JobFault, names};
 use chk_bytes::{Bytes, NoMemory, Word};
-use chk_chunk::{Chunk, ChunkRef, write_key};
+use chk_chunk::{Chunk, ChunkRef};
+use chk_last_key::LastKey;
 use chk_seqfile::SeqWriter;
 use chk_site::{OutsideFault, Site, Who};
 use std::alloc::Global;
@@ -22,9 +25,6 @@ const BUFFER: usize = 1 << 20;
 /// Behind this many bytes nothing more is written to a segment.
 const MOST_BYTES: u64 = 1 << 62;
 
-/// A key has room for this many bytes from its begin, which most keys don't pass.
-const KEY_BYTES: usize = 256;
-
 /// A segment under writing. It holds at most 1,048,576 bytes and one record that aren't appended yet.
 #[derive(Drop)]
 pub struct Segmenter {
@@ -33,12 +33,12 @@ pub struct Segmenter {
     pub number: u64,
     pub writer: SeqWriter,
     pub buffer: Bytes,
-    /// The key of the last record, whose memory the next one's key takes.
-    key: Bytes,
+    key: LastKey,
     /// The ends that its parts give their streams, in turn; those of neighbours of one stream as one.
     pub ends: Ends,
     ghost folder_can: { IsTrue (is_folder folder) },
     ghost numbered: { number < 2 ^ 63 - 1 },
+    ghost recent: { IsRecent key ends },
 }
 
 impl Book {
@@ -153,14 +153,16 @@ impl Segmenter {
             number,
             writer: SeqWriter::after_header(stem.as_str()),
             buffer: Bytes::new(alloc),
-            key: Bytes::with_capacity(alloc, KEY_BYTES)?,
+            key: LastKey::new(alloc)?,
             ends: Ends::new(alloc),
         })
     }
 
     /// Writes a chunk behind the others, as a part of its stream's records. Its bytes are moved once into the buffer; where
-    /// that then has 1,048,576 bytes or more, it is appended. Nothing is written behind 2^62 bytes: `NoMemory` comes then. After
-    /// a refusal nothing is said of the segment; no book names its file, and the next segment of this number replaces it.
+    /// that then has 1,048,576 bytes or more, it is appended. Where its stream, start and cluster are those of the part before,
+    /// its texts are compared once, and no more than its sequence id is spelled. Nothing is written behind 2^62 bytes:
+    /// `NoMemory` comes then. After a refusal nothing is said of the segment; no book names its file, and the next segment of
+    /// this number replaces it.
     pub fn part<S: Site>(
         &mut self,
         alloc: Global,
@@ -244,9 +246,7 @@ impl Segmenter {
         if self.writer.place > MOST_BYTES {
             return Err(NoMemory);
         }
-        self.key.truncate(0);
-        write_key(&mut self.key, chunk)?;
-        self.ends.note(alloc, chunk)?;
+        note(&mut self.key, &mut self.ends, alloc, chunk)?;
         self.writer
             .entry_to(&mut self.buffer, self.key.as_slice(), chunk.body)
     }

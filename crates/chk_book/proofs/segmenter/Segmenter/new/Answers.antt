@@ -13,6 +13,6 @@ returns c =
           is_at _ (begun folder c.args.number) c.in_ok-from_text.ensures refl c.new.ensures (begun_form folder c.args.number)
           (c.after_header.ensures.place ∙ begun_size folder c.args.number)
           (c.after_header.ensures.marker ∙ ap marker_of (c.as_str.ensures.value ∙ c.in_ok-stem.ensures.stem))
-          (λ es. ap (λ x. raised_by (map end_view x) es) c.new-2.ensures);
+          (λ es. ap (λ x. raised_by (map end_view x) es) c.new-3.ensures);
       who = c.in_ok-copy.ensures;
     }
