@@ -107,13 +107,15 @@ impl RecordReader {
     ) -> Result<(), JobFault>
         requires name { IsTrue (is_word name.now) }
         requires index { index < length heads.now }
+        requires head { lent_head head.now ≡ slice_index_or heads.now index no_head }
         ensures raw { (most : ℕ) (f : Option File) → most ≤ 1048576 → IsSmallFile f → Adds
             (S.told site.old) (S.told site.new)
             (Leads (anyhow (SparesFile name.now)) (CanRead most name.now f
-            (lent_head head.now) self.old)
-            (HasRead name.now f (lent_head head.now) self.new result)) }
+            (slice_index_or heads.now index no_head) self.old)
+            (HasRead name.now f (slice_index_or heads.now index no_head) self.new result)) }
         ensures left { OnErr result (HoldsNothing self.new) }
-        ensures place { IfErr result (IsDamageOf name.now (lent_head head.now)) }
+        ensures place { IfErr result (IsDamageOf name.now
+            (slice_index_or heads.now index no_head)) }
         ensures stays { (other : List ℕ) (file : Option File) → Adds (S.told site.old)
             (S.told site.new)
             (Leads (anyhow (SparesFile other)) (Has other file) (StaysAtOk other file result)) }
@@ -127,11 +129,12 @@ impl RecordReader {
         if self.find(head) {
             return Ok(());
         }
-        self.refill(alloc, site, who, name, heads, index, head)
+        self.refill(alloc, site, who, name, heads, index)
     }
 
-    /// Reads the record of a head, and what is read with it, and makes its value the one that is
-    /// held. It stands apart, so that a record that the window holds costs no more than its search.
+    /// Reads the record of the head at `index`, and what is read with it, and makes its value the
+    /// one that is held. It stands apart, and is lent no head, so that a record that the window
+    /// holds costs no more than its search.
     #[inline(never)]
     fn refill<S: Site>(
         &mut self,
@@ -141,17 +144,17 @@ impl RecordReader {
         name: &str,
         heads: &Heads,
         index: usize,
-        head: &HeadRef<'_>,
     ) -> Result<(), JobFault>
         requires name { IsTrue (is_word name.now) }
         requires index { index < length heads.now }
         ensures raw { (most : ℕ) (f : Option File) → most ≤ 1048576 → IsSmallFile f → Adds
             (S.told site.old) (S.told site.new)
             (Leads (anyhow (SparesFile name.now)) (CanRead most name.now f
-            (lent_head head.now) self.old)
-            (HasRead name.now f (lent_head head.now) self.new result)) }
+            (slice_index_or heads.now index no_head) self.old)
+            (HasRead name.now f (slice_index_or heads.now index no_head) self.new result)) }
         ensures left { OnErr result (HoldsNothing self.new) }
-        ensures place { IfErr result (IsDamageOf name.now (lent_head head.now)) }
+        ensures place { IfErr result (IsDamageOf name.now
+            (slice_index_or heads.now index no_head)) }
         ensures stays { (other : List ℕ) (file : Option File) → Adds (S.told site.old)
             (S.told site.new)
             (Leads (anyhow (SparesFile other)) (Has other file) (StaysAtOk other file result)) }
@@ -162,9 +165,10 @@ impl RecordReader {
         ensures last { Adds (S.told site.old) (S.told site.new) (FailsLast result) }
         ensures cause { JobCause (S.fault_count site.old) (S.fault_count site.new) result }
     {
-        let size = reach(heads, index, head);
-        self.load(alloc, site, who, name, head, size)?;
-        if self.find(head) {
+        let head = heads.get(index);
+        let size = reach(heads, index, &head);
+        self.load(alloc, site, who, name, &head, size)?;
+        if self.find(&head) {
             return Ok(());
         }
         self.clear(alloc);

@@ -4,7 +4,6 @@ use Rattle.chk_site.specs.Site.{Adds}
 use Rattle.chk_site.specs.Runs.{Leads, anyhow}
 use Rattle.chk_world.specs.JobSteps.{SparesFile}
 use Rattle.chk_heads.specs.Heads.{Head}
-use Rattle.chk_heads.specs.Order.{lent_head}
 use Rattle.chk_plan.specs.Passes.{head_in}
 use Rattle.chk_merge.specs.ReadBack.{CanRead, HasRead}
 use Rattle.chk_parts.specs.Fetching.{head_file}
@@ -15,17 +14,13 @@ pub returns-in-Some-clause-raw : goal.returns-in-Some-clause-raw
 returns-in-Some-clause-raw g c v d sound is =
     let files = c.args.files.now in
     let heads = c.args.heads.now in
+    let h : Head = head_in heads c.args.index in
     let r = c.args.reader.now in
     let t = c.fetch_by_head.new.self in
-    let w = c.as_str.result.now in
-    let same : lent_head c.args.head.now ≡ head_in heads c.args.index = c.requires.head in
-    let name : w ≡ head_file files heads c.args.index = c.as_str.ensures.text
-    ∙ (c.in-Some.ensures.lookup.3.1 [] ∙ ap (λ (x : Head). slice_index_or files x.file []) same) in
+    let name : c.as_str.result.now ≡ head_file files heads c.args.index = c.as_str.ensures.text
+    ∙ (c.in-Some.ensures.lookup.3.1 [] ∙ ap (λ (x : Head). slice_index_or files x.file []) c.requires.head) in
     fetched v files heads c.args.index d sound is r t c.fetch_by_head.result
     (λ most f low small.
     subst (λ w. Adds (g.S.Site.told c.args.site.now) (g.S.Site.told c.fetch_by_head.new.site)
-    (Leads (anyhow (SparesFile w)) (CanRead most w f (head_in heads c.args.index) r)
-    (HasRead w f (head_in heads c.args.index) t c.fetch_by_head.result))) name
-    (subst (λ h. Adds (g.S.Site.told c.args.site.now) (g.S.Site.told c.fetch_by_head.new.site)
-    (Leads (anyhow (SparesFile w)) (CanRead most w f h r) (HasRead w f h t c.fetch_by_head.result))) same
-    (c.fetch_by_head.ensures.raw most f low small)))
+    (Leads (anyhow (SparesFile w)) (CanRead most w f h r) (HasRead w f h t c.fetch_by_head.result))) name
+    (c.fetch_by_head.ensures.raw most f low small))

@@ -1,5 +1,11 @@
+use Rattle.std.proofs.Common.{Ok, ◌≤◌, subst}
 use Rattle.std.proofs.lemmas.Result.{err_from_is_err_and}
-use Rattle.chk_heads.specs.Order.{lent_head}
+use Rattle.chk_site.specs.Site.{Adds}
+use Rattle.chk_site.specs.Runs.{anyhow, Leads}
+use Rattle.chk_replace.specs.Load.{Has}
+use Rattle.chk_world.specs.JobSteps.{SparesFile}
+use Rattle.chk_merge.specs.Spans.{room_of}
+use Rattle.chk_merge.specs.ReadBack.{IsHeld, NotHeld, HasWindow}
 use Rattle.chk_merge.proofs.RunReads.{unsaid}
 use Rattle.chk_merge.proofs.Fetching.{found_then, never_then}
 use Rattle.chk_merge.proofs.reader.RecordReader.refill.Goals as goal
@@ -11,14 +17,32 @@ returns-in_err-load-clause-stays g c =
 
 pub returns-then-find-clause-raw : goal.returns-then-find-clause-raw
 returns-then-find-clause-raw g c = λ most f few small.
-    found_then most c.args.name.now f (lent_head c.args.head.now) c.reach-size.result c.args.self.now
-    c.load.new.self c.find.new.self c.if-find.ensures (c.in_ok-load.ensures.raw f small)
+    let name = c.args.name.now in
+    let size = c.reach-size.result in
+    found_then most name f _ size c.args.self.now c.load.new.self c.find.new.self
+    (subst (λ h. IsHeld h c.load.new.self c.find.new.self) c.get-head.ensures.head
+    c.if-find.ensures)
+    (subst
+    (λ h. Adds (g.S.Site.told c.args.site.now) (g.S.Site.told c.load.new.site)
+    (Leads (anyhow (SparesFile name)) (Has name f) (HasWindow name f h size c.load.new.self
+    (Ok tt))))
+    c.get-head.ensures.head (c.in_ok-load.ensures.raw f small))
 
 pub returns-clause-raw : goal.returns-clause-raw
 returns-clause-raw g c = λ most f few small.
-    never_then most c.args.name.now f (lent_head c.args.head.now) c.reach-size.result c.args.self.now
-    c.load.new.self c.find.new.self c.damaged.result few c.reach-size.ensures.enough
-    c.if-find.ensures (c.in_ok-load.ensures.raw f small) c.clear.new.self
+    let name = c.args.name.now in
+    let size = c.reach-size.result in
+    never_then most name f _ size c.args.self.now c.load.new.self c.find.new.self
+    c.damaged.result few
+    (subst (λ h. room_of h ≤ size) c.get-head.ensures.head c.reach-size.ensures.enough)
+    (subst (λ h. NotHeld h c.load.new.self c.find.new.self) c.get-head.ensures.head
+    c.if-find.ensures)
+    (subst
+    (λ h. Adds (g.S.Site.told c.args.site.now) (g.S.Site.told c.load.new.site)
+    (Leads (anyhow (SparesFile name)) (Has name f) (HasWindow name f h size c.load.new.self
+    (Ok tt))))
+    c.get-head.ensures.head (c.in_ok-load.ensures.raw f small))
+    c.clear.new.self
 
 pub returns-clause-stays : goal.returns-clause-stays
 returns-clause-stays g c = λ other file. unsaid other file c.in_ok-load.ensures.pieces
