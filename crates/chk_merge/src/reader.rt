@@ -90,11 +90,83 @@ impl RecordReader {
         ensures last { Adds (S.told site.old) (S.told site.new) (FailsLast result) }
         ensures cause { JobCause (S.fault_count site.old) (S.fault_count site.new) result }
     {
-        let head = heads.get(index);
-        if self.find(&head) {
+        self.fetch_by_head(alloc, site, who, name, heads, index, &heads.get(index))
+    }
+
+    /// The same for a caller that has the head at `index`. Of the heads only the next ones are
+    /// looked at, and none where the window holds the record.
+    pub fn fetch_by_head<S: Site>(
+        &mut self,
+        alloc: Global,
+        site: &mut S,
+        who: &Who,
+        name: &str,
+        heads: &Heads,
+        index: usize,
+        head: &HeadRef<'_>,
+    ) -> Result<(), JobFault>
+        requires name { IsTrue (is_word name.now) }
+        requires index { index < length heads.now }
+        requires head { lent_head head.now ≡ slice_index_or heads.now index no_head }
+        ensures raw { (most : ℕ) (f : Option File) → most ≤ 1048576 → IsSmallFile f → Adds
+            (S.told site.old) (S.told site.new)
+            (Leads (anyhow (SparesFile name.now)) (CanRead most name.now f
+            (slice_index_or heads.now index no_head) self.old)
+            (HasRead name.now f (slice_index_or heads.now index no_head) self.new result)) }
+        ensures left { OnErr result (HoldsNothing self.new) }
+        ensures place { IfErr result (IsDamageOf name.now
+            (slice_index_or heads.now index no_head)) }
+        ensures stays { (other : List ℕ) (file : Option File) → Adds (S.told site.old)
+            (S.told site.new)
+            (Leads (anyhow (SparesFile other)) (Has other file) (StaysAtOk other file result)) }
+        ensures own { who.now ≡ job → Adds (S.told site.old) (S.told site.new) (Every
+            (IsOf ReadsFile)) }
+        ensures pieces { Adds (S.told site.old) (S.told site.new) (Every AsksInPieces) }
+        ensures only { IfErr result IsOfRead }
+        ensures last { Adds (S.told site.old) (S.told site.new) (FailsLast result) }
+        ensures cause { JobCause (S.fault_count site.old) (S.fault_count site.new) result }
+    {
+        if self.find(head) {
             return Ok(());
         }
-        let size = reach(heads, index);
+        self.refill(alloc, site, who, name, heads, index)
+    }
+
+    /// Reads the record of the head at `index`, and what is read with it, and makes its value the
+    /// one that is held. It stands apart, and is lent no head, so that a record that the window
+    /// holds costs no more than its search.
+    #[inline(never)]
+    fn refill<S: Site>(
+        &mut self,
+        alloc: Global,
+        site: &mut S,
+        who: &Who,
+        name: &str,
+        heads: &Heads,
+        index: usize,
+    ) -> Result<(), JobFault>
+        requires name { IsTrue (is_word name.now) }
+        requires index { index < length heads.now }
+        ensures raw { (most : ℕ) (f : Option File) → most ≤ 1048576 → IsSmallFile f → Adds
+            (S.told site.old) (S.told site.new)
+            (Leads (anyhow (SparesFile name.now)) (CanRead most name.now f
+            (slice_index_or heads.now index no_head) self.old)
+            (HasRead name.now f (slice_index_or heads.now index no_head) self.new result)) }
+        ensures left { OnErr result (HoldsNothing self.new) }
+        ensures place { IfErr result (IsDamageOf name.now
+            (slice_index_or heads.now index no_head)) }
+        ensures stays { (other : List ℕ) (file : Option File) → Adds (S.told site.old)
+            (S.told site.new)
+            (Leads (anyhow (SparesFile other)) (Has other file) (StaysAtOk other file result)) }
+        ensures own { who.now ≡ job → Adds (S.told site.old) (S.told site.new) (Every
+            (IsOf ReadsFile)) }
+        ensures pieces { Adds (S.told site.old) (S.told site.new) (Every AsksInPieces) }
+        ensures only { IfErr result IsOfRead }
+        ensures last { Adds (S.told site.old) (S.told site.new) (FailsLast result) }
+        ensures cause { JobCause (S.fault_count site.old) (S.fault_count site.new) result }
+    {
+        let head = heads.get(index);
+        let size = reach(heads, index, &head);
         self.load(alloc, site, who, name, &head, size)?;
         if self.find(&head) {
             return Ok(());

@@ -1,7 +1,7 @@
 //! Where records stand, and how far a read goes.
 
-ghost use Rattle.std.specs.Prelude.{◌≡◌, ◌≤◌, ◌<◌, min, length, slice_index_or, IfSome, IfNone};
-ghost use Rattle.chk_heads.specs.Order.{lent_head, no_head};
+ghost use Rattle.std.specs.Prelude.{◌≡◌, ◌≤◌, ◌<◌, min, length, IfSome, IfNone};
+ghost use Rattle.chk_heads.specs.Order.{lent_head};
 ghost use Rattle.chk_merge.specs.Spans.{IsValueSpan, NoValueSpan, room_of};
 
 use chk_bytes::take_u32;
@@ -57,19 +57,26 @@ fn counted(word: &str) -> u64
     word.len().min(4096) as u64
 }
 
-/// How many bytes from a head's record on are read at once: the record, and those of the next
-/// heads that follow it in its file, up to 262,144 bytes, as long as at most 4,096 bytes lie
-/// between two of them. It costs the heads that it reaches.
-pub(crate) fn reach(heads: &Heads, index: usize) -> u64
+/// How many bytes of data the record of a head has.
+fn data(head: &HeadRef<'_>) -> u64 {
+    head.key.seq.saturating_sub(head.begin)
+}
+
+/// How many bytes from a head's record on are read at once: the record, and those of the heads
+/// behind `index` that follow it in its file, up to 262,144 bytes, as long as at most 4,096 bytes
+/// lie between two of them. It costs the heads that it reaches, and looks at the texts of the first
+/// one alone: the keys of the others are taken to be as long as its own, and what doesn't come
+/// whole so is read again.
+pub(crate) fn reach(heads: &Heads, index: usize, first: &HeadRef<'_>) -> u64
     requires { index < length heads.now }
-    ensures enough { room_of (slice_index_or heads.now index no_head) ≤ result }
+    ensures enough { room_of (lent_head first.now) ≤ result }
     ensures few { result ≤ 1065001 }
 {
-    let first = heads.get(index);
     let count = heads.len();
-    let mut size = room(&first);
+    let mut size = room(first);
+    let key = size.saturating_sub(data(first));
     for next in index + 1..count {
-        let end = end_near(&first, &heads.get(next), size);
+        let end = end_near(first, &heads.get(next), size, key);
         if end <= size || end > WINDOW {
             break;
         }
@@ -78,14 +85,17 @@ pub(crate) fn reach(heads: &Heads, index: usize) -> u64
     size
 }
 
-/// How far a head's record may reach behind the place of the first one's, in the same file; 0
-/// where it doesn't stand there, or too far behind the first `size` bytes.
-fn end_near(first: &HeadRef<'_>, head: &HeadRef<'_>, size: u64) -> u64 {
+/// How far a head's record may reach behind the place of the first one's, in the same file, by a
+/// key of at most `key` bytes; 0 where it doesn't stand there, or too far behind the first `size`
+/// bytes.
+fn end_near(first: &HeadRef<'_>, head: &HeadRef<'_>, size: u64, key: u64) -> u64 {
     if head.file != first.file {
         return 0;
     }
     match head.at.checked_sub(first.at) {
-        Some(past) if past.saturating_sub(size) <= GAP => past.saturating_add(room(head)),
+        Some(past) if past.saturating_sub(size) <= GAP => {
+            past.saturating_add(key).saturating_add(data(head))
+        }
         _ => 0,
     }
 }

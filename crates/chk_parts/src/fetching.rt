@@ -8,13 +8,13 @@ ghost use Rattle.chk_chunk.specs.Keys.{Chunk};
 ghost use Rattle.chk_world.specs.Sight.{job, Sight};
 ghost use Rattle.chk_world.specs.JobSteps.{IsOf, ReadsFile, SparesFile};
 ghost use Rattle.chk_heads.specs.Faults.{JobCause, FailsLast, IsOfRead};
-ghost use Rattle.chk_heads.specs.Order.{no_head};
+ghost use Rattle.chk_heads.specs.Order.{lent_head, no_head};
 ghost use Rattle.chk_heads.specs.Pieces.{AsksInPieces};
 ghost use Rattle.chk_parts.specs.Gathering.{AreSound};
 ghost use Rattle.chk_parts.specs.Fetching.{head_file, CanFetch, Fetched, IsRecordAt};
 
 use chk_bytes::Word;
-use chk_heads::{Heads, JobFault};
+use chk_heads::{HeadRef, Heads, JobFault};
 use chk_merge::RecordReader;
 use chk_site::{Site, Who};
 use std::alloc::Global;
@@ -42,8 +42,44 @@ pub fn fetch<S: Site>(
     ensures last { Adds (S.told site.old) (S.told site.new) (FailsLast result) }
     ensures cause { JobCause (S.fault_count site.old) (S.fault_count site.new) result }
 {
-    match files.get(heads.get(index).file as usize) {
-        Some(name) => reader.fetch(alloc, site, who, name.as_str(), heads, index),
+    fetch_by_head(
+        alloc,
+        site,
+        who,
+        reader,
+        files,
+        heads,
+        index,
+        &heads.get(index),
+    )
+}
+
+/// The same for a caller that has the head at `index`.
+pub fn fetch_by_head<S: Site>(
+    alloc: Global,
+    site: &mut S,
+    who: &Who,
+    reader: &mut RecordReader,
+    files: &[Word],
+    heads: &Heads,
+    index: usize,
+    head: &HeadRef<'_>,
+) -> Result<(), JobFault>
+    requires job { who.now ≡ job }
+    requires index { index < length heads.now }
+    requires head { lent_head head.now ≡ slice_index_or heads.now index no_head }
+    ensures raw { (v : Sight) (c : Chunk) → AreSound v files.now → IsRecordAt v files.now heads.now index c
+        → Adds (S.told site.old) (S.told site.new)
+        (Leads (anyhow (SparesFile (head_file files.now heads.now index))) (CanFetch v files.now heads.now index reader.old)
+        (Fetched v files.now heads.now index c reader.new result)) }
+    ensures own { Adds (S.told site.old) (S.told site.new) (Every (IsOf ReadsFile)) }
+    ensures pieces { Adds (S.told site.old) (S.told site.new) (Every AsksInPieces) }
+    ensures only { IfErr result IsOfRead }
+    ensures last { Adds (S.told site.old) (S.told site.new) (FailsLast result) }
+    ensures cause { JobCause (S.fault_count site.old) (S.fault_count site.new) result }
+{
+    match files.get(head.file as usize) {
+        Some(name) => reader.fetch_by_head(alloc, site, who, name.as_str(), heads, index, head),
         None => Err(JobFault::NoMemory),
     }
 }

@@ -14,7 +14,7 @@ mod writing;
 
 pub use aside::{count_first, is_old_aside};
 pub use cuts::{Cut, Cuts, cuts_of};
-pub use fetching::fetch;
+pub use fetching::{fetch, fetch_by_head};
 pub use gathering::gather_found;
 pub use kept::kept_of;
 pub use known::known_ends;

@@ -28,7 +28,7 @@ ghost use Rattle.chk_parts.specs.Cuts.{cut_chunk, cut_of};
 ghost use Rattle.chk_parts.specs.Writes.{with_new, HasEntered, IsFree, Written, IsForArchive, IsSoFar, PutSo, CutSo};
 
 use crate::cuts::Cut;
-use crate::fetching::fetch;
+use crate::fetching::fetch_by_head;
 use chk_book::{Book, Segmenter};
 use chk_bytes::Word;
 use chk_chunk::ChunkRef;
@@ -168,15 +168,9 @@ fn write_cut<S: Site>(
     ensures cause { JobCause (S.fault_count site.old) (S.fault_count site.new) result }
 {
     let index = cut.index as usize;
-    fetch(alloc, site, who, reader, files, heads, index)?;
-    put_cut(
-        alloc,
-        site,
-        segmenter,
-        &heads.get(index),
-        reader.value(),
-        cut.skip,
-    )
+    let head = heads.get(index);
+    fetch_by_head(alloc, site, who, reader, files, heads, index, &head)?;
+    put_cut(alloc, site, segmenter, &head, reader.value(), cut.skip)
 }
 
 /// Writes the chunk of a head and its value, but for the first bytes, behind what the segment has. What can't be a chunk counts as

@@ -8,7 +8,7 @@ use Rattle.chk_plan.specs.Passes.{head_in}
 use Rattle.chk_merge.specs.ReadBack.{CanRead, HasRead}
 use Rattle.chk_parts.specs.Fetching.{head_file}
 use Rattle.chk_parts.proofs.Fetches.{fetched}
-use Rattle.chk_parts.proofs.fetching.fetch.Goals as goal
+use Rattle.chk_parts.proofs.fetching.fetch_by_head.Goals as goal
 
 pub returns-in-Some-clause-raw : goal.returns-in-Some-clause-raw
 returns-in-Some-clause-raw g c v d sound is =
@@ -16,11 +16,11 @@ returns-in-Some-clause-raw g c v d sound is =
     let heads = c.args.heads.now in
     let h : Head = head_in heads c.args.index in
     let r = c.args.reader.now in
-    let t = c.fetch.new.self in
+    let t = c.fetch_by_head.new.self in
     let name : c.as_str.result.now ≡ head_file files heads c.args.index = c.as_str.ensures.text
-    ∙ (c.in-Some.ensures.lookup.3.1 [] ∙ ap (λ (x : Head). slice_index_or files x.file []) c.get.ensures.head) in
-    fetched v files heads c.args.index d sound is r t c.fetch.result
+    ∙ (c.in-Some.ensures.lookup.3.1 [] ∙ ap (λ (x : Head). slice_index_or files x.file []) c.requires.head) in
+    fetched v files heads c.args.index d sound is r t c.fetch_by_head.result
     (λ most f low small.
-    subst (λ w. Adds (g.S.Site.told c.args.site.now) (g.S.Site.told c.fetch.new.site)
-    (Leads (anyhow (SparesFile w)) (CanRead most w f h r) (HasRead w f h t c.fetch.result))) name
-    (c.fetch.ensures.raw most f low small))
+    subst (λ w. Adds (g.S.Site.told c.args.site.now) (g.S.Site.told c.fetch_by_head.new.site)
+    (Leads (anyhow (SparesFile w)) (CanRead most w f h r) (HasRead w f h t c.fetch_by_head.result))) name
+    (c.fetch_by_head.ensures.raw most f low small))

@@ -1,32 +1,27 @@
-use Rattle.std.proofs.Common.{Ok, subst}
+use Rattle.std.proofs.Common.{Ok, ◌≤◌, subst}
 use Rattle.std.proofs.lemmas.Result.{err_from_is_err_and}
 use Rattle.chk_site.specs.Site.{Adds}
 use Rattle.chk_site.specs.Runs.{anyhow, Leads}
 use Rattle.chk_replace.specs.Load.{Has}
 use Rattle.chk_world.specs.JobSteps.{SparesFile}
+use Rattle.chk_merge.specs.Spans.{room_of}
 use Rattle.chk_merge.specs.ReadBack.{IsHeld, NotHeld, HasWindow}
 use Rattle.chk_merge.proofs.RunReads.{unsaid}
-use Rattle.chk_merge.proofs.Fetching.{found_there, found_then, never_then}
-use Rattle.chk_merge.proofs.reader.RecordReader.fetch.Goals as goal
-
-pub returns-then-find-clause-raw : goal.returns-then-find-clause-raw
-returns-then-find-clause-raw g c = λ most f few small.
-    found_there most c.args.name.now f _ c.args.self.now c.find.new.self
-    (g.S.Site.told c.args.site.now)
-    (subst (λ h. IsHeld h c.args.self.now c.find.new.self) c.get-head.ensures.head c.if-find.ensures)
+use Rattle.chk_merge.proofs.Fetching.{found_then, never_then}
+use Rattle.chk_merge.proofs.reader.RecordReader.refill.Goals as goal
 
 pub returns-in_err-load-clause-stays : goal.returns-in_err-load-clause-stays
 returns-in_err-load-clause-stays g c =
     let p = err_from_is_err_and c.from_residual.result c.from_residual.ensures.1 in
     rw (p.1, p.2) (λ other file. unsaid other file c.in_err-load.ensures.pieces)
 
-pub returns-then-find-2-clause-raw : goal.returns-then-find-2-clause-raw
-returns-then-find-2-clause-raw g c = λ most f few small.
+pub returns-then-find-clause-raw : goal.returns-then-find-clause-raw
+returns-then-find-clause-raw g c = λ most f few small.
     let name = c.args.name.now in
     let size = c.reach-size.result in
-    found_then most name f _ size c.args.self.now c.load.new.self c.find-2.new.self
-    (subst (λ h. IsHeld h c.load.new.self c.find-2.new.self) c.get-head.ensures.head
-    c.if-find-2.ensures)
+    found_then most name f _ size c.args.self.now c.load.new.self c.find.new.self
+    (subst (λ h. IsHeld h c.load.new.self c.find.new.self) c.get-head.ensures.head
+    c.if-find.ensures)
     (subst
     (λ h. Adds (g.S.Site.told c.args.site.now) (g.S.Site.told c.load.new.site)
     (Leads (anyhow (SparesFile name)) (Has name f) (HasWindow name f h size c.load.new.self
@@ -37,10 +32,11 @@ pub returns-clause-raw : goal.returns-clause-raw
 returns-clause-raw g c = λ most f few small.
     let name = c.args.name.now in
     let size = c.reach-size.result in
-    never_then most name f _ size c.args.self.now c.load.new.self c.find-2.new.self
-    c.damaged.result few c.reach-size.ensures.enough
-    (subst (λ h. NotHeld h c.load.new.self c.find-2.new.self) c.get-head.ensures.head
-    c.if-find-2.ensures)
+    never_then most name f _ size c.args.self.now c.load.new.self c.find.new.self
+    c.damaged.result few
+    (subst (λ h. room_of h ≤ size) c.get-head.ensures.head c.reach-size.ensures.enough)
+    (subst (λ h. NotHeld h c.load.new.self c.find.new.self) c.get-head.ensures.head
+    c.if-find.ensures)
     (subst
     (λ h. Adds (g.S.Site.told c.args.site.now) (g.S.Site.told c.load.new.site)
     (Leads (anyhow (SparesFile name)) (Has name f) (HasWindow name f h size c.load.new.self
