@@ -31,7 +31,7 @@ origin_is k o h =
 abbrev pub Known : List Origin → Row → Type 0
 Known origins r = r.origin < length origins
 
-pub rows_same : (origins more : List Origin) (rows : List Row) → All (Known origins) rows
+rows_same : (origins more : List Origin) (rows : List Row) → All (Known origins) rows
     → map (head_in_row (origins ++ more)) rows ≡ map (head_in_row origins) rows
 rows_same origins more [] known = refl
 rows_same origins more (r ∷ rs) known =
@@ -39,7 +39,7 @@ rows_same origins more (r ∷ rs) known =
     let rest = rows_same origins more rs (All-tail (Known origins) r rs known) in
     λ i. (record { key = origin_key (here i) r.end; begin = row_begin r; file = r.file; at = r.at }) ∷ rest i
 
-pub rows_known : (origins more : List Origin) (rows : List Row) → All (Known origins) rows → All (Known (origins ++ more)) rows
+rows_known : (origins more : List Origin) (rows : List Row) → All (Known origins) rows → All (Known (origins ++ more)) rows
 rows_known origins more [] known = All-nil (Known (origins ++ more))
 rows_known origins more (r ∷ rs) known =
     All-cons (Known (origins ++ more)) r rs
@@ -69,11 +69,14 @@ view_pushed old new rows r k known grown has end =
     ∙ (ap (λ hs. hs ++ head_in_row new r ∷ []) (view_grown old new rows known grown)
     ∙ ap (λ h. map (head_in_row old) rows ++ h ∷ []) (row_head new r k has end))
 
+pub known_grown : (old new : List Origin) (rows : List Row) → All (Known old) rows → HasGrown old new → All (Known new) rows
+known_grown old new rows known grown = subst (λ o. All (Known o) rows) (sym grown.1) (rows_known old grown.0 rows known)
+
 pub known_pushed : (old new : List Origin) (rows : List Row) (r : Row) (k : Key) → All (Known old) rows → HasGrown old new
     → HasOrigin new r.origin k → All (Known new) (rows ++ r ∷ [])
 known_pushed old new rows r k known grown has =
     All-append (Known new) rows (r ∷ [])
-    (subst (λ o. All (Known o) rows) (sym grown.1) (rows_known old grown.0 rows known))
+    (known_grown old new rows known grown)
     (All-cons (Known new) r [] has.there (All-nil (Known new)))
 
 -- heads of one origin are of one stream

@@ -1,7 +1,8 @@
 -- Which heads the rows stand for.
-use Rattle.std.specs.Prelude.{◌≡◌, ℕ, ◌-◌, ◌<◌, ◌==◌, ◌&&◌, Bool, List, ◌++◌, map, length, bytes_eq, slice_index_or, All}
-use Rattle.chk_chunk.specs.Keys.{Key, no_cluster}
+use Rattle.std.specs.Prelude.{◌≡◌, ℕ, ◌-◌, ◌<◌, ◌≤◌, ◌==◌, ◌&&◌, Bool, List, ◌++◌, map, length, drop, bytes_eq, slice_index, slice_index_or, All}
+use Rattle.chk_chunk.specs.Keys.{Key, IsKey, no_cluster}
 use Rattle.chk_heads.specs.declared.origins.Origin.{Origin}
+use Rattle.chk_heads.specs.declared.recent.Recent.{Recent}
 use Rattle.chk_heads.specs.declared.gather.Row.{Row}
 use Rattle.chk_heads.specs.declared.gather.Heads.TheInside.{Inside}
 use Rattle.chk_heads.specs.Heads.{Head}
@@ -59,6 +60,29 @@ head_in_row origins r = record {
 abbrev pub heads_view : Inside → List Head
 heads_view h = map (head_in_row h.origins.items) h.rows.items
 
--- each row's origin is there
+-- the recent bytes are this key, and its origin has the recent number
+pub record IsRecent (origins : List Origin) (r : Recent) (k : Key) : Type 0 where
+  pub is : IsKey k r.key
+  pub start : k.start ≡ r.start
+  pub origin : HasOrigin origins r.origin k
+
+-- each row's origin is there; where there are recent bytes, they are a key of one of the origins
 pub record AreSoundRows (h : Inside) : Type 0 where
   pub known : All (λ (r : Row). r.origin < length h.origins.items) h.rows.items
+  pub recent : 0 < length h.recent.key → (k : Key) × IsRecent h.origins.items h.recent k
+
+-- as long as a version and a sequence id at least, and the same but for the sequence id
+pub record AreAlike (a b : List ℕ) : Type 0 where
+  pub long : 9 ≤ length a
+  pub size : length a ≡ length b
+  pub first : slice_index a 0 ≡ slice_index b 0
+  pub rest : drop 9 a ≡ drop 9 b
+
+-- the key with this sequence id
+abbrev pub with_seq : ℕ → Key → Key
+with_seq seq k = record { stream = k.stream; start = k.start; cluster = k.cluster; seq = seq }
+
+-- whichever key the recent bytes are, the bytes are that key with this sequence id
+pub record IsNext (r : Recent) (bytes : List ℕ) (seq : ℕ) : Type 0 where
+  pub some : 0 < length r.key
+  pub is : (k : Key) → IsKey k r.key → k.start ≡ r.start → IsKey (with_seq seq k) bytes

@@ -32,3 +32,8 @@ abbrev pub IsTaken : Bool → ℕ → ℕ → Placed → List Head → List Head
 IsTaken true most file r old new =
     (c : Chunk) × (chunk_of most r ≡ Some c) × (new ≡ old ++ head_of file r.at c ∷ [])
 IsTaken false most file r old new = (chunk_of most r ≡ None) × (new ≡ old)
+
+-- the same, or the heads are as they were
+abbrev pub IsTakenIf : Option Bool → ℕ → ℕ → Placed → List Head → List Head → Type 0
+IsTakenIf None most file r old new = new ≡ old
+IsTakenIf (Some is) most file r old new = IsTaken is most file r old new

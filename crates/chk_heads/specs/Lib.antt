@@ -3,6 +3,7 @@ pub mod Faults
 pub mod Pieces
 pub mod Heads
 pub mod HeadRows
+pub mod Recents
 pub mod Order
 pub mod Feeding
 pub mod Gathered

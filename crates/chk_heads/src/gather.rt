@@ -1,13 +1,13 @@
 //! Gathers the heads of a file's records, reading it in pieces.
 
-ghost use Rattle.std.specs.Prelude.{◌≡◌, ◌≤◌, ◌<◌, ◌+◌, ◌^◌, ◌++◌, ◌∷◌, [], ℕ, List, length, take, Option, unwrap_or, IsTrue, IfOk, IfErr, IfSome, OnOk, OnErr};
+ghost use Rattle.std.specs.Prelude.{◌≡◌, ◌≤◌, ◌<◌, ◌+◌, ◌-◌, ◌^◌, ◌++◌, ◌∷◌, [], ℕ, List, length, take, Option, unwrap_or, IsTrue, IfOk, IfErr, IfSome, OnOk, OnErr};
 ghost use Rattle.chk_site.specs.Files.{File};
 ghost use Rattle.chk_site.specs.Effect.{IsSmallFile};
 ghost use Rattle.chk_site.specs.History.{Every};
 ghost use Rattle.chk_site.specs.Site.{Adds};
 ghost use Rattle.chk_site.specs.Runs.{anyhow, Leads};
 ghost use Rattle.chk_replace.specs.Load.{Has};
-ghost use Rattle.chk_chunk.specs.Keys.{has_words, has_value, is_key};
+ghost use Rattle.chk_chunk.specs.Keys.{Key, IsKey, has_value};
 ghost use Rattle.chk_chunk.specs.Lent.{lent_key};
 ghost use Rattle.chk_seqfile.specs.Entries.{records_of};
 ghost use Rattle.chk_salvage.specs.Views.{placed_of};
@@ -20,7 +20,7 @@ ghost use Rattle.chk_world.specs.Sight.{job};
 ghost use Rattle.chk_world.specs.JobSteps.{IsOf, ReadsFile, SparesFile};
 ghost use Rattle.chk_heads.specs.Faults.{JobCause, FailsLast, IsOfRead};
 ghost use Rattle.chk_heads.specs.HeadRows.{row_begin};
-ghost use Rattle.chk_heads.specs.Heads.{head_with, IsTaken};
+ghost use Rattle.chk_heads.specs.Heads.{head_with, IsTaken, IsTakenIf};
 ghost use Rattle.chk_heads.specs.Pieces.{AsksInPieces};
 ghost use Rattle.chk_heads.specs.Feeding.{AreChunks, HasMore, IsEnd, TookFed, TookAhead, FedFrom};
 ghost use Rattle.chk_heads.specs.Gathered.{EndsSo};
@@ -32,6 +32,7 @@ use crate::JobFault;
 use crate::fault::damaged;
 use crate::origins::{Origin, number_of};
 use crate::reading::{PIECE, read_bytes};
+use crate::recent::Recent;
 use chk_bytes::NoMemory;
 use chk_chunk::{KeyRef, read_key};
 use chk_salvage::{EntryRef, Fed, Pieces};
@@ -72,13 +73,14 @@ impl Row {
 }
 
 /// The heads of records, without their data. A row has 32 bytes; the texts of a stream are kept once, with four bytes for their
-/// place in the order.
+/// place in the order, and beside them the bytes of one key.
 #[derive(Debug, Drop)]
 pub struct Heads {
     origins: Vec<Origin>,
     /// The numbers of the origins, in the order of their texts.
     order: Vec<u32>,
     rows: Vec<Row>,
+    recent: Recent,
 }
 
 impl Model for Heads {
@@ -102,6 +104,7 @@ impl Heads {
             origins: Vec::new(alloc),
             order: Vec::new(alloc),
             rows: Vec::new(alloc),
+            recent: Recent::new(alloc),
         }
     }
 
@@ -112,7 +115,8 @@ impl Heads {
     /// The file is read in pieces of at most 1,048,576 bytes. Where 65,536 bytes of a record or more haven't come with its
     /// key, they are passed over: the next read, of at most 16,384 bytes, begins at the record's last byte, so that it is
     /// seen where the file ends before. The first read asks for as few. Of the file's bytes no more are held than one piece
-    /// and one record. A record of a stream that isn't the one before costs a search among the streams that were seen.
+    /// and one record. A record whose key is the kept one's but for the sequence id costs a comparison of the two keys' bytes;
+    /// any other one costs also a test of its texts, and one of another stream a search among the streams that were seen.
     pub fn gather<S: Site>(
         &mut self,
         alloc: Global,
@@ -195,22 +199,25 @@ impl Heads {
         self.rows.len()
     }
 
-    /// Puts a head behind the others. One of more than 4,294,967,295 offsets counts as want of memory.
+    /// Puts a head behind the others, whose key these bytes are, and takes the key for the recent one where the head before is of
+    /// the same origin: no key is copied where streams take turns.
     fn push(
         &mut self,
         alloc: Global,
+        bytes: &[u8],
         key: &KeyRef<'_>,
-        begin: u64,
+        size: u32,
         file: u32,
         at: u64,
     ) -> Result<(), NoMemory>
-        requires { IsTrue (has_words (lent_key key.now)) }
-        ensures ok { OnOk result (self.new ≡ self.old ++ head_with (lent_key key.now) begin file at ∷ []) }
+        requires { IsKey (lent_key key.now) bytes.now }
+        ensures ok { OnOk result (self.new ≡ self.old ++ head_with (lent_key key.now) (key.now.seq - size) file at ∷ []) }
         ensures err { OnErr result (self.new ≡ self.old) }
     {
-        let size = size_of(begin, key.seq)?;
         let likely = self.rows.last().map_or(0, |row| row.origin);
         let origin = number_of(alloc, &mut self.origins, &mut self.order, likely, key)?;
+        self.recent
+            .set_if(origin == likely, bytes, key.start, origin)?;
         self.rows.push(Row {
             origin,
             file,
@@ -234,16 +241,61 @@ impl Heads {
         ensures ok { IfOk result (λ is. IsTaken is most file (placed_of found.now) self.old self.new) }
         ensures err { OnErr result (self.new ≡ self.old) }
     {
+        match self.take_alike(found, file, most)? {
+            Some(is) => Ok(is),
+            None => self.take_other(alloc, found, file, most),
+        }
+    }
+
+    /// The same where the record's key is the recent one but for its sequence id; else it answers `None`, and the heads are as
+    /// before.
+    fn take_alike(
+        &mut self,
+        found: &EntryRef<'_>,
+        file: u32,
+        most: u32,
+    ) -> Result<Option<bool>, NoMemory>
+        ensures ok { IfOk result (λ taken. IsTakenIf taken most file (placed_of found.now) self.old self.new) }
+        ensures err { OnErr result (self.new ≡ self.old) }
+    {
+        let Some(seq) = self.recent.seq_of(found.key) else {
+            return Ok(None);
+        };
+        let size = found.value.len() as u64;
+        if !is_size(self.recent.start, seq, size, most) {
+            return Ok(Some(false));
+        }
+        self.rows.push(Row {
+            origin: self.recent.origin,
+            file,
+            size: size as u32,
+            turn: 0,
+            end: seq,
+            at: found.at,
+        })?;
+        Ok(Some(true))
+    }
+
+    /// The same of any record: each text of its key is read.
+    fn take_other(
+        &mut self,
+        alloc: Global,
+        found: &EntryRef<'_>,
+        file: u32,
+        most: u32,
+    ) -> Result<bool, NoMemory>
+        ensures ok { IfOk result (λ is. IsTaken is most file (placed_of found.now) self.old self.new) }
+        ensures err { OnErr result (self.new ≡ self.old) }
+    {
         let key = match read_key(found.key) {
             Ok(key) => key,
             Err(_) => return Ok(false),
         };
         let size = found.value.len() as u64;
-        if !is_size(&key, size, most) {
+        if !is_size(key.start, key.seq, size, most) {
             return Ok(false);
         }
-        let begin = key.seq - size;
-        self.push(alloc, &key, begin, file, found.at)?;
+        self.push(alloc, found.key, &key, size as u32, file, found.at)?;
         Ok(true)
     }
 
@@ -270,11 +322,10 @@ impl Heads {
             Ok(key) => key,
             Err(_) => return Ok(None),
         };
-        if !is_size(&key, found.size, most) {
+        if !is_size(key.start, key.seq, found.size, most) {
             return Ok(None);
         }
-        let begin = key.seq - found.size;
-        self.push(alloc, &key, begin, file, found.at)?;
+        self.push(alloc, found.key, &key, found.size as u32, file, found.at)?;
         Ok(Some(found.end - 1))
     }
 
@@ -335,21 +386,13 @@ fn ended(alloc: Global, pieces: &Pieces, name: &str) -> Result<(), JobFault>
     }
 }
 
-/// How many offsets there are from one to another one, where 32 bits hold that.
-fn size_of(begin: u64, end: u64) -> Result<u32, NoMemory>
-    ensures { IfOk result (λ size. begin + size ≡ end) }
-{
-    let size = end.checked_sub(begin).ok_or(NoMemory)?;
-    u32::try_from(size).map_err(|_| NoMemory)
-}
-
 /// A value of this size has at least one byte, no more than `most`, and doesn't begin before the stream's start.
-fn is_size(key: &KeyRef<'_>, size: u64, most: u32) -> bool
-    requires { IsTrue (is_key (lent_key key.now)) }
-    ensures is { (value : List ℕ) → length value ≡ size → result ≡ has_value most (lent_key key.now) value }
-    ensures fits { IsTrue result → size ≤ key.now.seq }
+fn is_size(start: u64, seq: u64, size: u64, most: u32) -> bool
+    ensures is { (k : Key) (value : List ℕ) → k.start ≡ start → k.seq ≡ seq → length value ≡ size
+        → result ≡ has_value most k value }
+    ensures small { IsTrue result → size ≤ most }
 {
-    size > 0 && size <= u64::from(most) && key.start <= key.seq && size <= key.seq - key.start
+    size > 0 && size <= u64::from(most) && start <= seq && size <= seq - start
 }
 
 /// How many bytes are asked for: few at the front and behind a record that is passed over, since others may be passed over then.

@@ -7,6 +7,7 @@ mod gather;
 mod laws;
 mod origins;
 mod reading;
+mod recent;
 
 pub use fault::JobFault;
 pub use gather::{HeadRef, Heads, SLACK};

@@ -1,22 +1,35 @@
-use Rattle.std.proofs.Common.{◌≡◌, ℕ, ◌+◌, ◌-◌, arith, [], ◌∷◌, ◌++◌, map, Ok, Err, Result, refl, sym, ap, ◌∙◌, subst, All}
+use Rattle.std.proofs.Common.{◌-◌, [], ◌∷◌, ◌++◌, map, Ok, Err, Result, refl, sym, ap, ◌∙◌, subst, All}
 use Rattle.std.specs.Prelude.{OnErr}
 use Rattle.chk_chunk.specs.Lent.{lent_key}
 use Rattle.chk_heads.specs.Heads.{head_with}
 use Rattle.chk_heads.specs.HeadRows.{head_in_row}
-use Rattle.chk_heads.proofs.Rows.{Known, view_grown, view_pushed, known_pushed}
+use Rattle.chk_heads.proofs.Recents.{recent_grown, now_recent}
+use Rattle.chk_heads.proofs.Rows.{Known, known_grown, view_grown, view_pushed, known_pushed}
 use Rattle.chk_heads.proofs.gather.Heads.push.Goals as goal
 
 when_err : {T E P : Type 0} (r : Result T E) → P → OnErr r P
 when_err (Ok value) p = tt
 when_err (Err fault) p = p
 
-begin_of : (begin size end : ℕ) → begin + size ≡ end → end - size ≡ begin
-begin_of begin size end e = omega (arith, e)
-
 pub returns-in_err-origin-clause-err : goal.returns-in_err-origin-clause-err
 returns-in_err-origin-clause-err c =
-    when_err c.from_residual-in_err-origin.result
+    when_err c.from_residual.result
     (view_grown c.self.inside.origins.items c.number_of.new.origins.items c.self.inside.rows.items c.self.invariant.known c.number_of.ensures.grown ∙ c.self.view_is)
+
+pub returns-in_err-set_if-clause-err : goal.returns-in_err-set_if-clause-err
+returns-in_err-set_if-clause-err c =
+    when_err c.from_residual-in_err-set_if.result
+    (view_grown c.self.inside.origins.items c.number_of.new.origins.items c.self.inside.rows.items c.self.invariant.known c.number_of.ensures.grown ∙ c.self.view_is)
+
+pub invariant_of-self-in_err-push : goal.invariant_of-self-in_err-push
+invariant_of-self-in_err-push c = record {
+  known = subst (λ rows. All (Known c.number_of.new.origins.items) rows) (sym c.in_err-push.ensures.items)
+      (known_grown c.self.inside.origins.items c.number_of.new.origins.items c.self.inside.rows.items c.self.invariant.known c.number_of.ensures.grown);
+  recent = now_recent c.number_of.new.origins.items c.self.inside.recent c.set_if.new.self (lent_key c.args.key.now)
+      c.args.bytes.now c.in_ok-origin.origin c.requires c.in_ok-origin.ensures.found
+      (recent_grown c.self.inside.origins.items c.number_of.new.origins.items c.self.inside.recent c.in_ok-origin.ensures.grown
+      c.self.invariant.recent) c.in_ok-set_if.ensures.ok;
+}
 
 pub returns-in_err-push-clause-err : goal.returns-in_err-push-clause-err
 returns-in_err-push-clause-err c =
@@ -28,17 +41,18 @@ pub invariant_of-self-2 : goal.invariant_of-self-2
 invariant_of-self-2 c = record {
   known = subst (λ rows. All (Known c.number_of.new.origins.items) rows) (sym c.in_ok-push.ensures.items)
       (known_pushed c.self.inside.origins.items c.number_of.new.origins.items c.self.inside.rows.items
-      (record { origin = c.in_ok-origin.origin; file = c.args.file; size = c.in_ok-size.size; turn = 0; end = c.args.key.now.seq; at = c.args.at })
+      (record { origin = c.in_ok-origin.origin; file = c.args.file; size = c.args.size; turn = 0; end = c.args.key.now.seq; at = c.args.at })
       (lent_key c.args.key.now) c.self.invariant.known c.in_ok-origin.ensures.grown c.in_ok-origin.ensures.found);
+  recent = now_recent c.number_of.new.origins.items c.self.inside.recent c.set_if.new.self (lent_key c.args.key.now)
+      c.args.bytes.now c.in_ok-origin.origin c.requires c.in_ok-origin.ensures.found
+      (recent_grown c.self.inside.origins.items c.number_of.new.origins.items c.self.inside.recent c.in_ok-origin.ensures.grown
+      c.self.invariant.recent) c.in_ok-set_if.ensures.ok;
 }
 
 pub returns-clause-ok : goal.returns-clause-ok
 returns-clause-ok c =
     ap (map (head_in_row c.number_of.new.origins.items)) c.in_ok-push.ensures.items
     ∙ (view_pushed c.self.inside.origins.items c.number_of.new.origins.items c.self.inside.rows.items
-    (record { origin = c.in_ok-origin.origin; file = c.args.file; size = c.in_ok-size.size; turn = 0; end = c.args.key.now.seq; at = c.args.at })
+    (record { origin = c.in_ok-origin.origin; file = c.args.file; size = c.args.size; turn = 0; end = c.args.key.now.seq; at = c.args.at })
     (lent_key c.args.key.now) c.self.invariant.known c.in_ok-origin.ensures.grown c.in_ok-origin.ensures.found refl
-    ∙ (ap (λ n. map (head_in_row c.self.inside.origins.items) c.self.inside.rows.items
-    ++ head_with (lent_key c.args.key.now) n c.args.file c.args.at ∷ [])
-    (begin_of c.args.begin c.in_ok-size.size c.args.key.now.seq c.in_ok-size.ensures)
-    ∙ ap (λ hs. hs ++ head_with (lent_key c.args.key.now) c.args.begin c.args.file c.args.at ∷ []) c.self.view_is))
+    ∙ ap (λ hs. hs ++ head_with (lent_key c.args.key.now) (c.args.key.now.seq - c.args.size) c.args.file c.args.at ∷ []) c.self.view_is)

@@ -1,12 +1,9 @@
-use Rattle.std.proofs.Common.{◌-◌, [], ◌∷◌, ◌++◌, sym, ap, ◌∙◌, arith}
+use Rattle.std.proofs.Common.{◌-◌, [], ◌∷◌, ◌++◌, refl, sym, ap, ◌∙◌, arith}
 use Rattle.chk_chunk.specs.Lent.{lent_key}
 use Rattle.chk_salvage.specs.Ahead.{placed_ahead}
 use Rattle.chk_heads.specs.Heads.{head_with}
 use Rattle.chk_heads.proofs.Records.{is_chunk}
 use Rattle.chk_heads.proofs.gather.Heads.take_ahead.Goals as goal
-
-pub overflow_sub-begin : goal.overflow_sub-begin
-overflow_sub-begin c = c.is_size.ensures.fits c.if-not-is_size.false
 
 pub returns-clause-ok : goal.returns-clause-ok
 returns-clause-ok c =
@@ -18,7 +15,7 @@ returns-clause-ok c =
       (let owed = c.in-Some.ensures.some.owed in omega arith),
       λ value size. (
         record { key = key; value = value },
-        is_chunk c.args.most (placed_ahead found value) key c.in-Ok.ensures.key (sym (c.is_size.ensures.is value size) ∙ c.if-not-is_size.false),
+        is_chunk c.args.most (placed_ahead found value) key c.in-Ok.ensures.key (sym (c.is_size.ensures.is key value refl refl size) ∙ c.if-not-is_size.false),
         c.in_ok-push.ensures.ok ∙ ap (λ n. before ++ head_with key (key.seq - n) c.args.file found.at ∷ []) (sym size),
       ),
     )

@@ -2,7 +2,7 @@ use Rattle.std.proofs.Common.{refl, sym, ◌∙◌}
 use Rattle.chk_chunk.specs.Lent.{lent_key}
 use Rattle.chk_salvage.specs.Views.{placed_of}
 use Rattle.chk_heads.proofs.Records.{no_key, no_value, is_chunk}
-use Rattle.chk_heads.proofs.gather.Heads.take_record.Goals as goal
+use Rattle.chk_heads.proofs.gather.Heads.take_other.Goals as goal
 
 pub returns-in-Err-clause-ok : goal.returns-in-Err-clause-ok
 returns-in-Err-clause-ok c = (no_key c.args.most (placed_of c.args.found.now) c.in-Err.ensures.every_key, refl)
@@ -10,7 +10,7 @@ returns-in-Err-clause-ok c = (no_key c.args.most (placed_of c.args.found.now) c.
 pub returns-then-not-is_size-clause-ok : goal.returns-then-not-is_size-clause-ok
 returns-then-not-is_size-clause-ok c = (
   no_value c.args.most (placed_of c.args.found.now) (lent_key c.in-Ok.key) c.in-Ok.ensures.key
-      (sym (c.is_size.ensures.is c.args.found.now.value.now refl) ∙ c.if-not-is_size.true),
+      (sym (c.is_size.ensures.is (lent_key c.in-Ok.key) c.args.found.now.value.now refl refl refl) ∙ c.if-not-is_size.true),
   refl,
 )
 
@@ -18,6 +18,6 @@ pub returns-clause-ok : goal.returns-clause-ok
 returns-clause-ok c = (
   record { key = lent_key c.in-Ok.key; value = c.args.found.now.value.now },
   is_chunk c.args.most (placed_of c.args.found.now) (lent_key c.in-Ok.key) c.in-Ok.ensures.key
-      (sym (c.is_size.ensures.is c.args.found.now.value.now refl) ∙ c.if-not-is_size.false),
+      (sym (c.is_size.ensures.is (lent_key c.in-Ok.key) c.args.found.now.value.now refl refl refl) ∙ c.if-not-is_size.false),
   c.in_ok-push.ensures.ok,
 )
