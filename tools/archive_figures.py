@@ -1,27 +1,32 @@
 #!/usr/bin/env python3
 """Times `chukwa archive` over made sinks beside `cp` and `sync` of the same files.
 
-usage: tools/archive_figures.py [--mib N] [--rounds N] [--program FILE]
+usage: tools/archive_figures.py [--mib N] [--rounds N] [--loop] [--program FILE]
 
 It works in a new folder below the current one, so that the disk is the caller's, which needs three times
 the bytes. N mebibytes of chunks (1024) stand in closed sinks of 64 MiB: chunks of 131,072 bytes in one stream,
 of 4,096 bytes in 20 streams that take turns, and of 200 bytes in one stream and in 20. For each, in each
-round (1), the sinks are read once, copied by `cp` to another folder with `sync` of it, and archived. A row
+round (1), the sinks are read once, copied by `cp` to another folder with `sync` of it, the copies are removed by
+`rm`, and the sinks are archived, which removes them too: that alone may take as long as the copy, where a disk
+discards what it frees. So a run's share of `cp` is told, and its share of `cp`, `sync` and `rm` together. A row
 has MB/s of the chunks' bytes, seconds, processor seconds and the peak of the resident memory. The printed
 lines, the segment and the book have to be those that docs/FORMATS.md asks for, byte for byte, and the
 sinks to be gone: otherwise the script ends with 1. Whether it has half of the speed of `cp`, and holds less than
 64 MB besides 32 bytes a chunk, is told.
+
+With `--loop`, which wants a C compiler `cc`, `tools/segment_loop.c` makes the reads and writes of such a segment too,
+and nothing else: how much of the speed of `cp` that has is what the order of a segment leaves to any program.
 """
 import hashlib
 import os
-import shutil
+import subprocess
 import sys
 import tempfile
 
 import archive_records as made
 import copies
 from archive_reader import contents
-from running import MIB, Used, add_program, load, parser_of, program_of, row
+from running import HERE, MIB, Used, add_program, load, parser_of, program_of, row
 from sequence_files import SequenceFile
 
 SINK = 64 * MIB
@@ -32,6 +37,8 @@ ITSELF = 64_000_000
 ROW = 32
 # How fast it is to be, as a part of the speed of `cp`, in percent.
 SPEED_GOAL = 50
+# The most bytes between two records that the program reads at once.
+GAP = 4_096
 
 
 class Scene:
@@ -90,6 +97,15 @@ def archived(program, scene):
     return used
 
 
+def looped(asked, folder, what, copied):
+    """The reads and writes of the segment alone, beside the copy."""
+    used = Used([asked.loop, str(GAP)], folder).wait(3600)
+    if used.status != 0:
+        sys.exit(f"segment_loop: status {used.status}")
+    os.remove(f"{folder}/segment")
+    return f"{what}: loop and cp: {100 * copied.seconds / used.seconds:.0f} % of its MB/s"
+
+
 def measured(asked, chunk, count):
     what = f"{asked.mib} MiB in chunks of {chunk} bytes, {count} stream{'s' if count > 1 else ''}"
     with tempfile.TemporaryDirectory(dir=".", prefix="figures-") as folder:
@@ -97,26 +113,36 @@ def measured(asked, chunk, count):
         scene.write()
         copies.settled(folder, "sinks/*.done")
         copied = copies.shell(folder, "mkdir copy && cp sinks/*.done copy/ && sync -f copy")
-        shutil.rmtree(f"{folder}/copy")
+        removed = copies.shell(folder, "rm -r copy && sync -f .")
+        if asked.loop:
+            print(looped(asked, folder, what, copied))
         used = archived(asked.program, scene)
     size = scene.chunks * chunk
     print(row(f"{what}: cp and sync", size, copied))
+    print(row(f"{what}: rm and sync of the copies", size, removed))
     print(row(f"{what}: archive", size, used))
     held = ITSELF + ROW * scene.chunks
-    print(copies.share(f"{what}: archive and cp", used, copied, SPEED_GOAL, most=held), flush=True)
+    print(copies.share(f"{what}: archive and cp", used, copied, SPEED_GOAL, most=held))
+    both = 100 * (copied.seconds + removed.seconds) / used.seconds
+    print(f"{what}: archive and cp with rm: {both:.0f} % of its MB/s", flush=True)
 
 
 def main():
     parser = parser_of(__doc__)
     parser.add_argument("--mib", type=int, default=1024, help="mebibytes of chunks (1024)")
     parser.add_argument("--rounds", type=int, default=1, help="runs of each row (1)")
+    parser.add_argument("--loop", action="store_true", help="the same reads and writes by a C loop beside it")
     add_program(parser)
     asked = parser.parse_args()
     asked.program = program_of(asked)
     print(load(), flush=True)
-    for chunk, count in SHAPES:
-        for _ in range(asked.rounds):
-            measured(asked, chunk, count)
+    with tempfile.TemporaryDirectory() as made:
+        if asked.loop:
+            asked.loop = f"{made}/segment_loop"
+            subprocess.run(["cc", "-O2", "-o", asked.loop, f"{HERE}/segment_loop.c"], check=True)
+        for chunk, count in SHAPES:
+            for _ in range(asked.rounds):
+                measured(asked, chunk, count)
 
 
 if __name__ == "__main__":

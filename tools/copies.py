@@ -15,6 +15,25 @@ STAMP = b"2010-11-08 09:00:00,001 "
 LEVELS = [b"INFO", b"WARN", b"ERROR"]
 # What each process of the program may hold, in bytes.
 MEMORY_GOAL = 48_000_000
+POST = 4_194_304
+COMMITTED = """
+import os, time
+began = time.monotonic()
+made, folder = os.open("copied", os.O_WRONLY | os.O_CREAT | os.O_TRUNC), os.open(".", os.O_RDONLY)
+for name in sorted(os.listdir("logs")):
+    log = os.open("logs/" + name, os.O_RDONLY)
+    while os.sendfile(made, log, None, %d):
+        os.fsync(made)
+        mark = os.open("mark.tmp", os.O_WRONLY | os.O_CREAT | os.O_EXCL)
+        os.write(mark, bytes(8))
+        os.fsync(mark)
+        os.close(mark)
+        os.rename("mark.tmp", "mark")
+        os.fsync(folder)
+    os.close(log)
+with open("took", "w") as file:
+    file.write(str(time.monotonic() - began))
+""" % POST
 SENDFILE = """
 import os, time
 began = time.monotonic()
@@ -93,13 +112,24 @@ def removed(folder, *names):
         os.remove(f"{folder}/{name}")
 
 
-def sent(folder):
-    """A loop of sendfile over the logs, and one fsync. Its seconds are without the start of Python."""
-    used = Used([sys.executable, "-c", SENDFILE], folder).wait(3600)
+def timed(folder, loop, *made):
+    """A loop in Python over the logs. Its seconds are without the start of Python."""
+    used = Used([sys.executable, "-c", loop], folder).wait(3600)
     with open(f"{folder}/took", encoding="ascii") as file:
         used.seconds = float(file.read())
-    removed(folder, "took", "copied")
+    removed(folder, "took", *made)
     return used
+
+
+def sent(folder):
+    """A loop of sendfile over the logs, and one fsync."""
+    return timed(folder, SENDFILE, "copied")
+
+
+def committed(folder):
+    """The same, where each post's bytes are committed before the next ones are written: a sync of them, and a mark that is
+    replaced and synced."""
+    return timed(folder, COMMITTED, "copied", "mark")
 
 
 def dumped(folder):

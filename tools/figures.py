@@ -8,7 +8,8 @@ needs four times the bytes. A `drain` of 1 log, and an `agent` with `--poll 200`
 both over as many as `--logs` says, run beside a collector until all is committed: the drain to its end, the
 agent until its checkpoint says so. Then the sinks are closed and archived, and each archive has to be its
 log, byte for byte; another one, and another status than 0, ends the script with 1. Beside it `dd conv=fsync`
-writes the same bytes from `cat`, and a loop of `sendfile` copies them with one `fsync`.
+writes the same bytes from `cat`, a loop of `sendfile` copies them with one `fsync`, and another one with those syncs
+that commit each post before the next one is taken: what a disk leaves to any collector that does so.
 
 A row has MB/s, seconds, processor seconds and the peak of the resident memory. Goals are told, and don't
 change the status: a drain has half of sendfile's MB/s, and each process holds less than 48 MB. An agent
@@ -27,7 +28,6 @@ from archive_reader import Comparison, checkpoint
 from running import Used, add_program, free_ports, listening, load, parser_of, program_of, ran, row
 
 PIECE = 131_072
-POST = 4_194_304
 # A chunk in a post has this and its data, where the path is `logs/00.log`.
 CHUNK = 8 + 15 + len("h1" "Log" "logs/00.log")
 PAUSE = 0.2
@@ -37,7 +37,7 @@ SHARE_GOAL = 50
 
 def ceiling(count):
     """How many bytes an agent may post in a second."""
-    return min(count, (POST - 4) // (PIECE + CHUNK)) * PIECE / PAUSE
+    return min(count, (copies.POST - 4) // (PIECE + CHUNK)) * PIECE / PAUSE
 
 
 class Delivery:
@@ -121,6 +121,9 @@ def copied(what, size, folder):
     print(row(f"{what}: cat and dd conv=fsync", size, copies.dumped(folder)))
     sent = copies.sent(folder)
     print(row(f"{what}: sendfile and fsync", size, sent), flush=True)
+    each = copies.committed(folder)
+    print(row(f"{what}: sendfile, each post committed", size, each))
+    print(f"{what}: each post committed: {100 * sent.seconds / each.seconds:.0f} % of sendfile's MB/s", flush=True)
     return sent
 
 
