@@ -15,7 +15,7 @@ sinks to be gone: otherwise the script ends with 1. Whether it has half of the s
 64 MB besides 32 bytes a chunk, is told.
 
 With `--loop`, which wants a C compiler `cc`, `tools/segment_loop.c` makes the reads and writes of such a segment too,
-and nothing else: how much of the speed of `cp` that has is what the order of a segment leaves to any program.
+and nothing else: it tells what these calls cost by themselves.
 """
 import hashlib
 import os

@@ -9,7 +9,7 @@ both over as many as `--logs` says, run beside a collector until all is committe
 agent until its checkpoint says so. Then the sinks are closed and archived, and each archive has to be its
 log, byte for byte; another one, and another status than 0, ends the script with 1. Beside it `dd conv=fsync`
 writes the same bytes from `cat`, a loop of `sendfile` copies them with one `fsync`, and another one with those syncs
-that commit each post before the next one is taken: what a disk leaves to any collector that does so.
+that commit each post before the next one is taken, to tell what these cost.
 
 A row has MB/s, seconds, processor seconds and the peak of the resident memory. Goals are told, and don't
 change the status: a drain has half of sendfile's MB/s, and each process holds less than 48 MB. An agent

@@ -5,7 +5,7 @@ usage: segment_loop GAP
 It goes through all sinks once in pieces of 1 MiB and keeps a row for each record. Then it reads the records back,
 stream by stream, in the order in which they came, and writes them into `segment` by 1 MiB, with one fsync. Where at
 most GAP bytes lie between a record and the next one of its stream, both are read at once, up to 262,144 bytes. It
-proves, tests and compares nothing: whoever writes a segment has to do at least this. */
+proves, tests and compares nothing. It tells what these calls cost, and is no bound: another way of reading may cost less. */
 #include <fcntl.h>
 #include <glob.h>
 #include <stdint.h>
