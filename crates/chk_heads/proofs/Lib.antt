@@ -5,7 +5,7 @@ pub mod Turning
 pub mod PieceReads
 pub mod Rows
 pub mod Records
-pub mod Recents
+pub mod KeptKeys
 pub mod FedRecords
 mod Passing
 pub mod Gathering

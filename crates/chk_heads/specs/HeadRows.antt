@@ -3,6 +3,8 @@ use Rattle.std.specs.Prelude.{◌≡◌, ℕ, ◌-◌, ◌<◌, ◌≤◌, ◌==
 use Rattle.chk_chunk.specs.Keys.{Key, IsKey, no_cluster}
 use Rattle.chk_heads.specs.declared.origins.Origin.{Origin}
 use Rattle.chk_heads.specs.declared.recent.Recent.{Recent}
+use Rattle.chk_heads.specs.declared.recents.Recents.{Recents}
+use Rattle.chk_heads.specs.declared.recents.Next.{Next}
 use Rattle.chk_heads.specs.declared.gather.Row.{Row}
 use Rattle.chk_heads.specs.declared.gather.Heads.TheInside.{Inside}
 use Rattle.chk_heads.specs.Heads.{Head}
@@ -66,10 +68,18 @@ pub record IsRecent (origins : List Origin) (r : Recent) (k : Key) : Type 0 wher
   pub start : k.start ≡ r.start
   pub origin : HasOrigin origins r.origin k
 
--- each row's origin is there; where there are recent bytes, they are a key of one of the origins
+-- where there are recent bytes, they are a key of one of the origins
+abbrev pub IsKept : List Origin → Recent → Type 0
+IsKept origins r = 0 < length r.key → (k : Key) × IsRecent origins r k
+
+-- so it is at each place
+pub record AreKept (origins : List Origin) (rs : Recents) : Type 0 where
+  pub each : All (IsKept origins) rs.places.items
+
+-- each row's origin is there, and so are those of the kept keys
 pub record AreSoundRows (h : Inside) : Type 0 where
   pub known : All (λ (r : Row). r.origin < length h.origins.items) h.rows.items
-  pub recent : 0 < length h.recent.key → (k : Key) × IsRecent h.origins.items h.recent k
+  pub kept : AreKept h.origins.items h.recents
 
 -- as long as a version and a sequence id at least, and the same but for the sequence id
 pub record AreAlike (a b : List ℕ) : Type 0 where
@@ -86,3 +96,11 @@ with_seq seq k = record { stream = k.stream; start = k.start; cluster = k.cluste
 pub record IsNext (r : Recent) (bytes : List ℕ) (seq : ℕ) : Type 0 where
   pub some : 0 < length r.key
   pub is : (k : Key) → IsKey k r.key → k.start ≡ r.start → IsKey (with_seq seq k) bytes
+
+-- the bytes are a key with this sequence id and this start, whose origin has this number
+pub record IsKnown (origins : List Origin) (bytes : List ℕ) (next : Next) : Type 0 where
+  pub key : Key
+  pub is : IsKey key bytes
+  pub seq : key.seq ≡ next.seq
+  pub start : key.start ≡ next.start
+  pub origin : HasOrigin origins next.origin key

@@ -32,7 +32,7 @@ use crate::JobFault;
 use crate::fault::damaged;
 use crate::origins::{Origin, number_of};
 use crate::reading::{PIECE, read_bytes};
-use crate::recent::Recent;
+use crate::recents::Recents;
 use chk_bytes::NoMemory;
 use chk_chunk::{KeyRef, read_key};
 use chk_salvage::{EntryRef, Fed, Pieces};
@@ -73,14 +73,14 @@ impl Row {
 }
 
 /// The heads of records, without their data. A row has 32 bytes; the texts of a stream are kept once, with four bytes for their
-/// place in the order, and beside them the bytes of one key.
+/// place in the order, and beside them the bytes of at most 64 keys.
 #[derive(Debug, Drop)]
 pub struct Heads {
     origins: Vec<Origin>,
     /// The numbers of the origins, in the order of their texts.
     order: Vec<u32>,
     rows: Vec<Row>,
-    recent: Recent,
+    recents: Recents,
 }
 
 impl Model for Heads {
@@ -104,7 +104,7 @@ impl Heads {
             origins: Vec::new(alloc),
             order: Vec::new(alloc),
             rows: Vec::new(alloc),
-            recent: Recent::new(alloc),
+            recents: Recents::new(alloc),
         }
     }
 
@@ -114,9 +114,10 @@ impl Heads {
     ///
     /// The file is read in pieces of at most 1,048,576 bytes. Where 65,536 bytes of a record or more haven't come with its
     /// key, they are passed over: the next read, of at most 16,384 bytes, begins at the record's last byte, so that it is
-    /// seen where the file ends before. The first read asks for as few. Of the file's bytes no more are held than one piece
-    /// and one record. A record whose key is the kept one's but for the sequence id costs a comparison of the two keys' bytes;
-    /// any other one costs also a test of its texts, and one of another stream a search among the streams that were seen.
+    /// seen where the file ends before. The first read asks for as few. Of the file's bytes no more are held than one piece,
+    /// one record and at most 64 keys. A record whose key is a kept one but for the sequence id costs a comparison of the two
+    /// keys' bytes where it is the one of the record before, and else a hash of its bytes and one comparison more; any other
+    /// record costs also a test of its texts, and one of another stream a search among the streams that were seen.
     pub fn gather<S: Site>(
         &mut self,
         alloc: Global,
@@ -199,8 +200,7 @@ impl Heads {
         self.rows.len()
     }
 
-    /// Puts a head behind the others, whose key these bytes are, and takes the key for the recent one where the head before is of
-    /// the same origin: no key is copied where streams take turns.
+    /// Puts a head behind the others, whose key these bytes are; the key may be kept.
     fn push(
         &mut self,
         alloc: Global,
@@ -216,8 +216,8 @@ impl Heads {
     {
         let likely = self.rows.last().map_or(0, |row| row.origin);
         let origin = number_of(alloc, &mut self.origins, &mut self.order, likely, key)?;
-        self.recent
-            .set_if(origin == likely, bytes, key.start, origin)?;
+        self.recents
+            .keep(alloc, origin == likely, bytes, key.start, origin)?;
         self.rows.push(Row {
             origin,
             file,
@@ -247,7 +247,7 @@ impl Heads {
         }
     }
 
-    /// The same where the record's key is the recent one but for its sequence id; else it answers `None`, and the heads are as
+    /// The same where the record's key is a kept one but for its sequence id; else it answers `None`, and the heads are as
     /// before.
     fn take_alike(
         &mut self,
@@ -258,19 +258,19 @@ impl Heads {
         ensures ok { IfOk result (λ taken. IsTakenIf taken most file (placed_of found.now) self.old self.new) }
         ensures err { OnErr result (self.new ≡ self.old) }
     {
-        let Some(seq) = self.recent.seq_of(found.key) else {
+        let Some(next) = self.recents.next_of(found.key) else {
             return Ok(None);
         };
         let size = found.value.len() as u64;
-        if !is_size(self.recent.start, seq, size, most) {
+        if !is_size(next.start, next.seq, size, most) {
             return Ok(Some(false));
         }
         self.rows.push(Row {
-            origin: self.recent.origin,
+            origin: next.origin,
             file,
             size: size as u32,
             turn: 0,
-            end: seq,
+            end: next.seq,
             at: found.at,
         })?;
         Ok(Some(true))

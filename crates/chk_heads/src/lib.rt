@@ -8,6 +8,7 @@ mod laws;
 mod origins;
 mod reading;
 mod recent;
+mod recents;
 
 pub use fault::JobFault;
 pub use gather::{HeadRef, Heads, SLACK};

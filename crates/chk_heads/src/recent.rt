@@ -1,20 +1,21 @@
-//! A key that was read not long ago: most records are of the same stream, and their keys differ from it in the sequence id alone.
+//! A key that was read not long ago: the keys of other records of its stream differ from it in the sequence id alone.
 
-ghost use Rattle.std.specs.Prelude.{◌≡◌, ◌⊎◌, [], IsTrue, IfSome, OnOk, OnErr};
+ghost use Rattle.std.specs.Prelude.{◌≡◌, [], IsTrue, IfSome, OnOk, OnErr};
 ghost use Rattle.chk_heads.specs.HeadRows.{AreAlike, IsNext};
-ghost use Rattle.chk_heads.specs.Recents.{IsSame, IsSet};
+ghost use Rattle.chk_heads.specs.Recents.{IsSet};
 
 use chk_bytes::{Bytes, NoMemory, take_u64};
 use std::alloc::Global;
 
 /// Where the sequence id of a key ends, which stands behind the version.
-const SEQ_END: usize = 9;
+pub(crate) const SEQ_END: usize = 9;
 
 /// The bytes of a key that was read not long ago, its start, and the number of its origin. There are no bytes before the first
-/// one.
+/// one. By its mark it is looked for.
 #[derive(Debug, Drop)]
 pub(crate) struct Recent {
     key: Bytes,
+    pub mark: u64,
     pub start: u64,
     pub origin: u32,
 }
@@ -26,6 +27,7 @@ impl Recent {
     {
         Recent {
             key: Bytes::new(alloc),
+            mark: 0,
             start: 0,
             origin: 0,
         }
@@ -46,22 +48,25 @@ impl Recent {
         Some(seq)
     }
 
-    /// Takes this key for the recent one, where it is to. Without memory there is none then.
-    pub(crate) fn set_if(
+    /// There are no bytes, or they are a key of this origin.
+    pub(crate) fn is_for(&self, origin: u32) -> bool {
+        self.key.len() == 0 || self.origin == origin
+    }
+
+    /// Takes this key for the recent one. Without memory there is none then.
+    pub(crate) fn set(
         &mut self,
-        is: bool,
+        mark: u64,
         key: &[u8],
         start: u64,
         origin: u32,
     ) -> Result<(), NoMemory>
-        ensures ok { OnOk result (IsSame self.old self.new ⊎ IsSet self.new key.now start origin) }
+        ensures ok { OnOk result (IsSet self.new key.now start origin) }
         ensures err { OnErr result (self.new.key ≡ []) }
     {
-        if !is {
-            return Ok(());
-        }
         self.key.truncate(0);
         self.key.push_all(key)?;
+        self.mark = mark;
         self.start = start;
         self.origin = origin;
         Ok(())

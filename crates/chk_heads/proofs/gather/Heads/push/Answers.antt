@@ -3,7 +3,7 @@ use Rattle.std.specs.Prelude.{OnErr}
 use Rattle.chk_chunk.specs.Lent.{lent_key}
 use Rattle.chk_heads.specs.Heads.{head_with}
 use Rattle.chk_heads.specs.HeadRows.{head_in_row}
-use Rattle.chk_heads.proofs.Recents.{recent_grown, now_recent}
+use Rattle.chk_heads.proofs.KeptKeys.{kept_grown}
 use Rattle.chk_heads.proofs.Rows.{Known, known_grown, view_grown, view_pushed, known_pushed}
 use Rattle.chk_heads.proofs.gather.Heads.push.Goals as goal
 
@@ -16,19 +16,27 @@ returns-in_err-origin-clause-err c =
     when_err c.from_residual.result
     (view_grown c.self.inside.origins.items c.number_of.new.origins.items c.self.inside.rows.items c.self.invariant.known c.number_of.ensures.grown ∙ c.self.view_is)
 
-pub returns-in_err-set_if-clause-err : goal.returns-in_err-set_if-clause-err
-returns-in_err-set_if-clause-err c =
-    when_err c.from_residual-in_err-set_if.result
+pub invariant_of-self-in_err-keep : goal.invariant_of-self-in_err-keep
+invariant_of-self-in_err-keep c = record {
+  known = known_grown c.self.inside.origins.items c.number_of.new.origins.items c.self.inside.rows.items c.self.invariant.known
+      c.number_of.ensures.grown;
+  kept = c.keep.ensures c.number_of.new.origins.items (lent_key c.args.key.now) c.requires refl c.in_ok-origin.ensures.found
+      (kept_grown c.self.inside.origins.items c.number_of.new.origins.items c.self.inside.recents c.in_ok-origin.ensures.grown
+      c.self.invariant.kept);
+}
+
+pub returns-in_err-keep-clause-err : goal.returns-in_err-keep-clause-err
+returns-in_err-keep-clause-err c =
+    when_err c.from_residual-in_err-keep.result
     (view_grown c.self.inside.origins.items c.number_of.new.origins.items c.self.inside.rows.items c.self.invariant.known c.number_of.ensures.grown ∙ c.self.view_is)
 
 pub invariant_of-self-in_err-push : goal.invariant_of-self-in_err-push
 invariant_of-self-in_err-push c = record {
   known = subst (λ rows. All (Known c.number_of.new.origins.items) rows) (sym c.in_err-push.ensures.items)
       (known_grown c.self.inside.origins.items c.number_of.new.origins.items c.self.inside.rows.items c.self.invariant.known c.number_of.ensures.grown);
-  recent = now_recent c.number_of.new.origins.items c.self.inside.recent c.set_if.new.self (lent_key c.args.key.now)
-      c.args.bytes.now c.in_ok-origin.origin c.requires c.in_ok-origin.ensures.found
-      (recent_grown c.self.inside.origins.items c.number_of.new.origins.items c.self.inside.recent c.in_ok-origin.ensures.grown
-      c.self.invariant.recent) c.in_ok-set_if.ensures.ok;
+  kept = c.keep.ensures c.number_of.new.origins.items (lent_key c.args.key.now) c.requires refl c.in_ok-origin.ensures.found
+      (kept_grown c.self.inside.origins.items c.number_of.new.origins.items c.self.inside.recents c.in_ok-origin.ensures.grown
+      c.self.invariant.kept);
 }
 
 pub returns-in_err-push-clause-err : goal.returns-in_err-push-clause-err
@@ -43,10 +51,9 @@ invariant_of-self-2 c = record {
       (known_pushed c.self.inside.origins.items c.number_of.new.origins.items c.self.inside.rows.items
       (record { origin = c.in_ok-origin.origin; file = c.args.file; size = c.args.size; turn = 0; end = c.args.key.now.seq; at = c.args.at })
       (lent_key c.args.key.now) c.self.invariant.known c.in_ok-origin.ensures.grown c.in_ok-origin.ensures.found);
-  recent = now_recent c.number_of.new.origins.items c.self.inside.recent c.set_if.new.self (lent_key c.args.key.now)
-      c.args.bytes.now c.in_ok-origin.origin c.requires c.in_ok-origin.ensures.found
-      (recent_grown c.self.inside.origins.items c.number_of.new.origins.items c.self.inside.recent c.in_ok-origin.ensures.grown
-      c.self.invariant.recent) c.in_ok-set_if.ensures.ok;
+  kept = c.keep.ensures c.number_of.new.origins.items (lent_key c.args.key.now) c.requires refl c.in_ok-origin.ensures.found
+      (kept_grown c.self.inside.origins.items c.number_of.new.origins.items c.self.inside.recents c.in_ok-origin.ensures.grown
+      c.self.invariant.kept);
 }
 
 pub returns-clause-ok : goal.returns-clause-ok

@@ -24,7 +24,7 @@ invariant_of-self c =
     record {
       known = subst (All (IsKnown origins)) (sym (written rows turned c.self.inside.rows.len same (omega (arith, c.self.inside.rows.ok.0))))
           (kept_known origins rows turned same c.self.invariant.known);
-      recent = c.self.invariant.recent;
+      kept = c.self.invariant.kept;
     }
 
 pub returns-in_err-take_turns-clause-err : goal.returns-in_err-take_turns-clause-err
@@ -49,7 +49,7 @@ invariant_of-self-2 c =
     record {
       known = All-permutation (IsKnown origins) turned c.sort_unstable_by.new.self.items moved
           (kept_known origins rows turned same c.self.invariant.known);
-      recent = c.self.invariant.recent;
+      kept = c.self.invariant.kept;
     }
 
 pub returns-clause-ok : goal.returns-clause-ok

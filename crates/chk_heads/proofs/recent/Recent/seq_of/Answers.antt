@@ -1,5 +1,5 @@
 use Rattle.std.proofs.Common.{arith}
-use Rattle.chk_heads.proofs.Recents.{is_next}
+use Rattle.chk_heads.proofs.KeptKeys.{is_next}
 use Rattle.chk_heads.proofs.recent.Recent.seq_of.Goals as goal
 
 pub returns : goal.returns

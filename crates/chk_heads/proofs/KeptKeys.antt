@@ -1,8 +1,9 @@
 -- A key that is another one but for its sequence id.
-use Rattle.std.proofs.Common.{◌≡◌, inl, inr, ℕ, ◌<◌, ◌≤◌, List, [], ◌∷◌, ◌++◌, ◌⊎◌, length, drop, sym, ap, subst, ◌∙◌, arith, length-append}
+use Rattle.std.proofs.Common.{◌≡◌, inl, inr, ℕ, ◌<◌, ◌≤◌, List, [], ◌∷◌, ◌++◌, length, drop, set, sym, ap, ◌∙◌, arith, length-append}
 use Rattle.std.specs.Prelude.{IsTrue, slice_index}
 use Rattle.std.proofs.lemmas.Bool.{and_parts, and_from}
 use Rattle.std.proofs.lemmas.List.{get_or_append_left}
+use Rattle.std.proofs.lemmas.List.Elements.{All-same, All-push, All-set, All-weaker}
 use Rattle.chk_bytes.specs.Laws.{AreBytes}
 use Rattle.chk_bytes.specs.Numbers.{be64, limit, spelled_at}
 use Rattle.chk_chunk.specs.Keys.{Key, IsKey, is_key, fits_1, key_1, key_2, counted, counted_stream}
@@ -10,8 +11,9 @@ use Rattle.chk_chunk.proofs.HeadLemmas.{head_spelled}
 use Rattle.chk_chunk.proofs.KeyLemmas.{key_facts, is_key-from_facts}
 use Rattle.chk_heads.specs.declared.origins.Origin.{Origin}
 use Rattle.chk_heads.specs.declared.recent.Recent.{Recent}
-use Rattle.chk_heads.specs.Recents.{IsSame, IsSet}
-use Rattle.chk_heads.specs.HeadRows.{no_origin, HasOrigin, HasGrown, IsRecent, AreAlike, with_seq, IsNext}
+use Rattle.chk_heads.specs.declared.recents.Recents.{Recents}
+use Rattle.chk_heads.specs.Recents.{IsSet}
+use Rattle.chk_heads.specs.HeadRows.{no_origin, HasOrigin, HasGrown, IsKept, AreKept, AreAlike, with_seq, IsNext}
 
 first_byte : (bytes : List ℕ) → 0 < length bytes → spelled_at 0 1 bytes ≡ slice_index bytes 0
 first_byte [] some = absurd (omega arith)
@@ -64,23 +66,44 @@ has_grown old new i k grown has = rw grown.1 record {
   is = get_or_append_left old grown.0 no_origin i has.there ∙ has.is;
 }
 
--- a next key has the origin of the recent one
-pub next_origin : (origins : List Origin) (r : Recent) (k : Key) (bytes : List ℕ) (seq : ℕ) → IsRecent origins r k
-    → IsNext r bytes seq → IsKey (with_seq seq k) bytes × HasOrigin origins r.origin (with_seq seq k)
-next_origin origins r k bytes seq recent next =
-    (next.is k recent.is recent.start, record { there = recent.origin.there; is = recent.origin.is })
+-- a place without a key
+pub empty_kept : (origins : List Origin) (r : Recent) → r.key ≡ [] → IsKept origins r
+empty_kept origins r none some = absurd (omega (arith, ap length none, some))
 
--- and so does that of the recent key
-pub recent_grown : (old new : List Origin) (r : Recent) → HasGrown old new → (0 < length r.key → (k : Key) × IsRecent old r k)
-    → 0 < length r.key → (k : Key) × IsRecent new r k
-recent_grown old new r grown was some =
-    let p = was some in (p.0, record { is = p.1.is; start = p.1.start; origin = has_grown old new r.origin p.0 grown p.1.origin })
+-- a key that was set
+pub set_kept : (origins : List Origin) (r : Recent) (k : Key) (bytes : List ℕ) (start n : ℕ) → IsKey k bytes → k.start ≡ start
+    → HasOrigin origins n k → IsSet r bytes start n → IsKept origins r
+set_kept origins r k bytes start n is begins has set some =
+    (k, record { is = rw set.key_is is; start = begins ∙ sym set.start_is; origin = rw set.origin_is has })
 
--- the recent key is the one before, or the one that was set
-pub now_recent : (origins : List Origin) (old new : Recent) (k : Key) (bytes : List ℕ) (n : ℕ) → IsKey k bytes
-    → HasOrigin origins n k → (0 < length old.key → (l : Key) × IsRecent origins old l) → IsSame old new ⊎ IsSet new bytes k.start n
-    → 0 < length new.key → (l : Key) × IsRecent origins new l
-now_recent origins old new k bytes n is has was (inl same) =
-    subst (λ (r : Recent). 0 < length r.key → (l : Key) × IsRecent origins r l) (sym same) was
-now_recent origins old new k bytes n is has was (inr set) =
-    λ some. (k, record { is = rw set.key_is is; start = sym set.start_is; origin = rw set.origin_is has })
+-- the same places, one more without a key, and another key at one
+pub kept_same : (origins : List Origin) (old new : Recents) → new.places.items ≡ old.places.items → AreKept origins old
+    → AreKept origins new
+kept_same origins old new same kept = record {
+  each = All-same (IsKept origins) new.places.items old.places.items same kept.each;
+}
+
+pub kept_more : (origins : List Origin) (old new : Recents) (r : Recent) → new.places.items ≡ old.places.items ++ r ∷ []
+    → r.key ≡ [] → AreKept origins old → AreKept origins new
+kept_more origins old new r more none kept = record {
+  each = All-same (IsKept origins) new.places.items (old.places.items ++ r ∷ []) more
+      (All-push (IsKept origins) old.places.items r kept.each (empty_kept origins r none));
+}
+
+pub kept_set : (origins : List Origin) (old new : Recents) (place : ℕ) (r : Recent)
+    → new.places.items ≡ set old.places.items place r → IsKept origins r → AreKept origins old → AreKept origins new
+kept_set origins old new place r is key kept = record {
+  each = All-same (IsKept origins) new.places.items (set old.places.items place r) is
+      (All-set (IsKept origins) old.places.items place r key kept.each);
+}
+
+-- origins that are put behind change nothing of the kept keys
+pub kept_grown : (old new : List Origin) (rs : Recents) → HasGrown old new → AreKept old rs → AreKept new rs
+kept_grown old new rs grown kept = record {
+  each = All-weaker (IsKept old) (IsKept new)
+      (λ r was some. let p = was some in (
+        p.0,
+        record { is = p.1.is; start = p.1.start; origin = has_grown old new r.origin p.0 grown p.1.origin },
+      ))
+      rs.places.items kept.each;
+}
