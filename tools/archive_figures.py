@@ -39,6 +39,12 @@ ROW = 32
 SPEED_GOAL = 50
 # The most bytes between two records that the program reads at once.
 GAP = 4_096
+# A run that takes so many bytes, in chunks of fewer than so many that lie so far apart in their streams, writes them by windows
+# of its sinks.
+TURNED = 4_194_304
+LONG = 16_384
+CLOSE = 512
+WINDOW = 2_031_616
 
 
 class Scene:
@@ -51,12 +57,14 @@ class Scene:
         # Chunks of a stream begin at places that differ, so that one in a wrong place is seen.
         self.text = b"".join(LINE % number for number in range(20_000))
         self.sinks = 0
+        # The number of the first chunk of each window of each sink.
+        self.windows = []
 
     def put(self, file, number):
-        """The chunk of this number goes to a sink or segment."""
+        """The chunk of this number goes to a sink or segment; the place of its first byte there."""
         turn, stream = divmod(number, len(self.streams))
         at = 61 * number % (len(self.text) - self.chunk)
-        file.record((turn + 1) * self.chunk, self.tails[stream], self.text[at : at + self.chunk])
+        return file.record((turn + 1) * self.chunk, self.tails[stream], self.text[at : at + self.chunk])
 
     def write(self):
         os.makedirs(f"{self.folder}/sinks")
@@ -65,18 +73,31 @@ class Scene:
             self.sinks += 1
             stem = f"c1.1.{self.sinks}"
             with open(f"{self.folder}/sinks/{stem}.done", "wb") as file:
-                sink = SequenceFile(stem, file.write)
+                sink, last = SequenceFile(stem, file.write), -1
                 for number in range(first, min(first + each, self.chunks)):
-                    self.put(sink, number)
+                    window = self.put(sink, number) // WINDOW
+                    if window != last:
+                        self.windows.append(number)
+                    last = window
+
+    def parts(self):
+        """The numbers of the chunks that stand stream after stream, part after part."""
+        count = len(self.streams)
+        # A stream's next chunk lies behind the others' and the keys.
+        apart = (count - 1) * (self.chunk + 40) > CLOSE
+        if self.chunks * self.chunk < TURNED or self.chunk >= LONG or not apart:
+            return [(0, self.chunks)]
+        return list(zip(self.windows, [*self.windows[1:], self.chunks]))
 
     def compare(self, out):
         hashed, count = hashlib.sha256(), len(self.streams)
-        segment, ends = SequenceFile("seg.1", hashed.update), []
-        for stream, names in enumerate(self.streams):
-            numbers = range(stream, self.chunks, count)
-            for number in numbers:
-                self.put(segment, number)
-            ends.append((names, len(numbers) * self.chunk, 0))
+        segment = SequenceFile("seg.1", hashed.update)
+        for first, past in self.parts():
+            for stream in range(count):
+                for number in range(first + (stream - first) % count, past, count):
+                    self.put(segment, number)
+        each = [len(range(stream, self.chunks, count)) for stream in range(count)]
+        ends = [(names, number * self.chunk, 0) for names, number in zip(self.streams, each)]
         told = f"archive unclosed 0 taken {self.chunks * self.chunk} held 0 removed {self.sinks}\n"
         told += "".join(f"end {' '.join(names)} {end}\n" for names, end, _ in ends)
         book = made.book(2, [(1, segment.place)], ends)
@@ -97,9 +118,10 @@ def archived(program, scene):
     return used
 
 
-def looped(asked, folder, what, copied):
+def looped(asked, scene, what, copied):
     """The reads and writes of the segment alone, beside the copy."""
-    used = Used([asked.loop, str(GAP)], folder).wait(3600)
+    folder, part = scene.folder, WINDOW if len(scene.parts()) > 1 else 0
+    used = Used([asked.loop, str(GAP), str(part)], folder).wait(3600)
     if used.status != 0:
         sys.exit(f"segment_loop: status {used.status}")
     os.remove(f"{folder}/segment")
@@ -115,7 +137,7 @@ def measured(asked, chunk, count):
         copied = copies.shell(folder, "mkdir copy && cp sinks/*.done copy/ && sync -f copy")
         removed = copies.shell(folder, "rm -r copy && sync -f .")
         if asked.loop:
-            print(looped(asked, folder, what, copied))
+            print(looped(asked, scene, what, copied))
         used = archived(asked.program, scene)
     size = scene.chunks * chunk
     print(row(f"{what}: cp and sync", size, copied))

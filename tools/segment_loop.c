@@ -1,11 +1,13 @@
 /* The reads and writes that a segment of the sinks in `sinks/` costs, without anything around them.
 
-usage: segment_loop GAP
+usage: segment_loop GAP PART
 
 It goes through all sinks once in pieces of 1 MiB and keeps a row for each record. Then it reads the records back,
-stream by stream, in the order in which they came, and writes them into `segment` by 1 MiB, with one fsync. Where at
-most GAP bytes lie between a record and the next one of its stream, both are read at once, up to 262,144 bytes. It
-proves, tests and compares nothing. It tells what these calls cost, and is no bound: another way of reading may cost less. */
+and writes them into `segment` by 1 MiB, with one fsync. Where PART is 0 they go stream by stream, in the order in which
+they came; where at most GAP bytes lie between a record and the next one of its stream, both are read at once, up to
+262,144 bytes. Else they go by parts of so many bytes of a sink, stream by stream in each, and a part is read at once,
+with 65,536 bytes behind it. It proves, tests and compares nothing. It tells what these calls cost, and is no bound:
+another way of reading may cost less. */
 #include <fcntl.h>
 #include <glob.h>
 #include <stdint.h>
@@ -20,6 +22,8 @@ proves, tests and compares nothing. It tells what these calls cost, and is no bo
 #define HEADER 96
 #define SYNC 20
 #define BETWEEN 2000
+#define BEHIND 65536
+#define MOST (4 << 20)
 
 struct row {
     uint64_t at;
@@ -36,7 +40,7 @@ static struct row *rows, *sorted;
 static size_t count, room;
 static struct stream streams[256];
 static size_t known;
-static char window[WINDOW], held[2 * PIECE], out[2 * PIECE];
+static char window[MOST], held[2 * PIECE], out[2 * PIECE];
 static size_t filled;
 static uint64_t place, last_sync;
 static int segment;
@@ -116,17 +120,31 @@ static void gather(int sink, uint16_t file) {
     }
 }
 
-/* Puts the rows into the order of their streams, each stream's in the order in which they came. */
-static void sort(void) {
-    size_t first = 0;
-    sorted = malloc((count + 1) * sizeof *sorted);
-    check(sorted == NULL, "rows");
+/* Puts the rows from one place up to another into the order of their streams, each stream's in the order in which they came. */
+static void sort_part(size_t from, size_t past) {
+    size_t first = from;
+    for (size_t at = 0; at < known; at++)
+        streams[at].count = 0;
+    for (size_t at = from; at < past; at++)
+        streams[rows[at].stream].count++;
     for (size_t at = 0; at < known; at++) {
         streams[at].first = first;
         first += streams[at].count;
     }
-    for (size_t at = 0; at < count; at++)
+    for (size_t at = from; at < past; at++)
         sorted[streams[rows[at].stream].first++] = rows[at];
+}
+
+/* All rows in that order, or those of each part. */
+static void sort(uint64_t part) {
+    sorted = malloc((count + 1) * sizeof *sorted);
+    check(sorted == NULL, "rows");
+    for (size_t from = 0, past; from < count; from = past) {
+        past = part ? from + 1 : count;
+        while (past < count && rows[past].file == rows[from].file && rows[past].at / part == rows[from].at / part)
+            past++;
+        sort_part(from, past);
+    }
     free(rows);
 }
 
@@ -163,17 +181,18 @@ static size_t reach(size_t at, uint64_t gap) {
     return end - row->at;
 }
 
-static void copy(const int *sinks, uint64_t gap) {
+static void copy(const int *sinks, uint64_t gap, uint64_t part) {
     uint64_t from = 0, end = 0;
     int file = -1;
     for (size_t at = 0; at < count; at++) {
         const struct row *row = &sorted[at];
         if (row->file != file || row->at < from || row->at + row->size > end) {
-            size_t size = reach(at, gap);
-            check(size > WINDOW || pread(sinks[row->file], window, size, (off_t)row->at) != (ssize_t)size, "pread");
             file = row->file;
-            from = row->at;
-            end = from + size;
+            from = part ? row->at - row->at % part : row->at;
+            size_t size = part ? part + BEHIND : reach(at, gap);
+            ssize_t came = pread(sinks[file], window, size, (off_t)from);
+            check(came < 0 || from + (size_t)came < row->at + row->size, "pread");
+            end = from + (size_t)came;
         }
         put(window + (row->at - from), row->size);
     }
@@ -182,20 +201,22 @@ static void copy(const int *sinks, uint64_t gap) {
 int main(int words_count, char **words) {
     static int sinks[1024];
     glob_t names;
-    check(words_count != 2, "usage: segment_loop GAP");
+    check(words_count != 3, "usage: segment_loop GAP PART");
+    uint64_t part = strtoull(words[2], NULL, 10);
+    check(part + BEHIND > MOST, "the part is too long");
     check(glob("sinks/*.done", 0, NULL, &names) != 0 || names.gl_pathc > 1024, "sinks");
     for (size_t file = 0; file < names.gl_pathc; file++) {
         sinks[file] = open(names.gl_pathv[file], O_RDONLY);
         check(sinks[file] < 0, names.gl_pathv[file]);
         gather(sinks[file], (uint16_t)file);
     }
-    sort();
+    sort(part);
     segment = open("segment", O_WRONLY | O_APPEND | O_CREAT | O_EXCL, 0666);
     check(segment < 0, "segment");
     static char header[HEADER];
     append(header, HEADER);
     last_sync = place;
-    copy(sinks, strtoull(words[1], NULL, 10));
+    copy(sinks, strtoull(words[1], NULL, 10), part);
     check(write(segment, out, filled) != (ssize_t)filled || fsync(segment) < 0, "segment");
     return 0;
 }

@@ -14,7 +14,7 @@ class SequenceFile:
         put(FRONT + self.marker)
 
     def record(self, end, tail, data):
-        """A record of a stream whose names stand so in keys, and that ends at this offset."""
+        """A record of a stream whose names stand so in keys, and that ends at this offset; the place of its first byte."""
         if self.place - self.synced >= SYNC_EVERY:
             self.put(ESCAPE + self.marker)
             self.place += 20
@@ -24,3 +24,4 @@ class SequenceFile:
         head = struct.pack(">IIIBQ", both, key + 4, key, 1, end)
         self.put(b"".join((head, tail, struct.pack(">I", len(data)), data)))
         self.place += 8 + both
+        return self.place - 8 - both

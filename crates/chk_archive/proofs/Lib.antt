@@ -11,6 +11,7 @@ mod BookLoads
 mod Lasts
 mod Listings
 mod FoundSources
+mod ByStream
 mod RaisedEnds
 mod BookFacts
 mod NextBook

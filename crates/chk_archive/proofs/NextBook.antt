@@ -17,7 +17,7 @@ use Rattle.chk_world.specs.Jobs.{IsSoundSegment, BookNamesSyncedSegments, segmen
 use Rattle.chk_world.specs.Rules.{Legal}
 use Rattle.chk_world.specs.Sight.{Sight, sight, shows_done}
 use Rattle.chk_world.specs.TrueBooks.{HasBytes}
-use Rattle.chk_world.proofs.Each.{Each, first_in, each_from, each_at, each_filter, filter_in, filter_each}
+use Rattle.chk_world.proofs.Each.{Each, first_in, each_from, each_as, each_at, each_filter, filter_in, filter_each}
 use Rattle.chk_world.proofs.NameTests.{streams_same}
 use Rattle.chk_world.proofs.SmallFiles.{readable}
 use Rattle.chk_world.proofs.Segments.{chunks_same, aside_same, counts_in, none_in, values_append}
@@ -39,7 +39,8 @@ use Rattle.chk_archive.proofs.FoundSources.{K, then_files, StillThere, source_fo
 use Rattle.chk_archive.specs.Numbers.{Numbered}
 use Rattle.chk_archive.proofs.BookFacts.{numbered}
 use Rattle.chk_parts.proofs.EndsInOrder.{sorted, Has, has_any, any_has}
-use Rattle.chk_archive.proofs.RaisedEnds.{EndsAre, ends_by, pass_ends, ends_follow, starts_follow, all_listed, parts_listed}
+use Rattle.chk_archive.proofs.ByStream.{SameByStream, each_by_stream}
+use Rattle.chk_archive.proofs.RaisedEnds.{EndsAre, ends_by, pass_ends, same_ends, ends_follow, starts_follow, all_listed, parts_listed}
 
 known_file : (t : Bool) (o : Option File) (f : File) → (if t then o else None) ≡ Some f → o ≡ Some f
 known_file true o f e = e
@@ -137,17 +138,19 @@ module _ (stamped : List (List ℕ)) (names : List (List ℕ)) (b : Book) (v : S
         ∙ ap (λ l. chunks_named F ArchiveFolder b ++ l)
         (append-nil (segment_chunks F ArchiveFolder g) ∙ new_chunks g parts w))
 
-    of_stream : (new : Book) (parts : List Chunk) → PartsAdded (sight h) b new parts → parts ≡ parts_of Ends Cs
+    of_stream : (new : Book) (parts : List Chunk) → PartsAdded (sight h) b new parts
+        → SameByStream parts (parts_of Ends Cs)
         → (s : Stream) → chunks_of_stream s (chunks_named F ArchiveFolder new)
         ≡ chunks_of_stream s (chunks_named F ArchiveFolder b) ++ parts_from (Ends s) (filter (is_of s) Cs)
     of_stream new parts added parts_are s =
         ap (filter (is_of s)) (all_named new parts added)
         ∙ (filter-append (is_of s) (chunks_named F ArchiveFolder b) parts
         ∙ ap (λ l. chunks_of_stream s (chunks_named F ArchiveFolder b) ++ l)
-        (ap (filter (is_of s)) parts_are ∙ parts_at Ends Cs s))
+        (parts_are s ∙ parts_at Ends Cs s))
 
     -- how far the archives go by a book with the parts
-    pub now_reached : (new : Book) (parts : List Chunk) → PartsAdded (sight h) b new parts → parts ≡ parts_of Ends Cs
+    pub now_reached : (new : Book) (parts : List Chunk) → PartsAdded (sight h) b new parts
+        → SameByStream parts (parts_of Ends Cs)
         → (s : Stream) → start_of (K stamped names b v at).upto s
         + length (values (chunks_of_stream s (chunks_named F ArchiveFolder new)))
         ≡ ends_of Ends Cs s
@@ -219,7 +222,7 @@ module _ (stamped : List (List ℕ)) (names : List (List ℕ)) (b : Book) (v : S
 
     module _ (legal : Legal stamped h) (new : Book) (parts kept : List Chunk)
         (added : PartsAdded (sight h) b new parts) (aside_named : AsideNamed (sight h) b new kept)
-        (parts_are : parts ≡ parts_of Ends Cs)
+        (parts_are : SameByStream parts (parts_of Ends Cs))
         (kept_are : kept ≡ set_aside (ends_of Ends Cs) Cs) where
       old_book : BookNamesSyncedSegments ArchiveFolder h b
       old_book = subst (BookNamesSyncedSegments ArchiveFolder h) book_now
@@ -261,8 +264,10 @@ module _ (stamped : List (List ℕ)) (names : List (List ℕ)) (b : Book) (v : S
 
       all_ends : EndsAre (ends_of Ends Cs) (raised_all parts b.ends)
       all_ends =
-          subst (λ (f : Stream → ℕ). EndsAre f (raised_all parts b.ends))
-          (ap (ends_by Ends) parts_are ∙ pass_ends Ends Cs)
+          each_as (λ (e : End). e.end ≡ ends_by Ends parts e.stream) (λ (e : End). e.end ≡ ends_of Ends Cs e.stream)
+          (raised_all parts b.ends)
+          (λ e is. is ∙ (same_ends Ends parts (parts_of Ends Cs) parts_are e.stream
+          ∙ ap (λ (f : Stream → ℕ). f e.stream) (pass_ends Ends Cs)))
           (ends_follow Ends parts b.ends (sorted b.ends facts.rise) old_ends)
 
       abbrev Start : End → Type 0
@@ -273,7 +278,7 @@ module _ (stamped : List (List ℕ)) (names : List (List ℕ)) (b : Book) (v : S
 
       new_starts : Each (λ (c : Chunk). Start (end_of c)) parts
       new_starts =
-          subst (Each (λ (c : Chunk). Start (end_of c))) (sym parts_are)
+          each_by_stream (λ (c : Chunk). Start (end_of c)) parts (parts_of Ends Cs) parts_are
           (part_keys
           (λ s n. Any (λ (f : End). (f.stream ≡ s) × (f.start ≡ n)) b.ends
           ⊎ Any (λ (d : Chunk). (d.key.stream ≡ s) × (d.key.start ≡ n)) Cs) Ends Cs

@@ -1,7 +1,8 @@
 -- The ends that parts raise are those that the pass reaches.
-use Rattle.std.proofs.Common.{◌≡◌, inl, inr, ℕ, Bool, true, false, List, [], ◌∷◌, ap, sym, subst, ◌∙◌, refl, true≢false, if◌then◌else◌}
+use Rattle.std.proofs.Common.{◌≡◌, inl, inr, ℕ, Bool, true, false, cond, List, [], ◌∷◌, ap, sym, subst, ◌∙◌, refl, true≢false, if◌then◌else◌}
+use Rattle.std.specs.Prelude.{filter}
 use Rattle.std.proofs.lemmas.Bool.{cases_Bool}
-use Rattle.chk_chunk.specs.Keys.{Stream, Chunk, chunk_end, same_stream}
+use Rattle.chk_chunk.specs.Keys.{Stream, Chunk, chunk_end, same_stream, is_of}
 use Rattle.chk_world.specs.Books.{End}
 use Rattle.chk_world.specs.ArchiveRuns.{with_end}
 use Rattle.chk_world.proofs.NameTests.{streams_same}
@@ -10,6 +11,7 @@ use Rattle.chk_book.specs.Segmenting.{end_of, raised, raised_all}
 use Rattle.chk_book.proofs.EndRaises.{ending_at}
 use Rattle.chk_plan.specs.Plan.{goes_on, part_past, parts_of, ends_of}
 use Rattle.chk_plan.proofs.Parts.{stream_self}
+use Rattle.chk_archive.proofs.ByStream.{SameByStream}
 use Rattle.chk_parts.proofs.EndsInOrder.{Sorted, Has, has_still, has_now, all_raised, ends_raised}
 
 -- ---- the ends of parts
@@ -40,16 +42,45 @@ pass_ends ends (c ∷ cs) =
     go true on off = on
     go false on off = off
 
--- each end says where its stream ends
-abbrev pub EndsAre : (Stream → ℕ) → List End → Type 0
-EndsAre ends es = Each (λ (e : End). e.end ≡ ends e.stream) es
-
 turned : (s t : Stream) → same_stream s t ≡ false → same_stream t s ≡ false
 turned s t unlike = elim (cases_Bool (same_stream t s)) [
   | inr h ↦ h
   | inl same ↦ absurd (true≢false
       (sym (subst (λ u. same_stream u t ≡ true) (streams_same t s same) (stream_self t)) ∙ unlike))
 ]
+
+-- where a stream ends after parts goes by where it ended before them
+end_by_own : (ends others : Stream → ℕ) (s : Stream) → ends s ≡ others s → (cs : List Chunk)
+    → ends_by ends cs s ≡ ends_by others cs s
+end_by_own ends others s same [] = same
+end_by_own ends others s same (c ∷ cs) =
+    end_by_own (with_end ends c.key.stream (chunk_end c)) (with_end others c.key.stream (chunk_end c)) s
+    (ap (λ n. if same_stream c.key.stream s then chunk_end c else n) same) cs
+
+-- and by its own parts alone
+end_by_parts : (ends : Stream → ℕ) (s : Stream) (cs : List Chunk)
+    → ends_by ends cs s ≡ ends_by ends (filter (is_of s) cs) s
+end_by_parts ends s [] = refl
+end_by_parts ends s (c ∷ cs) =
+    end_by_parts (with_end ends c.key.stream (chunk_end c)) s cs ∙ go (same_stream s c.key.stream) refl
+  where
+    go : (t : Bool) → same_stream s c.key.stream ≡ t
+        → ends_by (with_end ends c.key.stream (chunk_end c)) (filter (is_of s) cs) s
+        ≡ ends_by ends (cond t (c ∷ filter (is_of s) cs) (filter (is_of s) cs)) s
+    go true e = refl
+    go false e =
+        end_by_own (with_end ends c.key.stream (chunk_end c)) ends s
+        (ap (λ b. if b then chunk_end c else ends s) (turned s c.key.stream e)) (filter (is_of s) cs)
+
+-- so it is the same after parts that are the same of each stream
+pub same_ends : (ends : Stream → ℕ) (parts others : List Chunk) → SameByStream parts others → (s : Stream)
+    → ends_by ends parts s ≡ ends_by ends others s
+same_ends ends parts others same s =
+    end_by_parts ends s parts ∙ (ap (λ l. ends_by ends l s) (same s) ∙ sym (end_by_parts ends s others))
+
+-- each end says where its stream ends
+abbrev pub EndsAre : (Stream → ℕ) → List End → Type 0
+EndsAre ends es = Each (λ (e : End). e.end ≡ ends e.stream) es
 
 pub ends_follow : (ends : Stream → ℕ) (parts : List Chunk) (es : List End) → Sorted es → EndsAre ends es
     → EndsAre (ends_by ends parts) (raised_all parts es)

@@ -40,6 +40,7 @@ use Rattle.chk_parts.specs.Publishing.{IsPublished, MayFollow, Published}
 use Rattle.chk_parts.proofs.Published.{replaces_no_start, quiet_replace}
 use Rattle.chk_archive.specs.Taking.{CanPrepare, MayFollowIf, PartsAdded, nothing_taken, one_added, AsideNamed, none_kept, old_kept, new_kept, IsReady, Prepared, TookAll, TookSo}
 use Rattle.chk_archive.specs.declared.taking.Taken.{Taken}
+use Rattle.chk_archive.proofs.ByStream.{SameByStream}
 use Rattle.chk_archive.proofs.Listings.{limits_agree}
 use Rattle.chk_archive.proofs.FoundSources.{K}
 use Rattle.chk_archive.proofs.NextBook.{Ends, Cs, may_follow, now_reached}
@@ -117,7 +118,7 @@ one_more u old new parts (one_added g low holds segments ends) =
 
 module _ (stamped : List (List ℕ)) (names : List (List ℕ)) (b : Book) (v : Sight)
     (at : IsListed stamped names b v) (new : Book) (parts kept : List Chunk)
-    (parts_are : parts ≡ parts_of (Ends stamped names b v at) (Cs stamped names b v at))
+    (parts_are : SameByStream parts (parts_of (Ends stamped names b v at) (Cs stamped names b v at)))
     (kept_are : kept ≡ set_aside (ends_of (Ends stamped names b v at) (Cs stamped names b v at)) (Cs stamped names b v at)) where
   module _ (u : Sight) (changed : Bool) (ready : IsReady v b new parts kept changed u) where
     book_ready : own_book u ArchiveFolder ≡ b

@@ -1,5 +1,5 @@
 -- What an archive run takes, once the sinks are listed.
-use Rattle.std.specs.Prelude.{◌≡◌, ℕ, ◌+◌, ◌-◌, ◌≤◌, ◌^◌, Bool, true, false, not, ◌&&◌, IsTrue, List, [], ◌∷◌, ◌++◌, length, flat_map, sum_by, Contains, Some, None, Result, Ok, Err}
+use Rattle.std.specs.Prelude.{◌≡◌, ℕ, ◌+◌, ◌-◌, ◌≤◌, ◌^◌, Bool, true, false, not, ◌&&◌, IsTrue, List, [], ◌∷◌, ◌++◌, length, sum_by, Contains, Some, None, Result, Ok, Err}
 use Rattle.chk_bytes.specs.Stems.{Stem}
 use Rattle.chk_site.specs.History.{History}
 use Rattle.chk_chunk.specs.Keys.{Stream, Chunk}
@@ -20,7 +20,7 @@ use Rattle.chk_plan.specs.Passes.{begins_at, AreSpans}
 use Rattle.chk_plan.specs.Laws.{span_gain}
 use Rattle.chk_plan.specs.Plan.{ends_of, set_aside}
 use Rattle.chk_plan.specs.declared.spans.Known.{Known}
-use Rattle.chk_parts.specs.Cuts.{span_cuts, AreWithin}
+use Rattle.chk_parts.specs.Cuts.{AreWithin, AreDealt}
 use Rattle.chk_parts.specs.Kept.{AreSpansWithin, are_old_aside}
 use Rattle.chk_parts.specs.declared.cuts.Cut.{Cut}
 use Rattle.chk_archive.specs.Numbers.{Numbered}
@@ -35,7 +35,7 @@ pub record IsPlanned (b : Book) (heads : List Head) (p : Planned) : Type 0 where
   pub ends : (h : Head) → begins_at known h ≡ end_in h.key.start b.ends h.key.stream
   pub spans : AreSpans known heads 0 p.spans.items (length heads)
   pub taken : p.taken ≡ sum_by span_gain p.spans.items
-  pub cuts : p.cuts ≡ flat_map (span_cuts heads) p.spans.items
+  pub cuts : AreDealt heads p.spans.items p.cuts
   pub within : AreWithin (length heads) p.cuts
   pub spans_within : AreSpansWithin (length heads) p.spans.items
 

@@ -1,5 +1,5 @@
 -- A record that is fetched.
-use Rattle.std.proofs.Common.{ℕ, ◌-◌, ◌≤◌, List, ◌++◌, length, take, drop, Option, Ok, Err, sym, ◌∙◌, ap, arith}
+use Rattle.std.proofs.Common.{◌≡◌, ℕ, ◌+◌, ◌-◌, ◌≤◌, List, ◌++◌, length, take, drop, Option, Ok, Err, sym, ◌∙◌, ap, arith}
 use Rattle.chk_site.specs.declared.acts.OutsideFault.{OutsideFault}
 use Rattle.chk_site.specs.declared.acts.OutsideFault.TheVariants.{Outside as site_failed, NoMemory as no_memory}
 use Rattle.chk_site.specs.Files.{File}
@@ -37,10 +37,10 @@ found name f h old new history has window is =
     )
 
 -- what was loaded is a window
-loaded_window : (name : List ℕ) (f : Option File) (h : Head) (size : ℕ) (r : RecordReader)
-    (history : History) → HasWindow name f h size r (Ok tt) history
+loaded_window : (name : List ℕ) (f : Option File) (h : Head) (from size : ℕ) (r : RecordReader)
+    (history : History) → HasWindow name f h.file from size r (Ok tt) history
     → IsWindowOf h.file f r
-loaded_window name f h size r history w =
+loaded_window name f h from size r history w =
     λ same. is_window (bytes_in f) r.bytes r.from size (w.3 ∙ ap (λ n. take size (drop n
     (bytes_in f))) (sym w.2))
 
@@ -53,42 +53,43 @@ found_there most name f h old new now is =
     leads_none now (λ history can. found name f h old new history can.has can.window is)
 
 -- after a read
-pub found_then : (most : ℕ) (name : List ℕ) (f : Option File) (h : Head) (size : ℕ)
+pub found_then : (most : ℕ) (name : List ℕ) (f : Option File) (h : Head) (from size : ℕ)
     (first mid new : RecordReader) {now next : Option History}
     → IsHeld h mid new → Adds now next (Leads (anyhow (SparesFile name)) (Has name f)
-    (HasWindow name f h size mid (Ok tt)))
+    (HasWindow name f h.file from size mid (Ok tt)))
     → Adds now next (Leads (anyhow (SparesFile name)) (CanRead most name f h first)
     (HasRead name f h new (Ok tt)))
-found_then most name f h size first mid new is told =
+found_then most name f h from size first mid new is told =
     adds_as (Leads (anyhow (SparesFile name)) (CanRead most name f h first) (HasRead name f h new
     (Ok tt))) told
     (λ added history x. record {
       leads = λ s can.
           let w = x.leads s can.has in
-          found name f h mid new (added ++ history) w.0 (loaded_window name f h size mid
+          found name f h mid new (added ++ history) w.0 (loaded_window name f h from size mid
           (added ++ history) w) is;
       own = x.own;
     })
 
 -- it is always found
-pub never_then : (most : ℕ) (name : List ℕ) (f : Option File) (h : Head) (size : ℕ)
+pub never_then : (most : ℕ) (name : List ℕ) (f : Option File) (h : Head) (from size : ℕ)
     (first mid new : RecordReader) (fault : JobFault) {now next : Option History}
-    → most ≤ 1048576 → room_of h ≤ size → NotHeld h mid new
-    → Adds now next (Leads (anyhow (SparesFile name)) (Has name f) (HasWindow name f h size mid
-    (Ok tt)))
+    → most ≤ 1048576 → from ≤ h.at → h.at - from + room_of h ≤ size → NotHeld h mid new
+    → Adds now next (Leads (anyhow (SparesFile name)) (Has name f) (HasWindow name f h.file from size
+    mid (Ok tt)))
     → (after : RecordReader) → Adds now next (Leads (anyhow (SparesFile name))
     (CanRead most name f h first) (HasRead name f h after (Err fault)))
-never_then most name f h size first mid new fault few room is told after =
+never_then most name f h from size first mid new fault few behind room is told after =
     adds_as (Leads (anyhow (SparesFile name)) (CanRead most name f h first) (HasRead name f h after
     (Err fault))) told
     (λ added history x. record {
       leads = λ s can.
           let w = x.leads s can.has in
+          let at : mid.from ≡ from = w.2 in
           absurd
-          (never_missing (bytes_in f) mid.bytes mid.from size h w.2 (w.3 ∙ ap (λ n. take size
-          (drop n (bytes_in f))) (sym w.2)) room
-          (known_whole most h.file (bytes_in f) h few can.known) (is.none w.1
-          (let e = w.2 in let z : mid.from ≤ h.at = omega arith in z)));
+          (never_missing (bytes_in f) mid.bytes mid.from size h (omega (arith, at, behind))
+          (w.3 ∙ ap (λ n. take size (drop n (bytes_in f))) (sym at)) (omega (arith, at, room))
+          (known_whole most h.file (bytes_in f) h few can.known)
+          (is.none w.1 (omega (arith, at, behind))));
       own = x.own;
     })
 

@@ -60,19 +60,18 @@ module _ (all window : List ℕ) (from at : ℕ) (behind : from ≤ at) (is : wi
       ∙ (ap (λ n. take len (drop n all)) place ∙ ap (λ n. take n (drop
       (at + 12 + key_size at all) all)) many)
 
--- a window from the record's place on, with its room, has it
-pub never_missing : (all window : List ℕ) (from size : ℕ) (h : Head) → from ≡ h.at → window
-    ≡ take size (drop from all) → room_of h ≤ size → IsWhole all h
+-- a window with the record's place and its room has it
+pub never_missing : (all window : List ℕ) (from size : ℕ) (h : Head) → from ≤ h.at → window
+    ≡ take size (drop from all) → h.at - from + room_of h ≤ size → IsWhole all h
     → NoValueSpan window (h.at - from) (h.key.seq - h.begin) → ⊥
-never_missing all window from size h same is room whole none =
+never_missing all window from size h behind is room whole none =
     let few = ap length is ∙ length-take size (drop from all) in
     let left = length-drop from all in
     let fits = whole.fits in
     let short = whole.short in
     let sizes = whole.sizes in
-    let long : 12 + key_size h.at all + (h.key.seq - h.begin) ≤ length window = omega arith in
+    let long : h.at - from + (12 + key_size h.at all + (h.key.seq - h.begin)) ≤ length window = omega arith in
     let w = is_window all window from size is in
-    let behind : from ≤ h.at = omega arith in
     let numbers : h.at - from + 8 ≤ length window = omega arith in
     let k = keys_same all window from h.at behind w numbers in
     let r = sizes_same all window from h.at behind w numbers in

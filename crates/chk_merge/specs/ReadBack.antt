@@ -82,10 +82,10 @@ abbrev pub StandsNowhere : Head → RecordReader → Type 0
 StandsNowhere h r = r.file ≡ h.file → r.from ≤ h.at → NoValueSpan r.bytes (h.at - r.from)
     (h.key.seq - h.begin)
 
--- at Ok the window is what the file has from the head's record on, so many bytes
-abbrev pub HasWindow : List ℕ → Option File → Head → ℕ → RecordReader → Result (Unit
+-- at Ok the window is what the file of this number has from this place on, so many bytes
+abbrev pub HasWindow : List ℕ → Option File → ℕ → ℕ → ℕ → RecordReader → Result (Unit
     {0}) OutsideFault → History → Type 0
-HasWindow name f h size r (Ok value) history =
-    Has name f history × (r.file ≡ h.file) × (r.from ≡ h.at) × (r.bytes ≡ take size (drop h.at
+HasWindow name f number from size r (Ok value) history =
+    Has name f history × (r.file ≡ number) × (r.from ≡ from) × (r.bytes ≡ take size (drop from
     (bytes_in f)))
-HasWindow name f h size r (Err fault) history = Unit {0}
+HasWindow name f number from size r (Err fault) history = Unit {0}

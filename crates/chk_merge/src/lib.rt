@@ -22,3 +22,4 @@ pub use chk_heads::JobFault;
 pub use laws::heads_stand_for_chunks;
 pub use merging::merge;
 pub use reader::RecordReader;
+pub use spans::{Ahead, Window};

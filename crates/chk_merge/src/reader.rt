@@ -4,15 +4,15 @@ ghost use Rattle.std.specs.Prelude.{◌+◌, ◌≤◌, length};
 
 use crate::faults::damaged;
 use crate::reading::read_run;
-use crate::spans::{Span, reach, value_span};
+use crate::spans::{Ahead, Run, Span, run_of, value_span};
 use chk_bytes::Bytes;
 use chk_heads::{HeadRef, Heads, JobFault};
 use chk_site::{OutsideFault, Site, Who};
 use std::alloc::Global;
 
-/// Reads the values of records whose heads are known. It holds a window of one file: the last
+/// Reads the values of records whose heads are known. It holds a run of one file's bytes: the last
 /// record that was asked for, and those of the next heads where they lie close, in all at most
-/// 262,144 bytes, or one larger record.
+/// 262,144 bytes, or one larger record; or a whole window of 2,031,616 bytes, and 65,536 behind it.
 #[derive(Debug, Drop)]
 pub struct RecordReader {
     file: u32,
@@ -90,11 +90,14 @@ impl RecordReader {
         ensures last { Adds (S.told site.old) (S.told site.new) (FailsLast result) }
         ensures cause { JobCause (S.fault_count site.old) (S.fault_count site.new) result }
     {
-        self.fetch_by_head(alloc, site, who, name, heads, index, &heads.get(index))
+        let head = heads.get(index);
+        self.fetch_by_head(alloc, site, who, name, heads, index, &head, Ahead::Next)
     }
 
-    /// The same for a caller that has the head at `index`. Of the heads only the next ones are
-    /// looked at, and none where the window holds the record.
+    /// The same for a caller that has the head at `index` and says how far a read goes on. Of the
+    /// heads only the next ones are looked at, and none where what is held has the record. With
+    /// `Ahead::Window` a call costs two reads, and serves all records of at most 65,536 bytes that
+    /// begin in the window.
     pub fn fetch_by_head<S: Site>(
         &mut self,
         alloc: Global,
@@ -104,6 +107,7 @@ impl RecordReader {
         heads: &Heads,
         index: usize,
         head: &HeadRef<'_>,
+        ahead: Ahead,
     ) -> Result<(), JobFault>
         requires name { IsTrue (is_word name.now) }
         requires index { index < length heads.now }
@@ -129,12 +133,12 @@ impl RecordReader {
         if self.find(head) {
             return Ok(());
         }
-        self.refill(alloc, site, who, name, heads, index)
+        self.refill(alloc, site, who, name, heads, index, ahead)
     }
 
     /// Reads the record of the head at `index`, and what is read with it, and makes its value the
-    /// one that is held. It stands apart, and is lent no head, so that a record that the window
-    /// holds costs no more than its search.
+    /// one that is held. It stands apart, and is lent no head, so that a record that is held
+    /// costs no more than its search.
     #[inline(never)]
     fn refill<S: Site>(
         &mut self,
@@ -144,6 +148,7 @@ impl RecordReader {
         name: &str,
         heads: &Heads,
         index: usize,
+        ahead: Ahead,
     ) -> Result<(), JobFault>
         requires name { IsTrue (is_word name.now) }
         requires index { index < length heads.now }
@@ -166,8 +171,8 @@ impl RecordReader {
         ensures cause { JobCause (S.fault_count site.old) (S.fault_count site.new) result }
     {
         let head = heads.get(index);
-        let size = reach(heads, index, &head);
-        self.load(alloc, site, who, name, &head, size)?;
+        let run = run_of(heads, index, &head, ahead);
+        self.load(alloc, site, who, name, head.file, run)?;
         if self.find(&head) {
             return Ok(());
         }
@@ -192,20 +197,20 @@ impl RecordReader {
         self.size = 0;
     }
 
-    /// Holds what the head's file has from its record on, so many bytes.
+    /// Holds this run of the bytes of the file of this number.
     fn load<S: Site>(
         &mut self,
         alloc: Global,
         site: &mut S,
         who: &Who,
         name: &str,
-        head: &HeadRef<'_>,
-        size: u64,
+        file: u32,
+        run: Run,
     ) -> Result<(), OutsideFault>
-        requires { size ≤ 2097152 }
+        requires { run.size ≤ 2097152 }
         ensures raw { (f : Option File) → IsSmallFile f → Adds (S.told site.old) (S.told site.new)
             (Leads (anyhow (SparesFile name.now)) (Has name.now f) (HasWindow name.now f
-            (lent_head head.now) size self.new result)) }
+            file run.from run.size self.new result)) }
         ensures left { OnErr result (HoldsNothing self.new) }
         ensures stays { (other : List ℕ) (file : Option File) → Adds (S.told site.old)
             (S.told site.new)
@@ -217,9 +222,9 @@ impl RecordReader {
         ensures cause { OutsideCause (S.fault_count site.old) (S.fault_count site.new) result }
     {
         self.clear(alloc);
-        self.bytes = read_run(alloc, site, who, name, head.at, size)?;
-        self.file = head.file;
-        self.from = head.at;
+        self.bytes = read_run(alloc, site, who, name, run.from, run.size)?;
+        self.file = file;
+        self.from = run.from;
         Ok(())
     }
 

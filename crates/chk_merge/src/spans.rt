@@ -1,6 +1,6 @@
 //! Where records stand, and how far a read goes.
 
-ghost use Rattle.std.specs.Prelude.{◌≡◌, ◌≤◌, ◌<◌, min, length, IfSome, IfNone};
+ghost use Rattle.std.specs.Prelude.{◌≡◌, ◌≤◌, ◌<◌, ◌+◌, ◌-◌, ◌/◌, min, length, IfSome, IfNone};
 ghost use Rattle.chk_heads.specs.Order.{lent_head};
 ghost use Rattle.chk_merge.specs.Spans.{IsValueSpan, NoValueSpan, room_of};
 
@@ -11,7 +11,54 @@ use chk_heads::{HeadRef, Heads, PIECE};
 const GAP: u64 = 4096;
 
 /// How far a read goes on to further records. So many bytes stay in the processor's cache.
-const WINDOW: u64 = 262_144;
+const RUN: u64 = 262_144;
+
+/// The bytes of a window of a file. With those behind it, a window is two whole reads.
+const WINDOW: u64 = 2_031_616;
+
+/// How many bytes behind a window are read with it, so that each record that begins there and has
+/// no more comes whole.
+const BEHIND: u64 = 65_536;
+
+/// How far a read of a record goes on.
+#[derive(Clone, Copy, Debug, PartialEq, Eq)]
+pub enum Ahead {
+    /// To the records of the next heads, while they lie close.
+    Next,
+    /// To the bounds of the window that the record begins in, both ways; but for a record that may
+    /// have more than 65,536 bytes, which is read as by `Next`.
+    Window,
+}
+
+/// One of the windows that a file falls into: each has 2,031,616 bytes, and the first one begins at
+/// the file's first byte. Windows are ordered as they lie in the files.
+#[derive(Clone, Copy, Debug, PartialEq, Eq, PartialOrd, Ord)]
+pub struct Window {
+    /// The number of the file.
+    pub file: u32,
+    /// The place among the file's windows.
+    pub number: u64,
+}
+
+impl Window {
+    /// The window that the record of a head begins in.
+    pub fn of(head: &HeadRef<'_>) -> Window
+        ensures file { result.file ≡ (lent_head head.now).file }
+        ensures number { result.number ≡ (lent_head head.now).at / 2031616 }
+    {
+        Window {
+            file: head.file,
+            number: head.at / WINDOW,
+        }
+    }
+}
+
+/// A run of a file's bytes that is read at once.
+#[derive(Clone, Copy, Debug, PartialEq, Eq)]
+pub(crate) struct Run {
+    pub from: u64,
+    pub size: u64,
+}
 
 /// A run of bytes.
 #[derive(Clone, Copy, Debug, PartialEq, Eq)]
@@ -77,12 +124,31 @@ pub(crate) fn reach(heads: &Heads, index: usize, first: &HeadRef<'_>) -> u64
     let key = size.saturating_sub(data(first));
     for next in index + 1..count {
         let end = end_near(first, &heads.get(next), size, key);
-        if end <= size || end > WINDOW {
+        if end <= size || end > RUN {
             break;
         }
         size = end;
     }
     size
+}
+
+/// What is read for the record of the head at `index`, which is `head`: it has all of the record.
+pub(crate) fn run_of(heads: &Heads, index: usize, head: &HeadRef<'_>, ahead: Ahead) -> Run
+    requires { index < length heads.now }
+    ensures behind { result.from ≤ (lent_head head.now).at }
+    ensures enough { (lent_head head.now).at - result.from + room_of (lent_head head.now) ≤ result.size }
+    ensures few { result.size ≤ 2097152 }
+{
+    if ahead == Ahead::Window && room(head) <= BEHIND {
+        return Run {
+            from: head.at - head.at % WINDOW,
+            size: WINDOW + BEHIND,
+        };
+    }
+    Run {
+        from: head.at,
+        size: reach(heads, index, head),
+    }
 }
 
 /// How far a head's record may reach behind the place of the first one's, in the same file, by a

@@ -1,19 +1,20 @@
 -- What the passes take are the parts of the chunks.
-use Rattle.std.proofs.Common.{◌≡◌, ℕ, ◌+◌, ◌-◌, ◌≤◌, ◌<◌, Bool, true, false, List, [], ◌∷◌, ◌++◌, length, take, drop, ap, sym, subst, ◌∙◌, refl, arith, length-drop, inl, inr, ◌⊎◌}
-use Rattle.std.specs.Prelude.{nat_le, map, flat_map, slice_index_or}
-use Rattle.std.proofs.Math.ListN.{drop_of_length-le}
-use Rattle.std.proofs.lemmas.List.{drop_more, map-append, length-take-le}
-use Rattle.std.proofs.lemmas.Bool.Decides.{leb_tells}
-use Rattle.std.proofs.lemmas.List.Elements.{All-head, All-tail}
-use Rattle.chk_chunk.specs.Keys.{Chunk, chunk_end}
+use Rattle.std.proofs.Common.{◌≡◌, ℕ, ◌+◌, ◌-◌, ◌≤◌, ◌<◌, Bool, true, false, List, [], ◌∷◌, ◌++◌, length, drop, ap, sym, subst, ◌∙◌, refl, arith, length-drop}
+use Rattle.std.specs.Prelude.{filter, map, flat_map, slice_index_or}
+use Rattle.std.proofs.lemmas.List.{drop_more, map-append}
+use Rattle.chk_chunk.specs.Keys.{Chunk, chunk_end, is_of}
+use Rattle.chk_world.specs.ArchiveRuns.{in_order}
 use Rattle.chk_heads.specs.Heads.{Head}
 use Rattle.chk_plan.specs.HeadsOf.{AreHeads}
-use Rattle.chk_plan.specs.Passes.{between}
+use Rattle.chk_plan.specs.Passes.{between, AreSpans}
 use Rattle.chk_plan.specs.Plan.{goes_on, part_past, parts_from}
 use Rattle.chk_plan.specs.declared.spans.Span.{Span}
+use Rattle.chk_plan.specs.declared.spans.Known.{Known}
 use Rattle.chk_plan.proofs.Bridges.{between_drop, goes_same, heads_between, same_size}
+use Rattle.chk_plan.proofs.ChunkOrder.{in_order_ordered}
 use Rattle.chk_parts.specs.declared.cuts.Cut.{Cut}
-use Rattle.chk_parts.specs.Cuts.{cuts_from, span_cuts, no_chunk, cut_of, cut_chunk, CutsAreParts}
+use Rattle.chk_parts.specs.Cuts.{cuts_from, span_cuts, no_chunk, cut_of, cut_chunk, cut_chunks, CutsAreParts}
+use Rattle.chk_parts.proofs.StreamCuts.{one_takes, stream_cuts}
 
 abbrev first_of : Chunk → List Chunk → Chunk
 first_of c [] = c
@@ -69,36 +70,32 @@ of_heads cs at (h ∷ hs) (d ∷ ds) post reached is heads =
         ∙ ap (λ l. part_past reached d ∷ l) on)
     go false same on off = off
 
--- nothing stands between a place and one before it
-nothing : {X : Type 0} (xs : List X) (i j : ℕ) → j ≤ length xs → j < i → between i j xs ≡ []
-nothing xs i j high low =
-    let size = length-take-le j xs high in
-    drop_of_length-le (take j xs) (omega (arith, low, size))
+of_span : (heads : List Head) (cs : List Chunk) (s : Span) → AreHeads heads cs → s.first ≤ s.end → s.end ≤ length cs
+    → cut_chunks cs (span_cuts heads s) ≡ parts_from s.from (between s.first s.end cs)
+of_span heads cs s are low within =
+    of_heads cs s.first (between s.first s.end heads) (between s.first s.end cs) (drop s.end cs) s.from
+    (sym (between_drop s.first s.end cs low within)) (heads_between s.first s.end heads cs are)
 
-of_span : (heads : List Head) (cs : List Chunk) (s : Span) → AreHeads heads cs → s.end ≤ length cs
-    → map (cut_chunk cs) (span_cuts heads s) ≡ parts_from s.from (between s.first s.end cs)
-of_span heads cs s are within = go (leb_tells s.first s.end)
-  where
-    go : ((nat_le s.first s.end ≡ true) × (s.first ≤ s.end))
-        ⊎ ((nat_le s.first s.end ≡ false) × (s.end < s.first))
-        → map (cut_chunk cs) (span_cuts heads s) ≡ parts_from s.from (between s.first s.end cs)
-    go (inl low) =
-        of_heads cs s.first (between s.first s.end heads) (between s.first s.end cs)
-        (drop s.end cs) s.from
-        (sym (between_drop s.first s.end cs low.1 within))
-        (heads_between s.first s.end heads cs are)
-    go (inr high) =
-        let size = same_size heads cs are in
-        ap (λ l. map (cut_chunk cs) (cuts_from s.first s.from l))
-        (nothing heads s.first s.end (omega (arith, within, size)) high.1)
-        ∙ ap (parts_from s.from) (sym (nothing cs s.first s.end within high.1))
+-- what the passes take are the parts of the chunks
+spans_are_parts : (known : List Known) (heads : List Head) (cs : List Chunk) → AreHeads heads cs
+    → (at to : ℕ) (spans : List Span) → AreSpans known heads at spans to
+    → cut_chunks cs (flat_map (span_cuts heads) spans)
+    ≡ flat_map (λ (s : Span). parts_from s.from (between s.first s.end cs)) spans
+spans_are_parts known heads cs are at to [] all = refl
+spans_are_parts known heads cs are at to (s ∷ ss) all =
+    let beyond = all.1.beyond in
+    let within = all.1.within in
+    let size = same_size heads cs are in
+    map-append (cut_chunk cs) (span_cuts heads s) (flat_map (span_cuts heads) ss)
+    ∙ (ap (λ l. l ++ cut_chunks cs (flat_map (span_cuts heads) ss))
+    (of_span heads cs s are (omega (arith, beyond)) (omega (arith, within, size)))
+    ∙ ap (λ l. parts_from s.from (between s.first s.end cs) ++ l)
+    (spans_are_parts known heads cs are s.end to ss all.2))
 
 pub cuts_are_parts : CutsAreParts
-cuts_are_parts heads cs [] are within = refl
-cuts_are_parts heads cs (s ∷ ss) are within =
-    map-append (cut_chunk cs) (span_cuts heads s) (flat_map (span_cuts heads) ss)
-    ∙ (ap (λ l. l ++ map (cut_chunk cs) (flat_map (span_cuts heads) ss))
-    (of_span heads cs s are
-    (let high = All-head (λ (s : Span). s.end ≤ length heads) s ss within in let size = same_size heads cs are in omega (arith, high, size)))
-    ∙ ap (λ l. parts_from s.from (between s.first s.end cs) ++ l)
-    (cuts_are_parts heads cs ss are (All-tail (λ (s : Span). s.end ≤ length heads) s ss within)))
+cuts_are_parts known heads cs spans cuts are all dealt s =
+    stream_cuts heads (in_order cs) are s cuts
+    ∙ (ap (cut_chunks (in_order cs))
+    (dealt s (one_takes known heads (in_order cs) are (in_order_ordered cs) s 0 spans all))
+    ∙ (sym (stream_cuts heads (in_order cs) are s (flat_map (span_cuts heads) spans))
+    ∙ ap (filter (is_of s)) (spans_are_parts known heads (in_order cs) are 0 (length heads) spans all)))

@@ -1,5 +1,6 @@
 pub mod AllFiles
 pub mod CutParts
+pub mod StreamCuts
 pub mod ForArchive
 pub mod StepKinds
 pub mod Fetches
@@ -13,6 +14,7 @@ pub mod OneSegment
 pub mod Rising
 pub mod OldAsides
 pub mod KeptOnce
+pub mod Dealt
 mod Spelling
 pub mod Published
 pub mod EndsInOrder

@@ -15,7 +15,7 @@ ghost use Rattle.chk_parts.specs.Fetching.{head_file, CanFetch, Fetched, IsRecor
 
 use chk_bytes::Word;
 use chk_heads::{HeadRef, Heads, JobFault};
-use chk_merge::RecordReader;
+use chk_merge::{Ahead, RecordReader};
 use chk_site::{Site, Who};
 use std::alloc::Global;
 
@@ -51,10 +51,11 @@ pub fn fetch<S: Site>(
         heads,
         index,
         &heads.get(index),
+        Ahead::Next,
     )
 }
 
-/// The same for a caller that has the head at `index`.
+/// The same for a caller that has the head at `index`, and says how far a read goes on.
 pub fn fetch_by_head<S: Site>(
     alloc: Global,
     site: &mut S,
@@ -64,6 +65,7 @@ pub fn fetch_by_head<S: Site>(
     heads: &Heads,
     index: usize,
     head: &HeadRef<'_>,
+    ahead: Ahead,
 ) -> Result<(), JobFault>
     requires job { who.now ≡ job }
     requires index { index < length heads.now }
@@ -79,7 +81,9 @@ pub fn fetch_by_head<S: Site>(
     ensures cause { JobCause (S.fault_count site.old) (S.fault_count site.new) result }
 {
     match files.get(head.file as usize) {
-        Some(name) => reader.fetch_by_head(alloc, site, who, name.as_str(), heads, index, head),
+        Some(name) => {
+            reader.fetch_by_head(alloc, site, who, name.as_str(), heads, index, head, ahead)
+        }
         None => Err(JobFault::NoMemory),
     }
 }

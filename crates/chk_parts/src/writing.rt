@@ -27,15 +27,18 @@ ghost use Rattle.chk_parts.specs.Gathering.{AreSound};
 ghost use Rattle.chk_parts.specs.Cuts.{cut_chunk, cut_of};
 ghost use Rattle.chk_parts.specs.Writes.{with_new, HasEntered, IsFree, Written, IsForArchive, IsSoFar, PutSo, CutSo};
 
-use crate::cuts::Cut;
+use crate::cuts::{Cut, follows};
 use crate::fetching::fetch_by_head;
 use chk_book::{Book, Segmenter};
 use chk_bytes::Word;
 use chk_chunk::ChunkRef;
 use chk_heads::{HeadRef, Heads, JobFault};
-use chk_merge::RecordReader;
+use chk_merge::{Ahead, RecordReader, Window};
 use chk_site::{Site, Who};
 use std::alloc::Global;
+
+/// From so many records of a window on that lie apart, the window is read as a whole: it costs about as much as reads of these.
+const APART: usize = 64;
 
 /// What a new segment of the archive is for.
 #[derive(Clone, Copy, Debug)]
@@ -131,10 +134,65 @@ fn write_cuts<S: Site>(
     ensures cause { JobCause (S.fault_count site.old) (S.fault_count site.new) result }
 {
     let mut reader = RecordReader::new(alloc);
-    for cut in cuts {
-        write_cut(alloc, site, who, segmenter, &mut reader, files, heads, cut)?;
+    let mut turn = Turn {
+        end: 0,
+        ahead: Ahead::Next,
+    };
+    for (place, cut) in cuts.iter().enumerate() {
+        if turn.end <= place {
+            turn = turn_at(heads, cuts, place);
+        }
+        write_cut(
+            alloc,
+            site,
+            who,
+            segmenter,
+            &mut reader,
+            files,
+            heads,
+            cut,
+            turn.ahead,
+        )?;
     }
     Ok(())
+}
+
+/// Cuts in turn whose records begin in one window.
+#[derive(Clone, Copy, Debug)]
+struct Turn {
+    /// The place past the last one.
+    end: usize,
+    /// How far a read of one of them goes on.
+    ahead: Ahead,
+}
+
+/// The cuts from this place on that are of one window. The window is read as a whole where many of them lie apart, so that the
+/// records between them are of others: by themselves they would want a read each.
+fn turn_at(heads: &Heads, cuts: &[Cut], place: usize) -> Turn
+    requires cuts { AreWithin (length heads.now) cuts.now }
+    requires place { place < length cuts.now }
+{
+    let mut last = heads.get(cuts[place].index as usize);
+    let window = Window::of(&last);
+    let mut apart = 0;
+    let mut end = place + 1;
+    for cut in &cuts[place + 1..] {
+        let head = heads.get(cut.index as usize);
+        if Window::of(&head) != window {
+            break;
+        }
+        if !follows(&last, &head) {
+            apart += 1;
+        }
+        last = head;
+        end += 1;
+    }
+    let ahead = if apart < APART {
+        Ahead::Next
+    } else {
+        Ahead::Window
+    };
+    Turn { end, ahead }
 }
 
 /// Writes one cut behind what the segment has.
@@ -147,6 +205,7 @@ fn write_cut<S: Site>(
     files: &[Word],
     heads: &Heads,
     cut: &Cut,
+    ahead: Ahead,
 ) -> Result<(), JobFault>
     requires job { who.now ≡ job }
     requires writer { segmenter.old.who ≡ job }
@@ -169,7 +228,7 @@ fn write_cut<S: Site>(
 {
     let index = cut.index as usize;
     let head = heads.get(index);
-    fetch_by_head(alloc, site, who, reader, files, heads, index, &head)?;
+    fetch_by_head(alloc, site, who, reader, files, heads, index, &head, ahead)?;
     put_cut(alloc, site, segmenter, &head, reader.value(), cut.skip)
 }
 

@@ -8,7 +8,7 @@ pub mod SetAside
 pub mod HeadOrder
 mod Blocks
 pub mod Bridges
-mod SpanBlocks
+pub mod SpanBlocks
 pub mod KnownSearch
 mod MoreSpans
 pub mod Gives

@@ -88,7 +88,7 @@ module _ (known : List Known) (hs : List Head) (cs : List Chunk) (heads : AreHea
       (stream_is k (omega (arith, within, size, high))) (span.one k low high))
 
   -- a stream that comes behind the span is another one
-  differs : (s : Span) → IsSpan known hs s → (j : ℕ) → s.end ≤ j → j < length cs
+  pub differs : (s : Span) → IsSpan known hs s → (j : ℕ) → s.end ≤ j → j < length cs
       → same_stream (stream_in s.first) (stream_in j) ≡ false
   differs s span j low high =
       let beyond = span.beyond in

@@ -31,3 +31,5 @@ mod stops;
 mod syncs;
 #[cfg(test)]
 mod telling;
+#[cfg(test)]
+mod turns;

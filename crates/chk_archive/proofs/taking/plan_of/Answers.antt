@@ -1,10 +1,10 @@
 use Rattle.std.proofs.Common.{◌≡◌, ◌≤◌, ◌∙◌, ap, sym, subst, length}
-use Rattle.std.specs.Prelude.{All, IfSome, flat_map, sum_by}
+use Rattle.std.specs.Prelude.{All, IfSome, sum_by}
 use Rattle.chk_plan.specs.Passes.{AreSpans}
 use Rattle.chk_plan.specs.declared.spans.Span.{Span}
 use Rattle.chk_plan.specs.Laws.{span_gain}
-use Rattle.chk_parts.specs.Cuts.{span_cuts, AreWithin}
-use Rattle.chk_archive.proofs.Planning.{all_end, all_within, cuts_within}
+use Rattle.chk_parts.specs.Cuts.{AreDealt}
+use Rattle.chk_archive.proofs.Planning.{all_end, all_within}
 use Rattle.chk_archive.proofs.taking.plan_of.Goals as goal
 
 pub cuts_of-requires : goal.cuts_of-requires
@@ -19,16 +19,13 @@ returns c =
     let spans = c.in_ok-spans.spans.items in
     let are : AreSpans c.in_ok-known.known.items heads 0 spans (length heads) =
     subst (λ k. AreSpans k heads 0 spans (length heads)) c.as_slice.ensures.value c.in_ok-spans.ensures in
-    let cuts : c.in_ok-cuts.cuts ≡ flat_map (span_cuts heads) spans =
-    c.in_ok-cuts.ensures ∙ ap (flat_map (span_cuts heads)) c.as_slice-3.ensures.value in
     record {
       known = c.in_ok-known.known.items;
       ends = c.in_ok-known.ensures;
       spans = are;
       taken = subst (λ o. IfSome o (λ n. n ≡ sum_by span_gain c.as_slice-2.result.now)) c.in_ok-taken.ensures.ok_part
           c.taken.ensures.some ∙ ap (sum_by span_gain) c.as_slice-2.ensures.value;
-      cuts = cuts;
-      within = subst (AreWithin (length heads)) (sym cuts)
-          (cuts_within c.in_ok-known.known.items heads 0 (length heads) spans are);
+      cuts = subst (λ s. AreDealt heads s c.in_ok-cuts.cuts) c.as_slice-3.ensures.value c.in_ok-cuts.ensures.each;
+      within = c.in_ok-cuts.ensures.within;
       spans_within = all_within c.in_ok-known.known.items heads 0 (length heads) spans are;
     }

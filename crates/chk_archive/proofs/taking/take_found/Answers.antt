@@ -18,6 +18,7 @@ use Rattle.chk_parts.proofs.StepKinds.{as_kind, no_reads, fails_behind}
 use Rattle.chk_archive.specs.Archived.{MergesBy, ReplacesBook}
 use Rattle.chk_archive.specs.Taking.{IsPlanned}
 use Rattle.chk_archive.specs.declared.taking.Taken.{Taken}
+use Rattle.chk_archive.proofs.ByStream.{SameByStream}
 use Rattle.chk_archive.proofs.Lasts.{as_fails}
 use Rattle.chk_archive.proofs.NextBook.{Ends, Cs}
 use Rattle.chk_archive.proofs.FoundPlan.{Hs, parts_are, kept_are, taken_is}
@@ -58,8 +59,9 @@ returns-in_err-changed-clause-told g c stamped v names at files_are heads_are =
     let cs = Cs stamped names b v at in
     let cuts = c.as_slice-3.result.now in
     let kept = c.as_slice-4.result.now in
-    let parts : cut_chunks cs cuts ≡ parts_of (Ends stamped names b v at) cs =
-    ap (cut_chunks cs) c.as_slice-3.ensures ∙ parts_are stamped names b v at p planned in
+    let parts : SameByStream (cut_chunks cs cuts) (parts_of (Ends stamped names b v at) cs) =
+    subst (λ l. SameByStream (cut_chunks cs l) (parts_of (Ends stamped names b v at) cs)) (sym c.as_slice-3.ensures)
+    (parts_are stamped names b v at p planned) in
     let aside : cut_chunks cs kept ≡ set_aside (ends_of (Ends stamped names b v at) cs) cs =
     ap (cut_chunks cs) (c.as_slice-4.ensures ∙ (c.in_ok-kept.ensures.kept
     ∙ (ap (λ s. kept_in heads None s) c.as_slice.ensures.value ∙ ap (λ h. kept_in h None p.spans.items) ordered)))
@@ -88,8 +90,9 @@ returns-in_err-publish_if-clause-told g c stamped v names at files_are heads_are
     let cs = Cs stamped names b v at in
     let cuts = c.as_slice-3.result.now in
     let kept = c.as_slice-4.result.now in
-    let parts : cut_chunks cs cuts ≡ parts_of (Ends stamped names b v at) cs =
-    ap (cut_chunks cs) c.as_slice-3.ensures ∙ parts_are stamped names b v at p planned in
+    let parts : SameByStream (cut_chunks cs cuts) (parts_of (Ends stamped names b v at) cs) =
+    subst (λ l. SameByStream (cut_chunks cs l) (parts_of (Ends stamped names b v at) cs)) (sym c.as_slice-3.ensures)
+    (parts_are stamped names b v at p planned) in
     let aside : cut_chunks cs kept ≡ set_aside (ends_of (Ends stamped names b v at) cs) cs =
     ap (cut_chunks cs) (c.as_slice-4.ensures ∙ (c.in_ok-kept.ensures.kept
     ∙ (ap (λ s. kept_in heads None s) c.as_slice.ensures.value ∙ ap (λ h. kept_in h None p.spans.items) ordered)))
@@ -132,8 +135,9 @@ returns-clause-told g c stamped v names at files_are heads_are =
     let cs = Cs stamped names b v at in
     let cuts = c.as_slice-3.result.now in
     let kept = c.as_slice-4.result.now in
-    let parts : cut_chunks cs cuts ≡ parts_of (Ends stamped names b v at) cs =
-    ap (cut_chunks cs) c.as_slice-3.ensures ∙ parts_are stamped names b v at p planned in
+    let parts : SameByStream (cut_chunks cs cuts) (parts_of (Ends stamped names b v at) cs) =
+    subst (λ l. SameByStream (cut_chunks cs l) (parts_of (Ends stamped names b v at) cs)) (sym c.as_slice-3.ensures)
+    (parts_are stamped names b v at p planned) in
     let aside : cut_chunks cs kept ≡ set_aside (ends_of (Ends stamped names b v at) cs) cs =
     ap (cut_chunks cs) (c.as_slice-4.ensures ∙ (c.in_ok-kept.ensures.kept
     ∙ (ap (λ s. kept_in heads None s) c.as_slice.ensures.value ∙ ap (λ h. kept_in h None p.spans.items) ordered)))

@@ -17,8 +17,8 @@ use Rattle.chk_parts.proofs.CutLists.{nothing_windows, is_record, D, cut_more, c
 use Rattle.chk_parts.proofs.AllFiles.{fails_later}
 use Rattle.chk_parts.proofs.writing.write_cuts.Goals as goal
 
-pub loop-cut-init : goal.loop-cut-init
-loop-cut-init g c =
+pub loop-place-init : goal.loop-place-init
+loop-place-init g c =
     let w = segment_name (codes "archive") c.args.segmenter.now.number in
     record {
       so_far = λ stamped v cs records free.
@@ -43,54 +43,59 @@ returns-in_err-write_cut-clause-told g c stamped v cs records free =
     let files = c.args.files.now in
     let heads = c.args.heads.now in
     let cuts = c.args.cuts.now in
-    let l = c.loop-cut in
+    let l = c.loop-place in
     let A : History → Type 0 = AtJob stamped (IsSoFar v [] c.args.segmenter.now) in
     let t = c.write_cut.new.segmenter in
     let q = c.write_cut.new.reader in
-    let d = D stamped v files heads cs cuts records c.requires.cuts l.cut-index c.loop-cut-test.true A l.segmenter t l.reader q c.write_cut.result in
-    let is = is_record stamped v files heads cs cuts records c.requires.cuts l.cut-index c.loop-cut-test.true A l.segmenter t l.reader q c.write_cut.result in
+    let low = c.loop-place-test.true in
+    let d = D stamped v files heads cs cuts records c.requires.cuts l.place low A l.segmenter t l.reader q c.write_cut.result in
+    let is = is_record stamped v files heads cs cuts records c.requires.cuts l.place low A l.segmenter t
+    l.reader q c.write_cut.result in
     let now : IsFree v files l.segmenter.number = subst (IsFree v files) (sym l.invariant.number) free in
     rw (p.1, p.2)
-    (cut_fails stamped v files heads cs cuts records c.requires.cuts l.cut-index c.loop-cut-test.true A l.segmenter t
+    (cut_fails stamped v files heads cs cuts records c.requires.cuts l.place low A l.segmenter t
     l.reader q c.write_cut.result (cut_chunks cs cuts) c.in_err-write_cut.field-0.0 c.in_err-write_cut.was
     (l.invariant.so_far stamped v cs records free)
-    (c.write_cut.ensures.told stamped v d (cut_chunks cs (take l.cut-index cuts)) records.sound is now))
+    (c.write_cut.ensures.told stamped v d (cut_chunks cs (take l.place cuts)) records.sound is now))
 
 pub returns-in_err-write_cut-clause-own : goal.returns-in_err-write_cut-clause-own
 returns-in_err-write_cut-clause-own g c =
-    let l = c.loop-cut in
+    let l = c.loop-place in
     every_then (IsOf (ReadsOrWrites (segment_name (codes "archive") c.args.segmenter.now.number))) l.invariant.own
     (subst (λ n. Adds (g.S.Site.told l.site) (g.S.Site.told c.write_cut.new.site)
     (Every (IsOf (ReadsOrWrites (segment_name (codes "archive") n))))) l.invariant.number c.write_cut.ensures.own)
 
 pub returns-in_err-write_cut-clause-pieces : goal.returns-in_err-write_cut-clause-pieces
-returns-in_err-write_cut-clause-pieces g c = every_then AsksInPieces c.loop-cut.invariant.pieces c.write_cut.ensures.pieces
+returns-in_err-write_cut-clause-pieces g c = every_then AsksInPieces c.loop-place.invariant.pieces c.write_cut.ensures.pieces
 
 pub returns-in_err-write_cut-clause-last : goal.returns-in_err-write_cut-clause-last
 returns-in_err-write_cut-clause-last g c =
     let p = err_from_is_err_and c.from_residual.result c.from_residual.ensures.1 in
     rw (p.1, p.2)
-    (fails_later (Unit {0}) (Unit {0}) c.in_err-write_cut.field-0.0 c.loop-cut.invariant.pieces
+    (fails_later (Unit {0}) (Unit {0}) c.in_err-write_cut.field-0.0 c.loop-place.invariant.pieces
     c.in_err-write_cut.ensures.last)
 
-pub loop-cut-preserved : goal.loop-cut-preserved
-loop-cut-preserved g c =
+pub loop-place-preserved : goal.loop-place-preserved
+loop-place-preserved g c =
     let files = c.args.files.now in
     let heads = c.args.heads.now in
     let cuts = c.args.cuts.now in
-    let l = c.loop-cut in
+    let l = c.loop-place in
     let t = c.write_cut.new.segmenter in
     let q = c.write_cut.new.reader in
+    let low = c.loop-place-test.true in
     record {
       so_far = λ stamped v cs records free.
           let A : History → Type 0 = AtJob stamped (IsSoFar v [] c.args.segmenter.now) in
-          let d = D stamped v files heads cs cuts records c.requires.cuts l.cut-index c.loop-cut-test.true A l.segmenter t l.reader q c.write_cut.result in
-          let is = is_record stamped v files heads cs cuts records c.requires.cuts l.cut-index c.loop-cut-test.true A l.segmenter t l.reader q c.write_cut.result in
+          let d = D stamped v files heads cs cuts records c.requires.cuts l.place low A l.segmenter t
+          l.reader q c.write_cut.result in
+          let is = is_record stamped v files heads cs cuts records c.requires.cuts l.place low A l.segmenter t
+          l.reader q c.write_cut.result in
           let now : IsFree v files l.segmenter.number = subst (IsFree v files) (sym l.invariant.number) free in
-          cut_more stamped v files heads cs cuts records c.requires.cuts l.cut-index c.loop-cut-test.true A l.segmenter t
+          cut_more stamped v files heads cs cuts records c.requires.cuts l.place low A l.segmenter t
           l.reader q c.write_cut.result c.in_ok-write_cut.field-0 c.in_ok-write_cut.was
           (l.invariant.so_far stamped v cs records free)
-          (c.write_cut.ensures.told stamped v d (cut_chunks cs (take l.cut-index cuts)) records.sound is now);
+          (c.write_cut.ensures.told stamped v d (cut_chunks cs (take l.place cuts)) records.sound is now);
       segment = c.in_ok-write_cut.ensures.segment;
       number = c.in_ok-write_cut.ensures.number ∙ l.invariant.number;
       writer = c.write_cut.ensures.who ∙ l.invariant.writer;
@@ -103,13 +108,13 @@ loop-cut-preserved g c =
 
 pub returns-clause-told : goal.returns-clause-told
 returns-clause-told g c stamped v cs records free =
-    let l = c.loop-cut in
+    let l = c.loop-place in
     leads_as (λ h k. k)
     (λ h k. record {
       legal = k.legal;
       may_act = k.may_act;
       alive = λ runs.
           subst (λ x. IsSoFar v (cut_chunks cs x) l.segmenter (sight h))
-          (take_all l.cut-index c.args.cuts.now c.loop-cut-test.false) (k.alive runs).0;
+          (take_all l.place c.args.cuts.now c.loop-place-test.false) (k.alive runs).0;
     })
     (l.invariant.so_far stamped v cs records free)

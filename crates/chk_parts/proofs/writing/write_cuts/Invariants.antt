@@ -14,12 +14,12 @@ use Rattle.chk_parts.specs.Fetching.{AreWindows}
 use Rattle.chk_parts.specs.Writes.{IsFree, IsForArchive, IsSoFar}
 use Rattle.chk_parts.proofs.writing.write_cuts.Given as goal
 
-abbrev pub invariant-loop-cut : goal.invariant-loop-cut
-invariant-loop-cut g l = record {
+abbrev pub invariant-loop-place : goal.invariant-loop-place
+invariant-loop-place g l = record {
   so_far : (stamped : List (List ℕ)) (v : Sight) (cs : List Chunk) → AreRecords v l.files l.heads cs
       → IsFree v l.files l.fn.segmenter.number → Adds (g.S.Site.told l.fn.site) (g.S.Site.told l.site)
       (Leads (As stamped job) (AtJob stamped (IsSoFar v [] l.fn.segmenter))
-      (AtJob stamped (λ u. IsSoFar v (cut_chunks cs (take l.cut-index l.cuts)) l.segmenter u
+      (AtJob stamped (λ u. IsSoFar v (cut_chunks cs (take l.place l.cuts)) l.segmenter u
       × AreWindows v l.files l.reader)));
   segment : IsForArchive l.segmenter;
   number : l.segmenter.number ≡ l.fn.segmenter.number;

@@ -1,9 +1,10 @@
-use Rattle.std.proofs.Common.{Ok, ◌≤◌, subst}
+use Rattle.std.proofs.Common.{Ok, ◌+◌, ◌-◌, ◌≤◌, subst}
 use Rattle.std.proofs.lemmas.Result.{err_from_is_err_and}
 use Rattle.chk_site.specs.Site.{Adds}
 use Rattle.chk_site.specs.Runs.{anyhow, Leads}
 use Rattle.chk_replace.specs.Load.{Has}
 use Rattle.chk_world.specs.JobSteps.{SparesFile}
+use Rattle.chk_heads.specs.Heads.{Head}
 use Rattle.chk_merge.specs.Spans.{room_of}
 use Rattle.chk_merge.specs.ReadBack.{IsHeld, NotHeld, HasWindow}
 use Rattle.chk_merge.proofs.RunReads.{unsaid}
@@ -18,29 +19,31 @@ returns-in_err-load-clause-stays g c =
 pub returns-then-find-clause-raw : goal.returns-then-find-clause-raw
 returns-then-find-clause-raw g c = λ most f few small.
     let name = c.args.name.now in
-    let size = c.reach-size.result in
-    found_then most name f _ size c.args.self.now c.load.new.self c.find.new.self
+    let run = c.run_of-run.result in
+    found_then most name f _ run.from run.size c.args.self.now c.load.new.self c.find.new.self
     (subst (λ h. IsHeld h c.load.new.self c.find.new.self) c.get-head.ensures.head
     c.if-find.ensures)
     (subst
-    (λ h. Adds (g.S.Site.told c.args.site.now) (g.S.Site.told c.load.new.site)
-    (Leads (anyhow (SparesFile name)) (Has name f) (HasWindow name f h size c.load.new.self
-    (Ok tt))))
+    (λ (h : Head). Adds (g.S.Site.told c.args.site.now) (g.S.Site.told c.load.new.site)
+    (Leads (anyhow (SparesFile name)) (Has name f) (HasWindow name f h.file run.from run.size
+    c.load.new.self (Ok tt))))
     c.get-head.ensures.head (c.in_ok-load.ensures.raw f small))
 
 pub returns-clause-raw : goal.returns-clause-raw
 returns-clause-raw g c = λ most f few small.
     let name = c.args.name.now in
-    let size = c.reach-size.result in
-    never_then most name f _ size c.args.self.now c.load.new.self c.find.new.self
+    let run = c.run_of-run.result in
+    never_then most name f _ run.from run.size c.args.self.now c.load.new.self c.find.new.self
     c.damaged.result few
-    (subst (λ h. room_of h ≤ size) c.get-head.ensures.head c.reach-size.ensures.enough)
+    (subst (λ (h : Head). run.from ≤ h.at) c.get-head.ensures.head c.run_of-run.ensures.behind)
+    (subst (λ (h : Head). h.at - run.from + room_of h ≤ run.size) c.get-head.ensures.head
+    c.run_of-run.ensures.enough)
     (subst (λ h. NotHeld h c.load.new.self c.find.new.self) c.get-head.ensures.head
     c.if-find.ensures)
     (subst
-    (λ h. Adds (g.S.Site.told c.args.site.now) (g.S.Site.told c.load.new.site)
-    (Leads (anyhow (SparesFile name)) (Has name f) (HasWindow name f h size c.load.new.self
-    (Ok tt))))
+    (λ (h : Head). Adds (g.S.Site.told c.args.site.now) (g.S.Site.told c.load.new.site)
+    (Leads (anyhow (SparesFile name)) (Has name f) (HasWindow name f h.file run.from run.size
+    c.load.new.self (Ok tt))))
     c.get-head.ensures.head (c.in_ok-load.ensures.raw f small))
     c.clear.new.self
 
