@@ -142,7 +142,7 @@ pub data IsAnswered (who : Who) (t : ℕ) (bytes : List ℕ) (s : State)
 
 -- a message of so many bytes is a long one: its sender has more to send
 abbrev pub long_bytes : ℕ
-long_bytes = 1048576
+long_bytes = 3932160
 
 -- how long a further message is waited for behind a long one, in milliseconds
 abbrev pub further_wait : ℕ

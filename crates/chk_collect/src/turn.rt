@@ -21,8 +21,9 @@ use chk_sink::SinkFault;
 use chk_site::{Site, Who};
 use std::alloc::Global;
 
-/// A message of so many bytes is a long one: its sender has more to send.
-pub const LONG: usize = 1_048_576;
+/// A message of so many bytes is a long one: its sender has more to send. A post has at most
+/// 4,194,304 bytes, and one that has a next one behind it is full but for less than two chunks.
+pub const LONG: usize = 3_932_160;
 
 /// How long a further message is waited for behind a long one, in milliseconds.
 pub const FURTHER_WAIT: u64 = 20;
@@ -32,7 +33,7 @@ const WAIT: u64 = 1000;
 
 /// One turn at that door: it takes at most `most` messages, one after another and none where `most`
 /// is 0, asks the clock and ticks. It waits up to 1,000 milliseconds for the first message. For a
-/// further one it waits up to 20 where the one before it had 1,048,576 bytes or more, and else it
+/// further one it waits up to 20 where the one before it had 3,932,160 bytes or more, and else it
 /// takes only what waits at the door already. The first taking that gives none ends the takings.
 /// Each message is read on while it isn't whole and has fewer than 4,210,688 bytes, and is answered
 /// before the next one is taken. A further message is taken before what the earlier ones appended is
