@@ -1,5 +1,5 @@
 //! A file that is kept open.
-ghost use Rattle.std.specs.Prelude.{◌≡◌, ◌≤◌, length, IfOk};
+ghost use Rattle.std.specs.Prelude.{◌≡◌, ◌≤◌, ◌↔◌, length, string_bytes, IfOk, IsSomeAnd, IsTrue};
 ghost use Rattle.chk_site.specs.Site.{MayBeShort, MayFail};
 ghost use Rattle.chk_sockets.specs.Faults.{answer_of};
 
@@ -109,7 +109,9 @@ fn zeroes(alloc: Global, size: usize) -> Result<Vec<u8>, NoMemory>
 }
 
 /// The kept file is the one of this name.
-pub fn is_named(kept: &Option<Kept>, name: &str) -> bool {
+pub fn is_named(kept: &Option<Kept>, name: &str) -> bool
+    ensures { IsTrue result ↔ IsSomeAnd kept.now (λ file. string_bytes file.name ≡ name.now) }
+{
     match kept {
         Some(kept) => kept.name.as_str() == name,
         None => false,

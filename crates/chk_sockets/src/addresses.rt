@@ -1,6 +1,7 @@
 //! Addresses: each of them an IP address or a host's name, and a port.
-ghost use Rattle.std.specs.Prelude.{◌≡◌, []};
+ghost use Rattle.std.specs.Prelude.{◌≡◌, [], None, position, IfNone, IfSome};
 ghost use Rattle.chk_site.specs.Site.{MayFail};
+ghost use Rattle.chk_sockets.specs.Addresses.{is_of, IsKept, IsTaken};
 ghost use Rattle.chk_sockets.specs.Faults.{answer_of};
 
 use crate::faults::SystemFault;
@@ -49,16 +50,28 @@ impl Routes {
     }
 
     /// What was found for the text, which is forgotten until it is kept again.
-    pub fn take(&mut self, text: &str) -> Option<SocketAddr> {
-        let place = self
-            .kept
-            .iter()
-            .position(|route| route.text.as_str() == text)?;
+    pub fn take(&mut self, text: &str) -> Option<SocketAddr>
+        ensures taken { IfSome result (IsTaken self.old.kept.items self.new.kept.items text.now) }
+        ensures none { IfNone result (self.new.kept.items ≡ self.old.kept.items) }
+        ensures absent { IfNone result (position (is_of text.now) self.old.kept.items ≡ None) }
+    {
+        let place = self.place_of(text)?;
         Some(self.kept.remove(place).address)
     }
 
+    fn place_of(&self, text: &str) -> Option<usize>
+        ensures { result ≡ position (is_of text.now) self.now.kept.items }
+    {
+        self.kept
+            .iter()
+            .position(|route| route.text.as_str() == text)
+    }
+
     /// Want of memory is no fault: then the text is looked up again.
-    pub fn keep(&mut self, text: String, address: SocketAddr) {
+    pub fn keep(&mut self, text: String, address: SocketAddr)
+        ensures { IsKept self.old.kept.items self.new.kept.items
+            (record { text = text; address = address }) }
+    {
         if self.kept.len() >= MOST_KEPT {
             let _oldest = self.kept.remove(0);
         }

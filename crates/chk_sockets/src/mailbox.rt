@@ -1,5 +1,5 @@
 //! The mailbox inside the process, where no message and no answer is lost.
-ghost use Rattle.std.specs.Prelude.{◌≡◌, [], ◌∷◌, ◌++◌, None, IfNone, IfSome, OnErr, OnOk};
+ghost use Rattle.std.specs.Prelude.{◌≡◌, ◌↔◌, [], ◌∷◌, ◌++◌, None, IfNone, IfSome, IsSomeAnd, IsTrue, OnErr, OnOk};
 ghost use Rattle.chk_sockets.specs.Mailbox.{letter, IsAnswer, TakesOldest, Answers};
 
 use chk_bytes::{Bytes, NoMemory};
@@ -79,7 +79,9 @@ impl Mailbox {
     }
 
     /// Whether the message of this taking may be answered.
-    pub fn has(&self, taking: u64) -> bool {
+    pub fn has(&self, taking: u64) -> bool
+        ensures { IsTrue result ↔ IsSomeAnd self.now.held (λ held. held.taking ≡ taking) }
+    {
         self.held.is_some_and(|held| held.taking == taking)
     }
 

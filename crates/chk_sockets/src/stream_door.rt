@@ -1,5 +1,5 @@
 //! A door at a TCP address: a socket that listens, and the streams of its peers.
-ghost use Rattle.std.specs.Prelude.{◌≤◌, length, IfOk, IfSome};
+ghost use Rattle.std.specs.Prelude.{◌≡◌, ◌≤◌, ◌↔◌, [], None, length, IfOk, IfSome, IsSomeAnd, IsTrue};
 ghost use Rattle.chk_site.specs.Site.{MayFail};
 ghost use Rattle.chk_sockets.specs.Faults.{answer_of};
 
@@ -53,7 +53,10 @@ struct Taken<R: Net> {
 }
 
 impl<R: Net + Clock> StreamDoor<R> {
-    pub fn open(rt: &R, alloc: Global, address: SocketAddr) -> io::Result<StreamDoor<R>> {
+    pub fn open(rt: &R, alloc: Global, address: SocketAddr) -> io::Result<StreamDoor<R>>
+        ensures silent { IfOk result (λ door. door.silent.items ≡ []) }
+        ensures taken { IfOk result (λ door. door.taken ≡ None) }
+    {
         let listener = rt.bind(address)?;
         listener.set_nonblocking(true)?;
         let watch = Watch::new(rt, alloc)?;
@@ -66,7 +69,10 @@ impl<R: Net + Clock> StreamDoor<R> {
         })
     }
 
-    pub fn has(&self, taking: u64) -> bool {
+    /// Whether this taking may go on and be answered.
+    pub fn has(&self, taking: u64) -> bool
+        ensures { IsTrue result ↔ IsSomeAnd self.now.taken (λ taken. taken.number ≡ taking) }
+    {
         match &self.taken {
             Some(taken) => taken.number == taking,
             None => false,

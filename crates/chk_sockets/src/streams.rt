@@ -1,5 +1,6 @@
 //! Streams to peers, with every wait bounded.
-ghost use Rattle.std.specs.Prelude.{◌<◌, ◌≤◌, length, IfOk};
+ghost use Rattle.std.specs.Prelude.{◌≡◌, ◌*◌, ◌/◌, ◌<◌, ◌≤◌, length, max, IfOk};
+ghost use Rattle.std.specs.Duration.{as_nanos};
 ghost use Rattle.chk_site.specs.Site.{MayFail};
 ghost use Rattle.chk_sockets.specs.Faults.{answer_of};
 
@@ -21,12 +22,16 @@ pub const MOST_REPLY: usize = 1_048_576;
 /// How often what follows an answer is read at most.
 const MOST_READS: u32 = 128;
 
-pub fn longest_wait() -> Duration {
+pub fn longest_wait() -> Duration
+    ensures { as_nanos result ≡ WAIT_MS * 1_000_000 }
+{
     Duration::from_millis(WAIT_MS)
 }
 
 /// The time for each of so many addresses, that are all tried within one wait.
-pub fn share_of_wait(addresses: usize) -> Duration {
+pub fn share_of_wait(addresses: usize) -> Duration
+    ensures { as_nanos result ≡ WAIT_MS / max addresses 1 * 1_000_000 }
+{
     Duration::from_millis(WAIT_MS / (addresses as u64).max(1))
 }
 
