@@ -28,11 +28,11 @@ turns_then over next = turn next over
 turns_then (turn first rest) next = turn first (turns_then rest next)
 
 -- what is known once so many turns were done
-pub record TurnsSoFar (who : Who) (door : List ℕ) (n : ℕ) (first s : State) (old now : Option
+pub record TurnsSoFar (who : Who) (door : List ℕ) (most n : ℕ) (first s : State) (old now : Option
     History) (before count : ℕ)
     : Type 0 where
   pub who_is : who ≡ process s
-  pub script : AreCollectorTurns who door 1 1000 n first old s now
+  pub script : AreCollectorTurns who door most 1000 n first old s now
   pub told : (stamped : List (List ℕ)) → Adds old now (Leads (Talking stamped who) (Matches stamped
       first) (Matches stamped s))
   pub finds : (stamped : List (List ℕ)) → Adds old now (Finds (Foreign stamped who) who.name
@@ -41,10 +41,10 @@ pub record TurnsSoFar (who : Who) (door : List ℕ) (n : ℕ) (first s : State) 
   pub settled : IsSettled s
   pub risen : MayHaveRisen before count
 
-pub turns_begin : (who : Who) (door : List ℕ) (s : State) (now : Option History) (count : ℕ)
+pub turns_begin : (who : Who) (door : List ℕ) (most : ℕ) (s : State) (now : Option History) (count : ℕ)
     → who ≡ process s → IsSettled s
-    → TurnsSoFar who door 0 s s now now count count
-turns_begin who door s now count is settled = record {
+    → TurnsSoFar who door most 0 s s now now count count
+turns_begin who door most s now count is settled = record {
   who_is = is;
   script = over;
   told = λ stamped. leads_none now (λ h x. x);
@@ -55,9 +55,9 @@ turns_begin who door s now count is settled = record {
   risen = not_risen count;
 }
 
-module _ {who : Who} {door : List ℕ} {n : ℕ} {first s : State} {old now : Option History} {before
+module _ {who : Who} {door : List ℕ} {most n : ℕ} {first s : State} {old now : Option History} {before
     count : ℕ}
-    (far : TurnsSoFar who door n first s old now before count) (t : State) (new : Option History)
+    (far : TurnsSoFar who door most n first s old now before count) (t : State) (new : Option History)
     (later : ℕ) where
   -- what one more turn says, with this result
   pub record TurnSays (result : Result (Unit {0}) SinkFault) : Type 0 where
@@ -73,11 +73,11 @@ module _ {who : Who} {door : List ℕ} {n : ℕ} {first s : State} {old now : Op
   finds_on stamped result says = finds_then who.name (far.told stamped) (far.finds stamped)
       (says.finds stamped far.settled)
 
-  pub turns_on : TurnSays (Ok tt) → IsCollectorTurn who door 1 1000 s now t new → IsSettled t
-      → TurnsSoFar who door (n + 1) first t old new before later
+  pub turns_on : TurnSays (Ok tt) → IsCollectorTurn who door most 1000 s now t new → IsSettled t
+      → TurnsSoFar who door most (n + 1) first t old new before later
   turns_on says next settled = record {
     who_is = far.who_is ∙ sym (same_process s t says.same);
-    script = subst (λ k. AreCollectorTurns who door 1 1000 k first old t new) (sym (add-one n))
+    script = subst (λ k. AreCollectorTurns who door most 1000 k first old t new) (sym (add-one n))
         (turns_then far.script next);
     told = λ stamped.
         leads_then (far.told stamped)
@@ -96,8 +96,8 @@ module _ {who : Who} {door : List ℕ} {n : ℕ} {first s : State} {old now : Op
 
   -- the turn was cut short
   module _ (turns : ℕ) (fault : SinkFault) (says : TurnSays (Err fault)) where
-    pub chain_script : n < turns → IsCutTurn who door 1 1000 fault s now t new
-        → AreTurned who door 1 1000 turns first old (Err fault) t new
+    pub chain_script : n < turns → IsCutTurn who door most 1000 fault s now t new
+        → AreTurned who door most 1000 turns first old (Err fault) t new
     chain_script within cut = record {
       done = n;
       within = within;
@@ -128,8 +128,8 @@ module _ {who : Who} {door : List ℕ} {n : ℕ} {first s : State} {old now : Op
     chain_cause = turn_after before count later (Err fault) far.risen says.cause
 
 -- all turns were done
-pub chain_over : {who : Who} {door : List ℕ} {n : ℕ} {first s : State} {old now : Option History}
+pub chain_over : {who : Who} {door : List ℕ} {most n : ℕ} {first s : State} {old now : Option History}
     {before count : ℕ}
-    → TurnsSoFar who door n first s old now before count
+    → TurnsSoFar who door most n first s old now before count
     → Adds old now (FailsLast {T = Unit {0}} (Ok tt))
 chain_over far = adds_as (FailsLast {T = Unit {0}} (Ok tt)) (far.told []) (λ a h x. tt)

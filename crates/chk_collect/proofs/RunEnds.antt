@@ -99,16 +99,16 @@ pub record FinishSays (s t : State) (result : Result (Unit {0}) SinkFault)
   pub damaged : Adds old new (DamageCause result)
   pub last : Adds old new (FailsLast result)
 
-module _ (who : Who) (rotate turns : ℕ) (door : List ℕ) (s t u : State) (is : who ≡ process t)
+module _ (who : Who) (rotate turns most : ℕ) (door : List ℕ) (s t u : State) (is : who ≡ process t)
     {old started turned new : Option History} (start : IsStarted who rotate s old started)
-    (each : AreCollectorTurns who door 1 1000 turns s started t turned) where
+    (each : AreCollectorTurns who door most 1000 turns s started t turned) where
   quiet_by : {B : History → Type 0}
       → Adds turned new (Leads (As [] (process t)) (Matches [] t) B)
       → Adds turned new (Owns (IsBy who))
   quiet_by told = subst (λ w. Adds turned new (Owns (IsBy w))) (sym is) (made_quiet told)
 
   pub ran_by : (result : Result (Unit {0}) SinkFault) → FinishSays t u result turned new
-      → OnOk result (CollectorRan who rotate turns door 1 1000 old new)
+      → OnOk result (CollectorRan who rotate turns door most 1000 old new)
   ran_by (Err fault) says = tt
   ran_by (Ok value) says = record {
     s = s;
@@ -128,7 +128,7 @@ module _ (who : Who) (rotate turns : ℕ) (door : List ℕ) (s t u : State) (is 
   }
 
   pub unfinished_by : (result : Result (Unit {0}) SinkFault) → FinishSays t u result turned new
-      → IfErr result (λ fault. IsCutRun who rotate turns door 1 1000 fault old new)
+      → IfErr result (λ fault. IsCutRun who rotate turns door most 1000 fault old new)
   unfinished_by (Ok value) says = tt
   unfinished_by (Err fault) says = unfinished start each (record {
     of = says.only;

@@ -1,6 +1,7 @@
--- The taking of a message and the clock, for the process under its name.
-use Rattle.std.proofs.Common.{◌≡◌, ℕ, List, [], ◌∷◌, Option, Some, Result, Ok, Err, subst}
+-- The takings of a turn and the clock, for the process under its name.
+use Rattle.std.proofs.Common.{◌≡◌, ℕ, suc, ◌+◌, ◌-◌, ◌<◌, List, [], ◌∷◌, Option, Some, None, Result, Ok, Err, sym, subst, ◌∙◌, arith}
 use Rattle.std.specs.Prelude.{IsTrue}
+use Rattle.chk_bytes.specs.declared.NoMemory.{NoMemory}
 use Rattle.chk_bytes.specs.Stems.{is_collector}
 use Rattle.chk_site.specs.declared.acts.Call.TheVariants.{Take, Clock}
 use Rattle.chk_site.specs.declared.acts.CallFault.{CallFault}
@@ -9,50 +10,55 @@ use Rattle.chk_site.specs.declared.suffixes.Taking.{Taking}
 use Rattle.chk_site.specs.History.{History}
 use Rattle.chk_site.specs.Runs.{Leads}
 use Rattle.chk_site.specs.Site.{Adds, asked, answered, sized, taking_given, Calls, CallsSome}
-use Rattle.chk_site.proofs.Leads.{leads_then}
+use Rattle.chk_site.proofs.Leads.{leads_then, leads_none}
 use Rattle.chk_site.proofs.Runs.{adds_as}
 use Rattle.chk_world.specs.Places.{Talking}
 use Rattle.chk_sink.specs.declared.fault.SinkFault.{SinkFault}
+use Rattle.chk_sink.specs.declared.fault.SinkFault.TheVariants.{NoMemory as wanting}
 use Rattle.chk_sink.specs.Faults.{FailsLast}
 use Rattle.chk_sink.specs.Held.{Matches}
-use Rattle.chk_sink.specs.States.{State, process}
+use Rattle.chk_sink.specs.States.{State, IsSameStart, process}
+use Rattle.chk_collector.specs.Replies.{MayHaveRisen}
 use Rattle.chk_collect.specs.Legality.{HasTaken}
-use Rattle.chk_collect.specs.Messages.{EndsBy}
-use Rattle.chk_collect.proofs.Counts.{ended_so, last_then}
+use Rattle.chk_collect.specs.Messages.{EndsBy, IsAnswered, wait_behind, IsTakenUpTo, enough, none, one, untaken, unanswered}
+use Rattle.chk_collect.proofs.Counts.{same_start, start_then, not_risen, risen_then, ended_so, last_then}
 use Rattle.chk_collect.proofs.Talking.{took, untook}
+use Rattle.chk_collect.proofs.Turning.{same_process}
 
 pub named_at : (s : State) (who : Who) → who ≡ process s → IsTrue (is_collector who.name)
     → IsTrue (is_collector s.collector)
 named_at s who is named = subst (λ (w : Who). IsTrue (is_collector w.name)) is named
 
-module _ (stamped : List (List ℕ)) (s : State) (who : Who) (is : who ≡ process s)
-    (named : IsTrue (is_collector who.name)) (door : List ℕ) where
-  abbrev Taken : Result (Option Taking) CallFault → Option History → Option History → Type 0
-  Taken given old new = Adds old new
-      (CallsSome (λ of. asked who Take (door ∷ []) 1000 0) (λ of. answered (taking_given of) given))
+-- the taking waited so long and gave this
+abbrev Taken : Who → List ℕ → ℕ → Result (Option Taking) CallFault → Option History
+    → Option History → Type 0
+Taken who door wait given old new = Adds old new
+    (CallsSome (λ of. asked who Take (door ∷ []) wait 0) (λ of. answered (taking_given of) given))
 
-  by_s : (given : Result (Option Taking) CallFault) {old new : Option History} → Taken given old new
-      → Adds old new (CallsSome (λ of. asked (process s) Take (door ∷ []) 1000 0)
+module _ (stamped : List (List ℕ)) (s : State) (who : Who) (is : who ≡ process s)
+    (named : IsTrue (is_collector who.name)) (door : List ℕ) (wait : ℕ) where
+  by_s : (given : Result (Option Taking) CallFault) {old new : Option History} → Taken who door wait given old new
+      → Adds old new (CallsSome (λ of. asked (process s) Take (door ∷ []) wait 0)
       (λ of. answered (taking_given of) given))
   by_s given {old = old} {new = new} =
-      subst (λ w. Adds old new (CallsSome (λ of. asked w Take (door ∷ []) 1000 0)
+      subst (λ w. Adds old new (CallsSome (λ of. asked w Take (door ∷ []) wait 0)
       (λ of. answered (taking_given of) given))) is
 
   -- none was taken
   pub untaken_told : (given : Result (Option Taking) CallFault) {old new : Option History}
-      → Taken given old new
+      → Taken who door wait given old new
       → Adds old new (Leads (Talking stamped (process s)) (Matches stamped s) (Matches stamped s))
   untaken_told given call =
-      untook stamped s (named_at s who is named) door 1000 given (by_s given call)
+      untook stamped s (named_at s who is named) door wait given (by_s given call)
 
   -- a message was taken, and then it was answered
   pub taken_told : (taking : Taking) (u : State) {old mid new : Option History}
-      → Taken (Ok (Some taking)) old mid
+      → Taken who door wait (Ok (Some taking)) old mid
       → Adds mid new (Leads (Talking stamped (process s))
       (HasTaken stamped s taking.number taking.bytes) (Matches stamped u))
       → Adds old new (Leads (Talking stamped (process s)) (Matches stamped s) (Matches stamped u))
   taken_told taking u call told =
-      leads_then (took stamped s (named_at s who is named) door 1000 taking
+      leads_then (took stamped s (named_at s who is named) door wait taking
       (by_s (Ok (Some taking)) call)) told
 
 -- the clock's failure is the last one
@@ -64,3 +70,86 @@ pub clock_last : (who : Who) (given : Result ℕ CallFault) (fault : SinkFault)
 clock_last who given fault first ends call =
     last_then {T = Unit {0}} (Err fault) first (adds_as (FailsLast {T = Unit {0}} (Err fault)) call
     (λ a h calls. ended_so (Unit {0}) {q = asked who Clock [] 0 0} sized given fault a h ends calls))
+
+-- ---- the takings, one after another
+
+-- what is known once so many messages were taken and answered: what is taken from here on, of the
+-- messages that are left and with this wait, is taken from the start on
+pub record ServedSoFar (who : Who) (door : List ℕ) (most n wait : ℕ) (first s : State)
+    (old now : Option History) (before count : ℕ) : Type 0 where
+  pub who_is : who ≡ process s
+  pub later : (left : ℕ) → left + n ≡ most → (result : Result (Unit {0}) SinkFault) (u : State)
+      (end : Option History) → IsTakenUpTo who door left wait s now result u end
+      → IsTakenUpTo who door most 1000 first old result u end
+  pub told : (stamped : List (List ℕ)) → Adds old now
+      (Leads (Talking stamped (process first)) (Matches stamped first) (Matches stamped s))
+  pub same : IsSameStart first s
+  pub risen : MayHaveRisen before count
+
+pub serving_begins : (who : Who) (door : List ℕ) (most : ℕ) (s : State) (now : Option History)
+    (count : ℕ) → who ≡ process s → ServedSoFar who door most 0 1000 s s now now count count
+serving_begins who door most s now count is = record {
+  who_is = is;
+  later = λ left all result u end taken.
+      let e : left ≡ most = omega (arith, all) in
+      subst (λ k. IsTakenUpTo who door k 1000 s now result u end) e taken;
+  told = λ stamped. leads_none now (λ h x. x);
+  same = same_start s;
+  risen = not_risen count;
+}
+
+module _ {who : Who} {door : List ℕ} {most n wait : ℕ} {first s : State} {old now : Option History}
+    {before count : ℕ} (far : ServedSoFar who door most n wait first s old now before count) where
+  -- what is told of the rest is told from the start on
+  pub served_on : (stamped : List (List ℕ)) {B : History → Type 0} {new : Option History}
+      → Adds now new (Leads (Talking stamped (process s)) (Matches stamped s) B)
+      → Adds old new (Leads (Talking stamped (process first)) (Matches stamped first) B)
+  served_on stamped {B = B} {new = new} told =
+      leads_then (far.told stamped)
+      (subst (λ w. Adds now new (Leads (Talking stamped w) (Matches stamped s) B))
+      (same_process first s far.same) told)
+
+  -- so many as may be were taken
+  pub serving_over : n ≡ most → IsTakenUpTo who door most 1000 first old (Ok tt) s now
+  serving_over all = far.later 0 (omega (arith, all)) (Ok tt) s now enough
+
+  module _ (left : n < most) where
+    -- of one taking more
+    one_more : (result : Result (Unit {0}) SinkFault) (u : State) (end : Option History)
+        → IsTakenUpTo who door (suc (most - (n + 1))) wait s now result u end
+        → IsTakenUpTo who door most 1000 first old result u end
+    one_more = far.later (suc (most - (n + 1))) (omega (arith, left))
+
+    pub serving_none : {end : Option History} → Taken who door wait (Ok None) now end
+        → IsTakenUpTo who door most 1000 first old (Ok tt) s end
+    serving_none call = one_more (Ok tt) s _ (none call)
+
+    pub serving_untaken : (fault : SinkFault) (given : Result (Option Taking) CallFault)
+        {end : Option History} → EndsBy Take given fault → Taken who door wait given now end
+        → IsTakenUpTo who door most 1000 first old (Err fault) s end
+    serving_untaken fault given ends call = one_more (Err fault) s _ (untaken fault given ends call)
+
+    pub serving_unanswered : (taking : Taking) (fault : NoMemory) (u : State)
+        {mid end : Option History} → Taken who door wait (Ok (Some taking)) now mid
+        → IsAnswered who taking.number taking.bytes s (Err fault) mid u end
+        → IsTakenUpTo who door most 1000 first old (Err wanting) u end
+    serving_unanswered taking fault u call answer =
+        one_more (Err wanting) u _ (unanswered taking fault call answer)
+
+  -- one message more was taken and answered
+  pub serving_goes_on : (taking : Taking) (size : ℕ) (t : State) {mid new : Option History}
+      (later : ℕ) → Taken who door wait (Ok (Some taking)) now mid
+      → IsAnswered who taking.number taking.bytes s (Ok size) mid t new
+      → ((stamped : List (List ℕ)) → Adds now new
+      (Leads (Talking stamped (process s)) (Matches stamped s) (Matches stamped t)))
+      → IsSameStart s t → MayHaveRisen count later
+      → ServedSoFar who door most (n + 1) (wait_behind size) first t old new before later
+  serving_goes_on taking size t later call answer told same risen = record {
+    who_is = far.who_is ∙ sym (same_process s t same);
+    later = λ left all result u end rest.
+        let e : suc left + n ≡ most = omega (arith, all) in
+        far.later (suc left) e result u end (one taking call answer rest);
+    told = λ stamped. served_on stamped (told stamped);
+    same = start_then first s t far.same same;
+    risen = risen_then before count later far.risen risen;
+  }

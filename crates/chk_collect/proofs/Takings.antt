@@ -1,5 +1,5 @@
--- Each taking of a turn finds all committed.
-use Rattle.std.proofs.Common.{◌≡◌, inl, inr, ℕ, Bool, true, false, List, [], ◌∷◌, ◌++◌, Option, Result, Ok, Err, sym, subst, ◌∙◌, refl, true≢false}
+-- The first taking of a turn finds all committed, and no other call opens a turn.
+use Rattle.std.proofs.Common.{◌≡◌, inl, inr, ℕ, Bool, true, false, nat_lt, if◌then◌else◌, List, [], ◌∷◌, ◌++◌, Option, Result, Ok, Err, sym, subst, ◌∙◌, refl, true≢false, arith}
 use Rattle.chk_bytes.specs.declared.NoMemory.{NoMemory}
 use Rattle.chk_site.specs.declared.acts.ActAnswer.{ActAnswer}
 use Rattle.chk_site.specs.declared.acts.Call.{Call}
@@ -19,87 +19,117 @@ use Rattle.chk_sink.specs.declared.fault.SinkFault.{SinkFault}
 use Rattle.chk_sink.specs.Held.{Holds, Matches}
 use Rattle.chk_sink.specs.States.{State, process}
 use Rattle.chk_sink.proofs.HoldsStay.{holds_stay}
-use Rattle.chk_collect.specs.Legality.{IsSettled, is_take, FindsCommitted, Finds}
-use Rattle.chk_collect.specs.Messages.{IsReadOn, whole, came, over, broken, unread, unkept, IsReplied, sent, unreplied, unsent, IsAnswered, replied, IsTakenUpTo, enough, none, one, untaken, unanswered}
+use Rattle.chk_collect.specs.Legality.{IsSettled, opens_turn, FindsCommitted, Finds}
+use Rattle.chk_collect.specs.Messages.{IsReadOn, whole, came, over, broken, unread, unkept, IsReplied, sent, unreplied, unsent, IsAnswered, replied, wait_behind, further_wait, long_bytes, IsTakenUpTo, enough, none, one, untaken, unanswered}
 use Rattle.chk_collect.proofs.SettledSinks.{all_committed}
 
--- ---- steps that take nothing
+-- ---- steps that open no turn
 
-abbrev pub TakesNone : History → Step → Type 0
-TakesNone before step = is_take (deed step.act) → ⊥
+abbrev pub OpensNone : History → Step → Type 0
+OpensNone before step = opens_turn (deed step.act) → ⊥
 
-take_talks : (call : Call) (words : List (List ℕ)) (number max : ℕ)
-    → is_take (deed_by call words number max) → is_message call ≡ true
-take_talks Take words number max take = refl
-take_talks call words number max take = absurd (take)
+opening_talks : (call : Call) (words : List (List ℕ)) (number max : ℕ)
+    → opens_turn (deed_by call words number max) → is_message call ≡ true
+opening_talks Take words number max opens = refl
+opening_talks call words number max opens = absurd opens
 
--- what makes no message takes none
-pub quiet_takes : {who : Who} {old new : Option History} → Adds old new (Owns (IsBy who))
-    → Adds old new (Owns TakesNone)
-quiet_takes {who = who} told = adds_as (Owns TakesNone) told go
+-- what makes no message opens none
+pub quiet_opens : {who : Who} {old new : Option History} → Adds old new (Owns (IsBy who))
+    → Adds old new (Owns OpensNone)
+quiet_opens {who = who} told = adds_as (Owns OpensNone) told go
   where
-    go : (added history : History) → Owns (IsBy who) added history → Owns TakesNone added history
+    go : (added history : History) → Owns (IsBy who) added history → Owns OpensNone added history
     go [] history own = tt
     go (step ∷ added) history own = (
       go added history own.0,
-      λ mine take.
-          true≢false (sym (take_talks step.act.call step.act.words step.act.number step.act.max
-          take) ∙ (own.1 mine).quiet),
+      λ mine opens.
+          true≢false (sym (opening_talks step.act.call step.act.words step.act.number step.act.max
+          opens) ∙ (own.1 mine).quiet),
     )
 
--- nor does another call than a taking
-pub call_takes : {q : Asked} (given : Result ActAnswer CallFault) {old new : Option History}
-    → (is_take (deed_by q.call q.words q.number q.max) → ⊥) → Adds old new (Calls q given)
-    → Adds old new (Owns TakesNone)
-call_takes given no_take told =
-    adds_as (Owns TakesNone) told (λ added history calls. call_owned TakesNone given
-    (λ before answer files logs running. no_take) calls)
+-- nor does another call than the first taking of a turn
+pub call_opens : {q : Asked} (given : Result ActAnswer CallFault) {old new : Option History}
+    → (opens_turn (deed_by q.call q.words q.number q.max) → ⊥) → Adds old new (Calls q given)
+    → Adds old new (Owns OpensNone)
+call_opens given no_opening told =
+    adds_as (Owns OpensNone) told (λ added history calls. call_owned OpensNone given
+    (λ before answer files logs running. no_opening) calls)
 
-pub takes_then : {old mid new : Option History} → Adds old mid (Owns TakesNone)
-    → Adds mid new (Owns TakesNone) → Adds old new (Owns TakesNone)
-takes_then p q =
-    adds_then (Owns TakesNone) p q (λ a b h x y. every_join (λ before step. step.own ≡ true
-    → TakesNone before step) b a h x y)
+pub opens_then : {old mid new : Option History} → Adds old mid (Owns OpensNone)
+    → Adds mid new (Owns OpensNone) → Adds old new (Owns OpensNone)
+opens_then p q =
+    adds_then (Owns OpensNone) p q (λ a b h x y. every_join (λ before step. step.own ≡ true
+    → OpensNone before step) b a h x y)
 
-read_takes : {who : Who} {t : ℕ} {bytes : List ℕ} {got : Result (Option (List ℕ)) NoMemory} {old
+read_opens : {who : Who} {t : ℕ} {bytes : List ℕ} {got : Result (Option (List ℕ)) NoMemory} {old
     new : Option History}
-    → IsReadOn who t bytes got old new → Adds old new (Owns TakesNone)
-read_takes (whole shut) = adds_none _ (Owns TakesNone) (λ h. tt)
-read_takes (came piece yet some call more) = takes_then (call_takes _ (λ x. x) call) (read_takes
+    → IsReadOn who t bytes got old new → Adds old new (Owns OpensNone)
+read_opens (whole shut) = adds_none _ (Owns OpensNone) (λ h. tt)
+read_opens (came piece yet some call more) = opens_then (call_opens _ (λ x. x) call) (read_opens
     more)
-read_takes (over yet call) = call_takes _ (λ x. x) call
-read_takes (broken yet call) = call_takes _ (λ x. x) call
-read_takes (unread yet call) = call_takes _ (λ x. x) call
-read_takes (unkept piece yet some call) = call_takes _ (λ x. x) call
+read_opens (over yet call) = call_opens _ (λ x. x) call
+read_opens (broken yet call) = call_opens _ (λ x. x) call
+read_opens (unread yet call) = call_opens _ (λ x. x) call
+read_opens (unkept piece yet some call) = call_opens _ (λ x. x) call
 
-reply_takes : {who : Who} {t : ℕ} {request : List ℕ} {s u : State}
-    {result : Result (Unit {0}) NoMemory} {old new : Option History}
-    → IsReplied who t request s result old u new → Adds old new (Owns TakesNone)
-reply_takes (sent reply given handled fine call) =
-    takes_then (quiet_takes handled.quiet) (call_takes _ (λ x. x) call)
-reply_takes (unreplied handled) = quiet_takes handled.quiet
-reply_takes (unsent reply handled call) =
-    takes_then (quiet_takes handled.quiet) (call_takes _ (λ x. x) call)
+reply_opens : {who : Who} {t : ℕ} {request : List ℕ} {s u : State}
+    {result : Result ℕ NoMemory} {old new : Option History}
+    → IsReplied who t request s result old u new → Adds old new (Owns OpensNone)
+reply_opens (sent reply given handled fine call) =
+    opens_then (quiet_opens handled.quiet) (call_opens _ (λ x. x) call)
+reply_opens (unreplied handled) = quiet_opens handled.quiet
+reply_opens (unsent reply handled call) =
+    opens_then (quiet_opens handled.quiet) (call_opens _ (λ x. x) call)
 
-pub message_takes : {who : Who} {t : ℕ} {bytes : List ℕ} {s u : State}
-    {result : Result (Unit {0}) NoMemory} {old new : Option History}
-    → IsAnswered who t bytes s result old u new → Adds old new (Owns TakesNone)
-message_takes (IsAnswered.broken read) = read_takes read
-message_takes (IsAnswered.unread read) = read_takes read
-message_takes (replied request read reply) = takes_then (read_takes read) (reply_takes reply)
+pub message_opens : {who : Who} {t : ℕ} {bytes : List ℕ} {s u : State}
+    {result : Result ℕ NoMemory} {old new : Option History}
+    → IsAnswered who t bytes s result old u new → Adds old new (Owns OpensNone)
+message_opens (IsAnswered.broken read) = read_opens read
+message_opens (IsAnswered.unread read) = read_opens read
+message_opens (replied request read reply) = opens_then (read_opens read) (reply_opens reply)
+
+-- a further message is waited for less long than the first one
+behind_less : (size : ℕ) → wait_behind size ≡ 1000 → ⊥
+behind_less size = by (nat_lt size long_bytes)
+  where
+    by : (b : Bool) → (if b then 0 else further_wait) ≡ 1000 → ⊥
+    by true e = omega (arith, e)
+    by false e = omega (arith, e)
+
+-- a taking that waits less long opens none
+less_opens : {who : Who} {door : List ℕ} {wait : ℕ} (given : ℕ → Result ActAnswer CallFault)
+    {old new : Option History} → (wait ≡ 1000 → ⊥)
+    → Adds old new (CallsSome (λ of. asked who Take (door ∷ []) wait 0) given)
+    → Adds old new (Owns OpensNone)
+less_opens given less told =
+    adds_as (Owns OpensNone) told (λ added history calls. call_owned OpensNone (given calls.0)
+    (λ before answer files logs running. less) calls.1)
+
+-- behind the first taking, whatever the turn takes opens none
+further_opens : {who : Who} {door : List ℕ} {left wait : ℕ} {s u : State}
+    {result : Result (Unit {0}) SinkFault} {old new : Option History} → (wait ≡ 1000 → ⊥)
+    → IsTakenUpTo who door left wait s old result u new → Adds old new (Owns OpensNone)
+further_opens less enough = adds_none _ (Owns OpensNone) (λ h. tt)
+further_opens less (none call) = less_opens _ less call
+further_opens less (one {n = n} taking call answer rest) =
+    opens_then (less_opens _ less call)
+    (opens_then (message_opens answer) (further_opens (behind_less n) rest))
+further_opens less (untaken fault given ends call) = less_opens _ less call
+further_opens less (unanswered taking fault call answer) =
+    opens_then (less_opens _ less call) (message_opens answer)
 
 -- ---- how findings join
 
 pub finds_none : (S : History → Step → Type 0) (name : List ℕ) (A : History
     → Type 0) {old new : Option History}
-    → Adds old new (Owns TakesNone) → Adds old new (Finds S name A)
+    → Adds old new (Owns OpensNone) → Adds old new (Finds S name A)
 finds_none S name A told = adds_as (Finds S name A) told (λ added history own others a. go added
     history own)
   where
-    go : (added history : History) → Owns TakesNone added history
+    go : (added history : History) → Owns OpensNone added history
         → Every (FindsCommitted name) added history
     go [] history own = tt
-    go (step ∷ added) history own = (go added history own.0, λ mine take. absurd (own.1 mine take))
+    go (step ∷ added) history own = (go added history own.0, λ mine opens. absurd (own.1 mine opens))
 
 pub finds_then : {S : History → Step → Type 0} {Mine : History → Step
     → Type 0} (name : List ℕ) {A B : History → Type 0}
@@ -146,7 +176,7 @@ module _ (stamped : List (List ℕ)) (s : State) (settled : IsSettled s) where
       let before = theirs_match acted.others history acted.theirs others.0 h in
       let running = theirs_run acted.others history acted.theirs acted.running in (
         theirs_find acted.others history acted.theirs,
-        λ mine take. all_committed stamped s (acted.others ++ history) before.legal (before.alive
+        λ mine opens. all_committed stamped s (acted.others ++ history) before.legal (before.alive
             running) settled,
       ))
 
@@ -176,9 +206,9 @@ module _ (stamped : List (List ℕ)) (s : State) (settled : IsSettled s) where
       adds_as Found told (λ added history calls. call_finds {q = q calls.0} (result calls.0) added
       history calls.1)
 
-  -- what comes behind takes none
+  -- what comes behind opens none
   pub found_then : {old mid new : Option History} → Adds old mid Found
-      → Adds mid new (Owns TakesNone) → Adds old new Found
+      → Adds mid new (Owns OpensNone) → Adds old new Found
   found_then p q =
       let O : History → Step → Type 0 = λ before step. step.own ≡ false
       → Foreign stamped (process s) before step in
@@ -191,17 +221,18 @@ module _ (stamped : List (List ℕ)) (s : State) (settled : IsSettled s) where
       anyone [] history = tt
       anyone (step ∷ added) history = (anyone added history, λ theirs. tt)
 
-  -- of one taking and what comes of it
-  pub taken_finds : {door : List ℕ} {wait : ℕ} {result : Result (Unit {0}) SinkFault} {u : State}
+  -- of the takings of a turn and what comes of them
+  pub taken_finds : {door : List ℕ} {most wait : ℕ} {result : Result (Unit {0}) SinkFault} {u : State}
       {old new : Option History}
-      → IsTakenUpTo (process s) door 1 wait s old result u new → Adds old new Found
+      → IsTakenUpTo (process s) door most wait s old result u new → Adds old new Found
+  taken_finds enough = adds_none _ Found (λ history others h. tt)
   taken_finds {door = door} {wait = wait} (none call) = some_finds (λ of. asked (process s) Take
       (door ∷ []) wait 0) _ call
-  taken_finds {door = door} {wait = wait} (one taking call answer enough) =
+  taken_finds {door = door} {wait = wait} (one {n = n} taking call answer rest) =
       found_then (some_finds (λ of. asked (process s) Take (door ∷ []) wait 0) _ call)
-      (message_takes answer)
+      (opens_then (message_opens answer) (further_opens (behind_less n) rest))
   taken_finds {door = door} {wait = wait} (untaken fault given ends call) =
       some_finds (λ of. asked (process s) Take (door ∷ []) wait 0) _ call
   taken_finds {door = door} {wait = wait} (unanswered taking fault call answer) =
       found_then (some_finds (λ of. asked (process s) Take (door ∷ []) wait 0) _ call)
-      (message_takes answer)
+      (message_opens answer)

@@ -67,13 +67,13 @@ settled_by now u t (Ok value) ok = subst IsSettled (sym ok) (ticked_settled now 
 settled_by now u t (Err fault) ok = tt
 
 -- it was done
-pub turn_by : (who : Who) (door : List ℕ) (s u t : State) → who ≡ process u → (now : ℕ)
+pub turn_by : (who : Who) (door : List ℕ) (most : ℕ) (s u t : State) → who ≡ process u → (now : ℕ)
     (result : Result (Unit {0}) SinkFault) {old taken timed new : Option History}
-    → TickSays now u t result timed new → IsTakenUpTo who door 1 1000 s old (Ok tt) u taken
+    → TickSays now u t result timed new → IsTakenUpTo who door most 1000 s old (Ok tt) u taken
     → Adds taken timed (Calls (asked who Clock [] 0 0) (answered sized (Ok now)))
-    → OnOk result (IsCollectorTurn who door 1 1000 s old t new)
-turn_by who door s u t is now (Err fault) says served call = tt
-turn_by who door s u t is now (Ok value) {taken = taken} {timed = timed} {new = new} says served
+    → OnOk result (IsCollectorTurn who door most 1000 s old t new)
+turn_by who door most s u t is now (Err fault) says served call = tt
+turn_by who door most s u t is now (Ok value) {taken = taken} {timed = timed} {new = new} says served
     call = record {
       u = u;
       taken = taken;
@@ -91,13 +91,13 @@ turn_by who door s u t is now (Ok value) {taken = taken} {timed = timed} {new = 
     }
 
 -- it was refused
-pub cut_by : (who : Who) (door : List ℕ) (s u t : State) → who ≡ process u → (now : ℕ)
+pub cut_by : (who : Who) (door : List ℕ) (most : ℕ) (s u t : State) → who ≡ process u → (now : ℕ)
     (result : Result (Unit {0}) SinkFault) {old taken timed new : Option History}
-    → TickSays now u t result timed new → IsTakenUpTo who door 1 1000 s old (Ok tt) u taken
+    → TickSays now u t result timed new → IsTakenUpTo who door most 1000 s old (Ok tt) u taken
     → Adds taken timed (Calls (asked who Clock [] 0 0) (answered sized (Ok now)))
-    → IfErr result (λ fault. IsCutTurn who door 1 1000 fault s old t new)
-cut_by who door s u t is now (Ok value) says served call = tt
-cut_by who door s u t is now (Err fault) {timed = timed} {new = new} says served call =
+    → IfErr result (λ fault. IsCutTurn who door most 1000 fault s old t new)
+cut_by who door most s u t is now (Ok value) says served call = tt
+cut_by who door most s u t is now (Err fault) {timed = timed} {new = new} says served call =
     unticked now served call (record {
       of = says.only;
       same = says.same;
@@ -110,13 +110,13 @@ cut_by who door s u t is now (Err fault) {timed = timed} {new = new} says served
     })
 
 -- what the takings find, by the turn's result
-pub finds_by : (stamped : List (List ℕ)) (who : Who) (door : List ℕ) (s t : State)
+pub finds_by : (stamped : List (List ℕ)) (who : Who) (door : List ℕ) (most : ℕ) (s t : State)
     → who ≡ process s → IsTrue (is_collector s.collector) → IsSettled s
     → (result : Result (Unit {0}) SinkFault) {old new : Option History}
-    → OnOk result (IsCollectorTurn who door 1 1000 s old t new)
-    → IfErr result (λ fault. IsCutTurn who door 1 1000 fault s old t new)
+    → OnOk result (IsCollectorTurn who door most 1000 s old t new)
+    → IfErr result (λ fault. IsCutTurn who door most 1000 fault s old t new)
     → Adds old new (Finds (Foreign stamped who) who.name (Matches stamped s))
-finds_by stamped who door s t is named settled (Ok value) turn cut =
+finds_by stamped who door most s t is named settled (Ok value) turn cut =
     turn_finds stamped s named who is settled turn
-finds_by stamped who door s t is named settled (Err fault) turn cut =
+finds_by stamped who door most s t is named settled (Err fault) turn cut =
     cut_finds stamped s named who is fault settled cut

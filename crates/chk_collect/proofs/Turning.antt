@@ -12,7 +12,7 @@ use Rattle.chk_site.specs.History.{History}
 use Rattle.chk_site.specs.Runs.{Leads}
 use Rattle.chk_site.specs.Site.{Adds, asked, answered, sized, taking_given, Calls}
 use Rattle.chk_site.proofs.Leads.{leads_then, leads_as}
-use Rattle.chk_site.proofs.Runs.{adds_then, adds_as}
+use Rattle.chk_site.proofs.Runs.{adds_then, adds_as, adds_none}
 use Rattle.chk_world.specs.Places.{As, Foreign, Talking}
 use Rattle.chk_sink.specs.declared.fault.SinkFault.{SinkFault}
 use Rattle.chk_sink.specs.declared.fault.SinkFault.TheVariants.{NoMemory}
@@ -23,9 +23,9 @@ use Rattle.chk_sink.specs.States.{State, IsSameStart, process}
 use Rattle.chk_collect.specs.Legality.{IsSettled, TurnEnds, Finds}
 use Rattle.chk_collect.specs.Messages.{EndsBy, IsTakenUpTo, enough, none, one, untaken as not_taken, unanswered}
 use Rattle.chk_collect.specs.Turns.{IsCollectorTurn, IsCutTurn, untaken, untimed, unticked}
-use Rattle.chk_collect.proofs.Counts.{ended_so}
+use Rattle.chk_collect.proofs.Counts.{ended_so, last_then}
 use Rattle.chk_collect.proofs.SettledSinks.{tick_ends, outside_ends}
-use Rattle.chk_collect.proofs.Takings.{call_takes, quiet_takes, found_then, message_takes, taken_finds}
+use Rattle.chk_collect.proofs.Takings.{call_opens, quiet_opens, found_then, message_opens, taken_finds}
 use Rattle.chk_collect.proofs.Talking.{clocked, talking_as}
 
 -- a call that ended a turn failed, or wanted memory
@@ -41,18 +41,19 @@ ends_outside call (Err no_memory) fault ends = subst IsOutside (sym ends) tt
 pub same_process : (s u : State) → IsSameStart s u → process u ≡ process s
 same_process s u same = ap (λ n. record { role = Collector; name = n }) same.collector
 
--- of one taking, the call that failed is the last one
-pub taken_last : {who : Who} {door : List ℕ} {wait : ℕ} {s u : State} {result : Result (Unit {0})
+-- of the takings, the call that failed is the last one
+pub taken_last : {who : Who} {door : List ℕ} {most wait : ℕ} {s u : State} {result : Result (Unit {0})
     SinkFault} {old new : Option History}
-    → IsTakenUpTo who door 1 wait s old result u new → Adds old new (FailsLast result)
+    → IsTakenUpTo who door most wait s old result u new → Adds old new (FailsLast result)
+taken_last enough = adds_none _ (FailsLast {T = Unit {0}} (Ok tt)) (λ h. tt)
 taken_last (none call) = adds_as (FailsLast {T = Unit {0}} (Ok tt)) call (λ a h calls. tt)
-taken_last (one taking call answer enough) =
-    adds_then (FailsLast {T = Unit {0}} (Ok tt)) call (message_takes answer) (λ b a h x y. tt)
+taken_last (one {result = result} taking call answer rest) =
+    last_then result call (last_then result (message_opens answer) (taken_last rest))
 taken_last (not_taken fault given ends call) =
     adds_as (FailsLast {T = Unit {0}} (Err fault)) call
     (λ a h calls. ended_so (Unit {0}) (taking_given calls.0) given fault a h ends calls.1)
 taken_last (unanswered taking fault call answer) =
-    adds_then (FailsLast {T = Unit {0}} (Err NoMemory)) call (message_takes answer) (λ b a h x y.
+    adds_then (FailsLast {T = Unit {0}} (Err NoMemory)) call (message_opens answer) (λ b a h x y.
     tt)
 
 module _ (stamped : List (List ℕ)) (s : State) (named : IsTrue (is_collector s.collector)) where
@@ -104,35 +105,35 @@ module _ (stamped : List (List ℕ)) (s : State) (named : IsTrue (is_collector s
   abbrev FoundBy : Who → Option History → Option History → Type 0
   FoundBy who old new = Adds old new (Finds (Foreign stamped who) who.name (Matches stamped s))
 
-  turn_found : {door : List ℕ} {wait : ℕ} {t : State} {old new : Option History} → IsSettled s
-      → IsCollectorTurn (process s) door 1 wait s old t new → FoundBy (process s) old new
+  turn_found : {door : List ℕ} {most wait : ℕ} {t : State} {old new : Option History} → IsSettled s
+      → IsCollectorTurn (process s) door most wait s old t new → FoundBy (process s) old new
   turn_found settled turn =
       found_then stamped s settled (found_then stamped s settled (taken_finds stamped s settled
       turn.messages)
-      (call_takes _ (λ x. x) turn.clock)) (quiet_takes turn.tick.quiet)
+      (call_opens _ (λ x. x) turn.clock)) (quiet_opens turn.tick.quiet)
 
-  cut_found : {door : List ℕ} {wait : ℕ} {fault : SinkFault} {t : State} {old new : Option History}
+  cut_found : {door : List ℕ} {most wait : ℕ} {fault : SinkFault} {t : State} {old new : Option History}
       → IsSettled s
-      → IsCutTurn (process s) door 1 wait fault s old t new → FoundBy (process s) old new
+      → IsCutTurn (process s) door most wait fault s old t new → FoundBy (process s) old new
   cut_found settled (untaken taken) = taken_finds stamped s settled taken
   cut_found settled (untimed given taken ends call) =
-      found_then stamped s settled (taken_finds stamped s settled taken) (call_takes _ (λ x. x)
+      found_then stamped s settled (taken_finds stamped s settled taken) (call_opens _ (λ x. x)
       call)
   cut_found settled (unticked now taken call tick) =
       found_then stamped s settled (found_then stamped s settled (taken_finds stamped s settled
       taken)
-      (call_takes _ (λ x. x) call)) (quiet_takes tick.quiet)
+      (call_opens _ (λ x. x) call)) (quiet_opens tick.quiet)
 
   pub turn_finds : (who : Who) → who ≡ process s
-      → {door : List ℕ} {wait : ℕ} {t : State} {old new : Option History} → IsSettled s
-      → IsCollectorTurn who door 1 wait s old t new → FoundBy who old new
-  turn_finds who is {door = door} {wait = wait} {t = t} {old = old} {new = new} settled turn =
-      subst (λ w. IsCollectorTurn w door 1 wait s old t new
+      → {door : List ℕ} {most wait : ℕ} {t : State} {old new : Option History} → IsSettled s
+      → IsCollectorTurn who door most wait s old t new → FoundBy who old new
+  turn_finds who is {door = door} {most = most} {wait = wait} {t = t} {old = old} {new = new} settled turn =
+      subst (λ w. IsCollectorTurn w door most wait s old t new
       → FoundBy w old new) (sym is) (turn_found settled) turn
 
   pub cut_finds : (who : Who) → who ≡ process s
-      → {door : List ℕ} {wait : ℕ} (fault : SinkFault) {t : State} {old new : Option History}
-      → IsSettled s → IsCutTurn who door 1 wait fault s old t new → FoundBy who old new
-  cut_finds who is {door = door} {wait = wait} fault {t = t} {old = old} {new = new} settled turn =
-      subst (λ w. IsCutTurn w door 1 wait fault s old t new
+      → {door : List ℕ} {most wait : ℕ} (fault : SinkFault) {t : State} {old new : Option History}
+      → IsSettled s → IsCutTurn who door most wait fault s old t new → FoundBy who old new
+  cut_finds who is {door = door} {most = most} {wait = wait} fault {t = t} {old = old} {new = new} settled turn =
+      subst (λ w. IsCutTurn w door most wait fault s old t new
       → FoundBy w old new) (sym is) (cut_found settled) turn

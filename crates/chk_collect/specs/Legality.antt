@@ -46,19 +46,20 @@ abbrev pub ChainEnds : List (List ℕ) → State → Result (Unit {0}) SinkFault
 ChainEnds stamped s (Ok value) history = Matches stamped s history
 ChainEnds stamped s (Err fault) history = TurnEnds stamped s (Err fault) history
 
--- the call takes a message
-abbrev pub is_take : Deed → Type 0
-is_take (Takes door wait) = Unit {0}
-is_take call = ⊥
+-- The call takes a message for which it may wait 1,000 milliseconds, as the first one of a turn
+-- does. The further takings of a turn wait 20 milliseconds or none.
+abbrev pub opens_turn : Deed → Type 0
+opens_turn (Takes door wait) = wait ≡ 1000
+opens_turn call = ⊥
 
--- where the step takes a message, all of each sink under writing of this collector is committed
--- before it
+-- where the step takes the first message of a turn, all of each sink under writing of this
+-- collector is committed before it
 abbrev pub FindsCommitted : List ℕ → History → Step → Type 0
-FindsCommitted name before step = step.own ≡ true → is_take (deed step.act)
+FindsCommitted name before step = step.own ≡ true → opens_turn (deed step.act)
     → IsAllCommitted name (files_after before)
 
--- where others do as is supposed, and A holds before, each own taking among the steps finds all
--- committed
+-- where others do as is supposed, and A holds before, each own step among them that takes the first
+-- message of a turn finds all committed
 abbrev pub Finds : (History → Step → Type 0) → List ℕ → (History → Type 0) → History → History
     → Type 0
 Finds Supposed name A added history = Others Supposed added history → A history
@@ -78,12 +79,13 @@ abbrev pub NamedAreReached : Who → History → Type 0
 NamedAreReached who history =
     (a : Ack) → HasNamed who history a → IsReached history a ⊎ IsTrue (gave_up a.stem history)
 
--- so it is where the step takes a message
+-- where the step takes the first message of a turn, each named end is reached before it
 abbrev pub FindsReached : Who → History → Step → Type 0
-FindsReached who before step = step.own ≡ true → is_take (deed step.act)
+FindsReached who before step = step.own ≡ true → opens_turn (deed step.act)
     → NamedAreReached who before
 
--- where others do as is supposed, and A holds before, so it is at each own taking among the steps
+-- where others do as is supposed, and A holds before, each own step among them that takes the first
+-- message of a turn finds each named end reached
 abbrev pub FindsNamed : (History → Step → Type 0) → Who → (History → Type 0) → History → History
     → Type 0
 FindsNamed Supposed who A added history = Others Supposed added history → A history

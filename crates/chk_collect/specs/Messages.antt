@@ -1,5 +1,5 @@
 -- One message of a collector's turn: how it is read to its end, and how it is answered.
-use Rattle.std.specs.Prelude.{◌≡◌, ◌≢◌, ◌⊎◌, ℕ, suc, ◌≤◌, ◌<◌, List, [], ◌∷◌, ◌++◌, length, Option, Some, None, Result, Ok, Err}
+use Rattle.std.specs.Prelude.{◌≡◌, ◌≢◌, ◌⊎◌, ℕ, suc, ◌≤◌, ◌<◌, nat_lt, if◌then◌else◌, List, [], ◌∷◌, ◌++◌, length, Option, Some, None, Result, Ok, Err}
 use Rattle.chk_bytes.specs.declared.NoMemory.{NoMemory}
 use Rattle.chk_bytes.specs.Stems.{Stem}
 use Rattle.chk_site.specs.declared.acts.Who.{Who}
@@ -110,14 +110,15 @@ IsSentOrFailed (Ok value) = Unit {0}
 IsSentOrFailed (Err Failed) = Unit {0}
 IsSentOrFailed (Err fault) = ⊥
 
--- a request was handled and answered once with that reply; or there was no memory for the reply or its answer
+-- A request was handled and answered once with that reply, and the number of its bytes is told; or
+-- there was no memory for the reply or its answer.
 pub data IsReplied (who : Who) (t : ℕ) (request : List ℕ) (s : State)
-    : Result (Unit {0}) NoMemory → Option History → State → Option History → Type 0 where
+    : Result ℕ NoMemory → Option History → State → Option History → Type 0 where
   sent : {old next new : Option History} {u : State} (reply : List ℕ)
       (given : Result (Unit {0}) CallFault) → IsHandled who request reply s u old next
       → IsSentOrFailed given
       → Adds next new (Calls (asked who Answer (reply ∷ []) t 0) (answered plain given))
-      → IsReplied who t request s (Ok tt) old u new
+      → IsReplied who t request s (Ok (length request)) old u new
   unreplied : {fault : NoMemory} {old new : Option History} {u : State}
       → IsUnreplied who request s u old new → IsReplied who t request s (Err fault) old u new
   unsent : {fault : NoMemory} {old next new : Option History} {u : State} (reply : List ℕ)
@@ -126,17 +127,31 @@ pub data IsReplied (who : Who) (t : ℕ) (request : List ℕ) (s : State)
       (Calls (asked who Answer (reply ∷ []) t 0) (answered {T = Unit {0}} plain (Err no_memory)))
       → IsReplied who t request s (Err fault) old u new
 
--- what became of a message that was taken: it broke off, or it was read to its end, handled and
--- answered; or there was no memory on the way
+-- What became of a message that was taken: it broke off, or it was read to its end, handled and
+-- answered; or there was no memory on the way. It tells how many bytes were read to its end, and 0
+-- where it broke off.
 pub data IsAnswered (who : Who) (t : ℕ) (bytes : List ℕ) (s : State)
-    : Result (Unit {0}) NoMemory → Option History → State → Option History → Type 0 where
+    : Result ℕ NoMemory → Option History → State → Option History → Type 0 where
   broken : {old new : Option History} → IsReadOn who t bytes (Ok None) old new
-      → IsAnswered who t bytes s (Ok tt) old s new
+      → IsAnswered who t bytes s (Ok 0) old s new
   unread : {fault : NoMemory} {old new : Option History} → IsReadOn who t bytes (Err fault) old new
       → IsAnswered who t bytes s (Err fault) old s new
-  replied : {result : Result (Unit {0}) NoMemory} {old mid new : Option History} {u : State}
+  replied : {result : Result ℕ NoMemory} {old mid new : Option History} {u : State}
       (request : List ℕ) → IsReadOn who t bytes (Ok (Some request)) old mid
       → IsReplied who t request s result mid u new → IsAnswered who t bytes s result old u new
+
+-- a message of so many bytes is a long one: its sender has more to send
+abbrev pub long_bytes : ℕ
+long_bytes = 1048576
+
+-- how long a further message is waited for behind a long one, in milliseconds
+abbrev pub further_wait : ℕ
+further_wait = 20
+
+-- how long a further message of the turn is waited for behind one of so many bytes, in
+-- milliseconds; behind one that isn't long only what waits at the door already is taken
+abbrev pub wait_behind : ℕ → ℕ
+wait_behind size = if nat_lt size long_bytes then 0 else further_wait
 
 -- this call ended the turn: it failed, or there was no memory
 abbrev pub EndsBy : {T : Type 0} → Call → Result T CallFault → SinkFault → Type 0
@@ -145,9 +160,9 @@ EndsBy call (Err no_memory) fault = fault ≡ wanting
 EndsBy call given fault = ⊥
 
 -- At most so many messages are taken at the door and answered, each before the next is taken, up
--- to the first taking that gives
--- none. The first one may wait so long, the others not. A taking that fails ends the turn, and so
--- does want of memory.
+-- to the first taking that gives none. The first one may wait so long, and each other one as long as
+-- the number of bytes of the one before it says. A taking that fails ends the turn, and so does want
+-- of memory.
 pub data IsTakenUpTo (who : Who) (door : List ℕ)
     : ℕ → ℕ → State → Option History → Result (Unit {0}) SinkFault → State → Option History
     → Type 0 where
@@ -157,12 +172,12 @@ pub data IsTakenUpTo (who : Who) (door : List ℕ)
       → Adds old new (CallsSome (λ of. asked who Take (door ∷ []) wait 0) (λ of. answered
       (taking_given of) (Ok None)))
       → IsTakenUpTo who door (suc left) wait s old (Ok tt) s new
-  one : {left wait : ℕ} {s t u : State} {result : Result (Unit {0}) SinkFault} {old mid next new :
+  one : {left wait n : ℕ} {s t u : State} {result : Result (Unit {0}) SinkFault} {old mid next new :
       Option History} (taking : Taking)
       → Adds old mid (CallsSome (λ of. asked who Take (door ∷ []) wait 0) (λ of. answered
       (taking_given of) (Ok (Some taking))))
-      → IsAnswered who taking.number taking.bytes s (Ok tt) mid t next
-      → IsTakenUpTo who door left 0 t next result u new
+      → IsAnswered who taking.number taking.bytes s (Ok n) mid t next
+      → IsTakenUpTo who door left (wait_behind n) t next result u new
       → IsTakenUpTo who door (suc left) wait s old result u new
   untaken : {left wait : ℕ} {s : State} {old new : Option History} (fault : SinkFault) (given :
       Result (Option Taking) CallFault)

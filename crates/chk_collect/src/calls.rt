@@ -12,21 +12,19 @@ use chk_sink::SinkFault;
 use chk_site::{Call, CallFault, Site, Taking, Who};
 use std::alloc::Global;
 
-/// How long a taking waits for a message, in milliseconds.
-const WAIT: u64 = 1000;
-
-/// The first piece of a message at the door; none where none came in time.
+/// The first piece of a message at the door; none where none came within so many milliseconds.
 pub(crate) fn take_one<S: Site>(
     alloc: Global,
     site: &mut S,
     who: &Who,
     door: &Word,
+    wait: u64,
 ) -> Result<Option<Taking>, SinkFault>
     ensures call { IsEnded Take result (λ given. Adds (S.told site.old) (S.told site.new)
-        (CallsSome (λ of. asked who.now Take (door.now ∷ []) 1000 0) (λ of. answered (taking_given of) given))) }
+        (CallsSome (λ of. asked who.now Take (door.now ∷ []) wait 0) (λ of. answered (taking_given of) given))) }
     ensures cause { SinkCause (S.fault_count site.old) (S.fault_count site.new) result }
 {
-    match site.take(alloc, who, door.as_str(), WAIT) {
+    match site.take(alloc, who, door.as_str(), wait) {
         Ok(taking) => Ok(taking),
         Err(CallFault::NoMemory) => Err(SinkFault::NoMemory),
         Err(_) => Err(SinkFault::Outside { call: Call::Take }),

@@ -71,7 +71,7 @@ fn read_on<S: Site>(
     Ok(Some(bytes))
 }
 
-// Handles the request and answers it once.
+// Handles the request, answers it once and tells its size.
 fn answer<S: Site>(
     alloc: Global,
     site: &mut S,
@@ -79,7 +79,7 @@ fn answer<S: Site>(
     collector: &mut Collector,
     number: u64,
     request: &[u8],
-) -> Result<(), NoMemory>
+) -> Result<usize, NoMemory>
     requires started { who.now ≡ process collector.old }
     requires named { IsTrue (is_collector who.now.name) }
     ensures told { (stamped : List (List ℕ)) → Adds (S.told site.old) (S.told site.new)
@@ -92,17 +92,18 @@ fn answer<S: Site>(
 {
     let reply = collector.respond(alloc, site, request)?;
     let _sent = send(alloc, site, who, number, reply.as_slice())?;
-    Ok(())
+    Ok(request.len())
 }
 
-/// Reads the message on, handles it and answers it once. A call that fails ends it.
+/// Reads the message on, handles it and answers it once. A call that fails ends it. It tells how many
+/// bytes the message had where it was read to its end, and 0 where it broke off.
 pub(crate) fn handle<S: Site>(
     alloc: Global,
     site: &mut S,
     who: &Who,
     collector: &mut Collector,
     taking: Taking,
-) -> Result<(), NoMemory>
+) -> Result<usize, NoMemory>
     requires started { who.now ≡ process collector.old }
     requires named { IsTrue (is_collector who.now.name) }
     ensures told { (stamped : List (List ℕ)) → Adds (S.told site.old) (S.told site.new)
@@ -116,7 +117,7 @@ pub(crate) fn handle<S: Site>(
     let number = taking.number;
     let read = read_on(alloc, site, who, number, taking.bytes)?;
     match read {
-        None => Ok(()),
+        None => Ok(0),
         Some(request) => answer(alloc, site, who, collector, number, request.as_slice()),
     }
 }

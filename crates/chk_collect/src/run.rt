@@ -25,22 +25,26 @@ use chk_sink::SinkFault;
 use chk_site::{Site, Who};
 use std::alloc::Global;
 
-/// The command: starts the collector, runs so many turns at that door, and finishes. A sink is closed
-/// after `rotate` milliseconds. After a refusal nothing more is called, and the finished parts stand;
-/// the next start settles what was left.
+/// The command: starts the collector, runs so many turns at that door, each of at most `most`
+/// messages, and finishes. A turn waits up to 1,000 milliseconds for its first message; for a further
+/// one up to 20 behind one of 1,048,576 bytes or more, and else not at all. A further message is
+/// taken before what the earlier ones of its turn appended is committed. A sink is closed after
+/// `rotate` milliseconds. After a refusal nothing more is called, and the finished parts stand; the
+/// next start settles what was left.
 pub fn collect<S: Site>(
     alloc: Global,
     site: &mut S,
     who: &Who,
     rotate: u64,
     turns: u64,
+    most: u64,
     door: &Word,
 ) -> Result<(), SinkFault>
     requires role { who.now.role ≡ collector_role }
     requires name { IsTrue (is_collector who.now.name) }
-    ensures ran { OnOk result (CollectorRan who.now rotate turns door.now 1 1000
+    ensures ran { OnOk result (CollectorRan who.now rotate turns door.now most 1000
         (S.told site.old) (S.told site.new)) }
-    ensures refused { IfErr result (λ fault. IsCutRun who.now rotate turns door.now 1 1000 fault
+    ensures refused { IfErr result (λ fault. IsCutRun who.now rotate turns door.now most 1000 fault
         (S.told site.old) (S.told site.new)) }
     ensures told { (stamped : List (List ℕ)) (started acting : List Process)
         → Contains started who.now → Contains acting who.now
@@ -57,11 +61,11 @@ pub fn collect<S: Site>(
     ensures cause { TurnCause (S.fault_count site.old) (S.fault_count site.new) result }
 {
     let mut collector = Collector::start(alloc, site, who, rotate)?;
-    run_turns(alloc, site, who, &mut collector, door, turns)?;
+    run_turns(alloc, site, who, &mut collector, door, turns, most)?;
     collector.finish(alloc, site)
 }
 
-// So many turns.
+// So many turns, each of at most so many messages.
 fn run_turns<S: Site>(
     alloc: Global,
     site: &mut S,
@@ -69,11 +73,12 @@ fn run_turns<S: Site>(
     collector: &mut Collector,
     door: &Word,
     turns: u64,
+    most: u64,
 ) -> Result<(), SinkFault>
     requires started { who.now ≡ process collector.old }
     requires named { IsTrue (is_collector who.now.name) }
     requires settled { IsSettled collector.old }
-    ensures script { AreTurned who.now door.now 1 1000 turns collector.old (S.told site.old) result
+    ensures script { AreTurned who.now door.now most 1000 turns collector.old (S.told site.old) result
         collector.new (S.told site.new) }
     ensures told { (stamped : List (List ℕ)) → Adds (S.told site.old) (S.told site.new)
         (Leads (Talking stamped who.now) (Matches stamped collector.old)
@@ -86,7 +91,7 @@ fn run_turns<S: Site>(
     ensures cause { TurnCause (S.fault_count site.old) (S.fault_count site.new) result }
 {
     for _turn in 0..turns {
-        collector_turn(alloc, site, who, collector, door)?;
+        collector_turn(alloc, site, who, collector, door, most)?;
     }
     Ok(())
 }

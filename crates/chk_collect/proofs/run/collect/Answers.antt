@@ -11,7 +11,7 @@ use Rattle.chk_collect.proofs.NamedFound.{finds_named}
 use Rattle.chk_collect.proofs.RunEnds.{started_by, unstarted_by, ran_by, unfinished_by, finished_by}
 use Rattle.chk_collect.proofs.Running.{who_is, made_quiet, last_start, started_told, unstarted_told, cut_ran, all_ran, together, finds_together}
 use Rattle.chk_collect.proofs.SettledSinks.{fresh_settled}
-use Rattle.chk_collect.proofs.Takings.{finds_none, finds_then, quiet_takes}
+use Rattle.chk_collect.proofs.Takings.{finds_none, finds_then, quiet_opens}
 use Rattle.chk_collect.proofs.TickEnds.{tick_cause}
 use Rattle.chk_collect.proofs.Turning.{same_process}
 use Rattle.chk_collect.proofs.run.collect.Goals as goal
@@ -47,7 +47,7 @@ returns-in_err-collector-clause-told g c stamped started acting one acts =
 pub returns-in_err-collector-clause-finds : goal.returns-in_err-collector-clause-finds
 returns-in_err-collector-clause-finds g c stamped started one =
     finds_none (Outside stamped started) c.args.who.now.name (Legal stamped)
-    (quiet_takes (made_quiet (c.start.ensures.told [])))
+    (quiet_opens (made_quiet (c.start.ensures.told [])))
 
 pub returns-in_err-collector-clause-named : goal.returns-in_err-collector-clause-named
 returns-in_err-collector-clause-named g c stamped started one =
@@ -146,7 +146,7 @@ returns-in_err-run_turns-clause-finds g c stamped started one =
     (started_told stamped c.args.who.now c.in_ok-collector.collector is
     (c.in_ok-collector.ensures.told stamped))
     (finds_none (Foreign stamped c.args.who.now) c.args.who.now.name (Legal stamped)
-    (quiet_takes (made_quiet (c.in_ok-collector.ensures.told []))))
+    (quiet_opens (made_quiet (c.in_ok-collector.ensures.told []))))
     (c.run_turns.ensures.finds stamped))
 
 pub returns-in_err-run_turns-clause-named : goal.returns-in_err-run_turns-clause-named
@@ -182,7 +182,7 @@ returns-in_err-run_turns-clause-cause g c =
 
 pub returns-clause-ran : goal.returns-clause-ran
 returns-clause-ran g c =
-    ran_by c.args.who.now c.args.rotate c.args.turns c.args.door.now c.in_ok-collector.collector
+    ran_by c.args.who.now c.args.rotate c.args.turns c.args.most c.args.door.now c.in_ok-collector.collector
     c.run_turns.new.collector c.finish.new.self
     (who_is c.args.who.now c.args.rotate c.in_ok-collector.collector c.requires.role
     c.in_ok-collector.ensures.fresh
@@ -212,7 +212,7 @@ returns-clause-ran g c =
 
 pub returns-clause-refused : goal.returns-clause-refused
 returns-clause-refused g c =
-    unfinished_by c.args.who.now c.args.rotate c.args.turns c.args.door.now
+    unfinished_by c.args.who.now c.args.rotate c.args.turns c.args.most c.args.door.now
     c.in_ok-collector.collector c.run_turns.new.collector c.finish.new.self
     (who_is c.args.who.now c.args.rotate c.in_ok-collector.collector c.requires.role
     c.in_ok-collector.ensures.fresh
@@ -265,11 +265,11 @@ returns-clause-finds g c stamped started one =
     (started_told stamped c.args.who.now c.in_ok-collector.collector is
     (c.in_ok-collector.ensures.told stamped))
     (finds_none (Foreign stamped c.args.who.now) c.args.who.now.name (Legal stamped)
-    (quiet_takes (made_quiet (c.in_ok-collector.ensures.told []))))
+    (quiet_opens (made_quiet (c.in_ok-collector.ensures.told []))))
     (finds_then c.args.who.now.name (c.in_ok-run_turns.ensures.told stamped)
     (c.run_turns.ensures.finds stamped)
     (finds_none (Foreign stamped c.args.who.now) c.args.who.now.name
-    (Matches stamped c.run_turns.new.collector) (quiet_takes (made_quiet (c.finish.ensures.told []))))))
+    (Matches stamped c.run_turns.new.collector) (quiet_opens (made_quiet (c.finish.ensures.told []))))))
 
 pub returns-clause-named : goal.returns-clause-named
 returns-clause-named g c stamped started one =

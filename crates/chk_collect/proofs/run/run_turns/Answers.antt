@@ -5,7 +5,7 @@ use Rattle.chk_collect.proofs.run.run_turns.Goals as goal
 
 pub loop-turn-init : goal.loop-turn-init
 loop-turn-init g c =
-    turns_begin c.args.who.now c.args.door.now c.args.collector.now
+    turns_begin c.args.who.now c.args.door.now c.args.most c.args.collector.now
     (g.S.Site.told c.args.site.now) (g.S.Site.fault_count c.args.site.now) c.requires.started
     c.requires.settled
 

@@ -131,7 +131,7 @@ returns-in_err-now-clause-cause g c =
 
 pub returns-clause-turn : goal.returns-clause-turn
 returns-clause-turn g c =
-    turn_by c.args.who.now c.args.door.now c.args.collector.now c.serve.new.collector
+    turn_by c.args.who.now c.args.door.now c.args.most c.args.collector.now c.serve.new.collector
     c.tick.new.self
     (c.requires.started ∙ sym (same_process c.args.collector.now c.serve.new.collector c.serve.ensures.same))
     c.in_ok-now.now c.tick.result
@@ -149,7 +149,7 @@ returns-clause-turn g c =
 
 pub returns-clause-refused : goal.returns-clause-refused
 returns-clause-refused g c =
-    cut_by c.args.who.now c.args.door.now c.args.collector.now c.serve.new.collector
+    cut_by c.args.who.now c.args.door.now c.args.most c.args.collector.now c.serve.new.collector
     c.tick.new.self
     (c.requires.started ∙ sym (same_process c.args.collector.now c.serve.new.collector c.serve.ensures.same))
     c.in_ok-now.now c.tick.result
@@ -181,7 +181,7 @@ returns-clause-told g c stamped =
 
 pub returns-clause-finds : goal.returns-clause-finds
 returns-clause-finds g c stamped settled =
-    finds_by stamped c.args.who.now c.args.door.now c.args.collector.now c.tick.new.self
+    finds_by stamped c.args.who.now c.args.door.now c.args.most c.args.collector.now c.tick.new.self
     c.requires.started
     (named_at c.args.collector.now c.args.who.now c.requires.started c.requires.named) settled
     c.tick.result (returns-clause-turn g c) (returns-clause-refused g c)
