@@ -41,8 +41,8 @@ pub record TurnsSoFar (who : Who) (door : List ℕ) (most n : ℕ) (first s : St
   pub settled : IsSettled s
   pub risen : MayHaveRisen before count
 
-pub turns_begin : (who : Who) (door : List ℕ) (most : ℕ) (s : State) (now : Option History) (count : ℕ)
-    → who ≡ process s → IsSettled s
+pub turns_begin : (who : Who) (door : List ℕ) (most : ℕ) (s : State) (now : Option History)
+    (count : ℕ) → who ≡ process s → IsSettled s
     → TurnsSoFar who door most 0 s s now now count count
 turns_begin who door most s now count is settled = record {
   who_is = is;
@@ -55,10 +55,9 @@ turns_begin who door most s now count is settled = record {
   risen = not_risen count;
 }
 
-module _ {who : Who} {door : List ℕ} {most n : ℕ} {first s : State} {old now : Option History} {before
-    count : ℕ}
-    (far : TurnsSoFar who door most n first s old now before count) (t : State) (new : Option History)
-    (later : ℕ) where
+module _ {who : Who} {door : List ℕ} {most n : ℕ} {first s : State} {old now : Option History}
+    {before count : ℕ} (far : TurnsSoFar who door most n first s old now before count) (t : State)
+    (new : Option History) (later : ℕ) where
   -- what one more turn says, with this result
   pub record TurnSays (result : Result (Unit {0}) SinkFault) : Type 0 where
     pub told : (stamped : List (List ℕ)) → Adds now new (Leads (Talking stamped who) (Matches
@@ -128,8 +127,8 @@ module _ {who : Who} {door : List ℕ} {most n : ℕ} {first s : State} {old now
     chain_cause = turn_after before count later (Err fault) far.risen says.cause
 
 -- all turns were done
-pub chain_over : {who : Who} {door : List ℕ} {most n : ℕ} {first s : State} {old now : Option History}
-    {before count : ℕ}
+pub chain_over : {who : Who} {door : List ℕ} {most n : ℕ} {first s : State}
+    {old now : Option History} {before count : ℕ}
     → TurnsSoFar who door most n first s old now before count
     → Adds old now (FailsLast {T = Unit {0}} (Ok tt))
 chain_over far = adds_as (FailsLast {T = Unit {0}} (Ok tt)) (far.told []) (λ a h x. tt)

@@ -37,12 +37,9 @@ Taken who door wait given old new = Adds old new
 
 module _ (stamped : List (List ℕ)) (s : State) (who : Who) (is : who ≡ process s)
     (named : IsTrue (is_collector who.name)) (door : List ℕ) (wait : ℕ) where
-  by_s : (given : Result (Option Taking) CallFault) {old new : Option History} → Taken who door wait given old new
-      → Adds old new (CallsSome (λ of. asked (process s) Take (door ∷ []) wait 0)
-      (λ of. answered (taking_given of) given))
-  by_s given {old = old} {new = new} =
-      subst (λ w. Adds old new (CallsSome (λ of. asked w Take (door ∷ []) wait 0)
-      (λ of. answered (taking_given of) given))) is
+  by_s : (given : Result (Option Taking) CallFault) {old new : Option History}
+      → Taken who door wait given old new → Taken (process s) door wait given old new
+  by_s given {old = old} {new = new} = subst (λ w. Taken w door wait given old new) is
 
   -- none was taken
   pub untaken_told : (given : Result (Option Taking) CallFault) {old new : Option History}

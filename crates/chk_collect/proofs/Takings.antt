@@ -129,7 +129,10 @@ finds_none S name A told = adds_as (Finds S name A) told (λ added history own o
     go : (added history : History) → Owns OpensNone added history
         → Every (FindsCommitted name) added history
     go [] history own = tt
-    go (step ∷ added) history own = (go added history own.0, λ mine opens. absurd (own.1 mine opens))
+    go (step ∷ added) history own = (
+      go added history own.0,
+      λ mine opens. absurd (own.1 mine opens),
+    )
 
 pub finds_then : {S : History → Step → Type 0} {Mine : History → Step
     → Type 0} (name : List ℕ) {A B : History → Type 0}
@@ -222,8 +225,8 @@ module _ (stamped : List (List ℕ)) (s : State) (settled : IsSettled s) where
       anyone (step ∷ added) history = (anyone added history, λ theirs. tt)
 
   -- of the takings of a turn and what comes of them
-  pub taken_finds : {door : List ℕ} {most wait : ℕ} {result : Result (Unit {0}) SinkFault} {u : State}
-      {old new : Option History}
+  pub taken_finds : {door : List ℕ} {most wait : ℕ} {result : Result (Unit {0}) SinkFault}
+      {u : State} {old new : Option History}
       → IsTakenUpTo (process s) door most wait s old result u new → Adds old new Found
   taken_finds enough = adds_none _ Found (λ history others h. tt)
   taken_finds {door = door} {wait = wait} (none call) = some_finds (λ of. asked (process s) Take

@@ -73,8 +73,8 @@ pub turn_by : (who : Who) (door : List ℕ) (most : ℕ) (s u t : State) → who
     → Adds taken timed (Calls (asked who Clock [] 0 0) (answered sized (Ok now)))
     → OnOk result (IsCollectorTurn who door most 1000 s old t new)
 turn_by who door most s u t is now (Err fault) says served call = tt
-turn_by who door most s u t is now (Ok value) {taken = taken} {timed = timed} {new = new} says served
-    call = record {
+turn_by who door most s u t is now (Ok value) {taken = taken} {timed = timed} {new = new} says
+    served call = record {
       u = u;
       taken = taken;
       messages = served;

@@ -42,8 +42,8 @@ pub same_process : (s u : State) → IsSameStart s u → process u ≡ process s
 same_process s u same = ap (λ n. record { role = Collector; name = n }) same.collector
 
 -- of the takings, the call that failed is the last one
-pub taken_last : {who : Who} {door : List ℕ} {most wait : ℕ} {s u : State} {result : Result (Unit {0})
-    SinkFault} {old new : Option History}
+pub taken_last : {who : Who} {door : List ℕ} {most wait : ℕ} {s u : State}
+    {result : Result (Unit {0}) SinkFault} {old new : Option History}
     → IsTakenUpTo who door most wait s old result u new → Adds old new (FailsLast result)
 taken_last enough = adds_none _ (FailsLast {T = Unit {0}} (Ok tt)) (λ h. tt)
 taken_last (none call) = adds_as (FailsLast {T = Unit {0}} (Ok tt)) call (λ a h calls. tt)
@@ -112,8 +112,8 @@ module _ (stamped : List (List ℕ)) (s : State) (named : IsTrue (is_collector s
       turn.messages)
       (call_opens _ (λ x. x) turn.clock)) (quiet_opens turn.tick.quiet)
 
-  cut_found : {door : List ℕ} {most wait : ℕ} {fault : SinkFault} {t : State} {old new : Option History}
-      → IsSettled s
+  cut_found : {door : List ℕ} {most wait : ℕ} {fault : SinkFault} {t : State}
+      {old new : Option History} → IsSettled s
       → IsCutTurn (process s) door most wait fault s old t new → FoundBy (process s) old new
   cut_found settled (untaken taken) = taken_finds stamped s settled taken
   cut_found settled (untimed given taken ends call) =
@@ -127,13 +127,15 @@ module _ (stamped : List (List ℕ)) (s : State) (named : IsTrue (is_collector s
   pub turn_finds : (who : Who) → who ≡ process s
       → {door : List ℕ} {most wait : ℕ} {t : State} {old new : Option History} → IsSettled s
       → IsCollectorTurn who door most wait s old t new → FoundBy who old new
-  turn_finds who is {door = door} {most = most} {wait = wait} {t = t} {old = old} {new = new} settled turn =
+  turn_finds who is {door = door} {most = most} {wait = wait} {t = t} {old = old} {new = new}
+      settled turn =
       subst (λ w. IsCollectorTurn w door most wait s old t new
       → FoundBy w old new) (sym is) (turn_found settled) turn
 
   pub cut_finds : (who : Who) → who ≡ process s
       → {door : List ℕ} {most wait : ℕ} (fault : SinkFault) {t : State} {old new : Option History}
       → IsSettled s → IsCutTurn who door most wait fault s old t new → FoundBy who old new
-  cut_finds who is {door = door} {most = most} {wait = wait} fault {t = t} {old = old} {new = new} settled turn =
+  cut_finds who is {door = door} {most = most} {wait = wait} fault {t = t} {old = old} {new = new}
+      settled turn =
       subst (λ w. IsCutTurn w door most wait fault s old t new
       → FoundBy w old new) (sym is) (cut_found settled) turn

@@ -160,9 +160,9 @@ EndsBy call (Err no_memory) fault = fault ≡ wanting
 EndsBy call given fault = ⊥
 
 -- At most so many messages are taken at the door and answered, each before the next is taken, up
--- to the first taking that gives none. The first one may wait so long, and each other one as long as
--- the number of bytes of the one before it says. A taking that fails ends the turn, and so does want
--- of memory.
+-- to the first taking that gives none. The first taking may wait so long, and each further one as
+-- long as the size of the message before it says. A taking that fails ends the turn, and so does
+-- want of memory.
 pub data IsTakenUpTo (who : Who) (door : List ℕ)
     : ℕ → ℕ → State → Option History → Result (Unit {0}) SinkFault → State → Option History
     → Type 0 where

@@ -95,8 +95,8 @@ fn answer<S: Site>(
     Ok(request.len())
 }
 
-/// Reads the message on, handles it and answers it once. A call that fails ends it. It tells how many
-/// bytes the message had where it was read to its end, and 0 where it broke off.
+/// Reads the message on, handles it and answers it once. A call that fails ends it. It tells how
+/// many bytes the message had where it was read to its end, and 0 where it broke off.
 pub(crate) fn handle<S: Site>(
     alloc: Global,
     site: &mut S,

@@ -26,11 +26,11 @@ use chk_site::{Site, Who};
 use std::alloc::Global;
 
 /// The command: starts the collector, runs so many turns at that door, each of at most `most`
-/// messages, and finishes. A turn waits up to 1,000 milliseconds for its first message; for a further
-/// one up to 20 behind one of 1,048,576 bytes or more, and else not at all. A further message is
-/// taken before what the earlier ones of its turn appended is committed. A sink is closed after
-/// `rotate` milliseconds. After a refusal nothing more is called, and the finished parts stand; the
-/// next start settles what was left.
+/// messages, and finishes. A turn waits up to 1,000 milliseconds for its first message; for a
+/// further one up to 20 behind one of 1,048,576 bytes or more, and else not at all. A further
+/// message is taken before what the earlier ones of its turn appended is committed. A sink is closed
+/// after `rotate` milliseconds. After a refusal nothing more is called, and the finished parts stand;
+/// the next start settles what was left.
 pub fn collect<S: Site>(
     alloc: Global,
     site: &mut S,

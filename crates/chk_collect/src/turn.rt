@@ -32,10 +32,10 @@ const WAIT: u64 = 1000;
 
 /// One turn at that door: it takes at most `most` messages, one after another and none where `most`
 /// is 0, asks the clock and ticks. It waits up to 1,000 milliseconds for the first message. For a
-/// further one it waits up to 20 where the one before it had 1,048,576 bytes or more, and else takes
-/// only what waits at the door already. The first taking that gives none ends the takings. Each
-/// message is read on while it isn't whole and has fewer than 4,210,688 bytes, and is answered before
-/// the next one is taken. A further message is taken before what the earlier ones appended is
+/// further one it waits up to 20 where the one before it had 1,048,576 bytes or more, and else it
+/// takes only what waits at the door already. The first taking that gives none ends the takings.
+/// Each message is read on while it isn't whole and has fewer than 4,210,688 bytes, and is answered
+/// before the next one is taken. A further message is taken before what the earlier ones appended is
 /// committed: the tick commits all of it. A call that fails while a message is read, handled or
 /// answered ends that message alone: `Outside` names the taking, the clock or a call of the tick.
 /// After a refusal the finished parts stand.

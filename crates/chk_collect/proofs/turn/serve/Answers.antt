@@ -12,12 +12,6 @@ loop-message-init g c =
     serving_begins c.args.who.now c.args.door.now c.args.most c.args.collector.now
     (g.S.Site.told c.args.site.now) (g.S.Site.fault_count c.args.site.now) c.requires.started
 
-pub handle-requires : goal.handle-requires
-handle-requires g c = record {
-  started = c.loop-message.invariant.who_is;
-  named = c.requires.named;
-}
-
 pub loop-message-preserved : goal.loop-message-preserved
 loop-message-preserved g c =
     let far = c.loop-message.invariant in
@@ -47,9 +41,6 @@ returns-in_err-taken-clause-told g c stamped =
     (untaken_told stamped c.loop-message.collector c.args.who.now far.who_is c.requires.named
     c.args.door.now c.loop-message.wait c.in_err-taken.ensures.call.0
     c.in_err-taken.ensures.call.2)
-
-pub returns-in_err-taken-clause-same : goal.returns-in_err-taken-clause-same
-returns-in_err-taken-clause-same g c = c.loop-message.invariant.same
 
 pub returns-in_err-taken-clause-only : goal.returns-in_err-taken-clause-only
 returns-in_err-taken-clause-only g c =
@@ -81,9 +72,6 @@ returns-in_default-clause-told g c stamped =
     served_on far stamped
     (untaken_told stamped c.loop-message.collector c.args.who.now far.who_is c.requires.named
     c.args.door.now c.loop-message.wait (Ok c.in_ok-taken.taken) c.in_ok-taken.ensures.call)
-
-pub returns-in_default-clause-same : goal.returns-in_default-clause-same
-returns-in_default-clause-same g c = c.loop-message.invariant.same
 
 pub returns-in_default-clause-last : goal.returns-in_default-clause-last
 returns-in_default-clause-last g c = taken_last (returns-in_default-clause-script g c)
@@ -131,14 +119,5 @@ returns-in_err-size-clause-cause g c =
 pub returns-clause-script : goal.returns-clause-script
 returns-clause-script g c = serving_over c.loop-message.invariant (omega arith)
 
-pub returns-clause-told : goal.returns-clause-told
-returns-clause-told g c stamped = c.loop-message.invariant.told stamped
-
-pub returns-clause-same : goal.returns-clause-same
-returns-clause-same g c = c.loop-message.invariant.same
-
 pub returns-clause-last : goal.returns-clause-last
 returns-clause-last g c = taken_last (returns-clause-script g c)
-
-pub returns-clause-cause : goal.returns-clause-cause
-returns-clause-cause g c = c.loop-message.invariant.risen
