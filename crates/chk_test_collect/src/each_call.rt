@@ -75,8 +75,8 @@ fn is_counted(alloc: Global, count: u64, rows: &str) -> Result<(), Fail> {
     posts(alloc, &mut site, count)?;
     let sent = site.acts().len();
     ends_well(alloc, &mut site, 1, count)?;
-    let calls = rows.lines().count();
-    expect(site.acts().len() - sent == calls, "another count of calls")
+    let all = rows.lines().count().saturating_add(sent);
+    expect(site.acts().len() == all, "another count of calls")
 }
 
 // Those are all calls of a turn with one post, and of a turn with two.
