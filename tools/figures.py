@@ -1,7 +1,8 @@
 #!/usr/bin/env python3
 """Times logs through `drain` or `agent` and a `collector` over 127.0.0.1 into committed sinks, beside copies.
 
-usage: tools/figures.py [--mb N] [--logs N]... [--only drain|agent] [--tenfold] [--rounds N] [--program FILE]
+usage: tools/figures.py [--mb N] [--logs N]... [--only drain|agent] [--messages N] [--tenfold] [--rounds N]
+                        [--program FILE]
 
 N megabytes (200) of lines of 100 to 300 bytes stand in logs in a new folder below the current one, which
 needs four times the bytes. A `drain` of 1 log, and an `agent` with `--poll 200` over 64 logs, or each of
@@ -15,7 +16,8 @@ A row has MB/s, seconds, processor seconds and the peak of the resident memory. 
 change the status: a drain has half of sendfile's MB/s, and each process holds less than 48 MB. An agent
 pauses 200 ms in each turn, in which it takes at most 131,072 bytes of a log and posts at most 4,194,304:
 its row tells how much of that ceiling it has, and its logs have no more bytes than 15 seconds of it.
-`--tenfold` drains logs that are ten times as long too, to show that the memory is the same.
+`--tenfold` drains logs that are ten times as long too, to show that the memory is the same. `--messages N`
+is given to the collector, so that one commit stands for up to N posts; where N isn't 1 the rows say so.
 """
 import os
 import signal
@@ -45,6 +47,7 @@ class Delivery:
 
     def __init__(self, asked, folder, paths):
         self.program, self.seconds, self.folder, self.paths = asked.program, asked.seconds, folder, paths
+        self.options = [] if asked.messages == 1 else ["--messages", str(asked.messages)]
         self.size = sum(os.path.getsize(f"{folder}/{path}") for path in paths)
         self.door = f"127.0.0.1:{free_ports(1)[0]}"
         self.collector = self.sender = None
@@ -52,7 +55,7 @@ class Delivery:
             file.write("".join(f"add FileTailingAdaptor Log {path} 0\n" for path in paths))
 
     def open(self):
-        self.collector = Used([self.program, "collector", "c1", self.door], self.folder)
+        self.collector = Used([self.program, "collector", *self.options, "c1", self.door], self.folder)
         while not listening(int(self.door.rpartition(":")[2])):
             self.goes_on(self.collector.look())
 
@@ -131,12 +134,18 @@ def sized(size, count):
     return f"{size / 1e6:.0f} MB in {count} log{'s' if count > 1 else ''}"
 
 
+def served(asked):
+    """What the rows of a delivery say of its collector."""
+    return "" if asked.messages == 1 else f", {asked.messages} messages a commit"
+
+
 def drained(asked, size, count):
     what = sized(size, count)
     with tempfile.TemporaryDirectory(dir=".", prefix="figures-") as folder:
         paths = copies.write_logs(folder, size, count)
         sent = copied(what, size, folder)
         drain, collector = delivered(asked, folder, paths, Delivery.drain)
+    what += served(asked)
     print(row(f"{what}: drain", size, drain))
     print(row(f"{what}: its collector", size, collector))
     print(copies.share(f"{what}: drain and sendfile", drain, sent, SHARE_GOAL, collector), flush=True)
@@ -149,6 +158,7 @@ def followed(asked, size, count):
         paths = copies.write_logs(folder, size, count)
         sent = copied(what, size, folder)
         agent, collector = delivered(asked, folder, paths, Delivery.agent)
+    what += served(asked)
     print(row(f"{what}: agent", size, agent))
     print(row(f"{what}: its collector", size, collector))
     part = 100 * size / agent.seconds / ceiling(count)
@@ -161,6 +171,7 @@ def main():
     parser.add_argument("--mb", type=int, default=200, help="megabytes of lines (200)")
     parser.add_argument("--logs", type=int, action="append", help="numbers of logs (drain 1, agent 64)")
     parser.add_argument("--only", choices=["drain", "agent"], help="one of both alone")
+    parser.add_argument("--messages", type=int, default=1, help="messages between two commits, up to 64 (1)")
     parser.add_argument("--tenfold", action="store_true", help="a drain of ten times the bytes too")
     parser.add_argument("--rounds", type=int, default=1, help="runs of each row (1)")
     parser.add_argument("--seconds", type=int, default=200, help="what a delivery may take (200)")

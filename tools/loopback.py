@@ -305,14 +305,15 @@ def control_session(room):
 
 
 class Pair:
-    """Two agents, each in a folder of its own, and two collectors in one, and a log of each agent."""
+    """Two agents, each in a folder of its own and with a log, and two collectors in one folder, with these options."""
 
-    def __init__(self, room, count):
+    def __init__(self, room, count, *options):
         self.room, self.logs, self.doors, self.collectors, self.agents = room, {}, [], [], []
+        self.options = ["--rotate", "500", *options]
         for name in ("h1", "h2", "store"):
             os.mkdir(f"{room.folder}/{name}")
         for name in ("c1", "c2"):
-            collector, door = opened(room, "--rotate", "500", name=name, below="store")
+            collector, door = opened(room, *self.options, name=name, below="store")
             self.collectors.append(collector)
             self.doors.append(door)
         self.controls = dict(zip(("h1", "h2"), free_ports(2)))
@@ -335,7 +336,7 @@ class Pair:
         until("some is committed", 30, lambda: sum(self.committed()) > 0)
         self.collectors[0].kill()
         time.sleep(0.5)
-        self.collectors[0] = self.room.start("collector", "--rotate", "500", "c1", self.doors[0], below="store")
+        self.collectors[0] = self.room.start("collector", *self.options, "c1", self.doors[0], below="store")
 
     def close(self):
         """The collectors end, close their sinks at a further start, and the job runs."""
@@ -347,8 +348,8 @@ class Pair:
 
 
 def killed_collector(room):
-    """Of two collectors one is killed and started again: the agents deliver all."""
-    pair = Pair(room, 20_000)
+    """Of two collectors that commit up to eight messages at once one is killed and begins again: all is delivered."""
+    pair = Pair(room, 20_000, "--messages", "8")
     pair.start_agents()
     pair.kill_and_start()
     ends = [len(log) for log in pair.logs.values()]

@@ -4,17 +4,17 @@
 usage: tools/soak.py [--seconds N] [--seed N] [--kb N] [--program FILE]
 
 Two agents, two collectors and the jobs `archive` and `demux` run as programs on 127.0.0.1, in a new folder
-below the current one. Logs of each reader's class grow and are rotated, and generations that the checkpoint
-has passed are deleted. Each process is killed with SIGKILL at random and started again. All along, the archive
-of each log has to be a prefix of it, and the records of `demux` its lines from the first one on. After N
-seconds (60) nothing is killed any more: the agents run until all is committed, the collectors close their
-sinks, the jobs run, and the archives have to be the logs, and the records their lines. At most five minutes
-later the script is over. All logs together grow by N kilobytes a second (400), and the folder takes about six
-times their bytes; a slow machine wants fewer, since an agent whose collector takes two seconds for a post
-sends it again. A line each minute, and at the end, tells the kills of each process, the rotations and the
-deleted generations, the runs of jobs and the comparisons. It ends with 1 where a byte is lost, doubled or in a
-wrong place, where a process ended by itself, or where not all was committed in time. The seed of what is done
-at random is told; the same seed doesn't give the same moments.
+below the current one. The collector c1 commits each message by itself, c2 up to eight at a time. Logs of each
+reader's class grow and are rotated, and generations that the checkpoint has passed are deleted. Each process is
+killed with SIGKILL at random and started again. All along, the archive of each log has to be a prefix of it,
+and the records of `demux` its lines from the first one on. After N seconds (60) nothing is killed any more: the
+agents run until all is committed, the collectors close their sinks, the jobs run, and the archives have to be
+the logs, and the records their lines. At most five minutes later the script is over. All logs together grow by
+N kilobytes a second (400), and the folder takes about six times their bytes; a slow machine wants fewer, since
+an agent whose collector takes two seconds for a post sends it again. A line each minute, and at the end, tells
+the kills of each process, the rotations and the deleted generations, the runs of jobs and the comparisons. It
+ends with 1 where a byte is lost, doubled or in a wrong place, where a process ended by itself, or where not all
+was committed in time. The seed of what is done at random is told; the same seed doesn't give the same moments.
 """
 import os
 import random
@@ -181,8 +181,10 @@ class Soak:
         self.faults.append(what)
 
     def start(self):
-        for name, address in zip(("c1", "c2"), self.addresses):
-            self.servers.append(Server(self, name, [self.program, "collector", "--rotate", "900", name, address]))
+        for number, address in enumerate(self.addresses, 1):
+            messages = ["--messages", "8"] if number == 2 else []
+            words = [self.program, "collector", "--rotate", "900", *messages, f"c{number}", address]
+            self.servers.append(Server(self, f"c{number}", words))
         for source in ("h1", "h2"):
             with open(f"{self.folder}/{source}.add", "w", encoding="ascii") as file:
                 file.write("".join(log.line for log in self.logs if log.source == source))

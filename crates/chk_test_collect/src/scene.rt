@@ -76,16 +76,21 @@ pub fn gets(alloc: Global, site: &mut SiteMem, message: u64, wanted: &[u8]) -> R
     }
 }
 
-// The command with so many turns, and a rotation of five minutes.
-pub fn runs(alloc: Global, site: &mut SiteMem, turns: u64) -> Result<Result<(), SinkFault>, Fail> {
+// The command with so many turns of at most so many messages, and a rotation of five minutes.
+pub fn runs(
+    alloc: Global,
+    site: &mut SiteMem,
+    turns: u64,
+    most: u64,
+) -> Result<Result<(), SinkFault>, Fail> {
     let who = first(alloc)?;
     let door = door(alloc)?;
-    Ok(collect(alloc, site, &who, 300_000, turns, &door))
+    Ok(collect(alloc, site, &who, 300_000, turns, most, &door))
 }
 
-// The command with so many turns ends well.
-pub fn ends_well(alloc: Global, site: &mut SiteMem, turns: u64) -> Result<(), Fail> {
-    let result = runs(alloc, site, turns)?;
+// The command with so many turns of at most so many messages ends well.
+pub fn ends_well(alloc: Global, site: &mut SiteMem, turns: u64, most: u64) -> Result<(), Fail> {
+    let result = runs(alloc, site, turns, most)?;
     expect(ending(&result) == "ok", "another end")
 }
 

@@ -40,6 +40,17 @@ size sinks/c1.1.1.chukwa => none
 size sinks/c1.1.1.done => 144
 is sinks/c1.1.1.done HEADER C1_1_1 HELLO
 got 1 => HTTP/1.1 200 OK\r|Content-Type: text/plain\r|Content-Length: 11\r|Connection: close\r|\r|c1.1.1 144|
+
+two posts that wait are taken in one turn of two, by one commit
+send POST => 1
+send POST => 2
+run collector --turns 1 --messages 2 c1 c1:80 => 0
+count take => 2
+count answer => 2
+count sync => 3
+count rename => 3
+size sinks/c1.1.1.done => 192
+got 2 => HTTP/1.1 200 OK\r|Content-Type: text/plain\r|Content-Length: 11\r|Connection: close\r|\r|c1.1.1 192|
 ";
 
 #[test]

@@ -11,7 +11,7 @@ const ROUND: &str =
 const AGENT: &str =
     "usage: chukwa agent [--initial FILE] [--control ADDRESS] [--turns N] [--poll MS] [--expire MS] [--cluster NAME] SOURCE COLLECTOR...|";
 
-const COLLECTOR: &str = "usage: chukwa collector [--rotate MS] [--turns N] NAME ADDRESS|";
+const COLLECTOR: &str = "usage: chukwa collector [--rotate MS] [--turns N] [--messages N] NAME ADDRESS|";
 
 const DRAIN: &str =
     "usage: chukwa drain [--initial FILE] [--reads N] [--polls N] [--cluster NAME] SOURCE COLLECTOR...|";
@@ -51,6 +51,8 @@ collector c1 c1:80 more
 collector c.1 c1:80
 collector --turns 0 c1 c1:80
 collector --turns 9223372036854775808 c1 c1:80
+collector --messages 0 c1 c1:80
+collector --messages 65 c1 c1:80
 collector --poll 1 c1 c1:80
 ";
 

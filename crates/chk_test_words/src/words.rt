@@ -123,6 +123,9 @@ fn other_refusals(rt: HostRuntime) -> Result<(), NoMemory> {
         ("collector c.1 A", Usage::Collector),
         ("collector --turns 0 c1 A", Usage::Collector),
         ("collector --rotate -1 c1 A", Usage::Collector),
+        ("collector --messages 0 c1 A", Usage::Collector),
+        ("collector --messages 65 c1 A", Usage::Collector),
+        ("collector --messages= c1 A", Usage::Collector),
         ("collector --rotate 1 --rotate=2 c1 A", Usage::Collector),
         ("collector --cluster x c1 A", Usage::Collector),
         ("drain h1", Usage::Drain),
@@ -181,11 +184,11 @@ fn commands(rt: HostRuntime) -> Result<(), NoMemory> {
         ),
         (
             "collector c1 A",
-            "Collector(CollectorWords { rotate: 300000, turns: 9223372036854775807, name: \"c1\", address: \"A\" })",
+            "Collector(CollectorWords { rotate: 300000, turns: 9223372036854775807, messages: 1, name: \"c1\", address: \"A\" })",
         ),
         (
-            "collector c-1 --turns 0000000000000000001 127.0.0.1:80 --rotate 0",
-            "Collector(CollectorWords { rotate: 0, turns: 1, name: \"c-1\", address: \"127.0.0.1:80\" })",
+            "collector c-1 --turns 0000000000000000001 127.0.0.1:80 --rotate 0 --messages 64",
+            "Collector(CollectorWords { rotate: 0, turns: 1, messages: 64, name: \"c-1\", address: \"127.0.0.1:80\" })",
         ),
         (
             "drain h1 A B",

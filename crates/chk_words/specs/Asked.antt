@@ -78,19 +78,25 @@ asked_agent rows =
     given (cluster_in rows) (λ cluster.
     given (plain_of rows) (agent_with initial control turns poll expire cluster)))))))
 
--- `collector [--rotate MS] [--turns N] NAME ADDRESS`
-abbrev pub collector_with : ℕ → ℕ → List (List ℕ) → Option Asked
-collector_with rotate turns (name ∷ address ∷ []) =
+-- `collector [--rotate MS] [--turns N] [--messages N] NAME ADDRESS`
+abbrev pub collector_with : ℕ → ℕ → ℕ → List (List ℕ) → Option Asked
+collector_with rotate turns messages (name ∷ address ∷ []) =
     if is_collector name && is_word address
-    then Some (Collector (record { rotate = rotate; turns = turns; name = name; address = address }))
-    else None
-collector_with rotate turns plain = None
+    then Some (Collector (record {
+      rotate = rotate;
+      turns = turns;
+      messages = messages;
+      name = name;
+      address = address;
+    })) else None
+collector_with rotate turns messages plain = None
 
 abbrev pub asked_collector : List Row → Option Asked
 asked_collector rows =
     given (by_option 300000 (number_in 0 most) (codes "rotate") rows) (λ rotate.
     given (turns_in rows) (λ turns.
-    given (plain_of rows) (collector_with rotate turns)))
+    given (by_option 1 (number_in 1 64) (codes "messages") rows) (λ messages.
+    given (plain_of rows) (collector_with rotate turns messages))))
 
 -- `drain [--initial FILE] [--reads N] [--polls N] [--cluster NAME] SOURCE COLLECTOR...`
 abbrev pub drain_with : Option (List ℕ) → ℕ → ℕ → List ℕ → List (List ℕ) → Option Asked

@@ -34,6 +34,7 @@ pub record AgentAsked : Type 0 where
 pub record CollectorAsked : Type 0 where
   pub rotate : ℕ
   pub turns : ℕ
+  pub messages : ℕ
   pub name : List ℕ
   pub address : List ℕ
 
@@ -84,6 +85,7 @@ abbrev pub collector_of : CollectorWords → CollectorAsked
 collector_of w = record {
   rotate = w.rotate;
   turns = w.turns;
+  messages = w.messages;
   name = w.name.now;
   address = w.address.now;
 }

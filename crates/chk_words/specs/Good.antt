@@ -32,7 +32,7 @@ IsGoodAgent w =
 abbrev pub IsGoodCollector : CollectorAsked → Type 0
 IsGoodCollector w =
     IsTrue (is_collector w.name) × IsTrue (is_word w.address)
-    × IsIn 0 most w.rotate × IsIn 1 most w.turns
+    × IsIn 0 most w.rotate × IsIn 1 most w.turns × IsIn 1 64 w.messages
 
 -- the words of `drain`
 abbrev pub IsGoodDrain : DrainAsked → Type 0

@@ -25,7 +25,7 @@ abbrev pub option_names : Usage → List (List ℕ)
 option_names Round = codes "class" ∷ codes "reads" ∷ codes "cluster" ∷ []
 option_names Agent =
     codes "initial" ∷ codes "control" ∷ codes "turns" ∷ codes "poll" ∷ codes "expire" ∷ codes "cluster" ∷ []
-option_names Collector = codes "rotate" ∷ codes "turns" ∷ []
+option_names Collector = codes "rotate" ∷ codes "turns" ∷ codes "messages" ∷ []
 option_names Drain = codes "initial" ∷ codes "reads" ∷ codes "polls" ∷ codes "cluster" ∷ []
 option_names usage = []
 
@@ -36,7 +36,8 @@ usage_text Round =
     codes "usage: chukwa round [--class CLASS] [--reads N] [--cluster NAME] SOURCE TYPE LOG...\n"
 usage_text Agent =
     codes "usage: chukwa agent [--initial FILE] [--control ADDRESS] [--turns N] [--poll MS] [--expire MS] [--cluster NAME] SOURCE COLLECTOR...\n"
-usage_text Collector = codes "usage: chukwa collector [--rotate MS] [--turns N] NAME ADDRESS\n"
+usage_text Collector =
+    codes "usage: chukwa collector [--rotate MS] [--turns N] [--messages N] NAME ADDRESS\n"
 usage_text Drain =
     codes "usage: chukwa drain [--initial FILE] [--reads N] [--polls N] [--cluster NAME] SOURCE COLLECTOR...\n"
 usage_text Archive = codes "usage: chukwa archive\n"

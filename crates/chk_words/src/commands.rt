@@ -65,6 +65,8 @@ pub struct CollectorWords<'a> {
     pub rotate: u64,
     /// How many turns it runs, from 1.
     pub turns: u64,
+    /// How many messages it takes at most between two commits, from 1 to 64.
+    pub messages: u64,
     /// The collector's name, of 1 to 64 bytes.
     pub name: &'a str,
     /// The address at which it takes messages.

@@ -18,6 +18,9 @@ const MOST: u64 = (1 << 63) - 1;
 // The most collectors of an agent.
 const MOST_COLLECTORS: usize = 64;
 
+// The most messages that a collector takes between two commits.
+const MOST_MESSAGES: u64 = 64;
+
 /// Reads the words behind the program's name. `Usage` comes exactly where they aren't a command;
 /// `usage_of` says which line tells how they should have been. A parse takes memory for the
 /// options and for one reference a word.
@@ -112,11 +115,13 @@ fn read_collector<'a>(given: &Given<'a>) -> Option<Command<'a>>
 {
     let rotate = given.number("rotate", 300_000, 0, MOST)?;
     let turns = given.number("turns", MOST, 1, MOST)?;
+    let messages = given.number("messages", 1, 1, MOST_MESSAGES)?;
     match given.plain()? {
         [name, address] if is_collector(name) && is_word(address) => {
             Some(Command::Collector(CollectorWords {
                 rotate,
                 turns,
+                messages,
                 name,
                 address,
             }))

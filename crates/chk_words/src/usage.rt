@@ -9,7 +9,7 @@ static ROUND: [&str; 3] = ["class", "reads", "cluster"];
 
 static AGENT: [&str; 6] = ["initial", "control", "turns", "poll", "expire", "cluster"];
 
-static COLLECTOR: [&str; 2] = ["rotate", "turns"];
+static COLLECTOR: [&str; 3] = ["rotate", "turns", "messages"];
 
 static DRAIN: [&str; 4] = ["initial", "reads", "polls", "cluster"];
 
@@ -45,7 +45,9 @@ impl Usage {
             Usage::Agent => {
                 "usage: chukwa agent [--initial FILE] [--control ADDRESS] [--turns N] [--poll MS] [--expire MS] [--cluster NAME] SOURCE COLLECTOR...\n"
             }
-            Usage::Collector => "usage: chukwa collector [--rotate MS] [--turns N] NAME ADDRESS\n",
+            Usage::Collector => {
+                "usage: chukwa collector [--rotate MS] [--turns N] [--messages N] NAME ADDRESS\n"
+            }
             Usage::Drain => {
                 "usage: chukwa drain [--initial FILE] [--reads N] [--polls N] [--cluster NAME] SOURCE COLLECTOR...\n"
             }
