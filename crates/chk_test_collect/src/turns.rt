@@ -198,8 +198,8 @@ fn waits_behind(alloc: Global, size: usize, wait: u64) -> Result<(), Fail> {
 #[test]
 fn a_further_message(rt: HostRuntime) -> Result<(), Fail> {
     waits(rt.alloc(), POST, 0)?;
-    waits_behind(rt.alloc(), 1_048_575, 0)?;
-    waits_behind(rt.alloc(), 1_048_576, 20)
+    waits_behind(rt.alloc(), 3_932_159, 0)?;
+    waits_behind(rt.alloc(), 3_932_160, 20)
 }
 
 // The call for more is number 11: the message isn't answered, and the turn goes on.
