@@ -43,7 +43,15 @@ pub fn run_collector<S: Site>(
     let Ok(door) = Word::from_text(alloc, given.address) else {
         return Err(Ending::NoMemory);
     };
-    match collect(alloc, site, &who, given.rotate, given.turns, given.messages, &door) {
+    match collect(
+        alloc,
+        site,
+        &who,
+        given.rotate,
+        given.turns,
+        given.messages,
+        &door,
+    ) {
         Ok(()) => Ok(()),
         Err(fault) => Err(ending_of(fault)),
     }
