@@ -45,18 +45,27 @@ module _ (w : CollectorAsked) where
   abbrev C : Who
   C = the_collector w.name
 
+  -- the script of the run, and the one that was cut short by this fault
+  abbrev pub Ran : Option History → Option History → Type 0
+  Ran old new = CollectorRan C w.rotate w.turns w.address w.messages 1000 old new
+
+  abbrev pub Cut : SinkFault → Option History → Option History → Type 0
+  Cut fault old new = IsCutRun C w.rotate w.turns w.address w.messages 1000 fault old new
+
   -- what the library says of the run, between these told histories
   pub record IsCollection (result : Result (Unit {0}) SinkFault) (old new : Option History) : Type 0 where
-    pub ran : OnOk result (CollectorRan C w.rotate w.turns w.address 1 1000 old new)
-    pub refused : IfErr result (λ fault. IsCutRun C w.rotate w.turns w.address 1 1000 fault old new)
+    pub ran : OnOk result (Ran old new)
+    pub refused : IfErr result (λ fault. Cut fault old new)
     pub told : (stamped : List (List ℕ)) → Adds old new (Leads (RunSide stamped (Collector w)) (Legal stamped) (Collected stamped C result))
     pub finds : (stamped : List (List ℕ)) → Adds old new (Finds (OfOthers stamped (C ∷ [])) w.name (Legal stamped))
     pub spent : IsLastStart result
     pub last : Adds old new (FailsLast result)
 
   -- by the acts alone
-  cut_so : (fault : SinkFault) (added history : History) → IsCutRun C w.rotate w.turns w.address 1 1000 fault (Some history) (Some (added ++ history))
-      → IsLastStart {T = Unit {0}} (Err fault) → FailsLast {T = Unit {0}} (Err fault) added history → is_stopped (added ++ history) ≡ false
+  cut_so : (fault : SinkFault) (added history : History)
+      → Cut fault (Some history) (Some (added ++ history))
+      → IsLastStart {T = Unit {0}} (Err fault) → FailsLast {T = Unit {0}} (Err fault) added history
+      → is_stopped (added ++ history) ≡ false
       → CollectorCut w history (sink_ending fault) added
   cut_so (Sinks.Outside call) added history cut spent last running = (failed_last added call (last running), cut)
   cut_so (Sinks.Damaged name at) added history cut spent last running = cut
@@ -68,16 +77,16 @@ module _ (w : CollectorAsked) where
       → CausedBy (Collector w) (ending result) added history
   caused (Ok value) {old = old} s added history is to last =
       let script : CollectorScript w history added =
-      subst (λ (o : Option History). CollectorRan C w.rotate w.turns w.address 1 1000 o (Some (added ++ history))) is
-      (subst (λ (n : Option History). CollectorRan C w.rotate w.turns w.address 1 1000 old n) to s.ran) in
+      subst (λ (o : Option History). Ran o (Some (added ++ history))) is
+      (subst (λ (n : Option History). Ran old n) to s.ran) in
       record {
         running = λ r. script;
         stopped = λ stop. absurd (true≢false (sym stop ∙ ran_alive script));
       }
   caused (Err fault) {old = old} s added history is to last =
       let cut : IsCutAt w fault history added =
-      subst (λ (o : Option History). IsCutRun C w.rotate w.turns w.address 1 1000 fault o (Some (added ++ history))) is
-      (subst (λ (n : Option History). IsCutRun C w.rotate w.turns w.address 1 1000 fault old n) to s.refused) in
+      subst (λ (o : Option History). Cut fault o (Some (added ++ history))) is
+      (subst (λ (n : Option History). Cut fault old n) to s.refused) in
       record {
         running = λ r. cut_so fault added history cut s.spent last r;
         stopped = λ stop. tt;
@@ -145,8 +154,8 @@ module _ (w : CollectorAsked) where
 
   -- the same of a process and a door of these names
   pub record IsGiven (result : Result (Unit {0}) SinkFault) (old new : Option History) (who : Who) (door : List ℕ) : Type 0 where
-    pub ran : OnOk result (CollectorRan who w.rotate w.turns door 1 1000 old new)
-    pub refused : IfErr result (λ fault. IsCutRun who w.rotate w.turns door 1 1000 fault old new)
+    pub ran : OnOk result (CollectorRan who w.rotate w.turns door w.messages 1000 old new)
+    pub refused : IfErr result (λ fault. IsCutRun who w.rotate w.turns door w.messages 1000 fault old new)
     pub told : (stamped : List (List ℕ)) (started acting : List Who) → Contains started who → Contains acting who
         → Adds old new (Leads (Together stamped started acting) (Legal stamped) (Collected stamped who result))
     pub finds : (stamped : List (List ℕ)) (started : List Who) → Contains started who

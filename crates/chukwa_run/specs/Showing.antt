@@ -81,7 +81,7 @@ AgentFits w earlier e added = Unit {0}
 -- where the script of the run was cut short by this fault
 abbrev pub IsCutAt : CollectorAsked → SinkFault → History → History → Type 0
 IsCutAt w fault earlier added =
-    IsCutRun (the_collector w.name) w.rotate w.turns w.address 1 1000 fault (Some earlier) (Some (added ++ earlier))
+    IsCutRun (the_collector w.name) w.rotate w.turns w.address w.messages 1000 fault (Some earlier) (Some (added ++ earlier))
 
 abbrev pub CollectorCut : CollectorAsked → History → Ending → History → Type 0
 CollectorCut w earlier (Outside call) added = FailedLast call (own_acts added) × IsCutAt w (Sinks.Outside call) earlier added

@@ -75,13 +75,14 @@ AgentWhole w earlier added = (end : Ended) × AgentScript w (Ok end) earlier add
 
 -- ---- a collector
 
--- the script of the run: the start, so many turns at the address, each of at most one message that is waited for 1,000 ms, and
--- the end
+-- the script of the run: the start, so many turns at the address, each of at most so many messages, of which the first one is
+-- waited for 1,000 ms, and the end
 abbrev pub CollectorScript : CollectorAsked → History → History → Type 0
 CollectorScript w earlier added =
-    CollectorRan (the_collector w.name) w.rotate w.turns w.address 1 1000 (Some earlier) (Some (added ++ earlier))
+    CollectorRan (the_collector w.name) w.rotate w.turns w.address w.messages 1000 (Some earlier) (Some (added ++ earlier))
 
--- at each taking all of each sink under writing is committed, and at the end none is under writing
+-- at each taking that may wait 1,000 ms, which is the first of a turn, all of each sink under writing is committed, and at the
+-- end none is under writing
 pub record CollectorWhole (w : CollectorAsked) (earlier added : History) : Type 0 where
   pub ran : CollectorScript w earlier added
   pub committed : Every (FindsCommitted w.name) added earlier

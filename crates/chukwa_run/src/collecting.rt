@@ -20,8 +20,9 @@ use chk_site::{Role, Site, Who};
 use chk_words::{CollectorWords, Ending};
 use std::alloc::Global;
 
-/// Starts the collector, runs its turns at the address, and finishes. A message whose reading or
-/// answering fails ends alone; any other call that fails ends the run.
+/// Starts the collector, runs its turns at the address, each of at most so many messages, and
+/// finishes. A message whose reading or answering fails ends alone; any other call that fails ends
+/// the run.
 pub fn run_collector<S: Site>(
     alloc: Global,
     site: &mut S,
@@ -42,7 +43,15 @@ pub fn run_collector<S: Site>(
     let Ok(door) = Word::from_text(alloc, given.address) else {
         return Err(Ending::NoMemory);
     };
-    match collect(alloc, site, &who, given.rotate, given.turns, &door) {
+    match collect(
+        alloc,
+        site,
+        &who,
+        given.rotate,
+        given.turns,
+        given.messages,
+        &door,
+    ) {
         Ok(()) => Ok(()),
         Err(fault) => Err(ending_of(fault)),
     }

@@ -44,8 +44,9 @@ use std::alloc::Global;
 /// the agent SOURCE, adds the streams of FILE, and in each turn does what the messages at its control door ask for, reads its
 /// logs, posts and polls, settles, and pauses for 200 ms.
 ///
-/// `collector [--rotate MS] [--turns N] NAME ADDRESS` starts the collector NAME, and in each turn takes at most one message at
-/// ADDRESS within 1,000 ms, answers it, asks the clock and ticks. At its end it closes its sink.
+/// `collector [--rotate MS] [--turns N] [--messages N] NAME ADDRESS` starts the collector NAME, and in each turn takes at most
+/// `--messages` messages at ADDRESS (1 by default), the first one within 1,000 ms, answers each before it takes the next, asks the
+/// clock and ticks, which commits all of them. At its end it closes its sink.
 ///
 /// `drain [--initial FILE] [--reads N] [--polls N] [--cluster NAME] SOURCE COLLECTOR...` starts the
 /// agent SOURCE, adds the streams of FILE, reads each log to its end, posts what they gave, polls

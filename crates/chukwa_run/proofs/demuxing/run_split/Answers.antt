@@ -1,4 +1,4 @@
-use Rattle.std.proofs.Common.{Ok, Err, ℕ, List, map, Bor, sym, subst, ◌∙◌, ap}
+use Rattle.std.proofs.Common.{Ok, Err, ℕ, List, map, Bor, sym, subst, ◌∙◌}
 use Rattle.chk_demux.specs.Demuxed.{NamesStamped}
 use Rattle.chk_words.specs.Commands.{Demux}
 use Rattle.chukwa_run.proofs.DemuxRun.{causes, told}
