@@ -332,8 +332,8 @@ class Pair:
         return [committed(self.room, source, path, below=source) for source, _, path in self.logs]
 
     def kill_and_start(self):
-        """One of the collectors, once some bytes are committed."""
-        until("some is committed", 30, lambda: sum(self.committed()) > 0)
+        """One of the collectors, once some bytes of each log are committed."""
+        until("some of each is committed", 30, lambda: min(self.committed()) > 0)
         self.collectors[0].kill()
         time.sleep(0.5)
         self.collectors[0] = self.room.start("collector", *self.options, "c1", self.doors[0], below="store")
