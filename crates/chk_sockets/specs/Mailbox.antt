@@ -1,5 +1,5 @@
 -- The mailbox inside the process.
-use Rattle.std.specs.Prelude.{◌≡◌, ◌≢◌, ◌⊎◌, ℕ, List, [], ◌∷◌, ◌++◌, Option, Some, None, Contains}
+use Rattle.std.specs.Prelude.{◌≡◌, ◌≢◌, ◌⊎◌, ℕ, Bool, nat_eq, List, [], ◌∷◌, ◌++◌, Option, Some, None, position, remove, slice_get}
 use Rattle.chk_sockets.specs.declared.mailbox.Letter.{Letter}
 use Rattle.chk_sockets.specs.declared.mailbox.Held.{Held}
 
@@ -16,9 +16,24 @@ abbrev pub TakesOldest : ℕ → List Letter → List Letter → Option Held →
 TakesOldest taking before after held bytes =
     (message : ℕ) × (before ≡ letter message bytes ∷ after) × (held ≡ held_at message taking)
 
--- what is got for a message is an answer to it, or nothing
-abbrev pub IsAnswer : ℕ → List Letter → List ℕ → Type 0
-IsAnswer message answered bytes = Contains answered (letter message bytes) ⊎ (bytes ≡ [])
+-- the answer is one to this message
+abbrev pub is_for : ℕ → Letter → Bool
+is_for message letter = nat_eq letter.message message
+
+-- the first answer to the message has these bytes, and all others are left
+pub record IsGot (message : ℕ) (old new : List Letter) (bytes : List ℕ) : Type 0 where
+  pub place : ℕ
+  pub answer : Letter
+  pub first : position (is_for message) old ≡ Some place
+  pub there : slice_get old place ≡ Some answer
+  pub found : answer.bytes ≡ bytes
+  pub left : new ≡ remove old place
+
+-- the first answer to the message is got; no bytes where there is none, and nothing is changed then
+abbrev pub Gets : ℕ → List Letter → List Letter → List ℕ → Type 0
+Gets message old new bytes =
+    IsGot message old new bytes
+    ⊎ ((position (is_for message) old ≡ None) × (bytes ≡ []) × (new ≡ old))
 
 -- the taking that is held for its answer was answered, where it is this one
 abbrev pub Answers : ℕ → List ℕ → Option Held → List Letter → List Letter → Type 0

@@ -1,6 +1,6 @@
 //! The mailbox inside the process, where no message and no answer is lost.
-ghost use Rattle.std.specs.Prelude.{◌≡◌, ◌↔◌, [], ◌∷◌, ◌++◌, None, IfNone, IfSome, IsSomeAnd, IsTrue, OnErr, OnOk};
-ghost use Rattle.chk_sockets.specs.Mailbox.{letter, IsAnswer, TakesOldest, Answers};
+ghost use Rattle.std.specs.Prelude.{◌≡◌, ◌↔◌, [], ◌∷◌, ◌++◌, None, position, IfNone, IfSome, IsSomeAnd, IsTrue, OnErr, OnOk};
+ghost use Rattle.chk_sockets.specs.Mailbox.{letter, is_for, Gets, TakesOldest, Answers};
 
 use chk_bytes::{Bytes, NoMemory};
 use std::alloc::Global;
@@ -104,19 +104,25 @@ impl Mailbox {
 
     /// The answer to the message, no bytes while there is none; none where there is no such message.
     pub fn got(&mut self, alloc: Global, message: u64) -> Option<Bytes>
-        ensures answer { IfSome result (λ bytes. IsAnswer message self.old.answered.items bytes) }
+        ensures answer { IfSome result (λ bytes. Gets message self.old.answered.items self.new.answered.items bytes) }
+        ensures none { IfNone result (position (is_for message) self.old.answered.items ≡ None) }
+        ensures left { IfNone result (self.new.answered.items ≡ self.old.answered.items) }
         ensures waiting { self.new.waiting ≡ self.old.waiting }
         ensures held { self.new.held ≡ self.old.held }
     {
-        match self
-            .answered
-            .iter()
-            .position(|letter| letter.message == message)
-        {
+        match self.place_of(message) {
             Some(place) => Some(self.answered.remove(place).bytes),
             None if self.knows(message) => Some(Bytes::new(alloc)),
             None => None,
         }
+    }
+
+    fn place_of(&self, message: u64) -> Option<usize>
+        ensures { result ≡ position (is_for message) self.now.answered.items }
+    {
+        self.answered
+            .iter()
+            .position(|letter| letter.message == message)
     }
 
     fn knows(&self, message: u64) -> bool {
