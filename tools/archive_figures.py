@@ -4,18 +4,19 @@
 usage: tools/archive_figures.py [--mib N] [--rounds N] [--loop] [--program FILE]
 
 It works in a new folder below the current one, so that the disk is the caller's, which needs three times
-the bytes. N mebibytes of chunks (1024) stand in closed sinks of 64 MiB: chunks of 131,072 bytes in one stream,
-of 4,096 bytes in 20 streams that take turns, and of 200 bytes in one stream and in 20. For each, in each
-round (1), the sinks are read once, copied by `cp` to another folder with `sync` of it, the copies are removed by
-`rm`, and the sinks are archived, which removes them too: that alone may take as long as the copy, where a disk
-discards what it frees. So a run's share of `cp` is told, and its share of `cp`, `sync` and `rm` together. A row
-has MB/s of the chunks' bytes, seconds, processor seconds and the peak of the resident memory. The printed
-lines, the segment and the book have to be those that docs/FORMATS.md asks for, byte for byte, and the
-sinks to be gone: otherwise the script ends with 1. Whether it has half of the speed of `cp`, and holds less than
-64 MB besides 32 bytes a chunk, is told.
+the bytes, and four times with `--loop`. N mebibytes of chunks (1024) stand in closed sinks of 64 MiB: chunks
+of 131,072 bytes in one stream, of 4,096 bytes in 20 streams that take turns, and of 200 bytes in one stream and
+in 20. For each, in each round (1), the sinks are read once, copied by `cp` to another folder with `sync` of it, the
+copies are removed by `rm`, and the sinks are archived, which removes them too: that alone may take as long as the
+copy, where a disk discards what it frees. So a run's share of `cp` is told, and its share of `cp`, `sync` and `rm`
+together; and what share of `cp` both together have, more than which no program can have that writes these bytes
+and removes the sinks. A row has MB/s of the chunks' bytes, seconds, processor seconds and the peak of the resident
+memory. The printed lines, the segment and the book have to be those that docs/FORMATS.md asks for, byte for byte,
+and the sinks to be gone: otherwise the script ends with 1. Whether it has half of the speed of `cp`, and holds
+less than 64 MB besides 32 bytes a chunk, is told.
 
-With `--loop`, which wants a C compiler `cc`, `tools/segment_loop.c` makes the reads and writes of such a segment too,
-and nothing else: it tells what these calls cost by themselves.
+With `--loop`, which wants a C compiler `cc`, `tools/segment_loop.c` makes the reads and writes of such a segment of
+copies of the sinks, and removes them, and nothing else: it tells what these calls cost by themselves.
 """
 import hashlib
 import os
@@ -44,7 +45,7 @@ GAP = 4_096
 TURNED = 4_194_304
 LONG = 16_384
 CLOSE = 512
-WINDOW = 2_031_616
+WINDOW = 983_040
 
 
 class Scene:
@@ -119,13 +120,19 @@ def archived(program, scene):
 
 
 def looped(asked, scene, what, copied):
-    """The reads and writes of the segment alone, beside the copy."""
+    """The reads and writes of the segment and the removal of the sinks alone, beside the copy."""
     folder, part = scene.folder, WINDOW if len(scene.parts()) > 1 else 0
-    used = Used([asked.loop, str(GAP), str(part)], folder).wait(3600)
+    copies.shell(folder, "mkdir loop && cp sinks/*.done loop/")
+    copies.settled(folder, "loop/*.done")
+    with open(f"{folder}/took", "wb") as took:
+        used = Used([asked.loop, str(GAP), str(part), "loop"], folder, took).wait(3600)
     if used.status != 0:
         sys.exit(f"segment_loop: status {used.status}")
-    os.remove(f"{folder}/segment")
-    return f"{what}: loop and cp: {100 * copied.seconds / used.seconds:.0f} % of its MB/s"
+    removal = float(contents(f"{folder}/took"))
+    copies.removed(folder, "segment", "took")
+    os.rmdir(f"{folder}/loop")
+    shares = [100 * copied.seconds / seconds for seconds in (used.seconds, used.seconds - removal)]
+    return f"{what}: loop and cp: {shares[0]:.0f} % of its MB/s, {shares[1]:.0f} % without the removal"
 
 
 def measured(asked, chunk, count):
@@ -145,15 +152,16 @@ def measured(asked, chunk, count):
     print(row(f"{what}: archive", size, used))
     held = ITSELF + ROW * scene.chunks
     print(copies.share(f"{what}: archive and cp", used, copied, SPEED_GOAL, most=held))
-    both = 100 * (copied.seconds + removed.seconds) / used.seconds
-    print(f"{what}: archive and cp with rm: {both:.0f} % of its MB/s", flush=True)
+    both = copied.seconds + removed.seconds
+    print(f"{what}: cp with rm, and cp: {100 * copied.seconds / both:.0f} % of its MB/s")
+    print(f"{what}: archive and cp with rm: {100 * both / used.seconds:.0f} % of its MB/s", flush=True)
 
 
 def main():
     parser = parser_of(__doc__)
     parser.add_argument("--mib", type=int, default=1024, help="mebibytes of chunks (1024)")
     parser.add_argument("--rounds", type=int, default=1, help="runs of each row (1)")
-    parser.add_argument("--loop", action="store_true", help="the same reads and writes by a C loop beside it")
+    parser.add_argument("--loop", action="store_true", help="the same calls by a C loop beside it")
     add_program(parser)
     asked = parser.parse_args()
     asked.program = program_of(asked)

@@ -1,7 +1,7 @@
 #!/usr/bin/env python3
 """Times logs through `drain` or `agent` and a `collector` over 127.0.0.1 into committed sinks, beside copies.
 
-usage: tools/figures.py [--mb N] [--logs N]... [--only drain|agent] [--messages N] [--tenfold] [--rounds N]
+usage: tools/figures.py [--mb N] [--logs N]... [--only drain|agent] [--messages N] [--tenfold] [--loop] [--rounds N]
                         [--program FILE]
 
 N megabytes (200) of lines of 100 to 300 bytes stand in logs in a new folder below the current one, which
@@ -17,17 +17,20 @@ change the status: a drain has half of sendfile's MB/s, and each process holds l
 pauses 200 ms in each turn, in which it takes at most 131,072 bytes of a log and posts at most 4,194,304:
 its row tells how much of that ceiling it has, and its logs have no more bytes than 15 seconds of it.
 `--tenfold` drains logs that are ten times as long too, to show that the memory is the same. `--messages N`
-is given to the collector, so that one commit stands for up to N posts; where N isn't 1 the rows say so.
+is given to the collector, so that one commit stands for up to N posts; where N isn't 1 the rows say so. With `--loop`,
+which wants a C compiler `cc`, `tools/post_loop.c` makes the calls on files and sockets of a drain of one log and its
+collector too, and nothing else: it tells what these cost by themselves.
 """
 import os
 import signal
+import subprocess
 import sys
 import tempfile
 import time
 
 import copies
 from archive_reader import Comparison, checkpoint
-from running import Used, add_program, free_ports, listening, load, parser_of, program_of, ran, row
+from running import HERE, Used, add_program, free_ports, listening, load, parser_of, program_of, ran, row
 
 PIECE = 131_072
 # A chunk in a post has this and its data, where the path is `logs/00.log`.
@@ -130,6 +133,18 @@ def copied(what, size, folder):
     return sent
 
 
+def looped(asked, folder, path):
+    """What the calls of a drain and its collector take by themselves."""
+    with open(f"{folder}/took", "wb") as took:
+        used = Used([asked.loop, path, str(asked.messages)], folder, took).wait(3600)
+    if used.status != 0:
+        sys.exit(f"post_loop: status {used.status}")
+    with open(f"{folder}/took", encoding="ascii") as took:
+        used.seconds = float(took.read())
+    copies.removed(folder, *(name for name in os.listdir(folder) if name.startswith("post_")), "took")
+    return used
+
+
 def sized(size, count):
     return f"{size / 1e6:.0f} MB in {count} log{'s' if count > 1 else ''}"
 
@@ -144,8 +159,12 @@ def drained(asked, size, count):
     with tempfile.TemporaryDirectory(dir=".", prefix="figures-") as folder:
         paths = copies.write_logs(folder, size, count)
         sent = copied(what, size, folder)
+        loop = looped(asked, folder, paths[0]) if asked.loop and count == 1 else None
         drain, collector = delivered(asked, folder, paths, Delivery.drain)
     what += served(asked)
+    if loop:
+        print(row(f"{what}: loop of the calls", size, loop))
+        print(f"{what}: loop of the calls: {100 * sent.seconds / loop.seconds:.0f} % of sendfile's MB/s")
     print(row(f"{what}: drain", size, drain))
     print(row(f"{what}: its collector", size, collector))
     print(copies.share(f"{what}: drain and sendfile", drain, sent, SHARE_GOAL, collector), flush=True)
@@ -166,6 +185,15 @@ def followed(asked, size, count):
     print(copies.share(f"{what}: agent and sendfile", agent, sent, None, collector), flush=True)
 
 
+def all_rows(asked):
+    for count in (asked.logs or [1]) if asked.only != "agent" else []:
+        drained(asked, asked.mb * 1_000_000, count)
+        if asked.tenfold:
+            drained(asked, asked.mb * 10_000_000, count)
+    for count in (asked.logs or [64]) if asked.only != "drain" else []:
+        followed(asked, asked.mb * 1_000_000, count)
+
+
 def main():
     parser = parser_of(__doc__)
     parser.add_argument("--mb", type=int, default=200, help="megabytes of lines (200)")
@@ -173,6 +201,7 @@ def main():
     parser.add_argument("--only", choices=["drain", "agent"], help="one of both alone")
     parser.add_argument("--messages", type=int, default=1, help="messages between two commits, up to 64 (1)")
     parser.add_argument("--tenfold", action="store_true", help="a drain of ten times the bytes too")
+    parser.add_argument("--loop", action="store_true", help="the same calls by a C loop beside a drain of one log")
     parser.add_argument("--rounds", type=int, default=1, help="runs of each row (1)")
     parser.add_argument("--seconds", type=int, default=200, help="what a delivery may take (200)")
     add_program(parser)
@@ -180,13 +209,12 @@ def main():
     asked.program = program_of(asked)
     signal.signal(signal.SIGTERM, lambda *_: sys.exit(143))
     print(load())
-    for _ in range(asked.rounds):
-        for count in (asked.logs or [1]) if asked.only != "agent" else []:
-            drained(asked, asked.mb * 1_000_000, count)
-            if asked.tenfold:
-                drained(asked, asked.mb * 10_000_000, count)
-        for count in (asked.logs or [64]) if asked.only != "drain" else []:
-            followed(asked, asked.mb * 1_000_000, count)
+    with tempfile.TemporaryDirectory() as made:
+        if asked.loop:
+            asked.loop = f"{made}/post_loop"
+            subprocess.run(["cc", "-O2", "-o", asked.loop, f"{HERE}/post_loop.c"], check=True)
+        for _ in range(asked.rounds):
+            all_rows(asked)
 
 
 if __name__ == "__main__":

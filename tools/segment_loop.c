@@ -1,13 +1,13 @@
-/* The reads and writes that a segment of the sinks in `sinks/` costs, without anything around them.
+/* The reads and writes that a segment of the sinks in a folder costs, and their removal, without anything around them.
 
-usage: segment_loop GAP PART
+usage: segment_loop GAP PART FOLDER
 
 It goes through all sinks once in pieces of 1 MiB and keeps a row for each record. Then it reads the records back,
 and writes them into `segment` by 1 MiB, with one fsync. Where PART is 0 they go stream by stream, in the order in which
 they came; where at most GAP bytes lie between a record and the next one of its stream, both are read at once, up to
 262,144 bytes. Else they go by parts of so many bytes of a sink, stream by stream in each, and a part is read at once,
-with 65,536 bytes behind it. It proves, tests and compares nothing. It tells what these calls cost, and is no bound:
-another way of reading may cost less. */
+with 65,536 bytes behind it. Then it removes the sinks, and prints the seconds that this took. It proves, tests and
+compares nothing. It tells what these calls cost, and is no bound: another way of reading may cost less. */
 #include <fcntl.h>
 #include <glob.h>
 #include <stdint.h>
@@ -15,6 +15,7 @@ another way of reading may cost less. */
 #include <stdlib.h>
 #include <string.h>
 #include <sys/stat.h>
+#include <time.h>
 #include <unistd.h>
 
 #define PIECE (1 << 20)
@@ -198,13 +199,32 @@ static void copy(const int *sinks, uint64_t gap, uint64_t part) {
     }
 }
 
+static double now(void) {
+    struct timespec at;
+    check(clock_gettime(CLOCK_MONOTONIC, &at) < 0, "clock");
+    return (double)at.tv_sec + (double)at.tv_nsec / 1e9;
+}
+
+/* Removes the sinks, which nothing holds open any more, and says how many seconds it took. */
+static double remove_all(const glob_t *names, const int *sinks) {
+    for (size_t file = 0; file < names->gl_pathc; file++)
+        check(close(sinks[file]) < 0, "close");
+    double began = now();
+    for (size_t file = 0; file < names->gl_pathc; file++)
+        check(unlink(names->gl_pathv[file]) < 0, names->gl_pathv[file]);
+    return now() - began;
+}
+
 int main(int words_count, char **words) {
     static int sinks[1024];
+    static char pattern[4096];
     glob_t names;
-    check(words_count != 3, "usage: segment_loop GAP PART");
+    check(words_count != 4, "usage: segment_loop GAP PART FOLDER");
     uint64_t part = strtoull(words[2], NULL, 10);
     check(part + BEHIND > MOST, "the part is too long");
-    check(glob("sinks/*.done", 0, NULL, &names) != 0 || names.gl_pathc > 1024, "sinks");
+    int size = snprintf(pattern, sizeof pattern, "%s/*.done", words[3]);
+    check(size < 0 || size >= (int)sizeof pattern, "the folder's name is too long");
+    check(glob(pattern, 0, NULL, &names) != 0 || names.gl_pathc > 1024, "sinks");
     for (size_t file = 0; file < names.gl_pathc; file++) {
         sinks[file] = open(names.gl_pathv[file], O_RDONLY);
         check(sinks[file] < 0, names.gl_pathv[file]);
@@ -218,5 +238,6 @@ int main(int words_count, char **words) {
     last_sync = place;
     copy(sinks, strtoull(words[1], NULL, 10), part);
     check(write(segment, out, filled) != (ssize_t)filled || fsync(segment) < 0, "segment");
+    printf("%.6f\n", remove_all(&names, sinks));
     return 0;
 }

@@ -3,6 +3,7 @@ pub mod Sorting
 mod Ranks
 pub mod Turning
 pub mod PieceReads
+pub mod Places
 pub mod Rows
 pub mod Records
 pub mod KeptKeys

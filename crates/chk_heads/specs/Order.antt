@@ -1,5 +1,5 @@
 -- The order in which heads are gone through.
-use Rattle.std.specs.Prelude.{ℕ, ◌<◌, Bool, true, false, ◌&&◌, ◌||◌, nat_lt, nat_eq, List, [], ◌∷◌, count_by, map, slice_index_or}
+use Rattle.std.specs.Prelude.{ℕ, ◌<◌, Bool, true, false, ◌&&◌, ◌||◌, ◌+◌, ◌*◌, ◌^◌, nat_lt, nat_eq, List, [], ◌∷◌, count_by, map, slice_index_or}
 use Rattle.std.specs.List.{AllPairs}
 use Rattle.std.specs.Borrow.{Bor}
 use Rattle.std.specs.List.Sorted.{IsSortedBy, IsPermutation}
@@ -59,9 +59,9 @@ row_before ranks a b =
     || (nat_eq (row_rank ranks a) (row_rank ranks b)
     && (nat_lt (row_begin a) (row_begin b) || (nat_eq (row_begin a) (row_begin b) && nat_lt a.end b.end)))
 
--- by what rows are compared
-abbrev pub row_key : List ℕ → Row → ℕ × ℕ × ℕ × ℕ
-row_key ranks r = (row_rank ranks r, row_begin r, r.end, r.turn)
+-- where a row stands by its stream and its first offset
+abbrev pub row_place : List ℕ → Row → ℕ
+row_place ranks r = row_rank ranks r * 2 ^ 64 + row_begin r
 
 -- the same order, and by turns where that tells nothing
 abbrev pub row_first : List ℕ → Row → Row → Bool

@@ -12,7 +12,7 @@ use std::alloc::Global;
 
 /// Reads the values of records whose heads are known. It holds a run of one file's bytes: the last
 /// record that was asked for, and those of the next heads where they lie close, in all at most
-/// 262,144 bytes, or one larger record; or a whole window of 2,031,616 bytes, and 65,536 behind it.
+/// 262,144 bytes, or one larger record; or a whole window of 983,040 bytes, and 65,536 behind it.
 #[derive(Debug, Drop)]
 pub struct RecordReader {
     file: u32,
@@ -96,7 +96,7 @@ impl RecordReader {
 
     /// The same for a caller that has the head at `index` and says how far a read goes on. Of the
     /// heads only the next ones are looked at, and none where what is held has the record. With
-    /// `Ahead::Window` a call costs two reads, and serves all records of at most 65,536 bytes that
+    /// `Ahead::Window` a call costs one read, and serves all records of at most 65,536 bytes that
     /// begin in the window.
     pub fn fetch_by_head<S: Site>(
         &mut self,
@@ -207,7 +207,7 @@ impl RecordReader {
         file: u32,
         run: Run,
     ) -> Result<(), OutsideFault>
-        requires { run.size ≤ 2097152 }
+        requires { run.size ≤ 1065001 }
         ensures raw { (f : Option File) → IsSmallFile f → Adds (S.told site.old) (S.told site.new)
             (Leads (anyhow (SparesFile name.now)) (Has name.now f) (HasWindow name.now f
             file run.from run.size self.new result)) }

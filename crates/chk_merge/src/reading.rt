@@ -51,7 +51,7 @@ fn read_once<S: Site>(
 }
 
 /// What a file has from a place on, at most `size` bytes, which are at most 2,097,152. It costs
-/// one read for each 1,048,576 bytes that are asked for.
+/// one read, and where more than 1,048,576 bytes are asked for, another one and a copy.
 pub(crate) fn read_run<S: Site>(
     alloc: Global,
     site: &mut S,

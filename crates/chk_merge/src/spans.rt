@@ -13,8 +13,8 @@ const GAP: u64 = 4096;
 /// How far a read goes on to further records. So many bytes stay in the processor's cache.
 const RUN: u64 = 262_144;
 
-/// The bytes of a window of a file. With those behind it, a window is two whole reads.
-const WINDOW: u64 = 2_031_616;
+/// The bytes of a window of a file. With those behind it, a window is one whole read.
+const WINDOW: u64 = 983_040;
 
 /// How many bytes behind a window are read with it, so that each record that begins there and has
 /// no more comes whole.
@@ -30,7 +30,7 @@ pub enum Ahead {
     Window,
 }
 
-/// One of the windows that a file falls into: each has 2,031,616 bytes, and the first one begins at
+/// One of the windows that a file falls into: each has 983,040 bytes, and the first one begins at
 /// the file's first byte. Windows are ordered as they lie in the files.
 #[derive(Clone, Copy, Debug, PartialEq, Eq, PartialOrd, Ord)]
 pub struct Window {
@@ -44,7 +44,7 @@ impl Window {
     /// The window that the record of a head begins in.
     pub fn of(head: &HeadRef<'_>) -> Window
         ensures file { result.file ≡ (lent_head head.now).file }
-        ensures number { result.number ≡ (lent_head head.now).at / 2031616 }
+        ensures number { result.number ≡ (lent_head head.now).at / 983040 }
     {
         Window {
             file: head.file,
@@ -137,7 +137,7 @@ pub(crate) fn run_of(heads: &Heads, index: usize, head: &HeadRef<'_>, ahead: Ahe
     requires { index < length heads.now }
     ensures behind { result.from ≤ (lent_head head.now).at }
     ensures enough { (lent_head head.now).at - result.from + room_of (lent_head head.now) ≤ result.size }
-    ensures few { result.size ≤ 2097152 }
+    ensures few { result.size ≤ 1065001 }
 {
     if ahead == Ahead::Window && room(head) <= BEHIND {
         return Run {

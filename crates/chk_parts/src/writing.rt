@@ -38,7 +38,7 @@ use chk_site::{Site, Who};
 use std::alloc::Global;
 
 /// From so many records of a window on that lie apart, the window is read as a whole: it costs about as much as reads of these.
-const APART: usize = 64;
+const APART: usize = 32;
 
 /// What a new segment of the archive is for.
 #[derive(Clone, Copy, Debug)]

@@ -27,17 +27,17 @@ const TEXTS: &[u8] = b"\0\x03Log\0\x06/a.log\0\0\x3e\x80";
 // so many records stand by themselves between those of the other stream, and so many behind each
 // other; and the sinks were read so many times.
 //
-// A window has 2,031,616 bytes. Behind the header's 96 bytes 127 records begin in the first window of a
-// sink, 127 in the second and the others in the third.
+// A window has 983,040 bytes. Behind the header's 96 bytes 62 records begin in the first window of a
+// sink, 61 in the second, 61 in the third, 62 in the fourth and the others in the fifth.
 // - Heads are read in pieces, the first of 16,384 bytes and the last one empty: of 270 records in 7.
-//   Each of the first two windows is read in two; what is read behind the second one has two records
-//   of the third, and of that one the other 14 are read by themselves, since they are few.
+//   Each of the first four windows is read at once; what is read behind the fourth one has two records
+//   of a stream of the fifth, and of that one the other 22 are read by themselves, since they are few.
 // - 250 records have 4,000,000 bytes of data, too few for windows: 6 pieces, and each is read by itself.
 // - In two sinks the next record of a stream lies in the other one. As many windows are gone through as
 //   eight records of each stream would want, 16 of 135, each for one record of a stream; the rest
 //   stands stream after stream. Both sinks are read in 5 pieces, and each record by itself.
 const ROWS: &str = "\
-three windows: 1 135 = single 0, h1 64, h2 63, h1 63, h2 64, h1 8, h2 8, reads 25
+five windows: 1 135 = single 0, h1 31, h2 31, h1 31, h2 30, h1 30, h2 31, h1 31, h2 31, h1 12, h2 12, reads 33
 too few: 1 125 = single 0, h1 125, h2 125, reads 256
 over two sinks: 2 135 = single 32, h1 119, h2 119, reads 280
 ";

@@ -1,10 +1,11 @@
 //! The order in which heads are gone through.
 
-ghost use Rattle.std.specs.Prelude.{◌≡◌, ◌<◌, List, length, map, slice_index_or, IsTrue, IfOk, OnOk, OnErr};
+ghost use Rattle.std.specs.Prelude.{◌≡◌, ◌<◌, ◌^◌, List, length, map, slice_index_or, IsTrue, IfOk, OnOk, OnErr};
 ghost use Rattle.chk_chunk.specs.Keys.{has_words};
 ghost use Rattle.chk_chunk.specs.Lent.{lent_key};
 ghost use Rattle.std.specs.Ordering.{is_lt};
-ghost use Rattle.chk_heads.specs.Order.{in_head_order, rank_in, row_rank, row_key, row_first, without_turn, TakeTurns, origin_before, no_head, lent_head, of_one_stream, AreInOrder};
+ghost use Rattle.chk_heads.specs.Order.{in_head_order, rank_in, row_rank, row_place, row_first, without_turn, TakeTurns, origin_before, no_head, lent_head, of_one_stream, AreInOrder};
+ghost use Rattle.chk_heads.specs.HeadRows.{row_begin};
 ghost use Rattle.chk_heads.specs.declared.origins.Origin.{Origin};
 
 use super::{Heads, Row};
@@ -126,18 +127,23 @@ fn rank(ranks: &[usize], row: &Row) -> usize
     ranks.get(row.origin as usize).copied().unwrap_or(0)
 }
 
-/// By what a row is compared: the first of these tells that differs.
-fn key(ranks: &[usize], row: &Row) -> (usize, u64, u64, u32)
-    ensures { result ≡ row_key ranks.now row.now }
+/// Where a row stands by its stream and its first offset.
+fn place(ranks: &[usize], row: &Row) -> u128
+    ensures is { result ≡ row_place ranks.now row.now }
+    ensures low { row_begin row.now < 2 ^ 64 }
 {
-    (rank(ranks, row), row.begin(), row.end, row.turn)
+    rank(ranks, row) as u128 * (1 << 64) + u128::from(row.begin())
 }
 
-/// Which row comes first.
+/// Which row comes first. Places that differ are compared without a branch, since a sort can't foretell which one is less.
 fn compare(ranks: &[usize], a: &Row, b: &Row) -> Ordering
     ensures { is_lt result ≡ row_first ranks.now a.now b.now }
 {
-    key(ranks, a).cmp(&key(ranks, b))
+    let (first, second) = (place(ranks, a), place(ranks, b));
+    if first == second {
+        return (a.end, a.turn).cmp(&(b.end, b.turn));
+    }
+    first.cmp(&second)
 }
 
 /// Numbers the rows as they stand, so that no two of them are alike: a sort that doesn't keep the order of those that are
