@@ -9,9 +9,9 @@ of 131,072 bytes in one stream, of 4,096 bytes in 20 streams that take turns, an
 in 20. For each, in each round (1), the sinks are read once, copied by `cp` to another folder with `sync` of it, the
 copies are removed by `rm`, and the sinks are archived, which removes them too: that alone may take as long as the
 copy, where a disk discards what it frees. So a run's share of `cp` is told, and its share of `cp`, `sync` and `rm`
-together; and what share of `cp` both together have, more than which no program can have that writes these bytes
-and removes the sinks. A row has MB/s of the chunks' bytes, seconds, processor seconds and the peak of the resident
-memory. The printed lines, the segment and the book have to be those that docs/FORMATS.md asks for, byte for byte,
+together; and what share of `cp` both together have: about as much as the disk leaves to any program that writes
+these bytes and removes the sinks. A row has MB/s of the chunks' bytes, seconds, processor seconds and the peak of
+the resident memory. The printed lines, the segment and the book have to be those that docs/FORMATS.md asks for, byte for byte,
 and the sinks to be gone: otherwise the script ends with 1. Whether it has half of the speed of `cp`, and holds
 less than 64 MB besides 32 bytes a chunk, is told.
 
