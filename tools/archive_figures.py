@@ -11,9 +11,9 @@ copies are removed by `rm`, and the sinks are archived, which removes them too: 
 copy, where a disk discards what it frees. So a run's share of `cp` is told, and its share of `cp`, `sync` and `rm`
 together; and what share of `cp` both together have: about as much as the disk leaves to any program that writes
 these bytes and removes the sinks. A row has MB/s of the chunks' bytes, seconds, processor seconds and the peak of
-the resident memory. The printed lines, the segment and the book have to be those that docs/FORMATS.md asks for, byte for byte,
-and the sinks to be gone: otherwise the script ends with 1. Whether it has half of the speed of `cp`, and holds
-less than 64 MB besides 32 bytes a chunk, is told.
+the resident memory. The printed lines, the segment and the book have to be those that docs/FORMATS.md asks for,
+byte for byte, and the sinks to be gone: otherwise the script ends with 1. Whether it has half of the speed of `cp`,
+and holds less than 64 MB besides 32 bytes a chunk, is told.
 
 With `--loop`, which wants a C compiler `cc`, `tools/segment_loop.c` makes the reads and writes of such a segment of
 copies of the sinks, and removes them, and nothing else: it tells what these calls cost by themselves.
