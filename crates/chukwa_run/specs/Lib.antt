@@ -12,3 +12,4 @@ pub mod Causes
 pub mod Saying
 pub mod Statuses
 pub mod Runs
+pub mod Working

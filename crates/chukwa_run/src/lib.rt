@@ -4,6 +4,7 @@
 mod agenting;
 mod archiving;
 mod collecting;
+mod commanding;
 mod demuxing;
 mod draining;
 mod loading;

@@ -14,17 +14,10 @@ ghost use Rattle.chukwa_run.specs.Runs.{Begins, Ends, Caused, SaysUsage};
 ghost use Rattle.chukwa_run.specs.Saying.{SaysEnding, IsOutsideEnd};
 ghost use Rattle.chukwa_run.specs.Statuses.{statuses_of};
 
-use crate::agenting::run_agent_of;
-use crate::archiving::run_job;
-use crate::collecting::run_collector;
-use crate::demuxing::run_split;
-use crate::draining::run_drain_of;
-use crate::loading::run_load_of;
-use crate::rounding::run_whole_round;
-use crate::salvaging::run_salvage;
+use crate::commanding::run_command;
 use crate::saying::{say_ending, say_usage};
 use chk_site::Site;
-use chk_words::{Command, Ending, WordsFault, read_words, usage_of};
+use chk_words::{Ending, WordsFault, read_words, usage_of};
 use std::alloc::Global;
 
 /// Runs the command that the words behind the program's name ask for, and answers the status with
@@ -88,36 +81,8 @@ pub fn run<'a, S: Site>(alloc: Global, site: &mut S, words: &'a [&'a str]) -> u8
         → Contains (statuses_of command) result }
 {
     match read_words(alloc, words) {
-        Ok(Command::Round(given)) => {
-            let done = run_whole_round(alloc, site, &given);
-            ends(alloc, site, done)
-        }
-        Ok(Command::Agent(given)) => {
-            let done = run_agent_of(alloc, site, &given);
-            ends(alloc, site, done)
-        }
-        Ok(Command::Collector(given)) => {
-            let done = run_collector(alloc, site, &given);
-            ends(alloc, site, done)
-        }
-        Ok(Command::Drain(given)) => {
-            let done = run_drain_of(alloc, site, &given);
-            ends(alloc, site, done)
-        }
-        Ok(Command::Archive) => {
-            let done = run_job(alloc, site);
-            ends(alloc, site, done)
-        }
-        Ok(Command::Demux(kinds)) => {
-            let done = run_split(alloc, site, kinds.as_slice());
-            ends(alloc, site, done)
-        }
-        Ok(Command::Salvage(file)) => {
-            let done = run_salvage(alloc, site, file);
-            ends(alloc, site, done)
-        }
-        Ok(Command::Load(lines)) => {
-            let done = run_load_of(alloc, site, lines);
+        Ok(command) => {
+            let done = run_command(alloc, site, &command);
             ends(alloc, site, done)
         }
         Err(WordsFault::Usage) => {
