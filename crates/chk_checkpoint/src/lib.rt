@@ -46,6 +46,3 @@ pub struct CheckLine {
 pub struct Checkpoint {
     pub lines: Vec<CheckLine>,
 }
-
-#[cfg(test)]
-mod tests;

@@ -1,4 +1,4 @@
-//! Tests of the readers of logs over a site in memory.
+//! Tests of the readers of logs, and of checkpoints, over a site in memory.
 #![tactic(auto)]
 
 #[cfg(test)]
@@ -10,6 +10,10 @@ mod programs;
 #[cfg(test)]
 mod reader;
 #[cfg(test)]
+mod replaced;
+#[cfg(test)]
 mod scene;
+#[cfg(test)]
+mod texts;
 #[cfg(test)]
 mod writing;

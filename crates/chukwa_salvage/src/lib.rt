@@ -7,6 +7,3 @@ mod printing;
 
 pub use fault::SalvageFault;
 pub use printing::salvage;
-
-#[cfg(test)]
-mod tests;

@@ -20,15 +20,21 @@ const CALLS: [(u64, Call); 5] = [
     (7, Call::Rename),
 ];
 
-fn agent(alloc: Global, source: &str) -> Result<Who, Fail> {
+/// The agent of this source.
+pub(crate) fn agent(alloc: Global, source: &str) -> Result<Who, Fail> {
     Ok(Who {
         role: Role::Agent,
         name: Word::new(alloc, source.as_bytes())?,
     })
 }
 
-// The same script, with a file of these bytes, all of them on the disk.
-fn with_file(alloc: Global, script: Script, name: &str, bytes: &[u8]) -> Result<Script, Fail> {
+/// The same script, with a file of these bytes, all of them on the disk.
+pub(crate) fn with_file(
+    alloc: Global,
+    script: Script,
+    name: &str,
+    bytes: &[u8],
+) -> Result<Script, Fail> {
     let mut script = script;
     script
         .others
