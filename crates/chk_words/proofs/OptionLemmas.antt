@@ -1,17 +1,19 @@
 -- A command that gets one option after the other.
-use Rattle.std.proofs.Common.{◌≡◌, ◌∙◌, ◌<◌, ◌+◌, ℕ, List, [], ◌∷◌, ◌⊎◌, inl, inr, length, map, take, get_or, ap, refl, subst, sym}
-use Rattle.std.specs.Prelude.{true, codes, None, Err}
-use Rattle.std.proofs.lemmas.List.{map-append, map_more}
+use Rattle.std.proofs.Common.{◌≡◌, ◌∙◌, ◌<◌, ◌≤◌, ◌+◌, ℕ, List, [], ◌∷◌, ◌⊎◌, inl, inr, length, map, take, get_or, ap, refl, subst, sym}
+use Rattle.std.specs.Prelude.{true, codes, Option, None, Some, Result, Ok, Err, IsErrAnd}
+use Rattle.std.proofs.lemmas.List.{map-append, map_more, take_all}
 use Rattle.clap.specs.Walk.{Row, Rule, Text}
 use Rattle.clap.specs.Kinds.{Kinds, IsAmong}
-use Rattle.clap.specs.Faults.{is_simple_and_free}
+use Rattle.clap.specs.Faults.{fault_of, is_simple_and_free}
 use Rattle.clap.specs.declared.error.kind.ErrorKind.{ErrorKind}
 use Rattle.clap.specs.declared.error.kind.ErrorKind.TheVariants.{OutOfMemory}
-use Rattle.clap.specs.Simple.{App, new_shape, with_rule}
-use Rattle.chk_words.specs.Options.{app_with, fault_by, faultless, option_rule}
+use Rattle.clap.specs.Simple.{App, matches_of, new_shape, with_rule}
+use Rattle.chk_words.specs.Options.{app_with, fault_by, faultless, option_rule, parsed, words_rule}
 use Rattle.chk_words.specs.Given.{ReadsOptions}
 use Rattle.chk_words.specs.Usages.{option_names}
 use Rattle.chk_words.specs.declared.commands.WordsFault.{WordsFault}
+use Rattle.chk_words.specs.declared.commands.WordsFault.TheVariants.{Usage as IsUsage, NoMemory}
+use Rattle.chk_words.specs.declared.options.Given.{Given}
 use Rattle.chk_words.specs.declared.usage.Usage.{Usage}
 use Rattle.chk_words.specs.declared.usage.Usage.TheVariants.{Commands, Round, Agent, Collector, Drain, Archive, Demux, Salvage, Load}
 
@@ -35,6 +37,14 @@ one_more f xs i d old new lt added before =
     ∙ sym (ap with_options (map_more f xs i d lt)
     ∙ ap with_rules (map-append option_rule (map f (take i xs)) (f (get_or xs i d) ∷ [])))
 
+-- all options, and behind them the other words
+pub all_added : {X : Type 0} (f : X → Text) (xs : List X) (i : ℕ) (old new : App)
+    → length xs ≤ i → new ≡ with_rule old words_rule → old ≡ with_options (map f (take i xs))
+    → new ≡ app_with (map f xs)
+all_added f xs i old new all added before =
+    added ∙ ap (λ app. with_rule app words_rule) before
+    ∙ ap (λ some. with_rule (with_options (map f some)) words_rule) (take_all i xs all)
+
 -- what `clap` says of each of these commands is exact
 pub all_simple : (usage : Usage) → is_simple_and_free (app_with (option_names usage)) ≡ true
 all_simple Commands = refl
@@ -47,11 +57,27 @@ all_simple Demux = refl
 all_simple Salvage = refl
 all_simple Load = refl
 
--- an error of words that aren't taken, or of memory
+-- an error where no words are taken, or of memory
 none_told : (kind : ErrorKind) → ReadsOptions None (Err (fault_by kind))
 none_told OutOfMemory = tt
 none_told _ = refl
 
+-- words that `clap` takes
+pub taken : (names words : List Text) (app : App) (rows : List Row) → app ≡ app_with names
+    → fault_of app words ≡ [] → rows ≡ matches_of app words → parsed names words ≡ Some rows
+taken names words app rows is none same =
+    let P : App → Type 0 = λ a. faultless (fault_of a words) (matches_of a words) ≡ Some rows in
+    let found = matches_of app words in
+    subst P is (ap (λ kinds. faultless kinds found) none ∙ ap (λ r. Some r) (sym same))
+
+-- no memory for the rules of a command
+pub without_memory : (rows : Option (List Row)) (r : Result Given WordsFault)
+    → IsErrAnd r (λ fault. fault ≡ NoMemory) → ReadsOptions rows r
+without_memory rows (Ok given) told = absurd told
+without_memory rows (Err NoMemory) told = tt
+without_memory rows (Err IsUsage) told = absurd (cc)
+
+-- an error of `clap` itself
 pub refused : (rows : List Row) (kinds : Kinds) (kind : ErrorKind) (fault : WordsFault)
     → (kind ≡ OutOfMemory) ⊎ IsAmong kind kinds → fault ≡ fault_by kind
     → ReadsOptions (faultless kinds rows) (Err fault)

@@ -5,6 +5,7 @@ pub mod Given
 pub mod Commands
 pub mod Asked
 pub mod Good
+pub mod ReadOptions
 pub mod Lines
 pub mod Endings
 pub mod Loads

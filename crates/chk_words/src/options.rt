@@ -15,7 +15,6 @@ ghost use Rattle.chk_words.specs.Given.{rows_in, ReadsOptions};
 use crate::commands::WordsFault;
 use crate::names::{class_of, is_word, number_in};
 use crate::usage::Usage;
-use chk_bytes::NoMemory;
 use chk_control::Class;
 use clap::error::ErrorKind;
 use clap::{Arg, ArgAction, ArgMatches, Error};
@@ -109,14 +108,14 @@ impl<'a> Given<'a> {
 }
 
 // A command with these options and any number of other words. It has no option for help.
-fn command_with<'a>(alloc: Global, names: &'a [&'a str]) -> Result<clap::Command<'a>, NoMemory>
+fn command_with<'a>(alloc: Global, names: &'a [&'a str]) -> Result<clap::Command<'a>, AllocError>
     ensures { IfOk result (λ c. app_of c ≡ app_with (map (λ n. n.now) names.now)) }
 {
     let mut command = clap::Command::new(alloc, "chukwa").disable_help_flag(true);
     for name in names {
         command = with_option(alloc, command, name)?;
     }
-    Ok(with_words(alloc, command)?)
+    with_words(alloc, command)
 }
 
 fn with_option<'a>(

@@ -4,12 +4,14 @@ ghost use Rattle.std.specs.Prelude.{◌≡◌, map, option_map, IfOk, IfSome};
 ghost use Rattle.chk_words.specs.Asked.{asked, asked_by, asked_round, asked_agent, asked_collector, asked_drain, asked_archive, asked_demux, asked_salvage, asked_load};
 ghost use Rattle.chk_words.specs.Given.{rows_in};
 ghost use Rattle.chk_words.specs.Good.{IsGood};
+ghost use Rattle.chk_words.specs.ReadOptions.{ReadsRoundOptions, ReadsAgentOptions, ReadsCollectorOptions, ReadsDrainOptions, AreGoodRound, AreGoodAgent, AreGoodCollector, AreGoodDrain, ReadsLogs, ReadsPeers, AreGoodLogs, AreGoodPeers};
 ghost use Rattle.chk_words.specs.Commands.{ReadsCommand, asked_of};
 
 use crate::commands::{AgentWords, CollectorWords, Command, DrainWords, RoundWords, WordsFault};
 use crate::names::{are_words, is_collector, is_source, is_word, number_in};
 use crate::options::Given;
 use crate::usage::{Usage, usage_of};
+use chk_control::Class;
 use std::alloc::Global;
 
 // The most of a number, and of turns where none are given.
@@ -54,74 +56,89 @@ fn read_round<'a>(alloc: Global, given: &Given<'a>) -> Result<Command<'a>, Words
     ensures asked { ReadsCommand (asked_round (rows_in given.now)) result }
     ensures good { IfOk result (λ command. IsGood (asked_of command)) }
 {
-    let class = given.class().ok_or(WordsFault::Usage)?;
-    let reads = given
-        .number("reads", 1_000_000, 1, MOST)
-        .ok_or(WordsFault::Usage)?;
-    let cluster = given.cluster().ok_or(WordsFault::Usage)?;
-    match given.plain().ok_or(WordsFault::Usage)? {
-        [source, kind, logs @ ..]
-            if is_source(source) && is_word(kind) && are_words(logs, 1, logs.len()) => {
-            Ok(Command::Round(RoundWords {
-                class,
-                reads,
-                cluster,
-                source,
-                kind,
-                logs: logs.to_vec(alloc)?,
-            }))
-        }
-        _ => Err(WordsFault::Usage),
-    }
+    let options = round_options(given).ok_or(WordsFault::Usage)?;
+    let words = logs_in(given).ok_or(WordsFault::Usage)?;
+    Ok(Command::Round(RoundWords {
+        class: options.class,
+        reads: options.reads,
+        cluster: options.cluster,
+        source: words.source,
+        kind: words.kind,
+        logs: words.paths.to_vec(alloc)?,
+    }))
+}
+
+#[derive(Clone, Copy)]
+struct RoundOptions<'a> {
+    class: Class,
+    reads: u64,
+    cluster: &'a str,
+}
+
+fn round_options<'a>(given: &Given<'a>) -> Option<RoundOptions<'a>>
+    ensures asked { ReadsRoundOptions (rows_in given.now) result }
+    ensures good { IfSome result AreGoodRound }
+{
+    Some(RoundOptions {
+        class: given.class()?,
+        reads: given.number("reads", 1_000_000, 1, MOST)?,
+        cluster: given.cluster()?,
+    })
 }
 
 fn read_agent<'a>(alloc: Global, given: &Given<'a>) -> Result<Command<'a>, WordsFault>
     ensures asked { ReadsCommand (asked_agent (rows_in given.now)) result }
     ensures good { IfOk result (λ command. IsGood (asked_of command)) }
 {
-    let initial = given.word("initial").ok_or(WordsFault::Usage)?;
-    let control = given.word("control").ok_or(WordsFault::Usage)?;
-    let turns = given
-        .number("turns", MOST, 1, MOST)
-        .ok_or(WordsFault::Usage)?;
-    let poll = given
-        .number("poll", 10_000, 0, MOST)
-        .ok_or(WordsFault::Usage)?;
-    let expire = given
-        .number("expire", 300_000, 0, MOST)
-        .ok_or(WordsFault::Usage)?;
-    let cluster = given.cluster().ok_or(WordsFault::Usage)?;
-    match given.plain().ok_or(WordsFault::Usage)? {
-        [source, collectors @ ..]
-            if is_source(source) && are_words(collectors, 1, MOST_COLLECTORS) => {
-            Ok(Command::Agent(AgentWords {
-                initial,
-                control,
-                turns,
-                poll,
-                expire,
-                cluster,
-                source,
-                collectors: collectors.to_vec(alloc)?,
-            }))
-        }
-        _ => Err(WordsFault::Usage),
-    }
+    let options = agent_options(given).ok_or(WordsFault::Usage)?;
+    let words = peers_in(given).ok_or(WordsFault::Usage)?;
+    Ok(Command::Agent(AgentWords {
+        initial: options.initial,
+        control: options.control,
+        turns: options.turns,
+        poll: options.poll,
+        expire: options.expire,
+        cluster: options.cluster,
+        source: words.source,
+        collectors: words.collectors.to_vec(alloc)?,
+    }))
+}
+
+#[derive(Clone, Copy)]
+struct AgentOptions<'a> {
+    initial: Option<&'a str>,
+    control: Option<&'a str>,
+    turns: u64,
+    poll: u64,
+    expire: u64,
+    cluster: &'a str,
+}
+
+fn agent_options<'a>(given: &Given<'a>) -> Option<AgentOptions<'a>>
+    ensures asked { ReadsAgentOptions (rows_in given.now) result }
+    ensures good { IfSome result AreGoodAgent }
+{
+    Some(AgentOptions {
+        initial: given.word("initial")?,
+        control: given.word("control")?,
+        turns: given.number("turns", MOST, 1, MOST)?,
+        poll: given.number("poll", 10_000, 0, MOST)?,
+        expire: given.number("expire", 300_000, 0, MOST)?,
+        cluster: given.cluster()?,
+    })
 }
 
 fn read_collector<'a>(given: &Given<'a>) -> Option<Command<'a>>
     ensures asked { option_map asked_of result ≡ asked_collector (rows_in given.now) }
     ensures good { IfSome result (λ command. IsGood (asked_of command)) }
 {
-    let rotate = given.number("rotate", 300_000, 0, MOST)?;
-    let turns = given.number("turns", MOST, 1, MOST)?;
-    let messages = given.number("messages", 1, 1, MOST_MESSAGES)?;
+    let options = collector_options(given)?;
     match given.plain()? {
         [name, address] if is_collector(name) && is_word(address) => {
             Some(Command::Collector(CollectorWords {
-                rotate,
-                turns,
-                messages,
+                rotate: options.rotate,
+                turns: options.turns,
+                messages: options.messages,
                 name,
                 address,
             }))
@@ -130,31 +147,102 @@ fn read_collector<'a>(given: &Given<'a>) -> Option<Command<'a>>
     }
 }
 
+#[derive(Clone, Copy)]
+struct CollectorOptions {
+    rotate: u64,
+    turns: u64,
+    messages: u64,
+}
+
+fn collector_options(given: &Given<'_>) -> Option<CollectorOptions>
+    ensures asked { ReadsCollectorOptions (rows_in given.now) result }
+    ensures good { IfSome result AreGoodCollector }
+{
+    Some(CollectorOptions {
+        rotate: given.number("rotate", 300_000, 0, MOST)?,
+        turns: given.number("turns", MOST, 1, MOST)?,
+        messages: given.number("messages", 1, 1, MOST_MESSAGES)?,
+    })
+}
+
 fn read_drain<'a>(alloc: Global, given: &Given<'a>) -> Result<Command<'a>, WordsFault>
     ensures asked { ReadsCommand (asked_drain (rows_in given.now)) result }
     ensures good { IfOk result (λ command. IsGood (asked_of command)) }
 {
-    let initial = given.word("initial").ok_or(WordsFault::Usage)?;
-    let reads = given
-        .number("reads", 1_000_000, 1, MOST)
-        .ok_or(WordsFault::Usage)?;
-    let polls = given
-        .number("polls", 60, 1, 1_000_000)
-        .ok_or(WordsFault::Usage)?;
-    let cluster = given.cluster().ok_or(WordsFault::Usage)?;
-    match given.plain().ok_or(WordsFault::Usage)? {
+    let options = drain_options(given).ok_or(WordsFault::Usage)?;
+    let words = peers_in(given).ok_or(WordsFault::Usage)?;
+    Ok(Command::Drain(DrainWords {
+        initial: options.initial,
+        reads: options.reads,
+        polls: options.polls,
+        cluster: options.cluster,
+        source: words.source,
+        collectors: words.collectors.to_vec(alloc)?,
+    }))
+}
+
+#[derive(Clone, Copy)]
+struct DrainOptions<'a> {
+    initial: Option<&'a str>,
+    reads: u64,
+    polls: u64,
+    cluster: &'a str,
+}
+
+fn drain_options<'a>(given: &Given<'a>) -> Option<DrainOptions<'a>>
+    ensures asked { ReadsDrainOptions (rows_in given.now) result }
+    ensures good { IfSome result AreGoodDrain }
+{
+    Some(DrainOptions {
+        initial: given.word("initial")?,
+        reads: given.number("reads", 1_000_000, 1, MOST)?,
+        polls: given.number("polls", 60, 1, 1_000_000)?,
+        cluster: given.cluster()?,
+    })
+}
+
+// A source and the logs of one type.
+#[derive(Clone, Copy)]
+struct Logs<'a, 'g> {
+    source: &'a str,
+    kind: &'a str,
+    paths: &'g [&'a str],
+}
+
+fn logs_in<'a, 'g>(given: &'g Given<'a>) -> Option<Logs<'a, 'g>>
+    ensures plain { ReadsLogs (rows_in given.now) result }
+    ensures good { IfSome result AreGoodLogs }
+{
+    match given.plain()? {
+        [source, kind, paths @ ..]
+            if is_source(source) && is_word(kind) && are_words(paths, 1, paths.len()) => {
+            Some(Logs {
+                source,
+                kind,
+                paths,
+            })
+        }
+        _ => None,
+    }
+}
+
+// A source and the addresses of its collectors.
+#[derive(Clone, Copy)]
+struct Peers<'a, 'g> {
+    source: &'a str,
+    collectors: &'g [&'a str],
+}
+
+fn peers_in<'a, 'g>(given: &'g Given<'a>) -> Option<Peers<'a, 'g>>
+    ensures plain { ReadsPeers (rows_in given.now) result }
+    ensures good { IfSome result AreGoodPeers }
+{
+    match given.plain()? {
         [source, collectors @ ..]
             if is_source(source) && are_words(collectors, 1, MOST_COLLECTORS) => {
-            Ok(Command::Drain(DrainWords {
-                initial,
-                reads,
-                polls,
-                cluster,
-                source,
-                collectors: collectors.to_vec(alloc)?,
-            }))
+            Some(Peers { source, collectors })
         }
-        _ => Err(WordsFault::Usage),
+        _ => None,
     }
 }
 
