@@ -1,4 +1,4 @@
-use Rattle.std.proofs.Common.{◌≡◌, ◌∙◌, ℕ, List, ◌++◌, unwrap_or, Option, Some, None, Ok, Err, Result, refl, sym, ap, subst}
+use Rattle.std.proofs.Common.{◌≡◌, ◌∙◌, ℕ, List, ◌++◌, unwrap_or, Option, Some, None, Ok, Err, Result, sym, ap, subst}
 use Rattle.std.specs.Prelude.{IfErr}
 use Rattle.std.proofs.lemmas.Result.{err_from_is_err_and}
 use Rattle.chk_site.specs.Files.{File}
@@ -9,15 +9,15 @@ use Rattle.chk_site.specs.declared.acts.OutsideFault.{OutsideFault}
 use Rattle.chk_site.specs.declared.acts.OutsideFault.TheVariants.{Outside as site_failed, NoMemory as no_memory}
 use Rattle.chk_site.proofs.Runs.{adds_as}
 use Rattle.chk_site.proofs.Leads.{leads_as, leads_none, owned_anyhow}
-use Rattle.chk_replace.specs.Load.{Has, Loaded, bytes_of}
-use Rattle.chk_world.specs.Books.{Book, read_book, empty_book, book_in}
+use Rattle.chk_replace.specs.Load.{Has, Loaded}
+use Rattle.chk_world.specs.Books.{Book, empty_book}
 use Rattle.chk_world.specs.JobSteps.{SparesFile}
 use Rattle.chk_heads.specs.Faults.{job_fault, JobCause, FailsLast, IsOfRead}
 use Rattle.chk_heads.specs.declared.fault.JobFault.{JobFault}
 use Rattle.chk_heads.specs.declared.fault.JobFault.TheVariants.{Outside, Damaged, Spent, NoMemory}
 use Rattle.chk_book.specs.Folders.{book_name}
 use Rattle.chk_book.specs.Books.{book_view}
-use Rattle.chk_book.specs.Loaded.{LoadedBook, ReadBook, IsBookOf, IsNoBookAt, file_bytes, book_result}
+use Rattle.chk_book.specs.Loaded.{LoadedBook, ReadBook, IsBookOf, IsNoBookAt, book_result}
 use Rattle.chk_book.specs.declared.book.Book.{Book as Struct}
 use Rattle.chk_book.proofs.Segmented.{failed_cause}
 use Rattle.chk_book.proofs.book.load_book.Goals as goal
