@@ -1,11 +1,11 @@
 -- What the calls on a segment under writing lead to, and why they are refused.
-use Rattle.std.proofs.Common.{◌≡◌, ℕ, ◌+◌, ◌≤◌, ◌^◌, Bool, true, false, if◌then◌else◌, List, [], ◌∷◌, ◌++◌, length, map, append-nil, append_assoc, length-append, Option, Ok, Err, Result, refl, sym, ◌∙◌, ap, subst, arith}
+use Rattle.std.proofs.Common.{◌≡◌, ℕ, ◌+◌, ◌-◌, ◌≤◌, ◌^◌, Bool, true, false, if◌then◌else◌, List, [], ◌∷◌, ◌++◌, length, map, append-nil, append_assoc, length-append, Option, Ok, Err, Result, refl, sym, ◌∙◌, ap, subst, arith}
 use Rattle.std.specs.Prelude.{IsTrue, OnOk}
 use Rattle.chk_site.specs.declared.acts.Who.{Who}
 use Rattle.chk_site.specs.declared.acts.OutsideFault.{OutsideFault}
 use Rattle.chk_site.specs.declared.acts.OutsideFault.TheVariants.{Outside, NoMemory as no_memory}
 use Rattle.chk_site.specs.History.{History, Step, Every}
-use Rattle.chk_site.specs.Site.{Adds, LastFailed}
+use Rattle.chk_site.specs.Site.{Adds, LastFailed, OutsideCause}
 use Rattle.chk_site.specs.Runs.{anyhow, Leads, MadeInTurn}
 use Rattle.chk_site.proofs.Runs.{adds_as}
 use Rattle.chk_site.proofs.Leads.{owned_anyhow}
@@ -17,8 +17,9 @@ use Rattle.chk_seqfile.specs.declared.writer.SeqWriter.{SeqWriter}
 use Rattle.chk_world.specs.Sight.{job}
 use Rattle.chk_world.specs.Books.{Book, End, Segment}
 use Rattle.chk_world.specs.JobSteps.{IsOf, WritesTo, SparesFile}
-use Rattle.chk_heads.specs.Faults.{job_fault, FailsLast}
+use Rattle.chk_heads.specs.Faults.{job_fault, FailsLast, JobCause, IsOfBegin}
 use Rattle.chk_book.specs.declared.segmenter.Segmenter.{Segmenter}
+use Rattle.chk_book.specs.Causes.{SpentBook}
 use Rattle.chk_book.specs.Folders.{segment_name, segment_stem, most_in}
 use Rattle.chk_book.specs.Views.{end_view}
 use Rattle.chk_book.specs.Storing.{appending, ending}
@@ -38,6 +39,20 @@ pub failed_last : (T : Type 0) (fault : OutsideFault) {old new : Option History}
     → Adds old new (FailsLast {T = T} (Err (job_fault fault)))
 failed_last T (Outside call) told = adds_as (FailsLast {T = T} (Err (job_fault (Outside call)))) told (λ added history x. x)
 failed_last T no_memory told = adds_as (FailsLast {T = T} (Err (job_fault no_memory))) told (λ added history x. tt)
+
+pub failed_cause : (T V : Type 0) (fault : OutsideFault) (before now : ℕ)
+    → OutsideCause {T = V} before now (Err fault) → JobCause {T = T} before now (Err (job_fault fault))
+failed_cause T V (Outside call) before now is = is
+failed_cause T V no_memory before now is = is
+
+pub failed_begin : (fault : OutsideFault) → IsOfBegin (job_fault fault)
+failed_begin (Outside call) = tt
+failed_begin no_memory = tt
+
+pub failed_spent : (T : Type 0) (b : Book) (fault : OutsideFault) → (b.next ≡ 2 ^ 63 - 1 → ⊥)
+    → SpentBook {T = T} b (Err (job_fault fault))
+failed_spent T b (Outside call) other = other
+failed_spent T b no_memory other = tt
 
 -- the name of the segment's file
 named : (s : Segmenter) (w : Writing) → IsAt s w → segment_name s.folder s.number ≡ segment_name w.folder w.number

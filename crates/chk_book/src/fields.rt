@@ -13,7 +13,7 @@ use chk_bytes::{NoMemory, Word, WordFault, take_u16, take_u32, take_u64};
 use std::alloc::Global;
 
 /// Why bytes give no book.
-#[derive(Clone, Copy, Debug, PartialEq, Eq)]
+#[derive(Clone, Copy)]
 pub(crate) enum BookFault {
     /// The field at `at` is the first that is wrong.
     Damaged { at: u64 },

@@ -321,6 +321,21 @@ impl Segmenter {
         ensures last { Adds (S.told site.old) (S.told site.new) (FailsLast result) }
         ensures cause { JobCause (S.fault_count site.old) (S.fault_count site.new) result }
     {
+        self.enter(alloc, site, book)
+    }
+
+    /// Appends the rest, syncs the file, and enters the segment.
+    fn enter<S: Site>(&self, alloc: Global, site: &mut S, book: &mut Book) -> Result<(), JobFault>
+        ensures raw { (w : Writing) → IsAt self.now w → Adds (S.told site.old) (S.told site.new)
+            (Leads (anyhow (SparesFile (segment_name w.folder w.number))) (HoldsSegment w)
+            (HasEnded w (book_view book.old) (book_view book.new) result)) }
+        ensures own { (w : Writing) → IsAt self.now w → self.now.who ≡ job → Adds (S.told site.old) (S.told site.new)
+            (Every (IsOf (WritesTo (segment_name w.folder w.number)))) }
+        ensures same { OnErr result (book_view book.new ≡ book_view book.old) }
+        ensures only { IfErr result IsOfWrite }
+        ensures last { Adds (S.told site.old) (S.told site.new) (FailsLast result) }
+        ensures cause { JobCause (S.fault_count site.old) (S.fault_count site.new) result }
+    {
         let next = book.with_segment(alloc, self.segment(), &self.ends)?;
         self.end_file(alloc, site)?;
         *book = next;

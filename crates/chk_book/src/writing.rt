@@ -19,15 +19,23 @@ pub(crate) fn bytes_of(alloc: Global, book: &Book) -> Result<Bytes, NoMemory>
     requires { IsTrue (is_book (written_version (book_view book.now)) (book_view book.now)) }
     ensures { IfOk result (λ bytes. bytes ≡ book_bytes (written_version (book_view book.now)) (book_view book.now)) }
 {
-    let version = version_of(book);
     let mut out = Bytes::new(alloc);
+    push_book(&mut out, book)?;
+    Ok(out)
+}
+
+/// Appends the book. Without memory some of it may be there.
+fn push_book(out: &mut Bytes, book: &Book) -> Result<(), NoMemory>
+    requires { IsTrue (is_book (written_version (book_view book.now)) (book_view book.now)) }
+    ensures { OnOk result (out.new ≡ out.old ++ book_bytes (written_version (book_view book.now)) (book_view book.now)) }
+{
+    let version = version_of(book);
     out.push_all(b"CHKB")?;
     out.push_all(&[version])?;
-    put_u64(&mut out, book.next)?;
-    push_segments(&mut out, book.segments.as_slice())?;
-    push_ends(&mut out, book.ends.as_slice(), version >= 2)?;
-    push_aside(&mut out, &book.aside)?;
-    Ok(out)
+    put_u64(out, book.next)?;
+    push_segments(out, book.segments.as_slice())?;
+    push_ends(out, book.ends.as_slice(), version >= 2)?;
+    push_aside(out, &book.aside)
 }
 
 /// The least version that says all of the book.

@@ -4,7 +4,7 @@ use Rattle.chk_site.specs.declared.acts.OutsideFault.{OutsideFault}
 use Rattle.chk_site.specs.declared.acts.OutsideFault.TheVariants.{Outside as site_failed, NoMemory as no_memory}
 use Rattle.chk_site.specs.Files.{File}
 use Rattle.chk_site.specs.History.{History}
-use Rattle.chk_site.specs.Site.{Adds}
+use Rattle.chk_site.specs.Site.{Adds, LastFailed, OutsideCause}
 use Rattle.chk_site.specs.Runs.{anyhow, Leads}
 use Rattle.chk_site.proofs.Runs.{adds_as}
 use Rattle.chk_site.proofs.Leads.{leads_none, owned_anyhow}
@@ -12,11 +12,12 @@ use Rattle.chk_replace.specs.Load.{Has}
 use Rattle.chk_world.specs.JobSteps.{SparesFile}
 use Rattle.chk_heads.specs.Heads.{Head}
 use Rattle.chk_heads.specs.Pieces.{bytes_in}
-use Rattle.chk_heads.specs.Faults.{job_fault}
+use Rattle.chk_heads.specs.Faults.{job_fault, JobCause, FailsLast, IsDamage, IsOfRead}
 use Rattle.chk_heads.specs.declared.fault.JobFault.{JobFault}
+use Rattle.chk_heads.specs.declared.fault.JobFault.TheVariants.{Outside, Damaged, Spent, NoMemory}
 use Rattle.chk_merge.specs.declared.reader.RecordReader.{RecordReader}
 use Rattle.chk_merge.specs.Spans.{room_of}
-use Rattle.chk_merge.specs.ReadBack.{IsWindowOf, CanRead, HasRead, IsHeld, NotHeld, HasWindow}
+use Rattle.chk_merge.specs.ReadBack.{IsWindowOf, CanRead, HasRead, IsHeld, NotHeld, HasWindow, IsDamageOf}
 use Rattle.chk_merge.proofs.Records.{known_whole}
 use Rattle.chk_merge.proofs.Windows.{is_window, value_shown, never_missing}
 
@@ -112,3 +113,52 @@ not_fetched most name f h first new fault told =
         (job_fault fault)) history
     said (site_failed call) history = tt
     said no_memory history = tt
+
+-- ---- why a read failed
+
+pub no_damage : (name : List ℕ) (h : Head) (fault : OutsideFault)
+    → IsDamageOf name h (job_fault fault)
+no_damage name h (site_failed call) = tt
+no_damage name h no_memory = tt
+
+pub failed_read : (fault : OutsideFault) → IsOfRead (job_fault fault)
+failed_read (site_failed call) = tt
+failed_read no_memory = tt
+
+pub failed_last : (fault : OutsideFault) {old new : Option History}
+    → Adds old new (LastFailed {T = Unit {0}} (Err fault))
+    → Adds old new (FailsLast {T = Unit {0}} (Err (job_fault fault)))
+failed_last (site_failed call) told =
+    adds_as (FailsLast {T = Unit {0}} (Err (job_fault (site_failed call)))) told
+    (λ added history x. x)
+failed_last no_memory told =
+    adds_as (FailsLast {T = Unit {0}} (Err (job_fault no_memory))) told (λ added history x. tt)
+
+pub failed_cause : (fault : OutsideFault) (before now : ℕ)
+    → OutsideCause {T = Unit {0}} before now (Err fault)
+    → JobCause {T = Unit {0}} before now (Err (job_fault fault))
+failed_cause (site_failed call) before now is = is
+failed_cause no_memory before now is = is
+
+-- ---- the fault of a record that isn't found
+
+pub damage_of : (name : List ℕ) (h : Head) (at : ℕ) (fault : JobFault) → at ≡ h.at
+    → IsDamage name at fault → IsDamageOf name h fault
+damage_of name h at (Outside call) there is = tt
+damage_of name h at (Damaged which place) there is = (is.0, is.1 ∙ there)
+damage_of name h at (Spent n) there is = tt
+damage_of name h at NoMemory there is = tt
+
+pub damage_read : (name : List ℕ) (at : ℕ) (fault : JobFault) → IsDamage name at fault
+    → IsOfRead fault
+damage_read name at (Outside call) is = tt
+damage_read name at (Damaged which place) is = tt
+damage_read name at (Spent n) is = is
+damage_read name at NoMemory is = tt
+
+pub damage_cause : (name : List ℕ) (at : ℕ) (fault : JobFault) → IsDamage name at fault
+    → (before now : ℕ) → now ≡ before → JobCause {T = Unit {0}} before now (Err fault)
+damage_cause name at (Outside call) is before now same = absurd is
+damage_cause name at (Damaged which place) is before now same = same
+damage_cause name at (Spent n) is before now same = absurd is
+damage_cause name at NoMemory is before now same = same

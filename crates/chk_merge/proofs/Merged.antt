@@ -8,7 +8,7 @@ use Rattle.chk_site.proofs.Runs.{adds_as, adds_both}
 use Rattle.chk_site.proofs.Leads.{leads_as, owned_anyhow}
 use Rattle.chk_world.specs.Books.{Book}
 use Rattle.chk_world.specs.JobSteps.{IsOf, WritesTo, ReadsOrWrites, SparesFile}
-use Rattle.chk_heads.specs.Faults.{IsOfWrite}
+use Rattle.chk_heads.specs.Faults.{IsOfBegin, IsOfWrite}
 use Rattle.chk_heads.specs.Heads.{Head}
 use Rattle.chk_heads.specs.declared.fault.JobFault.{JobFault}
 use Rattle.chk_heads.specs.declared.fault.JobFault.TheVariants.{Outside, Damaged, Spent, NoMemory}
@@ -138,6 +138,12 @@ pub own_as : (w : Writing) (folder : List ℕ) (next : ℕ) → w.folder ≡ fol
     → Adds old new (Every (IsOf (ReadsOrWrites (segment_name folder next))))
 own_as w folder next f n {old = old} {new = new} made =
     subst (λ (s : List ℕ). Adds old new (Every (IsOf (ReadsOrWrites s)))) (ap (λ x. segment_name x w.number) f ∙ ap (segment_name folder) n) made
+
+pub of_begin : (fault : JobFault) → IsOfBegin fault → NoDamage (Err fault)
+of_begin (Outside call) of = tt
+of_begin (Damaged name at) of = of
+of_begin (Spent n) of = tt
+of_begin NoMemory of = tt
 
 pub of_write : (fault : JobFault) → IsOfWrite fault → NoDamage (Err fault)
 of_write (Outside call) of = tt

@@ -4,8 +4,7 @@ use Rattle.chk_site.specs.Files.{Files}
 use Rattle.chk_site.specs.History.{History}
 use Rattle.chk_site.specs.Site.{Adds}
 use Rattle.chk_site.specs.Runs.{anyhow, Leads}
-use Rattle.chk_site.proofs.Runs.{adds_as}
-use Rattle.chk_site.proofs.Leads.{leads_as, owned_anyhow}
+use Rattle.chk_site.proofs.Leads.{leads_as}
 use Rattle.chk_world.specs.Books.{Book}
 use Rattle.chk_world.proofs.Each.{Each}
 use Rattle.chk_heads.specs.Heads.{Head}
@@ -69,15 +68,6 @@ module _ (folder : List ℕ) (b : Book) (held : Files) {old new : Option History
       )
       said (Spent n) x history sound are = absurd x
       said NoMemory x history sound are = tt
-
-pub no_memory_heads : {P : History → History → Type 0} (folder : List ℕ) (b : Book) (held : Files) {old new : Option History}
-    → Adds old new P
-    → Adds old new (Leads (anyhow (SparesFiles (names_of folder b))) (HasFiles (names_of folder b) held)
-    (SoundHeads folder b held (Err NoMemory)))
-no_memory_heads folder b held told =
-    adds_as (Leads (anyhow (SparesFiles (names_of folder b))) (HasFiles (names_of folder b) held)
-    (SoundHeads folder b held (Err NoMemory))) told
-    (λ added history p. record { leads = λ o h. tt; own = owned_anyhow added history })
 
 -- ---- the fault of records that don't run is of no call
 

@@ -108,6 +108,11 @@ WroteMerged folder next names held heads (Ok b) history =
 WroteMerged folder next names held heads (Err (Damaged name at)) history = ⊥
 WroteMerged folder next names held heads (Err fault) history = Unit {0}
 
+-- a book that was written, by how the writing went
+abbrev pub merged_result : Book → Result (Unit {0}) JobFault → Result Book JobFault
+merged_result b (Ok value) = Ok b
+merged_result b (Err fault) = Err fault
+
 -- after a merge: at Ok the segments are as they were; else the book is as before, and damage is of some stream
 abbrev pub HasMerged : List ℕ → Book → Book → Files → Result (Unit {0}) JobFault → History → Type 0
 HasMerged folder old new held (Ok value) history = HasFiles (names_of folder old) held history × MergedInto folder old new held history

@@ -63,12 +63,39 @@ pub fn archive_of<S: Site>(
     ensures cause { JobCause (S.fault_count site.old) (S.fault_count site.new) result }
 {
     let names = segment_names(alloc, folder, book)?;
-    let heads = gather_all(alloc, site, who, &names, most_in(folder))?;
     let stream = StreamRef { source, kind, name };
-    if let Some(found) = stream_break(book.ends.as_slice(), &stream, &heads) {
-        return Err(break_fault(alloc, book, folder, &names, &heads, &stream, found));
+    read_archive(book, alloc, site, who, folder, &names, &stream)
+}
+
+/// The bytes of a stream in the segments of these names, which are those of the book.
+fn read_archive<S: Site>(
+    book: &Book,
+    alloc: Global,
+    site: &mut S,
+    who: &Who,
+    folder: &str,
+    names: &[Word],
+    stream: &StreamRef<'_>,
+) -> Result<Bytes, JobFault>
+    requires { names.now ≡ names_of folder.now (book_view book.now) }
+    ensures raw { (held : Files) → who.now ≡ job → AreSettled (names_of folder.now
+        (book_view book.now)) held
+        → Adds (S.told site.old) (S.told site.new)
+        (Leads (anyhow (SparesFiles (names_of folder.now (book_view book.now)))) (HasFiles
+        (names_of folder.now (book_view book.now)) held)
+        (ReadArchive folder.now (book_view book.now) held (stream_of stream.now) result)) }
+    ensures own { who.now ≡ job → Adds (S.told site.old) (S.told site.new) (Every
+        (IsOf ReadsFile)) }
+    ensures pieces { Adds (S.told site.old) (S.told site.new) (Every AsksInPieces) }
+    ensures only { IfErr result IsOfRead }
+    ensures last { Adds (S.told site.old) (S.told site.new) (FailsLast result) }
+    ensures cause { JobCause (S.fault_count site.old) (S.fault_count site.new) result }
+{
+    let heads = gather_all(alloc, site, who, names, most_in(folder))?;
+    if let Some(found) = stream_break(book.ends.as_slice(), stream, &heads) {
+        return Err(break_fault(alloc, book, folder, names, &heads, stream, found));
     }
-    joined(alloc, site, who, &names, &heads, &stream)
+    joined(alloc, site, who, names, &heads, stream)
 }
 
 /// The values of a stream's records, in the order of the heads.

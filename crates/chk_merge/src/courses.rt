@@ -10,7 +10,7 @@ use chk_book::End;
 use chk_heads::{HeadRef, Heads};
 
 /// A stream, by its texts.
-#[derive(Clone, Copy, Debug)]
+#[derive(Clone, Copy)]
 pub(crate) struct StreamRef<'a> {
     pub source: &'a str,
     pub kind: &'a str,
@@ -36,7 +36,7 @@ impl StreamRef<'_> {
 }
 
 /// What is wrong with the records of a stream.
-#[derive(Clone, Copy, Debug, PartialEq, Eq)]
+#[derive(Clone, Copy)]
 pub(crate) enum Break {
     /// The head at this place doesn't go on from the stream's earlier ones.
     Head(usize),

@@ -9,13 +9,14 @@ ghost use Rattle.chk_world.specs.Sight.{job};
 ghost use Rattle.chk_world.specs.JobSteps.{IsOf, ReadsFile, ReadsOrWrites};
 ghost use Rattle.chk_heads.specs.Faults.{JobCause, FailsLast, IsOfRead};
 ghost use Rattle.chk_heads.specs.Pieces.{AsksInPieces};
-ghost use Rattle.chk_heads.specs.Order.{no_head};
+ghost use Rattle.chk_heads.specs.Order.{no_head, in_head_order};
 ghost use Rattle.chk_book.specs.Books.{book_view};
 ghost use Rattle.chk_book.specs.Folders.{segment_name, most_in, is_folder};
 ghost use Rattle.chk_book.specs.Segmenting.{Writing};
 ghost use Rattle.chk_book.specs.Written.{IsAt, taken};
 ghost use Rattle.chk_merge.specs.Segments.{names_of, HasFiles, SparesFiles, AreSettled};
-ghost use Rattle.chk_merge.specs.Merging.{SoundHeads, SparesBoth, AreApart, CanWrite, chunk_read, WroteOne, CanBegin, bare_book, WroteMerged, HasMerged};
+ghost use Rattle.chk_merge.specs.Checking.{AllGoWell, ToldOfSome};
+ghost use Rattle.chk_merge.specs.Merging.{SoundHeads, SparesBoth, AreApart, CanWrite, chunk_read, WroteOne, CanBegin, bare_book, WroteMerged, merged_result, HasMerged};
 ghost use Rattle.chk_book.specs.Causes.{SpentBook};
 ghost use Rattle.chk_book.specs.Loaded.{book_result};
 
@@ -96,9 +97,25 @@ fn sound_heads<S: Site>(
     ensures cause { JobCause (S.fault_count site.old) (S.fault_count site.new) result }
 {
     let mut heads = gather_all(alloc, site, who, names, most_in(folder))?;
-    check_all(alloc, book, folder, names, &heads)?;
-    heads.sort(alloc)?;
+    put_in_order(&mut heads, alloc, book, folder, names)?;
     Ok(heads)
+}
+
+/// Puts the heads in order, where their streams go on up to their ends.
+fn put_in_order(
+    heads: &mut Heads,
+    alloc: Global,
+    book: &Book,
+    folder: &str,
+    names: &[Word],
+) -> Result<(), JobFault>
+    ensures well { OnOk result (AllGoWell (book_view book.now).ends heads.old) }
+    ensures order { OnOk result (heads.new ≡ in_head_order heads.old) }
+    ensures err { IfErr result (ToldOfSome folder.now (book_view book.now) names.now heads.old) }
+{
+    check_all(alloc, book, folder, names, heads)?;
+    heads.sort(alloc)?;
+    Ok(())
 }
 
 /// Reads the record of a head back, and writes it behind the others.
@@ -168,6 +185,33 @@ fn write_merged<S: Site>(
         ends: Ends::new(alloc),
         aside: None,
     };
+    write_segment(&mut merged, alloc, site, who, folder, names, heads)?;
+    Ok(merged)
+}
+
+/// Writes the records of all heads, in turn, as the next segment of a book that names none, and enters it.
+fn write_segment<S: Site>(
+    merged: &mut Book,
+    alloc: Global,
+    site: &mut S,
+    who: &Who,
+    folder: &str,
+    names: &[Word],
+    heads: &Heads,
+) -> Result<(), JobFault>
+    requires folder { IsTrue (is_folder folder.now) }
+    requires bare { book_view merged.old ≡ bare_book merged.old.next }
+    ensures raw { (held : Files) → who.now ≡ job → AreSettled names.now held → AreApart names.now (segment_name folder.now merged.old.next)
+        → Adds (S.told site.old) (S.told site.new)
+        (Leads (anyhow (SparesBoth names.now (segment_name folder.now merged.old.next))) (CanBegin (most_in folder.now) names.now held heads.now)
+        (WroteMerged folder.now merged.old.next names.now held heads.now (merged_result (book_view merged.new) result))) }
+    ensures own { who.now ≡ job → Adds (S.told site.old) (S.told site.new)
+        (Every (IsOf (ReadsOrWrites (segment_name folder.now merged.old.next)))) }
+    ensures pieces { who.now ≡ job → Adds (S.told site.old) (S.told site.new) (Every AsksInPieces) }
+    ensures spent { SpentBook (bare_book merged.old.next) result }
+    ensures last { Adds (S.told site.old) (S.told site.new) (FailsLast result) }
+    ensures cause { JobCause (S.fault_count site.old) (S.fault_count site.new) result }
+{
     let most = most_in(folder);
     let mut segmenter = merged.begin_segment(alloc, site, who, folder)?;
     let mut reader = RecordReader::new(alloc);
@@ -184,6 +228,6 @@ fn write_merged<S: Site>(
             most,
         )?;
     }
-    segmenter.finish(alloc, site, &mut merged)?;
-    Ok(merged)
+    segmenter.finish(alloc, site, merged)?;
+    Ok(())
 }

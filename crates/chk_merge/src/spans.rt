@@ -54,14 +54,14 @@ impl Window {
 }
 
 /// A run of a file's bytes that is read at once.
-#[derive(Clone, Copy, Debug, PartialEq, Eq)]
+#[derive(Clone, Copy)]
 pub(crate) struct Run {
     pub from: u64,
     pub size: u64,
 }
 
 /// A run of bytes.
-#[derive(Clone, Copy, Debug, PartialEq, Eq)]
+#[derive(Clone, Copy)]
 pub(crate) struct Span {
     pub start: usize,
     pub size: usize,

@@ -1,109 +1,23 @@
-use Rattle.std.proofs.Common.{◌∙◌, ℕ, List, None, Ok, Err, map, ap, sym, subst}
-use Rattle.std.proofs.lemmas.Result.{err_from_is_err_and}
-use Rattle.chk_chunk.specs.Keys.{Stream}
-use Rattle.chk_world.specs.JobSteps.{IsOf, ReadsFile}
-use Rattle.chk_heads.specs.Pieces.{AsksInPieces}
-use Rattle.chk_heads.proofs.Gathering.{every_then, no_failure}
-use Rattle.chk_book.specs.Books.{book_view}
-use Rattle.chk_book.specs.Views.{end_view}
-use Rattle.chk_book.proofs.Added.{fails_later}
-use Rattle.chk_merge.specs.Segments.{AreSettled}
-use Rattle.chk_merge.specs.Courses.{end_of, IsBreakBy}
-use Rattle.chk_merge.specs.Archives.{ToldBreak}
-use Rattle.chk_merge.proofs.Archived.{archived, not_sound, not_run, gathered_as, joined_as, told_of_read, told_no_call, told_cause}
+use Rattle.std.proofs.Common.{◌∙◌}
 use Rattle.chk_merge.proofs.archives.archive_of.Goals as goal
 
-pub returns-in_err-heads-clause-raw : goal.returns-in_err-heads-clause-raw
-returns-in_err-heads-clause-raw g c held is settled =
-    let folder = c.args.folder.now in
-    let b = book_view c.args.book.now in
-    let s : Stream = record {
-      source = c.args.source.now;
-      kind = c.args.kind.now;
-      name =
-          c.args.name.now;
-    } in
-    let p = err_from_is_err_and c.from_residual-in_err-heads.result
-    c.from_residual-in_err-heads.ensures.1 in
-    let are = c.deref.ensures.value ∙ c.in_ok-names.ensures in
-    rw (p.1, p.2)
-    (not_sound folder b held s c.in_err-heads.field-0.0
-    (gathered_as folder b held c.deref.result.now c.most_in.result
-    (Err c.in_err-heads.field-0.0) are c.most_in.ensures.most
-    (c.in_err-heads.ensures.raw held is (subst (λ ws. AreSettled ws held) (sym are) settled))))
-
-pub returns-in-Some-clause-raw : goal.returns-in-Some-clause-raw
-returns-in-Some-clause-raw g c held is settled =
-    let folder = c.args.folder.now in
-    let b = book_view c.args.book.now in
-    let s : Stream = record {
-      source = c.args.source.now;
-      kind = c.args.kind.now;
-      name =
-          c.args.name.now;
-    } in
-    let heads = c.in_ok-heads.heads in
-    let are = c.deref.ensures.value ∙ c.in_ok-names.ensures in
-    let told = subst (λ ws. ToldBreak folder b ws s heads c.break_fault.result)
-    (c.deref-in-Some.ensures.value ∙ c.in_ok-names.ensures) c.break_fault.ensures in
-    not_run folder b held s heads c.break_fault.result told
-    (gathered_as folder b held c.deref.result.now c.most_in.result
-    (Ok heads) are c.most_in.ensures.most
-    (c.in_ok-heads.ensures.raw held is (subst (λ ws. AreSettled ws held) (sym are) settled)))
-
-pub returns-in-Some-clause-only : goal.returns-in-Some-clause-only
-returns-in-Some-clause-only g c =
-    told_of_read c.args.folder.now (book_view c.args.book.now) c.deref-in-Some.result.now _
-    c.in_ok-heads.heads c.break_fault.result c.break_fault.ensures
-
-pub returns-in-Some-clause-last : goal.returns-in-Some-clause-last
-returns-in-Some-clause-last g c =
-    no_failure {T = List ℕ} (Err c.break_fault.result)
-    (told_no_call c.args.folder.now (book_view c.args.book.now) c.deref-in-Some.result.now _
-    c.in_ok-heads.heads c.break_fault.result c.break_fault.ensures)
-    c.in_ok-heads.ensures.pieces
-
-pub returns-in-Some-clause-cause : goal.returns-in-Some-clause-cause
-returns-in-Some-clause-cause g c =
-    told_cause c.args.folder.now (book_view c.args.book.now) c.deref-in-Some.result.now _
-    c.in_ok-heads.heads c.break_fault.result c.break_fault.ensures
-    (g.S.Site.fault_count c.args.site.now) (g.S.Site.fault_count c.gather_all.new.site)
-    c.in_ok-heads.ensures.cause
+pub read_archive-requires : goal.read_archive-requires
+read_archive-requires g c = c.deref.ensures.value ∙ c.in_ok-names.ensures
 
 pub returns-clause-raw : goal.returns-clause-raw
-returns-clause-raw g c held is settled =
-    let folder = c.args.folder.now in
-    let b = book_view c.args.book.now in
-    let s : Stream = record {
-      source = c.args.source.now;
-      kind = c.args.kind.now;
-      name =
-          c.args.name.now;
-    } in
-    let heads = c.in_ok-heads.heads in
-    let are = c.deref.ensures.value ∙ c.in_ok-names.ensures in
-    let ends = ap (map end_view) c.as_slice.ensures in
-    let fine : IsBreakBy s (end_of s b.ends) heads None =
-    subst (λ es. IsBreakBy s (end_of s es) heads None) ends (subst (IsBreakBy s (end_of s
-    (map end_view c.as_slice.result.now)) heads) c.in_default.is c.stream_break.ensures) in
-    let also = c.deref-2.ensures.value ∙ c.in_ok-names.ensures in
-    archived folder b held s heads c.joined.result fine
-    (gathered_as folder b held c.deref.result.now c.most_in.result
-    (Ok heads) are c.most_in.ensures.most
-    (c.in_ok-heads.ensures.raw held is (subst (λ ws. AreSettled ws held) (sym are) settled)))
-    (joined_as folder b held s heads c.deref-2.result.now c.most_in.result c.joined.result also
-    c.most_in.ensures.most
-    (c.joined.ensures.raw c.most_in.result held c.most_in.ensures.few (subst
-    (λ ws. AreSettled ws held) (sym also) settled)))
+returns-clause-raw g c = c.read_archive.ensures.raw
 
 pub returns-clause-own : goal.returns-clause-own
-returns-clause-own g c = λ is. every_then (IsOf ReadsFile) (c.in_ok-heads.ensures.own is)
-    (c.joined.ensures.own is)
+returns-clause-own g c = c.read_archive.ensures.own
 
 pub returns-clause-pieces : goal.returns-clause-pieces
-returns-clause-pieces g c = every_then AsksInPieces c.in_ok-heads.ensures.pieces
-    c.joined.ensures.pieces
+returns-clause-pieces g c = c.read_archive.ensures.pieces
+
+pub returns-clause-only : goal.returns-clause-only
+returns-clause-only g c = c.read_archive.ensures.only
 
 pub returns-clause-last : goal.returns-clause-last
-returns-clause-last g c = fails_later c.joined.result c.in_ok-heads.ensures.pieces
-    c.joined.ensures.last
+returns-clause-last g c = c.read_archive.ensures.last
+
+pub returns-clause-cause : goal.returns-clause-cause
+returns-clause-cause g c = c.read_archive.ensures.cause

@@ -1,12 +1,16 @@
-use Rattle.std.proofs.Common.{◌∙◌, ℕ, List, refl}
+use Rattle.std.proofs.Common.{◌∙◌, ◌≤◌, ℕ, List, length, Ok, refl, ap, arith}
+use Rattle.std.proofs.lemmas.List.{take_all}
 use Rattle.std.proofs.lemmas.Result.{err_from_is_err_and}
 use Rattle.chk_site.specs.History.{Every}
-use Rattle.chk_site.proofs.Runs.{adds_none}
-use Rattle.chk_site.proofs.Leads.{leads_then}
+use Rattle.chk_site.proofs.Runs.{adds_none, adds_as}
+use Rattle.chk_site.proofs.Leads.{leads_then, leads_as}
 use Rattle.chk_world.specs.JobSteps.{IsOf, ReadsFile}
 use Rattle.chk_heads.specs.Pieces.{AsksInPieces}
+use Rattle.chk_heads.specs.Faults.{FailsLast}
 use Rattle.chk_heads.proofs.Gathering.{every_then}
 use Rattle.chk_merge.specs.Streams.{stream_of}
+use Rattle.chk_merge.specs.Archives.{values_in}
+use Rattle.chk_book.proofs.Added.{cause_later}
 use Rattle.chk_merge.proofs.AllGathered.{fails_later}
 use Rattle.chk_merge.proofs.Joining.{none_joined, not_joined}
 use Rattle.chk_merge.proofs.archives.joined.Goals as goal
@@ -54,3 +58,45 @@ loop-index-preserved g c = record {
   pieces = every_then AsksInPieces c.loop-index.invariant.pieces c.in_ok-join_one.ensures.pieces;
   count = c.in_ok-join_one.ensures.cause ∙ c.loop-index.invariant.count;
 }
+
+pub returns-in_err-join_one-clause-only : goal.returns-in_err-join_one-clause-only
+returns-in_err-join_one-clause-only g c =
+    let p = err_from_is_err_and c.from_residual.result c.from_residual.ensures.1 in
+    rw (p.1, p.2) c.in_err-join_one.ensures.only
+
+pub returns-in_err-join_one-clause-cause : goal.returns-in_err-join_one-clause-cause
+returns-in_err-join_one-clause-cause g c =
+    let p = err_from_is_err_and c.from_residual.result c.from_residual.ensures.1 in
+    rw (p.1, p.2)
+    (cause_later (List ℕ) (Unit {0}) c.in_err-join_one.field-0.0 (g.S.Site.fault_count
+    c.args.site.now)
+    (g.S.Site.fault_count c.loop-index.site) (g.S.Site.fault_count c.join_one.new.site)
+    c.loop-index.invariant.count c.in_err-join_one.ensures.cause)
+
+pub returns-clause-raw : goal.returns-clause-raw
+returns-clause-raw g c most held few settled =
+    let l = c.loop-index in
+    let heads = c.args.heads.now in
+    let past : length heads ≤ l.index =
+    let e = c.loop-index-test.false in let k = c.len-index-end.ensures in omega (arith, e, k) in
+    leads_as (λ h x. x)
+    (λ h x. (
+      x.0.files,
+      x.1 ∙ ap (values_in (stream_of c.args.stream.now) c.args.names.now held) (take_all l.index
+          heads past),
+    ))
+    (l.invariant.so most held few settled)
+
+pub returns-clause-own : goal.returns-clause-own
+returns-clause-own g c = c.loop-index.invariant.own
+
+pub returns-clause-pieces : goal.returns-clause-pieces
+returns-clause-pieces g c = c.loop-index.invariant.pieces
+
+pub returns-clause-last : goal.returns-clause-last
+returns-clause-last g c =
+    adds_as (FailsLast {T = List ℕ} (Ok c.loop-index.bytes)) c.loop-index.invariant.pieces (λ added
+    history x. tt)
+
+pub returns-clause-cause : goal.returns-clause-cause
+returns-clause-cause g c = c.loop-index.invariant.count

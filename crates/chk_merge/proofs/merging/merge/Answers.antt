@@ -1,9 +1,11 @@
-use Rattle.std.proofs.Common.{◌∙◌, Ok, Err, refl, sym, subst}
+use Rattle.std.proofs.Common.{◌∙◌, List, Ok, Err, refl, sym, subst}
 use Rattle.std.proofs.lemmas.Result.{err_from_is_err_and}
 use Rattle.chk_site.specs.Site.{Adds}
 use Rattle.chk_site.specs.Runs.{anyhow, Leads}
 use Rattle.chk_site.proofs.Runs.{adds_then}
+use Rattle.chk_site.proofs.Leads.{leads_none}
 use Rattle.chk_world.specs.JobSteps.{IsOf, ReadsOrWrites}
+use Rattle.chk_heads.specs.Heads.{Head}
 use Rattle.chk_heads.specs.Pieces.{AsksInPieces}
 use Rattle.chk_heads.proofs.Gathering.{every_then}
 use Rattle.chk_book.specs.declared.book.Book.{Book as Struct}
@@ -12,6 +14,7 @@ use Rattle.chk_book.specs.Folders.{segment_name, most_in}
 use Rattle.chk_merge.specs.Segments.{AreSettled}
 use Rattle.chk_merge.specs.Merging.{SparesBoth, AreApart, CanBegin, WroteMerged, bare_book}
 use Rattle.chk_merge.proofs.AllGathered.{fails_later}
+use Rattle.chk_book.proofs.Added.{fails_as, cause_later}
 use Rattle.chk_merge.proofs.Writing.{reads_as}
 use Rattle.chk_merge.proofs.MergedInto.{merged, not_sound_merged, not_written_merged, spent_read, spent_same}
 use Rattle.chk_merge.proofs.merging.merge.Goals as goal
@@ -103,3 +106,49 @@ returns-in_err-merged-clause-pieces g c = λ is.
 pub returns-clause-pieces : goal.returns-clause-pieces
 returns-clause-pieces g c = λ is.
     every_then AsksInPieces c.in_ok-heads.ensures.pieces (c.in_ok-merged.ensures.pieces is)
+
+pub returns-then-book-eq-LAST_NUMBER-clause-raw : goal.returns-then-book-eq-LAST_NUMBER-clause-raw
+returns-then-book-eq-LAST_NUMBER-clause-raw g c held is settled apart = leads_none _ (λ h x. refl)
+
+pub returns-in_err-names-clause-raw : goal.returns-in_err-names-clause-raw
+returns-in_err-names-clause-raw g c =
+    let r = c.from_residual in
+    let p = err_from_is_err_and r.result r.ensures.1 in
+    rw (p.1, p.2)
+    (λ held is settled apart. leads_none _ (λ h x. refl))
+
+pub returns-in_err-heads-clause-last : goal.returns-in_err-heads-clause-last
+returns-in_err-heads-clause-last g c =
+    let r = c.from_residual-in_err-heads in
+    let p = err_from_is_err_and r.result r.ensures.1 in
+    rw (p.1, p.2)
+    (fails_as (Unit {0}) (List Head) c.in_err-heads.field-0.0 c.in_err-heads.ensures.last)
+
+pub returns-in_err-heads-clause-cause : goal.returns-in_err-heads-clause-cause
+returns-in_err-heads-clause-cause g c =
+    let r = c.from_residual-in_err-heads in
+    let p = err_from_is_err_and r.result r.ensures.1 in
+    rw (p.1, p.2)
+    (cause_later (Unit {0}) (List Head) c.in_err-heads.field-0.0 (g.S.Site.fault_count
+    c.args.site.now)
+    (g.S.Site.fault_count c.args.site.now) (g.S.Site.fault_count c.sound_heads.new.site) refl
+    c.in_err-heads.ensures.cause)
+
+pub returns-in_err-heads-clause-pieces : goal.returns-in_err-heads-clause-pieces
+returns-in_err-heads-clause-pieces g c = λ is. c.in_err-heads.ensures.pieces
+
+pub returns-in_err-merged-clause-cause : goal.returns-in_err-merged-clause-cause
+returns-in_err-merged-clause-cause g c =
+    let r = c.from_residual-in_err-merged in
+    let p = err_from_is_err_and r.result r.ensures.1 in
+    rw (p.1, p.2)
+    (cause_later (Unit {0}) Struct c.in_err-merged.field-0.0 (g.S.Site.fault_count c.args.site.now)
+    (g.S.Site.fault_count c.sound_heads.new.site) (g.S.Site.fault_count c.write_merged.new.site)
+    c.in_ok-heads.ensures.cause
+    c.in_err-merged.ensures.cause)
+
+pub returns-clause-spent : goal.returns-clause-spent
+returns-clause-spent g c = λ e. let other = c.if-book-eq-LAST_NUMBER.false in other e
+
+pub returns-clause-cause : goal.returns-clause-cause
+returns-clause-cause g c = c.in_ok-merged.ensures.cause ∙ c.in_ok-heads.ensures.cause

@@ -1,189 +1,78 @@
-use Rattle.std.proofs.Common.{◌∙◌, ◌≤◌, ℕ, [], length, map, None, Ok, Err, get_or, refl, ap, subst, arith}
+use Rattle.std.proofs.Common.{◌∙◌, [], map, None, refl, ap}
 use Rattle.std.proofs.lemmas.Result.{err_from_is_err_and}
-use Rattle.std.proofs.lemmas.List.{take_all}
-use Rattle.chk_site.specs.Site.{Adds}
-use Rattle.chk_site.specs.Runs.{anyhow, Leads}
-use Rattle.chk_site.proofs.Runs.{adds_as, adds_then}
-use Rattle.chk_site.proofs.Leads.{leads_then}
+use Rattle.chk_site.proofs.Runs.{adds_as}
 use Rattle.chk_world.specs.Books.{Book}
-use Rattle.chk_world.specs.JobSteps.{SparesFile, IsOf, ReadsOrWrites}
-use Rattle.chk_heads.specs.Order.{no_head}
-use Rattle.chk_heads.specs.Pieces.{AsksInPieces}
-use Rattle.chk_heads.proofs.Gathering.{every_then}
 use Rattle.chk_book.specs.declared.book.Book.{Book as Struct}
-use Rattle.chk_book.specs.Books.{book_view}
 use Rattle.chk_book.specs.Views.{segment_view, end_view}
-use Rattle.chk_book.specs.Folders.{segment_name, most_in}
-use Rattle.chk_book.specs.Segmenting.{HoldsSegment, begun}
-use Rattle.chk_book.specs.Written.{taken, HasEnded}
-use Rattle.chk_merge.specs.Merging.{SparesBoth, CanWrite, chunk_read, WroteOne}
-use Rattle.chk_merge.proofs.AllGathered.{fails_later}
-use Rattle.chk_merge.proofs.Writing.{writes_as, writes_ask}
-use Rattle.chk_merge.proofs.Merged.{begun_beside, ended_beside, not_merged, unmerged, named_as, apart_as, own_as, of_write}
+use Rattle.chk_merge.specs.Merging.{bare_book}
+use Rattle.chk_book.proofs.Added.{fails_as, cause_later}
+use Rattle.chk_merge.proofs.MergedInto.{spent_same}
 use Rattle.chk_merge.proofs.merging.write_merged.Goals as goal
 
-pub returns-in_err-segmenter-clause-own : goal.returns-in_err-segmenter-clause-own
-returns-in_err-segmenter-clause-own g c = λ is. writes_as (segment_name c.args.folder.now c.args.next) (c.in_err-segmenter.ensures.own is)
+pub write_segment-requires-clause-bare : goal.write_segment-requires-clause-bare
+write_segment-requires-clause-bare g c =
+    ap (λ gs. let b : Book = record {
+      next = c.args.next;
+      segments = map segment_view gs;
+      ends =
+          map end_view c.new-2.result;
+      aside = None;
+    } in b) c.new.ensures
+    ∙ ap (λ es. let b : Book = record {
+      next = c.args.next;
+      segments = [];
+      ends = map end_view es;
+      aside = None;
+    } in b) c.new-2.ensures
 
-pub loop-index-init : goal.loop-index-init
-loop-index-init g c = record {
-  so = (
-    begun c.args.folder.now c.args.next,
-    c.in_ok-segmenter.ensures.at,
-    refl,
-    refl,
-    λ held is settled apart.
-        begun_beside (most_in c.args.folder.now) c.args.names.now held c.args.heads.now c.args.folder.now c.args.next c.new-reader.result settled apart
-        c.new-reader.ensures c.in_ok-segmenter.ensures.raw (c.in_ok-segmenter.ensures.own is),
-  );
-  who = c.in_ok-segmenter.ensures.who;
-  own = λ is. writes_as (segment_name c.args.folder.now c.args.next) (c.in_ok-segmenter.ensures.own is);
-  pieces = λ is. writes_ask (segment_name c.args.folder.now c.args.next) (c.in_ok-segmenter.ensures.own is);
-  made = adds_as (λ added history. Unit {0}) c.in_ok-segmenter.ensures.raw (λ added history x. tt);
-  count = c.in_ok-segmenter.ensures.cause;
-}
-
-pub returns-in_err-write_one-clause-raw : goal.returns-in_err-write_one-clause-raw
-returns-in_err-write_one-clause-raw g c held is settled apart =
-    let l = c.loop-index in
-    let w = l.invariant.so.0 in
-    let f = l.invariant.so.2 in
-    let n = l.invariant.so.3 in
-    let folder = c.args.folder.now in
-    let names = c.args.names.now in
-    let heads = c.args.heads.now in
-    let q = c.write_one.new.reader in
-    let v = taken l.segmenter w (chunk_read (get_or heads l.index no_head) q) in
-    let r = c.from_residual-in_err-write_one in
-    let p = err_from_is_err_and r.result r.ensures.1 in
-    let apart' = apart_as names w folder c.args.next f n apart in
+pub returns-in_err-write_segment-clause-raw : goal.returns-in_err-write_segment-clause-raw
+returns-in_err-write_segment-clause-raw g c =
+    let p = err_from_is_err_and c.from_residual.result c.from_residual.ensures.1 in
     rw (p.1, p.2)
-    (named_as names w folder c.args.next f n
-    (leads_then (l.invariant.so.4 held is settled apart')
-    (not_merged (most_in folder) names held heads folder c.args.next l.index (segment_name w.folder w.number) q v c.in_err-write_one.field-0.0
-    (subst
-    (λ (m : ℕ). Adds (g.S.Site.told l.site) (g.S.Site.told c.write_one.new.site)
-    (Leads (anyhow (SparesBoth names (segment_name w.folder w.number))) (CanWrite m names held heads l.reader w l.index)
-    (WroteOne m names held heads q v l.index (Err c.in_err-write_one.field-0.0))))
-    c.most_in-most.ensures.most (c.in_err-write_one.ensures.raw w held is l.invariant.so.1 settled apart')))))
+    (λ held is settled apart. c.in_err-write_segment.ensures.raw held is settled apart)
 
-pub returns-in_err-write_one-clause-own : goal.returns-in_err-write_one-clause-own
-returns-in_err-write_one-clause-own g c = λ is.
-    let i = c.loop-index.invariant in
-    every_then (IsOf (ReadsOrWrites (segment_name c.args.folder.now c.args.next))) (i.own is)
-    (own_as i.so.0 c.args.folder.now c.args.next i.so.2 i.so.3 (c.in_err-write_one.ensures.own i.so.0 i.so.1 is))
+pub returns-in_err-write_segment-clause-own : goal.returns-in_err-write_segment-clause-own
+returns-in_err-write_segment-clause-own g c = c.in_err-write_segment.ensures.own
 
-pub returns-in_err-write_one-clause-last : goal.returns-in_err-write_one-clause-last
-returns-in_err-write_one-clause-last g c =
-    let r = c.from_residual-in_err-write_one in
-    let p = err_from_is_err_and r.result r.ensures.1 in
-    rw (p.1, p.2) (fails_later Struct (Unit {0}) c.in_err-write_one.field-0.0 c.loop-index.invariant.made c.in_err-write_one.ensures.last)
+pub returns-in_err-write_segment-clause-pieces : goal.returns-in_err-write_segment-clause-pieces
+returns-in_err-write_segment-clause-pieces g c = c.in_err-write_segment.ensures.pieces
 
-pub loop-index-preserved : goal.loop-index-preserved
-loop-index-preserved g c =
-    let l = c.loop-index in
-    let i = l.invariant in
-    let w = i.so.0 in
-    let names = c.args.names.now in
-    let heads = c.args.heads.now in
-    let q = c.write_one.new.reader in
-    let v = taken l.segmenter w (chunk_read (get_or heads l.index no_head) q) in
-    record {
-      so = (
-        v,
-        c.in_ok-write_one.ensures.at w i.so.1,
-        i.so.2,
-        i.so.3,
-        λ held is settled apart.
-            leads_then (i.so.4 held is settled apart)
-            (subst
-            (λ (m : ℕ). Adds (g.S.Site.told l.site) (g.S.Site.told c.write_one.new.site)
-            (Leads (anyhow (SparesBoth names (segment_name w.folder w.number))) (CanWrite m names held heads l.reader w l.index)
-            (WroteOne m names held heads q v l.index (Ok tt))))
-            c.most_in-most.ensures.most (c.in_ok-write_one.ensures.raw w held is i.so.1 settled apart)),
-      );
-      who = c.write_one.ensures.who ∙ i.who;
-      own = λ is.
-          every_then (IsOf (ReadsOrWrites (segment_name c.args.folder.now c.args.next))) (i.own is)
-          (own_as i.so.0 c.args.folder.now c.args.next i.so.2 i.so.3 (c.in_ok-write_one.ensures.own i.so.0 i.so.1 is));
-      pieces = λ is. every_then AsksInPieces (i.pieces is) (c.in_ok-write_one.ensures.pieces i.so.0 i.so.1 is);
-      made = adds_then (λ added history. Unit {0}) i.made c.in_ok-write_one.ensures.last (λ a b history x y. tt);
-      count = c.in_ok-write_one.ensures.cause ∙ i.count;
-    }
-
-pub returns-in_err-finish-clause-raw : goal.returns-in_err-finish-clause-raw
-returns-in_err-finish-clause-raw g c held is settled apart =
-    let r = c.from_residual-in_err-finish in
-    let p = err_from_is_err_and r.result r.ensures.1 in
+pub returns-in_err-write_segment-clause-spent : goal.returns-in_err-write_segment-clause-spent
+returns-in_err-write_segment-clause-spent g c =
+    let p = err_from_is_err_and c.from_residual.result c.from_residual.ensures.1 in
     rw (p.1, p.2)
-    (unmerged (most_in c.args.folder.now) c.args.names.now held c.args.heads.now c.args.folder.now c.args.next
-    (segment_name c.args.folder.now c.args.next) c.in_err-finish.field-0.0 (of_write c.in_err-finish.field-0.0 c.in_err-finish.ensures.only)
-    (adds_then (λ added history. Unit {0}) c.loop-index.invariant.made c.in_err-finish.ensures.last (λ a b history x y. tt)))
+    (spent_same (Unit {0}) Struct (bare_book c.args.next) (bare_book c.args.next)
+    c.in_err-write_segment.field-0.0 refl c.in_err-write_segment.ensures.spent)
 
-pub returns-in_err-finish-clause-own : goal.returns-in_err-finish-clause-own
-returns-in_err-finish-clause-own g c = λ is.
-    let i = c.loop-index.invariant in
-    every_then (IsOf (ReadsOrWrites (segment_name c.args.folder.now c.args.next))) (i.own is)
-    (own_as i.so.0 c.args.folder.now c.args.next i.so.2 i.so.3
-    (writes_as (segment_name i.so.0.folder i.so.0.number) (c.in_err-finish.ensures.own i.so.0 i.so.1 (i.who ∙ is))))
+pub returns-in_err-write_segment-clause-last : goal.returns-in_err-write_segment-clause-last
+returns-in_err-write_segment-clause-last g c =
+    let p = err_from_is_err_and c.from_residual.result c.from_residual.ensures.1 in
+    rw (p.1, p.2)
+    (fails_as Struct (Unit {0}) c.in_err-write_segment.field-0.0
+    c.in_err-write_segment.ensures.last)
 
-pub returns-in_err-finish-clause-last : goal.returns-in_err-finish-clause-last
-returns-in_err-finish-clause-last g c =
-    let r = c.from_residual-in_err-finish in
-    let p = err_from_is_err_and r.result r.ensures.1 in
-    rw (p.1, p.2) (fails_later Struct (Unit {0}) c.in_err-finish.field-0.0 c.loop-index.invariant.made c.in_err-finish.ensures.last)
+pub returns-in_err-write_segment-clause-cause : goal.returns-in_err-write_segment-clause-cause
+returns-in_err-write_segment-clause-cause g c =
+    let p = err_from_is_err_and c.from_residual.result c.from_residual.ensures.1 in
+    rw (p.1, p.2)
+    (cause_later Struct (Unit {0}) c.in_err-write_segment.field-0.0 (g.S.Site.fault_count
+    c.args.site.now) (g.S.Site.fault_count c.args.site.now)
+    (g.S.Site.fault_count c.write_segment.new.site) refl c.in_err-write_segment.ensures.cause)
 
 pub returns-clause-raw : goal.returns-clause-raw
-returns-clause-raw g c held is settled apart =
-    let l = c.loop-index in
-    let w = l.invariant.so.0 in
-    let f = l.invariant.so.2 in
-    let n = l.invariant.so.3 in
-    let folder = c.args.folder.now in
-    let names = c.args.names.now in
-    let heads = c.args.heads.now in
-    let apart' = apart_as names w folder c.args.next f n apart in
-    let past : length heads ≤ l.index = let e = c.loop-index-test.false in let k = c.len-index-end.ensures in omega arith in
-    let bare =
-    ap (λ gs. let b : Book = record { next = c.args.next; segments = map segment_view gs; ends = map end_view c.new-2.result; aside = None } in b) c.new.ensures
-    ∙ ap (λ es. let b : Book = record { next = c.args.next; segments = []; ends = map end_view es; aside = None } in b) c.new-2.ensures in
-    named_as names w folder c.args.next f n
-    (leads_then (l.invariant.so.4 held is settled apart')
-    (ended_beside (most_in folder) names held heads folder c.args.next l.index l.segmenter l.reader w (book_view c.finish.new.book) settled apart'
-    l.invariant.so.1 f n (take_all l.index heads past)
-    (subst
-    (λ (b : Book). Adds (g.S.Site.told l.site) (g.S.Site.told c.finish.new.site)
-    (Leads (anyhow (SparesFile (segment_name w.folder w.number))) (HoldsSegment w) (HasEnded w b (book_view c.finish.new.book) (Ok tt))))
-    bare (c.in_ok-finish.ensures.raw w l.invariant.so.1))
-    (c.in_ok-finish.ensures.own w l.invariant.so.1 (l.invariant.who ∙ is))))
+returns-clause-raw g c = c.in_ok-write_segment.ensures.raw
 
 pub returns-clause-own : goal.returns-clause-own
-returns-clause-own g c = λ is.
-    let i = c.loop-index.invariant in
-    every_then (IsOf (ReadsOrWrites (segment_name c.args.folder.now c.args.next))) (i.own is)
-    (own_as i.so.0 c.args.folder.now c.args.next i.so.2 i.so.3
-    (writes_as (segment_name i.so.0.folder i.so.0.number) (c.in_ok-finish.ensures.own i.so.0 i.so.1 (i.who ∙ is))))
-
-pub returns-clause-last : goal.returns-clause-last
-returns-clause-last g c =
-    adds_then _ c.loop-index.invariant.made c.in_ok-finish.ensures.last (λ a b history x y. tt)
-
-pub returns-in_err-segmenter-clause-pieces : goal.returns-in_err-segmenter-clause-pieces
-returns-in_err-segmenter-clause-pieces g c = λ is. writes_ask (segment_name c.args.folder.now c.args.next) (c.in_err-segmenter.ensures.own is)
-
-pub returns-in_err-write_one-clause-pieces : goal.returns-in_err-write_one-clause-pieces
-returns-in_err-write_one-clause-pieces g c = λ is.
-    let i = c.loop-index.invariant in
-    every_then AsksInPieces (i.pieces is) (c.in_err-write_one.ensures.pieces i.so.0 i.so.1 is)
-
-pub returns-in_err-finish-clause-pieces : goal.returns-in_err-finish-clause-pieces
-returns-in_err-finish-clause-pieces g c = λ is.
-    let i = c.loop-index.invariant in
-    every_then AsksInPieces (i.pieces is)
-    (writes_ask (segment_name i.so.0.folder i.so.0.number) (c.in_err-finish.ensures.own i.so.0 i.so.1 (i.who ∙ is)))
+returns-clause-own g c = c.in_ok-write_segment.ensures.own
 
 pub returns-clause-pieces : goal.returns-clause-pieces
-returns-clause-pieces g c = λ is.
-    let i = c.loop-index.invariant in
-    every_then AsksInPieces (i.pieces is)
-    (writes_ask (segment_name i.so.0.folder i.so.0.number) (c.in_ok-finish.ensures.own i.so.0 i.so.1 (i.who ∙ is)))
+returns-clause-pieces g c = c.in_ok-write_segment.ensures.pieces
+
+pub returns-clause-spent : goal.returns-clause-spent
+returns-clause-spent g c = c.in_ok-write_segment.ensures.spent
+
+pub returns-clause-cause : goal.returns-clause-cause
+returns-clause-cause g c = c.in_ok-write_segment.ensures.cause
+
+pub returns-clause-last : goal.returns-clause-last
+returns-clause-last g c = adds_as _ c.in_ok-write_segment.ensures.last (λ added history x. tt)

@@ -8,7 +8,8 @@ use Rattle.chk_book.specs.Books.{book_view}
 use Rattle.chk_book.specs.Folders.{segment_name}
 use Rattle.chk_book.specs.Written.{taken}
 use Rattle.chk_book.proofs.Segmented.{unsaid}
-use Rattle.chk_book.proofs.Added.{leads_named, writes_named, every_then, fails_later, next_chunks, added}
+use Rattle.chk_book.specs.declared.segmenter.Segmenter.{Segmenter}
+use Rattle.chk_book.proofs.Added.{leads_named, writes_named, every_then, fails_later, fails_as, cause_later, cause_then, write_begins, all_begin, spent_write, spent_written, spent_same, next_chunks, added}
 use Rattle.chk_book.proofs.book.Book.add_segment.Goals as goal
 
 pub returns-in_err-part-clause-raw : goal.returns-in_err-part-clause-raw
@@ -82,3 +83,75 @@ returns-clause-own g c =
 
 pub returns-clause-last : goal.returns-clause-last
 returns-clause-last g c = fails_later c.finish.result c.loop-part.invariant.so.5 c.finish.ensures.last
+
+pub returns-in_err-segmenter-clause-raw : goal.returns-in_err-segmenter-clause-raw
+returns-in_err-segmenter-clause-raw g c =
+    let r = c.from_residual in
+    let p = err_from_is_err_and r.result r.ensures.1 in
+    rw (p.1, p.2)
+    (leads_as (λ h x. x) (λ h x. refl) c.in_err-segmenter.ensures.raw)
+
+pub returns-in_err-segmenter-clause-spent : goal.returns-in_err-segmenter-clause-spent
+returns-in_err-segmenter-clause-spent g c =
+    let r = c.from_residual in
+    let p = err_from_is_err_and r.result r.ensures.1 in
+    rw (p.1, p.2)
+    (spent_same (Unit {0}) Segmenter (book_view c.args.self.now) c.in_err-segmenter.field-0.0
+    c.in_err-segmenter.ensures.spent)
+
+pub returns-in_err-segmenter-clause-last : goal.returns-in_err-segmenter-clause-last
+returns-in_err-segmenter-clause-last g c =
+    let r = c.from_residual in
+    let p = err_from_is_err_and r.result r.ensures.1 in
+    rw (p.1, p.2)
+    (fails_as (Unit {0}) Segmenter c.in_err-segmenter.field-0.0 c.in_err-segmenter.ensures.last)
+
+pub returns-in_err-segmenter-clause-cause : goal.returns-in_err-segmenter-clause-cause
+returns-in_err-segmenter-clause-cause g c =
+    let r = c.from_residual in
+    let p = err_from_is_err_and r.result r.ensures.1 in
+    rw (p.1, p.2)
+    (cause_later (Unit {0}) Segmenter c.in_err-segmenter.field-0.0 (g.S.Site.fault_count
+    c.args.site.now)
+    (g.S.Site.fault_count c.args.site.now) (g.S.Site.fault_count c.begin_segment.new.site) refl
+    c.in_err-segmenter.ensures.cause)
+
+pub returns-in_err-part-clause-spent : goal.returns-in_err-part-clause-spent
+returns-in_err-part-clause-spent g c =
+    let r = c.from_residual-in_err-part in
+    let p = err_from_is_err_and r.result r.ensures.1 in
+    rw (p.1, p.2)
+    (spent_write (Unit {0}) (book_view c.args.self.now) c.in_err-part.field-0.0
+    c.in_err-part.ensures.only
+    (λ e. let other = c.in_ok-segmenter.ensures.spent in other e))
+
+pub returns-in_err-part-clause-only : goal.returns-in_err-part-clause-only
+returns-in_err-part-clause-only g c =
+    let r = c.from_residual-in_err-part in
+    let p = err_from_is_err_and r.result r.ensures.1 in
+    rw (p.1, p.2)
+    (write_begins c.in_err-part.field-0.0 c.in_err-part.ensures.only)
+
+pub returns-in_err-part-clause-cause : goal.returns-in_err-part-clause-cause
+returns-in_err-part-clause-cause g c =
+    let r = c.from_residual-in_err-part in
+    let p = err_from_is_err_and r.result r.ensures.1 in
+    rw (p.1, p.2)
+    (cause_later (Unit {0}) (Unit {0}) c.in_err-part.field-0.0 (g.S.Site.fault_count
+    c.args.site.now)
+    (g.S.Site.fault_count c.loop-part.site) (g.S.Site.fault_count c.part.new.site)
+    c.loop-part.invariant.count c.in_err-part.ensures.cause)
+
+pub returns-clause-spent : goal.returns-clause-spent
+returns-clause-spent g c =
+    spent_written (book_view c.args.self.now) c.finish.result c.finish.ensures.only
+    (λ e. let other = c.in_ok-segmenter.ensures.spent in other e)
+
+pub returns-clause-only : goal.returns-clause-only
+returns-clause-only g c = all_begin c.finish.result c.finish.ensures.only
+
+pub returns-clause-cause : goal.returns-clause-cause
+returns-clause-cause g c =
+    cause_then c.finish.result (g.S.Site.fault_count c.args.site.now) (g.S.Site.fault_count
+    c.loop-part.site)
+    (g.S.Site.fault_count c.finish.new.site) c.loop-part.invariant.count c.finish.ensures.cause

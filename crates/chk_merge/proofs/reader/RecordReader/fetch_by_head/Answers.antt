@@ -2,6 +2,7 @@ use Rattle.std.proofs.Common.{subst}
 use Rattle.std.specs.Prelude.{slice_index_or}
 use Rattle.chk_site.specs.Site.{Adds}
 use Rattle.chk_site.specs.Runs.{anyhow, Leads}
+use Rattle.chk_site.proofs.Leads.{leads_none}
 use Rattle.chk_world.specs.JobSteps.{SparesFile}
 use Rattle.chk_heads.specs.Order.{no_head}
 use Rattle.chk_merge.specs.ReadBack.{CanRead, HasRead, IsHeld}
@@ -23,3 +24,6 @@ returns-clause-raw g c = λ most f few small.
     (Leads (anyhow (SparesFile name)) (CanRead most name f h r)
     (HasRead name f h c.refill.new.self c.refill.result)))
     c.if-find.ensures.same (c.refill.ensures.raw most f few small)
+
+pub returns-then-find-clause-stays : goal.returns-then-find-clause-stays
+returns-then-find-clause-stays g c = λ other file. leads_none _ (λ h x. x)
