@@ -1,6 +1,6 @@
 -- The line of a fault says which fault it is.
-use Rattle.std.proofs.Common.{◌≡◌, inl, inr, ℕ, Bool, true, false, List, [], ◌∷◌, ◌++◌, Some, None, Result, ap, sym, ◌∙◌, refl, decimal, ◌<◌, ◌⊎◌, arith}
-use Rattle.std.specs.Prelude.{IsTrue, IfOk, codes, ◌==◌}
+use Rattle.std.proofs.Common.{◌≡◌, inl, inr, ℕ, Bool, true, false, List, [], ◌∷◌, ◌++◌, Some, None, Result, Ok, Err, ◌≢◌, ap, sym, ◌∙◌, refl, decimal, ◌<◌, ◌⊎◌, arith}
+use Rattle.std.specs.Prelude.{IsTrue, IfOk, IfErr, codes, ◌==◌}
 use Rattle.std.proofs.lemmas.Bool.{cases_lt}
 use Rattle.std.proofs.lemmas.List.{append_cancel_left, append_cancel_right, append_assoc}
 use Rattle.std.proofs.lemmas.Option.{same_Some, none-some}
@@ -166,3 +166,36 @@ spent_untold digits read (sink_spent born) same = elim (cases_lt born limit) [
   | inr high ↦ high
 ]
 spent_untold digits read sink_wanting same = tt
+
+-- what stands behind `outside ` names no call
+pub outside_untold : (name : List ℕ) → called name ≡ None → (fault : SinkFault)
+    → codes "outside " ++ name ≡ sink_fault_text fault → IsUntold fault
+outside_untold name none (sink_outside call) same =
+    let e : name ≡ call_name call =
+    append_cancel_left (codes "outside ") name (call_name call) same in
+    absurd (none-some call (sym none ∙ (ap called e ∙ by_name call)))
+outside_untold name none (sink_damaged file at) same = tt
+outside_untold name none (sink_spent born) same =
+    absurd (let e : 111 ≡ 115 = ap first same in omega (arith, e))
+outside_untold name none sink_wanting same = tt
+
+-- what stands behind `damaged ` wants memory
+pub damaged_untold : {E : Type 0} (place : List ℕ) (result : Result ExchangeFault E)
+    → (fault : SinkFault) → codes "damaged " ++ place ≡ sink_fault_text fault
+    → IfErr result (λ _. IsUntold fault)
+damaged_untold place (Ok told) fault same = tt
+damaged_untold place (Err wanted) (sink_outside call) same =
+    absurd (let e : 100 ≡ 111 = ap first same in omega (arith, e))
+damaged_untold place (Err wanted) (sink_damaged name at) same = tt
+damaged_untold place (Err wanted) (sink_spent born) same =
+    absurd (let e : 100 ≡ 115 = ap first same in omega (arith, e))
+damaged_untold place (Err wanted) sink_wanting same = tt
+
+-- the text begins with no word of a fault
+pub none_untold : (text : List ℕ) → ((rest : List ℕ) → text ≢ codes "outside " ++ rest)
+    → ((rest : List ℕ) → text ≢ codes "spent " ++ rest) → (fault : SinkFault)
+    → text ≡ sink_fault_text fault → IsUntold fault
+none_untold text no_call no_number (sink_outside call) same = absurd (no_call (call_name call) same)
+none_untold text no_call no_number (sink_damaged name at) same = tt
+none_untold text no_call no_number (sink_spent born) same = absurd (no_number (decimal born) same)
+none_untold text no_call no_number sink_wanting same = tt

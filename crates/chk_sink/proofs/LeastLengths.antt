@@ -1,5 +1,5 @@
 -- The committed length that a question gives is at least what stays committed meanwhile.
-use Rattle.std.proofs.Common.{◌≡◌, ℕ, ◌≤◌, ◌<◌, false, List, [], ◌∷◌, ◌++◌, length, Option, Some, None, Result, Ok, Err, ap, sym, subst, ◌∙◌, refl, arith, append_assoc}
+use Rattle.std.proofs.Common.{◌≡◌, ℕ, ◌≤◌, ◌<◌, false, List, [], ◌∷◌, ◌++◌, Option, Some, None, Result, Ok, Err, ap, sym, subst, ◌∙◌, refl, arith, append_assoc}
 use Rattle.std.specs.Prelude.{IsTrue, IfOk}
 use Rattle.chk_bytes.specs.Numbers.{spelled, limit}
 use Rattle.chk_bytes.specs.Stems.{Stem, is_stem}

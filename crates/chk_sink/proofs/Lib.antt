@@ -5,6 +5,8 @@ pub mod Putting
 pub mod Fields
 pub mod Whole
 pub mod Next
+pub mod Making
+pub mod PutEnds
 pub mod Scripts
 pub mod Tidying
 pub mod Committing

@@ -65,14 +65,14 @@ same_leaves s mid st (Err (Spent born)) e left = absurd left
 same_leaves s mid st (Err NoMemory) e left = inl (left ∙ e)
 
 -- without a sink that is written to, the next one is needed
-next_needed : (s : State) → (without_full s).current ≡ None → IsTrue (needs_next s.current)
+pub next_needed : (s : State) → (without_full s).current ≡ None → IsTrue (needs_next s.current)
 next_needed s none = go (needs_next s.current) refl none
   where
     go : (b : Bool) → needs_next s.current ≡ b → (if b then let_go s else s).current ≡ None → IsTrue b
     go true e none = refl
     go false e none = absurd (true≢false (subst (λ o. needs_next o ≡ false) none e))
 
-full_number : (s : State) → (without_full s).number ≡ s.number
+pub full_number : (s : State) → (without_full s).number ≡ s.number
 full_number s = go (needs_next s.current)
   where
     go : (b : Bool) → (if b then let_go s else s).number ≡ s.number

@@ -1,6 +1,7 @@
 pub mod States
 pub mod Held
 pub mod Calls
+pub mod Creations
 pub mod Puts
 pub mod Closes
 pub mod Starts

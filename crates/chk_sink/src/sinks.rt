@@ -1,15 +1,19 @@
 //! The sinks of one start of a collector.
 
-ghost use Rattle.std.specs.Prelude.{◌≡◌, ◌+◌, ◌≤◌, ◌<◌, ℕ, false, List, None, IsTrue, IsFalse, IfOk, IfErr, OnOk, OnErr, is_some, length};
+ghost use Rattle.std.specs.Prelude.{◌≡◌, ◌+◌, ◌≤◌, ◌<◌, ◌∷◌, [], ℕ, false, List, None, IsTrue, IsFalse, IfOk, IfErr, OnOk, OnErr, is_some, length};
 ghost use Rattle.chk_bytes.specs.Stems.{Stem as Parts, is_collector, is_stem};
 ghost use Rattle.chk_site.specs.declared.acts.Role.TheVariants.{Collector};
 ghost use Rattle.chk_site.specs.History.{History, Every};
-ghost use Rattle.chk_site.specs.Site.{Adds};
+ghost use Rattle.chk_site.specs.declared.acts.Call.TheVariants.{Append};
+ghost use Rattle.chk_site.specs.Site.{Adds, OutsideCause, asked};
 ghost use Rattle.chk_site.specs.Runs.{HasStarted, Leads};
 ghost use Rattle.chk_chunk.specs.Keys.{Chunk, IsKey, is_chunk};
 ghost use Rattle.chk_chunk.specs.Lent.{lent_chunk};
 ghost use Rattle.chk_message.specs.Messages.{Ack};
-ghost use Rattle.chk_world.specs.Collectors.{Handling, IsPosted};
+ghost use Rattle.chk_seqfile.specs.Headers.{header};
+ghost use Rattle.chk_seqfile.specs.Entries.{piece_at};
+ghost use Rattle.chk_world.specs.Names.{SinkFile, spell};
+ghost use Rattle.chk_world.specs.Collectors.{Handling, IsPosted, marker};
 ghost use Rattle.chk_world.specs.Rules.{Legal};
 ghost use Rattle.chk_world.specs.Places.{As};
 ghost use Rattle.chk_world.specs.Works.{Works, NoneFailed};
@@ -17,7 +21,9 @@ ghost use Rattle.chk_sink.specs.Faults.{IsOutside, SinkCause, FailsLast, ended_b
 ghost use Rattle.chk_sink.specs.Works.{IsAppendTo, IsMaking, OfPut, OfCommit, OfClose, OfSettling, OfTick, OfStart, OfQuestion, LeavesAfterTick};
 ghost use Rattle.chk_sink.specs.Damage.{DamageCause, SpentCause};
 ghost use Rattle.chk_sink.specs.States.{IsSameStart, process, last_stem, next_stem, counted, begun, kept_where_done, grown_where_done, let_go, needs_next, last_number, without_full, with_current, committed_state, settled_state, ticked_state};
-ghost use Rattle.chk_sink.specs.SinkFields.{IsOfStem, writing_of};
+ghost use Rattle.chk_sink.specs.SinkFields.{IsOfStem, first_of, longer, writing_of};
+ghost use Rattle.chk_sink.specs.Creations.{CountedOnce};
+ghost use Rattle.chk_sink.specs.Calls.{MadeOnce};
 ghost use Rattle.chk_sink.specs.Held.{Matches, Ready};
 ghost use Rattle.chk_sink.specs.Puts.{Wrote, IsPlaced, LeavesInSame, LeavesInNext, LeavesAfterPut, SpentExactly, GoesOn, GoesOnInSame, GoesOnInNext};
 ghost use Rattle.chk_sink.specs.Closing.{left_where_done};
@@ -255,16 +261,86 @@ impl Sinks {
         ensures cause { SinkCause (S.fault_count site.old) (S.fault_count site.new) result }
     {
         let stem = self.next_stem();
-        let (name, head, piece, longer) = first_pieces(alloc, stem, key, value)?;
-        let placed = (stem, longer.size);
+        let (name, head, piece, current) = first_pieces(alloc, stem, key, value)?;
+        self.make_next(
+            alloc,
+            site,
+            name.as_str(),
+            head.as_slice(),
+            piece.as_slice(),
+            current,
+        )
+    }
+
+    // Creates the next sink, and appends its header and the piece of its first entry.
+    fn make_next<S: Site>(
+        &mut self,
+        alloc: Global,
+        site: &mut S,
+        name: &str,
+        head: &[u8],
+        piece: &[u8],
+        current: Current,
+    ) -> Result<(Stem, u64), SinkFault>
+        requires none { self.old.current ≡ None }
+        requires more { self.old.number < last_number }
+        requires good { IsTrue (is_stem (next_stem self.old)) }
+        requires name { name.now ≡ spell (SinkFile (next_stem self.old)) }
+        requires head { head.now ≡ header (marker (next_stem self.old)) }
+        requires current { current ≡ longer (first_of (next_stem self.old)) (length piece.now) }
+        ensures told { (stamped : List (List ℕ)) (handled : List Handling) (c : Chunk) (key value : List ℕ)
+            → IsPosted handled c → IsKey c.key key → value ≡ c.value
+            → piece.now ≡ piece_at (marker (next_stem self.old)) 96 96 key value
+            → Adds (S.told site.old) (S.told site.new) (Leads (As stamped (process self.old))
+            (Ready stamped self.old handled) (Wrote stamped self.new handled c result)) }
+        ensures same { IsSameStart self.old self.new }
+        ensures placed { IfOk result (IsPlaced self.new) }
+        ensures goes_on { IfOk result (λ _. GoesOnInNext self.old self.new) }
+        ensures refused { IfErr result (LeavesInNext self.old self.new) }
+        ensures only { IfErr result IsOutside }
+        ensures own { Works (process self.old) (IsMaking (next_stem self.old)) (ended_by result)
+            (S.told site.old) (S.told site.new) }
+        ensures cause { SinkCause (S.fault_count site.old) (S.fault_count site.new) result }
+    {
+        let placed = (current.stem, current.size);
         let abandoned = self.abandoned;
-        let created = site.create(alloc, &self.who, name.as_str());
-        self.count(&created);
-        done(Call::Create, created)?;
-        append_to(alloc, site, &self.who, name.as_str(), head.as_slice())?;
-        append_to(alloc, site, &self.who, name.as_str(), piece.as_slice())?;
-        self.begin(longer, abandoned);
+        self.create_next(alloc, site, name)?;
+        self.append(alloc, site, name, head)?;
+        self.append(alloc, site, name, piece)?;
+        self.begin(current, abandoned);
         Ok(placed)
+    }
+
+    // Creates the next sink. It is abandoned until it has its first entry.
+    fn create_next<S: Site>(
+        &mut self,
+        alloc: Global,
+        site: &mut S,
+        name: &str,
+    ) -> Result<(), OutsideFault>
+        requires none { self.old.current ≡ None }
+        requires more { self.old.number < last_number }
+        ensures told { CountedOnce self.old self.new name.now result (S.told site.old) (S.told site.new) }
+        ensures cause { OutsideCause (S.fault_count site.old) (S.fault_count site.new) result }
+    {
+        let created = site.create(alloc, &self.who, name);
+        self.count(&created);
+        done(Call::Create, created)
+    }
+
+    // Appends a piece to one of the sinks.
+    fn append<S: Site>(
+        &self,
+        alloc: Global,
+        site: &mut S,
+        sink: &str,
+        piece: &[u8],
+    ) -> Result<(), OutsideFault>
+        ensures told { MadeOnce (asked (process self.now) Append (sink.now ∷ piece.now ∷ []) 0 0) result
+            (S.told site.old) (S.told site.new) }
+        ensures cause { OutsideCause (S.fault_count site.old) (S.fault_count site.new) result }
+    {
+        append_to(alloc, site, &self.who, sink, piece)
     }
 
     // The stem of the next sink.

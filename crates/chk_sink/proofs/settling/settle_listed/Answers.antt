@@ -1,4 +1,4 @@
-use Rattle.std.proofs.Common.{◌+◌, subst, drop, List, ℕ, Ok, refl}
+use Rattle.std.proofs.Common.{◌≡◌, ◌+◌, [], Err, arith, subst, drop, List, ℕ, Ok, refl}
 use Rattle.chk_sink.proofs.Owning.{made_as, refused_by}
 use Rattle.chk_sink.proofs.LeftLoop.{IsSettledTo, settle_begins, next_named, settled_on}
 use Rattle.chk_site.proofs.Leads.{leads_then}
@@ -6,6 +6,8 @@ use Rattle.chk_world.proofs.Working.{works_then}
 use Rattle.chk_sink.specs.Settling.{HoldsBut, left_of, none_left}
 use Rattle.chk_sink.proofs.Founding.{found_as}
 use Rattle.chk_sink.proofs.JoinedCauses.{cause_then, cause_as}
+use Rattle.std.proofs.lemmas.List.{drop_all}
+use Rattle.chk_sink.specs.Faults.{SinkCause}
 use Rattle.chk_sink.proofs.settling.settle_listed.Goals as goal
 
 pub loop-name-init : goal.loop-name-init
@@ -43,3 +45,29 @@ pub returns-in_err-settle_named-clause-own : goal.returns-in_err-settle_named-cl
 returns-in_err-settle_named-clause-own g c s settles kept =
     works_then (c.loop-name.invariant.own s settles kept)
     (made_as c.settle_named.result _ _ c.in_err-settle_named.was (refused_by c.from_residual.ensures.1) (c.settle_named.ensures.own s settles kept))
+
+pub returns-clause-told : goal.returns-clause-told
+returns-clause-told g c stamped s settles kept =
+    let none : drop c.loop-name.name-index c.args.names.now ≡ [] =
+    drop_all c.loop-name.name-index c.args.names.now (omega (arith, c.loop-name-test.false)) in
+    rw none at (c.loop-name.invariant.told stamped s settles kept)
+
+pub returns-clause-own : goal.returns-clause-own
+returns-clause-own g c s settles kept = c.loop-name.invariant.own s settles kept
+
+pub returns-clause-damaged : goal.returns-clause-damaged
+returns-clause-damaged g c = c.loop-name.invariant.damaged
+
+pub returns-clause-cause : goal.returns-clause-cause
+returns-clause-cause g c = c.loop-name.invariant.cause
+
+pub returns-in_err-settle_named-clause-only : goal.returns-in_err-settle_named-clause-only
+returns-in_err-settle_named-clause-only g c =
+    rw (refused_by c.from_residual.ensures.1) c.in_err-settle_named.ensures.only
+
+pub returns-in_err-settle_named-clause-cause : goal.returns-in_err-settle_named-clause-cause
+returns-in_err-settle_named-clause-cause g c =
+    rw (refused_by c.from_residual.ensures.1)
+    (subst (λ (n : ℕ). SinkCause {T = Unit {0}} n (g.S.Site.fault_count c.settle_named.new.site)
+    (Err c.in_err-settle_named.field-0.0))
+    c.loop-name.invariant.cause c.in_err-settle_named.ensures.cause)

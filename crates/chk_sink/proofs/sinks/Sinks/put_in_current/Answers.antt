@@ -10,6 +10,7 @@ use Rattle.chk_sink.specs.declared.current.Current.{Current}
 use Rattle.chk_sink.specs.SinkFields.{writing_of}
 use Rattle.chk_sink.proofs.Putting.{piece_of, longer_writing, kept_done, kept_ended}
 use Rattle.chk_sink.proofs.Fields.{seen_as, open_as, put_refused, placed_kept}
+use Rattle.chk_sink.proofs.PutEnds.{done_cause, ended_outside, grown_cause, grown_leaves, grown_on, grown_same, unchanged_same}
 use Rattle.chk_sink.proofs.sinks.Sinks.put_in_current.Goals as goal
 
 pub entry-requires-clause-ordered : goal.entry-requires-clause-ordered
@@ -105,3 +106,95 @@ returns-clause-own g c =
     (made_by (seen_as c.self.inside s c.self.view_is c.self.invariant).who
     (once_works (asked c.self.inside.who Append (c.as_str.result.now ∷ c.as_slice.result.now ∷ []) 0 0) made _ refl (c.as_str.ensures.value ∙ (c.in_ok-name.ensures ∙ ap (λ (x : Stem). spell (SinkFile x)) f.of_stem.stem)) c.append_to-appended.ensures.told)) in
     made_ok (sink_result made) _ (sym c.grow_where_done.ensures.result ∙ c.in_ok-grow_where_done.was) own
+
+pub returns-in_err-name-clause-same : goal.returns-in_err-name-clause-same
+returns-in_err-name-clause-same g c = unchanged_same c.args.self.now
+
+pub returns-in_err-name-clause-placed : goal.returns-in_err-name-clause-placed
+returns-in_err-name-clause-placed g c = rw (refused_by c.from_residual.ensures.1) tt
+
+pub returns-in_err-name-clause-goes_on : goal.returns-in_err-name-clause-goes_on
+returns-in_err-name-clause-goes_on g c = rw (refused_by c.from_residual.ensures.1) tt
+
+pub returns-in_err-name-clause-refused : goal.returns-in_err-name-clause-refused
+returns-in_err-name-clause-refused g c = rw (refused_by c.from_residual.ensures.1) refl
+
+pub returns-in_err-name-clause-only : goal.returns-in_err-name-clause-only
+returns-in_err-name-clause-only g c = rw (refused_by c.from_residual.ensures.1) tt
+
+pub returns-in_err-name-clause-cause : goal.returns-in_err-name-clause-cause
+returns-in_err-name-clause-cause g c = rw (refused_by c.from_residual.ensures.1) refl
+
+pub returns-in_err-piece-clause-same : goal.returns-in_err-piece-clause-same
+returns-in_err-piece-clause-same g c = unchanged_same c.args.self.now
+
+pub returns-in_err-piece-clause-placed : goal.returns-in_err-piece-clause-placed
+returns-in_err-piece-clause-placed g c = rw (refused_by c.from_residual-in_err-piece.ensures.1) tt
+
+pub returns-in_err-piece-clause-goes_on : goal.returns-in_err-piece-clause-goes_on
+returns-in_err-piece-clause-goes_on g c = rw (refused_by c.from_residual-in_err-piece.ensures.1) tt
+
+pub returns-in_err-piece-clause-refused : goal.returns-in_err-piece-clause-refused
+returns-in_err-piece-clause-refused g c =
+    rw (refused_by c.from_residual-in_err-piece.ensures.1) refl
+
+pub returns-in_err-piece-clause-only : goal.returns-in_err-piece-clause-only
+returns-in_err-piece-clause-only g c = rw (refused_by c.from_residual-in_err-piece.ensures.1) tt
+
+pub returns-in_err-piece-clause-cause : goal.returns-in_err-piece-clause-cause
+returns-in_err-piece-clause-cause g c = rw (refused_by c.from_residual-in_err-piece.ensures.1) refl
+
+pub returns-in_err-grow_where_done-clause-same : goal.returns-in_err-grow_where_done-clause-same
+returns-in_err-grow_where_done-clause-same g c =
+    grown_same c.args.self.now c.grow_where_done.new.self (writing_of c.in_ok-piece.longer)
+    c.append_to-appended.result c.grow_where_done.ensures.new
+
+pub returns-in_err-grow_where_done-clause-placed : goal.returns-in_err-grow_where_done-clause-placed
+returns-in_err-grow_where_done-clause-placed g c =
+    rw (refused_by c.from_residual-in_err-grow_where_done.ensures.1) tt
+
+pub returns-in_err-grow_where_done-clause-goes_on :
+    goal.returns-in_err-grow_where_done-clause-goes_on
+returns-in_err-grow_where_done-clause-goes_on g c =
+    rw (refused_by c.from_residual-in_err-grow_where_done.ensures.1) tt
+
+pub returns-in_err-grow_where_done-clause-refused :
+    goal.returns-in_err-grow_where_done-clause-refused
+returns-in_err-grow_where_done-clause-refused g c =
+    rw (refused_by c.from_residual-in_err-grow_where_done.ensures.1)
+    (grown_leaves c.args.self.now c.grow_where_done.new.self (writing_of c.in_ok-piece.longer)
+    c.append_to-appended.result c.grow_where_done.ensures.new _
+    (sym c.grow_where_done.ensures.result ∙ c.in_err-grow_where_done.was))
+
+pub returns-in_err-grow_where_done-clause-only : goal.returns-in_err-grow_where_done-clause-only
+returns-in_err-grow_where_done-clause-only g c =
+    rw (refused_by c.from_residual-in_err-grow_where_done.ensures.1)
+    (ended_outside c.append_to-appended.result _
+    (sym c.grow_where_done.ensures.result ∙ c.in_err-grow_where_done.was))
+
+pub returns-in_err-grow_where_done-clause-cause : goal.returns-in_err-grow_where_done-clause-cause
+returns-in_err-grow_where_done-clause-cause g c =
+    grown_cause _ _ c.append_to-appended.result _ _
+    (sym c.grow_where_done.ensures.result ∙ c.in_err-grow_where_done.was)
+    (refused_by c.from_residual-in_err-grow_where_done.ensures.1) c.append_to-appended.ensures.cause
+
+pub returns-clause-same : goal.returns-clause-same
+returns-clause-same g c = grown_same c.args.self.now c.grow_where_done.new.self
+    (writing_of c.in_ok-piece.longer) c.append_to-appended.result c.grow_where_done.ensures.new
+
+pub returns-clause-goes_on : goal.returns-clause-goes_on
+returns-clause-goes_on g c =
+    let cur = c.in-Some.current in
+    let f = open_as c.self.inside c.args.self.now cur c.self.view_is c.self.invariant c.in-Some.is
+    in
+    grown_on c.args.self.now c.grow_where_done.new.self (writing_of c.in_ok-piece.longer)
+    c.append_to-appended.result c.grow_where_done.ensures.new _
+    (sym c.grow_where_done.ensures.result ∙ c.in_ok-grow_where_done.was) (writing_of cur) f.some
+    c.in_ok-piece.piece
+    (ap writing_of c.in_ok-piece.ensures.longer)
+
+pub returns-clause-cause : goal.returns-clause-cause
+returns-clause-cause g c =
+    done_cause _ _ c.append_to-appended.result _
+    (sym c.grow_where_done.ensures.result ∙ c.in_ok-grow_where_done.was)
+    c.append_to-appended.ensures.cause
