@@ -75,7 +75,7 @@ pub lines_loaded : (name : List ℕ) (file : Option File) (given : Option (List 
     → Adds old new (Leads (anyhow (LeavesFile name)) (Has name file) (LoadedLines name file r))
 lines_loaded name file given r reading told = leads_as (λ h a. a) (by_bytes name file given r reading) told
 
--- so may those of a file
+-- lines that were read of a file may be written
 pub lines_may_be_written : (given : Option (List ℕ)) (r : Result Checkpoint CheckFault) → IsReadingOf given r
     → IfOk r (λ check. IsTrue (are_lines Two (lines_of check)))
 lines_may_be_written (Some text) r reading = may_be_written text r reading
@@ -101,7 +101,7 @@ none_counted given (Err (Damaged at)) reading before now e = e
 none_counted given (Err (Outside call)) reading before now e = absurd (no_call given call reading)
 none_counted given (Err NoMemory) reading before now e = e
 
--- the same of a name that is equal
+-- a load may be told of any name that is equal
 pub loaded_as : (a b : List ℕ) → a ≡ b → (file : Option File) (r : Result Checkpoint CheckFault) {old new : Option History}
     → Adds old new (Leads (anyhow (LeavesFile a)) (Has a file) (LoadedLines a file r))
     → Adds old new (Leads (anyhow (LeavesFile b)) (Has b file) (LoadedLines b file r))
