@@ -7,7 +7,7 @@ use Rattle.std.proofs.Math.Seq.{take-append-add, take-append_seam}
 use Rattle.chk_bytes.specs.Words.{BeginsWith}
 use Rattle.std.proofs.lemmas.Option.{same_Some}
 use Rattle.std.proofs.lemmas.List.{take-append-drop, take_all}
-use Rattle.chk_bytes.specs.Words.{lacks, parts_at, joined_at, joined}
+use Rattle.chk_bytes.specs.Words.{lacks, parts_at, joined}
 use Rattle.chk_bytes.proofs.PartLemmas.{same_split}
 use Rattle.chk_world.specs.Checkpoints.{Line, Version as Text, One, Two, version_text, line_words, line_text, checkpoint_text, is_line, fits_version, are_lines, guessed_line, read_checkpoint}
 use Rattle.chk_world.proofs.CheckpointsRead.{line_facts, line_back, joined_lacks, words_lack}
@@ -15,11 +15,8 @@ use Rattle.chk_world.proofs.SpelledLemmas.{checkpoint_so}
 use Rattle.chk_checkpoint.specs.Lines.{first_line}
 use Rattle.chk_checkpoint.specs.Damage.{SpellsLines, IsFirstBad}
 use Rattle.chk_checkpoint.proofs.LineLemmas.{words_back}
-use Rattle.chk_checkpoint.proofs.SeenLemmas.{lines_parts, front_lines, MayStand, last_line}
-
--- a line without its newline
-abbrev pub body : Text → Line → List ℕ
-body v l = joined_at 32 (line_words v l)
+use Rattle.chk_checkpoint.proofs.SeenLemmas.{lines_parts, front_lines, last_line}
+use Rattle.chk_checkpoint.specs.Seen.{body, MayStand, NoLine}
 
 pub body_lacks : (v : Text) (l : Line) → is_line l ≡ true → IsTrue (lacks 10 (body v l))
 body_lacks v l h = joined_lacks 10 32 (line_words v l) refl (words_lack 10 v l (omega arith) (line_facts l h))
@@ -85,10 +82,6 @@ longer_text Two Two lines ls k h g e =
     let p = lines_parts Two lines h in
     let q = lines_parts Two ls g in
     (refl, longer Two lines ls k p.lines_are p.fit q.lines_are q.fit (ap (drop 20) e))
-
--- no line may stand there
-abbrev pub NoLine : Text → List Line → List ℕ → Type 0
-NoLine v lines rest = (l : Line) (more : List ℕ) → rest ≡ body v l ++ 10 ∷ more → MayStand v lines l → ⊥
 
 is_empty_or : (xs : List ℕ) → (xs ≡ []) ⊎ (0 < length xs)
 is_empty_or [] = inl refl

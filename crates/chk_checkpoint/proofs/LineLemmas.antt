@@ -1,21 +1,22 @@
 -- The words of a line are those of one line at most.
 use Rattle.std.proofs.Common.{◌≡◌, ℕ, ◌<◌, Bool, true, false, List, [], ◌∷◌, Option, Some, None, decimal, length, refl, ap, sym, ◌∙◌, true≢false, if◌then◌else◌, get_or, arith}
-use Rattle.std.specs.Prelude.{codes, bytes_eq, is_some, unwrap_or, nat_lt, ◌&&◌, ◌==◌}
+use Rattle.std.specs.Prelude.{IsTrue, codes, bytes_eq, is_some, unwrap_or, nat_lt, ◌&&◌, ◌==◌}
 use Rattle.std.specs.Str.Parse.{digits_value}
 use Rattle.std.proofs.lemmas.Bool.{eq-eqb, eqb-true}
 use Rattle.std.proofs.lemmas.Option.{cond_some, none-some, same_Some}
 use Rattle.chk_bytes.specs.Numbers.{limit, plain_number}
 use Rattle.chk_bytes.specs.Words.{parts_at, joined_at, onto_first}
 use Rattle.chk_bytes.proofs.DecimalLemmas.{plain_number-decimal, plain_number-Some}
-use Rattle.chk_control.specs.declared.Class.TheVariants.{Plain}
+use Rattle.chk_control.specs.declared.Class.{Class}
+use Rattle.chk_control.specs.declared.Class.TheVariants.{Plain, Rotating, Lines}
 use Rattle.chk_control.specs.Classes.{class_name, class_named}
 use Rattle.chk_control.proofs.ClassLemmas.{named_is}
-use Rattle.chk_world.specs.Checkpoints.{Line, Version as Text, One, Two, after_text, start_words, line_words, is_line, fits_version, guessed_after, guessed_start, guessed_line}
+use Rattle.chk_world.specs.Checkpoints.{Line, Version as Text, One, Two, after_text, is_after_text, start_words, line_words, is_line, fits_version, guessed_after, guessed_start, guessed_line}
 use Rattle.chk_world.proofs.CheckpointsRead.{line_facts, line_back, parts_back, rest_words, state_lacks, rest_lacks}
 use Rattle.chk_checkpoint.specs.declared.words.Words.{Words}
 use Rattle.chk_checkpoint.specs.declared.line.LineRef.{LineRef}
 use Rattle.chk_checkpoint.specs.Lines.{state_word}
-use Rattle.chk_checkpoint.specs.Fields.{words_in, last_words, has_start, count_of, lent, lent_after, IsLineText, IsLineWords, start_in}
+use Rattle.chk_checkpoint.specs.Fields.{words_in, last_words, has_start, count_of, lent, lent_after, IsLineText, IsLineWords, IsMeaning, start_in}
 use denote.Ref.{Bor}
 
 -- a line has as many words as its version says
@@ -78,6 +79,23 @@ first_of_words (word ∷ words) = word
 no_number : (n : ℕ) (word : List ℕ) → n < limit → decimal n ≡ word → plain_number word ≡ None → ⊥
 no_number n word small is none = none-some n (sym none ∙ (ap plain_number (sym is) ∙ plain_number-decimal n small))
 
+-- no word of a line stands for nothing
+pub no_live : (v : Text) (w : Words) (l : Line) → IsLineWords v (words_in w) l → ((live : Bool) → state_word live ≡ w.state.now → ⊥) → ⊥
+no_live v w l h none = none l.live (ap (λ ws. get_or ws 0 []) h.spelled)
+
+class_there : (class : Class) → class_named (class_name class) ≡ Some class
+class_there Plain = refl
+class_there Rotating = refl
+class_there Lines = refl
+
+pub no_class : (v : Text) (w : Words) (l : Line) → IsLineWords v (words_in w) l → class_named w.class.now ≡ None → ⊥
+no_class v w l h none =
+    none-some l.class (sym none ∙ (ap class_named (sym (ap (λ ws. get_or ws 3 []) h.spelled)) ∙ class_there l.class))
+
+pub no_after : (v : Text) (w : Words) (l : Line) → IsLineWords v (words_in w) l
+    → ((after : Option (List ℕ)) → IsTrue (is_after_text after) → after_text after ≡ w.after.now → ⊥) → ⊥
+no_after v w l h none = none l.after (line_facts l h.line).after (ap (λ ws. get_or ws 8 []) h.spelled)
+
 pub no_offset : (v : Text) (w : Words) (l : Line) → IsLineWords v (words_in w) l → plain_number w.offset.now ≡ None → ⊥
 no_offset v w l h none =
     no_number l.offset w.offset.now (line_facts l h.line).offset (ap (λ ws. get_or ws 6 []) h.spelled) none
@@ -97,20 +115,6 @@ no_start v w l h none = go v w.start (start_same v w l h) none
     go One (Some word) same e = absurd (cc)
     go Two (Some word) same e = no_number l.start word.now (line_facts l h.line).start (ap first_of_words same) e
 
--- the line that was read of these words
-pub record IsRead (v : Text) (w : Words) (l : LineRef) : Type 0 where
-  pub live : state_word l.live ≡ w.state.now
-  pub class : class_named w.class.now ≡ Some l.class
-  pub after : after_text (lent_after l.after) ≡ w.after.now
-  pub after_is : lent_after l.after ≡ guessed_after w.after.now
-  pub offset : plain_number w.offset.now ≡ Some l.offset
-  pub first : plain_number w.first.now ≡ Some l.first
-  pub start : start_in w.start ≡ Some l.start
-  pub has : is_some w.start ≡ has_start v
-  pub name : l.name ≡ w.name
-  pub kind : l.kind ≡ w.kind
-  pub path : l.path ≡ w.path
-
 live_read : (live : Bool) → bytes_eq (state_word live) (codes "add") ≡ live
 live_read true = refl
 live_read false = refl
@@ -123,7 +127,7 @@ start_value None n e = same_Some 0 n e
 start_value (Some word) n e = value_of word.now n e
 
 -- it is the one that the words would be
-guessed_is : (v : Text) (w : Words) (l : LineRef) → IsRead v w l → guessed_line (words_in w) ≡ Some (lent l)
+guessed_is : (v : Text) (w : Words) (l : LineRef) → IsMeaning v w l → guessed_line (words_in w) ≡ Some (lent l)
 guessed_is v w l r =
     let a : bytes_eq w.state.now (codes "add") ≡ l.live = ap (λ word. bytes_eq word (codes "add")) (sym r.live) ∙ live_read l.live in
     let b : unwrap_or (class_named w.class.now) Plain ≡ l.class = ap (λ o. unwrap_or o Plain) r.class in
@@ -147,7 +151,7 @@ guessed_is v w l r =
     })
 
 -- so a line of these words is this one
-pub same_line : (v : Text) (w : Words) (l : LineRef) → IsRead v w l → (m : Line) → IsLineWords v (words_in w) m → m ≡ lent l
+pub same_line : (v : Text) (w : Words) (l : LineRef) → IsMeaning v w l → (m : Line) → IsLineWords v (words_in w) m → m ≡ lent l
 same_line v w l r m h =
     same_Some m (lent l)
     (sym (line_back v m h.fits (line_facts m h.line)) ∙ (ap guessed_line h.spelled ∙ guessed_is v w l r))
@@ -164,7 +168,7 @@ start_spelled Two None n has e = absurd (true≢false (sym has))
 start_spelled Two (Some word) n has e = ap (λ d. d ∷ []) (plain_number-Some word.now n e).0
 
 -- and where it may stand there, it is a line of them
-pub is_of_words : (v : Text) (w : Words) (l : LineRef) → IsRead v w l → codes "=" ≡ w.equal.now → is_line (lent l) ≡ true → IsLineWords v (words_in w) (lent l)
+pub is_of_words : (v : Text) (w : Words) (l : LineRef) → IsMeaning v w l → codes "=" ≡ w.equal.now → is_line (lent l) ≡ true → IsLineWords v (words_in w) (lent l)
 is_of_words v w l r equal line = record {
   line = line;
   fits = start_fits v w.start (lent l) r.has r.start;

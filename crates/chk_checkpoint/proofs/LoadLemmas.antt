@@ -15,7 +15,8 @@ use Rattle.chk_site.specs.Files.{File}
 use Rattle.chk_site.specs.Effect.{IsSmallFile}
 use Rattle.chk_site.specs.Acts.{Deed, Creates, Appends, Syncs, Renames, Removes, Cuts, deed, touches, tail_in}
 use Rattle.chk_site.specs.History.{Step, History, Every, Others, files_after, AllModelled}
-use Rattle.chk_site.specs.Site.{Adds}
+use Rattle.chk_site.specs.declared.acts.Call.{Call}
+use Rattle.chk_site.specs.Site.{Adds, LastFailed, OutsideCause}
 use Rattle.chk_site.specs.Runs.{anyhow, Leads, Owns}
 use Rattle.chk_site.proofs.Leads.{leads_as, owned_anyhow}
 use Rattle.chk_site.proofs.Runs.{adds_as}
@@ -43,7 +44,7 @@ use Rattle.chk_world.proofs.ToldCalls.{talks, talks_by}
 use Rattle.chk_checkpoint.specs.declared.Checkpoint.{Checkpoint}
 use Rattle.chk_checkpoint.specs.declared.fault.CheckFault.{CheckFault}
 use Rattle.chk_checkpoint.specs.declared.fault.CheckFault.TheVariants.{Damaged, Outside, NoMemory}
-use Rattle.chk_checkpoint.specs.Faults.{check_fault}
+use Rattle.chk_checkpoint.specs.Faults.{check_fault, CheckCause, FailsLast}
 use Rattle.std.specs.Prelude.{true}
 use Rattle.chk_checkpoint.specs.Lines.{lines_of}
 use Rattle.chk_checkpoint.specs.Damage.{IsReading}
@@ -73,6 +74,76 @@ pub lines_loaded : (name : List ℕ) (file : Option File) (given : Option (List 
     → {old new : Option History} → Adds old new (Leads (anyhow (LeavesFile name)) (Has name file) (Loaded name file (Ok given)))
     → Adds old new (Leads (anyhow (LeavesFile name)) (Has name file) (LoadedLines name file r))
 lines_loaded name file given r reading told = leads_as (λ h a. a) (by_bytes name file given r reading) told
+
+-- lines that were read of a file may be written
+pub lines_may_be_written : (given : Option (List ℕ)) (r : Result Checkpoint CheckFault) → IsReadingOf given r
+    → IfOk r (λ check. IsTrue (are_lines Two (lines_of check)))
+lines_may_be_written (Some text) r reading = may_be_written text r reading
+lines_may_be_written None (Ok check) reading = subst (λ ls. IsTrue (are_lines Two ls)) (sym reading) refl
+lines_may_be_written None (Err fault) reading = tt
+
+-- a reading is no call that failed
+no_call : (given : Option (List ℕ)) (call : Call) → IsReadingOf given (Err (Outside call)) → ⊥
+no_call None call reading = reading
+no_call (Some text) call reading = reading
+
+pub none_failed : (given : Option (List ℕ)) (r : Result Checkpoint CheckFault) → IsReadingOf given r
+    → (added history : History) → FailsLast r added history
+none_failed given (Ok check) reading added history = tt
+none_failed given (Err (Damaged at)) reading added history = tt
+none_failed given (Err (Outside call)) reading added history = absurd (no_call given call reading)
+none_failed given (Err NoMemory) reading added history = tt
+
+pub none_counted : (given : Option (List ℕ)) (r : Result Checkpoint CheckFault) → IsReadingOf given r → (before now : ℕ) → now ≡ before
+    → CheckCause before now r
+none_counted given (Ok check) reading before now e = e
+none_counted given (Err (Damaged at)) reading before now e = e
+none_counted given (Err (Outside call)) reading before now e = absurd (no_call given call reading)
+none_counted given (Err NoMemory) reading before now e = e
+
+-- a load may be told of any name that is equal
+pub loaded_as : (a b : List ℕ) → a ≡ b → (file : Option File) (r : Result Checkpoint CheckFault) {old new : Option History}
+    → Adds old new (Leads (anyhow (LeavesFile a)) (Has a file) (LoadedLines a file r))
+    → Adds old new (Leads (anyhow (LeavesFile b)) (Has b file) (LoadedLines b file r))
+loaded_as a b e file r {old = old} {new = new} told =
+    subst (λ (w : List ℕ). Adds old new (Leads (anyhow (LeavesFile w)) (Has w file) (LoadedLines w file r))) e told
+
+pub looks_as : (who : Who) (a b : List ℕ) → a ≡ b → {old new : Option History} → Adds old new (Every (IsLook who a))
+    → Adds old new (Every (IsLook who b))
+looks_as who a b e {old = old} {new = new} told = subst (λ (w : List ℕ). Adds old new (Every (IsLook who w))) e told
+
+-- without memory for the name nothing was begun
+pub none_begun : (name : List ℕ) (file : Option File) {old : Option History}
+    → Adds old old (Leads (anyhow (LeavesFile name)) (Has name file) (LoadedLines name file (Err NoMemory)))
+none_begun name file = record {
+  told = λ history e. ([], e, record { leads = λ others has. tt; own = tt });
+  untold = λ e. e;
+}
+
+-- ---- where the load failed
+
+nothing_said : (name : List ℕ) (file : Option File) (fault : OutsideFault) (h : History) → LoadedLines name file (Err (check_fault fault)) h
+nothing_said name file (site_failed call) h = tt
+nothing_said name file no_memory h = tt
+
+pub none_loaded : (name : List ℕ) (file : Option File) (fault : OutsideFault) {old new : Option History}
+    → Adds old new (Leads (anyhow (LeavesFile name)) (Has name file) (Loaded name file (Err fault)))
+    → Adds old new (Leads (anyhow (LeavesFile name)) (Has name file) (LoadedLines name file (Err (check_fault fault))))
+none_loaded name file fault told = leads_as (λ h a. a) (λ h a. nothing_said name file fault h) told
+
+same_last : (fault : OutsideFault) (added history : History) → LastFailed {T = Option (List ℕ)} (Err fault) added history
+    → FailsLast {T = Checkpoint} (Err (check_fault fault)) added history
+same_last (site_failed call) added history last = last
+same_last no_memory added history last = tt
+
+pub fails_last : (fault : OutsideFault) {old new : Option History} → Adds old new (LastFailed {T = Option (List ℕ)} (Err fault))
+    → Adds old new (FailsLast {T = Checkpoint} (Err (check_fault fault)))
+fails_last fault told = adds_as (FailsLast {T = Checkpoint} (Err (check_fault fault))) told (same_last fault)
+
+pub same_cause : (fault : OutsideFault) (before now : ℕ) → OutsideCause {T = Option (List ℕ)} before now (Err fault)
+    → CheckCause {T = Checkpoint} before now (Err (check_fault fault))
+same_cause (site_failed call) before now cause = cause
+same_cause no_memory before now cause = cause
 
 -- ---- over legal histories
 
@@ -189,10 +260,6 @@ sound_by_role stamped who role known name e r {old = old} {new = new} whole look
     subst (λ (w : List ℕ). Adds old new (Leads (anyhow (LeavesFile w)) (Has w file) (LoadedLines w file r))) e (whole file small))
     (subst (λ (w : Who). Adds old new (Every (IsLook w (spell (CheckFile who.name))))) as_agent
     (subst (λ (w : List ℕ). Adds old new (Every (IsLook who w))) e looks)))
-
-nothing_said : (name : List ℕ) (file : Option File) (fault : OutsideFault) (h : History) → LoadedLines name file (Err (check_fault fault)) h
-nothing_said name file (site_failed call) h = tt
-nothing_said name file no_memory h = tt
 
 pub sound_failed : (stamped : List (List ℕ)) (who : Who) → who.role ≡ Agent → IsTrue (is_source who.name) → (name : List ℕ)
     → name ≡ spell (CheckFile who.name) → (fault : OutsideFault) → {old new : Option History}

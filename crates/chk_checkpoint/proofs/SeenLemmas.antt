@@ -6,7 +6,7 @@ use Rattle.std.proofs.lemmas.Bool.{and_parts, and_from, leb-true, le-leb, ltb-tr
 use Rattle.std.proofs.lemmas.List.Folds.{list_all-append}
 use Rattle.chk_world.specs.Checkpoints.{Line, Version as Text, is_line, same_log, clash, are_apart, fits_version, are_lines}
 use Rattle.chk_checkpoint.specs.declared.seen.Seen.{Seen}
-use Rattle.chk_checkpoint.specs.Seen.{has_name, has_log, names, is_of, HasSeen, may_follow}
+use Rattle.chk_checkpoint.specs.Seen.{has_name, has_log, names, is_of, HasSeen, may_follow, MayStand}
 use Rattle.std.specs.Bool.{OnTrue}
 use Rattle.std.specs.Prelude.{cond}
 use Rattle.std.specs.BTreeSet.{BTreeSet, UpdatesBy, contains_by}
@@ -194,11 +194,6 @@ line_added v lines l h line fits follows =
     })
 
 -- the last line of some
-pub record MayStand (v : Text) (lines : List Line) (l : Line) : Type 0 where
-  pub line : is_line l ≡ true
-  pub fits : fits_version v l ≡ true
-  pub follows : may_follow lines l ≡ true
-
 pub last_line : (v : Text) (lines : List Line) (l : Line) → IsTrue (are_lines v (lines ++ l ∷ [])) → MayStand v lines l
 last_line v lines l h =
     let p = lines_parts v (lines ++ l ∷ []) h in

@@ -1,8 +1,10 @@
 -- The words of a line and what they stand for.
-use Rattle.std.specs.Prelude.{◌≡◌, ℕ, decimal, Bool, true, false, List, [], ◌∷◌, Option, Some, None}
+use Rattle.std.specs.Prelude.{◌≡◌, ℕ, decimal, is_some, Bool, true, false, List, [], ◌∷◌, ◌++◌, codes, Option, Some, None}
 use Rattle.chk_bytes.specs.Numbers.{plain_number}
 use Rattle.chk_bytes.specs.Words.{parts_at, joined_at}
-use Rattle.chk_world.specs.Checkpoints.{Line, Version as Text, One, Two, is_line, fits_version, line_words}
+use Rattle.chk_world.specs.Checkpoints.{Line, Version as Text, One, Two, is_line, fits_version, line_words, after_text, guessed_after}
+use Rattle.chk_control.specs.Classes.{class_name, class_named}
+use Rattle.chk_checkpoint.specs.Lines.{state_word}
 use Rattle.chk_checkpoint.specs.declared.words.Words.{Words}
 use Rattle.chk_checkpoint.specs.declared.line.LineRef.{LineRef}
 use denote.Ref.{Bor}
@@ -69,7 +71,31 @@ abbrev pub start_in : Option (Bor (List ℕ)) → Option ℕ
 start_in None = Some 0
 start_in (Some word) = plain_number word.now
 
+-- what each of these words stands for
+pub record IsMeaning (v : Text) (w : Words) (l : LineRef) : Type 0 where
+  pub live : state_word l.live ≡ w.state.now
+  pub class : class_named w.class.now ≡ Some l.class
+  pub after : after_text (lent_after l.after) ≡ w.after.now
+  pub after_is : lent_after l.after ≡ guessed_after w.after.now
+  pub offset : plain_number w.offset.now ≡ Some l.offset
+  pub first : plain_number w.first.now ≡ Some l.first
+  pub start : start_in w.start ≡ Some l.start
+  pub has : is_some w.start ≡ has_start v
+  pub name : l.name ≡ w.name
+  pub kind : l.kind ≡ w.kind
+  pub path : l.path ≡ w.path
+
 -- the start behind a space, where the version has it
 abbrev pub start_end : Text → ℕ → List ℕ
 start_end One start = []
 start_end Two start = 32 ∷ decimal start
+
+-- the words that say which stream it is, each with a space
+abbrev pub stream_text : Line → List ℕ
+stream_text l =
+    state_word l.live ++ 32 ∷ (l.name ++ 32 ∷ (codes "=" ++ 32 ∷ (class_name l.class ++ 32 ∷ (l.kind ++ 32 ∷ (l.path ++ 32 ∷ [])))))
+
+-- the words that say up to where it is committed, with the newline
+abbrev pub place_text : Text → Line → List ℕ
+place_text v l =
+    decimal l.offset ++ 32 ∷ (decimal l.first ++ 32 ∷ (after_text l.after ++ (start_end v l.start ++ 10 ∷ [])))

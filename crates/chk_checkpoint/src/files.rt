@@ -14,13 +14,13 @@ ghost use Rattle.chk_world.specs.Checkpoints.{Two, are_lines, read_checkpoint};
 ghost use Rattle.chk_checkpoint.specs.Lines.{lines_of, written_text};
 ghost use Rattle.chk_world.specs.Rules.{Legal};
 ghost use Rattle.chk_world.specs.Places.{As};
-ghost use Rattle.chk_checkpoint.specs.Loads.{IsSound, LoadedLines};
+ghost use Rattle.chk_checkpoint.specs.Loads.{IsReadingOf, IsSound, LoadedLines};
 ghost use Rattle.chk_checkpoint.specs.Faults.{CheckCause, FailsLast};
 
 use crate::reading::read_text;
 use crate::writing::text_of;
 use crate::{CheckFault, Checkpoint};
-use chk_bytes::{NoMemory, Word};
+use chk_bytes::{Bytes, NoMemory, Word};
 use chk_replace::{load, replace};
 use chk_site::{OutsideFault, Site, Who};
 use std::alloc::Global;
@@ -73,6 +73,13 @@ pub fn load_checkpoint<S: Site>(
 {
     let name = check_name(alloc, &who.name)?;
     let given = load(alloc, site, who, name.as_str())?;
+    lines_in(alloc, given)
+}
+
+// The lines of a file of these bytes; none where there is no file.
+fn lines_in(alloc: Global, given: Option<Bytes>) -> Result<Checkpoint, CheckFault>
+    ensures { IsReadingOf given result }
+{
     match given {
         Some(text) => read_text(alloc, text.as_slice()),
         None => Ok(Checkpoint {

@@ -6,7 +6,7 @@ ghost use Rattle.chk_control.specs.Classes.{class_named};
 ghost use Rattle.chk_control.specs.Lines.{is_name};
 ghost use Rattle.chk_world.specs.Checkpoints.{Line, Version as Text, after_text, is_after_text, guessed_after, is_line};
 ghost use Rattle.chk_checkpoint.specs.Lines.{shown, text_version, state_word};
-ghost use Rattle.chk_checkpoint.specs.Fields.{words_in, has_start, lent, lent_after, IsLineText, IsLineWords, start_in};
+ghost use Rattle.chk_checkpoint.specs.Fields.{words_in, has_start, lent, lent_after, IsLineText, IsLineWords, IsMeaning, start_in};
 
 use crate::CheckLine;
 use crate::version::Version;
@@ -52,13 +52,27 @@ fn line_of<'a>(version: Version, words: Words<'a>) -> Option<LineRef<'a>>
     ensures some { IfSome result (λ l. IsLineWords (text_version version) (words_in words.entry) (lent l)) }
     ensures none { IfNone result ((l : Line) → IsLineWords (text_version version) (words_in words.entry) l → ⊥) }
 {
+    let line = meaning_of(version, words)?;
+    if is_sign(words.equal) && is_line(&line) {
+        Some(line)
+    } else {
+        None
+    }
+}
+
+// What each of these words stands for.
+fn meaning_of<'a>(version: Version, words: Words<'a>) -> Option<LineRef<'a>>
+    requires { is_some words.start ≡ has_start (text_version version) }
+    ensures some { IfSome result (λ l. IsMeaning (text_version version) words.entry l) }
+    ensures none { IfNone result ((l : Line) → IsLineWords (text_version version) (words_in words.entry) l → ⊥) }
+{
     let live = live_of(words.state)?;
     let class = class_named(words.class)?;
     let after = after_of(words.after)?;
     let offset = take_plain_decimal(words.offset)?;
     let first = take_plain_decimal(words.first)?;
     let start = start_of(words.start)?;
-    let line = LineRef {
+    Some(LineRef {
         live,
         name: words.name,
         class,
@@ -68,12 +82,7 @@ fn line_of<'a>(version: Version, words: Words<'a>) -> Option<LineRef<'a>>
         first,
         after,
         start,
-    };
-    if is_sign(words.equal) && is_line(&line) {
-        Some(line)
-    } else {
-        None
-    }
+    })
 }
 
 fn is_sign(word: &[u8]) -> bool
@@ -164,23 +173,44 @@ fn is_line(line: &LineRef<'_>) -> bool
 pub(crate) fn own_line(alloc: Global, line: &LineRef<'_>) -> Result<CheckLine, NoMemory>
     ensures { IfOk result (λ l. shown l ≡ lent line.now) }
 {
+    let place = own_place(alloc, line)?;
+    let name = own_word(alloc, line.name)?;
+    let (kind, path) = own_stream(alloc, line)?;
+    Ok(CheckLine {
+        name,
+        live: line.live,
+        class: line.class,
+        kind,
+        path,
+        place,
+        start: line.start,
+    })
+}
+
+fn own_place(alloc: Global, line: &LineRef<'_>) -> Result<Place, NoMemory>
+    ensures after { IfOk result (λ p. p.after ≡ lent_after line.now.after) }
+    ensures first { IfOk result (λ p. p.first ≡ line.now.first) }
+    ensures offset { IfOk result (λ p. p.offset ≡ line.now.offset) }
+{
     let after = match line.after {
         Some(suffix) => Some(own_suffix(alloc, suffix)?),
         None => None,
     };
-    Ok(CheckLine {
-        name: own_word(alloc, line.name)?,
-        live: line.live,
-        class: line.class,
-        kind: own_word(alloc, line.kind)?,
-        path: own_word(alloc, line.path)?,
-        place: Place {
-            after,
-            first: line.first,
-            offset: line.offset,
-        },
-        start: line.start,
+    Ok(Place {
+        after,
+        first: line.first,
+        offset: line.offset,
     })
+}
+
+// The type and the path.
+fn own_stream(alloc: Global, line: &LineRef<'_>) -> Result<(Word, Word), NoMemory>
+    ensures kind { IfOk result (λ s. s.0 ≡ line.now.kind.now) }
+    ensures path { IfOk result (λ s. s.1 ≡ line.now.path.now) }
+{
+    let kind = own_word(alloc, line.kind)?;
+    let path = own_word(alloc, line.path)?;
+    Ok((kind, path))
 }
 
 fn own_word(alloc: Global, text: &[u8]) -> Result<Word, NoMemory>

@@ -1,15 +1,15 @@
 //! The lines of a text.
 
-ghost use Rattle.std.specs.Prelude.{◌≡◌, ◌≤◌, ◌==◌, ◌++◌, ◌∷◌, [], length, map, position, IfOk};
+ghost use Rattle.std.specs.Prelude.{◌≡◌, ◌≤◌, ◌==◌, ◌++◌, ◌∷◌, [], length, map, position, IfOk, IfSome, IfNone};
 ghost use Rattle.std.specs.Bool.{OnTrue};
-ghost use Rattle.chk_checkpoint.specs.Lines.{shown};
+ghost use Rattle.chk_checkpoint.specs.Lines.{shown, text_version};
 ghost use Rattle.chk_checkpoint.specs.Fields.{lent};
-ghost use Rattle.chk_checkpoint.specs.Seen.{HasSeen, may_follow};
+ghost use Rattle.chk_checkpoint.specs.Seen.{HasSeen, may_follow, NoLine, TookLine};
 ghost use Rattle.chk_checkpoint.specs.Damage.{IsReading};
 
 use crate::line::{LineRef, own_line, read_line};
 use crate::seen::Seen;
-use crate::version::version_of;
+use crate::version::{Version, version_of};
 use crate::{CheckFault, CheckLine, Checkpoint, MOST_LINES};
 use chk_bytes::NoMemory;
 use std::alloc::Global;
@@ -25,20 +25,38 @@ pub(crate) fn read_text(alloc: Global, text: &[u8]) -> Result<Checkpoint, CheckF
     let mut seen = Seen::new(alloc);
     let mut at = version.first_line().len();
     while at < text.len() {
-        let damaged = CheckFault::Damaged { at: at as u64 };
-        let rest = &text[at..];
-        let Some(size) = line_size(rest) else {
-            return Err(damaged);
+        let Some(size) = next_line(alloc, version, &text[at..], &mut lines, &mut seen)? else {
+            return Err(CheckFault::Damaged { at: at as u64 });
         };
-        let Some(line) = read_line(version, &rest[..size]) else {
-            return Err(damaged);
-        };
-        if !take_line(alloc, &mut lines, &mut seen, &line)? {
-            return Err(damaged);
-        }
         at += size + 1;
     }
     Ok(Checkpoint { lines })
+}
+
+// Takes the line that a text begins with, and says how many bytes it has; none where no line may stand there.
+fn next_line<'a>(
+    alloc: Global,
+    version: Version,
+    text: &'a [u8],
+    lines: &mut Vec<CheckLine>,
+    seen: &mut Seen<'a>,
+) -> Result<Option<usize>, NoMemory>
+    requires few { length lines.old.items ≤ 10000 }
+    requires seen { HasSeen seen.old (map shown lines.old.items) }
+    ensures some { IfOk result (λ size. IfSome size
+        (TookLine (text_version version) (map shown lines.old.items) text.now (map shown lines.new.items) seen.new)) }
+    ensures none { IfOk result (λ size. IfNone size (NoLine (text_version version) (map shown lines.old.items) text.now)) }
+{
+    let Some(size) = line_size(text) else {
+        return Ok(None);
+    };
+    let Some(line) = read_line(version, &text[..size]) else {
+        return Ok(None);
+    };
+    if !take_line(alloc, lines, seen, &line)? {
+        return Ok(None);
+    }
+    Ok(Some(size))
 }
 
 // Takes one more line, where it may follow those so far, and says whether it may.

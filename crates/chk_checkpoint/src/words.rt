@@ -1,9 +1,9 @@
 //! The words of a line, one space between each two.
 
-ghost use Rattle.std.specs.Prelude.{◌≡◌, ◌∷◌, [], List, ℕ, length, position, IfSome, IfNone, ◌==◌, if◌then◌else◌, is_some};
+ghost use Rattle.std.specs.Prelude.{◌≡◌, ◌<◌, ◌+◌, ◌∷◌, [], List, ℕ, length, position, IfSome, IfNone, ◌==◌, is_some};
 ghost use Rattle.chk_bytes.specs.Words.{parts_at};
 ghost use Rattle.chk_checkpoint.specs.Lines.{text_version};
-ghost use Rattle.chk_checkpoint.specs.Fields.{rest_words, words_in, count_of, has_start};
+ghost use Rattle.chk_checkpoint.specs.Fields.{rest_words, last_words, words_in, count_of, has_start};
 
 use crate::version::Version;
 use std::marker::Model;
@@ -44,6 +44,33 @@ impl<'a> Spaced<'a> {
             }
         }
     }
+
+    // The next three words.
+    fn next_three(&mut self) -> Option<(&'a [u8], &'a [u8], &'a [u8])>
+        ensures some { IfSome result (λ words. self.old ≡ words.0.now ∷ words.1.now ∷ words.2.now ∷ self.new) }
+        ensures none { IfNone result (length self.old < 3) }
+    {
+        let first = self.next()?;
+        let second = self.next()?;
+        let third = self.next()?;
+        Some((first, second, third))
+    }
+
+    // The start, where the version has it and no word follows.
+    fn last(&mut self, version: Version) -> Option<Option<&'a [u8]>>
+        ensures some { IfSome result (λ start. self.old ≡ last_words start) }
+        ensures start { IfSome result (λ start. is_some start ≡ has_start (text_version version)) }
+        ensures none { IfNone result (9 + length self.old ≡ count_of (text_version version) → ⊥) }
+    {
+        let start = match version {
+            Version::One => None,
+            Version::Two => Some(self.next()?),
+        };
+        if self.next().is_some() {
+            return None;
+        }
+        Some(start)
+    }
 }
 
 fn first_space(text: &[u8]) -> Option<usize>
@@ -74,22 +101,10 @@ pub(crate) fn words_of<'a>(version: Version, line: &'a [u8]) -> Option<Words<'a>
     ensures none { IfNone result (length (parts_at 32 line.now) ≡ count_of (text_version version) → ⊥) }
 {
     let mut words = Spaced::new(line);
-    let state = words.next()?;
-    let name = words.next()?;
-    let equal = words.next()?;
-    let class = words.next()?;
-    let kind = words.next()?;
-    let path = words.next()?;
-    let offset = words.next()?;
-    let first = words.next()?;
-    let after = words.next()?;
-    let start = match version {
-        Version::One => None,
-        Version::Two => Some(words.next()?),
-    };
-    if words.next().is_some() {
-        return None;
-    }
+    let (state, name, equal) = words.next_three()?;
+    let (class, kind, path) = words.next_three()?;
+    let (offset, first, after) = words.next_three()?;
+    let start = words.last(version)?;
     Some(Words {
         state,
         name,

@@ -4,7 +4,7 @@ ghost use Rattle.std.specs.Prelude.{◌≡◌, ◌==◌, ◌++◌, ◌∷◌, []
 ghost use Rattle.std.specs.List.{list_all};
 ghost use Rattle.chk_world.specs.Checkpoints.{written_version, line_text, after_text};
 ghost use Rattle.chk_checkpoint.specs.Lines.{shown, state_word, text_version, written_text};
-ghost use Rattle.chk_checkpoint.specs.Fields.{start_end};
+ghost use Rattle.chk_checkpoint.specs.Fields.{start_end, stream_text, place_text};
 
 use crate::CheckLine;
 use crate::version::Version;
@@ -45,12 +45,26 @@ fn are_from_0(lines: &[CheckLine]) -> bool
 fn put_line(out: &mut Bytes, version: Version, line: &CheckLine) -> Result<(), NoMemory>
     ensures { OnOk result (out.new ≡ out.old ++ line_text (text_version version) (shown line.now)) }
 {
+    put_stream(out, line)?;
+    put_place(out, version, line)
+}
+
+// The words that say which stream it is.
+fn put_stream(out: &mut Bytes, line: &CheckLine) -> Result<(), NoMemory>
+    ensures { OnOk result (out.new ≡ out.old ++ stream_text (shown line.now)) }
+{
     put_word(out, state_name(line.live))?;
     put_word(out, line.name.as_str())?;
     put_word(out, "=")?;
     put_word(out, line.class.name())?;
     put_word(out, line.kind.as_str())?;
-    put_word(out, line.path.as_str())?;
+    put_word(out, line.path.as_str())
+}
+
+// The words that say up to where it is committed, and the newline.
+fn put_place(out: &mut Bytes, version: Version, line: &CheckLine) -> Result<(), NoMemory>
+    ensures { OnOk result (out.new ≡ out.old ++ place_text (text_version version) (shown line.now)) }
+{
     put_number(out, line.place.offset)?;
     put_number(out, line.place.first)?;
     put_after(out, &line.place)?;

@@ -1,5 +1,5 @@
 -- The script of the sending of a post, exit by exit.
-use Rattle.std.proofs.Common.{◌≡◌, ℕ, zero, suc, ◌+◌, ◌-◌, false, List, [], ◌∷◌, length, Option, Some, Result, Ok, Err, sym, subst, ◌∙◌, arith, true≢false}
+use Rattle.std.proofs.Common.{◌≡◌, ℕ, zero, suc, ◌+◌, ◌-◌, ◌<◌, false, List, [], ◌∷◌, length, Option, Some, Result, Ok, Err, refl, sym, subst, ◌∙◌, arith, true≢false}
 use Rattle.std.specs.Prelude.{IsTrue, slice_get, slice_index_or}
 use Rattle.std.proofs.lemmas.Option.{same_Some, none-some}
 use Rattle.chk_bytes.specs.declared.NoMemory.{NoMemory}
@@ -28,6 +28,11 @@ pub sends_at : (who : Who) (ring : Turns) (a text w bytes : List ℕ) (given : R
 sends_at who ring a text w bytes given {old = old} {new = new} at is same call =
     subst (λ t. Sends who t bytes given old new) (is ∙ sym (got_at ring.addresses ring.place a at))
     (subst (λ v. Sends who text v given old new) same call)
+
+-- a list that isn't empty has an element
+pub some_waits : {A : Type 0} (xs : List A) → (xs ≡ [] → IsTrue false) → 0 < length xs
+some_waits [] some = absurd (true≢false (sym (some refl)))
+some_waits (x ∷ xs) some = omega arith
 
 pub no_free : (who : Who) (s : State) (free : ℕ) {now : Option History} → (s.queue.chunks ≡ [] → IsTrue false)
     → free + length s.table.rows ≡ s.table.room → free ≡ 0 → IsPosted who s (Ok NoRows) (without_post s) now now

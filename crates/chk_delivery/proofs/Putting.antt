@@ -1,6 +1,6 @@
 -- A chunk that comes behind the others.
-use Rattle.std.proofs.Common.{◌≡◌, ℕ, zero, suc, ◌+◌, ◌≤◌, ◌<◌, List, [], ◌∷◌, ◌++◌, length, Option, Some, None, Result, Ok, Err, false, true≢false, sym, subst, arith}
-use Rattle.std.specs.Prelude.{IsTrue, OnOk, slice_index, slice_set}
+use Rattle.std.proofs.Common.{◌≡◌, ℕ, zero, suc, ◌+◌, ◌≤◌, ◌<◌, List, [], ◌∷◌, ◌++◌, length, Option, Some, None, Result, Ok, Err, false, true≢false, ap, sym, subst, arith}
+use Rattle.std.specs.Prelude.{IsTrue, OnOk, OnErr, slice_index, slice_set}
 use Rattle.std.specs.Result.{is_err}
 use Rattle.std.proofs.lemmas.List.{length-append, take-append-le}
 use Rattle.chk_chunk.specs.Keys.{is_chunk}
@@ -8,6 +8,8 @@ use Rattle.chk_chunk.specs.declared.Chunk.{Chunk}
 use Rattle.chk_chunk.specs.Lent.{chunk_of, chunks_of, AreValid}
 use Rattle.chk_chunk.specs.Posts.{post_limit, written_post}
 use Rattle.chk_world.proofs.StaysTrue.{has_room}
+use Rattle.chk_bytes.specs.declared.NoMemory.{NoMemory}
+use Rattle.chk_queue.specs.Queues.{Waiting}
 use Rattle.chk_delivery.specs.States.{Post, State}
 use Rattle.chk_delivery.specs.Turns.{with_chunk}
 use Rattle.chk_delivery.specs.Sound.{InTurn, ends_after, next_begins, PostFits, IsSound}
@@ -52,6 +54,25 @@ put_sound s i c sound valid known next = record {
           room = fits.room;
           short = subst (λ cs. length (written_post (chunks_of cs)) ≤ post_limit) (sym (take-append-le p.count s.queue.chunks (c ∷ []) there)) fits.short;
         }
+
+-- the state behind a chunk that was put, or wasn't
+pub any_sound : (s : State) (i : ℕ) (c : Chunk) (r : Result Unit NoMemory) (owners : List ℕ) (queue : Waiting) → IsSound s
+    → IsTrue (is_chunk (chunk_of c)) → i < length (next_begins s) → c.seq ≡ slice_index (next_begins s) i + length c.body
+    → OnOk r (owners ≡ s.owners ++ i ∷ []) → OnOk r (queue ≡ record s.queue { chunks = s.queue.chunks ++ c ∷ [] })
+    → OnErr r (owners ≡ s.owners) → OnErr r (queue ≡ s.queue) → IsSound (record s { queue = queue; owners = owners })
+any_sound s i c (Ok value) owners queue sound valid known next owned queued left same = rw (owned, queued) (put_sound s i c sound valid known next)
+any_sound s i c (Err fault) owners queue sound valid known next owned queued left same = rw (left, same) sound
+
+pub put_ok : (s old : State) (i : ℕ) (c : Chunk) (r : Result Unit NoMemory) (owners : List ℕ) (queue : Waiting) → s ≡ old
+    → OnOk r (owners ≡ s.owners ++ i ∷ []) → OnOk r (queue ≡ record s.queue { chunks = s.queue.chunks ++ c ∷ [] })
+    → OnOk r (record s { queue = queue; owners = owners } ≡ with_chunk i c old)
+put_ok s old i c (Ok value) owners queue e owned queued = rw (owned, queued) (ap (with_chunk i c) e)
+put_ok s old i c (Err fault) owners queue e owned queued = tt
+
+pub put_err : (s old : State) (r : Result Unit NoMemory) (owners : List ℕ) (queue : Waiting) → s ≡ old
+    → OnErr r (owners ≡ s.owners) → OnErr r (queue ≡ s.queue) → OnErr r (record s { queue = queue; owners = owners } ≡ old)
+put_err s old (Ok value) owners queue e left same = tt
+put_err s old (Err fault) owners queue e left same = rw (left, same) e
 
 -- what holds where a call was done
 pub by_ok : {T E : Type 0} (r : Result T E) (P : Type 0) → false ≡ is_err r → OnOk r P → P

@@ -36,6 +36,7 @@ ghost use Rattle.chk_delivery.specs.Basis.{Basis, Fits};
 ghost use Rattle.chk_delivery.specs.Facts.{Matches};
 
 use crate::answers::{Answered, Below, PollAnswer, Polled, Posted};
+use crate::waiting::put_behind;
 use chk_acks::Acks;
 use chk_bytes::{Bytes, NoMemory, Stem};
 use chk_chunk::{CHUNK_BYTES, Chunk, POST_BYTES, POST_CHUNKS, post_size, put_post};
@@ -164,14 +165,7 @@ impl Delivery {
         ensures ok { OnOk result (self.new ≡ with_chunk adaptor chunk self.old) }
         ensures err { OnErr result (self.new ≡ self.old) }
     {
-        if self.owners.push_back(adaptor).is_err() {
-            return Err(NoMemory);
-        }
-        if self.queue.put(chunk).is_err() {
-            let _owner = self.owners.pop_back();
-            return Err(NoMemory);
-        }
-        Ok(())
+        put_behind(&mut self.owners, &mut self.queue, adaptor, chunk)
     }
 
     /// The offset up to which the adaptor's stream is committed without a gap.
@@ -206,6 +200,21 @@ impl Delivery {
             self.post = None;
             return Ok(Posted::NoRows);
         }
+        self.send_post(alloc, site, who)
+    }
+
+    // Sends the next post.
+    fn send_post<S: Site>(
+        &mut self,
+        alloc: Global,
+        site: &mut S,
+        who: &Who,
+    ) -> Result<Posted, NoMemory>
+        requires some { 0 < length self.old.queue.chunks }
+        requires free { length self.old.table.rows < self.old.table.room }
+        ensures state { IsPosted who.now self.old result self.new (S.told site.old) (S.told site.new) }
+        ensures cause { CauseBy (S.fault_count site.old) (S.fault_count site.new) (post_fails result) }
+    {
         let (bytes, count) = self.next_post(alloc)?;
         match site.send(alloc, who, self.ring.now().as_str(), bytes.as_slice()) {
             Ok(message) => {
@@ -328,6 +337,23 @@ impl Delivery {
             self.poll = None;
             return Ok(Polled::NoneWaiting);
         }
+        self.send_poll(alloc, site, who, stems)
+    }
+
+    // Sends a poll for these sinks.
+    fn send_poll<S: Site>(
+        &mut self,
+        alloc: Global,
+        site: &mut S,
+        who: &Who,
+        stems: Vec<Stem>,
+    ) -> Result<Polled, NoMemory>
+        requires asked { stems.items ≡ asked_stems self.old.table }
+        requires some { 0 < length stems.items }
+        requires few { length stems.items ≤ 64 }
+        ensures state { IsPolled who.now self.old result self.new (S.told site.old) (S.told site.new) }
+        ensures cause { CauseBy (S.fault_count site.old) (S.fault_count site.new) (poll_fails result) }
+    {
         let count = stems.as_slice().len() as u32;
         let address = self.ring.now().as_str();
         let bytes = write_acks_request(alloc, address, stems.as_slice())?;

@@ -7,6 +7,7 @@
 
 mod answers;
 mod delivery;
+mod waiting;
 
 pub use answers::{Answered, Below, PollAnswer, Polled, Posted};
 pub use delivery::{Delivery, Rules};

@@ -1,6 +1,6 @@
 //! The streams that records are of, each kept once.
 
-ghost use Rattle.std.specs.Prelude.{◌≡◌, ◌<◌, ◌++◌, ◌∷◌, [], List, length, IsTrue, OnErr, IfOk};
+ghost use Rattle.std.specs.Prelude.{◌≡◌, ◌≤◌, ◌<◌, ◌++◌, ◌∷◌, [], List, length, IsTrue, OnErr, IfOk};
 ghost use Rattle.std.specs.List.Sorted.{IsSearchInRange};
 ghost use Rattle.chk_chunk.specs.Keys.{has_words};
 ghost use Rattle.chk_chunk.specs.Lent.{lent_key};
@@ -122,6 +122,22 @@ pub(crate) fn number_of(
         }
         Err(place) => place,
     };
+    add_origin(alloc, origins, order, place, key)
+}
+
+/// Puts the key's origin behind the others, and its number in the order at this place.
+fn add_origin(
+    alloc: Global,
+    origins: &mut Vec<Origin>,
+    order: &mut Vec<u32>,
+    place: usize,
+    key: &KeyRef<'_>,
+) -> Result<u32, NoMemory>
+    requires words { IsTrue (has_words (lent_key key.now)) }
+    requires within { place ≤ length order.old.items }
+    ensures found { IfOk result (λ n. HasOrigin origins.new.items n (lent_key key.now)) }
+    ensures grown { HasGrown origins.old.items origins.new.items }
+{
     let number = u32::try_from(origins.len()).map_err(|_| NoMemory)?;
     let origin = Origin::new(alloc, key)?;
     origins.push(origin)?;

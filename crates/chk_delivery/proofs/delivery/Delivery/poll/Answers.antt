@@ -1,16 +1,11 @@
-use Rattle.std.proofs.Common.{Ok, Err, length, ap, sym, subst, ◌∙◌}
+use Rattle.std.proofs.Common.{length, ap, sym, subst, ◌∙◌}
 use Rattle.std.proofs.lemmas.Bool.{eqb-true}
 use Rattle.std.proofs.lemmas.List.{nil_from_length}
 use Rattle.std.proofs.lemmas.Result.{err_from_is_err_and}
-use Rattle.chk_site.specs.declared.acts.CallFault.TheVariants.{Failed, NoMemory}
 use Rattle.chk_chunk.specs.Lent.{AreValid}
-use Rattle.chk_message.specs.Messages.{WrittenPoll}
 use Rattle.chk_delivery.specs.States.{State}
 use Rattle.chk_delivery.specs.Turns.{asked_stems}
-use Rattle.chk_delivery.specs.Fields.{delivery_view}
-use Rattle.chk_delivery.specs.Scripts.{none, unsent, failed, refused}
-use Rattle.chk_delivery.proofs.PostStates.{sends_at}
-use Rattle.chk_delivery.proofs.PollStates.{is_poll, is_sent}
+use Rattle.chk_delivery.specs.Scripts.{none, unsent}
 use Rattle.chk_delivery.proofs.PollTold.{poll_leads}
 use Rattle.chk_delivery.proofs.delivery.Delivery.poll.Goals as goal
 
@@ -25,63 +20,12 @@ returns-then-is_empty-clause-state g c =
     rw (← c.self.view_is) (none (sym are ∙ nil_from_length c.in_ok-stems.stems.items
     (ap length (sym c.as_slice.ensures.value) ∙ eqb-true (length c.as_slice.result.now) 0 (sym c.if-is_empty.ensures))))
 
-pub returns-in_err-bytes-clause-state : goal.returns-in_err-bytes-clause-state
-returns-in_err-bytes-clause-state g c =
-    let p = err_from_is_err_and c.from_residual-in_err-bytes.result c.from_residual-in_err-bytes.ensures.1 in
-    rw p.1 (unsent p.0)
-
-pub returns-in-Ok-clause-state : goal.returns-in-Ok-clause-state
-returns-in-Ok-clause-state g c =
-    let s = delivery_view c.self.inside in
-    let stems = c.in_ok-stems.stems.items in
-    let are = c.in_ok-stems.ensures.stems ∙ ap (λ (t : State). asked_stems t.table) (sym c.self.view_is) in
-    rw (← c.self.view_is)
-    (is_sent c.args.who.now s c.in_ok-bytes.bytes stems _ c.in-Ok.message are (ap length c.as_slice-2.ensures.value)
-    (is_poll s c.now.result.now c.as_str-address.result.now c.in_ok-bytes.bytes stems are c.now.ensures c.as_str-address.ensures.text
-    (subst (λ xs. WrittenPoll c.as_str-address.result.now xs c.in_ok-bytes.bytes) c.as_slice-3.ensures.value c.in_ok-bytes.ensures.written))
-    (sends_at c.args.who.now s.ring c.now.result.now c.as_str-address.result.now c.as_slice-4.result.now c.in_ok-bytes.bytes (Ok c.in-Ok.message)
-    c.now.ensures c.as_str-address.ensures.text c.as_slice-4.ensures c.in-Ok.ensures.told))
-
-pub returns-in-Err-Failed-clause-state : goal.returns-in-Err-Failed-clause-state
-returns-in-Err-Failed-clause-state g c =
-    let s = delivery_view c.self.inside in
-    let stems = c.in_ok-stems.stems.items in
-    let are = c.in_ok-stems.ensures.stems ∙ ap (λ (t : State). asked_stems t.table) (sym c.self.view_is) in
-    rw (← c.self.view_is, c.failed.ensures.turned)
-    (failed c.in_ok-bytes.bytes
-    (is_poll s c.now.result.now c.as_str-address.result.now c.in_ok-bytes.bytes stems are c.now.ensures c.as_str-address.ensures.text
-    (subst (λ xs. WrittenPoll c.as_str-address.result.now xs c.in_ok-bytes.bytes) c.as_slice-3.ensures.value c.in_ok-bytes.ensures.written))
-    (sends_at c.args.who.now s.ring c.now.result.now c.as_str-address.result.now c.as_slice-4.result.now c.in_ok-bytes.bytes (Err Failed)
-    c.now.ensures c.as_str-address.ensures.text c.as_slice-4.ensures (rw c.in-Err-Failed.field-0-is at c.in-Err-Failed.ensures.told)))
-
-pub returns-in-Err-NoMemory-clause-state : goal.returns-in-Err-NoMemory-clause-state
-returns-in-Err-NoMemory-clause-state g c =
-    let s = delivery_view c.self.inside in
-    let stems = c.in_ok-stems.stems.items in
-    let are = c.in_ok-stems.ensures.stems ∙ ap (λ (t : State). asked_stems t.table) (sym c.self.view_is) in
-    rw (← c.self.view_is)
-    (refused (record {}) c.in_ok-bytes.bytes
-    (is_poll s c.now.result.now c.as_str-address.result.now c.in_ok-bytes.bytes stems are c.now.ensures c.as_str-address.ensures.text
-    (subst (λ xs. WrittenPoll c.as_str-address.result.now xs c.in_ok-bytes.bytes) c.as_slice-3.ensures.value c.in_ok-bytes.ensures.written))
-    (sends_at c.args.who.now s.ring c.now.result.now c.as_str-address.result.now c.as_slice-4.result.now c.in_ok-bytes.bytes (Err NoMemory)
-    c.now.ensures c.as_str-address.ensures.text c.as_slice-4.ensures (rw c.in-Err-NoMemory.field-0-is at c.in-Err-NoMemory.ensures.told)))
-
 pub returns-then-is_empty-clause-told : goal.returns-then-is_empty-clause-told
 returns-then-is_empty-clause-told g c stamped b is known fits =
     poll_leads stamped b c.args.who.now c.args.self.now (subst (λ (t : State). AreValid t.queue.chunks) c.self.view_is c.self.invariant.valid)
     is known fits (returns-then-is_empty-clause-state g c)
 
-pub returns-in-Ok-clause-told : goal.returns-in-Ok-clause-told
-returns-in-Ok-clause-told g c stamped b is known fits =
+pub returns-clause-told : goal.returns-clause-told
+returns-clause-told g c stamped b is known fits =
     poll_leads stamped b c.args.who.now c.args.self.now (subst (λ (t : State). AreValid t.queue.chunks) c.self.view_is c.self.invariant.valid)
-    is known fits (returns-in-Ok-clause-state g c)
-
-pub returns-in-Err-Failed-clause-told : goal.returns-in-Err-Failed-clause-told
-returns-in-Err-Failed-clause-told g c stamped b is known fits =
-    poll_leads stamped b c.args.who.now c.args.self.now (subst (λ (t : State). AreValid t.queue.chunks) c.self.view_is c.self.invariant.valid)
-    is known fits (returns-in-Err-Failed-clause-state g c)
-
-pub returns-in-Err-NoMemory-clause-told : goal.returns-in-Err-NoMemory-clause-told
-returns-in-Err-NoMemory-clause-told g c stamped b is known fits =
-    poll_leads stamped b c.args.who.now c.args.self.now (subst (λ (t : State). AreValid t.queue.chunks) c.self.view_is c.self.invariant.valid)
-    is known fits (returns-in-Err-NoMemory-clause-state g c)
+    is known fits c.send_poll.ensures.state

@@ -1,12 +1,10 @@
-use Rattle.std.proofs.Common.{Ok, Err, sym, subst, refl}
-use Rattle.std.proofs.lemmas.Result.{err_from_is_err_and}
-use Rattle.chk_site.specs.declared.acts.CallFault.TheVariants.{Failed, NoMemory}
+use Rattle.std.proofs.Common.{◌<◌, length, subst, refl, arith}
 use Rattle.chk_chunk.specs.Lent.{AreValid}
 use Rattle.chk_delivery.specs.States.{State}
 use Rattle.chk_delivery.specs.Fields.{delivery_view}
-use Rattle.chk_delivery.specs.Scripts.{IsNextPost, empty, unsent}
+use Rattle.chk_delivery.specs.Scripts.{empty}
 use Rattle.chk_delivery.proofs.PostTold.{post_leads}
-use Rattle.chk_delivery.proofs.PostStates.{sends_at, no_free, is_sent, is_failed, is_refused}
+use Rattle.chk_delivery.proofs.PostStates.{no_free, some_waits}
 use Rattle.chk_delivery.proofs.delivery.Delivery.post.Goals as goal
 
 pub returns-then-is_empty-clause-state : goal.returns-then-is_empty-clause-state
@@ -17,50 +15,17 @@ returns-then-free-eq0-clause-state g c =
     rw (← c.self.view_is)
     (no_free c.args.who.now (delivery_view c.self.inside) c.free.result c.if-is_empty.ensures.1 c.free.ensures.free c.if-free-eq0.true)
 
-pub returns-in_err-bytes-clause-state : goal.returns-in_err-bytes-clause-state
-returns-in_err-bytes-clause-state g c =
-    let p = err_from_is_err_and c.from_residual.result c.from_residual.ensures.1 in
-    rw p.1 (unsent p.0)
+pub send_post-requires-clause-some : goal.send_post-requires-clause-some
+send_post-requires-clause-some g c =
+    subst (λ (s : State). 0 < length s.queue.chunks) c.self.view_is (some_waits c.self.inside.queue.chunks c.if-is_empty.ensures.1)
 
-pub returns-in-Ok-clause-state : goal.returns-in-Ok-clause-state
-returns-in-Ok-clause-state g c =
-    let s = delivery_view c.self.inside in
-    let post = c.in_ok-bytes in
-    rw (← c.self.view_is)
-    (is_sent c.args.who.now s post.bytes post.count c.in-Ok.message
-    (subst (λ t. IsNextPost t post.bytes post.count) (sym c.self.view_is) post.ensures)
-    (sends_at c.args.who.now s.ring c.now.result.now c.as_str.result.now c.as_slice.result.now post.bytes (Ok c.in-Ok.message) c.now.ensures
-    c.as_str.ensures.text c.as_slice.ensures c.in-Ok.ensures.told))
+pub send_post-requires-clause-free : goal.send_post-requires-clause-free
+send_post-requires-clause-free g c =
+    let free = c.free.ensures.free in
+    let some = c.if-free-eq0.false in
+    subst (λ (s : State). length s.table.rows < s.table.room) c.self.view_is (omega (arith, free, some))
 
-pub returns-in-Ok-clause-told : goal.returns-in-Ok-clause-told
-returns-in-Ok-clause-told g c stamped b is known fits =
+pub returns-clause-told : goal.returns-clause-told
+returns-clause-told g c stamped b is known fits =
     post_leads stamped b c.args.who.now c.args.self.now
-    (subst (λ (t : State). AreValid t.queue.chunks) c.self.view_is c.self.invariant.valid) is known fits (returns-in-Ok-clause-state g c)
-
-pub returns-in-Err-Failed-clause-state : goal.returns-in-Err-Failed-clause-state
-returns-in-Err-Failed-clause-state g c =
-    let s = delivery_view c.self.inside in
-    let post = c.in_ok-bytes in
-    rw (← c.self.view_is, c.failed.ensures.turned)
-    (is_failed c.args.who.now s post.bytes post.count (subst (λ t. IsNextPost t post.bytes post.count) (sym c.self.view_is) post.ensures)
-    (sends_at c.args.who.now s.ring c.now.result.now c.as_str.result.now c.as_slice.result.now post.bytes (Err Failed) c.now.ensures
-    c.as_str.ensures.text c.as_slice.ensures (rw c.in-Err-Failed.field-0-is at c.in-Err-Failed.ensures.told)))
-
-pub returns-in-Err-Failed-clause-told : goal.returns-in-Err-Failed-clause-told
-returns-in-Err-Failed-clause-told g c stamped b is known fits =
-    post_leads stamped b c.args.who.now c.args.self.now
-    (subst (λ (t : State). AreValid t.queue.chunks) c.self.view_is c.self.invariant.valid) is known fits (returns-in-Err-Failed-clause-state g c)
-
-pub returns-in-Err-NoMemory-clause-state : goal.returns-in-Err-NoMemory-clause-state
-returns-in-Err-NoMemory-clause-state g c =
-    let s = delivery_view c.self.inside in
-    let post = c.in_ok-bytes in
-    rw (← c.self.view_is)
-    (is_refused c.args.who.now s post.bytes post.count (record {}) (subst (λ t. IsNextPost t post.bytes post.count) (sym c.self.view_is) post.ensures)
-    (sends_at c.args.who.now s.ring c.now.result.now c.as_str.result.now c.as_slice.result.now post.bytes (Err NoMemory) c.now.ensures
-    c.as_str.ensures.text c.as_slice.ensures (rw c.in-Err-NoMemory.field-0-is at c.in-Err-NoMemory.ensures.told)))
-
-pub returns-in-Err-NoMemory-clause-told : goal.returns-in-Err-NoMemory-clause-told
-returns-in-Err-NoMemory-clause-told g c stamped b is known fits =
-    post_leads stamped b c.args.who.now c.args.self.now
-    (subst (λ (t : State). AreValid t.queue.chunks) c.self.view_is c.self.invariant.valid) is known fits (returns-in-Err-NoMemory-clause-state g c)
+    (subst (λ (t : State). AreValid t.queue.chunks) c.self.view_is c.self.invariant.valid) is known fits c.send_post.ensures.state

@@ -25,6 +25,54 @@ returns-in-Some-clause-raw g c =
     c.loop-pieces.pieces c.loop-pieces.at c.args.self.now c.loop-pieces.self c.loop-pieces.invariant.so c.take_fed.new.self c.in-Some.place c.damaged.result
     (rw c.in-Some.is at c.in_ok-place.ensures.ok) c.damaged.ensures
 
+-- no memory for the heads of what was fed
+pub returns-in_err-place-clause-raw : goal.returns-in_err-place-clause-raw
+returns-in_err-place-clause-raw g c =
+    let p = err_from_is_err_and c.from_residual.result c.from_residual.ensures.1 in
+    rw (p.1, p.2) (not_gathered c.args.name.now c.args.most c.args.file c.args.self.now c.take_fed.new.self no_memory c.loop-pieces.invariant.pieces)
+
+pub returns-in_err-place-clause-own : goal.returns-in_err-place-clause-own
+returns-in_err-place-clause-own g c = c.loop-pieces.invariant.own
+
+pub returns-in_err-place-clause-pieces : goal.returns-in_err-place-clause-pieces
+returns-in_err-place-clause-pieces g c = c.loop-pieces.invariant.pieces
+
+pub returns-in_err-place-clause-last : goal.returns-in_err-place-clause-last
+returns-in_err-place-clause-last g c =
+    let p = err_from_is_err_and c.from_residual.result c.from_residual.ensures.1 in
+    rw (p.1, p.2) (no_failure {T = Unit {0}} (Err NoMemory) (λ call e. cc) c.loop-pieces.invariant.pieces)
+
+pub returns-in_err-place-clause-cause : goal.returns-in_err-place-clause-cause
+returns-in_err-place-clause-cause g c =
+    let p = err_from_is_err_and c.from_residual.result c.from_residual.ensures.1 in
+    rw (p.1, p.2) c.loop-pieces.invariant.count
+
+pub returns-in_err-last-clause-raw : goal.returns-in_err-last-clause-raw
+returns-in_err-last-clause-raw g c =
+    let p = err_from_is_err_and c.from_residual-in_err-last.result c.from_residual-in_err-last.ensures.1 in
+    rw (p.1, p.2) (not_gathered c.args.name.now c.args.most c.args.file c.args.self.now c.take_ahead.new.self no_memory c.loop-pieces.invariant.pieces)
+
+pub returns-in_err-last-clause-own : goal.returns-in_err-last-clause-own
+returns-in_err-last-clause-own g c = c.loop-pieces.invariant.own
+
+pub returns-in_err-last-clause-pieces : goal.returns-in_err-last-clause-pieces
+returns-in_err-last-clause-pieces g c = c.loop-pieces.invariant.pieces
+
+pub returns-in_err-last-clause-last : goal.returns-in_err-last-clause-last
+returns-in_err-last-clause-last g c =
+    let p = err_from_is_err_and c.from_residual-in_err-last.result c.from_residual-in_err-last.ensures.1 in
+    rw (p.1, p.2) (no_failure {T = Unit {0}} (Err NoMemory) (λ call e. cc) c.loop-pieces.invariant.pieces)
+
+pub returns-in_err-last-clause-cause : goal.returns-in_err-last-clause-cause
+returns-in_err-last-clause-cause g c =
+    let p = err_from_is_err_and c.from_residual-in_err-last.result c.from_residual-in_err-last.ensures.1 in
+    rw (p.1, p.2) c.loop-pieces.invariant.count
+
+pub returns-in_err-feed_from-clause-cause : goal.returns-in_err-feed_from-clause-cause
+returns-in_err-feed_from-clause-cause g c =
+    let p = err_from_is_err_and c.from_residual-in_err-feed_from.result c.from_residual-in_err-feed_from.ensures.1 in
+    rw (p.1, p.2) (c.in_ok-piece.ensures.cause ∙ c.loop-pieces.invariant.count)
+
 -- a read that failed
 pub returns-in_err-piece-clause-raw : goal.returns-in_err-piece-clause-raw
 returns-in_err-piece-clause-raw g c =
