@@ -1,5 +1,5 @@
 use Rattle.std.proofs.Common.{◌≡◌, ◌+◌, Some, Ok, Err, length, ap, sym, subst, ◌∙◌, refl, true, is_ok, arith}
-use Rattle.std.specs.Prelude.{IfOk, slice_get, slice_index, slice_set}
+use Rattle.std.specs.Prelude.{IsTrue, IfOk, slice_get, slice_index, slice_set}
 use Rattle.std.proofs.lemmas.Result.{err_from_is_err_and}
 use Rattle.chk_site.proofs.Runs.{adds_none}
 use Rattle.chk_site.proofs.Leads.{leads_as, leads_none}
@@ -9,7 +9,7 @@ use Rattle.chk_chunk.specs.Lent.{chunk_of}
 use Rattle.chk_tail.specs.declared.step.Step.{Step}
 use Rattle.chk_tail.specs.declared.step.Step.TheVariants.{Bytes, AtEnd, Shrank as is_short}
 use Rattle.chk_tail.specs.Given.{IsGiven}
-use Rattle.chk_reading.specs.Adaptors.{before_of}
+use Rattle.chk_reading.specs.Adaptors.{Adaptor, before_of, is_stepped}
 use Rattle.chk_delivery.specs.Sound.{next_begins}
 use Rattle.chk_delivery.specs.Turns.{with_chunk}
 use Rattle.chk_delivery.proofs.Putting.{by_ok}
@@ -31,6 +31,36 @@ use Rattle.chk_agent.proofs.Soundness.{below_at}
 use Rattle.chk_agent.proofs.SteppingTold.{kept_told}
 use Rattle.chk_agent.proofs.SteppingExits.{if_ok, set_there, was_stepped, at_index, put_is, undone_is, own_state, made_sound, made_state, made_on, undone_state, chunk_is, chunk_valid, chunk_next, chunk_known, end_on, short_on, after_of}
 use Rattle.chk_agent.proofs.agent.Agent.step.Goals as goal
+
+pub index-requires : goal.index-requires
+index-requires g c =
+    let s = agent_view c.self.inside in
+    let i = c.args.adaptor in
+    let a = c.requires.read_on.0 in
+    let at = ap (λ (s : State). slice_get s.adaptors i) c.self.view_is ∙ c.requires.read_on.1 in
+    let below = below_at s.adaptors i a at in
+    let held = c.self.inside.adaptors.ok.0 in
+    omega (arith, below, held)
+
+pub index_mut-requires : goal.index_mut-requires
+index_mut-requires g c =
+    let s = agent_view c.self.inside in
+    let i = c.args.adaptor in
+    let a = c.requires.read_on.0 in
+    let at = ap (λ (s : State). slice_get s.adaptors i) c.self.view_is ∙ c.requires.read_on.1 in
+    let below = below_at s.adaptors i a at in
+    let held = c.self.inside.adaptors.ok.0 in
+    omega (arith, below, held)
+
+pub step-requires : goal.step-requires
+step-requires g c =
+    let s = agent_view c.self.inside in
+    let i = c.args.adaptor in
+    let a = c.requires.read_on.0 in
+    let at = ap (λ (s : State). slice_get s.adaptors i) c.self.view_is ∙ c.requires.read_on.1 in
+    let x = c.index_mut.result.now in
+    let same = at_index s.adaptors i x a at c.index_mut.ensures.value in
+    record { read_on = subst (λ (x : Adaptor). IsTrue (is_stepped x.phase)) (sym same) c.requires.read_on.2 }
 
 pub keep-requires-clause-valid : goal.keep-requires-clause-valid
 keep-requires-clause-valid g c =
