@@ -28,6 +28,7 @@ use Rattle.chk_agent.specs.Within.{chunk_made}
 use Rattle.chk_agent.proofs.AddingLines.{last_unmade, undamaged_by, last_by, cause_by}
 use Rattle.chk_agent.proofs.TurningFaults.{last_ok}
 use Rattle.chk_agent.proofs.Soundness.{below_at}
+use Rattle.chk_agent.proofs.AddingPast.{set_size}
 use Rattle.chk_agent.proofs.SteppingTold.{kept_told}
 use Rattle.chk_agent.proofs.SteppingExits.{if_ok, set_there, was_stepped, at_index, put_is, undone_is, own_state, made_sound, made_state, made_on, undone_state, chunk_is, chunk_valid, chunk_next, chunk_known, end_on, short_on, after_of}
 use Rattle.chk_agent.proofs.agent.Agent.step.Goals as goal
@@ -61,6 +62,31 @@ step-requires g c =
     let x = c.index_mut.result.now in
     let same = at_index s.adaptors i x a at c.index_mut.ensures.value in
     record { read_on = subst (λ (x : Adaptor). IsTrue (is_stepped x.phase)) (sym same) c.requires.read_on.2 }
+
+pub index-requires-in-Bytes : goal.index-requires-in-Bytes
+index-requires-in-Bytes g c =
+    let s = agent_view c.self.inside in
+    let i = c.args.adaptor in
+    let a = c.requires.read_on.0 in
+    let at = ap (λ (s : State). slice_get s.adaptors i) c.self.view_is ∙ c.requires.read_on.1 in
+    let below = below_at s.adaptors i a at in
+    let held = c.self.inside.adaptors.ok.0 in
+    let size = set_size s.adaptors i c.step.new.self in
+    omega (arith, below, held, size)
+
+pub index_mut-requires-then-is_err : goal.index_mut-requires-then-is_err
+index_mut-requires-then-is_err g c =
+    let s = agent_view c.self.inside in
+    let i = c.args.adaptor in
+    let a = c.requires.read_on.0 in
+    let at = ap (λ (s : State). slice_get s.adaptors i) c.self.view_is ∙ c.requires.read_on.1 in
+    let below = below_at s.adaptors i a at in
+    let held = c.self.inside.adaptors.ok.0 in
+    let size = set_size s.adaptors i c.step.new.self in
+    omega (arith, below, held, size)
+
+pub keep-requires-clause-room : goal.keep-requires-clause-room
+keep-requires-clause-room g c = sym c.if-is_held.ensures
 
 pub keep-requires-clause-valid : goal.keep-requires-clause-valid
 keep-requires-clause-valid g c =
