@@ -29,10 +29,11 @@ use Rattle.chk_agent.specs.Faults.{fault_of}
 use Rattle.chk_agent.specs.Fits.{IsSound}
 use Rattle.chk_agent.specs.Settles.{Writes, saved_now, unsure}
 use Rattle.chk_agent.specs.Adds.{IsNewest, asked_for, new_line, with_added, TakesStream, written, failed, unwritten, unkept, unasked, wanting}
-use Rattle.chk_agent.specs.Takes.{Asks, IsNewLine, MatchesNewest, Keeps, kept, failed as keep_failed, unwritten as keep_unwritten, wanting as keep_wanting}
+use Rattle.chk_agent.specs.Takes.{Asks, IsMore, IsNewLine, MatchesNewest, Keeps, kept, failed as keep_failed, unwritten as keep_unwritten, wanting as keep_wanting}
 use Rattle.chk_agent.proofs.StartingSound.{line_again}
 use Rattle.chk_agent.proofs.Soundness.{lines_good, sound_unsure}
 use Rattle.chk_agent.proofs.AddingNew.{new_lines, none_owned, places, new_sound}
+use Rattle.chk_agent.proofs.AddingLines.{keeps_failed}
 use Rattle.chk_agent.proofs.AddingTold.{new_written, new_unsure}
 
 -- ---- the suffix
@@ -87,18 +88,17 @@ pub record IsNewKept (s : State) (l : Line) (lines : List Line) : Type 0 where
   pub lasts : length s.delivery.table.last ≡ length s.delivery.table.committed
   pub are : lines ≡ lines_of (with_added s None l)
 
-pub kept_of : (s t : State) → s ≡ t → IsSound s → (l : Line) → IsNewLine t l
-    → length s.delivery.table.last ≡ length s.delivery.table.committed → (a : Adaptor) (lines : List Line) → a ≡ adaptor_of l
-    → lines ≡ lines_of t ++ line_at l.start a ∷ [] → IsNewKept s l lines
-kept_of s t same sound l new lasts a lines is are =
-    let here : IsNewLine s l = subst (λ t. IsNewLine t l) (sym same) new in
+pub kept_from : (s t : State) → s ≡ t → IsSound s → (l : Line) (from : ℕ) (a : Adaptor) (lines : List Line) → IsMore t l from a lines
+    → length s.delivery.table.last ≡ length s.delivery.table.committed → IsNewKept s l lines
+kept_from s t same sound l from a lines more lasts =
+    let here : IsNewLine s l = subst (λ t. IsNewLine t l) (sym same) more.new in
     record {
       sound = sound;
       new = here;
       lasts = lasts;
       are =
-          subst (λ (t : State). lines ≡ lines_of t ++ line_at l.start a ∷ []) (sym same) are
-          ∙ (ap (λ b. lines_of s ++ line_at l.start b ∷ []) is
+          subst (λ (t : State). lines ≡ lines_of t ++ line_at l.start a ∷ []) (sym same) more.lines_are
+          ∙ (ap (λ b. lines_of s ++ line_at l.start b ∷ []) more.adaptor
           ∙ (ap (λ o. lines_of s ++ line_at o (adaptor_of l) ∷ []) (sym here.offset)
           ∙ (ap (λ k. lines_of s ++ k ∷ []) (line_again l) ∙ sym (new_lines s sound l here lasts))));
     }
@@ -149,15 +149,10 @@ module _ (s : State) (l : Line) (lines : List Line) (k : IsNewKept s l lines) wh
     pub sound_room : IsSound (record s { adaptors = xs; ready = false })
     sound_room = subst IsSound (sym unsure_is) (sound_unsure s k.sound)
 
-    pub failed_room : (call : Call) {old new : Option History} → Writes s lines (Err (site_failed call)) old new
-        → Keeps s T (Err (Outside call)) (record s { adaptors = xs; ready = false }) old new
-    failed_room call {old = old} {new = new} script =
-        subst (λ u. Keeps s T (Err (Outside call)) u old new) (sym unsure_is) (keep_failed call (written_is script))
-
-    pub unwritten_room : {old new : Option History} → Writes s lines (Err no_memory) old new
-        → Keeps s T (Err NoMemory) (record s { adaptors = xs; ready = false }) old new
-    unwritten_room {old = old} {new = new} script =
-        subst (λ u. Keeps s T (Err NoMemory) u old new) (sym unsure_is) (keep_unwritten (written_is script))
+    pub failed_room : (fault : OutsideFault) {old new : Option History} → Writes s lines (Err fault) old new
+        → Keeps s T (Err (fault_of fault)) (record s { adaptors = xs; ready = false }) old new
+    failed_room fault {old = old} {new = new} script =
+        subst (λ u. Keeps s T (Err (fault_of fault)) u old new) (sym unsure_is) (keeps_failed s T fault (written_is script))
 
     pub told_room : (stamped : List (List ℕ)) (fault : OutsideFault) → read_checkpoint (written_text lines) ≡ Some lines
         → {old new : Option History} → Writes s lines (Err fault) old new

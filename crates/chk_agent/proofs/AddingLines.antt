@@ -1,17 +1,23 @@
 -- The lines of a past adaptor that lives again, and what keeps them.
-use Rattle.std.proofs.Common.{◌≡◌, ℕ, zero, suc, ◌≤◌, true, List, [], ◌∷◌, length, map, Some, Ok, ap, sym, subst, ◌∙◌, refl}
+use Rattle.std.proofs.Common.{◌≡◌, ℕ, zero, suc, ◌≤◌, true, List, [], ◌∷◌, length, map, Some, Ok, Err, ap, sym, subst, ◌∙◌, refl, arith}
 use Rattle.std.specs.Prelude.{slice_get, slice_set, slice_index}
 use Rattle.std.proofs.lemmas.Option.{same_Some}
 use Rattle.chk_site.specs.History.{History}
 use Rattle.std.specs.Prelude.{Option}
+use Rattle.chk_site.specs.declared.acts.OutsideFault.{OutsideFault}
+use Rattle.chk_site.specs.declared.acts.OutsideFault.TheVariants.{Outside as site_failed, NoMemory as no_memory}
+use Rattle.chk_site.specs.Site.{Adds, LastFailed, OutsideCause}
+use Rattle.chk_site.proofs.Runs.{adds_as, adds_none}
+use Rattle.chk_agent.specs.declared.answers.AgentFault.TheVariants.{NoMemory}
+use Rattle.chk_agent.specs.Faults.{AgentCause, FailsLast, IsUndamaged, fault_of}
 use Rattle.chk_checkpoint.specs.declared.CheckLine.{CheckLine}
 use Rattle.chk_checkpoint.specs.Lines.{shown}
 use Rattle.chk_world.specs.Checkpoints.{Line}
 use Rattle.chk_reading.specs.Adaptors.{Adaptor, line_at, revived}
 use Rattle.chk_agent.specs.States.{State, lines_at, lines_of}
-use Rattle.chk_agent.specs.Settles.{Writes, saved_now}
+use Rattle.chk_agent.specs.Settles.{Writes, saved_now, unsure}
 use Rattle.chk_agent.specs.Adds.{revived_at}
-use Rattle.chk_agent.specs.Takes.{Keeps, kept}
+use Rattle.chk_agent.specs.Takes.{Keeps, kept, failed, unwritten}
 use Rattle.chk_agent.proofs.Soundness.{at_map}
 use Rattle.chk_agent.proofs.Listing.{line_get}
 use Rattle.chk_agent.proofs.SettlingLines.{lines_set}
@@ -45,3 +51,33 @@ pub kept_by : (s : State) (n : ℕ) (name : List ℕ) (a b : Adaptor) (lines : L
 kept_by s n name a b lines is are {old = old} {new = new} script =
     subst (λ t. Keeps s (revived_at s n name a) (Ok tt) t old new) (sym (kept_state s n name a b lines is are))
     (kept (subst (λ ls. Writes s ls (Ok tt) old new) are script))
+
+-- ---- where the writing was refused
+
+pub keeps_failed : (s t : State) (fault : OutsideFault) {old new : Option History} → Writes s (lines_of t) (Err fault) old new
+    → Keeps s t (Err (fault_of fault)) (unsure s) old new
+keeps_failed s t (site_failed call) script = failed call script
+keeps_failed s t no_memory script = unwritten script
+
+pub undamaged_by : (T : Type 0) (fault : OutsideFault) → IsUndamaged {T = T} (Err (fault_of fault))
+undamaged_by T (site_failed call) = tt
+undamaged_by T no_memory = tt
+
+pub last_by : (S T : Type 0) (fault : OutsideFault) {old new : Option History} → Adds old new (LastFailed {T = S} (Err fault))
+    → Adds old new (FailsLast {T = T} (Err (fault_of fault)))
+last_by S T (site_failed call) last = last
+last_by S T no_memory last = last
+
+pub cause_by : (S T : Type 0) (fault : OutsideFault) (before now : ℕ) → OutsideCause {T = S} before now (Err fault)
+    → AgentCause {T = T} before now (Err (fault_of fault))
+cause_by S T (site_failed call) before now cause = cause
+cause_by S T no_memory before now cause = omega (arith, cause)
+
+-- ---- where nothing failed outside
+
+pub last_none : (T : Type 0) (now : Option History) → Adds now now (FailsLast {T = T} (Err NoMemory))
+last_none T now = adds_none now (FailsLast {T = T} (Err NoMemory)) (λ h. tt)
+
+pub last_unmade : (T : Type 0) {P : History → History → Type 0} {old new : Option History} → Adds old new P
+    → Adds old new (FailsLast {T = T} (Err NoMemory))
+last_unmade T p = adds_as (FailsLast {T = T} (Err NoMemory)) p (λ a h x. tt)

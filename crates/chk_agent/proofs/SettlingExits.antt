@@ -1,5 +1,5 @@
 -- The exits of a settle: what it leaves at each, and what the told history then holds.
-use Rattle.std.proofs.Common.{◌≡◌, ℕ, zero, suc, ◌≤◌, Bool, true, false, List, ◌∷◌, length, Some, Option, Result, Ok, Err, ap, sym, subst, ◌∙◌, refl, arith, if◌then◌else◌}
+use Rattle.std.proofs.Common.{◌≡◌, ◌≢◌, ℕ, zero, suc, ◌≤◌, Bool, true, false, List, ◌∷◌, length, Some, Option, Result, Ok, Err, ap, sym, subst, ◌∙◌, refl, arith, if◌then◌else◌}
 use Rattle.std.specs.Prelude.{IsTrue, slice_get, slice_index}
 use Rattle.chk_site.specs.declared.acts.Call.{Call}
 use Rattle.chk_site.specs.declared.acts.Role.TheVariants.{Agent}
@@ -21,7 +21,7 @@ use Rattle.chk_reading.specs.Adaptors.{Adaptor}
 use Rattle.chk_delivery.specs.States.{State as Delivery}
 use Rattle.chk_delivery.specs.Sound.{IsSound as IsSoundDelivery}
 use Rattle.chk_delivery.specs.Turns.{is_one_of, numbers_of, without_adaptors}
-use Rattle.chk_agent.specs.declared.answers.AgentFault.TheVariants.{Outside, NoMemory}
+use Rattle.chk_agent.specs.Faults.{fault_of}
 use Rattle.chk_agent.specs.States.{State, process, committed_at, lines_at, lines_of}
 use Rattle.chk_agent.specs.Settles.{all_back, reset, settled_all, settled, saved_now, unsure, Writes, gone_at, IsSettled, same, written, failed, unwritten}
 use Rattle.chk_agent.specs.Facts.{Matches}
@@ -99,7 +99,7 @@ module _ (now : ℕ) (s : State) (sound : IsSound s) (d : Delivery) (back : List
   abbrev T : State
   T = record s { adaptors = back; delivery = d }
 
-  reset_is : T ≡ reset (gone_at now s) s
+  pub reset_is : T ≡ reset (gone_at now s) s
   reset_is = λ i. record s { adaptors = w.adaptors i; delivery = w.delivery i }
 
   pub committed_is : d.table.committed ≡ s.delivery.table.committed
@@ -125,96 +125,102 @@ module _ (now : ℕ) (s : State) (sound : IsSound s) (d : Delivery) (back : List
       (λ i a at. (sound.each i a at).place.marked.placed) (ends_from s sound) (λ j below. ap (slice_index s.delivery.table.committed) (omega arith))
       (let few = sound.few in let known = sound.known in omega (arith, few, known))
 
-  back_matches : (stamped : List (List ℕ)) (h : History) → Matches stamped s h → Matches stamped (reset (gone_at now s) s) h
-  back_matches stamped h x = reset_matches stamped s sound (gone_at now s) h x
+  pub back_matches : (stamped : List (List ℕ)) (h : History) → Matches stamped s h → Matches stamped T h
+  back_matches stamped h x = subst (λ t. Matches stamped t h) (sym reset_is) (reset_matches stamped s sound (gone_at now s) h x)
 
-  -- ---- once they are settled
+-- ---- once they are settled
 
-  module _ (lines : List Line) (lines_are : lines ≡ lines_at (settled_all back d.table.committed) d.table.committed) where
-    lines_is : lines ≡ lines_of (settled (reset (gone_at now s) s))
-    lines_is = lines_are ∙ ap (λ t. lines_of (settled t)) reset_is
+settled_failed : (now : ℕ) (s : State) (fault : OutsideFault) {old new : Option History}
+    → lines_of (settled (reset (gone_at now s) s)) ≢ s.saved
+    → Writes s (lines_of (settled (reset (gone_at now s) s))) (Err fault) old new
+    → IsSettled now s (Err (fault_of fault)) (unsure (reset (gone_at now s) s)) old new
+settled_failed now s (site_failed call) other script = failed call other script
+settled_failed now s no_memory other script = unwritten other script
 
-    settled_sound : IsSound (settled (reset (gone_at now s) s))
-    settled_sound = sound_settled (reset (gone_at now s) s) reset_sound
+module _ (t : State) (sound : IsSound t) (lines : List Line) (are : lines ≡ lines_of (settled t)) where
+  settled_sound : IsSound (settled t)
+  settled_sound = sound_settled t sound
 
-    pub good_lines : IsTrue (are_lines Two lines)
-    good_lines = subst (λ ls. IsTrue (are_lines Two ls)) (sym lines_is) (lines_spelled (settled (reset (gone_at now s) s)) settled_sound)
+  pub good_lines : IsTrue (are_lines Two lines)
+  good_lines = subst (λ ls. IsTrue (are_lines Two ls)) (sym are) (lines_spelled (settled t) settled_sound)
 
-    module _ (after : List Adaptor) (after_is : after ≡ settled_all back d.table.committed) where
-      abbrev U : State
-      U = record s { adaptors = after; delivery = d }
+  -- the lines are those of a settle at this moment
+  lines_is : (now : ℕ) (s : State) → t ≡ reset (gone_at now s) s → lines ≡ lines_of (settled (reset (gone_at now s) s))
+  lines_is now s is = are ∙ ap (λ t. lines_of (settled t)) is
 
-      settled_is : U ≡ settled (reset (gone_at now s) s)
-      settled_is = (λ i. record s { adaptors = after_is i; delivery = d }) ∙ ap settled reset_is
+  saved_as : (now : ℕ) (s : State) → t ≡ reset (gone_at now s) s → t.saved ≡ s.saved
+  saved_as now s is = ap (λ (t : State). t.saved) is
 
-      saved_is : record s { adaptors = after; delivery = d; saved = lines } ≡ saved_now (settled (reset (gone_at now s) s))
-      saved_is = (λ i. record s { adaptors = after_is i; delivery = d; saved = lines_are i }) ∙ ap (λ t. saved_now (settled t)) reset_is
+  -- another list of lines is saved
+  others : (now : ℕ) (s : State) → t ≡ reset (gone_at now s) s → (lines ≡ t.saved → ⊥)
+      → lines_of (settled (reset (gone_at now s) s)) ≢ s.saved
+  others now s is other e = other (lines_is now s is ∙ (e ∙ sym (saved_as now s is)))
 
-      pub sound_after : IsSound U
-      sound_after = subst IsSound (sym settled_is) settled_sound
+  -- the writing of a settle at this moment
+  script_as : (now : ℕ) (s : State) → t ≡ reset (gone_at now s) s → (result : Result (Unit {0}) OutsideFault)
+      {old new : Option History} → Writes t lines result old new
+      → Writes s (lines_of (settled (reset (gone_at now s) s))) result old new
+  script_as now s is result {old = old} {new = new} script =
+      subst (λ t. Writes t (lines_of (settled t)) result old new) is (subst (λ ls. Writes t ls result old new) are script)
 
-      pub sound_written : IsSound (record s { adaptors = after; delivery = d; saved = lines })
-      sound_written = subst IsSound (sym saved_is) (sound_saved (settled (reset (gone_at now s) s)) settled_sound)
+  module _ (after : List Adaptor) (after_is : after ≡ settled_all t.adaptors t.delivery.table.committed) where
+    settled_is : record t { adaptors = after } ≡ settled t
+    settled_is = λ i. record t { adaptors = after_is i }
 
-      -- nothing is written
-      pub same_state : lines ≡ s.saved → (at : Option History)
-          → IsSettled now s (Ok (record { reset = length (gone_at now s); written = false })) U at at
-      same_state saved at =
-          subst (λ t. IsSettled now s (Ok (record { reset = length (gone_at now s); written = false })) t at at) (sym settled_is)
-          (same (sym lines_is ∙ saved))
+    saved_is : record t { adaptors = after; saved = lines } ≡ saved_now (settled t)
+    saved_is = λ i. record t { adaptors = after_is i; saved = are i }
 
-      pub same_told : (stamped : List (List ℕ)) (at : Option History)
-          → Adds at at (Leads (As stamped (process s)) (Matches stamped s) (Matches stamped U))
-      same_told stamped at = leads_none at (λ h x.
-          subst (λ t. Matches stamped t h) (sym settled_is)
-          (settled_matches stamped (reset (gone_at now s) s) reset_sound h (back_matches stamped h x)))
+    pub sound_after : IsSound (record t { adaptors = after })
+    sound_after = subst IsSound (sym settled_is) settled_sound
 
-      module _ (ready : s.ready ≡ true) (is_read : read_checkpoint (written_text lines) ≡ Some lines) {old new : Option History} where
-        -- the lines are written
-        pub written_state : (lines ≡ s.saved → ⊥) → Writes s lines (Ok tt) old new
-            → IsSettled now s (Ok (record { reset = length (gone_at now s); written = true }))
-            (record s { adaptors = after; delivery = d; saved = lines }) old new
-        written_state other script =
-            subst (λ t. IsSettled now s (Ok (record { reset = length (gone_at now s); written = true })) t old new) (sym saved_is)
-            (written (λ e. other (lines_is ∙ e)) (subst (λ ls. Writes s ls (Ok tt) old new) lines_is script))
+    pub sound_written : IsSound (record t { adaptors = after; saved = lines })
+    sound_written = subst IsSound (sym saved_is) (sound_saved (settled t) settled_sound)
 
-        pub written_told : (stamped : List (List ℕ)) → Writes s lines (Ok tt) old new
-            → Adds old new (Leads (As stamped (process s)) (Matches stamped s)
-            (Matches stamped (record s { adaptors = after; delivery = d; saved = lines })))
-        written_told stamped script =
-            leads_as (λ h x. settled_matches stamped (reset (gone_at now s) s) reset_sound h (back_matches stamped h x))
-            (λ h x. subst (λ t. Matches stamped t h) (sym saved_is) x)
-            (lines_written stamped (settled (reset (gone_at now s) s)) settled_sound ready
-            (subst (λ ls. read_checkpoint (written_text ls) ≡ Some ls) lines_is is_read)
-            (subst (λ ls. Writes s ls (Ok tt) old new) lines_is script))
+    -- nothing is written
+    pub same_state : lines ≡ t.saved → (now : ℕ) (s : State) → t ≡ reset (gone_at now s) s → (n : ℕ) → n ≡ length (gone_at now s)
+        → (at : Option History) → IsSettled now s (Ok (record { reset = n; written = false })) (record t { adaptors = after }) at at
+    same_state saved now s is n many at =
+        subst (λ n. IsSettled now s (Ok (record { reset = n; written = false })) (record t { adaptors = after }) at at) (sym many)
+        (subst (λ u. IsSettled now s (Ok (record { reset = length (gone_at now s); written = false })) u at at)
+        (sym (settled_is ∙ ap settled is))
+        (same (sym (lines_is now s is) ∙ (saved ∙ saved_as now s is))))
 
-    unsure_is : record s { adaptors = back; delivery = d; ready = false } ≡ unsure (reset (gone_at now s) s)
-    unsure_is = ap unsure reset_is
+    pub same_told : (stamped : List (List ℕ)) (at : Option History)
+        → Adds at at (Leads (As stamped (process t)) (Matches stamped t) (Matches stamped (record t { adaptors = after })))
+    same_told stamped at = leads_none at (λ h x.
+        subst (λ u. Matches stamped u h) (sym settled_is) (settled_matches stamped t sound h x))
 
-    module _ (ready : s.ready ≡ true) (is_read : read_checkpoint (written_text lines) ≡ Some lines) {old new : Option History} where
-      -- a call failed
-      pub failed_state : (call : Call) → (lines ≡ s.saved → ⊥) → Writes s lines (Err (site_failed call)) old new
-          → IsSettled now s (Err (Outside call)) (record s { adaptors = back; delivery = d; ready = false }) old new
-      failed_state call other script =
-          subst (λ t. IsSettled now s (Err (Outside call)) t old new) (sym unsure_is)
-          (failed call (λ e. other (lines_is ∙ e)) (subst (λ ls. Writes s ls (Err (site_failed call)) old new) lines_is script))
+    -- the lines are written
+    pub written_state : (lines ≡ t.saved → ⊥) → {old new : Option History} → Writes t lines (Ok tt) old new
+        → (now : ℕ) (s : State) → t ≡ reset (gone_at now s) s → (n : ℕ) → n ≡ length (gone_at now s)
+        → IsSettled now s (Ok (record { reset = n; written = true })) (record t { adaptors = after; saved = lines }) old new
+    written_state other {old = old} {new = new} script now s is n many =
+        subst (λ n. IsSettled now s (Ok (record { reset = n; written = true })) (record t { adaptors = after; saved = lines }) old new)
+        (sym many)
+        (subst (λ u. IsSettled now s (Ok (record { reset = length (gone_at now s); written = true })) u old new)
+        (sym (saved_is ∙ ap (λ t. saved_now (settled t)) is))
+        (written (others now s is other) (script_as now s is (Ok tt) script)))
 
-      -- there was no memory
-      pub unwritten_state : (lines ≡ s.saved → ⊥) → Writes s lines (Err no_memory) old new
-          → IsSettled now s (Err NoMemory) (record s { adaptors = back; delivery = d; ready = false }) old new
-      unwritten_state other script =
-          subst (λ t. IsSettled now s (Err NoMemory) t old new) (sym unsure_is)
-          (unwritten (λ e. other (lines_is ∙ e)) (subst (λ ls. Writes s ls (Err no_memory) old new) lines_is script))
+    pub written_told : t.ready ≡ true → read_checkpoint (written_text lines) ≡ Some lines → (stamped : List (List ℕ))
+        → {old new : Option History} → Writes t lines (Ok tt) old new
+        → Adds old new (Leads (As stamped (process t)) (Matches stamped t)
+        (Matches stamped (record t { adaptors = after; saved = lines })))
+    written_told ready is_read stamped {old = old} {new = new} script =
+        leads_as (settled_matches stamped t sound) (λ h x. subst (λ u. Matches stamped u h) (sym saved_is) x)
+        (lines_written stamped (settled t) settled_sound ready (subst (λ ls. read_checkpoint (written_text ls) ≡ Some ls) are is_read)
+        (subst (λ ls. Writes t ls (Ok tt) old new) are script))
 
-      pub failed_told : (stamped : List (List ℕ)) (fault : OutsideFault) → Writes s lines (Err fault) old new
-          → Adds old new (Leads (As stamped (process s)) (Matches stamped s)
-          (Matches stamped (record s { adaptors = back; delivery = d; ready = false })))
-      failed_told stamped fault script =
-          leads_as (λ h x. settled_matches stamped (reset (gone_at now s) s) reset_sound h (back_matches stamped h x))
-          (λ h x. subst (λ t. Matches stamped t h) (sym unsure_is) x)
-          (lines_unsure stamped (settled (reset (gone_at now s) s)) settled_sound ready
-          (subst (λ ls. read_checkpoint (written_text ls) ≡ Some ls) lines_is is_read) (reset (gone_at now s) s) refl fault
-          (subst (λ ls. Writes s ls (Err fault) old new) lines_is script))
+  -- the writing was refused
+  pub failed_state : (lines ≡ t.saved → ⊥) → (fault : OutsideFault) → {old new : Option History} → Writes t lines (Err fault) old new
+      → (now : ℕ) (s : State) → t ≡ reset (gone_at now s) s → IsSettled now s (Err (fault_of fault)) (unsure t) old new
+  failed_state other fault {old = old} {new = new} script now s is =
+      subst (λ t. IsSettled now s (Err (fault_of fault)) (unsure t) old new) (sym is)
+      (settled_failed now s fault (others now s is other) (script_as now s is (Err fault) script))
 
-  pub failed_sound : IsSound (record s { adaptors = back; delivery = d; ready = false })
-  failed_sound = sound_unsure T back_sound
+  pub failed_told : t.ready ≡ true → read_checkpoint (written_text lines) ≡ Some lines → (stamped : List (List ℕ)) (fault : OutsideFault)
+      → {old new : Option History} → Writes t lines (Err fault) old new
+      → Adds old new (Leads (As stamped (process t)) (Matches stamped t) (Matches stamped (unsure t)))
+  failed_told ready is_read stamped fault {old = old} {new = new} script =
+      leads_as (settled_matches stamped t sound) (λ h x. x)
+      (lines_unsure stamped (settled t) settled_sound ready (subst (λ ls. read_checkpoint (written_text ls) ≡ Some ls) are is_read)
+      t refl fault (subst (λ ls. Writes t ls (Err fault) old new) are script))

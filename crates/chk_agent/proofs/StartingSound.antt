@@ -121,7 +121,7 @@ pub record IsMade (lines : List Line) (adaptors : List Adaptor) (d : Delivery) :
   pub are : adaptors ≡ map adaptor_of lines
   pub begun : IsBegunFor lines d
 
-pub made_places : (lines : List Line) (adaptors : List Adaptor) (d : Delivery) → IsMade lines adaptors d
+made_places : (lines : List Line) (adaptors : List Adaptor) (d : Delivery) → IsMade lines adaptors d
     → HavePlaces adaptors (next_begins d) d.table.committed
 made_places lines adaptors d h = record {
   few =
@@ -142,11 +142,6 @@ made_places lines adaptors d h = record {
         (sym h.begun.owners)
         (subst (λ o. FitsPlace o (slice_index d.table.committed i) (adaptor_of l)) (sym b.last)
         (subst (λ o. FitsPlace l.offset o (adaptor_of l)) (sym b.committed) (place_again l (h.good.each l (in_at lines i l at)))))
-
-pub made_known : (lines : List Line) (adaptors : List Adaptor) (d : Delivery) → IsMade lines adaptors d
-    → length adaptors ≤ length d.table.committed
-made_known lines adaptors d h =
-    let few = (made_places lines adaptors d h).few in let known = h.begun.known in omega (arith, few, known)
 
 -- its lines are those
 pub made_lines : (lines : List Line) (adaptors : List Adaptor) (d : Delivery) → IsMade lines adaptors d

@@ -16,13 +16,14 @@ use Rattle.chk_world.specs.Rules.{Legal}
 use Rattle.chk_world.specs.Checkpoints.{Line, read_checkpoint}
 use Rattle.chk_world.specs.Places.{AtTold}
 use Rattle.chk_checkpoint.specs.Damage.{IsFirstBad}
-use Rattle.chk_reading.specs.Adaptors.{adaptor_of}
+use Rattle.chk_reading.specs.Adaptors.{Adaptor, adaptor_of}
+use Rattle.chk_delivery.specs.States.{State as Delivery}
 use Rattle.chk_agent.specs.declared.agent.Rules.{Rules}
 use Rattle.chk_agent.specs.declared.answers.AgentFault.{AgentFault}
 use Rattle.chk_agent.specs.declared.answers.AgentFault.TheVariants.{Damaged}
 use Rattle.chk_agent.specs.Faults.{FailsLast, fault_of}
 use Rattle.chk_agent.specs.Loading.{MadeOnce}
-use Rattle.chk_agent.specs.States.{State, committed_at}
+use Rattle.chk_agent.specs.States.{State, committed_at, lines_at}
 use Rattle.chk_agent.specs.Facts.{Matches}
 
 -- the state is of the saved lines, with nothing queued or out
@@ -43,6 +44,18 @@ pub record IsFresh (who : Who) (ring : Turns) (rules : Rules) (s : State) : Type
   pub post : s.delivery.post ≡ None
   pub poll : s.delivery.poll ≡ None
   pub polled : s.delivery.polled ≡ None
+
+-- the state of these adaptors and of what is to be delivered; none was stepped, and their lines are saved
+abbrev pub begun_state : List ℕ → List ℕ → List Adaptor → Delivery → State
+begun_state source cluster adaptors delivery = record {
+  source = source;
+  cluster = cluster;
+  adaptors = adaptors;
+  last = None;
+  delivery = delivery;
+  saved = lines_at adaptors delivery.table.committed;
+  ready = true;
+}
 
 -- after a start: the history holds the state; the checkpoint is never damaged
 abbrev pub Started : List (List ℕ) → Who → Result State AgentFault → History → Type 0

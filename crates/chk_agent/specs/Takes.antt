@@ -1,5 +1,5 @@
 -- The parts of the taking of a stream.
-use Rattle.std.specs.Prelude.{◌≡◌, ℕ, ◌<◌, Bool, true, IsTrue, List, [], ◌∷◌, length, MatchBool, Option, Some, None, Result, Ok, Err}
+use Rattle.std.specs.Prelude.{◌≡◌, ℕ, ◌<◌, Bool, true, IsTrue, List, [], ◌∷◌, ◌++◌, length, MatchBool, Option, Some, None, Result, Ok, Err}
 use Rattle.chk_control.specs.declared.Class.{Class}
 use Rattle.chk_control.specs.Classes.{is_plain}
 use Rattle.chk_site.specs.declared.acts.Call.{Call}
@@ -11,6 +11,7 @@ use Rattle.chk_site.specs.History.{History, since_start}
 use Rattle.chk_site.specs.Site.{Adds, asked, answered, suffix_given, Calls}
 use Rattle.chk_world.specs.Agents.{last_newest}
 use Rattle.chk_world.specs.Checkpoints.{Line, is_line}
+use Rattle.chk_reading.specs.Adaptors.{Adaptor, adaptor_of, line_at}
 use Rattle.chk_world.specs.Places.{AtTold}
 use Rattle.chk_world.specs.Knowing.{agent, Both, Knows}
 use Rattle.chk_agent.specs.declared.answers.AgentFault.{AgentFault}
@@ -38,6 +39,13 @@ pub record IsNewLine (s : State) (l : Line) : Type 0 where
   pub stream : stream_in l.kind l.path 0 s.adaptors ≡ None
   pub name : named_in l.name 0 s.adaptors ≡ None
   pub room : length s.adaptors < 10000
+
+-- the adaptor of a new line, which begins there, and the lines with that line more
+pub record IsMore (s : State) (l : Line) (from : ℕ) (a : Adaptor) (lines : List Line) : Type 0 where
+  pub new : IsNewLine s l
+  pub start : from ≡ l.start
+  pub adaptor : a ≡ adaptor_of l
+  pub lines_are : lines ≡ lines_of s ++ line_at l.start a ∷ []
 
 -- its suffix is the answer of the last question for the newest one, where its class reads generations
 abbrev pub SuffixIsNewest : List ℕ → Line → History → Type 0

@@ -7,9 +7,9 @@ ghost use Rattle.chk_control.specs.Classes.{is_plain};
 ghost use Rattle.chk_control.specs.Lines.{is_name};
 ghost use Rattle.chk_rotate.specs.Marks.{BeginsBelow};
 ghost use Rattle.chk_checkpoint.specs.Lines.{shown, lines_of, written_text};
-ghost use Rattle.chk_world.specs.Checkpoints.{Two, are_lines, is_after_text, read_checkpoint};
+ghost use Rattle.chk_world.specs.Checkpoints.{Line, Two, are_lines, is_after_text, read_checkpoint};
 ghost use Rattle.chk_agent.specs.Settles.{Writes};
-ghost use Rattle.chk_agent.specs.Takes.{Asks, IsNewLine, Keeps, MatchesNewest, TakesNamed};
+ghost use Rattle.chk_agent.specs.Takes.{Asks, IsMore, IsNewLine, Keeps, MatchesNewest, TakesNamed};
 ghost use Rattle.chk_site.specs.Site.{Adds, LastFailed, OutsideCause};
 ghost use Rattle.chk_site.specs.Runs.{Leads};
 ghost use Rattle.chk_world.specs.Places.{As};
@@ -182,13 +182,9 @@ impl Agent {
                 self.saved = check.lines;
                 Ok(())
             }
-            Err(OutsideFault::Outside { call }) => {
+            Err(fault) => {
                 self.ready = false;
-                Err(AgentFault::Outside { call })
-            }
-            Err(OutsideFault::NoMemory) => {
-                self.ready = false;
-                Err(AgentFault::NoMemory)
+                Err(AgentFault::from(fault))
             }
         }
     }
@@ -328,31 +324,52 @@ impl Agent {
         ensures last { Adds (S.told site.old) (S.told site.new) (FailsLast result) }
         ensures cause { AgentCause (S.fault_count site.old) (S.fault_count site.new) result }
     {
-        let _used = self.delivery.used();
-        let number = self.adaptors.len() as u32;
         let start = line.start;
         let adaptor = Adaptor::new(alloc, line)?;
         let check = self.lines_more(alloc, &adaptor, start)?;
+        self.write_more(alloc, site, adaptor, start, check)
+    }
+
+    // The checkpoint is written with this adaptor's line more, and the adaptor comes behind the
+    // others.
+    fn write_more<S: Site>(
+        &mut self,
+        alloc: Global,
+        site: &mut S,
+        adaptor: Adaptor,
+        start: u64,
+        check: Checkpoint,
+    ) -> Result<(), AgentFault>
+        requires ready { self.old.ready ≡ true }
+        requires more { (l : Line) × IsMore self.old l start adaptor (lines_of check) }
+        ensures state { (l : Line) → IsMore self.old l start adaptor (lines_of check)
+            → Keeps self.old (with_added self.old None l) result self.new
+            (S.told site.old) (S.told site.new) }
+        ensures told { (stamped : List (List ℕ)) (l : Line) → IsMore self.old l start adaptor (lines_of check)
+            → Adds (S.told site.old) (S.told site.new)
+            (Leads (As stamped (process self.old)) (MatchesNewest stamped self.old l)
+            (Matches stamped self.new)) }
+        ensures undamaged { IsUndamaged result }
+        ensures last { Adds (S.told site.old) (S.told site.new) (FailsLast result) }
+        ensures cause { AgentCause (S.fault_count site.old) (S.fault_count site.new) result }
+    {
+        let _used = self.delivery.used();
+        let number = self.adaptors.len() as u32;
         if self.adaptors.reserve(1).is_err() {
             return Err(AgentFault::NoMemory);
         }
         match self.write_lines(alloc, site, &check) {
-            Ok(()) => {
-                self.delivery.begin(number, start);
-                let _begun = self.delivery.used();
-                self.adaptors.push_reserved(adaptor);
-                self.saved = check.lines;
-                Ok(())
-            }
-            Err(OutsideFault::Outside { call }) => {
+            Ok(()) => {}
+            Err(fault) => {
                 self.ready = false;
-                Err(AgentFault::Outside { call })
-            }
-            Err(OutsideFault::NoMemory) => {
-                self.ready = false;
-                Err(AgentFault::NoMemory)
+                return Err(AgentFault::from(fault));
             }
         }
+        self.delivery.begin(number, start);
+        let _begun = self.delivery.used();
+        self.adaptors.push_reserved(adaptor);
+        self.saved = check.lines;
+        Ok(())
     }
 
     // The lines with that of one more adaptor, at this offset.

@@ -56,7 +56,7 @@ impl Agent {
                     path,
                     offset,
                 },
-            ) => self.add_asked(alloc, site, name, class, kind, path, offset),
+            ) => self.add_asked(alloc, site, name, class, &kind, &path, offset),
             Ok(command) => self.run(alloc, command),
             Err(fault) => refuse(alloc, fault),
         }
@@ -69,13 +69,13 @@ impl Agent {
         site: &mut S,
         given: Option<Word>,
         class: Class,
-        kind: Word,
-        path: Word,
+        kind: &Word,
+        path: &Word,
         offset: u64,
     ) -> Result<Reply, AgentFault>
         requires ready { self.old.ready ≡ true }
-        requires good { IsTrue (is_command (Add given class kind path offset)) }
-        ensures state { (line : List ℕ) → meaning_of line ≡ Ok (Add given class kind path offset)
+        requires good { IsTrue (is_command (Add given class kind.now path.now offset)) }
+        ensures state { (line : List ℕ) → meaning_of line ≡ Ok (Add given class kind.now path.now offset)
             → IsCommand line self.old result self.new (S.told site.old) (S.told site.new) }
         ensures told { (stamped : List (List ℕ)) → Adds (S.told site.old) (S.told site.new)
             (Leads (As stamped (process self.old)) (Matches stamped self.old) (Matches stamped self.new)) }
@@ -84,12 +84,12 @@ impl Agent {
         ensures cause { AgentCause (S.fault_count site.old) (S.fault_count site.new) result }
     {
         let name = self.name_for(alloc, given)?;
-        let found = self.find_stream(&kind, &path);
-        if let Some(number) = self.refusal_of(&name, &kind, &path, found, class, offset) {
-            return answer(alloc, &Answer::Bad { number }, Then::Go);
+        let found = self.find_stream(kind, path);
+        if let Some(number) = self.refusal_of(&name, kind, path, found, class, offset) {
+            return answer(alloc, Answer::Bad { number }, Then::Go);
         }
-        let reply = answer(alloc, &Answer::Added { name: name.copy()? }, Then::Go)?;
-        self.take_stream(alloc, site, name, class, &kind, &path, offset, found)?;
+        let reply = answer(alloc, Answer::Added { name: name.copy()? }, Then::Go)?;
+        self.take_stream(alloc, site, name, class, kind, path, offset, found)?;
         Ok(reply)
     }
 
@@ -143,14 +143,14 @@ impl Agent {
                 then: Then::Go,
             }),
             Command::Add { .. } => unreachable!(),
-            Command::Close => answer(alloc, &Answer::Closed, Then::Close),
-            Command::Help => answer(alloc, &Answer::Help, Then::Go),
+            Command::Close => answer(alloc, Answer::Closed, Then::Close),
+            Command::Help => answer(alloc, Answer::Help, Then::Go),
             Command::List => self.list(alloc),
             Command::ReloadCollectors => self.reload(alloc),
             Command::Stop { name } => self.stop(alloc, name),
             Command::StopAll => self.stop_all(alloc),
             Command::Shutdown { name } => self.shut_down(alloc, name),
-            Command::StopAgent => answer(alloc, &Answer::AgentStops, Then::End),
+            Command::StopAgent => answer(alloc, Answer::AgentStops, Then::End),
         }
     }
 
@@ -172,7 +172,7 @@ impl Agent {
         ensures { RunsPlainly (Ok ReloadCollectors) self.old result self.new }
     {
         let count = self.delivery.addresses();
-        let reply = answer(alloc, &Answer::Reloaded { count }, Then::Go)?;
+        let reply = answer(alloc, Answer::Reloaded { count }, Then::Go)?;
         self.delivery.first_address();
         let _used = self.delivery.used();
         Ok(reply)
@@ -183,9 +183,9 @@ impl Agent {
         ensures { RunsPlainly (Ok (Stop name)) self.old result self.new }
     {
         let Some(place) = named_in(self.adaptors.as_slice(), &name) else {
-            return answer(alloc, &Answer::Bad { number: 12 }, Then::Go);
+            return answer(alloc, Answer::Bad { number: 12 }, Then::Go);
         };
-        let reply = answer(alloc, &Answer::Stopped { name }, Then::Go)?;
+        let reply = answer(alloc, Answer::Stopped { name }, Then::Go)?;
         self.delivery.stop(alloc, &[place])?;
         let _used = self.delivery.used();
         let committed = self.delivery.committed_end(place);
@@ -199,7 +199,7 @@ impl Agent {
     {
         let gone = live_numbers(alloc, self.adaptors.as_slice())?;
         let count = gone.as_slice().len() as u32;
-        let reply = answer(alloc, &Answer::StoppedAll { count }, Then::Go)?;
+        let reply = answer(alloc, Answer::StoppedAll { count }, Then::Go)?;
         self.delivery.stop(alloc, gone.as_slice())?;
         let _used = self.delivery.used();
         stop_live(self.adaptors.as_mut_slice(), &self.delivery);
@@ -211,9 +211,9 @@ impl Agent {
         ensures { RunsPlainly (Ok (Shutdown name)) self.old result self.new }
     {
         let Some(place) = named_in(self.adaptors.as_slice(), &name) else {
-            return answer(alloc, &Answer::Bad { number: 12 }, Then::Go);
+            return answer(alloc, Answer::Bad { number: 12 }, Then::Go);
         };
-        let reply = answer(alloc, &Answer::Stopping { name }, Then::Go)?;
+        let reply = answer(alloc, Answer::Stopping { name }, Then::Go)?;
         end_one(self.adaptors.as_mut_slice(), place);
         Ok(reply)
     }
@@ -227,18 +227,18 @@ fn refuse(alloc: Global, fault: LineFault) -> Result<Reply, AgentFault>
         LineFault::NoMemory => Err(AgentFault::NoMemory),
         _ => {
             let number = fault.number();
-            answer(alloc, &Answer::Bad { number }, Then::Go)
+            answer(alloc, Answer::Bad { number }, Then::Go)
         }
     }
 }
 
 // The reply of one line that answers.
-fn answer(alloc: Global, answer: &Answer, then: Then) -> Result<Reply, AgentFault>
-    requires { IsTrue (is_answer answer.now) }
-    ensures { IsAnswered (answer_text answer.now) then result }
+fn answer(alloc: Global, answer: Answer, then: Then) -> Result<Reply, AgentFault>
+    requires { IsTrue (is_answer answer) }
+    ensures { IsAnswered (answer_text answer) then result }
 {
     let mut text = Bytes::new(alloc);
-    write_answer(&mut text, answer)?;
+    write_answer(&mut text, &answer)?;
     Ok(Reply { text, then })
 }
 

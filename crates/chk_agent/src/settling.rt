@@ -5,24 +5,24 @@ ghost use Rattle.std.specs.Prelude.{slice_get, slice_index};
 ghost use Rattle.chk_site.specs.Site.{Adds};
 ghost use Rattle.chk_site.specs.Runs.{Leads};
 ghost use Rattle.chk_world.specs.Places.{As};
-ghost use Rattle.chk_checkpoint.specs.Lines.{shown};
+ghost use Rattle.chk_checkpoint.specs.Lines.{shown, lines_of};
 ghost use Rattle.chk_reading.specs.Adaptors.{Adaptor as Reading, is_past, phase_at};
 ghost use Rattle.chk_rotate.specs.Marks.{BeginsBelow};
 ghost use Rattle.chk_rotate.specs.Readers.{spot_of};
-ghost use Rattle.chk_agent.specs.States.{process, lines_at};
+ghost use Rattle.chk_agent.specs.States.{State, process, lines_at, lines_of as lines_held};
 ghost use Rattle.chk_agent.specs.Facts.{Matches};
 ghost use Rattle.chk_agent.specs.Faults.{AgentCause, FailsLast, IsUndamaged};
-ghost use Rattle.chk_agent.specs.Settles.{IsSettled, all_back, settled_all};
+ghost use Rattle.chk_agent.specs.Settles.{IsSettled, all_back, gone_at, reset, settled, settled_all};
 ghost use Rattle.chk_agent.specs.Within.{Rising, same_line, same_place, same_suffix, same_kind, same_words};
 
 use crate::agent::Agent;
 use crate::answers::{AgentFault, Settled};
 use crate::lines::lines_now;
-use chk_checkpoint::{CheckLine, write_checkpoint};
+use chk_checkpoint::{CheckLine, Checkpoint, write_checkpoint};
 use chk_delivery::Delivery;
 use chk_reading::{Adaptor, Phase};
 use chk_rotate::Place;
-use chk_site::{OutsideFault, Site, Suffix};
+use chk_site::{Site, Suffix};
 use std::alloc::Global;
 
 impl Agent {
@@ -57,10 +57,32 @@ impl Agent {
             self.adaptors.as_slice(),
             &self.delivery,
         );
+        self.write_changed(alloc, site, check, reset)
+    }
+
+    // Settles the adaptors, of which so many went back, and writes the checkpoint where their lines
+    // then are other ones than those of it.
+    fn write_changed<S: Site>(
+        &mut self,
+        alloc: Global,
+        site: &mut S,
+        check: Checkpoint,
+        back: u32,
+    ) -> Result<Settled, AgentFault>
+        requires ready { self.old.ready ≡ true }
+        requires lines { lines_of check ≡ lines_held (settled self.old) }
+        ensures state { (now : ℕ) (s : State) → self.old ≡ reset (gone_at now s) s → back ≡ length (gone_at now s)
+            → IsSettled now s result self.new (S.told site.old) (S.told site.new) }
+        ensures told { (stamped : List (List ℕ)) → Adds (S.told site.old) (S.told site.new)
+            (Leads (As stamped (process self.old)) (Matches stamped self.old) (Matches stamped self.new)) }
+        ensures undamaged { IsUndamaged result }
+        ensures last { Adds (S.told site.old) (S.told site.new) (FailsLast result) }
+        ensures cause { AgentCause (S.fault_count site.old) (S.fault_count site.new) result }
+    {
         if are_same(check.lines.as_slice(), self.saved.as_slice()) {
             settle_all(self.adaptors.as_mut_slice(), &self.delivery);
             return Ok(Settled {
-                reset,
+                reset: back,
                 written: false,
             });
         }
@@ -69,17 +91,13 @@ impl Agent {
                 settle_all(self.adaptors.as_mut_slice(), &self.delivery);
                 self.saved = check.lines;
                 Ok(Settled {
-                    reset,
+                    reset: back,
                     written: true,
                 })
             }
-            Err(OutsideFault::Outside { call }) => {
+            Err(fault) => {
                 self.ready = false;
-                Err(AgentFault::Outside { call })
-            }
-            Err(OutsideFault::NoMemory) => {
-                self.ready = false;
-                Err(AgentFault::NoMemory)
+                Err(AgentFault::from(fault))
             }
         }
     }

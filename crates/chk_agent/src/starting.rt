@@ -11,14 +11,16 @@ ghost use Rattle.chk_world.specs.Rules.{Legal};
 ghost use Rattle.chk_world.specs.Places.{As};
 ghost use Rattle.chk_checkpoint.specs.Lines.{shown, lines_of};
 ghost use Rattle.chk_reading.specs.Adaptors.{adaptor_of};
+ghost use Rattle.chk_delivery.specs.States.{State as Delivery};
 ghost use Rattle.chk_agent.specs.Faults.{AgentCause, FailsLast};
 ghost use Rattle.chk_agent.specs.Loading.{MadeOnce, Loaded, IsEmptyFor, IsBegun, AreLines};
-ghost use Rattle.chk_agent.specs.Starts.{IsFresh, Started, StartsAndReads, FindsCheckpoint};
+ghost use Rattle.chk_agent.specs.Fits.{IsSound};
+ghost use Rattle.chk_agent.specs.Starts.{IsFresh, Started, StartsAndReads, FindsCheckpoint, begun_state};
 
 use crate::agent::{Agent, Rules};
 use crate::answers::AgentFault;
 use crate::lines::lines_now;
-use chk_bytes::NoMemory;
+use chk_bytes::{NoMemory, Word};
 use chk_checkpoint::{CheckLine, Checkpoint, MOST_LINES, load_checkpoint};
 use chk_delivery::Delivery;
 use chk_failover::Ring;
@@ -108,19 +110,48 @@ fn new_agent(
         poll: rules.poll,
         expire: rules.expire,
     };
-    let mut delivery = new_delivery(alloc, ring, limits, MOST_LINES as u32)?;
-    begin_all(&mut delivery, &check.lines);
+    let delivery = begun_delivery(alloc, ring, limits, &check.lines)?;
     let adaptors = adaptors_of(alloc, check.lines)?;
+    agent_with(alloc, who, rules.cluster, adaptors, delivery)
+}
+
+// The agent of these adaptors, whose lines are saved.
+fn agent_with(
+    alloc: Global,
+    who: &Who,
+    cluster: Word,
+    adaptors: Vec<Adaptor>,
+    delivery: Delivery,
+) -> Result<Agent, NoMemory>
+    requires role { who.now.role ≡ agent_role }
+    requires sound { IsSound (begun_state who.now.name cluster adaptors.items delivery) }
+    ensures { IfOk result (λ agent. agent ≡ begun_state who.now.name cluster adaptors.items delivery) }
+{
     let saved = lines_now(alloc, &adaptors, &delivery)?;
     Ok(Agent {
         who: who.copy()?,
-        cluster: rules.cluster,
+        cluster,
         adaptors,
         last: None,
         delivery,
         saved: saved.lines,
         ready: true,
     })
+}
+
+// Nothing waits, and the adaptor of each line begins at the line's offset.
+fn begun_delivery(
+    alloc: Global,
+    ring: Ring,
+    rules: chk_delivery::Rules,
+    lines: &[CheckLine],
+) -> Result<Delivery, NoMemory>
+    requires few { length lines.now ≤ 10000 }
+    ensures { IfOk result (λ new. (old : Delivery) × IsEmptyFor ring rules 10000 old × IsBegun (map shown lines.now) old new) }
+{
+    let mut delivery = new_delivery(alloc, ring, rules, MOST_LINES as u32)?;
+    begin_all(&mut delivery, lines);
+    Ok(delivery)
 }
 
 // Nothing waits, and so many adaptors are known.

@@ -12,7 +12,7 @@ returns-in_err-name-clause-state g c line means =
 
 pub returns-in-Some-clause-state : goal.returns-in-Some-clause-state
 returns-in-Some-clause-state g c line means =
-    refused_line line c.args.self.now c.args.given c.args.class c.args.kind c.args.path
+    refused_line line c.args.self.now c.args.given c.args.class c.args.kind.now c.args.path.now
     c.in_ok-name.name c.args.offset means
     c.in-Some.number c.answer.result _ c.in_ok-name.ensures.name
     (sym c.refusal_of.ensures.refusal ∙ c.in-Some.is) c.answer.ensures
@@ -31,7 +31,7 @@ returns-in_err-reply-clause-state g c line means =
 pub take_stream-requires-clause-may : goal.take_stream-requires-clause-may
 take_stream-requires-clause-may g c =
     may_take (named_in c.in_ok-name.name 0 c.args.self.now.adaptors)
-    (stream_in c.args.kind c.args.path 0 c.args.self.now.adaptors)
+    (stream_in c.args.kind.now c.args.path.now 0 c.args.self.now.adaptors)
     (length c.args.self.now.adaptors) c.args.class c.args.offset
     (sym c.refusal_of.ensures.refusal ∙ c.in_default.is) c.refusal_of.ensures.few
 
@@ -40,14 +40,14 @@ returns-in_err-take_stream-clause-state g c line means =
     let r = c.from_residual-in_err-take_stream in
     let p = err_from_is_err_and r.result r.ensures.1 in
     rw (p.1, p.2)
-    (failed_add c.args.given c.args.class c.args.kind c.args.path c.in_ok-name.name c.args.offset
+    (failed_add c.args.given c.args.class c.args.kind.now c.args.path.now c.in_ok-name.name c.args.offset
     c.in_err-take_stream.field-0.0 means
     c.in_ok-name.ensures.name (sym c.refusal_of.ensures.refusal
     ∙ c.in_default.is) c.in_err-take_stream.ensures.state)
 
 pub returns-clause-state : goal.returns-clause-state
 returns-clause-state g c line means =
-    added_line line c.args.self.now c.args.given c.args.class c.args.kind c.args.path
+    added_line line c.args.self.now c.args.given c.args.class c.args.kind.now c.args.path.now
     c.in_ok-name.name c.args.offset means
     c.in_ok-copy.field-0 c.in_ok-reply.reply c.take_stream.new.self _ _ c.in_ok-name.ensures.name
     (sym c.refusal_of.ensures.refusal

@@ -1,16 +1,21 @@
-use Rattle.std.proofs.Common.{◌≡◌, ◌+◌, Some, Ok, Err, length, ap, sym, subst, ◌∙◌, refl, true, is_ok}
-use Rattle.std.specs.Prelude.{IfOk, slice_get, slice_index, slice_set}
+use Rattle.std.proofs.Common.{◌≡◌, ◌+◌, Some, Ok, Err, length, ap, sym, subst, ◌∙◌, refl, true, is_ok, arith}
+use Rattle.std.specs.Prelude.{IsTrue, IfOk, slice_get, slice_index, slice_set}
 use Rattle.std.proofs.lemmas.Result.{err_from_is_err_and}
+use Rattle.chk_site.proofs.Runs.{adds_none}
 use Rattle.chk_site.proofs.Leads.{leads_as, leads_none}
+use Rattle.chk_rotate.proofs.Walking.{on_err}
 use Rattle.chk_chunk.specs.Keys.{is_chunk}
 use Rattle.chk_chunk.specs.Lent.{chunk_of}
+use Rattle.chk_tail.specs.declared.step.Step.{Step}
 use Rattle.chk_tail.specs.declared.step.Step.TheVariants.{Bytes, AtEnd, Shrank as is_short}
 use Rattle.chk_tail.specs.Given.{IsGiven}
-use Rattle.chk_rotate.proofs.Walking.{on_err}
-use Rattle.chk_reading.specs.Adaptors.{before_of}
+use Rattle.chk_reading.specs.Adaptors.{Adaptor, before_of, is_stepped}
 use Rattle.chk_delivery.specs.Sound.{next_begins}
 use Rattle.chk_delivery.specs.Turns.{with_chunk}
 use Rattle.chk_delivery.proofs.Putting.{by_ok}
+use Rattle.chk_agent.specs.declared.answers.Stepped.{Stepped}
+use Rattle.chk_agent.specs.declared.answers.Stepped.TheVariants.{AtEnd as step_at_end, Shrank as step_shrank}
+use Rattle.chk_agent.specs.Faults.{FailsLast}
 use Rattle.chk_agent.specs.declared.answers.AgentFault.TheVariants.{NoMemory}
 use Rattle.chk_agent.specs.declared.answers.Stepped.TheVariants.{Read as step_read, Held as step_held}
 use Rattle.chk_agent.specs.Faults.{fault_of}
@@ -20,10 +25,68 @@ use Rattle.chk_agent.specs.Facts.{Matches}
 use Rattle.chk_agent.specs.Fits.{IsSound}
 use Rattle.chk_agent.specs.Fields.{agent_view}
 use Rattle.chk_agent.specs.Within.{chunk_made}
+use Rattle.chk_agent.proofs.AddingLines.{last_unmade, undamaged_by, last_by, cause_by}
+use Rattle.chk_agent.proofs.TurningFaults.{last_ok}
 use Rattle.chk_agent.proofs.Soundness.{below_at}
+use Rattle.chk_agent.proofs.AddingPast.{set_size}
 use Rattle.chk_agent.proofs.SteppingTold.{kept_told}
 use Rattle.chk_agent.proofs.SteppingExits.{if_ok, set_there, was_stepped, at_index, put_is, undone_is, own_state, made_sound, made_state, made_on, undone_state, chunk_is, chunk_valid, chunk_next, chunk_known, end_on, short_on, after_of}
 use Rattle.chk_agent.proofs.agent.Agent.step.Goals as goal
+
+pub index-requires : goal.index-requires
+index-requires g c =
+    let s = agent_view c.self.inside in
+    let i = c.args.adaptor in
+    let a = c.requires.read_on.0 in
+    let at = ap (λ (s : State). slice_get s.adaptors i) c.self.view_is ∙ c.requires.read_on.1 in
+    let below = below_at s.adaptors i a at in
+    let held = c.self.inside.adaptors.ok.0 in
+    omega (arith, below, held)
+
+pub index_mut-requires : goal.index_mut-requires
+index_mut-requires g c =
+    let s = agent_view c.self.inside in
+    let i = c.args.adaptor in
+    let a = c.requires.read_on.0 in
+    let at = ap (λ (s : State). slice_get s.adaptors i) c.self.view_is ∙ c.requires.read_on.1 in
+    let below = below_at s.adaptors i a at in
+    let held = c.self.inside.adaptors.ok.0 in
+    omega (arith, below, held)
+
+pub step-requires : goal.step-requires
+step-requires g c =
+    let s = agent_view c.self.inside in
+    let i = c.args.adaptor in
+    let a = c.requires.read_on.0 in
+    let at = ap (λ (s : State). slice_get s.adaptors i) c.self.view_is ∙ c.requires.read_on.1 in
+    let x = c.index_mut.result.now in
+    let same = at_index s.adaptors i x a at c.index_mut.ensures.value in
+    record { read_on = subst (λ (x : Adaptor). IsTrue (is_stepped x.phase)) (sym same) c.requires.read_on.2 }
+
+pub index-requires-in-Bytes : goal.index-requires-in-Bytes
+index-requires-in-Bytes g c =
+    let s = agent_view c.self.inside in
+    let i = c.args.adaptor in
+    let a = c.requires.read_on.0 in
+    let at = ap (λ (s : State). slice_get s.adaptors i) c.self.view_is ∙ c.requires.read_on.1 in
+    let below = below_at s.adaptors i a at in
+    let held = c.self.inside.adaptors.ok.0 in
+    let size = set_size s.adaptors i c.step.new.self in
+    omega (arith, below, held, size)
+
+pub index_mut-requires-then-is_err : goal.index_mut-requires-then-is_err
+index_mut-requires-then-is_err g c =
+    let s = agent_view c.self.inside in
+    let i = c.args.adaptor in
+    let a = c.requires.read_on.0 in
+    let at = ap (λ (s : State). slice_get s.adaptors i) c.self.view_is ∙ c.requires.read_on.1 in
+    let below = below_at s.adaptors i a at in
+    let held = c.self.inside.adaptors.ok.0 in
+    let size = set_size s.adaptors i c.step.new.self in
+    omega (arith, below, held, size)
+
+pub keep-requires-clause-room : goal.keep-requires-clause-room
+keep-requires-clause-room g c = sym c.if-is_held.ensures
 
 pub keep-requires-clause-valid : goal.keep-requires-clause-valid
 keep-requires-clause-valid g c =
@@ -357,3 +420,78 @@ invariant_of-self-in-Shrank g c =
       role = c.self.invariant.role;
       sound = made_sound s sound i a b at (is_short c.in-Shrank.had c.in-Shrank.is') m.step tt c.requires.read_on.2 m.placed s.delivery refl c.used-sound.ensures.table c.used-sound.ensures.sound;
     }
+
+pub returns-then-is_held-clause-undamaged : goal.returns-then-is_held-clause-undamaged
+returns-then-is_held-clause-undamaged g c =
+    tt
+
+pub returns-then-is_held-clause-last : goal.returns-then-is_held-clause-last
+returns-then-is_held-clause-last g c =
+    adds_none (g.S.Site.told c.args.site.now) (FailsLast {T = Stepped} (Ok (step_held c.used-used.result))) (λ h. tt)
+
+pub returns-then-is_held-clause-cause : goal.returns-then-is_held-clause-cause
+returns-then-is_held-clause-cause g c =
+    omega arith
+
+pub returns-in_err-step-clause-undamaged : goal.returns-in_err-step-clause-undamaged
+returns-in_err-step-clause-undamaged g c =
+    let p = err_from_is_err_and c.from_residual.result c.from_residual.ensures.1 in
+    rw (p.1, p.2) (undamaged_by Stepped c.in_err-step.field-0.0)
+
+pub returns-in_err-step-clause-last : goal.returns-in_err-step-clause-last
+returns-in_err-step-clause-last g c =
+    let p = err_from_is_err_and c.from_residual.result c.from_residual.ensures.1 in
+    rw (p.1, p.2) (last_by Step Stepped c.in_err-step.field-0.0 c.in_err-step.ensures.last)
+
+pub returns-in_err-step-clause-cause : goal.returns-in_err-step-clause-cause
+returns-in_err-step-clause-cause g c =
+    let p = err_from_is_err_and c.from_residual.result c.from_residual.ensures.1 in
+    rw (p.1, p.2) (cause_by Step Stepped c.in_err-step.field-0.0 _ _ c.in_err-step.ensures.cause)
+
+pub returns-then-is_err-clause-undamaged : goal.returns-then-is_err-clause-undamaged
+returns-then-is_err-clause-undamaged g c =
+    tt
+
+pub returns-then-is_err-clause-last : goal.returns-then-is_err-clause-last
+returns-then-is_err-clause-last g c =
+    last_unmade Stepped c.in_ok-step.ensures.last
+
+pub returns-then-is_err-clause-cause : goal.returns-then-is_err-clause-cause
+returns-then-is_err-clause-cause g c =
+    let same = c.in_ok-step.ensures.cause in omega (arith, same)
+
+pub returns-else-is_err-clause-undamaged : goal.returns-else-is_err-clause-undamaged
+returns-else-is_err-clause-undamaged g c =
+    tt
+
+pub returns-else-is_err-clause-last : goal.returns-else-is_err-clause-last
+returns-else-is_err-clause-last g c =
+    last_ok (step_read (length c.as_slice.result.now)) c.in_ok-step.ensures.last
+
+pub returns-else-is_err-clause-cause : goal.returns-else-is_err-clause-cause
+returns-else-is_err-clause-cause g c =
+    let same = c.in_ok-step.ensures.cause in omega (arith, same)
+
+pub returns-in-AtEnd-clause-undamaged : goal.returns-in-AtEnd-clause-undamaged
+returns-in-AtEnd-clause-undamaged g c =
+    tt
+
+pub returns-in-AtEnd-clause-last : goal.returns-in-AtEnd-clause-last
+returns-in-AtEnd-clause-last g c =
+    last_ok step_at_end c.in_ok-step.ensures.last
+
+pub returns-in-AtEnd-clause-cause : goal.returns-in-AtEnd-clause-cause
+returns-in-AtEnd-clause-cause g c =
+    let same = c.in_ok-step.ensures.cause in omega (arith, same)
+
+pub returns-in-Shrank-clause-undamaged : goal.returns-in-Shrank-clause-undamaged
+returns-in-Shrank-clause-undamaged g c =
+    tt
+
+pub returns-in-Shrank-clause-last : goal.returns-in-Shrank-clause-last
+returns-in-Shrank-clause-last g c =
+    last_ok (step_shrank c.in-Shrank.had c.in-Shrank.is') c.in_ok-step.ensures.last
+
+pub returns-in-Shrank-clause-cause : goal.returns-in-Shrank-clause-cause
+returns-in-Shrank-clause-cause g c =
+    let same = c.in_ok-step.ensures.cause in omega (arith, same)

@@ -2,23 +2,23 @@ use Rattle.std.proofs.Common.{◌≡◌, ◌∙◌, ap, sym, subst, map, arith, 
 use Rattle.std.specs.Prelude.{IsTrue, slice_get}
 use Rattle.std.proofs.lemmas.Option.{get_or_from_slice_get}
 use Rattle.std.proofs.lemmas.Result.{err_from_is_err_and}
-use Rattle.chk_site.specs.declared.acts.OutsideFault.TheVariants.{Outside as site_failed, NoMemory as no_memory}
 use Rattle.chk_site.proofs.Leads.{leads_as}
 use Rattle.chk_checkpoint.specs.Lines.{shown, written_text}
 use Rattle.chk_world.specs.Checkpoints.{Two, are_lines, read_checkpoint}
 use Rattle.chk_reading.specs.Adaptors.{revived}
-use Rattle.chk_agent.specs.declared.answers.AgentFault.TheVariants.{Outside, NoMemory}
+use Rattle.chk_agent.specs.Faults.{fault_of}
 use Rattle.chk_agent.specs.States.{State, lines_of}
 use Rattle.chk_agent.specs.Facts.{Matches}
 use Rattle.chk_agent.specs.Fields.{agent_view}
 use Rattle.chk_agent.specs.Fits.{IsSound}
 use Rattle.chk_agent.specs.Settles.{Writes, unsure}
 use Rattle.chk_agent.specs.Adds.{named_in, revived_at}
-use Rattle.chk_agent.specs.Takes.{Keeps, failed, unwritten, wanting}
+use Rattle.chk_agent.specs.Takes.{Keeps, wanting}
+use Rattle.chk_agent.proofs.TurningFaults.{last_ok}
 use Rattle.chk_agent.proofs.Soundness.{below_at, lines_spelled, sound_saved}
 use Rattle.chk_agent.proofs.SettlingTold.{lines_written, lines_unsure}
 use Rattle.chk_agent.proofs.AddingPast.{revived_sound, revived_matches}
-use Rattle.chk_agent.proofs.AddingLines.{kept_state, kept_by}
+use Rattle.chk_agent.proofs.AddingLines.{kept_state, kept_by, keeps_failed, last_none, undamaged_by, last_by, cause_by}
 use Rattle.chk_agent.proofs.agent.Agent.take_past.Goals as goal
 
 pub returns-in_err-check-clause-state : goal.returns-in_err-check-clause-state
@@ -104,30 +104,19 @@ returns-in-Ok-clause-told g c stamped =
     (λ h x. subst (λ u. Matches stamped u h) (sym (kept_state s c.args.place c.args.name r.0 c.revive.new.self lines is are)) x)
     (lines_written stamped t good (ap (λ (t : State). t.ready) c.self.view_is ∙ c.requires.ready) is_read script))
 
-pub returns-in-Err-Outside-clause-state : goal.returns-in-Err-Outside-clause-state
-returns-in-Err-Outside-clause-state g c a at =
+pub returns-in-Err-clause-state : goal.returns-in-Err-clause-state
+returns-in-Err-clause-state g c a at =
     let s = c.args.self.now in
     let t : State = revived_at s c.args.place c.args.name a in
     let old = g.S.Site.told c.args.site.now in
     let new = g.S.Site.told c.write_lines.new.site in
-    let script : Writes s (lines_of t) (Err (site_failed c.in-Err-Outside.call)) old new =
-    subst (λ f. Writes s (lines_of t) (Err f) old new) c.in-Err-Outside.field-0-is
-    (subst (λ ls. Writes s ls (Err c.in-Err-Outside.field-0) old new) (c.in_ok-check.ensures a at) c.in-Err-Outside.ensures.told) in
-    subst (λ u. Keeps s t (Err (Outside c.in-Err-Outside.call)) (unsure u) old new) (sym c.self.view_is) (failed c.in-Err-Outside.call script)
+    let script : Writes s (lines_of t) (Err c.in-Err.fault) old new =
+    subst (λ ls. Writes s ls (Err c.in-Err.fault) old new) (c.in_ok-check.ensures a at) c.in-Err.ensures.told in
+    rw c.from.ensures
+    (subst (λ u. Keeps s t (Err (fault_of c.in-Err.fault)) (unsure u) old new) (sym c.self.view_is) (keeps_failed s t c.in-Err.fault script))
 
-pub returns-clause-state : goal.returns-clause-state
-returns-clause-state g c a at =
-    let s = c.args.self.now in
-    let t : State = revived_at s c.args.place c.args.name a in
-    let old = g.S.Site.told c.args.site.now in
-    let new = g.S.Site.told c.write_lines.new.site in
-    let script : Writes s (lines_of t) (Err no_memory) old new =
-    subst (λ f. Writes s (lines_of t) (Err f) old new) c.in-Err-NoMemory.field-0-is
-    (subst (λ ls. Writes s ls (Err c.in-Err-NoMemory.field-0) old new) (c.in_ok-check.ensures a at) c.in-Err-NoMemory.ensures.told) in
-    subst (λ u. Keeps s t (Err NoMemory) (unsure u) old new) (sym c.self.view_is) (unwritten script)
-
-pub returns-in-Err-Outside-clause-told : goal.returns-in-Err-Outside-clause-told
-returns-in-Err-Outside-clause-told g c stamped =
+pub returns-in-Err-clause-told : goal.returns-in-Err-clause-told
+returns-in-Err-clause-told g c stamped =
     let s = c.args.self.now in
     let sound = subst IsSound c.self.view_is c.self.invariant.sound in
     let r = c.requires.there in
@@ -136,22 +125,46 @@ returns-in-Err-Outside-clause-told g c stamped =
     let good = revived_sound s sound c.args.place r.0 r.1 c.args.name c.requires.name c.requires.free in
     leads_as (revived_matches s sound c.args.place r.0 r.1 c.args.name stamped)
     (λ h x. subst (λ u. Matches stamped (unsure u) h) (sym c.self.view_is) x)
-    (lines_unsure stamped t good c.requires.ready (subst (λ ls. read_checkpoint (written_text ls) ≡ Some ls) are c.in-Err-Outside.ensures.read)
-    s refl c.in-Err-Outside.field-0
-    (subst (λ ls. Writes s ls (Err c.in-Err-Outside.field-0) (g.S.Site.told c.args.site.now) (g.S.Site.told c.write_lines.new.site)) are
-    c.in-Err-Outside.ensures.told))
+    (lines_unsure stamped t good c.requires.ready (subst (λ ls. read_checkpoint (written_text ls) ≡ Some ls) are c.in-Err.ensures.read)
+    s refl c.in-Err.fault
+    (subst (λ ls. Writes s ls (Err c.in-Err.fault) (g.S.Site.told c.args.site.now) (g.S.Site.told c.write_lines.new.site)) are
+    c.in-Err.ensures.told))
 
-pub returns-clause-told : goal.returns-clause-told
-returns-clause-told g c stamped =
-    let s = c.args.self.now in
-    let sound = subst IsSound c.self.view_is c.self.invariant.sound in
-    let r = c.requires.there in
-    let t : State = revived_at s c.args.place c.args.name r.0 in
-    let are = c.in_ok-check.ensures r.0 r.1 in
-    let good = revived_sound s sound c.args.place r.0 r.1 c.args.name c.requires.name c.requires.free in
-    leads_as (revived_matches s sound c.args.place r.0 r.1 c.args.name stamped)
-    (λ h x. subst (λ u. Matches stamped (unsure u) h) (sym c.self.view_is) x)
-    (lines_unsure stamped t good c.requires.ready (subst (λ ls. read_checkpoint (written_text ls) ≡ Some ls) are c.in-Err-NoMemory.ensures.read)
-    s refl c.in-Err-NoMemory.field-0
-    (subst (λ ls. Writes s ls (Err c.in-Err-NoMemory.field-0) (g.S.Site.told c.args.site.now) (g.S.Site.told c.write_lines.new.site)) are
-    c.in-Err-NoMemory.ensures.told))
+pub returns-in-Err-clause-undamaged : goal.returns-in-Err-clause-undamaged
+returns-in-Err-clause-undamaged g c = rw c.from.ensures (undamaged_by (Unit {0}) c.in-Err.fault)
+
+pub returns-in-Err-clause-last : goal.returns-in-Err-clause-last
+returns-in-Err-clause-last g c = rw c.from.ensures (last_by (Unit {0}) (Unit {0}) c.in-Err.fault c.in-Err.ensures.last)
+
+pub returns-in-Err-clause-cause : goal.returns-in-Err-clause-cause
+returns-in-Err-clause-cause g c = rw c.from.ensures (cause_by (Unit {0}) (Unit {0}) c.in-Err.fault _ _ c.in-Err.ensures.cause)
+
+pub returns-in_err-check-clause-undamaged : goal.returns-in_err-check-clause-undamaged
+returns-in_err-check-clause-undamaged g c =
+    let r = c.from_residual in
+    let p = err_from_is_err_and r.result r.ensures.1 in
+    rw (p.1, p.2) tt
+
+pub returns-in_err-check-clause-last : goal.returns-in_err-check-clause-last
+returns-in_err-check-clause-last g c =
+    let r = c.from_residual in
+    let p = err_from_is_err_and r.result r.ensures.1 in
+    rw (p.1, p.2) (last_none (Unit {0}) (g.S.Site.told c.args.site.now))
+
+pub returns-in_err-check-clause-cause : goal.returns-in_err-check-clause-cause
+returns-in_err-check-clause-cause g c =
+    let r = c.from_residual in
+    let p = err_from_is_err_and r.result r.ensures.1 in
+    rw (p.1, p.2) (omega arith)
+
+pub returns-in-Ok-clause-undamaged : goal.returns-in-Ok-clause-undamaged
+returns-in-Ok-clause-undamaged g c =
+    tt
+
+pub returns-in-Ok-clause-last : goal.returns-in-Ok-clause-last
+returns-in-Ok-clause-last g c =
+    last_ok {T = Unit {0}} tt c.in-Ok.ensures.last
+
+pub returns-in-Ok-clause-cause : goal.returns-in-Ok-clause-cause
+returns-in-Ok-clause-cause g c =
+    let same = c.in-Ok.ensures.cause in omega (arith, same)

@@ -1,0 +1,196 @@
+use Rattle.std.proofs.Common.{◌≡◌, Ok, Err, true, false, map, ap, sym, subst, ◌∙◌, refl, arith}
+use Rattle.std.proofs.lemmas.List.{with_items_is}
+use Rattle.std.specs.Vec.{with_items}
+use Rattle.chk_site.proofs.Runs.{adds_none}
+use Rattle.chk_checkpoint.specs.Lines.{shown}
+use Rattle.chk_agent.specs.declared.answers.Settled.{Settled}
+use Rattle.chk_agent.specs.States.{State, lines_of}
+use Rattle.chk_agent.specs.Settles.{settled, settled_all}
+use Rattle.chk_agent.specs.Faults.{FailsLast}
+use Rattle.chk_agent.specs.Fields.{agent_view}
+use Rattle.chk_agent.proofs.TurningFaults.{last_ok}
+use Rattle.chk_agent.proofs.AddingLines.{undamaged_by, last_by, cause_by}
+use Rattle.chk_agent.proofs.SettlingExits.{writes_as, good_lines, sound_after, sound_written}
+use Rattle.chk_agent.proofs.SettlingExits.{same_state, same_told, written_state, written_told, failed_state, failed_told}
+use Rattle.chk_agent.proofs.agent.Agent.write_changed.Goals as goal
+
+pub invariant_of-self : goal.invariant_of-self
+invariant_of-self g c =
+    let s = agent_view c.self.inside in
+    let lines = map shown c.args.check.lines.items in
+    let are = subst (λ (t : State). lines ≡ lines_of (settled t)) (sym c.self.view_is)
+    c.requires.lines in
+    let xs = c.self.inside.adaptors in
+    let ys = c.settle_all.new.adaptors in
+    let after_is =
+    with_items_is xs ys (c.settle_all.auto.adaptors ∙ c.as_mut_slice.ensures.len)
+    ∙ (c.settle_all.ensures ∙ ap (λ xs. settled_all xs s.delivery.table.committed)
+    c.as_mut_slice.ensures.value) in
+    record {
+      role = c.self.invariant.role;
+      sound = sound_after s c.self.invariant.sound lines are (with_items xs ys).items after_is;
+    }
+
+pub returns-then-are_same-clause-state : goal.returns-then-are_same-clause-state
+returns-then-are_same-clause-state g c now was is many =
+    let s = agent_view c.self.inside in
+    let lines = map shown c.args.check.lines.items in
+    let are = subst (λ (t : State). lines ≡ lines_of (settled t)) (sym c.self.view_is)
+    c.requires.lines in
+    let xs = c.self.inside.adaptors in
+    let ys = c.settle_all.new.adaptors in
+    let after_is =
+    with_items_is xs ys (c.settle_all.auto.adaptors ∙ c.as_mut_slice.ensures.len)
+    ∙ (c.settle_all.ensures ∙ ap (λ xs. settled_all xs s.delivery.table.committed)
+    c.as_mut_slice.ensures.value) in
+    let same = sym (ap (map shown) c.as_slice.ensures.value) ∙
+    (c.if-are_same.ensures.same refl ∙ ap (map shown) c.as_slice-2.ensures.value) in
+    same_state s c.self.invariant.sound lines are (with_items xs ys).items after_is same now was
+    (c.self.view_is ∙ is) c.args.back many
+    (g.S.Site.told c.args.site.now)
+
+pub returns-then-are_same-clause-told : goal.returns-then-are_same-clause-told
+returns-then-are_same-clause-told g c stamped =
+    let s = agent_view c.self.inside in
+    let lines = map shown c.args.check.lines.items in
+    let are = subst (λ (t : State). lines ≡ lines_of (settled t)) (sym c.self.view_is)
+    c.requires.lines in
+    let xs = c.self.inside.adaptors in
+    let ys = c.settle_all.new.adaptors in
+    let after_is =
+    with_items_is xs ys (c.settle_all.auto.adaptors ∙ c.as_mut_slice.ensures.len)
+    ∙ (c.settle_all.ensures ∙ ap (λ xs. settled_all xs s.delivery.table.committed)
+    c.as_mut_slice.ensures.value) in
+    rw (← c.self.view_is) (same_told s c.self.invariant.sound lines are (with_items xs ys).items
+    after_is stamped (g.S.Site.told c.args.site.now))
+
+pub write_checkpoint-requires : goal.write_checkpoint-requires
+write_checkpoint-requires g c =
+    let s = agent_view c.self.inside in
+    let lines = map shown c.args.check.lines.items in
+    let are = subst (λ (t : State). lines ≡ lines_of (settled t)) (sym c.self.view_is)
+    c.requires.lines in
+    record { lines = good_lines s c.self.invariant.sound lines are }
+
+pub invariant_of-self-in-Ok : goal.invariant_of-self-in-Ok
+invariant_of-self-in-Ok g c =
+    let s = agent_view c.self.inside in
+    let lines = map shown c.args.check.lines.items in
+    let are = subst (λ (t : State). lines ≡ lines_of (settled t)) (sym c.self.view_is)
+    c.requires.lines in
+    let xs = c.self.inside.adaptors in
+    let ys = c.settle_all-in-Ok.new.adaptors in
+    let after_is =
+    with_items_is xs ys (c.settle_all-in-Ok.auto.adaptors ∙ c.as_mut_slice-in-Ok.ensures.len)
+    ∙ (c.settle_all-in-Ok.ensures ∙ ap (λ xs. settled_all xs s.delivery.table.committed)
+    c.as_mut_slice-in-Ok.ensures.value) in
+    record {
+      role = c.self.invariant.role;
+      sound = sound_written s c.self.invariant.sound lines are (with_items xs ys).items after_is;
+    }
+
+pub returns-in-Ok-clause-state : goal.returns-in-Ok-clause-state
+returns-in-Ok-clause-state g c now was is many =
+    let s = agent_view c.self.inside in
+    let lines = map shown c.args.check.lines.items in
+    let are = subst (λ (t : State). lines ≡ lines_of (settled t)) (sym c.self.view_is)
+    c.requires.lines in
+    let xs = c.self.inside.adaptors in
+    let ys = c.settle_all-in-Ok.new.adaptors in
+    let after_is =
+    with_items_is xs ys (c.settle_all-in-Ok.auto.adaptors ∙ c.as_mut_slice-in-Ok.ensures.len)
+    ∙ (c.settle_all-in-Ok.ensures ∙ ap (λ xs. settled_all xs s.delivery.table.committed)
+    c.as_mut_slice-in-Ok.ensures.value) in
+    let other = λ (e : lines ≡ s.saved).
+    c.if-are_same.ensures.other refl
+    (ap (map shown) c.as_slice.ensures.value ∙
+    (e ∙ sym (ap (map shown) c.as_slice-2.ensures.value))) in
+    let script = writes_as c.self.inside.who s lines (Ok tt) c.self.invariant.role refl
+    c.in-Ok.ensures.told in
+    written_state s c.self.invariant.sound lines are (with_items xs ys).items after_is other script
+    now was (c.self.view_is ∙ is)
+    c.args.back many
+
+pub returns-in-Ok-clause-told : goal.returns-in-Ok-clause-told
+returns-in-Ok-clause-told g c stamped =
+    let s = agent_view c.self.inside in
+    let lines = map shown c.args.check.lines.items in
+    let are = subst (λ (t : State). lines ≡ lines_of (settled t)) (sym c.self.view_is)
+    c.requires.lines in
+    let xs = c.self.inside.adaptors in
+    let ys = c.settle_all-in-Ok.new.adaptors in
+    let after_is =
+    with_items_is xs ys (c.settle_all-in-Ok.auto.adaptors ∙ c.as_mut_slice-in-Ok.ensures.len)
+    ∙ (c.settle_all-in-Ok.ensures ∙ ap (λ xs. settled_all xs s.delivery.table.committed)
+    c.as_mut_slice-in-Ok.ensures.value) in
+    let script = writes_as c.self.inside.who s lines (Ok tt) c.self.invariant.role refl
+    c.in-Ok.ensures.told in
+    let ready = ap (λ (s : State). s.ready) c.self.view_is ∙ c.requires.ready in
+    rw (← c.self.view_is)
+    (written_told s c.self.invariant.sound lines are (with_items xs ys).items after_is ready
+    c.in-Ok.ensures.read stamped script)
+
+pub returns-in-Err-clause-state : goal.returns-in-Err-clause-state
+returns-in-Err-clause-state g c now was is many =
+    let s = agent_view c.self.inside in
+    let lines = map shown c.args.check.lines.items in
+    let are = subst (λ (t : State). lines ≡ lines_of (settled t)) (sym c.self.view_is)
+    c.requires.lines in
+    let other = λ (e : lines ≡ s.saved).
+    c.if-are_same.ensures.other refl
+    (ap (map shown) c.as_slice.ensures.value ∙
+    (e ∙ sym (ap (map shown) c.as_slice-2.ensures.value))) in
+    let script = writes_as c.self.inside.who s lines (Err c.in-Err.fault) c.self.invariant.role refl
+    c.in-Err.ensures.told in
+    rw c.from.ensures (failed_state s c.self.invariant.sound lines are other c.in-Err.fault script
+    now was (c.self.view_is ∙ is))
+
+pub returns-in-Err-clause-told : goal.returns-in-Err-clause-told
+returns-in-Err-clause-told g c stamped =
+    let s = agent_view c.self.inside in
+    let lines = map shown c.args.check.lines.items in
+    let are = subst (λ (t : State). lines ≡ lines_of (settled t)) (sym c.self.view_is)
+    c.requires.lines in
+    let script = writes_as c.self.inside.who s lines (Err c.in-Err.fault) c.self.invariant.role refl
+    c.in-Err.ensures.told in
+    let ready = ap (λ (s : State). s.ready) c.self.view_is ∙ c.requires.ready in
+    rw (← c.self.view_is) (failed_told s c.self.invariant.sound lines are ready
+    c.in-Err.ensures.read stamped c.in-Err.fault script)
+
+pub returns-in-Err-clause-undamaged : goal.returns-in-Err-clause-undamaged
+returns-in-Err-clause-undamaged g c = rw c.from.ensures (undamaged_by Settled c.in-Err.fault)
+
+pub returns-in-Err-clause-last : goal.returns-in-Err-clause-last
+returns-in-Err-clause-last g c =
+    rw c.from.ensures
+    (last_by (Unit {0}) Settled c.in-Err.fault c.in-Err.ensures.last)
+
+pub returns-in-Err-clause-cause : goal.returns-in-Err-clause-cause
+returns-in-Err-clause-cause g c =
+    rw c.from.ensures
+    (cause_by (Unit {0}) Settled c.in-Err.fault _ _ c.in-Err.ensures.cause)
+
+pub returns-then-are_same-clause-undamaged : goal.returns-then-are_same-clause-undamaged
+returns-then-are_same-clause-undamaged g c =
+    tt
+
+pub returns-then-are_same-clause-last : goal.returns-then-are_same-clause-last
+returns-then-are_same-clause-last g c =
+    adds_none (g.S.Site.told c.args.site.now)
+    (FailsLast {T = Settled} (Ok (record { reset = c.args.back; written = false }))) (λ h. tt)
+
+pub returns-then-are_same-clause-cause : goal.returns-then-are_same-clause-cause
+returns-then-are_same-clause-cause g c =
+    omega arith
+
+pub returns-in-Ok-clause-undamaged : goal.returns-in-Ok-clause-undamaged
+returns-in-Ok-clause-undamaged g c =
+    tt
+
+pub returns-in-Ok-clause-last : goal.returns-in-Ok-clause-last
+returns-in-Ok-clause-last g c =
+    last_ok {T = Settled} (record { reset = c.args.back; written = true }) c.in-Ok.ensures.last
+
+pub returns-in-Ok-clause-cause : goal.returns-in-Ok-clause-cause
+returns-in-Ok-clause-cause g c =
+    let same = c.in-Ok.ensures.cause in omega (arith, same)
