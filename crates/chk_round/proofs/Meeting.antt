@@ -1,6 +1,6 @@
 -- Collector and agent start, and the agent asks for the time.
 use Rattle.std.proofs.Common.{◌≡◌, inl, inr, ℕ, true, false, List, [], ◌++◌, Option, Result, Ok, Err, refl, sym, subst, ap, ◌∙◌, append_assoc, arith}
-use Rattle.std.specs.Prelude.{Contains, codes}
+use Rattle.std.specs.Prelude.{Contains, codes, IfOk}
 use Rattle.chk_site.specs.declared.acts.Role.TheVariants.{Agent, Collector}
 use Rattle.chk_site.specs.declared.acts.Who.{Who}
 use Rattle.chk_site.specs.declared.acts.Call.TheVariants.{Clock}
@@ -27,11 +27,13 @@ use Rattle.chk_agent.specs.Fits.{IsSound}
 use Rattle.chk_agent.specs.Starts.{Started as AgentStarted}
 use Rattle.chk_agent.specs.States.{State as Agents}
 use Rattle.chk_round.specs.declared.faults.RoundFault.{RoundFault}
+use Rattle.chk_round.specs.declared.starting.Pair.{Pair}
 use Rattle.chk_round.specs.Faults.{of_agent, of_sinks}
 use Rattle.chk_round.specs.Joint.{AreIn, BothAt}
 use Rattle.chk_round.specs.Keeping.{SinksKept}
 use Rattle.chk_round.specs.Processes.{AreBoth, c1}
 use Rattle.chk_round.specs.Starts.{ClockGave, EndsWithClock, Met}
+use Rattle.chk_round.specs.Timed.{moment_of, pair_at}
 use Rattle.chk_round.proofs.Clock.{clock_leaves}
 use Rattle.chk_round.proofs.Keeping.{fresh_keeps}
 use Rattle.chk_round.proofs.Sides.{agent_acts, agent_goes, start_empties}
@@ -156,11 +158,12 @@ module _ (stamped : List (List ℕ)) (source : List ℕ) (started acting : List 
           (clock_leaves stamped a sound ready given
           (subst (λ n. Adds old new (Calls (asked (record { role = Agent; name = n }) Clock [] 0 0) (answered sized given))) (sym a_is) call))
 
-      pub clock_met : (now : ℕ) {old new : Option History} → ClockGave (agent source) (Ok now) old new
+      clock_met : (now : ℕ) {old new : Option History} → ClockGave (agent source) (Ok now) old new
           → Go (BothAt stamped s a) (BothAt stamped s a) old new
       clock_met now call = told_clock (Ok now) call
 
-      pub clock_unmet : (fault : RoundFault) {old new : Option History} → ClockGave (agent source) (Err fault) old new
+      clock_unmet : (fault : RoundFault) {old new : Option History}
+          → ClockGave (agent source) (Err fault) old new
           → Go (BothAt stamped s a) (Met stamped (Err fault)) old new
       clock_unmet fault {old = old} {new = new} (given, call, inl (failed, is)) =
           subst (λ f. Go (BothAt stamped s a) (Met stamped (Err f)) old new) (sym is)
@@ -168,6 +171,15 @@ module _ (stamped : List (List ℕ)) (source : List ℕ) (started acting : List 
       clock_unmet fault {old = old} {new = new} (given, call, inr (wanting, is)) =
           subst (λ f. Go (BothAt stamped s a) (Met stamped (Err f)) old new) (sym is)
           (leads_as (λ h x. x) (λ h x. x.0.legal) (told_clock (Err given) call))
+
+      pub clock_ends : (r : Result Pair RoundFault) {old new : Option History}
+          → IfOk r (λ pair. pair ≡ pair_at s a pair.now)
+          → ClockGave (agent source) (moment_of r) old new
+          → Go (BothAt stamped s a) (Met stamped r) old new
+      clock_ends (Ok pair) {old = old} {new = new} is call =
+          subst (λ (p : Pair). Go (BothAt stamped s a) (BothAt stamped p.collector p.agent) old new)
+          (sym is) (clock_met pair.now call)
+      clock_ends (Err fault) is call = clock_unmet fault call
 
 -- the time was asked for last, behind two other calls
 pub ends_with_clock : (who : Who) (now : ℕ) {P Q : History → History → Type 0} {a b c d : Option History}

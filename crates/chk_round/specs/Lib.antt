@@ -22,3 +22,5 @@ pub mod Done
 pub mod Theirs
 pub mod Rounds
 pub mod Rounded
+pub mod Prepared
+pub mod Timed

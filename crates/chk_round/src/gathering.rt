@@ -56,21 +56,10 @@ pub(crate) fn gather<S: Site>(
     ensures only { IfErr result IsPlain }
     ensures cause { RoundCause (S.fault_count site.old) (S.fault_count site.new) result }
 {
-    let begun = start_pair(alloc, site, collecting, reading, ring, rules)?;
-    let now = begun.now;
-    let collector = begun.collector;
-    let mut agent = begun.agent;
-    add_logs(
-        alloc,
-        site,
-        &mut agent,
-        given.class,
-        &given.kind,
-        given.logs.as_slice(),
-    )?;
-    Ok(Pair {
-        collector,
-        agent,
-        now,
-    })
+    let logs = given.logs.as_slice();
+    let mut pair = start_pair(alloc, site, collecting, reading, ring, rules)?;
+    match add_logs(alloc, site, &mut pair.agent, given.class, &given.kind, logs) {
+        Ok(()) => Ok(pair),
+        Err(fault) => Err(fault),
+    }
 }

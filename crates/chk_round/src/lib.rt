@@ -9,6 +9,7 @@ mod faults;
 mod gathering;
 mod polling;
 mod posting;
+mod preparing;
 mod reading;
 mod running;
 mod starting;

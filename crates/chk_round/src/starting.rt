@@ -14,6 +14,7 @@ ghost use Rattle.chk_round.specs.Processes.{AreBoth, c1};
 ghost use Rattle.chk_round.specs.Lengths.{IsPlain};
 ghost use Rattle.chk_round.specs.Calls.{IsStarting};
 ghost use Rattle.chk_round.specs.Starts.{AreFresh, ClockGave, EndsWithClock, Met, inside, rules_of};
+ghost use Rattle.chk_round.specs.Timed.{moment_of, pair_at};
 
 use crate::faults::RoundFault;
 use crate::words::{Limits, RoundWords};
@@ -71,12 +72,31 @@ pub(crate) fn start_pair<S: Site>(
     let collector = Collector::start(alloc, site, collecting, ROTATE)?;
     let agent = Agent::start(alloc, site, reading, ring, rules)?;
     let _sound = agent.ready();
-    let now = clock(alloc, site, reading)?;
-    Ok(Pair {
-        collector,
-        agent,
-        now,
-    })
+    timed(alloc, site, reading, collector, agent)
+}
+
+// The agent asks for the time.
+fn timed<S: Site>(
+    alloc: Global,
+    site: &mut S,
+    reading: &Who,
+    collector: Collector,
+    agent: Agent,
+) -> Result<Pair, RoundFault>
+    ensures same { IfOk result (λ pair. pair ≡ pair_at collector agent pair.now) }
+    ensures gave { ClockGave reading.now (moment_of result) (S.told site.old) (S.told site.new) }
+    ensures last { Adds (S.told site.old) (S.told site.new) (FailsLast result) }
+    ensures only { IfErr result IsPlain }
+    ensures cause { RoundCause (S.fault_count site.old) (S.fault_count site.new) result }
+{
+    match clock(alloc, site, reading) {
+        Ok(now) => Ok(Pair {
+            collector,
+            agent,
+            now,
+        }),
+        Err(fault) => Err(fault),
+    }
 }
 
 /// The ring of the one address inside the process.

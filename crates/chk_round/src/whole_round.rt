@@ -7,20 +7,23 @@ ghost use Rattle.chk_world.specs.Names.{is_source};
 ghost use Rattle.chk_agent.specs.States.{lines_of};
 ghost use Rattle.chk_round.specs.Faults.{FailsInside, RoundCause};
 ghost use Rattle.chk_round.specs.Following.{HaveLines};
+ghost use Rattle.chk_round.specs.Prepared.{processes_of};
 ghost use Rattle.chk_round.specs.Processes.{IsRunOf};
 ghost use Rattle.chk_round.specs.Lengths.{LengthCause};
 ghost use Rattle.chk_round.specs.Scripts.{ReadsLogs, RoundReads};
 ghost use Rattle.chk_round.specs.Rounded.{RoundTo};
+ghost use Rattle.chk_round.specs.Starts.{inside};
 ghost use Rattle.chk_round.specs.Calls.{RoundActs};
 
 use crate::faults::RoundFault;
 use crate::gathering::gather;
+use crate::preparing::{Prepared, prepare};
 use crate::running::run_pair;
-use crate::starting::{ring_inside, rules_of};
-use crate::whos::{agent_of, collector_c1, job};
+use crate::whos::Processes;
 use crate::words::{Limits, RoundWords};
-use chk_agent::Agent;
+use chk_agent::{Agent, Rules};
 use chk_archive::Report;
+use chk_failover::Ring;
 use chk_site::Site;
 use std::alloc::Global;
 
@@ -92,24 +95,68 @@ pub fn round_within<S: Site>(
     ensures last { Adds (S.told site.old) (S.told site.new) (FailsInside result) }
     ensures cause { RoundCause (S.fault_count site.old) (S.fault_count site.new) result }
 {
-    let collecting = collector_c1(alloc)?;
-    let reading = agent_of(&given.source)?;
-    let archiving = job(alloc)?;
-    let ring = ring_inside(alloc)?;
-    let rules = rules_of(given, limits)?;
-    let pair = gather(alloc, site, &collecting, &reading, ring, rules, given)?;
-    let now = pair.now;
-    let mut collector = pair.collector;
-    let mut agent = pair.agent;
-    let report = run_pair(
+    let Prepared {
+        processes,
+        ring,
+        rules,
+    } = prepare(alloc, given, limits)?;
+    run_prepared(alloc, site, &processes, ring, rules, given)
+}
+
+// Runs a round with what was prepared for it.
+fn run_prepared<S: Site>(
+    alloc: Global,
+    site: &mut S,
+    processes: &Processes,
+    ring: Ring,
+    rules: Rules,
+    given: &RoundWords,
+) -> Result<Rounded, RoundFault>
+    requires processes { processes.now ≡ processes_of given.now.source }
+    requires ring { ring ≡ inside }
+    requires some_rows { 1 ≤ rules.rows }
+    requires a_piece { 131072 ≤ rules.queue }
+    requires cluster { rules.cluster ≡ given.now.cluster }
+    requires name { IsTrue (is_source given.now.source) }
+    requires a_read { 1 ≤ given.now.reads }
+    ensures told { (stamped : List (List ℕ)) (started acting : List Person)
+        → IsRunOf given.now.source started acting → Adds (S.told site.old) (S.told site.new)
+        (RoundTo stamped started acting given.now.source result) }
+    ensures script { RoundReads given.now.source given.now.reads result (S.told site.old) (S.told site.new) }
+    ensures reads { IfOk result (λ r. ReadsLogs given.now.source given.now.kind given.now.class
+        given.now.cluster given.now.logs.items given.now.reads r.agent
+        (S.told site.old) (S.told site.new)) }
+    ensures cluster { IfOk result (λ r. r.agent.cluster ≡ given.now.cluster) }
+    ensures live { IfOk result (λ r. HaveLines given.now.kind given.now.logs.items
+        (lines_of r.agent)) }
+    ensures length { LengthCause result (S.told site.old) (S.told site.new) }
+    ensures acts { Adds (S.told site.old) (S.told site.new) (RoundActs given.now.source) }
+    ensures last { Adds (S.told site.old) (S.told site.new) (FailsInside result) }
+    ensures cause { RoundCause (S.fault_count site.old) (S.fault_count site.new) result }
+{
+    let mut pair = gather(
         alloc,
         site,
-        &mut agent,
-        &mut collector,
-        &collecting,
-        &archiving,
-        now,
-        given.reads,
+        &processes.collecting,
+        &processes.reading,
+        ring,
+        rules,
+        given,
     )?;
-    Ok(Rounded { agent, report })
+    match run_pair(
+        alloc,
+        site,
+        &mut pair.agent,
+        &mut pair.collector,
+        &processes.collecting,
+        &processes.archiving,
+        pair.now,
+        given.reads,
+    ) {
+        Ok(report) => Ok(Rounded {
+            agent: pair.agent,
+            report,
+        }),
+        Err(fault) => Err(fault),
+    }
 }

@@ -16,42 +16,37 @@ use Rattle.chk_round.specs.Starts.{EndsWithClock, inside}
 use Rattle.chk_round.proofs.Acts.{begun_of, logs_acts, only_begun, timed, timed_then}
 use Rattle.chk_round.proofs.gathering.gather.Goals as goal
 
-pub returns-in_err-begun-clause-told : goal.returns-in_err-begun-clause-told
-returns-in_err-begun-clause-told g c stamped started acting run =
+pub returns-in_err-pair-clause-told : goal.returns-in_err-pair-clause-told
+returns-in_err-pair-clause-told g c stamped started acting run =
     let p = err_from_is_err_and c.from_residual.result c.from_residual.ensures.1 in
-    rw (p.1, p.2) (c.in_err-begun.ensures.told stamped started acting run)
+    rw (p.1, p.2) (c.in_err-pair.ensures.told stamped started acting run)
 
-pub returns-in_err-begun-clause-cause : goal.returns-in_err-begun-clause-cause
-returns-in_err-begun-clause-cause g c =
+pub returns-in_err-pair-clause-cause : goal.returns-in_err-pair-clause-cause
+returns-in_err-pair-clause-cause g c =
     let p = err_from_is_err_and c.from_residual.result c.from_residual.ensures.1 in
     subst (λ (r : Result Pair RoundFault). RoundCause (g.S.Site.fault_count c.args.site.now)
-    (g.S.Site.fault_count c.start_pair.new.site) r) (sym (p.1 ∙ ap Err p.2)) c.in_err-begun.ensures.cause
+    (g.S.Site.fault_count c.start_pair.new.site) r) (sym (p.1 ∙ ap Err p.2)) c.in_err-pair.ensures.cause
 
-pub returns-in_err-add_logs-clause-told : goal.returns-in_err-add_logs-clause-told
-returns-in_err-add_logs-clause-told g c stamped started acting run =
-    let p = err_from_is_err_and c.from_residual-in_err-add_logs.result c.from_residual-in_err-add_logs.ensures.1 in
-    let fresh = c.in_ok-begun.ensures.fresh in
-    rw (p.1, p.2)
-    (logs_unmet stamped c.args.reading.now.name started acting run c.in_ok-begun.begun.collector c.in_ok-begun.begun.agent
-    c.add_logs.new.agent fresh.sinks.collector fresh.agent_is.source (c.in_ok-begun.ensures.told stamped started acting run)
-    (c.add_logs.ensures.told stamped) c.in_err-add_logs.field-0.0 c.in_err-add_logs.ensures.only)
+pub returns-in-Err-clause-told : goal.returns-in-Err-clause-told
+returns-in-Err-clause-told g c stamped started acting run =
+    let fresh = c.in_ok-pair.ensures.fresh in
+    logs_unmet stamped c.args.reading.now.name started acting run c.in_ok-pair.pair.collector c.in_ok-pair.pair.agent
+    c.add_logs.new.agent fresh.sinks.collector fresh.agent_is.source (c.in_ok-pair.ensures.told stamped started acting run)
+    (c.add_logs.ensures.told stamped) c.in-Err.fault c.in-Err.ensures.only
 
-pub returns-in_err-add_logs-clause-cause : goal.returns-in_err-add_logs-clause-cause
-returns-in_err-add_logs-clause-cause g c =
-    let p = err_from_is_err_and c.from_residual-in_err-add_logs.result c.from_residual-in_err-add_logs.ensures.1 in
-    subst (λ (r : Result Pair RoundFault). RoundCause (g.S.Site.fault_count c.args.site.now)
-    (g.S.Site.fault_count c.add_logs.new.site) r) (sym (p.1 ∙ ap Err p.2))
-    (late_cause Pair (Unit {0}) _ _ _ c.in_err-add_logs.field-0.0 c.in_ok-begun.ensures.cause c.in_err-add_logs.ensures.cause)
+pub returns-in-Err-clause-cause : goal.returns-in-Err-clause-cause
+returns-in-Err-clause-cause g c =
+    late_cause Pair (Unit {0}) _ _ _ c.in-Err.fault c.in_ok-pair.ensures.cause c.in-Err.ensures.cause
 
-pub returns-clause-gathered : goal.returns-clause-gathered
-returns-clause-gathered g c =
-    gathered c.args.reading.now.name c.args.ring c.args.rules c.in_ok-begun.begun.collector c.in_ok-begun.begun.agent
-    c.add_logs.new.agent c.requires.ring c.in_ok-begun.ensures.fresh (logs_steady c.in_ok-add_logs.ensures.script)
-    c.add_logs.ensures.source c.in_ok-add_logs.ensures.ready
+pub returns-in-Ok-clause-gathered : goal.returns-in-Ok-clause-gathered
+returns-in-Ok-clause-gathered g c =
+    gathered c.args.reading.now.name c.args.ring c.args.rules c.in_ok-pair.pair.collector c.in_ok-pair.pair.agent
+    c.add_logs.new.agent c.requires.ring c.in_ok-pair.ensures.fresh (logs_steady c.in-Ok.ensures.script)
+    c.add_logs.ensures.source c.in-Ok.ensures.ready
 
-pub returns-clause-begins : goal.returns-clause-begins
-returns-clause-begins g c =
-    let fresh = c.in_ok-begun.begun.agent in
+pub returns-in-Ok-clause-begins : goal.returns-in-Ok-clause-begins
+returns-in-Ok-clause-begins g c =
+    let fresh = c.in_ok-pair.pair.agent in
     let old = g.S.Site.told c.args.site.now in
     let mid = g.S.Site.told c.start_pair.new.site in
     record {
@@ -61,72 +56,70 @@ returns-clause-begins g c =
       mid = mid;
       began = subst (λ w. AgentBegan w inside c.args.rules fresh old mid) c.requires.agent_is
           (subst (λ r. AgentBegan c.args.reading.now r c.args.rules fresh old mid) c.requires.ring
-          c.in_ok-begun.ensures.began);
+          c.in_ok-pair.ensures.began);
       adds = subst (λ ls. AddsLogs c.args.given.now.class c.args.given.now.kind ls fresh (Ok tt) c.add_logs.new.agent mid
-          (g.S.Site.told c.add_logs.new.site)) c.as_slice.ensures.value c.in_ok-add_logs.ensures.script;
+          (g.S.Site.told c.add_logs.new.site)) c.as_slice-logs.ensures.value c.in-Ok.ensures.script;
     }
 
-pub returns-clause-told : goal.returns-clause-told
-returns-clause-told g c stamped started acting run =
-    let fresh = c.in_ok-begun.ensures.fresh in
-    logs_met stamped c.args.reading.now.name started acting run c.in_ok-begun.begun.collector c.in_ok-begun.begun.agent
-    c.add_logs.new.agent fresh.sinks.collector fresh.agent_is.source (c.in_ok-begun.ensures.told stamped started acting run)
+pub returns-in-Ok-clause-told : goal.returns-in-Ok-clause-told
+returns-in-Ok-clause-told g c stamped started acting run =
+    let fresh = c.in_ok-pair.ensures.fresh in
+    logs_met stamped c.args.reading.now.name started acting run c.in_ok-pair.pair.collector c.in_ok-pair.pair.agent
+    c.add_logs.new.agent fresh.sinks.collector fresh.agent_is.source (c.in_ok-pair.ensures.told stamped started acting run)
     (c.add_logs.ensures.told stamped)
 
-pub returns-clause-cause : goal.returns-clause-cause
-returns-clause-cause g c =
-    let one = c.in_ok-begun.ensures.cause in let two = c.in_ok-add_logs.ensures.cause in omega (arith, one, two)
+pub returns-in-Ok-clause-cause : goal.returns-in-Ok-clause-cause
+returns-in-Ok-clause-cause g c =
+    let one = c.in_ok-pair.ensures.cause in let two = c.in-Ok.ensures.cause in omega (arith, one, two)
 
-pub returns-clause-live : goal.returns-clause-live
-returns-clause-live g c log one =
+pub returns-in-Ok-clause-live : goal.returns-in-Ok-clause-live
+returns-in-Ok-clause-live g c log one =
     logs_follow
-    (fresh_steady c.args.reading.now.name c.args.ring c.args.rules c.in_ok-begun.begun.collector c.in_ok-begun.begun.agent
-    c.in_ok-begun.ensures.fresh)
-    c.in_ok-add_logs.ensures.script log (subst (λ ls. Contains ls log) (sym c.as_slice.ensures.value) one)
+    (fresh_steady c.args.reading.now.name c.args.ring c.args.rules c.in_ok-pair.pair.collector c.in_ok-pair.pair.agent
+    c.in_ok-pair.ensures.fresh)
+    c.in-Ok.ensures.script log (subst (λ ls. Contains ls log) (sym c.as_slice-logs.ensures.value) one)
 
-pub returns-in_err-begun-clause-last : goal.returns-in_err-begun-clause-last
-returns-in_err-begun-clause-last g c =
+pub returns-in_err-pair-clause-last : goal.returns-in_err-pair-clause-last
+returns-in_err-pair-clause-last g c =
     let p = err_from_is_err_and c.from_residual.result c.from_residual.ensures.1 in
-    rw (p.1, p.2) (last_inside Pair Pair c.in_err-begun.field-0.0 c.in_err-begun.ensures.last)
+    rw (p.1, p.2) (last_inside Pair Pair c.in_err-pair.field-0.0 c.in_err-pair.ensures.last)
 
-pub returns-in_err-add_logs-clause-last : goal.returns-in_err-add_logs-clause-last
-returns-in_err-add_logs-clause-last g c =
-    let p = err_from_is_err_and c.from_residual-in_err-add_logs.result c.from_residual-in_err-add_logs.ensures.1 in
-    rw (p.1, p.2) (inside_late Pair Pair c.in_err-add_logs.field-0.0 c.in_ok-begun.ensures.last
-    (last_inside Pair (Unit {0}) c.in_err-add_logs.field-0.0 c.in_err-add_logs.ensures.last))
+pub returns-in-Err-clause-last : goal.returns-in-Err-clause-last
+returns-in-Err-clause-last g c =
+    inside_late Pair Pair c.in-Err.fault c.in_ok-pair.ensures.last
+    (last_inside Pair (Unit {0}) c.in-Err.fault c.in-Err.ensures.last)
 
-pub returns-clause-last : goal.returns-clause-last
-returns-clause-last g c = went_then c.in_ok-begun.ensures.last c.in_ok-add_logs.ensures.last
+pub returns-in-Ok-clause-last : goal.returns-in-Ok-clause-last
+returns-in-Ok-clause-last g c = went_then c.in_ok-pair.ensures.last c.in-Ok.ensures.last
 
-pub returns-in_err-begun-clause-only : goal.returns-in_err-begun-clause-only
-returns-in_err-begun-clause-only g c =
+pub returns-in_err-pair-clause-only : goal.returns-in_err-pair-clause-only
+returns-in_err-pair-clause-only g c =
     let p = err_from_is_err_and c.from_residual.result c.from_residual.ensures.1 in
-    rw (p.1, p.2) (c.in_err-begun.ensures.only)
+    rw (p.1, p.2) (c.in_err-pair.ensures.only)
 
-pub returns-in_err-add_logs-clause-only : goal.returns-in_err-add_logs-clause-only
-returns-in_err-add_logs-clause-only g c =
-    let p = err_from_is_err_and c.from_residual-in_err-add_logs.result c.from_residual-in_err-add_logs.ensures.1 in
-    rw (p.1, p.2) (call_plain c.in_err-add_logs.field-0.0 c.in_err-add_logs.ensures.only)
+pub returns-in-Err-clause-only : goal.returns-in-Err-clause-only
+returns-in-Err-clause-only g c =
+    call_plain c.in-Err.fault c.in-Err.ensures.only
 
-pub returns-in_err-begun-clause-acts : goal.returns-in_err-begun-clause-acts
-returns-in_err-begun-clause-acts g c = only_begun c.args.reading.now.name c.start_pair.ensures.acts
+pub returns-in_err-pair-clause-acts : goal.returns-in_err-pair-clause-acts
+returns-in_err-pair-clause-acts g c = only_begun c.args.reading.now.name c.start_pair.ensures.acts
 
-pub returns-in_err-add_logs-clause-acts : goal.returns-in_err-add_logs-clause-acts
-returns-in_err-add_logs-clause-acts g c =
+pub returns-in-Err-clause-acts : goal.returns-in-Err-clause-acts
+returns-in-Err-clause-acts g c =
     begun_of c.args.reading.now.name
     (timed_then c.args.reading.now.name
-    (timed c.args.reading.now.name c.in_ok-begun.begun.now c.start_pair.ensures.acts
-    (subst (λ w. Adds (g.S.Site.told c.args.site.now) (g.S.Site.told c.start_pair.new.site) (EndsWithClock w c.in_ok-begun.begun.now))
-    c.requires.agent_is c.in_ok-begun.ensures.clock))
+    (timed c.args.reading.now.name c.in_ok-pair.pair.now c.start_pair.ensures.acts
+    (subst (λ w. Adds (g.S.Site.told c.args.site.now) (g.S.Site.told c.start_pair.new.site) (EndsWithClock w c.in_ok-pair.pair.now))
+    c.requires.agent_is c.in_ok-pair.ensures.clock))
     (logs_acts c.add_logs.ensures.script))
 
-pub returns-clause-timed : goal.returns-clause-timed
-returns-clause-timed g c =
+pub returns-in-Ok-clause-timed : goal.returns-in-Ok-clause-timed
+returns-in-Ok-clause-timed g c =
     timed_then c.args.reading.now.name
-    (timed c.args.reading.now.name c.in_ok-begun.begun.now c.start_pair.ensures.acts
-    (subst (λ w. Adds (g.S.Site.told c.args.site.now) (g.S.Site.told c.start_pair.new.site) (EndsWithClock w c.in_ok-begun.begun.now))
-    c.requires.agent_is c.in_ok-begun.ensures.clock))
+    (timed c.args.reading.now.name c.in_ok-pair.pair.now c.start_pair.ensures.acts
+    (subst (λ w. Adds (g.S.Site.told c.args.site.now) (g.S.Site.told c.start_pair.new.site) (EndsWithClock w c.in_ok-pair.pair.now))
+    c.requires.agent_is c.in_ok-pair.ensures.clock))
     (logs_acts c.add_logs.ensures.script)
 
-pub returns-clause-acts : goal.returns-clause-acts
-returns-clause-acts g c = begun_of c.args.reading.now.name (returns-clause-timed g c)
+pub returns-in-Ok-clause-acts : goal.returns-in-Ok-clause-acts
+returns-in-Ok-clause-acts g c = begun_of c.args.reading.now.name (returns-in-Ok-clause-timed g c)
