@@ -20,6 +20,7 @@ use Rattle.chk_plan.specs.Passes.{begins_at, AreSpans}
 use Rattle.chk_plan.specs.Laws.{span_gain}
 use Rattle.chk_plan.specs.Plan.{ends_of, set_aside}
 use Rattle.chk_plan.specs.declared.spans.Known.{Known}
+use Rattle.chk_plan.specs.declared.spans.Span.{Span}
 use Rattle.chk_parts.specs.Cuts.{AreWithin, AreDealt}
 use Rattle.chk_parts.specs.Kept.{AreSpansWithin, are_old_aside}
 use Rattle.chk_parts.specs.declared.cuts.Cut.{Cut}
@@ -38,6 +39,13 @@ pub record IsPlanned (b : Book) (heads : List Head) (p : Planned) : Type 0 where
   pub cuts : AreDealt heads p.spans.items p.cuts
   pub within : AreWithin (length heads) p.cuts
   pub spans_within : AreSpansWithin (length heads) p.spans.items
+
+-- these spans, how many bytes their passes take, and what of each record
+pub record IsCut (heads : List Head) (ss : List Span) (p : Planned) : Type 0 where
+  pub are : p.spans.items ≡ ss
+  pub taken : p.taken ≡ sum_by span_gain p.spans.items
+  pub cuts : AreDealt heads p.spans.items p.cuts
+  pub within : AreWithin (length heads) p.cuts
 
 -- all that the job knows is the same, but for the archive's segments of this number and above
 pub record SameBelow (next : ℕ) (v u : Sight) : Type 0 where

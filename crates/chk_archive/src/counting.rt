@@ -8,7 +8,7 @@ use crate::folder_names::is_closed;
 use chk_bytes::{NoMemory, Word};
 
 /// How many sinks under writing and how many done ones a listing shows.
-#[derive(Debug, Drop)]
+#[derive(Drop)]
 pub(crate) struct Counted {
     pub unclosed: u32,
     pub first_unclosed: Option<Word>,

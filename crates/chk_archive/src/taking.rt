@@ -1,6 +1,6 @@
 //! What an archive run takes and sets aside, once the sinks are listed.
 
-ghost use Rattle.std.specs.Prelude.{◌≡◌, ◌==◌, ◌||◌, not, false, [], ℕ, List, length, IsTrue, IfOk};
+ghost use Rattle.std.specs.Prelude.{◌≡◌, ◌≤◌, ◌==◌, ◌||◌, not, false, [], ℕ, List, length, All, IsTrue, IfOk};
 ghost use Rattle.chk_site.specs.History.{Every};
 ghost use Rattle.chk_site.specs.Site.{Adds, LastFailed, OutsideCause};
 ghost use Rattle.chk_site.specs.Runs.{Leads};
@@ -20,7 +20,7 @@ ghost use Rattle.chk_parts.specs.Gathering.{heads_of};
 ghost use Rattle.chk_parts.specs.Publishing.{Published};
 ghost use Rattle.chk_archive.specs.Numbers.{Numbered};
 ghost use Rattle.chk_parts.specs.Writes.{IsFree};
-ghost use Rattle.chk_archive.specs.Taking.{IsPlanned, CanPrepare, IsWhole, Prepared, PartsTaken, AsideKept, stays_aside, MayFollowIf, TookSo};
+ghost use Rattle.chk_archive.specs.Taking.{IsPlanned, IsCut, CanPrepare, IsWhole, Prepared, PartsTaken, AsideKept, stays_aside, MayFollowIf, TookSo};
 
 use crate::counting::count_of;
 use crate::sources::sources;
@@ -36,7 +36,7 @@ use chk_site::{OutsideFault, Site, Who};
 use std::alloc::Global;
 
 /// What is taken of heads that stand in order.
-#[derive(Debug, Drop)]
+#[derive(Drop)]
 pub(crate) struct Planned {
     pub spans: Vec<Span>,
     /// How many bytes.
@@ -45,7 +45,7 @@ pub(crate) struct Planned {
 }
 
 /// How many bytes were taken, and how many chunks are set aside.
-#[derive(Clone, Copy, Debug, PartialEq, Eq)]
+#[derive(Clone, Copy)]
 pub(crate) struct Taken {
     pub taken: u64,
     pub held: u32,
@@ -146,6 +146,14 @@ fn plan_of(alloc: Global, heads: &Heads, book: &Book) -> Result<Planned, NoMemor
 {
     let known = known_ends(alloc, book)?;
     let spans = plan(alloc, heads, known.as_slice())?;
+    planned_of(alloc, heads, spans)
+}
+
+/// The plan that has these spans. More bytes than 64 bits hold count as want of memory.
+fn planned_of(alloc: Global, heads: &Heads, spans: Vec<Span>) -> Result<Planned, NoMemory>
+    requires { All (λ s. s.end ≤ length heads.now) spans.items }
+    ensures { IfOk result (IsCut heads.now spans.items) }
+{
     let taken = taken(spans.as_slice()).ok_or(NoMemory)?;
     let cuts = cuts_of(alloc, heads, spans.as_slice())?;
     Ok(Planned { spans, taken, cuts })

@@ -6,6 +6,7 @@ use Rattle.chk_site.specs.Runs.{Leads}
 use Rattle.chk_site.proofs.Leads.{leads_as}
 use Rattle.chk_world.specs.Places.{As}
 use Rattle.chk_world.specs.Sight.{job, Sight, AtJob}
+use Rattle.chk_heads.specs.Faults.{JobCause}
 use Rattle.chk_heads.specs.declared.fault.JobFault.{JobFault}
 use Rattle.chk_heads.specs.declared.fault.JobFault.TheVariants.{Outside, Damaged, Spent, NoMemory}
 use Rattle.chk_demux.specs.Working.{Failed, EndsSo}
@@ -59,3 +60,15 @@ pub no_more : {U : Type 0} (stamped : List (List ℕ)) (v : Sight) (next : ℕ) 
     (Q : U → Sight → Type 0) {old new : Option History} → Adds old new (Leads (As stamped job) A (AtJob stamped P))
     → Adds old new (Leads (As stamped job) A (EndsSo stamped v next Q (Err NoMemory)))
 no_more stamped v next A P Q told = leads_as (λ h k. k) (λ h k. k.legal) told
+
+-- the count of the calls that failed, behind calls that left it as it was
+pub cause_behind : {T : Type 0} (U : Type 0) (r : Result T JobFault) (fault : JobFault) → r ≡ Err fault
+    → (before mid now : ℕ) → mid ≡ before → JobCause mid now r → JobCause {T = U} before now (Err fault)
+cause_behind {T} U r fault e before mid now same cause =
+    go fault (subst (λ n. JobCause {T = T} n now (Err fault)) same (subst (λ x. JobCause mid now x) e cause))
+  where
+    go : (fault : JobFault) → JobCause {T = T} before now (Err fault) → JobCause {T = U} before now (Err fault)
+    go (Outside call) k = k
+    go (Damaged name at) k = k
+    go (Spent n) k = k
+    go NoMemory k = k

@@ -36,14 +36,6 @@ module _ (stamped : List (List ℕ)) (v : Sight) (next : ℕ) (outs : List Chunk
     (r : Result Segmenter JobFault) {old mid : Option History}
     (first : Adds old mid (Leads (As stamped job) (AtJob stamped (SoFar v outs o.segmenter))
     (EndsSo stamped v next (λ s u. IsSoFar v outs s u) r))) where
-  -- no segment could be begun
-  pub not_opened : {U : Type 0} (Q : U → Sight → Type 0) (fault : JobFault) → r ≡ Err fault
-      → Adds old mid (Leads (As stamped job) (AtJob stamped (IsOutput v outs o)) (EndsSo stamped v next Q (Err fault)))
-  not_opened Q fault e =
-      before_as stamped (IsOutput v outs o) (SoFar v outs o.segmenter) (EndsSo stamped v next Q (Err fault))
-      (λ u p. p.so_far)
-      (so_fails stamped v next (AtJob stamped (SoFar v outs o.segmenter)) (λ s u. IsSoFar v outs s u) Q r fault e first)
-
   module _ (s t : Segmenter) (is : r ≡ Ok s) (c : Chunk) (q : Result (Unit {0}) JobFault)
       {new : Option History}
       (second : Adds mid new (Leads (As stamped job) (AtJob stamped (IsSoFar v outs s))
@@ -60,53 +52,74 @@ module _ (stamped : List (List ℕ)) (v : Sight) (next : ℕ) (outs : List Chunk
         (λ u p. p.so_far)
         (so_fails stamped v next (AtJob stamped (SoFar v outs o.segmenter)) (λ value u. IsSoFar v (outs ++ c ∷ []) t u) Q q fault e both)
 
-    -- it was, and is counted
-    module _ (value : Unit {0}) (done : q ≡ Ok value) (w : List ℕ) (own : Adds old new (Every (IsOf (WritesTo w))))
-        (n : Output) (z : Result (Unit {0}) JobFault) (taken : OnOk z (n.taken ≡ o.taken + length c.value))
-        (entries : OnOk z (n.entries ≡ o.entries + 1)) (segmenter : n.segmenter ≡ Some t)
-        (only : IfErr z (λ fault. fault ≡ NoMemory)) where
-      ended : (z : Result (Unit {0}) JobFault) → OnOk z (n.taken ≡ o.taken + length c.value)
-          → OnOk z (n.entries ≡ o.entries + 1) → IfErr z (λ fault. fault ≡ NoMemory) → (h : History)
-          → AtJob stamped (IsSoFar v (outs ++ c ∷ []) t) h → (is_stopped h ≡ false → (o.taken ≡ bytes_of outs) × (o.entries ≡ length outs))
-          → EndsSo stamped v next (λ value u. IsOutput v (outs ++ c ∷ []) n u) z h
-      ended (Ok value) taken entries only h k counted = record {
-        legal = k.legal;
-        may_act = k.may_act;
-        alive = λ runs.
-            let before = counted runs in
-            let size = length-append outs (c ∷ []) in
-            let count = before.1 in
-            record {
-              taken = taken ∙ (ap (λ m. m + length c.value) before.0 ∙ sym (one_more outs c));
-              entries = omega (arith, entries, count, size);
-              so_far = subst (λ s. SoFar v (outs ++ c ∷ []) s (sight h)) (sym segmenter) (k.alive runs);
-              some = subst (λ s. HasSome s (outs ++ c ∷ [])) (sym segmenter) (omega (arith, size));
-            };
-      }
-      ended (Err fault) taken entries only h k counted =
-          subst (λ f. EndsSo stamped v next (λ (value : Unit {0}) u. IsOutput v (outs ++ c ∷ []) n u) (Err f) h) (sym only) k.legal
+    -- it was
+    pub put_done : (value : Unit {0}) → q ≡ Ok value
+        → Adds old new (Leads (As stamped job) (AtJob stamped (SoFar v outs o.segmenter)) (AtJob stamped (IsSoFar v (outs ++ c ∷ []) t)))
+    put_done value done =
+        so_done stamped v next (AtJob stamped (SoFar v outs o.segmenter)) (λ value u. IsSoFar v (outs ++ c ∷ []) t u) q value done both
 
-      pub put_counted : Adds old new (Leads (As stamped job) (AtJob stamped (IsOutput v outs o))
-          (EndsSo stamped v next (λ value u. IsOutput v (outs ++ c ∷ []) n u) z))
-      put_counted =
-          leads_as
-          (λ h k. at_as stamped (IsOutput v outs o)
-          (λ u. SoFar v outs o.segmenter u × ((o.taken ≡ bytes_of outs) × (o.entries ≡ length outs)))
-          (λ u p. (p.so_far, (p.taken, p.entries))) h k)
-          (λ h x. ended z taken entries only h x.0 x.1)
-          (with_fact stamped (WritesTo w) (no_write_starts w) (quiet_write w)
-          ((o.taken ≡ bytes_of outs) × (o.entries ≡ length outs)) (SoFar v outs o.segmenter)
-          (AtJob stamped (IsSoFar v (outs ++ c ∷ []) t)) own
-          (so_done stamped v next (AtJob stamped (SoFar v outs o.segmenter)) (λ value u. IsSoFar v (outs ++ c ∷ []) t u) q value done both))
+module _ (stamped : List (List ℕ)) (v : Sight) (next : ℕ) (outs : List Chunk) (o : Output) (c : Chunk) {old new : Option History} where
+  -- the first one couldn't be written
+  pub not_first : (r : Result Segmenter JobFault)
+      → Adds old new (Leads (As stamped job) (AtJob stamped (SoFar v outs o.segmenter))
+      (EndsSo stamped v next (λ s u. IsSoFar v (outs ++ c ∷ []) s u) r))
+      → {U : Type 0} (Q : U → Sight → Type 0) (fault : JobFault) → r ≡ Err fault
+      → Adds old new (Leads (As stamped job) (AtJob stamped (IsOutput v outs o)) (EndsSo stamped v next Q (Err fault)))
+  not_first r told Q fault e =
+      before_as stamped (IsOutput v outs o) (SoFar v outs o.segmenter) (EndsSo stamped v next Q (Err fault))
+      (λ u p. p.so_far)
+      (so_fails stamped v next (AtJob stamped (SoFar v outs o.segmenter)) (λ s u. IsSoFar v (outs ++ c ∷ []) s u) Q r fault e told)
+
+  -- a record is written, and counted
+  module _ (t : Segmenter)
+      (written : Adds old new (Leads (As stamped job) (AtJob stamped (SoFar v outs o.segmenter)) (AtJob stamped (IsSoFar v (outs ++ c ∷ []) t))))
+      (w : List ℕ) (own : Adds old new (Every (IsOf (WritesTo w)))) (n : Output) (z : Result (Unit {0}) JobFault)
+      (taken : OnOk z (n.taken ≡ o.taken + length c.value)) (entries : OnOk z (n.entries ≡ o.entries + 1))
+      (segmenter : n.segmenter ≡ Some t) (only : IfErr z (λ fault. fault ≡ NoMemory)) where
+    ended : (z : Result (Unit {0}) JobFault) → OnOk z (n.taken ≡ o.taken + length c.value)
+        → OnOk z (n.entries ≡ o.entries + 1) → IfErr z (λ fault. fault ≡ NoMemory) → (h : History)
+        → AtJob stamped (IsSoFar v (outs ++ c ∷ []) t) h → (is_stopped h ≡ false → (o.taken ≡ bytes_of outs) × (o.entries ≡ length outs))
+        → EndsSo stamped v next (λ value u. IsOutput v (outs ++ c ∷ []) n u) z h
+    ended (Ok value) taken entries only h k counted = record {
+      legal = k.legal;
+      may_act = k.may_act;
+      alive = λ runs.
+          let before = counted runs in
+          let size = length-append outs (c ∷ []) in
+          let count = before.1 in
+          record {
+            taken = taken ∙ (ap (λ m. m + length c.value) before.0 ∙ sym (one_more outs c));
+            entries = omega (arith, entries, count, size);
+            so_far = subst (λ s. SoFar v (outs ++ c ∷ []) s (sight h)) (sym segmenter) (k.alive runs);
+            some = subst (λ s. HasSome s (outs ++ c ∷ [])) (sym segmenter) (omega (arith, size));
+          };
+    }
+    ended (Err fault) taken entries only h k counted =
+        subst (λ f. EndsSo stamped v next (λ (value : Unit {0}) u. IsOutput v (outs ++ c ∷ []) n u) (Err f) h) (sym only) k.legal
+
+    pub put_counted : Adds old new (Leads (As stamped job) (AtJob stamped (IsOutput v outs o))
+        (EndsSo stamped v next (λ value u. IsOutput v (outs ++ c ∷ []) n u) z))
+    put_counted =
+        leads_as
+        (λ h k. at_as stamped (IsOutput v outs o)
+        (λ u. SoFar v outs o.segmenter u × ((o.taken ≡ bytes_of outs) × (o.entries ≡ length outs)))
+        (λ u p. (p.so_far, (p.taken, p.entries))) h k)
+        (λ h x. ended z taken entries only h x.0 x.1)
+        (with_fact stamped (WritesTo w) (no_write_starts w) (quiet_write w)
+        ((o.taken ≡ bytes_of outs) × (o.entries ≡ length outs)) (SoFar v outs o.segmenter)
+        (AtJob stamped (IsSoFar v (outs ++ c ∷ []) t)) own written)
 
 -- the segment is the job's still
-pub counted_writer : (next : ℕ) (t : Segmenter) (n : Output) (z : Result (Unit {0}) JobFault) {q : Result (Unit {0}) JobFault}
-    → OnOk q (IsForDemux next t) → (value : Unit {0}) → q ≡ Ok value → n.segmenter ≡ Some t
-    → OnOk z (IsWriter next n.segmenter)
-counted_writer next t n z still value done segmenter = go z
+pub still_writer : (next : ℕ) (t : Segmenter) (q : Result (Unit {0}) JobFault)
+    → OnOk q (IsForDemux next t) → (value : Unit {0}) → q ≡ Ok value → IsForDemux next t
+still_writer next t q still value done = subst (λ q. OnOk q (IsForDemux next t)) done still
+
+pub counted_writer : (next : ℕ) (t : Segmenter) (n : Output) (z : Result (Unit {0}) JobFault) → IsForDemux next t
+    → n.segmenter ≡ Some t → OnOk z (IsWriter next n.segmenter)
+counted_writer next t n z still segmenter = go z
   where
     writer : IsWriter next n.segmenter
-    writer = subst (IsWriter next) (sym segmenter) (subst (λ q. OnOk q (IsForDemux next t)) done still)
+    writer = subst (IsWriter next) (sym segmenter) still
 
     go : (z : Result (Unit {0}) JobFault) → OnOk z (IsWriter next n.segmenter)
     go (Ok value) = writer

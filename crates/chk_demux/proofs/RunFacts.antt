@@ -1,11 +1,11 @@
 -- What a demux run supposes of what the job knows, and what its end says, at a legal history.
 use Rattle.std.proofs.Common.{◌≡◌, ℕ, ◌+◌, ◌≤◌, List, [], ◌∷◌, ◌++◌, length, map, Option, Some, None, ap, ap₂, sym, subst, ◌∙◌, refl, arith}
-use Rattle.std.specs.Prelude.{Contains, IsTrue, codes, filter, flat_map}
+use Rattle.std.specs.Prelude.{Contains, codes, filter, flat_map}
 use Rattle.chk_site.specs.History.{History, files_after}
 use Rattle.chk_chunk.specs.Keys.{Stream, Chunk, is_of}
 use Rattle.chk_world.specs.Names.{ArchiveFolder, DemuxFolder, BookFile, SegmentFile}
 use Rattle.chk_world.specs.ArchiveRuns.{in_order}
-use Rattle.chk_world.specs.Books.{Segment, End, Book, ends_rise, book_in, book_of, chunks_in, values}
+use Rattle.chk_world.specs.Books.{Segment, End, Book, book_in, book_of, chunks_in, values}
 use Rattle.chk_world.specs.Jobs.{NewBook}
 use Rattle.chk_world.specs.Rules.{Legal}
 use Rattle.chk_world.specs.Sight.{Sight, sight, own_book, own_chunks}
@@ -19,16 +19,15 @@ use Rattle.chk_heads.specs.Heads.{Head}
 use Rattle.chk_heads.specs.Order.{in_head_order}
 use Rattle.chk_plan.proofs.Runs.{all_put}
 use Rattle.chk_merge.specs.Segments.{names_of}
-use Rattle.chk_parts.specs.Gathering.{AreSound, heads_of}
-use Rattle.chk_parts.specs.Records.{AreRecords}
+use Rattle.chk_parts.specs.Gathering.{heads_of}
 use Rattle.chk_book.specs.Segmenting.{with_segment}
 use Rattle.chk_book.specs.declared.segmenter.Segmenter.{Segmenter}
 use Rattle.chk_demux.specs.Demuxed.{all_named, NamesStamped, OneMore, HasKey, DemuxDone}
 use Rattle.chk_demux.specs.Beginning.{own_earlier}
 use Rattle.chk_demux.specs.Entering.{MayEnter, SameBeside, NamesMore, Entered}
-use Rattle.chk_demux.specs.Running.{IsReady}
-use Rattle.chk_demux.specs.Splitting.{RunsSo, SplitAll, split_from, stream_chunks, all_chunks, all_left}
-use Rattle.chk_demux.specs.Writes.{IsFree, HasSome, HoldsChunks, bytes_of}
+use Rattle.chk_demux.specs.Running.{IsReady, CanSplit, archive_heads}
+use Rattle.chk_demux.specs.Splitting.{RunsSo, split_from, stream_chunks, all_chunks, all_left}
+use Rattle.chk_demux.specs.Writes.{HasSome, HoldsChunks, bytes_of}
 use Rattle.chk_demux.specs.declared.report.DemuxReport.{DemuxReport}
 use Rattle.chk_demux.proofs.ChunksInOrder.{runs_in_order, all_run, same_chunks, same_left}
 use Rattle.chk_demux.proofs.NewKeys.{keys_found}
@@ -41,7 +40,7 @@ use Rattle.chk_demux.proofs.Started.{named_known}
 
 -- the new records, of these archived ones
 abbrev pub News : List (List ℕ) → Book → Book → Sight → List Chunk → List Chunk
-News types a b v cs = all_chunks types b (in_head_order (heads_of v 0 (names_of (codes "archive") a))) cs a.ends
+News types a b v cs = all_chunks types b (archive_heads v a) cs a.ends
 
 -- the report counts them
 pub record Counts (types : List (List ℕ)) (a b : Book) (v : Sight) (cs : List Chunk) (r : DemuxReport) : Type 0 where
@@ -51,11 +50,7 @@ pub record Counts (types : List (List ℕ)) (a b : Book) (v : Sight) (cs : List 
 
 pub record CanRun (stamped types : List (List ℕ)) (a b : Book) (v : Sight) : Type 0 where
   pub cs : List Chunk
-  pub sound : AreSound v (names_of (codes "archive") a)
-  pub records : AreRecords v (names_of (codes "archive") a) (in_head_order (heads_of v 0 (names_of (codes "archive") a))) cs
-  pub runs : SplitAll cs a.ends b
-  pub rises : IsTrue (ends_rise b.ends)
-  pub free : IsFree v b.next
+  pub can : CanSplit a b v cs
   pub book : own_book v DemuxFolder ≡ b
   pub may : MayEnter stamped v b (News types a b v cs)
   pub done : (h : History) → Legal stamped h → (s : Option Segmenter) → HasSome s (News types a b v cs)
@@ -200,11 +195,13 @@ module _ (stamped types : List (List ℕ)) (named : NamesStamped stamped types) 
   can_run_here : CanRun stamped types A D V
   can_run_here = record {
     cs = in_order Cs;
-    sound = archive_sound stamped history legal;
-    records = archive_records stamped history legal;
-    runs = all_run types D Heads Cs A.ends (archive_runs stamped history legal D);
-    rises = records_rise stamped types named history legal Heads;
-    free = records_free stamped history legal;
+    can = record {
+      sound = archive_sound stamped history legal;
+      records = archive_records stamped history legal;
+      runs = all_run types D Heads Cs A.ends (archive_runs stamped history legal D);
+      rises = records_rise stamped types named history legal Heads;
+      free = records_free stamped history legal;
+    };
     book = refl;
     may = subst (MayEnter stamped V D) (sym same_news) may_enter;
     done = λ h legal_then s some entered r counts.

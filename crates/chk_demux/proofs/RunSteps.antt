@@ -1,11 +1,11 @@
 -- What the parts of a demux run lead to, up to its end.
 use Rattle.std.proofs.Common.{◌≡◌, inl, inr, ℕ, false, List, [], Option, None, Ok, Err, Result, ap, sym, subst, ◌∙◌, refl}
-use Rattle.std.specs.Prelude.{codes, length, IsTrue, IfErr}
+use Rattle.std.specs.Prelude.{codes, length, IsTrue, IfOk, IfErr}
 use Rattle.chk_site.specs.Acts.{Deed}
 use Rattle.chk_site.specs.History.{History, Every, is_stopped}
 use Rattle.chk_site.specs.Site.{Adds}
 use Rattle.chk_site.specs.Runs.{Leads}
-use Rattle.chk_site.proofs.Leads.{leads_as, leads_then, leads_none}
+use Rattle.chk_site.proofs.Leads.{leads_as, leads_then}
 use Rattle.chk_chunk.specs.Keys.{Chunk}
 use Rattle.chk_world.specs.Names.{DemuxFolder, BookFile}
 use Rattle.chk_world.specs.Books.{Book, book_in, ends_rise}
@@ -26,7 +26,7 @@ use Rattle.chk_parts.specs.Records.{AreRecords}
 use Rattle.chk_parts.proofs.FromKnown.{from_known, reach, reach_known, with_fact}
 use Rattle.chk_demux.specs.Beginning.{HasBegun, HasBooks, Begins, starts as begins_it, only_reads as begins_reading}
 use Rattle.chk_demux.specs.Demuxed.{Earlier, Begun, Demuxed, DemuxesBy, starts, only_reads, writes_records, replaces_book, WritesBook, writes_segment, replaces}
-use Rattle.chk_demux.specs.Running.{IsReady, Ran, RunsOn, goes_reading, goes_writing, goes_replacing}
+use Rattle.chk_demux.specs.Running.{IsReady, Ran, RunsOn, CanSplit, archive_heads, Reports, goes_reading, goes_writing, goes_replacing}
 use Rattle.chk_demux.specs.Splitting.{all_chunks, all_left, SplitAll, StreamsRise}
 use Rattle.chk_demux.specs.Working.{Worked, Failed, EndsSo}
 use Rattle.chk_demux.specs.Writes.{IsFree, IsOutput, SoFar, HasSome, bytes_of}
@@ -34,7 +34,7 @@ use Rattle.chk_demux.specs.Entering.{MayEnter, Entered}
 use Rattle.chk_demux.specs.declared.beginning.Books.{Books}
 use Rattle.chk_demux.specs.declared.output.Output.{Output}
 use Rattle.chk_demux.specs.declared.report.DemuxReport.{DemuxReport}
-use Rattle.chk_demux.proofs.Ends.{at_as, ends_bottom, so_done}
+use Rattle.chk_demux.proofs.Ends.{at_as, ends_bottom, so_fails, so_done, no_more}
 use Rattle.chk_parts.proofs.Published.{replaces_no_start, quiet_replace}
 use Rattle.chk_demux.proofs.HeadsInOrder.{streams_rise}
 use Rattle.chk_demux.proofs.RunFacts.{CanRun, News}
@@ -53,15 +53,105 @@ quiet_enter : (k : ℕ) (call : Deed) → WritesBook k call → talks call ≡ f
 quiet_enter k call (writes_segment c p) = quiet_write _ c p
 quiet_enter k call (replaces c p) = quiet_replace (codes "demux") c p
 
+-- ---- the heads
+
+module _ (stamped : List (List ℕ)) (v : Sight) (next : ℕ) (names : List (List ℕ)) (q : Result (List Head) JobFault)
+    (only : IfErr q IsOfRead) {old mid : Option History}
+    (told : Adds old mid (Leads (As stamped job) (AtJob stamped (λ u. u ≡ v)) (Found stamped v names q))) where
+  abbrev IsFound : List Head → Sight → Type 0
+  IsFound heads u = (u ≡ v) × (heads ≡ heads_of v 0 names)
+
+  abbrev IsSorted : List Head → Sight → Type 0
+  IsSorted heads u = (u ≡ v) × (heads ≡ in_head_order (heads_of v 0 names))
+
+  found : Adds old mid (Leads (As stamped job) (AtJob stamped (λ u. u ≡ v)) (EndsSo stamped v next IsFound q))
+  found = leads_as (λ h z. z) (λ h z. go q only h z) told
+    where
+      go : (q : Result (List Head) JobFault) → IfErr q IsOfRead → (h : History) → Found stamped v names q h
+          → EndsSo stamped v next IsFound q h
+      go (Ok heads) read h z = z
+      go (Err (Outside call)) read h z = z
+      go (Err (Damaged name place)) read h z = z
+      go (Err (Spent n)) read h z = absurd read
+      go (Err NoMemory) read h z = z
+
+  pub not_found : (fault : JobFault) → q ≡ Err fault
+      → Adds old mid (Leads (As stamped job) (AtJob stamped (λ u. u ≡ v)) (EndsSo stamped v next IsSorted (Err fault)))
+  not_found fault is = so_fails stamped v next (AtJob stamped (λ u. u ≡ v)) IsFound IsSorted q fault is found
+
+  module _ (heads : List Head) (is : q ≡ Ok heads) where
+    pub not_sorted : Adds old mid (Leads (As stamped job) (AtJob stamped (λ u. u ≡ v)) (EndsSo stamped v next IsSorted (Err NoMemory)))
+    not_sorted =
+        no_more stamped v next (AtJob stamped (λ u. u ≡ v)) (IsFound heads) IsSorted
+        (so_done stamped v next (AtJob stamped (λ u. u ≡ v)) IsFound q heads is found)
+
+    pub all_sorted : (sorted : List Head) → sorted ≡ in_head_order heads
+        → Adds old mid (Leads (As stamped job) (AtJob stamped (λ u. u ≡ v)) (AtJob stamped (IsSorted sorted)))
+    all_sorted sorted order =
+        leads_as (λ h z. z)
+        (λ h z. at_as stamped (IsFound heads) (IsSorted sorted) (λ u p. (p.0, order ∙ ap in_head_order p.1)) h z)
+        (so_done stamped v next (AtJob stamped (λ u. u ≡ v)) IsFound q heads is found)
+
+-- ---- the split
+
+-- nothing is written at first
+pub nothing_put : (v : Sight) (o : Output) → o.taken ≡ 0 → o.entries ≡ 0 → o.segmenter ≡ None → IsOutput v [] o v
+nothing_put v o taken entries segmenter = record {
+  taken = taken;
+  entries = entries;
+  so_far = subst (λ s. SoFar v [] s v) (sym segmenter) (refl, refl);
+  some = subst (λ s. HasSome s []) (sym segmenter) tt;
+}
+
+module _ (stamped types : List (List ℕ)) (a b : Book) (v : Sight) (cs : List Chunk) (k : CanSplit a b v cs) (o n : Output)
+    (none : IsOutput v [] o v) (names : List (List ℕ)) (are : names ≡ names_of (codes "archive") a) where
+  abbrev SplitSo : ℕ → Sight → Type 0
+  SplitSo left u = IsOutput v (all_chunks types b (archive_heads v a) cs a.ends) n u × (left ≡ all_left types b cs a.ends)
+
+  abbrev W : List ℕ
+  W = segment_name (codes "demux") b.next
+
+  abbrev InOrder : List Head → Sight → Type 0
+  InOrder heads u = (u ≡ v) × (heads ≡ in_head_order (heads_of v 0 names))
+
+  pub sound_names : AreSound v names
+  sound_names = subst (AreSound v) (sym are) k.sound
+
+  module _ (r : Result (List Head) JobFault) {old mid : Option History}
+      (first : Adds old mid (Leads (As stamped job) (AtJob stamped (λ u. u ≡ v)) (EndsSo stamped v b.next InOrder r))) where
+    pub no_heads : (fault : JobFault) → r ≡ Err fault
+        → Adds old mid (Leads (As stamped job) (AtJob stamped (λ u. u ≡ v)) (EndsSo stamped v b.next SplitSo (Err fault)))
+    no_heads fault is = so_fails stamped v b.next (AtJob stamped (λ u. u ≡ v)) InOrder SplitSo r fault is first
+
+    pub split_so : (heads : List Head) → r ≡ Ok heads → (q : Result ℕ JobFault) {new : Option History}
+        → Adds mid new (Worked (ReadsOrWrites (segment_name (codes "demux") b.next)) q)
+        → (AreRecords v names heads cs → IsFree v b.next → SplitAll cs a.ends b
+        → StreamsRise heads → IsTrue (ends_rise b.ends) → Adds mid new (Leads (As stamped job) (AtJob stamped (IsOutput v [] o))
+        (EndsSo stamped v b.next (λ left u. IsOutput v (all_chunks types b heads cs a.ends) n u
+        × (left ≡ all_left types b cs a.ends)) q)))
+        → Adds old new (Leads (As stamped job) (AtJob stamped (λ u. u ≡ v)) (EndsSo stamped v b.next SplitSo q))
+    split_so heads is q {new} works told =
+        leads_then (so_done stamped v b.next (AtJob stamped (λ u. u ≡ v)) InOrder r heads is first)
+        (from_known stamped (ReadsOrWrites W) (reads_or_writes_start W) (quiet_reads_or_writes W) (InOrder heads)
+        (EndsSo stamped v b.next SplitSo q) (own_of (ReadsOrWrites W) q works)
+        (λ h z runs.
+        let sorted : heads ≡ archive_heads v a =
+        (z.alive runs).1 ∙ ap (λ ws. in_head_order (heads_of v 0 ws)) are in
+        reach stamped h (AtJob stamped (IsOutput v [] o)) (EndsSo stamped v b.next SplitSo q)
+        (subst (λ hs. Adds mid new (Leads (As stamped job) (AtJob stamped (IsOutput v [] o))
+        (EndsSo stamped v b.next (λ left u. IsOutput v (all_chunks types b hs cs a.ends) n u
+        × (left ≡ all_left types b cs a.ends)) q))) sorted
+        (told (subst (λ ws. AreRecords v ws heads cs) (sym are)
+        (subst (λ hs. AreRecords v (names_of (codes "archive") a) hs cs) (sym sorted) k.records)) k.free k.runs
+        (subst StreamsRise (sym sorted) (streams_rise (heads_of v 0 (names_of (codes "archive") a)))) k.rises))
+        (at_as stamped (InOrder heads) (IsOutput v [] o) (λ u p. subst (IsOutput v [] o) (sym p.0) none) h z))
+        (λ h z. ends_bottom stamped v b.next SplitSo q h z))
+
+-- ---- the run
+
 module _ (stamped types : List (List ℕ)) (a b : Book) (v : Sight) (k : CanRun stamped types a b v) where
   abbrev pub Start : History → Type 0
   Start = AtJob stamped (λ u. u ≡ v)
-
-  abbrev Files : List (List ℕ)
-  Files = names_of (codes "archive") a
-
-  abbrev Hs : List Head
-  Hs = in_head_order (heads_of v 0 Files)
 
   abbrev pub Outs : List Chunk
   Outs = News types a b v k.cs
@@ -81,105 +171,29 @@ module _ (stamped types : List (List ℕ)) (a b : Book) (v : Sight) (k : CanRun 
   }
   ran_refused NoMemory h f = f
 
-  -- ---- the names
-
-  pub not_named : (now : Option History) → Adds now now (Leads (As stamped job) Start (Ran stamped v (Err NoMemory)))
-  not_named now = leads_none now (λ h z. z.legal)
-
-  -- ---- the heads
-
-  module _ (names : List (List ℕ)) (are : names ≡ Files) (q : Result (List Head) JobFault) (only : IfErr q IsOfRead)
-      {old mid : Option History}
-      (told : AreSound v names → Adds old mid (Leads (As stamped job) Start (Found stamped v names q))) where
-    at_files : Adds old mid (Leads (As stamped job) Start (Found stamped v Files q))
-    at_files =
-        subst (λ ws. Adds old mid (Leads (As stamped job) Start (Found stamped v ws q))) are
-        (told (subst (AreSound v) (sym are) k.sound))
-
-    pub not_found : (fault : JobFault) → q ≡ Err fault
-        → Adds old mid (Leads (As stamped job) Start (Ran stamped v (Err fault)))
-    not_found fault is =
-        leads_as (λ h z. z)
-        (λ h z. go fault (subst (λ q. IfErr q IsOfRead) is only) h (subst (λ q. Found stamped v Files q h) is z)) at_files
-      where
-        go : (fault : JobFault) → IsOfRead fault → (h : History) → Found stamped v Files (Err fault) h
-            → Ran stamped v (Err fault) h
-        go (Outside call) read h z = z
-        go (Damaged name place) read h z = z
-        go (Spent n) read h z = absurd read
-        go NoMemory read h z = z
-
-    pub found : (heads sorted : List Head) → q ≡ Ok heads → sorted ≡ in_head_order heads
-        → Adds old mid (Leads (As stamped job) Start (AtJob stamped (λ u. (u ≡ v) × (sorted ≡ Hs))))
-    found heads sorted is order =
-        leads_as (λ h z. z)
-        (λ h z. at_as stamped (λ u. (u ≡ v) × (heads ≡ heads_of v 0 Files)) (λ u. (u ≡ v) × (sorted ≡ Hs))
-        (λ u p. (p.0, order ∙ ap in_head_order p.1)) h (subst (λ q. Found stamped v Files q h) is z)) at_files
-
-    pub not_sorted : (heads : List Head) → q ≡ Ok heads → Adds old mid (Leads (As stamped job) Start (Ran stamped v (Err NoMemory)))
-    not_sorted heads is = leads_as (λ h z. z) (λ h z. z.legal) (found heads (in_head_order heads) is refl)
-
-  -- ---- the split
-
-  module _ (names : List (List ℕ)) (are : names ≡ Files) (heads : List Head) (o n : Output) (taken : o.taken ≡ 0) (entries : o.entries ≡ 0)
-      (segmenter : o.segmenter ≡ None) (q : Result ℕ JobFault) {old mid new : Option History}
-      (first : Adds old mid (Leads (As stamped job) Start (AtJob stamped (λ u. (u ≡ v) × (heads ≡ Hs)))))
-      (works : Adds mid new (Worked (ReadsOrWrites (segment_name (codes "demux") b.next)) q))
-      (told : (cs : List Chunk) → AreRecords v names heads cs → IsFree v b.next → SplitAll cs a.ends b
-      → StreamsRise heads → IsTrue (ends_rise b.ends) → Adds mid new (Leads (As stamped job) (AtJob stamped (IsOutput v [] o))
-      (EndsSo stamped v b.next (λ left u. IsOutput v (all_chunks types b heads cs a.ends) n u
-      × (left ≡ all_left types b cs a.ends)) q))) where
-    abbrev W : List ℕ
-    W = segment_name (codes "demux") b.next
-
+  module _ (n : Output) (q : Result ℕ JobFault) {old new : Option History}
+      (split : Adds old new (Leads (As stamped job) Start (EndsSo stamped v b.next
+      (λ left u. IsOutput v Outs n u × (left ≡ all_left types b k.cs a.ends)) q))) where
     abbrev Split : ℕ → Sight → Type 0
     Split left u = IsOutput v Outs n u × (left ≡ all_left types b k.cs a.ends)
-
-    begins : (h : History) → AtJob stamped (λ u. (u ≡ v) × (heads ≡ Hs)) h → AtJob stamped (IsOutput v [] o) h
-    begins h z =
-        at_as stamped (λ u. (u ≡ v) × (heads ≡ Hs)) (IsOutput v [] o)
-        (λ u p. record {
-          taken = taken;
-          entries = entries;
-          so_far = subst (λ s. SoFar v [] s u) (sym segmenter) (refl, p.0);
-          some = subst (λ s. HasSome s []) (sym segmenter) tt;
-        }) h z
-
-    split_so : Adds old new (Leads (As stamped job) Start (EndsSo stamped v b.next Split q))
-    split_so =
-        leads_then first
-        (from_known stamped (ReadsOrWrites W) (reads_or_writes_start W) (quiet_reads_or_writes W)
-        (λ u. (u ≡ v) × (heads ≡ Hs)) (EndsSo stamped v b.next Split q)
-        (own_of (ReadsOrWrites W) q works)
-        (λ h z runs.
-        let is : heads ≡ Hs = (z.alive runs).1 in
-        reach stamped h (AtJob stamped (IsOutput v [] o)) (EndsSo stamped v b.next Split q)
-        (subst (λ hs. Adds mid new (Leads (As stamped job) (AtJob stamped (IsOutput v [] o))
-        (EndsSo stamped v b.next (λ left u. IsOutput v (all_chunks types b hs k.cs a.ends) n u
-        × (left ≡ all_left types b k.cs a.ends)) q))) is
-        (told k.cs (subst (λ ws. AreRecords v ws heads k.cs) (sym are)
-        (subst (λ hs. AreRecords v Files hs k.cs) (sym is) k.records)) k.free k.runs
-        (subst StreamsRise (sym is) (streams_rise (heads_of v 0 Files))) k.rises))
-        (begins h z))
-        (λ h z. ends_bottom stamped v b.next Split q h z))
 
     pub not_split : (fault : JobFault) → q ≡ Err fault
         → Adds old new (Leads (As stamped job) Start (Ran stamped v (Err fault)))
     not_split fault is =
         leads_as (λ h z. z)
-        (λ h z. ran_refused fault h (subst (λ q. EndsSo stamped v b.next Split q h) is z)) split_so
+        (λ h z. ran_refused fault h (subst (λ q. EndsSo stamped v b.next Split q h) is z)) split
 
     -- ---- the entry
 
-    module _ (left : ℕ) (done : q ≡ Ok left) (r : Result (Unit {0}) JobFault) {last : Option History}
+    module _ (left : ℕ) (done : q ≡ Ok left) (r : Result DemuxReport JobFault) {last : Option History}
         (enters : Adds new last (Worked (WritesBook b.next) r))
         (entered : (outs : List Chunk) → IsFree v b.next → MayEnter stamped v b outs
         → Adds new last (Leads (As stamped job) (AtJob stamped (SoFar v outs n.segmenter))
-        (EndsSo stamped v b.next (λ (t : Unit {0}) u. Entered v b outs n.segmenter u) r))) where
+        (EndsSo stamped v b.next (λ (t : DemuxReport) u. Entered v b outs n.segmenter u) r))) where
       abbrev Counted : Type 0
       Counted = HasSome n.segmenter Outs × (n.taken ≡ bytes_of Outs) × (n.entries ≡ length Outs) × (left ≡ all_left types b k.cs a.ends)
 
-      abbrev In : Unit {0} → Sight → Type 0
+      abbrev In : DemuxReport → Sight → Type 0
       In t u = Entered v b Outs n.segmenter u
 
       entered_so : Adds old last (Leads (As stamped job) Start
@@ -189,32 +203,25 @@ module _ (stamped types : List (List ℕ)) (a b : Book) (v : Sight) (k : CanRun 
           (leads_as (λ h z. z)
           (λ h z. at_as stamped (Split left) (λ u. SoFar v Outs n.segmenter u × Counted)
           (λ u p. (p.0.so_far, (p.0.some, p.0.taken, p.0.entries, p.1))) h z)
-          (so_done stamped v b.next Start Split q left done split_so))
+          (so_done stamped v b.next Start Split q left done split))
           (with_fact stamped (WritesBook b.next) (enters_start b.next) (quiet_enter b.next) Counted
           (SoFar v Outs n.segmenter) (EndsSo stamped v b.next In r) (own_of (WritesBook b.next) r enters)
-          (entered Outs k.free k.may))
+          (entered Outs k.can.free k.may))
 
-      pub not_entered : (fault : JobFault) → r ≡ Err fault
-          → Adds old last (Leads (As stamped job) Start (Ran stamped v (Err fault)))
-      not_entered fault is =
-          leads_as (λ h z. z)
-          (λ h z. ran_refused fault h (subst (λ r. EndsSo stamped v b.next In r h) is z.0)) entered_so
-
-      pub all_ran : (value : Unit {0}) → r ≡ Ok value → (report : DemuxReport) → report.taken ≡ n.taken
-          → report.entries ≡ n.entries → report.left ≡ left
-          → Adds old last (Leads (As stamped job) Start (Ran stamped v (Ok report)))
-      all_ran value is report taken_is entries_is left_is =
-          leads_as (λ h z. z)
-          (λ h z.
-          let at : AtJob stamped (In value) h = subst (λ r. EndsSo stamped v b.next In r h) is z.0 in
-          record {
+      pub all_ran : IfOk r (Reports n left) → Adds old last (Leads (As stamped job) Start (Ran stamped v r))
+      all_ran counts = leads_as (λ h z. z) (λ h z. go r counts h z.0 z.1) entered_so
+        where
+          go : (r : Result DemuxReport JobFault) → IfOk r (Reports n left) → (h : History) → EndsSo stamped v b.next In r h
+              → (is_stopped h ≡ false → Counted) → Ran stamped v r h
+          go (Err fault) counts h z counted = ran_refused fault h z
+          go (Ok report) counts h at counted = record {
             legal = at.legal;
             may_act = at.may_act;
             alive = λ runs.
-                let c = z.1 runs in
+                let c = counted runs in
                 k.done h at.legal n.segmenter c.0 (at.alive runs) report
-                (record { taken = taken_is ∙ c.1; entries = entries_is ∙ c.2; left = left_is ∙ c.3 });
-          }) entered_so
+                (record { taken = counts.0 ∙ c.1; entries = counts.1 ∙ c.2; left = counts.2 ∙ c.3 });
+          }
 
 -- ---- the calls
 

@@ -16,7 +16,7 @@ use chk_site::{Call, OutsideFault, Site, Who, done};
 use std::alloc::Global;
 
 /// The books of the two folders.
-#[derive(Debug, Drop)]
+#[derive(Drop)]
 pub(crate) struct Books {
     pub(crate) archive: Book,
     pub(crate) demux: Book,

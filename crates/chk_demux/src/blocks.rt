@@ -12,7 +12,7 @@ use chk_book::End;
 use chk_heads::Heads;
 
 /// Heads that stand together.
-#[derive(Clone, Copy, Debug)]
+#[derive(Clone, Copy)]
 pub(crate) struct Block {
     /// The place of the first one.
     pub first: usize,

@@ -87,6 +87,32 @@ fn open<S: Site>(
     }
 }
 
+/// Writes a record into the segment that is there, or into the next one of the book, begun.
+fn write_first<S: Site>(
+    alloc: Global,
+    site: &mut S,
+    who: &Who,
+    book: &Book,
+    segmenter: Option<Segmenter>,
+    chunk: &ChunkRef<'_>,
+) -> Result<Segmenter, JobFault>
+    requires job { who.now ≡ job }
+    requires writer { IsWriter (book_view book.now).next segmenter }
+    requires key { IsTrue (is_key (lent_chunk chunk.now).key) }
+    requires value { IsTrue (has_value record_limit (lent_chunk chunk.now).key (lent_chunk chunk.now).value) }
+    ensures told { (stamped : List (List ℕ)) (v : Sight) (outs : List Chunk) → IsFree v (book_view book.now).next
+        → Adds (S.told site.old) (S.told site.new)
+        (Leads (As stamped job) (AtJob stamped (SoFar v outs segmenter))
+        (EndsSo stamped v (book_view book.now).next (λ s u. IsSoFar v (outs ++ lent_chunk chunk.now ∷ []) s u) result)) }
+    ensures writer { IfOk result (λ s. IsForDemux (book_view book.now).next s) }
+    ensures works { Adds (S.told site.old) (S.told site.new) (Worked (WritesTo (segment_name (codes "demux") (book_view book.now).next)) result) }
+    ensures cause { JobCause (S.fault_count site.old) (S.fault_count site.new) result }
+{
+    let mut segmenter = open(alloc, site, who, book, segmenter)?;
+    segmenter.part(alloc, site, chunk)?;
+    Ok(segmenter)
+}
+
 /// Writes the first record; a segment that is there takes it too.
 fn put_first<S: Site>(
     alloc: Global,
@@ -108,8 +134,7 @@ fn put_first<S: Site>(
     ensures works { Adds (S.told site.old) (S.told site.new) (Worked (WritesTo (segment_name (codes "demux") (book_view book.now).next)) result) }
     ensures cause { JobCause (S.fault_count site.old) (S.fault_count site.new) result }
 {
-    let mut segmenter = open(alloc, site, who, book, output.segmenter.take())?;
-    segmenter.part(alloc, site, chunk)?;
+    let segmenter = write_first(alloc, site, who, book, output.segmenter.take(), chunk)?;
     output.segmenter = Some(segmenter);
     output.count(chunk.body.len())
 }

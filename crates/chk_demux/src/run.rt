@@ -1,29 +1,35 @@
 //! The demux run.
 
-ghost use Rattle.std.specs.Prelude.{◌≡◌, ℕ, List, IfOk, codes};
+ghost use Rattle.std.specs.Prelude.{◌≡◌, ℕ, List, [], IfOk, OnOk, codes};
 ghost use Rattle.chk_site.specs.History.{Every};
 ghost use Rattle.chk_site.specs.Site.{Adds};
 ghost use Rattle.chk_site.specs.Runs.{Leads};
+ghost use Rattle.chk_chunk.specs.Keys.{Chunk};
 ghost use Rattle.chk_world.specs.Places.{As};
 ghost use Rattle.chk_world.specs.Sight.{job, Sight, AtJob};
 ghost use Rattle.chk_world.specs.JobSteps.{IsOf};
 ghost use Rattle.chk_heads.specs.Faults.{JobCause, FailsLast};
+ghost use Rattle.chk_heads.specs.Order.{in_head_order};
 ghost use Rattle.chk_heads.specs.Pieces.{AsksInPieces};
+ghost use Rattle.chk_parts.specs.Gathering.{AreSound, heads_of};
 ghost use Rattle.chk_book.specs.Books.{book_view};
 ghost use Rattle.chk_book.specs.Folders.{segment_name};
 ghost use Rattle.chk_merge.specs.Segments.{names_of};
-ghost use Rattle.chk_demux.specs.Demuxed.{Earlier, Begun, Demuxed, DemuxesBy, NamesStamped};
-ghost use Rattle.chk_demux.specs.Working.{Worked};
-ghost use Rattle.chk_demux.specs.Running.{IsReady, Ran, RunsOn};
+ghost use Rattle.chk_demux.specs.Demuxed.{Earlier, Begun, Demuxed, DemuxesBy, NamesStamped, WritesBook};
+ghost use Rattle.chk_demux.specs.Entering.{MayEnter, Entered};
+ghost use Rattle.chk_demux.specs.Working.{Worked, EndsSo};
+ghost use Rattle.chk_demux.specs.Writes.{IsFree, IsWriter, IsOutput, SoFar};
+ghost use Rattle.chk_demux.specs.Splitting.{all_chunks, all_left};
+ghost use Rattle.chk_demux.specs.Running.{IsReady, Ran, RunsOn, CanSplit, archive_heads, Reports};
 
-use crate::beginning::{Books, begin};
+use crate::beginning::begin;
 use crate::output::Output;
 use crate::publishing::enter;
 use crate::report::DemuxReport;
 use crate::splitting::split_streams;
 use chk_book::Book;
 use chk_bytes::{NoMemory, Word};
-use chk_heads::JobFault;
+use chk_heads::{Heads, JobFault};
 use chk_parts::gather_found;
 use chk_site::{Site, Who};
 use std::alloc::Global;
@@ -47,49 +53,109 @@ fn segment_path(alloc: Global, number: u64) -> Result<Word, NoMemory>
     Word::new(alloc, text.as_bytes()).map_err(|_| NoMemory)
 }
 
+/// The heads of the records in these files, in order.
+fn heads_in_order<S: Site>(
+    alloc: Global,
+    site: &mut S,
+    who: &Who,
+    names: &[Word],
+) -> Result<Heads, JobFault>
+    requires { who.now ≡ job }
+    ensures told { (stamped : List (List ℕ)) (v : Sight) (next : ℕ) → AreSound v names.now
+        → Adds (S.told site.old) (S.told site.new)
+        (Leads (As stamped job) (AtJob stamped (λ u. u ≡ v))
+        (EndsSo stamped v next (λ heads u. (u ≡ v) × (heads ≡ in_head_order (heads_of v 0 names.now))) result)) }
+    ensures works { Adds (S.told site.old) (S.told site.new) (Worked RunsOn result) }
+    ensures cause { JobCause (S.fault_count site.old) (S.fault_count site.new) result }
+{
+    let mut heads = gather_found(alloc, site, who, names)?;
+    heads.sort(alloc)?;
+    Ok(heads)
+}
+
+/// Splits the archive from the last records on into the output, and says how many bytes are of no complete record.
+fn split_named<S: Site>(
+    alloc: Global,
+    site: &mut S,
+    who: &Who,
+    types: &[Word],
+    archive: &Book,
+    book: &Book,
+    output: &mut Output,
+) -> Result<u64, JobFault>
+    requires job { who.now ≡ job }
+    requires writer { IsWriter (book_view book.now).next output.old.segmenter }
+    ensures told { (stamped : List (List ℕ)) (v : Sight) (cs : List Chunk)
+        → CanSplit (book_view archive.now) (book_view book.now) v cs → IsOutput v [] output.old v
+        → Adds (S.told site.old) (S.told site.new)
+        (Leads (As stamped job) (AtJob stamped (λ u. u ≡ v))
+        (EndsSo stamped v (book_view book.now).next (λ left u. IsOutput v
+        (all_chunks types.now (book_view book.now) (archive_heads v (book_view archive.now)) cs (book_view archive.now).ends) output.new u
+        × (left ≡ all_left types.now (book_view book.now) cs (book_view archive.now).ends)) result)) }
+    ensures writer { OnOk result (IsWriter (book_view book.now).next output.new.segmenter) }
+    ensures works { Adds (S.told site.old) (S.told site.new) (Worked RunsOn result) }
+    ensures cause { JobCause (S.fault_count site.old) (S.fault_count site.new) result }
+{
+    let files = segment_names(alloc, archive)?;
+    let names = files.as_slice();
+    let heads = heads_in_order(alloc, site, who, names)?;
+    split_streams(
+        alloc, site, who, types, archive, book, output, names, &heads,
+    )
+}
+
+/// Publishes the book that has the output's segment, where there is one, and reports what was written.
+fn enter_output<S: Site>(
+    alloc: Global,
+    site: &mut S,
+    who: &Who,
+    book: &mut Book,
+    output: Output,
+    left: u64,
+) -> Result<DemuxReport, JobFault>
+    requires job { who.now ≡ job }
+    requires writer { IsWriter (book_view book.old).next output.segmenter }
+    ensures told { (stamped : List (List ℕ)) (v : Sight) (outs : List Chunk) → IsFree v (book_view book.old).next
+        → MayEnter stamped v (book_view book.old) outs → Adds (S.told site.old) (S.told site.new)
+        (Leads (As stamped job) (AtJob stamped (SoFar v outs output.segmenter))
+        (EndsSo stamped v (book_view book.old).next (λ t u. Entered v (book_view book.old) outs output.segmenter u) result)) }
+    ensures counts { IfOk result (λ report. Reports output left report) }
+    ensures works { Adds (S.told site.old) (S.told site.new) (Worked (WritesBook (book_view book.old).next) result) }
+    ensures cause { JobCause (S.fault_count site.old) (S.fault_count site.new) result }
+{
+    let Output {
+        segmenter,
+        taken,
+        entries,
+    } = output;
+    enter(alloc, site, who, book, segmenter)?;
+    Ok(DemuxReport {
+        taken,
+        entries,
+        left,
+    })
+}
+
 /// Splits the archive from the last records on, and publishes the book that has the new ones, where there are any.
 fn split_archive<S: Site>(
     alloc: Global,
     site: &mut S,
     who: &Who,
     types: &[Word],
-    books: Books,
+    archive: &Book,
+    book: &mut Book,
 ) -> Result<DemuxReport, JobFault>
     requires { who.now ≡ job }
     ensures told { (stamped : List (List ℕ)) (v : Sight) → NamesStamped stamped types.now
-        → IsReady stamped (book_view books.archive) (book_view books.demux) v
+        → IsReady stamped (book_view archive.now) (book_view book.old) v
         → Adds (S.told site.old) (S.told site.new)
         (Leads (As stamped job) (AtJob stamped (λ u. u ≡ v)) (Ran stamped v result)) }
     ensures works { Adds (S.told site.old) (S.told site.new) (Worked RunsOn result) }
     ensures cause { JobCause (S.fault_count site.old) (S.fault_count site.new) result }
 {
-    let Books { archive, mut demux } = books;
-    let files = segment_names(alloc, &archive)?;
-    let mut heads = gather_found(alloc, site, who, files.as_slice())?;
-    heads.sort(alloc)?;
     let mut output = Output::new();
-    let left = split_streams(
-        alloc,
-        site,
-        who,
-        types,
-        &archive,
-        &demux,
-        &mut output,
-        files.as_slice(),
-        &heads,
-    )?;
-    let Output {
-        segmenter,
-        taken,
-        entries,
-    } = output;
-    enter(alloc, site, who, &mut demux, segmenter)?;
-    Ok(DemuxReport {
-        taken,
-        entries,
-        left,
-    })
+    let left = split_named(alloc, site, who, types, archive, book, &mut output)?;
+    enter_output(alloc, site, who, book, output, left)
 }
 
 /// Runs the demux job once: splits each archived stream from its last record on, those of the named types by stamps and all others
@@ -119,6 +185,6 @@ pub fn demux<S: Site>(
     ensures last { Adds (S.told site.old) (S.told site.new) (FailsLast result) }
     ensures cause { JobCause (S.fault_count site.old) (S.fault_count site.new) result }
 {
-    let books = begin(alloc, site, who)?;
-    split_archive(alloc, site, who, types, books)
+    let mut books = begin(alloc, site, who)?;
+    split_archive(alloc, site, who, types, &books.archive, &mut books.demux)
 }

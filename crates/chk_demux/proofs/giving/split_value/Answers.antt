@@ -15,9 +15,9 @@ use Rattle.chk_demux.specs.Working.{Worked}
 use Rattle.chk_demux.specs.Writes.{IsOutput}
 use Rattle.chk_splitter.specs.Splitting.{Feeds}
 use Rattle.chk_demux.specs.Giving.{IsSplitting, chunks_of_fed, given_chunks, place_given}
-use Rattle.chk_demux.proofs.Ends.{so_fails, so_done, no_more}
+use Rattle.chk_demux.proofs.Ends.{so_fails, so_done, no_more, cause_behind}
 use Rattle.chk_demux.proofs.Feeding.{still_splits, value_on}
-use Rattle.chk_demux.proofs.Works.{works_none, works_then, works_result}
+use Rattle.chk_demux.proofs.Works.{works_none, works_then, works_end, works_result}
 use Rattle.chk_demux.proofs.giving.split_value.Goals as goal
 
 pub loop-at-init : goal.loop-at-init
@@ -122,3 +122,70 @@ returns-clause-told g c stamped v outs from t fed free s placed =
     (AtJob stamped (IsOutput v (outs ++ chunks_of_fed heads e from t (fed ++ x)) l.output))))
     (take_all l.at c.args.value.now c.loop-at-test.false)
     (l.invariant.so_far stamped v outs from t fed free s placed)
+
+pub returns-in_err-taken-clause-split : goal.returns-in_err-taken-clause-split
+returns-in_err-taken-clause-split g c t fed s =
+    let p = err_from_is_err_and c.from_residual.result c.from_residual.ensures.1 in
+    rw p.1 tt
+
+pub returns-in_err-taken-clause-writer : goal.returns-in_err-taken-clause-writer
+returns-in_err-taken-clause-writer g c =
+    let p = err_from_is_err_and c.from_residual.result c.from_residual.ensures.1 in
+    rw p.1 tt
+
+pub returns-in_err-taken-clause-works : goal.returns-in_err-taken-clause-works
+returns-in_err-taken-clause-works g c =
+    let p = err_from_is_err_and c.from_residual.result c.from_residual.ensures.1 in
+    rw (p.1, p.2)
+    (works_end (Unit {0}) (Unit {0})
+    (WritesTo (segment_name (codes "demux") (book_view c.args.book.now).next)) tt
+    c.loop-at.invariant.works)
+
+pub returns-in_err-taken-clause-cause : goal.returns-in_err-taken-clause-cause
+returns-in_err-taken-clause-cause g c =
+    let p = err_from_is_err_and c.from_residual.result c.from_residual.ensures.1 in
+    rw (p.1, p.2) c.loop-at.invariant.count
+
+pub returns-in_err-give-clause-split : goal.returns-in_err-give-clause-split
+returns-in_err-give-clause-split g c t fed s =
+    let p = err_from_is_err_and c.from_residual-in_err-give.result c.from_residual-in_err-give.ensures.1 in
+    rw p.1 tt
+
+pub returns-in_err-give-clause-writer : goal.returns-in_err-give-clause-writer
+returns-in_err-give-clause-writer g c =
+    let p = err_from_is_err_and c.from_residual-in_err-give.result c.from_residual-in_err-give.ensures.1 in
+    rw p.1 tt
+
+pub returns-in_err-give-clause-cause : goal.returns-in_err-give-clause-cause
+returns-in_err-give-clause-cause g c =
+    let p = err_from_is_err_and c.from_residual-in_err-give.result c.from_residual-in_err-give.ensures.1 in
+    rw (p.1, p.2)
+    (cause_behind (Unit {0}) c.give.result c.in_err-give.field-0.0 c.in_err-give.was
+    (g.S.Site.fault_count c.args.site.now) (g.S.Site.fault_count c.loop-at.site)
+    (g.S.Site.fault_count c.give.new.site) c.loop-at.invariant.count c.give.ensures.cause)
+
+pub returns-clause-split : goal.returns-clause-split
+returns-clause-split g c t fed s =
+    subst (λ x. IsSplitting t (fed ++ x) c.loop-at.splitter) (take_all c.loop-at.at c.args.value.now c.loop-at-test.false)
+    (c.loop-at.invariant.splits t fed s)
+
+pub returns-clause-writer : goal.returns-clause-writer
+returns-clause-writer g c = c.loop-at.invariant.writer
+
+pub returns-clause-works : goal.returns-clause-works
+returns-clause-works g c = c.loop-at.invariant.works
+
+pub returns-clause-cause : goal.returns-clause-cause
+returns-clause-cause g c = c.loop-at.invariant.count
+
+pub give-requires-clause-job : goal.give-requires-clause-job
+give-requires-clause-job g c = c.requires.job
+
+pub give-requires-clause-writer : goal.give-requires-clause-writer
+give-requires-clause-writer g c = c.loop-at.invariant.writer
+
+pub give-requires-clause-index : goal.give-requires-clause-index
+give-requires-clause-index g c = c.requires.index
+
+pub give-requires-clause-head : goal.give-requires-clause-head
+give-requires-clause-head g c = c.requires.head

@@ -9,7 +9,7 @@ use Rattle.chk_book.specs.Books.{book_view}
 use Rattle.chk_book.specs.Folders.{segment_name}
 use Rattle.chk_demux.specs.Writes.{SoFar, IsOutput, IsWriter}
 use Rattle.chk_demux.proofs.OneSegment.{put_so, writes_it}
-use Rattle.chk_demux.proofs.Outputs.{not_put, put_counted, counted_works}
+use Rattle.chk_demux.proofs.Outputs.{not_put, put_done, put_counted, counted_works}
 use Rattle.chk_demux.proofs.Works.{worked_writes, works_result}
 use Rattle.chk_demux.proofs.output.put.Goals as goal
 
@@ -54,13 +54,16 @@ returns-clause-told g c stamped v outs free =
     let s = c.in-Some.segmenter in
     let f = subst (IsWriter next) c.in-Some.is c.requires.writer in
     let own = writes_it next s f c.part.ensures.own in
-    put_counted stamped v next outs c.args.output.now (Ok s)
+    let chunk = lent_chunk c.args.chunk.now in
+    put_counted stamped v next outs c.args.output.now chunk c.part.new.self
+    (put_done stamped v next outs c.args.output.now (Ok s)
     (leads_none (g.S.Site.told c.args.site.now)
     (λ h k. subst (λ o. AtJob stamped (SoFar v outs o) h) c.in-Some.is k))
-    s c.part.new.self refl (lent_chunk c.args.chunk.now) c.part.result
-    (put_so stamped v next s c.part.new.self f.number free outs (lent_chunk c.args.chunk.now)
+    s c.part.new.self refl chunk c.part.result
+    (put_so stamped v next s c.part.new.self f.number free outs chunk
     c.part.result c.part.ensures.raw c.part.ensures.at own c.part.ensures.only)
-    c.in_ok-part.field-0 c.in_ok-part.was w own
+    c.in_ok-part.field-0 c.in_ok-part.was)
+    w own
     c.count.new.self c.count.result c.count.ensures.taken c.count.ensures.entries
     c.count.ensures.segmenter c.count.ensures.only
 

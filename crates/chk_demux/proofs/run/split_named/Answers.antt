@@ -1,0 +1,100 @@
+use Rattle.std.proofs.Common.{◌≡◌, ℕ, subst, refl, ◌∙◌}
+use Rattle.std.proofs.lemmas.Result.{err_from_is_err_and}
+use Rattle.chk_site.proofs.Leads.{leads_none}
+use Rattle.chk_heads.specs.Faults.{JobCause}
+use Rattle.chk_world.specs.Sight.{AtJob}
+use Rattle.chk_book.specs.Books.{book_view}
+use Rattle.chk_demux.specs.Running.{RunsOn, archive_heads}
+use Rattle.chk_demux.specs.Splitting.{all_chunks, all_left}
+use Rattle.chk_demux.specs.Writes.{IsOutput}
+use Rattle.chk_demux.proofs.Ends.{cause_behind, no_more}
+use Rattle.chk_demux.proofs.RunSteps.{sound_names, no_heads, split_so, splits}
+use Rattle.chk_demux.proofs.Works.{works_memory, works_result}
+use Rattle.chk_demux.proofs.run.split_named.Goals as goal
+
+pub returns-in_err-files-clause-told : goal.returns-in_err-files-clause-told
+returns-in_err-files-clause-told g c stamped v cs can none =
+    let q = err_from_is_err_and c.from_residual.result c.from_residual.ensures.1 in
+    let a = book_view c.args.archive.now in
+    let b = book_view c.args.book.now in
+    rw (q.1, q.2)
+    (no_more {U = ℕ} stamped v b.next (AtJob stamped (λ u. u ≡ v)) (λ u. u ≡ v)
+    (λ left u. IsOutput v (all_chunks c.args.types.now b (archive_heads v a) cs a.ends) c.args.output.now u
+    × (left ≡ all_left c.args.types.now b cs a.ends))
+    (leads_none (g.S.Site.told c.args.site.now) (λ h z. z)))
+
+pub returns-in_err-files-clause-writer : goal.returns-in_err-files-clause-writer
+returns-in_err-files-clause-writer g c =
+    let q = err_from_is_err_and c.from_residual.result c.from_residual.ensures.1 in
+    rw q.1 tt
+
+pub returns-in_err-files-clause-works : goal.returns-in_err-files-clause-works
+returns-in_err-files-clause-works g c =
+    let q = err_from_is_err_and c.from_residual.result c.from_residual.ensures.1 in
+    rw (q.1, q.2) (works_memory ℕ RunsOn (g.S.Site.told c.args.site.now))
+
+pub returns-in_err-files-clause-cause : goal.returns-in_err-files-clause-cause
+returns-in_err-files-clause-cause g c =
+    let q = err_from_is_err_and c.from_residual.result c.from_residual.ensures.1 in
+    rw (q.1, q.2) refl
+
+pub returns-in_err-heads-clause-told : goal.returns-in_err-heads-clause-told
+returns-in_err-heads-clause-told g c stamped v cs can none =
+    let q = err_from_is_err_and c.from_residual-in_err-heads.result c.from_residual-in_err-heads.ensures.1 in
+    let a = book_view c.args.archive.now in
+    let b = book_view c.args.book.now in
+    let o = c.args.output.now in
+    let names = c.as_slice-names.result.now in
+    let are = c.as_slice-names.ensures.value ∙ c.in_ok-files.ensures in
+    rw (q.1, q.2)
+    (no_heads stamped c.args.types.now a b v cs can o o none names are c.heads_in_order.result
+    (c.heads_in_order.ensures.told stamped v b.next
+    (sound_names stamped c.args.types.now a b v cs can o o none names are))
+    c.in_err-heads.field-0.0 c.in_err-heads.was)
+
+pub returns-in_err-heads-clause-writer : goal.returns-in_err-heads-clause-writer
+returns-in_err-heads-clause-writer g c =
+    let q = err_from_is_err_and c.from_residual-in_err-heads.result c.from_residual-in_err-heads.ensures.1 in
+    rw q.1 tt
+
+pub returns-in_err-heads-clause-works : goal.returns-in_err-heads-clause-works
+returns-in_err-heads-clause-works g c =
+    let q = err_from_is_err_and c.from_residual-in_err-heads.result c.from_residual-in_err-heads.ensures.1 in
+    rw (q.1, q.2)
+    (works_result ℕ RunsOn c.heads_in_order.result c.in_err-heads.field-0.0 c.in_err-heads.was
+    c.heads_in_order.ensures.works)
+
+pub returns-in_err-heads-clause-cause : goal.returns-in_err-heads-clause-cause
+returns-in_err-heads-clause-cause g c =
+    let q = err_from_is_err_and c.from_residual-in_err-heads.result c.from_residual-in_err-heads.ensures.1 in
+    let old = g.S.Site.fault_count c.args.site.now in
+    rw (q.1, q.2)
+    (cause_behind ℕ c.heads_in_order.result c.in_err-heads.field-0.0 c.in_err-heads.was old old
+    (g.S.Site.fault_count c.heads_in_order.new.site) refl c.heads_in_order.ensures.cause)
+
+pub returns-clause-told : goal.returns-clause-told
+returns-clause-told g c stamped v cs can none =
+    let a = book_view c.args.archive.now in
+    let b = book_view c.args.book.now in
+    let o = c.args.output.now in
+    let n = c.split_streams.new.output in
+    let names = c.as_slice-names.result.now in
+    let are = c.as_slice-names.ensures.value ∙ c.in_ok-files.ensures in
+    split_so stamped c.args.types.now a b v cs can o n none names are c.heads_in_order.result
+    (c.heads_in_order.ensures.told stamped v b.next
+    (sound_names stamped c.args.types.now a b v cs can o n none names are))
+    c.in_ok-heads.heads c.in_ok-heads.was c.split_streams.result c.split_streams.ensures.works
+    (c.split_streams.ensures.told stamped v cs)
+
+pub returns-clause-writer : goal.returns-clause-writer
+returns-clause-writer g c = c.split_streams.ensures.writer
+
+pub returns-clause-works : goal.returns-clause-works
+returns-clause-works g c =
+    splits (book_view c.args.book.now).next c.heads_in_order.result c.split_streams.result
+    c.heads_in_order.ensures.works c.split_streams.ensures.works
+
+pub returns-clause-cause : goal.returns-clause-cause
+returns-clause-cause g c =
+    subst (λ n. JobCause n (g.S.Site.fault_count c.split_streams.new.site) c.split_streams.result)
+    c.in_ok-heads.ensures.cause c.split_streams.ensures.cause
