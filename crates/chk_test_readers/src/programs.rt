@@ -236,17 +236,20 @@ open base 9223372036854775807 0 -
 step = shrank 9223372036854775807 4
 ";
 
-fn plays(alloc: Global, program: &str) -> Result<(), Fail> {
-    let (row, lines) = program.split_once('\n').ok_or("no name")?;
-    let row = String::from_str(alloc, row)?;
-    let mut scene = Scene::new(alloc, row, "base 0 0 -")?;
+fn named(alloc: Global, row: &str) -> Result<Scene, Fail> {
+    Scene::new(alloc, String::from_str(alloc, row)?, "base 0 0 -")
+}
+
+fn plays(alloc: Global, row: &str, lines: &str) -> Result<(), Fail> {
+    let mut scene = named(alloc, row)?;
     scene.follows(lines)
 }
 
 #[test]
 fn programs(rt: HostRuntime) -> Result<(), Fail> {
     for program in PROGRAMS.split("\n\n") {
-        plays(rt.alloc(), program)?;
+        let (row, lines) = program.split_once('\n').ok_or("no name")?;
+        plays(rt.alloc(), row, lines)?;
     }
     Ok(())
 }

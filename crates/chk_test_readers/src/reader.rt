@@ -51,11 +51,16 @@ fn all(alloc: Global, lines: bool, place: Place) -> Result<Reader, Fail> {
     Ok(Reader::All(reader))
 }
 
+// The number before the first gap of a text, and the rest behind it.
+pub fn numbered(text: &str) -> Result<(u64, &str), Fail> {
+    let (number, rest) = text.split_once(' ').ok_or("no gap")?;
+    Ok((number.parse().map_err(|_| "no number")?, rest))
+}
+
 fn place_in(alloc: Global, text: &str) -> Result<Place, Fail> {
-    let mut words = text.split(' ');
-    let offset = words.next().ok_or("no offset")?.parse()?;
-    let first = words.next().ok_or("no first")?.parse()?;
-    let after = suffix_in(alloc, words.next().ok_or("no suffix")?)?;
+    let (offset, rest) = numbered(text)?;
+    let (first, suffix) = numbered(rest)?;
+    let after = suffix_in(alloc, suffix)?;
     Ok(Place {
         after,
         first,

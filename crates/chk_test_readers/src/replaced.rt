@@ -1,7 +1,7 @@
 // The replacement of a checkpoint, failed and stopped at each of its calls.
 use chk_bytes::Word;
 use chk_checkpoint::{load_checkpoint, write_checkpoint};
-use chk_site::{Call, OutsideFault, Role, Script, Who};
+use chk_site::{Call, Other, OutsideFault, Role, Script, Who};
 use chk_site_mem::SiteMem;
 use chk_test_calls::{failing, left_of, quiet, stopping, written};
 use std::alloc::Global;
@@ -28,6 +28,28 @@ pub(crate) fn agent(alloc: Global, source: &str) -> Result<Who, Fail> {
     })
 }
 
+// A writer's act at the end of the others.
+fn push_act(
+    alloc: Global,
+    others: &mut Vec<Other>,
+    call: Call,
+    texts: &[&[u8]],
+) -> Result<(), Fail> {
+    Ok(others.push(written(alloc, call, texts)?)?)
+}
+
+// A file of these bytes comes, and is synced.
+fn push_file(
+    alloc: Global,
+    others: &mut Vec<Other>,
+    name: &[u8],
+    bytes: &[u8],
+) -> Result<(), Fail> {
+    push_act(alloc, others, Call::Create, &[name])?;
+    push_act(alloc, others, Call::Append, &[name, bytes])?;
+    push_act(alloc, others, Call::Sync, &[name])
+}
+
 /// The same script, with a file of these bytes, all of them on the disk.
 pub(crate) fn with_file(
     alloc: Global,
@@ -36,22 +58,19 @@ pub(crate) fn with_file(
     bytes: &[u8],
 ) -> Result<Script, Fail> {
     let mut script = script;
-    script
-        .others
-        .push(written(alloc, Call::Create, &[name.as_bytes()])?)?;
-    script
-        .others
-        .push(written(alloc, Call::Append, &[name.as_bytes(), bytes])?)?;
-    script
-        .others
-        .push(written(alloc, Call::Sync, &[name.as_bytes()])?)?;
+    push_file(alloc, &mut script.others, name.as_bytes(), bytes)?;
     Ok(script)
 }
 
-// The lines of the second agent are loaded, and written for the first.
-fn copied(alloc: Global, site: &mut SiteMem) -> Result<Result<(), OutsideFault>, Fail> {
-    let from = agent(alloc, "h2")?;
-    let to = agent(alloc, "h1")?;
+/// The lines of one agent are loaded, and written for another.
+pub(crate) fn copied(
+    alloc: Global,
+    site: &mut SiteMem,
+    from: &str,
+    to: &str,
+) -> Result<Result<(), OutsideFault>, Fail> {
+    let from = agent(alloc, from)?;
+    let to = agent(alloc, to)?;
     let check = load_checkpoint(alloc, site, &from).map_err(|_| "no checkpoint")?;
     Ok(write_checkpoint(alloc, site, &to, &check))
 }
@@ -67,54 +86,83 @@ fn holds(site: &SiteMem, wanted: &[u8]) -> bool {
         .is_some_and(|bytes| bytes == wanted)
 }
 
+/// How many lines are loaded for the first agent.
+pub(crate) fn count_of_lines(alloc: Global, site: &mut SiteMem) -> Result<usize, Fail> {
+    let who = agent(alloc, "h1")?;
+    match load_checkpoint(alloc, site, &who) {
+        Ok(check) => Ok(check.lines.as_slice().len()),
+        Err(_) => Err(Fail::from("no checkpoint")),
+    }
+}
+
 // After a restart the file is read, and a further replacement is done, of which nothing else is left.
 fn goes_on(alloc: Global, site: &mut SiteMem) -> Result<bool, Fail> {
     site.restart(quiet(alloc));
-    let who = agent(alloc, "h1")?;
-    let check = load_checkpoint(alloc, site, &who).map_err(|_| "no checkpoint")?;
-    let done = copied(alloc, site)?;
+    let lines = count_of_lines(alloc, site)?;
+    let done = copied(alloc, site, "h2", "h1")?;
     Ok(
-        check.lines.as_slice().len() == 1
+        lines == 1
             && done.is_ok()
             && holds(site, NEXT.as_slice())
             && site.file("agents/h1.check.tmp").is_none(),
     )
 }
 
+// The replacement ends so, and leaves these bytes; another one goes on.
+fn ends_in(
+    alloc: Global,
+    site: &mut SiteMem,
+    wanted: Result<(), OutsideFault>,
+    left: &[u8],
+) -> Result<bool, Fail> {
+    let done = copied(alloc, site, "h2", "h1")?;
+    Ok(done == wanted && holds(site, left) && goes_on(alloc, site)?)
+}
+
+fn ends(
+    alloc: Global,
+    script: Script,
+    wanted: Result<(), OutsideFault>,
+    left: &[u8],
+) -> Result<bool, Fail> {
+    let mut site = scene(alloc, script)?;
+    ends_in(alloc, &mut site, wanted, left)
+}
+
 #[test]
 fn checkpoint_is_replaced(rt: HostRuntime) -> Result<(), Fail> {
     let alloc = rt.alloc();
-    let mut site = scene(alloc, quiet(alloc))?;
-    assert!(rt; copied(alloc, &mut site)?.is_ok());
-    assert!(rt; holds(&site, NEXT.as_slice()));
-    assert!(rt; goes_on(alloc, &mut site)?);
+    assert!(rt; ends(alloc, quiet(alloc), Ok(()), NEXT.as_slice())?);
     Ok(())
+}
+
+// How many lines are loaded where there is no file.
+fn lines_of_no_file(alloc: Global) -> Result<usize, Fail> {
+    let mut site = SiteMem::new(alloc, quiet(alloc))?;
+    count_of_lines(alloc, &mut site)
 }
 
 #[test]
 fn no_file_is_no_lines(rt: HostRuntime) -> Result<(), Fail> {
-    let alloc = rt.alloc();
-    let mut site = SiteMem::new(alloc, quiet(alloc))?;
-    let who = agent(alloc, "h1")?;
-    let check = load_checkpoint(alloc, &mut site, &who).map_err(|_| "no checkpoint")?;
-    assert!(rt; check.lines.as_slice().is_empty());
+    let lines = lines_of_no_file(rt.alloc())?;
+    assert!(rt; lines == 0);
     Ok(())
 }
 
 // The replacement ends at this call, and leaves these bytes; another one goes on.
 fn ends_at(alloc: Global, script: Script, call: Call, left: &[u8]) -> Result<bool, Fail> {
-    let mut site = scene(alloc, script)?;
-    let done = copied(alloc, &mut site)?;
-    let ended = done == Err(OutsideFault::Outside { call });
-    Ok(ended && holds(&site, left) && goes_on(alloc, &mut site)?)
+    ends(alloc, script, Err(OutsideFault::Outside { call }), left)
+}
+
+fn fails_at(alloc: Global, at: u64, call: Call) -> Result<bool, Fail> {
+    ends_at(alloc, failing(alloc, at)?, call, OLD.as_slice())
 }
 
 #[test]
 fn replacement_fails_at_each_call(rt: HostRuntime) -> Result<(), Fail> {
     let alloc = rt.alloc();
     for (at, call) in CALLS {
-        let script = failing(alloc, at)?;
-        assert!(rt; ends_at(alloc, script, call, OLD.as_slice())?, "{call:?}");
+        assert!(rt; fails_at(alloc, at, call)?, "{call:?}");
     }
     Ok(())
 }

@@ -1,7 +1,8 @@
 // A log that writers change, and a reader of it.
-use crate::reader::{Reader, reader_of, step_text, word};
+use crate::reader::{Reader, reader_of, step_text};
+use crate::replaced::agent;
 use crate::writing::Writing;
-use chk_site::{OutsideFault, Role, Who};
+use chk_site::{OutsideFault, Who};
 use chk_site_mem::SiteMem;
 use chk_tail::Step;
 use chk_test_calls::quiet;
@@ -19,18 +20,23 @@ pub struct Scene {
     pub writing: Writing,
 }
 
+// An empty site, and the reader's agent.
+fn outside(alloc: Global) -> Result<(SiteMem, Who), Fail> {
+    let site = SiteMem::new(alloc, quiet(alloc))?;
+    Ok((site, agent(alloc, "h1")?))
+}
+
 impl Scene {
     // The log isn't there yet.
     pub fn new(alloc: Global, row: String, text: &str) -> Result<Scene, Fail> {
+        let reader = reader_of(alloc, text)?;
+        let (site, who) = outside(alloc)?;
         Ok(Scene {
             alloc,
             row,
-            site: SiteMem::new(alloc, quiet(alloc))?,
-            who: Who {
-                role: Role::Agent,
-                name: word(alloc, "h1")?,
-            },
-            reader: reader_of(alloc, text)?,
+            site,
+            who,
+            reader,
             writing: Writing::new(alloc),
         })
     }

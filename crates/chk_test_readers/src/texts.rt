@@ -1,8 +1,9 @@
 //! Texts of checkpoints: read whole and written so, or damaged at a byte.
 
-use crate::replaced::{agent, with_file};
+use crate::reader::numbered;
+use crate::replaced::{agent, copied, count_of_lines, with_file};
 use chk_bytes::Bytes;
-use chk_checkpoint::{CheckFault, MOST_LINES, load_checkpoint, write_checkpoint};
+use chk_checkpoint::{CheckFault, MOST_LINES, load_checkpoint};
 use chk_site_mem::SiteMem;
 use chk_test_calls::quiet;
 use std::alloc::Global;
@@ -43,12 +44,6 @@ const DAMAGED: &str = "\
 20 chukwa-checkpoint 1||add x = LWFTAdaptor Log /a 6 0 -|
 ";
 
-// The number before the first gap of a row, and the rest behind it.
-fn numbered(row: &str) -> Result<(usize, &str), Fail> {
-    let (number, rest) = row.split_once(' ').ok_or("no gap")?;
-    Ok((number.parse().map_err(|_| "no number")?, rest))
-}
-
 fn bytes_of(alloc: Global, text: &str) -> Result<Bytes, Fail> {
     let mut bytes = Bytes::new(alloc);
     for byte in text.bytes() {
@@ -68,35 +63,56 @@ fn site_with(alloc: Global, text: &[u8]) -> Result<SiteMem, Fail> {
     Ok(SiteMem::new(alloc, script)?)
 }
 
-// The text is read as so many lines, and these are written as the same text for another agent.
-fn is_whole(alloc: Global, text: &[u8], lines: usize) -> Result<bool, Fail> {
-    let mut site = site_with(alloc, text)?;
-    let (from, to) = (agent(alloc, "h1")?, agent(alloc, "h2")?);
-    let check = load_checkpoint(alloc, &mut site, &from).map_err(|_| "no checkpoint")?;
-    write_checkpoint(alloc, &mut site, &to, &check).map_err(|_| "not written")?;
-    let written = site.file("agents/h2.check");
-    Ok(check.lines.as_slice().len() == lines && written.is_some_and(|bytes| bytes == text))
+// So many lines are read, and written for another agent.
+fn is_copied(alloc: Global, site: &mut SiteMem, lines: u64) -> Result<bool, Fail> {
+    let count = count_of_lines(alloc, site)?;
+    let done = copied(alloc, site, "h1", "h2")?;
+    Ok(done.is_ok() && count as u64 == lines)
 }
 
-fn is_damaged_at(alloc: Global, text: &[u8], wanted: usize) -> Result<bool, Fail> {
+// The text is read as so many lines, and these are written as the same text for another agent.
+fn is_whole(alloc: Global, text: &[u8], lines: u64) -> Result<bool, Fail> {
     let mut site = site_with(alloc, text)?;
-    match load_checkpoint(alloc, &mut site, &agent(alloc, "h1")?) {
-        Err(CheckFault::Damaged { at }) => Ok(at == wanted as u64),
+    let is_so = is_copied(alloc, &mut site, lines)?;
+    Ok(is_so && site.file("agents/h2.check") == Some(text))
+}
+
+// The fault of the first agent's checkpoint is one at this byte.
+fn tells_byte(alloc: Global, site: &mut SiteMem, wanted: u64) -> Result<bool, Fail> {
+    let who = agent(alloc, "h1")?;
+    match load_checkpoint(alloc, site, &who) {
+        Err(CheckFault::Damaged { at }) => Ok(at == wanted),
         _ => Ok(false),
     }
+}
+
+fn is_damaged_at(alloc: Global, text: &[u8], wanted: u64) -> Result<bool, Fail> {
+    let mut site = site_with(alloc, text)?;
+    tells_byte(alloc, &mut site, wanted)
+}
+
+// Whether the text of a row of whole ones has its size and is whole.
+fn is_whole_row(alloc: Global, row: &str) -> Result<bool, Fail> {
+    let (size, rest) = numbered(row)?;
+    let (lines, spelled) = numbered(rest)?;
+    let text = bytes_of(alloc, spelled)?;
+    Ok(text.len() as u64 == size && is_whole(alloc, text.as_slice(), lines)?)
 }
 
 #[test]
 fn texts_are_read_and_written(rt: HostRuntime) -> Result<(), Fail> {
     let alloc = rt.alloc();
     for row in WHOLE.lines() {
-        let (size, rest) = numbered(row)?;
-        let (lines, spelled) = numbered(rest)?;
-        let text = bytes_of(alloc, spelled)?;
-        assert!(rt; text.len() == size, "{row}");
-        assert!(rt; is_whole(alloc, text.as_slice(), lines)?, "{row}");
+        assert!(rt; is_whole_row(alloc, row)?, "{row}");
     }
     Ok(())
+}
+
+// Whether the text of a row of damaged ones is damaged where the row says.
+fn is_damaged_row(alloc: Global, row: &str) -> Result<bool, Fail> {
+    let (at, spelled) = numbered(row)?;
+    let text = bytes_of(alloc, spelled)?;
+    is_damaged_at(alloc, text.as_slice(), at)
 }
 
 #[test]
@@ -104,9 +120,7 @@ fn first_bad_line_is_told(rt: HostRuntime) -> Result<(), Fail> {
     let alloc = rt.alloc();
     assert!(rt; is_damaged_at(alloc, b"", 0)?, "no byte");
     for row in DAMAGED.lines() {
-        let (at, spelled) = numbered(row)?;
-        let text = bytes_of(alloc, spelled)?;
-        assert!(rt; is_damaged_at(alloc, text.as_slice(), at)?, "{row}");
+        assert!(rt; is_damaged_row(alloc, row)?, "{row}");
     }
     Ok(())
 }
@@ -121,12 +135,24 @@ fn many(alloc: Global, count: usize) -> Result<Bytes, Fail> {
     Ok(text)
 }
 
+// Whether the most lines are read and written, and the size of their text.
+fn read_most(alloc: Global) -> Result<(bool, u64), Fail> {
+    let all = many(alloc, MOST_LINES)?;
+    let is_read = is_whole(alloc, all.as_slice(), MOST_LINES as u64)?;
+    Ok((is_read, all.len() as u64))
+}
+
+// The text of a line more is damaged at this byte.
+fn is_one_too_many(alloc: Global, at: u64) -> Result<bool, Fail> {
+    let more = many(alloc, MOST_LINES + 1)?;
+    is_damaged_at(alloc, more.as_slice(), at)
+}
+
 #[test]
 fn ten_thousand_lines_are_most(rt: HostRuntime) -> Result<(), Fail> {
     let alloc = rt.alloc();
-    let all = many(alloc, MOST_LINES)?;
-    assert!(rt; is_whole(alloc, all.as_slice(), MOST_LINES)?);
-    let more = many(alloc, MOST_LINES + 1)?;
-    assert!(rt; is_damaged_at(alloc, more.as_slice(), all.len())?);
+    let (is_read, size) = read_most(alloc)?;
+    assert!(rt; is_read, "the most lines");
+    assert!(rt; is_one_too_many(alloc, size)?, "a line more");
     Ok(())
 }
