@@ -44,27 +44,15 @@ fn copies(alloc: Global, files: &[Named<MemFile>]) -> Result<Files, NoMemory>
 {
     let mut copies = Vec::new(alloc);
     for entry in files {
-        copies.push(entry_copy(entry)?)?;
+        copies.push(Named {
+            name: entry.name.copy()?,
+            value: MemFile {
+                bytes: entry.value.bytes.copy()?,
+                loose: entry.value.loose,
+            },
+        })?;
     }
     Ok(copies)
-}
-
-fn entry_copy(entry: &Named<MemFile>) -> Result<Named<MemFile>, NoMemory>
-    ensures { IfOk result (λ copy. copy ≡ entry.now) }
-{
-    Ok(Named {
-        name: entry.name.copy()?,
-        value: file_copy(&entry.value)?,
-    })
-}
-
-fn file_copy(file: &MemFile) -> Result<MemFile, NoMemory>
-    ensures { IfOk result (λ copy. copy ≡ file.now) }
-{
-    Ok(MemFile {
-        bytes: file.bytes.copy()?,
-        loose: file.loose,
-    })
 }
 
 // The bytes that a stopped append was about to write to this file.
