@@ -1,7 +1,7 @@
 -- One act more is one step more.
-use Rattle.std.proofs.Common.{◌≡◌, ℕ, ◌+◌, ◌<◌, ◌^◌, Bool, true, false, List, [], ◌∷◌, ◌++◌, length, map, Option, Some, None, Result, Ok, refl, sym, ◌∙◌, ap, subst, arith}
+use Rattle.std.proofs.Common.{◌≡◌, ℕ, ◌+◌, ◌<◌, ◌^◌, Bool, true, false, List, [], ◌∷◌, ◌++◌, length, map, Option, Some, None, refl, sym, ◌∙◌, ap, subst, arith}
 use Rattle.std.proofs.lemmas.Bool.Decides.{nat_tests}
-use Rattle.std.specs.Prelude.{◌==◌, if◌then◌else◌, option_map, bytes_eq, is_ok}
+use Rattle.std.specs.Prelude.{◌==◌, if◌then◌else◌, option_map, bytes_eq}
 use Rattle.std.proofs.lemmas.List.{length_push, length-map}
 use Rattle.chk_site.specs.declared.acts.Act.{Act}
 use Rattle.chk_site.specs.declared.acts.Who.{Who}
@@ -182,11 +182,6 @@ sound_in (e ∷ files) name = by (bytes_eq name e.name) (sound_in files name)
 -- the files that are told are sound
 pub sound_kept : (files : List (Named MemFile)) (told : Files) → Stores files told → (name : List ℕ) → IsSound (told name)
 sound_kept files told stores name = subst IsSound (stores.at name) (sound_in files name)
-
--- what a push with room leaves
-pub pushed_one : {T E : Type 0} (result : Result (Unit {0}) E) (new old start : List T) (one : T)
-    → new ≡ (if is_ok result then old ++ one ∷ [] else old) → result ≡ Ok tt → old ≡ start → new ≡ start ++ one ∷ []
-pushed_one result new old start one is ok same = rw (is, ok, same) refl
 
 -- there is as much room in the same files and logs
 pub room_same : (call : Deed) (files files' : Files) (logs logs' : Logs) → ((name : List ℕ) → files name ≡ files' name)

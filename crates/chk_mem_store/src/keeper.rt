@@ -1,6 +1,7 @@
 // The acts that a site in memory keeps, and the files and logs that follow from them.
-ghost use Rattle.std.specs.Prelude.{◌≡◌, ◌≢◌, map, option_map, false, true, None, OnOk, OnErr, IfOk, IfSome, if◌then◌else◌};
+ghost use Rattle.std.specs.Prelude.{◌≡◌, ◌≢◌, ◌<◌, [], ◌∷◌, ◌++◌, vec_len, map, option_map, false, true, None, OnOk, OnErr, IfOk, IfSome, if◌then◌else◌};
 ghost use Rattle.std.specs.Bool.{OnTrue};
+ghost use Rattle.std.specs.Vec.{vec_capacity};
 ghost use Rattle.chk_site.specs.Acts.{deed, is_stop};
 ghost use Rattle.chk_site.specs.Honest.{FreshNumber, IsListing};
 ghost use Rattle.chk_site.specs.Messages.{taken};
@@ -8,6 +9,7 @@ ghost use Rattle.chk_site.specs.History.{Modelled, files_after, logs_after, is_s
 ghost use Rattle.chk_mem_store.specs.Told.{kept_as, told_of, step_of, fitted, acts_of, is_allowed};
 ghost use Rattle.chk_mem_store.specs.Going.{GoesOn};
 ghost use Rattle.chk_mem_store.specs.Numbers.{last_message, last_taking};
+ghost use Rattle.chk_mem_store.specs.Repeating.{repeating_of};
 ghost use Rattle.chk_mem_store.specs.State.{after, anew, at_first, own_wait};
 ghost use Rattle.chk_mem_store.specs.Reads.{text_at};
 ghost use Rattle.chk_mem_store.specs.Stored.{file_at, log_at};
@@ -156,18 +158,24 @@ impl Keeper {
         if !has_room(&self.files, &self.logs, &act) {
             return Err(NoMemory);
         }
-        self.past.reserve(1)?;
-        self.mine.reserve(1)?;
-        self.repeats.reserve()?;
+        self.add(alloc, own, act)?;
+        Ok(true)
+    }
+
+    // The act happens, a stop's tails cut to what the file model allows, or without memory nothing does.
+    fn add(&mut self, alloc: Global, own: bool, act: Act) -> Result<(), NoMemory>
+        ensures added { OnOk result (self.new ≡ after (kept_as own (fitted (files_after (told_of self.old.kept)) act)) self.old) }
+        ensures err { OnErr result (self.new ≡ self.old) }
+    {
+        reserve(&mut self.past, &mut self.mine, &mut self.repeats)?;
         let act = leave(alloc, &mut self.files, &mut self.logs, act)?;
         self.stopped = stopped_after(own, &act.answer, self.stopped);
         self.messages = last_message(&act, self.messages);
         self.takings = last_taking(&act, self.takings);
         self.clock = self.clock.saturating_add(own_wait(own, &act));
         self.repeats.note(own, &act);
-        self.past.push(act).unwrap();
-        self.mine.push(own).unwrap();
-        Ok(true)
+        push(&mut self.past, &mut self.mine, own, act);
+        Ok(())
     }
 
     /// The act happens as the site's own.
@@ -191,6 +199,31 @@ impl Keeper {
         self.stopped = false;
         self.repeats.restart(again);
     }
+}
+
+// There is room for one act more, its mark and its number.
+fn reserve(past: &mut Vec<Act>, mine: &mut Vec<bool>, repeats: &mut Repeats) -> Result<(), NoMemory>
+    ensures past { OnOk result (vec_len past.new < vec_capacity past.new) }
+    ensures mine { OnOk result (vec_len mine.new < vec_capacity mine.new) }
+    ensures numbers { OnOk result (vec_len repeats.new.numbers < vec_capacity repeats.new.numbers) }
+    ensures same_past { past.new.items ≡ past.old.items }
+    ensures same_mine { mine.new.items ≡ mine.old.items }
+    ensures same_repeats { repeating_of repeats.new ≡ repeating_of repeats.old }
+{
+    past.reserve(1)?;
+    mine.reserve(1)?;
+    repeats.reserve()
+}
+
+// The act and its mark stand last. There is room for them.
+fn push(past: &mut Vec<Act>, mine: &mut Vec<bool>, own: bool, act: Act)
+    requires past { vec_len past.old < vec_capacity past.old }
+    requires mine { vec_len mine.old < vec_capacity mine.old }
+    ensures past { past.new.items ≡ past.old.items ++ act ∷ [] }
+    ensures mine { mine.new.items ≡ mine.old.items ++ own ∷ [] }
+{
+    past.push(act).unwrap();
+    mine.push(own).unwrap();
 }
 
 // How long an own act waited: a pause, or a taking that gave nothing.

@@ -7,15 +7,15 @@ use Rattle.chk_site.specs.declared.acts.CallFault.{CallFault}
 use Rattle.chk_site.specs.declared.acts.CallFault.TheVariants.{Failed, Missing, Exists, Short, NoMemory}
 use Rattle.chk_site.specs.declared.acts.ActAnswer.{ActAnswer}
 use Rattle.chk_site.specs.declared.acts.ActAnswer.TheVariants.{Refused, Stopped}
-use Rattle.chk_site.specs.Acts.{Deed, ReadsLog, AsksNewest, GrowsLog, Creates, Appends, Syncs, Renames, Removes, Cuts, AsksSize, Reads, Lists, Sends, Gets, Takes, TakesMore, deed_by}
+use Rattle.chk_site.specs.Acts.{Deed, ReadsLog, AsksNewest, GrowsLog, Creates, Appends, Syncs, Renames, Removes, Cuts, AsksSize, Reads, Lists, Sends, Gets, Takes, TakesMore, deed, deed_by}
 use Rattle.chk_site.specs.declared.acts.Who.{Who}
 use Rattle.chk_site.specs.History.{Step, History, Every, IsTheirs, Modelled, is_stopped}
 use Rattle.chk_site.specs.Honest.{Honest, Agrees}
-use Rattle.chk_site.specs.Site.{Adds, Asked, own_step, answered, Acted, Added, Calls, CallsSome}
+use Rattle.chk_site.specs.Site.{Adds, Asked, own_step, answered, Acted, Added, Calls, CallsSome, CauseOf}
 use Rattle.chk_mem_calls.specs.declared.plan.Planned.{Planned}
 use Rattle.chk_mem_store.specs.State.{State}
 use Rattle.chk_mem_store.specs.Told.{told_of, with_answer}
-use Rattle.chk_mem_calls.specs.Plans.{Plans, act_of, planned_as}
+use Rattle.chk_mem_calls.specs.Plans.{LosesNothing, Plans, act_of, planned_as}
 use Rattle.chk_mem_store.specs.Going.{TheirsSince, GoesOn}
 use Rattle.chk_site_mem.specs.Begun.{Becomes, Begins}
 use Rattle.chk_site.proofs.Runs.{adds_as}
@@ -190,3 +190,42 @@ some_number q result n adds = adds_as (CallsSome q result) adds (λ added histor
 -- what others do stops no own act
 pub runs_on : (start now : History) → TheirsSince start now → is_stopped start ≡ false → is_stopped now ≡ false
 runs_on start now since running = ap is_stopped since.goes_on ∙ theirs_run since.added start since.theirs running
+
+-- why a call failed that had raised no count before
+pub cause_since : (V : Type 0) (start before now : ℕ) (fault : CallFault) → before ≡ start
+    → CauseOf {T = V} before now (Err fault) → CauseOf {T = V} start now (Err fault)
+cause_since V start before now fault same cause = subst (λ (n : ℕ). CauseOf {T = V} n now (Err fault)) same cause
+
+-- a call that gives what was planned raises no count
+pub cause_made : {T : Type 0} (q : Asked) (how : T → ActAnswer) (act : Act) (gives : Result T CallFault) (s : State) (before now : ℕ)
+    → Plans q how s (planned_as act gives) → now ≡ before → CauseOf before now gives
+cause_made q how act (Ok value) s before now plans same = same
+cause_made q how act (Err Failed) s before now plans same = absurd plans.answers
+cause_made q how act (Err NoMemory) s before now plans same = absurd plans.answers
+cause_made q how act (Err Missing) s before now plans same = same
+cause_made q how act (Err Exists) s before now plans same = same
+cause_made q how act (Err (Short size)) s before now plans same = same
+
+-- a call that didn't begin failed, or had no memory
+pub may_unbegun : {T : Type 0} (V : Type 0) (may : Result T CallFault → Type 0) (fault : CallFault) (start now : History)
+    → may (Err Failed) → may (Err NoMemory) → Begins {T = V} (Err fault) start now → may (Err fault)
+may_unbegun V may Failed start now fail want begins = fail
+may_unbegun V may NoMemory start now fail want begins = want
+may_unbegun V may Missing start now fail want begins = absurd begins
+may_unbegun V may Exists start now fail want begins = absurd begins
+may_unbegun V may (Short size) start now fail want begins = absurd begins
+
+-- a call whose act wasn't made failed, or had no memory
+pub may_unmade : {T : Type 0} (V : Type 0) (may : Result T CallFault → Type 0) (act : Act) (fault : CallFault) (before now : History)
+    → may (Err Failed) → may (Err NoMemory) → Becomes {T = V} act (Err fault) before now → may (Err fault)
+may_unmade V may act Failed before now fail want becomes = fail
+may_unmade V may act NoMemory before now fail want becomes = want
+may_unmade V may act Missing before now fail want becomes = absurd becomes
+may_unmade V may act Exists before now fail want becomes = absurd becomes
+may_unmade V may act (Short size) before now fail want becomes = absurd becomes
+
+-- what was planned loses nothing
+pub plan_loses : {T : Type 0} (q : Asked) (how : T → ActAnswer) (s : State) (planned : Planned T) → Plans q how s planned
+    → LosesNothing s.repeats.numbers (told_of s.kept) planned.act.who (deed planned.act) planned.act.answer
+plan_loses q how s planned plans =
+    subst (λ (a : Act). LosesNothing s.repeats.numbers (told_of s.kept) a.who (deed a) planned.act.answer) (sym plans.act_is) plans.loses

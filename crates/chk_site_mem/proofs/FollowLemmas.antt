@@ -15,6 +15,7 @@ use Rattle.chk_mem_calls.specs.declared.plan.Planned.{Planned}
 use Rattle.chk_mem_calls.specs.Plans.{LosesNothing, Plans, planned_as}
 use Rattle.chk_site_mem.specs.declared.fate.Fate.{Fate}
 use Rattle.chk_site_mem.specs.declared.fate.Fate.TheVariants.{Goes, Fails, Stops}
+use Rattle.chk_site_mem.proofs.CallLemmas.{plan_loses}
 use Rattle.chk_site_mem.specs.Memory.{Memory, BeginsBy, Follows, IsFated, MadeBy, Ran, RunsBy, Unmade, fate_of, faulted, first_due, happened, later, made, next_call, ready, with_theirs, without_due}
 
 -- where the first is due, it happens and the others go on
@@ -93,14 +94,13 @@ follows_unmade T m new running is =
     }))
 
 -- what was planned loses nothing
-plan_loses : {T : Type 0} (q : Asked) (how : T → ActAnswer) (m now : Memory) (planned : Planned T) → now ≡ ready m
+ready_loses : {T : Type 0} (q : Asked) (how : T → ActAnswer) (m now : Memory) (planned : Planned T) → now ≡ ready m
     → Plans q how now.state planned
     → LosesNothing (ready m).state.repeats.numbers (told_of (ready m).state.kept) planned.act.who (deed planned.act) planned.act.answer
-plan_loses q how m now planned is plans =
+ready_loses q how m now planned is plans =
     let answer = planned.act.answer in
     subst (λ (s : Memory). LosesNothing s.state.repeats.numbers (told_of s.state.kept) planned.act.who (deed planned.act) answer) is
-    (subst (λ (a : Act). LosesNothing now.state.repeats.numbers (told_of now.state.kept) a.who (deed a) answer) (sym plans.act_is)
-    plans.loses)
+    (plan_loses q how now.state planned plans)
 
 -- a call whose act failed, was stopped or had no memory
 pub follows_failed : {T : Type 0} (V : Type 0) (q : Asked) (how : T → ActAnswer) (planned : Planned T) (fault : CallFault) (fate : Fate)
@@ -109,7 +109,7 @@ pub follows_failed : {T : Type 0} (V : Type 0) (q : Asked) (how : T → ActAnswe
 follows_failed {T} V q how planned Failed fate m now new running is fated plans by =
     runs_by {T = T} (Err Failed) m new running (record {
       act = planned.act;
-      loses = plan_loses q how m now planned is plans;
+      loses = ready_loses q how m now planned is plans;
       fate = failed fate fated by.0;
       comes = by.1 ∙ ap (made fate planned.act) is ∙ ap (λ (f : Fate). made f planned.act (ready m)) fated;
     })
@@ -139,7 +139,7 @@ follows_made {T} value q how act gives fate m now new running is fated plans by 
     ran : (gives : Result T CallFault) → Plans q how now.state (planned_as act gives) → IsFated Goes gives → Ran gives m new
     ran gives plans so = record {
       act = act;
-      loses = plan_loses q how m now (planned_as act gives) is plans;
+      loses = ready_loses q how m now (planned_as act gives) is plans;
       fate = subst (λ (f : Fate). IsFated f gives) (sym goes) so;
       comes = by.1 ∙ ap (made fate act) is ∙ ap (λ (f : Fate). made f act (ready m)) fated;
     }

@@ -1,10 +1,10 @@
-use Rattle.std.proofs.Common.{subst, sym}
+use Rattle.std.proofs.Common.{refl, subst, sym}
 use Rattle.std.proofs.lemmas.Result.{err_from_is_err_and}
 use Rattle.chk_mem_calls.specs.Plans.{Plans}
 use Rattle.chk_site_mem.specs.declared.fate.Fate.TheVariants.{Goes}
 use Rattle.chk_site_mem.specs.Memory.{Memory}
-use Rattle.chk_site_mem.proofs.CallLemmas.{made_call}
-use Rattle.chk_site_mem.proofs.FollowLemmas.{follows_failed, follows_made, follows_unmade}
+use Rattle.chk_site_mem.proofs.CallLemmas.{cause_made, failed_call, made_call, may_unbegun, may_unmade, unbegun_call, unmade_call}
+use Rattle.chk_site_mem.proofs.FollowLemmas.{follows_failed, follows_made, follows_unbegun, follows_unmade}
 use Rattle.chk_site_mem.proofs.site_clean.SiteClean.call.Goals as goal
 
 pub returns-in_err-planned-clause-follows : goal.returns-in_err-planned-clause-follows
@@ -43,3 +43,78 @@ returns-clause-follows g c =
     let plans = subst (λ (m : Memory). Plans q how m.state planned) c.self.view_is c.in_ok-planned.ensures.plans in
     follows_made c.in_ok-make.field-0 q how planned.act planned.gives Goes _ _ _ script.0 script.1 (sym c.in_ok-begin.ensures.goes) plans
     c.in_ok-make.ensures.script
+
+pub returns-in_err-begin-clause-told : goal.returns-in_err-begin-clause-told
+returns-in_err-begin-clause-told g c =
+    let p = err_from_is_err_and c.from_residual.result c.from_residual.ensures.1 in
+    rw (p.1, p.2) (unbegun_call (Unit {0}) _ _ _ _ c.in_err-begin.ensures.begins)
+
+pub returns-in_err-begin-clause-follows : goal.returns-in_err-begin-clause-follows
+returns-in_err-begin-clause-follows g c =
+    let p = err_from_is_err_and c.from_residual.result c.from_residual.ensures.1 in
+    rw (p.1, p.2) (follows_unbegun _ (Unit {0}) _ _ _ c.in_err-begin.ensures.script)
+
+pub returns-in_err-begin-clause-may : goal.returns-in_err-begin-clause-may
+returns-in_err-begin-clause-may g c =
+    let p = err_from_is_err_and c.from_residual.result c.from_residual.ensures.1 in
+    rw (p.1, p.2)
+    (may_unbegun (Unit {0}) (g.Q.Question.may c.args.question) _ _ _
+    (g.met.Q.Question.may_fail c.args.question) (g.met.Q.Question.may_want c.args.question)
+    c.in_err-begin.ensures.begins)
+
+pub returns-in_err-begin-clause-cause : goal.returns-in_err-begin-clause-cause
+returns-in_err-begin-clause-cause g c =
+    let p = err_from_is_err_and c.from_residual.result c.from_residual.ensures.1 in
+    rw (p.1, p.2) c.in_err-begin.ensures.cause
+
+pub returns-in_err-planned-clause-told : goal.returns-in_err-planned-clause-told
+returns-in_err-planned-clause-told g c =
+    let p = err_from_is_err_and c.from_residual-in_err-planned.result c.from_residual-in_err-planned.ensures.1 in
+    let begins = c.in_ok-begin.ensures.begins in
+    rw (p.1, p.2) (unmade_call _ _ _ begins.0 begins.1)
+
+pub returns-in_err-make-clause-told : goal.returns-in_err-make-clause-told
+returns-in_err-make-clause-told g c =
+    let p = err_from_is_err_and c.from_residual-in_err-make.result c.from_residual-in_err-make.ensures.1 in
+    let begins = c.in_ok-begin.ensures.begins in
+    let q = g.Q.Question.asks c.args.question in
+    let how = g.Q.Question.says in
+    let planned = c.in_ok-planned.planned in
+    let plans = subst (λ (m : Memory). Plans q how m.state planned) c.self.view_is c.in_ok-planned.ensures.plans in
+    rw (p.1, p.2)
+    (failed_call (Unit {0}) q how planned c.in_err-make.field-0.0 _ _ _ begins.0 begins.1 plans c.in_err-make.ensures.becomes)
+
+pub returns-in_err-planned-clause-may : goal.returns-in_err-planned-clause-may
+returns-in_err-planned-clause-may g c =
+    let p = err_from_is_err_and c.from_residual-in_err-planned.result c.from_residual-in_err-planned.ensures.1 in
+    rw (p.1, p.2) (g.met.Q.Question.may_want c.args.question)
+
+pub returns-in_err-planned-clause-cause : goal.returns-in_err-planned-clause-cause
+returns-in_err-planned-clause-cause g c =
+    let p = err_from_is_err_and c.from_residual-in_err-planned.result c.from_residual-in_err-planned.ensures.1 in
+    rw (p.1, p.2) refl
+
+pub returns-in_err-make-clause-may : goal.returns-in_err-make-clause-may
+returns-in_err-make-clause-may g c =
+    let p = err_from_is_err_and c.from_residual-in_err-make.result c.from_residual-in_err-make.ensures.1 in
+    rw (p.1, p.2)
+    (may_unmade (Unit {0}) (g.Q.Question.may c.args.question) c.in_ok-planned.planned.act _ _ _
+    (g.met.Q.Question.may_fail c.args.question) (g.met.Q.Question.may_want c.args.question)
+    c.in_err-make.ensures.becomes)
+
+pub returns-in_err-make-clause-cause : goal.returns-in_err-make-clause-cause
+returns-in_err-make-clause-cause g c =
+    let p = err_from_is_err_and c.from_residual-in_err-make.result c.from_residual-in_err-make.ensures.1 in
+    rw (p.1, p.2) c.in_err-make.ensures.cause
+
+pub returns-clause-may : goal.returns-clause-may
+returns-clause-may g c =
+    c.in_ok-planned.ensures.may
+
+pub returns-clause-cause : goal.returns-clause-cause
+returns-clause-cause g c =
+    let q = g.Q.Question.asks c.args.question in
+    let how = g.Q.Question.says in
+    let planned = c.in_ok-planned.planned in
+    let plans = subst (λ (m : Memory). Plans q how m.state planned) c.self.view_is c.in_ok-planned.ensures.plans in
+    cause_made q how planned.act planned.gives _ _ _ plans refl
