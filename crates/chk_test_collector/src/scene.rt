@@ -16,44 +16,32 @@ use std::test::Fail;
 // The mark of a sink of another collector.
 const FOREIGN_MARK: &str = "sinks/c9.1.1.mark";
 
-// The collector c1.
-pub(crate) fn first(alloc: Global) -> Result<Who, Fail>
+// The collector of this name.
+pub(crate) fn who_of(alloc: Global, name: &[u8]) -> Result<Who, Fail>
+    requires name { IsTrue (is_collector name.now) }
     ensures role { IfOk result (λ who. who.role ≡ collector_role) }
     ensures name { IfOk result (λ who. IsTrue (is_collector who.name)) }
 {
-    let name = Word::new(alloc, b"c1".as_slice())?;
+    let name = Word::new(alloc, name)?;
     Ok(Who {
         role: Role::Collector,
         name,
     })
 }
 
-// The collector c2.
-fn second(alloc: Global) -> Result<Who, Fail>
-    ensures role { IfOk result (λ who. who.role ≡ collector_role) }
-    ensures name { IfOk result (λ who. IsTrue (is_collector who.name)) }
+fn start_named(alloc: Global, site: &mut SiteMem, name: &[u8]) -> Result<Collector, Fail>
+    requires name { IsTrue (is_collector name.now) }
 {
-    let name = Word::new(alloc, b"c2".as_slice())?;
-    Ok(Who {
-        role: Role::Collector,
-        name,
-    })
-}
-
-pub(crate) fn start(alloc: Global, site: &mut SiteMem) -> Result<Collector, Fail> {
-    let who = first(alloc)?;
+    let who = who_of(alloc, name)?;
     match Collector::start(alloc, site, &who, 300_000) {
         Ok(collector) => Ok(collector),
         Err(_) => Err(Fail::from("no start")),
     }
 }
 
-fn start_second(alloc: Global, site: &mut SiteMem) -> Result<Collector, Fail> {
-    let who = second(alloc)?;
-    match Collector::start(alloc, site, &who, 300_000) {
-        Ok(collector) => Ok(collector),
-        Err(_) => Err(Fail::from("no start of c2")),
-    }
+// The collector c1.
+pub(crate) fn start(alloc: Global, site: &mut SiteMem) -> Result<Collector, Fail> {
+    start_named(alloc, site, b"c1")
 }
 
 pub(crate) fn plain(alloc: Global, text: &str) -> Result<String, Fail> {
@@ -220,24 +208,22 @@ pub(crate) fn hex(alloc: Global, digits: &str) -> Result<Bytes, Fail> {
     Ok(bytes)
 }
 
-// The mark of another collector's sink is made.
-fn makes_mark(alloc: Global) -> Result<Other, Fail> {
-    written(alloc, Call::Create, &[FOREIGN_MARK.as_bytes()])
+// Another one makes this file.
+fn makes(alloc: Global, others: &mut Vec<Other>, name: &str) -> Result<(), Fail> {
+    Ok(others.push(written(alloc, Call::Create, &[name.as_bytes()])?)?)
 }
 
-// It gets these bytes.
-fn fills_mark(alloc: Global, bytes: &[u8]) -> Result<Other, Fail> {
-    written(alloc, Call::Append, &[FOREIGN_MARK.as_bytes(), bytes])
+// Another one appends these bytes to this file.
+fn fills(alloc: Global, others: &mut Vec<Other>, name: &str, bytes: &[u8]) -> Result<(), Fail> {
+    Ok(others.push(written(alloc, Call::Append, &[name.as_bytes(), bytes])?)?)
 }
 
-// The mark of another collector's sink has these bytes.
-fn with_mark(alloc: Global, digits: &str) -> Result<Script, Fail> {
+// Another one has made this file of these bytes.
+pub(crate) fn with_file(alloc: Global, name: &str, digits: &str) -> Result<Script, Fail> {
     let bytes = hex(alloc, digits)?;
-    let made = makes_mark(alloc)?;
-    let filled = fills_mark(alloc, bytes.as_slice())?;
     let mut script = quiet(alloc);
-    script.others.push(made)?;
-    script.others.push(filled)?;
+    makes(alloc, &mut script.others, name)?;
+    fills(alloc, &mut script.others, name, bytes.as_slice())?;
     Ok(script)
 }
 
@@ -245,26 +231,49 @@ fn with_mark(alloc: Global, digits: &str) -> Result<Script, Fail> {
 fn script_of(alloc: Global, line: &str) -> Result<Script, Fail> {
     match line.split_once(' ') {
         Some(("fail", at)) => failing(alloc, at.parse()?),
-        Some(("mark", digits)) => with_mark(alloc, digits),
+        Some(("mark", digits)) => with_file(alloc, FOREIGN_MARK, digits),
         _ => Ok(quiet(alloc)),
     }
 }
 
-fn starts(alloc: Global, row: &str, script: &str, lines: &str) -> Result<(), Fail> {
-    let mut site = SiteMem::new(alloc, script_of(alloc, script)?)?;
-    let mut collector = start(alloc, &mut site)?;
-    follows(alloc, &mut site, &mut collector, row, lines)
+fn starts_over(alloc: Global, site: &mut SiteMem, row: &str, lines: &str) -> Result<(), Fail> {
+    let mut collector = start(alloc, site)?;
+    follows(alloc, site, &mut collector, row, lines)
 }
 
-// Programs with an empty line between them, each with a collector of its own. The first line is the
-// name, and the second one the script.
+fn starts(alloc: Global, row: &str, script: &str, lines: &str) -> Result<(), Fail> {
+    let mut site = SiteMem::new(alloc, script_of(alloc, script)?)?;
+    starts_over(alloc, &mut site, row, lines)
+}
+
+// A program's name, which is its first line, its script, which is the second one, and its lines.
+pub(crate) fn parts(program: &str) -> Result<(&str, &str, &str), Fail> {
+    let (row, rest) = program.split_once('\n').ok_or("no name")?;
+    let (script, lines) = rest.split_once('\n').ok_or("no script")?;
+    Ok((row, script, lines))
+}
+
+// Programs with an empty line between them, each with a collector of its own.
 pub(crate) fn follows_each(alloc: Global, programs: &str) -> Result<(), Fail> {
     for program in programs.split("\n\n") {
-        let (row, rest) = program.split_once('\n').ok_or("no name")?;
-        let (script, lines) = rest.split_once('\n').ok_or("no script")?;
+        let (row, script, lines) = parts(program)?;
         starts(alloc, row, script, lines)?;
     }
     Ok(())
+}
+
+fn takes_turn(
+    alloc: Global,
+    site: &mut SiteMem,
+    collector: &mut Collector,
+    other: &mut Collector,
+    line: &str,
+) -> Result<(), Fail> {
+    match line.split_once(' ') {
+        Some(("c1", line)) => plays(alloc, site, collector, "c1", line),
+        Some(("c2", line)) => plays(alloc, site, other, "c2", line),
+        _ => Err(Fail::new(line)),
+    }
 }
 
 // Lines of c1 before c2 starts, and then lines of c2, of c1, and so on.
@@ -276,11 +285,7 @@ fn take_turns(
     lines: &str,
 ) -> Result<(), Fail> {
     for line in lines.lines() {
-        match line.split_once(' ') {
-            Some(("c1", line)) => plays(alloc, site, collector, "c1", line)?,
-            Some(("c2", line)) => plays(alloc, site, other, "c2", line)?,
-            _ => return Err(Fail::new(line)),
-        }
+        takes_turn(alloc, site, collector, other, line)?;
     }
     Ok(())
 }
@@ -291,13 +296,17 @@ fn joins(
     collector: &mut Collector,
     lines: &str,
 ) -> Result<(), Fail> {
-    let mut other = start_second(alloc, site)?;
+    let mut other = start_named(alloc, site, b"c2")?;
     take_turns(alloc, site, collector, &mut other, lines)
+}
+
+fn both_start(alloc: Global, site: &mut SiteMem, lines: &str) -> Result<(), Fail> {
+    let mut collector = start(alloc, site)?;
+    joins(alloc, site, &mut collector, lines)
 }
 
 // Each line begins with the collector that it is for.
 pub(crate) fn both_follow(alloc: Global, lines: &str) -> Result<(), Fail> {
     let mut site = SiteMem::new(alloc, quiet(alloc))?;
-    let mut collector = start(alloc, &mut site)?;
-    joins(alloc, &mut site, &mut collector, lines)
+    both_start(alloc, &mut site, lines)
 }

@@ -55,6 +55,10 @@ const FILES: [&str; 6] = [
     "sinks/c1.born.tmp",
 ];
 
+const NO_TAIL: &[u8] = b"";
+
+const SHORT_TAIL: &[u8] = b"\0\0\0\x28\0\0\0\x1e";
+
 const LONG_TAIL: &[u8] =
     b"a tail of more bytes than were ever appended to any of these files, so that it is cut";
 
@@ -127,13 +131,19 @@ fn expect(alloc: Global, row: &str, holds: bool, what: &str) -> Result<(), Fail>
     Err(Fail::new(text.as_str()))
 }
 
+// What a stop leaves behind the synced length, and whether the call took effect.
+fn tail_of(way: &str) -> (&'static [u8], bool) {
+    match way {
+        "is stopped" => (NO_TAIL, false),
+        "is stopped with a tail" => (SHORT_TAIL, false),
+        "is stopped whole" => (NO_TAIL, true),
+        _ => (LONG_TAIL, true),
+    }
+}
+
 fn stopped_script(alloc: Global, way: &str, at: u64) -> Result<Script, Fail> {
-    let left = match way {
-        "is stopped" => left_of(alloc, &FILES, b"", false)?,
-        "is stopped with a tail" => left_of(alloc, &FILES, b"\0\0\0\x28\0\0\0\x1e", false)?,
-        "is stopped whole" => left_of(alloc, &FILES, b"", true)?,
-        _ => left_of(alloc, &FILES, LONG_TAIL, true)?,
-    };
+    let (tail, is_whole) = tail_of(way);
+    let left = left_of(alloc, &FILES, tail, is_whole)?;
     Ok(stopping(alloc, at, left))
 }
 
@@ -163,41 +173,72 @@ fn recovers(alloc: Global, stage: &mut Stage, row: &str) -> Result<(), Fail> {
     expect(alloc, row, is_settled, "a sink is left")
 }
 
-// A collector works by this script, and what it leaves is settled.
-fn survives(alloc: Global, way: &str, at: u64) -> Result<(), Fail> {
-    let row = row_text(alloc, way, at)?;
-    let mut stage = Stage::new(alloc, script_of(alloc, way, at)?)?;
+fn works_and_recovers(alloc: Global, stage: &mut Stage, way: &str, at: u64) -> Result<(), Fail> {
     stage.works(WORK)?;
-    recovers(alloc, &mut stage, row.as_str())
+    let row = row_text(alloc, way, at)?;
+    recovers(alloc, stage, row.as_str())
 }
 
-fn left_behind(alloc: Global) -> Result<Stage, Fail> {
-    let mut stage = Stage::new(alloc, failing_each(alloc, "19 29")?)?;
+// A collector works by this script, and what it leaves is settled.
+fn survives(alloc: Global, way: &str, at: u64) -> Result<(), Fail> {
+    let mut stage = Stage::new(alloc, script_of(alloc, way, at)?)?;
+    works_and_recovers(alloc, &mut stage, way, at)
+}
+
+fn leaves(stage: &mut Stage) -> Result<(), Fail> {
     stage.works(LEAVES)?;
-    stage.follows("what is left", LEFT)?;
-    Ok(stage)
+    stage.follows("what is left", LEFT)
+}
+
+fn starts_and_keeps(
+    alloc: Global,
+    stage: &mut Stage,
+    row: &str,
+    before: &[u64],
+) -> Result<(), Fail> {
+    stage.works("start")?;
+    keeps(alloc, stage, row, before)
 }
 
 fn starts_by(alloc: Global, stage: &mut Stage, row: &str, script: Script) -> Result<(), Fail> {
     let before = lengths(alloc, stage.site())?;
     stage.goes_by(script);
-    stage.works("start")?;
-    keeps(alloc, stage, row, before.as_slice())
+    starts_and_keeps(alloc, stage, row, before.as_slice())
 }
 
-// The next start goes by this script over what was left behind, and the start after it settles all.
-fn survives_start(alloc: Global, way: &str, at: u64) -> Result<(), Fail> {
+fn starts_in_way(
+    alloc: Global,
+    stage: &mut Stage,
+    row: &str,
+    way: &str,
+    at: u64,
+) -> Result<(), Fail> {
+    let script = script_of(alloc, way, at)?;
+    starts_by(alloc, stage, row, script)
+}
+
+fn starts_and_recovers(alloc: Global, stage: &mut Stage, way: &str, at: u64) -> Result<(), Fail> {
     let row = row_text(alloc, way, at)?;
-    let mut stage = left_behind(alloc)?;
-    starts_by(alloc, &mut stage, row.as_str(), script_of(alloc, way, at)?)?;
-    recovers(alloc, &mut stage, row.as_str())
+    leaves(stage)?;
+    starts_in_way(alloc, stage, row.as_str(), way, at)?;
+    recovers(alloc, stage, row.as_str())
+}
+
+// The next start goes by this script over what was left, and the start after it settles all.
+fn survives_start(alloc: Global, way: &str, at: u64) -> Result<(), Fail> {
+    let mut stage = Stage::new(alloc, failing_each(alloc, "19 29")?)?;
+    starts_and_recovers(alloc, &mut stage, way, at)
+}
+
+fn calls_of(stage: &mut Stage) -> Result<u64, Fail> {
+    stage.works(WORK)?;
+    Ok(stage.site().acts().len() as u64)
 }
 
 // The count of calls of a run without faults.
 fn calls(alloc: Global) -> Result<u64, Fail> {
     let mut stage = Stage::new(alloc, quiet(alloc))?;
-    stage.works(WORK)?;
-    Ok(stage.site().acts().len() as u64)
+    calls_of(&mut stage)
 }
 
 fn in_each_way(alloc: Global, at: u64) -> Result<(), Fail> {

@@ -1,11 +1,11 @@
 //! A collector's sinks over a site in memory, told line by line what to do.
-use crate::scene::{done, first, hex, number, plain, same, size};
+use crate::scene::{done, hex, number, parts, plain, same, size, who_of, with_file};
 use chk_bytes::Stem;
 use chk_chunk::read_post;
 use chk_sink::{SinkFault, Sinks};
 use chk_site::{Act, Call, Script};
 use chk_site_mem::SiteMem;
-use chk_test_calls::{left_of, quiet, stopping, written};
+use chk_test_calls::{left_of, quiet, stopping};
 use std::alloc::Global;
 use std::test::Fail;
 
@@ -75,15 +75,20 @@ fn committed(
     alloc: Global,
     site: &mut SiteMem,
     sinks: &Sinks,
-    number: u64,
+    number: &str,
 ) -> Result<String, Fail> {
-    let Some(stem) = Stem::new("c1", 1, number) else {
+    let Some(stem) = Stem::new("c1", 1, number.parse()?) else {
         return Err(Fail::from("no stem"));
     };
     match sinks.committed(alloc, site, stem) {
         Ok(length) => Ok(format!(in alloc; "{length}")?),
         Err(fault) => fault_text(alloc, &fault),
     }
+}
+
+fn ticks(alloc: Global, site: &mut SiteMem, sinks: &mut Sinks, now: &str) -> Result<String, Fail> {
+    let is_done = sinks.tick(alloc, site, now.parse()?).is_ok();
+    done(alloc, is_done)
 }
 
 // - `put`: the number of starts, the sink's number, and where the chunk ends in it.
@@ -99,17 +104,24 @@ fn works(
     match verb {
         "put" => puts(alloc, site, sinks),
         "commit" => done(alloc, sinks.commit(alloc, site).is_ok()),
-        "tick" => done(alloc, sinks.tick(alloc, site, text.parse()?).is_ok()),
+        "tick" => ticks(alloc, site, sinks, text),
         "close" => done(alloc, sinks.close(alloc, site).is_ok()),
-        "committed" => committed(alloc, site, sinks, text.parse()?),
+        "committed" => committed(alloc, site, sinks, text),
         _ => Err(Fail::from("no such verb of sinks")),
+    }
+}
+
+fn has_bytes(alloc: Global, site: &SiteMem, name: &str, digits: &str) -> Result<bool, Fail> {
+    let bytes = hex(alloc, digits)?;
+    match site.file(name) {
+        Some(found) => Ok(found == bytes.as_slice()),
+        None => Ok(false),
     }
 }
 
 fn is_file(alloc: Global, site: &SiteMem, text: &str) -> Result<String, Fail> {
     let (name, digits) = text.split_once(' ').ok_or("no bytes")?;
-    let bytes = hex(alloc, digits)?;
-    done(alloc, site.file(name) == Some(bytes.as_slice()))
+    done(alloc, has_bytes(alloc, site, name, digits)?)
 }
 
 fn lists(acts: &[Act]) -> usize {
@@ -152,7 +164,7 @@ impl Stage {
     }
 
     fn starts(&mut self) -> Result<String, Fail> {
-        let who = first(self.alloc)?;
+        let who = who_of(self.alloc, b"c1")?;
         self.sinks = None;
         match Sinks::start(self.alloc, &mut self.site, &who, ROTATE) {
             Ok(sinks) => {
@@ -221,15 +233,10 @@ pub(crate) fn failing_each(alloc: Global, numbers: &str) -> Result<Script, Fail>
     Ok(script)
 }
 
-// The number of starts has these bytes.
-fn with_born(alloc: Global, digits: &str) -> Result<Script, Fail> {
-    let bytes = hex(alloc, digits)?;
-    let made = written(alloc, Call::Create, &[BORN.as_bytes()])?;
-    let filled = written(alloc, Call::Append, &[BORN.as_bytes(), bytes.as_slice()])?;
-    let mut script = quiet(alloc);
-    script.others.push(made)?;
-    script.others.push(filled)?;
-    Ok(script)
+// The call of this number is stopped, and leaves this tail of each of these files.
+fn stopped(alloc: Global, at: &str, names: &[&str], tail: &[u8]) -> Result<Script, Fail> {
+    let left = left_of(alloc, names, tail, false)?;
+    Ok(stopping(alloc, at.parse()?, left))
 }
 
 // - `fail N N ..`: the calls of these numbers fail.
@@ -240,15 +247,9 @@ fn script_of(alloc: Global, line: &str) -> Result<Script, Fail> {
     let (verb, text) = line.split_once(' ').unwrap_or((line, ""));
     match verb {
         "fail" => failing_each(alloc, text),
-        "stop" => {
-            let left = left_of(alloc, &[], b"", false)?;
-            Ok(stopping(alloc, text.parse()?, left))
-        }
-        "false" => {
-            let left = left_of(alloc, &["sinks/c1.1.1.chukwa"], FALSE_TAIL, false)?;
-            Ok(stopping(alloc, text.parse()?, left))
-        }
-        "born" => with_born(alloc, text),
+        "stop" => stopped(alloc, text, &[], b""),
+        "false" => stopped(alloc, text, &["sinks/c1.1.1.chukwa"], FALSE_TAIL),
+        "born" => with_file(alloc, BORN, text),
         _ => Ok(quiet(alloc)),
     }
 }
@@ -258,12 +259,10 @@ fn plays(alloc: Global, row: &str, script: &str, lines: &str) -> Result<(), Fail
     stage.follows(row, lines)
 }
 
-// Programs with an empty line between them, each on a site of its own. The first line is the name,
-// and the second one the script.
+// Programs with an empty line between them, each on a site of its own.
 pub(crate) fn sinks_follow_each(alloc: Global, programs: &str) -> Result<(), Fail> {
     for program in programs.split("\n\n") {
-        let (row, rest) = program.split_once('\n').ok_or("no name")?;
-        let (script, lines) = rest.split_once('\n').ok_or("no script")?;
+        let (row, script, lines) = parts(program)?;
         plays(alloc, row, script, lines)?;
     }
     Ok(())

@@ -179,18 +179,26 @@ all stopped||4294967295|OK stopped 4294967295 adaptors
 agent stops||0|OK agent stops
 ";
 
-fn shows(alloc: Global, row: &str) -> Result<(), Fail> {
+fn shown(alloc: Global, form: &str, text: &str, number: &str) -> Result<Bytes, Fail> {
+    let answer = answer(alloc, form, text, number.parse()?)?;
+    let mut out = Bytes::new(alloc);
+    show(&mut out, &answer)?;
+    Ok(out)
+}
+
+// The form, the text, the number and the line.
+fn fields(row: &str) -> Result<(&str, &str, &str, &str), Fail> {
     let (form, rest) = row.split_once('|').ok_or("no text")?;
     let (text, rest) = rest.split_once('|').ok_or("no number")?;
-    let (number, shown) = rest.split_once('|').ok_or("no line")?;
-    let mut out = Bytes::new(alloc);
-    show(&mut out, &answer(alloc, form, text, number.parse()?)?)?;
-    same(
-        alloc,
-        row,
-        std::str::from_utf8(out.as_slice())?.trim_end(),
-        shown,
-    )
+    let (number, line) = rest.split_once('|').ok_or("no line")?;
+    Ok((form, text, number, line))
+}
+
+fn shows(alloc: Global, row: &str) -> Result<(), Fail> {
+    let (form, text, number, line) = fields(row)?;
+    let out = shown(alloc, form, text, number)?;
+    let given = std::str::from_utf8(out.as_slice())?;
+    same(alloc, row, given.trim_end(), line)
 }
 
 #[test]

@@ -1,6 +1,8 @@
 //! Requests and replies as they are written.
+ghost use Rattle.std.specs.Prelude.{◌<◌, ◌≤◌, length};
+
 use crate::answers::request_answer as answer;
-use chk_bytes::{Stem, Word};
+use chk_bytes::{Bytes, Stem, Word};
 use chk_http::{
     HttpFault, LineList, ReplyRef, RequestRef, StemList, read_reply, read_request,
     write_acks_request, write_post_request, write_reply,
@@ -27,67 +29,119 @@ fn faults_by_number(rt: HostRuntime) {
     }
 }
 
+// Where the answer to a front isn't the expected one, the front's size says which one it is.
+fn waits(alloc: Global, is_so: bool, size: usize) -> Result<(), Fail> {
+    if is_so {
+        return Ok(());
+    }
+    let text = format!(in alloc; "{size}")?;
+    Err(Fail::new(text.as_str()))
+}
+
+// No front of a written request is a request.
+fn request_waits(alloc: Global, written: &[u8]) -> Result<(), Fail> {
+    for size in 0..written.len() {
+        waits(alloc, answer(&written[..size]) == (400, "NotYet"), size)?;
+    }
+    Ok(())
+}
+
+// No front of a written reply is a reply.
+fn reply_waits(alloc: Global, written: &[u8]) -> Result<(), Fail> {
+    for size in 0..written.len() {
+        let is_so = read_reply(&written[..size]) == Err(HttpFault::NotYet);
+        waits(alloc, is_so, size)?;
+    }
+    Ok(())
+}
+
+const POST_HEAD: &[u8] =
+    b"POST /chukwa HTTP/1.1\r\nHost: self\r\nContent-Type: application/octet-stream\r\nContent-Length: 44\r\nConnection: close\r\n\r\n";
+
+fn post(alloc: Global) -> Result<Bytes, Fail> {
+    let address = Word::new(alloc, b"self")?;
+    Ok(write_post_request(alloc, address.as_str(), POST)?)
+}
+
+fn is_post(written: &[u8]) -> bool {
+    written.len() == 160 && written.starts_with(POST_HEAD)
+}
+
+// What follows a post isn't looked at.
+fn is_read_as_post(request: &mut Bytes) -> Result<bool, Fail> {
+    request.push_all(b"GET / HTTP/1.1\r\n\r\n")?;
+    Ok(read_request(request.as_slice()) == Ok(RequestRef::Post { body: POST }))
+}
+
 #[test]
 fn written_post_is_read(rt: HostRuntime) -> Result<(), Fail> {
-    let address = Word::new(rt.alloc(), b"self")?;
-    let mut request = write_post_request(rt.alloc(), address.as_str(), POST)?;
-    let written = request.as_slice();
-    assert!(rt; written.len() == 160);
-    let head =
-        b"POST /chukwa HTTP/1.1\r\nHost: self\r\nContent-Type: application/octet-stream\r\nContent-Length: 44\r\nConnection: close\r\n\r\n";
-    assert!(rt; written.starts_with(head.as_slice()));
-    for size in 0..160 {
-        assert!(rt; answer(&written[..size]) == (400, "NotYet"), "{size}");
-    }
-    request.push_all(b"GET / HTTP/1.1\r\n\r\n")?;
-    assert!(rt; read_request(request.as_slice()) == Ok(RequestRef::Post { body: POST }));
+    let mut request = post(rt.alloc())?;
+    assert!(rt; is_post(request.as_slice()));
+    request_waits(rt.alloc(), request.as_slice())?;
+    assert!(rt; is_read_as_post(&mut request)?);
     Ok(())
+}
+
+const POLL: &[u8] = b"GET /acks?c1.1.1 HTTP/1.1\r\nHost: self\r\nConnection: close\r\n\r\n";
+
+fn poll(alloc: Global, stems: &[Stem]) -> Result<Bytes, Fail>
+    requires some { 0 < length stems.now }
+    requires few { length stems.now ≤ 64 }
+{
+    let address = Word::new(alloc, b"self")?;
+    Ok(write_acks_request(alloc, address.as_str(), stems)?)
+}
+
+// The written poll for one sink, of which no front is a poll.
+fn is_poll(alloc: Global, first: Stem) -> Result<bool, Fail> {
+    let request = poll(alloc, &[first])?;
+    request_waits(alloc, request.as_slice())?;
+    Ok(request.as_slice() == POLL)
+}
+
+// The query lists just these two stems.
+fn lists(query: &str, first: Stem, other: Stem) -> bool {
+    let Some(mut stems) = StemList::new(query) else {
+        return false;
+    };
+    stems.next() == Some(first) && stems.next() == Some(other) && stems.next() == None
+}
+
+// The written poll for two sinks is read as both.
+fn polls_both(alloc: Global, first: Stem, other: Stem) -> Result<bool, Fail> {
+    let request = poll(alloc, &[first, other])?;
+    match read_request(request.as_slice()) {
+        Ok(RequestRef::Acks { query }) => {
+            Ok(query == "c1.1.1&c9.1.1" && lists(query, first, other))
+        }
+        _ => Err(Fail::from("no poll")),
+    }
 }
 
 #[test]
 fn written_poll_is_read(rt: HostRuntime) -> Result<(), Fail> {
     let first = Stem::new("c1", 1, 1).ok_or("stem")?;
     let other = Stem::new("c9", 1, 1).ok_or("stem")?;
-    let address = Word::new(rt.alloc(), b"self")?;
-    let request = write_acks_request(rt.alloc(), address.as_str(), &[first])?;
-    let written = request.as_slice();
-    assert!(rt;
-        written
-            == b"GET /acks?c1.1.1 HTTP/1.1\r\nHost: self\r\nConnection: close\r\n\r\n".as_slice()
-    );
-    for size in 0..written.len() {
-        assert!(rt; answer(&written[..size]) == (400, "NotYet"), "{size}");
-    }
-    let request = write_acks_request(rt.alloc(), address.as_str(), &[first, other])?;
-    let Ok(RequestRef::Acks { query }) = read_request(request.as_slice()) else {
-        return Err(Fail::from("no poll"));
-    };
-    assert!(rt; query == "c1.1.1&c9.1.1");
-    let mut stems = StemList::new(query).ok_or("stems")?;
-    assert!(rt; stems.next() == Some(first));
-    assert!(rt; stems.next() == Some(other));
-    assert!(rt; stems.next() == None);
+    assert!(rt; is_poll(rt.alloc(), first)? && polls_both(rt.alloc(), first, other)?);
     Ok(())
+}
+
+const REPLY: &[u8] =
+    b"HTTP/1.1 200 OK\r\nContent-Type: text/plain\r\nContent-Length: 11\r\nConnection: close\r\n\r\nc1.1.1 144\n";
+
+// What follows a reply isn't looked at.
+fn is_read_as_reply(reply: &mut Bytes) -> Result<bool, Fail> {
+    reply.push_all(b"x")?;
+    let body = b"c1.1.1 144\n".as_slice();
+    Ok(read_reply(reply.as_slice()) == Ok(ReplyRef { code: 200, body }))
 }
 
 #[test]
 fn written_reply_is_read(rt: HostRuntime) -> Result<(), Fail> {
     let mut reply = write_reply(rt.alloc(), 200, b"c1.1.1 144\n")?;
-    let written = reply.as_slice();
-    assert!(rt; written.len() == 95);
-    assert!(rt;
-        written
-            == b"HTTP/1.1 200 OK\r\nContent-Type: text/plain\r\nContent-Length: 11\r\nConnection: close\r\n\r\nc1.1.1 144\n".as_slice()
-    );
-    for size in 0..95 {
-        assert!(rt;
-            read_reply(&written[..size]) == Err(HttpFault::NotYet),
-            "{size}"
-        );
-    }
-    reply.push_all(b"x")?;
-    let body = b"c1.1.1 144\n".as_slice();
-    assert!(rt; read_reply(reply.as_slice()) == Ok(ReplyRef { code: 200, body }));
+    assert!(rt; reply.len() == 95 && reply.as_slice() == REPLY);
+    reply_waits(rt.alloc(), reply.as_slice())?;
+    assert!(rt; is_read_as_reply(&mut reply)?);
     Ok(())
 }
 

@@ -1,4 +1,7 @@
-use chk_seqfile::{HeaderFault, HeaderRef, SeqWriter, header, read_header_on};
+//! SequenceFiles as they are written, and a header that comes byte by byte.
+ghost use Rattle.std.specs.Prelude.{◌≤◌, length};
+
+use chk_seqfile::{HeaderFault, HeaderRef, SeqWriter, TextsLeft, header, read_header_on};
 use std::alloc::{AllocError, Global};
 use std::test::Fail;
 
@@ -18,55 +21,110 @@ fn joined(alloc: Global, parts: &[&[u8]]) -> Result<Vec<u8>, AllocError> {
     Ok(bytes)
 }
 
+fn is_header_written(alloc: Global) -> Result<bool, Fail> {
+    let expected = joined(alloc, &[b"SEQ\x06", CLASS, CLASS, &[0; 6], &MARKER])?;
+    let written = header(alloc, "c1.1.1")?;
+    Ok(expected.len() == 96 && written.as_slice() == expected.as_slice())
+}
+
 #[test]
 fn writes_a_header(rt: HostRuntime) -> Result<(), Fail> {
-    let expected = joined(rt.alloc(), &[b"SEQ\x06", CLASS, CLASS, &[0; 6], &MARKER])?;
-    assert_eq!(rt; expected.len(), 96);
-    let written = header(rt.alloc(), "c1.1.1")?;
-    assert!(rt; written.as_slice() == expected.as_slice());
+    assert!(rt; is_header_written(rt.alloc())?);
     Ok(())
+}
+
+const KEY: &[u8] = b"\x01\0\0\0\0\0\0\0\x06\0\x02h1\0\x03Log\0\x06/a.log";
+
+fn is_record(alloc: Global, piece: &[u8]) -> Result<bool, Fail> {
+    let expected = joined(
+        alloc,
+        &[b"\0\0\0\x28\0\0\0\x1e\0\0\0\x1a", KEY, b"\0\0\0\x06hello\n"],
+    )?;
+    Ok(piece == expected.as_slice())
+}
+
+fn is_record_written(alloc: Global) -> Result<bool, Fail> {
+    let mut writer = SeqWriter::after_header("c1.1.1");
+    let piece = writer.entry(alloc, KEY, b"hello\n")?;
+    Ok(is_record(alloc, piece.as_slice())? && writer.place() == 144)
 }
 
 #[test]
 fn writes_records(rt: HostRuntime) -> Result<(), Fail> {
-    let key = b"\x01\0\0\0\0\0\0\0\x06\0\x02h1\0\x03Log\0\x06/a.log";
-    let mut writer = SeqWriter::after_header("c1.1.1");
-    let piece = writer.entry(rt.alloc(), key, b"hello\n")?;
-    let expected = joined(
-        rt.alloc(),
-        &[b"\0\0\0\x28\0\0\0\x1e\0\0\0\x1a", key, b"\0\0\0\x06hello\n"],
-    )?;
-    assert!(rt; piece.as_slice() == expected.as_slice());
-    assert_eq!(rt; writer.place(), 144);
+    assert!(rt; is_record_written(rt.alloc())?);
     Ok(())
+}
+
+fn begins_with_sync(alloc: Global, piece: &[u8]) -> Result<bool, Fail> {
+    let sync = joined(alloc, &[&[255; 4], &MARKER])?;
+    Ok(piece.starts_with(&sync))
+}
+
+// The ends of a record of this value and of the next one, and whether the next one has a sync entry.
+fn ends_so(
+    alloc: Global,
+    value: &[u8],
+    first_end: u64,
+    second_end: u64,
+    synced: bool,
+) -> Result<bool, Fail>
+    requires value { length value.now ≤ 2000 }
+    requires first_end { first_end ≤ 4000 }
+{
+    let mut writer = SeqWriter::after_header("c1.1.1");
+    writer.entry(alloc, &[0; 26], value)?;
+    if writer.place() != first_end {
+        return Ok(false);
+    }
+    let piece = writer.entry(alloc, &[0; 26], b"hello\n")?;
+    Ok(writer.place() == second_end && begins_with_sync(alloc, piece.as_slice())? == synced)
+}
+
+fn zeros_end_so(
+    alloc: Global,
+    size: usize,
+    first_end: u64,
+    second_end: u64,
+    synced: bool,
+) -> Result<bool, Fail>
+    requires size { size ≤ 2000 }
+    requires first_end { first_end ≤ 4000 }
+{
+    let value = vec![in alloc; 0u8; size]?;
+    ends_so(alloc, &value, first_end, second_end, synced)
 }
 
 #[test]
 fn sync_entry_at_2000(rt: HostRuntime) -> Result<(), Fail> {
-    for (size, first_end, second_end, synced) in [
-        (1958, 2096, 2164, true),
-        (1957, 2095, 2143, false),
-    ] {
-        let mut writer = SeqWriter::after_header("c1.1.1");
-        let value = vec![in rt.alloc(); 0u8; size]?;
-        writer.entry(rt.alloc(), &[0; 26], &value)?;
-        assert_eq!(rt; writer.place(), first_end);
-        let piece = writer.entry(rt.alloc(), &[0; 26], b"hello\n")?;
-        assert_eq!(rt; writer.place(), second_end);
-        let sync = joined(rt.alloc(), &[&[255; 4], &MARKER])?;
-        assert_eq!(rt; piece.as_slice().starts_with(&sync), synced);
-    }
+    assert!(rt;
+        zeros_end_so(rt.alloc(), 1958, 2096, 2164, true)?,
+        "1958 bytes"
+    );
+    assert!(rt;
+        zeros_end_so(rt.alloc(), 1957, 2095, 2143, false)?,
+        "1957 bytes"
+    );
     Ok(())
+}
+
+// A header of 113 bytes with three pairs of texts.
+fn header_of_texts(alloc: Global) -> Result<Vec<u8>, AllocError> {
+    let texts: &[u8] = b"\x01a\0\x8f\x02bc\x03def\x8e\0\x01g\x01h";
+    joined(
+        alloc,
+        &[b"SEQ\x06", CLASS, CLASS, b"\0\0\0\0\0\x03", texts, &MARKER],
+    )
+}
+
+// The place of the next text, and how many are left.
+fn is_left(from: &Option<TextsLeft>, expected: Option<(u64, u64)>) -> bool {
+    from.map(|left| (left.place, left.texts)) == expected
 }
 
 #[test]
 fn reads_on_byte_by_byte(rt: HostRuntime) -> Result<(), Fail> {
-    let texts: &[u8] = b"\x01a\0\x8f\x02bc\x03def\x8e\0\x01g\x01h";
-    let bytes = joined(
-        rt.alloc(),
-        &[b"SEQ\x06", CLASS, CLASS, b"\0\0\0\0\0\x03", texts, &MARKER],
-    )?;
-    assert_eq!(rt; bytes.len(), 113);
+    let bytes = header_of_texts(rt.alloc())?;
+    assert!(rt; bytes.len() == 113);
     let ends = [
         (80, None),
         (82, Some((80, 6))),
@@ -83,12 +141,8 @@ fn reads_on_byte_by_byte(rt: HostRuntime) -> Result<(), Fail> {
         assert!(rt; end <= 113);
         while size < end {
             let found = read_header_on(&bytes[..size], &mut from);
-            assert_eq!(rt; found, Err(HeaderFault::Short), "at {size}");
-            assert_eq!(rt;
-                from.map(|left| (left.place, left.texts)),
-                expected,
-                "at {size}"
-            );
+            let is_short = found == Err(HeaderFault::Short);
+            assert!(rt; is_short && is_left(&from, expected), "at {size}");
             size += 1;
         }
     }
@@ -96,6 +150,6 @@ fn reads_on_byte_by_byte(rt: HostRuntime) -> Result<(), Fail> {
         marker: MARKER,
         end: 113,
     };
-    assert_eq!(rt; read_header_on(&bytes, &mut from), Ok(head));
+    assert!(rt; read_header_on(&bytes, &mut from) == Ok(head));
     Ok(())
 }

@@ -1,6 +1,7 @@
 //! Bytes and what is read of them: by hand, and as Hadoop's `WritableUtils` writes and reads them.
 use crate::answers::{answers, answers_each};
 use crate::texts::repeated;
+use chk_bytes::Bytes;
 use std::alloc::Global;
 use std::test::Fail;
 
@@ -320,14 +321,18 @@ salvaged;SEQ%06%CL%CL%ZZ%MK%7F%00%07%c8%00%00%00%1E%00%00%00%1A%01%ZZ%00%06%00%0
 post;;a;4194305; => TooLong { limit: 4194304, found: 4194305 }
 ";
 
+// `FRONT;PIECE;TIMES;BACK`.
+fn bytes_at_a_limit(alloc: Global, text: &str) -> Result<Bytes, Fail> {
+    let (front, rest) = text.split_once(';').ok_or("no piece")?;
+    let (piece, rest) = rest.split_once(';').ok_or("no count")?;
+    let (times, back) = rest.split_once(';').ok_or("no back")?;
+    repeated(alloc, front, piece, times.parse()?, back)
+}
+
 fn answers_at_a_limit(alloc: Global, row: &str) -> Result<(), Fail> {
     let (asked, wanted) = row.split_once(" => ").ok_or("no answer")?;
-    let mut fields = asked.split(';');
-    let kind = fields.next().ok_or("no reader")?;
-    let front = fields.next().ok_or("no front")?;
-    let piece = fields.next().ok_or("no piece")?;
-    let times = fields.next().ok_or("no count")?.parse()?;
-    let bytes = repeated(alloc, front, piece, times, fields.next().ok_or("no back")?)?;
+    let (kind, text) = asked.split_once(';').ok_or("no front")?;
+    let bytes = bytes_at_a_limit(alloc, text)?;
     answers(alloc, kind, bytes.as_slice(), wanted)
 }
 
