@@ -1,18 +1,21 @@
 #!/usr/bin/env python3
-"""Makes the SequenceFiles that `chk_tool_damaged` reads, and what it must print of them.
+"""Gives `salvage` SequenceFiles of other makers and damaged ones, and compares what it prints with another reader.
 
-usage: tools/damaged_files.py [check]
+usage: tools/damaged_files.py [--program FILE]
 
-It writes `args`, `data/` and `stdout` of `crates/chk_tool_damaged`; with `check` it writes nothing, names the files
-that are not as it would write them, and ends with 1 where there are any. Writer and reader follow docs/FORMATS.md and
-share no line with the program, so that what the program prints is compared with what another reader tells.
+One good file is read whole, cut at 300 places, and with each of its first 200 bytes turned; 23 others are read
+whole: compressed ones, other classes and versions, metadata, every spelling of a length, markers of another file.
+Writer and reader follow docs/FORMATS.md and share no line with the program. It ends with 1 where the program's
+lines or its status are others; all is over within half a minute.
 """
 import hashlib
 import os
+import struct
+import subprocess
 import sys
+import tempfile
 
-HERE = os.path.dirname(os.path.abspath(__file__))
-CRATE = os.path.join(HERE, "../crates/chk_tool_damaged")
+from running import add_program, parser_of, program_of
 
 BYTES_CLASS = b"org.apache.hadoop.io.BytesWritable"
 TEXT_CLASS = b"org.apache.hadoop.io.Text"
@@ -252,96 +255,98 @@ def entry_at(data, at, mark):
     return "record", at + 8 + both
 
 
-def told_of(what, records):
-    return " %s %d %d" % (what, len(records), sum(at + end for at, end in records) % 2 ** 64)
+def word_at(data, at):
+    """A word of a key and the place behind it, or None."""
+    if len(data) < at + 2:
+        return None
+    end = at + 2 + number_at(data, at, 2)
+    word = data[at + 2:end]
+    sound = end <= len(data) and 0 < len(word) <= 4096 and all(byte > 32 and byte != 127 for byte in word)
+    try:
+        return (word.decode(), end) if sound else None
+    except UnicodeDecodeError:
+        return None
 
 
-def front(data, mark, at):
-    """The records up to the end or the first damage, and which it was."""
-    records = []
+def chunk_at(data):
+    """The sequence id and the three names of a key of a chunk, or None."""
+    if data[:1] not in (b"\x01", b"\x02") or len(data) < 9:
+        return None
+    seq, = struct.unpack(">Q", data[1:9])
+    at, start, words = 9, 0, 3
+    if data[:1] == b"\x02":
+        if len(data) < 17:
+            return None
+        start, at, words = number_at(data, 9, 8), 17, 4
+    names = []
+    for _ in range(words):
+        found = word_at(data, at)
+        if found is None:
+            return None
+        names.append(found[0])
+        at = found[1]
+    sound = at == len(data) and start < 2 ** 62 and start < seq < 2 ** 63
+    return (seq, names[:3]) if sound else None
+
+
+def record_line(data, at, end):
+    key = number_at(data, at + 4, 4) - 4
+    found = chunk_at(data[at + 12:at + 12 + key])
+    value = end - (at + 16 + key)
+    if found is None or not 0 < value <= found[0]:
+        return f"other {at} {end}\n"
+    return f"entry {at} {end} {' '.join(found[1])} {found[0]}\n"
+
+
+def told(name, data):
+    """The status and the lines that `salvage` owes of a file."""
+    try:
+        mark, at = header_at(data)
+    except Refused:
+        return 5, f"damaged {name} 0\n"
+    lines = ""
     while True:
         what, behind = entry_at(data, at, mark)
         if what == "end":
-            return told_of("front", records) + " end"
-        if what not in ("sync", "record"):
-            return told_of("front", records) + " damaged %d %s" % (at, what)
-        if what == "record":
-            records.append((at, behind))
-        at = behind
-
-
-def salvage(data, mark, at):
-    """All records, where damage is skipped up to the next sync entry, and what was skipped."""
-    records, skipped = [], ""
-    while True:
-        what, behind = entry_at(data, at, mark)
-        if what == "end":
-            return told_of("salvaged", records) + skipped
+            return 0, lines
         if what not in ("sync", "record"):
             found = data.find(SYNC + mark, at + 1)
             behind = len(data) if found < 0 else found
-            skipped += " skipped %d %d" % (at, behind)
+            lines += f"skipped {at} {behind}\n"
         elif what == "record":
-            records.append((at, behind))
+            lines += record_line(data, at, behind)
         at = behind
 
 
-def tell(name, number, data):
-    """The line of one file."""
-    line = "%s %d" % (name, number)
-    try:
-        mark, at = header_at(data)
-    except Refused as why:
-        return "%s %s\n" % (line, why)
-    return line + front(data, mark, at) + salvage(data, mark, at) + "\n"
-
-
-def tale(made):
-    """All lines: the first file whole, cut, and with each of its first bytes turned, then the others."""
+def cases():
+    """Each file's name and bytes."""
+    made = files()
     name, good = made[0]
-    out = tell(name, 0, good)
+    yield name, good
     for cut in range(CUTS):
         at = min(cut * (len(good) // CUTS), len(good))
-        out += tell("cut", at, good[:at])
+        yield f"cut.{at}", good[:at]
     for at in range(min(TURNED, len(good))):
-        out += tell("turned", at, good[:at] + bytes([255 - good[at]]) + good[at + 1:])
-    for name, data in made[1:]:
-        out += tell(name, 0, data)
-    return out
+        yield f"turned.{at}", good[:at] + bytes([255 - good[at]]) + good[at + 1:]
+    yield from made[1:]
 
 
-def contents():
-    """Each file of the crate, by its path there."""
-    made = files()
-    out = {os.path.join("data", name): data for name, data in made}
-    out["args"] = "".join(name + "\n" for name, _ in made).encode()
-    out["stdout"] = tale(made).encode()
-    return out
-
-
-def is_as(path, wanted):
-    try:
-        with open(path, "rb") as file:
-            return file.read() == wanted
-    except FileNotFoundError:
-        return False
-
-
-def main(words):
-    if words not in ([], ["check"]):
-        print(__doc__.strip(), file=sys.stderr)
-        return 2
-    others = [name for name, wanted in contents().items() if not is_as(os.path.join(CRATE, name), wanted)]
-    for name in others:
-        print(name)
-    if words:
-        return 1 if others else 0
-    os.makedirs(os.path.join(CRATE, "data"), exist_ok=True)
-    for name, wanted in contents().items():
-        with open(os.path.join(CRATE, name), "wb") as file:
-            file.write(wanted)
-    return 0
+def main():
+    parser = parser_of(__doc__)
+    add_program(parser)
+    program, count, wrong = program_of(parser.parse_args()), 0, 0
+    with tempfile.TemporaryDirectory() as folder:
+        for name, data in cases():
+            with open(f"{folder}/{name}", "wb") as file:
+                file.write(data)
+            ran = subprocess.run([program, "salvage", name], cwd=folder, capture_output=True, timeout=20, check=False)
+            got, count = (ran.returncode, ran.stdout.decode()), count + 1
+            if got != told(name, data):
+                wrong += 1
+                print(f"{name}: wanted {told(name, data)!r}, got {got!r}")
+    print(f"damaged files: {'ok' if wrong == 0 else 'DIFFERS'}, {count} read")
+    sys.exit(1 if wrong else 0)
 
 
 if __name__ == "__main__":
-    sys.exit(main(sys.argv[1:]))
+    main()

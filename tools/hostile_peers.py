@@ -3,8 +3,8 @@
 
 usage: tools/hostile_peers.py [KIND TIMES]
 
-It wants `crates/chk_tool_measure/out/chk_tool_measure`, which `rt run` in that crate's folder leaves there. For
-each kind of peer it runs `chk_tool_measure take DOOR TURNS WAIT` anew, which takes each message, reads up
+It wants `crates/chk_tool_door/out/chk_tool_door`, which `rt run` in that crate's folder leaves there. For
+each kind of peer it runs `chk_tool_door DOOR TURNS WAIT` anew, which takes each message, reads up
 to four further pieces, and answers. An honest peer comes after the hostile ones.
 
 A row has the messages and bytes that were taken, the longest call of each kind and the honest peer's
@@ -22,7 +22,7 @@ import threading
 import time
 
 HERE = os.path.dirname(os.path.abspath(__file__))
-PROGRAM = os.path.abspath(os.path.join(HERE, "../crates/chk_tool_measure/out/chk_tool_measure"))
+PROGRAM = os.path.abspath(os.path.join(HERE, "../crates/chk_tool_door/out/chk_tool_door"))
 WAIT = 250
 # In milliseconds: an answer is written, and what still comes is read on, each for up to 2,000.
 BOUNDS = {"take": WAIT, "more": 2000, "answer": 4000}
@@ -161,7 +161,7 @@ def tried(kind, turns, most_faults, most_wait):
     port = free_port()
     door = f"127.0.0.1:{port}"
     with tempfile.TemporaryDirectory() as room:
-        words = [PROGRAM, "take", door, str(turns), str(WAIT)]
+        words = [PROGRAM, door, str(turns), str(WAIT)]
         program = subprocess.Popen(words, cwd=room, stdout=subprocess.PIPE, text=True)
         connected(port).close()
         peers = kind(port)

@@ -1,6 +1,6 @@
 //! Messages taken at a door and answered, with the time that each call takes.
 
-use crate::names::measure;
+use chk_bytes::{NoMemory, Word};
 use chk_site::{CallFault, Role, Site, Taking, Who};
 use std::alloc::Global;
 use std::fmt;
@@ -42,7 +42,7 @@ pub fn takings<S: Site>(
     turns: u32,
     wait: u64,
 ) -> Result<Figures, CallFault> {
-    let who = measure(alloc, Role::Collector)?;
+    let who = taker(alloc)?;
     let mut figures = Figures {
         messages: 0,
         bytes: 0,
@@ -56,6 +56,17 @@ pub fn takings<S: Site>(
     }
     figures.faults = site.faults();
     Ok(figures)
+}
+
+// The collector that takes.
+fn taker(alloc: Global) -> Result<Who, NoMemory> {
+    match Word::new(alloc, b"door".as_slice()) {
+        Ok(name) => Ok(Who {
+            role: Role::Collector,
+            name,
+        }),
+        Err(_) => Err(NoMemory),
+    }
 }
 
 fn turn<S: Site>(
