@@ -40,12 +40,6 @@ ROW = 32
 SPEED_GOAL = 50
 # The most bytes between two records that the program reads at once.
 GAP = 4_096
-# A run that takes so many bytes, in chunks of fewer than so many that lie so far apart in their streams, writes them by windows
-# of its sinks.
-TURNED = 4_194_304
-LONG = 16_384
-CLOSE = 512
-WINDOW = 983_040
 
 
 class Scene:
@@ -58,8 +52,6 @@ class Scene:
         # Chunks of a stream begin at places that differ, so that one in a wrong place is seen.
         self.text = b"".join(LINE % number for number in range(20_000))
         self.sinks = 0
-        # The number of the first chunk of each window of each sink.
-        self.windows = []
 
     def put(self, file, number):
         """The chunk of this number goes to a sink or segment; the place of its first byte there."""
@@ -74,29 +66,16 @@ class Scene:
             self.sinks += 1
             stem = f"c1.1.{self.sinks}"
             with open(f"{self.folder}/sinks/{stem}.done", "wb") as file:
-                sink, last = SequenceFile(stem, file.write), -1
+                sink = SequenceFile(stem, file.write)
                 for number in range(first, min(first + each, self.chunks)):
-                    window = self.put(sink, number) // WINDOW
-                    if window != last:
-                        self.windows.append(number)
-                    last = window
-
-    def parts(self):
-        """The numbers of the chunks that stand stream after stream, part after part."""
-        count = len(self.streams)
-        # A stream's next chunk lies behind the others' and the keys.
-        apart = (count - 1) * (self.chunk + 40) > CLOSE
-        if self.chunks * self.chunk < TURNED or self.chunk >= LONG or not apart:
-            return [(0, self.chunks)]
-        return list(zip(self.windows, [*self.windows[1:], self.chunks]))
+                    self.put(sink, number)
 
     def compare(self, out):
         hashed, count = hashlib.sha256(), len(self.streams)
         segment = SequenceFile("seg.1", hashed.update)
-        for first, past in self.parts():
-            for stream in range(count):
-                for number in range(first + (stream - first) % count, past, count):
-                    self.put(segment, number)
+        for stream in range(count):
+            for number in range(stream, self.chunks, count):
+                self.put(segment, number)
         each = [len(range(stream, self.chunks, count)) for stream in range(count)]
         ends = [(names, number * self.chunk, 0) for names, number in zip(self.streams, each)]
         told = f"archive unclosed 0 taken {self.chunks * self.chunk} held 0 removed {self.sinks}\n"
@@ -121,11 +100,11 @@ def archived(program, scene):
 
 def looped(asked, scene, what, copied):
     """The reads and writes of the segment and the removal of the sinks alone, beside the copy."""
-    folder, part = scene.folder, WINDOW if len(scene.parts()) > 1 else 0
+    folder = scene.folder
     copies.shell(folder, "mkdir loop && cp sinks/*.done loop/")
     copies.settled(folder, "loop/*.done")
     with open(f"{folder}/took", "wb") as took:
-        used = Used([asked.loop, str(GAP), str(part), "loop"], folder, took).wait(3600)
+        used = Used([asked.loop, str(GAP), "0", "loop"], folder, took).wait(3600)
     if used.status != 0:
         sys.exit(f"segment_loop: status {used.status}")
     removal = float(contents(f"{folder}/took"))

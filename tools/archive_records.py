@@ -90,6 +90,10 @@ def records():
         ("STARTED", record(10, b"worl", LOG, 6)),
         ("SPELLED", record(10, b"worl", version=2)),
         ("BEGUN", record(11, b"hello\n", LOG, 5)),
+        ("WORLD_FROM_5", record(12, b"world\n", LOG, 5)),
+        ("HELLO_FROM_3", record(9, b"hello\n", LOG, 3)),
+        ("PAST_FROM_5", record(22, b"past", LOG, 5)),
+        ("WORLD_ALOUD", record(12, b"WORLD\n")),
         ("OTHER", record(2, b"x\n", ("h2", "Log", "/a.log"))),
         ("HALF", record(6, b"hello\n")[:-10]),
     ] + day
@@ -112,11 +116,26 @@ def books():
         ("BOOK_ASIDE", book(2, [], [], (1, size("WORLD")))),
         ("BOOK_TWO_ASIDE", book(2, [], [], (1, size("WORLD", "PAST")))),
         ("BOOK_NEXT_ASIDE", book(3, [], [], (2, size("WORLD", "PAST")))),
+        ("BOOK_TWO_ALOUD", book(2, [], [], (1, size("WORLD", "WORLD_ALOUD")))),
         ("BOOK_CLOSED", book(3, [(2, size("HELLO", "WORLD"))], [(LOG, 12, 0)])),
         ("BOOK_TWELVE", book(3, [(1, size("HELLO")), (2, size("WORLD"))], [(LOG, 12, 0)])),
         ("BOOK_STREAMS", book(2, [(1, size("EARLY", "APP", "HELLO", "EAST", "WEST"))], streams)),
         ("BOOK_DAY", book(2, [(1, size("DAY_H1", "DAY_H2", "DAY_H3"))], day)),
     ]
+
+
+def turns():
+    """The segment of 20 streams, stream after stream, each of 1,100 records of 200 equal bytes."""
+    made = bytearray(b"SEQ\x06" + CLASS + CLASS + b"\0\0" + big_endian(0, 4) + hashlib.md5(b"seg.1").digest())
+    sync = len(made)
+    for host in range(20):
+        for number in range(1100):
+            if len(made) >= sync + 2000:
+                made += b"\xff\xff\xff\xff" + hashlib.md5(b"seg.1").digest()
+                sync = len(made)
+            data = bytes([(host * 7 + number) % 251]) * 200
+            made += record((number + 1) * 200, data, ("h%02d" % host, "Log", "/a.log"))
+    return made
 
 
 def literal(data):
@@ -125,10 +144,10 @@ def literal(data):
 
 
 def constant(name, data):
-    """It stands on one line where it has room in a line with `pub(crate)`. Others read the header alone by its name."""
+    """It stands on one line where it has room in a line with `pub(crate)`. Others read the header and the MD5 by their names."""
     line = 'pub(crate) const %s: &[u8] = b"%s";' % (name, literal(data))
     line = line if len(line) <= 100 else line.replace(" = ", " =\n    ", 1)
-    return line if name == "HEADER" else line.replace("pub(crate) ", "", 1)
+    return line if name in ("HEADER", "TURNS") else line.replace("pub(crate) ", "", 1)
 
 
 # Parts that the test joins with others, and files that are none of the archive's.
@@ -176,6 +195,7 @@ def text():
     made += group("Records of chunks.", records())
     made += PIECES
     made += group("Books of the archive.", books())
+    made += group("The MD5 of a segment of short records of 20 streams.", [("TURNS", hashlib.md5(turns()).digest())])
     made += lookup("marker", "The marker of a sink or segment.", names_of(markers()))
     pieces = ["LINE", "REST", "TORN", "LONG", "NO_SEQ", "BORN", "BYTE"]
     what = "A record, or a file that is none of the archive's."

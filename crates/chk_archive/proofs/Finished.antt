@@ -1,5 +1,5 @@
 -- What was taken, and then the removal of the listed done sinks, make the run.
-use Rattle.std.proofs.Common.{◌≡◌, ℕ, ◌≤◌, false, List, length, Option, Ok, Err, Result, subst, refl}
+use Rattle.std.proofs.Common.{◌≡◌, ℕ, false, List, Option, Ok, Err, Result, subst, refl}
 use Rattle.chk_site.specs.declared.acts.OutsideFault.{OutsideFault}
 use Rattle.chk_site.specs.declared.acts.OutsideFault.TheVariants.{Outside as site_failed, NoMemory as no_memory}
 use Rattle.chk_site.specs.Acts.{Deed, Starts, Reads}
@@ -24,9 +24,11 @@ use Rattle.chk_parts.proofs.FromKnown.{from_known, reach}
 use Rattle.chk_archive.specs.Archived.{Archived, RunDone, NoStray, MergesBy}
 use Rattle.chk_archive.specs.Counting.{IsCounted}
 use Rattle.chk_archive.specs.Listed.{IsListed}
+use Rattle.chk_archive.specs.Merged.{IsMergeOf}
 use Rattle.chk_archive.specs.Running.{FinishesBy, takes_by, removes_closed}
 use Rattle.chk_archive.specs.Sinks.{MayGo, SinksRemoved, RemovesShown, removes_shown}
 use Rattle.chk_archive.specs.Taking.{TookAll, TookSo}
+use Rattle.chk_archive.specs.Written.{for_new}
 use Rattle.chk_archive.specs.declared.counting.Counted.{Counted}
 use Rattle.chk_archive.specs.declared.taking.Taken.{Taken}
 use Rattle.chk_archive.proofs.FoundSources.{K}
@@ -58,7 +60,11 @@ pub take_fails : (stamped : List (List ℕ)) (v : Sight) (old new loaded : Book)
     → TookSo stamped v old new (Err fault) h → Archived stamped loaded (Err fault) h
 take_fails stamped v old new loaded (Outside call) h k = k
 take_fails stamped v old new loaded (Damaged name place) h k = k
-take_fails stamped v old new loaded (Spent n) h k = k
+take_fails stamped v old new loaded (Spent n) h k = record {
+  legal = k.legal;
+  may_act = k.may_act;
+  alive = λ runs. let t = k.alive runs in (t.last_number, for_new t.l t.last t.lacks);
+}
 take_fails stamped v old new loaded NoMemory h k = k
 
 pub of_fault : (stamped : List (List ℕ)) (loaded : Book) (fault : OutsideFault) (h : History) → Legal stamped h
@@ -108,7 +114,7 @@ module _ (stamped : List (List ℕ)) (names : List (List ℕ)) (b : Book) (v : S
       (λ h k. of_fault stamped loaded fault h k.legal)
 
   pub run_finished : (c : Counted) → IsCounted names c → NoStray loaded (K stamped names b v at).upto
-      → (16 ≤ length loaded.segments → length b.segments ≤ 1) → (value : Unit {0}) → r ≡ Ok value
+      → IsMergeOf loaded b v → (value : Unit {0}) → r ≡ Ok value
       → Adds a z (Leads (As stamped job) (Knows stamped v) (AtTold stamped job (RunDone loaded (record {
         unclosed = c.unclosed;
         first_unclosed = c.first_unclosed;
@@ -117,7 +123,7 @@ module _ (stamped : List (List ℕ)) (names : List (List ℕ)) (b : Book) (v : S
         removed = c.closed;
         ends = new.ends;
       }))))
-  run_finished c counted strays few value is =
+  run_finished c counted strays merge value is =
       from_taken _
       (λ h g took j last.
       let x = subst (λ y. SinksRemoved stamped (sight h).own names y g) is j in
@@ -125,6 +131,6 @@ module _ (stamped : List (List ℕ)) (names : List (List ℕ)) (b : Book) (v : S
         legal = x.legal;
         may_act = x.may_act;
         alive = λ still.
-            run_done stamped names b v at new t (sight h) took g x.legal (x.alive still) last loaded c counted strays few;
+            run_done stamped names b v at new t (sight h) took g x.legal (x.alive still) last loaded c counted strays merge;
       })
       (λ h k. record { legal = k.legal; may_act = k.may_act; alive = λ runs. absurd (k.alive runs) })

@@ -4,7 +4,7 @@ use Rattle.std.specs.Prelude.{IsTrue, Contains, codes, count_by, filter, filter_
 use Rattle.std.specs.List.{AllZip, cons_option}
 use Rattle.std.proofs.lemmas.List.Sums.{sum_by-append, sum_by-cons}
 use Rattle.std.proofs.lemmas.List.Elements.{Contains-append_right}
-use Rattle.chk_chunk.specs.Keys.{Stream, Chunk, chunk_limit, is_of}
+use Rattle.chk_chunk.specs.Keys.{Stream, Chunk, chunk_limit}
 use Rattle.chk_seqfile.specs.Entries.{Placed, records_of}
 use Rattle.chk_world.specs.Names.{ArchiveFolder, Name, SegmentFile, DoneFile, read, file}
 use Rattle.chk_world.specs.Books.{Segment, Book, chunks_in, chunk_of}
@@ -29,22 +29,20 @@ use Rattle.chk_plan.proofs.HeadOrder.{heads_sort}
 use Rattle.chk_plan.proofs.Runs.{all_put}
 use Rattle.chk_parts.specs.declared.cuts.Cut.{Cut}
 use Rattle.chk_parts.specs.Cuts.{no_chunk, cut_chunks, AreWithin}
-use Rattle.chk_parts.specs.Kept.{kept_in, is_first, are_old_aside}
+use Rattle.chk_parts.specs.Kept.{past_chunks, is_first, are_old_aside}
 use Rattle.chk_parts.specs.Gathering.{held, heads_of}
 use Rattle.chk_parts.specs.Records.{IsRecordOf, AreRecords, chunks_held}
 use Rattle.chk_parts.proofs.CutLists.{zip_at}
 use Rattle.chk_parts.proofs.Fetches.{any_default}
 use Rattle.chk_parts.proofs.FoundRecords.{records_in_order, are_heads}
 use Rattle.chk_parts.proofs.CutParts.{cuts_are_parts}
-use Rattle.chk_parts.proofs.KeptOnce.{kept_are_once}
 use Rattle.chk_parts.proofs.OldAsides.{old_asides_are_whole}
 use Rattle.chk_archive.specs.FolderNames.{closed_in}
 use Rattle.chk_archive.specs.Listed.{IsListed, aside_files, sources_in}
 use Rattle.chk_archive.specs.Taking.{IsPlanned, IsWhole, CanPrepare}
 use Rattle.chk_archive.specs.declared.taking.Planned.{Planned}
-use Rattle.chk_archive.proofs.ByStream.{SameByStream}
 use Rattle.chk_archive.proofs.Listings.{sources_sound, found_is, own_then, in_append, in_cons, segment_chunks_are, reads_segment, counted}
-use Rattle.chk_archive.proofs.FoundSources.{K, then_files, each_found, known_end, of_logs}
+use Rattle.chk_archive.proofs.FoundSources.{K, then_files, each_found, known_end}
 use Rattle.chk_archive.proofs.NextBook.{Ends, Cs, facts}
 
 zip_size : (P : Head → Chunk → Type 0) (hs : List Head) (cs : List Chunk) → AllZip P hs cs → length hs ≡ length cs
@@ -160,15 +158,14 @@ module _ (stamped : List (List ℕ)) (names : List (List ℕ)) (b : Book) (v : S
     gives = plans_give planned.known (heads_of v 0 Files) Found Spans Reached heads_found (each_found stamped names b v at)
         planned.spans begin_at
 
-    pub parts_are : SameByStream (cut_chunks Ordered p.cuts) (parts_of Reached Ordered)
-    parts_are s =
-        cuts_are_parts planned.known Hs Found Spans p.cuts heads_ordered planned.spans planned.cuts s
-        ∙ ap (filter (is_of s)) (sym gives.parts)
+    pub parts_are : cut_chunks Ordered p.cuts ≡ parts_of Reached Ordered
+    parts_are =
+        ap (cut_chunks Ordered) planned.cuts
+        ∙ cuts_are_parts planned.known (heads_of v 0 Files) Found Spans Reached heads_found (each_found stamped names b v at)
+        planned.spans begin_at
 
-    pub kept_are : cut_chunks Ordered (kept_in Hs None Spans) ≡ set_aside (ends_of Reached Ordered) Ordered
-    kept_are =
-        kept_are_once planned.known Hs Found Spans heads_ordered (of_logs stamped names b v at) planned.spans
-        ∙ ap once (sym gives.past)
+    pub kept_are : once (past_chunks Ordered Spans) ≡ set_aside (ends_of Reached Ordered) Ordered
+    kept_are = ap once (sym gives.past)
 
     pub taken_is : p.taken ≡ total_gain Reached Ordered
     taken_is = planned.taken ∙ sym gives.gain

@@ -28,8 +28,11 @@ mod Finished
 mod MergeSteps
 mod MergeFacts
 mod MergedBook
+mod RawSources
+mod MergeOrder
 mod MergedMany
 mod Uncounted
 mod NoStrays
 mod Settled
 mod RunKinds
+pub mod WrittenStays

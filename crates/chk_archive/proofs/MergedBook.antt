@@ -1,5 +1,5 @@
 -- The book that names the merged segment alone may be published.
-use Rattle.std.proofs.Common.{◌≡◌, ◌⊎◌, inl, inr, ℕ, zero, suc, List, [], ◌∷◌, length, Some, None, ap, sym, subst, ◌∙◌, refl, arith, append-nil}
+use Rattle.std.proofs.Common.{◌≡◌, ◌⊎◌, inl, inr, ℕ, zero, suc, ◌+◌, List, [], ◌∷◌, length, Some, None, ap, sym, subst, ◌∙◌, refl, arith, append-nil}
 use Rattle.std.specs.Prelude.{IsTrue, Any, Contains, flat_map}
 use Rattle.std.proofs.lemmas.List.Elements.{Contains-append_left, Contains-append_right}
 use Rattle.chk_bytes.specs.Stems.{is_count}
@@ -9,6 +9,7 @@ use Rattle.chk_chunk.specs.Keys.{Stream, is_of, same_data, chunk_limit}
 use Rattle.chk_world.specs.Names.{ArchiveFolder, SegmentFile, file}
 use Rattle.chk_world.specs.Books.{Segment, End, Book, book_of, AllChunks, chunks_in, chunks_within, chunks_named, chunks_of_stream, segment_chunks, values, aside_in}
 use Rattle.chk_world.specs.Committed.{HasFile, aside_chunks}
+use Rattle.chk_world.specs.ArchiveRuns.{in_order}
 use Rattle.chk_world.specs.Jobs.{Run, IsSoundSegment, BookNamesSyncedSegments, Grows, ArchiveGrowsByParts, segment_list, aside_after, chunks_after, NewBook}
 use Rattle.chk_world.specs.Rules.{Legal}
 use Rattle.chk_world.specs.Sight.{Sight, sight, own_book, own_chunks}
@@ -22,7 +23,7 @@ use Rattle.chk_archive.proofs.Listings.{limits_agree}
 use Rattle.chk_archive.proofs.MergeFacts.{facts, true_book, counted, stream_self}
 
 -- the archive has this book, no other segments than the book's and the next one, and that one has
--- all records of the named ones, each stream's in its order; the new book names it alone
+-- all records of the named ones, each stream's in its order, stream after stream; the new book names it alone
 pub record IsMergedFor (b new : Book) (u : Sight) : Type 0 where
   pub book : own_book u ArchiveFolder ≡ b
   pub strays : (k : ℕ) → IsTrue (is_count k)
@@ -33,6 +34,9 @@ pub record IsMergedFor (b new : Book) (u : Sight) : Type 0 where
   pub sound : AllChunks chunk_limit f.bytes
   pub same : (s : Stream) → chunks_of_stream s (chunks_within chunk_limit f.bytes)
       ≡ chunks_of_stream s (own_chunks u ArchiveFolder b.segments)
+  pub in_turn : chunks_within chunk_limit f.bytes ≡ in_order (own_chunks u ArchiveFolder b.segments)
+  pub counts : (k : Segment) → Contains b.segments k → IsTrue (is_count k.number)
+  pub next : new.next ≡ b.next + 1
   pub alone : new.segments ≡ record { number = b.next; length = length f.bytes } ∷ []
   pub ends : new.ends ≡ b.ends
   pub aside : new.aside ≡ b.aside

@@ -1,5 +1,5 @@
 -- Many segments are merged into one, and the book that names it is published.
-use Rattle.std.proofs.Common.{◌≡◌, ◌⊎◌, inl, inr, ℕ, ◌<◌, Bool, true, false, List, [], ◌++◌, length, Option, None, Ok, Err, Result, ap, sym, subst, ◌∙◌, refl, arith, if◌then◌else◌}
+use Rattle.std.proofs.Common.{◌≡◌, ◌⊎◌, inl, inr, ℕ, ◌<◌, ◌≤◌, Bool, true, false, List, [], ◌++◌, length, Option, None, Ok, Err, Result, ap, sym, subst, ◌∙◌, refl, arith, if◌then◌else◌, append-nil}
 use Rattle.std.specs.Prelude.{IsTrue, IsFalse, Contains, codes, nat_eq}
 use Rattle.std.specs.List.{list_any}
 use Rattle.std.proofs.lemmas.Bool.{or_left}
@@ -14,7 +14,8 @@ use Rattle.chk_site.specs.Runs.{Leads, anyhow}
 use Rattle.chk_site.proofs.Leads.{leads_as, leads_then}
 use Rattle.chk_chunk.specs.Keys.{chunk_limit}
 use Rattle.chk_world.specs.Names.{ArchiveFolder, Name, SegmentFile}
-use Rattle.chk_world.specs.Books.{Segment, Book, book_of, chunks_within, chunks_of_stream}
+use Rattle.chk_world.specs.Books.{Segment, Book, book_of, chunks_in, chunks_within, chunks_of_stream}
+use Rattle.chk_world.specs.ArchiveRuns.{in_order}
 use Rattle.chk_world.specs.Jobs.{segment_list, all_segments}
 use Rattle.chk_world.specs.Rules.{Legal}
 use Rattle.chk_world.specs.Places.{As, Foreign}
@@ -38,21 +39,23 @@ use Rattle.chk_parts.proofs.FromKnown.{from_known, reach, reach_known}
 use Rattle.chk_archive.specs.Archived.{ReplacesBook}
 use Rattle.chk_archive.specs.FolderNames.{names_segment}
 use Rattle.chk_archive.specs.Tidying.{IsTidy}
-use Rattle.chk_archive.specs.Merged.{IsMerged, Merged}
+use Rattle.chk_archive.specs.Merged.{few_stay, many_merged, IsMerged, Merged}
 use Rattle.chk_parts.specs.Publishing.{IsPublished, MayFollow, Published}
 use Rattle.chk_parts.proofs.Published.{replaces_no_start, quiet_replace}
 use Rattle.chk_archive.proofs.BookFacts.{unnamed}
 use Rattle.chk_archive.proofs.Preparing.{but_book}
 use Rattle.chk_archive.proofs.MergeSteps.{no_merge_starts, quiet_merging, over_merge}
 use Rattle.chk_archive.proofs.MergeFacts.{facts, counted, in_map, settled, named_chunks, never_damaged, apart}
+use Rattle.chk_archive.proofs.Listings.{limits_agree}
 use Rattle.chk_archive.proofs.MergedBook.{IsMergedFor, known_chunks, merged_may}
+use Rattle.chk_archive.proofs.MergeOrder.{merged_in_order}
 
 -- fewer than 16 are left as they are
 pub few_left : (b : Book) (u : Sight) → IsTidy b u → length b.segments < 16 → IsMerged b b u
 few_left b u tidy few = record {
   book = tidy.book;
   strays = λ k count. elim (tidy.strays k count) [ inl none ↦ inl none | inr named ↦ inr (inl named) ];
-  few = λ many. absurd (let z : ⊥ = omega (arith, many, few) in z);
+  merged = few_stay few refl;
 }
 
 -- what the merging leaves, before the book is published
@@ -148,41 +151,49 @@ module _ (stamped : List (List ℕ)) (b : Book) (h : History) (legal : Legal sta
           (flat_same (λ w. chunks_within chunk_limit (bytes_in (F w))) (λ w. chunks_within chunk_limit (bytes_in (files_after g w))) Names
           (λ w one. ap (λ o. chunks_within chunk_limit (bytes_in o)) (sym (has w one)))
           ∙ (named_chunks stamped g ok b book_after ∙ sym (known_chunks stamped g ok b book_after)));
+      in_turn = m.in_turn
+          ∙ (merged_in_order chunk_limit F Names
+          ∙ ap in_order
+          (flat_same (λ w. chunks_within chunk_limit (bytes_in (F w))) (λ w. chunks_within chunk_limit (bytes_in (files_after g w))) Names
+          (λ w one. ap (λ o. chunks_within chunk_limit (bytes_in o)) (sym (has w one)))
+          ∙ (named_chunks stamped g ok b book_after ∙ sym (known_chunks stamped g ok b book_after))));
+      counts = λ k one. counted stamped h legal b book k (Contains-append_left b.segments (segment_list b.aside) k one);
+      next = m.next;
       alone = m.alone;
       ends = m.ends;
       aside = m.aside;
     }
 
-  after : (new : Book) (r : Result (Unit {0}) JobFault) → SpentBook b r → (g : History)
+  after : (new : Book) (r : Result (Unit {0}) JobFault) → SpentBook b r → 16 ≤ length b.segments → (g : History)
       → AtJob stamped (SameBut b.next (sight h)) g → HasMerged (codes "archive") b new F r g → MergedSo stamped b new r g
-  after new (Ok value) spent g k m = record {
+  after new (Ok value) spent many g k m = record {
     legal = k.legal;
     may_act = k.may_act;
     alive = λ runs. merged_for g k.legal (k.alive runs) new m.0 m.1;
   }
-  after new (Err (Outside call)) spent g k m = k.legal
-  after new (Err (Damaged name at)) spent g k m = record {
+  after new (Err (Outside call)) spent many g k m = k.legal
+  after new (Err (Damaged name at)) spent many g k m = record {
     legal = k.legal;
     may_act = k.may_act;
     alive = λ runs. never_damaged stamped h legal b book m.1.0 name at m.1.1;
   }
-  after new (Err (Spent n)) spent g k m = record {
+  after new (Err (Spent n)) spent many g k m = record {
     legal = k.legal;
     may_act = k.may_act;
-    alive = λ runs. (spent.0, ap (λ (c : Book). c.next) (book_after g k.legal (k.alive runs)) ∙ spent.1);
+    alive = λ runs. (spent.0, many, spent.1, book_after g k.legal (k.alive runs));
   }
-  after new (Err NoMemory) spent g k m = k.legal
+  after new (Err NoMemory) spent many g k m = k.legal
 
 -- a merge of a tidy archive's segments
 pub merged_so : (stamped : List (List ℕ)) (b new : Book) (r : Result (Unit {0}) JobFault) → SpentBook b r
-    → {old mid : Option History}
+    → 16 ≤ length b.segments → {old mid : Option History}
     → ((held : Files) → AreSettled (names_of (codes "archive") b) held
     → AreApart (names_of (codes "archive") b) (segment_name (codes "archive") b.next) → Adds old mid
     (Leads (anyhow (SparesBoth (names_of (codes "archive") b) (segment_name (codes "archive") b.next)))
     (HasFiles (names_of (codes "archive") b) held) (HasMerged (codes "archive") b new held r)))
     → Adds old mid (Every (IsOf (ReadsOrWrites (segment_name (codes "archive") b.next))))
     → Adds old mid (Leads (As stamped job) (AtJob stamped (IsTidy b)) (MergedSo stamped b new r))
-merged_so stamped b new r spent raw own =
+merged_so stamped b new r spent many raw own =
     let w = segment_name (codes "archive") b.next in
     from_known stamped (ReadsOrWrites w) (no_merge_starts w) (quiet_merging w) (IsTidy b) (MergedSo stamped b new r) own
     (λ h k runs.
@@ -192,7 +203,7 @@ merged_so stamped b new r spent raw own =
     let names = names_of (codes "archive") b in
     let at = free stamped b h k.legal tidy in
     reach stamped h (λ g. AtJob stamped (SameBut b.next v) g × HasFiles names held g) (MergedSo stamped b new r)
-    (leads_as (λ g x. x) (λ g x. after stamped b h k.legal tidy new r spent g x.0 x.1)
+    (leads_as (λ g x. x) (λ g x. after stamped b h k.legal tidy new r spent many g x.0 x.1)
     (over_merge stamped (SameBut b.next v) b.next at.count (still_unnamed v [] b.next at)
     (λ u o s. but_segment stamped b h k.legal tidy v u o s) (SparesBoth names w) (spares stamped b h k.legal tidy)
     (HasFiles names held) (HasMerged (codes "archive") b new held r)
@@ -210,15 +221,23 @@ merge_fails stamped b new last NoMemory h k = k
 
 -- ---- the publication
 
-published_merged : (b new : Book) (u w : Sight) → IsMergedFor b new u → IsPublished ArchiveFolder u new w → IsMerged b new w
-published_merged b new u w m p = record {
+published_merged : (b new : Book) → 16 ≤ length b.segments → (u w : Sight) → IsMergedFor b new u → IsPublished ArchiveFolder u new w
+    → IsMerged b new w
+published_merged b new many u w m p = record {
   book = p.book;
   strays = λ k count. elim (m.strays k count) [
     | inl none ↦ inl (p.own (SegmentFile ArchiveFolder k) refl ∙ none)
     | inr (inl next) ↦ inr (inl (names_next k next))
     | inr (inr named) ↦ inr (inr named)
   ];
-  few = λ many. let e = ap length m.alone in omega (arith, e);
+  merged = many_merged many (record { number = b.next; length = length m.f.bytes }) refl m.alone m.next m.counts
+      (append-nil (chunks_in (w.own (SegmentFile ArchiveFolder b.next)))
+      ∙ (ap chunks_in (p.own (SegmentFile ArchiveFolder b.next) refl ∙ m.there)
+      ∙ (limits_agree m.f.bytes m.sound
+      ∙ (m.in_turn ∙ ap in_order
+      (flat_same (λ (g : Segment). chunks_in (u.own (SegmentFile ArchiveFolder g.number)))
+      (λ (g : Segment). chunks_in (w.own (SegmentFile ArchiveFolder g.number))) b.segments
+      (λ g one. ap chunks_in (sym (p.own (SegmentFile ArchiveFolder g.number) refl))))))));
 }
   where
     names_next : (k : ℕ) → k ≡ b.next → names_segment new k ≡ true
@@ -226,7 +245,8 @@ published_merged b new u w m p = record {
         ap (λ gs. list_any (λ (g : Segment). nat_eq g.number k) (gs ++ segment_list new.aside)) m.alone
         ∙ or_left (nat_eq b.next k) _ (subst (λ n. nat_eq n k ≡ true) next (nat_self k))
 
-module _ (stamped : List (List ℕ)) (b new : Book) (r : Result (Unit {0}) OutsideFault) {a m z : Option History}
+module _ (stamped : List (List ℕ)) (b new : Book) (many : 16 ≤ length b.segments) (r : Result (Unit {0}) OutsideFault)
+    {a m z : Option History}
     (told : Adds a m (Leads (As stamped job) (AtJob stamped (IsTidy b)) (AtJob stamped (IsMergedFor b new))))
     (own : Adds m z (Every (IsOf ReplacesBook)))
     (second : (u : Sight) → MayFollow stamped ArchiveFolder u new
@@ -261,7 +281,7 @@ module _ (stamped : List (List ℕ)) (b new : Book) (r : Result (Unit {0}) Outsi
       record {
         legal = x.legal;
         may_act = x.may_act;
-        alive = λ still. published_merged b new (sight h) (sight g) ready (x.alive still);
+        alive = λ still. published_merged b new many (sight h) (sight g) ready (x.alive still);
       })
       (second (sight h) (merged_may stamped b new (sight h) ready))) k)
       (λ h x. record { legal = x.legal; may_act = x.may_act; alive = λ runs. absurd (x.alive runs) }))

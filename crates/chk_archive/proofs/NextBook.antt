@@ -132,7 +132,7 @@ module _ (stamped : List (List ℕ)) (names : List (List ℕ)) (b : Book) (v : S
     all_named new parts (nothing_taken none segments ends) =
         ap (flat_map (segment_chunks F ArchiveFolder)) segments
         ∙ (sym (append-nil (chunks_named F ArchiveFolder b)) ∙ ap (λ l. chunks_named F ArchiveFolder b ++ l) (sym none))
-    all_named new parts (one_added g low w segments ends) =
+    all_named new parts (one_added g low some w segments ends) =
         ap (flat_map (segment_chunks F ArchiveFolder)) segments
         ∙ (flat_map-append (segment_chunks F ArchiveFolder) b.segments (g ∷ [])
         ∙ ap (λ l. chunks_named F ArchiveFolder b ++ l)
@@ -300,7 +300,7 @@ module _ (stamped : List (List ℕ)) (names : List (List ℕ)) (b : Book) (v : S
         where
           go : PartsAdded (sight h) b new parts → new.ends ≡ raised_all parts b.ends
           go (nothing_taken none segments ends) = ends ∙ ap (λ l. raised_all l b.ends) (sym none)
-          go (one_added g low w segments ends) = ends
+          go (one_added g low some w segments ends) = ends
 
       -- the stream's archive ends where it did
       end_of_start : (e : End) → StartsSo b Cs e → archived_end h e.stream ≡ Ends e.stream
@@ -341,7 +341,7 @@ module _ (stamped : List (List ℕ)) (names : List (List ℕ)) (b : Book) (v : S
           of_parts (nothing_taken none segments ends) k =
               old_book.sound g (Contains-append_left b.segments (segment_list b.aside) g
               (subst (λ l. Contains l g) segments k))
-          of_parts (one_added f low w segments ends) k =
+          of_parts (one_added f low some w segments ends) k =
               elim (from_both b.segments (f ∷ []) g (subst (λ l. Contains l g) segments k)) [
                 | inl old ↦ old_book.sound g (Contains-append_left b.segments (segment_list b.aside) g old)
                 | inr last ↦ subst (λ (x : Segment). HasFile (file N (SegmentFile ArchiveFolder x.number)) (IsSoundSegment ArchiveFolder x))

@@ -21,6 +21,7 @@ use Rattle.chk_parts.specs.Cuts.{cut_chunks}
 use Rattle.chk_parts.specs.Kept.{are_old_aside}
 use Rattle.chk_parts.specs.Writes.{SameBut, HasWritten, Written}
 use Rattle.chk_archive.specs.Archived.{MergesBy, merge_reads, merge_writes}
+use Rattle.chk_archive.specs.Written.{one_for}
 use Rattle.chk_archive.specs.Taking.{SameBelow, IsWhole, none_kept, old_kept, new_kept, HasParts, no_parts, with_parts, PartsTaken, HasAside, AsideKept, stays_aside}
 
 -- ---- what stays
@@ -75,44 +76,55 @@ of_merge k call (inr writes) = merge_writes k call writes
 
 -- ---- what is taken
 
+pub one_some : (cs : List Chunk) → (cs ≡ [] → ⊥) → one_for cs ≡ 1
+one_some [] some = absurd (some refl)
+one_some (c ∷ cs) some = refl
+
+pub cuts_some : (cs : List Chunk) (cuts : List Cut) → false ≡ (length cuts == 0) → cut_chunks cs cuts ≡ [] → ⊥
+cuts_some cs [] e none = true≢false (sym e)
+cuts_some cs (k ∷ ks) e none = let z : ⊥ = grind (arith, none) in z
+
 pub none_taken : (v : Sight) (b : Book) (parts : List Chunk) → parts ≡ [] → HasParts v b b parts v
 none_taken v b parts none = no_parts none refl (below_self b.next v)
 
 module _ (stamped : List (List ℕ)) (v : Sight) (b after : Book) (book : own_book v ArchiveFolder ≡ b) (parts : List Chunk) where
   has_parts : (u : Sight) → HasWritten (λ c g. with_segment c g parts) v b after parts u
-      → (b.next ≡ 2 ^ 63 - 1 → ⊥) → HasParts v b after parts u
-  has_parts u w spent = with_parts w.segment w.number w.holds w.book spent (below_but b.next v u w.same)
+      → (b.next ≡ 2 ^ 63 - 1 → ⊥) → (parts ≡ [] → ⊥) → HasParts v b after parts u
+  has_parts u w spent some = with_parts w.segment w.number w.holds w.book spent some (below_but b.next v u w.same)
 
-  pub parts_taken : (r : Result (Unit {0}) JobFault) → SpentBook b r → (h : History)
+  pub parts_taken : (r : Result (Unit {0}) JobFault) → SpentBook b r → (parts ≡ [] → ⊥) → (h : History)
       → Written stamped (λ c g. with_segment c g parts) v b after parts r h → PartsTaken stamped v b after parts r h
-  parts_taken (Ok value) spent h k = record {
+  parts_taken (Ok value) spent some h k = record {
     legal = k.legal;
     may_act = k.may_act;
-    alive = λ runs. has_parts (sight h) (k.alive runs) spent;
+    alive = λ runs. has_parts (sight h) (k.alive runs) spent some;
   }
-  parts_taken (Err (Outside call)) spent h k = k
-  parts_taken (Err (Damaged name at)) spent h k = k
-  parts_taken (Err (Spent n)) spent h k = record {
+  parts_taken (Err (Outside call)) spent some h k = k
+  parts_taken (Err (Damaged name at)) spent some h k = k
+  parts_taken (Err (Spent n)) spent some h k = record {
     legal = k.legal;
     may_act = k.may_act;
     alive = λ runs.
         let last = spent.1 in
-        let same : own_book (sight h) ArchiveFolder ≡ b = but_book b.next v (sight h) (k.alive runs) ∙ book in
+        let was = but_book b.next v (sight h) (k.alive runs) in
+        let same : own_book (sight h) ArchiveFolder ≡ b = was ∙ book in
         let next = ap (λ (c : Book). c.next) same in
-        (spent.0, omega (arith, last, next));
+        let one = one_some parts some in
+        (spent.0, omega (arith, last, next, one), was, (k.alive runs).listing);
   }
-  parts_taken (Err NoMemory) spent h k = k
+  parts_taken (Err NoMemory) spent some h k = k
 
 -- ---- what is set aside
 
 module _ (v : Sight) (b : Book) (heads : List Head) (old : ℕ) (cs : List Chunk) where
   pub aside_stays : (kept : List Cut) → stays_aside b heads old kept ≡ true
-      → IsWhole v b heads old kept (cut_chunks cs kept) → HasAside v b b (cut_chunks cs kept) false v
+      → IsWhole v b heads old kept (cut_chunks cs kept) → HasAside v b b (cut_chunks cs kept) true false v
   aside_stays [] is whole = record {
     same = below_self b.next v;
     segments = refl;
     ends = refl;
     aside = none_kept refl (nothing b.aside is);
+    numbers = omega arith;
     unchanged = λ e. refl;
   }
     where
@@ -127,6 +139,7 @@ module _ (v : Sight) (b : Book) (heads : List Head) (old : ℕ) (cs : List Chunk
         segments = refl;
         ends = refl;
         aside = old_kept (whole g.0 g.1 p.1) refl;
+        numbers = omega arith;
         unchanged = λ e. refl;
       }
     where
@@ -136,19 +149,20 @@ module _ (v : Sight) (b : Book) (heads : List Head) (old : ℕ) (cs : List Chunk
 
 -- nothing is set aside
 pub aside_goes : (v : Sight) (b : Book) (kept : List Chunk) → kept ≡ []
-    → HasAside v b (record { next = b.next; segments = b.segments; ends = b.ends; aside = None }) kept true v
+    → HasAside v b (record { next = b.next; segments = b.segments; ends = b.ends; aside = None }) kept false true v
 aside_goes v b kept none = record {
   same = below_self b.next v;
   segments = refl;
   ends = refl;
   aside = none_kept none refl;
+  numbers = let z = ap one_for none in omega (arith, z);
   unchanged = λ e. absurd (true≢false e);
 }
 
-module _ (stamped : List (List ℕ)) (v : Sight) (b after : Book) (kept : List Chunk) where
+module _ (stamped : List (List ℕ)) (v : Sight) (b after : Book) (kept : List Chunk) (some : kept ≡ [] → ⊥) where
   pub aside_written : (value : Unit {0}) (h : History)
       → Written stamped (λ c g. with_aside c (Some g)) v b after kept (Ok value) h
-      → AsideKept stamped v b after kept (Ok true) h
+      → AsideKept stamped v b after kept false (Ok true) h
   aside_written value h k = record {
     legal = k.legal;
     may_act = k.may_act;
@@ -159,19 +173,24 @@ module _ (stamped : List (List ℕ)) (v : Sight) (b after : Book) (kept : List C
           segments = ap (λ (c : Book). c.segments) w.book;
           ends = ap (λ (c : Book). c.ends) w.book;
           aside = new_kept w.segment (let e = w.number in omega (arith, e)) w.holds (ap (λ (c : Book). c.aside) w.book);
+          numbers =
+              let next = ap (λ (c : Book). c.next) w.book in
+              let number = w.number in
+              let one = one_some kept some in
+              omega (arith, next, number, one);
           unchanged = λ e. absurd (true≢false e);
         };
   }
 
   pub aside_fails : (fault : JobFault) → SpentBook {T = Unit {0}} b (Err fault) → (h : History)
       → Written stamped (λ c g. with_aside c (Some g)) v b after kept (Err fault) h
-      → AsideKept stamped v b after kept (Err fault) h
+      → AsideKept stamped v b after kept false (Err fault) h
   aside_fails (Outside call) spent h k = k
   aside_fails (Damaged name at) spent h k = k
   aside_fails (Spent n) spent h k = record {
     legal = k.legal;
     may_act = k.may_act;
-    alive = λ runs. (spent.0, spent.1, but_book b.next v (sight h) (k.alive runs));
+    alive = λ runs. (spent.0, spent.1, one_some kept some, but_book b.next v (sight h) (k.alive runs), (k.alive runs).listing);
   }
   aside_fails NoMemory spent h k = k
 

@@ -1,5 +1,5 @@
 -- After the first segment the second one can be written, and then the next book stands ready.
-use Rattle.std.proofs.Common.{◌≡◌, ◌⊎◌, inl, inr, ℕ, ◌+◌, ◌-◌, ◌<◌, ◌≤◌, ◌^◌, Bool, true, false, ◌||◌, List, [], ◌∷◌, Option, Ok, Err, Result, ap, sym, subst, ◌∙◌, refl, arith}
+use Rattle.std.proofs.Common.{◌≡◌, ◌⊎◌, inl, inr, ℕ, ◌+◌, ◌-◌, ◌<◌, ◌≤◌, ◌^◌, Bool, true, false, not, ◌&&◌, ◌||◌, List, [], ◌∷◌, Option, Ok, Err, Result, ap, sym, subst, ◌∙◌, refl, arith}
 use Rattle.std.specs.Prelude.{IsFalse, Contains, nat_eq, nat_lt, flat_map}
 use Rattle.std.specs.List.{AllZip}
 use Rattle.std.proofs.lemmas.List.Elements.{Contains-append_right}
@@ -13,7 +13,8 @@ use Rattle.chk_site.specs.Runs.{Leads}
 use Rattle.chk_site.proofs.Leads.{leads_as, leads_then}
 use Rattle.chk_chunk.specs.Keys.{Chunk, chunk_limit}
 use Rattle.chk_world.specs.Names.{ArchiveFolder, Name, BookFile, SegmentFile, read}
-use Rattle.chk_world.specs.Books.{Segment, Book, chunks_in}
+use Rattle.chk_world.specs.Books.{Segment, Book, chunks_in, is_nothing}
+use Rattle.chk_parts.specs.Kept.{are_old_aside}
 use Rattle.chk_world.specs.Jobs.{segment_list}
 use Rattle.chk_world.specs.Places.{As}
 use Rattle.chk_world.specs.Sight.{job, Sight, sight, own_book, own_aside, AtJob}
@@ -37,9 +38,10 @@ use Rattle.chk_parts.proofs.FromKnown.{from_known, reach_known}
 use Rattle.chk_parts.proofs.OneSegment.{quiet_write}
 use Rattle.chk_archive.specs.Archived.{writes_book, names_book, MergesBy, merge_reads, merge_writes, merge_replaces}
 use Rattle.chk_archive.specs.FolderNames.{names_segment}
-use Rattle.chk_archive.specs.Taking.{SameBelow, IsWhole, CanPrepare, PartsAdded, nothing_taken, one_added, AsideNamed, none_kept, old_kept, new_kept, HasParts, no_parts, with_parts, PartsTaken, HasAside, AsideKept, IsReady, Prepared}
+use Rattle.chk_archive.specs.Taking.{SameBelow, IsWhole, CanPrepare, PartsAdded, nothing_taken, one_added, AsideNamed, none_kept, old_kept, new_kept, HasParts, no_parts, with_parts, PartsTaken, HasAside, AsideKept, IsReady, Prepared, stays_aside}
 use Rattle.chk_archive.proofs.BookFacts.{unnamed}
-use Rattle.chk_archive.proofs.Preparing.{below_both, below_book, below_segment}
+use Rattle.chk_archive.specs.Written.{one_for}
+use Rattle.chk_archive.proofs.Preparing.{below_both, below_book, below_segment, one_some}
 
 -- ---- the kind of calls
 
@@ -106,30 +108,40 @@ module _ (next : ℕ) (v u : Sight) (same : SameBelow next v u) where
 
 -- ---- the second segment
 
+-- it goes by the book's aside segment
+stays_same : (heads : List Head) (count : ℕ) (kept : List Cut) (b c : Book) → b.aside ≡ c.aside
+    → stays_aside b heads count kept ≡ stays_aside c heads count kept
+stays_same heads count [] b c same = ap is_nothing same
+stays_same heads count (k ∷ ks) b c same = ap (λ o. not (is_nothing o) && are_old_aside heads count (k ∷ ks)) same
+
 module _ (v : Sight) (old mid : Book) (files : List (List ℕ)) (heads : List Head) (count : ℕ) (kept : List Cut)
     (cs parts : List Chunk) (can : CanPrepare v old files heads count kept (cut_chunks cs kept)) where
   pub same_then : (u : Sight) → HasParts v old mid parts u → SameBelow old.next v u
   same_then u (no_parts none is same) = same
-  same_then u (with_parts g number w is spent same) = same
+  same_then u (with_parts g number w is spent some same) = same
 
   next_then : (u : Sight) → HasParts v old mid parts u
       → (mid.next ≡ old.next) ⊎ ((mid.next ≡ old.next + 1) × (old.next ≡ 2 ^ 63 - 1 → ⊥))
   next_then u (no_parts none is same) = inl (ap (λ (c : Book). c.next) is)
-  next_then u (with_parts g number w is spent same) =
+  next_then u (with_parts g number w is spent some same) =
       inr (ap (λ (c : Book). c.next) is ∙ ap (λ n. n + 1) number, spent)
+
+  pub exact_then : (u : Sight) → HasParts v old mid parts u → mid.next ≡ old.next + one_for parts
+  exact_then u (no_parts none is same) =
+      let next = ap (λ (c : Book). c.next) is in
+      let zero_for = ap one_for none in
+      omega (arith, next, zero_for)
+  exact_then u (with_parts g number w is spent some same) =
+      let next = ap (λ (c : Book). c.next) is in
+      let one = one_some parts some in
+      omega (arith, next, number, one)
 
   aside_then : (u : Sight) → HasParts v old mid parts u → mid.aside ≡ old.aside
   aside_then u (no_parts none is same) = ap (λ (c : Book). c.aside) is
-  aside_then u (with_parts g number w is spent same) = ap (λ (c : Book). c.aside) is
+  aside_then u (with_parts g number w is spent some same) = ap (λ (c : Book). c.aside) is
 
   pub low_then : (u : Sight) → HasParts v old mid parts u → old.next ≤ mid.next
   low_then u p = elim (next_then u p) [
-    | inl is ↦ omega (arith, is)
-    | inr k ↦ let is = k.0 in omega (arith, is)
-  ]
-
-  pub high_then : (u : Sight) → HasParts v old mid parts u → mid.next ≤ old.next + 1
-  high_then u p = elim (next_then u p) [
     | inl is ↦ omega (arith, is)
     | inr k ↦ let is = k.0 in omega (arith, is)
   ]
@@ -200,13 +212,13 @@ module _ (v : Sight) (old mid : Book) (files : List (List ℕ)) (heads : List He
       size = h.size;
     }
 
-    parts_then : (u w : Sight) → HasParts v old mid parts u → (changed : Bool)
-        → HasAside u mid new (cut_chunks cs kept) changed w → PartsAdded w old new parts
-    parts_then u w (no_parts none is same) changed a =
+    parts_then : (u w : Sight) → HasParts v old mid parts u → (stays changed : Bool)
+        → HasAside u mid new (cut_chunks cs kept) stays changed w → PartsAdded w old new parts
+    parts_then u w (no_parts none is same) stays changed a =
         nothing_taken none (a.segments ∙ ap (λ (c : Book). c.segments) is) (a.ends ∙ ap (λ (c : Book). c.ends) is)
-    parts_then u w (with_parts g number holds is spent same) changed a =
+    parts_then u w (with_parts g number holds is spent some same) stays changed a =
         let next = ap (λ (c : Book). c.next) is in
-        one_added g (omega (arith, number)) (moved u w a.same g (omega (arith, next)) parts holds)
+        one_added g (omega (arith, number)) some (moved u w a.same g (omega (arith, next)) parts holds)
         (a.segments ∙ ap (λ (c : Book). c.segments) is) (a.ends ∙ ap (λ (c : Book). c.ends) is)
 
     aside_kept : (u w : Sight) → HasParts v old mid parts u → (ds : List Chunk) → AsideNamed w mid new ds
@@ -215,29 +227,37 @@ module _ (v : Sight) (old mid : Book) (files : List (List ℕ)) (heads : List He
     aside_kept u w p ds (old_kept are is) = old_kept are (is ∙ aside_then u p)
     aside_kept u w p ds (new_kept g low holds is) = let more = low_then u p in new_kept g (omega (arith, low, more)) holds is
 
-    pub is_ready : (u w : Sight) → HasParts v old mid parts u → (changed b : Bool)
-        → HasAside u mid new (cut_chunks cs kept) changed w
-        → (b ≡ false → (changed ≡ false) × (mid ≡ old)) → IsReady v old new parts (cut_chunks cs kept) b w
-    is_ready u w p changed b a when = record {
+    pub is_ready : (u w : Sight) → HasParts v old mid parts u → (stays changed b : Bool)
+        → HasAside u mid new (cut_chunks cs kept) stays changed w
+        → (b ≡ false → (changed ≡ false) × (mid ≡ old)) → IsReady v old new parts (cut_chunks cs kept) stays b w
+    is_ready u w p stays changed b a when = record {
       same = below_both old.next mid.next (low_then u p) v u w (same_then u p) a.same;
-      parts_are = parts_then u w p changed a;
+      parts_are = parts_then u w p stays changed a;
       aside = aside_kept u w p (cut_chunks cs kept) a.aside;
+      numbers =
+          let first = exact_then u p in
+          let second = a.numbers in
+          omega (arith, first, second);
       unchanged = λ e. a.unchanged (when e).0 ∙ (when e).1;
     }
 
     -- ---- over histories
 
-    module _ (stamped : List (List ℕ)) (records : AreRecords v files heads cs) where
+    module _ (stamped : List (List ℕ)) (records : AreRecords v files heads cs) (stays : Bool) where
       pub parts_fail : (r : Result (Unit {0}) JobFault) (fault : JobFault) → r ≡ Err fault → (h : History)
           → PartsTaken stamped v old mid parts r h
-          → Prepared stamped v old new parts (cut_chunks cs kept) (Err fault) h
+          → Prepared stamped v old new parts (cut_chunks cs kept) stays (Err fault) h
       parts_fail r fault e h k = go fault (subst (λ x. PartsTaken stamped v old mid parts x h) e k)
         where
           go : (fault : JobFault) → PartsTaken stamped v old mid parts (Err fault) h
-              → Prepared stamped v old new parts (cut_chunks cs kept) (Err fault) h
+              → Prepared stamped v old new parts (cut_chunks cs kept) stays (Err fault) h
           go (Outside call) k = k
           go (Damaged name at) k = k
-          go (Spent n) k = k
+          go (Spent n) k = record {
+            legal = k.legal;
+            may_act = k.may_act;
+            alive = λ runs. let x = k.alive runs in let lacks = x.1 in (x.0, omega (arith, lacks), x.2, x.3);
+          }
           go NoMemory k = k
 
       -- the second one, whatever it answers
@@ -247,12 +267,12 @@ module _ (v : Sight) (old mid : Book) (files : List (List ℕ)) (heads : List He
 
       after_second : (u : Sight) → HasParts v old mid parts u → (takes : Bool)
           → (takes ≡ false → mid ≡ old) → (r : Result Bool JobFault) (h : History)
-          → AsideKept stamped u mid new (cut_chunks cs kept) r h
-          → Prepared stamped v old new parts (cut_chunks cs kept) (Second r takes) h
+          → AsideKept stamped u mid new (cut_chunks cs kept) stays r h
+          → Prepared stamped v old new parts (cut_chunks cs kept) stays (Second r takes) h
       after_second u p takes none (Ok changed) h k = record {
         legal = k.legal;
         may_act = k.may_act;
-        alive = λ runs. is_ready u (sight h) p changed (takes || changed) (k.alive runs)
+        alive = λ runs. is_ready u (sight h) p stays changed (takes || changed) (k.alive runs)
             (λ e. let q = or_parts takes changed e in (q.1, none q.0));
       }
       after_second u p takes none (Err (Outside call)) h k = k
@@ -262,17 +282,18 @@ module _ (v : Sight) (old mid : Book) (files : List (List ℕ)) (heads : List He
         may_act = k.may_act;
         alive = λ runs.
             let x = k.alive runs in
-            let same : own_book (sight h) ArchiveFolder ≡ old =
-            x.2 ∙ (below_book old.next v u (same_then u p) ∙ can.book) in
-            let next = ap (λ (c : Book). c.next) same in
-            let high = high_then u p in
+            let was : own_book (sight h) ArchiveFolder ≡ own_book v ArchiveFolder =
+            x.3 ∙ below_book old.next v u (same_then u p) in
+            let next = ap (λ (c : Book). c.next) (was ∙ can.book) in
+            let first = exact_then u p in
             let last = x.1 in
-            (x.0, omega (arith, next, high, last));
+            let one = x.2 in
+            (x.0, omega (arith, next, first, last, one), was, x.4 ∙ (same_then u p).listing);
       }
       after_second u p takes none (Err NoMemory) h k = k
 
       nothing_then : (takes : Bool) (r : Result Bool JobFault) (h : History) → AtJob stamped (λ u. ⊥) h
-          → Prepared stamped v old new parts (cut_chunks cs kept) (Second r takes) h
+          → Prepared stamped v old new parts (cut_chunks cs kept) stays (Second r takes) h
       nothing_then takes (Ok changed) h z =
           record { legal = z.legal; may_act = z.may_act; alive = λ runs. absurd (z.alive runs) }
       nothing_then takes (Err (Outside call)) h z = z.legal
@@ -289,20 +310,24 @@ module _ (v : Sight) (old mid : Book) (files : List (List ℕ)) (heads : List He
           → Adds m z (Every (IsOf MergesBy))
           → ((u : Sight) → AreRecords u files heads cs → IsFree u files mid.next
           → IsWhole u mid heads count kept (cut_chunks cs kept)
-          → Adds m z (Leads (As stamped job) (Knows stamped u) (AsideKept stamped u mid new (cut_chunks cs kept) r)))
+          → Adds m z (Leads (As stamped job) (Knows stamped u)
+          (AsideKept stamped u mid new (cut_chunks cs kept) (stays_aside mid heads count kept) r)))
+          → stays ≡ stays_aside old heads count kept
           → Adds a z (Leads (As stamped job) (Knows stamped v)
-          (Prepared stamped v old new parts (cut_chunks cs kept) (Second r takes)))
-      both value first e takes none r told own second =
+          (Prepared stamped v old new parts (cut_chunks cs kept) stays (Second r takes)))
+      both value first e takes none r told own second is_stays =
           leads_then
           (leads_as (λ h k. k) (λ h k. subst (λ x. PartsTaken stamped v old mid parts x h) e k) told)
           (from_known stamped MergesBy merges_start quiet_merge (HasParts v old mid parts)
-          (Prepared stamped v old new parts (cut_chunks cs kept) (Second r takes)) own
+          (Prepared stamped v old new parts (cut_chunks cs kept) stays (Second r takes)) own
           (λ h k runs.
           let u = sight h in
           let p = k.alive runs in
           reach_known stamped h (HasParts v old mid parts)
-          (Prepared stamped v old new parts (cut_chunks cs kept) (Second r takes))
-          (leads_as (λ g j. j) (λ g j. after_second u p takes none r g j)
+          (Prepared stamped v old new parts (cut_chunks cs kept) stays (Second r takes))
+          (leads_as (λ g j. j) (λ g j. after_second u p takes none r g
+          (subst (λ x. AsideKept stamped u mid new (cut_chunks cs kept) x r g)
+          (stays_same heads count kept mid old (aside_then u p) ∙ sym is_stays) j))
           (second u (still_records old.next v u (same_then u p) files heads cs records can.files_old) (free_then u p)
           (whole_then u p))) k)
           (λ h z. nothing_then takes r h z))

@@ -1,15 +1,15 @@
 -- The calls of a run, one behind the other.
-use Rattle.std.proofs.Common.{◌≡◌, ◌⊎◌, ℕ, ◌≤◌, false, List, length, Option, None, Ok, Err, Result, ap, sym, subst, ◌∙◌, refl, arith}
+use Rattle.std.proofs.Common.{◌≡◌, ◌⊎◌, ℕ, ◌≤◌, false, List, length, Option, None, Ok, Err, Result, ap, sym, subst, ◌∙◌, refl}
 use Rattle.std.specs.Prelude.{IsTrue}
 use Rattle.chk_site.specs.declared.acts.OutsideFault.{OutsideFault}
 use Rattle.chk_site.specs.Acts.{Deed, Starts}
 use Rattle.chk_site.specs.Files.{File}
-use Rattle.chk_site.specs.History.{History, Every}
+use Rattle.chk_site.specs.History.{History, Every, files_after}
 use Rattle.chk_site.specs.Site.{Adds}
 use Rattle.chk_site.specs.Runs.{Leads}
 use Rattle.chk_site.proofs.Leads.{leads_as, leads_then}
 use Rattle.chk_world.specs.Names.{ArchiveFolder, SegmentFile, Name}
-use Rattle.chk_world.specs.Books.{Book}
+use Rattle.chk_world.specs.Books.{Book, book_of}
 use Rattle.chk_world.specs.Rules.{Legal}
 use Rattle.chk_world.specs.Places.{As}
 use Rattle.chk_world.specs.Sight.{job, Sight, sight, own_book, AtJob}
@@ -24,10 +24,11 @@ use Rattle.chk_archive.specs.Archived.{Archived, Begun, MergesBy, NoStray}
 use Rattle.chk_archive.specs.Beginning.{HasBegun}
 use Rattle.chk_archive.specs.FolderNames.{names_segment}
 use Rattle.chk_archive.specs.Listed.{IsListed}
-use Rattle.chk_archive.specs.Merged.{IsMerged, Merged}
+use Rattle.chk_archive.specs.Merged.{few_stay, many_merged, IsMergeOf, IsMerged, Merged}
 use Rattle.chk_archive.specs.Reports.{Report}
 use Rattle.chk_archive.specs.Running.{FinishesBy, takes_by, removes_closed}
 use Rattle.chk_archive.specs.Sinks.{OwnAre, ShowsSinks, ListsSinks, lists_sinks, as_sight}
+use Rattle.chk_archive.specs.Written.{for_merge}
 use Rattle.chk_archive.specs.Tidying.{HasBook, IsTidy, TidiesBy, lists_archive, removes_stray}
 use Rattle.chk_archive.proofs.Finished.{of_fault}
 use Rattle.chk_archive.proofs.NoStrays.{no_stray}
@@ -67,9 +68,23 @@ merge_fails stamped loaded b c (Damaged name place) h k = k
 merge_fails stamped loaded b c (Spent n) h k = record {
   legal = k.legal;
   may_act = k.may_act;
-  alive = λ runs. let p = k.alive runs in (p.0, let low = p.1 in omega (arith, low));
+  alive = λ runs.
+      let p = k.alive runs in
+      let same : book_of (files_after h) ArchiveFolder ≡ b = p.3 in (
+        p.0,
+        for_merge (subst (λ (x : Book). 16 ≤ length x.segments) (sym same) p.1) (ap (λ (x : Book). x.next) same ∙ p.2),
+      );
 }
 merge_fails stamped loaded b c NoMemory h k = k
+
+-- it goes by the job's own files alone
+of_own : (loaded b : Book) (v : Sight) → IsMergeOf loaded b v → IsMergeOf loaded b (as_sight v.own)
+of_own loaded b v (few_stay few same) = few_stay few same
+of_own loaded b v (many_merged many g number alone next counts records) = many_merged many g number alone next counts records
+
+own_of : (loaded b : Book) (v : Sight) → IsMergeOf loaded b (as_sight v.own) → IsMergeOf loaded b v
+own_of loaded b v (few_stay few same) = few_stay few same
+own_of loaded b v (many_merged many g number alone next counts records) = many_merged many g number alone next counts records
 
 pub ends_stopped : (stamped : List (List ℕ)) (loaded : Book) (r : Result Report JobFault) (h : History)
     → AtJob stamped (λ u. ⊥) h → Archived stamped loaded r h
@@ -178,13 +193,14 @@ module _ (stamped : List (List ℕ)) (loaded b : Book) (names : List (List ℕ))
               strays = λ k count.
                   subst (λ o. (o (SegmentFile ArchiveFolder k) ≡ None) ⊎ (IsTrue (names_segment b k) ⊎ IsTrue (names_segment loaded k)))
                   (sym same) (old.strays k count);
-              few = old.few;
+              merged = own_of loaded b (sight g)
+                  (subst (λ o. IsMergeOf loaded b (as_sight o)) (sym same) (of_own loaded b (sight h) old.merged));
             },
           )
 
   pub is_archived : (r : Result Report JobFault) {m z : Option History} → Adds m z (Every (IsOf FinishesBy))
       → ((v : Sight) (at : IsListed stamped names b v) → NoStray loaded at.shows.listing.upto
-      → (16 ≤ length loaded.segments → length b.segments ≤ 1)
+      → IsMergeOf loaded b v
       → Adds m z (Leads (As stamped job) (Knows stamped v) (Archived stamped loaded r)))
       → Adds m z (Leads (As stamped job) (AtJob stamped Ready) (Archived stamped loaded r))
   is_archived r made told =
@@ -194,5 +210,5 @@ module _ (stamped : List (List ℕ)) (loaded b : Book) (names : List (List ℕ))
       let at : IsListed stamped names b (sight h) =
       record { history = h; legal = k.legal; is = refl; shows = p.0; book = p.1.book } in
       reach_known stamped h Ready (Archived stamped loaded r)
-      (told (sight h) at (no_stray stamped names b (sight h) at loaded p.1.strays) p.1.few) k)
+      (told (sight h) at (no_stray stamped names b (sight h) at loaded p.1.strays) p.1.merged) k)
       (ends_stopped stamped loaded r)

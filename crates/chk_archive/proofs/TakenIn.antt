@@ -1,6 +1,7 @@
 -- What was prepared is published, and so all is taken.
-use Rattle.std.proofs.Common.{◌≡◌, ℕ, ◌+◌, ◌<◌, ◌≤◌, Bool, List, [], ◌∷◌, length, Option, Ok, Err, Result, ap, sym, subst, ◌∙◌, refl, arith, append-nil, length-append}
-use Rattle.std.specs.Prelude.{codes, count_by, flat_map}
+use Rattle.std.proofs.Common.{◌≡◌, ℕ, ◌+◌, ◌<◌, ◌≤◌, Bool, true, false, not, if◌then◌else◌, List, [], ◌∷◌, length, Option, Some, None, Ok, Err, Result, ap, sym, subst, ◌∙◌, refl, arith, true≢false, append-nil, length-append}
+use Rattle.std.specs.Prelude.{codes, count_by, filter, flat_map}
+use Rattle.std.proofs.lemmas.Bool.{and_parts, and_from}
 use Rattle.chk_bytes.specs.Stems.{Stem}
 use Rattle.chk_site.specs.declared.acts.OutsideFault.{OutsideFault}
 use Rattle.chk_site.specs.declared.acts.OutsideFault.TheVariants.{Outside as site_failed, NoMemory as no_memory}
@@ -9,18 +10,19 @@ use Rattle.chk_site.specs.History.{History, Every, files_after}
 use Rattle.chk_site.specs.Site.{Adds}
 use Rattle.chk_site.specs.Runs.{Leads}
 use Rattle.chk_site.proofs.Leads.{leads_as, leads_then}
-use Rattle.chk_chunk.specs.Keys.{Chunk}
+use Rattle.chk_chunk.specs.Keys.{Chunk, is_of, same_data}
 use Rattle.chk_world.specs.Names.{ArchiveFolder, SegmentFile}
-use Rattle.chk_world.specs.Books.{Segment, Book, chunks_in, chunks_named, chunks_of_stream, values, book_of}
-use Rattle.chk_world.specs.ArchiveRuns.{total_gain}
+use Rattle.chk_world.specs.Committed.{aside_chunks}
+use Rattle.chk_world.specs.Books.{is_nothing, Segment, End, Book, chunks_in, chunks_named, chunks_of_stream, values, book_of}
+use Rattle.chk_world.specs.ArchiveRuns.{total_gain, once, found}
 use Rattle.chk_world.specs.Streams.{start_of}
 use Rattle.chk_world.specs.Jobs.{segment_list}
 use Rattle.chk_world.specs.Rules.{Legal}
 use Rattle.chk_world.specs.Places.{As}
-use Rattle.chk_world.specs.Sight.{job, Sight, sight, own_book, own_aside, AtJob}
+use Rattle.chk_world.specs.Sight.{job, Sight, sight, own_files, own_book, own_chunks, own_aside, AtJob}
 use Rattle.chk_world.specs.JobSteps.{IsOf}
-use Rattle.chk_world.proofs.Segments.{flat_same}
-use Rattle.chk_world.proofs.OwnArchive.{own_archive_is}
+use Rattle.chk_world.proofs.Segments.{flat_same, data_self}
+use Rattle.chk_world.proofs.OwnArchive.{own_archive_is, own_aside_is}
 use Rattle.chk_heads.specs.Faults.{job_fault, IsOfRead}
 use Rattle.chk_heads.specs.declared.fault.JobFault.{JobFault}
 use Rattle.chk_heads.specs.declared.fault.JobFault.TheVariants.{Outside, Damaged, Spent, NoMemory}
@@ -28,24 +30,35 @@ use Rattle.chk_plan.specs.Plan.{parts_of, ends_of, set_aside}
 use Rattle.chk_parts.specs.declared.cuts.Cut.{Cut}
 use Rattle.chk_heads.specs.Heads.{Head}
 use Rattle.chk_parts.specs.Cuts.{cut_chunks, AreWithin}
-use Rattle.chk_parts.specs.Kept.{is_first}
+use Rattle.chk_parts.specs.Kept.{is_first, are_old_aside, past_chunks, KeptTold}
+use Rattle.chk_parts.specs.Starts.{HaveStartsIn, ToldOtherStart}
+use Rattle.chk_parts.proofs.StartsAgree.{starts_of_records, no_other_start}
+use Rattle.chk_plan.specs.declared.spans.Span.{Span}
+use Rattle.chk_plan.specs.Passes.{AreSpans}
+use Rattle.chk_plan.proofs.Runs.{all_put}
+use Rattle.chk_heads.specs.Order.{in_head_order}
+use Rattle.chk_world.proofs.BooksTrue.{has_start_is}
+use Rattle.chk_world.proofs.Each.{each_from}
 use Rattle.chk_parts.specs.Gathering.{heads_of, Found}
 use Rattle.chk_parts.specs.Records.{AreRecords}
 use Rattle.chk_parts.specs.Writes.{HoldsChunks}
 use Rattle.chk_parts.proofs.OneFile.{Knows}
 use Rattle.chk_parts.proofs.FromKnown.{from_known, reach, reach_known}
 use Rattle.chk_archive.specs.Archived.{ReplacesBook, MergesBy, merge_replaces}
-use Rattle.chk_archive.specs.Listed.{IsListed}
+use Rattle.chk_archive.specs.Listed.{IsListed, sources_in}
 use Rattle.chk_parts.specs.Publishing.{IsPublished, MayFollow, Published}
 use Rattle.chk_parts.proofs.Published.{replaces_no_start, quiet_replace}
-use Rattle.chk_archive.specs.Taking.{CanPrepare, MayFollowIf, PartsAdded, nothing_taken, one_added, AsideNamed, none_kept, old_kept, new_kept, IsReady, Prepared, TookAll, TookSo}
+use Rattle.chk_archive.specs.declared.taking.Planned.{Planned}
+use Rattle.chk_archive.specs.Taking.{AreSorted, IsPlanned, CanPrepare, MayFollowIf, PartsAdded, nothing_taken, one_added, AsideNamed, none_kept, old_kept, new_kept, asked, IsReady, Prepared, stays_aside, TookAll, TookSo}
+use Rattle.chk_archive.specs.Sinks.{as_sight}
+use Rattle.chk_archive.specs.Written.{one_for, same_chunks, one_aside, taken_parts, kept_aside, needed_behind}
 use Rattle.chk_archive.specs.declared.taking.Taken.{Taken}
 use Rattle.chk_archive.proofs.ByStream.{SameByStream}
-use Rattle.chk_archive.proofs.Listings.{limits_agree}
-use Rattle.chk_archive.proofs.FoundSources.{K}
+use Rattle.chk_archive.proofs.Listings.{limits_agree, legal_then, own_then}
+use Rattle.chk_archive.proofs.FoundSources.{K, founded, true_book}
 use Rattle.chk_archive.proofs.NextBook.{Ends, Cs, may_follow, now_reached}
 use Rattle.chk_archive.proofs.Preparing.{below_book, below_segment}
-use Rattle.chk_archive.proofs.FoundPlan.{Files, Hs, all_records, can_prepare}
+use Rattle.chk_archive.proofs.FoundPlan.{Files, Hs, all_records, can_prepare, parts_are, kept_are, taken_is}
 use Rattle.chk_archive.proofs.Readied.{merges_start, quiet_merge}
 
 -- ---- over a publication
@@ -65,8 +78,8 @@ module _ (u : Sight) (c : Book) (w : Sight) (p : IsPublished ArchiveFolder u c w
 
   pub added_still : (b new : Book) (parts : List Chunk) → PartsAdded u b new parts → PartsAdded w b new parts
   added_still b new parts (nothing_taken none segments ends) = nothing_taken none segments ends
-  added_still b new parts (one_added g low holds segments ends) =
-      one_added g low (holds_still g parts holds) segments ends
+  added_still b new parts (one_added g low some holds segments ends) =
+      one_added g low some (holds_still g parts holds) segments ends
 
   chunks_still : (o : Option Segment)
       → flat_map (λ (g : Segment). chunks_in (w.own (SegmentFile ArchiveFolder g.number))) (segment_list o)
@@ -109,18 +122,60 @@ module _ (u : Sight) (c : Book) (w : Sight) (p : IsPublished ArchiveFolder u c w
 one_more : (u : Sight) (old new : Book) (parts : List Chunk) → PartsAdded u old new parts
     → length new.segments ≤ length old.segments + 1
 one_more u old new parts (nothing_taken none segments ends) = let same = ap length segments in omega (arith, same)
-one_more u old new parts (one_added g low holds segments ends) =
+one_more u old new parts (one_added g low some holds segments ends) =
     let same = ap length segments in
     let both = length-append old.segments (g ∷ []) in
     omega (arith, same, both)
+
+-- what the job knows to be set aside was so at the listing
+old_aside : (stamped : List (List ℕ)) (names : List (List ℕ)) (b : Book) (v : Sight) (at : IsListed stamped names b v)
+    → own_aside v ≡ aside_chunks (files_after (K stamped names b v at).upto)
+old_aside stamped names b v at =
+    let same : own_files (files_after (K stamped names b v at).upto) ≡ v.own = λ i n. own_then stamped names b v at n i in
+    sym (ap (λ o. own_aside (as_sight o)) same)
+    ∙ own_aside_is stamped (K stamped names b v at).upto (legal_then stamped names b v at)
+
+-- a segment is needed only where one was asked for
+same_self : (cs : List Chunk) → same_chunks cs cs ≡ true
+same_self [] = refl
+same_self (c ∷ cs) = and_from (same_data c c) (same_chunks cs cs) (data_self c) (same_self cs)
+
+aside_low : (stays : Bool) (old kept : List Chunk) → (stays ≡ true → kept ≡ old) → one_aside kept old ≤ asked stays kept
+aside_low true old kept same =
+    let none : one_aside kept old ≡ 0 =
+    ap (λ t. if t then 0 else one_for kept) (ap (same_chunks kept) (sym (same refl)) ∙ same_self kept) in
+    omega (arith, none)
+aside_low false old kept same = go (same_chunks kept old)
+  where
+    go : (t : Bool) → (if t then 0 else one_for kept) ≤ one_for kept
+    go true = omega arith
+    go false = omega arith
 
 -- ---- of what was listed
 
 module _ (stamped : List (List ℕ)) (names : List (List ℕ)) (b : Book) (v : Sight)
     (at : IsListed stamped names b v) (new : Book) (parts kept : List Chunk)
-    (parts_are : SameByStream parts (parts_of (Ends stamped names b v at) (Cs stamped names b v at)))
-    (kept_are : kept ≡ set_aside (ends_of (Ends stamped names b v at) (Cs stamped names b v at)) (Cs stamped names b v at)) where
-  module _ (u : Sight) (changed : Bool) (ready : IsReady v b new parts kept changed u) where
+    (parts_are : parts ≡ parts_of (Ends stamped names b v at) (Cs stamped names b v at))
+    (kept_are : kept ≡ set_aside (ends_of (Ends stamped names b v at) (Cs stamped names b v at)) (Cs stamped names b v at))
+    (stays : Bool) (stays_are : stays ≡ true → kept ≡ own_aside v) where
+  by_stream : SameByStream parts (parts_of (Ends stamped names b v at) (Cs stamped names b v at))
+  by_stream s = ap (filter (is_of s)) parts_are
+
+  asides_then : own_aside v ≡ aside_chunks (files_after (K stamped names b v at).upto)
+  asides_then = old_aside stamped names b v at
+
+  -- the numbers that the book takes are enough
+  needed_most : needed_behind (K stamped names b v at) ≤ one_for parts + asked stays kept
+  needed_most =
+      subst (λ (ps : List Chunk). one_for ps + one_aside
+      (kept_aside (K stamped names b v at)) (aside_chunks (files_after (K stamped names b v at).upto)) ≤ one_for parts + asked stays kept) parts_are
+      (subst (λ (ks : List Chunk). one_for parts + one_aside ks
+      (aside_chunks (files_after (K stamped names b v at).upto)) ≤ one_for parts + asked stays kept) kept_are
+      (let low = aside_low stays (aside_chunks (files_after (K stamped names b v at).upto)) kept
+      (λ e. stays_are e ∙ asides_then) in
+      omega (arith, low)))
+
+  module _ (u : Sight) (changed : Bool) (ready : IsReady v b new parts kept stays changed u) where
     book_ready : own_book u ArchiveFolder ≡ b
     book_ready = below_book b.next v u ready.same ∙ at.book
 
@@ -137,7 +192,7 @@ module _ (stamped : List (List ℕ)) (names : List (List ℕ)) (b : Book) (v : S
         may_follow stamped names b v at h (sinks_then h (own_book u ArchiveFolder) p) (old_then h (own_book u ArchiveFolder) p)
         (same ∙ book_ready) legal new parts kept
         (added_still u (own_book u ArchiveFolder) (sight h) p b new parts ready.parts_are)
-        (aside_still u (own_book u ArchiveFolder) (sight h) p b new kept same ready.aside) parts_are kept_are
+        (aside_still u (own_book u ArchiveFolder) (sight h) p b new kept same ready.aside) by_stream kept_are
 
     pub may_if : MayFollowIf stamped u new changed
     may_if = (λ e. may_ready, λ e. book_ready ∙ sym (ready.unchanged e))
@@ -161,42 +216,62 @@ module _ (stamped : List (List ℕ)) (names : List (List ℕ)) (b : Book) (v : S
               (own_archive_is stamped h legal s
               ∙ ap (λ (x : Book). values (chunks_of_stream s (chunks_named (files_after h) ArchiveFolder x))) book)
               ∙ now_reached stamped names b v at h (sinks_then h new p) (old_then h new p) new parts
-              (added_still u new (sight h) p b new parts ready.parts_are) parts_are s;
+              (added_still u new (sight h) p b new parts ready.parts_are) by_stream s;
           aside = aside ∙ kept_are;
           taken = taken;
           held = held ∙ sym (ap length aside);
+          added = subst (λ (x : Book). PartsAdded (sight h) x new (taken_parts (K stamped names b v at))) (sym at.book)
+              (subst (PartsAdded (sight h) b new) parts_are (added_still u new (sight h) p b new parts ready.parts_are));
+          old = subst (λ (x : Book). (k : ℕ) → k < x.next
+              → (sight h).own (SegmentFile ArchiveFolder k) ≡ v.own (SegmentFile ArchiveFolder k)) (sym at.book) (old_then h new p);
+          numbers = subst (λ (x : Book). x.next + needed_behind (K stamped names b v at) ≤ new.next) (sym at.book)
+              (let most = needed_most in let exact = ready.numbers in omega (arith, most, exact));
         }
 
   -- ---- over histories
 
   pub prepare_fails : (r : Result Bool JobFault) (fault : JobFault) → r ≡ Err fault → (h : History)
-      → Prepared stamped v b new parts kept r h → TookSo stamped v b new (Err fault) h
-  prepare_fails r fault e h k = go fault (subst (λ x. Prepared stamped v b new parts kept x h) e k)
+      → Prepared stamped v b new parts kept stays r h → TookSo stamped v b new (Err fault) h
+  prepare_fails r fault e h k = go fault (subst (λ x. Prepared stamped v b new parts kept stays x h) e k)
     where
-      go : (fault : JobFault) → Prepared stamped v b new parts kept (Err fault) h → TookSo stamped v b new (Err fault) h
+      go : (fault : JobFault) → Prepared stamped v b new parts kept stays (Err fault) h → TookSo stamped v b new (Err fault) h
       go (Outside call) k = k
       go (Damaged name place) k = k
-      go (Spent n) k = k
+      go (Spent n) k = record {
+        legal = k.legal;
+        may_act = k.may_act;
+        alive = λ runs.
+            let x = k.alive runs in
+            let lacks = x.1 in
+            let first : one_for parts ≡ one_for (taken_parts (K stamped names b v at)) = ap one_for parts_are in
+            let second : one_for kept ≡ one_for (kept_aside (K stamped names b v at)) = ap one_for kept_are in
+            record {
+              last_number = x.0;
+              l = K stamped names b v at;
+              last = x.3 ∙ at.shows.last;
+              lacks = omega (arith, lacks, first, second);
+            };
+      }
       go NoMemory k = k
 
   module _ (changed : Bool) (first : Result Bool JobFault) (e : first ≡ Ok changed)
       (r : Result (Unit {0}) OutsideFault) {a m z : Option History}
-      (told : Adds a m (Leads (As stamped job) (Knows stamped v) (Prepared stamped v b new parts kept first)))
+      (told : Adds a m (Leads (As stamped job) (Knows stamped v) (Prepared stamped v b new parts kept stays first)))
       (own : Adds m z (Every (IsOf ReplacesBook)))
       (second : (u : Sight) → MayFollowIf stamped u new changed
       → Adds m z (Leads (As stamped job) (Knows stamped u) (Published stamped ArchiveFolder u new r))) where
-    is_prepared : Adds a m (Leads (As stamped job) (Knows stamped v) (AtJob stamped (IsReady v b new parts kept changed)))
-    is_prepared = leads_as (λ h k. k) (λ h k. subst (λ x. Prepared stamped v b new parts kept x h) e k) told
+    is_prepared : Adds a m (Leads (As stamped job) (Knows stamped v) (AtJob stamped (IsReady v b new parts kept stays changed)))
+    is_prepared = leads_as (λ h k. k) (λ h k. subst (λ x. Prepared stamped v b new parts kept stays x h) e k) told
 
     pub publish_fails : (fault : OutsideFault) → r ≡ Err fault
         → Adds a z (Leads (As stamped job) (Knows stamped v) (TookSo stamped v b new (Err (job_fault fault))))
     publish_fails fault is =
         leads_then is_prepared
-        (from_known stamped ReplacesBook (replaces_no_start (codes "archive")) (quiet_replace (codes "archive")) (IsReady v b new parts kept changed)
+        (from_known stamped ReplacesBook (replaces_no_start (codes "archive")) (quiet_replace (codes "archive")) (IsReady v b new parts kept stays changed)
         (TookSo stamped v b new (Err (job_fault fault))) own
         (λ h k runs.
         let u = sight h in
-        reach_known stamped h (IsReady v b new parts kept changed) (TookSo stamped v b new (Err (job_fault fault)))
+        reach_known stamped h (IsReady v b new parts kept stays changed) (TookSo stamped v b new (Err (job_fault fault)))
         (leads_as (λ g j. j) (λ g j. of_fault fault g (subst (λ x. Published stamped ArchiveFolder u new x g) is j))
         (second u (may_if u changed (k.alive runs)))) k)
         (λ h x. of_fault fault h x.legal))
@@ -210,12 +285,12 @@ module _ (stamped : List (List ℕ)) (names : List (List ℕ)) (b : Book) (v : S
         → Adds a z (Leads (As stamped job) (Knows stamped v) (TookSo stamped v b new (Ok t)))
     published_all t taken held value is =
         leads_then is_prepared
-        (from_known stamped ReplacesBook (replaces_no_start (codes "archive")) (quiet_replace (codes "archive")) (IsReady v b new parts kept changed)
+        (from_known stamped ReplacesBook (replaces_no_start (codes "archive")) (quiet_replace (codes "archive")) (IsReady v b new parts kept stays changed)
         (TookSo stamped v b new (Ok t)) own
         (λ h k runs.
         let u = sight h in
         let ready = k.alive runs in
-        reach_known stamped h (IsReady v b new parts kept changed) (TookSo stamped v b new (Ok t))
+        reach_known stamped h (IsReady v b new parts kept stays changed) (TookSo stamped v b new (Ok t))
         (leads_as (λ g j. j)
         (λ g j.
         let x = subst (λ y. Published stamped ArchiveFolder u new y g) is j in
@@ -258,6 +333,74 @@ module _ (stamped : List (List ℕ)) (names : List (List ℕ)) (b : Book) (v : S
       (is ∙ (ap (count_by is_first) first ∙ ap (λ f. count_by is_first (heads_of v 0 f)) files_are)) kept
       (subst (λ h. AreWithin (length h) kept) heads_are within)))
 
+-- ---- for files and heads that are so
+
+module _ (stamped : List (List ℕ)) (names : List (List ℕ)) (b : Book) (v : Sight)
+    (at : IsListed stamped names b v) (files : List (List ℕ)) (heads : List Head) (old : ℕ)
+    (sorted : AreSorted v (sources_in b names) files heads old) where
+  pub in_order_are : heads ≡ Hs stamped names b v at
+  in_order_are = sorted.heads_are ∙ ap (λ f. in_head_order (heads_of v 0 f)) sorted.files_are
+
+  pub records_are : AreRecords v files heads (Cs stamped names b v at)
+  records_are = all_args stamped names b v at files heads sorted.files_are in_order_are
+
+  pub can_be : (kept : List Cut) → AreWithin (length heads) kept
+      → CanPrepare v b files heads old kept (cut_chunks (Cs stamped names b v at) kept)
+  can_be kept within =
+      can_args stamped names b v at files heads sorted.files_are in_order_are old (heads_of v 0 files) sorted.count refl kept within
+
+  -- no record has another start than its stream
+  pub starts_are : HaveStartsIn b.ends heads
+  starts_are =
+      starts_of_records (start_of (K stamped names b v at).upto) v files b.ends heads (Cs stamped names b v at) records_are
+      (each_from (λ (e : End). e.start ≡ start_of (K stamped names b v at).upto e.stream) b.ends
+      (λ e one. has_start_is (K stamped names b v at).upto e ((true_book stamped names b v at).starts e one)))
+      (each_from (λ (c : Chunk). c.key.start ≡ start_of (K stamped names b v at).upto c.key.stream) (Cs stamped names b v at)
+      (λ c one. (founded stamped names b v at c (all_put (found (K stamped names b v at)) c one)).is_true.start))
+
+  pub start_fails : (new : Book) (fault : JobFault) → ToldOtherStart files b.ends heads fault → (h : History)
+      → AtJob stamped (λ u. u ≡ v) h → TookSo stamped v b new (Err fault) h
+  start_fails new (Outside call) told h k = absurd told
+  start_fails new (Damaged name place) told h k = absurd (no_other_start files b.ends heads starts_are name place told)
+  start_fails new (Spent n) told h k = absurd told
+  start_fails new NoMemory told h k = k.legal
+
+  module _ (p : Planned) (planned : IsPlanned b heads p) where
+    planned_so : IsPlanned b (Hs stamped names b v at) p
+    planned_so = subst (λ h. IsPlanned b h p) in_order_are planned
+
+    pub spans_are : AreSpans planned.known heads 0 p.spans.items (length heads)
+    spans_are = planned.spans
+
+    pub parts_so : cut_chunks (Cs stamped names b v at) p.cuts ≡ taken_parts (K stamped names b v at)
+    parts_so = parts_are stamped names b v at p planned_so
+
+    pub kept_so : once (past_chunks (Cs stamped names b v at) p.spans.items) ≡ kept_aside (K stamped names b v at)
+    kept_so = kept_are stamped names b v at p planned_so
+
+    pub gain_so : p.taken ≡ total_gain (Ends stamped names b v at) (Cs stamped names b v at)
+    gain_so = taken_is stamped names b v at p planned_so
+
+-- what stays is what the aside segment has
+pub stays_whole : (v : Sight) (b : Book) (files : List (List ℕ)) (heads : List Head) (count : ℕ) (cs : List Chunk) (kept : List Cut)
+    → CanPrepare v b files heads count kept (cut_chunks cs kept) → stays_aside b heads count kept ≡ true
+    → cut_chunks cs kept ≡ own_aside v
+stays_whole v b files heads count cs [] can is =
+    sym (ap (λ (x : Book). own_chunks v ArchiveFolder (segment_list x.aside)) can.book
+    ∙ ap (λ o. own_chunks v ArchiveFolder (segment_list o)) (nothing b.aside is))
+  where
+    nothing : (o : Option Segment) → is_nothing o ≡ true → o ≡ None
+    nothing None e = refl
+    nothing (Some g) e = absurd (true≢false (sym e))
+stays_whole v b files heads count cs (k ∷ ks) can is =
+    let p = and_parts (not (is_nothing b.aside)) (are_old_aside heads count (k ∷ ks)) is in
+    let g = something b.aside p.0 in
+    sym (can.whole g.0 g.1 p.1)
+  where
+    something : (o : Option Segment) → not (is_nothing o) ≡ true → (g : Segment) × (o ≡ Some g)
+    something None e = absurd (true≢false (sym e))
+    something (Some g) e = (g, refl)
+
 -- ---- behind the gathering
 
 module _ (stamped : List (List ℕ)) (v : Sight) (b new : Book) (ws : List (List ℕ)) where
@@ -275,14 +418,22 @@ module _ (stamped : List (List ℕ)) (v : Sight) (b new : Book) (ws : List (List
   found_fails (Spent n) only h k = absurd only
   found_fails NoMemory only h k = k
 
-  pub found_taken : (heads : List Head) (r : Result Taken JobFault) {a m z : Option History}
-      → Adds a m (Leads (As stamped job) (Knows stamped v) (Found stamped v ws (Ok heads)))
+  pub kept_fails : (cs : List Chunk) (spans : List Span) (fault : JobFault) → IsOfRead fault → (h : History)
+      → KeptTold stamped v cs spans (Err fault) h → TookSo stamped v b new (Err fault) h
+  kept_fails cs spans (Outside call) only h k = k
+  kept_fails cs spans (Damaged name place) only h k = k
+  kept_fails cs spans (Spent n) only h k = absurd only
+  kept_fails cs spans NoMemory only h k = k
+
+  -- behind reads that told a fact
+  pub then_taken : (X : Type 0) (r : Result Taken JobFault) {a m z : Option History}
+      → Adds a m (Leads (As stamped job) (Knows stamped v) (AtJob stamped (λ u. (u ≡ v) × X)))
       → Adds m z (Every (IsOf MergesBy))
-      → (heads ≡ heads_of v 0 ws → Adds m z (Leads (As stamped job) (Knows stamped v) (TookSo stamped v b new r)))
+      → (X → Adds m z (Leads (As stamped job) (Knows stamped v) (TookSo stamped v b new r)))
       → Adds a z (Leads (As stamped job) (Knows stamped v) (TookSo stamped v b new r))
-  found_taken heads r first own told =
+  then_taken X r first own told =
       leads_then first
-      (from_known stamped MergesBy merges_start quiet_merge (λ u. (u ≡ v) × (heads ≡ heads_of v 0 ws))
+      (from_known stamped MergesBy merges_start quiet_merge (λ u. (u ≡ v) × X)
       (TookSo stamped v b new r) own
       (λ h k runs.
       let x = k.alive runs in

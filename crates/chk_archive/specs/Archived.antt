@@ -22,6 +22,7 @@ use Rattle.chk_heads.specs.declared.fault.JobFault.TheVariants.{Damaged, Spent}
 use Rattle.chk_parts.specs.Publishing.{ReplacesBookOf}
 pub use Rattle.chk_parts.specs.Publishing.{writes_book, names_book}
 use Rattle.chk_archive.specs.Reports.{Report}
+use Rattle.chk_archive.specs.Written.{HasWritten, HadNumbers, LacksNumbers}
 
 -- each segment file that was there at the listing is named by the book then, or by the one that the
 -- run loaded
@@ -41,16 +42,17 @@ pub record RunDone (loaded : Book) (r : Report) (history : History) : Type 0 whe
   pub no_stray : NoStray loaded listing.upto
   pub merged : 16 ≤ length loaded.segments
       → length (book_of (files_after history) ArchiveFolder).segments ≤ 2
+  pub written : HasWritten loaded listing history
+  pub numbers : HadNumbers loaded listing
 
 -- At Ok the run is done, for the book that stood there as the call began. Nothing of the program's
--- own is ever damaged. The segment numbers are spent only where fewer are left than the run needs, two at most. After any other refusal
+-- own is ever damaged. The segment numbers are spent only where none is left for a segment that is needed. After any other refusal
 -- the history is legal; the start may be what was refused, so that it isn't said that the job may act.
 abbrev pub Archived : List (List ℕ) → Book → Result Report JobFault → History → Type 0
 Archived stamped loaded (Ok r) history = AtTold stamped job (RunDone loaded r) history
 Archived stamped loaded (Err (Damaged name at)) history = AtTold stamped job (λ h. ⊥) history
 Archived stamped loaded (Err (Spent n)) history =
-    AtTold stamped job (λ h. (n ≡ 2 ^ 63 - 1) ×
-    (2 ^ 63 - 2 ≤ (book_of (files_after h) ArchiveFolder).next)) history
+    AtTold stamped job (λ h. (n ≡ 2 ^ 63 - 1) × LacksNumbers h) history
 Archived stamped loaded (Err fault) history = Legal stamped history
 
 -- the archive's book before the call

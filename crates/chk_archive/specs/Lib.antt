@@ -4,6 +4,7 @@ pub mod Calling
 pub mod Tidying
 pub mod Sinks
 pub mod Reports
+pub mod Written
 pub mod Archived
 pub mod Beginning
 pub mod Listed

@@ -1,6 +1,6 @@
 //! The end of an archive run: what follows its listing of the sinks.
 
-ghost use Rattle.std.specs.Prelude.{◌≡◌, ◌≤◌, ℕ, List, length};
+ghost use Rattle.std.specs.Prelude.{◌≡◌, ℕ, List};
 ghost use Rattle.chk_site.specs.History.{Every};
 ghost use Rattle.chk_site.specs.Site.{Adds};
 ghost use Rattle.chk_site.specs.Runs.{Leads};
@@ -13,6 +13,7 @@ ghost use Rattle.chk_heads.specs.Pieces.{AsksInPieces};
 ghost use Rattle.chk_book.specs.Books.{book_view};
 ghost use Rattle.chk_archive.specs.Archived.{Archived, NoStray};
 ghost use Rattle.chk_archive.specs.Listed.{IsListed};
+ghost use Rattle.chk_archive.specs.Merged.{IsMergeOf};
 ghost use Rattle.chk_archive.specs.Reporting.{report_result};
 ghost use Rattle.chk_archive.specs.Running.{FinishesBy};
 
@@ -37,7 +38,7 @@ pub(crate) fn finish<S: Site>(
     requires { who.now ≡ job }
     ensures told { (stamped : List (List ℕ)) (loaded : Parts) (v : Sight)
         (at : IsListed stamped names.now (book_view book) v) → NoStray loaded at.shows.listing.upto
-        → (16 ≤ length loaded.segments → length (book_view book).segments ≤ 1)
+        → IsMergeOf loaded (book_view book) v
         → Adds (S.told site.old) (S.told site.new)
         (Leads (As stamped job) (AtJob stamped (λ u. u ≡ v)) (Archived stamped loaded (report_result result))) }
     ensures own { Adds (S.told site.old) (S.told site.new) (Every (IsOf FinishesBy)) }

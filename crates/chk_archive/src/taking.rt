@@ -1,9 +1,10 @@
 //! What an archive run takes and sets aside, once the sinks are listed.
 
-ghost use Rattle.std.specs.Prelude.{◌≡◌, ◌≤◌, ◌==◌, ◌||◌, not, false, [], ℕ, List, length, All, IsTrue, IfOk};
+ghost use Rattle.std.specs.Prelude.{◌≡◌, ◌≤◌, ◌==◌, ◌||◌, not, false, [], ℕ, List, length, All, IsTrue, IfOk, IfErr, OnOk};
+ghost use Rattle.chk_site.specs.Files.{Files};
 ghost use Rattle.chk_site.specs.History.{Every};
 ghost use Rattle.chk_site.specs.Site.{Adds, LastFailed, OutsideCause};
-ghost use Rattle.chk_site.specs.Runs.{Leads};
+ghost use Rattle.chk_site.specs.Runs.{anyhow, Leads};
 ghost use Rattle.chk_chunk.specs.Keys.{Chunk};
 ghost use Rattle.chk_world.specs.Places.{As};
 ghost use Rattle.chk_world.specs.Sight.{job, Sight, own_book, AtJob};
@@ -12,15 +13,20 @@ ghost use Rattle.chk_world.specs.Names.{ArchiveFolder};
 ghost use Rattle.chk_heads.specs.Faults.{JobCause, FailsLast};
 ghost use Rattle.chk_heads.specs.Pieces.{AsksInPieces};
 ghost use Rattle.chk_book.specs.Books.{book_view};
+ghost use Rattle.chk_merge.specs.Segments.{HasFiles, SparesFiles, AreSettled};
 ghost use Rattle.chk_parts.specs.Cuts.{AreWithin, cut_chunks};
 ghost use Rattle.chk_parts.specs.Records.{AreRecords};
 ghost use Rattle.chk_archive.specs.Archived.{MergesBy, ReplacesBook};
 ghost use Rattle.chk_archive.specs.Listed.{IsListed, sources_in};
 ghost use Rattle.chk_parts.specs.Gathering.{heads_of};
+ghost use Rattle.chk_parts.specs.Starts.{HaveStartsIn, ToldOtherStart};
+ghost use Rattle.chk_heads.specs.Order.{in_head_order};
+ghost use Rattle.chk_world.specs.ArchiveRuns.{in_order, found};
+ghost use Rattle.chk_archive.specs.Written.{kept_aside};
 ghost use Rattle.chk_parts.specs.Publishing.{Published};
 ghost use Rattle.chk_archive.specs.Numbers.{Numbered};
 ghost use Rattle.chk_parts.specs.Writes.{IsFree};
-ghost use Rattle.chk_archive.specs.Taking.{IsPlanned, IsCut, CanPrepare, IsWhole, Prepared, PartsTaken, AsideKept, stays_aside, MayFollowIf, TookSo};
+ghost use Rattle.chk_archive.specs.Taking.{IsPlanned, IsCut, AreSorted, CanPrepare, IsWhole, Prepared, PartsTaken, AsideKept, stays_aside, MayFollowIf, TookSo, ReadSources};
 
 use crate::counting::count_of;
 use crate::sources::sources;
@@ -28,8 +34,8 @@ use chk_book::Book;
 use chk_bytes::{NoMemory, Word};
 use chk_heads::{Heads, JobFault};
 use chk_parts::{
-    Cut, Cuts, Purpose, add_segment, count_first, cuts_of, gather_found, is_old_aside, kept_of,
-    known_ends, publish_next,
+    Cut, Cuts, Purpose, add_segment, check_starts, count_first, cuts_of, gather_found,
+    is_old_aside, kept_of, known_ends, publish_next,
 };
 use chk_plan::{Span, plan, taken};
 use chk_site::{OutsideFault, Site, Who};
@@ -62,6 +68,10 @@ pub(crate) fn take_in<S: Site>(
     names: &[Word],
 ) -> Result<Taken, JobFault>
     requires { who.now ≡ job }
+    ensures raw { (held : Files) → AreSettled (sources_in (book_view book.old) names.now) held → Adds (S.told site.old) (S.told site.new)
+        (Leads (anyhow (SparesFiles (sources_in (book_view book.old) names.now)))
+        (HasFiles (sources_in (book_view book.old) names.now) held)
+        (ReadSources (sources_in (book_view book.old) names.now) (book_view book.old).ends held result)) }
     ensures told { (stamped : List (List ℕ)) (v : Sight) → IsListed stamped names.now (book_view book.old) v
         → Adds (S.told site.old) (S.told site.new)
         (Leads (As stamped job) (AtJob stamped (λ u. u ≡ v)) (TookSo stamped v (book_view book.old) (book_view book.new) result)) }
@@ -75,7 +85,8 @@ pub(crate) fn take_in<S: Site>(
     take_found(alloc, site, who, book, files.as_slice(), heads)
 }
 
-/// Takes what goes on, of the heads of all records in `files`, and publishes the book that says so.
+/// Takes what goes on, of the heads of all records in `files`, and publishes the book that says so. Where a record has another start
+/// than its stream, it is `Damaged` at the first such one in order, and nothing is read or written.
 fn take_found<S: Site>(
     alloc: Global,
     site: &mut S,
@@ -85,6 +96,10 @@ fn take_found<S: Site>(
     heads: Heads,
 ) -> Result<Taken, JobFault>
     requires { who.now ≡ job }
+    ensures starts { OnOk result (HaveStartsIn (book_view book.old).ends (in_head_order heads)) }
+    ensures other { (HaveStartsIn (book_view book.old).ends (in_head_order heads) → ⊥)
+        → IfErr result (ToldOtherStart files.now (book_view book.old).ends (in_head_order heads))
+        × (S.told site.new ≡ S.told site.old) × (book_view book.new ≡ book_view book.old) }
     ensures told { (stamped : List (List ℕ)) (v : Sight) (names : List (List ℕ)) → IsListed stamped names (book_view book.old) v
         → (files.now ≡ sources_in (book_view book.old) names) → (heads ≡ heads_of v 0 files.now)
         → Adds (S.told site.old) (S.told site.new)
@@ -97,20 +112,76 @@ fn take_found<S: Site>(
     let mut heads = heads;
     let old = count_first(&heads);
     heads.sort(alloc)?;
+    check_starts(alloc, book, files, &heads)?;
     let planned = plan_of(alloc, &heads, book)?;
-    let kept = kept_of(alloc, &heads, planned.spans.as_slice())?;
-    let held = count_of(kept.as_slice().len())?;
-    let changed = prepare(
+    take_planned(alloc, site, who, book, files, &heads, old, &planned)
+}
+
+/// Sets aside what lies past the gaps of a plan over heads that stand in order, each chunk once, takes its parts, and publishes the
+/// book that says so. `old` is how many records the aside segment has.
+fn take_planned<S: Site>(
+    alloc: Global,
+    site: &mut S,
+    who: &Who,
+    book: &mut Book,
+    files: &[Word],
+    heads: &Heads,
+    old: usize,
+    planned: &Planned,
+) -> Result<Taken, JobFault>
+    requires job { who.now ≡ job }
+    requires plan { IsPlanned (book_view book.old) heads.now planned.now }
+    ensures told { (stamped : List (List ℕ)) (v : Sight) (names : List (List ℕ)) → IsListed stamped names (book_view book.old) v
+        → AreSorted v (sources_in (book_view book.old) names) files.now heads.now old
+        → Adds (S.told site.old) (S.told site.new)
+        (Leads (As stamped job) (AtJob stamped (λ u. u ≡ v)) (TookSo stamped v (book_view book.old) (book_view book.new) result)) }
+    ensures own { Adds (S.told site.old) (S.told site.new) (Every (IsOf MergesBy)) }
+    ensures pieces { Adds (S.told site.old) (S.told site.new) (Every AsksInPieces) }
+    ensures last { Adds (S.told site.old) (S.told site.new) (FailsLast result) }
+    ensures cause { JobCause (S.fault_count site.old) (S.fault_count site.new) result }
+{
+    let kept = kept_of(alloc, site, who, files, heads, planned.spans.as_slice())?;
+    write_planned(
         alloc,
         site,
         who,
         book,
         files,
-        &heads,
+        heads,
         old,
-        planned.cuts.as_slice(),
+        planned,
         kept.as_slice(),
-    )?;
+    )
+}
+
+/// Takes the parts of a plan, sets aside what is kept, and publishes the book that says so.
+fn write_planned<S: Site>(
+    alloc: Global,
+    site: &mut S,
+    who: &Who,
+    book: &mut Book,
+    files: &[Word],
+    heads: &Heads,
+    old: usize,
+    planned: &Planned,
+    kept: &[Cut],
+) -> Result<Taken, JobFault>
+    requires job { who.now ≡ job }
+    requires plan { IsPlanned (book_view book.old) heads.now planned.now }
+    requires kept { AreWithin (length heads.now) kept.now }
+    ensures told { (stamped : List (List ℕ)) (v : Sight) (names : List (List ℕ)) (at : IsListed stamped names (book_view book.old) v)
+        → AreSorted v (sources_in (book_view book.old) names) files.now heads.now old
+        → cut_chunks (in_order (found at.shows.listing)) kept.now ≡ kept_aside at.shows.listing
+        → Adds (S.told site.old) (S.told site.new)
+        (Leads (As stamped job) (AtJob stamped (λ u. u ≡ v)) (TookSo stamped v (book_view book.old) (book_view book.new) result)) }
+    ensures own { Adds (S.told site.old) (S.told site.new) (Every (IsOf MergesBy)) }
+    ensures pieces { Adds (S.told site.old) (S.told site.new) (Every AsksInPieces) }
+    ensures last { Adds (S.told site.old) (S.told site.new) (FailsLast result) }
+    ensures cause { JobCause (S.fault_count site.old) (S.fault_count site.new) result }
+{
+    let held = count_of(kept.len())?;
+    let cuts = planned.cuts.as_slice();
+    let changed = prepare(alloc, site, who, book, files, heads, old, cuts, kept)?;
     publish_if(alloc, site, who, book, changed)?;
     Ok(Taken {
         taken: planned.taken,
@@ -179,7 +250,7 @@ fn prepare<S: Site>(
         → CanPrepare v (book_view book.old) files.now heads.now old kept.now (cut_chunks cs kept.now)
         → Adds (S.told site.old) (S.told site.new)
         (Leads (As stamped job) (AtJob stamped (λ u. u ≡ v)) (Prepared stamped v (book_view book.old) (book_view book.new)
-        (cut_chunks cs cuts.now) (cut_chunks cs kept.now) result)) }
+        (cut_chunks cs cuts.now) (cut_chunks cs kept.now) (stays_aside (book_view book.old) heads.now old kept.now) result)) }
     ensures own { Adds (S.told site.old) (S.told site.new) (Every (IsOf MergesBy)) }
     ensures pieces { Adds (S.told site.old) (S.told site.new) (Every AsksInPieces) }
     ensures last { Adds (S.told site.old) (S.told site.new) (FailsLast result) }
@@ -245,7 +316,7 @@ fn keep_aside<S: Site>(
         → IsWhole v (book_view book.old) heads.now old kept.now (cut_chunks cs kept.now)
         → Adds (S.told site.old) (S.told site.new)
         (Leads (As stamped job) (AtJob stamped (λ u. u ≡ v)) (AsideKept stamped v (book_view book.old) (book_view book.new)
-        (cut_chunks cs kept.now) result)) }
+        (cut_chunks cs kept.now) (stays_aside (book_view book.old) heads.now old kept.now) result)) }
     ensures stays { IsTrue (stays_aside (book_view book.old) heads.now old kept.now)
         → (result ≡ Ok false) × (book_view book.new ≡ book_view book.old) × (S.told site.new ≡ S.told site.old) }
     ensures own { Adds (S.told site.old) (S.told site.new) (Every (IsOf MergesBy)) }

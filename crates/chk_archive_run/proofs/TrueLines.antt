@@ -29,6 +29,7 @@ use Rattle.chk_archive.specs.Archived.{RunDone}
 use Rattle.chk_archive.specs.Reports.{Report}
 use Rattle.chk_prints.specs.Printing.{PrintsInTurn, all_printed, unprinted, printed_on, ended, printing}
 use Rattle.chk_archive_run.specs.Telling.{stream_line, report_lines}
+use Rattle.chk_archive.proofs.WrittenStays.{written_same}
 use Rattle.chk_archive_run.proofs.Lines.{line_is_report, end_is_no_report}
 use Rattle.chk_archive_run.proofs.RunStays.{last_same, run_same}
 
@@ -62,6 +63,8 @@ module _ (stamped : List (List ℕ)) (loaded : Book) (r : Report) where
         ends = d.ends ∙ ap (λ (b : Book). b.ends) (sym book);
         no_stray = d.no_stray;
         merged = λ many. subst (λ (b : Book). length b.segments ≤ 2) (sym book) (d.merged many);
+        written = written_same stamped h g legal same loaded d.listing d.written;
+        numbers = d.numbers;
       }
 
   stays : Stays stamped job (RunDone loaded r)

@@ -14,6 +14,8 @@ mod Entries
 mod Started
 mod BookLoads
 mod Sources
+mod ArchiveWell
+mod RawReads
 mod Ordered
 mod SortedEnds
 mod ChunksInOrder

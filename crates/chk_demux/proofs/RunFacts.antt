@@ -29,6 +29,7 @@ use Rattle.chk_demux.specs.Running.{IsReady, CanSplit, archive_heads}
 use Rattle.chk_demux.specs.Splitting.{RunsSo, split_from, stream_chunks, all_chunks, all_left}
 use Rattle.chk_demux.specs.Writes.{HasSome, HoldsChunks, bytes_of}
 use Rattle.chk_demux.specs.declared.report.DemuxReport.{DemuxReport}
+use Rattle.chk_demux.proofs.ArchiveWell.{archive_well}
 use Rattle.chk_demux.proofs.ChunksInOrder.{runs_in_order, all_run, same_chunks, same_left}
 use Rattle.chk_demux.proofs.NewKeys.{keys_found}
 use Rattle.chk_demux.proofs.NewRecords.{whole_split, left_is, new_fits, archive_sorted, archive_rises, records_rise}
@@ -197,6 +198,7 @@ module _ (stamped types : List (List ℕ)) (named : NamesStamped stamped types) 
     cs = in_order Cs;
     can = record {
       sound = archive_sound stamped history legal;
+      well = archive_well stamped history legal;
       records = archive_records stamped history legal;
       runs = all_run types D Heads Cs A.ends (archive_runs stamped history legal D);
       rises = records_rise stamped types named history legal Heads;

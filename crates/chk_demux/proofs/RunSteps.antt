@@ -5,6 +5,8 @@ use Rattle.chk_site.specs.Acts.{Deed}
 use Rattle.chk_site.specs.History.{History, Every, is_stopped}
 use Rattle.chk_site.specs.Site.{Adds}
 use Rattle.chk_site.specs.Runs.{Leads}
+use Rattle.std.proofs.lemmas.Option.{none-some}
+use Rattle.chk_site.proofs.Runs.{adds_as}
 use Rattle.chk_site.proofs.Leads.{leads_as, leads_then}
 use Rattle.chk_chunk.specs.Keys.{Chunk}
 use Rattle.chk_world.specs.Names.{DemuxFolder, BookFile}
@@ -21,6 +23,8 @@ use Rattle.chk_heads.specs.Order.{in_head_order}
 use Rattle.chk_book.specs.Books.{book_view}
 use Rattle.chk_book.specs.Folders.{segment_name}
 use Rattle.chk_merge.specs.Segments.{names_of}
+use Rattle.chk_merge.specs.Checking.{AllGoWell, ToldOfSome}
+use Rattle.chk_merge.specs.Archives.{ToldBreak}
 use Rattle.chk_parts.specs.Gathering.{heads_of, AreSound, Found}
 use Rattle.chk_parts.specs.Records.{AreRecords}
 use Rattle.chk_parts.proofs.FromKnown.{from_known, reach, reach_known, with_fact}
@@ -55,6 +59,15 @@ quiet_enter k call (replaces c p) = quiet_replace (codes "demux") c p
 
 -- ---- the heads
 
+-- where all streams' records run none is told of
+none_told : (folder : List ℕ) (b : Book) (names : List (List ℕ)) (heads : List Head) → AllGoWell b.ends heads
+    → (name : List ℕ) (at : ℕ) → ToldOfSome folder b names heads (Damaged name at) → ⊥
+none_told folder b names heads well name at bad = go bad.1
+  where
+    go : ToldBreak folder b names bad.0 heads (Damaged name at) → ⊥
+    go (inl one) = none-some one.head (sym (well bad.0).0 ∙ one.is)
+    go (inr one) = one.1 (well bad.0).1
+
 module _ (stamped : List (List ℕ)) (v : Sight) (next : ℕ) (names : List (List ℕ)) (q : Result (List Head) JobFault)
     (only : IfErr q IsOfRead) {old mid : Option History}
     (told : Adds old mid (Leads (As stamped job) (AtJob stamped (λ u. u ≡ v)) (Found stamped v names q))) where
@@ -84,6 +97,26 @@ module _ (stamped : List (List ℕ)) (v : Sight) (next : ℕ) (names : List (Lis
     not_sorted =
         no_more stamped v next (AtJob stamped (λ u. u ≡ v)) (IsFound heads) IsSorted
         (so_done stamped v next (AtJob stamped (λ u. u ≡ v)) IsFound q heads is found)
+
+    -- the records don't run, which never is where they do
+    pub not_checked : (b : Book) → AllGoWell b.ends (heads_of v 0 names) → (fault : JobFault)
+        → ToldOfSome (codes "archive") b names heads fault
+        → Adds old mid (Leads (As stamped job) (AtJob stamped (λ u. u ≡ v)) (EndsSo stamped v next IsSorted (Err fault)))
+    not_checked b well fault bad =
+        leads_as (λ h z. z) (λ h z. go fault bad h z)
+        (so_done stamped v next (AtJob stamped (λ u. u ≡ v)) IsFound q heads is found)
+      where
+        go : (fault : JobFault) → ToldOfSome (codes "archive") b names heads fault → (h : History)
+            → AtJob stamped (IsFound heads) h → Failed stamped v next fault h
+        go (Outside call) bad h z = absurd bad.1
+        go (Damaged name place) bad h z = record {
+          legal = z.legal;
+          may_act = z.may_act;
+          alive = λ runs.
+              none_told (codes "archive") b names heads (subst (AllGoWell b.ends) (sym (z.alive runs).1) well) name place bad;
+        }
+        go (Spent n) bad h z = absurd bad.1
+        go NoMemory bad h z = z.legal
 
     pub all_sorted : (sorted : List Head) → sorted ≡ in_head_order heads
         → Adds old mid (Leads (As stamped job) (AtJob stamped (λ u. u ≡ v)) (AtJob stamped (IsSorted sorted)))
@@ -116,6 +149,9 @@ module _ (stamped types : List (List ℕ)) (a b : Book) (v : Sight) (cs : List C
 
   pub sound_names : AreSound v names
   sound_names = subst (AreSound v) (sym are) k.sound
+
+  pub well_names : AllGoWell a.ends (heads_of v 0 names)
+  well_names = subst (λ ws. AllGoWell a.ends (heads_of v 0 ws)) (sym are) k.well
 
   module _ (r : Result (List Head) JobFault) {old mid : Option History}
       (first : Adds old mid (Leads (As stamped job) (AtJob stamped (λ u. u ≡ v)) (EndsSo stamped v b.next InOrder r))) where
@@ -232,6 +268,19 @@ splits_on k call (inr p) = goes_writing k call p
 enters_on : (k : ℕ) (call : Deed) → WritesBook k call → RunsOn call
 enters_on k call (writes_segment c p) = goes_writing k c p
 enters_on k call (replaces c p) = goes_replacing c p
+
+-- records that don't run are no call's fault
+pub not_run : {T : Type 0} (U : Type 0) (value : T) (fault : JobFault) (b : Book) (names : List (List ℕ)) (heads : List Head)
+    → ToldOfSome (codes "archive") b names heads fault → {old new : Option History}
+    → Adds old new (Worked {T = T} RunsOn (Ok value)) → Adds old new (Worked {T = U} RunsOn (Err fault))
+not_run U value (Outside call) b names heads bad told = absurd bad.1
+not_run U value (Damaged name place) b names heads bad told =
+    adds_as (Worked {T = U} RunsOn (Err (Damaged name place))) told
+    (λ added history w. record { own = w.own; pieces = w.pieces; last = tt })
+not_run U value (Spent n) b names heads bad told = absurd bad.1
+not_run U value NoMemory b names heads bad told =
+    adds_as (Worked {T = U} RunsOn (Err NoMemory)) told
+    (λ added history w. record { own = w.own; pieces = w.pieces; last = tt })
 
 pub gathers : {T : Type 0} (q : Result T JobFault) {old new : Option History} → Adds old new (Every (IsOf ReadsFile))
     → Adds old new (Every AsksInPieces) → Adds old new (FailsLast q) → Adds old new (Worked RunsOn q)

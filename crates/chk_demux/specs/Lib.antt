@@ -3,6 +3,7 @@ pub mod Writes
 pub mod Working
 pub mod Demuxed
 pub mod Beginning
+pub mod Damage
 pub mod Giving
 pub mod Splitting
 pub mod Entering

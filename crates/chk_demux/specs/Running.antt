@@ -11,6 +11,7 @@ use Rattle.chk_world.specs.JobSteps.{ReadsFile, WritesTo}
 use Rattle.chk_heads.specs.Heads.{Head}
 use Rattle.chk_heads.specs.Order.{in_head_order}
 use Rattle.chk_merge.specs.Segments.{names_of}
+use Rattle.chk_merge.specs.Checking.{AllGoWell}
 use Rattle.chk_parts.specs.Gathering.{AreSound, heads_of}
 use Rattle.chk_parts.specs.Records.{AreRecords}
 use Rattle.chk_book.specs.Folders.{segment_name}
@@ -34,9 +35,11 @@ pub record IsReady (stamped : List (List ℕ)) (archive demux : Book) (v : Sight
 abbrev pub archive_heads : Sight → Book → List Head
 archive_heads v archive = in_head_order (heads_of v 0 (names_of (codes "archive") archive))
 
--- these chunks are what the archive's segments hold, and each stream's run on where its split goes on
+-- all streams' records run as the archive's book says; these chunks are what its segments hold, and each stream's run on where its
+-- split goes on
 pub record CanSplit (archive demux : Book) (v : Sight) (cs : List Chunk) : Type 0 where
   pub sound : AreSound v (names_of (codes "archive") archive)
+  pub well : AllGoWell archive.ends (heads_of v 0 (names_of (codes "archive") archive))
   pub records : AreRecords v (names_of (codes "archive") archive) (archive_heads v archive) cs
   pub runs : SplitAll cs archive.ends demux
   pub rises : IsTrue (ends_rise demux.ends)

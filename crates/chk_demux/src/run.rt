@@ -1,20 +1,24 @@
 //! The demux run.
 
-ghost use Rattle.std.specs.Prelude.{◌≡◌, ℕ, List, [], IfOk, OnOk, codes};
+ghost use Rattle.std.specs.Prelude.{◌≡◌, ℕ, List, [], IfOk, IfErr, OnOk, codes};
+ghost use Rattle.chk_site.specs.Files.{Files};
 ghost use Rattle.chk_site.specs.History.{Every};
 ghost use Rattle.chk_site.specs.Site.{Adds};
-ghost use Rattle.chk_site.specs.Runs.{Leads};
+ghost use Rattle.chk_site.specs.Runs.{anyhow, Leads};
 ghost use Rattle.chk_chunk.specs.Keys.{Chunk};
 ghost use Rattle.chk_world.specs.Places.{As};
 ghost use Rattle.chk_world.specs.Sight.{job, Sight, AtJob};
 ghost use Rattle.chk_world.specs.JobSteps.{IsOf};
-ghost use Rattle.chk_heads.specs.Faults.{JobCause, FailsLast};
+ghost use Rattle.chk_heads.specs.Faults.{JobCause, FailsLast, IsOfBegin};
 ghost use Rattle.chk_heads.specs.Order.{in_head_order};
 ghost use Rattle.chk_heads.specs.Pieces.{AsksInPieces};
 ghost use Rattle.chk_parts.specs.Gathering.{AreSound, heads_of};
 ghost use Rattle.chk_book.specs.Books.{book_view};
 ghost use Rattle.chk_book.specs.Folders.{segment_name};
-ghost use Rattle.chk_merge.specs.Segments.{names_of};
+ghost use Rattle.chk_merge.specs.Segments.{names_of, HasFiles, SparesFiles, AreSettled};
+ghost use Rattle.chk_merge.specs.Checking.{AllGoWell, ToldOfSome};
+ghost use Rattle.chk_merge.specs.Merging.{SoundHeads};
+ghost use Rattle.chk_demux.specs.Damage.{reads_of, HasCounts, ReadSoundly, ReadAll};
 ghost use Rattle.chk_demux.specs.Demuxed.{Earlier, Begun, Demuxed, DemuxesBy, NamesStamped, WritesBook};
 ghost use Rattle.chk_demux.specs.Entering.{MayEnter, Entered};
 ghost use Rattle.chk_demux.specs.Working.{Worked, EndsSo};
@@ -30,6 +34,7 @@ use crate::splitting::split_streams;
 use chk_book::Book;
 use chk_bytes::{NoMemory, Word};
 use chk_heads::{Heads, JobFault};
+use chk_merge::check_records;
 use chk_parts::gather_found;
 use chk_site::{Site, Who};
 use std::alloc::Global;
@@ -53,24 +58,47 @@ fn segment_path(alloc: Global, number: u64) -> Result<Word, NoMemory>
     Word::new(alloc, text.as_bytes()).map_err(|_| NoMemory)
 }
 
-/// The heads of the records in these files, in order.
+/// The heads of the records in these files, in order, where all streams' records run as the archive's book says.
 fn heads_in_order<S: Site>(
     alloc: Global,
     site: &mut S,
     who: &Who,
+    archive: &Book,
     names: &[Word],
 ) -> Result<Heads, JobFault>
-    requires { who.now ≡ job }
+    requires job { who.now ≡ job }
+    requires names { names.now ≡ names_of (codes "archive") (book_view archive.now) }
     ensures told { (stamped : List (List ℕ)) (v : Sight) (next : ℕ) → AreSound v names.now
-        → Adds (S.told site.old) (S.told site.new)
+        → AllGoWell (book_view archive.now).ends (heads_of v 0 names.now) → Adds (S.told site.old) (S.told site.new)
         (Leads (As stamped job) (AtJob stamped (λ u. u ≡ v))
         (EndsSo stamped v next (λ heads u. (u ≡ v) × (heads ≡ in_head_order (heads_of v 0 names.now))) result)) }
+    ensures raw { (held : Files) → AreSettled (names_of (codes "archive") (book_view archive.now)) held
+        → Adds (S.told site.old) (S.told site.new)
+        (Leads (anyhow (SparesFiles (names_of (codes "archive") (book_view archive.now))))
+        (HasFiles (names_of (codes "archive") (book_view archive.now)) held)
+        (SoundHeads (codes "archive") (book_view archive.now) held result)) }
     ensures works { Adds (S.told site.old) (S.told site.new) (Worked RunsOn result) }
     ensures cause { JobCause (S.fault_count site.old) (S.fault_count site.new) result }
 {
     let mut heads = gather_found(alloc, site, who, names)?;
-    heads.sort(alloc)?;
+    put_in_order(&mut heads, alloc, archive, names)?;
     Ok(heads)
+}
+
+/// Puts the heads in order, where all streams' records run as the archive's book says.
+fn put_in_order(
+    heads: &mut Heads,
+    alloc: Global,
+    archive: &Book,
+    names: &[Word],
+) -> Result<(), JobFault>
+    ensures well { OnOk result (AllGoWell (book_view archive.now).ends heads.old) }
+    ensures order { OnOk result (heads.new ≡ in_head_order heads.old) }
+    ensures err { IfErr result (ToldOfSome (codes "archive") (book_view archive.now) names.now heads.old) }
+{
+    check_records(alloc, archive, "archive", names, heads)?;
+    heads.sort(alloc)?;
+    Ok(())
 }
 
 /// Splits the archive from the last records on into the output, and says how many bytes are of no complete record.
@@ -92,13 +120,19 @@ fn split_named<S: Site>(
         (EndsSo stamped v (book_view book.now).next (λ left u. IsOutput v
         (all_chunks types.now (book_view book.now) (archive_heads v (book_view archive.now)) cs (book_view archive.now).ends) output.new u
         × (left ≡ all_left types.now (book_view book.now) cs (book_view archive.now).ends)) result)) }
+    ensures raw { (held : Files) → AreSettled (names_of (codes "archive") (book_view archive.now)) held
+        → HasCounts (book_view archive.now)
+        → Adds (S.told site.old) (S.told site.new)
+        (Leads (anyhow (SparesFiles (names_of (codes "archive") (book_view archive.now))))
+        (HasFiles (names_of (codes "archive") (book_view archive.now)) held)
+        (ReadSoundly (book_view archive.now) held result)) }
     ensures writer { OnOk result (IsWriter (book_view book.now).next output.new.segmenter) }
     ensures works { Adds (S.told site.old) (S.told site.new) (Worked RunsOn result) }
     ensures cause { JobCause (S.fault_count site.old) (S.fault_count site.new) result }
 {
     let files = segment_names(alloc, archive)?;
     let names = files.as_slice();
-    let heads = heads_in_order(alloc, site, who, names)?;
+    let heads = heads_in_order(alloc, site, who, archive, names)?;
     split_streams(
         alloc, site, who, types, archive, book, output, names, &heads,
     )
@@ -119,6 +153,7 @@ fn enter_output<S: Site>(
         → MayEnter stamped v (book_view book.old) outs → Adds (S.told site.old) (S.told site.new)
         (Leads (As stamped job) (AtJob stamped (SoFar v outs output.segmenter))
         (EndsSo stamped v (book_view book.old).next (λ t u. Entered v (book_view book.old) outs output.segmenter u) result)) }
+    ensures only { IfErr result IsOfBegin }
     ensures counts { IfOk result (λ report. Reports output left report) }
     ensures works { Adds (S.told site.old) (S.told site.new) (Worked (WritesBook (book_view book.old).next) result) }
     ensures cause { JobCause (S.fault_count site.old) (S.fault_count site.new) result }
@@ -150,6 +185,12 @@ fn split_archive<S: Site>(
         → IsReady stamped (book_view archive.now) (book_view book.old) v
         → Adds (S.told site.old) (S.told site.new)
         (Leads (As stamped job) (AtJob stamped (λ u. u ≡ v)) (Ran stamped v result)) }
+    ensures raw { (held : Files) → AreSettled (names_of (codes "archive") (book_view archive.now)) held
+        → HasCounts (book_view archive.now)
+        → Adds (S.told site.old) (S.told site.new)
+        (Leads (anyhow (SparesFiles (names_of (codes "archive") (book_view archive.now))))
+        (HasFiles (names_of (codes "archive") (book_view archive.now)) held)
+        (ReadSoundly (book_view archive.now) held result)) }
     ensures works { Adds (S.told site.old) (S.told site.new) (Worked RunsOn result) }
     ensures cause { JobCause (S.fault_count site.old) (S.fault_count site.new) result }
 {
@@ -167,7 +208,11 @@ fn split_archive<S: Site>(
 /// one record, and the bytes of the segment that aren't appended yet, at most 1,048,576 and a record. Once the heads stand in
 /// order it goes over them once, and over the streams of the archive's book and of the records' book once, side by side.
 ///
-/// `Damaged` comes where a book or a segment of the archive isn't in its grammar. `Spent` comes where a segment is needed and its
+/// `Damaged` comes where a book isn't in its grammar, with its name and the place of its first wrong field; else where the archive's
+/// records don't run as its book says, as `check_records` tells it: where a segment isn't one of chunks, with the segment's name and
+/// the place from which on it isn't; at the first record of a stream that has another start than in the book, doesn't begin where
+/// the stream's earlier ones end, or ends past its end in the book, with the segment's name; else with the book's name at the
+/// stream's end there, where the records don't reach it. Nothing is written then. `Spent` comes where a segment is needed and its
 /// number is 2^63 - 1. More bytes or records than 64 bits count come as want of memory. After a refusal the old book stands, or
 /// the new one; the segment that was begun is replaced by the next run.
 pub fn demux<S: Site>(
@@ -180,6 +225,8 @@ pub fn demux<S: Site>(
     ensures told { (stamped : List (List ℕ)) (before : Earlier) → NamesStamped stamped types.now
         → Adds (S.told site.old) (S.told site.new)
         (Leads (As stamped job) (Begun stamped before) (Demuxed stamped before result)) }
+    ensures raw { (held : Files) → AreSettled (reads_of held) held → Adds (S.told site.old) (S.told site.new)
+        (Leads (anyhow (SparesFiles (reads_of held))) (HasFiles (reads_of held) held) (ReadAll held result)) }
     ensures own { Adds (S.told site.old) (S.told site.new) (Every (IsOf DemuxesBy)) }
     ensures pieces { Adds (S.told site.old) (S.told site.new) (Every AsksInPieces) }
     ensures last { Adds (S.told site.old) (S.told site.new) (FailsLast result) }

@@ -15,7 +15,10 @@ ghost use Rattle.chk_heads.specs.declared.fault.JobFault.TheVariants.{NoMemory};
 ghost use Rattle.chk_heads.specs.Order.{lent_head, no_head};
 ghost use Rattle.chk_plan.specs.Passes.{head_in};
 ghost use Rattle.chk_parts.specs.Records.{AreRecords};
-ghost use Rattle.chk_parts.specs.Gathering.{AreSound};
+ghost use Rattle.chk_parts.specs.Gathering.{held, AreSound};
+ghost use Rattle.chk_merge.specs.Segments.{HasFiles, SparesFiles, AreSettled};
+ghost use Rattle.chk_merge.specs.Merging.{AreApart};
+ghost use Rattle.chk_demux.specs.Damage.{ReadsOn, NotDamaged};
 ghost use Rattle.chk_parts.specs.Fetching.{head_file, IsRecordAt, CanFetch, Fetched, AreWindows};
 ghost use Rattle.chk_book.specs.Folders.{segment_name};
 ghost use Rattle.chk_book.specs.Books.{book_view, end_in};
@@ -96,6 +99,10 @@ fn split_record<S: Site>(
         (AtJob stamped (SplitSoFar v files.now heads.now cs outs (end_view end.now) from index by_stamps output.old reader.old splitter.old))
         (EndsSo stamped v (book_view book.now).next
         (λ t u. SplitSoFar v files.now heads.now cs outs (end_view end.now) from (index + 1) by_stamps output.new reader.new splitter.new u) result)) }
+    ensures raw { (v : Sight) (cs : List Chunk) → AreRecords v files.now heads.now cs → AreSettled files.now (held v)
+        → AreApart files.now (segment_name (codes "demux") (book_view book.now).next) → Adds (S.told site.old) (S.told site.new)
+        (Leads (anyhow (SparesFiles files.now)) (λ h. HasFiles files.now (held v) h × AreWindows v files.now reader.old)
+        (ReadsOn v files.now reader.new result)) }
     ensures writer { OnOk result (IsWriter (book_view book.now).next output.new.segmenter) }
     ensures works { Adds (S.told site.old) (S.told site.new) (Worked (ReadsOrWrites (segment_name (codes "demux") (book_view book.now).next)) result) }
     ensures cause { JobCause (S.fault_count site.old) (S.fault_count site.new) result }
@@ -139,6 +146,10 @@ fn split_stream<S: Site>(
         (EndsSo stamped v (book_view book.now).next (λ left u. IsOutput v
         (outs ++ stream_chunks types.now (book_view book.now) heads.now cs (end_view end.now)) output.new u
         × AreWindows v files.now reader.new × (left ≡ stream_left types.now (book_view book.now) cs (end_view end.now))) result)) }
+    ensures raw { (v : Sight) (cs : List Chunk) → AreRecords v files.now heads.now cs → AreSettled files.now (held v)
+        → AreApart files.now (segment_name (codes "demux") (book_view book.now).next) → Adds (S.told site.old) (S.told site.new)
+        (Leads (anyhow (SparesFiles files.now)) (λ h. HasFiles files.now (held v) h × AreWindows v files.now reader.old)
+        (ReadsOn v files.now reader.new result)) }
     ensures writer { OnOk result (IsWriter (book_view book.now).next output.new.segmenter) }
     ensures works { Adds (S.told site.old) (S.told site.new) (Worked (ReadsOrWrites (segment_name (codes "demux") (book_view book.now).next)) result) }
     ensures cause { JobCause (S.fault_count site.old) (S.fault_count site.new) result }
@@ -186,6 +197,10 @@ pub(crate) fn split_streams<S: Site>(
         (EndsSo stamped v (book_view book.now).next (λ left u. IsOutput v
         (all_chunks types.now (book_view book.now) heads.now cs (book_view archive.now).ends) output.new u
         × (left ≡ all_left types.now (book_view book.now) cs (book_view archive.now).ends)) result)) }
+    ensures raw { (v : Sight) (cs : List Chunk) → AreRecords v files.now heads.now cs → AreSettled files.now (held v)
+        → AreApart files.now (segment_name (codes "demux") (book_view book.now).next) → Adds (S.told site.old) (S.told site.new)
+        (Leads (anyhow (SparesFiles files.now)) (HasFiles files.now (held v))
+        (NotDamaged result)) }
     ensures writer { OnOk result (IsWriter (book_view book.now).next output.new.segmenter) }
     ensures works { Adds (S.told site.old) (S.told site.new) (Worked (ReadsOrWrites (segment_name (codes "demux") (book_view book.now).next)) result) }
     ensures cause { JobCause (S.fault_count site.old) (S.fault_count site.new) result }

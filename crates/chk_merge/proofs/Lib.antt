@@ -6,13 +6,13 @@ mod Fetching
 pub mod Frames
 pub mod AllGathered
 pub mod AllRead
-mod Joining
-mod Archived
+pub mod Joining
+pub mod Archived
 mod SortedStream
 mod SortedRuns
 mod Checked
 mod OnePass
-mod SoundHeads
+pub mod SoundHeads
 mod Writing
 mod Merged
 mod MergedInto

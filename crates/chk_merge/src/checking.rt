@@ -18,10 +18,19 @@ use chk_bytes::Word;
 use chk_heads::{Heads, JobFault};
 use std::alloc::Global;
 
-/// Whether the records of all streams run as the book says, of which heads are given in the order of their reading. The first
-/// stream in the book's order of which they don't is told; else the first one that isn't in the book. It costs the product of
-/// the streams and the heads.
-pub(crate) fn check_all(
+/// Whether the records of all streams run as the book of `folder` says, of which heads are given in the order of their reading: file
+/// after file, each file's as they stand. The records of a stream have its start in the book, the first one begins there, each
+/// other one begins where the one before it ends, none ends past the stream's end in the book, and the last one reaches it. A
+/// stream that isn't in the book has no records.
+///
+/// `Damaged` comes exactly where one doesn't run so: with the name of the head's file at the first record of the stream that isn't
+/// so; where each one is and they don't reach the stream's end, with the book's name at that end. It is of the first stream in the
+/// book's order of which something is wrong, else of the first one that isn't in the book. A head of none of the files, and a
+/// place in the book that 64 bits don't hold, count as want of memory.
+///
+/// It holds eight bytes for each stream, and costs a search among the streams for each head; where `Damaged` comes, or there is no
+/// memory for these numbers, or the streams don't stand in byte order, the product of the streams and the heads.
+pub fn check_records(
     alloc: Global,
     book: &Book,
     folder: &str,

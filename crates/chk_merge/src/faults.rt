@@ -50,8 +50,9 @@ pub(crate) fn break_fault(
     }
 }
 
-/// The fault of a record that doesn't go on.
-fn head_fault(alloc: Global, names: &[Word], heads: &Heads, index: usize) -> JobFault
+/// The fault of a record that isn't as it has to be, of the head at `index`: `Damaged` with the name of its file and the record's
+/// place. A head of no file counts as want of memory, as does want of memory for the name.
+pub fn head_fault(alloc: Global, names: &[Word], heads: &Heads, index: usize) -> JobFault
     requires { index < length heads.now }
     ensures { IsHeadFault names.now (slice_index_or heads.now index no_head) result }
 {

@@ -1,4 +1,4 @@
-//! Reads back the records whose heads are known; joins a stream's records, and merges a folder's
+//! Reads back the records whose heads are known; joins a stream's records, checks those of all streams, and merges a folder's
 //! segments.
 #![tactic(auto)]
 
@@ -18,7 +18,9 @@ mod reading;
 mod spans;
 
 pub use archives::archive_of;
+pub use checking::check_records;
 pub use chk_heads::JobFault;
+pub use faults::head_fault;
 pub use laws::heads_stand_for_chunks;
 pub use merging::merge;
 pub use reader::RecordReader;

@@ -20,7 +20,7 @@ ghost use Rattle.chk_merge.specs.Merging.{SoundHeads, SparesBoth, AreApart, CanW
 ghost use Rattle.chk_book.specs.Causes.{SpentBook};
 ghost use Rattle.chk_book.specs.Loaded.{book_result};
 
-use crate::checking::check_all;
+use crate::checking::check_records;
 use crate::gathering::{fetch, gather_all};
 use crate::names::{most_in, segment_names};
 use crate::parts::{chunk_of, is_part};
@@ -113,7 +113,7 @@ fn put_in_order(
     ensures order { OnOk result (heads.new ≡ in_head_order heads.old) }
     ensures err { IfErr result (ToldOfSome folder.now (book_view book.now) names.now heads.old) }
 {
-    check_all(alloc, book, folder, names, heads)?;
+    check_records(alloc, book, folder, names, heads)?;
     heads.sort(alloc)?;
     Ok(())
 }

@@ -11,7 +11,6 @@ use Rattle.chk_chunk.specs.Keys.{Chunk}
 use Rattle.chk_world.specs.Places.{As}
 use Rattle.chk_world.specs.Sight.{job, Sight, AtJob}
 use Rattle.chk_heads.specs.Heads.{Head}
-use Rattle.chk_heads.specs.Order.{no_head}
 use Rattle.chk_heads.specs.declared.fault.JobFault.{JobFault}
 use Rattle.chk_heads.specs.declared.fault.JobFault.TheVariants.{Outside, Damaged, Spent, NoMemory}
 use Rattle.chk_book.specs.declared.segmenter.Segmenter.{Segmenter}
@@ -23,6 +22,9 @@ use Rattle.chk_heads.specs.Pieces.{bytes_in}
 use Rattle.chk_parts.specs.Gathering.{held}
 use Rattle.chk_parts.specs.Records.{file_at, AreRecords}
 use Rattle.chk_parts.specs.Fetching.{AreWindows, IsRecordAt}
+use Rattle.chk_heads.specs.Order.{no_head}
+use Rattle.chk_parts.specs.Shelves.{AreKept}
+use Rattle.chk_parts.specs.declared.shelf.Shelf.{Shelf}
 use Rattle.chk_parts.specs.Writes.{IsSoFar, PutSo, CutSo}
 use Rattle.chk_parts.proofs.Fetches.{any_default}
 
@@ -43,7 +45,7 @@ no_cut = record { index = 0; skip = 0 }
 
 module _ (stamped : List (List ℕ)) (v : Sight) (files : List (List ℕ)) (heads : List Head) (cs : List Chunk)
     (cuts : List Cut) (records : AreRecords v files heads cs) (within : AreWithin (length heads) cuts)
-    (i : ℕ) (low : i < length cuts) (A : History → Type 0) (s t : Segmenter) (r q : RecordReader)
+    (i : ℕ) (low : i < length cuts) (A : History → Type 0) (s t : Segmenter) (r q : Shelf)
     (result : Result (Unit {0}) JobFault) where
   abbrev pub C : Cut
   C = slice_index_or cuts i no_cut
@@ -60,34 +62,34 @@ module _ (stamped : List (List ℕ)) (v : Sight) (files : List (List ℕ)) (head
       ∙ ap (cut_chunks cs)
       (sym (take_more cuts i C low ∙ ap (λ x. take i cuts ++ x ∷ []) (any_default cuts i C no_cut low)))
 
-  abbrev pub SoFar : ℕ → Segmenter → RecordReader → History → Type 0
-  SoFar n s r = AtJob stamped (λ u. IsSoFar v (cut_chunks cs (take n cuts)) s u × AreWindows v files r)
+  abbrev pub SoFar : ℕ → Segmenter → Shelf → History → Type 0
+  SoFar n s r = AtJob stamped (λ u. IsSoFar v (cut_chunks cs (take n cuts)) s u × AreKept v files heads r)
 
   pub cut_more : (value : Unit {0}) → result ≡ Ok value → {old mid new : Option History}
       → Adds old mid (Leads (As stamped job) A (SoFar i s r))
       → Adds mid new (Leads (As stamped job) (SoFar i s r)
-      (CutSo stamped v files (cut_chunks cs (take i cuts) ++ cut_of C.skip D ∷ []) t q result))
+      (CutSo stamped v files heads (cut_chunks cs (take i cuts) ++ cut_of C.skip D ∷ []) t q result))
       → Adds old new (Leads (As stamped job) A (SoFar (i + 1) t q))
   cut_more value e first told =
       leads_then first
       (leads_as (λ h k. k)
-      (λ h k. subst (λ l. AtJob stamped (λ u. IsSoFar v l t u × AreWindows v files q) h) more
-      (subst (λ x. CutSo stamped v files (cut_chunks cs (take i cuts) ++ cut_of C.skip D ∷ []) t q x h) e k))
+      (λ h k. subst (λ l. AtJob stamped (λ u. IsSoFar v l t u × AreKept v files heads q) h) more
+      (subst (λ x. CutSo stamped v files heads (cut_chunks cs (take i cuts) ++ cut_of C.skip D ∷ []) t q x h) e k))
       told)
 
   pub cut_fails : (all : List Chunk) (fault : JobFault) → result ≡ Err fault → {old mid new : Option History}
       → Adds old mid (Leads (As stamped job) A (SoFar i s r))
       → Adds mid new (Leads (As stamped job) (SoFar i s r)
-      (CutSo stamped v files (cut_chunks cs (take i cuts) ++ cut_of C.skip D ∷ []) t q result))
+      (CutSo stamped v files heads (cut_chunks cs (take i cuts) ++ cut_of C.skip D ∷ []) t q result))
       → Adds old new (Leads (As stamped job) A (PutSo stamped v all t (Err fault)))
   cut_fails all fault e first told =
       leads_then first
       (leads_as (λ h k. k)
-      (λ h k. go fault h (subst (λ x. CutSo stamped v files (cut_chunks cs (take i cuts) ++ cut_of C.skip D ∷ []) t q x h) e k))
+      (λ h k. go fault h (subst (λ x. CutSo stamped v files heads (cut_chunks cs (take i cuts) ++ cut_of C.skip D ∷ []) t q x h) e k))
       told)
     where
       go : (fault : JobFault) (h : History)
-          → CutSo stamped v files (cut_chunks cs (take i cuts) ++ cut_of C.skip D ∷ []) t q (Err fault) h
+          → CutSo stamped v files heads (cut_chunks cs (take i cuts) ++ cut_of C.skip D ∷ []) t q (Err fault) h
           → PutSo stamped v all t (Err fault) h
       go (Outside call) h k = k
       go (Damaged name at) h k = k

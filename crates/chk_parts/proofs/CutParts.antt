@@ -1,20 +1,21 @@
 -- What the passes take are the parts of the chunks.
 use Rattle.std.proofs.Common.{◌≡◌, ℕ, ◌+◌, ◌-◌, ◌≤◌, ◌<◌, Bool, true, false, List, [], ◌∷◌, ◌++◌, length, drop, ap, sym, subst, ◌∙◌, refl, arith, length-drop}
-use Rattle.std.specs.Prelude.{filter, map, flat_map, slice_index_or}
+use Rattle.std.specs.Prelude.{map, flat_map, slice_index_or}
 use Rattle.std.proofs.lemmas.List.{drop_more, map-append}
-use Rattle.chk_chunk.specs.Keys.{Chunk, chunk_end, is_of}
+use Rattle.chk_chunk.specs.Keys.{Chunk, chunk_end}
 use Rattle.chk_world.specs.ArchiveRuns.{in_order}
 use Rattle.chk_heads.specs.Heads.{Head}
+use Rattle.chk_heads.specs.Order.{in_head_order}
 use Rattle.chk_plan.specs.HeadsOf.{AreHeads}
 use Rattle.chk_plan.specs.Passes.{between, AreSpans}
 use Rattle.chk_plan.specs.Plan.{goes_on, part_past, parts_from}
 use Rattle.chk_plan.specs.declared.spans.Span.{Span}
 use Rattle.chk_plan.specs.declared.spans.Known.{Known}
 use Rattle.chk_plan.proofs.Bridges.{between_drop, goes_same, heads_between, same_size}
-use Rattle.chk_plan.proofs.ChunkOrder.{in_order_ordered}
+use Rattle.chk_plan.proofs.Gives.{plans_give}
+use Rattle.chk_plan.proofs.HeadOrder.{heads_sort}
 use Rattle.chk_parts.specs.declared.cuts.Cut.{Cut}
 use Rattle.chk_parts.specs.Cuts.{cuts_from, span_cuts, no_chunk, cut_of, cut_chunk, cut_chunks, CutsAreParts}
-use Rattle.chk_parts.proofs.StreamCuts.{one_takes, stream_cuts}
 
 abbrev first_of : Chunk → List Chunk → Chunk
 first_of c [] = c
@@ -77,7 +78,7 @@ of_span heads cs s are low within =
     (sym (between_drop s.first s.end cs low within)) (heads_between s.first s.end heads cs are)
 
 -- what the passes take are the parts of the chunks
-spans_are_parts : (known : List Known) (heads : List Head) (cs : List Chunk) → AreHeads heads cs
+pub spans_are_parts : (known : List Known) (heads : List Head) (cs : List Chunk) → AreHeads heads cs
     → (at to : ℕ) (spans : List Span) → AreSpans known heads at spans to
     → cut_chunks cs (flat_map (span_cuts heads) spans)
     ≡ flat_map (λ (s : Span). parts_from s.from (between s.first s.end cs)) spans
@@ -93,9 +94,7 @@ spans_are_parts known heads cs are at to (s ∷ ss) all =
     (spans_are_parts known heads cs are s.end to ss all.2))
 
 pub cuts_are_parts : CutsAreParts
-cuts_are_parts known heads cs spans cuts are all dealt s =
-    stream_cuts heads (in_order cs) are s cuts
-    ∙ (ap (cut_chunks (in_order cs))
-    (dealt s (one_takes known heads (in_order cs) are (in_order_ordered cs) s 0 spans all))
-    ∙ (sym (stream_cuts heads (in_order cs) are s (flat_map (span_cuts heads) spans))
-    ∙ ap (filter (is_of s)) (spans_are_parts known heads (in_order cs) are 0 (length heads) spans all)))
+cuts_are_parts known heads cs spans ends are bytes all begin =
+    let sorted = heads_sort heads cs are in
+    spans_are_parts known (in_head_order heads) (in_order cs) sorted 0 (length (in_head_order heads)) spans all
+    ∙ sym (plans_give known heads cs spans ends are bytes all begin).parts

@@ -1,26 +1,27 @@
--- What is kept of chunks that stand in order is each one once.
-use Rattle.std.proofs.Common.{◌≡◌, ℕ, zero, suc, ◌+◌, ◌-◌, ◌≤◌, ◌<◌, ◌&&◌, ◌||◌, not, Bool, true, false, cond, List, [], ◌∷◌, ◌++◌, length, take, drop, Option, Some, None, ap, sym, subst, ◌∙◌, refl, arith, true≢false, append_assoc}
+-- Chunks that stand in order, of which each is kept once.
+use Rattle.std.proofs.Common.{◌≡◌, ℕ, zero, suc, ◌+◌, ◌-◌, ◌≤◌, ◌<◌, ◌&&◌, ◌||◌, not, Bool, true, false, cond, List, [], ◌∷◌, ◌++◌, length, take, drop, ap, sym, subst, ◌∙◌, refl, arith, true≢false, length-drop}
+use Rattle.std.specs.List.{AllZip, list_any}
 use Rattle.std.specs.Prelude.{Contains, filter, nat_eq, nat_lt, bytes_eq, slice_index_or}
-use Rattle.std.proofs.lemmas.Bool.{and_parts, and_from, eqb-true, eq-eqb}
-use Rattle.std.proofs.lemmas.List.{map-append, drop_more, length-take-le, get_or-take, drop-drop}
+use Rattle.std.proofs.Math.ListN.{drop_of_length-le}
+use Rattle.std.proofs.Math.Seq.{take-length}
+use Rattle.std.proofs.lemmas.Bool.{and_parts, and_from, or_from, eqb-true, eq-eqb}
+use Rattle.std.proofs.lemmas.List.{map-append, drop_more, length-take-le, get_or-take, drop-drop, take-append-drop, take-append-le, drop-append-le}
+use Rattle.std.proofs.lemmas.List.Elements.{filter-append}
+use Rattle.std.proofs.lemmas.List.Folds.{list_any-append}
 use Rattle.chk_chunk.specs.Keys.{Chunk, chunk_begin, chunk_end, same_stream, stream_lt, same_data}
-use Rattle.chk_world.specs.ArchiveRuns.{comes_before, in_order, once}
-use Rattle.chk_world.proofs.Each.{Each, each_from, each_as, later_one, each_filter, each_both, filter_each}
-use Rattle.chk_world.proofs.Ends.{bytes_self, bytes_same}
+use Rattle.chk_world.specs.ArchiveRuns.{comes_before, once}
+use Rattle.chk_world.proofs.Each.{Each, each_as, later_one, each_filter}
+use Rattle.chk_world.proofs.Ends.{bytes_same}
 use Rattle.chk_world.proofs.NameTests.{streams_same}
 use Rattle.chk_heads.specs.Heads.{Head}
 use Rattle.chk_heads.proofs.Orders.{Tested, lex_tested, tested_through, numbers, streams}
-use Rattle.chk_plan.specs.HeadsOf.{IsHeadOf, AreHeads}
 use Rattle.chk_plan.specs.Passes.{between, IsSpan, AreSpans}
 use Rattle.chk_plan.specs.declared.spans.Span.{Span}
 use Rattle.chk_plan.specs.declared.spans.Known.{Known}
-use Rattle.chk_plan.proofs.ChunkOrder.{Ordered, in_order_ordered}
-use Rattle.chk_plan.proofs.Bridges.{between_drop, heads_between, same_size}
-use Rattle.chk_plan.proofs.Runs.{all_put}
-use Rattle.chk_parts.specs.declared.cuts.Cut.{Cut}
+use Rattle.chk_plan.proofs.ChunkOrder.{Ordered}
+use Rattle.chk_plan.proofs.Bridges.{between_drop}
 use Rattle.chk_parts.specs.Cuts.{no_chunk, cut_of, cut_chunk, cut_chunks}
-use Rattle.chk_parts.specs.Records.{AreOfLogs}
-use Rattle.chk_parts.specs.Kept.{past_chunks, repeats, is_repeat, kept_one, kept_from, last_of, kept_in, KeptAreOnce}
+use Rattle.chk_parts.specs.Kept.{past_chunks, whole_from, past_cuts}
 use Rattle.chk_parts.proofs.CutParts.{place}
 
 pub between_more : {X : Type 0} (xs : List X) (i j : ℕ) (d : X) → i < j → j ≤ length xs
@@ -64,49 +65,16 @@ same_ties c d e =
     (and_from (nat_eq (chunk_begin c) (chunk_begin d)) (nat_eq (chunk_end c) (chunk_end d))
     (eq-eqb (chunk_begin c) (chunk_begin d) (omega (arith, seq, size))) q.0)
 
--- the later one comes not before the first, and has its data where they are alike
-pub record IsBehind (c d : Chunk) : Type 0 where
-  pub order : comes_before d c ≡ false
-  pub agree : c.key.stream ≡ d.key.stream → chunk_begin c ≡ chunk_begin d → c.key.seq ≡ d.key.seq
-      → c.value ≡ d.value
-
-ties_same : (c d : Chunk) → IsBehind c d → tie c d ≡ true → same_data c d ≡ true
-ties_same c d behind e =
-    let p = and_parts (same_stream c.key.stream d.key.stream)
-    (nat_eq (chunk_begin c) (chunk_begin d) && nat_eq (chunk_end c) (chunk_end d)) e in
-    let q = and_parts (nat_eq (chunk_begin c) (chunk_begin d)) (nat_eq (chunk_end c) (chunk_end d)) p.1 in
-    let value = behind.agree (streams_same c.key.stream d.key.stream p.0)
-    (eqb-true (chunk_begin c) (chunk_begin d) q.0) (eqb-true (chunk_end c) (chunk_end d) q.1) in
-    and_from (same_stream c.key.stream d.key.stream) _ p.0
-    (and_from (nat_eq c.key.seq d.key.seq) (bytes_eq c.value d.value) q.1
-    (subst (λ l. bytes_eq c.value l ≡ true) value (bytes_self c.value)))
-
-abbrev pub Pairs : List Chunk → Type 0
-Pairs [] = Unit {0}
-Pairs (c ∷ cs) = Each (IsBehind c) cs × Pairs cs
-
--- of neighbours that are alike the first
-abbrev pub uniq_one : Bool → Chunk → List Chunk
-uniq_one b d = elim b [ true ↦ [] | false ↦ d ∷ [] ]
-
-abbrev pub ties : Option Chunk → Chunk → Bool
-ties None d = false
-ties (Some c) d = tie c d
-
-abbrev pub uniq : Option Chunk → List Chunk → List Chunk
-uniq p [] = []
-uniq p (d ∷ ds) = uniq_one (ties p d) d ++ uniq (Some d) ds
+-- the later one comes not before the first
+abbrev pub IsBehind : Chunk → Chunk → Type 0
+IsBehind c d = comes_before d c ≡ false
 
 -- ---- each one once
 
-each_once : (P : Chunk → Type 0) (cs : List Chunk) → Each P cs → Each P (once cs)
+pub each_once : (P : Chunk → Type 0) (cs : List Chunk) → Each P cs → Each P (once cs)
 each_once P [] all = tt
 each_once P (c ∷ cs) all =
     (all.0, each_filter P (λ d. not (same_data c d)) (once cs) (each_once P cs all.1))
-
-not_true : (b : Bool) → not b ≡ true → b ≡ false
-not_true true e = absurd (true≢false (sym e))
-not_true false e = refl
 
 unlike : (c : Chunk) (b : Bool) → (b ≡ true → ⊥) → not b ≡ true
 unlike c true h = absurd (h refl)
@@ -116,26 +84,22 @@ unlike c false h = refl
 apart : (c d x : Chunk) → tie c d ≡ false → IsBehind c d → IsBehind d x → not (same_data c x) ≡ true
 apart c d x e cd dx = unlike c (same_data c x) (λ same.
     let far = tested.neither c x (same_ties c x same) in
-    true≢false (sym (tested.are_alike c d (tested.order.onward c x d far.0 dx.order) cd.order) ∙ e))
+    true≢false (sym (tested.are_alike c d (tested.order.onward c x d far.0 dx) cd) ∙ e))
 
--- what isn't the same as one isn't the same as one that is
-still : (c d x : Chunk) → same_data c d ≡ true → not (same_data d x) ≡ true → not (same_data c x) ≡ true
-still c d x same e = unlike c (same_data c x) (λ alike.
-    true≢false (sym (turned c d x same alike) ∙ not_true (same_data d x) e))
-  where
-    turned : (c d x : Chunk) → same_data c d ≡ true → same_data c x ≡ true → same_data d x ≡ true
-    turned c d x p q =
-        let a = and_parts (same_stream c.key.stream d.key.stream)
-        (nat_eq c.key.seq d.key.seq && bytes_eq c.value d.value) p in
-        let b = and_parts (nat_eq c.key.seq d.key.seq) (bytes_eq c.value d.value) a.1 in
-        let u = and_parts (same_stream c.key.stream x.key.stream)
-        (nat_eq c.key.seq x.key.seq && bytes_eq c.value x.value) q in
-        let v = and_parts (nat_eq c.key.seq x.key.seq) (bytes_eq c.value x.value) u.1 in
-        and_from (same_stream d.key.stream x.key.stream) _
-        (subst (λ t. same_stream t x.key.stream ≡ true) (streams_same c.key.stream d.key.stream a.0) u.0)
-        (and_from (nat_eq d.key.seq x.key.seq) (bytes_eq d.value x.value)
-        (subst (λ n. nat_eq n x.key.seq ≡ true) (eqb-true c.key.seq d.key.seq b.0) v.0)
-        (subst (λ l. bytes_eq l x.value ≡ true) (bytes_same c.value d.value b.1) v.1))
+-- what is the same as one is the same as those that this one is the same as
+same_onward : (c x d : Chunk) → same_data c x ≡ true → same_data x d ≡ true → same_data c d ≡ true
+same_onward c x d p q =
+    let a = and_parts (same_stream c.key.stream x.key.stream)
+    (nat_eq c.key.seq x.key.seq && bytes_eq c.value x.value) p in
+    let b = and_parts (nat_eq c.key.seq x.key.seq) (bytes_eq c.value x.value) a.1 in
+    let u = and_parts (same_stream x.key.stream d.key.stream)
+    (nat_eq x.key.seq d.key.seq && bytes_eq x.value d.value) q in
+    let v = and_parts (nat_eq x.key.seq d.key.seq) (bytes_eq x.value d.value) u.1 in
+    and_from (same_stream c.key.stream d.key.stream) _
+    (subst (λ t. same_stream c.key.stream t ≡ true) (streams_same x.key.stream d.key.stream u.0) a.0)
+    (and_from (nat_eq c.key.seq d.key.seq) (bytes_eq c.value d.value)
+    (subst (λ n. nat_eq c.key.seq n ≡ true) (eqb-true x.key.seq d.key.seq v.0) b.0)
+    (subst (λ l. bytes_eq c.value l ≡ true) (bytes_same x.value d.value v.1) b.1))
 
 filter_on : (p : Chunk → Bool) (x : Chunk) (xs : List Chunk) → p x ≡ true → filter p (x ∷ xs) ≡ x ∷ filter p xs
 filter_on p x xs e = ap (λ b. cond b (x ∷ filter p xs) (filter p xs)) e
@@ -150,92 +114,25 @@ filter_all p (x ∷ xs) all = filter_on p x xs all.0 ∙ ap (λ l. x ∷ l) (fil
 abbrev other_than : Chunk → Chunk → Bool
 other_than c x = not (same_data c x)
 
-abbrev others : Chunk → List Chunk → List Chunk
-others d es = filter (other_than d) (once es)
+-- where no two that follow each other are alike, each is kept
+abbrev pub NoTies : List Chunk → Type 0
+NoTies cs = (i : ℕ) → suc i < length cs → tie (slice_index_or cs i no_chunk) (slice_index_or cs (suc i) no_chunk) ≡ false
 
-behind_one : (c : Chunk) (ds : List Chunk) → Each (IsBehind c) ds → Pairs ds
-    → filter (λ x. not (same_data c x)) (once ds) ≡ uniq (Some c) ds
-behind_one c [] all pairs = refl
-behind_one c (d ∷ es) all pairs =
-    go (tie c d) refl (behind_one d es pairs.0 pairs.1)
+pub lone_once : (cs : List Chunk) → Ordered cs → NoTies cs → once cs ≡ cs
+lone_once [] o none = refl
+lone_once (c ∷ cs) o none =
+    ap (λ l. c ∷ filter (other_than c) l) (lone_once cs o.1 (λ i low. none (suc i) (omega (arith, low))))
+    ∙ ap (λ l. c ∷ l) (filter_all (other_than c) cs (far cs o none))
   where
-    go : (b : Bool) → tie c d ≡ b → others d es ≡ uniq (Some d) es
-        → filter (other_than c) (d ∷ others d es) ≡ uniq_one (tie c d) d ++ uniq (Some d) es
-    go true e ih =
-        let same = ties_same c d all.0 e in
-        filter_off (other_than c) d (others d es) (ap not same)
-        ∙ (filter_all (other_than c) (others d es) (each_as (λ x. not (same_data d x) ≡ true) (λ x. other_than c x ≡ true) (others d es)
-        (λ x. still c d x same) (filter_each (λ x. not (same_data d x)) (once es)))
-        ∙ (ih ∙ ap (λ b. uniq_one b d ++ uniq (Some d) es) (sym e)))
-    go false e ih =
-        filter_on (other_than c) d (others d es) (unlike c (same_data c d) (λ same. true≢false (sym (same_ties c d same) ∙ e)))
-        ∙ (ap (λ l. d ∷ l) (filter_all (other_than c) (others d es)
-        (each_filter (λ x. other_than c x ≡ true) (λ x. not (same_data d x)) (once es)
-        (each_once (λ x. other_than c x ≡ true) es
-        (each_as (IsBehind d) (λ x. other_than c x ≡ true) es (λ x dx. apart c d x e all.0 dx) pairs.0))) ∙ ih)
-        ∙ ap (λ b. uniq_one b d ++ uniq (Some d) es) (sym e))
+    far : (ds : List Chunk) → Ordered (c ∷ ds) → NoTies (c ∷ ds) → Each (λ x. other_than c x ≡ true) ds
+    far [] o none = tt
+    far (d ∷ es) o none =
+        let e : tie c d ≡ false = none 0 (omega arith) in (
+          unlike c (same_data c d) (λ same. true≢false (sym (same_ties c d same) ∙ e)),
+          each_as (IsBehind d) (λ x. other_than c x ≡ true) es (λ x dx. apart c d x e o.0.0 dx) o.1.0,
+        )
 
-pub once_is : (cs : List Chunk) → Pairs cs → once cs ≡ uniq None cs
-once_is [] pairs = refl
-once_is (c ∷ cs) pairs = ap (λ l. c ∷ l) (behind_one c cs pairs.0 pairs.1)
-
--- ---- of heads
-
--- the head of the chunk before is of the same one
-abbrev IsBefore : Option Head → Option Chunk → Type 0
-IsBefore None None = Unit {0}
-IsBefore (Some h) (Some c) = IsHeadOf h c
-IsBefore p q = ⊥
-
-repeat_same : (p : Option Head) (q : Option Chunk) (h : Head) (c : Chunk) → IsBefore p q → IsHeadOf h c
-    → is_repeat p h ≡ ties q c
-repeat_same None None h c before is = refl
-repeat_same None (Some d) h c before is = absurd before
-repeat_same (Some k) None h c before is = absurd before
-repeat_same (Some k) (Some d) h c before is =
-    ap (λ (n : ℕ). repeats k (record h { begin = n })) is.begin
-    ∙ (ap (λ (n : ℕ). repeats (record k { begin = n }) (record h { begin = chunk_begin c })) before.begin
-    ∙ (ap (λ x. repeats (record k { key = x; begin = chunk_begin d }) (record h { begin = chunk_begin c })) before.key
-    ∙ ap (λ x. repeats (record k { key = d.key; begin = chunk_begin d }) (record h { key = x; begin = chunk_begin c })) is.key))
-
-abbrev last_chunk : Option Chunk → List Chunk → Option Chunk
-last_chunk q [] = q
-last_chunk q (c ∷ cs) = last_chunk (Some c) cs
-
-last_before : (p : Option Head) (q : Option Chunk) (hs : List Head) (ds : List Chunk) → IsBefore p q
-    → AreHeads hs ds → IsBefore (last_of p hs) (last_chunk q ds)
-last_before p q [] [] before heads = before
-last_before p q [] (d ∷ ds) before heads = absurd heads
-last_before p q (h ∷ hs) [] before heads = absurd heads
-last_before p q (h ∷ hs) (d ∷ ds) before heads = last_before (Some h) (Some d) hs ds heads.0 heads.1
-
-kept_are : (cs : List Chunk) (at : ℕ) (p : Option Head) (q : Option Chunk) (hs : List Head)
-    (ds post : List Chunk) → drop at cs ≡ ds ++ post → AreHeads hs ds → IsBefore p q
-    → cut_chunks cs (kept_from at p hs) ≡ uniq q ds
-kept_are cs at p q [] [] post is heads before = refl
-kept_are cs at p q [] (d ∷ ds) post is heads before = absurd heads
-kept_are cs at p q (h ∷ hs) [] post is heads before = absurd heads
-kept_are cs at p q (h ∷ hs) (d ∷ ds) post is heads before =
-    let here = place cs at d (ds ++ post) is in
-    map-append (cut_chunk cs) (kept_one at p h) (kept_from (at + 1) (Some h) hs)
-    ∙ (ap (λ l. l ++ cut_chunks cs (kept_from (at + 1) (Some h) hs))
-    (one (is_repeat p h) here.0 ∙ ap (λ b. uniq_one b d) (repeat_same p q h d before heads.0))
-    ∙ ap (λ l. uniq_one (ties q d) d ++ l)
-    (kept_are cs (at + 1) (Some h) (Some d) hs ds post here.1 heads.1 heads.0))
-  where
-    one : (b : Bool) → slice_index_or cs at no_chunk ≡ d
-        → cut_chunks cs (elim b as (λ t. List Cut) [ true ↦ [] | false ↦ record { index = at; skip = 0 } ∷ [] ])
-        ≡ uniq_one b d
-    one true same = refl
-    one false same = ap (λ c. cut_of 0 c ∷ []) same
-
-uniq_join : (q : Option Chunk) (xs ys : List Chunk) → uniq q (xs ++ ys) ≡ uniq q xs ++ uniq (last_chunk q xs) ys
-uniq_join q [] ys = refl
-uniq_join q (x ∷ xs) ys =
-    ap (λ l. uniq_one (ties q x) x ++ l) (uniq_join (Some x) xs ys)
-    ∙ sym (append_assoc (uniq_one (ties q x) x) (uniq (Some x) xs) (uniq (last_chunk (Some x) xs) ys))
-
--- ---- of spans
+-- ---- of lists in order
 
 each_join : {X : Type 0} (P : X → Type 0) (xs ys : List X) → Each P xs → Each P ys → Each P (xs ++ ys)
 each_join P [] ys a b = b
@@ -245,8 +142,8 @@ each_parts : {X : Type 0} (P : X → Type 0) (xs ys : List X) → Each P (xs ++ 
 each_parts P [] ys a = (tt, a)
 each_parts P (x ∷ xs) ys a = let p = each_parts P xs ys a.1 in ((a.0, p.0), p.1)
 
-pairs_join : (xs ys zs : List Chunk) → Pairs (xs ++ ys)
-    → ((P : Chunk → Type 0) → Each P ys → Each P zs) → Pairs zs → Pairs (xs ++ zs)
+pairs_join : (xs ys zs : List Chunk) → Ordered (xs ++ ys)
+    → ((P : Chunk → Type 0) → Each P ys → Each P zs) → Ordered zs → Ordered (xs ++ zs)
 pairs_join [] ys zs pairs less rest = rest
 pairs_join (x ∷ xs) ys zs pairs less rest =
     let p = each_parts (IsBehind x) xs ys pairs.0 in
@@ -257,16 +154,52 @@ each_drop P zero xs a = a
 each_drop P (suc n) [] a = tt
 each_drop P (suc n) (x ∷ xs) a = each_drop P n xs a.1
 
-pairs_drop : (n : ℕ) (xs : List Chunk) → Pairs xs → Pairs (drop n xs)
+pairs_drop : (n : ℕ) (xs : List Chunk) → Ordered xs → Ordered (drop n xs)
 pairs_drop zero xs a = a
 pairs_drop (suc n) [] a = tt
 pairs_drop (suc n) (x ∷ xs) a = pairs_drop n xs a.1
 
-module _ (known : List Known) (heads : List Head) (cs : List Chunk) (are : AreHeads heads cs) where
+-- ---- of spans
+
+pub same_length : (P : Head → Chunk → Type 0) (hs : List Head) (cs : List Chunk) → AllZip P hs cs → length hs ≡ length cs
+same_length P [] [] all = refl
+same_length P [] (c ∷ cs) all = absurd all
+same_length P (h ∷ hs) [] all = absurd all
+same_length P (h ∷ hs) (c ∷ cs) all = let rest = same_length P hs cs all.1 in omega (arith, rest)
+
+whole_are : (cs : List Chunk) (at : ℕ) (hs : List Head) (ds post : List Chunk) → drop at cs ≡ ds ++ post
+    → length hs ≡ length ds → cut_chunks cs (whole_from at hs) ≡ ds
+whole_are cs at [] [] post is size = refl
+whole_are cs at [] (d ∷ ds) post is size = absurd (let z : ⊥ = omega (arith, size) in z)
+whole_are cs at (h ∷ hs) [] post is size = absurd (let z : ⊥ = omega (arith, size) in z)
+whole_are cs at (h ∷ hs) (d ∷ ds) post is size =
+    let here = place cs at d (ds ++ post) is in
+    ap (λ c. cut_of 0 c ∷ cut_chunks cs (whole_from (at + 1) hs)) here.0
+    ∙ ap (λ l. d ∷ l) (whole_are cs (at + 1) hs ds post here.1 (omega (arith, size)))
+
+-- the records past the gaps are the chunks there
+pub past_are : (heads : List Head) (cs : List Chunk) → length heads ≡ length cs → (spans : List Span)
+    → ((s : Span) → Contains spans s → (s.past ≤ s.end) × (s.end ≤ length heads))
+    → cut_chunks cs (past_cuts heads spans) ≡ past_chunks cs spans
+past_are heads cs size [] within = refl
+past_are heads cs size (s ∷ ss) within =
+    let w = within s (0, omega arith, refl) in
+    let hs = between s.past s.end heads in
+    let ds = between s.past s.end cs in
+    let high : s.end ≤ length cs = let h = w.1 in omega (arith, h, size) in
+    let a = length-drop s.past (take s.end heads) in
+    let b = length-drop s.past (take s.end cs) in
+    let x = length-take-le s.end heads w.1 in
+    let y = length-take-le s.end cs high in
+    map-append (cut_chunk cs) (whole_from s.past hs) (past_cuts heads ss)
+    ∙ (ap (λ l. l ++ cut_chunks cs (past_cuts heads ss))
+    (whole_are cs s.past hs ds (drop s.end cs) (sym (between_drop s.past s.end cs w.0 high)) (omega (arith, a, b, x, y)))
+    ∙ ap (λ l. ds ++ l) (past_are heads cs size ss (λ t one. within t (later_one s ss t one))))
+
+module _ (known : List Known) (heads : List Head) (cs : List Chunk) (size : length heads ≡ length cs) where
   -- what stands past a span's gap, and what stands behind the span
   behind_gap : (s : Span) → IsSpan known heads s → drop s.past cs ≡ between s.past s.end cs ++ drop s.end cs
   behind_gap s span =
-      let size = same_size heads cs are in
       sym (between_drop s.past s.end cs span.high (let low = span.within in omega (arith, low, size)))
 
   each_past : (P : Chunk → Type 0) (at : ℕ) (ss : List Span) → AreSpans known heads at ss (length heads)
@@ -284,44 +217,148 @@ module _ (known : List Known) (heads : List Head) (cs : List Chunk) (are : AreHe
           subst (λ m. Each P (drop m cs)) n
           (subst (Each P) (drop-drop (j - i) i cs) (each_drop P (j - i) (drop i cs) e))
 
-  pairs_past : (at : ℕ) (ss : List Span) → AreSpans known heads at ss (length heads) → Pairs cs
-      → Pairs (past_chunks cs ss)
-  pairs_past at [] all pairs = tt
-  pairs_past at (s ∷ ss) all pairs =
+  pub past_ordered : (at : ℕ) (ss : List Span) → AreSpans known heads at ss (length heads) → Ordered cs
+      → Ordered (past_chunks cs ss)
+  past_ordered at [] all pairs = tt
+  past_ordered at (s ∷ ss) all pairs =
       let span = all.1 in
       pairs_join (between s.past s.end cs) (drop s.end cs) (past_chunks cs ss)
-      (subst Pairs (behind_gap s span) (pairs_drop s.past cs pairs))
-      (λ P. each_past P s.end ss all.2) (pairs_past s.end ss all.2 pairs)
+      (subst Ordered (behind_gap s span) (pairs_drop s.past cs pairs))
+      (λ P. each_past P s.end ss all.2) (past_ordered s.end ss all.2 pairs)
 
-  spans_kept : (p : Option Head) (q : Option Chunk) (at : ℕ) (ss : List Span)
-      → AreSpans known heads at ss (length heads) → IsBefore p q
-      → cut_chunks cs (kept_in heads p ss) ≡ uniq q (past_chunks cs ss)
-  spans_kept p q at [] all before = refl
-  spans_kept p q at (s ∷ ss) all before =
-      let here = heads_between s.past s.end heads cs are in
-      let hs = between s.past s.end heads in
-      let ds = between s.past s.end cs in
-      map-append (cut_chunk cs) (kept_from s.past p hs) (kept_in heads (last_of p hs) ss)
-      ∙ (ap (λ l. l ++ cut_chunks cs (kept_in heads (last_of p hs) ss))
-      (kept_are cs s.past p q hs ds (drop s.end cs) (behind_gap s all.1) here before)
-      ∙ (ap (λ l. uniq q ds ++ l)
-      (spans_kept (last_of p hs) (last_chunk q ds) s.end ss all.2 (last_before p q hs ds before here))
-      ∙ sym (uniq_join q ds (past_chunks cs ss))))
+-- ---- sifted one by one
 
-pairs_are : (cs : List Chunk) → Ordered cs → AreOfLogs cs → Pairs cs
-pairs_are [] o logs = tt
-pairs_are (c ∷ cs) o logs = (
-  each_as (λ d. (comes_before d c ≡ false) × Contains (c ∷ cs) d) (IsBehind c) cs
-      (λ d x. record { order = x.0; agree = logs c d (0, omega arith, refl) x.1 })
-      (each_both (λ d. comes_before d c ≡ false) (λ d. Contains (c ∷ cs) d) cs o.0
-      (each_from (λ d. Contains (c ∷ cs) d) cs (λ d one. later_one c cs d one))),
-  pairs_are cs o.1 (λ d e one two. logs d e (later_one c cs d one) (later_one c cs e two)),
-)
+tie_turned : (c d : Chunk) → tie c d ≡ true → tie d c ≡ true
+tie_turned c d e = let n = tested.neither c d e in tested.are_alike d c n.1 n.0
 
-pub kept_are_once : KeptAreOnce
-kept_are_once known heads cs spans are logs all =
-    let ds = in_order cs in
-    let pairs = pairs_are ds (in_order_ordered cs)
-    (λ c d one two. logs c d (all_put cs c one) (all_put cs d two)) in
-    spans_kept known heads ds are None None 0 spans all tt
-    ∙ sym (once_is (past_chunks ds spans) (pairs_past known heads ds are 0 spans all pairs))
+tie_onward : (c d x : Chunk) → tie c d ≡ true → tie d x ≡ true → tie c x ≡ true
+tie_onward c d x p q =
+    let n = tested.neither c d p in
+    let m = tested.neither d x q in
+    tested.are_alike c x (tested.order.onward c d x n.0 m.0) (tested.order.onward x d c m.1 n.1)
+
+pub self_behind : (c : Chunk) → comes_before c c ≡ false
+self_behind c = go (comes_before c c) refl
+  where
+    go : (b : Bool) → comes_before c c ≡ b → comes_before c c ≡ false
+    go true e = tested.order.one_way c c e
+    go false e = e
+
+tie_self : (c : Chunk) → tie c c ≡ true
+tie_self c = tested.are_alike c c (self_behind c) (self_behind c)
+
+pub is_false : (b : Bool) → (b ≡ true → ⊥) → b ≡ false
+is_false true h = absurd (h refl)
+is_false false h = refl
+
+-- of the kept ones those from this place on are alike with one, and no others
+pub record Apart (c : Chunk) (g : ℕ) (kept : List Chunk) : Type 0 where
+  pub far : Each (λ x. tie c x ≡ false) (take g kept)
+  pub near : Each (λ x. tie c x ≡ true) (drop g kept)
+
+-- the next one is alike with the one before it
+pub goes_apart : (c d : Chunk) (g : ℕ) (kept : List Chunk) → tie c d ≡ true → Apart c g kept → Apart d g kept
+goes_apart c d g kept same a = record {
+  far = each_as (λ x. tie c x ≡ false) (λ x. tie d x ≡ false) (take g kept)
+      (λ x off. is_false (tie d x) (λ e. true≢false (sym (tie_onward c d x same e) ∙ off))) a.far;
+  near = each_as (λ x. tie c x ≡ true) (λ x. tie d x ≡ true) (drop g kept)
+      (λ x on. tie_onward d c x (tie_turned c d same) on) a.near;
+}
+
+-- it isn't
+pub stops_apart : (c d : Chunk) (kept : List Chunk) → tie c d ≡ false → comes_before d c ≡ false
+    → Each (λ x. comes_before c x ≡ false) kept → Apart d (length kept) kept
+stops_apart c d kept off behind all = record {
+  far = subst (Each (λ x. tie d x ≡ false)) (sym (take-length kept))
+      (each_as (λ x. comes_before c x ≡ false) (λ x. tie d x ≡ false) kept
+      (λ x low. is_false (tie d x) (λ e.
+      let n = tested.neither d x e in
+      true≢false (sym (tested.are_alike c d (tested.order.onward c x d low n.1) behind) ∙ off))) all);
+  near = subst (Each (λ x. tie d x ≡ true)) (sym (drop_of_length-le kept (omega arith))) tt;
+}
+
+-- it is kept, too
+pub put_apart : (d : Chunk) (g : ℕ) (kept : List Chunk) → g ≤ length kept → Apart d g kept → Apart d g (kept ++ d ∷ [])
+put_apart d g kept low a = record {
+  far = subst (Each (λ x. tie d x ≡ false)) (sym (take-append-le g kept (d ∷ []) low)) a.far;
+  near = subst (Each (λ x. tie d x ≡ true)) (sym (drop-append-le g kept (d ∷ []) low))
+      (each_join (λ x. tie d x ≡ true) (drop g kept) (d ∷ []) a.near (tie_self d, tt));
+}
+
+any_none : (p : Chunk → Bool) (xs : List Chunk) → Each (λ x. p x ≡ false) xs → list_any p xs ≡ false
+any_none p [] all = refl
+any_none p (x ∷ xs) all = or_from (p x) (list_any p xs) all.0 (any_none p xs all.1)
+
+any_as : (p q : Chunk → Bool) (xs : List Chunk) → Each (λ x. p x ≡ q x) xs → list_any p xs ≡ list_any q xs
+any_as p q [] all = refl
+any_as p q (x ∷ xs) all = ap (λ b. b || list_any p xs) all.0 ∙ ap (λ b. q x || b) (any_as p q xs all.1)
+
+-- among the kept ones that are alike the data tell
+pub any_data : (d : Chunk) (g : ℕ) (kept : List Chunk) → Apart d g kept
+    → list_any (λ x. same_data x d) kept ≡ list_any (λ x. bytes_eq x.value d.value) (drop g kept)
+any_data d g kept a =
+    let p : Chunk → Bool = λ x. same_data x d in
+    ap (list_any p) (sym (take-append-drop g kept))
+    ∙ (list_any-append p (take g kept) (drop g kept)
+    ∙ (ap (λ b. b || list_any p (drop g kept)) (any_none p (take g kept)
+    (each_as (λ x. tie d x ≡ false) (λ x. p x ≡ false) (take g kept)
+    (λ x off. is_false (p x) (λ e. true≢false (sym (tie_turned x d (same_ties x d e)) ∙ off))) a.far))
+    ∙ any_as p (λ x. bytes_eq x.value d.value) (drop g kept)
+    (each_as (λ x. tie d x ≡ true) (λ x. p x ≡ bytes_eq x.value d.value) (drop g kept)
+    (λ x on. same_by x d (tie_turned d x on)) a.near)))
+  where
+    same_by : (x d : Chunk) → tie x d ≡ true → same_data x d ≡ bytes_eq x.value d.value
+    same_by x d e =
+        let s = and_parts (same_stream x.key.stream d.key.stream)
+        (nat_eq (chunk_begin x) (chunk_begin d) && nat_eq (chunk_end x) (chunk_end d)) e in
+        let t = and_parts (nat_eq (chunk_begin x) (chunk_begin d)) (nat_eq (chunk_end x) (chunk_end d)) s.1 in
+        ap (λ b. b && (nat_eq x.key.seq d.key.seq && bytes_eq x.value d.value)) s.0
+        ∙ ap (λ b. b && bytes_eq x.value d.value) t.1
+
+abbrev pub new_one : Bool → Chunk → List Chunk
+new_one b d = elim b [ true ↦ [] | false ↦ d ∷ [] ]
+
+any_filter : (p q : Chunk → Bool) (xs : List Chunk) → ((x : Chunk) → p x ≡ true → q x ≡ true)
+    → list_any p (filter q xs) ≡ list_any p xs
+any_filter p q [] h = refl
+any_filter p q (x ∷ xs) h = go (q x) refl (any_filter p q xs h)
+  where
+    go : (b : Bool) → q x ≡ b → list_any p (filter q xs) ≡ list_any p xs
+        → list_any p (cond (q x) (x ∷ filter q xs) (filter q xs)) ≡ list_any p (x ∷ xs)
+    go true e rest = ap (λ b. list_any p (cond b (x ∷ filter q xs) (filter q xs))) e ∙ ap (λ b. p x || b) rest
+    go false e rest =
+        ap (λ b. list_any p (cond b (x ∷ filter q xs) (filter q xs))) e
+        ∙ (rest ∙ ap (λ b. b || list_any p xs) (sym (is_false (p x) (λ y. true≢false (sym (h x y) ∙ e)))))
+
+-- one more at the end is kept where none of the kept ones has its data
+pub once_more : (xs : List Chunk) (d : Chunk)
+    → once (xs ++ d ∷ []) ≡ once xs ++ new_one (list_any (λ x. same_data x d) (once xs)) d
+once_more [] d = refl
+once_more (c ∷ xs) d =
+    ap (λ l. c ∷ filter (other_than c) l) (once_more xs d)
+    ∙ ap (λ l. c ∷ l) (filter-append (other_than c) (once xs) (new_one (list_any p (once xs)) d)
+    ∙ ap (λ l. filter (other_than c) (once xs) ++ l) (go (same_data c d) refl (list_any p (once xs)) refl))
+  where
+    p : Chunk → Bool
+    p x = same_data x d
+
+    rest : Bool
+    rest = list_any p (filter (other_than c) (once xs))
+
+    go : (s : Bool) → same_data c d ≡ s → (b : Bool) → list_any p (once xs) ≡ b
+        → filter (other_than c) (new_one (list_any p (once xs)) d)
+        ≡ new_one (same_data c d || rest) d
+    go true e true f =
+        ap (λ b. filter (other_than c) (new_one b d)) f ∙ ap (λ b. new_one (b || rest) d) (sym e)
+    go true e false f =
+        ap (λ b. filter (other_than c) (new_one b d)) f
+        ∙ (filter_off (other_than c) d [] (ap not e) ∙ ap (λ b. new_one (b || rest) d) (sym e))
+    go false e b f =
+        let same : rest ≡ b = any_filter p (other_than c) (once xs)
+        (λ x on. unlike c (same_data c x) (λ y. true≢false (sym (same_onward c x d y on) ∙ e))) ∙ f in
+        ap (λ t. filter (other_than c) (new_one t d)) f
+        ∙ (kept b ∙ (ap (λ t. new_one t d) (sym same) ∙ ap (λ t. new_one (t || rest) d) (sym e)))
+      where
+        kept : (b : Bool) → filter (other_than c) (new_one b d) ≡ new_one b d
+        kept true = refl
+        kept false = filter_on (other_than c) d [] (ap not e)

@@ -1,6 +1,5 @@
 pub mod AllFiles
 pub mod CutParts
-pub mod StreamCuts
 pub mod ForArchive
 pub mod StepKinds
 pub mod Fetches
@@ -9,12 +8,19 @@ pub mod WholeSegments
 pub mod FoundRecords
 pub mod FromKnown
 pub mod KnownEnds
+pub mod StartsAgree
 pub mod OneFile
 pub mod OneSegment
 pub mod Rising
 pub mod OldAsides
 pub mod KeptOnce
-pub mod Dealt
+pub mod ManyFiles
+pub mod Sifting
+pub mod Among
+pub mod PastKept
+pub mod Passed
 mod Spelling
 pub mod Published
 pub mod EndsInOrder
+pub mod Shelved
+pub mod ShelfWrites

@@ -9,6 +9,7 @@ use Rattle.chk_heads.specs.declared.fault.JobFault.{JobFault}
 use Rattle.chk_heads.specs.declared.fault.JobFault.TheVariants.{Damaged}
 use Rattle.chk_plan.specs.Passes.{head_in}
 use Rattle.chk_merge.specs.ReadBack.{IsWindowOf, value_held}
+use Rattle.chk_merge.specs.Segments.{HasFiles}
 use Rattle.chk_merge.specs.declared.reader.RecordReader.{RecordReader}
 use Rattle.chk_parts.specs.Gathering.{held}
 use Rattle.chk_parts.specs.Records.{file_at, IsRecordOf}
@@ -36,3 +37,13 @@ abbrev pub Fetched : Sight → List (List ℕ) → List Head → ℕ → Chunk �
 Fetched v files heads i c r (Ok value) history = AreWindows v files r × (value_held r ≡ c.value)
 Fetched v files heads i c r (Err (Damaged which at)) history = ⊥
 Fetched v files heads i c r (Err fault) history = Unit {0}
+
+-- the files are those that the job knows, and windows are true
+abbrev pub CanFetchAll : Sight → List (List ℕ) → RecordReader → History → Type 0
+CanFetchAll v files r history = HasFiles files (held v) history × AreWindows v files r
+
+-- at Ok the value is the chunk's, and it is still so; no file is damaged
+abbrev pub FetchedAll : Sight → List (List ℕ) → Chunk → RecordReader → Result (Unit {0}) JobFault → History → Type 0
+FetchedAll v files c r (Ok value) history = CanFetchAll v files r history × (value_held r ≡ c.value)
+FetchedAll v files c r (Err (Damaged which at)) history = ⊥
+FetchedAll v files c r (Err fault) history = Unit {0}

@@ -1,62 +1,115 @@
 -- Which chunks are set aside.
-use Rattle.std.specs.Prelude.{◌≡◌, ℕ, ◌+◌, ◌<◌, ◌≤◌, Bool, true, false, ◌&&◌, nat_eq, nat_lt, IsTrue, List, [], ◌∷◌, ◌++◌, All, length, flat_map, Option, Some, None}
+use Rattle.std.specs.List.{list_any}
+use Rattle.std.specs.Prelude.{◌≡◌, ℕ, zero, suc, ◌+◌, ◌<◌, ◌≤◌, Bool, true, false, ◌&&◌, nat_eq, nat_lt, bytes_eq, IsTrue, List, [], ◌∷◌, All, length, flat_map, slice_index_or, Result, Ok, Err}
+use Rattle.chk_site.specs.History.{History}
 use Rattle.chk_chunk.specs.Keys.{Chunk, chunk_limit}
-use Rattle.chk_world.specs.ArchiveRuns.{in_order, once}
-use Rattle.chk_world.specs.Sight.{Sight}
+use Rattle.chk_world.specs.ArchiveRuns.{once}
+use Rattle.chk_world.specs.Places.{AtTold}
+use Rattle.chk_world.specs.Rules.{Legal}
+use Rattle.chk_world.specs.Sight.{job, Sight, AtJob}
 use Rattle.chk_heads.specs.Heads.{Head, heads_in}
 use Rattle.chk_heads.specs.Order.{in_head_order, of_one_stream}
 use Rattle.chk_heads.specs.Pieces.{bytes_in}
-use Rattle.chk_plan.specs.HeadsOf.{AreHeads}
-use Rattle.chk_plan.specs.Passes.{between, head_in, AreSpans}
+use Rattle.chk_heads.specs.declared.fault.JobFault.{JobFault}
+use Rattle.chk_heads.specs.declared.fault.JobFault.TheVariants.{Damaged}
+use Rattle.chk_plan.specs.Passes.{between, head_in}
 use Rattle.chk_plan.specs.declared.spans.Span.{Span}
-use Rattle.chk_plan.specs.declared.spans.Known.{Known}
+use Rattle.chk_merge.specs.Segments.{HasFiles}
+use Rattle.chk_merge.specs.declared.reader.RecordReader.{RecordReader}
 use Rattle.chk_parts.specs.declared.cuts.Cut.{Cut}
-use Rattle.chk_parts.specs.Cuts.{cut_chunks}
+use Rattle.chk_parts.specs.Cuts.{no_chunk, cut_chunks}
+use Rattle.chk_parts.specs.Fetching.{AreWindows, CanFetchAll}
 use Rattle.chk_parts.specs.Gathering.{held, heads_of}
-use Rattle.chk_parts.specs.Records.{AreRecords, AreOfLogs, chunks_held}
+use Rattle.chk_parts.specs.Records.{AreRecords, chunks_held}
 
 -- the chunks past their streams' gaps
 abbrev pub past_chunks : List Chunk → List Span → List Chunk
 past_chunks cs spans = flat_map (λ (s : Span). between s.past s.end cs) spans
 
--- both are of one stream and have the same offsets
-abbrev pub repeats : Head → Head → Bool
-repeats h k = of_one_stream h k && (nat_eq h.begin k.begin && nat_eq h.key.seq k.key.seq)
-
-abbrev pub is_repeat : Option Head → Head → Bool
-is_repeat None h = false
-is_repeat (Some p) h = repeats p h
-
-abbrev pub kept_one : ℕ → Option Head → Head → List Cut
-kept_one at p h = elim (is_repeat p h) [ true ↦ [] | false ↦ record { index = at; skip = 0 } ∷ [] ]
-
--- what is kept of heads that stand from this place on, behind this one: those that repeat the one before go
-abbrev pub kept_from : ℕ → Option Head → List Head → List Cut
-kept_from at p [] = []
-kept_from at p (h ∷ hs) = kept_one at p h ++ kept_from (at + 1) (Some h) hs
-
--- the last of them
-abbrev pub last_of : Option Head → List Head → Option Head
-last_of p [] = p
-last_of p (h ∷ hs) = last_of (Some h) hs
-
--- what is kept past the gaps of these spans
-abbrev pub kept_in : List Head → Option Head → List Span → List Cut
-kept_in heads p [] = []
-kept_in heads p (s ∷ ss) =
-    kept_from s.past p (between s.past s.end heads)
-    ++ kept_in heads (last_of p (between s.past s.end heads)) ss
-
 -- each span is within so many heads
 abbrev pub AreSpansWithin : ℕ → List Span → Type 0
 AreSpansWithin count spans = All (λ (s : Span). (s.past ≤ s.end) × (s.end ≤ count)) spans
 
--- what is kept of chunks that are of logs is each one once
-abbrev pub KeptAreOnce : Type 0
-KeptAreOnce =
-    (known : List Known) (heads : List Head) (cs : List Chunk) (spans : List Span)
-    → AreHeads heads (in_order cs) → AreOfLogs cs → AreSpans known heads 0 spans (length heads)
-    → cut_chunks (in_order cs) (kept_in heads None spans) ≡ once (past_chunks (in_order cs) spans)
+-- the records of heads that stand from this place on, each as a whole
+abbrev pub whole_from : ℕ → List Head → List Cut
+whole_from at [] = []
+whole_from at (h ∷ hs) = record { index = at; skip = 0 } ∷ whole_from (at + 1) hs
+
+-- those past the gaps of these spans
+abbrev pub past_cuts : List Head → List Span → List Cut
+past_cuts heads spans = flat_map (λ (s : Span). whole_from s.past (between s.past s.end heads)) spans
+
+-- each is the whole record of one of so many heads
+abbrev pub AreWhole : ℕ → List Cut → Type 0
+AreWhole count cuts = All (λ (k : Cut). (k.index < count) × (k.skip ≡ 0)) cuts
+
+-- both are of one stream and have the same offsets
+abbrev pub repeats : Head → Head → Bool
+repeats h k = of_one_stream h k && (nat_eq h.begin k.begin && nat_eq h.key.seq k.key.seq)
+
+abbrev pub head_of_cut : List Head → List Cut → ℕ → Head
+head_of_cut heads cuts i = head_in heads (slice_index_or cuts i (record { index = 0; skip = 0 })).index
+
+-- so are the record at this place and the one before it
+abbrev pub goes_on : List Head → List Cut → ℕ → Bool
+goes_on heads cuts zero = false
+goes_on heads cuts (suc i) = repeats (head_of_cut heads cuts i) (head_of_cut heads cuts (suc i))
+
+-- where those begin that are alike with the next one: as before, or behind all of so many
+abbrev pub group_of : Bool → ℕ → ℕ → ℕ
+group_of goes group count = elim goes [ true ↦ group | false ↦ count ]
+
+-- the cut, where it isn't found
+abbrev pub new_cut : Bool → Cut → List Cut
+new_cut found k = elim found [ true ↦ [] | false ↦ k ∷ [] ]
+
+-- so are no two that follow each other
+abbrev pub NoneRepeats : List Head → List Cut → Type 0
+NoneRepeats heads cuts = (i : ℕ) → i < length cuts → goes_on heads cuts i ≡ false
+
+-- Each chunk past a gap is kept once, whatever the data of those are that have the same offsets; none of the files is damaged.
+abbrev pub KeptSo : List Chunk → List Span → Result (List Cut) JobFault → History → Type 0
+KeptSo cs spans (Ok cuts) history = cut_chunks cs cuts ≡ once (past_chunks cs spans)
+KeptSo cs spans (Err (Damaged name at)) history = ⊥
+KeptSo cs spans (Err fault) history = Unit {0}
+
+-- so it is, and the job knows what it knew
+abbrev pub KeptTold : List (List ℕ) → Sight → List Chunk → List Span → Result (List Cut) JobFault → History → Type 0
+KeptTold stamped v cs spans (Ok cuts) history =
+    AtJob stamped (λ u. (u ≡ v) × (cut_chunks cs cuts ≡ once (past_chunks cs spans))) history
+KeptTold stamped v cs spans (Err (Damaged name at)) history = AtTold stamped job (λ h. ⊥) history
+KeptTold stamped v cs spans (Err fault) history = Legal stamped history
+
+-- chunks that stand in order, each of them kept once
+abbrev pub SiftedSo : List Chunk → List Chunk → Result (List Cut) JobFault → History → Type 0
+SiftedSo ds cs (Ok cuts) history = cut_chunks cs cuts ≡ once ds
+SiftedSo ds cs (Err (Damaged name at)) history = ⊥
+SiftedSo ds cs (Err fault) history = Unit {0}
+
+-- the data of the record at a place
+abbrev pub value_in : List Chunk → ℕ → List ℕ
+value_in cs i = (slice_index_or cs i no_chunk).value
+
+-- one of these records has such data
+abbrev pub has_value : List ℕ → List Chunk → List Cut → Bool
+has_value value cs known = list_any (λ (k : Cut). bytes_eq (value_in cs k.index) value) known
+
+-- the answer is whether one of the known records has these data
+abbrev pub AmongSo : Sight → List (List ℕ) → List ℕ → List Chunk → List Cut → RecordReader → Result Bool JobFault → History
+    → Type 0
+AmongSo v files value cs known r (Ok found) history = CanFetchAll v files r history × (found ≡ has_value value cs known)
+AmongSo v files value cs known r (Err (Damaged name at)) history = ⊥
+AmongSo v files value cs known r (Err fault) history = Unit {0}
+
+-- the files are those that the job knows, and the windows of two readers are true
+abbrev pub CanFind : Sight → List (List ℕ) → RecordReader → RecordReader → History → Type 0
+CanFind v files r q history = HasFiles files (held v) history × AreWindows v files r × AreWindows v files q
+
+abbrev pub FoundSo : Sight → List (List ℕ) → List ℕ → List Chunk → List Cut → RecordReader → RecordReader → Result Bool JobFault
+    → History → Type 0
+FoundSo v files value cs known r q (Ok found) history = CanFind v files r q history × (found ≡ has_value value cs known)
+FoundSo v files value cs known r q (Err (Damaged name at)) history = ⊥
+FoundSo v files value cs known r q (Err fault) history = Unit {0}
 
 -- the head is of the first file
 abbrev pub is_first : Head → Bool

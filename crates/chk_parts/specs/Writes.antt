@@ -17,8 +17,9 @@ use Rattle.chk_heads.specs.declared.fault.JobFault.TheVariants.{Damaged, Spent}
 use Rattle.chk_book.specs.Segmenting.{Writing, IsSegmentOf, IsFinished, segment_of, with_segment, with_aside}
 use Rattle.chk_book.specs.Written.{IsAt}
 use Rattle.chk_book.specs.declared.segmenter.Segmenter.{Segmenter}
-use Rattle.chk_merge.specs.declared.reader.RecordReader.{RecordReader}
-use Rattle.chk_parts.specs.Fetching.{AreWindows}
+use Rattle.chk_heads.specs.Heads.{Head}
+use Rattle.chk_parts.specs.Shelves.{AreKept}
+use Rattle.chk_parts.specs.declared.shelf.Shelf.{Shelf}
 use Rattle.chk_parts.specs.declared.writing.Purpose.{Purpose}
 use Rattle.chk_parts.specs.declared.writing.Purpose.TheVariants.{Parts, Aside}
 
@@ -92,9 +93,9 @@ PutSo stamped v chunks s (Ok value) history = AtJob stamped (IsSoFar v chunks s)
 PutSo stamped v chunks s (Err (Damaged name at)) history = AtTold stamped job (λ h. ⊥) history
 PutSo stamped v chunks s (Err fault) history = Legal stamped history
 
-abbrev pub CutSo : List (List ℕ) → Sight → List (List ℕ) → List Chunk → Segmenter → RecordReader → Result (Unit {0}) JobFault
-    → History → Type 0
-CutSo stamped v files chunks s r (Ok value) history =
-    AtJob stamped (λ u. IsSoFar v chunks s u × AreWindows v files r) history
-CutSo stamped v files chunks s r (Err (Damaged name at)) history = AtTold stamped job (λ h. ⊥) history
-CutSo stamped v files chunks s r (Err fault) history = Legal stamped history
+abbrev pub CutSo : List (List ℕ) → Sight → List (List ℕ) → List Head → List Chunk → Segmenter → Shelf
+    → Result (Unit {0}) JobFault → History → Type 0
+CutSo stamped v files heads chunks s r (Ok value) history =
+    AtJob stamped (λ u. IsSoFar v chunks s u × AreKept v files heads r) history
+CutSo stamped v files heads chunks s r (Err (Damaged name at)) history = AtTold stamped job (λ h. ⊥) history
+CutSo stamped v files heads chunks s r (Err fault) history = Legal stamped history

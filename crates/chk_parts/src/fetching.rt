@@ -1,15 +1,18 @@
 //! Fetches records by the files that their heads name.
 
-ghost use Rattle.std.specs.Prelude.{◌≡◌, ◌<◌, length, slice_index_or, IfErr};
+ghost use Rattle.std.specs.Prelude.{◌≡◌, ◌<◌, ℕ, List, Option, length, slice_index_or, IfErr};
+ghost use Rattle.chk_site.specs.Files.{File};
 ghost use Rattle.chk_site.specs.History.{Every};
 ghost use Rattle.chk_site.specs.Site.{Adds};
 ghost use Rattle.chk_site.specs.Runs.{anyhow, Leads};
+ghost use Rattle.chk_replace.specs.Load.{Has};
 ghost use Rattle.chk_chunk.specs.Keys.{Chunk};
 ghost use Rattle.chk_world.specs.Sight.{job, Sight};
 ghost use Rattle.chk_world.specs.JobSteps.{IsOf, ReadsFile, SparesFile};
 ghost use Rattle.chk_heads.specs.Faults.{JobCause, FailsLast, IsOfRead};
 ghost use Rattle.chk_heads.specs.Order.{lent_head, no_head};
 ghost use Rattle.chk_heads.specs.Pieces.{AsksInPieces};
+ghost use Rattle.chk_merge.specs.Spans.{StaysAtOk};
 ghost use Rattle.chk_parts.specs.Gathering.{AreSound};
 ghost use Rattle.chk_parts.specs.Fetching.{head_file, CanFetch, Fetched, IsRecordAt};
 
@@ -36,6 +39,8 @@ pub fn fetch<S: Site>(
         → Adds (S.told site.old) (S.told site.new)
         (Leads (anyhow (SparesFile (head_file files.now heads.now index))) (CanFetch v files.now heads.now index reader.old)
         (Fetched v files.now heads.now index c reader.new result)) }
+    ensures stays { (other : List ℕ) (file : Option File) → Adds (S.told site.old) (S.told site.new)
+        (Leads (anyhow (SparesFile other)) (Has other file) (StaysAtOk other file result)) }
     ensures own { Adds (S.told site.old) (S.told site.new) (Every (IsOf ReadsFile)) }
     ensures pieces { Adds (S.told site.old) (S.told site.new) (Every AsksInPieces) }
     ensures only { IfErr result IsOfRead }
@@ -74,6 +79,8 @@ pub fn fetch_by_head<S: Site>(
         → Adds (S.told site.old) (S.told site.new)
         (Leads (anyhow (SparesFile (head_file files.now heads.now index))) (CanFetch v files.now heads.now index reader.old)
         (Fetched v files.now heads.now index c reader.new result)) }
+    ensures stays { (other : List ℕ) (file : Option File) → Adds (S.told site.old) (S.told site.new)
+        (Leads (anyhow (SparesFile other)) (Has other file) (StaysAtOk other file result)) }
     ensures own { Adds (S.told site.old) (S.told site.new) (Every (IsOf ReadsFile)) }
     ensures pieces { Adds (S.told site.old) (S.told site.new) (Every AsksInPieces) }
     ensures only { IfErr result IsOfRead }

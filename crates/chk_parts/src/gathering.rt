@@ -2,14 +2,17 @@
 
 ghost use Rattle.std.specs.Prelude.{◌≡◌, ◌+◌, ℕ, List, IfOk, IfErr};
 ghost use Rattle.chk_heads.specs.declared.fault.JobFault.TheVariants.{NoMemory};
+ghost use Rattle.chk_site.specs.Files.{Files};
 ghost use Rattle.chk_site.specs.History.{Every};
 ghost use Rattle.chk_site.specs.Site.{Adds};
-ghost use Rattle.chk_site.specs.Runs.{Leads};
+ghost use Rattle.chk_site.specs.Runs.{anyhow, Leads};
+ghost use Rattle.chk_chunk.specs.Keys.{chunk_limit};
 ghost use Rattle.chk_world.specs.Places.{As};
 ghost use Rattle.chk_world.specs.Sight.{job, Sight, AtJob};
 ghost use Rattle.chk_world.specs.JobSteps.{IsOf, ReadsFile};
 ghost use Rattle.chk_heads.specs.Faults.{JobCause, FailsLast, IsOfRead};
 ghost use Rattle.chk_heads.specs.Pieces.{AsksInPieces};
+ghost use Rattle.chk_merge.specs.Segments.{HasFiles, SparesFiles, AreSettled, GatheredAll};
 ghost use Rattle.chk_parts.specs.Gathering.{AreSound, Found};
 
 use chk_bytes::Word;
@@ -21,7 +24,8 @@ use std::alloc::Global;
 const MOST: u32 = 131_072;
 
 /// The heads of these files' records, file after file, each with the place of its file's name. A file is read once, in pieces of
-/// at most 1,048,576 bytes.
+/// at most 1,048,576 bytes. `Damaged` comes exactly where one of the files isn't one of chunks: of the first such one, with its
+/// name and the place from which on it isn't.
 pub fn gather_found<S: Site>(
     alloc: Global,
     site: &mut S,
@@ -31,6 +35,8 @@ pub fn gather_found<S: Site>(
     requires { who.now ≡ job }
     ensures told { (stamped : List (List ℕ)) (v : Sight) → AreSound v names.now → Adds (S.told site.old) (S.told site.new)
         (Leads (As stamped job) (AtJob stamped (λ u. u ≡ v)) (Found stamped v names.now result)) }
+    ensures raw { (held : Files) → AreSettled names.now held → Adds (S.told site.old) (S.told site.new)
+        (Leads (anyhow (SparesFiles names.now)) (HasFiles names.now held) (GatheredAll chunk_limit names.now held result)) }
     ensures own { Adds (S.told site.old) (S.told site.new) (Every (IsOf ReadsFile)) }
     ensures pieces { Adds (S.told site.old) (S.told site.new) (Every AsksInPieces) }
     ensures only { IfErr result IsOfRead }

@@ -1,7 +1,7 @@
 //! Laws of what is taken and kept.
 
 ghost use Rattle.chk_parts.specs.Cuts.{CutsAreParts};
-ghost use Rattle.chk_parts.specs.Kept.{OldAsidesAreWhole, KeptAreOnce};
+ghost use Rattle.chk_parts.specs.Kept.{OldAsidesAreWhole};
 
 /// A law: what the passes over spans of heads take are the parts of the heads' chunks.
 pub fn cuts_are_parts()
@@ -11,9 +11,4 @@ pub fn cuts_are_parts()
 /// A law: where the kept records are as many as the first file has, all of that file and at rising places, they are what it has.
 pub fn old_asides_are_whole()
     ensures { OldAsidesAreWhole }
-{}
-
-/// A law: what is kept past the gaps of chunks that are of logs is each chunk there once.
-pub fn kept_are_once()
-    ensures { KeptAreOnce }
 {}

@@ -10,6 +10,8 @@ mod kept;
 mod known;
 mod laws;
 mod publishing;
+mod shelf;
+mod starts;
 mod writing;
 
 pub use aside::{count_first, is_old_aside};
@@ -18,6 +20,7 @@ pub use fetching::{fetch, fetch_by_head};
 pub use gathering::gather_found;
 pub use kept::kept_of;
 pub use known::known_ends;
-pub use laws::{cuts_are_parts, kept_are_once, old_asides_are_whole};
+pub use laws::{cuts_are_parts, old_asides_are_whole};
 pub use publishing::publish_next;
+pub use starts::check_starts;
 pub use writing::{Purpose, add_segment};

@@ -1,6 +1,6 @@
 //! Writes a segment of the archive of records that are read back.
 
-ghost use Rattle.std.specs.Prelude.{◌≡◌, ◌<◌, ◌++◌, ◌∷◌, [], ◌-◌, ℕ, List, Some, codes, length, drop, map, IsTrue, IfSome, IfErr, OnOk, OnErr};
+ghost use Rattle.std.specs.Prelude.{◌≡◌, ◌<◌, ◌++◌, ◌∷◌, [], ◌-◌, ℕ, List, Some, codes, length, drop, map, slice_index_or, IsTrue, IfSome, IfErr, OnOk, OnErr};
 ghost use Rattle.chk_site.specs.History.{Every};
 ghost use Rattle.chk_site.specs.Site.{Adds};
 ghost use Rattle.chk_site.specs.Runs.{Leads, anyhow};
@@ -20,25 +20,19 @@ ghost use Rattle.chk_parts.specs.Records.{AreRecords};
 ghost use Rattle.chk_chunk.specs.Lent.{lent_key, lent_chunk};
 ghost use Rattle.chk_chunk.specs.Keys.{is_key, has_value, has_words, chunk_limit};
 ghost use Rattle.chk_world.specs.JobSteps.{WritesTo, SparesFile};
-ghost use Rattle.chk_heads.specs.Order.{lent_head, no_head};
-ghost use Rattle.chk_merge.specs.ReadBack.{HoldsNothing};
-ghost use Rattle.chk_parts.specs.Fetching.{AreWindows, IsRecordAt};
-ghost use Rattle.chk_parts.specs.Gathering.{AreSound};
+ghost use Rattle.chk_heads.specs.Order.{lent_head};
+ghost use Rattle.chk_parts.specs.Shelves.{AreKept};
 ghost use Rattle.chk_parts.specs.Cuts.{cut_chunk, cut_of};
 ghost use Rattle.chk_parts.specs.Writes.{with_new, HasEntered, IsFree, Written, IsForArchive, IsSoFar, PutSo, CutSo};
 
-use crate::cuts::{Cut, follows};
-use crate::fetching::fetch_by_head;
+use crate::cuts::Cut;
+use crate::shelf::Shelf;
 use chk_book::{Book, Segmenter};
 use chk_bytes::Word;
 use chk_chunk::ChunkRef;
 use chk_heads::{HeadRef, Heads, JobFault};
-use chk_merge::{Ahead, RecordReader, Window};
 use chk_site::{Site, Who};
 use std::alloc::Global;
-
-/// From so many records of a window on that lie apart, the window is read as a whole: it costs about as much as reads of these.
-const APART: usize = 32;
 
 /// What a new segment of the archive is for.
 #[derive(Clone, Copy, Debug)]
@@ -133,89 +127,37 @@ fn write_cuts<S: Site>(
     ensures last { Adds (S.told site.old) (S.told site.new) (FailsLast result) }
     ensures cause { JobCause (S.fault_count site.old) (S.fault_count site.new) result }
 {
-    let mut reader = RecordReader::new(alloc);
-    let mut turn = Turn {
-        end: 0,
-        ahead: Ahead::Next,
-    };
-    for (place, cut) in cuts.iter().enumerate() {
-        if turn.end <= place {
-            turn = turn_at(heads, cuts, place);
-        }
+    let mut shelf = Shelf::new(alloc);
+    for place in 0..cuts.len() {
         write_cut(
-            alloc,
-            site,
-            who,
-            segmenter,
-            &mut reader,
-            files,
-            heads,
-            cut,
-            turn.ahead,
+            alloc, site, who, segmenter, &mut shelf, files, heads, cuts, place,
         )?;
     }
     Ok(())
 }
 
-/// Cuts in turn whose records begin in one window.
-#[derive(Clone, Copy, Debug)]
-struct Turn {
-    /// The place past the last one.
-    end: usize,
-    /// How far a read of one of them goes on.
-    ahead: Ahead,
-}
-
-/// The cuts from this place on that are of one window. The window is read as a whole where many of them lie apart, so that the
-/// records between them are of others: by themselves they would want a read each.
-fn turn_at(heads: &Heads, cuts: &[Cut], place: usize) -> Turn
-    requires cuts { AreWithin (length heads.now) cuts.now }
-    requires place { place < length cuts.now }
-{
-    let mut last = heads.get(cuts[place].index as usize);
-    let window = Window::of(&last);
-    let mut apart = 0;
-    let mut end = place + 1;
-    for cut in &cuts[place + 1..] {
-        let head = heads.get(cut.index as usize);
-        if Window::of(&head) != window {
-            break;
-        }
-        if !follows(&last, &head) {
-            apart += 1;
-        }
-        last = head;
-        end += 1;
-    }
-    let ahead = if apart < APART {
-        Ahead::Next
-    } else {
-        Ahead::Window
-    };
-    Turn { end, ahead }
-}
-
-/// Writes one cut behind what the segment has.
+/// Writes the cut at this place behind what the segment has.
 fn write_cut<S: Site>(
     alloc: Global,
     site: &mut S,
     who: &Who,
     segmenter: &mut Segmenter,
-    reader: &mut RecordReader,
+    shelf: &mut Shelf,
     files: &[Word],
     heads: &Heads,
-    cut: &Cut,
-    ahead: Ahead,
+    cuts: &[Cut],
+    place: usize,
 ) -> Result<(), JobFault>
     requires job { who.now ≡ job }
     requires writer { segmenter.old.who ≡ job }
     requires segment { IsForArchive segmenter.old }
-    requires index { cut.now.index < length heads.now }
-    ensures told { (stamped : List (List ℕ)) (v : Sight) (c : Chunk) (chunks : List Chunk) → AreSound v files.now
-        → IsRecordAt v files.now heads.now cut.now.index c
+    requires cuts { AreWithin (length heads.now) cuts.now }
+    requires place { place < length cuts.now }
+    ensures told { (stamped : List (List ℕ)) (v : Sight) (cs : List Chunk) (chunks : List Chunk) → AreRecords v files.now heads.now cs
         → IsFree v files.now segmenter.old.number → Adds (S.told site.old) (S.told site.new)
-        (Leads (As stamped job) (AtJob stamped (λ u. IsSoFar v chunks segmenter.old u × AreWindows v files.now reader.old))
-        (CutSo stamped v files.now (chunks ++ cut_of cut.now.skip c ∷ []) segmenter.new reader.new result)) }
+        (Leads (As stamped job) (AtJob stamped (λ u. IsSoFar v chunks segmenter.old u × AreKept v files.now heads.now shelf.old))
+        (CutSo stamped v files.now heads.now (chunks ++ cut_chunk cs (slice_index_or cuts.now place (record { index = 0; skip = 0 })) ∷ [])
+        segmenter.new shelf.new result)) }
     ensures segment { OnOk result (IsForArchive segmenter.new) }
     ensures who { segmenter.new.who ≡ segmenter.old.who }
     ensures number { OnOk result (segmenter.new.number ≡ segmenter.old.number) }
@@ -226,10 +168,10 @@ fn write_cut<S: Site>(
     ensures last { Adds (S.told site.old) (S.told site.new) (FailsLast result) }
     ensures cause { JobCause (S.fault_count site.old) (S.fault_count site.new) result }
 {
-    let index = cut.index as usize;
-    let head = heads.get(index);
-    fetch_by_head(alloc, site, who, reader, files, heads, index, &head, ahead)?;
-    put_cut(alloc, site, segmenter, &head, reader.value(), cut.skip)
+    shelf.fetch(alloc, site, who, files, heads, cuts, place)?;
+    let cut = cuts[place];
+    let head = heads.get(cut.index as usize);
+    put_cut(alloc, site, segmenter, &head, shelf.value(), cut.skip)
 }
 
 /// Writes the chunk of a head and its value, but for the first bytes, behind what the segment has. What can't be a chunk counts as

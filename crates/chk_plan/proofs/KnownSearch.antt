@@ -1,5 +1,6 @@
--- Where a stream's archive ends, by a search among sorted streams.
+-- What is known of a stream, by a search among sorted streams.
 use Rattle.std.proofs.Common.{◌≡◌, ◌<◌, inl, inr, ℕ, zero, suc, Bool, true, false, true≢false, List, [], ◌∷◌, length, drop, get_or, refl, sym, ◌∙◌, ap, arith, if◌then◌else◌}
+use Rattle.std.specs.Prelude.{Option, Some, None}
 use Rattle.std.specs.Cmp.{IsStrictWeakOrder}
 use Rattle.std.specs.List.Sorted.{IsPartitionedBy, IsPartitionPoint}
 use Rattle.std.proofs.Math.Seq.{drop-cons}
@@ -11,7 +12,8 @@ use Rattle.chk_heads.specs.Heads.{Head}
 use Rattle.chk_heads.proofs.Orders.{streams, through}
 use Rattle.chk_heads.proofs.Sorting.{as_std}
 use Rattle.chk_plan.specs.declared.spans.Known.{Known}
-use Rattle.chk_plan.specs.Passes.{begins_at, known_stream, AreSorted}
+use Rattle.chk_plan.specs.Passes.{begins_at, known_of, known_stream, AreSorted}
+use Rattle.chk_plan.specs.Starts.{start_known}
 
 abbrev pub known_lt : Known → Known → Bool
 known_lt k l = stream_lt (known_stream k) (known_stream l)
@@ -34,17 +36,17 @@ parted ks s rise i j d low high on =
     ]
 
 -- those that are of other streams are gone by
-passed : (ks : List Known) (i : ℕ) (h : Head)
+passed : (ks : List Known) (i : ℕ) (s : Stream)
     → ((k : ℕ) (d : Known) → k < i → k < length ks
-    → same_stream (known_stream (get_or ks k d)) h.key.stream ≡ false)
-    → begins_at ks h ≡ begins_at (drop i ks) h
-passed ks zero h other = refl
-passed [] (suc i) h other = refl
-passed (x ∷ ks) (suc i) h other =
+    → same_stream (known_stream (get_or ks k d)) s ≡ false)
+    → known_of ks s ≡ known_of (drop i ks) s
+passed ks zero s other = refl
+passed [] (suc i) s other = refl
+passed (x ∷ ks) (suc i) s other =
     let rest =
-    passed ks i h (λ k d low high. other (suc k) d (omega (arith, low)) (omega (arith, high)))
+    passed ks i s (λ k d low high. other (suc k) d (omega (arith, low)) (omega (arith, high)))
     in
-    ap (λ b. if b then x.end else begins_at ks h) (other zero x (omega arith) (omega arith)) ∙ rest
+    ap (λ b. if b then Some x else known_of ks s) (other zero x (omega arith) (omega arith)) ∙ rest
 
 not_same : (s t : Stream) → stream_lt s t ≡ true → same_stream s t ≡ false
 not_same s t before = elim (cases_Bool (same_stream s t)) [
@@ -68,29 +70,77 @@ IsPlaceIn ks s i =
     (λ (k : Known). stream_lt (known_stream k) s ≡ false) ks i
 
 -- the stream that stands at the place of the search
-pub present : (ks : List Known) (h : Head) (i : ℕ) (d : Known) → IsPlaceIn ks h.key.stream i
-    → i < length ks → same_stream (known_stream (get_or ks i d)) h.key.stream ≡ true
-    → begins_at ks h ≡ (get_or ks i d).end
-present ks h i d at low same =
-    passed ks i h (λ k d below in_list. not_same (known_stream (get_or ks k d)) h.key.stream
+pub present : (ks : List Known) (s : Stream) (i : ℕ) (d : Known) → IsPlaceIn ks s i
+    → i < length ks → same_stream (known_stream (get_or ks i d)) s ≡ true
+    → known_of ks s ≡ Some (get_or ks i d)
+present ks s i d at low same =
+    passed ks i s (λ k d below in_list. not_same (known_stream (get_or ks k d)) s
     (at.0 k d (omega arith) below))
-    ∙ (ap (λ l. begins_at l h) (drop-cons ks i d low)
-    ∙ ap (λ b. if b then (get_or ks i d).end else begins_at (drop (suc i) ks) h) same)
+    ∙ (ap (λ l. known_of l s) (drop-cons ks i d low)
+    ∙ ap (λ b. if b then Some (get_or ks i d) else known_of (drop (suc i) ks) s) same)
 
 -- another one stands there, or none
-pub absent : (ks : List Known) (h : Head) (i : ℕ) (any : Known) → AreSorted ks
-    → IsPlaceIn ks h.key.stream i
-    → (i < length ks → same_stream (known_stream (get_or ks i any)) h.key.stream ≡ false)
-    → begins_at ks h ≡ h.key.start
-absent ks h i any rise at other =
-    passed ks (length ks) h (λ k d below in_list. elim (cases_lt k i) [
+pub absent : (ks : List Known) (s : Stream) (i : ℕ) (any : Known) → AreSorted ks
+    → IsPlaceIn ks s i
+    → (i < length ks → same_stream (known_stream (get_or ks i any)) s ≡ false)
+    → known_of ks s ≡ None
+absent ks s i any rise at other =
+    passed ks (length ks) s (λ k d below in_list. elim (cases_lt k i) [
       | inl early ↦
-          not_same (known_stream (get_or ks k d)) h.key.stream (at.0 k d (omega arith) early)
+          not_same (known_stream (get_or ks k d)) s (at.0 k d (omega arith) early)
       | inr late ↦
           let here : i < length ks = omega (arith, late, below) in
-          behind (known_stream (get_or ks i d)) (known_stream (get_or ks k d)) h.key.stream
+          behind (known_stream (get_or ks i d)) (known_stream (get_or ks k d)) s
           (at.1 i d (omega arith) here)
-          (ap (λ l. same_stream (known_stream l) h.key.stream) (get_or_default ks i d any here) ∙ other here)
+          (ap (λ l. same_stream (known_stream l) s) (get_or_default ks i d any here) ∙ other here)
           (sorted_far known_lt known_ordered ks rise i k d late below)
     ])
-    ∙ ap (λ l. begins_at l h) (drop_all (length ks) ks (omega arith))
+    ∙ ap (λ l. known_of l s) (drop_all (length ks) ks (omega arith))
+
+-- ---- what is known of a stream
+
+abbrev end_by : ℕ → Option Known → ℕ
+end_by n None = n
+end_by n (Some k) = k.end
+
+abbrev start_by : ℕ → Option Known → ℕ
+start_by n None = n
+start_by n (Some k) = k.start
+
+begins_by : (ks : List Known) (h : Head)
+    → begins_at ks h ≡ end_by h.key.start (known_of ks h.key.stream)
+begins_by [] h = refl
+begins_by (k ∷ ks) h = go (same_stream (known_stream k) h.key.stream) (begins_by ks h)
+  where
+    go : (b : Bool) → begins_at ks h ≡ end_by h.key.start (known_of ks h.key.stream)
+        → (if b then k.end else begins_at ks h)
+        ≡ end_by h.key.start (if b then Some k else known_of ks h.key.stream)
+    go true e = refl
+    go false e = e
+
+starts_by : (n : ℕ) (ks : List Known) (s : Stream)
+    → start_known n ks s ≡ start_by n (known_of ks s)
+starts_by n [] s = refl
+starts_by n (k ∷ ks) s = go (same_stream (known_stream k) s) (starts_by n ks s)
+  where
+    go : (b : Bool) → start_known n ks s ≡ start_by n (known_of ks s)
+        → (if b then k.start else start_known n ks s)
+        ≡ start_by n (if b then Some k else known_of ks s)
+    go true e = refl
+    go false e = e
+
+pub begins_known : (ks : List Known) (h : Head) (k : Known) → known_of ks h.key.stream ≡ Some k
+    → begins_at ks h ≡ k.end
+begins_known ks h k is = begins_by ks h ∙ ap (end_by h.key.start) is
+
+pub begins_unknown : (ks : List Known) (h : Head) → known_of ks h.key.stream ≡ None
+    → begins_at ks h ≡ h.key.start
+begins_unknown ks h is = begins_by ks h ∙ ap (end_by h.key.start) is
+
+pub starts_known : (n : ℕ) (ks : List Known) (s : Stream) (k : Known) → known_of ks s ≡ Some k
+    → start_known n ks s ≡ k.start
+starts_known n ks s k is = starts_by n ks s ∙ ap (start_by n) is
+
+pub starts_unknown : (n : ℕ) (ks : List Known) (s : Stream) → known_of ks s ≡ None
+    → start_known n ks s ≡ n
+starts_unknown n ks s is = starts_by n ks s ∙ ap (start_by n) is

@@ -10,5 +10,6 @@ mod Blocks
 pub mod Bridges
 pub mod SpanBlocks
 pub mod KnownSearch
+pub mod OneStart
 mod MoreSpans
 pub mod Gives

@@ -2,5 +2,6 @@
 pub mod Plan
 pub mod HeadsOf
 pub mod Passes
+pub mod Starts
 pub mod NextBooks
 pub mod Laws

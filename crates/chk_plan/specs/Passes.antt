@@ -1,5 +1,5 @@
 -- What a pass over heads that stand in order reaches, stream after stream.
-use Rattle.std.specs.Prelude.{◌≡◌, ℕ, ◌≤◌, ◌<◌, Bool, true, false, ◌&&◌, nat_lt, nat_le, IsTrue, IsFalse, List, [], ◌∷◌, length, take, drop, slice_index_or, if◌then◌else◌}
+use Rattle.std.specs.Prelude.{◌≡◌, ℕ, ◌≤◌, ◌<◌, Bool, true, false, ◌&&◌, nat_lt, nat_le, IsTrue, IsFalse, List, [], ◌∷◌, length, take, drop, slice_index_or, Option, Some, None, if◌then◌else◌}
 use Rattle.std.specs.List.Sorted.{IsSortedBy}
 use Rattle.chk_chunk.specs.Keys.{Stream, same_stream, stream_lt}
 use Rattle.chk_heads.specs.Heads.{Head}
@@ -37,6 +37,11 @@ known_stream k = record { source = k.source.now; kind = k.kind.now; name = k.nam
 -- no known stream comes before the one in front of it
 abbrev pub AreSorted : List Known → Type 0
 AreSorted ks = IsSortedBy (λ k l. stream_lt (known_stream k) (known_stream l)) ks
+
+-- what is known of a stream
+abbrev pub known_of : List Known → Stream → Option Known
+known_of [] s = None
+known_of (k ∷ ks) s = if same_stream (known_stream k) s then Some k else known_of ks s
 
 -- where a stream's archive ends: as it is known, or else at the head's own start
 abbrev pub begins_at : List Known → Head → ℕ

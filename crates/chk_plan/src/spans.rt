@@ -1,10 +1,10 @@
 //! The pass over heads that stand in order.
 
-ghost use Rattle.std.specs.Prelude.{◌≡◌, ◌≤◌, ◌<◌, ◌^◌, ℕ, length, sum_by, IsTrue, IsFalse, IfOk, IfSome, None};
+ghost use Rattle.std.specs.Prelude.{◌≡◌, ◌≤◌, ◌<◌, ◌^◌, ℕ, length, sum_by, IsTrue, IsFalse, IfOk, IfSome, IfNone, Some, None};
 ghost use Rattle.chk_bytes.specs.Words.{text_lt};
 ghost use Rattle.chk_chunk.specs.Keys.{same_stream, stream_lt};
 ghost use Rattle.chk_heads.specs.Order.{lent_head, of_one_stream};
-ghost use Rattle.chk_plan.specs.Passes.{between, pass_end, pass_past, begins_at, head_in, known_stream, AreSorted, IsSpan, AreSpans};
+ghost use Rattle.chk_plan.specs.Passes.{between, pass_end, pass_past, begins_at, known_of, head_in, known_stream, AreSorted, IsSpan, AreSpans};
 ghost use Rattle.chk_plan.specs.Laws.{span_gain};
 
 use chk_bytes::NoMemory;
@@ -26,12 +26,13 @@ pub struct Span {
     pub reached: u64,
 }
 
-/// Where a stream's archive ends.
+/// Where a stream's archive starts and ends.
 #[derive(Clone, Copy, Debug)]
 pub struct Known<'a> {
     pub source: &'a str,
     pub kind: &'a str,
     pub name: &'a str,
+    pub start: u64,
     pub end: u64,
 }
 
@@ -119,6 +120,29 @@ fn begins_at(known: &[Known<'_>], are_sorted: bool, head: &HeadRef<'_>) -> u64
     requires { IsTrue are_sorted → AreSorted known.now }
     ensures { result ≡ begins_at known.now (lent_head head.now) }
 {
+    match known_of(known, are_sorted, head) {
+        Some(one) => one.end,
+        None => head.key.start,
+    }
+}
+
+/// The known streams stand in byte order of source, type and name.
+pub(crate) fn are_sorted(known: &[Known<'_>]) -> bool
+    ensures { IsTrue result → AreSorted known.now }
+{
+    known.is_sorted_by(|one, next| !next.is_before(one))
+}
+
+/// What is known of the head's stream. It costs a search where the known streams are sorted, and else all of them.
+pub(crate) fn known_of<'k, 'a>(
+    known: &'k [Known<'a>],
+    are_sorted: bool,
+    head: &HeadRef<'_>,
+) -> Option<&'k Known<'a>>
+    requires { IsTrue are_sorted → AreSorted known.now }
+    ensures some { IfSome result (λ k. known_of known.now (lent_head head.now).key.stream ≡ Some k.now) }
+    ensures none { IfNone result (known_of known.now (lent_head head.now).key.stream ≡ None) }
+{
     if are_sorted {
         searched(known, head)
     } else {
@@ -126,41 +150,37 @@ fn begins_at(known: &[Known<'_>], are_sorted: bool, head: &HeadRef<'_>) -> u64
     }
 }
 
-/// The known streams stand in byte order of source, type and name.
-fn are_sorted(known: &[Known<'_>]) -> bool
-    ensures { IsTrue result → AreSorted known.now }
-{
-    known.is_sorted_by(|one, next| !next.is_before(one))
-}
-
-/// Where the archive of the head's stream ends, by a search among sorted streams.
-fn searched(known: &[Known<'_>], head: &HeadRef<'_>) -> u64
+/// What is known of the head's stream, by a search among sorted streams.
+fn searched<'k, 'a>(known: &'k [Known<'a>], head: &HeadRef<'_>) -> Option<&'k Known<'a>>
     requires { AreSorted known.now }
-    ensures { result ≡ begins_at known.now (lent_head head.now) }
+    ensures some { IfSome result (λ k. known_of known.now (lent_head head.now).key.stream ≡ Some k.now) }
+    ensures none { IfNone result (known_of known.now (lent_head head.now).key.stream ≡ None) }
 {
     let of = Known {
         source: head.key.source,
         kind: head.key.kind,
         name: head.key.name,
+        start: head.key.start,
         end: head.key.start,
     };
     let at = known.partition_point(|one| one.is_before(&of));
     if at < known.len() && known[at].is_with(&of) {
-        return known[at].end;
+        return Some(&known[at]);
     }
-    of.end
+    None
 }
 
-/// Where the archive of the head's stream ends, by going through the streams.
-fn gone_through(known: &[Known<'_>], head: &HeadRef<'_>) -> u64
-    ensures { result ≡ begins_at known.now (lent_head head.now) }
+/// What is known of the head's stream, by going through the streams.
+fn gone_through<'k, 'a>(known: &'k [Known<'a>], head: &HeadRef<'_>) -> Option<&'k Known<'a>>
+    ensures some { IfSome result (λ k. known_of known.now (lent_head head.now).key.stream ≡ Some k.now) }
+    ensures none { IfNone result (known_of known.now (lent_head head.now).key.stream ≡ None) }
 {
     for one in known {
         if one.source == head.key.source && one.kind == head.key.kind && one.name == head.key.name {
-            return one.end;
+            return Some(one);
         }
     }
-    head.key.start
+    None
 }
 
 /// In byte order.

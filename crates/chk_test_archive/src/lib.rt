@@ -16,6 +16,8 @@ mod files;
 #[cfg(test)]
 mod gaps;
 #[cfg(test)]
+mod numbers;
+#[cfg(test)]
 mod passed;
 #[cfg(test)]
 mod records;
@@ -25,6 +27,8 @@ mod runs;
 mod scene;
 #[cfg(test)]
 mod segments;
+#[cfg(test)]
+mod starts;
 #[cfg(test)]
 mod stops;
 #[cfg(test)]

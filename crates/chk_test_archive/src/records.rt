@@ -84,6 +84,18 @@ const SPELLED: &[u8] =
 const BEGUN: &[u8] =
     b"\0\0\06\0\0\0,\0\0\0(\x02\0\0\0\0\0\0\0\x0b\0\0\0\0\0\0\0\x05\0\x02h1\0\x03Log\0\x06/a.log\0\x04none\0\0\0\x06hello\n";
 
+const WORLD_FROM_5: &[u8] =
+    b"\0\0\06\0\0\0,\0\0\0(\x02\0\0\0\0\0\0\0\x0c\0\0\0\0\0\0\0\x05\0\x02h1\0\x03Log\0\x06/a.log\0\x04none\0\0\0\x06world\n";
+
+const HELLO_FROM_3: &[u8] =
+    b"\0\0\06\0\0\0,\0\0\0(\x02\0\0\0\0\0\0\0\t\0\0\0\0\0\0\0\x03\0\x02h1\0\x03Log\0\x06/a.log\0\x04none\0\0\0\x06hello\n";
+
+const PAST_FROM_5: &[u8] =
+    b"\0\0\04\0\0\0,\0\0\0(\x02\0\0\0\0\0\0\0\x16\0\0\0\0\0\0\0\x05\0\x02h1\0\x03Log\0\x06/a.log\0\x04none\0\0\0\x04past";
+
+const WORLD_ALOUD: &[u8] =
+    b"\0\0\0(\0\0\0\x1e\0\0\0\x1a\x01\0\0\0\0\0\0\0\x0c\0\x02h1\0\x03Log\0\x06/a.log\0\0\0\x06WORLD\n";
+
 const OTHER: &[u8] =
     b"\0\0\0$\0\0\0\x1e\0\0\0\x1a\x01\0\0\0\0\0\0\0\x02\0\x02h2\0\x03Log\0\x06/a.log\0\0\0\x02x\n";
 
@@ -138,6 +150,9 @@ const BOOK_TWO_ASIDE: &[u8] =
 const BOOK_NEXT_ASIDE: &[u8] =
     b"CHKB\x03\0\0\0\0\0\0\0\x03\0\0\0\0\0\0\0\0\0\0\0\0\0\0\0\x02\0\0\0\0\0\0\0\xbe";
 
+const BOOK_TWO_ALOUD: &[u8] =
+    b"CHKB\x03\0\0\0\0\0\0\0\x02\0\0\0\0\0\0\0\0\0\0\0\0\0\0\0\x01\0\0\0\0\0\0\0\xc0";
+
 const BOOK_CLOSED: &[u8] =
     b"CHKB\x01\0\0\0\0\0\0\0\x03\0\0\0\x01\0\0\0\0\0\0\0\x02\0\0\0\0\0\0\0\xc0\0\0\0\x01\0\0\0\0\0\0\0\x0c\0\x02h1\0\x03Log\0\x06/a.log";
 
@@ -149,6 +164,9 @@ const BOOK_STREAMS: &[u8] =
 
 const BOOK_DAY: &[u8] =
     b"CHKB\x01\0\0\0\0\0\0\0\x02\0\0\0\x01\0\0\0\0\0\0\0\x01\0\0\0\0\0\0\x03x\0\0\0\x03\0\0\0\0\0\0\0\xc2\0\x02h1\0\tHadoopLog\0\x1c/var/log/hadoop/namenode.log\0\0\0\0\0\0\0\xc2\0\x02h2\0\tHadoopLog\0\x1c/var/log/hadoop/namenode.log\0\0\0\0\0\0\0\xc2\0\x02h3\0\tHadoopLog\0\x1c/var/log/hadoop/namenode.log";
+
+// The MD5 of a segment of short records of 20 streams.
+pub(crate) const TURNS: &[u8] = b"\xfe\xee\n$\xd5\x86\x05\x8a+L!\xfb*\xafI\xc8";
 
 // The marker of a sink or segment.
 pub(crate) fn marker(name: &str) -> Option<&'static [u8]> {
@@ -189,6 +207,10 @@ pub(crate) fn record(name: &str) -> Option<&'static [u8]> {
         "STARTED" => Some(STARTED),
         "SPELLED" => Some(SPELLED),
         "BEGUN" => Some(BEGUN),
+        "WORLD_FROM_5" => Some(WORLD_FROM_5),
+        "HELLO_FROM_3" => Some(HELLO_FROM_3),
+        "PAST_FROM_5" => Some(PAST_FROM_5),
+        "WORLD_ALOUD" => Some(WORLD_ALOUD),
         "OTHER" => Some(OTHER),
         "HALF" => Some(HALF),
         "DAY_H1" => Some(DAY_H1),
@@ -215,6 +237,7 @@ pub(crate) fn book(name: &str) -> Option<&'static [u8]> {
         "BOOK_ASIDE" => Some(BOOK_ASIDE),
         "BOOK_TWO_ASIDE" => Some(BOOK_TWO_ASIDE),
         "BOOK_NEXT_ASIDE" => Some(BOOK_NEXT_ASIDE),
+        "BOOK_TWO_ALOUD" => Some(BOOK_TWO_ALOUD),
         "BOOK_CLOSED" => Some(BOOK_CLOSED),
         "BOOK_TWELVE" => Some(BOOK_TWELVE),
         "BOOK_STREAMS" => Some(BOOK_STREAMS),

@@ -12,6 +12,7 @@ use Rattle.chk_heads.specs.Pieces.{AsksInPieces}
 use Rattle.chk_heads.proofs.Gathering.{every_then}
 use Rattle.chk_book.specs.Books.{book_view}
 use Rattle.chk_book.specs.Views.{segment_view}
+use Rattle.chk_book.specs.declared.book.Book.{Book as Struct}
 use Rattle.chk_book.specs.Folders.{segment_name}
 use Rattle.chk_parts.proofs.StepKinds.{as_kind, no_reads, fails_behind}
 use Rattle.chk_parts.proofs.WholeSegments.{archive_folder}
@@ -22,6 +23,11 @@ use Rattle.chk_parts.proofs.Published.{replaces_no_reads}
 use Rattle.chk_archive.proofs.TakenIn.{of_replace}
 use Rattle.chk_archive.proofs.MergedMany.{few_left, merged_so, merge_fails, publish_fails, all_merged}
 use Rattle.chk_archive.proofs.merging.merge_many.Goals as goal
+
+many_view : (b : Struct) → 16 ≤ length b.segments → 16 ≤ length (book_view b).segments
+many_view b many =
+    let size : length (map segment_view b.segments) ≡ length b.segments = length-map b.segments segment_view in
+    omega (arith, many, size)
 
 pub merge-requires : goal.merge-requires
 merge-requires g c = archive_folder
@@ -37,6 +43,7 @@ returns-in_err-merge-clause-told g c stamped =
     rw (q.1, q.2)
     (leads_as (λ h k. k) (λ h k. merge_fails stamped b new new c.in_err-merge.field-0.0 h k)
     (merged_so stamped b new (Err c.in_err-merge.field-0.0) c.in_err-merge.ensures.spent
+    (many_view c.args.book.now (subst (λ l. 16 ≤ length l) c.as_slice.ensures c.if-as_slice-lt-MANY.false))
     (λ held settled apart. c.in_err-merge.ensures.raw held c.requires settled apart) (c.in_err-merge.ensures.own c.requires)))
 
 pub returns-in_err-merge-clause-own : goal.returns-in_err-merge-clause-own
@@ -52,9 +59,10 @@ returns-in_err-publish_next-clause-told g c stamped =
     let q = err_from_is_err_and c.from_residual-in_err-publish_next.result c.from_residual-in_err-publish_next.ensures.1 in
     let b = book_view c.args.book.now in
     let new = book_view c.merge.new.book in
+    let many = many_view c.args.book.now (subst (λ l. 16 ≤ length l) c.as_slice.ensures c.if-as_slice-lt-MANY.false) in
     rw (q.1, q.2)
-    (publish_fails stamped b new c.publish_next.result
-    (merged_so stamped b new (Ok tt) c.in_ok-merge.ensures.spent
+    (publish_fails stamped b new many c.publish_next.result
+    (merged_so stamped b new (Ok tt) c.in_ok-merge.ensures.spent many
     (λ held settled apart. c.in_ok-merge.ensures.raw held c.requires settled apart) (c.in_ok-merge.ensures.own c.requires))
     c.publish_next.ensures.own (λ u may. c.publish_next.ensures.told stamped ArchiveFolder u refl may) new c.in_err-publish_next.field-0.0
     c.in_err-publish_next.was)
@@ -81,8 +89,9 @@ pub returns-clause-told : goal.returns-clause-told
 returns-clause-told g c stamped =
     let b = book_view c.args.book.now in
     let new = book_view c.merge.new.book in
-    all_merged stamped b new c.publish_next.result
-    (merged_so stamped b new (Ok tt) c.in_ok-merge.ensures.spent
+    let many = many_view c.args.book.now (subst (λ l. 16 ≤ length l) c.as_slice.ensures c.if-as_slice-lt-MANY.false) in
+    all_merged stamped b new many c.publish_next.result
+    (merged_so stamped b new (Ok tt) c.in_ok-merge.ensures.spent many
     (λ held settled apart. c.in_ok-merge.ensures.raw held c.requires settled apart) (c.in_ok-merge.ensures.own c.requires))
     c.publish_next.ensures.own (λ u may. c.publish_next.ensures.told stamped ArchiveFolder u refl may) tt c.in_ok-publish_next.was
 

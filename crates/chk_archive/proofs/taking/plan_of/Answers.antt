@@ -13,6 +13,6 @@ pub returns : goal.returns
 returns c =
     let heads = c.args.heads.now in
     let spans = c.in_ok-spans.spans.items in
-    planned_so (book_view c.args.book.now) heads c.in_ok-known.known.items c.in_ok-known.ensures spans
+    planned_so (book_view c.args.book.now) heads c.in_ok-known.known.items c.in_ok-known.ensures.ends spans
     (subst (λ k. AreSpans k heads 0 spans (length heads)) c.as_slice.ensures.value c.in_ok-spans.ensures)
     c.planned_of.result c.planned_of.ensures

@@ -1,4 +1,4 @@
-use Rattle.std.proofs.Common.{◌≡◌, Bool, true, not, Ok, Err, sym, subst, length, true≢false}
+use Rattle.std.proofs.Common.{◌≡◌, Bool, true, not, Ok, Err, refl, sym, subst, length, true≢false}
 use Rattle.std.specs.Prelude.{◌==◌}
 use Rattle.chk_site.specs.Site.{Adds}
 use Rattle.chk_site.specs.Runs.{Leads}
@@ -6,7 +6,7 @@ use Rattle.chk_site.proofs.Runs.{adds_as}
 use Rattle.chk_world.specs.Places.{As}
 use Rattle.chk_world.specs.Sight.{job, AtJob}
 use Rattle.chk_heads.specs.Faults.{FailsLast}
-use Rattle.chk_archive.specs.Taking.{Prepared}
+use Rattle.chk_archive.specs.Taking.{Prepared, stays_aside}
 use Rattle.chk_archive.proofs.Preparing.{none_there}
 use Rattle.std.proofs.lemmas.Result.{err_from_is_err_and}
 use Rattle.chk_site.proofs.Leads.{leads_as}
@@ -29,7 +29,7 @@ returns-in_err-take_parts-clause-told g c stamped v cs records can =
     rw (p.1, p.2)
     (leads_as (λ h k. k)
     (λ h k. parts_fail v b mid c.args.files.now c.args.heads.now c.args.old c.args.kept.now cs
-    parts can mid stamped records c.take_parts.result c.in_err-take_parts.field-0.0
+    parts can mid stamped records (stays_aside b c.args.heads.now c.args.old c.args.kept.now) c.take_parts.result c.in_err-take_parts.field-0.0
     c.in_err-take_parts.was h k)
     (c.take_parts.ensures.told stamped v cs records can.book
     (free_first v b mid c.args.files.now c.args.heads.now c.args.old c.args.kept.now cs parts can)))
@@ -42,12 +42,12 @@ returns-in_err-changed-clause-told g c stamped v cs records can =
     let parts = cut_chunks cs c.args.cuts.now in
     rw (p.1, p.2)
     (both v b mid c.args.files.now c.args.heads.now c.args.old c.args.kept.now cs parts can
-    (book_view c.keep_aside.new.book) stamped records c.in_ok-take_parts.field-0 c.take_parts.result
+    (book_view c.keep_aside.new.book) stamped records (stays_aside b c.args.heads.now c.args.old c.args.kept.now) c.in_ok-take_parts.field-0 c.take_parts.result
     c.in_ok-take_parts.was true (λ e. absurd (true≢false e)) (Err c.in_err-changed.field-0.0)
     (c.take_parts.ensures.told stamped v cs records can.book
     (free_first v b mid c.args.files.now c.args.heads.now c.args.old c.args.kept.now cs parts can))
     c.keep_aside.ensures.own
-    (λ u still free whole. c.in_err-changed.ensures.told stamped u cs still free whole))
+    (λ u still free whole. c.in_err-changed.ensures.told stamped u cs still free whole) refl)
 
 pub returns-in_err-changed-clause-own : goal.returns-in_err-changed-clause-own
 returns-in_err-changed-clause-own g c = every_then (IsOf MergesBy) c.take_parts.ensures.own c.keep_aside.ensures.own
@@ -70,15 +70,15 @@ returns-clause-told g c stamped v cs records can =
     let chunks = cut_chunks cs c.args.kept.now in
     let takes = not (length c.args.cuts.now == 0) in
     subst (λ x. Adds (g.S.Site.told c.args.site.now) (g.S.Site.told c.keep_aside.new.site)
-    (Leads (As stamped job) (AtJob stamped (λ u. u ≡ v)) (Prepared stamped v b new parts chunks (Ok x))))
+    (Leads (As stamped job) (AtJob stamped (λ u. u ≡ v)) (Prepared stamped v b new parts chunks (stays_aside b c.args.heads.now c.args.old c.args.kept.now) (Ok x))))
     (sym c.is_changed.ensures)
     (both v b mid c.args.files.now c.args.heads.now c.args.old c.args.kept.now cs parts can
-    new stamped records c.in_ok-take_parts.field-0 c.take_parts.result
+    new stamped records (stays_aside b c.args.heads.now c.args.old c.args.kept.now) c.in_ok-take_parts.field-0 c.take_parts.result
     c.in_ok-take_parts.was takes (λ e. c.take_parts.ensures.none (none_there c.args.cuts.now e)) (Ok c.in_ok-changed.changed)
     (c.take_parts.ensures.told stamped v cs records can.book
     (free_first v b mid c.args.files.now c.args.heads.now c.args.old c.args.kept.now cs parts can))
     c.keep_aside.ensures.own
-    (λ u still free whole. c.in_ok-changed.ensures.told stamped u cs still free whole))
+    (λ u still free whole. c.in_ok-changed.ensures.told stamped u cs still free whole) refl)
 
 pub returns-clause-own : goal.returns-clause-own
 returns-clause-own g c = every_then (IsOf MergesBy) c.take_parts.ensures.own c.keep_aside.ensures.own

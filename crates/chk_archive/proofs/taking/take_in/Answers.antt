@@ -1,4 +1,5 @@
-use Rattle.std.proofs.Common.{◌≡◌, ◌∙◌, sym, subst}
+use Rattle.std.proofs.Common.{◌≡◌, ◌∙◌, Ok, Err, sym, subst}
+use Rattle.std.specs.Prelude.{IfErr}
 use Rattle.std.proofs.lemmas.Result.{err_from_is_err_and}
 use Rattle.chk_site.proofs.Leads.{leads_none, leads_as}
 use Rattle.chk_world.specs.JobSteps.{IsOf, ReadsFile}
@@ -10,13 +11,51 @@ use Rattle.chk_parts.proofs.StepKinds.{as_kind, fails_behind}
 use Rattle.chk_archive.specs.Archived.{MergesBy, merge_reads}
 use Rattle.chk_archive.specs.Listed.{sources_in}
 use Rattle.chk_archive.proofs.Listings.{sources_sound}
-use Rattle.chk_archive.proofs.TakenIn.{found_fails, found_taken}
+use Rattle.chk_site.specs.Site.{Adds}
+use Rattle.chk_site.specs.Runs.{anyhow, Leads}
+use Rattle.chk_chunk.specs.Keys.{chunk_limit}
+use Rattle.chk_heads.specs.Order.{in_head_order}
+use Rattle.chk_merge.specs.Segments.{HasFiles, SparesFiles, AreSettled, GatheredAll}
+use Rattle.chk_parts.specs.Starts.{ToldOtherStart}
+use Rattle.chk_archive.proofs.RawSources.{read_fails, read_then}
+use Rattle.chk_archive.proofs.TakenIn.{found_fails, then_taken}
 use Rattle.chk_archive.proofs.taking.take_in.Goals as goal
 
 pub returns-in_err-files-clause-told : goal.returns-in_err-files-clause-told
 returns-in_err-files-clause-told g c stamped v at =
     let q = err_from_is_err_and c.from_residual.result c.from_residual.ensures.1 in
     rw (q.1, q.2) (leads_none (g.S.Site.told c.args.site.now) (λ h k. k.legal))
+
+pub returns-in_err-files-clause-raw : goal.returns-in_err-files-clause-raw
+returns-in_err-files-clause-raw g c held settled =
+    let q = err_from_is_err_and c.from_residual.result c.from_residual.ensures.1 in
+    rw (q.1, q.2) (leads_none (g.S.Site.told c.args.site.now) (λ h k. tt))
+
+pub returns-in_err-heads-clause-raw : goal.returns-in_err-heads-clause-raw
+returns-in_err-heads-clause-raw g c held settled =
+    let q = err_from_is_err_and c.from_residual-in_err-heads.result c.from_residual-in_err-heads.ensures.1 in
+    let b = book_view c.args.book.now in
+    let files : c.as_slice.result.now ≡ sources_in b c.args.names.now = c.as_slice.ensures.value ∙ c.in_ok-files.ensures in
+    rw (q.1, q.2)
+    (read_fails (sources_in b c.args.names.now) b.ends held c.in_err-heads.field-0.0
+    (subst (λ ws. Adds (g.S.Site.told c.args.site.now) (g.S.Site.told c.gather_found.new.site)
+    (Leads (anyhow (SparesFiles ws)) (HasFiles ws held) (GatheredAll chunk_limit ws held (Err c.in_err-heads.field-0.0)))) files
+    (c.in_err-heads.ensures.raw held (subst (λ ws. AreSettled ws held) (sym files) settled))))
+
+pub returns-clause-raw : goal.returns-clause-raw
+returns-clause-raw g c held settled =
+    let b = book_view c.args.book.now in
+    let names = c.args.names.now in
+    let heads = c.in_ok-heads.heads in
+    let files : c.as_slice.result.now ≡ sources_in b names = c.as_slice.ensures.value ∙ c.in_ok-files.ensures in
+    let again : c.as_slice-2.result.now ≡ sources_in b names = c.as_slice-2.ensures.value ∙ c.in_ok-files.ensures in
+    read_then (sources_in b names) b.ends held heads c.take_found.result
+    (subst (λ ws. Adds (g.S.Site.told c.args.site.now) (g.S.Site.told c.gather_found.new.site)
+    (Leads (anyhow (SparesFiles ws)) (HasFiles ws held) (GatheredAll chunk_limit ws held (Ok heads)))) files
+    (c.in_ok-heads.ensures.raw held (subst (λ ws. AreSettled ws held) (sym files) settled)))
+    c.take_found.ensures.own c.take_found.ensures.starts
+    (λ differ. subst (λ ws. IfErr c.take_found.result (ToldOtherStart ws b.ends (in_head_order heads))) again
+    (c.take_found.ensures.other differ).0)
 
 pub returns-in_err-heads-clause-told : goal.returns-in_err-heads-clause-told
 returns-in_err-heads-clause-told g c stamped v at =
@@ -40,7 +79,8 @@ returns-clause-told g c stamped v at =
     let files : c.as_slice.result.now ≡ sources_in b names = c.as_slice.ensures.value ∙ c.in_ok-files.ensures in
     let again : c.as_slice-2.result.now ≡ sources_in b names = c.as_slice-2.ensures.value ∙ c.in_ok-files.ensures in
     let sound : AreSound v c.as_slice.result.now = subst (AreSound v) (sym files) (sources_sound stamped names b v at) in
-    found_taken stamped v b (book_view c.take_found.new.book) c.as_slice.result.now c.in_ok-heads.heads c.take_found.result
+    then_taken stamped v b (book_view c.take_found.new.book) c.as_slice.result.now
+    (c.in_ok-heads.heads ≡ heads_of v 0 c.as_slice.result.now) c.take_found.result
     (c.in_ok-heads.ensures.told stamped v sound) c.take_found.ensures.own
     (λ is. c.take_found.ensures.told stamped v names at again
     (subst (λ f. c.in_ok-heads.heads ≡ heads_of v 0 f) (files ∙ sym again) is))

@@ -8,7 +8,7 @@ use Rattle.chk_parts.specs.Cuts.{cut_chunks}
 use Rattle.chk_parts.proofs.StepKinds.{as_kind}
 use Rattle.chk_archive.specs.Archived.{MergesBy}
 use Rattle.chk_archive.specs.Taking.{HasParts}
-use Rattle.chk_archive.proofs.Preparing.{none_taken, parts_taken, of_merge, empty}
+use Rattle.chk_archive.proofs.Preparing.{none_taken, parts_taken, cuts_some, of_merge, empty}
 use Rattle.chk_archive.proofs.taking.take_parts.Goals as goal
 
 pub returns-then-is_empty-clause-told : goal.returns-then-is_empty-clause-told
@@ -27,7 +27,8 @@ pub returns-clause-told : goal.returns-clause-told
 returns-clause-told g c stamped v cs records book free =
     leads_as (λ h k. k)
     (λ h k. parts_taken stamped v (book_view c.args.book.now) (book_view c.add_segment.new.book) book
-    (cut_chunks cs c.args.cuts.now) c.add_segment.result c.add_segment.ensures.spent h k)
+    (cut_chunks cs c.args.cuts.now) c.add_segment.result c.add_segment.ensures.spent
+    (cuts_some cs c.args.cuts.now c.if-is_empty.ensures) h k)
     (c.add_segment.ensures.told stamped v cs records free)
 
 pub returns-clause-own : goal.returns-clause-own

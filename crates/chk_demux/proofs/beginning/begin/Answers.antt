@@ -11,7 +11,9 @@ use Rattle.chk_demux.specs.Working.{job_result}
 use Rattle.chk_demux.specs.declared.beginning.Books.{Books}
 use Rattle.chk_demux.proofs.OneSegment.{demux_folder}
 use Rattle.chk_demux.proofs.BookLoads.{book_loaded, begin_refused, load_refused, load_done, both_loaded, loads, loads_done}
-use Rattle.chk_demux.proofs.Works.{works_then, works_result}
+use Rattle.chk_demux.specs.Damage.{archive_name, demux_name}
+use Rattle.chk_demux.proofs.RawReads.{small_archive, small_demux, started, not_started, archive_refused, demux_refused, books_loaded}
+use Rattle.chk_demux.proofs.Works.{own_of, works_then, works_result}
 use Rattle.chk_demux.proofs.beginning.begin.Goals as goal
 
 pub load_book-requires : goal.load_book-requires
@@ -25,6 +27,40 @@ returns-in_err-start-clause-told g c stamped before =
     let q = err_from_is_err_and c.from_residual.result c.from_residual.ensures.1 in
     rw (q.1, q.2)
     (begin_refused stamped before c.start.result c.in_err-start.field-0.0 c.in_err-start.was (c.start.ensures.told stamped before))
+
+pub returns-in_err-start-clause-raw : goal.returns-in_err-start-clause-raw
+returns-in_err-start-clause-raw g c held settled =
+    let q = err_from_is_err_and c.from_residual.result c.from_residual.ensures.1 in
+    rw (q.1, q.2) (not_started held settled c.in_err-start.field-0.0 c.start.ensures.works)
+
+pub returns-in_err-archive-clause-raw : goal.returns-in_err-archive-clause-raw
+returns-in_err-archive-clause-raw g c held settled =
+    let q = err_from_is_err_and c.from_residual-in_err-archive.result c.from_residual-in_err-archive.ensures.1 in
+    rw (q.1, q.2)
+    (archive_refused held settled c.load_book.result
+    (started held settled (own_of Begins (job_result c.start.result) c.start.ensures.works))
+    (c.load_book.ensures.raw (held archive_name) (small_archive held settled)) (c.load_book.ensures.own c.requires)
+    c.in_err-archive.field-0.0 c.in_err-archive.was)
+
+pub returns-in_err-demux-clause-raw : goal.returns-in_err-demux-clause-raw
+returns-in_err-demux-clause-raw g c held settled =
+    let q = err_from_is_err_and c.from_residual-in_err-demux.result c.from_residual-in_err-demux.ensures.1 in
+    rw (q.1, q.2)
+    (demux_refused held settled c.load_book.result
+    (started held settled (own_of Begins (job_result c.start.result) c.start.ensures.works))
+    (c.load_book.ensures.raw (held archive_name) (small_archive held settled)) (c.load_book.ensures.own c.requires)
+    c.in_ok-archive.archive c.in_ok-archive.was c.load_book-2.result
+    (c.load_book-2.ensures.raw (held demux_name) (small_demux held settled)) (c.load_book-2.ensures.own c.requires)
+    c.in_err-demux.field-0.0 c.in_err-demux.was)
+
+pub returns-clause-raw : goal.returns-clause-raw
+returns-clause-raw g c held settled =
+    books_loaded held settled c.load_book.result
+    (started held settled (own_of Begins (job_result c.start.result) c.start.ensures.works))
+    (c.load_book.ensures.raw (held archive_name) (small_archive held settled)) (c.load_book.ensures.own c.requires)
+    c.in_ok-archive.archive c.in_ok-archive.was c.load_book-2.result
+    (c.load_book-2.ensures.raw (held demux_name) (small_demux held settled)) (c.load_book-2.ensures.own c.requires)
+    c.in_ok-demux.demux c.in_ok-demux.was
 
 pub returns-in_err-archive-clause-told : goal.returns-in_err-archive-clause-told
 returns-in_err-archive-clause-told g c stamped before =

@@ -189,3 +189,13 @@ give-requires-clause-index g c = c.requires.index
 
 pub give-requires-clause-head : goal.give-requires-clause-head
 give-requires-clause-head g c = c.requires.head
+
+pub returns-in_err-taken-clause-only : goal.returns-in_err-taken-clause-only
+returns-in_err-taken-clause-only g c =
+    let p = err_from_is_err_and c.from_residual.result c.from_residual.ensures.1 in
+    rw (p.1, p.2) tt
+
+pub returns-in_err-give-clause-only : goal.returns-in_err-give-clause-only
+returns-in_err-give-clause-only g c =
+    let p = err_from_is_err_and c.from_residual-in_err-give.result c.from_residual-in_err-give.ensures.1 in
+    rw (p.1, p.2) c.in_err-give.ensures.only

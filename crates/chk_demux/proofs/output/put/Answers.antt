@@ -8,6 +8,7 @@ use Rattle.chk_world.specs.JobSteps.{WritesTo}
 use Rattle.chk_book.specs.Books.{book_view}
 use Rattle.chk_book.specs.Folders.{segment_name}
 use Rattle.chk_demux.specs.Writes.{SoFar, IsOutput, IsWriter}
+use Rattle.chk_demux.proofs.RawReads.{write_begins, memory_begins}
 use Rattle.chk_demux.proofs.OneSegment.{put_so, writes_it}
 use Rattle.chk_demux.proofs.Outputs.{not_put, put_done, put_counted, counted_works}
 use Rattle.chk_demux.proofs.Works.{worked_writes, works_result}
@@ -76,3 +77,11 @@ returns-clause-works g c =
     c.in_ok-part.was
     (worked_writes w c.part.result (writes_it next c.in-Some.segmenter f c.part.ensures.own)
     c.part.ensures.last)
+
+pub returns-in_err-part-clause-only : goal.returns-in_err-part-clause-only
+returns-in_err-part-clause-only g c =
+    let p = err_from_is_err_and c.from_residual.result c.from_residual.ensures.1 in
+    rw (p.1, p.2) (write_begins c.in_err-part.field-0.0 c.in_err-part.ensures.only)
+
+pub returns-clause-only : goal.returns-clause-only
+returns-clause-only g c = memory_begins c.count.result c.count.ensures.only

@@ -11,6 +11,7 @@ use Rattle.chk_book.specs.Books.{book_view}
 use Rattle.chk_book.specs.Folders.{segment_name}
 use Rattle.chk_demux.specs.Working.{EndsSo}
 use Rattle.chk_demux.specs.Writes.{IsSoFar, SoFar, IsOutput}
+use Rattle.chk_demux.proofs.RawReads.{memory_begins}
 use Rattle.chk_demux.proofs.Ends.{so_done}
 use Rattle.chk_demux.proofs.Outputs.{not_first, put_counted, counted_writer, counted_works}
 use Rattle.chk_demux.proofs.Works.{own_of, works_result}
@@ -73,3 +74,6 @@ returns-clause-works g c =
     counted_works (segment_name (codes "demux") (book_view c.args.book.now).next) c.count.result
     c.count.ensures.only c.write_first.result c.in_ok-segmenter.segmenter c.in_ok-segmenter.was
     c.write_first.ensures.works
+
+pub returns-clause-only : goal.returns-clause-only
+returns-clause-only g c = memory_begins c.count.result c.count.ensures.only

@@ -2,6 +2,7 @@ use Rattle.std.proofs.Common.{Err}
 use Rattle.std.proofs.lemmas.Result.{err_from_is_err_and}
 use Rattle.chk_demux.specs.Demuxed.{DemuxesBy}
 use Rattle.chk_demux.specs.declared.report.DemuxReport.{DemuxReport}
+use Rattle.chk_demux.proofs.RawReads.{not_loaded, all_read}
 use Rattle.chk_demux.proofs.RunSteps.{not_begun, whole_run, begun_works, whole_works}
 use Rattle.chk_demux.proofs.Works.{own_of, pieces_of_work, last_of_work, works_result}
 use Rattle.chk_demux.proofs.run.demux.Goals as goal
@@ -17,6 +18,18 @@ pub returns-clause-told : goal.returns-clause-told
 returns-clause-told g c stamped before named =
     whole_run stamped before c.begin.result (c.begin.ensures.told stamped before) c.in_ok-books.books c.in_ok-books.was
     c.split_archive.result c.split_archive.ensures.works (λ v ready. c.split_archive.ensures.told stamped v named ready)
+
+pub returns-in_err-books-clause-raw : goal.returns-in_err-books-clause-raw
+returns-in_err-books-clause-raw g c held settled =
+    let q = err_from_is_err_and c.from_residual.result c.from_residual.ensures.1 in
+    rw (q.1, q.2)
+    (not_loaded held settled c.begin.result (c.begin.ensures.raw held settled) DemuxReport c.in_err-books.field-0.0
+    c.in_err-books.was)
+
+pub returns-clause-raw : goal.returns-clause-raw
+returns-clause-raw g c held settled =
+    all_read held settled c.begin.result (c.begin.ensures.raw held settled) c.in_ok-books.books c.in_ok-books.was
+    c.split_archive.result c.split_archive.ensures.works (λ own counts. c.split_archive.ensures.raw held own counts)
 
 pub returns-in_err-books-clause-own : goal.returns-in_err-books-clause-own
 returns-in_err-books-clause-own g c =

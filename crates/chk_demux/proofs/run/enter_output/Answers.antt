@@ -61,3 +61,8 @@ returns-clause-works g c =
 
 pub returns-clause-cause : goal.returns-clause-cause
 returns-clause-cause g c = c.in_ok-enter.ensures.cause
+
+pub returns-in_err-enter-clause-only : goal.returns-in_err-enter-clause-only
+returns-in_err-enter-clause-only g c =
+    let q = err_from_is_err_and c.from_residual.result c.from_residual.ensures.1 in
+    rw (q.1, q.2) c.in_err-enter.ensures.only

@@ -6,6 +6,7 @@ use Rattle.chk_demux.specs.Running.{RunsOn}
 use Rattle.chk_demux.specs.Writes.{IsWriter}
 use Rattle.chk_demux.specs.declared.report.DemuxReport.{DemuxReport}
 use Rattle.chk_demux.proofs.Ends.{cause_behind}
+use Rattle.chk_demux.proofs.RawReads.{split_refused, split_on}
 use Rattle.chk_demux.proofs.RunFacts.{can_run}
 use Rattle.chk_demux.proofs.RunSteps.{nothing_put, not_split, all_ran, enters}
 use Rattle.chk_demux.proofs.Works.{works_result}
@@ -27,6 +28,18 @@ returns-in_err-left-clause-told g c stamped v named ready =
     (c.split_named.ensures.told stamped v k.cs k.can (nothing_put v c.new-output.result c.new-output.ensures.taken
     c.new-output.ensures.entries c.new-output.ensures.segmenter))
     c.in_err-left.field-0.0 c.in_err-left.was)
+
+pub returns-in_err-left-clause-raw : goal.returns-in_err-left-clause-raw
+returns-in_err-left-clause-raw g c held settled counts =
+    let q = err_from_is_err_and c.from_residual.result c.from_residual.ensures.1 in
+    rw (q.1, q.2)
+    (split_refused (book_view c.args.archive.now) held c.split_named.result (c.split_named.ensures.raw held settled counts)
+    DemuxReport c.in_err-left.field-0.0 c.in_err-left.was)
+
+pub returns-clause-raw : goal.returns-clause-raw
+returns-clause-raw g c held settled counts =
+    split_on (book_view c.args.archive.now) held c.split_named.result (c.split_named.ensures.raw held settled counts)
+    c.in_ok-left.left c.in_ok-left.was c.enter_output.result c.enter_output.ensures.only c.enter_output.ensures.works
 
 pub returns-in_err-left-clause-works : goal.returns-in_err-left-clause-works
 returns-in_err-left-clause-works g c =

@@ -8,7 +8,8 @@ use Rattle.chk_demux.specs.Running.{RunsOn, archive_heads}
 use Rattle.chk_demux.specs.Splitting.{all_chunks, all_left}
 use Rattle.chk_demux.specs.Writes.{IsOutput}
 use Rattle.chk_demux.proofs.Ends.{cause_behind, no_more}
-use Rattle.chk_demux.proofs.RunSteps.{sound_names, no_heads, split_so, splits}
+use Rattle.chk_demux.proofs.RawReads.{heads_refused, heads_read}
+use Rattle.chk_demux.proofs.RunSteps.{sound_names, well_names, no_heads, split_so, splits}
 use Rattle.chk_demux.proofs.Works.{works_memory, works_result}
 use Rattle.chk_demux.proofs.run.split_named.Goals as goal
 
@@ -22,6 +23,11 @@ returns-in_err-files-clause-told g c stamped v cs can none =
     (λ left u. IsOutput v (all_chunks c.args.types.now b (archive_heads v a) cs a.ends) c.args.output.now u
     × (left ≡ all_left c.args.types.now b cs a.ends))
     (leads_none (g.S.Site.told c.args.site.now) (λ h z. z)))
+
+pub returns-in_err-files-clause-raw : goal.returns-in_err-files-clause-raw
+returns-in_err-files-clause-raw g c held settled counts =
+    let q = err_from_is_err_and c.from_residual.result c.from_residual.ensures.1 in
+    rw (q.1, q.2) (leads_none (g.S.Site.told c.args.site.now) (λ h z. tt))
 
 pub returns-in_err-files-clause-writer : goal.returns-in_err-files-clause-writer
 returns-in_err-files-clause-writer g c =
@@ -49,8 +55,26 @@ returns-in_err-heads-clause-told g c stamped v cs can none =
     rw (q.1, q.2)
     (no_heads stamped c.args.types.now a b v cs can o o none names are c.heads_in_order.result
     (c.heads_in_order.ensures.told stamped v b.next
-    (sound_names stamped c.args.types.now a b v cs can o o none names are))
+    (sound_names stamped c.args.types.now a b v cs can o o none names are)
+    (well_names stamped c.args.types.now a b v cs can o o none names are))
     c.in_err-heads.field-0.0 c.in_err-heads.was)
+
+pub heads_in_order-requires-clause-names : goal.heads_in_order-requires-clause-names
+heads_in_order-requires-clause-names g c = c.as_slice-names.ensures.value ∙ c.in_ok-files.ensures
+
+pub returns-in_err-heads-clause-raw : goal.returns-in_err-heads-clause-raw
+returns-in_err-heads-clause-raw g c held settled counts =
+    let q = err_from_is_err_and c.from_residual-in_err-heads.result c.from_residual-in_err-heads.ensures.1 in
+    rw (q.1, q.2)
+    (heads_refused (book_view c.args.archive.now) held settled counts c.heads_in_order.result
+    (c.heads_in_order.ensures.raw held settled) ℕ c.in_err-heads.field-0.0 c.in_err-heads.was)
+
+pub returns-clause-raw : goal.returns-clause-raw
+returns-clause-raw g c held settled counts =
+    heads_read (book_view c.args.archive.now) held settled counts c.heads_in_order.result
+    (c.heads_in_order.ensures.raw held settled) c.in_ok-heads.heads c.in_ok-heads.was c.as_slice-names.result.now
+    (c.as_slice-names.ensures.value ∙ c.in_ok-files.ensures) (book_view c.args.book.now).next c.split_streams.result
+    c.split_streams.ensures.works c.split_streams.ensures.raw
 
 pub returns-in_err-heads-clause-writer : goal.returns-in_err-heads-clause-writer
 returns-in_err-heads-clause-writer g c =
@@ -82,7 +106,8 @@ returns-clause-told g c stamped v cs can none =
     let are = c.as_slice-names.ensures.value ∙ c.in_ok-files.ensures in
     split_so stamped c.args.types.now a b v cs can o n none names are c.heads_in_order.result
     (c.heads_in_order.ensures.told stamped v b.next
-    (sound_names stamped c.args.types.now a b v cs can o n none names are))
+    (sound_names stamped c.args.types.now a b v cs can o n none names are)
+    (well_names stamped c.args.types.now a b v cs can o n none names are))
     c.in_ok-heads.heads c.in_ok-heads.was c.split_streams.result c.split_streams.ensures.works
     (c.split_streams.ensures.told stamped v cs)
 

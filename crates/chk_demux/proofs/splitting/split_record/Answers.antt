@@ -1,7 +1,7 @@
 use Rattle.std.proofs.Common.{◌≡◌, ◌∙◌, ◌+◌, ◌-◌, ◌++◌, drop, ap, sym, subst, inl, inr, true, false}
 use Rattle.std.specs.Prelude.{codes, OnOk}
 use Rattle.std.proofs.lemmas.Result.{err_from_is_err_and}
-use Rattle.chk_site.proofs.Leads.{leads_none}
+use Rattle.chk_site.proofs.Leads.{leads_none, leads_then}
 use Rattle.chk_heads.specs.Heads.{Head}
 use Rattle.chk_plan.specs.Passes.{head_in}
 use Rattle.chk_book.specs.Books.{book_view}
@@ -10,6 +10,7 @@ use Rattle.chk_book.specs.Folders.{segment_name}
 use Rattle.chk_world.specs.JobSteps.{ReadsFile, WritesTo, ReadsOrWrites}
 use Rattle.chk_demux.specs.Giving.{IsSplitting}
 use Rattle.chk_demux.specs.Splitting.{ends_past, SplitSoFar}
+use Rattle.chk_demux.proofs.RawReads.{fetch_refused, fetched_on, written_on}
 use Rattle.chk_demux.proofs.Ends.{at_as}
 use Rattle.chk_demux.proofs.Fetches.{P, passed, not_fetched, record_split}
 use Rattle.chk_demux.proofs.Works.{worked, works_none, works_as, works_result, works_then, own_of}
@@ -82,3 +83,23 @@ returns-clause-works g c =
     (works_as ReadsFile (ReadsOrWrites w) (λ call k. inl k) c.fetch.result
     (worked ReadsFile c.fetch.result c.fetch.ensures.own c.fetch.ensures.pieces c.fetch.ensures.last))
     (works_as (WritesTo w) (ReadsOrWrites w) (λ call k. inr k) c.split_value.result c.split_value.ensures.works)
+
+pub returns-then-not-ends_past-clause-raw : goal.returns-then-not-ends_past-clause-raw
+returns-then-not-ends_past-clause-raw g c v cs records settled apart = leads_none (g.S.Site.told c.args.site.now) (λ h z. z)
+
+pub returns-in_err-fetch-clause-raw : goal.returns-in_err-fetch-clause-raw
+returns-in_err-fetch-clause-raw g c v cs records settled apart =
+    let p = err_from_is_err_and c.from_residual.result c.from_residual.ensures.1 in
+    rw (p.1, p.2)
+    (fetch_refused v c.args.files.now c.args.heads.now cs records settled c.args.index c.requires.index c.args.reader.now
+    c.fetch.new.reader c.fetch.result c.fetch.ensures.raw c.fetch.ensures.own (Unit {0}) c.fetch.new.reader
+    c.in_err-fetch.field-0.0 c.in_err-fetch.was)
+
+pub returns-clause-raw : goal.returns-clause-raw
+returns-clause-raw g c v cs records settled apart =
+    let w = segment_name (codes "demux") (book_view c.args.book.now).next in
+    leads_then
+    (fetched_on v c.args.files.now c.args.heads.now cs records settled c.args.index c.requires.index c.args.reader.now
+    c.fetch.new.reader c.fetch.result c.fetch.ensures.raw c.fetch.ensures.own c.in_ok-fetch.field-0 c.in_ok-fetch.was)
+    (written_on v c.args.files.now c.args.heads.now cs records settled w apart c.fetch.new.reader c.split_value.result
+    c.split_value.ensures.only (own_of (WritesTo w) c.split_value.result c.split_value.ensures.works))

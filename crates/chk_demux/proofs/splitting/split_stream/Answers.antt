@@ -15,6 +15,7 @@ use Rattle.chk_demux.specs.Working.{Worked}
 use Rattle.chk_demux.specs.Writes.{IsOutput}
 use Rattle.chk_demux.specs.Giving.{chunks_of_fed}
 use Rattle.chk_demux.specs.Splitting.{past_in, is_stamped, RunsSo, SplitSoFar, stream_chunks, stream_left}
+use Rattle.chk_demux.proofs.RawReads.{on_refused, on_done}
 use Rattle.chk_demux.proofs.Ends.{at_as, so_fails, so_done}
 use Rattle.chk_demux.proofs.Streams.{stream_begun, stream_ended}
 use Rattle.chk_demux.proofs.Works.{works_none, works_then, works_result}
@@ -30,6 +31,7 @@ loop-index-init g c = record {
       (λ u p. stream_begun v c.args.files.now c.args.heads.now cs outs (end_view c.args.end.now) c.args.from b
       c.args.output.now c.args.reader.now c.new-splitter.result u c.args.block.first c.args.block.end c.requires.block.0
       c.requires.block.1 records runs holds is p) h k);
+  raw_so_far = λ v cs records settled apart. leads_none (g.S.Site.told c.args.site.now) (λ h z. z);
   writer = c.requires.writer;
   works = works_none (ReadsOrWrites (segment_name (codes "demux") (book_view c.args.book.now).next)) tt (g.S.Site.told c.args.site.now);
   count = refl;
@@ -51,6 +53,11 @@ loop-index-preserved g c =
           c.split_record.new.reader c.split_record.new.splitter u)
           c.split_record.result c.in_ok-split_record.field-0 c.in_ok-split_record.was
           (c.split_record.ensures.told stamped v cs outs b records free runs));
+      raw_so_far = λ v cs records settled apart.
+          leads_then (l.invariant.raw_so_far v cs records settled apart)
+          (on_done v c.args.files.now c.args.heads.now cs records settled l.reader c.split_record.new.reader
+          c.split_record.result c.in_ok-split_record.field-0 c.in_ok-split_record.was
+          (c.split_record.ensures.raw v cs records settled apart));
       writer = c.in_ok-split_record.ensures.writer;
       works = works_then (ReadsOrWrites w) (Ok tt) (Ok tt) l.invariant.works
           (subst (λ r. Adds (g.S.Site.told l.site) (g.S.Site.told c.split_record.new.site) (Worked (ReadsOrWrites w) r))
@@ -121,3 +128,16 @@ returns-clause-told g c stamped v cs outs records free runs holds goes =
           goes (q.0, q.1, c.pending.ensures ∙ q.2);
     })
     (l.invariant.so_far stamped v cs outs b records free here holds is)
+
+pub returns-in_err-split_record-clause-raw : goal.returns-in_err-split_record-clause-raw
+returns-in_err-split_record-clause-raw g c v cs records settled apart =
+    let p = err_from_is_err_and c.from_residual.result c.from_residual.ensures.1 in
+    let l = c.loop-index in
+    rw (p.1, p.2)
+    (leads_then (l.invariant.raw_so_far v cs records settled apart)
+    (on_refused v c.args.files.now c.args.heads.now cs records settled ℕ l.reader c.split_record.new.reader
+    c.split_record.new.reader c.split_record.result c.in_err-split_record.field-0.0 c.in_err-split_record.was
+    (c.split_record.ensures.raw v cs records settled apart)))
+
+pub returns-clause-raw : goal.returns-clause-raw
+returns-clause-raw g c v cs records settled apart = c.loop-index.invariant.raw_so_far v cs records settled apart

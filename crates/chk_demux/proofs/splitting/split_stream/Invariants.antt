@@ -1,7 +1,7 @@
 use Rattle.std.proofs.Common.{◌≡◌, ℕ, Bool, List, Ok}
 use Rattle.std.specs.Prelude.{codes}
 use Rattle.chk_site.specs.Site.{Adds}
-use Rattle.chk_site.specs.Runs.{Leads}
+use Rattle.chk_site.specs.Runs.{anyhow, Leads}
 use Rattle.chk_chunk.specs.Keys.{Chunk}
 use Rattle.chk_world.specs.Places.{As}
 use Rattle.chk_world.specs.Sight.{job, Sight, AtJob}
@@ -9,6 +9,9 @@ use Rattle.chk_world.specs.JobSteps.{ReadsOrWrites}
 use Rattle.chk_book.specs.Folders.{segment_name}
 use Rattle.chk_book.specs.Books.{book_view}
 use Rattle.chk_book.specs.Views.{end_view}
+use Rattle.chk_merge.specs.Segments.{HasFiles, SparesFiles, AreSettled}
+use Rattle.chk_merge.specs.Merging.{AreApart}
+use Rattle.chk_parts.specs.Gathering.{held}
 use Rattle.chk_parts.specs.Records.{AreRecords}
 use Rattle.chk_parts.specs.Fetching.{AreWindows}
 use Rattle.chk_splitter.specs.Splitting.{fresh}
@@ -25,6 +28,11 @@ invariant-loop-index g l = record {
       → Adds (g.S.Site.told l.fn.site) (g.S.Site.told l.site) (Leads (As stamped job)
       (AtJob stamped (λ u. IsOutput v outs l.fn.output u × AreWindows v l.files l.fn.reader))
       (AtJob stamped (SplitSoFar v l.files l.heads cs outs (end_view l.end) l.from l.index b l.output l.reader l.splitter)));
+  raw_so_far : (v : Sight) (cs : List Chunk) → AreRecords v l.files l.heads cs → AreSettled l.files (held v)
+      → AreApart l.files (segment_name (codes "demux") (book_view l.book).next)
+      → Adds (g.S.Site.told l.fn.site) (g.S.Site.told l.site) (Leads (anyhow (SparesFiles l.files))
+      (λ h. HasFiles l.files (held v) h × AreWindows v l.files l.fn.reader)
+      (λ h. HasFiles l.files (held v) h × AreWindows v l.files l.reader));
   writer : IsWriter (book_view l.book).next l.output.segmenter;
   works : Adds (g.S.Site.told l.fn.site) (g.S.Site.told l.site)
       (Worked {T = Unit {0}} (ReadsOrWrites (segment_name (codes "demux") (book_view l.book).next)) (Ok tt));

@@ -3,7 +3,7 @@ use Rattle.std.specs.Prelude.{codes, slice_index_or}
 use Rattle.std.proofs.lemmas.Result.{err_from_is_err_and}
 use Rattle.std.proofs.lemmas.List.{take_all, length-map}
 use Rattle.chk_site.specs.Site.{Adds}
-use Rattle.chk_site.proofs.Leads.{leads_none, leads_as}
+use Rattle.chk_site.proofs.Leads.{leads_none, leads_as, leads_then}
 use Rattle.chk_world.specs.Places.{As}
 use Rattle.chk_world.specs.Sight.{job, Sight, AtJob, sight}
 use Rattle.chk_world.specs.JobSteps.{ReadsOrWrites}
@@ -16,6 +16,7 @@ use Rattle.chk_parts.proofs.CutLists.{nothing_windows}
 use Rattle.chk_demux.specs.Working.{Worked}
 use Rattle.chk_demux.specs.Writes.{IsOutput}
 use Rattle.chk_demux.specs.Splitting.{split_from, RunsSo, stream_chunks, stream_left, all_chunks, all_left}
+use Rattle.chk_demux.proofs.RawReads.{on_done, none_damaged}
 use Rattle.chk_demux.proofs.Ends.{at_as, no_more}
 use Rattle.chk_demux.proofs.Streams.{seen_at, chunks_more, left_more, stream_fails, stream_done}
 use Rattle.chk_demux.proofs.Works.{works_none, works_then, works_result, works_value, works_end}
@@ -31,6 +32,9 @@ loop-end-init g c = record {
         alive = λ running.
             (k.alive running, nothing_windows v c.args.files.now c.new-reader.result c.new-reader.ensures, refl);
       });
+  raw_so_far = λ v cs records settled apart.
+      leads_none (g.S.Site.told c.args.site.now)
+      (λ h z. (z, nothing_windows v c.args.files.now c.new-reader.result c.new-reader.ensures));
   writer = c.requires.writer;
   works = works_none (ReadsOrWrites (segment_name (codes "demux") (book_view c.args.book.now).next)) tt (g.S.Site.told c.args.site.now);
   count = refl;
@@ -81,6 +85,10 @@ loop-end-preserved g c =
           )) h k)
           (stream_done stamped v b.next w A P P X R c.split_stream.result first second c.split_stream.ensures.works
           c.in_ok-more.more c.in_ok-more.was);
+      raw_so_far = λ v cs records settled apart.
+          leads_then (l.invariant.raw_so_far v cs records settled apart)
+          (on_done v files heads cs records settled l.reader c.split_stream.new.reader c.split_stream.result
+          c.in_ok-more.more c.in_ok-more.was (c.split_stream.ensures.raw v cs records settled apart));
       writer = c.in_ok-more.ensures.writer;
       works = works_then (ReadsOrWrites w) (Ok tt) (Ok tt) l.invariant.works
           (works_value ℕ (Unit {0}) (ReadsOrWrites w) c.in_ok-more.more tt
@@ -206,3 +214,27 @@ returns-clause-told g c stamped v cs records free runs rise rises =
           );
     })
     (l.invariant.so_far stamped v cs records free runs rise rises)
+
+pub returns-in_err-more-clause-raw : goal.returns-in_err-more-clause-raw
+returns-in_err-more-clause-raw g c v cs records settled apart =
+    let p = err_from_is_err_and c.from_residual.result c.from_residual.ensures.1 in
+    let l = c.loop-end in
+    rw (p.1, p.2)
+    (none_damaged v c.args.files.now c.args.heads.now cs records settled ℕ c.split_stream.new.reader c.split_stream.result
+    c.in_err-more.field-0.0 c.in_err-more.was
+    (leads_then (l.invariant.raw_so_far v cs records settled apart)
+    (c.split_stream.ensures.raw v cs records settled apart)))
+
+pub returns-in_err-left-clause-raw : goal.returns-in_err-left-clause-raw
+returns-in_err-left-clause-raw g c v cs records settled apart =
+    let p = err_from_is_err_and c.from_residual-in_err-left.result c.from_residual-in_err-left.ensures.1 in
+    let l = c.loop-end in
+    rw (p.1, p.2, c.in_err-left.ensures.only)
+    (leads_as (λ h z. z) (λ h z. tt)
+    (leads_then (l.invariant.raw_so_far v cs records settled apart)
+    (on_done v c.args.files.now c.args.heads.now cs records settled l.reader c.split_stream.new.reader c.split_stream.result
+    c.in_ok-more.more c.in_ok-more.was (c.split_stream.ensures.raw v cs records settled apart))))
+
+pub returns-clause-raw : goal.returns-clause-raw
+returns-clause-raw g c v cs records settled apart =
+    leads_as (λ h z. z) (λ h z. tt) (c.loop-end.invariant.raw_so_far v cs records settled apart)

@@ -1,7 +1,7 @@
 use Rattle.std.proofs.Common.{◌≡◌, ℕ, List, [], take, Ok}
 use Rattle.std.specs.Prelude.{codes, IsTrue}
 use Rattle.chk_site.specs.Site.{Adds}
-use Rattle.chk_site.specs.Runs.{Leads}
+use Rattle.chk_site.specs.Runs.{anyhow, Leads}
 use Rattle.chk_chunk.specs.Keys.{Chunk}
 use Rattle.chk_world.specs.Books.{ends_rise}
 use Rattle.chk_world.specs.Places.{As}
@@ -9,6 +9,9 @@ use Rattle.chk_world.specs.Sight.{job, Sight, AtJob}
 use Rattle.chk_world.specs.JobSteps.{ReadsOrWrites}
 use Rattle.chk_book.specs.Folders.{segment_name}
 use Rattle.chk_book.specs.Books.{book_view}
+use Rattle.chk_merge.specs.Segments.{HasFiles, SparesFiles, AreSettled}
+use Rattle.chk_merge.specs.Merging.{AreApart}
+use Rattle.chk_parts.specs.Gathering.{held}
 use Rattle.chk_parts.specs.Records.{AreRecords}
 use Rattle.chk_parts.specs.Fetching.{AreWindows}
 use Rattle.chk_demux.specs.Working.{Worked}
@@ -26,6 +29,10 @@ invariant-loop-end g l = record {
       (AtJob stamped (λ u. IsOutput v (all_chunks l.types (book_view l.book) l.heads cs (take l.end-index (book_view l.archive).ends)) l.output u
       × AreWindows v l.files l.reader
       × (l.left ≡ all_left l.types (book_view l.book) cs (take l.end-index (book_view l.archive).ends)))));
+  raw_so_far : (v : Sight) (cs : List Chunk) → AreRecords v l.files l.heads cs → AreSettled l.files (held v)
+      → AreApart l.files (segment_name (codes "demux") (book_view l.book).next)
+      → Adds (g.S.Site.told l.fn.site) (g.S.Site.told l.site) (Leads (anyhow (SparesFiles l.files))
+      (HasFiles l.files (held v)) (λ h. HasFiles l.files (held v) h × AreWindows v l.files l.reader));
   writer : IsWriter (book_view l.book).next l.output.segmenter;
   works : Adds (g.S.Site.told l.fn.site) (g.S.Site.told l.site)
       (Worked {T = Unit {0}} (ReadsOrWrites (segment_name (codes "demux") (book_view l.book).next)) (Ok tt));

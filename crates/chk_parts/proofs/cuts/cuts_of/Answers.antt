@@ -1,17 +1,22 @@
-use Rattle.std.proofs.Common.{[], subst, sym}
-use Rattle.chk_parts.specs.Cuts.{AreMoved}
-use Rattle.chk_parts.proofs.Dealt.{moved_then}
+use Rattle.std.proofs.Common.{flat_map}
+use Rattle.chk_parts.specs.Cuts.{span_cuts}
+use Rattle.chk_parts.proofs.Passed.{span_more, spans_all}
 use Rattle.chk_parts.proofs.cuts.cuts_of.Goals as goal
 
-pub loop-preserved : goal.loop-preserved
-loop-preserved c =
-    let l = c.loop in
-    let is = c.in_ok-rests-2.ensures in
+pub loop-span-preserved : goal.loop-span-preserved
+loop-span-preserved c =
+    let l = c.loop-span in
     let heads = c.args.heads.now in
-    let rests = c.as_slice-in-loop.result.now in
+    let spans = c.args.spans.now in
     record {
-      each = moved_then heads [] l.cuts c.push_window.new.cuts c.args.spans.now rests c.in_ok-rests-2.rests.items
-          (subst (AreMoved heads [] l.cuts c.args.spans.now) (sym c.as_slice-in-loop.ensures.value) l.invariant.each) is.each;
-      ends = is.ends;
-      within = is.within l.invariant.within;
+      so_far = span_more (span_cuts heads) (flat_map (span_cuts heads) spans) l.cuts spans l.span-index l.invariant.so_far
+          c.push_span.new.cuts _ c.loop-span-test.true c.in_ok-push_span.ensures.each;
+      within = c.in_ok-push_span.ensures.within;
     }
+
+pub returns-clause-each : goal.returns-clause-each
+returns-clause-each c =
+    let l = c.loop-span in
+    let heads = c.args.heads.now in
+    spans_all (span_cuts heads) (flat_map (span_cuts heads) c.args.spans.now) l.cuts c.args.spans.now l.span-index
+    l.invariant.so_far c.loop-span-test.false

@@ -1,11 +1,9 @@
-use Rattle.std.proofs.Common.{◌≤◌, [], All, length}
-use Rattle.chk_plan.specs.declared.spans.Span.{Span}
-use Rattle.chk_parts.specs.Cuts.{AreWithin, AreMoved}
+use Rattle.std.proofs.Common.{◌≡◌, ◌++◌, length, drop, flat_map}
+use Rattle.chk_parts.specs.Cuts.{span_cuts, AreWithin}
 use Rattle.chk_parts.proofs.cuts.cuts_of.Given as goal
 
-abbrev pub invariant-loop : goal.invariant-loop
-invariant-loop l = record {
-  each : AreMoved l.heads [] l.cuts l.spans l.rests.items;
-  ends : All (λ (s : Span). s.end ≤ length l.heads) l.rests.items;
+abbrev pub invariant-loop-span : goal.invariant-loop-span
+invariant-loop-span l = record {
+  so_far : l.cuts ++ flat_map (span_cuts l.heads) (drop l.span-index l.spans) ≡ flat_map (span_cuts l.heads) l.spans;
   within : AreWithin (length l.heads) l.cuts;
 }

@@ -2,6 +2,7 @@ use Rattle.std.proofs.Common.{◌≡◌, ◌∙◌, [], ap, subst}
 use Rattle.std.specs.Prelude.{slice_index_or}
 use Rattle.chk_site.specs.Site.{Adds}
 use Rattle.chk_site.specs.Runs.{Leads, anyhow}
+use Rattle.chk_site.proofs.Leads.{leads_none}
 use Rattle.chk_world.specs.JobSteps.{SparesFile}
 use Rattle.chk_heads.specs.Heads.{Head}
 use Rattle.chk_plan.specs.Passes.{head_in}
@@ -24,3 +25,6 @@ returns-in-Some-clause-raw g c v d sound is =
     subst (λ w. Adds (g.S.Site.told c.args.site.now) (g.S.Site.told c.fetch_by_head.new.site)
     (Leads (anyhow (SparesFile w)) (CanRead most w f h r) (HasRead w f h t c.fetch_by_head.result))) name
     (c.fetch_by_head.ensures.raw most f low small))
+
+pub returns-in-None-clause-stays : goal.returns-in-None-clause-stays
+returns-in-None-clause-stays g c other file = leads_none (g.S.Site.told c.args.site.now) (λ h k. tt)

@@ -16,6 +16,8 @@ use Rattle.chk_heads.specs.Heads.{Head}
 use Rattle.chk_heads.specs.Pieces.{AsksInPieces}
 use Rattle.chk_heads.specs.declared.fault.JobFault.TheVariants.{NoMemory}
 use Rattle.chk_heads.proofs.Gathering.{every_then, no_failure}
+use Rattle.chk_merge.specs.Segments.{HasFiles, SparesFiles}
+use Rattle.chk_merge.proofs.AllGathered.{HasHeads as HeadsSoFar, none_gathered, one_more, bad_one, not_all, all_gathered as gathered_so}
 use Rattle.chk_parts.specs.Gathering.{held, IsSoundFile}
 use Rattle.chk_parts.proofs.OneFile.{Knows}
 use Rattle.chk_parts.proofs.AllFiles.{HasHeads, one_more_file, not_gathered, none_yet, all_gathered, no_number, fails_later}
@@ -28,6 +30,12 @@ loop-name-init g c = record {
       (Leads (As stamped job) (Knows stamped v) (HasHeads stamped v [] r)))
       (sym c.new-heads.ensures)
       (none_yet stamped v (g.S.Site.told c.args.site.now));
+  raw_so_far = λ held settled.
+      subst (λ r. Adds (g.S.Site.told c.args.site.now) (g.S.Site.told c.args.site.now)
+      (Leads (anyhow (SparesFiles c.args.names.now)) (HasFiles c.args.names.now held)
+      (HeadsSoFar chunk_limit c.args.names.now held [] r)))
+      (sym c.new-heads.ensures)
+      (none_gathered chunk_limit c.args.names.now held (g.S.Site.told c.args.site.now));
   own = adds_none (g.S.Site.told c.args.site.now) (Every (IsOf ReadsFile)) (λ history. tt);
   pieces = adds_none (g.S.Site.told c.args.site.now) (Every AsksInPieces) (λ history. tt);
   number = refl;
@@ -58,6 +66,23 @@ returns-in_err-gather-clause-told g c stamped v sound =
     (not_gathered stamped v ws w s l.heads c.gather.new.self c.gather.result
     (l.invariant.so_far stamped v sound) raw
     (c.gather.ensures.own c.requires) names c.in_err-gather.field-0.0 c.in_err-gather.was)
+
+pub returns-in_err-gather-clause-raw : goal.returns-in_err-gather-clause-raw
+returns-in_err-gather-clause-raw g c held settled =
+    let p = err_from_is_err_and c.from_residual.result c.from_residual.ensures.1 in
+    let names = c.args.names.now in
+    let l = c.loop-name in
+    let w = c.as_str.result.now in
+    let same : slice_index_or names l.name-index w ≡ w =
+    subst (λ x. slice_index_or names l.name-index x ≡ x) (sym c.as_str.ensures.text)
+    (sym c.name-item.is) in
+    let size : l.file ≡ length (take l.name-index names) = l.invariant.number ∙ sym
+    (length-take-le l.name-index names (omega (arith, c.loop-name-test.true))) in
+    rw (p.1, p.2)
+    (bad_one chunk_limit names held l.name-index w settled c.loop-name-test.true same l.heads
+    c.gather.new.self l.file size (l.invariant.raw_so_far held settled)
+    (c.in_err-gather.ensures.own c.requires) c.in_err-gather.field-0.0
+    (c.in_err-gather.ensures.raw (held w) (settled w (l.name-index, c.loop-name-test.true, same)).1))
 
 pub returns-in_err-gather-clause-own : goal.returns-in_err-gather-clause-own
 returns-in_err-gather-clause-own g c =
@@ -97,6 +122,13 @@ returns-in_err-file-clause-told g c stamped v sound =
     (one_more_file stamped v ws w s l.heads c.gather.new.self c.gather.result
     (l.invariant.so_far stamped v sound) raw
     (c.gather.ensures.own c.requires) c.in_ok-gather.field-0 c.in_ok-gather.was))
+
+pub returns-in_err-file-clause-raw : goal.returns-in_err-file-clause-raw
+returns-in_err-file-clause-raw g c held settled =
+    let p = err_from_is_err_and c.from_residual-in_err-file.result c.from_residual-in_err-file.ensures.1 in
+    rw (p.1, p.2, c.in_err-file.ensures.err)
+    (not_all chunk_limit c.args.names.now held
+    (every_then AsksInPieces c.loop-name.invariant.pieces c.in_ok-gather.ensures.pieces))
 
 pub returns-in_err-file-clause-own : goal.returns-in_err-file-clause-own
 returns-in_err-file-clause-own g c =
@@ -140,6 +172,19 @@ loop-name-preserved g c = record {
       (one_more_file stamped v ws w s l.heads c.gather.new.self c.gather.result
       (l.invariant.so_far stamped v sound) raw
       (c.gather.ensures.own c.requires) c.in_ok-gather.field-0 c.in_ok-gather.was);
+  raw_so_far = λ held settled.
+      let names = c.args.names.now in
+      let l = c.loop-name in
+      let w = c.as_str.result.now in
+      let same : slice_index_or names l.name-index w ≡ w =
+      subst (λ x. slice_index_or names l.name-index x ≡ x) (sym c.as_str.ensures.text)
+      (sym c.name-item.is) in
+      let size : l.file ≡ length (take l.name-index names) = l.invariant.number ∙ sym
+      (length-take-le l.name-index names (omega (arith, c.loop-name-test.true))) in
+      one_more chunk_limit names held l.name-index w settled c.loop-name-test.true same l.heads
+      c.gather.new.self l.file size (l.invariant.raw_so_far held settled)
+      (c.in_ok-gather.ensures.own c.requires) c.in_ok-gather.field-0
+      (c.in_ok-gather.ensures.raw (held w) (settled w (l.name-index, c.loop-name-test.true, same)).1);
   own = every_then (IsOf ReadsFile) c.loop-name.invariant.own
       (c.in_ok-gather.ensures.own c.requires);
   pieces = every_then AsksInPieces c.loop-name.invariant.pieces c.in_ok-gather.ensures.pieces;
@@ -155,3 +200,10 @@ returns-clause-told g c stamped v sound =
     (Leads (As stamped job) (Knows stamped v) (HasHeads stamped v l c.loop-name.heads)))
     (take_all c.loop-name.name-index names c.loop-name-test.false)
     (c.loop-name.invariant.so_far stamped v sound))
+
+pub returns-clause-raw : goal.returns-clause-raw
+returns-clause-raw g c held settled =
+    let names = c.args.names.now in
+    gathered_so chunk_limit names held (take c.loop-name.name-index names) c.loop-name.heads
+    (take_all c.loop-name.name-index names c.loop-name-test.false)
+    (c.loop-name.invariant.raw_so_far held settled)

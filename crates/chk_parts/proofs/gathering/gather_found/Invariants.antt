@@ -1,7 +1,11 @@
 use Rattle.std.proofs.Common.{◌≡◌, ℕ, List, take}
 use Rattle.chk_site.specs.History.{Every}
 use Rattle.chk_site.specs.Site.{Adds}
-use Rattle.chk_site.specs.Runs.{Leads}
+use Rattle.chk_site.specs.Runs.{anyhow, Leads}
+use Rattle.chk_site.specs.Files.{Files}
+use Rattle.chk_chunk.specs.Keys.{chunk_limit}
+use Rattle.chk_merge.specs.Segments.{HasFiles, SparesFiles, AreSettled}
+use Rattle.chk_merge.proofs.AllGathered.{HasHeads as HeadsSoFar}
 use Rattle.chk_world.specs.Places.{As}
 use Rattle.chk_world.specs.Sight.{job, Sight}
 use Rattle.chk_world.specs.JobSteps.{IsOf, ReadsFile}
@@ -17,6 +21,9 @@ invariant-loop-name g l = record {
       → Adds (g.S.Site.told l.fn.site) (g.S.Site.told l.site)
       (Leads (As stamped job) (Knows stamped v)
       (HasHeads stamped v (take l.name-index l.names) l.heads));
+  raw_so_far : (held : Files) → AreSettled l.names held → Adds (g.S.Site.told l.fn.site) (g.S.Site.told l.site)
+      (Leads (anyhow (SparesFiles l.names)) (HasFiles l.names held)
+      (HeadsSoFar chunk_limit l.names held (take l.name-index l.names) l.heads));
   own : Adds (g.S.Site.told l.fn.site) (g.S.Site.told l.site) (Every (IsOf ReadsFile));
   pieces : Adds (g.S.Site.told l.fn.site) (g.S.Site.told l.site) (Every AsksInPieces);
   number : l.file ≡ l.name-index;

@@ -13,7 +13,7 @@ use Rattle.chk_heads.proofs.Gathering.{every_then}
 use Rattle.chk_book.specs.Folders.{segment_name}
 use Rattle.chk_parts.specs.Cuts.{cut_chunks}
 use Rattle.chk_parts.specs.Writes.{IsFree, IsSoFar}
-use Rattle.chk_parts.proofs.CutLists.{nothing_windows, is_record, D, cut_more, cut_fails}
+use Rattle.chk_parts.proofs.CutLists.{cut_more, cut_fails}
 use Rattle.chk_parts.proofs.AllFiles.{fails_later}
 use Rattle.chk_parts.proofs.writing.write_cuts.Goals as goal
 
@@ -27,7 +27,7 @@ loop-place-init g c =
             legal = k.legal;
             may_act = k.may_act;
             alive = λ runs.
-                (k.alive runs, nothing_windows v c.args.files.now c.new-reader.result c.new-reader.ensures);
+                (k.alive runs, c.new-shelf.ensures v c.args.files.now c.args.heads.now);
           });
       segment = c.requires.segment;
       number = refl;
@@ -46,17 +46,14 @@ returns-in_err-write_cut-clause-told g c stamped v cs records free =
     let l = c.loop-place in
     let A : History → Type 0 = AtJob stamped (IsSoFar v [] c.args.segmenter.now) in
     let t = c.write_cut.new.segmenter in
-    let q = c.write_cut.new.reader in
+    let q = c.write_cut.new.shelf in
     let low = c.loop-place-test.true in
-    let d = D stamped v files heads cs cuts records c.requires.cuts l.place low A l.segmenter t l.reader q c.write_cut.result in
-    let is = is_record stamped v files heads cs cuts records c.requires.cuts l.place low A l.segmenter t
-    l.reader q c.write_cut.result in
     let now : IsFree v files l.segmenter.number = subst (IsFree v files) (sym l.invariant.number) free in
     rw (p.1, p.2)
     (cut_fails stamped v files heads cs cuts records c.requires.cuts l.place low A l.segmenter t
-    l.reader q c.write_cut.result (cut_chunks cs cuts) c.in_err-write_cut.field-0.0 c.in_err-write_cut.was
+    l.shelf q c.write_cut.result (cut_chunks cs cuts) c.in_err-write_cut.field-0.0 c.in_err-write_cut.was
     (l.invariant.so_far stamped v cs records free)
-    (c.write_cut.ensures.told stamped v d (cut_chunks cs (take l.place cuts)) records.sound is now))
+    (c.write_cut.ensures.told stamped v cs (cut_chunks cs (take l.place cuts)) records now))
 
 pub returns-in_err-write_cut-clause-own : goal.returns-in_err-write_cut-clause-own
 returns-in_err-write_cut-clause-own g c =
@@ -82,20 +79,16 @@ loop-place-preserved g c =
     let cuts = c.args.cuts.now in
     let l = c.loop-place in
     let t = c.write_cut.new.segmenter in
-    let q = c.write_cut.new.reader in
+    let q = c.write_cut.new.shelf in
     let low = c.loop-place-test.true in
     record {
       so_far = λ stamped v cs records free.
           let A : History → Type 0 = AtJob stamped (IsSoFar v [] c.args.segmenter.now) in
-          let d = D stamped v files heads cs cuts records c.requires.cuts l.place low A l.segmenter t
-          l.reader q c.write_cut.result in
-          let is = is_record stamped v files heads cs cuts records c.requires.cuts l.place low A l.segmenter t
-          l.reader q c.write_cut.result in
           let now : IsFree v files l.segmenter.number = subst (IsFree v files) (sym l.invariant.number) free in
           cut_more stamped v files heads cs cuts records c.requires.cuts l.place low A l.segmenter t
-          l.reader q c.write_cut.result c.in_ok-write_cut.field-0 c.in_ok-write_cut.was
+          l.shelf q c.write_cut.result c.in_ok-write_cut.field-0 c.in_ok-write_cut.was
           (l.invariant.so_far stamped v cs records free)
-          (c.write_cut.ensures.told stamped v d (cut_chunks cs (take l.place cuts)) records.sound is now);
+          (c.write_cut.ensures.told stamped v cs (cut_chunks cs (take l.place cuts)) records now);
       segment = c.in_ok-write_cut.ensures.segment;
       number = c.in_ok-write_cut.ensures.number ∙ l.invariant.number;
       writer = c.write_cut.ensures.who ∙ l.invariant.writer;

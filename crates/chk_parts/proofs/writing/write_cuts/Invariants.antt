@@ -10,7 +10,7 @@ use Rattle.chk_heads.specs.Pieces.{AsksInPieces}
 use Rattle.chk_book.specs.Folders.{segment_name}
 use Rattle.chk_parts.specs.Cuts.{cut_chunks}
 use Rattle.chk_parts.specs.Records.{AreRecords}
-use Rattle.chk_parts.specs.Fetching.{AreWindows}
+use Rattle.chk_parts.specs.Shelves.{AreKept}
 use Rattle.chk_parts.specs.Writes.{IsFree, IsForArchive, IsSoFar}
 use Rattle.chk_parts.proofs.writing.write_cuts.Given as goal
 
@@ -20,7 +20,7 @@ invariant-loop-place g l = record {
       → IsFree v l.files l.fn.segmenter.number → Adds (g.S.Site.told l.fn.site) (g.S.Site.told l.site)
       (Leads (As stamped job) (AtJob stamped (IsSoFar v [] l.fn.segmenter))
       (AtJob stamped (λ u. IsSoFar v (cut_chunks cs (take l.place l.cuts)) l.segmenter u
-      × AreWindows v l.files l.reader)));
+      × AreKept v l.files l.heads l.shelf)));
   segment : IsForArchive l.segmenter;
   number : l.segmenter.number ≡ l.fn.segmenter.number;
   writer : l.segmenter.who ≡ job;

@@ -1,0 +1,595 @@
+-- What the reads of a run lead to, whatever was told before.
+use Rattle.std.proofs.Common.{◌≡◌, ℕ, zero, suc, ◌+◌, ◌<◌, false, List, [], ◌∷◌, ◌++◌, length, map, Option, Some, None, Ok, Err, Result, refl, sym, subst, ◌∙◌, ap, ap₂, arith}
+use Rattle.std.specs.Prelude.{Contains, IfErr, codes, bytes_eq, slice_index_or}
+use Rattle.std.proofs.lemmas.Option.{same_Some}
+use Rattle.std.proofs.lemmas.List.{append_cancel_right}
+use Rattle.std.proofs.lemmas.List.Elements.{Contains-append_left}
+use Rattle.chk_site.specs.declared.acts.OutsideFault.{OutsideFault}
+use Rattle.chk_site.specs.declared.acts.OutsideFault.TheVariants.{Outside as site_failed, NoMemory as no_memory}
+use Rattle.chk_site.specs.Acts.{Deed, touches}
+use Rattle.chk_site.specs.Files.{File, Files, IsSettled}
+use Rattle.chk_site.specs.Effect.{IsSmallFile}
+use Rattle.chk_site.specs.History.{Step, History, Every, Others}
+use Rattle.chk_site.specs.Site.{Adds}
+use Rattle.chk_site.specs.Runs.{anyhow, Leads}
+use Rattle.chk_site.proofs.Runs.{adds_as}
+use Rattle.chk_site.proofs.Leads.{leads_as, leads_then, owned_anyhow}
+use Rattle.chk_replace.specs.Load.{Has}
+use Rattle.chk_chunk.specs.Keys.{Chunk, chunk_limit}
+use Rattle.chk_world.specs.ArchiveRuns.{in_order}
+use Rattle.chk_world.specs.Books.{Segment, Book, AllChunks, book_in}
+use Rattle.chk_world.specs.Jobs.{segment_list}
+use Rattle.chk_world.specs.JobSteps.{IsOf, ReadsFile, SparesFile, WritesTo, removes, creates, appends, syncs}
+use Rattle.chk_world.specs.Names.{ArchiveFolder, SegmentFile, read, spell}
+use Rattle.chk_world.specs.Sight.{Sight}
+use Rattle.chk_world.proofs.Each.{each_at, later_one}
+use Rattle.chk_world.proofs.NameLemmas.{read-spell}
+use Rattle.chk_world.proofs.Segments.{counts_in, none_in}
+use Rattle.chk_heads.specs.Heads.{Head, heads_in}
+use Rattle.chk_heads.specs.Order.{no_head, in_head_order}
+use Rattle.chk_heads.specs.Pieces.{bytes_in}
+use Rattle.chk_heads.specs.Faults.{job_fault, IsOfWrite, IsOfBegin}
+use Rattle.chk_heads.specs.declared.fault.JobFault.{JobFault}
+use Rattle.chk_heads.specs.declared.fault.JobFault.TheVariants.{Outside, Damaged, Spent, NoMemory}
+use Rattle.chk_book.specs.Books.{book_view}
+use Rattle.chk_book.specs.Folders.{segment_name}
+use Rattle.chk_book.specs.Loaded.{LoadedBook, IsBookOf, book_result, file_bytes}
+use Rattle.chk_book.specs.declared.book.Book.{Book as Struct}
+use Rattle.chk_merge.specs.Segments.{names_of, HasFiles, SparesFiles, AreSettled, IsSound, heads_from}
+use Rattle.chk_merge.specs.Merging.{SoundHeads, AreApart}
+use Rattle.chk_merge.specs.declared.reader.RecordReader.{RecordReader}
+use Rattle.chk_merge.proofs.Frames.{reads_quiet, stays_so, spares_one, among}
+use Rattle.chk_parts.specs.Cuts.{no_chunk}
+use Rattle.chk_parts.specs.Gathering.{held as known_file, held_at, CanBeRead, own_segment, IsSoundFile, AreSound, heads_of}
+use Rattle.chk_parts.specs.Records.{IsRecordOf, AreRecords, found_in}
+use Rattle.chk_parts.specs.Fetching.{head_file, IsRecordAt, AreWindows, CanFetch, Fetched}
+use Rattle.chk_parts.proofs.CutLists.{zip_at}
+use Rattle.chk_parts.proofs.Fetches.{one_of_files}
+use Rattle.chk_parts.proofs.FoundRecords.{records_in_order}
+use Rattle.chk_parts.proofs.OneSegment.{segment_spelled}
+use Rattle.chk_demux.specs.Beginning.{Begins, starts, only_reads}
+use Rattle.chk_demux.specs.Damage.{archive_name, demux_name, archive_book, reads_of, RunsAll, ReadsWell, no_archive_book, no_demux_book, bad_records, AreBooks, LoadedBooks, HasCounts, ReadsOn, NotDamaged, ReadSoundly, ReadAll}
+use Rattle.chk_demux.specs.declared.beginning.Books.{Books}
+
+-- ---- frames
+
+-- own calls that don't touch the files leave them
+pub files_stay : (K : Deed → Type 0) (names : List (List ℕ)) (held : Files)
+    → ((call : Deed) → K call → (w : List ℕ) → Contains names w → touches call w ≡ false) → AreSettled names held
+    → {old new : Option History} → Adds old new (Every (IsOf K))
+    → Adds old new (Leads (anyhow (SparesFiles names)) (HasFiles names held) (HasFiles names held))
+files_stay K names held quiet settled told =
+    adds_as (Leads (anyhow (SparesFiles names)) (HasFiles names held) (HasFiles names held)) told
+    (λ added history every. record {
+      leads = λ s h w one.
+          stays_so K w (held w) (λ call k. quiet call k w one) (settled w one).0 added history every
+          (spares_one names w one added history s) (h w one);
+      own = owned_anyhow added history;
+    })
+
+spares_fewer : (all some : List (List ℕ)) → ((w : List ℕ) → Contains some w → Contains all w)
+    → (added history : History) → Others (SparesFiles all) added history → Others (SparesFiles some) added history
+spares_fewer all some within [] history others = tt
+spares_fewer all some within (step ∷ added) history others = (
+  spares_fewer all some within added history others.0,
+  λ theirs w one. others.1 theirs w (within w one),
+)
+
+-- what some files lead to, all of them lead to
+pub among_more : (all some : List (List ℕ)) (held : Files) → ((w : List ℕ) → Contains some w → Contains all w)
+    → {B : History → Type 0} {old new : Option History}
+    → Adds old new (Leads (anyhow (SparesFiles some)) (HasFiles some held) B)
+    → Adds old new (Leads (anyhow (SparesFiles all)) (HasFiles all held) B)
+among_more all some held within {B = B} told =
+    adds_as (Leads (anyhow (SparesFiles all)) (HasFiles all held) B) told
+    (λ added history x. record {
+      leads = λ s h. x.leads (spares_fewer all some within added history s) (λ w one. h w (within w one));
+      own = owned_anyhow added history;
+    })
+
+-- what a fact leads to, of calls that are made anyhow
+pub given : {S : History → Step → Type 0} (X : Type 0) {B C : History → Type 0} {Q : History → History → Type 0}
+    {mid new : Option History} → Adds mid new Q → (X → Adds mid new (Leads (anyhow S) B C))
+    → Adds mid new (Leads (anyhow S) (λ h. X × B h) C)
+given {S = S} X {B = B} {C = C} first second = record {
+  told = λ history e.
+      let y = first.told history e in (
+        y.0,
+        y.1,
+        record {
+          leads = λ s h.
+              let w = (second h.0).told history e in
+              let same : w.0 ≡ y.0 = append_cancel_right w.0 y.0 history
+              (same_Some (w.0 ++ history) (y.0 ++ history) (sym w.1 ∙ y.1)) in
+              let l : Leads (anyhow S) B C y.0 history = subst (λ (a : History). Leads (anyhow S) B C a history) same w.2 in
+              l.leads s h.1;
+          own = owned_anyhow y.0 history;
+        },
+      );
+  untold = first.untold;
+}
+
+-- ---- writes
+
+pub write_begins : (fault : JobFault) → IsOfWrite fault → IsOfBegin fault
+write_begins (Outside call) is = tt
+write_begins (Damaged name at) is = is
+write_begins (Spent n) is = tt
+write_begins NoMemory is = tt
+
+pub memory_begins : {T : Type 0} (r : Result T JobFault) → IfErr r (λ fault. fault ≡ NoMemory) → IfErr r IsOfBegin
+memory_begins (Ok value) is = tt
+memory_begins (Err (Outside call)) is = tt
+memory_begins (Err (Damaged name at)) is = absurd (cc)
+memory_begins (Err (Spent n)) is = tt
+memory_begins (Err NoMemory) is = tt
+
+pub call_begins : (fault : OutsideFault) → IsOfBegin (job_fault fault)
+call_begins (site_failed call) = tt
+call_begins no_memory = tt
+
+quiet_writes : (names : List (List ℕ)) (s : List ℕ) → AreApart names s → (call : Deed) → WritesTo s call → (w : List ℕ)
+    → Contains names w → touches call w ≡ false
+quiet_writes names s apart call removes w one = apart w one
+quiet_writes names s apart call creates w one = apart w one
+quiet_writes names s apart call (appends piece) w one = apart w one
+quiet_writes names s apart call syncs w one = apart w one
+
+-- ---- one record, and several
+
+module _ (v : Sight) (files : List (List ℕ)) (heads : List Head) (cs : List Chunk) (records : AreRecords v files heads cs)
+    (settled : AreSettled files (known_file v)) where
+  abbrev Sp' : History → Step → Type 0
+  Sp' = SparesFiles files
+
+  abbrev Hs' : History → Type 0
+  Hs' = HasFiles files (known_file v)
+
+  abbrev pub On : RecordReader → History → Type 0
+  On r h = Hs' h × AreWindows v files r
+
+  module _ (i : ℕ) (low : i < length heads) (r t : RecordReader) (result : Result (Unit {0}) JobFault) {old mid : Option History}
+      (raw : (v : Sight) (c : Chunk) → AreSound v files → IsRecordAt v files heads i c
+      → Adds old mid (Leads (anyhow (SparesFile (head_file files heads i))) (CanFetch v files heads i r)
+      (Fetched v files heads i c t result)))
+      (own : Adds old mid (Every (IsOf ReadsFile))) where
+    abbrev D : Chunk
+    D = slice_index_or cs i no_chunk
+
+    is : IsRecordAt v files heads i D
+    is = zip_at (IsRecordOf v files) heads cs records.each i low no_head no_chunk
+
+    abbrev W : List ℕ
+    W = head_file files heads i
+
+    fetched : Adds old mid (Leads (anyhow Sp') (On r) (λ h. Hs' h × Fetched v files heads i D t result h))
+    fetched =
+        adds_as (Leads (anyhow Sp') (On r) (λ h. Hs' h × Fetched v files heads i D t result h))
+        (among files (known_file v) W settled (one_of_files v files heads i D records.sound is)
+        (adds_as (Leads (anyhow (SparesFile W)) (Has W (known_file v W))
+        (λ h. AreWindows v files r → Fetched v files heads i D t result h)) (raw v D records.sound is)
+        (λ added history l. record { leads = λ others h x. l.leads others (h, x); own = owned_anyhow added history })) own)
+        (λ added history x. record {
+          leads = λ s h. let y = x.leads s h.0 in (y.0, y.1 h.1);
+          own = owned_anyhow added history;
+        })
+
+    pub fetch_refused : (U : Type 0) (other : RecordReader) (fault : JobFault) → result ≡ Err fault
+        → Adds old mid (Leads (anyhow Sp') (On r) (ReadsOn {T = U} v files other (Err fault)))
+    fetch_refused U other fault bad =
+        leads_as (λ h z. z) (λ h z. go fault h (subst (λ x. Fetched v files heads i D t x h) bad z.1)) fetched
+      where
+        go : (fault : JobFault) (h : History) → Fetched v files heads i D t (Err fault) h
+            → ReadsOn {T = U} v files other (Err fault) h
+        go (Outside call) h z = tt
+        go (Damaged name at) h z = z
+        go (Spent n) h z = tt
+        go NoMemory h z = tt
+
+    pub fetched_on : (value : Unit {0}) → result ≡ Ok value → Adds old mid (Leads (anyhow Sp') (On r) (On t))
+    fetched_on value good =
+        leads_as (λ h z. z)
+        (λ h z. (z.0, (subst (λ x. Fetched v files heads i D t x h) good z.1).0)) fetched
+
+  -- what is written leaves the files
+  pub written_on : (s : List ℕ) → AreApart files s → (t : RecordReader) (q : Result (Unit {0}) JobFault) → IfErr q IsOfBegin
+      → {mid new : Option History} → Adds mid new (Every (IsOf (WritesTo s)))
+      → Adds mid new (Leads (anyhow Sp') (On t) (ReadsOn v files t q))
+  written_on s apart t q only own =
+      adds_as (Leads (anyhow Sp') (On t) (ReadsOn v files t q))
+      (files_stay (WritesTo s) files (known_file v) (quiet_writes files s apart) settled own)
+      (λ added history x. record {
+        leads = λ o h. go q only (added ++ history) (x.leads o h.0) h.1;
+        own = owned_anyhow added history;
+      })
+    where
+      go : (q : Result (Unit {0}) JobFault) → IfErr q IsOfBegin → (h : History) → Hs' h → AreWindows v files t
+          → ReadsOn v files t q h
+      go (Ok value) only h hs w = (hs, w)
+      go (Err (Outside call)) only h hs w = tt
+      go (Err (Damaged name at)) only h hs w = absurd only
+      go (Err (Spent n)) only h hs w = tt
+      go (Err NoMemory) only h hs w = tt
+
+  -- a refusal is one of what follows too, and what was done is what follows begins with
+  pub on_refused : {T : Type 0} (U : Type 0) (r t other : RecordReader) (q : Result T JobFault) (fault : JobFault) → q ≡ Err fault
+      → {old new : Option History} → Adds old new (Leads (anyhow Sp') (On r) (ReadsOn v files t q))
+      → Adds old new (Leads (anyhow Sp') (On r) (ReadsOn {T = U} v files other (Err fault)))
+  on_refused {T = T} U r t other q fault bad told =
+      leads_as (λ h z. z) (λ h z. go fault h (subst (λ x. ReadsOn v files t x h) bad z)) told
+    where
+      go : (fault : JobFault) (h : History) → ReadsOn {T = T} v files t (Err fault) h → ReadsOn {T = U} v files other (Err fault) h
+      go (Outside call) h z = tt
+      go (Damaged name at) h z = z
+      go (Spent n) h z = tt
+      go NoMemory h z = tt
+
+  pub on_done : {T : Type 0} (r t : RecordReader) (q : Result T JobFault) (value : T) → q ≡ Ok value
+      → {old new : Option History} → Adds old new (Leads (anyhow Sp') (On r) (ReadsOn v files t q))
+      → Adds old new (Leads (anyhow Sp') (On r) (On t))
+  on_done r t q value good told = leads_as (λ h z. z) (λ h z. subst (λ x. ReadsOn v files t x h) good z) told
+
+  -- of all streams
+  pub none_damaged : {T : Type 0} (U : Type 0) (t : RecordReader) (q : Result T JobFault) (fault : JobFault) → q ≡ Err fault
+      → {old new : Option History} → Adds old new (Leads (anyhow Sp') Hs' (ReadsOn v files t q))
+      → Adds old new (Leads (anyhow Sp') Hs' (NotDamaged {T = U} (Err fault)))
+  none_damaged {T = T} U t q fault bad told =
+      leads_as (λ h z. z) (λ h z. go fault h (subst (λ x. ReadsOn v files t x h) bad z)) told
+    where
+      go : (fault : JobFault) (h : History) → ReadsOn {T = T} v files t (Err fault) h → NotDamaged {T = U} (Err fault) h
+      go (Outside call) h z = tt
+      go (Damaged name at) h z = z
+      go (Spent n) h z = tt
+      go NoMemory h z = tt
+
+-- ---- the records
+
+-- bytes that aren't there are of no chunks
+none_is_some : (x : ℕ) (xs : List ℕ) → [] ≡ x ∷ xs → ⊥
+none_is_some x xs e = cc
+
+no_chunks : (most : ℕ) → AllChunks most [] → ⊥
+no_chunks most all =
+    none_is_some _ _ (all.form.is ∙ ap (λ l. l ++ all.form.entries) all.form.header.is)
+
+-- the job that knows just these files
+abbrev sight_of : Files → Sight
+sight_of files = record { listing = None; own = λ n. files (spell n); sinks = λ x. None }
+
+module _ (b : Book) (files : Files) (settled : AreSettled (names_of (codes "archive") b) files) (counts : HasCounts b) where
+  abbrev Names : List (List ℕ)
+  Names = names_of (codes "archive") b
+
+  abbrev V : Sight
+  V = sight_of files
+
+  module _ (g : Segment) (one : Contains b.segments g) where
+    abbrev Q : List ℕ
+    Q = segment_name (codes "archive") g.number
+
+    reads_it : read Q ≡ SegmentFile ArchiveFolder g.number
+    reads_it = ap read (segment_spelled g.number) ∙ read-spell (SegmentFile ArchiveFolder g.number) (counts g one)
+
+    held_it : known_file V Q ≡ files Q
+    held_it = ap (held_at V) reads_it ∙ ap files (sym (segment_spelled g.number))
+
+    sound_it : IsSmallFile (files Q) → AllChunks chunk_limit (bytes_in (files Q)) → IsSoundFile V Q
+    sound_it small all = go (files Q) refl all
+      where
+        go : (o : Option File) → files Q ≡ o → AllChunks chunk_limit (bytes_in o) → IsSoundFile V Q
+        go None e all = absurd (no_chunks chunk_limit all)
+        go (Some f) e all = record {
+          can = subst (CanBeRead V) (sym reads_it) (own_segment g.number (counts g one));
+          file = f;
+          there = held_it ∙ e;
+          chunks = all;
+          small = subst IsSmallFile (sym held_it) small;
+        }
+
+  -- of each name
+  of_name : (P : List ℕ → Type 0) → ((g : Segment) → Contains b.segments g → P (segment_name (codes "archive") g.number))
+      → (w : List ℕ) → Contains Names w → P w
+  of_name P each w one = go b.segments (λ g k. k) one
+    where
+      go : (gs : List Segment) → ((g : Segment) → Contains gs g → Contains b.segments g)
+          → Contains (map (λ (g : Segment). segment_name (codes "archive") g.number) gs) w → P w
+      go [] of k = absurd (none_in w k)
+      go (g ∷ gs) of (zero, low, is) = subst P is (each g (of g (0, omega arith, refl)))
+      go (g ∷ gs) of (suc k, low, is) = go gs (λ f m. of f (later_one g gs f m)) (k, omega (arith, low), is)
+
+  pub held_same : (w : List ℕ) → Contains Names w → known_file V w ≡ files w
+  held_same w one = of_name (λ w. known_file V w ≡ files w) held_it w one
+
+  named : (g : Segment) → Contains b.segments g → Contains Names (segment_name (codes "archive") g.number)
+  named g one = go b.segments one
+    where
+      go : (gs : List Segment) → Contains gs g
+          → Contains (map (λ (x : Segment). segment_name (codes "archive") x.number) gs) (segment_name (codes "archive") g.number)
+      go [] k = absurd (none_in g k)
+      go (x ∷ gs) (zero, low, is) = (0, omega arith, ap (λ (y : Segment). segment_name (codes "archive") y.number) is)
+      go (x ∷ gs) (suc k, low, is) =
+          later_one (segment_name (codes "archive") x.number)
+          (map (λ (y : Segment). segment_name (codes "archive") y.number) gs) (segment_name (codes "archive") g.number)
+          (go gs (k, omega (arith, low), is))
+
+  sound_all : RunsAll b files → AreSound V Names
+  sound_all x w one =
+      of_name (IsSoundFile V)
+      (λ g k.
+      let n = named g k in
+      sound_it g k (settled (segment_name (codes "archive") g.number) n).1
+      (each_at (IsSound chunk_limit files) Names (segment_name (codes "archive") g.number) x.sound n)) w one
+
+  apart : (k : ℕ) → AreApart Names (segment_name (codes "demux") k)
+  apart k w one = of_name (λ w. bytes_eq w (segment_name (codes "demux") k) ≡ false) (λ g m. refl) w one
+
+  heads_alike : (n : ℕ) (ws : List (List ℕ)) → ((w : List ℕ) → Contains ws w → known_file V w ≡ files w)
+      → heads_from chunk_limit files n ws ≡ heads_of V n ws
+  heads_alike n [] same = refl
+  heads_alike n (w ∷ ws) same =
+      ap₂ (λ o l. heads_in chunk_limit n (bytes_in o) ++ l) (sym (same w (0, omega arith, refl)))
+      (heads_alike (n + 1) ws (λ x one. same x (later_one w ws x one)))
+
+  records_of : RunsAll b files → (heads : List Head) → heads ≡ in_head_order (heads_from chunk_limit files 0 Names)
+      → AreRecords V Names heads (in_order (found_in V Names))
+  records_of x heads is =
+      subst (λ hs. AreRecords V Names hs (in_order (found_in V Names)))
+      (sym (is ∙ ap in_head_order (heads_alike 0 Names held_same))) (records_in_order V Names (sound_all x))
+
+  settled_v : AreSettled Names (known_file V)
+  settled_v w one = subst (λ o. IsSettled o × IsSmallFile o) (sym (held_same w one)) (settled w one)
+
+  abbrev Found : List Head → Type 0
+  Found heads = RunsAll b files × (heads ≡ in_head_order (heads_from chunk_limit files 0 Names))
+
+  soundly : {T : Type 0} (q : Result T JobFault) → RunsAll b files → (h : History) → NotDamaged q h → ReadSoundly b files q h
+  soundly (Ok value) x h n = x
+  soundly (Err (Outside call)) x h n = tt
+  soundly (Err (Damaged name at)) x h n = absurd n
+  soundly (Err (Spent k)) x h n = tt
+  soundly (Err NoMemory) x h n = tt
+
+  module _ (r : Result (List Head) JobFault) {old mid : Option History}
+      (told : Adds old mid (Leads (anyhow (SparesFiles Names)) (HasFiles Names files) (SoundHeads (codes "archive") b files r))) where
+    pub heads_refused : (U : Type 0) (fault : JobFault) → r ≡ Err fault
+        → Adds old mid (Leads (anyhow (SparesFiles Names)) (HasFiles Names files) (ReadSoundly {T = U} b files (Err fault)))
+    heads_refused U fault is =
+        leads_as (λ h z. z) (λ h z. go fault h (subst (λ x. SoundHeads (codes "archive") b files x h) is z)) told
+      where
+        go : (fault : JobFault) (h : History) → SoundHeads (codes "archive") b files (Err fault) h
+            → ReadSoundly {T = U} b files (Err fault) h
+        go (Outside call) h z = tt
+        go (Damaged name at) h z = z
+        go (Spent n) h z = tt
+        go NoMemory h z = tt
+
+    pub heads_read : {U : Type 0} (heads : List Head) → r ≡ Ok heads → (ns : List (List ℕ)) → ns ≡ Names → (k : ℕ)
+        → (q : Result U JobFault) {P : History → History → Type 0} {new : Option History} → Adds mid new P
+        → ((v : Sight) (cs : List Chunk) → AreRecords v ns heads cs → AreSettled ns (known_file v)
+        → AreApart ns (segment_name (codes "demux") k)
+        → Adds mid new (Leads (anyhow (SparesFiles ns)) (HasFiles ns (known_file v)) (NotDamaged q)))
+        → Adds old new (Leads (anyhow (SparesFiles Names)) (HasFiles Names files) (ReadSoundly b files q))
+    heads_read heads is ns are k q {new = new} made raw =
+        leads_then
+        (leads_as {B' = λ h. Found heads × HasFiles Names files h} (λ h z. z)
+        (λ h z.
+        let y = subst (λ x. SoundHeads (codes "archive") b files x h) is z in
+        ((record { sound = y.1; well = y.2 }, y.3), y.0)) told)
+        (given (Found heads) made (λ x.
+        leads_as (λ h z w one. z w one ∙ sym (held_same w one)) (λ h z. soundly q x.0 h z)
+        (subst (λ (ws : List (List ℕ)). AreRecords V ws heads (in_order (found_in V Names)) → AreSettled ws (known_file V)
+        → AreApart ws (segment_name (codes "demux") k)
+        → Adds mid new (Leads (anyhow (SparesFiles ws)) (HasFiles ws (known_file V)) (NotDamaged q))) are
+        (raw V (in_order (found_in V Names))) (records_of x.0 heads x.1) settled_v (apart k))))
+
+module _ (b : Book) (files : Files) {T : Type 0} (r : Result T JobFault) {old mid : Option History}
+    (told : Adds old mid (Leads (anyhow (SparesFiles (names_of (codes "archive") b))) (HasFiles (names_of (codes "archive") b) files)
+    (ReadSoundly b files r))) where
+  pub split_refused : (U : Type 0) (fault : JobFault) → r ≡ Err fault
+      → Adds old mid (Leads (anyhow (SparesFiles (names_of (codes "archive") b))) (HasFiles (names_of (codes "archive") b) files)
+      (ReadSoundly {T = U} b files (Err fault)))
+  split_refused U fault is =
+      leads_as (λ h z. z) (λ h z. go fault h (subst (λ x. ReadSoundly b files x h) is z)) told
+    where
+      go : (fault : JobFault) (h : History) → ReadSoundly {T = T} b files (Err fault) h
+          → ReadSoundly {T = U} b files (Err fault) h
+      go (Outside call) h z = tt
+      go (Damaged name at) h z = z
+      go (Spent n) h z = tt
+      go NoMemory h z = tt
+
+  pub split_on : {U : Type 0} (value : T) → r ≡ Ok value → (q : Result U JobFault) → IfErr q IsOfBegin
+      → {P : History → History → Type 0} {new : Option History} → Adds mid new P
+      → Adds old new (Leads (anyhow (SparesFiles (names_of (codes "archive") b))) (HasFiles (names_of (codes "archive") b) files)
+      (ReadSoundly b files q))
+  split_on {U = U} value is q only second =
+      leads_then
+      (leads_as {B' = λ h. RunsAll b files} (λ h z. z) (λ h z. subst (λ x. ReadSoundly b files x h) is z) told)
+      (adds_as (Leads (anyhow (SparesFiles (names_of (codes "archive") b))) (λ h. RunsAll b files) (ReadSoundly b files q)) second
+      (λ added history p. record {
+        leads = λ s x. go q only x (added ++ history);
+        own = owned_anyhow added history;
+      }))
+    where
+      go : (q : Result U JobFault) → IfErr q IsOfBegin → RunsAll b files → (h : History) → ReadSoundly b files q h
+      go (Ok value) only x h = x
+      go (Err (Outside call)) only x h = tt
+      go (Err (Damaged name at)) only x h = absurd only
+      go (Err (Spent n)) only x h = tt
+      go (Err NoMemory) only x h = tt
+
+-- ---- the books
+
+quiet_begins : (call : Deed) → Begins call → (w : List ℕ) → touches call w ≡ false
+quiet_begins call starts w = refl
+quiet_begins call (only_reads c k) w = reads_quiet w c k
+
+module _ (held : Files) (settled : AreSettled (reads_of held) held) where
+  abbrev All : List (List ℕ)
+  All = reads_of held
+
+  abbrev Sp : History → Step → Type 0
+  Sp = SparesFiles All
+
+  abbrev Hs : History → Type 0
+  Hs = HasFiles All held
+
+  a_in : Contains All archive_name
+  a_in = (0, omega arith, refl)
+
+  d_in : Contains All demux_name
+  d_in = (1, omega arith, refl)
+
+  pub small_archive : IsSmallFile (held archive_name)
+  small_archive = (settled archive_name a_in).1
+
+  pub small_demux : IsSmallFile (held demux_name)
+  small_demux = (settled demux_name d_in).1
+
+  -- the start leaves them
+  pub started : {old mid : Option History} → Adds old mid (Every (IsOf Begins)) → Adds old mid (Leads (anyhow Sp) Hs Hs)
+  started own = files_stay Begins All held (λ call k w one. quiet_begins call k w) settled own
+
+  pub not_started : (fault : OutsideFault) {P : History → History → Type 0} {old mid : Option History} → Adds old mid P
+      → Adds old mid (Leads (anyhow Sp) Hs (LoadedBooks held (Err (job_fault fault))))
+  not_started fault told =
+      adds_as (Leads (anyhow Sp) Hs (LoadedBooks held (Err (job_fault fault)))) told
+      (λ added history p. record { leads = λ s h. go fault (added ++ history); own = owned_anyhow added history })
+    where
+      go : (fault : OutsideFault) (h : History) → LoadedBooks held (Err (job_fault fault)) h
+      go (site_failed call) h = tt
+      go no_memory h = tt
+
+  -- the archive's book
+  module _ (r : Result Struct JobFault) {old mid m : Option History} (begun : Adds old mid (Leads (anyhow Sp) Hs Hs))
+      (raw : Adds mid m (Leads (anyhow (SparesFile archive_name)) (Has archive_name (held archive_name))
+      (LoadedBook (codes "archive") (held archive_name) (book_result r))))
+      (own : Adds mid m (Every (IsOf ReadsFile))) where
+    abbrev First : Result Struct JobFault → History → Type 0
+    First x h = Hs h × LoadedBook (codes "archive") (held archive_name) (book_result x) h
+
+    loaded : Adds old m (Leads (anyhow Sp) Hs (First r))
+    loaded = leads_then begun (among All held archive_name settled a_in raw own)
+
+    pub archive_refused : (fault : JobFault) → r ≡ Err fault
+        → Adds old m (Leads (anyhow Sp) Hs (LoadedBooks held (Err fault)))
+    archive_refused fault is = leads_as (λ h z. z) (λ h z. go fault h (subst (λ x. First x h) is z).1) loaded
+      where
+        go : (fault : JobFault) (h : History)
+            → LoadedBook (codes "archive") (held archive_name) (book_result (Err fault)) h → LoadedBooks held (Err fault) h
+        go (Outside call) h z = tt
+        go (Damaged name at) h z = no_archive_book z.0 z.1
+        go (Spent n) h z = tt
+        go NoMemory h z = tt
+
+    -- and then that of the records
+    module _ (a : Struct) (is : r ≡ Ok a) (q : Result Struct JobFault) {new : Option History}
+        (raw2 : Adds m new (Leads (anyhow (SparesFile demux_name)) (Has demux_name (held demux_name))
+        (LoadedBook (codes "demux") (held demux_name) (book_result q))))
+        (own2 : Adds m new (Every (IsOf ReadsFile))) where
+      abbrev IsArchive : Type 0
+      IsArchive = (book_view a ≡ archive_book held) × IsBookOf (file_bytes (held archive_name)) (archive_book held)
+
+      abbrev Second : Result Struct JobFault → History → Type 0
+      Second x h = IsArchive × Hs h × LoadedBook (codes "demux") (held demux_name) (book_result x) h
+
+      first_is : Adds old m (Leads (anyhow Sp) Hs (λ h. IsArchive × Hs h))
+      first_is =
+          leads_as (λ h z. z)
+          (λ h z.
+          let y = subst (λ x. First x h) is z in
+          ((y.1.1, subst (IsBookOf (file_bytes (held archive_name))) y.1.1 y.1.2), y.0)) loaded
+
+      both : Adds old new (Leads (anyhow Sp) Hs (Second q))
+      both =
+          leads_then first_is
+          (adds_as (Leads (anyhow Sp) (λ h. IsArchive × Hs h) (Second q))
+          (among All held demux_name settled d_in raw2 own2)
+          (λ added history x. record {
+            leads = λ s h. let y = x.leads s h.1 in (h.0, y.0, y.1);
+            own = owned_anyhow added history;
+          }))
+
+      pub demux_refused : (fault : JobFault) → q ≡ Err fault
+          → Adds old new (Leads (anyhow Sp) Hs (LoadedBooks held (Err fault)))
+      demux_refused fault bad = leads_as (λ h z. z) (λ h z. go fault h (subst (λ x. Second x h) bad z).2) both
+        where
+          go : (fault : JobFault) (h : History)
+              → LoadedBook (codes "demux") (held demux_name) (book_result (Err fault)) h → LoadedBooks held (Err fault) h
+          go (Outside call) h z = tt
+          go (Damaged name at) h z = no_demux_book z.0 z.1
+          go (Spent n) h z = tt
+          go NoMemory h z = tt
+
+      pub books_loaded : (d : Struct) → q ≡ Ok d
+          → Adds old new (Leads (anyhow Sp) Hs (LoadedBooks held (Ok (record { archive = a; demux = d }))))
+      books_loaded d good =
+          leads_as (λ h z. z)
+          (λ h z.
+          let y = subst (λ x. Second x h) good z in
+          record {
+            same = y.1;
+            is = y.0.0;
+            archive = y.0.1;
+            demux = subst (IsBookOf (file_bytes (held demux_name))) y.2.1 y.2.2;
+          }) both
+
+  -- the numbers of a book's segments
+  counted : (o : Option File) → IsSettled o → IsBookOf (file_bytes o) (book_in o) → HasCounts (book_in o)
+  counted None whole so g one = absurd (none_in g one)
+  counted (Some f) whole so g one =
+      counts_in (Some f) (record { whole = whole; book = book_in (Some f); is = so.0 }) g
+      (Contains-append_left (book_in (Some f)).segments (segment_list (book_in (Some f)).aside) g one)
+
+  -- ---- the run
+
+  within : (w : List ℕ) → Contains (names_of (codes "archive") (archive_book held)) w → Contains All w
+  within w one =
+      later_one archive_name (demux_name ∷ names_of (codes "archive") (archive_book held)) w
+      (later_one demux_name (names_of (codes "archive") (archive_book held)) w one)
+
+  abbrev Known : Books → Type 0
+  Known b =
+      (book_view b.archive ≡ archive_book held) × IsBookOf (file_bytes (held archive_name)) (archive_book held)
+      × IsBookOf (file_bytes (held demux_name)) (book_in (held demux_name))
+
+  module _ (s : Result Books JobFault) {old mid : Option History}
+      (first : Adds old mid (Leads (anyhow Sp) Hs (LoadedBooks held s))) where
+    pub not_loaded : (U : Type 0) (fault : JobFault) → s ≡ Err fault
+        → Adds old mid (Leads (anyhow Sp) Hs (ReadAll {T = U} held (Err fault)))
+    not_loaded U fault is = leads_as (λ h z. z) (λ h z. go fault h (subst (λ x. LoadedBooks held x h) is z)) first
+      where
+        go : (fault : JobFault) (h : History) → LoadedBooks held (Err fault) h → ReadAll {T = U} held (Err fault) h
+        go (Outside call) h z = tt
+        go (Damaged name at) h z = z
+        go (Spent n) h z = tt
+        go NoMemory h z = tt
+
+    pub all_read : {T : Type 0} (b : Books) → s ≡ Ok b → (r : Result T JobFault) {Q : History → History → Type 0}
+        {new : Option History} → Adds mid new Q
+        → (AreSettled (names_of (codes "archive") (book_view b.archive)) held → HasCounts (book_view b.archive)
+        → Adds mid new (Leads (anyhow (SparesFiles (names_of (codes "archive") (book_view b.archive))))
+        (HasFiles (names_of (codes "archive") (book_view b.archive)) held) (ReadSoundly (book_view b.archive) held r)))
+        → Adds old new (Leads (anyhow Sp) Hs (ReadAll held r))
+    all_read {T = T} b is r {new = new} made raw =
+        leads_then
+        (leads_as (λ h z. z)
+        (λ h z. let y = subst (λ x. LoadedBooks held x h) is z in ((y.is, y.archive, y.demux), y.same)) first)
+        (given (Known b) made (λ x. run x))
+      where
+        wholly : Known b → (r : Result T JobFault) (h : History) → ReadSoundly (archive_book held) held r h → ReadAll held r h
+        wholly k (Ok value) h z = record { archive = k.1; demux = k.2; runs = z }
+        wholly k (Err (Outside call)) h z = tt
+        wholly k (Err (Damaged name at)) h d = bad_records d.0 d.1
+        wholly k (Err (Spent n)) h z = tt
+        wholly k (Err NoMemory) h z = tt
+
+        run : Known b → Adds mid new (Leads (anyhow Sp) Hs (ReadAll held r))
+        run k =
+            let own : AreSettled (names_of (codes "archive") (archive_book held)) held = λ w one. settled w (within w one) in
+            among_more All (names_of (codes "archive") (archive_book held)) held within
+            (leads_as (λ h z. z) (λ h z. wholly k r h z)
+            (subst (λ (x : Book). Adds mid new (Leads (anyhow (SparesFiles (names_of (codes "archive") x)))
+            (HasFiles (names_of (codes "archive") x) held) (ReadSoundly x held r))) k.0
+            (raw (subst (λ (x : Book). AreSettled (names_of (codes "archive") x) held) (sym k.0) own)
+            (subst HasCounts (sym k.0) (counted (held archive_name) (settled archive_name a_in).0 k.1)))))
