@@ -11,17 +11,15 @@ use Rattle.chk_site.specs.Runs.{Leads, Owns}
 use Rattle.chk_site.specs.Site.{Adds, asked, answered, plain, Calls}
 use Rattle.chk_site.proofs.Leads.{leads_then}
 use Rattle.chk_site.proofs.Runs.{adds_as}
-use Rattle.chk_world.specs.Collectors.{Handling}
-use Rattle.chk_world.specs.Places.{As, Talking, IsBy}
+use Rattle.chk_world.specs.Places.{Talking, IsBy}
 use Rattle.chk_world.specs.Works.{Works}
 use Rattle.chk_sink.specs.Held.{Matches}
 use Rattle.chk_sink.specs.States.{State, IsSameStart, process}
-use Rattle.chk_collector.specs.Answering.{Taken, Answered}
 use Rattle.chk_collector.specs.Handled.{KeepsSeen, OfRequest, Unanswered}
 use Rattle.chk_collector.specs.Outcomes.{Replied, outcome_ended}
 use Rattle.chk_collect.specs.Calls.{sending_of}
 use Rattle.chk_collect.specs.Legality.{HasTaken}
-use Rattle.chk_collect.specs.Messages.{IsReadOn, IsHandled, IsUnreplied, IsSentOrFailed}
+use Rattle.chk_collect.specs.Messages.{IsReadOn, LeadsToReply, IsHandled, IsUnreplied, IsSentOrFailed}
 use Rattle.chk_collect.proofs.Talking.{read_told, answered_told}
 use Rattle.chk_collect.proofs.Turning.{same_process}
 
@@ -30,27 +28,24 @@ pub sent_or_failed : (sent : Bool) → IsSentOrFailed (sending_of (Ok sent))
 sent_or_failed true = tt
 sent_or_failed false = tt
 
--- what is told of the reply for each list of earlier messages
-abbrev pub RepliesSo : State → State → ℕ → List ℕ → Result (List ℕ) NoMemory → Option History
-    → Option History → Type 0
-RepliesSo s u t request reply old new =
-    (stamped : List (List ℕ)) (t : ℕ) (others : List Handling)
-    → Adds old new (Leads (As stamped (process s)) (Taken stamped s t request others)
-    (Answered stamped u t request others reply))
-
-module _ (s u : State) (t : ℕ) (request : List ℕ) (reply : Result (List ℕ) NoMemory)
-    {old new : Option History} (told : RepliesSo s u t request reply old new) where
+module _ (s u : State) (request : List ℕ) (reply : Result (List ℕ) NoMemory)
+    {old new : Option History} (told : LeadsToReply (process s) request s u reply old new) where
   made_quiet : Adds old new (Owns (IsBy (process s)))
-  made_quiet = adds_as (Owns (IsBy (process s))) (told [] t []) (λ a h x. x.own)
+  made_quiet = adds_as (Owns (IsBy (process s))) (told [] 0 []) (λ a h x. x.own)
 
   -- for the process under its name
   quiet_by : (who : Who) → who ≡ process s → Adds old new (Owns (IsBy who))
   quiet_by who is = subst (λ w. Adds old new (Owns (IsBy w))) (sym is) made_quiet
 
-  pub handled_so : (who : Who) → who ≡ process s → (bytes : List ℕ) {before now : ℕ}
-      → Replied request s u before now old new bytes → IsSameStart s u → KeepsSeen s u
-      → IsHandled who request bytes s u old new
-  handled_so who is bytes replied same seen = record {
+  -- and what it leads to
+  told_by : (who : Who) → who ≡ process s → LeadsToReply who request s u reply old new
+  told_by who is = subst (λ w. LeadsToReply w request s u reply old new) (sym is) told
+
+  pub handled_so : (who : Who) → who ≡ process s → (bytes : List ℕ) → reply ≡ Ok bytes
+      → {before now : ℕ} → Replied request s u before now old new bytes → IsSameStart s u
+      → KeepsSeen s u → IsHandled who request bytes s u old new
+  handled_so who is bytes e replied same seen = record {
+    told = subst (λ r. LeadsToReply who request s u r old new) e (told_by who is);
     outcome = replied.outcome;
     is = replied.is;
     by_bytes = replied.by_bytes;
@@ -65,9 +60,11 @@ module _ (s u : State) (t : ℕ) (request : List ℕ) (reply : Result (List ℕ)
     damaged = replied.damaged;
   }
 
-  pub unreplied_so : (who : Who) → who ≡ process s → Unanswered request s u old new
-      → IsSameStart s u → KeepsSeen s u → IsUnreplied who request s u old new
-  unreplied_so who is unanswered same seen = record {
+  pub unreplied_so : (who : Who) → who ≡ process s → (fault : NoMemory) → reply ≡ Err fault
+      → Unanswered request s u old new → IsSameStart s u → KeepsSeen s u
+      → IsUnreplied who request fault s u old new
+  unreplied_so who is fault e unanswered same seen = record {
+    told = subst (λ r. LeadsToReply who request s u r old new) e (told_by who is);
     unanswered = unanswered;
     same = same;
     seen = seen;
@@ -107,7 +104,7 @@ module _ (stamped : List (List ℕ)) (s : State) (who : Who) (is : who ≡ proce
   -- these bytes are all of the message, and it is answered
   pub answer_told : (u : State) (same : IsSameStart s u) (reply : List ℕ)
       (given : Result (Unit {0}) CallFault) {old next new : Option History}
-      → RepliesSo s u t bytes (Ok reply) old next
+      → LeadsToReply (process s) bytes s u (Ok reply) old next
       → Adds next new (Calls (asked who Answer (reply ∷ []) t 0) (answered plain given))
       → Side u old new
   answer_told u same reply given {next = next} {new = new} told call =

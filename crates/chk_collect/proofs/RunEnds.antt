@@ -41,6 +41,7 @@ pub started_by : {who : Who} {rotate : ℕ} {s : State} {old new : Option Histor
     → StartSays who rotate (Ok s) old new → IsStarted who rotate s old new
 started_by says = record {
   fresh = says.fresh;
+  told = says.told;
   starts = says.starts;
   quiet = made_quiet (says.told []);
   own = says.own;
@@ -52,6 +53,7 @@ pub unstarted_by : {who : Who} {rotate : ℕ} (fault : SinkFault) {old new : Opt
     → StartSays who rotate (Err fault) old new → IsUnstarted who fault old new
 unstarted_by (Outside call) says = record {
   last_start = tt;
+  told = says.told;
   quiet = made_quiet (says.told []);
   own = says.own;
   last = says.last;
@@ -60,6 +62,7 @@ unstarted_by (Outside call) says = record {
 }
 unstarted_by (Damaged name at) says = record {
   last_start = tt;
+  told = says.told;
   quiet = made_quiet (says.told []);
   own = says.own;
   last = says.last;
@@ -68,6 +71,7 @@ unstarted_by (Damaged name at) says = record {
 }
 unstarted_by (Spent born) says = record {
   last_start = says.spent;
+  told = says.told;
   quiet = made_quiet (says.told []);
   own = says.own;
   last = says.last;
@@ -76,6 +80,7 @@ unstarted_by (Spent born) says = record {
 }
 unstarted_by NoMemory says = record {
   last_start = tt;
+  told = says.told;
   quiet = made_quiet (says.told []);
   own = says.own;
   last = says.last;
@@ -107,6 +112,17 @@ module _ (who : Who) (rotate turns most : ℕ) (door : List ℕ) (s t u : State)
       → Adds turned new (Owns (IsBy who))
   quiet_by told = subst (λ w. Adds turned new (Owns (IsBy w))) (sym is) (made_quiet told)
 
+  -- what the end leads to
+  told_by : (result : Result (Unit {0}) SinkFault)
+      → ((stamped : List (List ℕ)) → Adds turned new
+      (Leads (As stamped (process t)) (Matches stamped t) (Finished stamped t u result)))
+      → (stamped : List (List ℕ)) → Adds turned new
+      (Leads (As stamped who) (Matches stamped t) (Finished stamped t u result))
+  told_by result told stamped =
+      subst (λ w. Adds turned new
+      (Leads (As stamped w) (Matches stamped t) (Finished stamped t u result))) (sym is)
+      (told stamped)
+
   pub ran_by : (result : Result (Unit {0}) SinkFault) → FinishSays t u result turned new
       → OnOk result (CollectorRan who rotate turns door most 1000 old new)
   ran_by (Err fault) says = tt
@@ -120,6 +136,7 @@ module _ (who : Who) (rotate turns most : ℕ) (door : List ℕ) (s t u : State)
     each = each;
     finish = record {
       is = says.ok;
+      told = told_by (Ok value) says.told;
       quiet = quiet_by (says.told []);
       own = subst (λ w. Works w (OfTick t) None turned new) (sym is) says.own;
       acts = says.fine;
@@ -134,6 +151,7 @@ module _ (who : Who) (rotate turns most : ℕ) (door : List ℕ) (s t u : State)
     of = says.only;
     same = says.same;
     leaves = says.refused;
+    told = told_by (Err fault) says.told;
     quiet = quiet_by (says.told []);
     own = subst (λ w. Works w (OfTick t) (ended_by {T = Unit {0}} (Err fault)) turned new) (sym is)
         says.own;

@@ -61,6 +61,16 @@ tick_quiet who u is {timed = timed} {new = new} told =
     subst (λ w. Adds timed new (Owns (IsBy w))) (sym is)
     (adds_as (Owns (IsBy (process u))) told (λ a h x. x.own))
 
+-- what it leads to, for the process under its name
+tick_leads : (who : Who) (u t : State) → who ≡ process u → (result : Result (Unit {0}) SinkFault)
+    {timed new : Option History} → ((stamped : List (List ℕ)) → Adds timed new
+    (Leads (As stamped (process u)) (Matches stamped u) (Ticked stamped u t result)))
+    → (stamped : List (List ℕ)) → Adds timed new
+    (Leads (As stamped who) (Matches stamped u) (Ticked stamped u t result))
+tick_leads who u t is result {timed = timed} {new = new} told stamped =
+    subst (λ w. Adds timed new
+    (Leads (As stamped w) (Matches stamped u) (Ticked stamped u t result))) (sym is) (told stamped)
+
 pub settled_by : (now : ℕ) (u t : State) (result : Result (Unit {0}) SinkFault)
     → OnOk result (t ≡ ticked_state now u) → OnOk result (IsSettled t)
 settled_by now u t (Ok value) ok = subst IsSettled (sym ok) (ticked_settled now u)
@@ -83,6 +93,7 @@ turn_by who door most s u t is now (Ok value) {taken = taken} {timed = timed} {n
       clock = call;
       tick = record {
         is = says.ok;
+        told = tick_leads who u t is (Ok value) says.told;
         quiet = tick_quiet who u is (says.told []);
         own = subst (λ w. Works w (OfTick u) None timed new) (sym is) says.own;
         acts = says.fine;
@@ -102,6 +113,7 @@ cut_by who door most s u t is now (Err fault) {timed = timed} {new = new} says s
       of = says.only;
       same = says.same;
       leaves = says.refused;
+      told = tick_leads who u t is (Err fault) says.told;
       quiet = tick_quiet who u is (says.told []);
       own = subst (λ w. Works w (OfTick u) (ended_by {T = Unit {0}} (Err fault)) timed new)
           (sym is) says.own;

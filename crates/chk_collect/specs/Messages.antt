@@ -10,17 +10,19 @@ use Rattle.chk_site.specs.declared.acts.CallFault.TheVariants.{Failed, NoMemory 
 use Rattle.chk_site.specs.declared.suffixes.Taking.{Taking}
 use Rattle.chk_site.specs.History.{History}
 use Rattle.chk_site.specs.Site.{Adds, asked, answered, plain, bytes_given, taking_given, Calls, CallsSome}
-use Rattle.chk_site.specs.Runs.{Owns}
+use Rattle.chk_site.specs.Runs.{Leads, Owns}
 use Rattle.chk_message.specs.Messages.{PostRequest, PollRequest}
 use Rattle.httparse.specs.Grammar.{EndsInTarget}
 use Rattle.chk_http.specs.declared.fault.HttpFault.{HttpFault}
 use Rattle.chk_http.specs.declared.fault.HttpFault.TheVariants.{NotYet}
 use Rattle.chk_http.specs.Heads.{HasManyRequestLines, IsNoRequestHead}
-use Rattle.chk_world.specs.Places.{IsBy}
+use Rattle.chk_world.specs.Collectors.{Handling}
+use Rattle.chk_world.specs.Places.{As, IsBy}
 use Rattle.chk_world.specs.Works.{Works}
 use Rattle.chk_sink.specs.declared.fault.SinkFault.{SinkFault}
 use Rattle.chk_sink.specs.declared.fault.SinkFault.TheVariants.{Outside, NoMemory as wanting}
 use Rattle.chk_sink.specs.States.{State, IsSameStart}
+use Rattle.chk_collector.specs.Answering.{Taken, Answered}
 use Rattle.chk_collector.specs.Handled.{KeepsSeen, OfRequest, Unanswered}
 use Rattle.chk_collector.specs.Outcomes.{Outcome, RefusedBy, IsOutcomeOf, OutcomeActs, OutcomeDamage, OutcomeLast, OutcomeState, outcome_ended, reply_of}
 
@@ -81,11 +83,22 @@ pub data IsReadOn (who : Who) (t : ℕ) : List ℕ → Result (Option (List ℕ)
       → Adds old new (Calls (asked who More [] t 0) (answered bytes_given (Ok piece)))
       → IsReadOn who t bytes (Err fault) old new
 
+-- From a legal history that holds the sinks, and in which these bytes are all that was got of the
+-- message that was taken last, the history behind the request holds the sinks of the new state, and
+-- the reply may be the answer to that taking.
+abbrev pub LeadsToReply : Who → List ℕ → State → State → Result (List ℕ) NoMemory → Option History
+    → Option History → Type 0
+LeadsToReply who request s u reply old new =
+    (stamped : List (List ℕ)) (t : ℕ) (others : List Handling) → Adds old new
+    (Leads (As stamped who) (Taken stamped s t request others)
+    (Answered stamped u t request others reply))
+
 -- a request was handled, with this reply
 pub record IsHandled (who : Who) (request reply : List ℕ) (s t : State) (old new : Option History)
     : Type 0 where
   pub outcome : Outcome
   pub is : reply ≡ reply_of outcome
+  pub told : LeadsToReply who request s t (Ok reply) old new
   pub by_bytes : IsOutcomeOf request outcome
   pub same : IsSameStart s t
   pub seen : KeepsSeen s t
@@ -97,8 +110,9 @@ pub record IsHandled (who : Who) (request reply : List ℕ) (s t : State) (old n
   pub damaged : Adds old new (OutcomeDamage outcome)
 
 -- there was no memory for the reply
-pub record IsUnreplied (who : Who) (request : List ℕ) (s t : State) (old new : Option History) :
-    Type 0 where
+pub record IsUnreplied (who : Who) (request : List ℕ) (fault : NoMemory) (s t : State)
+    (old new : Option History) : Type 0 where
+  pub told : LeadsToReply who request s t (Err fault) old new
   pub unanswered : Unanswered request s t old new
   pub same : IsSameStart s t
   pub seen : KeepsSeen s t
@@ -120,7 +134,7 @@ pub data IsReplied (who : Who) (t : ℕ) (request : List ℕ) (s : State)
       → Adds next new (Calls (asked who Answer (reply ∷ []) t 0) (answered plain given))
       → IsReplied who t request s (Ok (length request)) old u new
   unreplied : {fault : NoMemory} {old new : Option History} {u : State}
-      → IsUnreplied who request s u old new → IsReplied who t request s (Err fault) old u new
+      → IsUnreplied who request fault s u old new → IsReplied who t request s (Err fault) old u new
   unsent : {fault : NoMemory} {old next new : Option History} {u : State} (reply : List ℕ)
       → IsHandled who request reply s u old next
       → Adds next new

@@ -5,10 +5,10 @@ use Rattle.chk_site.specs.declared.acts.Who.{Who}
 use Rattle.chk_site.specs.Files.{Files}
 use Rattle.chk_site.specs.History.{History, files_after}
 use Rattle.chk_site.specs.Site.{Adds}
-use Rattle.chk_site.specs.Runs.{HasStarted, Owns}
+use Rattle.chk_site.specs.Runs.{HasStarted, Leads, Owns}
 use Rattle.chk_world.specs.Committed.{IsAbsent, number_in}
 use Rattle.chk_world.specs.Names.{BornFile, SinkFile, file}
-use Rattle.chk_world.specs.Places.{IsBy, AtTold}
+use Rattle.chk_world.specs.Places.{As, IsBy, AtTold}
 use Rattle.chk_world.specs.Rules.{Legal}
 use Rattle.chk_world.specs.Works.{Works, NoneFailed}
 use Rattle.chk_sink.specs.declared.fault.SinkFault.{SinkFault}
@@ -16,15 +16,19 @@ use Rattle.chk_sink.specs.declared.fault.SinkFault.TheVariants.{Damaged, Spent}
 use Rattle.chk_sink.specs.Closes.{IsOfTick}
 use Rattle.chk_sink.specs.Damage.{DamageCause, SpentCause}
 use Rattle.chk_sink.specs.Faults.{FailsLast, ended_by}
-use Rattle.chk_sink.specs.Starts.{IsFresh, IsLastStart}
+use Rattle.chk_sink.specs.Held.{Matches}
+use Rattle.chk_sink.specs.Starts.{IsFresh, Started, IsLastStart}
 use Rattle.chk_sink.specs.States.{State, IsSameStart, last_number}
 use Rattle.chk_sink.specs.Works.{OfStart, OfTick}
-use Rattle.chk_collector.specs.Finishing.{finished, LeavesAfterFinish}
+use Rattle.chk_collector.specs.Finishing.{finished, Finished, LeavesAfterFinish}
 use Rattle.chk_collect.specs.Turns.{AreCollectorTurns, IsCutChain}
 
--- the start, after whose `rotate` milliseconds a sink is closed
+-- The start, after whose `rotate` milliseconds a sink is closed. From a legal history the history
+-- behind it holds the sinks of this state.
 pub record IsStarted (who : Who) (rotate : ℕ) (s : State) (old new : Option History) : Type 0 where
   pub fresh : IsFresh who rotate s
+  pub told : (stamped : List (List ℕ)) → Adds old new
+      (Leads (As stamped who) (Legal stamped) (Started stamped who (Ok s)))
   pub starts : Adds old new (HasStarted who)
   pub quiet : Adds old new (Owns (IsBy who))
   pub own : Works who (OfStart who) None old new
@@ -34,15 +38,20 @@ pub record IsStarted (who : Who) (rotate : ℕ) (s : State) (old new : Option Hi
 -- a start that was refused
 pub record IsUnstarted (who : Who) (fault : SinkFault) (old new : Option History) : Type 0 where
   pub last_start : IsLastStart {T = Unit {0}} (Err fault)
+  pub told : (stamped : List (List ℕ)) → Adds old new
+      (Leads (As stamped who) (Legal stamped) (Started stamped who (Err fault)))
   pub quiet : Adds old new (Owns (IsBy who))
   pub own : Works who (OfStart who) (ended_by {T = Unit {0}} (Err fault)) old new
   pub last : Adds old new (FailsLast {T = Unit {0}} (Err fault))
   pub damaged : Adds old new (DamageCause {T = Unit {0}} (Err fault))
   pub spent : Adds old new (SpentCause {T = Unit {0}} (Err fault))
 
--- the end: no sink of the start is under writing
+-- The end: no sink of the start is under writing. From a legal history that holds the sinks before
+-- it, the sink that was written to was a done one.
 pub record IsFinished (who : Who) (s t : State) (old new : Option History) : Type 0 where
   pub is : t ≡ finished s
+  pub told : (stamped : List (List ℕ)) → Adds old new
+      (Leads (As stamped who) (Matches stamped s) (Finished stamped s t (Ok tt)))
   pub quiet : Adds old new (Owns (IsBy who))
   pub own : Works who (OfTick s) None old new
   pub acts : Adds old new NoneFailed
@@ -54,6 +63,8 @@ pub record IsUnfinished (who : Who) (fault : SinkFault) (s t : State) (old new :
   pub of : IsOfTick fault
   pub same : IsSameStart s t
   pub leaves : LeavesAfterFinish s t fault old new
+  pub told : (stamped : List (List ℕ)) → Adds old new
+      (Leads (As stamped who) (Matches stamped s) (Finished stamped s t (Err fault)))
   pub quiet : Adds old new (Owns (IsBy who))
   pub own : Works who (OfTick s) (ended_by {T = Unit {0}} (Err fault)) old new
   pub last : Adds old new (FailsLast {T = Unit {0}} (Err fault))

@@ -6,31 +6,38 @@ use Rattle.chk_site.specs.declared.acts.Call.TheVariants.{Clock}
 use Rattle.chk_site.specs.declared.acts.CallFault.{CallFault}
 use Rattle.chk_site.specs.History.{History}
 use Rattle.chk_site.specs.Site.{Adds, asked, answered, sized, Calls}
-use Rattle.chk_site.specs.Runs.{Owns}
-use Rattle.chk_world.specs.Places.{IsBy}
+use Rattle.chk_site.specs.Runs.{Leads, Owns}
+use Rattle.chk_world.specs.Places.{As, IsBy}
 use Rattle.chk_world.specs.Works.{Works, NoneFailed}
 use Rattle.chk_sink.specs.declared.fault.SinkFault.{SinkFault}
-use Rattle.chk_sink.specs.Closes.{IsOfTick}
+use Rattle.chk_sink.specs.Closes.{IsOfTick, Ticked}
 use Rattle.chk_sink.specs.Damage.{DamageCause}
 use Rattle.chk_sink.specs.Faults.{FailsLast, ended_by}
+use Rattle.chk_sink.specs.Held.{Matches}
 use Rattle.chk_sink.specs.States.{State, IsSameStart, ticked_state}
 use Rattle.chk_sink.specs.Works.{OfTick, LeavesAfterTick}
 use Rattle.chk_collect.specs.Messages.{EndsBy, IsTakenUpTo}
 
--- a tick at this moment: its calls were done, and no sink is left that is to be closed
+-- A tick at this moment: its calls were done, and no sink is left that is to be closed. From a
+-- legal history that holds the sinks before it, the history holds them behind it: what is written
+-- to is committed whole, and the sink that was due was a done one.
 pub record IsTicked (who : Who) (now : ℕ) (s t : State) (old new : Option History) : Type 0 where
   pub is : t ≡ ticked_state now s
+  pub told : (stamped : List (List ℕ)) → Adds old new
+      (Leads (As stamped who) (Matches stamped s) (Ticked stamped s t (Ok tt)))
   pub quiet : Adds old new (Owns (IsBy who))
   pub own : Works who (OfTick s) None old new
   pub acts : Adds old new NoneFailed
   pub damaged : Adds old new (DamageCause {T = Unit {0}} (Ok tt))
 
--- a tick that was refused, and what it left
+-- a tick that was refused, what it left, and that the history holds it
 pub record IsUnticked (who : Who) (fault : SinkFault) (s t : State) (old new : Option History) :
     Type 0 where
   pub of : IsOfTick fault
   pub same : IsSameStart s t
   pub leaves : LeavesAfterTick s t fault old new
+  pub told : (stamped : List (List ℕ)) → Adds old new
+      (Leads (As stamped who) (Matches stamped s) (Ticked stamped s t (Err fault)))
   pub quiet : Adds old new (Owns (IsBy who))
   pub own : Works who (OfTick s) (ended_by {T = Unit {0}} (Err fault)) old new
   pub last : Adds old new (FailsLast {T = Unit {0}} (Err fault))

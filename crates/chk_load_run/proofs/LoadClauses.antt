@@ -1,13 +1,14 @@
 -- The clauses of a load, end by end.
-use Rattle.std.proofs.Common.{◌≡◌, ℕ, List, [], Ok, Err, Option, Some, Result, subst, ◌∙◌}
+use Rattle.std.proofs.Common.{◌≡◌, ℕ, List, [], Ok, Err, Option, Some, Result, subst, sym, ◌∙◌}
 use Rattle.std.specs.Prelude.{codes}
+use Rattle.chk_control.specs.declared.Class.TheVariants.{Plain}
 use Rattle.chk_site.specs.declared.acts.OutsideFault.{OutsideFault}
 use Rattle.chk_site.specs.declared.acts.OutsideFault.TheVariants.{Outside as site_failed, NoMemory as no_memory}
 use Rattle.chk_site.specs.declared.acts.Who.{Who}
 use Rattle.chk_site.specs.History.{History}
 use Rattle.chk_site.specs.Runs.{Owns, own_acts}
 use Rattle.chk_site.specs.Site.{Adds, LastFailed}
-use Rattle.chk_site.proofs.Runs.{adds_as}
+use Rattle.chk_site.proofs.Runs.{adds_as, adds_both, adds_none}
 use Rattle.chk_world.specs.Together.{IsByOne}
 use Rattle.chk_round.specs.declared.faults.RoundFault.{RoundFault}
 use Rattle.chk_round.specs.declared.whole_round.Rounded.{Rounded}
@@ -19,15 +20,17 @@ use Rattle.chk_round.specs.Following.{HaveLines}
 use Rattle.chk_round.specs.Lengths.{LengthCause}
 use Rattle.chk_round.specs.Processes.{IsRunOf, processes}
 use Rattle.chk_round.specs.Rounded.{RoundTo}
-use Rattle.chk_round.specs.Scripts.{RoundReads}
+use Rattle.chk_round.specs.Scripts.{ReadsLogs, RoundReads}
+use Rattle.chk_round.specs.Staying.{StaysTo}
 use Rattle.chk_load_run.specs.declared.ends.LoadEnd.{LoadEnd}
 use Rattle.chk_load_run.specs.declared.ends.LoadEnd.TheVariants.{NoMemory, Outside, Round, Unclosed}
 use Rattle.chk_load_run.specs.declared.ends.LoadReport.{LoadReport}
 use Rattle.chk_load_run.specs.Ends.{of_outside}
-use Rattle.chk_load_run.specs.Loads.{AppendedSo, EndsRunning, IsReportOf, LoadFailsLast, LoadTo, LoadsBy, PrintedSo, RoundEndsSo, SaysLine, SummedUp, summary_line}
-use Rattle.chk_load_run.specs.Pieces.{AppendsFront, HasAppended, WritesAll}
+use Rattle.chk_load_run.specs.Loads.{AppendedSo, AppendsLines, EndsRunning, IsReportOf, IsRoundOfLogs, IsWritersPrint, LoadFailsLast, LoadScript, LoadTo, LoadsBy, PrintedSo, RoundEndsSo, SaysLine, SummedUp, summary_line}
+use Rattle.chk_load_run.specs.Pieces.{AppendsFront, WritesAll}
 use Rattle.chk_load_run.specs.Processes.{IsLoadRound, IsLoadRun, chukwa, load_logs}
 use Rattle.chk_load_run.proofs.Facts.{Appended, appends_all, appends_cut, then_round, then_say}
+use Rattle.chk_load_run.proofs.OwnCalls.{appends_only, say_only}
 use Rattle.chk_load_run.proofs.Told.{HaveLogs, IsBehind, all_told, behind, cut_told, round_told, unclosed_told, unsaid_told}
 
 -- what a load says of its result
@@ -204,6 +207,96 @@ module _ (lines : ℕ) (who : Who) (by : who ≡ chukwa) where
           (record { lines_are = is.0; bytes_are = is.1 ∙ writes.2; archived_is = is.2; unclosed = is.3 })
           (said_by (summary_line report) (Ok tt) new says)
 
+-- ---- the appends
+
+lines_appended : (lines : ℕ) (who : Who) (by : who ≡ chukwa) (n : ℕ) {old mid : Option History}
+    → WritesAll who lines (Ok n) old mid → Adds old mid (AppendsLines lines)
+lines_appended lines who by n {old = old} {mid = mid} writes =
+    let w = written lines who by (Ok n) old mid writes in
+    adds_both (AppendsLines lines) (appends_all lines n w) (appends_only w.1)
+    (λ a h x y. (x.done, y))
+
+-- ---- its round
+
+-- what the round says of its steps, with these words
+pub record WholeSays (w : RoundWords) (r : Rounded) (old new : Option History) : Type 0 where
+  pub told : (stamped : List (List ℕ)) (started acting : List Who) → IsRunOf w.source started acting
+      → Adds old new (RoundTo stamped started acting w.source (Ok r))
+  pub reads : ReadsLogs w.source w.kind w.class w.cluster w.logs.items w.reads r.agent old new
+  pub stays : (stamped : List (List ℕ)) (started acting : List Who) → IsRunOf w.source started acting
+      → Adds old new (StaysTo stamped started w.source w.kind w.logs.items)
+  pub live : HaveLines w.kind w.logs.items (lines_of r.agent)
+  pub acts : Adds old new (RoundActs w.source)
+
+module _ (w : RoundWords) (are : IsLoadRound w) (r : Rounded) {old new : Option History}
+    (says : WholeSays w r old new) where
+  by_words : (started acting : List Who) → IsRunOf (codes "load") started acting
+      → IsRunOf w.source started acting
+  by_words started acting run = subst (λ s. IsRunOf s started acting) (sym are.source) run
+
+  round_of_logs : IsRoundOfLogs r old new
+  round_of_logs = record {
+    told = λ stamped started acting run.
+        subst (λ s. Adds old new (RoundTo stamped started acting s (Ok r))) are.source
+        (says.told stamped started acting (by_words started acting run));
+    read =
+        subst (λ s. ReadsLogs s (codes "Load") Plain (codes "none") load_logs 1000000 r.agent old new)
+        are.source
+        (subst (λ k. ReadsLogs w.source k Plain (codes "none") load_logs 1000000 r.agent old new)
+        are.kind
+        (subst (λ k. ReadsLogs w.source w.kind k (codes "none") load_logs 1000000 r.agent old new)
+        are.class
+        (subst (λ k. ReadsLogs w.source w.kind w.class k load_logs 1000000 r.agent old new)
+        are.cluster
+        (subst (λ k. ReadsLogs w.source w.kind w.class w.cluster k 1000000 r.agent old new) are.logs
+        (subst (λ k. ReadsLogs w.source w.kind w.class w.cluster w.logs.items k r.agent old new)
+        are.reads says.reads)))));
+    stays = λ stamped started acting run.
+        subst (λ s. Adds old new (StaysTo stamped started s (codes "Load") load_logs)) are.source
+        (subst (λ k. Adds old new (StaysTo stamped started w.source k load_logs)) are.kind
+        (subst (λ k. Adds old new (StaysTo stamped started w.source w.kind k)) are.logs
+        (says.stays stamped started acting (by_words started acting run))));
+    live =
+        subst (λ k. HaveLines k load_logs (lines_of r.agent)) are.kind
+        (subst (λ k. HaveLines w.kind k (lines_of r.agent)) are.logs says.live);
+    acts = subst (λ s. Adds old new (RoundActs s)) are.source says.acts;
+  }
+
+module _ (lines : ℕ) (who : Who) (by : who ≡ chukwa) (n : ℕ) {old mid next : Option History}
+    (writes : WritesAll who lines (Ok n) old mid) (w : RoundWords) (are : IsLoadRound w)
+    (r : Rounded) (says : WholeSays w r mid next) where
+  -- nothing stands behind the round
+  pub loaded_so : LoadScript lines r old next
+  loaded_so = record {
+    mid = mid;
+    next = next;
+    appends = lines_appended lines who by n writes;
+    round = round_of_logs w are r says;
+    prints = adds_none next (Owns IsWritersPrint) (λ history. tt);
+  }
+
+  pub unclosed_so : (e : LoadEnd) → SummedUp r lines n (Err e) → RoundEndsSo lines (Err e) old next
+  unclosed_so (Unclosed name) is = (r, loaded_so, is)
+  unclosed_so (Outside call) is = absurd is
+  unclosed_so NoMemory is = absurd is
+  unclosed_so (Round fault) is = absurd is
+
+  pub done_so : (report : LoadReport) → SummedUp r lines n (Ok report) → {new : Option History}
+      → SaysLine who (summary_line report) (Ok tt) next new
+      → RoundEndsSo lines (Ok report) old new
+  done_so report is {new = new} says_line = (
+    r,
+    record {
+      mid = mid;
+      next = next;
+      appends = lines_appended lines who by n writes;
+      round = round_of_logs w are r says;
+      prints = say_only (summary_line report)
+          (subst (λ (p : Who). SaysLine p (summary_line report) (Ok tt) next new) by says_line);
+    },
+    record { lines_are = is.0; bytes_are = is.1 ∙ writes.2; archived_is = is.2; unclosed = is.3 },
+  )
+
 -- ---- how its round ended
 
 -- what the round says of its fault, with these words
@@ -222,9 +315,7 @@ round_ends lines who by n {old = old} {mid = mid} {new = new} writes words are f
     (subst (λ (k : ℕ). RoundSays words.source k fault mid new) are.reads says) in
     record {
       mid = mid;
-      appends =
-          adds_as (λ a h. HasAppended lines (own_acts a)) (appends_all lines n (written lines who by (Ok n) old mid writes))
-          (λ a h x. x.done);
+      appends = lines_appended lines who by n writes;
       script = said.script;
       length = said.length;
       last = said.last;
@@ -235,10 +326,3 @@ round_ends lines who by n {old = old} {mid = mid} {new = new} writes words are f
 pub outside_ends : (lines : ℕ) (fault : OutsideFault) (old new : Option History) → RoundEndsSo lines (Err (of_outside fault)) old new
 outside_ends lines (site_failed call) old new = tt
 outside_ends lines no_memory old new = tt
-
-pub summed_ends : (v : Rounded) (lines n : ℕ) (e : LoadEnd) (old new : Option History) → SummedUp v lines n (Err e)
-    → RoundEndsSo lines (Err e) old new
-summed_ends v lines n (Unclosed name) old new is = tt
-summed_ends v lines n (Outside call) old new is = absurd is
-summed_ends v lines n NoMemory old new is = absurd is
-summed_ends v lines n (Round fault) old new is = absurd is

@@ -13,7 +13,7 @@ use Rattle.chk_site.proofs.Runs.{adds_as, adds_none, adds_then, every_join}
 use Rattle.chk_world.specs.Together.{IsByOne}
 use Rattle.chk_world.proofs.Beside.{owns_as}
 use Rattle.chk_round.specs.Processes.{processes}
-use Rattle.chk_load_run.specs.Loads.{IsWritersPrint, LoadsBy, SaysLine, unsaid, said, unsayable, saying}
+use Rattle.chk_load_run.specs.Loads.{IsWritersAppend, IsWritersPrint, LoadsBy, SaysLine, unsaid, said, unsayable, saying}
 use Rattle.chk_load_run.specs.Loads.IsLoadCall.{appends, prints, rounds}
 use Rattle.chk_load_run.specs.Pieces.{AppendsInTurn, all_appended, unappended, appended_on, ended, LogPiece, of_writer}
 use Rattle.chk_load_run.specs.Processes.{chukwa}
@@ -37,6 +37,24 @@ appends_own (appended_on {p = p} good told more) =
 appends_own (ended {p = p} given good ends told) =
     adds_as OwnCalls told
     (λ a history calls. call_owned LoadsBy (answered plain given) (λ before answer files logs running. appends p good) calls)
+
+-- and just these of the writer's
+pub appends_only : {ps : List LogPiece} {result : Result (Unit {0}) OutsideFault} {old new : Option History}
+    → AppendsInTurn chukwa ps result old new → Adds old new (Owns IsWritersAppend)
+appends_only all_appended = adds_none _ (Owns IsWritersAppend) (λ history. tt)
+appends_only unappended = adds_none _ (Owns IsWritersAppend) (λ history. tt)
+appends_only (appended_on {p = p} good told more) =
+    adds_then (Owns IsWritersAppend)
+    (adds_as (Owns IsWritersAppend) told
+    (λ a history calls. call_owned IsWritersAppend (answered plain (Ok (tt {0})))
+    (λ before answer files logs running. (refl, p, good, refl)) calls))
+    (appends_only more)
+    (λ a b history x y.
+    every_join (λ before step. step.own ≡ true → IsWritersAppend before step) b a history x y)
+appends_only (ended {p = p} given good ends told) =
+    adds_as (Owns IsWritersAppend) told
+    (λ a history calls. call_owned IsWritersAppend (answered plain given)
+    (λ before answer files logs running. (refl, p, good, refl)) calls)
 
 -- ---- the summary
 

@@ -1,5 +1,6 @@
 -- What a load leads to.
 use Rattle.std.specs.Prelude.{◌≡◌, ℕ, ◌-◌, ◌≤◌, ◌^◌, min, true, false, List, [], ◌∷◌, ◌++◌, codes, Contains, Option, Some, None, Result, Ok, Err}
+use Rattle.chk_control.specs.declared.Class.TheVariants.{Plain}
 use Rattle.chk_site.specs.declared.acts.Call.TheVariants.{Say}
 use Rattle.chk_site.specs.declared.acts.CallFault.{CallFault}
 use Rattle.chk_site.specs.declared.acts.OutsideFault.{OutsideFault}
@@ -14,6 +15,7 @@ use Rattle.chk_world.specs.Checkpoints.{Line, checkpoint_lines}
 use Rattle.chk_world.specs.Knowing.{agent}
 use Rattle.chk_world.specs.Rules.{Legal}
 use Rattle.chk_world.specs.Together.{Outside as OutsideOf, Together}
+use Rattle.chk_agent.specs.States.{lines_of}
 use Rattle.chk_archive.specs.Reporting.{report_view}
 use Rattle.chk_words.specs.Lines.{load_line}
 use Rattle.chk_round.specs.declared.faults.RoundFault.{RoundFault}
@@ -24,10 +26,11 @@ use Rattle.chk_round.specs.Done.{ArchivedTo}
 use Rattle.chk_round.specs.Faults.{FailsInside}
 use Rattle.chk_round.specs.Following.{HaveLines}
 use Rattle.chk_round.specs.Lengths.{LengthCause}
-use Rattle.chk_round.specs.Processes.{processes}
-use Rattle.chk_round.specs.Rounded.{AfterRound}
+use Rattle.chk_round.specs.Processes.{IsRunOf, processes}
+use Rattle.chk_round.specs.Rounded.{AfterRound, RoundTo}
 use Rattle.chk_round.specs.Rounds.{RoundDone}
-use Rattle.chk_round.specs.Scripts.{RoundReads}
+use Rattle.chk_round.specs.Scripts.{ReadsLogs, RoundReads}
+use Rattle.chk_round.specs.Staying.{StaysTo}
 use Rattle.chk_load_run.specs.declared.ends.LoadEnd.{LoadEnd}
 use Rattle.chk_load_run.specs.declared.ends.LoadEnd.TheVariants.{Outside, Round, Unclosed}
 use Rattle.chk_load_run.specs.declared.ends.LoadReport.{LoadReport}
@@ -150,22 +153,60 @@ abbrev pub LoadFailsLast : Result LoadReport LoadEnd → History → History →
 LoadFailsLast (Err (Outside call)) added history = is_stopped (added ++ history) ≡ false → EndsIn call added
 LoadFailsLast result added history = Unit {0}
 
+-- the writer appends a piece to one of the three logs
+abbrev pub IsWritersAppend : History → Step → Type 0
+IsWritersAppend before step =
+    (step.act.who ≡ chukwa)
+    × (p : LogPiece) × IsPiece p × (deed step.act ≡ GrowsLog p.path p.bytes)
+
+-- all lines were appended, and nothing else was called
+abbrev pub AppendsLines : ℕ → History → History → Type 0
+AppendsLines lines added history =
+    HasAppended lines (own_acts added) × Owns IsWritersAppend added history
+
 -- All lines were appended, and the round behind that ended so. A log that grows or shrank shows in
 -- the reads of the agent `load`, 1,000,000 of a log at most, and a length below an answered offset
 -- in the last poll. Where the site wasn't stopped, a failed call is the last one or one inside the
 -- round, whose calls are those of a round.
 pub record EndsAsRound (lines : ℕ) (fault : RoundFault) (old new : Option History) : Type 0 where
   pub mid : Option History
-  pub appends : Adds old mid (λ added history. HasAppended lines (own_acts added))
+  pub appends : Adds old mid (AppendsLines lines)
   pub script : RoundReads {T = Unit {0}} (codes "load") 1000000 (Err fault) mid new
   pub length : LengthCause {T = Unit {0}} (Err fault) mid new
   pub last : Adds mid new (FailsInside {T = Unit {0}} (Err fault))
   pub acts : Adds mid new (RoundActs (codes "load"))
 
--- where its round wasn't done, the load ended so
+-- What a done round of the three logs says of its steps, as one that is asked for without an option:
+-- a new log is read whole, by fewer than 1,000,000 reads that gave bytes, and its cluster is `none`.
+pub record IsRoundOfLogs (r : Rounded) (old new : Option History) : Type 0 where
+  pub told : (stamped : List (List ℕ)) (started acting : List Who)
+      → IsRunOf (codes "load") started acting
+      → Adds old new (RoundTo stamped started acting (codes "load") (Ok r))
+  pub read : ReadsLogs (codes "load") (codes "Load") Plain (codes "none") load_logs 1000000 r.agent
+      old new
+  pub stays : (stamped : List (List ℕ)) (started acting : List Who)
+      → IsRunOf (codes "load") started acting
+      → Adds old new (StaysTo stamped started (codes "load") (codes "Load") load_logs)
+  pub live : HaveLines (codes "Load") load_logs (lines_of r.agent)
+  pub acts : Adds old new (RoundActs (codes "load"))
+
+-- All lines were appended, by which the writer made all own calls; then that round was done; and
+-- behind it the writer printed at most.
+pub record LoadScript (lines : ℕ) (r : Rounded) (old new : Option History) : Type 0 where
+  pub mid : Option History
+  pub next : Option History
+  pub appends : Adds old mid (AppendsLines lines)
+  pub round : IsRoundOfLogs r mid next
+  pub prints : Adds next new (Owns IsWritersPrint)
+
+-- how the load went: its round was done, or ended so
 abbrev pub RoundEndsSo : ℕ → Result LoadReport LoadEnd → Option History → Option History → Type 0
+RoundEndsSo lines (Ok report) old new =
+    (r : Rounded) × LoadScript lines r old new × IsReportOf lines r report
+RoundEndsSo lines (Err (Unclosed name)) old new =
+    (r : Rounded) × LoadScript lines r old new × (r.report.first_unclosed ≡ Some name)
 RoundEndsSo lines (Err (Round fault)) old new = EndsAsRound lines fault old new
-RoundEndsSo lines result old new = Unit {0}
+RoundEndsSo lines (Err fault) old new = Unit {0}
 
 -- a load that is done wasn't stopped
 abbrev pub EndsRunning : Result LoadReport LoadEnd → History → History → Type 0

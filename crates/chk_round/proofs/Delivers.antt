@@ -1,5 +1,5 @@
 -- A settle behind which all is delivered.
-use Rattle.std.proofs.Common.{◌≡◌, inl, inr, ℕ, zero, suc, ◌≤◌, true, false, List, [], ◌∷◌, length, Option, Some, None, Result, Ok, Err, refl, sym, ap, ◌∙◌, arith}
+use Rattle.std.proofs.Common.{◌≡◌, ℕ, zero, suc, ◌≤◌, true, false, List, [], ◌∷◌, length, Option, Some, None, Result, Ok, Err, refl, sym, ap, ◌∙◌, arith}
 use Rattle.std.specs.Prelude.{slice_get, slice_index}
 use Rattle.std.proofs.lemmas.Option.{same_Some, none-some}
 use Rattle.chk_site.specs.History.{History}
@@ -33,7 +33,7 @@ use Rattle.chk_round.specs.Faults.{of_agent}
 use Rattle.chk_round.specs.Following.{KeepsLogs}
 use Rattle.chk_round.specs.Joint.{BothAt, GoesOn, JointTo}
 use Rattle.chk_round.specs.Polling.{HasFree, PostedAll}
-use Rattle.chk_round.proofs.Following.{keeps_same}
+use Rattle.chk_round.proofs.Following.{keeps_same, keeps_then}
 use Rattle.chk_round.proofs.Joining.{same_then}
 use Rattle.chk_round.proofs.Sides.{agent_goes}
 
@@ -128,25 +128,28 @@ settled_size (a ∷ xs) (o ∷ ends) = ap suc (settled_size xs ends)
 
 module _ (now : ℕ) (s : Agents) (sound : IsSound s) (rows : s.delivery.table.rows ≡ []) where
   keeps_list : (t : Agents) → t.adaptors ≡ settle.settled_all s.adaptors s.delivery.table.committed → KeepsLogs s t
-  keeps_list t is kind path (inl f) =
-      let y = settled_to s.adaptors s.delivery.table.committed f.place f.adaptor f.at f.live in
-      inl (record {
-        place = f.place;
-        adaptor = y.0;
-        at = ap (λ xs. slice_get xs f.place) is ∙ y.1;
-        kind_is = y.2 ∙ f.kind_is;
-        path_is = y.3 ∙ f.path_is;
-        live = y.4;
-      })
-  keeps_list t is kind path (inr h) = inr (record {
-    full = ap length is ∙ (settled_size s.adaptors s.delivery.table.committed ∙ h.full);
-    none = λ i x at k p.
-        let few = sound.few in
-        let known = sound.known in
-        let r = settled_at s.adaptors s.delivery.table.committed i x (omega (arith, few, known))
-        (ap (λ xs. slice_get xs i) (sym is) ∙ at) in
-        h.none i r.0 r.1 (sym (ap (λ (y : Adaptor). y.kind) r.2) ∙ k) (sym (ap (λ (y : Adaptor). y.path) r.2) ∙ p);
-  })
+  keeps_list t is kind path = (
+    (λ f.
+        let y = settled_to s.adaptors s.delivery.table.committed f.place f.adaptor f.at f.live in
+        record {
+          place = f.place;
+          adaptor = y.0;
+          at = ap (λ xs. slice_get xs f.place) is ∙ y.1;
+          kind_is = y.2 ∙ f.kind_is;
+          path_is = y.3 ∙ f.path_is;
+          live = y.4;
+        }),
+    (λ h. record {
+      full = ap length is ∙ (settled_size s.adaptors s.delivery.table.committed ∙ h.full);
+      none = λ i x at k p.
+          let few = sound.few in
+          let known = sound.known in
+          let r = settled_at s.adaptors s.delivery.table.committed i x (omega (arith, few, known))
+          (ap (λ xs. slice_get xs i) (sym is) ∙ at) in
+          h.none i r.0 r.1 (sym (ap (λ (y : Adaptor). y.kind) r.2) ∙ k)
+          (sym (ap (λ (y : Adaptor). y.path) r.2) ∙ p);
+    }),
+  )
 
   settle_keeps : {t : Agents} {given : Settled} {old new : Option History} → IsSettled now s (Ok given) t old new
       → KeepsLogs s t
@@ -188,12 +191,13 @@ delivered now a b c d posted free some sound table ready is =
 
 pub delivered_logs : (now : ℕ) (a b c d : Agents) → PostedAll a b → HasFree b.delivery.table.room b c → 1 ≤ b.delivery.table.room
     → IsSound c → {given : Settled} {old new : Option History} → IsSettled now c (Ok given) d old new → KeepsLogs a d
-delivered_logs now a b c d posted free some sound is kind path f =
+delivered_logs now a b c d posted free some sound is =
     let room = free.same.rest.room in
     let many = free.free in
     let rows = rows_gone c.delivery (omega (arith, some, room)) (omega (arith, many, room)) in
-    settle_keeps now c sound rows is kind path
-    (keeps_same b c free.same.rest.adaptors kind path (keeps_same a b posted.same.rest.adaptors kind path f))
+    keeps_then a c d
+    (keeps_then a b c (keeps_same a b posted.same.rest.adaptors)
+    (keeps_same b c free.same.rest.adaptors)) (settle_keeps now c sound rows is)
 
 -- ---- what it leads to
 

@@ -29,71 +29,88 @@ use Rattle.chk_drain.specs.Parts.{AdaptorsBut}
 use Rattle.chk_drain.proofs.Steps.{step_leaves}
 use Rattle.chk_round.specs.Adding.{AddsLogs}
 use Rattle.chk_round.specs.Adding as adding
-use Rattle.chk_round.specs.Following.{Follows, HasLiveLine, IsFullWithout, KeepsLogs}
+use Rattle.chk_round.specs.Following.{Follows, HasLiveLine, HasNoRoom, IsFollowed, IsFullWithout, KeepsLogs}
 use Rattle.chk_round.specs.Rounds.{AllSteady}
 use Rattle.chk_round.proofs.Gathers.{added_steady}
 use Rattle.chk_round.proofs.Sent.{other_at}
 
 -- ---- the adaptors are kept
 
+pub keeps_all : (a : State) → KeepsLogs a a
+keeps_all a kind path = ((λ f. f), (λ h. h))
+
+pub keeps_then : (a b c : State) → KeepsLogs a b → KeepsLogs b c → KeepsLogs a c
+keeps_then a b c first second kind path = (
+  (λ f. (second kind path).0 ((first kind path).0 f)),
+  (λ h. (second kind path).1 ((first kind path).1 h)),
+)
+
+-- what was so of a log is so still
+pub follows_on : (a b : State) → KeepsLogs a b → (kind path : List ℕ) → Follows kind path a
+    → Follows kind path b
+follows_on a b keeps kind path (inl f) = inl ((keeps kind path).0 f)
+follows_on a b keeps kind path (inr h) = inr ((keeps kind path).1 h)
+
 pub keeps_same : (a b : State) → b.adaptors ≡ a.adaptors → KeepsLogs a b
-keeps_same a b same kind path (inl f) = inl (record {
-  place = f.place;
-  adaptor = f.adaptor;
-  at = ap (λ xs. slice_get xs f.place) same ∙ f.at;
-  kind_is = f.kind_is;
-  path_is = f.path_is;
-  live = f.live;
-})
-keeps_same a b same kind path (inr h) = inr (record {
-  full = ap length same ∙ h.full;
-  none = λ i x at. h.none i x (ap (λ xs. slice_get xs i) (sym same) ∙ at);
-})
+keeps_same a b same kind path = (
+  (λ f. record {
+    place = f.place;
+    adaptor = f.adaptor;
+    at = ap (λ xs. slice_get xs f.place) same ∙ f.at;
+    kind_is = f.kind_is;
+    path_is = f.path_is;
+    live = f.live;
+  }),
+  (λ h. record {
+    full = ap length same ∙ h.full;
+    none = λ i x at. h.none i x (ap (λ xs. slice_get xs i) (sym same) ∙ at);
+  }),
+)
 
 -- one adaptor changes, and stays live where it was
 keeps_but : (n : ℕ) (a b : State) → AdaptorsBut n a b
     → ((x : Adaptor) → slice_get a.adaptors n ≡ Some x → x.phase ≡ Live
     → (y : Adaptor) × (slice_get b.adaptors n ≡ Some y) × (y.phase ≡ Live))
     → KeepsLogs a b
-keeps_but n a b but live kind path (inl f) = go (is_here f.place)
+keeps_but n a b but live kind path = (
+  (λ f. followed f (is_here f.place)),
+  (λ h. record {
+    full = but.size ∙ h.full;
+    none = λ i x at k p. roomless h i x at k p (is_here i);
+  }),
+)
   where
     is_here : (k : ℕ) → (k ≡ n) ⊎ (k ≢ n)
     is_here k = grind arith
 
-    go : (f.place ≡ n) ⊎ (f.place ≢ n) → Follows kind path b
-    go (inr other) = inl (record {
+    followed : (f : IsFollowed kind path a) → (f.place ≡ n) ⊎ (f.place ≢ n)
+        → IsFollowed kind path b
+    followed f (inr apart) = record {
       place = f.place;
       adaptor = f.adaptor;
-      at = other_at n a b but f.place f.adaptor other f.at;
+      at = other_at n a b but f.place f.adaptor apart f.at;
       kind_is = f.kind_is;
       path_is = f.path_is;
       live = f.live;
-    })
-    go (inl here) =
+    }
+    followed f (inl here) =
         let at = ap (λ k. slice_get a.adaptors k) (sym here) ∙ f.at in
         let y = live f.adaptor at f.live in
         let m = but.here y.0 y.1 in
         let same = same_Some m.0 f.adaptor (sym m.1 ∙ at) in
-        inl (record {
+        record {
           place = n;
           adaptor = y.0;
           at = y.1;
           kind_is = m.2 ∙ (ap (λ (x : Adaptor). x.kind) same ∙ f.kind_is);
           path_is = m.3 ∙ (ap (λ (x : Adaptor). x.path) same ∙ f.path_is);
           live = y.2;
-        })
-keeps_but n a b but live kind path (inr h) = inr (record {
-  full = but.size ∙ h.full;
-  none = λ i x at k p. go i x at k p (is_here i);
-})
-  where
-    is_here : (k : ℕ) → (k ≡ n) ⊎ (k ≢ n)
-    is_here k = grind arith
+        }
 
-    go : (i : ℕ) (x : Adaptor) → slice_get b.adaptors i ≡ Some x → x.kind ≡ kind → x.path ≡ path
-        → (i ≡ n) ⊎ (i ≢ n) → ⊥
-    go i x at k p (inr other) = h.none i x (but.others i x other at) k p
-    go i x at k p (inl here) =
+    roomless : HasNoRoom kind path a → (i : ℕ) (x : Adaptor) → slice_get b.adaptors i ≡ Some x
+        → x.kind ≡ kind → x.path ≡ path → (i ≡ n) ⊎ (i ≢ n) → ⊥
+    roomless h i x at k p (inr apart) = h.none i x (but.others i x apart at) k p
+    roomless h i x at k p (inl here) =
         let m = but.here x (ap (λ j. slice_get b.adaptors j) (sym here) ∙ at) in
         h.none n m.0 m.1 (sym m.2 ∙ k) (sym m.3 ∙ p)
 
@@ -176,7 +193,7 @@ found_is kind path n (a ∷ xs) f e =
     go false is e rest =
         let r = rest e in let number = r.1 in (suc r.0, omega (arith, number), r.2, r.3, r.4)
 
-found_here : (kind path : List ℕ) (xs : List Adaptor) (f : Found) → stream_in kind path 0 xs ≡ Some f
+pub found_here : (kind path : List ℕ) (xs : List Adaptor) (f : Found) → stream_in kind path 0 xs ≡ Some f
     → (slice_get xs f.number ≡ Some f.adaptor) × (f.adaptor.kind ≡ kind) × (f.adaptor.path ≡ path)
 found_here kind path xs f e =
     let r = found_is kind path 0 xs f e in
@@ -185,15 +202,17 @@ found_here kind path xs f e =
     (ap (λ k. slice_get xs k) (sym same) ∙ r.2, r.3, r.4)
 
 with_more : (s : State) (l : Line) → length s.adaptors ≢ 10000 → KeepsLogs s (with_added s None l)
-with_more s l room kind path (inl f) = inl (record {
-  place = f.place;
-  adaptor = f.adaptor;
-  at = get_more s.adaptors (adaptor_of l ∷ []) f.place f.adaptor f.at;
-  kind_is = f.kind_is;
-  path_is = f.path_is;
-  live = f.live;
-})
-with_more s l room kind path (inr h) = absurd (room h.full)
+with_more s l room kind path = (
+  (λ f. record {
+    place = f.place;
+    adaptor = f.adaptor;
+    at = get_more s.adaptors (adaptor_of l ∷ []) f.place f.adaptor f.at;
+    kind_is = f.kind_is;
+    path_is = f.path_is;
+    live = f.live;
+  }),
+  (λ h. absurd (room h.full)),
+)
 
 with_again : (s : State) (f : Found) (l : Line) → slice_get s.adaptors f.number ≡ Some f.adaptor
     → KeepsLogs s (with_added s (Some f) l)
@@ -229,7 +248,8 @@ one_keeps : {class : Class} {kind path : List ℕ} {s t : State} {added : Added}
 one_keeps {s = s} (adds.live found is past) = keeps_same s s refl
 one_keeps {s = s} (adds.too_many is full) = keeps_same s s refl
 one_keeps {class = class} {kind = kind} {path = path} {s = s} (adds.new name found is may named (adds.written {t = t} after newest same writes)) =
-    λ k p f. keeps_same t (adds_saved t) refl k p (subst (KeepsLogs s) (sym same) (go found is may) k p f)
+    keeps_then s t (adds_saved t) (subst (KeepsLogs s) (sym same) (go found is may))
+    (keeps_same t (adds_saved t) refl)
   where
     go : (found : Option Found) → stream_in kind path 0 s.adaptors ≡ found → MayTake found (length s.adaptors)
         → KeepsLogs s (with_added s found (adds.new_line name (adds.class_for class found) kind path 0 after))
@@ -259,7 +279,8 @@ one_follows {kind = kind} {path = path} {s = s} steady (adds.live found is past)
 one_follows {kind = kind} {path = path} {s = s} steady (adds.too_many is full) =
     inr (record { full = full; none = none_in kind path 0 s.adaptors is })
 one_follows {class = class} {kind = kind} {path = path} {s = s} steady (adds.new name found is may named (adds.written {t = t} after newest same writes)) =
-    keeps_same t (adds_saved t) refl kind path (subst (Follows kind path) (sym same) (go found is))
+    follows_on t (adds_saved t) (keeps_same t (adds_saved t) refl) kind path
+    (subst (Follows kind path) (sym same) (go found is))
   where
     go : (found : Option Found) → stream_in kind path 0 s.adaptors ≡ found
         → Follows kind path (with_added s found (adds.new_line name (adds.class_for class found) kind path 0 after))
@@ -282,17 +303,19 @@ one_follows {class = class} {kind = kind} {path = path} {s = s} steady (adds.new
           live = refl;
         })
 
-logs_keep : {class : Class} {kind : List ℕ} {logs : List (List ℕ)} {s t : State} {old new : Option History}
+pub logs_keep : {class : Class} {kind : List ℕ} {logs : List (List ℕ)} {s t : State} {old new : Option History}
     → AddsLogs class kind logs s (Ok tt) t old new → KeepsLogs s t
-logs_keep adding.all kind path f = f
-logs_keep (adding.one added is rest) kind path f = logs_keep rest kind path (one_keeps is kind path f)
+logs_keep {s = s} adding.all = keeps_all s
+logs_keep {s = s} {t = u} (adding.one {t = t} added is rest) =
+    keeps_then s t u (one_keeps is) (logs_keep rest)
 
 -- each of the logs that were added
 pub logs_follow : {class : Class} {kind : List ℕ} {logs : List (List ℕ)} {s t : State} {old new : Option History}
     → AllSteady s → AddsLogs class kind logs s (Ok tt) t old new → (log : List ℕ) → Contains logs log → Follows kind log t
 logs_follow steady adding.all log (k, below, at) = absurd (let z : ⊥ = omega (arith, below) in z)
 logs_follow {kind = kind} {t = t} steady (adding.one added is rest) log (zero, below, at) =
-    subst (λ p. Follows kind p t) at (logs_keep rest kind _ (one_follows steady is))
+    subst (λ p. Follows kind p t) at
+    (follows_on _ t (logs_keep rest) kind _ (one_follows steady is))
 logs_follow steady (adding.one added is rest) log (suc k, below, at) =
     logs_follow ((added_steady is).steady steady) rest log (k, omega (arith, below), at)
 

@@ -53,7 +53,7 @@ steady_lines [] i x at past = absurd (none-some x at)
 steady_lines (l ∷ ls) zero x at past = line_steady l x (same_Some _ x at) past
 steady_lines (l ∷ ls) (suc i) x at past = steady_lines ls i x at past
 
-more_at : {X : Type 0} (xs : List X) (x : X) (i : ℕ) (y : X) → slice_get (xs ++ x ∷ []) i ≡ Some y
+pub more_at : {X : Type 0} (xs : List X) (x : X) (i : ℕ) (y : X) → slice_get (xs ++ x ∷ []) i ≡ Some y
     → (slice_get xs i ≡ Some y) ⊎ (x ≡ y)
 more_at [] x zero y at = inr (same_Some x y at)
 more_at [] x (suc i) y at = inl at

@@ -37,4 +37,5 @@ pub mod Delivers
 pub mod Whole
 pub mod Gathers
 pub mod Rounding
+pub mod Staying
 pub mod Literals

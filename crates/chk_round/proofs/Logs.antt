@@ -20,6 +20,7 @@ use Rattle.chk_agent.proofs.TalkingTold.{ran_before}
 use Rattle.chk_round.specs.declared.faults.RoundFault.{RoundFault}
 use Rattle.chk_round.specs.Done.{ReadTo}
 use Rattle.chk_round.specs.Following.{KeepsLogs}
+use Rattle.chk_round.proofs.Following.{keeps_all, keeps_then}
 use Rattle.chk_round.specs.Joint.{AreIn, BothAt, JointTo}
 use Rattle.chk_round.specs.OwnRows.{OwnTo}
 use Rattle.chk_round.specs.Reading.{AfterReadOut, ReadOn, ReadsAll, ReadsOn}
@@ -111,7 +112,7 @@ reading_begun s a now m = record {
         (ap (λ (k : Adaptor). k.kind) same, ap (λ (k : Adaptor). k.path) same);
     idle = λ i x y there off at. same_Some y x (sym at ∙ there);
   };
-  lives = λ kind path f. f;
+  lives = keeps_all a;
   rows = own_none s a now;
   acts = acts_none now;
   later = λ k c from there. there;
@@ -314,7 +315,7 @@ module _ (n : ℕ) (s t : Sinks) (a b : Agents) {old mid : Option History} {befo
               streams = streams_still;
               idle = idle_still on;
             };
-            lives = λ kind path f. lives kind path (so.lives kind path f);
+            lives = keeps_then a b c so.lives lives;
             rows = reading_own u c (Ok tt) rows;
             acts = acts_then so.acts more;
             later = λ k d from there. so.later k d (omega (arith, from))

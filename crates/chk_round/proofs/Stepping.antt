@@ -40,7 +40,7 @@ use Rattle.chk_round.specs.Polling.{PostedSome}
 use Rattle.chk_round.specs.Reading as told
 use Rattle.chk_round.specs.Reading.{AfterReadOut, IsGrowing, IsShrank, ReadOn}
 use Rattle.chk_round.specs.Sending.{SendsOn, SendsOthers}
-use Rattle.chk_round.proofs.Following.{keeps_same, step_keeps_logs}
+use Rattle.chk_round.proofs.Following.{keeps_all, keeps_same, keeps_then, step_keeps_logs}
 use Rattle.chk_round.proofs.Joining.{in_on, joint_none, joint_then}
 use Rattle.chk_round.specs.Scripts as scripts
 use Rattle.chk_round.specs.Scripts.{Anything, IsNoRead, ReadsOut}
@@ -236,7 +236,7 @@ reading_none i reads s a now n some here = record {
   on = on_none i a;
   here = here;
   sends = λ stamped started one k x other at. sends_none (stream_at a.source x) x.read.offset stamped started now;
-  lives = λ kind path f. f;
+  lives = keeps_all a;
   rows = own_none s a now;
   acts = acts_none now;
   script = λ r u new x. x;
@@ -282,9 +282,9 @@ module _ (i count reads : ℕ) (s t : Sinks) (a b : Agents) {old now : Option Hi
         here = step_read n one is so.here.1 so.here.2;
         sends = ended_sends;
         rows = own_stepped;
-        lives = λ kind path f.
-            step_keeps_logs (subst (λ r. IsOneStepped i so.here.0 b r c now next) is one) so.here.1
-            (λ had size e. let z : ⊥ = cc in z) kind path (so.lives kind path f);
+        lives = keeps_then a b c so.lives
+            (step_keeps_logs (subst (λ r. IsOneStepped i so.here.0 b r c now next) is one) so.here.1
+            (λ had size e. let z : ⊥ = cc in z));
         acts = stepped_acts;
         script = λ r u new later.
             so.script r u new
@@ -328,9 +328,10 @@ module _ (i count reads : ℕ) (s t : Sinks) (a b : Agents) {old now : Option Hi
       (in_on s t a b so.starts.collector source_on run)))
 
   pub ended_lives : result ≡ Ok AtEnd → KeepsLogs a c
-  ended_lives is kind path f =
-      step_keeps_logs (subst (λ r. IsOneStepped i so.here.0 b r c now next) is one) so.here.1
-      (λ had size e. let z : ⊥ = cc in z) kind path (so.lives kind path f)
+  ended_lives is =
+      keeps_then a b c so.lives
+      (step_keeps_logs (subst (λ r. IsOneStepped i so.here.0 b r c now next) is one) so.here.1
+      (λ had size e. let z : ⊥ = cc in z))
 
   pub ended_on : ReadOn i a c
   ended_on = on_then i a b c so.on (step_on one so.here.1)
@@ -424,7 +425,7 @@ module _ (i count reads : ℕ) (s t : Sinks) (a b : Agents) {old now : Option Hi
                   let low = other_low i a c held_so.adaptors held_so.source sound k x other at in
                   sends_then s x.read.offset stamped started (ended_sends stamped started one k x other at)
                   (sends stamped started s x.read.offset one low).0;
-              lives = λ kind path f. keeps_same b d kept kind path (so.lives kind path f);
+              lives = keeps_then a b d so.lives (keeps_same b d kept);
               rows = held_own (Ok tt) rows;
               acts = acts_then stepped_acts more;
               script = λ r w last later.

@@ -23,9 +23,11 @@ pub record HasNoRoom (kind path : List ℕ) (s : State) : Type 0 where
 abbrev pub Follows : List ℕ → List ℕ → State → Type 0
 Follows kind path s = IsFollowed kind path s ⊎ HasNoRoom kind path s
 
--- what was so of a log is so still
+-- a log that a live adaptor read is read so still, and where there was no room for one, there is none
 abbrev pub KeepsLogs : State → State → Type 0
-KeepsLogs s t = (kind path : List ℕ) → Follows kind path s → Follows kind path t
+KeepsLogs s t =
+    (kind path : List ℕ) → (IsFollowed kind path s → IsFollowed kind path t)
+    × (HasNoRoom kind path s → HasNoRoom kind path t)
 
 -- ---- the lines
 
@@ -46,3 +48,10 @@ pub record IsFullWithout (kind path : List ℕ) (lines : List Line) : Type 0 whe
 abbrev pub HaveLines : List ℕ → List (List ℕ) → List Line → Type 0
 HaveLines kind logs lines =
     (log : List ℕ) → Contains logs log → HasLiveLine kind log lines ⊎ IsFullWithout kind log lines
+
+-- What is live now: just what was live before, and these logs under this type. The words' log for
+-- which there was no room isn't.
+pub record KeepsLive (kind : List ℕ) (logs : List (List ℕ)) (before now : List Line) : Type 0 where
+  pub kept : (k path : List ℕ) → HasLiveLine k path before → HasLiveLine k path now
+  pub only : (k path : List ℕ) → HasLiveLine k path now
+      → HasLiveLine k path before ⊎ ((k ≡ kind) × Contains logs path)

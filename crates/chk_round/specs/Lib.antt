@@ -18,6 +18,7 @@ pub mod Polled
 pub mod Delivering
 pub mod Sending
 pub mod Following
+pub mod Staying
 pub mod Done
 pub mod Theirs
 pub mod Rounds

@@ -7,11 +7,12 @@ use Rattle.chk_reading.specs.Adaptors.{Adaptor, is_past, is_stepped}
 use Rattle.chk_agent.specs.declared.answers.AgentFault.{AgentFault}
 use Rattle.chk_agent.specs.declared.answers.Stepped.TheVariants.{AtEnd, Held, Read, Shrank as step_shrank}
 use Rattle.chk_agent.specs.Fills.{IsOneStepped}
-use Rattle.chk_agent.specs.States.{State, is_read_on}
+use Rattle.chk_agent.specs.States.{State, is_read_on, lines_of}
 use Rattle.chk_round.specs.declared.faults.RoundFault.{RoundFault}
 use Rattle.chk_round.specs.declared.faults.RoundFault.TheVariants.{Growing, Shrank}
 use Rattle.chk_round.specs.Begun.{BeginsSo}
 use Rattle.chk_round.specs.Faults.{of_agent}
+use Rattle.chk_round.specs.Following.{KeepsLive}
 use Rattle.chk_round.specs.Polling.{PostedSome}
 use Rattle.chk_round.specs.Reading.{IsGrowing, IsShrank}
 
@@ -103,7 +104,7 @@ WereRead s t =
 
 -- Behind the start of this source's agent, and the adding of these logs, it read its logs, each to
 -- its end, by fewer than so many reads that gave bytes. The log of each adaptor that is live now was
--- among them.
+-- among them, and just these and those that the start found live are.
 pub record ReadsLogs (source kind : List ℕ) (class : Class) (cluster : List ℕ)
     (logs : List (List ℕ)) (reads : ℕ) (now : State) (old new : Option History) : Type 0 where
   pub begun : State
@@ -112,3 +113,4 @@ pub record ReadsLogs (source kind : List ℕ) (class : Class) (cluster : List �
   pub before : BeginsSo source kind class cluster logs begun old mid
   pub script : RunReads {T = Unit {0}} reads begun (Ok tt) mid new
   pub each : WereRead begun now
+  pub live : KeepsLive kind logs before.fresh.saved (lines_of now)

@@ -13,6 +13,7 @@ ghost use Rattle.chk_round.specs.Lengths.{LengthCause};
 ghost use Rattle.chk_round.specs.Scripts.{ReadsLogs, RoundReads};
 ghost use Rattle.chk_round.specs.Rounded.{RoundTo};
 ghost use Rattle.chk_round.specs.Starts.{inside};
+ghost use Rattle.chk_round.specs.Staying.{StaysTo};
 ghost use Rattle.chk_round.specs.Calls.{RoundActs};
 
 use crate::faults::RoundFault;
@@ -55,6 +56,9 @@ pub fn round<S: Site>(
         given.now.cluster given.now.logs.items given.now.reads r.agent
         (S.told site.old) (S.told site.new)) }
     ensures cluster { IfOk result (λ r. r.agent.cluster ≡ given.now.cluster) }
+    ensures stays { IfOk result (λ _. (stamped : List (List ℕ)) (started acting : List Person)
+        → IsRunOf given.now.source started acting → Adds (S.told site.old) (S.told site.new)
+        (StaysTo stamped started given.now.source given.now.kind given.now.logs.items)) }
     ensures live { IfOk result (λ r. HaveLines given.now.kind given.now.logs.items
         (lines_of r.agent)) }
     ensures length { LengthCause result (S.told site.old) (S.told site.new) }
@@ -88,6 +92,9 @@ pub fn round_within<S: Site>(
         given.now.cluster given.now.logs.items given.now.reads r.agent
         (S.told site.old) (S.told site.new)) }
     ensures cluster { IfOk result (λ r. r.agent.cluster ≡ given.now.cluster) }
+    ensures stays { IfOk result (λ _. (stamped : List (List ℕ)) (started acting : List Person)
+        → IsRunOf given.now.source started acting → Adds (S.told site.old) (S.told site.new)
+        (StaysTo stamped started given.now.source given.now.kind given.now.logs.items)) }
     ensures live { IfOk result (λ r. HaveLines given.now.kind given.now.logs.items
         (lines_of r.agent)) }
     ensures length { LengthCause result (S.told site.old) (S.told site.new) }
@@ -127,6 +134,9 @@ fn run_prepared<S: Site>(
         given.now.cluster given.now.logs.items given.now.reads r.agent
         (S.told site.old) (S.told site.new)) }
     ensures cluster { IfOk result (λ r. r.agent.cluster ≡ given.now.cluster) }
+    ensures stays { IfOk result (λ _. (stamped : List (List ℕ)) (started acting : List Person)
+        → IsRunOf given.now.source started acting → Adds (S.told site.old) (S.told site.new)
+        (StaysTo stamped started given.now.source given.now.kind given.now.logs.items)) }
     ensures live { IfOk result (λ r. HaveLines given.now.kind given.now.logs.items
         (lines_of r.agent)) }
     ensures length { LengthCause result (S.told site.old) (S.told site.new) }

@@ -1,5 +1,5 @@
 -- The line of a stream, and the lines of adaptors in their order.
-use Rattle.std.proofs.Common.{◌≡◌, ℕ, zero, suc, ◌+◌, ◌<◌, Bool, true, false, not, List, [], ◌∷◌, ◌++◌, Option, Some, None, drop, length, ap, sym, ◌∙◌, refl, arith, add-one, true≢false, if◌then◌else◌}
+use Rattle.std.proofs.Common.{◌≡◌, ℕ, zero, suc, ◌+◌, ◌<◌, true, false, not, List, [], ◌∷◌, ◌++◌, Some, drop, length, ap, sym, ◌∙◌, refl, arith, add-one, true≢false, if◌then◌else◌}
 use Rattle.std.specs.Prelude.{IsTrue, decimal, ◌^◌, codes, slice_get, slice_index, is_some}
 use Rattle.std.specs.List.{list_all}
 use Rattle.std.proofs.lemmas.Bool.{and_from}

@@ -1,17 +1,16 @@
 -- The rules allow what a round prints.
 use Rattle.std.proofs.Common.{◌≡◌, ℕ, Bool, true, false, List, [], ◌∷◌, ◌++◌, Option, Some, Ok, Err, Result, map, sym, subst, ap, ◌∙◌, refl, arith, append_assoc}
-use Rattle.std.specs.Prelude.{Contains, IsTrue, MatchBool}
+use Rattle.std.specs.Prelude.{IsTrue, MatchBool}
 use Rattle.chk_site.specs.declared.acts.Who.{Who}
 use Rattle.chk_site.specs.declared.acts.OutsideFault.{OutsideFault}
-use Rattle.chk_site.specs.declared.acts.Call.TheVariants.{Say}
 use Rattle.chk_site.specs.History.{History, is_stopped}
 use Rattle.chk_site.specs.Site.{Adds, plain}
 use Rattle.chk_site.specs.Runs.{Leads, own_acts}
 use Rattle.chk_site.proofs.Leads.{leads_as, leads_none, leads_then}
-use Rattle.chk_site.proofs.Runs.{adds_as, adds_both, adds_then}
+use Rattle.chk_site.proofs.Runs.{adds_then}
 use Rattle.chk_world.specs.ArchiveRuns.{IsArchiveRun, Listing, is_one_line, is_report, last_listing}
 use Rattle.chk_world.specs.Checkpoints.{Line}
-use Rattle.chk_world.specs.Jobs.{RanSo, ReportIsTrue, TrueReport}
+use Rattle.chk_world.specs.Jobs.{RanSo, ReportIsTrue}
 use Rattle.chk_world.specs.Knowing.{agent}
 use Rattle.chk_world.specs.Names.{is_source}
 use Rattle.chk_world.specs.Places.{As, AtTold}

@@ -4,7 +4,7 @@ use Rattle.std.specs.Prelude.{IsTrue, if◌then◌else◌}
 use Rattle.chk_site.specs.declared.acts.Who.{Who}
 use Rattle.chk_site.specs.declared.acts.OutsideFault.{OutsideFault}
 use Rattle.chk_site.specs.declared.acts.OutsideFault.TheVariants.{Outside as site_failed, NoMemory as site_wanting}
-use Rattle.chk_site.specs.History.{History, Others, is_stopped, since_start}
+use Rattle.chk_site.specs.History.{History, is_stopped, since_start}
 use Rattle.chk_site.specs.Site.{Adds, LastFailed, OutsideCause}
 use Rattle.chk_site.specs.Runs.{Leads, own_acts}
 use Rattle.chk_site.proofs.Runs.{adds_as, adds_both, adds_none, adds_then}
@@ -16,8 +16,8 @@ use Rattle.chk_world.specs.Names.{is_source}
 use Rattle.chk_world.specs.Places.{AtTold}
 use Rattle.chk_world.specs.Rules.{Legal}
 use Rattle.chk_world.specs.Sight.{job}
-use Rattle.chk_world.specs.Together.{Outside as OutsideOf, Together}
-use Rattle.chk_agent.specs.States.{State, lines_of}
+use Rattle.chk_world.specs.Together.{Together}
+use Rattle.chk_agent.specs.States.{lines_of}
 use Rattle.chk_archive.specs.Reporting.{report_view}
 use Rattle.chk_archive.specs.Reports.{Report}
 use Rattle.chk_prints.specs.Printing.{printed}
@@ -29,13 +29,14 @@ use Rattle.chk_round.specs.Faults.{FailsInside, RoundCause}
 use Rattle.chk_round.specs.Following.{HaveLines}
 use Rattle.chk_round.specs.Processes.{IsRunOf}
 use Rattle.chk_round.specs.Rounded.{AfterRound, RoundTo}
+use Rattle.chk_round.specs.Staying.{StaysTo}
 use Rattle.chk_round.proofs.Logs.{both_lead, early, ran}
 use Rattle.chk_round_run.specs.declared.ends.RoundEnd.{RoundEnd}
 use Rattle.chk_round_run.specs.declared.ends.RoundEnd.TheVariants.{Fault, Unclosed}
 use Rattle.chk_round_run.specs.Telling.{Tells, cut, told, end_by, is_of_c1, print_end, round_prints}
-use Rattle.chk_round_run.specs.Running.{AfterRun, DoneAndTold, EndsByCall, IsAllTold, RunCause, RunsTo, TellsRound}
+use Rattle.chk_round_run.specs.Running.{AfterRun, EndsByCall, IsAllTold, RunCause, RunsTo, TellsRound}
 use Rattle.chk_round_run.proofs.Unclosed.{none_open}
-use Rattle.chk_round_run.proofs.Prints.{Any, BothMay, RanNow, tells_lead, tells_printed, tells_run}
+use Rattle.chk_round_run.proofs.Prints.{Any, BothMay, tells_lead, tells_printed, tells_run}
 
 -- ---- the ends
 
@@ -161,11 +162,17 @@ module _ (stamped : List (List ℕ)) (source : List ℕ) where
             done = λ all. absurd (print_ends fault all);
           })
 
-      pub ran_to : r.agent.cluster ≡ cluster → HaveLines kind logs (lines_of r.agent) → TellsRound source r (Ok tt) mid new
-          → Adds old new (To (end_by r.report.first_unclosed))
-      ran_to same live tells =
-          adds_then (To (end_by r.report.first_unclosed)) first (tells_all r tells)
-          (λ a b history x y.
+      pub ran_to : r.agent.cluster ≡ cluster → HaveLines kind logs (lines_of r.agent)
+          → Adds old mid (StaysTo stamped started source kind logs)
+          → TellsRound source r (Ok tt) mid new → Adds old new (To (end_by r.report.first_unclosed))
+      ran_to same live stays tells =
+          adds_then (To (end_by r.report.first_unclosed))
+          (adds_both
+          (λ a history. RoundTo stamped started acting source (Ok r) a history
+          × StaysTo stamped started source kind logs a history) first stays (λ a history x s. (x, s)))
+          (tells_all r tells)
+          (λ a b history xs y.
+          let x = xs.0 in
           let both = leads_both r (Ok tt) a b history x y in
           let running : is_stopped ((b ++ a) ++ history) ≡ false = ap is_stopped (append_assoc b a history) ∙ y.running refl in
           record {
@@ -175,8 +182,9 @@ module _ (stamped : List (List ℕ)) (source : List ℕ) where
             };
             running = λ all. running;
             done = λ all others h.
-                let done = x.done r refl (early stamped started acting b a history others) h
-                (ran stamped started acting b a history y.leads running) in
+                let first_others = early stamped started acting b a history others in
+                let first_running = ran stamped started acting b a history y.leads running in
+                let done = x.done r refl first_others h first_running in
                 record {
                   rounded = r;
                   tail = b;
@@ -185,6 +193,7 @@ module _ (stamped : List (List ℕ)) (source : List ℕ) where
                   done = done;
                   of_cluster = subst (λ n. AllOfCluster n (since_start (agent source) (a ++ history))) same done.one_cluster;
                   live = subst (HaveLines kind logs) (sym done.lines) live;
+                  stays = xs.1 first_others h first_running;
                   printed_is = y.printed_is refl
                       ∙ ap (λ (ls : List Line). round_prints (agent source) job ls (report_view r.report)) (sym done.lines);
                   ends = refl;

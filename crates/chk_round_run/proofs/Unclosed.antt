@@ -1,9 +1,9 @@
 -- Where a run ends well, the listing showed no sink under writing.
-use Rattle.std.proofs.Common.{◌≡◌, ℕ, ◌-◌, Bool, true, false, List, [], ◌∷◌, ◌++◌, Option, Some, None, Ok, Err, Result, length, take, drop, ap, sym, ◌∙◌, refl, arith, bytes_eq, true≢false, if◌then◌else◌, cond}
+use Rattle.std.proofs.Common.{◌≡◌, ℕ, ◌-◌, Bool, true, false, List, [], ◌∷◌, ◌++◌, Option, Some, None, Ok, Err, length, take, drop, ap, sym, ◌∙◌, refl, arith, bytes_eq, true≢false, if◌then◌else◌, cond}
 use Rattle.std.specs.Prelude.{IsTrue, codes, count_by, find}
 use Rattle.std.proofs.lemmas.List.{take-append-drop}
 use Rattle.std.proofs.lemmas.List.Sums.{sum_by-cons}
-use Rattle.std.proofs.lemmas.Option.{none-some, same_Some}
+use Rattle.std.proofs.lemmas.Option.{none-some}
 use Rattle.chk_bytes.specs.Stems.{Stem, is_stem, read_stem, stem_text}
 use Rattle.chk_bytes.proofs.StemLemmas.{read_stem-Some}
 use Rattle.chk_site.specs.History.{History}
@@ -11,7 +11,6 @@ use Rattle.chk_world.specs.ArchiveRuns.{is_unclosed}
 use Rattle.chk_world.proofs.Ends.{bytes_same}
 use Rattle.chk_round.specs.declared.whole_round.Rounded.{Rounded}
 use Rattle.chk_round.specs.Rounds.{RoundDone}
-use Rattle.chk_round_run.specs.declared.ends.RoundEnd.{RoundEnd}
 use Rattle.chk_round_run.specs.declared.ends.RoundEnd.TheVariants.{Unclosed}
 use Rattle.chk_round_run.specs.Telling.{end_by, is_by_c1, is_of_c1, read_stem_of}
 

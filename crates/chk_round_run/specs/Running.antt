@@ -30,6 +30,7 @@ use Rattle.chk_round.specs.Rounds.{RoundDone}
 use Rattle.chk_round.specs.Scripts.{ReadsLogs, RoundReads}
 use Rattle.chk_round.specs.LastPolls.{LastPoll}
 use Rattle.chk_round.specs.Spent.{IsSpentRound, WhereRunning}
+use Rattle.chk_round.specs.Staying.{StaysLive, StaysTo}
 use Rattle.chk_round_run.specs.declared.ends.RoundEnd.{RoundEnd}
 use Rattle.chk_round_run.specs.declared.ends.RoundEnd.TheVariants.{Fault, Unclosed}
 use Rattle.chk_round_run.specs.Telling.{Tells, end_by, print_end, round_prints}
@@ -39,8 +40,9 @@ use Rattle.chk_round_run.specs.Telling.{Tells, end_by, print_end, round_prints}
 -- What a round of this source says of its steps, which reads these logs under this type. A log
 -- that grows or shrank shows in the reads that the source's agent made, so many of a log at most,
 -- and a length below an answered offset in the last poll behind a commit. Where it is done, the logs
--- were added behind the agent's start, a new one with this class, and each live log was read to its
--- end by fewer than so many reads that gave bytes.
+-- were added behind the agent's start, a new one with this class, each live log was read to its end
+-- by fewer than so many reads that gave bytes, and just the logs and what was live at the start are
+-- live.
 pub record IsRound (source kind : List ℕ) (class : Class) (cluster : List ℕ)
     (logs : List (List ℕ)) (reads : ℕ)
     (result : Result Rounded RoundFault) (old new : Option History) : Type 0 where
@@ -49,6 +51,8 @@ pub record IsRound (source kind : List ℕ) (class : Class) (cluster : List ℕ)
   pub live : IfOk result (λ r. HaveLines kind logs (lines_of r.agent))
   pub script : RoundReads source reads result old new
   pub read : IfOk result (λ r. ReadsLogs source kind class cluster logs reads r.agent old new)
+  pub stays : IfOk result (λ r. (stamped : List (List ℕ)) (started acting : List Who)
+      → IsRunOf source started acting → Adds old new (StaysTo stamped started source kind logs))
   pub length : LengthCause result old new
   pub last : Adds old new (FailsInside result)
   pub acts : Adds old new (RoundActs source)
@@ -114,6 +118,8 @@ pub record DoneAndTold (source kind cluster : List ℕ) (logs : List (List ℕ))
   pub of_cluster : AllOfCluster cluster (since_start (agent source) (body ++ history))
   -- each of the logs has a live line, but where the checkpoint is full without it
   pub live : HaveLines kind logs (checkpoint_lines (files_after (body ++ history)) source)
+  -- each stream that was live behind the agent's start has one, and no further one but the logs'
+  pub stays : StaysLive source kind logs body history
   pub printed_is : printed (own_acts tail)
       ≡ round_prints (agent source) job (checkpoint_lines (files_after (body ++ history)) source) (report_view rounded.report)
   pub ends : result ≡ end_by rounded.report.first_unclosed

@@ -1,5 +1,5 @@
 -- What a round prints, and how it ends by what its archive run found.
-use Rattle.std.specs.Prelude.{ℕ, Bool, true, false, List, [], ◌∷◌, ◌++◌, codes, bytes_eq, flat_map, map, slice_get, if◌then◌else◌, Option, Some, None, Result, Ok, Err}
+use Rattle.std.specs.Prelude.{ℕ, Bool, false, List, [], ◌∷◌, ◌++◌, codes, bytes_eq, map, slice_get, if◌then◌else◌, Option, Some, None, Result, Ok, Err}
 use Rattle.chk_bytes.specs.Stems.{Stem, read_stem}
 use Rattle.chk_bytes.specs.Words.{before_end}
 use Rattle.chk_site.specs.declared.acts.Who.{Who}
@@ -13,7 +13,6 @@ use Rattle.chk_archive.specs.Reports.{Report}
 use Rattle.chk_words.specs.Lines.{stream_line}
 use Rattle.chk_prints.specs.Printing.{Print, PrintsInTurn, by}
 use Rattle.chk_archive_run.specs.Telling.{run_line}
-use Rattle.chk_round.specs.declared.faults.RoundFault.{RoundFault}
 use Rattle.chk_round.specs.declared.faults.RoundFault.TheVariants.{Outside, NoMemory}
 use Rattle.chk_round_run.specs.declared.ends.RoundEnd.{RoundEnd}
 use Rattle.chk_round_run.specs.declared.ends.RoundEnd.TheVariants.{Fault, Unclosed}

@@ -42,7 +42,7 @@ fn usage_lines(rt: HostRuntime) -> Result<(), NoMemory> {
         ),
         (
             Usage::Collector,
-            "usage: chukwa collector [--rotate MS] [--turns N] [--messages N] NAME ADDRESS\n",
+            "usage: chukwa collector [--rotate MS] [--turns N] NAME ADDRESS\n",
         ),
         (
             Usage::Drain,

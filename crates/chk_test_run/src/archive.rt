@@ -42,6 +42,42 @@ bytes archive/book LAST_BOOK
 bytes sinks/c1.1.1.done HEADER C1_1_1 HELLO
 run archive => 8 spent 9223372036854775807|
 
+no number left, and nothing to write
+bytes archive/book LAST_BOOK
+run archive => 0 archive unclosed 0 taken 0 held 0 removed 0|
+is archive/book LAST_BOOK
+
+one number left, and one segment
+bytes archive/book BOOK eight:9223372036854775806 four:0 four:0
+bytes sinks/c1.1.1.done HEADER C1_1_1 HELLO
+run archive => 0 archive unclosed 0 taken 6 held 0 removed 1|end h1 Log /a.log 6|
+
+one number left, and two segments
+bytes archive/book BOOK eight:9223372036854775806 four:0 four:0
+bytes sinks/c1.1.1.done HEADER C1_1_1 HELLO ZERO SHORT
+run archive => 8 spent 9223372036854775807|
+is archive/book BOOK eight:9223372036854775806 four:0 four:0
+is sinks/c1.1.1.done HEADER C1_1_1 HELLO ZERO SHORT
+
+another start than the book's
+bytes archive/seg.1 HEADER SEG_1 HELLO
+bytes archive/book BOOK eight:2 four:1 eight:1 eight:144 four:1 eight:6 STREAM
+bytes sinks/c1.1.1.done HEADER C1_1_1 EAST
+run archive => 5 damaged sinks/c1.1.1.done 96|
+is archive/book BOOK eight:2 four:1 eight:1 eight:144 four:1 eight:6 STREAM
+is archive/seg.1 HEADER SEG_1 HELLO
+size archive/seg.2 => none
+is sinks/c1.1.1.done HEADER C1_1_1 EAST
+
+another start than the first chunk's
+bytes sinks/c1.1.1.done HEADER C1_1_1 EAST
+bytes sinks/c2.1.1.done HEADER C1_1_2 HELLO
+run archive => 5 damaged sinks/c1.1.1.done 96|
+size archive/seg.1 => none
+size archive/book => none
+is sinks/c1.1.1.done HEADER C1_1_1 EAST
+is sinks/c2.1.1.done HEADER C1_1_2 HELLO
+
 the start fails
 fail 1
 run archive => 3 outside start|

@@ -60,6 +60,38 @@ a segment that isn't there
 bytes archive/book A_B_BOOK
 run demux => 5 damaged archive/seg.1 0|
 
+a record before the end of the one in front of it
+bytes archive/seg.1 HEADER SEG_1 HELLO WORL
+bytes archive/book BOOK eight:2 four:1 eight:1 eight:192 four:1 eight:10 STREAM
+run demux => 5 damaged archive/seg.1 144|
+size demux/seg.1 => none
+size demux/book => none
+is archive/seg.1 HEADER SEG_1 HELLO WORL
+
+a gap between records
+bytes archive/seg.1 HEADER SEG_1 HELLO ZERO SHORT
+bytes archive/book BOOK eight:2 four:1 eight:1 eight:192 four:1 eight:1964 STREAM
+run demux => 5 damaged archive/seg.1 144|
+size demux/book => none
+
+a record past the end in the book
+bytes archive/seg.1 HEADER SEG_1 HELLO WORLD
+bytes archive/book BOOK eight:2 four:1 eight:1 eight:192 four:1 eight:6 STREAM
+run demux => 5 damaged archive/seg.1 144|
+size demux/book => none
+
+another start than in the book
+bytes archive/seg.1 HEADER SEG_1 EAST
+bytes archive/book BOOK eight:2 four:1 eight:1 eight:156 four:1 eight:9 STREAM
+run demux => 5 damaged archive/seg.1 96|
+size demux/book => none
+
+an end that the records don't reach
+bytes archive/seg.1 HEADER SEG_1 HELLO
+bytes archive/book BOOK eight:2 four:1 eight:1 eight:144 four:1 eight:12 STREAM
+run demux => 5 damaged archive/book 37|
+size demux/book => none
+
 the last number of a segment
 bytes archive/seg.1 HEADER SEG_1 A_B
 bytes archive/book A_B_BOOK

@@ -189,6 +189,63 @@ fn how_rounds_end(rt: HostRuntime) -> Result<(), Fail> {
     follows_each(rt.alloc(), PROGRAMS)
 }
 
+// The 16 segments of 16 rounds are merged by the next one, whose own segment stands beside the merged
+// one. A header has 96 bytes, a record of a line 44.
+const MERGED: &str = "\
+seventeen rounds
+log /a.log a|
+run round h1 Log /a.log => 0 stream h1 Log /a.log 2|archive unclosed 0 taken 2 held 0 removed 1|
+log /a.log a|
+run round h1 Log /a.log => 0 stream h1 Log /a.log 4|archive unclosed 0 taken 2 held 0 removed 1|
+log /a.log a|
+run round h1 Log /a.log => 0 stream h1 Log /a.log 6|archive unclosed 0 taken 2 held 0 removed 1|
+log /a.log a|
+run round h1 Log /a.log => 0 stream h1 Log /a.log 8|archive unclosed 0 taken 2 held 0 removed 1|
+log /a.log a|
+run round h1 Log /a.log => 0 stream h1 Log /a.log 10|archive unclosed 0 taken 2 held 0 removed 1|
+log /a.log a|
+run round h1 Log /a.log => 0 stream h1 Log /a.log 12|archive unclosed 0 taken 2 held 0 removed 1|
+log /a.log a|
+run round h1 Log /a.log => 0 stream h1 Log /a.log 14|archive unclosed 0 taken 2 held 0 removed 1|
+log /a.log a|
+run round h1 Log /a.log => 0 stream h1 Log /a.log 16|archive unclosed 0 taken 2 held 0 removed 1|
+log /a.log a|
+run round h1 Log /a.log => 0 stream h1 Log /a.log 18|archive unclosed 0 taken 2 held 0 removed 1|
+log /a.log a|
+run round h1 Log /a.log => 0 stream h1 Log /a.log 20|archive unclosed 0 taken 2 held 0 removed 1|
+log /a.log a|
+run round h1 Log /a.log => 0 stream h1 Log /a.log 22|archive unclosed 0 taken 2 held 0 removed 1|
+log /a.log a|
+run round h1 Log /a.log => 0 stream h1 Log /a.log 24|archive unclosed 0 taken 2 held 0 removed 1|
+log /a.log a|
+run round h1 Log /a.log => 0 stream h1 Log /a.log 26|archive unclosed 0 taken 2 held 0 removed 1|
+log /a.log a|
+run round h1 Log /a.log => 0 stream h1 Log /a.log 28|archive unclosed 0 taken 2 held 0 removed 1|
+log /a.log a|
+run round h1 Log /a.log => 0 stream h1 Log /a.log 30|archive unclosed 0 taken 2 held 0 removed 1|
+log /a.log a|
+run round h1 Log /a.log => 0 stream h1 Log /a.log 32|archive unclosed 0 taken 2 held 0 removed 1|
+size archive/seg.1 => 140
+size archive/seg.16 => 140
+size archive/book => 302
+log /a.log a|
+run round h1 Log /a.log => 0 stream h1 Log /a.log 34|archive unclosed 0 taken 2 held 0 removed 1|
+size archive/seg.17 => 800
+size archive/seg.18 => 140
+size archive/book => 78
+whole archive h1 Log /a.log
+run archive => 0 archive unclosed 0 taken 0 held 0 removed 0|end h1 Log /a.log 34|
+size archive/seg.1 => none
+size archive/seg.16 => none
+size archive/seg.17 => 800
+size archive/seg.18 => 140
+";
+
+#[test]
+fn seventeen_rounds(rt: HostRuntime) -> Result<(), Fail> {
+    follows_each(rt.alloc(), MERGED)
+}
+
 // The file stays as it was, and nothing is archived.
 const REFUSALS: &str = "\
 a damaged checkpoint

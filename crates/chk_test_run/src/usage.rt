@@ -11,8 +11,7 @@ const ROUND: &str =
 const AGENT: &str =
     "usage: chukwa agent [--initial FILE] [--control ADDRESS] [--turns N] [--poll MS] [--expire MS] [--cluster NAME] SOURCE COLLECTOR...|";
 
-const COLLECTOR: &str =
-    "usage: chukwa collector [--rotate MS] [--turns N] [--messages N] NAME ADDRESS|";
+const COLLECTOR: &str = "usage: chukwa collector [--rotate MS] [--turns N] NAME ADDRESS|";
 
 const DRAIN: &str =
     "usage: chukwa drain [--initial FILE] [--reads N] [--polls N] [--cluster NAME] SOURCE COLLECTOR...|";

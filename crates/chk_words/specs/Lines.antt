@@ -25,7 +25,7 @@ abbrev pub end_line : List ℕ → List ℕ → List ℕ → ℕ → List ℕ
 end_line source kind name end =
     line_of (codes "end" ∷ source ∷ kind ∷ name ∷ decimal end ∷ [])
 
--- an archive run: sinks under writing, bytes taken, done sinks that stay and that were removed
+-- an archive run: sinks under writing, bytes taken, chunks that are set aside, done sinks that were removed
 abbrev pub archive_line : ℕ → ℕ → ℕ → ℕ → List ℕ
 archive_line unclosed taken held removed =
     line_of (codes "archive" ∷ codes "unclosed" ∷ decimal unclosed ∷ codes "taken" ∷ decimal taken

@@ -37,7 +37,7 @@ usage_text Round =
 usage_text Agent =
     codes "usage: chukwa agent [--initial FILE] [--control ADDRESS] [--turns N] [--poll MS] [--expire MS] [--cluster NAME] SOURCE COLLECTOR...\n"
 usage_text Collector =
-    codes "usage: chukwa collector [--rotate MS] [--turns N] [--messages N] NAME ADDRESS\n"
+    codes "usage: chukwa collector [--rotate MS] [--turns N] NAME ADDRESS\n"
 usage_text Drain =
     codes "usage: chukwa drain [--initial FILE] [--reads N] [--polls N] [--cluster NAME] SOURCE COLLECTOR...\n"
 usage_text Archive = codes "usage: chukwa archive\n"

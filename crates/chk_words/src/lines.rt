@@ -96,7 +96,7 @@ pub fn put_end<'a>(
 }
 
 /// Appends the report of an archive run, or without memory nothing. It tells sinks under writing,
-/// bytes taken, done sinks that stay and done sinks removed.
+/// bytes taken, chunks that are set aside and done sinks removed.
 pub fn put_archive(
     out: &mut Bytes,
     unclosed: u32,

@@ -46,7 +46,7 @@ impl Usage {
                 "usage: chukwa agent [--initial FILE] [--control ADDRESS] [--turns N] [--poll MS] [--expire MS] [--cluster NAME] SOURCE COLLECTOR...\n"
             }
             Usage::Collector => {
-                "usage: chukwa collector [--rotate MS] [--turns N] [--messages N] NAME ADDRESS\n"
+                "usage: chukwa collector [--rotate MS] [--turns N] NAME ADDRESS\n"
             }
             Usage::Drain => {
                 "usage: chukwa drain [--initial FILE] [--reads N] [--polls N] [--cluster NAME] SOURCE COLLECTOR...\n"

@@ -21,3 +21,4 @@ pub mod Complete
 pub mod WorksAlive
 pub mod DrainFaults
 pub mod DrainRun
+pub mod Headline

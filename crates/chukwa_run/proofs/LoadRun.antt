@@ -98,7 +98,7 @@ module _ (lines : ℕ) where
   fault_so (loads.Outside call) e added history is at running = rw is (inl (at.last running, at.appends))
   fault_so loads.NoMemory e added history is at running = rw is tt
   fault_so (loads.Round fault) e added history is at running = round_fault fault e added history is (at.appends, at.round)
-  fault_so (loads.Unclosed name) e added history is at running = rw is at.appends
+  fault_so (loads.Unclosed name) e added history is at running = rw is (at.appends, at.round)
 
   cut_so : (end : LoadEnd) (e : Ending) (added history : History) → IsLoadEnding end e → IsAt (Err end) added history
       → is_stopped (added ++ history) ≡ false → LoadCut lines history e added
@@ -106,7 +106,12 @@ module _ (lines : ℕ) where
       record { own = at.own; unprinted = at.prints; fault = fault_so end e added history is at running }
 
   once : (report : LoadReport) (added history : History) → IsAt (Ok report) added history → LoadedOnce lines report history added
-  once report added history at = record { own = at.own; appended = at.appends; printed = at.prints }
+  once report added history at = record {
+    own = at.own;
+    appended = at.appends;
+    printed = at.prints;
+    script = at.round;
+  }
 
   came : (result : Result LoadReport LoadEnd) (r : Result (Unit {0}) Ending) (added history : History) → IsResultOf result r
       → IsAt result added history → CausedBy (Load lines) r added history

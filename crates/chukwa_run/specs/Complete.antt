@@ -61,7 +61,7 @@ LeftOfDrain w earlier (Length stem got want) added =
 LeftOfDrain w earlier (Refused code) added = DrainScript w (Err (drains.Refused code)) earlier added
 LeftOfDrain w earlier e added = ⊥
 
--- fewer numbers of segments are left than a run needs
+-- no number is left for a segment that is needed now
 abbrev pub LeftOfArchive : History → Ending → History → Type 0
 LeftOfArchive earlier (Spent n) added = ArchiveFits (added ++ earlier) (Spent n)
 LeftOfArchive earlier e added = ⊥

@@ -12,4 +12,5 @@ pub mod Causes
 pub mod Saying
 pub mod Statuses
 pub mod Runs
+pub mod Headline
 pub mod Working

@@ -10,17 +10,19 @@ use Rattle.chk_round.specs.Spent.{IsSpentRound}
 use Rattle.chk_load_run.specs.declared.ends.LoadEnd.{LoadEnd}
 use Rattle.chk_load_run.specs.declared.ends.LoadEnd.TheVariants as loads
 use Rattle.chk_load_run.specs.declared.ends.LoadReport.{LoadReport}
-use Rattle.chk_load_run.specs.Loads.{EndsAsRound, LoadDone, LoadsBy, summary_line}
+use Rattle.chk_load_run.specs.Loads.{EndsAsRound, LoadDone, LoadsBy, RoundEndsSo, summary_line}
 use Rattle.chk_load_run.specs.Pieces.{AppendsFront, HasAppended, done_print, of_writer}
 use Rattle.chk_words.specs.declared.endings.Ending.{Ending}
 use Rattle.chk_words.specs.declared.endings.Ending.TheVariants.{Outside, NoMemory, Damaged, Length, Growing, Unclosed, Shrank, Spent, Refused}
 
 -- The writer appended just the generated lines to the three logs and printed just this summary, and
--- all other calls were those of the round.
+-- all other calls were those of the round: a done round of these logs behind the appends, with its
+-- class, cluster and reads.
 pub record LoadedOnce (lines : ℕ) (report : LoadReport) (earlier added : History) : Type 0 where
   pub own : Owns LoadsBy added earlier
   pub appended : HasAppended lines (own_acts added)
   pub printed : of_writer done_print (own_acts added) ≡ summary_line report ∷ []
+  pub script : RoundEndsSo lines (Ok report) (Some earlier) (Some (added ++ earlier))
 
 abbrev pub LoadDid : ℕ → History → History → Type 0
 LoadDid lines earlier added = (report : LoadReport) × LoadedOnce lines report earlier added
@@ -54,7 +56,9 @@ LoadFault lines earlier (Length stem got want) added =
     IsRoundOfLoad lines (rounds.Length stem got want) earlier added
 LoadFault lines earlier (Growing path reads) added =
     IsRoundOfLoad lines (rounds.Growing path reads) earlier added
-LoadFault lines earlier (Unclosed name) added = HasAppended lines (own_acts added)
+LoadFault lines earlier (Unclosed name) added =
+    HasAppended lines (own_acts added)
+    × RoundEndsSo lines (Err (loads.Unclosed name)) (Some earlier) (Some (added ++ earlier))
 LoadFault lines earlier (Shrank path had has) added =
     IsRoundOfLoad lines (rounds.Shrank path had has) earlier added
 LoadFault lines earlier (Spent number) added =

@@ -1,5 +1,5 @@
 -- What each ending shows, status by status.
-use Rattle.std.specs.Prelude.{◌≡◌, ◌⊎◌, ℕ, ◌-◌, ◌^◌, ◌≤◌, false, List, [], ◌∷◌, ◌++◌, Option, Some, None, Err}
+use Rattle.std.specs.Prelude.{◌≡◌, ◌⊎◌, ℕ, ◌-◌, ◌^◌, false, List, [], ◌∷◌, ◌++◌, Option, Some, None, Err}
 use Rattle.chk_site.specs.declared.acts.Act.{Act}
 use Rattle.chk_site.specs.declared.acts.Call.{Call}
 use Rattle.chk_site.specs.declared.acts.CallFault.TheVariants.{Failed}
@@ -12,8 +12,8 @@ use Rattle.chk_replace.specs.Replace.{LeavesFile}
 use Rattle.chk_seqfile.specs.declared.headers.HeaderFault.{HeaderFault}
 use Rattle.chk_seqfile.specs.Headers.{read_header}
 use Rattle.chk_world.specs.Committed.{number_in}
-use Rattle.chk_world.specs.Names.{ArchiveFolder, BornFile, CheckFile, file, spell}
-use Rattle.chk_world.specs.Books.{book_of}
+use Rattle.chk_world.specs.Names.{BornFile, CheckFile, file, spell}
+use Rattle.chk_archive.specs.Written.{LacksNumbers}
 use Rattle.chk_sink.specs.declared.fault.SinkFault.{SinkFault}
 use Rattle.chk_sink.specs.declared.fault.SinkFault.TheVariants as Sinks
 use Rattle.chk_sink.specs.States.{last_number}
@@ -147,12 +147,12 @@ ArchiveFault e added = ⊥
 abbrev pub ArchiveCut : Ending → History → Type 0
 ArchiveCut e added = AreArchiveActs (own_acts added) × ArchiveFault e added
 
--- In a legal history nothing of its own is damaged. The segment numbers are spent only where fewer
--- are left than a run needs, two at most.
+-- In a legal history nothing of its own is damaged. The segment numbers are spent only where none is
+-- left for a segment that is needed now.
 abbrev pub ArchiveFits : History → Ending → Type 0
 ArchiveFits history (Damaged name at) = ⊥
 ArchiveFits history (Spent n) =
-    (n ≡ 2 ^ 63 - 1) × (2 ^ 63 - 2 ≤ (book_of (files_after history) ArchiveFolder).next)
+    (n ≡ 2 ^ 63 - 1) × LacksNumbers history
 ArchiveFits history e = Unit {0}
 
 -- ---- a demux run

@@ -9,6 +9,7 @@ ghost use Rattle.chk_words.specs.Commands.{Asked};
 ghost use Rattle.chukwa_run.specs.Asking.{usage_line};
 ghost use Rattle.chukwa_run.specs.Complete.{Completes};
 ghost use Rattle.chukwa_run.specs.Demuxing.{SuitsTypes};
+ghost use Rattle.chukwa_run.specs.Headline.{Headline};
 ghost use Rattle.chukwa_run.specs.Processes.{RunSide};
 ghost use Rattle.chukwa_run.specs.Runs.{Begins, Ends, Caused, SaysUsage};
 ghost use Rattle.chukwa_run.specs.Saying.{SaysEnding, IsOutsideEnd};
@@ -28,20 +29,20 @@ use std::alloc::Global;
 /// wasn't the one that was made. Each status but 0 has a line on standard output; where that can't be
 /// printed, the status stays.
 ///
-/// `round [--class CLASS] [--reads N] [--cluster NAME] SOURCE TYPE LOG...` runs the agent SOURCE, the collector `c1` and the
+/// `round [--class CLASS] [--reads N] SOURCE TYPE LOG...` runs the agent SOURCE, the collector `c1` and the
 /// archive job once in one process. Each LOG that isn't live is added, each live log is read until it gives nothing, and what
 /// they gave is delivered and archived. It prints `stream SOURCE <type> <log> <offset>` for each live adaptor, and then
 /// `archive unclosed <n> taken <n> held <n> removed <n>`. A sink of another collector under writing is told behind these lines.
 ///
-/// `agent [--initial FILE] [--control ADDRESS] [--turns N] [--poll MS] [--expire MS] [--cluster NAME] SOURCE COLLECTOR...` starts
+/// `agent [--initial FILE] [--control ADDRESS] [--turns N] [--poll MS] [--expire MS] SOURCE COLLECTOR...` starts
 /// the agent SOURCE, adds the streams of FILE, and in each turn does what the messages at its control door ask for, reads its
 /// logs, posts and polls, settles, and pauses for 200 ms.
 ///
-/// `collector [--rotate MS] [--turns N] [--messages N] NAME ADDRESS` starts the collector NAME, and in each turn takes at most
+/// `collector [--rotate MS] [--turns N] NAME ADDRESS` starts the collector NAME, and in each turn takes at most
 /// `--messages` messages at ADDRESS (1 by default), the first one within 1,000 ms, answers each before it takes the next, asks the
 /// clock and ticks, which commits all of them. At its end it closes its sink.
 ///
-/// `drain [--initial FILE] [--reads N] [--polls N] [--cluster NAME] SOURCE COLLECTOR...` starts the
+/// `drain [--initial FILE] [--reads N] [--polls N] SOURCE COLLECTOR...` starts the
 /// agent SOURCE, adds the streams of FILE, reads each log to its end, posts what they gave, polls
 /// every 1,000 ms until all of it is committed, and prints a line `stream SOURCE TYPE LOG <bytes>`
 /// for each stream.
@@ -56,6 +57,9 @@ use std::alloc::Global;
 /// for each record of a chunk, `other <at> <end>` for any other one, and `skipped <begin> <end>` for what can't be read. A
 /// file that isn't there counts as empty, and its header is refused.
 ///
+/// `--cluster NAME` is taken too, by `round`, `agent` and `drain`: the cluster of all chunks that the
+/// agent sends.
+///
 /// `load N` appends N generated lines to the logs `load.0.log`, `load.1.log` and `load.2.log`, and takes them to the archive by a
 /// round of the source `load` with the type `Load`. It prints `load lines <N> bytes <appended> archived <n>`, the last number
 /// being the sum of the archived ends of the three streams. Of its round it prints nothing.
@@ -64,6 +68,10 @@ pub fn run<'a, S: Site>(alloc: Global, site: &mut S, words: &'a [&'a str]) -> u8
         → SuitsTypes stamped command
         → asked (map (λ w. w.now) words.now) ≡ Some command → Adds (S.told site.old) (S.told site.new)
         (Leads (RunSide stamped command) (Begins stamped earlier) (Ends stamped command result earlier)) }
+    ensures headline { (stamped : List (List ℕ)) (command : Asked) (earlier : History)
+        → SuitsTypes stamped command
+        → asked (map (λ w. w.now) words.now) ≡ Some command → Adds (S.told site.old) (S.told site.new)
+        (Leads (RunSide stamped command) (Begins stamped earlier) (Headline command result earlier)) }
     ensures causes { (command : Asked) → asked (map (λ w. w.now) words.now) ≡ Some command
         → Adds (S.told site.old) (S.told site.new) (Caused command result) }
     ensures usage { result ≡ 2 → asked (map (λ w. w.now) words.now) ≡ None }

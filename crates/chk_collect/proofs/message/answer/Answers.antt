@@ -1,4 +1,4 @@
-use Rattle.std.proofs.Common.{Ok, Err}
+use Rattle.std.proofs.Common.{Ok, Err, refl}
 use Rattle.std.proofs.lemmas.Result.{err_from_is_err_and}
 use Rattle.chk_collect.specs.Calls.{sending_of}
 use Rattle.chk_collect.specs.Messages.{sent, unreplied, unsent}
@@ -16,9 +16,9 @@ pub returns-in_err-reply-clause-script : goal.returns-in_err-reply-clause-script
 returns-in_err-reply-clause-script g c =
     let p = err_from_is_err_and c.from_residual.result c.from_residual.ensures.1 in
     rw p.1
-    (unreplied (unreplied_so c.args.collector.now c.respond.new.self c.args.number
-    c.args.request.now (Err c.in_err-reply.field-0.0) c.in_err-reply.ensures.told c.args.who.now
-    c.requires.started c.in_err-reply.ensures.unanswered c.in_err-reply.ensures.same
+    (unreplied (unreplied_so c.args.collector.now c.respond.new.self c.args.request.now
+    (Err c.in_err-reply.field-0.0) c.in_err-reply.ensures.told c.args.who.now c.requires.started
+    c.in_err-reply.field-0.0 refl c.in_err-reply.ensures.unanswered c.in_err-reply.ensures.same
     c.in_err-reply.ensures.seen))
 
 pub returns-in_err-_sent-clause-told : goal.returns-in_err-_sent-clause-told
@@ -33,9 +33,9 @@ returns-in_err-_sent-clause-script g c =
     let p = err_from_is_err_and c.from_residual-in_err-_sent.result
     c.from_residual-in_err-_sent.ensures.1 in
     rw p.1
-    (unsent c.in_ok-reply.reply (handled_so c.args.collector.now c.respond.new.self c.args.number
+    (unsent c.in_ok-reply.reply (handled_so c.args.collector.now c.respond.new.self
     c.args.request.now (Ok c.in_ok-reply.reply) c.in_ok-reply.ensures.told c.args.who.now
-    c.requires.started c.in_ok-reply.reply c.in_ok-reply.ensures.replied c.in_ok-reply.ensures.same
+    c.requires.started c.in_ok-reply.reply refl c.in_ok-reply.ensures.replied c.in_ok-reply.ensures.same
     c.in_ok-reply.ensures.seen) (rw c.as_slice.ensures at c.in_err-_sent.ensures.call))
 
 pub returns-in_err-_sent-clause-count : goal.returns-in_err-_sent-clause-count
@@ -53,9 +53,9 @@ returns-clause-told g c stamped =
 pub returns-clause-script : goal.returns-clause-script
 returns-clause-script g c =
     sent c.in_ok-reply.reply (sending_of (Ok c.in_ok-_sent._sent))
-    (handled_so c.args.collector.now c.respond.new.self c.args.number c.args.request.now
+    (handled_so c.args.collector.now c.respond.new.self c.args.request.now
     (Ok c.in_ok-reply.reply) c.in_ok-reply.ensures.told c.args.who.now c.requires.started
-    c.in_ok-reply.reply c.in_ok-reply.ensures.replied c.in_ok-reply.ensures.same
+    c.in_ok-reply.reply refl c.in_ok-reply.ensures.replied c.in_ok-reply.ensures.same
     c.in_ok-reply.ensures.seen) (sent_or_failed c.in_ok-_sent._sent)
     (rw c.as_slice.ensures at c.in_ok-_sent.ensures.call)
 

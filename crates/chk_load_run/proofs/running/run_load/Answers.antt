@@ -1,6 +1,6 @@
 use Rattle.std.proofs.lemmas.Result.{err_from_is_err_and}
 use Rattle.chk_load_run.specs.Loads.{summary_line}
-use Rattle.chk_load_run.proofs.LoadClauses.{cut_end, done_end, outside_ends, round_end, round_ends, summed_ends, unclosed_end, unsaid_end}
+use Rattle.chk_load_run.proofs.LoadClauses.{cut_end, done_end, outside_ends, round_end, round_ends, done_so, unclosed_so, unclosed_end, unsaid_end}
 use Rattle.chk_load_run.proofs.running.run_load.Goals as goal
 
 pub returns-in_err-bytes-clause-told : goal.returns-in_err-bytes-clause-told
@@ -247,9 +247,29 @@ pub returns-in_err-report-clause-round : goal.returns-in_err-report-clause-round
 returns-in_err-report-clause-round g c =
     let p = err_from_is_err_and c.from_residual-in_err-report.result c.from_residual-in_err-report.ensures.1 in
     rw (p.1, p.2)
-    (summed_ends c.in_ok-rounded.rounded c.args.lines c.in_ok-bytes.bytes c.in_err-report.field-0.0 _ _ c.in_err-report.ensures)
+    (unclosed_so c.args.lines c.in_ok-writer.writer c.in_ok-writer.ensures c.in_ok-bytes.bytes
+    c.in_ok-bytes.ensures.writes c.in_ok-words.words c.in_ok-words.ensures c.in_ok-rounded.rounded
+    (record {
+      told = c.in_ok-rounded.ensures.told;
+      reads = c.in_ok-rounded.ensures.reads;
+      stays = c.in_ok-rounded.ensures.stays;
+      live = c.in_ok-rounded.ensures.live;
+      acts = c.round.ensures.acts;
+    }) c.in_err-report.field-0.0 c.in_err-report.ensures)
 
 pub returns-in_err-tell-clause-round : goal.returns-in_err-tell-clause-round
 returns-in_err-tell-clause-round g c =
     let p = err_from_is_err_and c.from_residual-in_err-tell.result c.from_residual-in_err-tell.ensures.1 in
     rw (p.1, p.2) (outside_ends c.args.lines c.in_err-tell.field-0.0 _ _)
+
+pub returns-clause-round : goal.returns-clause-round
+returns-clause-round g c =
+    done_so c.args.lines c.in_ok-writer.writer c.in_ok-writer.ensures c.in_ok-bytes.bytes
+    c.in_ok-bytes.ensures.writes c.in_ok-words.words c.in_ok-words.ensures c.in_ok-rounded.rounded
+    (record {
+      told = c.in_ok-rounded.ensures.told;
+      reads = c.in_ok-rounded.ensures.reads;
+      stays = c.in_ok-rounded.ensures.stays;
+      live = c.in_ok-rounded.ensures.live;
+      acts = c.round.ensures.acts;
+    }) c.in_ok-report.report c.in_ok-report.ensures c.in_ok-tell.ensures.says

@@ -4,6 +4,7 @@ use Rattle.chk_archive.specs.declared.report.Report.{Report}
 use Rattle.chk_round.specs.declared.faults.RoundFault.{RoundFault}
 use Rattle.chk_round.specs.Faults.{RoundCause}
 use Rattle.chk_round.proofs.Ends.{late_cause}
+use Rattle.chk_round.proofs.Following.{keeps_then}
 use Rattle.chk_round.proofs.Joining.{in_on, joint_then, still_c}
 use Rattle.chk_round.proofs.OwnRows.{own_then}
 use Rattle.chk_round.proofs.Polls.{starts_then}
@@ -125,8 +126,9 @@ pub returns-clause-cluster : goal.returns-clause-cluster
 returns-clause-cluster g c = c.in_ok-deliver.ensures.all.cluster ∙ c.in_ok-read_all.ensures.on.cluster
 
 pub returns-clause-live : goal.returns-clause-live
-returns-clause-live g c kind path f =
-    c.in_ok-deliver.ensures.live kind path (c.in_ok-read_all.ensures.live kind path f)
+returns-clause-live g c =
+    keeps_then c.args.agent.now c.read_all.new.agent c.deliver.new.agent
+    c.in_ok-read_all.ensures.live c.in_ok-deliver.ensures.live
 
 pub returns-in_err-read_all-clause-last : goal.returns-in_err-read_all-clause-last
 returns-in_err-read_all-clause-last g c =

@@ -4,7 +4,7 @@ use Rattle.std.proofs.lemmas.Result.{err_from_is_err_and, IfOk-weaker}
 use Rattle.chk_site.specs.declared.acts.Who.{Who}
 use Rattle.chk_site.specs.Site.{Adds}
 use Rattle.chk_site.specs.Runs.{HasStarted, Leads}
-use Rattle.chk_site.proofs.Leads.{leads_then}
+use Rattle.chk_site.proofs.Leads.{leads_as, leads_then}
 use Rattle.chk_world.specs.Places.{As}
 use Rattle.chk_world.specs.Rules.{Legal}
 use Rattle.chk_site.specs.History.{History}
@@ -114,10 +114,18 @@ returns-clause-began g c =
           (subst (λ w. Works w (OfStart w) (ended_by c.start.result) old
           (g.S.Site.told c.start.new.site))
           c.requires.collector c.start.ensures.own);
+      collector_started = subst (λ w. Adds old (g.S.Site.told c.start.new.site) (HasStarted w))
+          c.requires.collector c.in_ok-collector.ensures.starts;
+      legal = λ stamped. leads_as (λ h x. x) (λ h x. x.legal)
+          (subst (λ w. Adds old (g.S.Site.told c.start.new.site)
+          (Leads (As stamped w) (Legal stamped)
+          (SinksStarted stamped w (Ok c.in_ok-collector.collector))))
+          c.requires.collector (c.in_ok-collector.ensures.told stamped));
       fresh = c.in_ok-agent.ensures.fresh;
       started = c.in_ok-agent.ensures.starts;
       acts = c.in_ok-agent.ensures.acts;
       finds = c.in_ok-agent.ensures.whole;
+      told = c.in_ok-agent.ensures.told;
       now = p.now;
       timed = is.1;
     }))

@@ -16,8 +16,9 @@ use Rattle.chk_round.specs.Faults.{RoundCause}
 use Rattle.chk_round.specs.Processes.{AreBoth}
 use Rattle.chk_round.proofs.Added.{logs_cluster}
 use Rattle.chk_round.proofs.Ends.{late_cause}
-use Rattle.chk_round.proofs.Following.{has_line}
+use Rattle.chk_round.proofs.Following.{follows_on, has_line}
 use Rattle.chk_round.proofs.Rounding.{both_of, rounds, unmet}
+use Rattle.chk_round.proofs.Staying.{reads_logs, stays_by}
 use Rattle.chk_round.proofs.Lasting.{inside_late, went, went_none, went_then}
 use Rattle.chk_round.proofs.NoRead.{length_late, plain_length, plain_no_read}
 use Rattle.chk_round.proofs.Acts.{all_acts, begun_of, timed_then}
@@ -110,7 +111,8 @@ returns-in-Ok-clause-cause g c =
 pub returns-in-Ok-clause-live : goal.returns-in-Ok-clause-live
 returns-in-Ok-clause-live g c log one =
     has_line c.args.given.now.kind log c.run_pair.new.agent
-    (c.in-Ok.ensures.live c.args.given.now.kind log (c.in_ok-pair.ensures.live log one))
+    (follows_on c.in_ok-pair.pair.agent c.run_pair.new.agent c.in-Ok.ensures.live
+    c.args.given.now.kind log (c.in_ok-pair.ensures.live log one))
 
 pub returns-in_err-pair-clause-last : goal.returns-in_err-pair-clause-last
 returns-in_err-pair-clause-last g c =
@@ -181,18 +183,33 @@ returns-in-Ok-clause-cluster g c =
     ∙ (begins.began.fresh.cluster ∙ (begins.cluster_is ∙ c.requires.cluster)))
 
 pub returns-in-Ok-clause-reads : goal.returns-in-Ok-clause-reads
-returns-in-Ok-clause-reads g c = record {
-  begun = c.in_ok-pair.pair.agent;
-  source_is = c.in_ok-pair.ensures.gathered.source_is ∙ ap (λ (p : Processes). p.reading.name) c.requires.processes;
-  mid = g.S.Site.told c.gather.new.site;
-  before =
-      let w = c.args.given.now in
-      let old = g.S.Site.told c.args.site.now in
-      let new = g.S.Site.told c.gather.new.site in
-      subst (λ n. BeginsSo w.source w.kind w.class n w.logs.items c.in_ok-pair.pair.agent old new)
-      (c.requires.cluster)
-      (subst (λ n. BeginsSo n w.kind w.class c.args.rules.cluster w.logs.items c.in_ok-pair.pair.agent old new)
-      (ap (λ (p : Processes). p.reading.name) c.requires.processes) c.in_ok-pair.ensures.begins);
-  script = c.in-Ok.ensures.script;
-  each = c.in-Ok.ensures.each c.in_ok-pair.ensures.gathered.steady;
-}
+returns-in-Ok-clause-reads g c =
+    let w = c.args.given.now in
+    let old = g.S.Site.told c.args.site.now in
+    let new = g.S.Site.told c.gather.new.site in
+    let begun = c.in_ok-pair.pair.agent in
+    reads_logs w.source w.kind w.class w.cluster w.logs.items c.args.given.now.reads begun
+    c.run_pair.new.agent
+    (c.in_ok-pair.ensures.gathered.source_is
+    ∙ ap (λ (p : Processes). p.reading.name) c.requires.processes)
+    (subst (λ n. BeginsSo w.source w.kind w.class n w.logs.items begun old new)
+    (c.requires.cluster)
+    (subst (λ n. BeginsSo n w.kind w.class c.args.rules.cluster w.logs.items begun old new)
+    (ap (λ (p : Processes). p.reading.name) c.requires.processes) c.in_ok-pair.ensures.begins))
+    c.in-Ok.ensures.script c.in-Ok.ensures.live
+    (c.in-Ok.ensures.each c.in_ok-pair.ensures.gathered.steady)
+
+pub returns-in-Ok-clause-stays : goal.returns-in-Ok-clause-stays
+returns-in-Ok-clause-stays g c stamped started acting run =
+    let w = c.args.given.now in
+    let old = g.S.Site.told c.args.site.now in
+    let new = g.S.Site.told c.gather.new.site in
+    let begun = c.in_ok-pair.pair.agent in
+    stays_by stamped started acting w.source w.kind w.class w.cluster w.logs.items run begun
+    c.run_pair.new.agent c.in-Ok.report
+    (subst (λ n. BeginsSo w.source w.kind w.class n w.logs.items begun old new)
+    (c.requires.cluster)
+    (subst (λ n. BeginsSo n w.kind w.class c.args.rules.cluster w.logs.items begun old new)
+    (ap (λ (p : Processes). p.reading.name) c.requires.processes) c.in_ok-pair.ensures.begins))
+    c.in-Ok.ensures.live (c.in-Ok.ensures.each c.in_ok-pair.ensures.gathered.steady)
+    c.in-Ok.ensures.acts (returns-in-Ok-clause-told g c stamped started acting run)

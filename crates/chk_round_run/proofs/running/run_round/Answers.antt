@@ -1,4 +1,4 @@
-use Rattle.std.proofs.Common.{ℕ, List, ◌≤◌, Ok, Err, Result, subst, sym}
+use Rattle.std.proofs.Common.{Ok, Err, Result, subst, sym}
 use Rattle.std.proofs.lemmas.Result.{err_from_is_err_and}
 use Rattle.chk_site.specs.Site.{Adds}
 use Rattle.chk_round_run.specs.declared.ends.RoundEnd.{RoundEnd}
@@ -26,6 +26,7 @@ returns-in_err-rounded-clause-ran g c =
       live = tt;
       script = c.in_err-rounded.ensures.script;
       read = tt;
+      stays = tt;
       length = c.in_err-rounded.ensures.length;
       last = c.in_err-rounded.ensures.last;
       acts = c.in_err-rounded.ensures.acts;
@@ -48,6 +49,7 @@ returns-in_err-tell-clause-ran g c =
       live = c.in_ok-rounded.ensures.live;
       script = c.in_ok-rounded.ensures.script;
       read = c.in_ok-rounded.ensures.reads;
+      stays = c.in_ok-rounded.ensures.stays;
       length = c.in_ok-rounded.ensures.length;
       last = c.in_ok-rounded.ensures.last;
       acts = c.in_ok-rounded.ensures.acts;
@@ -80,6 +82,7 @@ returns-clause-ran g c =
       live = c.in_ok-rounded.ensures.live;
       script = c.in_ok-rounded.ensures.script;
       read = c.in_ok-rounded.ensures.reads;
+      stays = c.in_ok-rounded.ensures.stays;
       length = c.in_ok-rounded.ensures.length;
       last = c.in_ok-rounded.ensures.last;
       acts = c.in_ok-rounded.ensures.acts;
@@ -93,6 +96,7 @@ returns-clause-told g c stamped started acting run =
     (RunsTo stamped started acting c.args.given.now.source c.args.given.now.kind c.args.given.now.cluster c.args.given.now.logs.items r)) (sym c.end_by.ensures)
     (ran_to stamped c.args.given.now.source c.args.given.now.kind c.args.given.now.cluster c.args.given.now.logs.items c.requires.name started acting run c.in_ok-rounded.rounded
     (c.in_ok-rounded.ensures.told stamped started acting run) c.in_ok-rounded.ensures.cluster c.in_ok-rounded.ensures.live
+    (c.in_ok-rounded.ensures.stays stamped started acting run)
     (tells_by c.args.given.now.source c.in_ok-rounded.rounded c.in_ok-reading.reading c.in_ok-archiving.archiving (Ok tt)
     c.in_ok-reading.ensures c.in_ok-archiving.ensures c.in_ok-tell.ensures.told))
 

@@ -1,9 +1,8 @@
-use Rattle.std.proofs.Common.{◌≡◌, ◌+◌, ◌<◌, ◌∙◌, List, [], Ok, Err, ℕ, drop, length, subst, sym, ap, arith}
+use Rattle.std.proofs.Common.{◌≡◌, ◌+◌, ◌∙◌, List, [], Ok, Err, ℕ, drop, subst, sym, ap, arith}
 use Rattle.std.proofs.Math.ListN.{drop_of_length-le}
 use Rattle.std.proofs.lemmas.Result.{err_from_is_err_and}
 use Rattle.chk_reading.specs.Adaptors.{Adaptor}
 use Rattle.chk_agent.specs.States.{lines_at}
-use Rattle.chk_site.specs.Site.{OutsideCause}
 use Rattle.chk_prints.specs.Printing.{PrintsInTurn, all_printed}
 use Rattle.chk_round_run.specs.Telling.{stream_lines}
 use Rattle.chk_round_run.proofs.Joined.{prints_cut, prints_on}

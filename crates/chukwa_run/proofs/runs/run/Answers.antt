@@ -13,6 +13,7 @@ use Rattle.chukwa_run.specs.Runs.{Begins, Ends, Caused, SaysUsage}
 use Rattle.chukwa_run.specs.Statuses.{statuses_of}
 use Rattle.chukwa_run.proofs.Asking.{of_command, ends_told, ends_caused, unread_told, unread_caused, unread_says, usage_says}
 use Rattle.chukwa_run.proofs.Complete.{calm_status, completes}
+use Rattle.chukwa_run.proofs.Headline.{headline}
 use Rattle.chukwa_run.proofs.Statuses.{its_status, unread_status}
 use Rattle.chukwa_run.proofs.runs.run.Goals as goal
 
@@ -27,6 +28,11 @@ returns-in-Ok-clause-whole g c stamped command earlier suits is =
     (λ fits. ends_told stamped this earlier c.run_command-done.result c.ends.result new
     (c.run_command-done.ensures.works.told stamped earlier fits) c.ends.ensures.says)
     command is suits
+
+pub returns-in-Ok-clause-headline : goal.returns-in-Ok-clause-headline
+returns-in-Ok-clause-headline g c stamped command earlier suits is =
+    headline stamped command earlier c.ends.result
+    (returns-in-Ok-clause-whole g c stamped command earlier suits is)
 
 pub returns-in-Ok-clause-causes : goal.returns-in-Ok-clause-causes
 returns-in-Ok-clause-causes g c command is =
@@ -64,6 +70,11 @@ pub returns-in-Err-NoMemory-clause-whole : goal.returns-in-Err-NoMemory-clause-w
 returns-in-Err-NoMemory-clause-whole g c stamped command earlier suits is =
     unread_told stamped command earlier c.ends-in-Err-NoMemory.result (g.S.Site.told c.ends-in-Err-NoMemory.new.site)
     c.ends-in-Err-NoMemory.ensures.says
+
+pub returns-in-Err-NoMemory-clause-headline : goal.returns-in-Err-NoMemory-clause-headline
+returns-in-Err-NoMemory-clause-headline g c stamped command earlier suits is =
+    headline stamped command earlier c.ends-in-Err-NoMemory.result
+    (returns-in-Err-NoMemory-clause-whole g c stamped command earlier suits is)
 
 pub returns-in-Err-NoMemory-clause-causes : goal.returns-in-Err-NoMemory-clause-causes
 returns-in-Err-NoMemory-clause-causes g c command is =
