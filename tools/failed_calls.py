@@ -15,6 +15,8 @@ import subprocess
 import sys
 import tempfile
 
+from running import parted
+
 HERE = os.path.dirname(os.path.abspath(__file__))
 PROGRAM = os.path.abspath(os.path.join(HERE, "../crates/chukwa/out/chukwa"))
 NOBODY = 65534
@@ -88,7 +90,7 @@ def write(name, data):
 
 # The row, the status, standard output and standard error.
 ROWS = [
-    (folder_for_log, 3, "outside logread\n", "chukwa: logread ./x.log: Is a directory (os error 21)\n"),
+    (folder_for_log, 0, "stream h1 Log ./x.log 0\narchive unclosed 0 taken 0 held 0 removed 0\n", ""),
     (log_below_file, 3, "outside logread\n", "chukwa: logread ./x/x.log: Not a directory (os error 20)\n"),
     (unreadable_log, 3, "outside logread\n", "chukwa: logread ./x.log: Permission denied (os error 13)\n"),
     (closed_folder, 3, "outside start\n", "chukwa: start locks/collector.c1: Permission denied (os error 13)\n"),
@@ -113,7 +115,7 @@ def ran(program, room, words, how):
             said = out.read()
     if held:
         held.close()
-    return done.returncode, said.decode(), done.stderr.decode()
+    return done.returncode, said.decode(), parted(done.stderr.decode())[0]
 
 
 def shown(program, row):

@@ -422,12 +422,13 @@ def odd_logs(room):
     archived(room, held)
 
 
-def folder_for_log(room):
+def no_file_for_log(room):
+    """A folder and a named pipe in place of logs count as logs that aren't there."""
     os.mkdir(f"{room.folder}/logs/a.log")
-    add_lines(room, "add", "logs/a.log")
+    os.mkfifo(f"{room.folder}/logs/b.log")
+    add_lines(room, "add", "logs/a.log", "logs/b.log", "/dev/null")
     agent = room.run("agent", "--initial", "add", "--turns", "5", "h1", address(free_ports(1)[0]))
-    told = "chukwa: logread logs/a.log: Is a directory (os error 21)\n"
-    wanted("the agent", (3, "outside logread\n", told), agent)
+    wanted("the agent", (0, "", ""), agent)
 
 
 def as_nobody(room):
@@ -446,8 +447,9 @@ def unreadable_log(room):
     add_lines(room, "add", "logs/a.log")
     words = [room.program, "agent", "--initial", "add", "--turns", "5", "h1", address(free_ports(1)[0])]
     agent = ran([*as_nobody(room), *words], room.folder)
-    told = "chukwa: logread logs/a.log: Permission denied (os error 13)\n"
-    wanted("the agent", (3, "outside logread\n", told), agent)
+    told = "chukwa: lognewest logs/a.log: Permission denied (os error 13)\n"
+    wanted("the agent", (3, "outside lognewest\n", told), agent)
+    wanted("what the checkpoint has", 0, len(checkpoint(room.folder, "h1")))
 
 
 def closed_folder(room):
@@ -525,7 +527,7 @@ def full_archive(room, store, logs):
 
 
 CASES = [drain_to_sink, agent_to_sink, control_session, killed_collector, killed_then_drained, one_log, odd_logs]
-CASES += [refused_connection, port_in_use, held_name, held_source, stopped_close, folder_for_log, unreadable_log]
+CASES += [refused_connection, port_in_use, held_name, held_source, stopped_close, no_file_for_log, unreadable_log]
 CASES += [closed_folder, full_disk]
 
 

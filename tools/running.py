@@ -2,6 +2,7 @@
 import argparse
 import os
 import random
+import re
 import resource
 import signal
 import socket
@@ -13,6 +14,7 @@ import time
 HERE = os.path.dirname(os.path.abspath(__file__))
 PROGRAM = os.path.abspath(os.path.join(HERE, "../crates/chukwa/out/chukwa"))
 MIB = 1 << 20
+MOMENT = re.compile(r"\d{4}-\d\d-\d\dT\d\d:\d\d:\d\dZ chukwa: ")
 
 
 def parser_of(doc):
@@ -107,13 +109,25 @@ class Process:
         return text(self.out)
 
     def error(self):
-        return text(self.told)
+        """What it wrote on standard error, but for what it told when it happened."""
+        return parted(text(self.told))[0]
+
+    def notices(self):
+        """The lines that it told when something happened, each with its moment."""
+        return parted(text(self.told))[1]
 
     def close(self):
         if self.status() is None:
             self.kill()
         self.out.close()
         self.told.close()
+
+
+def parted(error):
+    """The lines of a standard error that begin with no moment, as one text, and those that do."""
+    lines = error.splitlines(keepends=True)
+    timed = [line for line in lines if MOMENT.match(line)]
+    return "".join(line for line in lines if not MOMENT.match(line)), [line.rstrip("\n") for line in timed]
 
 
 def text(file):

@@ -2,11 +2,14 @@
 
 ghost use Rattle.std.specs.Prelude.{◌≡◌};
 
+use crate::notices::place;
+use chk_bytes::NoMemory;
 use chk_site::Call;
+use std::alloc::Global;
 use std::fmt::{Display, Formatter};
 use std::{fmt, io};
 
-/// A call that failed. It is printed as `logread ./x.log: Is a directory (os error 21)`.
+/// A call that failed. It is printed as `logread ./x.log: Permission denied (os error 13)`.
 #[derive(Drop)]
 pub struct Failure {
     call: Call,
@@ -22,6 +25,11 @@ impl Failure {
         ensures error { result.error ≡ error }
     {
         Failure { call, name, error }
+    }
+
+    /// The call and what it was asked of, as `logread ./x.log`.
+    pub fn place(&self, alloc: Global) -> Result<String, NoMemory> {
+        place(alloc, self.call, self.name.as_str())
     }
 }
 

@@ -1,5 +1,5 @@
 //! The folders that the files stand in.
-ghost use Rattle.std.specs.Prelude.{◌≡◌, ◌≤◌};
+ghost use Rattle.std.specs.Prelude.{◌≡◌, ◌≤◌, IsSome};
 ghost use Rattle.chk_site_real.specs.Folders.{IsFolderOf, folder_before};
 
 use std::fs::{File, OpenFile};
@@ -13,23 +13,59 @@ const FOLDERS: [&str; 5] = ["sinks", "agents", "archive", "demux", "joined"];
 /// The system's error for a folder in place of a file.
 const IS_A_DIRECTORY: i32 = 21;
 
+/// A folder that is there and whose names may not be on the disk.
+#[derive(Clone, Copy, Drop)]
+pub struct Unsettled {
+    pub folder: &'static str,
+    pub error: io::Error,
+}
+
+/// What became of the folders at the start.
+#[derive(Clone, Copy, Drop)]
+pub struct Folders {
+    /// 1 where one of them can't be made or synced, else 0.
+    pub faults: u64,
+    /// One that can't be synced.
+    pub unsettled: Option<Unsettled>,
+}
+
 /// Makes the folders that aren't there, and writes the names in each through to the disk: a rename that
-/// an earlier process made and didn't sync stays from then on. 1 where one of them can't be made or
-/// synced, else 0.
-pub fn make_folders<R: Files>(rt: &R) -> u64
-    ensures { result ≤ 1 }
+/// an earlier process made and didn't sync stays from then on. The calls on the files of a folder that
+/// can't be made fail by themselves.
+pub fn make_folders<R: Files>(rt: &R) -> Folders
+    ensures few { result.faults ≤ 1 }
+    ensures counted { IsSome result.unsettled → result.faults ≡ 1 }
 {
-    let mut faults = 0;
+    let mut found = Folders {
+        faults: 0,
+        unsettled: None,
+    };
     for folder in FOLDERS {
-        if settle_folder(rt, folder).is_err() {
-            faults = 1;
-        }
+        found = with_folder(rt, folder, found);
     }
-    faults
+    found
+}
+
+// What became of the folders so far and this one.
+fn with_folder<R: Files>(rt: &R, folder: &'static str, found: Folders) -> Folders
+    requires few { found.faults ≤ 1 }
+    requires counted { IsSome found.unsettled → found.faults ≡ 1 }
+    ensures few { result.faults ≤ 1 }
+    ensures counted { IsSome result.unsettled → result.faults ≡ 1 }
+{
+    if make_folder(rt, folder).is_err() {
+        return Folders { faults: 1, ..found };
+    }
+    match settle_folder(rt, folder) {
+        Ok(()) => found,
+        Err(error) => Folders {
+            faults: 1,
+            unsettled: Some(Unsettled { folder, error }),
+        },
+    }
 }
 
 fn settle_folder<R: Files>(rt: &R, folder: &str) -> io::Result<()> {
-    make_folder(rt, folder)?;
     File::open(rt, folder)?.sync_all()
 }
 

@@ -1,13 +1,16 @@
 //! The machine: its runtime, and files by their names. The file written last and the file read
 //! last are kept open, so that a further piece costs one system call.
-ghost use Rattle.std.specs.Prelude.{◌≡◌, ◌≤◌, [], None, length, IfOk, IfSome, IsErr};
+ghost use Rattle.std.specs.Prelude.{◌≡◌, ◌≤◌, [], None, length, string_bytes, IfOk, IfSome, IsErr};
 ghost use Rattle.chk_site.specs.Site.{MayFail, MayExist, MayMiss, MayBeShort, MayMissOrBeShort};
 ghost use Rattle.chk_sockets.specs.Faults.{answer_of};
 
 use crate::folders::{file_size, folder_of, is_folder, sync_folder};
 use crate::kept::{Kept, is_named};
+use crate::limit::Limit;
+use crate::notices::Notices;
 use chk_bytes::Bytes;
 use chk_listings::Listings;
+use chk_rotations::Logs;
 use chk_sockets::{SystemFault, text};
 use std::alloc::Global;
 use std::fs;
@@ -26,6 +29,10 @@ pub struct Host<R: Files<File = File>> {
     settled_mark: Option<String>,
     pub reading: Option<Kept>,
     pub listings: Listings,
+    /// What is known of the logs that were looked at.
+    pub logs: Logs,
+    pub notices: Notices,
+    pub limit: Limit,
     pub buffer: Vec<u8>,
 }
 
@@ -36,15 +43,20 @@ impl<R: Files<File = File>> Host<R> {
         ensures settled { result.settled_mark ≡ None }
         ensures reading { result.reading ≡ None }
         ensures listings { result.listings ≡ [] }
+        ensures logs { result.logs.seen.items ≡ [] }
         ensures buffer { result.buffer.items ≡ [] }
     {
+        let limit = Limit::of(&rt, alloc);
         Host {
             rt,
+            limit,
             writing: None,
             unsettled: None,
             settled_mark: None,
             reading: None,
             listings: Listings::new(alloc),
+            logs: Logs::new(alloc),
+            notices: Notices::new(alloc),
             buffer: Vec::new(alloc),
         }
     }
@@ -85,6 +97,7 @@ impl<R: Files<File = File>> Host<R> {
         ensures { MayFail (answer_of result) }
     {
         let mut writer = self.writer(alloc, name)?;
+        self.limit.allow(&writer.file, bytes)?;
         writer.file.write_all(bytes)?;
         self.writing = Some(writer);
         Ok(())
@@ -237,9 +250,9 @@ impl<R: Files<File = File>> Host<R> {
         Ok(Some(bytes))
     }
 
-    /// Reads the file of this name that is kept open, or else opens it where it has bytes at the place,
-    /// and keeps it open. None where there is no such file.
-    pub fn read_on(
+    // Reads the file of this name that is kept open, or else opens it where it has bytes at the place,
+    // and keeps it open. None where there is no such file.
+    fn read_on(
         &mut self,
         alloc: Global,
         name: &str,
@@ -287,17 +300,10 @@ impl<R: Files<File = File>> Host<R> {
         Ok(bytes)
     }
 
-    /// The file that is kept open to be read is the one that has this name now.
-    pub fn is_reading(&self, name: &str) -> bool {
-        match &self.reading {
-            Some(kept) => kept.name.as_str() == name && kept.has_its_name(&self.rt),
-            None => false,
-        }
-    }
-
     // The file to append to, taken from what is kept.
     fn writer(&mut self, alloc: Global, name: &str) -> Result<Kept, SystemFault>
-        ensures { MayFail (answer_of result) }
+        ensures name { IfOk result (λ kept. string_bytes kept.name ≡ name.now) }
+        ensures only { MayFail (answer_of result) }
     {
         if let Some(kept) = self.writing.take() {
             if kept.name.as_str() == name {
@@ -311,7 +317,8 @@ impl<R: Files<File = File>> Host<R> {
 
     // The file to read, taken from what is kept.
     fn reader(&mut self, alloc: Global, name: &str) -> Result<Kept, SystemFault>
-        ensures { MayFail (answer_of result) }
+        ensures name { IfOk result (λ kept. string_bytes kept.name ≡ name.now) }
+        ensures only { MayFail (answer_of result) }
     {
         if let Some(kept) = self.reading.take() {
             if kept.name.as_str() == name {

@@ -4,15 +4,18 @@ ghost use Rattle.chk_site.specs.Site.{MayBeShort, MayFail};
 ghost use Rattle.chk_sockets.specs.Faults.{answer_of};
 
 use chk_bytes::{Bytes, NoMemory};
+use chk_rotations::FileId;
 use chk_sockets::SystemFault;
 use std::alloc::Global;
-use std::fs;
-use std::fs::{File, OpenFile};
+use std::fs::{File, Metadata, OpenFile};
+use std::io::ErrorKind;
 use std::os::unix::fs::{FileExt, MetadataExt};
-use std::rt::Files;
 
 /// A read of so many bytes or fewer takes the room for all of them, without a look at the file's size.
 const SMALL: u32 = 16_384;
+
+/// So often a read that a signal broke off is made again.
+const MOST_SIGNALS: u32 = 1_000;
 
 /// No file has bytes from here on.
 const FAR: u64 = 1 << 62;
@@ -31,14 +34,12 @@ impl Kept {
         Kept { name, file }
     }
 
-    /// The file that is open is the one that has its name now. Where the runtime numbers no files
-    /// that is never known.
-    pub fn has_its_name<R: Files>(&self, rt: &R) -> bool {
-        let (Ok(open), Ok(named)) = (self.file.metadata(), fs::metadata(rt, self.name.as_str()))
-        else {
-            return false;
-        };
-        open.ino() > 0 && open.ino() == named.ino() && open.dev() == named.dev()
+    /// The file that is open is this one.
+    pub fn is_file(&self, file: FileId) -> bool {
+        match self.file.metadata() {
+            Ok(open) => id_of(&open) == file,
+            Err(_) => false,
+        }
     }
 
     /// The bytes from the place on, up to `max` of them or the end of the file. They are read where
@@ -95,7 +96,22 @@ impl Kept {
         if buffer.is_empty() {
             return Ok(0);
         }
-        Ok(self.file.read_at(buffer, place)?)
+        for _ in 0..MOST_SIGNALS {
+            match self.file.read_at(buffer, place) {
+                Ok(count) => return Ok(count),
+                Err(error) if error.kind() == ErrorKind::Interrupted => {}
+                Err(error) => return Err(SystemFault::Failed(error)),
+            }
+        }
+        Err(SystemFault::failed(ErrorKind::Interrupted, "signals kept breaking off the read"))
+    }
+}
+
+/// Which file it is of which the system told this.
+pub fn id_of(found: &Metadata) -> FileId {
+    FileId {
+        device: found.dev(),
+        number: found.ino(),
     }
 }
 

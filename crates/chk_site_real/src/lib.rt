@@ -6,9 +6,11 @@ mod failure;
 mod folders;
 mod host;
 mod kept;
+mod limit;
 mod locks;
 mod logs;
 mod names;
+mod notices;
 mod site_real;
 
 pub use failure::Failure;

@@ -3,6 +3,7 @@ ghost use Rattle.chk_site.specs.Site.{MayFail};
 ghost use Rattle.chk_sockets.specs.Faults.{answer_of};
 
 use chk_bytes::{NoMemory, Word, WordFault};
+use chk_listings::Stamp;
 use chk_site::is_suffix;
 use chk_sockets::{SystemFault, make_room};
 use std::alloc::Global;
@@ -17,6 +18,16 @@ pub enum Wanted {
     Rotated,
 }
 
+/// How often a folder that changed meanwhile is listed again.
+const MORE_TRIES: u32 = 3;
+
+// The names of a folder, and how many calls gave some.
+#[derive(Drop)]
+struct Listed {
+    names: Vec<Word>,
+    calls: u64,
+}
+
 /// The names in this folder that are words, in byte order; none where there is no such folder.
 pub fn sorted_names<R: Files>(rt: &R, alloc: Global, folder: &str) -> Result<Vec<Word>, SystemFault>
     ensures { MayFail (answer_of result) }
@@ -26,7 +37,8 @@ pub fn sorted_names<R: Files>(rt: &R, alloc: Global, folder: &str) -> Result<Vec
     names_in(rt, alloc, folder, Wanted::All, &mut buffer)
 }
 
-/// Those that are asked for. The system gives them through the buffer.
+/// Those that are asked for. The system gives them through the buffer. What it gives in one call is of one
+/// moment; what took more calls is asked for again where the folder changed meanwhile, up to three times.
 pub fn names_in<R: Files>(
     rt: &R,
     alloc: Global,
@@ -36,19 +48,40 @@ pub fn names_in<R: Files>(
 ) -> Result<Vec<Word>, SystemFault>
     ensures { MayFail (answer_of result) }
 {
+    for _ in 0..MORE_TRIES {
+        let before = Stamp::of(rt, folder);
+        let listed = names_once(rt, alloc, folder, wanted, buffer)?;
+        if listed.calls <= 1 || before == Stamp::of(rt, folder) {
+            return Ok(listed.names);
+        }
+    }
+    Ok(names_once(rt, alloc, folder, wanted, buffer)?.names)
+}
+
+fn names_once<R: Files>(
+    rt: &R,
+    alloc: Global,
+    folder: &str,
+    wanted: Wanted,
+    buffer: &mut [u8],
+) -> Result<Listed, SystemFault>
+    ensures { MayFail (answer_of result) }
+{
     let mut names = Vec::new(alloc);
+    let mut calls: u64 = 0;
     let Some(mut folder) = open_folder(rt, alloc, folder)? else {
-        return Ok(names);
+        return Ok(Listed { names, calls });
     };
     for _ in 0..u64::MAX {
         let count = folder.read(buffer)?;
         if count == 0 {
             break;
         }
+        calls = calls.saturating_add(1);
         push_names(alloc, &buffer[..count], wanted, &mut names)?;
     }
     names.sort_unstable_by(|a, b| a.as_str().cmp(b.as_str()));
-    Ok(names)
+    Ok(Listed { names, calls })
 }
 
 // The slash makes the system follow a link to a folder.

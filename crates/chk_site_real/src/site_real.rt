@@ -1,23 +1,25 @@
 //! The site of the real outside.
-ghost use Rattle.std.specs.Prelude.{◌≡◌, ◌≤◌, None};
+ghost use Rattle.std.specs.Prelude.{◌≡◌, ◌≤◌, None, Err, IsSome};
 ghost use Rattle.chk_site.specs.Site.{CauseOf, MayFail};
+ghost use Rattle.chk_site.specs.declared.acts.CallFault.TheVariants.{Failed};
 ghost use Rattle.chk_sockets.specs.Faults.{answer_of};
 
 use crate::failure::Failure;
-use crate::folders::make_folders;
+use crate::folders::{Unsettled, make_folders};
 use crate::host::Host;
 use crate::locks::{Locks, lock_name};
 use crate::names::sorted_names;
+use crate::notices::moment;
 use chk_bytes::{Bytes, Word};
 use chk_site::{Call, CallFault, Part, Piece, Role, Site, Suffix, Taking, Who};
 use chk_sockets::{Messages, SystemFault, text};
 use std::alloc::{AllocError, Global};
 use std::fs::File;
-use std::io::ErrorKind;
+use std::io::Eprint;
 use std::net::Net;
 use std::rt::Files;
-use std::thread;
 use std::time::{Clock, Duration};
+use std::{io, thread};
 
 /// How many bytes the longest message has, with its head.
 const LONGEST_MESSAGE: usize = 4_210_688;
@@ -32,16 +34,20 @@ const LONGEST_MESSAGE: usize = 4_210_688;
 /// where the file's folder isn't there. A read asks the machine for 131,072 bytes at a time. At most two
 /// files are open, the one written last and the one read last.
 ///
-/// A log's rotated generations are found by their names in its folder, before each read, and after it
-/// where the file that was read isn't known to have been the base file all the while; a read is made
-/// again up to three times where the first generation changed. The folder is listed for that where its
-/// times or its number changed since it was listed, or it was changed within the last three seconds. The
-/// names are kept of the 64 folders that were asked for last, up to 65,536 in all; other folders are
-/// listed each time. A base file that was read is kept open, and read on as long as it is the one that has
-/// the log's name. A file is opened only where it has bytes at the place, so that one that may not be
-/// read fails no earlier.
+/// A log's rotated generations are found by their names in its folder, before each read, and after the
+/// read of a rotated one; a read is made again up to three times where the log changed. The folder is listed
+/// for that where its times or its number changed since it was listed, or it was changed within the last
+/// three seconds. The names are kept of the 64 folders that were asked for last, up to 65,536 in all; other
+/// folders are listed each time. The file that was read last is kept open. A base file that was renamed is
+/// still the base file, and neither it nor a later one is shown as rotated, until it hasn't grown for three
+/// seconds, or for sixty at most, where this site saw it at the log's path (`chk_rotations`, for 65,536
+/// logs). What isn't a file counts as no log; a file that may not be read fails each look at it until it
+/// was read once. Only at those looks, and where it has bytes at the place, a file is opened.
 ///
-/// A start takes the lock of its process, which no other process can hold meanwhile: on the file
+/// What happens is told on standard error, with the moment (`chk_notices`).
+///
+/// A start fails where one of the folders couldn't be synced when the site was made. Else it takes the
+/// lock of its process, which no other process can hold meanwhile: on the file
 /// `locks/agent.<source>`, `locks/collector.<name>` or `locks/job`. It is kept as long as the site
 /// lives, also over further starts; where another process holds it, the start fails and changes
 /// nothing. The system lets go of a lock when its process ends, however that ends. A writer has none.
@@ -49,34 +55,65 @@ const LONGEST_MESSAGE: usize = 4_210_688;
 /// The clock counts milliseconds from an arbitrary start and never goes back. Messages are as
 /// `chk_sockets::Messages` has them.
 #[derive(Drop)]
-pub struct SiteReal<R: Files<File = File> + Net + Clock + Print + Drop> {
+pub struct SiteReal<R: Files<File = File> + Net + Clock + Print + Eprint + Drop> {
     faults: u64,
     failure: Option<Failure>,
+    /// A folder whose sync failed. No process starts then.
+    unsettled: Option<Unsettled>,
     locks: Locks,
     host: Host<R>,
     messages: Messages<R>,
+    /// The message that was sent last, and its address.
+    sent: Option<Sent>,
 }
 
-impl<R: Files<File = File> + Net + Clock + Print + Drop> SiteReal<R> {
+// A message, and where it was sent to.
+#[derive(Drop)]
+struct Sent {
+    message: u64,
+    address: String,
+}
+
+impl<R: Files<File = File> + Net + Clock + Print + Eprint + Drop> SiteReal<R> {
     /// Makes the folders where they aren't there. The count of faults begins at 0, or at 1 where a
-    /// folder can't be made: then the calls on the files of that folder fail.
+    /// folder can't be made or synced. Where it can't be made, the calls on its files fail; where it can't
+    /// be synced, each start fails: a rename of an earlier process that is seen in it may be lost with the
+    /// next loss of power, and a sync that is made again proves nothing, since the system tells of a lost
+    /// write once.
     pub fn new(rt: R, alloc: Global) -> SiteReal<R>
-        ensures { result.faults ≤ 1 }
+        ensures faults { result.faults ≤ 1 }
+        ensures counted { IsSome result.unsettled → result.faults ≡ 1 }
     {
         keep_freed_memory(alloc);
-        let faults = make_folders(&rt);
+        let folders = make_folders(&rt);
         SiteReal {
-            faults,
+            faults: folders.faults,
             failure: None,
+            unsettled: folders.unsettled,
             locks: Locks::new(alloc),
             host: Host::new(rt, alloc),
             messages: Messages::new(alloc),
+            sent: None,
         }
     }
 
     /// The last call that failed, for a message to the operator.
     pub fn failure(&self) -> Option<&Failure> {
         self.failure.as_ref()
+    }
+
+    // Lets the process act: where each folder was synced, it takes its lock.
+    fn admit(&mut self, alloc: Global, who: &Who) -> Result<(), CallFault>
+        ensures unsettled { IsSome self.old.unsettled → result ≡ Err Failed }
+        ensures only { MayFail result }
+        ensures cause { CauseOf self.old.faults self.new.faults result }
+    {
+        match self.unsettled {
+            None => self.lock(alloc, who),
+            Some(Unsettled { folder, error }) => {
+                self.settle(alloc, Call::Start, folder, Err(SystemFault::Failed(error)))
+            }
+        }
     }
 
     // Takes the lock of the process, where it doesn't hold it yet.
@@ -103,25 +140,50 @@ impl<R: Files<File = File> + Net + Clock + Print + Drop> SiteReal<R> {
         ensures cause { CauseOf self.old.faults self.new.faults result }
     {
         match given {
-            Ok(value) => Ok(value),
+            Ok(value) => {
+                self.host
+                    .notices
+                    .tell_success(&self.host.rt, alloc, call, name);
+                Ok(value)
+            }
             Err(fault) => {
                 if let SystemFault::Failed(error) = &fault {
                     self.faults = self.faults.saturating_add(1);
-                    let name = text(alloc, name).unwrap_or(String::new(alloc));
-                    self.failure = Some(Failure::new(call, name, *error));
+                    self.keep_failure(alloc, call, name, *error);
                 }
                 Err(fault.call_fault())
             }
         }
     }
 
-    fn milliseconds(&self) -> Result<u64, SystemFault>
-        ensures { MayFail (answer_of result) }
+    // Keeps the cause of a call that failed, and tells it.
+    fn keep_failure(&mut self, alloc: Global, call: Call, name: &str, error: io::Error)
+        ensures { self.new.faults ≡ self.old.faults }
     {
-        let since_start = self.host.rt.monotonic()?;
-        match u64::try_from(since_start.as_millis()) {
-            Ok(milliseconds) => Ok(milliseconds),
-            Err(_) => Err(SystemFault::failed(ErrorKind::Other, "the clock ran too long")),
+        let name = text(alloc, name).unwrap_or(String::new(alloc));
+        let failure = Failure::new(call, name, error);
+        self.host
+            .notices
+            .tell_failure(&self.host.rt, alloc, &failure);
+        self.failure = Some(failure);
+    }
+
+    // Keeps to which address the message was sent.
+    fn keep_sent(&mut self, alloc: Global, address: &str, given: &Result<u64, CallFault>)
+        ensures { self.new.faults ≡ self.old.faults }
+    {
+        if let (Ok(message), Ok(address)) = (*given, text(alloc, address)) {
+            self.sent = Some(Sent { message, address });
+        }
+    }
+
+    // The address to which the message was sent, where it was sent last.
+    fn address_of(&self, alloc: Global, message: u64) -> String {
+        match &self.sent {
+            Some(sent) if sent.message == message => {
+                text(alloc, sent.address.as_str()).unwrap_or(String::new(alloc))
+            }
+            _ => String::new(alloc),
         }
     }
 }
@@ -133,13 +195,13 @@ fn keep_freed_memory(alloc: Global) {
     let _longest: Result<Vec<u8>, AllocError> = Vec::with_capacity(alloc, LONGEST_MESSAGE);
 }
 
-impl<R: Files<File = File> + Net + Clock + Print + Drop> Site for SiteReal<R> {
+impl<R: Files<File = File> + Net + Clock + Print + Eprint + Drop> Site for SiteReal<R> {
     ghost told = { λ _. None };
 
     ghost fault_count = { λ s. s.faults };
 
     fn start(&mut self, alloc: Global, who: &Who) -> Result<(), CallFault> {
-        let given = self.lock(alloc, who);
+        let given = self.admit(alloc, who);
         if given.is_ok() && who.role == Role::Collector {
             self.messages.start();
         }
@@ -209,6 +271,11 @@ impl<R: Files<File = File> + Net + Clock + Print + Drop> Site for SiteReal<R> {
         max: u32,
     ) -> Result<Piece, CallFault> {
         let given = self.host.read_log(alloc, path, part, at, max);
+        if let Err(SystemFault::Short { size }) = &given {
+            self.host
+                .notices
+                .tell_shrank(&self.host.rt, alloc, path, at, *size);
+        }
         self.settle(alloc, Call::LogRead, path, given)
     }
 
@@ -244,7 +311,7 @@ impl<R: Files<File = File> + Net + Clock + Print + Drop> Site for SiteReal<R> {
     }
 
     fn clock(&mut self, alloc: Global, _who: &Who) -> Result<u64, CallFault> {
-        let given = self.milliseconds();
+        let given = moment(&self.host.rt);
         self.settle(alloc, Call::Clock, "", given)
     }
 
@@ -261,27 +328,33 @@ impl<R: Files<File = File> + Net + Clock + Print + Drop> Site for SiteReal<R> {
         bytes: &[u8],
     ) -> Result<u64, CallFault> {
         let given = self.messages.send(&self.host.rt, alloc, address, bytes);
-        self.settle(alloc, Call::Send, address, given)
+        let given = self.settle(alloc, Call::Send, address, given);
+        self.keep_sent(alloc, address, &given);
+        given
     }
 
     fn got(&mut self, alloc: Global, _who: &Who, message: u64) -> Result<Bytes, CallFault> {
         let given = self.messages.got(&self.host.rt, alloc, message);
-        self.settle(alloc, Call::Got, "", given)
+        let address = self.address_of(alloc, message);
+        self.settle(alloc, Call::Got, address.as_str(), given)
     }
 
     fn take(
         &mut self,
         alloc: Global,
-        _who: &Who,
+        who: &Who,
         door: &str,
         wait: u64,
     ) -> Result<Option<Taking>, CallFault> {
         let given = self.messages.take(&self.host.rt, alloc, door, wait);
+        if given.is_ok() && who.role == Role::Agent {
+            self.host.notices.tell_door(&self.host.rt, alloc, door);
+        }
         self.settle(alloc, Call::Take, door, given)
     }
 
     fn more(&mut self, alloc: Global, _who: &Who, taking: u64) -> Result<Bytes, CallFault> {
-        let given = self.messages.more(alloc, taking);
+        let given = self.messages.more(&self.host.rt, alloc, taking);
         self.settle(alloc, Call::More, "", given)
     }
 

@@ -70,14 +70,14 @@ impl<R: Net + Clock> Doors<R> {
     }
 
     /// The next piece; no bytes of a taking that ended or was of a datagram.
-    pub fn more(&mut self, alloc: Global, taking: u64) -> Result<Bytes, SystemFault>
+    pub fn more(&mut self, rt: &R, alloc: Global, taking: u64) -> Result<Bytes, SystemFault>
         ensures { MayFail (answer_of result) }
     {
         make_room(&mut self.buffer)?;
         for door in self.doors.iter_mut() {
             if let Socket::Streams(streams) = &mut door.socket {
                 if streams.has(taking) {
-                    return streams.more(alloc, &mut self.buffer);
+                    return streams.more(rt, alloc, &mut self.buffer);
                 }
             }
         }
@@ -159,7 +159,7 @@ impl<R: Net + Clock> Socket<R> {
     {
         match self {
             Socket::Streams(streams) => streams.take(rt, alloc, number, wait, buffer),
-            Socket::Datagrams(socket) => next_datagram(socket, alloc, wait, buffer),
+            Socket::Datagrams(socket) => next_datagram(rt, socket, alloc, wait, buffer),
         }
     }
 }

@@ -3,7 +3,6 @@
 
 mod addresses;
 mod datagrams;
-mod deadline;
 mod doors;
 mod faults;
 mod mailbox;

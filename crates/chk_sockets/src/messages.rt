@@ -122,10 +122,10 @@ impl<R: Net + Clock> Messages<R> {
 
     /// The next piece of the message; no bytes at its end, where nothing came within 2,000 ms, where the
     /// taking ended, and at the mailbox, where a message is taken whole.
-    pub fn more(&mut self, alloc: Global, taking: u64) -> Result<Bytes, SystemFault>
+    pub fn more(&mut self, rt: &R, alloc: Global, taking: u64) -> Result<Bytes, SystemFault>
         ensures { MayFail (answer_of result) }
     {
-        self.doors.more(alloc, taking)
+        self.doors.more(rt, alloc, taking)
     }
 
     /// Answers the message and ends its taking. What the peer still sends is read for up to 2,000 ms,

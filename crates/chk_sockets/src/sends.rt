@@ -6,21 +6,28 @@ ghost use Rattle.chk_sockets.specs.Faults.{answer_of};
 use crate::addresses::{Routes, look_up};
 use crate::faults::SystemFault;
 use crate::memory::{make_place, make_room, text};
-use crate::streams::{connected, longest_wait, put_message, reply_on, share_of_wait};
+use crate::streams::{connected, put_message, reply_on, share_of_wait};
 use chk_bytes::Bytes;
+use chk_callers::longest_wait;
+use chk_peers::tells_its_end;
 use std::alloc::Global;
 use std::io;
 use std::io::ErrorKind;
-use std::net::{Net, SocketAddr};
+use std::net::{Net, OpenStream, Shutdown, SocketAddr};
 use std::time::Clock;
 
 /// How many messages keep their streams; then the oldest one goes.
 pub const MOST_STREAMS: usize = 64;
 
+/// What a message begins with whose answer nobody asks for: copies of what a collector took.
+const TEED: &[u8] = b"CHKT";
+
 #[derive(Drop)]
 struct Sent<R: Net> {
     message: u64,
     stream: R::Stream,
+    /// The address as it was asked for.
+    text: String,
 }
 
 #[derive(Drop)]
@@ -43,7 +50,9 @@ impl<R: Net + Clock> Sends<R> {
         }
     }
 
-    /// A message that was sent only in part is `Failed`, and its stream ends.
+    /// A message that was sent only in part is `Failed`, and its stream ends. A request tells its own
+    /// end, and the stream stays open, so that the peer sees that its sender is there. Behind a message
+    /// whose answer nobody asks for the stream is closed, and behind any other one its own side.
     pub fn send(
         &mut self,
         rt: &R,
@@ -56,13 +65,30 @@ impl<R: Net + Clock> Sends<R> {
     {
         make_place(&mut self.open)?;
         let kept_text = text(alloc, address)?;
+        let sent_text = text(alloc, address)?;
         let (mut stream, route) = self.stream_to(rt, alloc, address)?;
-        put_message(&mut stream, bytes)?;
+        put_message(rt, &mut stream, bytes)?;
         self.routes.keep(kept_text, route);
+        if is_unanswered(bytes) {
+            return Ok(());
+        }
+        if !tells_its_end(bytes) {
+            stream.shutdown(Shutdown::Write)?;
+        }
+        self.keep(Sent {
+            message,
+            stream,
+            text: sent_text,
+        })
+    }
+
+    fn keep(&mut self, sent: Sent<R>) -> Result<(), SystemFault>
+        ensures { MayFail (answer_of result) }
+    {
         if self.open.len() >= MOST_STREAMS {
             let _oldest = self.open.remove(0);
         }
-        self.open.push(Sent { message, stream }).map_err(|_| SystemFault::failed(
+        self.open.push(sent).map_err(|_| SystemFault::failed(
             ErrorKind::OutOfMemory,
             "no place for the stream",
         ))
@@ -94,7 +120,8 @@ impl<R: Net + Clock> Sends<R> {
         Err(SystemFault::Failed(last))
     }
 
-    /// The answer to this message; its stream ends.
+    /// The answer to this message; its stream ends. Where none comes, the address that was found for its
+    /// peer is forgotten.
     pub fn got(&mut self, rt: &R, alloc: Global, message: u64) -> Result<Bytes, SystemFault>
         ensures { MayFail (answer_of result) }
     {
@@ -106,6 +133,15 @@ impl<R: Net + Clock> Sends<R> {
         };
         make_room(&mut self.buffer)?;
         let mut sent = self.open.remove(place);
-        reply_on(rt, alloc, &mut sent.stream, &mut self.buffer)
+        let reply = reply_on(rt, alloc, &mut sent.stream, &mut self.buffer);
+        if reply.is_err() {
+            let _forgotten = self.routes.take(sent.text.as_str());
+        }
+        reply
     }
+}
+
+// A message whose answer nobody asks for.
+fn is_unanswered(bytes: &[u8]) -> bool {
+    bytes.starts_with(TEED)
 }

@@ -1,60 +1,64 @@
 //! A door at a TCP address: a socket that listens, and the streams of its peers.
-ghost use Rattle.std.specs.Prelude.{◌≡◌, ◌≤◌, ◌↔◌, [], None, length, IfOk, IfSome, IsSomeAnd, IsTrue};
+ghost use Rattle.std.specs.Prelude.{◌≡◌, ◌≤◌, ◌↔◌, [], None, length, IfErr, IfNone, IfOk, IfSome, IsSomeAnd, IsTrue};
 ghost use Rattle.chk_site.specs.Site.{MayFail};
 ghost use Rattle.chk_sockets.specs.Faults.{answer_of};
 
-use crate::deadline::Deadline;
 use crate::faults::{SystemFault, taking_ended};
 use crate::memory::front_of;
-use crate::streams::{bound_waits, end_stream, longest_wait, next_piece, write_before};
+use crate::streams::{bound_waits, piece_before, write_before};
 use crate::watching::Watch;
-use chk_bytes::{Bytes, NoMemory};
+use chk_bytes::Bytes;
+use chk_callers::{Caller, Deadline, Held, Leaving, longest_wait, new_caller};
+use chk_peers::Stage;
 use std::alloc::Global;
-use std::collections::VecDeque;
 use std::io;
-use std::io::{ErrorKind, Read};
+use std::io::ErrorKind;
 use std::net::{Net, OpenListener, OpenStream, SocketAddr};
 use std::time::{Clock, Duration};
 
-/// How many peers that have sent nothing yet are held; then the oldest one goes.
-pub const MOST_SILENT: usize = 256;
+/// How many peers are held; then the oldest silent one goes.
+pub const MOST_HELD: usize = 256;
 
 /// How many peers are let in at one look, so that a look ends.
 const MOST_LET_IN: u32 = 4_096;
+
+/// How often a taking that waits no longer looks again while bytes come.
+const MOST_LOOKS: u64 = 64;
+
+/// How many milliseconds a taking gives further pieces.
+const MORE_MS: u64 = 6_000;
 
 /// A listening socket. It stays open between takings.
 #[derive(Drop)]
 pub struct StreamDoor<R: Net> {
     listener: R::Listener,
-    /// The peers that have sent nothing yet, the oldest first.
-    silent: VecDeque<Silent<R>>,
-    /// What a wait ends by: the listener, and the silent peers.
+    /// The peers that came and weren't served yet.
+    held: Held<R>,
+    /// The peers that were served.
+    leaving: Leaving<R>,
+    /// What a wait ends by: the listener, and the peers whose messages aren't whole yet.
     watch: Watch,
     taken: Option<Taken<R>>,
 }
 
+/// A peer that is served, and whether nothing more comes of its message.
 #[derive(Drop)]
-struct Silent<R: Net> {
-    stream: R::Stream,
-    deadline: Deadline,
-}
-
-/// A peer with the first bytes of its message, which lie in the buffer.
-#[derive(Drop)]
-struct Arrival<R: Net> {
-    stream: R::Stream,
-    count: usize,
+struct Served<R: Net> {
+    caller: Caller<R>,
+    has_ended: bool,
 }
 
 #[derive(Drop)]
 struct Taken<R: Net> {
     number: u64,
     stream: R::Stream,
+    /// When the last further piece comes; none where nothing more comes.
+    end: Option<Deadline>,
 }
 
 impl<R: Net + Clock> StreamDoor<R> {
     pub fn open(rt: &R, alloc: Global, address: SocketAddr) -> io::Result<StreamDoor<R>>
-        ensures silent { IfOk result (λ door. door.silent.items ≡ []) }
+        ensures held { IfOk result (λ door. door.held.callers.items ≡ []) }
         ensures taken { IfOk result (λ door. door.taken ≡ None) }
     {
         let listener = rt.bind(address)?;
@@ -63,7 +67,8 @@ impl<R: Net + Clock> StreamDoor<R> {
         watch.add(&listener);
         Ok(StreamDoor {
             listener,
-            silent: VecDeque::new(alloc),
+            held: Held::new(alloc),
+            leaving: Leaving::new(alloc),
             watch,
             taken: None,
         })
@@ -79,7 +84,7 @@ impl<R: Net + Clock> StreamDoor<R> {
         }
     }
 
-    /// Waits for the first piece of a message. The taking before ends.
+    /// Waits for a message that is whole or has ended. The taking before ends.
     pub fn take(
         &mut self,
         rt: &R,
@@ -88,29 +93,52 @@ impl<R: Net + Clock> StreamDoor<R> {
         wait: Duration,
         buffer: &mut Vec<u8>,
     ) -> Result<Option<Bytes>, SystemFault>
-        ensures { MayFail (answer_of result) }
+        ensures taken { IfOk result (λ given. IfSome given (λ _.
+            IsSomeAnd self.new.taken (λ taken. taken.number ≡ number))) }
+        ensures none { IfOk result (λ given. IfNone given (self.new.taken ≡ None)) }
+        ensures failed { IfErr result (λ _. self.new.taken ≡ None) }
+        ensures only { MayFail (answer_of result) }
     {
-        self.make_places()?;
         self.taken = None;
-        let Some(arrival) = self.wait_for(rt, wait, buffer)? else {
-            return Ok(None);
+        match self.wait_for(rt, alloc, wait, buffer) {
+            Ok(Some(peer)) => Ok(Some(self.serve(rt, number, peer))),
+            Ok(None) => Ok(None),
+            Err(fault) => Err(fault),
+        }
+    }
+
+    // The peer is the one that is taken.
+    fn serve(&mut self, rt: &R, number: u64, peer: Served<R>) -> Bytes
+        ensures { IsSomeAnd self.new.taken (λ taken. taken.number ≡ number) }
+    {
+        let Served { caller, has_ended } = peer;
+        let Caller { stream, bytes, .. } = caller;
+        let end = match Deadline::after(rt, Duration::from_millis(MORE_MS)) {
+            Ok(end) if !has_ended => Some(end),
+            _ => None,
         };
-        let bytes = front_of(alloc, buffer, arrival.count)?;
+        let _bounded = bound_waits(&stream);
         self.taken = Some(Taken {
             number,
-            stream: arrival.stream,
+            stream,
+            end,
         });
-        Ok(Some(bytes))
+        bytes
     }
 
     /// The next piece of the message that was taken; no bytes at its end.
-    pub fn more(&mut self, alloc: Global, buffer: &mut Vec<u8>) -> Result<Bytes, SystemFault>
+    pub fn more(
+        &mut self,
+        rt: &R,
+        alloc: Global,
+        buffer: &mut Vec<u8>,
+    ) -> Result<Bytes, SystemFault>
         ensures { MayFail (answer_of result) }
     {
         let Some(mut taken) = self.taken.take() else {
             return Ok(Bytes::new(alloc));
         };
-        let count = next_piece(&mut taken.stream, buffer);
+        let count = taken.next_count(rt, buffer);
         let bytes = front_of(alloc, buffer, count)?;
         self.taken = Some(taken);
         Ok(bytes)
@@ -118,155 +146,207 @@ impl<R: Net + Clock> StreamDoor<R> {
 
     /// Answers the message that was taken, and ends it.
     pub fn answer(&mut self, rt: &R, bytes: &[u8], buffer: &mut Vec<u8>) -> Result<(), SystemFault>
-        ensures { MayFail (answer_of result) }
+        ensures ended { self.new.taken ≡ None }
+        ensures only { MayFail (answer_of result) }
     {
         let Some(mut taken) = self.taken.take() else {
             return Err(taking_ended());
         };
         let deadline = Deadline::after(rt, longest_wait())?;
         write_before(rt, deadline, &mut taken.stream, bytes)?;
-        end_stream(rt, &mut taken.stream, buffer);
+        self.leaving.add(rt, taken.stream, buffer);
         Ok(())
     }
 
-    fn make_places(&mut self) -> Result<(), NoMemory> {
-        self.silent.reserve(MOST_SILENT + 1)?;
-        Ok(())
-    }
-
-    // A peer whose first bytes came within the wait.
+    // A peer that may be served, within the wait.
     fn wait_for(
         &mut self,
         rt: &R,
+        alloc: Global,
         wait: Duration,
         buffer: &mut Vec<u8>,
-    ) -> io::Result<Option<Arrival<R>>>
-        ensures { IfOk result (λ found. IfSome found (λ arrival. arrival.count ≤ length buffer.new.items)) }
+    ) -> Result<Option<Served<R>>, SystemFault>
+        ensures same { self.new.taken ≡ self.old.taken }
+        ensures only { MayFail (answer_of result) }
     {
         let deadline = Deadline::after(rt, wait)?;
-        for _ in 0..u64::MAX {
-            if let Some(arrival) = self.look(rt, buffer)? {
-                return Ok(Some(arrival));
+        for looks in 0..u64::MAX {
+            let has_moved = self.look(rt, alloc, buffer)?;
+            if let Some(peer) = self.next_there(rt, buffer)? {
+                return Ok(Some(peer));
             }
             let left = deadline.left(rt)?;
-            if left.is_zero() {
+            if left.is_zero() && !(has_moved && looks < MOST_LOOKS) {
                 break;
             }
-            self.watch.wait(rt, left);
+            if !has_moved {
+                self.watch.wait(rt, left);
+            }
         }
         Ok(None)
     }
 
-    // One look at the door, without a wait: at the peers that were let in, and then at those outside.
-    fn look(&mut self, rt: &R, buffer: &mut Vec<u8>) -> io::Result<Option<Arrival<R>>>
-        ensures { IfOk result (λ found. IfSome found (λ arrival. arrival.count ≤ length buffer.new.items)) }
+    // One look at the door, without a wait: at the peers that were served, at those that are held, and
+    // at those outside. It tells whether bytes came.
+    fn look(&mut self, rt: &R, alloc: Global, buffer: &mut Vec<u8>) -> Result<bool, SystemFault>
+        ensures same { self.new.taken ≡ self.old.taken }
+        ensures only { MayFail (answer_of result) }
     {
-        for _ in 0..self.silent.len() {
-            let Some(silent) = self.silent.pop_front() else {
-                break;
-            };
-            if let Some(arrival) = self.look_at(rt, silent, buffer)? {
-                return Ok(Some(arrival));
-            }
-        }
-        self.let_in(rt, buffer)
+        self.leaving.look(rt, buffer);
+        let has_moved = self.held.hear_all(rt, buffer)?;
+        self.held.sweep();
+        self.let_in(rt, alloc, buffer)?;
+        Ok(has_moved)
     }
 
-    // Lets in the peers that wait outside, up to the first one whose bytes are there.
-    fn let_in(&mut self, rt: &R, buffer: &mut Vec<u8>) -> io::Result<Option<Arrival<R>>>
-        ensures { IfOk result (λ found. IfSome found (λ arrival. arrival.count ≤ length buffer.new.items)) }
+    // Lets in the peers that wait outside. No failure of the system ends it but want of memory: where
+    // no more can be let in, somebody who is here goes.
+    fn let_in(&mut self, rt: &R, alloc: Global, buffer: &mut Vec<u8>) -> Result<(), SystemFault>
+        ensures same { self.new.taken ≡ self.old.taken }
+        ensures only { MayFail (answer_of result) }
     {
+        let mut has_come = false;
         for _ in 0..MOST_LET_IN {
-            let stream = match self.listener.accept() {
-                Ok((stream, _)) => stream,
+            if self.is_full() {
+                break;
+            }
+            match self.listener.accept() {
+                Ok((stream, _)) => {
+                    self.hold(rt, alloc, stream, buffer)?;
+                    has_come = true;
+                }
                 Err(error) if error.kind() == ErrorKind::WouldBlock => break,
-                Err(error) if went_away(error.kind()) => continue,
-                Err(error) => return Err(error),
-            };
-            if let Some(arrival) = self.look_at_new(rt, stream, buffer)? {
-                return Ok(Some(arrival));
+                Err(error) if went_away(error.kind()) => {}
+                Err(_) => {
+                    if !self.let_one_go() {
+                        break;
+                    }
+                }
             }
         }
-        Ok(None)
+        if has_come {
+            self.keep_spare();
+        }
+        Ok(())
     }
 
-    // Looks at a peer that comes in. Where too many are silent then, the oldest one is looked at for
-    // the last time.
-    fn look_at_new(
+    // Lets peers go until the files of this process can have some descriptors too.
+    fn keep_spare(&mut self)
+        ensures { self.new.taken ≡ self.old.taken }
+    {
+        for _ in 0..MOST_HELD {
+            if has_spare(&self.listener) || !self.let_one_go() {
+                return;
+            }
+        }
+    }
+
+    // Holds a peer that comes in. Where there are too many then, the oldest silent one goes.
+    fn hold(
         &mut self,
         rt: &R,
+        alloc: Global,
         stream: R::Stream,
         buffer: &mut Vec<u8>,
-    ) -> io::Result<Option<Arrival<R>>>
-        ensures { IfOk result (λ found. IfSome found (λ arrival. arrival.count ≤ length buffer.new.items)) }
+    ) -> Result<(), SystemFault>
+        ensures same { self.new.taken ≡ self.old.taken }
+        ensures only { MayFail (answer_of result) }
     {
         if stream.set_nonblocking(true).is_err() {
-            return Ok(None);
+            return Ok(());
         }
-        let deadline = Deadline::after(rt, longest_wait())?;
-        if let Some(arrival) = self.look_at(rt, Silent { stream, deadline }, buffer)? {
-            return Ok(Some(arrival));
+        let mut caller = new_caller(rt, alloc, stream)?;
+        let stage = caller.hear(rt, Stage::Silent, buffer)?;
+        if stage.is_gone() {
+            return Ok(());
         }
-        if let Some(newest) = self.silent.back() {
-            self.watch.add(&newest.stream);
+        if stage.is_open() {
+            self.watch.add(&caller.stream);
         }
-        if self.silent.len() <= MOST_SILENT {
-            return Ok(None);
+        self.held.add(stage, caller)?;
+        if self.held.len() > MOST_HELD {
+            self.let_one_go();
         }
-        let Some(mut oldest) = self.silent.pop_front() else {
-            return Ok(None);
-        };
-        match first_bytes(&mut oldest.stream, buffer) {
-            Ok(Some(count)) => Ok(Some(Arrival {
-                stream: oldest.stream,
-                count,
-            })),
-            _ => Ok(None),
-        }
+        Ok(())
     }
 
-    // Looks at one peer. It stays where it has sent nothing yet.
-    fn look_at(
+    // No more can be held, and nobody can be let go.
+    fn is_full(&self) -> bool {
+        self.held.len() >= MOST_HELD && self.held.stages.leaving().is_none()
+    }
+
+    // The oldest silent peer goes, or the oldest one that ended, or was served; false where there is
+    // none.
+    fn let_one_go(&mut self) -> bool
+        ensures same { self.new.taken ≡ self.old.taken }
+    {
+        self.held.let_one_go() || self.leaving.let_one_go()
+    }
+
+    // The peer that is served next, where it still is there.
+    fn next_there(&mut self, rt: &R, buffer: &mut Vec<u8>) -> Result<Option<Served<R>>, SystemFault>
+        ensures same { self.new.taken ≡ self.old.taken }
+        ensures only { MayFail (answer_of result) }
+    {
+        for _ in 0..=self.held.len() {
+            let Some(place) = self.held.stages.next() else {
+                return Ok(None);
+            };
+            if let Some(served) = self.served_at(rt, place, buffer)? {
+                return Ok(Some(served));
+            }
+        }
+        Ok(None)
+    }
+
+    // The peer at the place that is served next. One whose message is whole is looked at once more, and
+    // may have ended its side or be gone.
+    fn served_at(
         &mut self,
         rt: &R,
-        silent: Silent<R>,
+        place: usize,
         buffer: &mut Vec<u8>,
-    ) -> io::Result<Option<Arrival<R>>>
-        ensures { IfOk result (λ found. IfSome found (λ arrival. arrival.count ≤ length buffer.new.items)) }
+    ) -> Result<Option<Served<R>>, SystemFault>
+        ensures same { self.new.taken ≡ self.old.taken }
+        ensures only { MayFail (answer_of result) }
     {
-        let Silent {
-            mut stream,
-            deadline,
-        } = silent;
-        match first_bytes(&mut stream, buffer) {
-            Ok(Some(count)) => Ok(Some(Arrival { stream, count })),
-            Ok(None) => {
-                if !deadline.left(rt)?.is_zero() {
-                    self.silent.push_back(Silent { stream, deadline })?;
-                }
-                Ok(None)
+        let has_ended = self.held.stages.at(place).is_ended();
+        if !has_ended {
+            self.held.hear_at(rt, place, buffer)?;
+            if !self.held.stages.at(place).is_whole() {
+                return Ok(None);
             }
-            Err(_) => Ok(None),
+        }
+        match self.held.take(place) {
+            Some(caller) => Ok(Some(Served { caller, has_ended })),
+            None => Ok(None),
         }
     }
 }
 
-// How many bytes a peer sent first, none where it is silent yet. It fails where the peer went away.
-fn first_bytes<S: Read + OpenStream>(
-    stream: &mut S,
-    buffer: &mut Vec<u8>,
-) -> io::Result<Option<usize>>
-    ensures { IfOk result (λ heard. IfSome heard (λ count. count ≤ length buffer.new.items)) }
-{
-    match stream.read(buffer) {
-        Ok(0) => Err(io::Error::from(ErrorKind::UnexpectedEof)),
-        Ok(count) => {
-            bound_waits(stream)?;
-            Ok(Some(count))
+impl<R: Net + Clock> Taken<R> {
+    // How many bytes come next, within 2,000 ms; none behind its end.
+    fn next_count(&mut self, rt: &R, buffer: &mut Vec<u8>) -> usize
+        ensures count { result ≤ length buffer.new.items }
+        ensures same { self.new.number ≡ self.old.number }
+    {
+        let Some(end) = self.end else {
+            return 0;
+        };
+        match end.or_after(rt, longest_wait()) {
+            Ok(deadline) => piece_before(rt, deadline, &mut self.stream, buffer),
+            Err(_) => 0,
         }
-        Err(error) if error.kind() == ErrorKind::WouldBlock => Ok(None),
-        Err(error) => Err(error),
     }
+}
+
+// The system has four more descriptors.
+fn has_spare<L: OpenListener + Drop>(listener: &L) -> bool {
+    let first = listener.try_clone();
+    let second = listener.try_clone();
+    let third = listener.try_clone();
+    let fourth = listener.try_clone();
+    first.is_ok() && second.is_ok() && third.is_ok() && fourth.is_ok()
 }
 
 // A peer that waited outside went away again.

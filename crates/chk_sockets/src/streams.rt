@@ -1,32 +1,23 @@
 //! Streams to peers, with every wait bounded.
-ghost use Rattle.std.specs.Prelude.{◌≡◌, ◌*◌, ◌/◌, ◌<◌, ◌≤◌, length, max, IfOk};
+ghost use Rattle.std.specs.Prelude.{◌≡◌, ◌*◌, ◌/◌, ◌<◌, ◌≤◌, length, max, IfOk, IfSome};
 ghost use Rattle.std.specs.Duration.{as_nanos};
 ghost use Rattle.chk_site.specs.Site.{MayFail};
 ghost use Rattle.chk_sockets.specs.Faults.{answer_of};
 
-use crate::deadline::Deadline;
 use crate::faults::SystemFault;
 use chk_bytes::Bytes;
+use chk_callers::{Deadline, WAIT_MS, longest_wait};
 use std::alloc::Global;
 use std::io;
 use std::io::{ErrorKind, Read, Write};
-use std::net::{Net, OpenStream, Shutdown, SocketAddr, TcpStream};
+use std::net::{Net, OpenStream, SocketAddr, TcpStream};
 use std::time::{Clock, Duration};
-
-/// How many milliseconds one wait for a peer takes at most.
-pub const WAIT_MS: u64 = 2_000;
 
 /// How many bytes of a reply are read at most.
 pub const MOST_REPLY: usize = 1_048_576;
 
-/// How often what follows an answer is read at most.
-const MOST_READS: u32 = 128;
-
-pub fn longest_wait() -> Duration
-    ensures { as_nanos result ≡ WAIT_MS * 1_000_000 }
-{
-    Duration::from_millis(WAIT_MS)
-}
+/// How many bytes a millisecond a peer takes of a long message at least.
+const LEAST_PER_MS: u64 = 125;
 
 /// The time for each of so many addresses, that are all tried within one wait.
 pub fn share_of_wait(addresses: usize) -> Duration
@@ -42,10 +33,17 @@ pub fn connected<R: Net>(rt: &R, address: SocketAddr, wait: Duration) -> io::Res
     Ok(stream)
 }
 
-/// Puts the message on the stream, and its end.
-pub fn put_message<S: Write + OpenStream>(stream: &mut S, bytes: &[u8]) -> io::Result<()> {
-    stream.write_all(bytes)?;
-    stream.shutdown(Shutdown::Write)
+/// Puts the message on the stream: in 2,000 ms and 1 ms more for each 125 bytes, so that a peer that
+/// reads less than 125,000 bytes a second doesn't hold its sender; and no write waits longer than
+/// 2,000 ms.
+pub fn put_message<R: Clock, S: Write + OpenStream>(
+    rt: &R,
+    stream: &mut S,
+    bytes: &[u8],
+) -> io::Result<()> {
+    let more = Duration::from_millis(bytes.len() as u64 / LEAST_PER_MS);
+    let deadline = Deadline::after(rt, longest_wait().saturating_add(more))?;
+    write_before(rt, deadline, stream, bytes)
 }
 
 /// Each read and each write ends in time.
@@ -55,7 +53,7 @@ pub fn bound_waits<S: OpenStream>(stream: &S) -> io::Result<()> {
     stream.set_write_timeout(Some(longest_wait()))
 }
 
-/// Writes all of the bytes before this moment.
+/// Writes all of the bytes before this moment. A write that a signal broke off is made again.
 pub fn write_before<R: Clock, S: Write + OpenStream>(
     rt: &R,
     deadline: Deadline,
@@ -63,31 +61,30 @@ pub fn write_before<R: Clock, S: Write + OpenStream>(
     bytes: &[u8],
 ) -> io::Result<()> {
     let mut rest = bytes;
-    for _ in 0..bytes.len() {
+    for _ in 0..u64::MAX {
         if rest.is_empty() {
-            break;
+            return Ok(());
         }
         let left = deadline.left(rt)?;
         if left.is_zero() {
-            return Err(io::Error::from(ErrorKind::TimedOut));
+            break;
         }
-        stream.set_write_timeout(Some(left))?;
-        let count = stream.write(rest)?;
-        if count == 0 {
-            return Err(io::Error::from(ErrorKind::WriteZero));
-        }
+        stream.set_write_timeout(Some(left.min(longest_wait())))?;
+        let count = written(stream, rest)?;
         rest = &rest[count..];
     }
-    Ok(())
+    Err(io::Error::from(ErrorKind::TimedOut))
 }
 
-/// The next piece, empty at the end, and where nothing came in time or the peer went away.
-pub fn next_piece<S: Read>(stream: &mut S, buffer: &mut Vec<u8>) -> usize
-    ensures { result ≤ length buffer.new.items }
+// How many bytes one write took, none where a signal broke it off.
+fn written<S: Write>(stream: &mut S, bytes: &[u8]) -> io::Result<usize>
+    ensures { IfOk result (λ count. count ≤ length bytes.now) }
 {
-    match stream.read(buffer) {
-        Ok(count) => count,
-        Err(_) => 0,
+    match stream.write(bytes) {
+        Ok(0) => Err(io::Error::from(ErrorKind::WriteZero)),
+        Ok(count) => Ok(count),
+        Err(error) if error.kind() == ErrorKind::Interrupted => Ok(0),
+        Err(error) => Err(error),
     }
 }
 
@@ -118,24 +115,9 @@ pub fn reply_on<R: Clock, S: Read + OpenStream>(
     Ok(bytes)
 }
 
-/// Ends an answered stream so that the peer gets the answer: a stream that is closed with bytes not
-/// yet read takes what was written on it away from the peer.
-pub fn end_stream<R: Clock, S: Read + OpenStream>(rt: &R, stream: &mut S, buffer: &mut Vec<u8>) {
-    if stream.shutdown(Shutdown::Write).is_err() {
-        return;
-    }
-    let Ok(deadline) = Deadline::after(rt, longest_wait()) else {
-        return;
-    };
-    for _ in 0..MOST_READS {
-        if piece_before(rt, deadline, stream, buffer) == 0 {
-            return;
-        }
-    }
-}
-
-// The next piece, empty also where it didn't come before this moment.
-fn piece_before<R: Clock, S: Read + OpenStream>(
+/// The next piece; empty at the end, where it didn't come before this moment, and where the peer went
+/// away. A read that a signal broke off is made again.
+pub fn piece_before<R: Clock, S: Read + OpenStream>(
     rt: &R,
     deadline: Deadline,
     stream: &mut S,
@@ -143,10 +125,27 @@ fn piece_before<R: Clock, S: Read + OpenStream>(
 ) -> usize
     ensures { result ≤ length buffer.new.items }
 {
-    match deadline.left(rt) {
-        Ok(left) if !left.is_zero() && stream.set_read_timeout(Some(left)).is_ok() => {
-            next_piece(stream, buffer)
+    for _ in 0..u64::MAX {
+        let Ok(left) = deadline.left(rt) else {
+            return 0;
+        };
+        if left.is_zero() || stream.set_read_timeout(Some(left)).is_err() {
+            return 0;
         }
-        _ => 0,
+        if let Some(count) = piece(stream, buffer) {
+            return count;
+        }
+    }
+    0
+}
+
+// How many bytes one read gave; none where a signal broke it off.
+fn piece<S: Read>(stream: &mut S, buffer: &mut Vec<u8>) -> Option<usize>
+    ensures { IfSome result (λ count. count ≤ length buffer.new.items) }
+{
+    match stream.read(buffer) {
+        Ok(count) => Some(count),
+        Err(error) if error.kind() == ErrorKind::Interrupted => None,
+        Err(_) => Some(0),
     }
 }

@@ -16,9 +16,13 @@ logread kept/t.log - 0 9 = [old] -
 logread kept/t.log - 0 9 = [old] -
 std rename kept/t.log kept/t.log.2010-11-08
 std write kept/t.log new
+logread kept/t.log - 0 9 = [old] -
+pause - - 3000 = done
 logread kept/t.log - 0 9 = [old] .2010-11-08
 std rename kept/t.log kept/t.log.2010-11-09
 std write kept/t.log next
+logread kept/t.log .2010-11-08 0 9 = [new] -
+pause - - 3000 = done
 logread kept/t.log .2010-11-08 0 9 = [new] .2010-11-09
 logread kept/t.log .2010-11-09 0 9 = [next] -
 std dir quick

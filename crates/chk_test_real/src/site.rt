@@ -72,8 +72,8 @@ fn files_and_logs_are_read_in_pieces(rt: HostRuntime) -> Result<(), Fail> {
     on_machine(rt, PIECES)
 }
 
-// Generations are read in the order of their suffixes. A base file that was read twice is kept open;
-// it isn't read on once it is rotated.
+// Generations are read in the order of their suffixes. A base file that was looked at stays the base file
+// when it is renamed, until it hasn't grown for three seconds.
 const GENERATIONS: &str = "\
 std dir logs
 std write logs/r.log.2010-11-09 two
@@ -90,7 +90,12 @@ logread s.log - 0 1 = [o] -
 logread s.log - 1 1 = [l] -
 std rename s.log s.log.2010-11-08
 std write s.log new
-logread s.log - 2 9 = [d] .2010-11-08
+logread s.log - 2 9 = [d] -
+logread s.log - 3 9 = [] -
+lognewest s.log = -
+pause - - 3000 = done
+logread s.log - 3 9 = [] .2010-11-08
+lognewest s.log = .2010-11-08
 logread s.log .2010-11-08 2 9 = [w] -
 logread s.log .2010-11-08 2 9 = [w] -
 logread s.log base 2 9 = [w] -
@@ -157,8 +162,8 @@ size no/e = Failed
 failure size no/e: its folder is not there
 size sinks = Failed
 failure size sinks: Is a directory (os error 21)
-logread sinks base 0 1 = Failed
-failure logread sinks: Is a directory (os error 21)
+logread sinks base 0 1 = [] -
+failure size sinks: Is a directory (os error 21)
 send 127.0.0.1:1 lost = Failed
 failure send 127.0.0.1:1: Connection refused (os error 111)
 take 127.0.0.1 - 0 = Failed

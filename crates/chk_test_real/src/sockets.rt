@@ -71,7 +71,7 @@ impl End {
     }
 
     fn has_more(&mut self, taking: u64, text: &str) -> bool {
-        match self.messages.more(self.alloc, taking) {
+        match self.messages.more(&self.rt, self.alloc, taking) {
             Ok(bytes) => is_text(&bytes, text),
             Err(_) => false,
         }
@@ -201,11 +201,14 @@ fn the_last_streams_carry_answers(rt: HostRuntime) -> Result<(), Fail> {
 }
 
 fn takes_a_part(here: &mut End, door: &str, slow: &mut TcpStream) -> Result<(), Fail> {
-    slow.write_all(b"tw".as_slice())?;
-    expect(here.takes(door, 1, "one"), "the first message")?;
-    expect(here.takes(door, 2, "tw"), "a part of the second message")?;
-    slow.write_all(b"o".as_slice())?;
-    expect(here.has_more(2, "o"), "the rest of the second message")?;
+    slow.write_all(b"tw\n".as_slice())?;
+    expect(here.takes(door, 1, "tw\n"), "a part of a message")?;
+    slow.write_all(b"o\n".as_slice())?;
+    expect(here.has_more(1, "o\n"), "the rest of the message")?;
+    expect(
+        here.takes(door, 2, "one"),
+        "the message of a peer that ended its side",
+    )?;
     expect(here.has_more(1, ""), "the first message has no more")?;
     expect(
         here.answer(1, "late") == Err(CallFault::Failed),
@@ -217,8 +220,7 @@ fn takes_the_next(here: &mut End, there: &mut End, door: &str) -> Result<(), Fai
     expect(here.finds_none(door), "a message")?;
     there.send(door, "one")?;
     let mut slow = TcpStream::connect(&here.rt, door)?;
-    takes_a_part(here, door, &mut slow)?;
-    expect(there.gets(1, None), "no answer")
+    takes_a_part(here, door, &mut slow)
 }
 
 #[test]
@@ -227,6 +229,54 @@ fn a_taking_without_an_answer_ends_at_the_next(rt: HostRuntime) -> Result<(), Fa
     let mut here = begin(rt);
     let mut there = begin(rt);
     takes_the_next(&mut here, &mut there, address.as_str())
+}
+
+const POST: &str = "POST /chukwa HTTP/1.1\r\nContent-Length: 2\r\n\r\nab";
+
+// A request that isn't whole holds nobody, and is whole with its last byte.
+fn passes_a_slow_peer(here: &mut End, there: &mut End, door: &str) -> Result<(), Fail> {
+    expect(here.finds_none(door), "a message")?;
+    let mut slow = TcpStream::connect(&here.rt, door)?;
+    slow.write_all(b"POST /chukwa HTTP/1.1\r\nContent-Length: 2\r\n\r\na".as_slice())?;
+    there.send(door, POST)?;
+    expect(here.takes(door, 1, POST), "the whole request")?;
+    here.answer(1, "taken\n")?;
+    expect(there.gets(1, Some("taken\n")), "an answer")?;
+    expect(here.finds_none(door), "a part of a request")?;
+    slow.write_all(b"b".as_slice())?;
+    expect(here.takes(door, 2, POST), "the slow request")
+}
+
+#[test]
+fn a_request_is_handed_out_once_it_is_whole(rt: HostRuntime) -> Result<(), Fail> {
+    let address = free_address(&rt)?;
+    let mut here = begin(rt);
+    let mut there = begin(rt);
+    passes_a_slow_peer(&mut here, &mut there, address.as_str())
+}
+
+// Nobody asks for the answer to what begins as copies do, and its sender is gone behind it.
+fn lets_copies_go(here: &mut End, there: &mut End, door: &str) -> Result<(), Fail> {
+    expect(here.finds_none(door), "a message")?;
+    there.send(door, "CHKT\n")?;
+    expect(there.gets(1, None), "no stream")?;
+    there.send(door, POST)?;
+    expect(
+        here.takes(door, 1, POST),
+        "the request of a peer that is there",
+    )?;
+    expect(
+        here.takes(door, 2, "CHKT\n"),
+        "the message of one that is gone",
+    )
+}
+
+#[test]
+fn who_ended_its_side_is_served_last(rt: HostRuntime) -> Result<(), Fail> {
+    let address = free_address(&rt)?;
+    let mut here = begin(rt);
+    let mut there = begin(rt);
+    lets_copies_go(&mut here, &mut there, address.as_str())
 }
 
 fn go_away(_stream: TcpStream) {}
@@ -304,7 +354,12 @@ fn takes_datagrams(here: &mut End, address: &str, door: &str) -> Result<(), Fail
     socket.send_to(b"".as_slice(), address)?;
     expect(here.takes(door, 2, ""), "an empty datagram")?;
     socket.send_to(b"c\n".as_slice(), address)?;
-    expect(here.takes(door, 3, "c\n"), "a third datagram")
+    expect(here.takes(door, 3, "c\n"), "a third datagram")?;
+    expect(here.has_more(3, ""), "a datagram is whole")?;
+    expect(
+        here.answer(3, "taken\n") == Err(CallFault::Failed),
+        "a datagram has no answer",
+    )
 }
 
 #[test]
@@ -313,4 +368,55 @@ fn a_datagram_is_a_whole_message(rt: HostRuntime) -> Result<(), Fail> {
     let door = format!(in rt.alloc(); "udp:{address}")?;
     let mut here = begin(rt);
     takes_datagrams(&mut here, address.as_str(), door.as_str())
+}
+
+// One datagram of so many bytes is taken whole.
+fn takes_long(here: &mut End, address: &str, door: &str, bytes: &[u8]) -> Result<(), Fail> {
+    let socket = UdpSocket::bind(&here.rt, "127.0.0.1:0")?;
+    socket.send_to(bytes, address)?;
+    match here.take(door, 1000)? {
+        Some(taking) => expect(taking.bytes.as_slice() == bytes, "all of a datagram"),
+        None => Err(Fail::new("a datagram")),
+    }
+}
+
+// So many of the first bytes, or all where there are fewer.
+fn front(bytes: &[u8], size: usize) -> &[u8] {
+    &bytes[..size.min(bytes.len())]
+}
+
+fn takes_each(here: &mut End, address: &str, door: &str, bytes: &[u8]) -> Result<(), Fail> {
+    expect(here.finds_none(door), "a message")?;
+    expect(bytes.len() == 65_507, "the longest datagram")?;
+    takes_long(here, address, door, front(bytes, 0))?;
+    takes_long(here, address, door, front(bytes, 1))?;
+    takes_long(here, address, door, front(bytes, 1_472))?;
+    takes_long(here, address, door, bytes)
+}
+
+#[test]
+fn datagrams_of_each_size_are_whole(rt: HostRuntime) -> Result<(), Fail> {
+    let address = free_address(&rt)?;
+    let door = format!(in rt.alloc(); "udp:{address}")?;
+    let bytes = vec![in rt.alloc(); 7u8; 65_507]?;
+    let mut here = begin(rt);
+    takes_each(&mut here, address.as_str(), door.as_str(), bytes.as_slice())
+}
+
+// What is sent to a port that nobody has is lost; an address that is taken is no door.
+fn finds_it_taken(here: &mut End, there: &mut End, address: &str, door: &str) -> Result<(), Fail> {
+    let socket = UdpSocket::bind(&here.rt, "127.0.0.1:0")?;
+    socket.send_to(b"lost".as_slice(), address)?;
+    expect(here.finds_none(door), "a message of before")?;
+    expect(there.take(door, 0).is_err(), "a door in use")?;
+    expect(there.take("udp:1", 0).is_err(), "no address")
+}
+
+#[test]
+fn a_door_for_datagrams_is_one(rt: HostRuntime) -> Result<(), Fail> {
+    let address = free_address(&rt)?;
+    let door = format!(in rt.alloc(); "udp:{address}")?;
+    let mut here = begin(rt);
+    let mut there = begin(rt);
+    finds_it_taken(&mut here, &mut there, address.as_str(), door.as_str())
 }

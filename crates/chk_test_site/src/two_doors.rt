@@ -35,10 +35,12 @@ fn goes_on(peer: &mut Peer) -> io::Result<()> {
 
 fn send_turn(stream: &mut TcpStream, turn: usize) -> io::Result<()> {
     if turn < PIECES.len() {
-        stream.write_all(PIECES[turn].as_bytes())
-    } else {
-        stream.shutdown(Shutdown::Write)
+        return stream.write_all(PIECES[turn].as_bytes());
     }
+    if turn == PIECES.len() {
+        return stream.shutdown(Shutdown::Write);
+    }
+    Ok(())
 }
 
 // The door is opened by a taking that finds nothing.
@@ -76,7 +78,7 @@ fn told_of(alloc: Global, taking: &Taking) -> Result<String, Fail> {
     Ok(told)
 }
 
-// Adds the further pieces, which the peer sends meanwhile.
+// Adds the further pieces, as far as there are any.
 fn add_rest<S: Site>(
     alloc: Global,
     site: &mut S,
@@ -165,13 +167,15 @@ fn a_stream_in_memory(rt: HostRuntime) -> Result<(), Fail> {
     takes_all(rt.alloc(), &mut site, "127.0.0.1:80")
 }
 
-// A peer at the door, with its first piece sent.
+// A peer at the door that has sent its message piece by piece and ended its side: a door hands out what is whole.
 fn connected(rt: &HostRuntime, door: &str) -> Result<Peer, Fail> {
     let mut peer = Peer {
         stream: Some(TcpStream::connect(rt, door)?),
         turns: 0,
     };
-    goes_on(&mut peer)?;
+    for _ in 0..4 {
+        goes_on(&mut peer)?;
+    }
     Ok(peer)
 }
 

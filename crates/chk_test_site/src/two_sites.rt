@@ -48,6 +48,8 @@ writer grows p.log two
 logread p.log - 0 9 = [onetwo] -
 logread p.log base 0 3 = [one] -
 writer turns p.log .2010-11-08
+logread p.log base 0 0 = [] -
+pause - - 3000 = done
 logread p.log base 3 9 = Short { size: 0 }
 logread p.log base 0 9 = [] -
 logread p.log - 0 3 = [one] -
@@ -58,6 +60,8 @@ logread p.log .2010-11-08 0 9 = [] -
 writer grows p.log three
 lognewest p.log = .2010-11-08
 writer turns p.log .2010-11-09
+logread p.log base 0 0 = [] -
+pause - - 3000 = done
 writer grows p.log four
 lognewest p.log = .2010-11-09
 logread p.log - 0 6 = [onetwo] .2010-11-08

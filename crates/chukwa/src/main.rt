@@ -4,6 +4,8 @@
 
 use chk_site_real::SiteReal;
 use chukwa_run::run;
+use std::fs::{File, OpenOptions};
+use std::os::fd::AsRawFd;
 use std::process::ExitCode;
 use std::{env, io};
 
@@ -14,9 +16,23 @@ const OUTSIDE: u8 = 3;
 const NO_MEMORY: u8 = 4;
 
 fn main(rt: HostRuntime) -> ExitCode {
+    let _standard = [in_place(rt), in_place(rt), in_place(rt)];
     match words_given(rt) {
         Ok(given) => ExitCode::from(run_given(rt, given.as_slice())),
         Err(status) => ExitCode::from(status),
+    }
+}
+
+// `/dev/null` in place of the standard input, output or error that is closed, none where each is open: else
+// a file of the program would be opened in its place, and what is printed would be written there.
+fn in_place(rt: HostRuntime) -> Option<File> {
+    let opened = OpenOptions::new()
+        .read(true)
+        .write(true)
+        .open(&rt, "/dev/null");
+    match opened {
+        Ok(file) if file.as_raw_fd() <= 2 => Some(file),
+        _ => None,
     }
 }
 

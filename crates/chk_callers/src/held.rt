@@ -1,0 +1,161 @@
+//! The peers that a door holds: their streams, and how far their messages came.
+ghost use Rattle.std.specs.Prelude.{◌≡◌, ◌<◌, ◌∷◌, ◌++◌, [], length, remove, IfNone, IfSome, OnErr, OnOk};
+
+use crate::callers::Caller;
+use chk_bytes::NoMemory;
+use chk_peers::{Stage, StageList};
+use std::alloc::Global;
+use std::net::Net;
+use std::time::Clock;
+
+/// How many bytes of messages are held before no more is read: 8 of the longest ones.
+pub const ROOM: usize = 33_685_504;
+
+/// The peers that came and weren't served yet, the oldest first.
+#[derive(Drop)]
+pub struct Held<R: Net> {
+    /// How far the message of each one came, in the order of the callers.
+    pub stages: StageList,
+    pub callers: Vec<Caller<R>>,
+}
+
+impl<R: Net + Clock> Held<R> {
+    pub fn new(alloc: Global) -> Held<R>
+        ensures stages { result.stages.held.items ≡ [] }
+        ensures callers { result.callers.items ≡ [] }
+    {
+        Held {
+            stages: StageList::new(alloc),
+            callers: Vec::new(alloc),
+        }
+    }
+
+    pub fn len(&self) -> usize
+        ensures { result ≡ length self.now.callers.items }
+    {
+        self.callers.len()
+    }
+
+    /// Holds a peer that came to this stage.
+    pub fn add(&mut self, stage: Stage, caller: Caller<R>) -> Result<(), NoMemory>
+        ensures stages { OnOk result (self.new.stages.held.items ≡ self.old.stages.held.items ++ stage ∷ []) }
+        ensures callers { OnOk result (self.new.callers.items ≡ self.old.callers.items ++ caller ∷ []) }
+        ensures err { OnErr result (self.new.callers.items ≡ self.old.callers.items) }
+    {
+        self.callers.reserve(1)?;
+        self.stages.add(stage)?;
+        self.callers.push(caller)?;
+        Ok(())
+    }
+
+    /// Takes the peer at this place out.
+    pub fn take(&mut self, place: usize) -> Option<Caller<R>>
+        ensures there { IfSome result (λ _. place < length self.old.callers.items) }
+        ensures callers { IfSome result (λ _. self.new.callers.items ≡ remove self.old.callers.items place) }
+        ensures stages { IfSome result (λ _. self.new.stages.held.items ≡ remove self.old.stages.held.items place) }
+        ensures none { IfNone result (self.new.callers.items ≡ self.old.callers.items) }
+    {
+        let _stage = self.stages.take(place)?;
+        if place < self.callers.len() {
+            return Some(self.callers.remove(place));
+        }
+        None
+    }
+
+    /// The oldest silent one goes, or the oldest one that ended; false where there is neither.
+    pub fn let_one_go(&mut self) -> bool {
+        match self.stages.leaving() {
+            Some(place) => {
+                let _gone = self.take(place);
+                true
+            }
+            None => false,
+        }
+    }
+
+    /// Lets those go that are gone.
+    pub fn sweep(&mut self) {
+        for _ in 0..self.callers.len() {
+            match self.stages.first_gone() {
+                Some(place) => {
+                    let _gone = self.take(place);
+                }
+                None => return,
+            }
+        }
+    }
+
+    /// Reads once at each peer whose message isn't whole. Where there is no room for more, only the
+    /// oldest one that has begun is read. It tells whether bytes came.
+    pub fn hear_all(&mut self, rt: &R, buffer: &mut Vec<u8>) -> Result<bool, NoMemory> {
+        let mut room = self.room();
+        let mut has_begun = false;
+        let mut has_moved = false;
+        for place in 0..self.callers.len() {
+            let is_silent = self.stages.at(place).is_silent();
+            if room > 0 || (!is_silent && !has_begun) {
+                let count = self.hear(rt, place, buffer)?;
+                room = room.saturating_sub(count);
+                has_moved = has_moved || count > 0;
+            }
+            has_begun = has_begun || !is_silent;
+        }
+        Ok(has_moved)
+    }
+
+    // Reads once at a peer whose message isn't whole, and tells how many bytes came. One that ended, and
+    // whose time here is over, is gone.
+    fn hear(&mut self, rt: &R, place: usize, buffer: &mut Vec<u8>) -> Result<usize, NoMemory> {
+        let stage = self.stages.at(place);
+        if stage.is_ended() && self.is_late(rt, place) {
+            self.stages.set(place, Stage::Gone);
+        }
+        if !stage.is_open() {
+            return Ok(0);
+        }
+        self.hear_at(rt, place, buffer)
+    }
+
+    /// Reads once at the peer at this place, and tells how many bytes came. Where there is no memory for
+    /// them, the peer is gone.
+    pub fn hear_at(
+        &mut self,
+        rt: &R,
+        place: usize,
+        buffer: &mut Vec<u8>,
+    ) -> Result<usize, NoMemory> {
+        let stage = self.stages.at(place);
+        let Some(caller) = self.callers.get_mut(place) else {
+            return Ok(0);
+        };
+        let before = caller.bytes.len();
+        let heard = caller.hear(rt, stage, buffer);
+        let after = caller.bytes.len();
+        match heard {
+            Ok(stage) => {
+                self.stages.set(place, stage);
+                Ok(after.saturating_sub(before))
+            }
+            Err(fault) => {
+                self.stages.set(place, Stage::Gone);
+                Err(fault)
+            }
+        }
+    }
+
+    fn is_late(&self, rt: &R, place: usize) -> bool {
+        match self.callers.get(place) {
+            Some(caller) => caller.is_late(rt),
+            None => true,
+        }
+    }
+
+    // How many bytes more may be held.
+    fn room(&self) -> usize {
+        let mut room = ROOM;
+        for caller in &self.callers {
+            room = room.saturating_sub(caller.bytes.len());
+        }
+        room
+    }
+}

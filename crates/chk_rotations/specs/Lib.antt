@@ -1,0 +1,4 @@
+pub mod Holdings
+pub mod Logs
+pub mod Passed
+pub mod Waits
