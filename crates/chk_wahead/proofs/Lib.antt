@@ -1,0 +1,5 @@
+pub mod Joining
+pub mod Fields
+pub mod Starts
+pub mod Obeying
+pub mod Staying

@@ -1,0 +1,14 @@
+use Rattle.std.proofs.Common.{ap}
+use Rattle.chk_site.specs.Runs.{went_on, ended}
+use Rattle.chk_replace.specs.Replace.{replacement}
+use Rattle.chk_wahead.proofs.Joining.{refused_by, script_as}
+use Rattle.chk_wahead.proofs.calls.publish.Goals as goal
+
+pub returns-in_err-done-clause-told : goal.returns-in_err-done-clause-told
+returns-in_err-done-clause-told g c =
+    rw (refused_by c.from_residual.ensures.1) (ended _ c.in_err-done.ensures c.sync-synced.ensures.told)
+
+pub returns-clause-told : goal.returns-clause-told
+returns-clause-told g c =
+    went_on _ c.in_ok-done.ensures c.sync-synced.ensures.told
+    (script_as (ap (replacement c.args.who.now c.args.mark.now) c.to_be_bytes.ensures) c.replace.ensures.told)

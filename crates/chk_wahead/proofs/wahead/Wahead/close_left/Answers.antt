@@ -1,0 +1,33 @@
+use Rattle.std.proofs.Common.{◌∙◌}
+use Rattle.chk_site.specs.Runs.{unbegun}
+use Rattle.chk_wahead.specs.Names.{buffer_name, mark_name, closed_name}
+use Rattle.chk_wahead.specs.Scripts.{shutting}
+use Rattle.chk_wahead.proofs.Joining.{refused_by, script_then, script_ended, script_as}
+use Rattle.chk_wahead.proofs.Fields.{seen_as, shutting_by, closed_at, cutting_by}
+use Rattle.chk_wahead.proofs.wahead.Wahead.close_left.Goals as goal
+
+pub returns-in_err-closed-clause-told : goal.returns-in_err-closed-clause-told
+returns-in_err-closed-clause-told g c = rw (refused_by c.from_residual.ensures.1) unbegun
+
+pub returns-in_err-cut-clause-told : goal.returns-in_err-cut-clause-told
+returns-in_err-cut-clause-told g c =
+    let s = c.args.self.now in
+    let known = seen_as c.self.inside s c.self.view_is c.self.invariant in
+    rw (refused_by c.from_residual-in_err-cut.ensures.1)
+    (script_ended (shutting s.who (buffer_name s.who.name) (closed_name s.who.name c.args.number) (mark_name s.who.name))
+    (script_as (cutting_by c.self.inside.who s.who c.as_str-2.result.now (buffer_name s.who.name) c.args.length known.who (c.as_str-2.ensures.value ∙ known.buffer))
+    c.in_err-cut.ensures.told))
+
+pub returns-clause-told : goal.returns-clause-told
+returns-clause-told g c =
+    let s = c.args.self.now in
+    let known = seen_as c.self.inside s c.self.view_is c.self.invariant in
+    script_then
+    (script_as (cutting_by c.self.inside.who s.who c.as_str-2.result.now (buffer_name s.who.name) c.args.length known.who (c.as_str-2.ensures.value ∙ known.buffer))
+    c.in_ok-cut.ensures.told)
+    (script_as
+    (shutting_by s c.self.inside.who c.as_str-3.result.now c.as_str-4.result.now c.as_str-5.result.now c.args.number known.who
+    (c.as_str-3.ensures.value ∙ known.buffer)
+    (c.as_str-4.ensures.value ∙ closed_at s c.self.inside c.as_str.result.now c.args.number known c.as_str.ensures.text c.in_ok-closed.ensures)
+    (c.as_str-5.ensures.value ∙ known.mark))
+    c.shut.ensures.told)
