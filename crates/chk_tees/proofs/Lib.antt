@@ -1,0 +1,2 @@
+pub mod SieveLemmas
+pub mod PassingLemmas

@@ -1,0 +1,20 @@
+//! The tee of a collector: which of the chunks that it wrote each subscriber is sent, and which of
+//! the chunks that a subscriber took it has not seen before.
+#![tactic(auto)]
+
+mod passing;
+mod sending;
+mod sieve;
+mod tees;
+
+use chk_bytes::Word;
+use chk_tee::Filter;
+pub use sieve::{Mark, Sieve};
+pub use tees::{Passed, Tees};
+
+/// Who is sent chunks: the address, and which chunks are wanted there.
+#[derive(Debug, Drop)]
+pub struct Subscriber {
+    pub address: Word,
+    pub filter: Filter,
+}
