@@ -19,6 +19,9 @@ mod Preparing
 mod Planning
 mod Readied
 mod FoundPlan
+mod KnownEnds
+mod StartsAgree
+pub mod Shown
 mod TakenIn
 mod ListingKept
 mod SinksSaved

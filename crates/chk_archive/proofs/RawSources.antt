@@ -15,7 +15,7 @@ use Rattle.chk_heads.specs.Order.{in_head_order}
 use Rattle.chk_heads.specs.declared.fault.JobFault.{JobFault}
 use Rattle.chk_heads.specs.declared.fault.JobFault.TheVariants.{Outside, Damaged, Spent, NoMemory}
 use Rattle.chk_merge.specs.Segments.{heads_from, HasFiles, SparesFiles, GatheredAll}
-use Rattle.chk_parts.specs.Starts.{HaveStartsIn, ToldOtherStart}
+use Rattle.chk_archive.specs.Starts.{HaveStartsIn, ToldOtherStart}
 use Rattle.chk_archive.specs.Archived.{MergesBy}
 use Rattle.chk_archive.specs.Taking.{ReadSources}
 use Rattle.chk_archive.specs.declared.taking.Taken.{Taken}

@@ -31,8 +31,8 @@ use Rattle.chk_parts.specs.declared.cuts.Cut.{Cut}
 use Rattle.chk_heads.specs.Heads.{Head}
 use Rattle.chk_parts.specs.Cuts.{cut_chunks, AreWithin}
 use Rattle.chk_parts.specs.Kept.{is_first, are_old_aside, past_chunks, KeptTold}
-use Rattle.chk_parts.specs.Starts.{HaveStartsIn, ToldOtherStart}
-use Rattle.chk_parts.proofs.StartsAgree.{starts_of_records, no_other_start}
+use Rattle.chk_archive.specs.Starts.{HaveStartsIn, ToldOtherStart}
+use Rattle.chk_archive.proofs.StartsAgree.{starts_of_records, no_other_start}
 use Rattle.chk_plan.specs.declared.spans.Span.{Span}
 use Rattle.chk_plan.specs.Passes.{AreSpans}
 use Rattle.chk_plan.proofs.Runs.{all_put}

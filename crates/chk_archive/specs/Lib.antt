@@ -10,6 +10,8 @@ pub mod Beginning
 pub mod Listed
 pub mod Counting
 pub mod Numbers
+pub mod Starts
+pub mod Shown
 pub mod Taking
 pub mod Merged
 pub mod Running

@@ -5,7 +5,7 @@ use Rattle.chk_site.specs.Files.{Files}
 use Rattle.chk_site.specs.History.{History}
 use Rattle.chk_chunk.specs.Keys.{Stream, Chunk, chunk_limit}
 use Rattle.chk_merge.specs.Segments.{heads_from, IsBadFile}
-use Rattle.chk_parts.specs.Starts.{HaveStartsIn, ToldOtherStart}
+use Rattle.chk_archive.specs.Starts.{HaveStartsIn, ToldOtherStart}
 use Rattle.chk_world.specs.Names.{Name, ArchiveFolder, SegmentFile, read}
 use Rattle.chk_world.specs.Books.{Segment, End, Book, is_nothing}
 use Rattle.chk_world.specs.Streams.{start_of}

@@ -10,6 +10,7 @@ ghost use Rattle.chk_world.specs.Sight.{job};
 ghost use Rattle.chk_world.specs.JobSteps.{IsOf};
 ghost use Rattle.chk_heads.specs.Faults.{JobCause, FailsLast};
 ghost use Rattle.chk_heads.specs.Pieces.{AsksInPieces};
+ghost use Rattle.chk_archive.specs.Shown.{ShowsArchived, ShowsSettled};
 ghost use Rattle.chk_book.specs.Loaded.{book_result};
 ghost use Rattle.chk_archive.specs.Archived.{Archived, ArchivesBy, Begun, GivenOnce, ListedOnce, ListsNoSinks};
 ghost use Rattle.chk_archive.specs.Reporting.{report_result};
@@ -35,6 +36,7 @@ pub fn archive<S: Site>(alloc: Global, site: &mut S, who: &Who) -> Result<Report
     requires { who.now ≡ job }
     ensures told { (stamped : List (List ℕ)) (loaded : Parts) → Adds (S.told site.old) (S.told site.new)
         (Leads (As stamped job) (Begun stamped loaded) (Archived stamped loaded (report_result result))) }
+    ensures shown { Adds (S.told site.old) (S.told site.new) (ShowsArchived result) }
     ensures own { Adds (S.told site.old) (S.told site.new) (Every (IsOf ArchivesBy)) }
     ensures once { Adds (S.told site.old) (S.told site.new) (ListedOnce result) }
     ensures given { OnOk result (Adds (S.told site.old) (S.told site.new) GivenOnce) }
@@ -52,6 +54,7 @@ fn settle<S: Site>(alloc: Global, site: &mut S, who: &Who) -> Result<Book, JobFa
     requires { who.now ≡ job }
     ensures told { (stamped : List (List ℕ)) (loaded : Parts) → Adds (S.told site.old) (S.told site.new)
         (Leads (As stamped job) (Begun stamped loaded) (Settled stamped loaded (book_result result))) }
+    ensures shown { Adds (S.told site.old) (S.told site.new) (ShowsSettled (book_result result)) }
     ensures own { Adds (S.told site.old) (S.told site.new) (Every (IsOf ArchivesBy)) }
     ensures none { Adds (S.told site.old) (S.told site.new) ListsNoSinks }
     ensures pieces { Adds (S.told site.old) (S.told site.new) (Every AsksInPieces) }

@@ -10,6 +10,7 @@ ghost use Rattle.chk_world.specs.Sight.{job};
 ghost use Rattle.chk_world.specs.JobSteps.{IsOf};
 ghost use Rattle.chk_heads.specs.Faults.{JobCause, FailsLast, IsOfRead};
 ghost use Rattle.chk_heads.specs.Pieces.{AsksInPieces};
+ghost use Rattle.chk_archive.specs.Shown.{ShowsBegun};
 ghost use Rattle.chk_book.specs.Loaded.{book_result};
 ghost use Rattle.chk_archive.specs.Archived.{Begun};
 ghost use Rattle.chk_archive.specs.Beginning.{HasStartedSo, HasBegun, Begins};
@@ -24,6 +25,7 @@ pub(crate) fn begin<S: Site>(alloc: Global, site: &mut S, who: &Who) -> Result<B
     requires { who.now ≡ job }
     ensures told { (stamped : List (List ℕ)) (loaded : Parts) → Adds (S.told site.old) (S.told site.new)
         (Leads (As stamped job) (Begun stamped loaded) (HasBegun stamped loaded (book_result result))) }
+    ensures shown { Adds (S.told site.old) (S.told site.new) (ShowsBegun (book_result result)) }
     ensures own { Adds (S.told site.old) (S.told site.new) (Every (IsOf Begins)) }
     ensures pieces { Adds (S.told site.old) (S.told site.new) (Every AsksInPieces) }
     ensures only { IfErr result IsOfRead }

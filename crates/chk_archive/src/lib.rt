@@ -6,11 +6,13 @@ mod beginning;
 mod calling;
 mod counting;
 mod folder_names;
+mod known;
 mod merging;
 mod report;
 mod run;
 mod sinks;
 mod sources;
+mod starts;
 mod taking;
 mod tidying;
 

@@ -1,6 +1,6 @@
 //! Many segments of the archive are merged into one.
 
-ghost use Rattle.std.specs.Prelude.{◌≡◌, ℕ, List, length, ◌<◌};
+ghost use Rattle.std.specs.Prelude.{◌≡◌, ℕ, List, length, ◌<◌, codes};
 ghost use Rattle.chk_site.specs.History.{Every};
 ghost use Rattle.chk_site.specs.Site.{Adds};
 ghost use Rattle.chk_site.specs.Runs.{Leads};
@@ -9,6 +9,8 @@ ghost use Rattle.chk_world.specs.Sight.{job, AtJob};
 ghost use Rattle.chk_world.specs.JobSteps.{IsOf};
 ghost use Rattle.chk_heads.specs.Faults.{JobCause, FailsLast};
 ghost use Rattle.chk_heads.specs.Pieces.{AsksInPieces};
+ghost use Rattle.chk_heads.specs.Causes.{Shows};
+ghost use Rattle.chk_merge.specs.Gone.{IsUnsound};
 ghost use Rattle.chk_book.specs.Books.{book_view};
 ghost use Rattle.chk_archive.specs.Tidying.{IsTidy};
 ghost use Rattle.chk_archive.specs.Archived.{MergesBy};
@@ -37,6 +39,8 @@ pub(crate) fn merge_many<S: Site>(
         (Leads (As stamped job) (AtJob stamped (IsTidy (book_view book.old)))
         (Merged stamped (book_view book.old) (book_view book.new) result)) }
     ensures few { length (book_view book.old).segments < 16 → S.told site.new ≡ S.told site.old }
+    ensures shown { Adds (S.told site.old) (S.told site.new) (Shows (IsUnsound (codes "archive") (book_view book.old)) result) }
+    ensures kept { ((book_view book.new).ends ≡ (book_view book.old).ends) × ((book_view book.new).aside ≡ (book_view book.old).aside) }
     ensures own { Adds (S.told site.old) (S.told site.new) (Every (IsOf MergesBy)) }
     ensures pieces { Adds (S.told site.old) (S.told site.new) (Every AsksInPieces) }
     ensures last { Adds (S.told site.old) (S.told site.new) (FailsLast result) }

@@ -10,6 +10,8 @@ ghost use Rattle.chk_world.specs.Sight.{job, Sight, AtJob};
 ghost use Rattle.chk_world.specs.JobSteps.{IsOf};
 ghost use Rattle.chk_heads.specs.Faults.{JobCause, FailsLast};
 ghost use Rattle.chk_heads.specs.Pieces.{AsksInPieces};
+ghost use Rattle.chk_archive.specs.Listed.{sources_in};
+ghost use Rattle.chk_archive.specs.Shown.{ShowsTaken};
 ghost use Rattle.chk_book.specs.Books.{book_view};
 ghost use Rattle.chk_archive.specs.Archived.{Archived, NoStray};
 ghost use Rattle.chk_archive.specs.Listed.{IsListed};
@@ -41,6 +43,7 @@ pub(crate) fn finish<S: Site>(
         → IsMergeOf loaded (book_view book) v
         → Adds (S.told site.old) (S.told site.new)
         (Leads (As stamped job) (AtJob stamped (λ u. u ≡ v)) (Archived stamped loaded (report_result result))) }
+    ensures shown { Adds (S.told site.old) (S.told site.new) (ShowsTaken (book_view book).ends (sources_in (book_view book) names.now) result) }
     ensures own { Adds (S.told site.old) (S.told site.new) (Every (IsOf FinishesBy)) }
     ensures pieces { Adds (S.told site.old) (S.told site.new) (Every AsksInPieces) }
     ensures last { Adds (S.told site.old) (S.told site.new) (FailsLast result) }

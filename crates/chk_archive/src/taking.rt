@@ -12,6 +12,9 @@ ghost use Rattle.chk_world.specs.JobSteps.{IsOf};
 ghost use Rattle.chk_world.specs.Names.{ArchiveFolder};
 ghost use Rattle.chk_heads.specs.Faults.{JobCause, FailsLast};
 ghost use Rattle.chk_heads.specs.Pieces.{AsksInPieces};
+ghost use Rattle.chk_heads.specs.Causes.{Shows};
+ghost use Rattle.chk_merge.specs.Gone.{IsGoneIn};
+ghost use Rattle.chk_archive.specs.Shown.{IsUnfit, ShowsTaken};
 ghost use Rattle.chk_book.specs.Books.{book_view};
 ghost use Rattle.chk_merge.specs.Segments.{HasFiles, SparesFiles, AreSettled};
 ghost use Rattle.chk_parts.specs.Cuts.{AreWithin, cut_chunks};
@@ -19,7 +22,7 @@ ghost use Rattle.chk_parts.specs.Records.{AreRecords};
 ghost use Rattle.chk_archive.specs.Archived.{MergesBy, ReplacesBook};
 ghost use Rattle.chk_archive.specs.Listed.{IsListed, sources_in};
 ghost use Rattle.chk_parts.specs.Gathering.{heads_of};
-ghost use Rattle.chk_parts.specs.Starts.{HaveStartsIn, ToldOtherStart};
+ghost use Rattle.chk_archive.specs.Starts.{HaveStartsIn, ToldOtherStart};
 ghost use Rattle.chk_heads.specs.Order.{in_head_order};
 ghost use Rattle.chk_world.specs.ArchiveRuns.{in_order, found};
 ghost use Rattle.chk_archive.specs.Written.{kept_aside};
@@ -29,13 +32,15 @@ ghost use Rattle.chk_parts.specs.Writes.{IsFree};
 ghost use Rattle.chk_archive.specs.Taking.{IsPlanned, IsCut, AreSorted, CanPrepare, IsWhole, Prepared, PartsTaken, AsideKept, stays_aside, MayFollowIf, TookSo, ReadSources};
 
 use crate::counting::count_of;
+use crate::known::known_ends;
 use crate::sources::sources;
+use crate::starts::check_starts;
 use chk_book::Book;
 use chk_bytes::{NoMemory, Word};
 use chk_heads::{Heads, JobFault};
 use chk_parts::{
-    Cut, Cuts, Purpose, add_segment, check_starts, count_first, cuts_of, gather_found,
-    is_old_aside, kept_of, known_ends, publish_next,
+    Cut, Cuts, Purpose, add_segment, count_first, cuts_of, gather_found, is_old_aside, kept_of,
+    publish_next,
 };
 use chk_plan::{Span, plan, taken};
 use chk_site::{OutsideFault, Site, Who};
@@ -75,6 +80,7 @@ pub(crate) fn take_in<S: Site>(
     ensures told { (stamped : List (List ℕ)) (v : Sight) → IsListed stamped names.now (book_view book.old) v
         → Adds (S.told site.old) (S.told site.new)
         (Leads (As stamped job) (AtJob stamped (λ u. u ≡ v)) (TookSo stamped v (book_view book.old) (book_view book.new) result)) }
+    ensures shown { Adds (S.told site.old) (S.told site.new) (ShowsTaken (book_view book.old).ends (sources_in (book_view book.old) names.now) result) }
     ensures own { Adds (S.told site.old) (S.told site.new) (Every (IsOf MergesBy)) }
     ensures pieces { Adds (S.told site.old) (S.told site.new) (Every AsksInPieces) }
     ensures last { Adds (S.told site.old) (S.told site.new) (FailsLast result) }
@@ -104,6 +110,7 @@ fn take_found<S: Site>(
         → (files.now ≡ sources_in (book_view book.old) names) → (heads ≡ heads_of v 0 files.now)
         → Adds (S.told site.old) (S.told site.new)
         (Leads (As stamped job) (AtJob stamped (λ u. u ≡ v)) (TookSo stamped v (book_view book.old) (book_view book.new) result)) }
+    ensures shown { Adds (S.told site.old) (S.told site.new) (Shows (IsUnfit (book_view book.old).ends files.now heads) result) }
     ensures own { Adds (S.told site.old) (S.told site.new) (Every (IsOf MergesBy)) }
     ensures pieces { Adds (S.told site.old) (S.told site.new) (Every AsksInPieces) }
     ensures last { Adds (S.told site.old) (S.told site.new) (FailsLast result) }
@@ -135,6 +142,7 @@ fn take_planned<S: Site>(
         → AreSorted v (sources_in (book_view book.old) names) files.now heads.now old
         → Adds (S.told site.old) (S.told site.new)
         (Leads (As stamped job) (AtJob stamped (λ u. u ≡ v)) (TookSo stamped v (book_view book.old) (book_view book.new) result)) }
+    ensures shown { Adds (S.told site.old) (S.told site.new) (Shows (IsGoneIn files.now heads.now) result) }
     ensures own { Adds (S.told site.old) (S.told site.new) (Every (IsOf MergesBy)) }
     ensures pieces { Adds (S.told site.old) (S.told site.new) (Every AsksInPieces) }
     ensures last { Adds (S.told site.old) (S.told site.new) (FailsLast result) }
@@ -174,6 +182,7 @@ fn write_planned<S: Site>(
         → cut_chunks (in_order (found at.shows.listing)) kept.now ≡ kept_aside at.shows.listing
         → Adds (S.told site.old) (S.told site.new)
         (Leads (As stamped job) (AtJob stamped (λ u. u ≡ v)) (TookSo stamped v (book_view book.old) (book_view book.new) result)) }
+    ensures shown { Adds (S.told site.old) (S.told site.new) (Shows (IsGoneIn files.now heads.now) result) }
     ensures own { Adds (S.told site.old) (S.told site.new) (Every (IsOf MergesBy)) }
     ensures pieces { Adds (S.told site.old) (S.told site.new) (Every AsksInPieces) }
     ensures last { Adds (S.told site.old) (S.told site.new) (FailsLast result) }
@@ -251,6 +260,7 @@ fn prepare<S: Site>(
         → Adds (S.told site.old) (S.told site.new)
         (Leads (As stamped job) (AtJob stamped (λ u. u ≡ v)) (Prepared stamped v (book_view book.old) (book_view book.new)
         (cut_chunks cs cuts.now) (cut_chunks cs kept.now) (stays_aside (book_view book.old) heads.now old kept.now) result)) }
+    ensures shown { Adds (S.told site.old) (S.told site.new) (Shows (IsGoneIn files.now heads.now) result) }
     ensures own { Adds (S.told site.old) (S.told site.new) (Every (IsOf MergesBy)) }
     ensures pieces { Adds (S.told site.old) (S.told site.new) (Every AsksInPieces) }
     ensures last { Adds (S.told site.old) (S.told site.new) (FailsLast result) }
@@ -286,6 +296,7 @@ fn take_parts<S: Site>(
         (Leads (As stamped job) (AtJob stamped (λ u. u ≡ v)) (PartsTaken stamped v (book_view book.old) (book_view book.new)
         (cut_chunks cs cuts.now) result)) }
     ensures none { cuts.now ≡ [] → book_view book.new ≡ book_view book.old }
+    ensures shown { Adds (S.told site.old) (S.told site.new) (Shows (IsGoneIn files.now heads.now) result) }
     ensures own { Adds (S.told site.old) (S.told site.new) (Every (IsOf MergesBy)) }
     ensures pieces { Adds (S.told site.old) (S.told site.new) (Every AsksInPieces) }
     ensures last { Adds (S.told site.old) (S.told site.new) (FailsLast result) }
@@ -319,6 +330,7 @@ fn keep_aside<S: Site>(
         (cut_chunks cs kept.now) (stays_aside (book_view book.old) heads.now old kept.now) result)) }
     ensures stays { IsTrue (stays_aside (book_view book.old) heads.now old kept.now)
         → (result ≡ Ok false) × (book_view book.new ≡ book_view book.old) × (S.told site.new ≡ S.told site.old) }
+    ensures shown { Adds (S.told site.old) (S.told site.new) (Shows (IsGoneIn files.now heads.now) result) }
     ensures own { Adds (S.told site.old) (S.told site.new) (Every (IsOf MergesBy)) }
     ensures pieces { Adds (S.told site.old) (S.told site.new) (Every AsksInPieces) }
     ensures last { Adds (S.told site.old) (S.told site.new) (FailsLast result) }

@@ -11,6 +11,7 @@ ghost use Rattle.chk_world.specs.JobSteps.{IsOf};
 ghost use Rattle.chk_heads.specs.Faults.{JobCause, FailsLast};
 ghost use Rattle.chk_archive.specs.Archived.{Archived, Begun, ListedOnce};
 ghost use Rattle.chk_archive.specs.Reporting.{report_result};
+ghost use Rattle.chk_archive.specs.Shown.{ShowsArchived};
 ghost use Rattle.chk_archive_run.specs.Telling.{ArchivesAndTells, IsTold, EndsRunning};
 
 use crate::telling::tell;
@@ -28,6 +29,7 @@ pub fn run_archive<S: Site>(alloc: Global, site: &mut S, who: &Who) -> Result<Re
     ensures once { Adds (S.told site.old) (S.told site.new) (ListedOnce result) }
     ensures prints { Adds (S.told site.old) (S.told site.new) (IsTold (report_result result)) }
     ensures runs { Adds (S.told site.old) (S.told site.new) (EndsRunning result) }
+    ensures shown { Adds (S.told site.old) (S.told site.new) (ShowsArchived result) }
     ensures last { Adds (S.told site.old) (S.told site.new) (FailsLast result) }
     ensures cause { JobCause (S.fault_count site.old) (S.fault_count site.new) result }
 {

@@ -1,11 +1,12 @@
 -- What a load of a book gives.
-use Rattle.std.specs.Prelude.{◌≡◌, ℕ, List, Option, Some, None, Result, Ok, Err}
+use Rattle.std.specs.Prelude.{◌≡◌, ◌⊎◌, ℕ, List, Option, Some, None, Result, Ok, Err}
 use Rattle.chk_site.specs.Files.{File}
 use Rattle.chk_site.specs.History.{History}
 use Rattle.chk_replace.specs.Load.{Has}
 use Rattle.chk_world.specs.Books.{Book, read_book, empty_book, book_in}
 use Rattle.chk_heads.specs.declared.fault.JobFault.{JobFault}
 use Rattle.chk_heads.specs.declared.fault.JobFault.TheVariants.{Outside, Damaged, Spent, NoMemory}
+use Rattle.chk_heads.specs.Shown.{Shown, HasMissed}
 use Rattle.chk_book.specs.Folders.{book_name}
 use Rattle.chk_book.specs.Damage.{book_damage}
 use Rattle.chk_book.specs.Books.{book_view}
@@ -45,3 +46,12 @@ LoadedBook folder file (Ok b) history =
     Has (book_name folder) file history × (b ≡ book_in file) × IsBookOf (file_bytes file) b
 LoadedBook folder file (Err (Damaged name at)) history = (name ≡ book_name folder) × IsNoBookAt (file_bytes file) at
 LoadedBook folder file (Err fault) history = Unit {0}
+
+-- What own reads of the folder's book show, on every site: at Ok that its bytes are this book and none of their fields is wrong, or
+-- that there was none and it is the empty one; at damage, which is of this file, that the field there is its first wrong one.
+abbrev pub ShowsBook : List ℕ → Result Book JobFault → History → History → Type 0
+ShowsBook folder (Ok b) added history =
+    (HasMissed (book_name folder) added × (b ≡ empty_book)) ⊎ Shown (book_name folder) (λ bytes. IsBookOf (Some bytes) b) added history
+ShowsBook folder (Err (Damaged name at)) added history =
+    (name ≡ book_name folder) × Shown (book_name folder) (λ bytes. IsNoBookAt (Some bytes) at) added history
+ShowsBook folder (Err fault) added history = Unit {0}

@@ -18,7 +18,7 @@ ghost use Rattle.chk_book.specs.Folders.{is_folder, book_name};
 ghost use Rattle.chk_book.specs.Books.{book_view, end_in};
 ghost use Rattle.chk_book.specs.Views.{end_view, segment_view};
 ghost use Rattle.chk_book.specs.Segmenting.{entered};
-ghost use Rattle.chk_book.specs.Loaded.{LoadedBook, ReadBook, book_result};
+ghost use Rattle.chk_book.specs.Loaded.{LoadedBook, ReadBook, ShowsBook, book_result};
 
 use crate::fields::BookFault;
 use crate::lists::{End, Ends, Segment, Segments};
@@ -131,6 +131,7 @@ pub fn load_book<S: Site>(
     ensures raw { (file : Option File) → IsSmallFile file → Adds (S.told site.old) (S.told site.new)
         (Leads (anyhow (SparesFile (book_name folder.now))) (Has (book_name folder.now) file)
         (LoadedBook folder.now file (book_result result))) }
+    ensures shown { Adds (S.told site.old) (S.told site.new) (ShowsBook folder.now (book_result result)) }
     ensures own { who.now ≡ job → Adds (S.told site.old) (S.told site.new) (Every (IsOf ReadsFile)) }
     ensures pieces { Adds (S.told site.old) (S.told site.new) (Every AsksInPieces) }
     ensures only { IfErr result IsOfRead }

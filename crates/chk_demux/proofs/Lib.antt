@@ -24,5 +24,6 @@ mod NewRecords
 mod NewKeys
 mod NextRecords
 mod RunFacts
+pub mod Shown
 mod RunSteps
 pub mod DoneStays

@@ -8,4 +8,5 @@ pub mod Giving
 pub mod Splitting
 pub mod Entering
 pub mod Running
+pub mod Shown
 pub mod Laws

@@ -12,6 +12,7 @@ ghost use Rattle.chk_demux.specs.Damage.{reads_of, LoadedBooks};
 ghost use Rattle.chk_demux.specs.Demuxed.{Earlier, Begun};
 ghost use Rattle.chk_demux.specs.Working.{Worked, job_result};
 ghost use Rattle.chk_demux.specs.Beginning.{Begins, HasStarted, HasBegun};
+ghost use Rattle.chk_demux.specs.Shown.{ShowsBegun};
 
 use chk_book::{Book, load_book};
 use chk_heads::JobFault;
@@ -32,6 +33,7 @@ pub(crate) fn begin<S: Site>(alloc: Global, site: &mut S, who: &Who) -> Result<B
         (Leads (As stamped job) (Begun stamped before) (HasBegun stamped before result)) }
     ensures raw { (held : Files) → AreSettled (reads_of held) held → Adds (S.told site.old) (S.told site.new)
         (Leads (anyhow (SparesFiles (reads_of held))) (HasFiles (reads_of held) held) (LoadedBooks held result)) }
+    ensures shown { Adds (S.told site.old) (S.told site.new) (ShowsBegun result) }
     ensures works { Adds (S.told site.old) (S.told site.new) (Worked Begins result) }
     ensures only { IfErr result IsOfRead }
     ensures cause { JobCause (S.fault_count site.old) (S.fault_count site.new) result }

@@ -12,6 +12,9 @@ ghost use Rattle.chk_world.specs.JobSteps.{IsOf};
 ghost use Rattle.chk_heads.specs.Faults.{JobCause, FailsLast, IsOfBegin};
 ghost use Rattle.chk_heads.specs.Order.{in_head_order};
 ghost use Rattle.chk_heads.specs.Pieces.{AsksInPieces};
+ghost use Rattle.chk_heads.specs.Causes.{Shows};
+ghost use Rattle.chk_merge.specs.Gone.{IsUnsound, ShowsSound};
+ghost use Rattle.chk_demux.specs.Shown.{IsDamage};
 ghost use Rattle.chk_parts.specs.Gathering.{AreSound, heads_of};
 ghost use Rattle.chk_book.specs.Books.{book_view};
 ghost use Rattle.chk_book.specs.Folders.{segment_name};
@@ -77,6 +80,7 @@ fn heads_in_order<S: Site>(
         (Leads (anyhow (SparesFiles (names_of (codes "archive") (book_view archive.now))))
         (HasFiles (names_of (codes "archive") (book_view archive.now)) held)
         (SoundHeads (codes "archive") (book_view archive.now) held result)) }
+    ensures shown { Adds (S.told site.old) (S.told site.new) (ShowsSound (codes "archive") (book_view archive.now) result) }
     ensures works { Adds (S.told site.old) (S.told site.new) (Worked RunsOn result) }
     ensures cause { JobCause (S.fault_count site.old) (S.fault_count site.new) result }
 {
@@ -127,6 +131,7 @@ fn split_named<S: Site>(
         (HasFiles (names_of (codes "archive") (book_view archive.now)) held)
         (ReadSoundly (book_view archive.now) held result)) }
     ensures writer { OnOk result (IsWriter (book_view book.now).next output.new.segmenter) }
+    ensures shown { Adds (S.told site.old) (S.told site.new) (Shows (IsUnsound (codes "archive") (book_view archive.now)) result) }
     ensures works { Adds (S.told site.old) (S.told site.new) (Worked RunsOn result) }
     ensures cause { JobCause (S.fault_count site.old) (S.fault_count site.new) result }
 {
@@ -191,6 +196,7 @@ fn split_archive<S: Site>(
         (Leads (anyhow (SparesFiles (names_of (codes "archive") (book_view archive.now))))
         (HasFiles (names_of (codes "archive") (book_view archive.now)) held)
         (ReadSoundly (book_view archive.now) held result)) }
+    ensures shown { Adds (S.told site.old) (S.told site.new) (Shows (IsUnsound (codes "archive") (book_view archive.now)) result) }
     ensures works { Adds (S.told site.old) (S.told site.new) (Worked RunsOn result) }
     ensures cause { JobCause (S.fault_count site.old) (S.fault_count site.new) result }
 {
@@ -227,6 +233,7 @@ pub fn demux<S: Site>(
         (Leads (As stamped job) (Begun stamped before) (Demuxed stamped before result)) }
     ensures raw { (held : Files) → AreSettled (reads_of held) held → Adds (S.told site.old) (S.told site.new)
         (Leads (anyhow (SparesFiles (reads_of held))) (HasFiles (reads_of held) held) (ReadAll held result)) }
+    ensures shown { Adds (S.told site.old) (S.told site.new) (Shows IsDamage result) }
     ensures own { Adds (S.told site.old) (S.told site.new) (Every (IsOf DemuxesBy)) }
     ensures pieces { Adds (S.told site.old) (S.told site.new) (Every AsksInPieces) }
     ensures last { Adds (S.told site.old) (S.told site.new) (FailsLast result) }

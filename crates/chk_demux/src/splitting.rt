@@ -24,6 +24,8 @@ ghost use Rattle.chk_book.specs.Folders.{segment_name};
 ghost use Rattle.chk_book.specs.Books.{book_view, end_in};
 ghost use Rattle.chk_book.specs.Views.{end_view};
 ghost use Rattle.chk_demux.specs.Working.{Worked, EndsSo};
+ghost use Rattle.chk_heads.specs.Causes.{Shows};
+ghost use Rattle.chk_merge.specs.Gone.{IsGoneIn};
 ghost use Rattle.chk_demux.specs.Writes.{IsFree, IsWriter, IsOutput};
 ghost use Rattle.chk_demux.specs.Splitting.{past_in, split_from, ends_past, is_stamped, RunsSo, SplitSoFar, SplitAll, StreamsRise, HoldsStream, stream_chunks, stream_left, all_chunks, all_left};
 
@@ -104,6 +106,7 @@ fn split_record<S: Site>(
         (Leads (anyhow (SparesFiles files.now)) (λ h. HasFiles files.now (held v) h × AreWindows v files.now reader.old)
         (ReadsOn v files.now reader.new result)) }
     ensures writer { OnOk result (IsWriter (book_view book.now).next output.new.segmenter) }
+    ensures shown { Adds (S.told site.old) (S.told site.new) (Shows (IsGoneIn files.now heads.now) result) }
     ensures works { Adds (S.told site.old) (S.told site.new) (Worked (ReadsOrWrites (segment_name (codes "demux") (book_view book.now).next)) result) }
     ensures cause { JobCause (S.fault_count site.old) (S.fault_count site.new) result }
 {
@@ -151,6 +154,7 @@ fn split_stream<S: Site>(
         (Leads (anyhow (SparesFiles files.now)) (λ h. HasFiles files.now (held v) h × AreWindows v files.now reader.old)
         (ReadsOn v files.now reader.new result)) }
     ensures writer { OnOk result (IsWriter (book_view book.now).next output.new.segmenter) }
+    ensures shown { Adds (S.told site.old) (S.told site.new) (Shows (IsGoneIn files.now heads.now) result) }
     ensures works { Adds (S.told site.old) (S.told site.new) (Worked (ReadsOrWrites (segment_name (codes "demux") (book_view book.now).next)) result) }
     ensures cause { JobCause (S.fault_count site.old) (S.fault_count site.new) result }
 {
@@ -202,6 +206,7 @@ pub(crate) fn split_streams<S: Site>(
         (Leads (anyhow (SparesFiles files.now)) (HasFiles files.now (held v))
         (NotDamaged result)) }
     ensures writer { OnOk result (IsWriter (book_view book.now).next output.new.segmenter) }
+    ensures shown { Adds (S.told site.old) (S.told site.new) (Shows (IsGoneIn files.now heads.now) result) }
     ensures works { Adds (S.told site.old) (S.told site.new) (Worked (ReadsOrWrites (segment_name (codes "demux") (book_view book.now).next)) result) }
     ensures cause { JobCause (S.fault_count site.old) (S.fault_count site.new) result }
 {

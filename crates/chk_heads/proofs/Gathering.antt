@@ -4,6 +4,7 @@ use Rattle.std.specs.Prelude.{filter_map, unwrap_or, true}
 use Rattle.std.proofs.lemmas.List.{take_at, nil_from_length, length-drop, length-take-le, take-append-drop, take-append-le, take_all, drop-drop}
 use Rattle.std.proofs.lemmas.List.Elements.{filter_map-append}
 use Rattle.std.proofs.Math.Seq.{drop-append_seam}
+use Rattle.std.proofs.lemmas.Bool.{cases_lt}
 use Rattle.chk_bytes.specs.Words.{BeginsWith}
 use Rattle.chk_site.specs.declared.acts.OutsideFault.{OutsideFault}
 use Rattle.chk_site.specs.declared.acts.OutsideFault.TheVariants.{Outside as site_failed, NoMemory as no_memory}
@@ -12,7 +13,7 @@ use Rattle.chk_site.specs.Effect.{IsSmallFile}
 use Rattle.chk_site.specs.History.{History, Step, Every}
 use Rattle.chk_site.specs.Site.{Adds, LastFailed}
 use Rattle.chk_site.specs.Runs.{anyhow, Leads}
-use Rattle.chk_site.proofs.Runs.{adds_then, adds_as, every_join}
+use Rattle.chk_site.proofs.Runs.{adds_then, adds_as, adds_none, every_join}
 use Rattle.chk_site.proofs.Leads.{leads_then, leads_none, owned_anyhow}
 use Rattle.chk_replace.specs.Load.{Has}
 use Rattle.chk_replace.proofs.CallSteps.{last_then}
@@ -34,7 +35,9 @@ use Rattle.chk_heads.specs.Faults.{job_fault, FailsLast, IsDamage}
 use Rattle.chk_heads.specs.Heads.{Head, head_of, head_at, heads_in, IsTaken}
 use Rattle.chk_heads.specs.Feeding.{AreChunks, limit_of, WentOver, TookFed, TookAhead, FedFrom, IsSpoiled, IsBadAt, no_header, torn, spoiled}
 use Rattle.chk_heads.specs.Pieces.{bytes_in, asks_for, HasBytes}
-use Rattle.chk_heads.specs.Gathered.{Gathered, GatheredFile, EndsSo}
+use Rattle.chk_heads.specs.Shown.{HasThere, Agree, ShowsBytes}
+use Rattle.chk_heads.specs.Gathered.{Gathered, GatheredFile, EndsSo, ToldOf, ShowsGathered}
+use Rattle.chk_heads.proofs.Showing.{agree_join, agree_early, agree_late, there_behind, none_there}
 use Rattle.chk_heads.proofs.FedRecords.{both_chunks, chunks_more, heads_more}
 
 -- all of these bytes was fed or passed over, and the heads of its records up to the reader's place stand behind the others
@@ -49,6 +52,11 @@ abbrev pub HasFront : List ℕ → Option File → ℕ → ℕ → Pieces → �
 HasFront name f most file p at hs ks history =
     Has name f history × (fed : List ℕ) × BeginsWith (bytes_in f) fed × HasTaken most file p at hs ks fed
 
+-- it is so of a front of all bytes that have what own reads gave, and some bytes have it, whatever stands behind them
+pub record HasShown (name : List ℕ) (most file : ℕ) (p : Pieces) (at : ℕ) (hs ks : List Head) (some : List ℕ) (added history : History) : Type 0 where
+  pub agree : (more : List ℕ) → Agree name (some ++ more) added history
+  pub each : (bytes : List ℕ) → Agree name bytes added history → (fed : List ℕ) × BeginsWith bytes fed × HasTaken most file p at hs ks fed
+
 -- it is so of some bytes, and of a front of each file that the history bears out
 pub record IsGathered (old now : Option History) (name : List ℕ) (most file : ℕ) (p : Pieces) (at : ℕ) (hs ks : List Head) : Type 0 where
   pub some : List ℕ
@@ -57,6 +65,7 @@ pub record IsGathered (old now : Option History) (name : List ℕ) (most file : 
   pub small : at < 2 ^ 63
   pub raw : (f : Option File) → IsSmallFile f
       → Adds old now (Leads (anyhow (SparesFile name)) (Has name f) (HasFront name f most file p at hs ks))
+  pub shown : Adds old now (HasShown name most file p at hs ks some)
 
 -- ---- the bytes
 
@@ -99,6 +108,29 @@ ended_before bytes from n piece given empty some low =
     let few : length piece ≡ min (asks_for n from) (length (drop from bytes)) = ap length given ∙ length-take (asks_for n from) (drop from bytes) in
     omega (arith, few, empty, some, low, length-drop from bytes)
 
+-- what the bytes have there is what they have there at most
+taken_there : (piece : List ℕ) {left : List ℕ} → BeginsWith left piece → piece ≡ take (length piece) left
+taken_there piece (rest, is) = sym (ap (take (length piece)) is ∙ take_at piece rest (length piece) refl)
+
+-- a piece stands behind what came before it and a gap
+there_past : (some gap piece more : List ℕ) (from max : ℕ) → 0 < length piece → length some + length gap ≡ from
+    → HasThere ((some ++ (gap ++ piece)) ++ more) from max piece
+there_past some gap piece more from max any fills =
+    subst (λ w. HasThere w from max piece)
+    (append_assoc some gap (piece ++ more)
+    ∙ (ap (λ x. some ++ x) (sym (append_assoc gap piece more)) ∙ sym (append_assoc some (gap ++ piece) more)))
+    (subst (λ n. HasThere ((some ++ gap) ++ (piece ++ more)) n max piece) (length-append some gap ∙ fills)
+    (there_behind (some ++ gap) piece more max any))
+
+-- nothing came there, where something was asked for
+past_there : (bytes : List ℕ) (from n : ℕ) (piece : List ℕ) → HasThere bytes from (asks_for n from) piece → length piece ≡ 0 → 0 < n
+    → length bytes < 2 ^ 63 → length bytes ≤ from
+past_there bytes from n piece there empty some low = by (cases_lt (from + 1) (2 ^ 63))
+  where
+    by : (from + 1 < 2 ^ 63) ⊎ (2 ^ 63 ≤ from + 1) → length bytes ≤ from
+    by (inl less) = there.ends empty (omega arith)
+    by (inr full) = omega arith
+
 -- a piece is known of the file
 with_piece : (name : List ℕ) (f : Option File) (most file : ℕ) (p : Pieces) (at from n : ℕ) (hs ks : List Head) (piece : List ℕ) (B : History → Type 0)
     {old mid new : Option History}
@@ -115,6 +147,45 @@ with_piece name f most file p at from n hs ks piece B join so_far given =
       own = x.own;
     }))
 
+-- ---- what is told of the bytes
+
+-- the file is still so
+still : (name : List ℕ) (f : Option File) (most file : ℕ) (hs js : List Head) (result : Result (Unit {0}) JobFault) (h : History) → Has name f h
+    → ToldOf most name (bytes_in f) file hs js result → GatheredFile most name f file hs js result h
+still name f most file hs js (Ok value) h has told = (has, told.0, told.1)
+still name f most file hs js (Err (Damaged which at)) h has told = told
+still name f most file hs js (Err (Outside call)) h has told = tt
+still name f most file hs js (Err (Spent number)) h has told = tt
+still name f most file hs js (Err NoMemory) h has told = tt
+
+-- own reads show it
+shows_told : (name : List ℕ) (most file : ℕ) (hs js : List Head) (result : Result (Unit {0}) JobFault) (some : List ℕ) → length some < 2 ^ 63
+    → (added history : History) → Agree name some added history
+    → ((bytes : List ℕ) → length bytes < 2 ^ 63 → Agree name bytes added history → ToldOf most name bytes file hs js result)
+    → ShowsGathered most name file hs js result added history
+shows_told name most file hs js (Ok value) some small added history agree each =
+    record { some = some; small = small; agree = agree; each = each }
+shows_told name most file hs js (Err (Damaged which at)) some small added history agree each =
+    ((each some small agree).0, record { some = some; small = small; agree = agree; each = λ bytes low all. (each bytes low all).1 })
+shows_told name most file hs js (Err (Outside call)) some small added history agree each = tt
+shows_told name most file hs js (Err (Spent number)) some small added history agree each = tt
+shows_told name most file hs js (Err NoMemory) some small added history agree each = tt
+
+-- a front of them can't begin a file of chunks
+spoiled_told : (name : List ℕ) (most file : ℕ) (p : Pieces) (at : ℕ) (hs ks : List Head) → fed_limit p ≡ limit_of most → (js : List Head)
+    (place : ℕ) (fault : JobFault)
+    → ((fed : List ℕ) → IsFed p fed → AreChunks most (records_of (take (fed_place p) fed)) → IsSpoiled most (fed_limit p) fed place)
+    → IsDamage name place fault → (bytes fed : List ℕ) → BeginsWith bytes fed → HasTaken most file p at hs ks fed
+    → ToldOf most name bytes file hs js (Err fault)
+spoiled_told name most file p at hs ks limit js place (Outside call) bad damage bytes fed front t = tt
+spoiled_told name most file p at hs ks limit js place (Damaged which there) bad damage bytes fed front t = (
+  damage.0,
+  spoiled fed front (subst (λ k. IsSpoiled most (limit_of most) fed k) (sym damage.1)
+      (subst (λ l. IsSpoiled most l fed place) limit (bad fed t.state t.chunks))),
+)
+spoiled_told name most file p at hs ks limit js place (Spent number) bad damage bytes fed front t = tt
+spoiled_told name most file p at hs ks limit js place NoMemory bad damage bytes fed front t = tt
+
 -- ---- before the first piece
 
 no_records : (place : ℕ) → records_of (take place []) ≡ []
@@ -128,6 +199,8 @@ begins now name most file p hs limits state = record {
   limit = limits;
   small = omega arith;
   raw = λ f small. leads_none now (λ h has. (has, [], (bytes_in f, refl), taken));
+  shown = adds_none now (HasShown name most file p 0 hs hs [])
+      (λ history. record { agree = λ more. tt; each = λ bytes all. ([], (bytes, refl), taken) });
 }
   where
     taken : HasTaken most file p 0 hs hs []
@@ -257,7 +330,8 @@ module _ (old mid new : Option History) (name : List ℕ) (most file : ℕ) (p :
     (g : IsGathered old mid name most file p at hs ks) (q : Pieces) (js ms : List Head) (limits : fed_limit q ≡ fed_limit p)
     (went : (fed : List ℕ) → IsFed p fed → AreChunks most (records_of (take (fed_place p) fed)) → TookFed most file p q fed ks js None)
     (last : Option ℕ) (ahead : TookAhead most file q js ms last) (n : ℕ) (piece : List ℕ)
-    (given : (f : Option File) → Adds mid new (Leads (anyhow (SparesFile name)) (Has name f) (HasBytes name (unwrap_or last at) n f (Ok piece)))) where
+    (given : (f : Option File) → Adds mid new (Leads (anyhow (SparesFile name)) (Has name f) (HasBytes name (unwrap_or last at) n f (Ok piece))))
+    (showed : Adds mid new (ShowsBytes name (unwrap_or last at) (asks_for n (unwrap_or last at)) (Ok piece))) where
   -- what was fed was gone over
   over : (fed : List ℕ) → HasTaken most file p at hs ks fed → HasTaken most file q at hs js fed
   over fed t = took most file p q at hs ks js fed t (went fed t.state t.chunks).0
@@ -271,9 +345,8 @@ module _ (old mid new : Option History) (name : List ℕ) (most file : ℕ) (p :
   pub goes_on : (r : Pieces) (next : ℕ) → 0 < length piece → FedFrom q r last piece → next ≡ unwrap_or last at + length piece → next < 2 ^ 63
       → fed_limit r ≡ fed_limit q → IsGathered old new name most file r next hs ms
   goes_on r next some fedfrom is small same = record {
-    some = g.some ++ (zeros (unwrap_or last at - at) ++ piece);
-    taken = then g.some g.taken (zeros (unwrap_or last at - at))
-        (let b = begun g.some g.taken in let z = length-zeros (unwrap_or last at - at) in let t = g.taken.size in omega arith);
+    some = g.some ++ (gap ++ piece);
+    taken = then g.some g.taken gap gap_fills;
     limit = same ∙ (limits ∙ g.limit);
     small = small;
     raw = λ f tiny.
@@ -283,8 +356,29 @@ module _ (old mid new : Option History) (name : List ℕ) (most file : ℕ) (p :
         piece_behind (bytes_in f) fed front.0 at (unwrap_or last at) t.size (begun fed t) front.1 (asks_for n (unwrap_or last at)) piece given_is some in
         (has, fed ++ (m.0 ++ piece), m.2, then fed t m.0 m.1))
         (g.raw f tiny) (given f);
+    shown = adds_then (HasShown name most file r next hs ms (g.some ++ (gap ++ piece))) g.shown showed
+        (λ a b history x y. record {
+          agree = λ more.
+              agree_join name ((g.some ++ (gap ++ piece)) ++ more) b a history
+              (subst (λ w. Agree name w a history) (sym (append_assoc g.some (gap ++ piece) more)) (x.agree ((gap ++ piece) ++ more)))
+              (y.any ((g.some ++ (gap ++ piece)) ++ more) (there_past g.some gap piece more from (asks_for n from) some gap_fills));
+          each = λ bytes all.
+              let f = x.each bytes (agree_early name bytes b a history all) in
+              let there = (y.each bytes (agree_late name bytes b a history all)).stands in
+              let m = piece_behind bytes f.0 f.1.0 at from f.2.size (begun f.0 f.2) f.1.1 (length piece) piece (taken_there piece there) some in
+              (f.0 ++ (m.0 ++ piece), m.2, then f.0 f.2 m.0 m.1);
+        });
   }
     where
+      from : ℕ
+      from = unwrap_or last at
+
+      gap : List ℕ
+      gap = zeros (from - at)
+
+      gap_fills : length g.some + length gap ≡ from
+      gap_fills = let b = begun g.some g.taken in let z = length-zeros (from - at) in let t = g.taken.size in omega arith
+
       then : (fed : List ℕ) → HasTaken most file p at hs ks fed → (missing : List ℕ) → length fed + length missing ≡ unwrap_or last at
           → HasTaken most file r next hs ms (fed ++ (missing ++ piece))
       then fed t missing all =
@@ -311,32 +405,26 @@ module _ (old mid new : Option History) (name : List ℕ) (most file : ℕ) (p :
       → EndsSo name g.some (fed_place q) result
   some_ends result ends = ends g.some (over g.some g.taken).state (stood g.some g.taken)
 
-  pub is_ended : (result : Result (Unit {0}) JobFault) → length piece ≡ 0 → 0 < n
-      → ((fed : List ℕ) → IsFed q fed → Stands (fed_limit q) fed (fed_marker q) (fed_place q) More → EndsSo name fed (fed_place q) result)
-      → (f : Option File) → IsSmallFile f → Adds old new (Leads (anyhow (SparesFile name)) (Has name f) (GatheredFile most name f file hs ms result))
-  is_ended result empty some ends f small =
-      with_piece name f most file p at (unwrap_or last at) n hs ks piece (GatheredFile most name f file hs ms result)
-      (λ h has fed front t given_is.
-      let past : length (bytes_in f) ≤ unwrap_or last at =
-      ended_before (bytes_in f) (unwrap_or last at) n piece given_is empty some (small_bytes f small) in
-      said last ahead past result h has fed front (over fed t) (ends fed (over fed t).state (stood fed t)))
-      (g.raw f small) (given f)
+  -- what is told where the bytes end
+  told_end : (bytes : List ℕ) (o : Option ℕ) → TookAhead most file q js ms o → length bytes ≤ unwrap_or o at → (result : Result (Unit {0}) JobFault)
+      → (fed : List ℕ) → BeginsWith bytes fed → HasTaken most file q at hs js fed → EndsSo name fed (fed_place q) result
+      → ToldOf most name bytes file hs ms result
+  told_end bytes = said
     where
-      ends_here : js ≡ ms → (result : Result (Unit {0}) JobFault) → (h : History) → Has name f h → (fed : List ℕ) → bytes_in f ≡ fed
-          → HasTaken most file q at hs js fed → EndsSo name fed (fed_place q) result → GatheredFile most name f file hs ms result h
-      ends_here same (Ok value) h has fed same_bytes t ends =
-          let all : take (fed_place q) fed ≡ bytes_in f = take_all (fed_place q) fed (omega (arith, ends.2)) ∙ sym same_bytes in (
-            has,
+      ends_here : js ≡ ms → (result : Result (Unit {0}) JobFault) → (fed : List ℕ) → bytes ≡ fed
+          → HasTaken most file q at hs js fed → EndsSo name fed (fed_place q) result → ToldOf most name bytes file hs ms result
+      ends_here same (Ok value) fed same_bytes t ends =
+          let all : take (fed_place q) fed ≡ bytes = take_all (fed_place q) fed (omega (arith, ends.2)) ∙ sym same_bytes in (
             record {
               form = subst IsSequenceFile all ends.1.file;
               all = subst (λ b. AreChunks most (records_of b)) all t.chunks;
             },
             sym same ∙ t.heads ∙ ap (λ b. hs ++ filter_map (head_at most file) (records_of b)) all,
           )
-      ends_here same (Err (Outside call)) h has fed same_bytes t ends = tt
-      ends_here same (Err (Spent number)) h has fed same_bytes t ends = tt
-      ends_here same (Err NoMemory) h has fed same_bytes t ends = tt
-      ends_here same (Err (Damaged which place)) h has fed same_bytes t (found, end, damage) = (
+      ends_here same (Err (Outside call)) fed same_bytes t ends = tt
+      ends_here same (Err (Spent number)) fed same_bytes t ends = tt
+      ends_here same (Err NoMemory) fed same_bytes t ends = tt
+      ends_here same (Err (Damaged which place)) fed same_bytes t (found, end, damage) = (
         damage.0,
         subst (λ b. IsBadAt most b place) (sym same_bytes) (subst (IsBadAt most fed) (sym damage.1) (bad end.1)),
       )
@@ -347,15 +435,15 @@ module _ (old mid new : Option History) (name : List ℕ) (most file : ℕ) (p :
           bad (inr torn_there) = torn torn_there.0 torn_there.1 torn_there.2
               (subst (λ k. AreChunks most (records_of (take k fed))) (sym end.0) t.chunks)
 
-      ends_ahead : (a : Ahead) → IsAhead q a → (result : Result (Unit {0}) JobFault) → (h : History) → (fed rest : List ℕ) → bytes_in f ≡ fed ++ rest
+      ends_ahead : (a : Ahead) → IsAhead q a → (result : Result (Unit {0}) JobFault) → (fed rest : List ℕ) → bytes ≡ fed ++ rest
           → length fed + length rest < a.end → HasTaken most file q at hs js fed → EndsSo name fed (fed_place q) result
-          → GatheredFile most name f file hs ms result h
-      ends_ahead a is (Ok value) h fed rest front short t ends =
+          → ToldOf most name bytes file hs ms result
+      ends_ahead a is (Ok value) fed rest front short t ends =
           let all = all_fed q fed t.state in let come = is.come in let last = ends.2 in absurd (let z : ⊥ = omega arith in z)
-      ends_ahead a is (Err (Outside call)) h fed rest front short t ends = tt
-      ends_ahead a is (Err (Spent number)) h fed rest front short t ends = tt
-      ends_ahead a is (Err NoMemory) h fed rest front short t ends = tt
-      ends_ahead a is (Err (Damaged which place)) h fed rest front short t (found, end, damage) =
+      ends_ahead a is (Err (Outside call)) fed rest front short t ends = tt
+      ends_ahead a is (Err (Spent number)) fed rest front short t ends = tt
+      ends_ahead a is (Err NoMemory) fed rest front short t ends = tt
+      ends_ahead a is (Err (Damaged which place)) fed rest front short t (found, end, damage) =
           let there : place ≡ a.at = damage.1 ∙ end.0 ∙ sym is.at in
           let torn_there = is.torn fed rest t.state short in
           let same : take a.at (fed ++ rest) ≡ take (fed_place q) fed =
@@ -365,16 +453,44 @@ module _ (old mid new : Option History) (name : List ℕ) (most file : ℕ) (p :
                 (torn is.marker torn_there.0 torn_there.1 (subst (λ b. AreChunks most (records_of b)) (sym same) t.chunks))),
           )
 
-      said : (o : Option ℕ) → TookAhead most file q js ms o → length (bytes_in f) ≤ unwrap_or o at → (result : Result (Unit {0}) JobFault)
-          → (h : History) → Has name f h → (fed : List ℕ) → BeginsWith (bytes_in f) fed → HasTaken most file q at hs js fed
-          → EndsSo name fed (fed_place q) result → GatheredFile most name f file hs ms result h
-      said None same past result h has fed (rest, front) t ends =
-          let all : length (bytes_in f) ≡ length fed + length rest = ap length front ∙ length-append fed rest in
+      said : (o : Option ℕ) → TookAhead most file q js ms o → length bytes ≤ unwrap_or o at → (result : Result (Unit {0}) JobFault)
+          → (fed : List ℕ) → BeginsWith bytes fed → HasTaken most file q at hs js fed
+          → EndsSo name fed (fed_place q) result → ToldOf most name bytes file hs ms result
+      said None same past result fed (rest, front) t ends =
+          let all : length bytes ≡ length fed + length rest = ap length front ∙ length-append fed rest in
           let none : rest ≡ [] = nil_from_length rest (omega (arith, all, past, t.size)) in
-          ends_here (sym same) result h has fed (front ∙ (ap (λ x. fed ++ x) none ∙ append-nil fed)) t ends
-      said (Some l) (a, is, end, taken) past result h has fed (rest, front) t ends =
-          let all : length (bytes_in f) ≡ length fed + length rest = ap length front ∙ length-append fed rest in
-          ends_ahead a is result h fed rest front (omega (arith, all, past, end)) t ends
+          ends_here (sym same) result fed (front ∙ (ap (λ x. fed ++ x) none ∙ append-nil fed)) t ends
+      said (Some l) (a, is, end, taken) past result fed (rest, front) t ends =
+          let all : length bytes ≡ length fed + length rest = ap length front ∙ length-append fed rest in
+          ends_ahead a is result fed rest front (omega (arith, all, past, end)) t ends
+
+  pub is_ended : (result : Result (Unit {0}) JobFault) → length piece ≡ 0 → 0 < n
+      → ((fed : List ℕ) → IsFed q fed → Stands (fed_limit q) fed (fed_marker q) (fed_place q) More → EndsSo name fed (fed_place q) result)
+      → (f : Option File) → IsSmallFile f → Adds old new (Leads (anyhow (SparesFile name)) (Has name f) (GatheredFile most name f file hs ms result))
+  is_ended result empty some ends f small =
+      with_piece name f most file p at (unwrap_or last at) n hs ks piece (GatheredFile most name f file hs ms result)
+      (λ h has fed front t given_is.
+      let past : length (bytes_in f) ≤ unwrap_or last at =
+      ended_before (bytes_in f) (unwrap_or last at) n piece given_is empty some (small_bytes f small) in
+      still name f most file hs ms result h has
+      (told_end (bytes_in f) last ahead past result fed front (over fed t) (ends fed (over fed t).state (stood fed t))))
+      (g.raw f small) (given f)
+
+  -- the same of what the reads gave
+  pub shows_ended : (result : Result (Unit {0}) JobFault) → length piece ≡ 0 → 0 < n
+      → ((fed : List ℕ) → IsFed q fed → Stands (fed_limit q) fed (fed_marker q) (fed_place q) More → EndsSo name fed (fed_place q) result)
+      → Adds old new (ShowsGathered most name file hs ms result)
+  shows_ended result empty some ends =
+      adds_then (ShowsGathered most name file hs ms result) g.shown showed
+      (λ a b history x y.
+      shows_told name most file hs ms result g.some (omega (arith, g.taken.size, g.small)) (b ++ a) history
+      (agree_join name g.some b a history (subst (λ w. Agree name w a history) (append-nil g.some) (x.agree []))
+      (y.any g.some (none_there g.some (unwrap_or last at) (asks_for n (unwrap_or last at)) piece empty
+      (let d = begun g.some g.taken in omega (arith, d, g.taken.size)))))
+      (λ bytes low all.
+      let f = x.each bytes (agree_early name bytes b a history all) in
+      let past = past_there bytes (unwrap_or last at) n piece (y.each bytes (agree_late name bytes b a history all)) empty some low in
+      told_end bytes last ahead past result f.0 f.1 (over f.0 f.2) (ends f.0 (over f.0 f.2).state (stood f.0 f.2))))
 
 -- ---- the file is damaged
 
@@ -386,20 +502,24 @@ pub is_spoiled : (old now : Option History) (name : List ℕ) (most file : ℕ) 
 is_spoiled old now name most file p at hs ks g js place fault bad damage f small =
     adds_as (Leads (anyhow (SparesFile name)) (Has name f) (GatheredFile most name f file hs js (Err fault))) (g.raw f small)
     (λ added history x. record {
-      leads = λ s h. let y = x.leads s h in said fault damage (added ++ history) y.1 y.2 y.3;
+      leads = λ s h.
+          let y = x.leads s h in
+          still name f most file hs js (Err fault) (added ++ history) y.0
+          (spoiled_told name most file p at hs ks g.limit js place fault bad damage (bytes_in f) y.1 y.2 y.3);
       own = x.own;
     })
-  where
-    said : (fault : JobFault) → IsDamage name place fault → (h : History) → (fed : List ℕ) → BeginsWith (bytes_in f) fed
-        → HasTaken most file p at hs ks fed → GatheredFile most name f file hs js (Err fault) h
-    said (Outside call) damage h fed front t = tt
-    said (Damaged which at) damage h fed front t = (
-      damage.0,
-      spoiled fed front (subst (λ k. IsSpoiled most (limit_of most) fed k) (sym damage.1)
-          (subst (λ l. IsSpoiled most l fed place) g.limit (bad fed t.state t.chunks))),
-    )
-    said (Spent number) damage h fed front t = tt
-    said NoMemory damage h fed front t = tt
+
+pub shows_spoiled : (old now : Option History) (name : List ℕ) (most file : ℕ) (p : Pieces) (at : ℕ) (hs ks : List Head)
+    → IsGathered old now name most file p at hs ks → (js : List Head) (place : ℕ) (fault : JobFault)
+    → ((fed : List ℕ) → IsFed p fed → AreChunks most (records_of (take (fed_place p) fed)) → IsSpoiled most (fed_limit p) fed place)
+    → IsDamage name place fault → Adds old now (ShowsGathered {T = Unit {0}} most name file hs js (Err fault))
+shows_spoiled old now name most file p at hs ks g js place fault bad damage =
+    adds_as (ShowsGathered {T = Unit {0}} most name file hs js (Err fault)) g.shown
+    (λ added history x.
+    shows_told name most file hs js (Err fault) g.some (omega (arith, g.taken.size, g.small)) added history
+    (subst (λ w. Agree name w added history) (append-nil g.some) (x.agree []))
+    (λ bytes low all.
+    let f = x.each bytes all in spoiled_told name most file p at hs ks g.limit js place fault bad damage bytes f.0 f.1 f.2))
 
 -- ---- what each step is, and which one comes last
 
@@ -452,7 +572,36 @@ pub ends_no_call : (name bytes : List ℕ) (place : ℕ) (result : Result (Unit 
 ends_no_call name bytes place (Ok value) ends call e = cc
 ends_no_call name bytes place (Err fault) ends call e = damage_no_call name ends.0 fault ends.2 call e
 
+-- nothing is shown of the file after another refusal
+pub shows_nothing : (T : Type 0) {P : History → History → Type 0} (name : List ℕ) (most file : ℕ) (hs js : List Head) (fault : OutsideFault)
+    {old new : Option History} → Adds old new P → Adds old new (ShowsGathered {T = T} most name file hs js (Err (job_fault fault)))
+shows_nothing T name most file hs js fault told =
+    adds_as (ShowsGathered {T = T} most name file hs js (Err (job_fault fault))) told (λ added history x. said fault added history)
+  where
+    said : (fault : OutsideFault) (added history : History) → ShowsGathered {T = T} most name file hs js (Err (job_fault fault)) added history
+    said (site_failed call) added history = tt
+    said no_memory added history = tt
+
 -- ---- with the count
+
+-- what is shown is the same where a count is given
+pub shows_counted : (name : List ℕ) (most file : ℕ) (hs ks : List Head) (count : ℕ) {old new : Option History}
+    → Adds old new (ShowsGathered {T = Unit {0}} most name file hs ks (Ok tt))
+    → Adds old new (ShowsGathered {T = ℕ} most name file hs ks (Ok count))
+shows_counted name most file hs ks count told = adds_as (ShowsGathered {T = ℕ} most name file hs ks (Ok count)) told (λ added history x. x)
+
+pub shows_back : (name : List ℕ) (most file : ℕ) (hs ks js : List Head) (fault : JobFault) {old new : Option History}
+    → Adds old new (ShowsGathered {T = Unit {0}} most name file hs ks (Err fault))
+    → Adds old new (ShowsGathered {T = ℕ} most name file hs js (Err fault))
+shows_back name most file hs ks js fault told =
+    adds_as (ShowsGathered {T = ℕ} most name file hs js (Err fault)) told (λ added history x. said fault added history x)
+  where
+    said : (fault : JobFault) (added history : History) → ShowsGathered {T = Unit {0}} most name file hs ks (Err fault) added history
+        → ShowsGathered {T = ℕ} most name file hs js (Err fault) added history
+    said (Outside call) added history x = tt
+    said (Damaged which at) added history x = x
+    said (Spent number) added history x = tt
+    said NoMemory added history x = tt
 
 pub counted : (name : List ℕ) (most file : ℕ) (hs ks : List Head) (count : ℕ) (f : Option File) {old new : Option History}
     → count ≡ length ks - length hs

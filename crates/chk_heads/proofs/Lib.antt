@@ -2,6 +2,7 @@ pub mod Orders
 pub mod Sorting
 mod Ranks
 pub mod Turning
+pub mod Showing
 pub mod PieceReads
 pub mod Places
 pub mod Rows
@@ -12,3 +13,5 @@ mod Passing
 pub mod Gathering
 pub mod WholeReads
 pub mod NoDamage
+pub mod Stretches
+pub mod Causes

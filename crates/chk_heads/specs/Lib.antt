@@ -1,10 +1,13 @@
 -- The heads of records.
 pub mod Faults
 pub mod Pieces
+pub mod Shown
 pub mod Heads
 pub mod HeadRows
 pub mod Recents
 pub mod Order
 pub mod Feeding
 pub mod Gathered
+pub mod ShownHeads
+pub mod Causes
 pub mod Laws

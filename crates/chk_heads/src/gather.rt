@@ -24,7 +24,7 @@ ghost use Rattle.chk_heads.specs.Heads.{head_with, IsTaken, IsTakenIf};
 ghost use Rattle.chk_heads.specs.Pieces.{AsksInPieces};
 ghost use Rattle.chk_heads.specs.Feeding.{AreChunks, HasMore, IsEnd, TookFed, TookAhead, FedFrom};
 ghost use Rattle.chk_heads.specs.Gathered.{EndsSo};
-ghost use Rattle.chk_heads.specs.Gathered.{Gathered, GatheredFile};
+ghost use Rattle.chk_heads.specs.Gathered.{Gathered, GatheredFile, ShowsGathered};
 
 mod order;
 
@@ -131,6 +131,7 @@ impl Heads {
         requires most { most ≤ 1048576 }
         ensures raw { (f : Option File) → IsSmallFile f → Adds (S.told site.old) (S.told site.new)
             (Leads (anyhow (SparesFile name.now)) (Has name.now f) (Gathered most name.now f file self.old self.new result)) }
+        ensures shown { Adds (S.told site.old) (S.told site.new) (ShowsGathered most name.now file self.old self.new result) }
         ensures same { OnErr result (self.new ≡ self.old) }
         ensures own { who.now ≡ job → Adds (S.told site.old) (S.told site.new) (Every (IsOf ReadsFile)) }
         ensures pieces { Adds (S.told site.old) (S.told site.new) (Every AsksInPieces) }
@@ -162,6 +163,7 @@ impl Heads {
         requires most { most ≤ 1048576 }
         ensures raw { (f : Option File) → IsSmallFile f → Adds (S.told site.old) (S.told site.new)
             (Leads (anyhow (SparesFile name.now)) (Has name.now f) (GatheredFile most name.now f file self.old self.new result)) }
+        ensures shown { Adds (S.told site.old) (S.told site.new) (ShowsGathered most name.now file self.old self.new result) }
         ensures grown { HasMore self.old self.new }
         ensures own { who.now ≡ job → Adds (S.told site.old) (S.told site.new) (Every (IsOf ReadsFile)) }
         ensures pieces { Adds (S.told site.old) (S.told site.new) (Every AsksInPieces) }

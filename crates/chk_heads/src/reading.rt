@@ -10,6 +10,7 @@ ghost use Rattle.chk_replace.specs.Load.{asks_at, Has, HasPiece, Loaded};
 ghost use Rattle.chk_world.specs.Sight.{job};
 ghost use Rattle.chk_world.specs.JobSteps.{IsOf, ReadsFile, SparesFile};
 ghost use Rattle.chk_heads.specs.Pieces.{AsksInPieces, asks_for, HasMost, HasBytes};
+ghost use Rattle.chk_heads.specs.Shown.{ShowsPiece, ShowsBytes, ShowsFile};
 
 use chk_bytes::Bytes;
 use chk_site::{Call, CallFault, OutsideFault, Site, Who};
@@ -32,6 +33,7 @@ pub fn read_piece<S: Site>(
 ) -> Result<Option<Bytes>, OutsideFault>
     ensures raw { (file : Option File) → Adds (S.told site.old) (S.told site.new)
         (Leads (anyhow (SparesFile name.now)) (Has name.now file) (HasPiece name.now at file result)) }
+    ensures shown { Adds (S.told site.old) (S.told site.new) (ShowsPiece name.now at (asks_at at) result) }
     ensures own { who.now ≡ job → Adds (S.told site.old) (S.told site.new) (Every (IsOf ReadsFile)) }
     ensures pieces { Adds (S.told site.old) (S.told site.new) (Every AsksInPieces) }
     ensures few { IfOk result (λ given. IfSome given (λ bytes. length bytes ≤ asks_at at)) }
@@ -53,6 +55,7 @@ fn read_most<S: Site>(
     requires { most ≤ 1048576 }
     ensures raw { (file : Option File) → Adds (S.told site.old) (S.told site.new)
         (Leads (anyhow (SparesFile name.now)) (Has name.now file) (HasMost name.now at most file result)) }
+    ensures shown { Adds (S.told site.old) (S.told site.new) (ShowsPiece name.now at (asks_for most at) result) }
     ensures own { who.now ≡ job → Adds (S.told site.old) (S.told site.new) (Every (IsOf ReadsFile)) }
     ensures pieces { Adds (S.told site.old) (S.told site.new) (Every AsksInPieces) }
     ensures few { IfOk result (λ given. IfSome given (λ bytes. length bytes ≤ asks_for most at)) }
@@ -80,6 +83,7 @@ pub fn read_file<S: Site>(
 ) -> Result<Option<Bytes>, OutsideFault>
     ensures raw { (file : Option File) → IsSmallFile file → Adds (S.told site.old) (S.told site.new)
         (Leads (anyhow (SparesFile name.now)) (Has name.now file) (Loaded name.now file result)) }
+    ensures shown { Adds (S.told site.old) (S.told site.new) (ShowsFile name.now result) }
     ensures own { who.now ≡ job → Adds (S.told site.old) (S.told site.new) (Every (IsOf ReadsFile)) }
     ensures pieces { Adds (S.told site.old) (S.told site.new) (Every AsksInPieces) }
     ensures last { Adds (S.told site.old) (S.told site.new) (LastFailed result) }
@@ -110,6 +114,7 @@ pub(crate) fn read_bytes<S: Site>(
     requires { most ≤ 1048576 }
     ensures raw { (file : Option File) → Adds (S.told site.old) (S.told site.new)
         (Leads (anyhow (SparesFile name.now)) (Has name.now file) (HasBytes name.now at most file result)) }
+    ensures shown { Adds (S.told site.old) (S.told site.new) (ShowsBytes name.now at (asks_for most at) result) }
     ensures own { who.now ≡ job → Adds (S.told site.old) (S.told site.new) (Every (IsOf ReadsFile)) }
     ensures pieces { Adds (S.told site.old) (S.told site.new) (Every AsksInPieces) }
     ensures few { IfOk result (λ bytes. length bytes ≤ asks_for most at) }

@@ -3,6 +3,7 @@ pub mod Records
 mod Windows
 mod RunReads
 mod Fetching
+pub mod Causes
 pub mod Frames
 pub mod AllGathered
 pub mod AllRead

@@ -1,7 +1,7 @@
 -- One run of a file's bytes, read by one call or by two.
-use Rattle.std.proofs.Common.{◌≡◌, inl, inr, true≢false, ℕ, ◌+◌, ◌-◌, ◌≤◌, ◌<◌, ◌^◌, min, List, [], ◌∷◌, ◌++◌, length, take, drop, Option, Some, None, Ok, Err, Result, refl, sym, ◌∙◌, ap, subst, arith, ⊎_elim}
+use Rattle.std.proofs.Common.{◌≡◌, inl, inr, true≢false, ℕ, ◌+◌, ◌-◌, ◌≤◌, ◌<◌, ◌^◌, min, List, [], ◌∷◌, ◌++◌, length, take, drop, Option, Some, None, Ok, Err, Result, refl, sym, ◌∙◌, ap, subst, arith, length-take, ⊎_elim}
 use Rattle.std.proofs.lemmas.Bool.{cases_lt}
-use Rattle.std.proofs.lemmas.List.{drop_all, drop-drop}
+use Rattle.std.proofs.lemmas.List.{drop_all, drop-drop, take_all}
 use Rattle.std.proofs.Math.Seq.{take-nil, take-add}
 use Rattle.chk_site.specs.declared.acts.Who.{Who}
 use Rattle.chk_site.specs.declared.acts.OutsideFault.{OutsideFault}
@@ -234,6 +234,22 @@ two_runs name at behind size first rest file small is more so_far told =
           );
       own = x.own;
     }))
+
+-- less came than was asked for, since the file ended
+short_bytes : (n size : ℕ) (bytes rest : List ℕ) → n ≤ size → length bytes < n → bytes ≡ take n rest → bytes ≡ take size rest
+short_bytes n size bytes rest more short is =
+    let few : length bytes ≡ min n (length rest) = ap length is ∙ length-take n rest in
+    is ∙ (take_all n rest (omega arith) ∙ sym (take_all size rest (omega arith)))
+
+pub short_run : (name : List ℕ) (at size : ℕ) (first : List ℕ) (file : Option File) {old new : Option History} → 1048576 ≤ size
+    → length first < 1048576 → Adds old new (Leads (anyhow (SparesFile name)) (Has name file) (HasRun name at 1048576 file (Ok first)))
+    → Adds old new (Leads (anyhow (SparesFile name)) (Has name file) (HasRun name at size file (Ok first)))
+short_run name at size first file more short told =
+    adds_as (Leads (anyhow (SparesFile name)) (Has name file) (HasRun name at size file (Ok first))) told
+    (λ added history x. record {
+      leads = λ s h. let y = x.leads s h in (y.0, short_bytes 1048576 size first (drop at (bytes_in file)) more short y.1);
+      own = x.own;
+    })
 
 -- ---- steps in turn
 

@@ -6,6 +6,7 @@ pub mod Streams
 pub mod Courses
 pub mod Archives
 pub mod Checking
+pub mod Gone
 pub mod OnePass
 pub mod Merging
 pub mod Laws

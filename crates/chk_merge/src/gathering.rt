@@ -11,8 +11,11 @@ ghost use Rattle.chk_world.specs.JobSteps.{IsOf, ReadsFile, SparesFile};
 ghost use Rattle.chk_heads.specs.Faults.{JobCause, FailsLast, IsOfRead};
 ghost use Rattle.chk_heads.specs.Order.{no_head};
 ghost use Rattle.chk_heads.specs.Pieces.{AsksInPieces};
+ghost use Rattle.chk_heads.specs.ShownHeads.{ShowsAllGathered};
 ghost use Rattle.chk_heads.specs.declared.fault.JobFault.TheVariants.{NoMemory};
+ghost use Rattle.chk_heads.specs.Causes.{Shows};
 ghost use Rattle.chk_merge.specs.Spans.{StaysAtOk};
+ghost use Rattle.chk_merge.specs.Gone.{IsGoneIn};
 ghost use Rattle.chk_merge.specs.Segments.{HasFiles, SparesFiles, AreSettled, GatheredAll};
 ghost use Rattle.chk_merge.specs.Archives.{CanReadAll, HasReadAll};
 
@@ -36,6 +39,7 @@ pub(crate) fn gather_all<S: Site>(
         (S.told site.old) (S.told site.new)
         (Leads (anyhow (SparesFiles names.now)) (HasFiles names.now held)
         (GatheredAll most names.now held result)) }
+    ensures shown { Adds (S.told site.old) (S.told site.new) (ShowsAllGathered most names.now result) }
     ensures own { who.now ≡ job → Adds (S.told site.old) (S.told site.new) (Every
         (IsOf ReadsFile)) }
     ensures pieces { Adds (S.told site.old) (S.told site.new) (Every AsksInPieces) }
@@ -78,6 +82,7 @@ pub(crate) fn fetch<S: Site>(
         reader.old)
         (HasReadAll most names.now held heads.now (slice_index_or heads.now index no_head)
         reader.new result)) }
+    ensures shown { Adds (S.told site.old) (S.told site.new) (Shows (IsGoneIn names.now heads.now) result) }
     ensures stays { (other : List ℕ) (file : Option File) → Adds (S.told site.old)
         (S.told site.new)
         (Leads (anyhow (SparesFile other)) (Has other file) (StaysAtOk other file result)) }

@@ -15,7 +15,9 @@ ghost use Rattle.chk_book.specs.Folders.{segment_name, most_in, is_folder};
 ghost use Rattle.chk_book.specs.Segmenting.{Writing};
 ghost use Rattle.chk_book.specs.Written.{IsAt, taken};
 ghost use Rattle.chk_merge.specs.Segments.{names_of, HasFiles, SparesFiles, AreSettled};
+ghost use Rattle.chk_heads.specs.Causes.{Shows};
 ghost use Rattle.chk_merge.specs.Checking.{AllGoWell, ToldOfSome};
+ghost use Rattle.chk_merge.specs.Gone.{IsGoneIn, IsUnsound, ShowsSound};
 ghost use Rattle.chk_merge.specs.Merging.{SoundHeads, SparesBoth, AreApart, CanWrite, chunk_read, WroteOne, CanBegin, bare_book, WroteMerged, merged_result, HasMerged};
 ghost use Rattle.chk_book.specs.Causes.{SpentBook};
 ghost use Rattle.chk_book.specs.Loaded.{book_result};
@@ -57,7 +59,9 @@ pub fn merge<S: Site>(
         (Leads (anyhow (SparesBoth (names_of folder.now (book_view book.old)) (segment_name folder.now (book_view book.old).next)))
         (HasFiles (names_of folder.now (book_view book.old)) held)
         (HasMerged folder.now (book_view book.old) (book_view book.new) held result)) }
+    ensures shown { Adds (S.told site.old) (S.told site.new) (Shows (IsUnsound folder.now (book_view book.old)) result) }
     ensures same { OnErr result (book_view book.new ≡ book_view book.old) }
+    ensures kept { ((book_view book.new).ends ≡ (book_view book.old).ends) × ((book_view book.new).aside ≡ (book_view book.old).aside) }
     ensures own { who.now ≡ job → Adds (S.told site.old) (S.told site.new)
         (Every (IsOf (ReadsOrWrites (segment_name folder.now (book_view book.old).next)))) }
     ensures pieces { who.now ≡ job → Adds (S.told site.old) (S.told site.new) (Every AsksInPieces) }
@@ -90,6 +94,7 @@ fn sound_heads<S: Site>(
         → Adds (S.told site.old) (S.told site.new)
         (Leads (anyhow (SparesFiles (names_of folder.now (book_view book.now)))) (HasFiles (names_of folder.now (book_view book.now)) held)
         (SoundHeads folder.now (book_view book.now) held result)) }
+    ensures shown { Adds (S.told site.old) (S.told site.new) (ShowsSound folder.now (book_view book.now) result) }
     ensures own { who.now ≡ job → Adds (S.told site.old) (S.told site.new) (Every (IsOf ReadsFile)) }
     ensures pieces { Adds (S.told site.old) (S.told site.new) (Every AsksInPieces) }
     ensures only { IfErr result IsOfRead }
@@ -139,6 +144,7 @@ fn write_one<S: Site>(
         (Leads (anyhow (SparesBoth names.now (segment_name w.folder w.number))) (CanWrite most names.now held heads.now reader.old w index)
         (WroteOne most names.now held heads.now reader.new
         (taken segmenter.old w (chunk_read (slice_index_or heads.now index no_head) reader.new)) index result)) }
+    ensures shown { Adds (S.told site.old) (S.told site.new) (Shows (IsGoneIn names.now heads.now) result) }
     ensures at { (w : Writing) → IsAt segmenter.old w
         → OnOk result (IsAt segmenter.new (taken segmenter.old w (chunk_read (slice_index_or heads.now index no_head) reader.new))) }
     ensures who { segmenter.new.who ≡ segmenter.old.who }
@@ -173,6 +179,7 @@ fn write_merged<S: Site>(
         → Adds (S.told site.old) (S.told site.new)
         (Leads (anyhow (SparesBoth names.now (segment_name folder.now next))) (CanBegin (most_in folder.now) names.now held heads.now)
         (WroteMerged folder.now next names.now held heads.now (book_result result))) }
+    ensures shown { Adds (S.told site.old) (S.told site.new) (Shows (IsGoneIn names.now heads.now) result) }
     ensures own { who.now ≡ job → Adds (S.told site.old) (S.told site.new) (Every (IsOf (ReadsOrWrites (segment_name folder.now next)))) }
     ensures pieces { who.now ≡ job → Adds (S.told site.old) (S.told site.new) (Every AsksInPieces) }
     ensures spent { SpentBook (bare_book next) result }
@@ -205,6 +212,7 @@ fn write_segment<S: Site>(
         → Adds (S.told site.old) (S.told site.new)
         (Leads (anyhow (SparesBoth names.now (segment_name folder.now merged.old.next))) (CanBegin (most_in folder.now) names.now held heads.now)
         (WroteMerged folder.now merged.old.next names.now held heads.now (merged_result (book_view merged.new) result))) }
+    ensures shown { Adds (S.told site.old) (S.told site.new) (Shows (IsGoneIn names.now heads.now) result) }
     ensures own { who.now ≡ job → Adds (S.told site.old) (S.told site.new)
         (Every (IsOf (ReadsOrWrites (segment_name folder.now merged.old.next)))) }
     ensures pieces { who.now ≡ job → Adds (S.told site.old) (S.told site.new) (Every AsksInPieces) }

@@ -37,7 +37,9 @@ impl RecordReader {
     ghost use Rattle.chk_heads.specs.Faults.{JobCause, FailsLast, IsOfRead};
     ghost use Rattle.chk_heads.specs.Pieces.{AsksInPieces};
     ghost use Rattle.chk_heads.specs.Order.{lent_head, no_head};
+    ghost use Rattle.chk_heads.specs.Causes.{Shows};
     ghost use Rattle.chk_merge.specs.Spans.{StaysAtOk};
+    ghost use Rattle.chk_merge.specs.Gone.{ShowsWindow, IsGoneOf};
     ghost use Rattle.chk_merge.specs.ReadBack.{value_held, HoldsNothing, CanRead, HasRead, IsDamageOf, IsHeld, NotHeld, StandsAt, StandsNowhere, HasWindow};
 
     /// A reader that holds nothing. It takes no memory.
@@ -77,6 +79,8 @@ impl RecordReader {
             (Leads (anyhow (SparesFile name.now)) (CanRead most name.now f
             (slice_index_or heads.now index no_head) self.old)
             (HasRead name.now f (slice_index_or heads.now index no_head) self.new result)) }
+        ensures shown { Adds (S.told site.old) (S.told site.new)
+            (Shows (IsGoneOf name.now (slice_index_or heads.now index no_head)) result) }
         ensures left { OnErr result (HoldsNothing self.new) }
         ensures place { IfErr result (IsDamageOf name.now
             (slice_index_or heads.now index no_head)) }
@@ -117,6 +121,8 @@ impl RecordReader {
             (Leads (anyhow (SparesFile name.now)) (CanRead most name.now f
             (slice_index_or heads.now index no_head) self.old)
             (HasRead name.now f (slice_index_or heads.now index no_head) self.new result)) }
+        ensures shown { Adds (S.told site.old) (S.told site.new)
+            (Shows (IsGoneOf name.now (slice_index_or heads.now index no_head)) result) }
         ensures left { OnErr result (HoldsNothing self.new) }
         ensures place { IfErr result (IsDamageOf name.now
             (slice_index_or heads.now index no_head)) }
@@ -157,6 +163,8 @@ impl RecordReader {
             (Leads (anyhow (SparesFile name.now)) (CanRead most name.now f
             (slice_index_or heads.now index no_head) self.old)
             (HasRead name.now f (slice_index_or heads.now index no_head) self.new result)) }
+        ensures shown { Adds (S.told site.old) (S.told site.new)
+            (Shows (IsGoneOf name.now (slice_index_or heads.now index no_head)) result) }
         ensures left { OnErr result (HoldsNothing self.new) }
         ensures place { IfErr result (IsDamageOf name.now
             (slice_index_or heads.now index no_head)) }
@@ -211,6 +219,8 @@ impl RecordReader {
         ensures raw { (f : Option File) → IsSmallFile f → Adds (S.told site.old) (S.told site.new)
             (Leads (anyhow (SparesFile name.now)) (Has name.now f) (HasWindow name.now f
             file run.from run.size self.new result)) }
+        ensures shown { Adds (S.told site.old) (S.told site.new)
+            (ShowsWindow name.now file run.from run.size self.new result) }
         ensures left { OnErr result (HoldsNothing self.new) }
         ensures stays { (other : List ℕ) (file : Option File) → Adds (S.told site.old)
             (S.told site.new)

@@ -10,6 +10,8 @@ ghost use Rattle.chk_replace.specs.Load.{Has};
 ghost use Rattle.chk_world.specs.Sight.{job};
 ghost use Rattle.chk_world.specs.JobSteps.{IsOf, ReadsFile, SparesFile};
 ghost use Rattle.chk_heads.specs.Pieces.{AsksInPieces};
+ghost use Rattle.chk_heads.specs.Shown.{ShowsBytes};
+ghost use Rattle.chk_merge.specs.Gone.{ShowsRun};
 ghost use Rattle.chk_merge.specs.Spans.{HasRun, StaysAtOk};
 
 use chk_bytes::Bytes;
@@ -31,6 +33,7 @@ fn read_once<S: Site>(
     ensures raw { (file : Option File) → Adds (S.told site.old) (S.told site.new)
         (Leads (anyhow (SparesFile name.now)) (Has name.now file)
         (HasRun name.now at max file result)) }
+    ensures shown { Adds (S.told site.old) (S.told site.new) (ShowsBytes name.now at max result) }
     ensures stays { (other : List ℕ) (file : Option File) → Adds (S.told site.old)
         (S.told site.new)
         (Leads (anyhow (SparesFile other)) (Has other file) (StaysAtOk other file result)) }
@@ -51,7 +54,8 @@ fn read_once<S: Site>(
 }
 
 /// What a file has from a place on, at most `size` bytes, which are at most 2,097,152. It costs
-/// one read, and where more than 1,048,576 bytes are asked for, another one and a copy.
+/// one read, and where more than 1,048,576 bytes are asked for and so many came, another one and a
+/// copy.
 pub(crate) fn read_run<S: Site>(
     alloc: Global,
     site: &mut S,
@@ -65,6 +69,7 @@ pub(crate) fn read_run<S: Site>(
         (S.told site.new)
         (Leads (anyhow (SparesFile name.now)) (Has name.now file)
         (HasRun name.now at size file result)) }
+    ensures shown { Adds (S.told site.old) (S.told site.new) (ShowsRun name.now at size result) }
     ensures stays { (other : List ℕ) (file : Option File) → Adds (S.told site.old)
         (S.told site.new)
         (Leads (anyhow (SparesFile other)) (Has other file) (StaysAtOk other file result)) }
@@ -78,6 +83,9 @@ pub(crate) fn read_run<S: Site>(
         return read_once(alloc, site, who, name, at, size as u32);
     }
     let mut bytes = read_once(alloc, site, who, name, at, PIECE as u32)?;
+    if bytes.len() < PIECE as usize {
+        return Ok(bytes);
+    }
     let behind = at.saturating_add(PIECE);
     let rest = read_once(alloc, site, who, name, behind, (size - PIECE) as u32)?;
     bytes.push_all(rest.as_slice())?;

@@ -7,8 +7,6 @@ pub mod CutLists
 pub mod WholeSegments
 pub mod FoundRecords
 pub mod FromKnown
-pub mod KnownEnds
-pub mod StartsAgree
 pub mod OneFile
 pub mod OneSegment
 pub mod Rising

@@ -3,7 +3,6 @@ pub mod Gathering
 pub mod Cuts
 pub mod Records
 pub mod Fetching
-pub mod Starts
 pub mod Kept
 pub mod Slots
 pub mod Shelves

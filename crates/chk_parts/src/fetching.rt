@@ -12,6 +12,8 @@ ghost use Rattle.chk_world.specs.JobSteps.{IsOf, ReadsFile, SparesFile};
 ghost use Rattle.chk_heads.specs.Faults.{JobCause, FailsLast, IsOfRead};
 ghost use Rattle.chk_heads.specs.Order.{lent_head, no_head};
 ghost use Rattle.chk_heads.specs.Pieces.{AsksInPieces};
+ghost use Rattle.chk_heads.specs.Causes.{Shows};
+ghost use Rattle.chk_merge.specs.Gone.{IsGoneIn};
 ghost use Rattle.chk_merge.specs.Spans.{StaysAtOk};
 ghost use Rattle.chk_parts.specs.Gathering.{AreSound};
 ghost use Rattle.chk_parts.specs.Fetching.{head_file, CanFetch, Fetched, IsRecordAt};
@@ -41,6 +43,7 @@ pub fn fetch<S: Site>(
         (Fetched v files.now heads.now index c reader.new result)) }
     ensures stays { (other : List ℕ) (file : Option File) → Adds (S.told site.old) (S.told site.new)
         (Leads (anyhow (SparesFile other)) (Has other file) (StaysAtOk other file result)) }
+    ensures shown { Adds (S.told site.old) (S.told site.new) (Shows (IsGoneIn files.now heads.now) result) }
     ensures own { Adds (S.told site.old) (S.told site.new) (Every (IsOf ReadsFile)) }
     ensures pieces { Adds (S.told site.old) (S.told site.new) (Every AsksInPieces) }
     ensures only { IfErr result IsOfRead }
@@ -81,6 +84,7 @@ pub fn fetch_by_head<S: Site>(
         (Fetched v files.now heads.now index c reader.new result)) }
     ensures stays { (other : List ℕ) (file : Option File) → Adds (S.told site.old) (S.told site.new)
         (Leads (anyhow (SparesFile other)) (Has other file) (StaysAtOk other file result)) }
+    ensures shown { Adds (S.told site.old) (S.told site.new) (Shows (IsGoneIn files.now heads.now) result) }
     ensures own { Adds (S.told site.old) (S.told site.new) (Every (IsOf ReadsFile)) }
     ensures pieces { Adds (S.told site.old) (S.told site.new) (Every AsksInPieces) }
     ensures only { IfErr result IsOfRead }

@@ -12,6 +12,7 @@ ghost use Rattle.chk_world.specs.Sight.{job, Sight, AtJob};
 ghost use Rattle.chk_world.specs.JobSteps.{IsOf, ReadsFile};
 ghost use Rattle.chk_heads.specs.Faults.{JobCause, FailsLast, IsOfRead};
 ghost use Rattle.chk_heads.specs.Pieces.{AsksInPieces};
+ghost use Rattle.chk_heads.specs.ShownHeads.{ShowsAllGathered};
 ghost use Rattle.chk_merge.specs.Segments.{HasFiles, SparesFiles, AreSettled, GatheredAll};
 ghost use Rattle.chk_parts.specs.Gathering.{AreSound, Found};
 
@@ -37,6 +38,7 @@ pub fn gather_found<S: Site>(
         (Leads (As stamped job) (AtJob stamped (λ u. u ≡ v)) (Found stamped v names.now result)) }
     ensures raw { (held : Files) → AreSettled names.now held → Adds (S.told site.old) (S.told site.new)
         (Leads (anyhow (SparesFiles names.now)) (HasFiles names.now held) (GatheredAll chunk_limit names.now held result)) }
+    ensures shown { Adds (S.told site.old) (S.told site.new) (ShowsAllGathered chunk_limit names.now result) }
     ensures own { Adds (S.told site.old) (S.told site.new) (Every (IsOf ReadsFile)) }
     ensures pieces { Adds (S.told site.old) (S.told site.new) (Every AsksInPieces) }
     ensures only { IfErr result IsOfRead }

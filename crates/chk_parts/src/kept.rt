@@ -11,6 +11,8 @@ ghost use Rattle.chk_world.specs.Sight.{job, Sight, AtJob};
 ghost use Rattle.chk_world.specs.JobSteps.{IsOf, ReadsFile};
 ghost use Rattle.chk_heads.specs.Faults.{JobCause, FailsLast, IsOfRead};
 ghost use Rattle.chk_heads.specs.Pieces.{AsksInPieces};
+ghost use Rattle.chk_heads.specs.Causes.{Shows};
+ghost use Rattle.chk_merge.specs.Gone.{IsGoneIn};
 ghost use Rattle.chk_plan.proofs.ChunkOrder.{Ordered};
 ghost use Rattle.chk_plan.specs.Passes.{between, head_in, AreSpans};
 ghost use Rattle.chk_plan.specs.declared.spans.Known.{Known};
@@ -34,7 +36,9 @@ use std::alloc::Global;
 ///
 /// Where no two that follow each other are equal in stream and offsets, no call is made, and it costs the heads past the gaps, and
 /// 8 bytes for each. Else each that is equal in both to the one before it is read, with those of the same offsets that are kept,
-/// until one of these has its data; and 8 bytes more are held for each that is kept.
+/// until one of these has its data; and 8 bytes more are held for each that is kept. So `n` records of the same offsets, each with
+/// other data than all the others, cost at most `n * (n - 1) / 2` reads of kept ones; where equal offsets mean equal data, as in all
+/// that the program itself writes, each record costs at most two reads.
 pub fn kept_of<S: Site>(
     alloc: Global,
     site: &mut S,
@@ -54,6 +58,7 @@ pub fn kept_of<S: Site>(
         (Leads (As stamped job) (AtJob stamped (λ u. u ≡ v)) (KeptTold stamped v (in_order found) spans.now result)) }
     ensures none { NoneRepeats heads.now (past_cuts heads.now spans.now) → S.told site.new ≡ S.told site.old }
     ensures within { IfOk result (λ cuts. AreWithin (length heads.now) cuts) }
+    ensures shown { Adds (S.told site.old) (S.told site.new) (Shows (IsGoneIn files.now heads.now) result) }
     ensures own { Adds (S.told site.old) (S.told site.new) (Every (IsOf ReadsFile)) }
     ensures pieces { Adds (S.told site.old) (S.told site.new) (Every AsksInPieces) }
     ensures only { IfErr result IsOfRead }
@@ -147,6 +152,7 @@ fn sift<S: Site>(
         → Adds (S.told site.old) (S.told site.new)
         (Leads (anyhow (SparesFiles files.now)) (HasFiles files.now (held v)) (SiftedSo (cut_chunks cs past.now) cs result)) }
     ensures whole { IfOk result (AreWhole (length heads.now)) }
+    ensures shown { Adds (S.told site.old) (S.told site.new) (Shows (IsGoneIn files.now heads.now) result) }
     ensures own { Adds (S.told site.old) (S.told site.new) (Every (IsOf ReadsFile)) }
     ensures pieces { Adds (S.told site.old) (S.told site.new) (Every AsksInPieces) }
     ensures only { IfErr result IsOfRead }
@@ -210,6 +216,7 @@ fn is_found<S: Site>(
     ensures raw { (v : Sight) (cs : List Chunk) → AreRecords v files.now heads.now cs → Adds (S.told site.old) (S.told site.new)
         (Leads (anyhow (SparesFiles files.now)) (CanFind v files.now old.old new.old)
         (FoundSo v files.now (value_in cs index) cs known.now old.new new.new result)) }
+    ensures shown { Adds (S.told site.old) (S.told site.new) (Shows (IsGoneIn files.now heads.now) result) }
     ensures own { Adds (S.told site.old) (S.told site.new) (Every (IsOf ReadsFile)) }
     ensures pieces { Adds (S.told site.old) (S.told site.new) (Every AsksInPieces) }
     ensures only { IfErr result IsOfRead }
@@ -239,6 +246,7 @@ fn is_among<S: Site>(
     ensures raw { (v : Sight) (cs : List Chunk) → AreRecords v files.now heads.now cs → Adds (S.told site.old) (S.told site.new)
         (Leads (anyhow (SparesFiles files.now)) (CanFetchAll v files.now reader.old)
         (AmongSo v files.now value.now cs known.now reader.new result)) }
+    ensures shown { Adds (S.told site.old) (S.told site.new) (Shows (IsGoneIn files.now heads.now) result) }
     ensures own { Adds (S.told site.old) (S.told site.new) (Every (IsOf ReadsFile)) }
     ensures pieces { Adds (S.told site.old) (S.told site.new) (Every AsksInPieces) }
     ensures only { IfErr result IsOfRead }

@@ -65,6 +65,8 @@ impl Shelf {
     ghost use Rattle.chk_heads.specs.Faults.{JobCause, FailsLast, IsOfRead};
     ghost use Rattle.chk_heads.specs.Heads.{Head};
     ghost use Rattle.chk_heads.specs.Pieces.{AsksInPieces};
+    ghost use Rattle.chk_heads.specs.Causes.{Shows};
+    ghost use Rattle.chk_merge.specs.Gone.{IsGoneIn};
     ghost use Rattle.chk_merge.specs.ReadBack.{value_held};
     ghost use Rattle.chk_merge.specs.Segments.{SparesFiles};
     ghost use Rattle.chk_parts.specs.Cuts.{AreWithin};
@@ -177,6 +179,7 @@ impl Shelf {
         ensures raw { (v : Sight) (cs : List Chunk) → AreRecords v files.now heads.now cs → Adds (S.told site.old) (S.told site.new)
             (Leads (anyhow (SparesFiles files.now)) (CanShelve v files.now heads.now self.old)
             (ShownSo v files.now heads.now (value_in cs (slice_index_or cuts.now place (record { index = 0; skip = 0 })).index) self.new result)) }
+        ensures shown { Adds (S.told site.old) (S.told site.new) (Shows (IsGoneIn files.now heads.now) result) }
         ensures own { Adds (S.told site.old) (S.told site.new) (Every (IsOf ReadsFile)) }
         ensures pieces { Adds (S.told site.old) (S.told site.new) (Every AsksInPieces) }
         ensures only { IfErr result IsOfRead }
@@ -203,6 +206,7 @@ impl Shelf {
         ensures raw { (v : Sight) (cs : List Chunk) → AreRecords v files.now heads.now cs → Adds (S.told site.old) (S.told site.new)
             (Leads (anyhow (SparesFiles files.now)) (CanShelve v files.now heads.now self.old)
             (ShownSo v files.now heads.now (value_in cs index) self.new result)) }
+        ensures shown { Adds (S.told site.old) (S.told site.new) (Shows (IsGoneIn files.now heads.now) result) }
         ensures own { Adds (S.told site.old) (S.told site.new) (Every (IsOf ReadsFile)) }
         ensures pieces { Adds (S.told site.old) (S.told site.new) (Every AsksInPieces) }
         ensures only { IfErr result IsOfRead }
@@ -241,6 +245,7 @@ impl Shelf {
         ensures raw { (v : Sight) (cs : List Chunk) → AreRecords v files.now heads.now cs → Adds (S.told site.old) (S.told site.new)
             (Leads (anyhow (SparesFiles files.now)) (CanShelve v files.now heads.now self.old)
             (ShelvedSo v files.now heads.now self.new result)) }
+        ensures shown { Adds (S.told site.old) (S.told site.new) (Shows (IsGoneIn files.now heads.now) result) }
         ensures own { Adds (S.told site.old) (S.told site.new) (Every (IsOf ReadsFile)) }
         ensures pieces { Adds (S.told site.old) (S.told site.new) (Every AsksInPieces) }
         ensures only { IfErr result IsOfRead }
@@ -277,6 +282,7 @@ impl Shelf {
         ensures raw { (v : Sight) (cs : List Chunk) → AreRecords v files.now heads.now cs → Adds (S.told site.old) (S.told site.new)
             (Leads (anyhow (SparesFiles files.now)) (CanShelve v files.now heads.now self.old)
             (ShelvedSo v files.now heads.now self.new result)) }
+        ensures shown { Adds (S.told site.old) (S.told site.new) (Shows (IsGoneIn files.now heads.now) result) }
         ensures own { Adds (S.told site.old) (S.told site.new) (Every (IsOf ReadsFile)) }
         ensures pieces { Adds (S.told site.old) (S.told site.new) (Every AsksInPieces) }
         ensures only { IfErr result IsOfRead }
@@ -308,6 +314,7 @@ impl Shelf {
         ensures raw { (v : Sight) (cs : List Chunk) → AreRecords v files.now heads.now cs → Adds (S.told site.old) (S.told site.new)
             (Leads (anyhow (SparesFiles files.now)) (CanShelve v files.now heads.now self.old)
             (ShelvedSo v files.now heads.now self.new result)) }
+        ensures shown { Adds (S.told site.old) (S.told site.new) (Shows (IsGoneIn files.now heads.now) result) }
         ensures own { Adds (S.told site.old) (S.told site.new) (Every (IsOf ReadsFile)) }
         ensures pieces { Adds (S.told site.old) (S.told site.new) (Every AsksInPieces) }
         ensures only { IfErr result IsOfRead }

@@ -10,6 +10,8 @@ ghost use Rattle.chk_world.specs.Sight.{job, Sight, AtJob};
 ghost use Rattle.chk_world.specs.JobSteps.{IsOf, ReadsOrWrites};
 ghost use Rattle.chk_heads.specs.Faults.{JobCause, FailsLast, IsOfRead, IsOfWrite};
 ghost use Rattle.chk_heads.specs.Pieces.{AsksInPieces};
+ghost use Rattle.chk_heads.specs.Causes.{Shows};
+ghost use Rattle.chk_merge.specs.Gone.{IsGoneIn};
 ghost use Rattle.chk_book.specs.Folders.{segment_name};
 ghost use Rattle.chk_book.specs.Books.{book_view};
 ghost use Rattle.chk_book.specs.Causes.{SpentBook};
@@ -61,6 +63,7 @@ pub fn add_segment<S: Site>(
         → IsFree v files.now (book_view book.old).next → Adds (S.told site.old) (S.told site.new)
         (Leads (As stamped job) (AtJob stamped (λ u. u ≡ v)) (Written stamped (with_new purpose (cut_chunks cs cuts.now)) v
         (book_view book.old) (book_view book.new) (cut_chunks cs cuts.now) result)) }
+    ensures shown { Adds (S.told site.old) (S.told site.new) (Shows (IsGoneIn files.now heads.now) result) }
     ensures own { Adds (S.told site.old) (S.told site.new)
         (Every (IsOf (ReadsOrWrites (segment_name (codes "archive") (book_view book.old).next)))) }
     ensures same { OnErr result (book_view book.new ≡ book_view book.old) }
@@ -120,6 +123,7 @@ fn write_cuts<S: Site>(
     ensures segment { OnOk result (IsForArchive segmenter.new) }
     ensures who { segmenter.new.who ≡ segmenter.old.who }
     ensures number { OnOk result (segmenter.new.number ≡ segmenter.old.number) }
+    ensures shown { Adds (S.told site.old) (S.told site.new) (Shows (IsGoneIn files.now heads.now) result) }
     ensures own { Adds (S.told site.old) (S.told site.new)
         (Every (IsOf (ReadsOrWrites (segment_name (codes "archive") segmenter.old.number)))) }
     ensures only { IfErr result IsOfRead }
@@ -161,6 +165,7 @@ fn write_cut<S: Site>(
     ensures segment { OnOk result (IsForArchive segmenter.new) }
     ensures who { segmenter.new.who ≡ segmenter.old.who }
     ensures number { OnOk result (segmenter.new.number ≡ segmenter.old.number) }
+    ensures shown { Adds (S.told site.old) (S.told site.new) (Shows (IsGoneIn files.now heads.now) result) }
     ensures own { Adds (S.told site.old) (S.told site.new)
         (Every (IsOf (ReadsOrWrites (segment_name (codes "archive") segmenter.old.number)))) }
     ensures only { IfErr result IsOfRead }

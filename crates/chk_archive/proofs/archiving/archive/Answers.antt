@@ -22,6 +22,7 @@ use Rattle.chk_archive.proofs.Lasts.{as_fails}
 use Rattle.chk_archive.proofs.OnceListed.{at_ok, given_between, refused_before, refused_then, listed_between}
 use Rattle.chk_archive.proofs.RunKinds.{of_listing, of_finish, finish_lists_none, listing_reads_none}
 use Rattle.chk_archive.proofs.Settled.{listing_fails, is_ready, is_archived}
+use Rattle.chk_archive.proofs.Shown.{archived_bad, archived_fails, archived_so}
 use Rattle.chk_archive.proofs.archiving.archive.Goals as goal
 
 pub returns-in_err-book-clause-told : goal.returns-in_err-book-clause-told
@@ -107,3 +108,20 @@ pub returns-clause-given : goal.returns-clause-given
 returns-clause-given g c =
     at_ok c.finish.result _
     (given_between c.settle.ensures.none c.in_ok-names.ensures.given (finish_lists_none c.finish.ensures.own))
+
+pub returns-in_err-book-clause-shown : goal.returns-in_err-book-clause-shown
+returns-in_err-book-clause-shown g c =
+    let q = err_from_is_err_and c.from_residual.result c.from_residual.ensures.1 in
+    rw (q.1, q.2) (archived_bad Struct c.in_err-book.field-0.0 c.in_err-book.ensures.shown)
+
+pub returns-in_err-names-clause-shown : goal.returns-in_err-names-clause-shown
+returns-in_err-names-clause-shown g c =
+    let q = err_from_is_err_and c.from_residual-in_err-names.result c.from_residual-in_err-names.ensures.1 in
+    rw (q.1, q.2)
+    (archived_fails Struct c.in_err-names.field-0.0
+    (every_then (IsOf ArchivesBy) c.settle.ensures.own (as_kind ListsSinks ArchivesBy of_listing c.list_sinks.ensures.own)))
+
+pub returns-clause-shown : goal.returns-clause-shown
+returns-clause-shown g c =
+    archived_so (book_view c.in_ok-book.book) c.as_slice.result.now c.finish.result c.in_ok-book.ensures.shown c.list_sinks.ensures.own
+    c.finish.ensures.shown

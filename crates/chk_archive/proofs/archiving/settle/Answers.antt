@@ -15,6 +15,7 @@ use Rattle.chk_archive.proofs.Lasts.{as_fails}
 use Rattle.chk_archive.proofs.OnceListed.{listed_then}
 use Rattle.chk_archive.proofs.RunKinds.{of_begin, of_tidy, of_merging, begin_lists_none, tidy_lists_none, merging_lists_none, tidy_reads_none}
 use Rattle.chk_archive.proofs.Settled.{begin_fails, tidy_fails, many_fails, is_merged}
+use Rattle.chk_archive.proofs.Shown.{settled_bad, settled_fails, settled_unsound, settled_ok}
 use Rattle.chk_archive.proofs.archiving.settle.Goals as goal
 
 pub returns-in_err-book-clause-told : goal.returns-in_err-book-clause-told
@@ -130,3 +131,28 @@ returns-clause-last g c =
     fails_behind {T = Struct} (Ok c.merge_many.new.book)
     (listed_then {m = 0} {n = 0} (begin_lists_none c.begin.ensures.own)
     (tidy_lists_none (book_view c.in_ok-book.book) c.tidy.ensures.own)) c.in_ok-merge_many.ensures.last
+
+pub returns-in_err-book-clause-shown : goal.returns-in_err-book-clause-shown
+returns-in_err-book-clause-shown g c =
+    let q = err_from_is_err_and c.from_residual.result c.from_residual.ensures.1 in
+    rw (q.1, q.2) (settled_bad c.in_err-book.field-0.0 c.in_err-book.ensures.shown)
+
+pub returns-in_err-tidy-clause-shown : goal.returns-in_err-tidy-clause-shown
+returns-in_err-tidy-clause-shown g c =
+    let q = err_from_is_err_and c.from_residual-in_err-tidy.result c.from_residual-in_err-tidy.ensures.1 in
+    rw (q.1, q.2)
+    (settled_fails c.in_err-tidy.field-0.0
+    (listed_then {m = 0} {n = 0} (begin_lists_none c.begin.ensures.own)
+    (tidy_lists_none (book_view c.in_ok-book.book) c.tidy.ensures.own)))
+
+pub returns-in_err-merge_many-clause-shown : goal.returns-in_err-merge_many-clause-shown
+returns-in_err-merge_many-clause-shown g c =
+    let q = err_from_is_err_and c.from_residual-in_err-merge_many.result c.from_residual-in_err-merge_many.ensures.1 in
+    rw (q.1, q.2)
+    (settled_unsound (Unit {0}) (book_view c.in_ok-book.book) c.in_err-merge_many.field-0.0 c.in_ok-book.ensures.shown c.tidy.ensures.own
+    c.in_err-merge_many.ensures.shown)
+
+pub returns-clause-shown : goal.returns-clause-shown
+returns-clause-shown g c =
+    settled_ok (book_view c.in_ok-book.book) (book_view c.merge_many.new.book) c.merge_many.ensures.kept.0 c.merge_many.ensures.kept.1
+    c.in_ok-book.ensures.shown c.tidy.ensures.own c.merge_many.ensures.own

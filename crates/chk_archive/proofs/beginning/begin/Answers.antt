@@ -10,6 +10,7 @@ use Rattle.chk_book.specs.declared.book.Book.{Book as Struct}
 use Rattle.chk_parts.proofs.WholeSegments.{archive_folder}
 use Rattle.chk_parts.proofs.StepKinds.{fails_behind}
 use Rattle.chk_archive.proofs.Lasts.{as_fails}
+use Rattle.chk_archive.proofs.Shown.{begun_so, begun_fails}
 use Rattle.chk_archive.proofs.beginning.begin.Goals as goal
 
 pub returns-clause-told : goal.returns-clause-told
@@ -47,3 +48,11 @@ pub returns-in_err-start-clause-only : goal.returns-in_err-start-clause-only
 returns-in_err-start-clause-only g c =
     let p = err_from_is_err_and c.from_residual.result c.from_residual.ensures.1 in
     rw (p.1, p.2) (of_read c.in_err-start.field-0.0)
+
+pub returns-in_err-start-clause-shown : goal.returns-in_err-start-clause-shown
+returns-in_err-start-clause-shown g c =
+    let p = err_from_is_err_and c.from_residual.result c.from_residual.ensures.1 in
+    rw (p.1, p.2) (begun_fails c.in_err-start.field-0.0 c.in_err-start.ensures.own)
+
+pub returns-clause-shown : goal.returns-clause-shown
+returns-clause-shown g c = begun_so (book_result c.load_book.result) c.in_ok-start.ensures.own c.load_book.ensures.shown

@@ -22,6 +22,9 @@ use Rattle.chk_archive.proofs.Preparing.{of_merge}
 use Rattle.chk_parts.proofs.Published.{replaces_no_reads}
 use Rattle.chk_archive.proofs.TakenIn.{of_replace}
 use Rattle.chk_archive.proofs.MergedMany.{few_left, merged_so, merge_fails, publish_fails, all_merged}
+use Rattle.std.specs.Prelude.{codes}
+use Rattle.chk_heads.proofs.Causes.{shows_outside, shows_ok}
+use Rattle.chk_merge.specs.Gone.{IsUnsound}
 use Rattle.chk_archive.proofs.merging.merge_many.Goals as goal
 
 many_view : (b : Struct) → 16 ≤ length b.segments → 16 ≤ length (book_view b).segments
@@ -144,3 +147,15 @@ returns-clause-few g c low =
     let many : 16 ≤ length b.segments = subst (λ l. 16 ≤ length l) c.as_slice.ensures c.if-as_slice-lt-MANY.false in
     let size : length (map segment_view b.segments) ≡ length b.segments = length-map b.segments segment_view in
     absurd (let z : ⊥ = omega (arith, low, many, size) in z)
+
+pub returns-in_err-publish_next-clause-shown : goal.returns-in_err-publish_next-clause-shown
+returns-in_err-publish_next-clause-shown g c =
+    let q = err_from_is_err_and c.from_residual-in_err-publish_next.result c.from_residual-in_err-publish_next.ensures.1 in
+    rw (q.1, q.2)
+    (shows_outside (Unit {0}) (IsUnsound (codes "archive") (book_view c.args.book.now)) c.in_err-publish_next.field-0.0
+    (every_then AsksInPieces (c.in_ok-merge.ensures.pieces c.requires) (no_reads ReplacesBook (replaces_no_reads (codes "archive")) c.publish_next.ensures.own)))
+
+pub returns-clause-shown : goal.returns-clause-shown
+returns-clause-shown g c =
+    shows_ok (IsUnsound (codes "archive") (book_view c.args.book.now)) (tt {0})
+    (every_then AsksInPieces (c.in_ok-merge.ensures.pieces c.requires) (no_reads ReplacesBook (replaces_no_reads (codes "archive")) c.publish_next.ensures.own))

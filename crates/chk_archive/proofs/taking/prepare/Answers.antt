@@ -18,6 +18,9 @@ use Rattle.chk_parts.specs.Cuts.{cut_chunks}
 use Rattle.chk_parts.proofs.AllFiles.{fails_later}
 use Rattle.chk_archive.specs.Archived.{MergesBy}
 use Rattle.chk_archive.proofs.Readied.{free_first, parts_fail, both}
+use Rattle.chk_heads.proofs.Causes.{shows_then, shows_ok}
+use Rattle.chk_merge.specs.Gone.{IsGoneIn}
+use Rattle.chk_merge.proofs.Causes.{late_gone_in}
 use Rattle.chk_archive.proofs.taking.prepare.Goals as goal
 
 pub returns-in_err-take_parts-clause-told : goal.returns-in_err-take_parts-clause-told
@@ -90,3 +93,17 @@ pub returns-clause-last : goal.returns-clause-last
 returns-clause-last g c =
     adds_as (FailsLast {T = Bool} (Ok c.is_changed.result))
     (every_then (IsOf MergesBy) c.take_parts.ensures.own c.keep_aside.ensures.own) (λ added history p. tt)
+
+pub returns-in_err-changed-clause-shown : goal.returns-in_err-changed-clause-shown
+returns-in_err-changed-clause-shown g c =
+    let p = err_from_is_err_and c.from_residual-in_err-changed.result c.from_residual-in_err-changed.ensures.1 in
+    let files = c.args.files.now in
+    let heads = c.args.heads.now in
+    rw (p.1, p.2)
+    (shows_then Bool Bool (IsGoneIn files heads) (late_gone_in files heads) c.in_err-changed.field-0.0 c.take_parts.ensures.pieces
+    c.in_err-changed.ensures.shown)
+
+pub returns-clause-shown : goal.returns-clause-shown
+returns-clause-shown g c =
+    shows_ok (IsGoneIn c.args.files.now c.args.heads.now) c.is_changed.result
+    (every_then (IsOf MergesBy) c.take_parts.ensures.own c.keep_aside.ensures.own)

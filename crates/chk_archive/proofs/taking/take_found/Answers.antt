@@ -8,6 +8,8 @@ use Rattle.chk_parts.specs.Kept.{is_first}
 use Rattle.chk_archive.specs.Listed.{sources_in}
 use Rattle.chk_archive.specs.Taking.{AreSorted}
 use Rattle.chk_archive.proofs.TakenIn.{start_fails}
+use Rattle.chk_archive.proofs.Shown.{start_shown, gone_shown}
+use Rattle.chk_archive.specs.declared.taking.Taken.{Taken as TakenStruct}
 use Rattle.chk_archive.proofs.taking.take_found.Goals as goal
 
 pub check_starts-requires : goal.check_starts-requires
@@ -48,3 +50,15 @@ returns-clause-told g c stamped v names at files_are heads_are =
       heads_are = c.in_ok-sort.ensures.ok ∙ ap in_head_order heads_are;
       count = c.count_first-old.ensures ∙ ap (count_by is_first) heads_are;
     })
+
+pub returns-in_err-check_starts-clause-shown : goal.returns-in_err-check_starts-clause-shown
+returns-in_err-check_starts-clause-shown g c =
+    let q = err_from_is_err_and c.from_residual-in_err-check_starts.result c.from_residual-in_err-check_starts.ensures.1 in
+    rw (q.1, q.2)
+    (start_shown TakenStruct (book_view c.args.book.now).ends c.args.files.now c.args.heads c.sort.new.self c.in_err-check_starts.field-0.0
+    (g.S.Site.told c.args.site.now) c.in_ok-sort.ensures.ok c.in_err-check_starts.ensures.err)
+
+pub returns-clause-shown : goal.returns-clause-shown
+returns-clause-shown g c =
+    gone_shown (book_view c.args.book.now).ends c.args.files.now c.args.heads c.sort.new.self c.take_planned.result c.in_ok-sort.ensures.ok
+    c.take_planned.ensures.shown

@@ -16,9 +16,14 @@ use Rattle.chk_site.specs.Runs.{anyhow, Leads}
 use Rattle.chk_chunk.specs.Keys.{chunk_limit}
 use Rattle.chk_heads.specs.Order.{in_head_order}
 use Rattle.chk_merge.specs.Segments.{HasFiles, SparesFiles, AreSettled, GatheredAll}
-use Rattle.chk_parts.specs.Starts.{ToldOtherStart}
+use Rattle.chk_archive.specs.Starts.{ToldOtherStart}
 use Rattle.chk_archive.proofs.RawSources.{read_fails, read_then}
 use Rattle.chk_archive.proofs.TakenIn.{found_fails, then_taken}
+use Rattle.chk_archive.proofs.Shown.{taken_bad, taken_found}
+use Rattle.chk_heads.specs.ShownHeads.{ShowsAllGathered}
+use Rattle.chk_heads.specs.Causes.{Shows}
+use Rattle.chk_archive.specs.Shown.{IsUnfit}
+use Rattle.chk_archive.specs.declared.taking.Taken.{Taken as TakenStruct}
 use Rattle.chk_archive.proofs.taking.take_in.Goals as goal
 
 pub returns-in_err-files-clause-told : goal.returns-in_err-files-clause-told
@@ -95,3 +100,26 @@ returns-clause-pieces g c = every_then AsksInPieces c.gather_found.ensures.piece
 
 pub returns-clause-last : goal.returns-clause-last
 returns-clause-last g c = fails_behind c.take_found.result c.gather_found.ensures.pieces c.take_found.ensures.last
+
+pub returns-in_err-heads-clause-shown : goal.returns-in_err-heads-clause-shown
+returns-in_err-heads-clause-shown g c =
+    let q = err_from_is_err_and c.from_residual-in_err-heads.result c.from_residual-in_err-heads.ensures.1 in
+    let b = book_view c.args.book.now in
+    let files : c.as_slice.result.now ≡ sources_in b c.args.names.now = c.as_slice.ensures.value ∙ c.in_ok-files.ensures in
+    rw (q.1, q.2)
+    (taken_bad TakenStruct b.ends (sources_in b c.args.names.now) c.in_err-heads.field-0.0
+    (subst (λ ws. Adds (g.S.Site.told c.args.site.now) (g.S.Site.told c.gather_found.new.site)
+    (ShowsAllGathered chunk_limit ws (Err c.in_err-heads.field-0.0))) files c.in_err-heads.ensures.shown))
+
+pub returns-clause-shown : goal.returns-clause-shown
+returns-clause-shown g c =
+    let b = book_view c.args.book.now in
+    let names = c.args.names.now in
+    let heads = c.in_ok-heads.heads in
+    let files : c.as_slice.result.now ≡ sources_in b names = c.as_slice.ensures.value ∙ c.in_ok-files.ensures in
+    let again : c.as_slice-2.result.now ≡ sources_in b names = c.as_slice-2.ensures.value ∙ c.in_ok-files.ensures in
+    taken_found b.ends (sources_in b names) heads c.take_found.result c.take_found.ensures.starts
+    (subst (λ ws. Adds (g.S.Site.told c.args.site.now) (g.S.Site.told c.gather_found.new.site)
+    (ShowsAllGathered chunk_limit ws (Ok heads))) files c.in_ok-heads.ensures.shown)
+    (subst (λ ws. Adds (g.S.Site.told c.gather_found.new.site) (g.S.Site.told c.take_found.new.site)
+    (Shows (IsUnfit b.ends ws heads) c.take_found.result)) again c.take_found.ensures.shown)

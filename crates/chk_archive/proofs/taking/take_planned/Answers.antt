@@ -1,4 +1,4 @@
-use Rattle.std.proofs.Common.{◌≡◌, ◌∙◌, ap, sym, subst, length}
+use Rattle.std.proofs.Common.{◌≡◌, ◌∙◌, List, ap, sym, subst, length}
 use Rattle.std.proofs.lemmas.Result.{err_from_is_err_and}
 use Rattle.chk_site.proofs.Leads.{leads_as}
 use Rattle.chk_world.specs.ArchiveRuns.{once}
@@ -14,6 +14,11 @@ use Rattle.chk_archive.specs.Archived.{MergesBy, merge_reads}
 use Rattle.chk_archive.proofs.FoundPlan.{Found}
 use Rattle.chk_archive.proofs.NextBook.{Cs}
 use Rattle.chk_archive.proofs.TakenIn.{records_are, kept_so, kept_fails, then_taken}
+use Rattle.chk_heads.proofs.Causes.{shows_first, shows_behind}
+use Rattle.chk_merge.specs.Gone.{IsGoneIn}
+use Rattle.chk_merge.proofs.Causes.{late_gone_in}
+use Rattle.chk_archive.specs.declared.taking.Taken.{Taken as TakenStruct}
+use Rattle.chk_parts.specs.declared.cuts.Cut.{Cut as CutStruct}
 use Rattle.chk_archive.proofs.taking.take_planned.Goals as goal
 
 pub kept_of-requires-clause-spans : goal.kept_of-requires-clause-spans
@@ -71,3 +76,16 @@ returns-clause-pieces g c = every_then AsksInPieces c.kept_of.ensures.pieces c.w
 
 pub returns-clause-last : goal.returns-clause-last
 returns-clause-last g c = fails_behind c.write_planned.result c.kept_of.ensures.pieces c.write_planned.ensures.last
+
+pub returns-in_err-kept-clause-shown : goal.returns-in_err-kept-clause-shown
+returns-in_err-kept-clause-shown g c =
+    let q = err_from_is_err_and c.from_residual.result c.from_residual.ensures.1 in
+    rw (q.1, q.2)
+    (shows_first TakenStruct (List CutStruct) (IsGoneIn c.args.files.now c.args.heads.now) c.in_err-kept.field-0.0 c.in_err-kept.ensures.shown)
+
+pub returns-clause-shown : goal.returns-clause-shown
+returns-clause-shown g c =
+    let files = c.args.files.now in
+    let heads = c.args.heads.now in
+    shows_behind (IsGoneIn files heads) (late_gone_in files heads) c.write_planned.result c.kept_of.ensures.pieces
+    c.write_planned.ensures.shown

@@ -18,6 +18,8 @@ use Rattle.chk_archive.specs.declared.taking.Taken.{Taken}
 use Rattle.chk_archive.proofs.Lasts.{as_fails}
 use Rattle.chk_archive.proofs.NextBook.{Cs}
 use Rattle.chk_archive.proofs.TakenIn.{records_are, can_be, parts_so, gain_so, stays_whole, prepare_fails, publish_fails, published_all, of_replace}
+use Rattle.chk_heads.proofs.Causes.{shows_outside, shows_ok}
+use Rattle.chk_merge.specs.Gone.{IsGoneIn}
 use Rattle.chk_archive.proofs.taking.write_planned.Goals as goal
 
 pub returns-in_err-held-clause-told : goal.returns-in_err-held-clause-told
@@ -118,3 +120,16 @@ returns-clause-last g c =
     adds_as (FailsLast {T = Taken} (Ok (record { taken = c.args.planned.now.taken; held = c.in_ok-held.held })))
     (every_then (IsOf MergesBy) c.prepare.ensures.own (as_kind ReplacesBook MergesBy of_replace c.publish_if.ensures.own))
     (λ added history k. tt)
+
+pub returns-in_err-publish_if-clause-shown : goal.returns-in_err-publish_if-clause-shown
+returns-in_err-publish_if-clause-shown g c =
+    let q = err_from_is_err_and c.from_residual-in_err-publish_if.result c.from_residual-in_err-publish_if.ensures.1 in
+    rw (q.1, q.2)
+    (shows_outside Taken (IsGoneIn c.args.files.now c.args.heads.now) c.in_err-publish_if.field-0.0
+    (every_then (IsOf MergesBy) c.prepare.ensures.own (as_kind ReplacesBook MergesBy of_replace c.publish_if.ensures.own)))
+
+pub returns-clause-shown : goal.returns-clause-shown
+returns-clause-shown g c =
+    let t : Taken = record { taken = c.args.planned.now.taken; held = c.in_ok-held.held } in
+    shows_ok (IsGoneIn c.args.files.now c.args.heads.now) t
+    (every_then (IsOf MergesBy) c.prepare.ensures.own (as_kind ReplacesBook MergesBy of_replace c.publish_if.ensures.own))

@@ -1,4 +1,4 @@
-use Rattle.std.proofs.Common.{Ok, Err, refl}
+use Rattle.std.proofs.Common.{Ok, Err, refl, subst}
 use Rattle.std.proofs.lemmas.Result.{err_from_is_err_and}
 use Rattle.chk_site.proofs.Runs.{adds_as}
 use Rattle.chk_heads.specs.Faults.{FailsLast, job_fault}
@@ -6,9 +6,11 @@ use Rattle.chk_archive.specs.Archived.{ArchivesBy}
 use Rattle.chk_archive.specs.Reporting.{report_view}
 use Rattle.chk_archive.specs.declared.report.Report.{Report}
 use Rattle.chk_parts.proofs.StepKinds.{as_kind}
-use Rattle.chk_archive_run.specs.Telling.{ArchivesAndTells}
-use Rattle.chk_archive_run.proofs.CallKinds.{of_archive}
+use Rattle.chk_prints.specs.Printing.{PrintsInTurn}
+use Rattle.chk_archive_run.specs.Telling.{ArchivesAndTells, report_lines}
+use Rattle.chk_archive_run.proofs.CallKinds.{of_archive, prints_own}
 use Rattle.chk_archive_run.proofs.Told.{told_done, told_fails, own_both, once_both, once_fails, prints_both, runs_both, last_both}
+use Rattle.chk_archive.proofs.Shown.{archived_fails, archived_kept}
 use Rattle.chk_archive_run.proofs.running.run_archive.Goals as goal
 
 pub returns-in_err-report-clause-told : goal.returns-in_err-report-clause-told
@@ -84,3 +86,16 @@ pub returns-clause-last : goal.returns-clause-last
 returns-clause-last g c =
     adds_as (FailsLast {T = Report} (Ok c.in_ok-report.report))
     (own_both (report_view c.in_ok-report.report) (Ok tt) c.archive.ensures.own c.args.who.now c.requires c.in_ok-tell.ensures.told) (λ added history k. tt)
+
+pub returns-in_err-tell-clause-shown : goal.returns-in_err-tell-clause-shown
+returns-in_err-tell-clause-shown g c =
+    let q = err_from_is_err_and c.from_residual-in_err-tell.result c.from_residual-in_err-tell.ensures.1 in
+    rw (q.1, q.2)
+    (archived_fails Report c.in_err-tell.field-0.0
+    (own_both (report_view c.in_ok-report.report) (Err c.in_err-tell.field-0.0) c.archive.ensures.own c.args.who.now c.requires c.in_err-tell.ensures.told))
+
+pub returns-clause-shown : goal.returns-clause-shown
+returns-clause-shown g c =
+    archived_kept Report c.in_ok-report.report c.in_ok-report.ensures.shown
+    (prints_own (subst (λ w. PrintsInTurn w (report_lines (report_view c.in_ok-report.report)) (Ok tt) (g.S.Site.told c.archive.new.site)
+    (g.S.Site.told c.tell.new.site)) c.requires c.in_ok-tell.ensures.told))

@@ -1,4 +1,4 @@
-use Rattle.std.proofs.Common.{◌≡◌, ◌∙◌, ℕ, List, ◌++◌, unwrap_or, Option, Some, None, Ok, Err, Result, sym, ap, subst}
+use Rattle.std.proofs.Common.{◌≡◌, ◌∙◌, inl, inr, ℕ, List, ◌++◌, unwrap_or, Option, Some, None, Ok, Err, Result, sym, ap, subst}
 use Rattle.std.specs.Prelude.{IfErr}
 use Rattle.std.proofs.lemmas.Result.{err_from_is_err_and}
 use Rattle.chk_site.specs.Files.{File}
@@ -7,7 +7,7 @@ use Rattle.chk_site.specs.Site.{Adds, LastFailed}
 use Rattle.chk_site.specs.Runs.{anyhow, Leads}
 use Rattle.chk_site.specs.declared.acts.OutsideFault.{OutsideFault}
 use Rattle.chk_site.specs.declared.acts.OutsideFault.TheVariants.{Outside as site_failed, NoMemory as no_memory}
-use Rattle.chk_site.proofs.Runs.{adds_as}
+use Rattle.chk_site.proofs.Runs.{adds_as, adds_none}
 use Rattle.chk_site.proofs.Leads.{leads_as, leads_none, owned_anyhow}
 use Rattle.chk_replace.specs.Load.{Has, Loaded}
 use Rattle.chk_world.specs.Books.{Book, empty_book}
@@ -15,9 +15,11 @@ use Rattle.chk_world.specs.JobSteps.{SparesFile}
 use Rattle.chk_heads.specs.Faults.{job_fault, JobCause, FailsLast, IsOfRead}
 use Rattle.chk_heads.specs.declared.fault.JobFault.{JobFault}
 use Rattle.chk_heads.specs.declared.fault.JobFault.TheVariants.{Outside, Damaged, Spent, NoMemory}
+use Rattle.chk_heads.specs.Shown.{ShowsFile}
+use Rattle.chk_heads.proofs.Stretches.{shown_as}
 use Rattle.chk_book.specs.Folders.{book_name}
 use Rattle.chk_book.specs.Books.{book_view}
-use Rattle.chk_book.specs.Loaded.{LoadedBook, ReadBook, IsBookOf, IsNoBookAt, book_result}
+use Rattle.chk_book.specs.Loaded.{LoadedBook, ReadBook, IsBookOf, IsNoBookAt, ShowsBook, book_result}
 use Rattle.chk_book.specs.declared.book.Book.{Book as Struct}
 use Rattle.chk_book.proofs.Segmented.{failed_cause}
 use Rattle.chk_book.proofs.book.load_book.Goals as goal
@@ -96,6 +98,46 @@ module _ (given : Option (List ℕ)) (name : List ℕ) where
   read_cause (Err (Damaged which at)) is before now same = same
   read_cause (Err (Spent number)) is before now same = same
   read_cause (Err NoMemory) is before now same = same
+
+-- after a failed read nothing is shown
+unshown : (folder : List ℕ) (fault : OutsideFault) {P : History → History → Type 0} {old new : Option History} → Adds old new P
+    → Adds old new (ShowsBook folder (Err (job_fault fault)))
+unshown folder (site_failed call) told = adds_as (ShowsBook folder (Err (Outside call))) told (λ added history x. tt)
+unshown folder no_memory told = adds_as (ShowsBook folder (Err NoMemory)) told (λ added history x. tt)
+
+-- what the bytes are read as, which own reads show
+shown : (folder : List ℕ) (given : Option (List ℕ)) (name : List ℕ) (result : Result Struct JobFault) → name ≡ book_name folder
+    → ReadBook given name (book_result result) → (added history : History) → ShowsFile (book_name folder) (Ok given) added history
+    → ShowsBook folder (book_result result) added history
+shown folder None name (Ok b) named is added history missed = inl (missed, is)
+shown folder (Some bytes) name (Ok b) named is added history all =
+    inr (shown_as (λ w same. subst (λ x. IsBookOf (Some x) (book_view b)) (sym same) is) all)
+shown folder None name (Err (Damaged which at)) named is added history missed = absurd is.1
+shown folder (Some bytes) name (Err (Damaged which at)) named is added history all =
+    (is.0 ∙ named, shown_as (λ w same. subst (λ x. IsNoBookAt (Some x) at) (sym same) is.1) all)
+shown folder given name (Err (Outside call)) named is added history all = tt
+shown folder given name (Err (Spent number)) named is added history all = tt
+shown folder given name (Err NoMemory) named is added history all = tt
+
+pub returns-in_err-name-clause-shown : goal.returns-in_err-name-clause-shown
+returns-in_err-name-clause-shown g c =
+    let p = err_from_is_err_and c.from_residual.result c.from_residual.ensures.1 in
+    rw (p.1, p.2) (adds_none _ (ShowsBook c.args.folder.now (Err NoMemory)) (λ h. tt))
+
+pub returns-in_err-given-clause-shown : goal.returns-in_err-given-clause-shown
+returns-in_err-given-clause-shown g c =
+    let r = c.from_residual-in_err-given in
+    let p = err_from_is_err_and r.result r.ensures.1 in
+    rw (p.1, p.2) (unshown c.args.folder.now c.in_err-given.field-0.0 c.in_err-given.ensures.pieces)
+
+pub returns-clause-shown : goal.returns-clause-shown
+returns-clause-shown g c =
+    let named = c.in_ok-name.ensures.name in
+    let given = c.in_ok-given.given in
+    adds_as (ShowsBook c.args.folder.now (book_result c.book_of.result))
+    (subst (λ (name : List ℕ). Adds (g.S.Site.told c.args.site.now) (g.S.Site.told c.read_file.new.site) (ShowsFile name (Ok given)))
+    (c.as_str.ensures.text ∙ named) c.in_ok-given.ensures.shown)
+    (λ added history x. shown c.args.folder.now given c.in_ok-name.name c.book_of.result named c.book_of.ensures added history x)
 
 pub returns-in_err-name-clause-raw : goal.returns-in_err-name-clause-raw
 returns-in_err-name-clause-raw g c =

@@ -14,6 +14,7 @@ use Rattle.chk_demux.proofs.BookLoads.{book_loaded, begin_refused, load_refused,
 use Rattle.chk_demux.specs.Damage.{archive_name, demux_name}
 use Rattle.chk_demux.proofs.RawReads.{small_archive, small_demux, started, not_started, archive_refused, demux_refused, books_loaded}
 use Rattle.chk_demux.proofs.Works.{own_of, works_then, works_result}
+use Rattle.chk_demux.proofs.Shown.{start_fails, archive_fails, records_fail, both_shown}
 use Rattle.chk_demux.proofs.beginning.begin.Goals as goal
 
 pub load_book-requires : goal.load_book-requires
@@ -127,3 +128,24 @@ returns-clause-works g c =
     (works_then Begins (job_result c.start.result) c.load_book.result c.start.ensures.works
     (loads c.load_book.result (c.load_book.ensures.own c.requires) c.load_book.ensures.pieces c.load_book.ensures.last))
     (loads c.load_book-2.result (c.load_book-2.ensures.own c.requires) c.load_book-2.ensures.pieces c.load_book-2.ensures.last))
+
+pub returns-in_err-start-clause-shown : goal.returns-in_err-start-clause-shown
+returns-in_err-start-clause-shown g c =
+    let q = err_from_is_err_and c.from_residual.result c.from_residual.ensures.1 in
+    rw (q.1, q.2) (start_fails c.in_err-start.field-0.0 c.start.ensures.works)
+
+pub returns-in_err-archive-clause-shown : goal.returns-in_err-archive-clause-shown
+returns-in_err-archive-clause-shown g c =
+    let q = err_from_is_err_and c.from_residual-in_err-archive.result c.from_residual-in_err-archive.ensures.1 in
+    rw (q.1, q.2) (archive_fails c.in_err-archive.field-0.0 c.start.ensures.works c.in_err-archive.ensures.shown)
+
+pub returns-in_err-demux-clause-shown : goal.returns-in_err-demux-clause-shown
+returns-in_err-demux-clause-shown g c =
+    let q = err_from_is_err_and c.from_residual-in_err-demux.result c.from_residual-in_err-demux.ensures.1 in
+    rw (q.1, q.2)
+    (records_fail c.in_err-demux.field-0.0 c.start.ensures.works (c.load_book.ensures.own c.requires) c.in_err-demux.ensures.shown)
+
+pub returns-clause-shown : goal.returns-clause-shown
+returns-clause-shown g c =
+    both_shown c.in_ok-archive.archive c.in_ok-demux.demux c.start.ensures.works c.in_ok-archive.ensures.shown
+    (c.load_book-2.ensures.own c.requires)

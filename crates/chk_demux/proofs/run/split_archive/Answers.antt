@@ -10,6 +10,11 @@ use Rattle.chk_demux.proofs.RawReads.{split_refused, split_on}
 use Rattle.chk_demux.proofs.RunFacts.{can_run}
 use Rattle.chk_demux.proofs.RunSteps.{nothing_put, not_split, all_ran, enters}
 use Rattle.chk_demux.proofs.Works.{works_result}
+use Rattle.std.proofs.Common.{ℕ}
+use Rattle.std.specs.Prelude.{codes}
+use Rattle.chk_heads.proofs.Causes.{shows_first}
+use Rattle.chk_merge.specs.Gone.{IsUnsound}
+use Rattle.chk_demux.proofs.Shown.{shows_opened}
 use Rattle.chk_demux.proofs.run.split_archive.Goals as goal
 
 pub split_named-requires-clause-writer : goal.split_named-requires-clause-writer
@@ -77,3 +82,15 @@ pub returns-clause-cause : goal.returns-clause-cause
 returns-clause-cause g c =
     subst (λ n. JobCause n (g.S.Site.fault_count c.enter_output.new.site) c.enter_output.result)
     c.in_ok-left.ensures.cause c.enter_output.ensures.cause
+
+pub returns-in_err-left-clause-shown : goal.returns-in_err-left-clause-shown
+returns-in_err-left-clause-shown g c =
+    let q = err_from_is_err_and c.from_residual.result c.from_residual.ensures.1 in
+    rw (q.1, q.2)
+    (shows_first DemuxReport ℕ (IsUnsound (codes "archive") (book_view c.args.archive.now)) c.in_err-left.field-0.0 c.in_err-left.ensures.shown)
+
+pub returns-clause-shown : goal.returns-clause-shown
+returns-clause-shown g c =
+    shows_opened (IsUnsound (codes "archive") (book_view c.args.archive.now)) c.enter_output.result c.enter_output.ensures.only
+    (enters (book_view c.args.book.now).next c.split_named.result c.enter_output.result c.split_named.ensures.works
+    c.enter_output.ensures.works)

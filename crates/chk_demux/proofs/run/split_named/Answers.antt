@@ -11,6 +11,11 @@ use Rattle.chk_demux.proofs.Ends.{cause_behind, no_more}
 use Rattle.chk_demux.proofs.RawReads.{heads_refused, heads_read}
 use Rattle.chk_demux.proofs.RunSteps.{sound_names, well_names, no_heads, split_so, splits}
 use Rattle.chk_demux.proofs.Works.{works_memory, works_result}
+use Rattle.std.specs.Prelude.{codes}
+use Rattle.chk_site.proofs.Runs.{adds_none}
+use Rattle.chk_heads.proofs.Causes.{shows_first}
+use Rattle.chk_merge.specs.Gone.{IsUnsound}
+use Rattle.chk_demux.proofs.Shown.{gone_behind}
 use Rattle.chk_demux.proofs.run.split_named.Goals as goal
 
 pub returns-in_err-files-clause-told : goal.returns-in_err-files-clause-told
@@ -123,3 +128,20 @@ pub returns-clause-cause : goal.returns-clause-cause
 returns-clause-cause g c =
     subst (λ n. JobCause n (g.S.Site.fault_count c.split_streams.new.site) c.split_streams.result)
     c.in_ok-heads.ensures.cause c.split_streams.ensures.cause
+
+pub returns-in_err-files-clause-shown : goal.returns-in_err-files-clause-shown
+returns-in_err-files-clause-shown g c =
+    let q = err_from_is_err_and c.from_residual.result c.from_residual.ensures.1 in
+    rw (q.1, q.2) (adds_none _ _ (λ history. tt))
+
+pub returns-in_err-heads-clause-shown : goal.returns-in_err-heads-clause-shown
+returns-in_err-heads-clause-shown g c =
+    let q = err_from_is_err_and c.from_residual-in_err-heads.result c.from_residual-in_err-heads.ensures.1 in
+    rw (q.1, q.2)
+    (shows_first ℕ (Unit {0}) (IsUnsound (codes "archive") (book_view c.args.archive.now)) c.in_err-heads.field-0.0
+    c.in_err-heads.ensures.shown)
+
+pub returns-clause-shown : goal.returns-clause-shown
+returns-clause-shown g c =
+    gone_behind (codes "archive") (book_view c.args.archive.now) c.as_slice-names.result.now c.in_ok-heads.heads c.split_streams.result
+    (c.as_slice-names.ensures.value ∙ c.in_ok-files.ensures) c.in_ok-heads.ensures.shown c.split_streams.ensures.shown

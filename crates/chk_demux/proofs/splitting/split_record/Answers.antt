@@ -14,6 +14,10 @@ use Rattle.chk_demux.proofs.RawReads.{fetch_refused, fetched_on, written_on}
 use Rattle.chk_demux.proofs.Ends.{at_as}
 use Rattle.chk_demux.proofs.Fetches.{P, passed, not_fetched, record_split}
 use Rattle.chk_demux.proofs.Works.{worked, works_none, works_as, works_result, works_then, own_of}
+use Rattle.chk_site.proofs.Runs.{adds_none}
+use Rattle.chk_heads.proofs.Causes.{shows_first}
+use Rattle.chk_merge.specs.Gone.{IsGoneIn}
+use Rattle.chk_demux.proofs.Shown.{shows_opened}
 use Rattle.chk_demux.proofs.splitting.split_record.Goals as goal
 
 pub returns-then-not-ends_past-clause-told : goal.returns-then-not-ends_past-clause-told
@@ -103,3 +107,21 @@ returns-clause-raw g c v cs records settled apart =
     c.fetch.new.reader c.fetch.result c.fetch.ensures.raw c.fetch.ensures.own c.in_ok-fetch.field-0 c.in_ok-fetch.was)
     (written_on v c.args.files.now c.args.heads.now cs records settled w apart c.fetch.new.reader c.split_value.result
     c.split_value.ensures.only (own_of (WritesTo w) c.split_value.result c.split_value.ensures.works))
+
+pub returns-then-not-ends_past-clause-shown : goal.returns-then-not-ends_past-clause-shown
+returns-then-not-ends_past-clause-shown g c = adds_none _ _ (λ history. tt)
+
+pub returns-in_err-fetch-clause-shown : goal.returns-in_err-fetch-clause-shown
+returns-in_err-fetch-clause-shown g c =
+    let p = err_from_is_err_and c.from_residual.result c.from_residual.ensures.1 in
+    rw (p.1, p.2)
+    (shows_first (Unit {0}) (Unit {0}) (IsGoneIn c.args.files.now c.args.heads.now) c.in_err-fetch.field-0.0 c.in_err-fetch.ensures.shown)
+
+pub returns-clause-shown : goal.returns-clause-shown
+returns-clause-shown g c =
+    let w = segment_name (codes "demux") (book_view c.args.book.now).next in
+    shows_opened (IsGoneIn c.args.files.now c.args.heads.now) c.split_value.result c.split_value.ensures.only
+    (works_then (ReadsOrWrites w) c.fetch.result c.split_value.result
+    (works_as ReadsFile (ReadsOrWrites w) (λ call k. inl k) c.fetch.result
+    (worked ReadsFile c.fetch.result c.fetch.ensures.own c.fetch.ensures.pieces c.fetch.ensures.last))
+    (works_as (WritesTo w) (ReadsOrWrites w) (λ call k. inr k) c.split_value.result c.split_value.ensures.works))

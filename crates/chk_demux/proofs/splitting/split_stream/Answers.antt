@@ -19,6 +19,10 @@ use Rattle.chk_demux.proofs.RawReads.{on_refused, on_done}
 use Rattle.chk_demux.proofs.Ends.{at_as, so_fails, so_done}
 use Rattle.chk_demux.proofs.Streams.{stream_begun, stream_ended}
 use Rattle.chk_demux.proofs.Works.{works_none, works_then, works_result}
+use Rattle.chk_site.proofs.Runs.{adds_as}
+use Rattle.chk_heads.proofs.Causes.{shows_then}
+use Rattle.chk_merge.specs.Gone.{IsGoneIn}
+use Rattle.chk_merge.proofs.Causes.{late_gone_in}
 use Rattle.chk_demux.proofs.splitting.split_stream.Goals as goal
 
 pub loop-index-init : goal.loop-index-init
@@ -141,3 +145,15 @@ returns-in_err-split_record-clause-raw g c v cs records settled apart =
 
 pub returns-clause-raw : goal.returns-clause-raw
 returns-clause-raw g c v cs records settled apart = c.loop-index.invariant.raw_so_far v cs records settled apart
+
+pub returns-in_err-split_record-clause-shown : goal.returns-in_err-split_record-clause-shown
+returns-in_err-split_record-clause-shown g c =
+    let p = err_from_is_err_and c.from_residual.result c.from_residual.ensures.1 in
+    let files = c.args.files.now in
+    let heads = c.args.heads.now in
+    rw (p.1, p.2)
+    (shows_then ℕ (Unit {0}) (IsGoneIn files heads) (late_gone_in files heads) c.in_err-split_record.field-0.0 c.loop-index.invariant.works
+    c.in_err-split_record.ensures.shown)
+
+pub returns-clause-shown : goal.returns-clause-shown
+returns-clause-shown g c = adds_as _ c.loop-index.invariant.works (λ added history x. tt)

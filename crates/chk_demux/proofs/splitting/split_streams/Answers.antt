@@ -20,6 +20,11 @@ use Rattle.chk_demux.proofs.RawReads.{on_done, none_damaged}
 use Rattle.chk_demux.proofs.Ends.{at_as, no_more}
 use Rattle.chk_demux.proofs.Streams.{seen_at, chunks_more, left_more, stream_fails, stream_done}
 use Rattle.chk_demux.proofs.Works.{works_none, works_then, works_result, works_value, works_end}
+use Rattle.chk_site.proofs.Runs.{adds_as}
+use Rattle.chk_site.specs.declared.acts.OutsideFault.TheVariants.{NoMemory as no_memory}
+use Rattle.chk_heads.proofs.Causes.{shows_then, shows_outside}
+use Rattle.chk_merge.specs.Gone.{IsGoneIn}
+use Rattle.chk_merge.proofs.Causes.{late_gone_in}
 use Rattle.chk_demux.proofs.splitting.split_streams.Goals as goal
 
 pub loop-end-init : goal.loop-end-init
@@ -238,3 +243,23 @@ returns-in_err-left-clause-raw g c v cs records settled apart =
 pub returns-clause-raw : goal.returns-clause-raw
 returns-clause-raw g c v cs records settled apart =
     leads_as (λ h z. z) (λ h z. tt) (c.loop-end.invariant.raw_so_far v cs records settled apart)
+
+pub returns-in_err-more-clause-shown : goal.returns-in_err-more-clause-shown
+returns-in_err-more-clause-shown g c =
+    let p = err_from_is_err_and c.from_residual.result c.from_residual.ensures.1 in
+    let files = c.args.files.now in
+    let heads = c.args.heads.now in
+    rw (p.1, p.2)
+    (shows_then ℕ ℕ (IsGoneIn files heads) (late_gone_in files heads) c.in_err-more.field-0.0 c.loop-end.invariant.works
+    c.in_err-more.ensures.shown)
+
+pub returns-in_err-left-clause-shown : goal.returns-in_err-left-clause-shown
+returns-in_err-left-clause-shown g c =
+    let p = err_from_is_err_and c.from_residual-in_err-left.result c.from_residual-in_err-left.ensures.1 in
+    let w = segment_name (codes "demux") (book_view c.args.book.now).next in
+    rw (p.1, p.2, c.in_err-left.ensures.only)
+    (shows_outside ℕ (IsGoneIn c.args.files.now c.args.heads.now) no_memory
+    (works_then (ReadsOrWrites w) (Ok tt) c.split_stream.result c.loop-end.invariant.works c.split_stream.ensures.works))
+
+pub returns-clause-shown : goal.returns-clause-shown
+returns-clause-shown g c = adds_as _ c.loop-end.invariant.works (λ added history x. tt)

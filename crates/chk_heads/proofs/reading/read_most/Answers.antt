@@ -5,6 +5,8 @@ use Rattle.chk_site.specs.declared.acts.Call.TheVariants.{Read}
 use Rattle.chk_site.specs.Site.{bytes_given, LastFailed}
 use Rattle.chk_site.proofs.Runs.{adds_as}
 use Rattle.chk_replace.proofs.CallSteps.{ends_last}
+use Rattle.chk_heads.proofs.Showing.{read_gave, read_missing, read_short, read_failed}
+use Rattle.chk_heads.specs.Pieces.{asks_for}
 use Rattle.chk_heads.proofs.PieceReads.{piece_given, piece_missing, piece_short, not_read, piece_own, piece_asks}
 use Rattle.chk_heads.proofs.reading.read_most.Goals as goal
 
@@ -18,6 +20,7 @@ returns-in-Ok g c =
     let told = rw most at c.in-Ok.ensures.told in
     record {
       raw = piece_given who name at most_asked c.in-Ok.bytes told;
+      shown = read_gave who name at (asks_for most_asked at) c.in-Ok.bytes told;
       own = λ is. piece_own who name at most_asked (Ok (bytes_given c.in-Ok.bytes)) is told;
       pieces = piece_asks who name at most_asked (Ok (bytes_given c.in-Ok.bytes)) c.requires told;
       few = rw most at c.in-Ok.ensures.most;
@@ -35,6 +38,7 @@ returns-in-Err-Missing g c =
     let told = rw most at (rw c.in-Err-Missing.field-0-is at c.in-Err-Missing.ensures.told) in
     record {
       raw = piece_missing who name at most_asked told;
+      shown = read_missing who name at (asks_for most_asked at) told;
       own = λ is. piece_own who name at most_asked (Err Missing) is told;
       pieces = piece_asks who name at most_asked (Err Missing) c.requires told;
       few = tt;
@@ -52,6 +56,7 @@ returns-in-Err-Failed g c =
     let told = rw most at (rw c.in-Err-Failed.field-0-is at c.in-Err-Failed.ensures.told) in
     record {
       raw = not_read name at most_asked (Outside Read) told;
+      shown = read_failed name at (asks_for most_asked at) (Outside Read) told;
       own = λ is. piece_own who name at most_asked (Err Failed) is told;
       pieces = piece_asks who name at most_asked (Err Failed) c.requires told;
       few = tt;
@@ -70,6 +75,7 @@ returns-in-Err-NoMemory g c =
     let told = rw most at (rw c.in-Err-NoMemory.field-0-is at c.in-Err-NoMemory.ensures.told) in
     record {
       raw = not_read name at most_asked no_memory told;
+      shown = read_failed name at (asks_for most_asked at) no_memory told;
       own = λ is. piece_own who name at most_asked (Err NoMemory) is told;
       pieces = piece_asks who name at most_asked (Err NoMemory) c.requires told;
       few = tt;
@@ -89,6 +95,7 @@ returns-in-Err-Short g c =
     rw c.new.ensures
     (record {
       raw = piece_short who name at most_asked size told;
+      shown = read_short who name at (asks_for most_asked at) size told;
       own = λ is. piece_own who name at most_asked (Err (Short size)) is told;
       pieces = piece_asks who name at most_asked (Err (Short size)) c.requires told;
       few = omega arith;

@@ -4,6 +4,8 @@ use Rattle.chk_site.proofs.Leads.{leads_none}
 use Rattle.chk_heads.specs.Heads.{Head}
 use Rattle.chk_heads.specs.Order.{no_head}
 use Rattle.chk_merge.proofs.AllRead.{read_all, not_read_all}
+use Rattle.chk_site.proofs.Runs.{adds_none}
+use Rattle.chk_merge.proofs.Causes.{at_place, shows_one}
 use Rattle.chk_merge.proofs.gathering.fetch.Goals as goal
 
 pub returns-in-Some-clause-raw : goal.returns-in-Some-clause-raw
@@ -34,3 +36,15 @@ returns-in-None-clause-raw g c most held few settled =
 pub returns-in-None-clause-stays : goal.returns-in-None-clause-stays
 returns-in-None-clause-stays g c other file = leads_none (g.S.Site.told c.args.site.now)
     (λ h x. tt)
+
+pub returns-in-Some-clause-shown : goal.returns-in-Some-clause-shown
+returns-in-Some-clause-shown g c =
+    let names = c.args.names.now in
+    let found = c.in-Some.ensures.lookup.3 in
+    let same = ap (λ (h : Head). h.file) c.get.ensures.head in
+    shows_one names c.args.heads.now c.as_str.result.now (get_or c.args.heads.now c.args.index no_head)
+    (at_place c.args.heads.now c.args.index no_head c.requires) (c.as_str.ensures.text ∙ (found.1 [] ∙ ap (λ n. get_or names n []) same))
+    c.fetch.result c.fetch.ensures.shown
+
+pub returns-in-None-clause-shown : goal.returns-in-None-clause-shown
+returns-in-None-clause-shown g c = adds_none _ _ (λ history. tt)

@@ -6,6 +6,7 @@ use Rattle.chk_site.specs.Runs.{anyhow, Leads}
 use Rattle.chk_world.specs.Sight.{job}
 use Rattle.chk_world.specs.JobSteps.{IsOf, ReadsFile}
 use Rattle.chk_heads.specs.Pieces.{AsksInPieces}
+use Rattle.chk_heads.specs.ShownHeads.{ShowAll}
 use Rattle.chk_merge.specs.Segments.{HasFiles, SparesFiles, AreSettled}
 use Rattle.chk_merge.proofs.AllGathered.{HasHeads}
 use Rattle.chk_merge.proofs.gathering.gather_all.Given as goal
@@ -19,6 +20,7 @@ invariant-loop-name g l = record {
   own : l.who ≡ job → Adds (g.S.Site.told l.fn.site) (g.S.Site.told l.site) (Every
       (IsOf ReadsFile));
   pieces : Adds (g.S.Site.told l.fn.site) (g.S.Site.told l.site) (Every AsksInPieces);
+  shown : Adds (g.S.Site.told l.fn.site) (g.S.Site.told l.site) (ShowAll l.most 0 (take l.name-index l.names) l.heads);
   number : l.file ≡ l.name-index;
   count : g.S.Site.fault_count l.site ≡ g.S.Site.fault_count l.fn.site;
 }

@@ -17,6 +17,10 @@ use Rattle.chk_merge.proofs.AllGathered.{fails_later}
 use Rattle.chk_book.proofs.Added.{fails_as, cause_later}
 use Rattle.chk_merge.proofs.Writing.{reads_as}
 use Rattle.chk_merge.proofs.MergedInto.{merged, not_sound_merged, not_written_merged, spent_read, spent_same}
+use Rattle.chk_site.proofs.Runs.{adds_none}
+use Rattle.chk_heads.proofs.Causes.{shows_first}
+use Rattle.chk_merge.specs.Gone.{IsUnsound}
+use Rattle.chk_merge.proofs.Causes.{merge_gone}
 use Rattle.chk_merge.proofs.merging.merge.Goals as goal
 
 pub returns-in_err-heads-clause-raw : goal.returns-in_err-heads-clause-raw
@@ -152,3 +156,34 @@ returns-clause-spent g c = λ e. let other = c.if-book-eq-LAST_NUMBER.false in o
 
 pub returns-clause-cause : goal.returns-clause-cause
 returns-clause-cause g c = c.in_ok-merged.ensures.cause ∙ c.in_ok-heads.ensures.cause
+
+pub returns-then-book-eq-LAST_NUMBER-clause-shown : goal.returns-then-book-eq-LAST_NUMBER-clause-shown
+returns-then-book-eq-LAST_NUMBER-clause-shown g c = adds_none _ _ (λ history. tt)
+
+pub returns-in_err-names-clause-shown : goal.returns-in_err-names-clause-shown
+returns-in_err-names-clause-shown g c =
+    let r = c.from_residual in
+    let p = err_from_is_err_and r.result r.ensures.1 in
+    rw (p.1, p.2) (adds_none _ _ (λ history. tt))
+
+pub returns-in_err-heads-clause-shown : goal.returns-in_err-heads-clause-shown
+returns-in_err-heads-clause-shown g c =
+    let r = c.from_residual-in_err-heads in
+    let p = err_from_is_err_and r.result r.ensures.1 in
+    rw (p.1, p.2)
+    (shows_first (Unit {0}) (Unit {0}) (IsUnsound c.args.folder.now (book_view c.args.book.now)) c.in_err-heads.field-0.0
+    c.in_err-heads.ensures.shown)
+
+pub returns-in_err-merged-clause-shown : goal.returns-in_err-merged-clause-shown
+returns-in_err-merged-clause-shown g c =
+    let r = c.from_residual-in_err-merged in
+    let p = err_from_is_err_and r.result r.ensures.1 in
+    rw (p.1, p.2)
+    (merge_gone c.args.folder.now (book_view c.args.book.now) c.deref-2.result.now c.in_ok-heads.heads Struct c.in_err-merged.field-0.0
+    (c.deref-2.ensures.value ∙ c.in_ok-names.ensures) c.in_ok-heads.ensures.shown c.in_err-merged.ensures.shown)
+
+pub returns-clause-shown : goal.returns-clause-shown
+returns-clause-shown g c = adds_then _ c.in_ok-heads.ensures.pieces c.in_ok-merged.ensures.last (λ a b history x y. tt)
+
+pub returns-clause-kept : goal.returns-clause-kept
+returns-clause-kept g c = (refl, refl)

@@ -7,6 +7,7 @@ use Rattle.chk_merge.specs.Segments.{AreSettled}
 use Rattle.chk_merge.specs.Checking.{ToldOfSome}
 use Rattle.chk_merge.proofs.Archived.{gathered_as}
 use Rattle.chk_merge.proofs.SoundHeads.{heads_sound, heads_bad, heads_broken, some_of_read, some_no_call, some_cause}
+use Rattle.chk_merge.proofs.Causes.{sound_bad, sound_broken, sound_so}
 use Rattle.chk_merge.proofs.merging.sound_heads.Goals as goal
 
 pub returns-in_err-heads-clause-raw : goal.returns-in_err-heads-clause-raw
@@ -70,3 +71,23 @@ returns-clause-raw g c held is settled =
     c.in_ok-put_in_order.ensures.well c.in_ok-put_in_order.ensures.order
     (gathered_as folder b held c.args.names.now c.most_in.result (Ok c.in_ok-heads.heads) c.requires c.most_in.ensures.most
     (c.in_ok-heads.ensures.raw held is (subst (λ ws. AreSettled ws held) (sym c.requires) settled)))
+
+pub returns-in_err-heads-clause-shown : goal.returns-in_err-heads-clause-shown
+returns-in_err-heads-clause-shown g c =
+    let p = err_from_is_err_and c.from_residual.result c.from_residual.ensures.1 in
+    rw (p.1, p.2)
+    (sound_bad c.args.folder.now (book_view c.args.book.now) c.args.names.now c.most_in.result c.requires c.most_in.ensures.most
+    c.in_err-heads.field-0.0 c.in_err-heads.ensures.shown)
+
+pub returns-in_err-put_in_order-clause-shown : goal.returns-in_err-put_in_order-clause-shown
+returns-in_err-put_in_order-clause-shown g c =
+    let r = c.from_residual-in_err-put_in_order in
+    let p = err_from_is_err_and r.result r.ensures.1 in
+    rw (p.1, p.2)
+    (sound_broken c.args.folder.now (book_view c.args.book.now) c.args.names.now c.most_in.result c.requires c.most_in.ensures.most
+    c.in_ok-heads.heads c.in_err-put_in_order.field-0.0 c.in_err-put_in_order.ensures.err c.in_ok-heads.ensures.shown)
+
+pub returns-clause-shown : goal.returns-clause-shown
+returns-clause-shown g c =
+    sound_so c.args.folder.now (book_view c.args.book.now) c.args.names.now c.most_in.result c.requires c.most_in.ensures.most
+    c.in_ok-heads.heads c.put_in_order.new.heads c.in_ok-put_in_order.ensures.order c.in_ok-heads.ensures.shown

@@ -7,6 +7,8 @@ use Rattle.chk_book.specs.Views.{segment_view, end_view}
 use Rattle.chk_merge.specs.Merging.{bare_book}
 use Rattle.chk_book.proofs.Added.{fails_as, cause_later}
 use Rattle.chk_merge.proofs.MergedInto.{spent_same}
+use Rattle.chk_heads.proofs.Causes.{shows_first}
+use Rattle.chk_merge.specs.Gone.{IsGoneIn}
 use Rattle.chk_merge.proofs.merging.write_merged.Goals as goal
 
 pub write_segment-requires-clause-bare : goal.write_segment-requires-clause-bare
@@ -76,3 +78,13 @@ returns-clause-cause g c = c.in_ok-write_segment.ensures.cause
 
 pub returns-clause-last : goal.returns-clause-last
 returns-clause-last g c = adds_as _ c.in_ok-write_segment.ensures.last (λ added history x. tt)
+
+pub returns-in_err-write_segment-clause-shown : goal.returns-in_err-write_segment-clause-shown
+returns-in_err-write_segment-clause-shown g c =
+    let p = err_from_is_err_and c.from_residual.result c.from_residual.ensures.1 in
+    rw (p.1, p.2)
+    (shows_first Struct (Unit {0}) (IsGoneIn c.args.names.now c.args.heads.now) c.in_err-write_segment.field-0.0
+    c.in_err-write_segment.ensures.shown)
+
+pub returns-clause-shown : goal.returns-clause-shown
+returns-clause-shown g c = adds_as _ c.in_ok-write_segment.ensures.shown (λ added history x. tt)

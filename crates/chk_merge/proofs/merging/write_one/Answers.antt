@@ -19,6 +19,10 @@ use Rattle.chk_book.specs.Written.{IsAt, taken, HasTaken}
 use Rattle.chk_book.proofs.Added.{fails_later}
 use Rattle.chk_merge.specs.Merging.{chunk_read, chunk_with}
 use Rattle.chk_merge.proofs.Writing.{NoDamage, reads_as, writes_as, writes_ask, fetched_beside, not_written, unwritten, written}
+use Rattle.chk_heads.proofs.Causes.{shows_first, shows_outside}
+use Rattle.chk_site.specs.declared.acts.OutsideFault.TheVariants.{NoMemory as no_memory}
+use Rattle.chk_merge.specs.Gone.{IsGoneIn}
+use Rattle.chk_merge.proofs.Causes.{shows_written}
 use Rattle.chk_merge.proofs.merging.write_one.Goals as goal
 
 no_damage : (result : Result (Unit {0}) JobFault) → IfErr result IsOfWrite → NoDamage result
@@ -92,3 +96,18 @@ pub returns-clause-pieces : goal.returns-clause-pieces
 returns-clause-pieces g c w at is =
     every_then AsksInPieces c.in_ok-fetch.ensures.pieces
     (writes_ask (segment_name w.folder w.number) (c.part.ensures.own w at (c.requires.who ∙ is)))
+
+pub returns-in_err-fetch-clause-shown : goal.returns-in_err-fetch-clause-shown
+returns-in_err-fetch-clause-shown g c =
+    let p = err_from_is_err_and c.from_residual.result c.from_residual.ensures.1 in
+    rw (p.1, p.2)
+    (shows_first (Unit {0}) (Unit {0}) (IsGoneIn c.args.names.now c.args.heads.now) c.in_err-fetch.field-0.0 c.in_err-fetch.ensures.shown)
+
+pub returns-then-not-is_part-clause-shown : goal.returns-then-not-is_part-clause-shown
+returns-then-not-is_part-clause-shown g c =
+    shows_outside (Unit {0}) (IsGoneIn c.args.names.now c.args.heads.now) no_memory c.in_ok-fetch.ensures.pieces
+
+pub returns-clause-shown : goal.returns-clause-shown
+returns-clause-shown g c =
+    shows_written (IsGoneIn c.args.names.now c.args.heads.now) c.part.result c.part.ensures.only
+    (fails_later c.part.result c.in_ok-fetch.ensures.pieces c.part.ensures.last)

@@ -21,6 +21,9 @@ use Rattle.chk_merge.proofs.Writing.{writes_as, writes_ask}
 use Rattle.chk_merge.proofs.Merged.{begun_beside, ended_beside, not_merged, unmerged, named_as, apart_as, own_as, of_begin, of_write}
 use Rattle.chk_book.proofs.Added.{fails_as, cause_later, spent_write}
 use Rattle.chk_merge.proofs.MergedInto.{spent_read, spent_same}
+use Rattle.chk_heads.proofs.Causes.{shows_then, shows_write, shows_ok}
+use Rattle.chk_merge.specs.Gone.{IsGoneIn}
+use Rattle.chk_merge.proofs.Causes.{shows_begun, late_gone_in}
 use Rattle.chk_merge.proofs.merging.write_segment.Goals as goal
 
 pub returns-in_err-segmenter-clause-own : goal.returns-in_err-segmenter-clause-own
@@ -298,3 +301,34 @@ returns-clause-spent g c = c.in_ok-segmenter.ensures.spent
 
 pub returns-clause-cause : goal.returns-clause-cause
 returns-clause-cause g c = c.in_ok-finish.ensures.cause ∙ c.loop-index.invariant.count
+
+pub returns-in_err-segmenter-clause-shown : goal.returns-in_err-segmenter-clause-shown
+returns-in_err-segmenter-clause-shown g c =
+    let r = c.from_residual in
+    let p = err_from_is_err_and r.result r.ensures.1 in
+    rw (p.1, p.2)
+    (shows_begun (Unit {0}) (IsGoneIn c.args.names.now c.args.heads.now) c.in_err-segmenter.field-0.0 c.in_err-segmenter.ensures.only
+    c.in_err-segmenter.ensures.last)
+
+pub returns-in_err-write_one-clause-shown : goal.returns-in_err-write_one-clause-shown
+returns-in_err-write_one-clause-shown g c =
+    let r = c.from_residual-in_err-write_one in
+    let p = err_from_is_err_and r.result r.ensures.1 in
+    let names = c.args.names.now in
+    let heads = c.args.heads.now in
+    rw (p.1, p.2)
+    (shows_then (Unit {0}) (Unit {0}) (IsGoneIn names heads) (late_gone_in names heads) c.in_err-write_one.field-0.0
+    c.loop-index.invariant.made c.in_err-write_one.ensures.shown)
+
+pub returns-in_err-finish-clause-shown : goal.returns-in_err-finish-clause-shown
+returns-in_err-finish-clause-shown g c =
+    let r = c.from_residual-in_err-finish in
+    let p = err_from_is_err_and r.result r.ensures.1 in
+    rw (p.1, p.2)
+    (shows_write (Unit {0}) (IsGoneIn c.args.names.now c.args.heads.now) c.in_err-finish.field-0.0 c.in_err-finish.ensures.only
+    (adds_then (λ added history. Unit {0}) c.loop-index.invariant.made c.in_err-finish.ensures.last (λ a b history x y. tt)))
+
+pub returns-clause-shown : goal.returns-clause-shown
+returns-clause-shown g c =
+    shows_ok (IsGoneIn c.args.names.now c.args.heads.now) (tt {0})
+    (adds_then (λ added history. Unit {0}) c.loop-index.invariant.made c.in_ok-finish.ensures.last (λ a b history x y. tt))

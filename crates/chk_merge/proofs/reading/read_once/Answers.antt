@@ -7,6 +7,7 @@ use Rattle.chk_site.specs.Site.{bytes_given, LastFailed}
 use Rattle.chk_site.proofs.Runs.{adds_as, ran}
 use Rattle.chk_replace.proofs.CallSteps.{ends_last}
 use Rattle.chk_merge.proofs.RunReads.{run_given, run_missing, run_short, not_run, read_stays, unsaid, run_own, run_asks}
+use Rattle.chk_heads.proofs.Showing.{read_gave, read_missing, read_short, gave_bytes, gave_none, gave_nothing}
 use Rattle.chk_merge.proofs.reading.read_once.Goals as goal
 
 pub returns-in-Ok : goal.returns-in-Ok
@@ -19,6 +20,7 @@ returns-in-Ok g c =
     let told = c.in-Ok.ensures.told in
     record {
       raw = run_given who name at max c.in-Ok.bytes told;
+      shown = gave_bytes name at max c.in-Ok.bytes (read_gave who name at max c.in-Ok.bytes told);
       stays = λ other. read_stays who name at max given (bytes_given c.in-Ok.bytes) other refl
           (λ added history calls. ran given (λ e. cc) calls) told;
       own = λ is. run_own who name at max given is told;
@@ -37,6 +39,7 @@ returns-in-Err-Missing g c =
     rw c.new.ensures
     (record {
       raw = run_missing who name at max told;
+      shown = gave_none name at max (read_missing who name at max told);
       stays = λ other. read_stays who name at max (Err Missing) (Refused Missing) other refl
           (λ added history calls. ran (Err Missing) (λ e. cc) calls) told;
       own = λ is. run_own who name at max (Err Missing) is told;
@@ -56,6 +59,7 @@ returns-in-Err-Short g c =
     rw c.new-in-Err-Short.ensures
     (record {
       raw = run_short who name at max size told;
+      shown = gave_bytes name at max [] (read_short who name at max size told);
       stays = λ other.
           read_stays who name at max (Err (Short size)) (Refused (Short size)) other refl
           (λ added history calls. ran (Err (Short size)) (λ e. cc) calls) told;
@@ -74,6 +78,7 @@ returns-in-Err-Failed g c =
     let told = rw c.in-Err-Failed.field-0-is at c.in-Err-Failed.ensures.told in
     record {
       raw = not_run name at max (Outside Read) told;
+      shown = gave_nothing name at max (Outside Read) told;
       stays = λ other file. unsaid other file told;
       own = λ is. run_own who name at max (Err Failed) is told;
       pieces = run_asks who name at max (Err Failed) c.requires told;
@@ -92,6 +97,7 @@ returns-in-Err-NoMemory g c =
     let told = rw c.in-Err-NoMemory.field-0-is at c.in-Err-NoMemory.ensures.told in
     record {
       raw = not_run name at max no_memory told;
+      shown = gave_nothing name at max no_memory told;
       stays = λ other file. unsaid other file told;
       own = λ is. run_own who name at max (Err NoMemory) is told;
       pieces = run_asks who name at max (Err NoMemory) c.requires told;

@@ -1,4 +1,4 @@
-use Rattle.std.proofs.Common.{ℕ, List, Err, Ok, sym, ap, subst, ◌∙◌, ◌++◌, arith, ◌≤◌}
+use Rattle.std.proofs.Common.{ℕ, ◌<◌, length, List, Err, Ok, sym, ap, subst, ◌∙◌, ◌++◌, arith, ◌≤◌}
 use Rattle.std.proofs.lemmas.Result.{err_from_is_err_and}
 use Rattle.chk_site.specs.declared.acts.OutsideFault.TheVariants.{NoMemory as no_memory}
 use Rattle.chk_site.specs.Site.{Adds, LastFailed, OutsideCause}
@@ -9,11 +9,15 @@ use Rattle.chk_site.proofs.Leads.{leads_then}
 use Rattle.chk_world.specs.JobSteps.{IsOf, ReadsFile, SparesFile}
 use Rattle.chk_heads.specs.Pieces.{AsksInPieces}
 use Rattle.chk_merge.specs.Spans.{HasRun}
-use Rattle.chk_merge.proofs.RunReads.{two_runs, not_run, unsaid, every_then, last_behind, none_failed}
+use Rattle.chk_merge.proofs.RunReads.{two_runs, short_run, not_run, unsaid, every_then, last_behind, none_failed}
+use Rattle.chk_merge.proofs.Causes.{run_once, run_ended, run_twice, run_failed}
 use Rattle.chk_merge.proofs.reading.read_run.Goals as goal
 
 pub returns-then-size-le-PIECE-clause-raw : goal.returns-then-size-le-PIECE-clause-raw
 returns-then-size-le-PIECE-clause-raw g c = λ file small. c.read_once.ensures.raw file
+
+pub returns-then-size-le-PIECE-clause-shown : goal.returns-then-size-le-PIECE-clause-shown
+returns-then-size-le-PIECE-clause-shown g c = run_once c.args.name.now c.args.at c.args.size c.read_once.result c.read_once.ensures.shown
 
 pub returns-in_err-bytes : goal.returns-in_err-bytes
 returns-in_err-bytes g c =
@@ -22,6 +26,7 @@ returns-in_err-bytes g c =
     rw (p.1, p.2)
     (record {
       raw = λ file small. e.raw file;
+      shown = run_failed c.args.name.now c.args.at c.args.size c.in_err-bytes.field-0.0 e.pieces;
       stays = e.stays;
       own = e.own;
       pieces = e.pieces;
@@ -40,6 +45,7 @@ returns-in_err-rest g c =
     (record {
       raw = λ file small. not_run c.args.name.now c.args.at c.args.size c.in_err-rest.field-0.0
           pieces file;
+      shown = run_failed c.args.name.now c.args.at c.args.size c.in_err-rest.field-0.0 pieces;
       stays = λ other file. unsaid other file pieces;
       own = λ is. every_then (IsOf ReadsFile) (a.own is) (b.own is);
       pieces = pieces;
@@ -60,6 +66,7 @@ returns-in_err-push_all g c =
     rw (p.1, p.2)
     (record {
       raw = λ file small. not_run c.args.name.now c.args.at c.args.size no_memory pieces file;
+      shown = run_failed c.args.name.now c.args.at c.args.size no_memory pieces;
       stays = λ other file. unsaid other file pieces;
       own = λ is. every_then (IsOf ReadsFile) (a.own is) (b.own is);
       pieces = pieces;
@@ -99,3 +106,26 @@ returns-clause-last g c =
     adds_as (LastFailed {T = List ℕ} (Ok c.push_all.new.self))
     (every_then AsksInPieces c.in_ok-bytes.ensures.pieces c.in_ok-rest.ensures.pieces)
     (λ added history x. tt)
+
+pub returns-clause-shown : goal.returns-clause-shown
+returns-clause-shown g c =
+    let first = c.in_ok-bytes.bytes in
+    run_twice c.args.name.now c.args.at c.saturating_add-behind.result c.args.size first c.in_ok-rest.rest c.push_all.new.self
+    (c.in_ok-push_all.ensures.ok ∙ ap (λ rest. first ++ rest) c.as_slice.ensures)
+    (let e = c.if-len.false in let d = c.len.ensures in let z : 1048576 ≤ length first = omega arith in z)
+    c.saturating_add-behind.ensures c.in_ok-bytes.ensures.shown c.in_ok-rest.ensures.shown
+
+-- less came than was asked for
+pub returns-then-len-clause-raw : goal.returns-then-len-clause-raw
+returns-then-len-clause-raw g c = λ file small.
+    let first = c.in_ok-bytes.bytes in
+    let more : 1048576 ≤ c.args.size = let e = c.if-size-le-PIECE.false in omega arith in
+    let short : length first < 1048576 = let e = c.if-len.true in let d = c.len.ensures in omega arith in
+    short_run c.args.name.now c.args.at c.args.size first file more short (c.in_ok-bytes.ensures.raw file)
+
+pub returns-then-len-clause-shown : goal.returns-then-len-clause-shown
+returns-then-len-clause-shown g c =
+    let first = c.in_ok-bytes.bytes in
+    let more : 1048576 ≤ c.args.size = let e = c.if-size-le-PIECE.false in omega arith in
+    let short : length first < 1048576 = let e = c.if-len.true in let d = c.len.ensures in omega arith in
+    run_ended c.args.name.now c.args.at 1048576 c.args.size first more short c.in_ok-bytes.ensures.shown

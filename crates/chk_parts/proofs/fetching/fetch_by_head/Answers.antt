@@ -9,6 +9,9 @@ use Rattle.chk_plan.specs.Passes.{head_in}
 use Rattle.chk_merge.specs.ReadBack.{CanRead, HasRead}
 use Rattle.chk_parts.specs.Fetching.{head_file}
 use Rattle.chk_parts.proofs.Fetches.{fetched}
+use Rattle.chk_heads.specs.Order.{no_head}
+use Rattle.chk_site.proofs.Runs.{adds_none}
+use Rattle.chk_merge.proofs.Causes.{at_place, shows_one}
 use Rattle.chk_parts.proofs.fetching.fetch_by_head.Goals as goal
 
 pub returns-in-Some-clause-raw : goal.returns-in-Some-clause-raw
@@ -28,3 +31,14 @@ returns-in-Some-clause-raw g c v d sound is =
 
 pub returns-in-None-clause-stays : goal.returns-in-None-clause-stays
 returns-in-None-clause-stays g c other file = leads_none (g.S.Site.told c.args.site.now) (λ h k. tt)
+
+pub returns-in-Some-clause-shown : goal.returns-in-Some-clause-shown
+returns-in-Some-clause-shown g c =
+    let files = c.args.files.now in
+    let heads = c.args.heads.now in
+    shows_one files heads c.as_str.result.now (head_in heads c.args.index) (at_place heads c.args.index no_head c.requires.index)
+    (c.as_str.ensures.text ∙ (c.in-Some.ensures.lookup.3.1 [] ∙ ap (λ (x : Head). slice_index_or files x.file []) c.requires.head))
+    c.fetch_by_head.result c.fetch_by_head.ensures.shown
+
+pub returns-in-None-clause-shown : goal.returns-in-None-clause-shown
+returns-in-None-clause-shown g c = adds_none _ _ (λ history. tt)

@@ -15,6 +15,8 @@ use Rattle.chk_heads.specs.Gathered.{Gathered}
 use Rattle.chk_heads.specs.Heads.{Head}
 use Rattle.chk_heads.specs.Pieces.{AsksInPieces}
 use Rattle.chk_heads.specs.declared.fault.JobFault.TheVariants.{NoMemory}
+use Rattle.chk_heads.specs.ShownHeads.{ShowAll}
+use Rattle.chk_heads.proofs.Stretches.{all_begin, all_step, all_refused, all_unshown, all_end}
 use Rattle.chk_heads.proofs.Gathering.{every_then, no_failure}
 use Rattle.chk_merge.specs.Segments.{HasFiles, SparesFiles}
 use Rattle.chk_merge.proofs.AllGathered.{HasHeads as HeadsSoFar, none_gathered, one_more, bad_one, not_all, all_gathered as gathered_so}
@@ -38,6 +40,8 @@ loop-name-init g c = record {
       (none_gathered chunk_limit c.args.names.now held (g.S.Site.told c.args.site.now));
   own = adds_none (g.S.Site.told c.args.site.now) (Every (IsOf ReadsFile)) (λ history. tt);
   pieces = adds_none (g.S.Site.told c.args.site.now) (Every AsksInPieces) (λ history. tt);
+  shown = subst (λ r. Adds (g.S.Site.told c.args.site.now) (g.S.Site.told c.args.site.now) (ShowAll chunk_limit 0 [] r)) (sym c.new-heads.ensures)
+      (all_begin chunk_limit (g.S.Site.told c.args.site.now));
   number = refl;
   count = refl;
 }
@@ -83,6 +87,31 @@ returns-in_err-gather-clause-raw g c held settled =
     c.gather.new.self l.file size (l.invariant.raw_so_far held settled)
     (c.in_err-gather.ensures.own c.requires) c.in_err-gather.field-0.0
     (c.in_err-gather.ensures.raw (held w) (settled w (l.name-index, c.loop-name-test.true, same)).1))
+
+pub returns-in_err-gather-clause-shown : goal.returns-in_err-gather-clause-shown
+returns-in_err-gather-clause-shown g c =
+    let p = err_from_is_err_and c.from_residual.result c.from_residual.ensures.1 in
+    let names = c.args.names.now in
+    let l = c.loop-name in
+    let w = c.as_str.result.now in
+    let same : slice_index_or names l.name-index w ≡ w =
+    subst (λ x. slice_index_or names l.name-index x ≡ x) (sym c.as_str.ensures.text) (sym c.name-item.is) in
+    rw (p.1, p.2)
+    (all_refused chunk_limit l.file names w l.heads c.gather.new.self c.in_err-gather.field-0.0 (l.name-index, c.loop-name-test.true, same)
+    l.invariant.pieces c.in_err-gather.ensures.shown)
+
+pub returns-in_err-file-clause-shown : goal.returns-in_err-file-clause-shown
+returns-in_err-file-clause-shown g c =
+    let p = err_from_is_err_and c.from_residual-in_err-file.result c.from_residual-in_err-file.ensures.1 in
+    rw (p.1, p.2, c.in_err-file.ensures.err)
+    (all_unshown chunk_limit c.args.names.now (every_then AsksInPieces c.loop-name.invariant.pieces c.in_ok-gather.ensures.pieces))
+
+pub returns-clause-shown : goal.returns-clause-shown
+returns-clause-shown g c =
+    let names = c.args.names.now in
+    all_end chunk_limit names c.loop-name.heads
+    (subst (λ ns. Adds (g.S.Site.told c.args.site.now) (g.S.Site.told c.loop-name.site) (ShowAll chunk_limit 0 ns c.loop-name.heads))
+    (take_all c.loop-name.name-index names c.loop-name-test.false) c.loop-name.invariant.shown)
 
 pub returns-in_err-gather-clause-own : goal.returns-in_err-gather-clause-own
 returns-in_err-gather-clause-own g c =
@@ -188,6 +217,12 @@ loop-name-preserved g c = record {
   own = every_then (IsOf ReadsFile) c.loop-name.invariant.own
       (c.in_ok-gather.ensures.own c.requires);
   pieces = every_then AsksInPieces c.loop-name.invariant.pieces c.in_ok-gather.ensures.pieces;
+  shown =
+      let l = c.loop-name in
+      let w = c.as_str.result.now in
+      all_step chunk_limit l.file c.in_ok-gather.field-0 c.args.names.now l.name-index w l.heads c.gather.new.self c.loop-name-test.true
+      (subst (λ x. slice_index_or c.args.names.now l.name-index x ≡ x) (sym c.as_str.ensures.text) (sym c.name-item.is))
+      l.invariant.number l.invariant.shown c.in_ok-gather.ensures.shown;
   number = c.in_ok-file.ensures.ok ∙ ap (λ n. n + 1) c.loop-name.invariant.number;
   count = c.in_ok-gather.ensures.cause ∙ c.loop-name.invariant.count;
 }

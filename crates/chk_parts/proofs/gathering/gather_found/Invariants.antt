@@ -10,6 +10,7 @@ use Rattle.chk_world.specs.Places.{As}
 use Rattle.chk_world.specs.Sight.{job, Sight}
 use Rattle.chk_world.specs.JobSteps.{IsOf, ReadsFile}
 use Rattle.chk_heads.specs.Pieces.{AsksInPieces}
+use Rattle.chk_heads.specs.ShownHeads.{ShowAll}
 use Rattle.chk_parts.specs.Gathering.{AreSound}
 use Rattle.chk_parts.proofs.OneFile.{Knows}
 use Rattle.chk_parts.proofs.AllFiles.{HasHeads}
@@ -26,6 +27,7 @@ invariant-loop-name g l = record {
       (HeadsSoFar chunk_limit l.names held (take l.name-index l.names) l.heads));
   own : Adds (g.S.Site.told l.fn.site) (g.S.Site.told l.site) (Every (IsOf ReadsFile));
   pieces : Adds (g.S.Site.told l.fn.site) (g.S.Site.told l.site) (Every AsksInPieces);
+  shown : Adds (g.S.Site.told l.fn.site) (g.S.Site.told l.site) (ShowAll chunk_limit 0 (take l.name-index l.names) l.heads);
   number : l.file ≡ l.name-index;
   count : g.S.Site.fault_count l.site ≡ g.S.Site.fault_count l.fn.site;
 }

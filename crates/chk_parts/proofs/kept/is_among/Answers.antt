@@ -12,6 +12,9 @@ use Rattle.chk_parts.proofs.AllFiles.{fails_later}
 use Rattle.chk_parts.proofs.Among.{record_at, among_more, among_found, among_fails, among_none}
 use Rattle.chk_parts.proofs.CutLists.{no_cut}
 use Rattle.chk_parts.proofs.ManyFiles.{fetch_all}
+use Rattle.chk_heads.proofs.Causes.{shows_then, shows_ok}
+use Rattle.chk_merge.proofs.Causes.{late_gone_in}
+use Rattle.chk_merge.specs.Gone.{IsGoneIn}
 use Rattle.chk_parts.proofs.kept.is_among.Goals as goal
 
 pub returns-in_err-fetch-clause-raw : goal.returns-in_err-fetch-clause-raw
@@ -94,3 +97,17 @@ returns-clause-raw g c v cs records =
     let l = c.loop-cut in
     among_none v c.args.files.now c.args.heads.now cs records c.args.known.now c.args.value.now l.cut-index
     (CanFetchAll v c.args.files.now c.args.reader.now) l.reader c.loop-cut-test.false (l.invariant.raw v cs records)
+
+pub returns-in_err-fetch-clause-shown : goal.returns-in_err-fetch-clause-shown
+returns-in_err-fetch-clause-shown g c =
+    let p = err_from_is_err_and c.from_residual.result c.from_residual.ensures.1 in
+    let files = c.args.files.now in
+    let heads = c.args.heads.now in
+    rw (p.1, p.2)
+    (shows_then Bool (Unit {0}) (IsGoneIn files heads) (late_gone_in files heads) c.in_err-fetch.field-0.0 c.loop-cut.invariant.pieces
+    c.in_err-fetch.ensures.shown)
+
+pub returns-then-are_same-clause-shown : goal.returns-then-are_same-clause-shown
+returns-then-are_same-clause-shown g c =
+    shows_ok (IsGoneIn c.args.files.now c.args.heads.now) true
+    (every_then AsksInPieces c.loop-cut.invariant.pieces c.fetch.ensures.pieces)

@@ -1,4 +1,4 @@
-use Rattle.std.specs.Prelude.{slice_index_or}
+use Rattle.std.specs.Prelude.{Bool, slice_index_or}
 use Rattle.std.proofs.lemmas.Result.{err_from_is_err_and}
 use Rattle.chk_world.specs.JobSteps.{IsOf, ReadsFile}
 use Rattle.chk_heads.specs.Pieces.{AsksInPieces}
@@ -7,6 +7,9 @@ use Rattle.chk_parts.specs.Cuts.{no_chunk}
 use Rattle.chk_parts.proofs.StepKinds.{fails_behind}
 use Rattle.chk_parts.proofs.Among.{record_at, found_fails, found_then}
 use Rattle.chk_parts.proofs.ManyFiles.{fetch_all}
+use Rattle.chk_heads.proofs.Causes.{shows_first, shows_behind}
+use Rattle.chk_merge.proofs.Causes.{late_gone_in}
+use Rattle.chk_merge.specs.Gone.{IsGoneIn}
 use Rattle.chk_parts.proofs.kept.is_found.Goals as goal
 
 pub returns-in_err-fetch-clause-raw : goal.returns-in_err-fetch-clause-raw
@@ -44,3 +47,15 @@ returns-clause-pieces g c = every_then AsksInPieces c.fetch.ensures.pieces c.is_
 
 pub returns-clause-last : goal.returns-clause-last
 returns-clause-last g c = fails_behind c.is_among.result c.fetch.ensures.own c.is_among.ensures.last
+
+pub returns-in_err-fetch-clause-shown : goal.returns-in_err-fetch-clause-shown
+returns-in_err-fetch-clause-shown g c =
+    let p = err_from_is_err_and c.from_residual.result c.from_residual.ensures.1 in
+    rw (p.1, p.2)
+    (shows_first Bool (Unit {0}) (IsGoneIn c.args.files.now c.args.heads.now) c.in_err-fetch.field-0.0 c.in_err-fetch.ensures.shown)
+
+pub returns-clause-shown : goal.returns-clause-shown
+returns-clause-shown g c =
+    let files = c.args.files.now in
+    let heads = c.args.heads.now in
+    shows_behind (IsGoneIn files heads) (late_gone_in files heads) c.is_among.result c.fetch.ensures.own c.is_among.ensures.shown

@@ -21,6 +21,10 @@ use Rattle.chk_parts.proofs.AllFiles.{fails_later}
 use Rattle.chk_parts.proofs.CutLists.{no_cut, nothing_windows}
 use Rattle.chk_parts.proofs.PastKept.{slice_is, group_low, whole_more, more_low, sift_ends, sift_on, sift_fails, sift_full, Sifted}
 use Rattle.chk_parts.proofs.Sifting.{sift_begins}
+use Rattle.chk_site.specs.declared.acts.OutsideFault.TheVariants.{NoMemory as no_memory}
+use Rattle.chk_heads.proofs.Causes.{shows_then, shows_outside}
+use Rattle.chk_merge.proofs.Causes.{late_gone_in}
+use Rattle.chk_merge.specs.Gone.{IsGoneIn}
 use Rattle.chk_parts.proofs.kept.sift.Goals as goal
 
 pub loop-place-init : goal.loop-place-init
@@ -162,3 +166,19 @@ returns-clause-raw g c v cs records o =
     let l = c.loop-place in
     sift_ends v c.args.files.now c.args.heads.now cs records c.args.past.now c.requires.whole o l.old l.new l.cuts l.place
     l.group c.loop-place-test.false (l.invariant.raw v cs records o)
+
+pub returns-in_err-found-clause-shown : goal.returns-in_err-found-clause-shown
+returns-in_err-found-clause-shown g c =
+    let p = err_from_is_err_and c.from_residual.result c.from_residual.ensures.1 in
+    let files = c.args.files.now in
+    let heads = c.args.heads.now in
+    rw (p.1, p.2)
+    (shows_then (List Cut) Bool (IsGoneIn files heads) (late_gone_in files heads) c.in_err-found.field-0.0 c.loop-place.invariant.pieces
+    c.in_err-found.ensures.shown)
+
+pub returns-in_err-push_new-clause-shown : goal.returns-in_err-push_new-clause-shown
+returns-in_err-push_new-clause-shown g c =
+    let p = err_from_is_err_and c.from_residual-in_err-push_new.result c.from_residual-in_err-push_new.ensures.1 in
+    rw (p.1, p.2)
+    (shows_outside (List Cut) (IsGoneIn c.args.files.now c.args.heads.now) no_memory
+    (every_then AsksInPieces c.loop-place.invariant.pieces c.is_found.ensures.pieces))

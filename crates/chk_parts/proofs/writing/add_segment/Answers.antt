@@ -15,6 +15,9 @@ use Rattle.chk_parts.proofs.ForArchive.{writes_it}
 use Rattle.chk_parts.proofs.OneSegment.{begun_so, not_begun}
 use Rattle.chk_parts.proofs.StepKinds.{as_kind, no_reads, writes_no_reads, fails_behind}
 use Rattle.chk_parts.proofs.WholeSegments.{archive_folder, write_fails, all_written, entered}
+use Rattle.chk_heads.proofs.Causes.{shows_then}
+use Rattle.chk_merge.proofs.Causes.{late_gone_in, shows_begun, shows_written}
+use Rattle.chk_merge.specs.Gone.{IsGoneIn}
 use Rattle.chk_parts.proofs.writing.add_segment.Goals as goal
 
 pub begin_segment-requires : goal.begin_segment-requires
@@ -131,3 +134,28 @@ returns-clause-last g c =
     (no_reads (WritesTo (segment_name (codes "archive") (book_view c.args.book.now).next))
     (writes_no_reads (segment_name (codes "archive") (book_view c.args.book.now).next))
     (c.begin_segment.ensures.own c.requires.job)) c.write_cuts.ensures.pieces) c.finish_for.ensures.last
+
+pub returns-in_err-segmenter-clause-shown : goal.returns-in_err-segmenter-clause-shown
+returns-in_err-segmenter-clause-shown g c =
+    let p = err_from_is_err_and c.from_residual.result c.from_residual.ensures.1 in
+    rw (p.1, p.2)
+    (shows_begun (Unit {0}) (IsGoneIn c.args.files.now c.args.heads.now) c.in_err-segmenter.field-0.0 c.in_err-segmenter.ensures.only
+    (c.begin_segment.ensures.own c.requires.job))
+
+pub returns-in_err-write_cuts-clause-shown : goal.returns-in_err-write_cuts-clause-shown
+returns-in_err-write_cuts-clause-shown g c =
+    let p = err_from_is_err_and c.from_residual-in_err-write_cuts.result c.from_residual-in_err-write_cuts.ensures.1 in
+    let files = c.args.files.now in
+    let heads = c.args.heads.now in
+    rw (p.1, p.2)
+    (shows_then (Unit {0}) (Unit {0}) (IsGoneIn files heads) (late_gone_in files heads) c.in_err-write_cuts.field-0.0
+    (c.begin_segment.ensures.own c.requires.job) c.in_err-write_cuts.ensures.shown)
+
+pub returns-clause-shown : goal.returns-clause-shown
+returns-clause-shown g c =
+    shows_written (IsGoneIn c.args.files.now c.args.heads.now) c.finish_for.result c.finish_for.ensures.only
+    (fails_behind c.finish_for.result
+    (every_then AsksInPieces
+    (no_reads (WritesTo (segment_name (codes "archive") (book_view c.args.book.now).next))
+    (writes_no_reads (segment_name (codes "archive") (book_view c.args.book.now).next))
+    (c.begin_segment.ensures.own c.requires.job)) c.write_cuts.ensures.pieces) c.finish_for.ensures.last)

@@ -11,6 +11,9 @@ use Rattle.chk_parts.specs.Cuts.{cut_chunk}
 use Rattle.chk_parts.proofs.CutLists.{no_cut}
 use Rattle.chk_parts.proofs.ShelfWrites.{not_fetched, is_fetched, cut_done}
 use Rattle.chk_parts.proofs.StepKinds.{as_kind, no_reads, writes_no_reads, fails_behind}
+use Rattle.chk_heads.proofs.Causes.{shows_first}
+use Rattle.chk_merge.proofs.Causes.{shows_written}
+use Rattle.chk_merge.specs.Gone.{IsGoneIn}
 use Rattle.chk_parts.proofs.writing.write_cut.Goals as goal
 
 pub returns-in_err-fetch-clause-told : goal.returns-in_err-fetch-clause-told
@@ -59,3 +62,14 @@ returns-clause-pieces g c =
 
 pub returns-clause-last : goal.returns-clause-last
 returns-clause-last g c = fails_behind c.put_cut.result c.fetch.ensures.own c.put_cut.ensures.last
+
+pub returns-clause-shown : goal.returns-clause-shown
+returns-clause-shown g c =
+    shows_written (IsGoneIn c.args.files.now c.args.heads.now) c.put_cut.result c.put_cut.ensures.only
+    (fails_behind c.put_cut.result c.fetch.ensures.own c.put_cut.ensures.last)
+
+pub returns-in_err-fetch-clause-shown : goal.returns-in_err-fetch-clause-shown
+returns-in_err-fetch-clause-shown g c =
+    let p = err_from_is_err_and c.from_residual.result c.from_residual.ensures.1 in
+    rw (p.1, p.2)
+    (shows_first (Unit {0}) (Unit {0}) (IsGoneIn c.args.files.now c.args.heads.now) c.in_err-fetch.field-0.0 c.in_err-fetch.ensures.shown)

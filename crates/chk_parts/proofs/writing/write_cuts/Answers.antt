@@ -15,6 +15,9 @@ use Rattle.chk_parts.specs.Cuts.{cut_chunks}
 use Rattle.chk_parts.specs.Writes.{IsFree, IsSoFar}
 use Rattle.chk_parts.proofs.CutLists.{cut_more, cut_fails}
 use Rattle.chk_parts.proofs.AllFiles.{fails_later}
+use Rattle.chk_heads.proofs.Causes.{shows_then}
+use Rattle.chk_merge.proofs.Causes.{late_gone_in}
+use Rattle.chk_merge.specs.Gone.{IsGoneIn}
 use Rattle.chk_parts.proofs.writing.write_cuts.Goals as goal
 
 pub loop-place-init : goal.loop-place-init
@@ -111,3 +114,12 @@ returns-clause-told g c stamped v cs records free =
           (take_all l.place c.args.cuts.now c.loop-place-test.false) (k.alive runs).0;
     })
     (l.invariant.so_far stamped v cs records free)
+
+pub returns-in_err-write_cut-clause-shown : goal.returns-in_err-write_cut-clause-shown
+returns-in_err-write_cut-clause-shown g c =
+    let p = err_from_is_err_and c.from_residual.result c.from_residual.ensures.1 in
+    let files = c.args.files.now in
+    let heads = c.args.heads.now in
+    rw (p.1, p.2)
+    (shows_then (Unit {0}) (Unit {0}) (IsGoneIn files heads) (late_gone_in files heads) c.in_err-write_cut.field-0.0
+    c.loop-place.invariant.pieces c.in_err-write_cut.ensures.shown)

@@ -7,7 +7,7 @@ use Rattle.chk_salvage.specs.Feeding.{fed_place}
 use Rattle.chk_world.specs.JobSteps.{IsOf, ReadsFile}
 use Rattle.chk_heads.specs.declared.fault.JobFault.TheVariants.{NoMemory}
 use Rattle.chk_heads.specs.Pieces.{AsksInPieces}
-use Rattle.chk_heads.proofs.Gathering.{begins, goes_on, further, room, room_fed, is_spoiled, is_ended, some_ends, every_then, not_gathered, fails_then, no_failure, ends_no_call}
+use Rattle.chk_heads.proofs.Gathering.{begins, goes_on, further, room, room_fed, is_spoiled, shows_spoiled, is_ended, shows_ended, shows_nothing, some_ends, every_then, not_gathered, fails_then, no_failure, ends_no_call}
 use Rattle.chk_heads.proofs.gather.Heads.gather_file.Goals as goal
 
 pub loop-pieces-init : goal.loop-pieces-init
@@ -25,7 +25,49 @@ returns-in-Some-clause-raw g c =
     c.loop-pieces.pieces c.loop-pieces.at c.args.self.now c.loop-pieces.self c.loop-pieces.invariant.so c.take_fed.new.self c.in-Some.place c.damaged.result
     (rw c.in-Some.is at c.in_ok-place.ensures.ok) c.damaged.ensures
 
+pub returns-in-Some-clause-shown : goal.returns-in-Some-clause-shown
+returns-in-Some-clause-shown g c =
+    shows_spoiled (g.S.Site.told c.args.site.now) (g.S.Site.told c.loop-pieces.site) c.args.name.now c.args.most c.args.file
+    c.loop-pieces.pieces c.loop-pieces.at c.args.self.now c.loop-pieces.self c.loop-pieces.invariant.so c.take_fed.new.self c.in-Some.place c.damaged.result
+    (rw c.in-Some.is at c.in_ok-place.ensures.ok) c.damaged.ensures
+
 -- no memory for the heads of what was fed
+pub returns-in_err-place-clause-shown : goal.returns-in_err-place-clause-shown
+returns-in_err-place-clause-shown g c =
+    let p = err_from_is_err_and c.from_residual.result c.from_residual.ensures.1 in
+    rw (p.1, p.2)
+    (shows_nothing (Unit {0}) c.args.name.now c.args.most c.args.file c.args.self.now c.take_fed.new.self no_memory c.loop-pieces.invariant.pieces)
+
+pub returns-in_err-last-clause-shown : goal.returns-in_err-last-clause-shown
+returns-in_err-last-clause-shown g c =
+    let p = err_from_is_err_and c.from_residual-in_err-last.result c.from_residual-in_err-last.ensures.1 in
+    rw (p.1, p.2)
+    (shows_nothing (Unit {0}) c.args.name.now c.args.most c.args.file c.args.self.now c.take_ahead.new.self no_memory c.loop-pieces.invariant.pieces)
+
+pub returns-in_err-piece-clause-shown : goal.returns-in_err-piece-clause-shown
+returns-in_err-piece-clause-shown g c =
+    let p = err_from_is_err_and c.from_residual-in_err-piece.result c.from_residual-in_err-piece.ensures.1 in
+    rw (p.1, p.2)
+    (shows_nothing (Unit {0}) c.args.name.now c.args.most c.args.file c.args.self.now c.take_ahead.new.self c.in_err-piece.field-0.0
+    (every_then AsksInPieces c.loop-pieces.invariant.pieces c.in_err-piece.ensures.pieces))
+
+pub returns-in_err-feed_from-clause-shown : goal.returns-in_err-feed_from-clause-shown
+returns-in_err-feed_from-clause-shown g c =
+    let p = err_from_is_err_and c.from_residual-in_err-feed_from.result c.from_residual-in_err-feed_from.ensures.1 in
+    rw (p.1, p.2)
+    (shows_nothing (Unit {0}) c.args.name.now c.args.most c.args.file c.args.self.now c.take_ahead.new.self no_memory
+    (every_then AsksInPieces c.loop-pieces.invariant.pieces c.in_ok-piece.ensures.pieces))
+
+pub returns-then-len-eq0-clause-shown : goal.returns-then-len-eq0-clause-shown
+returns-then-len-eq0-clause-shown g c =
+    shows_ended (g.S.Site.told c.args.site.now) (g.S.Site.told c.loop-pieces.site) (g.S.Site.told c.read_bytes.new.site)
+    c.args.name.now c.args.most c.args.file
+    c.loop-pieces.pieces c.loop-pieces.at c.args.self.now c.loop-pieces.self c.loop-pieces.invariant.so c.take_fed.new.pieces c.take_fed.new.self
+    c.take_ahead.new.self c.take_fed.ensures.limit (rw c.in_default.is at c.in_ok-place.ensures.ok) c.in_ok-last.last c.in_ok-last.ensures.ok
+    c.amount.result c.in_ok-piece.piece (rw c.unwrap_or-from.ensures at c.in_ok-piece.ensures.raw)
+    (rw c.unwrap_or-from.ensures at c.in_ok-piece.ensures.shown)
+    c.ended.result (sym c.len.ensures ∙ c.if-len-eq0.true) c.amount.ensures.some c.ended.ensures
+
 pub returns-in_err-place-clause-raw : goal.returns-in_err-place-clause-raw
 returns-in_err-place-clause-raw g c =
     let p = err_from_is_err_and c.from_residual.result c.from_residual.ensures.1 in
@@ -100,6 +142,7 @@ returns-then-len-eq0-clause-raw g c =
     c.loop-pieces.pieces c.loop-pieces.at c.args.self.now c.loop-pieces.self c.loop-pieces.invariant.so c.take_fed.new.pieces c.take_fed.new.self
     c.take_ahead.new.self c.take_fed.ensures.limit (rw c.in_default.is at c.in_ok-place.ensures.ok) c.in_ok-last.last c.in_ok-last.ensures.ok
     c.amount.result c.in_ok-piece.piece (rw c.unwrap_or-from.ensures at c.in_ok-piece.ensures.raw)
+    (rw c.unwrap_or-from.ensures at c.in_ok-piece.ensures.shown)
     c.ended.result (sym c.len.ensures ∙ c.if-len-eq0.true) c.amount.ensures.some c.ended.ensures
 
 pub returns-then-len-eq0-clause-own : goal.returns-then-len-eq0-clause-own
@@ -117,6 +160,7 @@ returns-then-len-eq0-clause-last g c =
     c.loop-pieces.pieces c.loop-pieces.at c.args.self.now c.loop-pieces.self c.loop-pieces.invariant.so c.take_fed.new.pieces c.take_fed.new.self
     c.take_ahead.new.self c.take_fed.ensures.limit (rw c.in_default.is at c.in_ok-place.ensures.ok) c.in_ok-last.last c.in_ok-last.ensures.ok
     c.amount.result c.in_ok-piece.piece (rw c.unwrap_or-from.ensures at c.in_ok-piece.ensures.raw)
+    (rw c.unwrap_or-from.ensures at c.in_ok-piece.ensures.shown)
     c.ended.result c.ended.ensures))
     (every_then AsksInPieces c.loop-pieces.invariant.pieces c.in_ok-piece.ensures.pieces)
 
@@ -129,6 +173,7 @@ feed_from-requires-clause-room g c =
     c.loop-pieces.pieces c.loop-pieces.at c.args.self.now c.loop-pieces.self c.loop-pieces.invariant.so c.take_fed.new.pieces c.take_fed.new.self
     c.take_ahead.new.self c.take_fed.ensures.limit (rw c.in_default.is at c.in_ok-place.ensures.ok) c.in_ok-last.last c.in_ok-last.ensures.ok
     c.amount.result c.in_ok-piece.piece (rw c.unwrap_or-from.ensures at c.in_ok-piece.ensures.raw)
+    (rw c.unwrap_or-from.ensures at c.in_ok-piece.ensures.shown)
     (rw c.unwrap_or-from.ensures at c.in_ok-piece.ensures.few))
 
 -- no memory for it
@@ -159,7 +204,8 @@ loop-pieces-smaller g c =
     c.args.name.now c.args.most c.args.file
     c.loop-pieces.pieces c.loop-pieces.at c.args.self.now c.loop-pieces.self c.loop-pieces.invariant.so c.take_fed.new.pieces c.take_fed.new.self
     c.take_ahead.new.self c.take_fed.ensures.limit (rw c.in_default.is at c.in_ok-place.ensures.ok) c.in_ok-last.last c.in_ok-last.ensures.ok
-    c.amount.result c.in_ok-piece.piece (rw c.unwrap_or-from.ensures at c.in_ok-piece.ensures.raw) some in
+    c.amount.result c.in_ok-piece.piece (rw c.unwrap_or-from.ensures at c.in_ok-piece.ensures.raw)
+    (rw c.unwrap_or-from.ensures at c.in_ok-piece.ensures.shown) some in
     omega (arith, on, c.unwrap_or-from.ensures, c.len-in-loop-pieces.ensures, c.loop-pieces.invariant.so.small)
 
 pub loop-pieces-preserved : goal.loop-pieces-preserved
@@ -171,6 +217,7 @@ loop-pieces-preserved g c =
     c.loop-pieces.pieces c.loop-pieces.at c.args.self.now c.loop-pieces.self c.loop-pieces.invariant.so c.take_fed.new.pieces c.take_fed.new.self
     c.take_ahead.new.self c.take_fed.ensures.limit (rw c.in_default.is at c.in_ok-place.ensures.ok) c.in_ok-last.last c.in_ok-last.ensures.ok
     c.amount.result c.in_ok-piece.piece (rw c.unwrap_or-from.ensures at c.in_ok-piece.ensures.raw)
+    (rw c.unwrap_or-from.ensures at c.in_ok-piece.ensures.shown)
     (rw c.unwrap_or-from.ensures at c.in_ok-piece.ensures.few) in
     record {
       so = goes_on (g.S.Site.told c.args.site.now) (g.S.Site.told c.loop-pieces.site) (g.S.Site.told c.read_bytes.new.site)
@@ -178,6 +225,7 @@ loop-pieces-preserved g c =
           c.loop-pieces.pieces c.loop-pieces.at c.args.self.now c.loop-pieces.self c.loop-pieces.invariant.so c.take_fed.new.pieces c.take_fed.new.self
           c.take_ahead.new.self c.take_fed.ensures.limit (rw c.in_default.is at c.in_ok-place.ensures.ok) c.in_ok-last.last c.in_ok-last.ensures.ok
           c.amount.result c.in_ok-piece.piece (rw c.unwrap_or-from.ensures at c.in_ok-piece.ensures.raw)
+          (rw c.unwrap_or-from.ensures at c.in_ok-piece.ensures.shown)
           c.feed_from.new.pieces (c.unwrap_or-from.result + c.len-in-loop-pieces.result) some (rw c.as_slice.ensures at c.in_ok-feed_from.ensures.ok)
           (omega (arith, c.unwrap_or-from.ensures, c.len-in-loop-pieces.ensures)) (omega (arith, low, c.unwrap_or-from.ensures, c.len-in-loop-pieces.ensures))
           c.feed_from.ensures.limit;

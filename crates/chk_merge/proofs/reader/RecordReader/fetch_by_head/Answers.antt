@@ -7,6 +7,7 @@ use Rattle.chk_world.specs.JobSteps.{SparesFile}
 use Rattle.chk_heads.specs.Order.{no_head}
 use Rattle.chk_merge.specs.ReadBack.{CanRead, HasRead, IsHeld}
 use Rattle.chk_merge.proofs.Fetching.{found_there}
+use Rattle.chk_site.proofs.Runs.{adds_none}
 use Rattle.chk_merge.proofs.reader.RecordReader.fetch_by_head.Goals as goal
 
 pub returns-then-find-clause-raw : goal.returns-then-find-clause-raw
@@ -27,3 +28,6 @@ returns-clause-raw g c = λ most f few small.
 
 pub returns-then-find-clause-stays : goal.returns-then-find-clause-stays
 returns-then-find-clause-stays g c = λ other file. leads_none _ (λ h x. x)
+
+pub returns-then-find-clause-shown : goal.returns-then-find-clause-shown
+returns-then-find-clause-shown g c = adds_none _ _ (λ history. tt)

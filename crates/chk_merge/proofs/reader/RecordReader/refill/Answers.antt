@@ -6,12 +6,15 @@ use Rattle.chk_site.specs.Runs.{anyhow, Leads}
 use Rattle.chk_replace.specs.Load.{Has}
 use Rattle.chk_world.specs.JobSteps.{SparesFile}
 use Rattle.chk_heads.specs.Heads.{Head}
-use Rattle.chk_heads.specs.Order.{no_head}
+use Rattle.chk_heads.specs.Order.{lent_head, no_head}
 use Rattle.chk_merge.specs.Spans.{room_of}
 use Rattle.chk_merge.specs.ReadBack.{IsHeld, NotHeld, HasWindow}
 use Rattle.chk_merge.proofs.RunReads.{unsaid}
 use Rattle.chk_heads.proofs.Gathering.{no_failure, damage_no_call}
 use Rattle.chk_merge.proofs.Fetching.{found_then, never_then, not_fetched, no_damage, failed_read, failed_last, failed_cause, damage_of, damage_read, damage_cause}
+use Rattle.chk_heads.proofs.Causes.{shows_ok, shows_outside}
+use Rattle.chk_merge.specs.Gone.{IsGoneOf}
+use Rattle.chk_merge.proofs.Causes.{not_again}
 use Rattle.chk_merge.proofs.reader.RecordReader.refill.Goals as goal
 
 pub returns-in_err-load-clause-stays : goal.returns-in_err-load-clause-stays
@@ -103,3 +106,24 @@ returns-clause-cause g c =
     damage_cause c.args.name.now c.get-head.result.at c.damaged.result c.damaged.ensures
     (g.S.Site.fault_count c.args.site.now) (g.S.Site.fault_count c.load.new.site)
     c.in_ok-load.ensures.cause
+
+pub returns-in_err-load-clause-shown : goal.returns-in_err-load-clause-shown
+returns-in_err-load-clause-shown g c =
+    let p = err_from_is_err_and c.from_residual.result c.from_residual.ensures.1 in
+    rw (p.1, p.2)
+    (shows_outside (Unit {0}) (IsGoneOf c.args.name.now (slice_index_or c.args.heads.now c.args.index no_head)) c.in_err-load.field-0.0
+    c.in_err-load.ensures.pieces)
+
+pub returns-then-find-clause-shown : goal.returns-then-find-clause-shown
+returns-then-find-clause-shown g c =
+    shows_ok (IsGoneOf c.args.name.now (slice_index_or c.args.heads.now c.args.index no_head)) (tt {0}) c.in_ok-load.ensures.pieces
+
+pub returns-clause-shown : goal.returns-clause-shown
+returns-clause-shown g c =
+    let run = c.run_of-run.result in
+    let same = c.get-head.ensures.head in
+    not_again c.args.name.now (slice_index_or c.args.heads.now c.args.index no_head) (lent_head c.get-head.result) run.from run.size c.load.new.self
+    c.find.new.self c.damaged.result same
+    (subst (λ (h : Head). run.from ≤ h.at) same c.run_of-run.ensures.behind)
+    (subst (λ (h : Head). h.at - run.from + room_of h ≤ run.size) same c.run_of-run.ensures.enough)
+    (subst (λ h. NotHeld h c.load.new.self c.find.new.self) same c.if-find.ensures) c.damaged.ensures c.in_ok-load.ensures.shown

@@ -7,6 +7,9 @@ use Rattle.chk_parts.specs.Kept.{value_in}
 use Rattle.chk_parts.proofs.StepKinds.{fails_behind}
 use Rattle.chk_parts.proofs.CutLists.{no_cut}
 use Rattle.chk_parts.proofs.Shelved.{shelved_then, shelved_fails}
+use Rattle.chk_heads.proofs.Causes.{shows_behind}
+use Rattle.chk_merge.proofs.Causes.{late_gone_in}
+use Rattle.chk_merge.specs.Gone.{IsGoneIn}
 use Rattle.chk_parts.proofs.shelf.Shelf.fetch.Goals as goal
 
 pub returns-in_err-fill-clause-raw : goal.returns-in_err-fill-clause-raw
@@ -30,3 +33,9 @@ returns-clause-pieces g c = every_then AsksInPieces c.fill.ensures.pieces c.show
 
 pub returns-clause-last : goal.returns-clause-last
 returns-clause-last g c = fails_behind c.show.result c.fill.ensures.own c.show.ensures.last
+
+pub returns-clause-shown : goal.returns-clause-shown
+returns-clause-shown g c =
+    let files = c.args.files.now in
+    let heads = c.args.heads.now in
+    shows_behind (IsGoneIn files heads) (late_gone_in files heads) c.show.result c.fill.ensures.own c.show.ensures.shown

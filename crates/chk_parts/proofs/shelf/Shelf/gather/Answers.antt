@@ -5,6 +5,9 @@ use Rattle.chk_world.specs.JobSteps.{IsOf, ReadsFile}
 use Rattle.chk_heads.specs.Pieces.{AsksInPieces}
 use Rattle.chk_heads.proofs.Gathering.{every_then}
 use Rattle.chk_parts.proofs.AllFiles.{fails_later}
+use Rattle.chk_heads.proofs.Causes.{shows_then}
+use Rattle.chk_merge.proofs.Causes.{late_gone_in}
+use Rattle.chk_merge.specs.Gone.{IsGoneIn}
 use Rattle.chk_parts.proofs.shelf.Shelf.gather.Goals as goal
 
 pub returns-in_err-gather_one-clause-raw : goal.returns-in_err-gather_one-clause-raw
@@ -36,3 +39,12 @@ loop-number-preserved g c =
       pieces = every_then AsksInPieces l.invariant.pieces c.gather_one.ensures.pieces;
       count = c.in_ok-gather_one.ensures.cause ∙ l.invariant.count;
     }
+
+pub returns-in_err-gather_one-clause-shown : goal.returns-in_err-gather_one-clause-shown
+returns-in_err-gather_one-clause-shown g c =
+    let p = err_from_is_err_and c.from_residual.result c.from_residual.ensures.1 in
+    let files = c.args.files.now in
+    let heads = c.args.heads.now in
+    rw (p.1, p.2)
+    (shows_then (Unit {0}) (Unit {0}) (IsGoneIn files heads) (late_gone_in files heads) c.in_err-gather_one.field-0.0
+    c.loop-number.invariant.pieces c.in_err-gather_one.ensures.shown)

@@ -15,7 +15,7 @@ use Rattle.chk_plan.specs.declared.spans.Known.{Known}
 use Rattle.chk_plan.specs.Starts.{first_start, start_known, HasStart, HaveStarts, IsOtherStart}
 use Rattle.chk_plan.proofs.Parts.{stream_self}
 use Rattle.chk_parts.specs.Records.{IsRecordOf, AreRecords}
-use Rattle.chk_parts.specs.Starts.{start_in, HasStartIn, HaveStartsIn, IsOtherStartIn, ToldOtherStart}
+use Rattle.chk_archive.specs.Starts.{start_in, HasStartIn, HaveStartsIn, IsOtherStartIn, ToldOtherStart}
 use Rattle.chk_merge.specs.Archives.{IsHeadFault}
 
 module _ (start : Stream → ℕ) where

@@ -5,9 +5,9 @@ use Rattle.chk_book.specs.Views.{end_view}
 use Rattle.chk_book.specs.Books.{end_in}
 use Rattle.chk_plan.specs.Passes.{begins_at}
 use Rattle.chk_plan.specs.Starts.{start_known}
-use Rattle.chk_parts.specs.Starts.{start_in}
-use Rattle.chk_parts.proofs.KnownEnds.{as_end, ends_known, starts_known}
-use Rattle.chk_parts.proofs.known.known_ends.Goals as goal
+use Rattle.chk_archive.specs.Starts.{start_in}
+use Rattle.chk_archive.proofs.KnownEnds.{as_end, ends_known, starts_known}
+use Rattle.chk_archive.proofs.known.known_ends.Goals as goal
 
 pub returns-clause-ends : goal.returns-clause-ends
 returns-clause-ends c h =

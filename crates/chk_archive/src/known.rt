@@ -6,7 +6,7 @@ ghost use Rattle.chk_heads.specs.Heads.{Head};
 ghost use Rattle.chk_plan.specs.Passes.{begins_at};
 ghost use Rattle.chk_plan.specs.Starts.{start_known};
 ghost use Rattle.chk_book.specs.Books.{book_view, end_in};
-ghost use Rattle.chk_parts.specs.Starts.{start_in};
+ghost use Rattle.chk_archive.specs.Starts.{start_in};
 
 use chk_book::Book;
 use chk_bytes::NoMemory;
@@ -14,7 +14,7 @@ use chk_plan::Known;
 use std::alloc::Global;
 
 /// The starts and ends of a book's streams, in its order. It costs the number of streams.
-pub fn known_ends(alloc: Global, book: &Book) -> Result<Vec<Known<'_>>, NoMemory>
+pub(crate) fn known_ends(alloc: Global, book: &Book) -> Result<Vec<Known<'_>>, NoMemory>
     ensures ends { IfOk result (λ known. (h : Head) → begins_at known.items h ≡ end_in h.key.start (book_view book.now).ends h.key.stream) }
     ensures starts { IfOk result (λ known. (n : ℕ) (s : Stream) → start_known n known.items s ≡ start_in n (book_view book.now).ends s) }
 {

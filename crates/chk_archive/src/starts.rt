@@ -4,7 +4,7 @@ ghost use Rattle.std.specs.Prelude.{◌≡◌, List, OnOk, IfErr};
 ghost use Rattle.chk_heads.specs.Heads.{Head};
 ghost use Rattle.chk_heads.specs.Order.{in_head_order};
 ghost use Rattle.chk_book.specs.Books.{book_view};
-ghost use Rattle.chk_parts.specs.Starts.{HaveStartsIn, ToldOtherStart};
+ghost use Rattle.chk_archive.specs.Starts.{HaveStartsIn, ToldOtherStart};
 
 use crate::known::known_ends;
 use chk_book::Book;
@@ -18,7 +18,7 @@ use std::alloc::Global;
 /// the stream, that of the stream's first head. `Damaged` comes exactly where one hasn't, with the name of the first such head's
 /// file and its record's place. A head of none of the files counts as want of memory. It costs a pass over the heads, a search
 /// among the book's streams for each stream, and a row for each of the book's streams.
-pub fn check_starts(
+pub(crate) fn check_starts(
     alloc: Global,
     book: &Book,
     files: &[Word],

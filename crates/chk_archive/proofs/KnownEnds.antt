@@ -10,7 +10,7 @@ use Rattle.chk_book.specs.Books.{end_in}
 use Rattle.chk_plan.specs.declared.spans.Known.{Known}
 use Rattle.chk_plan.specs.Passes.{begins_at, known_stream}
 use Rattle.chk_plan.specs.Starts.{start_known}
-use Rattle.chk_parts.specs.Starts.{start_in}
+use Rattle.chk_archive.specs.Starts.{start_in}
 
 -- an end as it is known
 abbrev pub as_end : Known → End

@@ -1,0 +1,117 @@
+-- What the own reads of a demux run show, from call to call.
+use Rattle.std.proofs.Common.{◌≡◌, ℕ, List, ◌++◌, codes, Option, Ok, Err, Result, subst}
+use Rattle.std.specs.Prelude.{IfErr}
+use Rattle.chk_site.specs.declared.acts.OutsideFault.{OutsideFault}
+use Rattle.chk_site.specs.declared.acts.OutsideFault.TheVariants.{Outside as site_failed, NoMemory as no_memory}
+use Rattle.chk_site.specs.History.{History}
+use Rattle.chk_site.specs.Site.{Adds}
+use Rattle.chk_site.proofs.Runs.{adds_then, adds_as}
+use Rattle.chk_world.specs.Books.{Book}
+use Rattle.chk_heads.specs.declared.fault.JobFault.{JobFault}
+use Rattle.chk_heads.specs.declared.fault.JobFault.TheVariants.{Outside, Damaged, Spent, NoMemory}
+use Rattle.chk_heads.specs.Heads.{Head}
+use Rattle.chk_heads.specs.Order.{in_head_order}
+use Rattle.chk_heads.specs.Faults.{job_fault, IsOfBegin}
+use Rattle.chk_heads.specs.Causes.{Cause, Shows}
+use Rattle.chk_heads.proofs.Showing.{within_all, within_late, within_early}
+use Rattle.chk_book.specs.Books.{book_view}
+use Rattle.chk_book.specs.Loaded.{ShowsBook}
+use Rattle.chk_book.specs.declared.book.Book.{Book as Struct}
+use Rattle.chk_merge.specs.Segments.{names_of}
+use Rattle.chk_merge.specs.Gone.{IsGoneIn, IsUnsound, gone, ShowsSound}
+use Rattle.chk_merge.proofs.Causes.{late_gone_in, late_unsound}
+use Rattle.chk_demux.specs.declared.beginning.Books.{Books}
+use Rattle.chk_demux.specs.Shown.{ShowsArchive, IsDamage, no_archive, no_records, unsound, ShowsBegun}
+
+-- no damage is told
+pub shows_opened : {T : Type 0} (C : Cause) (result : Result T JobFault) {P : History → History → Type 0} {old new : Option History}
+    → IfErr result IsOfBegin → Adds old new P → Adds old new (Shows C result)
+shows_opened C result of told = adds_as (Shows C result) told (λ added history x. said C result of added history)
+  where
+    said : {T : Type 0} (C : Cause) (result : Result T JobFault) → IfErr result IsOfBegin → (added history : History) → Shows C result added history
+    said C (Ok value) of added history = tt
+    said C (Err (Outside call)) of added history = tt
+    said C (Err (Damaged name at)) of added history = absurd of
+    said C (Err (Spent n)) of added history = tt
+    said C (Err NoMemory) of added history = tt
+
+-- a record isn't found again
+pub gone_behind : {T : Type 0} (folder : List ℕ) (b : Book) (ns : List (List ℕ)) (heads : List Head) (result : Result T JobFault)
+    {old mid new : Option History} → ns ≡ names_of folder b → Adds old mid (ShowsSound folder b (Ok heads))
+    → Adds mid new (Shows (IsGoneIn ns heads) result) → Adds old new (Shows (IsUnsound folder b) result)
+gone_behind folder b ns heads result n so_far told =
+    adds_then (Shows (IsUnsound folder b) result) so_far told (λ a d history x y. said result a d history x y)
+  where
+    said : {T : Type 0} (result : Result T JobFault) (a d history : History) → ShowsSound folder b (Ok heads) a history
+        → Shows (IsGoneIn ns heads) result d (a ++ history) → Shows (IsUnsound folder b) result (d ++ a) history
+    said (Ok value) a d history x y = tt
+    said (Err (Outside call)) a d history x y = tt
+    said (Err (Damaged name at)) a d history x y =
+        gone x.0 (within_early _ d a history (within_all _ a history x.2))
+        (subst (λ ws. IsGoneIn ws (in_head_order x.0) name at (d ++ a) history) n
+        (subst (λ hs. IsGoneIn ns hs name at (d ++ a) history) x.1 (late_gone_in ns heads name at d a history y)))
+    said (Err (Spent k)) a d history x y = tt
+    said (Err NoMemory) a d history x y = tt
+
+-- ---- the books
+
+pub start_fails : (fault : OutsideFault) {P : History → History → Type 0} {old new : Option History} → Adds old new P
+    → Adds old new (ShowsBegun (Err (job_fault fault)))
+start_fails (site_failed call) told = adds_as (ShowsBegun (Err (Outside call))) told (λ added history x. tt)
+start_fails no_memory told = adds_as (ShowsBegun (Err NoMemory)) told (λ added history x. tt)
+
+pub archive_fails : (fault : JobFault) {P : History → History → Type 0} {old mid new : Option History} → Adds old mid P
+    → Adds mid new (ShowsBook (codes "archive") (Err fault)) → Adds old new (ShowsBegun (Err fault))
+archive_fails fault so_far told = adds_then (ShowsBegun (Err fault)) so_far told (λ a b history x y. said fault a b history y)
+  where
+    said : (fault : JobFault) (a b history : History) → ShowsBook (codes "archive") (Err fault) b (a ++ history) → ShowsBegun (Err fault) (b ++ a) history
+    said (Outside call) a b history y = tt
+    said (Damaged name at) a b history y = no_archive (within_late _ b a history (within_all _ b (a ++ history) y))
+    said (Spent n) a b history y = tt
+    said NoMemory a b history y = tt
+
+pub records_fail : (fault : JobFault) {P Q : History → History → Type 0} {old mid next new : Option History} → Adds old mid P → Adds mid next Q
+    → Adds next new (ShowsBook (codes "demux") (Err fault)) → Adds old new (ShowsBegun (Err fault))
+records_fail fault so_far loaded told =
+    adds_then (ShowsBegun (Err fault)) (adds_then (λ added history. Unit {0}) so_far loaded (λ a b history x y. tt)) told
+    (λ a b history x y. said fault a b history y)
+  where
+    said : (fault : JobFault) (a b history : History) → ShowsBook (codes "demux") (Err fault) b (a ++ history) → ShowsBegun (Err fault) (b ++ a) history
+    said (Outside call) a b history y = tt
+    said (Damaged name at) a b history y = no_records (within_late _ b a history (within_all _ b (a ++ history) y))
+    said (Spent n) a b history y = tt
+    said NoMemory a b history y = tt
+
+pub both_shown : (archive demux : Struct) {P Q : History → History → Type 0} {old mid next new : Option History} → Adds old mid P
+    → Adds mid next (ShowsBook (codes "archive") (Ok (book_view archive))) → Adds next new Q
+    → Adds old new (ShowsBegun (Ok (record { archive = archive; demux = demux })))
+both_shown archive demux so_far loaded told =
+    adds_then (ShowsBegun (Ok (record { archive = archive; demux = demux })))
+    (adds_then (ShowsArchive (book_view archive)) so_far loaded
+    (λ a b history x y. within_late _ b a history (within_all _ b (a ++ history) y))) told
+    (λ a b history x y. within_early _ b a history x)
+
+-- ---- the run
+
+pub damage_begun : (T : Type 0) (fault : JobFault) {old new : Option History} → Adds old new (ShowsBegun (Err fault))
+    → Adds old new (Shows {T = T} IsDamage (Err fault))
+damage_begun T fault told = adds_as (Shows {T = T} IsDamage (Err fault)) told (λ added history x. said fault added history x)
+  where
+    said : (fault : JobFault) (added history : History) → ShowsBegun (Err fault) added history → Shows {T = T} IsDamage (Err fault) added history
+    said (Outside call) added history x = tt
+    said (Damaged name at) added history x = x
+    said (Spent n) added history x = tt
+    said NoMemory added history x = tt
+
+pub damage_behind : {T : Type 0} (b : Books) (result : Result T JobFault) {old mid new : Option History} → Adds old mid (ShowsBegun (Ok b))
+    → Adds mid new (Shows (IsUnsound (codes "archive") (book_view b.archive)) result) → Adds old new (Shows IsDamage result)
+damage_behind b result so_far told = adds_then (Shows IsDamage result) so_far told (λ a d history x y. said result a d history x y)
+  where
+    said : {T : Type 0} (result : Result T JobFault) (a d history : History) → ShowsBegun (Ok b) a history
+        → Shows (IsUnsound (codes "archive") (book_view b.archive)) result d (a ++ history) → Shows IsDamage result (d ++ a) history
+    said (Ok value) a d history x y = tt
+    said (Err (Outside call)) a d history x y = tt
+    said (Err (Damaged name at)) a d history x y =
+        unsound (book_view b.archive) (within_early _ d a history x) (late_unsound (codes "archive") (book_view b.archive) name at d a history y)
+    said (Err (Spent n)) a d history x y = tt
+    said (Err NoMemory) a d history x y = tt
