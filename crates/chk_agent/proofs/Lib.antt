@@ -16,6 +16,7 @@ pub mod SteppingEnds
 pub mod SteppingExits
 pub mod FillingOrder
 pub mod FillingOn
+pub mod FillingPieces
 pub mod StartingLists
 pub mod AddingFound
 pub mod StartingLooks

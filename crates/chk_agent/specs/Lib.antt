@@ -7,6 +7,7 @@ pub mod Fields
 pub mod Fills
 pub mod Fits
 pub mod Loading
+pub mod Pieces
 pub mod Replies
 pub mod Settles
 pub mod Starts

@@ -1,5 +1,5 @@
 -- The posts and polls of an agent, and a turn: fill, post and its reply, poll and its reply, settle.
-use Rattle.std.specs.Prelude.{◌≡◌, ℕ, true, false, Option, Result, Ok, Err}
+use Rattle.std.specs.Prelude.{◌≡◌, ℕ, Bool, true, false, Option, Result, Ok, Err}
 use Rattle.chk_bytes.specs.declared.NoMemory.{NoMemory as Wanting}
 use Rattle.chk_site.specs.History.{History}
 use Rattle.chk_delivery.specs.declared.answers.Posted.{Posted}
@@ -16,6 +16,7 @@ use Rattle.chk_agent.specs.declared.answers.Filled.{Filled}
 use Rattle.chk_agent.specs.declared.answers.Settled.{Settled}
 use Rattle.chk_agent.specs.States.{State, process, to_step}
 use Rattle.chk_agent.specs.Fills.{IsFilled}
+use Rattle.chk_agent.specs.Pieces.{gave_piece}
 use Rattle.chk_agent.specs.Settles.{IsSettled}
 
 abbrev pub with_delivery : State → Delivery → State
@@ -77,8 +78,8 @@ pub data PollsIfDue (now : ℕ) (s : State) : Result (Unit {0}) AgentFault → S
 
 -- ---- a turn
 
--- Each part in its order, up to one that was refused.
-pub data IsTurned (now : ℕ) (s : State) : Result (Unit {0}) AgentFault → State → Option History → Option History → Type 0 where
+-- Each part in its order, up to one that was refused. It answers whether a step gave as much as one may.
+pub data IsTurned (now : ℕ) (s : State) : Result Bool AgentFault → State → Option History → Option History → Type 0 where
   unfilled : {t : State} {old new : Option History} (fault : AgentFault)
       → IsFilled (to_step s) 0 s (Err fault) t old new → IsTurned now s (Err fault) t old new
   unposted : {t u : State} {old mid new : Option History} (filled : Filled) (fault : AgentFault)
@@ -100,4 +101,4 @@ pub data IsTurned (now : ℕ) (s : State) : Result (Unit {0}) AgentFault → Sta
       (settled : Settled)
       → IsFilled (to_step s) 0 s (Ok filled) t old mid → Posts t (Ok posted) u mid next
       → GetsPostReply now u (Ok answered) v next then → PollsIfDue now v (Ok tt) w then late
-      → IsSettled now w (Ok settled) x late new → IsTurned now s (Ok tt) x old new
+      → IsSettled now w (Ok settled) x late new → IsTurned now s (Ok (gave_piece s t)) x old new

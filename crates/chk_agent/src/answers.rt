@@ -2,15 +2,19 @@
 
 use chk_bytes::Bytes;
 use chk_site::Call;
+use thiserror::Error;
 
 /// Why a call of an agent didn't finish.
-#[derive(Clone, Copy)]
+#[derive(Clone, Copy, Debug, Error)]
 pub enum AgentFault {
     /// The checkpoint isn't in its grammar from this byte on. A start alone answers it.
+    #[error("the checkpoint is damaged at {at}")]
     Damaged { at: u64 },
     /// This call of the outside failed.
+    #[error("the call {call:?} failed")]
     Outside { call: Call },
     /// There was no memory.
+    #[error("out of memory")]
     NoMemory,
 }
 

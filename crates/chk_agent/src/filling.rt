@@ -1,6 +1,6 @@
 //! A fill: each adaptor that is still read is stepped once.
 
-ghost use Rattle.std.specs.Prelude.{◌≡◌, ◌≤◌, ◌<◌, ℕ, List, length, slice_get, true};
+ghost use Rattle.std.specs.Prelude.{◌≡◌, ◌≤◌, ◌<◌, ◌==◌, ◌||◌, ℕ, List, IfOk, length, slice_get, true};
 ghost use Rattle.chk_site.specs.Site.{Adds};
 ghost use Rattle.chk_site.specs.Runs.{Leads};
 ghost use Rattle.chk_world.specs.Places.{As};
@@ -8,6 +8,7 @@ ghost use Rattle.chk_agent.specs.States.{process, to_step, is_read_on};
 ghost use Rattle.chk_agent.specs.Facts.{Matches};
 ghost use Rattle.chk_agent.specs.Faults.{AgentCause, FailsLast, IsUndamaged};
 ghost use Rattle.chk_agent.specs.Fills.{IsFilled, filled_by};
+ghost use Rattle.chk_agent.specs.Pieces.{gave_piece};
 ghost use Rattle.chk_agent.specs.Within.{first_of, number_at, held_by};
 
 use crate::agent::Agent;
@@ -15,6 +16,9 @@ use crate::answers::{AgentFault, Filled, Stepped};
 use chk_reading::Phase;
 use chk_site::Site;
 use std::alloc::Global;
+
+// The most bytes that a step gives.
+const PIECE: u64 = 131_072;
 
 impl Agent {
     /// Steps each adaptor that is still read at most once, in order of adding, beginning behind the
@@ -30,6 +34,27 @@ impl Agent {
         ensures last { Adds (S.told site.old) (S.told site.new) (FailsLast result) }
         ensures cause { AgentCause (S.fault_count site.old) (S.fault_count site.new) result }
     {
+        let mut full = false;
+        self.fill_noting(alloc, site, &mut full)
+    }
+
+    /// The same. `full` becomes true where a step gives 131,072 bytes, the most that one may.
+    pub(crate) fn fill_noting<S: Site>(
+        &mut self,
+        alloc: Global,
+        site: &mut S,
+        full: &mut bool,
+    ) -> Result<Filled, AgentFault>
+        requires ready { self.old.ready ≡ true }
+        ensures state { IsFilled (to_step self.old) 0 self.old result self.new
+            (S.told site.old) (S.told site.new) }
+        ensures full { IfOk result (λ _. full.new ≡ (full.old || gave_piece self.old self.new)) }
+        ensures told { (stamped : List (List ℕ)) → Adds (S.told site.old) (S.told site.new)
+            (Leads (As stamped (process self.old)) (Matches stamped self.old) (Matches stamped self.new)) }
+        ensures undamaged { IsUndamaged result }
+        ensures last { Adds (S.told site.old) (S.told site.new) (FailsLast result) }
+        ensures cause { AgentCause (S.fault_count site.old) (S.fault_count site.new) result }
+    {
         let before = self.delivery.used();
         let count = self.adaptors.as_slice().len() as u32;
         let first = first_of(self.last, count);
@@ -37,7 +62,7 @@ impl Agent {
             let adaptor = number_at(count, first, place);
             if self.is_read_on(adaptor) {
                 match self.step(alloc, site, adaptor)? {
-                    Stepped::Read { .. } => {}
+                    Stepped::Read { bytes } => note(full, bytes),
                     Stepped::AtEnd => {}
                     Stepped::Held { used } => return Ok(held(used, used - before)),
                     Stepped::Shrank { had, is } => {
@@ -58,6 +83,15 @@ impl Agent {
             self.adaptors[adaptor as usize].phase(),
             Phase::Live | Phase::Stopping { end: None }
         )
+    }
+}
+
+// A step gave so many bytes.
+fn note(full: &mut bool, bytes: u64)
+    ensures { full.new ≡ (full.old || bytes == 131072) }
+{
+    if bytes == PIECE {
+        *full = true;
     }
 }
 

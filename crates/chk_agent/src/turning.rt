@@ -19,8 +19,13 @@ use std::alloc::Global;
 
 impl Agent {
     /// `fill`, `post`, `post_reply`, then where a poll is due `poll` and `poll_reply`, then
-    /// `settle`.
-    pub fn turn<S: Site>(&mut self, alloc: Global, site: &mut S, now: u64) -> Result<(), AgentFault>
+    /// `settle`. It answers whether a step gave 131,072 bytes, so that its log may have more.
+    pub fn turn<S: Site>(
+        &mut self,
+        alloc: Global,
+        site: &mut S,
+        now: u64,
+    ) -> Result<bool, AgentFault>
         requires ready { self.old.ready ≡ true }
         ensures state { IsTurned now self.old result self.new (S.told site.old) (S.told site.new) }
         ensures told { (stamped : List (List ℕ)) → Adds (S.told site.old) (S.told site.new)
@@ -30,12 +35,13 @@ impl Agent {
         ensures last { Adds (S.told site.old) (S.told site.new) (FailsLast result) }
         ensures cause { AgentCause (S.fault_count site.old) (S.fault_count site.new) result }
     {
-        let _filled = self.fill(alloc, site)?;
+        let mut full = false;
+        let _filled = self.fill_noting(alloc, site, &mut full)?;
         let _posted = self.post(alloc, site)?;
         let _answered = self.post_reply(alloc, site, now)?;
         self.poll_if_due(alloc, site, now)?;
         let _settled = self.settle(alloc, site, now)?;
-        Ok(())
+        Ok(full)
     }
 
     // Sends a poll where one is due at `now`, and takes the reply to it.

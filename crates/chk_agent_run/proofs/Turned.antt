@@ -1,5 +1,5 @@
 -- A turn of the agent leaves it the same, and ready where it was made.
-use Rattle.std.proofs.Common.{◌≡◌, ℕ, Option, Result, Ok, Err, ◌∙◌, refl, sym}
+use Rattle.std.proofs.Common.{◌≡◌, ℕ, Bool, Option, Result, Ok, Err, ◌∙◌, refl, sym}
 use Rattle.chk_site.specs.declared.acts.Role.TheVariants.{Agent}
 use Rattle.chk_site.specs.declared.acts.Who.{Who}
 use Rattle.chk_site.specs.History.{History}
@@ -23,13 +23,13 @@ settled_source (failed call other writes) = refl
 settled_source (unwritten other writes) = refl
 settled_source wanting = refl
 
-pub turned_same : {now : ℕ} {s t : State} {old new : Option History} → IsTurned now s (Ok tt) t old new → IsSameAgent s t
+pub turned_same : {now : ℕ} {s t : State} {full : Bool} {old new : Option History} → IsTurned now s (Ok full) t old new → IsSameAgent s t
 turned_same {s = s} {t = x} (turned {t = t} {u = u} {v = v} {w = w} filled posted answered settled fills posts replies polls settles) =
     same_then s t x (filled_same fills)
     (same_then t u x (posts_same posts)
     (same_then u v x (replies_same replies) (same_then v w x (due_same polls) (settled_same settles))))
 
-pub turned_source : {now : ℕ} {s t : State} {result : Result (Unit {0}) AgentFault} {old new : Option History}
+pub turned_source : {now : ℕ} {s t : State} {result : Result Bool AgentFault} {old new : Option History}
     → IsTurned now s result t old new → t.source ≡ s.source
 turned_source (unfilled fault fills) = (filled_same fills).source
 turned_source (unposted filled fault fills posts) = (posts_same posts).source ∙ (filled_same fills).source

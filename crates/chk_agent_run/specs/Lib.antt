@@ -6,4 +6,5 @@ pub mod Lent
 pub mod Lines
 pub mod Messages
 pub mod Runs
+pub mod Pauses
 pub mod Turns

@@ -42,8 +42,8 @@ abbrev pub ended_as : Result Ended AgentFault → Result Ended RunFault
 ended_as (Ok ended) = Ok ended
 ended_as (Err fault) = Err (fault_of fault)
 
--- The initial file is read, the agent is started, each line of the file is added, and the turns follow, each with a pause of
--- 200 ms; up to a fault.
+-- The initial file is read, the agent is started, each line of the file is added, and the turns follow, each with its
+-- pause; up to a fault.
 pub data HasRun (who writer : Who) (ring : Turns) (rules : Rules) (work : Work) : Result Ended RunFault → Option History → Option History → Type 0 where
   unread : {old new : Option History} (fault : OutsideFault) → ReadsInitial writer work.initial (Err fault) old new
       → HasRun who writer ring rules work (Err (outside_fault fault)) old new
@@ -56,7 +56,7 @@ pub data HasRun (who writer : Who) (ring : Turns) (rules : Rules) (work : Work) 
   ran : {s t u : State} {old mid next later new : Option History} (text : List ℕ) (result : Result Ended AgentFault)
       → ReadsInitial writer work.initial (Ok text) old mid → IsStarted who ring rules s mid next
       → AreAdded 0 (parts_at 10 text) s (Ok tt) t next later
-      → AreAgentTurns who work.control 200 work.turns t result u later new
+      → AreAgentTurns who work.control work.pause work.turns t result u later new
       → HasRun who writer ring rules work (ended_as result) old new
 
 -- the side of the run: the agent acts by it, and the writer that reads the file

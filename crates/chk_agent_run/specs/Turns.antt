@@ -1,5 +1,5 @@
 -- A turn of an agent that runs: the control messages, the time, the agent's own turn, and a pause.
-use Rattle.std.specs.Prelude.{◌≡◌, ◌⊎◌, ℕ, zero, suc, List, [], ◌∷◌, Option, Some, None, Result, Ok, Err}
+use Rattle.std.specs.Prelude.{◌≡◌, ◌⊎◌, ℕ, zero, suc, Bool, List, [], ◌∷◌, Option, Some, None, Result, Ok, Err}
 use Rattle.chk_bytes.specs.Words.{parts_at}
 use Rattle.chk_site.specs.declared.acts.Who.{Who}
 use Rattle.chk_site.specs.declared.acts.Call.TheVariants.{Answer}
@@ -21,6 +21,7 @@ use Rattle.chk_agent_run.specs.Calls.{Took, Clocked, Paused}
 use Rattle.chk_agent_run.specs.Closing.{capped}
 use Rattle.chk_agent_run.specs.Messages.{IsRead}
 use Rattle.chk_agent_run.specs.Lines.{AreRun}
+use Rattle.chk_agent_run.specs.Pauses.{waits}
 
 -- ---- the control messages
 
@@ -87,8 +88,8 @@ pub data AtDoor (who : Who) (s : State) : Option (List ℕ) → Result Then Agen
 
 -- ---- a turn
 
--- The control messages, the time, the agent's turn at that moment, and a pause of so many milliseconds, up to a fault. The
--- turn is made and waited behind also where a message ended the agent.
+-- The control messages, the time, the agent's turn at that moment, and a pause, up to a fault. The turn is made and waited
+-- behind also where a message ended the agent.
 pub data IsAgentTurn (who : Who) (door : Option (List ℕ)) (pause : ℕ) (s : State)
     : Result Then AgentFault → State → Option History → Option History → Type 0 where
   uncontrolled : {t : State} {old new : Option History} (fault : AgentFault) → AtDoor who s door (Err fault) t old new
@@ -98,12 +99,12 @@ pub data IsAgentTurn (who : Who) (door : Option (List ℕ)) (pause : ℕ) (s : S
   unturned : {t u : State} {old mid next new : Option History} (then : Then) (now : ℕ) (fault : AgentFault)
       → AtDoor who s door (Ok then) t old mid → Clocked who (Ok now) mid next
       → IsTurned now t (Err fault) u next new → IsAgentTurn who door pause s (Err fault) u old new
-  unpaused : {t u : State} {old mid next later new : Option History} (then : Then) (now : ℕ) (fault : AgentFault)
-      → AtDoor who s door (Ok then) t old mid → Clocked who (Ok now) mid next → IsTurned now t (Ok tt) u next later
-      → Paused who pause (Err fault) later new → IsAgentTurn who door pause s (Err fault) u old new
-  turned : {t u : State} {old mid next later new : Option History} (then : Then) (now : ℕ)
-      → AtDoor who s door (Ok then) t old mid → Clocked who (Ok now) mid next → IsTurned now t (Ok tt) u next later
-      → Paused who pause (Ok tt) later new → IsAgentTurn who door pause s (Ok then) u old new
+  unpaused : {t u : State} {old mid next later new : Option History} (then : Then) (now : ℕ) (full : Bool) (fault : AgentFault)
+      → AtDoor who s door (Ok then) t old mid → Clocked who (Ok now) mid next → IsTurned now t (Ok full) u next later
+      → Paused who (waits pause full) (Err fault) later new → IsAgentTurn who door pause s (Err fault) u old new
+  turned : {t u : State} {old mid next later new : Option History} (then : Then) (now : ℕ) (full : Bool)
+      → AtDoor who s door (Ok then) t old mid → Clocked who (Ok now) mid next → IsTurned now t (Ok full) u next later
+      → Paused who (waits pause full) (Ok tt) later new → IsAgentTurn who door pause s (Ok then) u old new
 
 -- the next line, or the end of the agent
 abbrev pub GoesOrEnds : Result Then AgentFault → Type 0

@@ -17,9 +17,6 @@ use chk_bytes::Word;
 use chk_site::{Call, CallFault, Site, Taking, Who};
 use std::alloc::Global;
 
-// How many milliseconds a turn waits at its end.
-const PAUSE: u64 = 200;
-
 // What a call's answer is taken for.
 fn given<T: Drop>(call: Call, answer: Result<T, CallFault>) -> Result<T, AgentFault>
     requires may { MayFail answer }
@@ -90,16 +87,17 @@ pub fn clock<S: Site>(
     given(Call::Clock, answer)
 }
 
-// Waits as long as a turn does at its end.
-pub(crate) fn pause<S: Site>(
+// Waits so many milliseconds.
+pub(crate) fn wait<S: Site>(
     alloc: Global,
     site: &mut S,
     who: &Who,
     agent: &Agent,
+    time: u64,
 ) -> Result<(), AgentFault>
     requires ready { agent.now.ready ≡ true }
     requires who { who.now ≡ process agent.now }
-    ensures made { Paused who.now 200 result (S.told site.old) (S.told site.new) }
+    ensures made { Paused who.now time result (S.told site.old) (S.told site.new) }
     ensures told { (stamped : List (List ℕ)) → Adds (S.told site.old) (S.told site.new)
         (Leads (Talking stamped (process agent.now)) (Matches stamped agent.now) (Matches stamped agent.now)) }
     ensures undamaged { IsUndamaged result }
@@ -107,7 +105,7 @@ pub(crate) fn pause<S: Site>(
     ensures cause { AgentCause (S.fault_count site.old) (S.fault_count site.new) result }
 {
     let _sound = agent.ready();
-    let answer = site.pause(alloc, who, PAUSE);
+    let answer = site.pause(alloc, who, time);
     given(Call::Pause, answer)
 }
 

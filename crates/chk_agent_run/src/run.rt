@@ -33,6 +33,8 @@ pub struct Work {
     pub control: Option<Word>,
     /// How many turns there are at most.
     pub turns: u64,
+    /// How many milliseconds a turn waits behind a step that gave 131,072 bytes; else it is 200.
+    pub pause: u64,
 }
 
 /// Reads the initial file, starts the agent, adds the stream of each line of the file, and makes
@@ -63,6 +65,6 @@ pub fn run_agent<S: Site>(
     let mut agent = Agent::start(alloc, site, who, ring, rules)?;
     add_lines(alloc, site, &mut agent, text.as_slice())?;
     let door = work.control.as_ref();
-    let ended = run_turns(alloc, site, who, &mut agent, door, work.turns)?;
+    let ended = run_turns(alloc, site, who, &mut agent, door, work.pause, work.turns)?;
     Ok(ended)
 }

@@ -8,9 +8,10 @@ ghost use Rattle.chk_agent.specs.States.{process};
 ghost use Rattle.chk_agent.specs.Facts.{Matches};
 ghost use Rattle.chk_agent.specs.Faults.{AgentCause, FailsLast, IsUndamaged};
 ghost use Rattle.chk_agent_run.specs.Lent.{word_of};
+ghost use Rattle.chk_agent_run.specs.Pauses.{waits};
 ghost use Rattle.chk_agent_run.specs.Turns.{IsControlled, AreControlled, AtDoor, IsAgentTurn, AreAgentTurns, GoesOrEnds, behind};
 
-use crate::calls::{answer, clock, pause, take};
+use crate::calls::{answer, clock, take, wait};
 use crate::lines::run_lines;
 use crate::message::read_message;
 use chk_agent::{Agent, AgentFault, Then};
@@ -20,6 +21,9 @@ use std::alloc::Global;
 
 /// The most control messages that a turn takes.
 const MOST_MESSAGES: u32 = 64;
+
+/// How many milliseconds a turn waits at its end, but behind a full piece of a log.
+const PAUSE: u64 = 200;
 
 /// How the turns of an agent ended.
 #[derive(Clone, Copy, Debug, PartialEq, Eq)]
@@ -129,7 +133,8 @@ fn at_door<S: Site>(
 }
 
 /// One turn of the agent that `who` is: it does what the control messages that are at the door ask
-/// for, at most 64, asks for the time, makes the agent's turn at that moment, and waits 200 ms.
+/// for, at most 64, asks for the time, makes the agent's turn at that moment, and waits: `pause`
+/// milliseconds where a step gave 131,072 bytes, so that its log may have more, and else 200.
 /// `End` comes where the last message held an accepted `stopagent`; the turn is made all the same.
 /// A message is held whole, up to 65,536 bytes; a sender that sends byte by byte costs that many
 /// calls.
@@ -139,10 +144,11 @@ pub fn agent_turn<S: Site>(
     who: &Who,
     agent: &mut Agent,
     door: Option<&Word>,
+    pause: u64,
 ) -> Result<Then, AgentFault>
     requires ready { agent.old.ready ≡ true }
     requires who { who.now ≡ process agent.old }
-    ensures turn { IsAgentTurn who.now (word_of door.entry) 200 agent.old result agent.new
+    ensures turn { IsAgentTurn who.now (word_of door.entry) pause agent.old result agent.new
         (S.told site.old) (S.told site.new) }
     ensures told { (stamped : List (List ℕ)) → Adds (S.told site.old) (S.told site.new)
         (Leads (Talking stamped (process agent.old)) (Matches stamped agent.old) (Matches stamped agent.new)) }
@@ -155,9 +161,17 @@ pub fn agent_turn<S: Site>(
 {
     let then = at_door(alloc, site, who, agent, door)?;
     let now = clock(alloc, site, who, agent)?;
-    agent.turn(alloc, site, now)?;
-    pause(alloc, site, who, agent)?;
+    let full = agent.turn(alloc, site, now)?;
+    let time = time_behind(pause, full);
+    wait(alloc, site, who, agent, time)?;
     Ok(then)
+}
+
+// How many milliseconds a turn waits, where `full` says whether a step gave a full piece.
+fn time_behind(pause: u64, full: bool) -> u64
+    ensures { result ≡ waits pause full }
+{
+    if full { pause } else { PAUSE }
 }
 
 // So many turns, or fewer where one ended the agent.
@@ -167,11 +181,12 @@ pub(crate) fn run_turns<S: Site>(
     who: &Who,
     agent: &mut Agent,
     door: Option<&Word>,
+    pause: u64,
     turns: u64,
 ) -> Result<Ended, AgentFault>
     requires ready { agent.old.ready ≡ true }
     requires who { who.now ≡ process agent.old }
-    ensures script { AreAgentTurns who.now (word_of door.entry) 200 turns agent.old result agent.new
+    ensures script { AreAgentTurns who.now (word_of door.entry) pause turns agent.old result agent.new
         (S.told site.old) (S.told site.new) }
     ensures told { (stamped : List (List ℕ)) → Adds (S.told site.old) (S.told site.new)
         (Leads (Talking stamped (process agent.old)) (Matches stamped agent.old) (Matches stamped agent.new)) }
@@ -180,7 +195,7 @@ pub(crate) fn run_turns<S: Site>(
     ensures cause { AgentCause (S.fault_count site.old) (S.fault_count site.new) result }
 {
     for _turn in 0..turns {
-        match agent_turn(alloc, site, who, agent, door)? {
+        match agent_turn(alloc, site, who, agent, door, pause)? {
             Then::End => return Ok(Ended::Stopped),
             _ => {}
         }

@@ -75,13 +75,48 @@ run 1 door - => over
 answers => ![OK add completed; new ID is x|OK close|][x LWFTAdaptor Log /a.log 0 0 live|OK 1 adaptors|OK close|]
 ";
 
+// Two full pieces and a shorter one: a short pause behind a full piece alone.
+const BUSY: &str = "\
+file F add LWFTAdaptor Log /a.log 0|
+swell /a.log 300000
+run 5 - F 0 => over
+pauses => 0 0 200 200 200
+";
+
+// Just a full piece, and one byte less.
+const FULL: &str = "\
+file F add LWFTAdaptor Log /a.log 0|
+swell /a.log 131072
+run 3 - F 7 => over
+pauses => 7 200 200
+";
+
+const LESS: &str = "\
+file F add LWFTAdaptor Log /a.log 0|
+swell /a.log 131071
+run 2 - F 0 => over
+pauses => 200 200
+";
+
+// Two logs at once, of which one has a full piece, beside the specified pause.
+const BUSY_BESIDE: &str = "\
+file F add LWFTAdaptor Log /a.log 0|add LWFTAdaptor Log /b.log 0|
+swell /a.log 131073
+swell /b.log 5
+run 3 - F 1 => over
+pauses => 1 200 200
+swell /a.log 262144
+run 3 - F => over
+pauses => 200 200 200
+";
+
 #[derive(Clone, Copy)]
 struct Row {
     name: &'static str,
     program: &'static str,
 }
 
-const ROWS: [Row; 7] = [
+const ROWS: [Row; 11] = [
     Row {
         name: "plain",
         program: PLAIN,
@@ -109,6 +144,22 @@ const ROWS: [Row; 7] = [
     Row {
         name: "failed answer",
         program: FAILED_ANSWER,
+    },
+    Row {
+        name: "busy",
+        program: BUSY,
+    },
+    Row {
+        name: "just a full piece",
+        program: FULL,
+    },
+    Row {
+        name: "one byte less",
+        program: LESS,
+    },
+    Row {
+        name: "busy beside others",
+        program: BUSY_BESIDE,
     },
 ];
 

@@ -133,6 +133,21 @@ fn count_of(acts: &[Act], name: &str) -> u64 {
     count
 }
 
+// How many milliseconds each pause of the agent had.
+fn pauses_text(alloc: Global, acts: &[Act]) -> Result<String, Fail> {
+    let mut text = String::new(alloc);
+    for act in acts {
+        if act.call == Call::Pause {
+            if !text.as_str().is_empty() {
+                text.push(' ')?;
+            }
+            let number = act.number;
+            text.push_str(format!(in alloc; "{number}")?.as_str())?;
+        }
+    }
+    Ok(text)
+}
+
 // What the agent answered at its door, each answer in brackets; a failed one has a `!` before it.
 fn answers_text(alloc: Global, acts: &[Act]) -> Result<String, Fail> {
     let mut text = String::new(alloc);
@@ -151,12 +166,21 @@ fn answers_text(alloc: Global, acts: &[Act]) -> Result<String, Fail> {
     Ok(text)
 }
 
-// `TURNS DOOR FILE`; `-` stands for no door and for no file.
+// How long the turns of a run wait behind a full piece, where a last word tells it.
+fn pause_of(word: Option<&str>) -> Result<u64, Fail> {
+    match word {
+        Some(word) => Ok(word.parse()?),
+        None => Ok(200),
+    }
+}
+
+// `TURNS DOOR FILE` or `TURNS DOOR FILE PAUSE`; `-` stands for no door and for no file.
 fn work_of(alloc: Global, text: &str) -> Result<Work, Fail> {
     let mut words = text.split(' ');
     let turns = words.next().ok_or("no turns")?.parse()?;
     let control = words.next().ok_or("no door")? == "door";
     let initial = words.next().ok_or("no file")?;
+    let pause = pause_of(words.next())?;
     Ok(Work {
         initial: if initial == "-" {
             None
@@ -169,6 +193,7 @@ fn work_of(alloc: Global, text: &str) -> Result<Work, Fail> {
             None
         },
         turns,
+        pause,
     })
 }
 
@@ -212,6 +237,7 @@ impl Scene {
     fn happens(&mut self, verb: &str, text: &str) -> Result<(), Fail> {
         match verb {
             "grow" => self.writing.grows(self.alloc, text),
+            "swell" => self.writing.swells(self.alloc, text),
             "file" => self.writing.puts(self.alloc, text),
             "message" => self.sends(text),
             "messages" => self.sends_many(text),
@@ -272,6 +298,7 @@ impl Scene {
                 let count = count_of(self.behind(), text);
                 Ok(format!(in self.alloc; "{count}")?)
             }
+            "pauses" => pauses_text(self.alloc, self.behind()),
             "size" => self.size(text),
             "check" => self.shows("agents/h1.check"),
             _ => Err(Fail::from("no such question")),

@@ -52,6 +52,18 @@ impl Writing {
         Ok(())
     }
 
+    // `PATH COUNT`: so many bytes are appended to a log.
+    pub fn swells(&mut self, alloc: Global, text: &str) -> Result<(), Fail> {
+        let (path, count) = text.split_once(' ').ok_or("no count")?;
+        let count: u64 = count.parse()?;
+        let mut bytes = Bytes::new(alloc);
+        for _byte in 0..count {
+            bytes.push_all(b"x")?;
+        }
+        self.others.push(written(alloc, Call::LogAppend, &[path.as_bytes(), bytes.as_slice()])?)?;
+        Ok(())
+    }
+
     // A message with these bytes is sent to the control door, under this number.
     pub fn sends(&mut self, alloc: Global, number: u64, bytes: &[u8]) -> Result<(), Fail> {
         let mut other = written(alloc, Call::Send, &[DOOR.as_bytes(), bytes])?;

@@ -135,9 +135,9 @@ fn then_text(then: Then) -> &'static str {
     }
 }
 
-pub(crate) fn turned(given: Result<(), AgentFault>) -> Told {
+pub(crate) fn turned(given: Result<bool, AgentFault>) -> Told {
     match given {
-        Ok(()) => Told::word("done"),
+        Ok(_) => Told::word("done"),
         Err(fault) => faulted(fault),
     }
 }

@@ -131,7 +131,7 @@ returns-in_err-ended-clause-ran g c =
     })
     (subst (λ (b : List ℕ). AreAdded 0 (parts_at 10 b) c.in_ok-agent.agent (Ok tt) c.add_lines.new.agent
     (g.S.Site.told c.start.new.site) (g.S.Site.told c.add_lines.new.site)) c.as_slice.ensures c.in_ok-add_lines.ensures.script)
-    (subst (λ (o : Option (List ℕ)). AreAgentTurns c.args.who.now o 200 c.args.work.now.turns c.add_lines.new.agent (Err c.in_err-ended.field-0.0)
+    (subst (λ (o : Option (List ℕ)). AreAgentTurns c.args.who.now o c.args.work.now.pause c.args.work.now.turns c.add_lines.new.agent (Err c.in_err-ended.field-0.0)
     c.run_turns.new.agent (g.S.Site.told c.add_lines.new.site) (g.S.Site.told c.run_turns.new.site))
     (word_copied c.as_ref-door.result _ c.as_ref-door.ensures.value) c.in_err-ended.ensures.script))
 
@@ -174,7 +174,7 @@ returns-clause-ran g c =
     })
     (subst (λ (b : List ℕ). AreAdded 0 (parts_at 10 b) c.in_ok-agent.agent (Ok tt) c.add_lines.new.agent
     (g.S.Site.told c.start.new.site) (g.S.Site.told c.add_lines.new.site)) c.as_slice.ensures c.in_ok-add_lines.ensures.script)
-    (subst (λ (o : Option (List ℕ)). AreAgentTurns c.args.who.now o 200 c.args.work.now.turns c.add_lines.new.agent (Ok c.in_ok-ended.ended)
+    (subst (λ (o : Option (List ℕ)). AreAgentTurns c.args.who.now o c.args.work.now.pause c.args.work.now.turns c.add_lines.new.agent (Ok c.in_ok-ended.ended)
     c.run_turns.new.agent (g.S.Site.told c.add_lines.new.site) (g.S.Site.told c.run_turns.new.site))
     (word_copied c.as_ref-door.result _ c.as_ref-door.ensures.value) c.in_ok-ended.ensures.script)
 

@@ -11,7 +11,7 @@ use Rattle.chk_agent_run.proofs.turn.run_turns.Goals as goal
 
 pub loop-turn-init : goal.loop-turn-init
 loop-turn-init g c = record {
-  run = turned_none c.args.who.now (word_of c.args.door) 200 c.args.turns c.args.agent.now (g.S.Site.told c.args.site.now);
+  run = turned_none c.args.who.now (word_of c.args.door) c.args.pause c.args.turns c.args.agent.now (g.S.Site.told c.args.site.now);
   count = omega arith;
 }
 

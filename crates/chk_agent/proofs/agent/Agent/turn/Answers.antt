@@ -1,7 +1,7 @@
-use Rattle.std.proofs.Common.{Err, [], ap, ◌∙◌}
+use Rattle.std.proofs.Common.{Bool, Ok, Err, [], ap, sym, subst, ◌∙◌}
 use Rattle.std.proofs.lemmas.Result.{err_from_is_err_and}
 use Rattle.chk_agent.specs.declared.answers.Settled.{Settled}
-use Rattle.chk_agent.specs.Turns.{unfilled, unposted, unanswered, unpolled, unsettled, turned}
+use Rattle.chk_agent.specs.Turns.{IsTurned, unfilled, unposted, unanswered, unpolled, unsettled, turned}
 use Rattle.chk_agent.proofs.TurningFaults.{is_wanting, last_wanting, last_same, last_then, last_ok}
 use Rattle.chk_agent.proofs.TurningTold.{filled_same, posts_same, replies_same, due_same, told_1, told_2, told_3, told_4, told_5}
 use Rattle.chk_agent.proofs.agent.Agent.turn.Goals as goal
@@ -14,8 +14,8 @@ returns-in_err-_filled-clause-state g c =
 
 pub returns-in_err-_filled-clause-told : goal.returns-in_err-_filled-clause-told
 returns-in_err-_filled-clause-told g c =
-    told_1 c.args.self.now c.fill.new.self
-    (filled_same c.in_err-_filled.ensures.state) c.fill.ensures.told
+    told_1 c.args.self.now c.fill_noting.new.self
+    (filled_same c.in_err-_filled.ensures.state) c.fill_noting.ensures.told
 
 pub post-requires : goal.post-requires
 post-requires g c = record {
@@ -33,8 +33,8 @@ returns-in_err-_posted-clause-state g c =
 
 pub returns-in_err-_posted-clause-told : goal.returns-in_err-_posted-clause-told
 returns-in_err-_posted-clause-told g c =
-    told_2 c.args.self.now c.fill.new.self
-    (filled_same c.in_ok-_filled.ensures.state) c.fill.ensures.told
+    told_2 c.args.self.now c.fill_noting.new.self
+    (filled_same c.in_ok-_filled.ensures.state) c.fill_noting.ensures.told
     c.post.new.self (posts_same c.in_err-_posted.ensures.state) c.post.ensures.told
 
 pub returns-in_err-_posted-clause-last : goal.returns-in_err-_posted-clause-last
@@ -63,8 +63,8 @@ returns-in_err-_answered-clause-state g c =
 
 pub returns-in_err-_answered-clause-told : goal.returns-in_err-_answered-clause-told
 returns-in_err-_answered-clause-told g c =
-    told_3 c.args.self.now c.fill.new.self
-    (filled_same c.in_ok-_filled.ensures.state) c.fill.ensures.told
+    told_3 c.args.self.now c.fill_noting.new.self
+    (filled_same c.in_ok-_filled.ensures.state) c.fill_noting.ensures.told
     c.post.new.self (posts_same c.in_ok-_posted.ensures.state) c.post.ensures.told
     c.post_reply.new.self (replies_same c.in_err-_answered.ensures.state) c.post_reply.ensures.told
 
@@ -95,8 +95,8 @@ returns-in_err-poll_if_due-clause-state g c =
 
 pub returns-in_err-poll_if_due-clause-told : goal.returns-in_err-poll_if_due-clause-told
 returns-in_err-poll_if_due-clause-told g c =
-    told_4 c.args.self.now c.fill.new.self
-    (filled_same c.in_ok-_filled.ensures.state) c.fill.ensures.told
+    told_4 c.args.self.now c.fill_noting.new.self
+    (filled_same c.in_ok-_filled.ensures.state) c.fill_noting.ensures.told
     c.post.new.self (posts_same c.in_ok-_posted.ensures.state) c.post.ensures.told
     c.post_reply.new.self (replies_same c.in_ok-_answered.ensures.state) c.post_reply.ensures.told
     c.poll_if_due.new.self (due_same c.in_err-poll_if_due.ensures.state) c.poll_if_due.ensures.told
@@ -128,8 +128,8 @@ returns-in_err-_settled-clause-state g c =
 
 pub returns-in_err-_settled-clause-told : goal.returns-in_err-_settled-clause-told
 returns-in_err-_settled-clause-told g c =
-    told_5 c.args.self.now c.fill.new.self
-    (filled_same c.in_ok-_filled.ensures.state) c.fill.ensures.told
+    told_5 c.args.self.now c.fill_noting.new.self
+    (filled_same c.in_ok-_filled.ensures.state) c.fill_noting.ensures.told
     c.post.new.self (posts_same c.in_ok-_posted.ensures.state) c.post.ensures.told
     c.post_reply.new.self (replies_same c.in_ok-_answered.ensures.state) c.post_reply.ensures.told
     c.poll_if_due.new.self (due_same c.in_ok-poll_if_due.ensures.state) c.poll_if_due.ensures.told
@@ -139,8 +139,8 @@ pub returns-in_err-_settled-clause-last : goal.returns-in_err-_settled-clause-la
 returns-in_err-_settled-clause-last g c =
     let p = err_from_is_err_and c.from_residual-in_err-_settled.result
     c.from_residual-in_err-_settled.ensures.1 in
-    last_then c.from_residual-in_err-_settled.result (told_4 c.args.self.now c.fill.new.self
-    (filled_same c.in_ok-_filled.ensures.state) c.fill.ensures.told
+    last_then c.from_residual-in_err-_settled.result (told_4 c.args.self.now c.fill_noting.new.self
+    (filled_same c.in_ok-_filled.ensures.state) c.fill_noting.ensures.told
     c.post.new.self (posts_same c.in_ok-_posted.ensures.state) c.post.ensures.told
     c.post_reply.new.self (replies_same c.in_ok-_answered.ensures.state) c.post_reply.ensures.told
     c.poll_if_due.new.self (due_same c.in_ok-poll_if_due.ensures.state) c.poll_if_due.ensures.told
@@ -149,19 +149,22 @@ returns-in_err-_settled-clause-last g c =
     ∙ ap Err p.2) c.in_err-_settled.ensures.last)
 
 pub returns-clause-state : goal.returns-clause-state
-returns-clause-state g c = turned c.in_ok-_filled._filled c.in_ok-_posted._posted
+returns-clause-state g c =
+    subst (λ b. IsTurned c.args.now c.args.self.now (Ok b) c.settle.new.self (g.S.Site.told c.args.site.now) (g.S.Site.told c.settle.new.site))
+    (sym c.in_ok-_filled.ensures.full)
+    (turned c.in_ok-_filled._filled c.in_ok-_posted._posted
     c.in_ok-_answered._answered c.in_ok-_settled._settled c.in_ok-_filled.ensures.state
     c.in_ok-_posted.ensures.state c.in_ok-_answered.ensures.state c.in_ok-poll_if_due.ensures.state
-    c.in_ok-_settled.ensures.state
+    c.in_ok-_settled.ensures.state)
 
 pub returns-clause-told : goal.returns-clause-told
 returns-clause-told g c =
-    told_5 c.args.self.now c.fill.new.self
-    (filled_same c.in_ok-_filled.ensures.state) c.fill.ensures.told
+    told_5 c.args.self.now c.fill_noting.new.self
+    (filled_same c.in_ok-_filled.ensures.state) c.fill_noting.ensures.told
     c.post.new.self (posts_same c.in_ok-_posted.ensures.state) c.post.ensures.told
     c.post_reply.new.self (replies_same c.in_ok-_answered.ensures.state) c.post_reply.ensures.told
     c.poll_if_due.new.self (due_same c.in_ok-poll_if_due.ensures.state) c.poll_if_due.ensures.told
     c.settle.new.self c.settle.ensures.told
 
 pub returns-clause-last : goal.returns-clause-last
-returns-clause-last g c = last_ok (tt {0}) (returns-clause-told g c [])
+returns-clause-last g c = last_ok {T = Bool} c.fill_noting.new.full (returns-clause-told g c [])
