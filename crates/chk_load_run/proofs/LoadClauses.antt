@@ -17,7 +17,7 @@ use Rattle.chk_agent.specs.States.{lines_of}
 use Rattle.chk_round.specs.Calls.{RoundActs}
 use Rattle.chk_round.specs.Faults.{FailsInside}
 use Rattle.chk_round.specs.Following.{HaveLines}
-use Rattle.chk_round.specs.Lengths.{LengthCause}
+use Rattle.chk_round.specs.Lengths.{EndShown}
 use Rattle.chk_round.specs.Processes.{IsRunOf, processes}
 use Rattle.chk_round.specs.Rounded.{RoundTo}
 use Rattle.chk_round.specs.Scripts.{ReadsLogs, RoundReads}
@@ -302,7 +302,7 @@ module _ (lines : ℕ) (who : Who) (by : who ≡ chukwa) (n : ℕ) {old mid next
 -- what the round says of its fault, with these words
 pub record RoundSays (source : List ℕ) (reads : ℕ) (fault : RoundFault) (old new : Option History) : Type 0 where
   pub script : RoundReads {T = Unit {0}} source reads (Err fault) old new
-  pub length : LengthCause {T = Unit {0}} (Err fault) old new
+  pub shown : EndShown {T = Unit {0}} source (Err fault) old new
   pub last : Adds old new (FailsInside {T = Unit {0}} (Err fault))
   pub acts : Adds old new (RoundActs source)
 
@@ -317,7 +317,7 @@ round_ends lines who by n {old = old} {mid = mid} {new = new} writes words are f
       mid = mid;
       appends = lines_appended lines who by n writes;
       script = said.script;
-      length = said.length;
+      shown = said.shown;
       last = said.last;
       acts = said.acts;
     }

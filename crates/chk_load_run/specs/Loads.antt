@@ -25,7 +25,7 @@ use Rattle.chk_round.specs.Calls.{RoundActs}
 use Rattle.chk_round.specs.Done.{ArchivedTo}
 use Rattle.chk_round.specs.Faults.{FailsInside}
 use Rattle.chk_round.specs.Following.{HaveLines}
-use Rattle.chk_round.specs.Lengths.{LengthCause}
+use Rattle.chk_round.specs.Lengths.{EndShown}
 use Rattle.chk_round.specs.Processes.{IsRunOf, processes}
 use Rattle.chk_round.specs.Rounded.{AfterRound, RoundTo}
 use Rattle.chk_round.specs.Rounds.{RoundDone}
@@ -165,14 +165,14 @@ AppendsLines lines added history =
     HasAppended lines (own_acts added) × Owns IsWritersAppend added history
 
 -- All lines were appended, and the round behind that ended so. A log that grows or shrank shows in
--- the reads of the agent `load`, 1,000,000 of a log at most, and a length below an answered offset
--- in the last poll. Where the site wasn't stopped, a failed call is the last one or one inside the
+-- the reads of the agent `load`, 1,000,000 of a log at most, a length below an answered offset in the
+-- last poll, and damage, a spent number or a refusal in the work that came last. Where the site wasn't stopped, a failed call is the last one or one inside the
 -- round, whose calls are those of a round.
 pub record EndsAsRound (lines : ℕ) (fault : RoundFault) (old new : Option History) : Type 0 where
   pub mid : Option History
   pub appends : Adds old mid (AppendsLines lines)
   pub script : RoundReads {T = Unit {0}} (codes "load") 1000000 (Err fault) mid new
-  pub length : LengthCause {T = Unit {0}} (Err fault) mid new
+  pub shown : EndShown {T = Unit {0}} (codes "load") (Err fault) mid new
   pub last : Adds mid new (FailsInside {T = Unit {0}} (Err fault))
   pub acts : Adds mid new (RoundActs (codes "load"))
 

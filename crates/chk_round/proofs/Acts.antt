@@ -65,7 +65,7 @@ use Rattle.chk_round.specs.declared.faults.RoundFault.{RoundFault}
 use Rattle.chk_round.specs.Adding as logs
 use Rattle.chk_round.specs.Adding.{AddsLogs}
 use Rattle.chk_round.specs.Calls as calls
-use Rattle.chk_round.specs.Calls.{BegunActs, CollectsBy, IsRoundCall, IsRoundStep, IsStarting, RoundActs, RoundCalls, TimedActs}
+use Rattle.chk_round.specs.Calls.{BegunActs, CollectsBy, IsRestCall, IsRestStep, IsRoundCall, IsRoundStep, IsStarting, RestCalls, RoundActs, RoundCalls, TimedActs}
 use Rattle.chk_round.specs.declared.whole_round.Rounded.{Rounded}
 use Rattle.chk_round.specs.Processes.{IsRunOf, c1, processes}
 use Rattle.chk_round.specs.Rounded.{RoundTo}
@@ -73,38 +73,38 @@ use Rattle.chk_round.specs.Starts.{ClockGave, EndsWithClock}
 
 -- ---- in turn
 
-pub acts_none : (now : Option History) → Adds now now RoundCalls
-acts_none now = adds_none now RoundCalls (λ history. tt)
+pub rest_none : (now : Option History) → Adds now now RestCalls
+rest_none now = adds_none now RestCalls (λ history. tt)
 
-pub acts_then : {old mid new : Option History} → Adds old mid RoundCalls → Adds mid new RoundCalls
-    → Adds old new RoundCalls
-acts_then p q =
-    adds_then RoundCalls p q
+pub rest_then : {old mid new : Option History} → Adds old mid RestCalls → Adds mid new RestCalls
+    → Adds old new RestCalls
+rest_then p q =
+    adds_then RestCalls p q
     (λ a b history x y. every_join
-    (λ before step. step.own ≡ true → IsRoundStep before step) b a history x y)
+    (λ before step. step.own ≡ true → IsRestStep before step) b a history x y)
 
-call_acts : (q : Asked) (given : Result ActAnswer CallFault) → IsRoundCall q.who (deed_of q)
+call_acts : (q : Asked) (given : Result ActAnswer CallFault) → IsRestCall q.who (deed_of q)
     → {old new : Option History}
-    → Adds old new (Calls q given) → Adds old new RoundCalls
+    → Adds old new (Calls q given) → Adds old new RestCalls
 call_acts q given is p =
-    adds_as RoundCalls p
-    (λ a h made. call_owned IsRoundStep given (λ before answer files logs running. is) made)
+    adds_as RestCalls p
+    (λ a h made. call_owned IsRestStep given (λ before answer files logs running. is) made)
 
 some_acts : (q : ℕ → Asked) (given : ℕ → Result ActAnswer CallFault)
-    → ((n : ℕ) → IsRoundCall (q n).who (deed_of (q n)))
-    → {old new : Option History} → Adds old new (CallsSome q given) → Adds old new RoundCalls
+    → ((n : ℕ) → IsRestCall (q n).who (deed_of (q n)))
+    → {old new : Option History} → Adds old new (CallsSome q given) → Adds old new RestCalls
 some_acts q given is p =
-    adds_as RoundCalls p
-    (λ a h made. call_owned IsRoundStep (given made.0)
+    adds_as RestCalls p
+    (λ a h made. call_owned IsRestStep (given made.0)
     (λ before answer files logs running. is made.0) made.1)
 
 works_acts : {who : Who} {P : Deed → Type 0} {fault : Option OutsideFault}
-    → ((call : Deed) → P call → IsRoundCall who call)
-    → {old new : Option History} → Works who P fault old new → Adds old new RoundCalls
+    → ((call : Deed) → P call → IsRestCall who call)
+    → {old new : Option History} → Works who P fault old new → Adds old new RestCalls
 works_acts {who = who} {P = P} kind works =
-    adds_as RoundCalls (works_own works)
-    (owns_as (Asks who P) IsRoundStep
-    (λ before step asks. subst (λ w. IsRoundCall w (deed step.act)) (sym asks.by)
+    adds_as RestCalls (works_own works)
+    (owns_as (Asks who P) IsRestStep
+    (λ before step asks. subst (λ w. IsRestCall w (deed step.act)) (sym asks.by)
     (kind (deed step.act) asks.allowed)))
 
 -- ---- the collector
@@ -143,12 +143,12 @@ of_tick s call (inr (inl commit)) = of_commit s s.current call commit
 of_tick s call (inr (inr close)) = of_close s s.current call close
 
 pub tick_acts : (s : Sinks) {fault : Option OutsideFault} {old new : Option History}
-    → Works (process s) (OfTick s) fault old new → Adds old new RoundCalls
+    → Works (process s) (OfTick s) fault old new → Adds old new RestCalls
 tick_acts s works =
     works_acts (λ call is. calls.collects (process s) refl call (of_tick s call is)) works
 
 request_acts : (bytes : List ℕ) (s : Sinks) {fault : Option OutsideFault} {old new : Option History}
-    → Works (process s) (OfRequest bytes s) fault old new → Adds old new RoundCalls
+    → Works (process s) (OfRequest bytes s) fault old new → Adds old new RestCalls
 request_acts bytes s works =
     works_acts
     (λ call is. calls.collects (process s) refl call
@@ -157,13 +157,13 @@ request_acts bytes s works =
 module _ {who : Who} (role : who.role ≡ Collector) where
   answer_acts : (t : ℕ) (reply : List ℕ) (given : Result (Unit {0}) CallFault)
       {old new : Option History}
-      → inside.Answers who t reply given old new → Adds old new RoundCalls
+      → inside.Answers who t reply given old new → Adds old new RestCalls
   answer_acts t reply given call =
       call_acts (asked who Answer (reply ∷ []) t 0) (answered plain given)
       (calls.collects who role _ (calls.answers t reply)) call
 
   take_acts : (given : Result (Option Taking) CallFault) {old new : Option History}
-      → Takes who given old new → Adds old new RoundCalls
+      → Takes who given old new → Adds old new RestCalls
   take_acts given call =
       some_acts (λ of. asked who Take (self_address ∷ []) 0 0)
       (λ of. answered (taking_given of) given)
@@ -172,24 +172,24 @@ module _ {who : Who} (role : who.role ≡ Collector) where
   responds_acts : {s t : Sinks} {taking : ℕ} {request : List ℕ}
       {result : Result (Option ExchangeFault) ExchangeFault}
       {old new : Option History} → Responds who s taking request result t old new
-      → Adds old new RoundCalls
+      → Adds old new RestCalls
   responds_acts {s = s} {request = request} (Responds.unreplied un) = request_acts request s un.own
   responds_acts {s = s} {taking = taking} {request = request}
       (Responds.unsent reply fault given replied ends call) =
-      acts_then (request_acts request s replied.own) (answer_acts taking reply given call)
+      rest_then (request_acts request s replied.own) (answer_acts taking reply given call)
   responds_acts {s = s} {taking = taking} {request = request}
       (Responds.unread reply replied is call) =
-      acts_then (request_acts request s replied.own) (answer_acts taking reply (Ok tt) call)
+      rest_then (request_acts request s replied.own) (answer_acts taking reply (Ok tt) call)
   responds_acts {s = s} {taking = taking} {request = request}
       (Responds.sent reply made replied is call) =
-      acts_then (request_acts request s replied.own) (answer_acts taking reply (Ok tt) call)
+      rest_then (request_acts request s replied.own) (answer_acts taking reply (Ok tt) call)
 
   serves_acts : {s t : Sinks} {result : Result (Option ExchangeFault) ExchangeFault}
       {old new : Option History}
-      → Serves who s result t old new → Adds old new RoundCalls
+      → Serves who s result t old new → Adds old new RestCalls
   serves_acts (Serves.untaken fault given ends call) = take_acts given call
   serves_acts (Serves.none call) = take_acts (Ok None) call
-  serves_acts (Serves.taken taking call responds) = acts_then (take_acts (Ok (Some taking)) call)
+  serves_acts (Serves.taken taking call responds) = rest_then (take_acts (Ok (Some taking)) call)
       (responds_acts responds)
 
 -- ---- the agent
@@ -197,56 +197,56 @@ module _ {who : Who} (role : who.role ≡ Collector) where
 module _ {who : Who} (role : who.role ≡ Agent) where
   send_acts : (d : Delivery) (bytes : List ℕ) → address_now d.ring ≡ self_address
       → (given : Result ℕ CallFault) {old new : Option History}
-      → Sends who (address_now d.ring) bytes given old new → Adds old new RoundCalls
+      → Sends who (address_now d.ring) bytes given old new → Adds old new RestCalls
   send_acts d bytes to given call =
       some_acts (λ n. asked who Send (address_now d.ring ∷ bytes ∷ []) n 0)
       (λ n. answered sized given)
-      (λ n. subst (λ a. IsRoundCall who (sends_message n a bytes)) (sym to)
-      (calls.reads who role _ (calls.sends n bytes))) call
+      (λ n. subst (λ a. IsRestCall who (sends_message n a bytes)) (sym to)
+      (calls.talks who role _ (calls.sends n bytes))) call
 
   ask_acts : (m : ℕ) (given : Result (List ℕ) CallFault) {old new : Option History}
       → AsksReply who m given old new
-      → Adds old new RoundCalls
+      → Adds old new RestCalls
   ask_acts m given call =
       call_acts (asked who Got [] m 0) (answered bytes_given given)
-      (calls.reads who role _ (calls.gets m)) call
+      (calls.talks who role _ (calls.gets m)) call
 
   posted_acts : {d e : Delivery} → d.ring.addresses ≡ self_address ∷ []
       → {given : Result Posted Wanting} {old new : Option History}
-      → IsPosted who d given e old new → Adds old new RoundCalls
-  posted_acts to (script.empty {now = now} is) = acts_none now
-  posted_acts to (script.no_rows {now = now} some is) = acts_none now
+      → IsPosted who d given e old new → Adds old new RestCalls
+  posted_acts to (script.empty {now = now} is) = rest_none now
+  posted_acts to (script.no_rows {now = now} some is) = rest_none now
   posted_acts {d = d} to (script.sent front bytes m is written call) =
       send_acts d bytes (at_self d.ring to written.to) (Ok m) call
   posted_acts {d = d} to (script.failed front bytes is written call) =
       send_acts d bytes (at_self d.ring to written.to) (Err Failed) call
-  posted_acts to (script.unsent {now = now} fault) = acts_none now
+  posted_acts to (script.unsent {now = now} fault) = rest_none now
   posted_acts {d = d} to (script.refused fault front bytes is written call) =
       send_acts d bytes (at_self d.ring to written.to) (Err site_wanting) call
 
   replied_acts : {now : ℕ} {d e : Delivery} {given : Result Answered Wanting}
       {old new : Option History}
-      → IsPostReplied who now d given e old new → Adds old new RoundCalls
-  replied_acts (script.nothing {at = at} is) = acts_none at
+      → IsPostReplied who now d given e old new → Adds old new RestCalls
+  replied_acts (script.nothing {at = at} is) = rest_none at
   replied_acts (script.got p bytes is call takes) = ask_acts p.message (Ok bytes) call
   replied_acts (script.silent p is call) = ask_acts p.message (Err Failed) call
   replied_acts (script.wanting fault p is call) = ask_acts p.message (Err site_wanting) call
 
   polled_acts : {d e : Delivery} → d.ring.addresses ≡ self_address ∷ []
       → {given : Result Polled Wanting} {old new : Option History}
-      → IsPolled who d given e old new → Adds old new RoundCalls
-  polled_acts to (script.none {now = now} is) = acts_none now
+      → IsPolled who d given e old new → Adds old new RestCalls
+  polled_acts to (script.none {now = now} is) = rest_none now
   polled_acts {d = d} to (script.sent bytes m written call) =
       send_acts d bytes (at_self d.ring to written.to) (Ok m) call
   polled_acts {d = d} to (script.failed bytes written call) =
       send_acts d bytes (at_self d.ring to written.to) (Err Failed) call
-  polled_acts to (script.unsent {now = now} fault) = acts_none now
+  polled_acts to (script.unsent {now = now} fault) = rest_none now
   polled_acts {d = d} to (script.refused fault bytes written call) =
       send_acts d bytes (at_self d.ring to written.to) (Err site_wanting) call
 
   lengths_acts : {d e : Delivery} {given : Result PollAnswer Wanting} {old new : Option History}
-      → IsPollReplied who d given e old new → Adds old new RoundCalls
-  lengths_acts (script.nothing {at = at} is) = acts_none at
+      → IsPollReplied who d given e old new → Adds old new RestCalls
+  lengths_acts (script.nothing {at = at} is) = rest_none at
   lengths_acts (script.got p bytes is call takes) = ask_acts p.message (Ok bytes) call
   lengths_acts (script.silent p is call) = ask_acts p.message (Err Failed) call
   lengths_acts (script.wanting fault p is call) = ask_acts p.message (Err site_wanting) call
@@ -255,7 +255,7 @@ module _ {who : Who} (role : who.role ≡ Agent) where
 
 post_sent : {a b : Agents} {result : Result (Unit {0}) ExchangeFault} {old new : Option History}
     → a.delivery.ring.addresses ≡ self_address ∷ [] → SendsPost a result b old new
-    → Adds old new RoundCalls
+    → Adds old new RestCalls
 post_sent to (SendsPost.sent count posts) = posted_acts refl to posts.made
 post_sent to (SendsPost.failed posts) = posted_acts refl to posts.made
 post_sent to (SendsPost.unsent posts) = posted_acts refl to posts.made
@@ -263,7 +263,7 @@ post_sent to (SendsPost.unsent posts) = posted_acts refl to posts.made
 post_ended : {now count : ℕ} {b c : Agents} {made : Option ExchangeFault}
     {result : Result (Unit {0}) ExchangeFault}
     {old new : Option History} → EndsPost now count b made result c old new
-    → Adds old new RoundCalls
+    → Adds old new RestCalls
 post_ended (EndsPost.ungot replies) = replied_acts refl replies.made
 post_ended (EndsPost.silent replies) = replied_acts refl replies.made
 post_ended (EndsPost.taken none replies) = replied_acts refl replies.made
@@ -274,24 +274,24 @@ pub post_acts : {who : Who} {now : ℕ} {s t : Sinks} {a b : Agents}
     {result : Result (Unit {0}) ExchangeFault}
     {old new : Option History} → who.role ≡ Collector
     → a.delivery.ring.addresses ≡ self_address ∷ []
-    → PostsInside who now s a result t b old new → Adds old new RoundCalls
+    → PostsInside who now s a result t b old new → Adds old new RestCalls
 post_acts role to (inside.PostsInside.unsent fault sends) = post_sent to sends
 post_acts role to (inside.PostsInside.unserved count fault posts serves) =
-    acts_then (posted_acts refl to posts.made) (serves_acts role serves)
+    rest_then (posted_acts refl to posts.made) (serves_acts role serves)
 post_acts role to (inside.PostsInside.ended count made posts serves ends) =
-    acts_then (acts_then (posted_acts refl to posts.made) (serves_acts role serves))
+    rest_then (rest_then (posted_acts refl to posts.made) (serves_acts role serves))
     (post_ended ends)
 
 poll_sent : {a b : Agents} {result : Result (Unit {0}) ExchangeFault} {old new : Option History}
     → a.delivery.ring.addresses ≡ self_address ∷ [] → SendsPoll a result b old new
-    → Adds old new RoundCalls
+    → Adds old new RestCalls
 poll_sent to (SendsPoll.sent count polls) = polled_acts refl to polls.made
 poll_sent to (SendsPoll.failed polls) = polled_acts refl to polls.made
 poll_sent to (SendsPoll.unsent polls) = polled_acts refl to polls.made
 
 poll_ended : {count : ℕ} {b c : Agents} {made : Option ExchangeFault}
     {result : Result (Option Below) ExchangeFault}
-    {old new : Option History} → EndsPoll count b made result c old new → Adds old new RoundCalls
+    {old new : Option History} → EndsPoll count b made result c old new → Adds old new RestCalls
 poll_ended (EndsPoll.ungot replies) = lengths_acts refl replies.made
 poll_ended (EndsPoll.silent replies) = lengths_acts refl replies.made
 poll_ended (EndsPoll.taken below none replies) = lengths_acts refl replies.made
@@ -302,13 +302,39 @@ pub poll_acts : {who : Who} {s t : Sinks} {a b : Agents}
     {result : Result (Option Below) ExchangeFault}
     {old new : Option History} → who.role ≡ Collector
     → a.delivery.ring.addresses ≡ self_address ∷ []
-    → PollsInside who s a result t b old new → Adds old new RoundCalls
+    → PollsInside who s a result t b old new → Adds old new RestCalls
 poll_acts role to (inside.PollsInside.unsent fault sends) = poll_sent to sends
 poll_acts role to (inside.PollsInside.unserved count fault polls serves) =
-    acts_then (polled_acts refl to polls.made) (serves_acts role serves)
+    rest_then (polled_acts refl to polls.made) (serves_acts role serves)
 poll_acts role to (inside.PollsInside.ended count made polls serves ends) =
-    acts_then (acts_then (polled_acts refl to polls.made) (serves_acts role serves))
+    rest_then (rest_then (polled_acts refl to polls.made) (serves_acts role serves))
     (poll_ended ends)
+
+-- ---- with the reads
+
+-- calls that read no log
+pub as_round : {old new : Option History} → Adds old new RestCalls → Adds old new RoundCalls
+as_round p =
+    adds_as RoundCalls p
+    (owns_as IsRestStep IsRoundStep
+    (λ before step is. calls.rests step.act.who (deed step.act) is))
+
+pub acts_none : (now : Option History) → Adds now now RoundCalls
+acts_none now = adds_none now RoundCalls (λ history. tt)
+
+pub acts_then : {old mid new : Option History} → Adds old mid RoundCalls → Adds mid new RoundCalls
+    → Adds old new RoundCalls
+acts_then p q =
+    adds_then RoundCalls p q
+    (λ a b history x y. every_join
+    (λ before step. step.own ≡ true → IsRoundStep before step) b a history x y)
+
+read_call : (q : Asked) (given : Result ActAnswer CallFault) → IsRoundCall q.who (deed_of q)
+    → {old new : Option History}
+    → Adds old new (Calls q given) → Adds old new RoundCalls
+read_call q given is p =
+    adds_as RoundCalls p
+    (λ a h made. call_owned IsRoundStep given (λ before answer files logs running. is) made)
 
 -- ---- the agent's reads and its checkpoint
 
@@ -316,7 +342,7 @@ read_acts : (way : Way) (p : Spot) (given : Result Piece CallFault) → way.who.
     → {old new : Option History}
     → Adds old new (Calls (reading way p) (answered piece_given given)) → Adds old new RoundCalls
 read_acts way p given role call =
-    call_acts (reading way p) (answered piece_given given)
+    read_call (reading way p) (answered piece_given given)
     (calls.reads way.who role _ (calls.reads_log way.path _ _ _)) call
 
 walks_acts : {way : Way} {result : Result Step OutsideFault} {next p : Spot} {marks : List Spot}
@@ -340,25 +366,25 @@ step_acts (fill.wanting {now = now} held) = acts_none now
 
 writes_acts : (s : Agents) (lines : List Line) {result : Result (Unit {0}) OutsideFault}
     {old new : Option History}
-    → Writes s lines result old new → Adds old new RoundCalls
+    → Writes s lines result old new → Adds old new RestCalls
 writes_acts s lines made =
     works_acts
-    (λ call is. calls.reads (agent_of s) refl call (calls.saves (written_text lines) call is))
+    (λ call is. calls.talks (agent_of s) refl call (calls.saves (written_text lines) call is))
     (script_works (agent_of s)
     (replacement (agent_of s) (spell (CheckFile s.source)) (written_text lines))
     (refl, (refl, (refl, (refl, (refl, tt))))) made)
 
 pub settle_acts : {now : ℕ} {s t : Agents} {result : Result Settled AgentFault}
     {old new : Option History}
-    → IsSettled now s result t old new → Adds old new RoundCalls
-settle_acts (settle.same {at = at} is) = acts_none at
+    → IsSettled now s result t old new → Adds old new RestCalls
+settle_acts (settle.same {at = at} is) = rest_none at
 settle_acts {now = now} {s = s} (settle.written other made) = writes_acts s
     (lines_of (settled (reset (gone_at now s) s))) made
 settle_acts {now = now} {s = s} (settle.failed call other made) = writes_acts s
     (lines_of (settled (reset (gone_at now s) s))) made
 settle_acts {now = now} {s = s} (settle.unwritten other made) = writes_acts s
     (lines_of (settled (reset (gone_at now s) s))) made
-settle_acts (settle.wanting {at = at}) = acts_none at
+settle_acts (settle.wanting {at = at}) = rest_none at
 
 newest_asked : (s : Agents) (path : List ℕ) (given : Result (Option (List ℕ)) CallFault)
     {old new : Option History}
@@ -366,7 +392,7 @@ newest_asked : (s : Agents) (path : List ℕ) (given : Result (Option (List ℕ)
     (Calls (asked (agent_of s) LogNewest (path ∷ []) 0 0) (answered suffix_given given))
     → Adds old new RoundCalls
 newest_asked s path given call =
-    call_acts (asked (agent_of s) LogNewest (path ∷ []) 0 0) (answered suffix_given given)
+    read_call (asked (agent_of s) LogNewest (path ∷ []) 0 0) (answered suffix_given given)
     (calls.reads (agent_of s) refl _ (calls.asks_newest path)) call
 
 newest_acts : {s : Agents} {path : List ℕ} {b : Bool} {after : Option (List ℕ)}
@@ -381,11 +407,11 @@ takes_acts : {s t : Agents} {name : List ℕ} {class : Class} {kind path : List 
     {result : Result (Unit {0}) AgentFault} {old new : Option History}
     → TakesStream s name class kind path start found result t old new → Adds old new RoundCalls
 takes_acts {s = s} (adding.written {t = t} after newest is made) = acts_then (newest_acts newest)
-    (writes_acts s (lines_of t) made)
+    (as_round (writes_acts s (lines_of t) made))
 takes_acts {s = s} (adding.failed {t = t} after call newest is made) = acts_then
-    (newest_acts newest) (writes_acts s (lines_of t) made)
+    (newest_acts newest) (as_round (writes_acts s (lines_of t) made))
 takes_acts {s = s} (adding.unwritten {t = t} after newest is made) = acts_then (newest_acts newest)
-    (writes_acts s (lines_of t) made)
+    (as_round (writes_acts s (lines_of t) made))
 takes_acts (adding.unkept after newest) = newest_acts newest
 takes_acts {s = s} {path = path} (adding.unasked asks call) = newest_asked s path (Err Failed) call
 takes_acts {s = s} {path = path} (adding.wanting asks call) = newest_asked s path
@@ -412,20 +438,20 @@ logs_acts (logs.refused fault is) = added_acts is
 -- ---- the job
 
 archive_steps : (added history : History) → Every (IsOf ArchivesBy) added history
-    → RoundCalls added history
+    → RestCalls added history
 archive_steps [] history made = tt
 archive_steps (step ∷ added) history made =
     (archive_steps added history made.0, λ own. go own made.1)
   where
-    go : step.own ≡ true → IsOf ArchivesBy (added ++ history) step → IsRoundCall step.act.who
+    go : step.own ≡ true → IsOf ArchivesBy (added ++ history) step → IsRestCall step.act.who
         (deed step.act)
     go own (inl theirs) = absurd (true≢false (sym own ∙ theirs.0))
-    go own (inr mine) = subst (λ w. IsRoundCall w (deed step.act)) (sym mine.0.by)
+    go own (inr mine) = subst (λ w. IsRestCall w (deed step.act)) (sym mine.0.by)
         (calls.archives (deed step.act) mine.1)
 
 pub archive_acts : {old new : Option History} → Adds old new (Every (IsOf ArchivesBy))
-    → Adds old new RoundCalls
-archive_acts own = adds_as RoundCalls own archive_steps
+    → Adds old new RestCalls
+archive_acts own = adds_as RestCalls own archive_steps
 
 -- ---- the starts
 

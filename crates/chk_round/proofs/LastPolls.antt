@@ -213,6 +213,7 @@ module _ (who : Who) (s t u : Sinks) (a b c : Agents) (is : who ≡ process s) (
                                 below = least.0;
                                 known = (place_at history both ran_s).0;
                               };
+                              start = sym same.born;
                               lost = λ own. lost_at y.0 z.0 history y.1 z.1 later both both_t legal ran_s own;
                               passed = passed_at (z.0 ++ (y.0 ++ history)) (place_at history both ran_s).0 (kept running);
                             };

@@ -9,11 +9,10 @@ use Rattle.chk_delivery.specs.declared.answers.Below.{Below}
 use Rattle.chk_agent.specs.States.{State as Agents}
 use Rattle.chk_exchange.specs.Exchanges.{PollsInside}
 use Rattle.chk_round.specs.declared.faults.RoundFault.{RoundFault}
-use Rattle.chk_round.specs.declared.faults.RoundFault.TheVariants.{Outside, NoMemory, Damaged, Length, Growing, Shrank, Spent, Refused, Checkpoint}
+use Rattle.chk_round.specs.declared.faults.RoundFault.TheVariants.{Length}
 use Rattle.chk_round.specs.Faults.{FailsInside, RoundCause}
-use Rattle.chk_round.specs.Lengths.{HasCommitted, IsPlain, LengthCause, PolledOnce, PollsOn}
+use Rattle.chk_round.specs.Lengths.{HasCommitted, PolledOnce}
 use Rattle.chk_round.specs.Scripts.{Anything, IsNoRead}
-use Rattle.chk_round.proofs.Lasting.{went_none}
 
 module _ (b : Below) (fault : RoundFault) (is : fault ≡ Length b.stem b.got b.want) where
   pub below_inside : {old new : Option History} → Adds old new Anything
@@ -32,49 +31,6 @@ module _ (b : Below) (fault : RoundFault) (is : fault ≡ Length b.stem b.got b.
       → PolledOnce who s a (Err fault) u c old new
   below_once {old = old} {new = new} {who = who} {s = s} {u = u} {a = a} {c = c} polls =
       subst (λ f. PolledOnce who s a (Err f) u c old new) (sym is) polls
-
--- an end by no length
-pub plain_once : (who : Who) (s u : Sinks) (a c : Agents) (fault : RoundFault) → IsPlain fault
-    → (old new : Option History) → PolledOnce who s a (Err fault) u c old new
-plain_once who s u a c (Outside call) is old new = tt
-plain_once who s u a c NoMemory is old new = tt
-plain_once who s u a c (Damaged name at) is old new = tt
-plain_once who s u a c (Checkpoint at) is old new = tt
-plain_once who s u a c (Length stem got want) is old new = absurd is
-plain_once who s u a c (Growing path reads) is old new = absurd is
-plain_once who s u a c (Shrank path had size) is old new = absurd is
-plain_once who s u a c (Spent number) is old new = tt
-plain_once who s u a c (Refused code) is old new = tt
-
--- behind a commit and some polls
-pub once_length : {who : Who} {s t : Sinks} {a b : Agents} {old mid : Option History}
-    → HasCommitted s → PollsOn who s a t b old mid → (u : Sinks) (c : Agents) (new : Option History)
-    → (fault : RoundFault) → PolledOnce who t b (Err fault) u c mid new
-    → LengthCause {T = Unit {0}} (Err fault) old new
-once_length {who = who} {s = s} {t = t} {a = a} {b = b} {old = old} {mid = mid}
-    all on u c new (Length stem got want) polls = record {
-      who = who;
-      committed = s;
-      waiting = a;
-      sinks = t;
-      agent = b;
-      sinks_then = u;
-      agent_then = c;
-      behind = old;
-      mid = mid;
-      went = went_none old;
-      all = all;
-      polls_on = on;
-      polls = polls;
-    }
-once_length all on u c new (Outside call) polls = tt
-once_length all on u c new NoMemory polls = tt
-once_length all on u c new (Damaged name at) polls = tt
-once_length all on u c new (Checkpoint at) polls = tt
-once_length all on u c new (Growing path reads) polls = tt
-once_length all on u c new (Shrank path had size) polls = tt
-once_length all on u c new (Spent number) polls = tt
-once_length all on u c new (Refused code) polls = tt
 
 -- a tick that was done leaves all committed
 pub ticked_all : (now : ℕ) (s : Sinks) → HasCommitted (ticked_state now s)

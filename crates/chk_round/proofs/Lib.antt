@@ -29,6 +29,7 @@ pub mod Sent
 pub mod Polls
 pub mod Posts
 pub mod Following
+pub mod Alone
 pub mod Stepping
 pub mod Logs
 pub mod OwnRows

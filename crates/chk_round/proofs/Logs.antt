@@ -23,7 +23,7 @@ use Rattle.chk_round.specs.Following.{KeepsLogs}
 use Rattle.chk_round.proofs.Following.{keeps_all, keeps_then}
 use Rattle.chk_round.specs.Joint.{AreIn, BothAt, JointTo}
 use Rattle.chk_round.specs.OwnRows.{OwnTo}
-use Rattle.chk_round.specs.Reading.{AfterReadOut, ReadOn, ReadsAll, ReadsOn}
+use Rattle.chk_round.specs.Reading.{AfterReadOut, ReadOn, ReadsAll, ReadsAlone, ReadsOn}
 use Rattle.chk_round.specs.Sending.{NonePast, SendsBelow, SendsOthers}
 use Rattle.chk_round.proofs.Joining.{in_on}
 use Rattle.chk_round.specs.Scripts as scripts
@@ -33,7 +33,7 @@ use Rattle.chk_round.proofs.Acts.{acts_none, acts_then}
 use Rattle.chk_round.proofs.OwnRows.{own_none, own_then}
 use Rattle.chk_round.proofs.Polls.{starts_none, starts_then}
 use Rattle.chk_round.proofs.Sent.{IsOther, adds_each}
-use Rattle.chk_round.proofs.OwnReads.{EndsWithRead, ends_more, out_ends}
+use Rattle.chk_round.proofs.OwnReads.{EndsWithRead, OnlyReads, ends_more, only_reads_none, out_ends, out_only}
 use Rattle.chk_round.proofs.WholeRounds.{read_now, read_on}
 
 -- ---- two parts in turn, of one side
@@ -56,7 +56,7 @@ pub record ReadsBelow (stamped : List (List ℕ)) (started acting : List Who) (n
   pub whole : Others (OutsideOf stamped started) added history → BothAt stamped s a history
       → is_stopped (added ++ history) ≡ false → (i : ℕ) (x y : Adaptor) → i < n → slice_get a.adaptors i ≡ Some x
       → is_stepped x.phase ≡ true → slice_get b.adaptors i ≡ Some y
-      → ReadTo (stream_at a.source x) y.read.offset added history
+      → ReadTo (stream_at a.source x) y.read.offset (ReadsAlone i x a) added history
 
 -- the reads of those below a number, from these states to those
 pub record ReadingTo (n : ℕ) (s : Sinks) (a : Agents) (t : Sinks) (b : Agents) (old now : Option History) (before after : ℕ) : Type 0 where
@@ -234,10 +234,11 @@ module _ (n : ℕ) (s t : Sinks) (a b : Agents) {old mid : Option History} {befo
           → ReadsBelow stamped started acting n s a t b x history
           → Leads (Together stamped started acting) (BothAt stamped t b) (AfterReadOut stamped n u c (Ok tt)) y (x ++ history)
           → ((k : IsOther n b) → Apart stamped started k y (x ++ history))
-          → (r : Adaptor) → slice_get b.adaptors n ≡ Some r
+          → (r : Adaptor) → slice_get b.adaptors n ≡ Some r → is_stepped r.phase ≡ true
           → EndsWithRead (process b) r.path y (x ++ history)
+          → OnlyReads r.path y (x ++ history)
           → ReadsBelow stamped started acting (n + 1) s a u c (y ++ x) history
-      whole_then stamped started acting x y history first second none r is_r last = record {
+      whole_then stamped started acting x y history first second none r is_r steps_r last only = record {
         leads = both_lead (Together stamped started acting) x y history first.leads
             (record { leads = λ others h. (second.leads others h).0; own = second.own });
         whole = λ others h running i k d below there steps at.
@@ -247,16 +248,18 @@ module _ (n : ℕ) (s t : Sinks) (a b : Agents) {old mid : Option History} {befo
               | inl less ↦
                   let apart : i ≢ n = λ e. let z : ⊥ = omega (arith, less, e) in z in
                   let kept = one.adaptors.others i d apart at in
-                  read_on (stream_at a.source k) d.read.offset y x history
+                  read_on (stream_at a.source k) d.read.offset (ReadsAlone i k a) y x history
                   (first.whole first_others h (ran stamped started acting y x history second running) i k d less there steps kept)
                   (subst (λ q. NonePast q d.read.offset y (x ++ history)) (same_stream i k d there kept)
                   (none (record { place = i; adaptor = d; apart = apart; at = kept }) late_others))
+                  (λ alone. only_reads_none (stream_at a.source k) r.path
+                  (alone n r (λ e. apart (sym e)) (so.later n r (omega arith) is_r) steps_r) y (x ++ history) only)
               | inr same ↦
                   let here = ap (λ j. slice_get c.adaptors j) (sym same) ∙ at in
                   let was = ap (λ j. slice_get a.adaptors j) (sym same) ∙ there in
                   let end = (second.leads late_others (first.leads.leads first_others h)).1
                   (ap is_stopped (sym (append_assoc y x history)) ∙ running) d here in
-                  read_now (stream_at a.source k) d.read.offset (y ++ x) history
+                  read_now (stream_at a.source k) d.read.offset (ReadsAlone i k a) (y ++ x) history
                   (subst (λ (q : Stream). EndsWithRead (agent_of q) q.name (y ++ x) history)
                   (same_stream n k r was is_r) (ends_more y x history last))
                   (ap (λ j. whole_end j (stream_at a.source k)) (append_assoc y x history)
@@ -296,15 +299,18 @@ module _ (n : ℕ) (s t : Sinks) (a b : Agents) {old mid : Option History} {befo
           record {
             told = λ stamped started acting run. adds_then (ReadsBelow stamped started acting (n + 1) s a u c)
                 (so.told stamped started acting run)
-                (adds_both (λ y h. Told stamped started acting y h × EndsWithRead (process b) r.0.path y h)
+                (adds_both (λ y h. Told stamped started acting y h
+                × (EndsWithRead (process b) r.0.path y h × OnlyReads r.0.path y h))
                 (adds_each (Apart stamped started)
                 (subst (λ r. Adds mid new (Leads (Together stamped started acting) (BothAt stamped t b)
                 (AfterReadOut stamped n u c r))) is (late_told stamped started acting run))
                 (λ k. sends stamped started (in_on s t a b so.starts.collector so.on.source run).agent_started
                 k.place k.adaptor k.apart k.at))
-                (out_ends refl out r.0 r.1) (λ y h p q. (p, q)))
+                (adds_both (λ y h. EndsWithRead (process b) r.0.path y h × OnlyReads r.0.path y h)
+                (out_ends refl out r.0 r.1) (out_only refl out r.0 r.1) (λ y h p q. (p, q)))
+                (λ y h p q. (p, q)))
                 (λ x y history first second. whole_then stamped started acting x y history first second.0.0 second.0.1
-                r.0 r.1 second.1);
+                r.0 r.1 r.2 second.1.0 second.1.1);
             starts = starts_then s t u so.starts starts;
             on = record {
               source = one.source ∙ so.on.source;

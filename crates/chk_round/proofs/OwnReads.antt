@@ -1,5 +1,5 @@
 -- The reads of logs that a round makes, and what held at one of them.
-use Rattle.std.proofs.Common.{◌≡◌, ℕ, List, ◌∷◌, ◌++◌, Option, Some, Result, Ok, Err, ap, sym, subst, ◌∙◌, refl, arith, append_assoc}
+use Rattle.std.proofs.Common.{◌≡◌, inl, inr, ℕ, true, List, ◌∷◌, ◌++◌, Option, Some, Result, Ok, Err, ap, sym, subst, ◌∙◌, refl, arith, append_assoc}
 use Rattle.std.specs.Prelude.{slice_get}
 use Rattle.std.proofs.lemmas.Option.{same_Some}
 use Rattle.chk_site.specs.declared.acts.CallFault.{CallFault}
@@ -8,10 +8,19 @@ use Rattle.chk_site.specs.declared.acts.OutsideFault.{OutsideFault}
 use Rattle.chk_site.specs.declared.acts.Role.TheVariants.{Agent}
 use Rattle.chk_site.specs.declared.acts.Who.{Who}
 use Rattle.chk_site.specs.declared.suffixes.Piece.{Piece}
+use Rattle.chk_site.specs.Acts.{Deed, ReadsLog, deed}
 use Rattle.chk_site.specs.History.{History, Step as OneStep}
-use Rattle.chk_site.specs.Logs.{part_of}
+use Rattle.chk_site.specs.Logs.{Part, part_of}
+use Rattle.chk_site.specs.Runs.{Owns}
 use Rattle.chk_site.specs.Site.{Adds, Calls, answered, piece_given}
-use Rattle.chk_site.proofs.Runs.{adds_as, adds_then, ran}
+use Rattle.chk_site.proofs.Leads.{call_owned}
+use Rattle.chk_site.proofs.Runs.{adds_as, adds_none, adds_then, every_join, ran}
+use Rattle.chk_chunk.specs.Keys.{Stream}
+use Rattle.chk_replace.specs.Replace.{replacement}
+use Rattle.chk_world.specs.Laws.{agent_of}
+use Rattle.chk_world.specs.Names.{CheckFile, spell}
+use Rattle.chk_world.specs.Works.{IsOneOf}
+use Rattle.chk_world.proofs.Beside.{owns_as}
 use Rattle.chk_tail.specs.declared.step.Step.{Step}
 use Rattle.chk_tail.specs.declared.step.Step.TheVariants.{Bytes, AtEnd as gave_none, Shrank as is_short}
 use Rattle.chk_tail.specs.Walks as walk
@@ -26,7 +35,9 @@ use Rattle.chk_agent.specs.Fills as fill
 use Rattle.chk_agent.specs.Fills.{IsOneStepped}
 use Rattle.chk_agent.specs.States.{State as Agents, process}
 use Rattle.chk_round.specs.declared.faults.RoundFault.{RoundFault}
-use Rattle.chk_round.specs.Done.{AtOwnRead, IsOwnRead}
+use Rattle.chk_round.specs.Calls as calls
+use Rattle.chk_round.specs.Calls.{IsRestCall, IsRestStep, RestCalls, TalksBy}
+use Rattle.chk_round.specs.Done.{AtOwnRead, IsOwnRead, NoneRead}
 use Rattle.chk_round.specs.Reading.{ReadOn}
 use Rattle.chk_round.specs.Scripts as scripts
 use Rattle.chk_round.specs.Scripts.{ReadsOut}
@@ -187,3 +198,147 @@ out_ends {i = i} {s = s} e (scripts.held {t = t} {u = u} a used there is went po
     ends_behind i s u (on_then i s t u (step_on is there) (on_same i t u posted.same)) x at
     (went_then (step_acts is) went) (out_ends e more)
 out_ends e (scripts.unposted a used fault there is went other) x at = absurd (let z : ⊥ = cc in z)
+
+-- ---- which logs are read
+
+-- each own read of a log by an agent among these steps is of this path
+abbrev pub OnlyReads : List ℕ → History → History → Type 0
+OnlyReads path =
+    Owns (λ before step. step.act.who.role ≡ Agent → (p : List ℕ) (part : Part) (at max : ℕ)
+    → deed step.act ≡ ReadsLog p part at max → p ≡ path)
+
+only_none : (path : List ℕ) (now : Option History) → Adds now now (OnlyReads path)
+only_none path now = adds_none now (OnlyReads path) (λ history. tt)
+
+only_then : (path : List ℕ) {old mid new : Option History} → Adds old mid (OnlyReads path)
+    → Adds mid new (OnlyReads path) → Adds old new (OnlyReads path)
+only_then path p q =
+    adds_then (OnlyReads path) p q
+    (λ a b history x y. every_join
+    (λ before step. step.own ≡ true → step.act.who.role ≡ Agent
+    → (p : List ℕ) (part : Part) (at max : ℕ) → deed step.act ≡ ReadsLog p part at max → p ≡ path)
+    b a history x y)
+
+saves_none : (who : Who) (name bytes : List ℕ) (call : Deed)
+    → IsOneOf (replacement who name bytes) call
+    → {path : List ℕ} {part : Part} {at max : ℕ} → call ≡ ReadsLog path part at max → ⊥
+saves_none who name bytes call (inl is) e = let z : ⊥ = cc in z
+saves_none who name bytes call (inr (inl is)) e = let z : ⊥ = cc in z
+saves_none who name bytes call (inr (inr (inl is))) e = let z : ⊥ = cc in z
+saves_none who name bytes call (inr (inr (inr (inl is)))) e = let z : ⊥ = cc in z
+saves_none who name bytes call (inr (inr (inr (inr (inl is))))) e = let z : ⊥ = cc in z
+saves_none who name bytes call (inr (inr (inr (inr (inr is))))) e = is
+
+talks_none : {who : Who} {call : Deed} → TalksBy who call
+    → {path : List ℕ} {part : Part} {at max : ℕ} → call ≡ ReadsLog path part at max → ⊥
+talks_none {who = who} (calls.saves text call is) e =
+    saves_none who (spell (CheckFile who.name)) text call is e
+talks_none (calls.sends message bytes) e = let z : ⊥ = cc in z
+talks_none (calls.gets message) e = let z : ⊥ = cc in z
+
+-- a call that reads no log
+rest_none_read : {who : Who} {call : Deed} → IsRestCall who call → who.role ≡ Agent
+    → {path : List ℕ} {part : Part} {at max : ℕ} → call ≡ ReadsLog path part at max → ⊥
+rest_none_read (calls.collects who role call is) agent e = let z : ⊥ = cc in z
+rest_none_read (calls.talks who role call is) agent e = talks_none is e
+rest_none_read (calls.archives call is) agent e = let z : ⊥ = cc in z
+
+pub rest_only : (path : List ℕ) {old new : Option History} → Adds old new RestCalls
+    → Adds old new (OnlyReads path)
+rest_only path p =
+    adds_as (OnlyReads path) p
+    (owns_as IsRestStep
+    (λ before step. step.act.who.role ≡ Agent → (p : List ℕ) (part : Part) (at max : ℕ)
+    → deed step.act ≡ ReadsLog p part at max → p ≡ path)
+    (λ before step is agent p part at max e.
+    absurd (rest_none_read is agent e)))
+
+pub rest_reads_none : (s : Stream) (added history : History) → RestCalls added history
+    → NoneRead (agent_of s) s.name added history
+rest_reads_none s =
+    owns_as IsRestStep
+    (λ before step. step.act.who ≡ agent_of s → (part : Part) (at max : ℕ)
+    → deed step.act ≡ ReadsLog s.name part at max → ⊥)
+    (λ before step is by part at max e.
+    rest_none_read is (ap (λ (w : Who). w.role) by) e)
+
+-- reads of another log
+pub only_reads_none : (s : Stream) (path : List ℕ) → (path ≡ s.name → ⊥)
+    → (added history : History)
+    → OnlyReads path added history → NoneRead (agent_of s) s.name added history
+only_reads_none s path apart =
+    owns_as
+    (λ before step. step.act.who.role ≡ Agent → (p : List ℕ) (part : Part) (at max : ℕ)
+    → deed step.act ≡ ReadsLog p part at max → p ≡ path)
+    (λ before step. step.act.who ≡ agent_of s → (part : Part) (at max : ℕ)
+    → deed step.act ≡ ReadsLog s.name part at max → ⊥)
+    (λ before step only by part at max e.
+    apart (sym (only (ap (λ (w : Who). w.role) by) s.name part at max e)))
+
+only_read : (way : Way) (p : Spot) (given : Result Piece CallFault) {old new : Option History}
+    → Adds old new (Calls (reading way p) (answered piece_given given))
+    → Adds old new (OnlyReads way.path)
+only_read way p given call =
+    adds_as (OnlyReads way.path) call
+    (λ a h made. call_owned
+    (λ before step. step.act.who.role ≡ Agent → (q : List ℕ) (k : Part) (at max : ℕ)
+    → deed step.act ≡ ReadsLog q k at max → q ≡ way.path)
+    (answered piece_given given)
+    (λ before answer files logs running by q k at max e. let z : q ≡ way.path = cc in z) made)
+
+walks_only : {way : Way} {result : Result Step OutsideFault} {next p : Spot} {marks : List Spot}
+    {old new : Option History}
+    → Walks way result next p marks old new → Adds old new (OnlyReads way.path)
+walks_only {way = way} (walk.decided {p = p} given call decides) = only_read way p given call
+walks_only {way = way} (walk.walked {p = p} piece suffix ended after none call more) =
+    only_then way.path (only_read way p (Ok piece) call) (walks_only more)
+walks_only {way = way} (walk.unkept {p = p} piece some call same next) =
+    only_read way p (Ok piece) call
+
+step_only : {i : ℕ} {a : Adaptor} {s t : Agents} {result : Result Stepped AgentFault}
+    {old new : Option History}
+    → IsOneStepped i a s result t old new → Adds old new (OnlyReads a.path)
+step_only {a = a} (fill.held {now = now} is) = only_none a.path now
+step_only (fill.made b step held is) = walks_only is.walks
+step_only (fill.refused b fault held is) = walks_only is.walks
+step_only (fill.unkept b step held is) = walks_only is.walks
+step_only {a = a} (fill.wanting {now = now} held) = only_none a.path now
+
+-- the adaptor is still there, of the same path
+only_behind : (i : ℕ) (s t : Agents) → ReadOn i s t → (x : Adaptor)
+    → slice_get s.adaptors i ≡ Some x → {old mid new : Option History}
+    → Adds old mid (OnlyReads x.path)
+    → ((y : Adaptor) → slice_get t.adaptors i ≡ Some y → Adds mid new (OnlyReads y.path))
+    → Adds old new (OnlyReads x.path)
+only_behind i s t on x at {mid = mid} {new = new} first more =
+    let below = below_at s.adaptors i x at in
+    let size = on.adaptors.size in
+    let y = some_at t.adaptors i (omega (arith, below, size)) in
+    let m = on.adaptors.here y.0 y.1 in
+    let path : y.0.path ≡ x.path =
+    m.3 ∙ ap (λ (k : Adaptor). k.path) (same_Some m.0 x (sym m.1 ∙ at)) in
+    only_then x.path first (subst (λ p. Adds mid new (OnlyReads p)) path (more y.0 y.1))
+
+step_only_of : {i : ℕ} {a : Adaptor} {s t : Agents} {result : Result Stepped AgentFault}
+    {old new : Option History} → IsOneStepped i a s result t old new
+    → slice_get s.adaptors i ≡ Some a
+    → (x : Adaptor) → slice_get s.adaptors i ≡ Some x → Adds old new (OnlyReads x.path)
+step_only_of {a = a} {old = old} {new = new} is there x at =
+    subst (λ p. Adds old new (OnlyReads p))
+    (ap (λ (k : Adaptor). k.path) (same_Some a x (sym there ∙ at))) (step_only is)
+
+-- the reads of one log that came to its end, and the posts between them
+pub out_only : {i reads n : ℕ} {s t : Agents} {result : Result (Unit {0}) RoundFault}
+    {old new : Option History}
+    → result ≡ Ok tt → ReadsOut i reads n s result t old new
+    → (x : Adaptor) → slice_get s.adaptors i ≡ Some x → Adds old new (OnlyReads x.path)
+out_only e (scripts.at_end a there is) x at = step_only_of is there x at
+out_only {i = i} {s = s} e (scripts.read_on {t = t} a k there less is more) x at =
+    only_behind i s t (step_on is there) x at (step_only_of is there x at) (out_only e more)
+out_only e (scripts.grows a k fault there last is kind) x at = absurd (let z : ⊥ = cc in z)
+out_only e (scripts.shrinks a had size fault there is kind) x at = absurd (let z : ⊥ = cc in z)
+out_only e (scripts.unread a fault there is) x at = absurd (let z : ⊥ = cc in z)
+out_only {i = i} {s = s} e (scripts.held {t = t} {u = u} a used there is went posted more) x at =
+    only_behind i s u (on_then i s t u (step_on is there) (on_same i t u posted.same)) x at
+    (only_then x.path (step_only_of is there x at) (rest_only x.path went)) (out_only e more)
+out_only e (scripts.unposted a used fault there is went other) x at = absurd (let z : ⊥ = cc in z)

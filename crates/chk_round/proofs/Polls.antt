@@ -15,8 +15,8 @@ use Rattle.chk_round.specs.Joint.{IsSameAgent, JointTo}
 use Rattle.chk_round.specs.Lengths.{PollsOn}
 use Rattle.chk_round.specs.OwnRows.{OwnTo}
 use Rattle.chk_round.specs.Sending.{SendsOn}
-use Rattle.chk_round.specs.Calls.{RoundCalls}
-use Rattle.chk_round.proofs.Acts.{acts_none, acts_then}
+use Rattle.chk_round.specs.Calls.{RestCalls}
+use Rattle.chk_round.proofs.Acts.{rest_none, rest_then}
 use Rattle.chk_round.proofs.Joining.{joint_none, joint_then, same_none, same_then}
 use Rattle.chk_round.proofs.OwnRows.{own_none, own_then}
 use Rattle.chk_round.proofs.Sent.{sends_on_none, sends_on_then}
@@ -44,7 +44,7 @@ pub record Talked (s : Sinks) (a : Agents) (t : Sinks) (b : Agents) (old now : O
   pub starts : IsSameStart s t
   pub same : IsSameAgent a b
   pub sends : SendsOn a b old now
-  pub acts : Adds old now RoundCalls
+  pub acts : Adds old now RestCalls
   pub count : before ≤ after
 
 pub talked_none : (s : Sinks) (a : Agents) (now : Option History) (n : ℕ) → Talked s a s a now now n n
@@ -54,7 +54,7 @@ talked_none s a now n = record {
   starts = starts_none s;
   same = same_none a;
   sends = sends_on_none a now;
-  acts = acts_none now;
+  acts = rest_none now;
   count = omega arith;
 }
 
@@ -64,7 +64,7 @@ module _ {s t : Sinks} {a b : Agents} {old now : Option History} {before mid : �
   talked_own r rows = own_then s t u a b c r so.starts.collector so.same.source so.rows so.joint rows
 
   pub talked_more : JointTo t b u c (Ok tt) now new → IsSameStart t u → IsSameAgent b c
-      → SendsOn b c now new → Adds now new RoundCalls → OwnTo t b u c (Ok tt) now new → mid ≤ after
+      → SendsOn b c now new → Adds now new RestCalls → OwnTo t b u c (Ok tt) now new → mid ≤ after
       → Talked s a u c old new before after
   talked_more joint starts same sends more rows on =
       let first = so.count in
@@ -74,7 +74,7 @@ module _ {s t : Sinks} {a b : Agents} {old now : Option History} {before mid : �
         starts = starts_then s t u so.starts starts;
         same = same_then a b c so.same same;
         sends = sends_on_then a b c so.sends sends;
-        acts = acts_then so.acts more;
+        acts = rest_then so.acts more;
         count = omega (arith, first, on);
       }
 

@@ -1,5 +1,5 @@
 -- A whole round.
-use Rattle.std.proofs.Common.{◌≡◌, ℕ, zero, suc, false, List, ◌++◌, Option, Result, Ok, Err, ap, sym, subst, ◌∙◌, refl, arith, append_assoc}
+use Rattle.std.proofs.Common.{◌≡◌, ℕ, zero, suc, false, List, ◌∷◌, ◌++◌, Option, Result, Ok, Err, ap, sym, subst, ◌∙◌, refl, arith, append_assoc}
 use Rattle.std.specs.Prelude.{Contains, codes}
 use Rattle.chk_site.specs.declared.acts.Who.{Who}
 use Rattle.chk_site.specs.History.{History, Others, files_after, is_stopped, since_start}
@@ -12,6 +12,7 @@ use Rattle.chk_world.specs.ArchiveRuns.{IsArchiveRun, last_listing}
 use Rattle.chk_world.specs.Checkpoints.{checkpoint_lines}
 use Rattle.chk_world.specs.Committed.{IsAbsent, archive_of_stream}
 use Rattle.chk_world.specs.Knowing.{agent}
+use Rattle.chk_world.specs.Laws.{agent_of}
 use Rattle.chk_world.specs.Names.{SinkFile, file}
 use Rattle.chk_world.specs.Rules.{Legal}
 use Rattle.chk_world.specs.Sight.{job}
@@ -25,7 +26,8 @@ use Rattle.chk_round.specs.declared.faults.RoundFault.{RoundFault}
 use Rattle.chk_round.specs.declared.faults.RoundFault.TheVariants.{Outside, NoMemory, Damaged, Length, Growing, Shrank, Spent, Refused, Checkpoint}
 use Rattle.chk_round.specs.declared.whole_round.Rounded.{Rounded}
 use Rattle.chk_round.specs.Closing.{HasRun}
-use Rattle.chk_round.specs.Done.{ArchivedTo}
+use Rattle.chk_round.specs.Done.{ArchivedTo, NoneRead, WholeAtLast}
+use Rattle.chk_round.specs.Following.{HasPathAlone}
 use Rattle.chk_round.specs.Joint.{AreIn, BothAt}
 use Rattle.chk_round.specs.OwnRows.{FromStart}
 use Rattle.chk_round.specs.Processes.{AreBoth, IsRunOf, both, processes}
@@ -96,6 +98,27 @@ archived_behind s end y x h m =
       ap (λ (k : History). archive_of_stream (files_after k) s) (append_assoc y x h) ∙ holds.1,
     )) y x h m
 
+last_behind : (s : Stream) (end unclosed : ℕ) (y x h : History) → WholeAtLast s end unclosed y (x ++ h)
+    → WholeAtLast s end unclosed (y ++ x) h
+last_behind s end unclosed y x h m = record {
+  at = record {
+    later = m.at.later;
+    step = m.at.step;
+    earlier = m.at.earlier ++ x;
+    split = ap (λ z. z ++ x) m.at.split ∙ append_assoc m.at.later (m.at.step ∷ m.at.earlier) x;
+    read = m.at.read;
+    holds = subst
+        (λ (read : History). (whole_end read s ≡ end)
+        × (unclosed ≡ 0 → archive_of_stream (files_after ((y ++ x) ++ h)) s ≡ whole_log read s))
+        (sym (append_assoc (m.at.step ∷ m.at.earlier) x h)) (
+          m.at.holds.0,
+          λ none. ap (λ (k : History). archive_of_stream (files_after k) s) (append_assoc y x h) ∙ m.at.holds.1 none,
+        );
+  };
+  last = subst (λ (k : History). NoneRead (agent_of s) s.name m.at.later k)
+      (sym (append_assoc (m.at.step ∷ m.at.earlier) x h)) m.last;
+}
+
 moved : (c source : List ℕ) (b : Agents) (r : Report) (y x h : History) → GivenNone x h
     → RoundDone c source b r y (x ++ h) → RoundDone c source b r (y ++ x) h
 moved c source b r y x h none done =
@@ -108,6 +131,12 @@ moved c source b r y x h none done =
           let P : History → Type 0 = λ read. whole_end read (stream_of source l) ≡ l.offset in
           at_read_late P P (λ read holds. holds) y x h
           (done.read l (subst (λ (k : History). Contains (checkpoint_lines (files_after k) source) l) assoc one) live);
+      last = λ l one live alone.
+          let now : checkpoint_lines (files_after ((y ++ x) ++ h)) source
+          ≡ checkpoint_lines (files_after (y ++ (x ++ h))) source =
+          ap (λ (k : History). checkpoint_lines (files_after k) source) assoc in
+          last_behind (stream_of source l) l.offset r.unclosed y x h
+          (done.last l (subst (λ ls. Contains ls l) now one) live (subst (HasPathAlone l) now alone));
       lines = ap (λ (k : History). checkpoint_lines (files_after k) source) assoc ∙ done.lines;
       one_cluster = subst (λ (k : History). AllOfCluster b.cluster (since_start (agent source) k)) (sym assoc) done.one_cluster;
       run = record {

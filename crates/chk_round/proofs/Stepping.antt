@@ -44,9 +44,8 @@ use Rattle.chk_round.proofs.Following.{keeps_all, keeps_same, keeps_then, step_k
 use Rattle.chk_round.proofs.Joining.{in_on, joint_none, joint_then}
 use Rattle.chk_round.specs.Scripts as scripts
 use Rattle.chk_round.specs.Scripts.{Anything, IsNoRead, ReadsOut}
-use Rattle.chk_round.specs.Calls.{RoundCalls}
-use Rattle.chk_round.proofs.Acts.{acts_none, acts_then, step_acts}
-use Rattle.chk_round.proofs.Lasting.{went}
+use Rattle.chk_round.specs.Calls.{RestCalls, RoundCalls}
+use Rattle.chk_round.proofs.Acts.{acts_none, acts_then, as_round, step_acts}
 use Rattle.chk_round.proofs.NonePast.{quiet_none_past, sends_none, sends_then}
 use Rattle.chk_round.proofs.OwnRows.{own_none, own_step, own_then}
 use Rattle.chk_round.proofs.Polls.{starts_none, starts_then}
@@ -406,7 +405,7 @@ module _ (i count reads : ℕ) (s t : Sinks) (a b : Agents) {old now : Option Hi
       held_own r rows = own_then s t u a c d r so.starts.collector (held_so).source own_stepped joint_stepped rows
 
       module _ (joint : JointTo t c u d (Ok tt) next new) (starts : IsSameStart t u) (posted : PostedSome c d)
-          (sound : IsSound c) (sends : SendsOn c d next new) (more : Adds next new RoundCalls)
+          (sound : IsSound c) (sends : SendsOn c d next new) (more : Adds next new RestCalls)
           (rows : OwnTo t c u d (Ok tt) next new) where
         kept : d.adaptors ≡ b.adaptors
         kept = posted.same.rest.adaptors ∙ ap (λ (k : Agents). k.adaptors) same
@@ -427,10 +426,10 @@ module _ (i count reads : ℕ) (s t : Sinks) (a b : Agents) {old now : Option Hi
                   (sends stamped started s x.read.offset one low).0;
               lives = keeps_then a b d so.lives (keeps_same b d kept);
               rows = held_own (Ok tt) rows;
-              acts = acts_then stepped_acts more;
+              acts = acts_then stepped_acts (as_round more);
               script = λ r w last later.
                   so.script r w last
-                  (scripts.held so.here.0 used so.here.1 (subst (λ q. IsOneStepped i so.here.0 b q c now next) is one) (went more) posted later);
+                  (scripts.held so.here.0 used so.here.1 (subst (λ q. IsOneStepped i so.here.0 b q c now next) is one) more posted later);
               few = so.few;
               faults = omega (arith, first, on_late);
             }

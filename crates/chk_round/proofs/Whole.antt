@@ -1,5 +1,5 @@
 -- The parts of a round in turn.
-use Rattle.std.proofs.Common.{◌≡◌, ◌⊎◌, inl, inr, ℕ, Bool, true, false, not, List, ◌++◌, Option, Some, None, Result, Ok, Err, ap, sym, subst, ◌∙◌, refl, arith, append_assoc, true≢false}
+use Rattle.std.proofs.Common.{◌≡◌, ◌⊎◌, inl, inr, ℕ, Bool, true, false, not, List, [], ◌∷◌, ◌++◌, Option, Some, None, Result, Ok, Err, ap, sym, subst, ◌∙◌, refl, arith, append_assoc, true≢false}
 use Rattle.std.specs.Prelude.{Contains, IsFalse, IsTrue, codes, is_some, ◌&&◌, slice_get}
 use Rattle.chk_bytes.specs.Stems.{Stem, is_stem, same_stem, stem_text}
 use Rattle.chk_site.specs.declared.acts.Role.TheVariants.{Agent, Collector}
@@ -16,6 +16,7 @@ use Rattle.chk_world.specs.Checkpoints.{Line, checkpoint_lines}
 use Rattle.chk_world.specs.Committed.{IsAbsent}
 use Rattle.chk_world.specs.DoneSinks.{IsGone}
 use Rattle.chk_world.specs.Knowing.{agent}
+use Rattle.chk_world.specs.Laws.{agent_of}
 use Rattle.chk_world.specs.NamedEnds.{gave_up}
 use Rattle.chk_world.specs.Names.{SinkFile, file}
 use Rattle.chk_world.specs.Rules.{Legal}
@@ -37,11 +38,13 @@ use Rattle.chk_round.specs.declared.faults.RoundFault.{RoundFault}
 use Rattle.chk_round.specs.declared.faults.RoundFault.TheVariants.{Outside, NoMemory, Damaged, Length, Growing, Shrank, Spent, Refused, Checkpoint}
 use Rattle.chk_round.specs.Closing.{Closed, HasRun}
 use Rattle.chk_round.specs.Delivering.{Delivered}
-use Rattle.chk_round.specs.Done.{ArchivedTo, AtRead, ReadTo}
+use Rattle.chk_round.specs.Calls.{RestCalls}
+use Rattle.chk_round.specs.Done.{ArchivedTo, AtRead, NoneRead, RanWhole, ReadTo, WholeAtLast}
+use Rattle.chk_round.specs.Following.{HasPathAlone, KeepsLogs}
 use Rattle.chk_round.specs.Joint.{AreIn, BothAt, GoesOn, JointTo}
-use Rattle.chk_round.specs.Reading.{ReadsAll, ReadsOn}
+use Rattle.chk_round.specs.Reading.{ReadsAll, ReadsAlone, ReadsOn}
 use Rattle.chk_round.specs.Rounds.{AfterRun, AllSteady, RoundDone, RunsTo}
-use Rattle.chk_round.specs.Scripts.{WereRead}
+use Rattle.chk_round.specs.Scripts.{ReadsNoMore, WereRead}
 use Rattle.chk_round.specs.Sending.{NonePast, QueueBelow, SendsBelow, SendsNone, SendsRest}
 use Rattle.chk_collector.specs.Passing.{HasPassed}
 use Rattle.chk_round.specs.LastPolls.{LastPoll, MayBeLost}
@@ -52,11 +55,13 @@ use Rattle.chk_round.proofs.Given.{GivenNone, given_join, pair, pair_given}
 use Rattle.chk_round.proofs.Gone.{none_gone_on}
 use Rattle.chk_round.proofs.Joining.{in_on}
 use Rattle.chk_round.proofs.Logs.{both_lead, early, late, ran}
-use Rattle.chk_round.proofs.OwnReads.{at_read_early}
+use Rattle.chk_round.proofs.Acts.{rest_then}
+use Rattle.chk_round.proofs.Alone.{alone_before}
+use Rattle.chk_round.proofs.OwnReads.{at_read_early, rest_reads_none}
 use Rattle.chk_round.proofs.QueueBelow.{queue_below}
 use Rattle.chk_round.proofs.Sent.{Known, Waits, adds_each, some_at}
 use Rattle.chk_round.proofs.Theirs.{found_in}
-use Rattle.chk_round.proofs.WholeRounds.{adaptor_whole, done_ran, job_ran_whole, read_on}
+use Rattle.chk_round.proofs.WholeRounds.{adaptor_archive, adaptor_whole, done_ran, job_ran_whole, none_read_join, read_alone, read_on}
 
 -- ---- the ends
 
@@ -68,6 +73,7 @@ given_up stamped c s stem got want h m own born same none =
     record {
       poll = m.poll;
       own = own;
+      start = born ∙ sym m.start;
       lost = lost;
       passed = subst (λ b. HasPassed c b h) (sym born) (m.passed own born lost);
     }
@@ -134,7 +140,8 @@ record LineRead (source : List ℕ) (b : Agents) (l : Line) (added history : His
   lives : is_past adaptor.phase ≡ false
   stream : stream_at b.source adaptor ≡ stream_of source l
   offset : adaptor.read.offset ≡ l.offset
-  read : ReadTo (stream_at b.source adaptor) adaptor.read.offset added history
+  read : ReadTo (stream_at b.source adaptor) adaptor.read.offset (HasPathAlone l (lines_of b)) added
+      history
 
 -- where that line's stream was read to in the part before
 record LineBefore (source : List ℕ) (a1 b : Agents) (l : Line) (added history : History) : Type 0 where
@@ -171,6 +178,27 @@ were_read a a1 b steady on delivered i y at lives =
       sym (far.2.kind ∙ stream.0),
       sym (far.2.path ∙ stream.1),
     )
+
+-- a part of collector and agent alone, and then the close: no log is read, and the job was given the
+-- names of the sinks once
+pub reads_no_more : (s : Sinks) (a : Agents) (t : Sinks) (b : Agents) {old mid new : Option History}
+    → JointTo s a t b (Ok tt) old mid → Adds old mid RestCalls → Adds mid new RestCalls
+    → Adds mid new GivenOnce → Adds old new ReadsNoMore
+reads_no_more s a t b joint first second once =
+    adds_both ReadsNoMore (rest_then first second)
+    (adds_then GivenOnce
+    (joint [] (pair s.collector a.source) (pair s.collector a.source) (record {
+      collector_started = (0, omega arith, refl);
+      collector_acts = (0, omega arith, refl);
+      agent_started = (1, omega arith, refl);
+      agent_acts = (1, omega arith, refl);
+    }))
+    once
+    (λ x y h led last.
+    let all = given_join y x in
+    let none = pair_given s.collector a.source x h led.own in
+    omega (arith, all, none, last)))
+    (λ x h p q. record { calls = p; once = q })
 
 module _ (stamped : List (List ℕ)) (started acting : List Who) (s : Sinks) (a : Agents) where
   -- from more than both know
@@ -247,13 +275,14 @@ module _ (stamped : List (List ℕ)) (started acting : List Who) (s : Sinks) (a 
           })
 
       module _ (steady : AllSteady a) (sound1 : IsSound a1) (delivered : Delivered a1 b) (rest : SendsRest a1 mid late_at)
-          (reads_given : Adds old mid GivenNone) where
+          (reads_given : Adds old mid GivenNone) (late_calls : Adds mid late_at RestCalls)
+          (keeps : KeepsLogs a b) where
         -- ---- the reads and the delivery
 
         -- a live line's log was read to its end
         line_before : (x history : History) → ((i : ℕ) (k y : Adaptor) → slice_get a.adaptors i ≡ Some k
             → is_stepped k.phase ≡ true → slice_get a1.adaptors i ≡ Some y
-            → ReadTo (stream_at a.source k) y.read.offset x history)
+            → ReadTo (stream_at a.source k) y.read.offset (ReadsAlone i k a) x history)
             → (l : Line) → Contains (lines_of b) l → l.live ≡ true → LineBefore a.source a1 b l x history
         line_before x history whole l one live =
             let in_it = line_in b.adaptors b.delivery.table.committed l one in
@@ -280,8 +309,15 @@ module _ (stamped : List (List ℕ)) (started acting : List Who) (s : Sinks) (a 
                 lives = lives;
                 stream = stream_same source (sym (ap (λ (m : Line). m.kind) in_it.3)) (sym (ap (λ (m : Line). m.path) in_it.3));
                 offset = sym (ap (λ (m : Line). m.offset) in_it.3 ∙ delivered.delivered.committed i k in_it.2 lives);
-                read = subst (λ q. ReadTo q k.read.offset x history) was
-                    (subst (λ n. ReadTo (stream_at a.source first.0) n x history) (sym far.2.offset) found);
+                read = subst (λ q. ReadTo q k.read.offset (HasPathAlone l (lines_of b)) x history) was
+                    (subst (λ n. ReadTo (stream_at a.source first.0) n (HasPathAlone l (lines_of b)) x history)
+                    (sym far.2.offset)
+                    (read_alone (stream_at a.source first.0) far.0.read.offset (ReadsAlone i first.0 a)
+                    (HasPathAlone l (lines_of b))
+                    (alone_before a a1 b steady on sound1 keeps l i first.0 first.1
+                    (sym (far.2.kind ∙ stream.0) ∙ sym (ap (λ (m : Line). m.kind) in_it.3))
+                    (sym (far.2.path ∙ stream.1) ∙ sym (ap (λ (m : Line). m.path) in_it.3)))
+                    x history found));
               };
               low = subst (λ q. QueueBelow q k.read.offset a1) now
                   (subst (λ n. QueueBelow (stream_at a1.source far.0) n a1) (sym far.2.offset)
@@ -304,11 +340,12 @@ module _ (stamped : List (List ℕ)) (started acting : List Who) (s : Sinks) (a 
 
         settled_lines : (x y history : History) → ReadsAll stamped started acting s a s1 a1 (Ok tt) x history
             → Leads (Together stamped started acting) (BothAt stamped s1 a1) (BothAt stamped s2 b) y (x ++ history)
+            → RestCalls y (x ++ history)
             → ((k : Waits started a1) → Sent k y (x ++ history))
             → Others (OutsideOf stamped started) (y ++ x) history → BothAt stamped s a history
             → is_stopped ((y ++ x) ++ history) ≡ false → (l : Line) → Contains (lines_of b) l → l.live ≡ true
             → LineRead a.source b l (y ++ x) history
-        settled_lines x y history first second sent others both running l one live =
+        settled_lines x y history first second quiet sent others both running l one live =
             let m = line_before x history
             (first.whole refl (early stamped started acting y x history others) both
             (ran stamped started acting y x history second running)) l one live in
@@ -320,13 +357,14 @@ module _ (stamped : List (List ℕ)) (started acting : List Who) (s : Sinks) (a 
               lives = m.line.lives;
               stream = m.line.stream;
               offset = m.line.offset;
-              read = read_on (stream_at b.source k) k.read.offset y x history m.line.read
+              read = read_on (stream_at b.source k) k.read.offset (HasPathAlone l (lines_of b)) y x history m.line.read
                   (sent (record {
                     stream = stream_at b.source k;
                     end = k.read.offset;
                     one = subst (λ n. Contains started (record { role = Agent; name = n })) (sym (delivered.source ∙ on.source)) run.agent_started;
                     low = m.low;
-                  }) (late stamped started acting y x history others));
+                  }) (late stamped started acting y x history others))
+                  (λ alone. rest_reads_none (stream_at b.source k) y (x ++ history) quiet);
             }
 
         settled : Adds old late_at Settled
@@ -334,13 +372,15 @@ module _ (stamped : List (List ℕ)) (started acting : List Who) (s : Sinks) (a 
             adds_then Settled
             (adds_both (λ x h. ReadsAll stamped started acting s a s1 a1 (Ok tt) x h × GivenNone x h) read reads_given (λ x h p q. (p, q)))
             (adds_each Sent
-            (adds_both (λ y h. Leads (Together stamped started acting) (BothAt stamped s1 a1) (BothAt stamped s2 b) y h × GivenNone y h)
-            (joint stamped started acting run_on) delivery_given (λ y h p q. (p, q)))
+            (adds_both (λ y h. Leads (Together stamped started acting) (BothAt stamped s1 a1) (BothAt stamped s2 b) y h
+            × (GivenNone y h × RestCalls y h))
+            (joint stamped started acting run_on)
+            (adds_both (λ y h. GivenNone y h × RestCalls y h) delivery_given late_calls (λ y h p q. (p, q))) (λ y h p q. (p, q)))
             (λ k. rest stamped started k.stream k.end k.one k.low))
             (λ x y history first second. record {
               leads = both_lead (Together stamped started acting) x y history first.0.leads second.0.0;
-              none = (let all = given_join y x in let p = first.1 in let q = second.0.1 in omega (arith, all, p, q));
-              lines = settled_lines x y history first.0 second.0.0 second.1;
+              none = (let all = given_join y x in let p = first.1 in let q = second.0.1.0 in omega (arith, all, p, q));
+              lines = settled_lines x y history first.0 second.0.0 second.0.1.1 second.1;
             })
           where
             delivery_given : Adds mid late_at GivenNone
@@ -360,7 +400,7 @@ module _ (stamped : List (List ℕ)) (started acting : List Who) (s : Sinks) (a 
             {new : Option History}
             (closed : Adds late_at new (Leads (Together stamped started acting) (BothAt stamped s2 b) (Closed stamped t b (Ok v))))
             (given_once : Adds late_at new GivenOnce) (sends_none : SendsNone late_at new) (lists : ListsTheirs s2 late_at new)
-            (j_in : Contains started job) where
+            (j_in : Contains started job) (closing_calls : Adds late_at new RestCalls) where
           -- no sink is left under writing
           none_left : (h : History) → is_stopped h ≡ false
               → SinksMatch stamped t h → (stem : Stem) → IsTrue (is_stem stem) → stem.collector ≡ s.collector
@@ -380,20 +420,30 @@ module _ (stamped : List (List ℕ)) (started acting : List Who) (s : Sinks) (a 
             once : GivenOnce added history
             theirs : TheirsOnly stamped started s2 added history
             none_sent : (k : Known started) → SendsBelow stamped started k.stream k.end added history
+            unread : RestCalls added history
 
           ended : Adds late_at new Ended
           ended =
               adds_as Ended
               (adds_each (λ (k : Known started). SendsBelow stamped started k.stream k.end)
-              (adds_both (λ z h. (Leads (Together stamped started acting) (BothAt stamped s2 b) (Closed stamped t b (Ok v)) z h × GivenOnce z h)
+              (adds_both (λ z h. (Leads (Together stamped started acting) (BothAt stamped s2 b) (Closed stamped t b (Ok v)) z h
+              × (GivenOnce z h × RestCalls z h))
               × TheirsOnly stamped started s2 z h)
-              (adds_both (λ z h. Leads (Together stamped started acting) (BothAt stamped s2 b) (Closed stamped t b (Ok v)) z h × GivenOnce z h)
-              closed given_once (λ z h p q. (p, q)))
+              (adds_both (λ z h. Leads (Together stamped started acting) (BothAt stamped s2 b) (Closed stamped t b (Ok v)) z h
+              × (GivenOnce z h × RestCalls z h))
+              closed (adds_both (λ z h. GivenOnce z h × RestCalls z h) given_once closing_calls (λ z h p q. (p, q)))
+              (λ z h p q. (p, q)))
               (lists stamped started
               (subst (λ n. Contains started (record { role = Collector; name = n })) (sym (c_is ∙ same)) run.collector_started) j_in)
               (λ z h p q. (p, q)))
               (λ k. sends_none stamped started k.stream k.end k.one))
-              (λ z h x. record { closing = x.0.0.0; once = x.0.0.1; theirs = x.0.1; none_sent = x.1 })
+              (λ z h x. record {
+                closing = x.0.0.0;
+                once = x.0.0.1.0;
+                theirs = x.0.1;
+                none_sent = x.1;
+                unread = x.0.0.1.1;
+              })
 
           module _ (w z history : History) (first : Settled w history) (second : Ended z (w ++ history))
               (others : Others (OutsideOf stamped started) (z ++ w) history) (both : BothAt stamped s a history)
@@ -441,6 +491,11 @@ module _ (stamped : List (List ℕ)) (started acting : List Who) (s : Sinks) (a 
                   one = subst (λ n. Contains started (record { role = Agent; name = n })) (sym (delivered.source ∙ on.source)) run.agent_started;
                 }) (late stamped started acting z w history others)
 
+            ran_whole : v.unclosed ≡ 0 → RanWhole z (w ++ history)
+            ran_whole none =
+                job_ran_whole v.taken v.held v.removed z (w ++ history)
+                (done_ran has.0 (report_view v) z (w ++ history) has.1 none second.once)
+
             -- the archive of a live line is its whole log
             archived : (l : Line) → LineRead a.source b l w history → v.unclosed ≡ 0
                 → ArchivedTo (stream_of a.source l) l.offset (z ++ w) history
@@ -448,9 +503,35 @@ module _ (stamped : List (List ℕ)) (started acting : List Who) (s : Sinks) (a 
                 subst (λ q. ArchivedTo q l.offset (z ++ w) history) m.stream
                 (subst (λ n. ArchivedTo (stream_at b.source m.adaptor) n (z ++ w) history) m.offset
                 (adaptor_whole stamped b z w history end.1.1.legal sound at_rest.1.0 delivered.ready rested delivered.delivered
-                m.place m.adaptor m.at m.lives m.read (none_past l m)
-                (job_ran_whole v.taken v.held v.removed z (w ++ history)
-                (done_ran has.0 (report_view v) z (w ++ history) has.1 none second.once))))
+                m.place m.adaptor m.at m.lives (HasPathAlone l (lines_of b)) m.read (none_past l m) (ran_whole none)))
+
+            -- that it was so at the last read of its log
+            at_last : (l : Line) → LineRead a.source b l w history → HasPathAlone l (lines_of b)
+                → WholeAtLast (stream_of a.source l) l.offset v.unclosed (z ++ w) history
+            at_last l m alone =
+                let q = stream_at b.source m.adaptor in
+                let at = m.read.at in
+                subst (λ (s : Stream). WholeAtLast s l.offset v.unclosed (z ++ w) history) m.stream
+                (subst (λ n. WholeAtLast q n v.unclosed (z ++ w) history) m.offset (record {
+                  at = record {
+                    later = z ++ at.later;
+                    step = at.step;
+                    earlier = at.earlier;
+                    split = ap (λ x. z ++ x) at.split ∙ sym (append_assoc z at.later (at.step ∷ at.earlier));
+                    read = at.read;
+                    holds = (
+                      at.holds,
+                      λ none. adaptor_archive stamped b z w history end.1.1.legal sound at_rest.1.0 delivered.ready rested
+                          delivered.delivered m.place m.adaptor m.at m.lives (HasPathAlone l (lines_of b)) m.read
+                          (none_past l m) (ran_whole none),
+                    );
+                  };
+                  last = none_read_join q m.adaptor.read.offset z at.later (at.step ∷ at.earlier ++ history)
+                      (m.read.last alone)
+                      (subst (λ (k : History). NoneRead (agent_of q) q.name z k)
+                      (ap (λ k. k ++ history) at.split ∙ append_assoc at.later (at.step ∷ at.earlier) history)
+                      (rest_reads_none q z (w ++ history) second.unread));
+                }))
 
             -- that its offset was the end of the whole log
             was_read : (l : Line) → LineRead a.source b l w history
@@ -472,6 +553,8 @@ module _ (stamped : List (List ℕ)) (started acting : List Who) (s : Sinks) (a 
                 record {
                   each = λ l one live none. archived l (line_at_rest l one live) none;
                   read = λ l one live. was_read l (line_at_rest l one live);
+                  last = λ l one live alone.
+                      at_last l (line_at_rest l one live) (subst (HasPathAlone l) lines_are alone);
                   lines = lines_are;
                   one_cluster = all_of_cluster;
                   run = record {

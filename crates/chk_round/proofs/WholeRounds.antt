@@ -8,9 +8,11 @@ use Rattle.chk_site.specs.declared.acts.Act.{Act}
 use Rattle.chk_site.specs.declared.acts.ActAnswer.{ActAnswer}
 use Rattle.chk_site.specs.declared.acts.ActAnswer.TheVariants.{Done}
 use Rattle.chk_site.specs.declared.acts.Role.TheVariants.{Job}
-use Rattle.chk_site.specs.Acts.{Deed, Lists, deed, same_role}
+use Rattle.chk_site.specs.Acts.{Deed, Lists, ReadsLog, deed, same_role}
 use Rattle.chk_site.specs.History.{History, files_after, is_stopped}
+use Rattle.chk_site.specs.Logs.{Part}
 use Rattle.chk_site.specs.Runs.{own_acts}
+use Rattle.chk_site.proofs.Runs.{every_join}
 use Rattle.chk_chunk.specs.Keys.{Stream}
 use Rattle.chk_world.specs.ArchiveRuns.{IsArchiveRun, Listing, last_listing, listing_by}
 use Rattle.chk_world.specs.Books.{Book}
@@ -30,7 +32,7 @@ use Rattle.chk_agent.proofs.Soundness.{line_there}
 use Rattle.chk_archive.specs.Archived.{GivenOnce, RunDone, gives_sinks, is_job_listing}
 use Rattle.chk_archive.specs.Reports.{Report}
 use Rattle.chk_drain.specs.Drains.{AllDelivered}
-use Rattle.chk_round.specs.Done.{ArchivedTo, JobRan, RanWhole, ReadTo}
+use Rattle.chk_round.specs.Done.{ArchivedTo, JobRan, NoneRead, RanWhole, ReadTo}
 use Rattle.chk_round.specs.Sending.{NonePast}
 use Rattle.chk_round.proofs.NonePast.{none_past_in, none_past_join}
 use Rattle.chk_round.proofs.OwnReads.{EndsWithRead, at_read_early}
@@ -39,9 +41,10 @@ use Rattle.chk_round.proofs.OwnReads.{EndsWithRead, at_read_early}
 
 module _ (s : Stream) (end : ℕ) where
   -- the last of these steps
-  pub read_now : (added history : History) → EndsWithRead (agent_of s) s.name added history
-      → whole_end (added ++ history) s ≡ end → ReadTo s end added history
-  read_now added history last whole = record {
+  pub read_now : (Alone : Type 0) (added history : History)
+      → EndsWithRead (agent_of s) s.name added history
+      → whole_end (added ++ history) s ≡ end → ReadTo s end Alone added history
+  read_now Alone added history last whole = record {
     at = record {
       later = [];
       step = last.step;
@@ -51,13 +54,34 @@ module _ (s : Stream) (end : ℕ) where
       holds = ap (λ (k : History). whole_end (k ++ history) s) (sym last.is) ∙ whole;
     };
     no_more = tt;
+    last = λ alone. tt;
   }
 
+  -- where it is read alone under other words
+  pub read_alone : (A B : Type 0) → (B → A) → (added history : History)
+      → ReadTo s end A added history → ReadTo s end B added history
+  read_alone A B weaker added history r = record {
+    at = r.at;
+    no_more = r.no_more;
+    last = λ alone. r.last (weaker alone);
+  }
+
+  pub none_read_join : (b a history : History) → NoneRead (agent_of s) s.name a history
+      → NoneRead (agent_of s) s.name b (a ++ history)
+      → NoneRead (agent_of s) s.name (b ++ a) history
+  none_read_join b a history x y =
+      every_join
+      (λ before step. step.own ≡ true → step.act.who ≡ agent_of s → (part : Part) (at max : ℕ)
+      → deed step.act ≡ ReadsLog s.name part at max → ⊥) b a history x y
+
   -- steps behind it
-  pub read_on : (more added history : History) → ReadTo s end added history
-      → NonePast s end more (added ++ history) → ReadTo s end (more ++ added) history
-  read_on more added history r none =
+  pub read_on : (Alone : Type 0) (more added history : History) → ReadTo s end Alone added history
+      → NonePast s end more (added ++ history)
+      → (Alone → NoneRead (agent_of s) s.name more (added ++ history))
+      → ReadTo s end Alone (more ++ added) history
+  read_on Alone more added history r none unread =
       let upto : History = r.at.step ∷ r.at.earlier in
+      let here = ap (λ k. k ++ history) r.at.split ∙ append_assoc r.at.later upto history in
       record {
         at = record {
           later = more ++ r.at.later;
@@ -69,8 +93,10 @@ module _ (s : Stream) (end : ℕ) where
         };
         no_more =
             none_past_join s end more r.at.later (upto ++ history) r.no_more
-            (subst (λ (k : History). NonePast s end more k)
-            (ap (λ k. k ++ history) r.at.split ∙ append_assoc r.at.later upto history) none);
+            (subst (λ (k : History). NonePast s end more k) here none);
+        last = λ alone.
+            none_read_join more r.at.later (upto ++ history) (r.last alone)
+            (subst (λ (k : History). NoneRead (agent_of s) s.name more k) here (unread alone));
       }
 
 -- ---- the checkpoint
@@ -196,7 +222,8 @@ done_ran loaded r added history d none once = record {
 
 -- s was read to `end`, the checkpoint came there, nothing past it is sent, and then a run is complete
 module _ (stamped : List (List ℕ)) (s : Stream) (end : ℕ) (closing settled history : History)
-    (legal : Legal stamped (closing ++ (settled ++ history))) (r : ReadTo s end settled history)
+    (legal : Legal stamped (closing ++ (settled ++ history))) (Alone : Type 0)
+    (r : ReadTo s end Alone settled history)
     (at_end : checkpoint_of (files_after (settled ++ history)) s ≡ end)
     (none : NonePast s end closing (settled ++ history))
     (ran : RanWhole closing (settled ++ history)) where
@@ -240,8 +267,15 @@ module _ (stamped : List (List ℕ)) (s : Stream) (end : ℕ) (closing settled h
         settled_is ran.complete;
   }
 
-  pub stream_whole : ArchivedTo s end (closing ++ settled) history
+  -- the archive is the whole log as it was at that read
+  pub archive_is : archive_of_stream (files_after ((closing ++ settled) ++ history)) s
+      ≡ whole_log read s
   unfolding round_of
+  archive_is =
+      ap (λ k. archive_of_stream (files_after k) s) (append_assoc closing settled history)
+      ∙ rounds_whole law_covered stamped (closing ++ (settled ++ history)) legal s round_of
+
+  pub stream_whole : ArchivedTo s end (closing ++ settled) history
   stream_whole =
       at_read_early
       (λ (h : History). (whole_end h s ≡ end)
@@ -253,28 +287,37 @@ module _ (stamped : List (List ℕ)) (s : Stream) (end : ℕ) (closing settled h
         earlier = r.at.earlier;
         split = r.at.split;
         read = r.at.read;
-        holds = (
-          r.at.holds,
-          ap (λ k. archive_of_stream (files_after k) s) (append_assoc closing settled history)
-              ∙ rounds_whole law_covered stamped (closing ++ (settled ++ history)) legal s round_of,
-        );
+        holds = (r.at.holds, archive_is);
       })
 
 -- ---- an adaptor whose log was read to its end
 
 -- all that was read is committed and saved; then the collector and the job close the round
-pub adaptor_whole : (stamped : List (List ℕ)) (a : State) (closing settled history : History)
-    → Legal stamped (closing ++ (settled ++ history)) → IsSound a
-    → Matches stamped a (settled ++ history)
-    → a.ready ≡ true → is_stopped (settled ++ history) ≡ false → AllDelivered a
-    → (i : ℕ) (x : Adaptor) → slice_get a.adaptors i ≡ Some x → is_past x.phase ≡ false
-    → ReadTo (stream_at a.source x) x.read.offset settled history
-    → NonePast (stream_at a.source x) x.read.offset closing (settled ++ history)
-    → RanWhole closing (settled ++ history)
-    → ArchivedTo (stream_at a.source x) x.read.offset (closing ++ settled) history
-adaptor_whole stamped a closing settled history legal sound matches ready running delivered i x at
-    live r none ran =
-    stream_whole stamped (stream_at a.source x) x.read.offset closing settled history legal r
-    (checkpoint_at stamped a (settled ++ history) sound matches ready running delivered.saved i x at
-    ∙ delivered.committed i x at live)
-    none ran
+module _ (stamped : List (List ℕ)) (a : State) (closing settled history : History)
+    (legal : Legal stamped (closing ++ (settled ++ history))) (sound : IsSound a)
+    (matches : Matches stamped a (settled ++ history))
+    (ready : a.ready ≡ true) (running : is_stopped (settled ++ history) ≡ false)
+    (delivered : AllDelivered a)
+    (i : ℕ) (x : Adaptor) (there : slice_get a.adaptors i ≡ Some x)
+    (live : is_past x.phase ≡ false) (Alone : Type 0)
+    (r : ReadTo (stream_at a.source x) x.read.offset Alone settled history)
+    (none : NonePast (stream_at a.source x) x.read.offset closing (settled ++ history))
+    (whole : RanWhole closing (settled ++ history)) where
+  at_end : checkpoint_of (files_after (settled ++ history)) (stream_at a.source x)
+      ≡ x.read.offset
+  at_end =
+      checkpoint_at stamped a (settled ++ history) sound matches ready running delivered.saved i x
+      there
+      ∙ delivered.committed i x there live
+
+  pub adaptor_whole : ArchivedTo (stream_at a.source x) x.read.offset (closing ++ settled) history
+  adaptor_whole =
+      stream_whole stamped (stream_at a.source x) x.read.offset closing settled history legal Alone
+      r at_end none whole
+
+  pub adaptor_archive : archive_of_stream (files_after ((closing ++ settled) ++ history))
+      (stream_at a.source x)
+      ≡ whole_log (r.at.step ∷ r.at.earlier ++ history) (stream_at a.source x)
+  adaptor_archive =
+      archive_is stamped (stream_at a.source x) x.read.offset closing settled history legal Alone
+      r at_end none whole

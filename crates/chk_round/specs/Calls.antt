@@ -38,25 +38,39 @@ pub data CollectsBy (who : Who) : Deed → Type 0 where
   closes : (x : Stem) → x.collector ≡ who.name → (call : Deed) → IsOneOf (closing who x) call
       → CollectsBy who call
 
--- An agent reads logs, asks for the newest generation of one, replaces its checkpoint, sends
--- messages inside the process, and asks for the answers.
-pub data ReadsBy (who : Who) : Deed → Type 0 where
-  reads_log : (path : List ℕ) (part : Part) (at max : ℕ) → ReadsBy who (ReadsLog path part at max)
-  asks_newest : (path : List ℕ) → ReadsBy who (AsksNewest path)
+-- An agent replaces its checkpoint, sends messages inside the process, and asks for the answers.
+pub data TalksBy (who : Who) : Deed → Type 0 where
   saves : (text : List ℕ) (call : Deed)
-      → IsOneOf (replacement who (spell (CheckFile who.name)) text) call → ReadsBy who call
-  sends : (message : ℕ) (bytes : List ℕ) → ReadsBy who (Sends message self_address bytes)
-  gets : (message : ℕ) → ReadsBy who (Gets message)
+      → IsOneOf (replacement who (spell (CheckFile who.name)) text) call → TalksBy who call
+  sends : (message : ℕ) (bytes : List ℕ) → TalksBy who (Sends message self_address bytes)
+  gets : (message : ℕ) → TalksBy who (Gets message)
+
+-- It reads logs, and asks for the newest generation of one.
+pub data ReadsBy : Deed → Type 0 where
+  reads_log : (path : List ℕ) (part : Part) (at max : ℕ) → ReadsBy (ReadsLog path part at max)
+  asks_newest : (path : List ℕ) → ReadsBy (AsksNewest path)
+
+-- the call of one of the processes, which reads no log
+pub data IsRestCall : Who → Deed → Type 0 where
+  collects : (who : Who) → who.role ≡ Collector → (call : Deed) → CollectsBy who call
+      → IsRestCall who call
+  talks : (who : Who) → who.role ≡ Agent → (call : Deed) → TalksBy who call → IsRestCall who call
+  archives : (call : Deed) → ArchivesBy call → IsRestCall job call
 
 -- the call of one of the processes
 pub data IsRoundCall : Who → Deed → Type 0 where
-  collects : (who : Who) → who.role ≡ Collector → (call : Deed) → CollectsBy who call
-      → IsRoundCall who call
-  reads : (who : Who) → who.role ≡ Agent → (call : Deed) → ReadsBy who call → IsRoundCall who call
-  archives : (call : Deed) → ArchivesBy call → IsRoundCall job call
+  rests : (who : Who) (call : Deed) → IsRestCall who call → IsRoundCall who call
+  reads : (who : Who) → who.role ≡ Agent → (call : Deed) → ReadsBy call → IsRoundCall who call
+
+abbrev pub IsRestStep : History → Step → Type 0
+IsRestStep before step = IsRestCall step.act.who (deed step.act)
 
 abbrev pub IsRoundStep : History → Step → Type 0
 IsRoundStep before step = IsRoundCall step.act.who (deed step.act)
+
+-- each own step is such a call, and none reads a log
+abbrev pub RestCalls : History → History → Type 0
+RestCalls = Owns IsRestStep
 
 -- each own step is such a call
 abbrev pub RoundCalls : History → History → Type 0

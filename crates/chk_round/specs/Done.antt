@@ -5,6 +5,7 @@ use Rattle.chk_site.specs.declared.suffixes.Piece.{Piece}
 use Rattle.chk_site.specs.Acts.{ReadsLog, deed}
 use Rattle.chk_site.specs.History.{History, Step, files_after}
 use Rattle.chk_site.specs.Logs.{Part}
+use Rattle.chk_site.specs.Runs.{Owns}
 use Rattle.chk_site.specs.Site.{piece_given}
 use Rattle.chk_chunk.specs.Keys.{Stream}
 use Rattle.chk_world.specs.ArchiveRuns.{IsArchiveRun, Listing, last_listing}
@@ -41,11 +42,24 @@ pub record AtOwnRead (who : Who) (path : List ℕ) (P : History → Type 0) (add
 abbrev pub AtRead : Stream → (History → Type 0) → History → History → Type 0
 AtRead s = AtOwnRead (agent_of s) s.name
 
+-- no own step among these asks, for this process, for the log of this path
+abbrev pub NoneRead : Who → List ℕ → History → History → Type 0
+NoneRead who path =
+    Owns (λ before step. step.act.who ≡ who → (part : Part) (at max : ℕ)
+    → deed step.act ≡ ReadsLog path part at max → ⊥)
+
+-- the same of the last own read of the stream's log by its own agent
+pub record AtLastRead (s : Stream) (P : History → Type 0) (added history : History) : Type 0 where
+  pub at : AtRead s P added history
+  pub last : NoneRead (agent_of s) s.name at.later (at.step ∷ at.earlier ++ history)
+
 -- At such a read the whole log of the stream ended at this offset, and behind it nothing of the
--- stream was sent past that.
-pub record ReadTo (s : Stream) (end : ℕ) (added history : History) : Type 0 where
+-- stream was sent past that. Where it is read alone, that read is the last one.
+pub record ReadTo (s : Stream) (end : ℕ) (Alone : Type 0) (added history : History)
+    : Type 0 where
   pub at : AtRead s (λ read. whole_end read s ≡ end) added history
   pub no_more : NonePast s end at.later (at.step ∷ at.earlier ++ history)
+  pub last : Alone → NoneRead (agent_of s) s.name at.later (at.step ∷ at.earlier ++ history)
 
 -- ---- the run of the job
 
@@ -65,6 +79,16 @@ pub record RanWhole (added history : History) : Type 0 where
   pub complete : IsComplete (added ++ history) (record { names = names; upto = earlier ++ history })
 
 -- ---- the archive
+
+-- At the last own read of the stream's log its whole log ended at this offset, and where no sink was
+-- listed under writing, the archive is now that log.
+abbrev pub WholeAtLast : Stream → ℕ → ℕ → History → History → Type 0
+WholeAtLast s end unclosed added history =
+    AtLastRead s
+    (λ read. (whole_end read s ≡ end)
+    × (unclosed ≡ 0
+    → archive_of_stream (files_after (added ++ history)) s ≡ whole_log read s))
+    added history
 
 -- at such a read the whole log of the stream ended at this offset, and the archive is now that log
 abbrev pub ArchivedTo : Stream → ℕ → History → History → Type 0

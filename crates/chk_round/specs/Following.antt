@@ -49,6 +49,11 @@ abbrev pub HaveLines : List ℕ → List (List ℕ) → List Line → Type 0
 HaveLines kind logs lines =
     (log : List ℕ) → Contains logs log → HasLiveLine kind log lines ⊎ IsFullWithout kind log lines
 
+-- each live line of the path of this one is of its type: no other has that path
+abbrev pub HasPathAlone : Line → List Line → Type 0
+HasPathAlone l lines =
+    (k : Line) → Contains lines k → k.live ≡ true → k.path ≡ l.path → k.kind ≡ l.kind
+
 -- What is live now: just what was live before, and these logs under this type. The words' log for
 -- which there was no room isn't.
 pub record KeepsLive (kind : List ℕ) (logs : List (List ℕ)) (before now : List Line) : Type 0 where

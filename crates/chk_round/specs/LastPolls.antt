@@ -38,16 +38,18 @@ pub record IsLastPoll (collector : List ℕ) (stem : Stem) (got want : ℕ) (his
 pub record MayBeLost (collector : List ℕ) (born : ℕ) (stem : Stem) (got want : ℕ)
     (history : History) : Type 0 where
   pub poll : IsLastPoll collector stem got want history
+  pub start : poll.sinks.born ≡ born
   pub lost : stem.collector ≡ collector → IsTrue (gave_up stem history) ⊎ IsGone history stem
   pub passed : stem.collector ≡ collector → stem.born ≡ born → IsTrue (gave_up stem history)
       → HasPassed collector born history
 
--- The last steps are such a poll, of a sink of the collector's own, which was given up before, since
--- a sink of the same start has passed 2^62 bytes.
+-- The last steps are such a poll, of a sink of the start in which the collector made it, which was
+-- given up before, since a sink of the same start has passed 2^62 bytes.
 pub record LastPoll (collector : List ℕ) (stem : Stem) (got want : ℕ) (history : History)
     : Type 0 where
   pub poll : IsLastPoll collector stem got want history
   pub own : stem.collector ≡ collector
+  pub start : stem.born ≡ poll.sinks.born
   pub lost : IsTrue (gave_up stem history)
   pub passed : HasPassed collector stem.born history
 

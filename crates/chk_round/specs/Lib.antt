@@ -10,6 +10,7 @@ pub mod Closing
 pub mod Polling
 pub mod Reading
 pub mod Scripts
+pub mod Sites
 pub mod Calls
 pub mod Lengths
 pub mod LastPolls

@@ -1,5 +1,5 @@
 -- What the reads of a round lead to.
-use Rattle.std.specs.Prelude.{◌≡◌, ℕ, true, false, List, ◌++◌, length, slice_get, Some, Result, Ok, Err}
+use Rattle.std.specs.Prelude.{◌≡◌, ◌≢◌, ℕ, true, false, List, ◌++◌, length, slice_get, Some, Result, Ok, Err}
 use Rattle.chk_site.specs.declared.acts.Who.{Who}
 use Rattle.chk_site.specs.History.{History, Others, is_stopped}
 use Rattle.chk_site.specs.Runs.{Leads}
@@ -51,6 +51,12 @@ AfterReadOut stamped i t b (Ok value) history =
     BothAt stamped t b history × (is_stopped history ≡ false → IsAtWholeEnd b i history)
 AfterReadOut stamped i t b (Err fault) history = GoesOn stamped t b (Err fault) history
 
+-- no other adaptor that is read on reads the log of this one
+abbrev pub ReadsAlone : ℕ → Adaptor → Agents → Type 0
+ReadsAlone i x a =
+    (k : ℕ) (z : Adaptor) → k ≢ i → slice_get a.adaptors k ≡ Some z → is_stepped z.phase ≡ true
+    → z.path ≡ x.path → ⊥
+
 -- Behind the reads of all adaptors. Each that was read on is read to the end of its whole log by one
 -- of these reads, and nothing of its stream was sent past that since.
 pub record ReadsAll (stamped : List (List ℕ)) (started acting : List Who) (s : Sinks) (a : Agents) (t : Sinks) (b : Agents)
@@ -59,4 +65,4 @@ pub record ReadsAll (stamped : List (List ℕ)) (started acting : List Who) (s :
   pub whole : result ≡ Ok tt → Others (OutsideOf stamped started) added history → BothAt stamped s a history
       → is_stopped (added ++ history) ≡ false → (i : ℕ) (x y : Adaptor) → slice_get a.adaptors i ≡ Some x
       → is_stepped x.phase ≡ true → slice_get b.adaptors i ≡ Some y
-      → ReadTo (stream_at a.source x) y.read.offset added history
+      → ReadTo (stream_at a.source x) y.read.offset (ReadsAlone i x a) added history

@@ -24,7 +24,8 @@ use Rattle.chk_archive.specs.declared.report.Report.{Report}
 use Rattle.chk_round.specs.declared.faults.RoundFault.{RoundFault}
 use Rattle.chk_round.specs.declared.faults.RoundFault.TheVariants.{Damaged, Length, Shrank, Spent, Checkpoint, Refused}
 use Rattle.chk_round.specs.Closing.{HasRun}
-use Rattle.chk_round.specs.Done.{ArchivedTo, AtRead, JobRan}
+use Rattle.chk_round.specs.Done.{ArchivedTo, AtRead, JobRan, WholeAtLast}
+use Rattle.chk_round.specs.Following.{HasPathAlone}
 use Rattle.chk_round.specs.Joint.{BothAt, OnlyStopped}
 use Rattle.chk_round.specs.LastPolls.{LastPoll}
 use Rattle.chk_round.specs.OwnRows.{FromStart}
@@ -65,6 +66,11 @@ pub record RoundDone (collector source : List ℕ) (b : Agents) (r : Report) (ad
       → l.live ≡ true
       → AtRead (stream_of source l) (λ read. whole_end read (stream_of source l) ≡ l.offset)
       added history
+  -- where no other live line has its path, so it was at the last own read of that log in these steps
+  pub last : (l : Line) → Contains (checkpoint_lines (files_after (added ++ history)) source) l
+      → l.live ≡ true
+      → HasPathAlone l (checkpoint_lines (files_after (added ++ history)) source)
+      → WholeAtLast (stream_of source l) l.offset r.unclosed added history
   pub lines : checkpoint_lines (files_after (added ++ history)) source ≡ lines_of b
   -- each chunk that the agent has sent since its start is of its cluster
   pub one_cluster : AllOfCluster b.cluster (since_start (agent source) (added ++ history))

@@ -10,7 +10,9 @@ use Rattle.chk_agent.specs.Fills.{IsOneStepped}
 use Rattle.chk_agent.specs.States.{State, is_read_on, lines_of}
 use Rattle.chk_round.specs.declared.faults.RoundFault.{RoundFault}
 use Rattle.chk_round.specs.declared.faults.RoundFault.TheVariants.{Growing, Shrank}
+use Rattle.chk_archive.specs.Archived.{GivenOnce}
 use Rattle.chk_round.specs.Begun.{BeginsSo}
+use Rattle.chk_round.specs.Calls.{RestCalls}
 use Rattle.chk_round.specs.Faults.{of_agent}
 use Rattle.chk_round.specs.Following.{KeepsLive}
 use Rattle.chk_round.specs.Polling.{PostedSome}
@@ -26,9 +28,14 @@ IsNoRead (Growing path reads) = ⊥
 IsNoRead (Shrank path had is) = ⊥
 IsNoRead fault = Unit {0}
 
+-- no log is read any more, and the job was given the names of the sinks once
+pub record ReadsNoMore (added history : History) : Type 0 where
+  pub calls : RestCalls added history
+  pub once : GivenOnce added history
+
 -- The adaptor is stepped until its log gave nothing, until so many steps gave bytes, or until its
--- log was shorter than the place. Where the queue has no room for a step, posts go first. The first
--- number counts the steps that gave bytes.
+-- log was shorter than the place. Where the queue has no room for a step, posts go first, which read
+-- no log. The first number counts the steps that gave bytes.
 pub data ReadsOut (i reads : ℕ) : ℕ → State → Result (Unit {0}) RoundFault → State → Option History
     → Option History → Type 0 where
   at_end : {n : ℕ} {s t : State} {old new : Option History} (a : Adaptor)
@@ -50,7 +57,7 @@ pub data ReadsOut (i reads : ℕ) : ℕ → State → Result (Unit {0}) RoundFau
       → ReadsOut i reads n s (Err (of_agent fault)) t old new
   held : {n : ℕ} {s t u v : State} {result : Result (Unit {0}) RoundFault}
       {old mid next new : Option History} (a : Adaptor) (used : ℕ) → slice_get s.adaptors i ≡ Some a
-      → IsOneStepped i a s (Ok (Held used)) t old mid → Adds mid next Anything → PostedSome t u
+      → IsOneStepped i a s (Ok (Held used)) t old mid → Adds mid next RestCalls → PostedSome t u
       → ReadsOut i reads n u result v next new → ReadsOut i reads n s result v old new
   unposted : {n : ℕ} {s t u : State} {old mid new : Option History} (a : Adaptor) (used : ℕ)
       (fault : RoundFault) → slice_get s.adaptors i ≡ Some a
@@ -77,12 +84,12 @@ abbrev pub ReadsTo : ℕ → State → Result (Unit {0}) RoundFault → Option H
     → Type 0
 ReadsTo reads s result old new = (t : State) × ReadsEach reads 0 s result t old new
 
--- A run whose reads were made so. At Ok each log was read to its end; an end by a read is that of
--- these reads.
+-- A run whose reads were made so. At Ok each log was read to its end, and behind that none is read; an
+-- end by a read is that of these reads.
 abbrev pub RunReads : {T : Type 0} → ℕ → State → Result T RoundFault → Option History
     → Option History → Type 0
 RunReads reads s (Ok value) old new =
-    (mid : Option History) × ReadsTo reads s (Ok tt) old mid × Adds mid new Anything
+    (mid : Option History) × ReadsTo reads s (Ok tt) old mid × Adds mid new ReadsNoMore
 RunReads reads s (Err fault) old new = IsNoRead fault ⊎ ReadsTo reads s (Err fault) old new
 
 -- An end by a read, behind the calls that begin the round: it comes only of reads of this source's

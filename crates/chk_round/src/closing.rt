@@ -14,10 +14,10 @@ ghost use Rattle.chk_archive.specs.Archived.{GivenOnce};
 ghost use Rattle.chk_round.specs.Closing.{Closed};
 ghost use Rattle.chk_round.specs.Faults.{FailsLast, RoundCause};
 ghost use Rattle.chk_round.specs.Joint.{AreIn, BothAt};
-ghost use Rattle.chk_round.specs.Lengths.{IsPlain};
+ghost use Rattle.chk_round.specs.Lengths.{IsPlain, WorkShown};
 ghost use Rattle.chk_round.specs.Sending.{SendsNone};
 ghost use Rattle.chk_round.specs.Theirs.{ListsTheirs};
-ghost use Rattle.chk_round.specs.Calls.{RoundCalls};
+ghost use Rattle.chk_round.specs.Calls.{RestCalls};
 
 use crate::faults::RoundFault;
 use chk_archive::{Report, archive};
@@ -42,9 +42,10 @@ pub(crate) fn close<S: Site>(
     ensures given { OnOk result (Adds (S.told site.old) (S.told site.new) GivenOnce) }
     ensures same { IsSameStart collector.old collector.new }
     ensures finished { OnOk result (collector.new ≡ finished collector.old) }
-    ensures acts { Adds (S.told site.old) (S.told site.new) RoundCalls }
+    ensures acts { Adds (S.told site.old) (S.told site.new) RestCalls }
     ensures last { Adds (S.told site.old) (S.told site.new) (FailsLast result) }
     ensures only { IfErr result IsPlain }
+    ensures shown { WorkShown result (S.told site.old) (S.told site.new) }
     ensures cause { RoundCause (S.fault_count site.old) (S.fault_count site.new) result }
 {
     collector.finish(alloc, site)?;

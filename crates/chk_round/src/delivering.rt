@@ -9,11 +9,11 @@ ghost use Rattle.chk_round.specs.Delivering.{Delivered};
 ghost use Rattle.chk_round.specs.Faults.{FailsInside, RoundCause};
 ghost use Rattle.chk_round.specs.Following.{KeepsLogs};
 ghost use Rattle.chk_round.specs.Joint.{JointTo};
-ghost use Rattle.chk_round.specs.Lengths.{LengthCause};
+ghost use Rattle.chk_round.specs.Lengths.{WorkShown};
 ghost use Rattle.chk_round.specs.OwnRows.{OwnTo};
 ghost use Rattle.chk_round.specs.Scripts.{IsNoRead};
 ghost use Rattle.chk_round.specs.Sending.{SendsRest};
-ghost use Rattle.chk_round.specs.Calls.{RoundCalls};
+ghost use Rattle.chk_round.specs.Calls.{RestCalls};
 
 use crate::faults::RoundFault;
 use crate::polling::commit_rows;
@@ -43,8 +43,8 @@ pub(crate) fn deliver<S: Site>(
     ensures all { OnOk result (Delivered agent.old agent.new) }
     ensures sends { OnOk result (SendsRest agent.old (S.told site.old) (S.told site.new)) }
     ensures same { IsSameStart collector.old collector.new }
-    ensures length { LengthCause result (S.told site.old) (S.told site.new) }
-    ensures acts { Adds (S.told site.old) (S.told site.new) RoundCalls }
+    ensures shown { WorkShown result (S.told site.old) (S.told site.new) }
+    ensures acts { Adds (S.told site.old) (S.told site.new) RestCalls }
     ensures last { Adds (S.told site.old) (S.told site.new) (FailsInside result) }
     ensures only { IfErr result IsNoRead }
     ensures cause { RoundCause (S.fault_count site.old) (S.fault_count site.new) result }

@@ -12,7 +12,7 @@ ghost use Rattle.chk_round.specs.Begun.{BeginsSo};
 ghost use Rattle.chk_round.specs.Faults.{FailsInside, RoundCause};
 ghost use Rattle.chk_round.specs.Following.{Follows};
 ghost use Rattle.chk_round.specs.Processes.{AreBoth, c1};
-ghost use Rattle.chk_round.specs.Lengths.{IsPlain};
+ghost use Rattle.chk_round.specs.Lengths.{EndShown, IsPlain};
 ghost use Rattle.chk_round.specs.Rounds.{IsGathered};
 ghost use Rattle.chk_round.specs.Starts.{Met, inside};
 ghost use Rattle.chk_round.specs.Calls.{BegunActs, TimedActs};
@@ -54,6 +54,7 @@ pub(crate) fn gather<S: Site>(
     ensures timed { IfOk result (λ _. Adds (S.told site.old) (S.told site.new) (TimedActs reading.now.name)) }
     ensures last { Adds (S.told site.old) (S.told site.new) (FailsInside result) }
     ensures only { IfErr result IsPlain }
+    ensures shown { EndShown reading.now.name result (S.told site.old) (S.told site.new) }
     ensures cause { RoundCause (S.fault_count site.old) (S.fault_count site.new) result }
 {
     let logs = given.logs.as_slice();

@@ -9,13 +9,13 @@ ghost use Rattle.chk_delivery.specs.Turns.{asked_stems};
 ghost use Rattle.chk_round.specs.Faults.{FailsInside, RoundCause};
 ghost use Rattle.chk_round.specs.Joint.{JointTo};
 ghost use Rattle.chk_round.specs.LastPolls.{LengthTold};
-ghost use Rattle.chk_round.specs.Lengths.{HasCommitted, LengthCause, PolledOnce};
+ghost use Rattle.chk_round.specs.Lengths.{HasCommitted, WorkShown, PolledOnce};
 ghost use Rattle.chk_round.specs.OwnRows.{OwnTo};
 ghost use Rattle.chk_round.specs.Polled.{PollTo};
 ghost use Rattle.chk_round.specs.Scripts.{IsNoRead};
 ghost use Rattle.chk_round.specs.Polling.{HasFree, PolledAll};
 ghost use Rattle.chk_round.specs.Sending.{SendsOn};
-ghost use Rattle.chk_round.specs.Calls.{RoundCalls};
+ghost use Rattle.chk_round.specs.Calls.{RestCalls};
 
 use crate::faults::RoundFault;
 use chk_agent::Agent;
@@ -43,8 +43,8 @@ pub(crate) fn make_room<S: Site>(
     ensures free { OnOk result (HasFree 1 agent.old agent.new) }
     ensures sends { OnOk result (SendsOn agent.old agent.new (S.told site.old) (S.told site.new)) }
     ensures same { IsSameStart collector.old collector.new }
-    ensures length { LengthCause result (S.told site.old) (S.told site.new) }
-    ensures acts { Adds (S.told site.old) (S.told site.new) RoundCalls }
+    ensures shown { WorkShown result (S.told site.old) (S.told site.new) }
+    ensures acts { Adds (S.told site.old) (S.told site.new) RestCalls }
     ensures last { Adds (S.told site.old) (S.told site.new) (FailsInside result) }
     ensures only { IfErr result IsNoRead }
     ensures cause { RoundCause (S.fault_count site.old) (S.fault_count site.new) result }
@@ -77,8 +77,8 @@ pub(crate) fn commit_rows<S: Site>(
     ensures free { OnOk result (HasFree wanted agent.old agent.new) }
     ensures sends { OnOk result (SendsOn agent.old agent.new (S.told site.old) (S.told site.new)) }
     ensures same { IsSameStart collector.old collector.new }
-    ensures length { LengthCause result (S.told site.old) (S.told site.new) }
-    ensures acts { Adds (S.told site.old) (S.told site.new) RoundCalls }
+    ensures shown { WorkShown result (S.told site.old) (S.told site.new) }
+    ensures acts { Adds (S.told site.old) (S.told site.new) RestCalls }
     ensures last { Adds (S.told site.old) (S.told site.new) (FailsInside result) }
     ensures only { IfErr result IsNoRead }
     ensures cause { RoundCause (S.fault_count site.old) (S.fault_count site.new) result }
@@ -108,8 +108,8 @@ fn poll_until_free<S: Site>(
     ensures free { OnOk result (HasFree wanted agent.old agent.new) }
     ensures sends { OnOk result (SendsOn agent.old agent.new (S.told site.old) (S.told site.new)) }
     ensures same { IsSameStart collector.old collector.new }
-    ensures length { LengthCause result (S.told site.old) (S.told site.new) }
-    ensures acts { Adds (S.told site.old) (S.told site.new) RoundCalls }
+    ensures shown { WorkShown result (S.told site.old) (S.told site.new) }
+    ensures acts { Adds (S.told site.old) (S.told site.new) RestCalls }
     ensures last { Adds (S.told site.old) (S.told site.new) (FailsInside result) }
     ensures only { IfErr result IsNoRead }
     ensures cause { RoundCause (S.fault_count site.old) (S.fault_count site.new) result }
@@ -140,7 +140,7 @@ fn poll_whole<S: Site>(
     ensures same { IsSameStart collector.old collector.new }
     ensures polls { PolledOnce collecting.now collector.old agent.old result collector.new agent.new
         (S.told site.old) (S.told site.new) }
-    ensures acts { Adds (S.told site.old) (S.told site.new) RoundCalls }
+    ensures acts { Adds (S.told site.old) (S.told site.new) RestCalls }
     ensures last { Adds (S.told site.old) (S.told site.new) (FailsInside result) }
     ensures only { IfErr result IsNoRead }
     ensures cause { RoundCause (S.fault_count site.old) (S.fault_count site.new) result }

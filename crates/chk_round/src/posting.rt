@@ -8,12 +8,12 @@ ghost use Rattle.chk_sink.specs.States.{IsSameStart, process};
 ghost use Rattle.chk_delivery.specs.States.{free_rows};
 ghost use Rattle.chk_round.specs.Faults.{FailsInside, RoundCause};
 ghost use Rattle.chk_round.specs.Joint.{JointTo};
-ghost use Rattle.chk_round.specs.Lengths.{LengthCause};
+ghost use Rattle.chk_round.specs.Lengths.{WorkShown};
 ghost use Rattle.chk_round.specs.OwnRows.{OwnTo};
 ghost use Rattle.chk_round.specs.Scripts.{IsNoRead};
 ghost use Rattle.chk_round.specs.Polling.{PostedAll, PostedSome};
 ghost use Rattle.chk_round.specs.Sending.{SendsOn};
-ghost use Rattle.chk_round.specs.Calls.{RoundCalls};
+ghost use Rattle.chk_round.specs.Calls.{RestCalls};
 
 use crate::faults::RoundFault;
 use crate::polling::make_room;
@@ -41,8 +41,8 @@ pub(crate) fn post_rest<S: Site>(
     ensures all { OnOk result (PostedAll agent.old agent.new) }
     ensures sends { OnOk result (SendsOn agent.old agent.new (S.told site.old) (S.told site.new)) }
     ensures same { IsSameStart collector.old collector.new }
-    ensures length { LengthCause result (S.told site.old) (S.told site.new) }
-    ensures acts { Adds (S.told site.old) (S.told site.new) RoundCalls }
+    ensures shown { WorkShown result (S.told site.old) (S.told site.new) }
+    ensures acts { Adds (S.told site.old) (S.told site.new) RestCalls }
     ensures last { Adds (S.told site.old) (S.told site.new) (FailsInside result) }
     ensures only { IfErr result IsNoRead }
     ensures cause { RoundCause (S.fault_count site.old) (S.fault_count site.new) result }
@@ -72,8 +72,8 @@ pub(crate) fn post_next<S: Site>(
     ensures some { OnOk result (PostedSome agent.old agent.new) }
     ensures sends { OnOk result (SendsOn agent.old agent.new (S.told site.old) (S.told site.new)) }
     ensures same { IsSameStart collector.old collector.new }
-    ensures length { LengthCause result (S.told site.old) (S.told site.new) }
-    ensures acts { Adds (S.told site.old) (S.told site.new) RoundCalls }
+    ensures shown { WorkShown result (S.told site.old) (S.told site.new) }
+    ensures acts { Adds (S.told site.old) (S.told site.new) RestCalls }
     ensures last { Adds (S.told site.old) (S.told site.new) (FailsInside result) }
     ensures only { IfErr result IsNoRead }
     ensures cause { RoundCause (S.fault_count site.old) (S.fault_count site.new) result }

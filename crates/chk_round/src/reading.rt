@@ -13,7 +13,7 @@ ghost use Rattle.chk_round.specs.Faults.{FailsInside, RoundCause};
 ghost use Rattle.chk_round.specs.Following.{KeepsLogs};
 ghost use Rattle.chk_round.specs.Joint.{AreIn, BothAt};
 ghost use Rattle.chk_round.specs.Reading.{AfterReadOut, IsGrowing, IsShrank, ReadOn, ReadsAll, ReadsOn};
-ghost use Rattle.chk_round.specs.Lengths.{LengthCause};
+ghost use Rattle.chk_round.specs.Lengths.{WorkShown};
 ghost use Rattle.chk_round.specs.OwnRows.{OwnTo};
 ghost use Rattle.chk_round.specs.Scripts.{ReadsEach, ReadsOut};
 ghost use Rattle.chk_round.specs.Sending.{SendsOthers};
@@ -51,7 +51,7 @@ pub(crate) fn read_all<S: Site>(
     ensures on { OnOk result (ReadsOn agent.old agent.new) }
     ensures live { OnOk result (KeepsLogs agent.old agent.new) }
     ensures same { IsSameStart collector.old collector.new }
-    ensures length { LengthCause result (S.told site.old) (S.told site.new) }
+    ensures shown { WorkShown result (S.told site.old) (S.told site.new) }
     ensures acts { Adds (S.told site.old) (S.told site.new) RoundCalls }
     ensures last { Adds (S.told site.old) (S.told site.new) (FailsInside result) }
     ensures cause { RoundCause (S.fault_count site.old) (S.fault_count site.new) result }
@@ -96,7 +96,7 @@ fn read_out<S: Site>(
     ensures sends { OnOk result (SendsOthers adaptor agent.old
         (S.told site.old) (S.told site.new)) }
     ensures same { IsSameStart collector.old collector.new }
-    ensures length { LengthCause result (S.told site.old) (S.told site.new) }
+    ensures shown { WorkShown result (S.told site.old) (S.told site.new) }
     ensures acts { Adds (S.told site.old) (S.told site.new) RoundCalls }
     ensures last { Adds (S.told site.old) (S.told site.new) (FailsInside result) }
     ensures cause { RoundCause (S.fault_count site.old) (S.fault_count site.new) result }

@@ -10,7 +10,7 @@ ghost use Rattle.chk_sink.specs.States.{process};
 ghost use Rattle.chk_round.specs.Faults.{FailsInside, RoundCause};
 ghost use Rattle.chk_round.specs.Following.{KeepsLogs};
 ghost use Rattle.chk_round.specs.Joint.{AreIn};
-ghost use Rattle.chk_round.specs.Lengths.{LengthCause};
+ghost use Rattle.chk_round.specs.Lengths.{WorkShown};
 ghost use Rattle.chk_round.specs.Scripts.{RunReads, WereRead};
 ghost use Rattle.chk_round.specs.Rounds.{AllSteady, RunsTo};
 ghost use Rattle.chk_round.specs.Calls.{RoundCalls};
@@ -49,7 +49,7 @@ pub(crate) fn run_pair<S: Site>(
     ensures each { OnOk result (AllSteady agent.old → WereRead agent.old agent.new) }
     ensures live { OnOk result (KeepsLogs agent.old agent.new) }
     ensures cluster { OnOk result (agent.new.cluster ≡ agent.old.cluster) }
-    ensures length { LengthCause result (S.told site.old) (S.told site.new) }
+    ensures shown { WorkShown result (S.told site.old) (S.told site.new) }
     ensures acts { Adds (S.told site.old) (S.told site.new) RoundCalls }
     ensures last { Adds (S.told site.old) (S.told site.new) (FailsInside result) }
     ensures cause { RoundCause (S.fault_count site.old) (S.fault_count site.new) result }

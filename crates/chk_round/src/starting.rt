@@ -9,9 +9,9 @@ ghost use Rattle.chk_world.specs.Knowing.{agent};
 ghost use Rattle.chk_world.specs.Rules.{Legal};
 ghost use Rattle.chk_world.specs.Together.{Together};
 ghost use Rattle.chk_round.specs.Begun.{AgentBegan};
-ghost use Rattle.chk_round.specs.Faults.{FailsLast, RoundCause};
+ghost use Rattle.chk_round.specs.Faults.{FailsLast, IsOfCall, RoundCause};
 ghost use Rattle.chk_round.specs.Processes.{AreBoth, c1};
-ghost use Rattle.chk_round.specs.Lengths.{IsPlain};
+ghost use Rattle.chk_round.specs.Lengths.{EndShown, IsPlain};
 ghost use Rattle.chk_round.specs.Calls.{IsStarting};
 ghost use Rattle.chk_round.specs.Starts.{AreFresh, ClockGave, EndsWithClock, Met, inside, rules_of};
 ghost use Rattle.chk_round.specs.Timed.{moment_of, pair_at};
@@ -67,6 +67,7 @@ pub(crate) fn start_pair<S: Site>(
     ensures acts { Adds (S.told site.old) (S.told site.new) (Owns (IsStarting reading.now.name)) }
     ensures last { Adds (S.told site.old) (S.told site.new) (FailsLast result) }
     ensures only { IfErr result IsPlain }
+    ensures shown { EndShown reading.now.name result (S.told site.old) (S.told site.new) }
     ensures cause { RoundCause (S.fault_count site.old) (S.fault_count site.new) result }
 {
     let collector = Collector::start(alloc, site, collecting, ROTATE)?;
@@ -86,7 +87,7 @@ fn timed<S: Site>(
     ensures same { IfOk result (λ pair. pair ≡ pair_at collector agent pair.now) }
     ensures gave { ClockGave reading.now (moment_of result) (S.told site.old) (S.told site.new) }
     ensures last { Adds (S.told site.old) (S.told site.new) (FailsLast result) }
-    ensures only { IfErr result IsPlain }
+    ensures only { IfErr result IsOfCall }
     ensures cause { RoundCause (S.fault_count site.old) (S.fault_count site.new) result }
 {
     match clock(alloc, site, reading) {
@@ -126,7 +127,7 @@ pub(crate) fn rules_of(given: &RoundWords, limits: Limits) -> Result<Rules, NoMe
 fn clock<S: Site>(alloc: Global, site: &mut S, reading: &Who) -> Result<u64, RoundFault>
     ensures gave { ClockGave reading.now result (S.told site.old) (S.told site.new) }
     ensures last { Adds (S.told site.old) (S.told site.new) (FailsLast result) }
-    ensures only { IfErr result IsPlain }
+    ensures only { IfErr result IsOfCall }
     ensures cause { RoundCause (S.fault_count site.old) (S.fault_count site.new) result }
 {
     match site.clock(alloc, reading) {

@@ -9,7 +9,7 @@ ghost use Rattle.chk_round.specs.Faults.{FailsInside, RoundCause};
 ghost use Rattle.chk_round.specs.Following.{HaveLines};
 ghost use Rattle.chk_round.specs.Prepared.{processes_of};
 ghost use Rattle.chk_round.specs.Processes.{IsRunOf};
-ghost use Rattle.chk_round.specs.Lengths.{LengthCause};
+ghost use Rattle.chk_round.specs.Lengths.{EndShown};
 ghost use Rattle.chk_round.specs.Scripts.{ReadsLogs, RoundReads};
 ghost use Rattle.chk_round.specs.Rounded.{RoundTo};
 ghost use Rattle.chk_round.specs.Starts.{inside};
@@ -61,7 +61,7 @@ pub fn round<S: Site>(
         (StaysTo stamped started given.now.source given.now.kind given.now.logs.items)) }
     ensures live { IfOk result (λ r. HaveLines given.now.kind given.now.logs.items
         (lines_of r.agent)) }
-    ensures length { LengthCause result (S.told site.old) (S.told site.new) }
+    ensures shown { EndShown given.now.source result (S.told site.old) (S.told site.new) }
     ensures acts { Adds (S.told site.old) (S.told site.new) (RoundActs given.now.source) }
     ensures last { Adds (S.told site.old) (S.told site.new) (FailsInside result) }
     ensures cause { RoundCause (S.fault_count site.old) (S.fault_count site.new) result }
@@ -97,7 +97,7 @@ pub fn round_within<S: Site>(
         (StaysTo stamped started given.now.source given.now.kind given.now.logs.items)) }
     ensures live { IfOk result (λ r. HaveLines given.now.kind given.now.logs.items
         (lines_of r.agent)) }
-    ensures length { LengthCause result (S.told site.old) (S.told site.new) }
+    ensures shown { EndShown given.now.source result (S.told site.old) (S.told site.new) }
     ensures acts { Adds (S.told site.old) (S.told site.new) (RoundActs given.now.source) }
     ensures last { Adds (S.told site.old) (S.told site.new) (FailsInside result) }
     ensures cause { RoundCause (S.fault_count site.old) (S.fault_count site.new) result }
@@ -139,7 +139,7 @@ fn run_prepared<S: Site>(
         (StaysTo stamped started given.now.source given.now.kind given.now.logs.items)) }
     ensures live { IfOk result (λ r. HaveLines given.now.kind given.now.logs.items
         (lines_of r.agent)) }
-    ensures length { LengthCause result (S.told site.old) (S.told site.new) }
+    ensures shown { EndShown given.now.source result (S.told site.old) (S.told site.new) }
     ensures acts { Adds (S.told site.old) (S.told site.new) (RoundActs given.now.source) }
     ensures last { Adds (S.told site.old) (S.told site.new) (FailsInside result) }
     ensures cause { RoundCause (S.fault_count site.old) (S.fault_count site.new) result }

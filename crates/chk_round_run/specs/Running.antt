@@ -23,7 +23,7 @@ use Rattle.chk_round.specs.Done.{ArchivedTo}
 use Rattle.chk_round.specs.Faults.{FailsInside}
 use Rattle.chk_round.specs.Following.{HaveLines}
 use Rattle.chk_round.specs.Joint.{OnlyStopped}
-use Rattle.chk_round.specs.Lengths.{LengthCause}
+use Rattle.chk_round.specs.Lengths.{EndShown}
 use Rattle.chk_round.specs.Processes.{IsRunOf}
 use Rattle.chk_round.specs.Rounded.{RoundTo}
 use Rattle.chk_round.specs.Rounds.{RoundDone}
@@ -39,9 +39,10 @@ use Rattle.chk_round_run.specs.Telling.{Tells, end_by, print_end, round_prints}
 
 -- What a round of this source says of its steps, which reads these logs under this type. A log
 -- that grows or shrank shows in the reads that the source's agent made, so many of a log at most,
--- and a length below an answered offset in the last poll behind a commit. Where it is done, the logs
--- were added behind the agent's start, a new one with this class, each live log was read to its end
--- by fewer than so many reads that gave bytes, and just the logs and what was live at the start are
+-- a length below an answered offset in the last poll behind a commit, and damage, a spent number or
+-- a refusal in the work that came last. Where it is done, the logs were added behind the agent's
+-- start, a new one with this class, each live log was read to its end by fewer than so many reads
+-- that gave bytes, none was read behind that, and just the logs and what was live at the start are
 -- live.
 pub record IsRound (source kind : List ℕ) (class : Class) (cluster : List ℕ)
     (logs : List (List ℕ)) (reads : ℕ)
@@ -53,7 +54,7 @@ pub record IsRound (source kind : List ℕ) (class : Class) (cluster : List ℕ)
   pub read : IfOk result (λ r. ReadsLogs source kind class cluster logs reads r.agent old new)
   pub stays : IfOk result (λ r. (stamped : List (List ℕ)) (started acting : List Who)
       → IsRunOf source started acting → Adds old new (StaysTo stamped started source kind logs))
-  pub length : LengthCause result old new
+  pub shown : EndShown source result old new
   pub last : Adds old new (FailsInside result)
   pub acts : Adds old new (RoundActs source)
 

@@ -241,7 +241,7 @@ returns-in_err-rounded-clause-round g c =
     rw (p.1, p.2)
     (round_ends c.args.lines c.in_ok-writer.writer c.in_ok-writer.ensures c.in_ok-bytes.bytes c.in_ok-bytes.ensures.writes
     c.in_ok-words.words c.in_ok-words.ensures c.in_err-rounded.field-0.0
-    (record { script = s.script; length = s.length; last = s.last; acts = c.round.ensures.acts }))
+    (record { script = s.script; shown = s.shown; last = s.last; acts = c.round.ensures.acts }))
 
 pub returns-in_err-report-clause-round : goal.returns-in_err-report-clause-round
 returns-in_err-report-clause-round g c =

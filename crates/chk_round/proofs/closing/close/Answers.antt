@@ -7,15 +7,15 @@ use Rattle.chk_world.specs.Sight.{job}
 use Rattle.chk_sink.specs.States.{State as Sinks, process}
 use Rattle.chk_archive.specs.declared.report.Report.{Report}
 use Rattle.chk_round.specs.declared.faults.RoundFault.{RoundFault}
-use Rattle.chk_round.specs.Faults.{FailsLast}
+use Rattle.chk_round.specs.Faults.{FailsLast, of_job}
 use Rattle.std.proofs.Common.{None}
 use Rattle.chk_round.proofs.Closes.{closed, run_told, unarchived, unfinished}
 use Rattle.chk_round.proofs.Ends.{job_last, last_late, nothing_then}
 use Rattle.chk_round.proofs.Given.{given_behind}
 use Rattle.chk_round.proofs.NonePast.{quiet_none_past, sends_then}
 use Rattle.chk_round.proofs.Theirs.{closes_theirs}
-use Rattle.chk_round.proofs.NoRead.{job_plain, sinks_plain}
-use Rattle.chk_round.proofs.Acts.{acts_then, archive_acts, tick_acts}
+use Rattle.chk_round.proofs.NoRead.{job_plain, job_shown, sinks_plain, sinks_shown, work_late}
+use Rattle.chk_round.proofs.Acts.{rest_then, archive_acts, tick_acts}
 use Rattle.chk_round.proofs.closing.close.Goals as goal
 
 pub returns-in_err-finish-clause-told : goal.returns-in_err-finish-clause-told
@@ -86,8 +86,22 @@ returns-in_err-finish-clause-acts g c = tick_acts c.args.collector.now c.finish.
 
 pub returns-in_err-report-clause-acts : goal.returns-in_err-report-clause-acts
 returns-in_err-report-clause-acts g c =
-    acts_then (tick_acts c.args.collector.now c.finish.ensures.own) (archive_acts c.archive.ensures.own)
+    rest_then (tick_acts c.args.collector.now c.finish.ensures.own) (archive_acts c.archive.ensures.own)
 
 pub returns-clause-acts : goal.returns-clause-acts
 returns-clause-acts g c =
-    acts_then (tick_acts c.args.collector.now c.finish.ensures.own) (archive_acts c.archive.ensures.own)
+    rest_then (tick_acts c.args.collector.now c.finish.ensures.own) (archive_acts c.archive.ensures.own)
+
+pub returns-in_err-finish-clause-shown : goal.returns-in_err-finish-clause-shown
+returns-in_err-finish-clause-shown g c =
+    let p = err_from_is_err_and c.from_residual.result c.from_residual.ensures.1 in
+    rw (p.1, p.2)
+    (sinks_shown Report c.args.collector.now c.in_err-finish.field-0.0 c.in_err-finish.ensures.only
+    c.in_err-finish.ensures.own c.in_err-finish.ensures.damaged)
+
+pub returns-in_err-report-clause-shown : goal.returns-in_err-report-clause-shown
+returns-in_err-report-clause-shown g c =
+    let p = err_from_is_err_and c.from_residual-in_err-report.result c.from_residual-in_err-report.ensures.1 in
+    rw (p.1, p.2)
+    (work_late Report Report (of_job c.in_err-report.field-0.0) (g.S.Site.told c.archive.new.site)
+    (c.in_ok-finish.ensures.told []) (job_shown Report c.in_err-report.field-0.0 c.in_err-report.ensures.own))

@@ -12,8 +12,8 @@ use Rattle.chk_round.proofs.NonePast.{quiet_none_past, sends_then}
 use Rattle.chk_round.proofs.OwnRows.{own_plain, own_then}
 use Rattle.chk_round.proofs.Polls.{starts_then}
 use Rattle.chk_round.proofs.Lasting.{inside_late, last_inside, went_then}
-use Rattle.chk_round.proofs.NoRead.{agent_no_read, agent_plain, length_late, plain_length}
-use Rattle.chk_round.proofs.Acts.{acts_then, settle_acts}
+use Rattle.chk_round.proofs.NoRead.{agent_no_read, agent_plain, agent_shown, work_late}
+use Rattle.chk_round.proofs.Acts.{rest_then, settle_acts}
 use Rattle.chk_round.proofs.delivering.deliver.Goals as goal
 
 pub post_rest-requires : goal.post_rest-requires
@@ -184,35 +184,35 @@ returns-in_err-_settled-clause-only g c =
     let p = err_from_is_err_and c.from_residual-in_err-_settled.result c.from_residual-in_err-_settled.ensures.1 in
     rw (p.1, p.2) (agent_no_read c.in_err-_settled.field-0.0)
 
-pub returns-in_err-post_rest-clause-length : goal.returns-in_err-post_rest-clause-length
-returns-in_err-post_rest-clause-length g c =
+pub returns-in_err-post_rest-clause-shown : goal.returns-in_err-post_rest-clause-shown
+returns-in_err-post_rest-clause-shown g c =
     let p = err_from_is_err_and c.from_residual.result c.from_residual.ensures.1 in
-    rw (p.1, p.2) (c.in_err-post_rest.ensures.length)
+    rw (p.1, p.2) (c.in_err-post_rest.ensures.shown)
 
-pub returns-in_err-commit_rows-clause-length : goal.returns-in_err-commit_rows-clause-length
-returns-in_err-commit_rows-clause-length g c =
+pub returns-in_err-commit_rows-clause-shown : goal.returns-in_err-commit_rows-clause-shown
+returns-in_err-commit_rows-clause-shown g c =
     let p = err_from_is_err_and c.from_residual-in_err-commit_rows.result c.from_residual-in_err-commit_rows.ensures.1 in
-    rw (p.1, p.2) (length_late (Unit {0}) (Unit {0}) c.in_err-commit_rows.field-0.0 (g.S.Site.told c.commit_rows.new.site) c.in_ok-post_rest.ensures.last c.in_err-commit_rows.ensures.length)
+    rw (p.1, p.2) (work_late (Unit {0}) (Unit {0}) c.in_err-commit_rows.field-0.0 (g.S.Site.told c.commit_rows.new.site) c.in_ok-post_rest.ensures.last c.in_err-commit_rows.ensures.shown)
 
-pub returns-in_err-_settled-clause-length : goal.returns-in_err-_settled-clause-length
-returns-in_err-_settled-clause-length g c =
+pub returns-in_err-_settled-clause-shown : goal.returns-in_err-_settled-clause-shown
+returns-in_err-_settled-clause-shown g c =
     let p = err_from_is_err_and c.from_residual-in_err-_settled.result c.from_residual-in_err-_settled.ensures.1 in
-    rw (p.1, p.2) (plain_length (Unit {0}) (of_agent c.in_err-_settled.field-0.0) (agent_plain c.in_err-_settled.field-0.0)
+    rw (p.1, p.2) (agent_shown (Unit {0}) Settled c.in_err-_settled.field-0.0 c.in_err-_settled.ensures.undamaged
     (g.S.Site.told c.args.site.now) (g.S.Site.told c.settle.new.site))
 
 pub returns-in_err-post_rest-clause-acts : goal.returns-in_err-post_rest-clause-acts
 returns-in_err-post_rest-clause-acts g c = c.post_rest.ensures.acts
 
 pub returns-in_err-commit_rows-clause-acts : goal.returns-in_err-commit_rows-clause-acts
-returns-in_err-commit_rows-clause-acts g c = acts_then c.post_rest.ensures.acts c.commit_rows.ensures.acts
+returns-in_err-commit_rows-clause-acts g c = rest_then c.post_rest.ensures.acts c.commit_rows.ensures.acts
 
 pub returns-in_err-_settled-clause-acts : goal.returns-in_err-_settled-clause-acts
 returns-in_err-_settled-clause-acts g c =
-    acts_then (acts_then c.post_rest.ensures.acts c.commit_rows.ensures.acts) (settle_acts c.in_err-_settled.ensures.state)
+    rest_then (rest_then c.post_rest.ensures.acts c.commit_rows.ensures.acts) (settle_acts c.in_err-_settled.ensures.state)
 
 pub returns-clause-acts : goal.returns-clause-acts
 returns-clause-acts g c =
-    acts_then (acts_then c.post_rest.ensures.acts c.commit_rows.ensures.acts) (settle_acts c.in_ok-_settled.ensures.state)
+    rest_then (rest_then c.post_rest.ensures.acts c.commit_rows.ensures.acts) (settle_acts c.in_ok-_settled.ensures.state)
 
 pub returns-in_err-post_rest-clause-rows : goal.returns-in_err-post_rest-clause-rows
 returns-in_err-post_rest-clause-rows g c =
@@ -234,5 +234,5 @@ returns-in_err-_settled-clause-rows g c =
     rw (p.1, p.2)
     (own_plain c.args.collector.now c.commit_rows.new.collector c.args.agent.now c.settle.new.self
     (of_agent c.in_err-_settled.field-0.0)
-    (acts_then (acts_then c.post_rest.ensures.acts c.commit_rows.ensures.acts) (settle_acts c.in_err-_settled.ensures.state))
+    (rest_then (rest_then c.post_rest.ensures.acts c.commit_rows.ensures.acts) (settle_acts c.in_err-_settled.ensures.state))
     (agent_plain c.in_err-_settled.field-0.0))

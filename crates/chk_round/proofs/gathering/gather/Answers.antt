@@ -8,7 +8,7 @@ use Rattle.chk_round.proofs.Ends.{late_cause}
 use Rattle.chk_round.proofs.Following.{logs_follow}
 use Rattle.chk_round.proofs.Gathers.{fresh_steady, gathered, logs_met, logs_steady, logs_unmet}
 use Rattle.chk_round.proofs.Lasting.{inside_late, last_inside, went_then}
-use Rattle.chk_round.proofs.NoRead.{call_plain}
+use Rattle.chk_round.proofs.NoRead.{call_plain, only_shown}
 use Rattle.chk_site.specs.Site.{Adds}
 use Rattle.chk_round.specs.Adding.{AddsLogs}
 use Rattle.chk_round.specs.Begun.{AgentBegan}
@@ -123,3 +123,13 @@ returns-in-Ok-clause-timed g c =
 
 pub returns-in-Ok-clause-acts : goal.returns-in-Ok-clause-acts
 returns-in-Ok-clause-acts g c = begun_of c.args.reading.now.name (returns-in-Ok-clause-timed g c)
+
+pub returns-in_err-pair-clause-shown : goal.returns-in_err-pair-clause-shown
+returns-in_err-pair-clause-shown g c =
+    let p = err_from_is_err_and c.from_residual.result c.from_residual.ensures.1 in
+    rw (p.1, p.2) (c.in_err-pair.ensures.shown)
+
+pub returns-in-Err-clause-shown : goal.returns-in-Err-clause-shown
+returns-in-Err-clause-shown g c =
+    only_shown Pair c.args.reading.now.name (Err c.in-Err.fault) c.in-Err.ensures.only
+    (g.S.Site.told c.args.site.now) (g.S.Site.told c.add_logs.new.site)

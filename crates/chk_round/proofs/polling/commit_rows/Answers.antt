@@ -11,8 +11,8 @@ use Rattle.chk_round.proofs.Polls.{starts_then}
 use Rattle.chk_round.proofs.NonePast.{quiet_none_past}
 use Rattle.chk_round.proofs.Sent.{on_ok, sends_on_then}
 use Rattle.chk_round.proofs.Lasting.{inside_then, last_inside}
-use Rattle.chk_round.proofs.NoRead.{length_then, plain_length, sinks_no_read, sinks_plain}
-use Rattle.chk_round.proofs.Acts.{acts_then, tick_acts}
+use Rattle.chk_round.proofs.NoRead.{sinks_no_read, sinks_plain, sinks_shown, work_then}
+use Rattle.chk_round.proofs.Acts.{rest_then, tick_acts}
 use Rattle.chk_round.proofs.polling.commit_rows.Goals as goal
 
 pub returns-in_err-tick-clause-joint : goal.returns-in_err-tick-clause-joint
@@ -69,20 +69,20 @@ returns-in_err-tick-clause-only g c =
     let p = err_from_is_err_and c.from_residual.result c.from_residual.ensures.1 in
     rw (p.1, p.2) (sinks_no_read c.in_err-tick.field-0.0)
 
-pub returns-in_err-tick-clause-length : goal.returns-in_err-tick-clause-length
-returns-in_err-tick-clause-length g c =
+pub returns-in_err-tick-clause-shown : goal.returns-in_err-tick-clause-shown
+returns-in_err-tick-clause-shown g c =
     let p = err_from_is_err_and c.from_residual.result c.from_residual.ensures.1 in
-    rw (p.1, p.2) (plain_length (Unit {0}) (of_sinks c.in_err-tick.field-0.0) (sinks_plain c.in_err-tick.field-0.0)
-    (g.S.Site.told c.args.site.now) (g.S.Site.told c.tick.new.site))
+    rw (p.1, p.2) (sinks_shown (Unit {0}) c.args.collector.now c.in_err-tick.field-0.0 c.in_err-tick.ensures.only
+    c.in_err-tick.ensures.own c.in_err-tick.ensures.damaged)
 
-pub returns-clause-length : goal.returns-clause-length
-returns-clause-length g c = length_then c.poll_until_free.result (g.S.Site.told c.poll_until_free.new.site) (c.in_ok-tick.ensures.told []) c.poll_until_free.ensures.length
+pub returns-clause-shown : goal.returns-clause-shown
+returns-clause-shown g c = work_then c.poll_until_free.result (g.S.Site.told c.poll_until_free.new.site) (c.in_ok-tick.ensures.told []) c.poll_until_free.ensures.shown
 
 pub returns-in_err-tick-clause-acts : goal.returns-in_err-tick-clause-acts
 returns-in_err-tick-clause-acts g c = tick_acts c.args.collector.now c.tick.ensures.own
 
 pub returns-clause-acts : goal.returns-clause-acts
-returns-clause-acts g c = acts_then (tick_acts c.args.collector.now c.tick.ensures.own) c.poll_until_free.ensures.acts
+returns-clause-acts g c = rest_then (tick_acts c.args.collector.now c.tick.ensures.own) c.poll_until_free.ensures.acts
 
 pub returns-in_err-tick-clause-rows : goal.returns-in_err-tick-clause-rows
 returns-in_err-tick-clause-rows g c stamped started acting run =

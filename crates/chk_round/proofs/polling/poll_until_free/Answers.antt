@@ -9,8 +9,8 @@ use Rattle.chk_round.proofs.OwnRows.{own_once, own_polls}
 use Rattle.chk_round.proofs.Polls.{may_ask, polling_none, starts_then, talked_more, talked_own}
 use Rattle.chk_round.proofs.Lasting.{inside_late, went}
 use Rattle.chk_round.specs.Lengths.{PollsOn}
-use Rattle.chk_round.proofs.Lengths.{once_length}
-use Rattle.chk_round.proofs.Acts.{acts_then}
+use Rattle.chk_round.proofs.NoRead.{once_shown}
+use Rattle.chk_round.proofs.Acts.{rest_then}
 use Rattle.chk_round.proofs.polling.poll_until_free.Goals as goal
 
 pub polls-init : goal.polls-init
@@ -107,15 +107,15 @@ returns-in_err-poll_whole-clause-only g c =
     let p = err_from_is_err_and c.from_residual.result c.from_residual.ensures.1 in
     rw (p.1, p.2) (c.in_err-poll_whole.ensures.only)
 
-pub returns-in_err-poll_whole-clause-length : goal.returns-in_err-poll_whole-clause-length
-returns-in_err-poll_whole-clause-length g c =
+pub returns-in_err-poll_whole-clause-shown : goal.returns-in_err-poll_whole-clause-shown
+returns-in_err-poll_whole-clause-shown g c =
     let p = err_from_is_err_and c.from_residual.result c.from_residual.ensures.1 in
     rw (p.1, p.2)
-    (once_length c.requires.committed c.polls.invariant.on c.poll_whole.new.collector c.poll_whole.new.agent
+    (once_shown c.requires.committed c.polls.invariant.on c.polls.invariant.talked.acts c.poll_whole.new.collector c.poll_whole.new.agent
     (g.S.Site.told c.poll_whole.new.site) c.in_err-poll_whole.field-0.0 c.in_err-poll_whole.ensures.polls)
 
 pub returns-in_err-poll_whole-clause-acts : goal.returns-in_err-poll_whole-clause-acts
-returns-in_err-poll_whole-clause-acts g c = acts_then c.polls.invariant.talked.acts c.in_err-poll_whole.ensures.acts
+returns-in_err-poll_whole-clause-acts g c = rest_then c.polls.invariant.talked.acts c.in_err-poll_whole.ensures.acts
 
 pub returns-clause-acts : goal.returns-clause-acts
 returns-clause-acts g c = c.polls.invariant.talked.acts

@@ -9,11 +9,10 @@ use Rattle.chk_round.proofs.Inside.{polled_all}
 use Rattle.chk_round.proofs.Sent.{poll_sends}
 use Rattle.chk_round.proofs.Spending.{poll_tells}
 use Rattle.chk_round.proofs.Lasting.{exchange_inside, went}
-use Rattle.chk_round.specs.Faults.{of_exchange}
-use Rattle.chk_round.proofs.NoRead.{exchange_no_read, exchange_plain}
+use Rattle.chk_round.proofs.NoRead.{exchange_no_read, poll_once}
 use Rattle.chk_exchange.specs.Least.{TellsLeast}
 use Rattle.chk_round.proofs.LastPolls.{below_polled, below_told, polled_ends, untold_length}
-use Rattle.chk_round.proofs.Lengths.{below_cause, below_inside, below_no_read, below_once, plain_once}
+use Rattle.chk_round.proofs.Lengths.{below_cause, below_inside, below_no_read, below_once}
 use Rattle.chk_round.proofs.Acts.{poll_acts}
 use Rattle.chk_round.proofs.polling.poll_whole.Goals as goal
 
@@ -94,10 +93,7 @@ pub returns-in_err-below-clause-polls : goal.returns-in_err-below-clause-polls
 returns-in_err-below-clause-polls g c =
     let p = err_from_is_err_and c.from_residual.result c.from_residual.ensures.1 in
     rw (p.1, p.2)
-    (plain_once c.args.collecting.now c.args.collector.now c.poll_inside.new.collector
-    c.args.agent.now c.poll_inside.new.agent (of_exchange c.in_err-below.field-0.0)
-    (exchange_plain c.in_err-below.field-0.0)
-    (g.S.Site.told c.args.site.now) (g.S.Site.told c.poll_inside.new.site))
+    (poll_once c.requires.started c.in_err-below.field-0.0 c.in_err-below.ensures.script)
 
 pub returns-in-Some-clause-polls : goal.returns-in-Some-clause-polls
 returns-in-Some-clause-polls g c =

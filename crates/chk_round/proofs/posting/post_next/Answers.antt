@@ -11,8 +11,8 @@ use Rattle.chk_round.proofs.Posts.{posted_then}
 use Rattle.chk_round.proofs.Sent.{post_sends, sends_on_then}
 use Rattle.chk_round.proofs.Spending.{post_tells}
 use Rattle.chk_round.proofs.Lasting.{exchange_inside, inside_late, went_then}
-use Rattle.chk_round.proofs.NoRead.{exchange_no_read, exchange_plain, plain_length}
-use Rattle.chk_round.proofs.Acts.{acts_then, post_acts}
+use Rattle.chk_round.proofs.NoRead.{exchange_no_read, exchange_plain, post_shown, work_late}
+use Rattle.chk_round.proofs.Acts.{rest_then, post_acts}
 use Rattle.chk_round.proofs.posting.post_next.Goals as goal
 
 pub returns-in_err-make_room-clause-joint : goal.returns-in_err-make_room-clause-joint
@@ -80,29 +80,33 @@ returns-in_err-post_inside-clause-only g c =
     let p = err_from_is_err_and c.from_residual-in_err-post_inside.result c.from_residual-in_err-post_inside.ensures.1 in
     rw (p.1, p.2) (exchange_no_read c.in_err-post_inside.field-0.0)
 
-pub returns-in_err-make_room-clause-length : goal.returns-in_err-make_room-clause-length
-returns-in_err-make_room-clause-length g c =
+pub returns-in_err-make_room-clause-shown : goal.returns-in_err-make_room-clause-shown
+returns-in_err-make_room-clause-shown g c =
     let p = err_from_is_err_and c.from_residual.result c.from_residual.ensures.1 in
-    rw (p.1, p.2) (c.in_err-make_room.ensures.length)
+    rw (p.1, p.2) (c.in_err-make_room.ensures.shown)
 
-pub returns-in_err-post_inside-clause-length : goal.returns-in_err-post_inside-clause-length
-returns-in_err-post_inside-clause-length g c =
+pub returns-in_err-post_inside-clause-shown : goal.returns-in_err-post_inside-clause-shown
+returns-in_err-post_inside-clause-shown g c =
     let p = err_from_is_err_and c.from_residual-in_err-post_inside.result c.from_residual-in_err-post_inside.ensures.1 in
-    rw (p.1, p.2) (plain_length (Unit {0}) (of_exchange c.in_err-post_inside.field-0.0) (exchange_plain c.in_err-post_inside.field-0.0)
-    (g.S.Site.told c.args.site.now) (g.S.Site.told c.post_inside.new.site))
+    rw (p.1, p.2) (work_late (Unit {0}) (Unit {0}) (of_exchange c.in_err-post_inside.field-0.0)
+    (g.S.Site.told c.post_inside.new.site) c.in_ok-make_room.ensures.last
+    (post_shown (Unit {0})
+    (still_c c.args.collecting.now c.args.collector.now c.make_room.new.collector c.requires.started
+    c.make_room.ensures.same.collector)
+    c.in_err-post_inside.field-0.0 c.in_err-post_inside.ensures.script))
 
 pub returns-in_err-make_room-clause-acts : goal.returns-in_err-make_room-clause-acts
 returns-in_err-make_room-clause-acts g c = c.make_room.ensures.acts
 
 pub returns-in_err-post_inside-clause-acts : goal.returns-in_err-post_inside-clause-acts
 returns-in_err-post_inside-clause-acts g c =
-    acts_then c.make_room.ensures.acts
+    rest_then c.make_room.ensures.acts
     (post_acts (ap (λ (w : Who). w.role) c.requires.started)
     (c.in_ok-make_room.ensures.free.same.rest.addresses ∙ c.requires.address) c.post_inside.ensures.script)
 
 pub returns-clause-acts : goal.returns-clause-acts
 returns-clause-acts g c =
-    acts_then c.make_room.ensures.acts
+    rest_then c.make_room.ensures.acts
     (post_acts (ap (λ (w : Who). w.role) c.requires.started)
     (c.in_ok-make_room.ensures.free.same.rest.addresses ∙ c.requires.address) c.post_inside.ensures.script)
 

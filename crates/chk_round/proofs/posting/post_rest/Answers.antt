@@ -1,9 +1,9 @@
 use Rattle.std.proofs.Common.{Err}
 use Rattle.std.proofs.lemmas.Result.{err_from_is_err_and}
 use Rattle.chk_round.proofs.Polls.{talked_ends, talked_more, talked_none, talked_own}
-use Rattle.chk_round.proofs.Acts.{acts_then}
+use Rattle.chk_round.proofs.Acts.{rest_then}
 use Rattle.chk_round.proofs.Lasting.{inside_late, went}
-use Rattle.chk_round.proofs.NoRead.{length_late}
+use Rattle.chk_round.proofs.NoRead.{work_late}
 use Rattle.chk_round.proofs.posting.post_rest.Goals as goal
 
 pub posts-init : goal.posts-init
@@ -40,13 +40,13 @@ returns-in_err-post_next-clause-only g c =
     let p = err_from_is_err_and c.from_residual.result c.from_residual.ensures.1 in
     rw (p.1, p.2) (c.in_err-post_next.ensures.only)
 
-pub returns-in_err-post_next-clause-length : goal.returns-in_err-post_next-clause-length
-returns-in_err-post_next-clause-length g c =
+pub returns-in_err-post_next-clause-shown : goal.returns-in_err-post_next-clause-shown
+returns-in_err-post_next-clause-shown g c =
     let p = err_from_is_err_and c.from_residual.result c.from_residual.ensures.1 in
-    rw (p.1, p.2) (length_late (Unit {0}) (Unit {0}) c.in_err-post_next.field-0.0 (g.S.Site.told c.post_next.new.site) c.posts.invariant.acts c.in_err-post_next.ensures.length)
+    rw (p.1, p.2) (work_late (Unit {0}) (Unit {0}) c.in_err-post_next.field-0.0 (g.S.Site.told c.post_next.new.site) c.posts.invariant.acts c.in_err-post_next.ensures.shown)
 
 pub returns-in_err-post_next-clause-acts : goal.returns-in_err-post_next-clause-acts
-returns-in_err-post_next-clause-acts g c = acts_then c.posts.invariant.acts c.in_err-post_next.ensures.acts
+returns-in_err-post_next-clause-acts g c = rest_then c.posts.invariant.acts c.in_err-post_next.ensures.acts
 
 pub returns-clause-acts : goal.returns-clause-acts
 returns-clause-acts g c = c.posts.invariant.acts

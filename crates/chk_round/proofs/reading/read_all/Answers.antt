@@ -11,7 +11,7 @@ use Rattle.chk_round.proofs.Polls.{starts_then}
 use Rattle.chk_round.proofs.Acts.{acts_then}
 use Rattle.chk_round.proofs.Lasting.{inside_late, went}
 use Rattle.chk_round.specs.Scripts as scripts
-use Rattle.chk_round.proofs.NoRead.{length_late}
+use Rattle.chk_round.proofs.NoRead.{work_late}
 use Rattle.chk_round.proofs.reading.read_all.Goals as goal
 use Rattle.chk_round.proofs.reading.read_all.Goals.{then-is_read_on+in_ok-read_out, else-is_read_on}
 
@@ -123,10 +123,10 @@ returns-clause-script g c =
     c.loop-adaptor.invariant.script (Ok tt) c.loop-adaptor.agent (g.S.Site.told c.loop-adaptor.site)
     (scripts.all (omega (arith, past, size, count)))
 
-pub returns-in_err-read_out-clause-length : goal.returns-in_err-read_out-clause-length
-returns-in_err-read_out-clause-length g c =
+pub returns-in_err-read_out-clause-shown : goal.returns-in_err-read_out-clause-shown
+returns-in_err-read_out-clause-shown g c =
     let p = err_from_is_err_and c.from_residual.result c.from_residual.ensures.1 in
-    rw (p.1, p.2) (length_late (Unit {0}) (Unit {0}) c.in_err-read_out.field-0.0 (g.S.Site.told c.read_out.new.site) c.loop-adaptor.invariant.so.acts c.in_err-read_out.ensures.length)
+    rw (p.1, p.2) (work_late (Unit {0}) (Unit {0}) c.in_err-read_out.field-0.0 (g.S.Site.told c.read_out.new.site) c.loop-adaptor.invariant.so.acts c.in_err-read_out.ensures.shown)
 
 pub returns-in_err-read_out-clause-acts : goal.returns-in_err-read_out-clause-acts
 returns-in_err-read_out-clause-acts g c = acts_then c.loop-adaptor.invariant.so.acts c.in_err-read_out.ensures.acts

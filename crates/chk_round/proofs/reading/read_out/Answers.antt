@@ -7,8 +7,8 @@ use Rattle.chk_round.specs.Faults.{of_agent}
 use Rattle.chk_round.proofs.Ends.{agent_last}
 use Rattle.chk_round.proofs.Lasting.{went, growing_inside, inside_late, last_inside, shrank_inside}
 use Rattle.chk_round.proofs.OwnRows.{own_growing, own_plain, own_shrank}
-use Rattle.chk_round.proofs.NoRead.{agent_plain, growing_length, length_late, plain_length, shrank_length}
-use Rattle.chk_round.proofs.Acts.{acts_then}
+use Rattle.chk_round.proofs.NoRead.{agent_plain, agent_shown, growing_shown, shrank_shown, work_late}
+use Rattle.chk_round.proofs.Acts.{acts_then, as_round}
 use Rattle.chk_round.proofs.reading.read_out.Goals as goal
 
 pub reads-init : goal.reads-init
@@ -207,25 +207,25 @@ returns-in-Shrank-clause-script g c =
     c.reads.invariant c.step.new.self (Ok c.in_ok-step.step) c.in_ok-step.ensures.told c.in_ok-step.ensures.state
     c.in-Shrank.had c.in-Shrank.is' (ap Ok c.in-Shrank.is) c.shrank.result c.shrank.ensures.which
 
-pub returns-in_err-step-clause-length : goal.returns-in_err-step-clause-length
-returns-in_err-step-clause-length g c =
+pub returns-in_err-step-clause-shown : goal.returns-in_err-step-clause-shown
+returns-in_err-step-clause-shown g c =
     let p = err_from_is_err_and c.from_residual.result c.from_residual.ensures.1 in
-    rw (p.1, p.2) (plain_length (Unit {0}) (of_agent c.in_err-step.field-0.0) (agent_plain c.in_err-step.field-0.0)
+    rw (p.1, p.2) (agent_shown (Unit {0}) Stepped c.in_err-step.field-0.0 c.in_err-step.ensures.undamaged
     (g.S.Site.told c.args.site.now) (g.S.Site.told c.step.new.site))
 
-pub returns-in_err-post_next-in-Held-clause-length : goal.returns-in_err-post_next-in-Held-clause-length
-returns-in_err-post_next-in-Held-clause-length g c =
+pub returns-in_err-post_next-in-Held-clause-shown : goal.returns-in_err-post_next-in-Held-clause-shown
+returns-in_err-post_next-in-Held-clause-shown g c =
     let p = err_from_is_err_and c.from_residual-in_err-post_next-in-Held.result c.from_residual-in_err-post_next-in-Held.ensures.1 in
-    rw (p.1, p.2) (length_late (Unit {0}) (Unit {0}) c.in_err-post_next-in-Held.field-0.0 (g.S.Site.told c.post_next.new.site)
+    rw (p.1, p.2) (work_late (Unit {0}) (Unit {0}) c.in_err-post_next-in-Held.field-0.0 (g.S.Site.told c.post_next.new.site)
     (stepped_acts c.args.adaptor c.reads.count c.args.reads c.args.collector.now c.reads.collector c.args.agent.now c.reads.agent
     c.reads.invariant c.step.new.self (Ok c.in_ok-step.step) c.in_ok-step.ensures.told c.in_ok-step.ensures.state)
-    c.in_err-post_next-in-Held.ensures.length)
+    c.in_err-post_next-in-Held.ensures.shown)
 
-pub returns-then-count-reads-clause-length : goal.returns-then-count-reads-clause-length
-returns-then-count-reads-clause-length g c = growing_length (g.S.Site.told c.args.site.now) (g.S.Site.told c.step.new.site) c.growing.ensures.kind.1
+pub returns-then-count-reads-clause-shown : goal.returns-then-count-reads-clause-shown
+returns-then-count-reads-clause-shown g c = growing_shown (g.S.Site.told c.args.site.now) (g.S.Site.told c.step.new.site) c.growing.ensures.kind.1
 
-pub returns-in-Shrank-clause-length : goal.returns-in-Shrank-clause-length
-returns-in-Shrank-clause-length g c = shrank_length (g.S.Site.told c.args.site.now) (g.S.Site.told c.step.new.site) c.shrank.ensures.kind.1
+pub returns-in-Shrank-clause-shown : goal.returns-in-Shrank-clause-shown
+returns-in-Shrank-clause-shown g c = shrank_shown (g.S.Site.told c.args.site.now) (g.S.Site.told c.step.new.site) c.shrank.ensures.kind.1
 
 pub returns-in-AtEnd-clause-acts : goal.returns-in-AtEnd-clause-acts
 returns-in-AtEnd-clause-acts g c =
@@ -252,7 +252,7 @@ returns-in_err-post_next-in-Held-clause-acts g c =
     acts_then
     (stepped_acts c.args.adaptor c.reads.count c.args.reads c.args.collector.now c.reads.collector c.args.agent.now c.reads.agent
     c.reads.invariant c.step.new.self (Ok c.in_ok-step.step) c.in_ok-step.ensures.told c.in_ok-step.ensures.state)
-    c.in_err-post_next-in-Held.ensures.acts
+    (as_round c.in_err-post_next-in-Held.ensures.acts)
 
 pub returns-in_err-step-clause-rows : goal.returns-in_err-step-clause-rows
 returns-in_err-step-clause-rows g c stamped started acting run =

@@ -8,10 +8,10 @@ use Rattle.chk_round.proofs.Following.{keeps_then}
 use Rattle.chk_round.proofs.Joining.{in_on, joint_then, still_c}
 use Rattle.chk_round.proofs.OwnRows.{own_then}
 use Rattle.chk_round.proofs.Polls.{starts_then}
-use Rattle.chk_round.proofs.Whole.{close_ends, joint_ends, reads_given, reads_joint, round_ends, were_read}
+use Rattle.chk_round.proofs.Whole.{close_ends, joint_ends, reads_given, reads_joint, reads_no_more, round_ends, were_read}
 use Rattle.chk_round.proofs.Lasting.{inside_late, last_inside, went_none, went_then}
-use Rattle.chk_round.proofs.NoRead.{length_late, plain_length, plain_no_read}
-use Rattle.chk_round.proofs.Acts.{acts_then}
+use Rattle.chk_round.proofs.NoRead.{plain_no_read, work_late}
+use Rattle.chk_round.proofs.Acts.{acts_then, as_round}
 use Rattle.chk_round.proofs.running.run_pair.Goals as goal
 
 pub read_all-requires : goal.read_all-requires
@@ -97,6 +97,11 @@ returns-in_err-report-clause-cause g c =
     (g.S.Site.fault_count c.close.new.site) r) (sym (p.1 ∙ ap Err p.2))
     (late_cause Report Report _ _ _ c.in_err-report.field-0.0 (omega (arith, one, two)) c.in_err-report.ensures.cause)
 
+pub returns-clause-live : goal.returns-clause-live
+returns-clause-live g c =
+    keeps_then c.args.agent.now c.read_all.new.agent c.deliver.new.agent
+    c.in_ok-read_all.ensures.live c.in_ok-deliver.ensures.live
+
 pub returns-clause-told : goal.returns-clause-told
 returns-clause-told g c stamped started acting run j_in j_acts steady =
     let on = c.in_ok-read_all.ensures.on in
@@ -110,10 +115,12 @@ returns-clause-told g c stamped started acting run j_in j_acts steady =
     (reads_given stamped started acting c.args.collector.now c.args.agent.now run c.read_all.new.collector c.read_all.new.agent
     c.read_all.ensures.same.collector on (c.in_ok-read_all.ensures.read stamped started acting run)
     (c.in_ok-read_all.ensures.read stamped started))
+    c.deliver.ensures.acts (returns-clause-live g c)
     c.ready-sound.ensures.sound c.deliver.ensures.same.collector c.close.new.collector c.in_ok-report.report
     c.in_ok-report.ensures.finished
     (c.in_ok-report.ensures.told stamped started acting c.deliver.new.agent c.ready-sound.ensures.sound here j_in j_acts)
     c.in_ok-report.ensures.given c.in_ok-report.ensures.sends c.in_ok-report.ensures.theirs j_in
+    c.close.ensures.acts
 
 pub returns-clause-cause : goal.returns-clause-cause
 returns-clause-cause g c =
@@ -124,11 +131,6 @@ returns-clause-cause g c =
 
 pub returns-clause-cluster : goal.returns-clause-cluster
 returns-clause-cluster g c = c.in_ok-deliver.ensures.all.cluster ∙ c.in_ok-read_all.ensures.on.cluster
-
-pub returns-clause-live : goal.returns-clause-live
-returns-clause-live g c =
-    keeps_then c.args.agent.now c.read_all.new.agent c.deliver.new.agent
-    c.in_ok-read_all.ensures.live c.in_ok-deliver.ensures.live
 
 pub returns-in_err-read_all-clause-last : goal.returns-in_err-read_all-clause-last
 returns-in_err-read_all-clause-last g c =
@@ -169,38 +171,40 @@ pub returns-clause-script : goal.returns-clause-script
 returns-clause-script g c = (
   g.S.Site.told c.read_all.new.site,
   (c.read_all.new.agent, c.in_ok-read_all.ensures.script),
-  went_then c.in_ok-deliver.ensures.last c.in_ok-report.ensures.last,
+  reads_no_more c.read_all.new.collector c.read_all.new.agent c.deliver.new.collector c.deliver.new.agent
+      c.in_ok-deliver.ensures.joint c.deliver.ensures.acts c.close.ensures.acts
+      c.in_ok-report.ensures.given,
 )
 
-pub returns-in_err-read_all-clause-length : goal.returns-in_err-read_all-clause-length
-returns-in_err-read_all-clause-length g c =
+pub returns-in_err-read_all-clause-shown : goal.returns-in_err-read_all-clause-shown
+returns-in_err-read_all-clause-shown g c =
     let p = err_from_is_err_and c.from_residual.result c.from_residual.ensures.1 in
-    rw (p.1, p.2) (length_late Report (Unit {0}) c.in_err-read_all.field-0.0 (g.S.Site.told c.read_all.new.site) (went_none (g.S.Site.told c.args.site.now)) c.in_err-read_all.ensures.length)
+    rw (p.1, p.2) (work_late Report (Unit {0}) c.in_err-read_all.field-0.0 (g.S.Site.told c.read_all.new.site) (went_none (g.S.Site.told c.args.site.now)) c.in_err-read_all.ensures.shown)
 
-pub returns-in_err-deliver-clause-length : goal.returns-in_err-deliver-clause-length
-returns-in_err-deliver-clause-length g c =
+pub returns-in_err-deliver-clause-shown : goal.returns-in_err-deliver-clause-shown
+returns-in_err-deliver-clause-shown g c =
     let p = err_from_is_err_and c.from_residual-in_err-deliver.result c.from_residual-in_err-deliver.ensures.1 in
-    rw (p.1, p.2) (length_late Report (Unit {0}) c.in_err-deliver.field-0.0 (g.S.Site.told c.deliver.new.site) c.in_ok-read_all.ensures.last c.in_err-deliver.ensures.length)
+    rw (p.1, p.2) (work_late Report (Unit {0}) c.in_err-deliver.field-0.0 (g.S.Site.told c.deliver.new.site) c.in_ok-read_all.ensures.last c.in_err-deliver.ensures.shown)
 
-pub returns-in_err-report-clause-length : goal.returns-in_err-report-clause-length
-returns-in_err-report-clause-length g c =
+pub returns-in_err-report-clause-shown : goal.returns-in_err-report-clause-shown
+returns-in_err-report-clause-shown g c =
     let p = err_from_is_err_and c.from_residual-in_err-report.result c.from_residual-in_err-report.ensures.1 in
-    rw (p.1, p.2) (plain_length Report c.in_err-report.field-0.0 c.in_err-report.ensures.only
-    (g.S.Site.told c.args.site.now) (g.S.Site.told c.close.new.site))
+    rw (p.1, p.2) (work_late Report Report c.in_err-report.field-0.0 (g.S.Site.told c.close.new.site)
+    (went_then c.in_ok-read_all.ensures.last c.in_ok-deliver.ensures.last) c.in_err-report.ensures.shown)
 
 pub returns-in_err-read_all-clause-acts : goal.returns-in_err-read_all-clause-acts
 returns-in_err-read_all-clause-acts g c = c.read_all.ensures.acts
 
 pub returns-in_err-deliver-clause-acts : goal.returns-in_err-deliver-clause-acts
-returns-in_err-deliver-clause-acts g c = acts_then c.read_all.ensures.acts c.deliver.ensures.acts
+returns-in_err-deliver-clause-acts g c = acts_then c.read_all.ensures.acts (as_round c.deliver.ensures.acts)
 
 pub returns-in_err-report-clause-acts : goal.returns-in_err-report-clause-acts
 returns-in_err-report-clause-acts g c =
-    acts_then (acts_then c.read_all.ensures.acts c.deliver.ensures.acts) c.close.ensures.acts
+    acts_then (acts_then c.read_all.ensures.acts (as_round c.deliver.ensures.acts)) (as_round c.close.ensures.acts)
 
 pub returns-clause-acts : goal.returns-clause-acts
 returns-clause-acts g c =
-    acts_then (acts_then c.read_all.ensures.acts c.deliver.ensures.acts) c.close.ensures.acts
+    acts_then (acts_then c.read_all.ensures.acts (as_round c.deliver.ensures.acts)) (as_round c.close.ensures.acts)
 
 pub returns-clause-each : goal.returns-clause-each
 returns-clause-each g c steady =

@@ -10,7 +10,7 @@ use Rattle.chk_world.specs.Rules.{Legal}
 use Rattle.chk_site.specs.History.{History}
 use Rattle.chk_sink.specs.Starts.{IsFresh as AreFreshSinks, Started as SinksStarted}
 use Rattle.chk_sink.specs.States.{State as Sinks}
-use Rattle.chk_agent.specs.Starts.{IsFresh as IsFreshAgent, Started as AgentStarted}
+use Rattle.chk_agent.specs.Starts.{FindsCheckpoint, IsFresh as IsFreshAgent, Started as AgentStarted, StartsAndReads}
 use Rattle.chk_agent.specs.States.{State as Agents}
 use Rattle.chk_round.specs.declared.faults.RoundFault.{RoundFault}
 use Rattle.chk_round.specs.declared.starting.Pair.{Pair}
@@ -20,7 +20,7 @@ use Rattle.chk_round.specs.Starts.{AreFresh, ClockGave, EndsWithClock}
 use Rattle.chk_round.specs.Timed.{moment_of, pair_at}
 use Rattle.chk_round.proofs.Ends.{agent_cause, agent_last, last_late, later_cause, nothing_then, sinks_cause, sinks_last}
 use Rattle.chk_round.proofs.Meeting.{agent_met, agent_unmet, clock_ends, ends_with_clock, sinks_met, sinks_unmet}
-use Rattle.chk_round.proofs.NoRead.{agent_plain, sinks_plain}
+use Rattle.chk_round.proofs.NoRead.{agent_plain, begun_shown, collector_shown, only_plain, only_shown, sinks_plain}
 use Rattle.chk_round.proofs.Acts.{agent_begins, begins_then, collector_begins, time_begins}
 use Rattle.chk_sink.specs.Faults.{ended_by}
 use Rattle.chk_sink.specs.Works.{OfStart}
@@ -199,7 +199,7 @@ returns-clause-fresh g c =
     c.timed.ensures.same
 
 pub returns-clause-only : goal.returns-clause-only
-returns-clause-only g c = c.timed.ensures.only
+returns-clause-only g c = only_plain c.timed.result c.timed.ensures.only
 
 pub returns-clause-cause : goal.returns-clause-cause
 returns-clause-cause g c =
@@ -232,3 +232,31 @@ returns-in_err-agent-clause-cause g c =
     (agent_cause Pair Agents (g.S.Site.fault_count c.args.site.now)
     (g.S.Site.fault_count c.start.new.site) _ c.in_err-agent.field-0.0
     (let one = c.in_ok-collector.ensures.cause in omega (arith, one)) c.in_err-agent.ensures.cause)
+
+pub returns-in_err-collector-clause-shown : goal.returns-in_err-collector-clause-shown
+returns-in_err-collector-clause-shown g c =
+    let p = err_from_is_err_and c.from_residual.result c.from_residual.ensures.1 in
+    rw (p.1, p.2)
+    (collector_shown Pair c.args.reading.now.name c.in_err-collector.field-0.0
+    (subst (λ w. Works w (OfStart w) (ended_by {T = Sinks} (Err c.in_err-collector.field-0.0))
+    (g.S.Site.told c.args.site.now) (g.S.Site.told c.start.new.site)) c.requires.collector
+    c.in_err-collector.ensures.own)
+    c.in_err-collector.ensures.damaged c.in_err-collector.ensures.spent_exactly)
+
+pub returns-in_err-agent-clause-shown : goal.returns-in_err-agent-clause-shown
+returns-in_err-agent-clause-shown g c =
+    let p = err_from_is_err_and c.from_residual-in_err-agent.result c.from_residual-in_err-agent.ensures.1 in
+    let mid = g.S.Site.told c.start.new.site in
+    let new = g.S.Site.told c.start-2.new.site in
+    rw (p.1, p.2)
+    (begun_shown Pair c.args.reading.now.name c.in_err-agent.field-0.0
+    (c.in_ok-collector.ensures.told [])
+    (subst (λ w. StartsAndReads {T = Agents} w (Err c.in_err-agent.field-0.0) mid new)
+    c.requires.agent_is c.in_err-agent.ensures.acts)
+    (subst (λ w. FindsCheckpoint {T = Agents} (λ s. s.saved) w (Err c.in_err-agent.field-0.0) mid new)
+    c.requires.agent_is c.in_err-agent.ensures.whole))
+
+pub returns-clause-shown : goal.returns-clause-shown
+returns-clause-shown g c =
+    only_shown Pair c.args.reading.now.name c.timed.result c.timed.ensures.only
+    (g.S.Site.told c.args.site.now) (g.S.Site.told c.timed.new.site)

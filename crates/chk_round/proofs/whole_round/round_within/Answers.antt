@@ -26,8 +26,8 @@ returns-in_err-processes-clause-script g c =
     let p = err_from_is_err_and c.from_residual.result c.from_residual.ensures.1 in
     rw (p.1, p.2) (inl tt)
 
-pub returns-in_err-processes-clause-length : goal.returns-in_err-processes-clause-length
-returns-in_err-processes-clause-length g c =
+pub returns-in_err-processes-clause-shown : goal.returns-in_err-processes-clause-shown
+returns-in_err-processes-clause-shown g c =
     let p = err_from_is_err_and c.from_residual.result c.from_residual.ensures.1 in
     rw (p.1, p.2) (tt)
 

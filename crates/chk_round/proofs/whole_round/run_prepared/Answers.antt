@@ -13,6 +13,7 @@ use Rattle.chk_round.specs.declared.whole_round.Rounded.{Rounded}
 use Rattle.chk_round.specs.declared.whos.Processes.{Processes}
 use Rattle.chk_round.specs.Begun.{BeginsSo}
 use Rattle.chk_round.specs.Faults.{RoundCause}
+use Rattle.chk_round.specs.Lengths.{EndShown}
 use Rattle.chk_round.specs.Processes.{AreBoth}
 use Rattle.chk_round.proofs.Added.{logs_cluster}
 use Rattle.chk_round.proofs.Ends.{late_cause}
@@ -20,7 +21,7 @@ use Rattle.chk_round.proofs.Following.{follows_on, has_line}
 use Rattle.chk_round.proofs.Rounding.{both_of, rounds, unmet}
 use Rattle.chk_round.proofs.Staying.{reads_logs, stays_by}
 use Rattle.chk_round.proofs.Lasting.{inside_late, went, went_none, went_then}
-use Rattle.chk_round.proofs.NoRead.{length_late, plain_length, plain_no_read}
+use Rattle.chk_round.proofs.NoRead.{end_as, plain_no_read, work_ends}
 use Rattle.chk_round.proofs.Acts.{all_acts, begun_of, timed_then}
 use Rattle.chk_round.specs.Calls.{BegunActs, TimedActs}
 use Rattle.chk_site.specs.Site.{Adds}
@@ -144,15 +145,21 @@ returns-in-Err-clause-script g c =
       )
     ]
 
-pub returns-in_err-pair-clause-length : goal.returns-in_err-pair-clause-length
-returns-in_err-pair-clause-length g c =
+pub returns-in_err-pair-clause-shown : goal.returns-in_err-pair-clause-shown
+returns-in_err-pair-clause-shown g c =
     let p = err_from_is_err_and c.from_residual.result c.from_residual.ensures.1 in
-    rw (p.1, p.2) (plain_length Rounded c.in_err-pair.field-0.0 c.in_err-pair.ensures.only
-    (g.S.Site.told c.args.site.now) (g.S.Site.told c.gather.new.site))
+    let name = ap (λ (p : Processes). p.reading.name) c.requires.processes in
+    let old = g.S.Site.told c.args.site.now in
+    let new = g.S.Site.told c.gather.new.site in
+    rw (p.1, p.2)
+    (end_as Rounded c.args.given.now.source Pair c.in_err-pair.field-0.0 old new
+    (subst (λ n. EndShown {T = Pair} n (Err c.in_err-pair.field-0.0) old new) name
+    c.in_err-pair.ensures.shown))
 
-pub returns-in-Err-clause-length : goal.returns-in-Err-clause-length
-returns-in-Err-clause-length g c =
-    length_late Rounded Report c.in-Err.fault (g.S.Site.told c.run_pair.new.site) c.in_ok-pair.ensures.last c.in-Err.ensures.length
+pub returns-in-Err-clause-shown : goal.returns-in-Err-clause-shown
+returns-in-Err-clause-shown g c =
+    work_ends Rounded c.args.given.now.source Report c.in-Err.fault
+    (g.S.Site.told c.run_pair.new.site) c.in_ok-pair.ensures.last c.in-Err.ensures.shown
 
 pub returns-in_err-pair-clause-acts : goal.returns-in_err-pair-clause-acts
 returns-in_err-pair-clause-acts g c =

@@ -27,7 +27,7 @@ returns-in_err-rounded-clause-ran g c =
       script = c.in_err-rounded.ensures.script;
       read = tt;
       stays = tt;
-      length = c.in_err-rounded.ensures.length;
+      shown = c.in_err-rounded.ensures.shown;
       last = c.in_err-rounded.ensures.last;
       acts = c.in_err-rounded.ensures.acts;
     }))
@@ -50,7 +50,7 @@ returns-in_err-tell-clause-ran g c =
       script = c.in_ok-rounded.ensures.script;
       read = c.in_ok-rounded.ensures.reads;
       stays = c.in_ok-rounded.ensures.stays;
-      length = c.in_ok-rounded.ensures.length;
+      shown = c.in_ok-rounded.ensures.shown;
       last = c.in_ok-rounded.ensures.last;
       acts = c.in_ok-rounded.ensures.acts;
     })
@@ -83,7 +83,7 @@ returns-clause-ran g c =
       script = c.in_ok-rounded.ensures.script;
       read = c.in_ok-rounded.ensures.reads;
       stays = c.in_ok-rounded.ensures.stays;
-      length = c.in_ok-rounded.ensures.length;
+      shown = c.in_ok-rounded.ensures.shown;
       last = c.in_ok-rounded.ensures.last;
       acts = c.in_ok-rounded.ensures.acts;
     })
