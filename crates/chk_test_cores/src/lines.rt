@@ -30,7 +30,7 @@ fn usage_lines(rt: HostRuntime) -> Result<(), NoMemory> {
     for (usage, wanted) in [
         (
             Usage::Commands,
-            "usage: chukwa round|agent|collector|drain|archive|demux|salvage|load\n",
+            "usage: chukwa round|agent|collector|drain|archive|demux|salvage|load|udp\n",
         ),
         (
             Usage::Round,

@@ -55,7 +55,7 @@ fn no_commands(rt: HostRuntime) -> Result<(), NoMemory> {
         "--",
         "-",
         "help",
-        "udp",
+        "udps",
     ] {
         assert!(rt; is_refused(rt.alloc(), text, Usage::Commands)?, "{text}");
     }
@@ -115,6 +115,8 @@ fn other_refusals(rt: HostRuntime) -> Result<(), NoMemory> {
         ("agent --control a\tb h1 A", Usage::Agent),
         ("agent --poll x h1 A", Usage::Agent),
         ("agent --expire 9223372036854775808 h1 A", Usage::Agent),
+        ("agent --pause 201 h1 A", Usage::Agent),
+        ("agent --pause x h1 A", Usage::Agent),
         ("agent --reads 1 h1 A", Usage::Agent),
         ("agent h1 A a\tb", Usage::Agent),
         ("collector", Usage::Collector),
@@ -172,15 +174,15 @@ fn commands(rt: HostRuntime) -> Result<(), NoMemory> {
         ),
         (
             "agent h1 A",
-            "Agent(AgentWords { initial: None, control: None, turns: 9223372036854775807, poll: 10000, expire: 300000, cluster: \"none\", source: \"h1\", collectors: [\"A\"] })",
+            "Agent(AgentWords { initial: None, control: None, turns: 9223372036854775807, poll: 10000, expire: 300000, pause: 200, cluster: \"none\", source: \"h1\", collectors: [\"A\"] })",
         ),
         (
-            "agent --initial F --control D --turns 5 --poll 0 --expire 0 --cluster x h1 A A",
-            "Agent(AgentWords { initial: Some(\"F\"), control: Some(\"D\"), turns: 5, poll: 0, expire: 0, cluster: \"x\", source: \"h1\", collectors: [\"A\", \"A\"] })",
+            "agent --initial F --control D --turns 5 --poll 0 --expire 0 --pause 0 --cluster x h1 A A",
+            "Agent(AgentWords { initial: Some(\"F\"), control: Some(\"D\"), turns: 5, poll: 0, expire: 0, pause: 0, cluster: \"x\", source: \"h1\", collectors: [\"A\", \"A\"] })",
         ),
         (
             "agent --control - h1 A",
-            "Agent(AgentWords { initial: None, control: Some(\"-\"), turns: 9223372036854775807, poll: 10000, expire: 300000, cluster: \"none\", source: \"h1\", collectors: [\"A\"] })",
+            "Agent(AgentWords { initial: None, control: Some(\"-\"), turns: 9223372036854775807, poll: 10000, expire: 300000, pause: 200, cluster: \"none\", source: \"h1\", collectors: [\"A\"] })",
         ),
         (
             "collector c1 A",

@@ -29,6 +29,18 @@ bytes sinks/c1.1.1.done HEADER C1_1_1 HELLO
 bytes sinks/c2.1.1.chukwa NOTHING
 run archive => 0 archive unclosed 1 taken 6 held 0 removed 1|end h1 Log /a.log 6|
 
+a job that is stopped at the removal of the sink that it took, and the next one
+bytes sinks/c1.1.1.done HEADER C1_1_1 HELLO
+stop 18 sinks/c1.1.1.done
+run archive => 3
+last => job remove stopped
+size archive/seg.1 => 144
+size archive/book => 62
+size sinks/c1.1.1.done => 144
+run archive => 0 archive unclosed 0 taken 0 held 0 removed 1|end h1 Log /a.log 6|
+size sinks/c1.1.1.done => none
+size archive/seg.2 => none
+
 a damaged book
 bytes archive/book x
 run archive => 5 damaged archive/book 0|

@@ -41,6 +41,23 @@ size sinks/c1.1.1.done => 144
 is sinks/c1.1.1.done HEADER C1_1_1 HELLO
 got 1 => HTTP/1.1 200 OK\r|Content-Type: text/plain\r|Content-Length: 11\r|Connection: close\r|\r|c1.1.1 144|
 
+a sink that is longer than its mark is cut to it by the next start, and then archived
+send POST => 1
+request POST /chukwa HTTP/1.1%CRHost: c1:80%CRContent-Type: application/octet-stream%CR\
+Content-Length: 44%CRConnection: close%CR%CR%00%00%00%01%00%00%00%1A%01%ZZ%00%0C\
+%00%02h1%00%03Log%00%06/a.log%00%00%00%06world%0A => 2
+stop 26 sinks/c1.1.1.chukwa
+run collector --turns 2 c1 c1:80 => 3
+last => c1 remove stopped
+size sinks/c1.1.1.chukwa => 192
+is sinks/c1.1.1.chukwa HEADER C1_1_1 HELLO WORLD
+is sinks/c1.1.1.mark eight:144
+run collector --turns 1 c1 c1:80 => 0
+size sinks/c1.1.1.chukwa => none
+is sinks/c1.1.1.done HEADER C1_1_1 HELLO
+run archive => 0 archive unclosed 0 taken 6 held 0 removed 1|end h1 Log /a.log 6|
+size sinks/c1.1.1.done => none
+
 two posts that wait are taken in one turn of two, by one commit
 send POST => 1
 send POST => 2

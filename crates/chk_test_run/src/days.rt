@@ -36,7 +36,7 @@ size sinks/c1.1.1.chukwa => 624
 size sinks/c2.1.1.chukwa => 360
 
 a collector is stopped in its first sync
-stop sinks/c1.1.1.chukwa
+stop 1 sinks/c1.1.1.chukwa
 c1 tick 0 => refused
 last => c1 sync stopped
 restart

@@ -107,6 +107,14 @@ end archive/seg.1 HELLO
 size archive/book => 62
 run archive => 0 archive unclosed 0 taken 0 held 0 removed 0|end h1 Log /a.log 6|
 
+a log of a shorter name
+log a.log hello|
+run round h1 Log a.log => 0 stream h1 Log a.log 6|archive unclosed 0 taken 6 held 0 removed 1|
+text agents/h1.check => chukwa-checkpoint 1|add adaptor_1 = LWFTAdaptor Log a.log 6 0 -|
+size agents/h1.check => 64
+size archive/seg.1 => 143
+size archive/book => 61
+
 an empty log
 long /a.log 0
 run round h1 Log /a.log => 0 stream h1 Log /a.log 0|archive unclosed 0 taken 0 held 0 removed 0|

@@ -122,14 +122,17 @@ fn comes_so(
     comes(alloc, script, name, bytes.as_slice())
 }
 
-fn stops(alloc: Global, script: &mut Script, name: &str) -> Result<(), Fail> {
+// `N NAME`.
+fn stops(alloc: Global, script: &mut Script, text: &str) -> Result<(), Fail> {
+    let (at, name) = text.split_once(' ').ok_or("no name")?;
+    let at: u64 = at.parse()?;
     let left = left_of(alloc, &[name], b"", false)?;
-    script.stop = Some(StopAt { at: 1, left });
+    script.stop = Some(StopAt { at, left });
     Ok(())
 }
 
 // - `fail N`: the call of this number of the run fails.
-// - `stop NAME`: the next call is stopped. Of this file just the synced bytes are left.
+// - `stop N NAME`: this call of the run is stopped. Of this file just the synced bytes are left.
 // - `chunks COUNT BLOCK LAST`: an archive of so many chunks of this block, and a last one, comes.
 // - `reply CALL MESSAGE CODE BODY` and `polls CALL MESSAGE COUNT BODY`.
 fn fails_so(alloc: Global, script: &mut Script, verb: &str, text: &str) -> Result<(), Fail> {

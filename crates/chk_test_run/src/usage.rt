@@ -3,7 +3,7 @@ use crate::scene::refuses_each;
 use std::test::Fail;
 
 // The usage lines; a newline stands as `|`.
-const ALL: &str = "usage: chukwa round|agent|collector|drain|archive|demux|salvage|load|";
+const ALL: &str = "usage: chukwa round|agent|collector|drain|archive|demux|salvage|load|udp|";
 
 const ROUND: &str =
     "usage: chukwa round [--class CLASS] [--reads N] [--cluster NAME] SOURCE TYPE LOG...|";
@@ -42,6 +42,8 @@ agent h1
 agent .h1 A
 agent --turns 0 h1 A
 agent --rotate 1 h1 A
+agent --pause 201 h1 A
+agent --pause x h1 A
 ";
 
 const COLLECTORS: &str = "\

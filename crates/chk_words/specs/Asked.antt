@@ -9,7 +9,8 @@ use Rattle.clap.specs.Walk.{Row}
 use Rattle.chk_words.specs.Names.{is_source, are_words, number_in, most}
 use Rattle.chk_words.specs.Options.{parsed, plain_of, by_option, as_word, as_some_word, no_cluster}
 use Rattle.chk_words.specs.Usages.{usage_of, option_names}
-use Rattle.chk_words.specs.Commands.{Asked, Round, Agent, Collector, Drain, Archive, Demux, Salvage, Load}
+use Rattle.chk_words.specs.Commands.{Asked, Round, Agent, Collector, Drain, Archive, Demux, Salvage, Load, Udp}
+use Rattle.chk_words.specs.Datagrams.{is_writer_name}
 use Rattle.chk_words.specs.declared.usage.Usage.{Usage}
 use Rattle.chk_words.specs.declared.usage.Usage.TheVariants as usage
 
@@ -52,9 +53,10 @@ asked_round rows =
     given (cluster_in rows) (λ cluster.
     given (plain_of rows) (round_with class reads cluster))))
 
--- `agent [--initial FILE] [--control ADDRESS] [--turns N] [--poll MS] [--expire MS] [--cluster NAME] SOURCE COLLECTOR...`
-abbrev pub agent_with : Option (List ℕ) → Option (List ℕ) → ℕ → ℕ → ℕ → List ℕ → List (List ℕ) → Option Asked
-agent_with initial control turns poll expire cluster (source ∷ collectors) =
+-- `agent [--initial FILE] [--control ADDRESS] [--turns N] [--poll MS] [--expire MS] [--pause MS] [--cluster NAME] SOURCE
+-- COLLECTOR...`
+abbrev pub agent_with : Option (List ℕ) → Option (List ℕ) → ℕ → ℕ → ℕ → ℕ → List ℕ → List (List ℕ) → Option Asked
+agent_with initial control turns poll expire pause cluster (source ∷ collectors) =
     if is_source source && are_words 1 64 collectors
     then Some (Agent (record {
       initial = initial;
@@ -62,11 +64,12 @@ agent_with initial control turns poll expire cluster (source ∷ collectors) =
       turns = turns;
       poll = poll;
       expire = expire;
+      pause = pause;
       cluster = cluster;
       source = source;
       collectors = collectors;
     })) else None
-agent_with initial control turns poll expire cluster plain = None
+agent_with initial control turns poll expire pause cluster plain = None
 
 abbrev pub asked_agent : List Row → Option Asked
 asked_agent rows =
@@ -75,8 +78,9 @@ asked_agent rows =
     given (turns_in rows) (λ turns.
     given (by_option 10000 (number_in 0 most) (codes "poll") rows) (λ poll.
     given (by_option 300000 (number_in 0 most) (codes "expire") rows) (λ expire.
+    given (by_option 200 (number_in 0 200) (codes "pause") rows) (λ pause.
     given (cluster_in rows) (λ cluster.
-    given (plain_of rows) (agent_with initial control turns poll expire cluster)))))))
+    given (plain_of rows) (agent_with initial control turns poll expire pause cluster))))))))
 
 -- `collector [--rotate MS] [--turns N] [--messages N] NAME ADDRESS`
 abbrev pub collector_with : ℕ → ℕ → ℕ → List (List ℕ) → Option Asked
@@ -152,6 +156,26 @@ load_with plain = None
 abbrev pub asked_load : List Row → Option Asked
 asked_load rows = given (plain_of rows) load_with
 
+-- `udp [--turns N] [--rotate BYTES] [--messages N] NAME ADDRESS`
+abbrev pub udp_with : ℕ → ℕ → ℕ → List (List ℕ) → Option Asked
+udp_with turns rotate messages (name ∷ address ∷ []) =
+    if is_writer_name name && is_word address
+    then Some (Udp (record {
+      turns = turns;
+      rotate = rotate;
+      messages = messages;
+      name = name;
+      address = address;
+    })) else None
+udp_with turns rotate messages plain = None
+
+abbrev pub asked_udp : List Row → Option Asked
+asked_udp rows =
+    given (turns_in rows) (λ turns.
+    given (by_option 1048576 (number_in 1 most) (codes "rotate") rows) (λ rotate.
+    given (by_option 1 (number_in 1 64) (codes "messages") rows) (λ messages.
+    given (plain_of rows) (udp_with turns rotate messages))))
+
 -- what the options and the other words of a command ask for
 abbrev pub asked_by : Usage → List Row → Option Asked
 asked_by usage.Commands rows = None
@@ -163,6 +187,7 @@ asked_by usage.Archive rows = asked_archive rows
 asked_by usage.Demux rows = asked_demux rows
 asked_by usage.Salvage rows = asked_salvage rows
 asked_by usage.Load rows = asked_load rows
+asked_by usage.Udp rows = asked_udp rows
 
 -- what the words behind the program's name ask for
 abbrev pub asked : List (List ℕ) → Option Asked

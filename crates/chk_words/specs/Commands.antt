@@ -7,6 +7,7 @@ use Rattle.chk_words.specs.declared.commands.RoundWords.{RoundWords}
 use Rattle.chk_words.specs.declared.commands.AgentWords.{AgentWords}
 use Rattle.chk_words.specs.declared.commands.CollectorWords.{CollectorWords}
 use Rattle.chk_words.specs.declared.commands.DrainWords.{DrainWords}
+use Rattle.chk_words.specs.Datagrams.{UdpAsked, udp_of}
 use Rattle.chk_words.specs.declared.commands.Command.{Command}
 use Rattle.chk_words.specs.declared.commands.Command.TheVariants as words
 
@@ -26,6 +27,7 @@ pub record AgentAsked : Type 0 where
   pub turns : ℕ
   pub poll : ℕ
   pub expire : ℕ
+  pub pause : ℕ
   pub cluster : List ℕ
   pub source : List ℕ
   pub collectors : List (List ℕ)
@@ -57,6 +59,7 @@ pub data Asked : Type 0 where
   Demux : List (List ℕ) → Asked
   Salvage : List ℕ → Asked
   Load : ℕ → Asked
+  Udp : UdpAsked → Asked
 
 -- the texts that borrowed words lend
 abbrev pub round_of : RoundWords → RoundAsked
@@ -76,6 +79,7 @@ agent_of w = record {
   turns = w.turns;
   poll = w.poll;
   expire = w.expire;
+  pause = w.pause;
   cluster = w.cluster.now;
   source = w.source.now;
   collectors = map (λ address. address.now) w.collectors.items;
@@ -110,6 +114,7 @@ asked_of words.Archive = Archive
 asked_of (words.Demux kinds) = Demux (map (λ kind. kind.now) kinds.items)
 asked_of (words.Salvage file) = Salvage file.now
 asked_of (words.Load lines) = Load lines
+asked_of (words.Udp w) = Udp (udp_of w)
 
 -- the command where one is asked for, and Usage exactly where none is, unless there was no memory
 abbrev pub ReadsCommand : Option Asked → Result Command WordsFault → Type 0

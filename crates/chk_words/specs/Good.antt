@@ -4,7 +4,8 @@ use Rattle.std.specs.List.{list_all}
 use Rattle.chk_bytes.specs.Words.{is_word}
 use Rattle.chk_bytes.specs.Stems.{is_collector}
 use Rattle.chk_words.specs.Names.{is_source, are_words, most}
-use Rattle.chk_words.specs.Commands.{Asked, Round, Agent, Collector, Drain, Archive, Demux, Salvage, Load, RoundAsked, AgentAsked, CollectorAsked, DrainAsked}
+use Rattle.chk_words.specs.Datagrams.{IsGoodUdp}
+use Rattle.chk_words.specs.Commands.{Asked, Round, Agent, Collector, Drain, Archive, Demux, Salvage, Load, Udp, RoundAsked, AgentAsked, CollectorAsked, DrainAsked}
 
 -- the number is in these bounds
 abbrev pub IsIn : ℕ → ℕ → ℕ → Type 0
@@ -27,6 +28,7 @@ IsGoodAgent w =
     IsTrue (is_source w.source) × IsTrue (are_words 1 64 w.collectors) × IsTrue (is_word w.cluster)
     × IsWordIfAny w.initial × IsWordIfAny w.control
     × IsIn 1 most w.turns × IsIn 0 most w.poll × IsIn 0 most w.expire
+    × IsIn 0 200 w.pause
 
 -- the words of `collector`
 abbrev pub IsGoodCollector : CollectorAsked → Type 0
@@ -50,3 +52,4 @@ IsGood Archive = Unit {0}
 IsGood (Demux kinds) = IsTrue (list_all is_word kinds)
 IsGood (Salvage file) = IsTrue (is_word file)
 IsGood (Load lines) = IsIn 1 200000 lines
+IsGood (Udp w) = IsGoodUdp w

@@ -9,3 +9,5 @@ pub mod ReadOptions
 pub mod Lines
 pub mod Endings
 pub mod Loads
+pub mod Datagrams
+pub mod ReadUdp

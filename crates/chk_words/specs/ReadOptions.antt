@@ -24,7 +24,7 @@ ReadsAgentOptions rows (Some o) =
     asked_agent rows
     ≡ given (plain_of rows)
     (agent_with (option_map (λ w. w.now) o.initial) (option_map (λ w. w.now) o.control)
-    o.turns o.poll o.expire o.cluster.now)
+    o.turns o.poll o.expire o.pause o.cluster.now)
 ReadsAgentOptions rows None = asked_agent rows ≡ None
 
 abbrev pub ReadsCollectorOptions : List Row → Option CollectorOptions → Type 0
@@ -49,6 +49,7 @@ AreGoodAgent o =
     × IsWordIfAny (option_map (λ w. w.now) o.initial)
     × IsWordIfAny (option_map (λ w. w.now) o.control)
     × IsIn 1 most o.turns × IsIn 0 most o.poll × IsIn 0 most o.expire
+    × IsIn 0 200 o.pause
 
 abbrev pub AreGoodCollector : CollectorOptions → Type 0
 AreGoodCollector o = IsIn 0 most o.rotate × IsIn 1 most o.turns × IsIn 1 64 o.messages

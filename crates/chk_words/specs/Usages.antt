@@ -1,7 +1,7 @@
 -- Which command the first word names, its options, and the line that tells how it is used.
 use Rattle.std.specs.Prelude.{ℕ, List, [], ◌∷◌, codes, bytes_eq, if◌then◌else◌}
 use Rattle.chk_words.specs.declared.usage.Usage.{Usage}
-use Rattle.chk_words.specs.declared.usage.Usage.TheVariants.{Commands, Round, Agent, Collector, Drain, Archive, Demux, Salvage, Load}
+use Rattle.chk_words.specs.declared.usage.Usage.TheVariants.{Commands, Round, Agent, Collector, Drain, Archive, Demux, Salvage, Load, Udp}
 
 -- the command of this name, or none
 abbrev pub usage_named : List ℕ → Usage
@@ -13,7 +13,8 @@ usage_named first =
     else if bytes_eq first (codes "archive") then Archive
     else if bytes_eq first (codes "demux") then Demux
     else if bytes_eq first (codes "salvage") then Salvage
-    else if bytes_eq first (codes "load") then Load else Commands
+    else if bytes_eq first (codes "load") then Load
+    else if bytes_eq first (codes "udp") then Udp else Commands
 
 -- the command that the first word names
 abbrev pub usage_of : List (List ℕ) → Usage
@@ -24,14 +25,15 @@ usage_of (first ∷ words) = usage_named first
 abbrev pub option_names : Usage → List (List ℕ)
 option_names Round = codes "class" ∷ codes "reads" ∷ codes "cluster" ∷ []
 option_names Agent =
-    codes "initial" ∷ codes "control" ∷ codes "turns" ∷ codes "poll" ∷ codes "expire" ∷ codes "cluster" ∷ []
+    codes "initial" ∷ codes "control" ∷ codes "turns" ∷ codes "poll" ∷ codes "expire" ∷ codes "pause" ∷ codes "cluster" ∷ []
 option_names Collector = codes "rotate" ∷ codes "turns" ∷ codes "messages" ∷ []
 option_names Drain = codes "initial" ∷ codes "reads" ∷ codes "polls" ∷ codes "cluster" ∷ []
+option_names Udp = codes "turns" ∷ codes "rotate" ∷ codes "messages" ∷ []
 option_names usage = []
 
 -- how the words should have been
 abbrev pub usage_text : Usage → List ℕ
-usage_text Commands = codes "usage: chukwa round|agent|collector|drain|archive|demux|salvage|load\n"
+usage_text Commands = codes "usage: chukwa round|agent|collector|drain|archive|demux|salvage|load|udp\n"
 usage_text Round =
     codes "usage: chukwa round [--class CLASS] [--reads N] [--cluster NAME] SOURCE TYPE LOG...\n"
 usage_text Agent =
@@ -44,6 +46,7 @@ usage_text Archive = codes "usage: chukwa archive\n"
 usage_text Demux = codes "usage: chukwa demux [TYPE...]\n"
 usage_text Salvage = codes "usage: chukwa salvage FILE\n"
 usage_text Load = codes "usage: chukwa load N\n"
+usage_text Udp = codes "usage: chukwa udp [--turns N] [--rotate BYTES] NAME ADDRESS\n"
 
 -- the usage line of these words
 abbrev pub usage_line : List (List ℕ) → List ℕ

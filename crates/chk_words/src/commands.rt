@@ -1,5 +1,6 @@
 //! What words ask for.
 
+use crate::datagrams::UdpWords;
 use chk_bytes::NoMemory;
 use chk_control::Class;
 use std::alloc::AllocError;
@@ -18,6 +19,7 @@ pub enum Command<'a> {
     Salvage(&'a str),
     /// How many lines, from 1 to 200,000.
     Load(u64),
+    Udp(UdpWords<'a>),
 }
 
 /// The words of `round`.
@@ -50,6 +52,8 @@ pub struct AgentWords<'a> {
     pub poll: u64,
     /// Milliseconds after which a chunk that isn't committed is sent again.
     pub expire: u64,
+    /// Milliseconds that a turn waits behind a full piece of a log, at most 200.
+    pub pause: u64,
     /// The cluster of all chunks.
     pub cluster: &'a str,
     /// The agent's source, of 1 to 64 bytes.

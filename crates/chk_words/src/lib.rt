@@ -2,6 +2,7 @@
 #![tactic(auto)]
 
 mod commands;
+mod datagrams;
 mod endings;
 mod lines;
 mod load;
@@ -11,6 +12,7 @@ mod reading;
 mod usage;
 
 pub use commands::{AgentWords, CollectorWords, Command, DrainWords, RoundWords, WordsFault};
+pub use datagrams::{UdpWords, put_udp};
 pub use endings::Ending;
 pub use lines::{put_archive, put_demux, put_end, put_load, put_stream};
 pub use load::{LoadLines, load_log};

@@ -1,13 +1,14 @@
 //! Words to commands.
 
 ghost use Rattle.std.specs.Prelude.{◌≡◌, map, option_map, IfOk, IfSome};
-ghost use Rattle.chk_words.specs.Asked.{asked, asked_by, asked_round, asked_agent, asked_collector, asked_drain, asked_archive, asked_demux, asked_salvage, asked_load};
+ghost use Rattle.chk_words.specs.Asked.{asked, asked_by, asked_round, asked_agent, asked_collector, asked_drain, asked_archive, asked_demux, asked_salvage, asked_load, asked_udp};
 ghost use Rattle.chk_words.specs.Given.{rows_in};
 ghost use Rattle.chk_words.specs.Good.{IsGood};
 ghost use Rattle.chk_words.specs.ReadOptions.{ReadsRoundOptions, ReadsAgentOptions, ReadsCollectorOptions, ReadsDrainOptions, AreGoodRound, AreGoodAgent, AreGoodCollector, AreGoodDrain, ReadsLogs, ReadsPeers, AreGoodLogs, AreGoodPeers};
 ghost use Rattle.chk_words.specs.Commands.{ReadsCommand, asked_of};
 
 use crate::commands::{AgentWords, CollectorWords, Command, DrainWords, RoundWords, WordsFault};
+use crate::datagrams::read_udp;
 use crate::names::{are_words, is_collector, is_source, is_word, number_in};
 use crate::options::Given;
 use crate::usage::{Usage, usage_of};
@@ -15,13 +16,16 @@ use chk_control::Class;
 use std::alloc::Global;
 
 // The most of a number, and of turns where none are given.
-const MOST: u64 = (1 << 63) - 1;
+pub(crate) const MOST: u64 = (1 << 63) - 1;
+
+// The most milliseconds of a pause, and its length where none is given.
+const LONGEST_PAUSE: u64 = 200;
 
 // The most collectors of an agent.
 const MOST_COLLECTORS: usize = 64;
 
-// The most messages that a collector takes between two commits.
-const MOST_MESSAGES: u64 = 64;
+// The most messages or datagrams that are taken between two commits.
+pub(crate) const MOST_MESSAGES: u64 = 64;
 
 /// Reads the words behind the program's name. `Usage` comes exactly where they aren't a command;
 /// `usage_of` says which line tells how they should have been. A parse takes memory for the
@@ -49,6 +53,7 @@ fn command_by<'a>(alloc: Global, usage: Usage, given: &Given<'a>) -> Result<Comm
         Usage::Demux => read_demux(alloc, given),
         Usage::Salvage => read_salvage(given).ok_or(WordsFault::Usage),
         Usage::Load => read_load(given).ok_or(WordsFault::Usage),
+        Usage::Udp => read_udp(given).ok_or(WordsFault::Usage),
     }
 }
 
@@ -98,6 +103,7 @@ fn read_agent<'a>(alloc: Global, given: &Given<'a>) -> Result<Command<'a>, Words
         turns: options.turns,
         poll: options.poll,
         expire: options.expire,
+        pause: options.pause,
         cluster: options.cluster,
         source: words.source,
         collectors: words.collectors.to_vec(alloc)?,
@@ -111,6 +117,7 @@ struct AgentOptions<'a> {
     turns: u64,
     poll: u64,
     expire: u64,
+    pause: u64,
     cluster: &'a str,
 }
 
@@ -124,6 +131,7 @@ fn agent_options<'a>(given: &Given<'a>) -> Option<AgentOptions<'a>>
         turns: given.number("turns", MOST, 1, MOST)?,
         poll: given.number("poll", 10_000, 0, MOST)?,
         expire: given.number("expire", 300_000, 0, MOST)?,
+        pause: given.number("pause", LONGEST_PAUSE, 0, LONGEST_PAUSE)?,
         cluster: given.cluster()?,
     })
 }

@@ -7,11 +7,15 @@ use chk_bytes::{Bytes, NoMemory};
 
 static ROUND: [&str; 3] = ["class", "reads", "cluster"];
 
-static AGENT: [&str; 6] = ["initial", "control", "turns", "poll", "expire", "cluster"];
+static AGENT: [&str; 7] = [
+    "initial", "control", "turns", "poll", "expire", "pause", "cluster",
+];
 
 static COLLECTOR: [&str; 3] = ["rotate", "turns", "messages"];
 
 static DRAIN: [&str; 4] = ["initial", "reads", "polls", "cluster"];
+
+static UDP: [&str; 3] = ["turns", "rotate", "messages"];
 
 static NONE: [&str; 0] = [];
 
@@ -28,6 +32,7 @@ pub enum Usage {
     Demux,
     Salvage,
     Load,
+    Udp,
 }
 
 impl Usage {
@@ -37,7 +42,7 @@ impl Usage {
     {
         match self {
             Usage::Commands => {
-                "usage: chukwa round|agent|collector|drain|archive|demux|salvage|load\n"
+                "usage: chukwa round|agent|collector|drain|archive|demux|salvage|load|udp\n"
             }
             Usage::Round => {
                 "usage: chukwa round [--class CLASS] [--reads N] [--cluster NAME] SOURCE TYPE LOG...\n"
@@ -55,6 +60,7 @@ impl Usage {
             Usage::Demux => "usage: chukwa demux [TYPE...]\n",
             Usage::Salvage => "usage: chukwa salvage FILE\n",
             Usage::Load => "usage: chukwa load N\n",
+            Usage::Udp => "usage: chukwa udp [--turns N] [--rotate BYTES] NAME ADDRESS\n",
         }
     }
 
@@ -67,6 +73,7 @@ impl Usage {
             Usage::Agent => AGENT.as_slice(),
             Usage::Collector => COLLECTOR.as_slice(),
             Usage::Drain => DRAIN.as_slice(),
+            Usage::Udp => UDP.as_slice(),
             _ => NONE.as_slice(),
         }
     }
@@ -94,6 +101,7 @@ fn usage_named(first: &str) -> Usage
         "demux" => Usage::Demux,
         "salvage" => Usage::Salvage,
         "load" => Usage::Load,
+        "udp" => Usage::Udp,
         _ => Usage::Commands,
     }
 }

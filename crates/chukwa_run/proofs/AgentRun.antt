@@ -46,8 +46,8 @@ turn_alive : (who : Who) (door : Option (List ℕ)) (pause : ℕ) (s t : State) 
 turn_alive who door pause s t result then old new (IsAgentTurn.uncontrolled fault a) is = absurd (cc)
 turn_alive who door pause s t result then old new (IsAgentTurn.untimed first fault a b) is = absurd (cc)
 turn_alive who door pause s t result then old new (IsAgentTurn.unturned first now fault a b d) is = absurd (cc)
-turn_alive who door pause s t result then old new (IsAgentTurn.unpaused first now fault a b d e) is = absurd (cc)
-turn_alive who door pause s t result then old new (IsAgentTurn.turned first now a b d e) is = made_alive e.given (Ok tt) e.gives refl e.told
+turn_alive who door pause s t result then old new (IsAgentTurn.unpaused first now full fault a b d e) is = absurd (cc)
+turn_alive who door pause s t result then old new (IsAgentTurn.turned first now full a b d e) is = made_alive e.given (Ok tt) e.gives refl e.told
 
 turns_alive : (who : Who) (door : Option (List ℕ)) (pause n : ℕ) (s t : State) (result : Result Ended AgentFault) (end : Ended) (old new : Option History)
     → AreAgentTurns who door pause n s result t old new → result ≡ Ok end → Alive old → Alive new

@@ -18,13 +18,14 @@ use Rattle.chk_heads.specs.declared.fault.JobFault.TheVariants as Jobs
 use Rattle.chk_heads.specs.Faults.{FailsLast}
 use Rattle.chk_archive.specs.Archived.{Archived, Begun, ListedOnce, RunDone}
 use Rattle.chk_archive.specs.Reporting.{report_view, report_result}
+use Rattle.chk_archive.specs.Shown.{ShowsArchived}
 use Rattle.chk_archive.specs.declared.report.Report.{Report as Struct}
 use Rattle.chk_archive_run.specs.Telling.{ArchivesAndTells, IsTold, EndsRunning}
 use Rattle.chk_words.specs.declared.endings.Ending.{Ending}
 use Rattle.chk_words.specs.Commands.{Archive}
 use Rattle.chukwa_run.specs.Processes.{acting_for, RunSide}
 use Rattle.chukwa_run.specs.Whole.{AreArchiveActs, Whole}
-use Rattle.chukwa_run.specs.Showing.{ArchiveFault, ArchiveFits, Shows}
+use Rattle.chukwa_run.specs.Showing.{ArchiveFault, ArchiveShown, ArchiveFits, Shows}
 use Rattle.chukwa_run.specs.Causes.{job_ending}
 use Rattle.chukwa_run.specs.Runs.{Begins, EndsWith, CameTo, CausedBy}
 use Rattle.chukwa_run.proofs.Acts.{failed_last}
@@ -53,6 +54,7 @@ pub record IsRun (result : Result Struct JobFault) (old new : Option History) : 
   pub prints : Adds old new (IsTold (report_result result))
   pub runs : Adds old new (EndsRunning result)
   pub last : Adds old new (FailsLast result)
+  pub shown : Adds old new (ShowsArchived result)
 
 -- and what that comes to for the steps that it added
 record IsAt (result : Result Struct JobFault) (added history : History) : Type 0 where
@@ -61,14 +63,16 @@ record IsAt (result : Result Struct JobFault) (added history : History) : Type 0
   prints : IsTold (report_result result) added history
   runs : EndsRunning result added history
   last : FailsLast result added history
+  shown : ShowsArchived result added history
 
 at_end : (result : Result Struct JobFault) {old new : Option History} → IsRun result old new → Adds old new (IsAt result)
 at_end result s =
     adds_both (IsAt result)
     (adds_both (λ a h. AreArchiveActs (own_acts a) × ListedOnce result a h) s.own s.once (λ a h x y. (acts_of_run a h x, y)))
-    (adds_both (λ a h. IsTold (report_result result) a h × EndsRunning result a h × FailsLast result a h) s.prints
-    (adds_both (λ a h. EndsRunning result a h × FailsLast result a h) s.runs s.last (λ a h x y. (x, y))) (λ a h x y. (x, y.0, y.1)))
-    (λ a h x y. record { acts = x.0; once = x.1; prints = y.0; runs = y.1; last = y.2 })
+    (adds_both (λ a h. (IsTold (report_result result) a h × EndsRunning result a h) × (FailsLast result a h × ShowsArchived result a h))
+    (adds_both (λ a h. IsTold (report_result result) a h × EndsRunning result a h) s.prints s.runs (λ a h x y. (x, y)))
+    (adds_both (λ a h. FailsLast result a h × ShowsArchived result a h) s.last s.shown (λ a h x y. (x, y))) (λ a h x y. (x, y)))
+    (λ a h x y. record { acts = x.0; once = x.1; prints = y.0.0; runs = y.0.1; last = y.1.0; shown = y.1.1 })
 
 -- ---- by the acts alone
 
@@ -79,13 +83,20 @@ fault_so (Jobs.Damaged name at) added history last running = tt
 fault_so (Jobs.Spent number) added history last running = tt
 fault_so Jobs.NoMemory added history last running = tt
 
+shown_so : (fault : JobFault) (added history : History) → ShowsArchived {T = Struct} (Err fault) added history
+    → ArchiveShown history (job_ending fault) added
+shown_so (Jobs.Outside call) added history x = tt
+shown_so (Jobs.Damaged name at) added history x = x
+shown_so (Jobs.Spent number) added history x = tt
+shown_so Jobs.NoMemory added history x = tt
+
 came : (result : Result Struct JobFault) (added history : History) → IsAt result added history → CausedBy Archive (ending result) added history
 came (Ok report) added history at = record {
   running = λ r. (report_view report, record { each = at.acts; once = at.once; printed_is = at.prints });
   stopped = λ stop. absurd (true≢false (sym stop ∙ at.runs));
 }
 came (Err fault) added history at = record {
-  running = λ r. (at.acts, fault_so fault added history at.last r);
+  running = λ r. (at.acts, fault_so fault added history at.last r, shown_so fault added history at.shown);
   stopped = λ stop. tt;
 }
 
@@ -123,7 +134,7 @@ came_legally stamped loaded (Ok report) added history is at c = record {
   stopped = λ stop. absurd (true≢false (sym stop ∙ at.runs));
 }
 came_legally stamped loaded (Err fault) added history is at c = record {
-  running = λ r. ((at.acts, fault_so fault added history at.last r), fits_so stamped loaded fault (added ++ history) c r);
+  running = λ r. ((at.acts, fault_so fault added history at.last r, shown_so fault added history at.shown), fits_so stamped loaded fault (added ++ history) c r);
   stopped = λ stop. tt;
 }
 

@@ -5,8 +5,9 @@ use Rattle.chk_site.specs.History.{History, is_stopped}
 use Rattle.chk_site.specs.Site.{Adds, Rose}
 use Rattle.chk_site.specs.Runs.{Leads}
 use Rattle.chk_site.proofs.Leads.{leads_as}
+use Rattle.chk_words.specs.Datagrams.{UdpAsked}
 use Rattle.chk_words.specs.Commands.{RoundAsked, AgentAsked, CollectorAsked, DrainAsked}
-use Rattle.chk_words.specs.Commands.{Asked, Round, Agent, Collector, Drain, Archive, Demux, Salvage, Load}
+use Rattle.chk_words.specs.Commands.{Asked, Round, Agent, Collector, Drain, Archive, Demux, Salvage, Load, Udp}
 use Rattle.chk_words.specs.Endings.{ending_status}
 use Rattle.chk_words.specs.declared.endings.Ending.{Ending}
 use Rattle.chk_words.specs.declared.endings.Ending.TheVariants.{Outside, NoMemory, Damaged, Length, Growing, Unclosed, Shrank, Spent, Refused}
@@ -119,6 +120,17 @@ of_load lines earlier added (Shrank path had has) calm shows = absurd shows.1
 of_load lines earlier added (Spent n) calm shows = inr (shows.0.fault, shows.1)
 of_load lines earlier added (Refused code) calm shows = absurd shows.1
 
+of_udp : (w : UdpAsked) → Leaves (Udp w)
+of_udp w earlier added (Outside call) calm shows = absurd (calm refl)
+of_udp w earlier added NoMemory calm shows = inl refl
+of_udp w earlier added (Damaged name at) calm shows = inr shows
+of_udp w earlier added (Length stem got want) calm shows = absurd shows
+of_udp w earlier added (Growing path reads) calm shows = absurd shows
+of_udp w earlier added (Unclosed name) calm shows = absurd shows
+of_udp w earlier added (Shrank path had has) calm shows = absurd shows
+of_udp w earlier added (Spent n) calm shows = inr shows
+of_udp w earlier added (Refused code) calm shows = absurd shows
+
 remains : (command : Asked) → Leaves command
 remains (Round w) = of_round w
 remains (Agent w) = of_agent w
@@ -128,6 +140,7 @@ remains Archive = of_archive
 remains (Demux kinds) = of_demux kinds
 remains (Salvage file) = of_salvage file
 remains (Load lines) = of_load lines
+remains (Udp w) = of_udp w
 
 -- ---- of the run
 

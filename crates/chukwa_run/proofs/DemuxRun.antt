@@ -13,8 +13,10 @@ use Rattle.chk_world.specs.JobSteps.{IsOf as IsOfKind}
 use Rattle.chk_world.proofs.Beside.{others_foreign, owns_as, by_one}
 use Rattle.chk_heads.specs.declared.fault.JobFault.{JobFault}
 use Rattle.chk_heads.specs.declared.fault.JobFault.TheVariants as Jobs
+use Rattle.chk_heads.specs.Causes.{Shows as ShowsCause}
 use Rattle.chk_heads.specs.Faults.{FailsLast}
 use Rattle.chk_demux.specs.Demuxed.{Earlier, earlier_in, NamesStamped, Begun, Demuxed, DemuxDone}
+use Rattle.chk_demux.specs.Shown.{IsDamage}
 use Rattle.chk_demux.specs.declared.report.DemuxReport.{DemuxReport}
 use Rattle.chk_demux_run.specs.Telling.{DemuxesAndTells, IsTold, EndsRunning}
 use Rattle.chk_words.specs.declared.endings.Ending.{Ending}
@@ -22,7 +24,7 @@ use Rattle.chk_words.specs.Commands.{Asked, Demux}
 use Rattle.chukwa_run.specs.Demuxing.{AreDemuxActs, DemuxFits}
 use Rattle.chukwa_run.specs.Processes.{acting_for, RunSide}
 use Rattle.chukwa_run.specs.Whole.{Whole}
-use Rattle.chukwa_run.specs.Showing.{ArchiveFault, Shows}
+use Rattle.chukwa_run.specs.Showing.{ArchiveFault, DemuxShown, Shows}
 use Rattle.chukwa_run.specs.Causes.{job_ending}
 use Rattle.chukwa_run.specs.Runs.{Begins, EndsWith, CameTo, CausedBy}
 use Rattle.chukwa_run.proofs.Acts.{failed_last}
@@ -50,6 +52,7 @@ pub record IsRun (kinds : List (List ℕ)) (result : Result DemuxReport JobFault
   pub prints : Adds old new (IsTold result)
   pub runs : Adds old new (EndsRunning result)
   pub last : Adds old new (FailsLast result)
+  pub shown : Adds old new (ShowsCause IsDamage result)
 
 -- and what that comes to for the steps that it added
 record IsAt (result : Result DemuxReport JobFault) (added history : History) : Type 0 where
@@ -57,6 +60,7 @@ record IsAt (result : Result DemuxReport JobFault) (added history : History) : T
   prints : IsTold result added history
   runs : EndsRunning result added history
   last : FailsLast result added history
+  shown : ShowsCause IsDamage result added history
 
 module _ (kinds : List (List ℕ)) where
   abbrev This : Asked
@@ -66,8 +70,10 @@ module _ (kinds : List (List ℕ)) where
   at_end result s =
       adds_both (IsAt result)
       (adds_both (λ a h. AreDemuxActs (own_acts a) × IsTold result a h) s.own s.prints (λ a h x y. (acts_of_run a h x, y)))
-      (adds_both (λ a h. EndsRunning result a h × FailsLast result a h) s.runs s.last (λ a h x y. (x, y)))
-      (λ a h x y. record { acts = x.0; prints = x.1; runs = y.0; last = y.1 })
+      (adds_both (λ a h. EndsRunning result a h × FailsLast result a h × ShowsCause IsDamage result a h) s.runs
+      (adds_both (λ a h. FailsLast result a h × ShowsCause IsDamage result a h) s.last s.shown (λ a h x y. (x, y)))
+      (λ a h x y. (x, y.0, y.1)))
+      (λ a h x y. record { acts = x.0; prints = x.1; runs = y.0; last = y.1; shown = y.2 })
 
   -- ---- by the acts alone
 
@@ -78,6 +84,13 @@ module _ (kinds : List (List ℕ)) where
   fault_so (Jobs.Spent number) added history last running = tt
   fault_so Jobs.NoMemory added history last running = tt
 
+  shown_so : (fault : JobFault) (added history : History) → ShowsCause {T = DemuxReport} IsDamage (Err fault) added history
+      → DemuxShown history (job_ending fault) added
+  shown_so (Jobs.Outside call) added history x = tt
+  shown_so (Jobs.Damaged name at) added history x = x
+  shown_so (Jobs.Spent number) added history x = tt
+  shown_so Jobs.NoMemory added history x = tt
+
   came : (result : Result DemuxReport JobFault) (added history : History) → IsAt result added history
       → CausedBy This (ending result) added history
   came (Ok report) added history at = record {
@@ -85,7 +98,7 @@ module _ (kinds : List (List ℕ)) where
     stopped = λ stop. absurd (true≢false (sym stop ∙ at.runs));
   }
   came (Err fault) added history at = record {
-    running = λ r. (at.acts, fault_so fault added history at.last r, at.prints);
+    running = λ r. (at.acts, fault_so fault added history at.last r, at.prints, shown_so fault added history at.shown);
     stopped = λ stop. tt;
   }
 
@@ -123,7 +136,7 @@ module _ (kinds : List (List ℕ)) where
     stopped = λ stop. absurd (true≢false (sym stop ∙ at.runs));
   }
   came_legally stamped before (Err fault) added history is at c = record {
-    running = λ r. ((at.acts, fault_so fault added history at.last r, at.prints), fits_so stamped before fault (added ++ history) c r);
+    running = λ r. ((at.acts, fault_so fault added history at.last r, at.prints, shown_so fault added history at.shown), fits_so stamped before fault (added ++ history) c r);
     stopped = λ stop. tt;
   }
 

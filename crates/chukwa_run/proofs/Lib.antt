@@ -22,3 +22,4 @@ pub mod WorksAlive
 pub mod DrainFaults
 pub mod DrainRun
 pub mod Headline
+pub mod DatagramRun

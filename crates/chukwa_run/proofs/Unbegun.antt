@@ -5,7 +5,7 @@ use Rattle.chk_site.specs.Site.{Adds}
 use Rattle.chk_site.specs.Runs.{Leads}
 use Rattle.chk_site.proofs.Runs.{adds_none}
 use Rattle.chk_site.proofs.Leads.{leads_none}
-use Rattle.chk_words.specs.Commands.{Asked, Round, Agent, Collector, Drain, Archive, Demux, Salvage, Load}
+use Rattle.chk_words.specs.Commands.{Asked, Round, Agent, Collector, Drain, Archive, Demux, Salvage, Load, Udp}
 use Rattle.chk_words.specs.declared.endings.Ending.TheVariants.{NoMemory}
 use Rattle.chukwa_run.specs.Processes.{RunSide}
 use Rattle.chukwa_run.specs.Showing.{Shows, IsOf}
@@ -16,20 +16,22 @@ shows_nothing (Round w) earlier = (tt, tt)
 shows_nothing (Agent w) earlier = (tt, tt)
 shows_nothing (Collector w) earlier = (tt, tt)
 shows_nothing (Drain w) earlier = (tt, tt)
-shows_nothing Archive earlier = ((tt, tt), tt)
-shows_nothing (Demux kinds) earlier = ((tt, tt, inl refl), tt)
+shows_nothing Archive earlier = ((tt, tt, tt), tt)
+shows_nothing (Demux kinds) earlier = ((tt, tt, inl refl, tt), tt)
 shows_nothing (Salvage file) earlier = tt
 shows_nothing (Load lines) earlier = (record { own = tt; unprinted = refl; fault = tt }, tt)
+shows_nothing (Udp w) earlier = tt
 
 is_nothing : (command : Asked) (earlier : History) → IsOf command earlier NoMemory []
 is_nothing (Round w) earlier = tt
 is_nothing (Agent w) earlier = tt
 is_nothing (Collector w) earlier = tt
 is_nothing (Drain w) earlier = tt
-is_nothing Archive earlier = (tt, tt)
-is_nothing (Demux kinds) earlier = (tt, tt, inl refl)
+is_nothing Archive earlier = (tt, tt, tt)
+is_nothing (Demux kinds) earlier = (tt, tt, inl refl, tt)
 is_nothing (Salvage file) earlier = (tt, tt)
 is_nothing (Load lines) earlier = record { own = tt; unprinted = refl; fault = tt }
+is_nothing (Udp w) earlier = tt
 
 pub unbegun : (stamped : List (List ℕ)) (command : Asked) (earlier : History) (now : Option History)
     → Adds now now (Leads (RunSide stamped command) (Begins stamped earlier) (EndsWith stamped command (Err NoMemory) earlier))

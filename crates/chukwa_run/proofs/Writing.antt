@@ -16,7 +16,7 @@ use Rattle.chk_site.specs.Runs.{Leads}
 use Rattle.chk_site.proofs.Leads.{any_leads, leads_none}
 use Rattle.chk_world.specs.Rules.{Legal, Obeys, StartsAfterStop, Framed, OnlyWritersGrowLogs, OnlyAgentsPost, WriterRule, RoleMay, is_named_so}
 use Rattle.chk_words.specs.Commands.{Asked}
-use Rattle.chukwa_run.specs.Processes.{chukwa, started_by, acting_for, RunSide}
+use Rattle.chukwa_run.specs.Processes.{chukwa, acting_first, acting_for, RunSide}
 use Rattle.chukwa_run.specs.Saying.{SaysOnce, unsaid, said}
 
 -- a call that a writer may always make
@@ -54,7 +54,7 @@ writer_obeys stamped before step by is honest =
     }
 
 pub chukwa_acts : (command : Asked) → Contains (acting_for command) chukwa
-chukwa_acts command = Contains-append_right (started_by command) (chukwa ∷ []) chukwa (0, omega arith, refl)
+chukwa_acts command = Contains-append_right (acting_first command) (chukwa ∷ []) chukwa (0, omega arith, refl)
 
 -- a line that is said leaves a legal history legal
 pub say_legal : (stamped : List (List ℕ)) (command : Asked) (line : List ℕ) {old new : Option History}

@@ -11,13 +11,14 @@ use Rattle.chk_load_run.specs.declared.ends.LoadEnd.TheVariants as loads
 use Rattle.chk_load_run.specs.Loads.{LoadDone}
 use Rattle.chk_drain_run.specs.declared.faults.DrainFault.TheVariants as drains
 use Rattle.chk_words.specs.Commands.{RoundAsked, AgentAsked, CollectorAsked, DrainAsked}
-use Rattle.chk_words.specs.Commands.{Asked, Round, Agent, Collector, Drain, Archive, Demux, Salvage, Load}
+use Rattle.chk_words.specs.Commands.{Asked, Round, Agent, Collector, Drain, Archive, Demux, Salvage, Load, Udp}
 use Rattle.chk_words.specs.Endings.{ending_status, ending_line}
 use Rattle.chk_words.specs.declared.endings.Ending.{Ending}
 use Rattle.chk_words.specs.declared.endings.Ending.TheVariants.{Damaged, Length, Growing, Unclosed, Spent, Refused}
 use Rattle.chukwa_run.specs.Demuxing.{DemuxFits}
 use Rattle.chukwa_run.specs.Draining.{DrainScript}
 use Rattle.chukwa_run.specs.Endings.{EndedBy}
+use Rattle.chukwa_run.specs.Datagrams.{LeftOfUdp}
 use Rattle.chukwa_run.specs.Loading.{IsRoundOfLoad}
 use Rattle.chukwa_run.specs.RoundRuns.{IsRoundCut, RoundScript}
 use Rattle.chukwa_run.specs.Showing.{IsBadLine, IsBadDrainLine, ArchiveFits, CollectorFits, ShowsBadHeader}
@@ -103,6 +104,7 @@ LeftOver Archive earlier e added = LeftOfArchive earlier e added
 LeftOver (Demux kinds) earlier e added = LeftOfDemux earlier e added
 LeftOver (Salvage file) earlier e added = LeftOfSalvage file earlier e added
 LeftOver (Load lines) earlier e added = LeftOfLoad lines earlier e added
+LeftOver (Udp w) earlier e added = LeftOfUdp w earlier e added
 
 -- All was done, with the status 0; or there was no memory, with the status 4; or an ending that is
 -- left over came in the end, with its status, and behind it at most its line was said.

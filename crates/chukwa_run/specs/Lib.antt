@@ -14,3 +14,4 @@ pub mod Statuses
 pub mod Runs
 pub mod Headline
 pub mod Working
+pub mod Datagrams

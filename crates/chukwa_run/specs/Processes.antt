@@ -6,7 +6,7 @@ use Rattle.chk_site.specs.Runs.{Side}
 use Rattle.chk_world.specs.Sight.{job}
 use Rattle.chk_world.specs.Together.{Together}
 use Rattle.chk_round.specs.Processes.{processes}
-use Rattle.chk_words.specs.Commands.{Asked, Round, Agent, Collector, Drain, Archive, Demux, Salvage, Load}
+use Rattle.chk_words.specs.Commands.{Asked, Round, Agent, Collector, Drain, Archive, Demux, Salvage, Load, Udp}
 
 -- what this program does as a writer: it prints, and reads the files that the words name
 abbrev pub chukwa : Who
@@ -14,6 +14,10 @@ chukwa = record { role = Writer; name = codes "chukwa" }
 
 abbrev pub the_agent : List ℕ → Who
 the_agent source = record { role = agent_role; name = source }
+
+-- the writer of datagrams of this name
+abbrev pub the_writer : List ℕ → Who
+the_writer name = record { role = Writer; name = name }
 
 abbrev pub the_collector : List ℕ → Who
 the_collector name = record { role = collector_role; name = name }
@@ -29,11 +33,17 @@ started_by Archive = job ∷ []
 started_by (Demux kinds) = job ∷ []
 started_by (Salvage file) = []
 started_by (Load lines) = processes (codes "load")
+started_by (Udp w) = []
+
+-- a writer of datagrams acts too, though nothing is supposed of others on its account
+abbrev pub acting_first : Asked → List Who
+acting_first (Udp w) = the_writer w.name ∷ []
+acting_first command = started_by command
 
 -- And those that act for it. The writer needs no start, and all files outside the folders are
 -- every writer's, so nothing is supposed of stops that name one.
 abbrev pub acting_for : Asked → List Who
-acting_for command = started_by command ++ chukwa ∷ []
+acting_for command = acting_first command ++ chukwa ∷ []
 
 -- the side of a run: each step of others obeys its rule, and each of its own is by one of these
 abbrev pub RunSide : List (List ℕ) → Asked → Side

@@ -14,6 +14,8 @@ use Rattle.chk_seqfile.specs.Headers.{read_header}
 use Rattle.chk_world.specs.Committed.{number_in}
 use Rattle.chk_world.specs.Names.{BornFile, CheckFile, file, spell}
 use Rattle.chk_archive.specs.Written.{LacksNumbers}
+use Rattle.chk_archive.specs.Shown.{IsDamage as IsArchiveDamage}
+use Rattle.chk_demux.specs.Shown.{IsDamage as IsDemuxDamage}
 use Rattle.chk_sink.specs.declared.fault.SinkFault.{SinkFault}
 use Rattle.chk_sink.specs.declared.fault.SinkFault.TheVariants as Sinks
 use Rattle.chk_sink.specs.States.{last_number}
@@ -23,8 +25,9 @@ use Rattle.chk_drain.specs.Parts.{is_talk}
 use Rattle.chk_drain_run.specs.declared.faults.DrainFault.TheVariants as drains
 use Rattle.chk_words.specs.Commands.{AgentAsked, CollectorAsked, DrainAsked}
 use Rattle.chukwa_salvage.specs.Printing.{bytes_or_none, said}
-use Rattle.chk_words.specs.Commands.{Asked, Round, Agent, Collector, Drain, Archive, Demux, Salvage, Load}
+use Rattle.chk_words.specs.Commands.{Asked, Round, Agent, Collector, Drain, Archive, Demux, Salvage, Load, Udp}
 use Rattle.chukwa_run.specs.Demuxing.{AreDemuxActs, DemuxedAtMost, DemuxFits}
+use Rattle.chukwa_run.specs.Datagrams.{UdpCut}
 use Rattle.chukwa_run.specs.Loading.{LoadCut, LoadFits}
 use Rattle.chukwa_run.specs.RoundRuns.{RoundCut, RoundFits}
 use Rattle.chukwa_run.specs.Processes.{the_collector}
@@ -143,9 +146,14 @@ ArchiveFault (Damaged name at) added = Unit {0}
 ArchiveFault (Spent n) added = Unit {0}
 ArchiveFault e added = ⊥
 
+-- own reads of an archive run show why the file is told to be damaged
+abbrev pub ArchiveShown : History → Ending → History → Type 0
+ArchiveShown earlier (Damaged name at) added = IsArchiveDamage name at added earlier
+ArchiveShown earlier e added = Unit {0}
+
 -- it made only calls of an archive run and of its prints
-abbrev pub ArchiveCut : Ending → History → Type 0
-ArchiveCut e added = AreArchiveActs (own_acts added) × ArchiveFault e added
+abbrev pub ArchiveCut : History → Ending → History → Type 0
+ArchiveCut earlier e added = AreArchiveActs (own_acts added) × ArchiveFault e added × ArchiveShown earlier e added
 
 -- In a legal history nothing of its own is damaged. The segment numbers are spent only where none is
 -- left for a segment that is needed now.
@@ -157,9 +165,15 @@ ArchiveFits history e = Unit {0}
 
 -- ---- a demux run
 
+-- the same of a demux run
+abbrev pub DemuxShown : History → Ending → History → Type 0
+DemuxShown earlier (Damaged name at) added = IsDemuxDamage name at added earlier
+DemuxShown earlier e added = Unit {0}
+
 -- it made only calls of a demux run and of its print, and printed at most one line
-abbrev pub DemuxCut : Ending → History → Type 0
-DemuxCut e added = AreDemuxActs (own_acts added) × ArchiveFault e added × DemuxedAtMost (own_acts added)
+abbrev pub DemuxCut : History → Ending → History → Type 0
+DemuxCut earlier e added =
+    AreDemuxActs (own_acts added) × ArchiveFault e added × DemuxedAtMost (own_acts added) × DemuxShown earlier e added
 
 -- ---- a salvage
 
@@ -177,10 +191,11 @@ IsOf (Round w) earlier e added = RoundCut w earlier e added
 IsOf (Agent w) earlier e added = AgentCut w earlier e added
 IsOf (Collector w) earlier e added = CollectorCut w earlier e added
 IsOf (Drain w) earlier e added = DrainCut w earlier e added
-IsOf Archive earlier e added = ArchiveCut e added
-IsOf (Demux kinds) earlier e added = DemuxCut e added
+IsOf Archive earlier e added = ArchiveCut earlier e added
+IsOf (Demux kinds) earlier e added = DemuxCut earlier e added
 IsOf (Salvage file) earlier e added = AreSalvageActs file (own_acts added) × SalvageCut file earlier e added
 IsOf (Load lines) earlier e added = LoadCut lines earlier e added
+IsOf (Udp w) earlier e added = UdpCut w earlier e added
 
 -- and what it shows under the suppositions of a run
 abbrev pub Shows : Asked → History → Ending → History → Type 0
@@ -188,7 +203,8 @@ Shows (Round w) earlier e added = RoundCut w earlier e added × RoundFits w earl
 Shows (Agent w) earlier e added = AgentCut w earlier e added × AgentFits w earlier e added
 Shows (Collector w) earlier e added = CollectorCut w earlier e added × CollectorFits w (added ++ earlier) e
 Shows (Drain w) earlier e added = DrainCut w earlier e added × DrainFits w earlier e added
-Shows Archive earlier e added = ArchiveCut e added × ArchiveFits (added ++ earlier) e
-Shows (Demux kinds) earlier e added = DemuxCut e added × DemuxFits (added ++ earlier) e
+Shows Archive earlier e added = ArchiveCut earlier e added × ArchiveFits (added ++ earlier) e
+Shows (Demux kinds) earlier e added = DemuxCut earlier e added × DemuxFits (added ++ earlier) e
 Shows (Salvage file) earlier e added = SalvageCut file earlier e added
 Shows (Load lines) earlier e added = LoadCut lines earlier e added × LoadFits lines earlier e added
+Shows (Udp w) earlier e added = UdpCut w earlier e added

@@ -26,12 +26,13 @@ use Rattle.chk_prints.specs.Printing.{by, printed}
 use Rattle.chk_archive_run.specs.Telling.{ArchivesAndTells, report_lines}
 use Rattle.chk_words.specs.Commands.{AgentAsked, CollectorAsked}
 use Rattle.chukwa_salvage.specs.Printing.{IsWhole, bytes_or_none, said}
-use Rattle.chk_words.specs.Commands.{Asked, Round, Agent, Collector, Drain, Archive, Demux, Salvage, Load}
+use Rattle.chk_words.specs.Commands.{Asked, Round, Agent, Collector, Drain, Archive, Demux, Salvage, Load, Udp}
 use Rattle.chukwa_run.specs.Demuxing.{DemuxedOnce, DemuxWhole}
 use Rattle.chukwa_run.specs.Loading.{LoadDid, LoadWhole}
 use Rattle.chukwa_run.specs.RoundRuns.{RoundScript, RoundWhole}
 use Rattle.chukwa_run.specs.Processes.{the_agent, the_collector, chukwa}
 use Rattle.chukwa_run.specs.Draining.{DrainScript, DrainWhole}
+use Rattle.chukwa_run.specs.Datagrams.{UdpWhole}
 
 -- ---- a salvage
 
@@ -62,9 +63,9 @@ abbrev pub rules_of : AgentAsked → Rules
 rules_of w = record { rows = 65536; queue = 10485760; poll = w.poll; expire = w.expire; cluster = w.cluster }
 
 abbrev pub work_of : AgentAsked → Work
-work_of w = record { initial = w.initial; control = w.control; turns = w.turns }
+work_of w = record { initial = w.initial; control = w.control; turns = w.turns; pause = w.pause }
 
--- the script of the run: the reads of the initial file, the start, the lines of the file, and the turns, each with a pause of 200 ms
+-- the script of the run: the reads of the initial file, the start, the lines of the file, and the turns, each with its pause
 abbrev pub AgentScript : AgentAsked → Result Ended RunFault → History → History → Type 0
 AgentScript w result earlier added =
     HasRun (the_agent w.source) chukwa (ring_of w) (rules_of w) (work_of w) result (Some earlier) (Some (added ++ earlier))
@@ -119,6 +120,7 @@ Whole stamped Archive earlier added = ArchiveWhole earlier added
 Whole stamped (Demux kinds) earlier added = DemuxWhole stamped earlier added
 Whole stamped (Salvage file) earlier added = SalvagePrinted file earlier added
 Whole stamped (Load lines) earlier added = LoadWhole lines earlier added
+Whole stamped (Udp w) earlier added = UdpWhole w earlier added
 
 -- what it did by its own acts: a salvage only reads its file and prints
 abbrev pub Did : Asked → History → History → Type 0
@@ -130,3 +132,4 @@ Did Archive earlier added = (report : Report) × ArchivedOnce report (own_acts a
 Did (Demux kinds) earlier added = (report : DemuxReport) × DemuxedOnce report (own_acts added)
 Did (Salvage file) earlier added = AreSalvageActs file (own_acts added) × SalvagePrinted file earlier added
 Did (Load lines) earlier added = LoadDid lines earlier added
+Did (Udp w) earlier added = UdpWhole w earlier added

@@ -116,6 +116,7 @@ fn work(alloc: Global, given: &AgentWords<'_>) -> Result<Work, NoMemory>
         initial: word_if_any(alloc, given.initial)?,
         control: word_if_any(alloc, given.control)?,
         turns: given.turns,
+        pause: given.pause,
     })
 }
 

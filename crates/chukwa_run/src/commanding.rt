@@ -7,6 +7,7 @@ ghost use Rattle.chukwa_run.specs.Working.{Works};
 use crate::agenting::run_agent_of;
 use crate::archiving::run_job;
 use crate::collecting::run_collector;
+use crate::datagrams::run_datagrams;
 use crate::demuxing::run_split;
 use crate::draining::run_drain_of;
 use crate::loading::run_load_of;
@@ -35,5 +36,6 @@ pub fn run_command<S: Site>(
         Command::Demux(kinds) => run_split(alloc, site, kinds.as_slice()),
         Command::Salvage(file) => run_salvage(alloc, site, file),
         Command::Load(lines) => run_load_of(alloc, site, *lines),
+        Command::Udp(given) => run_datagrams(alloc, site, given),
     }
 }

@@ -5,6 +5,7 @@ mod agenting;
 mod archiving;
 mod collecting;
 mod commanding;
+mod datagrams;
 mod demuxing;
 mod draining;
 mod loading;

@@ -36,7 +36,7 @@ use std::alloc::Global;
 ///
 /// `agent [--initial FILE] [--control ADDRESS] [--turns N] [--poll MS] [--expire MS] SOURCE COLLECTOR...` starts
 /// the agent SOURCE, adds the streams of FILE, and in each turn does what the messages at its control door ask for, reads its
-/// logs, posts and polls, settles, and pauses for 200 ms.
+/// logs, posts and polls, settles, and pauses for 200 ms, or `--pause` where a log gave a full piece of 131,072 bytes.
 ///
 /// `collector [--rotate MS] [--turns N] NAME ADDRESS` starts the collector NAME, and in each turn takes at most
 /// `--messages` messages at ADDRESS (1 by default), the first one within 1,000 ms, answers each before it takes the next, asks the
@@ -63,6 +63,11 @@ use std::alloc::Global;
 /// `load N` appends N generated lines to the logs `load.0.log`, `load.1.log` and `load.2.log`, and takes them to the archive by a
 /// round of the source `load` with the type `Load`. It prints `load lines <N> bytes <appended> archived <n>`, the last number
 /// being the sum of the archived ends of the three streams. Of its round it prints nothing.
+///
+/// `udp [--turns N] [--rotate BYTES] NAME ADDRESS` takes datagrams at ADDRESS as the writer NAME. It appends each one to the
+/// buffer `wahead/NAME.buf`, syncs that, and publishes its length, before the next turn; a turn takes at most `--messages`
+/// of them (1 by default), the first one within 1,000 ms. A buffer of BYTES or more, or behind which no datagram came for
+/// 1,000 ms, is closed under the name `wahead/NAME-<number>`. It prints `udp taken <datagrams> bytes <bytes>`.
 pub fn run<'a, S: Site>(alloc: Global, site: &mut S, words: &'a [&'a str]) -> u8
     ensures whole { (stamped : List (List ℕ)) (command : Asked) (earlier : History)
         → SuitsTypes stamped command

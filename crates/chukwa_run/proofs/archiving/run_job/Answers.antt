@@ -15,27 +15,27 @@ pub returns-in-Ok-run_archive-clause-told : goal.returns-in-Ok-run_archive-claus
 returns-in-Ok-run_archive-clause-told g c stamped earlier =
     let s = c.in-Ok-run_archive.ensures in
     told stamped earlier (Ok c.in-Ok-run_archive._report)
-    (record { told = s.told; own = s.own; once = s.once; prints = s.prints; runs = s.runs; last = s.last })
+    (record { told = s.told; own = s.own; once = s.once; prints = s.prints; runs = s.runs; last = s.last; shown = s.shown })
 
 pub returns-in-Ok-run_archive-clause-causes : goal.returns-in-Ok-run_archive-clause-causes
 returns-in-Ok-run_archive-clause-causes g c =
     let s = c.in-Ok-run_archive.ensures in
     causes (Ok c.in-Ok-run_archive._report)
-    (record { told = s.told; own = s.own; once = s.once; prints = s.prints; runs = s.runs; last = s.last })
+    (record { told = s.told; own = s.own; once = s.once; prints = s.prints; runs = s.runs; last = s.last; shown = s.shown })
 
 pub returns-clause-told : goal.returns-clause-told
 returns-clause-told g c stamped earlier =
     let s = c.in-Err.ensures in
     rw c.ending_of.ensures
     (told stamped earlier (Err c.in-Err.fault)
-    (record { told = s.told; own = s.own; once = s.once; prints = s.prints; runs = s.runs; last = s.last }))
+    (record { told = s.told; own = s.own; once = s.once; prints = s.prints; runs = s.runs; last = s.last; shown = s.shown }))
 
 pub returns-clause-causes : goal.returns-clause-causes
 returns-clause-causes g c =
     let s = c.in-Err.ensures in
     rw c.ending_of.ensures
     (causes (Err c.in-Err.fault)
-    (record { told = s.told; own = s.own; once = s.once; prints = s.prints; runs = s.runs; last = s.last }))
+    (record { told = s.told; own = s.own; once = s.once; prints = s.prints; runs = s.runs; last = s.last; shown = s.shown }))
 
 pub returns-clause-status : goal.returns-clause-status
 returns-clause-status g c = rw c.ending_of.ensures (job_status c.in-Err.fault)

@@ -32,6 +32,7 @@ returns-in-Ok-run_demux-clause-told g c stamped earlier named =
       prints = s.prints;
       runs = s.runs;
       last = s.last;
+      shown = s.shown;
     })
 
 pub returns-in-Ok-run_demux-clause-causes : goal.returns-in-Ok-run_demux-clause-causes
@@ -46,6 +47,7 @@ returns-in-Ok-run_demux-clause-causes g c =
       prints = s.prints;
       runs = s.runs;
       last = s.last;
+      shown = s.shown;
     })
 
 pub returns-clause-told : goal.returns-clause-told
@@ -61,6 +63,7 @@ returns-clause-told g c stamped earlier named =
       prints = s.prints;
       runs = s.runs;
       last = s.last;
+      shown = s.shown;
     }))
 
 pub returns-clause-causes : goal.returns-clause-causes
@@ -76,6 +79,7 @@ returns-clause-causes g c =
       prints = s.prints;
       runs = s.runs;
       last = s.last;
+      shown = s.shown;
     }))
 
 pub returns-clause-status : goal.returns-clause-status

@@ -1,0 +1,9 @@
+pub mod Keeping
+pub mod Gathering
+pub mod Turning
+pub mod Starting
+pub mod Lasting
+pub mod Legally
+pub mod Spending
+pub mod Chains
+pub mod Lines

@@ -1,0 +1,4 @@
+pub mod Takings
+pub mod Turns
+pub mod Runs
+pub mod Legality

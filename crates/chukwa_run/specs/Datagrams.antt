@@ -1,0 +1,70 @@
+-- A writer of datagrams as a command: its script, and what each of its ends shows.
+use Rattle.std.specs.Prelude.{◌≡◌, ℕ, List, [], ◌∷◌, ◌++◌, codes, string_bytes, Some, Result, Ok, Err}
+use Rattle.chk_site.specs.declared.acts.Act.{Act}
+use Rattle.chk_site.specs.declared.acts.Call.{Call}
+use Rattle.chk_site.specs.declared.acts.CallFault.TheVariants.{Failed}
+use Rattle.chk_site.specs.declared.acts.ActAnswer.TheVariants.{Refused}
+use Rattle.chk_site.specs.History.{History}
+use Rattle.chk_site.specs.Runs.{own_acts}
+use Rattle.chk_wahead.specs.declared.fault.WaheadFault.{WaheadFault}
+use Rattle.chk_wahead.specs.declared.fault.WaheadFault.TheVariants as Waheads
+use Rattle.chk_wahead.specs.States.{last_number}
+use Rattle.chk_udp_run.specs.Runs.{HasRun}
+use Rattle.chk_words.specs.Datagrams.{UdpAsked}
+use Rattle.chk_words.specs.declared.endings.Ending.{Ending}
+use Rattle.chk_words.specs.declared.endings.Ending.TheVariants.{Outside, NoMemory, Damaged, Spent}
+use Rattle.chukwa_run.specs.declared.datagrams.DatagramSetting.{DatagramSetting}
+use Rattle.chukwa_run.specs.Processes.{the_writer, chukwa}
+
+-- the door at which datagrams for this address are taken
+abbrev pub door_of : List ℕ → List ℕ
+door_of address = codes "udp:" ++ address
+
+-- with what the writer of these words is run
+pub record IsSetFor (w : UdpAsked) (setting : DatagramSetting) : Type 0 where
+  pub who : setting.who ≡ the_writer w.name
+  pub writer : setting.writer ≡ chukwa
+  pub door : string_bytes setting.door ≡ door_of w.address
+
+-- the same fault of the writer
+abbrev pub wahead_ending : WaheadFault → Ending
+wahead_ending (Waheads.Outside call) = Outside call
+wahead_ending (Waheads.Damaged name at) = Damaged name at
+wahead_ending (Waheads.Spent number) = Spent number
+wahead_ending Waheads.NoMemory = NoMemory
+
+-- The script of the run: the start, so many turns, the close and the printed line, up to what ended
+-- it. A turn takes one datagram at its door within 1,000 ms, and up to `messages` where more wait
+-- there already.
+abbrev pub UdpScript : UdpAsked → Result (Unit {0}) WaheadFault → History → History → Type 0
+UdpScript w result earlier added =
+    HasRun (the_writer w.name) chukwa (door_of w.address) w.turns w.rotate w.messages result
+    (Some earlier) (Some (added ++ earlier))
+
+-- all turns are over, no buffer is left under writing, and the line was printed
+abbrev pub UdpWhole : UdpAsked → History → History → Type 0
+UdpWhole w earlier added = UdpScript w (Ok tt) earlier added
+
+-- the newest of these acts is this call, which failed
+abbrev pub FailedAtLast : Call → List Act → Type 0
+FailedAtLast call [] = ⊥
+FailedAtLast call (act ∷ acts) = (act.call ≡ call) × (act.answer ≡ Refused Failed)
+
+-- what an end shows: where the script was cut short by this fault
+abbrev pub UdpCut : UdpAsked → History → Ending → History → Type 0
+UdpCut w earlier (Outside call) added = FailedAtLast call (own_acts added)
+    × UdpScript w (Err (Waheads.Outside call)) earlier added
+UdpCut w earlier NoMemory added = Unit {0}
+UdpCut w earlier (Damaged name at) added = UdpScript w (Err (Waheads.Damaged name at)) earlier added
+UdpCut w earlier (Spent n) added = (n ≡ last_number)
+    × UdpScript w (Err (Waheads.Spent n)) earlier added
+UdpCut w earlier e added = ⊥
+
+-- where no call failed: a start found a file of the writer's that isn't in its grammar, or the
+-- number of the last buffer is the last one
+abbrev pub LeftOfUdp : UdpAsked → History → Ending → History → Type 0
+LeftOfUdp w earlier (Damaged name at) added = UdpScript w (Err (Waheads.Damaged name at)) earlier
+    added
+LeftOfUdp w earlier (Spent n) added = (n ≡ last_number)
+    × UdpScript w (Err (Waheads.Spent n)) earlier added
+LeftOfUdp w earlier e added = ⊥
