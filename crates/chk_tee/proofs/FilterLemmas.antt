@@ -20,11 +20,11 @@ use Rattle.chk_bytes.proofs.FaultLemmas.{faultless-from_is_word}
 
 -- ---- the parts of a text
 
-abbrev has_part : List (List ℕ) → Bool
+abbrev pub has_part : List (List ℕ) → Bool
 has_part [] = false
 has_part (part ∷ parts) = true
 
-parts_some : (c : ℕ) (text : List ℕ) → has_part (parts_at c text) ≡ true
+pub parts_some : (c : ℕ) (text : List ℕ) → has_part (parts_at c text) ≡ true
 parts_some c [] = refl
 parts_some c (b ∷ text) = go (b == c) (parts_at c text)
   where
@@ -43,7 +43,7 @@ joined_apart c [] some = absurd (true≢false (sym some))
 joined_apart c (part ∷ parts) some = refl
 
 -- they join to it
-joined_back : (c : ℕ) (text : List ℕ) → joined_at c (parts_at c text) ≡ text
+pub joined_back : (c : ℕ) (text : List ℕ) → joined_at c (parts_at c text) ≡ text
 joined_back c [] = refl
 joined_back c (b ∷ text) = go (joined_back c text) (b == c) refl
   where
@@ -54,7 +54,7 @@ joined_back c (b ∷ text) = go (joined_back c text) (b == c) refl
     go before false e = joined_more c b (parts_at c text) ∙ ap (λ rest. b ∷ rest) before
 
 -- and none has the separator
-all_lack : (c : ℕ) (text : List ℕ) → list_all (lacks c) (parts_at c text) ≡ true
+pub all_lack : (c : ℕ) (text : List ℕ) → list_all (lacks c) (parts_at c text) ≡ true
 all_lack c [] = refl
 all_lack c (b ∷ text) = go (b == c) refl (parts_at c text) (all_lack c text)
   where
@@ -67,7 +67,7 @@ all_lack c (b ∷ text) = go (b == c) refl (parts_at c text) (all_lack c text)
         and_from _ _ (and_from _ _ (ap not e) p.0) p.1
 
 -- what was joined parts again
-parted_back : (c : ℕ) (part : List ℕ) (parts : List (List ℕ)) → list_all (lacks c) (part ∷ parts) ≡ true
+pub parted_back : (c : ℕ) (part : List ℕ) (parts : List (List ℕ)) → list_all (lacks c) (part ∷ parts) ≡ true
     → parts_at c (joined_at c (part ∷ parts)) ≡ part ∷ parts
 parted_back c part [] all = parts_at-whole c part (and_parts (lacks c part) true all).0
 parted_back c part (next ∷ parts) all =
@@ -288,7 +288,7 @@ none_more at f part texts e =
     ap (λ (o : Option Filter). elim o as (λ _. Result Filter ℕ) [ Some k ↦ filter_from (at + (length part + 1)) k texts | None ↦ Err at ]) e
 
 -- the first part of a text that has a separator
-first_split : (at size : ℕ) (text : List ℕ) → position (λ b. b == 38) (drop at text) ≡ Some size
+pub first_split : (at size : ℕ) (text : List ℕ) → position (λ b. b == 38) (drop at text) ≡ Some size
     → (parts_at 38 (drop at text) ≡ take size (drop at text) ∷ parts_at 38 (drop (at + (size + 1)) text))
     × (length (take size (drop at text)) ≡ size)
 first_split at size text e =
@@ -314,7 +314,7 @@ pub filter_bad : (at size : ℕ) (f : Filter) (text : List ℕ) → position (λ
     → added f (take size (drop at text)) ≡ None → filter_from at f (parts_at 38 (drop at text)) ≡ Err at
 filter_bad at size f text e more = ap (filter_from at f) (first_split at size text e).0 ∙ none_more at f _ _ more
 
-last_split : (at : ℕ) (text : List ℕ) → position (λ b. b == 38) (drop at text) ≡ None
+pub last_split : (at : ℕ) (text : List ℕ) → position (λ b. b == 38) (drop at text) ≡ None
     → parts_at 38 (drop at text) ≡ drop at text ∷ []
 last_split at text e = parts_at-whole 38 (drop at text) (split_none 38 (drop at text) e)
 

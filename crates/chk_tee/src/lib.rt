@@ -21,7 +21,7 @@ pub use laws::{
     written_is_tee,
 };
 pub use messages::{TeeRef, read_tee};
-pub use writing::{write_passing, write_tee};
+pub use writing::{push_passing, put_tee_head, write_tee};
 
 /// The most bytes of a message.
 pub const TEE_BYTES: u64 = 4_308_309;

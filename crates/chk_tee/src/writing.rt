@@ -3,13 +3,13 @@
 ghost use Rattle.std.specs.Prelude.{◌≡◌, ◌<◌, ◌≤◌, ◌^◌, ◌++◌, ◌∷◌, [], List, length, take};
 ghost use Rattle.std.specs.Prelude.{IsTrue, IfOk, OnOk, OnErr, All};
 ghost use Rattle.chk_bytes.specs.Stems.{is_stem, stem_text};
-ghost use Rattle.chk_bytes.specs.Numbers.{with_length};
+ghost use Rattle.chk_bytes.specs.Numbers.{be32, with_length};
 ghost use Rattle.chk_chunk.specs.Keys.{counted, is_key, written_key};
 ghost use Rattle.chk_chunk.specs.Lent.{lent_chunk};
-ghost use Rattle.chk_tee.specs.Messages.{IsTee, is_teed, tee_limit, most_teed};
+ghost use Rattle.chk_tee.specs.Messages.{IsTee, is_teed, tee_limit, tee_mark, most_teed};
 ghost use Rattle.chk_tee.specs.Messages.{written_tee, written_teed, written_teeds};
 ghost use Rattle.chk_tee.specs.Filters.{passing};
-ghost use Rattle.chk_tee.specs.Lent.{lent_teed, lent_teeds, AreValidTeeds, IsWrittenOf};
+ghost use Rattle.chk_tee.specs.Lent.{lent_teed, lent_teeds, AreValidTeeds};
 
 use crate::{Filter, Teed};
 use chk_bytes::{Bytes, NoMemory, Stem, put_u16, put_u32, put_u64};
@@ -36,48 +36,18 @@ pub fn write_tee(alloc: Global, items: &[Teed<'_>]) -> Result<Bytes, NoMemory>
     Ok(out)
 }
 
-/// The message of those of these chunks that the filter lets pass, `None` where none does. The chunks
-/// are gone through twice, and each byte of those that pass is copied.
-pub fn write_passing(
-    alloc: Global,
-    filter: &Filter,
-    items: &[Teed<'_>],
-) -> Result<Option<Bytes>, NoMemory>
-    requires few { length items.now ≤ most_teed }
-    requires valid { AreValidTeeds items.now }
-    requires fits { length (written_tee (lent_teeds items.now)) ≤ tee_limit }
-    ensures { IfOk result (λ tee. IsWrittenOf (passing filter.now (lent_teeds items.now)) tee) }
+/// Appends what stands before the chunks of a message: the mark, the version and how many chunks
+/// there are.
+pub fn put_tee_head(out: &mut Bytes, count: u32) -> Result<(), NoMemory>
+    ensures { OnOk result (out.new ≡ out.old ++ (tee_mark ++ be32 count)) }
 {
-    let count = count_passing(filter, items);
-    if count == 0 {
-        return Ok(None);
-    }
-    let mut out = Bytes::new(alloc);
-    let mut part = Bytes::new(alloc);
     out.push_all(b"CHKT\x01")?;
-    put_u32(&mut out, count)?;
-    for item in items {
-        push_passing(&mut out, &mut part, filter, item)?;
-    }
-    Ok(Some(out))
+    put_u32(out, count)
 }
 
-// How many of the chunks pass.
-fn count_passing(filter: &Filter, items: &[Teed<'_>]) -> u32
-    requires { length items.now ≤ most_teed }
-    ensures { result ≡ length (passing filter.now (lent_teeds items.now)) }
-{
-    let mut count = 0;
-    for item in items {
-        if filter.passes(&item.chunk) {
-            count += 1;
-        }
-    }
-    count
-}
-
-// Appends the chunk, where it passes.
-fn push_passing(
+/// Appends the chunk behind its stem and its offset, where it passes. `part` is used for what is
+/// counted. Each byte of the chunk is copied once, and where `out` has to grow once more.
+pub fn push_passing(
     out: &mut Bytes,
     part: &mut Bytes,
     filter: &Filter,

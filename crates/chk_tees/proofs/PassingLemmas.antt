@@ -122,3 +122,9 @@ cause_more lost first before now h rose =
       some = λ e. omega arith;
       stays = omega arith;
     }
+
+-- without a subscriber nothing is done
+pub nobody : (who : Who) (items : List Teed) (xs : List Subscriber) (now : Option History) → length xs ≡ 0
+    → PassesOn who items xs xs 0 0 (Ok tt) now now
+nobody who items [] now none = all_passed
+nobody who items (x ∷ xs) now none = absurd (omega arith)

@@ -1,3 +1,5 @@
 pub mod Sending
 pub mod Passing
 pub mod Sieves
+pub mod Offers
+pub mod Subscribers

@@ -1,15 +1,14 @@
 //! All subscribers, one after the other.
 
 ghost use Rattle.std.specs.Prelude.{◌≤◌, ◌<◌, ◌^◌, length};
-ghost use Rattle.chk_tee.specs.Messages.{most_teed, tee_limit, written_tee};
-ghost use Rattle.chk_tee.specs.Lent.{lent_teeds, AreValidTeeds};
+ghost use Rattle.chk_tees.specs.Offers.{IsSound, items_of};
 ghost use Rattle.chk_tees.specs.Passing.{Passes, PassCause};
 
+use crate::offers::Offer;
 use crate::sending::{Sending, send_to};
 use crate::{Passed, Subscriber};
 use chk_bytes::NoMemory;
 use chk_site::{Site, Who};
-use chk_tee::Teed;
 use std::alloc::Global;
 
 // Sends each subscriber the chunks that it wants, and drops who couldn't be sent them.
@@ -18,13 +17,11 @@ pub(crate) fn pass_on<S: Site>(
     site: &mut S,
     who: &Who,
     standing: &mut Vec<Subscriber>,
-    items: &[Teed<'_>],
+    offer: &Offer<'_>,
 ) -> Result<Passed, NoMemory>
     requires count { length standing.old.items < 2 ^ 32 }
-    requires few { length items.now ≤ most_teed }
-    requires valid { AreValidTeeds items.now }
-    requires fits { length (written_tee (lent_teeds items.now)) ≤ tee_limit }
-    ensures told { Passes who.now (lent_teeds items.now) standing.old.items standing.new.items result (S.told site.old) (S.told site.new) }
+    requires sound { IsSound offer.now }
+    ensures told { Passes who.now (items_of offer.now) standing.old.items standing.new.items result (S.told site.old) (S.told site.new) }
     ensures cause { PassCause (S.fault_count site.old) (S.fault_count site.new) result }
     ensures fewer { length standing.new.items ≤ length standing.old.items }
 {
@@ -34,7 +31,7 @@ pub(crate) fn pass_on<S: Site>(
     };
     let mut at = 0;
     while at < standing.len() {
-        match send_to(alloc, site, who, &standing[at], items) {
+        match send_to(alloc, site, who, &standing[at], offer) {
             Ok(Sending::Nothing) => at += 1,
             Ok(Sending::Sent) => {
                 passed.sent += 1;

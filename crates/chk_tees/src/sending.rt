@@ -1,14 +1,13 @@
 //! One subscriber, and the message that it is sent.
 
-ghost use Rattle.std.specs.Prelude.{◌≤◌, length};
-ghost use Rattle.chk_tee.specs.Messages.{most_teed, tee_limit, written_tee};
-ghost use Rattle.chk_tee.specs.Lent.{lent_teeds, AreValidTeeds};
+ghost use Rattle.chk_tees.specs.Offers.{IsSound, items_of};
 ghost use Rattle.chk_tees.specs.Sending.{IsPassedTo, SendCause};
 
 use crate::Subscriber;
+use crate::offers::Offer;
+use crate::wanted::write_wanted;
 use chk_bytes::NoMemory;
 use chk_site::{CallFault, Site, Who};
-use chk_tee::{Teed, write_passing};
 use std::alloc::Global;
 
 // What became of a subscriber.
@@ -28,15 +27,13 @@ pub(crate) fn send_to<S: Site>(
     site: &mut S,
     who: &Who,
     subscriber: &Subscriber,
-    items: &[Teed<'_>],
+    offer: &Offer<'_>,
 ) -> Result<Sending, NoMemory>
-    requires few { length items.now ≤ most_teed }
-    requires valid { AreValidTeeds items.now }
-    requires fits { length (written_tee (lent_teeds items.now)) ≤ tee_limit }
-    ensures told { IsPassedTo who.now (lent_teeds items.now) subscriber.now result (S.told site.old) (S.told site.new) }
+    requires { IsSound offer.now }
+    ensures told { IsPassedTo who.now (items_of offer.now) subscriber.now result (S.told site.old) (S.told site.new) }
     ensures cause { SendCause (S.fault_count site.old) (S.fault_count site.new) result }
 {
-    let tee = match write_passing(alloc, &subscriber.filter, items) {
+    let tee = match write_wanted(alloc, &subscriber.filter, offer) {
         Ok(Some(tee)) => tee,
         Ok(None) => return Ok(Sending::Nothing),
         Err(fault) => return Err(fault),

@@ -1,15 +1,14 @@
 //! The subscribers of a collector.
 
-ghost use Rattle.std.specs.Prelude.{◌≡◌, ◌<◌, ◌≤◌, ◌^◌, length};
-ghost use Rattle.chk_tee.specs.Messages.{most_teed, tee_limit, written_tee};
-ghost use Rattle.chk_tee.specs.Lent.{lent_teeds, AreValidTeeds};
-ghost use Rattle.chk_tees.specs.Passing.{Passes, PassCause};
+ghost use Rattle.std.specs.Prelude.{◌≡◌, ◌<◌, ◌^◌, length};
+ghost use Rattle.chk_tees.specs.Offers.{HasNoOffer, PassesPost, PassesNone};
+ghost use Rattle.chk_tees.specs.Passing.{PassCause};
 
 use crate::Subscriber;
+use crate::offers::offered;
 use crate::passing::pass_on;
 use chk_bytes::NoMemory;
 use chk_site::{Site, Who};
-use chk_tee::Teed;
 use std::alloc::Global;
 use std::marker::Model;
 
@@ -52,23 +51,37 @@ impl Tees {
         }
     }
 
-    /// Sends each subscriber those of the chunks that pass its filter, in order, in one message. A
-    /// subscriber that couldn't be sent its message is dropped: it is sent nothing more.
+    /// Sends each subscriber those chunks of the post that pass its filter, with the sinks and the
+    /// places of the reply's lines, in one message. A subscriber that couldn't be sent its message is
+    /// dropped. Where the request isn't a post, or the reply isn't a good one to it, or one of its
+    /// lines has the number 0, nothing is sent.
     ///
-    /// It makes no other call, and goes through the chunks twice for each subscriber. Want of memory
-    /// ends it, with the subscribers that stood then.
-    pub fn pass_on<S: Site>(
+    /// Without a subscriber it reads nothing. Else it reads the request and the reply once more, and
+    /// goes through the chunks twice for each subscriber. Want of memory ends it, with the subscribers
+    /// that stood then. It makes no call but sends.
+    pub fn pass<S: Site>(
         &mut self,
         site: &mut S,
         who: &Who,
-        items: &[Teed<'_>],
+        request: &[u8],
+        reply: &[u8],
     ) -> Result<Passed, NoMemory>
-        requires few { length items.now ≤ most_teed }
-        requires valid { AreValidTeeds items.now }
-        requires fits { length (written_tee (lent_teeds items.now)) ≤ tee_limit }
-        ensures told { Passes who.now (lent_teeds items.now) self.old self.new result (S.told site.old) (S.told site.new) }
+        ensures told { PassesPost who.now request.now reply.now self.old self.new result (S.told site.old) (S.told site.new) }
+        ensures none { HasNoOffer request.now reply.now → PassesNone self.old self.new result (S.told site.old) (S.told site.new) }
         ensures cause { PassCause (S.fault_count site.old) (S.fault_count site.new) result }
     {
-        pass_on(self.alloc, site, who, &mut self.standing, items)
+        if self.standing.len() == 0 {
+            return Ok(Passed {
+                sent: 0,
+                dropped: 0,
+            });
+        }
+        match offered(request, reply) {
+            Some(offer) => pass_on(self.alloc, site, who, &mut self.standing, &offer),
+            None => Ok(Passed {
+                sent: 0,
+                dropped: 0,
+            }),
+        }
     }
 }

@@ -1,6 +1,6 @@
 use Rattle.std.proofs.Common.{arith, ◌≡◌, ◌<◌, ◌≤◌, ◌+◌, length, ap, ◌∙◌, subst, Ok, Err}
 use Rattle.chk_site.specs.Site.{Rose}
-use Rattle.chk_tee.specs.Lent.{lent_teeds}
+use Rattle.chk_tees.specs.Offers.{items_of}
 use Rattle.chk_tees.specs.Sending.{IsPassedTo, SendCause}
 use Rattle.chk_tees.specs.declared.sending.Sending.{Sending}
 use Rattle.chk_tees.specs.declared.sending.Sending.TheVariants.{Nothing, Sent, Lost}
@@ -14,15 +14,15 @@ loop-at-preserved-in-Ok-Nothing g c =
     let same : g.S.Site.fault_count c.send_to.new.site ≡ g.S.Site.fault_count l.site =
     subst (λ (x : Sending). SendCause (g.S.Site.fault_count l.site) (g.S.Site.fault_count c.send_to.new.site) (Ok x))
     c.in-Ok-Nothing.field-0-is c.in-Ok-Nothing.ensures.cause in
-    let told : IsPassedTo c.args.who.now (lent_teeds c.args.items.now) c.index.result.now (Ok Nothing) (g.S.Site.told l.site) (g.S.Site.told c.send_to.new.site) =
-    subst (λ (x : Sending). IsPassedTo c.args.who.now (lent_teeds c.args.items.now) c.index.result.now (Ok x) (g.S.Site.told l.site) (g.S.Site.told c.send_to.new.site))
+    let told : IsPassedTo c.args.who.now (items_of c.args.offer.now) c.index.result.now (Ok Nothing) (g.S.Site.told l.site) (g.S.Site.told c.send_to.new.site) =
+    subst (λ (x : Sending). IsPassedTo c.args.who.now (items_of c.args.offer.now) c.index.result.now (Ok x) (g.S.Site.told l.site) (g.S.Site.told c.send_to.new.site))
     c.in-Ok-Nothing.field-0-is c.in-Ok-Nothing.ensures.told in
     record {
       within = omega arith;
       fewer = omega (arith, l.invariant.fewer);
       few = omega (arith, l.invariant.few);
       goes_on =
-          next_by c.args.who.now (lent_teeds c.args.items.now) c.args.standing.now.items _ l.standing.items l.at l.passed.sent
+          next_by c.args.who.now (items_of c.args.offer.now) c.args.standing.now.items _ l.standing.items l.at l.passed.sent
           l.passed.dropped _ _ c.index.result.now within c.index.ensures l.invariant.goes_on told;
       cause = cause_kept l.passed.dropped _ _ _ l.invariant.cause same;
     }
@@ -34,15 +34,15 @@ loop-at-preserved-in-Ok-Sent g c =
     let same : g.S.Site.fault_count c.send_to.new.site ≡ g.S.Site.fault_count l.site =
     subst (λ (x : Sending). SendCause (g.S.Site.fault_count l.site) (g.S.Site.fault_count c.send_to.new.site) (Ok x))
     c.in-Ok-Sent.field-0-is c.in-Ok-Sent.ensures.cause in
-    let told : IsPassedTo c.args.who.now (lent_teeds c.args.items.now) c.index.result.now (Ok Sent) (g.S.Site.told l.site) (g.S.Site.told c.send_to.new.site) =
-    subst (λ (x : Sending). IsPassedTo c.args.who.now (lent_teeds c.args.items.now) c.index.result.now (Ok x) (g.S.Site.told l.site) (g.S.Site.told c.send_to.new.site))
+    let told : IsPassedTo c.args.who.now (items_of c.args.offer.now) c.index.result.now (Ok Sent) (g.S.Site.told l.site) (g.S.Site.told c.send_to.new.site) =
+    subst (λ (x : Sending). IsPassedTo c.args.who.now (items_of c.args.offer.now) c.index.result.now (Ok x) (g.S.Site.told l.site) (g.S.Site.told c.send_to.new.site))
     c.in-Ok-Sent.field-0-is c.in-Ok-Sent.ensures.told in
     record {
       within = omega arith;
       fewer = omega (arith, l.invariant.fewer);
       few = omega (arith, l.invariant.few);
       goes_on =
-          next_sent c.args.who.now (lent_teeds c.args.items.now) c.args.standing.now.items _ l.standing.items l.at l.passed.sent
+          next_sent c.args.who.now (items_of c.args.offer.now) c.args.standing.now.items _ l.standing.items l.at l.passed.sent
           l.passed.dropped _ _ c.index.result.now within c.index.ensures l.invariant.goes_on told;
       cause = cause_kept l.passed.dropped _ _ _ l.invariant.cause same;
     }
@@ -54,8 +54,8 @@ loop-at-preserved-in-Ok-Lost g c =
     let rose : Rose (g.S.Site.fault_count l.site) (g.S.Site.fault_count c.send_to.new.site) × (g.S.Site.fault_count l.site ≤ g.S.Site.fault_count c.send_to.new.site) =
     subst (λ (x : Sending). SendCause (g.S.Site.fault_count l.site) (g.S.Site.fault_count c.send_to.new.site) (Ok x))
     c.in-Ok-Lost.field-0-is c.in-Ok-Lost.ensures.cause in
-    let told : IsPassedTo c.args.who.now (lent_teeds c.args.items.now) c.index.result.now (Ok Lost) (g.S.Site.told l.site) (g.S.Site.told c.send_to.new.site) =
-    subst (λ (x : Sending). IsPassedTo c.args.who.now (lent_teeds c.args.items.now) c.index.result.now (Ok x) (g.S.Site.told l.site) (g.S.Site.told c.send_to.new.site))
+    let told : IsPassedTo c.args.who.now (items_of c.args.offer.now) c.index.result.now (Ok Lost) (g.S.Site.told l.site) (g.S.Site.told c.send_to.new.site) =
+    subst (λ (x : Sending). IsPassedTo c.args.who.now (items_of c.args.offer.now) c.index.result.now (Ok x) (g.S.Site.told l.site) (g.S.Site.told c.send_to.new.site))
     c.in-Ok-Lost.field-0-is c.in-Ok-Lost.ensures.told in
     let less : length c.remove-lost.new.self.items + 1 ≡ length l.standing.items =
     ap (λ n. n + 1) (ap length c.remove-lost.ensures.items) ∙ length_removed l.standing.items l.at within in
@@ -64,7 +64,7 @@ loop-at-preserved-in-Ok-Lost g c =
       fewer = omega (arith, l.invariant.fewer);
       few = omega (arith, l.invariant.few);
       goes_on =
-          next_lost c.args.who.now (lent_teeds c.args.items.now) c.args.standing.now.items _ l.standing.items _ l.at l.passed.sent
+          next_lost c.args.who.now (items_of c.args.offer.now) c.args.standing.now.items _ l.standing.items _ l.at l.passed.sent
           l.passed.dropped _ _ c.index.result.now within c.index.ensures c.remove-lost.ensures.items l.invariant.goes_on told;
       cause = cause_more l.passed.dropped _ _ _ l.invariant.cause rose;
     }
@@ -76,8 +76,8 @@ loop-at-preserved g c =
     let rose : Rose (g.S.Site.fault_count l.site) (g.S.Site.fault_count c.send_to.new.site) × (g.S.Site.fault_count l.site ≤ g.S.Site.fault_count c.send_to.new.site) =
     subst (λ (x : Sending). SendCause (g.S.Site.fault_count l.site) (g.S.Site.fault_count c.send_to.new.site) (Ok x))
     c.in-Ok-Lost.field-0-is c.in-Ok-Lost.ensures.cause in
-    let told : IsPassedTo c.args.who.now (lent_teeds c.args.items.now) c.index.result.now (Ok Lost) (g.S.Site.told l.site) (g.S.Site.told c.send_to.new.site) =
-    subst (λ (x : Sending). IsPassedTo c.args.who.now (lent_teeds c.args.items.now) c.index.result.now (Ok x) (g.S.Site.told l.site) (g.S.Site.told c.send_to.new.site))
+    let told : IsPassedTo c.args.who.now (items_of c.args.offer.now) c.index.result.now (Ok Lost) (g.S.Site.told l.site) (g.S.Site.told c.send_to.new.site) =
+    subst (λ (x : Sending). IsPassedTo c.args.who.now (items_of c.args.offer.now) c.index.result.now (Ok x) (g.S.Site.told l.site) (g.S.Site.told c.send_to.new.site))
     c.in-Ok-Lost.field-0-is c.in-Ok-Lost.ensures.told in
     let less : length c.remove-lost.new.self.items + 1 ≡ length l.standing.items =
     ap (λ n. n + 1) (ap length c.remove-lost.ensures.items) ∙ length_removed l.standing.items l.at within in
@@ -86,7 +86,7 @@ loop-at-preserved g c =
       fewer = omega (arith, l.invariant.fewer);
       few = omega (arith, l.invariant.few);
       goes_on =
-          next_lost c.args.who.now (lent_teeds c.args.items.now) c.args.standing.now.items _ l.standing.items _ l.at l.passed.sent
+          next_lost c.args.who.now (items_of c.args.offer.now) c.args.standing.now.items _ l.standing.items _ l.at l.passed.sent
           l.passed.dropped _ _ c.index.result.now within c.index.ensures c.remove-lost.ensures.items l.invariant.goes_on told;
       cause = cause_more l.passed.dropped _ _ _ l.invariant.cause rose;
     }
@@ -95,11 +95,11 @@ pub returns-in-Err-clause-told : goal.returns-in-Err-clause-told
 returns-in-Err-clause-told g c =
     let l = c.loop-at in
     let within : l.at < length l.standing.items = omega arith in
-    let told : IsPassedTo c.args.who.now (lent_teeds c.args.items.now) c.index.result.now (Err c.in-Err.fault) (g.S.Site.told l.site) (g.S.Site.told c.send_to.new.site) =
+    let told : IsPassedTo c.args.who.now (items_of c.args.offer.now) c.index.result.now (Err c.in-Err.fault) (g.S.Site.told l.site) (g.S.Site.told c.send_to.new.site) =
     c.in-Err.ensures.told in (
       l.passed.sent,
       l.passed.dropped,
-      gave_up c.args.who.now (lent_teeds c.args.items.now) c.args.standing.now.items _ l.standing.items l.at l.passed.sent l.passed.dropped
+      gave_up c.args.who.now (items_of c.args.offer.now) c.args.standing.now.items _ l.standing.items l.at l.passed.sent l.passed.dropped
           _ _ c.index.result.now c.in-Err.fault within c.index.ensures l.invariant.goes_on told,
     )
 
@@ -107,5 +107,5 @@ pub returns-clause-told : goal.returns-clause-told
 returns-clause-told g c =
     let l = c.loop-at in
     let past : length l.standing.items ≤ l.at = omega arith in
-    all_done c.args.who.now (lent_teeds c.args.items.now) c.args.standing.now.items _ l.standing.items l.at l.passed.sent l.passed.dropped _
+    all_done c.args.who.now (items_of c.args.offer.now) c.args.standing.now.items _ l.standing.items l.at l.passed.sent l.passed.dropped _
     past l.invariant.goes_on

@@ -1,5 +1,5 @@
 use Rattle.std.proofs.Common.{◌≤◌, ◌+◌, ◌-◌, length}
-use Rattle.chk_tee.specs.Lent.{lent_teeds}
+use Rattle.chk_tees.specs.Offers.{items_of}
 use Rattle.chk_tees.specs.Passing.{IsCaused}
 use Rattle.chk_tees.proofs.PassingLemmas.{GoesOn}
 use Rattle.chk_tees.proofs.passing.pass_on.Given as goal
@@ -10,7 +10,7 @@ invariant-loop-at g l = record {
   within : l.at ≤ length l.standing.items;
   fewer : length l.standing.items ≤ length l.fn.standing.items;
   few : l.passed.sent + l.passed.dropped + (length l.standing.items - l.at) ≤ length l.fn.standing.items;
-  goes_on : GoesOn l.who (lent_teeds l.items) l.fn.standing.items (g.S.Site.told l.fn.site) l.standing.items l.at l.passed.sent l.passed.dropped (g.S.Site.told l.site);
+  goes_on : GoesOn l.who (items_of l.offer) l.fn.standing.items (g.S.Site.told l.fn.site) l.standing.items l.at l.passed.sent l.passed.dropped (g.S.Site.told l.site);
   cause : IsCaused l.passed.dropped (g.S.Site.fault_count l.fn.site) (g.S.Site.fault_count l.site);
 }
 
