@@ -1,0 +1,2 @@
+-- The join of two archives.
+mod JoinLaws

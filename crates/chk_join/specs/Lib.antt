@@ -1,0 +1,3 @@
+-- The join of two archives.
+pub mod Archives
+pub mod Laws
