@@ -1,6 +1,8 @@
 //! A peer that came to a door, and what it sent so far.
-ghost use Rattle.std.specs.Prelude.{length};
-ghost use Rattle.chk_callers.specs.Callers.{HasHeard};
+ghost use Rattle.std.specs.Prelude.{◌≡◌, ◌⊎◌, ◌≤◌, ◌*◌, ◌++◌, length, IfOk, IsTrue, OnErr, OnOk};
+ghost use Rattle.std.specs.Duration.{as_nanos};
+ghost use Rattle.chk_peers.specs.Stages.{IsStageOf};
+ghost use Rattle.chk_callers.specs.Callers.{HasGrown, HasHeard, IsEnd, IsHeard};
 
 use crate::deadline::{Deadline, longest_wait};
 use chk_bytes::{Bytes, NoMemory};
@@ -14,6 +16,10 @@ use std::time::{Clock, Duration};
 /// How many milliseconds a peer has, from its coming in on, until its message is whole. The longest
 /// message needs 117 kB/s for that.
 pub const WHOLE_MS: u64 = 36_000;
+
+/// So many milliseconds before its silence is too long, the sender of a whole message waits no
+/// longer soon.
+pub const STALE_MS: u64 = 100;
 
 /// A stream that came in, what was read of its message, and how long it has.
 #[derive(Drop)]
@@ -37,15 +43,28 @@ enum Heard {
 
 impl<R: Net + Clock> Caller<R> {
     /// Its time here is over.
-    pub fn is_late(&self, rt: &R) -> bool {
+    pub fn is_late(&self, rt: &R) -> bool
+        ensures start { as_nanos self.now.end.end ≡ 0 → IsTrue result }
+    {
         self.end.is_over(rt)
+    }
+
+    /// It has sent nothing for 1,900 ms: an agent waits 2,000 ms for an answer.
+    pub fn is_stale(&self, rt: &R) -> bool
+        ensures near { as_nanos self.now.quiet.end ≤ STALE_MS * 1_000_000 → IsTrue result }
+    {
+        self.quiet.is_near(rt, STALE_MS)
     }
 
     /// The stage behind one read at a peer that was at this stage. Where there is no memory for what
     /// came, it is lost.
-    pub fn hear(&mut self, rt: &R, stage: Stage, buffer: &mut Vec<u8>) -> Result<Stage, NoMemory> {
+    pub fn hear(&mut self, rt: &R, stage: Stage, buffer: &mut Vec<u8>) -> Result<Stage, NoMemory>
+        ensures grown { OnOk result (HasGrown self.old.bytes self.new.bytes buffer.new.items) }
+        ensures stage { IfOk result (λ heard. IsHeard stage self.old.bytes self.new.bytes heard) }
+        ensures err { OnErr result (self.new.bytes ≡ self.old.bytes) }
+    {
         match read_once(&mut self.stream, buffer) {
-            Heard::Nothing if stage.is_whole() => Ok(stage),
+            Heard::Nothing if stage.is_there() => Ok(stage),
             Heard::Nothing => Ok(self.passed(rt, stage)),
             Heard::Some(count) => self.keep(rt, &buffer[..count]),
             Heard::End => Ok(self.ended()),
@@ -53,7 +72,11 @@ impl<R: Net + Clock> Caller<R> {
         }
     }
 
-    fn keep(&mut self, rt: &R, came: &[u8]) -> Result<Stage, NoMemory> {
+    fn keep(&mut self, rt: &R, came: &[u8]) -> Result<Stage, NoMemory>
+        ensures kept { OnOk result (self.new.bytes ≡ self.old.bytes ++ came.now) }
+        ensures stage { IfOk result (IsStageOf self.new.bytes) }
+        ensures err { OnErr result (self.new.bytes ≡ self.old.bytes) }
+    {
         self.bytes.push_all(came)?;
         if let Ok(quiet) = Deadline::after(rt, longest_wait()) {
             self.quiet = quiet;
@@ -62,7 +85,9 @@ impl<R: Net + Clock> Caller<R> {
     }
 
     // Where nothing came: one that was silent for too long has ended.
-    fn passed(&self, rt: &R, stage: Stage) -> Stage {
+    fn passed(&self, rt: &R, stage: Stage) -> Stage
+        ensures { (result ≡ stage) ⊎ IsEnd self.now.bytes result }
+    {
         if self.quiet.is_over(rt) || self.end.is_over(rt) {
             return self.ended();
         }
@@ -70,7 +95,9 @@ impl<R: Net + Clock> Caller<R> {
     }
 
     // Nothing more comes.
-    fn ended(&self) -> Stage {
+    fn ended(&self) -> Stage
+        ensures { IsEnd self.now.bytes result }
+    {
         if self.bytes.len() == 0 {
             return Stage::Gone;
         }

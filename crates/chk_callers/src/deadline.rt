@@ -1,6 +1,6 @@
 //! The end of a wait.
 
-ghost use Rattle.std.specs.Prelude.{◌≡◌, ◌*◌, ◌≤◌, IfOk};
+ghost use Rattle.std.specs.Prelude.{◌≡◌, ◌*◌, ◌≤◌, IfOk, IsTrue};
 ghost use Rattle.std.specs.Duration.{as_nanos};
 
 use std::io;
@@ -38,9 +38,21 @@ impl Deadline {
     }
 
     /// Whether it has passed, or the clock fails.
-    pub fn is_over<R: Clock>(&self, rt: &R) -> bool {
+    pub fn is_over<R: Clock>(&self, rt: &R) -> bool
+        ensures start { as_nanos self.now.end ≡ 0 → IsTrue result }
+    {
         match self.left(rt) {
             Ok(left) => left.is_zero(),
+            Err(_) => true,
+        }
+    }
+
+    /// Whether no more than so many milliseconds are left, or the clock fails.
+    pub fn is_near<R: Clock>(&self, rt: &R, ms: u64) -> bool
+        ensures near { as_nanos self.now.end ≤ ms * 1_000_000 → IsTrue result }
+    {
+        match self.left(rt) {
+            Ok(left) => left <= Duration::from_millis(ms),
             Err(_) => true,
         }
     }

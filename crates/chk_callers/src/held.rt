@@ -1,5 +1,8 @@
 //! The peers that a door holds: their streams, and how far their messages came.
-ghost use Rattle.std.specs.Prelude.{◌≡◌, ◌<◌, ◌∷◌, ◌++◌, [], length, remove, IfNone, IfSome, OnErr, OnOk};
+ghost use Rattle.std.specs.Prelude.{◌≡◌, ◌<◌, ◌≤◌, ◌↔◌, ◌∷◌, ◌++◌, [], length, remove, slice_set, slice_index_or, IfNone, IfOk, IfSome, IsSome, IsTrue, OnErr, OnOk};
+ghost use Rattle.chk_peers.specs.declared.stages.Stage.TheVariants.{Gone};
+ghost use Rattle.chk_peers.specs.Stages.{leaving};
+ghost use Rattle.chk_callers.specs.Held.{callers_left, stages_left, without, IsAged};
 
 use crate::callers::Caller;
 use chk_bytes::NoMemory;
@@ -51,8 +54,9 @@ impl<R: Net + Clock> Held<R> {
     /// Takes the peer at this place out.
     pub fn take(&mut self, place: usize) -> Option<Caller<R>>
         ensures there { IfSome result (λ _. place < length self.old.callers.items) }
-        ensures callers { IfSome result (λ _. self.new.callers.items ≡ remove self.old.callers.items place) }
-        ensures stages { IfSome result (λ _. self.new.stages.held.items ≡ remove self.old.stages.held.items place) }
+        ensures stages { self.new.stages.held.items ≡ remove self.old.stages.held.items place }
+        ensures callers { place < length self.old.stages.held.items
+            → self.new.callers.items ≡ remove self.old.callers.items place }
         ensures none { IfNone result (self.new.callers.items ≡ self.old.callers.items) }
     {
         let _stage = self.stages.take(place)?;
@@ -63,7 +67,13 @@ impl<R: Net + Clock> Held<R> {
     }
 
     /// The oldest silent one goes, or the oldest one that ended; false where there is neither.
-    pub fn let_one_go(&mut self) -> bool {
+    pub fn let_one_go(&mut self) -> bool
+        ensures tells { IsTrue result ↔ IsSome (leaving self.old.stages.held.items) }
+        ensures stages { self.new.stages.held.items
+            ≡ without (leaving self.old.stages.held.items) self.old.stages.held.items }
+        ensures callers { self.new.callers.items
+            ≡ without (leaving self.old.stages.held.items) self.old.callers.items }
+    {
         match self.stages.leaving() {
             Some(place) => {
                 let _gone = self.take(place);
@@ -73,21 +83,23 @@ impl<R: Net + Clock> Held<R> {
         }
     }
 
-    /// Lets those go that are gone.
-    pub fn sweep(&mut self) {
-        for _ in 0..self.callers.len() {
-            match self.stages.first_gone() {
-                Some(place) => {
-                    let _gone = self.take(place);
-                }
-                None => return,
-            }
+    /// Lets those go that are gone; the others keep their order.
+    pub fn sweep(&mut self)
+        ensures stages { self.new.stages.held.items ≡ stages_left self.old.stages.held.items }
+        ensures callers { self.new.callers.items
+            ≡ callers_left self.old.callers.items self.old.stages.held.items }
+    {
+        while let Some(place) = self.stages.first_gone() {
+            let _gone = self.take(place);
         }
     }
 
     /// Reads once at each peer whose message isn't whole. Where there is no room for more, only the
     /// oldest one that has begun is read. It tells whether bytes came.
-    pub fn hear_all(&mut self, rt: &R, buffer: &mut Vec<u8>) -> Result<bool, NoMemory> {
+    pub fn hear_all(&mut self, rt: &R, buffer: &mut Vec<u8>) -> Result<bool, NoMemory>
+        ensures stages { length self.new.stages.held.items ≡ length self.old.stages.held.items }
+        ensures callers { length self.new.callers.items ≡ length self.old.callers.items }
+    {
         let mut room = self.room();
         let mut has_begun = false;
         let mut has_moved = false;
@@ -103,27 +115,38 @@ impl<R: Net + Clock> Held<R> {
         Ok(has_moved)
     }
 
-    // Reads once at a peer whose message isn't whole, and tells how many bytes came. One that ended, and
-    // whose time here is over, is gone.
-    fn hear(&mut self, rt: &R, place: usize, buffer: &mut Vec<u8>) -> Result<usize, NoMemory> {
+    // Reads once at a peer whose message isn't whole or is stale, and tells how many bytes came.
+    fn hear(&mut self, rt: &R, place: usize, buffer: &mut Vec<u8>) -> Result<usize, NoMemory>
+        ensures stages { length self.new.stages.held.items ≡ length self.old.stages.held.items }
+        ensures callers { length self.new.callers.items ≡ length self.old.callers.items }
+    {
+        let stage = self.aged(rt, place);
+        self.stages.set(place, stage);
+        if stage.is_open() || stage.is_stale() {
+            return self.hear_at(rt, place, buffer);
+        }
+        Ok(0)
+    }
+
+    // The stage that the peer has by now: a whole message grows stale, and one that ended is gone when its
+    // time here is over.
+    fn aged(&self, rt: &R, place: usize) -> Stage
+        ensures { IsAged (slice_index_or self.now.stages.held.items place Gone) result }
+    {
         let stage = self.stages.at(place);
-        if stage.is_ended() && self.is_late(rt, place) {
-            self.stages.set(place, Stage::Gone);
+        match self.callers.get(place) {
+            Some(caller) if stage.is_whole() && caller.is_stale(rt) => Stage::Stale,
+            Some(caller) if stage.is_ended() && caller.is_late(rt) => Stage::Gone,
+            _ => stage,
         }
-        if !stage.is_open() {
-            return Ok(0);
-        }
-        self.hear_at(rt, place, buffer)
     }
 
     /// Reads once at the peer at this place, and tells how many bytes came. Where there is no memory for
     /// them, the peer is gone.
-    pub fn hear_at(
-        &mut self,
-        rt: &R,
-        place: usize,
-        buffer: &mut Vec<u8>,
-    ) -> Result<usize, NoMemory> {
+    pub fn hear_at(&mut self, rt: &R, place: usize, buffer: &mut Vec<u8>) -> Result<usize, NoMemory>
+        ensures stages { length self.new.stages.held.items ≡ length self.old.stages.held.items }
+        ensures callers { length self.new.callers.items ≡ length self.old.callers.items }
+    {
         let stage = self.stages.at(place);
         let Some(caller) = self.callers.get_mut(place) else {
             return Ok(0);
@@ -140,13 +163,6 @@ impl<R: Net + Clock> Held<R> {
                 self.stages.set(place, Stage::Gone);
                 Err(fault)
             }
-        }
-    }
-
-    fn is_late(&self, rt: &R, place: usize) -> bool {
-        match self.callers.get(place) {
-            Some(caller) => caller.is_late(rt),
-            None => true,
         }
     }
 

@@ -1,6 +1,6 @@
 //! Streams that were answered, until their peers have the answer: a stream that is closed with bytes
 //! not yet read takes what was written on it away from the peer.
-ghost use Rattle.std.specs.Prelude.{◌≡◌, []};
+ghost use Rattle.std.specs.Prelude.{◌≡◌, ◌↔◌, ◌<◌, ◌≤◌, [], drop, length, IsTrue};
 
 use crate::deadline::{Deadline, longest_wait};
 use std::alloc::Global;
@@ -38,7 +38,9 @@ impl<R: Net + Clock> Leaving<R> {
     }
 
     /// Ends the side of an answered stream. One for which there is no memory is closed.
-    pub fn add(&mut self, rt: &R, stream: R::Stream, buffer: &mut Vec<u8>) {
+    pub fn add(&mut self, rt: &R, stream: R::Stream, buffer: &mut Vec<u8>)
+        ensures most { length self.old.streams.items ≤ MOST_LEAVING → length self.new.streams.items ≤ MOST_LEAVING }
+    {
         if stream.shutdown(Shutdown::Write).is_err() || stream.set_nonblocking(true).is_err() {
             return;
         }
@@ -56,7 +58,9 @@ impl<R: Net + Clock> Leaving<R> {
     }
 
     /// One look at each of them.
-    pub fn look(&mut self, rt: &R, buffer: &mut Vec<u8>) {
+    pub fn look(&mut self, rt: &R, buffer: &mut Vec<u8>)
+        ensures fewer { length self.new.streams.items ≤ length self.old.streams.items }
+    {
         for _ in 0..self.streams.len() {
             let Some(mut answered) = self.streams.pop_front() else {
                 return;
@@ -68,7 +72,10 @@ impl<R: Net + Clock> Leaving<R> {
     }
 
     /// Closes the oldest one; false where there is none.
-    pub fn let_one_go(&mut self) -> bool {
+    pub fn let_one_go(&mut self) -> bool
+        ensures tells { IsTrue result ↔ (0 < length self.old.streams.items) }
+        ensures oldest { self.new.streams.items ≡ drop 1 self.old.streams.items }
+    {
         match self.streams.pop_front() {
             Some(_oldest) => true,
             None => false,

@@ -7,7 +7,7 @@ mod deadline;
 mod held;
 mod leaving;
 
-pub use callers::{Caller, WHOLE_MS, new_caller};
+pub use callers::{Caller, STALE_MS, WHOLE_MS, new_caller};
 pub use deadline::{Deadline, WAIT_MS, longest_wait};
 pub use held::{Held, ROOM};
 pub use leaving::{Leaving, MOST_LEAVING};

@@ -1,7 +1,7 @@
 //! The stages of the peers that are held, in the order in which they came.
 ghost use Rattle.std.specs.Prelude.{◌≡◌, ◌<◌, ◌≤◌, ◌∷◌, ◌++◌, [], length, position, slice_get, slice_index_or, slice_set, IfNone, IfSome, OnErr, OnOk};
 ghost use Rattle.chk_peers.specs.declared.stages.Stage.TheVariants.{Gone};
-ghost use Rattle.chk_peers.specs.Stages.{ended_at, gone_at, leaving, next_of, silent_at, whole_at, IsTaken};
+ghost use Rattle.chk_peers.specs.Stages.{ended_at, first_or, gone_at, leaving, next_of, silent_at, stale_at, whole_at, IsTaken};
 
 use crate::stages::Stage;
 use chk_bytes::NoMemory;
@@ -45,6 +45,7 @@ impl StageList {
     pub fn set(&mut self, place: usize, stage: Stage)
         ensures there { place < length self.old.held.items → self.new.held.items ≡ slice_set self.old.held.items place stage }
         ensures none { length self.old.held.items ≤ place → self.new.held.items ≡ self.old.held.items }
+        ensures len { length self.new.held.items ≡ length self.old.held.items }
     {
         if place < self.held.len() {
             self.held[place] = stage;
@@ -63,14 +64,14 @@ impl StageList {
         None
     }
 
-    /// The place of the peer that is served next: the oldest one whose message is whole, and where
-    /// there is none the oldest one that ended.
+    /// The place of the peer that is served next: the oldest one whose message is whole; where there is
+    /// none the oldest one that is stale, and behind those the oldest one that ended.
     pub fn next(&self) -> Option<usize>
         ensures { result ≡ next_of self.now.held.items }
     {
         match self.first_whole() {
             Some(place) => Some(place),
-            None => self.first_ended(),
+            None => self.next_late(),
         }
     }
 
@@ -90,6 +91,22 @@ impl StageList {
         ensures { result ≡ position gone_at self.now.held.items }
     {
         self.held.iter().position(|stage| stage.is_gone())
+    }
+
+    // Where no message is fresh.
+    fn next_late(&self) -> Option<usize>
+        ensures { result ≡ first_or (position stale_at self.now.held.items) (position ended_at self.now.held.items) }
+    {
+        match self.first_stale() {
+            Some(place) => Some(place),
+            None => self.first_ended(),
+        }
+    }
+
+    fn first_stale(&self) -> Option<usize>
+        ensures { result ≡ position stale_at self.now.held.items }
+    {
+        self.held.iter().position(|stage| stage.is_stale())
     }
 
     fn first_whole(&self) -> Option<usize>

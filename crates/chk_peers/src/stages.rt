@@ -1,9 +1,9 @@
 //! How far the message of a peer came.
-ghost use Rattle.std.specs.Prelude.{◌≡◌, ◌↔◌, ◌⊎◌, ℕ, List, [], true, IsTrue};
+ghost use Rattle.std.specs.Prelude.{◌≡◌, ◌⊎◌, ℕ, List, [], IsTrue};
 ghost use Rattle.chk_bytes.specs.Stems.{Stem};
 ghost use Rattle.chk_message.specs.Messages.{PostRequest, PollRequest};
-ghost use Rattle.chk_http.specs.Requests.{HasCutBody, IsNotYet};
-ghost use Rattle.chk_peers.specs.Stages.{ended_at, gone_at, open_at, silent_at, whole_at};
+ghost use Rattle.chk_http.specs.Requests.{HasCutBody};
+ghost use Rattle.chk_peers.specs.Stages.{ended_at, gone_at, open_at, silent_at, stale_at, there_at, whole_at, IsStageOf};
 
 use chk_http::{HttpFault, read_request};
 
@@ -16,6 +16,8 @@ pub enum Stage {
     Begun,
     /// A whole request, or bytes that are no request; the peer is there.
     Whole,
+    /// The same, and its sender waits no longer soon: the last byte came long ago.
+    Stale,
     /// Bytes came, and nothing more comes: the peer ended its side, or sent nothing for too long.
     Ended,
     /// The peer is gone, and there is nothing to serve.
@@ -28,7 +30,7 @@ impl Stage {
     {
         match self {
             Stage::Silent => true,
-            Stage::Begun | Stage::Whole | Stage::Ended | Stage::Gone => false,
+            Stage::Begun | Stage::Whole | Stage::Stale | Stage::Ended | Stage::Gone => false,
         }
     }
 
@@ -37,6 +39,25 @@ impl Stage {
     {
         match self {
             Stage::Whole => true,
+            Stage::Silent | Stage::Begun | Stage::Stale | Stage::Ended | Stage::Gone => false,
+        }
+    }
+
+    pub fn is_stale(self) -> bool
+        ensures { result ≡ stale_at self }
+    {
+        match self {
+            Stage::Stale => true,
+            Stage::Silent | Stage::Begun | Stage::Whole | Stage::Ended | Stage::Gone => false,
+        }
+    }
+
+    /// The message is whole and the peer is there: it can be served.
+    pub fn is_there(self) -> bool
+        ensures { result ≡ there_at self }
+    {
+        match self {
+            Stage::Whole | Stage::Stale => true,
             Stage::Silent | Stage::Begun | Stage::Ended | Stage::Gone => false,
         }
     }
@@ -46,7 +67,7 @@ impl Stage {
     {
         match self {
             Stage::Ended => true,
-            Stage::Silent | Stage::Begun | Stage::Whole | Stage::Gone => false,
+            Stage::Silent | Stage::Begun | Stage::Whole | Stage::Stale | Stage::Gone => false,
         }
     }
 
@@ -56,7 +77,7 @@ impl Stage {
     {
         match self {
             Stage::Silent | Stage::Begun => true,
-            Stage::Whole | Stage::Ended | Stage::Gone => false,
+            Stage::Whole | Stage::Stale | Stage::Ended | Stage::Gone => false,
         }
     }
 
@@ -65,15 +86,14 @@ impl Stage {
     {
         match self {
             Stage::Gone => true,
-            Stage::Silent | Stage::Begun | Stage::Whole | Stage::Ended => false,
+            Stage::Silent | Stage::Begun | Stage::Whole | Stage::Stale | Stage::Ended => false,
         }
     }
 }
 
 /// The stage of a peer that is there, by what it sent so far. It costs one reading of a head.
 pub fn stage_of(bytes: &[u8]) -> Stage
-    ensures silent { (result ≡ Stage.Silent) ↔ (bytes.now ≡ []) }
-    ensures begun { result ≡ Stage.Begun → IsNotYet bytes.now }
+    ensures stage { IsStageOf bytes.now result }
     ensures cut { HasCutBody bytes.now → (bytes.now ≡ []) ⊎ (result ≡ Stage.Begun) }
     ensures post { (body : List ℕ) → PostRequest body bytes.now → (bytes.now ≡ []) ⊎ (result ≡ Stage.Whole) }
     ensures poll { (stems : List Stem) → PollRequest stems bytes.now → (bytes.now ≡ []) ⊎ (result ≡ Stage.Whole) }

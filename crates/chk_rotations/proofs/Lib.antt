@@ -1,2 +1,4 @@
+mod Newest
+mod Paths
 mod Placing
 mod Waiting

@@ -1,3 +1,4 @@
+pub mod Generations
 pub mod Holdings
 pub mod Logs
 pub mod Passed

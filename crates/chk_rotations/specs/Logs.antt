@@ -1,5 +1,7 @@
 -- What a look at a log makes of what is known of it.
-use Rattle.std.specs.Prelude.{◌≡◌, ◌⊎◌, ◌<◌, ℕ, Bool, false, ◌==◌, ◌&&◌, is_none, is_some, if◌then◌else◌, Option, Some, None, List, length, get_or, insert, string_bytes}
+use Rattle.std.specs.Prelude.{◌≡◌, ◌⊎◌, ◌<◌, ℕ, Bool, true, false, ◌==◌, ◌&&◌, is_none, is_some, if◌then◌else◌, Option, Some, None, List, length, get_or, insert, string_bytes}
+use Rattle.std.specs.List.{AllWithin}
+use Rattle.chk_bytes.specs.Words.{text_lt}
 use Rattle.chk_rotations.specs.declared.holding.FileId.{FileId}
 use Rattle.chk_rotations.specs.declared.holding.Generation.{Generation}
 use Rattle.chk_rotations.specs.declared.holding.Holding.{Holding}
@@ -75,6 +77,22 @@ IsNew l path =
 abbrev pub IsAt : List Log → ℕ → List ℕ → Type 0
 IsAt logs place path =
     (place < length logs) × ((d : Log) → string_bytes (get_or logs place d).path ≡ path)
+
+-- each path comes before all later ones, so that none stands twice
+abbrev pub AreRising : List Log → Type 0
+AreRising logs =
+    (i j : ℕ) (d : Log) → i < j → j < length logs
+    → text_lt (string_bytes (get_or logs i d).path) (string_bytes (get_or logs j d).path) ≡ true
+
+-- the paths up to this place come before this one, and no other does
+pub record IsPathEnd (logs : List Log) (path : List ℕ) (place : ℕ) : Type 0 where
+  pub lower : AllWithin (λ log. text_lt (string_bytes log.path) path ≡ true) logs 0 place
+  pub others : AllWithin (λ log. text_lt (string_bytes log.path) path ≡ false) logs place (length logs)
+
+-- a log that is known stays where it is, and nothing comes
+abbrev pub StaysKnown : List Log → List Log → List ℕ → Option ℕ → Type 0
+StaysKnown old new path found =
+    AreRising old → (i : ℕ) → IsAt old i path → (new ≡ old) × (found ≡ Some i)
 
 -- the log with this path stands at this place; at most one came to the others, and it is new
 pub record IsPlaced (old new : List Log) (path : List ℕ) (place : ℕ) : Type 0 where

@@ -5,12 +5,14 @@
 //! it has not grown for three seconds, or for sixty seconds at most.
 #![tactic(auto)]
 
+mod generations;
 mod holding;
 mod laws;
 mod log;
 mod logs;
 mod passed;
 
+pub use generations::{first_of, newest_of};
 pub use holding::{FileId, Generation, Holding, LONGEST, QUIET};
 pub use laws::law_waits;
 pub use log::{Change, Log};

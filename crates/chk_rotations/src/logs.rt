@@ -1,7 +1,8 @@
 //! The logs that were looked at.
 ghost use Rattle.std.specs.Prelude.{◌≡◌, ◌≤◌, ◌<◌, [], length, IfOk, IfSome, IfNone, IsTrue, OnErr, ◌↔◌};
-ghost use Rattle.chk_rotations.specs.Logs.{IsAt, IsPlaced};
+ghost use Rattle.chk_rotations.specs.Logs.{AreRising, IsAt, IsPathEnd, IsPlaced, StaysKnown};
 
+use crate::generations::comes_before;
 use crate::log::Log;
 use chk_bytes::NoMemory;
 use std::alloc::Global;
@@ -32,6 +33,8 @@ impl Logs {
         ensures full { IfOk result (λ found. IfNone found ((self.new.seen.items ≡ self.old.seen.items)
             × (65536 ≤ length self.old.seen.items))) }
         ensures err { OnErr result (self.new.seen.items ≡ self.old.seen.items) }
+        ensures rising { AreRising self.old.seen.items → AreRising self.new.seen.items }
+        ensures once { IfOk result (StaysKnown self.old.seen.items self.new.seen.items path.now) }
     {
         let place = count_below(&self.seen, path);
         if has_path(&self.seen, place, path) {
@@ -48,9 +51,10 @@ impl Logs {
 
 // How many of the paths come before this one.
 fn count_below(logs: &[Log], path: &str) -> usize
-    ensures { result ≤ length logs.now }
+    ensures within { result ≤ length logs.now }
+    ensures place { AreRising logs.now → IsPathEnd logs.now path.now result }
 {
-    logs.partition_point(|log| log.path.as_str() < path)
+    logs.partition_point(|log| comes_before(log.path.as_str(), path))
 }
 
 // The log at the place has the path.

@@ -8,7 +8,7 @@ use std::rt::Files;
 use std::{fs, io};
 
 /// The folders that are made at the start.
-const FOLDERS: [&str; 5] = ["sinks", "agents", "archive", "demux", "joined"];
+const FOLDERS: [&str; 6] = ["sinks", "agents", "archive", "demux", "joined", "wahead"];
 
 /// The system's error for a folder in place of a file.
 const IS_A_DIRECTORY: i32 = 21;

@@ -1,3 +1,3 @@
 pub mod Addresses
-pub mod Mailbox
 pub mod Faults
+pub mod Mailbox

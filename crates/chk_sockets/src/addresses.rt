@@ -2,10 +2,9 @@
 ghost use Rattle.std.specs.Prelude.{◌≡◌, [], None, position, IfNone, IfSome};
 ghost use Rattle.chk_site.specs.Site.{MayFail};
 ghost use Rattle.chk_sockets.specs.Addresses.{is_of, IsKept, IsTaken};
-ghost use Rattle.chk_sockets.specs.Faults.{answer_of};
+ghost use Rattle.chk_faults.specs.Faults.{answer_of};
 
-use crate::faults::SystemFault;
-use crate::memory::push;
+use chk_faults::{SystemFault, push};
 use std::alloc::Global;
 use std::net::{Net, SocketAddr, ToSocketAddrs};
 

@@ -1,10 +1,10 @@
 //! Datagrams, each of them a whole message.
 ghost use Rattle.chk_site.specs.Site.{MayFail};
-ghost use Rattle.chk_sockets.specs.Faults.{answer_of};
+ghost use Rattle.chk_faults.specs.Faults.{answer_of};
 
-use crate::faults::SystemFault;
 use chk_bytes::Bytes;
 use chk_callers::Deadline;
+use chk_faults::SystemFault;
 use std::alloc::Global;
 use std::io::ErrorKind;
 use std::net::UdpSocket;

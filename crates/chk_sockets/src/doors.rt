@@ -2,14 +2,13 @@
 //! takings.
 ghost use Rattle.std.specs.Prelude.{◌≡◌, []};
 ghost use Rattle.chk_site.specs.Site.{MayFail};
-ghost use Rattle.chk_sockets.specs.Faults.{answer_of};
+ghost use Rattle.chk_faults.specs.Faults.{answer_of};
 
 use crate::addresses::look_up;
 use crate::datagrams::next_datagram;
-use crate::faults::{SystemFault, taking_ended};
-use crate::memory::{make_place, make_room, text};
-use crate::stream_door::StreamDoor;
+use crate::stream_door::{StreamDoor, taking_ended};
 use chk_bytes::Bytes;
+use chk_faults::{SystemFault, make_place, make_room, text};
 use std::alloc::Global;
 use std::io;
 use std::io::ErrorKind;

@@ -4,15 +4,12 @@
 mod addresses;
 mod datagrams;
 mod doors;
-mod faults;
 mod mailbox;
-mod memory;
 mod messages;
 mod sends;
 mod stream_door;
 mod streams;
 mod watching;
 
-pub use faults::SystemFault;
-pub use memory::{make_place, make_room, text};
+pub use chk_faults::{SystemFault, make_place, make_room, text};
 pub use messages::Messages;

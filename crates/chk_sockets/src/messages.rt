@@ -1,13 +1,13 @@
 //! Messages, with the numbers of what was sent and taken.
 ghost use Rattle.std.specs.Prelude.{◌≡◌, ◌+◌, [], None, IfOk, IfSome};
 ghost use Rattle.chk_site.specs.Site.{MayFail};
-ghost use Rattle.chk_sockets.specs.Faults.{answer_of};
+ghost use Rattle.chk_faults.specs.Faults.{answer_of};
 
 use crate::doors::Doors;
-use crate::faults::SystemFault;
 use crate::mailbox::{Mailbox, SELF};
 use crate::sends::Sends;
 use chk_bytes::Bytes;
+use chk_faults::SystemFault;
 use chk_site::Taking;
 use std::alloc::Global;
 use std::io::ErrorKind;

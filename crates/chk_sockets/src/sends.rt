@@ -1,14 +1,13 @@
 //! Messages that were sent, each on a stream of its own, on which its answer comes.
 ghost use Rattle.std.specs.Prelude.{◌≡◌, []};
 ghost use Rattle.chk_site.specs.Site.{MayFail};
-ghost use Rattle.chk_sockets.specs.Faults.{answer_of};
+ghost use Rattle.chk_faults.specs.Faults.{answer_of};
 
 use crate::addresses::{Routes, look_up};
-use crate::faults::SystemFault;
-use crate::memory::{make_place, make_room, text};
 use crate::streams::{connected, put_message, reply_on, share_of_wait};
 use chk_bytes::Bytes;
 use chk_callers::longest_wait;
+use chk_faults::{SystemFault, make_place, make_room, text};
 use chk_peers::tells_its_end;
 use std::alloc::Global;
 use std::io;

@@ -1,14 +1,14 @@
 //! A door at a TCP address: a socket that listens, and the streams of its peers.
 ghost use Rattle.std.specs.Prelude.{◌≡◌, ◌≤◌, ◌↔◌, [], None, length, IfErr, IfNone, IfOk, IfSome, IsSomeAnd, IsTrue};
+ghost use Rattle.chk_faults.specs.Faults.{answer_of, call_fault};
 ghost use Rattle.chk_site.specs.Site.{MayFail};
-ghost use Rattle.chk_sockets.specs.Faults.{answer_of};
+ghost use Rattle.chk_site.specs.declared.acts.CallFault.TheVariants.{Failed};
 
-use crate::faults::{SystemFault, taking_ended};
-use crate::memory::front_of;
 use crate::streams::{bound_waits, piece_before, write_before};
 use crate::watching::Watch;
 use chk_bytes::Bytes;
 use chk_callers::{Caller, Deadline, Held, Leaving, longest_wait, new_caller};
+use chk_faults::{SystemFault, front_of};
 use chk_peers::Stage;
 use std::alloc::Global;
 use std::io;
@@ -313,7 +313,7 @@ impl<R: Net + Clock> StreamDoor<R> {
         let has_ended = self.held.stages.at(place).is_ended();
         if !has_ended {
             self.held.hear_at(rt, place, buffer)?;
-            if !self.held.stages.at(place).is_whole() {
+            if !self.held.stages.at(place).is_there() {
                 return Ok(None);
             }
         }
@@ -360,4 +360,11 @@ fn went_away(kind: ErrorKind) -> bool {
             | ErrorKind::NetworkUnreachable
             | ErrorKind::HostUnreachable
     )
+}
+
+/// The message can't be answered any more.
+pub fn taking_ended() -> SystemFault
+    ensures { call_fault result ≡ Failed }
+{
+    SystemFault::failed(ErrorKind::NotConnected, "the taking has ended")
 }

@@ -2,11 +2,11 @@
 ghost use Rattle.std.specs.Prelude.{◌≡◌, ◌*◌, ◌/◌, ◌<◌, ◌≤◌, length, max, IfOk, IfSome};
 ghost use Rattle.std.specs.Duration.{as_nanos};
 ghost use Rattle.chk_site.specs.Site.{MayFail};
-ghost use Rattle.chk_sockets.specs.Faults.{answer_of};
+ghost use Rattle.chk_faults.specs.Faults.{answer_of};
 
-use crate::faults::SystemFault;
 use chk_bytes::Bytes;
 use chk_callers::{Deadline, WAIT_MS, longest_wait};
+use chk_faults::SystemFault;
 use std::alloc::Global;
 use std::io;
 use std::io::{ErrorKind, Read, Write};

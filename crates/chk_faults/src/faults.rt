@@ -1,6 +1,6 @@
 //! Why a call failed, with the system's error.
 ghost use Rattle.std.specs.Prelude.{◌≡◌};
-ghost use Rattle.chk_sockets.specs.Faults.{call_fault};
+ghost use Rattle.chk_faults.specs.Faults.{call_fault};
 
 use chk_bytes::NoMemory;
 use chk_site::CallFault;
@@ -46,7 +46,7 @@ impl SystemFault {
 
 impl From<io::Error> for SystemFault {
     ghost use Rattle.std.specs.Prelude.{◌≡◌};
-    ghost use Rattle.chk_sockets.specs.declared.faults.SystemFault.TheVariants.{Failed};
+    ghost use Rattle.chk_faults.specs.declared.faults.SystemFault.TheVariants.{Failed};
 
     ghost from_gives = { λ error e. e ≡ Failed error };
 
@@ -57,18 +57,11 @@ impl From<io::Error> for SystemFault {
 
 impl From<NoMemory> for SystemFault {
     ghost use Rattle.std.specs.Prelude.{◌≡◌};
-    ghost use Rattle.chk_sockets.specs.declared.faults.SystemFault.TheVariants.{NoMemory};
+    ghost use Rattle.chk_faults.specs.declared.faults.SystemFault.TheVariants.{NoMemory};
 
     ghost from_gives = { λ _ e. e ≡ NoMemory };
 
     fn from(_: NoMemory) -> Self {
         SystemFault::NoMemory
     }
-}
-
-/// The message can't be answered any more.
-pub fn taking_ended() -> SystemFault
-    ensures { call_fault result ≡ CallFault.Failed }
-{
-    SystemFault::failed(io::ErrorKind::NotConnected, "the taking has ended")
 }
