@@ -1,0 +1,58 @@
+//! Why a look wasn't finished.
+
+ghost use Rattle.std.specs.Prelude.{IsTrue};
+ghost use Rattle.chk_bytes.specs.Words.{is_word};
+ghost use Rattle.chk_look.specs.Faults.{IsDamage};
+
+use chk_bytes::{NoMemory, Word};
+use chk_site::{Call, OutsideFault};
+use std::alloc::Global;
+
+/// Why a look wasn't finished.
+#[derive(Debug, Drop)]
+pub enum LookFault {
+    /// This call on the outside failed.
+    Outside { call: Call },
+    /// The file `name` isn't what it has to be, from its byte `at` on.
+    Damaged { name: Word, at: u64 },
+    /// A segment that the book named isn't there any more: a job has put another one in its place.
+    Gone,
+    /// There was no memory.
+    NoMemory,
+}
+
+impl From<NoMemory> for LookFault {
+    ghost use Rattle.std.specs.Prelude.{◌≡◌};
+    ghost use Rattle.chk_look.specs.declared.fault.LookFault.TheVariants.{NoMemory};
+
+    ghost from_gives = { λ _ e. e ≡ NoMemory };
+
+    fn from(_: NoMemory) -> Self {
+        LookFault::NoMemory
+    }
+}
+
+impl From<OutsideFault> for LookFault {
+    ghost use Rattle.std.specs.Prelude.{◌≡◌};
+    ghost use Rattle.chk_look.specs.Faults.{look_fault};
+
+    ghost from_gives = { λ fault e. e ≡ look_fault fault };
+
+    fn from(fault: OutsideFault) -> Self {
+        match fault {
+            OutsideFault::Outside { call } => LookFault::Outside { call },
+            OutsideFault::NoMemory => LookFault::NoMemory,
+        }
+    }
+}
+
+/// The fault of the file `name` that is damaged at `at`, or want of memory for its name.
+pub(crate) fn damaged(alloc: Global, name: &str, at: u64) -> LookFault
+    requires { IsTrue (is_word name.now) }
+    ensures { IsDamage name.now at result }
+{
+    match Word::from_text(alloc, name) {
+        Ok(name) => LookFault::Damaged { name, at },
+        Err(_) => LookFault::NoMemory,
+    }
+}
