@@ -2,7 +2,7 @@
 """Times logs through `drain` or `agent` and a `collector` over 127.0.0.1 into committed sinks, beside copies.
 
 usage: tools/figures.py [--mb N] [--logs N]... [--only drain|agent] [--messages N] [--tenfold] [--loop] [--rounds N]
-                        [--program FILE]
+                        [--pause MS]... [--program FILE]
 
 N megabytes (200) of lines of 100 to 300 bytes stand in logs in a new folder below the current one, which
 needs four times the bytes. A `drain` of 1 log, and an `agent` with `--poll 200` over 64 logs, or each of
@@ -14,8 +14,9 @@ that commit each post before the next one is taken, to tell what these cost.
 
 A row has MB/s, seconds, processor seconds and the peak of the resident memory. Goals are told, and don't
 change the status: a drain has half of sendfile's MB/s, and each process holds less than 48 MB. An agent
-pauses 200 ms in each turn, in which it takes at most 131,072 bytes of a log and posts at most 4,194,304:
-its row tells how much of that ceiling it has, and its logs have no more bytes than 15 seconds of it.
+pauses 200 ms behind each turn, in which it takes at most 131,072 bytes of a log and posts at most 4,194,304:
+its row tells how much of that ceiling it has, and its logs have no more bytes than 15 seconds of it. `--pause MS`
+is given to the agent, which then waits so long behind a turn in which a log gave 131,072 bytes; there is a row for each.
 `--tenfold` drains logs that are ten times as long too, to show that the memory is the same. `--messages N`
 is given to the collector, so that one commit stands for up to N posts; where N isn't 1 the rows say so. With `--loop`,
 which wants a C compiler `cc`, `tools/post_loop.c` makes the calls on files and sockets of a drain of one log and its
@@ -35,14 +36,14 @@ from running import HERE, Used, add_program, free_ports, listening, load, parser
 PIECE = 131_072
 # A chunk in a post has this and its data, where the path is `logs/00.log`.
 CHUNK = 8 + 15 + len("h1" "Log" "logs/00.log")
-PAUSE = 0.2
+PAUSE = 200
 AGENT_SECONDS = 15
 SHARE_GOAL = 50
 
 
-def ceiling(count):
-    """How many bytes an agent may post in a second."""
-    return min(count, (copies.POST - 4) // (PIECE + CHUNK)) * PIECE / PAUSE
+def ceiling(count, pause):
+    """How many bytes an agent may post in a second, which waits so many milliseconds behind a full piece."""
+    return min(count, (copies.POST - 4) // (PIECE + CHUNK)) * PIECE * 1000 / pause if pause else float("inf")
 
 
 class Delivery:
@@ -51,6 +52,7 @@ class Delivery:
     def __init__(self, asked, folder, paths):
         self.program, self.seconds, self.folder, self.paths = asked.program, asked.seconds, folder, paths
         self.options = [] if asked.messages == 1 else ["--messages", str(asked.messages)]
+        self.pause = []
         self.size = sum(os.path.getsize(f"{folder}/{path}") for path in paths)
         self.door = f"127.0.0.1:{free_ports(1)[0]}"
         self.collector = self.sender = None
@@ -85,7 +87,7 @@ class Delivery:
             sys.exit(f"drain: status {self.sender.status} {printed}")
 
     def agent(self):
-        words = [self.program, "agent", "--initial", "add", "--poll", "200", "h1", self.door]
+        words = [self.program, "agent", "--initial", "add", "--poll", "200", *self.pause, "h1", self.door]
         self.sender = Used(words, self.folder)
         while self.committed() < self.size:
             self.goes_on(self.sender.look() or self.collector.look())
@@ -109,9 +111,10 @@ class Delivery:
             sys.exit(f"an archive isn't its log: {why}")
 
 
-def delivered(asked, folder, paths, sender):
+def delivered(asked, folder, paths, sender, pause=PAUSE):
     """What a delivery took, the sender first."""
     delivery = Delivery(asked, folder, paths)
+    delivery.pause = [] if pause == PAUSE else ["--pause", str(pause)]
     try:
         delivery.open()
         sender(delivery)
@@ -170,18 +173,20 @@ def drained(asked, size, count):
     print(copies.share(f"{what}: drain and sendfile", drain, sent, SHARE_GOAL, collector), flush=True)
 
 
-def followed(asked, size, count):
-    size = min(size, int(AGENT_SECONDS * ceiling(count)))
+def followed(asked, size, count, pause):
+    size = min(size, int(min(size, AGENT_SECONDS * ceiling(count, pause))))
     what = sized(size, count)
     with tempfile.TemporaryDirectory(dir=".", prefix="figures-") as folder:
         paths = copies.write_logs(folder, size, count)
         sent = copied(what, size, folder)
-        agent, collector = delivered(asked, folder, paths, Delivery.agent)
-    what += served(asked)
+        agent, collector = delivered(asked, folder, paths, Delivery.agent, pause)
+    what += served(asked) + ("" if pause == PAUSE else f", --pause {pause}")
     print(row(f"{what}: agent", size, agent))
     print(row(f"{what}: its collector", size, collector))
-    part = 100 * size / agent.seconds / ceiling(count)
-    print(f"{what}: agent: {part:.0f} % of the ceiling of {ceiling(count) / 1e6:.1f} MB/s")
+    if pause:
+        most = ceiling(count, pause)
+        part = 100 * size / agent.seconds / most
+        print(f"{what}: agent: {part:.0f} % of the ceiling of {most / 1e6:.1f} MB/s")
     print(copies.share(f"{what}: agent and sendfile", agent, sent, None, collector), flush=True)
 
 
@@ -191,7 +196,8 @@ def all_rows(asked):
         if asked.tenfold:
             drained(asked, asked.mb * 10_000_000, count)
     for count in (asked.logs or [64]) if asked.only != "drain" else []:
-        followed(asked, asked.mb * 1_000_000, count)
+        for pause in asked.pause or [PAUSE]:
+            followed(asked, asked.mb * 1_000_000, count, pause)
 
 
 def main():
@@ -200,6 +206,7 @@ def main():
     parser.add_argument("--logs", type=int, action="append", help="numbers of logs (drain 1, agent 64)")
     parser.add_argument("--only", choices=["drain", "agent"], help="one of both alone")
     parser.add_argument("--messages", type=int, default=1, help="messages between two commits, up to 64 (1)")
+    parser.add_argument("--pause", type=int, action="append", help="an agent's pauses behind full pieces, in ms (200)")
     parser.add_argument("--tenfold", action="store_true", help="a drain of ten times the bytes too")
     parser.add_argument("--loop", action="store_true", help="the same calls by a C loop beside a drain of one log")
     parser.add_argument("--rounds", type=int, default=1, help="runs of each row (1)")

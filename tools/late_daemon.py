@@ -6,16 +6,17 @@ usage: tools/late_daemon.py [--program FILE] [--delays 0,0.3,1,2] [--rotations N
 The daemon writes a line each few milliseconds. Each six seconds its log is renamed and a new file is made, as
 logrotate does, and the daemon goes on writing into the renamed file until it opens the new one, so many
 seconds later. For each delay the script prints how many lines of the log the archive hasn't, and ends with 1
-where it isn't the log, byte for byte. With `--commit` each commit of the collector takes so much longer,
-by `strace`.
+where it isn't the log, byte for byte, or a record is in the sinks more than twice. With `--commit` each commit
+of the collector takes so much longer, by `strace`.
 """
+import collections
 import os
 import sys
 import tempfile
 import threading
 import time
 
-from archive_reader import Archive
+from archive_reader import Archive, chunks
 from running import Process, add_program, free_ports, listening, parser_of, program_of, ran
 
 BETWEEN = 6.0
@@ -59,8 +60,15 @@ def slowed(words, commit):
     return ["strace", "-f", "-o", "/dev/null", "-e", "trace=fsync", "-e", inject, *words]
 
 
+def most_copies(sinks):
+    """How often the record that is there most often is in the closed sinks, and how many are copies."""
+    names = [name for name in sorted(os.listdir(sinks)) if name.endswith(".done")]
+    found = collections.Counter((c.stream, c.first) for name in names for c in chunks(f"{sinks}/{name}"))
+    return max(found.values(), default=0), sum(found.values()) - len(found)
+
+
 def missing(program, folder, delay, rotations, commit):
-    """The bytes of the log, and how many of them aren't archived behind its end."""
+    """The bytes of the log, how many of its lines aren't archived behind its end, and the copies in the sinks."""
     path, (port,) = f"{folder}/a.log", free_ports(1)
     daemon = Daemon(path, delay)
     daemon.start()
@@ -85,10 +93,13 @@ def missing(program, folder, delay, rotations, commit):
         ran([program, "drain", "h1", f"127.0.0.1:{port}"], folder)
         collector.kill()
         ran([program, "collector", "--turns", "1", "c1", f"127.0.0.1:{port}"], folder)
+        most, copies = most_copies(f"{folder}/sinks")
         ran([program, "archive"], folder)
-        archive = Archive(folder)
-        kept = archive.bytes_of(("h1", "Log", path))
-        return len(daemon.wrote), len(set(daemon.wrote.split(b"\n")) - set(kept.split(b"\n"))), kept == daemon.wrote, told
+        kept = Archive(folder).bytes_of(("h1", "Log", path))
+        lost = len(set(daemon.wrote.split(b"\n")) - set(kept.split(b"\n")))
+        print(f"{delay} s late: {lost} lines lost, {len(daemon.wrote)} bytes written, archive whole: "
+              f"{kept == daemon.wrote}; {copies} records again in the sinks, one of them {most} times", flush=True)
+        return kept == daemon.wrote and most <= 2, told
     finally:
         for each in (agent, collector):
             each.close()
@@ -104,9 +115,8 @@ def main():
     program, whole = program_of(asked), True
     for delay in map(float, asked.delays.split(",")):
         with tempfile.TemporaryDirectory() as folder:
-            size, lost, same, told = missing(program, folder, delay, asked.rotations, asked.commit)
-        whole &= same
-        print(f"{delay} s late: {lost} lines lost, {size} bytes written, archive whole: {same}", flush=True)
+            good, told = missing(program, folder, delay, asked.rotations, asked.commit)
+        whole &= good
         for line in told:
             print(f"  {line}")
     return 0 if whole else 1

@@ -21,6 +21,7 @@ COMMANDS = {
     "demux": "split the archive into records",
     "salvage": "tell what can be read of a SequenceFile",
     "load": "make logs for trials and archive them",
+    "udp": "take datagrams into synced buffers",
 }
 
 

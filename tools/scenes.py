@@ -43,7 +43,7 @@ def sequence_file(name, chunks):
 
 
 def folders(folder):
-    for name in ("sinks", "agents", "archive", "demux", "joined", "locks"):
+    for name in ("sinks", "agents", "archive", "demux", "joined", "wahead", "locks"):
         os.makedirs(f"{folder}/{name}", exist_ok=True)
 
 

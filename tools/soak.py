@@ -1,7 +1,7 @@
 #!/usr/bin/env python3
 """Kills agents, collectors and jobs at random while logs grow, and compares each log with its archive.
 
-usage: tools/soak.py [--seconds N] [--seed N] [--kb N] [--program FILE]
+usage: tools/soak.py [--seconds N] [--seed N] [--kb N] [--late N] [--commit MS] [--program FILE]
 
 Two agents, two collectors and the jobs `archive` and `demux` run as programs on 127.0.0.1, in a new folder
 below the current one. The collector c1 commits each message by itself, c2 up to eight at a time. Logs of each
@@ -15,6 +15,9 @@ an agent whose collector takes two seconds for a post sends it again. A line eac
 the kills of each process, the rotations and the deleted generations, the runs of jobs and the comparisons. It
 ends with 1 where a byte is lost, doubled or in a wrong place, where a process ended by itself, or where not all
 was committed in time. The seed of what is done at random is told; the same seed doesn't give the same moments.
+With `--late` a log's daemon goes on writing into the renamed file for so many seconds; no agent is killed then,
+since one that begins behind a rotation sees it at once. With `--commit` each commit takes so many milliseconds
+longer, by `strace`.
 """
 import os
 import random
@@ -24,6 +27,7 @@ import tempfile
 import time
 
 from archive_reader import Comparison, Damaged, checkpoint
+from late_daemon import slowed
 from running import Process, add_program, asked_at, free_ports, load, parser_of, program_of, ran
 
 CLASSES = ["FileTailingAdaptor", "CharFileTailingAdaptorUTF8", "LWFTAdaptor"]
@@ -32,6 +36,8 @@ FINISH = 150
 TELLING = 60
 # Kilobytes that all logs grow in a second, at the sizes below.
 GROWTH = 400
+# So many seconds an agent runs before a log of it is rotated whose daemon follows late: it has seen the log then.
+SEEN = 4.0
 # How often a second each happens, to each of those that it can happen to.
 KILLS = 0.4
 ROTATIONS = 0.3
@@ -43,7 +49,8 @@ LARGE = 0.05
 class Log:
     """A log that grows, and a copy of all of it."""
 
-    def __init__(self, folder, source, kind):
+    def __init__(self, folder, source, kind, late):
+        self.late, self.follows, self.passed = late, 0, None
         self.path = f"logs/{source}.{kind}.log"
         self.stream = (source, "Log", self.path)
         self.is_rotated = kind != "LWFTAdaptor"
@@ -59,16 +66,23 @@ class Log:
             made.append(f"{self.lines} {self.stream[0]} {filler}\n".encode())
             size -= len(made[-1])
             self.lines += 1
-        for name in (self.copy, self.base):
+        for name in (self.copy, self.passed if self.is_late() else self.base):
             with open(name, "ab") as file:
                 file.write(b"".join(made))
 
+    def is_late(self):
+        """Its daemon writes into the renamed file."""
+        return time.monotonic() < self.follows
+
     def rotate(self):
-        if not os.path.exists(self.base):
+        if not os.path.exists(self.base) or self.is_late():
             return
         self.rotations += 1
         suffix = f".{20_000_101 + self.rotations // 1000:08}-{self.rotations % 1000:03}"
         os.rename(self.base, self.base + suffix)
+        if self.late:
+            open(self.base, "ab").close()
+            self.passed, self.follows = self.base + suffix, time.monotonic() + self.late
 
     def generations(self):
         """The suffixes of the generations that are there, in order."""
@@ -93,12 +107,16 @@ class Server:
 
     def __init__(self, soak, name, words):
         self.soak, self.name, self.words = soak, name, words
-        self.kills, self.again = 0, 0
+        self.kills, self.again, self.since = 0, 0, 0
         self.process = None
         self.start()
 
     def start(self):
-        self.process = Process(self.name, self.words, self.soak.folder)
+        self.process, self.since = Process(self.name, self.words, self.soak.folder), time.monotonic()
+
+    def has_seen(self):
+        """It has run for so long that it knows its logs."""
+        return self.process is not None and time.monotonic() - self.since > SEEN
 
     def kill(self):
         self.process.kill()
@@ -112,7 +130,7 @@ class Server:
         if self.process is None:
             if now >= self.again:
                 self.start()
-        elif chance.random() < KILLS * step:
+        elif chance.random() < KILLS * step and not self.soak.is_late(self.name):
             self.kill()
             self.again = now + chance.uniform(0, 0.6)
 
@@ -163,12 +181,13 @@ class Lines(Comparison):
 
 
 class Soak:
-    def __init__(self, program, folder, chance, growth):
-        self.program, self.folder, self.chance, self.growth = program, folder, chance, growth / GROWTH
+    def __init__(self, asked, program, folder, chance):
+        self.program, self.folder, self.chance, self.growth = program, folder, chance, asked.kb / GROWTH
+        self.commit = asked.commit
         self.faults, self.checks, self.servers = [], 0, []
         for name in ("logs", "copies"):
             os.mkdir(f"{folder}/{name}")
-        self.logs = [Log(folder, source, kind) for source in ("h1", "h2") for kind in CLASSES]
+        self.logs = [Log(folder, source, kind, asked.late) for source in ("h1", "h2") for kind in CLASSES]
         self.ends = {"archive": {}, "demux": {}}
         ports = free_ports(4)
         self.doors = {"h1": ports[0], "h2": ports[1]}
@@ -184,7 +203,7 @@ class Soak:
         for number, address in enumerate(self.addresses, 1):
             messages = ["--messages", "8"] if number == 2 else []
             words = [self.program, "collector", "--rotate", "900", *messages, f"c{number}", address]
-            self.servers.append(Server(self, f"c{number}", words))
+            self.servers.append(Server(self, f"c{number}", slowed(words, self.commit)))
         for source in ("h1", "h2"):
             with open(f"{self.folder}/{source}.add", "w", encoding="ascii") as file:
                 file.write("".join(log.line for log in self.logs if log.source == source))
@@ -199,8 +218,19 @@ class Soak:
                 log.grow(self.chance, self.chance.randrange(1, 40_000) * self.growth)
             if self.chance.random() < LARGE * step:
                 log.grow(self.chance, self.chance.randrange(1, 1_000_000) * self.growth)
-            if log.is_rotated and self.chance.random() < ROTATIONS * step:
+            if log.is_rotated and self.chance.random() < ROTATIONS * step and self.may_rotate(log):
                 log.rotate()
+
+    def is_late(self, name):
+        """A daemon of that agent's logs writes into a renamed file."""
+        return any(log.source == name and log.is_late() for log in self.logs)
+
+    def may_rotate(self, log):
+        """Where daemons follow late, the agent has to know the log before."""
+        if not log.late:
+            return True
+        is_calm = time.monotonic() > log.follows + SEEN
+        return is_calm and all(server.has_seen() for server in self.servers if server.name == log.source)
 
     def check(self):
         """Each archive is a prefix of its log and no shorter than before, and so are the records of its lines."""
@@ -312,6 +342,8 @@ def main():
     parser.add_argument("--seconds", type=float, default=60, help="how long processes are killed (60)")
     parser.add_argument("--seed", type=int, default=1, help="of what is done at random (1)")
     parser.add_argument("--kb", type=float, default=GROWTH, help="kilobytes that the logs grow in a second (400)")
+    parser.add_argument("--late", type=float, default=0, help="how late daemons follow a rotation, in seconds (0)")
+    parser.add_argument("--commit", type=int, default=0, help="so many milliseconds longer a commit takes (0)")
     add_program(parser)
     asked_for = parser.parse_args()
     program = program_of(asked_for)
@@ -319,7 +351,7 @@ def main():
     began = time.monotonic()
     print(load(), f"seed {asked_for.seed}", flush=True)
     with tempfile.TemporaryDirectory(dir=".", prefix="soak-") as folder:
-        soak = Soak(program, os.path.abspath(folder), random.Random(asked_for.seed), asked_for.kb)
+        soak = Soak(asked_for, program, os.path.abspath(folder), random.Random(asked_for.seed))
         try:
             soak.start()
             soak.run(asked_for.seconds)

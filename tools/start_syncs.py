@@ -16,7 +16,7 @@ import tempfile
 
 from running import add_program, parser_of, program_of, ran
 
-STARTS = 5
+STARTS = 6
 
 
 def traced(program, folder, inject, *words):
