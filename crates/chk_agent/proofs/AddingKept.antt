@@ -10,7 +10,9 @@ use Rattle.chk_site.specs.declared.acts.Role.TheVariants.{Agent}
 use Rattle.chk_site.specs.declared.acts.Who.{Who}
 use Rattle.chk_site.specs.declared.acts.OutsideFault.{OutsideFault}
 use Rattle.chk_site.specs.declared.acts.OutsideFault.TheVariants.{Outside as site_failed, NoMemory as no_memory}
-use Rattle.chk_site.specs.History.{History}
+use Rattle.chk_site.specs.History.{Every, History}
+use Rattle.chk_replace.specs.Replace.{SparesOld}
+use Rattle.chk_world.specs.Names.{CheckFile, spell}
 use Rattle.chk_site.specs.Site.{Adds, asked, answered, suffix_given, Calls}
 use Rattle.chk_site.specs.Runs.{Leads}
 use Rattle.chk_site.proofs.Leads.{leads_none}
@@ -33,8 +35,7 @@ use Rattle.chk_agent.specs.Takes.{Asks, IsMore, IsNewLine, MatchesNewest, Keeps,
 use Rattle.chk_agent.proofs.StartingSound.{line_again}
 use Rattle.chk_agent.proofs.Soundness.{lines_good, sound_unsure}
 use Rattle.chk_agent.proofs.AddingNew.{new_lines, none_owned, places, new_sound}
-use Rattle.chk_agent.proofs.AddingLines.{keeps_failed}
-use Rattle.chk_agent.proofs.AddingTold.{new_written, new_unsure}
+use Rattle.chk_agent.proofs.AddingTold.{new_written, new_unmade, new_unsure}
 
 -- ---- the suffix
 
@@ -149,18 +150,37 @@ module _ (s : State) (l : Line) (lines : List Line) (k : IsNewKept s l lines) wh
     pub sound_room : IsSound (record s { adaptors = xs; ready = false })
     sound_room = subst IsSound (sym unsure_is) (sound_unsure s k.sound)
 
-    pub failed_room : (fault : OutsideFault) {old new : Option History} → Writes s lines (Err fault) old new
-        → Keeps s T (Err (fault_of fault)) (record s { adaptors = xs; ready = false }) old new
-    failed_room fault {old = old} {new = new} script =
-        subst (λ u. Keeps s T (Err (fault_of fault)) u old new) (sym unsure_is) (keeps_failed s T fault (written_is script))
+    pub failed_room : (call : Call) {old new : Option History} → Writes s lines (Err (site_failed call)) old new
+        → Keeps s T (Err (Outside call)) (record s { adaptors = xs; ready = false }) old new
+    failed_room call {old = old} {new = new} script =
+        subst (λ u. Keeps s T (Err (Outside call)) u old new) (sym unsure_is) (keep_failed call (written_is script))
 
-    pub told_room : (stamped : List (List ℕ)) (fault : OutsideFault) → read_checkpoint (written_text lines) ≡ Some lines
-        → {old new : Option History} → Writes s lines (Err fault) old new
+    pub told_room : (stamped : List (List ℕ)) (call : Call) → read_checkpoint (written_text lines) ≡ Some lines
+        → {old new : Option History} → Writes s lines (Err (site_failed call)) old new
         → Adds old new (Leads (As stamped (process s)) (MatchesNewest stamped s l)
         (Matches stamped (record s { adaptors = xs; ready = false })))
-    told_room stamped fault read {old = old} {new = new} script =
+    told_room stamped call read {old = old} {new = new} script =
         subst (λ u. Adds old new (Leads (As stamped (process s)) (MatchesNewest stamped s l) (Matches stamped u))) (sym unsure_is)
-        (new_unsure s k.sound l k.new k.lasts stamped (read_is read) fault (written_is script))
+        (new_unsure s k.sound l k.new k.lasts stamped (read_is read) (site_failed call) (written_is script))
+
+    -- without memory the room is all that changed
+    pub sound_kept : IsSound (record s { adaptors = xs })
+    sound_kept = subst IsSound (sym (same_room s xs room)) k.sound
+
+    pub unmade_room : {old new : Option History} → Writes s lines (Err no_memory) old new
+        → Keeps s T (Err NoMemory) (record s { adaptors = xs }) old new
+    unmade_room {old = old} {new = new} script =
+        subst (λ u. Keeps s T (Err NoMemory) u old new) (sym (same_room s xs room)) (keep_unwritten (written_is script))
+
+    pub told_unmade : (stamped : List (List ℕ)) → read_checkpoint (written_text lines) ≡ Some lines
+        → {old new : Option History} → Writes s lines (Err no_memory) old new
+        → Adds old new (Every (SparesOld (Err no_memory) (spell (CheckFile s.source))))
+        → Adds old new (Leads (As stamped (process s)) (MatchesNewest stamped s l)
+        (Matches stamped (record s { adaptors = xs })))
+    told_unmade stamped read {old = old} {new = new} script spares =
+        subst (λ u. Adds old new (Leads (As stamped (process s)) (MatchesNewest stamped s l) (Matches stamped u)))
+        (sym (same_room s xs room))
+        (new_unmade s k.sound l k.new k.lasts stamped (read_is read) (written_is script) spares)
 
 pub newest_left : (stamped : List (List ℕ)) (s t : State) (l : Line) → s ≡ t → (now : Option History)
     → Adds now now (Leads (As stamped (process s)) (MatchesNewest stamped s l) (Matches stamped t))

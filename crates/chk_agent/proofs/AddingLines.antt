@@ -15,9 +15,9 @@ use Rattle.chk_checkpoint.specs.Lines.{shown}
 use Rattle.chk_world.specs.Checkpoints.{Line}
 use Rattle.chk_reading.specs.Adaptors.{Adaptor, line_at, revived}
 use Rattle.chk_agent.specs.States.{State, lines_at, lines_of}
-use Rattle.chk_agent.specs.Settles.{Writes, saved_now, unsure}
+use Rattle.chk_agent.specs.Settles.{Writes, saved_now}
 use Rattle.chk_agent.specs.Adds.{revived_at}
-use Rattle.chk_agent.specs.Takes.{Keeps, kept, failed, unwritten}
+use Rattle.chk_agent.specs.Takes.{Keeps, kept}
 use Rattle.chk_agent.proofs.Soundness.{at_map}
 use Rattle.chk_agent.proofs.Listing.{line_get}
 use Rattle.chk_agent.proofs.SettlingLines.{lines_set}
@@ -53,11 +53,6 @@ kept_by s n name a b lines is are {old = old} {new = new} script =
     (kept (subst (λ ls. Writes s ls (Ok tt) old new) are script))
 
 -- ---- where the writing was refused
-
-pub keeps_failed : (s t : State) (fault : OutsideFault) {old new : Option History} → Writes s (lines_of t) (Err fault) old new
-    → Keeps s t (Err (fault_of fault)) (unsure s) old new
-keeps_failed s t (site_failed call) script = failed call script
-keeps_failed s t no_memory script = unwritten script
 
 pub undamaged_by : (T : Type 0) (fault : OutsideFault) → IsUndamaged {T = T} (Err (fault_of fault))
 undamaged_by T (site_failed call) = tt

@@ -108,7 +108,7 @@ module _ (s : State) (sound : IsSound s) (n : ℕ) (a : Adaptor) (at : slice_get
     apart = apart_revived name 0 s.adaptors n a at free sound.apart;
   }
 
-  holds_revived : (history : History) → Holds s history → Holds T history
+  pub holds_revived : (history : History) → Holds s history → Holds T history
   holds_revived history h = record {
     readers = λ b one. reader b (at_in (slice_set s.adaptors n (revived name a)) b one);
     delivery =

@@ -5,7 +5,7 @@ use Rattle.std.proofs.lemmas.Bool.{and_parts}
 use Rattle.std.proofs.lemmas.Option.{same_Some}
 use Rattle.chk_control.specs.Classes.{is_plain}
 use Rattle.chk_site.specs.declared.acts.OutsideFault.{OutsideFault}
-use Rattle.chk_site.specs.History.{History, files_after, since_start}
+use Rattle.chk_site.specs.History.{Every, History, files_after, since_start}
 use Rattle.chk_site.specs.Site.{Adds, Ends, asked, answered, suffix_given, Calls}
 use Rattle.chk_site.specs.declared.acts.Call.TheVariants.{LogNewest}
 use Rattle.chk_site.specs.declared.acts.CallFault.{CallFault}
@@ -14,6 +14,7 @@ use Rattle.chk_site.specs.declared.acts.OutsideFault.TheVariants.{Outside as sit
 use Rattle.chk_world.proofs.AgentKnows.{agent_ends}
 use Rattle.chk_site.specs.Runs.{Leads}
 use Rattle.chk_site.proofs.Leads.{leads_as, leads_none}
+use Rattle.chk_replace.specs.Replace.{SparesOld}
 use Rattle.chk_chunk.specs.Keys.{Stream}
 use Rattle.chk_acks.specs.declared.row.Row.{Row}
 use Rattle.chk_acks.specs.Rows.{is_of_other}
@@ -47,6 +48,7 @@ use Rattle.chk_agent.proofs.StartingSound.{line_again}
 use Rattle.chk_agent.proofs.StartingHolds.{stands_like, stand_cut}
 use Rattle.chk_agent.proofs.SettlingHolds.{at_in}
 use Rattle.chk_agent.proofs.SettlingTold.{state_grows, lines_go_on}
+use Rattle.chk_agent.proofs.Unrenamed.{unmade_told}
 use Rattle.chk_agent.proofs.AddingNames.{other_first}
 use Rattle.chk_agent.proofs.AddingNew.{before, last, at_end, end_at, end_here, below, places, streams_more, new_lines}
 
@@ -316,3 +318,16 @@ module _ (s : State) (sound : IsSound s) (l : Line) (new : IsNewLine s l)
     new_unsure fault script = leads_as (λ h x. x)
         (λ h x. record { legal = x.legal; may_act = x.may_act; alive = λ run ready. absurd (true≢false (sym ready)) })
         (wrote (Err fault) script)
+
+    pub new_unmade : {old new_history : Option History} → Writes s (lines_of T) (Err no_memory) old new_history
+        → Adds old new_history (Every (SparesOld (Err no_memory) (spell (CheckFile s.source))))
+        → Adds old new_history (Leads (As stamped (process s)) (MatchesNewest stamped s l) (Matches stamped s))
+    new_unmade script spares = leads_as (λ h x. x)
+        (λ h x. record {
+          legal = x.legal;
+          may_act = x.may_act;
+          alive = λ run ready. let k = x.alive run in
+              record { one_cluster = k.one_cluster; lines_are = k.lines_are; holds = k.holds.one };
+        })
+        (unmade_told stamped s.source sound.source s.cluster F both_stays both_writes s.saved (lines_of T)
+        (written_text (lines_of T)) is_read goes script spares)

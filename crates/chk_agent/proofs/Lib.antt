@@ -36,6 +36,7 @@ pub mod TalkingTold
 pub mod TalkingSound
 pub mod TurningFaults
 pub mod TurningTold
+pub mod Unrenamed
 pub mod TurningPolls
 pub mod CommandingLists
 pub mod CommandingStates

@@ -6,32 +6,35 @@ use Rattle.chk_site.specs.declared.acts.Role.TheVariants.{Agent}
 use Rattle.chk_site.specs.declared.acts.Who.{Who}
 use Rattle.chk_site.specs.declared.acts.OutsideFault.{OutsideFault}
 use Rattle.chk_site.specs.declared.acts.OutsideFault.TheVariants.{Outside as site_failed, NoMemory as no_memory}
-use Rattle.chk_site.specs.History.{History}
+use Rattle.chk_site.specs.History.{Every, History}
 use Rattle.chk_site.specs.Site.{Adds}
 use Rattle.chk_site.specs.Runs.{Leads, MadeInTurn}
 use Rattle.chk_site.proofs.Leads.{leads_as, leads_none}
-use Rattle.chk_replace.specs.Replace.{replacement}
+use Rattle.chk_replace.specs.Replace.{replacement, SparesOld}
 use Rattle.chk_acks.specs.Sound.{IsSound as IsSoundTable}
 use Rattle.chk_rotate.specs.Marks.{BeginsBelow}
 use Rattle.chk_checkpoint.specs.Lines.{written_text}
 use Rattle.chk_world.specs.Names.{CheckFile, spell}
 use Rattle.chk_world.specs.Checkpoints.{Line, Two, are_lines, read_checkpoint}
 use Rattle.chk_world.specs.Places.{As}
+use Rattle.chk_world.specs.Answering.{LinesGoOn}
+use Rattle.chk_world.specs.Knowing.{agent}
 use Rattle.chk_reading.specs.Adaptors.{Adaptor}
 use Rattle.chk_delivery.specs.States.{State as Delivery}
 use Rattle.chk_delivery.specs.Sound.{IsSound as IsSoundDelivery}
 use Rattle.chk_delivery.specs.Turns.{is_one_of, numbers_of, without_adaptors}
-use Rattle.chk_agent.specs.Faults.{fault_of}
+use Rattle.chk_agent.specs.declared.answers.AgentFault.TheVariants.{Outside, NoMemory}
 use Rattle.chk_agent.specs.States.{State, process, committed_at, lines_at, lines_of}
 use Rattle.chk_agent.specs.Settles.{all_back, reset, settled_all, settled, saved_now, unsure, Writes, gone_at, IsSettled, same, written, failed, unwritten}
 use Rattle.chk_agent.specs.Facts.{Matches}
 use Rattle.chk_agent.specs.Fits.{IsSound}
 use Rattle.chk_agent.specs.Within.{Rising}
-use Rattle.chk_agent.proofs.Soundness.{lines_spelled, sound_saved, sound_unsure}
+use Rattle.chk_agent.proofs.Soundness.{lines_spelled, sound_saved}
 use Rattle.chk_agent.proofs.SettlingBack.{lines_back}
 use Rattle.chk_agent.proofs.SettlingNext.{last_size}
 use Rattle.chk_agent.proofs.SettlingSound.{sound_reset, sound_settled}
-use Rattle.chk_agent.proofs.SettlingTold.{reset_matches, settled_matches, lines_written, lines_unsure}
+use Rattle.chk_agent.proofs.SettlingHolds.{holds_settled}
+use Rattle.chk_agent.proofs.SettlingTold.{reset_matches, settled_matches, lines_go_on, lines_unmade, lines_written, lines_unsure}
 
 -- ---- who goes back
 
@@ -130,13 +133,6 @@ module _ (now : ℕ) (s : State) (sound : IsSound s) (d : Delivery) (back : List
 
 -- ---- once they are settled
 
-settled_failed : (now : ℕ) (s : State) (fault : OutsideFault) {old new : Option History}
-    → lines_of (settled (reset (gone_at now s) s)) ≢ s.saved
-    → Writes s (lines_of (settled (reset (gone_at now s) s))) (Err fault) old new
-    → IsSettled now s (Err (fault_of fault)) (unsure (reset (gone_at now s) s)) old new
-settled_failed now s (site_failed call) other script = failed call other script
-settled_failed now s no_memory other script = unwritten other script
-
 module _ (t : State) (sound : IsSound t) (lines : List Line) (are : lines ≡ lines_of (settled t)) where
   settled_sound : IsSound (settled t)
   settled_sound = sound_settled t sound
@@ -210,17 +206,37 @@ module _ (t : State) (sound : IsSound t) (lines : List Line) (are : lines ≡ li
         (lines_written stamped (settled t) settled_sound ready (subst (λ ls. read_checkpoint (written_text ls) ≡ Some ls) are is_read)
         (subst (λ ls. Writes t ls (Ok tt) old new) are script))
 
-  -- the writing was refused
-  pub failed_state : (lines ≡ t.saved → ⊥) → (fault : OutsideFault) → {old new : Option History} → Writes t lines (Err fault) old new
-      → (now : ℕ) (s : State) → t ≡ reset (gone_at now s) s → IsSettled now s (Err (fault_of fault)) (unsure t) old new
-  failed_state other fault {old = old} {new = new} script now s is =
-      subst (λ t. IsSettled now s (Err (fault_of fault)) (unsure t) old new) (sym is)
-      (settled_failed now s fault (others now s is other) (script_as now s is (Err fault) script))
+  -- a call of the writing failed
+  pub failed_state : (lines ≡ t.saved → ⊥) → (call : Call) → {old new : Option History}
+      → Writes t lines (Err (site_failed call)) old new
+      → (now : ℕ) (s : State) → t ≡ reset (gone_at now s) s
+      → IsSettled now s (Err (Outside call)) (unsure t) old new
+  failed_state other call {old = old} {new = new} script now s is =
+      subst (λ t. IsSettled now s (Err (Outside call)) (unsure t) old new) (sym is)
+      (failed call (others now s is other) (script_as now s is (Err (site_failed call)) script))
 
-  pub failed_told : t.ready ≡ true → read_checkpoint (written_text lines) ≡ Some lines → (stamped : List (List ℕ)) (fault : OutsideFault)
-      → {old new : Option History} → Writes t lines (Err fault) old new
+  pub failed_told : t.ready ≡ true → read_checkpoint (written_text lines) ≡ Some lines
+      → (stamped : List (List ℕ)) (call : Call)
+      → {old new : Option History} → Writes t lines (Err (site_failed call)) old new
       → Adds old new (Leads (As stamped (process t)) (Matches stamped t) (Matches stamped (unsure t)))
-  failed_told ready is_read stamped fault {old = old} {new = new} script =
+  failed_told ready is_read stamped call {old = old} {new = new} script =
       leads_as (settled_matches stamped t sound) (λ h x. x)
       (lines_unsure stamped (settled t) settled_sound ready (subst (λ ls. read_checkpoint (written_text ls) ≡ Some ls) are is_read)
-      t refl fault (subst (λ ls. Writes t ls (Err fault) old new) are script))
+      t refl (site_failed call) (subst (λ ls. Writes t ls (Err (site_failed call)) old new) are script))
+
+  -- the writing wanted memory
+  pub unmade_state : (lines ≡ t.saved → ⊥) → {old new : Option History} → Writes t lines (Err no_memory) old new
+      → (now : ℕ) (s : State) → t ≡ reset (gone_at now s) s → IsSettled now s (Err NoMemory) t old new
+  unmade_state other {old = old} {new = new} script now s is =
+      subst (λ t. IsSettled now s (Err NoMemory) t old new) (sym is)
+      (unwritten (others now s is other) (script_as now s is (Err no_memory) script))
+
+  pub unmade_told : t.ready ≡ true → read_checkpoint (written_text lines) ≡ Some lines
+      → (stamped : List (List ℕ)) → {old new : Option History} → Writes t lines (Err no_memory) old new
+      → Adds old new (Every (SparesOld (Err no_memory) (spell (CheckFile t.source))))
+      → Adds old new (Leads (As stamped (process t)) (Matches stamped t) (Matches stamped t))
+  unmade_told ready is_read stamped script spares =
+      lines_unmade stamped t sound ready lines is_read
+      (λ h x. subst (λ ls. LinesGoOn (agent t.source) t.saved ls h) (sym are)
+      (lines_go_on (settled t) settled_sound h (holds_settled h t sound x)))
+      script spares

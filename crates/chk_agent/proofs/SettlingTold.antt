@@ -2,10 +2,12 @@
 use Rattle.std.proofs.Common.{◌≡◌, ℕ, true, List, [], ◌∷◌, Some, Option, Result, Ok, Err, ap, sym, subst, ◌∙◌, refl, true≢false}
 use Rattle.std.specs.Prelude.{IsTrue, slice_get, find}
 use Rattle.chk_site.specs.declared.acts.OutsideFault.{OutsideFault}
-use Rattle.chk_site.specs.History.{History, since_start}
+use Rattle.chk_site.specs.declared.acts.OutsideFault.TheVariants.{NoMemory as no_memory}
+use Rattle.chk_site.specs.History.{Every, History, since_start}
 use Rattle.chk_site.specs.Site.{Adds}
 use Rattle.chk_site.specs.Runs.{Leads}
 use Rattle.chk_site.proofs.Leads.{leads_as}
+use Rattle.chk_replace.specs.Replace.{SparesOld}
 use Rattle.chk_tail.specs.Walks.{Spot}
 use Rattle.chk_checkpoint.specs.Lines.{written_text}
 use Rattle.chk_world.specs.Names.{CheckFile, is_source, spell}
@@ -25,6 +27,7 @@ use Rattle.chk_agent.specs.Settles.{reset, settled, saved_now, unsure, Writes}
 use Rattle.chk_agent.specs.Facts.{Holds, Matches}
 use Rattle.chk_agent.specs.Fits.{IsSound}
 use Rattle.chk_agent.proofs.Soundness.{in_at, at_map, line_in, none_lost, fits_basis}
+use Rattle.chk_agent.proofs.Unrenamed.{unmade_told}
 use Rattle.chk_agent.proofs.SettlingHolds.{end_stands, holds_reset, holds_settled, holds_saved}
 
 -- ---- it grows
@@ -130,3 +133,20 @@ module _ (stamped : List (List ℕ)) (s : State) (sound : IsSound s) where
           alive = λ run ready. absurd (true≢false (sym ready));
         })
         (wrote (Err fault) script)
+
+-- a checkpoint of these lines that wanted memory is the old one, and the state is held as before
+pub lines_unmade : (stamped : List (List ℕ)) (s : State) → IsSound s → s.ready ≡ true
+    → (lines : List Line) → read_checkpoint (written_text lines) ≡ Some lines
+    → ((h : History) → Holds s h → LinesGoOn (agent s.source) s.saved lines h)
+    → {old new : Option History} → Writes s lines (Err no_memory) old new
+    → Adds old new (Every (SparesOld (Err no_memory) (spell (CheckFile s.source))))
+    → Adds old new (Leads (As stamped (process s)) (Matches stamped s) (Matches stamped s))
+lines_unmade stamped s sound ready lines is_read go_on script spares =
+    let grows = state_grows stamped s sound in
+    leads_as
+    (λ h x. record { legal = x.legal; may_act = x.may_act; alive = λ run. x.alive run ready })
+    (λ h x. record { legal = x.legal; may_act = x.may_act; alive = λ run ready. x.alive run })
+    (unmade_told stamped s.source sound.source s.cluster (Holds s)
+    (grows_stays stamped s.source sound.source s.cluster (Holds s) grows)
+    (grows_writes stamped s.source sound.source s.cluster (Holds s) grows)
+    s.saved lines (written_text lines) is_read go_on script spares)

@@ -88,8 +88,8 @@ pub data IsNewest (s : State) (path : List ℕ) : Bool → Option (List ℕ) →
       → Adds old new (Calls (asked (process s) LogNewest (path ∷ []) 0 0) (answered suffix_given (Ok newest)))
       → IsNewest s path true newest old new
 
--- What becomes of a stream that is to be added: its suffix is asked for, and the checkpoint with it is written. Where that
--- was refused, the file may be the old one or the new one. Without memory before it nothing changes.
+-- What becomes of a stream that is to be added: its suffix is asked for, and the checkpoint with it is written. Where a
+-- call of that failed, the file may be the old one or the new one. Without memory it is the old one, and nothing changes.
 pub data TakesStream (s : State) (name : List ℕ) (class : Class) (kind path : List ℕ) (start : ℕ) (found : Option Found)
     : Result (Unit {0}) AgentFault → State → Option History → Option History → Type 0 where
   written : {t : State} {old mid new : Option History} (after : Option (List ℕ))
@@ -106,7 +106,7 @@ pub data TakesStream (s : State) (name : List ℕ) (class : Class) (kind path : 
       → IsNewest s path (asks_newest class found) after old mid
       → t ≡ with_added s found (new_line name class kind path start after)
       → Writes s (lines_of t) (Err no_memory) mid new
-      → TakesStream s name class kind path start found (Err NoMemory) (unsure s) old new
+      → TakesStream s name class kind path start found (Err NoMemory) s old new
   unkept : {old new : Option History} (after : Option (List ℕ))
       → IsNewest s path (asks_newest class found) after old new
       → TakesStream s name class kind path start found (Err NoMemory) s old new

@@ -54,7 +54,8 @@ abbrev pub gone_at : ℕ → State → List ℕ
 gone_at now s = expired_in now s.delivery
 
 -- The expired adaptors go back; where a line is another one then, the checkpoint is replaced. Without memory for the first
--- nothing changes; where the writing was refused they have gone back, and the file may be the old one or the new one.
+-- nothing changes; where the writing was refused they have gone back. The file is then the old one where memory was wanting,
+-- and may be the old one or the new one where a call failed.
 pub data IsSettled (now : ℕ) (s : State) : Result Settled AgentFault → State → Option History → Option History → Type 0 where
   same : {at : Option History} → lines_of (settled (reset (gone_at now s) s)) ≡ s.saved
       → IsSettled now s (Ok (record { reset = length (gone_at now s); written = false }))
@@ -68,5 +69,5 @@ pub data IsSettled (now : ℕ) (s : State) : Result Settled AgentFault → State
       → IsSettled now s (Err (Outside call)) (unsure (reset (gone_at now s) s)) old new
   unwritten : {old new : Option History} → lines_of (settled (reset (gone_at now s) s)) ≢ s.saved
       → Writes s (lines_of (settled (reset (gone_at now s) s))) (Err no_memory) old new
-      → IsSettled now s (Err NoMemory) (unsure (reset (gone_at now s) s)) old new
+      → IsSettled now s (Err NoMemory) (reset (gone_at now s) s) old new
   wanting : {at : Option History} → IsSettled now s (Err NoMemory) s at at

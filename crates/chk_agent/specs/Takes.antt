@@ -63,7 +63,7 @@ pub data Keeps (s t : State) : Result (Unit {0}) AgentFault → State → Option
   failed : {old new : Option History} (call : Call) → Writes s (lines_of t) (Err (site_failed call)) old new
       → Keeps s t (Err (Outside call)) (unsure s) old new
   unwritten : {old new : Option History} → Writes s (lines_of t) (Err no_memory) old new
-      → Keeps s t (Err NoMemory) (unsure s) old new
+      → Keeps s t (Err NoMemory) s old new
   wanting : {now : Option History} → Keeps s t (Err NoMemory) s now now
 
 -- a stream is taken under a default name

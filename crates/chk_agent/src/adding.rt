@@ -10,7 +10,10 @@ ghost use Rattle.chk_checkpoint.specs.Lines.{shown, lines_of, written_text};
 ghost use Rattle.chk_world.specs.Checkpoints.{Line, Two, are_lines, is_after_text, read_checkpoint};
 ghost use Rattle.chk_agent.specs.Settles.{Writes};
 ghost use Rattle.chk_agent.specs.Takes.{Asks, IsMore, IsNewLine, Keeps, MatchesNewest, TakesNamed};
+ghost use Rattle.chk_site.specs.History.{Every};
 ghost use Rattle.chk_site.specs.Site.{Adds, LastFailed, OutsideCause};
+ghost use Rattle.chk_replace.specs.Replace.{SparesOld};
+ghost use Rattle.chk_world.specs.Names.{CheckFile, spell};
 ghost use Rattle.chk_site.specs.Runs.{Leads};
 ghost use Rattle.chk_world.specs.Places.{As};
 ghost use Rattle.chk_reading.specs.Adaptors.{Adaptor as Reading, is_past, line_at};
@@ -182,9 +185,10 @@ impl Agent {
                 self.saved = check.lines;
                 Ok(())
             }
-            Err(fault) => {
+            Err(OutsideFault::NoMemory) => Err(AgentFault::NoMemory),
+            Err(OutsideFault::Outside { call }) => {
                 self.ready = false;
-                Err(AgentFault::from(fault))
+                Err(AgentFault::Outside { call })
             }
         }
     }
@@ -199,6 +203,8 @@ impl Agent {
         requires { IsTrue (are_lines Two (lines_of check.now)) }
         ensures told { Writes self.now (lines_of check.now) result (S.told site.old) (S.told site.new) }
         ensures read { read_checkpoint (written_text (lines_of check.now)) ≡ Some (lines_of check.now) }
+        ensures unmade { Adds (S.told site.old) (S.told site.new)
+            (Every (SparesOld result (spell (CheckFile self.now.source)))) }
         ensures last { Adds (S.told site.old) (S.told site.new) (LastFailed result) }
         ensures cause { OutsideCause (S.fault_count site.old) (S.fault_count site.new) result }
     {
@@ -360,9 +366,10 @@ impl Agent {
         }
         match self.write_lines(alloc, site, &check) {
             Ok(()) => {}
-            Err(fault) => {
+            Err(OutsideFault::NoMemory) => return Err(AgentFault::NoMemory),
+            Err(OutsideFault::Outside { call }) => {
                 self.ready = false;
-                return Err(AgentFault::from(fault));
+                return Err(AgentFault::Outside { call });
             }
         }
         self.delivery.begin(number, start);

@@ -57,8 +57,9 @@ impl Model for Agent {
 }
 
 impl Agent {
-    /// False exactly after a call that was refused while it wrote the checkpoint: the file may then
-    /// be the old one or the new one, and only a new start tells.
+    /// False exactly after a call that answered `Outside` while it wrote the checkpoint: the file may
+    /// then be the old one or the new one, and only a new start tells. Without memory it is the old
+    /// one, so the agent stays ready.
     pub fn ready(&self) -> bool
         ensures ready { result ≡ self.now.ready }
         ensures sound { IsSound self.now }

@@ -22,7 +22,7 @@ use chk_checkpoint::{CheckLine, Checkpoint, write_checkpoint};
 use chk_delivery::Delivery;
 use chk_reading::{Adaptor, Phase};
 use chk_rotate::Place;
-use chk_site::{Site, Suffix};
+use chk_site::{OutsideFault, Site, Suffix};
 use std::alloc::Global;
 
 impl Agent {
@@ -95,9 +95,10 @@ impl Agent {
                     written: true,
                 })
             }
-            Err(fault) => {
+            Err(OutsideFault::NoMemory) => Err(AgentFault::NoMemory),
+            Err(OutsideFault::Outside { call }) => {
                 self.ready = false;
-                Err(AgentFault::from(fault))
+                Err(AgentFault::Outside { call })
             }
         }
     }

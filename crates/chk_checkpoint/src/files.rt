@@ -7,7 +7,7 @@ ghost use Rattle.chk_site.specs.Effect.{IsSmallFile};
 ghost use Rattle.chk_site.specs.History.{Every};
 ghost use Rattle.chk_site.specs.Site.{Adds, LastFailed, OutsideCause};
 ghost use Rattle.chk_site.specs.Runs.{anyhow, Leads, MadeInTurn};
-ghost use Rattle.chk_replace.specs.Replace.{replacement, LeavesFile, TouchesBoth};
+ghost use Rattle.chk_replace.specs.Replace.{replacement, LeavesFile, SparesOld, TouchesBoth};
 ghost use Rattle.chk_replace.specs.Load.{Has, IsLook};
 ghost use Rattle.chk_world.specs.Names.{CheckFile, is_source, spell};
 ghost use Rattle.chk_world.specs.Checkpoints.{Two, are_lines, read_checkpoint};
@@ -34,7 +34,7 @@ fn check_name(alloc: Global, source: &Word) -> Result<String, NoMemory>
 
 /// Replaces the agent's checkpoint by one of these lines, whole. The lines have to be those of a checkpoint: at most
 /// 10,000, each in the grammar, no two of one stream, no two live ones of one name. The text is made before the first
-/// call on the outside; it takes memory for the text.
+/// call on the outside; it takes memory for the text. Without memory the checkpoint is the old one.
 pub fn write_checkpoint<S: Site>(
     alloc: Global,
     site: &mut S,
@@ -46,6 +46,8 @@ pub fn write_checkpoint<S: Site>(
         result (S.told site.old) (S.told site.new) }
     ensures read { read_checkpoint (written_text (lines_of check.now)) ≡ Some (lines_of check.now) }
     ensures own { Adds (S.told site.old) (S.told site.new) (Every (TouchesBoth who.now (spell (CheckFile who.now.name)))) }
+    ensures unmade { Adds (S.told site.old) (S.told site.new)
+        (Every (SparesOld result (spell (CheckFile who.now.name)))) }
     ensures last { Adds (S.told site.old) (S.told site.new) (LastFailed result) }
     ensures cause { OutsideCause (S.fault_count site.old) (S.fault_count site.new) result }
 {

@@ -1,7 +1,8 @@
 -- Fronts of a queue, and how much data it has.
-use Rattle.std.proofs.Common.{◌≡◌, ◌⊎◌, inl, inr, ℕ, zero, suc, ◌+◌, ◌-◌, ◌<◌, ◌≤◌, Bool, true, false, cond, set, List, [], ◌∷◌, ◌++◌, length, take, drop, get_or, refl, sym, subst, add-one, ap, ap₂, ◌∙◌, arith}
+use Rattle.std.proofs.Common.{◌≡◌, ◌⊎◌, inl, inr, ℕ, zero, suc, not, ◌+◌, ◌-◌, ◌<◌, ◌≤◌, Bool, true, false, cond, set, List, [], ◌∷◌, ◌++◌, length, take, drop, get_or, refl, sym, subst, add-one, ap, ap₂, ◌∙◌, arith}
 use Rattle.std.proofs.lemmas.List.{take-append-drop, drop-drop, length-append, length-take-le, length-set, append-nil, get_or-drop, take-set, take-set-le, take_more_set, drop-set-lt}
-use Rattle.std.specs.List.{SwappedAt}
+use Rattle.std.specs.List.{SwappedAt, filter}
+use Rattle.std.proofs.lemmas.List.Filters.{sum_by-filter_both}
 use Rattle.std.proofs.lemmas.List.Sums.{sum_by-append, sum_by-cons}
 use Rattle.chk_chunk.specs.Lent.{chunk_of, chunks_of}
 use Rattle.chk_chunk.specs.Posts.{written_part, written_parts}
@@ -212,3 +213,10 @@ pub kept_size : (marks : List Bool) (chunks kept : List Chunk) (first used : ℕ
     → kept ≡ marked marks (drop first chunks) → data_size kept ≤ used
 kept_size marks chunks kept first used used_is kept_is =
     omega (arith, ap data_size kept_is, data_size-marked marks (drop first chunks))
+
+-- those that pass a test have no more data than all
+pub data_size-filter : (keeps : Chunk → Bool) (chunks : List Chunk)
+    → data_size (filter keeps chunks) ≤ data_size chunks
+data_size-filter keeps chunks =
+    let whole = sum_by-filter_both keeps (λ c. not (keeps c)) (λ _. refl) (λ c. length c.body) chunks in
+    omega (arith, whole)

@@ -1,5 +1,5 @@
 -- A queue of chunks: a list with a limit.
-use Rattle.std.specs.Prelude.{◌≡◌, ℕ, ◌+◌, ◌≤◌, ◌<◌, Bool, List, [], ◌∷◌, length, take, sum_by, if◌then◌else◌}
+use Rattle.std.specs.Prelude.{◌≡◌, ℕ, ◌+◌, ◌≤◌, ◌<◌, ◌&&◌, Bool, not, List, [], ◌∷◌, bytes_eq, length, take, sum_by, if◌then◌else◌}
 use Rattle.chk_chunk.specs.Lent.{chunks_of}
 use Rattle.chk_chunk.specs.Posts.{written_post}
 use Rattle.chk_chunk.specs.declared.Chunk.{Chunk}
@@ -30,3 +30,11 @@ pub record IsLongestFront (chunks front : List Chunk) (most bytes : ℕ) : Type 
   pub short : 0 < length front → length (written_post (chunks_of front)) ≤ bytes
   pub longest : (n : ℕ) → length front < n → n ≤ length chunks → n ≤ most
       → bytes < length (written_post (chunks_of (take n chunks)))
+
+-- the chunk is of the stream of this type and name
+abbrev pub is_of : List ℕ → List ℕ → Chunk → Bool
+is_of kind name chunk = bytes_eq chunk.kind kind && bytes_eq chunk.name name
+
+-- or of another
+abbrev pub is_of_other : List ℕ → List ℕ → Chunk → Bool
+is_of_other kind name chunk = not (is_of kind name chunk)

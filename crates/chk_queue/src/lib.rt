@@ -3,9 +3,9 @@
 
 ghost use Rattle.std.specs.Prelude.{◌≡◌, ◌+◌, ◌^◌, ◌<◌, ◌≤◌, ◌↔◌, [], ◌∷◌, ◌++◌, length, take, drop};
 ghost use Rattle.std.specs.Prelude.{IsTrue, IfErr, OnOk, OnErr};
-ghost use Rattle.std.specs.List.{AllWithin};
+ghost use Rattle.std.specs.List.{AllWithin, filter};
 ghost use Rattle.chk_queue.specs.Queues.{data_size, HasRoom, marked};
-ghost use Rattle.chk_queue.specs.Queues.{IsLongestFront};
+ghost use Rattle.chk_queue.specs.Queues.{IsLongestFront, is_of, is_of_other};
 ghost use Rattle.chk_queue.specs.Refusals.{IsRefusal};
 
 use chk_bytes::Bytes;
@@ -143,6 +143,25 @@ impl Queue {
         keep_marked(&mut self.chunks, kept);
         self.used = data_size(&self.chunks);
     }
+
+    /// Drops the chunks of the stream of this type and name, and keeps the others in order. It takes
+    /// no memory. Its cost is that of the queue's length.
+    pub fn drop_stream(&mut self, kind: &str, name: &str)
+        ensures { self.new
+            ≡ record self.old { chunks = filter (is_of_other kind.now name.now) self.old.chunks } }
+    {
+        drop_first(&mut self.chunks, self.first);
+        self.first = 0;
+        self.chunks.retain(|chunk| !is_of(chunk, kind, name));
+        self.used = data_size(&self.chunks);
+    }
+}
+
+// The chunk is of this stream.
+fn is_of(chunk: &Chunk, kind: &str, name: &str) -> bool
+    ensures { result ≡ is_of kind.now name.now chunk.now }
+{
+    chunk.kind.as_str() == kind && chunk.name.as_str() == name
 }
 
 // How many chunks the longest front has.

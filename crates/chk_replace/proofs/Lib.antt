@@ -1,3 +1,4 @@
 pub mod CallSteps
 pub mod OldAndNew
+pub mod Unmade
 pub mod Pieces

@@ -3,6 +3,7 @@ use Rattle.std.specs.Prelude.{◌≡◌, ◌≢◌, ◌⊎◌, ℕ, true, false,
 use Rattle.chk_site.specs.declared.acts.Who.{Who}
 use Rattle.chk_site.specs.declared.acts.Call.TheVariants.{Create, Append, Sync, Rename, Remove}
 use Rattle.chk_site.specs.declared.acts.OutsideFault.{OutsideFault}
+use Rattle.chk_site.specs.declared.acts.OutsideFault.TheVariants.{Outside, NoMemory as no_memory}
 use Rattle.chk_site.specs.Files.{File, IsSettled}
 use Rattle.chk_site.specs.Acts.{deed, touches, tail_in}
 use Rattle.chk_site.specs.History.{Step, History, Every, Others, files_after}
@@ -62,3 +63,9 @@ TouchesBoth who name before step =
     step.own ≡ true
     → (step.act.who ≡ who)
     × ((other : List ℕ) → other ≢ name → other ≢ tmp name → touches (deed step.act) other ≡ false)
+
+-- without memory the step, where it is the site's own, leaves the file: the rename wasn't made
+abbrev pub SparesOld : Result Unit OutsideFault → List ℕ → History → Step → Type 0
+SparesOld (Err no_memory) name before step = step.own ≡ true → touches (deed step.act) name ≡ false
+SparesOld (Err (Outside call)) name before step = Unit {0}
+SparesOld (Ok value) name before step = Unit {0}

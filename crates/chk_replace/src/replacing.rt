@@ -3,7 +3,7 @@ ghost use Rattle.std.specs.Prelude.{◌≡◌, IfOk, string_bytes};
 ghost use Rattle.chk_site.specs.History.{History, Every};
 ghost use Rattle.chk_site.specs.Site.{Adds, LastFailed, OutsideCause};
 ghost use Rattle.chk_site.specs.Runs.{MadeInTurn};
-ghost use Rattle.chk_replace.specs.Replace.{tmp, replacement, ReplacesWhole, TouchesBoth};
+ghost use Rattle.chk_replace.specs.Replace.{tmp, replacement, ReplacesWhole, SparesOld, TouchesBoth};
 
 use chk_bytes::NoMemory;
 use chk_site::{Call, OutsideFault, Site, Who, done};
@@ -11,7 +11,7 @@ use std::alloc::Global;
 
 /// Replaces the file `name` by one with these bytes, all of them on the disk. The next content is written to `<name>.tmp`,
 /// synced, and renamed. After a refusal the file is the old one or the new one, and `<name>.tmp` may be left; the next
-/// replacement removes it. It costs five calls, and memory for the longer name.
+/// replacement removes it. Without memory it is the old one. It costs five calls, and memory for the longer name.
 pub fn replace<S: Site>(
     alloc: Global,
     site: &mut S,
@@ -22,6 +22,7 @@ pub fn replace<S: Site>(
     ensures told { MadeInTurn (replacement who.now name.now bytes.now) result (S.told site.old) (S.told site.new) }
     ensures old_or_new { Adds (S.told site.old) (S.told site.new) (ReplacesWhole name.now bytes.now result) }
     ensures own { Adds (S.told site.old) (S.told site.new) (Every (TouchesBoth who.now name.now)) }
+    ensures unmade { Adds (S.told site.old) (S.told site.new) (Every (SparesOld result name.now)) }
     ensures last { Adds (S.told site.old) (S.told site.new) (LastFailed result) }
     ensures cause { OutsideCause (S.fault_count site.old) (S.fault_count site.new) result }
 {
@@ -48,6 +49,7 @@ fn replace_by<S: Site>(
 ) -> Result<(), OutsideFault>
     requires next { next.now ≡ tmp name.now }
     ensures told { MadeInTurn (replacement who.now name.now bytes.now) result (S.told site.old) (S.told site.new) }
+    ensures unmade { Adds (S.told site.old) (S.told site.new) (Every (SparesOld result name.now)) }
     ensures cause { OutsideCause (S.fault_count site.old) (S.fault_count site.new) result }
 {
     let removed = site.remove(alloc, who, next);

@@ -1,6 +1,10 @@
-use Rattle.std.proofs.Common.{refl, []}
+use Rattle.std.proofs.Common.{refl, [], Err}
 use Rattle.std.proofs.lemmas.Result.{err_from_is_err_and}
+use Rattle.chk_site.specs.History.{Every}
 use Rattle.chk_site.specs.Runs.{unbegun}
+use Rattle.chk_site.proofs.Runs.{adds_none}
+use Rattle.chk_site.specs.declared.acts.OutsideFault.TheVariants.{NoMemory as no_memory}
+use Rattle.chk_replace.specs.Replace.{SparesOld}
 use Rattle.chk_replace.proofs.CallSteps.{script_last}
 use Rattle.chk_replace.proofs.OldAndNew.{replaced, touches_both}
 use Rattle.chk_replace.proofs.replacing.replace.Goals as goal
@@ -13,6 +17,7 @@ returns-in_err-next g c =
       told = unbegun;
       old_or_new = replaced c.args.who.now c.args.name.now c.args.bytes.now unbegun;
       own = touches_both c.args.who.now c.args.name.now c.args.bytes.now unbegun;
+      unmade = adds_none _ (Every (SparesOld (Err no_memory) c.args.name.now)) (λ history. tt);
       last = script_last (unbegun {qs = []});
       cause = refl;
     })
@@ -24,6 +29,7 @@ returns g c =
       told = script;
       old_or_new = replaced c.args.who.now c.args.name.now c.args.bytes.now script;
       own = touches_both c.args.who.now c.args.name.now c.args.bytes.now script;
+      unmade = c.replace_by.ensures.unmade;
       last = script_last script;
       cause = c.replace_by.ensures.cause;
     }

@@ -1,4 +1,4 @@
-use Rattle.std.proofs.Common.{◌≡◌, ◌≤◌, Ok, Err, length, map, ap, sym, subst, ◌∙◌, refl, arith}
+use Rattle.std.proofs.Common.{◌≡◌, ◌≤◌, length, map, ap, sym, subst, ◌∙◌, arith}
 use Rattle.std.specs.Prelude.{slice_get, slice_index}
 use Rattle.std.specs.Vec.{with_items}
 use Rattle.std.proofs.lemmas.List.{with_items_is}
@@ -6,7 +6,7 @@ use Rattle.std.proofs.lemmas.Result.{err_from_is_err_and}
 use Rattle.chk_site.proofs.Leads.{leads_as}
 use Rattle.chk_rotate.specs.Marks.{BeginsBelow}
 use Rattle.chk_checkpoint.specs.Lines.{shown}
-use Rattle.chk_agent.specs.States.{State, lines_at}
+use Rattle.chk_agent.specs.States.{lines_at}
 use Rattle.chk_agent.specs.Settles.{settled_all, gone_at, wanting}
 use Rattle.chk_agent.specs.Fields.{agent_view}
 use Rattle.chk_agent.specs.Within.{Rising}

@@ -9,9 +9,10 @@ use Rattle.chk_agent.specs.Settles.{settled, settled_all}
 use Rattle.chk_agent.specs.Faults.{FailsLast}
 use Rattle.chk_agent.specs.Fields.{agent_view}
 use Rattle.chk_agent.proofs.TurningFaults.{last_ok}
-use Rattle.chk_agent.proofs.AddingLines.{undamaged_by, last_by, cause_by}
+use Rattle.chk_site.specs.declared.acts.OutsideFault.TheVariants.{Outside as site_failed, NoMemory as no_memory}
+use Rattle.chk_agent.proofs.AddingLines.{last_by, cause_by}
 use Rattle.chk_agent.proofs.SettlingExits.{writes_as, good_lines, sound_after, sound_written}
-use Rattle.chk_agent.proofs.SettlingExits.{same_state, same_told, written_state, written_told, failed_state, failed_told}
+use Rattle.chk_agent.proofs.SettlingExits.{same_state, same_told, written_state, written_told, failed_state, failed_told, unmade_state, unmade_told}
 use Rattle.chk_agent.proofs.agent.Agent.write_changed.Goals as goal
 
 pub invariant_of-self : goal.invariant_of-self
@@ -130,8 +131,8 @@ returns-in-Ok-clause-told g c stamped =
     (written_told s c.self.invariant.sound lines are (with_items xs ys).items after_is ready
     c.in-Ok.ensures.read stamped script)
 
-pub returns-in-Err-clause-state : goal.returns-in-Err-clause-state
-returns-in-Err-clause-state g c now was is many =
+pub returns-in-Err-NoMemory-clause-state : goal.returns-in-Err-NoMemory-clause-state
+returns-in-Err-NoMemory-clause-state g c now was is many =
     let s = agent_view c.self.inside in
     let lines = map shown c.args.check.lines.items in
     let are = subst (λ (t : State). lines ≡ lines_of (settled t)) (sym c.self.view_is)
@@ -140,35 +141,67 @@ returns-in-Err-clause-state g c now was is many =
     c.if-are_same.ensures.other refl
     (ap (map shown) c.as_slice.ensures.value ∙
     (e ∙ sym (ap (map shown) c.as_slice-2.ensures.value))) in
-    let script = writes_as c.self.inside.who s lines (Err c.in-Err.fault) c.self.invariant.role refl
-    c.in-Err.ensures.told in
-    rw c.from.ensures (failed_state s c.self.invariant.sound lines are other c.in-Err.fault script
-    now was (c.self.view_is ∙ is))
+    let script = writes_as c.self.inside.who s lines (Err no_memory) c.self.invariant.role refl
+    (rw c.in-Err-NoMemory.field-0-is at c.in-Err-NoMemory.ensures.told) in
+    rw (← c.self.view_is)
+    (unmade_state s c.self.invariant.sound lines are other script now was (c.self.view_is ∙ is))
 
-pub returns-in-Err-clause-told : goal.returns-in-Err-clause-told
-returns-in-Err-clause-told g c stamped =
+pub returns-in-Err-NoMemory-clause-told : goal.returns-in-Err-NoMemory-clause-told
+returns-in-Err-NoMemory-clause-told g c stamped =
     let s = agent_view c.self.inside in
     let lines = map shown c.args.check.lines.items in
     let are = subst (λ (t : State). lines ≡ lines_of (settled t)) (sym c.self.view_is)
     c.requires.lines in
-    let script = writes_as c.self.inside.who s lines (Err c.in-Err.fault) c.self.invariant.role refl
-    c.in-Err.ensures.told in
+    let script = writes_as c.self.inside.who s lines (Err no_memory) c.self.invariant.role refl
+    (rw c.in-Err-NoMemory.field-0-is at c.in-Err-NoMemory.ensures.told) in
+    let ready = ap (λ (s : State). s.ready) c.self.view_is ∙ c.requires.ready in
+    rw (← c.self.view_is) (unmade_told s c.self.invariant.sound lines are ready
+    c.in-Err-NoMemory.ensures.read stamped script
+    (rw c.in-Err-NoMemory.field-0-is at c.in-Err-NoMemory.ensures.unmade))
+
+pub returns-in-Err-NoMemory-clause-last : goal.returns-in-Err-NoMemory-clause-last
+returns-in-Err-NoMemory-clause-last g c =
+    last_by (Unit {0}) Settled no_memory (rw c.in-Err-NoMemory.field-0-is at
+    c.in-Err-NoMemory.ensures.last)
+
+pub returns-clause-state : goal.returns-clause-state
+returns-clause-state g c now was is many =
+    let s = agent_view c.self.inside in
+    let lines = map shown c.args.check.lines.items in
+    let are = subst (λ (t : State). lines ≡ lines_of (settled t)) (sym c.self.view_is)
+    c.requires.lines in
+    let other = λ (e : lines ≡ s.saved).
+    c.if-are_same.ensures.other refl
+    (ap (map shown) c.as_slice.ensures.value ∙
+    (e ∙ sym (ap (map shown) c.as_slice-2.ensures.value))) in
+    let script = writes_as c.self.inside.who s lines (Err (site_failed c.in-Err-Outside.call))
+    c.self.invariant.role refl
+    (rw c.in-Err-Outside.field-0-is at c.in-Err-Outside.ensures.told) in
+    failed_state s c.self.invariant.sound lines are other c.in-Err-Outside.call script
+    now was (c.self.view_is ∙ is)
+
+pub returns-clause-told : goal.returns-clause-told
+returns-clause-told g c stamped =
+    let s = agent_view c.self.inside in
+    let lines = map shown c.args.check.lines.items in
+    let are = subst (λ (t : State). lines ≡ lines_of (settled t)) (sym c.self.view_is)
+    c.requires.lines in
+    let script = writes_as c.self.inside.who s lines (Err (site_failed c.in-Err-Outside.call))
+    c.self.invariant.role refl
+    (rw c.in-Err-Outside.field-0-is at c.in-Err-Outside.ensures.told) in
     let ready = ap (λ (s : State). s.ready) c.self.view_is ∙ c.requires.ready in
     rw (← c.self.view_is) (failed_told s c.self.invariant.sound lines are ready
-    c.in-Err.ensures.read stamped c.in-Err.fault script)
+    c.in-Err-Outside.ensures.read stamped c.in-Err-Outside.call script)
 
-pub returns-in-Err-clause-undamaged : goal.returns-in-Err-clause-undamaged
-returns-in-Err-clause-undamaged g c = rw c.from.ensures (undamaged_by Settled c.in-Err.fault)
+pub returns-clause-last : goal.returns-clause-last
+returns-clause-last g c =
+    last_by (Unit {0}) Settled (site_failed c.in-Err-Outside.call)
+    (rw c.in-Err-Outside.field-0-is at c.in-Err-Outside.ensures.last)
 
-pub returns-in-Err-clause-last : goal.returns-in-Err-clause-last
-returns-in-Err-clause-last g c =
-    rw c.from.ensures
-    (last_by (Unit {0}) Settled c.in-Err.fault c.in-Err.ensures.last)
-
-pub returns-in-Err-clause-cause : goal.returns-in-Err-clause-cause
-returns-in-Err-clause-cause g c =
-    rw c.from.ensures
-    (cause_by (Unit {0}) Settled c.in-Err.fault _ _ c.in-Err.ensures.cause)
+pub returns-clause-cause : goal.returns-clause-cause
+returns-clause-cause g c =
+    cause_by (Unit {0}) Settled (site_failed c.in-Err-Outside.call) _ _
+    (rw c.in-Err-Outside.field-0-is at c.in-Err-Outside.ensures.cause)
 
 pub returns-then-are_same-clause-undamaged : goal.returns-then-are_same-clause-undamaged
 returns-then-are_same-clause-undamaged g c =
@@ -194,3 +227,16 @@ returns-in-Ok-clause-last g c =
 pub returns-in-Ok-clause-cause : goal.returns-in-Ok-clause-cause
 returns-in-Ok-clause-cause g c =
     let same = c.in-Ok.ensures.cause in omega (arith, same)
+
+pub returns-in-Err-NoMemory-clause-cause : goal.returns-in-Err-NoMemory-clause-cause
+returns-in-Err-NoMemory-clause-cause g c =
+    cause_by (Unit {0}) Settled no_memory _ _
+    (rw c.in-Err-NoMemory.field-0-is at c.in-Err-NoMemory.ensures.cause)
+
+pub returns-in-Err-NoMemory-clause-undamaged : goal.returns-in-Err-NoMemory-clause-undamaged
+returns-in-Err-NoMemory-clause-undamaged g c =
+    tt
+
+pub returns-clause-undamaged : goal.returns-clause-undamaged
+returns-clause-undamaged g c =
+    tt

@@ -8,8 +8,9 @@ use Rattle.chk_agent.specs.Fields.{agent_view}
 use Rattle.chk_agent.specs.Adds.{with_added}
 use Rattle.chk_agent.specs.Takes.{Keeps, wanting}
 use Rattle.chk_agent.proofs.TurningFaults.{last_ok}
-use Rattle.chk_agent.proofs.AddingLines.{last_none, undamaged_by, last_by, cause_by}
-use Rattle.chk_agent.proofs.AddingKept.{same_room, kept_from, good_new, free_new, sound_more, kept_more, told_more, sound_room, failed_room, told_room, newest_left}
+use Rattle.chk_site.specs.declared.acts.OutsideFault.TheVariants.{Outside as site_failed, NoMemory as no_memory}
+use Rattle.chk_agent.proofs.AddingLines.{last_none, last_by, cause_by}
+use Rattle.chk_agent.proofs.AddingKept.{same_room, kept_from, good_new, free_new, sound_more, kept_more, told_more, sound_kept, sound_room, failed_room, told_room, told_unmade, unmade_room, newest_left}
 use Rattle.chk_agent.proofs.agent.Agent.write_more.Goals as goal
 
 pub returns-then-is_err-clause-state : goal.returns-then-is_err-clause-state
@@ -110,8 +111,50 @@ returns-clause-told g c stamped l m =
     (told_more s l lines k c.push_reserved.new.self.items more c.begin.new.self begun stamped
     c.in-Ok.ensures.read c.in-Ok.ensures.told)
 
-pub invariant_of-self-in-Err : goal.invariant_of-self-in-Err
-invariant_of-self-in-Err g c =
+pub invariant_of-self-in-Err-NoMemory : goal.invariant_of-self-in-Err-NoMemory
+invariant_of-self-in-Err-NoMemory g c =
+    let s = agent_view c.self.inside in
+    let l : Line = c.requires.more.0 in
+    let lines = map shown c.args.check.lines.items in
+    let k = kept_from s c.args.self.now c.self.view_is c.self.invariant.sound l c.args.start
+    c.args.adaptor lines c.requires.more.1
+    c.used-used.ensures.table.as_many in
+    record {
+      role = c.self.invariant.role;
+      sound = sound_kept s l lines k c.reserve.new.self.items c.reserve.ensures.items;
+    }
+
+pub returns-in-Err-NoMemory-clause-state : goal.returns-in-Err-NoMemory-clause-state
+returns-in-Err-NoMemory-clause-state g c l m =
+    let s = agent_view c.self.inside in
+    let lines = map shown c.args.check.lines.items in
+    let k = kept_from s c.args.self.now c.self.view_is c.self.invariant.sound l c.args.start
+    c.args.adaptor lines m
+    c.used-used.ensures.table.as_many in
+    rw (← c.self.view_is)
+    (unmade_room s l lines k c.reserve.new.self.items c.reserve.ensures.items
+    (rw c.in-Err-NoMemory.field-0-is at c.in-Err-NoMemory.ensures.told))
+
+pub returns-in-Err-NoMemory-clause-told : goal.returns-in-Err-NoMemory-clause-told
+returns-in-Err-NoMemory-clause-told g c stamped l m =
+    let s = agent_view c.self.inside in
+    let lines = map shown c.args.check.lines.items in
+    let k = kept_from s c.args.self.now c.self.view_is c.self.invariant.sound l c.args.start
+    c.args.adaptor lines m
+    c.used-used.ensures.table.as_many in
+    rw (← c.self.view_is)
+    (told_unmade s l lines k c.reserve.new.self.items c.reserve.ensures.items stamped
+    c.in-Err-NoMemory.ensures.read (rw c.in-Err-NoMemory.field-0-is at
+    c.in-Err-NoMemory.ensures.told) (rw c.in-Err-NoMemory.field-0-is at
+    c.in-Err-NoMemory.ensures.unmade))
+
+pub returns-in-Err-NoMemory-clause-last : goal.returns-in-Err-NoMemory-clause-last
+returns-in-Err-NoMemory-clause-last g c =
+    last_by (Unit {0}) (Unit {0}) no_memory (rw c.in-Err-NoMemory.field-0-is at
+    c.in-Err-NoMemory.ensures.last)
+
+pub invariant_of-self-in-Err-Outside : goal.invariant_of-self-in-Err-Outside
+invariant_of-self-in-Err-Outside g c =
     let s = agent_view c.self.inside in
     let l : Line = c.requires.more.0 in
     let lines = map shown c.args.check.lines.items in
@@ -123,41 +166,39 @@ invariant_of-self-in-Err g c =
       sound = sound_room s l lines k c.reserve.new.self.items c.reserve.ensures.items;
     }
 
-pub returns-in-Err-clause-state : goal.returns-in-Err-clause-state
-returns-in-Err-clause-state g c l m =
-    let s = agent_view c.self.inside in
-    let lines = map shown c.args.check.lines.items in
-    let k = kept_from s c.args.self.now c.self.view_is c.self.invariant.sound l c.args.start
-    c.args.adaptor lines m
-    c.used-used.ensures.table.as_many in
-    rw (← c.self.view_is, c.from.ensures)
-    (failed_room s l lines k c.reserve.new.self.items c.reserve.ensures.items c.in-Err.fault
-    c.in-Err.ensures.told)
-
-pub returns-in-Err-clause-told : goal.returns-in-Err-clause-told
-returns-in-Err-clause-told g c stamped l m =
+pub returns-in-Err-Outside-clause-state : goal.returns-in-Err-Outside-clause-state
+returns-in-Err-Outside-clause-state g c l m =
     let s = agent_view c.self.inside in
     let lines = map shown c.args.check.lines.items in
     let k = kept_from s c.args.self.now c.self.view_is c.self.invariant.sound l c.args.start
     c.args.adaptor lines m
     c.used-used.ensures.table.as_many in
     rw (← c.self.view_is)
-    (told_room s l lines k c.reserve.new.self.items c.reserve.ensures.items stamped c.in-Err.fault
-    c.in-Err.ensures.read
-    c.in-Err.ensures.told)
+    (failed_room s l lines k c.reserve.new.self.items c.reserve.ensures.items c.in-Err-Outside.call
+    (rw c.in-Err-Outside.field-0-is at c.in-Err-Outside.ensures.told))
 
-pub returns-in-Err-clause-undamaged : goal.returns-in-Err-clause-undamaged
-returns-in-Err-clause-undamaged g c = rw c.from.ensures (undamaged_by (Unit {0}) c.in-Err.fault)
+pub returns-in-Err-Outside-clause-told : goal.returns-in-Err-Outside-clause-told
+returns-in-Err-Outside-clause-told g c stamped l m =
+    let s = agent_view c.self.inside in
+    let lines = map shown c.args.check.lines.items in
+    let k = kept_from s c.args.self.now c.self.view_is c.self.invariant.sound l c.args.start
+    c.args.adaptor lines m
+    c.used-used.ensures.table.as_many in
+    rw (← c.self.view_is)
+    (told_room s l lines k c.reserve.new.self.items c.reserve.ensures.items stamped
+    c.in-Err-Outside.call
+    c.in-Err-Outside.ensures.read
+    (rw c.in-Err-Outside.field-0-is at c.in-Err-Outside.ensures.told))
 
-pub returns-in-Err-clause-last : goal.returns-in-Err-clause-last
-returns-in-Err-clause-last g c =
-    rw c.from.ensures
-    (last_by (Unit {0}) (Unit {0}) c.in-Err.fault c.in-Err.ensures.last)
+pub returns-in-Err-Outside-clause-last : goal.returns-in-Err-Outside-clause-last
+returns-in-Err-Outside-clause-last g c =
+    last_by (Unit {0}) (Unit {0}) (site_failed c.in-Err-Outside.call)
+    (rw c.in-Err-Outside.field-0-is at c.in-Err-Outside.ensures.last)
 
-pub returns-in-Err-clause-cause : goal.returns-in-Err-clause-cause
-returns-in-Err-clause-cause g c =
-    rw c.from.ensures
-    (cause_by (Unit {0}) (Unit {0}) c.in-Err.fault _ _ c.in-Err.ensures.cause)
+pub returns-in-Err-Outside-clause-cause : goal.returns-in-Err-Outside-clause-cause
+returns-in-Err-Outside-clause-cause g c =
+    cause_by (Unit {0}) (Unit {0}) (site_failed c.in-Err-Outside.call) _ _
+    (rw c.in-Err-Outside.field-0-is at c.in-Err-Outside.ensures.cause)
 
 pub returns-then-is_err-clause-undamaged : goal.returns-then-is_err-clause-undamaged
 returns-then-is_err-clause-undamaged g c =
@@ -182,3 +223,16 @@ returns-clause-last g c =
 pub returns-clause-cause : goal.returns-clause-cause
 returns-clause-cause g c =
     let same = c.in-Ok.ensures.cause in omega (arith, same)
+
+pub returns-in-Err-NoMemory-clause-cause : goal.returns-in-Err-NoMemory-clause-cause
+returns-in-Err-NoMemory-clause-cause g c =
+    cause_by (Unit {0}) (Unit {0}) no_memory _ _
+    (rw c.in-Err-NoMemory.field-0-is at c.in-Err-NoMemory.ensures.cause)
+
+pub returns-in-Err-NoMemory-clause-undamaged : goal.returns-in-Err-NoMemory-clause-undamaged
+returns-in-Err-NoMemory-clause-undamaged g c =
+    tt
+
+pub returns-in-Err-Outside-clause-undamaged : goal.returns-in-Err-Outside-clause-undamaged
+returns-in-Err-Outside-clause-undamaged g c =
+    tt
