@@ -25,7 +25,7 @@ use Rattle.chk_merge.proofs.Causes.{late_gone_in, late_unsound}
 use Rattle.chk_archive.specs.FolderNames.{closed_in}
 use Rattle.chk_archive.specs.Listed.{sources_in}
 use Rattle.chk_archive.specs.Starts.{HaveStartsIn, ToldOtherStart}
-use Rattle.chk_archive.specs.Shown.{IsUnfit, other_start, gone, IsUntaken, no_chunks, unfit, ShowsTaken, no_book, unsound, untaken, ShowsBegun, ShowsSettled, ShowsArchived}
+use Rattle.chk_archive.specs.Shown.{IsUnfit, other_start, gone, IsUntaken, no_chunks, unfit, ShowsTaken, no_book, unsound, untaken, ShowsBegun, ShowsSettled, GivesNames, GaveNames, ShowsArchived}
 
 -- ---- later steps
 
@@ -189,31 +189,42 @@ pub archived_kept : (T : Type 0) (value : T) {P : History → History → Type 0
     → Adds old mid (ShowsArchived {T = T} (Ok value)) → Adds mid new P → Adds old new (ShowsArchived {T = T} (Ok value))
 archived_kept T value so_far told =
     adds_then (ShowsArchived {T = T} (Ok value)) so_far told
-    (λ a b history x y. (x.0, x.1, within_early _ b a history x.2, (x.3.0, within_early _ b a history x.3.1, x.3.2)))
+    (λ a b history x y. (
+      x.0,
+      x.1,
+      within_early _ b a history x.2,
+      within_early _ b a history x.3,
+      (x.4.0, within_early _ b a history x.4.1, x.4.2),
+    ))
 
-pub archived_so : {T : Type 0} (b : Book) (names : List (List ℕ)) (result : Result T JobFault) {P : History → History → Type 0}
-    {old mid next new : Option History} → Adds old mid (ShowsSettled (Ok b)) → Adds mid next P
+pub archived_so : {T : Type 0} (b : Book) (names : List (List ℕ)) (result : Result T JobFault)
+    {old mid next new : Option History} → Adds old mid (ShowsSettled (Ok b)) → Adds mid next (GivesNames names)
     → Adds next new (ShowsTaken b.ends (sources_in b names) result) → Adds old new (ShowsArchived result)
 archived_so b names result so_far listed told =
     adds_then (ShowsArchived result)
-    (adds_then (ShowsSettled (Ok b)) so_far listed (λ a d history x y. (x.0, within_early _ d a history x.1, x.2, x.3))) told
-    (λ a d history x y. said result a d history x y)
+    (adds_then (λ added history. ShowsSettled (Ok b) added history × GaveNames names added history) so_far listed
+    (λ a d history x y. (
+      (x.0, within_early _ d a history x.1, x.2, x.3),
+      within_late _ d a history (within_all _ d (a ++ history) y),
+    ))) told
+    (λ a d history x y. said result a d history x.0 x.1 y)
   where
-    said : {T : Type 0} (result : Result T JobFault) (a d history : History) → ShowsSettled (Ok b) a history
+    said : {T : Type 0} (result : Result T JobFault) (a d history : History) → ShowsSettled (Ok b) a history → GaveNames names a history
         → ShowsTaken b.ends (sources_in b names) result d (a ++ history) → ShowsArchived result (d ++ a) history
-    said (Ok value) a d history x y = (
+    said (Ok value) a d history x gave y = (
       x.0,
       names,
       within_early _ d a history x.1,
+      within_early _ d a history gave,
       subst (λ es. ShowsTaken {T = Unit {0}} es (sources_in x.0 names) (Ok tt) (d ++ a) history) x.2
           (subst (λ ws. ShowsTaken {T = Unit {0}} b.ends ws (Ok tt) (d ++ a) history) (same_sources b x.0 names x.3)
           (y.0, within_late _ d a history y.1, y.2)),
     )
-    said (Err (Outside call)) a d history x y = tt
-    said (Err (Damaged name at)) a d history x y =
-        untaken x.0 names (within_early _ d a history x.1)
+    said (Err (Outside call)) a d history x gave y = tt
+    said (Err (Damaged name at)) a d history x gave y =
+        untaken x.0 names (within_early _ d a history x.1) (within_early _ d a history gave)
         (subst (λ es. IsUntaken es (sources_in x.0 names) name at (d ++ a) history) x.2
         (subst (λ ws. IsUntaken b.ends ws name at (d ++ a) history) (same_sources b x.0 names x.3)
         (late_untaken b.ends (sources_in b names) name at d a history y)))
-    said (Err (Spent n)) a d history x y = tt
-    said (Err NoMemory) a d history x y = tt
+    said (Err (Spent n)) a d history x gave y = tt
+    said (Err NoMemory) a d history x gave y = tt

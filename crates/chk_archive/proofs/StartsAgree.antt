@@ -1,5 +1,5 @@
 -- Where all of each stream's records and its end have one start, no record has another one.
-use Rattle.std.proofs.Common.{◌≡◌, ◌<◌, ℕ, zero, suc, Bool, true, false, List, [], ◌∷◌, length, ap, sym, subst, ◌∙◌, refl, arith, true≢false, if◌then◌else◌}
+use Rattle.std.proofs.Common.{◌≡◌, ◌<◌, ℕ, zero, suc, Bool, true, false, List, [], ◌∷◌, length, ap, sym, subst, ◌∙◌, refl, arith, if◌then◌else◌}
 use Rattle.std.specs.List.{AllZip}
 use Rattle.chk_chunk.specs.Keys.{Stream, Key, Chunk, same_stream}
 use Rattle.chk_world.specs.Books.{End}

@@ -30,7 +30,8 @@ use Rattle.chk_plan.specs.Plan.{parts_of, ends_of, set_aside}
 use Rattle.chk_parts.specs.declared.cuts.Cut.{Cut}
 use Rattle.chk_heads.specs.Heads.{Head}
 use Rattle.chk_parts.specs.Cuts.{cut_chunks, AreWithin}
-use Rattle.chk_parts.specs.Kept.{is_first, are_old_aside, past_chunks, KeptTold}
+use Rattle.chk_parts.specs.Kept.{is_first, are_old_aside, past_chunks, KeptTold, IsFirst}
+use Rattle.chk_parts.proofs.KeptOnce.{Differ, once_differ}
 use Rattle.chk_archive.specs.Starts.{HaveStartsIn, ToldOtherStart}
 use Rattle.chk_archive.proofs.StartsAgree.{starts_of_records, no_other_start}
 use Rattle.chk_plan.specs.declared.spans.Span.{Span}
@@ -38,7 +39,7 @@ use Rattle.chk_plan.specs.Passes.{AreSpans}
 use Rattle.chk_plan.proofs.Runs.{all_put}
 use Rattle.chk_heads.specs.Order.{in_head_order}
 use Rattle.chk_world.proofs.BooksTrue.{has_start_is}
-use Rattle.chk_world.proofs.Each.{each_from}
+use Rattle.chk_world.proofs.Each.{Each, each_from}
 use Rattle.chk_parts.specs.Gathering.{heads_of, Found}
 use Rattle.chk_parts.specs.Records.{AreRecords}
 use Rattle.chk_parts.specs.Writes.{HoldsChunks}
@@ -58,7 +59,7 @@ use Rattle.chk_archive.proofs.Listings.{limits_agree, legal_then, own_then}
 use Rattle.chk_archive.proofs.FoundSources.{K, founded, true_book}
 use Rattle.chk_archive.proofs.NextBook.{Ends, Cs, may_follow, now_reached}
 use Rattle.chk_archive.proofs.Preparing.{below_book, below_segment}
-use Rattle.chk_archive.proofs.FoundPlan.{Files, Hs, all_records, can_prepare, parts_are, kept_are, taken_is}
+use Rattle.chk_archive.proofs.FoundPlan.{Files, Hs, all_records, can_prepare, asks_as_needed, parts_are, kept_are, taken_is}
 use Rattle.chk_archive.proofs.Readied.{merges_start, quiet_merge}
 
 -- ---- over a publication
@@ -157,7 +158,7 @@ module _ (stamped : List (List ℕ)) (names : List (List ℕ)) (b : Book) (v : S
     (at : IsListed stamped names b v) (new : Book) (parts kept : List Chunk)
     (parts_are : parts ≡ parts_of (Ends stamped names b v at) (Cs stamped names b v at))
     (kept_are : kept ≡ set_aside (ends_of (Ends stamped names b v at) (Cs stamped names b v at)) (Cs stamped names b v at))
-    (stays : Bool) (stays_are : stays ≡ true → kept ≡ own_aside v) where
+    (stays : Bool) (stays_are : stays ≡ true → kept ≡ own_aside v) (asks : asked stays kept ≤ one_aside kept (own_aside v)) where
   by_stream : SameByStream parts (parts_of (Ends stamped names b v at) (Cs stamped names b v at))
   by_stream s = ap (filter (is_of s)) parts_are
 
@@ -174,6 +175,15 @@ module _ (stamped : List (List ℕ)) (names : List (List ℕ)) (b : Book) (v : S
       (let low = aside_low stays (aside_chunks (files_after (K stamped names b v at).upto)) kept
       (λ e. stays_are e ∙ asides_then) in
       omega (arith, low)))
+
+  -- and no more are asked for
+  needed_least : one_for parts + asked stays kept ≤ needed_behind (K stamped names b v at)
+  needed_least =
+      subst (λ (ps : List Chunk). one_for parts + asked stays kept ≤ one_for ps + one_aside
+      (kept_aside (K stamped names b v at)) (aside_chunks (files_after (K stamped names b v at).upto))) parts_are
+      (subst (λ (ks : List Chunk). one_for parts + asked stays kept ≤ one_for parts + one_aside ks
+      (aside_chunks (files_after (K stamped names b v at).upto))) kept_are
+      (let less = subst (λ (o : List Chunk). asked stays kept ≤ one_aside kept o) asides_then asks in omega (arith, less)))
 
   module _ (u : Sight) (changed : Bool) (ready : IsReady v b new parts kept stays changed u) where
     book_ready : own_book u ArchiveFolder ≡ b
@@ -243,13 +253,12 @@ module _ (stamped : List (List ℕ)) (names : List (List ℕ)) (b : Book) (v : S
         alive = λ runs.
             let x = k.alive runs in
             let lacks = x.1 in
-            let first : one_for parts ≡ one_for (taken_parts (K stamped names b v at)) = ap one_for parts_are in
-            let second : one_for kept ≡ one_for (kept_aside (K stamped names b v at)) = ap one_for kept_are in
+            let least = needed_least in
             record {
               last_number = x.0;
               l = K stamped names b v at;
               last = x.3 ∙ at.shows.last;
-              lacks = omega (arith, lacks, first, second);
+              lacks = omega (arith, lacks, least);
             };
       }
       go NoMemory k = k
@@ -377,6 +386,18 @@ module _ (stamped : List (List ℕ)) (names : List (List ℕ)) (b : Book) (v : S
 
     pub kept_so : once (past_chunks (Cs stamped names b v at) p.spans.items) ≡ kept_aside (K stamped names b v at)
     kept_so = kept_are stamped names b v at p planned_so
+
+    -- a segment for what is set aside is asked for only where it is needed
+    pub asks_so : (kept : List Cut) → Each (IsFirst (Cs stamped names b v at) p.spans.items) kept
+        → cut_chunks (Cs stamped names b v at) kept ≡ kept_aside (K stamped names b v at)
+        → asked (stays_aside b heads old kept) (cut_chunks (Cs stamped names b v at) kept)
+        ≤ one_aside (cut_chunks (Cs stamped names b v at) kept) (own_aside v)
+    asks_so kept first is =
+        subst (λ h. asked (stays_aside b h old kept) (cut_chunks (Cs stamped names b v at) kept)
+        ≤ one_aside (cut_chunks (Cs stamped names b v at) kept) (own_aside v)) (sym in_order_are)
+        (asks_as_needed stamped names b v at old
+        (sorted.count ∙ ap (λ f. count_by is_first (heads_of v 0 f)) sorted.files_are) p planned_so kept first
+        (subst Differ (sym (is ∙ sym kept_so)) (once_differ (past_chunks (Cs stamped names b v at) p.spans.items))))
 
     pub gain_so : p.taken ≡ total_gain (Ends stamped names b v at) (Cs stamped names b v at)
     gain_so = taken_is stamped names b v at p planned_so

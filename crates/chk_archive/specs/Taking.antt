@@ -30,7 +30,7 @@ use Rattle.chk_parts.specs.Gathering.{heads_of}
 use Rattle.chk_parts.specs.Kept.{AreSpansWithin, is_first, are_old_aside}
 use Rattle.chk_parts.specs.declared.cuts.Cut.{Cut}
 use Rattle.chk_archive.specs.Numbers.{Numbered}
-use Rattle.chk_archive.specs.Written.{one_for, taken_parts, needed_behind, asked_behind}
+use Rattle.chk_archive.specs.Written.{one_for, taken_parts, needed_behind}
 use Rattle.chk_parts.specs.Publishing.{MayFollow}
 use Rattle.chk_parts.specs.Writes.{HoldsChunks}
 use Rattle.chk_archive.specs.declared.taking.Planned.{Planned}
@@ -123,16 +123,16 @@ pub record HasAside (v : Sight) (old new : Book) (kept : List Chunk) (stays chan
   pub numbers : new.next ≡ old.next + asked stays kept
   pub unchanged : changed ≡ false → new ≡ old
 
--- where the numbers are spent, the next one is the last, a segment is needed, and the archive has the book that it had
-abbrev pub IsLast : Book → Sight → List Chunk → ℕ → Sight → Type 0
-IsLast b v kept n u =
-    (n ≡ 2 ^ 63 - 1) × (b.next ≡ 2 ^ 63 - 1) × (one_for kept ≡ 1) × (own_book u ArchiveFolder ≡ own_book v ArchiveFolder)
+-- where the numbers are spent, the next one is the last, one segment is needed, and the archive has the book that it had
+abbrev pub IsLast : Book → Sight → ℕ → ℕ → Sight → Type 0
+IsLast b v needed n u =
+    (n ≡ 2 ^ 63 - 1) × (b.next ≡ 2 ^ 63 - 1) × (needed ≡ 1) × (own_book u ArchiveFolder ≡ own_book v ArchiveFolder)
     × (u.listing ≡ v.listing)
 
 abbrev pub AsideKept : List (List ℕ) → Sight → Book → Book → List Chunk → Bool → Result Bool JobFault → History → Type 0
 AsideKept stamped v old new kept stays (Ok changed) history = AtJob stamped (HasAside v old new kept stays changed) history
 AsideKept stamped v old new kept stays (Err (Damaged name at)) history = AtTold stamped job (λ h. ⊥) history
-AsideKept stamped v old new kept stays (Err (Spent n)) history = AtJob stamped (IsLast old v kept n) history
+AsideKept stamped v old new kept stays (Err (Spent n)) history = AtJob stamped (IsLast old v (asked stays kept) n) history
 AsideKept stamped v old new kept stays (Err fault) history = Legal stamped history
 
 -- what is kept is what the aside segment has, or there is none of both
@@ -148,13 +148,13 @@ pub record IsReady (v : Sight) (old new : Book) (parts kept : List Chunk) (stays
   pub numbers : new.next ≡ old.next + (one_for parts + asked stays kept)
   pub unchanged : changed ≡ false → new ≡ old
 
--- none of the files is damaged; the numbers are spent only where fewer are left than the run asks for
+-- none of the files is damaged; the numbers are spent only where fewer are left than the run needs
 abbrev pub Prepared : List (List ℕ) → Sight → Book → Book → List Chunk → List Chunk → Bool → Result Bool JobFault → History → Type 0
 Prepared stamped v old new parts kept stays (Ok changed) history =
     AtJob stamped (IsReady v old new parts kept stays changed) history
 Prepared stamped v old new parts kept stays (Err (Damaged name at)) history = AtTold stamped job (λ h. ⊥) history
 Prepared stamped v old new parts kept stays (Err (Spent n)) history =
-    AtJob stamped (λ u. IsSpentFor (one_for parts + one_for kept) v n u) history
+    AtJob stamped (λ u. IsSpentFor (one_for parts + asked stays kept) v n u) history
 Prepared stamped v old new parts kept stays (Err fault) history = Legal stamped history
 
 -- all that was found is taken, as far as it goes on without a gap, and what lies past a gap is set aside; so says the archive's
@@ -176,12 +176,12 @@ pub record TookAll (v : Sight) (new : Book) (t : Taken) (u : Sight) : Type 0 whe
       → u.own (SegmentFile ArchiveFolder k) ≡ v.own (SegmentFile ArchiveFolder k)
   pub numbers : (own_book v ArchiveFolder).next + needed_behind l ≤ new.next
 
--- where the numbers are spent, fewer are left than the last listing asks for
+-- where the numbers are spent, fewer are left than are needed for what the last listing shows
 pub record TookNone (n : ℕ) (u : Sight) : Type 0 where
   pub last_number : n ≡ 2 ^ 63 - 1
   pub l : Listing
   pub last : u.listing ≡ Some l
-  pub lacks : 2 ^ 63 ≤ (own_book u ArchiveFolder).next + asked_behind l
+  pub lacks : 2 ^ 63 ≤ (own_book u ArchiveFolder).next + needed_behind l
 
 abbrev pub TookSo : List (List ℕ) → Sight → Book → Book → Result Taken JobFault → History → Type 0
 TookSo stamped v old new (Ok t) history = AtJob stamped (TookAll v new t) history

@@ -70,18 +70,14 @@ one_merge b = if nat_le 16 (length b.segments) then 1 else 0
 abbrev pub needed_behind : Listing → ℕ
 needed_behind l = one_for (taken_parts l) + one_aside (kept_aside l) (aside_chunks (files_after l.upto))
 
--- how many a run may ask for: an aside segment also where the old one has the same chunks
-abbrev pub asked_behind : Listing → ℕ
-asked_behind l = one_for (taken_parts l) + one_for (kept_aside l)
-
 -- the numbers suffice for all that the run had to write
 abbrev pub HadNumbers : Book → Listing → Type 0
 HadNumbers loaded l = loaded.next + (one_merge loaded + needed_behind l) < 2 ^ 63
 
 -- No number is left for a segment that is needed now: the archive's book has 16 segments or more and the last number, or it has
--- fewer numbers left than the last listing asks for.
+-- fewer numbers left than what the last listing shows needs.
 pub data LacksNumbers (history : History) : Type 0 where
   for_merge : 16 ≤ length (book_of (files_after history) ArchiveFolder).segments
       → (book_of (files_after history) ArchiveFolder).next ≡ 2 ^ 63 - 1 → LacksNumbers history
   for_new : (l : Listing) → last_listing history ≡ Some l
-      → 2 ^ 63 ≤ (book_of (files_after history) ArchiveFolder).next + asked_behind l → LacksNumbers history
+      → 2 ^ 63 ≤ (book_of (files_after history) ArchiveFolder).next + needed_behind l → LacksNumbers history

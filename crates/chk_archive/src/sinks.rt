@@ -11,6 +11,7 @@ ghost use Rattle.chk_world.specs.Rules.{Legal};
 ghost use Rattle.chk_world.specs.Sight.{job, AtJob};
 ghost use Rattle.chk_world.specs.JobSteps.{IsOf};
 ghost use Rattle.chk_archive.specs.Archived.{GivenOnce, ListedOnce};
+ghost use Rattle.chk_archive.specs.Shown.{GivesNames};
 ghost use Rattle.chk_archive.specs.Sinks.{OwnAre, MayGo, SinksListed, ListsSinks, RemovesShown, SinksRemoved};
 
 use crate::calling::{list_folder, remove_all};
@@ -35,6 +36,7 @@ pub(crate) fn list_sinks<S: Site>(
     ensures own { Adds (S.told site.old) (S.told site.new) (Every (IsOf ListsSinks)) }
     ensures once { Adds (S.told site.old) (S.told site.new) (ListedOnce result) }
     ensures given { OnOk result (Adds (S.told site.old) (S.told site.new) GivenOnce) }
+    ensures names { IfOk result (λ names. Adds (S.told site.old) (S.told site.new) (GivesNames names.items)) }
     ensures last { Adds (S.told site.old) (S.told site.new) (LastFailed result) }
     ensures cause { OutsideCause (S.fault_count site.old) (S.fault_count site.new) result }
 {

@@ -6,6 +6,7 @@ ghost use Rattle.chk_site.specs.History.{Every};
 ghost use Rattle.chk_site.specs.Site.{Adds, LastFailed, OutsideCause};
 ghost use Rattle.chk_site.specs.Runs.{anyhow, Leads};
 ghost use Rattle.chk_chunk.specs.Keys.{Chunk};
+ghost use Rattle.chk_world.proofs.Each.{Each};
 ghost use Rattle.chk_world.specs.Places.{As};
 ghost use Rattle.chk_world.specs.Sight.{job, Sight, own_book, AtJob};
 ghost use Rattle.chk_world.specs.JobSteps.{IsOf};
@@ -18,6 +19,7 @@ ghost use Rattle.chk_archive.specs.Shown.{IsUnfit, ShowsTaken};
 ghost use Rattle.chk_book.specs.Books.{book_view};
 ghost use Rattle.chk_merge.specs.Segments.{HasFiles, SparesFiles, AreSettled};
 ghost use Rattle.chk_parts.specs.Cuts.{AreWithin, cut_chunks};
+ghost use Rattle.chk_parts.specs.Kept.{IsFirst};
 ghost use Rattle.chk_parts.specs.Records.{AreRecords};
 ghost use Rattle.chk_archive.specs.Archived.{MergesBy, ReplacesBook};
 ghost use Rattle.chk_archive.specs.Listed.{IsListed, sources_in};
@@ -180,6 +182,7 @@ fn write_planned<S: Site>(
     ensures told { (stamped : List (List ℕ)) (v : Sight) (names : List (List ℕ)) (at : IsListed stamped names (book_view book.old) v)
         → AreSorted v (sources_in (book_view book.old) names) files.now heads.now old
         → cut_chunks (in_order (found at.shows.listing)) kept.now ≡ kept_aside at.shows.listing
+        → Each (IsFirst (in_order (found at.shows.listing)) planned.now.spans.items) kept.now
         → Adds (S.told site.old) (S.told site.new)
         (Leads (As stamped job) (AtJob stamped (λ u. u ≡ v)) (TookSo stamped v (book_view book.old) (book_view book.new) result)) }
     ensures shown { Adds (S.told site.old) (S.told site.new) (Shows (IsGoneIn files.now heads.now) result) }

@@ -14,3 +14,4 @@ pub mod Written
 pub mod Adding
 pub mod Causes
 pub mod Laws
+pub mod Publishing

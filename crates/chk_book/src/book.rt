@@ -12,7 +12,8 @@ ghost use Rattle.chk_world.specs.Sight.{job};
 ghost use Rattle.chk_world.specs.JobSteps.{IsOf, ReadsFile, SparesFile};
 ghost use Rattle.chk_chunk.specs.Keys.{same_stream};
 ghost use Rattle.chk_world.specs.Books.{empty_book, is_book, book_bytes, written_version};
-ghost use Rattle.chk_heads.specs.Faults.{JobCause, FailsLast, IsOfRead};
+ghost use Rattle.chk_heads.specs.Faults.{JobCause, FailsLast, IsOfRead, IsOfWrite};
+ghost use Rattle.chk_book.specs.Publishing.{site_result};
 ghost use Rattle.chk_heads.specs.Pieces.{AsksInPieces};
 ghost use Rattle.chk_book.specs.Folders.{is_folder, book_name};
 ghost use Rattle.chk_book.specs.Books.{book_view, end_in};
@@ -58,6 +59,27 @@ impl Book {
     /// Publishes the book: writes it to `<folder>/book.tmp`, syncs that and renames it. The folder's book is the old one or
     /// this one at every moment, also after a refusal. It costs five calls and twice the book's bytes.
     pub fn publish<S: Site>(
+        &self,
+        alloc: Global,
+        site: &mut S,
+        who: &Who,
+        folder: &str,
+    ) -> Result<(), JobFault>
+        requires folder { IsTrue (is_folder folder.now) }
+        requires book { IsTrue (is_book (written_version (book_view self.now)) (book_view self.now)) }
+        ensures told { MadeInTurn (replacement who.now (book_name folder.now)
+            (book_bytes (written_version (book_view self.now)) (book_view self.now))) (site_result result)
+            (S.told site.old) (S.told site.new) }
+        ensures only { IfErr result IsOfWrite }
+        ensures last { Adds (S.told site.old) (S.told site.new) (FailsLast result) }
+        ensures cause { JobCause (S.fault_count site.old) (S.fault_count site.new) result }
+    {
+        self.write(alloc, site, who, folder)?;
+        Ok(())
+    }
+
+    /// What `publish` does, for a caller that has no other faults than those of calls and of memory.
+    pub fn write<S: Site>(
         &self,
         alloc: Global,
         site: &mut S,

@@ -1,6 +1,7 @@
 -- The split of each stream from its last record on.
-use Rattle.std.specs.Prelude.{ℕ, ◌-◌, ◌<◌, ◌≤◌, Bool, ◌&&◌, nat_lt, max, IsTrue, IsFalse, List, length, ◌++◌, take, drop, filter, flat_map, sum_by, bytes_eq}
+use Rattle.std.specs.Prelude.{ℕ, ◌-◌, ◌<◌, ◌≤◌, Bool, ◌&&◌, nat_lt, max, IsTrue, IsFalse, List, length, ◌++◌, take, drop, filter, flat_map, map, sum_by, bytes_eq}
 use Rattle.std.specs.List.{list_any}
+use Rattle.std.specs.Borrow.{Bor}
 use Rattle.chk_bytes.specs.Words.{joined}
 use Rattle.chk_chunk.specs.Keys.{Stream, Chunk, chunk_begin, stream_lt, is_of}
 use Rattle.chk_world.specs.Books.{End, Book}
@@ -40,6 +41,10 @@ pub record RunsSo (cs : List Chunk) (e : End) (from : ℕ) : Type 0 where
   pub bytes : Each HasBytes cs
   pub run : Run e.start e.start (filter (is_of e.stream) cs) e.end
   pub from_on : e.start ≤ from
+
+-- these texts, without the borrows
+abbrev pub texts : List (Bor (List ℕ)) → List (List ℕ)
+texts words = map (λ t. t.now) words
 
 -- the type is one of these
 abbrev pub is_stamped : List (List ℕ) → List ℕ → Bool

@@ -26,7 +26,7 @@ ghost use Rattle.chk_demux.specs.Demuxed.{Earlier, Begun, Demuxed, DemuxesBy, Na
 ghost use Rattle.chk_demux.specs.Entering.{MayEnter, Entered};
 ghost use Rattle.chk_demux.specs.Working.{Worked, EndsSo};
 ghost use Rattle.chk_demux.specs.Writes.{IsFree, IsWriter, IsOutput, SoFar};
-ghost use Rattle.chk_demux.specs.Splitting.{all_chunks, all_left};
+ghost use Rattle.chk_demux.specs.Splitting.{texts, all_chunks, all_left};
 ghost use Rattle.chk_demux.specs.Running.{IsReady, Ran, RunsOn, CanSplit, archive_heads, Reports};
 
 use crate::beginning::begin;
@@ -110,7 +110,7 @@ fn split_named<S: Site>(
     alloc: Global,
     site: &mut S,
     who: &Who,
-    types: &[Word],
+    types: &[&str],
     archive: &Book,
     book: &Book,
     output: &mut Output,
@@ -122,8 +122,8 @@ fn split_named<S: Site>(
         → Adds (S.told site.old) (S.told site.new)
         (Leads (As stamped job) (AtJob stamped (λ u. u ≡ v))
         (EndsSo stamped v (book_view book.now).next (λ left u. IsOutput v
-        (all_chunks types.now (book_view book.now) (archive_heads v (book_view archive.now)) cs (book_view archive.now).ends) output.new u
-        × (left ≡ all_left types.now (book_view book.now) cs (book_view archive.now).ends)) result)) }
+        (all_chunks (texts types.now) (book_view book.now) (archive_heads v (book_view archive.now)) cs (book_view archive.now).ends) output.new u
+        × (left ≡ all_left (texts types.now) (book_view book.now) cs (book_view archive.now).ends)) result)) }
     ensures raw { (held : Files) → AreSettled (names_of (codes "archive") (book_view archive.now)) held
         → HasCounts (book_view archive.now)
         → Adds (S.told site.old) (S.told site.new)
@@ -181,12 +181,12 @@ fn split_archive<S: Site>(
     alloc: Global,
     site: &mut S,
     who: &Who,
-    types: &[Word],
+    types: &[&str],
     archive: &Book,
     book: &mut Book,
 ) -> Result<DemuxReport, JobFault>
     requires { who.now ≡ job }
-    ensures told { (stamped : List (List ℕ)) (v : Sight) → NamesStamped stamped types.now
+    ensures told { (stamped : List (List ℕ)) (v : Sight) → NamesStamped stamped (texts types.now)
         → IsReady stamped (book_view archive.now) (book_view book.old) v
         → Adds (S.told site.old) (S.told site.new)
         (Leads (As stamped job) (AtJob stamped (λ u. u ≡ v)) (Ran stamped v result)) }
@@ -225,10 +225,10 @@ pub fn demux<S: Site>(
     alloc: Global,
     site: &mut S,
     who: &Who,
-    types: &[Word],
+    types: &[&str],
 ) -> Result<DemuxReport, JobFault>
     requires { who.now ≡ job }
-    ensures told { (stamped : List (List ℕ)) (before : Earlier) → NamesStamped stamped types.now
+    ensures told { (stamped : List (List ℕ)) (before : Earlier) → NamesStamped stamped (texts types.now)
         → Adds (S.told site.old) (S.told site.new)
         (Leads (As stamped job) (Begun stamped before) (Demuxed stamped before result)) }
     ensures raw { (held : Files) → AreSettled (reads_of held) held → Adds (S.told site.old) (S.told site.new)

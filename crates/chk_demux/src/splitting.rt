@@ -27,7 +27,7 @@ ghost use Rattle.chk_demux.specs.Working.{Worked, EndsSo};
 ghost use Rattle.chk_heads.specs.Causes.{Shows};
 ghost use Rattle.chk_merge.specs.Gone.{IsGoneIn};
 ghost use Rattle.chk_demux.specs.Writes.{IsFree, IsWriter, IsOutput};
-ghost use Rattle.chk_demux.specs.Splitting.{past_in, split_from, ends_past, is_stamped, RunsSo, SplitSoFar, SplitAll, StreamsRise, HoldsStream, stream_chunks, stream_left, all_chunks, all_left};
+ghost use Rattle.chk_demux.specs.Splitting.{texts, past_in, split_from, ends_past, is_stamped, RunsSo, SplitSoFar, SplitAll, StreamsRise, HoldsStream, stream_chunks, stream_left, all_chunks, all_left};
 
 use crate::blocks::{Block, block_of};
 use crate::giving::{is_of, split_value};
@@ -43,10 +43,15 @@ use chk_splitter::Splitter;
 use std::alloc::Global;
 
 /// The type is one of those that are split by stamps.
-fn is_stamped(kind: &str, types: &[Word]) -> bool
-    ensures { result ≡ list_any (bytes_eq kind.now) types.now }
+fn is_stamped(kind: &str, types: &[&str]) -> bool
+    ensures { result ≡ list_any (bytes_eq kind.now) (texts types.now) }
 {
-    types.iter().any(|word| word.as_str() == kind)
+    for name in types {
+        if kind == *name {
+            return true;
+        }
+    }
+    false
 }
 
 /// Where the split of a stream goes on: behind its last record, or at its start. That record's end is looked for as
@@ -127,7 +132,7 @@ fn split_stream<S: Site>(
     alloc: Global,
     site: &mut S,
     who: &Who,
-    types: &[Word],
+    types: &[&str],
     book: &Book,
     output: &mut Output,
     reader: &mut RecordReader,
@@ -147,8 +152,8 @@ fn split_stream<S: Site>(
         → Adds (S.told site.old) (S.told site.new)
         (Leads (As stamped job) (AtJob stamped (λ u. IsOutput v outs output.old u × AreWindows v files.now reader.old))
         (EndsSo stamped v (book_view book.now).next (λ left u. IsOutput v
-        (outs ++ stream_chunks types.now (book_view book.now) heads.now cs (end_view end.now)) output.new u
-        × AreWindows v files.now reader.new × (left ≡ stream_left types.now (book_view book.now) cs (end_view end.now))) result)) }
+        (outs ++ stream_chunks (texts types.now) (book_view book.now) heads.now cs (end_view end.now)) output.new u
+        × AreWindows v files.now reader.new × (left ≡ stream_left (texts types.now) (book_view book.now) cs (end_view end.now))) result)) }
     ensures raw { (v : Sight) (cs : List Chunk) → AreRecords v files.now heads.now cs → AreSettled files.now (held v)
         → AreApart files.now (segment_name (codes "demux") (book_view book.now).next) → Adds (S.told site.old) (S.told site.new)
         (Leads (anyhow (SparesFiles files.now)) (λ h. HasFiles files.now (held v) h × AreWindows v files.now reader.old)
@@ -185,7 +190,7 @@ pub(crate) fn split_streams<S: Site>(
     alloc: Global,
     site: &mut S,
     who: &Who,
-    types: &[Word],
+    types: &[&str],
     archive: &Book,
     book: &Book,
     output: &mut Output,
@@ -199,8 +204,8 @@ pub(crate) fn split_streams<S: Site>(
         → StreamsRise heads.now → IsTrue (ends_rise (book_view book.now).ends) → Adds (S.told site.old) (S.told site.new)
         (Leads (As stamped job) (AtJob stamped (IsOutput v [] output.old))
         (EndsSo stamped v (book_view book.now).next (λ left u. IsOutput v
-        (all_chunks types.now (book_view book.now) heads.now cs (book_view archive.now).ends) output.new u
-        × (left ≡ all_left types.now (book_view book.now) cs (book_view archive.now).ends)) result)) }
+        (all_chunks (texts types.now) (book_view book.now) heads.now cs (book_view archive.now).ends) output.new u
+        × (left ≡ all_left (texts types.now) (book_view book.now) cs (book_view archive.now).ends)) result)) }
     ensures raw { (v : Sight) (cs : List Chunk) → AreRecords v files.now heads.now cs → AreSettled files.now (held v)
         → AreApart files.now (segment_name (codes "demux") (book_view book.now).next) → Adds (S.told site.old) (S.told site.new)
         (Leads (anyhow (SparesFiles files.now)) (HasFiles files.now (held v))

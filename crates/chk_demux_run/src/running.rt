@@ -11,10 +11,10 @@ ghost use Rattle.chk_heads.specs.Faults.{JobCause, FailsLast};
 ghost use Rattle.chk_heads.specs.Causes.{Shows};
 ghost use Rattle.chk_demux.specs.Demuxed.{Earlier, Begun, Demuxed, NamesStamped};
 ghost use Rattle.chk_demux.specs.Shown.{IsDamage};
+ghost use Rattle.chk_demux.specs.Splitting.{texts};
 ghost use Rattle.chk_demux_run.specs.Telling.{DemuxesAndTells, IsTold, EndsRunning};
 
 use crate::telling::tell;
-use chk_bytes::Word;
 use chk_demux::{DemuxReport, demux};
 use chk_heads::JobFault;
 use chk_site::{Site, Who};
@@ -26,10 +26,10 @@ pub fn run_demux<S: Site>(
     alloc: Global,
     site: &mut S,
     who: &Who,
-    types: &[Word],
+    types: &[&str],
 ) -> Result<DemuxReport, JobFault>
     requires { who.now ≡ job }
-    ensures told { (stamped : List (List ℕ)) (before : Earlier) → NamesStamped stamped types.now
+    ensures told { (stamped : List (List ℕ)) (before : Earlier) → NamesStamped stamped (texts types.now)
         → Adds (S.told site.old) (S.told site.new)
         (Leads (As stamped job) (Begun stamped before) (Demuxed stamped before result)) }
     ensures own { Adds (S.told site.old) (S.told site.new) (Every (IsOf DemuxesAndTells)) }

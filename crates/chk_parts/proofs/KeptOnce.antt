@@ -4,13 +4,13 @@ use Rattle.std.specs.List.{AllZip, list_any}
 use Rattle.std.specs.Prelude.{Contains, filter, nat_eq, nat_lt, bytes_eq, slice_index_or}
 use Rattle.std.proofs.Math.ListN.{drop_of_length-le}
 use Rattle.std.proofs.Math.Seq.{take-length}
-use Rattle.std.proofs.lemmas.Bool.{and_parts, and_from, or_from, eqb-true, eq-eqb}
+use Rattle.std.proofs.lemmas.Bool.{and_parts, and_from, or_from, or_parts, eqb-true, eq-eqb, cond_both}
 use Rattle.std.proofs.lemmas.List.{map-append, drop_more, length-take-le, get_or-take, drop-drop, take-append-drop, take-append-le, drop-append-le}
 use Rattle.std.proofs.lemmas.List.Elements.{filter-append}
 use Rattle.std.proofs.lemmas.List.Folds.{list_any-append}
 use Rattle.chk_chunk.specs.Keys.{Chunk, chunk_begin, chunk_end, same_stream, stream_lt, same_data}
 use Rattle.chk_world.specs.ArchiveRuns.{comes_before, once}
-use Rattle.chk_world.proofs.Each.{Each, each_as, later_one, each_filter}
+use Rattle.chk_world.proofs.Each.{Each, each_as, later_one, each_filter, filter_each}
 use Rattle.chk_world.proofs.Ends.{bytes_same}
 use Rattle.chk_world.proofs.NameTests.{streams_same}
 use Rattle.chk_heads.specs.Heads.{Head}
@@ -19,7 +19,7 @@ use Rattle.chk_plan.specs.Passes.{between, IsSpan, AreSpans}
 use Rattle.chk_plan.specs.declared.spans.Span.{Span}
 use Rattle.chk_plan.specs.declared.spans.Known.{Known}
 use Rattle.chk_plan.proofs.ChunkOrder.{Ordered}
-use Rattle.chk_plan.proofs.Bridges.{between_drop}
+use Rattle.chk_plan.proofs.Bridges.{between_drop, each_index}
 use Rattle.chk_parts.specs.Cuts.{no_chunk, cut_of, cut_chunk, cut_chunks}
 use Rattle.chk_parts.specs.Kept.{past_chunks, whole_from, past_cuts}
 use Rattle.chk_parts.proofs.CutParts.{place}
@@ -69,6 +69,10 @@ same_ties c d e =
 abbrev pub IsBehind : Chunk → Chunk → Type 0
 IsBehind c d = comes_before d c ≡ false
 
+-- so neither comes before the other
+pub same_behind : (c d : Chunk) → same_data c d ≡ true → (comes_before c d ≡ false) × (comes_before d c ≡ false)
+same_behind c d e = tested.neither c d (same_ties c d e)
+
 -- ---- each one once
 
 pub each_once : (P : Chunk → Type 0) (cs : List Chunk) → Each P cs → Each P (once cs)
@@ -107,7 +111,7 @@ filter_on p x xs e = ap (λ b. cond b (x ∷ filter p xs) (filter p xs)) e
 filter_off : (p : Chunk → Bool) (x : Chunk) (xs : List Chunk) → p x ≡ false → filter p (x ∷ xs) ≡ filter p xs
 filter_off p x xs e = ap (λ b. cond b (x ∷ filter p xs) (filter p xs)) e
 
-filter_all : (p : Chunk → Bool) (xs : List Chunk) → Each (λ c. p c ≡ true) xs → filter p xs ≡ xs
+pub filter_all : (p : Chunk → Bool) (xs : List Chunk) → Each (λ c. p c ≡ true) xs → filter p xs ≡ xs
 filter_all p [] all = refl
 filter_all p (x ∷ xs) all = filter_on p x xs all.0 ∙ ap (λ l. x ∷ l) (filter_all p xs all.1)
 
@@ -134,7 +138,7 @@ lone_once (c ∷ cs) o none =
 
 -- ---- of lists in order
 
-each_join : {X : Type 0} (P : X → Type 0) (xs ys : List X) → Each P xs → Each P ys → Each P (xs ++ ys)
+pub each_join : {X : Type 0} (P : X → Type 0) (xs ys : List X) → Each P xs → Each P ys → Each P (xs ++ ys)
 each_join P [] ys a b = b
 each_join P (x ∷ xs) ys a b = (a.0, each_join P xs ys a.1 b)
 
@@ -362,3 +366,53 @@ once_more (c ∷ xs) d =
         kept : (b : Bool) → filter (other_than c) (new_one b d) ≡ new_one b d
         kept true = refl
         kept false = filter_on (other_than c) d [] (ap not e)
+
+-- what is the same as one is among those that are kept where it is among all
+pub any_once : (xs : List Chunk) (d : Chunk) → list_any (λ x. same_data x d) (once xs) ≡ list_any (λ x. same_data x d) xs
+any_once [] d = refl
+any_once (c ∷ xs) d = go (same_data c d) refl (any_once xs d)
+  where
+    p : Chunk → Bool
+    p x = same_data x d
+
+    go : (b : Bool) → same_data c d ≡ b → list_any p (once xs) ≡ list_any p xs
+        → (same_data c d || list_any p (filter (other_than c) (once xs))) ≡ (same_data c d || list_any p xs)
+    go true e rest =
+        ap (λ b. b || list_any p (filter (other_than c) (once xs))) e ∙ sym (ap (λ b. b || list_any p xs) e)
+    go false e rest =
+        ap (λ b. same_data c d || b)
+        (any_filter p (other_than c) (once xs)
+        (λ x on. unlike c (same_data c x) (λ y. true≢false (sym (same_onward c x d y on) ∙ e)))
+        ∙ rest)
+
+-- none of them is the same as a later one
+abbrev pub Differ : List Chunk → Type 0
+Differ [] = Unit {0}
+Differ (c ∷ cs) = Each (λ x. other_than c x ≡ true) cs × Differ cs
+
+differ_filter : (p : Chunk → Bool) (xs : List Chunk) → Differ xs → Differ (filter p xs)
+differ_filter p [] all = tt
+differ_filter p (x ∷ xs) all =
+    let rest = differ_filter p xs all.1 in
+    cond_both (p x) (x ∷ filter p xs) (filter p xs) Differ
+    (λ e. (each_filter (λ y. other_than x y ≡ true) p xs all.0, rest)) (λ e. rest)
+
+pub once_differ : (xs : List Chunk) → Differ (once xs)
+once_differ [] = tt
+once_differ (c ∷ cs) =
+    (filter_each (other_than c) (once cs), differ_filter (other_than c) (once cs) (once_differ cs))
+
+pub differ_at : (xs : List Chunk) → Differ xs → (i j : ℕ) → i < j → j < length xs
+    → same_data (slice_index_or xs i no_chunk) (slice_index_or xs j no_chunk) ≡ false
+differ_at [] all i j low high = absurd (let z : ⊥ = omega (arith, high) in z)
+differ_at (x ∷ xs) all i zero low high = absurd (let z : ⊥ = omega (arith, low) in z)
+differ_at (x ∷ xs) all zero (suc j) low high =
+    is_false (same_data x (slice_index_or xs j no_chunk))
+    (λ e. true≢false (sym (each_index (λ y. other_than x y ≡ true) xs all.0 j (omega (arith, high)) no_chunk) ∙ ap not e))
+differ_at (x ∷ xs) all (suc i) (suc j) low high = differ_at xs all.1 i j (omega (arith, low)) (omega (arith, high))
+
+pub none_any : (p : Chunk → Bool) (xs : List Chunk) → list_any p xs ≡ false → (i : ℕ) → i < length xs
+    → p (slice_index_or xs i no_chunk) ≡ false
+none_any p [] none i low = absurd (let z : ⊥ = omega (arith, low) in z)
+none_any p (x ∷ xs) none zero low = (or_parts (p x) (list_any p xs) none).0
+none_any p (x ∷ xs) none (suc i) low = none_any p xs (or_parts (p x) (list_any p xs) none).1 i (omega (arith, low))

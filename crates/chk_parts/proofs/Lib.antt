@@ -15,6 +15,7 @@ pub mod KeptOnce
 pub mod ManyFiles
 pub mod Sifting
 pub mod Among
+pub mod InSpans
 pub mod PastKept
 pub mod Passed
 mod Spelling
@@ -22,3 +23,4 @@ pub mod Published
 pub mod EndsInOrder
 pub mod Shelved
 pub mod ShelfWrites
+pub mod AsideStays

@@ -7,7 +7,8 @@ use Rattle.chk_site.specs.History.{History, Every, is_stopped}
 use Rattle.chk_site.specs.Site.{Adds}
 use Rattle.chk_site.specs.Runs.{Leads, Side, anyhow}
 use Rattle.chk_site.proofs.Leads.{leads_as, leads_then}
-use Rattle.chk_chunk.specs.Keys.{Chunk}
+use Rattle.chk_chunk.specs.Keys.{Chunk, same_data}
+use Rattle.chk_world.proofs.Each.{Each, each_as}
 use Rattle.chk_world.specs.ArchiveRuns.{in_order, once}
 use Rattle.chk_world.specs.Places.{As}
 use Rattle.chk_world.specs.Sight.{job, Sight, AtJob}
@@ -22,15 +23,16 @@ use Rattle.chk_plan.proofs.ChunkOrder.{Ordered, in_order_ordered}
 use Rattle.chk_merge.specs.Segments.{HasFiles, SparesFiles}
 use Rattle.chk_merge.specs.declared.reader.RecordReader.{RecordReader}
 use Rattle.chk_parts.specs.declared.cuts.Cut.{Cut}
-use Rattle.chk_parts.specs.Cuts.{cut_chunk, cut_chunks}
+use Rattle.chk_parts.specs.Cuts.{no_chunk, cut_of, cut_chunk, cut_chunks}
 use Rattle.chk_parts.specs.Gathering.{held}
 use Rattle.chk_parts.specs.Records.{AreRecords, IsRecordOf}
-use Rattle.chk_parts.specs.Kept.{AreSpansWithin, AreWhole, NoneRepeats, goes_on, group_of, new_cut, past_cuts, past_chunks, value_in, KeptSo, KeptTold, SiftedSo, CanFind, FoundSo}
+use Rattle.chk_parts.specs.Kept.{AreSpansWithin, AreWhole, NoneRepeats, goes_on, group_of, new_cut, past_cuts, past_chunks, value_in, KeptSo, KeptTold, SiftedSo, CanFind, FoundSo, IsNew, IsFirst}
 use Rattle.chk_parts.proofs.CutLists.{no_cut}
 use Rattle.chk_parts.proofs.KeptOnce.{same_length, past_are, past_ordered}
 use Rattle.chk_parts.proofs.ManyFiles.{reads_all}
 use Rattle.chk_parts.proofs.Among.{leads_with}
-use Rattle.chk_parts.proofs.Sifting.{SiftedTo, all_kept, sift_more}
+use Rattle.chk_parts.proofs.Sifting.{SiftedTo, all_kept, all_new, sift_more}
+use Rattle.chk_parts.proofs.InSpans.{InSpan, in_span}
 
 -- ---- what the loop has
 
@@ -72,11 +74,11 @@ module _ (v : Sight) (files : List (List ℕ)) (heads : List Head) (cs : List Ch
 
   module _ (r q : RecordReader) (cuts : List Cut) (place group : ℕ) where
     pub sift_ends : length past ≤ place → {old new : Option History} → Adds old new (Leads S A (Sifted r q cuts place group))
-        → Adds old new (Leads S A (SiftedSo (cut_chunks cs past) cs (Ok cuts)))
+        → Adds old new (Leads S A (SiftedSo past cs (Ok cuts)))
     sift_ends low told =
         let size = length-map past (cut_chunk cs) in
         leads_as (λ h k. k)
-        (λ h z. z.1.once_is ∙ ap once (take_all place (cut_chunks cs past) (omega (arith, low, size)))) told
+        (λ h z. (z.1.once_is ∙ ap once (take_all place (cut_chunks cs past) (omega (arith, low, size))), z.1.news)) told
 
     module _ (low : place < length past) (cuts_whole : AreWhole (length heads) cuts) (s t : RecordReader)
         (result : Result Bool JobFault) {old mid new : Option History}
@@ -102,16 +104,16 @@ module _ (v : Sight) (files : List (List ℕ)) (heads : List Head) (cs : List Ch
           both
 
       pub sift_fails : (fault : JobFault) → result ≡ Err fault
-          → Adds old new (Leads S A (SiftedSo (cut_chunks cs past) cs (Err fault)))
+          → Adds old new (Leads S A (SiftedSo past cs (Err fault)))
       sift_fails fault e = leads_as (λ h k. k) (λ h z. go fault h (subst (λ x. F x h) e z.0)) both
         where
-          go : (fault : JobFault) (h : History) → F (Err fault) h → SiftedSo (cut_chunks cs past) cs (Err fault) h
+          go : (fault : JobFault) (h : History) → F (Err fault) h → SiftedSo past cs (Err fault) h
           go (Outside call) h k = tt
           go (Damaged name at) h k = k
           go (Spent n) h k = tt
           go NoMemory h k = tt
 
-      pub sift_full : Adds old new (Leads S A (SiftedSo (cut_chunks cs past) cs (Err NoMemory)))
+      pub sift_full : Adds old new (Leads S A (SiftedSo past cs (Err NoMemory)))
       sift_full = leads_as (λ h k. k) (λ h z. tt) both
 
 -- ---- all that is past the gaps
@@ -132,22 +134,52 @@ module _ (v : Sight) (files : List (List ℕ)) (heads : List Head) (found : List
   pub in_turn : Ordered (cut_chunks Cs (past_cuts heads spans))
   in_turn = subst Ordered (sym past_is) (past_ordered known heads Cs size 0 spans are (in_order_ordered found))
 
+  -- one that is new among them is the first of its chunk behind its span's gap
+  first_one : (past : List Cut) → past ≡ past_cuts heads spans → (k : Cut) → IsNew Cs past k → IsFirst Cs spans k
+  first_one past is k new =
+      let e : slice_index_or (past_cuts heads spans) new.place no_cut ≡ k =
+      ap (λ l. slice_index_or l new.place no_cut) (sym is) ∙ new.is in
+      let t : InSpan heads spans spans k new.place =
+      subst (λ x. InSpan heads spans spans x new.place) e
+      (in_span heads spans spans (λ s one. one) (λ s one.
+      subst (λ t. (t.past ≤ t.end) × (t.end ≤ length heads)) one.2 (within one.0 s one.1)) new.place
+      (subst (λ l. new.place < length l) is new.low)) in
+      record {
+        span = t.span;
+        one = t.one;
+        low = t.low;
+        high = t.high;
+        whole = t.whole;
+        first = λ i past_it before.
+            let j = t.back i past_it before in
+            ap (λ n. same_data (slice_index_or Cs i no_chunk) (cut_of n (slice_index_or Cs k.index no_chunk))) (sym t.whole)
+            ∙ (ap (λ c. same_data (cut_chunk Cs c) (cut_chunk Cs k))
+            (sym (ap (λ l. slice_index_or l j.0 no_cut) is ∙ j.2))
+            ∙ new.new j.0 j.1);
+      }
+
   pub none_repeat : (past : List Cut) → past ≡ past_cuts heads spans → AreWhole (length heads) past → NoneRepeats heads past
-      → cut_chunks Cs past ≡ once (past_chunks Cs spans)
+      → (cut_chunks Cs past ≡ once (past_chunks Cs spans)) × Each (IsFirst Cs spans) past
   none_repeat past is whole none =
-      all_kept v files heads Cs records past whole (subst (λ l. Ordered (cut_chunks Cs l)) (sym is) in_turn) none
-      ∙ ap once (ap (cut_chunks Cs) is ∙ past_is)
+      let o = subst (λ l. Ordered (cut_chunks Cs l)) (sym is) in_turn in (
+        all_kept v files heads Cs records past whole o none ∙ ap once (ap (cut_chunks Cs) is ∙ past_is),
+        each_as (IsNew Cs past) (IsFirst Cs spans) past (first_one past is)
+            (all_new v files heads Cs records past whole o none),
+      )
 
   pub sifted : (past : List Cut) → past ≡ past_cuts heads spans → (result : Result (List Cut) JobFault) {old new : Option History}
       → (Ordered (cut_chunks Cs past) → Adds old new (Leads (anyhow (SparesFiles files)) (HasFiles files (held v))
-      (SiftedSo (cut_chunks Cs past) Cs result)))
+      (SiftedSo past Cs result)))
       → Adds old new (Leads (anyhow (SparesFiles files)) (HasFiles files (held v)) (KeptSo Cs spans result))
   sifted past is result told =
       leads_as (λ h k. k) (λ h z. go result h z) (told (subst (λ l. Ordered (cut_chunks Cs l)) (sym is) in_turn))
     where
-      go : (result : Result (List Cut) JobFault) (h : History) → SiftedSo (cut_chunks Cs past) Cs result h
+      go : (result : Result (List Cut) JobFault) (h : History) → SiftedSo past Cs result h
           → KeptSo Cs spans result h
-      go (Ok cuts) h k = k ∙ ap once (ap (cut_chunks Cs) is ∙ past_is)
+      go (Ok cuts) h k = (
+        k.0 ∙ ap once (ap (cut_chunks Cs) is ∙ past_is),
+        each_as (IsNew Cs past) (IsFirst Cs spans) cuts (first_one past is) k.1,
+      )
       go (Err (Outside call)) h k = tt
       go (Err (Damaged name at)) h k = k
       go (Err (Spent n)) h k = tt

@@ -1,11 +1,12 @@
 -- Heads whose places rise.
-use Rattle.std.proofs.Common.{◌≡◌, ◌⊎◌, inl, inr, ℕ, zero, suc, ◌+◌, ◌≤◌, ◌<◌, List, [], ◌∷◌, length, drop, Option, Some, None, Ok, Err, Result, ap, sym, ◌∙◌, refl, arith}
-use Rattle.std.specs.Prelude.{Contains, filter_map, option_map, slice_index_or}
+use Rattle.std.proofs.Common.{◌≡◌, ◌⊎◌, inl, inr, ℕ, zero, suc, ◌+◌, ◌-◌, ◌≤◌, ◌<◌, Bool, true, false, if◌then◌else◌, List, [], ◌∷◌, length, take, drop, Option, Some, None, Ok, Err, Result, ap, sym, ◌∙◌, refl, arith}
+use Rattle.std.specs.Prelude.{Contains, nat_le, filter_map, option_map, slice_index_or}
 use Rattle.std.specs.List.{cons_option}
 use Rattle.chk_chunk.specs.Keys.{Chunk}
 use Rattle.chk_seqfile.specs.declared.headers.HeaderFault.{HeaderFault}
 use Rattle.chk_seqfile.specs.declared.headers.HeaderRef.{HeaderRef}
-use Rattle.chk_seqfile.specs.Headers.{read_header}
+use Rattle.chk_seqfile.specs.declared.headers.HeaderFault.TheVariants.{Short}
+use Rattle.chk_seqfile.specs.Headers.{◌>>=◌, read_fields, read_marker, read_header}
 use Rattle.chk_seqfile.specs.Entries.{Placed, Entry, NoEntry, SyncEntry, RecordEntry, Damaged, placed, size_of_record, entry_at, records_from, records_behind, records_of}
 use Rattle.chk_world.specs.Books.{chunk_of}
 use Rattle.chk_world.proofs.Each.{Each}
@@ -153,3 +154,32 @@ heads_rise most file bytes = go (read_header bytes)
       records_rise most file (length (drop head.end bytes)) head.marker head.end (drop head.end bytes),
     )
     go (Err fault) = (0, tt)
+
+-- ---- none of them stands at the file's begin
+
+abbrev end_of : Result HeaderRef HeaderFault → ℕ
+end_of (Ok head) = head.end
+end_of (Err fault) = 1
+
+header_low : (bytes : List ℕ) → 1 ≤ end_of (read_header bytes)
+unfolding read_header
+header_low bytes = go (read_fields (length bytes) bytes)
+  where
+    go : (r : Result (List ℕ) HeaderFault) → 1 ≤ end_of (r >>= (λ rest. read_marker (length bytes) rest))
+    go (Err fault) = omega arith
+    go (Ok rest) = mark (nat_le 16 (length rest))
+      where
+        mark : (b : Bool)
+            → 1 ≤ end_of (if b then Ok (record { marker = take 16 rest; end = length bytes - length rest + 16 }) else Err Short)
+        mark true = omega arith
+        mark false = omega arith
+
+pub heads_past : (most file : ℕ) (bytes : List ℕ) → RisesFrom 1 (heads_in most file bytes)
+unfolding records_of
+heads_past most file bytes = go (read_header bytes) (header_low bytes)
+  where
+    go : (r : Result HeaderRef HeaderFault) → 1 ≤ end_of r → RisesFrom 1 (filter_map (head_at most file) (records_behind r bytes))
+    go (Ok head) low =
+        lower head.end 1 (filter_map (head_at most file) (records_from (length (drop head.end bytes)) head.marker head.end (drop head.end bytes)))
+        low (records_rise most file (length (drop head.end bytes)) head.marker head.end (drop head.end bytes))
+    go (Err fault) low = tt

@@ -2,12 +2,12 @@
 use Rattle.std.proofs.Common.{◌≡◌, ℕ, zero, suc, ◌+◌, ◌≤◌, ◌<◌, ◌||◌, Bool, true, false, List, [], ◌∷◌, ◌++◌, length, take, drop, All, ap, sym, subst, ◌∙◌, refl, arith, length-append}
 use Rattle.std.specs.List.{list_any}
 use Rattle.std.specs.Prelude.{map, bytes_eq, slice_index_or}
-use Rattle.std.proofs.lemmas.List.{length-map, map-append, take_more, drop-map, get_or-map, append-nil}
+use Rattle.std.proofs.lemmas.List.{length-map, length-take-le, get_or-take, map-append, take_more, drop-map, get_or-map, append-nil}
 use Rattle.std.proofs.lemmas.List.Elements.{All-drop}
 use Rattle.chk_chunk.specs.Keys.{Chunk, chunk_begin, same_data}
 use Rattle.chk_world.specs.ArchiveRuns.{comes_before, once}
 use Rattle.chk_world.specs.Sight.{Sight}
-use Rattle.chk_world.proofs.Each.{Each}
+use Rattle.chk_world.proofs.Each.{Each, each_from}
 use Rattle.chk_heads.specs.Heads.{Head}
 use Rattle.chk_heads.specs.Order.{no_head}
 use Rattle.chk_plan.specs.Passes.{head_in}
@@ -15,9 +15,10 @@ use Rattle.chk_plan.proofs.ChunkOrder.{Ordered}
 use Rattle.chk_parts.specs.declared.cuts.Cut.{Cut}
 use Rattle.chk_parts.specs.Cuts.{no_chunk, cut_of, cut_chunk, cut_chunks}
 use Rattle.chk_parts.specs.Records.{AreRecords, IsRecordOf}
-use Rattle.chk_parts.specs.Kept.{AreWhole, repeats, goes_on, NoneRepeats, group_of, new_cut, value_in, has_value}
+use Rattle.chk_parts.specs.Kept.{AreWhole, repeats, goes_on, NoneRepeats, group_of, new_cut, value_in, has_value, IsNew}
 use Rattle.chk_parts.proofs.CutLists.{zip_at, no_cut}
-use Rattle.chk_parts.proofs.KeptOnce.{tie, each_once, self_behind, Apart, goes_apart, stops_apart, put_apart, any_data, new_one, once_more, NoTies, lone_once}
+use Rattle.chk_parts.proofs.Fetches.{any_default}
+use Rattle.chk_parts.proofs.KeptOnce.{tie, each_once, self_behind, Apart, goes_apart, stops_apart, put_apart, any_data, new_one, once_more, NoTies, lone_once, each_join, any_once, none_any, Differ, once_differ, differ_at}
 
 -- those before a place come not behind it
 before_place : (ds : List Chunk) → Ordered ds → (i : ℕ) → i < length ds
@@ -76,12 +77,14 @@ pub record SiftedTo (cs : List Chunk) (past cuts : List Cut) (place group : ℕ)
   pub once_is : cut_chunks cs cuts ≡ once (take place (cut_chunks cs past))
   pub low : group ≤ length cuts
   pub near : (n : ℕ) → suc n ≡ place → Apart (nth cs past n) group (cut_chunks cs cuts)
+  pub news : Each (IsNew cs past) cuts
 
 pub sift_begins : (cs : List Chunk) (past : List Cut) → SiftedTo cs past [] 0 0
 sift_begins cs past = record {
   once_is = refl;
   low = omega arith;
   near = λ n e. absurd (let z : ⊥ = omega (arith, e) in z);
+  news = tt;
 }
 
 module _ (v : Sight) (files : List (List ℕ)) (heads : List Head) (cs : List Chunk) (records : AreRecords v files heads cs)
@@ -120,6 +123,22 @@ module _ (v : Sight) (files : List (List ℕ)) (heads : List Head) (cs : List Ch
           ap (λ c. tie c (slice_index_or Ds (suc i) no_chunk)) (nth_is i (omega (arith, below)))
           ∙ (ap (tie (nth cs past i)) (nth_is (suc i) below)
           ∙ (sym (goes_same i below) ∙ none (suc i) below))
+
+  -- and each is the first of its chunk
+  pub all_new : Ordered Ds → NoneRepeats heads past → Each (IsNew cs past) past
+  all_new o none = each_from (IsNew cs past) past (λ k one. record {
+    place = one.0;
+    low = one.1;
+    is = any_default past one.0 no_cut k one.1 ∙ one.2;
+    new = λ i few.
+        let size = length-map past (cut_chunk cs) in
+        let below = one.1 in
+        let differ = differ_at Ds (subst Differ (sym (all_kept o none)) (once_differ Ds)) i one.0 few (omega (arith, below, size)) in
+        let is = any_default past one.0 no_cut k one.1 ∙ one.2 in
+        ap (λ c. same_data (nth cs past i) (cut_chunk cs c)) (sym is)
+        ∙ (ap (λ c. same_data c (nth cs past one.0)) (sym (nth_is i (omega (arith, few, below))))
+        ∙ (ap (same_data (slice_index_or Ds i no_chunk)) (sym (nth_is one.0 below)) ∙ differ));
+  })
 
   module _ (cuts : List Cut) (place group : ℕ) (at : SiftedTo cs past cuts place group) (o : Ordered Ds)
       (low : place < length past) where
@@ -215,6 +234,24 @@ module _ (v : Sight) (files : List (List ℕ)) (heads : List Head) (cs : List Ch
         once_is = sym (so_far ∙ (ap (λ b. Ks ++ new_one b D) e ∙ append-nil Ks));
         low = group_low;
         near = λ n m. subst (λ p. Apart (nth cs past p) G Ks) (sym (same_place n m)) grouped;
+        news = at.news;
+      }
+
+      -- none of those before it is the same
+      is_new : found ≡ false → IsNew cs past K
+      is_new e = record {
+        place = place;
+        low = low;
+        is = refl;
+        new = λ i few.
+            let sizes = length-map past (cut_chunk cs) in
+            let all : list_any (λ x. same_data x D) (take place Ds) ≡ false =
+            sym (any_once (take place Ds) D)
+            ∙ (ap (list_any (λ x. same_data x D)) (sym at.once_is) ∙ (tells ∙ e)) in
+            let size = length-take-le place Ds (omega (arith, low, sizes)) in
+            ap (λ c. same_data c D) (sym (nth_is i (omega (arith, few, low))))
+            ∙ (ap (λ c. same_data c D) (sym (get_or-take place Ds i no_chunk few))
+            ∙ none_any (λ x. same_data x D) (take place Ds) all i (omega (arith, few, size)));
       }
 
       sift_keeps : found ≡ false → SiftedTo cs past (cuts ++ K ∷ []) (place + 1) G
@@ -228,6 +265,7 @@ module _ (v : Sight) (files : List (List ℕ)) (heads : List Head) (cs : List Ch
                 subst (λ p. Apart (nth cs past p) G (cut_chunks cs (cuts ++ K ∷ []))) (sym (same_place n m))
                 (subst (Apart D G) (sym (map-append (cut_chunk cs) cuts (K ∷ [])))
                 (put_apart D G Ks (omega (arith, size, few)) grouped));
+            news = each_join (IsNew cs past) cuts (K ∷ []) at.news (is_new e, tt);
           }
 
       pub sift_more : (now : List Cut) → now ≡ cuts ++ new_cut found K → SiftedTo cs past now (place + 1) G

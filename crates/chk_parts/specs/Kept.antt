@@ -1,9 +1,10 @@
 -- Which chunks are set aside.
 use Rattle.std.specs.List.{list_any}
-use Rattle.std.specs.Prelude.{◌≡◌, ℕ, zero, suc, ◌+◌, ◌<◌, ◌≤◌, Bool, true, false, ◌&&◌, nat_eq, nat_lt, bytes_eq, IsTrue, List, [], ◌∷◌, All, length, flat_map, slice_index_or, Result, Ok, Err}
+use Rattle.std.specs.Prelude.{◌≡◌, ℕ, zero, suc, ◌+◌, ◌<◌, ◌≤◌, Bool, true, false, ◌&&◌, nat_eq, nat_lt, bytes_eq, IsTrue, List, [], ◌∷◌, All, Contains, length, flat_map, slice_index_or, Result, Ok, Err}
 use Rattle.chk_site.specs.History.{History}
-use Rattle.chk_chunk.specs.Keys.{Chunk, chunk_limit}
+use Rattle.chk_chunk.specs.Keys.{Chunk, chunk_limit, same_data}
 use Rattle.chk_world.specs.ArchiveRuns.{once}
+use Rattle.chk_world.proofs.Each.{Each}
 use Rattle.chk_world.specs.Places.{AtTold}
 use Rattle.chk_world.specs.Rules.{Legal}
 use Rattle.chk_world.specs.Sight.{job, Sight, AtJob}
@@ -17,7 +18,7 @@ use Rattle.chk_plan.specs.declared.spans.Span.{Span}
 use Rattle.chk_merge.specs.Segments.{HasFiles}
 use Rattle.chk_merge.specs.declared.reader.RecordReader.{RecordReader}
 use Rattle.chk_parts.specs.declared.cuts.Cut.{Cut}
-use Rattle.chk_parts.specs.Cuts.{no_chunk, cut_chunks}
+use Rattle.chk_parts.specs.Cuts.{no_chunk, cut_chunk, cut_chunks}
 use Rattle.chk_parts.specs.Fetching.{AreWindows, CanFetchAll}
 use Rattle.chk_parts.specs.Gathering.{held, heads_of}
 use Rattle.chk_parts.specs.Records.{AreRecords, chunks_held}
@@ -67,24 +68,46 @@ new_cut found k = elim found [ true ↦ [] | false ↦ k ∷ [] ]
 abbrev pub NoneRepeats : List Head → List Cut → Type 0
 NoneRepeats heads cuts = (i : ℕ) → i < length cuts → goes_on heads cuts i ≡ false
 
--- Each chunk past a gap is kept once, whatever the data of those are that have the same offsets; none of the files is damaged.
+-- the record is one of these, and none that stands before it is equal to it in stream, sequence id and data
+pub record IsNew (cs : List Chunk) (past : List Cut) (k : Cut) : Type 0 where
+  pub place : ℕ
+  pub low : place < length past
+  pub is : slice_index_or past place (record { index = 0; skip = 0 }) ≡ k
+  pub new : (i : ℕ) → i < place
+      → same_data (cut_chunk cs (slice_index_or past i (record { index = 0; skip = 0 }))) (cut_chunk cs k) ≡ false
+
+-- the whole record stands past the gap of one of these spans, and it is the first one there that has its sequence id and data
+pub record IsFirst (cs : List Chunk) (spans : List Span) (k : Cut) : Type 0 where
+  pub span : Span
+  pub one : Contains spans span
+  pub low : span.past ≤ k.index
+  pub high : k.index < span.end
+  pub whole : k.skip ≡ 0
+  pub first : (i : ℕ) → span.past ≤ i → i < k.index
+      → same_data (slice_index_or cs i no_chunk) (slice_index_or cs k.index no_chunk) ≡ false
+
+-- each chunk past a gap is kept once, of equal ones the first
+abbrev pub AreKeptOnce : List Chunk → List Span → List Cut → Type 0
+AreKeptOnce cs spans cuts = (cut_chunks cs cuts ≡ once (past_chunks cs spans)) × Each (IsFirst cs spans) cuts
+
+-- So it is, whatever the data of those are that have the same offsets; none of the files is damaged.
 abbrev pub KeptSo : List Chunk → List Span → Result (List Cut) JobFault → History → Type 0
-KeptSo cs spans (Ok cuts) history = cut_chunks cs cuts ≡ once (past_chunks cs spans)
+KeptSo cs spans (Ok cuts) history = AreKeptOnce cs spans cuts
 KeptSo cs spans (Err (Damaged name at)) history = ⊥
 KeptSo cs spans (Err fault) history = Unit {0}
 
 -- so it is, and the job knows what it knew
 abbrev pub KeptTold : List (List ℕ) → Sight → List Chunk → List Span → Result (List Cut) JobFault → History → Type 0
 KeptTold stamped v cs spans (Ok cuts) history =
-    AtJob stamped (λ u. (u ≡ v) × (cut_chunks cs cuts ≡ once (past_chunks cs spans))) history
+    AtJob stamped (λ u. (u ≡ v) × AreKeptOnce cs spans cuts) history
 KeptTold stamped v cs spans (Err (Damaged name at)) history = AtTold stamped job (λ h. ⊥) history
 KeptTold stamped v cs spans (Err fault) history = Legal stamped history
 
--- chunks that stand in order, each of them kept once
-abbrev pub SiftedSo : List Chunk → List Chunk → Result (List Cut) JobFault → History → Type 0
-SiftedSo ds cs (Ok cuts) history = cut_chunks cs cuts ≡ once ds
-SiftedSo ds cs (Err (Damaged name at)) history = ⊥
-SiftedSo ds cs (Err fault) history = Unit {0}
+-- records that stand in order, of each chunk the first one kept
+abbrev pub SiftedSo : List Cut → List Chunk → Result (List Cut) JobFault → History → Type 0
+SiftedSo past cs (Ok cuts) history = (cut_chunks cs cuts ≡ once (cut_chunks cs past)) × Each (IsNew cs past) cuts
+SiftedSo past cs (Err (Damaged name at)) history = ⊥
+SiftedSo past cs (Err fault) history = Unit {0}
 
 -- the data of the record at a place
 abbrev pub value_in : List Chunk → ℕ → List ℕ

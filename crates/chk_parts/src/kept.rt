@@ -150,7 +150,7 @@ fn sift<S: Site>(
     requires whole { AreWhole (length heads.now) past.now }
     ensures raw { (v : Sight) (cs : List Chunk) → AreRecords v files.now heads.now cs → Ordered (cut_chunks cs past.now)
         → Adds (S.told site.old) (S.told site.new)
-        (Leads (anyhow (SparesFiles files.now)) (HasFiles files.now (held v)) (SiftedSo (cut_chunks cs past.now) cs result)) }
+        (Leads (anyhow (SparesFiles files.now)) (HasFiles files.now (held v)) (SiftedSo past.now cs result)) }
     ensures whole { IfOk result (AreWhole (length heads.now)) }
     ensures shown { Adds (S.told site.old) (S.told site.new) (Shows (IsGoneIn files.now heads.now) result) }
     ensures own { Adds (S.told site.old) (S.told site.new) (Every (IsOf ReadsFile)) }

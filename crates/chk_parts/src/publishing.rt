@@ -46,7 +46,7 @@ pub fn publish_next<S: Site>(
     if !can_be_spelled(book) {
         return Err(OutsideFault::NoMemory);
     }
-    book.publish(alloc, site, who, folder)
+    book.write(alloc, site, who, folder)
 }
 
 /// The book can be spelled.

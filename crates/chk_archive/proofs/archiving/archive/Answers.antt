@@ -16,6 +16,7 @@ use Rattle.chk_parts.proofs.StepKinds.{as_kind, no_reads, fails_behind}
 use Rattle.chk_archive.specs.Archived.{ArchivesBy}
 use Rattle.chk_archive.specs.Reporting.{report_result}
 use Rattle.chk_archive.specs.Running.{FinishesBy}
+use Rattle.chk_archive.specs.Shown.{GivesNames}
 use Rattle.chk_archive.specs.Sinks.{OwnAre, ShowsSinks, ListsSinks}
 use Rattle.chk_archive.specs.declared.report.Report.{Report as Struct}
 use Rattle.chk_archive.proofs.Lasts.{as_fails}
@@ -123,5 +124,7 @@ returns-in_err-names-clause-shown g c =
 
 pub returns-clause-shown : goal.returns-clause-shown
 returns-clause-shown g c =
-    archived_so (book_view c.in_ok-book.book) c.as_slice.result.now c.finish.result c.in_ok-book.ensures.shown c.list_sinks.ensures.own
+    archived_so (book_view c.in_ok-book.book) c.as_slice.result.now c.finish.result c.in_ok-book.ensures.shown
+    (subst (λ ns. Adds (g.S.Site.told c.settle.new.site) (g.S.Site.told c.list_sinks.new.site) (GivesNames ns))
+    (sym c.as_slice.ensures.value) c.in_ok-names.ensures.names)
     c.finish.ensures.shown

@@ -63,3 +63,10 @@ returns-clause-given g c =
     once_given (λ v. v.items) c.list_folder.result old new
     (subst (λ who. IfOk c.list_folder.result
     (λ v. Listed who (codes "sinks") (Ok v.items) old new)) c.requires c.list_folder.ensures.ok)
+
+pub returns-clause-names : goal.returns-clause-names
+returns-clause-names g c =
+    let old = g.S.Site.told c.args.site.now in
+    let new = g.S.Site.told c.list_folder.new.site in
+    subst (λ who. IfOk c.list_folder.result
+    (λ v. Listed who (codes "sinks") (Ok v.items) old new)) c.requires c.list_folder.ensures.ok

@@ -1,6 +1,7 @@
-use Rattle.std.proofs.Common.{◌≡◌, ◌∙◌, List, ap, sym, subst, length}
+use Rattle.std.proofs.Common.{◌∙◌, List, ap, sym, subst, length}
 use Rattle.std.proofs.lemmas.Result.{err_from_is_err_and}
 use Rattle.chk_site.proofs.Leads.{leads_as}
+use Rattle.chk_world.proofs.Each.{Each}
 use Rattle.chk_world.specs.ArchiveRuns.{once}
 use Rattle.chk_world.specs.JobSteps.{IsOf, ReadsFile}
 use Rattle.chk_heads.specs.Pieces.{AsksInPieces}
@@ -8,7 +9,7 @@ use Rattle.chk_heads.proofs.Gathering.{every_then}
 use Rattle.chk_book.specs.Books.{book_view}
 use Rattle.chk_plan.specs.Passes.{AreSpans}
 use Rattle.chk_parts.specs.Cuts.{cut_chunks, AreWithin}
-use Rattle.chk_parts.specs.Kept.{AreSpansWithin, past_chunks}
+use Rattle.chk_parts.specs.Kept.{AreSpansWithin, past_chunks, IsFirst, AreKeptOnce}
 use Rattle.chk_parts.proofs.StepKinds.{as_kind, fails_behind}
 use Rattle.chk_archive.specs.Archived.{MergesBy, merge_reads}
 use Rattle.chk_archive.proofs.FoundPlan.{Found}
@@ -56,15 +57,18 @@ returns-clause-told g c stamped v names at sorted =
     let cs = Cs stamped names b v at in
     let spans = c.as_slice.result.now in
     let cuts = c.in_ok-kept.kept in
-    then_taken stamped v b (book_view c.write_planned.new.book) files (cut_chunks cs cuts ≡ once (past_chunks cs spans))
+    then_taken stamped v b (book_view c.write_planned.new.book) files
+    (AreKeptOnce cs spans cuts)
     c.write_planned.result
     (c.in_ok-kept.ensures.told stamped v (Found stamped names b v at) c.requires.plan.known
     (records_are stamped names b v at files heads c.args.old sorted)
     (subst (λ s. AreSpans c.requires.plan.known heads 0 s (length heads)) (sym c.as_slice.ensures.value) c.requires.plan.spans))
     c.write_planned.ensures.own
     (λ is. c.write_planned.ensures.told stamped v names at sorted
-    (ap (cut_chunks cs) c.as_slice-2.ensures ∙ (is ∙ (ap (λ s. once (past_chunks cs s)) c.as_slice.ensures.value
-    ∙ kept_so stamped names b v at files heads c.args.old sorted p c.requires.plan))))
+    (ap (cut_chunks cs) c.as_slice-2.ensures ∙ (is.0 ∙ (ap (λ s. once (past_chunks cs s)) c.as_slice.ensures.value
+    ∙ kept_so stamped names b v at files heads c.args.old sorted p c.requires.plan)))
+    (subst (Each (IsFirst cs p.spans.items)) (sym c.as_slice-2.ensures)
+    (subst (λ s. Each (IsFirst cs s) cuts) c.as_slice.ensures.value is.1)))
 
 pub returns-clause-own : goal.returns-clause-own
 returns-clause-own g c =

@@ -17,18 +17,18 @@ use Rattle.chk_archive.specs.Taking.{stays_aside}
 use Rattle.chk_archive.specs.declared.taking.Taken.{Taken}
 use Rattle.chk_archive.proofs.Lasts.{as_fails}
 use Rattle.chk_archive.proofs.NextBook.{Cs}
-use Rattle.chk_archive.proofs.TakenIn.{records_are, can_be, parts_so, gain_so, stays_whole, prepare_fails, publish_fails, published_all, of_replace}
+use Rattle.chk_archive.proofs.TakenIn.{records_are, can_be, parts_so, gain_so, asks_so, stays_whole, prepare_fails, publish_fails, published_all, of_replace}
 use Rattle.chk_heads.proofs.Causes.{shows_outside, shows_ok}
 use Rattle.chk_merge.specs.Gone.{IsGoneIn}
 use Rattle.chk_archive.proofs.taking.write_planned.Goals as goal
 
 pub returns-in_err-held-clause-told : goal.returns-in_err-held-clause-told
-returns-in_err-held-clause-told g c stamped v names at sorted aside =
+returns-in_err-held-clause-told g c stamped v names at sorted aside first =
     let q = err_from_is_err_and c.from_residual.result c.from_residual.ensures.1 in
     rw (q.1, q.2) (leads_none (g.S.Site.told c.args.site.now) (λ h k. k.legal))
 
 pub returns-in_err-changed-clause-told : goal.returns-in_err-changed-clause-told
-returns-in_err-changed-clause-told g c stamped v names at sorted aside =
+returns-in_err-changed-clause-told g c stamped v names at sorted aside first =
     let q = err_from_is_err_and c.from_residual-in_err-changed.result c.from_residual-in_err-changed.ensures.1 in
     let b = book_view c.args.book.now in
     let files = c.args.files.now in
@@ -44,12 +44,13 @@ returns-in_err-changed-clause-told g c stamped v names at sorted aside =
     (leads_as (λ h k. k)
     (λ h k. prepare_fails stamped names b v at new (cut_chunks cs cuts) (cut_chunks cs kept)
     (ap (cut_chunks cs) c.as_slice-cuts.ensures ∙ parts_so stamped names b v at files heads old sorted p c.requires.plan) aside
-    (stays_aside b heads old kept) (stays_whole v b files heads old cs kept can) c.prepare.result
+    (stays_aside b heads old kept) (stays_whole v b files heads old cs kept can)
+    (asks_so stamped names b v at files heads old sorted p c.requires.plan kept first aside) c.prepare.result
     c.in_err-changed.field-0.0 c.in_err-changed.was h k)
     (c.prepare.ensures.told stamped v cs (records_are stamped names b v at files heads old sorted) can))
 
 pub returns-in_err-publish_if-clause-told : goal.returns-in_err-publish_if-clause-told
-returns-in_err-publish_if-clause-told g c stamped v names at sorted aside =
+returns-in_err-publish_if-clause-told g c stamped v names at sorted aside first =
     let q = err_from_is_err_and c.from_residual-in_err-publish_if.result c.from_residual-in_err-publish_if.ensures.1 in
     let b = book_view c.args.book.now in
     let files = c.args.files.now in
@@ -64,7 +65,8 @@ returns-in_err-publish_if-clause-told g c stamped v names at sorted aside =
     rw (q.1, q.2)
     (publish_fails stamped names b v at new (cut_chunks cs cuts) (cut_chunks cs kept)
     (ap (cut_chunks cs) c.as_slice-cuts.ensures ∙ parts_so stamped names b v at files heads old sorted p c.requires.plan) aside
-    (stays_aside b heads old kept) (stays_whole v b files heads old cs kept can) c.in_ok-changed.changed
+    (stays_aside b heads old kept) (stays_whole v b files heads old cs kept can)
+    (asks_so stamped names b v at files heads old sorted p c.requires.plan kept first aside) c.in_ok-changed.changed
     c.prepare.result c.in_ok-changed.was c.publish_if.result
     (c.prepare.ensures.told stamped v cs (records_are stamped names b v at files heads old sorted) can) c.publish_if.ensures.own
     (λ u may. c.publish_if.ensures.told stamped u may) c.in_err-publish_if.field-0.0 c.in_err-publish_if.was)
@@ -85,7 +87,7 @@ returns-in_err-publish_if-clause-last g c =
     (as_fails (Unit {0}) Taken c.in_err-publish_if.field-0.0 c.in_err-publish_if.ensures.last))
 
 pub returns-clause-told : goal.returns-clause-told
-returns-clause-told g c stamped v names at sorted aside =
+returns-clause-told g c stamped v names at sorted aside first =
     let b = book_view c.args.book.now in
     let files = c.args.files.now in
     let heads = c.args.heads.now in
@@ -100,7 +102,8 @@ returns-clause-told g c stamped v names at sorted aside =
     let held : c.in_ok-held.held ≡ length (cut_chunks cs kept) = c.in_ok-held.ensures ∙ sym (length-map kept (cut_chunk cs)) in
     published_all stamped names b v at new (cut_chunks cs cuts) (cut_chunks cs kept)
     (ap (cut_chunks cs) c.as_slice-cuts.ensures ∙ parts_so stamped names b v at files heads old sorted p c.requires.plan) aside
-    (stays_aside b heads old kept) (stays_whole v b files heads old cs kept can) c.in_ok-changed.changed
+    (stays_aside b heads old kept) (stays_whole v b files heads old cs kept can)
+    (asks_so stamped names b v at files heads old sorted p c.requires.plan kept first aside) c.in_ok-changed.changed
     c.prepare.result c.in_ok-changed.was c.publish_if.result
     (c.prepare.ensures.told stamped v cs (records_are stamped names b v at files heads old sorted) can) c.publish_if.ensures.own
     (λ u may. c.publish_if.ensures.told stamped u may) t

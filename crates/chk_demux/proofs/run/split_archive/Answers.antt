@@ -5,6 +5,7 @@ use Rattle.chk_book.specs.Books.{book_view}
 use Rattle.chk_demux.specs.Running.{RunsOn}
 use Rattle.chk_demux.specs.Writes.{IsWriter}
 use Rattle.chk_demux.specs.declared.report.DemuxReport.{DemuxReport}
+use Rattle.chk_demux.specs.Splitting.{texts}
 use Rattle.chk_demux.proofs.Ends.{cause_behind}
 use Rattle.chk_demux.proofs.RawReads.{split_refused, split_on}
 use Rattle.chk_demux.proofs.RunFacts.{can_run}
@@ -26,7 +27,7 @@ returns-in_err-left-clause-told g c stamped v named ready =
     let q = err_from_is_err_and c.from_residual.result c.from_residual.ensures.1 in
     let a = book_view c.args.archive.now in
     let b = book_view c.args.book.now in
-    let types = c.args.types.now in
+    let types = texts c.args.types.now in
     let k = can_run stamped types named a b v ready in
     rw (q.1, q.2)
     (not_split stamped types a b v k c.split_named.new.output c.split_named.result
@@ -65,7 +66,7 @@ pub returns-clause-told : goal.returns-clause-told
 returns-clause-told g c stamped v named ready =
     let a = book_view c.args.archive.now in
     let b = book_view c.args.book.now in
-    let types = c.args.types.now in
+    let types = texts c.args.types.now in
     let k = can_run stamped types named a b v ready in
     all_ran stamped types a b v k c.split_named.new.output c.split_named.result
     (c.split_named.ensures.told stamped v k.cs k.can (nothing_put v c.new-output.result c.new-output.ensures.taken

@@ -5,7 +5,7 @@ use Rattle.chk_heads.specs.Faults.{JobCause}
 use Rattle.chk_world.specs.Sight.{AtJob}
 use Rattle.chk_book.specs.Books.{book_view}
 use Rattle.chk_demux.specs.Running.{RunsOn, archive_heads}
-use Rattle.chk_demux.specs.Splitting.{all_chunks, all_left}
+use Rattle.chk_demux.specs.Splitting.{texts, all_chunks, all_left}
 use Rattle.chk_demux.specs.Writes.{IsOutput}
 use Rattle.chk_demux.proofs.Ends.{cause_behind, no_more}
 use Rattle.chk_demux.proofs.RawReads.{heads_refused, heads_read}
@@ -25,8 +25,8 @@ returns-in_err-files-clause-told g c stamped v cs can none =
     let b = book_view c.args.book.now in
     rw (q.1, q.2)
     (no_more {U = ℕ} stamped v b.next (AtJob stamped (λ u. u ≡ v)) (λ u. u ≡ v)
-    (λ left u. IsOutput v (all_chunks c.args.types.now b (archive_heads v a) cs a.ends) c.args.output.now u
-    × (left ≡ all_left c.args.types.now b cs a.ends))
+    (λ left u. IsOutput v (all_chunks (texts c.args.types.now) b (archive_heads v a) cs a.ends) c.args.output.now u
+    × (left ≡ all_left (texts c.args.types.now) b cs a.ends))
     (leads_none (g.S.Site.told c.args.site.now) (λ h z. z)))
 
 pub returns-in_err-files-clause-raw : goal.returns-in_err-files-clause-raw
@@ -58,10 +58,10 @@ returns-in_err-heads-clause-told g c stamped v cs can none =
     let names = c.as_slice-names.result.now in
     let are = c.as_slice-names.ensures.value ∙ c.in_ok-files.ensures in
     rw (q.1, q.2)
-    (no_heads stamped c.args.types.now a b v cs can o o none names are c.heads_in_order.result
+    (no_heads stamped (texts c.args.types.now) a b v cs can o o none names are c.heads_in_order.result
     (c.heads_in_order.ensures.told stamped v b.next
-    (sound_names stamped c.args.types.now a b v cs can o o none names are)
-    (well_names stamped c.args.types.now a b v cs can o o none names are))
+    (sound_names stamped (texts c.args.types.now) a b v cs can o o none names are)
+    (well_names stamped (texts c.args.types.now) a b v cs can o o none names are))
     c.in_err-heads.field-0.0 c.in_err-heads.was)
 
 pub heads_in_order-requires-clause-names : goal.heads_in_order-requires-clause-names
@@ -109,10 +109,10 @@ returns-clause-told g c stamped v cs can none =
     let n = c.split_streams.new.output in
     let names = c.as_slice-names.result.now in
     let are = c.as_slice-names.ensures.value ∙ c.in_ok-files.ensures in
-    split_so stamped c.args.types.now a b v cs can o n none names are c.heads_in_order.result
+    split_so stamped (texts c.args.types.now) a b v cs can o n none names are c.heads_in_order.result
     (c.heads_in_order.ensures.told stamped v b.next
-    (sound_names stamped c.args.types.now a b v cs can o n none names are)
-    (well_names stamped c.args.types.now a b v cs can o n none names are))
+    (sound_names stamped (texts c.args.types.now) a b v cs can o n none names are)
+    (well_names stamped (texts c.args.types.now) a b v cs can o n none names are))
     c.in_ok-heads.heads c.in_ok-heads.was c.split_streams.result c.split_streams.ensures.works
     (c.split_streams.ensures.told stamped v cs)
 

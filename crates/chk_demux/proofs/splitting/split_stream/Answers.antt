@@ -14,7 +14,7 @@ use Rattle.chk_splitter.specs.Splitting.{fresh, pieces_of}
 use Rattle.chk_demux.specs.Working.{Worked}
 use Rattle.chk_demux.specs.Writes.{IsOutput}
 use Rattle.chk_demux.specs.Giving.{chunks_of_fed}
-use Rattle.chk_demux.specs.Splitting.{past_in, is_stamped, RunsSo, SplitSoFar, stream_chunks, stream_left}
+use Rattle.chk_demux.specs.Splitting.{texts, past_in, is_stamped, RunsSo, SplitSoFar, stream_chunks, stream_left}
 use Rattle.chk_demux.proofs.RawReads.{on_refused, on_done}
 use Rattle.chk_demux.proofs.Ends.{at_as, so_fails, so_done}
 use Rattle.chk_demux.proofs.Streams.{stream_begun, stream_ended}
@@ -76,7 +76,7 @@ returns-in_err-split_record-clause-told g c stamped v cs outs records free runs 
     let next = (book_view c.args.book.now).next in
     let e = end_view c.args.end.now in
     let from = c.args.from in
-    let types = c.args.types.now in
+    let types = texts c.args.types.now in
     let b = is_stamped types e.stream.kind in
     let here : RunsSo cs e from = subst (RunsSo cs e) (sym goes) runs in
     let is : c.new-splitter.result ≡ fresh b =
@@ -105,7 +105,7 @@ returns-clause-told g c stamped v cs outs records free runs holds goes =
     let l = c.loop-index in
     let e = end_view c.args.end.now in
     let from = c.args.from in
-    let types = c.args.types.now in
+    let types = texts c.args.types.now in
     let heads = c.args.heads.now in
     let files = c.args.files.now in
     let b = is_stamped types e.stream.kind in

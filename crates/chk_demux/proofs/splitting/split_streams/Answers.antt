@@ -15,7 +15,7 @@ use Rattle.chk_parts.specs.Fetching.{AreWindows}
 use Rattle.chk_parts.proofs.CutLists.{nothing_windows}
 use Rattle.chk_demux.specs.Working.{Worked}
 use Rattle.chk_demux.specs.Writes.{IsOutput}
-use Rattle.chk_demux.specs.Splitting.{split_from, RunsSo, stream_chunks, stream_left, all_chunks, all_left}
+use Rattle.chk_demux.specs.Splitting.{texts, split_from, RunsSo, stream_chunks, stream_left, all_chunks, all_left}
 use Rattle.chk_demux.proofs.RawReads.{on_done, none_damaged}
 use Rattle.chk_demux.proofs.Ends.{at_as, no_more}
 use Rattle.chk_demux.proofs.Streams.{seen_at, chunks_more, left_more, stream_fails, stream_done}
@@ -48,7 +48,7 @@ loop-end-init g c = record {
 pub loop-end-preserved : goal.loop-end-preserved
 loop-end-preserved g c =
     let l = c.loop-end in
-    let types = c.args.types.now in
+    let types = texts c.args.types.now in
     let b = book_view c.args.book.now in
     let heads = c.args.heads.now in
     let files = c.args.files.now in
@@ -106,7 +106,7 @@ pub returns-in_err-more-clause-told : goal.returns-in_err-more-clause-told
 returns-in_err-more-clause-told g c stamped v cs records free runs rise rises =
     let p = err_from_is_err_and c.from_residual.result c.from_residual.ensures.1 in
     let l = c.loop-end in
-    let types = c.args.types.now in
+    let types = texts c.args.types.now in
     let b = book_view c.args.book.now in
     let heads = c.args.heads.now in
     let files = c.args.files.now in
@@ -152,7 +152,7 @@ pub returns-in_err-left-clause-told : goal.returns-in_err-left-clause-told
 returns-in_err-left-clause-told g c stamped v cs records free runs rise rises =
     let p = err_from_is_err_and c.from_residual-in_err-left.result c.from_residual-in_err-left.ensures.1 in
     let l = c.loop-end in
-    let types = c.args.types.now in
+    let types = texts c.args.types.now in
     let b = book_view c.args.book.now in
     let heads = c.args.heads.now in
     let files = c.args.files.now in
@@ -200,7 +200,7 @@ returns-in_err-left-clause-works g c =
 pub returns-clause-told : goal.returns-clause-told
 returns-clause-told g c stamped v cs records free runs rise rises =
     let l = c.loop-end in
-    let types = c.args.types.now in
+    let types = texts c.args.types.now in
     let b = book_view c.args.book.now in
     let heads = c.args.heads.now in
     let ends = (book_view c.args.archive.now).ends in

@@ -16,7 +16,7 @@ use Rattle.chk_parts.specs.Records.{AreRecords}
 use Rattle.chk_parts.specs.Fetching.{AreWindows}
 use Rattle.chk_demux.specs.Working.{Worked}
 use Rattle.chk_demux.specs.Writes.{IsFree, IsWriter, IsOutput}
-use Rattle.chk_demux.specs.Splitting.{SplitAll, StreamsRise, all_chunks, all_left}
+use Rattle.chk_demux.specs.Splitting.{SplitAll, StreamsRise, all_chunks, all_left, texts}
 use Rattle.chk_demux.proofs.splitting.split_streams.Given as goal
 
 abbrev pub invariant-loop-end : goal.invariant-loop-end
@@ -26,9 +26,9 @@ invariant-loop-end g l = record {
       → StreamsRise l.heads → IsTrue (ends_rise (book_view l.book).ends)
       → Adds (g.S.Site.told l.fn.site) (g.S.Site.told l.site) (Leads (As stamped job)
       (AtJob stamped (IsOutput v [] l.fn.output))
-      (AtJob stamped (λ u. IsOutput v (all_chunks l.types (book_view l.book) l.heads cs (take l.end-index (book_view l.archive).ends)) l.output u
+      (AtJob stamped (λ u. IsOutput v (all_chunks (texts l.types) (book_view l.book) l.heads cs (take l.end-index (book_view l.archive).ends)) l.output u
       × AreWindows v l.files l.reader
-      × (l.left ≡ all_left l.types (book_view l.book) cs (take l.end-index (book_view l.archive).ends)))));
+      × (l.left ≡ all_left (texts l.types) (book_view l.book) cs (take l.end-index (book_view l.archive).ends)))));
   raw_so_far : (v : Sight) (cs : List Chunk) → AreRecords v l.files l.heads cs → AreSettled l.files (held v)
       → AreApart l.files (segment_name (codes "demux") (book_view l.book).next)
       → Adds (g.S.Site.told l.fn.site) (g.S.Site.told l.site) (Leads (anyhow (SparesFiles l.files))

@@ -11,18 +11,18 @@ pub returns-clause-told : goal.returns-clause-told
 returns-clause-told g c stamped f v is may =
     let b = book_view c.args.book.now in
     let old = g.S.Site.told c.args.site.now in
-    let new = g.S.Site.told c.publish.new.site in
+    let new = g.S.Site.told c.write.new.site in
     let text = c.args.folder.now in
     published stamped f v b may (c.can_be_spelled.ensures c.if-not-can_be_spelled.false) text is
     (subst (λ who. MadeInTurn (replacement who (book_name text) (book_bytes (written_version b) b))
-    c.publish.result old new) c.requires.job c.publish.ensures.told)
+    c.write.result old new) c.requires.job c.write.ensures.told)
 
 pub returns-clause-own : goal.returns-clause-own
 returns-clause-own g c =
     let b = book_view c.args.book.now in
     let old = g.S.Site.told c.args.site.now in
-    let new = g.S.Site.told c.publish.new.site in
+    let new = g.S.Site.told c.write.new.site in
     let text = c.args.folder.now in
     publishes text (book_bytes (written_version b) b)
     (subst (λ who. MadeInTurn (replacement who (book_name text) (book_bytes (written_version b) b))
-    c.publish.result old new) c.requires.job c.publish.ensures.told)
+    c.write.result old new) c.requires.job c.write.ensures.told)

@@ -3,7 +3,7 @@ use Rattle.std.proofs.lemmas.Result.{err_from_is_err_and}
 use Rattle.chk_site.specs.Runs.{MadeInTurn, unbegun}
 use Rattle.chk_replace.specs.Replace.{replacement}
 use Rattle.chk_book.specs.Folders.{book_name}
-use Rattle.chk_book.proofs.book.Book.publish.Goals as goal
+use Rattle.chk_book.proofs.book.Book.write.Goals as goal
 
 pub returns-in_err-name-clause-told : goal.returns-in_err-name-clause-told
 returns-in_err-name-clause-told g c =
