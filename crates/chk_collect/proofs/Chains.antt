@@ -12,6 +12,7 @@ use Rattle.chk_sink.specs.Faults.{FailsLast}
 use Rattle.chk_sink.specs.Held.{Matches}
 use Rattle.chk_sink.specs.States.{State, IsSameStart, process}
 use Rattle.chk_collector.specs.Replies.{MayHaveRisen}
+use Rattle.chk_tees.specs.declared.Subscriber.{Subscriber}
 use Rattle.chk_collect.specs.Legality.{IsSettled, TurnEnds, ChainEnds, Finds, TurnCause}
 use Rattle.chk_collect.specs.Turns.{IsCollectorTurn, IsCutTurn, AreCollectorTurns, over, turn, AreTurned}
 use Rattle.chk_collect.proofs.Counts.{same_start, start_then, not_risen, risen_then, turn_after, last_then}
@@ -19,20 +20,19 @@ use Rattle.chk_collect.proofs.Takings.{finds_then}
 use Rattle.chk_collect.proofs.Turning.{same_process}
 
 -- one turn more
-turns_then : {who : Who} {door : List ℕ} {most wait n : ℕ} {s t u : State} {old mid new : Option
-    History}
-    → AreCollectorTurns who door most wait n s old t mid
-    → IsCollectorTurn who door most wait t mid u new
-    → AreCollectorTurns who door most wait (suc n) s old u new
+turns_then : {who : Who} {door : List ℕ} {most wait n : ℕ} {s t u : State}
+    {a b c : List Subscriber} {old mid new : Option History}
+    → AreCollectorTurns who door most wait n s a old t b mid
+    → IsCollectorTurn who door most wait t b mid u c new
+    → AreCollectorTurns who door most wait (suc n) s a old u c new
 turns_then over next = turn next over
 turns_then (turn first rest) next = turn first (turns_then rest next)
 
 -- what is known once so many turns were done
-pub record TurnsSoFar (who : Who) (door : List ℕ) (most n : ℕ) (first s : State) (old now : Option
-    History) (before count : ℕ)
-    : Type 0 where
+pub record TurnsSoFar (who : Who) (door : List ℕ) (most n : ℕ) (first s : State)
+    (given a : List Subscriber) (old now : Option History) (before count : ℕ) : Type 0 where
   pub who_is : who ≡ process s
-  pub script : AreCollectorTurns who door most 1000 n first old s now
+  pub script : AreCollectorTurns who door most 1000 n first given old s a now
   pub told : (stamped : List (List ℕ)) → Adds old now (Leads (Talking stamped who) (Matches stamped
       first) (Matches stamped s))
   pub finds : (stamped : List (List ℕ)) → Adds old now (Finds (Foreign stamped who) who.name
@@ -41,10 +41,10 @@ pub record TurnsSoFar (who : Who) (door : List ℕ) (most n : ℕ) (first s : St
   pub settled : IsSettled s
   pub risen : MayHaveRisen before count
 
-pub turns_begin : (who : Who) (door : List ℕ) (most : ℕ) (s : State) (now : Option History)
-    (count : ℕ) → who ≡ process s → IsSettled s
-    → TurnsSoFar who door most 0 s s now now count count
-turns_begin who door most s now count is settled = record {
+pub turns_begin : (who : Who) (door : List ℕ) (most : ℕ) (s : State) (a : List Subscriber)
+    (now : Option History) (count : ℕ) → who ≡ process s → IsSettled s
+    → TurnsSoFar who door most 0 s s a a now now count count
+turns_begin who door most s a now count is settled = record {
   who_is = is;
   script = over;
   told = λ stamped. leads_none now (λ h x. x);
@@ -55,9 +55,10 @@ turns_begin who door most s now count is settled = record {
   risen = not_risen count;
 }
 
-module _ {who : Who} {door : List ℕ} {most n : ℕ} {first s : State} {old now : Option History}
-    {before count : ℕ} (far : TurnsSoFar who door most n first s old now before count) (t : State)
-    (new : Option History) (later : ℕ) where
+module _ {who : Who} {door : List ℕ} {most n : ℕ} {first s : State} {given a : List Subscriber}
+    {old now : Option History} {before count : ℕ}
+    (far : TurnsSoFar who door most n first s given a old now before count) (t : State)
+    (b : List Subscriber) (new : Option History) (later : ℕ) where
   -- what one more turn says, with this result
   pub record TurnSays (result : Result (Unit {0}) SinkFault) : Type 0 where
     pub told : (stamped : List (List ℕ)) → Adds now new (Leads (Talking stamped who) (Matches
@@ -72,11 +73,11 @@ module _ {who : Who} {door : List ℕ} {most n : ℕ} {first s : State} {old now
   finds_on stamped result says = finds_then who.name (far.told stamped) (far.finds stamped)
       (says.finds stamped far.settled)
 
-  pub turns_on : TurnSays (Ok tt) → IsCollectorTurn who door most 1000 s now t new → IsSettled t
-      → TurnsSoFar who door most (n + 1) first t old new before later
+  pub turns_on : TurnSays (Ok tt) → IsCollectorTurn who door most 1000 s a now t b new
+      → IsSettled t → TurnsSoFar who door most (n + 1) first t given b old new before later
   turns_on says next settled = record {
     who_is = far.who_is ∙ sym (same_process s t says.same);
-    script = subst (λ k. AreCollectorTurns who door most 1000 k first old t new) (sym (add-one n))
+    script = subst (λ k. AreCollectorTurns who door most 1000 k first given old t b new) (sym (add-one n))
         (turns_then far.script next);
     told = λ stamped.
         leads_then (far.told stamped)
@@ -95,12 +96,13 @@ module _ {who : Who} {door : List ℕ} {most n : ℕ} {first s : State} {old now
 
   -- the turn was cut short
   module _ (turns : ℕ) (fault : SinkFault) (says : TurnSays (Err fault)) where
-    pub chain_script : n < turns → IsCutTurn who door most 1000 fault s now t new
-        → AreTurned who door most 1000 turns first old (Err fault) t new
+    pub chain_script : n < turns → IsCutTurn who door most 1000 fault s a now t b new
+        → AreTurned who door most 1000 turns first given old (Err fault) t b new
     chain_script within cut = record {
       done = n;
       within = within;
       u = s;
+      standing = a;
       turned = now;
       each =
           far.script;
@@ -128,7 +130,7 @@ module _ {who : Who} {door : List ℕ} {most n : ℕ} {first s : State} {old now
 
 -- all turns were done
 pub chain_over : {who : Who} {door : List ℕ} {most n : ℕ} {first s : State}
-    {old now : Option History} {before count : ℕ}
-    → TurnsSoFar who door most n first s old now before count
+    {given a : List Subscriber} {old now : Option History} {before count : ℕ}
+    → TurnsSoFar who door most n first s given a old now before count
     → Adds old now (FailsLast {T = Unit {0}} (Ok tt))
 chain_over far = adds_as (FailsLast {T = Unit {0}} (Ok tt)) (far.told []) (λ a h x. tt)

@@ -1,5 +1,5 @@
 -- A message is read on, handled and answered.
-use Rattle.std.proofs.Common.{◌≡◌, ℕ, true, false, Bool, List, [], ◌∷◌, Option, Some, None, Result, Ok, Err, sym, subst}
+use Rattle.std.proofs.Common.{◌≡◌, ℕ, true, false, Bool, List, [], ◌∷◌, Option, Some, None, Result, Ok, Err, sym, subst, ◌∙◌}
 use Rattle.std.specs.Prelude.{IsTrue}
 use Rattle.chk_bytes.specs.declared.NoMemory.{NoMemory}
 use Rattle.chk_bytes.specs.Stems.{is_collector}
@@ -17,9 +17,13 @@ use Rattle.chk_sink.specs.Held.{Matches}
 use Rattle.chk_sink.specs.States.{State, IsSameStart, process}
 use Rattle.chk_collector.specs.Handled.{KeepsSeen, OfRequest, Unanswered}
 use Rattle.chk_collector.specs.Outcomes.{Replied, outcome_ended}
+use Rattle.chk_tees.specs.declared.Subscriber.{Subscriber}
+use Rattle.chk_tees.specs.declared.tees.Passed.{Passed}
+use Rattle.chk_tees.specs.Offers.{IsPassed}
 use Rattle.chk_collect.specs.Calls.{sending_of}
 use Rattle.chk_collect.specs.Legality.{HasTaken}
 use Rattle.chk_collect.specs.Messages.{IsReadOn, LeadsToReply, IsHandled, IsUnreplied, IsSentOrFailed}
+use Rattle.chk_collect.proofs.Passing.{pass_keeps}
 use Rattle.chk_collect.proofs.Talking.{read_told, answered_told}
 use Rattle.chk_collect.proofs.Turning.{same_process}
 
@@ -31,7 +35,7 @@ sent_or_failed false = tt
 module _ (s u : State) (request : List ℕ) (reply : Result (List ℕ) NoMemory)
     {old new : Option History} (told : LeadsToReply (process s) request s u reply old new) where
   made_quiet : Adds old new (Owns (IsBy (process s)))
-  made_quiet = adds_as (Owns (IsBy (process s))) (told [] 0 []) (λ a h x. x.own)
+  made_quiet = adds_as (Owns (IsBy (process s))) (told [] 0 [] []) (λ a h x. x.own)
 
   -- for the process under its name
   quiet_by : (who : Who) → who ≡ process s → Adds old new (Owns (IsBy who))
@@ -109,6 +113,18 @@ module _ (stamped : List (List ℕ)) (s : State) (who : Who) (is : who ≡ proce
       → Side u old new
   answer_told u same reply given {next = next} {new = new} told call =
       answered_told stamped s u t bytes NoMemory named_s (same_process s u same) reply given
-      (told stamped t)
+      (told stamped t [])
       (subst (λ w. Adds next new (Calls (asked w Answer (reply ∷ []) t 0) (answered plain given)))
       is call)
+
+  -- and then it is passed on
+  pub pass_told : (u : State) (same : IsSameStart s u) (reply : List ℕ) {a b : List Subscriber}
+      (result : Result Passed NoMemory) {old mid new : Option History} → Side u old mid
+      → IsPassed who bytes reply a b result mid new → Side u old new
+  pass_told u same reply {a = a} {b = b} result {mid = mid} {new = new} told did =
+      let to : process u ≡ process s = same_process s u same in
+      leads_then told
+      (subst (λ w. Adds mid new (Leads (Talking stamped w) (Matches stamped u) (Matches stamped u)))
+      to
+      (pass_keeps stamped u (subst (λ (w : Who). IsTrue (is_collector w.name)) (sym to) named_s)
+      result (subst (λ w. IsPassed w bytes reply a b result mid new) (is ∙ sym to) did)))

@@ -9,5 +9,6 @@ pub mod SettledSinks
 pub mod Takings
 pub mod TickEnds
 pub mod Talking
+pub mod Passing
 pub mod Turning
 pub mod NamedFound

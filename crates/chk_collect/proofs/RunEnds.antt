@@ -18,6 +18,7 @@ use Rattle.chk_sink.specs.Starts.{IsFresh, Started, IsLastStart}
 use Rattle.chk_sink.specs.States.{State, IsSameStart, process}
 use Rattle.chk_sink.specs.Works.{OfStart, OfTick}
 use Rattle.chk_collector.specs.Finishing.{finished, Finished, LeavesAfterFinish}
+use Rattle.chk_tees.specs.declared.Subscriber.{Subscriber}
 use Rattle.chk_collect.specs.Runs.{IsStarted, IsUnstarted, CollectorRan, IsCutRun, unfinished}
 use Rattle.chk_collect.specs.Turns.{AreCollectorTurns}
 use Rattle.chk_collect.proofs.Running.{made_quiet}
@@ -105,8 +106,9 @@ pub record FinishSays (s t : State) (result : Result (Unit {0}) SinkFault)
   pub last : Adds old new (FailsLast result)
 
 module _ (who : Who) (rotate turns most : ℕ) (door : List ℕ) (s t u : State) (is : who ≡ process t)
-    {old started turned new : Option History} (start : IsStarted who rotate s old started)
-    (each : AreCollectorTurns who door most 1000 turns s started t turned) where
+    {a b : List Subscriber} {old started turned new : Option History}
+    (start : IsStarted who rotate s old started)
+    (each : AreCollectorTurns who door most 1000 turns s a started t b turned) where
   quiet_by : {B : History → Type 0}
       → Adds turned new (Leads (As [] (process t)) (Matches [] t) B)
       → Adds turned new (Owns (IsBy who))
@@ -124,12 +126,13 @@ module _ (who : Who) (rotate turns most : ℕ) (door : List ℕ) (s t u : State)
       (told stamped)
 
   pub ran_by : (result : Result (Unit {0}) SinkFault) → FinishSays t u result turned new
-      → OnOk result (CollectorRan who rotate turns door most 1000 old new)
+      → OnOk result (CollectorRan who rotate turns door most 1000 a old new)
   ran_by (Err fault) says = tt
   ran_by (Ok value) says = record {
     s = s;
     t = t;
     u = u;
+    b = b;
     started = started;
     turned = turned;
     start = start;
@@ -145,7 +148,7 @@ module _ (who : Who) (rotate turns most : ℕ) (door : List ℕ) (s t u : State)
   }
 
   pub unfinished_by : (result : Result (Unit {0}) SinkFault) → FinishSays t u result turned new
-      → IfErr result (λ fault. IsCutRun who rotate turns door most 1000 fault old new)
+      → IfErr result (λ fault. IsCutRun who rotate turns door most 1000 a fault old new)
   unfinished_by (Ok value) says = tt
   unfinished_by (Err fault) says = unfinished start each (record {
     of = says.only;

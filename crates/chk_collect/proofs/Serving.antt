@@ -19,6 +19,7 @@ use Rattle.chk_sink.specs.Faults.{FailsLast}
 use Rattle.chk_sink.specs.Held.{Matches}
 use Rattle.chk_sink.specs.States.{State, IsSameStart, process}
 use Rattle.chk_collector.specs.Replies.{MayHaveRisen}
+use Rattle.chk_tees.specs.declared.Subscriber.{Subscriber}
 use Rattle.chk_collect.specs.Legality.{HasTaken}
 use Rattle.chk_collect.specs.Messages.{EndsBy, IsAnswered, wait_behind, IsTakenUpTo, enough, none, one, untaken, unanswered}
 use Rattle.chk_collect.proofs.Counts.{same_start, start_then, not_risen, risen_then, ended_so, last_then}
@@ -73,30 +74,33 @@ clock_last who given fault first ends call =
 -- what is known once so many messages were taken and answered: what is taken from here on, of the
 -- messages that are left and with this wait, is taken from the start on
 pub record ServedSoFar (who : Who) (door : List ℕ) (most n wait : ℕ) (first s : State)
-    (old now : Option History) (before count : ℕ) : Type 0 where
+    (given a : List Subscriber) (old now : Option History) (before count : ℕ) : Type 0 where
   pub who_is : who ≡ process s
   pub later : (left : ℕ) → left + n ≡ most → (result : Result (Unit {0}) SinkFault) (u : State)
-      (end : Option History) → IsTakenUpTo who door left wait s now result u end
-      → IsTakenUpTo who door most 1000 first old result u end
+      (b : List Subscriber) (end : Option History)
+      → IsTakenUpTo who door left wait s a now result u b end
+      → IsTakenUpTo who door most 1000 first given old result u b end
   pub told : (stamped : List (List ℕ)) → Adds old now
       (Leads (Talking stamped (process first)) (Matches stamped first) (Matches stamped s))
   pub same : IsSameStart first s
   pub risen : MayHaveRisen before count
 
-pub serving_begins : (who : Who) (door : List ℕ) (most : ℕ) (s : State) (now : Option History)
-    (count : ℕ) → who ≡ process s → ServedSoFar who door most 0 1000 s s now now count count
-serving_begins who door most s now count is = record {
+pub serving_begins : (who : Who) (door : List ℕ) (most : ℕ) (s : State) (a : List Subscriber)
+    (now : Option History) (count : ℕ) → who ≡ process s
+    → ServedSoFar who door most 0 1000 s s a a now now count count
+serving_begins who door most s a now count is = record {
   who_is = is;
-  later = λ left all result u end taken.
+  later = λ left all result u b end taken.
       let e : left ≡ most = omega (arith, all) in
-      subst (λ k. IsTakenUpTo who door k 1000 s now result u end) e taken;
+      subst (λ k. IsTakenUpTo who door k 1000 s a now result u b end) e taken;
   told = λ stamped. leads_none now (λ h x. x);
   same = same_start s;
   risen = not_risen count;
 }
 
-module _ {who : Who} {door : List ℕ} {most n wait : ℕ} {first s : State} {old now : Option History}
-    {before count : ℕ} (far : ServedSoFar who door most n wait first s old now before count) where
+module _ {who : Who} {door : List ℕ} {most n wait : ℕ} {first s : State}
+    {given a : List Subscriber} {old now : Option History} {before count : ℕ}
+    (far : ServedSoFar who door most n wait first s given a old now before count) where
   -- what is told of the rest is told from the start on
   pub served_on : (stamped : List (List ℕ)) {B : History → Type 0} {new : Option History}
       → Adds now new (Leads (Talking stamped (process s)) (Matches stamped s) B)
@@ -107,45 +111,46 @@ module _ {who : Who} {door : List ℕ} {most n wait : ℕ} {first s : State} {ol
       (same_process first s far.same) told)
 
   -- so many as may be were taken
-  pub serving_over : n ≡ most → IsTakenUpTo who door most 1000 first old (Ok tt) s now
-  serving_over all = far.later 0 (omega (arith, all)) (Ok tt) s now enough
+  pub serving_over : n ≡ most → IsTakenUpTo who door most 1000 first given old (Ok tt) s a now
+  serving_over all = far.later 0 (omega (arith, all)) (Ok tt) s a now enough
 
   module _ (left : n < most) where
     -- of one taking more
-    one_more : (result : Result (Unit {0}) SinkFault) (u : State) (end : Option History)
-        → IsTakenUpTo who door (suc (most - (n + 1))) wait s now result u end
-        → IsTakenUpTo who door most 1000 first old result u end
+    one_more : (result : Result (Unit {0}) SinkFault) (u : State) (b : List Subscriber)
+        (end : Option History)
+        → IsTakenUpTo who door (suc (most - (n + 1))) wait s a now result u b end
+        → IsTakenUpTo who door most 1000 first given old result u b end
     one_more = far.later (suc (most - (n + 1))) (omega (arith, left))
 
     pub serving_none : {end : Option History} → Taken who door wait (Ok None) now end
-        → IsTakenUpTo who door most 1000 first old (Ok tt) s end
-    serving_none call = one_more (Ok tt) s _ (none call)
+        → IsTakenUpTo who door most 1000 first given old (Ok tt) s a end
+    serving_none call = one_more (Ok tt) s a _ (none call)
 
-    pub serving_untaken : (fault : SinkFault) (given : Result (Option Taking) CallFault)
-        {end : Option History} → EndsBy Take given fault → Taken who door wait given now end
-        → IsTakenUpTo who door most 1000 first old (Err fault) s end
-    serving_untaken fault given ends call = one_more (Err fault) s _ (untaken fault given ends call)
+    pub serving_untaken : (fault : SinkFault) (gave : Result (Option Taking) CallFault)
+        {end : Option History} → EndsBy Take gave fault → Taken who door wait gave now end
+        → IsTakenUpTo who door most 1000 first given old (Err fault) s a end
+    serving_untaken fault gave ends call = one_more (Err fault) s a _ (untaken fault gave ends call)
 
-    pub serving_unanswered : (taking : Taking) (fault : NoMemory) (u : State)
+    pub serving_unanswered : (taking : Taking) (fault : NoMemory) (u : State) (b : List Subscriber)
         {mid end : Option History} → Taken who door wait (Ok (Some taking)) now mid
-        → IsAnswered who taking.number taking.bytes s (Err fault) mid u end
-        → IsTakenUpTo who door most 1000 first old (Err wanting) u end
-    serving_unanswered taking fault u call answer =
-        one_more (Err wanting) u _ (unanswered taking fault call answer)
+        → IsAnswered who taking.number taking.bytes s a (Err fault) mid u b end
+        → IsTakenUpTo who door most 1000 first given old (Err wanting) u b end
+    serving_unanswered taking fault u b call answer =
+        one_more (Err wanting) u b _ (unanswered taking fault call answer)
 
   -- one message more was taken and answered
-  pub serving_goes_on : (taking : Taking) (size : ℕ) (t : State) {mid new : Option History}
-      (later : ℕ) → Taken who door wait (Ok (Some taking)) now mid
-      → IsAnswered who taking.number taking.bytes s (Ok size) mid t new
+  pub serving_goes_on : (taking : Taking) (size : ℕ) (t : State) (b : List Subscriber)
+      {mid new : Option History} (later : ℕ) → Taken who door wait (Ok (Some taking)) now mid
+      → IsAnswered who taking.number taking.bytes s a (Ok size) mid t b new
       → ((stamped : List (List ℕ)) → Adds now new
       (Leads (Talking stamped (process s)) (Matches stamped s) (Matches stamped t)))
       → IsSameStart s t → MayHaveRisen count later
-      → ServedSoFar who door most (n + 1) (wait_behind size) first t old new before later
-  serving_goes_on taking size t later call answer told same risen = record {
+      → ServedSoFar who door most (n + 1) (wait_behind size) first t given b old new before later
+  serving_goes_on taking size t b later call answer told same risen = record {
     who_is = far.who_is ∙ sym (same_process s t same);
-    later = λ left all result u end rest.
+    later = λ left all result u c end rest.
         let e : suc left + n ≡ most = omega (arith, all) in
-        far.later (suc left) e result u end (one taking call answer rest);
+        far.later (suc left) e result u c end (one taking call answer rest);
     told = λ stamped. served_on stamped (told stamped);
     same = start_then first s t far.same same;
     risen = risen_then before count later far.risen risen;

@@ -19,8 +19,14 @@ use Rattle.chk_sink.specs.declared.fault.SinkFault.{SinkFault}
 use Rattle.chk_sink.specs.Held.{Holds, Matches}
 use Rattle.chk_sink.specs.States.{State, process}
 use Rattle.chk_sink.proofs.HoldsStay.{holds_stay}
+use Rattle.chk_tee.specs.Messages.{Teed}
+use Rattle.chk_tees.specs.declared.Subscriber.{Subscriber}
+use Rattle.chk_tees.specs.declared.tees.Passed.{Passed}
+use Rattle.chk_tees.specs.Offers.{IsPassed, nobody, nothing, passed}
+use Rattle.chk_tees.specs.Passing.{Passes}
+use Rattle.chk_tees.specs.Sending.{IsSentTo, PassesOn, all_passed, wanting, passed_by, sent_to, dropped, ended}
 use Rattle.chk_collect.specs.Legality.{IsSettled, opens_turn, FindsCommitted, Finds}
-use Rattle.chk_collect.specs.Messages.{IsReadOn, whole, came, over, broken, unread, unkept, IsReplied, sent, unreplied, unsent, IsAnswered, replied, wait_behind, further_wait, long_bytes, IsTakenUpTo, enough, none, one, untaken, unanswered}
+use Rattle.chk_collect.specs.Messages.{IsReadOn, whole, came, over, broken, unread, unkept, IsReplied, sent, unreplied, unsent, IsPassedOn, lost, passed_on, unpassed, undone, IsAnswered, replied, wait_behind, further_wait, long_bytes, IsTakenUpTo, enough, none, one, untaken, unanswered}
 use Rattle.chk_collect.proofs.SettledSinks.{all_committed}
 
 -- ---- steps that open no turn
@@ -61,6 +67,45 @@ opens_then p q =
     adds_then (Owns OpensNone) p q (λ a b h x y. every_join (λ before step. step.own ≡ true
     → OpensNone before step) b a h x y)
 
+-- ---- the sends open no turn
+
+send_opens : {who : Who} {items : List Teed} {x : Subscriber} {given : Result ℕ CallFault}
+    {old new : Option History} → IsSentTo who items x given old new → Adds old new (Owns OpensNone)
+send_opens {given = given} told =
+    adds_as (Owns OpensNone) told.told (λ added history calls. call_owned OpensNone _
+    (λ before answer files logs running x. x) calls.1)
+
+stays_opens : {old new : Option History} → new ≡ old → Adds old new (Owns OpensNone)
+stays_opens {old = old} is =
+    subst (λ (n : Option History). Adds old n (Owns OpensNone)) (sym is)
+    (adds_none old (Owns OpensNone) (λ h. tt))
+
+passes_open : {who : Who} {items : List Teed} {a b : List Subscriber} {sent lost : ℕ}
+    {end : Result (Unit {0}) NoMemory} {old new : Option History}
+    → PassesOn who items a b sent lost end old new → Adds old new (Owns OpensNone)
+passes_open all_passed = stays_opens refl
+passes_open wanting = stays_opens refl
+passes_open (passed_by by rest) = opens_then (stays_opens by.1) (passes_open rest)
+passes_open (sent_to by rest) = opens_then (send_opens by.1) (passes_open rest)
+passes_open (dropped by rest) = opens_then (send_opens by) (passes_open rest)
+passes_open (ended (inl is)) = stays_opens is
+passes_open (ended (inr by)) = send_opens by
+
+told_open : (who : Who) (items : List Teed) (a b : List Subscriber)
+    (result : Result Passed NoMemory) {old new : Option History}
+    → Passes who items a b result old new → Adds old new (Owns OpensNone)
+told_open who items a b (Ok numbers) passes = passes_open passes
+told_open who items a b (Err fault) passes = passes_open passes.2
+
+pub pass_opens : {who : Who} {request reply : List ℕ} {a b : List Subscriber}
+    {result : Result Passed NoMemory} {old new : Option History}
+    → IsPassed who request reply a b result old new → Adds old new (Owns OpensNone)
+pass_opens (nobody is did) = stays_opens did.quiet
+pass_opens (nothing is did) = stays_opens did.quiet
+pass_opens {result = result} (passed chunks acks post did) = told_open _ _ _ _ result did
+
+-- ---- a message
+
 read_opens : {who : Who} {t : ℕ} {bytes : List ℕ} {got : Result (Option (List ℕ)) NoMemory} {old
     new : Option History}
     → IsReadOn who t bytes got old new → Adds old new (Owns OpensNone)
@@ -73,7 +118,7 @@ read_opens (unread yet call) = call_opens _ (λ x. x) call
 read_opens (unkept piece yet some call) = call_opens _ (λ x. x) call
 
 reply_opens : {who : Who} {t : ℕ} {request : List ℕ} {s u : State}
-    {result : Result ℕ NoMemory} {old new : Option History}
+    {result : Result (Option (List ℕ)) NoMemory} {old new : Option History}
     → IsReplied who t request s result old u new → Adds old new (Owns OpensNone)
 reply_opens (sent reply given handled fine call) =
     opens_then (quiet_opens handled.quiet) (call_opens _ (λ x. x) call)
@@ -81,12 +126,20 @@ reply_opens (unreplied handled) = quiet_opens handled.quiet
 reply_opens (unsent reply handled call) =
     opens_then (quiet_opens handled.quiet) (call_opens _ (λ x. x) call)
 
-pub message_opens : {who : Who} {t : ℕ} {bytes : List ℕ} {s u : State}
+passed_opens : {who : Who} {t : ℕ} {request : List ℕ} {s u : State} {a b : List Subscriber}
     {result : Result ℕ NoMemory} {old new : Option History}
-    → IsAnswered who t bytes s result old u new → Adds old new (Owns OpensNone)
+    → IsPassedOn who t request s a result old u b new → Adds old new (Owns OpensNone)
+passed_opens (lost reply) = reply_opens reply
+passed_opens (passed_on bytes numbers reply did) = opens_then (reply_opens reply) (pass_opens did)
+passed_opens (unpassed bytes reply did) = opens_then (reply_opens reply) (pass_opens did)
+passed_opens (undone reply) = reply_opens reply
+
+pub message_opens : {who : Who} {t : ℕ} {bytes : List ℕ} {s u : State} {a b : List Subscriber}
+    {result : Result ℕ NoMemory} {old new : Option History}
+    → IsAnswered who t bytes s a result old u b new → Adds old new (Owns OpensNone)
 message_opens (IsAnswered.broken read) = read_opens read
 message_opens (IsAnswered.unread read) = read_opens read
-message_opens (replied request read reply) = opens_then (read_opens read) (reply_opens reply)
+message_opens (replied request read reply) = opens_then (read_opens read) (passed_opens reply)
 
 -- a further message is waited for less long than the first one
 behind_less : (size : ℕ) → wait_behind size ≡ 1000 → ⊥
@@ -106,9 +159,9 @@ less_opens given less told =
     (λ before answer files logs running. less) calls.1)
 
 -- behind the first taking, whatever the turn takes opens none
-further_opens : {who : Who} {door : List ℕ} {left wait : ℕ} {s u : State}
+further_opens : {who : Who} {door : List ℕ} {left wait : ℕ} {s u : State} {a b : List Subscriber}
     {result : Result (Unit {0}) SinkFault} {old new : Option History} → (wait ≡ 1000 → ⊥)
-    → IsTakenUpTo who door left wait s old result u new → Adds old new (Owns OpensNone)
+    → IsTakenUpTo who door left wait s a old result u b new → Adds old new (Owns OpensNone)
 further_opens less enough = adds_none _ (Owns OpensNone) (λ h. tt)
 further_opens less (none call) = less_opens _ less call
 further_opens less (one {n = n} taking call answer rest) =
@@ -226,8 +279,8 @@ module _ (stamped : List (List ℕ)) (s : State) (settled : IsSettled s) where
 
   -- of the takings of a turn and what comes of them
   pub taken_finds : {door : List ℕ} {most wait : ℕ} {result : Result (Unit {0}) SinkFault}
-      {u : State} {old new : Option History}
-      → IsTakenUpTo (process s) door most wait s old result u new → Adds old new Found
+      {u : State} {a b : List Subscriber} {old new : Option History}
+      → IsTakenUpTo (process s) door most wait s a old result u b new → Adds old new Found
   taken_finds enough = adds_none _ Found (λ history others h. tt)
   taken_finds {door = door} {wait = wait} (none call) = some_finds (λ of. asked (process s) Take
       (door ∷ []) wait 0) _ call

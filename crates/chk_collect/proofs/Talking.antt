@@ -1,5 +1,5 @@
 -- The collector's calls on messages and the clock: the rules allow them, and they leave its sinks.
-use Rattle.std.proofs.Common.{◌≡◌, ℕ, Bool, true, false, List, [], ◌∷◌, ◌++◌, map, Option, Some, None, Result, Ok, Err, ap, sym, subst, ◌∙◌, refl, true≢false, if◌then◌else◌}
+use Rattle.std.proofs.Common.{◌≡◌, inl, ℕ, Bool, true, false, List, [], ◌∷◌, ◌++◌, map, Option, Some, None, Result, Ok, Err, ap, sym, subst, ◌∙◌, refl, true≢false, if◌then◌else◌}
 use Rattle.std.specs.Prelude.{IsTrue, length}
 use Rattle.std.proofs.lemmas.List.{append-nil}
 use Rattle.chk_bytes.specs.declared.NoMemory.{NoMemory}
@@ -7,13 +7,13 @@ use Rattle.chk_bytes.specs.Stems.{is_collector}
 use Rattle.chk_site.specs.declared.acts.ActAnswer.{ActAnswer}
 use Rattle.chk_site.specs.declared.acts.ActAnswer.TheVariants.{Done, Refused, Stopped, Rotated, Deleted}
 use Rattle.chk_site.specs.declared.acts.Call.{Call}
-use Rattle.chk_site.specs.declared.acts.Call.TheVariants.{Take, More, Answer, Clock}
+use Rattle.chk_site.specs.declared.acts.Call.TheVariants.{Take, More, Answer, Clock, Send}
 use Rattle.chk_site.specs.declared.acts.CallFault.{CallFault}
 use Rattle.chk_site.specs.declared.acts.CallFault.TheVariants.{Failed, Missing, Exists, Short, NoMemory as no_memory}
 use Rattle.chk_site.specs.declared.acts.OutsideFault.TheVariants.{Outside as site_failed, NoMemory as site_wants}
 use Rattle.chk_site.specs.declared.acts.Who.{Who}
 use Rattle.chk_site.specs.declared.suffixes.Taking.{Taking}
-use Rattle.chk_site.specs.Acts.{Deed, Takes, TakesMore, Answers, AsksClock, deed, deed_by, touches, tail_in}
+use Rattle.chk_site.specs.Acts.{Deed, Takes, TakesMore, Answers, AsksClock, Sends, deed, deed_by, touches, tail_in}
 use Rattle.chk_site.specs.Files.{Files}
 use Rattle.chk_site.specs.History.{Step, History, files_after, is_stopped}
 use Rattle.chk_site.specs.Logs.{Logs}
@@ -37,6 +37,8 @@ use Rattle.chk_sink.specs.Held.{IsAsKept, Holds, Handles, Matches}
 use Rattle.chk_sink.specs.States.{State, Writing, process, last_stem}
 use Rattle.chk_sink.proofs.Holding.{absent_as, handles_stays}
 use Rattle.chk_sink.proofs.HoldsStay.{has_stem, holds_stay}
+use Rattle.chk_tee.specs.Messages.{Teed, IsTee}
+use Rattle.chk_tee.proofs.Requests.{tee_is_no_request}
 use Rattle.chk_collector.specs.Answering.{Taken, MayAnswer, Answered}
 use Rattle.chk_collector.proofs.AnswerStays.{may_answer_stays}
 use Rattle.chk_collect.specs.Messages.{IsReadOn, whole, came, over, broken, unread, unkept}
@@ -50,6 +52,7 @@ Talks (Takes door wait) = Unit {0}
 Talks (TakesMore t) = Unit {0}
 Talks (Answers t bytes) = Unit {0}
 Talks AsksClock = Unit {0}
+Talks (Sends n address bytes) = Unit {0}
 Talks call = ⊥
 
 talks_none : (call : Deed) (name : List ℕ) → Talks call → touches call name ≡ false
@@ -57,6 +60,7 @@ talks_none (Takes door wait) name talks = refl
 talks_none (TakesMore t) name talks = refl
 talks_none (Answers t bytes) name talks = refl
 talks_none AsksClock name talks = refl
+talks_none (Sends n address bytes) name talks = refl
 talks_none call name talks = absurd talks
 
 goes_tail : (answer : ActAnswer) (name : List ℕ) → GoesOn answer → tail_in answer name ≡ None
@@ -95,6 +99,11 @@ talks_view AsksClock answer before after v talks = record {
   made = refl;
   current =
       refl;
+}
+talks_view (Sends n address bytes) answer before after v talks = record {
+  born = refl;
+  made = refl;
+  current = refl;
 }
 talks_view call answer before after v talks = absurd talks
 
@@ -394,28 +403,50 @@ module _ (stamped : List (List ℕ)) (s : State) (named : IsTrue (is_collector s
         }) (λ h x. x.holds)
         plain given (λ value. tt) call
 
+  -- ---- a message of a tee, which is no post
+
+  module _ (address bytes : List ℕ) (items : List Teed) (tee : IsTee items bytes) where
+    abbrev SendQ : ℕ → Asked
+    SendQ n = asked (process s) Send (address ∷ bytes ∷ []) n 0
+
+    send_may : (n : ℕ) → MayCall stamped (SendQ n) named (Holds s)
+    send_may n before answer files logs legal h = record {
+      own_files = tt;
+      logs = tt;
+      requests = λ post. tee_is_no_request items bytes tee (inl (post.1.0, post.1.1));
+      rule = tt;
+    }
+
+    pub sent_on : (given : Result ℕ CallFault) {old new : Option History}
+        → Adds old new (CallsSome SendQ (λ n. answered sized given))
+        → Side (Matches stamped s) (Matches stamped s) old new
+    sent_on given calls =
+        told_some {S = Talking stamped (process s)} SendQ (λ n. answered sized given)
+        (λ n before after t. talk_over Send (address ∷ bytes ∷ []) n 0 tt (Holds s)
+        (holds_stay stamped s) (send_may n) (λ h x. x) sized given (λ value. tt) t) calls
+
 -- ---- a message is handled
 
 -- from what is told for each list of earlier messages
 module _ (stamped : List (List ℕ)) (s u : State) (t : ℕ) (request : List ℕ) where
   of_any : {E : Type 0} (result : Result (List ℕ) E) (R : History
       → Type 0) {old new : Option History}
-      → ((h : History) (others : List Handling) → Answered stamped u t request others result h
+      → ((h : History) (others : List Handling) → Answered stamped u t request [] others result h
       → R h)
       → ((others : List Handling) → Adds old new
-      (Leads (As stamped (process s)) (Taken stamped s t request others) (Answered stamped u t
-      request others result)))
+      (Leads (As stamped (process s)) (Taken stamped s t request [] others) (Answered stamped u t
+      request [] others result)))
       → Adds old new (Leads (Talking stamped (process s)) (HasTaken stamped s t request) R)
   of_any result R weaker told =
       talking_as (process s) stamped
-      (leads_family {S = As stamped (process s)} (λ others. Taken stamped s t request others)
-      (λ others. Answered stamped u t request others result) (HasTaken stamped s t request) R []
+      (leads_family {S = As stamped (process s)} (λ others. Taken stamped s t request [] others)
+      (λ others. Answered stamped u t request [] others result) (HasTaken stamped s t request) R []
       told
       (λ added history all h. go added history all h (is_stopped history) refl))
     where
       go : (added history : History)
-          → ((others : List Handling) → Taken stamped s t request others history
-          → Answered stamped u t request others result (added ++ history))
+          → ((others : List Handling) → Taken stamped s t request [] others history
+          → Answered stamped u t request [] others result (added ++ history))
           → HasTaken stamped s t request history → (b : Bool) → is_stopped history ≡ b
           → R (added ++ history)
       go added history all h true e =
@@ -436,8 +467,8 @@ module _ (stamped : List (List ℕ)) (s u : State) (t : ℕ) (request : List ℕ
 
   pub unreplied_told : {E : Type 0} (fault : E) {old new : Option History}
       → ((others : List Handling) → Adds old new
-      (Leads (As stamped (process s)) (Taken stamped s t request others) (Answered stamped u t
-      request others (Err fault))))
+      (Leads (As stamped (process s)) (Taken stamped s t request [] others) (Answered stamped u t
+      request [] others (Err fault))))
       → Adds old new (Leads (Talking stamped (process s)) (HasTaken stamped s t request) (Matches
       stamped u))
   unreplied_told {E = E} fault told =
@@ -454,8 +485,9 @@ module _ (stamped : List (List ℕ)) (s u : State) (t : ℕ) (request : List ℕ
       process s) (reply : List ℕ)
       (given : Result (Unit {0}) CallFault) {old mid new : Option History}
       → ((others : List Handling) → Adds old mid
-      (Leads (As stamped (process s)) (Taken stamped s t request others) (Answered {E = E} stamped
-      u t request others (Ok reply))))
+      (Leads (As stamped (process s)) (Taken stamped s t request [] others) (Answered {E = E}
+      stamped
+      u t request [] others (Ok reply))))
       → Adds mid new (Calls (asked (process s) Answer (reply ∷ []) t 0) (answered plain given))
       → Adds old new (Leads (Talking stamped (process s)) (HasTaken stamped s t request) (Matches
       stamped u))

@@ -18,6 +18,7 @@ use Rattle.chk_sink.specs.Faults.{FailsLast, IsOutside, SinkCause, ended_by}
 use Rattle.chk_sink.specs.Held.{Matches}
 use Rattle.chk_sink.specs.States.{State, IsSameStart, process, ticked_state}
 use Rattle.chk_sink.specs.Works.{OfTick, LeavesAfterTick}
+use Rattle.chk_tees.specs.declared.Subscriber.{Subscriber}
 use Rattle.chk_collect.specs.Legality.{IsSettled, Finds, TurnCause}
 use Rattle.chk_collect.specs.Messages.{IsTakenUpTo}
 use Rattle.chk_collect.specs.Turns.{IsCollectorTurn, IsCutTurn, unticked}
@@ -78,10 +79,11 @@ settled_by now u t (Err fault) ok = tt
 
 -- it was done
 pub turn_by : (who : Who) (door : List ℕ) (most : ℕ) (s u t : State) → who ≡ process u → (now : ℕ)
-    (result : Result (Unit {0}) SinkFault) {old taken timed new : Option History}
-    → TickSays now u t result timed new → IsTakenUpTo who door most 1000 s old (Ok tt) u taken
+    (result : Result (Unit {0}) SinkFault) {a b : List Subscriber}
+    {old taken timed new : Option History} → TickSays now u t result timed new
+    → IsTakenUpTo who door most 1000 s a old (Ok tt) u b taken
     → Adds taken timed (Calls (asked who Clock [] 0 0) (answered sized (Ok now)))
-    → OnOk result (IsCollectorTurn who door most 1000 s old t new)
+    → OnOk result (IsCollectorTurn who door most 1000 s a old t b new)
 turn_by who door most s u t is now (Err fault) says served call = tt
 turn_by who door most s u t is now (Ok value) {taken = taken} {timed = timed} {new = new} says
     served call = record {
@@ -103,10 +105,11 @@ turn_by who door most s u t is now (Ok value) {taken = taken} {timed = timed} {n
 
 -- it was refused
 pub cut_by : (who : Who) (door : List ℕ) (most : ℕ) (s u t : State) → who ≡ process u → (now : ℕ)
-    (result : Result (Unit {0}) SinkFault) {old taken timed new : Option History}
-    → TickSays now u t result timed new → IsTakenUpTo who door most 1000 s old (Ok tt) u taken
+    (result : Result (Unit {0}) SinkFault) {a b : List Subscriber}
+    {old taken timed new : Option History} → TickSays now u t result timed new
+    → IsTakenUpTo who door most 1000 s a old (Ok tt) u b taken
     → Adds taken timed (Calls (asked who Clock [] 0 0) (answered sized (Ok now)))
-    → IfErr result (λ fault. IsCutTurn who door most 1000 fault s old t new)
+    → IfErr result (λ fault. IsCutTurn who door most 1000 fault s a old t b new)
 cut_by who door most s u t is now (Ok value) says served call = tt
 cut_by who door most s u t is now (Err fault) {timed = timed} {new = new} says served call =
     unticked now served call (record {
@@ -123,12 +126,13 @@ cut_by who door most s u t is now (Err fault) {timed = timed} {new = new} says s
 
 -- what the takings find, by the turn's result
 pub finds_by : (stamped : List (List ℕ)) (who : Who) (door : List ℕ) (most : ℕ) (s t : State)
+    (a b : List Subscriber)
     → who ≡ process s → IsTrue (is_collector s.collector) → IsSettled s
     → (result : Result (Unit {0}) SinkFault) {old new : Option History}
-    → OnOk result (IsCollectorTurn who door most 1000 s old t new)
-    → IfErr result (λ fault. IsCutTurn who door most 1000 fault s old t new)
+    → OnOk result (IsCollectorTurn who door most 1000 s a old t b new)
+    → IfErr result (λ fault. IsCutTurn who door most 1000 fault s a old t b new)
     → Adds old new (Finds (Foreign stamped who) who.name (Matches stamped s))
-finds_by stamped who door most s t is named settled (Ok value) turn cut =
+finds_by stamped who door most s t a b is named settled (Ok value) turn cut =
     turn_finds stamped s named who is settled turn
-finds_by stamped who door most s t is named settled (Err fault) turn cut =
+finds_by stamped who door most s t a b is named settled (Err fault) turn cut =
     cut_finds stamped s named who is fault settled cut

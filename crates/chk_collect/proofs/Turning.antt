@@ -20,6 +20,7 @@ use Rattle.chk_sink.specs.Closes.{Ticked}
 use Rattle.chk_sink.specs.Faults.{FailsLast, IsOutside}
 use Rattle.chk_sink.specs.Held.{Matches}
 use Rattle.chk_sink.specs.States.{State, IsSameStart, process}
+use Rattle.chk_tees.specs.declared.Subscriber.{Subscriber}
 use Rattle.chk_collect.specs.Legality.{IsSettled, TurnEnds, Finds}
 use Rattle.chk_collect.specs.Messages.{EndsBy, IsTakenUpTo, enough, none, one, untaken as not_taken, unanswered}
 use Rattle.chk_collect.specs.Turns.{IsCollectorTurn, IsCutTurn, untaken, untimed, unticked}
@@ -42,9 +43,9 @@ pub same_process : (s u : State) → IsSameStart s u → process u ≡ process s
 same_process s u same = ap (λ n. record { role = Collector; name = n }) same.collector
 
 -- of the takings, the call that failed is the last one
-pub taken_last : {who : Who} {door : List ℕ} {most wait : ℕ} {s u : State}
+pub taken_last : {who : Who} {door : List ℕ} {most wait : ℕ} {s u : State} {a b : List Subscriber}
     {result : Result (Unit {0}) SinkFault} {old new : Option History}
-    → IsTakenUpTo who door most wait s old result u new → Adds old new (FailsLast result)
+    → IsTakenUpTo who door most wait s a old result u b new → Adds old new (FailsLast result)
 taken_last enough = adds_none _ (FailsLast {T = Unit {0}} (Ok tt)) (λ h. tt)
 taken_last (none call) = adds_as (FailsLast {T = Unit {0}} (Ok tt)) call (λ a h calls. tt)
 taken_last (one {result = result} taking call answer rest) =
@@ -105,16 +106,17 @@ module _ (stamped : List (List ℕ)) (s : State) (named : IsTrue (is_collector s
   abbrev FoundBy : Who → Option History → Option History → Type 0
   FoundBy who old new = Adds old new (Finds (Foreign stamped who) who.name (Matches stamped s))
 
-  turn_found : {door : List ℕ} {most wait : ℕ} {t : State} {old new : Option History} → IsSettled s
-      → IsCollectorTurn (process s) door most wait s old t new → FoundBy (process s) old new
+  turn_found : {door : List ℕ} {most wait : ℕ} {t : State} {a b : List Subscriber}
+      {old new : Option History} → IsSettled s
+      → IsCollectorTurn (process s) door most wait s a old t b new → FoundBy (process s) old new
   turn_found settled turn =
       found_then stamped s settled (found_then stamped s settled (taken_finds stamped s settled
       turn.messages)
       (call_opens _ (λ x. x) turn.clock)) (quiet_opens turn.tick.quiet)
 
   cut_found : {door : List ℕ} {most wait : ℕ} {fault : SinkFault} {t : State}
-      {old new : Option History} → IsSettled s
-      → IsCutTurn (process s) door most wait fault s old t new → FoundBy (process s) old new
+      {a b : List Subscriber} {old new : Option History} → IsSettled s
+      → IsCutTurn (process s) door most wait fault s a old t b new → FoundBy (process s) old new
   cut_found settled (untaken taken) = taken_finds stamped s settled taken
   cut_found settled (untimed given taken ends call) =
       found_then stamped s settled (taken_finds stamped s settled taken) (call_opens _ (λ x. x)
@@ -125,17 +127,20 @@ module _ (stamped : List (List ℕ)) (s : State) (named : IsTrue (is_collector s
       (call_opens _ (λ x. x) call)) (quiet_opens tick.quiet)
 
   pub turn_finds : (who : Who) → who ≡ process s
-      → {door : List ℕ} {most wait : ℕ} {t : State} {old new : Option History} → IsSettled s
-      → IsCollectorTurn who door most wait s old t new → FoundBy who old new
-  turn_finds who is {door = door} {most = most} {wait = wait} {t = t} {old = old} {new = new}
+      → {door : List ℕ} {most wait : ℕ} {t : State} {a b : List Subscriber} {old new : Option History}
+      → IsSettled s → IsCollectorTurn who door most wait s a old t b new → FoundBy who old new
+  turn_finds who is {door = door} {most = most} {wait = wait} {t = t} {a = a} {b = b} {old = old}
+      {new = new}
       settled turn =
-      subst (λ w. IsCollectorTurn w door most wait s old t new
+      subst (λ w. IsCollectorTurn w door most wait s a old t b new
       → FoundBy w old new) (sym is) (turn_found settled) turn
 
   pub cut_finds : (who : Who) → who ≡ process s
-      → {door : List ℕ} {most wait : ℕ} (fault : SinkFault) {t : State} {old new : Option History}
-      → IsSettled s → IsCutTurn who door most wait fault s old t new → FoundBy who old new
-  cut_finds who is {door = door} {most = most} {wait = wait} fault {t = t} {old = old} {new = new}
+      → {door : List ℕ} {most wait : ℕ} (fault : SinkFault) {t : State} {a b : List Subscriber}
+      {old new : Option History}
+      → IsSettled s → IsCutTurn who door most wait fault s a old t b new → FoundBy who old new
+  cut_finds who is {door = door} {most = most} {wait = wait} fault {t = t} {a = a} {b = b} {old = old}
+      {new = new}
       settled turn =
-      subst (λ w. IsCutTurn w door most wait fault s old t new
+      subst (λ w. IsCutTurn w door most wait fault s a old t b new
       → FoundBy w old new) (sym is) (cut_found settled) turn

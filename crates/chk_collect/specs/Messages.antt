@@ -16,7 +16,7 @@ use Rattle.httparse.specs.Grammar.{EndsInTarget}
 use Rattle.chk_http.specs.declared.fault.HttpFault.{HttpFault}
 use Rattle.chk_http.specs.declared.fault.HttpFault.TheVariants.{NotYet}
 use Rattle.chk_http.specs.Heads.{HasManyRequestLines, IsNoRequestHead}
-use Rattle.chk_world.specs.Collectors.{Handling}
+use Rattle.chk_world.specs.Collectors.{Appended, Handling}
 use Rattle.chk_world.specs.Places.{As, IsBy}
 use Rattle.chk_world.specs.Works.{Works}
 use Rattle.chk_sink.specs.declared.fault.SinkFault.{SinkFault}
@@ -25,6 +25,9 @@ use Rattle.chk_sink.specs.States.{State, IsSameStart}
 use Rattle.chk_collector.specs.Answering.{Taken, Answered}
 use Rattle.chk_collector.specs.Handled.{KeepsSeen, OfRequest, Unanswered}
 use Rattle.chk_collector.specs.Outcomes.{Outcome, RefusedBy, IsOutcomeOf, OutcomeActs, OutcomeDamage, OutcomeLast, OutcomeState, outcome_ended, reply_of}
+use Rattle.chk_tees.specs.declared.Subscriber.{Subscriber}
+use Rattle.chk_tees.specs.declared.tees.Passed.{Passed}
+use Rattle.chk_tees.specs.Offers.{IsPassed}
 
 -- the bytes of a whole head and of the longest body: a message of so many is read no further
 abbrev pub most_bytes : ℕ
@@ -84,14 +87,15 @@ pub data IsReadOn (who : Who) (t : ℕ) : List ℕ → Result (Option (List ℕ)
       → IsReadOn who t bytes (Err fault) old new
 
 -- From a legal history that holds the sinks, and in which these bytes are all that was got of the
--- message that was taken last, the history behind the request holds the sinks of the new state, and
--- the reply may be the answer to that taking.
+-- message that was taken last, whatever was appended since then, the history behind the request
+-- holds the sinks of the new state, and the reply may be the answer to that taking.
 abbrev pub LeadsToReply : Who → List ℕ → State → State → Result (List ℕ) NoMemory → Option History
     → Option History → Type 0
 LeadsToReply who request s u reply old new =
-    (stamped : List (List ℕ)) (t : ℕ) (others : List Handling) → Adds old new
-    (Leads (As stamped who) (Taken stamped s t request others)
-    (Answered stamped u t request others reply))
+    (stamped : List (List ℕ)) (t : ℕ) (earlier : List Appended) (others : List Handling)
+    → Adds old new
+    (Leads (As stamped who) (Taken stamped s t request earlier others)
+    (Answered stamped u t request earlier others reply))
 
 -- a request was handled, with this reply
 pub record IsHandled (who : Who) (request reply : List ℕ) (s t : State) (old new : Option History)
@@ -124,15 +128,20 @@ IsSentOrFailed (Ok value) = Unit {0}
 IsSentOrFailed (Err Failed) = Unit {0}
 IsSentOrFailed (Err fault) = ⊥
 
--- A request was handled and answered once with that reply, and the number of its bytes is told; or
--- there was no memory for the reply or its answer.
+-- the reply, where its answer was done
+abbrev pub reply_sent : List ℕ → Result (Unit {0}) CallFault → Option (List ℕ)
+reply_sent reply (Ok value) = Some reply
+reply_sent reply (Err fault) = None
+
+-- A request was handled and answered once with that reply, which is told where its answer was done;
+-- or there was no memory for the reply or its answer.
 pub data IsReplied (who : Who) (t : ℕ) (request : List ℕ) (s : State)
-    : Result ℕ NoMemory → Option History → State → Option History → Type 0 where
+    : Result (Option (List ℕ)) NoMemory → Option History → State → Option History → Type 0 where
   sent : {old next new : Option History} {u : State} (reply : List ℕ)
       (given : Result (Unit {0}) CallFault) → IsHandled who request reply s u old next
       → IsSentOrFailed given
       → Adds next new (Calls (asked who Answer (reply ∷ []) t 0) (answered plain given))
-      → IsReplied who t request s (Ok (length request)) old u new
+      → IsReplied who t request s (Ok (reply_sent reply given)) old u new
   unreplied : {fault : NoMemory} {old new : Option History} {u : State}
       → IsUnreplied who request fault s u old new → IsReplied who t request s (Err fault) old u new
   unsent : {fault : NoMemory} {old next new : Option History} {u : State} (reply : List ℕ)
@@ -141,18 +150,38 @@ pub data IsReplied (who : Who) (t : ℕ) (request : List ℕ) (s : State)
       (Calls (asked who Answer (reply ∷ []) t 0) (answered {T = Unit {0}} plain (Err no_memory)))
       → IsReplied who t request s (Err fault) old u new
 
--- What became of a message that was taken: it broke off, or it was read to its end, handled and
--- answered; or there was no memory on the way. It tells how many bytes were read to its end, and 0
--- where it broke off.
-pub data IsAnswered (who : Who) (t : ℕ) (bytes : List ℕ) (s : State)
-    : Result ℕ NoMemory → Option History → State → Option History → Type 0 where
+-- A request was handled and answered. Behind an answer that was done, and behind none else, what was
+-- written is passed on to the subscribers that stand, and never before it. The number of the
+-- request's bytes is told; or there was no memory.
+pub data IsPassedOn (who : Who) (t : ℕ) (request : List ℕ) (s : State) (a : List Subscriber)
+    : Result ℕ NoMemory → Option History → State → List Subscriber → Option History → Type 0 where
+  lost : {old new : Option History} {u : State} → IsReplied who t request s (Ok None) old u new
+      → IsPassedOn who t request s a (Ok (length request)) old u a new
+  passed_on : {old mid new : Option History} {u : State} {b : List Subscriber} (reply : List ℕ)
+      (numbers : Passed) → IsReplied who t request s (Ok (Some reply)) old u mid
+      → IsPassed who request reply a b (Ok numbers) mid new
+      → IsPassedOn who t request s a (Ok (length request)) old u b new
+  unpassed : {fault : NoMemory} {old mid new : Option History} {u : State} {b : List Subscriber}
+      (reply : List ℕ) → IsReplied who t request s (Ok (Some reply)) old u mid
+      → IsPassed who request reply a b (Err fault) mid new
+      → IsPassedOn who t request s a (Err fault) old u b new
+  undone : {fault : NoMemory} {old new : Option History} {u : State}
+      → IsReplied who t request s (Err fault) old u new
+      → IsPassedOn who t request s a (Err fault) old u a new
+
+-- What became of a message that was taken: it broke off, or it was read to its end, handled,
+-- answered and passed on; or there was no memory on the way. It tells how many bytes were read to
+-- its end, and 0 where it broke off.
+pub data IsAnswered (who : Who) (t : ℕ) (bytes : List ℕ) (s : State) (a : List Subscriber)
+    : Result ℕ NoMemory → Option History → State → List Subscriber → Option History → Type 0 where
   broken : {old new : Option History} → IsReadOn who t bytes (Ok None) old new
-      → IsAnswered who t bytes s (Ok 0) old s new
+      → IsAnswered who t bytes s a (Ok 0) old s a new
   unread : {fault : NoMemory} {old new : Option History} → IsReadOn who t bytes (Err fault) old new
-      → IsAnswered who t bytes s (Err fault) old s new
+      → IsAnswered who t bytes s a (Err fault) old s a new
   replied : {result : Result ℕ NoMemory} {old mid new : Option History} {u : State}
-      (request : List ℕ) → IsReadOn who t bytes (Ok (Some request)) old mid
-      → IsReplied who t request s result mid u new → IsAnswered who t bytes s result old u new
+      {b : List Subscriber} (request : List ℕ) → IsReadOn who t bytes (Ok (Some request)) old mid
+      → IsPassedOn who t request s a result mid u b new
+      → IsAnswered who t bytes s a result old u b new
 
 -- a message of so many bytes is a long one: its sender has more to send
 abbrev pub long_bytes : ℕ
@@ -173,35 +202,35 @@ EndsBy call (Err Failed) fault = fault ≡ Outside call
 EndsBy call (Err no_memory) fault = fault ≡ wanting
 EndsBy call given fault = ⊥
 
--- At most so many messages are taken at the door and answered, each before the next is taken, up
--- to the first taking that gives none. The first taking may wait so long, and each further one as
--- long as the size of the message before it says. A taking that fails ends the turn, and so does
--- want of memory.
+-- At most so many messages are taken at the door, answered and passed on to the subscribers, each
+-- before the next is taken, up to the first taking that gives none. The first taking may wait so
+-- long, and each further one as long as the size of the message before it says. A taking that fails
+-- ends the turn, and so does want of memory.
 pub data IsTakenUpTo (who : Who) (door : List ℕ)
-    : ℕ → ℕ → State → Option History → Result (Unit {0}) SinkFault → State → Option History
-    → Type 0 where
-  enough : {wait : ℕ} {s : State} {now : Option History}
-      → IsTakenUpTo who door 0 wait s now (Ok tt) s now
-  none : {left wait : ℕ} {s : State} {old new : Option History}
+    : ℕ → ℕ → State → List Subscriber → Option History → Result (Unit {0}) SinkFault → State
+    → List Subscriber → Option History → Type 0 where
+  enough : {wait : ℕ} {s : State} {a : List Subscriber} {now : Option History}
+      → IsTakenUpTo who door 0 wait s a now (Ok tt) s a now
+  none : {left wait : ℕ} {s : State} {a : List Subscriber} {old new : Option History}
       → Adds old new (CallsSome (λ of. asked who Take (door ∷ []) wait 0) (λ of. answered
       (taking_given of) (Ok None)))
-      → IsTakenUpTo who door (suc left) wait s old (Ok tt) s new
-  one : {left wait n : ℕ} {s t u : State} {result : Result (Unit {0}) SinkFault} {old mid next new :
-      Option History} (taking : Taking)
+      → IsTakenUpTo who door (suc left) wait s a old (Ok tt) s a new
+  one : {left wait n : ℕ} {s t u : State} {a b c : List Subscriber}
+      {result : Result (Unit {0}) SinkFault} {old mid next new : Option History} (taking : Taking)
       → Adds old mid (CallsSome (λ of. asked who Take (door ∷ []) wait 0) (λ of. answered
       (taking_given of) (Ok (Some taking))))
-      → IsAnswered who taking.number taking.bytes s (Ok n) mid t next
-      → IsTakenUpTo who door left (wait_behind n) t next result u new
-      → IsTakenUpTo who door (suc left) wait s old result u new
-  untaken : {left wait : ℕ} {s : State} {old new : Option History} (fault : SinkFault) (given :
-      Result (Option Taking) CallFault)
+      → IsAnswered who taking.number taking.bytes s a (Ok n) mid t b next
+      → IsTakenUpTo who door left (wait_behind n) t b next result u c new
+      → IsTakenUpTo who door (suc left) wait s a old result u c new
+  untaken : {left wait : ℕ} {s : State} {a : List Subscriber} {old new : Option History}
+      (fault : SinkFault) (given : Result (Option Taking) CallFault)
       → EndsBy Take given fault
       → Adds old new (CallsSome (λ of. asked who Take (door ∷ []) wait 0) (λ of. answered
       (taking_given of) given))
-      → IsTakenUpTo who door (suc left) wait s old (Err fault) s new
-  unanswered : {left wait : ℕ} {s t : State} {old mid new : Option History} (taking : Taking)
-      (fault : NoMemory)
+      → IsTakenUpTo who door (suc left) wait s a old (Err fault) s a new
+  unanswered : {left wait : ℕ} {s t : State} {a b : List Subscriber}
+      {old mid new : Option History} (taking : Taking) (fault : NoMemory)
       → Adds old mid (CallsSome (λ of. asked who Take (door ∷ []) wait 0) (λ of. answered
       (taking_given of) (Ok (Some taking))))
-      → IsAnswered who taking.number taking.bytes s (Err fault) mid t new
-      → IsTakenUpTo who door (suc left) wait s old (Err wanting) t new
+      → IsAnswered who taking.number taking.bytes s a (Err fault) mid t b new
+      → IsTakenUpTo who door (suc left) wait s a old (Err wanting) t b new

@@ -21,6 +21,7 @@ use Rattle.chk_sink.specs.Starts.{IsFresh, Started, IsLastStart}
 use Rattle.chk_sink.specs.States.{State, IsSameStart, last_number}
 use Rattle.chk_sink.specs.Works.{OfStart, OfTick}
 use Rattle.chk_collector.specs.Finishing.{finished, Finished, LeavesAfterFinish}
+use Rattle.chk_tees.specs.declared.Subscriber.{Subscriber}
 use Rattle.chk_collect.specs.Turns.{AreCollectorTurns, IsCutChain}
 
 -- The start, after whose `rotate` milliseconds a sink is closed. From a legal history the history
@@ -70,32 +71,34 @@ pub record IsUnfinished (who : Who) (fault : SinkFault) (s t : State) (old new :
   pub last : Adds old new (FailsLast {T = Unit {0}} (Err fault))
   pub damaged : Adds old new (DamageCause {T = Unit {0}} (Err fault))
 
--- the start, so many turns at the door, and the end
-pub record CollectorRan (who : Who) (rotate turns : ℕ) (door : List ℕ) (most wait : ℕ) (old new :
-    Option History) : Type 0 where
+-- the start, so many turns at the door with these subscribers, and the end
+pub record CollectorRan (who : Who) (rotate turns : ℕ) (door : List ℕ) (most wait : ℕ)
+    (a : List Subscriber) (old new : Option History) : Type 0 where
   pub s : State
   pub t : State
   pub u : State
+  pub b : List Subscriber
   pub started : Option History
   pub turned : Option History
   pub start : IsStarted who rotate s old started
-  pub each : AreCollectorTurns who door most wait turns s started t turned
+  pub each : AreCollectorTurns who door most wait turns s a started t b turned
   pub finish : IsFinished who t u turned new
 
 -- a run that was cut short: at its start, in a turn behind some others, or at its end behind all
 -- turns
-pub data IsCutRun (who : Who) (rotate turns : ℕ) (door : List ℕ) (most wait : ℕ) (fault :
-    SinkFault) (old new : Option History)
-    : Type 0 where
-  unstarted : IsUnstarted who fault old new → IsCutRun who rotate turns door most wait fault old new
-  cut : {s u : State} {started : Option History} → IsStarted who rotate s old started
-      → IsCutChain who door most wait turns fault s started u new
-      → IsCutRun who rotate turns door most wait fault old new
-  unfinished : {s t u : State} {started turned : Option History}
+pub data IsCutRun (who : Who) (rotate turns : ℕ) (door : List ℕ) (most wait : ℕ)
+    (a : List Subscriber) (fault : SinkFault) (old new : Option History) : Type 0 where
+  unstarted : IsUnstarted who fault old new
+      → IsCutRun who rotate turns door most wait a fault old new
+  cut : {s u : State} {b : List Subscriber} {started : Option History}
       → IsStarted who rotate s old started
-      → AreCollectorTurns who door most wait turns s started t turned
+      → IsCutChain who door most wait turns fault s a started u b new
+      → IsCutRun who rotate turns door most wait a fault old new
+  unfinished : {s t u : State} {b : List Subscriber} {started turned : Option History}
+      → IsStarted who rotate s old started
+      → AreCollectorTurns who door most wait turns s a started t b turned
       → IsUnfinished who fault t u turned new
-      → IsCutRun who rotate turns door most wait fault old new
+      → IsCutRun who rotate turns door most wait a fault old new
 
 -- no sink of this collector is under writing
 abbrev pub IsNoneOpen : List ℕ → Files → Type 0

@@ -16,6 +16,7 @@ use Rattle.chk_sink.specs.Faults.{FailsLast, ended_by}
 use Rattle.chk_sink.specs.Held.{Matches}
 use Rattle.chk_sink.specs.States.{State, IsSameStart, ticked_state}
 use Rattle.chk_sink.specs.Works.{OfTick, LeavesAfterTick}
+use Rattle.chk_tees.specs.declared.Subscriber.{Subscriber}
 use Rattle.chk_collect.specs.Messages.{EndsBy, IsTakenUpTo}
 
 -- A tick at this moment: its calls were done, and no sink is left that is to be closed. From a
@@ -44,59 +45,62 @@ pub record IsUnticked (who : Who) (fault : SinkFault) (s t : State) (old new : O
   pub damaged : Adds old new (DamageCause {T = Unit {0}} (Err fault))
 
 -- at most `most` messages at the door, the clock, and a tick at its moment
-pub record IsCollectorTurn (who : Who) (door : List ℕ) (most wait : ℕ) (s : State) (old : Option
-    History) (t : State)
+pub record IsCollectorTurn (who : Who) (door : List ℕ) (most wait : ℕ) (s : State)
+    (a : List Subscriber) (old : Option History) (t : State) (b : List Subscriber)
     (new : Option History) : Type 0 where
   pub u : State
   pub taken : Option History
-  pub messages : IsTakenUpTo who door most wait s old (Ok tt) u taken
+  pub messages : IsTakenUpTo who door most wait s a old (Ok tt) u b taken
   pub now : ℕ
   pub timed : Option History
   pub clock : Adds taken timed (Calls (asked who Clock [] 0 0) (answered sized (Ok now)))
   pub tick : IsTicked who now u t timed new
 
 -- a turn that was cut short: at a taking or for want of memory, at the clock, or in the tick
-pub data IsCutTurn (who : Who) (door : List ℕ) (most wait : ℕ) (fault : SinkFault) (s : State) (old
-    : Option History)
-    : State → Option History → Type 0 where
-  untaken : {t : State} {new : Option History}
-      → IsTakenUpTo who door most wait s old (Err fault) t new
-      → IsCutTurn who door most wait fault s old t new
-  untimed : {t : State} {taken new : Option History} (given : Result ℕ CallFault)
-      → IsTakenUpTo who door most wait s old (Ok tt) t taken
+pub data IsCutTurn (who : Who) (door : List ℕ) (most wait : ℕ) (fault : SinkFault) (s : State)
+    (a : List Subscriber) (old : Option History)
+    : State → List Subscriber → Option History → Type 0 where
+  untaken : {t : State} {b : List Subscriber} {new : Option History}
+      → IsTakenUpTo who door most wait s a old (Err fault) t b new
+      → IsCutTurn who door most wait fault s a old t b new
+  untimed : {t : State} {b : List Subscriber} {taken new : Option History}
+      (given : Result ℕ CallFault) → IsTakenUpTo who door most wait s a old (Ok tt) t b taken
       → EndsBy Clock given fault → Adds taken new (Calls (asked who Clock [] 0 0) (answered sized
       given))
-      → IsCutTurn who door most wait fault s old t new
-  unticked : {u t : State} {taken timed new : Option History} (now : ℕ)
-      → IsTakenUpTo who door most wait s old (Ok tt) u taken
+      → IsCutTurn who door most wait fault s a old t b new
+  unticked : {u t : State} {b : List Subscriber} {taken timed new : Option History} (now : ℕ)
+      → IsTakenUpTo who door most wait s a old (Ok tt) u b taken
       → Adds taken timed (Calls (asked who Clock [] 0 0) (answered sized (Ok now)))
       → IsUnticked who fault u t timed new
-      → IsCutTurn who door most wait fault s old t new
+      → IsCutTurn who door most wait fault s a old t b new
 
 -- so many turns, one after the other
 pub data AreCollectorTurns (who : Who) (door : List ℕ) (most wait : ℕ)
-    : ℕ → State → Option History → State → Option History → Type 0 where
-  over : {s : State} {now : Option History} → AreCollectorTurns who door most wait 0 s now s now
-  turn : {n : ℕ} {s t u : State} {old mid new : Option History}
-      → IsCollectorTurn who door most wait s old t mid
-      → AreCollectorTurns who door most wait n t mid u new
-      → AreCollectorTurns who door most wait (suc n) s old u new
+    : ℕ → State → List Subscriber → Option History → State → List Subscriber → Option History
+    → Type 0 where
+  over : {s : State} {a : List Subscriber} {now : Option History}
+      → AreCollectorTurns who door most wait 0 s a now s a now
+  turn : {n : ℕ} {s t u : State} {a b c : List Subscriber} {old mid new : Option History}
+      → IsCollectorTurn who door most wait s a old t b mid
+      → AreCollectorTurns who door most wait n t b mid u c new
+      → AreCollectorTurns who door most wait (suc n) s a old u c new
 
 -- some of so many turns, and then one that was cut short
-pub record IsCutChain (who : Who) (door : List ℕ) (most wait turns : ℕ) (fault : SinkFault) (s :
-    State) (old : Option History)
-    (t : State) (new : Option History) : Type 0 where
+pub record IsCutChain (who : Who) (door : List ℕ) (most wait turns : ℕ) (fault : SinkFault)
+    (s : State) (a : List Subscriber) (old : Option History) (t : State) (b : List Subscriber)
+    (new : Option History) : Type 0 where
   pub done : ℕ
   pub within : done < turns
   pub u : State
+  pub standing : List Subscriber
   pub turned : Option History
-  pub each : AreCollectorTurns who door most wait done s old u turned
-  pub cut : IsCutTurn who door most wait fault u turned t new
+  pub each : AreCollectorTurns who door most wait done s a old u standing turned
+  pub cut : IsCutTurn who door most wait fault u standing turned t b new
 
 -- all of so many turns, or a chain that was cut short
-abbrev pub AreTurned : Who → List ℕ → ℕ → ℕ → ℕ → State → Option History
-    → Result (Unit {0}) SinkFault → State → Option History → Type 0
-AreTurned who door most wait turns s old (Ok value) t new = AreCollectorTurns who door most wait
-    turns s old t new
-AreTurned who door most wait turns s old (Err fault) t new = IsCutChain who door most wait turns
-    fault s old t new
+abbrev pub AreTurned : Who → List ℕ → ℕ → ℕ → ℕ → State → List Subscriber → Option History
+    → Result (Unit {0}) SinkFault → State → List Subscriber → Option History → Type 0
+AreTurned who door most wait turns s a old (Ok value) t b new =
+    AreCollectorTurns who door most wait turns s a old t b new
+AreTurned who door most wait turns s a old (Err fault) t b new =
+    IsCutChain who door most wait turns fault s a old t b new

@@ -23,13 +23,15 @@ use chk_bytes::Word;
 use chk_collector::Collector;
 use chk_sink::SinkFault;
 use chk_site::{Site, Who};
+use chk_tees::Tees;
 use std::alloc::Global;
 
 /// The command: starts the collector, runs so many turns at that door, each of at most `most`
 /// messages, and finishes. A turn waits up to 1,000 milliseconds for its first message; for a
 /// further one up to 20 behind one of 3,932,160 bytes or more, and else not at all. A further
 /// message is taken before what the earlier ones of its turn appended is committed. A sink is closed
-/// after `rotate` milliseconds. After a refusal nothing more is called, and the finished parts stand;
+/// after `rotate` milliseconds. Behind an answer that was done the subscribers are sent what was
+/// written; one that couldn't be sent it is dropped. After a refusal nothing more is called, and the finished parts stand;
 /// the next start settles what was left.
 pub fn collect<S: Site>(
     alloc: Global,
@@ -39,13 +41,14 @@ pub fn collect<S: Site>(
     turns: u64,
     most: u64,
     door: &Word,
+    tees: &mut Tees,
 ) -> Result<(), SinkFault>
     requires role { who.now.role ≡ collector_role }
     requires name { IsTrue (is_collector who.now.name) }
-    ensures ran { OnOk result (CollectorRan who.now rotate turns door.now most 1000
+    ensures ran { OnOk result (CollectorRan who.now rotate turns door.now most 1000 tees.old
         (S.told site.old) (S.told site.new)) }
-    ensures refused { IfErr result (λ fault. IsCutRun who.now rotate turns door.now most 1000 fault
-        (S.told site.old) (S.told site.new)) }
+    ensures refused { IfErr result (λ fault. IsCutRun who.now rotate turns door.now most 1000
+        tees.old fault (S.told site.old) (S.told site.new)) }
     ensures told { (stamped : List (List ℕ)) (started acting : List Process)
         → Contains started who.now → Contains acting who.now
         → Adds (S.told site.old) (S.told site.new)
@@ -61,7 +64,7 @@ pub fn collect<S: Site>(
     ensures cause { TurnCause (S.fault_count site.old) (S.fault_count site.new) result }
 {
     let mut collector = Collector::start(alloc, site, who, rotate)?;
-    run_turns(alloc, site, who, &mut collector, door, turns, most)?;
+    run_turns(alloc, site, who, &mut collector, door, turns, most, tees)?;
     collector.finish(alloc, site)
 }
 
@@ -74,12 +77,13 @@ fn run_turns<S: Site>(
     door: &Word,
     turns: u64,
     most: u64,
+    tees: &mut Tees,
 ) -> Result<(), SinkFault>
     requires started { who.now ≡ process collector.old }
     requires named { IsTrue (is_collector who.now.name) }
     requires settled { IsSettled collector.old }
-    ensures script { AreTurned who.now door.now most 1000 turns collector.old (S.told site.old) result
-        collector.new (S.told site.new) }
+    ensures script { AreTurned who.now door.now most 1000 turns collector.old tees.old (S.told site.old)
+        result collector.new tees.new (S.told site.new) }
     ensures told { (stamped : List (List ℕ)) → Adds (S.told site.old) (S.told site.new)
         (Leads (Talking stamped who.now) (Matches stamped collector.old)
         (ChainEnds stamped collector.new result)) }
@@ -91,7 +95,7 @@ fn run_turns<S: Site>(
     ensures cause { TurnCause (S.fault_count site.old) (S.fault_count site.new) result }
 {
     for _turn in 0..turns {
-        collector_turn(alloc, site, who, collector, door, most)?;
+        collector_turn(alloc, site, who, collector, door, most, tees)?;
     }
     Ok(())
 }

@@ -19,6 +19,7 @@ use chk_bytes::Word;
 use chk_collector::Collector;
 use chk_sink::SinkFault;
 use chk_site::{Site, Who};
+use chk_tees::Tees;
 use std::alloc::Global;
 
 /// A message of so many bytes is a long one: its sender has more to send. A post has at most
@@ -36,7 +37,8 @@ const WAIT: u64 = 1000;
 /// further one it waits up to 20 where the one before it had 3,932,160 bytes or more, and else it
 /// takes only what waits at the door already. The first taking that gives none ends the takings.
 /// Each message is read on while it isn't whole and has fewer than 4,210,688 bytes, and is answered
-/// before the next one is taken. A further message is taken before what the earlier ones appended is
+/// before the next one is taken. Behind an answer that was done the subscribers are sent what was
+/// written. A further message is taken before what the earlier ones appended is
 /// committed: the tick commits all of it. A call that fails while a message is read, handled or
 /// answered ends that message alone: `Outside` names the taking, the clock or a call of the tick.
 /// After a refusal the finished parts stand.
@@ -47,13 +49,14 @@ pub fn collector_turn<S: Site>(
     collector: &mut Collector,
     door: &Word,
     most: u64,
+    tees: &mut Tees,
 ) -> Result<(), SinkFault>
     requires started { who.now ≡ process collector.old }
     requires named { IsTrue (is_collector who.now.name) }
-    ensures turn { OnOk result (IsCollectorTurn who.now door.now most 1000 collector.old (S.told site.old)
-        collector.new (S.told site.new)) }
+    ensures turn { OnOk result (IsCollectorTurn who.now door.now most 1000 collector.old tees.old
+        (S.told site.old) collector.new tees.new (S.told site.new)) }
     ensures refused { IfErr result (λ fault. IsCutTurn who.now door.now most 1000 fault collector.old
-        (S.told site.old) collector.new (S.told site.new)) }
+        tees.old (S.told site.old) collector.new tees.new (S.told site.new)) }
     ensures told { (stamped : List (List ℕ)) → Adds (S.told site.old) (S.told site.new)
         (Leads (Talking stamped who.now) (Matches stamped collector.old)
         (TurnEnds stamped collector.new result)) }
@@ -66,7 +69,7 @@ pub fn collector_turn<S: Site>(
     ensures last { Adds (S.told site.old) (S.told site.new) (FailsLast result) }
     ensures cause { TurnCause (S.fault_count site.old) (S.fault_count site.new) result }
 {
-    serve(alloc, site, who, collector, door, most)?;
+    serve(alloc, site, who, collector, door, most, tees)?;
     let now = clock(alloc, site, who)?;
     collector.tick(alloc, site, now)
 }
@@ -79,11 +82,12 @@ fn serve<S: Site>(
     collector: &mut Collector,
     door: &Word,
     most: u64,
+    tees: &mut Tees,
 ) -> Result<(), SinkFault>
     requires started { who.now ≡ process collector.old }
     requires named { IsTrue (is_collector who.now.name) }
-    ensures script { IsTakenUpTo who.now door.now most 1000 collector.old (S.told site.old) result
-        collector.new (S.told site.new) }
+    ensures script { IsTakenUpTo who.now door.now most 1000 collector.old tees.old (S.told site.old)
+        result collector.new tees.new (S.told site.new) }
     ensures told { (stamped : List (List ℕ)) → Adds (S.told site.old) (S.told site.new)
         (Leads (Talking stamped (process collector.old)) (Matches stamped collector.old)
         (Matches stamped collector.new)) }
@@ -98,7 +102,7 @@ fn serve<S: Site>(
         let Some(taking) = taken else {
             return Ok(());
         };
-        let size = handle(alloc, site, who, collector, taking)?;
+        let size = handle(alloc, site, who, collector, taking, tees)?;
         wait = wait_behind(size);
     }
     Ok(())

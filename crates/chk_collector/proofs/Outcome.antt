@@ -1,12 +1,12 @@
 -- What a request comes to.
-use Rattle.chk_collector.specs.Answering.{Taken}
+use Rattle.chk_collector.specs.Answering.{Taken, taken_with}
 use Rattle.chk_collector.specs.Handled.{Puts, PutsThen, OfPosts, OfPoll, OfRequest, LeavesUnanswered, Unanswered}
 use Rattle.chk_sink.proofs.Owned.{works_harmless, put_harmless}
 use Rattle.chk_sink.proofs.Holding.{leads_by}
 use Rattle.chk_world.proofs.Working.{works_as, works_fine}
 use Rattle.chk_world.specs.Works.{Works, rests}
 use Rattle.chk_world.specs.Places.{As}
-use Rattle.chk_world.specs.Collectors.{Handling, begun}
+use Rattle.chk_world.specs.Collectors.{Appended, Handling}
 use Rattle.chk_site.specs.Runs.{Leads}
 use Rattle.chk_site.specs.Acts.{Deed}
 use Rattle.chk_site.specs.declared.acts.ActAnswer.{ActAnswer}
@@ -140,7 +140,9 @@ post_replied request chunks old new before now told_before told_after lines (Ok 
       state = inl (chunks, post, puts, each.place);
       sound = tt;
       least = post_least request old each.acks chunks told_before told_after post;
-      full = λ stamped t others. full stamped (begun t request ∷ others) (are_posted t request others chunks post);
+      full = λ stamped t earlier others.
+          full stamped (taken_with t request earlier ∷ others)
+          (are_posted t request earlier others chunks post);
       of_start = λ cs p. each.of_start;
     }) written
 post_replied request chunks old new before now told_before told_after lines (Err fault) result post each puts leaves full own of_put spent last cause written =
@@ -174,13 +176,14 @@ poll_may_fail request stems NoMemory poll of_question told = told
 -- what the questions of a poll lead to, by the history before them
 abbrev pub PollTold : List ℕ → State → List Stem → List ℕ → Result (Unit {0}) SinkFault → Option History → Option History → Type 0
 PollTold request s stems lines done before after =
-    (stamped : List (List ℕ)) (t : ℕ) (others : List Handling)
-    → Adds before after (Leads (As stamped (process s)) (Taken stamped s t request others)
-    (CountedAll stamped s (begun t request ∷ others) t stems lines done))
+    (stamped : List (List ℕ)) (t : ℕ) (earlier : List Appended) (others : List Handling)
+    → Adds before after (Leads (As stamped (process s)) (Taken stamped s t request earlier others)
+    (CountedAll stamped s (taken_with t request earlier ∷ others) t stems lines done))
 
 poll_sound : (request : List ℕ) (s : State) (stems : List Stem) (lines : List ℕ) (before after : Option History) (fault : SinkFault)
     → PollTold request s stems lines (Err fault) before after → OutcomeSound request s before after (Fails fault)
-poll_sound request s stems lines before after (Damaged name at) told = λ stamped t others. leads_by (λ h q. q.sound) (told stamped t others)
+poll_sound request s stems lines before after (Damaged name at) told = λ stamped t earlier others.
+    leads_by (λ h q. q.sound) (told stamped t earlier others)
 poll_sound request s stems lines before after fault told = tt
 
 poll_spends : (s : State) (fault : SinkFault) → IsOfQuestion fault → OutcomeSpent s s (Fails fault)
@@ -210,7 +213,8 @@ poll_replied request stems s before now told_before told_after lines (Ok value) 
       state = inr (stems, poll, refl);
       sound = tt;
       least = poll_least request s each.acks each.least;
-      full = λ stamped t others. leads_as (λ h x. x) (λ h x r left. inl left) (told stamped t others);
+      full = λ stamped t earlier others.
+          leads_as (λ h x. x) (λ h x r left. inl left) (told stamped t earlier others);
       of_start = poll_of_start request s each.acks stems poll;
     }) written
 poll_replied request stems s before now told_before told_after lines (Err fault) result poll told own each of_question damaged last cause written =

@@ -6,7 +6,7 @@ use Rattle.chk_collector.specs.Passing.{RequestLeavesFull}
 use Rattle.chk_collector.specs.OwnLines.{AreOfStart}
 use Rattle.chk_world.specs.Works.{Works, NoneFailed}
 use Rattle.chk_world.specs.Places.{As, AtTold}
-use Rattle.chk_world.specs.Collectors.{Handling}
+use Rattle.chk_world.specs.Collectors.{Appended, Handling}
 use Rattle.chk_site.specs.Runs.{Leads}
 use Rattle.chk_site.specs.declared.acts.OutsideFault.{OutsideFault}
 use Rattle.std.specs.Prelude.{◌≡◌, ◌⊎◌, ℕ, List, [], ◌∷◌, ◌++◌, length, map, codes, decimal, Option, Some, None, Err}
@@ -149,8 +149,10 @@ OutcomeDamage o added history = damage_in added ≡ None
 -- a reply that tells of a damaged file never comes in a legal history, where the site wasn't stopped
 abbrev pub OutcomeSound : List ℕ → State → Option History → Option History → Outcome → Type 0
 OutcomeSound request s told_before told_after (Fails (Damaged name at)) =
-    (stamped : List (List ℕ)) (t : ℕ) (others : List Handling) → Adds told_before told_after
-    (Leads (As stamped (process s)) (Taken stamped s t request others) (AtTold stamped (process s) (λ front. ⊥)))
+    (stamped : List (List ℕ)) (t : ℕ) (earlier : List Appended) (others : List Handling)
+    → Adds told_before told_after
+    (Leads (As stamped (process s)) (Taken stamped s t request earlier others)
+    (AtTold stamped (process s) (λ front. ⊥)))
 OutcomeSound request s told_before told_after o = Unit {0}
 
 -- what ended the work

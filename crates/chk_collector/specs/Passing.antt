@@ -5,7 +5,7 @@ use Rattle.chk_site.specs.History.{History, is_stopped}
 use Rattle.chk_site.specs.Runs.{Leads}
 use Rattle.chk_site.specs.Site.{Adds}
 use Rattle.chk_chunk.specs.Keys.{Chunk}
-use Rattle.chk_world.specs.Collectors.{Handling}
+use Rattle.chk_world.specs.Collectors.{Appended, Handling}
 use Rattle.chk_world.specs.Laws.{wrote}
 use Rattle.chk_world.specs.Places.{As}
 use Rattle.chk_sink.specs.Held.{Ready}
@@ -37,6 +37,7 @@ PutsLeaveFull old new chunks told_before told_after =
 -- so it is behind a request
 abbrev pub RequestLeavesFull : List ℕ → State → State → Option History → Option History → Type 0
 RequestLeavesFull request old new told_before told_after =
-    (stamped : List (List ℕ)) (t : ℕ) (others : List Handling)
+    (stamped : List (List ℕ)) (t : ℕ) (earlier : List Appended) (others : List Handling)
     → Adds told_before told_after
-    (Leads (As stamped (process old)) (Taken stamped old t request others) (LeavesFull old new))
+    (Leads (As stamped (process old)) (Taken stamped old t request earlier others)
+    (LeavesFull old new))

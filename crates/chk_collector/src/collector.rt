@@ -8,7 +8,7 @@ ghost use Rattle.chk_site.specs.Site.{Adds};
 ghost use Rattle.chk_site.specs.Runs.{HasStarted, Leads};
 ghost use Rattle.chk_message.specs.Messages.{PostRequest};
 ghost use Rattle.chk_http.specs.Queries.{IsQuery};
-ghost use Rattle.chk_world.specs.Collectors.{Handling};
+ghost use Rattle.chk_world.specs.Collectors.{Appended, Handling};
 ghost use Rattle.chk_world.specs.Rules.{Legal};
 ghost use Rattle.chk_world.specs.Places.{As};
 ghost use Rattle.chk_sink.specs.Faults.{SinkCause, FailsLast, ended_by};
@@ -87,10 +87,11 @@ impl Collector {
         site: &mut S,
         request: &[u8],
     ) -> Result<Bytes, NoMemory>
-        ensures told { (stamped : List (List ℕ)) (t : ℕ) (others : List Handling)
+        ensures told { (stamped : List (List ℕ)) (t : ℕ) (earlier : List Appended)
+            (others : List Handling)
             → Adds (S.told site.old) (S.told site.new) (Leads (As stamped (process self.old))
-            (Taken stamped self.old t request.now others)
-            (Answered stamped self.new t request.now others result)) }
+            (Taken stamped self.old t request.now earlier others)
+            (Answered stamped self.new t request.now earlier others result)) }
         ensures replied { IfOk result (Replied request.now self.old self.new (S.fault_count site.old)
             (S.fault_count site.new) (S.told site.old) (S.told site.new)) }
         ensures unanswered { IfErr result (λ _. Unanswered request.now self.old self.new
@@ -113,10 +114,12 @@ impl Collector {
         site: &mut S,
         body: &[u8],
     ) -> Result<Bytes, NoMemory>
-        ensures told { (stamped : List (List ℕ)) (t : ℕ) (request : List ℕ) (others : List Handling)
+        ensures told { (stamped : List (List ℕ)) (t : ℕ) (request : List ℕ)
+            (earlier : List Appended) (others : List Handling)
             → PostRequest body.now request → Adds (S.told site.old) (S.told site.new)
-            (Leads (As stamped (process self.old)) (Taken stamped self.old t request others)
-            (Answered stamped self.new t request others result)) }
+            (Leads (As stamped (process self.old))
+            (Taken stamped self.old t request earlier others)
+            (Answered stamped self.new t request earlier others result)) }
         ensures replied { (request : List ℕ) → PostRequest body.now request → IfOk result
             (Replied request self.old self.new (S.fault_count site.old) (S.fault_count site.new)
             (S.told site.old) (S.told site.new)) }
@@ -176,10 +179,12 @@ impl Collector {
         query: &str,
     ) -> Result<Bytes, NoMemory>
         requires asked { (stems : List Parts) × IsQuery stems query.now }
-        ensures told { (stamped : List (List ℕ)) (t : ℕ) (request : List ℕ) (others : List Handling)
+        ensures told { (stamped : List (List ℕ)) (t : ℕ) (request : List ℕ)
+            (earlier : List Appended) (others : List Handling)
             → AsksFor query.now request → Adds (S.told site.old) (S.told site.new)
-            (Leads (As stamped (process self.now)) (Taken stamped self.now t request others)
-            (Answered stamped self.now t request others result)) }
+            (Leads (As stamped (process self.now))
+            (Taken stamped self.now t request earlier others)
+            (Answered stamped self.now t request earlier others result)) }
         ensures replied { (request : List ℕ) → AsksFor query.now request → IfOk result
             (Replied request self.now self.now (S.fault_count site.old) (S.fault_count site.new)
             (S.told site.old) (S.told site.new)) }

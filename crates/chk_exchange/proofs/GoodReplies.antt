@@ -15,7 +15,7 @@ use Rattle.chk_message.proofs.Accepted.{never_both}
 use Rattle.chk_message.proofs.Fronts.{front_of_post_chunks, front_of_poll}
 use Rattle.chk_message.proofs.Written.{written_is_post, written_is_poll}
 use Rattle.chk_world.specs.Agents.{AreFor}
-use Rattle.chk_world.specs.Collectors.{Appended, Handling, begun, with_appends, TellAll, SinceTaking, is_taking, CommittedLengths, GoodAnswer, AnswersWell, handling_of, view}
+use Rattle.chk_world.specs.Collectors.{Appended, Handling, with_appends, TellAll, SinceTaking, is_taking, CommittedLengths, GoodAnswer, AnswersWell, handling_of, view}
 use Rattle.chk_world.specs.Committed.{committed_length}
 use Rattle.chk_world.specs.Rules.{Legal}
 use Rattle.chk_world.proofs.AppendsStand.{AllStand, Stand, appends_stand, wrote_small}
@@ -24,7 +24,7 @@ use Rattle.chk_world.proofs.TakenChunks.{AllOf}
 use Rattle.chk_world.proofs.NameTests.{nat_self}
 use Rattle.chk_world.proofs.RepliesTell.{told_are}
 use Rattle.chk_sink.specs.States.{State, process}
-use Rattle.chk_collector.specs.Answering.{MayAnswer, Stands}
+use Rattle.chk_collector.specs.Answering.{MayAnswer, Stands, taken_with}
 use Rattle.chk_collector.specs.Outcomes.{Outcome, Refused, BadPost, Lines, Fails, IsOutcomeOf, code_of, body_of}
 use Rattle.chk_sink.specs.declared.fault.SinkFault.{SinkFault}
 use Rattle.chk_sink.specs.declared.fault.SinkFault.TheVariants.{Outside as sink_outside, Damaged as sink_damaged, Spent as sink_spent, NoMemory as sink_wanting}
@@ -143,9 +143,9 @@ coded (Fails f) made is reply read fault e = (body_of (Fails f), read)
 module _ (stamped : List (List ℕ)) (s : State) (t : ℕ) (request reply : List ℕ)
     (others : List Handling) (h : History)
     (legal : Legal stamped h) (may : MayAnswer s t reply h)
-    (stands : Stands s t request others h) where
+    (stands : Stands s t request [] others h) where
   abbrev Message : Handling
-  Message = with_appends stands.appends (begun t request)
+  Message = with_appends stands.appends (taken_with t request [])
 
   found : handling_of t (view (process s) h).handled ≡ Some Message
   found =

@@ -12,7 +12,7 @@ use Rattle.chk_site.proofs.Family.{leads_family}
 use Rattle.chk_site.proofs.Leads.{leads_then, leads_as}
 use Rattle.chk_site.proofs.Runs.{adds_both}
 use Rattle.chk_message.specs.Messages.{IsReply}
-use Rattle.chk_world.specs.Collectors.{Handling}
+use Rattle.chk_world.specs.Collectors.{Appended, Handling}
 use Rattle.chk_world.specs.Places.{As, AtTold}
 use Rattle.chk_world.specs.Rules.{Legal}
 use Rattle.chk_world.specs.Together.{Together}
@@ -34,9 +34,9 @@ use Rattle.chk_exchange.proofs.Joint.{handled_all, answered_all, answer_failed}
 abbrev pub Tells : Sinks → Sinks → List ℕ → Result (List ℕ) Wanting → Option History
     → Option History → Type 0
 Tells s u request result old new =
-    (stamped : List (List ℕ)) (t : ℕ) (others : List Handling)
-    → Adds old new (Leads (As stamped (process s)) (Taken stamped s t request others)
-    (Answered stamped u t request others result))
+    (stamped : List (List ℕ)) (t : ℕ) (earlier : List Appended) (others : List Handling)
+    → Adds old new (Leads (As stamped (process s)) (Taken stamped s t request earlier others)
+    (Answered stamped u t request earlier others result))
 
 -- what the read reply says of its outcome
 pub record IsReadSo (request reply : List ℕ) (made : Option ExchangeFault)
@@ -51,16 +51,16 @@ module _ (stamped : List (List ℕ)) (s u : Sinks) (t : ℕ)
   pub of_any : (C : List Handling → History → Type 0) (R : History → Type 0)
       → ((others : List Handling)
       → Adds old new
-      (Leads (As stamped (process s)) (Taken stamped s t request others) (C others)))
+      (Leads (As stamped (process s)) (Taken stamped s t request [] others) (C others)))
       → ((h : History) (others : List Handling) → C others h → R h)
       → Adds old new (Leads (As stamped (process s)) (HasTaken stamped s t request) R)
   of_any C R told weaker =
-      leads_family {S = As stamped (process s)} (λ others. Taken stamped s t request others) C
+      leads_family {S = As stamped (process s)} (λ others. Taken stamped s t request [] others) C
       (HasTaken stamped s t request) R [] told
       (λ added history all h. go added history all h (is_stopped history) refl)
     where
       go : (added history : History)
-          → ((others : List Handling) → Taken stamped s t request others history
+          → ((others : List Handling) → Taken stamped s t request [] others history
           → C others (added ++ history))
           → HasTaken stamped s t request history → (b : Bool) → is_stopped history ≡ b
           → R (added ++ history)
@@ -80,22 +80,22 @@ module _ (stamped : List (List ℕ)) (s u : Sinks) (t : ℕ)
   -- where the reply tells of a damaged file, the history isn't so
   sound_of : (result : Result (List ℕ) Wanting) → Tells s u request result old new → (o : Outcome)
       → OutcomeSound request s old new o → (others : List Handling)
-      → Adds old new (Leads (As stamped (process s)) (Taken stamped s t request others)
+      → Adds old new (Leads (As stamped (process s)) (Taken stamped s t request [] others)
       (λ h. is_stopped h ≡ false → IsUndamaged o))
   sound_of result told (Refused fault) sound others =
-      leads_as (λ h x. x) (λ h x r. tt) (told stamped t others)
+      leads_as (λ h x. x) (λ h x r. tt) (told stamped t [] others)
   sound_of result told (BadPost fault) sound others =
-      leads_as (λ h x. x) (λ h x r. tt) (told stamped t others)
+      leads_as (λ h x. x) (λ h x r. tt) (told stamped t [] others)
   sound_of result told (Lines acks) sound others =
-      leads_as (λ h x. x) (λ h x r. tt) (told stamped t others)
+      leads_as (λ h x. x) (λ h x r. tt) (told stamped t [] others)
   sound_of result told (Fails (sink_outside call)) sound others =
-      leads_as (λ h x. x) (λ h x r. tt) (told stamped t others)
+      leads_as (λ h x. x) (λ h x r. tt) (told stamped t [] others)
   sound_of result told (Fails (sink_damaged name at)) sound others =
-      leads_as (λ h x. x) (λ h x r. x.alive r) (sound stamped t others)
+      leads_as (λ h x. x) (λ h x r. x.alive r) (sound stamped t [] others)
   sound_of result told (Fails (sink_spent born)) sound others =
-      leads_as (λ h x. x) (λ h x r. tt) (told stamped t others)
+      leads_as (λ h x. x) (λ h x r. tt) (told stamped t [] others)
   sound_of result told (Fails sink_wanting) sound others =
-      leads_as (λ h x. x) (λ h x r. tt) (told stamped t others)
+      leads_as (λ h x. x) (λ h x r. tt) (told stamped t [] others)
 
   -- what may be answered, and what it is to the message
   pub responded : (reply : List ℕ) (made : Option ExchangeFault) (o : Outcome)
@@ -105,15 +105,16 @@ module _ (stamped : List (List ℕ)) (s u : Sinks) (t : ℕ)
       (λ h. AtTold stamped (process u) (λ h. MayAnswer u t reply h × IsReplyTo request reply made)
       h))
   responded reply made o so sound told =
-      of_any (λ others h. Answered {E = Wanting} stamped u t request others (Ok reply) h
+      of_any (λ others h. Answered {E = Wanting} stamped u t request [] others (Ok reply) h
       × (is_stopped h ≡ false → IsUndamaged o))
       (λ h. AtTold stamped (process u) (λ h. MayAnswer u t reply h × IsReplyTo request reply made)
       h)
       (λ others. adds_both
-      (Leads (As stamped (process s)) (Taken stamped s t request others)
-      (λ h. Answered {E = Wanting} stamped u t request others (Ok reply) h × (is_stopped h ≡ false
+      (Leads (As stamped (process s)) (Taken stamped s t request [] others)
+      (λ h. Answered {E = Wanting} stamped u t request [] others (Ok reply) h × (is_stopped h ≡
+      false
       → IsUndamaged o)))
-      (told stamped t others) (sound_of (Ok reply) told o sound others)
+      (told stamped t [] others) (sound_of (Ok reply) told o sound others)
       (λ added history x y. record {
         leads = λ theirs h. (x.leads theirs h, y.leads theirs h);
         own =
@@ -135,8 +136,9 @@ module _ (stamped : List (List ℕ)) (s u : Sinks) (t : ℕ)
       → Adds old new (Leads (As stamped (process s)) (HasTaken stamped s t request)
       (λ h. AtTold stamped (process u) (λ h. MayAnswer u t reply h × Unit {0}) h))
   answerable reply told =
-      of_any (λ others h. Answered {E = Wanting} stamped u t request others (Ok reply) h)
-      (λ h. AtTold stamped (process u) (λ h. MayAnswer u t reply h × Unit {0}) h) (told stamped t)
+      of_any (λ others h. Answered {E = Wanting} stamped u t request [] others (Ok reply) h)
+      (λ h. AtTold stamped (process u) (λ h. MayAnswer u t reply h × Unit {0}) h)
+      (told stamped t [])
       (λ h others x. record {
         legal = x.legal;
         may_act = x.may_act;
@@ -148,8 +150,8 @@ module _ (stamped : List (List ℕ)) (s u : Sinks) (t : ℕ)
   pub unreplied : (fault : Wanting) → Tells s u request (Err fault) old new
       → Adds old new (Leads (As stamped (process s)) (HasTaken stamped s t request) (Legal stamped))
   unreplied fault told =
-      of_any (λ others h. Answered {E = Wanting} stamped u t request others (Err fault) h)
-      (Legal stamped) (told stamped t)
+      of_any (λ others h. Answered {E = Wanting} stamped u t request [] others (Err fault) h)
+      (Legal stamped) (told stamped t [])
       (λ h others x. x.legal)
 
 -- ---- the whole of it

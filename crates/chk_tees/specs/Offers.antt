@@ -95,3 +95,15 @@ abbrev pub PassesPost : Who → List ℕ → List ℕ → List Subscriber → Li
 PassesPost who request reply before after result old new =
     (chunks : List Chunk) (acks : List Ack) → IsPlacedPost request reply chunks acks
     → Passes who (teeds_of chunks acks) before after result old new
+
+-- What was done with a post that was answered: nothing where nobody stands, and else by what the
+-- request and its reply offer.
+pub data IsPassed (who : Who) (request reply : List ℕ) (before after : List Subscriber)
+    (result : Result Passed NoMemory) (old new : Option History) : Type 0 where
+  nobody : before ≡ [] → PassesNone before after result old new
+      → IsPassed who request reply before after result old new
+  nothing : HasNoOffer request reply → PassesNone before after result old new
+      → IsPassed who request reply before after result old new
+  passed : (chunks : List Chunk) (acks : List Ack) → IsPlacedPost request reply chunks acks
+      → Passes who (teeds_of chunks acks) before after result old new
+      → IsPassed who request reply before after result old new

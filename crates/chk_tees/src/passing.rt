@@ -1,8 +1,9 @@
 //! All subscribers, one after the other.
 
-ghost use Rattle.std.specs.Prelude.{◌≤◌, ◌<◌, ◌^◌, length};
+ghost use Rattle.std.specs.Prelude.{◌≤◌, length};
 ghost use Rattle.chk_tees.specs.Offers.{IsSound, items_of};
 ghost use Rattle.chk_tees.specs.Passing.{Passes, PassCause};
+ghost use Rattle.chk_tees.specs.Subscribers.{most_subscribers};
 
 use crate::offers::Offer;
 use crate::sending::{Sending, send_to};
@@ -19,7 +20,7 @@ pub(crate) fn pass_on<S: Site>(
     standing: &mut Vec<Subscriber>,
     offer: &Offer<'_>,
 ) -> Result<Passed, NoMemory>
-    requires count { length standing.old.items < 2 ^ 32 }
+    requires count { length standing.old.items ≤ most_subscribers }
     requires sound { IsSound offer.now }
     ensures told { Passes who.now (items_of offer.now) standing.old.items standing.new.items result (S.told site.old) (S.told site.new) }
     ensures cause { PassCause (S.fault_count site.old) (S.fault_count site.new) result }

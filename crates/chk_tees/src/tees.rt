@@ -1,8 +1,9 @@
 //! The subscribers of a collector.
 
-ghost use Rattle.std.specs.Prelude.{◌≡◌, ◌<◌, ◌^◌, length};
-ghost use Rattle.chk_tees.specs.Offers.{HasNoOffer, PassesPost, PassesNone};
+ghost use Rattle.std.specs.Prelude.{◌≡◌, ◌≤◌, length};
+ghost use Rattle.chk_tees.specs.Offers.{HasNoOffer, IsPassed, PassesPost, PassesNone};
 ghost use Rattle.chk_tees.specs.Passing.{PassCause};
+ghost use Rattle.chk_tees.specs.Subscribers.{most_subscribers};
 
 use crate::Subscriber;
 use crate::offers::offered;
@@ -27,9 +28,10 @@ impl Model for Tees {
 
     ghost view = { λ t. t.standing.items };
 
-    ghost use Rattle.std.specs.Prelude.{◌<◌, ◌^◌, length};
+    ghost use Rattle.std.specs.Prelude.{◌≤◌, length};
+    ghost use Rattle.chk_tees.specs.Subscribers.{most_subscribers};
 
-    ghost invariant = { λ t. length t.standing.items < 2 ^ 32 };
+    ghost invariant = { λ t. length t.standing.items ≤ most_subscribers };
 }
 
 /// How many subscribers were sent a message, and how many were dropped.
@@ -40,9 +42,9 @@ pub struct Passed {
 }
 
 impl Tees {
-    /// These subscribers, in this order. Two may have one address.
+    /// These subscribers, at most 16, in this order. Two may have one address.
     pub fn new(alloc: Global, subscribers: Vec<Subscriber>) -> Tees
-        requires { length subscribers.items < 2 ^ 32 }
+        requires { length subscribers.items ≤ most_subscribers }
         ensures { result ≡ subscribers.items }
     {
         Tees {
@@ -67,6 +69,7 @@ impl Tees {
         reply: &[u8],
     ) -> Result<Passed, NoMemory>
         ensures told { PassesPost who.now request.now reply.now self.old self.new result (S.told site.old) (S.told site.new) }
+        ensures did { IsPassed who.now request.now reply.now self.old self.new result (S.told site.old) (S.told site.new) }
         ensures none { HasNoOffer request.now reply.now → PassesNone self.old self.new result (S.told site.old) (S.told site.new) }
         ensures cause { PassCause (S.fault_count site.old) (S.fault_count site.new) result }
     {

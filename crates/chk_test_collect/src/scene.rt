@@ -8,6 +8,7 @@ use chk_collect::collect;
 use chk_sink::SinkFault;
 use chk_site::{Call, Role, Site, Who};
 use chk_site_mem::SiteMem;
+use chk_tees::Tees;
 use chk_test_calls::quiet;
 use std::alloc::Global;
 use std::test::Fail;
@@ -76,6 +77,11 @@ pub fn gets(alloc: Global, site: &mut SiteMem, message: u64, wanted: &[u8]) -> R
     }
 }
 
+// No subscriber.
+pub fn nobody(alloc: Global) -> Tees {
+    Tees::new(alloc, Vec::new(alloc))
+}
+
 // The command with so many turns of at most so many messages, and a rotation of five minutes.
 pub fn runs(
     alloc: Global,
@@ -85,7 +91,8 @@ pub fn runs(
 ) -> Result<Result<(), SinkFault>, Fail> {
     let who = first(alloc)?;
     let door = door(alloc)?;
-    Ok(collect(alloc, site, &who, 300_000, turns, most, &door))
+    let mut tees = nobody(alloc);
+    Ok(collect(alloc, site, &who, 300_000, turns, most, &door, &mut tees))
 }
 
 // The command with so many turns of at most so many messages ends well.

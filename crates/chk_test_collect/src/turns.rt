@@ -1,7 +1,7 @@
 // What a collector does in its turns.
 use crate::scene::{
     CUT, DONE, OPEN, POST, count_of, door, ends_well, expect, first, gets, is_long, is_missing,
-    sends, site_of,
+    nobody, sends, site_of,
 };
 use chk_collect::collector_turn;
 use chk_collector::Collector;
@@ -100,7 +100,8 @@ fn one_turn(alloc: Global, site: &mut SiteMem) -> Result<(), Fail> {
     let Ok(mut collector) = Collector::start(alloc, site, &who, 300_000) else {
         return Err(Fail::from("no start"));
     };
-    let turned = collector_turn(alloc, site, &who, &mut collector, &door, 1);
+    let mut tees = nobody(alloc);
+    let turned = collector_turn(alloc, site, &who, &mut collector, &door, 1, &mut tees);
     expect(turned.is_ok(), "no turn")
 }
 

@@ -31,14 +31,14 @@ returns-in-None-clause-same g c = same_start c.args.collector.now
 pub returns-in-Some-clause-told : goal.returns-in-Some-clause-told
 returns-in-Some-clause-told g c stamped =
     read_then stamped c.args.collector.now c.args.who.now c.requires.started c.requires.named
-    c.args.taking.number c.args.taking.bytes c.answer.new.collector c.in-Some.request
+    c.args.taking.number c.args.taking.bytes c.answer_and_pass.new.collector c.in-Some.request
     (rw c.in-Some.is at c.in_ok-read.ensures.script)
-    (rw c.as_slice.ensures at (c.answer.ensures.told stamped))
+    (rw c.as_slice.ensures at (c.answer_and_pass.ensures.told stamped))
 
 pub returns-in-Some-clause-script : goal.returns-in-Some-clause-script
 returns-in-Some-clause-script g c =
     replied c.in-Some.request (rw c.in-Some.is at c.in_ok-read.ensures.script)
-    (rw c.as_slice.ensures at c.answer.ensures.script)
+    (rw c.as_slice.ensures at c.answer_and_pass.ensures.script)
 
 pub returns-in-Some-clause-count : goal.returns-in-Some-clause-count
-returns-in-Some-clause-count g c = risen_then _ _ _ c.read_on.ensures.count c.answer.ensures.count
+returns-in-Some-clause-count g c = risen_then _ _ _ c.read_on.ensures.count c.answer_and_pass.ensures.count

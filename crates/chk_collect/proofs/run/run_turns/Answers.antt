@@ -5,7 +5,7 @@ use Rattle.chk_collect.proofs.run.run_turns.Goals as goal
 
 pub loop-turn-init : goal.loop-turn-init
 loop-turn-init g c =
-    turns_begin c.args.who.now c.args.door.now c.args.most c.args.collector.now
+    turns_begin c.args.who.now c.args.door.now c.args.most c.args.collector.now c.args.tees.now
     (g.S.Site.told c.args.site.now) (g.S.Site.fault_count c.args.site.now) c.requires.started
     c.requires.settled
 
@@ -17,7 +17,7 @@ collector_turn-requires g c = record {
 
 pub loop-turn-preserved : goal.loop-turn-preserved
 loop-turn-preserved g c =
-    turns_on c.loop-turn.invariant c.collector_turn.new.collector
+    turns_on c.loop-turn.invariant c.collector_turn.new.collector c.collector_turn.new.tees
     (g.S.Site.told c.collector_turn.new.site) (g.S.Site.fault_count c.collector_turn.new.site)
     (record {
       told = c.in_ok-collector_turn.ensures.told;
@@ -30,7 +30,7 @@ pub returns-in_err-collector_turn-clause-script : goal.returns-in_err-collector_
 returns-in_err-collector_turn-clause-script g c =
     let p = err_from_is_err_and c.from_residual.result c.from_residual.ensures.1 in
     rw (p.1, p.2)
-    (chain_script c.loop-turn.invariant c.collector_turn.new.collector
+    (chain_script c.loop-turn.invariant c.collector_turn.new.collector c.collector_turn.new.tees
     (g.S.Site.told c.collector_turn.new.site) (g.S.Site.fault_count c.collector_turn.new.site)
     c.args.turns c.in_err-collector_turn.field-0.0
     (record {
@@ -44,7 +44,7 @@ pub returns-in_err-collector_turn-clause-told : goal.returns-in_err-collector_tu
 returns-in_err-collector_turn-clause-told g c stamped =
     let p = err_from_is_err_and c.from_residual.result c.from_residual.ensures.1 in
     rw (p.1, p.2)
-    (chain_told c.loop-turn.invariant c.collector_turn.new.collector
+    (chain_told c.loop-turn.invariant c.collector_turn.new.collector c.collector_turn.new.tees
     (g.S.Site.told c.collector_turn.new.site) (g.S.Site.fault_count c.collector_turn.new.site)
     c.args.turns c.in_err-collector_turn.field-0.0
     (record {
@@ -56,7 +56,7 @@ returns-in_err-collector_turn-clause-told g c stamped =
 
 pub returns-in_err-collector_turn-clause-finds : goal.returns-in_err-collector_turn-clause-finds
 returns-in_err-collector_turn-clause-finds g c stamped =
-    chain_finds c.loop-turn.invariant c.collector_turn.new.collector
+    chain_finds c.loop-turn.invariant c.collector_turn.new.collector c.collector_turn.new.tees
     (g.S.Site.told c.collector_turn.new.site) (g.S.Site.fault_count c.collector_turn.new.site)
     c.args.turns c.in_err-collector_turn.field-0.0
     (record {
@@ -68,7 +68,7 @@ returns-in_err-collector_turn-clause-finds g c stamped =
 
 pub returns-in_err-collector_turn-clause-same : goal.returns-in_err-collector_turn-clause-same
 returns-in_err-collector_turn-clause-same g c =
-    chain_same c.loop-turn.invariant c.collector_turn.new.collector
+    chain_same c.loop-turn.invariant c.collector_turn.new.collector c.collector_turn.new.tees
     (g.S.Site.told c.collector_turn.new.site) (g.S.Site.fault_count c.collector_turn.new.site)
     c.args.turns c.in_err-collector_turn.field-0.0
     (record {
@@ -87,7 +87,7 @@ pub returns-in_err-collector_turn-clause-last : goal.returns-in_err-collector_tu
 returns-in_err-collector_turn-clause-last g c =
     let p = err_from_is_err_and c.from_residual.result c.from_residual.ensures.1 in
     rw (p.1, p.2)
-    (chain_last c.loop-turn.invariant c.collector_turn.new.collector
+    (chain_last c.loop-turn.invariant c.collector_turn.new.collector c.collector_turn.new.tees
     (g.S.Site.told c.collector_turn.new.site) (g.S.Site.fault_count c.collector_turn.new.site)
     c.args.turns c.in_err-collector_turn.field-0.0
     (record {
@@ -101,7 +101,7 @@ pub returns-in_err-collector_turn-clause-cause : goal.returns-in_err-collector_t
 returns-in_err-collector_turn-clause-cause g c =
     let p = err_from_is_err_and c.from_residual.result c.from_residual.ensures.1 in
     rw (p.1, p.2)
-    (chain_cause c.loop-turn.invariant c.collector_turn.new.collector
+    (chain_cause c.loop-turn.invariant c.collector_turn.new.collector c.collector_turn.new.tees
     (g.S.Site.told c.collector_turn.new.site) (g.S.Site.fault_count c.collector_turn.new.site)
     c.args.turns c.in_err-collector_turn.field-0.0
     (record {

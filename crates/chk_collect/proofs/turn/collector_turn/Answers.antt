@@ -182,6 +182,7 @@ returns-clause-told g c stamped =
 pub returns-clause-finds : goal.returns-clause-finds
 returns-clause-finds g c stamped settled =
     finds_by stamped c.args.who.now c.args.door.now c.args.most c.args.collector.now c.tick.new.self
+    c.args.tees.now c.serve.new.tees
     c.requires.started
     (named_at c.args.collector.now c.args.who.now c.requires.started c.requires.named) settled
     c.tick.result (returns-clause-turn g c) (returns-clause-refused g c)

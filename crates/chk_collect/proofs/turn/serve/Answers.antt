@@ -9,14 +9,14 @@ use Rattle.chk_collect.proofs.turn.serve.Goals as goal
 
 pub loop-message-init : goal.loop-message-init
 loop-message-init g c =
-    serving_begins c.args.who.now c.args.door.now c.args.most c.args.collector.now
+    serving_begins c.args.who.now c.args.door.now c.args.most c.args.collector.now c.args.tees.now
     (g.S.Site.told c.args.site.now) (g.S.Site.fault_count c.args.site.now) c.requires.started
 
 pub loop-message-preserved : goal.loop-message-preserved
 loop-message-preserved g c =
     let far = c.loop-message.invariant in
     rw c.wait_behind-wait.ensures
-    (serving_goes_on far c.in-Some.taking c.in_ok-size.size c.handle.new.collector
+    (serving_goes_on far c.in-Some.taking c.in_ok-size.size c.handle.new.collector c.handle.new.tees
     (g.S.Site.fault_count c.handle.new.site) (rw c.in-Some.is at c.in_ok-taken.ensures.call)
     c.in_ok-size.ensures.script
     (λ stamped. taken_told stamped c.loop-message.collector c.args.who.now far.who_is
@@ -88,7 +88,7 @@ returns-in_err-size-clause-script g c =
     c.from_residual-in_err-size.ensures.1 in
     rw (p.1, p.2)
     (serving_unanswered c.loop-message.invariant (omega arith) c.in-Some.taking
-    c.in_err-size.field-0.0 c.handle.new.collector
+    c.in_err-size.field-0.0 c.handle.new.collector c.handle.new.tees
     (rw c.in-Some.is at c.in_ok-taken.ensures.call) c.in_err-size.ensures.script)
 
 pub returns-in_err-size-clause-told : goal.returns-in_err-size-clause-told

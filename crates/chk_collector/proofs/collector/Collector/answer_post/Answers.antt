@@ -2,14 +2,15 @@ use Rattle.chk_collector.proofs.Handling.{keeps_same, posts_keep}
 use Rattle.std.proofs.Common.{◌∷◌, arith, length}
 use Rattle.chk_site.proofs.Leads.{leads_as}
 use Rattle.chk_message.specs.Messages.{IsPostOf}
-use Rattle.chk_world.specs.Collectors.{begun}
+use Rattle.chk_collector.specs.Answering.{taken_with}
 use Rattle.chk_collector.proofs.MayReply.{refused_told, are_posted, post_told, post_short}
 use Rattle.chk_collector.proofs.Outcome.{post_replied, bad_post_replied, may_have_risen, has_not_risen, post_unanswered, refused_unanswered}
 use Rattle.chk_collector.proofs.collector.Collector.answer_post.Goals as goal
 
 pub returns-in-Err-clause-told : goal.returns-in-Err-clause-told
-returns-in-Err-clause-told g c stamped t request others post =
-    refused_told stamped c.args.self.now t request others 400 _ c.refusal.result _ (λ e. omega (arith, e)) c.refusal.ensures.accepted
+returns-in-Err-clause-told g c stamped t request earlier others post =
+    refused_told stamped c.args.self.now t request earlier others 400 _ c.refusal.result _
+    (λ e. omega (arith, e)) c.refusal.ensures.accepted
 
 pub returns-in-Err-clause-replied : goal.returns-in-Err-clause-replied
 returns-in-Err-clause-replied g c request post =
@@ -17,13 +18,15 @@ returns-in-Err-clause-replied g c request post =
     c.in-Err.ensures.every_post (rw c.chunk_fault_name.ensures at c.refusal.ensures.written)
 
 pub returns-in-Ok-clause-told : goal.returns-in-Ok-clause-told
-returns-in-Ok-clause-told g c stamped t request others post =
+returns-in-Ok-clause-told g c stamped t request earlier others post =
     let is : IsPostOf c.in-Ok.post.left request = (c.args.body.now, post, c.in-Ok.ensures.post) in
     leads_as (λ h x. x)
-    (post_told stamped c.put_all-done.new.self t request others c.in-Ok.post.left c.put_all-done.new.lines c.put_all-done.result c.reply.result is
+    (post_told stamped c.put_all-done.new.self t request earlier others c.in-Ok.post.left
+    c.put_all-done.new.lines c.put_all-done.result c.reply.result is
     (post_short c.put_all-done.new.self c.in-Ok.post.left c.put_all-done.new.lines c.put_all-done.result c.in-Ok.ensures.post.few c.put_all-done.ensures.lines)
     (rw c.as_slice.ensures at c.reply.ensures.accepted))
-    (c.put_all-done.ensures.told stamped (begun t request ∷ others) (are_posted t request others c.in-Ok.post.left is))
+    (c.put_all-done.ensures.told stamped (taken_with t request earlier ∷ others) (are_posted t
+    request earlier others c.in-Ok.post.left is))
 
 pub returns-in-Ok-clause-replied : goal.returns-in-Ok-clause-replied
 returns-in-Ok-clause-replied g c request post =

@@ -6,8 +6,10 @@ use Rattle.chk_collector.proofs.Refused.{refused_by, bad_code}
 use Rattle.chk_collector.proofs.collector.Collector.respond.Goals as goal
 
 pub returns-in-Err-clause-told : goal.returns-in-Err-clause-told
-returns-in-Err-clause-told g c stamped t others =
-    refused_told stamped c.args.self.now t c.args.request.now others c.code.result _ c.refusal.result _ (λ e. bad_code c.in-Err.fault (sym c.code.ensures ∙ e)) c.refusal.ensures.accepted
+returns-in-Err-clause-told g c stamped t earlier others =
+    refused_told stamped c.args.self.now t c.args.request.now earlier others c.code.result _
+    c.refusal.result _ (λ e. bad_code c.in-Err.fault (sym c.code.ensures ∙ e))
+    c.refusal.ensures.accepted
 
 pub returns-in-Err-clause-replied : goal.returns-in-Err-clause-replied
 returns-in-Err-clause-replied g c =
@@ -30,13 +32,13 @@ returns-in-Err-clause-replied g c =
     (rw (c.code.ensures, c.name.ensures) at c.refusal.ensures.written)
 
 pub returns-in-Ok-Post-clause-told : goal.returns-in-Ok-Post-clause-told
-returns-in-Ok-Post-clause-told g c stamped t others =
-    c.answer_post.ensures.told stamped t c.args.request.now others
+returns-in-Ok-Post-clause-told g c stamped t earlier others =
+    c.answer_post.ensures.told stamped t c.args.request.now earlier others
     ((rw c.in-Ok-Post.field-0-is at (c.in-Ok-Post.ensures.post c.in-Ok-Post.body.now)).0 refl)
 
 pub returns-in-Ok-Acks-clause-told : goal.returns-in-Ok-Acks-clause-told
-returns-in-Ok-Acks-clause-told g c stamped t others =
-    c.answer_poll.ensures.told stamped t c.args.request.now others
+returns-in-Ok-Acks-clause-told g c stamped t earlier others =
+    c.answer_poll.ensures.told stamped t c.args.request.now earlier others
     (λ stems query. (rw c.in-Ok-Acks.field-0-is at (c.in-Ok-Acks.ensures.poll stems)).0 query)
 
 pub returns-in-Err-clause-count : goal.returns-in-Err-clause-count

@@ -1,6 +1,6 @@
 use Rattle.std.proofs.Common.{List, Ok, subst, arith}
 use Rattle.chk_tee.specs.Messages.{Teed}
-use Rattle.chk_tees.specs.Offers.{chunks_of, acks_of, teeds_of}
+use Rattle.chk_tees.specs.Offers.{passed, chunks_of, acks_of, teeds_of}
 use Rattle.chk_tees.specs.Passing.{Passes}
 use Rattle.chk_tees.specs.Sending.{PassesOn}
 use Rattle.chk_tees.specs.declared.Subscriber.{Subscriber}
@@ -24,3 +24,9 @@ returns-in-Some-clause-told g c chunks acks p =
     subst (λ (before : List Subscriber). Passes who (teeds_of chunks acks) before after c.pass_on.result old new) c.self.view_is
     (subst (λ (ts : List Teed). Passes who ts c.self.inside.standing.items after c.pass_on.result old new)
     (one_offer c.args.request.now c.args.reply.now (chunks_of o) chunks (acks_of o) acks c.in-Some.ensures.some.of p) c.pass_on.ensures.told)
+
+pub returns-in-Some-clause-did : goal.returns-in-Some-clause-did
+returns-in-Some-clause-did g c =
+    rw (← c.self.view_is)
+    (passed (chunks_of c.in-Some.offer) (acks_of c.in-Some.offer) c.in-Some.ensures.some.of
+    c.pass_on.ensures.told)
