@@ -158,7 +158,8 @@ module _ (stamped : List (List ℕ)) (started acting : List Who) (s u : Sinks) (
             (λ added history cut legal others own h. keeps_same added history (carried added history cut legal others own h.1) is)
         go (inr full) =
             adds_both After cutless
-            (of_any stamped s u t request (λ others h. LeavesFull s u h) (LeavesFull s u) (λ others. full stamped t others)
+            (of_any stamped s u t request (λ others h. LeavesFull s u h) (LeavesFull s u) (λ
+            others. full stamped t [] others)
             (λ h others x. x))
             (λ added history cut y legal others own h.
             keeps_full added history (carried added history cut legal others own h.1)

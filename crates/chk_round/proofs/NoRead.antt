@@ -28,10 +28,11 @@ use Rattle.chk_agent.specs.Faults.{IsUndamaged}
 use Rattle.chk_agent.specs.Starts.{FindsCheckpoint, StartsAndReads}
 use Rattle.chk_agent.specs.States.{State as Agents}
 use Rattle.chk_archive.specs.Archived.{ArchivesBy}
+use Rattle.chk_archive.specs.Shown.{ShowsArchived}
 use Rattle.chk_exchange.specs.Exchanges.{PollsInside, PostsInside}
 use Rattle.chk_round.specs.Lengths.{EndShown, HasCommitted, IsPlain, PolledBelow, PolledOnce, PollsOn, WorkShown}
 use Rattle.chk_round.specs.Processes.{c1}
-use Rattle.chk_round.specs.Sites.{EndsLast, StartEnds, WorkEnds}
+use Rattle.chk_round.specs.Sites.{ArchivedSo, EndsLast, StartEnds, WorkEnds}
 use Rattle.chk_round.specs.Reading as told
 use Rattle.chk_round.specs.Reading.{IsGrowing, IsShrank}
 use Rattle.chk_round.specs.Scripts.{IsNoRead}
@@ -228,11 +229,15 @@ once_shown all on went u c new (Spent number) polls = late_ends went (now_ends p
 once_shown all on went u c new (Refused code) polls = late_ends went (now_ends polls)
 
 pub job_shown : (T : Type 0) (fault : JobFault) {old new : Option History}
-    → Adds old new (Every (IsOf ArchivesBy)) → WorkShown {T = T} (Err (of_job fault)) old new
-job_shown T (job_failed call) own = tt
-job_shown T (job_damaged name at) own = now_ends (WorkEnds.archives (job_damaged name at) own)
-job_shown T (job_spent n) own = now_ends (WorkEnds.archives (job_spent n) own)
-job_shown T job_wanting own = tt
+    → Adds old new (Every (IsOf ArchivesBy))
+    → Adds old new (ShowsArchived {T = Unit {0}} (Err fault)) → ArchivedSo fault old new
+    → WorkShown {T = T} (Err (of_job fault)) old new
+job_shown T (job_failed call) own shown told = tt
+job_shown T (job_damaged name at) own shown told =
+    now_ends (WorkEnds.archives (job_damaged name at) own shown told)
+job_shown T (job_spent n) own shown told =
+    now_ends (WorkEnds.archives (job_spent n) own shown told)
+job_shown T job_wanting own shown told = tt
 
 -- an agent behind its start finds nothing damaged
 pub agent_shown : (T X : Type 0) (fault : AgentFault) → IsUndamaged {T = X} (Err fault)

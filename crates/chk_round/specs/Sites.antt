@@ -1,9 +1,13 @@
 -- By which of its works a round ended, and what the calls of that work show.
 use Rattle.std.specs.Prelude.{◌⊎◌, ℕ, List, Option, Err}
 use Rattle.chk_site.specs.History.{History, Every}
+use Rattle.chk_site.specs.Runs.{Leads}
 use Rattle.chk_site.specs.Site.{Adds}
+use Rattle.chk_world.specs.Books.{Book}
 use Rattle.chk_world.specs.JobSteps.{IsOf}
 use Rattle.chk_world.specs.Knowing.{agent}
+use Rattle.chk_world.specs.Places.{As}
+use Rattle.chk_world.specs.Sight.{job}
 use Rattle.chk_world.specs.Works.{Works}
 use Rattle.chk_sink.specs.declared.fault.SinkFault.{SinkFault}
 use Rattle.chk_sink.specs.Closes.{IsOfTick}
@@ -14,7 +18,8 @@ use Rattle.chk_sink.specs.Works.{OfStart, OfTick}
 use Rattle.chk_agent.specs.declared.answers.AgentFault.{AgentFault}
 use Rattle.chk_agent.specs.Starts.{FindsCheckpoint, StartsAndReads}
 use Rattle.chk_agent.specs.States.{State as Agents}
-use Rattle.chk_archive.specs.Archived.{ArchivesBy}
+use Rattle.chk_archive.specs.Archived.{Archived, ArchivesBy, Begun}
+use Rattle.chk_archive.specs.Shown.{ShowsArchived}
 use Rattle.chk_exchange.specs.declared.fault.ExchangeFault.{ExchangeFault}
 use Rattle.chk_exchange.specs.Exchanges.{PollsInside, PostsInside}
 use Rattle.chk_heads.specs.declared.fault.JobFault.{JobFault}
@@ -35,9 +40,17 @@ pub data StartEnds (source : List ℕ) : RoundFault → Option History → Optio
       → FindsCheckpoint {T = Agents} (λ s. s.saved) (agent source) (Err fault) old new
       → StartEnds source (of_agent fault) old new
 
+-- from a legal history an archive run that began with this book led to such an end
+abbrev pub ArchivedSo : JobFault → Option History → Option History → Type 0
+ArchivedSo fault old new =
+    (stamped : List (List ℕ)) (loaded : Book) → Adds old new
+    (Leads (As stamped job) (Begun stamped loaded) (Archived stamped loaded (Err fault)))
+
 -- A work behind the starts ended so. A collector committed and closed its sinks: a file that it read
 -- is damaged. A message was handled inside the process: its reply told so, or it wasn't what the agent
--- got. Or the job ran, of which it is said here only that its calls came last.
+-- got. Or the job ran: own reads of that run show why a file is told to be damaged; and from a legal
+-- history it led to what is said of such an end, so that the numbers are spent only where none is left
+-- for a segment that was needed.
 pub data WorkEnds : RoundFault → Option History → Option History → Type 0 where
   ticks : {old new : Option History} (s : Sinks) (fault : SinkFault) → IsOfTick fault
       → Works (process s) (OfTick s) (ended_by {T = Unit {0}} (Err fault)) old new
@@ -48,7 +61,9 @@ pub data WorkEnds : RoundFault → Option History → Option History → Type 0 
   polls : {old new : Option History} (s t : Sinks) (a b : Agents) (fault : ExchangeFault)
       → PollsInside (process s) s a (Err fault) t b old new → WorkEnds (of_exchange fault) old new
   archives : {old new : Option History} (fault : JobFault)
-      → Adds old new (Every (IsOf ArchivesBy)) → WorkEnds (of_job fault) old new
+      → Adds old new (Every (IsOf ArchivesBy))
+      → Adds old new (ShowsArchived {T = Unit {0}} (Err fault)) → ArchivedSo fault old new
+      → WorkEnds (of_job fault) old new
 
 -- the last ones of these calls are such an end
 pub record EndsLast (Ends : Option History → Option History → Type 0) (old new : Option History)

@@ -104,4 +104,6 @@ returns-in_err-report-clause-shown g c =
     let p = err_from_is_err_and c.from_residual-in_err-report.result c.from_residual-in_err-report.ensures.1 in
     rw (p.1, p.2)
     (work_late Report Report (of_job c.in_err-report.field-0.0) (g.S.Site.told c.archive.new.site)
-    (c.in_ok-finish.ensures.told []) (job_shown Report c.in_err-report.field-0.0 c.in_err-report.ensures.own))
+    (c.in_ok-finish.ensures.told [])
+    (job_shown Report c.in_err-report.field-0.0 c.in_err-report.ensures.own
+    c.in_err-report.ensures.shown c.in_err-report.ensures.told))
