@@ -82,8 +82,9 @@ def part(data, at):
     return data[at + 4 : at + 4 + length], at + 4 + length
 
 
-def records(data, stem):
-    """The keys and values of a whole sequence file, its sync entries where the formats want them."""
+def placed_records(data, stem):
+    """The keys and values of a whole sequence file, each with the place behind its record, and its sync
+    entries where the formats want them."""
     marker = hashlib.md5(stem.encode()).digest()
     if data[:HEADER] != FRONT + marker:
         raise Damaged(f"{stem}: its header")
@@ -103,8 +104,14 @@ def records(data, stem):
         value, last = part(data, behind)
         if behind != at + 8 + first or last != end:
             raise Damaged(f"{stem}: the lengths of the record at {at}")
-        yield key, value
+        yield key, value, end
         at = end
+
+
+def records(data, stem):
+    """The keys and values of a whole sequence file."""
+    for key, value, _ in placed_records(data, stem):
+        yield key, value
 
 
 def chunks(name, most=MOST_DATA["archive"]):

@@ -22,6 +22,7 @@ COMMANDS = {
     "salvage": "tell what can be read of a SequenceFile",
     "load": "make logs for trials and archive them",
     "udp": "take datagrams into synced buffers",
+    "subscribe": "print the chunks that tees send",
 }
 
 

@@ -30,7 +30,7 @@ fn usage_lines(rt: HostRuntime) -> Result<(), NoMemory> {
     for (usage, wanted) in [
         (
             Usage::Commands,
-            "usage: chukwa round|agent|collector|drain|archive|demux|salvage|load|udp\n",
+            "usage: chukwa round|agent|collector|drain|archive|demux|salvage|load|udp|subscribe\n",
         ),
         (
             Usage::Round,
@@ -42,7 +42,7 @@ fn usage_lines(rt: HostRuntime) -> Result<(), NoMemory> {
         ),
         (
             Usage::Collector,
-            "usage: chukwa collector [--rotate MS] [--turns N] NAME ADDRESS\n",
+            "usage: chukwa collector [--rotate MS] [--turns N] [--tee FILE] NAME ADDRESS\n",
         ),
         (
             Usage::Drain,
@@ -52,6 +52,10 @@ fn usage_lines(rt: HostRuntime) -> Result<(), NoMemory> {
         (Usage::Demux, "usage: chukwa demux [TYPE...]\n"),
         (Usage::Salvage, "usage: chukwa salvage FILE\n"),
         (Usage::Load, "usage: chukwa load N\n"),
+        (
+            Usage::Subscribe,
+            "usage: chukwa subscribe [--turns N] ADDRESS\n",
+        ),
     ] {
         let mut out = Bytes::new(rt.alloc());
         put_usage(&mut out, usage)?;

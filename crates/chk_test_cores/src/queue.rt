@@ -76,3 +76,26 @@ fn dropped_chunks(rt: HostRuntime) -> Result<(), Fail> {
     assert!(rt; queue.len() == 1);
     Ok(())
 }
+
+#[test]
+fn dropped_stream(rt: HostRuntime) -> Result<(), Fail> {
+    let alloc = rt.alloc();
+    for (name, kind, path, left, used) in [
+        ("one of two types", "Log", "/a.log", 2, 7),
+        ("the other type", "Sys", "/a.log", 3, 9),
+        ("a path that no chunk has", "Log", "/b.log", 5, 16),
+        ("a type that no chunk has", "Lo", "/a.log", 5, 16),
+    ] {
+        let mut queue = Queue::new(alloc, 100);
+        queue.put(sample(alloc, b"Log", 9, b"gone")?)?;
+        queue.put(sample(alloc, b"Log", 12, b"one")?)?;
+        queue.put(sample(alloc, b"Sys", 3, b"two")?)?;
+        queue.put(sample(alloc, b"Log", 14, b"it")?)?;
+        queue.put(sample(alloc, b"Sys", 7, b"four")?)?;
+        queue.put(sample(alloc, b"Log", 18, b"more")?)?;
+        queue.drop_front(1);
+        queue.drop_stream(kind, path);
+        assert!(rt; queue.len() == left && queue.used() == used, "{name}");
+    }
+    Ok(())
+}

@@ -120,6 +120,7 @@ fn other_refusals(rt: HostRuntime) -> Result<(), NoMemory> {
         ("agent --reads 1 h1 A", Usage::Agent),
         ("agent h1 A a\tb", Usage::Agent),
         ("collector", Usage::Collector),
+        ("collector --tee a\tb c1 A", Usage::Collector),
         ("collector c1", Usage::Collector),
         ("collector c1 A B", Usage::Collector),
         ("collector c.1 A", Usage::Collector),
@@ -151,6 +152,12 @@ fn other_refusals(rt: HostRuntime) -> Result<(), NoMemory> {
         ("load 1 1", Usage::Load),
         ("load -1", Usage::Load),
         ("load --lines 1", Usage::Load),
+        ("subscribe", Usage::Subscribe),
+        ("subscribe A B", Usage::Subscribe),
+        ("subscribe a\tb", Usage::Subscribe),
+        ("subscribe --turns 0 A", Usage::Subscribe),
+        ("subscribe --turns 9223372036854775808 A", Usage::Subscribe),
+        ("subscribe --messages 1 A", Usage::Subscribe),
     ] {
         assert!(rt; is_refused(rt.alloc(), text, usage)?, "{text}");
     }
@@ -186,11 +193,15 @@ fn commands(rt: HostRuntime) -> Result<(), NoMemory> {
         ),
         (
             "collector c1 A",
-            "Collector(CollectorWords { rotate: 300000, turns: 9223372036854775807, messages: 1, name: \"c1\", address: \"A\" })",
+            "Collector(CollectorWords { rotate: 300000, turns: 9223372036854775807, messages: 1, tee: None, name: \"c1\", address: \"A\" })",
         ),
         (
             "collector c-1 --turns 0000000000000000001 127.0.0.1:80 --rotate 0 --messages 64",
-            "Collector(CollectorWords { rotate: 0, turns: 1, messages: 64, name: \"c-1\", address: \"127.0.0.1:80\" })",
+            "Collector(CollectorWords { rotate: 0, turns: 1, messages: 64, tee: None, name: \"c-1\", address: \"127.0.0.1:80\" })",
+        ),
+        (
+            "collector --tee F c1 A",
+            "Collector(CollectorWords { rotate: 300000, turns: 9223372036854775807, messages: 1, tee: Some(\"F\"), name: \"c1\", address: \"A\" })",
         ),
         (
             "drain h1 A B",
@@ -208,6 +219,14 @@ fn commands(rt: HostRuntime) -> Result<(), NoMemory> {
         ("salvage -", "Salvage(\"-\")"),
         ("load 1", "Load(1)"),
         ("load 0200000", "Load(200000)"),
+        (
+            "subscribe A",
+            "Subscribe(SubscribeWords { turns: 9223372036854775807, address: \"A\" })",
+        ),
+        (
+            "subscribe --turns=01 -- -x",
+            "Subscribe(SubscribeWords { turns: 1, address: \"-x\" })",
+        ),
     ] {
         let found = shown(rt.alloc(), text)?;
         assert_eq!(rt; found.as_str(), wanted, "{text}");

@@ -3,7 +3,8 @@ use crate::scene::refuses_each;
 use std::test::Fail;
 
 // The usage lines; a newline stands as `|`.
-const ALL: &str = "usage: chukwa round|agent|collector|drain|archive|demux|salvage|load|udp|";
+const ALL: &str =
+    "usage: chukwa round|agent|collector|drain|archive|demux|salvage|load|udp|subscribe|";
 
 const ROUND: &str =
     "usage: chukwa round [--class CLASS] [--reads N] [--cluster NAME] SOURCE TYPE LOG...|";
@@ -11,7 +12,8 @@ const ROUND: &str =
 const AGENT: &str =
     "usage: chukwa agent [--initial FILE] [--control ADDRESS] [--turns N] [--poll MS] [--expire MS] [--cluster NAME] SOURCE COLLECTOR...|";
 
-const COLLECTOR: &str = "usage: chukwa collector [--rotate MS] [--turns N] NAME ADDRESS|";
+const COLLECTOR: &str =
+    "usage: chukwa collector [--rotate MS] [--turns N] [--tee FILE] NAME ADDRESS|";
 
 const DRAIN: &str =
     "usage: chukwa drain [--initial FILE] [--reads N] [--polls N] [--cluster NAME] SOURCE COLLECTOR...|";
@@ -23,6 +25,8 @@ const DEMUX: &str = "usage: chukwa demux [TYPE...]|";
 const SALVAGE: &str = "usage: chukwa salvage FILE|";
 
 const LOAD: &str = "usage: chukwa load N|";
+
+const SUBSCRIBE: &str = "usage: chukwa subscribe [--turns N] ADDRESS|";
 
 // The first row has no words.
 const OTHERS: &str = "\nnothing\nrounds\n--turns\n";
@@ -71,6 +75,14 @@ const DEMUXES: &str = "demux --turns 1\n";
 
 const SALVAGES: &str = "salvage -f\n";
 
+const SUBSCRIBES: &str = "\
+subscribe
+subscribe A B
+subscribe --turns 0 A
+subscribe --turns 9223372036854775808 A
+subscribe --rotate 1 A
+";
+
 const LOADS: &str = "load\nload 0\nload 200001\nload 1 2\n";
 
 #[test]
@@ -83,5 +95,6 @@ fn usage(rt: HostRuntime) -> Result<(), Fail> {
     refuses_each(rt.alloc(), ARCHIVES, ARCHIVE)?;
     refuses_each(rt.alloc(), DEMUXES, DEMUX)?;
     refuses_each(rt.alloc(), SALVAGES, SALVAGE)?;
-    refuses_each(rt.alloc(), LOADS, LOAD)
+    refuses_each(rt.alloc(), LOADS, LOAD)?;
+    refuses_each(rt.alloc(), SUBSCRIBES, SUBSCRIBE)
 }

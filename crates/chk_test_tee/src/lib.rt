@@ -1,4 +1,5 @@
-//! Tests of the tee: its messages and its filters, its subscribers and what they are sent.
+//! Tests of the tee: its messages and its filters, its subscribers and what they are sent, and what a
+//! watcher prints.
 #![tactic(auto)]
 
 #[cfg(test)]
@@ -9,3 +10,5 @@ mod messages;
 mod passing;
 #[cfg(test)]
 mod subscribers;
+#[cfg(test)]
+mod watching;

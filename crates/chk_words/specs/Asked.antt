@@ -9,7 +9,7 @@ use Rattle.clap.specs.Walk.{Row}
 use Rattle.chk_words.specs.Names.{is_source, are_words, number_in, most}
 use Rattle.chk_words.specs.Options.{parsed, plain_of, by_option, as_word, as_some_word, no_cluster}
 use Rattle.chk_words.specs.Usages.{usage_of, option_names}
-use Rattle.chk_words.specs.Commands.{Asked, Round, Agent, Collector, Drain, Archive, Demux, Salvage, Load, Udp}
+use Rattle.chk_words.specs.Commands.{Asked, Round, Agent, Collector, Drain, Archive, Demux, Salvage, Load, Udp, Subscribe}
 use Rattle.chk_words.specs.Datagrams.{is_writer_name}
 use Rattle.chk_words.specs.declared.usage.Usage.{Usage}
 use Rattle.chk_words.specs.declared.usage.Usage.TheVariants as usage
@@ -82,25 +82,27 @@ asked_agent rows =
     given (cluster_in rows) (λ cluster.
     given (plain_of rows) (agent_with initial control turns poll expire pause cluster))))))))
 
--- `collector [--rotate MS] [--turns N] [--messages N] NAME ADDRESS`
-abbrev pub collector_with : ℕ → ℕ → ℕ → List (List ℕ) → Option Asked
-collector_with rotate turns messages (name ∷ address ∷ []) =
+-- `collector [--rotate MS] [--turns N] [--messages N] [--tee FILE] NAME ADDRESS`
+abbrev pub collector_with : ℕ → ℕ → ℕ → Option (List ℕ) → List (List ℕ) → Option Asked
+collector_with rotate turns messages tee (name ∷ address ∷ []) =
     if is_collector name && is_word address
     then Some (Collector (record {
       rotate = rotate;
       turns = turns;
       messages = messages;
+      tee = tee;
       name = name;
       address = address;
     })) else None
-collector_with rotate turns messages plain = None
+collector_with rotate turns messages tee plain = None
 
 abbrev pub asked_collector : List Row → Option Asked
 asked_collector rows =
     given (by_option 300000 (number_in 0 most) (codes "rotate") rows) (λ rotate.
     given (turns_in rows) (λ turns.
     given (by_option 1 (number_in 1 64) (codes "messages") rows) (λ messages.
-    given (plain_of rows) (collector_with rotate turns messages))))
+    given (by_option None as_some_word (codes "tee") rows) (λ tee.
+    given (plain_of rows) (collector_with rotate turns messages tee)))))
 
 -- `drain [--initial FILE] [--reads N] [--polls N] [--cluster NAME] SOURCE COLLECTOR...`
 abbrev pub drain_with : Option (List ℕ) → ℕ → ℕ → List ℕ → List (List ℕ) → Option Asked
@@ -176,6 +178,16 @@ asked_udp rows =
     given (by_option 1 (number_in 1 64) (codes "messages") rows) (λ messages.
     given (plain_of rows) (udp_with turns rotate messages))))
 
+-- `subscribe [--turns N] ADDRESS`
+abbrev pub subscribe_with : ℕ → List (List ℕ) → Option Asked
+subscribe_with turns (address ∷ []) =
+    if is_word address then Some (Subscribe (record { turns = turns; address = address })) else None
+subscribe_with turns plain = None
+
+abbrev pub asked_subscribe : List Row → Option Asked
+asked_subscribe rows =
+    given (turns_in rows) (λ turns. given (plain_of rows) (subscribe_with turns))
+
 -- what the options and the other words of a command ask for
 abbrev pub asked_by : Usage → List Row → Option Asked
 asked_by usage.Commands rows = None
@@ -188,6 +200,7 @@ asked_by usage.Demux rows = asked_demux rows
 asked_by usage.Salvage rows = asked_salvage rows
 asked_by usage.Load rows = asked_load rows
 asked_by usage.Udp rows = asked_udp rows
+asked_by usage.Subscribe rows = asked_subscribe rows
 
 -- what the words behind the program's name ask for
 abbrev pub asked : List (List ℕ) → Option Asked

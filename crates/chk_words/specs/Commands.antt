@@ -8,6 +8,7 @@ use Rattle.chk_words.specs.declared.commands.AgentWords.{AgentWords}
 use Rattle.chk_words.specs.declared.commands.CollectorWords.{CollectorWords}
 use Rattle.chk_words.specs.declared.commands.DrainWords.{DrainWords}
 use Rattle.chk_words.specs.Datagrams.{UdpAsked, udp_of}
+use Rattle.chk_words.specs.Subscribing.{SubscribeAsked, subscribe_of}
 use Rattle.chk_words.specs.declared.commands.Command.{Command}
 use Rattle.chk_words.specs.declared.commands.Command.TheVariants as words
 
@@ -37,6 +38,7 @@ pub record CollectorAsked : Type 0 where
   pub rotate : ℕ
   pub turns : ℕ
   pub messages : ℕ
+  pub tee : Option (List ℕ)
   pub name : List ℕ
   pub address : List ℕ
 
@@ -60,6 +62,7 @@ pub data Asked : Type 0 where
   Salvage : List ℕ → Asked
   Load : ℕ → Asked
   Udp : UdpAsked → Asked
+  Subscribe : SubscribeAsked → Asked
 
 -- the texts that borrowed words lend
 abbrev pub round_of : RoundWords → RoundAsked
@@ -90,6 +93,7 @@ collector_of w = record {
   rotate = w.rotate;
   turns = w.turns;
   messages = w.messages;
+  tee = option_map (λ w. w.now) w.tee;
   name = w.name.now;
   address = w.address.now;
 }
@@ -115,6 +119,7 @@ asked_of (words.Demux kinds) = Demux (map (λ kind. kind.now) kinds.items)
 asked_of (words.Salvage file) = Salvage file.now
 asked_of (words.Load lines) = Load lines
 asked_of (words.Udp w) = Udp (udp_of w)
+asked_of (words.Subscribe w) = Subscribe (subscribe_of w)
 
 -- the command where one is asked for, and Usage exactly where none is, unless there was no memory
 abbrev pub ReadsCommand : Option Asked → Result Command WordsFault → Type 0

@@ -5,7 +5,8 @@ use Rattle.chk_bytes.specs.Words.{is_word}
 use Rattle.chk_bytes.specs.Stems.{is_collector}
 use Rattle.chk_words.specs.Names.{is_source, are_words, most}
 use Rattle.chk_words.specs.Datagrams.{IsGoodUdp}
-use Rattle.chk_words.specs.Commands.{Asked, Round, Agent, Collector, Drain, Archive, Demux, Salvage, Load, Udp, RoundAsked, AgentAsked, CollectorAsked, DrainAsked}
+use Rattle.chk_words.specs.Subscribing.{IsGoodSubscribe}
+use Rattle.chk_words.specs.Commands.{Asked, Round, Agent, Collector, Drain, Archive, Demux, Salvage, Load, Udp, Subscribe, RoundAsked, AgentAsked, CollectorAsked, DrainAsked}
 
 -- the number is in these bounds
 abbrev pub IsIn : ℕ → ℕ → ℕ → Type 0
@@ -34,7 +35,7 @@ IsGoodAgent w =
 abbrev pub IsGoodCollector : CollectorAsked → Type 0
 IsGoodCollector w =
     IsTrue (is_collector w.name) × IsTrue (is_word w.address)
-    × IsIn 0 most w.rotate × IsIn 1 most w.turns × IsIn 1 64 w.messages
+    × IsIn 0 most w.rotate × IsIn 1 most w.turns × IsIn 1 64 w.messages × IsWordIfAny w.tee
 
 -- the words of `drain`
 abbrev pub IsGoodDrain : DrainAsked → Type 0
@@ -53,3 +54,4 @@ IsGood (Demux kinds) = IsTrue (list_all is_word kinds)
 IsGood (Salvage file) = IsTrue (is_word file)
 IsGood (Load lines) = IsIn 1 200000 lines
 IsGood (Udp w) = IsGoodUdp w
+IsGood (Subscribe w) = IsGoodSubscribe w

@@ -11,3 +11,4 @@ pub mod Endings
 pub mod Loads
 pub mod Datagrams
 pub mod ReadUdp
+pub mod Subscribing

@@ -29,7 +29,9 @@ ReadsAgentOptions rows None = asked_agent rows ≡ None
 
 abbrev pub ReadsCollectorOptions : List Row → Option CollectorOptions → Type 0
 ReadsCollectorOptions rows (Some o) =
-    asked_collector rows ≡ given (plain_of rows) (collector_with o.rotate o.turns o.messages)
+    asked_collector rows
+    ≡ given (plain_of rows)
+    (collector_with o.rotate o.turns o.messages (option_map (λ w. w.now) o.tee))
 ReadsCollectorOptions rows None = asked_collector rows ≡ None
 
 abbrev pub ReadsDrainOptions : List Row → Option DrainOptions → Type 0
@@ -52,7 +54,9 @@ AreGoodAgent o =
     × IsIn 0 200 o.pause
 
 abbrev pub AreGoodCollector : CollectorOptions → Type 0
-AreGoodCollector o = IsIn 0 most o.rotate × IsIn 1 most o.turns × IsIn 1 64 o.messages
+AreGoodCollector o =
+    IsIn 0 most o.rotate × IsIn 1 most o.turns × IsIn 1 64 o.messages
+    × IsWordIfAny (option_map (λ w. w.now) o.tee)
 
 abbrev pub AreGoodDrain : DrainOptions → Type 0
 AreGoodDrain o =

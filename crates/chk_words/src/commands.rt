@@ -1,6 +1,7 @@
 //! What words ask for.
 
 use crate::datagrams::UdpWords;
+use crate::subscribing::SubscribeWords;
 use chk_bytes::NoMemory;
 use chk_control::Class;
 use std::alloc::AllocError;
@@ -20,6 +21,7 @@ pub enum Command<'a> {
     /// How many lines, from 1 to 200,000.
     Load(u64),
     Udp(UdpWords<'a>),
+    Subscribe(SubscribeWords<'a>),
 }
 
 /// The words of `round`.
@@ -71,6 +73,8 @@ pub struct CollectorWords<'a> {
     pub turns: u64,
     /// How many messages it takes at most between two commits, from 1 to 64.
     pub messages: u64,
+    /// The file that names the subscribers.
+    pub tee: Option<&'a str>,
     /// The collector's name, of 1 to 64 bytes.
     pub name: &'a str,
     /// The address at which it takes messages.

@@ -9,6 +9,7 @@ mod load;
 mod names;
 mod options;
 mod reading;
+mod subscribing;
 mod usage;
 
 pub use commands::{AgentWords, CollectorWords, Command, DrainWords, RoundWords, WordsFault};
@@ -17,4 +18,5 @@ pub use endings::Ending;
 pub use lines::{put_archive, put_demux, put_end, put_load, put_stream};
 pub use load::{LoadLines, load_log};
 pub use reading::read_words;
+pub use subscribing::SubscribeWords;
 pub use usage::{Usage, put_usage, usage_of};

@@ -1,7 +1,7 @@
 //! Words to commands.
 
 ghost use Rattle.std.specs.Prelude.{◌≡◌, map, option_map, IfOk, IfSome};
-ghost use Rattle.chk_words.specs.Asked.{asked, asked_by, asked_round, asked_agent, asked_collector, asked_drain, asked_archive, asked_demux, asked_salvage, asked_load, asked_udp};
+ghost use Rattle.chk_words.specs.Asked.{asked, asked_by, asked_round, asked_agent, asked_collector, asked_drain, asked_archive, asked_demux, asked_salvage, asked_load, asked_udp, asked_subscribe};
 ghost use Rattle.chk_words.specs.Given.{rows_in};
 ghost use Rattle.chk_words.specs.Good.{IsGood};
 ghost use Rattle.chk_words.specs.ReadOptions.{ReadsRoundOptions, ReadsAgentOptions, ReadsCollectorOptions, ReadsDrainOptions, AreGoodRound, AreGoodAgent, AreGoodCollector, AreGoodDrain, ReadsLogs, ReadsPeers, AreGoodLogs, AreGoodPeers};
@@ -11,6 +11,7 @@ use crate::commands::{AgentWords, CollectorWords, Command, DrainWords, RoundWord
 use crate::datagrams::read_udp;
 use crate::names::{are_words, is_collector, is_source, is_word, number_in};
 use crate::options::Given;
+use crate::subscribing::read_subscribe;
 use crate::usage::{Usage, usage_of};
 use chk_control::Class;
 use std::alloc::Global;
@@ -54,6 +55,7 @@ fn command_by<'a>(alloc: Global, usage: Usage, given: &Given<'a>) -> Result<Comm
         Usage::Salvage => read_salvage(given).ok_or(WordsFault::Usage),
         Usage::Load => read_load(given).ok_or(WordsFault::Usage),
         Usage::Udp => read_udp(given).ok_or(WordsFault::Usage),
+        Usage::Subscribe => read_subscribe(given).ok_or(WordsFault::Usage),
     }
 }
 
@@ -147,6 +149,7 @@ fn read_collector<'a>(given: &Given<'a>) -> Option<Command<'a>>
                 rotate: options.rotate,
                 turns: options.turns,
                 messages: options.messages,
+                tee: options.tee,
                 name,
                 address,
             }))
@@ -156,13 +159,14 @@ fn read_collector<'a>(given: &Given<'a>) -> Option<Command<'a>>
 }
 
 #[derive(Clone, Copy)]
-struct CollectorOptions {
+struct CollectorOptions<'a> {
     rotate: u64,
     turns: u64,
     messages: u64,
+    tee: Option<&'a str>,
 }
 
-fn collector_options(given: &Given<'_>) -> Option<CollectorOptions>
+fn collector_options<'a>(given: &Given<'a>) -> Option<CollectorOptions<'a>>
     ensures asked { ReadsCollectorOptions (rows_in given.now) result }
     ensures good { IfSome result AreGoodCollector }
 {
@@ -170,6 +174,7 @@ fn collector_options(given: &Given<'_>) -> Option<CollectorOptions>
         rotate: given.number("rotate", 300_000, 0, MOST)?,
         turns: given.number("turns", MOST, 1, MOST)?,
         messages: given.number("messages", 1, 1, MOST_MESSAGES)?,
+        tee: given.word("tee")?,
     })
 }
 

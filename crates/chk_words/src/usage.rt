@@ -11,11 +11,13 @@ static AGENT: [&str; 7] = [
     "initial", "control", "turns", "poll", "expire", "pause", "cluster",
 ];
 
-static COLLECTOR: [&str; 3] = ["rotate", "turns", "messages"];
+static COLLECTOR: [&str; 4] = ["rotate", "turns", "messages", "tee"];
 
 static DRAIN: [&str; 4] = ["initial", "reads", "polls", "cluster"];
 
 static UDP: [&str; 3] = ["turns", "rotate", "messages"];
+
+static SUBSCRIBE: [&str; 1] = ["turns"];
 
 static NONE: [&str; 0] = [];
 
@@ -33,6 +35,7 @@ pub enum Usage {
     Salvage,
     Load,
     Udp,
+    Subscribe,
 }
 
 impl Usage {
@@ -42,7 +45,7 @@ impl Usage {
     {
         match self {
             Usage::Commands => {
-                "usage: chukwa round|agent|collector|drain|archive|demux|salvage|load|udp\n"
+                "usage: chukwa round|agent|collector|drain|archive|demux|salvage|load|udp|subscribe\n"
             }
             Usage::Round => {
                 "usage: chukwa round [--class CLASS] [--reads N] [--cluster NAME] SOURCE TYPE LOG...\n"
@@ -51,7 +54,7 @@ impl Usage {
                 "usage: chukwa agent [--initial FILE] [--control ADDRESS] [--turns N] [--poll MS] [--expire MS] [--cluster NAME] SOURCE COLLECTOR...\n"
             }
             Usage::Collector => {
-                "usage: chukwa collector [--rotate MS] [--turns N] NAME ADDRESS\n"
+                "usage: chukwa collector [--rotate MS] [--turns N] [--tee FILE] NAME ADDRESS\n"
             }
             Usage::Drain => {
                 "usage: chukwa drain [--initial FILE] [--reads N] [--polls N] [--cluster NAME] SOURCE COLLECTOR...\n"
@@ -61,6 +64,7 @@ impl Usage {
             Usage::Salvage => "usage: chukwa salvage FILE\n",
             Usage::Load => "usage: chukwa load N\n",
             Usage::Udp => "usage: chukwa udp [--turns N] [--rotate BYTES] NAME ADDRESS\n",
+            Usage::Subscribe => "usage: chukwa subscribe [--turns N] ADDRESS\n",
         }
     }
 
@@ -74,6 +78,7 @@ impl Usage {
             Usage::Collector => COLLECTOR.as_slice(),
             Usage::Drain => DRAIN.as_slice(),
             Usage::Udp => UDP.as_slice(),
+            Usage::Subscribe => SUBSCRIBE.as_slice(),
             _ => NONE.as_slice(),
         }
     }
@@ -102,6 +107,7 @@ fn usage_named(first: &str) -> Usage
         "salvage" => Usage::Salvage,
         "load" => Usage::Load,
         "udp" => Usage::Udp,
+        "subscribe" => Usage::Subscribe,
         _ => Usage::Commands,
     }
 }

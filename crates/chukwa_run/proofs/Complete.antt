@@ -6,8 +6,9 @@ use Rattle.chk_site.specs.Site.{Adds, Rose}
 use Rattle.chk_site.specs.Runs.{Leads}
 use Rattle.chk_site.proofs.Leads.{leads_as}
 use Rattle.chk_words.specs.Datagrams.{UdpAsked}
+use Rattle.chk_words.specs.Subscribing.{SubscribeAsked}
 use Rattle.chk_words.specs.Commands.{RoundAsked, AgentAsked, CollectorAsked, DrainAsked}
-use Rattle.chk_words.specs.Commands.{Asked, Round, Agent, Collector, Drain, Archive, Demux, Salvage, Load, Udp}
+use Rattle.chk_words.specs.Commands.{Asked, Round, Agent, Collector, Drain, Archive, Demux, Salvage, Load, Udp, Subscribe}
 use Rattle.chk_words.specs.Endings.{ending_status}
 use Rattle.chk_words.specs.declared.endings.Ending.{Ending}
 use Rattle.chk_words.specs.declared.endings.Ending.TheVariants.{Outside, NoMemory, Damaged, Length, Growing, Unclosed, Shrank, Spent, Refused}
@@ -57,7 +58,7 @@ of_agent w earlier added (Refused code) calm shows = absurd shows.0
 of_collector : (w : CollectorAsked) → Leaves (Collector w)
 of_collector w earlier added (Outside call) calm shows = absurd (calm refl)
 of_collector w earlier added NoMemory calm shows = inl refl
-of_collector w earlier added (Damaged name at) calm shows = absurd shows.1
+of_collector w earlier added (Damaged name at) calm shows = inr shows.1
 of_collector w earlier added (Length stem got want) calm shows = absurd shows.0
 of_collector w earlier added (Growing path reads) calm shows = absurd shows.0
 of_collector w earlier added (Unclosed name) calm shows = absurd shows.0
@@ -131,6 +132,17 @@ of_udp w earlier added (Shrank path had has) calm shows = absurd shows
 of_udp w earlier added (Spent n) calm shows = inr shows
 of_udp w earlier added (Refused code) calm shows = absurd shows
 
+of_subscribe : (w : SubscribeAsked) → Leaves (Subscribe w)
+of_subscribe w earlier added (Outside call) calm shows = absurd (calm refl)
+of_subscribe w earlier added NoMemory calm shows = inl refl
+of_subscribe w earlier added (Damaged name at) calm shows = absurd shows
+of_subscribe w earlier added (Length stem got want) calm shows = absurd shows
+of_subscribe w earlier added (Growing path reads) calm shows = absurd shows
+of_subscribe w earlier added (Unclosed name) calm shows = absurd shows
+of_subscribe w earlier added (Shrank path had has) calm shows = absurd shows
+of_subscribe w earlier added (Spent n) calm shows = absurd shows
+of_subscribe w earlier added (Refused code) calm shows = absurd shows
+
 remains : (command : Asked) → Leaves command
 remains (Round w) = of_round w
 remains (Agent w) = of_agent w
@@ -141,6 +153,7 @@ remains (Demux kinds) = of_demux kinds
 remains (Salvage file) = of_salvage file
 remains (Load lines) = of_load lines
 remains (Udp w) = of_udp w
+remains (Subscribe w) = of_subscribe w
 
 -- ---- of the run
 

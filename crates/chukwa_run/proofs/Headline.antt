@@ -11,7 +11,7 @@ use Rattle.chk_world.specs.Rules.{Legal}
 use Rattle.chk_world.proofs.AcknowledgedSaved.{law_covered}
 use Rattle.chk_world.proofs.Fronts.{law_prefix}
 use Rattle.chk_world.proofs.Reports.{reports_are_true}
-use Rattle.chk_words.specs.Commands.{Asked, RoundAsked, Round, Agent, Collector, Drain, Archive, Demux, Salvage, Load, Udp}
+use Rattle.chk_words.specs.Commands.{Asked, RoundAsked, Round, Agent, Collector, Drain, Archive, Demux, Salvage, Load, Udp, Subscribe}
 use Rattle.chk_words.specs.Endings.{ending_status}
 use Rattle.chk_words.specs.declared.endings.Ending.{Ending}
 use Rattle.chk_words.specs.declared.endings.Ending.TheVariants.{Outside, NoMemory, Damaged, Length, Growing, Unclosed, Shrank, Spent, Refused}
@@ -97,6 +97,7 @@ if_round stamped (Demux kinds) status earlier added x = tt
 if_round stamped (Salvage file) status earlier added x = tt
 if_round stamped (Load lines) status earlier added x = tt
 if_round stamped (Udp w) status earlier added x = tt
+if_round stamped (Subscribe w) status earlier added x = tt
 
 pub headline : (stamped : List (List ℕ)) (command : Asked) (earlier : History) (status : ℕ)
     {old new : Option History}

@@ -23,3 +23,5 @@ pub mod DrainFaults
 pub mod DrainRun
 pub mod Headline
 pub mod DatagramRun
+pub mod WatchRun
+pub mod TeeReading

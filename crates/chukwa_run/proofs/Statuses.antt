@@ -14,7 +14,7 @@ use Rattle.chk_heads.specs.declared.fault.JobFault.TheVariants as jobs
 use Rattle.chk_sink.specs.declared.fault.SinkFault.{SinkFault}
 use Rattle.chk_sink.specs.declared.fault.SinkFault.TheVariants as sinks
 use Rattle.chk_site.specs.History.{History}
-use Rattle.chk_words.specs.Commands.{Asked, RoundAsked, AgentAsked, CollectorAsked, DrainAsked, Round, Agent, Collector, Drain, Archive, Demux, Salvage, Load, Udp}
+use Rattle.chk_words.specs.Commands.{Asked, RoundAsked, AgentAsked, CollectorAsked, DrainAsked, Round, Agent, Collector, Drain, Archive, Demux, Salvage, Load, Udp, Subscribe}
 use Rattle.chk_words.specs.Endings.{ending_status}
 use Rattle.chk_words.specs.declared.endings.Ending.{Ending}
 use Rattle.chk_words.specs.declared.endings.Ending.TheVariants.{Outside, NoMemory, Damaged, Length, Growing, Unclosed, Shrank, Spent, Refused}
@@ -110,3 +110,4 @@ unread_status (Demux kinds) = refl
 unread_status (Salvage file) = refl
 unread_status (Load lines) = refl
 unread_status (Udp w) = refl
+unread_status (Subscribe w) = refl

@@ -5,11 +5,17 @@ use Rattle.chk_site.specs.Site.{Adds}
 use Rattle.chk_site.specs.Runs.{Leads}
 use Rattle.chk_site.proofs.Runs.{adds_none}
 use Rattle.chk_site.proofs.Leads.{leads_none}
-use Rattle.chk_words.specs.Commands.{Asked, Round, Agent, Collector, Drain, Archive, Demux, Salvage, Load, Udp}
+use Rattle.chk_words.specs.Commands.{Asked, Round, Agent, Collector, Drain, Archive, Demux, Salvage, Load, Udp, Subscribe}
 use Rattle.chk_words.specs.declared.endings.Ending.TheVariants.{NoMemory}
-use Rattle.chukwa_run.specs.Processes.{RunSide}
+use Rattle.chk_site.specs.declared.acts.OutsideFault.TheVariants.{NoMemory as no_memory}
+use Rattle.chk_subscribe.specs.Told.{PrintsOnce, all_lines}
+use Rattle.chukwa_run.specs.Processes.{the_watcher, RunSide}
 use Rattle.chukwa_run.specs.Showing.{Shows, IsOf}
 use Rattle.chukwa_run.specs.Runs.{Begins, EndsWith, CausedBy}
+
+-- a watcher that made no call has printed nothing
+none_printed : (earlier : History) → PrintsOnce the_watcher (Err no_memory) [] earlier
+none_printed earlier = ([], 0, refl, ([], all_lines [] 0, refl, refl))
 
 shows_nothing : (command : Asked) (earlier : History) → Shows command earlier NoMemory []
 shows_nothing (Round w) earlier = (tt, tt)
@@ -21,6 +27,7 @@ shows_nothing (Demux kinds) earlier = ((tt, tt, inl refl, tt), tt)
 shows_nothing (Salvage file) earlier = tt
 shows_nothing (Load lines) earlier = (record { own = tt; unprinted = refl; fault = tt }, tt)
 shows_nothing (Udp w) earlier = tt
+shows_nothing (Subscribe w) earlier = none_printed earlier
 
 is_nothing : (command : Asked) (earlier : History) → IsOf command earlier NoMemory []
 is_nothing (Round w) earlier = tt
@@ -32,6 +39,7 @@ is_nothing (Demux kinds) earlier = (tt, tt, inl refl, tt)
 is_nothing (Salvage file) earlier = (tt, tt)
 is_nothing (Load lines) earlier = record { own = tt; unprinted = refl; fault = tt }
 is_nothing (Udp w) earlier = tt
+is_nothing (Subscribe w) earlier = none_printed earlier
 
 pub unbegun : (stamped : List (List ℕ)) (command : Asked) (earlier : History) (now : Option History)
     → Adds now now (Leads (RunSide stamped command) (Begins stamped earlier) (EndsWith stamped command (Err NoMemory) earlier))

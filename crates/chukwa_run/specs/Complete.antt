@@ -11,7 +11,7 @@ use Rattle.chk_load_run.specs.declared.ends.LoadEnd.TheVariants as loads
 use Rattle.chk_load_run.specs.Loads.{LoadDone}
 use Rattle.chk_drain_run.specs.declared.faults.DrainFault.TheVariants as drains
 use Rattle.chk_words.specs.Commands.{RoundAsked, AgentAsked, CollectorAsked, DrainAsked}
-use Rattle.chk_words.specs.Commands.{Asked, Round, Agent, Collector, Drain, Archive, Demux, Salvage, Load, Udp}
+use Rattle.chk_words.specs.Commands.{Asked, Round, Agent, Collector, Drain, Archive, Demux, Salvage, Load, Udp, Subscribe}
 use Rattle.chk_words.specs.Endings.{ending_status, ending_line}
 use Rattle.chk_words.specs.declared.endings.Ending.{Ending}
 use Rattle.chk_words.specs.declared.endings.Ending.TheVariants.{Damaged, Length, Growing, Unclosed, Spent, Refused}
@@ -46,9 +46,10 @@ abbrev pub LeftOfAgent : AgentAsked → History → Ending → History → Type 
 LeftOfAgent w earlier (Damaged name at) added = IsBadLine w name at earlier added
 LeftOfAgent w earlier e added = ⊥
 
--- the number of its starts is the last one
+-- a line of the file of its subscribers is wrong, or the number of its starts is the last one
 abbrev pub LeftOfCollector : CollectorAsked → History → Ending → History → Type 0
-LeftOfCollector w earlier (Spent n) added = CollectorFits w (added ++ earlier) (Spent n)
+LeftOfCollector w earlier (Damaged name at) added = CollectorFits w earlier (Damaged name at) added
+LeftOfCollector w earlier (Spent n) added = CollectorFits w earlier (Spent n) added
 LeftOfCollector w earlier e added = ⊥
 
 -- a line of the initial file, as of an agent; a log gave bytes at each of the stated reads; the polls
@@ -105,6 +106,7 @@ LeftOver (Demux kinds) earlier e added = LeftOfDemux earlier e added
 LeftOver (Salvage file) earlier e added = LeftOfSalvage file earlier e added
 LeftOver (Load lines) earlier e added = LeftOfLoad lines earlier e added
 LeftOver (Udp w) earlier e added = LeftOfUdp w earlier e added
+LeftOver (Subscribe w) earlier e added = ⊥
 
 -- All was done, with the status 0; or there was no memory, with the status 4; or an ending that is
 -- left over came in the end, with its status, and behind it at most its line was said.

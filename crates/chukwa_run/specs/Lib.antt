@@ -15,3 +15,5 @@ pub mod Runs
 pub mod Headline
 pub mod Working
 pub mod Datagrams
+pub mod Subscribing
+pub mod Teeing

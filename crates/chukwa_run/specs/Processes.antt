@@ -6,7 +6,7 @@ use Rattle.chk_site.specs.Runs.{Side}
 use Rattle.chk_world.specs.Sight.{job}
 use Rattle.chk_world.specs.Together.{Together}
 use Rattle.chk_round.specs.Processes.{processes}
-use Rattle.chk_words.specs.Commands.{Asked, Round, Agent, Collector, Drain, Archive, Demux, Salvage, Load, Udp}
+use Rattle.chk_words.specs.Commands.{Asked, Round, Agent, Collector, Drain, Archive, Demux, Salvage, Load, Udp, Subscribe}
 
 -- what this program does as a writer: it prints, and reads the files that the words name
 abbrev pub chukwa : Who
@@ -18,6 +18,10 @@ the_agent source = record { role = agent_role; name = source }
 -- the writer of datagrams of this name
 abbrev pub the_writer : List ℕ → Who
 the_writer name = record { role = Writer; name = name }
+
+-- the watcher of a run
+abbrev pub the_watcher : Who
+the_watcher = record { role = Writer; name = codes "tee" }
 
 abbrev pub the_collector : List ℕ → Who
 the_collector name = record { role = collector_role; name = name }
@@ -34,10 +38,12 @@ started_by (Demux kinds) = job ∷ []
 started_by (Salvage file) = []
 started_by (Load lines) = processes (codes "load")
 started_by (Udp w) = []
+started_by (Subscribe w) = []
 
--- a writer of datagrams acts too, though nothing is supposed of others on its account
+-- a writer of datagrams and a watcher act too, though nothing is supposed of others on their account
 abbrev pub acting_first : Asked → List Who
 acting_first (Udp w) = the_writer w.name ∷ []
+acting_first (Subscribe w) = the_watcher ∷ []
 acting_first command = started_by command
 
 -- And those that act for it. The writer needs no start, and all files outside the folders are

@@ -1,5 +1,5 @@
 -- What each ending shows, status by status.
-use Rattle.std.specs.Prelude.{◌≡◌, ◌⊎◌, ℕ, ◌-◌, ◌^◌, false, List, [], ◌∷◌, ◌++◌, Option, Some, None, Err}
+use Rattle.std.specs.Prelude.{◌≡◌, ◌⊎◌, ℕ, ◌-◌, ◌^◌, false, List, [], ◌∷◌, ◌++◌, Option, Some, None, Ok, Err}
 use Rattle.chk_site.specs.declared.acts.Act.{Act}
 use Rattle.chk_site.specs.declared.acts.Call.{Call}
 use Rattle.chk_site.specs.declared.acts.CallFault.TheVariants.{Failed}
@@ -25,9 +25,12 @@ use Rattle.chk_drain.specs.Parts.{is_talk}
 use Rattle.chk_drain_run.specs.declared.faults.DrainFault.TheVariants as drains
 use Rattle.chk_words.specs.Commands.{AgentAsked, CollectorAsked, DrainAsked}
 use Rattle.chukwa_salvage.specs.Printing.{bytes_or_none, said}
-use Rattle.chk_words.specs.Commands.{Asked, Round, Agent, Collector, Drain, Archive, Demux, Salvage, Load, Udp}
+use Rattle.chk_words.specs.Commands.{Asked, Round, Agent, Collector, Drain, Archive, Demux, Salvage, Load, Udp, Subscribe}
 use Rattle.chukwa_run.specs.Demuxing.{AreDemuxActs, DemuxedAtMost, DemuxFits}
 use Rattle.chukwa_run.specs.Datagrams.{UdpCut}
+use Rattle.chukwa_run.specs.Subscribing.{SubscribeCut}
+use Rattle.chukwa_run.specs.Teeing.{TeesRead}
+use Rattle.chk_tees.specs.declared.Subscriber.{Subscriber}
 use Rattle.chukwa_run.specs.Loading.{LoadCut, LoadFits}
 use Rattle.chukwa_run.specs.RoundRuns.{RoundCut, RoundFits}
 use Rattle.chukwa_run.specs.Processes.{the_collector}
@@ -84,20 +87,28 @@ AgentFits w earlier e added = Unit {0}
 -- where the script of the run was cut short by this fault
 abbrev pub IsCutAt : CollectorAsked → SinkFault → History → History → Type 0
 IsCutAt w fault earlier added =
-    IsCutRun (the_collector w.name) w.rotate w.turns w.address w.messages 1000 fault (Some earlier) (Some (added ++ earlier))
+    (a : List Subscriber) × (read : Option History) × TeesRead w.tee (Ok a) (Some earlier) read
+    × IsCutRun (the_collector w.name) w.rotate w.turns w.address w.messages 1000 a fault read (Some (added ++ earlier))
+
+-- where the file of the subscribers ended it so, before the start
+abbrev pub IsUnread : CollectorAsked → Ending → History → History → Type 0
+IsUnread w e earlier added = TeesRead w.tee (Err e) (Some earlier) (Some (added ++ earlier))
 
 abbrev pub CollectorCut : CollectorAsked → History → Ending → History → Type 0
-CollectorCut w earlier (Outside call) added = FailedLast call (own_acts added) × IsCutAt w (Sinks.Outside call) earlier added
+CollectorCut w earlier (Outside call) added =
+    FailedLast call (own_acts added) × (IsCutAt w (Sinks.Outside call) earlier added ⊎ IsUnread w (Outside call) earlier added)
 CollectorCut w earlier NoMemory added = Unit {0}
-CollectorCut w earlier (Damaged name at) added = IsCutAt w (Sinks.Damaged name at) earlier added
+CollectorCut w earlier (Damaged name at) added =
+    IsCutAt w (Sinks.Damaged name at) earlier added ⊎ IsUnread w (Damaged name at) earlier added
 CollectorCut w earlier (Spent n) added = (n ≡ last_number) × IsCutAt w (Sinks.Spent n) earlier added
 CollectorCut w earlier e added = ⊥
 
--- in a legal history nothing of its own is damaged, and the number of its starts is the last one where it is spent
-abbrev pub CollectorFits : CollectorAsked → History → Ending → Type 0
-CollectorFits w history (Damaged name at) = ⊥
-CollectorFits w history (Spent n) = number_in (file (files_after history) (BornFile w.name)) ≡ last_number
-CollectorFits w history e = Unit {0}
+-- in a legal history nothing of its own is damaged, but the file of its subscribers may be, and the number of its starts is the
+-- last one where it is spent
+abbrev pub CollectorFits : CollectorAsked → History → Ending → History → Type 0
+CollectorFits w earlier (Damaged name at) added = IsUnread w (Damaged name at) earlier added
+CollectorFits w earlier (Spent n) added = number_in (file (files_after (added ++ earlier)) (BornFile w.name)) ≡ last_number
+CollectorFits w earlier e added = Unit {0}
 
 -- ---- a drain
 
@@ -196,15 +207,17 @@ IsOf (Demux kinds) earlier e added = DemuxCut earlier e added
 IsOf (Salvage file) earlier e added = AreSalvageActs file (own_acts added) × SalvageCut file earlier e added
 IsOf (Load lines) earlier e added = LoadCut lines earlier e added
 IsOf (Udp w) earlier e added = UdpCut w earlier e added
+IsOf (Subscribe w) earlier e added = SubscribeCut w earlier e added
 
 -- and what it shows under the suppositions of a run
 abbrev pub Shows : Asked → History → Ending → History → Type 0
 Shows (Round w) earlier e added = RoundCut w earlier e added × RoundFits w earlier e added
 Shows (Agent w) earlier e added = AgentCut w earlier e added × AgentFits w earlier e added
-Shows (Collector w) earlier e added = CollectorCut w earlier e added × CollectorFits w (added ++ earlier) e
+Shows (Collector w) earlier e added = CollectorCut w earlier e added × CollectorFits w earlier e added
 Shows (Drain w) earlier e added = DrainCut w earlier e added × DrainFits w earlier e added
 Shows Archive earlier e added = ArchiveCut earlier e added × ArchiveFits (added ++ earlier) e
 Shows (Demux kinds) earlier e added = DemuxCut earlier e added × DemuxFits (added ++ earlier) e
 Shows (Salvage file) earlier e added = SalvageCut file earlier e added
 Shows (Load lines) earlier e added = LoadCut lines earlier e added × LoadFits lines earlier e added
 Shows (Udp w) earlier e added = UdpCut w earlier e added
+Shows (Subscribe w) earlier e added = SubscribeCut w earlier e added

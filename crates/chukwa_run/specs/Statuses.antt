@@ -1,7 +1,7 @@
 -- With which statuses each command may end.
 use Rattle.std.specs.List.{list_any}
 use Rattle.std.specs.Prelude.{ℕ, Bool, ◌==◌, IsTrue, List, [], ◌∷◌, Result, Ok, Err}
-use Rattle.chk_words.specs.Commands.{Asked, Round, Agent, Collector, Drain, Archive, Demux, Salvage, Load, Udp}
+use Rattle.chk_words.specs.Commands.{Asked, Round, Agent, Collector, Drain, Archive, Demux, Salvage, Load, Udp, Subscribe}
 use Rattle.chk_words.specs.Endings.{ending_status}
 use Rattle.chk_words.specs.declared.endings.Ending.{Ending}
 
@@ -22,6 +22,7 @@ statuses_of (Demux kinds) = 0 ∷ 3 ∷ 4 ∷ 5 ∷ 8 ∷ []
 statuses_of (Salvage file) = 0 ∷ 3 ∷ 4 ∷ 5 ∷ []
 statuses_of (Load lines) = 0 ∷ 3 ∷ 4 ∷ 5 ∷ 6 ∷ 7 ∷ 8 ∷ 9 ∷ []
 statuses_of (Udp w) = 0 ∷ 3 ∷ 4 ∷ 5 ∷ 8 ∷ []
+statuses_of (Subscribe w) = 0 ∷ 3 ∷ 4 ∷ []
 
 -- the status is one of the command's
 abbrev pub is_status_of : Asked → ℕ → Bool

@@ -26,13 +26,16 @@ use Rattle.chk_prints.specs.Printing.{by, printed}
 use Rattle.chk_archive_run.specs.Telling.{ArchivesAndTells, report_lines}
 use Rattle.chk_words.specs.Commands.{AgentAsked, CollectorAsked}
 use Rattle.chukwa_salvage.specs.Printing.{IsWhole, bytes_or_none, said}
-use Rattle.chk_words.specs.Commands.{Asked, Round, Agent, Collector, Drain, Archive, Demux, Salvage, Load, Udp}
+use Rattle.chk_words.specs.Commands.{Asked, Round, Agent, Collector, Drain, Archive, Demux, Salvage, Load, Udp, Subscribe}
 use Rattle.chukwa_run.specs.Demuxing.{DemuxedOnce, DemuxWhole}
 use Rattle.chukwa_run.specs.Loading.{LoadDid, LoadWhole}
 use Rattle.chukwa_run.specs.RoundRuns.{RoundScript, RoundWhole}
 use Rattle.chukwa_run.specs.Processes.{the_agent, the_collector, chukwa}
 use Rattle.chukwa_run.specs.Draining.{DrainScript, DrainWhole}
 use Rattle.chukwa_run.specs.Datagrams.{UdpWhole}
+use Rattle.chukwa_run.specs.Subscribing.{SubscribeWhole}
+use Rattle.chukwa_run.specs.Teeing.{TeesRead}
+use Rattle.chk_tees.specs.declared.Subscriber.{Subscriber}
 
 -- ---- a salvage
 
@@ -76,11 +79,12 @@ AgentWhole w earlier added = (end : Ended) × AgentScript w (Ok end) earlier add
 
 -- ---- a collector
 
--- the script of the run: the start, so many turns at the address, each of at most so many messages, of which the first one is
--- waited for 1,000 ms, and the end
+-- The script of the run: the start, so many turns at the address, each of at most so many messages, of which the first one is
+-- waited for 1,000 ms, and the end. Before it the writer reads the file of the subscribers, who are sent what was answered.
 abbrev pub CollectorScript : CollectorAsked → History → History → Type 0
 CollectorScript w earlier added =
-    CollectorRan (the_collector w.name) w.rotate w.turns w.address w.messages 1000 (Some earlier) (Some (added ++ earlier))
+    (a : List Subscriber) × (read : Option History) × TeesRead w.tee (Ok a) (Some earlier) read
+    × CollectorRan (the_collector w.name) w.rotate w.turns w.address w.messages 1000 a read (Some (added ++ earlier))
 
 -- at each taking that may wait 1,000 ms, which is the first of a turn, all of each sink under writing is committed, and at the
 -- end none is under writing
@@ -121,6 +125,7 @@ Whole stamped (Demux kinds) earlier added = DemuxWhole stamped earlier added
 Whole stamped (Salvage file) earlier added = SalvagePrinted file earlier added
 Whole stamped (Load lines) earlier added = LoadWhole lines earlier added
 Whole stamped (Udp w) earlier added = UdpWhole w earlier added
+Whole stamped (Subscribe w) earlier added = SubscribeWhole w earlier added
 
 -- what it did by its own acts: a salvage only reads its file and prints
 abbrev pub Did : Asked → History → History → Type 0
@@ -133,3 +138,4 @@ Did (Demux kinds) earlier added = (report : DemuxReport) × DemuxedOnce report (
 Did (Salvage file) earlier added = AreSalvageActs file (own_acts added) × SalvagePrinted file earlier added
 Did (Load lines) earlier added = LoadDid lines earlier added
 Did (Udp w) earlier added = UdpWhole w earlier added
+Did (Subscribe w) earlier added = SubscribeWhole w earlier added

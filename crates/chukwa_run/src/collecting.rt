@@ -1,6 +1,6 @@
 //! The run of a collector as a command.
 
-ghost use Rattle.std.specs.Prelude.{◌≡◌, ◌≤◌, ℕ, List, IsTrue, IfOk};
+ghost use Rattle.std.specs.Prelude.{◌≡◌, ◌≤◌, ℕ, List, IsTrue, IfOk, IfSome, option_map};
 ghost use Rattle.chk_bytes.specs.Words.{is_word};
 ghost use Rattle.chk_bytes.specs.Stems.{is_collector};
 ghost use Rattle.chk_site.specs.History.{History};
@@ -13,6 +13,7 @@ ghost use Rattle.chk_words.specs.Commands.{collector_of};
 ghost use Rattle.chukwa_run.specs.Causes.{EndingCause, sink_ending};
 ghost use Rattle.chukwa_run.specs.Statuses.{HasItsStatus};
 
+use crate::teeing::read_tees;
 use chk_bytes::{NoMemory, Word};
 use chk_collect::collect;
 use chk_sink::SinkFault;
@@ -20,8 +21,9 @@ use chk_site::{Role, Site, Who};
 use chk_words::{CollectorWords, Ending};
 use std::alloc::Global;
 
-/// Starts the collector, runs its turns at the address, each of at most so many messages, and
-/// finishes. A message whose reading or answering fails ends alone; any other call that fails ends
+/// Reads the file of subscribers as the writer, starts the collector, runs its turns at the address,
+/// each of at most so many messages, and finishes. A wrong line of the file ends the run before the
+/// start. A message whose reading or answering fails ends alone; any other call that fails ends
 /// the run.
 pub fn run_collector<S: Site>(
     alloc: Global,
@@ -30,6 +32,7 @@ pub fn run_collector<S: Site>(
 ) -> Result<(), Ending>
     requires name { IsTrue (is_collector given.now.name.now) }
     requires address { IsTrue (is_word given.now.address.now) }
+    requires tee { IfSome (option_map (λ w. w.now) given.now.tee) (λ text. IsTrue (is_word text)) }
     ensures told { (stamped : List (List ℕ)) (earlier : History) → Adds (S.told site.old) (S.told site.new)
         (Leads (RunSide stamped (CollectorCommand (collector_of given.now))) (Begins stamped earlier)
         (EndsWith stamped (CollectorCommand (collector_of given.now)) result earlier)) }
@@ -43,6 +46,10 @@ pub fn run_collector<S: Site>(
     let Ok(door) = Word::from_text(alloc, given.address) else {
         return Err(Ending::NoMemory);
     };
+    let mut tees = match read_tees(alloc, site, given.tee) {
+        Ok(tees) => tees,
+        Err(ending) => return Err(ending),
+    };
     match collect(
         alloc,
         site,
@@ -51,6 +58,7 @@ pub fn run_collector<S: Site>(
         given.turns,
         given.messages,
         &door,
+        &mut tees,
     ) {
         Ok(()) => Ok(()),
         Err(fault) => Err(ending_of(fault)),

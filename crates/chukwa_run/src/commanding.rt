@@ -13,6 +13,7 @@ use crate::draining::run_drain_of;
 use crate::loading::run_load_of;
 use crate::rounding::run_whole_round;
 use crate::salvaging::run_salvage;
+use crate::subscribing::run_subscribe;
 use chk_site::Site;
 use chk_words::{Command, Ending};
 use std::alloc::Global;
@@ -37,5 +38,6 @@ pub fn run_command<S: Site>(
         Command::Salvage(file) => run_salvage(alloc, site, file),
         Command::Load(lines) => run_load_of(alloc, site, *lines),
         Command::Udp(given) => run_datagrams(alloc, site, given),
+        Command::Subscribe(given) => run_subscribe(alloc, site, given),
     }
 }

@@ -1,8 +1,6 @@
 //! The demux job as a command.
 
-ghost use Rattle.std.specs.Prelude.{◌≡◌, ℕ, List, map, IsTrue};
-ghost use Rattle.std.specs.List.{list_all};
-ghost use Rattle.chk_bytes.specs.Words.{is_word};
+ghost use Rattle.std.specs.Prelude.{◌≡◌, ℕ, List, map};
 ghost use Rattle.chk_site.specs.History.{History};
 ghost use Rattle.chk_site.specs.Site.{Adds};
 ghost use Rattle.chk_site.specs.Runs.{Leads};
@@ -13,7 +11,6 @@ ghost use Rattle.chukwa_run.specs.Runs.{Begins, EndsWith, CausedBy};
 ghost use Rattle.chukwa_run.specs.Causes.{EndingCause};
 ghost use Rattle.chukwa_run.specs.Statuses.{HasItsStatus};
 
-use crate::agenting::words_of;
 use crate::archiving::{ending_of, job};
 use chk_demux_run::run_demux;
 use chk_site::Site;
@@ -22,7 +19,6 @@ use std::alloc::Global;
 
 /// Runs the demux job once, with these types split by time stamps, and prints its report.
 pub fn run_split<S: Site>(alloc: Global, site: &mut S, kinds: &[&str]) -> Result<(), Ending>
-    requires words { IsTrue (list_all is_word (map (λ t. t.now) kinds.now)) }
     ensures told { (stamped : List (List ℕ)) (earlier : History) → NamesStamped stamped (map (λ t. t.now) kinds.now)
         → Adds (S.told site.old) (S.told site.new)
         (Leads (RunSide stamped (Demux (map (λ t. t.now) kinds.now))) (Begins stamped earlier)
@@ -34,10 +30,7 @@ pub fn run_split<S: Site>(alloc: Global, site: &mut S, kinds: &[&str]) -> Result
     let Ok(who) = job(alloc) else {
         return Err(Ending::NoMemory);
     };
-    let Ok(types) = words_of(alloc, kinds) else {
-        return Err(Ending::NoMemory);
-    };
-    match run_demux(alloc, site, &who, types.as_slice()) {
+    match run_demux(alloc, site, &who, kinds) {
         Ok(_report) => Ok(()),
         Err(fault) => Err(ending_of(fault)),
     }

@@ -13,9 +13,9 @@ mod rounding;
 mod runs;
 mod salvaging;
 mod saying;
+mod subscribing;
+mod teeing;
 mod turns;
 
-/// One turn of an agent, as `run` makes each.
-pub use chk_agent_run::agent_turn;
 pub use runs::run;
-pub use turns::collector_turn;
+pub use turns::{agent_turn, collector_turn};

@@ -68,6 +68,10 @@ use std::alloc::Global;
 /// buffer `wahead/NAME.buf`, syncs that, and publishes its length, before the next turn; a turn takes at most `--messages`
 /// of them (1 by default), the first one within 1,000 ms. A buffer of BYTES or more, or behind which no datagram came for
 /// 1,000 ms, is closed under the name `wahead/NAME-<number>`. It prints `udp taken <datagrams> bytes <bytes>`.
+///
+/// `subscribe [--turns N] ADDRESS` takes messages of tees at ADDRESS, each turn at most one, within 1,000 ms. It prints
+/// `chunk <stem> <offset> <source> <type> <name> <seq> <length>` for each chunk that lies above all those before it of its
+/// collector, so none twice, and at its end `subscribe chunks <printed> refused <messages>`.
 pub fn run<'a, S: Site>(alloc: Global, site: &mut S, words: &'a [&'a str]) -> u8
     ensures whole { (stamped : List (List ℕ)) (command : Asked) (earlier : History)
         → SuitsTypes stamped command

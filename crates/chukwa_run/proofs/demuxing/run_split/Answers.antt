@@ -13,21 +13,13 @@ returns-in_default-clause-told g c stamped earlier named =
 pub returns-in_default-clause-causes : goal.returns-in_default-clause-causes
 returns-in_default-clause-causes g c = caused_nothing (Demux (map {A = Bor (List ℕ)} {B = List ℕ} (λ t. t.now) c.args.kinds.now)) (g.S.Site.told c.args.site.now)
 
-pub returns-in_default-words_of-clause-told : goal.returns-in_default-words_of-clause-told
-returns-in_default-words_of-clause-told g c stamped earlier named =
-    unbegun stamped (Demux (map {A = Bor (List ℕ)} {B = List ℕ} (λ t. t.now) c.args.kinds.now)) earlier (g.S.Site.told c.args.site.now)
-
-pub returns-in_default-words_of-clause-causes : goal.returns-in_default-words_of-clause-causes
-returns-in_default-words_of-clause-causes g c = caused_nothing (Demux (map {A = Bor (List ℕ)} {B = List ℕ} (λ t. t.now) c.args.kinds.now)) (g.S.Site.told c.args.site.now)
-
 pub returns-in-Ok-run_demux-clause-told : goal.returns-in-Ok-run_demux-clause-told
 returns-in-Ok-run_demux-clause-told g c stamped earlier named =
     let s = c.in-Ok-run_demux.ensures in
     let kinds = (map {A = Bor (List ℕ)} {B = List ℕ} (λ t. t.now) c.args.kinds.now) in
-    let is = c.as_slice.ensures.value ∙ c.in-Ok-words_of.ensures in
     told kinds stamped earlier named (Ok c.in-Ok-run_demux._report)
     (record {
-      told = λ stamped before named. s.told stamped before (subst (NamesStamped stamped) (sym is) named);
+      told = s.told;
       own = s.own;
       prints = s.prints;
       runs = s.runs;
@@ -39,10 +31,9 @@ pub returns-in-Ok-run_demux-clause-causes : goal.returns-in-Ok-run_demux-clause-
 returns-in-Ok-run_demux-clause-causes g c =
     let s = c.in-Ok-run_demux.ensures in
     let kinds = (map {A = Bor (List ℕ)} {B = List ℕ} (λ t. t.now) c.args.kinds.now) in
-    let is = c.as_slice.ensures.value ∙ c.in-Ok-words_of.ensures in
     causes kinds (Ok c.in-Ok-run_demux._report)
     (record {
-      told = λ stamped before named. s.told stamped before (subst (NamesStamped stamped) (sym is) named);
+      told = s.told;
       own = s.own;
       prints = s.prints;
       runs = s.runs;
@@ -54,11 +45,10 @@ pub returns-clause-told : goal.returns-clause-told
 returns-clause-told g c stamped earlier named =
     let s = c.in-Err.ensures in
     let kinds = (map {A = Bor (List ℕ)} {B = List ℕ} (λ t. t.now) c.args.kinds.now) in
-    let is = c.as_slice.ensures.value ∙ c.in-Ok-words_of.ensures in
     rw c.ending_of.ensures
     (told kinds stamped earlier named (Err c.in-Err.fault)
     (record {
-      told = λ stamped before named. s.told stamped before (subst (NamesStamped stamped) (sym is) named);
+      told = s.told;
       own = s.own;
       prints = s.prints;
       runs = s.runs;
@@ -70,11 +60,10 @@ pub returns-clause-causes : goal.returns-clause-causes
 returns-clause-causes g c =
     let s = c.in-Err.ensures in
     let kinds = (map {A = Bor (List ℕ)} {B = List ℕ} (λ t. t.now) c.args.kinds.now) in
-    let is = c.as_slice.ensures.value ∙ c.in-Ok-words_of.ensures in
     rw c.ending_of.ensures
     (causes kinds (Err c.in-Err.fault)
     (record {
-      told = λ stamped before named. s.told stamped before (subst (NamesStamped stamped) (sym is) named);
+      told = s.told;
       own = s.own;
       prints = s.prints;
       runs = s.runs;

@@ -1,0 +1,34 @@
+//! The words of `subscribe`.
+
+ghost use Rattle.std.specs.Prelude.{◌≡◌, option_map, IfSome};
+ghost use Rattle.chk_words.specs.Asked.{asked_subscribe};
+ghost use Rattle.chk_words.specs.Commands.{asked_of};
+ghost use Rattle.chk_words.specs.Given.{rows_in};
+ghost use Rattle.chk_words.specs.Good.{IsGood};
+
+use crate::commands::Command;
+use crate::names::is_word;
+use crate::options::Given;
+use crate::reading::MOST;
+
+/// The words of `subscribe`.
+#[derive(Clone, Copy, Debug)]
+pub struct SubscribeWords<'a> {
+    /// How many turns it runs, from 1.
+    pub turns: u64,
+    /// The address at which it takes messages.
+    pub address: &'a str,
+}
+
+pub(crate) fn read_subscribe<'a>(given: &Given<'a>) -> Option<Command<'a>>
+    ensures asked { option_map asked_of result ≡ asked_subscribe (rows_in given.now) }
+    ensures good { IfSome result (λ command. IsGood (asked_of command)) }
+{
+    let turns = given.number("turns", MOST, 1, MOST)?;
+    match given.plain()? {
+        [address] if is_word(address) => {
+            Some(Command::Subscribe(SubscribeWords { turns, address }))
+        }
+        _ => None,
+    }
+}
