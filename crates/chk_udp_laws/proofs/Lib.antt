@@ -1,0 +1,13 @@
+pub mod Standing
+pub mod Naming
+pub mod Steps
+pub mod Parts
+pub mod Phases
+pub mod Moves
+pub mod Marking
+pub mod Ending
+pub mod Looking
+pub mod Calls
+pub mod Growing
+pub mod Law
+pub mod Commands

@@ -1,0 +1,5 @@
+pub mod Marked
+pub mod Histories
+pub mod Uses
+pub mod Laws
+pub mod Commands
