@@ -1,0 +1,8 @@
+-- Proofs of the choice.
+mod NextPairs
+mod BlockBytes
+mod PairsCompared
+mod Planned
+mod Calm
+mod Longer
+pub mod Lookup

@@ -1,0 +1,6 @@
+-- Proofs of the copying.
+mod Steps
+mod OneFetch
+mod OneRecord
+mod Blocks
+mod Segment

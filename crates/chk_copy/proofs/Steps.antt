@@ -1,0 +1,174 @@
+-- Steps that read files, or write the segment, while all files stay.
+use Rattle.std.proofs.Common.{◌≡◌, inl, inr, ℕ, false, List, [], ◌∷◌, ◌++◌, Option, Ok, Err, Result, sym, ap, ◌∙◌, subst, bytes_eq, true≢false}
+use Rattle.std.specs.Prelude.{OnOk, IfErr, codes}
+use Rattle.chk_site.specs.Files.{Files}
+use Rattle.chk_site.specs.Acts.{Deed, Reads, deed, touches}
+use Rattle.chk_site.specs.History.{Step, History, Every, Others}
+use Rattle.chk_site.specs.Site.{Adds}
+use Rattle.chk_site.specs.Runs.{anyhow, Leads}
+use Rattle.chk_site.proofs.Runs.{adds_as, adds_both, adds_none}
+use Rattle.chk_site.proofs.Leads.{owned_anyhow}
+use Rattle.chk_chunk.specs.Keys.{Chunk}
+use Rattle.chk_world.specs.JobSteps.{IsOf, ReadsFile, WritesTo, removes, creates, appends, syncs, SparesFile}
+use Rattle.chk_heads.specs.Faults.{FailsLast, IsOfRead, IsOfWrite}
+use Rattle.chk_heads.specs.Pieces.{AsksInPieces}
+use Rattle.chk_heads.specs.declared.fault.JobFault.{JobFault}
+use Rattle.chk_heads.specs.declared.fault.JobFault.TheVariants.{Outside, Damaged, Spent, NoMemory}
+use Rattle.chk_heads.proofs.Gathering.{every_then}
+use Rattle.chk_book.proofs.Added.{fails_later}
+use Rattle.chk_book.specs.declared.segmenter.Segmenter.{Segmenter}
+use Rattle.chk_book.specs.Folders.{segment_name}
+use Rattle.chk_book.specs.Segmenting.{Writing}
+use Rattle.chk_book.specs.Written.{IsAt, taken}
+use Rattle.chk_merge.specs.Segments.{HasFiles, SparesFiles, AreSettled}
+use Rattle.chk_merge.specs.Merging.{SparesBoth, AreApart}
+use Rattle.chk_merge.proofs.Frames.{stays_so, spares_one}
+use Rattle.chk_merge.proofs.AllRead.{adds_all}
+use Rattle.chk_copy.specs.Copying.{joined_segment, Copies, IsForJoined, GoesOn, Worked}
+
+-- ---- steps of others
+
+pub of_files : (all : List (List ℕ)) (segment : List ℕ) (added history : History) → Others (SparesBoth all segment) added history
+    → Others (SparesFiles all) added history
+of_files all segment [] history s = tt
+of_files all segment (step ∷ added) history s = (of_files all segment added history s.0, λ theirs. (s.1 theirs).0)
+
+pub of_segment : (all : List (List ℕ)) (segment w : List ℕ) → w ≡ segment → (added history : History)
+    → Others (SparesBoth all segment) added history → Others (SparesFile w) added history
+of_segment all segment w is [] history s = tt
+of_segment all segment w is (step ∷ added) history s = (
+  of_segment all segment w is added history s.0,
+  λ theirs. subst (λ v. SparesFile v (added ++ history) step) (sym is) (s.1 theirs).1,
+)
+
+-- what holds of no history may be told before the steps
+pub under : {X : Type 0} {Supposed : History → Step → Type 0} {A B : History → Type 0} {K : History → History → Type 0}
+    {old new : Option History} → Adds old new K → ((x : X) → Adds old new (Leads (anyhow Supposed) A B))
+    → Adds old new (Leads (anyhow Supposed) (λ history. A history × X) B)
+under {X = X} {Supposed = Supposed} {A = A} {B = B} k each =
+    adds_all (Leads (anyhow Supposed) (λ history. A history × X) B) k each
+    (λ added history p q. record {
+      leads = λ others had. (q had.1).leads others had.0;
+      own = owned_anyhow added history;
+    })
+
+-- ---- the segment
+
+pub segment_is : (s : Segmenter) (w : Writing) → IsAt s w → w.folder ≡ codes "joined"
+    → segment_name w.folder w.number ≡ joined_segment s.number
+segment_is s w at folder = ap (λ x. segment_name x w.number) folder ∙ ap (segment_name (codes "joined")) (sym at.number)
+
+pub goes_on : (s t : Segmenter) (c : Chunk) (result : Result (Unit {0}) JobFault) → IsForJoined s
+    → ((w : Writing) → IsAt s w → OnOk result (IsAt t (taken s w c))) → t.who ≡ s.who → OnOk result (GoesOn s t)
+goes_on s t c (Ok value) f at who =
+    let a = at f.w f.at in
+    record {
+      number = a.number ∙ sym f.at.number;
+      writer = record { who = who ∙ f.who; w = taken s f.w c; at = a; folder = f.folder };
+    }
+goes_on s t c (Err fault) f at who = tt
+
+writes_quiet : (segment v : List ℕ) → bytes_eq v segment ≡ false → (call : Deed) → WritesTo segment call → touches call v ≡ false
+writes_quiet segment v apart call removes = apart
+writes_quiet segment v apart call creates = apart
+writes_quiet segment v apart call (appends piece) = apart
+writes_quiet segment v apart call syncs = apart
+
+-- own writing of the segment leaves the files
+pub files_left : (all : List (List ℕ)) (held : Files) (segment : List ℕ) → AreSettled all held → AreApart all segment
+    → (added history : History) → Every (IsOf (WritesTo segment)) added history → Others (SparesBoth all segment) added history
+    → HasFiles all held history → HasFiles all held (added ++ history)
+files_left all held segment settled apart added history made s files v is =
+    stays_so (WritesTo segment) v (held v) (writes_quiet segment v (apart v is)) (settled v is).0 added history made
+    (spares_one all v is added history (of_files all segment added history s)) (files v is)
+
+-- ---- own calls
+
+pub worked : {T : Type 0} (K : Deed → Type 0) (r : Result T JobFault) {old new : Option History}
+    → Adds old new (Every (IsOf K)) → Adds old new (Every AsksInPieces) → Adds old new (FailsLast r)
+    → Adds old new (Worked K r)
+worked K r own pieces last =
+    adds_both (Worked K r)
+    (adds_both (λ added history. Every (IsOf K) added history × Every AsksInPieces added history) own pieces
+    (λ added history a b. (a, b))) last
+    (λ added history a b. record { own = a.0; pieces = a.1; last = b })
+
+pub own_of : {T : Type 0} (K : Deed → Type 0) (r : Result T JobFault) {old new : Option History}
+    → Adds old new (Worked K r) → Adds old new (Every (IsOf K))
+own_of K r told = adds_as (Every (IsOf K)) told (λ added history w. w.own)
+
+pub pieces_of : {T : Type 0} (K : Deed → Type 0) (r : Result T JobFault) {old new : Option History}
+    → Adds old new (Worked K r) → Adds old new (Every AsksInPieces)
+pieces_of K r told = adds_as (Every AsksInPieces) told (λ added history w. w.pieces)
+
+pub last_of : {T : Type 0} (K : Deed → Type 0) (r : Result T JobFault) {old new : Option History}
+    → Adds old new (Worked K r) → Adds old new (FailsLast r)
+last_of K r told = adds_as (FailsLast r) told (λ added history w. w.last)
+
+pub works_then : {T U : Type 0} (K : Deed → Type 0) (s : Result T JobFault) (r : Result U JobFault)
+    {old mid new : Option History} → Adds old mid (Worked K s) → Adds mid new (Worked K r) → Adds old new (Worked K r)
+works_then K s r first second =
+    worked K r (every_then (IsOf K) (own_of K s first) (own_of K r second))
+    (every_then AsksInPieces (pieces_of K s first) (pieces_of K r second))
+    (fails_later r first (last_of K r second))
+
+pub works_none : {T : Type 0} (K : Deed → Type 0) (value : T) (now : Option History) → Adds now now (Worked {T = T} K (Ok value))
+works_none K value now = adds_none now (Worked K (Ok value)) (λ history. record { own = tt; pieces = tt; last = tt })
+
+as_kind : (K M : Deed → Type 0) → ((call : Deed) → K call → M call) → {old new : Option History}
+    → Adds old new (Every (IsOf K)) → Adds old new (Every (IsOf M))
+as_kind K M wider own = adds_as (Every (IsOf M)) own (λ added history made. go added history made)
+  where
+    go : (added history : History) → Every (IsOf K) added history → Every (IsOf M) added history
+    go [] history made = tt
+    go (step ∷ added) history made = (
+      go added history made.0,
+      elim made.1 [
+        | inl theirs ↦ inl theirs
+        | inr mine ↦ inr (mine.0, wider (deed step.act) mine.1)
+      ],
+    )
+
+pub reads_copy : (n : ℕ) {old new : Option History} → Adds old new (Every (IsOf ReadsFile)) → Adds old new (Every (IsOf (Copies n)))
+reads_copy n own = as_kind ReadsFile (Copies n) (λ call k. inl k) own
+
+pub writes_copy : (n : ℕ) {old new : Option History} → Adds old new (Every (IsOf (WritesTo (joined_segment n))))
+    → Adds old new (Every (IsOf (Copies n)))
+writes_copy n own = as_kind (WritesTo (joined_segment n)) (Copies n) (λ call k. inr k) own
+
+-- steps that write a segment read nothing
+pub writes_ask : (segment : List ℕ) {old new : Option History} → Adds old new (Every (IsOf (WritesTo segment)))
+    → Adds old new (Every AsksInPieces)
+writes_ask segment made = adds_as (Every AsksInPieces) made (λ added history every. go added history every)
+  where
+    no_read : (call : Deed) → WritesTo segment call → (name : List ℕ) (at max : ℕ) → call ≡ Reads name at max → ⊥
+    no_read call removes name at max is = absurd (cc)
+    no_read call creates name at max is = absurd (cc)
+    no_read call (appends piece) name at max is = absurd (cc)
+    no_read call syncs name at max is = absurd (cc)
+
+    go : (added history : History) → Every (IsOf (WritesTo segment)) added history → Every AsksInPieces added history
+    go [] history every = tt
+    go (step ∷ added) history every = (
+      go added history every.0,
+      λ mine name at max is. elim every.1 [
+        | inl theirs ↦ absurd (true≢false (sym mine ∙ theirs.0))
+        | inr own ↦ absurd (no_read (deed step.act) own.1 name at max is)
+      ],
+    )
+
+-- what refuses writing may refuse reading and writing
+pub of_write : {T : Type 0} (result : Result T JobFault) → IfErr result IsOfWrite → IfErr result IsOfRead
+of_write (Ok value) only = tt
+of_write (Err (Outside call)) only = tt
+of_write (Err (Damaged name at)) only = tt
+of_write (Err (Spent n)) only = only
+of_write (Err NoMemory) only = tt
+
+-- it still writes the same segment
+pub still_on : (r s t : Segmenter) → s.number ≡ r.number → GoesOn s t → GoesOn r t
+still_on r s t same on = record { number = on.number ∙ same; writer = on.writer }
+
+pub works_number : {T : Type 0} (m n : ℕ) → m ≡ n → (r : Result T JobFault) {old new : Option History}
+    → Adds old new (Worked (Copies m) r) → Adds old new (Worked (Copies n) r)
+works_number m n is r {old = old} {new = new} told = subst (λ k. Adds old new (Worked (Copies k) r)) is told

@@ -1,0 +1,2 @@
+-- What the copying of chosen records leaves.
+pub mod Copying
