@@ -1,5 +1,5 @@
 #!/usr/bin/env python3
-"""Closed descriptors, broken pipes, limits of files, signals, and large folders that change.
+"""Closed descriptors, broken pipes, limits of files, signals, large folders that change, and requests of the web.
 
 usage: tools/small_troubles.py [--program FILE] [CASE...]
 
@@ -9,6 +9,8 @@ usage: tools/small_troubles.py [--program FILE] [CASE...]
 - `limit`: a `round` whose sink would pass the limit of a file's size ends with a failed append, and one
   behind it without the limit takes all.
 - `signals`: a `round` that is stopped and goes on many times takes all.
+- `web`: requests of the web come to a control door, with control lines as their bodies. None is followed.
+- `refused`: a line of an initial file is no good `add`. It is told with its number and what is wrong with it.
 - `folder`: a log in a folder of 5,000 others is rotated while an agent follows it. None of its bytes is lost.
 
 Each prints its figure; the script ends with 1 where one isn't as it should be.
@@ -23,7 +25,7 @@ import threading
 import time
 
 from archive_reader import Archive
-from running import Process, add_program, free_ports, listening, parser_of, program_of, ran
+from running import Process, add_program, asked_at, free_ports, listening, parser_of, program_of, ran
 
 
 def write(path, data):
@@ -86,6 +88,41 @@ def signals(program, folder):
     return int(status != 0 or Archive(folder).bytes_of(("h1", "Log", "a.log")) != data), "of 1 stopped rounds went wrong"
 
 
+def web(program, folder):
+    """How many requests of the web ended the agent."""
+    (control,), wrong = free_ports(1), 0
+    words = [program, "agent", "--control", f"127.0.0.1:{control}", "h1", "127.0.0.1:1"]
+    for head in ("POST /", "PUT /a", "GET /?stopagent"):
+        agent = Process("agent", words, folder)
+        try:
+            while agent.status() is None and not listening(control):
+                time.sleep(0.02)
+            asked_at(control, f"{head} HTTP/1.1\r\nHost: h\r\nContent-Length: 10\r\n\r\nstopagent\n")
+            time.sleep(1)
+            wrong += agent.status() is not None or not asked_at(control, "list\n").endswith("OK 0 adaptors\n")
+        finally:
+            agent.close()
+    return wrong, "of 3 requests of the web were followed"
+
+
+def refused(program, folder):
+    """How many of the refused lines weren't told so."""
+    write(f"{folder}/add", b"\nadd a = FileTailingAdaptor Log /x.log 0\nadd Filetailingadaptor Log /y.log 0\n")
+    write(f"{folder}/stop", b"stop a\n")
+    write(f"{folder}/bytes", b"add FileTailingAdaptor Log /x\xff 0\n")
+    lines = {
+        "add": "chukwa: add line 3: BadClass Filetailingadaptor",
+        "stop": "chukwa: stop line 1: NoAdd stop a",
+        "bytes": "chukwa: bytes line 1: NotUtf8 FileTailingAdaptor",
+    }
+    wrong = 0
+    for command in (["agent", "--turns", "1"], ["drain"]):
+        for name, line in lines.items():
+            status, _, error = ran([program, *command, "--initial", name, "h1", "127.0.0.1:1"], folder)
+            wrong += status != 5 or line not in error
+    return wrong, "of 6 refused lines were not told"
+
+
 def folder(program, folder):
     """How many lines are lost of a log that is rotated in a large folder."""
     logs = f"{folder}/logs"
@@ -137,7 +174,7 @@ def folder(program, folder):
         collector.close()
 
 
-CASES = [closed, pipe, limit, signals, folder]
+CASES = [closed, pipe, limit, signals, web, refused, folder]
 
 
 def main():

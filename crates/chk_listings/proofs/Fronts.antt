@@ -25,7 +25,7 @@ below_from x y t le f =
       | inr differ ↦ and_left (x == y) t (ne_eqb x y differ)
     ])
 
-text_onward : (a b c : List ℕ) → text_lt a b ≡ false → text_lt b c ≡ false → text_lt a c ≡ false
+pub text_onward : (a b c : List ℕ) → text_lt a b ≡ false → text_lt b c ≡ false → text_lt a c ≡ false
 text_onward a b [] p q = refl
 text_onward a [] (z ∷ ws) p q = absurd (true≢false q)
 text_onward [] (y ∷ vs) (z ∷ ws) p q = absurd (true≢false p)
@@ -36,6 +36,10 @@ text_onward (x ∷ us) (y ∷ vs) (z ∷ ws) p q =
     let a1 = u.0 in let a2 = v.0 in
     below_from x z (text_lt us ws) (omega (arith, a1, a2))
     (λ e. rest (u.1 (omega (arith, a1, a2, e))) (v.1 (omega (arith, a1, a2, e))))
+
+pub text_self : (a : List ℕ) → text_lt a a ≡ false
+text_self [] = refl
+text_self (x ∷ a) = below_from x x (text_lt a a) (omega arith) (λ _. text_self a)
 
 -- what comes before an earlier text comes before a later one
 lower : (a b c : List ℕ) → text_lt b a ≡ false → text_lt b c ≡ true → text_lt a c ≡ true

@@ -1,4 +1,5 @@
 pub mod Fronts
+mod Ordered
 pub mod Rooms
 pub mod Stamping
 pub mod Takes

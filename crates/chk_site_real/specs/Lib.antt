@@ -1,2 +1,2 @@
-pub mod Folders
 pub mod Locks
+pub mod Requests

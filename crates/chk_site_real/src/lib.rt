@@ -2,16 +2,8 @@
 //! and the clock.
 #![tactic(auto)]
 
-mod failure;
-mod folders;
-mod host;
-mod kept;
-mod limit;
 mod locks;
-mod logs;
-mod names;
-mod notices;
+mod requests;
 mod site_real;
 
-pub use failure::Failure;
 pub use site_real::SiteReal;

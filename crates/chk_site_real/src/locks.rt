@@ -1,21 +1,19 @@
 //! The locks by which one process at a time acts under a name.
-ghost use Rattle.std.specs.Prelude.{◌≡◌, ◌++◌, [], option_map, string_bytes, IfOk};
+ghost use Rattle.std.specs.Prelude.{◌≡◌, ◌∷◌, ◌++◌, [], option_map, string_bytes, IfOk, OnErr, OnOk};
+ghost use Rattle.std.specs.List.{list_any};
 ghost use Rattle.chk_site.specs.Site.{MayFail};
 ghost use Rattle.chk_site.specs.declared.acts.CallFault.TheVariants.{Failed};
-ghost use Rattle.chk_sockets.specs.Faults.{answer_of, call_fault};
-ghost use Rattle.chk_site_real.specs.Locks.{lock_of};
+ghost use Rattle.chk_faults.specs.Faults.{answer_of, call_fault};
+ghost use Rattle.chk_site_real.specs.Locks.{is_of, lock_of, Holds};
 
-use crate::folders::make_folder;
 use chk_bytes::NoMemory;
+use chk_faults::{SystemFault, make_place, text};
+use chk_host::open_made;
 use chk_site::{Role, Who};
-use chk_sockets::{SystemFault, make_place, text};
 use std::alloc::Global;
-use std::fs::{File, OpenOptions, TryLockError};
+use std::fs::{File, TryLockError};
 use std::io::ErrorKind;
 use std::rt::Files;
-
-/// The folder of the locks' files.
-const FOLDER: &str = "locks";
 
 /// A lock that is held as long as its file is open.
 #[derive(Drop)]
@@ -47,29 +45,50 @@ impl Locks {
         alloc: Global,
         name: &str,
     ) -> Result<(), SystemFault>
-        ensures { MayFail (answer_of result) }
+        ensures held { OnOk result (Holds self.old.held.items self.new.held.items name.now) }
+        ensures err { OnErr result (self.new.held.items ≡ self.old.held.items) }
+        ensures only { MayFail (answer_of result) }
     {
-        if self.held.iter().any(|lock| lock.name.as_str() == name) {
+        if self.has(name) {
             return Ok(());
         }
-        let kept_name = text(alloc, name)?;
+        let name_kept = text(alloc, name)?;
         make_place(&mut self.held)?;
-        make_folder(rt, FOLDER)?;
-        let file = OpenOptions::new().write(true).create(true).open(rt, name)?;
-        match file.try_lock() {
-            Ok(()) => self.keep(kept_name, file),
-            Err(TryLockError::WouldBlock) => Err(held_elsewhere()),
-            Err(TryLockError::Error(error)) => Err(SystemFault::Failed(error)),
-        }
+        let file = taken(rt, name)?;
+        self.keep(Lock {
+            name: name_kept,
+            _file: file,
+        })
     }
 
-    fn keep(&mut self, name: String, file: File) -> Result<(), SystemFault>
-        ensures { MayFail (answer_of result) }
+    // The lock of this name is held here.
+    fn has(&self, name: &str) -> bool
+        ensures { result ≡ list_any (is_of name.now) self.now.held.items }
     {
-        self.held.push(Lock { name, _file: file }).map_err(|_| SystemFault::failed(
+        self.held.iter().any(|lock| lock.name.as_str() == name)
+    }
+
+    fn keep(&mut self, lock: Lock) -> Result<(), SystemFault>
+        ensures held { OnOk result (self.new.held.items ≡ self.old.held.items ++ lock ∷ []) }
+        ensures err { OnErr result (self.new.held.items ≡ self.old.held.items) }
+        ensures only { MayFail (answer_of result) }
+    {
+        self.held.push(lock).map_err(|_| SystemFault::failed(
             ErrorKind::OutOfMemory,
             "no place for the lock",
         ))
+    }
+}
+
+// The file of this name, locked.
+fn taken<R: Files<File = File>>(rt: &R, name: &str) -> Result<File, SystemFault>
+    ensures { MayFail (answer_of result) }
+{
+    let file = open_made(rt, name)?;
+    match file.try_lock() {
+        Ok(()) => Ok(file),
+        Err(TryLockError::WouldBlock) => Err(held_elsewhere()),
+        Err(TryLockError::Error(error)) => Err(SystemFault::Failed(error)),
     }
 }
 

@@ -2,17 +2,17 @@
 ghost use Rattle.std.specs.Prelude.{◌≡◌, ◌≤◌, None, Err, IsSome};
 ghost use Rattle.chk_site.specs.Site.{CauseOf, MayFail};
 ghost use Rattle.chk_site.specs.declared.acts.CallFault.TheVariants.{Failed};
-ghost use Rattle.chk_sockets.specs.Faults.{answer_of};
+ghost use Rattle.chk_faults.specs.Faults.{answer_of};
 
-use crate::failure::Failure;
-use crate::folders::{Unsettled, make_folders};
-use crate::host::Host;
 use crate::locks::{Locks, lock_name};
-use crate::names::sorted_names;
-use crate::notices::moment;
+use crate::requests::without_request;
 use chk_bytes::{Bytes, Word};
+use chk_faults::{SystemFault, text};
+use chk_host::{Host, Unsettled, make_folders};
+use chk_listings::sorted_names;
+use chk_notices::{Failure, clock_moment};
 use chk_site::{Call, CallFault, Part, Piece, Role, Site, Suffix, Taking, Who};
-use chk_sockets::{Messages, SystemFault, text};
+use chk_sockets::Messages;
 use std::alloc::{AllocError, Global};
 use std::fs::File;
 use std::io::Eprint;
@@ -53,7 +53,8 @@ const LONGEST_MESSAGE: usize = 4_210_688;
 /// nothing. The system lets go of a lock when its process ends, however that ends. A writer has none.
 ///
 /// The clock counts milliseconds from an arbitrary start and never goes back. Messages are as
-/// `chk_sockets::Messages` has them.
+/// `chk_sockets::Messages` has them. An agent isn't given a message that begins as a request of the web does:
+/// it is lost.
 #[derive(Drop)]
 pub struct SiteReal<R: Files<File = File> + Net + Clock + Print + Eprint + Drop> {
     faults: u64,
@@ -311,7 +312,7 @@ impl<R: Files<File = File> + Net + Clock + Print + Eprint + Drop> Site for SiteR
     }
 
     fn clock(&mut self, alloc: Global, _who: &Who) -> Result<u64, CallFault> {
-        let given = moment(&self.host.rt);
+        let given = clock_moment(&self.host.rt);
         self.settle(alloc, Call::Clock, "", given)
     }
 
@@ -347,10 +348,13 @@ impl<R: Files<File = File> + Net + Clock + Print + Eprint + Drop> Site for SiteR
         wait: u64,
     ) -> Result<Option<Taking>, CallFault> {
         let given = self.messages.take(&self.host.rt, alloc, door, wait);
-        if given.is_ok() && who.role == Role::Agent {
+        if who.role != Role::Agent {
+            return self.settle(alloc, Call::Take, door, given);
+        }
+        if given.is_ok() {
             self.host.notices.tell_door(&self.host.rt, alloc, door);
         }
-        self.settle(alloc, Call::Take, door, given)
+        self.settle(alloc, Call::Take, door, without_request(given))
     }
 
     fn more(&mut self, alloc: Global, _who: &Who, taking: u64) -> Result<Bytes, CallFault> {

@@ -1,13 +1,14 @@
 //! Messages over real sockets on the loopback interface.
 use chk_bytes::Bytes;
+use chk_faults::SystemFault;
 use chk_site::{CallFault, Taking};
-use chk_sockets::{Messages, SystemFault};
+use chk_sockets::Messages;
 use std::alloc::Global;
-use std::io;
 use std::io::Write;
 use std::net::{TcpListener, TcpStream, UdpSocket};
 use std::test::Fail;
 use std::time::{Clock, Duration};
+use std::{io, thread};
 
 // One end, with the runtime that its calls take.
 #[derive(Drop)]
@@ -253,6 +254,28 @@ fn a_request_is_handed_out_once_it_is_whole(rt: HostRuntime) -> Result<(), Fail>
     let mut here = begin(rt);
     let mut there = begin(rt);
     passes_a_slow_peer(&mut here, &mut there, address.as_str())
+}
+
+const FRESH: &str = "POST /chukwa HTTP/1.1\r\nContent-Length: 2\r\n\r\ncd";
+
+// A request that came nearly two seconds ago is served behind one that came now.
+fn serves_the_fresh_first(here: &mut End, there: &mut End, door: &str) -> Result<(), Fail> {
+    expect(here.finds_none(door), "a message")?;
+    there.send(door, POST)?;
+    there.send(door, POST)?;
+    expect(here.takes(door, 1, POST), "the first request")?;
+    thread::sleep(&here.rt, Duration::from_millis(1_950));
+    there.send(door, FRESH)?;
+    expect(here.takes(door, 2, FRESH), "the fresh request")?;
+    expect(here.takes(door, 3, POST), "the stale request")
+}
+
+#[test]
+fn a_stale_request_is_served_behind_a_fresh_one(rt: HostRuntime) -> Result<(), Fail> {
+    let address = free_address(&rt)?;
+    let mut here = begin(rt);
+    let mut there = begin(rt);
+    serves_the_fresh_first(&mut here, &mut there, address.as_str())
 }
 
 // Nobody asks for the answer to what begins as copies do, and its sender is gone behind it.

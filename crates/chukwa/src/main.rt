@@ -2,6 +2,9 @@
 //! works on the current folder.
 #![tactic(auto)]
 
+mod refused;
+
+use crate::refused::tell_refused;
 use chk_site_real::SiteReal;
 use chukwa_run::run;
 use std::fs::{File, OpenOptions};
@@ -14,6 +17,9 @@ const OUTSIDE: u8 = 3;
 
 /// The status for want of memory.
 const NO_MEMORY: u8 = 4;
+
+/// The status for a file that isn't in its grammar.
+const DAMAGED: u8 = 5;
 
 fn main(rt: HostRuntime) -> ExitCode {
     let _standard = [in_place(rt), in_place(rt), in_place(rt)];
@@ -45,7 +51,8 @@ fn words_given(rt: HostRuntime) -> Result<Vec<String>, u8> {
     }
 }
 
-// Runs the command. The cause of the last call that failed is told too, also where the command went on after it.
+// Runs the command. The cause of the last call that failed is told too, also where the command went on after it,
+// and the line of an initial file that was refused.
 fn run_given(rt: HostRuntime, given: &[String]) -> u8 {
     let mut words: Vec<&str> = Vec::new(rt.alloc());
     for word in given {
@@ -57,6 +64,9 @@ fn run_given(rt: HostRuntime, given: &[String]) -> u8 {
     let status = run(rt.alloc(), &mut site, words.as_slice());
     if let Some(failure) = site.failure() {
         let _told = eprintln!(rt; "chukwa: {failure}");
+    }
+    if status == DAMAGED {
+        tell_refused(rt, words.as_slice());
     }
     status
 }

@@ -1,0 +1,412 @@
+//! The machine: its runtime, and files by their names. The file written last and the file read
+//! last are kept open, so that a further piece costs one system call.
+ghost use Rattle.std.specs.Prelude.{◌≡◌, ◌≤◌, [], None, length, string_bytes, IfOk, IfSome, IsErr};
+ghost use Rattle.chk_site.specs.Site.{MayFail, MayExist, MayMiss, MayBeShort, MayMissOrBeShort};
+ghost use Rattle.chk_faults.specs.Faults.{answer_of};
+
+use crate::folders::{file_size, folder_of, is_folder, sync_folder};
+use crate::kept::{Kept, is_named};
+use crate::limit::Limit;
+use chk_bytes::Bytes;
+use chk_faults::{SystemFault, text};
+use chk_listings::Listings;
+use chk_notices::Notices;
+use chk_rotations::Logs;
+use std::alloc::Global;
+use std::fs;
+use std::fs::{File, OpenFile, OpenOptions};
+use std::io::{ErrorKind, Write};
+use std::rt::Files;
+
+/// At most two files are open: one to append to, and one to read.
+#[derive(Drop)]
+pub struct Host<R: Files<File = File>> {
+    pub rt: R,
+    writing: Option<Kept>,
+    /// The file that was created last, as long as its folder isn't synced.
+    unsettled: Option<String>,
+    /// The mark that was renamed last, whose folder was synced behind that.
+    settled_mark: Option<String>,
+    pub(crate) reading: Option<Kept>,
+    pub(crate) listings: Listings,
+    /// What is known of the logs that were looked at.
+    pub(crate) logs: Logs,
+    pub notices: Notices,
+    pub(crate) limit: Limit,
+    pub(crate) buffer: Vec<u8>,
+}
+
+impl<R: Files<File = File>> Host<R> {
+    pub fn new(rt: R, alloc: Global) -> Host<R>
+        ensures writing { result.writing ≡ None }
+        ensures unsettled { result.unsettled ≡ None }
+        ensures settled { result.settled_mark ≡ None }
+        ensures reading { result.reading ≡ None }
+        ensures listings { result.listings ≡ [] }
+        ensures logs { result.logs.seen.items ≡ [] }
+        ensures buffer { result.buffer.items ≡ [] }
+    {
+        let limit = Limit::of(&rt, alloc);
+        Host {
+            rt,
+            limit,
+            writing: None,
+            unsettled: None,
+            settled_mark: None,
+            reading: None,
+            listings: Listings::new(alloc),
+            logs: Logs::new(alloc),
+            notices: Notices::new(alloc),
+            buffer: Vec::new(alloc),
+        }
+    }
+
+    /// `Exists` where the file is there. The new file is kept open. Its folder is synced, but of a file
+    /// that is to be renamed: there the rename does it.
+    pub fn create(&mut self, alloc: Global, name: &str) -> Result<(), SystemFault>
+        ensures { MayExist (answer_of result) }
+    {
+        self.settle()?;
+        let kept_name = text(alloc, name)?;
+        let new_name = text(alloc, name)?;
+        match OpenOptions::new()
+            .append(true)
+            .create_new(true)
+            .open(&self.rt, name)
+        {
+            Ok(file) => {
+                self.writing = Some(Kept::new(kept_name, file));
+                self.unsettled = Some(new_name);
+                self.settle_lasting(name)
+            }
+            Err(error) if error.kind() == ErrorKind::AlreadyExists => Err(SystemFault::Exists),
+            Err(error) => Err(SystemFault::Failed(error)),
+        }
+    }
+
+    /// A file that isn't there is `Failed`.
+    pub fn append(&mut self, alloc: Global, name: &str, bytes: &[u8]) -> Result<(), SystemFault>
+        ensures { MayFail (answer_of result) }
+    {
+        self.settle_other(name)?;
+        let given = self.append_kept(alloc, name, bytes);
+        self.settle_failed(given)
+    }
+
+    fn append_kept(&mut self, alloc: Global, name: &str, bytes: &[u8]) -> Result<(), SystemFault>
+        ensures { MayFail (answer_of result) }
+    {
+        let mut writer = self.writer(alloc, name)?;
+        self.limit.allow(&writer.file, bytes)?;
+        writer.file.write_all(bytes)?;
+        self.writing = Some(writer);
+        Ok(())
+    }
+
+    /// A file that isn't there is `Failed`.
+    pub fn sync(&mut self, alloc: Global, name: &str) -> Result<(), SystemFault>
+        ensures { MayFail (answer_of result) }
+    {
+        self.settle_other(name)?;
+        let given = self.sync_kept(alloc, name);
+        self.settle_failed(given)
+    }
+
+    fn sync_kept(&mut self, alloc: Global, name: &str) -> Result<(), SystemFault>
+        ensures { MayFail (answer_of result) }
+    {
+        let writer = self.writer(alloc, name)?;
+        writer.file.sync_all()?;
+        self.writing = Some(writer);
+        Ok(())
+    }
+
+    /// `Missing` where the file isn't there, and its folder is. The new length is synced.
+    pub fn cut(&mut self, alloc: Global, name: &str, length: u64) -> Result<(), SystemFault>
+        ensures { MayMissOrBeShort (answer_of result) }
+    {
+        self.settle()?;
+        let size = self.size(name)?;
+        if size < length {
+            return Err(SystemFault::Short { size });
+        }
+        if size > length {
+            let writer = self.writer(alloc, name)?;
+            writer.file.set_len(length)?;
+            writer.file.sync_all()?;
+            self.writing = Some(writer);
+        }
+        Ok(())
+    }
+
+    /// A file that isn't there is `Failed`.
+    pub fn rename(&mut self, alloc: Global, old: &str, new: &str) -> Result<(), SystemFault>
+        ensures { MayFail (answer_of result) }
+    {
+        self.settle_other(old)?;
+        let given = self.rename_settled(old, new);
+        if given.is_ok() && is_mark(new) {
+            self.settled_mark = text(alloc, new).ok();
+        }
+        self.settle_failed(given)
+    }
+
+    // Both folders are synced behind the rename, so that nothing of the new file is unsettled.
+    fn rename_settled(&mut self, old: &str, new: &str) -> Result<(), SystemFault>
+        ensures { MayFail (answer_of result) }
+    {
+        self.forget(old);
+        self.forget(new);
+        fs::rename(&self.rt, old, new)?;
+        sync_folder(&self.rt, new)?;
+        if folder_of(old) != folder_of(new) {
+            sync_folder(&self.rt, old)?;
+        }
+        self.unsettled = None;
+        Ok(())
+    }
+
+    pub fn remove(&mut self, name: &str) -> Result<(), SystemFault>
+        ensures { MayMiss (answer_of result) }
+    {
+        self.settle()?;
+        self.forget(name);
+        match fs::remove_file(&self.rt, name) {
+            Ok(()) => Ok(sync_folder(&self.rt, name)?),
+            Err(error) if error.kind() == ErrorKind::NotFound => no_file(&self.rt, name),
+            Err(error) => Err(SystemFault::Failed(error)),
+        }
+    }
+
+    pub fn size(&self, name: &str) -> Result<u64, SystemFault>
+        ensures { MayMiss (answer_of result) }
+    {
+        match file_size(&self.rt, name) {
+            Ok(Some(size)) => Ok(size),
+            Ok(None) => no_file(&self.rt, name),
+            Err(error) => Err(SystemFault::Failed(error)),
+        }
+    }
+
+    pub fn read(
+        &mut self,
+        alloc: Global,
+        name: &str,
+        at: u64,
+        max: u32,
+    ) -> Result<Bytes, SystemFault>
+        ensures most { IfOk result (λ bytes. length bytes ≤ max) }
+        ensures only { MayMissOrBeShort (answer_of result) }
+    {
+        match self.read_found(alloc, name, at, max)? {
+            Some(bytes) => {
+                self.settle_name(name)?;
+                Ok(bytes)
+            }
+            None => no_file(&self.rt, name),
+        }
+    }
+
+    // Another collector may have renamed a mark to this name and not synced it yet. What was read of a
+    // mark is told to agents, so it stays on the disk before it is answered. The mark that this process
+    // renamed last is on the disk, and nobody else renames to its name.
+    fn settle_name(&self, name: &str) -> Result<(), SystemFault>
+        ensures { MayFail (answer_of result) }
+    {
+        if is_mark(name) && !self.has_settled(name) {
+            sync_folder(&self.rt, name)?;
+        }
+        Ok(())
+    }
+
+    fn has_settled(&self, name: &str) -> bool {
+        match &self.settled_mark {
+            Some(mark) => mark.as_str() == name,
+            None => false,
+        }
+    }
+
+    /// None where there is no such file. A read from the front opens the file anew, and one that was
+    /// read to its end is let go.
+    pub(crate) fn read_found(
+        &mut self,
+        alloc: Global,
+        name: &str,
+        at: u64,
+        max: u32,
+    ) -> Result<Option<Bytes>, SystemFault>
+        ensures most { IfOk result (λ found. IfSome found (λ bytes. length bytes ≤ max)) }
+        ensures only { MayBeShort (answer_of result) }
+    {
+        if at == 0 {
+            self.stop_reading();
+        }
+        let Some(bytes) = self.read_on(alloc, name, at, max)? else {
+            return Ok(None);
+        };
+        if bytes.len() < max as usize {
+            self.stop_reading();
+        }
+        Ok(Some(bytes))
+    }
+
+    // Reads the file of this name that is kept open, or else opens it where it has bytes at the place,
+    // and keeps it open. None where there is no such file.
+    fn read_on(
+        &mut self,
+        alloc: Global,
+        name: &str,
+        at: u64,
+        max: u32,
+    ) -> Result<Option<Bytes>, SystemFault>
+        ensures most { IfOk result (λ found. IfSome found (λ bytes. length bytes ≤ max)) }
+        ensures only { MayBeShort (answer_of result) }
+    {
+        match self.goes_on(name, at)? {
+            None => Ok(None),
+            Some(false) => Ok(Some(Bytes::new(alloc))),
+            Some(true) => Ok(Some(self.read_open(alloc, name, at, max)?)),
+        }
+    }
+
+    // Whether there may be bytes at the place; none where there is no such file. A file that is kept open
+    // isn't looked at.
+    fn goes_on(&self, name: &str, at: u64) -> Result<Option<bool>, SystemFault>
+        ensures { MayBeShort (answer_of result) }
+    {
+        if is_named(&self.reading, name) {
+            return Ok(Some(true));
+        }
+        match file_size(&self.rt, name)? {
+            None => Ok(None),
+            Some(size) if size < at => Err(SystemFault::Short { size }),
+            Some(size) => Ok(Some(size > at)),
+        }
+    }
+
+    fn read_open(
+        &mut self,
+        alloc: Global,
+        name: &str,
+        at: u64,
+        max: u32,
+    ) -> Result<Bytes, SystemFault>
+        ensures most { IfOk result (λ bytes. length bytes ≤ max) }
+        ensures only { MayBeShort (answer_of result) }
+    {
+        let reader = self.reader(alloc, name)?;
+        let bytes = reader.piece(alloc, at, max)?;
+        self.reading = Some(reader);
+        Ok(bytes)
+    }
+
+    // The file to append to, taken from what is kept.
+    fn writer(&mut self, alloc: Global, name: &str) -> Result<Kept, SystemFault>
+        ensures name { IfOk result (λ kept. string_bytes kept.name ≡ name.now) }
+        ensures only { MayFail (answer_of result) }
+    {
+        if let Some(kept) = self.writing.take() {
+            if kept.name.as_str() == name {
+                return Ok(kept);
+            }
+        }
+        let kept_name = text(alloc, name)?;
+        let file = OpenOptions::new().append(true).open(&self.rt, name)?;
+        Ok(Kept::new(kept_name, file))
+    }
+
+    // The file to read, taken from what is kept.
+    fn reader(&mut self, alloc: Global, name: &str) -> Result<Kept, SystemFault>
+        ensures name { IfOk result (λ kept. string_bytes kept.name ≡ name.now) }
+        ensures only { MayFail (answer_of result) }
+    {
+        if let Some(kept) = self.reading.take() {
+            if kept.name.as_str() == name {
+                return Ok(kept);
+            }
+        }
+        let kept_name = text(alloc, name)?;
+        let file = File::open(&self.rt, name)?;
+        Ok(Kept::new(kept_name, file))
+    }
+
+    /// Closes the file that was read last, where it is kept.
+    pub(crate) fn stop_reading(&mut self)
+        ensures { self.new.reading ≡ None }
+    {
+        self.reading = None;
+    }
+
+    // Syncs the folder of the new file, but where the file is to be renamed. The calls that follow are then
+    // its appends, its sync and its rename, which nobody sees before the rename. Where the machine stops
+    // between them and the file is gone, it is as if the stop had come in the creation.
+    fn settle_lasting(&mut self, name: &str) -> Result<(), SystemFault>
+        ensures { MayFail (answer_of result) }
+    {
+        if name.ends_with(".tmp") {
+            return Ok(());
+        }
+        self.settle()
+    }
+
+    // Before a call on another file the folder of the new one is synced.
+    fn settle_other(&mut self, name: &str) -> Result<(), SystemFault>
+        ensures { MayFail (answer_of result) }
+    {
+        match &self.unsettled {
+            Some(new_name) if new_name.as_str() != name => self.settle(),
+            _ => Ok(()),
+        }
+    }
+
+    // Behind a call on the new file that failed any other call may come.
+    fn settle_failed(&mut self, given: Result<(), SystemFault>) -> Result<(), SystemFault>
+        requires { MayFail (answer_of given) }
+        ensures { MayFail (answer_of result) }
+    {
+        if given.is_err() {
+            self.settle()?;
+        }
+        given
+    }
+
+    // Syncs the folder of the file that was created last, where it isn't synced yet.
+    fn settle(&mut self) -> Result<(), SystemFault>
+        ensures { MayFail (answer_of result) }
+    {
+        if let Some(name) = &self.unsettled {
+            sync_folder(&self.rt, name.as_str())?;
+            self.unsettled = None;
+        }
+        Ok(())
+    }
+
+    // Closes the file of this name.
+    fn forget(&mut self, name: &str) {
+        if is_named(&self.writing, name) {
+            self.writing = None;
+        }
+        if is_named(&self.reading, name) {
+            self.reading = None;
+        }
+        if self.has_settled(name) {
+            self.settled_mark = None;
+        }
+    }
+}
+
+fn is_mark(name: &str) -> bool {
+    name.ends_with(".mark")
+}
+
+// A file that isn't there is missing only where its folder is there.
+fn no_file<T, R: Files>(rt: &R, name: &str) -> Result<T, SystemFault>
+    ensures refused { IsErr result }
+    ensures only { MayMiss (answer_of result) }
+{
+    if is_folder(rt, folder_of(name)) {
+        Err(SystemFault::Missing)
+    } else {
+        Err(SystemFault::failed(ErrorKind::NotFound, "its folder is not there"))
+    }
+}
