@@ -1,5 +1,5 @@
 -- The lines of a past adaptor that lives again, and what keeps them.
-use Rattle.std.proofs.Common.{◌≡◌, ℕ, zero, suc, ◌≤◌, true, List, [], ◌∷◌, length, map, Some, Ok, Err, ap, sym, subst, ◌∙◌, refl, arith}
+use Rattle.std.proofs.Common.{◌≡◌, ℕ, zero, suc, ◌≤◌, true, List, [], ◌∷◌, length, map, Some, Err, ap, sym, ◌∙◌, refl, arith}
 use Rattle.std.specs.Prelude.{slice_get, slice_set, slice_index}
 use Rattle.std.proofs.lemmas.Option.{same_Some}
 use Rattle.chk_site.specs.History.{History}
@@ -14,10 +14,7 @@ use Rattle.chk_checkpoint.specs.declared.CheckLine.{CheckLine}
 use Rattle.chk_checkpoint.specs.Lines.{shown}
 use Rattle.chk_world.specs.Checkpoints.{Line}
 use Rattle.chk_reading.specs.Adaptors.{Adaptor, line_at, revived}
-use Rattle.chk_agent.specs.States.{State, lines_at, lines_of}
-use Rattle.chk_agent.specs.Settles.{Writes, saved_now}
-use Rattle.chk_agent.specs.Adds.{revived_at}
-use Rattle.chk_agent.specs.Takes.{Keeps, kept}
+use Rattle.chk_agent.specs.States.{lines_at}
 use Rattle.chk_agent.proofs.Soundness.{at_map}
 use Rattle.chk_agent.proofs.Listing.{line_get}
 use Rattle.chk_agent.proofs.SettlingLines.{lines_set}
@@ -39,18 +36,6 @@ lines_revived lines y z xs ends n a name are few got at is =
     ∙ (ap (λ ls. slice_set ls n (shown z)) are
     ∙ (ap (λ k. slice_set (lines_at xs ends) n k) (is ∙ ap (λ (l : Line). record l { live = true; name = name }) same)
     ∙ lines_set xs ends n (revived name a) few))
-
-pub kept_state : (s : State) (n : ℕ) (name : List ℕ) (a b : Adaptor) (lines : List Line) → b ≡ revived name a
-    → lines ≡ lines_of (revived_at s n name a)
-    → record s { adaptors = slice_set s.adaptors n b; saved = lines } ≡ saved_now (revived_at s n name a)
-kept_state s n name a b lines is are = λ i. record s { adaptors = slice_set s.adaptors n (is i); saved = are i }
-
-pub kept_by : (s : State) (n : ℕ) (name : List ℕ) (a b : Adaptor) (lines : List Line) → b ≡ revived name a
-    → lines ≡ lines_of (revived_at s n name a) → {old new : Option History} → Writes s lines (Ok tt) old new
-    → Keeps s (revived_at s n name a) (Ok tt) (record s { adaptors = slice_set s.adaptors n b; saved = lines }) old new
-kept_by s n name a b lines is are {old = old} {new = new} script =
-    subst (λ t. Keeps s (revived_at s n name a) (Ok tt) t old new) (sym (kept_state s n name a b lines is are))
-    (kept (subst (λ ls. Writes s ls (Ok tt) old new) are script))
 
 -- ---- where the writing was refused
 

@@ -103,6 +103,16 @@ refused_by named xs o place d class offset result unnamed f by =
     ∙ (ap (λ k. add_refusal None k (length xs) class offset) (sym f.is)
     ∙ ap (λ k. add_refusal k o (length xs) class offset) (sym unnamed)))
 
+pub refused_there : (named : Option ℕ) (xs : List Adaptor) (o : Option Found) (place : ℕ) (f : Found)
+    (class : Class) (offset : ℕ) (result : Option ℕ) → named ≡ None → o ≡ Some f
+    → ((i count : ℕ) → result ≡ add_refusal None (Some
+    (record { number = i; adaptor = f.adaptor })) count class offset)
+    → result ≡ add_refusal named o (length xs) class offset
+refused_there named xs o place f class offset result unnamed is by =
+    by f.number (length xs)
+    ∙ (ap (λ k. add_refusal None k (length xs) class offset) (sym is)
+    ∙ ap (λ k. add_refusal k o (length xs) class offset) (sym unnamed))
+
 pub none_named : (o : Option ℕ) → false ≡ is_some o → o ≡ None
 none_named None e = refl
 none_named (Some i) e = absurd (let z : ⊥ = cc in z)

@@ -1,8 +1,7 @@
 -- Loops over the adaptors.
 use Rattle.std.proofs.Common.{◌≡◌, ℕ, zero, suc, ◌+◌, ◌≤◌, ◌<◌, Bool, true, false, ◌||◌, ◌&&◌, ◌==◌, not, List, [], ◌∷◌, length, Some, ap, sym, ◌∙◌, refl, arith, eqb-true, eq-eqb, bytes_eq, if◌then◌else◌}
-use Rattle.std.specs.Prelude.{slice_get, slice_set, slice_index, slice_index_or}
-use Rattle.std.proofs.lemmas.Option.{same_Some, none-some, slice_get-get_or}
-use Rattle.chk_reading.specs.declared.adaptor.Phase.{Phase}
+use Rattle.std.specs.Prelude.{slice_get, slice_set, slice_index}
+use Rattle.std.proofs.lemmas.Option.{same_Some, none-some}
 use Rattle.chk_reading.specs.Adaptors.{Adaptor, is_past, stopped}
 use Rattle.chk_delivery.specs.Turns.{is_one_of}
 use Rattle.chk_agent.specs.Adds.{named_in}
@@ -226,39 +225,23 @@ past_one x committed i (suc j) (y ∷ xs) a at is =
 -- ---- the loop over them
 
 module _ (committed : List ℕ) (xs now : List Adaptor) (n : ℕ)
-    (so_far : now ≡ past_to committed 0 n xs) (below : n < length xs) where
+    (so_far : now ≡ past_to committed 0 n xs) where
   -- the next one is as it was
-  pub past_at : (d : Adaptor) → slice_get xs n ≡ Some (slice_index_or now n d)
-  past_at d =
-      let size : length now ≡ length xs = ap length so_far ∙ past_size committed 0 n xs in
-      sym (past_behind committed 0 n n xs (omega arith))
-      ∙ (ap (λ ys. slice_get ys n) (sym so_far)
-      ∙ slice_get-get_or now n d (omega (arith, below, size)))
+  pub past_as_was : slice_get xs n ≡ slice_get now n
+  past_as_was =
+      sym (past_behind committed 0 n n xs (omega arith)) ∙ ap (λ ys. slice_get ys n) (sym so_far)
 
-  -- whether it is past, as it was asked
-  phase_at : (d r : Adaptor) (phase : Phase) (b : Bool) → phase ≡ (slice_index_or now n r).phase
-      → b ≡ is_past phase
-      → is_past (slice_index_or now n d).phase ≡ b
-  phase_at d r phase b is asked =
-      let same : slice_index_or now n d ≡ slice_index_or now n r =
-      same_Some (slice_index_or now n d) (slice_index_or now n r) (sym (past_at d) ∙ past_at r) in
-      ap (λ (k : Adaptor). is_past k.phase) same ∙ (ap is_past (sym is) ∙ sym asked)
-
-  pub one_past : (d r : Adaptor) (phase : Phase) (b : Bool)
-      → phase ≡ (slice_index_or now n r).phase → b ≡ is_past phase → b ≡ false
-      → slice_set now n (stopped (slice_index committed n)
-      (slice_index_or now n d)) ≡ past_to committed 0 (n + 1) xs
-  one_past d r phase b is asked live =
-      ap (λ ys. slice_set ys n (stopped (slice_index committed n) (slice_index_or now n d))) so_far
-      ∙ (past_next committed 0 n n xs (slice_index_or now n d) (past_at d)
-      (phase_at d r phase b is asked ∙ live) (omega arith)
+  pub one_past : (a : Adaptor) → slice_get now n ≡ Some a → {b : Bool} → b ≡ is_past a.phase
+      → b ≡ false
+      → slice_set now n (stopped (slice_index committed n) a) ≡ past_to committed 0 (n + 1) xs
+  one_past a at asked live =
+      ap (λ ys. slice_set ys n (stopped (slice_index committed n) a)) so_far
+      ∙ (past_next committed 0 n n xs a (past_as_was ∙ at) (sym asked ∙ live) (omega arith)
       ∙ ap (λ k. past_to committed 0 k xs) (let z : suc n ≡ n + 1 = omega arith in z))
 
-  pub none_past : (r : Adaptor) (phase : Phase) (b : Bool)
-      → phase ≡ (slice_index_or now n r).phase → b ≡ is_past phase → b ≡ true
-      → now ≡ past_to committed 0 (n + 1) xs
-  none_past r phase b is asked gone =
+  pub none_past : (a : Adaptor) → slice_get now n ≡ Some a → {b : Bool} → b ≡ is_past a.phase
+      → b ≡ true → now ≡ past_to committed 0 (n + 1) xs
+  none_past a at asked gone =
       so_far
-      ∙ (past_kept committed 0 n xs (slice_index_or now n r) (past_at r)
-      (phase_at r r phase b is asked ∙ gone)
+      ∙ (past_kept committed 0 n xs a (past_as_was ∙ at) (sym asked ∙ gone)
       ∙ ap (λ k. past_to committed 0 k xs) (let z : suc n ≡ n + 1 = omega arith in z))

@@ -18,7 +18,9 @@ pub mod FillingOrder
 pub mod FillingOn
 pub mod FillingPieces
 pub mod StartingLists
+pub mod StartingTables
 pub mod AddingFound
+pub mod TableFound
 pub mod StartingLooks
 pub mod StartingTold
 pub mod StartingFinds
@@ -31,6 +33,7 @@ pub mod AddingLines
 pub mod AddingNew
 pub mod AddingTold
 pub mod AddingKept
+pub mod AddingAgain
 pub mod NamingFirst
 pub mod TalkingTold
 pub mod TalkingSound

@@ -234,3 +234,17 @@ pub name_for : (s : State) (adaptors : List Adaptor) (n : ℕ) → adaptors ≡ 
     → name ≡ default_name n → IsNameFor s None name
 name_for s adaptors n same least name is =
     let h = subst (λ xs. IsLeastFree xs n) same least in (n, h.some, is, subst (λ m. named_in m 0 s.adaptors ≡ None) (sym is) h.free, h.least)
+
+-- there is a name for each `add`
+pub a_name : (s : State) → length s.adaptors ≤ 10000 → (given : Option (List ℕ))
+    → (name : List ℕ) × IsNameFor s given name
+a_name s few (Some name) = (name, refl)
+a_name s few None = go (position not (marked (unmarked (length s.adaptors)) s.adaptors)) refl
+  where
+    go : (o : Option ℕ) → position not (marked (unmarked (length s.adaptors)) s.adaptors) ≡ o
+        → (name : List ℕ) × IsNameFor s None name
+    go None e = absurd (one_free s.adaptors e)
+    go (Some n) e = (
+      default_name n,
+      name_for s s.adaptors n refl (least_free s.adaptors few n e) (default_name n) refl,
+    )

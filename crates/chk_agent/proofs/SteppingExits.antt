@@ -1,8 +1,8 @@
 -- The exits of a step of one adaptor: what it leaves at each, and what the told history then holds.
-use Rattle.std.proofs.Common.{◌≡◌, ℕ, zero, suc, ◌+◌, ◌<◌, ◌^◌, true, false, List, [], ◌∷◌, length, Some, Option, Result, Ok, Err, ap, sym, subst, ◌∙◌, refl, arith, is_ok, true≢false, bytes_eq, get_or}
+use Rattle.std.proofs.Common.{◌≡◌, ℕ, zero, suc, ◌+◌, ◌<◌, ◌^◌, true, false, List, [], ◌∷◌, length, Some, Option, Result, Ok, Err, ap, sym, subst, ◌∙◌, refl, arith, is_ok, true≢false, bytes_eq}
 use Rattle.std.specs.Prelude.{IsTrue, IfOk, Contains, slice_get, slice_index, slice_set}
 use Rattle.std.proofs.lemmas.Bool.{ltb-true}
-use Rattle.std.proofs.lemmas.Option.{same_Some, slice_get_read}
+use Rattle.std.proofs.lemmas.Option.{same_Some}
 use Rattle.chk_bytes.specs.declared.NoMemory.{NoMemory as Wanting}
 use Rattle.chk_bytes.specs.Numbers.{limit}
 use Rattle.chk_bytes.specs.Words.{is_word}
@@ -45,6 +45,7 @@ use Rattle.chk_agent.specs.Fills.{queued, after_step, step_answer, IsOneStepped,
 use Rattle.chk_agent.specs.Facts.{Holds, Matches, AfterStep, AtEndOf}
 use Rattle.chk_agent.specs.Fits.{mark_line, IsMarked, IsSound}
 use Rattle.chk_agent.specs.Within.{chunk_made}
+use Rattle.chk_adaptors.specs.Adaptors.{Held, StepsAt}
 use Rattle.chk_agent.proofs.SteppingWalks.{given_size, GivenFrom, WalkEnds, walk_ends}
 use Rattle.chk_agent.proofs.SteppingSound.{spelled_of, known_end, sound_step, valid_given}
 use Rattle.chk_agent.proofs.SteppingHolds.{IsValid}
@@ -83,10 +84,9 @@ read_within a h = go a.marks h.placed.rises (λ m one. ltb-true a.read.offset li
 
 -- ---- a step that was made or refused
 
-module _ (s : State) (sound : IsSound s) (i : ℕ) (a b : Adaptor) (at : slice_get s.adaptors i ≡ Some a) where
-  abbrev At : List Adaptor
-  At = slice_set s.adaptors i b
-
+-- `At` are the adaptors then: the one at this number is another one
+module _ (s : State) (sound : IsSound s) (i : ℕ) (a b : Adaptor) (at : slice_get s.adaptors i ≡ Some a)
+    (At : List Adaptor) (set : At ≡ slice_set s.adaptors i b) where
   module _ (step : Step) {old new : Option History} (st : IsStepped (process s) a (Ok step) b old new) where
     ends : WalkEnds (way_of (process s) a) step a.read st.next st.marks
     ends = walk_ends (way_of (process s) a) step st.next a.read st.marks st.walks
@@ -108,12 +108,17 @@ module _ (s : State) (sound : IsSound s) (i : ℕ) (a b : Adaptor) (at : slice_g
         → IsSoundTable s.delivery.table → IsSoundDelivery d → IsSound (record s { adaptors = At; last = Some i; delivery = d })
     made_sound given on placed d is table left =
         let b_is : b ≡ stepped st.marks st.next (Ok step) a = st.is in
-        subst IsSound (λ k. record s { adaptors = slice_set s.adaptors i (sym b_is k); last = Some i; delivery = sym is k })
+        subst IsSound
+        (sym (λ k. record s {
+          adaptors = (set ∙ ap (slice_set s.adaptors i) b_is) k;
+          last = Some i;
+          delivery = is k;
+        }))
         (sound_step s sound i a at step st.next st.marks ends on (ends_within given) (subst IsPlaced b_is placed) table.as_many
         (subst IsSoundDelivery is left))
 
     made_is : (d : Delivery) → d ≡ queued s i a step s.delivery → record s { adaptors = At; last = Some i; delivery = d } ≡ after_step i step a b s
-    made_is d is = λ k. record s { adaptors = At; last = Some i; delivery = is k }
+    made_is d is = λ k. record s { adaptors = set k; last = Some i; delivery = is k }
 
     pub made_state : (d : Delivery) → d ≡ queued s i a step s.delivery → is_held s.delivery ≡ false
         → IsOneStepped i a s (Ok (step_answer step)) (record s { adaptors = At; last = Some i; delivery = d }) old new
@@ -131,8 +136,9 @@ module _ (s : State) (sound : IsSound s) (i : ℕ) (a b : Adaptor) (at : slice_g
     undone_state room = unkept b step room st
 
   -- the adaptor is as it was
-  pub own_state : (c : Adaptor) → c ≡ a → record s { adaptors = slice_set s.adaptors i c } ≡ s
-  own_state c is = (λ k. record s { adaptors = slice_set s.adaptors i (is k) }) ∙ (λ k. record s { adaptors = set_own s.adaptors i a at k })
+  pub own_state : b ≡ a → record s { adaptors = At } ≡ s
+  own_state is =
+      λ k. record s { adaptors = (set ∙ (ap (slice_set s.adaptors i) is ∙ set_own s.adaptors i a at)) k }
 
   -- ---- the chunk of what was given
 
@@ -185,32 +191,35 @@ reader_at_end s sound i a at =
       past = past.past;
     }
 
-pub end_on : (s : State) (sound : IsSound s) (i : ℕ) (a b : Adaptor) (at : slice_get s.adaptors i ≡ Some a) {old new : Option History}
+pub end_on : (s : State) (sound : IsSound s) (i : ℕ) (a b : Adaptor) (at : slice_get s.adaptors i ≡ Some a)
+    (xs : List Adaptor) (set : xs ≡ slice_set s.adaptors i b) {old new : Option History}
     → IsStepped (process s) a (Ok AtEnd) b old new → (stamped : List (List ℕ)) → s.ready ≡ true → IsTrue (is_after_text a.read.after) → IsPlaced b
     → Adds old new (Leads (As stamped (process s)) (Matches stamped s)
-    (AfterStep stamped i (record s { adaptors = slice_set s.adaptors i b; last = Some i }) (Ok step_at_end)))
-end_on s sound i a b at {old = old} {new = new} st stamped ready named placed =
+    (AfterStep stamped i (record s { adaptors = xs; last = Some i }) (Ok step_at_end)))
+end_on s sound i a b at xs set {old = old} {new = new} st stamped ready named placed =
     leads_as (λ h x. x) (λ h x. record {
       matches = x.0;
       whole = λ run c there.
-          let same : c ≡ b = sym (same_Some b c (sym (set_there s.adaptors i b (below_at s.adaptors i a at)) ∙ there)) in
+          let same : c ≡ b = sym (same_Some b c (sym (ap (λ ys. slice_get ys i) set
+          ∙ set_there s.adaptors i b (below_at s.adaptors i a at)) ∙ there)) in
           let stream : stream_at s.source c ≡ stream_at s.source a =
           ap (stream_at s.source) same ∙ stream_stepped s.source a b (Ok AtEnd) st in
           ap (whole_end h) stream ∙ ((x.1.alive run).holds.two ∙ sym (ap (λ (c : Adaptor). c.read.offset) (same ∙ st.is)));
     })
-    (leads_both (made_on s sound i a b at AtEnd st stamped ready named placed tt s.delivery refl)
+    (leads_both (made_on s sound i a b at xs set AtEnd st stamped ready named placed tt s.delivery refl)
     (leads_as (λ h x. record { legal = x.legal; may_act = x.may_act; alive = λ run. x.alive run ready }) (λ h x. x)
     (walk_ends_told stamped s.source sound.source s.cluster s.saved (read_line a) st.next (Holds s) (state_grows stamped s sound) a.read st.marks
     (reader_at_end s sound i a at) named (λ h x. (x.readers a (in_at s.adaptors i a at)).read) st.walks)))
 
 -- ---- at a log that is shorter than the place, which never comes
 
-pub short_on : (s : State) (sound : IsSound s) (i : ℕ) (a b : Adaptor) (at : slice_get s.adaptors i ≡ Some a) (had size : ℕ)
+pub short_on : (s : State) (sound : IsSound s) (i : ℕ) (a b : Adaptor) (at : slice_get s.adaptors i ≡ Some a)
+    (xs : List Adaptor) (set : xs ≡ slice_set s.adaptors i b) (had size : ℕ)
     {old new : Option History} → IsStepped (process s) a (Ok (is_short had size)) b old new → (stamped : List (List ℕ)) → s.ready ≡ true
     → IsTrue (is_after_text a.read.after) → IsPlaced b
     → Adds old new (Leads (As stamped (process s)) (Matches stamped s)
-    (AfterStep stamped i (record s { adaptors = slice_set s.adaptors i b; last = Some i }) (Ok (step_shrank had size))))
-short_on s sound i a b at had size st stamped ready named placed =
+    (AfterStep stamped i (record s { adaptors = xs; last = Some i }) (Ok (step_shrank had size))))
+short_on s sound i a b at xs set had size st stamped ready named placed =
     leads_as (λ h x. record { legal = x.legal; may_act = x.may_act; alive = λ run. x.alive run ready })
     (λ h x.
     let never : is_stopped h ≡ false → ⊥ = λ run. (x.alive run).holds.two.long in
@@ -239,9 +248,24 @@ was_stepped w s x a b got result {old = old} {new = new} role name same is step 
   placed = placed;
 }
 
--- the one at an index
-pub at_index : (xs : List Adaptor) (i : ℕ) (x a : Adaptor) → slice_get xs i ≡ Some a → x ≡ get_or xs i x → x ≡ a
-at_index xs i x a at is = same_Some x a (sym (slice_get_read xs (length xs) i x refl (below_at xs i a at) is) ∙ at)
+-- what a step of the adaptor at a number made, as its call tells
+pub record SteppedAt (s : State) (i : ℕ) (a : Adaptor) (xs : List Adaptor) (result : Result Step OutsideFault)
+    (old new : Option History) : Type 0 where
+  pub b : Adaptor
+  pub there : slice_get xs i ≡ Some b
+  pub set : xs ≡ slice_set s.adaptors i b
+  pub was : WasStepped s a b result old new
+
+pub stepped_at : (w : Who) (s : State) (i : ℕ) (a : Adaptor) (h k : Held) (got result : Result Step OutsideFault)
+    {old new : Option History} → w.role ≡ Agent → w.name ≡ s.source → h.items ≡ s.adaptors → got ≡ result
+    → StepsAt i w a h got k old new → IsTrue (is_after_text a.read.after)
+    → ((b : Adaptor) → slice_get k.items i ≡ Some b → IsPlaced b) → SteppedAt s i a k.items result old new
+stepped_at w s i a h k got result role name same is st named placed = record {
+  b = st.adaptor;
+  there = st.there;
+  set = ap (λ (h : Held). h.items) st.others ∙ ap (λ xs. slice_set xs i st.adaptor) same;
+  was = was_stepped w s a a st.adaptor got result role name refl is st.made named (placed st.adaptor st.there);
+}
 
 -- the chunk that was kept
 pub put_is : (r : Result Chunk Wanting) (c : Chunk) (i : ℕ) (d e : Delivery) → is_ok r ≡ true → IfOk r (λ k. k ≡ c) → IfOk r (λ k. e ≡ with_chunk i k d)
@@ -250,8 +274,11 @@ put_is (Ok k) c i d e there is put = put ∙ ap (λ k. with_chunk i k d) is
 put_is (Err fault) c i d e there is put = absurd (true≢false (sym there))
 
 -- an adaptor that was put back leaves the state as it was
-pub undone_is : (s : State) (i : ℕ) (a b c : Adaptor) (d : Delivery) → slice_get s.adaptors i ≡ Some a → c ≡ a → d ≡ s.delivery
-    → record s { adaptors = slice_set (slice_set s.adaptors i b) i c; delivery = d } ≡ s
-undone_is s i a b c d at is kept =
-    (λ k. record s { adaptors = slice_set (slice_set s.adaptors i b) i (is k); delivery = kept k })
-    ∙ (λ k. record s { adaptors = (set_twice s.adaptors i b a ∙ set_own s.adaptors i a at) k })
+pub undone_is : (s : State) (i : ℕ) (a b : Adaptor) (xs ys : List Adaptor) (d : Delivery) → slice_get s.adaptors i ≡ Some a
+    → xs ≡ slice_set s.adaptors i b → ys ≡ slice_set xs i a → d ≡ s.delivery
+    → record s { adaptors = ys; delivery = d } ≡ s
+undone_is s i a b xs ys d at set back kept =
+    λ k. record s {
+      adaptors = (back ∙ (ap (λ zs. slice_set zs i a) set ∙ (set_twice s.adaptors i b a ∙ set_own s.adaptors i a at))) k;
+      delivery = kept k;
+    }

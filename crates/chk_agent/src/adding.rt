@@ -59,7 +59,7 @@ impl Agent {
         let found = self.find_stream(kind, path);
         match found {
             Some(place) => {
-                let adaptor = &self.adaptors[place as usize];
+                let adaptor = self.adaptors.at(place);
                 if !is_past(adaptor.phase()) {
                     return Ok(Added::Live { adaptor: place });
                 }
@@ -69,13 +69,11 @@ impl Agent {
             }
             None => {
                 let count = self.adaptors.len();
-                if count == MOST_LINES {
+                if count as usize == MOST_LINES {
                     return Ok(Added::TooMany);
                 }
                 self.take_named(alloc, site, class, kind, path, found)?;
-                Ok(Added::New {
-                    adaptor: count as u32,
-                })
+                Ok(Added::New { adaptor: count })
             }
         }
     }
@@ -105,14 +103,12 @@ impl Agent {
         self.take_stream(alloc, site, name, class, kind, path, 0, found)
     }
 
-    /// The number of the adaptor of this type and path, a past one too. It is one pass.
-    pub(crate) fn find_stream(&self, kind: &Word, path: &Word) -> Option<u32>
+    /// The number of the adaptor of this type and path, a past one too. It is found by its hash;
+    /// where there is no memory for the words that are hashed, it is one pass.
+    pub fn find_stream(&self, kind: &Word, path: &Word) -> Option<u32>
         ensures { result ≡ option_map (λ (f : Found). f.number) (stream_in kind.now path.now 0 self.now.adaptors) }
     {
-        match place_of(&self.adaptors, kind, path) {
-            Some(place) => Some(place as u32),
-            None => None,
-        }
+        self.adaptors.find(kind, path)
     }
 
     /// The least default name that no live adaptor has. It is one pass over the adaptors, and takes
@@ -121,7 +117,7 @@ impl Agent {
         ensures name { IfOk result (IsNameFor self.now None) }
         ensures good { IfOk result (λ name. IsTrue (is_name name)) }
     {
-        let number = least_free(alloc, &self.adaptors)?;
+        let number = least_free(alloc, self.adaptors.as_slice())?;
         name_of(alloc, number)
     }
 
@@ -179,9 +175,10 @@ impl Agent {
         ensures cause { AgentCause (S.fault_count site.old) (S.fault_count site.new) result }
     {
         let check = self.lines_revived(alloc, place, &name)?;
+        let key = self.adaptors.room_for_name(&name)?;
         match self.write_lines(alloc, site, &check) {
             Ok(()) => {
-                self.adaptors[place as usize].revive(name);
+                self.adaptors.revive(place, name, key);
                 self.saved = check.lines;
                 Ok(())
             }
@@ -218,7 +215,7 @@ impl Agent {
             → lines_of check ≡ lines_now (revived_at self.now place name.now a)) }
     {
         let name = name.copy()?;
-        let mut check = lines_now(alloc, &self.adaptors, &self.delivery)?;
+        let mut check = lines_now(alloc, self.adaptors.as_slice(), &self.delivery)?;
         let line = &mut check.lines[place as usize];
         line.name = name;
         line.live = true;
@@ -360,10 +357,8 @@ impl Agent {
         ensures cause { AgentCause (S.fault_count site.old) (S.fault_count site.new) result }
     {
         let _used = self.delivery.used();
-        let number = self.adaptors.len() as u32;
-        if self.adaptors.reserve(1).is_err() {
-            return Err(AgentFault::NoMemory);
-        }
+        let number = self.adaptors.len();
+        let keys = self.adaptors.room_for(&adaptor)?;
         match self.write_lines(alloc, site, &check) {
             Ok(()) => {}
             Err(OutsideFault::NoMemory) => return Err(AgentFault::NoMemory),
@@ -374,7 +369,7 @@ impl Agent {
         }
         self.delivery.begin(number, start);
         let _begun = self.delivery.used();
-        self.adaptors.push_reserved(adaptor);
+        self.adaptors.add(keys, adaptor);
         self.saved = check.lines;
         Ok(())
     }
@@ -390,7 +385,7 @@ impl Agent {
         requires to { start ≤ adaptor.now.read.offset }
         ensures { IfOk result (λ check. lines_of check ≡ lines_now self.now ++ line_at start adaptor.now ∷ []) }
     {
-        let mut check = lines_now(alloc, &self.adaptors, &self.delivery)?;
+        let mut check = lines_now(alloc, self.adaptors.as_slice(), &self.delivery)?;
         check.lines.push(adaptor.line(alloc, start)?)?;
         Ok(check)
     }
@@ -414,20 +409,4 @@ fn copies(kind: &Word, path: &Word) -> Result<StreamWords, NoMemory>
         kind: kind.copy()?,
         path: path.copy()?,
     })
-}
-
-// The place of the first adaptor of this type and path.
-fn place_of(adaptors: &[Adaptor], kind: &Word, path: &Word) -> Option<usize>
-    ensures { result ≡ position (λ (a : Reading). bytes_eq a.kind kind.now && bytes_eq a.path path.now) adaptors.now }
-{
-    adaptors
-        .iter()
-        .position(|adaptor| is_of(adaptor, kind, path))
-}
-
-// Whether the adaptor is of this type and path.
-fn is_of(adaptor: &Adaptor, kind: &Word, path: &Word) -> bool
-    ensures { result ≡ bytes_eq adaptor.now.kind kind.now && bytes_eq adaptor.now.path path.now }
-{
-    adaptor.kind().as_str() == kind.as_str() && adaptor.path().as_str() == path.as_str()
 }

@@ -6,11 +6,12 @@ ghost use Rattle.chk_agent.specs.States.{committed_at};
 ghost use Rattle.chk_agent.specs.Fits.{IsSound};
 ghost use Rattle.chk_agent.specs.Commands.{state_of};
 
+use chk_adaptors::Adaptors;
 use chk_bytes::Word;
 use chk_checkpoint::CheckLine;
 use chk_control::State;
 use chk_delivery::Delivery;
-use chk_reading::{Adaptor, Phase};
+use chk_reading::Phase;
 use chk_site::Who;
 use std::marker::Model;
 
@@ -32,12 +33,13 @@ pub struct Rules {
 /// An agent at work.
 ///
 /// It holds the data of its queue, 52 bytes a row and 88 for each run of rows of one sink, 160 KB for
-/// 10,000 adaptors, the words of each adaptor's line, and one message at a time while it is sent.
+/// 10,000 adaptors, the words of each adaptor's line twice, and one message at a time while it is
+/// sent.
 #[derive(Drop)]
 pub struct Agent {
     pub(crate) who: Who,
     pub(crate) cluster: Word,
-    pub(crate) adaptors: Vec<Adaptor>,
+    pub(crate) adaptors: Adaptors,
     pub(crate) last: Option<u32>,
     pub(crate) delivery: Delivery,
     pub(crate) saved: Vec<CheckLine>,
@@ -72,7 +74,7 @@ impl Agent {
     pub fn adaptors(&self) -> u32
         ensures { result ≡ length self.now.adaptors }
     {
-        self.adaptors.len() as u32
+        self.adaptors.len()
     }
 
     /// The offset up to which the adaptor's log was read.
@@ -80,7 +82,7 @@ impl Agent {
         requires { adaptor < length self.now.adaptors }
         ensures { (a : Reading) → slice_get self.now.adaptors adaptor ≡ Some a → result ≡ a.read.offset }
     {
-        self.adaptors[adaptor as usize].read_end()
+        self.adaptors.at(adaptor).read_end()
     }
 
     /// The offset up to which the adaptor's stream is committed.
@@ -96,7 +98,7 @@ impl Agent {
         requires { adaptor < length self.now.adaptors }
         ensures { (a : Reading) → slice_get self.now.adaptors adaptor ≡ Some a → result.now ≡ a.kind }
     {
-        self.adaptors[adaptor as usize].kind().as_str()
+        self.adaptors.at(adaptor).kind().as_str()
     }
 
     /// The path of the adaptor's log.
@@ -104,7 +106,7 @@ impl Agent {
         requires { adaptor < length self.now.adaptors }
         ensures { (a : Reading) → slice_get self.now.adaptors adaptor ≡ Some a → result.now ≡ a.path }
     {
-        self.adaptors[adaptor as usize].path().as_str()
+        self.adaptors.at(adaptor).path().as_str()
     }
 
     /// How the adaptor stands; none for a past one.
@@ -112,7 +114,7 @@ impl Agent {
         requires { adaptor < length self.now.adaptors }
         ensures { (a : Reading) → slice_get self.now.adaptors adaptor ≡ Some a → result ≡ state_of a.phase }
     {
-        match self.adaptors[adaptor as usize].phase() {
+        match self.adaptors.at(adaptor).phase() {
             Phase::Live => Some(State::Live),
             Phase::Stopping { .. } => Some(State::Stopping),
             Phase::Shrank => Some(State::Shrank),

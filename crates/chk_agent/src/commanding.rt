@@ -1,7 +1,7 @@
 //! The control lines of an agent.
 
 ghost use Rattle.std.specs.Prelude.{◌≡◌, ◌≤◌, ◌<◌, ℕ, Bool, List, [], ◌∷◌, ◌++◌, Option, Some, true, false, length, slice_get, slice_set, slice_index};
-ghost use Rattle.std.specs.Prelude.{IsTrue, IfOk, IfSome, OnOk, option_map};
+ghost use Rattle.std.specs.Prelude.{IsTrue, IfOk, IfSome, OnOk, is_some, option_map};
 ghost use Rattle.chk_site.specs.Site.{Adds};
 ghost use Rattle.chk_site.specs.Runs.{Leads};
 ghost use Rattle.chk_control.specs.declared.commands.Command.TheVariants.{Add, List as ListAll, ReloadCollectors, Stop, StopAll, Shutdown};
@@ -21,6 +21,7 @@ ghost use Rattle.chk_agent.specs.Commands.{IsCommand, RunsPlainly, adds_none, ad
 
 use crate::agent::Agent;
 use crate::answers::{AgentFault, Reply, Then};
+use chk_adaptors::Adaptors;
 use chk_bytes::{Bytes, NoMemory, Word};
 use chk_checkpoint::MOST_LINES;
 use chk_control::{Answer, Class, Command, LineFault, State, read_line, write_answer};
@@ -83,11 +84,11 @@ impl Agent {
         ensures last { Adds (S.told site.old) (S.told site.new) (FailsLast result) }
         ensures cause { AgentCause (S.fault_count site.old) (S.fault_count site.new) result }
     {
-        let name = self.name_for(alloc, given)?;
         let found = self.find_stream(kind, path);
-        if let Some(number) = self.refusal_of(&name, kind, path, found, class, offset) {
+        if let Some(number) = self.refusal_of(&given, kind, path, found, class, offset) {
             return answer(alloc, Answer::Bad { number }, Then::Go);
         }
+        let name = self.name_for(alloc, given)?;
         let reply = answer(alloc, Answer::Added { name: name.copy()? }, Then::Go)?;
         self.take_stream(alloc, site, name, class, kind, path, offset, found)?;
         Ok(reply)
@@ -105,10 +106,11 @@ impl Agent {
         }
     }
 
-    // The number of the refusal, where a stream can't be added so. `found` is its adaptor.
+    // The number of the refusal, where a stream can't be added so. `found` is its adaptor. A default
+    // name is one that no live adaptor has.
     fn refusal_of(
         &self,
-        name: &Word,
+        given: &Option<Word>,
         kind: &Word,
         path: &Word,
         found: Option<u32>,
@@ -116,19 +118,31 @@ impl Agent {
         offset: u64,
     ) -> Option<u8>
         requires { found ≡ option_map (λ (f : Found). f.number) (stream_in kind.now path.now 0 self.now.adaptors) }
-        ensures refusal { result ≡ add_refusal (named_in name.now 0 self.now.adaptors)
+        ensures refusal { (name : List ℕ) → IsNameFor self.now given.now name
+            → result ≡ add_refusal (named_in name 0 self.now.adaptors)
             (stream_in kind.now path.now 0 self.now.adaptors) (length self.now.adaptors) class offset }
         ensures few { length self.now.adaptors ≤ 10000 }
         ensures known { IfSome result (λ n. (1 ≤ n) × (n ≤ 14)) }
     {
-        let adaptors = self.adaptors.as_slice();
-        if named_in(adaptors, name).is_some() {
+        let count = self.adaptors.len();
+        if self.is_taken(given) {
             return Some(9);
         }
         match found {
-            None if adaptors.len() == MOST_LINES => Some(11),
+            None if count as usize == MOST_LINES => Some(11),
             None => None,
-            Some(place) => refusal_by(&adaptors[place as usize], class, offset),
+            Some(place) => refusal_by(self.adaptors.at(place), class, offset),
+        }
+    }
+
+    // A live adaptor has the given name.
+    fn is_taken(&self, given: &Option<Word>) -> bool
+        ensures { (name : List ℕ) → IsNameFor self.now given.now name
+            → result ≡ is_some (named_in name 0 self.now.adaptors) }
+    {
+        match given {
+            Some(name) => self.adaptors.named(name).is_some(),
+            None => false,
         }
     }
 
@@ -182,14 +196,14 @@ impl Agent {
     fn stop(&mut self, alloc: Global, name: Word) -> Result<Reply, AgentFault>
         ensures { RunsPlainly (Ok (Stop name)) self.old result self.new }
     {
-        let Some(place) = named_in(self.adaptors.as_slice(), &name) else {
+        let Some(place) = self.adaptors.named(&name) else {
             return answer(alloc, Answer::Bad { number: 12 }, Then::Go);
         };
         let reply = answer(alloc, Answer::Stopped { name }, Then::Go)?;
         self.delivery.stop(alloc, &[place])?;
         let _used = self.delivery.used();
         let committed = self.delivery.committed_end(place);
-        stop_one(self.adaptors.as_mut_slice(), place, committed);
+        self.adaptors.stop(place, committed);
         Ok(reply)
     }
 
@@ -202,7 +216,7 @@ impl Agent {
         let reply = answer(alloc, Answer::StoppedAll { count }, Then::Go)?;
         self.delivery.stop(alloc, gone.as_slice())?;
         let _used = self.delivery.used();
-        stop_live(self.adaptors.as_mut_slice(), &self.delivery);
+        stop_live(&mut self.adaptors, &self.delivery);
         Ok(reply)
     }
 
@@ -210,11 +224,11 @@ impl Agent {
     fn shut_down(&mut self, alloc: Global, name: Word) -> Result<Reply, AgentFault>
         ensures { RunsPlainly (Ok (Shutdown name)) self.old result self.new }
     {
-        let Some(place) = named_in(self.adaptors.as_slice(), &name) else {
+        let Some(place) = self.adaptors.named(&name) else {
             return answer(alloc, Answer::Bad { number: 12 }, Then::Go);
         };
         let reply = answer(alloc, Answer::Stopping { name }, Then::Go)?;
-        end_one(self.adaptors.as_mut_slice(), place);
+        self.adaptors.shut_down(place);
         Ok(reply)
     }
 }
@@ -240,19 +254,6 @@ fn answer(alloc: Global, answer: Answer, then: Then) -> Result<Reply, AgentFault
     let mut text = Bytes::new(alloc);
     write_answer(&mut text, &answer)?;
     Ok(Reply { text, then })
-}
-
-// The number of the adaptor of this name that isn't past.
-fn named_in(adaptors: &[Adaptor], name: &Word) -> Option<u32>
-    requires { length adaptors.now ≤ 10000 }
-    ensures { result ≡ named_in name.now 0 adaptors.now }
-{
-    for (i, adaptor) in adaptors.iter().enumerate() {
-        if !is_past(adaptor.phase()) && adaptor.name().as_str() == name.as_str() {
-            return Some(i as u32);
-        }
-    }
-    None
 }
 
 /// The adaptor has ended.
@@ -297,40 +298,20 @@ fn live_numbers(alloc: Global, adaptors: &[Adaptor]) -> Result<Vec<u32>, NoMemor
     Ok(gone)
 }
 
-// The adaptor of this number is to end.
-fn end_one(adaptors: &mut [Adaptor], place: u32)
-    requires { place < length adaptors.old }
-    ensures { (a : Reading) → slice_get adaptors.old place ≡ Some a
-        → adaptors.new ≡ slice_set adaptors.old place (shut_down a) }
-{
-    adaptors[place as usize].shut_down();
-}
-
-// The adaptor of this number is past, at this committed end.
-fn stop_one(adaptors: &mut [Adaptor], place: u32, committed: u64)
-    requires there { place < length adaptors.old }
-    requires from { (a : Reading) → slice_get adaptors.old place ≡ Some a → BeginsBelow committed a.marks }
-    requires to { (a : Reading) → slice_get adaptors.old place ≡ Some a → committed ≤ a.read.offset }
-    ensures { (a : Reading) → slice_get adaptors.old place ≡ Some a
-        → adaptors.new ≡ slice_set adaptors.old place (stopped committed a) }
-{
-    adaptors[place as usize].stop(committed);
-}
-
 // Each adaptor is past, at its committed end.
-fn stop_live(adaptors: &mut [Adaptor], delivery: &Delivery)
-    requires few { length adaptors.old ≤ 10000 }
-    requires known { length adaptors.old ≤ length delivery.now.table.committed }
-    requires from { (i : ℕ) (a : Reading) → slice_get adaptors.old i ≡ Some a
+fn stop_live(adaptors: &mut Adaptors, delivery: &Delivery)
+    requires known { length adaptors.old.items ≤ length delivery.now.table.committed }
+    requires from { (i : ℕ) (a : Reading) → slice_get adaptors.old.items i ≡ Some a
         → BeginsBelow (slice_index delivery.now.table.committed i) a.marks }
-    requires to { (i : ℕ) (a : Reading) → slice_get adaptors.old i ≡ Some a
+    requires to { (i : ℕ) (a : Reading) → slice_get adaptors.old.items i ≡ Some a
         → slice_index delivery.now.table.committed i ≤ a.read.offset }
-    ensures { adaptors.new ≡ all_past (live_from 0 adaptors.old) delivery.now.table.committed 0 adaptors.old }
+    ensures { adaptors.new.items
+        ≡ all_past (live_from 0 adaptors.old.items) delivery.now.table.committed 0 adaptors.old.items }
 {
     for place in 0..adaptors.len() {
-        if !is_past(adaptors[place].phase()) {
-            let committed = delivery.committed_end(place as u32);
-            adaptors[place].stop(committed);
+        if !is_past(adaptors.at(place).phase()) {
+            let committed = delivery.committed_end(place);
+            adaptors.stop(place, committed);
         }
     }
 }

@@ -80,7 +80,7 @@ impl Agent {
         ensures { result ≡ is_read_on (slice_get self.now.adaptors adaptor) }
     {
         matches!(
-            self.adaptors[adaptor as usize].phase(),
+            self.adaptors.at(adaptor).phase(),
             Phase::Live | Phase::Stopping { end: None }
         )
     }

@@ -18,6 +18,7 @@ ghost use Rattle.chk_agent.specs.Within.{Rising, same_line, same_place, same_suf
 use crate::agent::Agent;
 use crate::answers::{AgentFault, Settled};
 use crate::lines::lines_now;
+use chk_adaptors::Adaptors;
 use chk_checkpoint::{CheckLine, Checkpoint, write_checkpoint};
 use chk_delivery::Delivery;
 use chk_reading::{Adaptor, Phase};
@@ -47,11 +48,7 @@ impl Agent {
         let gone = self.delivery.expire(alloc, now)?;
         let _used = self.delivery.used();
         let reset = gone.as_slice().len() as u32;
-        send_back(
-            self.adaptors.as_mut_slice(),
-            &self.delivery,
-            gone.as_slice(),
-        );
+        send_back(&mut self.adaptors, &self.delivery, gone.as_slice());
         note_ended(
             check.lines.as_mut_slice(),
             self.adaptors.as_slice(),
@@ -80,7 +77,7 @@ impl Agent {
         ensures cause { AgentCause (S.fault_count site.old) (S.fault_count site.new) result }
     {
         if are_same(check.lines.as_slice(), self.saved.as_slice()) {
-            settle_all(self.adaptors.as_mut_slice(), &self.delivery);
+            settle_all(&mut self.adaptors, &self.delivery);
             return Ok(Settled {
                 reset: back,
                 written: false,
@@ -88,7 +85,7 @@ impl Agent {
         }
         match write_checkpoint(alloc, site, &self.who, &check) {
             Ok(()) => {
-                settle_all(self.adaptors.as_mut_slice(), &self.delivery);
+                settle_all(&mut self.adaptors, &self.delivery);
                 self.saved = check.lines;
                 Ok(Settled {
                     reset: back,
@@ -105,21 +102,20 @@ impl Agent {
 }
 
 // These adaptors go back to their committed ends.
-fn send_back(adaptors: &mut [Adaptor], delivery: &Delivery, gone: &[u32])
-    requires few { length adaptors.old ≤ 10000 }
-    requires known { length adaptors.old ≤ length delivery.now.table.committed }
-    requires from { (i : ℕ) (a : Reading) → slice_get adaptors.old i ≡ Some a
+fn send_back(adaptors: &mut Adaptors, delivery: &Delivery, gone: &[u32])
+    requires known { length adaptors.old.items ≤ length delivery.now.table.committed }
+    requires from { (i : ℕ) (a : Reading) → slice_get adaptors.old.items i ≡ Some a
         → BeginsBelow (slice_index delivery.now.table.committed i) a.marks }
-    requires to { (i : ℕ) (a : Reading) → slice_get adaptors.old i ≡ Some a
+    requires to { (i : ℕ) (a : Reading) → slice_get adaptors.old.items i ≡ Some a
         → slice_index delivery.now.table.committed i ≤ a.read.offset }
     requires rising { Rising 0 gone.now }
-    ensures { adaptors.new ≡ all_back gone.now delivery.now.table.committed 0 adaptors.old }
+    ensures { adaptors.new.items ≡ all_back gone.now delivery.now.table.committed 0 adaptors.old.items }
 {
     for place in 0..gone.len() {
-        let adaptor = gone[place] as usize;
+        let adaptor = gone[place];
         if adaptor < adaptors.len() {
-            let committed = delivery.committed_end(gone[place]);
-            adaptors[adaptor].back(committed);
+            let committed = delivery.committed_end(adaptor);
+            adaptors.back(adaptor, committed);
         }
     }
 }
@@ -150,14 +146,13 @@ fn stays_live(adaptor: &Adaptor, committed: u64) -> bool
 }
 
 // What lies below the committed ends is forgotten, and who has come to its end is past.
-fn settle_all(adaptors: &mut [Adaptor], delivery: &Delivery)
-    requires few { length adaptors.old ≤ 10000 }
-    requires known { length adaptors.old ≤ length delivery.now.table.committed }
-    ensures { adaptors.new ≡ settled_all adaptors.old delivery.now.table.committed }
+fn settle_all(adaptors: &mut Adaptors, delivery: &Delivery)
+    requires known { length adaptors.old.items ≤ length delivery.now.table.committed }
+    ensures { adaptors.new.items ≡ settled_all adaptors.old.items delivery.now.table.committed }
 {
     for place in 0..adaptors.len() {
-        let committed = delivery.committed_end(place as u32);
-        adaptors[place].settle(committed);
+        let committed = delivery.committed_end(place);
+        adaptors.settle(place, committed);
     }
 }
 

@@ -20,6 +20,7 @@ ghost use Rattle.chk_agent.specs.Starts.{IsFresh, Started, StartsAndReads, Finds
 use crate::agent::{Agent, Rules};
 use crate::answers::AgentFault;
 use crate::lines::lines_now;
+use chk_adaptors::Adaptors;
 use chk_bytes::{NoMemory, Word};
 use chk_checkpoint::{CheckLine, Checkpoint, MOST_LINES, load_checkpoint};
 use chk_delivery::Delivery;
@@ -120,14 +121,14 @@ fn agent_with(
     alloc: Global,
     who: &Who,
     cluster: Word,
-    adaptors: Vec<Adaptor>,
+    adaptors: Adaptors,
     delivery: Delivery,
 ) -> Result<Agent, NoMemory>
     requires role { who.now.role ≡ agent_role }
     requires sound { IsSound (begun_state who.now.name cluster adaptors.items delivery) }
     ensures { IfOk result (λ agent. agent ≡ begun_state who.now.name cluster adaptors.items delivery) }
 {
-    let saved = lines_now(alloc, &adaptors, &delivery)?;
+    let saved = lines_now(alloc, adaptors.as_slice(), &delivery)?;
     Ok(Agent {
         who: who.copy()?,
         cluster,
@@ -181,11 +182,12 @@ fn begin_all(delivery: &mut Delivery, lines: &[CheckLine])
 }
 
 // The adaptors of the lines, in their order.
-fn adaptors_of(alloc: Global, lines: Vec<CheckLine>) -> Result<Vec<Adaptor>, NoMemory>
-    requires { AreLines (map shown lines.items) }
+fn adaptors_of(alloc: Global, lines: Vec<CheckLine>) -> Result<Adaptors, NoMemory>
+    requires lines { AreLines (map shown lines.items) }
+    requires good { IsTrue (are_lines Two (map shown lines.items)) }
     ensures { IfOk result (λ adaptors. adaptors.items ≡ map adaptor_of (map shown lines.items)) }
 {
-    let mut adaptors = Vec::with_capacity(alloc, lines.len())?;
+    let mut adaptors = Adaptors::new(alloc);
     for line in lines {
         adaptors.push(Adaptor::new(alloc, line)?)?;
     }

@@ -53,9 +53,8 @@ impl Agent {
         let _sound = self.delivery.used();
         let _word = self.cluster.as_str();
         let _name = self.who.name.as_str();
-        let place = adaptor as usize;
-        let before = self.adaptors[place].before();
-        let step = self.adaptors[place].step(alloc, site, &self.who)?;
+        let before = self.adaptors.at(adaptor).before();
+        let step = self.adaptors.step(alloc, site, &self.who, adaptor)?;
         match step {
             Step::Bytes { bytes, end } => {
                 let size = bytes.as_slice().len() as u64;
@@ -63,12 +62,12 @@ impl Agent {
                     alloc,
                     &self.who,
                     &self.cluster,
-                    &self.adaptors[place],
+                    self.adaptors.at(adaptor),
                     bytes,
                     end,
                 );
                 if keep(&mut self.delivery, adaptor, chunk).is_err() {
-                    self.adaptors[place].undo(before);
+                    self.adaptors.undo(adaptor, before);
                     return Err(AgentFault::NoMemory);
                 }
                 let _used = self.delivery.used();

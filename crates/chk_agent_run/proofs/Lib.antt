@@ -12,6 +12,7 @@ pub mod Started
 pub mod Accepted
 pub mod Turned
 pub mod RunFaults
+pub mod RunCauses
 pub mod Endings
 pub mod LiveLemmas
 pub mod LineAdded

@@ -11,7 +11,7 @@ ghost use Rattle.chk_reading.specs.Adaptors.{Adaptor};
 ghost use Rattle.chk_agent.specs.States.{process};
 ghost use Rattle.chk_agent.specs.Facts.{Matches};
 ghost use Rattle.chk_agent.specs.Faults.{AgentCause, FailsLast, IsUndamaged};
-ghost use Rattle.chk_agent_run.specs.Initial.{ReadsInitial, LooksAt, reads, is_live_in, AddsStream, Wants, IsLineAdded, AreAdded};
+ghost use Rattle.chk_agent_run.specs.Initial.{ReadsInitial, LooksAt, is_live_in, AddsStream, Wants, IsLineAdded, AreAdded};
 ghost use Rattle.chk_agent_run.specs.Lent.{word_of};
 ghost use Rattle.chk_agent_run.specs.Faults.{RunCause, LastOfRun, IsNoCheckpoint};
 
@@ -67,30 +67,15 @@ fn wanted_by(alloc: Global, line: &[u8]) -> Result<Wanted, NoMemory>
     }
 }
 
-// Whether this adaptor isn't past and reads the stream.
-fn reads(agent: &Agent, number: u32, kind: &Word, path: &Word) -> bool
-    requires { number < length agent.now.adaptors }
-    ensures { (a : Adaptor) → slice_get agent.now.adaptors number ≡ Some a → result ≡ reads kind.now path.now a }
-{
-    if agent.state(number).is_none() {
-        return false;
-    }
-    if agent.kind(number) == kind.as_str() {
-        return agent.path(number) == path.as_str();
-    }
-    false
-}
-
 // Whether an adaptor that isn't past reads the stream.
 fn is_live(agent: &Agent, kind: &Word, path: &Word) -> bool
     ensures { result ≡ is_live_in kind.now path.now agent.now.adaptors }
 {
-    for number in 0..agent.adaptors() {
-        if reads(agent, number, kind, path) {
-            return true;
-        }
+    let _sound = agent.ready();
+    match agent.find_stream(kind, path) {
+        Some(number) => agent.state(number).is_some(),
+        None => false,
     }
-    false
 }
 
 // Runs a line that adds a stream, and skips one for which there is nothing to do. It says whether

@@ -12,6 +12,18 @@ use Rattle.chk_agent.specs.States.{State}
 use Rattle.chk_agent.specs.Commands.{state_of, live_from}
 use Rattle.chk_drain_run.specs.Streams.{IsPathAt, live_here}
 
+-- there is one of this number
+pub record IsOne (xs : List Adaptor) (n : ℕ) : Type 0 where
+  pub adaptor : Adaptor
+  pub at : slice_get xs n ≡ Some adaptor
+
+pub one_at : (xs : List Adaptor) (n : ℕ) → n < length xs → IsOne xs n
+one_at xs n below =
+    elim ((slice_get_cases xs n).1) [
+      | inl here ↦ record { adaptor = here.0; at = here.2 }
+      | inr past ↦ absurd (let far = past.0 in let z : ⊥ = omega (arith, below, far) in z)
+    ]
+
 pub path_found : (s : State) (i : ℕ) → i < length s.adaptors → (text : List ℕ)
     → ((a : Adaptor) → slice_get s.adaptors i ≡ Some a → text ≡ a.path)
     → (r : Result (List ℕ) NoMemory) → IfOk r (λ word. word ≡ text) → IfOk r (IsPathAt s i)

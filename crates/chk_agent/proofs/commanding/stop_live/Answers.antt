@@ -1,59 +1,74 @@
-use Rattle.std.proofs.Common.{◌≤◌, ap, sym, subst, ◌∙◌, arith}
-use Rattle.std.specs.Prelude.{slice_set, slice_index_or}
+use Rattle.std.proofs.Common.{◌≤◌, length, ap, sym, subst, ◌∙◌, arith}
+use Rattle.std.specs.Prelude.{slice_set}
 use Rattle.chk_rotate.specs.Marks.{BeginsBelow}
-use Rattle.chk_reading.specs.Adaptors.{stopped}
-use Rattle.chk_agent.proofs.CommandingLists.{past_to, past_none, past_all, past_at, one_past, none_past}
+use Rattle.chk_reading.specs.Adaptors.{is_past, stopped}
+use Rattle.chk_adaptors.specs.Adaptors.{Held}
+use Rattle.chk_agent.proofs.CommandingLists.{past_to, past_none, past_all, past_size, past_as_was, one_past, none_past}
 use Rattle.chk_agent.proofs.commanding.stop_live.Goals as goal
 use Rattle.chk_agent.proofs.commanding.stop_live.Goals.{then-not-is_past, else-not-is_past}
 
 pub loop-place-init : goal.loop-place-init
-loop-place-init c = sym (past_none c.args.delivery.now.table.committed 0 c.args.adaptors.now)
+loop-place-init c = sym (past_none c.args.delivery.now.table.committed 0 c.args.adaptors.now.items)
+
+pub at-requires : goal.at-requires
+at-requires c =
+    let l = c.loop-place in
+    let below = c.loop-place-test.true in
+    let len = c.len-place-end.ensures.len in
+    let size =
+    ap length l.invariant
+    ∙ past_size c.args.delivery.now.table.committed 0 l.place c.args.adaptors.now.items in
+    omega (arith, below, len, size)
+
+pub stop-requires-clause-there : goal.stop-requires-clause-there
+stop-requires-clause-there c =
+    let l = c.loop-place in
+    let below = c.loop-place-test.true in
+    let len = c.len-place-end.ensures.len in
+    let size =
+    ap length l.invariant
+    ∙ past_size c.args.delivery.now.table.committed 0 l.place c.args.adaptors.now.items in
+    omega (arith, below, len, size)
 
 pub stop-requires-clause-from : goal.stop-requires-clause-from
-stop-requires-clause-from c =
+stop-requires-clause-from c a at =
     let l = c.loop-place in
-    let d = c.index-adaptors-place-then-not-is_past.result in
-    let a = slice_index_or l.adaptors l.place d in
     subst (λ o. BeginsBelow o a.marks) (sym c.committed_end-committed.ensures)
-    (c.requires.from l.place a (past_at c.args.delivery.now.table.committed c.args.adaptors.now
-    l.adaptors l.place l.invariant c.loop-place-test.true d))
+    (c.requires.from l.place a
+    (past_as_was c.args.delivery.now.table.committed c.args.adaptors.now.items l.adaptors.items
+    l.place l.invariant ∙ at))
 
 pub stop-requires-clause-to : goal.stop-requires-clause-to
-stop-requires-clause-to c =
+stop-requires-clause-to c a at =
     let l = c.loop-place in
-    let d = c.index-adaptors-place-then-not-is_past.result in
-    let a = slice_index_or l.adaptors l.place d in
     subst (λ o. o ≤ a.read.offset) (sym c.committed_end-committed.ensures)
-    (c.requires.to l.place a (past_at c.args.delivery.now.table.committed c.args.adaptors.now
-    l.adaptors l.place l.invariant c.loop-place-test.true d))
+    (c.requires.to l.place a
+    (past_as_was c.args.delivery.now.table.committed c.args.adaptors.now.items l.adaptors.items
+    l.place l.invariant ∙ at))
 
 pub loop-place-preserved : goal.loop-place-preserved
 loop-place-preserved c =
     let l = c.loop-place in
-    let here = c.index-adaptors-place.result in
+    let ends = c.args.delivery.now.table.committed in
+    let xs = c.args.adaptors.now.items in
+    let a = c.at.result.now in
     elim c.if-not-is_past.branch [
       | then-not-is_past w ↦
-          let d = w.index-adaptors-place-then-not-is_past.result in
-          w.adaptors-is
-          ∙ (ap (λ b. slice_set l.adaptors l.place b)
-          (w.stop.ensures ∙ ap (λ o. stopped o
-          (slice_index_or l.adaptors l.place d)) w.committed_end-committed.ensures)
-          ∙ one_past c.args.delivery.now.table.committed c.args.adaptors.now l.adaptors l.place
-          l.invariant c.loop-place-test.true d
-          here c.phase.result c.is_past.result c.phase.ensures.phase c.is_past.ensures
-          w.if-not-is_past.true)
+          ap (λ (h : Held). h.items) w.adaptors-is
+          ∙ (ap (λ (h : Held). h.items) (w.stop.ensures a c.at.ensures)
+          ∙ (ap (λ o. slice_set l.adaptors.items l.place (stopped o a)) w.committed_end-committed.ensures
+          ∙ one_past ends xs l.adaptors.items l.place l.invariant a c.at.ensures
+          (c.is_past.ensures ∙ ap is_past c.phase.ensures.phase) w.if-not-is_past.true))
       | else-not-is_past w ↦
-          w.adaptors-is
-          ∙ none_past c.args.delivery.now.table.committed c.args.adaptors.now l.adaptors l.place
-          l.invariant c.loop-place-test.true
-          here c.phase.result c.is_past.result c.phase.ensures.phase c.is_past.ensures
-          w.if-not-is_past.false
+          ap (λ (h : Held). h.items) w.adaptors-is
+          ∙ none_past ends xs l.adaptors.items l.place l.invariant a c.at.ensures
+          (c.is_past.ensures ∙ ap is_past c.phase.ensures.phase) w.if-not-is_past.false
     ]
 
 pub returns : goal.returns
 returns c =
     let l = c.loop-place in
     l.invariant
-    ∙ (ap (λ n. past_to c.args.delivery.now.table.committed 0 n c.args.adaptors.now)
+    ∙ (ap (λ n. past_to c.args.delivery.now.table.committed 0 n c.args.adaptors.now.items)
     (let last = c.loop-place-test.false in let end = l.auto.place-end in omega (arith, last, end))
-    ∙ past_all c.args.delivery.now.table.committed c.args.adaptors.now)
+    ∙ past_all c.args.delivery.now.table.committed c.args.adaptors.now.items)

@@ -25,8 +25,8 @@ begun_delivery-requires c =
           many;
     }
 
-pub adaptors_of-requires : goal.adaptors_of-requires
-adaptors_of-requires c = (are_good (lines_of c.args.check) c.requires.lines).each
+pub adaptors_of-requires-clause-lines : goal.adaptors_of-requires-clause-lines
+adaptors_of-requires-clause-lines c = (are_good (lines_of c.args.check) c.requires.lines).each
 
 pub agent_with-requires-clause-sound : goal.agent_with-requires-clause-sound
 agent_with-requires-clause-sound c =

@@ -1,37 +1,22 @@
-use Rattle.std.proofs.Common.{◌≡◌, ◌<◌, ◌≤◌, ◌+◌, ◌||◌, Bool, length, drop, ap, sym, ◌∙◌, refl, arith}
-use Rattle.std.specs.List.{list_any}
-use Rattle.chk_agent_run.specs.Initial.{reads}
-use Rattle.chk_agent_run.proofs.LiveLemmas.{one_at, any_on, any_past}
+use Rattle.std.proofs.Common.{sym, ◌∙◌}
+use Rattle.chk_agent_run.proofs.LiveLemmas.{found_live, none_live, number_below}
 use Rattle.chk_agent_run.proofs.initial.is_live.Goals as goal
 
-pub loop-number-init : goal.loop-number-init
-loop-number-init c = refl
+pub state-requires : goal.state-requires
+state-requires c =
+    number_below c.args.kind.now c.args.path.now c.args.agent.now c.find_stream.result
+    c.find_stream.ensures
+    c.in-Some.number (sym c.in-Some.is)
 
-pub returns-then-reads : goal.returns-then-reads
-returns-then-reads c =
-    let xs = c.args.agent.now.adaptors in let n = c.loop-number.number in
-    let test = c.loop-number-test.true in let size = c.adaptors-number-end.ensures in
-    let below : n < length xs = omega (arith, test, size) in
-    let one = one_at xs n below in
-    sym (c.loop-number.invariant
-    ∙ (any_on (reads c.args.kind.now c.args.path.now) xs n one.adaptor below one.at
-    ∙ ap (λ (b : Bool). b || list_any (reads c.args.kind.now c.args.path.now) (drop (n + 1) xs))
-    (sym (c.reads.ensures one.adaptor one.at) ∙ c.if-reads.true)))
+pub returns-in-Some : goal.returns-in-Some
+returns-in-Some c =
+    c.is_some.ensures
+    ∙ found_live c.args.kind.now c.args.path.now c.args.agent.now c.find_stream.result
+    c.find_stream.ensures
+    c.in-Some.number (sym c.in-Some.is) c.ready-sound.ensures.sound c.state.result c.state.ensures
 
-pub loop-number-preserved : goal.loop-number-preserved
-loop-number-preserved c =
-    let xs = c.args.agent.now.adaptors in let n = c.loop-number.number in
-    let test = c.loop-number-test.true in let size = c.adaptors-number-end.ensures in
-    let below : n < length xs = omega (arith, test, size) in
-    let one = one_at xs n below in
-    c.loop-number.invariant
-    ∙ (any_on (reads c.args.kind.now c.args.path.now) xs n one.adaptor below one.at
-    ∙ ap (λ (b : Bool). b || list_any (reads c.args.kind.now c.args.path.now) (drop (n + 1) xs))
-    (sym (c.reads.ensures one.adaptor one.at) ∙ c.if-reads.false))
-
-pub returns : goal.returns
-returns c =
-    let xs = c.args.agent.now.adaptors in let n = c.loop-number.number in
-    let test = c.loop-number-test.false in let size = c.adaptors-number-end.ensures in
-    sym (c.loop-number.invariant
-    ∙ any_past (reads c.args.kind.now c.args.path.now) xs n (let past : length xs ≤ n = omega (arith, test, size) in past))
+pub returns-in-None : goal.returns-in-None
+returns-in-None c =
+    none_live c.args.kind.now c.args.path.now c.args.agent.now c.find_stream.result
+    c.find_stream.ensures
+    (sym c.in-None.is)

@@ -17,6 +17,7 @@ use Rattle.chk_agent_run.proofs.Turned.{process_on}
 use Rattle.chk_agent_run.proofs.LineAdded.{word_copied}
 use Rattle.chk_agent_run.proofs.Endings.{start_so, who_started, unread_leads, unstarted_leads, late_ends}
 use Rattle.chk_agent_run.proofs.RunFaults.{run_last, run_cause, no_checkpoint, none_of, last_of, outside_last, outside_cause, nothing_last}
+use Rattle.chk_agent_run.proofs.RunCauses.{cause_behind}
 use Rattle.chk_agent_run.proofs.run.run_agent.Goals as goal
 
 pub returns-in_err-text-clause-ran : goal.returns-in_err-text-clause-ran
@@ -202,3 +203,22 @@ returns-clause-last g c =
     c.in_ok-add_lines.ensures.ready c.add_lines.ensures.told)
     c.run_turns.ensures.told)
     (Ok Over) tt)
+
+pub returns-in_err-add_lines-clause-cause : goal.returns-in_err-add_lines-clause-cause
+returns-in_err-add_lines-clause-cause g c =
+    let r = c.from_residual-in_err-add_lines in
+    let p = err_from_is_err_and r.result r.ensures.1 in
+    let read = c.in_ok-text.ensures.cause in
+    let started = c.in_ok-agent.ensures.cause in
+    cause_behind (Unit {0}) _ _ _ c.in_err-add_lines.field-0.0 r.result (p.1 ∙ ap Err p.2)
+    (omega (arith, read, started)) c.in_err-add_lines.ensures.cause
+
+pub returns-in_err-ended-clause-cause : goal.returns-in_err-ended-clause-cause
+returns-in_err-ended-clause-cause g c =
+    let r = c.from_residual-in_err-ended in
+    let p = err_from_is_err_and r.result r.ensures.1 in
+    let read = c.in_ok-text.ensures.cause in
+    let started = c.in_ok-agent.ensures.cause in
+    let added = c.in_ok-add_lines.ensures.cause in
+    run_cause Ended _ _ _ c.in_err-ended.field-0.0 r.result (p.1 ∙ ap Err p.2)
+    (omega (arith, read, started, added)) c.in_err-ended.ensures.cause

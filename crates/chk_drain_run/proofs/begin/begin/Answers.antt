@@ -16,6 +16,7 @@ use Rattle.chk_agent_run.proofs.Turned.{process_on}
 use Rattle.chk_agent_run.proofs.LineAdded.{word_copied}
 use Rattle.chk_agent_run.proofs.Endings.{start_so, who_started, unread_leads, unstarted_leads, late_ends}
 use Rattle.chk_agent_run.proofs.RunFaults.{run_last, run_cause, no_checkpoint, none_of, last_of, outside_last, outside_cause, nothing_last}
+use Rattle.chk_agent_run.proofs.RunCauses.{cause_behind}
 use Rattle.chk_drain_run.specs.declared.begin.Begun.{Begun}
 use Rattle.chk_drain_run.specs.Begins.{BeginsWith, unread, unstarted, untimed, unadded, begun}
 use Rattle.chk_drain_run.proofs.BeginEnds.{begins_so, begun_leads}
@@ -320,3 +321,22 @@ returns-clause-last g c =
     (carried_by c.in_ok-agent.agent c.in_ok-agent.agent refl c.in_ok-agent.ensures.fresh.ready
     c.in_ok-agent.ensures.fresh.ready c.clock.ensures.told) c.add_lines.ensures.told)
     (Ok Over) tt)
+
+pub returns-in_err-now-clause-cause : goal.returns-in_err-now-clause-cause
+returns-in_err-now-clause-cause g c =
+    let r = c.from_residual-in_err-now in
+    let p = err_from_is_err_and r.result r.ensures.1 in
+    let read = c.in_ok-text.ensures.cause in
+    let started = c.in_ok-agent.ensures.cause in
+    run_cause ℕ _ _ _ c.in_err-now.field-0.0 r.result (p.1 ∙ ap Err p.2)
+    (omega (arith, read, started)) c.in_err-now.ensures.cause
+
+pub returns-in_err-add_lines-clause-cause : goal.returns-in_err-add_lines-clause-cause
+returns-in_err-add_lines-clause-cause g c =
+    let r = c.from_residual-in_err-add_lines in
+    let p = err_from_is_err_and r.result r.ensures.1 in
+    let read = c.in_ok-text.ensures.cause in
+    let started = c.in_ok-agent.ensures.cause in
+    let timed = c.in_ok-now.ensures.cause in
+    cause_behind (Unit {0}) _ _ _ c.in_err-add_lines.field-0.0 r.result (p.1 ∙ ap Err p.2)
+    (omega (arith, read, started, timed)) c.in_err-add_lines.ensures.cause

@@ -1,6 +1,5 @@
 use Rattle.std.proofs.Common.{◌<◌, length, arith}
-use Rattle.chk_agent_run.proofs.LiveLemmas.{one_at}
-use Rattle.chk_drain_run.proofs.LiveOnes.{found_next}
+use Rattle.chk_drain_run.proofs.LiveOnes.{found_next, one_at}
 use Rattle.chk_drain_run.proofs.telling.live_numbers.Goals as goal
 
 pub loop-number-preserved : goal.loop-number-preserved

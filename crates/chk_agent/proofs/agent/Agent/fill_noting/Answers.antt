@@ -23,7 +23,7 @@ is_read_on-requires g c =
     let many = c.loop-place.invariant.way.many in
     let there = c.number_at-adaptor.ensures.there in
     let count_is : length c.as_slice.result.now ≡ length c.args.self.now.adaptors =
-    ap length c.as_slice.ensures.value ∙ ap (λ (s : State). length s.adaptors) c.self.view_is in
+    ap length c.as_slice.ensures ∙ ap (λ (s : State). length s.adaptors) c.self.view_is in
     omega (arith, many, there, count_is)
 
 pub step-requires-clause-ready : goal.step-requires-clause-ready
@@ -40,7 +40,7 @@ loop-place-preserved g c =
     let f = c.loop-place.invariant.way in
     let n = c.number_at-adaptor.result in
     let count_is : length c.as_slice.result.now ≡ length s.adaptors =
-    ap length c.as_slice.ensures.value ∙ ap (λ (s : State). length s.adaptors) c.self.view_is in
+    ap length c.as_slice.ensures ∙ ap (λ (s : State). length s.adaptors) c.self.view_is in
     let here = c.loop-place-test.true in
     let below : k < length s.adaptors = omega (arith, here, count_is) in
     let place = place_is s n (length c.as_slice.result.now) c.first_of-first.result c.self.inside.last k c.number_at-adaptor.ensures.number count_is
@@ -92,7 +92,7 @@ returns-in_err-bytes-clause-state g c =
     let f = c.loop-place.invariant.way in
     let n = c.number_at-adaptor.result in
     let count_is : length c.as_slice.result.now ≡ length s.adaptors =
-    ap length c.as_slice.ensures.value ∙ ap (λ (s : State). length s.adaptors) c.self.view_is in
+    ap length c.as_slice.ensures ∙ ap (λ (s : State). length s.adaptors) c.self.view_is in
     let here = c.loop-place-test.true in
     let below : k < length s.adaptors = omega (arith, here, count_is) in
     let place = place_is s n (length c.as_slice.result.now) c.first_of-first.result c.self.inside.last k c.number_at-adaptor.ensures.number count_is
@@ -113,7 +113,7 @@ returns-in_err-bytes-clause-told g c stamped =
     let f = c.loop-place.invariant.way in
     let n = c.number_at-adaptor.result in
     let count_is : length c.as_slice.result.now ≡ length s.adaptors =
-    ap length c.as_slice.ensures.value ∙ ap (λ (s : State). length s.adaptors) c.self.view_is in
+    ap length c.as_slice.ensures ∙ ap (λ (s : State). length s.adaptors) c.self.view_is in
     let here = c.loop-place-test.true in
     let below : k < length s.adaptors = omega (arith, here, count_is) in
     let place = place_is s n (length c.as_slice.result.now) c.first_of-first.result c.self.inside.last k c.number_at-adaptor.ensures.number count_is
@@ -138,7 +138,7 @@ overflow_sub-used g c =
     let f = c.loop-place.invariant.way in
     let n = c.number_at-adaptor.result in
     let count_is : length c.as_slice.result.now ≡ length s.adaptors =
-    ap length c.as_slice.ensures.value ∙ ap (λ (s : State). length s.adaptors) c.self.view_is in
+    ap length c.as_slice.ensures ∙ ap (λ (s : State). length s.adaptors) c.self.view_is in
     let here = c.loop-place-test.true in
     let below : k < length s.adaptors = omega (arith, here, count_is) in
     let place = place_is s n (length c.as_slice.result.now) c.first_of-first.result c.self.inside.last k c.number_at-adaptor.ensures.number count_is
@@ -161,7 +161,7 @@ returns-in-Held-clause-state g c =
     let f = c.loop-place.invariant.way in
     let n = c.number_at-adaptor.result in
     let count_is : length c.as_slice.result.now ≡ length s.adaptors =
-    ap length c.as_slice.ensures.value ∙ ap (λ (s : State). length s.adaptors) c.self.view_is in
+    ap length c.as_slice.ensures ∙ ap (λ (s : State). length s.adaptors) c.self.view_is in
     let here = c.loop-place-test.true in
     let below : k < length s.adaptors = omega (arith, here, count_is) in
     let place = place_is s n (length c.as_slice.result.now) c.first_of-first.result c.self.inside.last k c.number_at-adaptor.ensures.number count_is
@@ -185,7 +185,7 @@ returns-in-Held-clause-told g c stamped =
     let f = c.loop-place.invariant.way in
     let n = c.number_at-adaptor.result in
     let count_is : length c.as_slice.result.now ≡ length s.adaptors =
-    ap length c.as_slice.ensures.value ∙ ap (λ (s : State). length s.adaptors) c.self.view_is in
+    ap length c.as_slice.ensures ∙ ap (λ (s : State). length s.adaptors) c.self.view_is in
     let here = c.loop-place-test.true in
     let below : k < length s.adaptors = omega (arith, here, count_is) in
     let place = place_is s n (length c.as_slice.result.now) c.first_of-first.result c.self.inside.last k c.number_at-adaptor.ensures.number count_is
@@ -208,7 +208,7 @@ returns-in-Shrank-clause-state g c =
     let f = c.loop-place.invariant.way in
     let n = c.number_at-adaptor.result in
     let count_is : length c.as_slice.result.now ≡ length s.adaptors =
-    ap length c.as_slice.ensures.value ∙ ap (λ (s : State). length s.adaptors) c.self.view_is in
+    ap length c.as_slice.ensures ∙ ap (λ (s : State). length s.adaptors) c.self.view_is in
     let here = c.loop-place-test.true in
     let below : k < length s.adaptors = omega (arith, here, count_is) in
     let place = place_is s n (length c.as_slice.result.now) c.first_of-first.result c.self.inside.last k c.number_at-adaptor.ensures.number count_is
@@ -230,7 +230,7 @@ returns-in-Shrank-clause-told g c stamped =
     let f = c.loop-place.invariant.way in
     let n = c.number_at-adaptor.result in
     let count_is : length c.as_slice.result.now ≡ length s.adaptors =
-    ap length c.as_slice.ensures.value ∙ ap (λ (s : State). length s.adaptors) c.self.view_is in
+    ap length c.as_slice.ensures ∙ ap (λ (s : State). length s.adaptors) c.self.view_is in
     let here = c.loop-place-test.true in
     let below : k < length s.adaptors = omega (arith, here, count_is) in
     let place = place_is s n (length c.as_slice.result.now) c.first_of-first.result c.self.inside.last k c.number_at-adaptor.ensures.number count_is
@@ -253,7 +253,7 @@ returns-clause-state g c =
     let past = c.loop-place-test.false in
     let size = f.size in
     let count_is : length c.as_slice.result.now ≡ length s.adaptors =
-    ap length c.as_slice.ensures.value ∙ ap (λ (s : State). length s.adaptors) c.self.view_is in
+    ap length c.as_slice.ensures ∙ ap (λ (s : State). length s.adaptors) c.self.view_is in
     let before : c.used-before.result ≡ data_size s.delivery.queue.chunks =
     c.used-before.ensures.used ∙ ap (λ (s : State). data_size s.delivery.queue.chunks) c.self.view_is in
     let now : c.used.result ≡ data_size t.delivery.queue.chunks =

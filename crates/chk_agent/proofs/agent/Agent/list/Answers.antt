@@ -27,9 +27,9 @@ returns c =
     let lines =
     c.in_ok-count.ensures.text
     ∙ (ap (λ b. b ++ list_lines c.as_slice.result.now ends) c.new-text.ensures
-    ∙ ap (λ xs. list_lines xs ends) c.as_slice.ensures.value) in
+    ∙ ap (λ xs. list_lines xs ends) c.as_slice.ensures) in
     let count = c.in_ok-count.ensures.count
-    ∙ ap (λ xs. length (live_from 0 xs)) c.as_slice.ensures.value in
+    ∙ ap (λ xs. length (live_from 0 xs)) c.as_slice.ensures in
     rw (← c.self.view_is)
     (did_as _ v v _ _ refl
     (ap (λ t. reply_of t Go)

@@ -1,12 +1,10 @@
-use Rattle.std.proofs.Common.{Err, [], ◌∷◌, length, ap, sym, ◌∙◌, refl, arith}
-use Rattle.std.specs.Prelude.{slice_get}
-use Rattle.std.specs.Vec.{with_items}
-use Rattle.std.proofs.lemmas.List.{with_items_is}
+use Rattle.std.proofs.Common.{Err, [], ◌∷◌, ap, ◌∙◌, refl, arith}
 use Rattle.std.proofs.lemmas.Result.{err_from_is_err_and}
-use Rattle.chk_agent.specs.Adds.{named_in}
+use Rattle.chk_adaptors.specs.Adaptors.{Held}
 use Rattle.chk_agent.specs.Fields.{agent_view}
 use Rattle.chk_agent.proofs.CommandingPlain.{did_as, answered_as, unmade_as}
 use Rattle.chk_agent.proofs.CommandingShut.{none_to_stop, found_one, one_to_stop, all_known, stop_from, stop_to, stopped_is, stop_sound, one_stopped}
+use Rattle.chk_agent.proofs.TableFound.{named_at}
 use Rattle.chk_agent.proofs.agent.Agent.stop.Goals as goal
 
 pub returns-in_default : goal.returns-in_default
@@ -14,8 +12,8 @@ returns-in_default c =
     let v = agent_view c.self.inside in
     rw (← c.self.view_is)
     (answered_as _ v _ _ c.answer.result c.answer.ensures
-    (none_to_stop v c.args.name c.named_in.result c.in_default.is
-    (c.named_in.ensures ∙ ap (named_in c.args.name 0) c.as_slice.ensures.value)))
+    (none_to_stop v c.args.name c.named.result c.in_default.is
+    (c.named.ensures ∙ named_at c.args.name c.self.inside.adaptors.items)))
 
 pub returns-in_err-reply : goal.returns-in_err-reply
 returns-in_err-reply c =
@@ -33,48 +31,38 @@ pub committed_end-committed-requires : goal.committed_end-committed-requires
 committed_end-committed-requires c =
     let v = agent_view c.self.inside in
     let there =
-    found_one c.args.name c.self.inside.adaptors.items c.named_in.result c.in-Some.place
+    found_one c.args.name c.self.inside.adaptors.items c.named.result c.in-Some.place
     c.in-Some.is
-    (c.named_in.ensures ∙ ap (named_in c.args.name 0) c.as_slice.ensures.value) in
+    (c.named.ensures ∙ named_at c.args.name c.self.inside.adaptors.items) in
     let below = there.below in
     let known = all_known v c.self.invariant.sound
     (c.in-Some.place ∷ []) c.stop.new.self c.in_ok-stop.ensures.ok in
     omega (arith, below, known)
 
-pub stop_one-requires-clause-there : goal.stop_one-requires-clause-there
-stop_one-requires-clause-there c =
-    let there =
-    found_one c.args.name c.self.inside.adaptors.items c.named_in.result c.in-Some.place
-    c.in-Some.is
-    (c.named_in.ensures ∙ ap (named_in c.args.name 0) c.as_slice.ensures.value) in
-    let below = there.below in
-    let same = ap length c.as_mut_slice.ensures.value in omega (arith, below, same)
+pub stop-requires-2-clause-there : goal.stop-requires-2-clause-there
+stop-requires-2-clause-there c =
+    (found_one c.args.name c.self.inside.adaptors.items c.named.result c.in-Some.place c.in-Some.is
+    (c.named.ensures ∙ named_at c.args.name c.self.inside.adaptors.items)).below
 
-pub stop_one-requires-clause-from : goal.stop_one-requires-clause-from
-stop_one-requires-clause-from c a at =
+pub stop-requires-2-clause-from : goal.stop-requires-2-clause-from
+stop-requires-2-clause-from c a at =
     stop_from (agent_view c.self.inside) c.self.invariant.sound
     (c.in-Some.place ∷ []) c.stop.new.self c.in_ok-stop.ensures.ok
-    c.in-Some.place c.committed_end-committed.result a c.committed_end-committed.ensures
-    (ap (λ ys. slice_get ys c.in-Some.place) (sym c.as_mut_slice.ensures.value) ∙ at)
+    c.in-Some.place c.committed_end-committed.result a c.committed_end-committed.ensures at
 
-pub stop_one-requires-clause-to : goal.stop_one-requires-clause-to
-stop_one-requires-clause-to c a at =
+pub stop-requires-2-clause-to : goal.stop-requires-2-clause-to
+stop-requires-2-clause-to c a at =
     stop_to (agent_view c.self.inside) c.self.invariant.sound
     (c.in-Some.place ∷ []) c.stop.new.self c.in_ok-stop.ensures.ok
-    c.in-Some.place c.committed_end-committed.result a c.committed_end-committed.ensures
-    (ap (λ ys. slice_get ys c.in-Some.place) (sym c.as_mut_slice.ensures.value) ∙ at)
+    c.in-Some.place c.committed_end-committed.result a c.committed_end-committed.ensures at
 
 pub invariant_of-self-2 : goal.invariant_of-self-2
 invariant_of-self-2 c =
     let v = agent_view c.self.inside in
     let there =
-    found_one c.args.name c.self.inside.adaptors.items c.named_in.result c.in-Some.place
-    c.in-Some.is
-    (c.named_in.ensures ∙ ap (named_in c.args.name 0) c.as_slice.ensures.value) in
-    let given =
-    with_items_is c.self.inside.adaptors c.stop_one.new.adaptors (c.stop_one.auto.adaptors
-    ∙ c.as_mut_slice.ensures.len) in
-    let xs = (with_items c.self.inside.adaptors c.stop_one.new.adaptors).items in
+    found_one c.args.name c.self.inside.adaptors.items c.named.result c.in-Some.place c.in-Some.is
+    (c.named.ensures ∙ named_at c.args.name c.self.inside.adaptors.items) in
+    let xs = c.stop-2.new.self.items in
     record {
       role = c.self.invariant.role;
       sound = stop_sound v c.self.invariant.sound
@@ -82,35 +70,27 @@ invariant_of-self-2 c =
           (one_stopped v c.self.invariant.sound
           (c.in-Some.place ∷ []) c.stop.new.self c.in_ok-stop.ensures.ok
           c.in-Some.place c.committed_end-committed.result there.adaptor xs
-          c.as_mut_slice.result.now refl c.committed_end-committed.ensures
-          there.at c.as_mut_slice.ensures.value
-          (given ∙ c.stop_one.ensures there.adaptor (ap
-          (λ ys. slice_get ys c.in-Some.place) c.as_mut_slice.ensures.value ∙ there.at)))
+          v.adaptors refl c.committed_end-committed.ensures there.at refl
+          (ap (λ (h : Held). h.items) (c.stop-2.ensures there.adaptor there.at)))
           c.used-used.ensures.sound c.used-used.ensures.table;
     }
 
 pub returns : goal.returns
 returns c =
     let v = agent_view c.self.inside in
+    let found = c.named.ensures ∙ named_at c.args.name c.self.inside.adaptors.items in
     let there =
-    found_one c.args.name c.self.inside.adaptors.items c.named_in.result c.in-Some.place
-    c.in-Some.is
-    (c.named_in.ensures ∙ ap (named_in c.args.name 0) c.as_slice.ensures.value) in
-    let given =
-    with_items_is c.self.inside.adaptors c.stop_one.new.adaptors (c.stop_one.auto.adaptors
-    ∙ c.as_mut_slice.ensures.len) in
-    let xs = (with_items c.self.inside.adaptors c.stop_one.new.adaptors).items in
+    found_one c.args.name c.self.inside.adaptors.items c.named.result c.in-Some.place c.in-Some.is
+    found in
+    let xs = c.stop-2.new.self.items in
     rw (← c.self.view_is)
     (did_as _ v _ c.in_ok-reply.reply _
-    (one_to_stop v c.args.name c.named_in.result c.in-Some.place c.in-Some.is
-    (c.named_in.ensures ∙ ap (named_in c.args.name 0) c.as_slice.ensures.value))
+    (one_to_stop v c.args.name c.named.result c.in-Some.place c.in-Some.is found)
     c.in_ok-reply.ensures
     (stopped_is v c.self.invariant.sound
     (c.in-Some.place ∷ []) c.stop.new.self c.in_ok-stop.ensures.ok xs
     (one_stopped v c.self.invariant.sound
     (c.in-Some.place ∷ []) c.stop.new.self c.in_ok-stop.ensures.ok
-    c.in-Some.place c.committed_end-committed.result there.adaptor xs c.as_mut_slice.result.now
-    refl c.committed_end-committed.ensures
-    there.at c.as_mut_slice.ensures.value
-    (given ∙ c.stop_one.ensures there.adaptor (ap
-    (λ ys. slice_get ys c.in-Some.place) c.as_mut_slice.ensures.value ∙ there.at)))))
+    c.in-Some.place c.committed_end-committed.result there.adaptor xs v.adaptors
+    refl c.committed_end-committed.ensures there.at refl
+    (ap (λ (h : Held). h.items) (c.stop-2.ensures there.adaptor there.at)))))

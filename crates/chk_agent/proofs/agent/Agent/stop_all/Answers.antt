@@ -1,7 +1,4 @@
-use Rattle.std.proofs.Common.{Err, length, ap, sym, ◌∙◌, refl, arith}
-use Rattle.std.specs.Prelude.{slice_get}
-use Rattle.std.specs.Vec.{with_items}
-use Rattle.std.proofs.lemmas.List.{with_items_is}
+use Rattle.std.proofs.Common.{Err, length, ap, ◌∙◌, refl, arith}
 use Rattle.std.proofs.lemmas.Result.{err_from_is_err_and}
 use Rattle.chk_control.specs.declared.answers.Answer.TheVariants.{StoppedAll}
 use Rattle.chk_control.specs.Answers.{answer_text}
@@ -22,7 +19,7 @@ returns-in_err-gone c =
 pub overflow_cast-count : goal.overflow_cast-count
 overflow_cast-count c =
     let size = ap length (c.as_slice-2.ensures.value ∙ (c.in_ok-gone.ensures
-    ∙ ap (live_from 0) c.as_slice.ensures.value)) in
+    ∙ ap (live_from 0) c.as_slice.ensures)) in
     let few = live_few 0 c.self.inside.adaptors.items in
     let most = c.self.invariant.sound.few in omega (arith, size, few, most)
 
@@ -40,44 +37,30 @@ returns-in_err-stop c =
     rw (← c.self.view_is, c.in_err-stop.ensures.err)
     (unmade_as _ (agent_view c.self.inside) c.from_residual-in_err-stop.result (p.1 ∙ ap Err p.2))
 
-pub stop_live-requires-clause-few : goal.stop_live-requires-clause-few
-stop_live-requires-clause-few c =
-    let size = ap length c.as_mut_slice.ensures.value in
-    let few = c.self.invariant.sound.few in omega (arith, size, few)
-
 pub stop_live-requires-clause-known : goal.stop_live-requires-clause-known
 stop_live-requires-clause-known c =
-    let size = ap length c.as_mut_slice.ensures.value in
-    let known =
     all_known (agent_view c.self.inside) c.self.invariant.sound c.as_slice-3.result.now
-    c.stop.new.self c.in_ok-stop.ensures.ok in
-    omega (arith, size, known)
+    c.stop.new.self c.in_ok-stop.ensures.ok
 
 pub stop_live-requires-clause-from : goal.stop_live-requires-clause-from
 stop_live-requires-clause-from c i a at =
     stop_from (agent_view c.self.inside) c.self.invariant.sound c.as_slice-3.result.now
-    c.stop.new.self c.in_ok-stop.ensures.ok i _ a refl
-    (ap (λ ys. slice_get ys i) (sym c.as_mut_slice.ensures.value) ∙ at)
+    c.stop.new.self c.in_ok-stop.ensures.ok i _ a refl at
 
 pub stop_live-requires-clause-to : goal.stop_live-requires-clause-to
 stop_live-requires-clause-to c i a at =
     stop_to (agent_view c.self.inside) c.self.invariant.sound c.as_slice-3.result.now
-    c.stop.new.self c.in_ok-stop.ensures.ok i _ a refl
-    (ap (λ ys. slice_get ys i) (sym c.as_mut_slice.ensures.value) ∙ at)
+    c.stop.new.self c.in_ok-stop.ensures.ok i _ a refl at
 
 pub invariant_of-self-2 : goal.invariant_of-self-2
 invariant_of-self-2 c =
     let v = agent_view c.self.inside in
     let live = c.as_slice-3.ensures.value ∙ (c.in_ok-gone.ensures
-    ∙ ap (live_from 0) c.as_slice.ensures.value) in
-    let given =
-    with_items_is c.self.inside.adaptors c.stop_live.new.adaptors (c.stop_live.auto.adaptors
-    ∙ c.as_mut_slice.ensures.len) in
-    let xs = (with_items c.self.inside.adaptors c.stop_live.new.adaptors).items in
+    ∙ ap (live_from 0) c.as_slice.ensures) in
+    let xs = c.stop_live.new.adaptors.items in
     let past =
-    all_stopped c.as_slice-3.result.now v.delivery c.stop.new.self xs c.as_mut_slice.result.now
-    v.adaptors live c.in_ok-stop.ensures.ok
-    c.as_mut_slice.ensures.value (given ∙ c.stop_live.ensures) in
+    all_stopped c.as_slice-3.result.now v.delivery c.stop.new.self xs v.adaptors
+    v.adaptors live c.in_ok-stop.ensures.ok refl c.stop_live.ensures in
     record {
       role = c.self.invariant.role;
       sound = stop_sound v c.self.invariant.sound c.as_slice-3.result.now c.stop.new.self
@@ -89,21 +72,17 @@ pub returns : goal.returns
 returns c =
     let v = agent_view c.self.inside in
     let live = c.as_slice-3.ensures.value ∙ (c.in_ok-gone.ensures
-    ∙ ap (live_from 0) c.as_slice.ensures.value) in
-    let given =
-    with_items_is c.self.inside.adaptors c.stop_live.new.adaptors (c.stop_live.auto.adaptors
-    ∙ c.as_mut_slice.ensures.len) in
-    let xs = (with_items c.self.inside.adaptors c.stop_live.new.adaptors).items in
+    ∙ ap (live_from 0) c.as_slice.ensures) in
+    let xs = c.stop_live.new.adaptors.items in
     let past =
-    all_stopped c.as_slice-3.result.now v.delivery c.stop.new.self xs c.as_mut_slice.result.now
-    v.adaptors live c.in_ok-stop.ensures.ok
-    c.as_mut_slice.ensures.value (given ∙ c.stop_live.ensures) in
+    all_stopped c.as_slice-3.result.now v.delivery c.stop.new.self xs v.adaptors
+    v.adaptors live c.in_ok-stop.ensures.ok refl c.stop_live.ensures in
     rw (← c.self.view_is)
     (did_as _ v _ c.in_ok-reply.reply _ refl
     (c.in_ok-reply.ensures
     ∙ ap (λ n. reply_of (answer_text (StoppedAll n)) Go)
     (ap length (c.as_slice-2.ensures.value ∙ (c.in_ok-gone.ensures
-    ∙ ap (live_from 0) c.as_slice.ensures.value))))
+    ∙ ap (live_from 0) c.as_slice.ensures))))
     (stopped_is v c.self.invariant.sound c.as_slice-3.result.now c.stop.new.self
     c.in_ok-stop.ensures.ok xs past
     ∙ ap (λ g. stopped_state g v) live))

@@ -1,11 +1,9 @@
 use Rattle.std.proofs.Common.{◌≡◌, Ok, Err, true, false, map, ap, sym, subst, ◌∙◌, refl, arith}
-use Rattle.std.proofs.lemmas.List.{with_items_is}
-use Rattle.std.specs.Vec.{with_items}
 use Rattle.chk_site.proofs.Runs.{adds_none}
 use Rattle.chk_checkpoint.specs.Lines.{shown}
 use Rattle.chk_agent.specs.declared.answers.Settled.{Settled}
 use Rattle.chk_agent.specs.States.{State, lines_of}
-use Rattle.chk_agent.specs.Settles.{settled, settled_all}
+use Rattle.chk_agent.specs.Settles.{settled}
 use Rattle.chk_agent.specs.Faults.{FailsLast}
 use Rattle.chk_agent.specs.Fields.{agent_view}
 use Rattle.chk_agent.proofs.TurningFaults.{last_ok}
@@ -21,15 +19,11 @@ invariant_of-self g c =
     let lines = map shown c.args.check.lines.items in
     let are = subst (λ (t : State). lines ≡ lines_of (settled t)) (sym c.self.view_is)
     c.requires.lines in
-    let xs = c.self.inside.adaptors in
-    let ys = c.settle_all.new.adaptors in
-    let after_is =
-    with_items_is xs ys (c.settle_all.auto.adaptors ∙ c.as_mut_slice.ensures.len)
-    ∙ (c.settle_all.ensures ∙ ap (λ xs. settled_all xs s.delivery.table.committed)
-    c.as_mut_slice.ensures.value) in
+    let xs = c.settle_all.new.adaptors.items in
+    let after_is = c.settle_all.ensures in
     record {
       role = c.self.invariant.role;
-      sound = sound_after s c.self.invariant.sound lines are (with_items xs ys).items after_is;
+      sound = sound_after s c.self.invariant.sound lines are xs after_is;
     }
 
 pub returns-then-are_same-clause-state : goal.returns-then-are_same-clause-state
@@ -38,15 +32,11 @@ returns-then-are_same-clause-state g c now was is many =
     let lines = map shown c.args.check.lines.items in
     let are = subst (λ (t : State). lines ≡ lines_of (settled t)) (sym c.self.view_is)
     c.requires.lines in
-    let xs = c.self.inside.adaptors in
-    let ys = c.settle_all.new.adaptors in
-    let after_is =
-    with_items_is xs ys (c.settle_all.auto.adaptors ∙ c.as_mut_slice.ensures.len)
-    ∙ (c.settle_all.ensures ∙ ap (λ xs. settled_all xs s.delivery.table.committed)
-    c.as_mut_slice.ensures.value) in
+    let xs = c.settle_all.new.adaptors.items in
+    let after_is = c.settle_all.ensures in
     let same = sym (ap (map shown) c.as_slice.ensures.value) ∙
     (c.if-are_same.ensures.same refl ∙ ap (map shown) c.as_slice-2.ensures.value) in
-    same_state s c.self.invariant.sound lines are (with_items xs ys).items after_is same now was
+    same_state s c.self.invariant.sound lines are xs after_is same now was
     (c.self.view_is ∙ is) c.args.back many
     (g.S.Site.told c.args.site.now)
 
@@ -56,13 +46,9 @@ returns-then-are_same-clause-told g c stamped =
     let lines = map shown c.args.check.lines.items in
     let are = subst (λ (t : State). lines ≡ lines_of (settled t)) (sym c.self.view_is)
     c.requires.lines in
-    let xs = c.self.inside.adaptors in
-    let ys = c.settle_all.new.adaptors in
-    let after_is =
-    with_items_is xs ys (c.settle_all.auto.adaptors ∙ c.as_mut_slice.ensures.len)
-    ∙ (c.settle_all.ensures ∙ ap (λ xs. settled_all xs s.delivery.table.committed)
-    c.as_mut_slice.ensures.value) in
-    rw (← c.self.view_is) (same_told s c.self.invariant.sound lines are (with_items xs ys).items
+    let xs = c.settle_all.new.adaptors.items in
+    let after_is = c.settle_all.ensures in
+    rw (← c.self.view_is) (same_told s c.self.invariant.sound lines are xs
     after_is stamped (g.S.Site.told c.args.site.now))
 
 pub write_checkpoint-requires : goal.write_checkpoint-requires
@@ -79,15 +65,11 @@ invariant_of-self-in-Ok g c =
     let lines = map shown c.args.check.lines.items in
     let are = subst (λ (t : State). lines ≡ lines_of (settled t)) (sym c.self.view_is)
     c.requires.lines in
-    let xs = c.self.inside.adaptors in
-    let ys = c.settle_all-in-Ok.new.adaptors in
-    let after_is =
-    with_items_is xs ys (c.settle_all-in-Ok.auto.adaptors ∙ c.as_mut_slice-in-Ok.ensures.len)
-    ∙ (c.settle_all-in-Ok.ensures ∙ ap (λ xs. settled_all xs s.delivery.table.committed)
-    c.as_mut_slice-in-Ok.ensures.value) in
+    let xs = c.settle_all-in-Ok.new.adaptors.items in
+    let after_is = c.settle_all-in-Ok.ensures in
     record {
       role = c.self.invariant.role;
-      sound = sound_written s c.self.invariant.sound lines are (with_items xs ys).items after_is;
+      sound = sound_written s c.self.invariant.sound lines are xs after_is;
     }
 
 pub returns-in-Ok-clause-state : goal.returns-in-Ok-clause-state
@@ -96,19 +78,15 @@ returns-in-Ok-clause-state g c now was is many =
     let lines = map shown c.args.check.lines.items in
     let are = subst (λ (t : State). lines ≡ lines_of (settled t)) (sym c.self.view_is)
     c.requires.lines in
-    let xs = c.self.inside.adaptors in
-    let ys = c.settle_all-in-Ok.new.adaptors in
-    let after_is =
-    with_items_is xs ys (c.settle_all-in-Ok.auto.adaptors ∙ c.as_mut_slice-in-Ok.ensures.len)
-    ∙ (c.settle_all-in-Ok.ensures ∙ ap (λ xs. settled_all xs s.delivery.table.committed)
-    c.as_mut_slice-in-Ok.ensures.value) in
+    let xs = c.settle_all-in-Ok.new.adaptors.items in
+    let after_is = c.settle_all-in-Ok.ensures in
     let other = λ (e : lines ≡ s.saved).
     c.if-are_same.ensures.other refl
     (ap (map shown) c.as_slice.ensures.value ∙
     (e ∙ sym (ap (map shown) c.as_slice-2.ensures.value))) in
     let script = writes_as c.self.inside.who s lines (Ok tt) c.self.invariant.role refl
     c.in-Ok.ensures.told in
-    written_state s c.self.invariant.sound lines are (with_items xs ys).items after_is other script
+    written_state s c.self.invariant.sound lines are xs after_is other script
     now was (c.self.view_is ∙ is)
     c.args.back many
 
@@ -118,17 +96,13 @@ returns-in-Ok-clause-told g c stamped =
     let lines = map shown c.args.check.lines.items in
     let are = subst (λ (t : State). lines ≡ lines_of (settled t)) (sym c.self.view_is)
     c.requires.lines in
-    let xs = c.self.inside.adaptors in
-    let ys = c.settle_all-in-Ok.new.adaptors in
-    let after_is =
-    with_items_is xs ys (c.settle_all-in-Ok.auto.adaptors ∙ c.as_mut_slice-in-Ok.ensures.len)
-    ∙ (c.settle_all-in-Ok.ensures ∙ ap (λ xs. settled_all xs s.delivery.table.committed)
-    c.as_mut_slice-in-Ok.ensures.value) in
+    let xs = c.settle_all-in-Ok.new.adaptors.items in
+    let after_is = c.settle_all-in-Ok.ensures in
     let script = writes_as c.self.inside.who s lines (Ok tt) c.self.invariant.role refl
     c.in-Ok.ensures.told in
     let ready = ap (λ (s : State). s.ready) c.self.view_is ∙ c.requires.ready in
     rw (← c.self.view_is)
-    (written_told s c.self.invariant.sound lines are (with_items xs ys).items after_is ready
+    (written_told s c.self.invariant.sound lines are xs after_is ready
     c.in-Ok.ensures.read stamped script)
 
 pub returns-in-Err-NoMemory-clause-state : goal.returns-in-Err-NoMemory-clause-state
@@ -156,13 +130,11 @@ returns-in-Err-NoMemory-clause-told g c stamped =
     (rw c.in-Err-NoMemory.field-0-is at c.in-Err-NoMemory.ensures.told) in
     let ready = ap (λ (s : State). s.ready) c.self.view_is ∙ c.requires.ready in
     rw (← c.self.view_is) (unmade_told s c.self.invariant.sound lines are ready
-    c.in-Err-NoMemory.ensures.read stamped script
-    (rw c.in-Err-NoMemory.field-0-is at c.in-Err-NoMemory.ensures.unmade))
+    c.in-Err-NoMemory.ensures.read stamped script (rw c.in-Err-NoMemory.field-0-is at c.in-Err-NoMemory.ensures.unmade))
 
 pub returns-in-Err-NoMemory-clause-last : goal.returns-in-Err-NoMemory-clause-last
 returns-in-Err-NoMemory-clause-last g c =
-    last_by (Unit {0}) Settled no_memory (rw c.in-Err-NoMemory.field-0-is at
-    c.in-Err-NoMemory.ensures.last)
+    last_by (Unit {0}) Settled no_memory (rw c.in-Err-NoMemory.field-0-is at c.in-Err-NoMemory.ensures.last)
 
 pub returns-clause-state : goal.returns-clause-state
 returns-clause-state g c now was is many =
@@ -195,13 +167,11 @@ returns-clause-told g c stamped =
 
 pub returns-clause-last : goal.returns-clause-last
 returns-clause-last g c =
-    last_by (Unit {0}) Settled (site_failed c.in-Err-Outside.call)
-    (rw c.in-Err-Outside.field-0-is at c.in-Err-Outside.ensures.last)
+    last_by (Unit {0}) Settled (site_failed c.in-Err-Outside.call) (rw c.in-Err-Outside.field-0-is at c.in-Err-Outside.ensures.last)
 
 pub returns-clause-cause : goal.returns-clause-cause
 returns-clause-cause g c =
-    cause_by (Unit {0}) Settled (site_failed c.in-Err-Outside.call) _ _
-    (rw c.in-Err-Outside.field-0-is at c.in-Err-Outside.ensures.cause)
+    cause_by (Unit {0}) Settled (site_failed c.in-Err-Outside.call) _ _ (rw c.in-Err-Outside.field-0-is at c.in-Err-Outside.ensures.cause)
 
 pub returns-then-are_same-clause-undamaged : goal.returns-then-are_same-clause-undamaged
 returns-then-are_same-clause-undamaged g c =

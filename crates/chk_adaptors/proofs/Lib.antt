@@ -1,0 +1,5 @@
+pub mod Places
+pub mod Tables
+pub mod Writes
+pub mod Finding
+pub mod Forgetting

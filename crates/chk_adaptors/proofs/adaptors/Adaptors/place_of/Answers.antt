@@ -1,0 +1,12 @@
+use Rattle.std.proofs.Common.{◌∙◌, ap, sym}
+use Rattle.std.specs.Prelude.{position}
+use Rattle.chk_adaptors.specs.Adaptors.{Held, is_of}
+use Rattle.chk_adaptors.proofs.Finding.{find_is}
+use Rattle.chk_adaptors.proofs.adaptors.Adaptors.place_of.Goals as goal
+
+pub returns-in-Ok-clause-place : goal.returns-in-Ok-clause-place
+returns-in-Ok-clause-place c =
+    c.get_index_of.ensures.index
+    ∙ find_is c.self.inside c.args.self.now c.self.view_is c.self.invariant c.args.kind.now
+    c.args.path.now c.as_str.result.now
+    c.as_str-word.ensures.word (c.as_str.ensures.value ∙ c.in-Ok.ensures)

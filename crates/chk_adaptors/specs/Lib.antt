@@ -1,0 +1,2 @@
+pub mod Adaptors
+pub mod Fields
