@@ -1,7 +1,7 @@
 -- How the counts of failed calls join.
 use Rattle.std.proofs.Common.{ℕ, Err}
 use Rattle.chk_collector.specs.Outcomes.{Outcome, OutcomeCause}
-use Rattle.chk_collect.proofs.Counts.{risen_then, rose_then, outcome_risen}
+use Rattle.chk_collector_run.proofs.Counts.{risen_then, rose_then, outcome_risen}
 use Rattle.chk_exchange.specs.declared.fault.ExchangeFault.{ExchangeFault}
 use Rattle.chk_exchange.specs.declared.fault.ExchangeFault.TheVariants.{Outside, NoMemory, Damaged, Spent, Refused}
 use Rattle.chk_exchange.specs.Faults.{ExchangeCause, ServedCause}

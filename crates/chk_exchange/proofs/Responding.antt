@@ -20,7 +20,7 @@ use Rattle.chk_sink.specs.declared.fault.SinkFault.TheVariants.{Outside as sink_
 use Rattle.chk_sink.specs.States.{State as Sinks, process}
 use Rattle.chk_collector.specs.Answering.{Taken, MayAnswer, Answered}
 use Rattle.chk_collector.specs.Outcomes.{Outcome, Refused, BadPost, Lines, Fails, IsOutcomeOf, OutcomeSound, code_of, body_of}
-use Rattle.chk_collect.specs.Legality.{HasTaken}
+use Rattle.chk_collector_run.specs.Legality.{HasTaken}
 use Rattle.chk_agent.specs.States.{State as Agents, process as agent_of}
 use Rattle.chk_agent.specs.Fits.{IsSound}
 use Rattle.chk_exchange.specs.declared.fault.ExchangeFault.{ExchangeFault}

@@ -14,7 +14,7 @@ use Rattle.chk_world.specs.Together.{Together}
 use Rattle.chk_world.specs.Works.{NoneFailed}
 use Rattle.chk_sink.specs.Held.{Matches as SinksMatch}
 use Rattle.chk_sink.specs.States.{State as Sinks, IsSameStart, process}
-use Rattle.chk_collect.proofs.Turning.{same_process}
+use Rattle.chk_collector_run.proofs.Turning.{same_process}
 use Rattle.chk_delivery.specs.Scripts.{Sends}
 use Rattle.chk_delivery.specs.States.{address_now}
 use Rattle.chk_agent.specs.States.{State as Agents, process as agent_of}

@@ -10,7 +10,7 @@ use Rattle.chk_world.specs.Places.{AtTold}
 use Rattle.chk_world.specs.Rules.{Legal}
 use Rattle.chk_sink.specs.Held.{Holds, Matches as SinksMatch}
 use Rattle.chk_sink.specs.States.{State as Sinks, process}
-use Rattle.chk_collect.specs.Legality.{HasTaken}
+use Rattle.chk_collector_run.specs.Legality.{HasTaken}
 use Rattle.chk_agent.specs.States.{State as Agents}
 use Rattle.chk_agent.specs.Facts.{Matches as AgentMatches}
 use Rattle.chk_exchange.specs.declared.fault.ExchangeFault.{ExchangeFault}

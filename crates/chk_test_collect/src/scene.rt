@@ -4,7 +4,7 @@ ghost use Rattle.chk_bytes.specs.Stems.{is_collector};
 ghost use Rattle.chk_site.specs.declared.acts.Role.TheVariants.{Collector as collector_role};
 
 use chk_bytes::Word;
-use chk_collect::collect;
+use chk_collector_run::collect;
 use chk_sink::SinkFault;
 use chk_site::{Call, Role, Site, Who};
 use chk_site_mem::SiteMem;

@@ -3,8 +3,8 @@ use crate::scene::{
     CUT, DONE, OPEN, POST, count_of, door, ends_well, expect, first, gets, is_long, is_missing,
     nobody, sends, site_of,
 };
-use chk_collect::collector_turn;
 use chk_collector::Collector;
+use chk_collector_run::collector_turn;
 use chk_site::Call;
 use chk_site_mem::SiteMem;
 use chk_test_calls::failing;

@@ -1,4 +1,4 @@
-use Rattle.chk_collect.proofs.Running.{who_is}
+use Rattle.chk_collector_run.proofs.Running.{who_is}
 use Rattle.chk_test_collect.proofs.turns.one_turn.Goals as goal
 
 pub collector_turn-turned-requires : goal.collector_turn-turned-requires
