@@ -21,6 +21,7 @@ mod Readied
 mod FoundPlan
 mod KnownEnds
 mod StartsAgree
+mod SpentCauses
 pub mod Shown
 mod TakenIn
 mod ListingKept

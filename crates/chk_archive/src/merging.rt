@@ -1,6 +1,6 @@
 //! Many segments of the archive are merged into one.
 
-ghost use Rattle.std.specs.Prelude.{◌≡◌, ℕ, List, length, ◌<◌, codes};
+ghost use Rattle.std.specs.Prelude.{◌≡◌, ℕ, List, length, ◌<◌, ◌≤◌, codes, IfErr};
 ghost use Rattle.chk_site.specs.History.{Every};
 ghost use Rattle.chk_site.specs.Site.{Adds};
 ghost use Rattle.chk_site.specs.Runs.{Leads};
@@ -12,6 +12,7 @@ ghost use Rattle.chk_heads.specs.Pieces.{AsksInPieces};
 ghost use Rattle.chk_heads.specs.Causes.{Shows};
 ghost use Rattle.chk_merge.specs.Gone.{IsUnsound};
 ghost use Rattle.chk_book.specs.Books.{book_view};
+ghost use Rattle.chk_archive.specs.Shown.{IfSpent, IsAtLast};
 ghost use Rattle.chk_archive.specs.Tidying.{IsTidy};
 ghost use Rattle.chk_archive.specs.Archived.{MergesBy};
 ghost use Rattle.chk_archive.specs.Merged.{Merged};
@@ -38,7 +39,10 @@ pub(crate) fn merge_many<S: Site>(
     ensures told { (stamped : List (List ℕ)) → Adds (S.told site.old) (S.told site.new)
         (Leads (As stamped job) (AtJob stamped (IsTidy (book_view book.old)))
         (Merged stamped (book_view book.old) (book_view book.new) result)) }
-    ensures few { length (book_view book.old).segments < 16 → S.told site.new ≡ S.told site.old }
+    ensures few { length (book_view book.old).segments < 16
+        → (S.told site.new ≡ S.told site.old) × (book_view book.new ≡ book_view book.old) }
+    ensures spent { IfErr result (IfSpent ((16 ≤ length (book_view book.old).segments)
+        × IsAtLast (book_view book.old))) }
     ensures shown { Adds (S.told site.old) (S.told site.new) (Shows (IsUnsound (codes "archive") (book_view book.old)) result) }
     ensures kept { ((book_view book.new).ends ≡ (book_view book.old).ends) × ((book_view book.new).aside ≡ (book_view book.old).aside) }
     ensures own { Adds (S.told site.old) (S.told site.new) (Every (IsOf MergesBy)) }

@@ -43,7 +43,8 @@ pub(crate) fn finish<S: Site>(
         → IsMergeOf loaded (book_view book) v
         → Adds (S.told site.old) (S.told site.new)
         (Leads (As stamped job) (AtJob stamped (λ u. u ≡ v)) (Archived stamped loaded (report_result result))) }
-    ensures shown { Adds (S.told site.old) (S.told site.new) (ShowsTaken (book_view book).ends (sources_in (book_view book) names.now) result) }
+    ensures shown { Adds (S.told site.old) (S.told site.new)
+        (ShowsTaken (book_view book) (sources_in (book_view book) names.now) result) }
     ensures own { Adds (S.told site.old) (S.told site.new) (Every (IsOf FinishesBy)) }
     ensures pieces { Adds (S.told site.old) (S.told site.new) (Every AsksInPieces) }
     ensures last { Adds (S.told site.old) (S.told site.new) (FailsLast result) }

@@ -15,7 +15,7 @@ ghost use Rattle.chk_heads.specs.Faults.{JobCause, FailsLast};
 ghost use Rattle.chk_heads.specs.Pieces.{AsksInPieces};
 ghost use Rattle.chk_heads.specs.Causes.{Shows};
 ghost use Rattle.chk_merge.specs.Gone.{IsGoneIn};
-ghost use Rattle.chk_archive.specs.Shown.{IsUnfit, ShowsTaken};
+ghost use Rattle.chk_archive.specs.Shown.{IsUnfit, ShowsTaken, IfSpent, IsAtLast, LacksFor, LacksOver, LacksOne};
 ghost use Rattle.chk_book.specs.Books.{book_view};
 ghost use Rattle.chk_merge.specs.Segments.{HasFiles, SparesFiles, AreSettled};
 ghost use Rattle.chk_parts.specs.Cuts.{AreWithin, cut_chunks};
@@ -82,7 +82,8 @@ pub(crate) fn take_in<S: Site>(
     ensures told { (stamped : List (List ℕ)) (v : Sight) → IsListed stamped names.now (book_view book.old) v
         → Adds (S.told site.old) (S.told site.new)
         (Leads (As stamped job) (AtJob stamped (λ u. u ≡ v)) (TookSo stamped v (book_view book.old) (book_view book.new) result)) }
-    ensures shown { Adds (S.told site.old) (S.told site.new) (ShowsTaken (book_view book.old).ends (sources_in (book_view book.old) names.now) result) }
+    ensures shown { Adds (S.told site.old) (S.told site.new)
+        (ShowsTaken (book_view book.old) (sources_in (book_view book.old) names.now) result) }
     ensures own { Adds (S.told site.old) (S.told site.new) (Every (IsOf MergesBy)) }
     ensures pieces { Adds (S.told site.old) (S.told site.new) (Every AsksInPieces) }
     ensures last { Adds (S.told site.old) (S.told site.new) (FailsLast result) }
@@ -112,6 +113,7 @@ fn take_found<S: Site>(
         → (files.now ≡ sources_in (book_view book.old) names) → (heads ≡ heads_of v 0 files.now)
         → Adds (S.told site.old) (S.told site.new)
         (Leads (As stamped job) (AtJob stamped (λ u. u ≡ v)) (TookSo stamped v (book_view book.old) (book_view book.new) result)) }
+    ensures spent { IfErr result (IfSpent (LacksOne (book_view book.old) heads)) }
     ensures shown { Adds (S.told site.old) (S.told site.new) (Shows (IsUnfit (book_view book.old).ends files.now heads) result) }
     ensures own { Adds (S.told site.old) (S.told site.new) (Every (IsOf MergesBy)) }
     ensures pieces { Adds (S.told site.old) (S.told site.new) (Every AsksInPieces) }
@@ -144,6 +146,8 @@ fn take_planned<S: Site>(
         → AreSorted v (sources_in (book_view book.old) names) files.now heads.now old
         → Adds (S.told site.old) (S.told site.new)
         (Leads (As stamped job) (AtJob stamped (λ u. u ≡ v)) (TookSo stamped v (book_view book.old) (book_view book.new) result)) }
+    ensures spent { IfErr result
+        (IfSpent (LacksOver (book_view book.old) heads.now old planned.now)) }
     ensures shown { Adds (S.told site.old) (S.told site.new) (Shows (IsGoneIn files.now heads.now) result) }
     ensures own { Adds (S.told site.old) (S.told site.new) (Every (IsOf MergesBy)) }
     ensures pieces { Adds (S.told site.old) (S.told site.new) (Every AsksInPieces) }
@@ -185,6 +189,8 @@ fn write_planned<S: Site>(
         → Each (IsFirst (in_order (found at.shows.listing)) planned.now.spans.items) kept.now
         → Adds (S.told site.old) (S.told site.new)
         (Leads (As stamped job) (AtJob stamped (λ u. u ≡ v)) (TookSo stamped v (book_view book.old) (book_view book.new) result)) }
+    ensures spent { IfErr result
+        (IfSpent (LacksFor (book_view book.old) heads.now old planned.now.cuts kept.now)) }
     ensures shown { Adds (S.told site.old) (S.told site.new) (Shows (IsGoneIn files.now heads.now) result) }
     ensures own { Adds (S.told site.old) (S.told site.new) (Every (IsOf MergesBy)) }
     ensures pieces { Adds (S.told site.old) (S.told site.new) (Every AsksInPieces) }
@@ -263,6 +269,8 @@ fn prepare<S: Site>(
         → Adds (S.told site.old) (S.told site.new)
         (Leads (As stamped job) (AtJob stamped (λ u. u ≡ v)) (Prepared stamped v (book_view book.old) (book_view book.new)
         (cut_chunks cs cuts.now) (cut_chunks cs kept.now) (stays_aside (book_view book.old) heads.now old kept.now) result)) }
+    ensures spent { IfErr result
+        (IfSpent (LacksFor (book_view book.old) heads.now old cuts.now kept.now)) }
     ensures shown { Adds (S.told site.old) (S.told site.new) (Shows (IsGoneIn files.now heads.now) result) }
     ensures own { Adds (S.told site.old) (S.told site.new) (Every (IsOf MergesBy)) }
     ensures pieces { Adds (S.told site.old) (S.told site.new) (Every AsksInPieces) }
@@ -299,6 +307,7 @@ fn take_parts<S: Site>(
         (Leads (As stamped job) (AtJob stamped (λ u. u ≡ v)) (PartsTaken stamped v (book_view book.old) (book_view book.new)
         (cut_chunks cs cuts.now) result)) }
     ensures none { cuts.now ≡ [] → book_view book.new ≡ book_view book.old }
+    ensures spent { IfErr result (IfSpent ((cuts.now ≡ [] → ⊥) × IsAtLast (book_view book.old))) }
     ensures shown { Adds (S.told site.old) (S.told site.new) (Shows (IsGoneIn files.now heads.now) result) }
     ensures own { Adds (S.told site.old) (S.told site.new) (Every (IsOf MergesBy)) }
     ensures pieces { Adds (S.told site.old) (S.told site.new) (Every AsksInPieces) }
@@ -333,6 +342,10 @@ fn keep_aside<S: Site>(
         (cut_chunks cs kept.now) (stays_aside (book_view book.old) heads.now old kept.now) result)) }
     ensures stays { IsTrue (stays_aside (book_view book.old) heads.now old kept.now)
         → (result ≡ Ok false) × (book_view book.new ≡ book_view book.old) × (S.told site.new ≡ S.told site.old) }
+    ensures spent { IfErr result
+        (IfSpent ((kept.now ≡ [] → ⊥)
+        × (stays_aside (book_view book.old) heads.now old kept.now ≡ false)
+        × IsAtLast (book_view book.old))) }
     ensures shown { Adds (S.told site.old) (S.told site.new) (Shows (IsGoneIn files.now heads.now) result) }
     ensures own { Adds (S.told site.old) (S.told site.new) (Every (IsOf MergesBy)) }
     ensures pieces { Adds (S.told site.old) (S.told site.new) (Every AsksInPieces) }

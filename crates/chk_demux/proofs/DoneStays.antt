@@ -70,6 +70,7 @@ module _ (stamped : List (List ℕ)) (h g : History) (legal : Legal stamped h) (
     added = d.added;
     are = named_same DemuxFolder ∙ d.are;
     segments = subst (λ (v : Sight). OneMore before.segments d.added (own_book v DemuxFolder).segments) (sym same) d.segments;
+    number = d.number;
     order = d.order;
     keys = subst (λ l. Each (HasKey l) d.added) (sym (named_same ArchiveFolder)) d.keys;
     taken = d.taken;

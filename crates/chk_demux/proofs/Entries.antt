@@ -102,12 +102,12 @@ module _ (stamped : List (List ℕ)) (v : Sight) (b : Book) (outs : List Chunk) 
   module _ (s : Segmenter) (new : Book) (first : Result (Unit {0}) JobFault) (r : Result (Unit {0}) OutsideFault)
       {a m z : Option History}
       (finished : Adds a m (Leads (As stamped job) (AtJob stamped (IsSoFar v outs s))
-      (EndsSo stamped v b.next (λ value u. HasWritten v b new outs u) first)))
+      (EndsSo stamped (λ value u. HasWritten v b new outs u) first)))
       (value : Unit {0}) (done : first ≡ Ok value) (own : Adds m z (Every (IsOf ReplacesBook)))
       (second : (w : Sight) → MayFollow stamped DemuxFolder w new
       → Adds m z (Leads (As stamped job) (Knows stamped w) (Published stamped DemuxFolder w new r))) where
     ended : (r : Result (Unit {0}) OutsideFault) (w : Sight) → HasWritten v b new outs w → (h : History)
-        → Published stamped DemuxFolder w new r h → EndsSo stamped v b.next (λ (value : Unit {0}) u. Entered v b outs (Some s) u) (job_result r) h
+        → Published stamped DemuxFolder w new r h → EndsSo stamped (λ (value : Unit {0}) u. Entered v b outs (Some s) u) (job_result r) h
     ended (Ok value) w p h k = record {
       legal = k.legal;
       may_act = k.may_act;
@@ -117,15 +117,15 @@ module _ (stamped : List (List ℕ)) (v : Sight) (b : Book) (outs : List Chunk) 
     ended (Err no_memory) w p h k = k
 
     pub entered_so : Adds a z (Leads (As stamped job) (AtJob stamped (IsSoFar v outs s))
-        (EndsSo stamped v b.next (λ value u. Entered v b outs (Some s) u) (job_result r)))
+        (EndsSo stamped (λ value u. Entered v b outs (Some s) u) (job_result r)))
     entered_so =
-        let C : History → Type 0 = EndsSo stamped v b.next (λ (value : Unit {0}) u. Entered v b outs (Some s) u) (job_result r) in
+        let C : History → Type 0 = EndsSo stamped (λ (value : Unit {0}) u. Entered v b outs (Some s) u) (job_result r) in
         leads_then
-        (so_done stamped v b.next (AtJob stamped (IsSoFar v outs s)) (λ value u. HasWritten v b new outs u) first value done finished)
+        (so_done stamped (AtJob stamped (IsSoFar v outs s)) (λ value u. HasWritten v b new outs u) first value done finished)
         (from_known stamped ReplacesBook (replaces_no_start (codes "demux")) (quiet_replace (codes "demux")) (HasWritten v b new outs) C own
         (λ h k runs.
         let w = sight h in
         let p = k.alive runs in
         reach_known stamped h (HasWritten v b new outs) C
         (leads_as (λ g j. j) (λ g j. ended r w p g j) (second w (may_follow new w p))) k)
-        (λ h y. ends_bottom stamped v b.next (λ value u. Entered v b outs (Some s) u) (job_result r) h y))
+        (λ h y. ends_bottom stamped (λ value u. Entered v b outs (Some s) u) (job_result r) h y))

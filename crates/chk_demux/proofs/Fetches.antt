@@ -29,7 +29,7 @@ use Rattle.chk_parts.proofs.OneSegment.{no_write_starts, quiet_write}
 use Rattle.chk_parts.proofs.Fetches.{one_of_files}
 use Rattle.chk_splitter.specs.Splitting.{Splitting}
 use Rattle.chk_demux.specs.Working.{EndsSo, Failed}
-use Rattle.chk_demux.specs.Writes.{SameBut, SoFar, IsOutput}
+use Rattle.chk_demux.specs.Writes.{SameBut, PutSoFar, IsOutput}
 use Rattle.chk_demux.specs.Giving.{IsSplitting, IsPlaced, chunks_of_fed}
 use Rattle.chk_demux.specs.Splitting.{ends_past, past_of, past_in, RunsSo, SplitSoFar}
 use Rattle.chk_demux.specs.declared.output.Output.{Output}
@@ -74,15 +74,15 @@ module _ (v : Sight) (files : List (List ℕ)) (heads : List Head) (cs outs : Li
   can : CanBeRead v (read W)
   can = (records.sound W (one_of_files v files heads i Own records.sound is)).can
 
-  listing_still : (o : Option Segmenter) (outs : List Chunk) (u : Sight) → SoFar v outs o u → u.listing ≡ v.listing
+  listing_still : (o : Option Segmenter) (outs : List Chunk) (u : Sight) → PutSoFar v outs o u → u.listing ≡ v.listing
   listing_still None outs u p = ap (λ (t : Sight). t.listing) p.1
   listing_still (Some g) outs u p = p.same.listing
 
-  file_still : (o : Option Segmenter) (outs : List Chunk) (u : Sight) → SoFar v outs o u → held u W ≡ held v W
+  file_still : (o : Option Segmenter) (outs : List Chunk) (u : Sight) → PutSoFar v outs o u → held u W ≡ held v W
   file_still None outs u p = ap (λ (t : Sight). held t W) p.1
   file_still (Some g) outs u p = held_still v u g.number (read W) p.same can
 
-  module _ (stamped : List (List ℕ)) (next : ℕ) (t : RecordReader) (result : Result (Unit {0}) JobFault) {old mid : Option History}
+  module _ (stamped : List (List ℕ)) (t : RecordReader) (result : Result (Unit {0}) JobFault) {old mid : Option History}
       (raw : (v : Sight) (c : Chunk) → AreSound v files → IsRecordAt v files heads i c
       → Adds old mid (Leads (anyhow (SparesFile W)) (CanFetch v files heads i r) (Fetched v files heads i c t result)))
       (own : Adds old mid (Every (IsOf ReadsFile))) where
@@ -100,12 +100,12 @@ module _ (v : Sight) (files : List (List ℕ)) (heads : List Head) (cs outs : Li
 
     -- it couldn't be fetched
     pub not_fetched : {U : Type 0} (Q : U → Sight → Type 0) (fault : JobFault) → result ≡ Err fault → IsOfRead fault
-        → Adds old mid (Leads (As stamped job) (AtJob stamped P) (EndsSo stamped v next Q (Err fault)))
+        → Adds old mid (Leads (As stamped job) (AtJob stamped P) (EndsSo stamped Q (Err fault)))
     not_fetched Q fault e only = leads_as (λ h k. k) (λ h z. go fault e only h z.0 z.1) led
       where
         go : (fault : JobFault) → result ≡ Err fault → IsOfRead fault → (h : History) → AtJob stamped P h
             → (is_stopped h ≡ false → AreWindows v files r → Fetched v files heads i Own t result h)
-            → Failed stamped v next fault h
+            → Failed stamped fault h
         go (Outside call) e only h p f = p.legal
         go (Damaged name at) e only h p f = record {
           legal = p.legal;
@@ -142,7 +142,7 @@ module _ (v : Sight) (files : List (List ℕ)) (heads : List Head) (cs outs : Li
         (told : (fed : List ℕ) → IsSplitting b fed s → IsPlaced heads e i from (fed ++ given)
         → Adds mid new (Leads (As stamped job)
         (AtJob stamped (IsOutput v (outs ++ chunks_of_fed heads e from b fed) o))
-        (EndsSo stamped v next (λ value u. IsOutput v (outs ++ chunks_of_fed heads e from b (fed ++ given)) n u) z))) where
+        (EndsSo stamped (λ value u. IsOutput v (outs ++ chunks_of_fed heads e from b (fed ++ given)) n u) z))) where
       given_so : X → given ≡ past_of from Own
       given_so x =
           given_is ∙ ap₂ (λ m l. drop (from - m) l)
@@ -155,8 +155,8 @@ module _ (v : Sight) (files : List (List ℕ)) (heads : List Head) (cs outs : Li
 
       ended : (z : Result (Unit {0}) JobFault) → X
           → ((value : Unit {0}) → z ≡ Ok value → IsSplitting b (Fed i ++ given) q) → (h : History)
-          → EndsSo stamped v next (λ (value : Unit {0}) u. IsOutput v (outs ++ chunks_of_fed heads e from b (Fed i ++ given)) n u) z h
-          → EndsSo stamped v next (λ (value : Unit {0}) u. SplitSoFar v files heads cs outs e from (i + 1) b n t q u) z h
+          → EndsSo stamped (λ (value : Unit {0}) u. IsOutput v (outs ++ chunks_of_fed heads e from b (Fed i ++ given)) n u) z h
+          → EndsSo stamped (λ (value : Unit {0}) u. SplitSoFar v files heads cs outs e from (i + 1) b n t q u) z h
       ended (Ok value) x split h k = record {
         legal = k.legal;
         may_act = k.may_act;
@@ -171,10 +171,10 @@ module _ (v : Sight) (files : List (List ℕ)) (heads : List Head) (cs outs : Li
       ended (Err fault) x split h k = k
 
       pub record_split : Adds old new (Leads (As stamped job) (AtJob stamped P)
-          (EndsSo stamped v next (λ value u. SplitSoFar v files heads cs outs e from (i + 1) b n t q u) z))
+          (EndsSo stamped (λ value u. SplitSoFar v files heads cs outs e from (i + 1) b n t q u) z))
       record_split =
           let C : History → Type 0 =
-          EndsSo stamped v next (λ value u. SplitSoFar v files heads cs outs e from (i + 1) b n t q u) z in
+          EndsSo stamped (λ value u. SplitSoFar v files heads cs outs e from (i + 1) b n t q u) z in
           leads_then (is_fetched value done)
           (from_known stamped (WritesTo w) (no_write_starts w) (quiet_write w) (λ u. P u × X) C writes
           (λ h k going.
@@ -186,4 +186,4 @@ module _ (v : Sight) (files : List (List ℕ)) (heads : List Head) (cs outs : Li
           reach stamped h (AtJob stamped (IsOutput v (outs ++ chunks_of_fed heads e from b fed) o)) C
           (leads_as (λ h k. k) (λ g j. ended z px.1 (λ value e. splits fed px.0.splits value e) g j) (told fed px.0.splits placed))
           (record { legal = k.legal; may_act = k.may_act; alive = λ still. px.0.output }))
-          (λ h y. ends_bottom stamped v next (λ value u. SplitSoFar v files heads cs outs e from (i + 1) b n t q u) z h y))
+          (λ h y. ends_bottom stamped (λ value u. SplitSoFar v files heads cs outs e from (i + 1) b n t q u) z h y))

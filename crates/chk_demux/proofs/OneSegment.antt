@@ -1,5 +1,5 @@
 -- One segment of records that no book names is written.
-use Rattle.std.proofs.Common.{◌≡◌, ℕ, true, false, List, [], ◌∷◌, ◌++◌, length, Option, None, Ok, Err, Result, ap, sym, subst, ◌∙◌, refl, if◌then◌else◌, arith}
+use Rattle.std.proofs.Common.{◌≡◌, ℕ, ◌-◌, ◌^◌, true, false, List, [], ◌∷◌, ◌++◌, length, Option, None, Ok, Err, Result, ap, sym, subst, ◌∙◌, refl, if◌then◌else◌, arith}
 use Rattle.std.specs.Prelude.{IsTrue, IsFalse, codes, nat_eq, OnOk, IfOk, IfErr}
 use Rattle.std.specs.List.{list_any}
 use Rattle.std.proofs.lemmas.Bool.{and_from}
@@ -113,41 +113,37 @@ module _ (stamped : List (List ℕ)) (v : Sight) (outs : List Chunk) (b : Book) 
         };
   }
 
-  not_begun : (fault : JobFault) → IsOfBegin fault → SpentBook {T = Segmenter} b (Err fault) → (h : History)
-      → AtJob stamped (SameBut b.next v) h → Failed stamped v b.next fault h
-  not_begun (Outside call) only spent h k = k.legal
-  not_begun (Damaged name place) only spent h k = absurd only
-  not_begun (Spent n) only spent h k = record {
-    legal = k.legal;
-    may_act = k.may_act;
-    alive = λ runs. (k.alive runs, spent.0, spent.1);
-  }
-  not_begun NoMemory only spent h k = k.legal
+  not_begun : (b.next ≡ 2 ^ 63 - 1 → ⊥) → (fault : JobFault) → IsOfBegin fault → SpentBook {T = Segmenter} b (Err fault)
+      → (h : History) → AtJob stamped (SameBut b.next v) h → Failed stamped fault h
+  not_begun below (Outside call) only spent h k = k.legal
+  not_begun below (Damaged name place) only spent h k = absurd only
+  not_begun below (Spent n) only spent h k = absurd (below spent.1)
+  not_begun below NoMemory only spent h k = k.legal
 
-  pub opened : (r : Result Segmenter JobFault) → IfOk r (λ s. IsAt s (begun (codes "demux") b.next)) → IfErr r IsOfBegin
-      → SpentBook b r → {old new : Option History}
+  pub opened : (b.next ≡ 2 ^ 63 - 1 → ⊥) → (r : Result Segmenter JobFault)
+      → IfOk r (λ s. IsAt s (begun (codes "demux") b.next)) → IfErr r IsOfBegin → SpentBook b r → {old new : Option History}
       → Adds old new (Leads (anyhow (SparesFile (segment_name (codes "demux") b.next))) (λ h. Unit {0})
       (HasBegun (codes "demux") b r))
       → Adds old new (Every (IsOf (WritesTo (segment_name (codes "demux") b.next))))
       → Adds old new (Leads (As stamped job) (AtJob stamped (SoFar v outs None))
-      (EndsSo stamped v b.next (λ s u. IsSoFar v [] s u) r))
-  opened r at only spent raw own =
+      (EndsSo stamped (λ s u. IsSoFar v [] s u) r))
+  opened below r at only spent raw own =
       leads_as (λ h k. (known h k, tt, tt)) (λ h z. go r at only spent h z.0 z.2)
       (over_segment stamped v b.next free (λ h. Unit {0}) (HasBegun (codes "demux") b r) raw own)
     where
       go : (r : Result Segmenter JobFault) → IfOk r (λ s. IsAt s (begun (codes "demux") b.next)) → IfErr r IsOfBegin
           → SpentBook b r → (h : History) → AtJob stamped (SameBut b.next v) h → HasBegun (codes "demux") b r h
-          → EndsSo stamped v b.next (λ s u. IsSoFar v [] s u) r h
+          → EndsSo stamped (λ s u. IsSoFar v [] s u) r h
       go (Ok s) at only spent h same has = begun_at s at h same has
-      go (Err fault) at only spent h same has = not_begun fault only spent h same
+      go (Err fault) at only spent h same has = not_begun below fault only spent h same
 
   -- where none were written yet they are these
   pub opened_so : (r : Result Segmenter JobFault) {old new : Option History}
       → Adds old new (Every (IsOf (WritesTo (segment_name (codes "demux") b.next))))
       → Adds old new (Leads (As stamped job) (AtJob stamped (SoFar v outs None))
-      (EndsSo stamped v b.next (λ s u. IsSoFar v [] s u) r))
+      (EndsSo stamped (λ s u. IsSoFar v [] s u) r))
       → Adds old new (Leads (As stamped job) (AtJob stamped (SoFar v outs None))
-      (EndsSo stamped v b.next (λ s u. IsSoFar v outs s u) r))
+      (EndsSo stamped (λ s u. IsSoFar v outs s u) r))
   opened_so r own told =
       let W : List ℕ = segment_name (codes "demux") b.next in
       leads_as
@@ -158,10 +154,10 @@ module _ (stamped : List (List ℕ)) (v : Sight) (outs : List Chunk) (b : Book) 
       })
       (λ h z. go r h z.0 z.1)
       (with_fact stamped (WritesTo W) (no_write_starts W) (quiet_write W) (outs ≡ []) (SoFar v outs None)
-      (EndsSo stamped v b.next (λ s u. IsSoFar v [] s u) r) own told)
+      (EndsSo stamped (λ s u. IsSoFar v [] s u) r) own told)
     where
-      go : (r : Result Segmenter JobFault) (h : History) → EndsSo stamped v b.next (λ s u. IsSoFar v [] s u) r h
-          → (is_stopped h ≡ false → outs ≡ []) → EndsSo stamped v b.next (λ s u. IsSoFar v outs s u) r h
+      go : (r : Result Segmenter JobFault) (h : History) → EndsSo stamped (λ s u. IsSoFar v [] s u) r h
+          → (is_stopped h ≡ false → outs ≡ []) → EndsSo stamped (λ s u. IsSoFar v outs s u) r h
       go (Ok s) h k none = record {
         legal = k.legal;
         may_act = k.may_act;
@@ -169,9 +165,10 @@ module _ (stamped : List (List ℕ)) (v : Sight) (outs : List Chunk) (b : Book) 
       }
       go (Err fault) h k none = k
 
-pub begun_for : (s : Segmenter) (n : ℕ) → IsAt s (begun (codes "demux") n) → s.who ≡ job → IsForDemux n s
-begun_for s n at who =
-    record { who = who; number = at.number; w = begun (codes "demux") n; at = at; folder = refl }
+pub begun_for : (s : Segmenter) (n : ℕ) → (n ≡ 2 ^ 63 - 1 → ⊥) → IsAt s (begun (codes "demux") n) → s.who ≡ job
+    → IsForDemux n s
+begun_for s n below at who =
+    record { below = below; who = who; number = at.number; w = begun (codes "demux") n; at = at; folder = refl }
 
 -- ---- a record is put behind the others
 
@@ -182,6 +179,7 @@ module _ (k : ℕ) (s t : Segmenter) (c : Chunk) (r : Result (Unit {0}) JobFault
     where
       go : (r : Result (Unit {0}) JobFault) → OnOk r (IsAt t (taken s f.w c)) → OnOk r (IsForDemux k t)
       go (Ok value) a = record {
+        below = f.below;
         who = who ∙ f.who;
         number = a.number ∙ (sym f.at.number ∙ f.number);
         w = taken s f.w c;
@@ -216,7 +214,7 @@ module _ (stamped : List (List ℕ)) (v : Sight) (k : ℕ) (s t : Segmenter) (of
   ended : (r : Result (Unit {0}) JobFault) (w : Writing) → IsAt s w → w.folder ≡ codes "demux"
       → w.chunks ≡ chunks → OnOk r (IsAt t (taken s w c)) → IfErr r IsOfWrite → (h : History)
       → AtJob stamped (SameBut k v) h → HasTaken s w c r h
-      → EndsSo stamped v k (λ value u. IsSoFar v (chunks ++ c ∷ []) t u) r h
+      → EndsSo stamped (λ value u. IsSoFar v (chunks ++ c ∷ []) t u) r h
   ended (Ok value) w a folder are after only h same taken_so = record {
     legal = same.legal;
     may_act = same.may_act;
@@ -251,9 +249,9 @@ module _ (stamped : List (List ℕ)) (v : Sight) (k : ℕ) (s t : Segmenter) (of
 
   pub put_so : IfErr r IsOfWrite
       → Adds old new (Leads (As stamped job) (AtJob stamped (IsSoFar v chunks s))
-      (EndsSo stamped v k (λ value u. IsSoFar v (chunks ++ c ∷ []) t u) r))
+      (EndsSo stamped (λ value u. IsSoFar v (chunks ++ c ∷ []) t u) r))
   put_so only =
-      let C : History → Type 0 = EndsSo stamped v k (λ value u. IsSoFar v (chunks ++ c ∷ []) t u) r in
+      let C : History → Type 0 = EndsSo stamped (λ value u. IsSoFar v (chunks ++ c ∷ []) t u) r in
       from_known stamped (WritesTo W) (no_write_starts W) (quiet_write W) (IsSoFar v chunks s) C own
       (λ h j runs.
       let p : IsSoFar v chunks s (sight h) = j.alive runs in
@@ -265,7 +263,7 @@ module _ (stamped : List (List ℕ)) (v : Sight) (k : ℕ) (s t : Segmenter) (of
       (subst (λ n. Adds old new (Leads (anyhow (SparesFile n)) (HoldsSegment w) (HasTaken s w c r)))
       (named w p.at p.folder) (raw w p.at)) own))
       (record { legal = j.legal; may_act = j.may_act; alive = λ r. subst (λ n. SameBut n v (sight h)) of p.same }, tt, holds h p))
-      (λ h z. ends_bottom stamped v k (λ value u. IsSoFar v (chunks ++ c ∷ []) t u) r h z)
+      (λ h z. ends_bottom stamped (λ value u. IsSoFar v (chunks ++ c ∷ []) t u) r h z)
 
 -- ---- it is finished
 
@@ -312,7 +310,7 @@ module _ (stamped : List (List ℕ)) (v : Sight) (s : Segmenter) (b after : Book
   finished : (r : Result (Unit {0}) JobFault) (w : Writing) → IsAt s w → w.folder ≡ codes "demux"
       → w.chunks ≡ chunks → IfErr r IsOfWrite → (h : History)
       → AtJob stamped (SameBut b.next v) h → HasEnded w b after r h
-      → EndsSo stamped v b.next (λ value u. HasWritten v b after chunks u) r h
+      → EndsSo stamped (λ value u. HasWritten v b after chunks u) r h
   finished (Ok value) w a folder are only h same fin = record {
     legal = same.legal;
     may_act = same.may_act;
@@ -338,9 +336,9 @@ module _ (stamped : List (List ℕ)) (v : Sight) (s : Segmenter) (b after : Book
 
   pub finish_so : IfErr r IsOfWrite
       → Adds old new (Leads (As stamped job) (AtJob stamped (IsSoFar v chunks s))
-      (EndsSo stamped v b.next (λ value u. HasWritten v b after chunks u) r))
+      (EndsSo stamped (λ value u. HasWritten v b after chunks u) r))
   finish_so only =
-      let C : History → Type 0 = EndsSo stamped v b.next (λ value u. HasWritten v b after chunks u) r in
+      let C : History → Type 0 = EndsSo stamped (λ value u. HasWritten v b after chunks u) r in
       from_known stamped (WritesTo V) (no_write_starts V) (quiet_write V) (IsSoFar v chunks s) C own
       (λ h k runs.
       let p : IsSoFar v chunks s (sight h) = k.alive runs in
@@ -359,4 +357,4 @@ module _ (stamped : List (List ℕ)) (v : Sight) (s : Segmenter) (b after : Book
         tt,
         still_holds h p,
       ))
-      (λ h z. ends_bottom stamped v b.next (λ value u. HasWritten v b after chunks u) r h z)
+      (λ h z. ends_bottom stamped (λ value u. HasWritten v b after chunks u) r h z)

@@ -1,6 +1,9 @@
 -- What a demux run supposes of what the job knows, and what its end says, at a legal history.
-use Rattle.std.proofs.Common.{◌≡◌, ℕ, ◌+◌, ◌≤◌, List, [], ◌∷◌, ◌++◌, length, map, Option, Some, None, ap, ap₂, sym, subst, ◌∙◌, refl, arith}
+use Rattle.std.proofs.Common.{◌≡◌, ℕ, ◌+◌, ◌-◌, ◌^◌, ◌≤◌, ◌<◌, if◌then◌else◌, List, [], ◌∷◌, ◌++◌, length, map, Option, Some, None, ap, ap₂, sym, subst, ◌∙◌, refl, arith}
 use Rattle.std.specs.Prelude.{Contains, codes, filter, flat_map}
+use Rattle.std.proofs.lemmas.List.{map-append}
+use Rattle.std.proofs.lemmas.List.Elements.{filter-append}
+use Rattle.chk_book.proofs.EndRaises.{stream_self}
 use Rattle.chk_site.specs.History.{History, files_after}
 use Rattle.chk_chunk.specs.Keys.{Stream, Chunk, is_of}
 use Rattle.chk_world.specs.Names.{ArchiveFolder, DemuxFolder, BookFile, SegmentFile}
@@ -9,6 +12,7 @@ use Rattle.chk_world.specs.Books.{Segment, End, Book, book_in, book_of, chunks_i
 use Rattle.chk_world.specs.Jobs.{NewBook}
 use Rattle.chk_world.specs.Rules.{Legal}
 use Rattle.chk_world.specs.Sight.{Sight, sight, own_book, own_chunks}
+use Rattle.chk_world.specs.Committed.{archive_of_stream}
 use Rattle.chk_world.specs.Splits.{record_in, split}
 use Rattle.chk_world.specs.Streams.{start_of}
 use Rattle.chk_world.specs.TrueBooks.{HasBytes}
@@ -22,7 +26,7 @@ use Rattle.chk_merge.specs.Segments.{names_of}
 use Rattle.chk_parts.specs.Gathering.{heads_of}
 use Rattle.chk_book.specs.Segmenting.{with_segment}
 use Rattle.chk_book.specs.declared.segmenter.Segmenter.{Segmenter}
-use Rattle.chk_demux.specs.Demuxed.{all_named, NamesStamped, OneMore, HasKey, DemuxDone}
+use Rattle.chk_demux.specs.Demuxed.{all_named, NamesStamped, OneMore, HasKey, DemuxDone, IsDue}
 use Rattle.chk_demux.specs.Beginning.{own_earlier}
 use Rattle.chk_demux.specs.Entering.{MayEnter, SameBeside, NamesMore, Entered}
 use Rattle.chk_demux.specs.Running.{IsReady, CanSplit, archive_heads}
@@ -55,8 +59,9 @@ pub record CanRun (stamped types : List (List ℕ)) (a b : Book) (v : Sight) : T
   pub book : own_book v DemuxFolder ≡ b
   pub may : MayEnter stamped v b (News types a b v cs)
   pub done : (h : History) → Legal stamped h → (s : Option Segmenter) → HasSome s (News types a b v cs)
-      → Entered v b (News types a b v cs) s (sight h) → (r : DemuxReport) → Counts types a b v cs r
-      → DemuxDone stamped (own_earlier v) r h
+      → Entered v b (News types a b v cs) s (sight h) → (0 < length (News types a b v cs) → b.next ≡ 2 ^ 63 - 1 → ⊥)
+      → (r : DemuxReport) → Counts types a b v cs r → DemuxDone stamped (own_earlier v) r h
+  pub due : (h : History) → Legal stamped h → sight h ≡ v → 0 < length (News types a b v cs) → IsDue stamped h
 
 each_flat_in : (P : Chunk → Type 0) (f : End → List Chunk) (es : List End) → ((e : End) → Contains es e → Each P (f e))
     → Each P (flat_map f es)
@@ -75,6 +80,28 @@ one_more : (s : Option Segmenter) (outs : List Chunk) (b new : Book) → HasSome
 one_more None outs b new some m = subst (λ l. OneMore b.segments l new.segments) (sym m.0) m.1
 one_more (Some s) [] b new some m = absurd (let z : ⊥ = omega (arith, some) in z)
 one_more (Some s) (c ∷ outs) b new some m = m
+
+-- the first one of new records is still to be written
+is_due : (stamped : List (List ℕ)) (h : History) (olds outs : List Chunk) → olds ≡ all_named (files_after h) DemuxFolder
+    → ((s : Stream) → map record_in (filter (is_of s) (olds ++ outs)) ≡ split stamped s (start_of h s) (archive_of_stream (files_after h) s))
+    → 0 < length outs → IsDue stamped h
+is_due stamped h olds [] are splits some = absurd (let z : ⊥ = omega (arith, some) in z)
+is_due stamped h olds (c ∷ outs) are splits some = record {
+  stream = s;
+  record_is = record_in c;
+  more = map record_in (filter (is_of s) outs);
+  split_is =
+      sym (splits s)
+      ∙ (ap (map record_in) (filter-append (is_of s) olds (c ∷ outs) ∙ ap (λ l. filter (is_of s) olds ++ l) own)
+      ∙ (map-append record_in (filter (is_of s) olds) (c ∷ filter (is_of s) outs)
+      ∙ ap (λ l. map record_in (filter (is_of s) l) ++ record_in c ∷ map record_in (filter (is_of s) outs)) are));
+}
+  where
+    s : Stream
+    s = c.key.stream
+
+    own : filter (is_of s) (c ∷ outs) ≡ c ∷ filter (is_of s) outs
+    own = ap (λ t. if t then c ∷ filter (is_of s) outs else filter (is_of s) outs) (stream_self s)
 
 module _ (stamped types : List (List ℕ)) (named : NamesStamped stamped types) (history : History)
     (legal : Legal stamped history) where
@@ -112,6 +139,32 @@ module _ (stamped types : List (List ℕ)) (named : NamesStamped stamped types) 
         (λ g one. ap chunks_in (same_segments g.number))
         ∙ named_known stamped history legal ArchiveFolder))
 
+    starts_then : (s : Stream) (e : End) → Contains A.ends e → e.stream ≡ s → e.start ≡ start_of h s
+    starts_then s e one is =
+        let true_then = books_stay_true stamped h then_legal ArchiveFolder in
+        has_start_is h e (true_then.starts e (subst (λ (x : Book). Contains x.ends e) (sym same_book) one))
+        ∙ ap (start_of h) is
+
+    split_then : (s : Stream) → map record_in (filter (is_of s) (Olds ++ Outs))
+        ≡ split stamped s (start_of h s) (archive_of_stream (files_after h) s)
+    split_then s =
+        whole_split stamped types named history legal Heads s (start_of h s) (starts_then s)
+        ∙ ap (λ l. split stamped s (start_of h s) (values (filter (is_of s) l))) (sym same_archive)
+
+  -- ---- where no number is left for their segment
+
+  due_here : (h : History) → Legal stamped h → sight h ≡ V → 0 < length Outs → IsDue stamped h
+  due_here h then_legal same some =
+      is_due stamped h Olds Outs olds
+      (split_then h then_legal (ap (λ (v : Sight). own_book v ArchiveFolder) same)
+      (λ k. ap (λ (v : Sight). v.own (SegmentFile ArchiveFolder k)) same)) some
+    where
+      olds : Olds ≡ all_named (files_after h) DemuxFolder
+      olds =
+          sym (named_known stamped history legal DemuxFolder)
+          ∙ (ap (λ (v : Sight). own_chunks v DemuxFolder (own_book v DemuxFolder).segments) (sym same)
+          ∙ named_known stamped h then_legal DemuxFolder)
+
   may_enter : MayEnter stamped V D Outs
   may_enter = (refl, enter)
     where
@@ -147,12 +200,6 @@ module _ (stamped types : List (List ℕ)) (named : NamesStamped stamped types) 
         each_back HasBytes Olds Outs
         (subst (Each HasBytes) records_here (each_named (files_after h) DemuxFolder (book_of (files_after h) DemuxFolder)))
 
-    starts_then : (s : Stream) (e : End) → Contains A.ends e → e.stream ≡ s → e.start ≡ start_of h s
-    starts_then s e one is =
-        let true_then = books_stay_true stamped h then_legal ArchiveFolder in
-        has_start_is h e (true_then.starts e (subst (λ (x : Book). Contains x.ends e) (sym entered.archive) one))
-        ∙ ap (start_of h) is
-
     each_key : (e : End) → Contains A.ends e → Each (HasKey Cs) (stream_chunks types D Heads Cs e)
     each_key e one =
         let own : Each HasBytes (stream_chunks types D Heads Cs e) =
@@ -170,15 +217,16 @@ module _ (stamped types : List (List ℕ)) (named : NamesStamped stamped types) 
         low : (n : ℕ) → n ≤ n
         low n = omega arith
 
-    done_so : (r : DemuxReport) → Counts types A D V Cs r → DemuxDone stamped (own_earlier V) r h
-    done_so r counts = record {
+    done_so : (0 < length Outs → D.next ≡ 2 ^ 63 - 1 → ⊥) → (r : DemuxReport) → Counts types A D V Cs r
+        → DemuxDone stamped (own_earlier V) r h
+    done_so number r counts = record {
       all = λ s.
           ap (λ l. map record_in (filter (is_of s) l)) records_here
-          ∙ (whole_split stamped types named history legal Heads s (start_of h s) (starts_then s)
-          ∙ ap (λ l. split stamped s (start_of h s) (values (filter (is_of s) l))) (sym archive_is));
+          ∙ split_then h then_legal entered.archive entered.segments s;
       added = Outs;
       are = records_are;
       segments = one_more s Outs D (own_book (sight h) DemuxFolder) some entered.more;
+      number = number;
       order = all_in_order types D Heads Cs A.ends (archive_rises stamped types named history legal Heads);
       keys = subst (λ l. Each (HasKey l) Outs) (sym archive_is)
           (each_flat_in (HasKey Cs) (stream_chunks types D Heads Cs) A.ends each_key);
@@ -206,12 +254,14 @@ module _ (stamped types : List (List ℕ)) (named : NamesStamped stamped types) 
     };
     book = refl;
     may = subst (MayEnter stamped V D) (sym same_news) may_enter;
-    done = λ h legal_then s some entered r counts.
-        done_so h legal_then s (subst (HasSome s) same_news some) (subst (λ l. Entered V D l s (sight h)) same_news entered) r (record {
+    done = λ h legal_then s some entered number r counts.
+        done_so h legal_then s (subst (HasSome s) same_news some) (subst (λ l. Entered V D l s (sight h)) same_news entered)
+        (λ one. number (subst (λ (l : List Chunk). 0 < length l) (sym same_news) one)) r (record {
           taken = counts.taken ∙ ap bytes_of same_news;
           entries = counts.entries ∙ ap length same_news;
           left = counts.left ∙ same_left types D Heads Cs A.ends (archive_runs stamped history legal D);
         });
+    due = λ h legal_then same some. due_here h legal_then same (subst (λ (l : List Chunk). 0 < length l) same_news some);
   }
 
 pub can_run : (stamped types : List (List ℕ)) → NamesStamped stamped types → (a b : Book) (v : Sight) → IsReady stamped a b v

@@ -1,6 +1,11 @@
 -- What the parts of a demux run lead to, up to its end.
-use Rattle.std.proofs.Common.{◌≡◌, inl, inr, ℕ, false, List, [], Option, None, Ok, Err, Result, ap, sym, subst, ◌∙◌, refl}
+use Rattle.std.proofs.Common.{◌≡◌, inl, inr, ℕ, ◌-◌, ◌^◌, ◌<◌, ◌&&◌, Bool, true, false, nat_eq, nat_lt, arith, Some, List, [], Option, None, Ok, Err, Result, ap, sym, subst, ◌∙◌, refl}
 use Rattle.std.specs.Prelude.{codes, length, IsTrue, IfOk, IfErr}
+use Rattle.std.proofs.lemmas.Bool.{and_parts}
+use Rattle.std.proofs.lemmas.List.{nil_from_length}
+use Rattle.chk_world.proofs.NameTests.{nat_same, nat_self}
+use Rattle.chk_book.specs.declared.segmenter.Segmenter.{Segmenter}
+use Rattle.chk_demux.proofs.Outputs.{none_at_last}
 use Rattle.chk_site.specs.Acts.{Deed}
 use Rattle.chk_site.specs.History.{History, Every, is_stopped}
 use Rattle.chk_site.specs.Site.{Adds}
@@ -12,7 +17,7 @@ use Rattle.chk_chunk.specs.Keys.{Chunk}
 use Rattle.chk_world.specs.Names.{DemuxFolder, BookFile}
 use Rattle.chk_world.specs.Books.{Book, book_in, ends_rise}
 use Rattle.chk_world.specs.Places.{As}
-use Rattle.chk_world.specs.Sight.{job, Sight, sight, AtJob}
+use Rattle.chk_world.specs.Sight.{job, Sight, sight, own_book, AtJob}
 use Rattle.chk_world.specs.JobSteps.{IsOf, ReadsFile, ReadsOrWrites}
 use Rattle.chk_heads.specs.declared.fault.JobFault.{JobFault}
 use Rattle.chk_heads.specs.declared.fault.JobFault.TheVariants.{Outside, Damaged, Spent, NoMemory}
@@ -33,7 +38,7 @@ use Rattle.chk_demux.specs.Demuxed.{Earlier, Begun, Demuxed, DemuxesBy, starts, 
 use Rattle.chk_demux.specs.Running.{IsReady, Ran, RunsOn, CanSplit, archive_heads, Reports, goes_reading, goes_writing, goes_replacing}
 use Rattle.chk_demux.specs.Splitting.{all_chunks, all_left, SplitAll, StreamsRise}
 use Rattle.chk_demux.specs.Working.{Worked, Failed, EndsSo}
-use Rattle.chk_demux.specs.Writes.{IsFree, IsOutput, SoFar, HasSome, bytes_of}
+use Rattle.chk_demux.specs.Writes.{IsFree, IsWriter, IsOutput, SoFar, PutSoFar, HasSome, bytes_of}
 use Rattle.chk_demux.specs.Entering.{MayEnter, Entered}
 use Rattle.chk_demux.specs.declared.beginning.Books.{Books}
 use Rattle.chk_demux.specs.declared.output.Output.{Output}
@@ -68,7 +73,7 @@ none_told folder b names heads well name at bad = go bad.1
     go (inl one) = none-some one.head (sym (well bad.0).0 ∙ one.is)
     go (inr one) = one.1 (well bad.0).1
 
-module _ (stamped : List (List ℕ)) (v : Sight) (next : ℕ) (names : List (List ℕ)) (q : Result (List Head) JobFault)
+module _ (stamped : List (List ℕ)) (v : Sight) (names : List (List ℕ)) (q : Result (List Head) JobFault)
     (only : IfErr q IsOfRead) {old mid : Option History}
     (told : Adds old mid (Leads (As stamped job) (AtJob stamped (λ u. u ≡ v)) (Found stamped v names q))) where
   abbrev IsFound : List Head → Sight → Type 0
@@ -77,11 +82,11 @@ module _ (stamped : List (List ℕ)) (v : Sight) (next : ℕ) (names : List (Lis
   abbrev IsSorted : List Head → Sight → Type 0
   IsSorted heads u = (u ≡ v) × (heads ≡ in_head_order (heads_of v 0 names))
 
-  found : Adds old mid (Leads (As stamped job) (AtJob stamped (λ u. u ≡ v)) (EndsSo stamped v next IsFound q))
+  found : Adds old mid (Leads (As stamped job) (AtJob stamped (λ u. u ≡ v)) (EndsSo stamped IsFound q))
   found = leads_as (λ h z. z) (λ h z. go q only h z) told
     where
       go : (q : Result (List Head) JobFault) → IfErr q IsOfRead → (h : History) → Found stamped v names q h
-          → EndsSo stamped v next IsFound q h
+          → EndsSo stamped IsFound q h
       go (Ok heads) read h z = z
       go (Err (Outside call)) read h z = z
       go (Err (Damaged name place)) read h z = z
@@ -89,25 +94,25 @@ module _ (stamped : List (List ℕ)) (v : Sight) (next : ℕ) (names : List (Lis
       go (Err NoMemory) read h z = z
 
   pub not_found : (fault : JobFault) → q ≡ Err fault
-      → Adds old mid (Leads (As stamped job) (AtJob stamped (λ u. u ≡ v)) (EndsSo stamped v next IsSorted (Err fault)))
-  not_found fault is = so_fails stamped v next (AtJob stamped (λ u. u ≡ v)) IsFound IsSorted q fault is found
+      → Adds old mid (Leads (As stamped job) (AtJob stamped (λ u. u ≡ v)) (EndsSo stamped IsSorted (Err fault)))
+  not_found fault is = so_fails stamped (AtJob stamped (λ u. u ≡ v)) IsFound IsSorted q fault is found
 
   module _ (heads : List Head) (is : q ≡ Ok heads) where
-    pub not_sorted : Adds old mid (Leads (As stamped job) (AtJob stamped (λ u. u ≡ v)) (EndsSo stamped v next IsSorted (Err NoMemory)))
+    pub not_sorted : Adds old mid (Leads (As stamped job) (AtJob stamped (λ u. u ≡ v)) (EndsSo stamped IsSorted (Err NoMemory)))
     not_sorted =
-        no_more stamped v next (AtJob stamped (λ u. u ≡ v)) (IsFound heads) IsSorted
-        (so_done stamped v next (AtJob stamped (λ u. u ≡ v)) IsFound q heads is found)
+        no_more stamped (AtJob stamped (λ u. u ≡ v)) (IsFound heads) IsSorted
+        (so_done stamped (AtJob stamped (λ u. u ≡ v)) IsFound q heads is found)
 
     -- the records don't run, which never is where they do
     pub not_checked : (b : Book) → AllGoWell b.ends (heads_of v 0 names) → (fault : JobFault)
         → ToldOfSome (codes "archive") b names heads fault
-        → Adds old mid (Leads (As stamped job) (AtJob stamped (λ u. u ≡ v)) (EndsSo stamped v next IsSorted (Err fault)))
+        → Adds old mid (Leads (As stamped job) (AtJob stamped (λ u. u ≡ v)) (EndsSo stamped IsSorted (Err fault)))
     not_checked b well fault bad =
         leads_as (λ h z. z) (λ h z. go fault bad h z)
-        (so_done stamped v next (AtJob stamped (λ u. u ≡ v)) IsFound q heads is found)
+        (so_done stamped (AtJob stamped (λ u. u ≡ v)) IsFound q heads is found)
       where
         go : (fault : JobFault) → ToldOfSome (codes "archive") b names heads fault → (h : History)
-            → AtJob stamped (IsFound heads) h → Failed stamped v next fault h
+            → AtJob stamped (IsFound heads) h → Failed stamped fault h
         go (Outside call) bad h z = absurd bad.1
         go (Damaged name place) bad h z = record {
           legal = z.legal;
@@ -123,7 +128,7 @@ module _ (stamped : List (List ℕ)) (v : Sight) (next : ℕ) (names : List (Lis
     all_sorted sorted order =
         leads_as (λ h z. z)
         (λ h z. at_as stamped (IsFound heads) (IsSorted sorted) (λ u p. (p.0, order ∙ ap in_head_order p.1)) h z)
-        (so_done stamped v next (AtJob stamped (λ u. u ≡ v)) IsFound q heads is found)
+        (so_done stamped (AtJob stamped (λ u. u ≡ v)) IsFound q heads is found)
 
 -- ---- the split
 
@@ -132,7 +137,7 @@ pub nothing_put : (v : Sight) (o : Output) → o.taken ≡ 0 → o.entries ≡ 0
 nothing_put v o taken entries segmenter = record {
   taken = taken;
   entries = entries;
-  so_far = subst (λ s. SoFar v [] s v) (sym segmenter) (refl, refl);
+  so_far = subst (λ s. PutSoFar v [] s v) (sym segmenter) (inl refl, refl);
   some = subst (λ s. HasSome s []) (sym segmenter) tt;
 }
 
@@ -154,34 +159,51 @@ module _ (stamped types : List (List ℕ)) (a b : Book) (v : Sight) (cs : List C
   well_names = subst (λ ws. AllGoWell a.ends (heads_of v 0 ws)) (sym are) k.well
 
   module _ (r : Result (List Head) JobFault) {old mid : Option History}
-      (first : Adds old mid (Leads (As stamped job) (AtJob stamped (λ u. u ≡ v)) (EndsSo stamped v b.next InOrder r))) where
+      (first : Adds old mid (Leads (As stamped job) (AtJob stamped (λ u. u ≡ v)) (EndsSo stamped InOrder r))) where
     pub no_heads : (fault : JobFault) → r ≡ Err fault
-        → Adds old mid (Leads (As stamped job) (AtJob stamped (λ u. u ≡ v)) (EndsSo stamped v b.next SplitSo (Err fault)))
-    no_heads fault is = so_fails stamped v b.next (AtJob stamped (λ u. u ≡ v)) InOrder SplitSo r fault is first
+        → Adds old mid (Leads (As stamped job) (AtJob stamped (λ u. u ≡ v)) (EndsSo stamped SplitSo (Err fault)))
+    no_heads fault is = so_fails stamped (AtJob stamped (λ u. u ≡ v)) InOrder SplitSo r fault is first
 
     pub split_so : (heads : List Head) → r ≡ Ok heads → (q : Result ℕ JobFault) {new : Option History}
         → Adds mid new (Worked (ReadsOrWrites (segment_name (codes "demux") b.next)) q)
         → (AreRecords v names heads cs → IsFree v b.next → SplitAll cs a.ends b
         → StreamsRise heads → IsTrue (ends_rise b.ends) → Adds mid new (Leads (As stamped job) (AtJob stamped (IsOutput v [] o))
-        (EndsSo stamped v b.next (λ left u. IsOutput v (all_chunks types b heads cs a.ends) n u
+        (EndsSo stamped (λ left u. IsOutput v (all_chunks types b heads cs a.ends) n u
         × (left ≡ all_left types b cs a.ends)) q)))
-        → Adds old new (Leads (As stamped job) (AtJob stamped (λ u. u ≡ v)) (EndsSo stamped v b.next SplitSo q))
+        → Adds old new (Leads (As stamped job) (AtJob stamped (λ u. u ≡ v)) (EndsSo stamped SplitSo q))
     split_so heads is q {new} works told =
-        leads_then (so_done stamped v b.next (AtJob stamped (λ u. u ≡ v)) InOrder r heads is first)
+        leads_then (so_done stamped (AtJob stamped (λ u. u ≡ v)) InOrder r heads is first)
         (from_known stamped (ReadsOrWrites W) (reads_or_writes_start W) (quiet_reads_or_writes W) (InOrder heads)
-        (EndsSo stamped v b.next SplitSo q) (own_of (ReadsOrWrites W) q works)
+        (EndsSo stamped SplitSo q) (own_of (ReadsOrWrites W) q works)
         (λ h z runs.
         let sorted : heads ≡ archive_heads v a =
         (z.alive runs).1 ∙ ap (λ ws. in_head_order (heads_of v 0 ws)) are in
-        reach stamped h (AtJob stamped (IsOutput v [] o)) (EndsSo stamped v b.next SplitSo q)
+        reach stamped h (AtJob stamped (IsOutput v [] o)) (EndsSo stamped SplitSo q)
         (subst (λ hs. Adds mid new (Leads (As stamped job) (AtJob stamped (IsOutput v [] o))
-        (EndsSo stamped v b.next (λ left u. IsOutput v (all_chunks types b hs cs a.ends) n u
+        (EndsSo stamped (λ left u. IsOutput v (all_chunks types b hs cs a.ends) n u
         × (left ≡ all_left types b cs a.ends)) q))) sorted
         (told (subst (λ ws. AreRecords v ws heads cs) (sym are)
         (subst (λ hs. AreRecords v (names_of (codes "archive") a) hs cs) (sym sorted) k.records)) k.free k.runs
         (subst StreamsRise (sym sorted) (streams_rise (heads_of v 0 (names_of (codes "archive") a)))) k.rises))
         (at_as stamped (InOrder heads) (IsOutput v [] o) (λ u p. subst (IsOutput v [] o) (sym p.0) none) h z))
-        (λ h z. ends_bottom stamped v b.next SplitSo q h z))
+        (λ h z. ends_bottom stamped SplitSo q h z))
+
+-- ---- the numbers
+
+-- records were put, and no number is left
+pub some_lack : (next entries : ℕ) (b : Bool) → b ≡ (nat_eq next (2 ^ 63 - 1) && nat_lt 0 entries) → b ≡ true
+    → (next ≡ 2 ^ 63 - 1) × (0 < entries)
+some_lack next entries b is so =
+    let p = and_parts (nat_eq next (2 ^ 63 - 1)) (nat_lt 0 entries) (sym is ∙ so) in
+    let some = p.1 in
+    (nat_same next (2 ^ 63 - 1) p.0, let z : 0 < entries = grind arith in z)
+
+pub none_lack : (next entries : ℕ) (b : Bool) → b ≡ (nat_eq next (2 ^ 63 - 1) && nat_lt 0 entries) → b ≡ false
+    → next ≡ 2 ^ 63 - 1 → entries ≡ 0
+none_lack next entries b is not_so last =
+    let none : nat_lt 0 entries ≡ false =
+    sym (ap (λ t. t && nat_lt 0 entries) (subst (λ m. nat_eq next m ≡ true) last (nat_self next))) ∙ (sym is ∙ not_so) in
+    let z : entries ≡ 0 = grind arith in z
 
 -- ---- the run
 
@@ -193,22 +215,15 @@ module _ (stamped types : List (List ℕ)) (a b : Book) (v : Sight) (k : CanRun 
   Outs = News types a b v k.cs
 
   -- what was refused ends the run so
-  ran_refused : (fault : JobFault) (h : History) → Failed stamped v b.next fault h → Ran stamped v (Err fault) h
+  ran_refused : (fault : JobFault) (h : History) → Failed stamped fault h → Ran stamped v (Err fault) h
   ran_refused (Outside call) h f = f
   ran_refused (Damaged name place) h f = f
-  ran_refused (Spent n) h f = record {
-    legal = f.legal;
-    may_act = f.may_act;
-    alive = λ runs.
-        let p = f.alive runs in (
-          p.1,
-          ap (λ o. (book_in o).next) (p.0.own (BookFile DemuxFolder) refl) ∙ (ap (λ (x : Book). x.next) k.book ∙ p.2),
-        );
-  }
+  ran_refused (Spent n) h f =
+      record { legal = f.legal; may_act = f.may_act; alive = λ runs. absurd (f.alive runs) }
   ran_refused NoMemory h f = f
 
   module _ (n : Output) (q : Result ℕ JobFault) {old new : Option History}
-      (split : Adds old new (Leads (As stamped job) Start (EndsSo stamped v b.next
+      (split : Adds old new (Leads (As stamped job) Start (EndsSo stamped
       (λ left u. IsOutput v Outs n u × (left ≡ all_left types b k.cs a.ends)) q))) where
     abbrev Split : ℕ → Sight → Type 0
     Split left u = IsOutput v Outs n u × (left ≡ all_left types b k.cs a.ends)
@@ -217,15 +232,47 @@ module _ (stamped types : List (List ℕ)) (a b : Book) (v : Sight) (k : CanRun 
         → Adds old new (Leads (As stamped job) Start (Ran stamped v (Err fault)))
     not_split fault is =
         leads_as (λ h z. z)
-        (λ h z. ran_refused fault h (subst (λ q. EndsSo stamped v b.next Split q h) is z)) split
+        (λ h z. ran_refused fault h (subst (λ q. EndsSo stamped Split q h) is z)) split
 
     -- ---- the entry
 
-    module _ (left : ℕ) (done : q ≡ Ok left) (r : Result DemuxReport JobFault) {last : Option History}
+    -- no number is left for what was put
+    pub none_left : (left : ℕ) → q ≡ Ok left → b.next ≡ 2 ^ 63 - 1 → 0 < n.entries → IsWriter b.next n.segmenter
+        → Adds old new (Leads (As stamped job) Start (Ran stamped v (Err (Spent b.next))))
+    none_left left done last some writer =
+        leads_as (λ h z. z)
+        (λ h z. record {
+          legal = z.legal;
+          may_act = z.may_act;
+          alive = λ runs.
+              let p = (z.alive runs).0 in
+              let same : sight h ≡ v =
+              (subst (λ s. PutSoFar v Outs s (sight h)) (none_at_last b.next last n.segmenter writer) p.so_far).1 in
+              let count = p.entries in (
+                last,
+                record {
+                  last = ap (λ (u : Sight). (own_book u DemuxFolder).next) same ∙ (ap (λ (x : Book). x.next) k.book ∙ last);
+                  due = k.due h z.legal same (omega (arith, some, count));
+                },
+              );
+        })
+        (so_done stamped Start Split q left done split)
+
+    -- where one is, all that was put is written
+    all_written : (b.next ≡ 2 ^ 63 - 1 → n.entries ≡ 0) → n.entries ≡ length Outs → (s : Option Segmenter) (u : Sight)
+        → PutSoFar v Outs s u → SoFar v Outs s u
+    all_written number count None u (inl none, same) = (none, same)
+    all_written number count None u (inr last, same) =
+        let zero_now = number (sym k.can.free.next ∙ last) in
+        (nil_from_length Outs (sym count ∙ zero_now), same)
+    all_written number count (Some s) u p = p
+
+    module _ (left : ℕ) (done : q ≡ Ok left) (number : b.next ≡ 2 ^ 63 - 1 → n.entries ≡ 0) (r : Result DemuxReport JobFault)
+        {last : Option History}
         (enters : Adds new last (Worked (WritesBook b.next) r))
         (entered : (outs : List Chunk) → IsFree v b.next → MayEnter stamped v b outs
         → Adds new last (Leads (As stamped job) (AtJob stamped (SoFar v outs n.segmenter))
-        (EndsSo stamped v b.next (λ (t : DemuxReport) u. Entered v b outs n.segmenter u) r))) where
+        (EndsSo stamped (λ (t : DemuxReport) u. Entered v b outs n.segmenter u) r))) where
       abbrev Counted : Type 0
       Counted = HasSome n.segmenter Outs × (n.taken ≡ bytes_of Outs) × (n.entries ≡ length Outs) × (left ≡ all_left types b k.cs a.ends)
 
@@ -233,21 +280,21 @@ module _ (stamped types : List (List ℕ)) (a b : Book) (v : Sight) (k : CanRun 
       In t u = Entered v b Outs n.segmenter u
 
       entered_so : Adds old last (Leads (As stamped job) Start
-          (λ h. EndsSo stamped v b.next In r h × (is_stopped h ≡ false → Counted)))
+          (λ h. EndsSo stamped In r h × (is_stopped h ≡ false → Counted)))
       entered_so =
           leads_then
           (leads_as (λ h z. z)
           (λ h z. at_as stamped (Split left) (λ u. SoFar v Outs n.segmenter u × Counted)
-          (λ u p. (p.0.so_far, (p.0.some, p.0.taken, p.0.entries, p.1))) h z)
-          (so_done stamped v b.next Start Split q left done split))
+          (λ u p. (all_written number p.0.entries n.segmenter u p.0.so_far, (p.0.some, p.0.taken, p.0.entries, p.1))) h z)
+          (so_done stamped Start Split q left done split))
           (with_fact stamped (WritesBook b.next) (enters_start b.next) (quiet_enter b.next) Counted
-          (SoFar v Outs n.segmenter) (EndsSo stamped v b.next In r) (own_of (WritesBook b.next) r enters)
+          (SoFar v Outs n.segmenter) (EndsSo stamped In r) (own_of (WritesBook b.next) r enters)
           (entered Outs k.can.free k.may))
 
       pub all_ran : IfOk r (Reports n left) → Adds old last (Leads (As stamped job) Start (Ran stamped v r))
       all_ran counts = leads_as (λ h z. z) (λ h z. go r counts h z.0 z.1) entered_so
         where
-          go : (r : Result DemuxReport JobFault) → IfOk r (Reports n left) → (h : History) → EndsSo stamped v b.next In r h
+          go : (r : Result DemuxReport JobFault) → IfOk r (Reports n left) → (h : History) → EndsSo stamped In r h
               → (is_stopped h ≡ false → Counted) → Ran stamped v r h
           go (Err fault) counts h z counted = ran_refused fault h z
           go (Ok report) counts h at counted = record {
@@ -255,7 +302,9 @@ module _ (stamped types : List (List ℕ)) (a b : Book) (v : Sight) (k : CanRun 
             may_act = at.may_act;
             alive = λ runs.
                 let c = counted runs in
-                k.done h at.legal n.segmenter c.0 (at.alive runs) report
+                let count = c.2 in
+                k.done h at.legal n.segmenter c.0 (at.alive runs)
+                (λ some last. let none = number last in absurd (let z : ⊥ = omega (arith, some, count, none) in z)) report
                 (record { taken = counts.0 ∙ c.1; entries = counts.1 ∙ c.2; left = counts.2 ∙ c.3 });
           }
 

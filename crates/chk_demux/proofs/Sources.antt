@@ -238,4 +238,4 @@ pub records_free : (stamped : List (List ℕ)) (history : History) → Legal sta
     → IsFree (sight history) (own_book (sight history) DemuxFolder).next
 records_free stamped history legal =
     let x = free_in (file (files_after history) (BookFile DemuxFolder)) ((readable stamped history legal).books DemuxFolder) in
-    record { count = x.0; unnamed = x.1 }
+    record { next = refl; count = x.0; unnamed = x.1 }

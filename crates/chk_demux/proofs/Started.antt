@@ -49,8 +49,8 @@ named_known stamped history legal folder =
     b : Book
     b = book_of (files_after history) folder
 
-abbrev earlier_of : List Chunk → List Segment → Earlier
-earlier_of records segments = record { records = records; segments = segments }
+abbrev earlier_of : List Chunk → Book → Earlier
+earlier_of records b = record { records = records; segments = b.segments; next = b.next }
 
 own_same : (f g : Files) (n : Name) → (is_known n ≡ true → file f n ≡ file g n) → own_files f n ≡ own_files g n
 own_same f g n same = go (is_job_file n) (is_known n) same
@@ -63,8 +63,8 @@ own_same f g n same = go (is_job_file n) (is_known n) same
 
 records_same : (u v : Sight) → ((n : Name) → u.own n ≡ v.own n) → own_earlier u ≡ own_earlier v
 records_same u v same =
-    ap (λ (b : Book). earlier_of (own_chunks u DemuxFolder b.segments) b.segments) (ap book_in (same (BookFile DemuxFolder)))
-    ∙ ap (λ l. earlier_of l (own_book v DemuxFolder).segments) (flat_same (λ (g : Segment). chunks_in (u.own (SegmentFile DemuxFolder g.number)))
+    ap (λ (b : Book). earlier_of (own_chunks u DemuxFolder b.segments) b) (ap book_in (same (BookFile DemuxFolder)))
+    ∙ ap (λ l. earlier_of l (own_book v DemuxFolder)) (flat_same (λ (g : Segment). chunks_in (u.own (SegmentFile DemuxFolder g.number)))
     (λ (g : Segment). chunks_in (v.own (SegmentFile DemuxFolder g.number))) (own_book v DemuxFolder).segments
     (λ g one. ap chunks_in (same (SegmentFile DemuxFolder g.number))))
 
@@ -74,7 +74,7 @@ Ready stamped before history = Legal stamped history × (own_earlier (sight hist
 ready : (stamped : List (List ℕ)) (before : Earlier) (h : History) → Begun stamped before h → Ready stamped before h
 ready stamped before h k = (
   k.0,
-  ap (λ l. earlier_of l (own_book (sight h) DemuxFolder).segments) (named_known stamped h k.0 DemuxFolder) ∙ k.1,
+  ap (λ l. earlier_of l (own_book (sight h) DemuxFolder)) (named_known stamped h k.0 DemuxFolder) ∙ k.1,
 )
 
 module _ (stamped : List (List ℕ)) (all : Earlier) where

@@ -117,17 +117,17 @@ quiet_reads_or_writes w call (inl k) = quiet_read call k
     quiet_read call (asks name) = refl
 quiet_reads_or_writes w call (inr k) = quiet_write w call k
 
-module _ (stamped : List (List ℕ)) (v : Sight) (next : ℕ) (w : List ℕ) (A : History → Type 0) (P Q : Sight → Type 0) (X : Type 0)
+module _ (stamped : List (List ℕ)) (w : List ℕ) (A : History → Type 0) (P Q : Sight → Type 0) (X : Type 0)
     (R : ℕ → Sight → Type 0) (q : Result ℕ JobFault) {old mid new : Option History}
     (first : Adds old mid (Leads (As stamped job) A (AtJob stamped (λ u. P u × X))))
-    (second : Adds mid new (Leads (As stamped job) (AtJob stamped P) (EndsSo stamped v next R q)))
+    (second : Adds mid new (Leads (As stamped job) (AtJob stamped P) (EndsSo stamped R q)))
     (works : Adds mid new (Worked (ReadsOrWrites w) q)) where
   pub stream_fails : {U : Type 0} (S : U → Sight → Type 0) (fault : JobFault) → q ≡ Err fault
-      → Adds old new (Leads (As stamped job) A (EndsSo stamped v next S (Err fault)))
+      → Adds old new (Leads (As stamped job) A (EndsSo stamped S (Err fault)))
   stream_fails S fault e =
       leads_then first
       (leads_as (λ h k. at_as stamped (λ u. P u × X) P (λ u p. p.0) h k) (λ h k. k)
-      (so_fails stamped v next (AtJob stamped P) R S q fault e second))
+      (so_fails stamped (AtJob stamped P) R S q fault e second))
 
   pub stream_done : (n : ℕ) → q ≡ Ok n
       → Adds old new (Leads (As stamped job) A (AtJob stamped (λ u. R n u × X)))
@@ -136,4 +136,4 @@ module _ (stamped : List (List ℕ)) (v : Sight) (next : ℕ) (w : List ℕ) (A 
       (leads_as (λ h k. k)
       (λ h k. record { legal = k.0.legal; may_act = k.0.may_act; alive = λ runs. (k.0.alive runs, k.1 runs) })
       (with_fact stamped (ReadsOrWrites w) (reads_or_writes_start w) (quiet_reads_or_writes w) X P (AtJob stamped (R n))
-      (own_of (ReadsOrWrites w) q works) (so_done stamped v next (AtJob stamped P) R q n e second)))
+      (own_of (ReadsOrWrites w) q works) (so_done stamped (AtJob stamped P) R q n e second)))

@@ -14,11 +14,12 @@ use Rattle.chk_heads.specs.declared.fault.JobFault.TheVariants.{Damaged}
 use Rattle.chk_demux.specs.Demuxed.{Earlier}
 use Rattle.chk_demux.specs.declared.beginning.Books.{Books}
 
--- what the job knows of the records and of the segments that their book names
+-- what the job knows of the records and of their book
 abbrev pub own_earlier : Sight → Earlier
 own_earlier v = record {
   records = own_chunks v DemuxFolder (own_book v DemuxFolder).segments;
   segments = (own_book v DemuxFolder).segments;
+  next = (own_book v DemuxFolder).next;
 }
 
 -- this stands there

@@ -9,7 +9,7 @@ use Rattle.chk_world.specs.Names.{Folder, ArchiveFolder, DemuxFolder}
 use Rattle.chk_world.specs.Books.{Segment, book_of, chunks_named}
 use Rattle.chk_world.specs.Streams.{start_of}
 use Rattle.chk_world.specs.Committed.{archive_of_stream}
-use Rattle.chk_world.specs.Splits.{split, demuxed_records}
+use Rattle.chk_world.specs.Splits.{Record, split, demuxed_records}
 use Rattle.chk_world.specs.Rules.{Legal}
 use Rattle.chk_world.specs.Places.{AtTold}
 use Rattle.chk_world.specs.Sight.{job}
@@ -31,13 +31,18 @@ NamesStamped stamped names = (kind : List ℕ) → list_any (bytes_eq kind) stam
 abbrev pub all_named : Files → Folder → List Chunk
 all_named files folder = chunks_named files folder (book_of files folder)
 
--- what stands before a run: all demultiplexed records, and the segments that their book names
+-- what stands before a run: all demultiplexed records, the segments that their book names, and its next number
 pub record Earlier : Type 0 where
   pub records : List Chunk
   pub segments : List Segment
+  pub next : ℕ
 
 abbrev pub earlier_in : Files → Earlier
-earlier_in files = record { records = all_named files DemuxFolder; segments = (book_of files DemuxFolder).segments }
+earlier_in files = record {
+  records = all_named files DemuxFolder;
+  segments = (book_of files DemuxFolder).segments;
+  next = (book_of files DemuxFolder).next;
+}
 
 -- before the call the history is legal, and this stands there
 abbrev pub Begun : List (List ℕ) → Earlier → History → Type 0
@@ -66,13 +71,15 @@ InStreamOrder [] = Unit {0}
 InStreamOrder (c ∷ cs) = Each (λ d. stream_lt d.key.stream c.key.stream ≡ false) cs × InStreamOrder cs
 
 -- The records of each stream are the split of its archive. The new ones stand behind those before, stream by stream, each with its
--- key, and are one segment; the report counts their bytes and them, and the archived bytes that are of no record.
+-- key, and are one segment, for which a number was left; the report counts their bytes and them, and the archived bytes that are of
+-- no record.
 pub record DemuxDone (stamped : List (List ℕ)) (before : Earlier) (r : DemuxReport) (history : History) : Type 0 where
   pub all : (s : Stream) → demuxed_records (files_after history) s
       ≡ split stamped s (start_of history s) (archive_of_stream (files_after history) s)
   pub added : List Chunk
   pub are : all_named (files_after history) DemuxFolder ≡ before.records ++ added
   pub segments : OneMore before.segments added (book_of (files_after history) DemuxFolder).segments
+  pub number : 0 < length added → before.next ≡ 2 ^ 63 - 1 → ⊥
   pub order : InStreamOrder added
   pub keys : Each (HasKey (all_named (files_after history) ArchiveFolder)) added
   pub taken : r.taken ≡ bytes_of added
@@ -80,14 +87,27 @@ pub record DemuxDone (stamped : List (List ℕ)) (before : Earlier) (r : DemuxRe
   pub left : r.left + bytes_of (all_named (files_after history) DemuxFolder)
       ≡ bytes_of (all_named (files_after history) ArchiveFolder)
 
--- At Ok the split is done. Nothing of the program's own is ever damaged. The numbers are spent only where the next segment's is the
--- last one. After any other refusal the history is legal; the start may be what was refused, so that it isn't said that the job may
--- act.
+-- A record is still to be written: the split of this stream's archive goes on past the stream's records with it.
+pub record IsDue (stamped : List (List ℕ)) (history : History) : Type 0 where
+  pub stream : Stream
+  pub record_is : Record
+  pub more : List Record
+  pub split_is : split stamped stream (start_of history stream) (archive_of_stream (files_after history) stream)
+      ≡ demuxed_records (files_after history) stream ++ record_is ∷ more
+
+-- A segment is needed for which no number is left.
+pub record LacksNumber (stamped : List (List ℕ)) (history : History) : Type 0 where
+  pub last : (book_of (files_after history) DemuxFolder).next ≡ 2 ^ 63 - 1
+  pub due : IsDue stamped history
+
+-- At Ok the split is done. Nothing of the program's own is ever damaged. The numbers are spent only where the next one is the last
+-- one and a record is still to be written. After any other refusal the history is legal; the start may be what was refused, so that
+-- it isn't said that the job may act.
 abbrev pub Demuxed : List (List ℕ) → Earlier → Result DemuxReport JobFault → History → Type 0
 Demuxed stamped before (Ok r) history = AtTold stamped job (DemuxDone stamped before r) history
 Demuxed stamped before (Err (Damaged name at)) history = AtTold stamped job (λ h. ⊥) history
 Demuxed stamped before (Err (Spent n)) history =
-    AtTold stamped job (λ h. (n ≡ 2 ^ 63 - 1) × ((book_of (files_after h) DemuxFolder).next ≡ 2 ^ 63 - 1)) history
+    AtTold stamped job (λ h. (n ≡ 2 ^ 63 - 1) × LacksNumber stamped h) history
 Demuxed stamped before (Err fault) history = Legal stamped history
 
 -- the calls that replace the book of the records

@@ -1,6 +1,6 @@
 -- What the writing of one segment of records leaves.
 use Rattle.std.specs.List.{list_any}
-use Rattle.std.specs.Prelude.{◌≡◌, ℕ, ◌<◌, nat_eq, IsTrue, IsFalse, List, [], codes, length, sum_by, Option, Some, None}
+use Rattle.std.specs.Prelude.{◌≡◌, ◌⊎◌, ℕ, ◌-◌, ◌^◌, ◌<◌, nat_eq, IsTrue, IsFalse, List, [], codes, length, sum_by, Option, Some, None}
 use Rattle.chk_bytes.specs.Stems.{Stem, is_count}
 use Rattle.chk_site.specs.Files.{File}
 use Rattle.chk_chunk.specs.Keys.{Chunk, record_limit}
@@ -28,13 +28,15 @@ pub record HoldsChunks (u : Sight) (g : Segment) (chunks : List Chunk) : Type 0 
   pub synced : file.synced ≡ length file.bytes
   pub size : g.length ≡ length file.bytes
 
--- the segment of this number can be written: the number is one, and the book of the records doesn't name it
+-- the segment of this number can be written: the number is the next one of the records' book, which doesn't name it
 pub record IsFree (v : Sight) (k : ℕ) : Type 0 where
+  pub next : (own_book v DemuxFolder).next ≡ k
   pub count : IsTrue (is_count k)
   pub unnamed : IsFalse (list_any (λ (g : Segment). nat_eq g.number k) (all_segments (own_book v DemuxFolder)))
 
--- the segmenter is the job's, and writes the segment of records of this number
+-- the segmenter is the job's, and writes the segment of records of this number, which isn't the last one
 pub record IsForDemux (k : ℕ) (s : Segmenter) : Type 0 where
+  pub below : k ≡ 2 ^ 63 - 1 → ⊥
   pub who : s.who ≡ job
   pub number : s.number ≡ k
   pub w : Writing
@@ -62,6 +64,11 @@ abbrev pub SoFar : Sight → List Chunk → Option Segmenter → Sight → Type 
 SoFar v chunks None u = (chunks ≡ []) × (u ≡ v)
 SoFar v chunks (Some s) u = IsSoFar v chunks s u
 
+-- the same of records that are put: where the next number is the last one they are counted alone
+abbrev pub PutSoFar : Sight → List Chunk → Option Segmenter → Sight → Type 0
+PutSoFar v chunks None u = ((chunks ≡ []) ⊎ ((own_book v DemuxFolder).next ≡ 2 ^ 63 - 1)) × (u ≡ v)
+PutSoFar v chunks (Some s) u = IsSoFar v chunks s u
+
 -- how many bytes the chunks have
 abbrev pub bytes_of : List Chunk → ℕ
 bytes_of chunks = sum_by (λ (c : Chunk). length c.value) chunks
@@ -71,9 +78,9 @@ abbrev pub HasSome : Option Segmenter → List Chunk → Type 0
 HasSome None chunks = Unit {0}
 HasSome (Some s) chunks = 0 < length chunks
 
--- so far these records are written, and counted
+-- so far these records are put, and counted
 pub record IsOutput (v : Sight) (chunks : List Chunk) (o : Output) (u : Sight) : Type 0 where
   pub taken : o.taken ≡ bytes_of chunks
   pub entries : o.entries ≡ length chunks
-  pub so_far : SoFar v chunks o.segmenter u
+  pub so_far : PutSoFar v chunks o.segmenter u
   pub some : HasSome o.segmenter chunks

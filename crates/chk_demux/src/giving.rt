@@ -140,7 +140,7 @@ fn give<S: Site>(
     ensures told { (stamped : List (List ℕ)) (v : Sight) (outs : List Chunk) → IsFree v (book_view book.now).next
         → Adds (S.told site.old) (S.told site.new)
         (Leads (As stamped job) (AtJob stamped (IsOutput v outs output.old))
-        (EndsSo stamped v (book_view book.now).next (λ t u. IsOutput v
+        (EndsSo stamped (λ t u. IsOutput v
         (outs ++ given_chunks heads.now (end_view end.now) index (place_given heads.now index behind splitter.now) splitter.now.given)
         output.new u) result)) }
     ensures writer { OnOk result (IsWriter (book_view book.now).next output.new.segmenter) }
@@ -181,7 +181,7 @@ fn write_record<S: Site>(
     ensures told { (stamped : List (List ℕ)) (v : Sight) (outs : List Chunk) → IsFree v (book_view book.now).next
         → Adds (S.told site.old) (S.told site.new)
         (Leads (As stamped job) (AtJob stamped (IsOutput v outs output.old))
-        (EndsSo stamped v (book_view book.now).next (λ t u. IsOutput v
+        (EndsSo stamped (λ t u. IsOutput v
         (outs ++ given_chunks heads.now (end_view end.now) index place bytes.now) output.new u) result)) }
     ensures writer { OnOk result (IsWriter (book_view book.now).next output.new.segmenter) }
     ensures only { IfErr result IsOfBegin }
@@ -222,7 +222,7 @@ pub(crate) fn split_value<S: Site>(
         → Adds (S.told site.old) (S.told site.new)
         (Leads (As stamped job)
         (AtJob stamped (IsOutput v (outs ++ chunks_of_fed heads.now (end_view end.now) from by_stamps fed) output.old))
-        (EndsSo stamped v (book_view book.now).next (λ t u. IsOutput v
+        (EndsSo stamped (λ t u. IsOutput v
         (outs ++ chunks_of_fed heads.now (end_view end.now) from by_stamps (fed ++ value.now)) output.new u) result)) }
     ensures split { (by_stamps : Bool) (fed : List ℕ) → IsSplitting by_stamps fed splitter.old
         → OnOk result (IsSplitting by_stamps (fed ++ value.now) splitter.new) }

@@ -1,6 +1,6 @@
 //! The segment to which a demux run writes records, once it has one.
 
-ghost use Rattle.std.specs.Prelude.{◌≡◌, ◌+◌, ◌++◌, ◌∷◌, [], ℕ, List, length, codes, IsTrue, IfOk, IfErr, OnOk, OnErr, None};
+ghost use Rattle.std.specs.Prelude.{◌≡◌, ◌+◌, ◌++◌, ◌∷◌, ◌-◌, ◌^◌, [], ℕ, List, length, nat_eq, codes, IsTrue, IfOk, IfErr, OnOk, OnErr, None};
 ghost use Rattle.chk_site.specs.Site.{Adds};
 ghost use Rattle.chk_site.specs.Runs.{Leads};
 ghost use Rattle.chk_chunk.specs.Keys.{Chunk, is_key, has_value, record_limit};
@@ -27,8 +27,18 @@ pub(crate) struct Output {
     pub segmenter: Option<Segmenter>,
     /// How many bytes the records have.
     pub taken: u64,
-    /// How many records were written.
+    /// How many records were put, also where none could be written for want of a number.
     pub entries: u64,
+}
+
+/// No segment can have this number, which a book can have in hand as its next one.
+const LAST_NUMBER: u64 = (1 << 63) - 1;
+
+/// The book has no number left for a segment.
+pub(crate) fn is_spent(book: &Book) -> bool
+    ensures { result ≡ nat_eq (book_view book.now).next (2 ^ 63 - 1) }
+{
+    book.next == LAST_NUMBER
 }
 
 impl Output {
@@ -73,10 +83,11 @@ fn open<S: Site>(
 ) -> Result<Segmenter, JobFault>
     requires job { who.now ≡ job }
     requires writer { IsWriter (book_view book.now).next segmenter }
+    requires below { (book_view book.now).next ≡ 2 ^ 63 - 1 → ⊥ }
     ensures told { (stamped : List (List ℕ)) (v : Sight) (outs : List Chunk) → IsFree v (book_view book.now).next
         → Adds (S.told site.old) (S.told site.new)
         (Leads (As stamped job) (AtJob stamped (SoFar v outs segmenter))
-        (EndsSo stamped v (book_view book.now).next (λ s u. IsSoFar v outs s u) result)) }
+        (EndsSo stamped (λ s u. IsSoFar v outs s u) result)) }
     ensures writer { IfOk result (λ s. IsForDemux (book_view book.now).next s) }
     ensures only { IfErr result IsOfBegin }
     ensures works { Adds (S.told site.old) (S.told site.new) (Worked (WritesTo (segment_name (codes "demux") (book_view book.now).next)) result) }
@@ -99,12 +110,13 @@ fn write_first<S: Site>(
 ) -> Result<Segmenter, JobFault>
     requires job { who.now ≡ job }
     requires writer { IsWriter (book_view book.now).next segmenter }
+    requires below { (book_view book.now).next ≡ 2 ^ 63 - 1 → ⊥ }
     requires key { IsTrue (is_key (lent_chunk chunk.now).key) }
     requires value { IsTrue (has_value record_limit (lent_chunk chunk.now).key (lent_chunk chunk.now).value) }
     ensures told { (stamped : List (List ℕ)) (v : Sight) (outs : List Chunk) → IsFree v (book_view book.now).next
         → Adds (S.told site.old) (S.told site.new)
         (Leads (As stamped job) (AtJob stamped (SoFar v outs segmenter))
-        (EndsSo stamped v (book_view book.now).next (λ s u. IsSoFar v (outs ++ lent_chunk chunk.now ∷ []) s u) result)) }
+        (EndsSo stamped (λ s u. IsSoFar v (outs ++ lent_chunk chunk.now ∷ []) s u) result)) }
     ensures writer { IfOk result (λ s. IsForDemux (book_view book.now).next s) }
     ensures only { IfErr result IsOfBegin }
     ensures works { Adds (S.told site.old) (S.told site.new) (Worked (WritesTo (segment_name (codes "demux") (book_view book.now).next)) result) }
@@ -115,7 +127,8 @@ fn write_first<S: Site>(
     Ok(segmenter)
 }
 
-/// Writes the first record; a segment that is there takes it too.
+/// Writes the first record; a segment that is there takes it too. Where the book has no number left for a segment, the record is
+/// counted alone.
 fn put_first<S: Site>(
     alloc: Global,
     site: &mut S,
@@ -131,19 +144,22 @@ fn put_first<S: Site>(
     ensures told { (stamped : List (List ℕ)) (v : Sight) (outs : List Chunk) → IsFree v (book_view book.now).next
         → Adds (S.told site.old) (S.told site.new)
         (Leads (As stamped job) (AtJob stamped (IsOutput v outs output.old))
-        (EndsSo stamped v (book_view book.now).next (λ t u. IsOutput v (outs ++ lent_chunk chunk.now ∷ []) output.new u) result)) }
+        (EndsSo stamped (λ t u. IsOutput v (outs ++ lent_chunk chunk.now ∷ []) output.new u) result)) }
     ensures writer { OnOk result (IsWriter (book_view book.now).next output.new.segmenter) }
     ensures only { IfErr result IsOfBegin }
     ensures works { Adds (S.told site.old) (S.told site.new) (Worked (WritesTo (segment_name (codes "demux") (book_view book.now).next)) result) }
     ensures cause { JobCause (S.fault_count site.old) (S.fault_count site.new) result }
 {
+    if is_spent(book) {
+        return output.count(chunk.body.len());
+    }
     let segmenter = write_first(alloc, site, who, book, output.segmenter.take(), chunk)?;
     output.segmenter = Some(segmenter);
     output.count(chunk.body.len())
 }
 
-/// Writes a record behind the others; the first one begins the segment, which then stays in its place. After a refusal nothing is
-/// said of `output`.
+/// Writes a record behind the others; the first one begins the segment, which then stays in its place, if the book has a number left
+/// for it. After a refusal nothing is said of `output`.
 pub(crate) fn put<S: Site>(
     alloc: Global,
     site: &mut S,
@@ -159,7 +175,7 @@ pub(crate) fn put<S: Site>(
     ensures told { (stamped : List (List ℕ)) (v : Sight) (outs : List Chunk) → IsFree v (book_view book.now).next
         → Adds (S.told site.old) (S.told site.new)
         (Leads (As stamped job) (AtJob stamped (IsOutput v outs output.old))
-        (EndsSo stamped v (book_view book.now).next (λ t u. IsOutput v (outs ++ lent_chunk chunk.now ∷ []) output.new u) result)) }
+        (EndsSo stamped (λ t u. IsOutput v (outs ++ lent_chunk chunk.now ∷ []) output.new u) result)) }
     ensures writer { OnOk result (IsWriter (book_view book.now).next output.new.segmenter) }
     ensures only { IfErr result IsOfBegin }
     ensures works { Adds (S.told site.old) (S.told site.new) (Worked (WritesTo (segment_name (codes "demux") (book_view book.now).next)) result) }

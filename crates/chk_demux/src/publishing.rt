@@ -33,7 +33,7 @@ pub(crate) fn enter<S: Site>(
     ensures told { (stamped : List (List ℕ)) (v : Sight) (outs : List Chunk) → IsFree v (book_view book.old).next
         → MayEnter stamped v (book_view book.old) outs → Adds (S.told site.old) (S.told site.new)
         (Leads (As stamped job) (AtJob stamped (SoFar v outs segmenter))
-        (EndsSo stamped v (book_view book.old).next (λ t u. Entered v (book_view book.old) outs segmenter u) result)) }
+        (EndsSo stamped (λ t u. Entered v (book_view book.old) outs segmenter u) result)) }
     ensures only { IfErr result IsOfBegin }
     ensures works { Adds (S.told site.old) (S.told site.new) (Worked (WritesBook (book_view book.old).next) result) }
     ensures cause { JobCause (S.fault_count site.old) (S.fault_count site.new) result }
@@ -57,7 +57,7 @@ fn enter_segment<S: Site>(
     ensures told { (stamped : List (List ℕ)) (v : Sight) (outs : List Chunk) → IsFree v (book_view book.old).next
         → MayEnter stamped v (book_view book.old) outs → Adds (S.told site.old) (S.told site.new)
         (Leads (As stamped job) (AtJob stamped (IsSoFar v outs segmenter))
-        (EndsSo stamped v (book_view book.old).next (λ t u. Entered v (book_view book.old) outs (Some segmenter) u) result)) }
+        (EndsSo stamped (λ t u. Entered v (book_view book.old) outs (Some segmenter) u) result)) }
     ensures only { IfErr result IsOfBegin }
     ensures works { Adds (S.told site.old) (S.told site.new) (Worked (WritesBook (book_view book.old).next) result) }
     ensures cause { JobCause (S.fault_count site.old) (S.fault_count site.new) result }

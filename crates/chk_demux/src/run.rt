@@ -1,6 +1,6 @@
 //! The demux run.
 
-ghost use Rattle.std.specs.Prelude.{◌≡◌, ℕ, List, [], IfOk, IfErr, OnOk, codes};
+ghost use Rattle.std.specs.Prelude.{◌≡◌, ◌-◌, ◌^◌, ◌&&◌, ℕ, List, [], nat_eq, nat_lt, IfOk, IfErr, OnOk, codes};
 ghost use Rattle.chk_site.specs.Files.{Files};
 ghost use Rattle.chk_site.specs.History.{Every};
 ghost use Rattle.chk_site.specs.Site.{Adds};
@@ -30,7 +30,7 @@ ghost use Rattle.chk_demux.specs.Splitting.{texts, all_chunks, all_left};
 ghost use Rattle.chk_demux.specs.Running.{IsReady, Ran, RunsOn, CanSplit, archive_heads, Reports};
 
 use crate::beginning::begin;
-use crate::output::Output;
+use crate::output::{Output, is_spent};
 use crate::publishing::enter;
 use crate::report::DemuxReport;
 use crate::splitting::split_streams;
@@ -71,10 +71,10 @@ fn heads_in_order<S: Site>(
 ) -> Result<Heads, JobFault>
     requires job { who.now ≡ job }
     requires names { names.now ≡ names_of (codes "archive") (book_view archive.now) }
-    ensures told { (stamped : List (List ℕ)) (v : Sight) (next : ℕ) → AreSound v names.now
+    ensures told { (stamped : List (List ℕ)) (v : Sight) → AreSound v names.now
         → AllGoWell (book_view archive.now).ends (heads_of v 0 names.now) → Adds (S.told site.old) (S.told site.new)
         (Leads (As stamped job) (AtJob stamped (λ u. u ≡ v))
-        (EndsSo stamped v next (λ heads u. (u ≡ v) × (heads ≡ in_head_order (heads_of v 0 names.now))) result)) }
+        (EndsSo stamped (λ heads u. (u ≡ v) × (heads ≡ in_head_order (heads_of v 0 names.now))) result)) }
     ensures raw { (held : Files) → AreSettled (names_of (codes "archive") (book_view archive.now)) held
         → Adds (S.told site.old) (S.told site.new)
         (Leads (anyhow (SparesFiles (names_of (codes "archive") (book_view archive.now))))
@@ -121,7 +121,7 @@ fn split_named<S: Site>(
         → CanSplit (book_view archive.now) (book_view book.now) v cs → IsOutput v [] output.old v
         → Adds (S.told site.old) (S.told site.new)
         (Leads (As stamped job) (AtJob stamped (λ u. u ≡ v))
-        (EndsSo stamped v (book_view book.now).next (λ left u. IsOutput v
+        (EndsSo stamped (λ left u. IsOutput v
         (all_chunks (texts types.now) (book_view book.now) (archive_heads v (book_view archive.now)) cs (book_view archive.now).ends) output.new u
         × (left ≡ all_left (texts types.now) (book_view book.now) cs (book_view archive.now).ends)) result)) }
     ensures raw { (held : Files) → AreSettled (names_of (codes "archive") (book_view archive.now)) held
@@ -157,7 +157,7 @@ fn enter_output<S: Site>(
     ensures told { (stamped : List (List ℕ)) (v : Sight) (outs : List Chunk) → IsFree v (book_view book.old).next
         → MayEnter stamped v (book_view book.old) outs → Adds (S.told site.old) (S.told site.new)
         (Leads (As stamped job) (AtJob stamped (SoFar v outs output.segmenter))
-        (EndsSo stamped v (book_view book.old).next (λ t u. Entered v (book_view book.old) outs output.segmenter u) result)) }
+        (EndsSo stamped (λ t u. Entered v (book_view book.old) outs output.segmenter u) result)) }
     ensures only { IfErr result IsOfBegin }
     ensures counts { IfOk result (λ report. Reports output left report) }
     ensures works { Adds (S.told site.old) (S.told site.new) (Worked (WritesBook (book_view book.old).next) result) }
@@ -174,6 +174,13 @@ fn enter_output<S: Site>(
         entries,
         left,
     })
+}
+
+/// Records were put, and the book has no number left for their segment.
+fn lacks_number(book: &Book, output: &Output) -> bool
+    ensures { result ≡ (nat_eq (book_view book.now).next (2 ^ 63 - 1) && nat_lt 0 output.now.entries) }
+{
+    is_spent(book) && output.entries > 0
 }
 
 /// Splits the archive from the last records on, and publishes the book that has the new ones, where there are any.
@@ -202,6 +209,9 @@ fn split_archive<S: Site>(
 {
     let mut output = Output::new();
     let left = split_named(alloc, site, who, types, archive, book, &mut output)?;
+    if lacks_number(book, &output) {
+        return Err(JobFault::Spent { number: book.next });
+    }
     enter_output(alloc, site, who, book, output, left)
 }
 
@@ -214,13 +224,14 @@ fn split_archive<S: Site>(
 /// one record, and the bytes of the segment that aren't appended yet, at most 1,048,576 and a record. Once the heads stand in
 /// order it goes over them once, and over the streams of the archive's book and of the records' book once, side by side.
 ///
-/// `Damaged` comes where a book isn't in its grammar, with its name and the place of its first wrong field; else where the archive's
-/// records don't run as its book says, as `check_records` tells it: where a segment isn't one of chunks, with the segment's name and
-/// the place from which on it isn't; at the first record of a stream that has another start than in the book, doesn't begin where
-/// the stream's earlier ones end, or ends past its end in the book, with the segment's name; else with the book's name at the
-/// stream's end there, where the records don't reach it. Nothing is written then. `Spent` comes where a segment is needed and its
-/// number is 2^63 - 1. More bytes or records than 64 bits count come as want of memory. After a refusal the old book stands, or
-/// the new one; the segment that was begun is replaced by the next run.
+/// `Damaged` comes where a book isn't in its grammar, with its name and the place of its first wrong field; else where the
+/// archive's records don't run as its book says, as `check_records` tells it: where a segment isn't one of chunks, with the
+/// segment's name and the place from which on it isn't; at the first record of a stream that has another start than in the book,
+/// doesn't begin where the stream's earlier ones end, or ends past its end in the book, with the segment's name; else with the
+/// book's name at the stream's end there, where the records don't reach it. Nothing is written then. `Spent` comes where a
+/// segment is needed and its number is 2^63 - 1: such a run splits all records, and writes none. More bytes or records than 64
+/// bits count come as want of memory. After a refusal the old book stands, or the new one; the segment that was begun is replaced
+/// by the next run.
 pub fn demux<S: Site>(
     alloc: Global,
     site: &mut S,

@@ -104,7 +104,7 @@ fn split_record<S: Site>(
         → Adds (S.told site.old) (S.told site.new)
         (Leads (As stamped job)
         (AtJob stamped (SplitSoFar v files.now heads.now cs outs (end_view end.now) from index by_stamps output.old reader.old splitter.old))
-        (EndsSo stamped v (book_view book.now).next
+        (EndsSo stamped
         (λ t u. SplitSoFar v files.now heads.now cs outs (end_view end.now) from (index + 1) by_stamps output.new reader.new splitter.new u) result)) }
     ensures raw { (v : Sight) (cs : List Chunk) → AreRecords v files.now heads.now cs → AreSettled files.now (held v)
         → AreApart files.now (segment_name (codes "demux") (book_view book.now).next) → Adds (S.told site.old) (S.told site.new)
@@ -151,7 +151,7 @@ fn split_stream<S: Site>(
         → (from ≡ split_from (book_view book.now) (end_view end.now))
         → Adds (S.told site.old) (S.told site.new)
         (Leads (As stamped job) (AtJob stamped (λ u. IsOutput v outs output.old u × AreWindows v files.now reader.old))
-        (EndsSo stamped v (book_view book.now).next (λ left u. IsOutput v
+        (EndsSo stamped (λ left u. IsOutput v
         (outs ++ stream_chunks (texts types.now) (book_view book.now) heads.now cs (end_view end.now)) output.new u
         × AreWindows v files.now reader.new × (left ≡ stream_left (texts types.now) (book_view book.now) cs (end_view end.now))) result)) }
     ensures raw { (v : Sight) (cs : List Chunk) → AreRecords v files.now heads.now cs → AreSettled files.now (held v)
@@ -203,7 +203,7 @@ pub(crate) fn split_streams<S: Site>(
         → IsFree v (book_view book.now).next → SplitAll cs (book_view archive.now).ends (book_view book.now)
         → StreamsRise heads.now → IsTrue (ends_rise (book_view book.now).ends) → Adds (S.told site.old) (S.told site.new)
         (Leads (As stamped job) (AtJob stamped (IsOutput v [] output.old))
-        (EndsSo stamped v (book_view book.now).next (λ left u. IsOutput v
+        (EndsSo stamped (λ left u. IsOutput v
         (all_chunks (texts types.now) (book_view book.now) heads.now cs (book_view archive.now).ends) output.new u
         × (left ≡ all_left (texts types.now) (book_view book.now) cs (book_view archive.now).ends)) result)) }
     ensures raw { (v : Sight) (cs : List Chunk) → AreRecords v files.now heads.now cs → AreSettled files.now (held v)

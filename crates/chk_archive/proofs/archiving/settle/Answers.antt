@@ -135,7 +135,8 @@ returns-clause-last g c =
 pub returns-in_err-book-clause-shown : goal.returns-in_err-book-clause-shown
 returns-in_err-book-clause-shown g c =
     let q = err_from_is_err_and c.from_residual.result c.from_residual.ensures.1 in
-    rw (q.1, q.2) (settled_bad c.in_err-book.field-0.0 c.in_err-book.ensures.shown)
+    rw (q.1, q.2) (settled_bad c.in_err-book.field-0.0 c.in_err-book.ensures.only
+    c.in_err-book.ensures.shown)
 
 pub returns-in_err-tidy-clause-shown : goal.returns-in_err-tidy-clause-shown
 returns-in_err-tidy-clause-shown g c =
@@ -149,10 +150,16 @@ pub returns-in_err-merge_many-clause-shown : goal.returns-in_err-merge_many-clau
 returns-in_err-merge_many-clause-shown g c =
     let q = err_from_is_err_and c.from_residual-in_err-merge_many.result c.from_residual-in_err-merge_many.ensures.1 in
     rw (q.1, q.2)
-    (settled_unsound (Unit {0}) (book_view c.in_ok-book.book) c.in_err-merge_many.field-0.0 c.in_ok-book.ensures.shown c.tidy.ensures.own
+    (settled_unsound (Unit {0}) (book_view c.in_ok-book.book) c.in_err-merge_many.field-0.0
+    c.in_err-merge_many.ensures.spent
+    c.in_ok-book.ensures.shown c.tidy.ensures.own
     c.in_err-merge_many.ensures.shown)
 
 pub returns-clause-shown : goal.returns-clause-shown
 returns-clause-shown g c =
-    settled_ok (book_view c.in_ok-book.book) (book_view c.merge_many.new.book) c.merge_many.ensures.kept.0 c.merge_many.ensures.kept.1
-    c.in_ok-book.ensures.shown c.tidy.ensures.own c.merge_many.ensures.own
+    settled_ok (book_view c.in_ok-book.book) (book_view c.merge_many.new.book)
+    (record {
+      few = λ low. (c.merge_many.ensures.few low).1;
+      ends = c.merge_many.ensures.kept.0;
+      aside = c.merge_many.ensures.kept.1;
+    }) c.in_ok-book.ensures.shown c.tidy.ensures.own c.merge_many.ensures.own

@@ -21,6 +21,8 @@ use Rattle.chk_archive.proofs.Lasts.{as_fails}
 use Rattle.chk_archive.proofs.Preparing.{of_merge}
 use Rattle.chk_parts.proofs.Published.{replaces_no_reads}
 use Rattle.chk_archive.proofs.TakenIn.{of_replace}
+use Rattle.chk_archive.specs.Shown.{IsAtLast}
+use Rattle.chk_archive.proofs.SpentCauses.{spent_as, spent_book, spent_outside}
 use Rattle.chk_archive.proofs.MergedMany.{few_left, merged_so, merge_fails, publish_fails, all_merged}
 use Rattle.std.specs.Prelude.{codes}
 use Rattle.chk_heads.proofs.Causes.{shows_outside, shows_ok}
@@ -159,3 +161,25 @@ pub returns-clause-shown : goal.returns-clause-shown
 returns-clause-shown g c =
     shows_ok (IsUnsound (codes "archive") (book_view c.args.book.now)) (tt {0})
     (every_then AsksInPieces (c.in_ok-merge.ensures.pieces c.requires) (no_reads ReplacesBook (replaces_no_reads (codes "archive")) c.publish_next.ensures.own))
+
+pub returns-in_err-merge-clause-spent : goal.returns-in_err-merge-clause-spent
+returns-in_err-merge-clause-spent g c =
+    let q = err_from_is_err_and c.from_residual.result c.from_residual.ensures.1 in
+    let b = book_view c.args.book.now in
+    rw (q.1, q.2)
+    (spent_as (IsAtLast b) ((16 ≤ length b.segments) × IsAtLast b)
+    (λ x. (
+      many_view c.args.book.now
+          (subst (λ l. 16 ≤ length l) c.as_slice.ensures c.if-as_slice-lt-MANY.false),
+      x,
+    ))
+    c.in_err-merge.field-0.0
+    (spent_book (Unit {0}) b c.in_err-merge.field-0.0 c.in_err-merge.ensures.spent))
+
+pub returns-in_err-publish_next-clause-spent : goal.returns-in_err-publish_next-clause-spent
+returns-in_err-publish_next-clause-spent g c =
+    let q = err_from_is_err_and c.from_residual-in_err-publish_next.result
+    c.from_residual-in_err-publish_next.ensures.1 in
+    let b = book_view c.args.book.now in
+    rw (q.1, q.2) (spent_outside ((16 ≤ length b.segments)
+    × IsAtLast b) c.in_err-publish_next.field-0.0)

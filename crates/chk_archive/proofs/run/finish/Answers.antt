@@ -96,21 +96,22 @@ returns-in_err-took-clause-shown g c =
     let q = err_from_is_err_and c.from_residual-in_err-took.result c.from_residual-in_err-took.ensures.1 in
     let b = book_view c.args.book in
     rw (q.1, q.2)
-    (taken_as Struct TakenStruct b.ends (sources_in b c.args.names.now) c.in_err-took.field-0.0 c.in_err-took.ensures.shown)
+    (taken_as Struct TakenStruct b (sources_in b c.args.names.now) c.in_err-took.field-0.0
+    c.in_err-took.ensures.shown)
 
 pub returns-in_err-remove_sinks-clause-shown : goal.returns-in_err-remove_sinks-clause-shown
 returns-in_err-remove_sinks-clause-shown g c =
     let q = err_from_is_err_and c.from_residual-in_err-remove_sinks.result c.from_residual-in_err-remove_sinks.ensures.1 in
     let b = book_view c.args.book in
     rw (q.1, q.2)
-    (taken_fails Struct b.ends (sources_in b c.args.names.now) c.in_err-remove_sinks.field-0.0
+    (taken_fails Struct b (sources_in b c.args.names.now) c.in_err-remove_sinks.field-0.0
     (every_then (IsOf FinishesBy) (as_kind MergesBy FinishesBy of_take c.take_in.ensures.own)
     (as_kind (RemovesShown c.args.names.now) FinishesBy (of_removal c.args.names.now) c.remove_sinks.ensures.own)))
 
 pub returns-clause-shown : goal.returns-clause-shown
 returns-clause-shown g c =
     let b = book_view c.args.book in
-    taken_kept Struct TakenStruct b.ends (sources_in b c.args.names.now) (record {
+    taken_kept Struct TakenStruct b (sources_in b c.args.names.now) (record {
       unclosed = c.in_ok-counted.counted.unclosed;
       first_unclosed = c.in_ok-counted.counted.first_unclosed;
       taken = c.in_ok-took.took.taken;

@@ -1,4 +1,4 @@
-use Rattle.std.proofs.Common.{◌∙◌, ap, sym, subst, true, false, true≢false, None, Ok, Err}
+use Rattle.std.proofs.Common.{◌≡◌, ◌∙◌, [], ap, sym, subst, true, false, true≢false, None, Ok, Err}
 use Rattle.std.specs.Prelude.{codes}
 use Rattle.std.proofs.lemmas.Result.{err_from_is_err_and}
 use Rattle.chk_site.proofs.Leads.{leads_none, leads_as}
@@ -9,6 +9,8 @@ use Rattle.chk_book.specs.Folders.{segment_name}
 use Rattle.chk_parts.specs.Cuts.{cut_chunks}
 use Rattle.chk_parts.proofs.StepKinds.{as_kind}
 use Rattle.chk_archive.specs.Archived.{MergesBy}
+use Rattle.chk_archive.specs.Shown.{IsAtLast}
+use Rattle.chk_archive.proofs.SpentCauses.{spent_as, spent_book, some_there}
 use Rattle.chk_archive.specs.Taking.{HasAside, AsideKept, stays_aside}
 use Rattle.chk_archive.proofs.Preparing.{aside_stays, aside_goes, aside_written, aside_fails, cuts_some, of_merge, empty}
 use Rattle.chk_archive.proofs.taking.keep_aside.Goals as goal
@@ -81,3 +83,15 @@ returns-in_err-add_segment-clause-stays g c = λ yes. absurd (true≢false (sym 
 
 pub returns-clause-stays : goal.returns-clause-stays
 returns-clause-stays g c = λ yes. absurd (true≢false (sym yes ∙ (sym c.stays.ensures ∙ c.if-stays.false)))
+
+pub returns-in_err-add_segment-clause-spent : goal.returns-in_err-add_segment-clause-spent
+returns-in_err-add_segment-clause-spent g c =
+    let q = err_from_is_err_and c.from_residual.result c.from_residual.ensures.1 in
+    let b = book_view c.args.book.now in
+    let kept = c.args.kept.now in
+    rw (q.1, q.2)
+    (spent_as (IsAtLast b) ((kept ≡ [] → ⊥)
+    × (stays_aside b c.args.heads.now c.args.old kept ≡ false) × IsAtLast b)
+    (λ x. (some_there kept c.if-is_empty.ensures, sym c.stays.ensures ∙ c.if-stays.false, x))
+    c.in_err-add_segment.field-0.0
+    (spent_book (Unit {0}) b c.in_err-add_segment.field-0.0 c.in_err-add_segment.ensures.spent))

@@ -1,4 +1,4 @@
-use Rattle.std.proofs.Common.{◌≡◌, Bool, true, not, Ok, Err, refl, sym, subst, length, true≢false}
+use Rattle.std.proofs.Common.{◌≡◌, Bool, true, false, not, [], Ok, Err, refl, sym, subst, length, true≢false}
 use Rattle.std.specs.Prelude.{◌==◌}
 use Rattle.chk_site.specs.Site.{Adds}
 use Rattle.chk_site.specs.Runs.{Leads}
@@ -6,7 +6,9 @@ use Rattle.chk_site.proofs.Runs.{adds_as}
 use Rattle.chk_world.specs.Places.{As}
 use Rattle.chk_world.specs.Sight.{job, AtJob}
 use Rattle.chk_heads.specs.Faults.{FailsLast}
+use Rattle.chk_archive.specs.Shown.{IsAtLast, LacksFor, for_parts, for_aside}
 use Rattle.chk_archive.specs.Taking.{Prepared, stays_aside}
+use Rattle.chk_archive.proofs.SpentCauses.{spent_as}
 use Rattle.chk_archive.proofs.Preparing.{none_there}
 use Rattle.std.proofs.lemmas.Result.{err_from_is_err_and}
 use Rattle.chk_site.proofs.Leads.{leads_as}
@@ -107,3 +109,30 @@ pub returns-clause-shown : goal.returns-clause-shown
 returns-clause-shown g c =
     shows_ok (IsGoneIn c.args.files.now c.args.heads.now) c.is_changed.result
     (every_then (IsOf MergesBy) c.take_parts.ensures.own c.keep_aside.ensures.own)
+
+pub returns-in_err-take_parts-clause-spent : goal.returns-in_err-take_parts-clause-spent
+returns-in_err-take_parts-clause-spent g c =
+    let q = err_from_is_err_and c.from_residual.result c.from_residual.ensures.1 in
+    let b = book_view c.args.book.now in
+    let cuts = c.args.cuts.now in
+    rw (q.1, q.2)
+    (spent_as ((cuts ≡ [] → ⊥) × IsAtLast b)
+    (LacksFor b c.args.heads.now c.args.old cuts c.args.kept.now) (λ x. for_parts x.0 x.1)
+    c.in_err-take_parts.field-0.0 c.in_err-take_parts.ensures.spent)
+
+pub returns-in_err-changed-clause-spent : goal.returns-in_err-changed-clause-spent
+returns-in_err-changed-clause-spent g c =
+    let q = err_from_is_err_and c.from_residual-in_err-changed.result
+    c.from_residual-in_err-changed.ensures.1 in
+    let b = book_view c.args.book.now in
+    let mid = book_view c.take_parts.new.book in
+    let heads = c.args.heads.now in
+    let old = c.args.old in
+    let cuts = c.args.cuts.now in
+    let kept = c.args.kept.now in
+    rw (q.1, q.2)
+    (spent_as ((kept ≡ [] → ⊥) × (stays_aside mid heads old kept ≡ false) × IsAtLast mid)
+    (LacksFor b heads old cuts kept)
+    (λ x. for_aside x.0 (λ none. subst (λ m. (stays_aside m heads old kept ≡ false) × IsAtLast m)
+    (c.take_parts.ensures.none none)
+    (x.1, x.2))) c.in_err-changed.field-0.0 c.in_err-changed.ensures.spent)

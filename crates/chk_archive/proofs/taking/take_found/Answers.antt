@@ -6,7 +6,9 @@ use Rattle.chk_heads.specs.Order.{in_head_order}
 use Rattle.chk_book.specs.Books.{book_view}
 use Rattle.chk_parts.specs.Kept.{is_first}
 use Rattle.chk_archive.specs.Listed.{sources_in}
+use Rattle.chk_archive.specs.Shown.{LacksOne}
 use Rattle.chk_archive.specs.Taking.{AreSorted}
+use Rattle.chk_archive.proofs.SpentCauses.{spent_starting, found_spent}
 use Rattle.chk_archive.proofs.TakenIn.{start_fails}
 use Rattle.chk_archive.proofs.Shown.{start_shown, gone_shown}
 use Rattle.chk_archive.specs.declared.taking.Taken.{Taken as TakenStruct}
@@ -62,3 +64,20 @@ pub returns-clause-shown : goal.returns-clause-shown
 returns-clause-shown g c =
     gone_shown (book_view c.args.book.now).ends c.args.files.now c.args.heads c.sort.new.self c.take_planned.result c.in_ok-sort.ensures.ok
     c.take_planned.ensures.shown
+
+pub returns-in_err-check_starts-clause-spent : goal.returns-in_err-check_starts-clause-spent
+returns-in_err-check_starts-clause-spent g c =
+    let q = err_from_is_err_and c.from_residual-in_err-check_starts.result
+    c.from_residual-in_err-check_starts.ensures.1 in
+    let b = book_view c.args.book.now in
+    rw (q.1, q.2)
+    (spent_starting (LacksOne b c.args.heads) c.args.files.now b.ends c.sort.new.self
+    c.in_err-check_starts.field-0.0
+    c.in_err-check_starts.ensures.err)
+
+pub returns-clause-spent : goal.returns-clause-spent
+returns-clause-spent g c =
+    let b = book_view c.args.book.now in
+    let p = c.in_ok-planned.planned in
+    found_spent b c.args.heads c.sort.new.self c.count_first-old.result p c.take_planned.result
+    c.in_ok-sort.ensures.ok c.count_first-old.ensures c.take_planned.ensures.spent

@@ -107,7 +107,8 @@ returns-in_err-heads-clause-shown g c =
     let b = book_view c.args.book.now in
     let files : c.as_slice.result.now ≡ sources_in b c.args.names.now = c.as_slice.ensures.value ∙ c.in_ok-files.ensures in
     rw (q.1, q.2)
-    (taken_bad TakenStruct b.ends (sources_in b c.args.names.now) c.in_err-heads.field-0.0
+    (taken_bad TakenStruct b (sources_in b c.args.names.now) c.in_err-heads.field-0.0
+    c.in_err-heads.ensures.only
     (subst (λ ws. Adds (g.S.Site.told c.args.site.now) (g.S.Site.told c.gather_found.new.site)
     (ShowsAllGathered chunk_limit ws (Err c.in_err-heads.field-0.0))) files c.in_err-heads.ensures.shown))
 
@@ -118,7 +119,8 @@ returns-clause-shown g c =
     let heads = c.in_ok-heads.heads in
     let files : c.as_slice.result.now ≡ sources_in b names = c.as_slice.ensures.value ∙ c.in_ok-files.ensures in
     let again : c.as_slice-2.result.now ≡ sources_in b names = c.as_slice-2.ensures.value ∙ c.in_ok-files.ensures in
-    taken_found b.ends (sources_in b names) heads c.take_found.result c.take_found.ensures.starts
+    taken_found b (sources_in b names) heads c.take_found.result c.take_found.ensures.starts
+    c.take_found.ensures.spent
     (subst (λ ws. Adds (g.S.Site.told c.args.site.now) (g.S.Site.told c.gather_found.new.site)
     (ShowsAllGathered chunk_limit ws (Ok heads))) files c.in_ok-heads.ensures.shown)
     (subst (λ ws. Adds (g.S.Site.told c.gather_found.new.site) (g.S.Site.told c.take_found.new.site)

@@ -1,4 +1,4 @@
-use Rattle.std.proofs.Common.{ap, sym, subst}
+use Rattle.std.proofs.Common.{◌≡◌, [], ap, sym, subst}
 use Rattle.chk_site.proofs.Leads.{leads_none, leads_as}
 use Rattle.chk_world.specs.JobSteps.{ReadsOrWrites}
 use Rattle.std.specs.Prelude.{codes}
@@ -7,7 +7,9 @@ use Rattle.chk_book.specs.Folders.{segment_name}
 use Rattle.chk_parts.specs.Cuts.{cut_chunks}
 use Rattle.chk_parts.proofs.StepKinds.{as_kind}
 use Rattle.chk_archive.specs.Archived.{MergesBy}
+use Rattle.chk_archive.specs.Shown.{IsAtLast}
 use Rattle.chk_archive.specs.Taking.{HasParts}
+use Rattle.chk_archive.proofs.SpentCauses.{spent_by_book, some_there}
 use Rattle.chk_archive.proofs.Preparing.{none_taken, parts_taken, cuts_some, of_merge, empty}
 use Rattle.chk_archive.proofs.taking.take_parts.Goals as goal
 
@@ -35,3 +37,11 @@ pub returns-clause-own : goal.returns-clause-own
 returns-clause-own g c =
     let n = (book_view c.args.book.now).next in
     as_kind (ReadsOrWrites (segment_name (codes "archive") n)) MergesBy (of_merge n) c.add_segment.ensures.own
+
+pub returns-clause-spent : goal.returns-clause-spent
+returns-clause-spent g c =
+    let b = book_view c.args.book.now in
+    let cuts = c.args.cuts.now in
+    spent_by_book b ((cuts ≡ [] → ⊥) × IsAtLast b) (λ x. (some_there cuts c.if-is_empty.ensures, x))
+    c.add_segment.result
+    c.add_segment.ensures.spent

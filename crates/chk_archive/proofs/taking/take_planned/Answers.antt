@@ -12,6 +12,8 @@ use Rattle.chk_parts.specs.Cuts.{cut_chunks, AreWithin}
 use Rattle.chk_parts.specs.Kept.{AreSpansWithin, past_chunks, IsFirst, AreKeptOnce}
 use Rattle.chk_parts.proofs.StepKinds.{as_kind, fails_behind}
 use Rattle.chk_archive.specs.Archived.{MergesBy, merge_reads}
+use Rattle.chk_archive.specs.Shown.{LacksOver}
+use Rattle.chk_archive.proofs.SpentCauses.{spent_reading, planned_spent}
 use Rattle.chk_archive.proofs.FoundPlan.{Found}
 use Rattle.chk_archive.proofs.NextBook.{Cs}
 use Rattle.chk_archive.proofs.TakenIn.{records_are, kept_so, kept_fails, then_taken}
@@ -93,3 +95,20 @@ returns-clause-shown g c =
     let heads = c.args.heads.now in
     shows_behind (IsGoneIn files heads) (late_gone_in files heads) c.write_planned.result c.kept_of.ensures.pieces
     c.write_planned.ensures.shown
+
+pub returns-in_err-kept-clause-spent : goal.returns-in_err-kept-clause-spent
+returns-in_err-kept-clause-spent g c =
+    let q = err_from_is_err_and c.from_residual.result c.from_residual.ensures.1 in
+    rw (q.1, q.2)
+    (spent_reading (LacksOver (book_view c.args.book.now) c.args.heads.now c.args.old
+    c.args.planned.now) c.in_err-kept.field-0.0
+    c.in_err-kept.ensures.only)
+
+pub returns-clause-spent : goal.returns-clause-spent
+returns-clause-spent g c =
+    let heads = c.args.heads.now in
+    let p = c.args.planned.now in
+    planned_spent (book_view c.args.book.now) heads c.args.old p c.as_slice-2.result.now
+    c.write_planned.result c.requires.plan
+    (subst (AreWithin (length heads)) (sym c.as_slice-2.ensures) c.in_ok-kept.ensures.within)
+    c.write_planned.ensures.spent

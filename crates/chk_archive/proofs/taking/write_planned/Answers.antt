@@ -1,4 +1,4 @@
-use Rattle.std.proofs.Common.{◌≡◌, ◌∙◌, Ok, Err, ap, sym, length}
+use Rattle.std.proofs.Common.{◌≡◌, ◌∙◌, Ok, Err, ap, sym, subst, length}
 use Rattle.std.specs.Prelude.{codes}
 use Rattle.std.proofs.lemmas.List.{length-map}
 use Rattle.std.proofs.lemmas.Result.{err_from_is_err_and}
@@ -13,10 +13,12 @@ use Rattle.chk_parts.specs.Cuts.{cut_chunk, cut_chunks}
 use Rattle.chk_parts.proofs.StepKinds.{as_kind, no_reads, fails_behind}
 use Rattle.chk_parts.proofs.Published.{replaces_no_reads}
 use Rattle.chk_archive.specs.Archived.{MergesBy, ReplacesBook}
+use Rattle.chk_archive.specs.Shown.{IfSpent, LacksFor}
 use Rattle.chk_archive.specs.Taking.{stays_aside}
 use Rattle.chk_archive.specs.declared.taking.Taken.{Taken}
 use Rattle.chk_archive.proofs.Lasts.{as_fails}
 use Rattle.chk_archive.proofs.NextBook.{Cs}
+use Rattle.chk_archive.proofs.SpentCauses.{spent_outside}
 use Rattle.chk_archive.proofs.TakenIn.{records_are, can_be, parts_so, gain_so, asks_so, stays_whole, prepare_fails, publish_fails, published_all, of_replace}
 use Rattle.chk_heads.proofs.Causes.{shows_outside, shows_ok}
 use Rattle.chk_merge.specs.Gone.{IsGoneIn}
@@ -136,3 +138,22 @@ returns-clause-shown g c =
     let t : Taken = record { taken = c.args.planned.now.taken; held = c.in_ok-held.held } in
     shows_ok (IsGoneIn c.args.files.now c.args.heads.now) t
     (every_then (IsOf MergesBy) c.prepare.ensures.own (as_kind ReplacesBook MergesBy of_replace c.publish_if.ensures.own))
+
+pub returns-in_err-changed-clause-spent : goal.returns-in_err-changed-clause-spent
+returns-in_err-changed-clause-spent g c =
+    let q = err_from_is_err_and c.from_residual-in_err-changed.result
+    c.from_residual-in_err-changed.ensures.1 in
+    let b = book_view c.args.book.now in
+    rw (q.1, q.2)
+    (subst (λ cuts. IfSpent (LacksFor b c.args.heads.now c.args.old cuts c.args.kept.now)
+    c.in_err-changed.field-0.0)
+    c.as_slice-cuts.ensures c.in_err-changed.ensures.spent)
+
+pub returns-in_err-publish_if-clause-spent : goal.returns-in_err-publish_if-clause-spent
+returns-in_err-publish_if-clause-spent g c =
+    let q = err_from_is_err_and c.from_residual-in_err-publish_if.result
+    c.from_residual-in_err-publish_if.ensures.1 in
+    rw (q.1, q.2)
+    (spent_outside (LacksFor (book_view c.args.book.now) c.args.heads.now c.args.old
+    c.args.planned.now.cuts c.args.kept.now)
+    c.in_err-publish_if.field-0.0)

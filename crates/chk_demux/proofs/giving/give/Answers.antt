@@ -44,6 +44,6 @@ returns-clause-told g c stamped v outs free =
     ∙ ap₂ (λ m n. m - c.args.behind - n) (ap (λ (h : Head). h.key.seq) c.requires.head.there) c.pending.ensures in
     subst (λ l. Adds (g.S.Site.told c.args.site.now) (g.S.Site.told c.write_record.new.site)
     (Leads (As stamped job) (AtJob stamped (IsOutput v outs c.args.output.now))
-    (EndsSo stamped v (book_view c.args.book.now).next (λ t u. IsOutput v (outs ++ l) c.write_record.new.output u) c.write_record.result)))
+    (EndsSo stamped (λ t u. IsOutput v (outs ++ l) c.write_record.new.output u) c.write_record.result)))
     (ap₂ (λ m r. given_chunks heads e c.args.index m r) place c.in-Some.ensures.lent)
     (c.write_record.ensures.told stamped v outs free)

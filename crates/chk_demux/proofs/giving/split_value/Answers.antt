@@ -43,7 +43,7 @@ returns-in_err-taken-clause-told g c stamped v outs from t fed free s placed =
     let e = end_view c.args.end.now in
     let l = c.loop-at in
     rw (p.1, p.2)
-    (no_more {U = Unit {0}} stamped v (book_view c.args.book.now).next
+    (no_more {U = Unit {0}} stamped
     (AtJob stamped (IsOutput v (outs ++ chunks_of_fed heads e from t fed) c.args.output.now))
     (IsOutput v (outs ++ chunks_of_fed heads e from t (fed ++ take l.at c.args.value.now)) l.output)
     (λ w u. IsOutput v (outs ++ chunks_of_fed heads e from t (fed ++ c.args.value.now)) l.output u)
@@ -76,7 +76,7 @@ loop-at-preserved g c =
           (AtJob stamped (IsOutput v x c.give.new.output))))
           (value_on heads e c.args.index from t fed value l.at n l.splitter c.feed.new.self (l.invariant.splits t fed s) feeds placed outs)
           (leads_then (l.invariant.so_far stamped v outs from t fed free s placed)
-          (so_done {T = Unit {0}} stamped v next (AtJob stamped (IsOutput v so l.output))
+          (so_done {T = Unit {0}} stamped (AtJob stamped (IsOutput v so l.output))
           (λ w u. IsOutput v (so ++ given_chunks heads e c.args.index
           (place_given heads c.args.index (length value - (l.at + n)) c.feed.new.self) c.feed.new.self.given)
           c.give.new.output u) c.give.result c.in_ok-give.field-0 c.in_ok-give.was
@@ -97,7 +97,7 @@ returns-in_err-give-clause-told g c stamped v outs from t fed free s placed =
     let so = outs ++ chunks_of_fed heads e from t (fed ++ take l.at c.args.value.now) in
     rw (p.1, p.2)
     (leads_then (l.invariant.so_far stamped v outs from t fed free s placed)
-    (so_fails {T = Unit {0}} {U = Unit {0}} stamped v (book_view c.args.book.now).next (AtJob stamped (IsOutput v so l.output))
+    (so_fails {T = Unit {0}} {U = Unit {0}} stamped (AtJob stamped (IsOutput v so l.output))
     (λ w u. IsOutput v (so ++ given_chunks heads e c.args.index
     (place_given heads c.args.index (length c.args.value.now - (l.at + c.in_ok-taken.taken)) c.feed.new.self) c.feed.new.self.given)
     c.give.new.output u)

@@ -37,6 +37,6 @@ returns-clause-told g c stamped v outs free =
     ∙ ap (λ n. cluster_back heads e.stream n (c.args.index + 1)) c.saturating_sub-at.ensures) in
     subst (λ l. Adds (g.S.Site.told c.args.site.now) (g.S.Site.told c.put.new.site)
     (Leads (As stamped job) (AtJob stamped (IsOutput v outs c.args.output.now))
-    (EndsSo stamped v (book_view c.args.book.now).next (λ t u. IsOutput v (outs ++ l) c.put.new.output u) c.put.result)))
+    (EndsSo stamped (λ t u. IsOutput v (outs ++ l) c.put.new.output u) c.put.result)))
     (ap (λ x. x ∷ []) is ∙ sym (given_made heads e c.args.index seq bytes c.requires.some))
     (c.put.ensures.told stamped v outs free)

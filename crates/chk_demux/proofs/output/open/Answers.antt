@@ -34,10 +34,10 @@ returns-in-None-clause-told g c stamped v outs free =
     let own = c.begin_segment.ensures.own c.requires.job in
     subst (λ o. Adds (g.S.Site.told c.args.site.now) (g.S.Site.told c.begin_segment.new.site)
     (Leads (As stamped job) (AtJob stamped (SoFar v outs o))
-    (EndsSo stamped v b.next (λ s u. IsSoFar v outs s u) r)))
+    (EndsSo stamped (λ s u. IsSoFar v outs s u) r)))
     (sym c.in-None.is)
     (opened_so stamped v outs b free r own
-    (opened stamped v outs b free r c.begin_segment.ensures.at c.begin_segment.ensures.only
+    (opened stamped v outs b free c.requires.below r c.begin_segment.ensures.at c.begin_segment.ensures.only
     c.begin_segment.ensures.spent c.begin_segment.ensures.raw own))
 
 pub returns-in-None-clause-works : goal.returns-in-None-clause-works

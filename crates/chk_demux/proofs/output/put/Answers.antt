@@ -10,7 +10,7 @@ use Rattle.chk_book.specs.Folders.{segment_name}
 use Rattle.chk_demux.specs.Writes.{SoFar, IsOutput, IsWriter}
 use Rattle.chk_demux.proofs.RawReads.{write_begins, memory_begins}
 use Rattle.chk_demux.proofs.OneSegment.{put_so, writes_it}
-use Rattle.chk_demux.proofs.Outputs.{not_put, put_done, put_counted, counted_works}
+use Rattle.chk_demux.proofs.Outputs.{is_written, not_put, put_done, put_counted, counted_works}
 use Rattle.chk_demux.proofs.Works.{worked_writes, works_result}
 use Rattle.chk_demux.proofs.output.put.Goals as goal
 
@@ -21,7 +21,7 @@ returns-in_err-part-clause-told g c stamped v outs free =
     let s = c.in-Some.segmenter in
     let f = subst (IsWriter next) c.in-Some.is c.requires.writer in
     rw (p.1, p.2)
-    (not_put stamped v next outs c.args.output.now (Ok s)
+    (not_put stamped v outs c.args.output.now (is_written v outs next free f.below c.args.output.now.segmenter) (Ok s)
     (leads_none (g.S.Site.told c.args.site.now)
     (λ h k. subst (λ o. AtJob stamped (SoFar v outs o) h) c.in-Some.is k))
     s c.part.new.self refl (lent_chunk c.args.chunk.now) c.part.result
@@ -56,8 +56,9 @@ returns-clause-told g c stamped v outs free =
     let f = subst (IsWriter next) c.in-Some.is c.requires.writer in
     let own = writes_it next s f c.part.ensures.own in
     let chunk = lent_chunk c.args.chunk.now in
-    put_counted stamped v next outs c.args.output.now chunk c.part.new.self
-    (put_done stamped v next outs c.args.output.now (Ok s)
+    put_counted stamped v outs c.args.output.now chunk (is_written v outs next free f.below c.args.output.now.segmenter)
+    c.part.new.self
+    (put_done stamped v outs c.args.output.now (is_written v outs next free f.below c.args.output.now.segmenter) (Ok s)
     (leads_none (g.S.Site.told c.args.site.now)
     (λ h k. subst (λ o. AtJob stamped (SoFar v outs o) h) c.in-Some.is k))
     s c.part.new.self refl chunk c.part.result

@@ -22,7 +22,7 @@ pub returns-in_err-segmenter-clause-told : goal.returns-in_err-segmenter-clause-
 returns-in_err-segmenter-clause-told g c stamped v outs free =
     let p = err_from_is_err_and c.from_residual.result c.from_residual.ensures.1 in
     rw (p.1, p.2)
-    (so_fails {U = Segmenter} stamped v (book_view c.args.book.now).next
+    (so_fails {U = Segmenter} stamped
     (AtJob stamped (SoFar v outs c.args.segmenter)) (λ s u. IsSoFar v outs s u)
     (λ s u. IsSoFar v (outs ++ lent_chunk c.args.chunk.now ∷ []) s u)
     c.open.result c.in_err-segmenter.field-0.0 c.in_err-segmenter.was
@@ -45,9 +45,9 @@ returns-in_err-part-clause-told g c stamped v outs free =
     let f = c.in_ok-segmenter.ensures.writer in
     rw (p.1, p.2)
     (leads_then
-    (so_done stamped v next (AtJob stamped (SoFar v outs c.args.segmenter)) (λ s u. IsSoFar v outs s u)
+    (so_done stamped (AtJob stamped (SoFar v outs c.args.segmenter)) (λ s u. IsSoFar v outs s u)
     c.open.result s c.in_ok-segmenter.was (c.open.ensures.told stamped v outs free))
-    (so_fails {T = Unit {0}} {U = Segmenter} stamped v next (AtJob stamped (IsSoFar v outs s))
+    (so_fails {T = Unit {0}} {U = Segmenter} stamped (AtJob stamped (IsSoFar v outs s))
     (λ t u. IsSoFar v (outs ++ chunk ∷ []) c.part.new.self u)
     (λ s u. IsSoFar v (outs ++ chunk ∷ []) s u)
     c.part.result c.in_err-part.field-0.0 c.in_err-part.was
@@ -73,9 +73,9 @@ returns-clause-told g c stamped v outs free =
     let s = c.in_ok-segmenter.segmenter in
     let f = c.in_ok-segmenter.ensures.writer in
     leads_then
-    (so_done stamped v next (AtJob stamped (SoFar v outs c.args.segmenter)) (λ s u. IsSoFar v outs s u)
+    (so_done stamped (AtJob stamped (SoFar v outs c.args.segmenter)) (λ s u. IsSoFar v outs s u)
     c.open.result s c.in_ok-segmenter.was (c.open.ensures.told stamped v outs free))
-    (so_done {T = Unit {0}} stamped v next (AtJob stamped (IsSoFar v outs s))
+    (so_done {T = Unit {0}} stamped (AtJob stamped (IsSoFar v outs s))
     (λ t u. IsSoFar v (outs ++ chunk ∷ []) c.part.new.self u)
     c.part.result c.in_ok-part.field-0 c.in_ok-part.was
     (put_so stamped v next s c.part.new.self f.number free outs chunk c.part.result c.part.ensures.raw

@@ -19,7 +19,7 @@ returns-in-Some-clause-told g c stamped v outs free may =
     let b = book_view c.args.book.now in
     subst (λ o. Adds (g.S.Site.told c.args.site.now) (g.S.Site.told c.enter_segment.new.site)
     (Leads (As stamped job) (AtJob stamped (SoFar v outs o))
-    (EndsSo stamped v b.next (λ (t : Unit {0}) u. Entered v b outs o u) c.enter_segment.result))) (sym c.in-Some.is)
+    (EndsSo stamped (λ (t : Unit {0}) u. Entered v b outs o u) c.enter_segment.result))) (sym c.in-Some.is)
     (c.enter_segment.ensures.told stamped v outs free may)
 
 pub returns-in-None-clause-told : goal.returns-in-None-clause-told

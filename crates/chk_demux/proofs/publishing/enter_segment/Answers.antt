@@ -36,7 +36,7 @@ returns-in_err-finish-clause-told g c stamped v outs free may =
     let s = c.args.segmenter in
     let own = writes_it b.next s c.requires.writer c.finish.ensures.own in
     rw (q.1, q.2)
-    (so_fails {U = Unit {0}} stamped v b.next (AtJob stamped (IsSoFar v outs s)) (λ value u. HasWritten v b new outs u)
+    (so_fails {U = Unit {0}} stamped (AtJob stamped (IsSoFar v outs s)) (λ value u. HasWritten v b new outs u)
     (λ value u. Entered v b outs (Some s) u) c.finish.result c.in_err-finish.field-0.0 c.in_err-finish.was
     (finish_so stamped v s b new c.requires.writer.number free outs c.finish.result c.finish.ensures.raw own c.finish.ensures.only))
 
@@ -61,7 +61,7 @@ returns-in_err-publish_next-clause-told g c stamped v outs free may =
     rw (q.1, q.2)
     (subst (λ (r : Result (Unit {0}) OutsideFault). Adds (g.S.Site.told c.args.site.now) (g.S.Site.told c.publish_next.new.site)
     (Leads (As stamped job) (AtJob stamped (IsSoFar v outs s))
-    (EndsSo stamped v b.next (λ (value : Unit {0}) u. Entered v b outs (Some s) u) (job_result r)))) c.in_err-publish_next.was
+    (EndsSo stamped (λ (value : Unit {0}) u. Entered v b outs (Some s) u) (job_result r)))) c.in_err-publish_next.was
     (entered_so stamped v b outs free may s new c.finish.result c.publish_next.result
     (finish_so stamped v s b new c.requires.writer.number free outs c.finish.result c.finish.ensures.raw own c.finish.ensures.only)
     tt c.in_ok-finish.was
@@ -90,7 +90,7 @@ returns-clause-told g c stamped v outs free may =
     let own = writes_it b.next s c.requires.writer c.finish.ensures.own in
     subst (λ (r : Result (Unit {0}) OutsideFault). Adds (g.S.Site.told c.args.site.now) (g.S.Site.told c.publish_next.new.site)
     (Leads (As stamped job) (AtJob stamped (IsSoFar v outs s))
-    (EndsSo stamped v b.next (λ (value : Unit {0}) u. Entered v b outs (Some s) u) (job_result r)))) c.in_ok-publish_next.was
+    (EndsSo stamped (λ (value : Unit {0}) u. Entered v b outs (Some s) u) (job_result r)))) c.in_ok-publish_next.was
     (entered_so stamped v b outs free may s new c.finish.result c.publish_next.result
     (finish_so stamped v s b new c.requires.writer.number free outs c.finish.result c.finish.ensures.raw own c.finish.ensures.only)
     tt c.in_ok-finish.was

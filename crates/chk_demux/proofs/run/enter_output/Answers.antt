@@ -18,7 +18,7 @@ returns-in_err-enter-clause-told g c stamped v outs free may =
     let b = book_view c.args.book.now in
     let s = c.args.output.segmenter in
     rw (q.1, q.2)
-    (so_fails {T = Unit {0}} {U = DemuxReport} stamped v b.next (AtJob stamped (SoFar v outs s))
+    (so_fails {T = Unit {0}} {U = DemuxReport} stamped (AtJob stamped (SoFar v outs s))
     (λ t u. Entered v b outs s u) (λ t u. Entered v b outs s u) c.enter.result c.in_err-enter.field-0.0 c.in_err-enter.was
     (c.enter.ensures.told stamped v outs free may))
 
@@ -46,7 +46,7 @@ pub returns-clause-told : goal.returns-clause-told
 returns-clause-told g c stamped v outs free may =
     let b = book_view c.args.book.now in
     let s = c.args.output.segmenter in
-    so_done {T = Unit {0}} stamped v b.next (AtJob stamped (SoFar v outs s)) (λ t u. Entered v b outs s u)
+    so_done {T = Unit {0}} stamped (AtJob stamped (SoFar v outs s)) (λ t u. Entered v b outs s u)
     c.enter.result tt c.in_ok-enter.was (c.enter.ensures.told stamped v outs free may)
 
 pub returns-clause-counts : goal.returns-clause-counts

@@ -18,10 +18,10 @@ use Rattle.chk_merge.proofs.Causes.{sound_bad, sound_broken, sound_so}
 use Rattle.chk_demux.proofs.run.heads_in_order.Goals as goal
 
 pub returns-in_err-heads-clause-told : goal.returns-in_err-heads-clause-told
-returns-in_err-heads-clause-told g c stamped v next sound well =
+returns-in_err-heads-clause-told g c stamped v sound well =
     let q = err_from_is_err_and c.from_residual.result c.from_residual.ensures.1 in
     rw (q.1, q.2)
-    (not_found stamped v next c.args.names.now c.gather_found.result c.gather_found.ensures.only
+    (not_found stamped v c.args.names.now c.gather_found.result c.gather_found.ensures.only
     (c.gather_found.ensures.told stamped v sound) c.in_err-heads.field-0.0 c.in_err-heads.was)
 
 pub returns-in_err-heads-clause-raw : goal.returns-in_err-heads-clause-raw
@@ -49,11 +49,11 @@ returns-in_err-heads-clause-cause g c =
     (g.S.Site.fault_count c.gather_found.new.site) refl c.gather_found.ensures.cause)
 
 pub returns-in_err-put_in_order-clause-told : goal.returns-in_err-put_in_order-clause-told
-returns-in_err-put_in_order-clause-told g c stamped v next sound well =
+returns-in_err-put_in_order-clause-told g c stamped v sound well =
     let r = c.from_residual-in_err-put_in_order in
     let q = err_from_is_err_and r.result r.ensures.1 in
     rw (q.1, q.2)
-    (not_checked stamped v next c.args.names.now c.gather_found.result c.gather_found.ensures.only
+    (not_checked stamped v c.args.names.now c.gather_found.result c.gather_found.ensures.only
     (c.gather_found.ensures.told stamped v sound) c.in_ok-heads.heads c.in_ok-heads.was (book_view c.args.archive.now) well
     c.in_err-put_in_order.field-0.0 c.in_err-put_in_order.ensures.err)
 
@@ -90,8 +90,8 @@ returns-in_err-put_in_order-clause-cause g c =
     (g.S.Site.fault_count c.gather_found.new.site) c.in_ok-heads.ensures.cause)
 
 pub returns-clause-told : goal.returns-clause-told
-returns-clause-told g c stamped v next sound well =
-    all_sorted stamped v next c.args.names.now c.gather_found.result c.gather_found.ensures.only
+returns-clause-told g c stamped v sound well =
+    all_sorted stamped v c.args.names.now c.gather_found.result c.gather_found.ensures.only
     (c.gather_found.ensures.told stamped v sound) c.in_ok-heads.heads c.in_ok-heads.was c.put_in_order.new.heads
     c.in_ok-put_in_order.ensures.order
 

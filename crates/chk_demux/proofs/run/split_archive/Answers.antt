@@ -1,15 +1,19 @@
-use Rattle.std.proofs.Common.{subst, sym, refl}
+use Rattle.std.proofs.Common.{subst, sym, refl, Err}
 use Rattle.std.proofs.lemmas.Result.{err_from_is_err_and}
 use Rattle.chk_heads.specs.Faults.{JobCause}
 use Rattle.chk_book.specs.Books.{book_view}
+use Rattle.chk_site.proofs.Runs.{adds_as}
+use Rattle.chk_site.proofs.Leads.{leads_as}
+use Rattle.chk_heads.specs.declared.fault.JobFault.TheVariants.{Spent}
 use Rattle.chk_demux.specs.Running.{RunsOn}
+use Rattle.chk_demux.specs.Working.{Worked}
 use Rattle.chk_demux.specs.Writes.{IsWriter}
 use Rattle.chk_demux.specs.declared.report.DemuxReport.{DemuxReport}
 use Rattle.chk_demux.specs.Splitting.{texts}
 use Rattle.chk_demux.proofs.Ends.{cause_behind}
 use Rattle.chk_demux.proofs.RawReads.{split_refused, split_on}
 use Rattle.chk_demux.proofs.RunFacts.{can_run}
-use Rattle.chk_demux.proofs.RunSteps.{nothing_put, not_split, all_ran, enters}
+use Rattle.chk_demux.proofs.RunSteps.{nothing_put, some_lack, none_lack, none_left, not_split, all_ran, enters}
 use Rattle.chk_demux.proofs.Works.{works_result}
 use Rattle.std.proofs.Common.{ℕ}
 use Rattle.std.specs.Prelude.{codes}
@@ -34,6 +38,36 @@ returns-in_err-left-clause-told g c stamped v named ready =
     (c.split_named.ensures.told stamped v k.cs k.can (nothing_put v c.new-output.result c.new-output.ensures.taken
     c.new-output.ensures.entries c.new-output.ensures.segmenter))
     c.in_err-left.field-0.0 c.in_err-left.was)
+
+-- ---- no number is left for what was put
+
+pub returns-then-lacks_number-clause-told : goal.returns-then-lacks_number-clause-told
+returns-then-lacks_number-clause-told g c stamped v named ready =
+    let a = book_view c.args.archive.now in
+    let b = book_view c.args.book.now in
+    let types = texts c.args.types.now in
+    let k = can_run stamped types named a b v ready in
+    let n = c.split_named.new.output in
+    let lacks = some_lack b.next n.entries c.lacks_number.result c.lacks_number.ensures c.if-lacks_number.true in
+    none_left stamped types a b v k n c.split_named.result
+    (c.split_named.ensures.told stamped v k.cs k.can (nothing_put v c.new-output.result c.new-output.ensures.taken
+    c.new-output.ensures.entries c.new-output.ensures.segmenter))
+    c.in_ok-left.left c.in_ok-left.was lacks.0 lacks.1 c.in_ok-left.ensures.writer
+
+pub returns-then-lacks_number-clause-raw : goal.returns-then-lacks_number-clause-raw
+returns-then-lacks_number-clause-raw g c held settled counts =
+    leads_as (λ h z. z) (λ h z. tt) (c.split_named.ensures.raw held settled counts)
+
+pub returns-then-lacks_number-clause-shown : goal.returns-then-lacks_number-clause-shown
+returns-then-lacks_number-clause-shown g c = adds_as _ c.split_named.ensures.works (λ added history x. tt)
+
+pub returns-then-lacks_number-clause-works : goal.returns-then-lacks_number-clause-works
+returns-then-lacks_number-clause-works g c =
+    adds_as (Worked {T = DemuxReport} RunsOn (Err (Spent (book_view c.args.book.now).next))) c.split_named.ensures.works
+    (λ added history w. record { own = w.own; pieces = w.pieces; last = tt })
+
+pub returns-then-lacks_number-clause-cause : goal.returns-then-lacks_number-clause-cause
+returns-then-lacks_number-clause-cause g c = c.in_ok-left.ensures.cause
 
 pub returns-in_err-left-clause-raw : goal.returns-in_err-left-clause-raw
 returns-in_err-left-clause-raw g c held settled counts =
@@ -71,7 +105,9 @@ returns-clause-told g c stamped v named ready =
     all_ran stamped types a b v k c.split_named.new.output c.split_named.result
     (c.split_named.ensures.told stamped v k.cs k.can (nothing_put v c.new-output.result c.new-output.ensures.taken
     c.new-output.ensures.entries c.new-output.ensures.segmenter))
-    c.in_ok-left.left c.in_ok-left.was c.enter_output.result c.enter_output.ensures.works
+    c.in_ok-left.left c.in_ok-left.was
+    (none_lack b.next c.split_named.new.output.entries c.lacks_number.result c.lacks_number.ensures c.if-lacks_number.false)
+    c.enter_output.result c.enter_output.ensures.works
     (λ outs. c.enter_output.ensures.told stamped v outs) c.enter_output.ensures.counts
 
 pub returns-clause-works : goal.returns-clause-works

@@ -24,7 +24,7 @@ returns-in_err-files-clause-told g c stamped v cs can none =
     let a = book_view c.args.archive.now in
     let b = book_view c.args.book.now in
     rw (q.1, q.2)
-    (no_more {U = ℕ} stamped v b.next (AtJob stamped (λ u. u ≡ v)) (λ u. u ≡ v)
+    (no_more {U = ℕ} stamped (AtJob stamped (λ u. u ≡ v)) (λ u. u ≡ v)
     (λ left u. IsOutput v (all_chunks (texts c.args.types.now) b (archive_heads v a) cs a.ends) c.args.output.now u
     × (left ≡ all_left (texts c.args.types.now) b cs a.ends))
     (leads_none (g.S.Site.told c.args.site.now) (λ h z. z)))
@@ -59,7 +59,7 @@ returns-in_err-heads-clause-told g c stamped v cs can none =
     let are = c.as_slice-names.ensures.value ∙ c.in_ok-files.ensures in
     rw (q.1, q.2)
     (no_heads stamped (texts c.args.types.now) a b v cs can o o none names are c.heads_in_order.result
-    (c.heads_in_order.ensures.told stamped v b.next
+    (c.heads_in_order.ensures.told stamped v
     (sound_names stamped (texts c.args.types.now) a b v cs can o o none names are)
     (well_names stamped (texts c.args.types.now) a b v cs can o o none names are))
     c.in_err-heads.field-0.0 c.in_err-heads.was)
@@ -110,7 +110,7 @@ returns-clause-told g c stamped v cs can none =
     let names = c.as_slice-names.result.now in
     let are = c.as_slice-names.ensures.value ∙ c.in_ok-files.ensures in
     split_so stamped (texts c.args.types.now) a b v cs can o n none names are c.heads_in_order.result
-    (c.heads_in_order.ensures.told stamped v b.next
+    (c.heads_in_order.ensures.told stamped v
     (sound_names stamped (texts c.args.types.now) a b v cs can o n none names are)
     (well_names stamped (texts c.args.types.now) a b v cs can o n none names are))
     c.in_ok-heads.heads c.in_ok-heads.was c.split_streams.result c.split_streams.ensures.works

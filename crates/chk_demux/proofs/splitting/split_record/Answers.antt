@@ -46,7 +46,7 @@ returns-in_err-fetch-clause-told g c stamped v cs outs b records free runs =
     let o = c.args.output.now in
     rw (p.1, p.2)
     (not_fetched v c.args.files.now heads cs outs e c.args.from records runs c.args.index c.requires.index o c.args.reader.now
-    c.args.splitter.now b stamped (book_view c.args.book.now).next c.fetch.new.reader c.fetch.result c.fetch.ensures.raw
+    c.args.splitter.now b stamped c.fetch.new.reader c.fetch.result c.fetch.ensures.raw
     c.fetch.ensures.own {U = Unit {0}}
     (λ w u. SplitSoFar v c.args.files.now heads cs outs e c.args.from (c.args.index + 1) b o c.fetch.new.reader c.args.splitter.now u)
     c.in_err-fetch.field-0.0 c.in_err-fetch.was c.in_err-fetch.ensures.only)
@@ -71,7 +71,7 @@ returns-clause-told g c stamped v cs outs b records free runs =
     let passes : ends_past e c.args.from (head_in heads c.args.index) ≡ true =
     sym (ap (ends_past e c.args.from) c.get-head.ensures.head) ∙ (sym c.ends_past.ensures ∙ c.if-not-ends_past.false) in
     record_split v c.args.files.now heads cs outs e c.args.from records runs c.args.index c.requires.index o c.args.reader.now
-    s b stamped (book_view c.args.book.now).next c.fetch.new.reader c.fetch.result c.fetch.ensures.raw
+    s b stamped c.fetch.new.reader c.fetch.result c.fetch.ensures.raw
     c.fetch.ensures.own c.in_ok-fetch.field-0 c.in_ok-fetch.was passes given c.get-head.result.begin
     (ap (λ (h : Head). h.begin) c.get-head.ensures.head) (c.past-value.ensures ∙ ap (λ l. drop (c.args.from - c.get-head.result.begin) l) c.value.ensures)
     c.split_value.new.output c.split_value.new.splitter

@@ -51,7 +51,7 @@ loop-index-preserved g c =
     record {
       so_far = λ stamped v cs outs b records free runs holds is.
           leads_then (l.invariant.so_far stamped v cs outs b records free runs holds is)
-          (so_done {T = Unit {0}} stamped v next
+          (so_done {T = Unit {0}} stamped
           (AtJob stamped (SplitSoFar v c.args.files.now c.args.heads.now cs outs e from l.index b l.output l.reader l.splitter))
           (λ x u. SplitSoFar v c.args.files.now c.args.heads.now cs outs e from (l.index + 1) b c.split_record.new.output
           c.split_record.new.reader c.split_record.new.splitter u)
@@ -73,7 +73,6 @@ pub returns-in_err-split_record-clause-told : goal.returns-in_err-split_record-c
 returns-in_err-split_record-clause-told g c stamped v cs outs records free runs holds goes =
     let p = err_from_is_err_and c.from_residual.result c.from_residual.ensures.1 in
     let l = c.loop-index in
-    let next = (book_view c.args.book.now).next in
     let e = end_view c.args.end.now in
     let from = c.args.from in
     let types = texts c.args.types.now in
@@ -83,7 +82,7 @@ returns-in_err-split_record-clause-told g c stamped v cs outs records free runs 
     c.new-splitter.ensures ∙ ap fresh (c.is_stamped.ensures ∙ ap (is_stamped types) c.as_str.ensures.text) in
     rw (p.1, p.2)
     (leads_then (l.invariant.so_far stamped v cs outs b records free here holds is)
-    (so_fails {T = Unit {0}} {U = ℕ} stamped v next
+    (so_fails {T = Unit {0}} {U = ℕ} stamped
     (AtJob stamped (SplitSoFar v c.args.files.now c.args.heads.now cs outs e from l.index b l.output l.reader l.splitter))
     (λ x u. SplitSoFar v c.args.files.now c.args.heads.now cs outs e from (l.index + 1) b c.split_record.new.output
     c.split_record.new.reader c.split_record.new.splitter u)

@@ -88,7 +88,7 @@ loop-end-preserved g c =
             p.0.1,
             c.in_ok-left.ensures.sum ∙ (ap₂ (λ m n. m + n) p.1 p.0.2 ∙ sym (left_more types b heads cs ends i low e is)),
           )) h k)
-          (stream_done stamped v b.next w A P P X R c.split_stream.result first second c.split_stream.ensures.works
+          (stream_done stamped w A P P X R c.split_stream.result first second c.split_stream.ensures.works
           c.in_ok-more.more c.in_ok-more.was);
       raw_so_far = λ v cs records settled apart.
           leads_then (l.invariant.raw_so_far v cs records settled apart)
@@ -135,7 +135,7 @@ returns-in_err-more-clause-told g c stamped v cs records free runs rise rises =
     (c.split_from-from.ensures rises) in
     let w = segment_name (codes "demux") b.next in
     rw (p.1, p.2)
-    (stream_fails stamped v b.next w A P P X R c.split_stream.result first second c.split_stream.ensures.works {U = ℕ}
+    (stream_fails stamped w A P P X R c.split_stream.result first second c.split_stream.ensures.works {U = ℕ}
     (λ left u. IsOutput v (all_chunks types b heads cs ends) c.split_stream.new.output u
     × (left ≡ all_left types b cs ends))
     c.in_err-more.field-0.0 c.in_err-more.was)
@@ -181,10 +181,10 @@ returns-in_err-left-clause-told g c stamped v cs records free runs rise rises =
     (c.split_from-from.ensures rises) in
     let w = segment_name (codes "demux") b.next in
     rw (p.1, p.2, c.in_err-left.ensures.only)
-    (no_more {U = ℕ} stamped v b.next A (λ u. R c.in_ok-more.more u × X)
+    (no_more {U = ℕ} stamped A (λ u. R c.in_ok-more.more u × X)
     (λ left u. IsOutput v (all_chunks types b heads cs ends) c.split_stream.new.output u
     × (left ≡ all_left types b cs ends))
-    (stream_done stamped v b.next w A P P X R c.split_stream.result first second c.split_stream.ensures.works
+    (stream_done stamped w A P P X R c.split_stream.result first second c.split_stream.ensures.works
     c.in_ok-more.more c.in_ok-more.was))
 
 pub returns-in_err-left-clause-works : goal.returns-in_err-left-clause-works
