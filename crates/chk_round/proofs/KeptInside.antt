@@ -33,8 +33,8 @@ use Rattle.chk_sink.proofs.HoldsStay.{holds_stay}
 use Rattle.chk_collector.specs.Handled.{OfRequest}
 use Rattle.chk_collector.specs.Outcomes.{Outcome, OutcomeFull, OutcomeState, Refused as was_refused, BadPost, Lines, Fails, Replied}
 use Rattle.chk_collector.specs.Passing.{LeavesFull, RequestLeavesFull}
-use Rattle.chk_collect.specs.Legality.{HasTaken}
-use Rattle.chk_collect.proofs.Talking.{took}
+use Rattle.chk_collector_run.specs.Legality.{HasTaken}
+use Rattle.chk_collector_run.proofs.Talking.{took}
 use Rattle.chk_delivery.specs.declared.answers.Answered.{Answered}
 use Rattle.chk_delivery.specs.declared.answers.Below.{Below}
 use Rattle.chk_delivery.specs.declared.answers.PollAnswer.{PollAnswer}

@@ -21,7 +21,7 @@ use Rattle.chk_world.specs.Together.{IsByOne, Outside, Together}
 use Rattle.chk_sink.specs.Least.{EachFront}
 use Rattle.chk_sink.specs.States.{IsSameStart, State as Sinks, process}
 use Rattle.chk_collector.specs.Passing.{HasPassed}
-use Rattle.chk_collect.proofs.SettledSinks.{all_committed}
+use Rattle.chk_collector_run.proofs.SettledSinks.{all_committed}
 use Rattle.chk_message.specs.Messages.{ack_of}
 use Rattle.chk_delivery.specs.declared.answers.Below.{Below}
 use Rattle.chk_agent.specs.States.{State as Agents}

@@ -9,16 +9,15 @@ use Rattle.chk_site.specs.Runs.{Leads, Side}
 use Rattle.chk_site.proofs.Runs.{adds_as, adds_both, adds_none, adds_then, every_early, every_join, every_late}
 use Rattle.chk_chunk.specs.Keys.{Stream}
 use Rattle.chk_world.specs.Laws.{agent_of}
-use Rattle.chk_world.specs.Streams.{whole_end}
 use Rattle.chk_world.specs.Together.{IsByOne, Outside as OutsideOf, Together}
 use Rattle.chk_sink.specs.States.{IsSameStart, State as Sinks}
 use Rattle.chk_reading.specs.Adaptors.{Adaptor, is_stepped, stream_at}
 use Rattle.chk_agent.specs.States.{State as Agents, is_read_on, process}
 use Rattle.chk_agent.proofs.FillingOn.{read_one}
-use Rattle.chk_agent.proofs.Soundness.{below_at}
+use Rattle.chk_agent.proofs.Soundness.{below_at, in_at}
 use Rattle.chk_agent.proofs.TalkingTold.{ran_before}
 use Rattle.chk_round.specs.declared.faults.RoundFault.{RoundFault}
-use Rattle.chk_round.specs.Done.{ReadTo}
+use Rattle.chk_round.specs.Done.{EndedAt, ReadTo}
 use Rattle.chk_round.specs.Following.{KeepsLogs}
 use Rattle.chk_round.proofs.Following.{keeps_all, keeps_then}
 use Rattle.chk_round.specs.Joint.{AreIn, BothAt, JointTo}
@@ -53,7 +52,8 @@ both_lead S {C = C} a b history x y =
 pub record ReadsBelow (stamped : List (List ℕ)) (started acting : List Who) (n : ℕ) (s : Sinks) (a : Agents) (t : Sinks)
     (b : Agents) (added history : History) : Type 0 where
   pub leads : Leads (Together stamped started acting) (BothAt stamped s a) (BothAt stamped t b) added history
-  pub whole : Others (OutsideOf stamped started) added history → BothAt stamped s a history
+  pub whole : a.ready ≡ true → Others (OutsideOf stamped started) added history
+      → BothAt stamped s a history
       → is_stopped (added ++ history) ≡ false → (i : ℕ) (x y : Adaptor) → i < n → slice_get a.adaptors i ≡ Some x
       → is_stepped x.phase ≡ true → slice_get b.adaptors i ≡ Some y
       → ReadTo (stream_at a.source x) y.read.offset (ReadsAlone i x a) added history
@@ -98,7 +98,8 @@ pub reading_begun : (s : Sinks) (a : Agents) (now : Option History) (m : ℕ) �
 reading_begun s a now m = record {
   told = λ stamped started acting run. adds_none now (ReadsBelow stamped started acting 0 s a s a) (λ history. record {
     leads = record { leads = λ others h. h; own = tt };
-    whole = λ others h running i x y below there steps at. absurd (let z : ⊥ = omega (arith, below) in z);
+    whole = λ ready others h running i x y below there steps at. absurd
+        (let z : ⊥ = omega (arith, below) in z);
   });
   starts = starts_none s;
   on = record {
@@ -149,14 +150,15 @@ module _ (n : ℕ) (s t : Sinks) (a b : Agents) {old mid : Option History} {befo
         (so.told stamped started acting run)
         (λ added history x. record {
           leads = x.leads;
-          whole = λ others h running i c d below there steps at. elim (at_or_below n i below) [
-            | inl less ↦ x.whole others h running i c d less there steps at
-            | inr same ↦
-                let here = ap (λ j. slice_get b.adaptors j) (sym same) ∙ at in
-                let was = so.later n d (omega arith) here in
-                let is = same_Some c d (sym there ∙ (ap (λ j. slice_get a.adaptors j) same ∙ was)) in
-                absurd (none_steps d here (ap (λ (k : Adaptor). is_stepped k.phase) (sym is) ∙ steps))
-          ];
+          whole = λ ready others h running i c d below there steps at. elim
+              (at_or_below n i below) [
+                | inl less ↦ x.whole ready others h running i c d less there steps at
+                | inr same ↦
+                    let here = ap (λ j. slice_get b.adaptors j) (sym same) ∙ at in
+                    let was = so.later n d (omega arith) here in
+                    let is = same_Some c d (sym there ∙ (ap (λ j. slice_get a.adaptors j) same ∙ was)) in
+                    absurd (none_steps d here (ap (λ (k : Adaptor). is_stepped k.phase) (sym is) ∙ steps))
+              ];
         });
     starts = so.starts;
     on = so.on;
@@ -241,7 +243,7 @@ module _ (n : ℕ) (s t : Sinks) (a b : Agents) {old mid : Option History} {befo
       whole_then stamped started acting x y history first second none r is_r steps_r last only = record {
         leads = both_lead (Together stamped started acting) x y history first.leads
             (record { leads = λ others h. (second.leads others h).0; own = second.own });
-        whole = λ others h running i k d below there steps at.
+        whole = λ ready others h running i k d below there steps at.
             let first_others = early stamped started acting y x history others in
             let late_others = late stamped started acting y x history others in
             elim (at_or_below n i below) [
@@ -249,7 +251,9 @@ module _ (n : ℕ) (s t : Sinks) (a b : Agents) {old mid : Option History} {befo
                   let apart : i ≢ n = λ e. let z : ⊥ = omega (arith, less, e) in z in
                   let kept = one.adaptors.others i d apart at in
                   read_on (stream_at a.source k) d.read.offset (ReadsAlone i k a) y x history
-                  (first.whole first_others h (ran stamped started acting y x history second running) i k d less there steps kept)
+                  (first.whole ready first_others h
+                  (ran stamped started acting y x history second running) i k d less there steps
+                  kept)
                   (subst (λ q. NonePast q d.read.offset y (x ++ history)) (same_stream i k d there kept)
                   (none (record { place = i; adaptor = d; apart = apart; at = kept }) late_others))
                   (λ alone. only_reads_none (stream_at a.source k) r.path
@@ -257,13 +261,19 @@ module _ (n : ℕ) (s t : Sinks) (a b : Agents) {old mid : Option History} {befo
               | inr same ↦
                   let here = ap (λ j. slice_get c.adaptors j) (sym same) ∙ at in
                   let was = ap (λ j. slice_get a.adaptors j) (sym same) ∙ there in
-                  let end = (second.leads late_others (first.leads.leads first_others h)).1
-                  (ap is_stopped (sym (append_assoc y x history)) ∙ running) d here in
+                  let goes = ap is_stopped (sym (append_assoc y x history)) ∙ running in
+                  let after = second.leads late_others (first.leads.leads first_others h) in
+                  let stands = (((after.0).1.0.alive goes
+                  (one.ready ∙ (so.on.ready ∙ ready))).holds.readers d
+                  (in_at c.adaptors n d here)).read in
                   read_now (stream_at a.source k) d.read.offset (ReadsAlone i k a) (y ++ x) history
                   (subst (λ (q : Stream). EndsWithRead (agent_of q) q.name (y ++ x) history)
                   (same_stream n k r was is_r) (ends_more y x history last))
-                  (ap (λ j. whole_end j (stream_at a.source k)) (append_assoc y x history)
-                  ∙ (ap (whole_end (y ++ (x ++ history))) (sym (stream_is k d was here)) ∙ end))
+                  (subst (EndedAt (stream_at a.source k) d.read.offset)
+                  (sym (append_assoc y x history))
+                  (subst (λ q. EndedAt q d.read.offset (y ++ (x ++ history)))
+                  (stream_is k d was here)
+                  (after.1 goes d here, (stands.first, stands.founded))))
             ];
       }
 
@@ -330,14 +340,16 @@ module _ (n : ℕ) (s t : Sinks) (a b : Agents) {old mid : Option History} {befo
           }
 
   -- all are read
-  pub all_read : (count : ℕ) → count ≡ length a.adaptors → count ≤ n → (stamped : List (List ℕ)) (started acting : List Who)
+  pub all_read : a.ready ≡ true → (count : ℕ) → count ≡ length a.adaptors → count ≤ n
+      → (stamped : List (List ℕ)) (started acting : List Who)
       → AreIn started acting s a → Adds old mid (ReadsAll stamped started acting s a t b (Ok tt))
-  all_read count size all stamped started acting run =
+  all_read ready count size all stamped started acting run =
       adds_as (ReadsAll stamped started acting s a t b (Ok tt)) (so.told stamped started acting run)
       (λ added history x. record {
         leads = x.leads;
         whole = λ e others h running i c d there steps at.
             let below = below_at b.adaptors i d at in
             let many = so.on.size in
-            x.whole others h running i c d (omega (arith, below, many, size, all)) there steps at;
+            x.whole ready others h running i c d (omega (arith, below, many, size, all)) there steps
+            at;
       })

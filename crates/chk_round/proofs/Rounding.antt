@@ -26,7 +26,7 @@ use Rattle.chk_round.specs.declared.faults.RoundFault.{RoundFault}
 use Rattle.chk_round.specs.declared.faults.RoundFault.TheVariants.{Outside, NoMemory, Damaged, Length, Growing, Shrank, Spent, Refused, Checkpoint}
 use Rattle.chk_round.specs.declared.whole_round.Rounded.{Rounded}
 use Rattle.chk_round.specs.Closing.{HasRun}
-use Rattle.chk_round.specs.Done.{ArchivedTo, NoneRead, WholeAtLast}
+use Rattle.chk_round.specs.Done.{ArchivedTo, EndedAt, HasBegun, NoneRead, WholeAtLast}
 use Rattle.chk_round.specs.Following.{HasPathAlone}
 use Rattle.chk_round.specs.Joint.{AreIn, BothAt}
 use Rattle.chk_round.specs.OwnRows.{FromStart}
@@ -91,11 +91,16 @@ both_of source started acting run = record {
 archived_behind : (s : Stream) (end : ℕ) (y x h : History) → ArchivedTo s end y (x ++ h) → ArchivedTo s end (y ++ x) h
 archived_behind s end y x h m =
     at_read_late
-    (λ read. (whole_end read s ≡ end) × (archive_of_stream (files_after (y ++ (x ++ h))) s ≡ whole_log read s))
-    (λ read. (whole_end read s ≡ end) × (archive_of_stream (files_after ((y ++ x) ++ h)) s ≡ whole_log read s))
+    (λ read. (whole_end read s ≡ end)
+    × (archive_of_stream (files_after (y ++ (x ++ h))) s ≡ whole_log read s)
+    × HasBegun s read)
+    (λ read. (whole_end read s ≡ end)
+    × (archive_of_stream (files_after ((y ++ x) ++ h)) s ≡ whole_log read s)
+    × HasBegun s read)
     (λ read holds. (
       holds.0,
       ap (λ (k : History). archive_of_stream (files_after k) s) (append_assoc y x h) ∙ holds.1,
+      holds.2,
     )) y x h m
 
 last_behind : (s : Stream) (end unclosed : ℕ) (y x h : History) → WholeAtLast s end unclosed y (x ++ h)
@@ -109,10 +114,12 @@ last_behind s end unclosed y x h m = record {
     read = m.at.read;
     holds = subst
         (λ (read : History). (whole_end read s ≡ end)
-        × (unclosed ≡ 0 → archive_of_stream (files_after ((y ++ x) ++ h)) s ≡ whole_log read s))
+        × (unclosed ≡ 0 → archive_of_stream (files_after ((y ++ x) ++ h)) s ≡ whole_log read s)
+        × HasBegun s read)
         (sym (append_assoc (m.at.step ∷ m.at.earlier) x h)) (
           m.at.holds.0,
           λ none. ap (λ (k : History). archive_of_stream (files_after k) s) (append_assoc y x h) ∙ m.at.holds.1 none,
+          m.at.holds.2,
         );
   };
   last = subst (λ (k : History). NoneRead (agent_of s) s.name m.at.later k)
@@ -128,7 +135,7 @@ moved c source b r y x h none done =
           archived_behind (stream_of source l) l.offset y x h
           (done.each l (subst (λ (k : History). Contains (checkpoint_lines (files_after k) source) l) assoc one) live closed);
       read = λ l one live.
-          let P : History → Type 0 = λ read. whole_end read (stream_of source l) ≡ l.offset in
+          let P : History → Type 0 = EndedAt (stream_of source l) l.offset in
           at_read_late P P (λ read holds. holds) y x h
           (done.read l (subst (λ (k : History). Contains (checkpoint_lines (files_after k) source) l) assoc one) live);
       last = λ l one live alone.

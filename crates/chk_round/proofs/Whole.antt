@@ -21,7 +21,6 @@ use Rattle.chk_world.specs.NamedEnds.{gave_up}
 use Rattle.chk_world.specs.Names.{SinkFile, file}
 use Rattle.chk_world.specs.Rules.{Legal}
 use Rattle.chk_world.specs.Sight.{job}
-use Rattle.chk_world.specs.Streams.{whole_end}
 use Rattle.chk_world.specs.Together.{IsByOne, Outside as OutsideOf, Together}
 use Rattle.chk_sink.specs.Held.{Matches as SinksMatch}
 use Rattle.chk_sink.specs.States.{IsSameStart, State as Sinks, Writing, last_stem}
@@ -39,7 +38,7 @@ use Rattle.chk_round.specs.declared.faults.RoundFault.TheVariants.{Outside, NoMe
 use Rattle.chk_round.specs.Closing.{Closed, HasRun}
 use Rattle.chk_round.specs.Delivering.{Delivered}
 use Rattle.chk_round.specs.Calls.{RestCalls}
-use Rattle.chk_round.specs.Done.{ArchivedTo, AtRead, NoneRead, RanWhole, ReadTo, WholeAtLast}
+use Rattle.chk_round.specs.Done.{ArchivedTo, AtRead, EndedAt, NoneRead, RanWhole, ReadTo, WholeAtLast}
 use Rattle.chk_round.specs.Following.{HasPathAlone, KeepsLogs}
 use Rattle.chk_round.specs.Joint.{AreIn, BothAt, GoesOn, JointTo}
 use Rattle.chk_round.specs.Reading.{ReadsAll, ReadsAlone, ReadsOn}
@@ -520,10 +519,11 @@ module _ (stamped : List (List ℕ)) (started acting : List Who) (s : Sinks) (a 
                     split = ap (λ x. z ++ x) at.split ∙ sym (append_assoc z at.later (at.step ∷ at.earlier));
                     read = at.read;
                     holds = (
-                      at.holds,
+                      at.holds.0,
                       λ none. adaptor_archive stamped b z w history end.1.1.legal sound at_rest.1.0 delivered.ready rested
                           delivered.delivered m.place m.adaptor m.at m.lives (HasPathAlone l (lines_of b)) m.read
                           (none_past l m) (ran_whole none),
+                      at.holds.1,
                     );
                   };
                   last = none_read_join q m.adaptor.read.offset z at.later (at.step ∷ at.earlier ++ history)
@@ -535,11 +535,15 @@ module _ (stamped : List (List ℕ)) (started acting : List Who) (s : Sinks) (a 
 
             -- that its offset was the end of the whole log
             was_read : (l : Line) → LineRead a.source b l w history
-                → AtRead (stream_of a.source l) (λ h. whole_end h (stream_of a.source l) ≡ l.offset) (z ++ w) history
+                → AtRead (stream_of a.source l) (EndedAt (stream_of a.source l) l.offset)
+                (z ++ w) history
             was_read l m =
-                subst (λ (q : Stream). AtRead q (λ h. whole_end h q ≡ l.offset) (z ++ w) history) m.stream
-                (subst (λ n. AtRead (stream_at b.source m.adaptor) (λ h. whole_end h (stream_at b.source m.adaptor) ≡ n) (z ++ w) history)
-                m.offset (at_read_early (λ h. whole_end h (stream_at b.source m.adaptor) ≡ m.adaptor.read.offset) z w history m.read.at))
+                subst (λ (q : Stream). AtRead q (EndedAt q l.offset) (z ++ w) history) m.stream
+                (subst (λ n. AtRead (stream_at b.source m.adaptor)
+                (EndedAt (stream_at b.source m.adaptor) n) (z ++ w) history)
+                m.offset (at_read_early
+                (EndedAt (stream_at b.source m.adaptor) m.adaptor.read.offset) z w history
+                m.read.at))
 
             theirs_only : (h : History) → h ≡ z ++ (w ++ history) → (l : Listing) → last_listing h ≡ Some l
                 → NoneOf s.collector l.names

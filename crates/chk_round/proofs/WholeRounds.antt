@@ -32,7 +32,7 @@ use Rattle.chk_agent.proofs.Soundness.{line_there}
 use Rattle.chk_archive.specs.Archived.{GivenOnce, RunDone, gives_sinks, is_job_listing}
 use Rattle.chk_archive.specs.Reports.{Report}
 use Rattle.chk_drain.specs.Drains.{AllDelivered}
-use Rattle.chk_round.specs.Done.{ArchivedTo, JobRan, NoneRead, RanWhole, ReadTo}
+use Rattle.chk_round.specs.Done.{ArchivedTo, EndedAt, HasBegun, JobRan, NoneRead, RanWhole, ReadTo}
 use Rattle.chk_round.specs.Sending.{NonePast}
 use Rattle.chk_round.proofs.NonePast.{none_past_in, none_past_join}
 use Rattle.chk_round.proofs.OwnReads.{EndsWithRead, at_read_early}
@@ -43,15 +43,15 @@ module _ (s : Stream) (end : ℕ) where
   -- the last of these steps
   pub read_now : (Alone : Type 0) (added history : History)
       → EndsWithRead (agent_of s) s.name added history
-      → whole_end (added ++ history) s ≡ end → ReadTo s end Alone added history
-  read_now Alone added history last whole = record {
+      → EndedAt s end (added ++ history) → ReadTo s end Alone added history
+  read_now Alone added history last ended = record {
     at = record {
       later = [];
       step = last.step;
       earlier = last.earlier;
       split = last.is;
       read = last.read;
-      holds = ap (λ (k : History). whole_end (k ++ history) s) (sym last.is) ∙ whole;
+      holds = subst (λ (k : History). EndedAt s end (k ++ history)) last.is ended;
     };
     no_more = tt;
     last = λ alone. tt;
@@ -256,9 +256,9 @@ module _ (stamped : List (List ℕ)) (s : Stream) (end : ℕ) (closing settled h
     till_end = ran.later;
     is = history_is;
     checkpointed =
-        ap (λ k. checkpoint_of (files_after k) s) (sym settled_is) ∙ (at_end ∙ sym r.at.holds);
+        ap (λ k. checkpoint_of (files_after k) s) (sym settled_is) ∙ (at_end ∙ sym r.at.holds.0);
     no_more = λ step one.
-        subst (λ n. SendsNonePast s n step) (sym r.at.holds)
+        subst (λ n. SendsNonePast s n step) (sym r.at.holds.0)
         (none_past_in s end (ran.later ++ (ran.earlier ++ r.at.later)) read none_behind step one);
     names = ran.names;
     run =
@@ -279,7 +279,8 @@ module _ (stamped : List (List ℕ)) (s : Stream) (end : ℕ) (closing settled h
   stream_whole =
       at_read_early
       (λ (h : History). (whole_end h s ≡ end)
-      × (archive_of_stream (files_after ((closing ++ settled) ++ history)) s ≡ whole_log h s))
+      × (archive_of_stream (files_after ((closing ++ settled) ++ history)) s ≡ whole_log h s)
+      × HasBegun s h)
       closing settled history
       (record {
         later = r.at.later;
@@ -287,7 +288,7 @@ module _ (stamped : List (List ℕ)) (s : Stream) (end : ℕ) (closing settled h
         earlier = r.at.earlier;
         split = r.at.split;
         read = r.at.read;
-        holds = (r.at.holds, archive_is);
+        holds = (r.at.holds.0, archive_is, r.at.holds.1);
       })
 
 -- ---- an adaptor whose log was read to its end

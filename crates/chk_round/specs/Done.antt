@@ -11,7 +11,7 @@ use Rattle.chk_chunk.specs.Keys.{Stream}
 use Rattle.chk_world.specs.ArchiveRuns.{IsArchiveRun, Listing, last_listing}
 use Rattle.chk_world.specs.Committed.{archive_of_stream}
 use Rattle.chk_world.specs.Laws.{IsComplete, agent_of}
-use Rattle.chk_world.specs.Streams.{whole_end, whole_log}
+use Rattle.chk_world.specs.Streams.{Founding, founding, whole_end, whole_log}
 use Rattle.chk_archive.specs.Archived.{GivenOnce}
 use Rattle.chk_round.specs.Sending.{NonePast}
 
@@ -53,11 +53,19 @@ pub record AtLastRead (s : Stream) (P : History → Type 0) (added history : His
   pub at : AtRead s P added history
   pub last : NoneRead (agent_of s) s.name at.later (at.step ∷ at.earlier ++ history)
 
--- At such a read the whole log of the stream ended at this offset, and behind it nothing of the
--- stream was sent past that. Where it is read alone, that read is the last one.
+-- the stream's agent had a line for it by then
+abbrev pub HasBegun : Stream → History → Type 0
+HasBegun s history = (f : Founding) × (founding history s ≡ Some f)
+
+-- and the stream's whole log ended at this offset
+abbrev pub EndedAt : Stream → ℕ → History → Type 0
+EndedAt s end history = (whole_end history s ≡ end) × HasBegun s history
+
+-- At such a read, behind the stream's first line, its whole log ended at this offset, and behind it
+-- nothing of the stream was sent past that. Where it is read alone, that read is the last one.
 pub record ReadTo (s : Stream) (end : ℕ) (Alone : Type 0) (added history : History)
     : Type 0 where
-  pub at : AtRead s (λ read. whole_end read s ≡ end) added history
+  pub at : AtRead s (EndedAt s end) added history
   pub no_more : NonePast s end at.later (at.step ∷ at.earlier ++ history)
   pub last : Alone → NoneRead (agent_of s) s.name at.later (at.step ∷ at.earlier ++ history)
 
@@ -80,20 +88,23 @@ pub record RanWhole (added history : History) : Type 0 where
 
 -- ---- the archive
 
--- At the last own read of the stream's log its whole log ended at this offset, and where no sink was
--- listed under writing, the archive is now that log.
+-- At the last own read of the stream's log, behind its first line, its whole log ended at this
+-- offset, and where no sink was listed under writing, the archive is now that log.
 abbrev pub WholeAtLast : Stream → ℕ → ℕ → History → History → Type 0
 WholeAtLast s end unclosed added history =
     AtLastRead s
     (λ read. (whole_end read s ≡ end)
     × (unclosed ≡ 0
-    → archive_of_stream (files_after (added ++ history)) s ≡ whole_log read s))
+    → archive_of_stream (files_after (added ++ history)) s ≡ whole_log read s)
+    × HasBegun s read)
     added history
 
--- at such a read the whole log of the stream ended at this offset, and the archive is now that log
+-- At such a read, behind the stream's first line, its whole log ended at this offset, and the
+-- archive is now that log.
 abbrev pub ArchivedTo : Stream → ℕ → History → History → Type 0
 ArchivedTo s end added history =
     AtRead s
     (λ read. (whole_end read s ≡ end)
-    × (archive_of_stream (files_after (added ++ history)) s ≡ whole_log read s))
+    × (archive_of_stream (files_after (added ++ history)) s ≡ whole_log read s)
+    × HasBegun s read)
     added history

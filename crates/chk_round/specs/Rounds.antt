@@ -13,7 +13,6 @@ use Rattle.chk_world.specs.Names.{SinkFile, file}
 use Rattle.chk_world.specs.Places.{AtTold}
 use Rattle.chk_world.specs.Rules.{Legal}
 use Rattle.chk_world.specs.Sight.{job}
-use Rattle.chk_world.specs.Streams.{whole_end}
 use Rattle.chk_world.specs.Together.{Outside as OutsideOf, Together}
 use Rattle.chk_sink.specs.States.{State as Sinks}
 use Rattle.chk_reading.specs.declared.adaptor.Phase.TheVariants.{Live}
@@ -24,7 +23,7 @@ use Rattle.chk_archive.specs.declared.report.Report.{Report}
 use Rattle.chk_round.specs.declared.faults.RoundFault.{RoundFault}
 use Rattle.chk_round.specs.declared.faults.RoundFault.TheVariants.{Damaged, Length, Shrank, Spent, Checkpoint, Refused}
 use Rattle.chk_round.specs.Closing.{HasRun}
-use Rattle.chk_round.specs.Done.{ArchivedTo, AtRead, JobRan, WholeAtLast}
+use Rattle.chk_round.specs.Done.{ArchivedTo, AtRead, EndedAt, JobRan, WholeAtLast}
 use Rattle.chk_round.specs.Following.{HasPathAlone}
 use Rattle.chk_round.specs.Joint.{BothAt, OnlyStopped}
 use Rattle.chk_round.specs.LastPolls.{LastPoll}
@@ -57,15 +56,14 @@ AfterRun stamped c b (Err fault) history = Legal stamped history
 pub record RoundDone (collector source : List ℕ) (b : Agents) (r : Report) (added history : History)
     : Type 0 where
   -- Where the job's listing showed no sink under writing, the archive of each live line's stream is
-  -- its whole log as it was when the agent of the stream read it in these steps, and the line's
-  -- offset is that log's end.
+  -- its whole log as it was when the agent of the stream, which had a line for it, read it in these
+  -- steps, and the line's offset is that log's end.
   pub each : (l : Line) → Contains (checkpoint_lines (files_after (added ++ history)) source) l
       → l.live ≡ true → r.unclosed ≡ 0 → ArchivedTo (stream_of source l) l.offset added history
   -- whatever the listing showed, each live line's offset was the end of the whole log at such a read
   pub read : (l : Line) → Contains (checkpoint_lines (files_after (added ++ history)) source) l
       → l.live ≡ true
-      → AtRead (stream_of source l) (λ read. whole_end read (stream_of source l) ≡ l.offset)
-      added history
+      → AtRead (stream_of source l) (EndedAt (stream_of source l) l.offset) added history
   -- where no other live line has its path, so it was at the last own read of that log in these steps
   pub last : (l : Line) → Contains (checkpoint_lines (files_after (added ++ history)) source) l
       → l.live ≡ true

@@ -48,9 +48,10 @@ ArchivedSo fault old new =
 
 -- A work behind the starts ended so. A collector committed and closed its sinks: a file that it read
 -- is damaged. A message was handled inside the process: its reply told so, or it wasn't what the agent
--- got. Or the job ran: own reads of that run show why a file is told to be damaged; and from a legal
--- history it led to what is said of such an end, so that the numbers are spent only where none is left
--- for a segment that was needed.
+-- got. Or the job ran: own reads of that run show why a file is told to be damaged, and why the
+-- numbers are told to be spent; and from a legal history it led to what is said of such an end, so
+-- that
+-- the numbers are spent only where none is left for a segment that was needed.
 pub data WorkEnds : RoundFault → Option History → Option History → Type 0 where
   ticks : {old new : Option History} (s : Sinks) (fault : SinkFault) → IsOfTick fault
       → Works (process s) (OfTick s) (ended_by {T = Unit {0}} (Err fault)) old new

@@ -86,7 +86,7 @@ loop-adaptor-preserved g c =
 pub returns-clause-read : goal.returns-clause-read
 returns-clause-read g c =
     all_read c.loop-adaptor.adaptor c.args.collector.now c.loop-adaptor.collector c.args.agent.now c.loop-adaptor.agent
-    c.loop-adaptor.invariant.so c.adaptors-count.result c.adaptors-count.ensures
+    c.loop-adaptor.invariant.so c.requires.ready c.adaptors-count.result c.adaptors-count.ensures
     (let past = c.loop-adaptor-test.false in omega (arith, past))
 
 pub returns-clause-on : goal.returns-clause-on
