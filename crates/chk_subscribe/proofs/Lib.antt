@@ -5,3 +5,5 @@ pub mod OneLine
 pub mod Told
 pub mod Lasting
 pub mod Legally
+pub mod Taking
+pub mod Watched

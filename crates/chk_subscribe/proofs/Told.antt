@@ -29,10 +29,10 @@ use Rattle.chk_subscribe.specs.Told.{places, PrintsUpTo, PrintsOnce}
 
 -- ---- calls that print nothing
 
-abbrev Silent : History → History → Type 0
+abbrev pub Silent : History → History → Type 0
 Silent added history = printed (own_acts added) ≡ []
 
-silent_then : {old mid new : Option History} → Adds old mid Silent → Adds mid new Silent → Adds old new Silent
+pub silent_then : {old mid new : Option History} → Adds old mid Silent → Adds mid new Silent → Adds old new Silent
 silent_then p q = adds_then Silent p q (λ a b history x y. prints_join b a ∙ (λ i. x i ++ y i))
 
 theirs_silent : (added history : History) → Every IsTheirs added history → own_acts added ≡ []
@@ -67,7 +67,7 @@ module _ (q : Asked) (quiet : (answer : ActAnswer) → PrintedBy q answer ≡ []
       go true is = ap (λ (k : History). printed (own_acts k)) (c.stopped is).0
       go false is = running given added history (c.running is)
 
-taken_silent : (who : Who) (door : List ℕ) (given : Result (Option Taking) CallFault) {old new : Option History}
+pub taken_silent : (who : Who) (door : List ℕ) (given : Result (Option Taking) CallFault) {old new : Option History}
     → Adds old new (CallsSome (λ of. taking who door) (λ of. answered (taking_given of) given)) → Adds old new Silent
 taken_silent who door given call =
     adds_as Silent call (λ a h c. silent_call (taking who door) (λ r. refl) (answered (taking_given c.0) given) a h c.1)
@@ -77,7 +77,7 @@ more_silent : (who : Who) (t : ℕ) (given : Result (List ℕ) CallFault) {old n
 more_silent who t given call =
     adds_as Silent call (λ a h c. silent_call (asked who More [] t 0) (λ r. refl) (answered bytes_given given) a h c)
 
-read_silent : {who : Who} {t : ℕ} {bytes : List ℕ} {got : Result (List ℕ) OutsideFault} {old new : Option History}
+pub read_silent : {who : Who} {t : ℕ} {bytes : List ℕ} {got : Result (List ℕ) OutsideFault} {old new : Option History}
     → IsReadOn who t bytes got old new → Adds old new Silent
 read_silent (IsReadOn.whole long) = adds_none _ Silent (λ h. refl)
 read_silent {who = who} {t = t} (IsReadOn.over short call) = more_silent who t (Ok []) call
@@ -110,7 +110,7 @@ unsaid who line (Err Failed) fault ends added history c = go (is_stopped history
 
 -- ---- what was printed, up to a call that failed
 
-upto_then : (who : Who) (result : Result (Unit {0}) OutsideFault) (xs ys : List (List ℕ)) (a b : History)
+pub upto_then : (who : Who) (result : Result (Unit {0}) OutsideFault) (xs ys : List (List ℕ)) (a b : History)
     → printed (own_acts a) ≡ map (by who) xs → PrintsUpTo who result ys b → PrintsUpTo who result (xs ++ ys) (b ++ a)
 upto_then who (Ok done) xs ys a b p q = prints_join b a ∙ ((λ i. p i ++ q i) ∙ sym (map_joins xs ys))
   where
@@ -129,14 +129,14 @@ upto_then who (Err fault) xs ys a b p (first, rest, is, q) = (
     map_joins (x ∷ xs) ys = ap (λ (l : List Print). by who x ∷ l) (map_joins xs ys)
 
 -- where nothing was printed
-upto_none : (who : Who) (fault : OutsideFault) (lines : List (List ℕ)) (added history : History) → Silent added history
+pub upto_none : (who : Who) (fault : OutsideFault) (lines : List (List ℕ)) (added history : History) → Silent added history
     → PrintsUpTo who (Err fault) lines added
 upto_none who fault lines added history silent = ([], lines, refl, silent)
 
-abbrev UpTo : Who → Result (Unit {0}) OutsideFault → List (List ℕ) → Option History → Option History → Type 0
+abbrev pub UpTo : Who → Result (Unit {0}) OutsideFault → List (List ℕ) → Option History → Option History → Type 0
 UpTo who result lines old new = Adds old new (λ added history. PrintsUpTo who result lines added)
 
-silently : (who : Who) (result : Result (Unit {0}) OutsideFault) (lines : List (List ℕ)) {old mid new : Option History}
+pub silently : (who : Who) (result : Result (Unit {0}) OutsideFault) (lines : List (List ℕ)) {old mid new : Option History}
     → Adds old mid Silent → UpTo who result lines mid new → UpTo who result lines old new
 silently who result lines p q =
     adds_then (λ added history. PrintsUpTo who result lines added) p q (λ a b history x y. upto_then who result [] lines a b x y)
@@ -153,14 +153,14 @@ cut_upto {who = who} {lines = lines} {fault = fault} (ended {line = line} given 
     adds_as (λ added history. PrintsUpTo who (Err fault) lines added) said
     (λ a h calls. upto_none who fault lines a h (unsaid who line given fault ends a h calls))
 
-prints_upto : (who : Who) (lines : List (List ℕ)) (result : Result (Unit {0}) OutsideFault) {old new : Option History}
+pub prints_upto : (who : Who) (lines : List (List ℕ)) (result : Result (Unit {0}) OutsideFault) {old new : Option History}
     → PrintsInTurn who lines result old new → UpTo who result lines old new
 prints_upto who lines (Ok done) prints = adds_as (λ added history. PrintsUpTo who (Ok done) lines added) (prints_told prints) (λ a h p. p)
 prints_upto who lines (Err fault) prints = cut_upto prints
 
 -- ---- the chunks of many messages
 
-fresh_join : (marks : List Mark) (xs ys : List Teed)
+pub fresh_join : (marks : List Mark) (xs ys : List Teed)
     → fresh_of marks (xs ++ ys) ≡ fresh_of marks xs ++ fresh_of (marks_behind marks xs) ys
 fresh_join marks [] ys = refl
 fresh_join marks (x ∷ xs) ys = go (is_fresh marks (mark_of x.stem x.offset)) _ _ _ (fresh_join (asked_for marks (mark_of x.stem x.offset)) xs ys)
@@ -169,11 +169,11 @@ fresh_join marks (x ∷ xs) ys = go (is_fresh marks (mark_of x.stem x.offset)) _
     go true ps qs rs e = ap (λ (l : List Teed). x ∷ l) e
     go false ps qs rs e = e
 
-marks_join : (marks : List Mark) (xs ys : List Teed) → marks_behind marks (xs ++ ys) ≡ marks_behind (marks_behind marks xs) ys
+pub marks_join : (marks : List Mark) (xs ys : List Teed) → marks_behind marks (xs ++ ys) ≡ marks_behind (marks_behind marks xs) ys
 marks_join marks [] ys = refl
 marks_join marks (x ∷ xs) ys = marks_join (asked_for marks (mark_of x.stem x.offset)) xs ys
 
-lines_join : (xs ys : List Teed) → map chunk_line (xs ++ ys) ≡ map chunk_line xs ++ map chunk_line ys
+pub lines_join : (xs ys : List Teed) → map chunk_line (xs ++ ys) ≡ map chunk_line xs ++ map chunk_line ys
 lines_join [] ys = refl
 lines_join (x ∷ xs) ys = ap (λ (l : List (List ℕ)). chunk_line x ∷ l) (lines_join xs ys)
 
@@ -192,7 +192,7 @@ fresh_rises items = ap (λ (ps : List Mark). rises [] ps) (places_let [] items) 
 -- ---- a run
 
 -- behind the chunks of the messages so far
-abbrev SeenBy : Watch → List Teed → Result (Unit {0}) OutsideFault → Watch → Type 0
+abbrev pub SeenBy : Watch → List Teed → Result (Unit {0}) OutsideFault → Watch → Type 0
 SeenBy w items (Ok done) v = (v.sieve ≡ marks_behind w.sieve items) × (v.printed ≡ w.printed + length (fresh_of w.sieve items))
 SeenBy w items (Err fault) v = Unit {0}
 

@@ -141,7 +141,7 @@ fn message(alloc: Global, letter: u8) -> Result<Vec<u8>, Fail> {
         b'c' => placed(alloc, b"c1.1.2", 144),
         b'd' => placed(alloc, b"c2.1.1", 144),
         b'e' => placed(alloc, b"c1.2.1", 144),
-        b's' => Ok(MARK.to_vec(alloc)?),
+        b's' => shorter(placed(alloc, b"c1.1.1", 144)?),
         b't' => longer(placed(alloc, b"c1.1.1", 144)?),
         _ => Ok(b"GET / HTTP/1.1\r\n\r\n".to_vec(alloc)?),
     }
@@ -149,6 +149,11 @@ fn message(alloc: Global, letter: u8) -> Result<Vec<u8>, Fail> {
 
 fn longer(mut bytes: Vec<u8>) -> Result<Vec<u8>, Fail> {
     bytes.push(0)?;
+    Ok(bytes)
+}
+
+fn shorter(mut bytes: Vec<u8>) -> Result<Vec<u8>, Fail> {
+    let _last = bytes.pop();
     Ok(bytes)
 }
 
