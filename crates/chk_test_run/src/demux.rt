@@ -97,6 +97,16 @@ bytes archive/seg.1 HEADER SEG_1 A_B
 bytes archive/book A_B_BOOK
 bytes demux/book LAST_BOOK
 run demux => 8 spent 9223372036854775807|
+size demux/seg.9223372036854775807 => none
+is demux/book LAST_BOOK
+
+one number left, and a segment, and then none
+bytes archive/seg.1 HEADER SEG_1 HELLO
+bytes archive/book BOOK eight:2 four:1 eight:1 eight:144 four:1 eight:6 STREAM
+bytes demux/book BOOK eight:9223372036854775806 four:0 four:0
+run demux => 0 demux taken 6 entries 1 left 0|
+size demux/seg.9223372036854775806 => 144
+run demux => 0 demux taken 0 entries 0 left 0|
 
 no segment is needed
 bytes archive/seg.1 HEADER SEG_1 A_B

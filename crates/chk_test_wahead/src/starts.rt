@@ -28,10 +28,14 @@ file .next => <0><0><0><0><0><0><1>
 a number of nine bytes
 makes .next <0><0><0><0><0><0><0><0><1>
 udp --turns 1 => 5 damaged wahead/u1.next 0|
+file .next => <0><0><0><0><0><0><0><0><1>
 
 a number of 2^63
 makes .next <80><0><0><0><0><0><0><0>
+makes .buf a
 udp --turns 1 => 5 damaged wahead/u1.next 0|
+file .next => <80><0><0><0><0><0><0><0>
+file .buf => a
 
 a buffer without a number
 makes .buf a
@@ -42,6 +46,8 @@ a buffer with the number 0
 makes .buf a
 makes .next <0><0><0><0><0><0><0><0>
 udp --turns 1 => 5 damaged wahead/u1.next 0|
+file .next => <0><0><0><0><0><0><0><0>
+file .buf => a
 
 the number 0 without a buffer
 makes .next <0><0><0><0><0><0><0><0>
@@ -49,6 +55,15 @@ send a
 udp --turns 1 => 0 udp taken 1 bytes 1|
 file .next => <0><0><0><0><0><0><0><1>
 file -0000000000000000001 => a
+
+a mark of seven bytes
+makes .next <0><0><0><0><0><0><0><1>
+makes .buf a
+makes .mark <0><0><0><0><0><0><1>
+udp --turns 1 => 5 damaged wahead/u1.mark 0|
+file .next => <0><0><0><0><0><0><0><1>
+file .buf => a
+file .mark => <0><0><0><0><0><0><1>
 
 a mark of 0
 makes .next <0><0><0><0><0><0><0><1>
@@ -66,7 +81,9 @@ makes .next <0><0><0><0><0><0><0><1>
 makes .buf a
 makes .mark <0><0><0><0><0><0><0><2>
 udp --turns 1 => 5 damaged wahead/u1.mark 0|
+file .next => <0><0><0><0><0><0><0><1>
 file .buf => a
+file .mark => <0><0><0><0><0><0><0><2>
 
 a mark that says the whole buffer
 makes .next <0><0><0><0><0><0><0><3>

@@ -56,7 +56,7 @@ module _ (n : List ℕ) where
   Left (Err fault) s h = All n h
 
   -- from less to more known of the view
-  plain_as : {k : ℕ} {E E' : View → Type 0} → ((v : View) → E v → E' v) → (h : History)
+  pub plain_as : {k : ℕ} {E E' : View → Type 0} → ((v : View) → E v → E' v) → (h : History)
       → Plain n k E h → Plain n k E' h
   plain_as so h p = record { all = p.all; at = p.at; fits = so (view n h) p.fits; next = tt }
 
@@ -86,13 +86,13 @@ module _ (n : List ℕ) where
 
   -- ---- putting
 
-  abbrev With : Option Held → List ℕ → View → Type 0
+  abbrev pub With : Option Held → List ℕ → View → Type 0
   With held bytes = Both (Holds held) (Taken bytes)
 
-  untaken : (held : Option Held) (bytes : List ℕ) (v : View) → With held bytes v → Holds held v
+  pub untaken : (held : Option Held) (bytes : List ℕ) (v : View) → With held bytes v → Holds held v
   untaken held bytes v w = w.0
 
-  first_full : (size : ℕ) → 1 ≤ size → (v : View) → Open size 0 v → Full size 0 v
+  pub first_full : (size : ℕ) → 1 ≤ size → (v : View) → Open size 0 v → Full size 0 v
   first_full size some v o = record { open_is = o; some = some }
 
   first_leads : (b : Bool) (s u : State) (bytes : List ℕ) (result : Result (Unit {0}) WaheadFault)
@@ -115,11 +115,11 @@ module _ (n : List ℕ) where
       did_leads at (first_walk n s.number bytes (eqb-false s.number last_number last))
       (plain_as (first_full (length bytes) some))
 
-  more_full : (size marked more : ℕ) → 1 ≤ more → (v : View) → Open (size + more) marked v
+  pub more_full : (size marked more : ℕ) → 1 ≤ more → (v : View) → Open (size + more) marked v
       → Full (size + more) marked v
   more_full size marked more some v o = record { open_is = o; some = omega (arith, some) }
 
-  opened : (h : Held) (bytes : List ℕ) (v : View) → With (Some h) bytes v
+  pub opened : (h : Held) (bytes : List ℕ) (v : View) → With (Some h) bytes v
       → Both (Open h.length_now h.marked) (Taken bytes) v
   opened h bytes v w = (w.0.open_is, w.1)
 
@@ -181,7 +181,7 @@ module _ (n : List ℕ) where
         unsaved = nil_from_length w (omega (arith, lengths));
       }
 
-  full_again : (size : ℕ) (v : View) → Committed size v → Full size size v
+  pub full_again : (size : ℕ) (v : View) → Committed size v → Full size size v
   full_again size v c = record { open_is = c.open_is; some = c.some }
 
   marked_leads : (b : Bool) (h : Held) (s u : State) {result : Result (Unit {0}) WaheadFault}

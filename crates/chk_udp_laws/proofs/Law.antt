@@ -41,7 +41,7 @@ use Rattle.chk_udp_laws.proofs.Looking.{start_leads}
 use Rattle.chk_udp_laws.proofs.Calls.{Holds, all_saved, Ready, ready_all, put_leads, commit_leads, close_leads, untaken_leads, silent_leads, taken_leads}
 
 -- what was taken doesn't matter for the buffers
-holds_took : (held : Option Held) (v : View) (l : List (List ℕ)) → Holds held v
+pub holds_took : (held : Option Held) (v : View) (l : List (List ℕ)) → Holds held v
     → Holds held (record { buffer = v.buffer; mark = v.mark; tally = v.tally; took = l })
 holds_took None v l i = record { buffer = i.buffer; mark = i.mark; unsaved = i.unsaved }
 holds_took (Some h) v l f = record {
@@ -125,12 +125,12 @@ module _ (n : List ℕ) where
     abbrev Q : Asked
     Q = asked teller Say (line ∷ []) 0 0
 
-    said_tally : (answer : ActAnswer) (files : Files) (logs : Logs) (h : History)
+    pub said_tally : (answer : ActAnswer) (files : Files) (logs : Logs) (h : History)
         → tally n (own_step Q answer files logs ∷ h) ≡ tally n h
     said_tally answer files logs h =
         if_same (is_by (writer n) (own_step Q answer files logs)) (tally n h)
 
-    said_took : (answer : ActAnswer) (files : Files) (logs : Logs) (h : History)
+    pub said_took : (answer : ActAnswer) (files : Files) (logs : Logs) (h : History)
         → took n (own_step Q answer files logs ∷ h) ≡ took n h
     said_took answer files logs h =
         ap (λ l. if is_by (writer n) (own_step Q answer files logs) then l else took n h)
@@ -172,7 +172,7 @@ module _ (n : List ℕ) where
       keeps = keeps n k E NextTemporary Anything;
     }
 
-    said : {outside : Result (Unit {0}) OutsideFault} {old new : Option History}
+    pub said : {outside : Result (Unit {0}) OutsideFault} {old new : Option History}
         → MadeInTurn (Q ∷ []) outside old new
         → Adds old new (Leads (S n) (Plain n k E) (Ends n (Plain n k E) outside))
     said script = walk_leads n (step_on say_move (rest (λ h p. p.all))) script
@@ -273,7 +273,7 @@ module _ (n : List ℕ) where
       let is : x.0 ≡ added = append_cancel_right x.0 added history same in
       (subst (λ a. Leads (S n) (All n) (Ending end) a history) is x.2).leads others all
 
-  runs_all : {h : History} → AreRuns n h → All n h
+  pub runs_all : {h : History} → AreRuns n h → All n h
   runs_all none = record {
     stands = record {
       number = 0;
@@ -311,7 +311,7 @@ module _ (n : List ℕ) where
         closed_above c k last h (λ j above under. above_k j above (omega (arith, under, low_last)))
   ]
 
-  is_kept : (h : History) → Kept n h → IsKept n h
+  pub is_kept : (h : History) → Kept n h → IsKept n h
   is_kept h p =
       let st = p.stands.stands in
       let c : ℕ → Option File = λ j. files_after h (C n j) in

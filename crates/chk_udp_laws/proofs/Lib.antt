@@ -11,3 +11,8 @@ pub mod Calls
 pub mod Growing
 pub mod Law
 pub mod Commands
+pub mod Ledger
+pub mod Leaving
+pub mod Beginning
+pub mod Wholes
+pub mod Finding

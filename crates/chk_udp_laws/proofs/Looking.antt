@@ -389,10 +389,10 @@ module _ (n : List ℕ) where
       adds_as (Leads (S n) A A') (script_owned (λ before step. Unit {0}) (each_tt qs) script)
       (λ added h x. record { leads = λ others a. absurd (none h a); own = x })
 
-  abbrev Before : Option (List ℕ) → Option (List ℕ) → Option ℕ → History → Type 0
+  abbrev pub Before : Option (List ℕ) → Option (List ℕ) → Option ℕ → History → Type 0
   Before next mark size = Begun (NextSaw next) (Seen mark size)
 
-  not_zero : (k : ℕ) → 1 ≤ k → (k == 0) ≡ false
+  pub not_zero : (k : ℕ) → 1 ≤ k → (k == 0) ≡ false
   not_zero k some = false_from_ne_true (k == 0) (λ e. omega (arith, some, eqb-true k 0 e))
 
   -- the number is that of the phase
@@ -458,11 +458,11 @@ module _ (n : List ℕ) where
       })
 
   -- what was read is a number, and a mark of something
-  next_good : (bytes : List ℕ) (mark : Option (List ℕ)) (size : Option ℕ) (h : History)
+  pub next_good : (bytes : List ℕ) (mark : Option (List ℕ)) (size : Option ℕ) (h : History)
       → Before (Some bytes) mark size h → is_number bytes ≡ true
   next_good bytes mark size h b = ap is_number b.is ∙ number_is b.number b.phase.at.low
 
-  mark_good : (next : Option (List ℕ)) (bytes : List ℕ) (size : Option ℕ) (h : History)
+  pub mark_good : (next : Option (List ℕ)) (bytes : List ℕ) (size : Option ℕ) (h : History)
       → Before next (Some bytes) size h
       → (is_number bytes ≡ true) × ((spelled bytes == 0) ≡ false)
   mark_good next bytes size h b =
@@ -474,7 +474,7 @@ module _ (n : List ℕ) where
       )
 
   -- a buffer has a number that isn't 0, and is as long as its mark says
-  beside_number : (next mark : Option (List ℕ)) (size : ℕ) (h : History)
+  pub beside_number : (next mark : Option (List ℕ)) (size : ℕ) (h : History)
       → Before next mark (Some size) h → 1 ≤ number_read next
   beside_number next mark size h b =
       let there = size_some size (files_after h (B n)) b.phase.fits.1 in
@@ -482,7 +482,7 @@ module _ (n : List ℕ) where
       let e : number_read next ≡ b.number = at_number next b.number b.phase.at.low b.is in
       omega (arith, st.fresh.1, e)
 
-  beside_mark : (next : Option (List ℕ)) (bytes : List ℕ) (size : ℕ) (h : History)
+  pub beside_mark : (next : Option (List ℕ)) (bytes : List ℕ) (size : ℕ) (h : History)
       → Before next (Some bytes) (Some size) h
       → nat_lt size (spelled bytes) ≡ false
   beside_mark next bytes size h b =
@@ -594,7 +594,7 @@ module _ (n : List ℕ) where
 
   -- ---- the whole start
 
-  look_script : (next mark : Option (List ℕ)) (size : Option ℕ)
+  pub look_script : (next mark : Option (List ℕ)) (size : Option ℕ)
       {old mid late last new : Option History} → MadeInTurn (starting (writer n)) (Ok tt) old mid
       → TakenOnce (mine n Read (N n ∷ []) 0 9) bytes_given (Ok next) mid late
       → TakenOnce (mine n Read (M n ∷ []) 0 9) bytes_given (Ok mark) late last

@@ -3,3 +3,4 @@ pub mod Histories
 pub mod Uses
 pub mod Laws
 pub mod Commands
+pub mod Wholes

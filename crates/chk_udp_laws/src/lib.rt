@@ -5,6 +5,6 @@
 mod laws;
 
 pub use laws::{
-    law_commands_are_runs, law_marked_grows, law_marked_saves_all, law_saved_grows,
-    law_saved_is_marked,
+    law_commands_are_runs, law_marked_grows, law_marked_saves_all, law_runs_leave, law_saved_grows,
+    law_saved_is_marked, law_turns_find_tidy,
 };

@@ -87,7 +87,7 @@ shown_so : (fault : JobFault) (added history : History) → ShowsArchived {T = S
     → ArchiveShown history (job_ending fault) added
 shown_so (Jobs.Outside call) added history x = tt
 shown_so (Jobs.Damaged name at) added history x = x
-shown_so (Jobs.Spent number) added history x = tt
+shown_so (Jobs.Spent number) added history x = x
 shown_so Jobs.NoMemory added history x = tt
 
 came : (result : Result Struct JobFault) (added history : History) → IsAt result added history → CausedBy Archive (ending result) added history

@@ -15,12 +15,12 @@ use Rattle.chk_sink.specs.Faults.{FailsLast}
 use Rattle.chk_sink.specs.Starts.{IsLastStart}
 use Rattle.chk_sink.specs.States.{State}
 use Rattle.chk_tees.specs.declared.Subscriber.{Subscriber}
-use Rattle.chk_collect.specs.Legality.{Finds, FindsCommitted, TurnCause, opens_turn}
+use Rattle.chk_collector_run.specs.Legality.{Finds, FindsCommitted, TurnCause, opens_turn}
 use Rattle.chk_agent_run.specs.Initial.{LooksAt}
-use Rattle.chk_collect.specs.Turns.{AreCollectorTurns, over, turn}
-use Rattle.chk_collect.specs.Runs.{CollectorRan, IsCutRun, Collected}
-use Rattle.chk_collect.proofs.Counts.{last_then}
-use Rattle.chk_collect.proofs.Takings.{finds_then}
+use Rattle.chk_collector_run.specs.Turns.{AreCollectorTurns, over, turn}
+use Rattle.chk_collector_run.specs.Runs.{CollectorRan, IsCutRun, Collected}
+use Rattle.chk_collector_run.proofs.Counts.{last_then}
+use Rattle.chk_collector_run.proofs.Takings.{finds_then}
 use Rattle.chk_words.specs.Commands.{CollectorAsked}
 use Rattle.chk_words.specs.Commands.{Collector}
 use Rattle.chk_words.specs.declared.endings.Ending.{Ending}

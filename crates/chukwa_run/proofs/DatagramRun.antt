@@ -22,12 +22,14 @@ use Rattle.chk_wahead.specs.States.{State}
 use Rattle.chk_prints.specs.Printing.{PrintsInTurn}
 use Rattle.chk_prints.proofs.Printed.{prints_run}
 use Rattle.chk_udp_run.specs.Legality.{IsByEither, GoesOnLegal}
+use Rattle.chk_udp_laws.proofs.Finding.{turns_find_tidy}
+use Rattle.chk_udp_laws.proofs.Wholes.{runs_leave}
 use Rattle.chk_udp_run.specs.Runs.{HasRun, unstarted, started, GoesOn, finished, unclosed, told as told_line, IsLastNumber}
 use Rattle.chk_words.specs.Commands.{Udp}
 use Rattle.chk_words.specs.Datagrams.{UdpAsked, is_writer_byte, is_writer_name}
 use Rattle.chk_words.specs.declared.endings.Ending.{Ending}
 use Rattle.chukwa_run.specs.declared.datagrams.DatagramSetting.{DatagramSetting}
-use Rattle.chukwa_run.specs.Datagrams.{IsSetFor, UdpScript, UdpCut, door_of, wahead_ending}
+use Rattle.chukwa_run.specs.Datagrams.{IsSetFor, UdpScript, UdpRan, UdpCut, door_of, wahead_ending}
 use Rattle.chukwa_run.specs.Processes.{the_writer, chukwa, acting_for, RunSide}
 use Rattle.chukwa_run.specs.Runs.{Begins, EndsWith, CameTo, CausedBy}
 use Rattle.chukwa_run.specs.Showing.{Shows}
@@ -119,7 +121,18 @@ module _ (w : UdpAsked) where
       pub spent : IsLastNumber result
       pub last : Adds old new (FailsLast result)
 
-  cut_so : (fault : WaheadFault) (added history : History) → UdpScript w (Err fault) history added
+  -- and what the files show behind it
+  ran_so : (result : Result (Unit {0}) WaheadFault) (added history : History)
+      → UdpScript w result history added → UdpRan w result history added
+  ran_so result added history script = record {
+    script = script;
+    leaves = λ runs others. runs_leave w.name result added history runs
+        (door_of w.address, chukwa, w.turns, w.rotate, w.messages, script) others;
+    finds = λ runs others. turns_find_tidy w.name (door_of w.address) chukwa w.turns w.rotate
+        w.messages result added history runs script others;
+  }
+
+  cut_so : (fault : WaheadFault) (added history : History) → UdpRan w (Err fault) history added
       → IsLastNumber {T = Unit {0}} (Err fault) → FailsLast {T = Unit {0}} (Err fault) added history
       → is_stopped (added ++ history) ≡ false → UdpCut w history (wahead_ending fault) added
   cut_so (Waheads.Outside call) added history cut spent last running =
@@ -142,14 +155,15 @@ module _ (w : UdpAsked) where
   caused (Ok value) {old = old} {new = new} s added history is to last =
       let script = script_of (Ok value) old new added history is to s.ran in
       record {
-        running = λ r. script;
+        running = λ r. ran_so (Ok value) added history script;
         stopped = λ stop. absurd
             (true≢false (sym stop ∙ run_alive script refl));
       }
   caused (Err fault) {old = old} {new = new} s added history is to last =
       let script = script_of (Err fault) old new added history is to s.ran in
       record {
-        running = λ r. cut_so fault added history script s.spent last r;
+        running = λ r. cut_so fault added history (ran_so (Err fault) added history script)
+            s.spent last r;
         stopped = λ stop. tt;
       }
 

@@ -1,5 +1,5 @@
 -- A demux run under the rules of all processes.
-use Rattle.std.proofs.Common.{◌≡◌, inl, inr, ℕ, false, List, [], ◌∷◌, ◌++◌, Ok, Err, Option, Result, refl, sym, ◌∙◌, ap, subst, true≢false, arith}
+use Rattle.std.proofs.Common.{◌≡◌, inl, inr, ℕ, false, List, [], ◌∷◌, ◌++◌, Ok, Err, Option, Result, refl, sym, ◌∙◌, ap, subst, true≢false, arith, if◌then◌else◌}
 use Rattle.std.specs.Prelude.{Contains}
 use Rattle.chk_site.specs.History.{History, Every, is_stopped, files_after}
 use Rattle.chk_site.specs.Site.{Adds}
@@ -10,12 +10,15 @@ use Rattle.chk_world.specs.Places.{As, IsBy}
 use Rattle.chk_world.specs.Sight.{job}
 use Rattle.chk_world.specs.Together.{IsByOne}
 use Rattle.chk_world.specs.JobSteps.{IsOf as IsOfKind}
+use Rattle.chk_world.specs.Streams.{start_of}
+use Rattle.chk_world.specs.Committed.{archive_of_stream}
+use Rattle.chk_world.specs.Splits.{split_lines, split_stamped}
 use Rattle.chk_world.proofs.Beside.{others_foreign, owns_as, by_one}
 use Rattle.chk_heads.specs.declared.fault.JobFault.{JobFault}
 use Rattle.chk_heads.specs.declared.fault.JobFault.TheVariants as Jobs
 use Rattle.chk_heads.specs.Causes.{Shows as ShowsCause}
 use Rattle.chk_heads.specs.Faults.{FailsLast}
-use Rattle.chk_demux.specs.Demuxed.{Earlier, earlier_in, NamesStamped, Begun, Demuxed, DemuxDone}
+use Rattle.chk_demux.specs.Demuxed.{Earlier, earlier_in, NamesStamped, Begun, Demuxed, DemuxDone, LacksNumber}
 use Rattle.chk_demux.specs.Shown.{IsDamage}
 use Rattle.chk_demux.specs.declared.report.DemuxReport.{DemuxReport}
 use Rattle.chk_demux_run.specs.Telling.{DemuxesAndTells, IsTold, EndsRunning}
@@ -108,12 +111,31 @@ module _ (kinds : List (List ℕ)) where
 
   -- ---- from a legal history
 
-  fits_so : (stamped : List (List ℕ)) (before : Earlier) (fault : JobFault) (h : History) → Demuxed stamped before (Err fault) h
-      → is_stopped h ≡ false → DemuxFits h (job_ending fault)
-  fits_so stamped before (Jobs.Outside call) h c running = tt
-  fits_so stamped before (Jobs.Damaged name at) h c running = c.alive running
-  fits_so stamped before (Jobs.Spent number) h c running = c.alive running
-  fits_so stamped before Jobs.NoMemory h c running = tt
+  -- the records by the one list of types are those by the other
+  lacks_so : (stamped : List (List ℕ)) → NamesStamped stamped kinds → (h : History) → LacksNumber stamped h → LacksNumber kinds h
+  lacks_so stamped named h l =
+      let s = l.due.stream in
+      let start = start_of h s in
+      let bytes = archive_of_stream (files_after h) s in
+      record {
+        last = l.last;
+        due = record {
+          stream = s;
+          record_is = l.due.record_is;
+          more = l.due.more;
+          split_is =
+              ap (λ b. if b then split_stamped start bytes else split_lines start bytes) (sym (named s.kind))
+              ∙ l.due.split_is;
+        };
+      }
+
+  fits_so : (stamped : List (List ℕ)) (before : Earlier) → NamesStamped stamped kinds → (fault : JobFault) (h : History)
+      → Demuxed stamped before (Err fault) h → is_stopped h ≡ false → DemuxFits kinds h (job_ending fault)
+  fits_so stamped before named (Jobs.Outside call) h c running = tt
+  fits_so stamped before named (Jobs.Damaged name at) h c running = c.alive running
+  fits_so stamped before named (Jobs.Spent number) h c running =
+      let k = c.alive running in (k.0, lacks_so stamped named h k.1)
+  fits_so stamped before named Jobs.NoMemory h c running = tt
 
   legal_so : (stamped : List (List ℕ)) (before : Earlier) (result : Result DemuxReport JobFault) (h : History)
       → Demuxed stamped before result h → Legal stamped h
@@ -123,11 +145,11 @@ module _ (kinds : List (List ℕ)) where
   legal_so stamped before (Err (Jobs.Spent number)) h c = c.legal
   legal_so stamped before (Err Jobs.NoMemory) h c = c
 
-  came_legally : (stamped : List (List ℕ)) (before : Earlier) (result : Result DemuxReport JobFault) (added history : History)
-      → before ≡ earlier_in (files_after history) → IsAt result added history
+  came_legally : (stamped : List (List ℕ)) (before : Earlier) → NamesStamped stamped kinds
+      → (result : Result DemuxReport JobFault) (added history : History) → before ≡ earlier_in (files_after history) → IsAt result added history
       → Demuxed stamped before result (added ++ history)
       → CameTo (Whole stamped This history) (Shows This history) (ending result) added history
-  came_legally stamped before (Ok report) added history is at c = record {
+  came_legally stamped before named (Ok report) added history is at c = record {
     running = λ r. record {
       report = report;
       acts = record { each = at.acts; printed_is = at.prints };
@@ -135,8 +157,11 @@ module _ (kinds : List (List ℕ)) where
     };
     stopped = λ stop. absurd (true≢false (sym stop ∙ at.runs));
   }
-  came_legally stamped before (Err fault) added history is at c = record {
-    running = λ r. ((at.acts, fault_so fault added history at.last r, at.prints, shown_so fault added history at.shown), fits_so stamped before fault (added ++ history) c r);
+  came_legally stamped before named (Err fault) added history is at c = record {
+    running = λ r. (
+      (at.acts, fault_so fault added history at.last r, at.prints, shown_so fault added history at.shown),
+      fits_so stamped before named fault (added ++ history) c r,
+    );
     stopped = λ stop. tt;
   }
 
@@ -166,7 +191,7 @@ module _ (kinds : List (List ℕ)) where
                 goes_on = ap (λ (h : History). added ++ h) begins.is;
                 holds =
                     subst (λ (h : History). CameTo (Whole stamped This h) (Shows This h) (ending result) added h) begins.is
-                    (came_legally stamped before result added history (sym is) at c);
+                    (came_legally stamped before named result added history (sym is) at c);
               };
             };
         own = owns_as (IsBy job) (IsByOne (acting_for This)) (by_one (acting_for This) job acting) added history y.own;

@@ -68,10 +68,10 @@ abbrev pub LeftOfArchive : History → Ending → History → Type 0
 LeftOfArchive earlier (Spent n) added = ArchiveFits (added ++ earlier) (Spent n)
 LeftOfArchive earlier e added = ⊥
 
--- the next number of a segment is the last one
-abbrev pub LeftOfDemux : History → Ending → History → Type 0
-LeftOfDemux earlier (Spent n) added = DemuxFits (added ++ earlier) (Spent n)
-LeftOfDemux earlier e added = ⊥
+-- no number is left for a record that is still to be written
+abbrev pub LeftOfDemux : List (List ℕ) → History → Ending → History → Type 0
+LeftOfDemux kinds earlier (Spent n) added = DemuxFits kinds (added ++ earlier) (Spent n)
+LeftOfDemux kinds earlier e added = ⊥
 
 -- the file's header is refused
 abbrev pub LeftOfSalvage : List ℕ → History → Ending → History → Type 0
@@ -102,7 +102,7 @@ LeftOver (Agent w) earlier e added = LeftOfAgent w earlier e added
 LeftOver (Collector w) earlier e added = LeftOfCollector w earlier e added
 LeftOver (Drain w) earlier e added = LeftOfDrain w earlier e added
 LeftOver Archive earlier e added = LeftOfArchive earlier e added
-LeftOver (Demux kinds) earlier e added = LeftOfDemux earlier e added
+LeftOver (Demux kinds) earlier e added = LeftOfDemux kinds earlier e added
 LeftOver (Salvage file) earlier e added = LeftOfSalvage file earlier e added
 LeftOver (Load lines) earlier e added = LeftOfLoad lines earlier e added
 LeftOver (Udp w) earlier e added = LeftOfUdp w earlier e added

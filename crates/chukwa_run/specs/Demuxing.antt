@@ -4,10 +4,8 @@ use Rattle.chk_site.specs.declared.acts.Act.{Act}
 use Rattle.chk_site.specs.Acts.{deed}
 use Rattle.chk_site.specs.History.{History, files_after}
 use Rattle.chk_site.specs.Runs.{own_acts}
-use Rattle.chk_world.specs.Books.{book_of}
-use Rattle.chk_world.specs.Names.{DemuxFolder}
 use Rattle.chk_world.specs.Sight.{job}
-use Rattle.chk_demux.specs.Demuxed.{earlier_in, NamesStamped, DemuxDone}
+use Rattle.chk_demux.specs.Demuxed.{earlier_in, NamesStamped, DemuxDone, LacksNumber}
 use Rattle.chk_demux.specs.declared.report.DemuxReport.{DemuxReport}
 use Rattle.chk_prints.specs.Printing.{by, printed}
 use Rattle.chk_demux_run.specs.Telling.{DemuxesAndTells, run_line}
@@ -40,8 +38,9 @@ pub record DemuxWhole (stamped : List (List ℕ)) (earlier added : History) : Ty
   pub acts : DemuxedOnce report (own_acts added)
   pub done : DemuxDone stamped (earlier_in (files_after earlier)) report (added ++ earlier)
 
--- In a legal history nothing of its own is damaged, and the segment numbers are spent only where the next one is the last.
-abbrev pub DemuxFits : History → Ending → Type 0
-DemuxFits history (Damaged name at) = ⊥
-DemuxFits history (Spent n) = (n ≡ 2 ^ 63 - 1) × ((book_of (files_after history) DemuxFolder).next ≡ 2 ^ 63 - 1)
-DemuxFits history e = Unit {0}
+-- In a legal history nothing of its own is damaged, and the segment numbers are spent only where the next one is the last, and a
+-- record is still to be written, by these types.
+abbrev pub DemuxFits : List (List ℕ) → History → Ending → Type 0
+DemuxFits kinds history (Damaged name at) = ⊥
+DemuxFits kinds history (Spent n) = (n ≡ 2 ^ 63 - 1) × LacksNumber kinds history
+DemuxFits kinds history e = Unit {0}

@@ -14,13 +14,13 @@ use Rattle.chk_seqfile.specs.Headers.{read_header}
 use Rattle.chk_world.specs.Committed.{number_in}
 use Rattle.chk_world.specs.Names.{BornFile, CheckFile, file, spell}
 use Rattle.chk_archive.specs.Written.{LacksNumbers}
-use Rattle.chk_archive.specs.Shown.{IsDamage as IsArchiveDamage}
+use Rattle.chk_archive.specs.Shown.{IsDamage as IsArchiveDamage, IsSpent as IsArchiveSpent}
 use Rattle.chk_demux.specs.Shown.{IsDamage as IsDemuxDamage}
 use Rattle.chk_sink.specs.declared.fault.SinkFault.{SinkFault}
 use Rattle.chk_sink.specs.declared.fault.SinkFault.TheVariants as Sinks
 use Rattle.chk_sink.specs.States.{last_number}
 use Rattle.chk_agent_run.specs.declared.faults.RunFault.TheVariants as runs
-use Rattle.chk_collect.specs.Runs.{IsCutRun}
+use Rattle.chk_collector_run.specs.Runs.{IsCutRun}
 use Rattle.chk_drain.specs.Parts.{is_talk}
 use Rattle.chk_drain_run.specs.declared.faults.DrainFault.TheVariants as drains
 use Rattle.chk_words.specs.Commands.{AgentAsked, CollectorAsked, DrainAsked}
@@ -157,9 +157,11 @@ ArchiveFault (Damaged name at) added = Unit {0}
 ArchiveFault (Spent n) added = Unit {0}
 ArchiveFault e added = ⊥
 
--- own reads of an archive run show why the file is told to be damaged
+-- own reads of an archive run show why the file is told to be damaged, and why the numbers are told
+-- to be spent
 abbrev pub ArchiveShown : History → Ending → History → Type 0
 ArchiveShown earlier (Damaged name at) added = IsArchiveDamage name at added earlier
+ArchiveShown earlier (Spent n) added = (n ≡ 2 ^ 63 - 1) × IsArchiveSpent added earlier
 ArchiveShown earlier e added = Unit {0}
 
 -- it made only calls of an archive run and of its prints
@@ -216,7 +218,7 @@ Shows (Agent w) earlier e added = AgentCut w earlier e added × AgentFits w earl
 Shows (Collector w) earlier e added = CollectorCut w earlier e added × CollectorFits w earlier e added
 Shows (Drain w) earlier e added = DrainCut w earlier e added × DrainFits w earlier e added
 Shows Archive earlier e added = ArchiveCut earlier e added × ArchiveFits (added ++ earlier) e
-Shows (Demux kinds) earlier e added = DemuxCut earlier e added × DemuxFits (added ++ earlier) e
+Shows (Demux kinds) earlier e added = DemuxCut earlier e added × DemuxFits kinds (added ++ earlier) e
 Shows (Salvage file) earlier e added = SalvageCut file earlier e added
 Shows (Load lines) earlier e added = LoadCut lines earlier e added × LoadFits lines earlier e added
 Shows (Udp w) earlier e added = UdpCut w earlier e added

@@ -14,8 +14,8 @@ use Rattle.chk_agent_run.specs.declared.faults.RunFault.{RunFault}
 use Rattle.chk_agent_run.specs.declared.run.Work.{Work}
 use Rattle.chk_agent_run.specs.declared.turn.Ended.{Ended}
 use Rattle.chk_agent_run.specs.Runs.{HasRun}
-use Rattle.chk_collect.specs.Legality.{FindsCommitted}
-use Rattle.chk_collect.specs.Runs.{CollectorRan, IsNoneOpen}
+use Rattle.chk_collector_run.specs.Legality.{FindsCommitted}
+use Rattle.chk_collector_run.specs.Runs.{CollectorRan, IsNoneOpen}
 use Rattle.chk_world.specs.Books.{book_of}
 use Rattle.chk_world.specs.Names.{ArchiveFolder}
 use Rattle.chk_world.specs.Sight.{job}

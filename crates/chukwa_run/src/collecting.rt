@@ -15,7 +15,7 @@ ghost use Rattle.chukwa_run.specs.Statuses.{HasItsStatus};
 
 use crate::teeing::read_tees;
 use chk_bytes::{NoMemory, Word};
-use chk_collect::collect;
+use chk_collector_run::collect;
 use chk_sink::SinkFault;
 use chk_site::{Role, Site, Who};
 use chk_words::{CollectorWords, Ending};

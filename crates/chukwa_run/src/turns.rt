@@ -9,8 +9,8 @@ ghost use Rattle.chk_sink.specs.Closes.{IsOfTick};
 ghost use Rattle.chk_sink.specs.Faults.{FailsLast};
 ghost use Rattle.chk_sink.specs.Held.{Matches};
 ghost use Rattle.chk_sink.specs.States.{IsSameStart, process};
-ghost use Rattle.chk_collect.specs.Turns.{IsCollectorTurn, IsCutTurn};
-ghost use Rattle.chk_collect.specs.Legality.{IsSettled, TurnEnds, Finds, TurnCause};
+ghost use Rattle.chk_collector_run.specs.Turns.{IsCollectorTurn, IsCutTurn};
+ghost use Rattle.chk_collector_run.specs.Legality.{IsSettled, TurnEnds, Finds, TurnCause};
 ghost use Rattle.chk_agent.specs.States.{process as agent_process};
 ghost use Rattle.chk_agent.specs.Facts.{Matches as AgentMatches};
 ghost use Rattle.chk_agent.specs.Faults.{AgentCause, FailsLast as AgentFailsLast, IsUndamaged};
@@ -57,7 +57,7 @@ pub fn collector_turn<S: Site>(
     ensures last { Adds (S.told site.old) (S.told site.new) (FailsLast result) }
     ensures cause { TurnCause (S.fault_count site.old) (S.fault_count site.new) result }
 {
-    chk_collect::collector_turn(alloc, site, who, collector, door, 1, tees)
+    chk_collector_run::collector_turn(alloc, site, who, collector, door, 1, tees)
 }
 
 /// One turn of the agent that `who` is, as the command makes each by default: it does what the
