@@ -4,3 +4,4 @@ mod OneFetch
 mod OneRecord
 mod Blocks
 mod Segment
+mod Standing

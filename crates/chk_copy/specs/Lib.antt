@@ -1,2 +1,3 @@
 -- What the copying of chosen records leaves.
 pub mod Copying
+pub mod Standing

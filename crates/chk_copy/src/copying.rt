@@ -6,11 +6,13 @@ ghost use Rattle.chk_site.specs.Site.{Adds};
 ghost use Rattle.chk_site.specs.Runs.{anyhow, Leads};
 ghost use Rattle.chk_chunk.specs.Keys.{Chunk};
 ghost use Rattle.chk_world.specs.Sight.{job};
+ghost use Rattle.chk_world.specs.JobSteps.{SparesFile};
 ghost use Rattle.chk_world.proofs.Each.{Each};
 ghost use Rattle.chk_heads.specs.Faults.{JobCause, IsOfRead};
 ghost use Rattle.chk_merge.specs.Segments.{AreSettled};
 ghost use Rattle.chk_merge.specs.Merging.{SparesBoth, AreApart};
 ghost use Rattle.chk_compare.specs.Comparing.{IsSide};
+ghost use Rattle.chk_copy.specs.Standing.{StandsSo, HasStood, heads_between, chosen_heads};
 ghost use Rattle.chk_copy.specs.Copying.{joined_segment, chunks_between, chosen_chunks, FitsIn, IsForJoined, GoesOn, HasCopied, CanCopy, Copied, CanCopyBoth, CopiedBoth, CopiedAll, Worked, Copies};
 
 use crate::records::copy_record;
@@ -43,6 +45,9 @@ fn copy_block<S: Site>(
         (CanCopy all held side.now chunks reader.old segmenter.old)
         (Copied all held side.now (chunks ++ chunks_between side.now held block.first block.end)
         reader.new segmenter.new result)) }
+    ensures stands { (chunks : List Chunk) → Adds (S.told site.old) (S.told site.new)
+        (Leads (anyhow (SparesFile (joined_segment segmenter.old.number))) (StandsSo chunks segmenter.old)
+        (HasStood chunks (heads_between side.now block.first block.end) segmenter.new result)) }
     ensures on { OnOk result (GoesOn segmenter.old segmenter.new) }
     ensures works { Adds (S.told site.old) (S.told site.new) (Worked (Copies segmenter.old.number) result) }
     ensures only { IfErr result IsOfRead }
@@ -75,6 +80,9 @@ fn copy_choice<S: Site>(
         (CanCopyBoth all held left.now right.now chunks readers.old segmenter.old)
         (CopiedBoth all held left.now right.now (chunks ++ chosen_chunks left.now right.now held choice)
         readers.new segmenter.new result)) }
+    ensures stands { (chunks : List Chunk) → Adds (S.told site.old) (S.told site.new)
+        (Leads (anyhow (SparesFile (joined_segment segmenter.old.number))) (StandsSo chunks segmenter.old)
+        (HasStood chunks (chosen_heads left.now right.now choice) segmenter.new result)) }
     ensures on { OnOk result (GoesOn segmenter.old segmenter.new) }
     ensures works { Adds (S.told site.old) (S.told site.new) (Worked (Copies segmenter.old.number) result) }
     ensures only { IfErr result IsOfRead }
@@ -114,6 +122,9 @@ pub(crate) fn copy_all<S: Site>(
         (Leads (anyhow (SparesBoth all (joined_segment segmenter.old.number)))
         (HasCopied all held chunks segmenter.old)
         (CopiedAll all held (chunks ++ flat_map (chosen_chunks left.now right.now held) choices.now) segmenter.new result)) }
+    ensures stands { (chunks : List Chunk) → Adds (S.told site.old) (S.told site.new)
+        (Leads (anyhow (SparesFile (joined_segment segmenter.old.number))) (StandsSo chunks segmenter.old)
+        (HasStood chunks (flat_map (chosen_heads left.now right.now) choices.now) segmenter.new result)) }
     ensures on { OnOk result (GoesOn segmenter.old segmenter.new) }
     ensures works { Adds (S.told site.old) (S.told site.new) (Worked (Copies segmenter.old.number) result) }
     ensures only { IfErr result IsOfRead }

@@ -5,7 +5,7 @@ ghost use Rattle.chk_site.specs.Files.{File, Files};
 ghost use Rattle.chk_site.specs.History.{Every};
 ghost use Rattle.chk_site.specs.Site.{Adds};
 ghost use Rattle.chk_site.specs.Runs.{anyhow, Leads};
-ghost use Rattle.chk_chunk.specs.Keys.{Chunk, is_key, has_value, has_words, chunk_limit};
+ghost use Rattle.chk_chunk.specs.Keys.{Chunk, is_key, has_value, has_words, chunk_limit, chunk_begin};
 ghost use Rattle.chk_chunk.specs.Lent.{lent_chunk, lent_key};
 ghost use Rattle.chk_world.specs.Sight.{job};
 ghost use Rattle.chk_world.specs.JobSteps.{IsOf, ReadsFile, WritesTo, SparesFile};
@@ -24,6 +24,7 @@ ghost use Rattle.chk_merge.specs.Archives.{IsKnown, AreWindows, chunk_in};
 ghost use Rattle.chk_merge.specs.Merging.{SparesBoth, AreApart};
 ghost use Rattle.chk_compare.specs.Blocks.{head_in};
 ghost use Rattle.chk_compare.specs.Comparing.{IsSide};
+ghost use Rattle.chk_copy.specs.Standing.{StandsSo, HasStood};
 ghost use Rattle.chk_copy.specs.Copying.{joined_segment, chunk_with, IsForJoined, GoesOn, CanCopy, Copied, Worked, Copies};
 
 use chk_book::Segmenter;
@@ -34,19 +35,20 @@ use chk_merge::RecordReader;
 use chk_site::{Site, Who};
 use std::alloc::Global;
 
-/// The chunk of a head and its value, where it is one.
+/// The chunk of a head and its value, where it is one that begins where the head says.
 fn chunk_of<'a>(head: &HeadRef<'a>, value: &'a [u8]) -> Option<ChunkRef<'a>>
     requires { IsTrue (has_words (lent_key head.now.key)) }
     ensures is { IfSome result (λ c. lent_chunk c ≡ chunk_with (lent_key head.now.key) value.now) }
     ensures key { IfSome result (λ c. IsTrue (is_key (lent_chunk c).key)) }
     ensures value { IfSome result (λ c. IsTrue (has_value chunk_limit (lent_chunk c).key (lent_chunk c).value)) }
+    ensures begin { IfSome result (λ c. chunk_begin (lent_chunk c) ≡ head.now.begin) }
 {
     let key = head.key;
     let size = value.len() as u64;
     if size == 0 || size > 131_072 || key.start >= 1 << 62 {
         return None;
     }
-    if key.seq >= 1 << 63 || key.start + size > key.seq {
+    if key.seq >= 1 << 63 || key.start + size > key.seq || key.seq - size != head.begin {
         return None;
     }
     Some(ChunkRef {
@@ -75,6 +77,7 @@ fn put_record<S: Site>(
         (HasTaken segmenter.old w (chunk_with (lent_key head.now.key) value.now) result)) }
     ensures at { (w : Writing) → IsAt segmenter.old w
         → OnOk result (IsAt segmenter.new (taken segmenter.old w (chunk_with (lent_key head.now.key) value.now))) }
+    ensures copy { OnOk result (chunk_begin (chunk_with (lent_key head.now.key) value.now) ≡ head.now.begin) }
     ensures on { OnOk result (GoesOn segmenter.old segmenter.new) }
     ensures own { Adds (S.told site.old) (S.told site.new) (Every (IsOf (WritesTo (joined_segment segmenter.old.number)))) }
     ensures only { IfErr result IsOfWrite }
@@ -138,6 +141,9 @@ pub(crate) fn copy_record<S: Site>(
         (CanCopy all held side.now chunks reader.old segmenter.old)
         (Copied all held side.now (chunks ++ chunk_in side.now.names.now held (head_in side.now.heads.now index) ∷ [])
         reader.new segmenter.new result)) }
+    ensures stands { (chunks : List Chunk) → Adds (S.told site.old) (S.told site.new)
+        (Leads (anyhow (SparesFile (joined_segment segmenter.old.number))) (StandsSo chunks segmenter.old)
+        (HasStood chunks (head_in side.now.heads.now index ∷ []) segmenter.new result)) }
     ensures on { OnOk result (GoesOn segmenter.old segmenter.new) }
     ensures works { Adds (S.told site.old) (S.told site.new) (Worked (Copies segmenter.old.number) result) }
     ensures only { IfErr result IsOfRead }

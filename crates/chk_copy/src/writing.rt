@@ -6,7 +6,7 @@ ghost use Rattle.chk_site.specs.History.{Every};
 ghost use Rattle.chk_site.specs.Site.{Adds};
 ghost use Rattle.chk_site.specs.Runs.{anyhow, Leads};
 ghost use Rattle.chk_world.specs.Sight.{job};
-ghost use Rattle.chk_world.specs.JobSteps.{IsOf};
+ghost use Rattle.chk_world.specs.JobSteps.{IsOf, SparesFile};
 ghost use Rattle.chk_world.proofs.Each.{Each};
 ghost use Rattle.chk_heads.specs.Faults.{JobCause, FailsLast};
 ghost use Rattle.chk_heads.specs.Pieces.{AsksInPieces};
@@ -16,6 +16,7 @@ ghost use Rattle.chk_book.specs.Loaded.{book_result};
 ghost use Rattle.chk_merge.specs.Segments.{HasFiles, AreSettled};
 ghost use Rattle.chk_merge.specs.Merging.{SparesBoth, AreApart, bare_book, merged_result};
 ghost use Rattle.chk_compare.specs.Comparing.{IsSide};
+ghost use Rattle.chk_copy.specs.Standing.{chosen_heads, WroteCopies};
 ghost use Rattle.chk_copy.specs.Copying.{joined_segment, chosen_chunks, FitsIn, WroteChosen, Worked, Copies};
 
 use crate::copying::copy_all;
@@ -47,6 +48,9 @@ pub fn write_chosen<S: Site>(
         → Adds (S.told site.old) (S.told site.new)
         (Leads (anyhow (SparesBoth all (joined_segment next))) (HasFiles all held)
         (WroteChosen all held next (flat_map (chosen_chunks left.now right.now held) choices.now) (book_result result))) }
+    ensures stands { Adds (S.told site.old) (S.told site.new)
+        (Leads (anyhow (SparesFile (joined_segment next))) (λ history. Unit {0})
+        (WroteCopies next (flat_map (chosen_heads left.now right.now) choices.now) (book_result result))) }
     ensures own { Adds (S.told site.old) (S.told site.new) (Every (IsOf (Copies next))) }
     ensures pieces { Adds (S.told site.old) (S.told site.new) (Every AsksInPieces) }
     ensures spent { SpentBook (bare_book next) result }
@@ -81,6 +85,10 @@ fn write_segment<S: Site>(
         → Adds (S.told site.old) (S.told site.new)
         (Leads (anyhow (SparesBoth all (joined_segment book.old.next))) (HasFiles all held)
         (WroteChosen all held book.old.next (flat_map (chosen_chunks left.now right.now held) choices.now)
+        (merged_result (book_view book.new) result))) }
+    ensures stands { Adds (S.told site.old) (S.told site.new)
+        (Leads (anyhow (SparesFile (joined_segment book.old.next))) (λ history. Unit {0})
+        (WroteCopies book.old.next (flat_map (chosen_heads left.now right.now) choices.now)
         (merged_result (book_view book.new) result))) }
     ensures works { Adds (S.told site.old) (S.told site.new) (Worked (Copies book.old.next) result) }
     ensures spent { SpentBook (bare_book book.old.next) result }

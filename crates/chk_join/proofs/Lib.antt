@@ -1,2 +1,26 @@
 -- The join of two archives.
 mod JoinLaws
+mod Works
+mod Started
+mod BookLoads
+mod Begun
+mod Tidied
+mod RunFacts
+mod SortedStream
+mod SortedRuns
+mod Gathered
+mod BlockBytes
+mod PairFacts
+mod Taken
+mod Agreed
+mod Joins
+mod PlanWritten
+mod Chain
+mod Apart
+mod RunsOn
+mod BookSpelled
+mod Published
+mod Folders
+mod Whole
+mod Finished
+mod Joining

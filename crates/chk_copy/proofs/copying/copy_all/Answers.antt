@@ -11,6 +11,12 @@ use Rattle.chk_merge.proofs.AllRead.{each_get, no_windows}
 use Rattle.chk_copy.specs.Copying.{joined_segment, HasCopied, CanCopyBoth, Copies, chosen_chunks, FitsIn}
 use Rattle.chk_copy.proofs.Steps.{works_none, works_then, works_number}
 use Rattle.chk_copy.proofs.Blocks.{no_choice, choices_more, of_number, all_fails}
+use Rattle.std.proofs.Common.{List}
+use Rattle.chk_world.specs.JobSteps.{SparesFile}
+use Rattle.chk_heads.specs.Heads.{Head}
+use Rattle.chk_choose.specs.declared.plan.Choice.{Choice}
+use Rattle.chk_copy.specs.Standing.{StandsSo, HasStood, chosen_heads}
+use Rattle.chk_copy.proofs.Standing.{stood_fails, none_stood, stood_more, chosen_more, stands_number}
 use Rattle.chk_copy.proofs.copying.copy_all.Goals as goal
 
 pub copy_choice-requires-clause-fits : goal.copy_choice-requires-clause-fits
@@ -29,6 +35,10 @@ loop-index-init g c = record {
           right = no_windows c.args.right.now.names.now held c.new-readers.result.right c.new-readers.ensures.right;
         },
       ));
+  stood = λ chunks.
+      leads_none (g.S.Site.told c.args.site.now)
+      (λ h x. none_stood chunks (flat_map (chosen_heads c.args.left.now c.args.right.now) (take 0 c.args.choices.now))
+      c.args.segmenter.now h refl x);
   number = refl;
   writer = c.requires.segment;
   works = works_none (Copies c.args.segmenter.now.number) tt (g.S.Site.told c.args.site.now);
@@ -54,6 +64,16 @@ loop-index-preserved g c =
           (choices_more f c.args.choices.now l.index chunks c.loop-index-test.true)
           (c.in_ok-copy_choice.ensures.raw most all held before few settled
           (subst (λ k. AreApart all (joined_segment k)) (sym i.number) apart) left right)));
+      stood = λ chunks.
+          let f = chosen_heads c.args.left.now c.args.right.now in
+          subst (λ (hs : List Head). Adds (g.S.Site.told c.args.site.now) (g.S.Site.told c.copy_choice.new.site)
+          (Leads (anyhow (SparesFile (joined_segment n))) (StandsSo chunks c.args.segmenter.now)
+          (HasStood chunks hs c.copy_choice.new.segmenter (Ok tt))))
+          (chosen_more f c.args.choices.now l.index no_choice c.loop-index-test.true)
+          (stood_more (joined_segment n) l.segmenter c.copy_choice.new.segmenter chunks
+          (flat_map f (take l.index c.args.choices.now)) (f (get_or c.args.choices.now l.index no_choice)) (Ok tt)
+          (i.stood chunks) c.in_ok-copy_choice.ensures.works
+          (λ cs. stands_number l.segmenter.number n i.number (c.in_ok-copy_choice.ensures.stands cs)));
       number = on.number ∙ i.number;
       writer = on.writer;
       works = works_then (Copies n) (Ok tt) (Ok tt) i.works (works_number l.segmenter.number n i.number (Ok tt) c.in_ok-copy_choice.ensures.works);
@@ -112,3 +132,23 @@ returns-clause-works g c = c.loop-index.invariant.works
 
 pub returns-clause-cause : goal.returns-clause-cause
 returns-clause-cause g c = c.loop-index.invariant.count
+
+pub returns-in_err-copy_choice-clause-stands : goal.returns-in_err-copy_choice-clause-stands
+returns-in_err-copy_choice-clause-stands g c chunks =
+    let p = err_from_is_err_and c.from_residual.result c.from_residual.ensures.1 in
+    let l = c.loop-index in
+    let n = c.args.segmenter.now.number in
+    let fault = c.in_err-copy_choice.field-0.0 in
+    rw (p.1, p.2)
+    (stood_fails (joined_segment n) chunks (flat_map (chosen_heads c.args.left.now c.args.right.now) c.args.choices.now)
+    c.copy_choice.new.segmenter fault
+    (works_then {T = Unit {0}} {U = Unit {0}} (Copies n) (Ok tt) (Err fault) l.invariant.works
+    (works_number l.segmenter.number n l.invariant.number (Err fault) c.in_err-copy_choice.ensures.works)))
+
+pub returns-clause-stands : goal.returns-clause-stands
+returns-clause-stands g c chunks =
+    let l = c.loop-index in
+    subst (λ (xs : List Choice). Adds (g.S.Site.told c.args.site.now) (g.S.Site.told l.site)
+    (Leads (anyhow (SparesFile (joined_segment c.args.segmenter.now.number))) (StandsSo chunks c.args.segmenter.now)
+    (HasStood chunks (flat_map (chosen_heads c.args.left.now c.args.right.now) xs) l.segmenter (Ok tt))))
+    (take_all l.index c.args.choices.now c.loop-index-test.false) (l.invariant.stood chunks)

@@ -8,6 +8,8 @@ use Rattle.chk_merge.specs.Segments.{AreSettled}
 use Rattle.chk_merge.specs.Merging.{SparesBoth, AreApart}
 use Rattle.chk_compare.specs.Comparing.{IsSide}
 use Rattle.chk_copy.specs.Copying.{joined_segment, IsForJoined, HasCopied, CanCopyBoth, chosen_chunks, Worked, Copies}
+use Rattle.chk_world.specs.JobSteps.{SparesFile}
+use Rattle.chk_copy.specs.Standing.{StandsSo, HasStood, chosen_heads}
 use Rattle.chk_copy.proofs.copying.copy_all.Given as goal
 
 abbrev pub invariant-loop-index : goal.invariant-loop-index
@@ -18,6 +20,9 @@ invariant-loop-index g l = record {
       (Leads (anyhow (SparesBoth all (joined_segment l.fn.segmenter.number))) (HasCopied all held chunks l.fn.segmenter)
       (CanCopyBoth all held l.left l.right
       (chunks ++ flat_map (chosen_chunks l.left l.right held) (take l.index l.choices)) l.readers l.segmenter));
+  stood : (chunks : List Chunk) → Adds (g.S.Site.told l.fn.site) (g.S.Site.told l.site)
+      (Leads (anyhow (SparesFile (joined_segment l.fn.segmenter.number))) (StandsSo chunks l.fn.segmenter)
+      (HasStood chunks (flat_map (chosen_heads l.left l.right) (take l.index l.choices)) l.segmenter (Ok tt)));
   number : l.segmenter.number ≡ l.fn.segmenter.number;
   writer : IsForJoined l.segmenter;
   works : Adds (g.S.Site.told l.fn.site) (g.S.Site.told l.site) (Worked {T = Unit {0}} (Copies l.fn.segmenter.number) (Ok tt));

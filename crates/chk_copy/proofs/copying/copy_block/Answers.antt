@@ -10,6 +10,11 @@ use Rattle.chk_compare.specs.Blocks.{head_in}
 use Rattle.chk_copy.specs.Copying.{joined_segment, CanCopy, Copies, chunks_between}
 use Rattle.chk_copy.proofs.Steps.{works_none, works_then, works_number}
 use Rattle.chk_copy.proofs.Blocks.{between_none, between_more, of_number, block_fails}
+use Rattle.std.proofs.Common.{List}
+use Rattle.chk_world.specs.JobSteps.{SparesFile}
+use Rattle.chk_heads.specs.Heads.{Head}
+use Rattle.chk_copy.specs.Standing.{StandsSo, HasStood, heads_between}
+use Rattle.chk_copy.proofs.Standing.{stood_fails, none_stood, no_heads, stood_more, heads_more, stands_number}
 use Rattle.chk_copy.proofs.copying.copy_block.Goals as goal
 
 pub loop-index-init : goal.loop-index-init
@@ -18,6 +23,10 @@ loop-index-init g c = record {
       leads_none (g.S.Site.told c.args.site.now)
       (λ h x. subst (λ cs. CanCopy all held c.args.side.now cs c.args.reader.now c.args.segmenter.now h)
       (between_none c.args.side.now held c.args.block.first chunks) x);
+  stood = λ chunks.
+      leads_none (g.S.Site.told c.args.site.now)
+      (λ h x. none_stood chunks (heads_between c.args.side.now c.args.block.first c.args.block.first) c.args.segmenter.now h
+      (no_heads c.args.side.now c.args.block.first) x);
   number = refl;
   writer = c.requires.segment;
   works = works_none (Copies c.args.segmenter.now.number) tt (g.S.Site.told c.args.site.now);
@@ -46,6 +55,15 @@ loop-index-preserved g c =
           (between_more side held c.args.block.first l.index chunks i.low (omega (arith, below, high)))
           (c.in_ok-copy_record.ensures.raw most all held before few settled
           (subst (λ k. AreApart all (joined_segment k)) (sym i.number) apart) sound)));
+      stood = λ chunks.
+          subst (λ (hs : List Head). Adds (g.S.Site.told c.args.site.now) (g.S.Site.told c.copy_record.new.site)
+          (Leads (anyhow (SparesFile (joined_segment n))) (StandsSo chunks c.args.segmenter.now)
+          (HasStood chunks hs c.copy_record.new.segmenter (Ok tt))))
+          (heads_more side c.args.block.first l.index i.low (omega (arith, below, high)))
+          (stood_more (joined_segment n) l.segmenter c.copy_record.new.segmenter chunks
+          (heads_between side c.args.block.first l.index) (head_in side.heads.now l.index ∷ []) (Ok tt) (i.stood chunks)
+          c.in_ok-copy_record.ensures.works
+          (λ cs. stands_number l.segmenter.number n i.number (c.in_ok-copy_record.ensures.stands cs)));
       number = on.number ∙ i.number;
       writer = on.writer;
       works = works_then (Copies n) (Ok tt) (Ok tt) i.works (works_number l.segmenter.number n i.number (Ok tt) c.in_ok-copy_record.ensures.works);
@@ -109,3 +127,26 @@ returns-clause-works g c = c.loop-index.invariant.works
 
 pub returns-clause-cause : goal.returns-clause-cause
 returns-clause-cause g c = c.loop-index.invariant.count
+
+pub returns-in_err-copy_record-clause-stands : goal.returns-in_err-copy_record-clause-stands
+returns-in_err-copy_record-clause-stands g c chunks =
+    let p = err_from_is_err_and c.from_residual.result c.from_residual.ensures.1 in
+    let l = c.loop-index in
+    let n = c.args.segmenter.now.number in
+    let fault = c.in_err-copy_record.field-0.0 in
+    rw (p.1, p.2)
+    (stood_fails (joined_segment n) chunks (heads_between c.args.side.now c.args.block.first c.args.block.end)
+    c.copy_record.new.segmenter fault
+    (works_then {T = Unit {0}} {U = Unit {0}} (Copies n) (Ok tt) (Err fault) l.invariant.works
+    (works_number l.segmenter.number n l.invariant.number (Err fault) c.in_err-copy_record.ensures.works)))
+
+pub returns-clause-stands : goal.returns-clause-stands
+returns-clause-stands g c chunks =
+    let l = c.loop-index in
+    let past = c.loop-index-test.false in
+    let high = l.invariant.high in
+    let e : l.index ≡ c.args.block.end = omega (arith, past, high) in
+    subst (λ (k : ℕ). Adds (g.S.Site.told c.args.site.now) (g.S.Site.told l.site)
+    (Leads (anyhow (SparesFile (joined_segment c.args.segmenter.now.number))) (StandsSo chunks c.args.segmenter.now)
+    (HasStood chunks (heads_between c.args.side.now c.args.block.first k) l.segmenter (Ok tt))))
+    e (l.invariant.stood chunks)

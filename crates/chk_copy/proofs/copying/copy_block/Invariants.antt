@@ -7,6 +7,8 @@ use Rattle.chk_merge.specs.Segments.{AreSettled}
 use Rattle.chk_merge.specs.Merging.{SparesBoth, AreApart}
 use Rattle.chk_compare.specs.Comparing.{IsSide}
 use Rattle.chk_copy.specs.Copying.{joined_segment, IsForJoined, CanCopy, chunks_between, Worked, Copies}
+use Rattle.chk_world.specs.JobSteps.{SparesFile}
+use Rattle.chk_copy.specs.Standing.{StandsSo, HasStood, heads_between}
 use Rattle.chk_copy.proofs.copying.copy_block.Given as goal
 
 abbrev pub invariant-loop-index : goal.invariant-loop-index
@@ -16,6 +18,9 @@ invariant-loop-index g l = record {
       → Adds (g.S.Site.told l.fn.site) (g.S.Site.told l.site)
       (Leads (anyhow (SparesBoth all (joined_segment l.fn.segmenter.number))) (CanCopy all held l.side chunks l.fn.reader l.fn.segmenter)
       (CanCopy all held l.side (chunks ++ chunks_between l.side held l.fn.block.first l.index) l.reader l.segmenter));
+  stood : (chunks : List Chunk) → Adds (g.S.Site.told l.fn.site) (g.S.Site.told l.site)
+      (Leads (anyhow (SparesFile (joined_segment l.fn.segmenter.number))) (StandsSo chunks l.fn.segmenter)
+      (HasStood chunks (heads_between l.side l.fn.block.first l.index) l.segmenter (Ok tt)));
   number : l.segmenter.number ≡ l.fn.segmenter.number;
   writer : IsForJoined l.segmenter;
   works : Adds (g.S.Site.told l.fn.site) (g.S.Site.told l.site) (Worked {T = Unit {0}} (Copies l.fn.segmenter.number) (Ok tt));

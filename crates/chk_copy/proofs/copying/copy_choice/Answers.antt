@@ -6,6 +6,10 @@ use Rattle.chk_chunk.specs.Keys.{Chunk}
 use Rattle.chk_merge.specs.Merging.{SparesBoth}
 use Rattle.chk_copy.specs.Copying.{joined_segment, chunks_between, CanCopyBoth, CopiedBoth}
 use Rattle.chk_copy.proofs.Blocks.{of_left, of_right, from_right, from_left}
+use Rattle.chk_world.specs.JobSteps.{SparesFile}
+use Rattle.chk_heads.specs.Heads.{Head}
+use Rattle.chk_copy.specs.Standing.{StandsSo, HasStood}
+use Rattle.chk_copy.proofs.Standing.{heads_right, heads_left}
 use Rattle.chk_copy.proofs.copying.copy_choice.Goals as goal
 
 pub copy_block-requires-clause-high : goal.copy_block-requires-clause-high
@@ -49,3 +53,19 @@ returns-clause-raw g c most all held chunks few settled apart left right =
     (from_left l r held c.args.choice chunks c.if-choice.false)
     (of_left all held l r (joined_segment s.number) chunks (chunks ++ chunks_between l held b.first b.end) rs q s t c.copy_block-2.result
     (c.copy_block-2.ensures.raw most all held chunks few settled apart left))
+
+pub returns-then-choice-clause-stands : goal.returns-then-choice-clause-stands
+returns-then-choice-clause-stands g c chunks =
+    let s = c.args.segmenter.now in
+    subst (λ (hs : List Head). Adds (g.S.Site.told c.args.site.now) (g.S.Site.told c.copy_block.new.site)
+    (Leads (anyhow (SparesFile (joined_segment s.number))) (StandsSo chunks s)
+    (HasStood chunks hs c.copy_block.new.segmenter c.copy_block.result)))
+    (heads_right c.args.left.now c.args.right.now c.args.choice c.if-choice.true) (c.copy_block.ensures.stands chunks)
+
+pub returns-clause-stands : goal.returns-clause-stands
+returns-clause-stands g c chunks =
+    let s = c.args.segmenter.now in
+    subst (λ (hs : List Head). Adds (g.S.Site.told c.args.site.now) (g.S.Site.told c.copy_block-2.new.site)
+    (Leads (anyhow (SparesFile (joined_segment s.number))) (StandsSo chunks s)
+    (HasStood chunks hs c.copy_block-2.new.segmenter c.copy_block-2.result)))
+    (heads_left c.args.left.now c.args.right.now c.args.choice c.if-choice.false) (c.copy_block-2.ensures.stands chunks)

@@ -11,6 +11,8 @@ use Rattle.chk_compare.specs.Blocks.{head_in}
 use Rattle.chk_copy.specs.Copying.{joined_segment, Copies}
 use Rattle.chk_copy.proofs.Steps.{worked, reads_copy, writes_copy, writes_ask, of_write}
 use Rattle.chk_copy.proofs.OneRecord.{fetched_for, not_copied, put_behind}
+use Rattle.chk_copy.specs.Copying.{chunk_with}
+use Rattle.chk_copy.proofs.Standing.{stood_still, put_stands, stood_fails, is_copy}
 use Rattle.chk_copy.proofs.records.copy_record.Goals as goal
 
 pub returns-in-Ok-clause-raw : goal.returns-in-Ok-clause-raw
@@ -56,3 +58,22 @@ pub returns-in-Err-clause-works : goal.returns-in-Err-clause-works
 returns-in-Err-clause-works g c =
     let n = c.args.segmenter.now.number in
     worked (Copies n) (Err c.in-Err.fault) (reads_copy n c.in-Err.ensures.own) c.in-Err.ensures.pieces c.in-Err.ensures.last
+
+pub returns-in-Ok-clause-stands : goal.returns-in-Ok-clause-stands
+returns-in-Ok-clause-stands g c chunks =
+    let h = head_in c.args.side.now.heads.now c.args.index in
+    let s = c.args.segmenter.now in
+    let t = c.put_record.new.segmenter in
+    let head = c.get-head.result in
+    let copied = chunk_with (lent_key head.key) c.value.result.now in
+    leads_then (stood_still s chunks c.in-Ok.ensures.own c.in-Ok.ensures.stays)
+    (put_stands s t chunks h copied c.put_record.result
+    (is_copy h copied head.begin c.put_record.result (ap (λ (x : Head). x.key) c.get-head.ensures.head)
+    (ap (λ (x : Head). x.begin) c.get-head.ensures.head) c.put_record.ensures.copy)
+    c.put_record.ensures.at c.put_record.ensures.own c.put_record.ensures.raw)
+
+pub returns-in-Err-clause-stands : goal.returns-in-Err-clause-stands
+returns-in-Err-clause-stands g c chunks =
+    let h = head_in c.args.side.now.heads.now c.args.index in
+    let s = c.args.segmenter.now in
+    stood_fails (joined_segment s.number) chunks (h ∷ []) s c.in-Err.fault c.in-Err.ensures.pieces

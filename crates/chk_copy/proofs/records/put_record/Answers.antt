@@ -10,6 +10,9 @@ use Rattle.chk_book.specs.Segmenting.{HoldsSegment}
 use Rattle.chk_book.specs.Written.{IsAt, taken, HasTaken}
 use Rattle.chk_copy.proofs.Steps.{goes_on}
 use Rattle.chk_copy.proofs.Segment.{own_writes}
+use Rattle.std.proofs.Common.{ap, sym, ◌∙◌}
+use Rattle.chk_chunk.specs.Keys.{chunk_begin}
+use Rattle.chk_copy.proofs.Standing.{on_ok}
 use Rattle.chk_copy.proofs.records.put_record.Goals as goal
 
 pub returns-in_default-clause-raw : goal.returns-in_default-clause-raw
@@ -34,3 +37,6 @@ returns-clause-on g c =
 pub returns-clause-own : goal.returns-clause-own
 returns-clause-own g c =
     own_writes c.args.segmenter.now c.requires.segment (λ w at. c.part.ensures.own w at c.requires.segment.who)
+
+pub returns-clause-copy : goal.returns-clause-copy
+returns-clause-copy g c = on_ok c.part.result (ap chunk_begin (sym c.in-Some.ensures.is) ∙ c.in-Some.ensures.begin)

@@ -77,3 +77,11 @@ returns-clause-cause g c = c.in_ok-write_segment.ensures.cause
 
 pub returns-clause-last : goal.returns-clause-last
 returns-clause-last g c = adds_as _ c.in_ok-write_segment.ensures.works (λ added history x. tt)
+
+pub returns-in_err-write_segment-clause-stands : goal.returns-in_err-write_segment-clause-stands
+returns-in_err-write_segment-clause-stands g c =
+    let p = err_from_is_err_and c.from_residual.result c.from_residual.ensures.1 in
+    rw (p.1, p.2) c.in_err-write_segment.ensures.stands
+
+pub returns-clause-stands : goal.returns-clause-stands
+returns-clause-stands g c = c.in_ok-write_segment.ensures.stands

@@ -14,6 +14,8 @@ use Rattle.chk_copy.specs.Copying.{joined_segment, Copies, chosen_chunks}
 use Rattle.chk_copy.proofs.Steps.{worked, works_then, works_number, writes_copy, writes_ask}
 use Rattle.chk_copy.proofs.Blocks.{of_number}
 use Rattle.chk_copy.proofs.Segment.{not_written, begun_so, not_all, ended_so, own_writes, joined_folder, begun_copied, begun_works, spent_copied}
+use Rattle.chk_copy.specs.Standing.{chosen_heads}
+use Rattle.chk_copy.proofs.Standing.{copies_fail, stood_more, stands_begun, stands_number, stands_ended}
 use Rattle.chk_copy.proofs.writing.write_segment.Goals as goal
 
 pub begin_segment-requires : goal.begin_segment-requires
@@ -146,3 +148,36 @@ pub returns-clause-cause : goal.returns-clause-cause
 returns-clause-cause g c =
     cause_then c.finish.result (g.S.Site.fault_count c.args.site.now) (g.S.Site.fault_count c.copy_all.new.site)
     (g.S.Site.fault_count c.finish.new.site) (c.in_ok-copy_all.ensures.cause ∙ c.in_ok-segmenter.ensures.cause) c.finish.ensures.cause
+
+pub returns-in_err-segmenter-clause-stands : goal.returns-in_err-segmenter-clause-stands
+returns-in_err-segmenter-clause-stands g c =
+    let p = err_from_is_err_and c.from_residual.result c.from_residual.ensures.1 in
+    rw (p.1, p.2)
+    (copies_fail c.args.book.now.next (flat_map (chosen_heads c.args.left.now c.args.right.now) c.args.choices.now)
+    c.in_err-segmenter.field-0.0 c.in_err-segmenter.ensures.last)
+
+pub returns-in_err-copy_all-clause-stands : goal.returns-in_err-copy_all-clause-stands
+returns-in_err-copy_all-clause-stands g c =
+    let q = c.from_residual-in_err-copy_all in
+    let p = err_from_is_err_and q.result q.ensures.1 in
+    let n = c.args.book.now.next in
+    let s = c.in_ok-segmenter.segmenter in
+    let fault = c.in_err-copy_all.field-0.0 in
+    rw (p.1, p.2)
+    (copies_fail n (flat_map (chosen_heads c.args.left.now c.args.right.now) c.args.choices.now) fault
+    (begun_works s n fault (c.begin_segment.ensures.own c.requires.job)
+    (works_number s.number n c.in_ok-segmenter.ensures.at.number (Err fault) c.in_err-copy_all.ensures.works)))
+
+pub returns-clause-stands : goal.returns-clause-stands
+returns-clause-stands g c =
+    let n = c.args.book.now.next in
+    let s = c.in_ok-segmenter.segmenter in
+    let t = c.copy_all.new.segmenter in
+    let at = c.in_ok-segmenter.ensures.at in
+    let on = c.in_ok-copy_all.ensures.on in
+    let heads = flat_map (chosen_heads c.args.left.now c.args.right.now) c.args.choices.now in
+    stands_ended n t heads (book_view c.args.book.now) (book_view c.finish.new.book) (on.number ∙ at.number) c.requires.bare
+    c.finish.result
+    (stood_more (joined_segment n) s t [] [] heads (Ok tt) (stands_begun n s at c.in_ok-segmenter.ensures.raw)
+    c.in_ok-copy_all.ensures.works (λ cs. stands_number s.number n at.number (c.in_ok-copy_all.ensures.stands cs)))
+    c.finish.ensures.last c.finish.ensures.raw

@@ -1,0 +1,146 @@
+-- What the heads of an archive's records, in order, say of the archive.
+use Rattle.std.proofs.Common.{◌≡◌, ℕ, zero, suc, ◌+◌, ◌<◌, Bool, true, false, ◌||◌, List, [], ◌∷◌, length, map, Some, None, refl, ap, sym, subst, ◌∙◌, arith, if◌then◌else◌}
+use Rattle.std.specs.Prelude.{filter, nat_lt, nat_eq, ◌&&◌}
+use Rattle.std.proofs.lemmas.Bool.{or_parts}
+use Rattle.chk_site.specs.Files.{Files}
+use Rattle.chk_chunk.specs.Keys.{Stream, Chunk, same_stream, stream_lt, is_of}
+use Rattle.chk_world.specs.TrueBooks.{HasBytes as HasRoom}
+use Rattle.chk_world.specs.Books.{End, Book, chunks_of_stream, chunks_within, values}
+use Rattle.chk_world.specs.Jobs.{Run}
+use Rattle.chk_world.proofs.Each.{Each, each_at, each_filter}
+use Rattle.chk_world.proofs.BooksTrue.{run_length, each_within, each_append, each_flat}
+use Rattle.chk_heads.specs.Heads.{Head, heads_in}
+use Rattle.chk_heads.specs.Order.{no_head, head_before, in_head_order}
+use Rattle.chk_heads.specs.Pieces.{bytes_in}
+use Rattle.chk_heads.proofs.Orders.{WeakOrder, lex, tested_through, numbers, streams}
+use Rattle.chk_heads.proofs.Sorting.{Sorted, sort_sorted}
+use Rattle.chk_book.specs.Folders.{most_in}
+use Rattle.chk_merge.specs.Segments.{names_of, heads_from}
+use Rattle.chk_merge.specs.Courses.{is_head_of, end_of, reached, first_break, IsBreakBy}
+use Rattle.chk_merge.specs.Archives.{IsKnown, chunk_in, values_in}
+use Rattle.chk_merge.proofs.AllRead.{known_from}
+use Rattle.chk_merge.proofs.Joining.{chunks_from, begin_from, values_of, runs_from}
+use Rattle.chk_merge.proofs.Causes.{at_place}
+use Rattle.chk_merge.proofs.Records.{heads_have_bytes}
+use Rattle.chk_compare.specs.declared.gathering.Side.{Side}
+use Rattle.chk_compare.specs.Blocks.{head_in, stream_in, StreamsRise}
+use Rattle.chk_compare.specs.Reading.{AreAmong}
+use Rattle.chk_choose.specs.Choosing.{IsSideInOrder}
+use Rattle.chk_choose.specs.Differing.{bytes_of}
+use Rattle.chk_join.specs.Joined.{records_of_book}
+use Rattle.chk_join.specs.Preparing.{IsGathered}
+use Rattle.chk_join.proofs.SortedStream.{each_sort}
+use Rattle.chk_join.proofs.SortedRuns.{HasBytes, order_keeps}
+
+-- ---- the streams of heads in order rise
+
+by_stream : WeakOrder head_before
+by_stream =
+    lex (λ (a b : Head). stream_lt a.key.stream b.key.stream) (λ (a b : Head). same_stream a.key.stream b.key.stream)
+    (λ (a b : Head). nat_lt a.begin b.begin || (nat_eq a.begin b.begin && nat_lt a.key.seq b.key.seq))
+    (tested_through (λ (a : Head). a.key.stream) stream_lt same_stream streams)
+    (lex (λ (a b : Head). nat_lt a.begin b.begin) (λ (a b : Head). nat_eq a.begin b.begin)
+    (λ (a b : Head). nat_lt a.key.seq b.key.seq)
+    (tested_through (λ (a : Head). a.begin) nat_lt nat_eq numbers)
+    (tested_through (λ (a : Head). a.key.seq) nat_lt nat_eq numbers).order)
+
+not_before : (h k : Head) → head_before k h ≡ false → stream_lt k.key.stream h.key.stream ≡ false
+not_before h k e =
+    (or_parts (stream_lt k.key.stream h.key.stream)
+    (same_stream k.key.stream h.key.stream
+    && (nat_lt k.begin h.begin || (nat_eq k.begin h.begin && nat_lt k.key.seq h.key.seq))) e).0
+
+rises : (hs : List Head) → Sorted head_before hs → (i j : ℕ) → i < j → j < length hs
+    → stream_lt (stream_in hs j) (stream_in hs i) ≡ false
+rises [] sorted i j less within = absurd (let z : ⊥ = omega (arith, within) in z)
+rises (h ∷ hs) sorted i zero less within = absurd (let z : ⊥ = omega (arith, less) in z)
+rises (h ∷ hs) sorted zero (suc j) less within =
+    not_before h (head_in hs j)
+    (each_at (λ (k : Head). head_before k h ≡ false) hs (head_in hs j) sorted.0 (at_place hs j no_head (omega (arith, within))))
+rises (h ∷ hs) sorted (suc i) (suc j) less within = rises hs sorted.1 i j (omega (arith, less)) (omega (arith, within))
+
+pub heads_rise : (hs : List Head) → StreamsRise (in_head_order hs)
+heads_rise hs i j less within = rises (in_head_order hs) (sort_sorted head_before by_stream hs) i j less within
+
+-- ---- the heads have bytes
+
+all_have_bytes : (most : ℕ) (held : Files) (number : ℕ) (ws : List (List ℕ))
+    → Each HasBytes (heads_from most held number ws)
+all_have_bytes most held number [] = tt
+all_have_bytes most held number (w ∷ ws) =
+    each_append HasBytes (heads_in most number (bytes_in (held w))) (heads_from most held (number + 1) ws)
+    (heads_have_bytes most number (bytes_in (held w))) (all_have_bytes most held (number + 1) ws)
+
+chunks_of_heads : (s : Stream) (f : Head → Chunk) (hs : List Head) → ((h : Head) → (f h).key ≡ h.key)
+    → chunks_of_stream s (map f hs) ≡ map f (filter (is_head_of s) hs)
+chunks_of_heads s f [] key = refl
+chunks_of_heads s f (h ∷ hs) key =
+    ap (λ k. if same_stream s k.stream then f h ∷ filter (is_of s) (map f hs) else filter (is_of s) (map f hs)) (key h)
+    ∙ go (is_head_of s h) (chunks_of_heads s f hs key)
+  where
+    go : (b : Bool) → chunks_of_stream s (map f hs) ≡ map f (filter (is_head_of s) hs)
+        → (if b then f h ∷ filter (is_of s) (map f hs) else filter (is_of s) (map f hs))
+        ≡ map f (if b then h ∷ filter (is_head_of s) hs else filter (is_head_of s) hs)
+    go true rest = ap (λ l. f h ∷ l) rest
+    go false rest = rest
+
+module _ (folder : List ℕ) (b : Book) (held : Files) where
+  abbrev Names : List (List ℕ)
+  Names = names_of folder b
+
+  abbrev Most : ℕ
+  Most = most_in folder
+
+  abbrev Hs : List Head
+  Hs = heads_from Most held 0 Names
+
+  chunks : map (chunk_in Names held) Hs ≡ records_of_book folder b held
+  chunks = chunks_from Most Names held 0 [] Names refl refl
+
+  module _ (side : Side) (is : IsGathered folder b held side) where
+    -- the side of a folder
+    pub is_side : (all : List (List ℕ)) → AreAmong all Names → IsSideInOrder Most all held side
+    is_side all among = record {
+      side = record {
+        among = subst (AreAmong all) (sym is.names_are) among;
+        known = subst (λ ns. Each (IsKnown Most ns held) side.heads.now) (sym is.names_are)
+            (subst (Each (IsKnown Most Names held)) (sym is.heads_are)
+            (each_sort (IsKnown Most Names held) head_before Hs (known_from Most Names held 0 [] Names refl refl)));
+      };
+      rise = subst StreamsRise (sym is.heads_are) (heads_rise Hs);
+    }
+
+    -- a stream with an end
+    module _ (s : Stream) (e : End) (has : end_of s b.ends ≡ Some e) where
+      well : (first_break s e e.start Hs ≡ None) × (reached s e.start Hs ≡ e.end)
+      well = subst (λ o. IsBreakBy s o Hs None) has (is.runs.well s)
+
+      abbrev F : Head → Chunk
+      F = chunk_in Names held
+
+      ordered : chunks_of_stream s (map F (in_head_order Hs)) ≡ chunks_of_stream s (records_of_book folder b held)
+      ordered =
+          chunks_of_heads s F (in_head_order Hs) (λ h. refl)
+          ∙ (ap (map F) (order_keeps s e e.start Hs (all_have_bytes Most held 0 Names) well.0)
+          ∙ (sym (chunks_of_heads s F Hs (λ h. refl)) ∙ ap (chunks_of_stream s) chunks))
+
+      -- its bytes are the values of its records
+      pub stream_bytes : bytes_of side held s ≡ values (chunks_of_stream s (records_of_book folder b held))
+      stream_bytes =
+          ap (λ ns. values_in s ns held side.heads.now) is.names_are
+          ∙ (ap (values_in s Names held) is.heads_are
+          ∙ (values_of s Names held (in_head_order Hs) ∙ ap values ordered))
+
+      pub stream_runs : Run e.start e.start (chunks_of_stream s (records_of_book folder b held)) e.end
+      stream_runs =
+          subst (λ cs. Run e.start e.start (chunks_of_stream s cs) e.end) chunks
+          (subst (Run e.start e.start (chunks_of_stream s (map F Hs))) well.1
+          (runs_from s e Names held e.start Hs (begin_from Most Names held 0 [] Names refl refl) well.0))
+
+      pub stream_length : e.start + length (bytes_of side held s) ≡ e.end
+      stream_length =
+          ap (λ v. e.start + length v) stream_bytes
+          ∙ run_length e.start e.start (chunks_of_stream s (records_of_book folder b held)) e.end
+          (each_filter HasRoom (is_of s) (records_of_book folder b held)
+          (each_flat HasRoom (λ w. chunks_within Most (bytes_in (held w))) Names (λ w. each_within Most (bytes_in (held w)))))
+          stream_runs

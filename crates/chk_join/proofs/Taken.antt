@@ -1,0 +1,152 @@
+-- What is taken of each stream.
+use Rattle.std.proofs.Common.{◌≡◌, ℕ, zero, suc, ◌+◌, ◌-◌, ◌<◌, ◌≤◌, Bool, true, false, List, [], ◌∷◌, ◌++◌, length, map, take, drop, Some, None, refl, ap, ap₂, sym, subst, ◌∙◌, arith, append-nil, if◌then◌else◌}
+use Rattle.std.specs.Prelude.{flat_map, filter}
+use Rattle.std.proofs.lemmas.List.Elements.{filter-append}
+use Rattle.std.proofs.lemmas.Option.{none-some, same_Some}
+use Rattle.chk_site.specs.Files.{Files}
+use Rattle.chk_chunk.specs.Keys.{Stream, Chunk, same_stream, stream_lt, is_of}
+use Rattle.chk_world.specs.Books.{chunks_of_stream, values}
+use Rattle.chk_world.proofs.Each.{Each}
+use Rattle.chk_world.proofs.NameTests.{streams_same}
+use Rattle.chk_heads.specs.Heads.{Head}
+use Rattle.chk_merge.specs.Courses.{is_head_of}
+use Rattle.chk_merge.specs.Archives.{chunk_in, value_in}
+use Rattle.chk_compare.specs.declared.gathering.Side.{Side}
+use Rattle.chk_compare.specs.Blocks.{head_in, StreamsRise}
+use Rattle.chk_choose.specs.declared.plan.Choice.{Choice}
+use Rattle.chk_choose.specs.Pairs.{Pair, is_from_right, taken_end}
+use Rattle.chk_choose.specs.Plans.{IsBlockOf, IsChoiceOf, AreChoicesOf}
+use Rattle.chk_choose.specs.Differing.{bytes_of}
+use Rattle.chk_choose.proofs.Lookup.{pair_stream, pair_for}
+use Rattle.chk_copy.specs.Copying.{chunks_between, chosen_chunks}
+use Rattle.chk_join.proofs.BlockBytes.{block_bytes}
+use Rattle.chk_join.proofs.PairFacts.{IsMatched, PairsRise, taken_stream, no_pair}
+use Rattle.chk_join.proofs.RunFacts.{all_of, none_of}
+
+-- ---- a block
+
+each_front : (P : Head → Type 0) (hs : List Head) (n : ℕ) → n ≤ length hs → ((k : ℕ) → k < n → P (head_in hs k))
+    → Each P (take n hs)
+each_front P hs zero low all = tt
+each_front P [] (suc n) low all = absurd (let z : ⊥ = omega (arith, low) in z)
+each_front P (h ∷ hs) (suc n) low all =
+    (all 0 (omega arith), each_front P hs n (omega (arith, low)) (λ k less. all (suc k) (omega (arith, less))))
+
+each_block : (P : Head → Type 0) (hs : List Head) (first n : ℕ) → first + n ≤ length hs
+    → ((k : ℕ) → first ≤ k → k < first + n → P (head_in hs k)) → Each P (take n (drop first hs))
+each_block P hs zero n low all = each_front P hs n (omega (arith, low)) (λ k less. all k (omega arith) (omega (arith, less)))
+each_block P [] (suc first) n low all = absurd (let z : ⊥ = omega (arith, low) in z)
+each_block P (h ∷ hs) (suc first) n low all =
+    each_block P hs first n (omega (arith, low))
+    (λ k from less. all (suc k) (omega (arith, from)) (omega (arith, less)))
+
+each_chunk : (side : Side) (held : Files) (s : Stream) (hs : List Head) → Each (λ (h : Head). h.key.stream ≡ s) hs
+    → Each (λ (c : Chunk). c.key.stream ≡ s) (map (chunk_in side.names.now held) hs)
+each_chunk side held s [] all = tt
+each_chunk side held s (h ∷ hs) all = (all.0, each_chunk side held s hs all.1)
+
+block_stream : (side : Side) (held : Files) (s : Stream) (first end : ℕ) → first ≤ end → end ≤ length side.heads.now
+    → ((k : ℕ) → first ≤ k → k < end → is_head_of s (head_in side.heads.now k) ≡ true)
+    → Each (λ (c : Chunk). c.key.stream ≡ s) (chunks_between side held first end)
+block_stream side held s first end low high all =
+    each_chunk side held s (take (end - first) (drop first side.heads.now))
+    (each_block (λ (h : Head). h.key.stream ≡ s) side.heads.now first (end - first) (omega (arith, low, high))
+    (λ k from less. sym (streams_same s (head_in side.heads.now k).key.stream
+    (all k from (omega (arith, low, from, less))))))
+
+block_values : (side : Side) (held : Files) (hs : List Head)
+    → values (map (chunk_in side.names.now held) hs) ≡ flat_map (value_in side.names.now held) hs
+block_values side held [] = refl
+block_values side held (h ∷ hs) = ap (λ l. value_in side.names.now held h ++ l) (block_values side held hs)
+
+module _ (l r : Side) (held : Files) (left : StreamsRise l.heads.now) (right : StreamsRise r.heads.now) where
+  abbrev f : Choice → List Chunk
+  f = chosen_chunks l r held
+
+  -- the bytes that the pair's side has
+  abbrev pub taken_bytes : Pair → Stream → List ℕ
+  taken_bytes p s = if is_from_right p then bytes_of r held s else bytes_of l held s
+
+  choice_stream : (p : Pair) (c : Choice) → IsChoiceOf l.heads.now r.heads.now p c
+      → Each (λ (ch : Chunk). ch.key.stream ≡ (taken_end p).stream) (f c)
+  choice_stream p c is = go (is_from_right p) is.side is.block
+    where
+      go : (t : Bool) → c.from_right ≡ t
+          → IsBlockOf (if t then r.heads.now else l.heads.now) (taken_end p).stream c.block
+          → Each (λ (ch : Chunk). ch.key.stream ≡ (taken_end p).stream) (f c)
+      go true e b =
+          subst (λ u. Each (λ (ch : Chunk). ch.key.stream ≡ (taken_end p).stream)
+          (if u then chunks_between r held c.block.first c.block.end
+          else chunks_between l held c.block.first c.block.end)) (sym e)
+          (block_stream r held (taken_end p).stream c.block.first c.block.end b.low b.high b.all)
+      go false e b =
+          subst (λ u. Each (λ (ch : Chunk). ch.key.stream ≡ (taken_end p).stream)
+          (if u then chunks_between r held c.block.first c.block.end
+          else chunks_between l held c.block.first c.block.end)) (sym e)
+          (block_stream l held (taken_end p).stream c.block.first c.block.end b.low b.high b.all)
+
+  choice_values : (p : Pair) (c : Choice) → IsChoiceOf l.heads.now r.heads.now p c
+      → values (f c) ≡ taken_bytes p (taken_end p).stream
+  choice_values p c is = go (is_from_right p) is.side is.block
+    where
+      go : (t : Bool) → c.from_right ≡ t
+          → IsBlockOf (if t then r.heads.now else l.heads.now) (taken_end p).stream c.block
+          → values (f c) ≡ (if t then bytes_of r held (taken_end p).stream else bytes_of l held (taken_end p).stream)
+      go true e b =
+          ap (λ u. values (if u then chunks_between r held c.block.first c.block.end
+          else chunks_between l held c.block.first c.block.end)) e
+          ∙ (block_values r held (take (c.block.end - c.block.first) (drop c.block.first r.heads.now))
+          ∙ block_bytes r held (taken_end p).stream c.block right b)
+      go false e b =
+          ap (λ u. values (if u then chunks_between r held c.block.first c.block.end
+          else chunks_between l held c.block.first c.block.end)) e
+          ∙ (block_values l held (take (c.block.end - c.block.first) (drop c.block.first l.heads.now))
+          ∙ block_bytes l held (taken_end p).stream c.block left b)
+
+  -- nothing of a stream without a pair
+  pub none_taken : (s : Stream) (ps : List Pair) (cs : List Choice) → AreChoicesOf l.heads.now r.heads.now ps cs
+      → Each IsMatched ps → pair_for s ps ≡ None → chunks_of_stream s (flat_map f cs) ≡ []
+  none_taken s [] [] are m none = refl
+  none_taken s [] (c ∷ cs) are m none = absurd are
+  none_taken s (p ∷ ps) [] are m none = absurd are
+  none_taken s (p ∷ ps) (c ∷ cs) are m none =
+      filter-append (is_of s) (f c) (flat_map f cs)
+      ∙ go (same_stream s (pair_stream p)) refl none (λ n. none_taken s ps cs are.1 m.1 n)
+    where
+      go : (b : Bool) → same_stream s (pair_stream p) ≡ b → (if b then Some p else pair_for s ps) ≡ None
+          → (pair_for s ps ≡ None → filter (is_of s) (flat_map f cs) ≡ [])
+          → filter (is_of s) (f c) ++ filter (is_of s) (flat_map f cs) ≡ []
+      go true same n rest = absurd (none-some p (sym n))
+      go false other n rest =
+          ap₂ (λ x y. x ++ y)
+          (none_of s (taken_end p).stream (ap (same_stream s) (taken_stream p m.0) ∙ other) (f c) (choice_stream p c are.0))
+          (rest n)
+
+  -- of a stream with a pair the bytes of its side
+  pub some_taken : (s : Stream) (ps : List Pair) (cs : List Choice) (q : Pair) → AreChoicesOf l.heads.now r.heads.now ps cs
+      → Each IsMatched ps → PairsRise ps → pair_for s ps ≡ Some q
+      → values (chunks_of_stream s (flat_map f cs)) ≡ taken_bytes q s
+  some_taken s [] cs q are m rise is = absurd (none-some q is)
+  some_taken s (p ∷ ps) [] q are m rise is = absurd are
+  some_taken s (p ∷ ps) (c ∷ cs) q are m rise is =
+      ap values (filter-append (is_of s) (f c) (flat_map f cs))
+      ∙ go (same_stream s (pair_stream p)) refl is (λ n. some_taken s ps cs q are.1 m.1 rise.1 n)
+    where
+      go : (b : Bool) → same_stream s (pair_stream p) ≡ b → (if b then Some p else pair_for s ps) ≡ Some q
+          → (pair_for s ps ≡ Some q → values (filter (is_of s) (flat_map f cs)) ≡ taken_bytes q s)
+          → values (filter (is_of s) (f c) ++ filter (is_of s) (flat_map f cs)) ≡ taken_bytes q s
+      go true same i rest =
+          let stream : s ≡ pair_stream p = streams_same s (pair_stream p) same in
+          let mine : same_stream s (taken_end p).stream ≡ true = ap (same_stream s) (taken_stream p m.0) ∙ same in
+          let behind : pair_for s ps ≡ None =
+          no_pair s ps (subst (λ t. Each (λ k. stream_lt t (pair_stream k) ≡ true) ps) (sym stream) rise.0) in
+          ap values
+          (ap₂ (λ x y. x ++ y) (all_of s (taken_end p).stream mine (f c) (choice_stream p c are.0))
+          (none_taken s ps cs are.1 m.1 behind)
+          ∙ append-nil (f c))
+          ∙ (choice_values p c are.0
+          ∙ (ap (taken_bytes p) (taken_stream p m.0 ∙ sym stream) ∙ ap (λ k. taken_bytes k s) (same_Some p q i)))
+      go false other i rest =
+          ap (λ x. values (x ++ filter (is_of s) (flat_map f cs)))
+          (none_of s (taken_end p).stream (ap (same_stream s) (taken_stream p m.0) ∙ other) (f c) (choice_stream p c are.0))
+          ∙ rest i

@@ -1,0 +1,50 @@
+use Rattle.std.proofs.Common.{Ok, Err}
+use Rattle.chk_site.proofs.Leads.{leads_as, leads_then}
+use Rattle.chk_book.specs.Books.{book_view}
+use Rattle.chk_book.specs.Folders.{book_name}
+use Rattle.chk_book.specs.declared.book.Book.{Book as Struct}
+use Rattle.chk_copy.specs.Copying.{joined_segment}
+use Rattle.chk_join.specs.Working.{PreparesBy}
+use Rattle.chk_join.specs.Preparing.{IsFolderBook}
+use Rattle.chk_join.specs.declared.preparing.Prepared.{Prepared}
+use Rattle.chk_join.proofs.Works.{works_then, works_fail}
+use Rattle.chk_join.proofs.Apart.{plain_folder}
+use Rattle.chk_join.proofs.Chain.{under}
+use Rattle.chk_join.proofs.Folders.{load_told, folder_loaded, right_not_loaded, reads_prepare}
+use Rattle.chk_join.proofs.preparing.load_right.Goals as goal
+
+pub load_book-requires : goal.load_book-requires
+load_book-requires g c = plain_folder c.args.right.now c.requires.right
+
+pub returns-in-Ok-clause-raw : goal.returns-in-Ok-clause-raw
+returns-in-Ok-clause-raw g c all held covers ia =
+    let folder = c.args.right.now in
+    leads_then
+    (leads_as (λ h x. x) (λ h x. (x.0, folder_loaded held folder c.in-Ok.rights h x.1))
+    (load_told all held (joined_segment c.args.joined.now.next) folder covers.settled covers.right_book
+    (Ok (book_view c.in-Ok.rights)) (c.in-Ok.ensures.own c.requires.job)
+    (c.in-Ok.ensures.raw (held (book_name folder)) (covers.settled (book_name folder) covers.right_book).1)))
+    (under c.join_tidied.ensures.works
+    (λ (one : IsFolderBook held folder (book_view c.in-Ok.rights)). c.join_tidied.ensures.raw all held covers ia one))
+
+pub returns-in-Ok-clause-works : goal.returns-in-Ok-clause-works
+returns-in-Ok-clause-works g c =
+    let b = book_view c.args.joined.now in
+    works_then (PreparesBy b) (Ok c.in-Ok.rights) c.join_tidied.result
+    (reads_prepare b (Ok c.in-Ok.rights) (c.in-Ok.ensures.own c.requires.job) c.in-Ok.ensures.pieces c.in-Ok.ensures.last)
+    c.join_tidied.ensures.works
+
+pub returns-in-Err-clause-raw : goal.returns-in-Err-clause-raw
+returns-in-Err-clause-raw g c all held covers ia =
+    let folder = c.args.right.now in
+    leads_as (λ h x. x)
+    (λ h x. right_not_loaded held c.args.left.now c.args.right.now c.args.joined.now.next c.in-Err.fault c.in-Err.ensures.only h x.1)
+    (load_told all held (joined_segment c.args.joined.now.next) folder covers.settled covers.right_book
+    (Err c.in-Err.fault) (c.in-Err.ensures.own c.requires.job)
+    (c.in-Err.ensures.raw (held (book_name folder)) (covers.settled (book_name folder) covers.right_book).1))
+
+pub returns-in-Err-clause-works : goal.returns-in-Err-clause-works
+returns-in-Err-clause-works g c =
+    let b = book_view c.args.joined.now in
+    works_fail Struct Prepared (PreparesBy b) c.in-Err.fault
+    (reads_prepare b (Err c.in-Err.fault) (c.in-Err.ensures.own c.requires.job) c.in-Err.ensures.pieces c.in-Err.ensures.last)

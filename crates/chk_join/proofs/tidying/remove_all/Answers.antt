@@ -1,0 +1,50 @@
+use Rattle.std.proofs.Common.{◌∙◌, Ok, Err, refl, sym, subst, [], ◌∷◌}
+use Rattle.std.proofs.lemmas.Result.{err_from_is_err_and}
+use Rattle.chk_site.specs.declared.acts.Call.TheVariants.{Remove}
+use Rattle.chk_site.specs.Site.{Adds, asked, answered, plain, Calls}
+use Rattle.chk_heads.specs.Faults.{job_fault}
+use Rattle.chk_merge.proofs.AllRead.{each_get}
+use Rattle.chk_join.specs.Names.{IsStray}
+use Rattle.chk_join.specs.Working.{TidiesBy}
+use Rattle.chk_join.proofs.Works.{works_none, works_then}
+use Rattle.chk_join.proofs.Tidied.{remove_works, cause_done}
+use Rattle.chk_join.proofs.tidying.remove_all.Goals as goal
+
+pub loop-name-init : goal.loop-name-init
+loop-name-init g c = record { works = λ b all. works_none (TidiesBy b) tt (g.S.Site.told c.args.site.now); count = refl }
+
+pub loop-name-preserved : goal.loop-name-preserved
+loop-name-preserved g c =
+    let l = c.loop-name in
+    let names = c.args.names.now in
+    let name = c.as_str.result.now in
+    record {
+      works = λ b all.
+          works_then (TidiesBy b) (Ok tt) (Ok tt) (l.invariant.works b all)
+          (remove_works b name
+          (subst (IsStray b) (sym (c.as_str.ensures.text ∙ c.name-item.is))
+          (each_get (IsStray b) names all l.name-index c.name-item.result c.loop-name-test.true))
+          c.remove.result (Ok tt) c.in_ok-done.ensures
+          (subst (λ who. Adds (g.S.Site.told l.site) (g.S.Site.told c.remove.new.self)
+          (Calls (asked who Remove (name ∷ []) 0 0) (answered plain c.remove.result))) c.requires.job c.remove.ensures.told));
+      count = cause_done (g.S.Site.fault_count l.site) (g.S.Site.fault_count c.remove.new.self) c.remove.result
+          c.in_ok-done.ensures c.remove.ensures.cause ∙ l.invariant.count;
+    }
+
+pub returns-in_err-done-clause-works : goal.returns-in_err-done-clause-works
+returns-in_err-done-clause-works g c b all =
+    let p = err_from_is_err_and c.from_residual.result c.from_residual.ensures.1 in
+    let l = c.loop-name in
+    let names = c.args.names.now in
+    let name = c.as_str.result.now in
+    rw (p.1, p.2)
+    (works_then {T = Unit {0}} {U = Unit {0}} (TidiesBy b) (Ok tt) (Err (job_fault c.in_err-done.field-0.0)) (l.invariant.works b all)
+    (remove_works b name
+    (subst (IsStray b) (sym (c.as_str.ensures.text ∙ c.name-item.is))
+    (each_get (IsStray b) names all l.name-index c.name-item.result c.loop-name-test.true))
+    c.remove.result (Err c.in_err-done.field-0.0) c.in_err-done.ensures
+    (subst (λ who. Adds (g.S.Site.told l.site) (g.S.Site.told c.remove.new.self)
+    (Calls (asked who Remove (name ∷ []) 0 0) (answered plain c.remove.result))) c.requires.job c.remove.ensures.told)))
+
+pub returns-clause-works : goal.returns-clause-works
+returns-clause-works g c b all = c.loop-name.invariant.works b all

@@ -1,0 +1,31 @@
+use Rattle.std.proofs.Common.{Ok, sym, subst}
+use Rattle.std.proofs.lemmas.Result.{err_from_is_err_and}
+use Rattle.chk_heads.specs.Faults.{job_fault}
+use Rattle.chk_world.proofs.Each.{Each}
+use Rattle.chk_book.specs.Books.{book_view}
+use Rattle.chk_join.specs.Names.{IsStray}
+use Rattle.chk_join.specs.Working.{TidiesBy, job_result}
+use Rattle.chk_join.proofs.Works.{works_then, works_fail, works_end}
+use Rattle.chk_join.proofs.tidying.tidy.Goals as goal
+
+pub returns-in_err-names-clause-works : goal.returns-in_err-names-clause-works
+returns-in_err-names-clause-works g c =
+    let p = err_from_is_err_and c.from_residual.result c.from_residual.ensures.1 in
+    rw (p.1, p.2)
+    (works_fail _ (Unit {0}) (TidiesBy (book_view c.args.book.now)) (job_fault c.in_err-names.field-0.0)
+    (c.in_err-names.ensures.works (book_view c.args.book.now)))
+
+pub returns-in_err-strays-clause-works : goal.returns-in_err-strays-clause-works
+returns-in_err-strays-clause-works g c =
+    let p = err_from_is_err_and c.from_residual-in_err-strays.result c.from_residual-in_err-strays.ensures.1 in
+    rw (p.1, p.2)
+    (works_end _ (Unit {0}) (TidiesBy (book_view c.args.book.now)) c.in_ok-names.names
+    (c.in_ok-names.ensures.works (book_view c.args.book.now)))
+
+pub returns-clause-works : goal.returns-clause-works
+returns-clause-works g c =
+    let b = book_view c.args.book.now in
+    works_then (TidiesBy b) (Ok c.in_ok-names.names) (job_result c.remove_all.result)
+    (c.in_ok-names.ensures.works b)
+    (c.remove_all.ensures.works b
+    (subst (Each (IsStray b)) (sym c.as_slice-2.ensures.value) c.in_ok-strays.ensures))

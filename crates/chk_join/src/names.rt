@@ -1,0 +1,85 @@
+//! The names of a folder's files.
+
+ghost use Rattle.std.specs.Prelude.{◌≡◌, IfOk, IfSome, IsTrue};
+ghost use Rattle.chk_bytes.specs.Stems.{is_count};
+ghost use Rattle.chk_world.proofs.Each.{Each};
+ghost use Rattle.chk_book.specs.Books.{book_view};
+ghost use Rattle.chk_book.specs.Folders.{segment_name};
+ghost use Rattle.chk_merge.specs.Segments.{names_of};
+ghost use Rattle.chk_join.specs.Names.{names_segment, IsStrayNumber, IsStray};
+
+use chk_book::{Book, Segment};
+use chk_bytes::{NoMemory, Word, take_plain_decimal};
+use std::alloc::Global;
+
+/// The names of the segments that a book of the folder names, in its order; its aside segment isn't one of them.
+pub(crate) fn segment_names(alloc: Global, folder: &str, book: &Book) -> Result<Vec<Word>, NoMemory>
+    ensures { IfOk result (λ names. names.items ≡ names_of folder.now (book_view book.now)) }
+{
+    let mut names = Vec::new(alloc);
+    for segment in book.segments.as_slice() {
+        names.push(segment_name(alloc, folder, segment.number)?)?;
+    }
+    Ok(names)
+}
+
+/// The name of a folder's segment. One that no call can name counts as want of memory.
+fn segment_name(alloc: Global, folder: &str, number: u64) -> Result<Word, NoMemory>
+    ensures { IfOk result (λ name. name ≡ segment_name folder.now number) }
+{
+    let text = format!(in alloc; "{folder}/seg.{number}")?;
+    Word::new(alloc, text.as_bytes()).map_err(|_| NoMemory)
+}
+
+/// The files of the segments that a listing of `joined` shows and the book doesn't name.
+pub(crate) fn strays(alloc: Global, book: &Book, names: &[Word]) -> Result<Vec<Word>, NoMemory>
+    ensures { IfOk result (λ strays. Each (IsStray (book_view book.now)) strays.items) }
+{
+    let mut strays = Vec::new(alloc);
+    for name in names {
+        if let Some(number) = stray_number(book, name.as_str()) {
+            strays.push(segment_name(alloc, "joined", number)?)?;
+        }
+    }
+    Ok(strays)
+}
+
+/// The number of a segment that has this name, where the book doesn't name it.
+fn stray_number(book: &Book, name: &str) -> Option<u64>
+    ensures { IfSome result (IsStrayNumber (book_view book.now)) }
+{
+    let number = segment_number(name)?;
+    if names_segment(book, number) {
+        None
+    } else {
+        Some(number)
+    }
+}
+
+/// The number of the segment that has this name in its folder.
+fn segment_number(name: &str) -> Option<u64>
+    ensures { IfSome result (λ n. IsTrue (is_count n)) }
+{
+    let digits = name.as_bytes().strip_prefix(b"seg.")?;
+    let number = take_plain_decimal(digits)?;
+    if number > 0 && number < 1 << 63 {
+        Some(number)
+    } else {
+        None
+    }
+}
+
+/// Whether the book names the segment of this number.
+fn names_segment(book: &Book, number: u64) -> bool
+    ensures { result ≡ names_segment (book_view book.now) number }
+{
+    for segment in book.segments.as_slice() {
+        if segment.number == number {
+            return true;
+        }
+    }
+    match &book.aside {
+        Some(segment) => segment.number == number,
+        None => false,
+    }
+}
