@@ -1,21 +1,25 @@
 -- What one look at a stream gave, and what is known of its peer then.
-use Rattle.std.specs.Prelude.{◌≡◌, ◌⊎◌, ◌<◌, ◌≤◌, ◌++◌, ℕ, List, length, take}
+use Rattle.std.specs.Prelude.{◌≡◌, ◌⊎◌, ◌<◌, ◌≤◌, ◌++◌, ℕ, List, Option, length, take}
+use Rattle.std.specs.Io.KnownBytes.{Consumes}
 use Rattle.chk_peers.specs.declared.stages.Stage.{Stage}
 use Rattle.chk_peers.specs.declared.stages.Stage.TheVariants.{Ended, Gone}
 use Rattle.chk_peers.specs.Stages.{IsStageOf}
 use Rattle.chk_callers.specs.declared.callers.Heard.{Heard}
 use Rattle.chk_callers.specs.declared.callers.Heard.TheVariants.{Nothing, Some, End, Broken}
 
--- no more than there was room for
-abbrev pub HasHeard : ℕ → Heard → Type 0
-HasHeard room Nothing = Unit {0}
-HasHeard room (Some count) = count ≤ room
-HasHeard room End = Unit {0}
-HasHeard room Broken = Unit {0}
+-- how many bytes came
+abbrev pub count_of : Heard → ℕ
+count_of Nothing = 0
+count_of (Some count) = count
+count_of End = 0
+count_of Broken = 0
 
--- the message grew by the front of what was read
-abbrev pub HasGrown : List ℕ → List ℕ → List ℕ → Type 0
-HasGrown old new buffer = (count : ℕ) × (count ≤ length buffer) × (new ≡ old ++ take count buffer)
+-- the message grew by the front of what was read, and that is what the stream gave
+pub record HasGrown (before after : Option (List ℕ)) (old new buffer : List ℕ) : Type 0 where
+  pub count : ℕ
+  pub within : count ≤ length buffer
+  pub grown : new ≡ old ++ take count buffer
+  pub given : Consumes before after (take count buffer)
 
 -- nothing more comes: there is something to serve where bytes came before
 abbrev pub IsEnd : List ℕ → Stage → Type 0

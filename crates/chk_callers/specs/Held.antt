@@ -1,7 +1,7 @@
 -- The peers that a door holds, and those that go.
 use Rattle.std.specs.Prelude.{◌≡◌, ◌⊎◌, ℕ, Bool, not, if◌then◌else◌, Option, Some, None, List, [], ◌∷◌, filter, remove}
 use Rattle.chk_peers.specs.declared.stages.Stage.{Stage}
-use Rattle.chk_peers.specs.declared.stages.Stage.TheVariants.{Whole, Stale, Ended, Gone}
+use Rattle.chk_peers.specs.declared.stages.Stage.TheVariants.{Silent, Begun, Whole, Stale, Ended, Gone}
 use Rattle.chk_peers.specs.Stages.{gone_at}
 
 -- what is left without the one at this place
@@ -24,8 +24,12 @@ callers_left (c ∷ callers) [] = c ∷ callers
 callers_left (c ∷ callers) (s ∷ stages) =
     if gone_at s then callers_left callers stages else c ∷ callers_left callers stages
 
--- the stage by now: a whole message may grow stale, and one that ended may be gone
-abbrev pub IsAged : Stage → Stage → Type 0
-IsAged before after =
-    (after ≡ before)
-    ⊎ (((before ≡ Whole) × (after ≡ Stale)) ⊎ ((before ≡ Ended) × (after ≡ Gone)))
+-- the stage by now: a whole message is stale where its sender waits no longer soon, and one that
+-- ended is gone where its time here is over; any other stage stays
+abbrev pub IsAged : Stage → Type 0 → Type 0 → Stage → Type 0
+IsAged Silent stale late after = after ≡ Silent
+IsAged Begun stale late after = after ≡ Begun
+IsAged Whole stale late after = (stale × (after ≡ Stale)) ⊎ (¬ stale × (after ≡ Whole))
+IsAged Stale stale late after = after ≡ Stale
+IsAged Ended stale late after = (late × (after ≡ Gone)) ⊎ (¬ late × (after ≡ Ended))
+IsAged Gone stale late after = after ≡ Gone

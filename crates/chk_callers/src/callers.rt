@@ -1,8 +1,10 @@
 //! A peer that came to a door, and what it sent so far.
-ghost use Rattle.std.specs.Prelude.{◌≡◌, ◌⊎◌, ◌≤◌, ◌*◌, ◌++◌, length, IfOk, IsTrue, OnErr, OnOk};
-ghost use Rattle.std.specs.Duration.{as_nanos};
+ghost use Rattle.std.specs.Prelude.{◌≡◌, ◌⊎◌, ◌≤◌, ◌++◌, [], length, take, IfOk, OnErr, OnOk};
+ghost use Rattle.std.specs.Io.KnownBytes.{Consumes};
 ghost use Rattle.chk_peers.specs.Stages.{IsStageOf};
-ghost use Rattle.chk_callers.specs.Callers.{HasGrown, HasHeard, IsEnd, IsHeard};
+ghost use Rattle.chk_callers.specs.Callers.{count_of, HasGrown, IsEnd, IsHeard};
+ghost use Rattle.chk_callers.specs.Held.{IsAged};
+ghost use Rattle.chk_callers.specs.Moments.{IsNear};
 
 use crate::deadline::{Deadline, longest_wait};
 use chk_bytes::{Bytes, NoMemory};
@@ -42,31 +44,45 @@ enum Heard {
 }
 
 impl<R: Net + Clock> Caller<R> {
-    /// Its time here is over.
-    pub fn is_late(&self, rt: &R) -> bool
-        ensures start { as_nanos self.now.end.end ≡ 0 → IsTrue result }
+    /// The stage that it has at this moment, none where the clock gave none. The sender of a whole
+    /// message that sent nothing for 1,900 ms is stale: an agent waits 2,000 ms for an answer. One that
+    /// ended is gone when its time here is over.
+    pub fn aged(&self, now: Option<Duration>, stage: Stage) -> Stage
+        ensures { IsAged stage (IsNear self.now.quiet.end now STALE_MS)
+            (IsNear self.now.end.end now 0) result }
     {
-        self.end.is_over(rt)
-    }
-
-    /// It has sent nothing for 1,900 ms: an agent waits 2,000 ms for an answer.
-    pub fn is_stale(&self, rt: &R) -> bool
-        ensures near { as_nanos self.now.quiet.end ≤ STALE_MS * 1_000_000 → IsTrue result }
-    {
-        self.quiet.is_near(rt, STALE_MS)
+        match stage {
+            Stage::Whole if self.quiet.is_near(now, STALE_MS) => Stage::Stale,
+            Stage::Ended if self.end.is_near(now, 0) => Stage::Gone,
+            _ => stage,
+        }
     }
 
     /// The stage behind one read at a peer that was at this stage. Where there is no memory for what
     /// came, it is lost.
     pub fn hear(&mut self, rt: &R, stage: Stage, buffer: &mut Vec<u8>) -> Result<Stage, NoMemory>
-        ensures grown { OnOk result (HasGrown self.old.bytes self.new.bytes buffer.new.items) }
+        ensures grown { OnOk result (HasGrown (R.Stream.remaining self.old.stream)
+            (R.Stream.remaining self.new.stream) self.old.bytes self.new.bytes buffer.new.items) }
         ensures stage { IfOk result (λ heard. IsHeard stage self.old.bytes self.new.bytes heard) }
         ensures err { OnErr result (self.new.bytes ≡ self.old.bytes) }
     {
-        match read_once(&mut self.stream, buffer) {
+        let heard = read_once(&mut self.stream, buffer);
+        self.note(rt, stage, heard, buffer)
+    }
+
+    // The stage behind what one look gave.
+    fn note(&mut self, rt: &R, stage: Stage, heard: Heard, came: &[u8]) -> Result<Stage, NoMemory>
+        requires { count_of heard ≤ length came.now }
+        ensures grown { OnOk result
+            (self.new.bytes ≡ self.old.bytes ++ take (count_of heard) came.now) }
+        ensures stage { IfOk result (λ now. IsHeard stage self.old.bytes self.new.bytes now) }
+        ensures err { OnErr result (self.new.bytes ≡ self.old.bytes) }
+        ensures same { self.new.stream ≡ self.old.stream }
+    {
+        match heard {
             Heard::Nothing if stage.is_there() => Ok(stage),
             Heard::Nothing => Ok(self.passed(rt, stage)),
-            Heard::Some(count) => self.keep(rt, &buffer[..count]),
+            Heard::Some(count) => self.keep(rt, &came[..count]),
             Heard::End => Ok(self.ended()),
             Heard::Broken => Ok(Stage::Gone),
         }
@@ -76,6 +92,7 @@ impl<R: Net + Clock> Caller<R> {
         ensures kept { OnOk result (self.new.bytes ≡ self.old.bytes ++ came.now) }
         ensures stage { IfOk result (IsStageOf self.new.bytes) }
         ensures err { OnErr result (self.new.bytes ≡ self.old.bytes) }
+        ensures same { self.new.stream ≡ self.old.stream }
     {
         self.bytes.push_all(came)?;
         if let Ok(quiet) = Deadline::after(rt, longest_wait()) {
@@ -106,11 +123,10 @@ impl<R: Net + Clock> Caller<R> {
 }
 
 /// A peer that comes in, of which nothing was read yet.
-pub fn new_caller<R: Net + Clock>(
-    rt: &R,
-    alloc: Global,
-    stream: R::Stream,
-) -> io::Result<Caller<R>> {
+pub fn new_caller<R: Net + Clock>(rt: &R, alloc: Global, stream: R::Stream) -> io::Result<Caller<R>>
+    ensures stream { IfOk result (λ caller. caller.stream ≡ stream) }
+    ensures bytes { IfOk result (λ caller. caller.bytes ≡ []) }
+{
     Ok(Caller {
         stream,
         bytes: Bytes::new(alloc),
@@ -119,8 +135,11 @@ pub fn new_caller<R: Net + Clock>(
     })
 }
 
+// One read. What it took from the stream stands at the front of the buffer.
 fn read_once<S: Read>(stream: &mut S, buffer: &mut Vec<u8>) -> Heard
-    ensures { HasHeard (length buffer.new.items) result }
+    ensures room { count_of result ≤ length buffer.new.items }
+    ensures came { Consumes (S.remaining stream.old) (S.remaining stream.new)
+        (take (count_of result) buffer.new.items) }
 {
     match stream.read(buffer) {
         Ok(0) => Heard::End,

@@ -1,7 +1,8 @@
 //! The end of a wait.
 
-ghost use Rattle.std.specs.Prelude.{◌≡◌, ◌*◌, ◌≤◌, IfOk, IsTrue};
+ghost use Rattle.std.specs.Prelude.{◌≡◌, ◌*◌, ◌≤◌, ◌↔◌, IfOk, IsTrue};
 ghost use Rattle.std.specs.Duration.{as_nanos};
+ghost use Rattle.chk_callers.specs.Moments.{IsNear};
 
 use std::io;
 use std::time::{Clock, Duration};
@@ -41,19 +42,16 @@ impl Deadline {
     pub fn is_over<R: Clock>(&self, rt: &R) -> bool
         ensures start { as_nanos self.now.end ≡ 0 → IsTrue result }
     {
-        match self.left(rt) {
-            Ok(left) => left.is_zero(),
-            Err(_) => true,
-        }
+        self.is_near(rt.monotonic().ok(), 0)
     }
 
-    /// Whether no more than so many milliseconds are left, or the clock fails.
-    pub fn is_near<R: Clock>(&self, rt: &R, ms: u64) -> bool
-        ensures near { as_nanos self.now.end ≤ ms * 1_000_000 → IsTrue result }
+    /// Whether at this moment no more than so many milliseconds are left, or the clock gave none.
+    pub fn is_near(&self, now: Option<Duration>, ms: u64) -> bool
+        ensures { IsTrue result ↔ IsNear self.now.end now ms }
     {
-        match self.left(rt) {
-            Ok(left) => left <= Duration::from_millis(ms),
-            Err(_) => true,
+        match now {
+            Some(now) => self.end.saturating_sub(now) <= Duration::from_millis(ms),
+            None => true,
         }
     }
 

@@ -1,15 +1,16 @@
 //! The peers that a door holds: their streams, and how far their messages came.
-ghost use Rattle.std.specs.Prelude.{◌≡◌, ◌<◌, ◌≤◌, ◌↔◌, ◌∷◌, ◌++◌, [], length, remove, slice_set, slice_index_or, IfNone, IfOk, IfSome, IsSome, IsTrue, OnErr, OnOk};
+ghost use Rattle.std.specs.Prelude.{◌≡◌, ◌<◌, ◌≤◌, ◌↔◌, ◌∷◌, ◌++◌, [], length, remove, slice_get, slice_set, slice_index_or, IfNone, IfOk, IfSome, IsSome, IsTrue, OnErr, OnOk};
 ghost use Rattle.chk_peers.specs.declared.stages.Stage.TheVariants.{Gone};
 ghost use Rattle.chk_peers.specs.Stages.{leaving};
 ghost use Rattle.chk_callers.specs.Held.{callers_left, stages_left, without, IsAged};
+ghost use Rattle.chk_callers.specs.Moments.{IsNear};
 
-use crate::callers::Caller;
+use crate::callers::{Caller, STALE_MS};
 use chk_bytes::NoMemory;
 use chk_peers::{Stage, StageList};
 use std::alloc::Global;
 use std::net::Net;
-use std::time::Clock;
+use std::time::{Clock, Duration};
 
 /// How many bytes of messages are held before no more is read: 8 of the longest ones.
 pub const ROOM: usize = 33_685_504;
@@ -100,13 +101,14 @@ impl<R: Net + Clock> Held<R> {
         ensures stages { length self.new.stages.held.items ≡ length self.old.stages.held.items }
         ensures callers { length self.new.callers.items ≡ length self.old.callers.items }
     {
+        let now = rt.monotonic().ok();
         let mut room = self.room();
         let mut has_begun = false;
         let mut has_moved = false;
         for place in 0..self.callers.len() {
             let is_silent = self.stages.at(place).is_silent();
             if room > 0 || (!is_silent && !has_begun) {
-                let count = self.hear(rt, place, buffer)?;
+                let count = self.hear(rt, now, place, buffer)?;
                 room = room.saturating_sub(count);
                 has_moved = has_moved || count > 0;
             }
@@ -116,11 +118,17 @@ impl<R: Net + Clock> Held<R> {
     }
 
     // Reads once at a peer whose message isn't whole or is stale, and tells how many bytes came.
-    fn hear(&mut self, rt: &R, place: usize, buffer: &mut Vec<u8>) -> Result<usize, NoMemory>
+    fn hear(
+        &mut self,
+        rt: &R,
+        now: Option<Duration>,
+        place: usize,
+        buffer: &mut Vec<u8>,
+    ) -> Result<usize, NoMemory>
         ensures stages { length self.new.stages.held.items ≡ length self.old.stages.held.items }
         ensures callers { length self.new.callers.items ≡ length self.old.callers.items }
     {
-        let stage = self.aged(rt, place);
+        let stage = self.aged(now, place);
         self.stages.set(place, stage);
         if stage.is_open() || stage.is_stale() {
             return self.hear_at(rt, place, buffer);
@@ -128,16 +136,16 @@ impl<R: Net + Clock> Held<R> {
         Ok(0)
     }
 
-    // The stage that the peer has by now: a whole message grows stale, and one that ended is gone when its
-    // time here is over.
-    fn aged(&self, rt: &R, place: usize) -> Stage
-        ensures { IsAged (slice_index_or self.now.stages.held.items place Gone) result }
+    // The stage that the peer has at this moment.
+    fn aged(&self, now: Option<Duration>, place: usize) -> Stage
+        ensures { IfSome (slice_get self.now.callers.items place) (λ caller.
+            IsAged (slice_index_or self.now.stages.held.items place Gone)
+            (IsNear caller.quiet.end now STALE_MS) (IsNear caller.end.end now 0) result) }
     {
         let stage = self.stages.at(place);
         match self.callers.get(place) {
-            Some(caller) if stage.is_whole() && caller.is_stale(rt) => Stage::Stale,
-            Some(caller) if stage.is_ended() && caller.is_late(rt) => Stage::Gone,
-            _ => stage,
+            Some(caller) => caller.aged(now, stage),
+            None => stage,
         }
     }
 

@@ -1,8 +1,8 @@
 //! The folders that the files stand in.
-ghost use Rattle.std.specs.Prelude.{◌≡◌, ◌≤◌, IsSome};
+ghost use Rattle.std.specs.Prelude.{◌≡◌, ◌≤◌, IsErr, IsSome};
 ghost use Rattle.chk_faults.specs.Faults.{answer_of};
 ghost use Rattle.chk_host.specs.Folders.{IsFolderOf, folder_before};
-ghost use Rattle.chk_site.specs.Site.{MayFail};
+ghost use Rattle.chk_site.specs.Site.{MayFail, MayMiss};
 
 use chk_faults::SystemFault;
 use std::fs::{File, OpenFile, OpenOptions};
@@ -74,11 +74,13 @@ fn settle_folder<R: Files>(rt: &R, folder: &str) -> io::Result<()> {
 
 // Makes the folder where it isn't there. One that was made stays after a stop of the machine. Another
 // process may make it first.
-fn make_folder<R: Files>(rt: &R, folder: &str) -> io::Result<()> {
+fn make_folder<R: Files>(rt: &R, folder: &str) -> Result<(), SystemFault>
+    ensures { MayFail (answer_of result) }
+{
     match fs::create_dir(rt, folder) {
         Ok(()) => sync_folder(rt, folder),
         Err(_) if is_folder(rt, folder) => Ok(()),
-        Err(error) => Err(error),
+        Err(error) => Err(SystemFault::Failed(error)),
     }
 }
 
@@ -90,8 +92,20 @@ pub fn open_made<R: Files<File = File>>(rt: &R, name: &str) -> Result<File, Syst
     Ok(OpenOptions::new().write(true).create(true).open(rt, name)?)
 }
 
-/// There is a folder of this name.
-pub(crate) fn is_folder<R: Files>(rt: &R, name: &str) -> bool {
+/// A file that isn't there is missing only where its folder is there.
+pub(crate) fn no_file<T, R: Files>(rt: &R, name: &str) -> Result<T, SystemFault>
+    ensures refused { IsErr result }
+    ensures only { MayMiss (answer_of result) }
+{
+    if is_folder(rt, folder_of(name)) {
+        Err(SystemFault::Missing)
+    } else {
+        Err(SystemFault::failed(ErrorKind::NotFound, "its folder is not there"))
+    }
+}
+
+// There is a folder of this name.
+fn is_folder<R: Files>(rt: &R, name: &str) -> bool {
     match fs::metadata(rt, name) {
         Ok(found) => found.is_dir(),
         Err(_) => false,
@@ -115,18 +129,24 @@ fn folder_before(front: &str) -> &str
     if front.is_empty() { "/" } else { front }
 }
 
-/// Writes the names in the folder of this name through to the disk.
-pub(crate) fn sync_folder<R: Files>(rt: &R, name: &str) -> io::Result<()> {
-    File::open(rt, folder_of(name))?.sync_all()
+/// Writes the names in the folder of the file of this name through to the disk.
+pub(crate) fn sync_folder<R: Files>(rt: &R, name: &str) -> Result<(), SystemFault>
+    ensures { MayFail (answer_of result) }
+{
+    Ok(settle_folder(rt, folder_of(name))?)
 }
 
 /// The length of the file of this name, none where there is no such file.
-pub(crate) fn file_size<R: Files>(rt: &R, name: &str) -> io::Result<Option<u64>> {
+pub(crate) fn file_size<R: Files>(rt: &R, name: &str) -> Result<Option<u64>, SystemFault>
+    ensures { MayFail (answer_of result) }
+{
     match fs::metadata(rt, name) {
         Ok(found) if found.is_file() => Ok(Some(found.len())),
-        Ok(found) if found.is_dir() => Err(io::Error::from_raw_os_error(IS_A_DIRECTORY)),
-        Ok(_) => Err(io::Error::new(ErrorKind::InvalidInput, "it is not a file")),
+        Ok(found) if found.is_dir() => {
+            Err(SystemFault::Failed(io::Error::from_raw_os_error(IS_A_DIRECTORY)))
+        }
+        Ok(_) => Err(SystemFault::failed(ErrorKind::InvalidInput, "it is not a file")),
         Err(error) if error.kind() == ErrorKind::NotFound => Ok(None),
-        Err(error) => Err(error),
+        Err(error) => Err(SystemFault::Failed(error)),
     }
 }

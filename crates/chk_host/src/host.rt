@@ -1,22 +1,30 @@
 //! The machine: its runtime, and files by their names. The file written last and the file read
 //! last are kept open, so that a further piece costs one system call.
-ghost use Rattle.std.specs.Prelude.{◌≡◌, ◌≤◌, [], None, length, string_bytes, IfOk, IfSome, IsErr};
+ghost use Rattle.std.specs.Prelude.{◌≡◌, ◌≤◌, ◌↔◌, [], None, length, string_bytes, IfOk, IfSome, IsOk, IsTrue};
 ghost use Rattle.chk_site.specs.Site.{MayFail, MayExist, MayMiss, MayBeShort, MayMissOrBeShort};
 ghost use Rattle.chk_faults.specs.Faults.{answer_of};
 
-use crate::folders::{file_size, folder_of, is_folder, sync_folder};
+use crate::folders::{file_size, folder_of, no_file, sync_folder};
 use crate::kept::{Kept, is_named};
-use crate::limit::Limit;
 use chk_bytes::Bytes;
 use chk_faults::{SystemFault, text};
 use chk_listings::Listings;
 use chk_notices::Notices;
 use chk_rotations::Logs;
 use std::alloc::Global;
-use std::fs;
 use std::fs::{File, OpenFile, OpenOptions};
 use std::io::{ErrorKind, Write};
 use std::rt::Files;
+use std::{fs, io};
+
+/// Where the system tells the limits of a process.
+const LIMITS: &str = "/proc/self/limits";
+
+/// The line of the limit of files, up to its numbers.
+const LIMIT_FRONT: &str = "Max file size";
+
+/// The system's error for a file that would become longer than it may.
+const TOO_LARGE: i32 = 27;
 
 /// At most two files are open: one to append to, and one to read.
 #[derive(Drop)]
@@ -32,7 +40,9 @@ pub struct Host<R: Files<File = File>> {
     /// What is known of the logs that were looked at.
     pub(crate) logs: Logs,
     pub notices: Notices,
-    pub(crate) limit: Limit,
+    /// The longest that a file may become, in bytes. The system ends a process that writes on behind
+    /// it, so that it is looked at before each append. It is read once, at the start.
+    longest: u64,
     pub(crate) buffer: Vec<u8>,
 }
 
@@ -46,10 +56,10 @@ impl<R: Files<File = File>> Host<R> {
         ensures logs { result.logs.seen.items ≡ [] }
         ensures buffer { result.buffer.items ≡ [] }
     {
-        let limit = Limit::of(&rt, alloc);
+        let longest = longest_file(&rt, alloc);
         Host {
             rt,
-            limit,
+            longest,
             writing: None,
             unsettled: None,
             settled_mark: None,
@@ -97,10 +107,32 @@ impl<R: Files<File = File>> Host<R> {
         ensures { MayFail (answer_of result) }
     {
         let mut writer = self.writer(alloc, name)?;
-        self.limit.allow(&writer.file, bytes)?;
+        self.check_room(&writer.file, bytes.len())?;
         writer.file.write_all(bytes)?;
         self.writing = Some(writer);
         Ok(())
+    }
+
+    /// `Failed` where the file may not take so many bytes more at its end.
+    pub(crate) fn check_room(&self, file: &File, count: usize) -> Result<(), SystemFault>
+        ensures free { self.now.longest ≡ u64.MAX → IsOk result }
+        ensures only { MayFail (answer_of result) }
+    {
+        if self.longest == u64::MAX {
+            return Ok(());
+        }
+        let size = file.metadata()?.len();
+        if self.may_reach(size.saturating_add(count as u64)) {
+            return Ok(());
+        }
+        Err(SystemFault::Failed(io::Error::from_raw_os_error(TOO_LARGE)))
+    }
+
+    // A file may become so long.
+    fn may_reach(&self, length: u64) -> bool
+        ensures { IsTrue result ↔ (length ≤ self.now.longest) }
+    {
+        length <= self.longest
     }
 
     /// A file that isn't there is `Failed`.
@@ -172,7 +204,7 @@ impl<R: Files<File = File>> Host<R> {
         self.settle()?;
         self.forget(name);
         match fs::remove_file(&self.rt, name) {
-            Ok(()) => Ok(sync_folder(&self.rt, name)?),
+            Ok(()) => sync_folder(&self.rt, name),
             Err(error) if error.kind() == ErrorKind::NotFound => no_file(&self.rt, name),
             Err(error) => Err(SystemFault::Failed(error)),
         }
@@ -181,10 +213,9 @@ impl<R: Files<File = File>> Host<R> {
     pub fn size(&self, name: &str) -> Result<u64, SystemFault>
         ensures { MayMiss (answer_of result) }
     {
-        match file_size(&self.rt, name) {
-            Ok(Some(size)) => Ok(size),
-            Ok(None) => no_file(&self.rt, name),
-            Err(error) => Err(SystemFault::Failed(error)),
+        match file_size(&self.rt, name)? {
+            Some(size) => Ok(size),
+            None => no_file(&self.rt, name),
         }
     }
 
@@ -399,14 +430,24 @@ fn is_mark(name: &str) -> bool {
     name.ends_with(".mark")
 }
 
-// A file that isn't there is missing only where its folder is there.
-fn no_file<T, R: Files>(rt: &R, name: &str) -> Result<T, SystemFault>
-    ensures refused { IsErr result }
-    ensures only { MayMiss (answer_of result) }
-{
-    if is_folder(rt, folder_of(name)) {
-        Err(SystemFault::Missing)
-    } else {
-        Err(SystemFault::failed(ErrorKind::NotFound, "its folder is not there"))
-    }
+// The longest that a file of this process may become; where the system tells none there is no limit.
+fn longest_file<R: Files>(rt: &R, alloc: Global) -> u64 {
+    told_limit(rt, alloc).unwrap_or(u64::MAX)
+}
+
+// What the system tells of it.
+fn told_limit<R: Files>(rt: &R, alloc: Global) -> Option<u64> {
+    let file = File::open(rt, LIMITS).ok()?;
+    let text = io::read_to_string(alloc, file).ok()?;
+    limit_among(text.as_str())
+}
+
+// The limit of files among these lines.
+fn limit_among(text: &str) -> Option<u64> {
+    let line = text.lines().find(|line| line.starts_with(LIMIT_FRONT))?;
+    line[LIMIT_FRONT.len()..]
+        .split_whitespace()
+        .next()?
+        .parse()
+        .ok()
 }

@@ -1,5 +1,5 @@
 //! A file that is kept open.
-ghost use Rattle.std.specs.Prelude.{◌≡◌, ◌≤◌, ◌↔◌, length, string_bytes, IfOk, IsSomeAnd, IsTrue};
+ghost use Rattle.std.specs.Prelude.{◌≡◌, ◌≤◌, ◌↔◌, length, string_bytes, IfOk, IfSome, IsSomeAnd, IsTrue};
 ghost use Rattle.chk_site.specs.Site.{MayBeShort, MayFail};
 ghost use Rattle.chk_faults.specs.Faults.{answer_of};
 
@@ -7,9 +7,11 @@ use chk_bytes::{Bytes, NoMemory};
 use chk_faults::SystemFault;
 use chk_rotations::FileId;
 use std::alloc::Global;
+use std::fs;
 use std::fs::{File, Metadata, OpenFile};
 use std::io::ErrorKind;
 use std::os::unix::fs::{FileExt, MetadataExt};
+use std::rt::Files;
 
 /// A read of so many bytes or fewer takes the room for all of them, without a look at the file's size.
 const SMALL: u32 = 16_384;
@@ -20,6 +22,14 @@ const MOST_SIGNALS: u32 = 1_000;
 /// No file has bytes from here on.
 const FAR: u64 = 1 << 62;
 
+/// A file by its number and its length, as a look found them.
+#[derive(Clone, Copy)]
+pub(crate) struct Base {
+    pub file: FileId,
+    pub size: u64,
+}
+
+/// A file that is open, and the name by which it was opened.
 #[derive(Drop)]
 pub struct Kept {
     pub name: String,
@@ -34,8 +44,15 @@ impl Kept {
         Kept { name, file }
     }
 
-    /// The file that is open is this one.
-    pub(crate) fn is_file(&self, file: FileId) -> bool {
+    /// Itself, where the file that is open is this one.
+    pub(crate) fn if_file(self, file: FileId) -> Option<Kept>
+        ensures { IfSome result (λ kept. kept ≡ self) }
+    {
+        if self.is_file(file) { Some(self) } else { None }
+    }
+
+    // The file that is open is this one.
+    fn is_file(&self, file: FileId) -> bool {
         match self.file.metadata() {
             Ok(open) => id_of(&open) == file,
             Err(_) => false,
@@ -107,8 +124,23 @@ impl Kept {
     }
 }
 
-/// Which file it is of which the system told this.
-pub(crate) fn id_of(found: &Metadata) -> FileId {
+/// The file of this name; none where there is none, or something else than a file.
+pub(crate) fn found_file<R: Files>(rt: &R, name: &str) -> Result<Option<Base>, SystemFault>
+    ensures { MayFail (answer_of result) }
+{
+    match fs::metadata(rt, name) {
+        Ok(found) if found.is_file() => Ok(Some(Base {
+            file: id_of(&found),
+            size: found.len(),
+        })),
+        Ok(_) => Ok(None),
+        Err(error) if error.kind() == ErrorKind::NotFound => Ok(None),
+        Err(error) => Err(SystemFault::Failed(error)),
+    }
+}
+
+// Which file it is of which the system told this.
+fn id_of(found: &Metadata) -> FileId {
     FileId {
         device: found.dev(),
         number: found.ino(),

@@ -4,7 +4,6 @@
 mod folders;
 mod host;
 mod kept;
-mod limit;
 mod logs;
 
 pub use folders::{Folders, Unsettled, make_folders, open_made};

@@ -8,7 +8,7 @@ ghost use Rattle.chk_host.specs.Folders.{IsBaseOf};
 
 use crate::folders::{file_size, folder_of};
 use crate::host::Host;
-use crate::kept::{Kept, id_of};
+use crate::kept::{Base, Kept, found_file};
 use chk_bytes::{Bytes, NoMemory};
 use chk_faults::{SystemFault, make_room, text};
 use chk_listings::{Listing, Stamp, Wanted, names_in};
@@ -16,7 +16,6 @@ use chk_notices::clock_moment;
 use chk_rotations::{Change, FileId, Generation, Log, Passed, first_of, newest_of};
 use chk_site::{Part, Piece, Suffix};
 use std::alloc::Global;
-use std::fs;
 use std::fs::{File, OpenFile, OpenOptions};
 use std::io::{Eprint, ErrorKind, Write};
 use std::rt::Files;
@@ -30,13 +29,6 @@ const MORE_TRIES: u32 = 3;
 struct Front {
     bytes: Bytes,
     is_whole: bool,
-}
-
-/// A log's base file to its readers, as a look found it.
-#[derive(Clone, Copy)]
-struct Base {
-    file: FileId,
-    size: u64,
 }
 
 /// What was known of a log before a look.
@@ -97,7 +89,7 @@ impl<R: Files<File = File> + Clock + Eprint> Host<R> {
             .append(true)
             .create(true)
             .open(&self.rt, path)?;
-        self.limit.allow(&file, bytes)?;
+        self.check_room(&file, bytes.len())?;
         Ok(file.write_all(bytes)?)
     }
 
@@ -356,7 +348,7 @@ impl<R: Files<File = File> + Clock + Eprint> Host<R> {
         ensures { MayFail (answer_of result) }
     {
         if let Some(kept) = self.reading.take() {
-            if kept.is_file(file) {
+            if let Some(kept) = kept.if_file(file) {
                 return Ok(Some(kept));
             }
         }
@@ -364,12 +356,7 @@ impl<R: Files<File = File> + Clock + Eprint> Host<R> {
         let Some(opened) = self.opened(name)? else {
             return Ok(None);
         };
-        let kept = Kept::new(kept_name, opened);
-        if kept.is_file(file) {
-            Ok(Some(kept))
-        } else {
-            Ok(None)
-        }
+        Ok(Kept::new(kept_name, opened).if_file(file))
     }
 
     // The file, opened to be read; none where it isn't there any more.
@@ -387,7 +374,7 @@ impl<R: Files<File = File> + Clock + Eprint> Host<R> {
     fn look(&mut self, alloc: Global, path: &str) -> Result<Seen, SystemFault>
         ensures { MayFail (answer_of result) }
     {
-        let named = self.found(path)?;
+        let named = found_file(&self.rt, path)?;
         let Some(place) = self.logs.place(alloc, path)? else {
             return Ok(Seen::Named(named));
         };
@@ -463,7 +450,7 @@ impl<R: Files<File = File> + Clock + Eprint> Host<R> {
             return Ok(Seen::Changed);
         };
         let name = joined(alloc, path, suffix.as_str())?;
-        let found = self.found(name.as_str())?.filter(|base| base.file == file);
+        let found = found_file(&self.rt, name.as_str())?.filter(|base| base.file == file);
         let now = self.moment()?;
         if !self.stays_held(place, found, named, now) {
             return Ok(Seen::Changed);
@@ -515,27 +502,12 @@ impl<R: Files<File = File> + Clock + Eprint> Host<R> {
             return Ok(None);
         };
         let name = joined(alloc, path, suffix.as_str())?;
-        let found = self.found(name.as_str())?;
+        let found = found_file(&self.rt, name.as_str())?;
         Ok(found.map(|base| Generation {
             suffix,
             file: base.file,
             size: base.size,
         }))
-    }
-
-    // The file of this name; none where there is none, or something else than a file.
-    fn found(&self, name: &str) -> Result<Option<Base>, SystemFault>
-        ensures { MayFail (answer_of result) }
-    {
-        match fs::metadata(&self.rt, name) {
-            Ok(found) if found.is_file() => Ok(Some(Base {
-                file: id_of(&found),
-                size: found.len(),
-            })),
-            Ok(_) => Ok(None),
-            Err(error) if error.kind() == ErrorKind::NotFound => Ok(None),
-            Err(error) => Err(SystemFault::Failed(error)),
-        }
     }
 
     // Looks at the generation that was passed last for bytes that came later, and tells of them.
@@ -549,7 +521,7 @@ impl<R: Files<File = File> + Clock + Eprint> Host<R> {
         let Ok(name) = joined(alloc, path, after) else {
             return;
         };
-        let Ok(Some(base)) = self.found(name.as_str()) else {
+        let Ok(Some(base)) = found_file(&self.rt, name.as_str()) else {
             return;
         };
         if let Some(count) = self.came(alloc, path, after, base.size, now) {

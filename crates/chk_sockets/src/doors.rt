@@ -1,8 +1,9 @@
 //! The doors at which messages are taken. They stay open, so that no message is lost between
 //! takings.
-ghost use Rattle.std.specs.Prelude.{◌≡◌, []};
+ghost use Rattle.std.specs.Prelude.{◌≡◌, ◌∷◌, ◌++◌, [], string_bytes, OnErr, OnOk};
 ghost use Rattle.chk_site.specs.Site.{MayFail};
 ghost use Rattle.chk_faults.specs.Faults.{answer_of};
+ghost use Rattle.chk_sockets.specs.Doors.{is_open, IsOpen};
 
 use crate::addresses::look_up;
 use crate::datagrams::next_datagram;
@@ -100,17 +101,35 @@ impl<R: Net + Clock> Doors<R> {
 
     // Opens the door where it isn't open.
     fn open(&mut self, rt: &R, alloc: Global, name: &str) -> Result<(), SystemFault>
-        ensures { MayFail (answer_of result) }
+        ensures held { OnOk result (IsOpen self.old.doors.items self.new.doors.items
+            (λ door. string_bytes door.name) name.now) }
+        ensures err { OnErr result (self.new.doors.items ≡ self.old.doors.items) }
+        ensures only { MayFail (answer_of result) }
     {
-        if self.doors.iter().any(|door| door.name.as_str() == name) {
+        if self.has(name) {
             return Ok(());
         }
         let kept_name = text(alloc, name)?;
         make_place(&mut self.doors)?;
-        let door = Door {
+        let socket = Socket::open(rt, alloc, name)?;
+        self.keep(Door {
             name: kept_name,
-            socket: Socket::open(rt, alloc, name)?,
-        };
+            socket,
+        })
+    }
+
+    // The door of this name is open.
+    fn has(&self, name: &str) -> bool
+        ensures { result ≡ is_open (λ door. string_bytes door.name) name.now self.now.doors.items }
+    {
+        self.doors.iter().any(|door| door.name.as_str() == name)
+    }
+
+    fn keep(&mut self, door: Door<R>) -> Result<(), SystemFault>
+        ensures held { OnOk result (self.new.doors.items ≡ self.old.doors.items ++ door ∷ []) }
+        ensures err { OnErr result (self.new.doors.items ≡ self.old.doors.items) }
+        ensures only { MayFail (answer_of result) }
+    {
         self.doors.push(door).map_err(|_| SystemFault::failed(
             ErrorKind::OutOfMemory,
             "no place for the door",

@@ -9,7 +9,6 @@ mod messages;
 mod sends;
 mod stream_door;
 mod streams;
-mod watching;
 
 pub use chk_faults::{SystemFault, make_place, make_room, text};
 pub use messages::Messages;

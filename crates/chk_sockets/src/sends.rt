@@ -1,10 +1,11 @@
 //! Messages that were sent, each on a stream of its own, on which its answer comes.
-ghost use Rattle.std.specs.Prelude.{◌≡◌, []};
+ghost use Rattle.std.specs.Prelude.{◌≡◌, ◌⊎◌, ◌∷◌, ◌++◌, [], None, nat_eq, position, IsErr, OnErr, OnOk};
 ghost use Rattle.chk_site.specs.Site.{MayFail};
 ghost use Rattle.chk_faults.specs.Faults.{answer_of};
+ghost use Rattle.chk_sockets.specs.Sends.{is_unanswered, with_most, IsClosed, IsSent};
 
 use crate::addresses::{Routes, look_up};
-use crate::streams::{connected, put_message, reply_on, share_of_wait};
+use crate::streams::{put_message, reply_on, share_of_wait};
 use chk_bytes::Bytes;
 use chk_callers::longest_wait;
 use chk_faults::{SystemFault, make_place, make_room, text};
@@ -12,7 +13,7 @@ use chk_peers::tells_its_end;
 use std::alloc::Global;
 use std::io;
 use std::io::ErrorKind;
-use std::net::{Net, OpenStream, Shutdown, SocketAddr};
+use std::net::{Net, OpenStream, Shutdown, SocketAddr, TcpStream};
 use std::time::Clock;
 
 /// How many messages keep their streams; then the oldest one goes.
@@ -60,7 +61,10 @@ impl<R: Net + Clock> Sends<R> {
         address: &str,
         bytes: &[u8],
     ) -> Result<(), SystemFault>
-        ensures { MayFail (answer_of result) }
+        ensures sent { OnOk result (IsSent self.old.open.items self.new.open.items
+            (λ sent. sent.message) message bytes.now) }
+        ensures err { OnErr result (self.new.open.items ≡ self.old.open.items) }
+        ensures only { MayFail (answer_of result) }
     {
         make_place(&mut self.open)?;
         let kept_text = text(alloc, address)?;
@@ -82,15 +86,18 @@ impl<R: Net + Clock> Sends<R> {
     }
 
     fn keep(&mut self, sent: Sent<R>) -> Result<(), SystemFault>
-        ensures { MayFail (answer_of result) }
+        ensures kept { OnOk result
+            (self.new.open.items ≡ with_most (self.old.open.items ++ sent ∷ [])) }
+        ensures err { OnErr result (self.new.open.items ≡ self.old.open.items) }
+        ensures only { MayFail (answer_of result) }
     {
-        if self.open.len() >= MOST_STREAMS {
+        if self.open.push(sent).is_err() {
+            return Err(SystemFault::failed(ErrorKind::OutOfMemory, "no place for the stream"));
+        }
+        if self.open.len() > MOST_STREAMS {
             let _oldest = self.open.remove(0);
         }
-        self.open.push(sent).map_err(|_| SystemFault::failed(
-            ErrorKind::OutOfMemory,
-            "no place for the stream",
-        ))
+        Ok(())
     }
 
     // What was found for the address is forgotten, so that it is looked up again where the send to it
@@ -101,17 +108,18 @@ impl<R: Net + Clock> Sends<R> {
         alloc: Global,
         address: &str,
     ) -> Result<(R::Stream, SocketAddr), SystemFault>
-        ensures { MayFail (answer_of result) }
+        ensures same { self.new.open ≡ self.old.open }
+        ensures only { MayFail (answer_of result) }
     {
         if let Some(route) = self.routes.take(address) {
-            let stream = connected(rt, route, longest_wait())?;
+            let stream = TcpStream::connect_timeout(rt, &route, longest_wait())?;
             return Ok((stream, route));
         }
         let found = look_up(rt, alloc, address)?;
         let wait = share_of_wait(found.len());
         let mut last = io::Error::new(ErrorKind::NotFound, "the host has no address");
         for route in found {
-            match connected(rt, route, wait) {
+            match TcpStream::connect_timeout(rt, &route, wait) {
                 Ok(stream) => return Ok((stream, route)),
                 Err(error) => last = error,
             }
@@ -122,9 +130,13 @@ impl<R: Net + Clock> Sends<R> {
     /// The answer to this message; its stream ends. Where none comes, the address that was found for its
     /// peer is forgotten.
     pub fn got(&mut self, rt: &R, alloc: Global, message: u64) -> Result<Bytes, SystemFault>
-        ensures { MayFail (answer_of result) }
+        ensures closed { OnOk result
+            (IsClosed self.old.open.items self.new.open.items (λ sent. sent.message) message) }
+        ensures err { OnErr result ((self.new.open.items ≡ self.old.open.items)
+            ⊎ IsClosed self.old.open.items self.new.open.items (λ sent. sent.message) message) }
+        ensures only { MayFail (answer_of result) }
     {
-        let Some(place) = self.open.iter().position(|sent| sent.message == message) else {
+        let Some(place) = self.place_of(message) else {
             return Err(SystemFault::failed(
                 ErrorKind::NotConnected,
                 "the message has no stream any more",
@@ -138,9 +150,17 @@ impl<R: Net + Clock> Sends<R> {
         }
         reply
     }
+
+    fn place_of(&self, message: u64) -> Option<usize>
+        ensures { result ≡ position (λ sent. nat_eq sent.message message) self.now.open.items }
+    {
+        self.open.iter().position(|sent| sent.message == message)
+    }
 }
 
 // A message whose answer nobody asks for.
-fn is_unanswered(bytes: &[u8]) -> bool {
+fn is_unanswered(bytes: &[u8]) -> bool
+    ensures { result ≡ is_unanswered bytes.now }
+{
     bytes.starts_with(TEED)
 }

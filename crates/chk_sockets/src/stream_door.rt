@@ -1,20 +1,23 @@
 //! A door at a TCP address: a socket that listens, and the streams of its peers.
-ghost use Rattle.std.specs.Prelude.{◌≡◌, ◌≤◌, ◌↔◌, [], None, length, IfErr, IfNone, IfOk, IfSome, IsSomeAnd, IsTrue};
+ghost use Rattle.std.specs.Prelude.{◌≡◌, ◌≤◌, ◌↔◌, [], None, length, option_map, IfErr, IfNone, IfOk, IfSome, IsSomeAnd, IsTrue, OnErr, OnOk};
+ghost use Rattle.mio.specs.Events.{capacity as events_capacity};
 ghost use Rattle.chk_faults.specs.Faults.{answer_of, call_fault};
 ghost use Rattle.chk_site.specs.Site.{MayFail};
 ghost use Rattle.chk_site.specs.declared.acts.CallFault.TheVariants.{Failed};
 
-use crate::streams::{bound_waits, piece_before, write_before};
-use crate::watching::Watch;
+use crate::streams::{piece_before, write_before};
 use chk_bytes::Bytes;
 use chk_callers::{Caller, Deadline, Held, Leaving, longest_wait, new_caller};
 use chk_faults::{SystemFault, front_of};
 use chk_peers::Stage;
+use mio::unix::SourceFd;
+use mio::{Events, Interest, Poll, Token};
 use std::alloc::Global;
-use std::io;
 use std::io::ErrorKind;
 use std::net::{Net, OpenListener, OpenStream, SocketAddr};
+use std::os::fd::AsRawFd;
 use std::time::{Clock, Duration};
+use std::{io, thread};
 
 /// How many peers are held; then the oldest silent one goes.
 pub const MOST_HELD: usize = 256;
@@ -27,6 +30,13 @@ const MOST_LOOKS: u64 = 64;
 
 /// How many milliseconds a taking gives further pieces.
 const MORE_MS: u64 = 6_000;
+
+/// How many milliseconds the wait between two looks takes at most. What the system didn't report is
+/// seen behind it.
+const LOOK_MS: u64 = 50;
+
+/// How many of the sockets that are ready are told at once; it is enough that one is.
+const MOST_TOLD: usize = 16;
 
 /// A listening socket. It stays open between takings.
 #[derive(Drop)]
@@ -117,7 +127,7 @@ impl<R: Net + Clock> StreamDoor<R> {
             Ok(end) if !has_ended => Some(end),
             _ => None,
         };
-        let _bounded = bound_waits(&stream);
+        let _waits = stream.set_nonblocking(false);
         self.taken = Some(Taken {
             number,
             stream,
@@ -133,7 +143,11 @@ impl<R: Net + Clock> StreamDoor<R> {
         alloc: Global,
         buffer: &mut Vec<u8>,
     ) -> Result<Bytes, SystemFault>
-        ensures { MayFail (answer_of result) }
+        ensures none { IfNone self.old.taken (IfOk result (λ bytes. bytes ≡ [])) }
+        ensures same { OnOk result (option_map (λ taken. taken.number) self.new.taken
+            ≡ option_map (λ taken. taken.number) self.old.taken) }
+        ensures ended { OnErr result (self.new.taken ≡ None) }
+        ensures only { MayFail (answer_of result) }
     {
         let Some(mut taken) = self.taken.take() else {
             return Ok(Bytes::new(alloc));
@@ -336,6 +350,43 @@ impl<R: Net + Clock> Taken<R> {
         match end.or_after(rt, longest_wait()) {
             Ok(deadline) => piece_before(rt, deadline, &mut self.stream, buffer),
             Err(_) => 0,
+        }
+    }
+}
+
+/// The sockets that are watched until they are closed. A wait for the first of them ends by itself.
+#[derive(Drop)]
+struct Watch {
+    poll: Poll,
+    told: Events,
+}
+
+impl Watch {
+    fn new<R: Net>(rt: &R, alloc: Global) -> io::Result<Watch>
+        ensures { IfOk result (λ watch. events_capacity watch.told ≡ MOST_TOLD) }
+    {
+        Ok(Watch {
+            poll: Poll::new(rt)?,
+            told: Events::with_capacity(alloc, MOST_TOLD)?,
+        })
+    }
+
+    // Watches this socket too. Where the system has no room for it that is no fault: what comes at it
+    // is seen behind the longest wait.
+    fn add<S: AsRawFd>(&self, socket: &S) {
+        let number = socket.as_raw_fd();
+        let mut source = SourceFd(&number);
+        let registry = self.poll.registry();
+        let _watched = registry.register(&mut source, Token(0), Interest::READABLE);
+    }
+
+    // Waits until something comes at one of the sockets, and no longer than is left.
+    fn wait<R: Clock>(&mut self, rt: &R, left: Duration)
+        ensures { events_capacity self.new.told ≡ events_capacity self.old.told }
+    {
+        let wait = left.min(Duration::from_millis(LOOK_MS));
+        if self.poll.poll(&mut self.told, Some(wait)).is_err() {
+            thread::sleep(rt, wait.min(Duration::from_millis(1)));
         }
     }
 }

@@ -1,8 +1,10 @@
 //! Streams to peers, with every wait bounded.
 ghost use Rattle.std.specs.Prelude.{◌≡◌, ◌*◌, ◌/◌, ◌<◌, ◌≤◌, length, max, IfOk, IfSome};
 ghost use Rattle.std.specs.Duration.{as_nanos};
+ghost use Rattle.std.specs.Io.KnownBytes.{WriteAppends};
 ghost use Rattle.chk_site.specs.Site.{MayFail};
 ghost use Rattle.chk_faults.specs.Faults.{answer_of};
+ghost use Rattle.chk_sockets.specs.Streams.{IsPut};
 
 use chk_bytes::Bytes;
 use chk_callers::{Deadline, WAIT_MS, longest_wait};
@@ -10,7 +12,7 @@ use chk_faults::SystemFault;
 use std::alloc::Global;
 use std::io;
 use std::io::{ErrorKind, Read, Write};
-use std::net::{Net, OpenStream, SocketAddr, TcpStream};
+use std::net::OpenStream;
 use std::time::{Clock, Duration};
 
 /// How many bytes of a reply are read at most.
@@ -26,59 +28,65 @@ pub fn share_of_wait(addresses: usize) -> Duration
     Duration::from_millis(WAIT_MS / (addresses as u64).max(1))
 }
 
-/// A new stream to this address.
-pub fn connected<R: Net>(rt: &R, address: SocketAddr, wait: Duration) -> io::Result<R::Stream> {
-    let stream = TcpStream::connect_timeout(rt, &address, wait)?;
-    bound_waits(&stream)?;
-    Ok(stream)
-}
-
 /// Puts the message on the stream: in 2,000 ms and 1 ms more for each 125 bytes, so that a peer that
 /// reads less than 125,000 bytes a second doesn't hold its sender; and no write waits longer than
-/// 2,000 ms.
+/// 2,000 ms. Where it fails, a front of the message may have been put.
 pub fn put_message<R: Clock, S: Write + OpenStream>(
     rt: &R,
     stream: &mut S,
     bytes: &[u8],
-) -> io::Result<()> {
+) -> io::Result<()>
+    ensures { IsPut (S.contents stream.old) (S.contents stream.new) bytes.now result }
+{
     let more = Duration::from_millis(bytes.len() as u64 / LEAST_PER_MS);
     let deadline = Deadline::after(rt, longest_wait().saturating_add(more))?;
     write_before(rt, deadline, stream, bytes)
 }
 
-/// Each read and each write ends in time.
-pub fn bound_waits<S: OpenStream>(stream: &S) -> io::Result<()> {
-    stream.set_nonblocking(false)?;
-    stream.set_read_timeout(Some(longest_wait()))?;
-    stream.set_write_timeout(Some(longest_wait()))
-}
-
-/// Writes all of the bytes before this moment. A write that a signal broke off is made again.
+/// Writes all of the bytes before this moment. A write that a signal broke off is made again. Where it
+/// fails, a front of the bytes may have been written.
 pub fn write_before<R: Clock, S: Write + OpenStream>(
     rt: &R,
     deadline: Deadline,
     stream: &mut S,
     bytes: &[u8],
-) -> io::Result<()> {
+) -> io::Result<()>
+    ensures { IsPut (S.contents stream.old) (S.contents stream.new) bytes.now result }
+{
     let mut rest = bytes;
     for _ in 0..u64::MAX {
         if rest.is_empty() {
             return Ok(());
         }
-        let left = deadline.left(rt)?;
-        if left.is_zero() {
-            break;
+        match written_before(rt, deadline, stream, rest) {
+            Ok(count) => rest = &rest[count..],
+            Err(error) => return Err(error),
         }
-        stream.set_write_timeout(Some(left.min(longest_wait())))?;
-        let count = written(stream, rest)?;
-        rest = &rest[count..];
     }
     Err(io::Error::from(ErrorKind::TimedOut))
 }
 
-// How many bytes one write took, none where a signal broke it off.
+// How many bytes one write before this moment took, none where a signal broke it off.
+fn written_before<R: Clock, S: Write + OpenStream>(
+    rt: &R,
+    deadline: Deadline,
+    stream: &mut S,
+    bytes: &[u8],
+) -> io::Result<usize>
+    ensures most { IfOk result (λ count. count ≤ length bytes.now) }
+    ensures bytes { WriteAppends (S.contents stream.old) (S.contents stream.new) result bytes.now }
+{
+    let left = deadline.left(rt)?;
+    if left.is_zero() {
+        return Err(io::Error::from(ErrorKind::TimedOut));
+    }
+    stream.set_write_timeout(Some(left.min(longest_wait())))?;
+    written(stream, bytes)
+}
+
 fn written<S: Write>(stream: &mut S, bytes: &[u8]) -> io::Result<usize>
-    ensures { IfOk result (λ count. count ≤ length bytes.now) }
+    ensures most { IfOk result (λ count. count ≤ length bytes.now) }
+    ensures bytes { WriteAppends (S.contents stream.old) (S.contents stream.new) result bytes.now }
 {
     match stream.write(bytes) {
         Ok(0) => Err(io::Error::from(ErrorKind::WriteZero)),
