@@ -1,0 +1,181 @@
+#!/usr/bin/env python3
+"""Tells what a gate's run costs, crate by crate, and writes it as docs/GATE.md.
+
+usage: tools/make/gate_times.py [--to FILE] [COMMAND...]
+
+Runs COMMAND at the top of the checkout, by default `rt ci --anew`, which proves and tries all from
+nothing, and looks twice a second at what runs below it. What a proof takes after its last look is
+in the sum of all alone, so the sums of the crates are a little less. Memory is that of the largest
+process. The script ends with the status of the command, and writes nothing where that isn't 0.
+"""
+import argparse
+import collections
+import os
+import re
+import resource
+import subprocess
+import sys
+import time
+
+TOP = os.path.dirname(os.path.dirname(os.path.dirname(os.path.abspath(__file__))))
+TICKS = os.sysconf("SC_CLK_TCK")
+PARTS = ("proof", "tests", "edits")
+
+
+class Task:
+    """A prover at work: whose crate, which part of the gate, its seconds and its largest memory in KiB."""
+
+    def __init__(self, crate, part):
+        self.crate, self.part, self.seconds, self.memory = crate, part, 0.0, 0
+
+
+def read(pid, name):
+    with open(f"/proc/{pid}/{name}", encoding="utf-8", errors="replace") as file:
+        return file.read()
+
+
+def stats():
+    """Parent, start and own processor seconds of each process."""
+    found = {}
+    for pid in filter(str.isdigit, os.listdir("/proc")):
+        try:
+            fields = read(pid, "stat").rpartition(")")[2].split()
+        except OSError:
+            continue
+        found[int(pid)] = int(fields[1]), fields[19], (int(fields[11]) + int(fields[12])) / TICKS
+    return found
+
+
+def below(root, found):
+    """The processes that a process began, and those that these began."""
+    children = collections.defaultdict(list)
+    for pid, (parent, _, _) in found.items():
+        children[parent].append(pid)
+    left, seen = [root], []
+    while left:
+        more = children[left.pop()]
+        seen += more
+        left += more
+    return seen
+
+
+def task_of(pid):
+    """What a process proves, if it is a prover."""
+    words = read(pid, "cmdline").split("\0")
+    if len(words) < 2 or os.path.basename(words[0]) != "rattle" or words[1] not in ("build", "check"):
+        return None
+    if "--crate-name" not in words:
+        return None
+    of_edits = os.path.basename(os.readlink(f"/proc/{pid}/cwd")).startswith("rt-edit-")
+    part = "tests" if "--test" in words else "edits" if of_edits else "proof"
+    return Task(words[words.index("--crate-name") + 1], part)
+
+
+def look(root, tasks):
+    """Adds what each prover took until now."""
+    found = stats()
+    for pid in below(root, found):
+        _, start, seconds = found[pid]
+        try:
+            if tasks.get((pid, start)) is None:
+                tasks[pid, start] = task_of(pid)
+            task = tasks[pid, start]
+            if task is not None:
+                task.seconds = seconds
+                peak = re.search(r"VmHWM:\s+(\d+)", read(pid, "status"))
+                task.memory = max(task.memory, int(peak[1]) if peak else 0)
+        except OSError:
+            continue
+
+
+def deps_of(top):
+    """The crates that each crate names, in the order of crates.txt."""
+    found = {}
+    with open(f"{top}/crates.txt", encoding="utf-8") as file:
+        for line in file:
+            name, colon, deps = line.partition(":")
+            if colon and not line.startswith("#"):
+                found[name.split()[0]] = deps.split()
+    return {name: [dep for dep in deps if dep in found] for name, deps in found.items()}
+
+
+def all_below(name, deps):
+    left, seen = [name], set()
+    while left:
+        for dep in deps[left.pop()]:
+            if dep not in seen:
+                seen.add(dep)
+                left.append(dep)
+    return seen
+
+
+def edits_of(top, name):
+    folder = f"{top}/crates/{name}/must-fail"
+    return len([each for each in os.listdir(folder) if each.endswith(".edit")]) if os.path.isdir(folder) else 0
+
+
+def table(tasks, top):
+    """A row a crate: its seconds by part, its edits, its memory, and the crates above it; dearest first."""
+    deps = deps_of(top)
+    seconds, memory = collections.Counter(), collections.Counter()
+    for task in filter(None, tasks):
+        seconds[task.crate, task.part] += task.seconds
+        memory[task.crate] = max(memory[task.crate], task.memory)
+    above = collections.Counter(dep for name in deps for dep in all_below(name, deps))
+    sums = {name: sum(seconds[name, part] for part in PARTS) for name in deps}
+    for name in sorted(deps, key=lambda name: -sums[name]):
+        parts = " | ".join(f"{seconds[name, part]:.0f}" for part in PARTS)
+        yield f"| `{name}` | {parts} | {edits_of(top, name)} | {memory[name] / 1024:.0f} | {above[name]} |"
+    whole = " | ".join(f"{sum(seconds[name, part] for name in deps):.0f}" for part in PARTS)
+    yield f"| all | {whole} | {sum(edits_of(top, name) for name in deps)} | {max(memory.values(), default=0) / 1024:.0f} | |"
+
+
+def said_by(*words):
+    return subprocess.run(words, cwd=TOP, stdout=subprocess.PIPE, text=True, check=False).stdout.strip()
+
+
+def page(words, tasks, clock, processor):
+    """The text of docs/GATE.md."""
+    commit = said_by("git", "rev-parse", "--short=10", "HEAD")
+    changed = " with changes" if said_by("git", "status", "--porcelain", "--untracked-files=no") else ""
+    yield "# What the gate costs"
+    yield ""
+    yield f"Made by `tools/make/gate_times.py` of commit {commit}{changed}, by `{' '.join(words)}` with {said_by('rt', 'version')},"
+    yield f"on {time.strftime('%Y-%m-%d')} with {len(os.sched_getaffinity(0))} processors: **{processor / 60:.0f} processor minutes,"
+    yield f"{clock / 60:.0f} minutes by the clock**. In the columns are processor seconds of the crate's own proof, of its"
+    yield "tests' proof (which proves the crate once more), and of its edits (whose first check is as dear as the crate's own); then"
+    yield "the number of edits, the memory of the largest process in MiB, and how many crates stand above it, which are all proved"
+    yield "anew where it changes."
+    yield ""
+    yield "| crate | proof | tests | edits | number of edits | MiB | above |"
+    yield "|---|---|---|---|---|---|---|"
+    yield from table(tasks, TOP)
+
+
+def main():
+    what, _, more = __doc__.split("\n\n", 2)
+    parser = argparse.ArgumentParser(description=what, epilog=more, formatter_class=argparse.RawDescriptionHelpFormatter)
+    parser.add_argument("--to", default=f"{TOP}/docs/GATE.md", metavar="FILE", help="the file to write (default: docs/GATE.md)")
+    parser.add_argument("command", nargs=argparse.REMAINDER, metavar="COMMAND", help="what to run (default: rt ci --anew)")
+    asked = parser.parse_args()
+    words = [word for word in asked.command if word != "--"] or ["rt", "ci", "--anew"]
+    tasks, began = {}, time.monotonic()
+    child = subprocess.Popen(words, cwd=TOP, stdin=subprocess.DEVNULL)
+    try:
+        while child.poll() is None:
+            look(child.pid, tasks)
+            time.sleep(0.5)
+    except KeyboardInterrupt:
+        child.terminate()
+        child.wait()
+        return 130
+    clock, used = time.monotonic() - began, resource.getrusage(resource.RUSAGE_CHILDREN)
+    if child.returncode == 0:
+        text = "\n".join(page(words, tasks.values(), clock, used.ru_utime + used.ru_stime)) + "\n"
+        with open(asked.to, "w", encoding="utf-8") as file:
+            file.write(text)
+    return child.returncode
+
+
+if __name__ == "__main__":
+    sys.exit(main())
