@@ -1,4 +1,4 @@
-//! The bytes of sinks, segments and books, as `tools/archive_records.py` makes them.
+//! The bytes of sinks, segments and books, as `tools/lib/archive_records.py` makes them.
 
 // The header of a sink or segment, up to its marker.
 pub(crate) const HEADER: &[u8] =

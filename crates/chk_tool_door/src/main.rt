@@ -1,5 +1,5 @@
 //! `chk_tool_door DOOR TURNS WAIT`: messages are taken at the door, so many times, each with this wait in milliseconds, and
-//! answered; what was taken, the longest calls in milliseconds and the count of faults are printed. `tools/hostile_peers.py` runs
+//! answered; what was taken, the longest calls in milliseconds and the count of faults are printed. `tools/try/hostile_peers.py` runs
 //! it against peers of all kinds.
 //!
 //! It ends with 0 where all was done, 2 for other words, 3 where the system doesn't give them, 4 without memory, and 5 where a
