@@ -40,12 +40,7 @@ use Rattle.chk_archive.specs.Beginning.{HasBegun, Begins, only_reads}
 use Rattle.chk_parts.specs.Gathering.{held, held_at, CanBeRead, own_book_file}
 use Rattle.chk_archive.specs.Tidying.{HasBook}
 use Rattle.chk_parts.proofs.OneFile.{Knows, stays_stopped, file_known, one_file}
-
-pub legal_modelled : (stamped : List (List ℕ)) (history : History) → Legal stamped history
-    → AllModelled history
-legal_modelled stamped [] legal = tt
-legal_modelled stamped (step ∷ history) legal =
-    (legal_modelled stamped history legal.0, legal.1.honest.modelled)
+use Rattle.chk_world.proofs.LogEnds.{legal_modelled}
 
 abbrev W : List ℕ
 W = book_name (codes "archive")

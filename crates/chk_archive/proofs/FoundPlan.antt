@@ -39,7 +39,7 @@ use Rattle.chk_parts.specs.Kept.{past_chunks, is_first, are_old_aside, IsFirst}
 use Rattle.chk_parts.specs.Gathering.{held, heads_of}
 use Rattle.chk_parts.specs.Records.{IsRecordOf, AreRecords, chunks_held}
 use Rattle.chk_parts.proofs.CutLists.{zip_at, no_cut}
-use Rattle.chk_parts.proofs.KeptOnce.{Differ}
+use Rattle.chk_parts.proofs.KeptOnce.{Differ, same_length as zip_size}
 use Rattle.chk_parts.proofs.AsideStays.{aside_stays}
 use Rattle.chk_parts.proofs.Fetches.{any_default}
 use Rattle.chk_parts.proofs.FoundRecords.{records_in_order, are_heads}
@@ -53,12 +53,6 @@ use Rattle.chk_archive.specs.declared.taking.Planned.{Planned}
 use Rattle.chk_archive.proofs.Listings.{sources_sound, found_is, own_then, in_append, in_cons, segment_chunks_are, reads_segment, counted}
 use Rattle.chk_archive.proofs.FoundSources.{K, then_files, each_found, known_end}
 use Rattle.chk_archive.proofs.NextBook.{Ends, Cs, facts}
-
-zip_size : (P : Head → Chunk → Type 0) (hs : List Head) (cs : List Chunk) → AllZip P hs cs → length hs ≡ length cs
-zip_size P [] [] zip = refl
-zip_size P [] (c ∷ cs) zip = absurd zip
-zip_size P (h ∷ hs) [] zip = absurd zip
-zip_size P (h ∷ hs) (c ∷ cs) zip = ap suc (zip_size P hs cs zip.1)
 
 -- ---- how many heads are of the first file
 

@@ -11,6 +11,7 @@ use Rattle.chk_plan.specs.declared.spans.Known.{Known}
 use Rattle.chk_plan.specs.Passes.{begins_at, known_stream}
 use Rattle.chk_plan.specs.Starts.{start_known}
 use Rattle.chk_archive.specs.Starts.{start_in}
+use Rattle.chk_world.proofs.Rounds.{stream_self}
 
 -- an end as it is known
 abbrev pub as_end : Known → End
@@ -19,9 +20,6 @@ as_end k = record {
   start = k.start;
   end = k.end;
 }
-
-stream_self : (s : Stream) → same_stream s s ≡ true
-stream_self s = rw (bytes_self s.source, bytes_self s.kind, bytes_self s.name) refl
 
 turned : (s t : Stream) → same_stream s t ≡ same_stream t s
 turned s t = go (same_stream s t) refl (same_stream t s) refl

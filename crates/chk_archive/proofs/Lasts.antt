@@ -8,7 +8,9 @@ use Rattle.chk_site.specs.History.{History}
 use Rattle.chk_site.specs.Site.{Adds, LastFailed, answered, plain, names_given, IsDone, Calls, Ends}
 use Rattle.chk_site.specs.Runs.{MadeInTurn}
 use Rattle.chk_site.proofs.Runs.{adds_as, adds_then}
-use Rattle.chk_replace.proofs.CallSteps.{ends_last, last_then, script_last}
+use Rattle.chk_replace.proofs.CallSteps.{script_last}
+use Rattle.chk_site.proofs.LastCalls.{ended_last as ends_last}
+use Rattle.chk_site.proofs.LastCalls.{last_of_both as last_then}
 use Rattle.chk_world.specs.Sight.{job}
 use Rattle.chk_heads.specs.Faults.{FailsLast, job_fault}
 use Rattle.chk_archive.specs.Calling.{removals, Listed}

@@ -38,7 +38,7 @@ use Rattle.chk_parts.proofs.OneSegment.{segment_spelled}
 use Rattle.chk_archive.specs.FolderNames.{closed_in}
 use Rattle.chk_archive.specs.Listed.{IsListed, sources_in}
 use Rattle.chk_archive.proofs.SinksGo.{good_stem, in_any}
-use Rattle.chk_archive.proofs.BookLoads.{legal_modelled}
+use Rattle.chk_world.proofs.LogEnds.{legal_modelled}
 
 -- ---- chunks of at most so many bytes are chunks of at most more
 

@@ -31,8 +31,9 @@ use Rattle.chk_merge.proofs.Undamaged.{undamaged}
 use Rattle.chk_parts.proofs.OneSegment.{segment_spelled, has_some}
 use Rattle.chk_archive.specs.Numbers.{Numbered}
 use Rattle.chk_archive.proofs.BookFacts.{numbered}
-use Rattle.chk_archive.proofs.BookLoads.{legal_modelled}
+use Rattle.chk_world.proofs.LogEnds.{legal_modelled}
 use Rattle.chk_archive.proofs.Listings.{limits_agree}
+use Rattle.chk_world.proofs.Rounds.{stream_self}
 
 pub in_map : {X Y : Type 0} (f : X → Y) (xs : List X) (y : Y) → Contains (map f xs) y
     → (x : X) × Contains xs x × (f x ≡ y)
@@ -40,9 +41,6 @@ in_map f [] y one = absurd (none_in y one)
 in_map f (x ∷ xs) y (zero, low, at) = (x, (0, omega arith, refl), at)
 in_map f (x ∷ xs) y (suc k, low, at) =
     let r = in_map f xs y (k, omega (arith, low), at) in (r.0, later_one x xs r.0 r.1, r.2)
-
-pub stream_self : (s : Stream) → same_stream s s ≡ true
-stream_self s = rw (bytes_self s.source, bytes_self s.kind, bytes_self s.name) refl
 
 -- ---- the end of a stream in a list
 

@@ -20,7 +20,8 @@ use Rattle.chk_archive.specs.FolderNames.{names_segment}
 use Rattle.chk_parts.specs.Publishing.{IsPublished, MayFollow}
 use Rattle.chk_archive.proofs.FoundSources.{from_both}
 use Rattle.chk_archive.proofs.Listings.{limits_agree}
-use Rattle.chk_archive.proofs.MergeFacts.{facts, true_book, counted, stream_self}
+use Rattle.chk_archive.proofs.MergeFacts.{facts, true_book, counted}
+use Rattle.chk_world.proofs.Rounds.{stream_self}
 
 -- the archive has this book, no other segments than the book's and the next one, and that one has
 -- all records of the named ones, each stream's in its order, stream after stream; the new book names it alone

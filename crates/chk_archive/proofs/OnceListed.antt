@@ -49,7 +49,7 @@ none_listed K none own = adds_as (Counted 0) own (λ added history made. go adde
             → count_by lists_sinks (a ∷ acts) ≡ count_by lists_sinks acts
         one b acts a is unlike = rw unlike refl
 
-own_join : (b a : History) → own_acts (b ++ a) ≡ own_acts b ++ own_acts a
+pub own_join : (b a : History) → own_acts (b ++ a) ≡ own_acts b ++ own_acts a
 own_join [] a = refl
 own_join (step ∷ b) a = go step.own (own_join b a)
   where
@@ -109,7 +109,7 @@ listed_between {U = U} names r first listing last =
 
 -- ---- one listing
 
-theirs_none : (added history : History) → Every IsTheirs added history → own_acts added ≡ []
+pub theirs_none : (added history : History) → Every IsTheirs added history → own_acts added ≡ []
 theirs_none [] history theirs = refl
 theirs_none (step ∷ added) history theirs =
     ap (λ t. if t then step.act ∷ own_acts added else own_acts added) theirs.1.0

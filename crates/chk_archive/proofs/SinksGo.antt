@@ -37,7 +37,7 @@ use Rattle.chk_world.proofs.KeptTrue.{source_true}
 use Rattle.chk_world.proofs.StaysTrue.{IsFoundedChunk}
 use Rattle.chk_world.proofs.OwnArchive.{own_archive_is, own_aside_is}
 use Rattle.chk_world.proofs.ToldCalls.{MayCall, LeavesCall, told_done, told_ends}
-use Rattle.chk_world.proofs.SightStays.{job_stays, stem_shown}
+use Rattle.chk_world.proofs.SightStays.{job_stays, stem_shown, name_in as any_in}
 use Rattle.chk_archive.specs.Calling.{removal, removals}
 use Rattle.chk_archive.specs.FolderNames.{closed_in}
 use Rattle.chk_archive.specs.Sinks.{as_sight, MayGo, HaveGone, SinksRemoved, RemovesShown, removes_shown}
@@ -76,14 +76,6 @@ in_any names name one = go names one.0 one.1 one.2
         (subst (λ m. bytes_eq name m ≡ true) (sym at) (bytes_self name))
     go (n ∷ ns) (suc k) low at = or_right (bytes_eq name n) (list_any (bytes_eq name) ns)
         (go ns k (omega (arith, low)) at)
-
-pub any_in : (names : List (List ℕ)) (name : List ℕ) → list_any (bytes_eq name) names ≡ true
-    → Contains names name
-any_in [] name h = absurd (true≢false (sym h))
-any_in (n ∷ names) name h = elim (or_cases (bytes_eq name n) (list_any (bytes_eq name) names) h) [
-  | inl same ↦ (0, omega arith, sym (bytes_same name n same))
-  | inr rest ↦ later_one n names name (any_in names name rest)
-]
 
 job_apart : (n : Name) (x : Stem) → is_job_file n ≡ true → same_name n (DoneFile x) ≡ false
 job_apart (BookFile folder) x h = refl

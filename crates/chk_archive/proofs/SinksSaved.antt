@@ -22,18 +22,10 @@ use Rattle.chk_archive.specs.Listed.{IsListed}
 use Rattle.chk_archive.specs.Sinks.{MayGo}
 use Rattle.chk_archive.specs.Taking.{TookAll}
 use Rattle.chk_archive.specs.declared.taking.Taken.{Taken}
-use Rattle.chk_archive.proofs.SinksGo.{done_spelled, any_in, closed_text}
+use Rattle.chk_archive.proofs.SinksGo.{done_spelled, closed_text}
+use Rattle.chk_world.proofs.SightStays.{name_in as any_in}
 use Rattle.chk_archive.proofs.FoundSources.{K, founded}
-
--- what one of the lists has, all of them have
-in_flat : {X Y : Type 0} (f : X → List Y) (xs : List X) (x : X) (y : Y) → Contains xs x → Contains (f x) y
-    → Contains (flat_map f xs) y
-in_flat f xs x y one k = go xs one.0 one.1 one.2
-  where
-    go : (xs : List _) (i : ℕ) → i < length xs → slice_index_or xs i x ≡ x → Contains (flat_map f xs) y
-    go [] i low at = absurd (let z : ⊥ = omega (arith, low) in z)
-    go (z ∷ zs) zero low at = Contains-append_left (f z) (flat_map f zs) y (subst (λ w. Contains (f w) y) (sym at) k)
-    go (z ∷ zs) (suc i) low at = Contains-append_right (f z) (flat_map f zs) y (go zs i (omega (arith, low)) at)
+use Rattle.chk_world.proofs.CompleteRuns.{flat_in as in_flat}
 
 module _ (stamped : List (List ℕ)) (names : List (List ℕ)) (b : Book) (v : Sight)
     (at : IsListed stamped names b v) where

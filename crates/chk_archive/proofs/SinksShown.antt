@@ -19,14 +19,10 @@ use Rattle.chk_world.specs.Sight.{job, listed_sinks, sight, AtJob}
 use Rattle.chk_world.specs.JobSteps.{IsOf}
 use Rattle.chk_world.proofs.DoneNames.{done_named}
 use Rattle.chk_world.proofs.ToldCalls.{told_ok}
-use Rattle.chk_world.proofs.SightStays.{job_stays}
+use Rattle.chk_world.proofs.SightStays.{job_stays, some_file}
 use Rattle.chk_archive.specs.Calling.{listing, Listed}
 use Rattle.chk_archive.specs.Sinks.{OwnAre, ShowsSinks, ListsSinks, lists_sinks}
 use Rattle.chk_archive.proofs.Looking.{list_may, not_listed, files_same, is_listing, own_same}
-
-some_file : (o : Option File) → IsSome o → (f : File) × (o ≡ Some f)
-some_file None h = absurd (true≢false (sym h))
-some_file (Some f) h = (f, refl)
 
 module _ (stamped : List (List ℕ)) (own : Name → Option File) (names : List (List ℕ)) where
   shows_at : (before : History) (answer : ActAnswer) (files : Files) (logs : Logs) → answer

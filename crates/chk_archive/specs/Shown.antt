@@ -1,5 +1,5 @@
 -- What the own reads of an archive run show, on every site.
-use Rattle.std.specs.Prelude.{◌≡◌, ℕ, ◌-◌, ◌<◌, ◌≤◌, ◌^◌, false, List, [], length, count_by, codes, Contains, Result, Ok, Err}
+use Rattle.std.specs.Prelude.{◌≡◌, ℕ, ◌+◌, ◌-◌, ◌<◌, ◌≤◌, ◌^◌, false, List, [], ◌∷◌, length, count_by, codes, Contains, Result, Ok, Err}
 use Rattle.chk_site.specs.History.{History}
 use Rattle.chk_site.specs.Site.{Calls, names_given}
 use Rattle.chk_chunk.specs.Keys.{chunk_limit}
@@ -15,7 +15,7 @@ use Rattle.chk_heads.specs.declared.fault.JobFault.TheVariants.{Damaged, Spent}
 use Rattle.chk_book.specs.Loaded.{ShowsBook}
 use Rattle.chk_merge.specs.Gone.{IsGoneIn, IsUnsound}
 use Rattle.chk_parts.specs.Cuts.{AreWithin}
-use Rattle.chk_parts.specs.Kept.{is_first}
+use Rattle.chk_parts.specs.Kept.{is_first, KeepsFirsts}
 use Rattle.chk_parts.specs.declared.cuts.Cut.{Cut}
 use Rattle.chk_archive.specs.Taking.{IsPlanned, stays_aside}
 use Rattle.chk_archive.specs.declared.taking.Planned.{Planned}
@@ -46,19 +46,25 @@ IfSpent Why fault = Unit {0}
 abbrev pub IsAtLast : Book → Type 0
 IsAtLast b = b.next ≡ 2 ^ 63 - 1
 
+-- how many numbers the segment of what is taken asks for
+abbrev pub number_for : List Cut → ℕ
+number_for [] = 0
+number_for (k ∷ ks) = 1
+
 -- Of what is to be written by this book: something is taken, and the next number is the last one;
--- or something is kept, and where nothing is taken it isn't what the aside segment has, and the next
--- number is the last one.
+-- or something is kept that isn't what the aside segment has, and the number behind that of the
+-- segment of what is taken, where anything is, is the last one.
 pub data LacksFor (b : Book) (heads : List Head) (old : ℕ) (cuts kept : List Cut) : Type 0 where
   for_parts : (cuts ≡ [] → ⊥) → IsAtLast b → LacksFor b heads old cuts kept
-  for_aside : (kept ≡ [] → ⊥) → (cuts ≡ [] → (stays_aside b heads old kept ≡ false) × IsAtLast b)
-      → LacksFor b heads old cuts kept
+  for_aside : (kept ≡ [] → ⊥) → stays_aside b heads old kept ≡ false
+      → b.next + number_for cuts ≡ 2 ^ 63 - 1 → LacksFor b heads old cuts kept
 
--- so it is of what is planned for heads that stand in order, and of some of their records
+-- so it is of what is planned for heads that stand in order, and of what is kept past its gaps
 pub record LacksOver (b : Book) (heads : List Head) (old : ℕ) (p : Planned) : Type 0 where
   pub planned : IsPlanned b heads p
   pub kept : List Cut
   pub within : AreWithin (length heads) kept
+  pub keeps : KeepsFirsts heads p.spans.items kept
   pub lacks : LacksFor b heads old p.cuts kept
 
 -- the same for the heads of all records that were found
@@ -108,9 +114,10 @@ ShowsBegun (Ok b) added history = ShowsLoaded b added history
 ShowsBegun (Err fault) added history = Shows {T = Unit {0}} IsDamage (Err fault) added history
 
 -- the book in hand behind the merging: the one that was loaded, where that names fewer than 16
--- segments; else one that has its ends and its aside segment
+-- segments; else one whose next number is one more, and that has its ends and its aside segment
 pub record IsInHand (loaded b : Book) : Type 0 where
   pub few : length loaded.segments < 16 → b ≡ loaded
+  pub many : 16 ≤ length loaded.segments → b.next ≡ loaded.next + 1
   pub ends : b.ends ≡ loaded.ends
   pub aside : b.aside ≡ loaded.aside
 

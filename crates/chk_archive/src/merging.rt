@@ -1,6 +1,6 @@
 //! Many segments of the archive are merged into one.
 
-ghost use Rattle.std.specs.Prelude.{◌≡◌, ℕ, List, length, ◌<◌, ◌≤◌, codes, IfErr};
+ghost use Rattle.std.specs.Prelude.{◌≡◌, ◌+◌, ℕ, List, length, ◌<◌, ◌≤◌, codes, IfErr, OnOk};
 ghost use Rattle.chk_site.specs.History.{Every};
 ghost use Rattle.chk_site.specs.Site.{Adds};
 ghost use Rattle.chk_site.specs.Runs.{Leads};
@@ -41,6 +41,8 @@ pub(crate) fn merge_many<S: Site>(
         (Merged stamped (book_view book.old) (book_view book.new) result)) }
     ensures few { length (book_view book.old).segments < 16
         → (S.told site.new ≡ S.told site.old) × (book_view book.new ≡ book_view book.old) }
+    ensures many { OnOk result (16 ≤ length (book_view book.old).segments
+        → (book_view book.new).next ≡ (book_view book.old).next + 1) }
     ensures spent { IfErr result (IfSpent ((16 ≤ length (book_view book.old).segments)
         × IsAtLast (book_view book.old))) }
     ensures shown { Adds (S.told site.old) (S.told site.new) (Shows (IsUnsound (codes "archive") (book_view book.old)) result) }

@@ -1,6 +1,6 @@
 //! What an archive run takes and sets aside, once the sinks are listed.
 
-ghost use Rattle.std.specs.Prelude.{◌≡◌, ◌≤◌, ◌==◌, ◌||◌, not, false, [], ℕ, List, length, All, IsTrue, IfOk, IfErr, OnOk};
+ghost use Rattle.std.specs.Prelude.{◌≡◌, ◌+◌, ◌≤◌, ◌==◌, ◌||◌, not, false, [], ℕ, List, length, All, IsTrue, IfOk, IfErr, OnOk};
 ghost use Rattle.chk_site.specs.Files.{Files};
 ghost use Rattle.chk_site.specs.History.{Every};
 ghost use Rattle.chk_site.specs.Site.{Adds, LastFailed, OutsideCause};
@@ -15,7 +15,7 @@ ghost use Rattle.chk_heads.specs.Faults.{JobCause, FailsLast};
 ghost use Rattle.chk_heads.specs.Pieces.{AsksInPieces};
 ghost use Rattle.chk_heads.specs.Causes.{Shows};
 ghost use Rattle.chk_merge.specs.Gone.{IsGoneIn};
-ghost use Rattle.chk_archive.specs.Shown.{IsUnfit, ShowsTaken, IfSpent, IsAtLast, LacksFor, LacksOver, LacksOne};
+ghost use Rattle.chk_archive.specs.Shown.{IsUnfit, ShowsTaken, IfSpent, IsAtLast, number_for, LacksFor, LacksOver, LacksOne};
 ghost use Rattle.chk_book.specs.Books.{book_view};
 ghost use Rattle.chk_merge.specs.Segments.{HasFiles, SparesFiles, AreSettled};
 ghost use Rattle.chk_parts.specs.Cuts.{AreWithin, cut_chunks};
@@ -307,6 +307,9 @@ fn take_parts<S: Site>(
         (Leads (As stamped job) (AtJob stamped (λ u. u ≡ v)) (PartsTaken stamped v (book_view book.old) (book_view book.new)
         (cut_chunks cs cuts.now) result)) }
     ensures none { cuts.now ≡ [] → book_view book.new ≡ book_view book.old }
+    ensures next { OnOk result ((book_view book.new).next
+        ≡ (book_view book.old).next + number_for cuts.now) }
+    ensures aside { (book_view book.new).aside ≡ (book_view book.old).aside }
     ensures spent { IfErr result (IfSpent ((cuts.now ≡ [] → ⊥) × IsAtLast (book_view book.old))) }
     ensures shown { Adds (S.told site.old) (S.told site.new) (Shows (IsGoneIn files.now heads.now) result) }
     ensures own { Adds (S.told site.old) (S.told site.new) (Every (IsOf MergesBy)) }

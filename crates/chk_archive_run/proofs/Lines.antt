@@ -10,19 +10,7 @@ use Rattle.chk_words.specs.Lines.{line_of, archive_line, end_line}
 use Rattle.chk_book.specs.Views.{end_view}
 use Rattle.chk_book.specs.declared.lists.End.{End as EndStruct}
 use Rattle.chk_archive_run.specs.Telling.{stream_line}
-use Rattle.chk_prints.proofs.OneLine.{one_line, joined_lacks, number_lacks}
-
--- none of these words has a newline
-data Lack : List (List ℕ) → Type 0 where
-  none : Lack []
-  next : {word : List ℕ} {words : List (List ℕ)} → IsTrue (lacks 10 word) → Lack words → Lack (word ∷ words)
-
-all_lack : {words : List (List ℕ)} → Lack words → IsTrue (list_all (lacks 10) words)
-all_lack none = refl
-all_lack (next {word = word} {words = words} one rest) = and_from (lacks 10 word) (list_all (lacks 10) words) one (all_lack rest)
-
-words_line : {words : List (List ℕ)} → Lack words → IsTrue (is_one_line (line_of words))
-words_line {words = words} all = one_line (joined_at 32 words) (joined_lacks 32 words refl (all_lack all))
+use Rattle.chk_prints.proofs.OneLine.{Lack, none, next, number_lacks, words_line}
 
 pub run_line_one : (unclosed taken held removed : ℕ) → unclosed < 2 ^ 64 → taken < 2 ^ 64 → held < 2 ^ 64 → removed < 2 ^ 64
     → IsTrue (is_one_line (archive_line unclosed taken held removed))

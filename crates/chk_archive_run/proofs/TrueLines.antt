@@ -46,7 +46,7 @@ abbrev pub StaysDone : List (List ℕ) → Book → Report → Result (Unit {0})
 StaysDone stamped loaded r (Ok value) history = AtTold stamped job (RunDone loaded r) history
 StaysDone stamped loaded r (Err fault) history = Legal stamped history
 
-in_any_case : {T : Type 0} (b : Bool) → T → MatchBool b T (Unit {0})
+pub in_any_case : {T : Type 0} (b : Bool) → T → MatchBool b T (Unit {0})
 in_any_case true t = t
 in_any_case false t = tt
 

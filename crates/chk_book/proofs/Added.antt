@@ -7,7 +7,7 @@ use Rattle.chk_site.specs.History.{History, Step, Every}
 use Rattle.chk_site.specs.Site.{Adds, Rose}
 use Rattle.chk_site.specs.Runs.{anyhow, Leads}
 use Rattle.chk_site.proofs.Runs.{adds_as, adds_then, every_join}
-use Rattle.chk_replace.proofs.CallSteps.{last_then}
+use Rattle.chk_site.proofs.LastCalls.{last_of_both as last_then}
 use Rattle.chk_site.specs.declared.acts.OutsideFault.TheVariants.{Outside as site_failed}
 use Rattle.chk_chunk.specs.Keys.{Chunk}
 use Rattle.chk_chunk.specs.declared.Chunk.{Chunk as OwnedChunk}
@@ -36,9 +36,6 @@ pub writes_named : (w : Writing) (folder : List ℕ) (number : ℕ) → w.folder
     → Adds old new (Every (IsOf (WritesTo (segment_name w.folder w.number)))) → Adds old new (Every (IsOf (WritesTo (segment_name folder number))))
 writes_named w folder number f n {old = old} {new = new} made =
     subst (λ (name : List ℕ). Adds old new (Every (IsOf (WritesTo name)))) (ap (λ x. segment_name x w.number) f ∙ ap (segment_name folder) n) made
-
-pub every_then : (P : History → Step → Type 0) {old mid new : Option History} → Adds old mid (Every P) → Adds mid new (Every P) → Adds old new (Every P)
-every_then P first second = adds_then (Every P) first second (λ a b history p q. every_join P b a history p q)
 
 -- the call that failed is the last one of all
 pub fails_later : {T : Type 0} {P : History → History → Type 0} (result : Result T JobFault) {old mid new : Option History}

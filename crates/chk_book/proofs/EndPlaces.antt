@@ -11,7 +11,8 @@ use Rattle.chk_book.specs.declared.lists.End.{End as EndStruct}
 use Rattle.chk_book.specs.Views.{end_view}
 use Rattle.chk_book.specs.Segmenting.{raised_end, raised_by}
 use Rattle.chk_book.specs.Raising.{IsPlaceOf, ArePassed, AreUpTo, goes_by}
-use Rattle.chk_book.proofs.EndRaises.{stream_self, ending_at, raised_same, raised_put, raised_on, raised_by-behind, raised_by-last}
+use Rattle.chk_book.proofs.EndRaises.{ending_at, raised_same, raised_put, raised_on, raised_by-behind, raised_by-last}
+use Rattle.chk_world.proofs.Rounds.{stream_self}
 
 both_not : (a b : Bool) → (not a && not b) ≡ true → (a ≡ false) × (b ≡ false)
 both_not true b e = absurd (true≢false (sym e))

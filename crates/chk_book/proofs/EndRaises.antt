@@ -5,12 +5,10 @@ use Rattle.chk_world.specs.Books.{End}
 use Rattle.chk_world.proofs.NameTests.{streams_same}
 use Rattle.std.proofs.lemmas.Slice.Eq.{bytes_eq-Decides}
 use Rattle.chk_book.specs.Segmenting.{raised_end, raised_by}
+use Rattle.chk_world.proofs.Rounds.{stream_self}
 
 bytes_self : (a : List ℕ) → bytes_eq a a ≡ true
 bytes_self a = (bytes_eq-Decides a a).1 refl
-
-pub stream_self : (s : Stream) → same_stream s s ≡ true
-stream_self s = rw (bytes_self s.source, bytes_self s.kind, bytes_self s.name) refl
 
 -- the end with another end
 abbrev pub ending_at : End → ℕ → End

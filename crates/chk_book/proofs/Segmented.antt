@@ -1,6 +1,6 @@
 -- What the calls on a segment under writing lead to, and why they are refused.
 use Rattle.std.proofs.Common.{◌≡◌, ℕ, ◌+◌, ◌-◌, ◌≤◌, ◌^◌, Bool, true, false, if◌then◌else◌, List, [], ◌∷◌, ◌++◌, length, map, append-nil, append_assoc, length-append, Option, Ok, Err, Result, refl, sym, ◌∙◌, ap, subst, arith}
-use Rattle.std.specs.Prelude.{IsTrue, OnOk}
+use Rattle.std.specs.Prelude.{IsTrue, OnOk, OnErr}
 use Rattle.chk_site.specs.declared.acts.Who.{Who}
 use Rattle.chk_site.specs.declared.acts.OutsideFault.{OutsideFault}
 use Rattle.chk_site.specs.declared.acts.OutsideFault.TheVariants.{Outside, NoMemory as no_memory}
@@ -17,6 +17,7 @@ use Rattle.chk_seqfile.specs.declared.writer.SeqWriter.{SeqWriter}
 use Rattle.chk_world.specs.Sight.{job}
 use Rattle.chk_world.specs.Books.{Book, End, Segment}
 use Rattle.chk_world.specs.JobSteps.{IsOf, WritesTo, SparesFile}
+use Rattle.chk_heads.specs.declared.fault.JobFault.{JobFault}
 use Rattle.chk_heads.specs.Faults.{job_fault, FailsLast, JobCause, IsOfBegin}
 use Rattle.chk_book.specs.declared.segmenter.Segmenter.{Segmenter}
 use Rattle.chk_book.specs.Causes.{SpentBook}
@@ -53,6 +54,12 @@ pub failed_spent : (T : Type 0) (b : Book) (fault : OutsideFault) → (b.next �
     → SpentBook {T = T} b (Err (job_fault fault))
 failed_spent T b (Outside call) other = other
 failed_spent T b no_memory other = tt
+
+-- the aside segment stays
+pub aside_stays : (old new : Book) (result : Result (Unit {0}) JobFault) → OnErr result (new ≡ old)
+    → OnOk result (new.aside ≡ old.aside) → new.aside ≡ old.aside
+aside_stays old new (Ok value) same kept = kept
+aside_stays old new (Err fault) same kept = ap (λ (b : Book). b.aside) same
 
 -- the name of the segment's file
 named : (s : Segmenter) (w : Writing) → IsAt s w → segment_name s.folder s.number ≡ segment_name w.folder w.number

@@ -22,9 +22,7 @@ use Rattle.chk_world.specs.Sight.{job}
 use Rattle.chk_world.specs.Committed.{HasFile}
 use Rattle.chk_world.specs.JobSteps.{IsOf, WritesTo, removes, creates, appends, syncs, SparesFile}
 use Rattle.chk_book.specs.Storing.{beginning, appending, ending}
-
-same_name : (name : List ℕ) → bytes_eq name name ≡ true
-same_name name = (bytes_eq-Decides name name).1 refl
+use Rattle.chk_replace.proofs.OldAndNew.{same_name, not_absent}
 
 -- the file of this name is so
 abbrev pub At : List ℕ → (Option File → Type 0) → History → Type 0
@@ -83,9 +81,6 @@ Holds bytes file = HasFile file (λ f. f.bytes ≡ bytes)
 -- and all of them on the disk
 abbrev pub HoldsAll : List ℕ → Option File → Type 0
 HoldsAll bytes file = HasFile file (λ f. (f.bytes ≡ bytes) × (f.synced ≡ length bytes))
-
-not_absent : (file : Option File) → IsSome file → file ≡ None → ⊥
-not_absent file some none = absurd (false≢true (subst (λ (o : Option File). IsSome o) none some))
 
 not_missing : (bytes : List ℕ) (file : Option File) → Holds bytes file → file ≡ None → ⊥
 not_missing bytes None held none = held

@@ -42,7 +42,7 @@ pub struct Segmenter {
 }
 
 impl Book {
-    ghost use Rattle.std.specs.Prelude.{All, IfOk, IfErr, OnErr};
+    ghost use Rattle.std.specs.Prelude.{◌+◌, All, IfOk, IfErr, OnOk, OnErr};
     ghost use Rattle.chk_chunk.specs.Lent.{chunk_of, chunks_of};
     ghost use Rattle.chk_book.specs.Adding.{is_part, HasAdded};
     ghost use Rattle.chk_site.specs.History.{Every};
@@ -110,6 +110,7 @@ impl Book {
         ensures own { who.now ≡ job → Adds (S.told site.old) (S.told site.new)
             (Every (IsOf (WritesTo (segment_name folder.now (book_view self.old).next)))) }
         ensures same { OnErr result (book_view self.new ≡ book_view self.old) }
+        ensures next { OnOk result ((book_view self.new).next ≡ (book_view self.old).next + 1) }
         ensures spent { SpentBook (book_view self.old) result }
         ensures only { IfErr result IsOfBegin }
         ensures last { Adds (S.told site.old) (S.told site.new) (FailsLast result) }
@@ -124,7 +125,7 @@ impl Book {
 }
 
 impl Segmenter {
-    ghost use Rattle.std.specs.Prelude.{◌∷◌, [], IfOk, IfErr, OnOk, OnErr, List, ℕ, length, string_bytes};
+    ghost use Rattle.std.specs.Prelude.{◌∷◌, [], ◌+◌, IfOk, IfErr, OnOk, OnErr, List, ℕ, length, string_bytes};
     ghost use Rattle.chk_site.specs.History.{Every};
     ghost use Rattle.chk_site.specs.Site.{Adds, OutsideCause};
     ghost use Rattle.chk_site.specs.Runs.{anyhow, Leads, MadeInTurn};
@@ -317,6 +318,8 @@ impl Segmenter {
         ensures own { (w : Writing) → IsAt self w → self.who ≡ job → Adds (S.told site.old) (S.told site.new)
             (Every (IsOf (WritesTo (segment_name w.folder w.number)))) }
         ensures same { OnErr result (book_view book.new ≡ book_view book.old) }
+        ensures next { OnOk result ((book_view book.new).next ≡ (book_view book.old).next + 1) }
+        ensures aside { (book_view book.new).aside ≡ (book_view book.old).aside }
         ensures only { IfErr result IsOfWrite }
         ensures last { Adds (S.told site.old) (S.told site.new) (FailsLast result) }
         ensures cause { JobCause (S.fault_count site.old) (S.fault_count site.new) result }
@@ -332,6 +335,8 @@ impl Segmenter {
         ensures own { (w : Writing) → IsAt self.now w → self.now.who ≡ job → Adds (S.told site.old) (S.told site.new)
             (Every (IsOf (WritesTo (segment_name w.folder w.number)))) }
         ensures same { OnErr result (book_view book.new ≡ book_view book.old) }
+        ensures next { OnOk result ((book_view book.new).next ≡ self.now.number + 1) }
+        ensures aside { OnOk result ((book_view book.new).aside ≡ (book_view book.old).aside) }
         ensures only { IfErr result IsOfWrite }
         ensures last { Adds (S.told site.old) (S.told site.new) (FailsLast result) }
         ensures cause { JobCause (S.fault_count site.old) (S.fault_count site.new) result }
@@ -357,6 +362,7 @@ impl Segmenter {
         ensures own { (w : Writing) → IsAt self w → self.who ≡ job → Adds (S.told site.old) (S.told site.new)
             (Every (IsOf (WritesTo (segment_name w.folder w.number)))) }
         ensures same { OnErr result (book_view book.new ≡ book_view book.old) }
+        ensures next { OnOk result ((book_view book.new).next ≡ (book_view book.old).next + 1) }
         ensures only { IfErr result IsOfWrite }
         ensures last { Adds (S.told site.old) (S.told site.new) (FailsLast result) }
         ensures cause { JobCause (S.fault_count site.old) (S.fault_count site.new) result }

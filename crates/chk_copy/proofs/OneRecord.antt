@@ -27,7 +27,8 @@ use Rattle.chk_merge.specs.Merging.{SparesBoth, AreApart}
 use Rattle.chk_merge.proofs.AllRead.{adds_all}
 use Rattle.chk_compare.specs.declared.gathering.Side.{Side}
 use Rattle.chk_compare.specs.Reading.{Fetched}
-use Rattle.chk_copy.specs.Copying.{joined_segment, chunk_with, CanCopy, Copied}
+use Rattle.chk_copy.specs.Copying.{joined_segment, CanCopy, Copied}
+use Rattle.chk_merge.specs.Merging.{chunk_with}
 use Rattle.chk_copy.proofs.Steps.{of_files, of_segment, under, segment_is, files_left}
 
 -- at Ok the reader holds the value of the head's record

@@ -28,10 +28,6 @@ use Rattle.chk_choose.specs.declared.plan.Choice.{Choice}
 abbrev pub joined_segment : ℕ → List ℕ
 joined_segment number = segment_name (codes "joined") number
 
--- the chunk of a key and a value
-abbrev pub chunk_with : Key → List ℕ → Chunk
-chunk_with k value = record { key = k; value = value }
-
 -- its calls read files, or write this segment
 abbrev pub Copies : ℕ → Deed → Type 0
 Copies number = ReadsOrWrites (joined_segment number)

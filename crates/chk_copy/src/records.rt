@@ -25,7 +25,8 @@ ghost use Rattle.chk_merge.specs.Merging.{SparesBoth, AreApart};
 ghost use Rattle.chk_compare.specs.Blocks.{head_in};
 ghost use Rattle.chk_compare.specs.Comparing.{IsSide};
 ghost use Rattle.chk_copy.specs.Standing.{StandsSo, HasStood};
-ghost use Rattle.chk_copy.specs.Copying.{joined_segment, chunk_with, IsForJoined, GoesOn, CanCopy, Copied, Worked, Copies};
+ghost use Rattle.chk_copy.specs.Copying.{joined_segment, IsForJoined, GoesOn, CanCopy, Copied, Worked, Copies};
+ghost use Rattle.chk_merge.specs.Merging.{chunk_with};
 
 use chk_book::Segmenter;
 use chk_chunk::ChunkRef;

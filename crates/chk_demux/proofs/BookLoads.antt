@@ -1,5 +1,5 @@
 -- The load of a folder's book in a legal history.
-use Rattle.std.proofs.Common.{◌≡◌, ℕ, List, [], ◌∷◌, Option, Some, None, Ok, Err, Result, ap, sym, subst, ◌∙◌, refl, false}
+use Rattle.std.proofs.Common.{◌≡◌, ℕ, List, Option, Some, None, Ok, Err, Result, ap, sym, subst, ◌∙◌, refl, false}
 use Rattle.std.proofs.lemmas.Option.{none-some}
 use Rattle.chk_site.specs.declared.acts.OutsideFault.{OutsideFault}
 use Rattle.chk_site.specs.declared.acts.OutsideFault.TheVariants.{Outside as site_failed, NoMemory as no_memory}
@@ -7,7 +7,7 @@ use Rattle.chk_heads.specs.Faults.{FailsLast, job_fault}
 use Rattle.chk_site.specs.Files.{File}
 use Rattle.chk_site.specs.Effect.{IsSmallFile}
 use Rattle.chk_site.specs.Acts.{Deed, Starts}
-use Rattle.chk_site.specs.History.{History, AllModelled, Every, files_after}
+use Rattle.chk_site.specs.History.{History, Every, files_after}
 use Rattle.chk_site.specs.Site.{Adds}
 use Rattle.chk_site.specs.Runs.{Leads, anyhow}
 use Rattle.chk_site.proofs.Leads.{leads_as}
@@ -41,11 +41,7 @@ use Rattle.chk_demux.specs.Working.{Worked}
 use Rattle.chk_demux.specs.declared.beginning.Books.{Books}
 use Rattle.chk_parts.proofs.Published.{book_named}
 use Rattle.chk_demux.proofs.Works.{worked, works_as, works_value}
-
-legal_modelled : (stamped : List (List ℕ)) (history : History) → Legal stamped history → AllModelled history
-legal_modelled stamped [] legal = tt
-legal_modelled stamped (step ∷ history) legal =
-    (legal_modelled stamped history legal.0, legal.1.honest.modelled)
+use Rattle.chk_world.proofs.LogEnds.{legal_modelled}
 
 -- a book of a legal history has no wrong field
 undamaged : (o : Option File) (at : ℕ) → OnFile o IsWholeBook → IsNoBookAt (file_bytes o) at → ⊥

@@ -1,31 +1,16 @@
 -- What is given as bytes of a stream are fed.
-use Rattle.std.proofs.Common.{◌≡◌, ℕ, zero, suc, ◌+◌, ◌-◌, ◌<◌, Bool, true, false, List, [], ◌∷◌, ◌++◌, length, map, take, drop, ap, sym, subst, ◌∙◌, refl, arith, append_assoc, append-nil, length-append, length-drop, if◌then◌else◌}
+use Rattle.std.proofs.Common.{◌≡◌, ℕ, zero, suc, ◌+◌, ◌-◌, ◌<◌, Bool, true, false, List, [], ◌∷◌, ◌++◌, length, map, take, drop, ap, sym, subst, ◌∙◌, refl, arith, append_assoc, append-nil, length-append, length-drop}
 use Rattle.std.proofs.lemmas.List.{map-append, take-append-drop}
 use Rattle.chk_bytes.specs.Words.{joined}
 use Rattle.chk_chunk.specs.Keys.{Chunk}
 use Rattle.chk_world.specs.Books.{End}
-use Rattle.chk_world.specs.Splits.{ends_from, lines_from}
+use Rattle.chk_world.specs.Splits.{ends_from}
 use Rattle.chk_heads.specs.Heads.{Head}
 use Rattle.chk_plan.specs.Passes.{head_in}
-use Rattle.chk_splitter.specs.Splitting.{Splitting, Feeds, fresh, record_of, pieces_of, records_ahead, records_after}
+use Rattle.chk_splitter.specs.Splitting.{Splitting, Feeds, fresh, record_of, pieces_of, records_ahead}
 use Rattle.chk_demux.specs.Giving.{keyed, made_chunk, given_chunks, pending_of, place_given, IsSplitting, IsPlaced, record_chunk, chunks_of_fed}
-
-none_ahead : (s : Splitting) → records_ahead s [] ≡ []
-none_ahead s = by s.by_stamps s.begun
-  where
-    by : (t : Bool) (begun : List ℕ)
-        → (if t then records_after begun (lines_from s.line []) else lines_from s.line []) ≡ []
-    by true [] = refl
-    by true (b ∷ begun) = refl
-    by false begun = refl
-
-pub joined-append : (a b : List (List ℕ)) → joined (a ++ b) ≡ joined a ++ joined b
-joined-append [] b = refl
-joined-append (x ∷ a) b = ap (λ l. x ++ l) (joined-append a b) ∙ sym (append_assoc x (joined a) (joined b))
-
-joined-record : (r : List ℕ) → joined (record_of r) ≡ r
-joined-record [] = refl
-joined-record (b ∷ r) = append-nil (b ∷ r)
+use Rattle.chk_splitter.proofs.FeedLemmas.{none_ahead, joined-append, joined-record}
+use Rattle.chk_splitter.proofs.RecordLemmas.{ends-append}
 
 -- before the first byte
 pub fresh_splits : (t : Bool) → IsSplitting t [] (fresh t)
@@ -77,16 +62,6 @@ held_size t fed s k =
     let b = length-append (joined (pieces_of t fed) ++ s.begun) s.line in
     let c = length-append (joined (pieces_of t fed)) s.begun in
     omega (arith, a, b, c)
-
-pub ends-append : (at : ℕ) (a b : List (List ℕ))
-    → ends_from at (a ++ b) ≡ ends_from at a ++ ends_from (at + length (joined a)) b
-ends-append at [] b = ap (λ n. ends_from n b) (let z : at ≡ at + 0 = omega arith in z)
-ends-append at (x ∷ a) b =
-    let size = length-append x (joined a) in
-    ap (λ l. record { bytes = x; end = at + length x } ∷ l)
-    (ends-append (at + length x) a b
-    ∙ ap (λ n. ends_from (at + length x) a ++ ends_from n b)
-    (let z : at + length x + length (joined a) ≡ at + length (x ++ joined a) = omega (arith, size) in z))
 
 module _ (heads : List Head) (e : End) (from : ℕ) where
   pub chunks_on : (t : Bool) (a b : List ℕ) (more : List (List ℕ)) → pieces_of t b ≡ pieces_of t a ++ more

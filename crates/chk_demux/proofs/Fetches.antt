@@ -25,7 +25,8 @@ use Rattle.chk_parts.specs.Records.{AreRecords}
 use Rattle.chk_parts.specs.Fetching.{head_file, IsRecordAt, AreWindows, CanFetch, Fetched}
 use Rattle.chk_parts.proofs.OneFile.{reads_in}
 use Rattle.chk_parts.proofs.FromKnown.{from_known, reach}
-use Rattle.chk_parts.proofs.OneSegment.{no_write_starts, quiet_write}
+use Rattle.chk_parts.proofs.OneSegment.{quiet_write}
+use Rattle.chk_world.proofs.Lifts.{no_write_starts}
 use Rattle.chk_parts.proofs.Fetches.{one_of_files}
 use Rattle.chk_splitter.specs.Splitting.{Splitting}
 use Rattle.chk_demux.specs.Working.{EndsSo, Failed}

@@ -25,5 +25,6 @@ mod NewKeys
 mod NextRecords
 mod RunFacts
 pub mod Shown
+mod NewHeads
 mod RunSteps
 pub mod DoneStays

@@ -116,7 +116,7 @@ pieces_fit true bytes = go (lines_from [] bytes) (lines_fit [] bytes)
 
 -- ---- the ends of a book
 
-rise_of : (w : Version) (b : Book) → is_book w b ≡ true → ends_rise b.ends ≡ true
+pub rise_of : (w : Version) (b : Book) → is_book w b ≡ true → ends_rise b.ends ≡ true
 rise_of w b h =
     let p1 = and_parts (is_count b.next) _ h in
     let p2 = and_parts (nat_lt (length b.segments) 4294967296) _ p1.1 in

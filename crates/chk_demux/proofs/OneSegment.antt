@@ -28,7 +28,8 @@ use Rattle.chk_book.specs.Segmenting.{Writing, HoldsSegment, IsFinished, IsSegme
 use Rattle.chk_book.specs.Written.{IsAt, taken, HasTaken, HasBegun, HasEnded}
 use Rattle.chk_book.specs.declared.segmenter.Segmenter.{Segmenter}
 use Rattle.chk_parts.proofs.FromKnown.{from_known, reach, with_fact}
-use Rattle.chk_parts.proofs.OneSegment.{has_some, some_has, no_write_starts, quiet_write}
+use Rattle.chk_parts.proofs.OneSegment.{has_some, some_has, quiet_write}
+use Rattle.chk_world.proofs.Lifts.{no_write_starts}
 use Rattle.chk_demux.specs.Working.{EndsSo, Failed}
 use Rattle.chk_demux.specs.Writes.{SameBut, IsFree, IsSoFar, SoFar, IsForDemux, HoldsChunks}
 use Rattle.chk_demux.proofs.Ends.{ends_bottom}

@@ -15,7 +15,8 @@ use Rattle.chk_heads.specs.declared.fault.JobFault.{JobFault}
 use Rattle.chk_heads.specs.declared.fault.JobFault.TheVariants.{NoMemory}
 use Rattle.chk_book.specs.declared.segmenter.Segmenter.{Segmenter}
 use Rattle.chk_parts.proofs.FromKnown.{with_fact}
-use Rattle.chk_parts.proofs.OneSegment.{no_write_starts, quiet_write}
+use Rattle.chk_parts.proofs.OneSegment.{quiet_write}
+use Rattle.chk_world.proofs.Lifts.{no_write_starts}
 use Rattle.chk_demux.specs.Working.{EndsSo, Worked}
 use Rattle.chk_demux.specs.Writes.{IsFree, IsSoFar, SoFar, PutSoFar, IsOutput, IsForDemux, IsWriter, HasSome, bytes_of}
 use Rattle.chk_demux.specs.declared.output.Output.{Output}

@@ -28,7 +28,7 @@ use Rattle.chk_world.proofs.Segments.{counts_in, none_in}
 use Rattle.chk_heads.specs.Heads.{Head, heads_in}
 use Rattle.chk_heads.specs.Order.{no_head, in_head_order}
 use Rattle.chk_heads.specs.Pieces.{bytes_in}
-use Rattle.chk_heads.specs.Faults.{job_fault, IsOfWrite, IsOfBegin}
+use Rattle.chk_heads.specs.Faults.{job_fault, IsOfWrite}
 use Rattle.chk_heads.specs.declared.fault.JobFault.{JobFault}
 use Rattle.chk_heads.specs.declared.fault.JobFault.TheVariants.{Outside, Damaged, Spent, NoMemory}
 use Rattle.chk_book.specs.Books.{book_view}
@@ -48,7 +48,7 @@ use Rattle.chk_parts.proofs.Fetches.{one_of_files}
 use Rattle.chk_parts.proofs.FoundRecords.{records_in_order}
 use Rattle.chk_parts.proofs.OneSegment.{segment_spelled}
 use Rattle.chk_demux.specs.Beginning.{Begins, starts, only_reads}
-use Rattle.chk_demux.specs.Damage.{archive_name, demux_name, archive_book, reads_of, RunsAll, ReadsWell, no_archive_book, no_demux_book, bad_records, AreBooks, LoadedBooks, HasCounts, ReadsOn, NotDamaged, ReadSoundly, ReadAll}
+use Rattle.chk_demux.specs.Damage.{archive_name, demux_name, archive_book, reads_of, RunsAll, no_archive_book, no_demux_book, bad_records, LoadedBooks, HasCounts, ReadsOn, NotDamaged, ReadSoundly, ReadAll}
 use Rattle.chk_demux.specs.declared.beginning.Books.{Books}
 
 -- ---- frames
@@ -111,22 +111,16 @@ given {S = S} X {B = B} {C = C} first second = record {
 
 -- ---- writes
 
-pub write_begins : (fault : JobFault) → IsOfWrite fault → IsOfBegin fault
-write_begins (Outside call) is = tt
-write_begins (Damaged name at) is = is
-write_begins (Spent n) is = tt
-write_begins NoMemory is = tt
+pub memory_writes : {T : Type 0} (r : Result T JobFault) → IfErr r (λ fault. fault ≡ NoMemory) → IfErr r IsOfWrite
+memory_writes (Ok value) is = tt
+memory_writes (Err (Outside call)) is = tt
+memory_writes (Err (Damaged name at)) is = absurd (cc)
+memory_writes (Err (Spent n)) is = absurd (cc)
+memory_writes (Err NoMemory) is = tt
 
-pub memory_begins : {T : Type 0} (r : Result T JobFault) → IfErr r (λ fault. fault ≡ NoMemory) → IfErr r IsOfBegin
-memory_begins (Ok value) is = tt
-memory_begins (Err (Outside call)) is = tt
-memory_begins (Err (Damaged name at)) is = absurd (cc)
-memory_begins (Err (Spent n)) is = tt
-memory_begins (Err NoMemory) is = tt
-
-pub call_begins : (fault : OutsideFault) → IsOfBegin (job_fault fault)
-call_begins (site_failed call) = tt
-call_begins no_memory = tt
+pub call_writes : (fault : OutsideFault) → IsOfWrite (job_fault fault)
+call_writes (site_failed call) = tt
+call_writes no_memory = tt
 
 quiet_writes : (names : List (List ℕ)) (s : List ℕ) → AreApart names s → (call : Deed) → WritesTo s call → (w : List ℕ)
     → Contains names w → touches call w ≡ false
@@ -192,7 +186,7 @@ module _ (v : Sight) (files : List (List ℕ)) (heads : List Head) (cs : List Ch
         (λ h z. (z.0, (subst (λ x. Fetched v files heads i D t x h) good z.1).0)) fetched
 
   -- what is written leaves the files
-  pub written_on : (s : List ℕ) → AreApart files s → (t : RecordReader) (q : Result (Unit {0}) JobFault) → IfErr q IsOfBegin
+  pub written_on : (s : List ℕ) → AreApart files s → (t : RecordReader) (q : Result (Unit {0}) JobFault) → IfErr q IsOfWrite
       → {mid new : Option History} → Adds mid new (Every (IsOf (WritesTo s)))
       → Adds mid new (Leads (anyhow Sp') (On t) (ReadsOn v files t q))
   written_on s apart t q only own =
@@ -203,7 +197,7 @@ module _ (v : Sight) (files : List (List ℕ)) (heads : List Head) (cs : List Ch
         own = owned_anyhow added history;
       })
     where
-      go : (q : Result (Unit {0}) JobFault) → IfErr q IsOfBegin → (h : History) → Hs' h → AreWindows v files t
+      go : (q : Result (Unit {0}) JobFault) → IfErr q IsOfWrite → (h : History) → Hs' h → AreWindows v files t
           → ReadsOn v files t q h
       go (Ok value) only h hs w = (hs, w)
       go (Err (Outside call)) only h hs w = tt
@@ -398,7 +392,7 @@ module _ (b : Book) (files : Files) {T : Type 0} (r : Result T JobFault) {old mi
       go (Spent n) h z = tt
       go NoMemory h z = tt
 
-  pub split_on : {U : Type 0} (value : T) → r ≡ Ok value → (q : Result U JobFault) → IfErr q IsOfBegin
+  pub split_on : {U : Type 0} (value : T) → r ≡ Ok value → (q : Result U JobFault) → IfErr q IsOfWrite
       → {P : History → History → Type 0} {new : Option History} → Adds mid new P
       → Adds old new (Leads (anyhow (SparesFiles (names_of (codes "archive") b))) (HasFiles (names_of (codes "archive") b) files)
       (ReadSoundly b files q))
@@ -411,7 +405,7 @@ module _ (b : Book) (files : Files) {T : Type 0} (r : Result T JobFault) {old mi
         own = owned_anyhow added history;
       }))
     where
-      go : (q : Result U JobFault) → IfErr q IsOfBegin → RunsAll b files → (h : History) → ReadSoundly b files q h
+      go : (q : Result U JobFault) → IfErr q IsOfWrite → RunsAll b files → (h : History) → ReadSoundly b files q h
       go (Ok value) only x h = x
       go (Err (Outside call)) only x h = tt
       go (Err (Damaged name at)) only x h = absurd only

@@ -1,30 +1,16 @@
 -- A stream's end among ends that stand in order, looked for from a place on.
-use Rattle.std.proofs.Common.{◌≡◌, inl, inr, ℕ, zero, suc, ◌+◌, ◌<◌, Bool, true, false, true≢false, List, [], ◌∷◌, length, drop, map, get_or, refl, sym, ◌∙◌, ap, arith, if◌then◌else◌}
+use Rattle.std.proofs.Common.{◌≡◌, ℕ, zero, suc, ◌+◌, ◌<◌, Bool, true, false, List, [], ◌∷◌, length, drop, map, get_or, refl, sym, ◌∙◌, ap, arith, if◌then◌else◌}
 use Rattle.std.specs.Prelude.{slice_index_or}
-use Rattle.std.proofs.lemmas.Bool.{cases_Bool}
 use Rattle.std.proofs.lemmas.List.{drop_more}
 use Rattle.chk_chunk.specs.Keys.{Stream, same_stream, stream_lt}
 use Rattle.chk_world.specs.Books.{End}
 use Rattle.chk_world.proofs.Each.{Each, each_as}
-use Rattle.chk_heads.proofs.Orders.{streams}
 use Rattle.chk_plan.proofs.Bridges.{each_index}
 use Rattle.chk_book.specs.Books.{end_in}
 use Rattle.chk_book.specs.Views.{end_view}
 use Rattle.chk_book.specs.declared.lists.End.{End as EndStruct}
-use Rattle.chk_parts.proofs.EndsInOrder.{apart, apart_from, Sorted}
+use Rattle.chk_parts.proofs.EndsInOrder.{apart, apart_from, Sorted, before_on, behind_it}
 use Rattle.chk_demux.proofs.Streams.{seen_at}
-
-before_on : (a b c : Stream) → stream_lt a b ≡ true → stream_lt b c ≡ true → stream_lt a c ≡ true
-before_on a b c p q = elim (cases_Bool (stream_lt a c)) [
-  | inl before ↦ before
-  | inr unlike ↦ absurd (true≢false (sym p ∙ (streams.order.onward a c b unlike (streams.order.one_way b c q))))
-]
-
-behind_it : (a b : Stream) → same_stream b a ≡ false → stream_lt a b ≡ false → stream_lt b a ≡ true
-behind_it a b other unlike = elim (cases_Bool (stream_lt b a)) [
-  | inl behind ↦ behind
-  | inr also ↦ absurd (true≢false (sym (streams.are_alike b a also unlike) ∙ other))
-]
 
 -- an item of a list, as it is seen
 pub shown : (xs : List EndStruct) (i : ℕ) (x : EndStruct) → x ≡ get_or xs i x

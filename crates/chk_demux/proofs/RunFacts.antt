@@ -3,7 +3,7 @@ use Rattle.std.proofs.Common.{◌≡◌, ℕ, ◌+◌, ◌-◌, ◌^◌, ◌≤�
 use Rattle.std.specs.Prelude.{Contains, codes, filter, flat_map}
 use Rattle.std.proofs.lemmas.List.{map-append}
 use Rattle.std.proofs.lemmas.List.Elements.{filter-append}
-use Rattle.chk_book.proofs.EndRaises.{stream_self}
+use Rattle.chk_world.proofs.Rounds.{stream_self}
 use Rattle.chk_site.specs.History.{History, files_after}
 use Rattle.chk_chunk.specs.Keys.{Stream, Chunk, is_of}
 use Rattle.chk_world.specs.Names.{ArchiveFolder, DemuxFolder, BookFile, SegmentFile}

@@ -14,8 +14,8 @@ use Rattle.std.proofs.lemmas.Option.{none-some}
 use Rattle.chk_site.proofs.Runs.{adds_as}
 use Rattle.chk_site.proofs.Leads.{leads_as, leads_then}
 use Rattle.chk_chunk.specs.Keys.{Chunk}
-use Rattle.chk_world.specs.Names.{DemuxFolder, BookFile}
-use Rattle.chk_world.specs.Books.{Book, book_in, ends_rise}
+use Rattle.chk_world.specs.Names.{DemuxFolder}
+use Rattle.chk_world.specs.Books.{Book, ends_rise}
 use Rattle.chk_world.specs.Places.{As}
 use Rattle.chk_world.specs.Sight.{job, Sight, sight, own_book, AtJob}
 use Rattle.chk_world.specs.JobSteps.{IsOf, ReadsFile, ReadsOrWrites}
@@ -49,7 +49,8 @@ use Rattle.chk_demux.proofs.HeadsInOrder.{streams_rise}
 use Rattle.chk_demux.proofs.RunFacts.{CanRun, News}
 use Rattle.chk_demux.proofs.Streams.{reads_or_writes_start, quiet_reads_or_writes}
 use Rattle.chk_demux.proofs.Works.{own_of, worked, works_as, works_then}
-use Rattle.chk_parts.proofs.OneSegment.{no_write_starts, quiet_write}
+use Rattle.chk_parts.proofs.OneSegment.{quiet_write}
+use Rattle.chk_world.proofs.Lifts.{no_write_starts}
 use Rattle.chk_site.specs.Acts.{Starts}
 use Rattle.chk_world.proofs.ToldCalls.{talks}
 

@@ -1,5 +1,5 @@
 -- What the own reads of a demux run show, from call to call.
-use Rattle.std.proofs.Common.{◌≡◌, ℕ, List, ◌++◌, codes, Option, Ok, Err, Result, subst}
+use Rattle.std.proofs.Common.{◌≡◌, ℕ, ◌-◌, ◌^◌, List, ◌++◌, codes, Option, Ok, Err, Result, subst}
 use Rattle.std.specs.Prelude.{IfErr}
 use Rattle.chk_site.specs.declared.acts.OutsideFault.{OutsideFault}
 use Rattle.chk_site.specs.declared.acts.OutsideFault.TheVariants.{Outside as site_failed, NoMemory as no_memory}
@@ -11,24 +11,26 @@ use Rattle.chk_heads.specs.declared.fault.JobFault.{JobFault}
 use Rattle.chk_heads.specs.declared.fault.JobFault.TheVariants.{Outside, Damaged, Spent, NoMemory}
 use Rattle.chk_heads.specs.Heads.{Head}
 use Rattle.chk_heads.specs.Order.{in_head_order}
-use Rattle.chk_heads.specs.Faults.{job_fault, IsOfBegin}
+use Rattle.chk_heads.specs.Faults.{job_fault, IsOfBegin, IsOfRead, IsOfWrite}
 use Rattle.chk_heads.specs.Causes.{Cause, Shows}
 use Rattle.chk_heads.proofs.Showing.{within_all, within_late, within_early}
 use Rattle.chk_book.specs.Books.{book_view}
 use Rattle.chk_book.specs.Loaded.{ShowsBook}
 use Rattle.chk_book.specs.declared.book.Book.{Book as Struct}
+use Rattle.chk_book.specs.Causes.{SpentBook}
+use Rattle.chk_merge.specs.Checking.{ToldOfSome}
 use Rattle.chk_merge.specs.Segments.{names_of}
 use Rattle.chk_merge.specs.Gone.{IsGoneIn, IsUnsound, gone, ShowsSound}
 use Rattle.chk_merge.proofs.Causes.{late_gone_in, late_unsound}
 use Rattle.chk_demux.specs.declared.beginning.Books.{Books}
-use Rattle.chk_demux.specs.Shown.{ShowsArchive, IsDamage, no_archive, no_records, unsound, ShowsBegun}
+use Rattle.chk_demux.specs.Shown.{ShowsArchive, IsDamage, ShowsSpent, no_archive, no_records, unsound, ShowsBegun}
 
 -- no damage is told
 pub shows_opened : {T : Type 0} (C : Cause) (result : Result T JobFault) {P : History → History → Type 0} {old new : Option History}
-    → IfErr result IsOfBegin → Adds old new P → Adds old new (Shows C result)
+    → IfErr result IsOfWrite → Adds old new P → Adds old new (Shows C result)
 shows_opened C result of told = adds_as (Shows C result) told (λ added history x. said C result of added history)
   where
-    said : {T : Type 0} (C : Cause) (result : Result T JobFault) → IfErr result IsOfBegin → (added history : History) → Shows C result added history
+    said : {T : Type 0} (C : Cause) (result : Result T JobFault) → IfErr result IsOfWrite → (added history : History) → Shows C result added history
     said C (Ok value) of added history = tt
     said C (Err (Outside call)) of added history = tt
     said C (Err (Damaged name at)) of added history = absurd of
@@ -82,14 +84,43 @@ records_fail fault so_far loaded told =
     said (Spent n) a b history y = tt
     said NoMemory a b history y = tt
 
-pub both_shown : (archive demux : Struct) {P Q : History → History → Type 0} {old mid next new : Option History} → Adds old mid P
-    → Adds mid next (ShowsBook (codes "archive") (Ok (book_view archive))) → Adds next new Q
+pub both_shown : (archive demux : Struct) {P : History → History → Type 0} {old mid next new : Option History} → Adds old mid P
+    → Adds mid next (ShowsBook (codes "archive") (Ok (book_view archive)))
+    → Adds next new (ShowsBook (codes "demux") (Ok (book_view demux)))
     → Adds old new (ShowsBegun (Ok (record { archive = archive; demux = demux })))
 both_shown archive demux so_far loaded told =
     adds_then (ShowsBegun (Ok (record { archive = archive; demux = demux })))
     (adds_then (ShowsArchive (book_view archive)) so_far loaded
     (λ a b history x y. within_late _ b a history (within_all _ b (a ++ history) y))) told
-    (λ a b history x y. within_early _ b a history x)
+    (λ a b history x y. (
+      within_early _ b a history x,
+      within_late _ b a history (within_all _ b (a ++ history) y),
+    ))
+
+-- ---- that the numbers are spent
+
+pub writes_read : {T : Type 0} (r : Result T JobFault) → IfErr r IsOfWrite → IfErr r IsOfRead
+writes_read (Ok value) of = tt
+writes_read (Err (Outside call)) of = tt
+writes_read (Err (Damaged name at)) of = absurd of
+writes_read (Err (Spent n)) of = absurd of
+writes_read (Err NoMemory) of = tt
+
+-- where a number is left for a segment, beginning it doesn't tell that they are spent
+pub begun_writes : {T : Type 0} (b : Book) (r : Result T JobFault) → (b.next ≡ 2 ^ 63 - 1 → ⊥)
+    → IfErr r IsOfBegin → SpentBook b r → IfErr r IsOfWrite
+begun_writes b (Ok value) below of spent = tt
+begun_writes b (Err (Outside call)) below of spent = tt
+begun_writes b (Err (Damaged name at)) below of spent = absurd of
+begun_writes b (Err (Spent n)) below of spent = absurd (below spent.1)
+begun_writes b (Err NoMemory) below of spent = tt
+
+pub told_reads : (folder : List ℕ) (b : Book) (names : List (List ℕ)) (heads : List Head)
+    (fault : JobFault) → ToldOfSome folder b names heads fault → IsOfRead fault
+told_reads folder b names heads (Outside call) told = tt
+told_reads folder b names heads (Damaged name at) told = tt
+told_reads folder b names heads (Spent n) told = absurd told.1
+told_reads folder b names heads NoMemory told = tt
 
 -- ---- the run
 
@@ -112,6 +143,27 @@ damage_behind b result so_far told = adds_then (Shows IsDamage result) so_far to
     said (Ok value) a d history x y = tt
     said (Err (Outside call)) a d history x y = tt
     said (Err (Damaged name at)) a d history x y =
-        unsound (book_view b.archive) (within_early _ d a history x) (late_unsound (codes "archive") (book_view b.archive) name at d a history y)
+        unsound (book_view b.archive) (within_early _ d a history x.0) (late_unsound (codes "archive") (book_view b.archive) name at d a history y)
     said (Err (Spent n)) a d history x y = tt
     said (Err NoMemory) a d history x y = tt
+
+-- reads never tell it
+pub spent_begun : (T : Type 0) (fault : JobFault) {P : History → History → Type 0}
+    {old new : Option History} → IsOfRead fault → Adds old new P
+    → Adds old new (ShowsSpent {T = T} (Err fault))
+spent_begun T (Outside call) only told =
+    adds_as (ShowsSpent {T = T} (Err (Outside call))) told (λ added history x. tt)
+spent_begun T (Damaged name at) only told =
+    adds_as (ShowsSpent {T = T} (Err (Damaged name at))) told (λ added history x. tt)
+spent_begun T (Spent n) only told = absurd only
+spent_begun T NoMemory only told =
+    adds_as (ShowsSpent {T = T} (Err NoMemory)) told (λ added history x. tt)
+
+-- a call that failed behind the run never tells it
+pub spent_outside : (T : Type 0) (fault : OutsideFault) {P : History → History → Type 0}
+    {old new : Option History} → Adds old new P
+    → Adds old new (ShowsSpent {T = T} (Err (job_fault fault)))
+spent_outside T (site_failed call) told =
+    adds_as (ShowsSpent {T = T} (Err (Outside call))) told (λ added history x. tt)
+spent_outside T no_memory told =
+    adds_as (ShowsSpent {T = T} (Err NoMemory)) told (λ added history x. tt)

@@ -8,7 +8,7 @@ use Rattle.std.proofs.lemmas.List.Folds.{list_all-append}
 use Rattle.chk_bytes.specs.Stems.{is_count}
 use Rattle.chk_site.specs.Files.{File}
 use Rattle.chk_site.specs.Effect.{IsSmallFile}
-use Rattle.chk_site.specs.History.{History, AllModelled, files_after}
+use Rattle.chk_site.specs.History.{History, files_after}
 use Rattle.chk_site.proofs.Small.{all_small}
 use Rattle.chk_chunk.specs.Keys.{Key, Chunk, chunk_limit, record_limit, has_value, read_key}
 use Rattle.chk_seqfile.specs.Entries.{Placed, records_of}
@@ -39,6 +39,7 @@ use Rattle.chk_parts.proofs.OneSegment.{segment_spelled}
 use Rattle.chk_demux.specs.Demuxed.{all_named}
 use Rattle.chk_demux.specs.Splitting.{split_from, RunsSo, SplitAll}
 use Rattle.chk_demux.specs.Writes.{IsFree}
+use Rattle.chk_world.proofs.LogEnds.{legal_modelled}
 
 -- ---- chunks of at most so many bytes are chunks of at most more
 
@@ -90,11 +91,6 @@ same_within (r ∷ rs) all = go (chunk_of chunk_limit r) refl (λ k. same_within
 limits_agree : (bytes : List ℕ) → AllChunks chunk_limit bytes
     → chunks_within record_limit bytes ≡ chunks_within chunk_limit bytes
 limits_agree bytes all = same_within (records_of bytes) all.all
-
-legal_modelled : (stamped : List (List ℕ)) (history : History) → Legal stamped history → AllModelled history
-legal_modelled stamped [] legal = tt
-legal_modelled stamped (step ∷ history) legal =
-    (legal_modelled stamped history legal.0, legal.1.honest.modelled)
 
 -- ---- the archive's segments
 

@@ -13,7 +13,8 @@ use Rattle.chk_site.specs.Site.{Adds, LastFailed, Asked, asked, own_step, answer
 use Rattle.chk_site.specs.Runs.{Leads}
 use Rattle.chk_site.proofs.Runs.{adds_as, adds_both}
 use Rattle.chk_site.proofs.Leads.{Shows, leads_as, done_leads, ends_leads}
-use Rattle.chk_replace.proofs.CallSteps.{OfOwn, call_each, ends_last}
+use Rattle.chk_replace.proofs.CallSteps.{OfOwn, call_each}
+use Rattle.chk_site.proofs.LastCalls.{ended_last as ends_last}
 use Rattle.chk_chunk.specs.Keys.{Chunk}
 use Rattle.chk_world.specs.Names.{Folder, DemuxFolder, Name, BookFile, SegmentFile, file, is_known}
 use Rattle.chk_world.specs.Books.{Segment, Book, book_in, book_of, chunks_in, segment_chunks}

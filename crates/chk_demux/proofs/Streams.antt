@@ -23,7 +23,8 @@ use Rattle.chk_world.specs.JobSteps.{ReadsFile, reads, asks, ReadsOrWrites}
 use Rattle.chk_world.proofs.ToldCalls.{talks}
 use Rattle.chk_heads.specs.declared.fault.JobFault.{JobFault}
 use Rattle.chk_parts.proofs.FromKnown.{with_fact}
-use Rattle.chk_parts.proofs.OneSegment.{no_write_starts, quiet_write}
+use Rattle.chk_parts.proofs.OneSegment.{quiet_write}
+use Rattle.chk_world.proofs.Lifts.{no_write_starts}
 use Rattle.chk_demux.specs.Working.{EndsSo, Worked}
 use Rattle.chk_demux.specs.Writes.{IsOutput}
 use Rattle.chk_demux.specs.Giving.{IsSplitting, chunks_of_fed, pending_of}

@@ -1,5 +1,5 @@
 -- Where a demux run finds the files that it reads damaged.
-use Rattle.std.specs.Prelude.{◌≡◌, ℕ, List, [], ◌∷◌, codes, Contains, IsTrue, Result, Ok, Err}
+use Rattle.std.specs.Prelude.{◌≡◌, ℕ, List, ◌∷◌, codes, Contains, IsTrue, Result, Ok, Err}
 use Rattle.chk_bytes.specs.Stems.{is_count}
 use Rattle.chk_site.specs.Files.{Files}
 use Rattle.chk_site.specs.History.{History}

@@ -1,14 +1,19 @@
 -- What the own reads of a demux run show, on every site.
-use Rattle.std.specs.Prelude.{ℕ, List, codes, Result, Ok, Err}
+use Rattle.std.specs.Prelude.{◌≡◌, ◌⊎◌, ℕ, ◌-◌, ◌^◌, IsTrue, List, codes, Contains, Result, Ok, Err}
 use Rattle.chk_site.specs.History.{History}
-use Rattle.chk_world.specs.Books.{Book}
+use Rattle.chk_world.specs.Books.{Book, End, ends_rise}
+use Rattle.chk_heads.specs.Heads.{Head}
 use Rattle.chk_heads.specs.Shown.{Within}
+use Rattle.chk_heads.specs.ShownHeads.{ShowAll}
 use Rattle.chk_heads.specs.Causes.{Shows}
 use Rattle.chk_heads.specs.declared.fault.JobFault.{JobFault}
-use Rattle.chk_heads.specs.declared.fault.JobFault.TheVariants.{Damaged}
+use Rattle.chk_heads.specs.declared.fault.JobFault.TheVariants.{Damaged, Spent}
 use Rattle.chk_book.specs.Books.{book_view}
+use Rattle.chk_book.specs.Folders.{most_in}
 use Rattle.chk_book.specs.Loaded.{ShowsBook}
 use Rattle.chk_merge.specs.Gone.{IsUnsound}
+use Rattle.chk_merge.specs.Segments.{names_of}
+use Rattle.chk_demux.specs.Splitting.{split_from, ends_past}
 use Rattle.chk_demux.specs.declared.beginning.Books.{Books}
 
 -- a stretch of own reads shows that the archive's book is this one
@@ -22,7 +27,65 @@ pub data IsDamage (name : List ℕ) (at : ℕ) (added history : History) : Type 
   no_records : Within (ShowsBook (codes "demux") (Err (Damaged name at))) added history → IsDamage name at added history
   unsound : (b : Book) → ShowsArchive b added history → IsUnsound (codes "archive") b name at added history → IsDamage name at added history
 
--- at Ok own reads show the archive's book; damage has such a cause
+-- a stretch of own reads shows that the records' book is this one
+abbrev pub ShowsRecords : Book → History → History → Type 0
+ShowsRecords b added history = Within (ShowsBook (codes "demux") (Ok b)) added history
+
+-- one of the heads is of the end's stream and ends past this offset
+abbrev pub HasPast : List Head → End → ℕ → Type 0
+HasPast heads e from = (h : Head) × Contains heads h × IsTrue (ends_past e from h)
+
+-- one of the heads is of a stream of the archive's book, and ends past the place from which on the
+-- split of that stream goes on by the records' book
+abbrev pub HasNew : Book → Book → List Head → Type 0
+HasNew archive records heads =
+    (e : End) × Contains archive.ends e × HasPast heads e (split_from records e)
+
+-- own reads show the heads of all records of the segments that the archive's book names, and one of
+-- them has bytes that aren't split by the records' book
+pub record ShowsNew (archive records : Book) (added history : History) : Type 0 where
+  pub heads : List Head
+  pub shown : Within
+      (ShowAll (most_in (codes "archive")) 0 (names_of (codes "archive") archive) heads) added history
+  pub new : HasNew archive records heads
+
+-- no record was put since there were so many, or else it is so
+abbrev pub PutsIf : Type 0 → ℕ → ℕ → Type 0
+PutsIf P old new = (new ≡ old) ⊎ P
+
+-- at Ok no record was put, or own reads show something new, where the ends of the records' book
+-- rise
+abbrev pub ShowsPut : Book → Book → ℕ → ℕ → Result ℕ JobFault → History → History → Type 0
+ShowsPut archive records old new (Ok left) added history =
+    IsTrue (ends_rise records.ends) → PutsIf (ShowsNew archive records added history) old new
+ShowsPut archive records old new (Err fault) added history = Unit {0}
+
+-- the numbers are spent only where the next one of the records' book is the last one, and own reads
+-- show something new, where that book's ends rise
+abbrev pub SpentBy : {T : Type 0} → Book → Book → Result T JobFault → History → History → Type 0
+SpentBy archive records (Err (Spent n)) added history =
+    (n ≡ 2 ^ 63 - 1) × (records.next ≡ 2 ^ 63 - 1)
+    × (IsTrue (ends_rise records.ends) → ShowsNew archive records added history)
+SpentBy archive records result added history = Unit {0}
+
+-- Why a demux run tells that the numbers are spent: own reads show the records' book, and its next
+-- number is the last one; and they show the archive's book and the heads of all records of its
+-- segments, of which one has bytes that aren't split by the records' book.
+pub record IsSpent (added history : History) : Type 0 where
+  pub records : Book
+  pub has_records : ShowsRecords records added history
+  pub last : records.next ≡ 2 ^ 63 - 1
+  pub archive : Book
+  pub has_archive : ShowsArchive archive added history
+  pub new : ShowsNew archive records added history
+
+-- the numbers are told to be spent only with such a cause; nothing is said of any other answer
+abbrev pub ShowsSpent : {T : Type 0} → Result T JobFault → History → History → Type 0
+ShowsSpent (Err (Spent n)) added history = (n ≡ 2 ^ 63 - 1) × IsSpent added history
+ShowsSpent result added history = Unit {0}
+
+-- at Ok own reads show both books; damage has such a cause
 abbrev pub ShowsBegun : Result Books JobFault → History → History → Type 0
 ShowsBegun (Ok b) added history = ShowsArchive (book_view b.archive) added history
+    × ShowsRecords (book_view b.demux) added history
 ShowsBegun (Err fault) added history = Shows {T = Unit {0}} IsDamage (Err fault) added history

@@ -9,7 +9,7 @@ ghost use Rattle.chk_chunk.specs.Lent.{lent_chunk};
 ghost use Rattle.chk_world.specs.Places.{As};
 ghost use Rattle.chk_world.specs.Sight.{job, Sight, AtJob};
 ghost use Rattle.chk_world.specs.JobSteps.{WritesTo};
-ghost use Rattle.chk_heads.specs.Faults.{JobCause, IsOfBegin};
+ghost use Rattle.chk_heads.specs.Faults.{JobCause, IsOfWrite};
 ghost use Rattle.chk_heads.specs.Order.{lent_head};
 ghost use Rattle.chk_plan.specs.Passes.{head_in};
 ghost use Rattle.chk_merge.specs.Courses.{is_head_of};
@@ -144,7 +144,7 @@ fn give<S: Site>(
         (outs ++ given_chunks heads.now (end_view end.now) index (place_given heads.now index behind splitter.now) splitter.now.given)
         output.new u) result)) }
     ensures writer { OnOk result (IsWriter (book_view book.now).next output.new.segmenter) }
-    ensures only { IfErr result IsOfBegin }
+    ensures only { IfErr result IsOfWrite }
     ensures works { Adds (S.told site.old) (S.told site.new) (Worked (WritesTo (segment_name (codes "demux") (book_view book.now).next)) result) }
     ensures cause { JobCause (S.fault_count site.old) (S.fault_count site.new) result }
 {
@@ -184,7 +184,7 @@ fn write_record<S: Site>(
         (EndsSo stamped (λ t u. IsOutput v
         (outs ++ given_chunks heads.now (end_view end.now) index place bytes.now) output.new u) result)) }
     ensures writer { OnOk result (IsWriter (book_view book.now).next output.new.segmenter) }
-    ensures only { IfErr result IsOfBegin }
+    ensures only { IfErr result IsOfWrite }
     ensures works { Adds (S.told site.old) (S.told site.new) (Worked (WritesTo (segment_name (codes "demux") (book_view book.now).next)) result) }
     ensures cause { JobCause (S.fault_count site.old) (S.fault_count site.new) result }
 {
@@ -227,7 +227,7 @@ pub(crate) fn split_value<S: Site>(
     ensures split { (by_stamps : Bool) (fed : List ℕ) → IsSplitting by_stamps fed splitter.old
         → OnOk result (IsSplitting by_stamps (fed ++ value.now) splitter.new) }
     ensures writer { OnOk result (IsWriter (book_view book.now).next output.new.segmenter) }
-    ensures only { IfErr result IsOfBegin }
+    ensures only { IfErr result IsOfWrite }
     ensures works { Adds (S.told site.old) (S.told site.new) (Worked (WritesTo (segment_name (codes "demux") (book_view book.now).next)) result) }
     ensures cause { JobCause (S.fault_count site.old) (S.fault_count site.new) result }
 {

@@ -8,7 +8,7 @@ ghost use Rattle.chk_chunk.specs.Lent.{lent_chunk};
 ghost use Rattle.chk_world.specs.Places.{As};
 ghost use Rattle.chk_world.specs.Sight.{job, Sight, AtJob};
 ghost use Rattle.chk_world.specs.JobSteps.{WritesTo};
-ghost use Rattle.chk_heads.specs.Faults.{JobCause, IsOfBegin};
+ghost use Rattle.chk_heads.specs.Faults.{JobCause, IsOfWrite};
 ghost use Rattle.chk_book.specs.Folders.{segment_name};
 ghost use Rattle.chk_book.specs.Books.{book_view};
 ghost use Rattle.chk_heads.specs.declared.fault.JobFault.TheVariants.{NoMemory};
@@ -89,7 +89,7 @@ fn open<S: Site>(
         (Leads (As stamped job) (AtJob stamped (SoFar v outs segmenter))
         (EndsSo stamped (λ s u. IsSoFar v outs s u) result)) }
     ensures writer { IfOk result (λ s. IsForDemux (book_view book.now).next s) }
-    ensures only { IfErr result IsOfBegin }
+    ensures only { IfErr result IsOfWrite }
     ensures works { Adds (S.told site.old) (S.told site.new) (Worked (WritesTo (segment_name (codes "demux") (book_view book.now).next)) result) }
     ensures cause { JobCause (S.fault_count site.old) (S.fault_count site.new) result }
 {
@@ -118,7 +118,7 @@ fn write_first<S: Site>(
         (Leads (As stamped job) (AtJob stamped (SoFar v outs segmenter))
         (EndsSo stamped (λ s u. IsSoFar v (outs ++ lent_chunk chunk.now ∷ []) s u) result)) }
     ensures writer { IfOk result (λ s. IsForDemux (book_view book.now).next s) }
-    ensures only { IfErr result IsOfBegin }
+    ensures only { IfErr result IsOfWrite }
     ensures works { Adds (S.told site.old) (S.told site.new) (Worked (WritesTo (segment_name (codes "demux") (book_view book.now).next)) result) }
     ensures cause { JobCause (S.fault_count site.old) (S.fault_count site.new) result }
 {
@@ -146,7 +146,7 @@ fn put_first<S: Site>(
         (Leads (As stamped job) (AtJob stamped (IsOutput v outs output.old))
         (EndsSo stamped (λ t u. IsOutput v (outs ++ lent_chunk chunk.now ∷ []) output.new u) result)) }
     ensures writer { OnOk result (IsWriter (book_view book.now).next output.new.segmenter) }
-    ensures only { IfErr result IsOfBegin }
+    ensures only { IfErr result IsOfWrite }
     ensures works { Adds (S.told site.old) (S.told site.new) (Worked (WritesTo (segment_name (codes "demux") (book_view book.now).next)) result) }
     ensures cause { JobCause (S.fault_count site.old) (S.fault_count site.new) result }
 {
@@ -177,7 +177,7 @@ pub(crate) fn put<S: Site>(
         (Leads (As stamped job) (AtJob stamped (IsOutput v outs output.old))
         (EndsSo stamped (λ t u. IsOutput v (outs ++ lent_chunk chunk.now ∷ []) output.new u) result)) }
     ensures writer { OnOk result (IsWriter (book_view book.now).next output.new.segmenter) }
-    ensures only { IfErr result IsOfBegin }
+    ensures only { IfErr result IsOfWrite }
     ensures works { Adds (S.told site.old) (S.told site.new) (Worked (WritesTo (segment_name (codes "demux") (book_view book.now).next)) result) }
     ensures cause { JobCause (S.fault_count site.old) (S.fault_count site.new) result }
 {

@@ -6,7 +6,7 @@ ghost use Rattle.chk_site.specs.Site.{Adds};
 ghost use Rattle.chk_site.specs.Runs.{Leads};
 ghost use Rattle.chk_world.specs.Places.{As};
 ghost use Rattle.chk_world.specs.Sight.{job, Sight, AtJob};
-ghost use Rattle.chk_heads.specs.Faults.{JobCause, IsOfBegin};
+ghost use Rattle.chk_heads.specs.Faults.{JobCause, IsOfWrite};
 ghost use Rattle.chk_book.specs.Books.{book_view};
 ghost use Rattle.chk_demux.specs.Demuxed.{WritesBook};
 ghost use Rattle.chk_demux.specs.Working.{Worked, EndsSo};
@@ -34,7 +34,7 @@ pub(crate) fn enter<S: Site>(
         → MayEnter stamped v (book_view book.old) outs → Adds (S.told site.old) (S.told site.new)
         (Leads (As stamped job) (AtJob stamped (SoFar v outs segmenter))
         (EndsSo stamped (λ t u. Entered v (book_view book.old) outs segmenter u) result)) }
-    ensures only { IfErr result IsOfBegin }
+    ensures only { IfErr result IsOfWrite }
     ensures works { Adds (S.told site.old) (S.told site.new) (Worked (WritesBook (book_view book.old).next) result) }
     ensures cause { JobCause (S.fault_count site.old) (S.fault_count site.new) result }
 {
@@ -58,7 +58,7 @@ fn enter_segment<S: Site>(
         → MayEnter stamped v (book_view book.old) outs → Adds (S.told site.old) (S.told site.new)
         (Leads (As stamped job) (AtJob stamped (IsSoFar v outs segmenter))
         (EndsSo stamped (λ t u. Entered v (book_view book.old) outs (Some segmenter) u) result)) }
-    ensures only { IfErr result IsOfBegin }
+    ensures only { IfErr result IsOfWrite }
     ensures works { Adds (S.told site.old) (S.told site.new) (Worked (WritesBook (book_view book.old).next) result) }
     ensures cause { JobCause (S.fault_count site.old) (S.fault_count site.new) result }
 {

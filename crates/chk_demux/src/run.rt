@@ -9,12 +9,12 @@ ghost use Rattle.chk_chunk.specs.Keys.{Chunk};
 ghost use Rattle.chk_world.specs.Places.{As};
 ghost use Rattle.chk_world.specs.Sight.{job, Sight, AtJob};
 ghost use Rattle.chk_world.specs.JobSteps.{IsOf};
-ghost use Rattle.chk_heads.specs.Faults.{JobCause, FailsLast, IsOfBegin};
+ghost use Rattle.chk_heads.specs.Faults.{JobCause, FailsLast, IsOfRead, IsOfWrite};
 ghost use Rattle.chk_heads.specs.Order.{in_head_order};
 ghost use Rattle.chk_heads.specs.Pieces.{AsksInPieces};
 ghost use Rattle.chk_heads.specs.Causes.{Shows};
 ghost use Rattle.chk_merge.specs.Gone.{IsUnsound, ShowsSound};
-ghost use Rattle.chk_demux.specs.Shown.{IsDamage};
+ghost use Rattle.chk_demux.specs.Shown.{IsDamage, ShowsPut, SpentBy, ShowsSpent};
 ghost use Rattle.chk_parts.specs.Gathering.{AreSound, heads_of};
 ghost use Rattle.chk_book.specs.Books.{book_view};
 ghost use Rattle.chk_book.specs.Folders.{segment_name};
@@ -81,6 +81,7 @@ fn heads_in_order<S: Site>(
         (HasFiles (names_of (codes "archive") (book_view archive.now)) held)
         (SoundHeads (codes "archive") (book_view archive.now) held result)) }
     ensures shown { Adds (S.told site.old) (S.told site.new) (ShowsSound (codes "archive") (book_view archive.now) result) }
+    ensures only { IfErr result IsOfRead }
     ensures works { Adds (S.told site.old) (S.told site.new) (Worked RunsOn result) }
     ensures cause { JobCause (S.fault_count site.old) (S.fault_count site.new) result }
 {
@@ -131,7 +132,11 @@ fn split_named<S: Site>(
         (HasFiles (names_of (codes "archive") (book_view archive.now)) held)
         (ReadSoundly (book_view archive.now) held result)) }
     ensures writer { OnOk result (IsWriter (book_view book.now).next output.new.segmenter) }
+    ensures due { Adds (S.told site.old) (S.told site.new)
+        (ShowsPut (book_view archive.now) (book_view book.now) output.old.entries
+        output.new.entries result) }
     ensures shown { Adds (S.told site.old) (S.told site.new) (Shows (IsUnsound (codes "archive") (book_view archive.now)) result) }
+    ensures only { IfErr result IsOfRead }
     ensures works { Adds (S.told site.old) (S.told site.new) (Worked RunsOn result) }
     ensures cause { JobCause (S.fault_count site.old) (S.fault_count site.new) result }
 {
@@ -158,7 +163,7 @@ fn enter_output<S: Site>(
         → MayEnter stamped v (book_view book.old) outs → Adds (S.told site.old) (S.told site.new)
         (Leads (As stamped job) (AtJob stamped (SoFar v outs output.segmenter))
         (EndsSo stamped (λ t u. Entered v (book_view book.old) outs output.segmenter u) result)) }
-    ensures only { IfErr result IsOfBegin }
+    ensures only { IfErr result IsOfWrite }
     ensures counts { IfOk result (λ report. Reports output left report) }
     ensures works { Adds (S.told site.old) (S.told site.new) (Worked (WritesBook (book_view book.old).next) result) }
     ensures cause { JobCause (S.fault_count site.old) (S.fault_count site.new) result }
@@ -204,6 +209,8 @@ fn split_archive<S: Site>(
         (HasFiles (names_of (codes "archive") (book_view archive.now)) held)
         (ReadSoundly (book_view archive.now) held result)) }
     ensures shown { Adds (S.told site.old) (S.told site.new) (Shows (IsUnsound (codes "archive") (book_view archive.now)) result) }
+    ensures spent { Adds (S.told site.old) (S.told site.new)
+        (SpentBy (book_view archive.now) (book_view book.old) result) }
     ensures works { Adds (S.told site.old) (S.told site.new) (Worked RunsOn result) }
     ensures cause { JobCause (S.fault_count site.old) (S.fault_count site.new) result }
 {
@@ -245,6 +252,7 @@ pub fn demux<S: Site>(
     ensures raw { (held : Files) → AreSettled (reads_of held) held → Adds (S.told site.old) (S.told site.new)
         (Leads (anyhow (SparesFiles (reads_of held))) (HasFiles (reads_of held) held) (ReadAll held result)) }
     ensures shown { Adds (S.told site.old) (S.told site.new) (Shows IsDamage result) }
+    ensures spent { Adds (S.told site.old) (S.told site.new) (ShowsSpent result) }
     ensures own { Adds (S.told site.old) (S.told site.new) (Every (IsOf DemuxesBy)) }
     ensures pieces { Adds (S.told site.old) (S.told site.new) (Every AsksInPieces) }
     ensures last { Adds (S.told site.old) (S.told site.new) (FailsLast result) }

@@ -27,6 +27,7 @@ ghost use Rattle.chk_demux.specs.Working.{Worked, EndsSo};
 ghost use Rattle.chk_heads.specs.Causes.{Shows};
 ghost use Rattle.chk_merge.specs.Gone.{IsGoneIn};
 ghost use Rattle.chk_demux.specs.Writes.{IsFree, IsWriter, IsOutput};
+ghost use Rattle.chk_demux.specs.Shown.{PutsIf, HasPast, HasNew};
 ghost use Rattle.chk_demux.specs.Splitting.{texts, past_in, split_from, ends_past, is_stamped, RunsSo, SplitSoFar, SplitAll, StreamsRise, HoldsStream, stream_chunks, stream_left, all_chunks, all_left};
 
 use crate::blocks::{Block, block_of};
@@ -111,7 +112,11 @@ fn split_record<S: Site>(
         (Leads (anyhow (SparesFiles files.now)) (λ h. HasFiles files.now (held v) h × AreWindows v files.now reader.old)
         (ReadsOn v files.now reader.new result)) }
     ensures writer { OnOk result (IsWriter (book_view book.now).next output.new.segmenter) }
+    ensures due { OnOk result
+        (PutsIf (IsTrue (ends_past (end_view end.now) from (head_in heads.now index)))
+        output.old.entries output.new.entries) }
     ensures shown { Adds (S.told site.old) (S.told site.new) (Shows (IsGoneIn files.now heads.now) result) }
+    ensures only { IfErr result IsOfRead }
     ensures works { Adds (S.told site.old) (S.told site.new) (Worked (ReadsOrWrites (segment_name (codes "demux") (book_view book.now).next)) result) }
     ensures cause { JobCause (S.fault_count site.old) (S.fault_count site.new) result }
 {
@@ -159,7 +164,10 @@ fn split_stream<S: Site>(
         (Leads (anyhow (SparesFiles files.now)) (λ h. HasFiles files.now (held v) h × AreWindows v files.now reader.old)
         (ReadsOn v files.now reader.new result)) }
     ensures writer { OnOk result (IsWriter (book_view book.now).next output.new.segmenter) }
+    ensures due { OnOk result (PutsIf (HasPast heads.now (end_view end.now) from)
+        output.old.entries output.new.entries) }
     ensures shown { Adds (S.told site.old) (S.told site.new) (Shows (IsGoneIn files.now heads.now) result) }
+    ensures only { IfErr result IsOfRead }
     ensures works { Adds (S.told site.old) (S.told site.new) (Worked (ReadsOrWrites (segment_name (codes "demux") (book_view book.now).next)) result) }
     ensures cause { JobCause (S.fault_count site.old) (S.fault_count site.new) result }
 {
@@ -211,7 +219,11 @@ pub(crate) fn split_streams<S: Site>(
         (Leads (anyhow (SparesFiles files.now)) (HasFiles files.now (held v))
         (NotDamaged result)) }
     ensures writer { OnOk result (IsWriter (book_view book.now).next output.new.segmenter) }
+    ensures due { IsTrue (ends_rise (book_view book.now).ends)
+        → OnOk result (PutsIf (HasNew (book_view archive.now) (book_view book.now) heads.now)
+        output.old.entries output.new.entries) }
     ensures shown { Adds (S.told site.old) (S.told site.new) (Shows (IsGoneIn files.now heads.now) result) }
+    ensures only { IfErr result IsOfRead }
     ensures works { Adds (S.told site.old) (S.told site.new) (Worked (ReadsOrWrites (segment_name (codes "demux") (book_view book.now).next)) result) }
     ensures cause { JobCause (S.fault_count site.old) (S.fault_count site.new) result }
 {

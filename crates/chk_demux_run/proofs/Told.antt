@@ -8,7 +8,8 @@ use Rattle.chk_site.specs.Site.{Adds, LastFailed}
 use Rattle.chk_site.specs.Runs.{Leads, own_acts}
 use Rattle.chk_site.proofs.Runs.{adds_then, every_join}
 use Rattle.chk_site.proofs.Leads.{leads_as, leads_then}
-use Rattle.chk_replace.proofs.CallSteps.{script_last, last_then}
+use Rattle.chk_replace.proofs.CallSteps.{script_last}
+use Rattle.chk_site.proofs.LastCalls.{last_of_both as last_then}
 use Rattle.chk_world.specs.Rules.{Legal}
 use Rattle.chk_world.specs.Places.{As}
 use Rattle.chk_world.specs.Sight.{job}

@@ -10,7 +10,7 @@ ghost use Rattle.chk_world.specs.JobSteps.{IsOf};
 ghost use Rattle.chk_heads.specs.Faults.{JobCause, FailsLast};
 ghost use Rattle.chk_heads.specs.Causes.{Shows};
 ghost use Rattle.chk_demux.specs.Demuxed.{Earlier, Begun, Demuxed, NamesStamped};
-ghost use Rattle.chk_demux.specs.Shown.{IsDamage};
+ghost use Rattle.chk_demux.specs.Shown.{IsDamage, ShowsSpent};
 ghost use Rattle.chk_demux.specs.Splitting.{texts};
 ghost use Rattle.chk_demux_run.specs.Telling.{DemuxesAndTells, IsTold, EndsRunning};
 
@@ -36,6 +36,7 @@ pub fn run_demux<S: Site>(
     ensures prints { Adds (S.told site.old) (S.told site.new) (IsTold result) }
     ensures runs { Adds (S.told site.old) (S.told site.new) (EndsRunning result) }
     ensures shown { Adds (S.told site.old) (S.told site.new) (Shows IsDamage result) }
+    ensures spent { Adds (S.told site.old) (S.told site.new) (ShowsSpent result) }
     ensures last { Adds (S.told site.old) (S.told site.new) (FailsLast result) }
     ensures cause { JobCause (S.fault_count site.old) (S.fault_count site.new) result }
 {

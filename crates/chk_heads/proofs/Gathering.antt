@@ -16,7 +16,7 @@ use Rattle.chk_site.specs.Runs.{anyhow, Leads}
 use Rattle.chk_site.proofs.Runs.{adds_then, adds_as, adds_none, every_join}
 use Rattle.chk_site.proofs.Leads.{leads_then, leads_none, owned_anyhow}
 use Rattle.chk_replace.specs.Load.{Has}
-use Rattle.chk_replace.proofs.CallSteps.{last_then}
+use Rattle.chk_site.proofs.LastCalls.{last_of_both as last_then}
 use Rattle.chk_seqfile.specs.Headers.{read_header}
 use Rattle.chk_seqfile.specs.declared.headers.HeaderFault.TheVariants.{Short}
 use Rattle.chk_seqfile.specs.declared.entries.Why.TheVariants.{Torn}
@@ -188,7 +188,7 @@ spoiled_told name most file p at hs ks limit js place NoMemory bad damage bytes 
 
 -- ---- before the first piece
 
-no_records : (place : ℕ) → records_of (take place []) ≡ []
+pub no_records : (place : ℕ) → records_of (take place []) ≡ []
 no_records place = ap records_of (take_all place [] (omega arith)) ∙ records_of-nil
 
 pub begins : (now : Option History) (name : List ℕ) (most file : ℕ) (p : Pieces) (hs : List Head) → fed_limit p ≡ limit_of most → IsFed p []

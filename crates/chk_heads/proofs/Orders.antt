@@ -5,6 +5,7 @@ use Rattle.std.proofs.lemmas.Bool.{and_parts, or_parts, or_from, or_cases, and_l
 use Rattle.chk_bytes.specs.Words.{text_lt}
 use Rattle.chk_chunk.specs.Keys.{Stream, same_stream, stream_lt}
 use Rattle.chk_world.proofs.Ends.{bytes_self, bytes_same}
+use Rattle.chk_world.proofs.LinesRead.{text_lt_self as text_self}
 
 -- an order in which some may be alike
 pub record WeakOrder {X : Type 0} (lt : X → X → Bool) : Type 0 where
@@ -179,9 +180,6 @@ text_alike (x ∷ us) (y ∷ vs) p q =
     let a1 = u.0 in let a2 = v.0 in
     let same : x ≡ y = omega (arith, a1, a2) in
     ap (λ n. n ∷ us) same ∙ ap (λ l. y ∷ l) (text_alike us vs (u.1 same) (v.1 (sym same)))
-
-text_self : (a : List ℕ) → text_lt a a ≡ false
-text_self a = self_not text_lt (record { one_way = text_one_way; onward = text_onward }) a
 
 pub texts : Tested text_lt bytes_eq
 texts = record {

@@ -28,7 +28,7 @@ use Rattle.chk_heads.specs.Pieces.{AsksInPieces, bytes_in, asks_for, HasMost, Ha
 abbrev pub read_for : Who → List ℕ → ℕ → ℕ → Asked
 read_for who name at most = asked who Read (name ∷ []) at (asks_for most at)
 
-keeps_file : (name : List ℕ) (file : Option File) → Keeps (SparesFile name) (Has name file)
+pub keeps_file : (name : List ℕ) (file : Option File) → Keeps (SparesFile name) (Has name file)
 keeps_file name file before step theirs leaves has = leaves ∙ has
 
 -- a read that was answered leaves the file, and its answer agrees with the file

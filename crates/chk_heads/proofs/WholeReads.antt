@@ -11,48 +11,9 @@ use Rattle.chk_site.specs.Runs.{anyhow, Leads}
 use Rattle.chk_site.proofs.Runs.{adds_then, adds_as}
 use Rattle.chk_site.proofs.Leads.{leads_then, leads_none, owned_anyhow}
 use Rattle.chk_replace.specs.Load.{asks_at, Has, HasPiece, Loaded, bytes_of, IsFront, HasFront}
-use Rattle.chk_replace.proofs.CallSteps.{last_then}
+use Rattle.chk_site.proofs.LastCalls.{last_of_both as last_then}
 use Rattle.chk_world.specs.JobSteps.{SparesFile}
-
--- nothing was read yet
-front_none : (file : Option File) → IsFront [] file
-front_none None = refl
-front_none (Some file) = (file.bytes, refl)
-
--- one piece more
-front_more : (bytes piece : List ℕ) (at : ℕ) (file : Option File) → at ≡ length bytes
-    → Some piece ≡ option_map (λ bytes. take (asks_at at) (drop at bytes)) (bytes_of file) → IsFront bytes file → IsFront (bytes ++ piece) file
-front_more bytes piece at None here given front = cc
-front_more bytes piece at (Some file) here given front =
-    let rest = front.0 in
-    let n = asks_at at in
-    let left : drop at file.bytes ≡ rest =
-    ap (λ k. drop k file.bytes) here ∙ ap (drop (length bytes)) front.1 ∙ drop-append_seam bytes rest in
-    let is : piece ≡ take n rest = let e : piece ≡ take n (drop at file.bytes) = cc in e ∙ ap (take n) left in (
-      drop n rest,
-      front.1 ∙ ap (λ t. bytes ++ t) (sym (take-append-drop n rest)) ∙ sym (append_assoc bytes (take n rest) (drop n rest))
-          ∙ ap (λ t. (bytes ++ t) ++ drop n rest) (sym is),
-    )
-
--- an empty piece stands at the end
-front_whole : (bytes piece : List ℕ) (at : ℕ) (file : Option File) → at ≡ length bytes → length piece ≡ 0 → IsSmallFile file
-    → Some piece ≡ option_map (λ bytes. take (asks_at at) (drop at bytes)) (bytes_of file) → IsFront bytes file
-    → Some bytes ≡ bytes_of file
-front_whole bytes piece at None here empty small given front = cc
-front_whole bytes piece at (Some file) here empty small given front =
-    let rest = front.0 in
-    let n = asks_at at in
-    let left : drop at file.bytes ≡ rest =
-    ap (λ k. drop k file.bytes) here ∙ ap (drop (length bytes)) front.1 ∙ drop-append_seam bytes rest in
-    let is : piece ≡ take n rest = let e : piece ≡ take n (drop at file.bytes) = cc in e ∙ ap (take n) left in
-    let few : length piece ≡ min n (length rest) = ap length is ∙ length-take n rest in
-    let all : length file.bytes ≡ length bytes + length rest = ap length front.1 ∙ length-append bytes rest in
-    let none : rest ≡ [] = nil_from_length rest (omega arith) in
-    ap (λ bytes. Some bytes) (sym (front.1 ∙ ap (λ t. bytes ++ t) none ∙ append-nil bytes))
-
-none_whole : (n at : ℕ) (file : Option File) → None ≡ option_map (λ bytes. take n (drop at bytes)) (bytes_of file) → None ≡ bytes_of file
-none_whole n at None given = refl
-none_whole n at (Some file) given = cc
+use Rattle.chk_replace.proofs.Pieces.{front_none, front_more, front_whole, none_whole}
 
 -- a load before its first piece
 pub load_begins : (name : List ℕ) (file : Option File) (now : Option History) → Adds now now (Leads (anyhow (SparesFile name)) (Has name file) (HasFront name file []))

@@ -9,7 +9,7 @@ use Rattle.chk_site.specs.Runs.{anyhow, Leads}
 use Rattle.chk_site.proofs.Runs.{adds_as, adds_then}
 use Rattle.chk_site.proofs.Leads.{leads_as, leads_none, leads_then, owned_anyhow}
 use Rattle.chk_replace.specs.Load.{Has}
-use Rattle.chk_replace.proofs.CallSteps.{last_then}
+use Rattle.chk_site.proofs.LastCalls.{last_of_both as last_then}
 use Rattle.chk_site.specs.declared.acts.OutsideFault.TheVariants.{Outside as site_failed}
 use Rattle.chk_world.specs.JobSteps.{IsOf, ReadsFile, SparesFile}
 use Rattle.chk_world.proofs.Each.{Each}

@@ -27,6 +27,7 @@ use Rattle.chk_merge.specs.ReadBack.{value_at, HoldsNothing, IsWindowOf, CanRead
 use Rattle.chk_merge.specs.Segments.{SparesFiles, heads_from}
 use Rattle.chk_merge.specs.Archives.{file_at, AreWindows, IsKnown, CanReadAll, HasReadAll}
 use Rattle.chk_merge.proofs.Frames.{spares_one}
+use Rattle.chk_world.proofs.BooksTrue.{each_append}
 
 -- several accounts of the same steps
 pub adds_all : {X : Type 0} {old new : Option History} {P : History → History → Type 0} {Q : X
@@ -48,11 +49,6 @@ adds_all {Q = Q} R p q join = record {
       );
   untold = p.untold;
 }
-
-pub each_append : {X : Type 0} (P : X → Type 0) (xs ys : List X) → Each P xs → Each P ys → Each P
-    (xs ++ ys)
-each_append P [] ys a b = b
-each_append P (x ∷ xs) ys a b = (a.0, each_append P xs ys a.1 b)
 
 pub each_get : {X : Type 0} (P : X → Type 0) (xs : List X) → Each P xs → (i : ℕ) (d : X)
     → i < length xs → P (get_or xs i d)

@@ -21,7 +21,7 @@ use Rattle.chk_merge.specs.Spans.{NoValueSpan, room_of}
 use Rattle.chk_merge.specs.Segments.{names_of}
 use Rattle.chk_merge.specs.Checking.{ToldOfSome}
 use Rattle.chk_merge.specs.ReadBack.{NotHeld}
-use Rattle.chk_merge.specs.Gone.{once, ended, twice, ShowsRun, ShowsWindow, IsGone, IsGoneOf, IsGoneIn, IsUnsound, bad, broken, gone, ShowsSound}
+use Rattle.chk_merge.specs.Gone.{once, ended, twice, ShowsRun, ShowsWindow, IsGone, IsGoneOf, IsGoneIn, IsUnsound, bad, broken, gone, IsUnreadable, lost, ShowsSound}
 use Rattle.chk_merge.specs.declared.reader.RecordReader.{RecordReader}
 
 -- ---- one run of a file's bytes
@@ -164,6 +164,28 @@ module _ (folder : List ℕ) (b : Book) (ns : List (List ℕ)) (most : ℕ) (n :
       → Adds old mid (ShowsSound folder b (Ok sorted))
   sound_so heads sorted order told =
       adds_as (ShowsSound folder b (Ok sorted)) (all_so (Ok heads) told) (λ added history x. (heads, order, x))
+
+  -- what was gathered, and then read of one stream
+  pub unreadable_so : {T : Type 0} (heads : List Head) (result : Result T JobFault)
+      {new : Option History} → Adds old mid (ShowsAllGathered most ns (Ok heads))
+      → Adds mid new (Shows (IsGoneIn ns heads) result)
+      → Adds old new (Shows (IsUnreadable folder b) result)
+  unreadable_so {T = T} heads result so_far told =
+      adds_then (Shows (IsUnreadable folder b) result) (all_so (Ok heads) so_far) told
+      (λ a d history x y. said result a d history x y)
+    where
+      said : (result : Result T JobFault) (a d history : History)
+          → ShowAll (most_in folder) 0 (names_of folder b) heads a history
+          → Shows (IsGoneIn ns heads) result d (a ++ history)
+          → Shows (IsUnreadable folder b) result (d ++ a) history
+      said (Ok value) a d history x y = tt
+      said (Err (Outside call)) a d history x y = tt
+      said (Err (Damaged name at)) a d history x y =
+          lost heads (within_early _ d a history (within_all _ a history x))
+          (subst (λ ws. IsGoneIn ws heads name at (d ++ a) history) n
+          (late_gone_in ns heads name at d a history y))
+      said (Err (Spent k)) a d history x y = tt
+      said (Err NoMemory) a d history x y = tt
 
 -- one of the heads isn't found again
 pub merge_gone : (folder : List ℕ) (b : Book) (ns : List (List ℕ)) (heads : List Head) (U : Type 0) (fault : JobFault) {old mid new : Option History}

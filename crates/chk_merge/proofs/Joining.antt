@@ -28,7 +28,8 @@ use Rattle.chk_merge.specs.Segments.{SparesFiles, heads_from, chunks_in_files}
 use Rattle.chk_merge.specs.Courses.{is_head_of, goes_on, first_break, first_head, reached}
 use Rattle.chk_merge.specs.Archives.{file_at, IsKnown, CanReadAll, HasReadAll, value_in, chunk_in, values_in, CanJoin, HasJoined, HasSoFar, JoinedOne}
 use Rattle.chk_merge.proofs.Records.{chunks_of_heads, heads_begin}
-use Rattle.chk_merge.proofs.AllRead.{each_append, numbered, known_from, no_windows}
+use Rattle.chk_merge.proofs.AllRead.{numbered, known_from, no_windows}
+use Rattle.chk_world.proofs.BooksTrue.{each_append}
 
 -- ---- one after the other
 

@@ -27,7 +27,8 @@ use Rattle.chk_merge.specs.Checking.{GoesWell, AllGoWell}
 use Rattle.chk_merge.specs.Archives.{IsKnown, chunk_in}
 use Rattle.chk_merge.specs.Merging.{SoundHeads, MergedInto, SparesBoth, CanBegin, IsMergedSegment, WroteMerged, HasMerged}
 use Rattle.chk_merge.proofs.Records.{heads_have_bytes}
-use Rattle.chk_merge.proofs.AllRead.{each_append, known_from}
+use Rattle.chk_merge.proofs.AllRead.{known_from}
+use Rattle.chk_world.proofs.BooksTrue.{each_append}
 use Rattle.chk_merge.proofs.Joining.{chunks_from}
 use Rattle.chk_merge.proofs.SortedStream.{Rises, each_sort, sorted_keeps}
 use Rattle.chk_merge.proofs.SortedRuns.{HasBytes, order_keeps}

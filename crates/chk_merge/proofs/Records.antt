@@ -19,6 +19,7 @@ use Rattle.chk_heads.specs.Heads.{Head, head_of, head_at, heads_in}
 use Rattle.chk_merge.specs.Spans.{record_size, key_size, room_of}
 use Rattle.chk_merge.specs.ReadBack.{value_at, chunk_at}
 use Rattle.chk_merge.proofs.Sized.{IsSized, record_sized}
+use Rattle.chk_heads.proofs.Records.{valid_key as key_valid}
 
 -- the record stands there
 pub record Stands (bytes : List ℕ) (r : Placed) : Type 0 where
@@ -121,10 +122,6 @@ is_chunk_of most r c e = go (read_key r.key) refl e
     go (Some k) read e = pick k read (has_value most k r.value) refl e
 
 -- ---- how long a record may be
-
-key_valid : (k : Key) (bytes : List ℕ) → IsKey k bytes → IsTrue (is_key k)
-key_valid k bytes (inl one) = (and_parts (is_key k) (fits_1 k) one.0).0
-key_valid k bytes (inr two) = two.0
 
 stream_long : (k : Key) → length (counted_stream k.stream) ≡ 6 + (length k.stream.source +
     (length k.stream.kind + length k.stream.name))

@@ -22,18 +22,17 @@ use Rattle.chk_site.proofs.Runs.{adds_as, adds_then, every_join, ran}
 use Rattle.chk_site.proofs.Leads.{Keeps, Shows, acted_leads, leads_then, owned_anyhow}
 use Rattle.chk_site.proofs.Stays.{unnamed_stays}
 use Rattle.chk_replace.specs.Load.{Has}
-use Rattle.chk_replace.proofs.CallSteps.{call_each, last_then}
+use Rattle.chk_replace.proofs.CallSteps.{call_each}
+use Rattle.chk_site.proofs.LastCalls.{last_of_both as last_then}
 use Rattle.chk_world.specs.Sight.{job}
 use Rattle.chk_world.specs.JobSteps.{IsOf, ReadsFile, reads, SparesFile}
 use Rattle.chk_heads.specs.Pieces.{AsksInPieces, bytes_in}
 use Rattle.chk_merge.specs.Spans.{HasRun}
+use Rattle.chk_heads.proofs.PieceReads.{keeps_file}
 
 -- a read of the file at this place, of at most so many bytes
 abbrev pub read_of : Who → List ℕ → ℕ → ℕ → Asked
 read_of who name at max = asked who Read (name ∷ []) at max
-
-keeps_file : (name : List ℕ) (file : Option File) → Keeps (SparesFile name) (Has name file)
-keeps_file name file before step theirs leaves has = leaves ∙ has
 
 -- a read that was answered leaves each file
 read_leaves : (who : Who) (name : List ℕ) (at max : ℕ) (other : List ℕ) (file : Option File)
@@ -252,10 +251,6 @@ short_run name at size first file more short told =
     })
 
 -- ---- steps in turn
-
-pub every_then : (P : History → Step → Type 0) {old mid new : Option History} → Adds old mid
-    (Every P) → Adds mid new (Every P) → Adds old new (Every P)
-every_then P p q = adds_then (Every P) p q (λ a b history x y. every_join P b a history x y)
 
 pub last_behind : {T : Type 0} {P : History → History → Type 0} (result : Result T OutsideFault)
     {old mid new : Option History}

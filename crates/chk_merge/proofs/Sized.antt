@@ -4,6 +4,7 @@ use Rattle.std.proofs.lemmas.List.{length-take-le, length-drop}
 use Rattle.std.proofs.lemmas.Bool.{ltb-false, or_parts}
 use Rattle.chk_bytes.specs.Numbers.{spelled_at}
 use Rattle.chk_seqfile.specs.Entries.{RecordEntry, entry_at, sync_or_not}
+use Rattle.chk_seqfile.proofs.FoundEntries.{passed, sync_no_record}
 
 -- its two numbers are those of its parts, all of it is there, and its value stands behind its key
 pub record IsSized (bytes key value : List ℕ) : Type 0 where
@@ -13,21 +14,9 @@ pub record IsSized (bytes key value : List ℕ) : Type 0 where
   pub value_is : take (spelled_at 0 4 bytes - spelled_at 4 4 bytes - 4) (drop
       (12 + spelled_at 4 4 bytes) bytes) ≡ value
 
--- where another answer would have been given, the test was false
-passed : {X : Type 0} (b : Bool) (x y z : X) → cond b x y ≡ z → (x ≡ z → ⊥) → (b ≡ false) × (y ≡ z)
-passed true x y z e other = absurd (other e)
-passed false x y z e other = (refl, e)
-
 held : {X : Type 0} (b : Bool) (x y z : X) → cond b x y ≡ z → (y ≡ z → ⊥) → x ≡ z
 held true x y z e other = e
 held false x y z e other = absurd (other e)
-
-sync_no_record : (marker bytes key value : List ℕ) → sync_or_not marker bytes
-    ≡ RecordEntry key value → ⊥
-sync_no_record marker bytes key value read =
-    let long = passed (ltb (length bytes) 20) _ _ _ read (λ e. cc) in
-    let other = passed (bytes_eq (take 16 (drop 4 bytes)) marker) _ _ _ long.1 (λ e. cc) in
-    let wrong = other.1 in cc
 
 pub record_sized : (marker bytes key value : List ℕ) → entry_at marker bytes
     ≡ RecordEntry key value → IsSized bytes key value

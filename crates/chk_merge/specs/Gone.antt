@@ -65,6 +65,16 @@ pub data IsUnsound (folder : List ℕ) (b : Book) (name : List ℕ) (at : ℕ) (
   gone : (heads : List Head) → Within (ShowAll (most_in folder) 0 (names_of folder b) heads) added history
       → IsGoneIn (names_of folder b) (in_head_order heads) name at added history → IsUnsound folder b name at added history
 
+-- the same where the records of one stream are read: it is unsound, or own reads show the heads of all
+-- records, and one that other own reads don't find again
+pub data IsUnreadable (folder : List ℕ) (b : Book) (name : List ℕ) (at : ℕ) (added history : History)
+    : Type 0 where
+  unsound : IsUnsound folder b name at added history → IsUnreadable folder b name at added history
+  lost : (heads : List Head)
+      → Within (ShowAll (most_in folder) 0 (names_of folder b) heads) added history
+      → IsGoneIn (names_of folder b) heads name at added history
+      → IsUnreadable folder b name at added history
+
 -- at Ok own reads show the heads of all records, which these are in order; damage has such a cause
 abbrev pub ShowsSound : List ℕ → Book → Result (List Head) JobFault → History → History → Type 0
 ShowsSound folder b (Ok heads) added history =

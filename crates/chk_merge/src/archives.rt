@@ -13,6 +13,8 @@ ghost use Rattle.chk_book.specs.Books.{book_view};
 ghost use Rattle.chk_book.specs.Folders.{is_folder};
 ghost use Rattle.chk_merge.specs.Streams.{stream_of};
 ghost use Rattle.chk_merge.specs.Segments.{names_of, HasFiles, SparesFiles, AreSettled};
+ghost use Rattle.chk_heads.specs.Causes.{Shows};
+ghost use Rattle.chk_merge.specs.Gone.{IsGoneIn, IsUnreadable};
 ghost use Rattle.chk_merge.specs.Archives.{CanJoin, HasJoined, HasSoFar, JoinedOne, ReadArchive};
 
 use crate::courses::{StreamRef, stream_break};
@@ -55,6 +57,8 @@ pub fn archive_of<S: Site>(
         (names_of folder.now (book_view book.now)) held)
         (ReadArchive folder.now (book_view book.now) held (record
         { source = source.now; kind = kind.now; name = name.now }) result)) }
+    ensures shown { Adds (S.told site.old) (S.told site.new)
+        (Shows (IsUnreadable folder.now (book_view book.now)) result) }
     ensures own { who.now ≡ job → Adds (S.told site.old) (S.told site.new) (Every
         (IsOf ReadsFile)) }
     ensures pieces { Adds (S.told site.old) (S.told site.new) (Every AsksInPieces) }
@@ -84,6 +88,8 @@ fn read_archive<S: Site>(
         (Leads (anyhow (SparesFiles (names_of folder.now (book_view book.now)))) (HasFiles
         (names_of folder.now (book_view book.now)) held)
         (ReadArchive folder.now (book_view book.now) held (stream_of stream.now) result)) }
+    ensures shown { Adds (S.told site.old) (S.told site.new)
+        (Shows (IsUnreadable folder.now (book_view book.now)) result) }
     ensures own { who.now ≡ job → Adds (S.told site.old) (S.told site.new) (Every
         (IsOf ReadsFile)) }
     ensures pieces { Adds (S.told site.old) (S.told site.new) (Every AsksInPieces) }
@@ -111,6 +117,8 @@ fn joined<S: Site>(
         (S.told site.old) (S.told site.new)
         (Leads (anyhow (SparesFiles names.now)) (CanJoin most names.now held heads.now)
         (HasJoined (stream_of stream.now) names.now held heads.now result)) }
+    ensures shown { Adds (S.told site.old) (S.told site.new)
+        (Shows (IsGoneIn names.now heads.now) result) }
     ensures own { who.now ≡ job → Adds (S.told site.old) (S.told site.new) (Every
         (IsOf ReadsFile)) }
     ensures pieces { Adds (S.told site.old) (S.told site.new) (Every AsksInPieces) }
@@ -155,6 +163,8 @@ fn join_one<S: Site>(
         (stream_of stream.now) most names.now held heads.now reader.old bytes.old index)
         (JoinedOne (stream_of stream.now) most names.now held heads.now reader.new bytes.new index
         result)) }
+    ensures shown { Adds (S.told site.old) (S.told site.new)
+        (Shows (IsGoneIn names.now heads.now) result) }
     ensures own { who.now ≡ job → Adds (S.told site.old) (S.told site.new) (Every
         (IsOf ReadsFile)) }
     ensures pieces { Adds (S.told site.old) (S.told site.new) (Every AsksInPieces) }

@@ -1,6 +1,6 @@
 //! One segment of all records that a book names.
 
-ghost use Rattle.std.specs.Prelude.{◌≡◌, ◌<◌, ◌≤◌, length, slice_index_or, OnOk, OnErr, IfErr, IsTrue};
+ghost use Rattle.std.specs.Prelude.{◌≡◌, ◌+◌, ◌<◌, ◌≤◌, length, slice_index_or, IfOk, OnOk, OnErr, IfErr, IsTrue};
 ghost use Rattle.chk_site.specs.Files.{Files};
 ghost use Rattle.chk_site.specs.History.{Every};
 ghost use Rattle.chk_site.specs.Site.{Adds};
@@ -65,6 +65,7 @@ pub fn merge<S: Site>(
     ensures own { who.now ≡ job → Adds (S.told site.old) (S.told site.new)
         (Every (IsOf (ReadsOrWrites (segment_name folder.now (book_view book.old).next)))) }
     ensures pieces { who.now ≡ job → Adds (S.told site.old) (S.told site.new) (Every AsksInPieces) }
+    ensures next { OnOk result ((book_view book.new).next ≡ (book_view book.old).next + 1) }
     ensures spent { SpentBook (book_view book.old) result }
     ensures last { Adds (S.told site.old) (S.told site.new) (FailsLast result) }
     ensures cause { JobCause (S.fault_count site.old) (S.fault_count site.new) result }
@@ -182,6 +183,7 @@ fn write_merged<S: Site>(
     ensures shown { Adds (S.told site.old) (S.told site.new) (Shows (IsGoneIn names.now heads.now) result) }
     ensures own { who.now ≡ job → Adds (S.told site.old) (S.told site.new) (Every (IsOf (ReadsOrWrites (segment_name folder.now next)))) }
     ensures pieces { who.now ≡ job → Adds (S.told site.old) (S.told site.new) (Every AsksInPieces) }
+    ensures next { IfOk result (λ b. (book_view b).next ≡ next + 1) }
     ensures spent { SpentBook (bare_book next) result }
     ensures last { Adds (S.told site.old) (S.told site.new) (FailsLast result) }
     ensures cause { JobCause (S.fault_count site.old) (S.fault_count site.new) result }
@@ -216,6 +218,7 @@ fn write_segment<S: Site>(
     ensures own { who.now ≡ job → Adds (S.told site.old) (S.told site.new)
         (Every (IsOf (ReadsOrWrites (segment_name folder.now merged.old.next)))) }
     ensures pieces { who.now ≡ job → Adds (S.told site.old) (S.told site.new) (Every AsksInPieces) }
+    ensures next { OnOk result ((book_view merged.new).next ≡ merged.old.next + 1) }
     ensures spent { SpentBook (bare_book merged.old.next) result }
     ensures last { Adds (S.told site.old) (S.told site.new) (FailsLast result) }
     ensures cause { JobCause (S.fault_count site.old) (S.fault_count site.new) result }

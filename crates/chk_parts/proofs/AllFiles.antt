@@ -13,7 +13,7 @@ use Rattle.chk_world.specs.Places.{As}
 use Rattle.chk_world.specs.Sight.{job, Sight}
 use Rattle.chk_world.specs.JobSteps.{IsOf, ReadsFile, SparesFile}
 use Rattle.chk_heads.specs.Faults.{FailsLast}
-use Rattle.chk_replace.proofs.CallSteps.{last_then}
+use Rattle.chk_site.proofs.LastCalls.{last_of_both as last_then}
 use Rattle.chk_site.specs.declared.acts.OutsideFault.TheVariants.{Outside as site_failed}
 use Rattle.chk_heads.specs.Heads.{Head, heads_in}
 use Rattle.chk_heads.specs.Pieces.{bytes_in}

@@ -35,16 +35,12 @@ use Rattle.chk_parts.specs.Kept.{is_first, rise_from, are_old_aside, IsFirst}
 use Rattle.chk_parts.specs.Records.{file_at, IsRecordOf, AreRecords}
 use Rattle.chk_parts.proofs.CutLists.{zip_at, no_cut}
 use Rattle.chk_parts.proofs.FoundRecords.{is_head}
-use Rattle.chk_parts.proofs.KeptOnce.{each_join, same_behind, filter_all, Differ, differ_at, same_length}
+use Rattle.chk_parts.proofs.KeptOnce.{same_behind, filter_all, Differ, differ_at, same_length}
+use Rattle.chk_world.proofs.BooksTrue.{each_append as each_join}
 use Rattle.chk_parts.proofs.Rising.{RisesFrom, IsIn, is_in, heads_past}
+use Rattle.chk_plan.proofs.HeadOrder.{compares}
 
 -- ---- heads in order: of those that are alike the ones of the first file lead
-
-compares : (h k : Head) (c d : Chunk) → IsHeadOf h c → IsHeadOf k d → head_before h k ≡ comes_before c d
-compares h k c d p q =
-    ap (λ (l : Head). head_before l k) (λ i. record { key = p.key i; begin = p.begin i; file = h.file; at = h.at })
-    ∙ ap (λ (l : Head). head_before (record { key = c.key; begin = chunk_begin c; file = h.file; at = h.at }) l)
-    (λ i. record { key = q.key i; begin = q.begin i; file = k.file; at = k.at })
 
 abbrev IsLed : Head → Head → Type 0
 IsLed h k = head_before h k ≡ false → head_before k h ≡ false → k.file ≡ 0 → h.file ≡ 0

@@ -12,7 +12,7 @@ use Rattle.chk_book.proofs.EndRaises.{ending_at, raised_same, raised_put, raised
 
 -- ---- streams in order
 
-before_on : (a b c : Stream) → stream_lt a b ≡ true → stream_lt b c ≡ true → stream_lt a c ≡ true
+pub before_on : (a b c : Stream) → stream_lt a b ≡ true → stream_lt b c ≡ true → stream_lt a c ≡ true
 before_on a b c p q = elim (cases_Bool (stream_lt a c)) [
   | inl h ↦ h
   | inr unlike ↦ absurd (true≢false (sym p
@@ -32,7 +32,7 @@ apart_from a b p = elim (cases_Bool (same_stream b a)) [
   | inl same ↦ absurd (true≢false (sym p ∙ (streams.neither b a same).1))
 ]
 
-behind_it : (a b : Stream) → same_stream b a ≡ false → stream_lt a b ≡ false → stream_lt b a ≡ true
+pub behind_it : (a b : Stream) → same_stream b a ≡ false → stream_lt a b ≡ false → stream_lt b a ≡ true
 behind_it a b other unlike = elim (cases_Bool (stream_lt b a)) [
   | inl h ↦ h
   | inr also ↦ absurd (true≢false (sym (streams.are_alike b a also unlike) ∙ other))

@@ -23,6 +23,7 @@ use Rattle.chk_plan.proofs.Bridges.{between_drop, each_index}
 use Rattle.chk_parts.specs.Cuts.{no_chunk, cut_of, cut_chunk, cut_chunks}
 use Rattle.chk_parts.specs.Kept.{past_chunks, whole_from, past_cuts}
 use Rattle.chk_parts.proofs.CutParts.{place}
+use Rattle.chk_world.proofs.BooksTrue.{each_append as each_join}
 
 pub between_more : {X : Type 0} (xs : List X) (i j : ℕ) (d : X) → i < j → j ≤ length xs
     → between i j xs ≡ slice_index_or xs i d ∷ between (i + 1) j xs
@@ -137,10 +138,6 @@ lone_once (c ∷ cs) o none =
         )
 
 -- ---- of lists in order
-
-pub each_join : {X : Type 0} (P : X → Type 0) (xs ys : List X) → Each P xs → Each P ys → Each P (xs ++ ys)
-each_join P [] ys a b = b
-each_join P (x ∷ xs) ys a b = (a.0, each_join P xs ys a.1 b)
 
 each_parts : {X : Type 0} (P : X → Type 0) (xs ys : List X) → Each P (xs ++ ys) → Each P xs × Each P ys
 each_parts P [] ys a = (tt, a)

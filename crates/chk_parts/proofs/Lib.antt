@@ -18,6 +18,7 @@ pub mod Among
 pub mod InSpans
 pub mod PastKept
 pub mod Passed
+mod KeptFirsts
 mod Spelling
 pub mod Published
 pub mod EndsInOrder

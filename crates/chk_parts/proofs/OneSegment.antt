@@ -17,7 +17,7 @@ use Rattle.chk_world.specs.Jobs.{all_segments, is_named}
 use Rattle.chk_world.specs.Places.{As}
 use Rattle.chk_world.specs.Sight.{job, Sight, sight, AtJob}
 use Rattle.chk_world.specs.JobSteps.{IsOf, WritesTo, removes, creates, appends, syncs, SparesFile}
-use Rattle.chk_world.proofs.Lifts.{with_own}
+use Rattle.chk_world.proofs.Lifts.{with_own, no_write_starts}
 use Rattle.chk_world.proofs.Spares.{writes_segment}
 use Rattle.chk_world.proofs.ToldCalls.{talks}
 use Rattle.chk_heads.specs.declared.fault.JobFault.{JobFault}
@@ -52,9 +52,6 @@ has_some (Some f) Q h = (f, refl, h)
 
 pub some_has : (o : Option File) (Q : File → Type 0) (f : File) → o ≡ Some f → Q f → HasFile o Q
 some_has o Q f is q = subst (λ o. HasFile o Q) (sym is) q
-
-pub no_write_starts : (w : List ℕ) → WritesTo w Starts → ⊥
-no_write_starts w h = elim h [ ]
 
 pub quiet_write : (w : List ℕ) (call : Deed) → WritesTo w call → talks call ≡ false
 quiet_write w call removes = refl

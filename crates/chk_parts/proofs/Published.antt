@@ -20,7 +20,8 @@ use Rattle.chk_world.proofs.ToldCalls.{talks}
 use Rattle.chk_book.specs.Folders.{book_name}
 use Rattle.chk_parts.specs.Publishing.{IsPublished, MayFollow, Published, ReplacesBookOf, writes_book, names_book}
 use Rattle.chk_parts.proofs.OneFile.{Knows}
-use Rattle.chk_parts.proofs.OneSegment.{no_write_starts, quiet_write}
+use Rattle.chk_parts.proofs.OneSegment.{quiet_write}
+use Rattle.chk_world.proofs.Lifts.{no_write_starts}
 use Rattle.chk_parts.proofs.StepKinds.{writes_no_reads}
 
 -- the book's name is that of the folder's book

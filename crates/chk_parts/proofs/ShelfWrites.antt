@@ -24,7 +24,8 @@ use Rattle.chk_parts.specs.Fetching.{IsRecordAt}
 use Rattle.chk_parts.specs.Cuts.{cut_of}
 use Rattle.chk_parts.specs.Writes.{SameBut, IsFree, IsSoFar, PutSo, CutSo}
 use Rattle.chk_parts.proofs.FromKnown.{with_fact}
-use Rattle.chk_parts.proofs.OneSegment.{no_write_starts, quiet_write}
+use Rattle.chk_parts.proofs.OneSegment.{quiet_write}
+use Rattle.chk_world.proofs.Lifts.{no_write_starts}
 use Rattle.chk_merge.specs.Segments.{HasFiles, SparesFiles}
 use Rattle.chk_parts.specs.Cuts.{no_chunk}
 use Rattle.chk_parts.specs.Records.{AreRecords}

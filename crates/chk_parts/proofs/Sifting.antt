@@ -18,7 +18,8 @@ use Rattle.chk_parts.specs.Records.{AreRecords, IsRecordOf}
 use Rattle.chk_parts.specs.Kept.{AreWhole, repeats, goes_on, NoneRepeats, group_of, new_cut, value_in, has_value, IsNew}
 use Rattle.chk_parts.proofs.CutLists.{zip_at, no_cut}
 use Rattle.chk_parts.proofs.Fetches.{any_default}
-use Rattle.chk_parts.proofs.KeptOnce.{tie, each_once, self_behind, Apart, goes_apart, stops_apart, put_apart, any_data, new_one, once_more, NoTies, lone_once, each_join, any_once, none_any, Differ, once_differ, differ_at}
+use Rattle.chk_parts.proofs.KeptOnce.{tie, each_once, self_behind, Apart, goes_apart, stops_apart, put_apart, any_data, new_one, once_more, NoTies, lone_once, any_once, none_any, Differ, once_differ, differ_at}
+use Rattle.chk_world.proofs.BooksTrue.{each_append as each_join}
 
 -- those before a place come not behind it
 before_place : (ds : List Chunk) → Ordered ds → (i : ℕ) → i < length ds

@@ -1,5 +1,5 @@
 -- A segment is begun, written and finished.
-use Rattle.std.proofs.Common.{◌≡◌, ℕ, List, [], Option, Ok, Err, Result, subst, refl, true, arith}
+use Rattle.std.proofs.Common.{◌≡◌, ◌∙◌, ℕ, List, [], Option, Ok, Err, Result, ap, sym, subst, refl, Bool, true, false, true≢false, arith}
 use Rattle.std.specs.Prelude.{codes, IfErr}
 use Rattle.std.proofs.lemmas.Bool.{and_from}
 use Rattle.chk_site.specs.History.{History, Every}
@@ -28,6 +28,14 @@ use Rattle.chk_parts.proofs.OneSegment.{finish_so}
 -- the archive's folder can be named
 pub archive_folder : is_folder (codes "archive") ≡ true
 archive_folder = and_from _ _ (plain_word (codes "archive") refl (omega arith) (omega arith)) refl
+
+-- what is for the aside segment is of no part
+pub aside_is_other : (p : Purpose) → p ≡ Aside → p ≡ Parts → ⊥
+aside_is_other p other is = true≢false (ap is_parts (sym is ∙ other))
+  where
+    is_parts : Purpose → Bool
+    is_parts Parts = true
+    is_parts Aside = false
 
 pub begun_for : (s : Segmenter) (n : ℕ) → IsAt s (begun (codes "archive") n) → IsForArchive s
 begun_for s n at = record { w = begun (codes "archive") n; at = at; folder = refl }

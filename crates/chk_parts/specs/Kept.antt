@@ -68,6 +68,19 @@ new_cut found k = elim found [ true ↦ [] | false ↦ k ∷ [] ]
 abbrev pub NoneRepeats : List Head → List Cut → Type 0
 NoneRepeats heads cuts = (i : ℕ) → i < length cuts → goes_on heads cuts i ≡ false
 
+-- each that is kept is one of these, and each of the first of these, so many, that doesn't repeat
+-- the one before it is kept
+pub record AreKeptOf (heads : List Head) (past : List Cut) (count : ℕ)
+    (kept : List Cut) : Type 0 where
+  pub among : All (Contains past) kept
+  pub firsts : (i : ℕ) → i < count → goes_on heads past i ≡ false
+      → Contains kept (slice_index_or past i (record { index = 0; skip = 0 }))
+
+-- the same of all records past the gaps of these spans
+abbrev pub KeepsFirsts : List Head → List Span → List Cut → Type 0
+KeepsFirsts heads spans kept = AreKeptOf heads (past_cuts heads spans)
+    (length (past_cuts heads spans)) kept
+
 -- the record is one of these, and none that stands before it is equal to it in stream, sequence id and data
 pub record IsNew (cs : List Chunk) (past : List Cut) (k : Cut) : Type 0 where
   pub place : ℕ

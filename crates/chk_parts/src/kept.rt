@@ -1,6 +1,6 @@
 //! Which chunks are set aside.
 
-ghost use Rattle.std.specs.Prelude.{◌≡◌, ◌<◌, ◌≤◌, ◌++◌, false, ℕ, List, bytes_eq, length, IfOk, IfErr, OnOk};
+ghost use Rattle.std.specs.Prelude.{◌≡◌, ◌<◌, ◌≤◌, ◌++◌, false, [], ℕ, List, Ok, bytes_eq, length, IfOk, IfErr, OnOk};
 ghost use Rattle.chk_site.specs.History.{Every};
 ghost use Rattle.chk_site.specs.Site.{Adds};
 ghost use Rattle.chk_site.specs.Runs.{anyhow, Leads};
@@ -21,7 +21,7 @@ ghost use Rattle.chk_parts.specs.Cuts.{AreWithin, cut_chunks};
 ghost use Rattle.chk_parts.specs.Fetching.{CanFetchAll};
 ghost use Rattle.chk_parts.specs.Gathering.{held};
 ghost use Rattle.chk_parts.specs.Records.{AreRecords};
-ghost use Rattle.chk_parts.specs.Kept.{AreSpansWithin, AreWhole, repeats, goes_on, NoneRepeats, group_of, new_cut, whole_from, past_cuts, value_in, KeptSo, KeptTold, SiftedSo, CanFind, FoundSo, AmongSo};
+ghost use Rattle.chk_parts.specs.Kept.{AreSpansWithin, AreWhole, AreKeptOf, KeepsFirsts, repeats, goes_on, NoneRepeats, group_of, new_cut, whole_from, past_cuts, value_in, KeptSo, KeptTold, SiftedSo, CanFind, FoundSo, AmongSo};
 
 use crate::cuts::{Cut, Cuts};
 use crate::fetching::fetch;
@@ -58,6 +58,7 @@ pub fn kept_of<S: Site>(
         (Leads (As stamped job) (AtJob stamped (λ u. u ≡ v)) (KeptTold stamped v (in_order found) spans.now result)) }
     ensures none { NoneRepeats heads.now (past_cuts heads.now spans.now) → S.told site.new ≡ S.told site.old }
     ensures within { IfOk result (λ cuts. AreWithin (length heads.now) cuts) }
+    ensures among { IfOk result (KeepsFirsts heads.now spans.now) }
     ensures shown { Adds (S.told site.old) (S.told site.new) (Shows (IsGoneIn files.now heads.now) result) }
     ensures own { Adds (S.told site.old) (S.told site.new) (Every (IsOf ReadsFile)) }
     ensures pieces { Adds (S.told site.old) (S.told site.new) (Every AsksInPieces) }
@@ -152,6 +153,7 @@ fn sift<S: Site>(
         → Adds (S.told site.old) (S.told site.new)
         (Leads (anyhow (SparesFiles files.now)) (HasFiles files.now (held v)) (SiftedSo past.now cs result)) }
     ensures whole { IfOk result (AreWhole (length heads.now)) }
+    ensures among { IfOk result (AreKeptOf heads.now past.now (length past.now)) }
     ensures shown { Adds (S.told site.old) (S.told site.new) (Shows (IsGoneIn files.now heads.now) result) }
     ensures own { Adds (S.told site.old) (S.told site.new) (Every (IsOf ReadsFile)) }
     ensures pieces { Adds (S.told site.old) (S.told site.new) (Every AsksInPieces) }
@@ -216,6 +218,7 @@ fn is_found<S: Site>(
     ensures raw { (v : Sight) (cs : List Chunk) → AreRecords v files.now heads.now cs → Adds (S.told site.old) (S.told site.new)
         (Leads (anyhow (SparesFiles files.now)) (CanFind v files.now old.old new.old)
         (FoundSo v files.now (value_in cs index) cs known.now old.new new.new result)) }
+    ensures none { known.now ≡ [] → result ≡ Ok false }
     ensures shown { Adds (S.told site.old) (S.told site.new) (Shows (IsGoneIn files.now heads.now) result) }
     ensures own { Adds (S.told site.old) (S.told site.new) (Every (IsOf ReadsFile)) }
     ensures pieces { Adds (S.told site.old) (S.told site.new) (Every AsksInPieces) }

@@ -13,13 +13,13 @@ use chk_site::{Site, Who};
 use std::alloc::Global;
 
 /// What the cuts of a segment and the records that are read ahead may have together, in bytes.
-const ROOM: u64 = 50_331_648;
+const ROOM: u64 = 47_185_920;
 
 /// What is held of a cut, in bytes.
 const CUT: u64 = 8;
 
-/// What is held of a record that is read ahead besides its data, in bytes.
-const SLOT: u64 = 28;
+/// What is held of a record that is read ahead besides its data, in bytes: a slot and a place.
+const SLOT: u64 = 36;
 
 /// Records of so many bytes of data on average aren't read ahead: a read for each costs as much.
 const SHORT: u64 = 1024;
@@ -423,7 +423,8 @@ struct Place {
     cut: u32,
 }
 
-/// Where the records of these cuts stand, in the order of the files.
+/// Where the records of these cuts stand, in the order of the files. No two of these places are
+/// alike, so that a sort that takes no memory has one result.
 fn places_of(alloc: Global, heads: &Heads, cuts: &[Cut]) -> Result<Vec<Place>, NoMemory>
     requires { AreWithin (length heads.now) cuts.now }
 {
@@ -437,7 +438,7 @@ fn places_of(alloc: Global, heads: &Heads, cuts: &[Cut]) -> Result<Vec<Place>, N
             cut,
         })?;
     }
-    places.sort()?;
+    places.sort_unstable();
     Ok(places)
 }
 

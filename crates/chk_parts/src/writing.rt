@@ -1,6 +1,6 @@
 //! Writes a segment of the archive of records that are read back.
 
-ghost use Rattle.std.specs.Prelude.{◌≡◌, ◌<◌, ◌++◌, ◌∷◌, [], ◌-◌, ℕ, List, Some, codes, length, drop, map, slice_index_or, IsTrue, IfSome, IfErr, OnOk, OnErr};
+ghost use Rattle.std.specs.Prelude.{◌≡◌, ◌+◌, ◌<◌, ◌++◌, ◌∷◌, [], ◌-◌, ℕ, List, Some, codes, length, drop, map, slice_index_or, IsTrue, IfSome, IfErr, OnOk, OnErr};
 ghost use Rattle.chk_site.specs.History.{Every};
 ghost use Rattle.chk_site.specs.Site.{Adds};
 ghost use Rattle.chk_site.specs.Runs.{Leads, anyhow};
@@ -17,6 +17,7 @@ ghost use Rattle.chk_book.specs.Books.{book_view};
 ghost use Rattle.chk_book.specs.Causes.{SpentBook};
 ghost use Rattle.chk_book.specs.Segmenting.{Writing, HoldsSegment};
 ghost use Rattle.chk_book.specs.Written.{IsAt};
+ghost use Rattle.chk_parts.specs.declared.writing.Purpose.TheVariants.{Parts};
 ghost use Rattle.chk_parts.specs.Cuts.{AreWithin, cut_chunks};
 ghost use Rattle.chk_parts.specs.Records.{AreRecords};
 ghost use Rattle.chk_chunk.specs.Lent.{lent_key, lent_chunk};
@@ -67,6 +68,8 @@ pub fn add_segment<S: Site>(
     ensures own { Adds (S.told site.old) (S.told site.new)
         (Every (IsOf (ReadsOrWrites (segment_name (codes "archive") (book_view book.old).next)))) }
     ensures same { OnErr result (book_view book.new ≡ book_view book.old) }
+    ensures next { OnOk result ((book_view book.new).next ≡ (book_view book.old).next + 1) }
+    ensures aside { purpose ≡ Parts → (book_view book.new).aside ≡ (book_view book.old).aside }
     ensures spent { SpentBook (book_view book.old) result }
     ensures pieces { Adds (S.told site.old) (S.told site.new) (Every AsksInPieces) }
     ensures last { Adds (S.told site.old) (S.told site.new) (FailsLast result) }
@@ -92,6 +95,8 @@ fn finish_for<S: Site>(
     ensures own { (w : Writing) → IsAt segmenter w → segmenter.who ≡ job → Adds (S.told site.old) (S.told site.new)
         (Every (IsOf (WritesTo (segment_name w.folder w.number)))) }
     ensures same { OnErr result (book_view book.new ≡ book_view book.old) }
+    ensures next { OnOk result ((book_view book.new).next ≡ (book_view book.old).next + 1) }
+    ensures aside { purpose ≡ Parts → (book_view book.new).aside ≡ (book_view book.old).aside }
     ensures only { IfErr result IsOfWrite }
     ensures last { Adds (S.told site.old) (S.told site.new) (FailsLast result) }
     ensures cause { JobCause (S.fault_count site.old) (S.fault_count site.new) result }

@@ -144,9 +144,6 @@ module _ (stamped : List (List ℕ)) (history : History) (legal : Legal stamped 
 
 -- ---- what is set aside
 
-pub data_self : (c : Chunk) → same_data c c ≡ true
-data_self c = rw (stream_self c.key.stream, bytes_self c.value) (grind arith)
-
 pub once_in : (cs : List Chunk) (c : Chunk) → Contains (once cs) c → Contains cs c
 once_in [] c one = one
 once_in (d ∷ cs) c (zero, below, at) = (0, omega arith, at)

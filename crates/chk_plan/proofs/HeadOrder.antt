@@ -8,7 +8,7 @@ use Rattle.chk_heads.specs.Order.{head_before, put_by, sort_by}
 use Rattle.chk_plan.specs.HeadsOf.{IsHeadOf, AreHeads}
 
 -- they compare as their chunks do
-compares : (h k : Head) (c d : Chunk) → IsHeadOf h c → IsHeadOf k d → head_before h k
+pub compares : (h k : Head) (c d : Chunk) → IsHeadOf h c → IsHeadOf k d → head_before h k
     ≡ comes_before c d
 compares h k c d p q =
     let one : head_before h k ≡ head_before

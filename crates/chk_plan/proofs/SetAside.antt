@@ -16,7 +16,8 @@ use Rattle.chk_world.proofs.Ends.{bytes_self, bytes_same}
 use Rattle.chk_plan.specs.Plan.{ends_of, is_past, set_aside}
 use Rattle.chk_plan.specs.NextBooks.{NamesParts, AreFound, AsideIs, AsideKept}
 use Rattle.chk_plan.proofs.Parts.{stream_self}
-use Rattle.chk_plan.proofs.BooksMay.{book_may, aside_found, data_self}
+use Rattle.chk_plan.proofs.BooksMay.{book_may, aside_found}
+use Rattle.chk_world.proofs.Segments.{data_self}
 use Rattle.chk_world.proofs.Each.{passes_in, later_one}
 
 -- equal chunks are equal to the same others

@@ -17,7 +17,7 @@ all_ahead s (f ∷ feeds) (one, others) more =
     (records_ahead (behind f.after feeds) more))
 
 -- no bytes complete no record
-none_ahead : (s : Splitting) → records_ahead s [] ≡ []
+pub none_ahead : (s : Splitting) → records_ahead s [] ≡ []
 none_ahead s = by s.by_stamps s.begun
   where
     by : (t : Bool) (begun : List ℕ)
@@ -26,12 +26,12 @@ none_ahead s = by s.by_stamps s.begun
     by true (b ∷ begun) = refl
     by false begun = refl
 
-joined-append : (a b : List (List ℕ)) → joined (a ++ b) ≡ joined a ++ joined b
+pub joined-append : (a b : List (List ℕ)) → joined (a ++ b) ≡ joined a ++ joined b
 joined-append [] b = refl
 joined-append (x ∷ a) b =
     ap (λ l. x ++ l) (joined-append a b) ∙ sym (append_assoc x (joined a) (joined b))
 
-joined-record : (r : List ℕ) → joined (record_of r) ≡ r
+pub joined-record : (r : List ℕ) → joined (record_of r) ≡ r
 joined-record [] = refl
 joined-record (b ∷ r) = append-nil (b ∷ r)
 

@@ -66,7 +66,7 @@ split_goes_on stamped s start bytes first more e =
     ∙ ap (λ n. pieces_of t (drop n bytes)) parts.size)
     ∙ sym (split_pieces stamped s (start + size_of first) (drop (size_of first) bytes))
 
-ends-append : (at : ℕ) (a b : List (List ℕ))
+pub ends-append : (at : ℕ) (a b : List (List ℕ))
     → ends_from at (a ++ b) ≡ ends_from at a ++ ends_from (at + length (joined a)) b
 ends-append at [] b = ap (λ n. ends_from n b) (let z : at ≡ at + 0 = omega arith in z)
 ends-append at (p ∷ a) b =

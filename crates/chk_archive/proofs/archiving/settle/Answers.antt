@@ -160,6 +160,7 @@ returns-clause-shown g c =
     settled_ok (book_view c.in_ok-book.book) (book_view c.merge_many.new.book)
     (record {
       few = λ low. (c.merge_many.ensures.few low).1;
+      many = c.in_ok-merge_many.ensures.many;
       ends = c.merge_many.ensures.kept.0;
       aside = c.merge_many.ensures.kept.1;
     }) c.in_ok-book.ensures.shown c.tidy.ensures.own c.merge_many.ensures.own

@@ -183,3 +183,15 @@ returns-in_err-publish_next-clause-spent g c =
     let b = book_view c.args.book.now in
     rw (q.1, q.2) (spent_outside ((16 ≤ length b.segments)
     × IsAtLast b) c.in_err-publish_next.field-0.0)
+
+pub returns-then-as_slice-lt-MANY-clause-many : goal.returns-then-as_slice-lt-MANY-clause-many
+returns-then-as_slice-lt-MANY-clause-many g c high =
+    let b = c.args.book.now in
+    let few : length b.segments < 16 =
+    subst (λ l. length l < 16) c.as_slice.ensures c.if-as_slice-lt-MANY.true in
+    let size : length (map segment_view b.segments) ≡ length b.segments =
+    length-map b.segments segment_view in
+    absurd (let z : ⊥ = omega (arith, high, few, size) in z)
+
+pub returns-clause-many : goal.returns-clause-many
+returns-clause-many g c high = c.in_ok-merge.ensures.next

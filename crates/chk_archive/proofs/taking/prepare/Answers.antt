@@ -6,9 +6,9 @@ use Rattle.chk_site.proofs.Runs.{adds_as}
 use Rattle.chk_world.specs.Places.{As}
 use Rattle.chk_world.specs.Sight.{job, AtJob}
 use Rattle.chk_heads.specs.Faults.{FailsLast}
-use Rattle.chk_archive.specs.Shown.{IsAtLast, LacksFor, for_parts, for_aside}
+use Rattle.chk_archive.specs.Shown.{IsAtLast, LacksFor, for_parts}
 use Rattle.chk_archive.specs.Taking.{Prepared, stays_aside}
-use Rattle.chk_archive.proofs.SpentCauses.{spent_as}
+use Rattle.chk_archive.proofs.SpentCauses.{spent_as, lacks_aside}
 use Rattle.chk_archive.proofs.Preparing.{none_there}
 use Rattle.std.proofs.lemmas.Result.{err_from_is_err_and}
 use Rattle.chk_site.proofs.Leads.{leads_as}
@@ -133,6 +133,5 @@ returns-in_err-changed-clause-spent g c =
     rw (q.1, q.2)
     (spent_as ((kept ≡ [] → ⊥) × (stays_aside mid heads old kept ≡ false) × IsAtLast mid)
     (LacksFor b heads old cuts kept)
-    (λ x. for_aside x.0 (λ none. subst (λ m. (stays_aside m heads old kept ≡ false) × IsAtLast m)
-    (c.take_parts.ensures.none none)
-    (x.1, x.2))) c.in_err-changed.field-0.0 c.in_err-changed.ensures.spent)
+    (λ x. lacks_aside b mid heads old cuts kept c.take_parts.ensures.aside
+    c.in_ok-take_parts.ensures.next x.0 x.1 x.2) c.in_err-changed.field-0.0 c.in_err-changed.ensures.spent)

@@ -1,4 +1,4 @@
-use Rattle.std.proofs.Common.{◌≡◌, [], ap, sym, subst}
+use Rattle.std.proofs.Common.{◌≡◌, [], ap, refl, sym, subst}
 use Rattle.chk_site.proofs.Leads.{leads_none, leads_as}
 use Rattle.chk_world.specs.JobSteps.{ReadsOrWrites}
 use Rattle.std.specs.Prelude.{codes}
@@ -9,7 +9,7 @@ use Rattle.chk_parts.proofs.StepKinds.{as_kind}
 use Rattle.chk_archive.specs.Archived.{MergesBy}
 use Rattle.chk_archive.specs.Shown.{IsAtLast}
 use Rattle.chk_archive.specs.Taking.{HasParts}
-use Rattle.chk_archive.proofs.SpentCauses.{spent_by_book, some_there}
+use Rattle.chk_archive.proofs.SpentCauses.{spent_by_book, some_there, no_number, parts_number}
 use Rattle.chk_archive.proofs.Preparing.{none_taken, parts_taken, cuts_some, of_merge, empty}
 use Rattle.chk_archive.proofs.taking.take_parts.Goals as goal
 
@@ -45,3 +45,17 @@ returns-clause-spent g c =
     spent_by_book b ((cuts ≡ [] → ⊥) × IsAtLast b) (λ x. (some_there cuts c.if-is_empty.ensures, x))
     c.add_segment.result
     c.add_segment.ensures.spent
+
+pub returns-then-is_empty-clause-next : goal.returns-then-is_empty-clause-next
+returns-then-is_empty-clause-next g c =
+    no_number (book_view c.args.book.now).next c.args.cuts.now
+    (empty c.args.cuts.now c.if-is_empty.ensures)
+
+pub returns-clause-next : goal.returns-clause-next
+returns-clause-next g c =
+    parts_number c.add_segment.result (book_view c.args.book.now).next
+    (book_view c.add_segment.new.book).next c.args.cuts.now
+    (some_there c.args.cuts.now c.if-is_empty.ensures) c.add_segment.ensures.next
+
+pub returns-clause-aside : goal.returns-clause-aside
+returns-clause-aside g c = c.add_segment.ensures.aside refl

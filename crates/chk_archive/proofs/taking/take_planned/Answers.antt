@@ -9,7 +9,7 @@ use Rattle.chk_heads.proofs.Gathering.{every_then}
 use Rattle.chk_book.specs.Books.{book_view}
 use Rattle.chk_plan.specs.Passes.{AreSpans}
 use Rattle.chk_parts.specs.Cuts.{cut_chunks, AreWithin}
-use Rattle.chk_parts.specs.Kept.{AreSpansWithin, past_chunks, IsFirst, AreKeptOnce}
+use Rattle.chk_parts.specs.Kept.{AreSpansWithin, past_chunks, IsFirst, AreKeptOnce, KeepsFirsts}
 use Rattle.chk_parts.proofs.StepKinds.{as_kind, fails_behind}
 use Rattle.chk_archive.specs.Archived.{MergesBy, merge_reads}
 use Rattle.chk_archive.specs.Shown.{LacksOver}
@@ -111,4 +111,6 @@ returns-clause-spent g c =
     planned_spent (book_view c.args.book.now) heads c.args.old p c.as_slice-2.result.now
     c.write_planned.result c.requires.plan
     (subst (AreWithin (length heads)) (sym c.as_slice-2.ensures) c.in_ok-kept.ensures.within)
-    c.write_planned.ensures.spent
+    (subst (KeepsFirsts heads p.spans.items) (sym c.as_slice-2.ensures)
+    (subst (λ ss. KeepsFirsts heads ss c.in_ok-kept.kept) c.as_slice.ensures.value
+    c.in_ok-kept.ensures.among)) c.write_planned.ensures.spent

@@ -11,7 +11,7 @@ use Rattle.chk_compare.specs.Blocks.{head_in}
 use Rattle.chk_copy.specs.Copying.{joined_segment, Copies}
 use Rattle.chk_copy.proofs.Steps.{worked, reads_copy, writes_copy, writes_ask, of_write}
 use Rattle.chk_copy.proofs.OneRecord.{fetched_for, not_copied, put_behind}
-use Rattle.chk_copy.specs.Copying.{chunk_with}
+use Rattle.chk_merge.specs.Merging.{chunk_with}
 use Rattle.chk_copy.proofs.Standing.{stood_still, put_stands, stood_fails, is_copy}
 use Rattle.chk_copy.proofs.records.copy_record.Goals as goal
 

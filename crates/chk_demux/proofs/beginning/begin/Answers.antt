@@ -148,4 +148,4 @@ returns-in_err-demux-clause-shown g c =
 pub returns-clause-shown : goal.returns-clause-shown
 returns-clause-shown g c =
     both_shown c.in_ok-archive.archive c.in_ok-demux.demux c.start.ensures.works c.in_ok-archive.ensures.shown
-    (c.load_book-2.ensures.own c.requires)
+    c.in_ok-demux.ensures.shown

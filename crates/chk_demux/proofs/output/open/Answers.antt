@@ -12,6 +12,7 @@ use Rattle.chk_demux.specs.Working.{EndsSo}
 use Rattle.chk_demux.specs.Writes.{IsSoFar, SoFar}
 use Rattle.chk_demux.proofs.OneSegment.{demux_folder, opened, opened_so}
 use Rattle.chk_demux.proofs.Works.{works_none, worked_writes}
+use Rattle.chk_demux.proofs.Shown.{begun_writes}
 use Rattle.chk_demux.proofs.output.open.Goals as goal
 
 pub begin_segment-requires : goal.begin_segment-requires
@@ -44,3 +45,8 @@ pub returns-in-None-clause-works : goal.returns-in-None-clause-works
 returns-in-None-clause-works g c =
     worked_writes (segment_name (codes "demux") (book_view c.args.book.now).next) c.begin_segment.result
     (c.begin_segment.ensures.own c.requires.job) c.begin_segment.ensures.last
+
+pub returns-in-None-clause-only : goal.returns-in-None-clause-only
+returns-in-None-clause-only g c =
+    begun_writes (book_view c.args.book.now) c.begin_segment.result c.requires.below
+    c.begin_segment.ensures.only c.begin_segment.ensures.spent

@@ -8,7 +8,7 @@ use Rattle.chk_world.specs.JobSteps.{WritesTo}
 use Rattle.chk_book.specs.Books.{book_view}
 use Rattle.chk_book.specs.Folders.{segment_name}
 use Rattle.chk_demux.specs.Writes.{SoFar, IsOutput, IsWriter}
-use Rattle.chk_demux.proofs.RawReads.{write_begins, memory_begins}
+use Rattle.chk_demux.proofs.RawReads.{memory_writes}
 use Rattle.chk_demux.proofs.OneSegment.{put_so, writes_it}
 use Rattle.chk_demux.proofs.Outputs.{is_written, not_put, put_done, put_counted, counted_works}
 use Rattle.chk_demux.proofs.Works.{worked_writes, works_result}
@@ -82,7 +82,7 @@ returns-clause-works g c =
 pub returns-in_err-part-clause-only : goal.returns-in_err-part-clause-only
 returns-in_err-part-clause-only g c =
     let p = err_from_is_err_and c.from_residual.result c.from_residual.ensures.1 in
-    rw (p.1, p.2) (write_begins c.in_err-part.field-0.0 c.in_err-part.ensures.only)
+    rw (p.1, p.2) c.in_err-part.ensures.only
 
 pub returns-clause-only : goal.returns-clause-only
-returns-clause-only g c = memory_begins c.count.result c.count.ensures.only
+returns-clause-only g c = memory_writes c.count.result c.count.ensures.only

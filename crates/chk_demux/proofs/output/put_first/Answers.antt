@@ -11,7 +11,7 @@ use Rattle.chk_book.specs.Books.{book_view}
 use Rattle.chk_book.specs.Folders.{segment_name}
 use Rattle.chk_demux.specs.Working.{EndsSo}
 use Rattle.chk_demux.specs.Writes.{IsSoFar, SoFar, IsOutput}
-use Rattle.chk_demux.proofs.RawReads.{memory_begins}
+use Rattle.chk_demux.proofs.RawReads.{memory_writes}
 use Rattle.chk_demux.proofs.Ends.{so_done}
 use Rattle.chk_demux.proofs.Outputs.{is_written, not_spent, spent_at, counted_alone, alone_works, not_first, put_counted, counted_writer, counted_works}
 use Rattle.chk_demux.proofs.Works.{own_of, works_result}
@@ -30,7 +30,7 @@ returns-then-is_spent-clause-told g c stamped v outs free =
     (g.S.Site.told c.args.site.now)
 
 pub returns-then-is_spent-clause-only : goal.returns-then-is_spent-clause-only
-returns-then-is_spent-clause-only g c = memory_begins c.count.result c.count.ensures.only
+returns-then-is_spent-clause-only g c = memory_writes c.count.result c.count.ensures.only
 
 pub returns-then-is_spent-clause-works : goal.returns-then-is_spent-clause-works
 returns-then-is_spent-clause-works g c =
@@ -98,4 +98,4 @@ returns-clause-works g c =
     c.write_first.ensures.works
 
 pub returns-clause-only : goal.returns-clause-only
-returns-clause-only g c = memory_begins c.count-2.result c.count-2.ensures.only
+returns-clause-only g c = memory_writes c.count-2.result c.count-2.ensures.only

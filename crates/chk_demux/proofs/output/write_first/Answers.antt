@@ -11,7 +11,6 @@ use Rattle.chk_world.specs.Sight.{AtJob}
 use Rattle.chk_world.specs.JobSteps.{WritesTo}
 use Rattle.chk_demux.specs.Working.{Worked}
 use Rattle.chk_demux.specs.Writes.{IsSoFar, SoFar}
-use Rattle.chk_demux.proofs.RawReads.{write_begins}
 use Rattle.chk_demux.proofs.Ends.{so_fails, so_done}
 use Rattle.chk_demux.proofs.OneSegment.{put_so, writes_it, still_for}
 use Rattle.chk_demux.proofs.Outputs.{still_writer}
@@ -103,4 +102,4 @@ returns-clause-works g c =
 pub returns-in_err-part-clause-only : goal.returns-in_err-part-clause-only
 returns-in_err-part-clause-only g c =
     let p = err_from_is_err_and c.from_residual-in_err-part.result c.from_residual-in_err-part.ensures.1 in
-    rw (p.1, p.2) (write_begins c.in_err-part.field-0.0 c.in_err-part.ensures.only)
+    rw (p.1, p.2) c.in_err-part.ensures.only

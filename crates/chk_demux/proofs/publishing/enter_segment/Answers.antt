@@ -15,7 +15,7 @@ use Rattle.chk_demux.specs.Demuxed.{WritesBook, ReplacesBook, writes_segment, re
 use Rattle.chk_demux.specs.Working.{EndsSo, Worked, job_result}
 use Rattle.chk_demux.specs.Writes.{IsSoFar}
 use Rattle.chk_demux.specs.Entering.{Entered}
-use Rattle.chk_demux.proofs.RawReads.{write_begins, call_begins}
+use Rattle.chk_demux.proofs.RawReads.{call_writes}
 use Rattle.chk_demux.proofs.Ends.{so_fails}
 use Rattle.chk_demux.proofs.Entries.{entered_so}
 use Rattle.chk_demux.proofs.OneSegment.{demux_folder, HasWritten, finish_so, writes_it}
@@ -112,9 +112,9 @@ returns-clause-works g c =
 pub returns-in_err-finish-clause-only : goal.returns-in_err-finish-clause-only
 returns-in_err-finish-clause-only g c =
     let q = err_from_is_err_and c.from_residual.result c.from_residual.ensures.1 in
-    rw (q.1, q.2) (write_begins c.in_err-finish.field-0.0 c.in_err-finish.ensures.only)
+    rw (q.1, q.2) c.in_err-finish.ensures.only
 
 pub returns-in_err-publish_next-clause-only : goal.returns-in_err-publish_next-clause-only
 returns-in_err-publish_next-clause-only g c =
     let q = err_from_is_err_and c.from_residual-in_err-publish_next.result c.from_residual-in_err-publish_next.ensures.1 in
-    rw (q.1, q.2) (call_begins c.in_err-publish_next.field-0.0)
+    rw (q.1, q.2) (call_writes c.in_err-publish_next.field-0.0)

@@ -5,7 +5,8 @@ use Rattle.chk_demux.specs.declared.report.DemuxReport.{DemuxReport}
 use Rattle.chk_demux.proofs.RawReads.{not_loaded, all_read}
 use Rattle.chk_demux.proofs.RunSteps.{not_begun, whole_run, begun_works, whole_works}
 use Rattle.chk_demux.proofs.Works.{own_of, pieces_of_work, last_of_work, works_result}
-use Rattle.chk_demux.proofs.Shown.{damage_begun, damage_behind}
+use Rattle.chk_demux.proofs.Shown.{damage_begun, damage_behind, spent_begun}
+use Rattle.chk_demux.proofs.NewHeads.{spent_behind}
 use Rattle.chk_demux.proofs.run.demux.Goals as goal
 
 pub returns-in_err-books-clause-told : goal.returns-in_err-books-clause-told
@@ -70,3 +71,15 @@ returns-in_err-books-clause-shown g c =
 
 pub returns-clause-shown : goal.returns-clause-shown
 returns-clause-shown g c = damage_behind c.in_ok-books.books c.split_archive.result c.in_ok-books.ensures.shown c.split_archive.ensures.shown
+
+pub returns-in_err-books-clause-spent : goal.returns-in_err-books-clause-spent
+returns-in_err-books-clause-spent g c =
+    let q = err_from_is_err_and c.from_residual.result c.from_residual.ensures.1 in
+    rw (q.1, q.2)
+    (spent_begun DemuxReport c.in_err-books.field-0.0 c.in_err-books.ensures.only
+    c.in_err-books.ensures.shown)
+
+pub returns-clause-spent : goal.returns-clause-spent
+returns-clause-spent g c =
+    spent_behind c.in_ok-books.books c.split_archive.result c.in_ok-books.ensures.shown
+    c.split_archive.ensures.spent

@@ -15,6 +15,7 @@ use Rattle.chk_demux.proofs.Ends.{cause_behind}
 use Rattle.chk_demux.proofs.RunSteps.{not_found, not_checked, not_run, all_sorted, gathers}
 use Rattle.chk_demux.proofs.Works.{works_result, works_value}
 use Rattle.chk_merge.proofs.Causes.{sound_bad, sound_broken, sound_so}
+use Rattle.chk_demux.proofs.Shown.{told_reads}
 use Rattle.chk_demux.proofs.run.heads_in_order.Goals as goal
 
 pub returns-in_err-heads-clause-told : goal.returns-in_err-heads-clause-told
@@ -132,3 +133,16 @@ pub returns-clause-shown : goal.returns-clause-shown
 returns-clause-shown g c =
     sound_so (codes "archive") (book_view c.args.archive.now) c.args.names.now chunk_limit c.requires.names refl
     c.in_ok-heads.heads c.put_in_order.new.heads c.in_ok-put_in_order.ensures.order c.in_ok-heads.ensures.shown
+
+pub returns-in_err-heads-clause-only : goal.returns-in_err-heads-clause-only
+returns-in_err-heads-clause-only g c =
+    let q = err_from_is_err_and c.from_residual.result c.from_residual.ensures.1 in
+    rw (q.1, q.2) c.in_err-heads.ensures.only
+
+pub returns-in_err-put_in_order-clause-only : goal.returns-in_err-put_in_order-clause-only
+returns-in_err-put_in_order-clause-only g c =
+    let r = c.from_residual-in_err-put_in_order in
+    let q = err_from_is_err_and r.result r.ensures.1 in
+    rw (q.1, q.2)
+    (told_reads (codes "archive") (book_view c.args.archive.now) c.args.names.now
+    c.in_ok-heads.heads c.in_err-put_in_order.field-0.0 c.in_err-put_in_order.ensures.err)

@@ -20,6 +20,7 @@ use Rattle.std.specs.Prelude.{codes}
 use Rattle.chk_heads.proofs.Causes.{shows_first}
 use Rattle.chk_merge.specs.Gone.{IsUnsound}
 use Rattle.chk_demux.proofs.Shown.{shows_opened}
+use Rattle.chk_demux.proofs.NewHeads.{reads_spend, writes_spend, puts_spend}
 use Rattle.chk_demux.proofs.run.split_archive.Goals as goal
 
 pub split_named-requires-clause-writer : goal.split_named-requires-clause-writer
@@ -131,3 +132,27 @@ returns-clause-shown g c =
     shows_opened (IsUnsound (codes "archive") (book_view c.args.archive.now)) c.enter_output.result c.enter_output.ensures.only
     (enters (book_view c.args.book.now).next c.split_named.result c.enter_output.result c.split_named.ensures.works
     c.enter_output.ensures.works)
+
+pub returns-in_err-left-clause-spent : goal.returns-in_err-left-clause-spent
+returns-in_err-left-clause-spent g c =
+    let q = err_from_is_err_and c.from_residual.result c.from_residual.ensures.1 in
+    rw (q.1, q.2)
+    (reads_spend DemuxReport (book_view c.args.archive.now) (book_view c.args.book.now)
+    c.in_err-left.field-0.0 c.in_err-left.ensures.only c.split_named.ensures.works)
+
+pub returns-then-lacks_number-clause-spent : goal.returns-then-lacks_number-clause-spent
+returns-then-lacks_number-clause-spent g c =
+    let b = book_view c.args.book.now in
+    let n = c.split_named.new.output.entries in
+    let lacks = some_lack b.next n c.lacks_number.result c.lacks_number.ensures
+    c.if-lacks_number.true in
+    puts_spend DemuxReport (book_view c.args.archive.now) b c.in_ok-left.left
+    c.new-output.result.entries n c.new-output.ensures.entries lacks.1 lacks.0
+    c.in_ok-left.ensures.due
+
+pub returns-clause-spent : goal.returns-clause-spent
+returns-clause-spent g c =
+    writes_spend (book_view c.args.archive.now) (book_view c.args.book.now) c.enter_output.result
+    c.enter_output.ensures.only
+    (enters (book_view c.args.book.now).next c.split_named.result c.enter_output.result
+    c.split_named.ensures.works c.enter_output.ensures.works)

@@ -12,10 +12,11 @@ use Rattle.chk_demux.proofs.RawReads.{heads_refused, heads_read}
 use Rattle.chk_demux.proofs.RunSteps.{sound_names, well_names, no_heads, split_so, splits}
 use Rattle.chk_demux.proofs.Works.{works_memory, works_result}
 use Rattle.std.specs.Prelude.{codes}
-use Rattle.chk_site.proofs.Runs.{adds_none}
+use Rattle.chk_site.proofs.Runs.{adds_none, adds_as}
 use Rattle.chk_heads.proofs.Causes.{shows_first}
 use Rattle.chk_merge.specs.Gone.{IsUnsound}
 use Rattle.chk_demux.proofs.Shown.{gone_behind}
+use Rattle.chk_demux.proofs.NewHeads.{put_behind}
 use Rattle.chk_demux.proofs.run.split_named.Goals as goal
 
 pub returns-in_err-files-clause-told : goal.returns-in_err-files-clause-told
@@ -145,3 +146,34 @@ pub returns-clause-shown : goal.returns-clause-shown
 returns-clause-shown g c =
     gone_behind (codes "archive") (book_view c.args.archive.now) c.as_slice-names.result.now c.in_ok-heads.heads c.split_streams.result
     (c.as_slice-names.ensures.value ∙ c.in_ok-files.ensures) c.in_ok-heads.ensures.shown c.split_streams.ensures.shown
+
+pub returns-in_err-files-clause-only : goal.returns-in_err-files-clause-only
+returns-in_err-files-clause-only g c =
+    let q = err_from_is_err_and c.from_residual.result c.from_residual.ensures.1 in
+    rw (q.1, q.2) tt
+
+pub returns-in_err-heads-clause-only : goal.returns-in_err-heads-clause-only
+returns-in_err-heads-clause-only g c =
+    let q = err_from_is_err_and c.from_residual-in_err-heads.result
+    c.from_residual-in_err-heads.ensures.1 in
+    rw (q.1, q.2) c.in_err-heads.ensures.only
+
+pub returns-clause-only : goal.returns-clause-only
+returns-clause-only g c = c.split_streams.ensures.only
+
+pub returns-in_err-files-clause-due : goal.returns-in_err-files-clause-due
+returns-in_err-files-clause-due g c =
+    let q = err_from_is_err_and c.from_residual.result c.from_residual.ensures.1 in
+    rw (q.1, q.2) (adds_none _ _ (λ history. tt))
+
+pub returns-in_err-heads-clause-due : goal.returns-in_err-heads-clause-due
+returns-in_err-heads-clause-due g c =
+    let q = err_from_is_err_and c.from_residual-in_err-heads.result
+    c.from_residual-in_err-heads.ensures.1 in
+    rw (q.1, q.2) (adds_as _ c.in_err-heads.ensures.shown (λ added history x. tt))
+
+pub returns-clause-due : goal.returns-clause-due
+returns-clause-due g c =
+    put_behind (book_view c.args.archive.now) (book_view c.args.book.now) c.in_ok-heads.heads
+    c.split_streams.result c.args.output.now.entries c.split_streams.new.output.entries
+    c.split_streams.ensures.due c.in_ok-heads.ensures.shown c.split_streams.ensures.works

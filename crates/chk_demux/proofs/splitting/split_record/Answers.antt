@@ -1,4 +1,4 @@
-use Rattle.std.proofs.Common.{◌≡◌, ◌∙◌, ◌+◌, ◌-◌, ◌++◌, drop, ap, sym, subst, inl, inr, true, false}
+use Rattle.std.proofs.Common.{◌≡◌, ◌∙◌, ◌+◌, ◌-◌, ◌++◌, drop, ap, sym, subst, refl, inl, inr, true, false}
 use Rattle.std.specs.Prelude.{codes, OnOk}
 use Rattle.std.proofs.lemmas.Result.{err_from_is_err_and}
 use Rattle.chk_site.proofs.Leads.{leads_none, leads_then}
@@ -17,7 +17,8 @@ use Rattle.chk_demux.proofs.Works.{worked, works_none, works_as, works_result, w
 use Rattle.chk_site.proofs.Runs.{adds_none}
 use Rattle.chk_heads.proofs.Causes.{shows_first}
 use Rattle.chk_merge.specs.Gone.{IsGoneIn}
-use Rattle.chk_demux.proofs.Shown.{shows_opened}
+use Rattle.chk_demux.proofs.Shown.{shows_opened, writes_read}
+use Rattle.chk_demux.proofs.NewHeads.{past_put}
 use Rattle.chk_demux.proofs.splitting.split_record.Goals as goal
 
 pub returns-then-not-ends_past-clause-told : goal.returns-then-not-ends_past-clause-told
@@ -125,3 +126,26 @@ returns-clause-shown g c =
     (works_as ReadsFile (ReadsOrWrites w) (λ call k. inl k) c.fetch.result
     (worked ReadsFile c.fetch.result c.fetch.ensures.own c.fetch.ensures.pieces c.fetch.ensures.last))
     (works_as (WritesTo w) (ReadsOrWrites w) (λ call k. inr k) c.split_value.result c.split_value.ensures.works))
+
+pub returns-in_err-fetch-clause-only : goal.returns-in_err-fetch-clause-only
+returns-in_err-fetch-clause-only g c =
+    let p = err_from_is_err_and c.from_residual.result c.from_residual.ensures.1 in
+    rw (p.1, p.2) c.in_err-fetch.ensures.only
+
+pub returns-clause-only : goal.returns-clause-only
+returns-clause-only g c = writes_read c.split_value.result c.split_value.ensures.only
+
+pub returns-then-not-ends_past-clause-due : goal.returns-then-not-ends_past-clause-due
+returns-then-not-ends_past-clause-due g c = inl refl
+
+pub returns-in_err-fetch-clause-due : goal.returns-in_err-fetch-clause-due
+returns-in_err-fetch-clause-due g c =
+    let p = err_from_is_err_and c.from_residual.result c.from_residual.ensures.1 in
+    rw p.1 tt
+
+pub returns-clause-due : goal.returns-clause-due
+returns-clause-due g c =
+    let e = end_view c.args.end.now in
+    past_put c.split_value.result c.args.output.now.entries c.split_value.new.output.entries
+    (sym (ap (ends_past e c.args.from) c.get-head.ensures.head)
+    ∙ (sym c.ends_past.ensures ∙ c.if-not-ends_past.false))

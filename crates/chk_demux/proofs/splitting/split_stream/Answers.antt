@@ -1,4 +1,4 @@
-use Rattle.std.proofs.Common.{◌≡◌, ◌∙◌, ◌+◌, ◌-◌, ◌++◌, ap, sym, subst, refl, arith, length, Ok, ℕ}
+use Rattle.std.proofs.Common.{◌≡◌, ◌∙◌, ◌+◌, ◌-◌, ◌++◌, ap, sym, subst, refl, inl, arith, length, Ok, ℕ}
 use Rattle.std.specs.Prelude.{codes}
 use Rattle.std.proofs.lemmas.Result.{err_from_is_err_and}
 use Rattle.chk_site.specs.Site.{Adds}
@@ -23,6 +23,7 @@ use Rattle.chk_site.proofs.Runs.{adds_as}
 use Rattle.chk_heads.proofs.Causes.{shows_then}
 use Rattle.chk_merge.specs.Gone.{IsGoneIn}
 use Rattle.chk_merge.proofs.Causes.{late_gone_in}
+use Rattle.chk_demux.proofs.NewHeads.{then_put, head_put}
 use Rattle.chk_demux.proofs.splitting.split_stream.Goals as goal
 
 pub loop-index-init : goal.loop-index-init
@@ -37,6 +38,7 @@ loop-index-init g c = record {
       c.requires.block.1 records runs holds is p) h k);
   raw_so_far = λ v cs records settled apart. leads_none (g.S.Site.told c.args.site.now) (λ h z. z);
   writer = c.requires.writer;
+  due = inl refl;
   works = works_none (ReadsOrWrites (segment_name (codes "demux") (book_view c.args.book.now).next)) tt (g.S.Site.told c.args.site.now);
   count = refl;
 }
@@ -63,6 +65,14 @@ loop-index-preserved g c =
           c.split_record.result c.in_ok-split_record.field-0 c.in_ok-split_record.was
           (c.split_record.ensures.raw v cs records settled apart));
       writer = c.in_ok-split_record.ensures.writer;
+      due = then_put c.args.output.now.entries l.output.entries c.split_record.new.output.entries
+          l.invariant.due
+          (head_put c.args.heads.now e from l.index l.output.entries
+          c.split_record.new.output.entries
+          (let high = c.loop-index-test.true in
+          let most = c.requires.block.1 in
+          omega (arith, high, most))
+          c.in_ok-split_record.ensures.due);
       works = works_then (ReadsOrWrites w) (Ok tt) (Ok tt) l.invariant.works
           (subst (λ r. Adds (g.S.Site.told l.site) (g.S.Site.told c.split_record.new.site) (Worked (ReadsOrWrites w) r))
           c.in_ok-split_record.was c.split_record.ensures.works);
@@ -156,3 +166,16 @@ returns-in_err-split_record-clause-shown g c =
 
 pub returns-clause-shown : goal.returns-clause-shown
 returns-clause-shown g c = adds_as _ c.loop-index.invariant.works (λ added history x. tt)
+
+pub returns-in_err-split_record-clause-only : goal.returns-in_err-split_record-clause-only
+returns-in_err-split_record-clause-only g c =
+    let p = err_from_is_err_and c.from_residual.result c.from_residual.ensures.1 in
+    rw (p.1, p.2) c.in_err-split_record.ensures.only
+
+pub returns-in_err-split_record-clause-due : goal.returns-in_err-split_record-clause-due
+returns-in_err-split_record-clause-due g c =
+    let p = err_from_is_err_and c.from_residual.result c.from_residual.ensures.1 in
+    rw p.1 tt
+
+pub returns-clause-due : goal.returns-clause-due
+returns-clause-due g c = c.loop-index.invariant.due

@@ -17,6 +17,7 @@ use Rattle.chk_parts.specs.Fetching.{AreWindows}
 use Rattle.chk_splitter.specs.Splitting.{fresh}
 use Rattle.chk_demux.specs.Working.{Worked}
 use Rattle.chk_demux.specs.Writes.{IsFree, IsWriter, IsOutput}
+use Rattle.chk_demux.specs.Shown.{PutsIf, HasPast}
 use Rattle.chk_demux.specs.Splitting.{RunsSo, HoldsStream, SplitSoFar}
 use Rattle.chk_demux.proofs.splitting.split_stream.Given as goal
 
@@ -34,6 +35,7 @@ invariant-loop-index g l = record {
       (λ h. HasFiles l.files (held v) h × AreWindows v l.files l.fn.reader)
       (λ h. HasFiles l.files (held v) h × AreWindows v l.files l.reader));
   writer : IsWriter (book_view l.book).next l.output.segmenter;
+  due : PutsIf (HasPast l.heads (end_view l.end) l.from) l.fn.output.entries l.output.entries;
   works : Adds (g.S.Site.told l.fn.site) (g.S.Site.told l.site)
       (Worked {T = Unit {0}} (ReadsOrWrites (segment_name (codes "demux") (book_view l.book).next)) (Ok tt));
   count : g.S.Site.fault_count l.site ≡ g.S.Site.fault_count l.fn.site;

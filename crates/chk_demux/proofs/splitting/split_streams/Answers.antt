@@ -1,4 +1,4 @@
-use Rattle.std.proofs.Common.{◌≡◌, ◌∙◌, ◌+◌, ◌++◌, ◌<◌, ap, sym, subst, refl, arith, length, map, take, Ok, ℕ, [], ap₂}
+use Rattle.std.proofs.Common.{◌≡◌, ◌∙◌, ◌+◌, ◌++◌, ◌<◌, ap, sym, subst, refl, inl, arith, length, map, take, Ok, ℕ, [], ap₂}
 use Rattle.std.specs.Prelude.{codes, slice_index_or}
 use Rattle.std.proofs.lemmas.Result.{err_from_is_err_and}
 use Rattle.std.proofs.lemmas.List.{take_all, length-map}
@@ -25,6 +25,7 @@ use Rattle.chk_site.specs.declared.acts.OutsideFault.TheVariants.{NoMemory as no
 use Rattle.chk_heads.proofs.Causes.{shows_then, shows_outside}
 use Rattle.chk_merge.specs.Gone.{IsGoneIn}
 use Rattle.chk_merge.proofs.Causes.{late_gone_in}
+use Rattle.chk_demux.proofs.NewHeads.{then_put, stream_put}
 use Rattle.chk_demux.proofs.splitting.split_streams.Goals as goal
 
 pub loop-end-init : goal.loop-end-init
@@ -41,6 +42,7 @@ loop-end-init g c = record {
       leads_none (g.S.Site.told c.args.site.now)
       (λ h z. (z, nothing_windows v c.args.files.now c.new-reader.result c.new-reader.ensures));
   writer = c.requires.writer;
+  due = λ rises. inl refl;
   works = works_none (ReadsOrWrites (segment_name (codes "demux") (book_view c.args.book.now).next)) tt (g.S.Site.told c.args.site.now);
   count = refl;
 }
@@ -95,6 +97,12 @@ loop-end-preserved g c =
           (on_done v files heads cs records settled l.reader c.split_stream.new.reader c.split_stream.result
           c.in_ok-more.more c.in_ok-more.was (c.split_stream.ensures.raw v cs records settled apart));
       writer = c.in_ok-more.ensures.writer;
+      due = λ rises.
+          then_put c.args.output.now.entries l.output.entries c.split_stream.new.output.entries
+          (l.invariant.due rises)
+          (stream_put (book_view c.args.archive.now) b heads e c.split_from-from.result
+          l.output.entries c.split_stream.new.output.entries (i, low, is)
+          (c.split_from-from.ensures rises) c.in_ok-more.ensures.due);
       works = works_then (ReadsOrWrites w) (Ok tt) (Ok tt) l.invariant.works
           (works_value ℕ (Unit {0}) (ReadsOrWrites w) c.in_ok-more.more tt
           (subst (λ r. Adds (g.S.Site.told l.site) (g.S.Site.told c.split_stream.new.site) (Worked (ReadsOrWrites w) r))
@@ -263,3 +271,28 @@ returns-in_err-left-clause-shown g c =
 
 pub returns-clause-shown : goal.returns-clause-shown
 returns-clause-shown g c = adds_as _ c.loop-end.invariant.works (λ added history x. tt)
+
+pub returns-in_err-more-clause-only : goal.returns-in_err-more-clause-only
+returns-in_err-more-clause-only g c =
+    let p = err_from_is_err_and c.from_residual.result c.from_residual.ensures.1 in
+    rw (p.1, p.2) c.in_err-more.ensures.only
+
+pub returns-in_err-left-clause-only : goal.returns-in_err-left-clause-only
+returns-in_err-left-clause-only g c =
+    let p = err_from_is_err_and c.from_residual-in_err-left.result
+    c.from_residual-in_err-left.ensures.1 in
+    rw (p.1, p.2, c.in_err-left.ensures.only) tt
+
+pub returns-in_err-more-clause-due : goal.returns-in_err-more-clause-due
+returns-in_err-more-clause-due g c =
+    let p = err_from_is_err_and c.from_residual.result c.from_residual.ensures.1 in
+    rw p.1 (λ rises. tt)
+
+pub returns-in_err-left-clause-due : goal.returns-in_err-left-clause-due
+returns-in_err-left-clause-due g c =
+    let p = err_from_is_err_and c.from_residual-in_err-left.result
+    c.from_residual-in_err-left.ensures.1 in
+    rw p.1 (λ rises. tt)
+
+pub returns-clause-due : goal.returns-clause-due
+returns-clause-due g c = c.loop-end.invariant.due

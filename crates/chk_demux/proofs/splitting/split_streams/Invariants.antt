@@ -16,6 +16,7 @@ use Rattle.chk_parts.specs.Records.{AreRecords}
 use Rattle.chk_parts.specs.Fetching.{AreWindows}
 use Rattle.chk_demux.specs.Working.{Worked}
 use Rattle.chk_demux.specs.Writes.{IsFree, IsWriter, IsOutput}
+use Rattle.chk_demux.specs.Shown.{PutsIf, HasNew}
 use Rattle.chk_demux.specs.Splitting.{SplitAll, StreamsRise, all_chunks, all_left, texts}
 use Rattle.chk_demux.proofs.splitting.split_streams.Given as goal
 
@@ -34,6 +35,9 @@ invariant-loop-end g l = record {
       → Adds (g.S.Site.told l.fn.site) (g.S.Site.told l.site) (Leads (anyhow (SparesFiles l.files))
       (HasFiles l.files (held v)) (λ h. HasFiles l.files (held v) h × AreWindows v l.files l.reader));
   writer : IsWriter (book_view l.book).next l.output.segmenter;
+  due : IsTrue (ends_rise (book_view l.book).ends)
+      → PutsIf (HasNew (book_view l.archive) (book_view l.book) l.heads) l.fn.output.entries
+      l.output.entries;
   works : Adds (g.S.Site.told l.fn.site) (g.S.Site.told l.site)
       (Worked {T = Unit {0}} (ReadsOrWrites (segment_name (codes "demux") (book_view l.book).next)) (Ok tt));
   count : g.S.Site.fault_count l.site ≡ g.S.Site.fault_count l.fn.site;

@@ -9,7 +9,8 @@ use Rattle.chk_demux_run.specs.Telling.{DemuxesAndTells, IsTold}
 use Rattle.chk_demux_run.proofs.CallKinds.{demux_silent, of_demux}
 use Rattle.chk_demux_run.proofs.Told.{told_done, told_fails, own_both, prints_both, prints_none, runs_both, last_both}
 use Rattle.chk_heads.proofs.Causes.{shows_outside, shows_ok}
-use Rattle.chk_demux.specs.Shown.{IsDamage}
+use Rattle.chk_demux.specs.Shown.{IsDamage, ShowsSpent}
+use Rattle.chk_demux.proofs.Shown.{spent_outside}
 use Rattle.chk_demux_run.proofs.running.run_demux.Goals as goal
 
 pub returns-in_err-report-clause-told : goal.returns-in_err-report-clause-told
@@ -92,3 +93,23 @@ pub returns-clause-shown : goal.returns-clause-shown
 returns-clause-shown g c =
     shows_ok IsDamage c.in_ok-report.report
     (own_both c.in_ok-report.report (Ok tt) c.demux.ensures.own c.args.who.now c.requires c.in_ok-tell.ensures.told)
+
+pub returns-in_err-report-clause-spent : goal.returns-in_err-report-clause-spent
+returns-in_err-report-clause-spent g c =
+    let q = err_from_is_err_and c.from_residual.result c.from_residual.ensures.1 in
+    rw (q.1, q.2) c.in_err-report.ensures.spent
+
+pub returns-in_err-tell-clause-spent : goal.returns-in_err-tell-clause-spent
+returns-in_err-tell-clause-spent g c =
+    let q = err_from_is_err_and c.from_residual-in_err-tell.result
+    c.from_residual-in_err-tell.ensures.1 in
+    rw (q.1, q.2)
+    (spent_outside DemuxReport c.in_err-tell.field-0.0
+    (own_both c.in_ok-report.report (Err c.in_err-tell.field-0.0) c.demux.ensures.own c.args.who.now
+    c.requires c.in_err-tell.ensures.told))
+
+pub returns-clause-spent : goal.returns-clause-spent
+returns-clause-spent g c =
+    adds_as (ShowsSpent {T = DemuxReport} (Ok c.in_ok-report.report))
+    (own_both c.in_ok-report.report (Ok tt) c.demux.ensures.own c.args.who.now c.requires
+    c.in_ok-tell.ensures.told) (λ added history k. tt)

@@ -4,7 +4,7 @@ use Rattle.chk_site.specs.declared.acts.OutsideFault.TheVariants.{Outside, NoMem
 use Rattle.chk_site.specs.declared.acts.Call.TheVariants.{Read}
 use Rattle.chk_site.specs.Site.{bytes_given, LastFailed}
 use Rattle.chk_site.proofs.Runs.{adds_as}
-use Rattle.chk_replace.proofs.CallSteps.{ends_last}
+use Rattle.chk_site.proofs.LastCalls.{ended_last as ends_last}
 use Rattle.chk_heads.proofs.Showing.{read_gave, read_missing, read_short, read_failed}
 use Rattle.chk_heads.specs.Pieces.{asks_for}
 use Rattle.chk_heads.proofs.PieceReads.{piece_given, piece_missing, piece_short, not_read, piece_own, piece_asks}

@@ -1,5 +1,6 @@
 use Rattle.std.proofs.Common.{◌∙◌, ◌++◌, ap, sym, get_or}
 use Rattle.std.proofs.lemmas.Result.{err_from_is_err_and}
+use Rattle.chk_site.proofs.Runs.{adds_none, adds_as}
 use Rattle.chk_heads.specs.Order.{no_head}
 use Rattle.chk_merge.specs.Streams.{stream_of}
 use Rattle.chk_merge.specs.Courses.{is_head_of}
@@ -41,3 +42,20 @@ returns-clause-raw g c most held few settled =
     (sym (c.has.ensures ∙ ap (is_head_of s) c.get.ensures.head) ∙ c.if-not-has.false)
     (c.in_ok-push_all.ensures.ok ∙ ap (λ v. bytes ++ v) c.value.ensures)
     (c.in_ok-fetch.ensures.raw most held few settled)
+
+pub returns-then-not-has-clause-shown : goal.returns-then-not-has-clause-shown
+returns-then-not-has-clause-shown g c = adds_none _ _ (λ history. tt)
+
+pub returns-in_err-fetch-clause-shown : goal.returns-in_err-fetch-clause-shown
+returns-in_err-fetch-clause-shown g c =
+    let p = err_from_is_err_and c.from_residual.result c.from_residual.ensures.1 in
+    rw (p.1, p.2) c.in_err-fetch.ensures.shown
+
+pub returns-in_err-push_all-clause-shown : goal.returns-in_err-push_all-clause-shown
+returns-in_err-push_all-clause-shown g c =
+    let p = err_from_is_err_and c.from_residual-in_err-push_all.result
+    c.from_residual-in_err-push_all.ensures.1 in
+    rw (p.1, p.2) (adds_as _ c.in_ok-fetch.ensures.pieces (λ added history x. tt))
+
+pub returns-clause-shown : goal.returns-clause-shown
+returns-clause-shown g c = adds_as _ c.in_ok-fetch.ensures.pieces (λ added history x. tt)

@@ -13,6 +13,9 @@ use Rattle.chk_merge.specs.Archives.{values_in}
 use Rattle.chk_book.proofs.Added.{cause_later}
 use Rattle.chk_merge.proofs.AllGathered.{fails_later}
 use Rattle.chk_merge.proofs.Joining.{none_joined, not_joined}
+use Rattle.chk_heads.proofs.Causes.{shows_then}
+use Rattle.chk_merge.specs.Gone.{IsGoneIn}
+use Rattle.chk_merge.proofs.Causes.{late_gone_in}
 use Rattle.chk_merge.proofs.archives.joined.Goals as goal
 
 pub loop-index-init : goal.loop-index-init
@@ -100,3 +103,15 @@ returns-clause-last g c =
 
 pub returns-clause-cause : goal.returns-clause-cause
 returns-clause-cause g c = c.loop-index.invariant.count
+
+pub returns-in_err-join_one-clause-shown : goal.returns-in_err-join_one-clause-shown
+returns-in_err-join_one-clause-shown g c =
+    let p = err_from_is_err_and c.from_residual.result c.from_residual.ensures.1 in
+    let names = c.args.names.now in
+    let heads = c.args.heads.now in
+    rw (p.1, p.2)
+    (shows_then (List ℕ) (Unit {0}) (IsGoneIn names heads) (late_gone_in names heads)
+    c.in_err-join_one.field-0.0 c.loop-index.invariant.pieces c.in_err-join_one.ensures.shown)
+
+pub returns-clause-shown : goal.returns-clause-shown
+returns-clause-shown g c = adds_as _ c.loop-index.invariant.pieces (λ added history x. tt)

@@ -13,6 +13,9 @@ use Rattle.chk_merge.specs.Streams.{stream_of}
 use Rattle.chk_merge.specs.Courses.{end_of, IsBreakBy}
 use Rattle.chk_merge.specs.Archives.{ToldBreak}
 use Rattle.chk_merge.proofs.Archived.{archived, not_sound, not_run, gathered_as, joined_as, told_of_read, told_no_call, told_cause}
+use Rattle.chk_heads.proofs.Causes.{shows_as}
+use Rattle.chk_merge.specs.Gone.{IsUnsound, IsUnreadable, unsound}
+use Rattle.chk_merge.proofs.Causes.{sound_bad, sound_broken, unreadable_so}
 use Rattle.chk_merge.proofs.archives.read_archive.Goals as goal
 
 pub returns-in_err-heads-clause-raw : goal.returns-in_err-heads-clause-raw
@@ -135,3 +138,30 @@ returns-clause-cause g c =
     cause_then c.joined.result (g.S.Site.fault_count c.args.site.now) (g.S.Site.fault_count
     c.gather_all.new.site)
     (g.S.Site.fault_count c.joined.new.site) c.in_ok-heads.ensures.cause c.joined.ensures.cause
+
+pub returns-in_err-heads-clause-shown : goal.returns-in_err-heads-clause-shown
+returns-in_err-heads-clause-shown g c =
+    let p = err_from_is_err_and c.from_residual.result c.from_residual.ensures.1 in
+    let folder = c.args.folder.now in
+    let b = book_view c.args.book.now in
+    rw (p.1, p.2)
+    (shows_as (List ℕ) (Unit {0}) (IsUnsound folder b) (IsUnreadable folder b)
+    (λ name at added history x. unsound x) c.in_err-heads.field-0.0
+    (sound_bad folder b c.args.names.now c.most_in.result c.requires c.most_in.ensures.most
+    c.in_err-heads.field-0.0 c.in_err-heads.ensures.shown))
+
+pub returns-in-Some-clause-shown : goal.returns-in-Some-clause-shown
+returns-in-Some-clause-shown g c =
+    let folder = c.args.folder.now in
+    let b = book_view c.args.book.now in
+    shows_as (List ℕ) (Unit {0}) (IsUnsound folder b) (IsUnreadable folder b)
+    (λ name at added history x. unsound x) c.break_fault.result
+    (sound_broken folder b c.args.names.now c.most_in.result c.requires c.most_in.ensures.most
+    c.in_ok-heads.heads c.break_fault.result
+    (stream_of c.args.stream.now, c.break_fault.ensures) c.in_ok-heads.ensures.shown)
+
+pub returns-clause-shown : goal.returns-clause-shown
+returns-clause-shown g c =
+    unreadable_so c.args.folder.now (book_view c.args.book.now) c.args.names.now c.most_in.result
+    c.requires c.most_in.ensures.most c.in_ok-heads.heads c.joined.result
+    c.in_ok-heads.ensures.shown c.joined.ensures.shown

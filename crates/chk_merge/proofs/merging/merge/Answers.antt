@@ -187,3 +187,6 @@ returns-clause-shown g c = adds_then _ c.in_ok-heads.ensures.pieces c.in_ok-merg
 
 pub returns-clause-kept : goal.returns-clause-kept
 returns-clause-kept g c = (refl, refl)
+
+pub returns-clause-next : goal.returns-clause-next
+returns-clause-next g c = c.in_ok-merged.ensures.next

@@ -88,3 +88,6 @@ returns-in_err-write_segment-clause-shown g c =
 
 pub returns-clause-shown : goal.returns-clause-shown
 returns-clause-shown g c = adds_as _ c.in_ok-write_segment.ensures.shown (λ added history x. tt)
+
+pub returns-clause-next : goal.returns-clause-next
+returns-clause-next g c = c.in_ok-write_segment.ensures.next

@@ -332,3 +332,6 @@ pub returns-clause-shown : goal.returns-clause-shown
 returns-clause-shown g c =
     shows_ok (IsGoneIn c.args.names.now c.args.heads.now) (tt {0})
     (adds_then (λ added history. Unit {0}) c.loop-index.invariant.made c.in_ok-finish.ensures.last (λ a b history x y. tt))
+
+pub returns-clause-next : goal.returns-clause-next
+returns-clause-next g c = c.in_ok-finish.ensures.next

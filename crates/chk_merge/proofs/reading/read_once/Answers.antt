@@ -5,7 +5,7 @@ use Rattle.chk_site.specs.declared.acts.Call.TheVariants.{Read}
 use Rattle.chk_site.specs.declared.acts.ActAnswer.TheVariants.{Refused}
 use Rattle.chk_site.specs.Site.{bytes_given, LastFailed}
 use Rattle.chk_site.proofs.Runs.{adds_as, ran}
-use Rattle.chk_replace.proofs.CallSteps.{ends_last}
+use Rattle.chk_site.proofs.LastCalls.{ended_last as ends_last}
 use Rattle.chk_merge.proofs.RunReads.{run_given, run_missing, run_short, not_run, read_stays, unsaid, run_own, run_asks}
 use Rattle.chk_heads.proofs.Showing.{read_gave, read_missing, read_short, gave_bytes, gave_none, gave_nothing}
 use Rattle.chk_merge.proofs.reading.read_once.Goals as goal

@@ -9,7 +9,8 @@ use Rattle.chk_site.proofs.Leads.{leads_then}
 use Rattle.chk_world.specs.JobSteps.{IsOf, ReadsFile, SparesFile}
 use Rattle.chk_heads.specs.Pieces.{AsksInPieces}
 use Rattle.chk_merge.specs.Spans.{HasRun}
-use Rattle.chk_merge.proofs.RunReads.{two_runs, short_run, not_run, unsaid, every_then, last_behind, none_failed}
+use Rattle.chk_merge.proofs.RunReads.{two_runs, short_run, not_run, unsaid, last_behind, none_failed}
+use Rattle.chk_heads.proofs.Gathering.{every_then}
 use Rattle.chk_merge.proofs.Causes.{run_once, run_ended, run_twice, run_failed}
 use Rattle.chk_merge.proofs.reading.read_run.Goals as goal
 

@@ -1,9 +1,11 @@
-use Rattle.std.proofs.Common.{◌∙◌, Ok, subst}
+use Rattle.std.proofs.Common.{◌∙◌, Ok, subst, length}
+use Rattle.std.specs.Prelude.{IfOk}
 use Rattle.chk_site.specs.History.{Every}
 use Rattle.chk_site.proofs.Runs.{adds_none}
 use Rattle.chk_site.proofs.Leads.{leads_none}
 use Rattle.chk_world.specs.JobSteps.{IsOf, ReadsFile}
-use Rattle.chk_parts.specs.Kept.{NoneRepeats}
+use Rattle.chk_parts.specs.Kept.{NoneRepeats, AreKeptOf}
+use Rattle.chk_parts.proofs.KeptFirsts.{all_kept_of}
 use Rattle.chk_parts.proofs.PastKept.{none_repeat, sifted, kept_told}
 use Rattle.chk_parts.proofs.kept.kept_of.Goals as goal
 
@@ -42,3 +44,15 @@ returns-clause-told g c stamped v found known records are =
     c.as_slice-2.result.now (c.as_slice-2.ensures ∙ c.in_ok-past.ensures.past) c.sift.result
     (λ o. c.sift.ensures.raw v _ records o))
     c.sift.ensures.own
+
+pub returns-then-not-has_repeats-clause-among : goal.returns-then-not-has_repeats-clause-among
+returns-then-not-has_repeats-clause-among g c =
+    let heads = c.args.heads.now in
+    let past = c.in_ok-past.past in
+    subst (λ ps. AreKeptOf heads ps (length ps) past) c.in_ok-past.ensures.past
+    (all_kept_of heads past)
+
+pub returns-clause-among : goal.returns-clause-among
+returns-clause-among g c =
+    subst (λ ps. IfOk c.sift.result (AreKeptOf c.args.heads.now ps (length ps)))
+    (c.as_slice-2.ensures ∙ c.in_ok-past.ensures.past) c.sift.ensures.among

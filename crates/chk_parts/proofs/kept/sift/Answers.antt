@@ -1,4 +1,4 @@
-use Rattle.std.proofs.Common.{◌≡◌, ◌∙◌, ◌+◌, ◌<◌, ◌≤◌, List, Err, Bool, ap, sym, subst, refl, arith, length}
+use Rattle.std.proofs.Common.{◌≡◌, ◌∙◌, ◌+◌, ◌<◌, ◌≤◌, List, Err, Bool, false, ap, sym, subst, refl, arith, length}
 use Rattle.std.specs.Prelude.{slice_index_or}
 use Rattle.std.proofs.lemmas.Result.{err_from_is_err_and}
 use Rattle.std.proofs.lemmas.List.Elements.{All-drop, All-nil}
@@ -20,6 +20,7 @@ use Rattle.chk_parts.specs.Kept.{goes_on, group_of, value_in, CanFind, FoundSo}
 use Rattle.chk_parts.proofs.AllFiles.{fails_later}
 use Rattle.chk_parts.proofs.CutLists.{no_cut, nothing_windows}
 use Rattle.chk_parts.proofs.PastKept.{slice_is, group_low, whole_more, more_low, sift_ends, sift_on, sift_fails, sift_full, Sifted}
+use Rattle.chk_parts.proofs.KeptFirsts.{all_done, none_kept_of, more_kept_of, same_ok, none_left}
 use Rattle.chk_parts.proofs.Sifting.{sift_begins}
 use Rattle.chk_site.specs.declared.acts.OutsideFault.TheVariants.{NoMemory as no_memory}
 use Rattle.chk_heads.proofs.Causes.{shows_then, shows_outside}
@@ -44,6 +45,7 @@ loop-place-init g c =
           ));
       low = omega arith;
       whole = All-nil (λ (k : Cut). (k.index < length c.args.heads.now) × (k.skip ≡ 0));
+      kept = none_kept_of c.args.heads.now c.args.past.now;
       own = adds_none site (Every (IsOf ReadsFile)) (λ history. tt);
       pieces = adds_none site (Every AsksInPieces) (λ history. tt);
       count = refl;
@@ -156,6 +158,14 @@ loop-place-preserved g c =
           (subst (λ m. m ≤ length l.cuts) (sym group) low) c.in_ok-push_new.ensures;
       whole = whole_more (length heads) l.cuts c.push_new.new.cuts c.in_ok-found.found k l.invariant.whole
           (c.requires.whole l.place no_cut c.loop-place-test.true) c.in_ok-push_new.ensures;
+      kept = more_kept_of heads past l.cuts c.push_new.new.cuts l.place c.in_ok-found.found
+          c.loop-place-test.true
+          (λ stays. same_ok c.in_ok-found.found false c.is_found.result c.in_ok-found.was
+          (c.is_found.ensures.none
+          (slice_is c.as_slice-in-loop-place.result.now l.cuts c.group_at-group.result n
+          c.as_slice-in-loop-place.ensures group
+          ∙ none_left l.cuts (goes_on heads past l.place) l.group stays))) c.in_ok-push_new.ensures
+          l.invariant.kept;
       own = every_then (IsOf ReadsFile) l.invariant.own c.is_found.ensures.own;
       pieces = every_then AsksInPieces l.invariant.pieces c.is_found.ensures.pieces;
       count = c.in_ok-found.ensures.cause ∙ l.invariant.count;
@@ -182,3 +192,8 @@ returns-in_err-push_new-clause-shown g c =
     rw (p.1, p.2)
     (shows_outside (List Cut) (IsGoneIn c.args.files.now c.args.heads.now) no_memory
     (every_then AsksInPieces c.loop-place.invariant.pieces c.is_found.ensures.pieces))
+
+pub returns-clause-among : goal.returns-clause-among
+returns-clause-among g c =
+    let l = c.loop-place in
+    all_done c.args.heads.now c.args.past.now l.cuts l.place c.loop-place-test.false l.invariant.kept

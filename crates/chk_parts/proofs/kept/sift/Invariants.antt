@@ -11,7 +11,7 @@ use Rattle.chk_merge.specs.Segments.{HasFiles, SparesFiles}
 use Rattle.chk_parts.specs.Cuts.{cut_chunks}
 use Rattle.chk_parts.specs.Gathering.{held}
 use Rattle.chk_parts.specs.Records.{AreRecords}
-use Rattle.chk_parts.specs.Kept.{AreWhole, CanFind}
+use Rattle.chk_parts.specs.Kept.{AreWhole, AreKeptOf, CanFind}
 use Rattle.chk_parts.proofs.Sifting.{SiftedTo}
 use Rattle.chk_parts.proofs.kept.sift.Given as goal
 
@@ -23,6 +23,7 @@ invariant-loop-place g l = record {
       (λ h. CanFind v l.files l.old l.new h × SiftedTo cs l.past l.cuts l.place l.group));
   low : l.group ≤ length l.cuts;
   whole : AreWhole (length l.heads) l.cuts;
+  kept : AreKeptOf l.heads l.past l.place l.cuts;
   own : Adds (g.S.Site.told l.fn.site) (g.S.Site.told l.site) (Every (IsOf ReadsFile));
   pieces : Adds (g.S.Site.told l.fn.site) (g.S.Site.told l.site) (Every AsksInPieces);
   count : g.S.Site.fault_count l.site ≡ g.S.Site.fault_count l.fn.site;

@@ -159,3 +159,9 @@ returns-clause-shown g c =
     (no_reads (WritesTo (segment_name (codes "archive") (book_view c.args.book.now).next))
     (writes_no_reads (segment_name (codes "archive") (book_view c.args.book.now).next))
     (c.begin_segment.ensures.own c.requires.job)) c.write_cuts.ensures.pieces) c.finish_for.ensures.last)
+
+pub returns-clause-next : goal.returns-clause-next
+returns-clause-next g c = c.finish_for.ensures.next
+
+pub returns-clause-aside : goal.returns-clause-aside
+returns-clause-aside g c = c.finish_for.ensures.aside

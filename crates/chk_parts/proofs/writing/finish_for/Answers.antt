@@ -7,7 +7,7 @@ use Rattle.chk_book.specs.Books.{book_view}
 use Rattle.chk_book.specs.Folders.{segment_name}
 use Rattle.chk_book.specs.Segmenting.{HoldsSegment}
 use Rattle.chk_parts.specs.Writes.{HasEntered}
-use Rattle.chk_parts.proofs.WholeSegments.{for_parts, for_aside}
+use Rattle.chk_parts.proofs.WholeSegments.{for_parts, for_aside, aside_is_other}
 use Rattle.chk_parts.proofs.writing.finish_for.Goals as goal
 
 pub returns-in-Parts-clause-raw : goal.returns-in-Parts-clause-raw
@@ -27,3 +27,9 @@ returns-in-Aside-clause-raw g c w at =
     (Leads (anyhow (SparesFile (segment_name w.folder w.number))) (HoldsSegment w) (HasEntered p w b new c.finish_aside.result)))
     (sym c.in-Aside.is)
     (leads_as (λ h k. k) (λ h k. for_aside c.finish_aside.result w b new h k) (c.finish_aside.ensures.raw w at))
+
+pub returns-in-Parts-clause-aside : goal.returns-in-Parts-clause-aside
+returns-in-Parts-clause-aside g c = λ is. c.finish.ensures.aside
+
+pub returns-in-Aside-clause-aside : goal.returns-in-Aside-clause-aside
+returns-in-Aside-clause-aside g c = λ is. absurd (aside_is_other c.args.purpose c.in-Aside.is is)

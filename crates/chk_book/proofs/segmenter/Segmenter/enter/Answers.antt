@@ -1,8 +1,9 @@
-use Rattle.std.proofs.Common.{Ok, refl}
+use Rattle.std.proofs.Common.{◌∙◌, ◌+◌, ℕ, Ok, refl, ap}
 use Rattle.std.proofs.lemmas.Result.{err_from_is_err_and}
 use Rattle.chk_site.proofs.Runs.{adds_as}
 use Rattle.chk_site.proofs.Leads.{leads_as}
 use Rattle.chk_replace.proofs.CallSteps.{script_last}
+use Rattle.chk_world.specs.Books.{Book}
 use Rattle.chk_heads.specs.Faults.{FailsLast}
 use Rattle.chk_book.specs.Books.{book_view}
 use Rattle.chk_book.specs.Views.{segment_view}
@@ -44,3 +45,10 @@ returns-clause-own g c = λ w at is. rest_own c.args.self.now w at is c.in_ok-en
 pub returns-clause-last : goal.returns-clause-last
 returns-clause-last g c = adds_as (FailsLast {T = Unit {0}} (Ok tt)) (script_last
     c.in_ok-end_file.ensures.told) (λ added history x. tt)
+
+pub returns-clause-next : goal.returns-clause-next
+returns-clause-next g c =
+    ap (λ (b : Book). b.next) c.in_ok-next.ensures ∙ ap (λ (n : ℕ). n + 1) c.segment.ensures.number
+
+pub returns-clause-aside : goal.returns-clause-aside
+returns-clause-aside g c = ap (λ (b : Book). b.aside) c.in_ok-next.ensures

@@ -45,3 +45,6 @@ returns-clause-own g c = λ w at is. rest_own c.args.self w at is c.in_ok-end_fi
 
 pub returns-clause-last : goal.returns-clause-last
 returns-clause-last g c = adds_as (FailsLast {T = Unit {0}} (Ok tt)) (script_last c.in_ok-end_file.ensures.told) (λ added history x. tt)
+
+pub returns-clause-next : goal.returns-clause-next
+returns-clause-next g c = ap (λ (n : ℕ). n + 1) c.requires
