@@ -16,8 +16,9 @@ use Rattle.chk_choose.specs.Pairs.{Pair, left_alone, right_alone, paired}
 use Rattle.chk_choose.specs.Differing.{PairAgrees, PairDiffers, FirstDiffers}
 use Rattle.chk_choose.proofs.Lookup.{pair_stream, pair_for}
 use Rattle.chk_join.specs.Preparing.{stream_of}
-use Rattle.chk_join.proofs.RunFacts.{stream_self}
-use Rattle.chk_join.proofs.PairFacts.{PairsRise, before_on, no_pair}
+use Rattle.chk_world.proofs.Rounds.{stream_self}
+use Rattle.chk_join.proofs.PairFacts.{PairsRise, no_pair}
+use Rattle.chk_parts.proofs.EndsInOrder.{before_on}
 
 -- ---- bytes
 

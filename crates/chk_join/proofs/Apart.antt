@@ -48,7 +48,7 @@ digits_no_slash (suc k) n acc none =
     either false one more = more
 
 -- the last part of a segment's name
-stem_no_slash : (n : ℕ) → list_any is_slash (segment_stem n) ≡ false
+pub stem_no_slash : (n : ℕ) → list_any is_slash (segment_stem n) ≡ false
 unfolding digits
 stem_no_slash n = digits_no_slash 64 n [] refl
 

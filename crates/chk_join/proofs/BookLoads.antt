@@ -1,10 +1,10 @@
 -- The load of a folder's book in a legal history.
-use Rattle.std.proofs.Common.{◌≡◌, ℕ, List, [], ◌∷◌, Option, Some, None, Ok, Err, Result, ap, sym, subst, ◌∙◌, refl, false}
+use Rattle.std.proofs.Common.{◌≡◌, ℕ, List, Option, Some, None, Ok, Err, Result, ap, sym, subst, ◌∙◌, refl, false}
 use Rattle.std.proofs.lemmas.Option.{none-some}
 use Rattle.chk_site.specs.Files.{File}
 use Rattle.chk_site.specs.Effect.{IsSmallFile}
 use Rattle.chk_site.specs.Acts.{Deed, Starts}
-use Rattle.chk_site.specs.History.{History, AllModelled, Every, files_after}
+use Rattle.chk_site.specs.History.{History, Every, files_after}
 use Rattle.chk_site.specs.Site.{Adds}
 use Rattle.chk_site.specs.Runs.{Leads, anyhow}
 use Rattle.chk_site.proofs.Leads.{leads_as}
@@ -32,11 +32,7 @@ use Rattle.chk_book.specs.declared.book.Book.{Book as Struct}
 use Rattle.chk_book.proofs.NoDamage.{no_damage}
 use Rattle.chk_parts.proofs.FromKnown.{from_known, reach}
 use Rattle.chk_parts.proofs.Published.{book_named}
-
-legal_modelled : (stamped : List (List ℕ)) (history : History) → Legal stamped history → AllModelled history
-legal_modelled stamped [] legal = tt
-legal_modelled stamped (step ∷ history) legal =
-    (legal_modelled stamped history legal.0, legal.1.honest.modelled)
+use Rattle.chk_world.proofs.LogEnds.{legal_modelled}
 
 -- a book of a legal history has no wrong field
 undamaged : (o : Option File) (at : ℕ) → OnFile o IsWholeBook → IsNoBookAt (file_bytes o) at → ⊥

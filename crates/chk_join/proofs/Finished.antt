@@ -1,5 +1,5 @@
 -- What stands behind a join.
-use Rattle.std.proofs.Common.{◌≡◌, inl, inr, ℕ, false, List, ◌∷◌, ◌++◌, length, map, Some, refl, ap, sym, ◌∙◌, bytes_eq, append-nil}
+use Rattle.std.proofs.Common.{◌≡◌, inl, inr, ℕ, false, List, ◌∷◌, ◌++◌, length, map, Some, refl, ap, sym, subst, ◌∙◌, bytes_eq, append-nil}
 use Rattle.std.specs.Prelude.{codes, unwrap_or}
 use Rattle.std.proofs.lemmas.Bool.{or_from}
 use Rattle.chk_site.specs.Files.{Files}
@@ -7,19 +7,19 @@ use Rattle.chk_site.specs.Acts.{Deed, touches}
 use Rattle.chk_site.specs.History.{History, Every, Others, files_after}
 use Rattle.chk_replace.specs.Replace.{tmp}
 use Rattle.chk_chunk.specs.Keys.{Stream, Chunk, chunk_limit}
-use Rattle.chk_world.specs.Books.{Segment, End, Book, book_in, empty_book, chunks_within}
+use Rattle.chk_world.specs.Books.{Segment, End, Book, book_in, empty_book, chunks_within, chunks_of_stream}
 use Rattle.chk_world.specs.JobSteps.{IsOf, removes, creates, appends, syncs}
 use Rattle.chk_heads.specs.Pieces.{bytes_in}
 use Rattle.chk_book.specs.Folders.{segment_name, segment_stem}
-use Rattle.chk_book.specs.Segmenting.{all_bytes}
+use Rattle.chk_book.specs.Segmenting.{all_bytes, segment_of}
 use Rattle.chk_merge.specs.Segments.{chunks_in_files}
 use Rattle.chk_merge.proofs.Frames.{stays_so}
 use Rattle.chk_parts.specs.Publishing.{ReplacesBookOf, writes_book, names_book}
 use Rattle.chk_parts.proofs.OneSegment.{has_some, some_has}
 use Rattle.chk_copy.specs.Copying.{joined_segment}
 use Rattle.chk_join.specs.Archives.{join, Agree}
-use Rattle.chk_join.specs.Runs.{IsAlone, bytes_of}
-use Rattle.chk_join.specs.Joined.{joined_folder, folder_book, archive_with, archive_by, archive_in, records_of_book, of_joined, LeavesFolders, JoinDone}
+use Rattle.chk_join.specs.Runs.{IsAlone, AreRuns, bytes_of}
+use Rattle.chk_join.specs.Joined.{joined_folder, folder_book, archive_with, archive_by, archive_in, records_of_book, records_in, AreJoined, of_joined, LeavesFolders, NamesAlone, JoinDone}
 use Rattle.chk_join.specs.Publishing.{HasNewBook}
 use Rattle.chk_join.specs.declared.report.JoinReport.{JoinReport}
 use Rattle.chk_join.proofs.Begun.{joined_book}
@@ -48,25 +48,46 @@ module _ (b : Book) (h : History) (new : HasNewBook b h) where
       ∙ (ap (λ o. chunks_within chunk_limit (bytes_in o)) f.1
       ∙ (ap (chunks_within chunk_limit) f.2.0 ∙ (is.form.are ∙ is.chunks_are)))))
 
+  alone_now : (next : ℕ) (cs : List Chunk) → IsAlone next b.ends b cs h → NamesAlone next b
+  alone_now next cs (beside, inl k) = (beside, inl (k.1.0, k.1.1.1))
+  alone_now next cs (beside, inr k) =
+      (beside, inr (segment_of k.1.0, (k.1.1.0, (k.1.1.1.1.number_is, k.1.1.1.0))))
+
   -- so the archive of `joined` is theirs
   pub join_done : (files : Files) (left right : List ℕ) (next : ℕ) (cs : List Chunk) (report : JoinReport)
-      → Agree (archive_in files left) (archive_in files right) → IsAlone next b.ends b cs h
+      → next ≡ (folder_book files joined_folder).next → Agree (archive_in files left) (archive_in files right) → IsAlone next b.ends b cs h
       → ((s : Stream) → archive_with b cs s ≡ join (archive_in files left) (archive_in files right) s)
-      → report.bytes ≡ bytes_of cs → report.streams ≡ length b.ends → JoinDone files left right report h
-  join_done files left right next cs report agree alone is bytes streams = record {
+      → report.bytes ≡ bytes_of cs → report.streams ≡ length b.ends
+      → AreJoined (archive_in files left) (archive_in files right) (records_in files left)
+      (records_in files right) cs
+      → AreRuns b.ends cs → JoinDone files left right report h
+  join_done files left right next cs report old agree alone is bytes streams records runs = record {
+    file = new.0;
+    there = new.1.0;
+    book = new.1.1 ∙ ap (λ (c : Book). Some c) (sym book_now);
+    alone = subst (λ n. NamesAlone n (folder_book (files_after h) joined_folder)) old
+        (subst (NamesAlone next) (sym book_now) (alone_now next cs alone));
     agree = agree;
     is = λ s.
         ap (λ (c : Book). archive_by joined_folder c (files_after h) s) book_now
         ∙ (ap (λ l. archive_with b l s) (records_now next cs alone) ∙ is s);
+    records = λ s. ap (chunks_of_stream s) now ∙ records s;
+    order = subst (λ (c : Book). AreRuns c.ends (records_of_book joined_folder c (files_after h)))
+        (sym book_now)
+        (subst (AreRuns b.ends) (sym (records_now next cs alone)) runs);
     streams = streams ∙ ap (λ (c : Book). length c.ends) (sym book_now);
     bytes = bytes
         ∙ (ap bytes_of (sym (records_now next cs alone))
         ∙ ap (λ (c : Book). bytes_of (records_of_book joined_folder c (files_after h))) (sym book_now));
   }
+    where
+      now : records_in (files_after h) joined_folder ≡ cs
+      now = ap (λ (c : Book). records_of_book joined_folder c (files_after h)) book_now
+          ∙ records_now next cs alone
 
 -- ---- the publishing leaves the segments
 
-quiet_segment : (n : ℕ) (call : Deed) → ReplacesBookOf joined_folder call → touches call (joined_segment n) ≡ false
+pub quiet_segment : (n : ℕ) (call : Deed) → ReplacesBookOf joined_folder call → touches call (joined_segment n) ≡ false
 quiet_segment n call (writes_book c removes) = refl
 quiet_segment n call (writes_book c creates) = refl
 quiet_segment n call (writes_book c (appends piece)) = refl

@@ -32,7 +32,7 @@ use Rattle.chk_merge.proofs.Frames.{reads_quiet}
 use Rattle.chk_copy.specs.Copying.{Copies}
 use Rattle.chk_join.specs.Beginning.{Begins, begins_starting, begins_reading}
 use Rattle.chk_join.specs.Working.{Worked, TidiesBy, lists_joined, removes_stray, PreparesBy, goes_reading, goes_tidying, goes_writing, Prepares, first_starts, goes_on, job_result}
-use Rattle.chk_join.specs.Joined.{archive_by, archive_in, RunsAll, ReadsWell, no_book, bad_records}
+use Rattle.chk_join.specs.Joined.{archive_by, archive_in, records_of_book, records_in, RunsAll, ReadsWell, no_book, bad_records}
 use Rattle.chk_join.specs.Preparing.{HasOrder, JoinedBooks, JoinsAs, Covers, IsFolderBook, PreparedFrom}
 use Rattle.chk_join.specs.declared.preparing.Prepared.{Prepared}
 use Rattle.chk_join.proofs.Works.{worked, works_as, works_fail}
@@ -116,11 +116,18 @@ module _ (held : Files) (left right : List ℕ) (a b : Book) (next : ℕ) (ia : 
   }
 
   as_folders : (result : Result Prepared JobFault) (h : History)
-      → JoinsAs (archive_by left a held) (archive_by right b held) next result h
-      → JoinsAs (archive_in held left) (archive_in held right) next result h
+      → JoinsAs (archive_by left a held) (archive_by right b held) (records_of_book left a held)
+      (records_of_book right b held)
+      next result h
+      → JoinsAs (archive_in held left) (archive_in held right) (records_in held left)
+      (records_in held right) next result h
   as_folders result h x =
-      subst (λ (c : Book). JoinsAs (archive_by left c held) (archive_in held right) next result h) ia.is
-      (subst (λ (d : Book). JoinsAs (archive_by left a held) (archive_by right d held) next result h) ib.is x)
+      subst (λ (c : Book). JoinsAs (archive_by left c held) (archive_in held right)
+      (records_of_book left c held)
+      (records_in held right) next result h) ia.is
+      (subst (λ (d : Book). JoinsAs (archive_by left a held) (archive_by right d held)
+      (records_of_book left a held)
+      (records_of_book right d held) next result h) ib.is x)
 
   pub folders_joined : (result : Result Prepared JobFault) (h : History) → JoinedBooks held left a right b next result h
       → PreparedFrom held left right next result h

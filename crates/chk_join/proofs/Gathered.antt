@@ -1,5 +1,5 @@
 -- What the heads of an archive's records, in order, say of the archive.
-use Rattle.std.proofs.Common.{◌≡◌, ℕ, zero, suc, ◌+◌, ◌<◌, Bool, true, false, ◌||◌, List, [], ◌∷◌, length, map, Some, None, refl, ap, sym, subst, ◌∙◌, arith, if◌then◌else◌}
+use Rattle.std.proofs.Common.{◌≡◌, ℕ, zero, suc, ◌+◌, ◌<◌, false, ◌||◌, List, [], ◌∷◌, length, map, Some, None, refl, ap, sym, subst, ◌∙◌, arith}
 use Rattle.std.specs.Prelude.{filter, nat_lt, nat_eq, ◌&&◌}
 use Rattle.std.proofs.lemmas.Bool.{or_parts}
 use Rattle.chk_site.specs.Files.{Files}
@@ -17,9 +17,9 @@ use Rattle.chk_heads.proofs.Sorting.{Sorted, sort_sorted}
 use Rattle.chk_book.specs.Folders.{most_in}
 use Rattle.chk_merge.specs.Segments.{names_of, heads_from}
 use Rattle.chk_merge.specs.Courses.{is_head_of, end_of, reached, first_break, IsBreakBy}
-use Rattle.chk_merge.specs.Archives.{IsKnown, chunk_in, values_in}
+use Rattle.chk_merge.specs.Archives.{IsKnown, chunk_in}
 use Rattle.chk_merge.proofs.AllRead.{known_from}
-use Rattle.chk_merge.proofs.Joining.{chunks_from, begin_from, values_of, runs_from}
+use Rattle.chk_merge.proofs.Joining.{chunks_from, begin_from, runs_from}
 use Rattle.chk_merge.proofs.Causes.{at_place}
 use Rattle.chk_merge.proofs.Records.{heads_have_bytes}
 use Rattle.chk_compare.specs.declared.gathering.Side.{Side}
@@ -31,6 +31,7 @@ use Rattle.chk_join.specs.Joined.{records_of_book}
 use Rattle.chk_join.specs.Preparing.{IsGathered}
 use Rattle.chk_join.proofs.SortedStream.{each_sort}
 use Rattle.chk_join.proofs.SortedRuns.{HasBytes, order_keeps}
+use Rattle.chk_join.proofs.Taken.{side_chunks, side_bytes, chunks_of_heads}
 
 -- ---- the streams of heads in order rise
 
@@ -71,19 +72,6 @@ all_have_bytes most held number (w ∷ ws) =
     each_append HasBytes (heads_in most number (bytes_in (held w))) (heads_from most held (number + 1) ws)
     (heads_have_bytes most number (bytes_in (held w))) (all_have_bytes most held (number + 1) ws)
 
-chunks_of_heads : (s : Stream) (f : Head → Chunk) (hs : List Head) → ((h : Head) → (f h).key ≡ h.key)
-    → chunks_of_stream s (map f hs) ≡ map f (filter (is_head_of s) hs)
-chunks_of_heads s f [] key = refl
-chunks_of_heads s f (h ∷ hs) key =
-    ap (λ k. if same_stream s k.stream then f h ∷ filter (is_of s) (map f hs) else filter (is_of s) (map f hs)) (key h)
-    ∙ go (is_head_of s h) (chunks_of_heads s f hs key)
-  where
-    go : (b : Bool) → chunks_of_stream s (map f hs) ≡ map f (filter (is_head_of s) hs)
-        → (if b then f h ∷ filter (is_of s) (map f hs) else filter (is_of s) (map f hs))
-        ≡ map f (if b then h ∷ filter (is_head_of s) hs else filter (is_head_of s) hs)
-    go true rest = ap (λ l. f h ∷ l) rest
-    go false rest = rest
-
 module _ (folder : List ℕ) (b : Book) (held : Files) where
   abbrev Names : List (List ℕ)
   Names = names_of folder b
@@ -118,18 +106,18 @@ module _ (folder : List ℕ) (b : Book) (held : Files) where
       abbrev F : Head → Chunk
       F = chunk_in Names held
 
-      ordered : chunks_of_stream s (map F (in_head_order Hs)) ≡ chunks_of_stream s (records_of_book folder b held)
-      ordered =
-          chunks_of_heads s F (in_head_order Hs) (λ h. refl)
+      -- its heads stand for its records
+      pub stream_records : side_chunks side held s
+          ≡ chunks_of_stream s (records_of_book folder b held)
+      stream_records =
+          ap (λ ns. map (chunk_in ns held) (filter (is_head_of s) side.heads.now)) is.names_are
+          ∙ (ap (λ hs. map F (filter (is_head_of s) hs)) is.heads_are
           ∙ (ap (map F) (order_keeps s e e.start Hs (all_have_bytes Most held 0 Names) well.0)
-          ∙ (sym (chunks_of_heads s F Hs (λ h. refl)) ∙ ap (chunks_of_stream s) chunks))
+          ∙ (sym (chunks_of_heads s F Hs (λ h. refl)) ∙ ap (chunks_of_stream s) chunks)))
 
       -- its bytes are the values of its records
       pub stream_bytes : bytes_of side held s ≡ values (chunks_of_stream s (records_of_book folder b held))
-      stream_bytes =
-          ap (λ ns. values_in s ns held side.heads.now) is.names_are
-          ∙ (ap (values_in s Names held) is.heads_are
-          ∙ (values_of s Names held (in_head_order Hs) ∙ ap values ordered))
+      stream_bytes = side_bytes side held s ∙ ap values stream_records
 
       pub stream_runs : Run e.start e.start (chunks_of_stream s (records_of_book folder b held)) e.end
       stream_runs =

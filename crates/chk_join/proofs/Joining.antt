@@ -4,9 +4,8 @@ use Rattle.std.specs.Prelude.{Contains, codes, IfErr}
 use Rattle.std.proofs.lemmas.List.Elements.{Contains-append_left, Contains-append_right}
 use Rattle.chk_site.specs.Files.{File, Files}
 use Rattle.chk_site.specs.Acts.{Deed, Removes, touches}
-use Rattle.chk_site.specs.declared.acts.Call.{Call}
 use Rattle.chk_site.specs.History.{History, Every, Others, is_stopped}
-use Rattle.chk_site.specs.Site.{Adds, EndsIn}
+use Rattle.chk_site.specs.Site.{Adds}
 use Rattle.chk_site.specs.Runs.{anyhow, Leads}
 use Rattle.chk_site.proofs.Runs.{adds_as, adds_both, adds_then}
 use Rattle.chk_site.proofs.Leads.{leads_as, owned_anyhow}
@@ -43,6 +42,7 @@ use Rattle.chk_join.proofs.Whole.{spares_both, leaves_book, one_spared, is_read,
 use Rattle.chk_join.proofs.RunFacts.{none_in}
 use Rattle.chk_copy.specs.Copying.{joined_segment}
 use Rattle.chk_join.proofs.Finished.{join_done, alone_stays, quiet_other}
+use Rattle.chk_site.proofs.LastCalls.{ends_in_both as ends_behind}
 
 -- ---- the finish
 
@@ -125,10 +125,6 @@ pieces_so K r told = adds_as (Every AsksInPieces) told (λ added history w. w.pi
 pub last_so : {T : Type 0} (K : Deed → Type 0) (r : Result T JoinFault) {old new : Option History}
     → Adds old new (WorkedSo K r) → Adds old new (JoinFailsLast r)
 last_so K r told = adds_as (JoinFailsLast r) told (λ added history w. w.last)
-
-ends_behind : (call : Call) (b a : History) → EndsIn call b → EndsIn call (b ++ a)
-ends_behind call [] a e = absurd e
-ends_behind call (step ∷ b) a e = e
 
 behind : {T : Type 0} (r : Result T JoinFault) (a b history : History) → JoinFailsLast r b (a ++ history)
     → JoinFailsLast r (b ++ a) history
@@ -281,10 +277,10 @@ module _ (held : Files) (left right : List ℕ) (can : can_join left ≡ true) (
     done_so added history made others x new =
         let j = x.1 in
         let cs = j.1.0 in
-        join_done (book_view b) (added ++ history) new held left right (folder_book held joined_folder).next cs report j.0
+        join_done (book_view b) (added ++ history) new held left right (folder_book held joined_folder).next cs report refl j.0
         (alone_stays left right (folder_book held joined_folder).next (book_view b).ends (book_view b) cs added history made others
         j.1.1.0)
-        j.1.1.1.0 j.1.1.1.1.0 counted
+        j.1.1.1.0 j.1.1.1.1.0 counted j.1.1.1.1.1.1.0 j.1.1.1.1.1.1.1
 
     ended : (result : Result JoinReport JoinFault) → IfErr result IsFinishFault → (added history : History)
         → Every (IsOf (ReplacesBookOf joined_folder)) added history → Others (LeavesFolders left right) added history

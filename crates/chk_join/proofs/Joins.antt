@@ -28,14 +28,14 @@ use Rattle.chk_choose.specs.Differing.{bytes_of, DifferAt, AreAlike, PairAgrees,
 use Rattle.chk_choose.proofs.Lookup.{pair_stream, pair_for, pair_with_both, lookup, each_for}
 use Rattle.chk_join.specs.Archives.{Archived, Archive, join, longer, AgreeAt, Agree}
 use Rattle.chk_join.specs.Runs.{AreRuns, IsAlone, bytes_of as size_of_chunks}
-use Rattle.chk_join.specs.Joined.{archived_with, archive_with, archive_by, records_of_book, DiffersAt, FirstDiffers}
+use Rattle.chk_join.specs.Joined.{archived_with, archive_with, archive_by, records_of_book, records_by, AreJoined, DiffersAt, FirstDiffers}
 use Rattle.chk_join.specs.Preparing.{IsGathered, HasOrder, IsPlanned, JoinedSides, JoinsAs, stream_of}
 use Rattle.chk_join.specs.declared.preparing.Prepared.{Prepared}
 use Rattle.chk_join.specs.declared.preparing.Prepared.TheVariants.{Ready, Differs}
-use Rattle.chk_join.proofs.RunFacts.{stream_self}
-use Rattle.chk_join.proofs.Gathered.{stream_bytes, stream_length, heads_rise}
+use Rattle.chk_world.proofs.Rounds.{stream_self}
+use Rattle.chk_join.proofs.Gathered.{stream_records, stream_bytes, stream_length, heads_rise}
 use Rattle.chk_join.proofs.PairFacts.{AreInTurn, in_turn, end_of_taken}
-use Rattle.chk_join.proofs.Taken.{some_taken}
+use Rattle.chk_join.proofs.Taken.{side_chunks, taken_chunks, taken_values, none_taken, some_taken}
 use Rattle.chk_join.proofs.Agreed.{fronts, IsFirst, is_first}
 
 -- ---- sums
@@ -73,51 +73,75 @@ abbrev side_with : Option End → List ℕ → Option Archived
 side_with None v = None
 side_with (Some e) v = Some (record { start = e.start; bytes = v })
 
--- the bytes of the side with the pair, where it is the longer one
+-- one end lies past the other where its bytes are more
 module _ (v w : List ℕ) where
-  abbrev pair_bytes : Pair → List ℕ
-  pair_bytes p = if is_from_right p then w else v
-
-  longer_pair : (o p : Option End) (q : Option Pair) → q ≡ pair_with_both o p
-      → ((e : End) → o ≡ Some e → e.start + length v ≡ e.end) → ((e : End) → p ≡ Some e → e.start + length w ≡ e.end)
-      → ((a b : End) → o ≡ Some a → p ≡ Some b → a.start ≡ b.start)
-      → (side : Option Archived)
-      → ((k : Pair) → q ≡ Some k → side ≡ side_with (option_map taken_end q) (pair_bytes k))
-      → (q ≡ None → side ≡ None)
-      → side ≡ longer (side_with o v) (side_with p w)
-  longer_pair None None q is lv lw starts side some none = none is
-  longer_pair (Some a) None q is lv lw starts side some none =
-      some (left_alone a) is ∙ ap (λ k. side_with (option_map taken_end k) v) is
-  longer_pair None (Some b) q is lv lw starts side some none =
-      some (right_alone b) is ∙ ap (λ k. side_with (option_map taken_end k) w) is
-  longer_pair (Some a) (Some b) q is lv lw starts side some none =
-      some (paired a b) is
-      ∙ (ap (λ k. side_with (option_map taken_end k) (pair_bytes (paired a b))) is
-      ∙ go (nat_lt a.end b.end) refl (nat_lt (length v) (length w)) refl)
+  same_test : (a b : End) → a.start + length v ≡ a.end → b.start + length w ≡ b.end
+      → a.start ≡ b.start → nat_lt a.end b.end ≡ nat_lt (length v) (length w)
+  same_test a b m n start = go (nat_lt a.end b.end) refl (nat_lt (length v) (length w)) refl
     where
-      start : a.start ≡ b.start
-      start = starts a b refl refl
-
       go : (x : Bool) → nat_lt a.end b.end ≡ x → (y : Bool) → nat_lt (length v) (length w) ≡ y
-          → Path (Option Archived)
-          (Some (record { start = (if x then b else a).start; bytes = if x then w else v }))
-          (if y then Some (record { start = b.start; bytes = w }) else Some (record { start = a.start; bytes = v }))
+          → x ≡ y
       go true e true k = refl
       go true e false k =
           let p = ltb-true a.end b.end e in
           let q = ltb-false (length v) (length w) k in
-          let m = lv a refl in
-          let n = lw b refl in
-          let s = start in
-          absurd (let z : ⊥ = omega (arith, p, q, m, n, s) in z)
+          absurd (let z : ⊥ = omega (arith, p, q, m, n, start) in z)
       go false e true k =
           let p = ltb-false a.end b.end e in
           let q = ltb-true (length v) (length w) k in
-          let m = lv a refl in
-          let n = lw b refl in
-          let s = start in
-          absurd (let z : ⊥ = omega (arith, p, q, m, n, s) in z)
+          absurd (let z : ⊥ = omega (arith, p, q, m, n, start) in z)
       go false e false k = refl
+
+  -- what an archive has of the stream of a pair, by its ends
+  record AreEnds (o p : Option End) : Type 0 where
+    left : (e : End) → o ≡ Some e → e.start + length v ≡ e.end
+    right : (e : End) → p ≡ Some e → e.start + length w ≡ e.end
+    same : (a b : End) → o ≡ Some a → p ≡ Some b → a.start ≡ b.start
+
+  abbrev pair_bytes : Pair → List ℕ
+  pair_bytes p = if is_from_right p then w else v
+
+  abbrev longer_by : End → End → Bool → Option Archived
+  longer_by a b x = Some (record { start = (if x then b else a).start; bytes = if x then w else v })
+
+  longer_pair : (o p : Option End) (q : Option Pair) → q ≡ pair_with_both o p → AreEnds o p
+      → (side : Option Archived)
+      → ((k : Pair) → q ≡ Some k → side ≡ side_with (option_map taken_end q) (pair_bytes k))
+      → (q ≡ None → side ≡ None)
+      → side ≡ longer (side_with o v) (side_with p w)
+  longer_pair None None q is ends side some none = none is
+  longer_pair (Some a) None q is ends side some none =
+      some (left_alone a) is ∙ ap (λ k. side_with (option_map taken_end k) v) is
+  longer_pair None (Some b) q is ends side some none =
+      some (right_alone b) is ∙ ap (λ k. side_with (option_map taken_end k) w) is
+  longer_pair (Some a) (Some b) q is ends side some none =
+      some (paired a b) is
+      ∙ (ap (λ k. side_with (option_map taken_end k) (pair_bytes (paired a b))) is
+      ∙ (ap (longer_by a b) (same_test a b (ends.left a refl) (ends.right b refl)
+      (ends.same a b refl refl))
+      ∙ go (nat_lt (length v) (length w))))
+    where
+      go : (x : Bool) → Path (Option Archived) (longer_by a b x)
+          (if x then Some (record { start = b.start; bytes = w }) else Some
+          (record { start = a.start; bytes = v }))
+      go true = refl
+      go false = refl
+
+  -- and of its records
+  module _ (xs ys : List Chunk) where
+    abbrev pair_records : Pair → List Chunk
+    pair_records p = if is_from_right p then ys else xs
+
+    records_pair : (o p : Option End) (q : Option Pair) → q ≡ pair_with_both o p → AreEnds o p
+        → (cs : List Chunk) → ((k : Pair) → q ≡ Some k → cs ≡ pair_records k) → (q ≡ None → cs ≡ [])
+        → cs ≡ records_by (side_with o v) (side_with p w) xs ys
+    records_pair None None q is ends cs some none = none is
+    records_pair (Some a) None q is ends cs some none = some (left_alone a) is
+    records_pair None (Some b) q is ends cs some none = some (right_alone b) is
+    records_pair (Some a) (Some b) q is ends cs some none =
+        some (paired a b) is
+        ∙ ap (λ x. if x then ys else xs)
+        (same_test a b (ends.left a refl) (ends.right b refl) (ends.same a b refl refl))
 
 -- an end that is found is of the stream
 end_stream : (s : Stream) (es : List End) (e : End) → end_of s es ≡ Some e → e.stream ≡ s
@@ -213,11 +237,36 @@ module _ (left right : List ℕ) (a b : Book) (held : Files) (l r : Side) (gl : 
     ends_are : c.ends ≡ map taken_end Ps
     ends_are = plan.ends ∙ plan.is.ends
 
+    rise_left : StreamsRise l.heads.now
+    rise_left = subst StreamsRise (sym gl.heads_are)
+        (heads_rise (heads_from (most_in left) held 0 (names_of left a)))
+
+    rise_right : StreamsRise r.heads.now
+    rise_right = subst StreamsRise (sym gr.heads_are)
+        (heads_rise (heads_from (most_in right) held 0 (names_of right b)))
+
+    ends_so : (s : Stream) → AreEnds (bytes_of l held s) (bytes_of r held s) (end_of s a.ends)
+        (end_of s b.ends)
+    ends_so s = record {
+      left = λ e has. stream_length left a held l gl s e has;
+      right = λ e has. stream_length right b held r gr s e has;
+      same = λ x y hx hy.
+          (alike s x y hx hy
+          (each_for (PairAgrees l r held) s Ps (paired x y) each
+          (found s ∙ ap₂ pair_with_both hx hy))).0;
+    }
+
+    -- the records of a stream are those that its pair's side has
+    taken_so : (s : Stream) (k : Pair) → pair_for s Ps ≡ Some k
+        → chunks_of_stream s plan.chunks ≡ taken_chunks l r held rise_left rise_right k s
+    taken_so s k is =
+        ap (chunks_of_stream s) plan.are
+        ∙ some_taken l r held rise_left rise_right s Ps plan.plan.choices.items k plan.is.choices
+        turn.matched turn.rise is
+
     joined_is : (s : Stream) → archive_with c plan.chunks s ≡ join A B s
     joined_is s =
-        longer_pair v w o p (pair_for s Ps) (found s)
-        (λ e has. stream_length left a held l gl s e has) (λ e has. stream_length right b held r gr s e has)
-        (λ x y hx hy. (alike s x y hx hy (each_for (PairAgrees l r held) s Ps (paired x y) each (both x y hx hy))).0)
+        longer_pair v w (end_of s a.ends) (end_of s b.ends) (pair_for s Ps) (found s) (ends_so s)
         (archived_with s plan.chunks (end_of s c.ends)) some none
         ∙ ap₂ longer (sym (left_is s)) (sym (right_is s))
       where
@@ -227,23 +276,8 @@ module _ (left right : List ℕ) (a b : Book) (held : Files) (l r : Side) (gl : 
         w : List ℕ
         w = bytes_of r held s
 
-        o : Option End
-        o = end_of s a.ends
-
-        p : Option End
-        p = end_of s b.ends
-
-        both : (x y : End) → o ≡ Some x → p ≡ Some y → pair_for s Ps ≡ Some (paired x y)
-        both x y hx hy = found s ∙ ap₂ pair_with_both hx hy
-
         end_is : end_of s c.ends ≡ option_map taken_end (pair_for s Ps)
         end_is = ap (end_of s) ends_are ∙ end_of_taken s Ps turn.matched
-
-        rise_left : StreamsRise l.heads.now
-        rise_left = subst StreamsRise (sym gl.heads_are) (heads_rise (heads_from (most_in left) held 0 (names_of left a)))
-
-        rise_right : StreamsRise r.heads.now
-        rise_right = subst StreamsRise (sym gr.heads_are) (heads_rise (heads_from (most_in right) held 0 (names_of right b)))
 
         some : (k : Pair) → pair_for s Ps ≡ Some k
             → archived_with s plan.chunks (end_of s c.ends)
@@ -252,11 +286,54 @@ module _ (left right : List ℕ) (a b : Book) (held : Files) (l r : Side) (gl : 
             archived_so s plan.chunks (end_of s c.ends)
             ∙ (ap (λ x. side_with x (values (chunks_of_stream s plan.chunks))) end_is
             ∙ ap (side_with (option_map taken_end (pair_for s Ps)))
-            (ap (λ cs. values (chunks_of_stream s cs)) plan.are
-            ∙ some_taken l r held rise_left rise_right s Ps plan.plan.choices.items k plan.is.choices turn.matched turn.rise is))
+            (ap values (taken_so s k is) ∙ taken_values l r held rise_left rise_right k s))
 
         none : pair_for s Ps ≡ None → archived_with s plan.chunks (end_of s c.ends) ≡ None
         none is = ap (archived_with s plan.chunks) (end_is ∙ ap (option_map taken_end) is)
+
+    records_are : AreJoined A B (records_of_book left a held)
+        (records_of_book right b held) plan.chunks
+    records_are s =
+        records_pair (bytes_of l held s) (bytes_of r held s) xs ys (end_of s a.ends)
+        (end_of s b.ends) (pair_for s Ps)
+        (found s) (ends_so s) (chunks_of_stream s plan.chunks)
+        (λ k is. taken_so s k is ∙ of_pair k (end_of s a.ends) (end_of s b.ends) refl refl
+        (sym is ∙ found s))
+        (λ is. ap (chunks_of_stream s) plan.are
+        ∙ none_taken l r held rise_left rise_right s Ps plan.plan.choices.items plan.is.choices
+        turn.matched is)
+        ∙ ap₂ (λ o p. records_by o p xs ys) (sym (left_is s)) (sym (right_is s))
+      where
+        xs : List Chunk
+        xs = chunks_of_stream s (records_of_book left a held)
+
+        ys : List Chunk
+        ys = chunks_of_stream s (records_of_book right b held)
+
+        of_side : (k : Pair) (t : Bool)
+            → (t ≡ false → side_chunks l held s ≡ xs) → (t ≡ true → side_chunks r held s ≡ ys)
+            → (if t then side_chunks r held s else side_chunks l held s) ≡ (if t then ys else xs)
+        of_side k true first second = second refl
+        of_side k false first second = first refl
+
+        of_pair : (k : Pair) (o p : Option End) → end_of s a.ends ≡ o → end_of s b.ends ≡ p
+            → Some k ≡ pair_with_both o p
+            → taken_chunks l r held rise_left rise_right k s
+            ≡ pair_records (bytes_of l held s) (bytes_of r held s) xs ys k
+        of_pair k None None ho hp is = absurd (none-some k (sym is))
+        of_pair k (Some x) None ho hp is =
+            subst (λ q. taken_chunks l r held rise_left rise_right q s
+            ≡ pair_records (bytes_of l held s) (bytes_of r held s) xs ys q)
+            (sym (same_Some k (left_alone x) is))
+            (stream_records left a held l gl s x ho)
+        of_pair k None (Some y) ho hp is =
+            subst (λ q. taken_chunks l r held rise_left rise_right q s
+            ≡ pair_records (bytes_of l held s) (bytes_of r held s) xs ys q)
+            (sym (same_Some k (right_alone y) is))
+            (stream_records right b held r gr s y hp)
+        of_pair k (Some x) (Some y) ho hp is =
+            of_side k (is_from_right k) (λ e. stream_records left a held l gl s x ho)
+            (λ e. stream_records right b held r gr s y hp)
 
     bytes_are : report.bytes ≡ size_of_chunks plan.chunks
     bytes_are =
@@ -330,10 +407,22 @@ module _ (left right : List ℕ) (a b : Book) (held : Files) (l r : Side) (gl : 
   -- ---- by the answer
 
   pub joins : (next : ℕ) (result : Result Prepared JobFault) (h : History) → JoinedSides held next l r Ps result h
-      → JoinsAs A B next result h
+      → JoinsAs A B (records_of_book left a held) (records_of_book right b held) next result h
   joins next (Ok (Ready c report)) h x = (
     all_agree x.0,
-    (x.1.chunks, (x.1.alone, (joined_is next (book_view c) report h x.0 x.1, (bytes_are next (book_view c) report h x.0 x.1, x.1.unspent)))),
+    (
+      x.1.chunks,
+      (
+        x.1.alone,
+        (
+          joined_is next (book_view c) report h x.0 x.1,
+          (
+            bytes_are next (book_view c) report h x.0 x.1,
+            (x.1.unspent, (records_are next (book_view c) report h x.0 x.1, x.1.runs)),
+          ),
+        ),
+      ),
+    ),
   )
   joins next (Ok (Differs d)) h x = differs_so d (is_first l r held Ps d turn.rise x)
   joins next (Err (Spent n)) h x = (all_agree x.0, (x.1.0, (x.1.1.0, some_stream Ps refl x.1.1.1)))

@@ -8,10 +8,10 @@ mod Tidied
 mod RunFacts
 mod SortedStream
 mod SortedRuns
-mod Gathered
-mod BlockBytes
+mod BlockHeads
 mod PairFacts
 mod Taken
+mod Gathered
 mod Agreed
 mod Joins
 mod PlanWritten
@@ -24,3 +24,7 @@ mod Folders
 mod Whole
 mod Finished
 mod Joining
+mod StepsKept
+mod Prepared
+mod BookMay
+mod StraysGone

@@ -1,5 +1,5 @@
 -- The pairs of two archives' streams rise, and each is of one stream.
-use Rattle.std.proofs.Common.{◌≡◌, Bool, true, false, List, [], ◌∷◌, map, Some, None, refl, ap, sym, subst, ◌∙◌, true≢false}
+use Rattle.std.proofs.Common.{◌≡◌, Bool, true, false, List, [], ◌∷◌, map, Some, None, refl, ap, sym, subst, ◌∙◌}
 use Rattle.std.specs.Prelude.{option_map, if◌then◌else◌, nat_lt}
 use Rattle.chk_chunk.specs.Keys.{Stream, same_stream, stream_lt}
 use Rattle.chk_world.specs.Books.{End}
@@ -7,7 +7,7 @@ use Rattle.chk_world.proofs.Each.{Each, each_as}
 use Rattle.chk_world.proofs.NameTests.{streams_same}
 use Rattle.chk_heads.proofs.Orders.{streams}
 use Rattle.chk_merge.specs.Courses.{end_of}
-use Rattle.chk_parts.proofs.EndsInOrder.{apart, Sorted}
+use Rattle.chk_parts.proofs.EndsInOrder.{apart, Sorted, before_on}
 use Rattle.chk_choose.specs.Pairs.{Pair, left_alone, right_alone, paired, pairs_of, pair_with, taken_end}
 use Rattle.chk_choose.proofs.Lookup.{pair_stream, pair_for}
 
@@ -26,13 +26,6 @@ PairsRise (p ∷ ps) = Each (λ q. stream_lt (pair_stream p) (pair_stream q) ≡
 pub record AreInTurn (ps : List Pair) : Type 0 where
   pub matched : Each IsMatched ps
   pub rise : PairsRise ps
-
-pub before_on : (a b c : Stream) → stream_lt a b ≡ true → stream_lt b c ≡ true → stream_lt a c ≡ true
-before_on a b c p q = go (stream_lt a c) refl
-  where
-    go : (t : Bool) → stream_lt a c ≡ t → stream_lt a c ≡ true
-    go true e = e
-    go false e = absurd (true≢false (sym p ∙ streams.order.onward a c b e (streams.order.one_way b c q)))
 
 -- this stream comes before those of the ends, and so before those of their pairs
 abbrev Above : Stream → End → Type 0

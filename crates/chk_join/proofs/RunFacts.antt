@@ -10,15 +10,12 @@ use Rattle.chk_world.proofs.NameTests.{streams_same}
 use Rattle.chk_world.proofs.Each.{Each, each_at, later_one}
 use Rattle.chk_heads.specs.Heads.{Head}
 use Rattle.chk_merge.specs.Courses.{is_end_of, end_of}
-use Rattle.chk_world.proofs.Ends.{bytes_self}
 use Rattle.chk_parts.proofs.EndsInOrder.{apart, apart_from, Sorted}
 use Rattle.chk_compare.specs.declared.gathering.Side.{Side}
 use Rattle.chk_choose.specs.declared.plan.Choice.{Choice}
 use Rattle.chk_copy.specs.Standing.{AreCopies, chosen_heads}
 use Rattle.chk_join.specs.Runs.{IsRunOf, AreRuns, HeadsRun, ChosenRun}
-
-pub stream_self : (s : Stream) → same_stream s s ≡ true
-stream_self s = rw (bytes_self s.source, bytes_self s.kind, bytes_self s.name) refl
+use Rattle.chk_world.proofs.Rounds.{stream_self}
 
 -- ---- copies of heads that run
 

@@ -10,7 +10,8 @@ use Rattle.chk_site.specs.Site.{Adds, LastFailed, Asked, asked, answered, plain,
 use Rattle.chk_site.specs.Runs.{Leads}
 use Rattle.chk_site.proofs.Runs.{adds_as}
 use Rattle.chk_site.proofs.Leads.{ends_leads}
-use Rattle.chk_replace.proofs.CallSteps.{OfOwn, call_each, ends_last}
+use Rattle.chk_replace.proofs.CallSteps.{OfOwn, call_each}
+use Rattle.chk_site.proofs.LastCalls.{ended_last as ends_last}
 use Rattle.chk_world.specs.Places.{As}
 use Rattle.chk_world.specs.Rules.{Legal}
 use Rattle.chk_world.specs.Sight.{job}

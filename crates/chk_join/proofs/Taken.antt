@@ -10,7 +10,8 @@ use Rattle.chk_world.proofs.Each.{Each}
 use Rattle.chk_world.proofs.NameTests.{streams_same}
 use Rattle.chk_heads.specs.Heads.{Head}
 use Rattle.chk_merge.specs.Courses.{is_head_of}
-use Rattle.chk_merge.specs.Archives.{chunk_in, value_in}
+use Rattle.chk_merge.specs.Archives.{chunk_in}
+use Rattle.chk_merge.proofs.Joining.{values_of}
 use Rattle.chk_compare.specs.declared.gathering.Side.{Side}
 use Rattle.chk_compare.specs.Blocks.{head_in, StreamsRise}
 use Rattle.chk_choose.specs.declared.plan.Choice.{Choice}
@@ -19,7 +20,7 @@ use Rattle.chk_choose.specs.Plans.{IsBlockOf, IsChoiceOf, AreChoicesOf}
 use Rattle.chk_choose.specs.Differing.{bytes_of}
 use Rattle.chk_choose.proofs.Lookup.{pair_stream, pair_for}
 use Rattle.chk_copy.specs.Copying.{chunks_between, chosen_chunks}
-use Rattle.chk_join.proofs.BlockBytes.{block_bytes}
+use Rattle.chk_join.proofs.BlockHeads.{block_heads}
 use Rattle.chk_join.proofs.PairFacts.{IsMatched, PairsRise, taken_stream, no_pair}
 use Rattle.chk_join.proofs.RunFacts.{all_of, none_of}
 
@@ -54,18 +55,50 @@ block_stream side held s first end low high all =
     (λ k from less. sym (streams_same s (head_in side.heads.now k).key.stream
     (all k from (omega (arith, low, from, less))))))
 
-block_values : (side : Side) (held : Files) (hs : List Head)
-    → values (map (chunk_in side.names.now held) hs) ≡ flat_map (value_in side.names.now held) hs
-block_values side held [] = refl
-block_values side held (h ∷ hs) = ap (λ l. value_in side.names.now held h ++ l) (block_values side held hs)
+-- the stream's among the chunks of heads
+pub chunks_of_heads : (s : Stream) (f : Head → Chunk) (hs : List Head)
+    → ((h : Head) → (f h).key ≡ h.key)
+    → chunks_of_stream s (map f hs) ≡ map f (filter (is_head_of s) hs)
+chunks_of_heads s f [] key = refl
+chunks_of_heads s f (h ∷ hs) key =
+    ap (λ k. if same_stream s k.stream then f h ∷ filter (is_of s) (map f hs)
+    else filter (is_of s) (map f hs)) (key h)
+    ∙ go (is_head_of s h) (chunks_of_heads s f hs key)
+  where
+    go : (b : Bool) → chunks_of_stream s (map f hs) ≡ map f (filter (is_head_of s) hs)
+        → (if b then f h ∷ filter (is_of s) (map f hs) else filter (is_of s) (map f hs))
+        ≡ map f (if b then h ∷ filter (is_head_of s) hs else filter (is_head_of s) hs)
+    go true rest = ap (λ l. f h ∷ l) rest
+    go false rest = rest
+
+-- the chunks of the stream's heads
+abbrev pub side_chunks : Side → Files → Stream → List Chunk
+side_chunks side held s = map (chunk_in side.names.now held) (filter (is_head_of s) side.heads.now)
+
+-- their values are the bytes of the side
+pub side_bytes : (side : Side) (held : Files) (s : Stream)
+    → bytes_of side held s ≡ values (side_chunks side held s)
+side_bytes side held s =
+    values_of s side.names.now held side.heads.now
+    ∙ ap values (chunks_of_heads s (chunk_in side.names.now held) side.heads.now (λ h. refl))
 
 module _ (l r : Side) (held : Files) (left : StreamsRise l.heads.now) (right : StreamsRise r.heads.now) where
   abbrev f : Choice → List Chunk
   f = chosen_chunks l r held
 
-  -- the bytes that the pair's side has
-  abbrev pub taken_bytes : Pair → Stream → List ℕ
-  taken_bytes p s = if is_from_right p then bytes_of r held s else bytes_of l held s
+  -- what the pair's side has of the stream
+  abbrev pub taken_chunks : Pair → Stream → List Chunk
+  taken_chunks p s = if is_from_right p then side_chunks r held s else side_chunks l held s
+
+  pub taken_values : (p : Pair) (s : Stream)
+      → values (taken_chunks p s)
+      ≡ (if is_from_right p then bytes_of r held s else bytes_of l held s)
+  taken_values p s = go (is_from_right p)
+    where
+      go : (t : Bool) → values (if t then side_chunks r held s else side_chunks l held s)
+          ≡ (if t then bytes_of r held s else bytes_of l held s)
+      go true = sym (side_bytes r held s)
+      go false = sym (side_bytes l held s)
 
   choice_stream : (p : Pair) (c : Choice) → IsChoiceOf l.heads.now r.heads.now p c
       → Each (λ (ch : Chunk). ch.key.stream ≡ (taken_end p).stream) (f c)
@@ -85,23 +118,27 @@ module _ (l r : Side) (held : Files) (left : StreamsRise l.heads.now) (right : S
           else chunks_between l held c.block.first c.block.end)) (sym e)
           (block_stream l held (taken_end p).stream c.block.first c.block.end b.low b.high b.all)
 
-  choice_values : (p : Pair) (c : Choice) → IsChoiceOf l.heads.now r.heads.now p c
-      → values (f c) ≡ taken_bytes p (taken_end p).stream
-  choice_values p c is = go (is_from_right p) is.side is.block
+  abbrev chunks_of : Choice → Bool → List Chunk
+  chunks_of c t =
+      if t then chunks_between r held c.block.first c.block.end
+      else chunks_between l held c.block.first c.block.end
+
+  choice_chunks : (p : Pair) (c : Choice) → IsChoiceOf l.heads.now r.heads.now p c
+      → f c ≡ taken_chunks p (taken_end p).stream
+  choice_chunks p c is = go (is_from_right p) is.side is.block
     where
       go : (t : Bool) → c.from_right ≡ t
           → IsBlockOf (if t then r.heads.now else l.heads.now) (taken_end p).stream c.block
-          → values (f c) ≡ (if t then bytes_of r held (taken_end p).stream else bytes_of l held (taken_end p).stream)
+          → f c ≡ (if t then side_chunks r held (taken_end p).stream
+          else side_chunks l held (taken_end p).stream)
       go true e b =
-          ap (λ u. values (if u then chunks_between r held c.block.first c.block.end
-          else chunks_between l held c.block.first c.block.end)) e
-          ∙ (block_values r held (take (c.block.end - c.block.first) (drop c.block.first r.heads.now))
-          ∙ block_bytes r held (taken_end p).stream c.block right b)
+          ap (chunks_of c) e
+          ∙ ap (map (chunk_in r.names.now held))
+          (block_heads r.heads.now (taken_end p).stream c.block right b)
       go false e b =
-          ap (λ u. values (if u then chunks_between r held c.block.first c.block.end
-          else chunks_between l held c.block.first c.block.end)) e
-          ∙ (block_values l held (take (c.block.end - c.block.first) (drop c.block.first l.heads.now))
-          ∙ block_bytes l held (taken_end p).stream c.block left b)
+          ap (chunks_of c) e
+          ∙ ap (map (chunk_in l.names.now held))
+          (block_heads l.heads.now (taken_end p).stream c.block left b)
 
   -- nothing of a stream without a pair
   pub none_taken : (s : Stream) (ps : List Pair) (cs : List Choice) → AreChoicesOf l.heads.now r.heads.now ps cs
@@ -122,31 +159,31 @@ module _ (l r : Side) (held : Files) (left : StreamsRise l.heads.now) (right : S
           (none_of s (taken_end p).stream (ap (same_stream s) (taken_stream p m.0) ∙ other) (f c) (choice_stream p c are.0))
           (rest n)
 
-  -- of a stream with a pair the bytes of its side
+  -- of a stream with a pair what its side has
   pub some_taken : (s : Stream) (ps : List Pair) (cs : List Choice) (q : Pair) → AreChoicesOf l.heads.now r.heads.now ps cs
       → Each IsMatched ps → PairsRise ps → pair_for s ps ≡ Some q
-      → values (chunks_of_stream s (flat_map f cs)) ≡ taken_bytes q s
+      → chunks_of_stream s (flat_map f cs) ≡ taken_chunks q s
   some_taken s [] cs q are m rise is = absurd (none-some q is)
   some_taken s (p ∷ ps) [] q are m rise is = absurd are
   some_taken s (p ∷ ps) (c ∷ cs) q are m rise is =
-      ap values (filter-append (is_of s) (f c) (flat_map f cs))
+      filter-append (is_of s) (f c) (flat_map f cs)
       ∙ go (same_stream s (pair_stream p)) refl is (λ n. some_taken s ps cs q are.1 m.1 rise.1 n)
     where
       go : (b : Bool) → same_stream s (pair_stream p) ≡ b → (if b then Some p else pair_for s ps) ≡ Some q
-          → (pair_for s ps ≡ Some q → values (filter (is_of s) (flat_map f cs)) ≡ taken_bytes q s)
-          → values (filter (is_of s) (f c) ++ filter (is_of s) (flat_map f cs)) ≡ taken_bytes q s
+          → (pair_for s ps ≡ Some q → filter (is_of s) (flat_map f cs) ≡ taken_chunks q s)
+          → filter (is_of s) (f c) ++ filter (is_of s) (flat_map f cs) ≡ taken_chunks q s
       go true same i rest =
           let stream : s ≡ pair_stream p = streams_same s (pair_stream p) same in
           let mine : same_stream s (taken_end p).stream ≡ true = ap (same_stream s) (taken_stream p m.0) ∙ same in
           let behind : pair_for s ps ≡ None =
           no_pair s ps (subst (λ t. Each (λ k. stream_lt t (pair_stream k) ≡ true) ps) (sym stream) rise.0) in
-          ap values
-          (ap₂ (λ x y. x ++ y) (all_of s (taken_end p).stream mine (f c) (choice_stream p c are.0))
+          ap₂ (λ x y. x ++ y) (all_of s (taken_end p).stream mine (f c) (choice_stream p c are.0))
           (none_taken s ps cs are.1 m.1 behind)
-          ∙ append-nil (f c))
-          ∙ (choice_values p c are.0
-          ∙ (ap (taken_bytes p) (taken_stream p m.0 ∙ sym stream) ∙ ap (λ k. taken_bytes k s) (same_Some p q i)))
+          ∙ (append-nil (f c)
+          ∙ (choice_chunks p c are.0
+          ∙ (ap (taken_chunks p) (taken_stream p m.0 ∙ sym stream)
+          ∙ ap (λ k. taken_chunks k s) (same_Some p q i))))
       go false other i rest =
-          ap (λ x. values (x ++ filter (is_of s) (flat_map f cs)))
+          ap (λ x. x ++ filter (is_of s) (flat_map f cs))
           (none_of s (taken_end p).stream (ap (same_stream s) (taken_stream p m.0) ∙ other) (f c) (choice_stream p c are.0))
           ∙ rest i

@@ -10,7 +10,8 @@ use Rattle.chk_site.specs.Acts.{Deed, Reads}
 use Rattle.chk_site.specs.History.{History, Every}
 use Rattle.chk_site.specs.Site.{Adds, LastFailed, Asked, asked, answered, plain, IsDone, Calls, CauseOf, Ends}
 use Rattle.chk_site.proofs.Runs.{adds_as}
-use Rattle.chk_replace.proofs.CallSteps.{OfOwn, call_each, ends_last}
+use Rattle.chk_replace.proofs.CallSteps.{OfOwn, call_each}
+use Rattle.chk_site.proofs.LastCalls.{ended_last as ends_last}
 use Rattle.chk_world.specs.Books.{Book}
 use Rattle.chk_world.specs.Sight.{job}
 use Rattle.chk_world.specs.JobSteps.{IsOf}

@@ -25,7 +25,7 @@ use Rattle.chk_merge.proofs.Frames.{reads_quiet}
 use Rattle.chk_copy.specs.Copying.{joined_segment}
 use Rattle.chk_join.specs.Beginning.{Begins, begins_starting, begins_reading}
 use Rattle.chk_join.specs.Working.{PreparesBy, goes_reading, goes_tidying, goes_writing, Prepares, first_starts, goes_on}
-use Rattle.chk_join.specs.Joined.{joined_folder, folder_book, archive_files, reads_of, IsOfFolders, of_joined, of_left, of_right, LeavesFolders, archive_in, no_book}
+use Rattle.chk_join.specs.Joined.{joined_folder, folder_book, archive_files, reads_of, IsOfFolders, of_joined, of_left, of_right, LeavesFolders, archive_in, records_in, no_book}
 use Rattle.chk_join.specs.Preparing.{Covers, IsFolderBook, JoinsAs, PreparedFrom, PreparedSo}
 use Rattle.chk_join.specs.declared.preparing.Prepared.{Prepared}
 use Rattle.chk_join.proofs.Begun.{joined_book}
@@ -134,7 +134,7 @@ begin_told files left right settled r own told =
 
 -- ---- what comes behind it
 
-quiet_write : (segment w : List ℕ) → bytes_eq w segment ≡ false → (call : Deed) → WritesTo segment call → touches call w ≡ false
+pub quiet_write : (segment w : List ℕ) → bytes_eq w segment ≡ false → (call : Deed) → WritesTo segment call → touches call w ≡ false
 quiet_write segment w apart call removes = apart
 quiet_write segment w apart call creates = apart
 quiet_write segment w apart call (appends piece) = apart
@@ -175,7 +175,8 @@ all_read held left right b is (Ok p) h x = (
     first = x.0;
     second = x.1.0;
   },
-  subst (λ (c : Book). JoinsAs (archive_in held left) (archive_in held right) c.next (Ok p) h) is.is x.1.1,
+  subst (λ (c : Book). JoinsAs (archive_in held left) (archive_in held right) (records_in held left)
+      (records_in held right) c.next (Ok p) h) is.is x.1.1,
 )
 all_read held left right b is (Err (Spent n)) h x = (
   record {
@@ -183,7 +184,8 @@ all_read held left right b is (Err (Spent n)) h x = (
     first = x.0;
     second = x.1.0;
   },
-  subst (λ (c : Book). JoinsAs (archive_in held left) (archive_in held right) c.next (Err (Spent n)) h) is.is x.1.1,
+  subst (λ (c : Book). JoinsAs (archive_in held left) (archive_in held right) (records_in held left)
+      (records_in held right) c.next (Err (Spent n)) h) is.is x.1.1,
 )
 all_read held left right b is (Err (Damaged name at)) h x = x
 all_read held left right b is (Err (Outside call)) h x = tt

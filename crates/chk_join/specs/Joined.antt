@@ -1,12 +1,12 @@
 -- Archives in folders, and what a join of two of them leaves.
-use Rattle.std.specs.Prelude.{◌≡◌, ◌⊎◌, ℕ, ◌+◌, ◌-◌, ◌^◌, min, List, ◌∷◌, ◌++◌, length, codes, Bool, ◌&&◌, not, bytes_eq, IsTrue, Option, Some, None, Result, Ok, Err}
-use Rattle.chk_site.specs.Files.{Files}
+use Rattle.std.specs.Prelude.{◌≡◌, ◌⊎◌, ℕ, ◌+◌, ◌-◌, ◌^◌, min, nat_lt, List, [], ◌∷◌, ◌++◌, length, codes, Bool, ◌&&◌, not, bytes_eq, IsTrue, Option, Some, None, Result, Ok, Err, if◌then◌else◌}
+use Rattle.chk_site.specs.Files.{File, Files}
 use Rattle.chk_site.specs.History.{Step, History, files_after}
 use Rattle.chk_site.specs.Honest.{in_folder}
 use Rattle.chk_replace.specs.Load.{Has}
 use Rattle.chk_replace.specs.Replace.{LeavesFile}
 use Rattle.chk_chunk.specs.Keys.{Stream, Chunk, stream_lt}
-use Rattle.chk_world.specs.Books.{End, Book, book_in, chunks_of_stream, values}
+use Rattle.chk_world.specs.Books.{Segment, End, Book, read_book, book_in, chunks_of_stream, values}
 use Rattle.chk_world.proofs.Each.{Each}
 use Rattle.chk_heads.specs.declared.fault.JobFault.TheVariants.{Outside, Damaged, Spent}
 use Rattle.chk_book.specs.Folders.{book_name, most_in, is_folder}
@@ -17,7 +17,7 @@ use Rattle.chk_merge.specs.Checking.{AllGoWell}
 use Rattle.chk_merge.specs.Archives.{IsDamagedAt}
 use Rattle.chk_compare.specs.Differences.{first_difference}
 use Rattle.chk_join.specs.Archives.{Archived, Archive, join, AgreeAt, Agree}
-use Rattle.chk_join.specs.Runs.{bytes_of}
+use Rattle.chk_join.specs.Runs.{bytes_of, AreRuns}
 use Rattle.chk_join.specs.declared.report.JoinReport.{JoinReport}
 use Rattle.chk_join.specs.declared.fault.JoinFault.{JoinFault}
 use Rattle.chk_join.specs.declared.fault.JoinFault.TheVariants.{Job, Differ, NoMemory}
@@ -47,6 +47,25 @@ folder_book files folder = book_in (files (book_name folder))
 -- what the folder has of each stream of its book
 abbrev pub archive_in : Files → List ℕ → Archive
 archive_in files folder = archive_by folder (folder_book files folder) files
+
+-- all records of a folder, in the order of its book
+abbrev pub records_in : Files → List ℕ → List Chunk
+records_in files folder = records_of_book folder (folder_book files folder) files
+
+-- The records of a stream that the join of two archives has, which have these ones of it: those of
+-- the archive with more bytes, of the first one where both have as many, and none where neither
+-- has the stream.
+abbrev pub records_by : Option Archived → Option Archived → List Chunk → List Chunk → List Chunk
+records_by None None xs ys = []
+records_by None (Some b) xs ys = ys
+records_by (Some a) None xs ys = xs
+records_by (Some a) (Some b) xs ys = if nat_lt (length a.bytes) (length b.bytes) then ys else xs
+
+-- these records of the joined archive are just those, stream by stream
+abbrev pub AreJoined : Archive → Archive → List Chunk → List Chunk → List Chunk → Type 0
+AreJoined a b xs ys cs =
+    (s : Stream) → chunks_of_stream s cs ≡ records_by (a s) (b s) (chunks_of_stream s xs)
+    (chunks_of_stream s ys)
 
 -- ---- what is read
 
@@ -114,11 +133,29 @@ pub record FirstDiffers (a b : Archive) (s : Stream) (at : ℕ) : Type 0 where
 
 -- ---- what stands behind a join
 
--- The archive is the join of both, which agree; the report is of it.
+-- A book whose next number was this one names one segment of this number, and no other; or none, and the number is the same.
+abbrev pub NamesAlone : ℕ → Book → Type 0
+NamesAlone next b =
+    (b.aside ≡ None)
+    × (((b.segments ≡ []) × (b.next ≡ next))
+    ⊎ ((g : Segment) × ((b.segments ≡ g ∷ []) × ((g.number ≡ next) × (b.next ≡ next + 1)))))
+
+-- The archive is the join of both, which agree; the report is of it. The file of its book holds one, which names one new segment
+-- alone, or none. Its records are copied unchanged from the archive that has more of their stream,
+-- one stream behind the other in the book's order.
 pub record JoinDone (files : Files) (left right : List ℕ) (r : JoinReport) (history : History) : Type 0 where
+  pub file : File
+  pub there : files_after history (book_name joined_folder) ≡ Some file
+  pub book : read_book file.bytes ≡ Some (folder_book (files_after history) joined_folder)
+  pub alone : NamesAlone (folder_book files joined_folder).next (folder_book (files_after history) joined_folder)
   pub agree : Agree (archive_in files left) (archive_in files right)
   pub is : (s : Stream) → archive_in (files_after history) joined_folder s
       ≡ join (archive_in files left) (archive_in files right) s
+  pub records : AreJoined (archive_in files left) (archive_in files right) (records_in files left)
+      (records_in files right)
+      (records_in (files_after history) joined_folder)
+  pub order : AreRuns (folder_book (files_after history) joined_folder).ends
+      (records_in (files_after history) joined_folder)
   pub streams : r.streams ≡ length (folder_book (files_after history) joined_folder).ends
   pub bytes : r.bytes
       ≡ bytes_of (records_of_book joined_folder (folder_book (files_after history) joined_folder) (files_after history))

@@ -2,6 +2,7 @@
 pub mod Archives
 pub mod Laws
 pub mod Names
+pub mod Cleaned
 pub mod Working
 pub mod Runs
 pub mod Beginning

@@ -29,7 +29,7 @@ use Rattle.chk_compare.specs.Reading.{AreAmong}
 use Rattle.chk_copy.specs.Copying.{joined_segment, chosen_chunks}
 use Rattle.chk_join.specs.Archives.{Archive, join, Agree}
 use Rattle.chk_join.specs.Runs.{AreRuns, IsAlone, bytes_of}
-use Rattle.chk_join.specs.Joined.{archive_with, archive_by, archive_in, folder_book, joined_folder, RunsAll, FirstDiffers, ReadsWell, AllReadWell, IsDamagedIn}
+use Rattle.chk_join.specs.Joined.{archive_with, archive_by, archive_in, folder_book, joined_folder, records_of_book, records_in, AreJoined, RunsAll, FirstDiffers, ReadsWell, AllReadWell, IsDamagedIn}
 use Rattle.chk_join.specs.declared.preparing.Prepared.{Prepared}
 use Rattle.chk_join.specs.declared.preparing.Prepared.TheVariants.{Ready, Differs}
 use Rattle.chk_join.specs.declared.report.JoinReport.{JoinReport}
@@ -128,16 +128,18 @@ JoinedSides held next l r ps (Err (Spent n)) history =
     Each (PairAgrees l r held) ps × ((n ≡ 2 ^ 63 - 1) × ((next ≡ 2 ^ 63 - 1) × (ps ≡ [] → ⊥)))
 JoinedSides held next l r ps (Err fault) history = Unit {0}
 
--- the same of the archives that both sides are
-abbrev pub JoinsAs : Archive → Archive → ℕ → Result Prepared JobFault → History → Type 0
-JoinsAs A B next (Ok (Ready b r)) history =
+-- the same of the archives that both sides are, which have these records
+abbrev pub JoinsAs : Archive → Archive → List Chunk → List Chunk → ℕ → Result Prepared JobFault
+    → History → Type 0
+JoinsAs A B xs ys next (Ok (Ready b r)) history =
     Agree A B × ((cs : List Chunk) × (IsAlone next (book_view b).ends (book_view b) cs history
     × (((s : Stream) → archive_with (book_view b) cs s ≡ join A B s) × ((r.bytes ≡ bytes_of cs)
-    × (next ≡ 2 ^ 63 - 1 → (book_view b).ends ≡ [])))))
-JoinsAs A B next (Ok (Differs d)) history = FirstDiffers A B (stream_of d) d.at
-JoinsAs A B next (Err (Spent n)) history =
+    × ((next ≡ 2 ^ 63 - 1 → (book_view b).ends ≡ [])
+    × (AreJoined A B xs ys cs × AreRuns (book_view b).ends cs))))))
+JoinsAs A B xs ys next (Ok (Differs d)) history = FirstDiffers A B (stream_of d) d.at
+JoinsAs A B xs ys next (Err (Spent n)) history =
     Agree A B × ((n ≡ 2 ^ 63 - 1) × ((next ≡ 2 ^ 63 - 1) × ((s : Stream) × (join A B s ≡ None → ⊥))))
-JoinsAs A B next (Err fault) history = Unit {0}
+JoinsAs A B xs ys next (Err fault) history = Unit {0}
 
 -- the records of both folders run as their books say, and were joined; damage is of one of them
 abbrev pub JoinedBooks : Files → List ℕ → Book → List ℕ → Book → ℕ → Result Prepared JobFault → History → Type 0
@@ -146,7 +148,9 @@ JoinedBooks held left a right b next (Err (Damaged name at)) history =
 JoinedBooks held left a right b next (Err (Outside call)) history = Unit {0}
 JoinedBooks held left a right b next (Err NoMemory) history = Unit {0}
 JoinedBooks held left a right b next result history =
-    RunsAll left a held × (RunsAll right b held × JoinsAs (archive_by left a held) (archive_by right b held) next result history)
+    RunsAll left a held × (RunsAll right b held
+    × JoinsAs (archive_by left a held) (archive_by right b held)
+    (records_of_book left a held) (records_of_book right b held) next result history)
 
 -- the files stand that hold both archives, and the job's segments aren't among them
 pub record Covers (all : List (List ℕ)) (held : Files) (left right : List ℕ) : Type 0 where
@@ -169,7 +173,9 @@ PreparedFrom held left right next (Err (Outside call)) history = Unit {0}
 PreparedFrom held left right next (Err NoMemory) history = Unit {0}
 PreparedFrom held left right next result history =
     ReadsWell held left
-    × (ReadsWell held right × JoinsAs (archive_in held left) (archive_in held right) next result history)
+    × (ReadsWell held right × JoinsAs (archive_in held left) (archive_in held right)
+    (records_in held left)
+    (records_in held right) next result history)
 
 -- all three folders were read
 abbrev pub PreparedSo : Files → List ℕ → List ℕ → Result Prepared JobFault → History → Type 0
@@ -178,7 +184,9 @@ PreparedSo held left right (Err (Outside call)) history = Unit {0}
 PreparedSo held left right (Err NoMemory) history = Unit {0}
 PreparedSo held left right result history =
     AllReadWell held left right
-    × JoinsAs (archive_in held left) (archive_in held right) (folder_book held joined_folder).next result history
+    × JoinsAs (archive_in held left) (archive_in held right) (records_in held left)
+    (records_in held right)
+    (folder_book held joined_folder).next result history
 
 -- at Ok the book may be published, or nothing is to be done; else the history is legal
 abbrev pub PreparedLegal : List (List ℕ) → Result Prepared JobFault → History → Type 0

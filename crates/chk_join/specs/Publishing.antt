@@ -1,11 +1,12 @@
 -- What the publishing of the joined archive's book leaves.
-use Rattle.std.specs.Prelude.{◌≡◌, ◌⊎◌, List, Some, Option, Result, Ok, Err, codes}
+use Rattle.std.specs.Prelude.{◌≡◌, ◌⊎◌, ℕ, List, Some, Option, Result, Ok, Err, codes}
 use Rattle.chk_site.specs.Files.{File}
 use Rattle.chk_site.specs.History.{History, Every}
 use Rattle.chk_replace.specs.Load.{Has}
 use Rattle.chk_chunk.specs.Keys.{Chunk}
 use Rattle.chk_world.specs.Books.{Book, read_book}
-use Rattle.chk_world.specs.Sight.{Sight}
+use Rattle.chk_world.specs.Rules.{Legal}
+use Rattle.chk_world.specs.Sight.{Sight, AtJob}
 use Rattle.chk_heads.specs.declared.fault.JobFault.{JobFault}
 use Rattle.chk_book.specs.Folders.{book_name}
 use Rattle.chk_site.specs.Acts.{Deed}
@@ -28,6 +29,11 @@ HoldsBook b v = (cs : List Chunk) × (AreRuns b.ends cs × HoldsAlone b cs v)
 abbrev pub HasNewBook : Book → History → Type 0
 HasNewBook b history =
     (f : File) × (Has (book_name (codes "joined")) (Some f) history × (read_book f.bytes ≡ Some b))
+
+-- the history is legal, and at Ok the job may act where the site wasn't stopped
+abbrev pub EndsLegally : {T F : Type 0} → List (List ℕ) → Result T F → History → Type 0
+EndsLegally stamped (Ok value) history = AtJob stamped (λ v. Unit {0}) history
+EndsLegally stamped (Err fault) history = Legal stamped history
 
 -- at Ok it does; else it does, or the file is the old one
 abbrev pub PublishedSo : Option File → Book → Result (Unit {0}) JobFault → History → Type 0

@@ -1,12 +1,13 @@
 //! The names of a folder's files.
 
-ghost use Rattle.std.specs.Prelude.{◌≡◌, IfOk, IfSome, IsTrue};
+ghost use Rattle.std.specs.Prelude.{◌≡◌, ℕ, Contains, IfOk, IfSome, IsTrue, OnOk};
 ghost use Rattle.chk_bytes.specs.Stems.{is_count};
 ghost use Rattle.chk_world.proofs.Each.{Each};
 ghost use Rattle.chk_book.specs.Books.{book_view};
-ghost use Rattle.chk_book.specs.Folders.{segment_name};
+ghost use Rattle.chk_book.specs.Folders.{segment_name, segment_stem};
 ghost use Rattle.chk_merge.specs.Segments.{names_of};
-ghost use Rattle.chk_join.specs.Names.{names_segment, IsStrayNumber, IsStray};
+ghost use Rattle.chk_copy.specs.Copying.{joined_segment};
+ghost use Rattle.chk_join.specs.Names.{names_segment, segment_number, unnamed_only, AddsStray, IsStrayNumber, IsStray};
 
 use chk_book::{Book, Segment};
 use chk_bytes::{NoMemory, Word, take_plain_decimal};
@@ -33,20 +34,32 @@ fn segment_name(alloc: Global, folder: &str, number: u64) -> Result<Word, NoMemo
 
 /// The files of the segments that a listing of `joined` shows and the book doesn't name.
 pub(crate) fn strays(alloc: Global, book: &Book, names: &[Word]) -> Result<Vec<Word>, NoMemory>
-    ensures { IfOk result (λ strays. Each (IsStray (book_view book.now)) strays.items) }
+    ensures each { IfOk result (λ strays. Each (IsStray (book_view book.now)) strays.items) }
+    ensures all { IfOk result (λ strays. (k : ℕ) → IsStrayNumber (book_view book.now) k
+        → Contains names.now (segment_stem k) → Contains strays.items (joined_segment k)) }
 {
     let mut strays = Vec::new(alloc);
     for name in names {
-        if let Some(number) = stray_number(book, name.as_str()) {
-            strays.push(segment_name(alloc, "joined", number)?)?;
-        }
+        add_stray(alloc, book, name.as_str(), &mut strays)?;
     }
     Ok(strays)
 }
 
+/// Adds the file of this name in `joined`, where it is of a segment that the book doesn't name.
+fn add_stray(alloc: Global, book: &Book, name: &str, strays: &mut Vec<Word>) -> Result<(), NoMemory>
+    ensures { OnOk result (AddsStray (book_view book.now)
+        (unnamed_only (book_view book.now) (segment_number name.now)) strays.old.items strays.new.items) }
+{
+    if let Some(number) = stray_number(book, name) {
+        strays.push(segment_name(alloc, "joined", number)?)?;
+    }
+    Ok(())
+}
+
 /// The number of a segment that has this name, where the book doesn't name it.
 fn stray_number(book: &Book, name: &str) -> Option<u64>
-    ensures { IfSome result (IsStrayNumber (book_view book.now)) }
+    ensures is { result ≡ unnamed_only (book_view book.now) (segment_number name.now) }
+    ensures stray { IfSome result (IsStrayNumber (book_view book.now)) }
 {
     let number = segment_number(name)?;
     if names_segment(book, number) {
@@ -58,7 +71,8 @@ fn stray_number(book: &Book, name: &str) -> Option<u64>
 
 /// The number of the segment that has this name in its folder.
 fn segment_number(name: &str) -> Option<u64>
-    ensures { IfSome result (λ n. IsTrue (is_count n)) }
+    ensures is { result ≡ segment_number name.now }
+    ensures count { IfSome result (λ n. IsTrue (is_count n)) }
 {
     let digits = name.as_bytes().strip_prefix(b"seg.")?;
     let number = take_plain_decimal(digits)?;

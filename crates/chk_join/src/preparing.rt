@@ -1,11 +1,16 @@
 //! The join of two archives, up to the book that is to be published.
 
-ghost use Rattle.std.specs.Prelude.{◌≡◌, ◌≤◌, ℕ, List, map, flat_map, IsTrue, IfOk};
+ghost use Rattle.std.specs.Prelude.{◌≡◌, ◌≤◌, ℕ, List, Contains, map, flat_map, IsTrue, IfOk, codes};
 ghost use Rattle.chk_site.specs.Files.{Files};
 ghost use Rattle.chk_site.specs.Site.{Adds};
 ghost use Rattle.chk_site.specs.Runs.{anyhow, Leads};
+ghost use Rattle.chk_bytes.specs.Stems.{is_count};
+ghost use Rattle.chk_replace.specs.Replace.{LeavesFile};
 ghost use Rattle.chk_chunk.specs.Keys.{chunk_limit};
+ghost use Rattle.chk_world.specs.Places.{As};
+ghost use Rattle.chk_world.specs.Rules.{Legal};
 ghost use Rattle.chk_world.specs.Sight.{job};
+ghost use Rattle.chk_world.specs.JobSteps.{SparesFile};
 ghost use Rattle.chk_world.proofs.Each.{Each};
 ghost use Rattle.chk_heads.specs.Faults.{JobCause};
 ghost use Rattle.chk_book.specs.Books.{book_view};
@@ -20,8 +25,10 @@ ghost use Rattle.chk_choose.specs.Pairs.{pairs_of};
 ghost use Rattle.chk_choose.specs.Choosing.{IsSideInOrder};
 ghost use Rattle.chk_copy.specs.Copying.{joined_segment, chosen_chunks, FitsIn, Copies};
 ghost use Rattle.chk_join.specs.Working.{Worked, PreparesBy, Prepares};
-ghost use Rattle.chk_join.specs.Joined.{can_join, reads_of, LeavesFolders};
-ghost use Rattle.chk_join.specs.Preparing.{IsCounted, SpentPlan, WrotePlan, TookPlan, HasOrder, IsGathered, JoinedSides, JoinedBooks, Covers, IsFolderBook, PreparedFrom, PreparedSo};
+ghost use Rattle.chk_join.specs.Cleaned.{GoneAtOk};
+ghost use Rattle.chk_join.specs.Names.{IsStrayNumber};
+ghost use Rattle.chk_join.specs.Joined.{can_join, joined_folder, folder_book, reads_of, LeavesFolders};
+ghost use Rattle.chk_join.specs.Preparing.{IsCounted, SpentPlan, WrotePlan, StoodPlan, TookPlan, StandsReady, HasOrder, IsGathered, JoinedSides, JoinedBooks, Covers, IsFolderBook, PreparedFrom, PreparedSo, PreparedLegal};
 
 use crate::beginning::begin;
 use crate::names::segment_names;
@@ -64,6 +71,9 @@ fn write_plan<S: Site>(
         (Leads (anyhow (SparesBoth all (joined_segment next))) (HasFiles all held)
         (WrotePlan next (flat_map (chosen_chunks left.now right.now held) choices.now) (map end_view ends.now)
         (book_result result))) }
+    ensures stands { Adds (S.told site.old) (S.told site.new)
+        (Leads (anyhow (SparesFile (joined_segment next))) (λ history. Unit {0})
+        (StoodPlan next (map end_view ends.now) (book_result result))) }
     ensures spent { SpentPlan next (map end_view ends.now) result }
     ensures works { Adds (S.told site.old) (S.told site.new) (Worked (Copies next) result) }
     ensures cause { JobCause (S.fault_count site.old) (S.fault_count site.new) result }
@@ -99,6 +109,8 @@ fn take_plan<S: Site>(
         → Adds (S.told site.old) (S.told site.new)
         (Leads (anyhow (SparesBoth all (joined_segment next))) (HasFiles all held)
         (TookPlan next (flat_map (chosen_chunks left.now right.now held) plan.choices.items) plan result)) }
+    ensures stands { Adds (S.told site.old) (S.told site.new)
+        (Leads (anyhow (SparesFile (joined_segment next))) (λ history. Unit {0}) (StandsReady next result)) }
     ensures counted { IfOk result IsCounted }
     ensures spent { SpentPlan next (map end_view plan.ends) result }
     ensures works { Adds (S.told site.old) (S.told site.new) (Worked (Copies next) result) }
@@ -133,6 +145,8 @@ fn join_sides<S: Site>(
         → Adds (S.told site.old) (S.told site.new)
         (Leads (anyhow (SparesBoth all (joined_segment next))) (HasFiles all held)
         (JoinedSides held next left.now right.now (pairs_of (map end_view lefts.now) (map end_view rights.now)) result)) }
+    ensures stands { Adds (S.told site.old) (S.told site.new)
+        (Leads (anyhow (SparesFile (joined_segment next))) (λ history. Unit {0}) (StandsReady next result)) }
     ensures counted { IfOk result IsCounted }
     ensures works { Adds (S.told site.old) (S.told site.new) (Worked (Copies next) result) }
     ensures cause { JobCause (S.fault_count site.old) (S.fault_count site.new) result }
@@ -163,6 +177,8 @@ fn join_left<S: Site>(
         → Adds (S.told site.old) (S.told site.new)
         (Leads (anyhow (SparesBoth all (joined_segment next))) (HasFiles all held)
         (JoinedBooks held left (book_view lefts.now) right.now (book_view rights.now) next result)) }
+    ensures stands { Adds (S.told site.old) (S.told site.new)
+        (Leads (anyhow (SparesFile (joined_segment next))) (λ history. Unit {0}) (StandsReady next result)) }
     ensures counted { IfOk result IsCounted }
     ensures works { Adds (S.told site.old) (S.told site.new) (Worked (Copies next) result) }
     ensures cause { JobCause (S.fault_count site.old) (S.fault_count site.new) result }
@@ -204,6 +220,8 @@ fn join_books<S: Site>(
         → Adds (S.told site.old) (S.told site.new)
         (Leads (anyhow (SparesBoth all (joined_segment next))) (HasFiles all held)
         (JoinedBooks held left.now (book_view lefts.now) right.now (book_view rights.now) next result)) }
+    ensures stands { Adds (S.told site.old) (S.told site.new)
+        (Leads (anyhow (SparesFile (joined_segment next))) (λ history. Unit {0}) (StandsReady next result)) }
     ensures counted { IfOk result IsCounted }
     ensures works { Adds (S.told site.old) (S.told site.new) (Worked (Copies next) result) }
     ensures cause { JobCause (S.fault_count site.old) (S.fault_count site.new) result }
@@ -236,6 +254,11 @@ fn join_tidied<S: Site>(
         → Adds (S.told site.old) (S.told site.new)
         (Leads (anyhow (SparesBoth all (joined_segment joined.now.next))) (HasFiles all held)
         (PreparedFrom held left.now right.now joined.now.next result)) }
+    ensures stands { Adds (S.told site.old) (S.told site.new)
+        (Leads (anyhow (SparesFile (joined_segment joined.now.next))) (λ history. Unit {0}) (StandsReady joined.now.next result)) }
+    ensures clean { (k : ℕ) → IsStrayNumber (book_view joined.now) k → IsTrue (is_count joined.now.next)
+        → (k ≡ joined.now.next → ⊥) → Adds (S.told site.old) (S.told site.new)
+        (Leads (anyhow (LeavesFile (joined_segment k))) (λ history. Unit {0}) (GoneAtOk k result)) }
     ensures counted { IfOk result IsCounted }
     ensures works { Adds (S.told site.old) (S.told site.new) (Worked (PreparesBy (book_view joined.now)) result) }
     ensures cause { JobCause (S.fault_count site.old) (S.fault_count site.new) result }
@@ -264,6 +287,11 @@ fn load_right<S: Site>(
         → Adds (S.told site.old) (S.told site.new)
         (Leads (anyhow (SparesBoth all (joined_segment joined.now.next))) (HasFiles all held)
         (PreparedFrom held left.now right.now joined.now.next result)) }
+    ensures stands { Adds (S.told site.old) (S.told site.new)
+        (Leads (anyhow (SparesFile (joined_segment joined.now.next))) (λ history. Unit {0}) (StandsReady joined.now.next result)) }
+    ensures clean { (k : ℕ) → IsStrayNumber (book_view joined.now) k → IsTrue (is_count joined.now.next)
+        → (k ≡ joined.now.next → ⊥) → Adds (S.told site.old) (S.told site.new)
+        (Leads (anyhow (LeavesFile (joined_segment k))) (λ history. Unit {0}) (GoneAtOk k result)) }
     ensures counted { IfOk result IsCounted }
     ensures works { Adds (S.told site.old) (S.told site.new) (Worked (PreparesBy (book_view joined.now)) result) }
     ensures cause { JobCause (S.fault_count site.old) (S.fault_count site.new) result }
@@ -290,6 +318,11 @@ fn load_left<S: Site>(
         → Adds (S.told site.old) (S.told site.new)
         (Leads (anyhow (SparesBoth all (joined_segment joined.now.next))) (HasFiles all held)
         (PreparedFrom held left.now right.now joined.now.next result)) }
+    ensures stands { Adds (S.told site.old) (S.told site.new)
+        (Leads (anyhow (SparesFile (joined_segment joined.now.next))) (λ history. Unit {0}) (StandsReady joined.now.next result)) }
+    ensures clean { (k : ℕ) → IsStrayNumber (book_view joined.now) k → IsTrue (is_count joined.now.next)
+        → (k ≡ joined.now.next → ⊥) → Adds (S.told site.old) (S.told site.new)
+        (Leads (anyhow (LeavesFile (joined_segment k))) (λ history. Unit {0}) (GoneAtOk k result)) }
     ensures counted { IfOk result IsCounted }
     ensures works { Adds (S.told site.old) (S.told site.new) (Worked (PreparesBy (book_view joined.now)) result) }
     ensures cause { JobCause (S.fault_count site.old) (S.fault_count site.new) result }
@@ -311,6 +344,12 @@ pub(crate) fn prepare<S: Site>(
     requires job { who.now ≡ job }
     requires left { IsTrue (can_join left.now) }
     requires right { IsTrue (can_join right.now) }
+    ensures told { (stamped : List (List ℕ)) → Adds (S.told site.old) (S.told site.new)
+        (Leads (As stamped job) (Legal stamped) (PreparedLegal stamped result)) }
+    ensures clean { (held : Files) (k : ℕ) → AreSettled (reads_of held left.now right.now) held
+        → IsStrayNumber (folder_book held joined_folder) k → (k ≡ (folder_book held joined_folder).next → ⊥)
+        → Adds (S.told site.old) (S.told site.new) (Leads (anyhow (LeavesFolders left.now right.now))
+        (HasFiles (reads_of held left.now right.now) held) (GoneAtOk k result)) }
     ensures raw { (held : Files) → AreSettled (reads_of held left.now right.now) held → Adds (S.told site.old) (S.told site.new)
         (Leads (anyhow (LeavesFolders left.now right.now)) (HasFiles (reads_of held left.now right.now) held)
         (PreparedSo held left.now right.now result)) }

@@ -1,18 +1,19 @@
 //! The joined archive's book is published.
 
-ghost use Rattle.std.specs.Prelude.{◌≡◌, Option, IfErr, codes};
+ghost use Rattle.std.specs.Prelude.{◌≡◌, ℕ, List, Option, IfErr, codes};
 ghost use Rattle.chk_site.specs.Files.{File, IsSettled};
 ghost use Rattle.chk_site.specs.Site.{Adds};
 ghost use Rattle.chk_site.specs.Runs.{anyhow, Leads};
 ghost use Rattle.chk_replace.specs.Load.{Has};
 ghost use Rattle.chk_replace.specs.Replace.{LeavesBoth};
-ghost use Rattle.chk_world.specs.Sight.{job};
+ghost use Rattle.chk_world.specs.Places.{As};
+ghost use Rattle.chk_world.specs.Sight.{job, AtJob};
 ghost use Rattle.chk_heads.specs.Faults.{JobCause, IsOfWrite};
 ghost use Rattle.chk_book.specs.Books.{book_view};
 ghost use Rattle.chk_book.specs.Folders.{book_name};
 ghost use Rattle.chk_parts.specs.Publishing.{ReplacesBookOf};
 ghost use Rattle.chk_join.specs.Working.{Worked};
-ghost use Rattle.chk_join.specs.Publishing.{PublishedSo};
+ghost use Rattle.chk_join.specs.Publishing.{HoldsBook, EndsLegally, PublishedSo};
 
 use crate::spelling::can_be_spelled;
 use chk_book::Book;
@@ -29,6 +30,8 @@ pub(crate) fn publish<S: Site>(
     book: &Book,
 ) -> Result<(), JobFault>
     requires job { who.now ≡ job }
+    ensures told { (stamped : List (List ℕ)) → Adds (S.told site.old) (S.told site.new)
+        (Leads (As stamped job) (AtJob stamped (HoldsBook (book_view book.now))) (EndsLegally stamped result)) }
     ensures raw { (f : Option File) → IsSettled f → Adds (S.told site.old) (S.told site.new)
         (Leads (anyhow (LeavesBoth (book_name (codes "joined")))) (Has (book_name (codes "joined")) f)
         (PublishedSo f (book_view book.now) result)) }

@@ -1,21 +1,25 @@
 //! The join.
 
-ghost use Rattle.std.specs.Prelude.{◌≡◌, IsTrue, IfErr, Option};
+ghost use Rattle.std.specs.Prelude.{◌≡◌, ℕ, List, IsTrue, IfErr, Option};
 ghost use Rattle.chk_site.specs.Files.{File, Files, IsSettled};
 ghost use Rattle.chk_site.specs.History.{Every};
 ghost use Rattle.chk_site.specs.Site.{Adds};
 ghost use Rattle.chk_site.specs.Runs.{anyhow, Leads};
 ghost use Rattle.chk_replace.specs.Load.{Has};
 ghost use Rattle.chk_replace.specs.Replace.{LeavesBoth};
-ghost use Rattle.chk_world.specs.Sight.{job};
+ghost use Rattle.chk_world.specs.Places.{As};
+ghost use Rattle.chk_world.specs.Rules.{Legal};
+ghost use Rattle.chk_world.specs.Sight.{job, AtJob};
 ghost use Rattle.chk_world.specs.JobSteps.{IsOf};
 ghost use Rattle.chk_heads.specs.Pieces.{AsksInPieces};
 ghost use Rattle.chk_book.specs.Books.{book_view};
 ghost use Rattle.chk_book.specs.Folders.{book_name};
 ghost use Rattle.chk_parts.specs.Publishing.{ReplacesBookOf};
 ghost use Rattle.chk_merge.specs.Segments.{HasFiles, AreSettled};
-ghost use Rattle.chk_join.specs.Joined.{can_join, reads_of, joined_folder, LeavesFolders, Joined, Kept};
-ghost use Rattle.chk_join.specs.Publishing.{FinishedSo, WorkedSo, IsFinishFault, differ_fault};
+ghost use Rattle.chk_join.specs.Joined.{can_join, reads_of, joined_folder, folder_book, LeavesFolders, Joined, Kept};
+ghost use Rattle.chk_join.specs.Publishing.{HoldsBook, EndsLegally, FinishedSo, WorkedSo, IsFinishFault, differ_fault};
+ghost use Rattle.chk_join.specs.Cleaned.{IsCleaned};
+ghost use Rattle.chk_join.specs.Names.{IsStrayNumber};
 ghost use Rattle.chk_join.specs.Faults.{IsJoinFault, JoinsBy, JoinFailsLast, JoinCause};
 
 use crate::fault::JoinFault;
@@ -56,6 +60,12 @@ pub fn join<S: Site>(
     ensures kept { (held : Files) → AreSettled (reads_of held left.now right.now) held → Adds (S.told site.old) (S.told site.new)
         (Leads (anyhow (LeavesFolders left.now right.now)) (HasFiles (reads_of held left.now right.now) held)
         (Kept held left.now right.now result)) }
+    ensures told { (stamped : List (List ℕ)) → Adds (S.told site.old) (S.told site.new)
+        (Leads (As stamped job) (Legal stamped) (EndsLegally stamped result)) }
+    ensures strays { (held : Files) (k : ℕ) → AreSettled (reads_of held left.now right.now) held
+        → IsStrayNumber (folder_book held joined_folder) k → (k ≡ (folder_book held joined_folder).next → ⊥)
+        → Adds (S.told site.old) (S.told site.new) (Leads (anyhow (LeavesFolders left.now right.now))
+        (HasFiles (reads_of held left.now right.now) held) (IsCleaned k result)) }
     ensures own { Adds (S.told site.old) (S.told site.new) (Every (IsOf JoinsBy)) }
     ensures pieces { Adds (S.told site.old) (S.told site.new) (Every AsksInPieces) }
     ensures only { IfErr result IsJoinFault }
@@ -78,6 +88,8 @@ fn finish<S: Site>(
     report: JoinReport,
 ) -> Result<JoinReport, JoinFault>
     requires job { who.now ≡ job }
+    ensures told { (stamped : List (List ℕ)) → Adds (S.told site.old) (S.told site.new)
+        (Leads (As stamped job) (AtJob stamped (HoldsBook (book_view book.now))) (EndsLegally stamped result)) }
     ensures raw { (f : Option File) → IsSettled f → Adds (S.told site.old) (S.told site.new)
         (Leads (anyhow (LeavesBoth (book_name joined_folder))) (Has (book_name joined_folder) f)
         (FinishedSo f (book_view book.now) report result)) }

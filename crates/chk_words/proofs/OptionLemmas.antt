@@ -15,7 +15,7 @@ use Rattle.chk_words.specs.declared.commands.WordsFault.{WordsFault}
 use Rattle.chk_words.specs.declared.commands.WordsFault.TheVariants.{Usage as IsUsage, NoMemory}
 use Rattle.chk_words.specs.declared.options.Given.{Given}
 use Rattle.chk_words.specs.declared.usage.Usage.{Usage}
-use Rattle.chk_words.specs.declared.usage.Usage.TheVariants.{Commands, Round, Agent, Collector, Drain, Archive, Demux, Salvage, Load, Udp, Subscribe}
+use Rattle.chk_words.specs.declared.usage.Usage.TheVariants.{Commands, Round, Agent, Collector, Drain, Archive, Demux, Salvage, Load, Udp, Subscribe, Join}
 
 -- the command with these rules
 abbrev pub with_rules : List Rule → App
@@ -58,6 +58,7 @@ all_simple Salvage = refl
 all_simple Load = refl
 all_simple Udp = refl
 all_simple Subscribe = refl
+all_simple Join = refl
 
 -- an error where no words are taken, or of memory
 none_told : (kind : ErrorKind) → ReadsOptions None (Err (fault_by kind))

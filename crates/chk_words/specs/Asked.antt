@@ -9,8 +9,9 @@ use Rattle.clap.specs.Walk.{Row}
 use Rattle.chk_words.specs.Names.{is_source, are_words, number_in, most}
 use Rattle.chk_words.specs.Options.{parsed, plain_of, by_option, as_word, as_some_word, no_cluster}
 use Rattle.chk_words.specs.Usages.{usage_of, option_names}
-use Rattle.chk_words.specs.Commands.{Asked, Round, Agent, Collector, Drain, Archive, Demux, Salvage, Load, Udp, Subscribe}
+use Rattle.chk_words.specs.Commands.{Asked, Round, Agent, Collector, Drain, Archive, Demux, Salvage, Load, Udp, Subscribe, Join}
 use Rattle.chk_words.specs.Datagrams.{is_writer_name}
+use Rattle.chk_words.specs.Joining.{is_joinable}
 use Rattle.chk_words.specs.declared.usage.Usage.{Usage}
 use Rattle.chk_words.specs.declared.usage.Usage.TheVariants as usage
 
@@ -188,6 +189,16 @@ abbrev pub asked_subscribe : List Row → Option Asked
 asked_subscribe rows =
     given (turns_in rows) (λ turns. given (plain_of rows) (subscribe_with turns))
 
+-- `join LEFT RIGHT`
+abbrev pub join_with : List (List ℕ) → Option Asked
+join_with (left ∷ right ∷ []) =
+    if is_joinable left && is_joinable right
+    then Some (Join (record { left = left; right = right })) else None
+join_with plain = None
+
+abbrev pub asked_join : List Row → Option Asked
+asked_join rows = given (plain_of rows) join_with
+
 -- what the options and the other words of a command ask for
 abbrev pub asked_by : Usage → List Row → Option Asked
 asked_by usage.Commands rows = None
@@ -201,6 +212,7 @@ asked_by usage.Salvage rows = asked_salvage rows
 asked_by usage.Load rows = asked_load rows
 asked_by usage.Udp rows = asked_udp rows
 asked_by usage.Subscribe rows = asked_subscribe rows
+asked_by usage.Join rows = asked_join rows
 
 -- what the words behind the program's name ask for
 abbrev pub asked : List (List ℕ) → Option Asked

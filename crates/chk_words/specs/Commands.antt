@@ -9,6 +9,7 @@ use Rattle.chk_words.specs.declared.commands.CollectorWords.{CollectorWords}
 use Rattle.chk_words.specs.declared.commands.DrainWords.{DrainWords}
 use Rattle.chk_words.specs.Datagrams.{UdpAsked, udp_of}
 use Rattle.chk_words.specs.Subscribing.{SubscribeAsked, subscribe_of}
+use Rattle.chk_words.specs.Joining.{JoinAsked, join_of}
 use Rattle.chk_words.specs.declared.commands.Command.{Command}
 use Rattle.chk_words.specs.declared.commands.Command.TheVariants as words
 
@@ -63,6 +64,7 @@ pub data Asked : Type 0 where
   Load : ℕ → Asked
   Udp : UdpAsked → Asked
   Subscribe : SubscribeAsked → Asked
+  Join : JoinAsked → Asked
 
 -- the texts that borrowed words lend
 abbrev pub round_of : RoundWords → RoundAsked
@@ -120,6 +122,7 @@ asked_of (words.Salvage file) = Salvage file.now
 asked_of (words.Load lines) = Load lines
 asked_of (words.Udp w) = Udp (udp_of w)
 asked_of (words.Subscribe w) = Subscribe (subscribe_of w)
+asked_of (words.Join w) = Join (join_of w)
 
 -- the command where one is asked for, and Usage exactly where none is, unless there was no memory
 abbrev pub ReadsCommand : Option Asked → Result Command WordsFault → Type 0

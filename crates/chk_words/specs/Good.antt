@@ -6,7 +6,8 @@ use Rattle.chk_bytes.specs.Stems.{is_collector}
 use Rattle.chk_words.specs.Names.{is_source, are_words, most}
 use Rattle.chk_words.specs.Datagrams.{IsGoodUdp}
 use Rattle.chk_words.specs.Subscribing.{IsGoodSubscribe}
-use Rattle.chk_words.specs.Commands.{Asked, Round, Agent, Collector, Drain, Archive, Demux, Salvage, Load, Udp, Subscribe, RoundAsked, AgentAsked, CollectorAsked, DrainAsked}
+use Rattle.chk_words.specs.Joining.{IsGoodJoin}
+use Rattle.chk_words.specs.Commands.{Asked, Round, Agent, Collector, Drain, Archive, Demux, Salvage, Load, Udp, Subscribe, Join, RoundAsked, AgentAsked, CollectorAsked, DrainAsked}
 
 -- the number is in these bounds
 abbrev pub IsIn : ℕ → ℕ → ℕ → Type 0
@@ -55,3 +56,4 @@ IsGood (Salvage file) = IsTrue (is_word file)
 IsGood (Load lines) = IsIn 1 200000 lines
 IsGood (Udp w) = IsGoodUdp w
 IsGood (Subscribe w) = IsGoodSubscribe w
+IsGood (Join w) = IsGoodJoin w

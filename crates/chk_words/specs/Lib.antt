@@ -12,3 +12,4 @@ pub mod Loads
 pub mod Datagrams
 pub mod ReadUdp
 pub mod Subscribing
+pub mod Joining

@@ -1,7 +1,7 @@
 -- Which command the first word names, its options, and the line that tells how it is used.
 use Rattle.std.specs.Prelude.{ℕ, List, [], ◌∷◌, codes, bytes_eq, if◌then◌else◌}
 use Rattle.chk_words.specs.declared.usage.Usage.{Usage}
-use Rattle.chk_words.specs.declared.usage.Usage.TheVariants.{Commands, Round, Agent, Collector, Drain, Archive, Demux, Salvage, Load, Udp, Subscribe}
+use Rattle.chk_words.specs.declared.usage.Usage.TheVariants.{Commands, Round, Agent, Collector, Drain, Archive, Demux, Salvage, Load, Udp, Subscribe, Join}
 
 -- the command of this name, or none
 abbrev pub usage_named : List ℕ → Usage
@@ -15,7 +15,8 @@ usage_named first =
     else if bytes_eq first (codes "salvage") then Salvage
     else if bytes_eq first (codes "load") then Load
     else if bytes_eq first (codes "udp") then Udp
-    else if bytes_eq first (codes "subscribe") then Subscribe else Commands
+    else if bytes_eq first (codes "subscribe") then Subscribe
+    else if bytes_eq first (codes "join") then Join else Commands
 
 -- the command that the first word names
 abbrev pub usage_of : List (List ℕ) → Usage
@@ -36,7 +37,7 @@ option_names usage = []
 -- how the words should have been
 abbrev pub usage_text : Usage → List ℕ
 usage_text Commands =
-    codes "usage: chukwa round|agent|collector|drain|archive|demux|salvage|load|udp|subscribe\n"
+    codes "usage: chukwa round|agent|collector|drain|archive|demux|salvage|load|udp|subscribe|join\n"
 usage_text Round =
     codes "usage: chukwa round [--class CLASS] [--reads N] [--cluster NAME] SOURCE TYPE LOG...\n"
 usage_text Agent =
@@ -51,6 +52,7 @@ usage_text Salvage = codes "usage: chukwa salvage FILE\n"
 usage_text Load = codes "usage: chukwa load N\n"
 usage_text Udp = codes "usage: chukwa udp [--turns N] [--rotate BYTES] NAME ADDRESS\n"
 usage_text Subscribe = codes "usage: chukwa subscribe [--turns N] ADDRESS\n"
+usage_text Join = codes "usage: chukwa join LEFT RIGHT\n"
 
 -- the usage line of these words
 abbrev pub usage_line : List (List ℕ) → List ℕ

@@ -1,6 +1,7 @@
 //! What words ask for.
 
 use crate::datagrams::UdpWords;
+use crate::joining::JoinWords;
 use crate::subscribing::SubscribeWords;
 use chk_bytes::NoMemory;
 use chk_control::Class;
@@ -22,6 +23,7 @@ pub enum Command<'a> {
     Load(u64),
     Udp(UdpWords<'a>),
     Subscribe(SubscribeWords<'a>),
+    Join(JoinWords<'a>),
 }
 
 /// The words of `round`.

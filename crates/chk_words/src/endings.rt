@@ -1,7 +1,7 @@
 //! How a run ends otherwise than well.
 
 ghost use Rattle.std.specs.Prelude.{◌≡◌, ◌++◌, OnOk, OnErr};
-ghost use Rattle.chk_words.specs.Endings.{ending_line, ending_status};
+ghost use Rattle.chk_words.specs.Endings.{differ_line, ending_line, ending_status};
 
 use crate::lines::{Part, put_line};
 use chk_bytes::{Bytes, NoMemory, Stem, Word};
@@ -12,23 +12,52 @@ use chk_site::Call;
 #[derive(Debug, Drop)]
 pub enum Ending {
     /// This call on the outside failed; 3.
-    Outside { call: Call },
+    Outside {
+        call: Call,
+    },
     /// There was no memory; 4.
     NoMemory,
     /// The bytes of the named file aren't in its grammar from `at` on; 5.
-    Damaged { name: Word, at: u64 },
+    Damaged {
+        name: Word,
+        at: u64,
+    },
     /// The last poll gave a committed length `got` below the answered offset `want`; 6.
-    Length { stem: Stem, got: u64, want: u64 },
+    Length {
+        stem: Stem,
+        got: u64,
+        want: u64,
+    },
     /// Each of `reads` reads of this log gave bytes; 6.
-    Growing { path: Word, reads: u64 },
+    Growing {
+        path: Word,
+        reads: u64,
+    },
     /// A sink of another collector was under writing; 6.
-    Unclosed { name: Word },
+    Unclosed {
+        name: Word,
+    },
     /// A log has `is` bytes, fewer than the place `had` from which it was to be read; 7.
-    Shrank { path: Word, had: u64, is: u64 },
+    Shrank {
+        path: Word,
+        had: u64,
+        is: u64,
+    },
     /// A number that can't grow was to grow; 8.
-    Spent { number: u64 },
+    Spent {
+        number: u64,
+    },
     /// All addresses refused, the last of them with this code; 9.
-    Refused { code: u16 },
+    Refused {
+        code: u16,
+    },
+    /// Two archives have this stream, and differ in it at this offset; 11.
+    Differ {
+        source: Word,
+        kind: Word,
+        name: Word,
+        at: u64,
+    },
 }
 
 impl Ending {
@@ -44,6 +73,7 @@ impl Ending {
             Ending::Shrank { .. } => 7,
             Ending::Spent { .. } => 8,
             Ending::Refused { .. } => 9,
+            Ending::Differ { .. } => 11,
         }
     }
 
@@ -108,6 +138,33 @@ impl Ending {
                 out,
                 &[Part::Text("refused"), Part::Number(u64::from(*code))],
             ),
+            Ending::Differ {
+                source,
+                kind,
+                name,
+                at,
+            } => put_differ(out, source.as_str(), kind.as_str(), name.as_str(), *at),
         }
     }
+}
+
+fn put_differ<'a>(
+    out: &mut Bytes,
+    source: &'a str,
+    kind: &'a str,
+    name: &'a str,
+    at: u64,
+) -> Result<(), NoMemory>
+    ensures ok { OnOk result (out.new ≡ out.old
+        ++ differ_line source.entry.now kind.entry.now name.entry.now at) }
+    ensures err { OnErr result (out.new ≡ out.old) }
+{
+    let parts = [
+        Part::Text("differ"),
+        Part::Text(source),
+        Part::Text(kind),
+        Part::Text(name),
+        Part::Number(at),
+    ];
+    put_line(out, &parts)
 }

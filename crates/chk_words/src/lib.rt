@@ -4,6 +4,7 @@
 mod commands;
 mod datagrams;
 mod endings;
+mod joining;
 mod lines;
 mod load;
 mod names;
@@ -15,6 +16,7 @@ mod usage;
 pub use commands::{AgentWords, CollectorWords, Command, DrainWords, RoundWords, WordsFault};
 pub use datagrams::{UdpWords, put_udp};
 pub use endings::Ending;
+pub use joining::{JoinWords, put_join};
 pub use lines::{put_archive, put_demux, put_end, put_load, put_stream};
 pub use load::{LoadLines, load_log};
 pub use reading::read_words;

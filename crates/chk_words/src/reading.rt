@@ -1,7 +1,7 @@
 //! Words to commands.
 
 ghost use Rattle.std.specs.Prelude.{◌≡◌, map, option_map, IfOk, IfSome};
-ghost use Rattle.chk_words.specs.Asked.{asked, asked_by, asked_round, asked_agent, asked_collector, asked_drain, asked_archive, asked_demux, asked_salvage, asked_load, asked_udp, asked_subscribe};
+ghost use Rattle.chk_words.specs.Asked.{asked, asked_by, asked_round, asked_agent, asked_collector, asked_drain, asked_archive, asked_demux, asked_salvage, asked_load, asked_udp, asked_subscribe, asked_join};
 ghost use Rattle.chk_words.specs.Given.{rows_in};
 ghost use Rattle.chk_words.specs.Good.{IsGood};
 ghost use Rattle.chk_words.specs.ReadOptions.{ReadsRoundOptions, ReadsAgentOptions, ReadsCollectorOptions, ReadsDrainOptions, AreGoodRound, AreGoodAgent, AreGoodCollector, AreGoodDrain, ReadsLogs, ReadsPeers, AreGoodLogs, AreGoodPeers};
@@ -9,6 +9,7 @@ ghost use Rattle.chk_words.specs.Commands.{ReadsCommand, asked_of};
 
 use crate::commands::{AgentWords, CollectorWords, Command, DrainWords, RoundWords, WordsFault};
 use crate::datagrams::read_udp;
+use crate::joining::read_join;
 use crate::names::{are_words, is_collector, is_source, is_word, number_in};
 use crate::options::Given;
 use crate::subscribing::read_subscribe;
@@ -56,6 +57,7 @@ fn command_by<'a>(alloc: Global, usage: Usage, given: &Given<'a>) -> Result<Comm
         Usage::Load => read_load(given).ok_or(WordsFault::Usage),
         Usage::Udp => read_udp(given).ok_or(WordsFault::Usage),
         Usage::Subscribe => read_subscribe(given).ok_or(WordsFault::Usage),
+        Usage::Join => read_join(given).ok_or(WordsFault::Usage),
     }
 }
 

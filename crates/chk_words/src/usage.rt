@@ -36,6 +36,7 @@ pub enum Usage {
     Load,
     Udp,
     Subscribe,
+    Join,
 }
 
 impl Usage {
@@ -45,7 +46,7 @@ impl Usage {
     {
         match self {
             Usage::Commands => {
-                "usage: chukwa round|agent|collector|drain|archive|demux|salvage|load|udp|subscribe\n"
+                "usage: chukwa round|agent|collector|drain|archive|demux|salvage|load|udp|subscribe|join\n"
             }
             Usage::Round => {
                 "usage: chukwa round [--class CLASS] [--reads N] [--cluster NAME] SOURCE TYPE LOG...\n"
@@ -65,6 +66,7 @@ impl Usage {
             Usage::Load => "usage: chukwa load N\n",
             Usage::Udp => "usage: chukwa udp [--turns N] [--rotate BYTES] NAME ADDRESS\n",
             Usage::Subscribe => "usage: chukwa subscribe [--turns N] ADDRESS\n",
+            Usage::Join => "usage: chukwa join LEFT RIGHT\n",
         }
     }
 
@@ -108,6 +110,7 @@ fn usage_named(first: &str) -> Usage
         "load" => Usage::Load,
         "udp" => Usage::Udp,
         "subscribe" => Usage::Subscribe,
+        "join" => Usage::Join,
         _ => Usage::Commands,
     }
 }

@@ -6,13 +6,14 @@ mod refused;
 
 use crate::refused::tell_refused;
 use chk_site_real::SiteReal;
-use chukwa_run::run;
+use chukwa_run::{Hashing, run_with_hasher};
 use std::fs::{File, OpenOptions};
+use std::hash::RandomState;
 use std::os::fd::AsRawFd;
 use std::process::ExitCode;
 use std::{env, io};
 
-/// The status where the system doesn't give the words.
+/// The status where the system doesn't give the words, or no random bytes.
 const OUTSIDE: u8 = 3;
 
 /// The status for want of memory.
@@ -60,8 +61,15 @@ fn run_given(rt: HostRuntime, given: &[String]) -> u8 {
             return NO_MEMORY;
         }
     }
+    let hashing = match hashing_for(rt, words.as_slice()) {
+        Ok(hashing) => hashing,
+        Err(error) => {
+            let _told = eprintln!(rt; "chukwa: no random bytes: {error}");
+            return OUTSIDE;
+        }
+    };
     let mut site = SiteReal::new(rt, rt.alloc());
-    let status = run(rt.alloc(), &mut site, words.as_slice());
+    let status = run_with_hasher(rt.alloc(), &mut site, words.as_slice(), hashing);
     if let Some(failure) = site.failure() {
         let _told = eprintln!(rt; "chukwa: {failure}");
     }
@@ -69,4 +77,13 @@ fn run_given(rt: HostRuntime, given: &[String]) -> u8 {
         tell_refused(rt, words.as_slice());
     }
     status
+}
+
+// How an agent finds its streams: by random keys, since anybody at its control door chooses their
+// words. No other command takes streams of strangers.
+fn hashing_for(rt: HostRuntime, words: &[&str]) -> io::Result<Hashing> {
+    match words.first() {
+        Some(command) if *command == "agent" => Ok(Hashing::Random(RandomState::new(&rt)?)),
+        _ => Ok(Hashing::Fixed),
+    }
 }

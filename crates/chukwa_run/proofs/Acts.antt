@@ -1,5 +1,5 @@
 -- The own acts of several stretches of steps, and of one call.
-use Rattle.std.proofs.Common.{◌≡◌, inl, inr, ℕ, Bool, true, false, List, [], ◌∷◌, Ok, Err, Result, refl, ◌∙◌, ap}
+use Rattle.std.proofs.Common.{◌≡◌, inl, inr, ℕ, Bool, true, false, List, [], ◌∷◌, Ok, Err, Result, refl, ap}
 use Rattle.chk_site.specs.declared.acts.Act.{Act}
 use Rattle.chk_site.specs.declared.acts.Call.{Call}
 use Rattle.chk_site.specs.declared.acts.Call.TheVariants.{Say}
@@ -7,26 +7,18 @@ use Rattle.chk_site.specs.declared.acts.CallFault.{CallFault}
 use Rattle.chk_site.specs.declared.acts.CallFault.TheVariants.{Failed, Missing, Exists, Short, NoMemory}
 use Rattle.chk_site.specs.declared.acts.ActAnswer.{ActAnswer}
 use Rattle.chk_site.specs.declared.acts.ActAnswer.TheVariants.{Refused, Stopped}
-use Rattle.chk_site.specs.History.{History, Every, IsTheirs, is_stopped}
+use Rattle.chk_site.specs.History.{History, is_stopped}
 use Rattle.chk_site.specs.Site.{Asked, asked, answered, plain, Acted, Added, Calls, EndsIn}
 use Rattle.chk_site.specs.Runs.{own_acts}
-use Rattle.chukwa_run.specs.Processes.{chukwa}
+use Rattle.chk_load_run.specs.Processes.{chukwa}
 use Rattle.chukwa_run.specs.Endings.{SaysAtMost}
 use Rattle.chukwa_run.specs.Showing.{FailedLast}
+use Rattle.chk_archive.proofs.OnceListed.{theirs_none as no_acts}
+use Rattle.chk_load_run.proofs.Scripts.{one_act}
 
 -- the act of a call with this answer
 abbrev pub made : Asked → ActAnswer → Act
 made q answer = record { who = q.who; call = q.call; words = q.words; number = q.number; max = q.max; answer = answer }
-
--- steps of others are no own acts
-no_acts : (added history : History) → Every IsTheirs added history → own_acts added ≡ []
-no_acts [] history theirs = refl
-no_acts (step ∷ added) history theirs = rw theirs.1.0 (no_acts added history theirs.0)
-
-one_act : (q : Asked) (answer : ActAnswer) (added history : History) → Acted q answer added history
-    → own_acts added ≡ made q answer ∷ []
-one_act q answer added history acted =
-    ap own_acts acted.added_is ∙ ap (λ (acts : List Act). made q answer ∷ acts) (no_acts acted.others history acted.theirs)
 
 -- the newest step's failure is that of the newest act
 pub failed_last : (added : History) (call : Call) → EndsIn call added → FailedLast call (own_acts added)

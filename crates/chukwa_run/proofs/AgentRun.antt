@@ -24,7 +24,8 @@ use Rattle.chk_agent_run.specs.Runs.{HasRun, InRun, RunEnds, ended_as}
 use Rattle.chk_words.specs.Commands.{AgentAsked}
 use Rattle.chk_words.specs.declared.endings.Ending.{Ending}
 use Rattle.chk_words.specs.Commands.{Agent}
-use Rattle.chukwa_run.specs.Processes.{the_agent, chukwa, RunSide}
+use Rattle.chukwa_run.specs.Processes.{the_agent, RunSide}
+use Rattle.chk_load_run.specs.Processes.{chukwa}
 use Rattle.chukwa_run.specs.Whole.{ring_of, rules_of, work_of, AgentScript, Whole}
 use Rattle.chukwa_run.specs.Showing.{AgentCut, AgentFits, Shows}
 use Rattle.chukwa_run.specs.Causes.{IsAgentEnding}

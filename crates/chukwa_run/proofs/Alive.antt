@@ -6,14 +6,15 @@ use Rattle.chk_site.specs.declared.acts.Who.{Who}
 use Rattle.chk_site.specs.declared.acts.CallFault.{CallFault}
 use Rattle.chk_site.specs.declared.acts.CallFault.TheVariants.{Failed, Missing, Exists, Short, NoMemory}
 use Rattle.chk_site.specs.declared.acts.ActAnswer.{ActAnswer}
-use Rattle.chk_site.specs.declared.acts.ActAnswer.TheVariants.{Done, Refused, Stopped, Rotated, Deleted}
+use Rattle.chk_site.specs.declared.acts.ActAnswer.TheVariants.{Refused}
 use Rattle.chk_site.specs.declared.acts.OutsideFault.{OutsideFault}
 use Rattle.chk_site.specs.Acts.{Deed, is_stop}
 use Rattle.chk_site.specs.History.{History, is_stopped}
-use Rattle.chk_site.specs.Site.{Adds, Asked, Acted, Calls, WasDone}
+use Rattle.chk_site.specs.Site.{Adds, Asked, Acted, Calls}
 use Rattle.chk_site.specs.Runs.{HasStarted}
 use Rattle.chk_site.proofs.Runs.{ran}
 use Rattle.chk_world.specs.Works.{Works, rests, unbegun, works, ends, WentOn}
+use Rattle.chukwa_salvage.proofs.Running.{done_goes}
 
 -- where a history is told, the site isn't stopped
 abbrev pub Alive : Option History → Type 0
@@ -24,13 +25,6 @@ acted_alive : {q : Asked} (answer : ActAnswer) {added history : History} → is_
     → Acted q answer added history → is_stopped (added ++ history) ≡ false
 acted_alive answer {history = history} goes acted =
     subst (λ (a : History). is_stopped (a ++ history) ≡ false) (sym acted.added_is) goes
-
-done_goes : (answer : ActAnswer) → WasDone answer → is_stop answer ≡ false
-done_goes (Done words number of) done = refl
-done_goes (Refused fault) done = refl
-done_goes (Stopped left) done = elim done [ ]
-done_goes (Rotated suffix) done = refl
-done_goes (Deleted suffix) done = refl
 
 went_alive : {q : Asked} (given : Result ActAnswer CallFault) {added history : History} → WentOn given
     → Calls q given added history → is_stopped (added ++ history) ≡ false

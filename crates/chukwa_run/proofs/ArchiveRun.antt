@@ -26,7 +26,7 @@ use Rattle.chk_words.specs.Commands.{Archive}
 use Rattle.chukwa_run.specs.Processes.{acting_for, RunSide}
 use Rattle.chukwa_run.specs.Whole.{AreArchiveActs, Whole}
 use Rattle.chukwa_run.specs.Showing.{ArchiveFault, ArchiveShown, ArchiveFits, Shows}
-use Rattle.chukwa_run.specs.Causes.{job_ending}
+use Rattle.chukwa_run.specs.JobFaults.{job_ending}
 use Rattle.chukwa_run.specs.Runs.{Begins, EndsWith, CameTo, CausedBy}
 use Rattle.chukwa_run.proofs.Acts.{failed_last}
 

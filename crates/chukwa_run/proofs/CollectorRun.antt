@@ -25,7 +25,8 @@ use Rattle.chk_words.specs.Commands.{CollectorAsked}
 use Rattle.chk_words.specs.Commands.{Collector}
 use Rattle.chk_words.specs.declared.endings.Ending.{Ending}
 use Rattle.chk_words.specs.declared.endings.Ending.TheVariants as Endings
-use Rattle.chukwa_run.specs.Processes.{chukwa, the_collector, started_by, acting_for, RunSide}
+use Rattle.chukwa_run.specs.Processes.{the_collector, started_by, acting_for, RunSide}
+use Rattle.chk_load_run.specs.Processes.{chukwa}
 use Rattle.chukwa_run.specs.Whole.{CollectorScript, Whole}
 use Rattle.chukwa_run.specs.Showing.{IsCutAt, IsUnread, CollectorCut, CollectorFits, Shows}
 use Rattle.chukwa_run.specs.Teeing.{TeesRead, ReadCause, ReadFailsLast}
@@ -79,6 +80,7 @@ unread_cause before now (Endings.Unclosed name) same = tt
 unread_cause before now (Endings.Shrank path had is) same = tt
 unread_cause before now (Endings.Spent n) same = tt
 unread_cause before now (Endings.Refused code) same = tt
+unread_cause before now (Endings.Differ source kind stream at) same = tt
 
 -- and behind it a run that failed
 pub collected_cause : (before read now : ℕ) (fault : SinkFault) → read ≡ before
@@ -98,6 +100,7 @@ status_so w (Endings.Unclosed name) of = absurd of
 status_so w (Endings.Shrank path had is) of = absurd of
 status_so w (Endings.Spent n) of = absurd of
 status_so w (Endings.Refused code) of = absurd of
+status_so w (Endings.Differ source kind stream at) of = absurd of
 
 pub unread_status : (w : CollectorAsked) (e : Ending) {file : Option (List ℕ)} {old new : Option History}
     → TeesRead file (Err e) old new → HasItsStatus (Collector w) (Err e)
@@ -286,6 +289,8 @@ module _ (w : CollectorAsked) where
   unread_cut (Endings.Shrank path had is) added history unread last running = absurd (is_read unread)
   unread_cut (Endings.Spent n) added history unread last running = absurd (is_read unread)
   unread_cut (Endings.Refused code) added history unread last running = absurd (is_read unread)
+  unread_cut (Endings.Differ source kind stream at) added history unread last running =
+      absurd (is_read unread)
 
   unread_fits : (e : Ending) (added history : History) → IsUnread w e history added → CollectorFits w history e added
   unread_fits (Endings.Outside call) added history unread = tt
@@ -297,6 +302,7 @@ module _ (w : CollectorAsked) where
   unread_fits (Endings.Shrank path had is) added history unread = tt
   unread_fits (Endings.Spent n) added history unread = absurd (is_read unread)
   unread_fits (Endings.Refused code) added history unread = tt
+  unread_fits (Endings.Differ source kind stream at) added history unread = tt
 
   -- what the reading says, where it ended the run
   pub record IsReading (e : Ending) (old new : Option History) : Type 0 where

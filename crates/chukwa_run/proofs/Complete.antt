@@ -7,11 +7,12 @@ use Rattle.chk_site.specs.Runs.{Leads}
 use Rattle.chk_site.proofs.Leads.{leads_as}
 use Rattle.chk_words.specs.Datagrams.{UdpAsked}
 use Rattle.chk_words.specs.Subscribing.{SubscribeAsked}
+use Rattle.chk_words.specs.Joining.{JoinAsked}
 use Rattle.chk_words.specs.Commands.{RoundAsked, AgentAsked, CollectorAsked, DrainAsked}
-use Rattle.chk_words.specs.Commands.{Asked, Round, Agent, Collector, Drain, Archive, Demux, Salvage, Load, Udp, Subscribe}
+use Rattle.chk_words.specs.Commands.{Asked, Round, Agent, Collector, Drain, Archive, Demux, Salvage, Load, Udp, Subscribe, Join}
 use Rattle.chk_words.specs.Endings.{ending_status}
 use Rattle.chk_words.specs.declared.endings.Ending.{Ending}
-use Rattle.chk_words.specs.declared.endings.Ending.TheVariants.{Outside, NoMemory, Damaged, Length, Growing, Unclosed, Shrank, Spent, Refused}
+use Rattle.chk_words.specs.declared.endings.Ending.TheVariants.{Outside, NoMemory, Damaged, Length, Growing, Unclosed, Shrank, Spent, Refused, Differ}
 use Rattle.chukwa_run.specs.Causes.{EndingCause}
 use Rattle.chukwa_run.specs.Complete.{LeftOver, Completed, whole, wanting, left, Completes}
 use Rattle.chukwa_run.specs.Endings.{Ended, done, ended, stopped}
@@ -43,6 +44,7 @@ of_round w earlier added (Unclosed name) calm shows = inr shows
 of_round w earlier added (Shrank path had has) calm shows = absurd shows.1
 of_round w earlier added (Spent n) calm shows = inr shows.1
 of_round w earlier added (Refused code) calm shows = absurd shows.1
+of_round w earlier added (Differ source kind stream at) calm shows = absurd shows.0
 
 of_agent : (w : AgentAsked) → Leaves (Agent w)
 of_agent w earlier added (Outside call) calm shows = absurd (calm refl)
@@ -54,6 +56,7 @@ of_agent w earlier added (Unclosed name) calm shows = absurd shows.0
 of_agent w earlier added (Shrank path had has) calm shows = absurd shows.0
 of_agent w earlier added (Spent n) calm shows = absurd shows.0
 of_agent w earlier added (Refused code) calm shows = absurd shows.0
+of_agent w earlier added (Differ source kind stream at) calm shows = absurd shows.0
 
 of_collector : (w : CollectorAsked) → Leaves (Collector w)
 of_collector w earlier added (Outside call) calm shows = absurd (calm refl)
@@ -65,6 +68,7 @@ of_collector w earlier added (Unclosed name) calm shows = absurd shows.0
 of_collector w earlier added (Shrank path had has) calm shows = absurd shows.0
 of_collector w earlier added (Spent n) calm shows = inr shows.1
 of_collector w earlier added (Refused code) calm shows = absurd shows.0
+of_collector w earlier added (Differ source kind stream at) calm shows = absurd shows.0
 
 of_drain : (w : DrainAsked) → Leaves (Drain w)
 of_drain w earlier added (Outside call) calm shows = absurd (calm refl)
@@ -76,6 +80,7 @@ of_drain w earlier added (Unclosed name) calm shows = absurd shows.0
 of_drain w earlier added (Shrank path had has) calm shows = absurd shows.1
 of_drain w earlier added (Spent n) calm shows = absurd shows.0
 of_drain w earlier added (Refused code) calm shows = inr shows.0
+of_drain w earlier added (Differ source kind stream at) calm shows = absurd shows.0
 
 of_archive : Leaves Archive
 of_archive earlier added (Outside call) calm shows = absurd (calm refl)
@@ -87,6 +92,7 @@ of_archive earlier added (Unclosed name) calm shows = absurd shows.0.1
 of_archive earlier added (Shrank path had has) calm shows = absurd shows.0.1
 of_archive earlier added (Spent n) calm shows = inr shows.1
 of_archive earlier added (Refused code) calm shows = absurd shows.0.1
+of_archive earlier added (Differ source kind stream at) calm shows = absurd shows.0.1
 
 of_demux : (kinds : List (List ℕ)) → Leaves (Demux kinds)
 of_demux kinds earlier added (Outside call) calm shows = absurd (calm refl)
@@ -98,6 +104,7 @@ of_demux kinds earlier added (Unclosed name) calm shows = absurd shows.0.1
 of_demux kinds earlier added (Shrank path had has) calm shows = absurd shows.0.1
 of_demux kinds earlier added (Spent n) calm shows = inr shows.1
 of_demux kinds earlier added (Refused code) calm shows = absurd shows.0.1
+of_demux kinds earlier added (Differ source kind stream at) calm shows = absurd shows.0.1
 
 of_salvage : (file : List ℕ) → Leaves (Salvage file)
 of_salvage file earlier added (Outside call) calm shows = absurd (calm refl)
@@ -109,6 +116,7 @@ of_salvage file earlier added (Unclosed name) calm shows = absurd shows
 of_salvage file earlier added (Shrank path had has) calm shows = absurd shows
 of_salvage file earlier added (Spent n) calm shows = absurd shows
 of_salvage file earlier added (Refused code) calm shows = absurd shows
+of_salvage file earlier added (Differ source kind stream at) calm shows = absurd shows
 
 of_load : (lines : ℕ) → Leaves (Load lines)
 of_load lines earlier added (Outside call) calm shows = absurd (calm refl)
@@ -120,6 +128,7 @@ of_load lines earlier added (Unclosed name) calm shows = inr shows.1
 of_load lines earlier added (Shrank path had has) calm shows = absurd shows.1
 of_load lines earlier added (Spent n) calm shows = inr (shows.0.fault, shows.1)
 of_load lines earlier added (Refused code) calm shows = absurd shows.1
+of_load lines earlier added (Differ source kind stream at) calm shows = absurd shows.0.fault
 
 of_udp : (w : UdpAsked) → Leaves (Udp w)
 of_udp w earlier added (Outside call) calm shows = absurd (calm refl)
@@ -131,6 +140,7 @@ of_udp w earlier added (Unclosed name) calm shows = absurd shows
 of_udp w earlier added (Shrank path had has) calm shows = absurd shows
 of_udp w earlier added (Spent n) calm shows = inr shows
 of_udp w earlier added (Refused code) calm shows = absurd shows
+of_udp w earlier added (Differ source kind stream at) calm shows = absurd shows
 
 of_subscribe : (w : SubscribeAsked) → Leaves (Subscribe w)
 of_subscribe w earlier added (Outside call) calm shows = absurd (calm refl)
@@ -142,6 +152,19 @@ of_subscribe w earlier added (Unclosed name) calm shows = absurd shows
 of_subscribe w earlier added (Shrank path had has) calm shows = absurd shows
 of_subscribe w earlier added (Spent n) calm shows = absurd shows
 of_subscribe w earlier added (Refused code) calm shows = absurd shows
+of_subscribe w earlier added (Differ source kind stream at) calm shows = absurd shows
+
+of_join : (w : JoinAsked) → Leaves (Join w)
+of_join w earlier added (Outside call) calm shows = absurd (calm refl)
+of_join w earlier added NoMemory calm shows = inl refl
+of_join w earlier added (Damaged name at) calm shows = inr shows
+of_join w earlier added (Length stem got want) calm shows = absurd shows.of
+of_join w earlier added (Growing path reads) calm shows = absurd shows.of
+of_join w earlier added (Unclosed name) calm shows = absurd shows.of
+of_join w earlier added (Shrank path had has) calm shows = absurd shows.of
+of_join w earlier added (Spent n) calm shows = inr shows
+of_join w earlier added (Refused code) calm shows = absurd shows.of
+of_join w earlier added (Differ source kind stream at) calm shows = inr shows
 
 remains : (command : Asked) → Leaves command
 remains (Round w) = of_round w
@@ -154,6 +177,7 @@ remains (Salvage file) = of_salvage file
 remains (Load lines) = of_load lines
 remains (Udp w) = of_udp w
 remains (Subscribe w) = of_subscribe w
+remains (Join w) = of_join w
 
 -- ---- of the run
 
@@ -195,6 +219,8 @@ calm_status (Err (Unclosed name)) status before mid now outside rose further cal
 calm_status (Err (Shrank path had has)) status before mid now outside rose further calm is = outside is
 calm_status (Err (Spent n)) status before mid now outside rose further calm is = outside is
 calm_status (Err (Refused code)) status before mid now outside rose further calm is = outside is
+calm_status (Err (Differ source kind stream at)) status before mid now outside rose further calm
+    is = outside is
 calm_status (Ok value) status before mid now outside rose further calm is = outside is
 
 pub completes : (stamped : List (List ℕ)) (command : Asked) (earlier : History) (status : ℕ)

@@ -30,7 +30,8 @@ use Rattle.chk_words.specs.Datagrams.{UdpAsked, is_writer_byte, is_writer_name}
 use Rattle.chk_words.specs.declared.endings.Ending.{Ending}
 use Rattle.chukwa_run.specs.declared.datagrams.DatagramSetting.{DatagramSetting}
 use Rattle.chukwa_run.specs.Datagrams.{IsSetFor, UdpScript, UdpRan, UdpCut, door_of, wahead_ending}
-use Rattle.chukwa_run.specs.Processes.{the_writer, chukwa, acting_for, RunSide}
+use Rattle.chukwa_run.specs.Processes.{the_writer, acting_for, RunSide}
+use Rattle.chk_load_run.specs.Processes.{chukwa}
 use Rattle.chukwa_run.specs.Runs.{Begins, EndsWith, CameTo, CausedBy}
 use Rattle.chukwa_run.specs.Showing.{Shows}
 use Rattle.chukwa_run.specs.Statuses.{HasItsStatus}

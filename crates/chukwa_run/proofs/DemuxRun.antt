@@ -19,7 +19,7 @@ use Rattle.chk_heads.specs.declared.fault.JobFault.TheVariants as Jobs
 use Rattle.chk_heads.specs.Causes.{Shows as ShowsCause}
 use Rattle.chk_heads.specs.Faults.{FailsLast}
 use Rattle.chk_demux.specs.Demuxed.{Earlier, earlier_in, NamesStamped, Begun, Demuxed, DemuxDone, LacksNumber}
-use Rattle.chk_demux.specs.Shown.{IsDamage}
+use Rattle.chk_demux.specs.Shown.{IsDamage, ShowsSpent}
 use Rattle.chk_demux.specs.declared.report.DemuxReport.{DemuxReport}
 use Rattle.chk_demux_run.specs.Telling.{DemuxesAndTells, IsTold, EndsRunning}
 use Rattle.chk_words.specs.declared.endings.Ending.{Ending}
@@ -28,7 +28,7 @@ use Rattle.chukwa_run.specs.Demuxing.{AreDemuxActs, DemuxFits}
 use Rattle.chukwa_run.specs.Processes.{acting_for, RunSide}
 use Rattle.chukwa_run.specs.Whole.{Whole}
 use Rattle.chukwa_run.specs.Showing.{ArchiveFault, DemuxShown, Shows}
-use Rattle.chukwa_run.specs.Causes.{job_ending}
+use Rattle.chukwa_run.specs.JobFaults.{job_ending}
 use Rattle.chukwa_run.specs.Runs.{Begins, EndsWith, CameTo, CausedBy}
 use Rattle.chukwa_run.proofs.Acts.{failed_last}
 
@@ -56,6 +56,7 @@ pub record IsRun (kinds : List (List ℕ)) (result : Result DemuxReport JobFault
   pub runs : Adds old new (EndsRunning result)
   pub last : Adds old new (FailsLast result)
   pub shown : Adds old new (ShowsCause IsDamage result)
+  pub spent : Adds old new (ShowsSpent result)
 
 -- and what that comes to for the steps that it added
 record IsAt (result : Result DemuxReport JobFault) (added history : History) : Type 0 where
@@ -64,6 +65,7 @@ record IsAt (result : Result DemuxReport JobFault) (added history : History) : T
   runs : EndsRunning result added history
   last : FailsLast result added history
   shown : ShowsCause IsDamage result added history
+  spent : ShowsSpent result added history
 
 module _ (kinds : List (List ℕ)) where
   abbrev This : Asked
@@ -73,10 +75,12 @@ module _ (kinds : List (List ℕ)) where
   at_end result s =
       adds_both (IsAt result)
       (adds_both (λ a h. AreDemuxActs (own_acts a) × IsTold result a h) s.own s.prints (λ a h x y. (acts_of_run a h x, y)))
-      (adds_both (λ a h. EndsRunning result a h × FailsLast result a h × ShowsCause IsDamage result a h) s.runs
-      (adds_both (λ a h. FailsLast result a h × ShowsCause IsDamage result a h) s.last s.shown (λ a h x y. (x, y)))
-      (λ a h x y. (x, y.0, y.1)))
-      (λ a h x y. record { acts = x.0; prints = x.1; runs = y.0; last = y.1; shown = y.2 })
+      (adds_both (λ a h. EndsRunning result a h × FailsLast result a h × ShowsCause IsDamage result a h × ShowsSpent result a h) s.runs
+      (adds_both (λ a h. FailsLast result a h × ShowsCause IsDamage result a h × ShowsSpent result a h) s.last
+      (adds_both (λ a h. ShowsCause IsDamage result a h × ShowsSpent result a h) s.shown s.spent
+      (λ a h x y. (x, y))) (λ a h x y. (x, y.0, y.1)))
+      (λ a h x y. (x, y.0, y.1, y.2)))
+      (λ a h x y. record { acts = x.0; prints = x.1; runs = y.0; last = y.1; shown = y.2; spent = y.3 })
 
   -- ---- by the acts alone
 
@@ -87,12 +91,14 @@ module _ (kinds : List (List ℕ)) where
   fault_so (Jobs.Spent number) added history last running = tt
   fault_so Jobs.NoMemory added history last running = tt
 
-  shown_so : (fault : JobFault) (added history : History) → ShowsCause {T = DemuxReport} IsDamage (Err fault) added history
+  shown_so : (fault : JobFault) (added history : History)
+      → ShowsCause {T = DemuxReport} IsDamage (Err fault) added history
+      → ShowsSpent {T = DemuxReport} (Err fault) added history
       → DemuxShown history (job_ending fault) added
-  shown_so (Jobs.Outside call) added history x = tt
-  shown_so (Jobs.Damaged name at) added history x = x
-  shown_so (Jobs.Spent number) added history x = tt
-  shown_so Jobs.NoMemory added history x = tt
+  shown_so (Jobs.Outside call) added history x y = tt
+  shown_so (Jobs.Damaged name at) added history x y = x
+  shown_so (Jobs.Spent number) added history x y = y
+  shown_so Jobs.NoMemory added history x y = tt
 
   came : (result : Result DemuxReport JobFault) (added history : History) → IsAt result added history
       → CausedBy This (ending result) added history
@@ -101,7 +107,7 @@ module _ (kinds : List (List ℕ)) where
     stopped = λ stop. absurd (true≢false (sym stop ∙ at.runs));
   }
   came (Err fault) added history at = record {
-    running = λ r. (at.acts, fault_so fault added history at.last r, at.prints, shown_so fault added history at.shown);
+    running = λ r. (at.acts, fault_so fault added history at.last r, at.prints, shown_so fault added history at.shown at.spent);
     stopped = λ stop. tt;
   }
 
@@ -159,7 +165,7 @@ module _ (kinds : List (List ℕ)) where
   }
   came_legally stamped before named (Err fault) added history is at c = record {
     running = λ r. (
-      (at.acts, fault_so fault added history at.last r, at.prints, shown_so fault added history at.shown),
+      (at.acts, fault_so fault added history at.last r, at.prints, shown_so fault added history at.shown at.spent),
       fits_so stamped before named fault (added ++ history) c r,
     );
     stopped = λ stop. tt;

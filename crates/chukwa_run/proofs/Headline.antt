@@ -1,5 +1,5 @@
 -- The headline follows from what a run leads to and from the laws of all legal histories.
-use Rattle.std.proofs.Common.{◌≡◌, ℕ, zero, suc, List, [], ◌∷◌, ◌++◌, Option, refl, sym, subst, ap, ◌∙◌, append_assoc, arith}
+use Rattle.std.proofs.Common.{◌≡◌, ℕ, zero, suc, List, ◌∷◌, ◌++◌, Option, refl, sym, subst, ap, ◌∙◌, append_assoc, arith}
 use Rattle.std.proofs.lemmas.Option.{same_Some}
 use Rattle.chk_site.specs.History.{History}
 use Rattle.chk_site.specs.Site.{Adds}
@@ -11,10 +11,10 @@ use Rattle.chk_world.specs.Rules.{Legal}
 use Rattle.chk_world.proofs.AcknowledgedSaved.{law_covered}
 use Rattle.chk_world.proofs.Fronts.{law_prefix}
 use Rattle.chk_world.proofs.Reports.{reports_are_true}
-use Rattle.chk_words.specs.Commands.{Asked, RoundAsked, Round, Agent, Collector, Drain, Archive, Demux, Salvage, Load, Udp, Subscribe}
+use Rattle.chk_words.specs.Commands.{Asked, RoundAsked, Round, Agent, Collector, Drain, Archive, Demux, Salvage, Load, Udp, Subscribe, Join}
 use Rattle.chk_words.specs.Endings.{ending_status}
 use Rattle.chk_words.specs.declared.endings.Ending.{Ending}
-use Rattle.chk_words.specs.declared.endings.Ending.TheVariants.{Outside, NoMemory, Damaged, Length, Growing, Unclosed, Shrank, Spent, Refused}
+use Rattle.chk_words.specs.declared.endings.Ending.TheVariants.{Outside, NoMemory, Damaged, Length, Growing, Unclosed, Shrank, Spent, Refused, Differ}
 use Rattle.chukwa_run.specs.Endings.{Ended, done, ended, stopped}
 use Rattle.chukwa_run.specs.Headline.{ArchivesAreFronts, Headline, IfRoundDone, ReportsCover, RoundIsWhole}
 use Rattle.chukwa_run.specs.Processes.{RunSide}
@@ -22,11 +22,7 @@ use Rattle.chukwa_run.specs.RoundRuns.{RoundWhole}
 use Rattle.chukwa_run.specs.Runs.{Begins, Ends}
 use Rattle.chukwa_run.specs.Showing.{Shows}
 use Rattle.chukwa_run.specs.Whole.{Whole}
-
-legal_front : (stamped : List (List ℕ)) (later front : History) → Legal stamped (later ++ front)
-    → Legal stamped front
-legal_front stamped [] front legal = legal
-legal_front stamped (step ∷ later) front legal = legal_front stamped later front legal.0
+use Rattle.chk_world.proofs.Rounds.{legal_front}
 
 fronts : (stamped : List (List ℕ)) (history : History) → Legal stamped history
     → ArchivesAreFronts history
@@ -75,6 +71,7 @@ not_zero (Unclosed name) is = omega (arith, is)
 not_zero (Shrank path had has) is = omega (arith, is)
 not_zero (Spent n) is = omega (arith, is)
 not_zero (Refused code) is = omega (arith, is)
+not_zero (Differ source kind stream at) is = omega (arith, is)
 
 -- the status 0 says that all was done
 all_done : {Done : History → Type 0} {Shown : Ending → History → Type 0} {added earlier : History}
@@ -98,6 +95,7 @@ if_round stamped (Salvage file) status earlier added x = tt
 if_round stamped (Load lines) status earlier added x = tt
 if_round stamped (Udp w) status earlier added x = tt
 if_round stamped (Subscribe w) status earlier added x = tt
+if_round stamped (Join w) status earlier added x = tt
 
 pub headline : (stamped : List (List ℕ)) (command : Asked) (earlier : History) (status : ℕ)
     {old new : Option History}

@@ -24,4 +24,5 @@ pub mod DrainRun
 pub mod Headline
 pub mod DatagramRun
 pub mod WatchRun
+pub mod JoinRun
 pub mod TeeReading

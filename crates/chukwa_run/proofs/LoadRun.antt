@@ -19,7 +19,8 @@ use Rattle.chk_load_run.specs.Loads.{AfterLoad, AppendedSo, EndsRunning, LoadDon
 use Rattle.chk_load_run.specs.Processes.{IsLoadRun}
 use Rattle.chk_words.specs.declared.endings.Ending.{Ending}
 use Rattle.chk_words.specs.Commands.{Load}
-use Rattle.chukwa_run.specs.Processes.{RunSide, acting_for, chukwa, started_by}
+use Rattle.chukwa_run.specs.Processes.{RunSide, acting_for, started_by}
+use Rattle.chk_load_run.specs.Processes.{chukwa}
 use Rattle.chukwa_run.specs.Whole.{Whole}
 use Rattle.chukwa_run.specs.Showing.{Shows}
 use Rattle.chukwa_run.specs.Loading.{IsLoadEnding, IsRoundEnding, IsRoundOfLoad, LoadCut, LoadFault, LoadFits, LoadedOnce}

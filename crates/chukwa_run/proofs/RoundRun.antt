@@ -20,7 +20,8 @@ use Rattle.chk_words.specs.Commands.{RoundAsked}
 use Rattle.chk_words.specs.declared.endings.Ending.{Ending}
 use Rattle.chukwa_run.specs.Causes.{EndingCause}
 use Rattle.chk_words.specs.Commands.{Round}
-use Rattle.chukwa_run.specs.Processes.{RunSide, acting_for, chukwa, started_by}
+use Rattle.chukwa_run.specs.Processes.{RunSide, acting_for, started_by}
+use Rattle.chk_load_run.specs.Processes.{chukwa}
 use Rattle.chukwa_run.specs.RoundRuns.{AreWordsOf, IsFaultEnding, IsRoundEnding, RoundCut, RoundFits, RoundScript}
 use Rattle.chukwa_run.specs.Runs.{Begins, CameTo, CausedBy, EndsWith}
 use Rattle.chukwa_run.specs.Showing.{Shows}

@@ -13,7 +13,8 @@ use Rattle.chukwa_salvage.specs.declared.fault.SalvageFault.TheVariants as Salva
 use Rattle.chukwa_salvage.specs.Printing.{PrintsFile, LooksOrPrints, FailsLast, EndsRunning}
 use Rattle.chk_words.specs.Commands.{Salvage}
 use Rattle.chk_words.specs.declared.endings.Ending.{Ending}
-use Rattle.chukwa_run.specs.Processes.{chukwa, acting_for, RunSide}
+use Rattle.chukwa_run.specs.Processes.{acting_for, RunSide}
+use Rattle.chk_load_run.specs.Processes.{chukwa}
 use Rattle.chukwa_run.specs.Whole.{ReadsOrPrints, AreSalvageActs, Whole}
 use Rattle.chukwa_run.specs.Showing.{SalvageCut, Shows}
 use Rattle.chukwa_run.specs.Causes.{IsEndingOf}

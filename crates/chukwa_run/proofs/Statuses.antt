@@ -13,12 +13,25 @@ use Rattle.chk_heads.specs.declared.fault.JobFault.{JobFault}
 use Rattle.chk_heads.specs.declared.fault.JobFault.TheVariants as jobs
 use Rattle.chk_sink.specs.declared.fault.SinkFault.{SinkFault}
 use Rattle.chk_sink.specs.declared.fault.SinkFault.TheVariants as sinks
+use Rattle.chk_join.specs.declared.fault.JoinFault.{JoinFault}
+use Rattle.chk_join.specs.declared.fault.JoinFault.TheVariants as joins
+use Rattle.chk_load_run.specs.declared.ends.LoadEnd.{LoadEnd}
+use Rattle.chk_load_run.specs.declared.ends.LoadEnd.TheVariants as loads
+use Rattle.chk_round.specs.declared.faults.RoundFault.{RoundFault}
+use Rattle.chk_round.specs.declared.faults.RoundFault.TheVariants as rounds
+use Rattle.chk_round_run.specs.declared.ends.RoundEnd.{RoundEnd}
+use Rattle.chk_round_run.specs.declared.ends.RoundEnd.TheVariants.{Fault, Unclosed as FoundUnclosed}
 use Rattle.chk_site.specs.History.{History}
-use Rattle.chk_words.specs.Commands.{Asked, RoundAsked, AgentAsked, CollectorAsked, DrainAsked, Round, Agent, Collector, Drain, Archive, Demux, Salvage, Load, Udp, Subscribe}
+use Rattle.chk_words.specs.Joining.{JoinAsked}
+use Rattle.chukwa_run.specs.Joining.{join_ending}
+use Rattle.chukwa_run.specs.Loading.{IsLoadEnding, IsRoundEnding}
+use Rattle.chukwa_run.specs.RoundRuns.{IsFaultEnding, IsRoundEnding as IsEndingOfRound}
+use Rattle.chk_words.specs.Commands.{Asked, RoundAsked, AgentAsked, CollectorAsked, DrainAsked, Round, Agent, Collector, Drain, Archive, Demux, Salvage, Load, Udp, Subscribe, Join}
 use Rattle.chk_words.specs.Endings.{ending_status}
 use Rattle.chk_words.specs.declared.endings.Ending.{Ending}
-use Rattle.chk_words.specs.declared.endings.Ending.TheVariants.{Outside, NoMemory, Damaged, Length, Growing, Unclosed, Shrank, Spent, Refused}
-use Rattle.chukwa_run.specs.Causes.{IsAgentEnding, IsDrainEnding, IsEndingOf, job_ending, sink_ending}
+use Rattle.chk_words.specs.declared.endings.Ending.TheVariants.{NoMemory}
+use Rattle.chukwa_run.specs.Causes.{IsAgentEnding, IsDrainEnding, IsEndingOf, sink_ending}
+use Rattle.chukwa_run.specs.JobFaults.{job_ending}
 use Rattle.chukwa_run.specs.Saying.{SaysEnding}
 use Rattle.chukwa_run.specs.Statuses.{HasItsStatus, statuses_of}
 use Rattle.chukwa_salvage.specs.declared.fault.SalvageFault.{SalvageFault}
@@ -27,19 +40,54 @@ use Rattle.chukwa_salvage.specs.declared.fault.SalvageFault.TheVariants as salva
 -- ---- by command
 
 -- a round and a load have all
-pub load_status : (lines : ℕ) (e : Ending) → HasItsStatus (Load lines) (Err e)
-load_status lines (Outside call) = refl
-load_status lines NoMemory = refl
-load_status lines (Damaged name at) = refl
-load_status lines (Length stem got want) = refl
-load_status lines (Growing path reads) = refl
-load_status lines (Unclosed name) = refl
-load_status lines (Shrank path had is) = refl
-load_status lines (Spent number) = refl
-load_status lines (Refused code) = refl
+round_of_load : (lines : ℕ) (fault : RoundFault) (e : Ending) → IsRoundEnding fault e
+    → HasItsStatus (Load lines) (Err e)
+round_of_load lines (rounds.Outside call) e is = rw is refl
+round_of_load lines rounds.NoMemory e is = rw is refl
+round_of_load lines (rounds.Damaged name at) e is = rw is refl
+round_of_load lines (rounds.Checkpoint at) e (inl is) = rw is refl
+round_of_load lines (rounds.Checkpoint at) e (inr is) = rw is refl
+round_of_load lines (rounds.Length stem got want) e is = rw is refl
+round_of_load lines (rounds.Growing path reads) e is = rw is refl
+round_of_load lines (rounds.Shrank path had has) e is = rw is refl
+round_of_load lines (rounds.Spent number) e is = rw is refl
+round_of_load lines (rounds.Refused code) e is = rw is refl
 
-pub round_status : (w : RoundAsked) (e : Ending) → HasItsStatus (Round w) (Err e)
-round_status w e = load_status 0 e
+pub load_status : (lines : ℕ) (end : LoadEnd) (e : Ending) → IsLoadEnding end e
+    → HasItsStatus (Load lines) (Err e)
+load_status lines (loads.Outside call) e is = rw is refl
+load_status lines loads.NoMemory e is = rw is refl
+load_status lines (loads.Round fault) e is = round_of_load lines fault e is
+load_status lines (loads.Unclosed name) e is = rw is refl
+
+fault_of_round : (w : RoundAsked) (source : List ℕ) (fault : RoundFault) (e : Ending)
+    → IsFaultEnding source fault e
+    → HasItsStatus (Round w) (Err e)
+fault_of_round w source (rounds.Outside call) e is = rw is refl
+fault_of_round w source rounds.NoMemory e is = rw is refl
+fault_of_round w source (rounds.Damaged name at) e is = rw is refl
+fault_of_round w source (rounds.Checkpoint at) e (inl is) = rw is refl
+fault_of_round w source (rounds.Checkpoint at) e (inr is) = rw is refl
+fault_of_round w source (rounds.Length stem got want) e is = rw is refl
+fault_of_round w source (rounds.Growing path reads) e is = rw is refl
+fault_of_round w source (rounds.Shrank path had has) e is = rw is refl
+fault_of_round w source (rounds.Spent number) e is = rw is refl
+fault_of_round w source (rounds.Refused code) e is = rw is refl
+
+pub round_status : (w : RoundAsked) (source : List ℕ) (end : RoundEnd) (e : Ending)
+    → IsEndingOfRound source end e
+    → HasItsStatus (Round w) (Err e)
+round_status w source (Fault fault) e is = fault_of_round w source fault e is
+round_status w source (FoundUnclosed name) e is = rw is refl
+
+pub join_status : (w : JoinAsked) (fault : JoinFault)
+    → HasItsStatus (Join w) (Err (join_ending fault))
+join_status w (joins.Job (jobs.Outside call)) = refl
+join_status w (joins.Job (jobs.Damaged name at)) = refl
+join_status w (joins.Job (jobs.Spent number)) = refl
+join_status w (joins.Job jobs.NoMemory) = refl
+join_status w (joins.Differ source kind name at) = refl
+join_status w joins.NoMemory = refl
 
 pub agent_status : (w : AgentAsked) (fault : RunFault) (e : Ending) → IsAgentEnding w fault e → HasItsStatus (Agent w) (Err e)
 agent_status w (runs.Outside call) e is = rw is refl
@@ -111,3 +159,4 @@ unread_status (Salvage file) = refl
 unread_status (Load lines) = refl
 unread_status (Udp w) = refl
 unread_status (Subscribe w) = refl
+unread_status (Join w) = refl

@@ -9,8 +9,8 @@ use Rattle.chk_replace.specs.Load.{ReadInTurn, IsLook}
 use Rattle.chk_agent_run.specs.Initial.{LooksAt}
 use Rattle.chk_tees.specs.declared.Subscriber.{Subscriber}
 use Rattle.chk_words.specs.declared.endings.Ending.{Ending}
-use Rattle.chk_words.specs.declared.endings.Ending.TheVariants.{Outside, NoMemory, Damaged, Length, Growing, Unclosed, Shrank, Spent, Refused}
-use Rattle.chukwa_run.specs.Processes.{chukwa}
+use Rattle.chk_words.specs.declared.endings.Ending.TheVariants.{Outside, NoMemory, Damaged, Length, Growing, Unclosed, Shrank, Spent, Refused, Differ}
+use Rattle.chk_load_run.specs.Processes.{chukwa}
 use Rattle.chukwa_run.specs.Teeing.{TeesRead, named, damaged, wanting, text_in, IsNamedIn, ReadFailsLast, ReadCause}
 
 -- the file was read to its end, and its text names these
@@ -29,6 +29,7 @@ named_so given (Err (Unclosed name)) reads is = absurd is
 named_so given (Err (Shrank path had has)) reads is = absurd is
 named_so given (Err (Spent n)) reads is = absurd is
 named_so given (Err (Refused code)) reads is = absurd is
+named_so given (Err (Differ source kind stream at)) reads is = absurd is
 
 -- then no call failed
 pub named_last : {P : History → History → Type 0} (file text : List ℕ)
@@ -46,6 +47,7 @@ named_last file text (Err (Unclosed name)) told is = absurd is
 named_last file text (Err (Shrank path had has)) told is = absurd is
 named_last file text (Err (Spent n)) told is = absurd is
 named_last file text (Err (Refused code)) told is = absurd is
+named_last file text (Err (Differ source kind stream at)) told is = absurd is
 
 pub named_cause : (file text : List ℕ) (before now : ℕ) (result : Result (List Subscriber) Ending)
     → now ≡ before → IsNamedIn file text result → ReadCause before now result
@@ -59,6 +61,7 @@ named_cause file text before now (Err (Unclosed name)) same is = absurd is
 named_cause file text before now (Err (Shrank path had has)) same is = absurd is
 named_cause file text before now (Err (Spent n)) same is = absurd is
 named_cause file text before now (Err (Refused code)) same is = absurd is
+named_cause file text before now (Err (Differ source kind stream at)) same is = absurd is
 
 -- each step is a read of the file by the writer, or one of others
 every_look : (who : Who) (file : List ℕ) → who ≡ chukwa → (added history : History)

@@ -13,8 +13,6 @@ use Rattle.chukwa_salvage.specs.declared.fault.SalvageFault.{SalvageFault}
 use Rattle.chukwa_salvage.specs.declared.fault.SalvageFault.TheVariants as Salvage
 use Rattle.chk_sink.specs.declared.fault.SinkFault.{SinkFault}
 use Rattle.chk_sink.specs.declared.fault.SinkFault.TheVariants as Sinks
-use Rattle.chk_heads.specs.declared.fault.JobFault.{JobFault}
-use Rattle.chk_heads.specs.declared.fault.JobFault.TheVariants as Jobs
 use Rattle.chk_words.specs.declared.endings.Ending.{Ending}
 use Rattle.chk_words.specs.declared.endings.Ending.TheVariants.{Outside, NoMemory, Damaged, Length, Growing, Shrank, Spent, Refused}
 
@@ -35,13 +33,6 @@ sink_ending (Sinks.Outside call) = Outside call
 sink_ending (Sinks.Damaged name at) = Damaged name at
 sink_ending (Sinks.Spent born) = Spent born
 sink_ending Sinks.NoMemory = NoMemory
-
--- the same fault of the job
-abbrev pub job_ending : JobFault → Ending
-job_ending (Jobs.Outside call) = Outside call
-job_ending (Jobs.Damaged name at) = Damaged name at
-job_ending (Jobs.Spent number) = Spent number
-job_ending Jobs.NoMemory = NoMemory
 
 -- The same fault of an agent of this initial file and this source. Where there is no memory to name
 -- the file, it is want of memory.

@@ -11,7 +11,7 @@ use Rattle.chk_load_run.specs.declared.ends.LoadEnd.TheVariants as loads
 use Rattle.chk_load_run.specs.Loads.{LoadDone}
 use Rattle.chk_drain_run.specs.declared.faults.DrainFault.TheVariants as drains
 use Rattle.chk_words.specs.Commands.{RoundAsked, AgentAsked, CollectorAsked, DrainAsked}
-use Rattle.chk_words.specs.Commands.{Asked, Round, Agent, Collector, Drain, Archive, Demux, Salvage, Load, Udp, Subscribe}
+use Rattle.chk_words.specs.Commands.{Asked, Round, Agent, Collector, Drain, Archive, Demux, Salvage, Load, Udp, Subscribe, Join}
 use Rattle.chk_words.specs.Endings.{ending_status, ending_line}
 use Rattle.chk_words.specs.declared.endings.Ending.{Ending}
 use Rattle.chk_words.specs.declared.endings.Ending.TheVariants.{Damaged, Length, Growing, Unclosed, Spent, Refused}
@@ -19,6 +19,7 @@ use Rattle.chukwa_run.specs.Demuxing.{DemuxFits}
 use Rattle.chukwa_run.specs.Draining.{DrainScript}
 use Rattle.chukwa_run.specs.Endings.{EndedBy}
 use Rattle.chukwa_run.specs.Datagrams.{LeftOfUdp}
+use Rattle.chukwa_run.specs.Joining.{LeftOfJoin}
 use Rattle.chukwa_run.specs.Loading.{IsRoundOfLoad}
 use Rattle.chukwa_run.specs.RoundRuns.{IsRoundCut, RoundScript}
 use Rattle.chukwa_run.specs.Showing.{IsBadLine, IsBadDrainLine, ArchiveFits, CollectorFits, ShowsBadHeader}
@@ -94,8 +95,8 @@ LeftOfLoad lines earlier e added = ⊥
 -- ---- all of them
 
 -- The ending may still come, and this shows it. So no failed call ends a run here, and no log that is
--- shorter than what was read of it; a file that isn't in its grammar ends only an agent, a drain or a
--- salvage, and refusals only a drain.
+-- shorter than what was read of it; a file that isn't in its grammar ends only an agent, a drain, a
+-- salvage or a join, and refusals only a drain.
 abbrev pub LeftOver : Asked → History → Ending → History → Type 0
 LeftOver (Round w) earlier e added = LeftOfRound w earlier e added
 LeftOver (Agent w) earlier e added = LeftOfAgent w earlier e added
@@ -107,6 +108,7 @@ LeftOver (Salvage file) earlier e added = LeftOfSalvage file earlier e added
 LeftOver (Load lines) earlier e added = LeftOfLoad lines earlier e added
 LeftOver (Udp w) earlier e added = LeftOfUdp w earlier e added
 LeftOver (Subscribe w) earlier e added = ⊥
+LeftOver (Join w) earlier e added = LeftOfJoin w earlier e added
 
 -- All was done, with the status 0; or there was no memory, with the status 4; or an ending that is
 -- left over came in the end, with its status, and behind it at most its line was said.

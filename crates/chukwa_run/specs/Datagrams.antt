@@ -17,7 +17,8 @@ use Rattle.chk_words.specs.Datagrams.{UdpAsked}
 use Rattle.chk_words.specs.declared.endings.Ending.{Ending}
 use Rattle.chk_words.specs.declared.endings.Ending.TheVariants.{Outside, NoMemory, Damaged, Spent}
 use Rattle.chukwa_run.specs.declared.datagrams.DatagramSetting.{DatagramSetting}
-use Rattle.chukwa_run.specs.Processes.{the_writer, chukwa}
+use Rattle.chukwa_run.specs.Processes.{the_writer}
+use Rattle.chk_load_run.specs.Processes.{chukwa}
 
 -- the door at which datagrams for this address are taken
 abbrev pub door_of : List ℕ → List ℕ

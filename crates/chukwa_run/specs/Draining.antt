@@ -9,7 +9,8 @@ use Rattle.chk_drain_run.specs.Done.{DrainDone}
 use Rattle.chk_drain_run.specs.Drains.{HasDrained}
 use Rattle.chk_words.specs.Commands.{DrainAsked}
 use Rattle.chukwa_run.specs.declared.draining.Setting.{Setting}
-use Rattle.chukwa_run.specs.Processes.{the_agent, chukwa}
+use Rattle.chukwa_run.specs.Processes.{the_agent}
+use Rattle.chk_load_run.specs.Processes.{chukwa}
 
 -- the ring stands at its first address
 abbrev pub ring_at : List (List ℕ) → Turns

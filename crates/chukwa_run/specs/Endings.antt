@@ -6,7 +6,7 @@ use Rattle.chk_site.specs.History.{History, is_stopped}
 use Rattle.chk_site.specs.Runs.{own_acts}
 use Rattle.chk_words.specs.declared.endings.Ending.{Ending}
 use Rattle.chk_words.specs.Endings.{ending_status, ending_line}
-use Rattle.chukwa_run.specs.Processes.{chukwa}
+use Rattle.chk_load_run.specs.Processes.{chukwa}
 
 -- the act says this line as the writer, also where that fails
 pub record IsSaying (line : List ℕ) (act : Act) : Type 0 where

@@ -1,4 +1,3 @@
-pub mod Asking
 pub mod Processes
 pub mod Endings
 pub mod RoundRuns
@@ -8,6 +7,7 @@ pub mod Draining
 pub mod Whole
 pub mod Showing
 pub mod Complete
+pub mod JobFaults
 pub mod Causes
 pub mod Saying
 pub mod Statuses
@@ -16,4 +16,5 @@ pub mod Headline
 pub mod Working
 pub mod Datagrams
 pub mod Subscribing
+pub mod Joining
 pub mod Teeing

@@ -13,7 +13,7 @@ use Rattle.chk_load_run.specs.declared.ends.LoadReport.{LoadReport}
 use Rattle.chk_load_run.specs.Loads.{EndsAsRound, LoadDone, LoadsBy, RoundEndsSo, summary_line}
 use Rattle.chk_load_run.specs.Pieces.{AppendsFront, HasAppended, done_print, of_writer}
 use Rattle.chk_words.specs.declared.endings.Ending.{Ending}
-use Rattle.chk_words.specs.declared.endings.Ending.TheVariants.{Outside, NoMemory, Damaged, Length, Growing, Unclosed, Shrank, Spent, Refused}
+use Rattle.chk_words.specs.declared.endings.Ending.TheVariants.{Outside, NoMemory, Damaged, Length, Growing, Unclosed, Shrank, Spent, Refused, Differ}
 
 -- The writer appended just the generated lines to the three logs and printed just this summary, and
 -- all other calls were those of the round: a done round of these logs behind the appends, with its
@@ -65,6 +65,7 @@ LoadFault lines earlier (Spent number) added =
     IsRoundOfLoad lines (rounds.Spent number) earlier added
 LoadFault lines earlier (Refused code) added =
     IsRoundOfLoad lines (rounds.Refused code) earlier added
+LoadFault lines earlier (Differ source kind stream at) added = ⊥
 
 -- no summary was printed
 pub record LoadCut (lines : ℕ) (earlier : History) (e : Ending) (added : History) : Type 0 where

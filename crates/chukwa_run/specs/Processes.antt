@@ -6,11 +6,8 @@ use Rattle.chk_site.specs.Runs.{Side}
 use Rattle.chk_world.specs.Sight.{job}
 use Rattle.chk_world.specs.Together.{Together}
 use Rattle.chk_round.specs.Processes.{processes}
-use Rattle.chk_words.specs.Commands.{Asked, Round, Agent, Collector, Drain, Archive, Demux, Salvage, Load, Udp, Subscribe}
-
--- what this program does as a writer: it prints, and reads the files that the words name
-abbrev pub chukwa : Who
-chukwa = record { role = Writer; name = codes "chukwa" }
+use Rattle.chk_words.specs.Commands.{Asked, Round, Agent, Collector, Drain, Archive, Demux, Salvage, Load, Udp, Subscribe, Join}
+use Rattle.chk_load_run.specs.Processes.{chukwa}
 
 abbrev pub the_agent : List ℕ → Who
 the_agent source = record { role = agent_role; name = source }
@@ -39,6 +36,7 @@ started_by (Salvage file) = []
 started_by (Load lines) = processes (codes "load")
 started_by (Udp w) = []
 started_by (Subscribe w) = []
+started_by (Join w) = job ∷ []
 
 -- a writer of datagrams and a watcher act too, though nothing is supposed of others on their account
 abbrev pub acting_first : Asked → List Who

@@ -12,7 +12,7 @@ use Rattle.chk_round_run.specs.declared.ends.RoundEnd.TheVariants.{Fault, Unclos
 use Rattle.chk_round_run.specs.Running.{DoneAndTold, EndsByCall, RunsRound}
 use Rattle.chk_words.specs.Commands.{RoundAsked}
 use Rattle.chk_words.specs.declared.endings.Ending.{Ending}
-use Rattle.chk_words.specs.declared.endings.Ending.TheVariants.{Outside, NoMemory, Damaged, Length, Growing, Unclosed, Shrank, Spent, Refused}
+use Rattle.chk_words.specs.declared.endings.Ending.TheVariants.{Outside, NoMemory, Damaged, Length, Growing, Unclosed, Shrank, Spent, Refused, Differ}
 
 -- these are the words, owned
 pub record AreWordsOf (w : RoundAsked) (given : RoundWords) : Type 0 where
@@ -71,6 +71,7 @@ RoundCut w earlier (Unclosed name) added = RoundScript w (Err (FoundUnclosed nam
 RoundCut w earlier (Shrank path had has) added = IsRoundCut w (rounds.Shrank path had has) earlier added
 RoundCut w earlier (Spent number) added = IsRoundCut w (rounds.Spent number) earlier added
 RoundCut w earlier (Refused code) added = IsRoundCut w (rounds.Refused code) earlier added
+RoundCut w earlier (Differ source kind stream at) added = ⊥
 
 -- In a legal history nothing of its own is damaged, no log is shorter than what was read of it, and the
 -- agent gets the replies that were made. Where a number is spent it is that of the collector's starts,

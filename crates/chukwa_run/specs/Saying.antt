@@ -4,7 +4,7 @@ use Rattle.chk_site.specs.declared.acts.Call.TheVariants.{Say}
 use Rattle.chk_site.specs.declared.acts.CallFault.{CallFault}
 use Rattle.chk_site.specs.History.{History}
 use Rattle.chk_site.specs.Site.{Adds, asked, answered, plain, Calls}
-use Rattle.chukwa_run.specs.Processes.{chukwa}
+use Rattle.chk_load_run.specs.Processes.{chukwa}
 use Rattle.chk_words.specs.declared.endings.Ending.{Ending}
 use Rattle.chk_words.specs.declared.endings.Ending.TheVariants.{Outside}
 use Rattle.chk_words.specs.Endings.{ending_status, ending_line}

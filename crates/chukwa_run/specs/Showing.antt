@@ -15,7 +15,7 @@ use Rattle.chk_world.specs.Committed.{number_in}
 use Rattle.chk_world.specs.Names.{BornFile, CheckFile, file, spell}
 use Rattle.chk_archive.specs.Written.{LacksNumbers}
 use Rattle.chk_archive.specs.Shown.{IsDamage as IsArchiveDamage, IsSpent as IsArchiveSpent}
-use Rattle.chk_demux.specs.Shown.{IsDamage as IsDemuxDamage}
+use Rattle.chk_demux.specs.Shown.{IsDamage as IsDemuxDamage, IsSpent as IsDemuxSpent}
 use Rattle.chk_sink.specs.declared.fault.SinkFault.{SinkFault}
 use Rattle.chk_sink.specs.declared.fault.SinkFault.TheVariants as Sinks
 use Rattle.chk_sink.specs.States.{last_number}
@@ -25,10 +25,11 @@ use Rattle.chk_drain.specs.Parts.{is_talk}
 use Rattle.chk_drain_run.specs.declared.faults.DrainFault.TheVariants as drains
 use Rattle.chk_words.specs.Commands.{AgentAsked, CollectorAsked, DrainAsked}
 use Rattle.chukwa_salvage.specs.Printing.{bytes_or_none, said}
-use Rattle.chk_words.specs.Commands.{Asked, Round, Agent, Collector, Drain, Archive, Demux, Salvage, Load, Udp, Subscribe}
+use Rattle.chk_words.specs.Commands.{Asked, Round, Agent, Collector, Drain, Archive, Demux, Salvage, Load, Udp, Subscribe, Join}
 use Rattle.chukwa_run.specs.Demuxing.{AreDemuxActs, DemuxedAtMost, DemuxFits}
 use Rattle.chukwa_run.specs.Datagrams.{UdpCut}
 use Rattle.chukwa_run.specs.Subscribing.{SubscribeCut}
+use Rattle.chukwa_run.specs.Joining.{JoinCut}
 use Rattle.chukwa_run.specs.Teeing.{TeesRead}
 use Rattle.chk_tees.specs.declared.Subscriber.{Subscriber}
 use Rattle.chukwa_run.specs.Loading.{LoadCut, LoadFits}
@@ -181,6 +182,7 @@ ArchiveFits history e = Unit {0}
 -- the same of a demux run
 abbrev pub DemuxShown : History → Ending → History → Type 0
 DemuxShown earlier (Damaged name at) added = IsDemuxDamage name at added earlier
+DemuxShown earlier (Spent n) added = (n ≡ 2 ^ 63 - 1) × IsDemuxSpent added earlier
 DemuxShown earlier e added = Unit {0}
 
 -- it made only calls of a demux run and of its print, and printed at most one line
@@ -210,6 +212,7 @@ IsOf (Salvage file) earlier e added = AreSalvageActs file (own_acts added) × Sa
 IsOf (Load lines) earlier e added = LoadCut lines earlier e added
 IsOf (Udp w) earlier e added = UdpCut w earlier e added
 IsOf (Subscribe w) earlier e added = SubscribeCut w earlier e added
+IsOf (Join w) earlier e added = JoinCut w earlier e added
 
 -- and what it shows under the suppositions of a run
 abbrev pub Shows : Asked → History → Ending → History → Type 0
@@ -223,3 +226,4 @@ Shows (Salvage file) earlier e added = SalvageCut file earlier e added
 Shows (Load lines) earlier e added = LoadCut lines earlier e added × LoadFits lines earlier e added
 Shows (Udp w) earlier e added = UdpCut w earlier e added
 Shows (Subscribe w) earlier e added = SubscribeCut w earlier e added
+Shows (Join w) earlier e added = JoinCut w earlier e added

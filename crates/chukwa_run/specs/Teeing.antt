@@ -11,7 +11,7 @@ use Rattle.chk_tees.specs.declared.Subscriber.{Subscriber}
 use Rattle.chk_tees.specs.Subscribers.{subscribers_in}
 use Rattle.chk_words.specs.declared.endings.Ending.{Ending}
 use Rattle.chk_words.specs.declared.endings.Ending.TheVariants.{Outside, NoMemory, Damaged}
-use Rattle.chukwa_run.specs.Processes.{chukwa}
+use Rattle.chk_load_run.specs.Processes.{chukwa}
 
 -- the bytes of a file; one that isn't there counts as empty
 abbrev pub text_in : Option (List ℕ) → List ℕ

@@ -26,14 +26,16 @@ use Rattle.chk_prints.specs.Printing.{by, printed}
 use Rattle.chk_archive_run.specs.Telling.{ArchivesAndTells, report_lines}
 use Rattle.chk_words.specs.Commands.{AgentAsked, CollectorAsked}
 use Rattle.chukwa_salvage.specs.Printing.{IsWhole, bytes_or_none, said}
-use Rattle.chk_words.specs.Commands.{Asked, Round, Agent, Collector, Drain, Archive, Demux, Salvage, Load, Udp, Subscribe}
+use Rattle.chk_words.specs.Commands.{Asked, Round, Agent, Collector, Drain, Archive, Demux, Salvage, Load, Udp, Subscribe, Join}
 use Rattle.chukwa_run.specs.Demuxing.{DemuxedOnce, DemuxWhole}
 use Rattle.chukwa_run.specs.Loading.{LoadDid, LoadWhole}
 use Rattle.chukwa_run.specs.RoundRuns.{RoundScript, RoundWhole}
-use Rattle.chukwa_run.specs.Processes.{the_agent, the_collector, chukwa}
+use Rattle.chukwa_run.specs.Processes.{the_agent, the_collector}
+use Rattle.chk_load_run.specs.Processes.{chukwa}
 use Rattle.chukwa_run.specs.Draining.{DrainScript, DrainWhole}
 use Rattle.chukwa_run.specs.Datagrams.{UdpWhole}
 use Rattle.chukwa_run.specs.Subscribing.{SubscribeWhole}
+use Rattle.chukwa_run.specs.Joining.{JoinWhole}
 use Rattle.chukwa_run.specs.Teeing.{TeesRead}
 use Rattle.chk_tees.specs.declared.Subscriber.{Subscriber}
 
@@ -126,6 +128,7 @@ Whole stamped (Salvage file) earlier added = SalvagePrinted file earlier added
 Whole stamped (Load lines) earlier added = LoadWhole lines earlier added
 Whole stamped (Udp w) earlier added = UdpWhole w earlier added
 Whole stamped (Subscribe w) earlier added = SubscribeWhole w earlier added
+Whole stamped (Join w) earlier added = JoinWhole w earlier added
 
 -- what it did by its own acts: a salvage only reads its file and prints
 abbrev pub Did : Asked → History → History → Type 0
@@ -139,3 +142,4 @@ Did (Salvage file) earlier added = AreSalvageActs file (own_acts added) × Salva
 Did (Load lines) earlier added = LoadDid lines earlier added
 Did (Udp w) earlier added = UdpWhole w earlier added
 Did (Subscribe w) earlier added = SubscribeWhole w earlier added
+Did (Join w) earlier added = JoinWhole w earlier added

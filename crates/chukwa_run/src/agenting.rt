@@ -19,11 +19,11 @@ ghost use Rattle.chukwa_run.specs.Runs.{Begins, EndsWith, CausedBy};
 ghost use Rattle.chukwa_run.specs.Causes.{EndingCause, IsRunEnding, IsDamagedAt};
 ghost use Rattle.chukwa_run.specs.Statuses.{HasItsStatus};
 
-use crate::saying::writer;
-use chk_agent::Rules;
+use chk_agent::{Hashing, Rules};
 use chk_agent_run::{QUEUE, ROWS, RunFault, Work, run_agent};
 use chk_bytes::{NoMemory, Word};
 use chk_failover::Ring;
+use chk_load_run::writer;
 use chk_site::{Role, Site, Who};
 use chk_words::{AgentWords, Ending};
 use std::alloc::Global;
@@ -35,6 +35,7 @@ pub fn run_agent_of<S: Site>(
     alloc: Global,
     site: &mut S,
     given: &AgentWords<'_>,
+    hashing: Hashing,
 ) -> Result<(), Ending>
     requires good { IsGoodAgent (agent_of given.now) }
     ensures told { (stamped : List (List ℕ)) (earlier : History) → Adds (S.told site.old) (S.told site.new)
@@ -59,7 +60,7 @@ pub fn run_agent_of<S: Site>(
     let Ok(work) = work(alloc, given) else {
         return Err(Ending::NoMemory);
     };
-    match run_agent(alloc, site, &who, &writer, ring, rules, &work) {
+    match run_agent(alloc, site, &who, &writer, ring, rules, &work, hashing) {
         Ok(_ended) => Ok(()),
         Err(fault) => Err(ending_of(alloc, given.initial, given.source, fault)),
     }

@@ -1,20 +1,20 @@
 //! The archive job as a command.
 
-ghost use Rattle.std.specs.Prelude.{◌≡◌, ℕ, List, IfOk};
+ghost use Rattle.std.specs.Prelude.{◌≡◌, ℕ, List};
 ghost use Rattle.chk_site.specs.History.{History};
 ghost use Rattle.chk_site.specs.Site.{Adds};
 ghost use Rattle.chk_site.specs.Runs.{Leads};
-ghost use Rattle.chk_world.specs.Sight.{job};
 ghost use Rattle.chk_words.specs.Commands.{Archive};
 ghost use Rattle.chukwa_run.specs.Processes.{RunSide};
 ghost use Rattle.chukwa_run.specs.Runs.{Begins, EndsWith, CausedBy};
-ghost use Rattle.chukwa_run.specs.Causes.{EndingCause, job_ending};
+ghost use Rattle.chukwa_run.specs.Causes.{EndingCause};
+ghost use Rattle.chukwa_run.specs.JobFaults.{job_ending};
 ghost use Rattle.chukwa_run.specs.Statuses.{HasItsStatus};
 
 use chk_archive::JobFault;
 use chk_archive_run::run_archive;
-use chk_bytes::{NoMemory, Word};
-use chk_site::{Role, Site, Who};
+use chk_round::job;
+use chk_site::Site;
 use chk_words::Ending;
 use std::alloc::Global;
 
@@ -33,16 +33,6 @@ pub fn run_job<S: Site>(alloc: Global, site: &mut S) -> Result<(), Ending>
         Ok(_report) => Ok(()),
         Err(fault) => Err(ending_of(fault)),
     }
-}
-
-/// The job.
-pub(crate) fn job(alloc: Global) -> Result<Who, NoMemory>
-    ensures { IfOk result (λ who. who ≡ job) }
-{
-    Ok(Who {
-        role: Role::Job,
-        name: Word::from_text(alloc, "job")?,
-    })
 }
 
 /// The same fault.

@@ -12,8 +12,8 @@ ghost use Rattle.chukwa_run.specs.Processes.{RunSide, the_writer};
 ghost use Rattle.chukwa_run.specs.Runs.{Begins, CausedBy, EndsWith};
 ghost use Rattle.chukwa_run.specs.Statuses.{HasItsStatus};
 
-use crate::saying::writer;
 use chk_bytes::{NoMemory, Word};
+use chk_load_run::writer;
 use chk_site::{Role, Site, Who};
 use chk_udp_run::{Work, run_udp};
 use chk_wahead::WaheadFault;

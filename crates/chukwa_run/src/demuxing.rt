@@ -11,8 +11,9 @@ ghost use Rattle.chukwa_run.specs.Runs.{Begins, EndsWith, CausedBy};
 ghost use Rattle.chukwa_run.specs.Causes.{EndingCause};
 ghost use Rattle.chukwa_run.specs.Statuses.{HasItsStatus};
 
-use crate::archiving::{ending_of, job};
+use crate::archiving::ending_of;
 use chk_demux_run::run_demux;
+use chk_round::job;
 use chk_site::Site;
 use chk_words::Ending;
 use std::alloc::Global;

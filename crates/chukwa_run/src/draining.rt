@@ -17,12 +17,12 @@ ghost use Rattle.chukwa_run.specs.Causes.{EndingCause, IsDrainEnding};
 ghost use Rattle.chukwa_run.specs.Statuses.{HasItsStatus};
 
 use crate::agenting::{agent, ending_of as run_ending, ring, word_if_any};
-use crate::saying::writer;
 use chk_agent::Rules;
 use chk_agent_run::{QUEUE, ROWS};
 use chk_bytes::{NoMemory, Word};
 use chk_drain_run::{DrainFault, Work, run_drain};
 use chk_failover::Ring;
+use chk_load_run::writer;
 use chk_site::{Site, Who};
 use chk_words::{DrainWords, Ending};
 use std::alloc::Global;

@@ -8,6 +8,7 @@ mod commanding;
 mod datagrams;
 mod demuxing;
 mod draining;
+mod joining;
 mod loading;
 mod rounding;
 mod runs;
@@ -17,5 +18,6 @@ mod subscribing;
 mod teeing;
 mod turns;
 
-pub use runs::run;
+pub use chk_agent::Hashing;
+pub use runs::{run, run_with_hasher};
 pub use turns::{agent_turn, collector_turn};

@@ -6,7 +6,7 @@ ghost use Rattle.chk_site.specs.Site.{Adds, Rose};
 ghost use Rattle.chk_site.specs.Runs.{Leads};
 ghost use Rattle.chk_words.specs.Asked.{asked};
 ghost use Rattle.chk_words.specs.Commands.{Asked};
-ghost use Rattle.chukwa_run.specs.Asking.{usage_line};
+ghost use Rattle.chk_words.specs.Usages.{usage_line};
 ghost use Rattle.chukwa_run.specs.Complete.{Completes};
 ghost use Rattle.chukwa_run.specs.Demuxing.{SuitsTypes};
 ghost use Rattle.chukwa_run.specs.Headline.{Headline};
@@ -17,6 +17,7 @@ ghost use Rattle.chukwa_run.specs.Statuses.{statuses_of};
 
 use crate::commanding::run_command;
 use crate::saying::{say_ending, say_usage};
+use chk_agent::Hashing;
 use chk_site::Site;
 use chk_words::{Ending, WordsFault, read_words, usage_of};
 use std::alloc::Global;
@@ -25,9 +26,9 @@ use std::alloc::Global;
 /// which the program ends: 0 where all was done, 2 where the words ask for nothing, 3 where a call on
 /// the outside failed, 4 for want of memory, 5 where a file isn't in its grammar, 6 where something
 /// is pending, 7 where a log is shorter than what was read of it, 8 where a number is the last one
-/// and another was to follow, and 9 where all collectors refused, or a reply inside the process
-/// wasn't the one that was made. Each status but 0 has a line on standard output; where that can't be
-/// printed, the status stays.
+/// and another was to follow, 9 where all collectors refused, or a reply inside the process
+/// wasn't the one that was made, and 11 where two archives differ. Each status but 0 has a line on
+/// standard output; where that can't be printed, the status stays.
 ///
 /// `round [--class CLASS] [--reads N] SOURCE TYPE LOG...` runs the agent SOURCE, the collector `c1` and the
 /// archive job once in one process. Each LOG that isn't live is added, each live log is read until it gives nothing, and what
@@ -72,7 +73,47 @@ use std::alloc::Global;
 /// `subscribe [--turns N] ADDRESS` takes messages of tees at ADDRESS, each turn at most one, within 1,000 ms. It prints
 /// `chunk <stem> <offset> <source> <type> <name> <seq> <length>` for each chunk that lies above all those before it of its
 /// collector, so none twice, and at its end `subscribe chunks <printed> refused <messages>`.
+///
+/// `join LEFT RIGHT` joins the archives in the folders LEFT and RIGHT into the folder `joined`: of
+/// each stream it takes the records of the one that has more of it. It prints `join streams <n>
+/// bytes <n>`. Where both have a stream and differ in it, it ends with 11 and `differ <source>
+/// <type> <name> <at>`.
 pub fn run<'a, S: Site>(alloc: Global, site: &mut S, words: &'a [&'a str]) -> u8
+    ensures whole { (stamped : List (List ℕ)) (command : Asked) (earlier : History)
+        → SuitsTypes stamped command
+        → asked (map (λ w. w.now) words.now) ≡ Some command → Adds (S.told site.old) (S.told site.new)
+        (Leads (RunSide stamped command) (Begins stamped earlier) (Ends stamped command result earlier)) }
+    ensures headline { (stamped : List (List ℕ)) (command : Asked) (earlier : History)
+        → SuitsTypes stamped command
+        → asked (map (λ w. w.now) words.now) ≡ Some command → Adds (S.told site.old) (S.told site.new)
+        (Leads (RunSide stamped command) (Begins stamped earlier) (Headline command result earlier)) }
+    ensures causes { (command : Asked) → asked (map (λ w. w.now) words.now) ≡ Some command
+        → Adds (S.told site.old) (S.told site.new) (Caused command result) }
+    ensures usage { result ≡ 2 → asked (map (λ w. w.now) words.now) ≡ None }
+    ensures unasked { asked (map (λ w. w.now) words.now) ≡ None → Adds (S.told site.old) (S.told site.new)
+        (SaysUsage (usage_line (map (λ w. w.now) words.now)) result) }
+    ensures outside_cause { result ≡ 3 → Rose (S.fault_count site.old) (S.fault_count site.new) }
+    ensures complete { (stamped : List (List ℕ)) (command : Asked) (earlier : History)
+        → SuitsTypes stamped command
+        → asked (map (λ w. w.now) words.now) ≡ Some command
+        → ¬ Rose (S.fault_count site.old) (S.fault_count site.new)
+        → Adds (S.told site.old) (S.told site.new)
+        (Leads (RunSide stamped command) (Begins stamped earlier) (Completes stamped command result earlier)) }
+    ensures refused { asked (map (λ w. w.now) words.now) ≡ None → (result ≡ 2) ⊎ (result ≡ 4) }
+    ensures statuses { (command : Asked) → asked (map (λ w. w.now) words.now) ≡ Some command
+        → Contains (statuses_of command) result }
+{
+    run_with_hasher(alloc, site, words, Hashing::Fixed)
+}
+
+/// Runs the command as `run` does. The streams and names of an agent, which anybody at its control
+/// door chooses, are found by this hashing; those of any other command are found as `run` finds them.
+pub fn run_with_hasher<'a, S: Site>(
+    alloc: Global,
+    site: &mut S,
+    words: &'a [&'a str],
+    hashing: Hashing,
+) -> u8
     ensures whole { (stamped : List (List ℕ)) (command : Asked) (earlier : History)
         → SuitsTypes stamped command
         → asked (map (λ w. w.now) words.now) ≡ Some command → Adds (S.told site.old) (S.told site.new)
@@ -99,7 +140,7 @@ pub fn run<'a, S: Site>(alloc: Global, site: &mut S, words: &'a [&'a str]) -> u8
 {
     match read_words(alloc, words) {
         Ok(command) => {
-            let done = run_command(alloc, site, &command);
+            let done = run_command(alloc, site, &command, hashing);
             ends(alloc, site, done)
         }
         Err(WordsFault::Usage) => {

@@ -11,8 +11,8 @@ ghost use Rattle.chukwa_run.specs.Runs.{Begins, EndsWith, CausedBy};
 ghost use Rattle.chukwa_run.specs.Causes.{EndingCause, IsEndingOf};
 ghost use Rattle.chukwa_run.specs.Statuses.{HasItsStatus};
 
-use crate::saying::writer;
 use chk_bytes::Word;
+use chk_load_run::writer;
 use chk_site::Site;
 use chk_words::Ending;
 use chukwa_salvage::{SalvageFault, salvage};

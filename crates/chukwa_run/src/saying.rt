@@ -3,23 +3,14 @@
 ghost use Rattle.std.specs.Prelude.{◌≡◌, ◌≤◌, IfOk};
 ghost use Rattle.chk_words.specs.Endings.{ending_line};
 ghost use Rattle.chk_words.specs.Usages.{usage_text};
-ghost use Rattle.chukwa_run.specs.Processes.{chukwa};
+ghost use Rattle.chk_load_run.specs.Processes.{chukwa};
 ghost use Rattle.chukwa_run.specs.Saying.{SaysOnce};
 
-use chk_bytes::{Bytes, NoMemory, Word};
-use chk_site::{Role, Site, Who};
+use chk_bytes::{Bytes, NoMemory};
+use chk_load_run::writer;
+use chk_site::Site;
 use chk_words::{Ending, Usage, put_usage};
 use std::alloc::Global;
-
-/// The process that prints all but the lines of the agent and of the job.
-pub fn writer(alloc: Global) -> Result<Who, NoMemory>
-    ensures { IfOk result (λ who. who ≡ chukwa) }
-{
-    Ok(Who {
-        role: Role::Writer,
-        name: Word::from_text(alloc, "chukwa")?,
-    })
-}
 
 /// Prints the line of the ending, where there is memory for it; whether it was printed isn't told.
 pub fn say_ending<S: Site>(alloc: Global, site: &mut S, ending: &Ending)

@@ -5,11 +5,11 @@ ghost use Rattle.chk_bytes.specs.Words.{is_word};
 ghost use Rattle.chk_site.specs.History.{Every};
 ghost use Rattle.chk_site.specs.Site.{Adds};
 ghost use Rattle.chk_agent_run.specs.Initial.{LooksAt};
-ghost use Rattle.chukwa_run.specs.Processes.{chukwa};
+ghost use Rattle.chk_load_run.specs.Processes.{chukwa};
 ghost use Rattle.chukwa_run.specs.Teeing.{IsNamedIn, ReadCause, ReadFailsLast, TeesRead};
 
-use crate::saying::writer;
 use chk_bytes::Word;
+use chk_load_run::writer;
 use chk_replace::load;
 use chk_site::{OutsideFault, Site};
 use chk_tees::{SubscribersFault, Tees, read_subscribers};

@@ -1,13 +1,14 @@
+use Rattle.chk_world.specs.JobSteps.{SparesFile}
 use Rattle.std.proofs.Common.{Ok, Err, map, ap, ◌∙◌, List}
 use Rattle.std.proofs.lemmas.Result.{err_from_is_err_and}
-use Rattle.chk_site.proofs.Leads.{leads_as}
+use Rattle.chk_site.proofs.Leads.{leads_as, leads_then}
 use Rattle.chk_heads.specs.Heads.{Head}
 use Rattle.chk_book.specs.Books.{book_view}
 use Rattle.chk_book.specs.Views.{end_view}
 use Rattle.chk_merge.specs.Segments.{names_of}
 use Rattle.chk_copy.specs.Copying.{joined_segment, Copies}
 use Rattle.chk_join.specs.declared.preparing.Prepared.{Prepared}
-use Rattle.chk_join.proofs.Chain.{reads_told, right_damaged, right_joined, reads_work}
+use Rattle.chk_join.proofs.Chain.{reads_told, right_damaged, right_joined, reads_work, untold}
 use Rattle.chk_join.proofs.Works.{works_then, works_fail}
 use Rattle.chk_join.proofs.preparing.join_left.Goals as goal
 
@@ -44,3 +45,15 @@ returns-clause-works g c =
     works_then (Copies c.args.next) (Ok c.in_ok-heads.heads) c.join_sides.result
     (reads_work c.args.next (Ok c.in_ok-heads.heads) (c.in_ok-heads.ensures.own c.requires.job) c.in_ok-heads.ensures.pieces
     c.in_ok-heads.ensures.last) c.join_sides.ensures.works
+
+pub returns-in_err-heads-clause-stands : goal.returns-in_err-heads-clause-stands
+returns-in_err-heads-clause-stands g c =
+    let q = err_from_is_err_and c.from_residual-in_err-heads.result c.from_residual-in_err-heads.ensures.1 in
+    rw (q.1, q.2)
+    (untold (SparesFile (joined_segment c.args.next)) (c.in_err-heads.ensures.own c.requires.job) (λ h. tt))
+
+pub returns-clause-stands : goal.returns-clause-stands
+returns-clause-stands g c =
+    leads_then
+    (untold (SparesFile (joined_segment c.args.next)) (c.in_ok-heads.ensures.own c.requires.job) (λ h. tt))
+    c.join_sides.ensures.stands

@@ -1,3 +1,4 @@
+use Rattle.chk_world.specs.JobSteps.{SparesFile}
 use Rattle.std.proofs.Common.{Ok, Err, map}
 use Rattle.chk_site.proofs.Leads.{leads_as, leads_then}
 use Rattle.chk_world.proofs.Each.{Each}
@@ -8,7 +9,7 @@ use Rattle.chk_choose.specs.Differing.{PairAgrees}
 use Rattle.chk_copy.specs.Copying.{joined_segment, Copies}
 use Rattle.chk_join.specs.declared.preparing.Prepared.{Prepared}
 use Rattle.chk_join.specs.declared.preparing.Prepared.TheVariants.{Differs}
-use Rattle.chk_join.proofs.Chain.{beside_segment, with_fact, chosen_fit, took_sides, not_compared, reads_work}
+use Rattle.chk_join.proofs.Chain.{beside_segment, with_fact, chosen_fit, took_sides, not_compared, reads_work, untold}
 use Rattle.chk_join.proofs.Works.{works_then, works_value, works_fail}
 use Rattle.chk_join.proofs.preparing.join_sides.Goals as goal
 
@@ -60,3 +61,15 @@ pub returns-in-Err-clause-works : goal.returns-in-Err-clause-works
 returns-in-Err-clause-works g c =
     works_fail Chosen Prepared (Copies c.args.next) c.in-Err.fault
     (reads_work c.args.next (Err c.in-Err.fault) c.in-Err.ensures.own c.in-Err.ensures.pieces c.in-Err.ensures.last)
+
+pub returns-in-Ok-Agree-clause-stands : goal.returns-in-Ok-Agree-clause-stands
+returns-in-Ok-Agree-clause-stands g c =
+    leads_then (untold (SparesFile (joined_segment c.args.next)) c.in-Ok-Agree.ensures.own (λ h. tt))
+    c.take_plan.ensures.stands
+
+pub returns-in-Ok-Differ-clause-stands : goal.returns-in-Ok-Differ-clause-stands
+returns-in-Ok-Differ-clause-stands g c =
+    untold (SparesFile (joined_segment c.args.next)) c.in-Ok-Differ.ensures.own (λ h. tt)
+
+pub returns-in-Err-clause-stands : goal.returns-in-Err-clause-stands
+returns-in-Err-clause-stands g c = untold (SparesFile (joined_segment c.args.next)) c.in-Err.ensures.own (λ h. tt)

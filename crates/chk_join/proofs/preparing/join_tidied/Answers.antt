@@ -1,3 +1,6 @@
+use Rattle.chk_replace.specs.Replace.{LeavesFile}
+use Rattle.chk_join.proofs.StraysGone.{stays_gone, gone_so, quiet_copies, other_segment}
+use Rattle.chk_world.specs.JobSteps.{SparesFile}
 use Rattle.std.proofs.Common.{Ok, subst, sym}
 use Rattle.chk_site.proofs.Leads.{leads_as, leads_then}
 use Rattle.chk_book.specs.Books.{book_view}
@@ -52,3 +55,24 @@ returns-in-Err-clause-cause g c =
     rw c.from.ensures
     (cause_job Prepared c.in-Err.fault (g.S.Site.fault_count c.args.site.now) (g.S.Site.fault_count c.tidy.new.site)
     c.in-Err.ensures.cause)
+
+pub returns-in-Ok-clause-stands : goal.returns-in-Ok-clause-stands
+returns-in-Ok-clause-stands g c =
+    leads_then (untold (SparesFile (joined_segment c.args.joined.now.next)) c.in-Ok.ensures.works (λ h. tt))
+    c.join_books.ensures.stands
+
+pub returns-in-Err-clause-stands : goal.returns-in-Err-clause-stands
+returns-in-Err-clause-stands g c =
+    untold (SparesFile (joined_segment c.args.joined.now.next)) c.in-Err.ensures.works (λ h. tt)
+
+pub returns-in-Ok-clause-clean : goal.returns-in-Ok-clause-clean
+returns-in-Ok-clause-clean g c k stray count apart =
+    let b = book_view c.args.joined.now in
+    leads_then (c.in-Ok.ensures.clean k stray)
+    (leads_as (λ h x. x) (λ h x. gone_so k c.join_books.result h x)
+    (stays_gone k (Copies b.next) (quiet_copies k b.next (other_segment k b.next stray.0 count apart))
+    (own_of (Copies b.next) c.join_books.result c.join_books.ensures.works)))
+
+pub returns-in-Err-clause-clean : goal.returns-in-Err-clause-clean
+returns-in-Err-clause-clean g c k stray count apart =
+    untold (LeavesFile (joined_segment k)) c.in-Err.ensures.works (λ h. tt)

@@ -1,3 +1,5 @@
+use Rattle.chk_replace.specs.Replace.{LeavesFile}
+use Rattle.chk_world.specs.JobSteps.{SparesFile}
 use Rattle.std.proofs.Common.{Ok, Err}
 use Rattle.chk_site.proofs.Leads.{leads_as, leads_then}
 use Rattle.chk_book.specs.Books.{book_view}
@@ -9,7 +11,7 @@ use Rattle.chk_join.specs.Preparing.{IsFolderBook}
 use Rattle.chk_join.specs.declared.preparing.Prepared.{Prepared}
 use Rattle.chk_join.proofs.Works.{works_then, works_fail}
 use Rattle.chk_join.proofs.Apart.{plain_folder}
-use Rattle.chk_join.proofs.Chain.{under}
+use Rattle.chk_join.proofs.Chain.{under, untold}
 use Rattle.chk_join.proofs.Folders.{load_told, folder_loaded, left_not_loaded, reads_prepare}
 use Rattle.chk_join.proofs.preparing.load_left.Goals as goal
 
@@ -48,3 +50,22 @@ returns-in-Err-clause-works g c =
     let b = book_view c.args.joined.now in
     works_fail Struct Prepared (PreparesBy b) c.in-Err.fault
     (reads_prepare b (Err c.in-Err.fault) (c.in-Err.ensures.own c.requires.job) c.in-Err.ensures.pieces c.in-Err.ensures.last)
+
+pub returns-in-Ok-clause-stands : goal.returns-in-Ok-clause-stands
+returns-in-Ok-clause-stands g c =
+    leads_then
+    (untold (SparesFile (joined_segment c.args.joined.now.next)) (c.in-Ok.ensures.own c.requires.job) (λ h. tt))
+    c.load_right.ensures.stands
+
+pub returns-in-Err-clause-stands : goal.returns-in-Err-clause-stands
+returns-in-Err-clause-stands g c =
+    untold (SparesFile (joined_segment c.args.joined.now.next)) (c.in-Err.ensures.own c.requires.job) (λ h. tt)
+
+pub returns-in-Ok-clause-clean : goal.returns-in-Ok-clause-clean
+returns-in-Ok-clause-clean g c k stray count apart =
+    leads_then (untold (LeavesFile (joined_segment k)) (c.in-Ok.ensures.own c.requires.job) (λ h. tt))
+    (c.load_right.ensures.clean k stray count apart)
+
+pub returns-in-Err-clause-clean : goal.returns-in-Err-clause-clean
+returns-in-Err-clause-clean g c k stray count apart =
+    untold (LeavesFile (joined_segment k)) (c.in-Err.ensures.own c.requires.job) (λ h. tt)

@@ -1,17 +1,21 @@
-use Rattle.std.proofs.Common.{Ok, Err}
+use Rattle.chk_join.proofs.StraysGone.{leaves_segment, book_count}
+use Rattle.chk_join.specs.Names.{IsStrayNumber}
+use Rattle.chk_world.specs.Books.{Book}
+use Rattle.chk_join.proofs.Prepared.{prepared_legal, unprepared_legal}
+use Rattle.std.proofs.Common.{Ok, Err, ◌∙◌, ap, sym, subst}
 use Rattle.chk_site.proofs.Leads.{leads_as, leads_then}
 use Rattle.chk_site.specs.Acts.{Deed}
 use Rattle.chk_book.specs.Books.{book_view}
 use Rattle.chk_book.specs.declared.book.Book.{Book as Struct}
 use Rattle.chk_join.specs.Beginning.{Begins}
 use Rattle.chk_join.specs.Working.{PreparesBy, Prepares, goes_on}
-use Rattle.chk_join.specs.Joined.{reads_of, joined_folder}
+use Rattle.chk_join.specs.Joined.{reads_of, joined_folder, LeavesFolders}
 use Rattle.chk_join.specs.Preparing.{IsFolderBook}
 use Rattle.chk_join.specs.declared.preparing.Prepared.{Prepared}
 use Rattle.chk_join.proofs.Begun.{joined_book}
 use Rattle.chk_join.proofs.Works.{own_of, works_then, works_fail, works_as}
 use Rattle.chk_join.proofs.Apart.{covers}
-use Rattle.chk_join.proofs.Chain.{under}
+use Rattle.chk_join.proofs.Chain.{under, untold}
 use Rattle.chk_join.proofs.Folders.{folder_loaded, begins_prepare}
 use Rattle.chk_join.proofs.Whole.{begin_told, rest_told, all_read, none_read, is_first}
 use Rattle.chk_join.proofs.preparing.prepare.Goals as goal
@@ -54,3 +58,35 @@ pub returns-in-Err-clause-works : goal.returns-in-Err-clause-works
 returns-in-Err-clause-works g c =
     works_fail Struct Prepared Prepares c.in-Err.fault
     (works_as Begins Prepares begins_prepare (Err c.in-Err.fault) c.in-Err.ensures.works)
+
+pub returns-in-Ok-clause-told : goal.returns-in-Ok-clause-told
+returns-in-Ok-clause-told g c stamped =
+    let b = book_view c.in-Ok.joined in
+    leads_then (c.in-Ok.ensures.told stamped)
+    (prepared_legal stamped b c.load_left.result (own_of (PreparesBy b) c.load_left.result c.load_left.ensures.works)
+    c.load_left.ensures.stands)
+
+pub returns-in-Err-clause-told : goal.returns-in-Err-clause-told
+returns-in-Err-clause-told g c stamped =
+    leads_as (λ h x. x) (λ h x. unprepared_legal stamped c.in-Err.fault h x) (c.in-Err.ensures.told stamped)
+
+pub returns-in-Ok-clause-clean : goal.returns-in-Ok-clause-clean
+returns-in-Ok-clause-clean g c held k settled stray apart =
+    let left = c.args.left.now in
+    let right = c.args.right.now in
+    let b = book_view c.in-Ok.joined in
+    let first = settled joined_book (is_first held left right) in
+    leads_then
+    (leads_as (λ h x. x) (λ h x. (x.0, folder_loaded held joined_folder c.in-Ok.joined h x.1))
+    (begin_told held left right settled (Ok b) (own_of Begins (Ok c.in-Ok.joined) c.in-Ok.ensures.works)
+    (c.in-Ok.ensures.raw (held joined_book) first.0 first.1)))
+    (under c.load_left.ensures.works
+    (λ (one : IsFolderBook held joined_folder b).
+    leads_as (λ h x. tt) (λ h x. x)
+    (leaves_segment left right k
+    (c.load_left.ensures.clean k (subst (λ (x : Book). IsStrayNumber x k) (sym one.is) stray) (book_count held b one)
+    (λ e. apart (e ∙ ap (λ (x : Book). x.next) one.is))))))
+
+pub returns-in-Err-clause-clean : goal.returns-in-Err-clause-clean
+returns-in-Err-clause-clean g c held k settled stray apart =
+    untold (LeavesFolders c.args.left.now c.args.right.now) c.in-Err.ensures.works (λ h. tt)

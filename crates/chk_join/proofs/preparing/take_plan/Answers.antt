@@ -1,3 +1,5 @@
+use Rattle.chk_join.specs.Runs.{AreRuns, IsAlone}
+use Rattle.chk_chunk.specs.Keys.{Chunk}
 use Rattle.std.proofs.Common.{List, Ok, map, refl, subst}
 use Rattle.std.specs.Prelude.{flat_map}
 use Rattle.std.proofs.lemmas.Result.{err_from_is_err_and}
@@ -34,3 +36,17 @@ returns-clause-raw g c most all held few settled apart left right =
     c.as_slice-choices.ensures.value x) in
     (y.0, (y.1, (refl, refl))))
     (c.in_ok-book.ensures.raw most all held few settled apart left right)
+
+pub returns-in_err-book-clause-stands : goal.returns-in_err-book-clause-stands
+returns-in_err-book-clause-stands g c =
+    let q = err_from_is_err_and c.from_residual-in_err-book.result c.from_residual-in_err-book.ensures.1 in
+    rw (q.1, q.2) (leads_as (λ h x. x) (λ h x. tt) c.in_err-book.ensures.stands)
+
+pub returns-clause-stands : goal.returns-clause-stands
+returns-clause-stands g c =
+    let b = book_view c.in_ok-book.book in
+    leads_as (λ h x. x)
+    (λ h x.
+    subst (λ (es : List EndStruct). (cs : List Chunk) × (AreRuns (map end_view es) cs
+    × IsAlone c.args.next (map end_view es) b cs h)) c.as_slice-ends.ensures x)
+    c.in_ok-book.ensures.stands

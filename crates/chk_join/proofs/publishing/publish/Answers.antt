@@ -1,3 +1,5 @@
+use Rattle.chk_site.proofs.Leads.{leads_none}
+use Rattle.chk_join.proofs.BookMay.{told_published}
 use Rattle.std.proofs.Common.{subst}
 use Rattle.std.specs.Prelude.{codes}
 use Rattle.chk_site.specs.Runs.{MadeInTurn}
@@ -38,3 +40,15 @@ returns-then-not-can_be_spelled-clause-raw g c f settled =
 pub returns-then-not-can_be_spelled-clause-works : goal.returns-then-not-can_be_spelled-clause-works
 returns-then-not-can_be_spelled-clause-works g c =
     works_memory (Unit {0}) (ReplacesBookOf (codes "joined")) (g.S.Site.told c.args.site.now)
+
+pub returns-clause-told : goal.returns-clause-told
+returns-clause-told g c stamped =
+    let b = book_view c.args.book.now in
+    told_published stamped b (c.can_be_spelled.ensures c.if-not-can_be_spelled.false) c.publish.result
+    (subst (λ who. MadeInTurn (replacement who (book_name (codes "joined")) (book_bytes (written_version b) b))
+    (site_result c.publish.result) (g.S.Site.told c.args.site.now) (g.S.Site.told c.publish.new.site))
+    c.requires.job c.publish.ensures.told)
+
+pub returns-then-not-can_be_spelled-clause-told : goal.returns-then-not-can_be_spelled-clause-told
+returns-then-not-can_be_spelled-clause-told g c stamped =
+    leads_none (g.S.Site.told c.args.site.now) (λ h k. k.legal)

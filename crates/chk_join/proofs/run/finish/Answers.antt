@@ -33,3 +33,9 @@ returns-in-Err-clause-cause g c =
     rw c.from.ensures
     (cause_so (Unit {0}) JoinReport c.in-Err.fault (g.S.Site.fault_count c.args.site.now)
     (g.S.Site.fault_count c.publish.new.site) c.in-Err.ensures.cause)
+
+pub returns-in-Ok-clause-told : goal.returns-in-Ok-clause-told
+returns-in-Ok-clause-told g c stamped = c.in-Ok.ensures.told stamped
+
+pub returns-in-Err-clause-told : goal.returns-in-Err-clause-told
+returns-in-Err-clause-told g c stamped = c.in-Err.ensures.told stamped

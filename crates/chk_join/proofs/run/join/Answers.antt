@@ -1,3 +1,6 @@
+use Rattle.chk_join.proofs.StraysGone.{leaves_segment, stays_gone, cleaned_so, cleaned_refused}
+use Rattle.chk_join.proofs.Finished.{quiet_segment}
+use Rattle.chk_join.proofs.Chain.{untold}
 use Rattle.std.proofs.Common.{Ok, Err, subst, sym}
 use Rattle.chk_site.proofs.Leads.{leads_as, leads_then}
 use Rattle.chk_world.specs.JobSteps.{IsOf}
@@ -6,7 +9,7 @@ use Rattle.chk_heads.proofs.Gathering.{every_then}
 use Rattle.chk_parts.specs.Publishing.{ReplacesBookOf}
 use Rattle.chk_parts.proofs.StepKinds.{as_kind}
 use Rattle.chk_join.specs.Working.{Prepares}
-use Rattle.chk_join.specs.Joined.{joined_folder}
+use Rattle.chk_join.specs.Joined.{joined_folder, LeavesFolders}
 use Rattle.chk_join.specs.Faults.{IsJoinFault, JoinsBy}
 use Rattle.chk_join.specs.declared.preparing.Prepared.TheVariants.{Ready, Differs}
 use Rattle.chk_join.specs.declared.preparing.Prepared.{Prepared}
@@ -140,3 +143,32 @@ returns-in-Err-clause-cause g c =
     rw c.from.ensures
     (cause_so Prepared JoinReport c.in-Err.fault (g.S.Site.fault_count c.args.site.now)
     (g.S.Site.fault_count c.prepare.new.site) c.in-Err.ensures.cause)
+
+pub returns-in-Ok-Ready-clause-told : goal.returns-in-Ok-Ready-clause-told
+returns-in-Ok-Ready-clause-told g c stamped =
+    leads_then (rw c.in-Ok-Ready.field-0-is at (c.in-Ok-Ready.ensures.told stamped)) (c.finish.ensures.told stamped)
+
+pub returns-in-Ok-Differs-clause-told : goal.returns-in-Ok-Differs-clause-told
+returns-in-Ok-Differs-clause-told g c stamped =
+    rw c.in-Ok-Differs.field-0-is at (c.in-Ok-Differs.ensures.told stamped)
+
+pub returns-in-Err-clause-told : goal.returns-in-Err-clause-told
+returns-in-Err-clause-told g c stamped = c.in-Err.ensures.told stamped
+
+pub returns-in-Ok-Ready-clause-strays : goal.returns-in-Ok-Ready-clause-strays
+returns-in-Ok-Ready-clause-strays g c held k settled stray apart =
+    leads_then (c.in-Ok-Ready.ensures.clean held k settled stray apart)
+    (leaves_segment c.args.left.now c.args.right.now k
+    (leads_as (λ h x. x) (λ h x. cleaned_so k c.finish.result h x)
+    (stays_gone k (ReplacesBookOf joined_folder) (quiet_segment k)
+    (own_so (ReplacesBookOf joined_folder) c.finish.result c.finish.ensures.works))))
+
+pub returns-in-Ok-Differs-clause-strays : goal.returns-in-Ok-Differs-clause-strays
+returns-in-Ok-Differs-clause-strays g c held k settled stray apart =
+    rw c.differing.ensures (c.in-Ok-Differs.ensures.clean held k settled stray apart)
+
+pub returns-in-Err-clause-strays : goal.returns-in-Err-clause-strays
+returns-in-Err-clause-strays g c held k settled stray apart =
+    rw c.from.ensures
+    (untold (LeavesFolders c.args.left.now c.args.right.now) c.in-Err.ensures.works
+    (λ h. cleaned_refused k c.in-Err.fault h))

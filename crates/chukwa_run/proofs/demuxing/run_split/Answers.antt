@@ -1,5 +1,4 @@
-use Rattle.std.proofs.Common.{Ok, Err, ℕ, List, map, Bor, sym, subst, ◌∙◌}
-use Rattle.chk_demux.specs.Demuxed.{NamesStamped}
+use Rattle.std.proofs.Common.{Ok, Err, ℕ, List, map, Bor}
 use Rattle.chk_words.specs.Commands.{Demux}
 use Rattle.chukwa_run.proofs.DemuxRun.{causes, told}
 use Rattle.chukwa_run.proofs.Unbegun.{unbegun, caused_nothing}
@@ -25,6 +24,7 @@ returns-in-Ok-run_demux-clause-told g c stamped earlier named =
       runs = s.runs;
       last = s.last;
       shown = s.shown;
+      spent = s.spent;
     })
 
 pub returns-in-Ok-run_demux-clause-causes : goal.returns-in-Ok-run_demux-clause-causes
@@ -39,6 +39,7 @@ returns-in-Ok-run_demux-clause-causes g c =
       runs = s.runs;
       last = s.last;
       shown = s.shown;
+      spent = s.spent;
     })
 
 pub returns-clause-told : goal.returns-clause-told
@@ -54,6 +55,7 @@ returns-clause-told g c stamped earlier named =
       runs = s.runs;
       last = s.last;
       shown = s.shown;
+      spent = s.spent;
     }))
 
 pub returns-clause-causes : goal.returns-clause-causes
@@ -69,6 +71,7 @@ returns-clause-causes g c =
       runs = s.runs;
       last = s.last;
       shown = s.shown;
+      spent = s.spent;
     }))
 
 pub returns-clause-status : goal.returns-clause-status

@@ -28,4 +28,5 @@ returns-in-Err-clause-causes g c =
     (record { told = s.told; appends = s.appends; own = s.own; prints = s.prints; runs = s.runs; last = s.last; round = s.round })
 
 pub returns-in-Err-clause-status : goal.returns-in-Err-clause-status
-returns-in-Err-clause-status g c = load_status c.args.lines c.ending_of.result
+returns-in-Err-clause-status g c = load_status c.args.lines c.in-Err.end c.ending_of.result
+    c.ending_of.ensures

@@ -42,4 +42,6 @@ returns-clause-causes g c =
     (of_words w c.in-Ok.words c.in-Ok.ensures (Err c.in-Err.end) (record { ran = s.ran; last = s.last; told = s.told }))
 
 pub returns-clause-status : goal.returns-clause-status
-returns-clause-status g c = round_status (round_of c.args.given.now) c.ending_of.result
+returns-clause-status g c =
+    round_status (round_of c.args.given.now) c.args.given.now.source.now c.in-Err.end
+    c.ending_of.result c.ending_of.ensures

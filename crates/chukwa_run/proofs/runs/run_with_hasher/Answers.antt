@@ -6,7 +6,7 @@ use Rattle.chk_words.specs.declared.usage.Usage.{Usage}
 use Rattle.chk_words.specs.Commands.{Asked, asked_of}
 use Rattle.chk_words.specs.Usages.{usage_text}
 use Rattle.chk_words.specs.declared.endings.Ending.TheVariants.{NoMemory}
-use Rattle.chukwa_run.specs.Asking.{usage_line}
+use Rattle.chk_words.specs.Usages.{usage_line}
 use Rattle.chukwa_run.specs.Demuxing.{SuitsTypes}
 use Rattle.chukwa_run.specs.Processes.{RunSide}
 use Rattle.chukwa_run.specs.Runs.{Begins, Ends, Caused, SaysUsage}
@@ -15,7 +15,7 @@ use Rattle.chukwa_run.proofs.Asking.{of_command, ends_told, ends_caused, unread_
 use Rattle.chukwa_run.proofs.Complete.{calm_status, completes}
 use Rattle.chukwa_run.proofs.Headline.{headline}
 use Rattle.chukwa_run.proofs.Statuses.{its_status, unread_status}
-use Rattle.chukwa_run.proofs.runs.run.Goals as goal
+use Rattle.chukwa_run.proofs.runs.run_with_hasher.Goals as goal
 
 pub returns-in-Ok-clause-whole : goal.returns-in-Ok-clause-whole
 returns-in-Ok-clause-whole g c stamped command earlier suits is =

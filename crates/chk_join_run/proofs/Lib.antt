@@ -1,0 +1,5 @@
+mod Lines
+mod CallKinds
+mod AtMost
+mod Prints
+mod Told

@@ -1,0 +1,7 @@
+//! A join of two archives whose report is printed.
+#![tactic(auto)]
+
+mod running;
+mod telling;
+
+pub use running::run_join;
