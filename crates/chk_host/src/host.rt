@@ -1,8 +1,9 @@
 //! The machine: its runtime, and files by their names. The file written last and the file read
 //! last are kept open, so that a further piece costs one system call.
-ghost use Rattle.std.specs.Prelude.{◌≡◌, ◌≤◌, ◌↔◌, [], None, length, string_bytes, IfOk, IfSome, IsOk, IsTrue};
+ghost use Rattle.std.specs.Prelude.{◌≡◌, ◌≢◌, ◌≤◌, ◌↔◌, [], None, if◌then◌else◌, length, option_map, string_bytes, IfOk, IfSome, IsOk, IsSomeAnd, IsTrue, OnErr, OnOk};
 ghost use Rattle.chk_site.specs.Site.{MayFail, MayExist, MayMiss, MayBeShort, MayMissOrBeShort};
 ghost use Rattle.chk_faults.specs.Faults.{answer_of};
+ghost use Rattle.chk_host.specs.Opened.{is_mark, is_temporary, unsettled_by, IsClosed};
 
 use crate::folders::{file_size, folder_of, no_file, sync_folder};
 use crate::kept::{Kept, is_named};
@@ -74,7 +75,11 @@ impl<R: Files<File = File>> Host<R> {
     /// `Exists` where the file is there. The new file is kept open. Its folder is synced, but of a file
     /// that is to be renamed: there the rename does it.
     pub fn create(&mut self, alloc: Global, name: &str) -> Result<(), SystemFault>
-        ensures { MayExist (answer_of result) }
+        ensures kept { OnOk result
+            (IsSomeAnd self.new.writing (λ kept. string_bytes kept.name ≡ name.now)) }
+        ensures unsettled { OnOk result
+            (option_map string_bytes self.new.unsettled ≡ unsettled_by name.now) }
+        ensures only { MayExist (answer_of result) }
     {
         self.settle()?;
         let kept_name = text(alloc, name)?;
@@ -96,7 +101,11 @@ impl<R: Files<File = File>> Host<R> {
 
     /// A file that isn't there is `Failed`.
     pub fn append(&mut self, alloc: Global, name: &str, bytes: &[u8]) -> Result<(), SystemFault>
-        ensures { MayFail (answer_of result) }
+        ensures kept { OnOk result
+            (IsSomeAnd self.new.writing (λ kept. string_bytes kept.name ≡ name.now)) }
+        ensures settled { OnOk result
+            (IfSome self.new.unsettled (λ new_name. string_bytes new_name ≡ name.now)) }
+        ensures only { MayFail (answer_of result) }
     {
         self.settle_other(name)?;
         let given = self.append_kept(alloc, name, bytes);
@@ -104,7 +113,10 @@ impl<R: Files<File = File>> Host<R> {
     }
 
     fn append_kept(&mut self, alloc: Global, name: &str, bytes: &[u8]) -> Result<(), SystemFault>
-        ensures { MayFail (answer_of result) }
+        ensures kept { OnOk result
+            (IsSomeAnd self.new.writing (λ kept. string_bytes kept.name ≡ name.now)) }
+        ensures same { self.new.unsettled ≡ self.old.unsettled }
+        ensures only { MayFail (answer_of result) }
     {
         let mut writer = self.writer(alloc, name)?;
         self.check_room(&writer.file, bytes.len())?;
@@ -137,7 +149,11 @@ impl<R: Files<File = File>> Host<R> {
 
     /// A file that isn't there is `Failed`.
     pub fn sync(&mut self, alloc: Global, name: &str) -> Result<(), SystemFault>
-        ensures { MayFail (answer_of result) }
+        ensures kept { OnOk result
+            (IsSomeAnd self.new.writing (λ kept. string_bytes kept.name ≡ name.now)) }
+        ensures settled { OnOk result
+            (IfSome self.new.unsettled (λ new_name. string_bytes new_name ≡ name.now)) }
+        ensures only { MayFail (answer_of result) }
     {
         self.settle_other(name)?;
         let given = self.sync_kept(alloc, name);
@@ -145,7 +161,10 @@ impl<R: Files<File = File>> Host<R> {
     }
 
     fn sync_kept(&mut self, alloc: Global, name: &str) -> Result<(), SystemFault>
-        ensures { MayFail (answer_of result) }
+        ensures kept { OnOk result
+            (IsSomeAnd self.new.writing (λ kept. string_bytes kept.name ≡ name.now)) }
+        ensures same { self.new.unsettled ≡ self.old.unsettled }
+        ensures only { MayFail (answer_of result) }
     {
         let writer = self.writer(alloc, name)?;
         writer.file.sync_all()?;
@@ -155,7 +174,8 @@ impl<R: Files<File = File>> Host<R> {
 
     /// `Missing` where the file isn't there, and its folder is. The new length is synced.
     pub fn cut(&mut self, alloc: Global, name: &str, length: u64) -> Result<(), SystemFault>
-        ensures { MayMissOrBeShort (answer_of result) }
+        ensures settled { OnOk result (self.new.unsettled ≡ None) }
+        ensures only { MayMissOrBeShort (answer_of result) }
     {
         self.settle()?;
         let size = self.size(name)?;
@@ -173,7 +193,11 @@ impl<R: Files<File = File>> Host<R> {
 
     /// A file that isn't there is `Failed`.
     pub fn rename(&mut self, alloc: Global, old: &str, new: &str) -> Result<(), SystemFault>
-        ensures { MayFail (answer_of result) }
+        ensures settled { OnOk result (self.new.unsettled ≡ None) }
+        ensures old { OnOk result (IfSome self.new.writing (λ kept. string_bytes kept.name ≢ old.now)) }
+        ensures new { OnOk result (IfSome self.new.writing (λ kept. string_bytes kept.name ≢ new.now)) }
+        ensures read { OnOk result (IfSome self.new.reading (λ kept. string_bytes kept.name ≢ new.now)) }
+        ensures only { MayFail (answer_of result) }
     {
         self.settle_other(old)?;
         let given = self.rename_settled(old, new);
@@ -185,7 +209,11 @@ impl<R: Files<File = File>> Host<R> {
 
     // Both folders are synced behind the rename, so that nothing of the new file is unsettled.
     fn rename_settled(&mut self, old: &str, new: &str) -> Result<(), SystemFault>
-        ensures { MayFail (answer_of result) }
+        ensures settled { OnOk result (self.new.unsettled ≡ None) }
+        ensures old { IfSome self.new.writing (λ kept. string_bytes kept.name ≢ old.now) }
+        ensures new { IfSome self.new.writing (λ kept. string_bytes kept.name ≢ new.now) }
+        ensures read { IfSome self.new.reading (λ kept. string_bytes kept.name ≢ new.now) }
+        ensures only { MayFail (answer_of result) }
     {
         self.forget(old);
         self.forget(new);
@@ -199,7 +227,10 @@ impl<R: Files<File = File>> Host<R> {
     }
 
     pub fn remove(&mut self, name: &str) -> Result<(), SystemFault>
-        ensures { MayMiss (answer_of result) }
+        ensures settled { OnOk result (self.new.unsettled ≡ None) }
+        ensures written { OnOk result (IfSome self.new.writing (λ kept. string_bytes kept.name ≢ name.now)) }
+        ensures read { OnOk result (IfSome self.new.reading (λ kept. string_bytes kept.name ≢ name.now)) }
+        ensures only { MayMiss (answer_of result) }
     {
         self.settle()?;
         self.forget(name);
@@ -250,7 +281,9 @@ impl<R: Files<File = File>> Host<R> {
         Ok(())
     }
 
-    fn has_settled(&self, name: &str) -> bool {
+    fn has_settled(&self, name: &str) -> bool
+        ensures { IsTrue result ↔ IsSomeAnd self.now.settled_mark (λ mark. string_bytes mark ≡ name.now) }
+    {
         match &self.settled_mark {
             Some(mark) => mark.as_str() == name,
             None => false,
@@ -334,6 +367,7 @@ impl<R: Files<File = File>> Host<R> {
     // The file to append to, taken from what is kept.
     fn writer(&mut self, alloc: Global, name: &str) -> Result<Kept, SystemFault>
         ensures name { IfOk result (λ kept. string_bytes kept.name ≡ name.now) }
+        ensures same { self.new.unsettled ≡ self.old.unsettled }
         ensures only { MayFail (answer_of result) }
     {
         if let Some(kept) = self.writing.take() {
@@ -372,9 +406,12 @@ impl<R: Files<File = File>> Host<R> {
     // its appends, its sync and its rename, which nobody sees before the rename. Where the machine stops
     // between them and the file is gone, it is as if the stop had come in the creation.
     fn settle_lasting(&mut self, name: &str) -> Result<(), SystemFault>
-        ensures { MayFail (answer_of result) }
+        ensures settled { OnOk result
+            (self.new.unsettled ≡ (if is_temporary name.now then self.old.unsettled else None)) }
+        ensures same { self.new.writing ≡ self.old.writing }
+        ensures only { MayFail (answer_of result) }
     {
-        if name.ends_with(".tmp") {
+        if is_temporary(name) {
             return Ok(());
         }
         self.settle()
@@ -382,7 +419,9 @@ impl<R: Files<File = File>> Host<R> {
 
     // Before a call on another file the folder of the new one is synced.
     fn settle_other(&mut self, name: &str) -> Result<(), SystemFault>
-        ensures { MayFail (answer_of result) }
+        ensures settled { OnOk result
+            (IfSome self.new.unsettled (λ new_name. string_bytes new_name ≡ name.now)) }
+        ensures only { MayFail (answer_of result) }
     {
         match &self.unsettled {
             Some(new_name) if new_name.as_str() != name => self.settle(),
@@ -393,7 +432,9 @@ impl<R: Files<File = File>> Host<R> {
     // Behind a call on the new file that failed any other call may come.
     fn settle_failed(&mut self, given: Result<(), SystemFault>) -> Result<(), SystemFault>
         requires { MayFail (answer_of given) }
-        ensures { MayFail (answer_of result) }
+        ensures given { IsOk result ↔ IsOk given }
+        ensures same { OnOk result (self.new ≡ self.old) }
+        ensures only { MayFail (answer_of result) }
     {
         if given.is_err() {
             self.settle()?;
@@ -403,7 +444,10 @@ impl<R: Files<File = File>> Host<R> {
 
     // Syncs the folder of the file that was created last, where it isn't synced yet.
     fn settle(&mut self) -> Result<(), SystemFault>
-        ensures { MayFail (answer_of result) }
+        ensures settled { OnOk result (self.new.unsettled ≡ None) }
+        ensures err { OnErr result (self.new.unsettled ≡ self.old.unsettled) }
+        ensures same { self.new.writing ≡ self.old.writing }
+        ensures only { MayFail (answer_of result) }
     {
         if let Some(name) = &self.unsettled {
             sync_folder(&self.rt, name.as_str())?;
@@ -413,7 +457,12 @@ impl<R: Files<File = File>> Host<R> {
     }
 
     // Closes the file of this name.
-    fn forget(&mut self, name: &str) {
+    fn forget(&mut self, name: &str)
+        ensures writing { IsClosed self.old.writing self.new.writing name.now }
+        ensures reading { IsClosed self.old.reading self.new.reading name.now }
+        ensures mark { IfSome self.new.settled_mark (λ mark. string_bytes mark ≢ name.now) }
+        ensures same { self.new.unsettled ≡ self.old.unsettled }
+    {
         if is_named(&self.writing, name) {
             self.writing = None;
         }
@@ -426,8 +475,17 @@ impl<R: Files<File = File>> Host<R> {
     }
 }
 
-fn is_mark(name: &str) -> bool {
-    name.ends_with(".mark")
+fn is_mark(name: &str) -> bool
+    ensures { result ≡ is_mark name.now }
+{
+    name.as_bytes().ends_with(b".mark")
+}
+
+// The file is to be renamed.
+fn is_temporary(name: &str) -> bool
+    ensures { result ≡ is_temporary name.now }
+{
+    name.as_bytes().ends_with(b".tmp")
 }
 
 // The longest that a file of this process may become; where the system tells none there is no limit.

@@ -1,6 +1,9 @@
 -- Messages that are requests of the web.
-use Rattle.std.specs.Prelude.{ℕ, Bool, ◌||◌, nat_eq, List, codes, if◌then◌else◌, Option, Some, None, Result, Ok, Err}
+use Rattle.std.specs.Prelude.{◌≡◌, ℕ, Bool, false, ◌||◌, nat_eq, List, codes, if◌then◌else◌, Option, Some, None, Result, Ok, Err}
 use Rattle.std.specs.List.{starts_with}
+use Rattle.chk_site.specs.declared.acts.CallFault.{CallFault}
+use Rattle.chk_site.specs.declared.acts.Role.{Role}
+use Rattle.chk_site.specs.declared.acts.Role.TheVariants.{Agent, Collector, Job, Writer}
 use Rattle.chk_site.specs.declared.suffixes.Taking.{Taking}
 use Rattle.chk_faults.specs.declared.faults.SystemFault.{SystemFault}
 
@@ -21,3 +24,17 @@ abbrev pub without : Result (Option Taking) SystemFault → Result (Option Takin
 without (Err fault) = Err fault
 without (Ok None) = Ok None
 without (Ok (Some taking)) = if is_request taking.bytes then Ok None else Ok (Some taking)
+
+-- what a process of this role is given at its door: an agent no request
+abbrev pub given_to :
+    Role → Result (Option Taking) SystemFault → Result (Option Taking) SystemFault
+given_to Agent given = without given
+given_to Collector given = given
+given_to Job given = given
+given_to Writer given = given
+
+-- no request was taken
+abbrev pub IsNoRequest : Result (Option Taking) CallFault → Type 0
+IsNoRequest (Err fault) = Unit {0}
+IsNoRequest (Ok None) = Unit {0}
+IsNoRequest (Ok (Some taking)) = is_request taking.bytes ≡ false

@@ -2,13 +2,29 @@
 ghost use Rattle.std.specs.Prelude.{◌≡◌};
 ghost use Rattle.chk_faults.specs.Faults.{answer_of};
 ghost use Rattle.chk_site.specs.Site.{MayFail};
-ghost use Rattle.chk_site_real.specs.Requests.{is_request, without};
+ghost use Rattle.chk_site_real.specs.Requests.{given_to, is_request, without};
 
 use chk_faults::SystemFault;
-use chk_site::Taking;
+use chk_site::{Role, Taking};
 
-/// A message that begins as a request of the web does isn't taken, so that no web page gives control lines.
-pub fn without_request(
+/// What a process of this role is given of what came at its door: an agent no request of the web, so that no
+/// web page gives control lines.
+pub fn given_to(
+    role: Role,
+    given: Result<Option<Taking>, SystemFault>,
+) -> Result<Option<Taking>, SystemFault>
+    requires { MayFail (answer_of given) }
+    ensures given { result ≡ given_to role given }
+    ensures only { MayFail (answer_of result) }
+{
+    match role {
+        Role::Agent => without_request(given),
+        Role::Collector | Role::Job | Role::Writer => given,
+    }
+}
+
+// A message that begins as a request of the web does isn't taken.
+fn without_request(
     given: Result<Option<Taking>, SystemFault>,
 ) -> Result<Option<Taking>, SystemFault>
     requires { MayFail (answer_of given) }

@@ -1,14 +1,16 @@
 //! The site of the real outside.
-ghost use Rattle.std.specs.Prelude.{◌≡◌, ◌≤◌, None, Err, IsSome};
-ghost use Rattle.chk_site.specs.Site.{CauseOf, MayFail};
+ghost use Rattle.std.specs.Prelude.{◌≡◌, ◌≤◌, ◌∷◌, [], None, Err, IsSome, option_map};
+ghost use Rattle.chk_site.specs.Site.{answered, asked, taking_given, Adds, CallsSome, CauseOf, MayFail};
+ghost use Rattle.chk_site.specs.declared.acts.Call.TheVariants as call;
 ghost use Rattle.chk_site.specs.declared.acts.CallFault.TheVariants.{Failed};
 ghost use Rattle.chk_faults.specs.Faults.{answer_of};
+ghost use Rattle.chk_site_real.specs.Requests.{IsNoRequest};
 
 use crate::locks::{Locks, lock_name};
-use crate::requests::without_request;
+use crate::requests::given_to;
 use chk_bytes::{Bytes, Word};
 use chk_faults::{SystemFault, text};
-use chk_host::{Host, Unsettled, make_folders};
+use chk_host::{Folders, Host, Unsettled, make_folders};
 use chk_listings::sorted_names;
 use chk_notices::{Failure, clock_moment};
 use chk_site::{Call, CallFault, Part, Piece, Role, Site, Suffix, Taking, Who};
@@ -85,8 +87,31 @@ impl<R: Files<File = File> + Net + Clock + Print + Eprint + Drop> SiteReal<R> {
         ensures faults { result.faults ≤ 1 }
         ensures counted { IsSome result.unsettled → result.faults ≡ 1 }
     {
-        keep_freed_memory(alloc);
         let folders = make_folders(&rt);
+        SiteReal::over(rt, alloc, folders)
+    }
+
+    /// The outside for a program that only looks: no folder is made or synced, so the count of faults begins
+    /// at 0. Such a program makes no start: that would make the file of a lock, and take it.
+    pub fn read_only(rt: R, alloc: Global) -> SiteReal<R>
+        ensures faults { result.faults ≡ 0 }
+        ensures settled { result.unsettled ≡ None }
+    {
+        let folders = Folders {
+            faults: 0,
+            unsettled: None,
+        };
+        SiteReal::over(rt, alloc, folders)
+    }
+
+    // The outside, where this became of the folders.
+    fn over(rt: R, alloc: Global, folders: Folders) -> SiteReal<R>
+        ensures faults { result.faults ≡ folders.faults }
+        ensures unsettled { result.unsettled ≡ folders.unsettled }
+        ensures failure { result.failure ≡ None }
+        ensures sent { result.sent ≡ None }
+    {
+        keep_freed_memory(alloc);
         SiteReal {
             faults: folders.faults,
             failure: None,
@@ -99,7 +124,9 @@ impl<R: Files<File = File> + Net + Clock + Print + Eprint + Drop> SiteReal<R> {
     }
 
     /// The last call that failed, for a message to the operator.
-    pub fn failure(&self) -> Option<&Failure> {
+    pub fn failure(&self) -> Option<&Failure>
+        ensures { option_map (λ failure. failure.now) result ≡ self.now.failure }
+    {
         self.failure.as_ref()
     }
 
@@ -127,6 +154,15 @@ impl<R: Files<File = File> + Net + Clock + Print + Eprint + Drop> SiteReal<R> {
         };
         let given = self.locks.take(&self.host.rt, alloc, name.as_str());
         self.settle(alloc, Call::Start, name.as_str(), given)
+    }
+
+    // Tells that an agent's door for control lines is open.
+    fn tell_open(&mut self, alloc: Global, who: &Who, door: &str, is_open: bool)
+        ensures { self.new.faults ≡ self.old.faults }
+    {
+        if who.role == Role::Agent && is_open {
+            self.host.notices.tell_door(&self.host.rt, alloc, door);
+        }
     }
 
     // Counts a call that failed, and keeps its cause.
@@ -346,15 +382,17 @@ impl<R: Files<File = File> + Net + Clock + Print + Eprint + Drop> Site for SiteR
         who: &Who,
         door: &str,
         wait: u64,
-    ) -> Result<Option<Taking>, CallFault> {
+    ) -> Result<Option<Taking>, CallFault>
+        ensures told { Adds None None (CallsSome
+            (λ of. asked who.now call.Take (door.now ∷ []) wait 0)
+            (λ of. answered (taking_given of) result)) }
+        ensures only { MayFail result }
+        ensures cause { CauseOf self.old.faults self.new.faults result }
+        ensures web { who.now.role ≡ Role.Agent → IsNoRequest result }
+    {
         let given = self.messages.take(&self.host.rt, alloc, door, wait);
-        if who.role != Role::Agent {
-            return self.settle(alloc, Call::Take, door, given);
-        }
-        if given.is_ok() {
-            self.host.notices.tell_door(&self.host.rt, alloc, door);
-        }
-        self.settle(alloc, Call::Take, door, without_request(given))
+        self.tell_open(alloc, who, door, given.is_ok());
+        self.settle(alloc, Call::Take, door, given_to(who.role, given))
     }
 
     fn more(&mut self, alloc: Global, _who: &Who, taking: u64) -> Result<Bytes, CallFault> {

@@ -1,5 +1,6 @@
 -- The mailbox inside the process.
-use Rattle.std.specs.Prelude.{◌≡◌, ◌≢◌, ◌⊎◌, ℕ, Bool, nat_eq, List, [], ◌∷◌, ◌++◌, Option, Some, None, position, remove, slice_get}
+use Rattle.std.specs.Prelude.{◌≡◌, ◌≢◌, ◌⊎◌, ◌||◌, ℕ, Bool, false, nat_eq, List, [], ◌∷◌, ◌++◌, Option, Some, None, bytes_eq, codes, is_some, position, remove, slice_get}
+use Rattle.std.specs.List.{list_any}
 use Rattle.chk_sockets.specs.declared.mailbox.Letter.{Letter}
 use Rattle.chk_sockets.specs.declared.mailbox.Held.{Held}
 
@@ -19,6 +20,23 @@ TakesOldest taking before after held bytes =
 -- the answer is one to this message
 abbrev pub is_for : ℕ → Letter → Bool
 is_for message letter = nat_eq letter.message message
+
+-- the message was taken and has no answer yet
+abbrev pub is_held : ℕ → Option Held → Bool
+is_held message None = false
+is_held message (Some held) = nat_eq held.message message
+
+-- the message waits, or was taken and has no answer yet
+abbrev pub is_known : ℕ → Option Held → List Letter → Bool
+is_known message held waiting = is_held message held || list_any (is_for message) waiting
+
+-- the message has an answer, or is known
+abbrev pub is_there : ℕ → List Letter → Bool → Bool
+is_there message answered known = is_some (position (is_for message) answered) || known
+
+-- the address or the door is the mailbox
+abbrev pub is_self : List ℕ → Bool
+is_self address = bytes_eq address (codes "self")
 
 -- the first answer to the message has these bytes, and all others are left
 pub record IsGot (message : ℕ) (old new : List Letter) (bytes : List ℕ) : Type 0 where

@@ -2,12 +2,15 @@
 #![tactic(auto)]
 
 mod addresses;
+mod datagram_doors;
 mod datagrams;
+mod door_list;
 mod doors;
 mod mailbox;
 mod messages;
 mod sends;
 mod stream_door;
+mod stream_doors;
 mod streams;
 
 pub use chk_faults::{SystemFault, make_place, make_room, text};

@@ -1,6 +1,7 @@
 //! The mailbox inside the process, where no message and no answer is lost.
-ghost use Rattle.std.specs.Prelude.{◌≡◌, ◌↔◌, [], ◌∷◌, ◌++◌, None, position, IfNone, IfSome, IsSomeAnd, IsTrue, OnErr, OnOk};
-ghost use Rattle.chk_sockets.specs.Mailbox.{letter, is_for, Gets, TakesOldest, Answers};
+ghost use Rattle.std.specs.Prelude.{◌≡◌, ◌↔◌, [], ◌∷◌, ◌++◌, None, is_some, position, IfNone, IfSome, IsSomeAnd, IsTrue, OnErr, OnOk};
+ghost use Rattle.std.specs.List.{list_any};
+ghost use Rattle.chk_sockets.specs.Mailbox.{letter, is_for, is_held, is_known, is_there, Gets, TakesOldest, Answers};
 
 use chk_bytes::{Bytes, NoMemory};
 use std::alloc::Global;
@@ -105,7 +106,8 @@ impl Mailbox {
     /// The answer to the message, no bytes while there is none; none where there is no such message.
     pub fn got(&mut self, alloc: Global, message: u64) -> Option<Bytes>
         ensures answer { IfSome result (λ bytes. Gets message self.old.answered.items self.new.answered.items bytes) }
-        ensures none { IfNone result (position (is_for message) self.old.answered.items ≡ None) }
+        ensures there { is_some result ≡ is_there message self.old.answered.items
+            (is_known message self.old.held self.old.waiting.items) }
         ensures left { IfNone result (self.new.answered.items ≡ self.old.answered.items) }
         ensures waiting { self.new.waiting ≡ self.old.waiting }
         ensures held { self.new.held ≡ self.old.held }
@@ -125,8 +127,25 @@ impl Mailbox {
             .position(|letter| letter.message == message)
     }
 
-    fn knows(&self, message: u64) -> bool {
-        self.held.is_some_and(|held| held.message == message)
-            || self.waiting.iter().any(|letter| letter.message == message)
+    // The message waits, or was taken and has no answer yet.
+    fn knows(&self, message: u64) -> bool
+        ensures { result ≡ is_known message self.now.held self.now.waiting.items }
+    {
+        self.is_held(message) || self.is_waiting(message)
+    }
+
+    fn is_held(&self, message: u64) -> bool
+        ensures { result ≡ is_held message self.now.held }
+    {
+        match self.held {
+            Some(held) => held.message == message,
+            None => false,
+        }
+    }
+
+    fn is_waiting(&self, message: u64) -> bool
+        ensures { result ≡ list_any (is_for message) self.now.waiting.items }
+    {
+        self.waiting.iter().any(|letter| letter.message == message)
     }
 }

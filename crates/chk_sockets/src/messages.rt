@@ -1,7 +1,12 @@
 //! Messages, with the numbers of what was sent and taken.
-ghost use Rattle.std.specs.Prelude.{◌≡◌, ◌+◌, [], None, IfOk, IfSome};
+ghost use Rattle.std.specs.Prelude.{◌≡◌, ◌⊎◌, ◌+◌, ◌∷◌, ◌++◌, [], None, option_map, string_bytes, IfNone, IfOk, IfSome, IsFalse, IsOkAnd, IsSomeAnd, IsTrue, OnErr, OnOk};
+ghost use Rattle.std.specs.Io.KnownBytes.{Consumes};
 ghost use Rattle.chk_site.specs.Site.{MayFail};
 ghost use Rattle.chk_faults.specs.Faults.{answer_of};
+ghost use Rattle.chk_sockets.specs.Doors.{is_for_datagrams, taking_at, Answers, GoesOn, IsRoomless, Takes, TakesDatagram};
+ghost use Rattle.chk_sockets.specs.Mailbox.{is_known, is_self, is_there, letter, Gets, TakesOldest};
+ghost use Rattle.chk_sockets.specs.Sends.{IsClosed, IsSent};
+ghost use Rattle.chk_sockets.specs.Streams.{IsPut};
 
 use crate::doors::Doors;
 use crate::mailbox::{Mailbox, SELF};
@@ -68,6 +73,15 @@ impl<R: Net + Clock> Messages<R> {
         bytes: &[u8],
     ) -> Result<u64, SystemFault>
         ensures number { IfOk result (λ n. (n ≡ self.old.last_message + 1) × (self.new.last_message ≡ n)) }
+        ensures waits { IsTrue (is_self address.now)
+            → OnOk result (self.new.mailbox.waiting.items
+            ≡ self.old.mailbox.waiting.items ++ letter (self.old.last_message + 1) bytes.now ∷ []) }
+        ensures sent { IsFalse (is_self address.now)
+            → OnOk result (IsSent self.old.sends.open.items self.new.sends.open.items
+            (λ sent. sent.message) (self.old.last_message + 1) bytes.now) }
+        ensures inside { IsTrue (is_self address.now) → self.new.sends ≡ self.old.sends }
+        ensures outside { IsFalse (is_self address.now) → self.new.mailbox ≡ self.old.mailbox }
+        ensures err { OnErr result (self.new.last_message ≡ self.old.last_message) }
         ensures only { MayFail (answer_of result) }
     {
         let message = next_number(self.last_message)?;
@@ -84,7 +98,17 @@ impl<R: Net + Clock> Messages<R> {
     /// nothing came, or the message has no stream any more. At the mailbox no bytes come while there
     /// is no answer.
     pub fn got(&mut self, rt: &R, alloc: Global, message: u64) -> Result<Bytes, SystemFault>
-        ensures { MayFail (answer_of result) }
+        ensures inside { IsTrue (is_there message self.old.mailbox.answered.items
+            (is_known message self.old.mailbox.held self.old.mailbox.waiting.items))
+            → IsOkAnd result
+            (Gets message self.old.mailbox.answered.items self.new.mailbox.answered.items) }
+        ensures outside { IsFalse (is_there message self.old.mailbox.answered.items
+            (is_known message self.old.mailbox.held self.old.mailbox.waiting.items))
+            → OnOk result (IsClosed self.old.sends.open.items self.new.sends.open.items
+            (λ sent. sent.message) message) }
+        ensures waiting { self.new.mailbox.waiting ≡ self.old.mailbox.waiting }
+        ensures held { self.new.mailbox.held ≡ self.old.mailbox.held }
+        ensures only { MayFail (answer_of result) }
     {
         match self.mailbox.got(alloc, message) {
             Some(bytes) => Ok(bytes),
@@ -104,26 +128,62 @@ impl<R: Net + Clock> Messages<R> {
         wait: u64,
     ) -> Result<Option<Taking>, SystemFault>
         ensures number { IfOk result (λ taken. IfSome taken (λ t. (t.number ≡ self.old.last_taking + 1) × (self.new.last_taking ≡ t.number))) }
+        ensures inside { IsTrue (is_self door.now) → self.new.doors ≡ self.old.doors }
+        ensures outside { IsFalse (is_self door.now) → self.new.mailbox ≡ self.old.mailbox }
+        ensures oldest { IsTrue (is_self door.now) → IfOk result (λ taken. IfSome taken (λ t.
+            TakesOldest t.number self.old.mailbox.waiting.items self.new.mailbox.waiting.items
+            self.new.mailbox.held t.bytes)) }
+        ensures empty { IsTrue (is_self door.now)
+            → IfOk result (λ taken. IfNone taken (self.old.mailbox.waiting.items ≡ [])) }
+        ensures streams { IsFalse (is_self door.now) → IsFalse (is_for_datagrams door.now)
+            → Takes self.old.doors.streams.open.items self.new.doors.streams.open.items
+            (λ d. string_bytes d.name) (λ d. option_map (λ taken. taken.number) d.door.taken)
+            door.now (self.old.last_taking + 1) result }
+        ensures datagrams { IsFalse (is_self door.now) → IsTrue (is_for_datagrams door.now)
+            → TakesDatagram self.old.doors.datagrams.open.items self.new.doors.datagrams.open.items
+            (λ d. string_bytes d.name) door.now result }
+        ensures err { OnErr result (self.new.last_taking ≡ self.old.last_taking) }
+        ensures none { IfOk result
+            (λ taken. IfNone taken (self.new.last_taking ≡ self.old.last_taking)) }
         ensures only { MayFail (answer_of result) }
     {
         let number = next_number(self.last_taking)?;
-        let taken = if door == SELF {
-            self.mailbox.take(number)
-        } else {
-            let wait = Duration::from_millis(wait);
-            self.doors.take(rt, alloc, door, number, wait)?
-        };
-        let Some(bytes) = taken else {
-            return Ok(None);
-        };
+        if door == SELF {
+            let bytes = self.mailbox.take(number);
+            return Ok(self.noted(number, bytes));
+        }
+        let wait = Duration::from_millis(wait);
+        let bytes = self.doors.take(rt, alloc, door, number, wait)?;
+        Ok(self.noted(number, bytes))
+    }
+
+    // What was taken has this number.
+    fn noted(&mut self, number: u64, bytes: Option<Bytes>) -> Option<Taking>
+        ensures taking { result ≡ option_map (taking_at number) bytes }
+        ensures some { IfSome bytes (λ _. self.new.last_taking ≡ number) }
+        ensures none { IfNone bytes (self.new.last_taking ≡ self.old.last_taking) }
+        ensures mailbox { self.new.mailbox ≡ self.old.mailbox }
+        ensures doors { self.new.doors ≡ self.old.doors }
+        ensures sends { self.new.sends ≡ self.old.sends }
+        ensures message { self.new.last_message ≡ self.old.last_message }
+    {
+        let bytes = bytes?;
         self.last_taking = number;
-        Ok(Some(Taking { number, bytes }))
+        Some(Taking { number, bytes })
     }
 
     /// The next piece of the message; no bytes at its end, where nothing came within 2,000 ms, where the
     /// taking ended, and at the mailbox, where a message is taken whole.
     pub fn more(&mut self, rt: &R, alloc: Global, taking: u64) -> Result<Bytes, SystemFault>
-        ensures { MayFail (answer_of result) }
+        ensures more { GoesOn self.old.doors.streams.open.items self.new.doors.streams.open.items
+            (λ d. string_bytes d.name) (λ d. option_map (λ taken. taken.number) d.door.taken)
+            (λ before after bytes. IfSome before.door.taken (λ b. IsSomeAnd after.door.taken
+            (λ a. Consumes (R.Stream.remaining b.stream) (R.Stream.remaining a.stream) bytes)))
+            taking result
+            ⊎ IsRoomless self.old.doors.streams self.new.doors.streams
+            self.old.doors.buffer.items result }
+        ensures same { self.new.mailbox ≡ self.old.mailbox }
+        ensures only { MayFail (answer_of result) }
     {
         self.doors.more(rt, alloc, taking)
     }
@@ -138,7 +198,19 @@ impl<R: Net + Clock> Messages<R> {
         taking: u64,
         bytes: &[u8],
     ) -> Result<(), SystemFault>
-        ensures { MayFail (answer_of result) }
+        ensures inside { IfSome self.old.mailbox.held (λ held. held.taking ≡ taking
+            → OnOk result (self.new.mailbox.answered.items
+            ≡ self.old.mailbox.answered.items ++ letter held.message bytes.now ∷ [])) }
+        ensures outside { ¬ (IsSomeAnd self.old.mailbox.held (λ held. held.taking ≡ taking))
+            → Answers self.old.doors.streams.open.items self.new.doors.streams.open.items
+            (λ d. string_bytes d.name) (λ d. option_map (λ taken. taken.number) d.door.taken) taking
+            (λ d. IfSome d.door.taken (λ taken. (after : R.Stream)
+            × IsPut (R.Stream.contents taken.stream) (R.Stream.contents after) bytes.now result))
+            result
+            ⊎ IsRoomless self.old.doors.streams self.new.doors.streams
+            self.old.doors.buffer.items result }
+        ensures waiting { self.new.mailbox.waiting ≡ self.old.mailbox.waiting }
+        ensures only { MayFail (answer_of result) }
     {
         if !self.mailbox.has(taking) {
             return self.doors.answer(rt, taking, bytes);

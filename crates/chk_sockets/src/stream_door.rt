@@ -1,9 +1,12 @@
 //! A door at a TCP address: a socket that listens, and the streams of its peers.
-ghost use Rattle.std.specs.Prelude.{◌≡◌, ◌≤◌, ◌↔◌, [], None, length, option_map, IfErr, IfNone, IfOk, IfSome, IsSomeAnd, IsTrue, OnErr, OnOk};
+ghost use Rattle.std.specs.Prelude.{◌≡◌, ◌≤◌, [], None, Some, length, option_map, take, IfErr, IfNone, IfOk, IfSome, IsErr, IsSomeAnd, OnErr, OnOk};
+ghost use Rattle.std.specs.Io.KnownBytes.{Consumes};
 ghost use Rattle.mio.specs.Events.{capacity as events_capacity};
 ghost use Rattle.chk_faults.specs.Faults.{answer_of, call_fault};
 ghost use Rattle.chk_site.specs.Site.{MayFail};
 ghost use Rattle.chk_site.specs.declared.acts.CallFault.TheVariants.{Failed};
+ghost use Rattle.chk_sockets.specs.Doors.{is_taking};
+ghost use Rattle.chk_sockets.specs.Streams.{IsPut};
 
 use crate::streams::{piece_before, write_before};
 use chk_bytes::Bytes;
@@ -86,7 +89,7 @@ impl<R: Net + Clock> StreamDoor<R> {
 
     /// Whether this taking may go on and be answered.
     pub fn has(&self, taking: u64) -> bool
-        ensures { IsTrue result ↔ IsSomeAnd self.now.taken (λ taken. taken.number ≡ taking) }
+        ensures { result ≡ is_taking taking (option_map (λ taken. taken.number) self.now.taken) }
     {
         match &self.taken {
             Some(taken) => taken.number == taking,
@@ -104,7 +107,7 @@ impl<R: Net + Clock> StreamDoor<R> {
         buffer: &mut Vec<u8>,
     ) -> Result<Option<Bytes>, SystemFault>
         ensures taken { IfOk result (λ given. IfSome given (λ _.
-            IsSomeAnd self.new.taken (λ taken. taken.number ≡ number))) }
+            option_map (λ taken. taken.number) self.new.taken ≡ Some number)) }
         ensures none { IfOk result (λ given. IfNone given (self.new.taken ≡ None)) }
         ensures failed { IfErr result (λ _. self.new.taken ≡ None) }
         ensures only { MayFail (answer_of result) }
@@ -119,7 +122,7 @@ impl<R: Net + Clock> StreamDoor<R> {
 
     // The peer is the one that is taken.
     fn serve(&mut self, rt: &R, number: u64, peer: Served<R>) -> Bytes
-        ensures { IsSomeAnd self.new.taken (λ taken. taken.number ≡ number) }
+        ensures { option_map (λ taken. taken.number) self.new.taken ≡ Some number }
     {
         let Served { caller, has_ended } = peer;
         let Caller { stream, bytes, .. } = caller;
@@ -146,6 +149,9 @@ impl<R: Net + Clock> StreamDoor<R> {
         ensures none { IfNone self.old.taken (IfOk result (λ bytes. bytes ≡ [])) }
         ensures same { OnOk result (option_map (λ taken. taken.number) self.new.taken
             ≡ option_map (λ taken. taken.number) self.old.taken) }
+        ensures given { IfOk result (λ bytes. IfSome self.old.taken (λ before.
+            IsSomeAnd self.new.taken (λ after. Consumes (R.Stream.remaining before.stream)
+            (R.Stream.remaining after.stream) bytes))) }
         ensures ended { OnErr result (self.new.taken ≡ None) }
         ensures only { MayFail (answer_of result) }
     {
@@ -161,6 +167,9 @@ impl<R: Net + Clock> StreamDoor<R> {
     /// Answers the message that was taken, and ends it.
     pub fn answer(&mut self, rt: &R, bytes: &[u8], buffer: &mut Vec<u8>) -> Result<(), SystemFault>
         ensures ended { self.new.taken ≡ None }
+        ensures none { IfNone self.old.taken (IsErr result) }
+        ensures put { IfSome self.old.taken (λ taken. (after : R.Stream)
+            × IsPut (R.Stream.contents taken.stream) (R.Stream.contents after) bytes.now result) }
         ensures only { MayFail (answer_of result) }
     {
         let Some(mut taken) = self.taken.take() else {
@@ -342,6 +351,8 @@ impl<R: Net + Clock> Taken<R> {
     // How many bytes come next, within 2,000 ms; none behind its end.
     fn next_count(&mut self, rt: &R, buffer: &mut Vec<u8>) -> usize
         ensures count { result ≤ length buffer.new.items }
+        ensures came { Consumes (R.Stream.remaining self.old.stream)
+            (R.Stream.remaining self.new.stream) (take result buffer.new.items) }
         ensures same { self.new.number ≡ self.old.number }
     {
         let Some(end) = self.end else {

@@ -1,7 +1,7 @@
 //! Streams to peers, with every wait bounded.
-ghost use Rattle.std.specs.Prelude.{◌≡◌, ◌*◌, ◌/◌, ◌<◌, ◌≤◌, length, max, IfOk, IfSome};
+ghost use Rattle.std.specs.Prelude.{◌≡◌, ◌*◌, ◌/◌, ◌<◌, ◌≤◌, length, max, take, IfNone, IfOk, IfSome};
 ghost use Rattle.std.specs.Duration.{as_nanos};
-ghost use Rattle.std.specs.Io.KnownBytes.{WriteAppends};
+ghost use Rattle.std.specs.Io.KnownBytes.{Consumes, Keeps, WriteAppends};
 ghost use Rattle.chk_site.specs.Site.{MayFail};
 ghost use Rattle.chk_faults.specs.Faults.{answer_of};
 ghost use Rattle.chk_sockets.specs.Streams.{IsPut};
@@ -131,7 +131,9 @@ pub fn piece_before<R: Clock, S: Read + OpenStream>(
     stream: &mut S,
     buffer: &mut Vec<u8>,
 ) -> usize
-    ensures { result ≤ length buffer.new.items }
+    ensures most { result ≤ length buffer.new.items }
+    ensures came { Consumes (S.remaining stream.old) (S.remaining stream.new)
+        (take result buffer.new.items) }
 {
     for _ in 0..u64::MAX {
         let Ok(left) = deadline.left(rt) else {
@@ -149,7 +151,10 @@ pub fn piece_before<R: Clock, S: Read + OpenStream>(
 
 // How many bytes one read gave; none where a signal broke it off.
 fn piece<S: Read>(stream: &mut S, buffer: &mut Vec<u8>) -> Option<usize>
-    ensures { IfSome result (λ count. count ≤ length buffer.new.items) }
+    ensures most { IfSome result (λ count. count ≤ length buffer.new.items) }
+    ensures came { IfSome result (λ count. Consumes (S.remaining stream.old)
+        (S.remaining stream.new) (take count buffer.new.items)) }
+    ensures kept { IfNone result (Keeps (S.remaining stream.old) (S.remaining stream.new)) }
 {
     match stream.read(buffer) {
         Ok(count) => Some(count),
