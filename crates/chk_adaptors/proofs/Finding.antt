@@ -1,5 +1,7 @@
 -- What the tables find of the adaptors, and what an adaptor more makes of them.
-use Rattle.std.proofs.Common.{◌≡◌, ℕ, suc, ◌+◌, ◌<◌, ◌≤◌, min, Bool, true, false, not, cond, if◌then◌else◌, List, [], ◌∷◌, ◌++◌, length, map, bytes_eq, Option, Some, None, refl, sym, ap, subst, ◌∙◌, arith}
+use Rattle.std.proofs.Common.{◌≡◌, ℕ, suc, ◌+◌, ◌<◌, ◌≤◌, min, Bool, true, false, not, cond}
+use Rattle.std.proofs.Common.{if◌then◌else◌, List, [], ◌∷◌, ◌++◌, length, map, bytes_eq, Option}
+use Rattle.std.proofs.Common.{Some, None, refl, sym, ap, subst, ◌∙◌, arith}
 use Rattle.std.specs.Prelude.{IsTrue, position, slice_get, slice_set}
 use Rattle.std.specs.String.{string_bytes}
 use Rattle.std.specs.HashMap.{get_by_text}
@@ -13,7 +15,8 @@ use Rattle.chk_adaptors.specs.declared.adaptors.Adaptors.TheInside.{Inside}
 use Rattle.chk_adaptors.specs.Adaptors.{Held, is_of, is_named, stream_key}
 use Rattle.chk_adaptors.specs.Fields.{IsSound, IsSoundInside, held_view, key_of, noted, without}
 use Rattle.chk_adaptors.proofs.Places.{fails, place_in_image, keys_set, values_set}
-use Rattle.chk_adaptors.proofs.Tables.{added, lives_again, named_live, named_none, named_past, stream_place}
+use Rattle.chk_adaptors.proofs.Tables.{added, lives_again, named_live, named_none, named_past}
+use Rattle.chk_adaptors.proofs.Tables.{stream_place}
 
 -- nothing is looked up where no key passes
 none_looked_up : {K X : Type 0} (test : K → Bool) (es : List (K × X))

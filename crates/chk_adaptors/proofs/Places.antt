@@ -1,5 +1,7 @@
 -- Places in a list: what is found first, and what a change of one leaves.
-use Rattle.std.proofs.Common.{◌≡◌, ℕ, zero, suc, ◌+◌, ◌<◌, Bool, true, false, cond, List, [], ◌∷◌, ◌++◌, length, map, Some, None, refl, sym, ap, ap₂, ◌∙◌, inl, inr, ◌⊎◌, arith, nat_lt}
+use Rattle.std.proofs.Common.{◌≡◌, ℕ, zero, suc, ◌+◌, ◌<◌, Bool, true, false, cond, List, [], ◌∷◌}
+use Rattle.std.proofs.Common.{◌++◌, length, map, Some, None, refl, sym, ap, ap₂, ◌∙◌, inl, inr, ◌⊎◌}
+use Rattle.std.proofs.Common.{arith, nat_lt}
 use Rattle.std.specs.Prelude.{position, slice_get, slice_set}
 use Rattle.std.specs.List.{position_from, position_or_len}
 use Rattle.std.specs.Map.{values_of}

@@ -1,5 +1,7 @@
 -- The tables of adaptors: what they find, and what each change leaves of them.
-use Rattle.std.proofs.Common.{◌≡◌, ℕ, ◌+◌, ◌<◌, ◌≤◌, ◌&&◌, ◌==◌, Bool, true, false, not, cond, if◌then◌else◌, List, [], ◌∷◌, ◌++◌, length, bytes_eq, Option, Some, None, refl, sym, ap, ap₂, subst, ◌∙◌, inl, inr, ◌⊎◌, arith}
+use Rattle.std.proofs.Common.{◌≡◌, ℕ, ◌+◌, ◌<◌, ◌≤◌, ◌&&◌, ◌==◌, Bool, true, false, not, cond}
+use Rattle.std.proofs.Common.{if◌then◌else◌, List, [], ◌∷◌, ◌++◌, length, bytes_eq, Option, Some}
+use Rattle.std.proofs.Common.{None, refl, sym, ap, ap₂, subst, ◌∙◌, inl, inr, ◌⊎◌, arith}
 use Rattle.std.proofs.lemmas.Bool.{false≢true}
 use Rattle.std.specs.Prelude.{IsTrue, position, slice_get, slice_set}
 use Rattle.std.proofs.lemmas.List.{length-set, length-append, map-append}
@@ -12,7 +14,10 @@ use Rattle.chk_bytes.proofs.PartLemmas.{same_split}
 use Rattle.chk_reading.specs.Adaptors.{Adaptor, is_past, revived}
 use Rattle.chk_adaptors.specs.Adaptors.{is_of, is_named, stream_key}
 use Rattle.chk_adaptors.specs.Fields.{IsSound, key_of, noted, without}
-use Rattle.chk_adaptors.proofs.Places.{none_passes, fails, found_only, same_place, set_same, set_other, set_cases, push_before, push_last, push_cases, place_in_image, same_image}
+use Rattle.chk_adaptors.proofs.Places.{none_passes, fails, found_only, same_place, set_same}
+use Rattle.chk_adaptors.proofs.Places.{set_other, set_cases, push_before, push_last, push_cases}
+use Rattle.chk_adaptors.proofs.Places.{place_in_image, same_image}
+use Rattle.chk_control.proofs.SpelledLemmas.{false_from_not as false_of}
 
 -- ---- tests
 
@@ -23,10 +28,6 @@ false_from false h = refl
 both_true : (b c : Bool) → (b && c) ≡ true → (b ≡ true) × (c ≡ true)
 both_true true c h = (refl, h)
 both_true false c h = absurd (false≢true h)
-
-false_of : (b : Bool) → not b ≡ true → b ≡ false
-false_of true h = absurd (false≢true h)
-false_of false h = refl
 
 same_truth : (b c : Bool) → (b ≡ true → c ≡ true) → (c ≡ true → b ≡ true) → b ≡ c
 same_truth true c there back = sym (there refl)

@@ -1,5 +1,6 @@
 -- What a write at one place makes of the adaptors.
-use Rattle.std.proofs.Common.{◌≡◌, ℕ, ◌<◌, false, List, length, map, min, Some, Result, Ok, Err, refl, sym, ap, subst, ◌∙◌, true≢false, arith}
+use Rattle.std.proofs.Common.{◌≡◌, ℕ, ◌<◌, false, List, length, map, min, Some, Result, Ok, Err}
+use Rattle.std.proofs.Common.{refl, sym, ap, subst, ◌∙◌, true≢false, arith}
 use Rattle.std.proofs.lemmas.Bool.{false≢true}
 use Rattle.std.specs.Prelude.{IsTrue, slice_get}
 use Rattle.std.specs.String.{string_bytes}
@@ -13,7 +14,8 @@ use Rattle.chk_tail.specs.declared.step.Step.{Step}
 use Rattle.chk_tail.specs.declared.step.Step.TheVariants.{Bytes, AtEnd, Shrank as is_short}
 use Rattle.chk_reading.specs.declared.adaptor.Phase.{Phase}
 use Rattle.chk_reading.specs.declared.adaptor.Phase.TheVariants.{Live, Stopping, Shrank, Past}
-use Rattle.chk_reading.specs.Adaptors.{Adaptor, is_past, is_stepped, phase_at, phase_back, phase_to_end, sent_back, settled_one, shut_down, stopped}
+use Rattle.chk_reading.specs.Adaptors.{Adaptor, is_past, is_stepped, phase_at, phase_back}
+use Rattle.chk_reading.specs.Adaptors.{phase_to_end, sent_back, settled_one, shut_down, stopped}
 use Rattle.chk_reading.specs.Steps.{phase_after, stepped}
 use Rattle.chk_adaptors.specs.declared.adaptors.Adaptors.TheInside.{Inside}
 use Rattle.chk_adaptors.specs.Adaptors.{Held, with_at}

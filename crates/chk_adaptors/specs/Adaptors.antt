@@ -1,5 +1,6 @@
 -- The adaptors of an agent, as contracts see them.
-use Rattle.std.specs.Prelude.{◌≡◌, ℕ, Bool, not, ◌&&◌, IsTrue, List, ◌∷◌, ◌++◌, bytes_eq, slice_get, slice_set}
+use Rattle.std.specs.Prelude.{◌≡◌, ℕ, Bool, not, ◌&&◌, IsTrue, List, ◌∷◌, ◌++◌, bytes_eq, slice_get}
+use Rattle.std.specs.Prelude.{slice_set}
 use Rattle.std.specs.Prelude.{Option, Some, Result, Ok}
 use Rattle.std.specs.String.{string_bytes}
 use Rattle.chk_bytes.specs.Words.{is_word}

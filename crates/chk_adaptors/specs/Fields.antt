@@ -1,5 +1,6 @@
 -- What the fields stand for.
-use Rattle.std.specs.Prelude.{◌≡◌, ◌≤◌, ◌&&◌, ◌==◌, ℕ, Bool, false, cond, IsTrue, List, map, min, length, bytes_eq, slice_get, Option, Some, None, if◌then◌else◌}
+use Rattle.std.specs.Prelude.{◌≡◌, ◌≤◌, ◌&&◌, ◌==◌, ℕ, Bool, false, cond, IsTrue, List, map, min}
+use Rattle.std.specs.Prelude.{length, bytes_eq, slice_get, Option, Some, None, if◌then◌else◌}
 use Rattle.std.specs.Map.{update}
 use Rattle.std.specs.String.{string_bytes}
 use Rattle.std.specs.HashMap.{get_by_text}

@@ -1,2 +1,3 @@
 pub mod Adaptors
 pub mod Fields
+pub mod Hashing

@@ -1,10 +1,14 @@
 //! The adaptors, and how one is found.
 
-ghost use Rattle.std.specs.Prelude.{◌≡◌, ◌≤◌, ◌<◌, [], Some, None, length, position, slice_get, if◌then◌else◌};
+ghost use Rattle.std.specs.Prelude.{◌≡◌, ◌≤◌, ◌<◌, [], Some, None, length, position, slice_get};
+ghost use Rattle.std.specs.Prelude.{if◌then◌else◌};
 ghost use Rattle.chk_reading.specs.Adaptors.{Adaptor as Reading, is_past};
 ghost use Rattle.chk_adaptors.specs.Adaptors.{is_of, is_named};
 
+use crate::hashing::Hashing;
 use crate::keys::{is_past, stream_key};
+use crate::names::Names;
+use crate::streams::Streams;
 use chk_bytes::Word;
 use chk_reading::Adaptor;
 use indexmap::IndexMap;
@@ -14,15 +18,15 @@ use std::marker::Model;
 /// At most 10,000 adaptors in order of adding, which are numbered from 0. A stream and the name of
 /// a live one are found by their hash, in a time that doesn't grow with the number of adaptors.
 ///
-/// The hash has no seed. Who chooses the words of streams or names can make many of one hash; a
-/// look-up among those goes through them, as one through all adaptors would.
+/// A look-up among words of one hash goes through them, as one through all adaptors would. Whoever
+/// chooses the words of streams or names can make many of one hash where it is `Hashing::Fixed`.
 ///
 /// Beside each adaptor it keeps a copy of its type, its path and its name, and 40 bytes.
 #[derive(Drop)]
 pub struct Adaptors {
     pub(crate) alloc: Global,
-    pub(crate) streams: IndexMap<String, Adaptor>,
-    pub(crate) names: IndexMap<String, u32>,
+    pub(crate) streams: Streams,
+    pub(crate) names: Names,
 }
 
 impl Model for Adaptors {
@@ -39,13 +43,13 @@ impl Model for Adaptors {
 
 impl Adaptors {
     /// No adaptors. It takes no memory before the first one comes.
-    pub fn new(alloc: Global) -> Adaptors
+    pub fn new(alloc: Global, hashing: Hashing) -> Adaptors
         ensures { result.items ≡ [] }
     {
         Adaptors {
             alloc,
-            streams: IndexMap::new(alloc),
-            names: IndexMap::new(alloc),
+            streams: IndexMap::with_hasher(alloc, hashing),
+            names: IndexMap::with_hasher(alloc, hashing),
         }
     }
 

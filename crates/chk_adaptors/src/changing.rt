@@ -1,6 +1,7 @@
 //! What changes one adaptor.
 
-ghost use Rattle.std.specs.Prelude.{◌≡◌, ◌≤◌, ◌<◌, ◌+◌, ℕ, List, Some, None, Ok, IsTrue, IfOk, find, length, position, slice_get, slice_set};
+ghost use Rattle.std.specs.Prelude.{◌≡◌, ◌≤◌, ◌<◌, ◌+◌, ℕ, List, Some, None, Ok, IsTrue, IfOk};
+ghost use Rattle.std.specs.Prelude.{find, length, position, slice_get, slice_set};
 ghost use Rattle.std.specs.String.{string_bytes};
 ghost use Rattle.chk_site.specs.Site.{Adds, LastFailed, OutsideCause};
 ghost use Rattle.chk_site.specs.Runs.{Leads};
@@ -12,7 +13,9 @@ ghost use Rattle.chk_world.specs.Names.{is_source};
 ghost use Rattle.chk_world.specs.Checkpoints.{Line, is_after_text, is_line_of};
 ghost use Rattle.chk_world.specs.Places.{As};
 ghost use Rattle.chk_world.specs.Knowing.{agent, Told};
-ghost use Rattle.chk_reading.specs.Adaptors.{Adaptor as Reading, IsPastLine, IsPlaced, before_of, is_stepped, read_line, revived, sent_back, settled_one, shut_down, stopped, stream_at};
+ghost use Rattle.chk_reading.specs.Adaptors.{Adaptor as Reading, IsPastLine, IsPlaced, before_of};
+ghost use Rattle.chk_reading.specs.Adaptors.{is_stepped, read_line, revived, sent_back};
+ghost use Rattle.chk_reading.specs.Adaptors.{settled_one, shut_down, stopped, stream_at};
 ghost use Rattle.chk_reading.specs.Facts.{ReaderStands, StepStands};
 ghost use Rattle.chk_reading.specs.Steps.{stepped};
 ghost use Rattle.chk_adaptors.specs.Adaptors.{StepsAt, WasStepped, is_named, with_at};

@@ -5,9 +5,11 @@
 mod adaptors;
 mod adding;
 mod changing;
+mod hashing;
 mod keys;
 mod names;
 mod streams;
 
 pub use adaptors::Adaptors;
+pub use hashing::Hashing;
 pub use keys::Keys;

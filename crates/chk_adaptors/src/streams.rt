@@ -5,11 +5,15 @@ ghost use Rattle.std.specs.String.{string_bytes};
 ghost use Rattle.std.specs.HashMap.{get_by_text};
 ghost use Rattle.indexmap.specs.IndexMap.{spare};
 
+use crate::hashing::Hashing;
 use chk_reading::Adaptor;
 use indexmap::IndexMap;
 
+/// The adaptor of each stream, in order of adding.
+pub(crate) type Streams = IndexMap<String, Adaptor, Hashing>;
+
 /// Puts the adaptor behind the others, under a key that none of them has. There is room for it.
-pub(crate) fn put(streams: &mut IndexMap<String, Adaptor>, key: String, adaptor: Adaptor)
+pub(crate) fn put(streams: &mut Streams, key: String, adaptor: Adaptor)
     requires room { 0 < spare streams.old }
     requires new { get_by_text streams.old (string_bytes key) ≡ None }
     ensures entries { streams.new.entries ≡ streams.old.entries ++ (key, adaptor) ∷ [] }

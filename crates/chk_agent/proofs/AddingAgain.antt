@@ -1,8 +1,10 @@
 -- The exits of a past adaptor that lives again: what it leaves at each.
-use Rattle.std.proofs.Common.{◌≡◌, ℕ, true, false, List, Option, None, Some, Ok, Err, sym, subst, refl}
+use Rattle.std.proofs.Common.{◌≡◌, ℕ, true, false, List, Option, None, Some, Ok, Err, sym, subst}
+use Rattle.std.proofs.Common.{refl}
 use Rattle.std.specs.Prelude.{IsTrue, slice_get, slice_set}
 use Rattle.chk_site.specs.declared.acts.Call.{Call}
-use Rattle.chk_site.specs.declared.acts.OutsideFault.TheVariants.{Outside as site_failed, NoMemory as no_memory}
+use Rattle.chk_site.specs.declared.acts.OutsideFault.TheVariants.{Outside as site_failed}
+use Rattle.chk_site.specs.declared.acts.OutsideFault.TheVariants.{NoMemory as no_memory}
 use Rattle.chk_site.specs.History.{Every, History}
 use Rattle.chk_site.specs.Site.{Adds}
 use Rattle.chk_site.specs.Runs.{Leads}
@@ -28,7 +30,8 @@ use Rattle.chk_agent.proofs.SettlingTold.{lines_go_on, lines_unmade, lines_writt
 use Rattle.chk_agent.proofs.AddingPast.{holds_revived, revived_sound, revived_matches}
 use Rattle.chk_agent.proofs.AddingKept.{same_room}
 
-module _ (s : State) (sound : IsSound s) (n : ℕ) (a : Adaptor) (at : slice_get s.adaptors n ≡ Some a)
+module _ (s : State) (sound : IsSound s) (n : ℕ) (a : Adaptor)
+    (at : slice_get s.adaptors n ≡ Some a)
     (name : List ℕ) (good : IsTrue (is_name name)) (free : named_in name 0 s.adaptors ≡ None)
     (lines : List Line) (are : lines ≡ lines_of (revived_at s n name a)) where
   abbrev T : State

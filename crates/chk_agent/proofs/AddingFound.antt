@@ -1,5 +1,7 @@
 -- The adaptor of a stream, and that of a name.
-use Rattle.std.proofs.Common.{◌≡◌, ℕ, suc, ◌+◌, Bool, true, false, ◌&&◌, List, [], ◌∷◌, length, bytes_eq, Option, Some, None, refl, ◌∙◌, cond, if◌then◌else◌, Result, Ok, Err, ap, sym, subst, arith}
+use Rattle.std.proofs.Common.{◌≡◌, ℕ, suc, ◌+◌, Bool, true, false, ◌&&◌, List, [], ◌∷◌, length}
+use Rattle.std.proofs.Common.{bytes_eq, Option, Some, None, refl, ◌∙◌, cond, if◌then◌else◌, Result}
+use Rattle.std.proofs.Common.{Ok, Err, ap, sym, subst, arith}
 use Rattle.std.specs.Prelude.{option_map, position, slice_get}
 use Rattle.std.specs.List.{position_from}
 use Rattle.std.proofs.lemmas.Iterator.Adapters.{position_from-zero}
@@ -10,8 +12,11 @@ use Rattle.chk_reading.specs.Adaptors.{Adaptor}
 use Rattle.chk_agent.specs.declared.answers.AgentFault.{AgentFault}
 use Rattle.chk_agent.specs.declared.answers.Added.TheVariants.{New}
 use Rattle.chk_agent.specs.States.{State}
-use Rattle.chk_agent.specs.Adds.{Found, stream_in, revived_at, not_asked, TakesStream, written, failed, unwritten, unbegun, MayTake, class_for, added_number, IsAdded, new as is_new, refused, wanting}
-use Rattle.chk_agent.specs.Takes.{Keeps, kept, failed as keep_failed, unwritten as keep_unwritten, wanting as keep_wanting, TakesNamed, named, wanting as none_named}
+use Rattle.chk_agent.specs.Adds.{Found, stream_in, revived_at, not_asked, TakesStream, written}
+use Rattle.chk_agent.specs.Adds.{failed, unwritten, unbegun, MayTake, class_for, added_number}
+use Rattle.chk_agent.specs.Adds.{IsAdded, new as is_new, refused, wanting}
+use Rattle.chk_agent.specs.Takes.{Keeps, kept, failed as keep_failed, unwritten as keep_unwritten}
+use Rattle.chk_agent.specs.Takes.{wanting as keep_wanting, TakesNamed, named, wanting as none_named}
 
 abbrev is_of : List ℕ → List ℕ → Adaptor → Bool
 is_of kind path a = bytes_eq a.kind kind && bytes_eq a.path path

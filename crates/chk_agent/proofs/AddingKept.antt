@@ -1,5 +1,6 @@
 -- The exits of the taking of a new stream: what it leaves at each.
-use Rattle.std.proofs.Common.{◌≡◌, ℕ, true, false, not, List, [], ◌∷◌, ◌++◌, length, Option, None, Result, Ok, Err, ap, sym, subst, ◌∙◌, refl}
+use Rattle.std.proofs.Common.{◌≡◌, ℕ, true, false, not, List, [], ◌∷◌, ◌++◌, length, Option, None}
+use Rattle.std.proofs.Common.{Result, Ok, Err, ap, sym, subst, ◌∙◌, refl}
 use Rattle.chk_control.specs.declared.Class.{Class}
 use Rattle.chk_control.specs.Classes.{is_plain}
 use Rattle.std.specs.Prelude.{IsTrue, ◌==◌, Some}
@@ -9,7 +10,8 @@ use Rattle.chk_site.specs.declared.acts.Call.TheVariants.{LogNewest}
 use Rattle.chk_site.specs.declared.acts.Role.TheVariants.{Agent}
 use Rattle.chk_site.specs.declared.acts.Who.{Who}
 use Rattle.chk_site.specs.declared.acts.OutsideFault.{OutsideFault}
-use Rattle.chk_site.specs.declared.acts.OutsideFault.TheVariants.{Outside as site_failed, NoMemory as no_memory}
+use Rattle.chk_site.specs.declared.acts.OutsideFault.TheVariants.{Outside as site_failed}
+use Rattle.chk_site.specs.declared.acts.OutsideFault.TheVariants.{NoMemory as no_memory}
 use Rattle.chk_site.specs.History.{Every, History}
 use Rattle.chk_replace.specs.Replace.{SparesOld}
 use Rattle.chk_world.specs.Names.{CheckFile, spell}
@@ -30,8 +32,11 @@ use Rattle.chk_agent.specs.Facts.{Matches}
 use Rattle.chk_agent.specs.Faults.{fault_of}
 use Rattle.chk_agent.specs.Fits.{IsSound}
 use Rattle.chk_agent.specs.Settles.{Writes, saved_now, unsure}
-use Rattle.chk_agent.specs.Adds.{IsNewest, asked_for, new_line, with_added, TakesStream, written, failed, unwritten, unkept, unasked, wanting}
-use Rattle.chk_agent.specs.Takes.{Asks, IsMore, IsNewLine, MatchesNewest, Keeps, kept, failed as keep_failed, unwritten as keep_unwritten, wanting as keep_wanting}
+use Rattle.chk_agent.specs.Adds.{IsNewest, asked_for, new_line, with_added, TakesStream, written}
+use Rattle.chk_agent.specs.Adds.{failed, unwritten, unkept, unasked, wanting}
+use Rattle.chk_agent.specs.Takes.{Asks, IsMore, IsNewLine, MatchesNewest, Keeps, kept}
+use Rattle.chk_agent.specs.Takes.{failed as keep_failed, unwritten as keep_unwritten}
+use Rattle.chk_agent.specs.Takes.{wanting as keep_wanting}
 use Rattle.chk_agent.proofs.StartingSound.{line_again}
 use Rattle.chk_agent.proofs.Soundness.{lines_good, sound_unsure}
 use Rattle.chk_agent.proofs.AddingNew.{new_lines, none_owned, places, new_sound}

@@ -1,5 +1,7 @@
 -- Lines under a name that no live one has.
-use Rattle.std.proofs.Common.{◌≡◌, ℕ, zero, suc, ◌+◌, Bool, true, false, ◌&&◌, ◌||◌, not, List, [], ◌∷◌, ◌++◌, map, bytes_eq, Some, None, ap, sym, subst, ◌∙◌, refl, true≢false, if◌then◌else◌}
+use Rattle.std.proofs.Common.{◌≡◌, ℕ, zero, suc, ◌+◌, Bool, true, false, ◌&&◌, ◌||◌, not, List, []}
+use Rattle.std.proofs.Common.{◌∷◌, ◌++◌, map, bytes_eq, Some, None, ap, sym, subst, ◌∙◌, refl}
+use Rattle.std.proofs.Common.{true≢false, if◌then◌else◌}
 use Rattle.std.specs.Prelude.{slice_get, slice_set}
 use Rattle.std.specs.List.{list_any}
 use Rattle.std.proofs.lemmas.Bool.{and_parts, and_from}
@@ -8,6 +10,8 @@ use Rattle.chk_world.specs.Checkpoints.{same_log, clash, are_apart}
 use Rattle.chk_world.proofs.Ends.{bytes_same, bytes_self}
 use Rattle.chk_reading.specs.Adaptors.{Adaptor, is_past, line_at, revived}
 use Rattle.chk_agent.specs.Adds.{Found, named_in, stream_in}
+use Rattle.chk_control.proofs.SpelledLemmas.{false_from_not as not-true}
+use Rattle.chk_delivery.proofs.Due.{neither}
 
 -- no live one has the name
 abbrev pub IsFree : List ℕ → Adaptor → Type 0
@@ -29,14 +33,6 @@ other_first kind path i a adaptors none = go (bytes_eq a.kind kind && bytes_eq a
         → (b ≡ false) × (stream_in kind path (i + 1) adaptors ≡ None)
     go true e = let found : Found = record { number = i; adaptor = a } in absurd (none-some found (sym e))
     go false e = (refl, e)
-
-neither : (a b : Bool) → (a || b) ≡ false → (a ≡ false) × (b ≡ false)
-neither true b e = absurd (true≢false e)
-neither false b e = (refl, e)
-
-not-true : (b : Bool) → not b ≡ true → b ≡ false
-not-true true e = absurd (true≢false (sym e))
-not-true false e = refl
 
 turned : (live : Bool) (a b : List ℕ) → (live && bytes_eq a b) ≡ false → (live && bytes_eq b a) ≡ false
 turned false a b e = refl

@@ -1,5 +1,7 @@
 -- A new stream: the state with its adaptor is sound, once its line was written.
-use Rattle.std.proofs.Common.{◌≡◌, ◌≢◌, ℕ, zero, suc, ◌≤◌, ◌<◌, false, ◌==◌, ◌||◌, List, [], ◌∷◌, ◌++◌, length, map, Some, None, ap, sym, subst, ◌∙◌, refl, arith, if◌then◌else◌}
+use Rattle.std.proofs.Common.{◌≡◌, ◌≢◌, ℕ, zero, suc, ◌≤◌, ◌<◌, false, ◌==◌, ◌||◌, List, [], ◌∷◌}
+use Rattle.std.proofs.Common.{◌++◌, length, map, Some, None, ap, sym, subst, ◌∙◌, refl, arith}
+use Rattle.std.proofs.Common.{if◌then◌else◌}
 use Rattle.std.specs.Prelude.{slice_get, slice_set, slice_index}
 use Rattle.std.specs.List.{list_any}
 use Rattle.std.proofs.lemmas.Bool.{ne_eqb}
@@ -18,7 +20,8 @@ use Rattle.chk_agent.specs.Settles.{saved_now}
 use Rattle.chk_agent.specs.Fits.{FitsPlace, IsSound}
 use Rattle.chk_agent.specs.Adds.{with_added}
 use Rattle.chk_agent.specs.Takes.{IsNewLine}
-use Rattle.chk_agent.proofs.Soundness.{HavePlaces, sound_written, owned_on, map_at, at_map, below_at, size_map}
+use Rattle.chk_agent.proofs.Soundness.{HavePlaces, sound_written, owned_on, map_at, at_map}
+use Rattle.chk_agent.proofs.Soundness.{below_at, size_map}
 use Rattle.chk_agent.proofs.StartingSound.{place_again, line_again}
 use Rattle.chk_agent.proofs.AddingNames.{apart_more}
 use Rattle.chk_agent.proofs.AddingPast.{set_size}

@@ -1,5 +1,6 @@
 -- A past adaptor that lives again: the state is sound, and the history holds it.
-use Rattle.std.proofs.Common.{◌≡◌, ℕ, zero, suc, true, List, [], ◌∷◌, length, map, Some, None, ap, sym, subst, ◌∙◌, refl, arith}
+use Rattle.std.proofs.Common.{◌≡◌, ℕ, zero, suc, true, List, [], ◌∷◌, length, map, Some, None, ap}
+use Rattle.std.proofs.Common.{sym, subst, ◌∙◌, refl, arith}
 use Rattle.std.specs.Prelude.{IsTrue, Any, slice_get, slice_set, slice_index}
 use Rattle.std.proofs.lemmas.Bool.{and_parts, and_from}
 use Rattle.std.proofs.lemmas.Option.{same_Some, none-some}
@@ -15,7 +16,8 @@ use Rattle.chk_agent.specs.Facts.{Holds, Matches}
 use Rattle.chk_agent.specs.Fits.{FitsAdaptor, IsSound}
 use Rattle.chk_agent.specs.Adds.{named_in, revived_at}
 use Rattle.chk_agent.proofs.Soundness.{in_at, owned_on}
-use Rattle.chk_agent.proofs.SettlingHolds.{at_in, stands_like, marks_like}
+use Rattle.chk_agent.proofs.SettlingHolds.{at_in, marks_like}
+use Rattle.chk_reading.proofs.Told.{stands_like}
 use Rattle.chk_agent.proofs.AddingNames.{apart_revived}
 
 -- what stands in a list of which one was replaced

@@ -1,5 +1,7 @@
 -- A new stream: its suffix is asked for, its line is written, and the history holds its adaptor.
-use Rattle.std.proofs.Common.{◌≡◌, ℕ, zero, suc, ◌+◌, Bool, true, false, ◌&&◌, not, List, [], ◌∷◌, ◌++◌, length, map, bytes_eq, Option, Some, None, Result, Ok, Err, ap, sym, subst, ◌∙◌, refl, arith, true≢false, if◌then◌else◌}
+use Rattle.std.proofs.Common.{◌≡◌, ℕ, zero, suc, ◌+◌, Bool, true, false, ◌&&◌, not, List, [], ◌∷◌}
+use Rattle.std.proofs.Common.{◌++◌, length, map, bytes_eq, Option, Some, None, Result, Ok, Err, ap}
+use Rattle.std.proofs.Common.{sym, subst, ◌∙◌, refl, arith, true≢false, if◌then◌else◌}
 use Rattle.std.specs.Prelude.{IsTrue, Contains, Any, find, slice_get, slice_index, MatchBool}
 use Rattle.std.proofs.lemmas.Bool.{and_parts}
 use Rattle.std.proofs.lemmas.Option.{same_Some}
@@ -10,7 +12,8 @@ use Rattle.chk_site.specs.Site.{Adds, Ends, asked, answered, suffix_given, Calls
 use Rattle.chk_site.specs.declared.acts.Call.TheVariants.{LogNewest}
 use Rattle.chk_site.specs.declared.acts.CallFault.{CallFault}
 use Rattle.chk_site.specs.declared.acts.CallFault.TheVariants.{Failed, NoMemory as site_wanting}
-use Rattle.chk_site.specs.declared.acts.OutsideFault.TheVariants.{Outside as site_failed, NoMemory as no_memory}
+use Rattle.chk_site.specs.declared.acts.OutsideFault.TheVariants.{Outside as site_failed}
+use Rattle.chk_site.specs.declared.acts.OutsideFault.TheVariants.{NoMemory as no_memory}
 use Rattle.chk_world.proofs.AgentKnows.{agent_ends}
 use Rattle.chk_site.specs.Runs.{Leads}
 use Rattle.chk_site.proofs.Leads.{leads_as, leads_none}
@@ -20,7 +23,8 @@ use Rattle.chk_acks.specs.declared.row.Row.{Row}
 use Rattle.chk_acks.specs.Rows.{is_of_other}
 use Rattle.chk_checkpoint.specs.Lines.{written_text}
 use Rattle.chk_world.specs.Names.{CheckFile, spell}
-use Rattle.chk_world.specs.Checkpoints.{Line, is_line_of, same_log, read_checkpoint, checkpoint_lines}
+use Rattle.chk_world.specs.Checkpoints.{Line, is_line_of, same_log, read_checkpoint}
+use Rattle.chk_world.specs.Checkpoints.{checkpoint_lines}
 use Rattle.chk_world.specs.Agents.{last_newest, stream_of}
 use Rattle.chk_world.specs.Rules.{Legal}
 use Rattle.chk_world.specs.Places.{As, AtTold}
@@ -31,7 +35,8 @@ use Rattle.chk_world.specs.Knowing.{agent, Both, Knows}
 use Rattle.chk_world.proofs.Ends.{bytes_same, bytes_self}
 use Rattle.chk_world.proofs.PlacesStay.{Stays}
 use Rattle.chk_world.proofs.AgentCalls.{KeptByWrites}
-use Rattle.chk_world.proofs.AgentWrites.{AfterWriting, newest_told, newest_stays, newest_writes, written_told, grows_stays, grows_writes}
+use Rattle.chk_world.proofs.AgentWrites.{AfterWriting, newest_told, newest_stays, newest_writes}
+use Rattle.chk_world.proofs.AgentWrites.{written_told, grows_stays, grows_writes}
 use Rattle.chk_world.proofs.LinesTrue.{lines_stand}
 use Rattle.chk_reading.specs.Adaptors.{Adaptor, adaptor_of, line_at, read_line, stream_at}
 use Rattle.chk_reading.specs.Facts.{place_line, ReaderStands}
@@ -45,12 +50,14 @@ use Rattle.chk_agent.specs.Adds.{IsNewest, not_asked, asked_for, with_added, str
 use Rattle.chk_agent.specs.Takes.{Asks, IsNewLine, SuffixIsNewest, MatchesNewest}
 use Rattle.chk_agent.proofs.Soundness.{in_at, map_at, at_map, line_there, none_lost}
 use Rattle.chk_agent.proofs.StartingSound.{line_again}
-use Rattle.chk_agent.proofs.StartingHolds.{stands_like, stand_cut}
+use Rattle.chk_agent.proofs.StartingHolds.{stand_cut}
+use Rattle.chk_reading.proofs.Told.{stands_like}
 use Rattle.chk_agent.proofs.SettlingHolds.{at_in}
 use Rattle.chk_agent.proofs.SettlingTold.{state_grows, lines_go_on}
 use Rattle.chk_agent.proofs.Unrenamed.{unmade_told}
 use Rattle.chk_agent.proofs.AddingNames.{other_first}
-use Rattle.chk_agent.proofs.AddingNew.{before, last, at_end, end_at, end_here, below, places, streams_more, new_lines}
+use Rattle.chk_agent.proofs.AddingNew.{before, last, at_end, end_at, end_here, below, places}
+use Rattle.chk_agent.proofs.AddingNew.{streams_more, new_lines}
 
 -- ---- the suffix
 

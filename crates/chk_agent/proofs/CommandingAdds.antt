@@ -1,5 +1,7 @@
 -- A control line that adds, exit by exit.
-use Rattle.std.proofs.Common.{◌≡◌, ℕ, suc, ◌+◌, ◌≤◌, ◌<◌, Bool, true, false, ◌&&◌, ◌==◌, not, List, [], ◌∷◌, length, Option, Some, None, Result, Ok, Err, ap, sym, subst, ◌∙◌, refl, arith, bytes_eq, eq-eqb, if◌then◌else◌}
+use Rattle.std.proofs.Common.{◌≡◌, ℕ, suc, ◌+◌, ◌≤◌, ◌<◌, Bool, true, false, ◌&&◌, ◌==◌, not, List}
+use Rattle.std.proofs.Common.{[], ◌∷◌, length, Option, Some, None, Result, Ok, Err, ap, sym, subst}
+use Rattle.std.proofs.Common.{◌∙◌, refl, arith, bytes_eq, eq-eqb, if◌then◌else◌}
 use Rattle.std.specs.Prelude.{slice_get, slice_index_or, option_map, is_some}
 use Rattle.std.proofs.lemmas.Option.{same_Some, none-some, slice_get-get_or}
 use Rattle.chk_site.specs.History.{History}
@@ -15,7 +17,8 @@ use Rattle.chk_agent.specs.declared.answers.Then.TheVariants.{Go}
 use Rattle.chk_agent.specs.Replies.{reply_of}
 use Rattle.chk_agent.specs.States.{State}
 use Rattle.chk_agent.specs.Adds.{Found, named_in, stream_in, IsNameFor, MayTake, TakesStream}
-use Rattle.chk_agent.specs.Commands.{add_refusal, IsAnswered, IsCommand, refused_add, added, wanting}
+use Rattle.chk_agent.specs.Commands.{add_refusal, IsAnswered, IsCommand, refused_add, added}
+use Rattle.chk_agent.specs.Commands.{wanting}
 
 -- the stream's adaptor is there
 pub record IsAt (xs : List Adaptor) (f : Found) (j : ℕ) : Type 0 where
@@ -103,7 +106,8 @@ refused_by named xs o place d class offset result unnamed f by =
     ∙ (ap (λ k. add_refusal None k (length xs) class offset) (sym f.is)
     ∙ ap (λ k. add_refusal k o (length xs) class offset) (sym unnamed)))
 
-pub refused_there : (named : Option ℕ) (xs : List Adaptor) (o : Option Found) (place : ℕ) (f : Found)
+pub refused_there : (named : Option ℕ) (xs : List Adaptor) (o : Option Found) (place : ℕ)
+    (f : Found)
     (class : Class) (offset : ℕ) (result : Option ℕ) → named ≡ None → o ≡ Some f
     → ((i count : ℕ) → result ≡ add_refusal None (Some
     (record { number = i; adaptor = f.adaptor })) count class offset)

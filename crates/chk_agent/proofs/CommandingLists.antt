@@ -1,5 +1,7 @@
 -- Loops over the adaptors.
-use Rattle.std.proofs.Common.{◌≡◌, ℕ, zero, suc, ◌+◌, ◌≤◌, ◌<◌, Bool, true, false, ◌||◌, ◌&&◌, ◌==◌, not, List, [], ◌∷◌, length, Some, ap, sym, ◌∙◌, refl, arith, eqb-true, eq-eqb, bytes_eq, if◌then◌else◌}
+use Rattle.std.proofs.Common.{◌≡◌, ℕ, zero, suc, ◌+◌, ◌≤◌, ◌<◌, Bool, true, false, ◌||◌, ◌&&◌, ◌==◌}
+use Rattle.std.proofs.Common.{not, List, [], ◌∷◌, length, Some, ap, sym, ◌∙◌, refl, arith, eqb-true}
+use Rattle.std.proofs.Common.{eq-eqb, bytes_eq, if◌then◌else◌}
 use Rattle.std.specs.Prelude.{slice_get, slice_set, slice_index}
 use Rattle.std.proofs.lemmas.Option.{same_Some, none-some}
 use Rattle.chk_reading.specs.Adaptors.{Adaptor, is_past, stopped}

@@ -1,6 +1,7 @@
 -- A control line that calls nothing, exit by exit, and that the history holds what it makes of the
 -- state.
-use Rattle.std.proofs.Common.{◌≡◌, ℕ, List, [], ◌∷◌, Option, Some, None, Result, Ok, Err, ap, sym, subst, ◌∙◌, refl, arith}
+use Rattle.std.proofs.Common.{◌≡◌, ℕ, List, [], ◌∷◌, Option, Some, None, Result, Ok, Err, ap, sym}
+use Rattle.std.proofs.Common.{subst, ◌∙◌, refl, arith}
 use Rattle.std.specs.Prelude.{slice_get}
 use Rattle.std.proofs.lemmas.Option.{same_Some}
 use Rattle.chk_site.specs.History.{History}
@@ -9,7 +10,10 @@ use Rattle.chk_site.specs.Runs.{Leads}
 use Rattle.chk_site.proofs.Leads.{leads_none}
 use Rattle.chk_site.proofs.Runs.{adds_none}
 use Rattle.chk_world.specs.Places.{As}
-use Rattle.chk_control.specs.declared.commands.Command.TheVariants.{Blank, Add, Close, Help, List as ListAll, ReloadCollectors, Stop, StopAll, Shutdown, StopAgent}
+use Rattle.chk_control.specs.declared.commands.Command.TheVariants.{Blank, Add, Close, Help}
+use Rattle.chk_control.specs.declared.commands.Command.TheVariants.{List as ListAll}
+use Rattle.chk_control.specs.declared.commands.Command.TheVariants.{ReloadCollectors, Stop, StopAll}
+use Rattle.chk_control.specs.declared.commands.Command.TheVariants.{Shutdown, StopAgent}
 use Rattle.chk_control.specs.Lines.{Meaning, meaning_of}
 use Rattle.chk_reading.specs.Adaptors.{Adaptor}
 use Rattle.chk_delivery.specs.States.{State as Delivery}
@@ -23,8 +27,11 @@ use Rattle.chk_agent.specs.States.{State, process}
 use Rattle.chk_agent.specs.Facts.{Holds, Matches}
 use Rattle.chk_agent.specs.Fits.{IsSound}
 use Rattle.chk_agent.specs.Adds.{named_in}
-use Rattle.chk_agent.specs.Commands.{Effect, plain_effect, stop_effect, shutdown_effect, ending, live_from, stopped_state, RunsPlainly, did, unmade, IsAnswered, IsCommand, plainly, wanting}
-use Rattle.chk_agent.proofs.CommandingStates.{phases_hold, ending_rephased, stopped_holds, first_holds}
+use Rattle.chk_agent.specs.Commands.{Effect, plain_effect, stop_effect, shutdown_effect, ending}
+use Rattle.chk_agent.specs.Commands.{live_from, stopped_state, RunsPlainly, did, unmade, IsAnswered}
+use Rattle.chk_agent.specs.Commands.{IsCommand, plainly, wanting}
+use Rattle.chk_agent.proofs.CommandingStates.{phases_hold, ending_rephased, stopped_holds}
+use Rattle.chk_agent.proofs.CommandingStates.{first_holds}
 
 -- ---- the exits
 

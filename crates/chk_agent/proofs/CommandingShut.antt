@@ -1,8 +1,10 @@
 -- An adaptor of a name is to end, or is past.
-use Rattle.std.proofs.Common.{◌≡◌, ℕ, ◌≤◌, List, [], ◌∷◌, length, Option, Some, None, Ok, ap, sym, subst, ◌∙◌, arith}
+use Rattle.std.proofs.Common.{◌≡◌, ℕ, ◌≤◌, List, [], ◌∷◌, length, Option, Some, None, Ok, ap, sym}
+use Rattle.std.proofs.Common.{subst, ◌∙◌, arith}
 use Rattle.std.specs.Prelude.{slice_get, slice_set, slice_index}
 use Rattle.chk_control.specs.declared.commands.Command.TheVariants.{Stop, Shutdown}
-use Rattle.chk_control.specs.declared.answers.Answer.TheVariants.{Stopped, Stopping as stops_later, Bad}
+use Rattle.chk_control.specs.declared.answers.Answer.TheVariants.{Stopped, Stopping as stops_later}
+use Rattle.chk_control.specs.declared.answers.Answer.TheVariants.{Bad}
 use Rattle.chk_control.specs.Answers.{answer_text}
 use Rattle.chk_rotate.specs.Marks.{BeginsBelow}
 use Rattle.chk_acks.specs.Sound.{IsSound as IsSoundTable}
@@ -14,10 +16,11 @@ use Rattle.chk_agent.specs.declared.answers.Then.TheVariants.{Go}
 use Rattle.chk_agent.specs.States.{State, committed_at}
 use Rattle.chk_agent.specs.Fits.{IsSound}
 use Rattle.chk_agent.specs.Adds.{named_in}
-use Rattle.chk_agent.specs.Commands.{plain_effect, stop_effect, shutdown_effect, ending, all_past, live_from, stopped_state}
+use Rattle.chk_agent.specs.Commands.{plain_effect, stop_effect, shutdown_effect, ending, all_past}
+use Rattle.chk_agent.specs.Commands.{live_from, stopped_state}
 use Rattle.chk_agent.proofs.CommandingLists.{IsThere, named_there, past_one}
 use Rattle.chk_agent.proofs.CommandingStates.{phases_sound, ending_rephased, stopped_sound}
-use Rattle.chk_agent.proofs.SettlingNext.{last_size}
+use Rattle.chk_delivery.proofs.Leaving.{length-last_back as last_size}
 
 -- the one that was found
 pub found_one : (name : List ℕ) (xs : List Adaptor) (o : Option ℕ) (i : ℕ) → o ≡ Some i

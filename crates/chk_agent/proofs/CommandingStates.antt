@@ -1,5 +1,6 @@
 -- What a control line makes of the state is sound, and the history holds it.
-use Rattle.std.proofs.Common.{◌≡◌, ℕ, zero, suc, ◌+◌, Bool, true, false, List, [], ◌∷◌, length, Some, ap, sym, subst, ◌∙◌, refl, arith, if◌then◌else◌}
+use Rattle.std.proofs.Common.{◌≡◌, ℕ, zero, suc, ◌+◌, Bool, true, false, List, [], ◌∷◌, length}
+use Rattle.std.proofs.Common.{Some, ap, sym, subst, ◌∙◌, refl, arith, if◌then◌else◌}
 use Rattle.std.specs.Prelude.{slice_get, slice_set, slice_index}
 use Rattle.std.proofs.lemmas.Option.{same_Some, none-some}
 use Rattle.chk_site.specs.History.{History}
@@ -8,7 +9,8 @@ use Rattle.chk_tail.specs.Walks.{Spot}
 use Rattle.chk_world.specs.Checkpoints.{Line}
 use Rattle.chk_reading.specs.declared.adaptor.Phase.{Phase}
 use Rattle.chk_reading.specs.declared.adaptor.Phase.TheVariants.{Live, Stopping, Shrank, Past}
-use Rattle.chk_reading.specs.Adaptors.{Adaptor, is_past, read_line, sent_back, stopped, shut_down, phase_to_end}
+use Rattle.chk_reading.specs.Adaptors.{Adaptor, is_past, read_line, sent_back, stopped, shut_down}
+use Rattle.chk_reading.specs.Adaptors.{phase_to_end}
 use Rattle.chk_reading.specs.Facts.{place_line, MarksStand, ReaderStands}
 use Rattle.chk_delivery.specs.Sound.{IsSound as IsSoundDelivery}
 use Rattle.chk_delivery.specs.Turns.{without_adaptors, is_one_of}
@@ -18,9 +20,11 @@ use Rattle.chk_agent.specs.Facts.{Holds}
 use Rattle.chk_agent.specs.Fits.{FitsAdaptor, IsSound}
 use Rattle.chk_agent.specs.Settles.{all_back, reset}
 use Rattle.chk_agent.specs.Commands.{all_past, stopped_state, first_again}
-use Rattle.chk_agent.proofs.Soundness.{in_at, GoesOnAs, AllGoOn, go_on_at, streams_on, sound_changed}
+use Rattle.chk_agent.proofs.Soundness.{in_at, GoesOnAs, AllGoOn, go_on_at, streams_on}
+use Rattle.chk_agent.proofs.Soundness.{sound_changed}
 use Rattle.chk_agent.proofs.SettlingSound.{sound_reset}
-use Rattle.chk_agent.proofs.SettlingHolds.{at_in, stands_like, holds_reset}
+use Rattle.chk_agent.proofs.SettlingHolds.{at_in, holds_reset}
+use Rattle.chk_reading.proofs.Told.{stands_like}
 
 -- ---- the phase is no matter of where an adaptor stands
 

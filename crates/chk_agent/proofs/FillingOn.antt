@@ -1,5 +1,7 @@
 -- A fill so far: what the steps have made of the state, and what is left of the order.
-use Rattle.std.proofs.Common.{◌≡◌, inl, inr, ℕ, zero, suc, ◌+◌, ◌-◌, ◌≤◌, ◌<◌, true, false, List, [], ◌∷◌, ◌++◌, length, Some, Option, None, Result, Ok, Err, ap, sym, subst, ◌∙◌, refl, arith, true≢false, append_assoc, if◌then◌else◌}
+use Rattle.std.proofs.Common.{◌≡◌, inl, inr, ℕ, zero, suc, ◌+◌, ◌-◌, ◌≤◌, ◌<◌, true, false, List}
+use Rattle.std.proofs.Common.{[], ◌∷◌, ◌++◌, length, Some, Option, None, Result, Ok, Err, ap, sym}
+use Rattle.std.proofs.Common.{subst, ◌∙◌, refl, arith, true≢false, append_assoc, if◌then◌else◌}
 use Rattle.std.specs.Prelude.{filter, slice_get, slice_set}
 use Rattle.std.proofs.lemmas.List.Sums.{sum_by-append}
 use Rattle.std.proofs.lemmas.Bool.{lt-ltb, le-ltb, cases_lt}
@@ -13,7 +15,8 @@ use Rattle.chk_site.specs.Site.{Adds, EndsIn}
 use Rattle.chk_site.specs.Runs.{Leads}
 use Rattle.chk_site.proofs.Leads.{leads_then, leads_as, leads_none}
 use Rattle.chk_tail.specs.declared.step.Step.{Step}
-use Rattle.chk_tail.specs.declared.step.Step.TheVariants.{Bytes, AtEnd as gave_none, Shrank as is_short}
+use Rattle.chk_tail.specs.declared.step.Step.TheVariants.{Bytes, AtEnd as gave_none}
+use Rattle.chk_tail.specs.declared.step.Step.TheVariants.{Shrank as is_short}
 use Rattle.chk_queue.specs.Queues.{data_size}
 use Rattle.chk_world.specs.Places.{As}
 use Rattle.chk_reading.specs.Adaptors.{Adaptor, is_stepped}
@@ -24,12 +27,19 @@ use Rattle.chk_agent.specs.Faults.{FailsLast}
 use Rattle.chk_agent.specs.declared.answers.Filled.{Filled}
 use Rattle.chk_agent.specs.declared.answers.Filled.TheVariants.{Held, Shrank}
 use Rattle.chk_agent.specs.declared.answers.Stepped.{Stepped}
-use Rattle.chk_agent.specs.declared.answers.Stepped.TheVariants.{Read as step_read, AtEnd as step_at_end, Held as step_held, Shrank as step_shrank}
+use Rattle.chk_agent.specs.declared.answers.Stepped.TheVariants.{Read as step_read}
+use Rattle.chk_agent.specs.declared.answers.Stepped.TheVariants.{AtEnd as step_at_end}
+use Rattle.chk_agent.specs.declared.answers.Stepped.TheVariants.{Held as step_held}
+use Rattle.chk_agent.specs.declared.answers.Stepped.TheVariants.{Shrank as step_shrank}
 use Rattle.chk_agent.specs.States.{State, process, is_read_on, to_step, chunk_given}
-use Rattle.chk_agent.specs.Fills.{after_step, given_bytes, filled_by, IsFilled, all_stepped, full, none_before, stepped, shrank, refused as fill_refused, unkept as fill_unkept, wanting as fill_wanting, step_answer, IsOneStepped, held, made, refused, unkept, wanting}
+use Rattle.chk_agent.specs.Fills.{after_step, given_bytes, filled_by, IsFilled, all_stepped, full}
+use Rattle.chk_agent.specs.Fills.{none_before, stepped, shrank, refused as fill_refused}
+use Rattle.chk_agent.specs.Fills.{unkept as fill_unkept, wanting as fill_wanting, step_answer}
+use Rattle.chk_agent.specs.Fills.{IsOneStepped, held, made, refused, unkept, wanting}
 use Rattle.chk_agent.specs.Facts.{Matches, AfterStep}
 use Rattle.chk_agent.specs.Within.{first_of, number_at, held_by}
 use Rattle.chk_agent.proofs.FillingOrder.{rest_from, order_is}
+use Rattle.chk_site.proofs.LastCalls.{ends_in_both as ends_early}
 
 -- those of these numbers whose adaptors are read in this state
 abbrev pub left_of : State → ℕ → List ℕ
@@ -78,8 +88,12 @@ left_next s k below =
     ap (λ n. filter (λ i. is_read_on (slice_get s.adaptors i)) (rest_from (length s.adaptors) (first_of (length s.adaptors) s.last) k n))
     (let z : length s.adaptors - k ≡ suc (length s.adaptors - (k + 1)) = omega (arith, below) in z)
     ∙ ap (λ j. if is_read_on (slice_get s.adaptors (at_place s k))
-    then at_place s k ∷ filter (λ i. is_read_on (slice_get s.adaptors i)) (rest_from (length s.adaptors) (first_of (length s.adaptors) s.last) j (length s.adaptors - (k + 1)))
-    else filter (λ i. is_read_on (slice_get s.adaptors i)) (rest_from (length s.adaptors) (first_of (length s.adaptors) s.last) j (length s.adaptors - (k + 1))))
+    then at_place s k ∷ filter (λ i. is_read_on (slice_get s.adaptors i))
+    (rest_from (length s.adaptors) (first_of (length s.adaptors) s.last) j
+    (length s.adaptors - (k + 1)))
+    else filter (λ i. is_read_on (slice_get s.adaptors i))
+    (rest_from (length s.adaptors) (first_of (length s.adaptors) s.last) j
+    (length s.adaptors - (k + 1))))
     (let z : suc k ≡ k + 1 = omega arith in z)
 
 -- one that isn't read is passed over
@@ -136,7 +150,8 @@ held_fills x a t u order sum used res (refused b fault room st) e = absurd (cc)
 held_fills x a t u order sum used res (unkept b step room st) e = absurd (cc)
 held_fills x a t u order sum used res (wanting room) e = absurd (cc)
 
-pub err_fills : (x : ℕ) (a : Adaptor) (t u : State) (order : List ℕ) (sum : ℕ) (fault : AgentFault) (res : Result Stepped AgentFault) {here new : Option History}
+pub err_fills : (x : ℕ) (a : Adaptor) (t u : State) (order : List ℕ) (sum : ℕ) (fault : AgentFault)
+    (res : Result Stepped AgentFault) {here new : Option History}
     → slice_get t.adaptors x ≡ Some a → is_stepped a.phase ≡ true
     → IsOneStepped x a t res u here new → res ≡ Err fault → IsFilled (x ∷ order) sum t (Err fault) u here new
 err_fills x a t u order sum fault res at on (held room) e = absurd (cc)
@@ -260,7 +275,9 @@ fill_steps s k t u a r n res {before = before} {here = here} {new = new} f below
           (λ e. let z : j ≡ k = apart (length s.adaptors) (first_of (length s.adaptors) s.last) j k (first_within (length s.adaptors) s.last) less below e in
           omega (arith, z, later)) ∙ f.same j (omega (arith, later)) less;
       told = λ stamped. leads_then (f.told stamped)
-          (subst (λ source. Adds here new (Leads (As stamped (record { role = Agent; name = source })) (Matches stamped t) (Matches stamped (after_step x step a b t))))
+          (subst (λ source. Adds here new
+          (Leads (As stamped (record { role = Agent; name = source })) (Matches stamped t)
+          (Matches stamped (after_step x step a b t))))
           f.source (leads_as (λ h z. z) (λ h z. z.matches) (told stamped)));
       size = let now = size_after x step a b t n so in let was = f.size in omega (arith, now, was);
       ready = f.ready;
@@ -295,10 +312,6 @@ fill_ends s k t before here f past sum is =
 
 abbrev failed_with : (T : Type 0) → AgentFault → Result T AgentFault
 failed_with T fault = Err fault
-
-ends_early : (call : Call) (b a : History) → EndsIn call b → EndsIn call (b ++ a)
-ends_early call [] a e = absurd e
-ends_early call (step ∷ b) a e = e
 
 -- the failure of a call behind others is the last one of all
 pub last_on : {T U : Type 0} (r : Result T AgentFault) (q : Result U AgentFault) (fault : AgentFault) {before here new : Option History}

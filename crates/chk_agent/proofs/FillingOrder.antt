@@ -1,5 +1,6 @@
 -- The order of a fill, place by place.
-use Rattle.std.proofs.Common.{◌≡◌, inl, inr, ℕ, zero, suc, ◌+◌, ◌-◌, ◌≤◌, ◌<◌, List, [], ◌∷◌, ◌++◌, Option, Some, None, ap, ◌∙◌, refl, arith, if◌then◌else◌}
+use Rattle.std.proofs.Common.{◌≡◌, inl, inr, ℕ, zero, suc, ◌+◌, ◌-◌, ◌≤◌, ◌<◌, List, [], ◌∷◌, ◌++◌}
+use Rattle.std.proofs.Common.{Option, Some, None, ap, ◌∙◌, refl, arith, if◌then◌else◌}
 use Rattle.std.specs.Prelude.{min}
 use Rattle.std.proofs.lemmas.Bool.{lt-ltb, cases_lt, le-ltb}
 use Rattle.chk_agent.specs.States.{from_on, fill_order}
@@ -47,7 +48,9 @@ order_from count first few =
     ∙ (rest_both count first 0 (count - first) first
     ∙ (λ i. (rest_low count first 0 (count - first) (omega arith) ∙ ap (λ j. from_on j (count - first)) (let z : first + 0 ≡ first = omega arith in z)) i
     ++ (ap (λ j. rest_from count first j first) (let z : 0 + (count - first) ≡ count - first = omega arith in z)
-    ∙ (rest_high count first (count - first) first (omega arith) ∙ ap (λ j. from_on j first) (let z : (count - first) - (count - first) ≡ 0 = omega arith in z))) i))
+    ∙ (rest_high count first (count - first) first (omega arith)
+    ∙ ap (λ j. from_on j first)
+    (let z : (count - first) - (count - first) ≡ 0 = omega arith in z))) i))
 
 append_none : (xs : List ℕ) → xs ++ [] ≡ xs
 append_none [] = refl

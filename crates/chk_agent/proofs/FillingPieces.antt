@@ -1,5 +1,7 @@
 -- Whether a step of a fill gave as much as one may.
-use Rattle.std.proofs.Common.{◌≡◌, ℕ, ◌+◌, ◌≤◌, Bool, true, false, List, [], ◌∷◌, ◌++◌, length, drop, Option, Result, Ok, ap, sym, subst, ◌∙◌, refl, arith, length-append}
+use Rattle.std.proofs.Common.{◌≡◌, ℕ, ◌+◌, ◌≤◌, Bool, true, false, List, [], ◌∷◌, ◌++◌, length}
+use Rattle.std.proofs.Common.{drop, Option, Result, Ok, ap, sym, subst, ◌∙◌, refl, arith}
+use Rattle.std.proofs.Common.{length-append}
 use Rattle.std.specs.Prelude.{◌||◌, ◌==◌}
 use Rattle.std.proofs.lemmas.List.{drop-append-le}
 use Rattle.std.proofs.lemmas.List.Folds.{list_any-append}
@@ -7,13 +9,18 @@ use Rattle.std.specs.List.{list_any}
 use Rattle.chk_site.specs.History.{History}
 use Rattle.chk_chunk.specs.declared.Chunk.{Chunk}
 use Rattle.chk_tail.specs.declared.step.Step.{Step}
-use Rattle.chk_tail.specs.declared.step.Step.TheVariants.{Bytes, AtEnd as gave_none, Shrank as is_short}
+use Rattle.chk_tail.specs.declared.step.Step.TheVariants.{Bytes, AtEnd as gave_none}
+use Rattle.chk_tail.specs.declared.step.Step.TheVariants.{Shrank as is_short}
 use Rattle.chk_reading.specs.Adaptors.{Adaptor}
 use Rattle.chk_agent.specs.declared.answers.AgentFault.{AgentFault}
 use Rattle.chk_agent.specs.declared.answers.Stepped.{Stepped}
-use Rattle.chk_agent.specs.declared.answers.Stepped.TheVariants.{Read as step_read, AtEnd as step_at_end, Held as step_held, Shrank as step_shrank}
+use Rattle.chk_agent.specs.declared.answers.Stepped.TheVariants.{Read as step_read}
+use Rattle.chk_agent.specs.declared.answers.Stepped.TheVariants.{AtEnd as step_at_end}
+use Rattle.chk_agent.specs.declared.answers.Stepped.TheVariants.{Held as step_held}
+use Rattle.chk_agent.specs.declared.answers.Stepped.TheVariants.{Shrank as step_shrank}
 use Rattle.chk_agent.specs.States.{State, chunk_given}
-use Rattle.chk_agent.specs.Fills.{after_step, step_answer, IsOneStepped, held, made, refused, unkept, wanting}
+use Rattle.chk_agent.specs.Fills.{after_step, step_answer, IsOneStepped, held, made, refused}
+use Rattle.chk_agent.specs.Fills.{unkept, wanting}
 use Rattle.chk_agent.specs.Pieces.{is_piece, gave_piece}
 
 abbrev waiting : State → List Chunk

@@ -1,6 +1,10 @@
 -- The least default name that is free is found by one pass.
-use Rattle.std.proofs.Common.{◌≡◌, ◌⊎◌, inl, inr, ℕ, zero, suc, ◌+◌, ◌≤◌, ◌<◌, ◌^◌, Bool, true, false, not, ◌&&◌, List, [], ◌∷◌, ◌++◌, length, take, drop, bytes_eq, Option, Some, None, ap, sym, subst, ◌∙◌, refl, arith, true≢false, if◌then◌else◌, length-append, decimal}
-use Rattle.std.specs.Prelude.{IsTrue, codes, replicate, position, slice_get, slice_set, option_and_then, nat_le}
+use Rattle.std.proofs.Common.{◌≡◌, ◌⊎◌, inl, inr, ℕ, zero, suc, ◌+◌, ◌≤◌, ◌<◌, ◌^◌, Bool, true}
+use Rattle.std.proofs.Common.{false, not, ◌&&◌, List, [], ◌∷◌, ◌++◌, length, take, drop, bytes_eq}
+use Rattle.std.proofs.Common.{Option, Some, None, ap, sym, subst, ◌∙◌, refl, arith, true≢false}
+use Rattle.std.proofs.Common.{if◌then◌else◌, length-append, decimal}
+use Rattle.std.specs.Prelude.{IsTrue, codes, replicate, position, slice_get, slice_set}
+use Rattle.std.specs.Prelude.{option_and_then, nat_le}
 use Rattle.std.specs.List.{position_from}
 use Rattle.std.proofs.lemmas.Bool.{and_from, le-leb}
 use Rattle.std.proofs.lemmas.Fmt.{length-decimal-le}
@@ -17,7 +21,8 @@ use Rattle.chk_world.proofs.Ends.{bytes_same, bytes_self}
 use Rattle.chk_reading.specs.Adaptors.{Adaptor, is_past}
 use Rattle.chk_agent.specs.States.{State}
 use Rattle.chk_agent.specs.Adds.{default_name, named_in, IsNameFor}
-use Rattle.chk_agent.specs.DefaultNames.{number_in, name_number, marked_one, marked, unmarked, IsLeastFree}
+use Rattle.chk_agent.specs.DefaultNames.{number_in, name_number, marked_one, marked, unmarked}
+use Rattle.chk_agent.specs.DefaultNames.{IsLeastFree}
 use Rattle.chk_agent.proofs.Soundness.{below_at}
 use Rattle.chk_agent.proofs.AddingNames.{free_first}
 use Rattle.chk_agent.proofs.AddingPast.{other, here, at_set, set_size}

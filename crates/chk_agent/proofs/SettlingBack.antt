@@ -1,5 +1,7 @@
 -- Adaptors that go back: what becomes of each of them, and that their lines stay.
-use Rattle.std.proofs.Common.{◌≡◌, inl, inr, ℕ, zero, suc, ◌+◌, ◌≤◌, ◌<◌, Bool, true, false, ◌||◌, ◌==◌, not, List, [], ◌∷◌, ◌++◌, length, take, map, Some, ap, sym, ◌∙◌, refl, arith, nat_le, eqb-true, eq-eqb, if◌then◌else◌}
+use Rattle.std.proofs.Common.{◌≡◌, inl, inr, ℕ, zero, suc, ◌+◌, ◌≤◌, ◌<◌, Bool, true, false, ◌||◌}
+use Rattle.std.proofs.Common.{◌==◌, not, List, [], ◌∷◌, ◌++◌, length, take, map, Some, ap, sym, ◌∙◌}
+use Rattle.std.proofs.Common.{refl, arith, nat_le, eqb-true, eq-eqb, if◌then◌else◌}
 use Rattle.std.specs.Prelude.{slice_get, slice_index, slice_set}
 use Rattle.std.proofs.lemmas.Bool.{le-leb, lt-leb, cases_lt}
 use Rattle.std.proofs.lemmas.Option.{same_Some, none-some}
@@ -8,7 +10,8 @@ use Rattle.chk_rotate.specs.Marks.{mark_at, place_of, kept_to, BeginsBelow, Rise
 use Rattle.chk_rotate.proofs.MarkLemmas.{kept_one, kept_none}
 use Rattle.chk_reading.specs.declared.adaptor.Phase.{Phase}
 use Rattle.chk_reading.specs.declared.adaptor.Phase.TheVariants.{Live, Stopping, Shrank, Past}
-use Rattle.chk_reading.specs.Adaptors.{Adaptor, is_past, line_at, stream_at, sent_back, phase_back, IsPlaced}
+use Rattle.chk_reading.specs.Adaptors.{Adaptor, is_past, line_at, stream_at, sent_back, phase_back}
+use Rattle.chk_reading.specs.Adaptors.{IsPlaced}
 use Rattle.chk_delivery.specs.Turns.{is_one_of}
 use Rattle.chk_agent.specs.States.{lines_at}
 use Rattle.chk_agent.specs.Settles.{all_back}
@@ -104,7 +107,9 @@ not_before low gone zero rise below = refl
 not_before low [] (suc k) rise below = absurd (let z : ⊥ = omega (arith, below) in z)
 not_before low (g ∷ gone) (suc k) rise below =
     let later = rising_from (suc g) gone k rise.1 (omega (arith, below)) in
-    go (g == slice_index gone k) (is_one_of (take k gone) (slice_index gone k)) (λ e. let z : g ≡ slice_index gone k = eqb-true g (slice_index gone k) e in omega (arith, z, later))
+    go (g == slice_index gone k) (is_one_of (take k gone) (slice_index gone k))
+    (λ e. let z : g ≡ slice_index gone k = eqb-true g (slice_index gone k) e in omega
+    (arith, z, later))
     (not_before (suc g) gone k rise.1 (omega (arith, below)))
   where
     go : (b c : Bool) → (b ≡ true → ⊥) → c ≡ false → (b || c) ≡ false

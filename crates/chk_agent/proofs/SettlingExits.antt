@@ -1,11 +1,14 @@
 -- The exits of a settle: what it leaves at each, and what the told history then holds.
-use Rattle.std.proofs.Common.{◌≡◌, ◌≢◌, ℕ, zero, suc, ◌≤◌, Bool, true, false, List, ◌∷◌, length, Some, Option, Result, Ok, Err, ap, sym, subst, ◌∙◌, refl, arith, if◌then◌else◌}
+use Rattle.std.proofs.Common.{◌≡◌, ◌≢◌, ℕ, zero, suc, ◌≤◌, Bool, true, false, List, ◌∷◌, length}
+use Rattle.std.proofs.Common.{Some, Option, Result, Ok, Err, ap, sym, subst, ◌∙◌, refl, arith}
+use Rattle.std.proofs.Common.{if◌then◌else◌}
 use Rattle.std.specs.Prelude.{IsTrue, slice_get, slice_index}
 use Rattle.chk_site.specs.declared.acts.Call.{Call}
 use Rattle.chk_site.specs.declared.acts.Role.TheVariants.{Agent}
 use Rattle.chk_site.specs.declared.acts.Who.{Who}
 use Rattle.chk_site.specs.declared.acts.OutsideFault.{OutsideFault}
-use Rattle.chk_site.specs.declared.acts.OutsideFault.TheVariants.{Outside as site_failed, NoMemory as no_memory}
+use Rattle.chk_site.specs.declared.acts.OutsideFault.TheVariants.{Outside as site_failed}
+use Rattle.chk_site.specs.declared.acts.OutsideFault.TheVariants.{NoMemory as no_memory}
 use Rattle.chk_site.specs.History.{Every, History}
 use Rattle.chk_site.specs.Site.{Adds}
 use Rattle.chk_site.specs.Runs.{Leads, MadeInTurn}
@@ -25,16 +28,18 @@ use Rattle.chk_delivery.specs.Sound.{IsSound as IsSoundDelivery}
 use Rattle.chk_delivery.specs.Turns.{is_one_of, numbers_of, without_adaptors}
 use Rattle.chk_agent.specs.declared.answers.AgentFault.TheVariants.{Outside, NoMemory}
 use Rattle.chk_agent.specs.States.{State, process, committed_at, lines_at, lines_of}
-use Rattle.chk_agent.specs.Settles.{all_back, reset, settled_all, settled, saved_now, unsure, Writes, gone_at, IsSettled, same, written, failed, unwritten}
+use Rattle.chk_agent.specs.Settles.{all_back, reset, settled_all, settled, saved_now, unsure}
+use Rattle.chk_agent.specs.Settles.{Writes, gone_at, IsSettled, same, written, failed, unwritten}
 use Rattle.chk_agent.specs.Facts.{Matches}
 use Rattle.chk_agent.specs.Fits.{IsSound}
 use Rattle.chk_agent.specs.Within.{Rising}
 use Rattle.chk_agent.proofs.Soundness.{lines_spelled, sound_saved}
 use Rattle.chk_agent.proofs.SettlingBack.{lines_back}
-use Rattle.chk_agent.proofs.SettlingNext.{last_size}
+use Rattle.chk_delivery.proofs.Leaving.{length-last_back as last_size}
 use Rattle.chk_agent.proofs.SettlingSound.{sound_reset, sound_settled}
 use Rattle.chk_agent.proofs.SettlingHolds.{holds_settled}
-use Rattle.chk_agent.proofs.SettlingTold.{reset_matches, settled_matches, lines_go_on, lines_unmade, lines_written, lines_unsure}
+use Rattle.chk_agent.proofs.SettlingTold.{reset_matches, settled_matches, lines_go_on, lines_unmade}
+use Rattle.chk_agent.proofs.SettlingTold.{lines_written, lines_unsure}
 
 -- ---- who goes back
 

@@ -1,5 +1,7 @@
 -- What the history holds of a state stays over a settle.
-use Rattle.std.proofs.Common.{◌≡◌, inl, inr, ℕ, zero, suc, ◌≤◌, Bool, true, false, not, List, [], ◌∷◌, length, map, Some, None, ap, sym, subst, ◌∙◌, refl, arith, true≢false, nat_le, if◌then◌else◌}
+use Rattle.std.proofs.Common.{◌≡◌, inl, inr, ℕ, zero, suc, ◌≤◌, Bool, true, false, not, List, []}
+use Rattle.std.proofs.Common.{◌∷◌, length, map, Some, None, ap, sym, subst, ◌∙◌, refl, arith}
+use Rattle.std.proofs.Common.{true≢false, nat_le, if◌then◌else◌}
 use Rattle.std.specs.Prelude.{IsTrue, Contains, slice_get, find}
 use Rattle.std.specs.List.{list_any}
 use Rattle.std.proofs.lemmas.Bool.{le-leb, leb-true, cases_lt}
@@ -12,7 +14,8 @@ use Rattle.chk_rotate.proofs.MarkLemmas.{kept_one, kept_none}
 use Rattle.chk_world.specs.Checkpoints.{Line, is_line_of}
 use Rattle.chk_world.specs.Streams.{is_stream_cut}
 use Rattle.chk_world.specs.Standing.{Stands}
-use Rattle.chk_reading.specs.Adaptors.{Adaptor, stream_at, line_at, read_line, sent_back, settled_one}
+use Rattle.chk_reading.specs.Adaptors.{Adaptor, stream_at, line_at, read_line, sent_back}
+use Rattle.chk_reading.specs.Adaptors.{settled_one}
 use Rattle.chk_reading.specs.Facts.{place_line, MarksStand, ReaderStands}
 use Rattle.chk_delivery.specs.States.{State as Delivery}
 use Rattle.chk_delivery.specs.Basis.{Basis}
@@ -27,6 +30,7 @@ use Rattle.chk_agent.proofs.Soundness.{in_at, at_map, map_at, line_there, stream
 use Rattle.chk_agent.proofs.SettlingBack.{back_at, streams_back}
 use Rattle.chk_agent.proofs.SettlingNext.{chunk_left, all_left}
 use Rattle.chk_agent.proofs.SettlingSound.{place_offset, settled_at, all_settle}
+use Rattle.chk_reading.proofs.Told.{stands_like}
 
 -- the place of one in a list
 pub at_in : {X : Type 0} (xs : List X) (x : X) → Contains xs x → (i : ℕ) × (slice_get xs i ≡ Some x)
@@ -35,20 +39,6 @@ at_in (y ∷ xs) x (zero, below, at) = (0, ap (λ k. Some k) at)
 at_in (y ∷ xs) x (suc k, below, at) = let r = at_in xs x (k, omega (arith, below), at) in (suc r.0, r.1)
 
 -- ---- places
-
--- Whether a place stands lies in its offset, its beginning and its suffix alone.
-pub stands_like : (history : History) (s : Stream) (l m : Line) → m.offset ≡ l.offset → m.first ≡ l.first → m.after ≡ l.after
-    → Stands history s l → Stands history s m
-stands_like history s l m offset first after h =
-    subst (λ o. Stands history s (record m { offset = o })) (sym offset)
-    (subst (λ o. Stands history s (record m { offset = l.offset; first = o })) (sym first)
-    (subst (λ o. Stands history s (record m { offset = l.offset; first = l.first; after = o })) (sym after) (record {
-      first = h.first;
-      founded = h.founded;
-      place = record { first = h.place.first; on = h.place.on; within = h.place.within };
-      cut = h.cut;
-      suffix = h.suffix;
-    })))
 
 module _ (history : History) (s : Stream) (a : Adaptor) where
   -- a place between the beginning of a generation and one that stands in it, at a cut place
@@ -203,7 +193,9 @@ module _ (history : History) (s : State) (sound : IsSound s) (h : Holds s histor
           → ReaderStands s.source (if x then sent_back (committed_at s i) a else a) history
       reader i a at true =
           let f = sound.each i a at in
-          reader_back history s.source a (committed_at s i) (h.readers a (in_at s.adaptors i a at)) f.place.marked.placed.rises f.place.from f.place.to (end_cut i a at)
+          reader_back history s.source a (committed_at s i)
+          (h.readers a (in_at s.adaptors i a at)) f.place.marked.placed.rises f.place.from
+          f.place.to (end_cut i a at)
       reader i a at false = h.readers a (in_at s.adaptors i a at)
 
   pub holds_settled : Holds (settled s) history
@@ -233,7 +225,8 @@ module _ (history : History) (s : State) (sound : IsSound s) (h : Holds s histor
           let k = map_at (stream_at s.source) s.adaptors i t at in
           let f = sound.each i k.0 k.1 in
           let found : find (is_line_of t) (lines_of s) ≡ Some (line_at (committed_at s i) k.0) =
-          subst (λ t. find (is_line_of t) (lines_of s) ≡ Some (line_at (committed_at s i) k.0)) k.2 (line_there s.source s.adaptors s.delivery.table.committed sound.apart i k.0 k.1) in
+          subst (λ t. find (is_line_of t) (lines_of s) ≡ Some (line_at (committed_at s i) k.0)) k.2
+          (line_there s.source s.adaptors s.delivery.table.committed sound.apart i k.0 k.1) in
           let same : saved ≡ line_at (committed_at s i) k.0 = same_Some saved (line_at (committed_at s i) k.0) (sym there ∙ found) in
           let e = h.delivery.ends i t f.saved at (subst (λ t. find (is_line_of t) s.saved ≡ Some f.saved) k.2 f.there) in
           record {

@@ -1,5 +1,7 @@
 -- The lines of a settle: those that are noted as past, and when two lists of lines are the same.
-use Rattle.std.proofs.Common.{◌≡◌, ℕ, zero, suc, ◌+◌, ◌≤◌, ◌<◌, Bool, true, false, ◌==◌, not, List, [], ◌∷◌, ◌++◌, length, take, map, Some, Option, None, ap, sym, ◌∙◌, refl, arith, true≢false, eqb-true, eq-eqb, bytes_eq}
+use Rattle.std.proofs.Common.{◌≡◌, ℕ, zero, suc, ◌+◌, ◌≤◌, ◌<◌, Bool, true, false, ◌==◌, not, List}
+use Rattle.std.proofs.Common.{[], ◌∷◌, ◌++◌, length, take, map, Some, Option, None, ap, sym, ◌∙◌}
+use Rattle.std.proofs.Common.{refl, arith, true≢false, eqb-true, eq-eqb, bytes_eq}
 use Rattle.std.specs.Prelude.{slice_get, slice_index, slice_set}
 use Rattle.std.proofs.lemmas.Option.{same_Some, none-some}
 use Rattle.std.proofs.lemmas.Bool.{and_parts, and_from}
@@ -12,7 +14,8 @@ use Rattle.chk_world.proofs.Ends.{bytes_same, bytes_self}
 use Rattle.chk_reading.specs.Adaptors.{Adaptor, is_past, line_at, phase_at, settled_one}
 use Rattle.chk_agent.specs.States.{lines_at}
 use Rattle.chk_agent.specs.Settles.{settled_all}
-use Rattle.chk_agent.specs.Within.{same_suffix, same_truth, same_place, place_in, same_kind, same_words, same_line}
+use Rattle.chk_agent.specs.Within.{same_suffix, same_truth, same_place, place_in, same_kind}
+use Rattle.chk_agent.specs.Within.{same_words, same_line}
 use Rattle.chk_checkpoint.specs.declared.CheckLine.{CheckLine}
 use Rattle.chk_checkpoint.specs.Lines.{shown}
 use Rattle.chk_agent.proofs.Soundness.{at_map, size_map, size_lines}
@@ -138,7 +141,9 @@ more_up zero (x ∷ xs) (o ∷ ends) a below at = ap (λ a. settled_one o a ∷ 
 more_up (suc n) [] ends a below at = absurd (none-some a at)
 more_up (suc n) (x ∷ xs) [] a below at = absurd (let z : ⊥ = omega (arith, below) in z)
 more_up (suc n) (x ∷ xs) (o ∷ ends) a below at =
-    ap (λ rest. settled_one o x ∷ rest) (more_up n xs ends a (omega (arith, below)) at) ∙ ap (λ k. settled_up k (x ∷ xs) (o ∷ ends)) (let z : suc (n + 1) ≡ suc n + 1 = omega arith in z)
+    ap (λ rest. settled_one o x ∷ rest) (more_up n xs ends a (omega (arith, below)) at)
+    ∙ ap (λ k. settled_up k (x ∷ xs) (o ∷ ends))
+    (let z : suc (n + 1) ≡ suc n + 1 = omega arith in z)
 
 pub lines_set : (xs : List Adaptor) (ends : List ℕ) (n : ℕ) (b : Adaptor) → length xs ≤ length ends
     → slice_set (lines_at xs ends) n (line_at (slice_index ends n) b) ≡ lines_at (slice_set xs n b) ends

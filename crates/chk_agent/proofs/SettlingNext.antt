@@ -1,18 +1,14 @@
 -- What waits for each adaptor once some of them went back.
-use Rattle.std.proofs.Common.{◌≡◌, ℕ, zero, suc, ◌+◌, ◌<◌, Bool, true, false, ◌||◌, not, List, [], ◌∷◌, length, ap, sym, ◌∙◌, refl, arith, true≢false, if◌then◌else◌}
+use Rattle.std.proofs.Common.{◌≡◌, ℕ, zero, suc, ◌+◌, ◌<◌, Bool, true, false, ◌||◌, not, List, []}
+use Rattle.std.proofs.Common.{◌∷◌, length, ap, sym, ◌∙◌, refl, arith, true≢false, if◌then◌else◌}
 use Rattle.std.specs.Prelude.{slice_index, slice_set, filter, Contains}
 use Rattle.std.specs.List.{list_any}
 use Rattle.chk_chunk.specs.declared.Chunk.{Chunk}
 use Rattle.chk_delivery.specs.Basis.{Basis, AreOwned}
 use Rattle.chk_delivery.specs.Sound.{ends_after}
 use Rattle.chk_delivery.specs.Turns.{is_one_of, without_chunks, last_back}
-
-set_other : (xs : List ℕ) (i j x : ℕ) → (j ≡ i → ⊥) → slice_index (slice_set xs i x) j ≡ slice_index xs j
-set_other [] i j x other = refl
-set_other (y ∷ xs) zero zero x other = absurd (other refl)
-set_other (y ∷ xs) zero (suc j) x other = refl
-set_other (y ∷ xs) (suc i) zero x other = refl
-set_other (y ∷ xs) (suc i) (suc j) x other = set_other xs i j x (λ e. other (ap suc e))
+use Rattle.chk_delivery.proofs.Due.{set_index as set_other, neither}
+use Rattle.chk_delivery.proofs.Rows.{length_set}
 
 set_like : (xs ys : List ℕ) (i x j : ℕ) → length xs ≡ length ys → slice_index xs j ≡ slice_index ys j
     → slice_index (slice_set xs i x) j ≡ slice_index (slice_set ys i x) j
@@ -23,15 +19,6 @@ set_like (a ∷ xs) (b ∷ ys) zero x zero many same = refl
 set_like (a ∷ xs) (b ∷ ys) zero x (suc j) many same = same
 set_like (a ∷ xs) (b ∷ ys) (suc i) x zero many same = same
 set_like (a ∷ xs) (b ∷ ys) (suc i) x (suc j) many same = set_like xs ys i x j (omega (arith, many)) same
-
-length_set : (xs : List ℕ) (i x : ℕ) → length (slice_set xs i x) ≡ length xs
-length_set [] i x = refl
-length_set (y ∷ ys) zero x = refl
-length_set (y ∷ ys) (suc i) x = ap suc (length_set ys i x)
-
-neither : (a b : Bool) → (a || b) ≡ false → (a ≡ false) × (b ≡ false)
-neither true b e = absurd (true≢false e)
-neither false b e = (refl, e)
 
 -- those of adaptors that went back
 pub gone_ends : (gone : List ℕ) (owners : List ℕ) (chunks : List Chunk) (last : List ℕ) (j : ℕ) → is_one_of gone j ≡ true
@@ -86,10 +73,6 @@ other_ends gone (i ∷ owners) (c ∷ chunks) last was j many at size same =
 
 -- ---- the last ends
 
-pub last_size : (gone committed : List ℕ) (i : ℕ) (last : List ℕ) → length (last_back gone committed i last) ≡ length last
-last_size gone committed i [] = refl
-last_size gone committed i (o ∷ last) = ap suc (last_size gone committed (suc i) last)
-
 pub last_at : (gone committed : List ℕ) (last : List ℕ) (i j k : ℕ) → k ≡ i + j → j < length last
     → slice_index (last_back gone committed i last) j ≡ (if is_one_of gone k then slice_index committed k else slice_index last j)
 last_at gone committed [] i j k is below = absurd (let z : ⊥ = omega (arith, below) in z)
@@ -132,7 +115,10 @@ owned_left b gone [] (c ∷ chunks) owned = absurd owned
 owned_left b gone (i ∷ owners) [] owned = absurd owned
 owned_left b gone (i ∷ owners) (c ∷ chunks) owned = go (is_one_of gone i) (owned_left b gone owners chunks owned.2)
   where
-    go : (x : Bool) → AreOwned b (filter (λ i. not (is_one_of gone i)) owners) (without_chunks gone owners chunks) → AreOwned b (if not x then i ∷ filter (λ i. not (is_one_of gone i)) owners else filter (λ i. not (is_one_of gone i)) owners)
+    go : (x : Bool) → AreOwned b (filter (λ i. not (is_one_of gone i)) owners)
+        (without_chunks gone owners chunks)
+        → AreOwned b (if not x then i ∷ filter (λ i. not (is_one_of gone i)) owners else filter
+        (λ i. not (is_one_of gone i)) owners)
         (if x then without_chunks gone owners chunks else c ∷ without_chunks gone owners chunks)
     go true rest = rest
     go false rest = (owned.0, owned.1, rest)

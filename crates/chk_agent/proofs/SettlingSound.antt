@@ -1,16 +1,21 @@
 -- The invariant over a settle: who goes back, and what is forgotten.
-use Rattle.std.proofs.Common.{◌≡◌, inl, inr, ℕ, zero, suc, ◌≤◌, Bool, true, false, List, [], ◌∷◌, length, Some, None, ap, sym, subst, ◌∙◌, refl, arith, true≢false, nat_le, if◌then◌else◌}
+use Rattle.std.proofs.Common.{◌≡◌, inl, inr, ℕ, zero, suc, ◌≤◌, Bool, true, false, List, [], ◌∷◌}
+use Rattle.std.proofs.Common.{length, Some, None, ap, sym, subst, ◌∙◌, refl, arith, true≢false}
+use Rattle.std.proofs.Common.{nat_le, if◌then◌else◌}
 use Rattle.std.specs.Prelude.{Contains, slice_get, slice_index}
 use Rattle.std.proofs.lemmas.Bool.{leb-true, cases_lt}
 use Rattle.std.proofs.lemmas.Option.{same_Some, none-some}
 use Rattle.chk_tail.specs.Walks.{Spot}
-use Rattle.chk_rotate.specs.Marks.{mark_at, place_of, forgotten, kept_to, BeginsBelow, RiseTo, newest_at}
-use Rattle.chk_rotate.proofs.MarkLemmas.{kept_one, kept_none, rise_kept, rise_forgotten, newest_kept, newest_forgotten}
+use Rattle.chk_rotate.specs.Marks.{mark_at, place_of, forgotten, kept_to, BeginsBelow, RiseTo}
+use Rattle.chk_rotate.specs.Marks.{newest_at}
+use Rattle.chk_rotate.proofs.MarkLemmas.{kept_one, kept_none, rise_kept, rise_forgotten}
+use Rattle.chk_rotate.proofs.MarkLemmas.{newest_kept, newest_forgotten}
 use Rattle.chk_world.specs.Checkpoints.{is_line}
 use Rattle.chk_world.specs.Answering.{MovesToLater}
 use Rattle.chk_reading.specs.declared.adaptor.Phase.{Phase}
 use Rattle.chk_reading.specs.declared.adaptor.Phase.TheVariants.{Live, Stopping, Shrank, Past}
-use Rattle.chk_reading.specs.Adaptors.{Adaptor, is_past, sent_back, settled_one, phase_back, phase_at}
+use Rattle.chk_reading.specs.Adaptors.{Adaptor, is_past, sent_back, settled_one, phase_back}
+use Rattle.chk_reading.specs.Adaptors.{phase_at}
 use Rattle.chk_delivery.specs.Sound.{IsSound as IsSoundDelivery, next_begins}
 use Rattle.chk_delivery.specs.Turns.{is_one_of, without_adaptors, last_back}
 use Rattle.chk_delivery.proofs.Members.{in_filter}
@@ -19,7 +24,8 @@ use Rattle.chk_agent.specs.Settles.{all_back, reset, settled_all, settled}
 use Rattle.chk_agent.specs.Fits.{SuffixesRise, mark_line, IsMarked, FitsAdaptor, IsSound}
 use Rattle.chk_agent.proofs.Soundness.{below_at, line_on, AllGoOn, GoesOnAs, sound_changed}
 use Rattle.chk_agent.proofs.SettlingBack.{back_one, back_at, place_kept}
-use Rattle.chk_agent.proofs.SettlingNext.{gone_ends, other_ends, last_size, last_at, owned_left}
+use Rattle.chk_agent.proofs.SettlingNext.{gone_ends, other_ends, last_at, owned_left}
+use Rattle.chk_delivery.proofs.Leaving.{length-last_back as last_size}
 
 -- ---- marks up to an offset
 

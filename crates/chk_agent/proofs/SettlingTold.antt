@@ -1,5 +1,6 @@
 -- What the told history holds after a settle.
-use Rattle.std.proofs.Common.{◌≡◌, ℕ, true, List, [], ◌∷◌, Some, Option, Result, Ok, Err, ap, sym, subst, ◌∙◌, refl, true≢false}
+use Rattle.std.proofs.Common.{◌≡◌, ℕ, true, List, [], ◌∷◌, Some, Option, Result, Ok, Err, ap, sym}
+use Rattle.std.proofs.Common.{subst, ◌∙◌, refl, true≢false}
 use Rattle.std.specs.Prelude.{IsTrue, slice_get, find}
 use Rattle.chk_site.specs.declared.acts.OutsideFault.{OutsideFault}
 use Rattle.chk_site.specs.declared.acts.OutsideFault.TheVariants.{NoMemory as no_memory}

@@ -1,8 +1,11 @@
 -- The invariant of an agent: what follows from it, and how it goes on.
-use Rattle.std.proofs.Common.{◌≡◌, ℕ, zero, suc, ◌≤◌, ◌<◌, Bool, true, false, ◌&&◌, ◌||◌, not, List, [], ◌∷◌, length, map, nat_le, nat_lt, nat_eq, Option, Some, ap, sym, subst, ◌∙◌, refl, arith, true≢false, bytes_eq, ◌^◌, if◌then◌else◌}
+use Rattle.std.proofs.Common.{◌≡◌, ℕ, zero, suc, ◌≤◌, ◌<◌, Bool, true, false, ◌&&◌, ◌||◌, not, List}
+use Rattle.std.proofs.Common.{[], ◌∷◌, length, map, nat_le, nat_lt, nat_eq, Option, Some, ap, sym}
+use Rattle.std.proofs.Common.{subst, ◌∙◌, refl, arith, true≢false, bytes_eq, ◌^◌, if◌then◌else◌}
 use Rattle.std.specs.Prelude.{IsTrue, Contains, Any, slice_get, slice_set, slice_index, find}
 use Rattle.std.specs.List.{list_all, list_any}
-use Rattle.std.proofs.lemmas.Bool.{and_parts, and_from, le-leb, leb-true, lt-ltb, ltb-true, eqb-true}
+use Rattle.std.proofs.lemmas.Bool.{and_parts, and_from, le-leb, leb-true, lt-ltb, ltb-true}
+use Rattle.std.proofs.lemmas.Bool.{eqb-true}
 use Rattle.std.proofs.lemmas.Option.{same_Some, none-some}
 use Rattle.chk_bytes.specs.Numbers.{limit}
 use Rattle.chk_bytes.specs.Words.{is_word}
@@ -14,7 +17,8 @@ use Rattle.chk_chunk.specs.declared.Chunk.{Chunk}
 use Rattle.chk_tail.specs.Walks.{Spot}
 use Rattle.chk_rotate.specs.Marks.{place_of, BeginsBelow}
 use Rattle.chk_world.specs.Names.{is_source}
-use Rattle.chk_world.specs.Checkpoints.{Line, Two, is_line, is_line_of, same_log, clash, are_apart, are_lines, fits_version, is_after_text, is_absent}
+use Rattle.chk_world.specs.Checkpoints.{Line, Two, is_line, is_line_of, same_log, clash, are_apart}
+use Rattle.chk_world.specs.Checkpoints.{are_lines, fits_version, is_after_text, is_absent}
 use Rattle.chk_world.specs.Reading.{IsPlacePast}
 use Rattle.chk_world.specs.Answering.{MovesToLater}
 use Rattle.chk_world.proofs.Ends.{bytes_self}
@@ -26,7 +30,11 @@ use Rattle.chk_delivery.specs.Sound.{IsSound as IsSoundDelivery, next_begins}
 use Rattle.chk_agent.specs.States.{State, committed_at, lines_at, lines_of, basis_of}
 use Rattle.chk_agent.specs.Settles.{saved_now, unsure}
 use Rattle.chk_agent.specs.Fits.{IsEnough, mark_line, IsMarked, FitsPlace, FitsAdaptor, IsSound}
-use Rattle.chk_agent.proofs.Suffixes.{later_same, later_then, later_behind, later_past, place_later, place_read, place_among}
+use Rattle.chk_agent.proofs.Suffixes.{later_same, later_then, later_behind, later_past, place_later}
+use Rattle.chk_agent.proofs.Suffixes.{place_read, place_among}
+use Rattle.chk_control.proofs.SpelledLemmas.{false_from_not as not-true}
+use Rattle.chk_world.proofs.SpelledLemmas.{all_fit_two as all_fit}
+use Rattle.chk_delivery.proofs.Due.{neither}
 
 -- ---- lists
 
@@ -108,10 +116,6 @@ all_lines [] ends each = refl
 all_lines (a ∷ adaptors) [] each = and_from (is_line (line_at 0 a)) _ (each 0 a refl) (all_lines adaptors [] (λ i. each (suc i)))
 all_lines (a ∷ adaptors) (o ∷ ends) each =
     and_from (is_line (line_at o a)) _ (each 0 a refl) (all_lines adaptors ends (λ i. each (suc i)))
-
-all_fit : (lines : List Line) → list_all (fits_version Two) lines ≡ true
-all_fit [] = refl
-all_fit (l ∷ lines) = all_fit lines
 
 any_line : (l : Line) (adaptors : List Adaptor) (ends : List ℕ) → Any (λ a. IsTrue (same_log l (line_at 0 a))) adaptors
     → Any (λ m. IsTrue (same_log l m)) (lines_at adaptors ends)
@@ -407,14 +411,6 @@ log_on l (x ∷ xs) (y ∷ bs) on (zero, a, below, at, same) = (
 log_on l (x ∷ xs) (y ∷ bs) on (suc k, a, below, at, same) =
     let r = log_on l xs bs on.1 (k, a, omega (arith, below), at, same) in
     let b = r.2 in (suc r.0, r.1, omega (arith, b), r.3, r.4)
-
-neither : (a b : Bool) → (a || b) ≡ false → (a ≡ false) × (b ≡ false)
-neither true b e = absurd (true≢false e)
-neither false b e = (refl, e)
-
-not-true : (b : Bool) → not b ≡ true → b ≡ false
-not-true true e = absurd (true≢false (sym e))
-not-true false e = refl
 
 -- two lines that don't clash don't do so where one of them, or both, is live no more
 fewer : (same name la lb ma mb : Bool) → (la ≡ true → ma ≡ true) → (lb ≡ true → mb ≡ true)

@@ -1,5 +1,6 @@
 -- A state made of the lines of a checkpoint is held by each legal history that has that checkpoint.
-use Rattle.std.proofs.Common.{◌≡◌, inl, inr, ℕ, ◌-◌, nat_le, true, List, [], Some, ap, sym, subst, ◌∙◌, refl, arith}
+use Rattle.std.proofs.Common.{◌≡◌, inl, inr, ℕ, ◌-◌, nat_le, true, List, [], Some, ap, sym, subst}
+use Rattle.std.proofs.Common.{◌∙◌, refl, arith}
 use Rattle.std.specs.Prelude.{IsTrue, Contains, slice_get, find}
 use Rattle.std.proofs.lemmas.Bool.{and_from, le-leb}
 use Rattle.std.proofs.lemmas.Option.{same_Some}
@@ -26,23 +27,10 @@ use Rattle.chk_agent.specs.States.{State}
 use Rattle.chk_agent.specs.Facts.{Holds}
 use Rattle.chk_agent.specs.Starts.{IsFresh}
 use Rattle.chk_agent.proofs.Soundness.{in_at, map_at}
+use Rattle.chk_reading.proofs.Told.{stands_like}
 
 none_of : {X : Type 0} {xs : List X} {x : X} → xs ≡ [] → Contains xs x → ⊥
 none_of {x = x} e c = let d = subst (λ l. Contains l x) e c in let below = d.1 in omega (arith, below)
-
--- whether a place stands lies in its offset, its beginning and its suffix alone
-pub stands_like : (history : History) (s : Stream) (l m : Line) → m.offset ≡ l.offset → m.first ≡ l.first → m.after ≡ l.after
-    → Stands history s l → Stands history s m
-stands_like history s l m offset first after h =
-    subst (λ o. Stands history s (record m { offset = o })) (sym offset)
-    (subst (λ o. Stands history s (record m { offset = l.offset; first = o })) (sym first)
-    (subst (λ o. Stands history s (record m { offset = l.offset; first = l.first; after = o })) (sym after) (record {
-      first = h.first;
-      founded = h.founded;
-      place = record { first = h.place.first; on = h.place.on; within = h.place.within };
-      cut = h.cut;
-      suffix = h.suffix;
-    })))
 
 -- the start of a stream is a place at which a reader may stop, and so is each place that stands
 start_cut : (history : History) (s : Stream) → IsTrue (is_stream_cut history s (start_of history s))

@@ -1,17 +1,20 @@
 -- Reads of the agent's own file obey its rule and leave what is known.
-use Rattle.std.proofs.Common.{◌≡◌, inl, inr, Bool, true, false, List, [], ◌∷◌, ◌++◌, ℕ, ap, sym, subst, ◌∙◌, refl, true≢false}
+use Rattle.std.proofs.Common.{◌≡◌, inl, inr, Bool, true, false, List, [], ◌∷◌, ◌++◌, ℕ, ap, sym}
+use Rattle.std.proofs.Common.{subst, ◌∙◌, refl, true≢false}
 use Rattle.std.specs.Prelude.{IsTrue}
 use Rattle.std.proofs.lemmas.Bool.{and_right}
 use Rattle.chk_site.specs.declared.acts.Who.{Who}
 use Rattle.chk_site.specs.declared.acts.ActAnswer.{ActAnswer}
-use Rattle.chk_site.specs.declared.acts.ActAnswer.TheVariants.{Done, Refused, Stopped, Rotated, Deleted}
+use Rattle.chk_site.specs.declared.acts.ActAnswer.TheVariants.{Done, Refused, Stopped, Rotated}
+use Rattle.chk_site.specs.declared.acts.ActAnswer.TheVariants.{Deleted}
 use Rattle.chk_site.specs.Acts.{Reads, deed, same_who, is_stop}
 use Rattle.chk_site.specs.History.{Step, History, Every, Others, files_after, is_stopped}
 use Rattle.chk_replace.specs.Load.{IsLook, IsRead, asks_at}
 use Rattle.chk_world.specs.Names.{is_source}
 use Rattle.chk_world.specs.Checkpoints.{Line}
 use Rattle.chk_world.specs.Agents.{OfCluster}
-use Rattle.chk_world.specs.Rules.{Framed, OnlyWritersGrowLogs, OnlyAgentsPost, StartsAfterStop, Obeys, Legal, is_named_so, must_start, starts_anew, stopped_by}
+use Rattle.chk_world.specs.Rules.{Framed, OnlyWritersGrowLogs, OnlyAgentsPost, StartsAfterStop}
+use Rattle.chk_world.specs.Rules.{Obeys, Legal, is_named_so, must_start, starts_anew, stopped_by}
 use Rattle.chk_world.specs.Places.{Foreign}
 use Rattle.chk_world.specs.Knowing.{agent, Grows, Knows, Told}
 use Rattle.chk_world.proofs.PlacesStay.{told_stays}

@@ -1,5 +1,7 @@
 -- The state of a start is sound.
-use Rattle.std.proofs.Common.{◌≡◌, ℕ, zero, suc, ◌≤◌, ◌<◌, Bool, true, false, ◌&&◌, ◌||◌, not, List, [], ◌∷◌, length, map, nat_le, Some, ap, sym, subst, ◌∙◌, refl, arith, bytes_eq, if◌then◌else◌}
+use Rattle.std.proofs.Common.{◌≡◌, ℕ, zero, suc, ◌≤◌, ◌<◌, Bool, true, false, ◌&&◌, ◌||◌, not, List}
+use Rattle.std.proofs.Common.{[], ◌∷◌, length, map, nat_le, Some, ap, sym, subst, ◌∙◌, refl, arith}
+use Rattle.std.proofs.Common.{bytes_eq, if◌then◌else◌}
 use Rattle.std.specs.Prelude.{IsTrue, slice_get, slice_index, slice_index_or}
 use Rattle.std.specs.List.{list_all, list_any}
 use Rattle.std.proofs.lemmas.Bool.{and_parts, leb-true}
@@ -7,7 +9,8 @@ use Rattle.chk_tail.specs.Walks.{Spot}
 use Rattle.chk_checkpoint.specs.declared.CheckLine.{CheckLine}
 use Rattle.chk_checkpoint.specs.Lines.{shown}
 use Rattle.chk_world.specs.Names.{is_source}
-use Rattle.chk_world.specs.Checkpoints.{Line, Two, is_line, same_log, clash, are_apart, are_lines, fits_version}
+use Rattle.chk_world.specs.Checkpoints.{Line, Two, is_line, same_log, clash, are_apart, are_lines}
+use Rattle.chk_world.specs.Checkpoints.{fits_version}
 use Rattle.chk_reading.specs.declared.adaptor.Phase.TheVariants.{Live, Past}
 use Rattle.chk_reading.specs.Adaptors.{Adaptor, adaptor_of, is_past, line_at}
 use Rattle.chk_delivery.specs.Basis.{AreOwned}
@@ -18,7 +21,8 @@ use Rattle.chk_failover.specs.Turns.{Turns}
 use Rattle.chk_delivery.specs.declared.delivery.Rules.{Rules}
 use Rattle.chk_delivery.specs.States.{State as Delivery}
 use Rattle.chk_agent.specs.Loading.{AreLines, BeginsAt, IsEmptyFor, IsBegun}
-use Rattle.chk_agent.proofs.Soundness.{has_place, HavePlaces, sound_written, in_at, map_at, size_map}
+use Rattle.chk_agent.proofs.Soundness.{has_place, HavePlaces, sound_written, in_at, map_at}
+use Rattle.chk_agent.proofs.Soundness.{size_map}
 
 -- lines that may stand in one checkpoint
 pub record AreGood (lines : List Line) : Type 0 where

@@ -1,5 +1,7 @@
 -- The adaptors of lines that may stand in one checkpoint, put into the tables one after the other.
-use Rattle.std.proofs.Common.{◌≡◌, ℕ, ◌+◌, ◌<◌, Bool, true, false, ◌&&◌, ◌||◌, not, cond, List, [], ◌∷◌, ◌++◌, length, map, bytes_eq, Some, None, refl, ap, sym, subst, ◌∙◌, true≢false, arith, append_assoc, append-nil, if◌then◌else◌}
+use Rattle.std.proofs.Common.{◌≡◌, ℕ, ◌+◌, ◌<◌, Bool, true, false, ◌&&◌, ◌||◌, not, cond, List, []}
+use Rattle.std.proofs.Common.{◌∷◌, ◌++◌, length, map, bytes_eq, Some, None, refl, ap, sym, subst}
+use Rattle.std.proofs.Common.{◌∙◌, true≢false, arith, append_assoc, append-nil, if◌then◌else◌}
 use Rattle.std.specs.Prelude.{IsTrue, position}
 use Rattle.std.specs.List.{list_any, position_from}
 use Rattle.std.proofs.lemmas.Bool.{and_parts, or_parts}
@@ -12,10 +14,7 @@ use Rattle.chk_reading.specs.declared.adaptor.Phase.TheVariants.{Live, Past}
 use Rattle.chk_reading.specs.Adaptors.{Adaptor, adaptor_of, is_past}
 use Rattle.chk_adaptors.specs.Adaptors.{is_named, is_of}
 use Rattle.chk_agent.proofs.StartingSound.{are_good}
-
-not-true : (b : Bool) → not b ≡ true → b ≡ false
-not-true true e = absurd (true≢false (sym e))
-not-true false e = refl
+use Rattle.chk_control.proofs.SpelledLemmas.{false_from_not as not-true}
 
 -- what none of some is, the one among them isn't
 any_at : {X : Type 0} (p : X → Bool) (xs : List X) (y : X) (ys : List X)
@@ -107,7 +106,8 @@ module _ (lines before after : List CheckLine) (l : CheckLine) (made : List Adap
         ∙ sym (map-append adaptor_of t.done (shown l ∷ []));
   }
 
-pub none_taken : (lines : List CheckLine) (made : List Adaptor) → made ≡ [] → AreTaken lines lines made
+pub none_taken : (lines : List CheckLine) (made : List Adaptor) → made ≡ []
+    → AreTaken lines lines made
 none_taken lines made none = record { done = []; all = refl; made_are = none }
 
 pub all_taken : (lines : List CheckLine) (left : List CheckLine) (made : List Adaptor) → left ≡ []

@@ -1,5 +1,6 @@
 -- What a start knows of the told history, up to the lines of its checkpoint.
-use Rattle.std.proofs.Common.{◌≡◌, ℕ, List, [], ◌∷◌, ◌++◌, Option, Result, Ok, Err, sym, subst, refl, inl, false, append_assoc}
+use Rattle.std.proofs.Common.{◌≡◌, ℕ, List, [], ◌∷◌, ◌++◌, Option, Result, Ok, Err, sym, subst}
+use Rattle.std.proofs.Common.{refl, inl, false, append_assoc}
 use Rattle.std.specs.Prelude.{IsTrue, IfOk, if◌then◌else◌}
 use Rattle.chk_site.specs.declared.acts.Role.TheVariants.{Agent}
 use Rattle.chk_site.specs.declared.acts.Who.{Who}
@@ -7,7 +8,8 @@ use Rattle.chk_site.specs.declared.acts.Call.{Call}
 use Rattle.chk_site.specs.declared.acts.Call.TheVariants.{Start}
 use Rattle.chk_site.specs.declared.acts.CallFault.TheVariants.{Failed}
 use Rattle.chk_site.specs.declared.acts.OutsideFault.{OutsideFault}
-use Rattle.chk_site.specs.declared.acts.OutsideFault.TheVariants.{Outside as site_failed, NoMemory as no_memory}
+use Rattle.chk_site.specs.declared.acts.OutsideFault.TheVariants.{Outside as site_failed}
+use Rattle.chk_site.specs.declared.acts.OutsideFault.TheVariants.{NoMemory as no_memory}
 use Rattle.chk_site.specs.declared.acts.ActAnswer.{ActAnswer}
 use Rattle.chk_site.specs.declared.acts.ActAnswer.TheVariants.{Refused, Stopped}
 use Rattle.chk_site.specs.History.{History, Every, files_after, since_start, is_stopped}
@@ -32,6 +34,7 @@ use Rattle.chk_agent.specs.declared.answers.AgentFault.{AgentFault}
 use Rattle.chk_agent.specs.Faults.{FailsLast, fault_of, loaded_fault}
 use Rattle.chk_agent.specs.Loading.{MadeOnce, Loaded}
 use Rattle.chk_agent.proofs.StartingLooks.{looks_on}
+use Rattle.chk_site.proofs.LastCalls.{ends_in_both as ends_later}
 
 pub start_begun : (who : Who) {old new : Option History} → MadeOnce (asked who Start [] 0 0) (Ok tt) old new
     → Adds old new (HasStarted who)
@@ -55,10 +58,6 @@ legal_ended stamped cluster who no_memory h legal = legal
 abbrev pub load_result : Result Checkpoint CheckFault → Result Checkpoint AgentFault
 load_result (Ok check) = Ok check
 load_result (Err fault) = Err (loaded_fault fault)
-
-ends_later : (call : Call) (b a : History) → EndsIn call b → EndsIn call (b ++ a)
-ends_later call [] a ends = absurd ends
-ends_later call (step ∷ b) a ends = ends
 
 -- the call that failed in a load is the last one of the start
 pub load_fails : (r : Result Checkpoint CheckFault) (b a history : History) → CheckFailsLast r b (a ++ history)

@@ -1,17 +1,21 @@
 -- Where a step comes to the end of its log, the place read is the end of the whole log.
-use Rattle.std.proofs.Common.{◌≡◌, inl, inr, ℕ, ◌+◌, ◌-◌, Bool, true, false, not, List, ◌∷◌, ◌++◌, length, take, Some, Option, None, Result, Ok, Err, ap, sym, subst, ◌∙◌, refl, arith, bytes_eq, if◌then◌else◌}
+use Rattle.std.proofs.Common.{◌≡◌, inl, inr, ℕ, ◌+◌, ◌-◌, Bool, true, false, not, List, ◌∷◌, ◌++◌}
+use Rattle.std.proofs.Common.{length, take, Some, Option, None, Result, Ok, Err, ap, sym, subst}
+use Rattle.std.proofs.Common.{◌∙◌, refl, arith, bytes_eq, if◌then◌else◌}
 use Rattle.std.specs.Prelude.{IsTrue, Any, option_to_list, find}
 use Rattle.std.proofs.lemmas.Bool.{and_parts}
 use Rattle.chk_control.specs.Classes.{is_plain, breaks_lines}
 use Rattle.chk_site.specs.declared.acts.CallFault.{CallFault}
-use Rattle.chk_site.specs.declared.acts.CallFault.TheVariants.{Failed, Missing, Exists, Short, NoMemory}
+use Rattle.chk_site.specs.declared.acts.CallFault.TheVariants.{Failed, Missing, Exists, Short}
+use Rattle.chk_site.specs.declared.acts.CallFault.TheVariants.{NoMemory}
 use Rattle.chk_site.specs.declared.acts.ActAnswer.{ActAnswer}
 use Rattle.chk_site.specs.declared.acts.ActAnswer.TheVariants.{Done}
 use Rattle.chk_site.specs.declared.suffixes.Piece.{Piece}
 use Rattle.chk_bytes.specs.Words.{joined}
 use Rattle.chk_site.specs.Files.{Files, Nothing}
 use Rattle.chk_site.specs.Acts.{Did, deed}
-use Rattle.chk_site.specs.Logs.{TheBase, Past, Log, Logs, part_of, read_from, logs_changed, last_cut}
+use Rattle.chk_site.specs.Logs.{TheBase, Past, Log, Logs, part_of, read_from, logs_changed}
+use Rattle.chk_site.specs.Logs.{last_cut}
 use Rattle.chk_site.specs.Honest.{AtLogRead}
 use Rattle.chk_site.specs.History.{Step as Act, History, logs_after}
 use Rattle.chk_site.specs.Site.{Adds, Asked, own_step, answered, Calls, Took, piece_given}
@@ -20,11 +24,13 @@ use Rattle.chk_site.proofs.Leads.{leads_then}
 use Rattle.chk_chunk.specs.Keys.{Stream}
 use Rattle.chk_tail.specs.declared.step.Step.TheVariants.{AtEnd}
 use Rattle.chk_tail.specs.Taking.{asks_at, taken_of}
-use Rattle.chk_tail.specs.Walks.{Spot, Way, part, reading, behind, Decides, Walks, decided, walked, unkept}
+use Rattle.chk_tail.specs.Walks.{Spot, Way, part, reading, behind, Decides, Walks, decided, walked}
+use Rattle.chk_tail.specs.Walks.{unkept}
 use Rattle.chk_tail.proofs.Takes.{takes_most}
 use Rattle.chk_world.specs.Names.{is_source}
 use Rattle.chk_world.specs.Checkpoints.{Line, is_after_text, is_line_of, line_of}
-use Rattle.chk_world.specs.Streams.{Founding, founding, founded_by, or_else, start_at, parts_since, bytes_of, whole_end, IsTruePlace}
+use Rattle.chk_world.specs.Streams.{Founding, founding, founded_by, or_else, start_at, parts_since}
+use Rattle.chk_world.specs.Streams.{bytes_of, whole_end, IsTruePlace}
 use Rattle.chk_world.specs.Agents.{ReadsFromCheckpoint, IsAtOrPast, stream_of}
 use Rattle.chk_world.specs.Rules.{Legal}
 use Rattle.chk_world.specs.Places.{As}
@@ -34,7 +40,7 @@ use Rattle.chk_world.specs.Knowing.{agent, Grows, Both, Knows, Told, AfterRead}
 use Rattle.chk_world.proofs.Ends.{bytes_same}
 use Rattle.chk_world.proofs.CheckpointsMove.{found}
 use Rattle.chk_world.proofs.AgentKnows.{agent_took, both_grow}
-use Rattle.chk_world.proofs.AgentDoes.{Gained, IsReaderOf, read_told}
+use Rattle.chk_world.proofs.AgentDoes.{Gained, IsReaderOf, read_told, may_read_at}
 use Rattle.chk_world.proofs.LinesRead.{reads_give_log}
 use Rattle.chk_world.proofs.LogEnds.{reads_find_end}
 use Rattle.chk_reading.proofs.Texts.{taken_all, taken_within, part_is, takes_to_stop}
@@ -58,17 +64,6 @@ same_end before step s first founded same =
     let still : founding (step ∷ before) s ≡ founding before s =
     ap (λ o. or_else o (founded_by (line_of step.files s) (step.logs s.name))) founded ∙ sym founded in
     λ i. whole_since (still i) (same i)
-
--- a read at a place at or past the line is at or past it, where the place is a true one
-may_read_at : (history : History) (s : Stream) (l line : Line) → IsTruePlace history s l → (plain : Bool)
-    → IsPlacePast (if plain then TheBase else Past l.after) l line
-    → IsAtOrPast history s (if plain then TheBase else Past l.after) (l.offset - l.first) line
-may_read_at history s l line place true h = h
-may_read_at history s l line place false h =
-    let first = place.first in
-    let on = place.on in
-    let past = h.2 in
-    (h.0, h.1, omega (arith, first, on, past))
 
 module _ (stamped : List (List ℕ)) (source : List ℕ) (known : IsTrue (is_source source)) (cluster : List ℕ) (lines : List Line) (l : Line) where
   abbrev S : Stream

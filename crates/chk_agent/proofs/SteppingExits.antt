@@ -1,5 +1,7 @@
 -- The exits of a step of one adaptor: what it leaves at each, and what the told history then holds.
-use Rattle.std.proofs.Common.{◌≡◌, ℕ, zero, suc, ◌+◌, ◌<◌, ◌^◌, true, false, List, [], ◌∷◌, length, Some, Option, Result, Ok, Err, ap, sym, subst, ◌∙◌, refl, arith, is_ok, true≢false, bytes_eq}
+use Rattle.std.proofs.Common.{◌≡◌, ℕ, zero, suc, ◌+◌, ◌<◌, ◌^◌, true, false, List, [], ◌∷◌, length}
+use Rattle.std.proofs.Common.{Some, Option, Result, Ok, Err, ap, sym, subst, ◌∙◌, refl, arith}
+use Rattle.std.proofs.Common.{is_ok, true≢false, bytes_eq}
 use Rattle.std.specs.Prelude.{IsTrue, IfOk, Contains, slice_get, slice_index, slice_set}
 use Rattle.std.proofs.lemmas.Bool.{ltb-true}
 use Rattle.std.proofs.lemmas.Option.{same_Some}
@@ -39,7 +41,8 @@ use Rattle.chk_delivery.specs.Turns.{is_held, with_chunk}
 use Rattle.chk_agent.specs.declared.answers.AgentFault.{AgentFault}
 use Rattle.chk_agent.specs.declared.answers.AgentFault.TheVariants.{NoMemory}
 use Rattle.chk_agent.specs.declared.answers.Stepped.{Stepped}
-use Rattle.chk_agent.specs.declared.answers.Stepped.TheVariants.{AtEnd as step_at_end, Shrank as step_shrank}
+use Rattle.chk_agent.specs.declared.answers.Stepped.TheVariants.{AtEnd as step_at_end}
+use Rattle.chk_agent.specs.declared.answers.Stepped.TheVariants.{Shrank as step_shrank}
 use Rattle.chk_agent.specs.States.{State, process, committed_at, chunk_given}
 use Rattle.chk_agent.specs.Fills.{queued, after_step, step_answer, IsOneStepped, made, unkept}
 use Rattle.chk_agent.specs.Facts.{Holds, Matches, AfterStep, AtEndOf}
@@ -85,7 +88,8 @@ read_within a h = go a.marks h.placed.rises (λ m one. ltb-true a.read.offset li
 -- ---- a step that was made or refused
 
 -- `At` are the adaptors then: the one at this number is another one
-module _ (s : State) (sound : IsSound s) (i : ℕ) (a b : Adaptor) (at : slice_get s.adaptors i ≡ Some a)
+module _ (s : State) (sound : IsSound s) (i : ℕ) (a b : Adaptor)
+    (at : slice_get s.adaptors i ≡ Some a)
     (At : List Adaptor) (set : At ≡ slice_set s.adaptors i b) where
   module _ (step : Step) {old new : Option History} (st : IsStepped (process s) a (Ok step) b old new) where
     ends : WalkEnds (way_of (process s) a) step a.read st.next st.marks
@@ -138,7 +142,10 @@ module _ (s : State) (sound : IsSound s) (i : ℕ) (a b : Adaptor) (at : slice_g
   -- the adaptor is as it was
   pub own_state : b ≡ a → record s { adaptors = At } ≡ s
   own_state is =
-      λ k. record s { adaptors = (set ∙ (ap (slice_set s.adaptors i) is ∙ set_own s.adaptors i a at)) k }
+      λ k. record s {
+        adaptors = (set
+            ∙ (ap (slice_set s.adaptors i) is ∙ set_own s.adaptors i a at)) k;
+      }
 
   -- ---- the chunk of what was given
 
@@ -191,7 +198,8 @@ reader_at_end s sound i a at =
       past = past.past;
     }
 
-pub end_on : (s : State) (sound : IsSound s) (i : ℕ) (a b : Adaptor) (at : slice_get s.adaptors i ≡ Some a)
+pub end_on : (s : State) (sound : IsSound s) (i : ℕ) (a b : Adaptor)
+    (at : slice_get s.adaptors i ≡ Some a)
     (xs : List Adaptor) (set : xs ≡ slice_set s.adaptors i b) {old new : Option History}
     → IsStepped (process s) a (Ok AtEnd) b old new → (stamped : List (List ℕ)) → s.ready ≡ true → IsTrue (is_after_text a.read.after) → IsPlaced b
     → Adds old new (Leads (As stamped (process s)) (Matches stamped s)
@@ -206,14 +214,16 @@ end_on s sound i a b at xs set {old = old} {new = new} st stamped ready named pl
           ap (stream_at s.source) same ∙ stream_stepped s.source a b (Ok AtEnd) st in
           ap (whole_end h) stream ∙ ((x.1.alive run).holds.two ∙ sym (ap (λ (c : Adaptor). c.read.offset) (same ∙ st.is)));
     })
-    (leads_both (made_on s sound i a b at xs set AtEnd st stamped ready named placed tt s.delivery refl)
+    (leads_both (made_on s sound i a b at xs set AtEnd st stamped ready named placed tt s.delivery
+    refl)
     (leads_as (λ h x. record { legal = x.legal; may_act = x.may_act; alive = λ run. x.alive run ready }) (λ h x. x)
     (walk_ends_told stamped s.source sound.source s.cluster s.saved (read_line a) st.next (Holds s) (state_grows stamped s sound) a.read st.marks
     (reader_at_end s sound i a at) named (λ h x. (x.readers a (in_at s.adaptors i a at)).read) st.walks)))
 
 -- ---- at a log that is shorter than the place, which never comes
 
-pub short_on : (s : State) (sound : IsSound s) (i : ℕ) (a b : Adaptor) (at : slice_get s.adaptors i ≡ Some a)
+pub short_on : (s : State) (sound : IsSound s) (i : ℕ) (a b : Adaptor)
+    (at : slice_get s.adaptors i ≡ Some a)
     (xs : List Adaptor) (set : xs ≡ slice_set s.adaptors i b) (had size : ℕ)
     {old new : Option History} → IsStepped (process s) a (Ok (is_short had size)) b old new → (stamped : List (List ℕ)) → s.ready ≡ true
     → IsTrue (is_after_text a.read.after) → IsPlaced b
@@ -249,22 +259,27 @@ was_stepped w s x a b got result {old = old} {new = new} role name same is step 
 }
 
 -- what a step of the adaptor at a number made, as its call tells
-pub record SteppedAt (s : State) (i : ℕ) (a : Adaptor) (xs : List Adaptor) (result : Result Step OutsideFault)
+pub record SteppedAt (s : State) (i : ℕ) (a : Adaptor) (xs : List Adaptor)
+    (result : Result Step OutsideFault)
     (old new : Option History) : Type 0 where
   pub b : Adaptor
   pub there : slice_get xs i ≡ Some b
   pub set : xs ≡ slice_set s.adaptors i b
   pub was : WasStepped s a b result old new
 
-pub stepped_at : (w : Who) (s : State) (i : ℕ) (a : Adaptor) (h k : Held) (got result : Result Step OutsideFault)
-    {old new : Option History} → w.role ≡ Agent → w.name ≡ s.source → h.items ≡ s.adaptors → got ≡ result
+pub stepped_at : (w : Who) (s : State) (i : ℕ) (a : Adaptor) (h k : Held)
+    (got result : Result Step OutsideFault)
+    {old new : Option History} → w.role ≡ Agent → w.name ≡ s.source → h.items ≡ s.adaptors
+    → got ≡ result
     → StepsAt i w a h got k old new → IsTrue (is_after_text a.read.after)
-    → ((b : Adaptor) → slice_get k.items i ≡ Some b → IsPlaced b) → SteppedAt s i a k.items result old new
+    → ((b : Adaptor) → slice_get k.items i ≡ Some b → IsPlaced b)
+    → SteppedAt s i a k.items result old new
 stepped_at w s i a h k got result role name same is st named placed = record {
   b = st.adaptor;
   there = st.there;
   set = ap (λ (h : Held). h.items) st.others ∙ ap (λ xs. slice_set xs i st.adaptor) same;
-  was = was_stepped w s a a st.adaptor got result role name refl is st.made named (placed st.adaptor st.there);
+  was = was_stepped w s a a st.adaptor got result role name refl is st.made named
+      (placed st.adaptor st.there);
 }
 
 -- the chunk that was kept
@@ -274,11 +289,13 @@ put_is (Ok k) c i d e there is put = put ∙ ap (λ k. with_chunk i k d) is
 put_is (Err fault) c i d e there is put = absurd (true≢false (sym there))
 
 -- an adaptor that was put back leaves the state as it was
-pub undone_is : (s : State) (i : ℕ) (a b : Adaptor) (xs ys : List Adaptor) (d : Delivery) → slice_get s.adaptors i ≡ Some a
+pub undone_is : (s : State) (i : ℕ) (a b : Adaptor) (xs ys : List Adaptor) (d : Delivery)
+    → slice_get s.adaptors i ≡ Some a
     → xs ≡ slice_set s.adaptors i b → ys ≡ slice_set xs i a → d ≡ s.delivery
     → record s { adaptors = ys; delivery = d } ≡ s
 undone_is s i a b xs ys d at set back kept =
     λ k. record s {
-      adaptors = (back ∙ (ap (λ zs. slice_set zs i a) set ∙ (set_twice s.adaptors i b a ∙ set_own s.adaptors i a at))) k;
+      adaptors = (back ∙ (ap (λ zs. slice_set zs i a) set
+          ∙ (set_twice s.adaptors i b a ∙ set_own s.adaptors i a at))) k;
       delivery = kept k;
     }

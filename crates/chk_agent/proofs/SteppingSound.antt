@@ -1,5 +1,8 @@
 -- The invariant over a step of one adaptor.
-use Rattle.std.proofs.Common.{◌≡◌, ◌⊎◌, inl, inr, ℕ, zero, suc, ◌+◌, ◌≤◌, ◌<◌, ◌^◌, Bool, true, false, ◌&&◌, ◌||◌, not, List, [], ◌∷◌, ◌++◌, length, Some, Option, Ok, ap, sym, subst, ◌∙◌, refl, arith, true≢false, nat_le, nat_lt, nat_eq, if◌then◌else◌}
+use Rattle.std.proofs.Common.{◌≡◌, ◌⊎◌, inl, inr, ℕ, zero, suc, ◌+◌, ◌≤◌, ◌<◌, ◌^◌, Bool, true}
+use Rattle.std.proofs.Common.{false, ◌&&◌, ◌||◌, not, List, [], ◌∷◌, ◌++◌, length, Some, Option, Ok}
+use Rattle.std.proofs.Common.{ap, sym, subst, ◌∙◌, refl, arith, true≢false, nat_le, nat_lt, nat_eq}
+use Rattle.std.proofs.Common.{if◌then◌else◌}
 use Rattle.std.specs.Prelude.{IsTrue, Contains, slice_get, slice_index, slice_set}
 use Rattle.std.proofs.lemmas.Bool.{and_parts, and_from, le-leb, leb-true, lt-ltb}
 use Rattle.std.proofs.lemmas.Option.{same_Some, none-some}
@@ -30,6 +33,8 @@ use Rattle.chk_agent.specs.Fits.{SuffixesRise, mark_line, IsMarked, FitsAdaptor,
 use Rattle.chk_agent.proofs.Suffixes.{later_same, later_then}
 use Rattle.chk_agent.proofs.Soundness.{below_at, at_map, sound_changed, go_on_at}
 use Rattle.chk_agent.proofs.SteppingWalks.{given_size, GivenFrom, Follows, Passes, WalkEnds}
+use Rattle.chk_delivery.proofs.Due.{set_index as set_other}
+use Rattle.chk_delivery.proofs.Rows.{length_set}
 
 -- ---- a line that can be spelled, part by part
 
@@ -215,18 +220,6 @@ set_same : (xs : List ℕ) (i x : ℕ) → i < length xs → slice_index (slice_
 set_same [] i x below = absurd (let z : ⊥ = omega (arith, below) in z)
 set_same (y ∷ xs) zero x below = refl
 set_same (y ∷ xs) (suc i) x below = set_same xs i x (omega (arith, below))
-
-set_other : (xs : List ℕ) (i j x : ℕ) → (j ≡ i → ⊥) → slice_index (slice_set xs i x) j ≡ slice_index xs j
-set_other [] i j x other = refl
-set_other (y ∷ xs) zero zero x other = absurd (other refl)
-set_other (y ∷ xs) zero (suc j) x other = refl
-set_other (y ∷ xs) (suc i) zero x other = refl
-set_other (y ∷ xs) (suc i) (suc j) x other = set_other xs i j x (λ e. other (ap suc e))
-
-length_set : (xs : List ℕ) (i x : ℕ) → length (slice_set xs i x) ≡ length xs
-length_set [] i x = refl
-length_set (y ∷ ys) zero x = refl
-length_set (y ∷ ys) (suc i) x = ap suc (length_set ys i x)
 
 ends_more : (last owners : List ℕ) (chunks : List Chunk) (i : ℕ) (c : Chunk) → length owners ≡ length chunks
     → ends_after last (owners ++ i ∷ []) (chunks ++ c ∷ []) ≡ slice_set (ends_after last owners chunks) i c.seq

@@ -1,9 +1,13 @@
 -- What the reads of a step say of what it gave, and of the generations that it passed.
-use Rattle.std.proofs.Common.{◌≡◌, inl, inr, ℕ, suc, ◌+◌, ◌≤◌, ◌<◌, Bool, true, false, ◌||◌, ◌==◌, not, List, [], ◌∷◌, length, take, min, Some, Option, None, Result, Ok, Err, ap, sym, subst, ◌∙◌, refl, arith, is_some, eqb-true, if◌then◌else◌}
+use Rattle.std.proofs.Common.{◌≡◌, inl, inr, ℕ, suc, ◌+◌, ◌≤◌, ◌<◌, Bool, true, false, ◌||◌, ◌==◌}
+use Rattle.std.proofs.Common.{not, List, [], ◌∷◌, length, take, min, Some, Option, None, Result, Ok}
+use Rattle.std.proofs.Common.{Err, ap, sym, subst, ◌∙◌, refl, arith, is_some, eqb-true}
+use Rattle.std.proofs.Common.{if◌then◌else◌}
 use Rattle.std.specs.Prelude.{IsTrue}
 use Rattle.std.proofs.lemmas.List.{length-take}
 use Rattle.chk_site.specs.declared.acts.CallFault.{CallFault}
-use Rattle.chk_site.specs.declared.acts.CallFault.TheVariants.{Failed, Missing, Exists, Short, NoMemory}
+use Rattle.chk_site.specs.declared.acts.CallFault.TheVariants.{Failed, Missing, Exists, Short}
+use Rattle.chk_site.specs.declared.acts.CallFault.TheVariants.{NoMemory}
 use Rattle.chk_site.specs.declared.acts.OutsideFault.{OutsideFault}
 use Rattle.chk_site.specs.declared.suffixes.Piece.{Piece}
 use Rattle.chk_site.specs.declared.limits.TheConstants.{PIECE_BYTES}
@@ -12,7 +16,8 @@ use Rattle.chk_site.specs.History.{History}
 use Rattle.chk_tail.specs.declared.step.Step.{Step}
 use Rattle.chk_tail.specs.declared.step.Step.TheVariants.{Bytes, AtEnd, Shrank}
 use Rattle.chk_tail.specs.Taking.{taken, taken_of, to_last_newline}
-use Rattle.chk_tail.specs.Walks.{Spot, Way, behind, mark_behind, given_marks, EndsAfter, Decides, Walks, decided, walked, unkept}
+use Rattle.chk_tail.specs.Walks.{Spot, Way, behind, mark_behind, given_marks, EndsAfter, Decides}
+use Rattle.chk_tail.specs.Walks.{Walks, decided, walked, unkept}
 
 -- how many bytes a step gave
 abbrev pub given_size : Step → ℕ

@@ -1,5 +1,6 @@
 -- A post, a poll or a reply leaves the state sound.
-use Rattle.std.proofs.Common.{◌≡◌, ℕ, zero, suc, ◌-◌, ◌≤◌, ◌<◌, List, [], ◌∷◌, length, take, drop, Option, Some, None, Result, ap, subst, ◌∙◌, refl, arith}
+use Rattle.std.proofs.Common.{◌≡◌, ℕ, zero, suc, ◌-◌, ◌≤◌, ◌<◌, List, [], ◌∷◌, length, take, drop}
+use Rattle.std.proofs.Common.{Option, Some, None, Result, ap, subst, ◌∙◌, refl, arith}
 use Rattle.std.specs.Prelude.{slice_get, slice_set, slice_index}
 use Rattle.std.proofs.lemmas.Option.{same_Some, none-some}
 use Rattle.chk_bytes.specs.declared.NoMemory.{NoMemory}
@@ -20,7 +21,9 @@ use Rattle.chk_delivery.specs.States.{Post, Poll, State as Delivery}
 use Rattle.chk_delivery.specs.Basis.{Basis, AreOwned}
 use Rattle.chk_delivery.specs.Sound.{InTurn, ends_after, PostFits, IsSound as IsSoundDelivery}
 use Rattle.chk_delivery.specs.Turns.{answered_rows, SeesAll, post_taken, poll_taken}
-use Rattle.chk_delivery.specs.Scripts.{IsPosted, empty, no_rows, none, sent, failed, unsent, refused, IsPostReplied, nothing, got, silent, wanting, good, bad}
+use Rattle.chk_delivery.specs.Scripts.{IsPosted, empty, no_rows, none, sent, failed, unsent}
+use Rattle.chk_delivery.specs.Scripts.{refused, IsPostReplied, nothing, got, silent, wanting, good}
+use Rattle.chk_delivery.specs.Scripts.{bad}
 use Rattle.chk_delivery.specs.Scripts.{IsPolled, IsPollReplied}
 use Rattle.chk_delivery.proofs.Rows.{answered_same}
 use Rattle.chk_delivery.proofs.LengthStates.{seen_less}

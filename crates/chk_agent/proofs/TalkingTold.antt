@@ -1,5 +1,6 @@
 -- A call of what is to be delivered leaves what the history holds of the readers.
-use Rattle.std.proofs.Common.{◌≡◌, ℕ, Bool, true, false, List, [], ◌∷◌, ◌++◌, Option, Result, Ok, Err, sym, subst, refl, arith, ap, ◌∙◌}
+use Rattle.std.proofs.Common.{◌≡◌, ℕ, Bool, true, false, List, [], ◌∷◌, ◌++◌, Option, Result, Ok}
+use Rattle.std.proofs.Common.{Err, sym, subst, refl, arith, ap, ◌∙◌}
 use Rattle.std.specs.Prelude.{IsTrue, Contains}
 use Rattle.chk_bytes.specs.declared.NoMemory.{NoMemory}
 use Rattle.chk_site.specs.declared.acts.Who.{Who}
@@ -25,11 +26,18 @@ use Rattle.chk_delivery.specs.declared.answers.Posted.{Posted}
 use Rattle.chk_delivery.specs.declared.answers.Answered.{Answered}
 use Rattle.chk_delivery.specs.declared.answers.Polled.{Polled}
 use Rattle.chk_delivery.specs.declared.answers.PollAnswer.{PollAnswer}
-use Rattle.chk_delivery.specs.declared.answers.Posted.TheVariants.{Sent, Empty, NoRows, Failed as post_failed}
-use Rattle.chk_delivery.specs.declared.answers.Answered.TheVariants.{Taken, Refused, Silent, Nothing}
-use Rattle.chk_delivery.specs.declared.answers.Polled.TheVariants.{Sent as poll_sent, NoneWaiting, Failed as poll_failed}
-use Rattle.chk_delivery.specs.declared.answers.PollAnswer.TheVariants.{Lengths, Refused as poll_refused, Silent as poll_silent, Nothing as no_poll}
-use Rattle.chk_delivery.specs.Scripts.{IsPosted, IsPostReplied, IsPolled, IsPollReplied, CauseBy, post_fails, reply_fails, poll_fails, lengths_fail}
+use Rattle.chk_delivery.specs.declared.answers.Posted.TheVariants.{Sent, Empty, NoRows}
+use Rattle.chk_delivery.specs.declared.answers.Posted.TheVariants.{Failed as post_failed}
+use Rattle.chk_delivery.specs.declared.answers.Answered.TheVariants.{Taken, Refused, Silent}
+use Rattle.chk_delivery.specs.declared.answers.Answered.TheVariants.{Nothing}
+use Rattle.chk_delivery.specs.declared.answers.Polled.TheVariants.{Sent as poll_sent, NoneWaiting}
+use Rattle.chk_delivery.specs.declared.answers.Polled.TheVariants.{Failed as poll_failed}
+use Rattle.chk_delivery.specs.declared.answers.PollAnswer.TheVariants.{Lengths}
+use Rattle.chk_delivery.specs.declared.answers.PollAnswer.TheVariants.{Refused as poll_refused}
+use Rattle.chk_delivery.specs.declared.answers.PollAnswer.TheVariants.{Silent as poll_silent}
+use Rattle.chk_delivery.specs.declared.answers.PollAnswer.TheVariants.{Nothing as no_poll}
+use Rattle.chk_delivery.specs.Scripts.{IsPosted, IsPostReplied, IsPolled, IsPollReplied, CauseBy}
+use Rattle.chk_delivery.specs.Scripts.{post_fails, reply_fails, poll_fails, lengths_fail}
 use Rattle.chk_agent.specs.declared.answers.AgentFault.{AgentFault}
 use Rattle.chk_agent.specs.declared.agent.Agent.TheInside.{Inside}
 use Rattle.chk_agent.specs.States.{State, process, basis_of}

@@ -1,5 +1,6 @@
 -- What the clauses on faults say where one call follows another.
-use Rattle.std.proofs.Common.{◌≡◌, [], ◌∷◌, ◌++◌, Option, Result, Ok, Err, ap, sym, subst, ◌∙◌, append_assoc}
+use Rattle.std.proofs.Common.{◌≡◌, [], ◌∷◌, ◌++◌, Option, Result, Ok, Err, ap, sym, subst, ◌∙◌}
+use Rattle.std.proofs.Common.{append_assoc}
 use Rattle.chk_bytes.specs.declared.NoMemory.{NoMemory as Wanting}
 use Rattle.chk_site.specs.declared.acts.Call.{Call}
 use Rattle.chk_site.specs.History.{History, is_stopped}
@@ -9,6 +10,7 @@ use Rattle.chk_agent.specs.declared.answers.AgentFault.{AgentFault}
 use Rattle.chk_agent.specs.declared.answers.AgentFault.TheVariants.{Damaged, Outside, NoMemory}
 use Rattle.chk_agent.specs.Faults.{FailsLast}
 use Rattle.chk_agent.specs.Turns.{as_agent}
+use Rattle.chk_site.proofs.LastCalls.{ends_in_both as ends_later}
 
 -- ---- the same fault of another call
 
@@ -40,10 +42,6 @@ last_wanting result is p = adds_as (FailsLast result) p (λ a h x. subst (λ r. 
     (sym is) tt)
 
 -- ---- one call after others
-
-ends_later : (call : Call) (b a : History) → EndsIn call b → EndsIn call (b ++ a)
-ends_later call [] a x = absurd x
-ends_later call (step ∷ b) a x = x
 
 fails_later : {T : Type 0} (result : Result T AgentFault) (b a history : History)
     → FailsLast result b (a ++ history)

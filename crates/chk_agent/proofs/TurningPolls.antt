@@ -12,7 +12,8 @@ use Rattle.chk_delivery.specs.Turns.{is_due}
 use Rattle.chk_agent.specs.declared.answers.AgentFault.{AgentFault}
 use Rattle.chk_agent.specs.States.{State, process}
 use Rattle.chk_agent.specs.Facts.{Matches}
-use Rattle.chk_agent.specs.Turns.{Polls, GetsLengths, PollsIfDue, unsent, asked, refused, unanswered, note_poll}
+use Rattle.chk_agent.specs.Turns.{Polls, GetsLengths, PollsIfDue, unsent, asked, refused}
+use Rattle.chk_agent.specs.Turns.{unanswered, note_poll}
 use Rattle.chk_agent.proofs.TurningTold.{TalksOn, IsSameAgent, talking_as, talks_then}
 
 -- the moment of a poll is no matter of the history

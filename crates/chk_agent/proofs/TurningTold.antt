@@ -1,5 +1,6 @@
 -- The parts of a turn, one after another.
-use Rattle.std.proofs.Common.{◌≡◌, ℕ, Bool, true, false, List, [], ◌∷◌, map, Option, Result, Ok, Err, ap, sym, subst, ◌∙◌, refl, true≢false}
+use Rattle.std.proofs.Common.{◌≡◌, ℕ, Bool, true, false, List, [], ◌∷◌, map, Option, Result, Ok}
+use Rattle.std.proofs.Common.{Err, ap, sym, subst, ◌∙◌, refl, true≢false}
 use Rattle.std.specs.Prelude.{filter, if◌then◌else◌, ◌||◌}
 use Rattle.std.proofs.lemmas.Bool.{and_parts}
 use Rattle.std.specs.List.{list_any}
@@ -27,8 +28,11 @@ use Rattle.chk_agent.specs.declared.answers.AgentFault.{AgentFault}
 use Rattle.chk_agent.specs.declared.answers.Filled.{Filled}
 use Rattle.chk_agent.specs.States.{State, process}
 use Rattle.chk_agent.specs.Facts.{Matches}
-use Rattle.chk_agent.specs.Fills.{IsFilled, all_stepped, full, none_before, stepped, shrank, refused as fill_refused, unkept, wanting}
-use Rattle.chk_agent.specs.Turns.{Posts, GetsPostReply, Polls, GetsLengths, PollsIfDue, not_due, unsent as due_unsent, asked, refused as due_refused, unanswered, as_agent}
+use Rattle.chk_agent.specs.Fills.{IsFilled, all_stepped, full, none_before, stepped, shrank}
+use Rattle.chk_agent.specs.Fills.{refused as fill_refused, unkept, wanting}
+use Rattle.chk_agent.specs.Turns.{Posts, GetsPostReply, Polls, GetsLengths, PollsIfDue, not_due}
+use Rattle.chk_agent.specs.Turns.{unsent as due_unsent, asked, refused as due_refused, unanswered}
+use Rattle.chk_agent.specs.Turns.{as_agent}
 
 -- an agent that also talks: the history holds the one state before, and the other one behind
 abbrev pub TalksOn : State → State → Option History → Option History → Type 0

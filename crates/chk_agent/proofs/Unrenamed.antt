@@ -1,9 +1,11 @@
 -- A checkpoint whose writing wanted memory is the old one: what was known of the history is known still.
-use Rattle.std.proofs.Common.{◌≡◌, ℕ, Bool, true, false, List, [], ◌∷◌, ◌++◌, Option, Some, None, Err, ap, ◌∙◌, refl, true≢false}
+use Rattle.std.proofs.Common.{◌≡◌, ℕ, Bool, true, false, List, [], ◌∷◌, ◌++◌, Option, Some, None}
+use Rattle.std.proofs.Common.{Err, ap, ◌∙◌, refl, true≢false}
 use Rattle.std.specs.Prelude.{IsTrue}
 use Rattle.chk_site.specs.declared.acts.OutsideFault.TheVariants.{NoMemory as no_memory}
 use Rattle.chk_site.specs.declared.acts.ActAnswer.{ActAnswer}
-use Rattle.chk_site.specs.declared.acts.ActAnswer.TheVariants.{Done, Refused, Stopped, Rotated, Deleted}
+use Rattle.chk_site.specs.declared.acts.ActAnswer.TheVariants.{Done, Refused, Stopped, Rotated}
+use Rattle.chk_site.specs.declared.acts.ActAnswer.TheVariants.{Deleted}
 use Rattle.chk_site.specs.Acts.{is_stop, tail_in}
 use Rattle.chk_site.specs.History.{History, Every, Others, files_after, is_stopped}
 use Rattle.chk_site.specs.Site.{Adds}

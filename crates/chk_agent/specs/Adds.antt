@@ -1,11 +1,14 @@
 -- How a stream is added.
-use Rattle.std.specs.Prelude.{◌≡◌, ℕ, ◌+◌, ◌<◌, ◌&&◌, Bool, true, false, not, List, [], ◌∷◌, ◌++◌, length, bytes_eq, codes, decimal, if◌then◌else◌, slice_set, Option, Some, None, Result, Ok, Err}
+use Rattle.std.specs.Prelude.{◌≡◌, ℕ, ◌+◌, ◌<◌, ◌&&◌, Bool, true, false, not, List, [], ◌∷◌, ◌++◌}
+use Rattle.std.specs.Prelude.{length, bytes_eq, codes, decimal, if◌then◌else◌, slice_set, Option}
+use Rattle.std.specs.Prelude.{Some, None, Result, Ok, Err}
 use Rattle.chk_control.specs.declared.Class.{Class}
 use Rattle.chk_control.specs.Classes.{is_plain}
 use Rattle.chk_site.specs.declared.acts.Call.{Call}
 use Rattle.chk_site.specs.declared.acts.Call.TheVariants.{LogNewest}
 use Rattle.chk_site.specs.declared.acts.CallFault.TheVariants.{Failed, NoMemory as site_wanting}
-use Rattle.chk_site.specs.declared.acts.OutsideFault.TheVariants.{Outside as site_failed, NoMemory as no_memory}
+use Rattle.chk_site.specs.declared.acts.OutsideFault.TheVariants.{Outside as site_failed}
+use Rattle.chk_site.specs.declared.acts.OutsideFault.TheVariants.{NoMemory as no_memory}
 use Rattle.chk_site.specs.History.{History}
 use Rattle.chk_site.specs.Site.{Adds, asked, answered, suffix_given, Calls}
 use Rattle.chk_world.specs.Checkpoints.{Line}

@@ -1,11 +1,22 @@
 -- What a control line answers and makes of an agent's state.
-use Rattle.std.specs.Prelude.{◌≡◌, ℕ, ◌+◌, ◌==◌, ◌||◌, Bool, true, false, not, List, [], ◌∷◌, ◌++◌, length, if◌then◌else◌, slice_get, slice_set, slice_index, Option, Some, None, Result, Ok, Err}
+use Rattle.std.specs.Prelude.{◌≡◌, ℕ, ◌+◌, ◌==◌, ◌||◌, Bool, true, false, not, List, [], ◌∷◌, ◌++◌}
+use Rattle.std.specs.Prelude.{length, if◌then◌else◌, slice_get, slice_set, slice_index, Option}
+use Rattle.std.specs.Prelude.{Some, None, Result, Ok, Err}
 use Rattle.chk_control.specs.declared.Class.{Class}
 use Rattle.chk_control.specs.declared.answers.State.{State as Named}
-use Rattle.chk_control.specs.declared.answers.State.TheVariants.{Live as is_live, Stopping as is_stopping, Shrank as has_shrunk}
-use Rattle.chk_control.specs.declared.answers.Answer.TheVariants.{Added, Closed, Help as help_text, Adaptor as one_adaptor, Listed, Reloaded, Stopped, StoppedAll, Stopping as stops_later, AgentStops, Bad}
+use Rattle.chk_control.specs.declared.answers.State.TheVariants.{Live as is_live}
+use Rattle.chk_control.specs.declared.answers.State.TheVariants.{Stopping as is_stopping}
+use Rattle.chk_control.specs.declared.answers.State.TheVariants.{Shrank as has_shrunk}
+use Rattle.chk_control.specs.declared.answers.Answer.TheVariants.{Added, Closed, Help as help_text}
+use Rattle.chk_control.specs.declared.answers.Answer.TheVariants.{Adaptor as one_adaptor, Listed}
+use Rattle.chk_control.specs.declared.answers.Answer.TheVariants.{Reloaded, Stopped, StoppedAll}
+use Rattle.chk_control.specs.declared.answers.Answer.TheVariants.{Stopping as stops_later}
+use Rattle.chk_control.specs.declared.answers.Answer.TheVariants.{AgentStops, Bad}
 use Rattle.chk_control.specs.declared.commands.Command.{Command}
-use Rattle.chk_control.specs.declared.commands.Command.TheVariants.{Blank, Add, Close, Help, List as ListAll, ReloadCollectors, Stop, StopAll, Shutdown, StopAgent}
+use Rattle.chk_control.specs.declared.commands.Command.TheVariants.{Blank, Add, Close, Help}
+use Rattle.chk_control.specs.declared.commands.Command.TheVariants.{List as ListAll}
+use Rattle.chk_control.specs.declared.commands.Command.TheVariants.{ReloadCollectors, Stop, StopAll}
+use Rattle.chk_control.specs.declared.commands.Command.TheVariants.{Shutdown, StopAgent}
 use Rattle.chk_control.specs.Lines.{Meaning, meaning_of}
 use Rattle.chk_control.specs.Answers.{answer_text, fault_number}
 use Rattle.chk_control.specs.Classes.{same_class}

@@ -1,5 +1,6 @@
 -- The numbers of default names.
-use Rattle.std.specs.Prelude.{◌≡◌, ℕ, ◌+◌, ◌<◌, Bool, true, false, List, [], ◌∷◌, codes, replicate, slice_set, option_and_then, if◌then◌else◌, Option, Some, None}
+use Rattle.std.specs.Prelude.{◌≡◌, ℕ, ◌+◌, ◌<◌, Bool, true, false, List, [], ◌∷◌, codes, replicate}
+use Rattle.std.specs.Prelude.{slice_set, option_and_then, if◌then◌else◌, Option, Some, None}
 use Rattle.chk_bytes.specs.Words.{behind_front}
 use Rattle.chk_bytes.specs.Numbers.{plain_number}
 use Rattle.chk_reading.specs.Adaptors.{Adaptor, is_past}

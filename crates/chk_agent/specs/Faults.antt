@@ -1,11 +1,14 @@
 -- The faults of an agent's calls.
 use Rattle.std.specs.Prelude.{◌≡◌, ℕ, ◌≤◌, Bool, true, false, ◌++◌, Result, Ok, Err}
 use Rattle.chk_site.specs.declared.acts.OutsideFault.{OutsideFault}
-use Rattle.chk_site.specs.declared.acts.OutsideFault.TheVariants.{Outside as site_failed, NoMemory as no_memory}
+use Rattle.chk_site.specs.declared.acts.OutsideFault.TheVariants.{Outside as site_failed}
+use Rattle.chk_site.specs.declared.acts.OutsideFault.TheVariants.{NoMemory as no_memory}
 use Rattle.chk_site.specs.History.{History, is_stopped}
 use Rattle.chk_site.specs.Site.{Rose, EndsIn}
 use Rattle.chk_checkpoint.specs.declared.fault.CheckFault.{CheckFault}
-use Rattle.chk_checkpoint.specs.declared.fault.CheckFault.TheVariants.{Damaged as check_damaged, Outside as check_failed, NoMemory as check_wanting}
+use Rattle.chk_checkpoint.specs.declared.fault.CheckFault.TheVariants.{Damaged as check_damaged}
+use Rattle.chk_checkpoint.specs.declared.fault.CheckFault.TheVariants.{Outside as check_failed}
+use Rattle.chk_checkpoint.specs.declared.fault.CheckFault.TheVariants.{NoMemory as check_wanting}
 use Rattle.chk_delivery.specs.declared.answers.Posted.{Posted}
 use Rattle.chk_delivery.specs.declared.answers.Posted.TheVariants.{Failed as post_failed}
 use Rattle.chk_delivery.specs.declared.answers.Answered.{Answered}

@@ -1,9 +1,11 @@
 -- The reads of a step and of a fill, and what they make of the state.
-use Rattle.std.specs.Prelude.{◌≡◌, ℕ, zero, suc, ◌+◌, ◌<◌, true, false, List, [], ◌∷◌, length, slice_get, slice_set, Option, Some, None, Result, Ok, Err}
+use Rattle.std.specs.Prelude.{◌≡◌, ℕ, zero, suc, ◌+◌, ◌<◌, true, false, List, [], ◌∷◌, length}
+use Rattle.std.specs.Prelude.{slice_get, slice_set, Option, Some, None, Result, Ok, Err}
 use Rattle.chk_site.specs.declared.acts.OutsideFault.{OutsideFault}
 use Rattle.chk_site.specs.History.{History}
 use Rattle.chk_tail.specs.declared.step.Step.{Step}
-use Rattle.chk_tail.specs.declared.step.Step.TheVariants.{Bytes, AtEnd as gave_none, Shrank as is_short}
+use Rattle.chk_tail.specs.declared.step.Step.TheVariants.{Bytes, AtEnd as gave_none}
+use Rattle.chk_tail.specs.declared.step.Step.TheVariants.{Shrank as is_short}
 use Rattle.chk_queue.specs.Queues.{data_size}
 use Rattle.chk_reading.specs.Adaptors.{Adaptor, is_stepped}
 use Rattle.chk_reading.specs.Steps.{IsStepped}
@@ -14,7 +16,10 @@ use Rattle.chk_agent.specs.declared.answers.AgentFault.TheVariants.{NoMemory}
 use Rattle.chk_agent.specs.declared.answers.Filled.{Filled}
 use Rattle.chk_agent.specs.declared.answers.Filled.TheVariants.{Read, AtEnds, Held, Shrank}
 use Rattle.chk_agent.specs.declared.answers.Stepped.{Stepped}
-use Rattle.chk_agent.specs.declared.answers.Stepped.TheVariants.{Read as step_read, AtEnd as step_at_end, Held as step_held, Shrank as step_shrank}
+use Rattle.chk_agent.specs.declared.answers.Stepped.TheVariants.{Read as step_read}
+use Rattle.chk_agent.specs.declared.answers.Stepped.TheVariants.{AtEnd as step_at_end}
+use Rattle.chk_agent.specs.declared.answers.Stepped.TheVariants.{Held as step_held}
+use Rattle.chk_agent.specs.declared.answers.Stepped.TheVariants.{Shrank as step_shrank}
 use Rattle.chk_agent.specs.Faults.{fault_of}
 use Rattle.chk_agent.specs.States.{State, process, chunk_given}
 

@@ -1,5 +1,6 @@
 -- How the parts of a state fit. It speaks of no history.
-use Rattle.std.specs.Prelude.{◌≡◌, ℕ, ◌≤◌, IsTrue, List, [], ◌∷◌, length, map, Contains, Any, Some, find, slice_get, slice_index}
+use Rattle.std.specs.Prelude.{◌≡◌, ℕ, ◌≤◌, IsTrue, List, [], ◌∷◌, length, map, Contains, Any, Some}
+use Rattle.std.specs.Prelude.{find, slice_get, slice_index}
 use Rattle.chk_tail.specs.Walks.{Spot}
 use Rattle.chk_rotate.specs.Marks.{place_of, BeginsBelow}
 use Rattle.chk_world.specs.Names.{is_source}

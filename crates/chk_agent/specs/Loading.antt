@@ -1,5 +1,6 @@
 -- The parts of a start.
-use Rattle.std.specs.Prelude.{◌≡◌, ℕ, List, [], length, IsTrue, Option, Some, None, Result, Ok, Err, MatchResult, slice_get, slice_index, Contains}
+use Rattle.std.specs.Prelude.{◌≡◌, ℕ, List, [], length, IsTrue, Option, Some, None, Result, Ok, Err}
+use Rattle.std.specs.Prelude.{MatchResult, slice_get, slice_index, Contains}
 use Rattle.chk_site.specs.declared.acts.Who.{Who}
 use Rattle.chk_site.specs.declared.acts.CallFault.{CallFault}
 use Rattle.chk_site.specs.declared.acts.OutsideFault.{OutsideFault}

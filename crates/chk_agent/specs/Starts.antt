@@ -1,5 +1,6 @@
 -- What a start leaves.
-use Rattle.std.specs.Prelude.{◌≡◌, ℕ, true, List, [], map, slice_get, Option, Some, None, Result, Ok, Err}
+use Rattle.std.specs.Prelude.{◌≡◌, ℕ, true, List, [], map, slice_get, Option, Some, None, Result}
+use Rattle.std.specs.Prelude.{Ok, Err}
 use Rattle.chk_site.specs.declared.acts.Who.{Who}
 use Rattle.chk_site.specs.declared.acts.Call.TheVariants.{Start}
 use Rattle.chk_site.specs.declared.acts.OutsideFault.{OutsideFault}

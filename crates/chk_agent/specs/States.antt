@@ -1,5 +1,6 @@
 -- The state of an agent, as contracts see it.
-use Rattle.std.specs.Prelude.{ℕ, zero, suc, ◌-◌, Bool, false, min, List, [], ◌∷◌, ◌++◌, length, map, filter, Option, Some, None, slice_get, slice_index}
+use Rattle.std.specs.Prelude.{ℕ, zero, suc, ◌-◌, Bool, false, min, List, [], ◌∷◌, ◌++◌, length, map}
+use Rattle.std.specs.Prelude.{filter, Option, Some, None, slice_get, slice_index}
 use Rattle.chk_site.specs.declared.acts.Role.TheVariants.{Agent}
 use Rattle.chk_site.specs.declared.acts.Who.{Who}
 use Rattle.chk_chunk.specs.declared.Chunk.{Chunk}

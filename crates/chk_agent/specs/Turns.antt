@@ -5,7 +5,8 @@ use Rattle.chk_site.specs.History.{History}
 use Rattle.chk_delivery.specs.declared.answers.Posted.{Posted}
 use Rattle.chk_delivery.specs.declared.answers.Answered.{Answered}
 use Rattle.chk_delivery.specs.declared.answers.Polled.{Polled}
-use Rattle.chk_delivery.specs.declared.answers.Polled.TheVariants.{Sent as poll_sent, Failed as poll_failed}
+use Rattle.chk_delivery.specs.declared.answers.Polled.TheVariants.{Sent as poll_sent}
+use Rattle.chk_delivery.specs.declared.answers.Polled.TheVariants.{Failed as poll_failed}
 use Rattle.chk_delivery.specs.declared.answers.PollAnswer.{PollAnswer}
 use Rattle.chk_delivery.specs.States.{State as Delivery}
 use Rattle.chk_delivery.specs.Scripts.{IsPosted, IsPostReplied, IsPolled, IsPollReplied}

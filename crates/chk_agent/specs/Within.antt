@@ -1,5 +1,6 @@
 -- When two lines are the same, and numbers that rise.
-use Rattle.std.specs.Prelude.{ℕ, zero, suc, ◌+◌, ◌-◌, nat_lt, ◌≤◌, ◌&&◌, ◌==◌, Bool, true, false, not, List, [], ◌∷◌, bytes_eq, if◌then◌else◌, Option, Some, None}
+use Rattle.std.specs.Prelude.{ℕ, zero, suc, ◌+◌, ◌-◌, nat_lt, ◌≤◌, ◌&&◌, ◌==◌, Bool, true, false}
+use Rattle.std.specs.Prelude.{not, List, [], ◌∷◌, bytes_eq, if◌then◌else◌, Option, Some, None}
 use Rattle.chk_control.specs.Classes.{same_class}
 use Rattle.chk_tail.specs.Walks.{Spot}
 use Rattle.chk_chunk.specs.declared.Chunk.{Chunk}

@@ -1,6 +1,7 @@
 //! How a stream is added.
 
-ghost use Rattle.std.specs.Prelude.{◌≡◌, ◌&&◌, bytes_eq, ◌<◌, ◌^◌, ℕ, List, IsTrue, IfOk, None, true, length, option_map, position};
+ghost use Rattle.std.specs.Prelude.{◌≡◌, ◌&&◌, bytes_eq, ◌<◌, ◌^◌, ℕ, List, IsTrue, IfOk, None};
+ghost use Rattle.std.specs.Prelude.{true, length, option_map, position};
 ghost use Rattle.std.specs.Prelude.{◌≤◌, ◌++◌, ◌∷◌, [], Some, Ok, not, slice_get};
 ghost use Rattle.chk_bytes.specs.Words.{is_word};
 ghost use Rattle.chk_control.specs.Classes.{is_plain};
@@ -20,7 +21,8 @@ ghost use Rattle.chk_reading.specs.Adaptors.{Adaptor as Reading, is_past, line_a
 ghost use Rattle.chk_agent.specs.States.{process, lines_of as lines_now};
 ghost use Rattle.chk_agent.specs.Facts.{Matches};
 ghost use Rattle.chk_agent.specs.Faults.{AgentCause, FailsLast, IsUndamaged};
-ghost use Rattle.chk_agent.specs.Adds.{Found, IsAdded, IsNameFor, MayTake, TakesStream, named_in, stream_in, revived_at, with_added};
+ghost use Rattle.chk_agent.specs.Adds.{Found, IsAdded, IsNameFor, MayTake, TakesStream, named_in};
+ghost use Rattle.chk_agent.specs.Adds.{stream_in, revived_at, with_added};
 
 use crate::agent::Agent;
 use crate::answers::{Added, AgentFault};

@@ -35,7 +35,6 @@ pub struct Rules {
 /// It holds the data of its queue, 52 bytes a row and 88 for each run of rows of one sink, 160 KB for
 /// 10,000 adaptors, the words of each adaptor's line twice, and one message at a time while it is
 /// sent.
-#[derive(Drop)]
 pub struct Agent {
     pub(crate) who: Who,
     pub(crate) cluster: Word,
@@ -44,6 +43,21 @@ pub struct Agent {
     pub(crate) delivery: Delivery,
     pub(crate) saved: Vec<CheckLine>,
     pub(crate) ready: bool,
+}
+
+// Written out, so that who lets an agent go doesn't prove it again, field by field.
+impl Drop for Agent {
+    fn drop(self) {
+        let Agent {
+            who: _who,
+            cluster: _cluster,
+            adaptors: _adaptors,
+            last: _last,
+            delivery: _delivery,
+            saved: _saved,
+            ready: _ready,
+        } = self;
+    }
 }
 
 impl Model for Agent {

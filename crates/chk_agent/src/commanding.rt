@@ -1,12 +1,16 @@
 //! The control lines of an agent.
 
-ghost use Rattle.std.specs.Prelude.{◌≡◌, ◌≤◌, ◌<◌, ℕ, Bool, List, [], ◌∷◌, ◌++◌, Option, Some, true, false, length, slice_get, slice_set, slice_index};
+ghost use Rattle.std.specs.Prelude.{◌≡◌, ◌≤◌, ◌<◌, ℕ, Bool, List, [], ◌∷◌, ◌++◌, Option, Some};
+ghost use Rattle.std.specs.Prelude.{true, false, length, slice_get, slice_set, slice_index};
 ghost use Rattle.std.specs.Prelude.{IsTrue, IfOk, IfSome, OnOk, is_some, option_map};
 ghost use Rattle.chk_site.specs.Site.{Adds};
 ghost use Rattle.chk_site.specs.Runs.{Leads};
-ghost use Rattle.chk_control.specs.declared.commands.Command.TheVariants.{Add, List as ListAll, ReloadCollectors, Stop, StopAll, Shutdown};
+ghost use Rattle.chk_control.specs.declared.commands.Command.TheVariants.{Add, List as ListAll};
+ghost use Rattle.chk_control.specs.declared.commands.Command.TheVariants.{ReloadCollectors, Stop};
+ghost use Rattle.chk_control.specs.declared.commands.Command.TheVariants.{StopAll, Shutdown};
 ghost use Rattle.chk_control.specs.Answers.{answer_text, is_answer};
-ghost use Rattle.chk_control.specs.Lines.{Meaning, IsLineRefusal, meaning_of, is_name, is_name_if_given};
+ghost use Rattle.chk_control.specs.Lines.{Meaning, IsLineRefusal, meaning_of, is_name};
+ghost use Rattle.chk_control.specs.Lines.{is_name_if_given};
 ghost use Rattle.chk_control.specs.Spellings.{is_command};
 ghost use Rattle.chk_rotate.specs.Marks.{BeginsBelow};
 ghost use Rattle.chk_world.specs.Places.{As};
@@ -17,7 +21,9 @@ ghost use Rattle.chk_agent.specs.Facts.{Matches};
 ghost use Rattle.chk_agent.specs.Faults.{AgentCause, FailsLast, IsUndamaged};
 ghost use Rattle.chk_agent.specs.Adds.{Found, IsNameFor, named_in, stream_in};
 ghost use Rattle.chk_agent.specs.Replies.{reply_of};
-ghost use Rattle.chk_agent.specs.Commands.{IsCommand, RunsPlainly, adds_none, add_refusal, state_of, list_line, list_lines, live_from, all_past, IsAnswered};
+ghost use Rattle.chk_agent.specs.Commands.{IsCommand, RunsPlainly, adds_none, add_refusal};
+ghost use Rattle.chk_agent.specs.Commands.{state_of, list_line, list_lines, live_from, all_past};
+ghost use Rattle.chk_agent.specs.Commands.{IsAnswered};
 
 use crate::agent::Agent;
 use crate::answers::{AgentFault, Reply, Then};
@@ -106,8 +112,8 @@ impl Agent {
         }
     }
 
-    // The number of the refusal, where a stream can't be added so. `found` is its adaptor. A default
-    // name is one that no live adaptor has.
+    // The number of the refusal, where a stream can't be added so. `found` is its adaptor. A
+    // default name is one that no live adaptor has.
     fn refusal_of(
         &self,
         given: &Option<Word>,
@@ -306,7 +312,8 @@ fn stop_live(adaptors: &mut Adaptors, delivery: &Delivery)
     requires to { (i : ℕ) (a : Reading) → slice_get adaptors.old.items i ≡ Some a
         → slice_index delivery.now.table.committed i ≤ a.read.offset }
     ensures { adaptors.new.items
-        ≡ all_past (live_from 0 adaptors.old.items) delivery.now.table.committed 0 adaptors.old.items }
+        ≡ all_past (live_from 0 adaptors.old.items) delivery.now.table.committed 0
+        adaptors.old.items }
 {
     for place in 0..adaptors.len() {
         if !is_past(adaptors.at(place).phase()) {

@@ -3,7 +3,8 @@
 ghost use Rattle.std.specs.Prelude.{◌≡◌, ◌≤◌, IfOk, IsTrue, not, true, length, position, slice_set};
 ghost use Rattle.chk_control.specs.Lines.{is_name};
 ghost use Rattle.chk_agent.specs.Adds.{default_name};
-ghost use Rattle.chk_agent.specs.DefaultNames.{IsLeastFree, marked, name_number, number_in, unmarked};
+ghost use Rattle.chk_agent.specs.DefaultNames.{IsLeastFree, marked, name_number, number_in};
+ghost use Rattle.chk_agent.specs.DefaultNames.{unmarked};
 
 use chk_bytes::{NoMemory, Word, take_plain_decimal};
 use chk_reading::{Adaptor, Phase};

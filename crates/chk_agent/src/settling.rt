@@ -1,6 +1,7 @@
 //! Adaptors whose answers have expired go back, and the checkpoint goes on over what is committed.
 
-ghost use Rattle.std.specs.Prelude.{◌≡◌, ◌≤◌, ℕ, List, Some, IsTrue, IsFalse, length, map, not, true};
+ghost use Rattle.std.specs.Prelude.{◌≡◌, ◌≤◌, ℕ, List, Some, IsTrue, IsFalse, length, map, not};
+ghost use Rattle.std.specs.Prelude.{true};
 ghost use Rattle.std.specs.Prelude.{slice_get, slice_index};
 ghost use Rattle.chk_site.specs.Site.{Adds};
 ghost use Rattle.chk_site.specs.Runs.{Leads};
@@ -12,8 +13,10 @@ ghost use Rattle.chk_rotate.specs.Readers.{spot_of};
 ghost use Rattle.chk_agent.specs.States.{State, process, lines_at, lines_of as lines_held};
 ghost use Rattle.chk_agent.specs.Facts.{Matches};
 ghost use Rattle.chk_agent.specs.Faults.{AgentCause, FailsLast, IsUndamaged};
-ghost use Rattle.chk_agent.specs.Settles.{IsSettled, all_back, gone_at, reset, settled, settled_all};
-ghost use Rattle.chk_agent.specs.Within.{Rising, same_line, same_place, same_suffix, same_kind, same_words};
+ghost use Rattle.chk_agent.specs.Settles.{IsSettled, all_back, gone_at, reset, settled};
+ghost use Rattle.chk_agent.specs.Settles.{settled_all};
+ghost use Rattle.chk_agent.specs.Within.{Rising, same_line, same_place, same_suffix, same_kind};
+ghost use Rattle.chk_agent.specs.Within.{same_words};
 
 use crate::agent::Agent;
 use crate::answers::{AgentFault, Settled};
@@ -109,7 +112,8 @@ fn send_back(adaptors: &mut Adaptors, delivery: &Delivery, gone: &[u32])
     requires to { (i : ℕ) (a : Reading) → slice_get adaptors.old.items i ≡ Some a
         → slice_index delivery.now.table.committed i ≤ a.read.offset }
     requires rising { Rising 0 gone.now }
-    ensures { adaptors.new.items ≡ all_back gone.now delivery.now.table.committed 0 adaptors.old.items }
+    ensures { adaptors.new.items
+        ≡ all_back gone.now delivery.now.table.committed 0 adaptors.old.items }
 {
     for place in 0..gone.len() {
         let adaptor = gone[place];

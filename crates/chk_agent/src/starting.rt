@@ -15,12 +15,13 @@ ghost use Rattle.chk_delivery.specs.States.{State as Delivery};
 ghost use Rattle.chk_agent.specs.Faults.{AgentCause, FailsLast};
 ghost use Rattle.chk_agent.specs.Loading.{MadeOnce, Loaded, IsEmptyFor, IsBegun, AreLines};
 ghost use Rattle.chk_agent.specs.Fits.{IsSound};
-ghost use Rattle.chk_agent.specs.Starts.{IsFresh, Started, StartsAndReads, FindsCheckpoint, begun_state};
+ghost use Rattle.chk_agent.specs.Starts.{IsFresh, Started, StartsAndReads, FindsCheckpoint};
+ghost use Rattle.chk_agent.specs.Starts.{begun_state};
 
 use crate::agent::{Agent, Rules};
 use crate::answers::AgentFault;
 use crate::lines::lines_now;
-use chk_adaptors::Adaptors;
+use chk_adaptors::{Adaptors, Hashing};
 use chk_bytes::{NoMemory, Word};
 use chk_checkpoint::{CheckLine, Checkpoint, MOST_LINES, load_checkpoint};
 use chk_delivery::Delivery;
@@ -33,6 +34,8 @@ impl Agent {
     /// Starts the agent: starts the process, loads its checkpoint, and takes the tables for 10,000
     /// adaptors. It makes no other calls. Each live line is read on from its place. `Damaged` comes
     /// at the first byte of the checkpoint that isn't in its grammar.
+    ///
+    /// It finds streams and names by `Hashing::Fixed`.
     pub fn start<S: Site>(
         alloc: Global,
         site: &mut S,
@@ -54,8 +57,35 @@ impl Agent {
         ensures last { Adds (S.told site.old) (S.told site.new) (FailsLast result) }
         ensures cause { AgentCause (S.fault_count site.old) (S.fault_count site.new) result }
     {
+        Agent::start_with_hasher(alloc, site, who, ring, rules, Hashing::Fixed)
+    }
+
+    /// Starts the agent as `start` does, and finds streams and names by this hashing: by
+    /// `Hashing::Random` where a stranger chooses their words.
+    pub fn start_with_hasher<S: Site>(
+        alloc: Global,
+        site: &mut S,
+        who: &Who,
+        ring: Ring,
+        rules: Rules,
+        hashing: Hashing,
+    ) -> Result<Agent, AgentFault>
+        requires role { who.now.role ≡ agent_role }
+        requires name { IsTrue (is_source who.now.name) }
+        requires some_rows { 1 ≤ rules.rows }
+        requires a_piece { 131072 ≤ rules.queue }
+        ensures fresh { IfOk result (IsFresh who.now ring rules) }
+        ensures starts { IfOk result (λ _. Adds (S.told site.old) (S.told site.new) (HasStarted who.now)) }
+        ensures told { (stamped : List (List ℕ)) → Adds (S.told site.old) (S.told site.new)
+            (Leads (As stamped who.now) (Legal stamped) (Started stamped who.now result)) }
+        ensures acts { StartsAndReads who.now result (S.told site.old) (S.told site.new) }
+        ensures whole { FindsCheckpoint (λ agent. agent.saved) who.now result
+            (S.told site.old) (S.told site.new) }
+        ensures last { Adds (S.told site.old) (S.told site.new) (FailsLast result) }
+        ensures cause { AgentCause (S.fault_count site.old) (S.fault_count site.new) result }
+    {
         let check = begin_and_load(alloc, site, who)?;
-        let agent = new_agent(alloc, who, ring, rules, check)?;
+        let agent = new_agent(alloc, who, ring, rules, hashing, check)?;
         Ok(agent)
     }
 }
@@ -95,6 +125,7 @@ fn new_agent(
     who: &Who,
     ring: Ring,
     rules: Rules,
+    hashing: Hashing,
     check: Checkpoint,
 ) -> Result<Agent, NoMemory>
     requires role { who.now.role ≡ agent_role }
@@ -112,7 +143,7 @@ fn new_agent(
         expire: rules.expire,
     };
     let delivery = begun_delivery(alloc, ring, limits, &check.lines)?;
-    let adaptors = adaptors_of(alloc, check.lines)?;
+    let adaptors = adaptors_of(alloc, hashing, check.lines)?;
     agent_with(alloc, who, rules.cluster, adaptors, delivery)
 }
 
@@ -182,12 +213,12 @@ fn begin_all(delivery: &mut Delivery, lines: &[CheckLine])
 }
 
 // The adaptors of the lines, in their order.
-fn adaptors_of(alloc: Global, lines: Vec<CheckLine>) -> Result<Adaptors, NoMemory>
+fn adaptors_of(alloc: Global, hashing: Hashing, lines: Vec<CheckLine>) -> Result<Adaptors, NoMemory>
     requires lines { AreLines (map shown lines.items) }
     requires good { IsTrue (are_lines Two (map shown lines.items)) }
     ensures { IfOk result (λ adaptors. adaptors.items ≡ map adaptor_of (map shown lines.items)) }
 {
-    let mut adaptors = Adaptors::new(alloc);
+    let mut adaptors = Adaptors::new(alloc, hashing);
     for line in lines {
         adaptors.push(Adaptor::new(alloc, line)?)?;
     }

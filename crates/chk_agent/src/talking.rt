@@ -8,7 +8,8 @@ ghost use Rattle.chk_world.specs.Places.{As, Making};
 ghost use Rattle.chk_agent.specs.States.{process};
 ghost use Rattle.chk_agent.specs.Facts.{Matches};
 ghost use Rattle.chk_delivery.specs.Scripts.{CauseBy};
-ghost use Rattle.chk_agent.specs.Faults.{AgentCause, fails_post, fails_answer, fails_poll, fails_lengths};
+ghost use Rattle.chk_agent.specs.Faults.{AgentCause, fails_post, fails_answer, fails_poll};
+ghost use Rattle.chk_agent.specs.Faults.{fails_lengths};
 ghost use Rattle.chk_agent.specs.Turns.{Posts, GetsPostReply, Polls, GetsLengths, as_agent};
 
 use crate::agent::Agent;

@@ -17,12 +17,9 @@ use Rattle.chk_agent.specs.States.{State}
 use Rattle.chk_agent.proofs.AddingFound.{found_of, none_of}
 use Rattle.chk_agent.proofs.Soundness.{below_at}
 use Rattle.chk_agent_run.specs.Initial.{reads, is_live_in}
+use Rattle.chk_control.proofs.SpelledLemmas.{false_from_not as not-true}
 
 -- ---- truths
-
-not-true : (b : Bool) → not b ≡ true → b ≡ false
-not-true true e = absurd (true≢false (sym e))
-not-true false e = refl
 
 and_false : (b : Bool) → (b && false) ≡ false
 and_false true = refl

@@ -12,7 +12,7 @@ ghost use Rattle.chk_agent_run.specs.Runs.{HasRun, InRun, RunEnds};
 use crate::faults::RunFault;
 use crate::initial::{add_lines, read_initial};
 use crate::turn::{Ended, run_turns};
-use chk_agent::{Agent, Rules};
+use chk_agent::{Agent, Hashing, Rules};
 use chk_bytes::Word;
 use chk_failover::Ring;
 use chk_site::{Site, Who};
@@ -40,7 +40,8 @@ pub struct Work {
 /// Reads the initial file, starts the agent, adds the stream of each line of the file, and makes
 /// the turns. Blank lines of the file and those whose stream is read already are skipped; any
 /// other line that isn't an accepted `add` is `Initial` at its first byte. The writer makes the
-/// reads of the file, and the agent all other calls. The file is held whole in memory.
+/// reads of the file, and the agent all other calls. The file is held whole in memory. Streams and
+/// names, which anybody at the control door chooses, are found by this hashing.
 pub fn run_agent<S: Site>(
     alloc: Global,
     site: &mut S,
@@ -49,6 +50,7 @@ pub fn run_agent<S: Site>(
     ring: Ring,
     rules: Rules,
     work: &Work,
+    hashing: Hashing,
 ) -> Result<Ended, RunFault>
     requires role { who.now.role ≡ agent_role }
     requires name { IsTrue (is_source who.now.name) }
@@ -62,7 +64,7 @@ pub fn run_agent<S: Site>(
     ensures cause { RunCause (S.fault_count site.old) (S.fault_count site.new) result }
 {
     let text = read_initial(alloc, site, writer, work.initial.as_ref())?;
-    let mut agent = Agent::start(alloc, site, who, ring, rules)?;
+    let mut agent = Agent::start_with_hasher(alloc, site, who, ring, rules, hashing)?;
     add_lines(alloc, site, &mut agent, text.as_slice())?;
     let door = work.control.as_ref();
     let ended = run_turns(alloc, site, who, &mut agent, door, work.pause, work.turns)?;

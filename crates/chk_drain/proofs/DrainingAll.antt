@@ -152,7 +152,7 @@ fails_but (Damaged at) added history x = tt
 fails_but (Outside call) added history x = λ other. x
 fails_but NoMemory added history x = tt
 
-some_at : {X : Type 0} (xs : List X) (i : ℕ) → i < length xs → (x : X) × (slice_get xs i ≡ Some x)
+pub some_at : {X : Type 0} (xs : List X) (i : ℕ) → i < length xs → (x : X) × (slice_get xs i ≡ Some x)
 some_at [] i below = absurd (let z : ⊥ = omega (arith, below) in z)
 some_at (x ∷ xs) zero below = (x, refl)
 some_at (x ∷ xs) (suc i) below = some_at xs i (omega (arith, below))

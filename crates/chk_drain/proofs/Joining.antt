@@ -17,6 +17,7 @@ use Rattle.chk_drain.specs.declared.answers.Drained.TheVariants.{AllTried, Done,
 use Rattle.chk_drain.specs.Drains.{Progress, tried_answer}
 use Rattle.chk_drain.specs.Parts.{Part, GoesOn, Comes, EndsLast, EndCause, NeverShort, SameReading, SameRest, Talks}
 use Rattle.chk_agent.specs.declared.answers.AgentFault.{AgentFault}
+use Rattle.chk_site.proofs.LastCalls.{ends_in_both as ends_later}
 
 -- ---- the count of faults
 
@@ -36,10 +37,6 @@ cause_then a b c (Some (Err (Outside call))) on x =
 cause_then a b c (Some (Err NoMemory)) on x = (let more = x.0 in omega (arith, on, more), x.1)
 
 -- ---- the call that failed
-
-ends_later : (call : Call) (b a : History) → EndsIn call b → EndsIn call (b ++ a)
-ends_later call [] a x = absurd x
-ends_later call (step ∷ b) a x = x
 
 pub last_later : (end : Option (Result Drained AgentFault)) (b a history : History)
     → EndsLast end b (a ++ history)

@@ -16,6 +16,7 @@ use Rattle.chk_agent.specs.Settles.{IsSettled, all_back, gone_at, settled_all}
 use Rattle.chk_agent.proofs.Soundness.{below_at}
 use Rattle.chk_agent.proofs.SettlingSound.{settled_at}
 use Rattle.chk_drain.specs.Drains.{AllDelivered}
+use Rattle.chk_agent.proofs.SettlingBack.{none_back as back_none}
 
 -- ---- what is committed where nothing waits and no row is left
 
@@ -44,7 +45,7 @@ all_committed s sound table none no_rows i a at =
 
 -- ---- none goes back
 
-none_gone : (i n : ℕ) → numbers_of [] i n ≡ []
+pub none_gone : (i n : ℕ) → numbers_of [] i n ≡ []
 none_gone i zero = refl
 none_gone i (suc n) = none_gone (suc i) n
 
@@ -53,10 +54,6 @@ gone_none now s none =
     ap (λ rows. numbers_of (expired_adaptors now s.delivery.rules.expire rows) 0
     (length s.delivery.table.committed)) none
     ∙ none_gone 0 (length s.delivery.table.committed)
-
-back_none : (committed : List ℕ) (i : ℕ) (xs : List Adaptor) → all_back [] committed i xs ≡ xs
-back_none committed i [] = refl
-back_none committed i (a ∷ xs) = ap (λ ys. a ∷ ys) (back_none committed (suc i) xs)
 
 no_chunks : (gone owners : List ℕ) → without_chunks gone owners [] ≡ []
 no_chunks gone [] = refl

@@ -78,7 +78,7 @@ but_then i s t u x y = record {
 abbrev pub IsReadOn : ℕ → State → Type 0
 IsReadOn i t = (b : Adaptor) × (slice_get t.adaptors i ≡ Some b) × (is_stepped b.phase ≡ true)
 
-put_there : {X : Type 0} (xs : List X) (i : ℕ) (x y : X) → slice_get xs i ≡ Some x
+pub put_there : {X : Type 0} (xs : List X) (i : ℕ) (x y : X) → slice_get xs i ≡ Some x
     → slice_get (slice_set xs i y) i ≡ Some y
 put_there [] i x y at = absurd (none-some x at)
 put_there (z ∷ xs) zero x y at = refl

@@ -12,7 +12,8 @@ use Rattle.chk_acks.specs.Sound.{IsSound, BeginsUnmarked}
 use Rattle.chk_world.specs.Agents.{AreFor}
 use Rattle.chk_delivery.specs.declared.answers.Below.{Below}
 use Rattle.chk_delivery.specs.Turns.{SeesAll, asked_stems, first_stems, length_of, below_row, first_below, below_in}
-use Rattle.chk_delivery.proofs.Lengths.{stem_is, stem_self}
+use Rattle.chk_delivery.proofs.Lengths.{stem_self}
+use Rattle.chk_world.proofs.NameTests.{stem_same as stem_is}
 use Rattle.chk_drain.specs.Parts.{count_rows}
 
 -- a row that isn't marked, and whose sink passes a test

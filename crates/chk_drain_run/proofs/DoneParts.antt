@@ -50,7 +50,8 @@ use Rattle.chk_drain_run.specs.Streams.{told_line}
 use Rattle.chk_drain_run.proofs.Adding.{all_added, line_read, starts_with}
 use Rattle.chk_drain_run.proofs.PrintsTalk.{prints_talk}
 use Rattle.chk_drain_run.proofs.Saved.{none_read}
-use Rattle.chk_drain_run.proofs.Silent.{Silent, added_silent}
+use Rattle.chk_drain_run.proofs.Silent.{added_silent}
+use Rattle.chk_prints.proofs.Silent.{Silent}
 
 -- ---- the beginning
 

@@ -8,7 +8,7 @@ use Rattle.chk_site.specs.History.{History}
 use Rattle.chk_site.specs.Site.{Adds, LastFailed, OutsideCause}
 use Rattle.chk_site.specs.Runs.{Leads}
 use Rattle.chk_site.proofs.Runs.{adds_as, adds_then}
-use Rattle.chk_replace.proofs.CallSteps.{last_then}
+use Rattle.chk_site.proofs.LastCalls.{last_of_both as last_then}
 use Rattle.chk_world.specs.Places.{Talking}
 use Rattle.chk_agent.specs.declared.answers.AgentFault.{AgentFault}
 use Rattle.chk_agent.specs.declared.answers.AgentFault.TheVariants.{Damaged, Outside as agent_failed, NoMemory as agent_wanting}

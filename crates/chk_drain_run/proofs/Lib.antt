@@ -1,4 +1,3 @@
-pub mod StreamLines
 pub mod InOrder
 pub mod PrintsTalk
 pub mod BeginEnds

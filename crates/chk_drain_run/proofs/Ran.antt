@@ -21,6 +21,7 @@ use Rattle.chk_drain_run.specs.declared.faults.DrainFault.{DrainFault}
 use Rattle.chk_drain_run.specs.declared.faults.DrainFault.TheVariants.{Run, Pending, Growing, Shrank, Refused}
 use Rattle.chk_drain_run.specs.Begins.{BeginsWith}
 use Rattle.chk_drain_run.specs.Drains.{DrainEnds, IsNoDamage, LastOfDrain, DrainCause}
+use Rattle.chk_site.proofs.LastCalls.{ends_in_both as ends_later}
 
 -- ---- where it didn't begin
 
@@ -86,10 +87,6 @@ ran_ends stamped who writer s t result {mid = mid} {new = new} me none begun tal
     (subst (λ (w : Who). Adds mid new
     (Leads (InRun stamped w writer) (Matches stamped s) (Matches stamped t))) (sym me)
     (talks_in_run stamped (process s) writer (talks stamped))))
-
-ends_later : (call : Call) (b a : History) → EndsIn call b → EndsIn call (b ++ a)
-ends_later call [] a x = absurd x
-ends_later call (step ∷ b) a x = x
 
 pub ran_last : (result : Result (Unit {0}) DrainFault) {P : History → History → Type 0}
     {old mid new : Option History}

@@ -48,18 +48,11 @@ use Rattle.chk_drain.specs.declared.answers.Drained.TheVariants.{Done}
 use Rattle.chk_drain.specs.Drains as drain
 use Rattle.chk_drain.specs.Drains.{Drains, IsDrained, PollGives, PollTries, PostTries, Progress}
 use Rattle.chk_prints.specs.Printing.{print_of, printed}
-use Rattle.chk_prints.proofs.Printed.{prints_join}
+use Rattle.chk_prints.proofs.Silent.{Silent, silent_call, silent_then}
 use Rattle.chk_drain_run.proofs.Keeping.{not_done}
-
-abbrev pub Silent : History → History → Type 0
-Silent added history = printed (own_acts added) ≡ []
 
 none : (now : Option History) → Adds now now Silent
 none now = adds_none now Silent (λ history. refl)
-
-pub silent_then : {old mid new : Option History} → Adds old mid Silent → Adds mid new Silent
-    → Adds old new Silent
-silent_then p q = adds_then Silent p q (λ a b history x y. prints_join b a ∙ (λ i. x i ++ y i))
 
 -- ---- calls
 
@@ -68,41 +61,9 @@ abbrev IsQuiet : Asked → Type 0
 IsQuiet q = (answer : ActAnswer)
     → print_of q.who (deed_by q.call q.words q.number q.max) answer ≡ []
 
-theirs_silent : (added history : History) → Every IsTheirs added history → own_acts added ≡ []
-theirs_silent [] history theirs = refl
-theirs_silent (step ∷ added) history theirs =
-    rw theirs.1.0 (theirs_silent added history theirs.0)
-
-module _ (q : Asked) (quiet : IsQuiet q) where
-  acted : (answer : ActAnswer) {added history : History} → Acted q answer added history
-      → Silent added history
-  acted answer {history = history} a =
-      ap (λ (k : History). printed (own_acts k)) a.added_is
-      ∙ (ap (λ (acts : List Act). printed acts
-      ++ print_of q.who (deed_by q.call q.words q.number q.max) answer)
-      (theirs_silent a.others history a.theirs) ∙ quiet answer)
-
-  running : (given : Result ActAnswer CallFault) (added history : History)
-      → Added q given added history → Silent added history
-  running (Ok answer) added history a = acted answer a
-  running (Err NoMemory) added history a = ap printed (theirs_silent added history a)
-  running (Err Failed) added history (inl a) = acted (Refused Failed) a
-  running (Err Failed) added history (inr a) = acted (Stopped a.0) a.1
-  running (Err Missing) added history a = acted (Refused Missing) a
-  running (Err Exists) added history a = acted (Refused Exists) a
-  running (Err (Short size)) added history a = acted (Refused (Short size)) a
-
-  call_by : (given : Result ActAnswer CallFault) (added history : History)
-      → Calls q given added history → Silent added history
-  call_by given added history c = go (is_stopped history) refl
-    where
-      go : (b : Bool) → is_stopped history ≡ b → Silent added history
-      go true is = ap (λ (k : History). printed (own_acts k)) (c.stopped is).0
-      go false is = running given added history (c.running is)
-
-  call : {given : Result ActAnswer CallFault} {old new : Option History}
-      → Adds old new (Calls q given) → Adds old new Silent
-  call {given = given} told = adds_as Silent told (call_by given)
+call : (q : Asked) → IsQuiet q → {given : Result ActAnswer CallFault} {old new : Option History}
+    → Adds old new (Calls q given) → Adds old new Silent
+call q quiet {given = given} told = adds_as Silent told (silent_call q quiet given)
 
 abbrev AllQuiet : List Asked → Type 0
 AllQuiet [] = Unit {0}
@@ -124,7 +85,7 @@ sends : (who : Who) (address bytes : List ℕ) (given : Result ℕ CallFault) {o
     → Sends who address bytes given old new → Adds old new Silent
 sends who address bytes given told =
     adds_as Silent told
-    (λ a h c. call_by (asked who Send (address ∷ bytes ∷ []) c.0 0) (λ answer. refl)
+    (λ a h c. silent_call (asked who Send (address ∷ bytes ∷ []) c.0 0) (λ answer. refl)
     (answered sized given) a h c.1)
 
 -- ---- the lines of the initial file

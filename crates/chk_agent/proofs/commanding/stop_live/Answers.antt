@@ -3,7 +3,8 @@ use Rattle.std.specs.Prelude.{slice_set}
 use Rattle.chk_rotate.specs.Marks.{BeginsBelow}
 use Rattle.chk_reading.specs.Adaptors.{is_past, stopped}
 use Rattle.chk_adaptors.specs.Adaptors.{Held}
-use Rattle.chk_agent.proofs.CommandingLists.{past_to, past_none, past_all, past_size, past_as_was, one_past, none_past}
+use Rattle.chk_agent.proofs.CommandingLists.{past_to, past_none, past_all, past_size, past_as_was}
+use Rattle.chk_agent.proofs.CommandingLists.{one_past, none_past}
 use Rattle.chk_agent.proofs.commanding.stop_live.Goals as goal
 use Rattle.chk_agent.proofs.commanding.stop_live.Goals.{then-not-is_past, else-not-is_past}
 
@@ -56,7 +57,8 @@ loop-place-preserved c =
       | then-not-is_past w ↦
           ap (λ (h : Held). h.items) w.adaptors-is
           ∙ (ap (λ (h : Held). h.items) (w.stop.ensures a c.at.ensures)
-          ∙ (ap (λ o. slice_set l.adaptors.items l.place (stopped o a)) w.committed_end-committed.ensures
+          ∙ (ap (λ o. slice_set l.adaptors.items l.place (stopped o a))
+          w.committed_end-committed.ensures
           ∙ one_past ends xs l.adaptors.items l.place l.invariant a c.at.ensures
           (c.is_past.ensures ∙ ap is_past c.phase.ensures.phase) w.if-not-is_past.true))
       | else-not-is_past w ↦

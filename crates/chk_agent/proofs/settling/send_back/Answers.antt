@@ -57,5 +57,6 @@ loop-place-preserved c =
           ap (λ (h : Held). h.items) w.adaptors-is
           ∙ none_there c.args.gone.now c.args.delivery.now.table.committed c.requires.rising
           c.args.adaptors.now.items xs
-          c.loop-place.place c.loop-place-test.true c.loop-place.invariant (subst (λ n. n ≤ x) c.len.ensures.len w.if-adaptor-len.false)
+          c.loop-place.place c.loop-place-test.true c.loop-place.invariant
+          (subst (λ n. n ≤ x) c.len.ensures.len w.if-adaptor-len.false)
     ]

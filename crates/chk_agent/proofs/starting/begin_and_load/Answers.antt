@@ -5,7 +5,8 @@ use Rattle.chk_checkpoint.specs.declared.Checkpoint.{Checkpoint}
 use Rattle.chk_checkpoint.specs.Lines.{lines_of}
 use Rattle.chk_agent.specs.Faults.{FailsLast}
 use Rattle.chk_agent.specs.Starts.{StartsAndReads}
-use Rattle.chk_agent.proofs.StartingTold.{start_begun, unbegun_told, loaded_told, load_fails, load_result}
+use Rattle.chk_agent.proofs.StartingTold.{start_begun, unbegun_told, loaded_told, load_fails}
+use Rattle.chk_agent.proofs.StartingTold.{load_result}
 use Rattle.chk_agent.proofs.StartingFinds.{starts_loads, unstarted_finds, loaded_finds}
 use Rattle.chk_agent.proofs.starting.begin_and_load.Goals as goal
 

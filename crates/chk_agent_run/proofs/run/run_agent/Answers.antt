@@ -17,7 +17,6 @@ use Rattle.chk_agent_run.proofs.Turned.{process_on}
 use Rattle.chk_agent_run.proofs.LineAdded.{word_copied}
 use Rattle.chk_agent_run.proofs.Endings.{start_so, who_started, unread_leads, unstarted_leads, late_ends}
 use Rattle.chk_agent_run.proofs.RunFaults.{run_last, run_cause, no_checkpoint, none_of, last_of, outside_last, outside_cause, nothing_last}
-use Rattle.chk_agent_run.proofs.RunCauses.{cause_behind}
 use Rattle.chk_agent_run.proofs.run.run_agent.Goals as goal
 
 pub returns-in_err-text-clause-ran : goal.returns-in_err-text-clause-ran
@@ -59,7 +58,7 @@ returns-in_err-agent-clause-ran g c =
 pub returns-in_err-agent-clause-told : goal.returns-in_err-agent-clause-told
 returns-in_err-agent-clause-told g c stamped =
     let p = err_from_is_err_and c.from_residual-in_err-agent.result c.from_residual-in_err-agent.ensures.1 in
-    subst (λ (r : Result Ended RunFault). Adds (g.S.Site.told c.args.site.now) (g.S.Site.told c.start.new.site)
+    subst (λ (r : Result Ended RunFault). Adds (g.S.Site.told c.args.site.now) (g.S.Site.told c.start_with_hasher.new.site)
     (Leads (InRun stamped c.args.who.now c.args.writer.now) (Legal stamped) (RunEnds stamped c.args.who.now r)))
     (sym (p.1 ∙ ap Err p.2))
     (unstarted_leads stamped c.args.who.now c.args.writer.now c.requires.writer c.read_initial.ensures.reads c.in_err-agent.field-0.0
@@ -92,7 +91,7 @@ returns-in_err-add_lines-clause-ran g c =
           c.in_ok-agent.ensures.acts c.in_ok-agent.ensures.whole;
     })
     (subst (λ (b : List ℕ). AreAdded 0 (parts_at 10 b) c.in_ok-agent.agent (Err c.in_err-add_lines.field-0.0) c.add_lines.new.agent
-    (g.S.Site.told c.start.new.site) (g.S.Site.told c.add_lines.new.site)) c.as_slice.ensures c.in_err-add_lines.ensures.script))
+    (g.S.Site.told c.start_with_hasher.new.site) (g.S.Site.told c.add_lines.new.site)) c.as_slice.ensures c.in_err-add_lines.ensures.script))
 
 pub returns-in_err-add_lines-clause-told : goal.returns-in_err-add_lines-clause-told
 returns-in_err-add_lines-clause-told g c stamped =
@@ -112,7 +111,7 @@ returns-in_err-add_lines-clause-last g c =
     c.in_ok-agent.agent c.in_ok-agent.agent
     (who_started c.args.who.now c.args.ring c.args.rules c.in_ok-agent.agent c.requires.role c.in_ok-agent.ensures.fresh)
     (c.in_ok-agent.ensures.told [])
-    (carried_none c.in_ok-agent.agent (g.S.Site.told c.start.new.site)).talks
+    (carried_none c.in_ok-agent.agent (g.S.Site.told c.start_with_hasher.new.site)).talks
     (Ok Over) tt)
     c.in_err-add_lines.ensures.last
 
@@ -131,7 +130,7 @@ returns-in_err-ended-clause-ran g c =
           c.in_ok-agent.ensures.acts c.in_ok-agent.ensures.whole;
     })
     (subst (λ (b : List ℕ). AreAdded 0 (parts_at 10 b) c.in_ok-agent.agent (Ok tt) c.add_lines.new.agent
-    (g.S.Site.told c.start.new.site) (g.S.Site.told c.add_lines.new.site)) c.as_slice.ensures c.in_ok-add_lines.ensures.script)
+    (g.S.Site.told c.start_with_hasher.new.site) (g.S.Site.told c.add_lines.new.site)) c.as_slice.ensures c.in_ok-add_lines.ensures.script)
     (subst (λ (o : Option (List ℕ)). AreAgentTurns c.args.who.now o c.args.work.now.pause c.args.work.now.turns c.add_lines.new.agent (Err c.in_err-ended.field-0.0)
     c.run_turns.new.agent (g.S.Site.told c.add_lines.new.site) (g.S.Site.told c.run_turns.new.site))
     (word_copied c.as_ref-door.result _ c.as_ref-door.ensures.value) c.in_err-ended.ensures.script))
@@ -174,7 +173,7 @@ returns-clause-ran g c =
           c.in_ok-agent.ensures.acts c.in_ok-agent.ensures.whole;
     })
     (subst (λ (b : List ℕ). AreAdded 0 (parts_at 10 b) c.in_ok-agent.agent (Ok tt) c.add_lines.new.agent
-    (g.S.Site.told c.start.new.site) (g.S.Site.told c.add_lines.new.site)) c.as_slice.ensures c.in_ok-add_lines.ensures.script)
+    (g.S.Site.told c.start_with_hasher.new.site) (g.S.Site.told c.add_lines.new.site)) c.as_slice.ensures c.in_ok-add_lines.ensures.script)
     (subst (λ (o : Option (List ℕ)). AreAgentTurns c.args.who.now o c.args.work.now.pause c.args.work.now.turns c.add_lines.new.agent (Ok c.in_ok-ended.ended)
     c.run_turns.new.agent (g.S.Site.told c.add_lines.new.site) (g.S.Site.told c.run_turns.new.site))
     (word_copied c.as_ref-door.result _ c.as_ref-door.ensures.value) c.in_ok-ended.ensures.script)
@@ -203,22 +202,3 @@ returns-clause-last g c =
     c.in_ok-add_lines.ensures.ready c.add_lines.ensures.told)
     c.run_turns.ensures.told)
     (Ok Over) tt)
-
-pub returns-in_err-add_lines-clause-cause : goal.returns-in_err-add_lines-clause-cause
-returns-in_err-add_lines-clause-cause g c =
-    let r = c.from_residual-in_err-add_lines in
-    let p = err_from_is_err_and r.result r.ensures.1 in
-    let read = c.in_ok-text.ensures.cause in
-    let started = c.in_ok-agent.ensures.cause in
-    cause_behind (Unit {0}) _ _ _ c.in_err-add_lines.field-0.0 r.result (p.1 ∙ ap Err p.2)
-    (omega (arith, read, started)) c.in_err-add_lines.ensures.cause
-
-pub returns-in_err-ended-clause-cause : goal.returns-in_err-ended-clause-cause
-returns-in_err-ended-clause-cause g c =
-    let r = c.from_residual-in_err-ended in
-    let p = err_from_is_err_and r.result r.ensures.1 in
-    let read = c.in_ok-text.ensures.cause in
-    let started = c.in_ok-agent.ensures.cause in
-    let added = c.in_ok-add_lines.ensures.cause in
-    run_cause Ended _ _ _ c.in_err-ended.field-0.0 r.result (p.1 ∙ ap Err p.2)
-    (omega (arith, read, started, added)) c.in_err-ended.ensures.cause

@@ -1,6 +1,4 @@
-use Rattle.std.proofs.Common.{◌∙◌, ap, sym}
-use Rattle.std.specs.Prelude.{position}
-use Rattle.chk_adaptors.specs.Adaptors.{Held, is_of}
+use Rattle.std.proofs.Common.{◌∙◌}
 use Rattle.chk_adaptors.proofs.Finding.{find_is}
 use Rattle.chk_adaptors.proofs.adaptors.Adaptors.place_of.Goals as goal
 

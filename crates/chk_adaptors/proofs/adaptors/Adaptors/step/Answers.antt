@@ -5,7 +5,8 @@ use Rattle.std.proofs.Common.{◌∙◌}
 use Rattle.chk_world.specs.Checkpoints.{is_after_text}
 use Rattle.chk_reading.specs.Adaptors.{Adaptor, IsPlaced, is_stepped}
 use Rattle.chk_reading.specs.Steps.{IsStepped}
-use Rattle.chk_adaptors.proofs.Writes.{below, is_live, same_at, seen_written, stands, step_alike, writes}
+use Rattle.chk_adaptors.proofs.Writes.{below, is_live, same_at, seen_written, stands, step_alike}
+use Rattle.chk_adaptors.proofs.Writes.{writes}
 use Rattle.chk_adaptors.proofs.adaptors.Adaptors.step.Goals as goal
 
 pub index_mut-requires : goal.index_mut-requires

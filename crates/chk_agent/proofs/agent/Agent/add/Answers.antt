@@ -1,4 +1,5 @@
-use Rattle.std.proofs.Common.{◌≡◌, ◌≢◌, Option, ◌∙◌, ◌<◌, ap, sym, subst, refl, true, false, length, arith, rules, Some, None, Ok}
+use Rattle.std.proofs.Common.{◌≡◌, ◌≢◌, Option, ◌∙◌, ◌<◌, ap, sym, subst, refl, true, false, length}
+use Rattle.std.proofs.Common.{arith, rules, Some, None, Ok}
 use Rattle.std.specs.Prelude.{slice_get}
 use Rattle.std.proofs.lemmas.Option.{same_Some}
 use Rattle.std.proofs.lemmas.Result.{err_from_is_err_and}

@@ -15,9 +15,12 @@ pub returns-in-Some-clause-state : goal.returns-in-Some-clause-state
 returns-in-Some-clause-state g c line means =
     refused_line line c.args.self.now c.args.given c.args.class c.args.kind.now c.args.path.now
     (a_name c.args.self.now c.refusal_of.ensures.few c.args.given).0 c.args.offset means
-    c.in-Some.number c.answer.result _ (a_name c.args.self.now c.refusal_of.ensures.few c.args.given).1
-    (sym (c.refusal_of.ensures.refusal (a_name c.args.self.now c.refusal_of.ensures.few c.args.given).0
-    (a_name c.args.self.now c.refusal_of.ensures.few c.args.given).1) ∙ c.in-Some.is) c.answer.ensures
+    c.in-Some.number c.answer.result _
+    (a_name c.args.self.now c.refusal_of.ensures.few c.args.given).1
+    (sym (c.refusal_of.ensures.refusal
+    (a_name c.args.self.now c.refusal_of.ensures.few c.args.given).0
+    (a_name c.args.self.now c.refusal_of.ensures.few c.args.given).1) ∙ c.in-Some.is)
+    c.answer.ensures
 
 pub returns-in_err-copy-clause-state : goal.returns-in_err-copy-clause-state
 returns-in_err-copy-clause-state g c line means =
@@ -35,7 +38,8 @@ take_stream-requires-clause-may g c =
     may_take (named_in c.in_ok-name.name 0 c.args.self.now.adaptors)
     (stream_in c.args.kind.now c.args.path.now 0 c.args.self.now.adaptors)
     (length c.args.self.now.adaptors) c.args.class c.args.offset
-    (sym (c.refusal_of.ensures.refusal c.in_ok-name.name c.in_ok-name.ensures.name) ∙ c.in_default.is) c.refusal_of.ensures.few
+    (sym (c.refusal_of.ensures.refusal c.in_ok-name.name c.in_ok-name.ensures.name)
+    ∙ c.in_default.is) c.refusal_of.ensures.few
 
 pub returns-in_err-take_stream-clause-state : goal.returns-in_err-take_stream-clause-state
 returns-in_err-take_stream-clause-state g c line means =
@@ -44,7 +48,8 @@ returns-in_err-take_stream-clause-state g c line means =
     rw (p.1, p.2)
     (failed_add c.args.given c.args.class c.args.kind.now c.args.path.now c.in_ok-name.name c.args.offset
     c.in_err-take_stream.field-0.0 means
-    c.in_ok-name.ensures.name (sym (c.refusal_of.ensures.refusal c.in_ok-name.name c.in_ok-name.ensures.name)
+    c.in_ok-name.ensures.name
+    (sym (c.refusal_of.ensures.refusal c.in_ok-name.name c.in_ok-name.ensures.name)
     ∙ c.in_default.is) c.in_err-take_stream.ensures.state)
 
 pub returns-clause-state : goal.returns-clause-state

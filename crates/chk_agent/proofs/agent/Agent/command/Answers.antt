@@ -1,7 +1,8 @@
 use Rattle.std.proofs.Common.{Ok, subst, refl}
 use Rattle.chk_control.specs.Lines.{meaning_of}
 use Rattle.chk_agent.specs.Fits.{IsSound}
-use Rattle.chk_agent.proofs.CommandingPlain.{runs_line, plain_told, plain_undamaged, plain_last, plain_cause}
+use Rattle.chk_agent.proofs.CommandingPlain.{runs_line, plain_told, plain_undamaged, plain_last}
+use Rattle.chk_agent.proofs.CommandingPlain.{plain_cause}
 use Rattle.chk_agent.proofs.agent.Agent.command.Goals as goal
 
 pub returns-in-Ok : goal.returns-in-Ok

@@ -12,5 +12,6 @@ pub returns-clause-name : goal.returns-clause-name
 returns-clause-name c =
     let n = c.in_ok-number.number in
     IfOk-weaker c.name_of.result (λ name. name ≡ default_name n) (IsNameFor c.args.self.now None)
-    (name_for c.args.self.now c.as_slice.result.now n (c.as_slice.ensures ∙ ap (λ (s : State). s.adaptors) c.self.view_is)
+    (name_for c.args.self.now c.as_slice.result.now n
+    (c.as_slice.ensures ∙ ap (λ (s : State). s.adaptors) c.self.view_is)
     c.in_ok-number.ensures) c.name_of.ensures.name

@@ -1,15 +1,23 @@
-use Rattle.std.proofs.Common.{◌≡◌, ◌-◌, ◌<◌, Some, Ok, Err, length, [], ap, sym, subst, ◌∙◌, refl, arith}
+use Rattle.std.proofs.Common.{◌≡◌, ◌-◌, ◌<◌, Some, Ok, Err, length, [], ap, sym, subst, ◌∙◌, refl}
+use Rattle.std.proofs.Common.{arith}
 use Rattle.std.specs.Prelude.{slice_get}
 use Rattle.std.proofs.lemmas.Result.{err_from_is_err_and}
 use Rattle.chk_queue.specs.Queues.{data_size}
 use Rattle.chk_agent.specs.declared.answers.Filled.TheVariants.{Shrank}
-use Rattle.chk_agent.specs.declared.answers.Stepped.TheVariants.{Read as step_read, AtEnd as step_at_end, Held as step_held, Shrank as step_shrank}
+use Rattle.chk_agent.specs.declared.answers.Stepped.TheVariants.{Read as step_read}
+use Rattle.chk_agent.specs.declared.answers.Stepped.TheVariants.{AtEnd as step_at_end}
+use Rattle.chk_agent.specs.declared.answers.Stepped.TheVariants.{Held as step_held}
+use Rattle.chk_agent.specs.declared.answers.Stepped.TheVariants.{Shrank as step_shrank}
 use Rattle.chk_agent.specs.States.{State, to_step, is_read_on}
 use Rattle.chk_agent.specs.Fills.{IsFilled, IsOneStepped}
 use Rattle.chk_agent.proofs.FillingPieces.{noted_begun, noted_read, noted_none}
-use Rattle.chk_agent.proofs.FillingOn.{at_place, fill_begun, fill_skips, fill_steps, fill_ends, last_on, last_none, last_none_then, place_is, read_one, held_sum, held_out, shrank_out, err_out, told_out}
+use Rattle.chk_agent.proofs.FillingOn.{at_place, fill_begun, fill_skips, fill_steps, fill_ends}
+use Rattle.chk_agent.proofs.FillingOn.{last_on, last_none, last_none_then, place_is, read_one}
+use Rattle.chk_agent.proofs.FillingOn.{held_sum, held_out, shrank_out, err_out, told_out}
 use Rattle.chk_agent.proofs.agent.Agent.fill_noting.Goals as goal
-use Rattle.chk_agent.proofs.agent.Agent.fill_noting.Goals.{then-is_read_on+in_ok-bytes+in-Read, then-is_read_on+in_ok-bytes+in-AtEnd, else-is_read_on}
+use Rattle.chk_agent.proofs.agent.Agent.fill_noting.Goals.{then-is_read_on+in_ok-bytes+in-Read}
+use Rattle.chk_agent.proofs.agent.Agent.fill_noting.Goals.{then-is_read_on+in_ok-bytes+in-AtEnd}
+use Rattle.chk_agent.proofs.agent.Agent.fill_noting.Goals.{else-is_read_on}
 
 pub loop-place-init : goal.loop-place-init
 loop-place-init g c = record {
@@ -128,7 +136,9 @@ returns-in_err-bytes-clause-told g c stamped =
 pub returns-in_err-bytes-clause-last : goal.returns-in_err-bytes-clause-last
 returns-in_err-bytes-clause-last g c =
     let p = err_from_is_err_and c.from_residual.result c.from_residual.ensures.1 in
-    last_on c.step.result c.from_residual.result c.in_err-bytes.field-0.0 (c.loop-place.invariant.way.told []) c.in_err-bytes.was (p.1 ∙ ap Err p.2) c.step.ensures.last
+    last_on c.step.result c.from_residual.result c.in_err-bytes.field-0.0
+    (c.loop-place.invariant.way.told []) c.in_err-bytes.was
+    (p.1 ∙ ap Err p.2) c.step.ensures.last
 
 pub overflow_sub-used : goal.overflow_sub-used
 overflow_sub-used g c =
@@ -219,7 +229,8 @@ returns-in-Shrank-clause-state g c =
     let st = subst (λ x. IsOneStepped x r.0 t c.step.result u (g.S.Site.told c.loop-place.site) (g.S.Site.told c.step.new.site)) place
     (c.step.ensures.state r.0 r.1) in
     let is = c.in_ok-bytes.was ∙ ap Ok c.in-Shrank.is in
-    subst (λ n. IsFilled (to_step s) 0 s (Ok (Shrank n c.in-Shrank.had c.in-Shrank.is')) u (g.S.Site.told c.args.site.now) (g.S.Site.told c.step.new.site)) (sym place)
+    subst (λ n. IsFilled (to_step s) 0 s (Ok (Shrank n c.in-Shrank.had c.in-Shrank.is')) u
+    (g.S.Site.told c.args.site.now) (g.S.Site.told c.step.new.site)) (sym place)
     (shrank_out s k t u f below r.0 at r.2 c.step.result st c.in-Shrank.had c.in-Shrank.is' is)
 
 pub returns-in-Shrank-clause-told : goal.returns-in-Shrank-clause-told
@@ -243,7 +254,9 @@ returns-in-Shrank-clause-told g c stamped =
     told_out s k t u f below r.0 at r.2 c.step.result st stamped (c.step.ensures.told stamped)
 
 pub returns-in-Shrank-clause-last : goal.returns-in-Shrank-clause-last
-returns-in-Shrank-clause-last g c = last_none_then (Shrank c.number_at-adaptor.result c.in-Shrank.had c.in-Shrank.is') (c.loop-place.invariant.way.told []) c.step.ensures.last
+returns-in-Shrank-clause-last g c = last_none_then
+    (Shrank c.number_at-adaptor.result c.in-Shrank.had c.in-Shrank.is')
+    (c.loop-place.invariant.way.told []) c.step.ensures.last
 
 pub returns-clause-state : goal.returns-clause-state
 returns-clause-state g c =

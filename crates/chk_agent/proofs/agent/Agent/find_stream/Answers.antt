@@ -10,5 +10,6 @@ returns c =
     let kind = c.args.kind.now in
     let path = c.args.path.now in
     subst
-    (λ (s : State). c.find.result ≡ option_map (λ (f : Found). f.number) (stream_in kind path 0 s.adaptors))
+    (λ (s : State). c.find.result ≡ option_map (λ (f : Found). f.number)
+    (stream_in kind path 0 s.adaptors))
     c.self.view_is (c.find.ensures ∙ found_at kind path c.self.inside.adaptors.items)

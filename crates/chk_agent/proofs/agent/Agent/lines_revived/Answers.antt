@@ -13,11 +13,13 @@ use Rattle.chk_agent.proofs.agent.Agent.lines_revived.Goals as goal
 
 pub lines_now-requires-clause-from : goal.lines_now-requires-clause-from
 lines_now-requires-clause-from c i a at =
-    ends_from (agent_view c.self.inside) c.self.invariant.sound i a (ap (λ xs. slice_get xs i) (sym c.as_slice.ensures) ∙ at)
+    ends_from (agent_view c.self.inside) c.self.invariant.sound i a
+    (ap (λ xs. slice_get xs i) (sym c.as_slice.ensures) ∙ at)
 
 pub lines_now-requires-clause-to : goal.lines_now-requires-clause-to
 lines_now-requires-clause-to c i a at =
-    ends_to (agent_view c.self.inside) c.self.invariant.sound i a (ap (λ xs. slice_get xs i) (sym c.as_slice.ensures) ∙ at)
+    ends_to (agent_view c.self.inside) c.self.invariant.sound i a
+    (ap (λ xs. slice_get xs i) (sym c.as_slice.ensures) ∙ at)
 
 pub index_mut-line-requires : goal.index_mut-line-requires
 index_mut-line-requires c =
@@ -25,7 +27,8 @@ index_mut-line-requires c =
     let lines = c.in_ok-check.check.lines in
     let there : c.args.place < length s.adaptors = subst (λ (t : State). c.args.place < length t.adaptors) (sym c.self.view_is) c.requires in
     let first = size_map shown lines.items in
-    let second = ap length (c.in_ok-check.ensures ∙ ap (λ xs. lines_at xs s.delivery.table.committed) c.as_slice.ensures) in
+    let second = ap length (c.in_ok-check.ensures
+    ∙ ap (λ xs. lines_at xs s.delivery.table.committed) c.as_slice.ensures) in
     let third = size_lines s.adaptors s.delivery.table.committed in
     let held = lines.ok.0 in
     omega (arith, there, first, second, third, held)
@@ -38,7 +41,8 @@ returns c a at =
     let y = c.index_mut-line.result.now in
     let few : length s.adaptors ≤ length ends =
     (let few = c.self.invariant.sound.few in let known = c.self.invariant.sound.known in omega (arith, few, known)) in
-    let are : map shown lines.items ≡ lines_at s.adaptors ends = c.in_ok-check.ensures ∙ ap (λ xs. lines_at xs ends) c.as_slice.ensures in
+    let are : map shown lines.items ≡ lines_at s.adaptors ends = c.in_ok-check.ensures
+    ∙ ap (λ xs. lines_at xs ends) c.as_slice.ensures in
     let there : c.args.place < length s.adaptors = subst (λ (t : State). c.args.place < length t.adaptors) (sym c.self.view_is) c.requires in
     let first = size_map shown lines.items in
     let second = ap length are in

@@ -20,7 +20,8 @@ at-requires c =
 pub returns-in-Some-clause-refusal : goal.returns-in-Some-clause-refusal
 returns-in-Some-clause-refusal c name good =
     let xs = c.args.self.now.adaptors in
-    let f = found_of c.args.kind.now c.args.path.now xs c.in-Some.place (sym c.in-Some.is ∙ c.requires) in
+    let f = found_of c.args.kind.now c.args.path.now xs c.in-Some.place
+    (sym c.in-Some.is ∙ c.requires) in
     let here : slice_get xs c.in-Some.place ≡ Some c.at.result.now =
     sym (ap (λ (k : State). slice_get k.adaptors c.in-Some.place) c.self.view_is) ∙ c.at.ensures in
     let same : c.at.result.now ≡ f.found.adaptor =
@@ -30,4 +31,5 @@ returns-in-Some-clause-refusal c name good =
     refused_there (named_in name 0 xs) xs (stream_in c.args.kind.now c.args.path.now 0 xs)
     c.in-Some.place f.found c.args.class c.args.offset c.refusal_by.result free f.is
     (λ i count. c.refusal_by.ensures.refusal i count
-    ∙ ap (λ (a : Adaptor). add_refusal None (Some (record { number = i; adaptor = a })) count c.args.class c.args.offset) same)
+    ∙ ap (λ (a : Adaptor). add_refusal None
+    (Some (record { number = i; adaptor = a })) count c.args.class c.args.offset) same)

@@ -9,16 +9,19 @@ use Rattle.chk_agent.specs.States.{lines_at}
 use Rattle.chk_agent.specs.Settles.{settled_all, gone_at, wanting}
 use Rattle.chk_agent.specs.Fields.{agent_view}
 use Rattle.chk_agent.specs.Within.{Rising}
-use Rattle.chk_agent.proofs.SettlingExits.{gone_rise, gone_few, ends_from, ends_to, went_back, back_lines, back_sound, back_matches, reset_is}
+use Rattle.chk_agent.proofs.SettlingExits.{gone_rise, gone_few, ends_from, ends_to, went_back}
+use Rattle.chk_agent.proofs.SettlingExits.{back_lines, back_sound, back_matches, reset_is}
 use Rattle.chk_agent.proofs.agent.Agent.settle.Goals as goal
 
 pub lines_now-requires-clause-from : goal.lines_now-requires-clause-from
 lines_now-requires-clause-from g c i a at =
-    ends_from (agent_view c.self.inside) c.self.invariant.sound i a (ap (λ xs. slice_get xs i) (sym c.as_slice.ensures) ∙ at)
+    ends_from (agent_view c.self.inside) c.self.invariant.sound i a
+    (ap (λ xs. slice_get xs i) (sym c.as_slice.ensures) ∙ at)
 
 pub lines_now-requires-clause-to : goal.lines_now-requires-clause-to
 lines_now-requires-clause-to g c i a at =
-    ends_to (agent_view c.self.inside) c.self.invariant.sound i a (ap (λ xs. slice_get xs i) (sym c.as_slice.ensures) ∙ at)
+    ends_to (agent_view c.self.inside) c.self.invariant.sound i a
+    (ap (λ xs. slice_get xs i) (sym c.as_slice.ensures) ∙ at)
 
 pub returns-in_err-check-clause-state : goal.returns-in_err-check-clause-state
 returns-in_err-check-clause-state g c =
@@ -92,12 +95,15 @@ note_ended-requires-clause-lines g c =
     let sound = c.self.invariant.sound in
     let d = c.expire.new.self in
     let back = c.send_back.new.adaptors.items in
-    let w = went_back c.args.now s d back c.in_ok-gone.gone.items c.as_slice-3.result.now s.adaptors c.in_ok-gone.ensures.ok
-    c.in_ok-gone.ensures.gone c.as_slice-3.ensures.value refl c.send_back.ensures c.used-used.ensures.sound
+    let w = went_back c.args.now s d back c.in_ok-gone.gone.items c.as_slice-3.result.now
+    s.adaptors c.in_ok-gone.ensures.ok
+    c.in_ok-gone.ensures.gone c.as_slice-3.ensures.value refl c.send_back.ensures
+    c.used-used.ensures.sound
     c.used-used.ensures.table in
     ap (map shown) c.as_mut_slice.ensures.value
     ∙ (c.in_ok-check.ensures ∙ (ap (λ xs. lines_at xs s.delivery.table.committed) c.as_slice.ensures
-    ∙ (sym (back_lines c.args.now s sound d back w) ∙ ap (λ xs. lines_at xs d.table.committed) (sym c.as_slice-4.ensures))))
+    ∙ (sym (back_lines c.args.now s sound d back w)
+    ∙ ap (λ xs. lines_at xs d.table.committed) (sym c.as_slice-4.ensures))))
 
 pub invariant_of-self-2 : goal.invariant_of-self-2
 invariant_of-self-2 g c =
@@ -105,17 +111,21 @@ invariant_of-self-2 g c =
     let sound = c.self.invariant.sound in
     let d = c.expire.new.self in
     let back = c.send_back.new.adaptors.items in
-    let w = went_back c.args.now s d back c.in_ok-gone.gone.items c.as_slice-3.result.now s.adaptors c.in_ok-gone.ensures.ok
-    c.in_ok-gone.ensures.gone c.as_slice-3.ensures.value refl c.send_back.ensures c.used-used.ensures.sound
+    let w = went_back c.args.now s d back c.in_ok-gone.gone.items c.as_slice-3.result.now
+    s.adaptors c.in_ok-gone.ensures.ok
+    c.in_ok-gone.ensures.gone c.as_slice-3.ensures.value refl c.send_back.ensures
+    c.used-used.ensures.sound
     c.used-used.ensures.table in
     record { role = c.self.invariant.role; sound = back_sound c.args.now s sound d back w }
 
 pub write_changed-requires-clause-lines : goal.write_changed-requires-clause-lines
 write_changed-requires-clause-lines g c =
     let d = c.expire.new.self in
-    let lines_are = with_items_is c.in_ok-check.check.lines c.note_ended.new.lines (c.note_ended.auto.lines ∙ c.as_mut_slice.ensures.len) in
+    let lines_are = with_items_is c.in_ok-check.check.lines c.note_ended.new.lines
+    (c.note_ended.auto.lines ∙ c.as_mut_slice.ensures.len) in
     ap (map shown) lines_are
-    ∙ (c.note_ended.ensures ∙ ap (λ xs. lines_at (settled_all xs d.table.committed) d.table.committed) c.as_slice-4.ensures)
+    ∙ (c.note_ended.ensures ∙ ap (λ xs. lines_at
+    (settled_all xs d.table.committed) d.table.committed) c.as_slice-4.ensures)
 
 pub returns-clause-state : goal.returns-clause-state
 returns-clause-state g c =
@@ -123,8 +133,10 @@ returns-clause-state g c =
     let sound = c.self.invariant.sound in
     let d = c.expire.new.self in
     let back = c.send_back.new.adaptors.items in
-    let w = went_back c.args.now s d back c.in_ok-gone.gone.items c.as_slice-3.result.now s.adaptors c.in_ok-gone.ensures.ok
-    c.in_ok-gone.ensures.gone c.as_slice-3.ensures.value refl c.send_back.ensures c.used-used.ensures.sound
+    let w = went_back c.args.now s d back c.in_ok-gone.gone.items c.as_slice-3.result.now
+    s.adaptors c.in_ok-gone.ensures.ok
+    c.in_ok-gone.ensures.gone c.as_slice-3.ensures.value refl c.send_back.ensures
+    c.used-used.ensures.sound
     c.used-used.ensures.table in
     let many : length c.as_slice-2.result.now ≡ length (gone_at c.args.now s) = ap length (c.as_slice-2.ensures.value ∙ c.in_ok-gone.ensures.gone) in
     rw (← c.self.view_is) (c.write_changed.ensures.state c.args.now s (reset_is c.args.now s sound d back w) many)
@@ -135,8 +147,10 @@ returns-clause-told g c stamped =
     let sound = c.self.invariant.sound in
     let d = c.expire.new.self in
     let back = c.send_back.new.adaptors.items in
-    let w = went_back c.args.now s d back c.in_ok-gone.gone.items c.as_slice-3.result.now s.adaptors c.in_ok-gone.ensures.ok
-    c.in_ok-gone.ensures.gone c.as_slice-3.ensures.value refl c.send_back.ensures c.used-used.ensures.sound
+    let w = went_back c.args.now s d back c.in_ok-gone.gone.items c.as_slice-3.result.now
+    s.adaptors c.in_ok-gone.ensures.ok
+    c.in_ok-gone.ensures.gone c.as_slice-3.ensures.value refl c.send_back.ensures
+    c.used-used.ensures.sound
     c.used-used.ensures.table in
     rw (← c.self.view_is)
     (leads_as (back_matches c.args.now s sound d back w stamped) (λ h x. x) (c.write_changed.ensures.told stamped))

@@ -1,4 +1,5 @@
-use Rattle.std.proofs.Common.{◌≡◌, ◌+◌, Some, Ok, Err, length, ap, sym, subst, ◌∙◌, refl, true, is_ok, arith}
+use Rattle.std.proofs.Common.{◌≡◌, ◌+◌, Some, Ok, Err, length, ap, sym, subst, ◌∙◌, refl, true}
+use Rattle.std.proofs.Common.{is_ok, arith}
 use Rattle.std.specs.Prelude.{IfOk, slice_get, slice_index}
 use Rattle.std.proofs.lemmas.Option.{same_Some}
 use Rattle.std.proofs.lemmas.Result.{err_from_is_err_and}
@@ -15,10 +16,12 @@ use Rattle.chk_delivery.specs.Sound.{next_begins}
 use Rattle.chk_delivery.specs.Turns.{with_chunk}
 use Rattle.chk_delivery.proofs.Putting.{by_ok}
 use Rattle.chk_agent.specs.declared.answers.Stepped.{Stepped}
-use Rattle.chk_agent.specs.declared.answers.Stepped.TheVariants.{AtEnd as step_at_end, Shrank as step_shrank}
+use Rattle.chk_agent.specs.declared.answers.Stepped.TheVariants.{AtEnd as step_at_end}
+use Rattle.chk_agent.specs.declared.answers.Stepped.TheVariants.{Shrank as step_shrank}
 use Rattle.chk_agent.specs.Faults.{FailsLast}
 use Rattle.chk_agent.specs.declared.answers.AgentFault.TheVariants.{NoMemory}
-use Rattle.chk_agent.specs.declared.answers.Stepped.TheVariants.{Read as step_read, Held as step_held}
+use Rattle.chk_agent.specs.declared.answers.Stepped.TheVariants.{Read as step_read}
+use Rattle.chk_agent.specs.declared.answers.Stepped.TheVariants.{Held as step_held}
 use Rattle.chk_agent.specs.Faults.{fault_of}
 use Rattle.chk_agent.specs.States.{State, chunk_given}
 use Rattle.chk_agent.specs.Fills.{IsOneStepped, held, refused}

@@ -3,7 +3,8 @@ use Rattle.std.proofs.lemmas.Result.{err_from_is_err_and}
 use Rattle.chk_adaptors.specs.Adaptors.{Held}
 use Rattle.chk_agent.specs.Fields.{agent_view}
 use Rattle.chk_agent.proofs.CommandingPlain.{did_as, answered_as, unmade_as}
-use Rattle.chk_agent.proofs.CommandingShut.{none_to_stop, found_one, one_to_stop, all_known, stop_from, stop_to, stopped_is, stop_sound, one_stopped}
+use Rattle.chk_agent.proofs.CommandingShut.{none_to_stop, found_one, one_to_stop, all_known}
+use Rattle.chk_agent.proofs.CommandingShut.{stop_from, stop_to, stopped_is, stop_sound, one_stopped}
 use Rattle.chk_agent.proofs.TableFound.{named_at}
 use Rattle.chk_agent.proofs.agent.Agent.stop.Goals as goal
 

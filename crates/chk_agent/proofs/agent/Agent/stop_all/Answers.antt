@@ -8,7 +8,8 @@ use Rattle.chk_agent.specs.Fields.{agent_view}
 use Rattle.chk_agent.specs.Commands.{live_from, stopped_state}
 use Rattle.chk_agent.proofs.CommandingLists.{live_few}
 use Rattle.chk_agent.proofs.CommandingPlain.{did_as, unmade_as}
-use Rattle.chk_agent.proofs.CommandingShut.{all_known, stop_from, stop_to, stopped_is, stop_sound, all_stopped}
+use Rattle.chk_agent.proofs.CommandingShut.{all_known, stop_from, stop_to, stopped_is, stop_sound}
+use Rattle.chk_agent.proofs.CommandingShut.{all_stopped}
 use Rattle.chk_agent.proofs.agent.Agent.stop_all.Goals as goal
 
 pub returns-in_err-gone : goal.returns-in_err-gone

@@ -1,7 +1,8 @@
 use Rattle.std.proofs.Common.{◌≡◌, ◌∙◌, ap, sym, subst, map, length, arith, Some, None, Err}
 use Rattle.std.specs.Prelude.{position, slice_get, slice_set}
 use Rattle.std.proofs.lemmas.Result.{err_from_is_err_and}
-use Rattle.chk_site.specs.declared.acts.OutsideFault.TheVariants.{Outside as site_failed, NoMemory as no_memory}
+use Rattle.chk_site.specs.declared.acts.OutsideFault.TheVariants.{Outside as site_failed}
+use Rattle.chk_site.specs.declared.acts.OutsideFault.TheVariants.{NoMemory as no_memory}
 use Rattle.chk_checkpoint.specs.Lines.{shown}
 use Rattle.chk_reading.specs.Adaptors.{revived}
 use Rattle.chk_adaptors.specs.Adaptors.{is_named}
@@ -15,12 +16,15 @@ use Rattle.chk_agent.proofs.Soundness.{below_at}
 use Rattle.chk_agent.proofs.TableFound.{none_named}
 use Rattle.chk_agent.proofs.AddingKept.{same_room}
 use Rattle.chk_agent.proofs.AddingLines.{last_none, last_by, cause_by}
-use Rattle.chk_agent.proofs.AddingAgain.{good_again, sound_again, kept_again, told_again, sound_left, unmade_left, told_left, sound_lost, failed_lost, told_lost}
+use Rattle.chk_agent.proofs.AddingAgain.{good_again, sound_again, kept_again, told_again}
+use Rattle.chk_agent.proofs.AddingAgain.{sound_left, unmade_left, told_left, sound_lost}
+use Rattle.chk_agent.proofs.AddingAgain.{failed_lost, told_lost}
 use Rattle.chk_agent.proofs.agent.Agent.take_past.Goals as goal
 
 pub returns-in_err-check-clause-state : goal.returns-in_err-check-clause-state
 returns-in_err-check-clause-state g c a at =
-    let p = err_from_is_err_and c.from_residual.result c.from_residual.ensures.1 in rw (p.1, p.2) wanting
+    let p = err_from_is_err_and c.from_residual.result c.from_residual.ensures.1 in rw
+    (p.1, p.2) wanting
 
 pub returns-in_err-check-clause-undamaged : goal.returns-in_err-check-clause-undamaged
 returns-in_err-check-clause-undamaged g c =
@@ -33,7 +37,8 @@ returns-in_err-check-clause-last g c =
 
 pub returns-in_err-check-clause-cause : goal.returns-in_err-check-clause-cause
 returns-in_err-check-clause-cause g c =
-    let p = err_from_is_err_and c.from_residual.result c.from_residual.ensures.1 in rw (p.1, p.2) (omega arith)
+    let p = err_from_is_err_and c.from_residual.result c.from_residual.ensures.1 in rw (p.1, p.2)
+    (omega arith)
 
 pub returns-in_err-key-clause-state : goal.returns-in_err-key-clause-state
 returns-in_err-key-clause-state g c a at =
@@ -41,23 +46,27 @@ returns-in_err-key-clause-state g c a at =
     let old = c.args.self.now in
     let now = g.S.Site.told c.args.site.now in
     let xs = c.room_for_name.new.self.items in
-    let p = err_from_is_err_and c.from_residual-in_err-key.result c.from_residual-in_err-key.ensures.1 in
+    let p = err_from_is_err_and c.from_residual-in_err-key.result
+    c.from_residual-in_err-key.ensures.1 in
     rw (p.1, p.2)
     (subst (λ u. Keeps old (revived_at old c.args.place c.args.name a) (Err NoMemory) u now now)
     (sym c.self.view_is ∙ sym (same_room s xs c.room_for_name.ensures.items)) wanting)
 
 pub returns-in_err-key-clause-undamaged : goal.returns-in_err-key-clause-undamaged
 returns-in_err-key-clause-undamaged g c =
-    let p = err_from_is_err_and c.from_residual-in_err-key.result c.from_residual-in_err-key.ensures.1 in rw (p.1, p.2) tt
+    let p = err_from_is_err_and c.from_residual-in_err-key.result
+    c.from_residual-in_err-key.ensures.1 in rw (p.1, p.2) tt
 
 pub returns-in_err-key-clause-last : goal.returns-in_err-key-clause-last
 returns-in_err-key-clause-last g c =
-    let p = err_from_is_err_and c.from_residual-in_err-key.result c.from_residual-in_err-key.ensures.1 in
+    let p = err_from_is_err_and c.from_residual-in_err-key.result
+    c.from_residual-in_err-key.ensures.1 in
     rw (p.1, p.2) (last_none (Unit {0}) (g.S.Site.told c.args.site.now))
 
 pub returns-in_err-key-clause-cause : goal.returns-in_err-key-clause-cause
 returns-in_err-key-clause-cause g c =
-    let p = err_from_is_err_and c.from_residual-in_err-key.result c.from_residual-in_err-key.ensures.1 in rw (p.1, p.2) (omega arith)
+    let p = err_from_is_err_and c.from_residual-in_err-key.result
+    c.from_residual-in_err-key.ensures.1 in rw (p.1, p.2) (omega arith)
 
 pub write_lines-requires : goal.write_lines-requires
 write_lines-requires g c =
@@ -70,10 +79,12 @@ write_lines-requires g c =
     let free : named_in name 0 s.adaptors ≡ None =
     subst (λ (t : State). named_in name 0 t.adaptors ≡ None) (sym c.self.view_is) c.requires.free in
     let are : lines ≡ lines_of (revived_at s n name c.requires.there.0) =
-    subst (λ (t : State). lines ≡ lines_of (revived_at t n name c.requires.there.0)) (sym c.self.view_is)
+    subst (λ (t : State). lines ≡ lines_of (revived_at t n name c.requires.there.0))
+    (sym c.self.view_is)
     (c.in_ok-check.ensures c.requires.there.0 c.requires.there.1) in
     let room : c.room_for_name.new.self.items ≡ s.adaptors = c.room_for_name.ensures.items in
-    good_again s c.self.invariant.sound n c.requires.there.0 here name c.requires.name free lines are
+    good_again s c.self.invariant.sound n c.requires.there.0 here name c.requires.name free lines
+    are
 
 pub revive-requires-clause-there : goal.revive-requires-clause-there
 revive-requires-clause-there g c =
@@ -125,7 +136,8 @@ invariant_of-self-in-Ok g c =
     let free : named_in name 0 s.adaptors ≡ None =
     subst (λ (t : State). named_in name 0 t.adaptors ≡ None) (sym c.self.view_is) c.requires.free in
     let are : lines ≡ lines_of (revived_at s n name c.requires.there.0) =
-    subst (λ (t : State). lines ≡ lines_of (revived_at t n name c.requires.there.0)) (sym c.self.view_is)
+    subst (λ (t : State). lines ≡ lines_of (revived_at t n name c.requires.there.0))
+    (sym c.self.view_is)
     (c.in_ok-check.ensures c.requires.there.0 c.requires.there.1) in
     let room : c.room_for_name.new.self.items ≡ s.adaptors = c.room_for_name.ensures.items in
     let is : c.revive.new.self.items ≡ slice_set s.adaptors n (revived name c.requires.there.0) =
@@ -134,7 +146,8 @@ invariant_of-self-in-Ok g c =
     record {
       role = c.self.invariant.role;
       sound =
-          sound_again s c.self.invariant.sound n c.requires.there.0 here name c.requires.name free lines are
+          sound_again s c.self.invariant.sound n c.requires.there.0 here name c.requires.name free
+          lines are
           c.revive.new.self.items is;
     }
 
@@ -149,15 +162,19 @@ returns-in-Ok-clause-told g c stamped =
     let free : named_in name 0 s.adaptors ≡ None =
     subst (λ (t : State). named_in name 0 t.adaptors ≡ None) (sym c.self.view_is) c.requires.free in
     let are : lines ≡ lines_of (revived_at s n name c.requires.there.0) =
-    subst (λ (t : State). lines ≡ lines_of (revived_at t n name c.requires.there.0)) (sym c.self.view_is)
+    subst (λ (t : State). lines ≡ lines_of (revived_at t n name c.requires.there.0))
+    (sym c.self.view_is)
     (c.in_ok-check.ensures c.requires.there.0 c.requires.there.1) in
     let room : c.room_for_name.new.self.items ≡ s.adaptors = c.room_for_name.ensures.items in
     let is : c.revive.new.self.items ≡ slice_set s.adaptors n (revived name c.requires.there.0) =
     c.revive.ensures.items c.requires.there.0 (ap (λ xs. slice_get xs n) room ∙ here)
     ∙ ap (λ xs. slice_set xs n (revived name c.requires.there.0)) room in
     rw (← c.self.view_is)
-    (told_again s c.self.invariant.sound n c.requires.there.0 here name c.requires.name free lines are
-    c.revive.new.self.items is stamped (ap (λ (t : State). t.ready) c.self.view_is ∙ c.requires.ready) c.in-Ok.ensures.read c.in-Ok.ensures.told)
+    (told_again s c.self.invariant.sound n c.requires.there.0 here name c.requires.name free lines
+    are
+    c.revive.new.self.items is stamped
+    (ap (λ (t : State). t.ready) c.self.view_is ∙ c.requires.ready) c.in-Ok.ensures.read
+    c.in-Ok.ensures.told)
 
 pub returns-in-Ok-clause-undamaged : goal.returns-in-Ok-clause-undamaged
 returns-in-Ok-clause-undamaged g c =
@@ -182,12 +199,14 @@ invariant_of-self-in-Err-NoMemory g c =
     let free : named_in name 0 s.adaptors ≡ None =
     subst (λ (t : State). named_in name 0 t.adaptors ≡ None) (sym c.self.view_is) c.requires.free in
     let are : lines ≡ lines_of (revived_at s n name c.requires.there.0) =
-    subst (λ (t : State). lines ≡ lines_of (revived_at t n name c.requires.there.0)) (sym c.self.view_is)
+    subst (λ (t : State). lines ≡ lines_of (revived_at t n name c.requires.there.0))
+    (sym c.self.view_is)
     (c.in_ok-check.ensures c.requires.there.0 c.requires.there.1) in
     let room : c.room_for_name.new.self.items ≡ s.adaptors = c.room_for_name.ensures.items in
     record {
       role = c.self.invariant.role;
-      sound = sound_left s c.self.invariant.sound n c.requires.there.0 here name c.requires.name free lines are
+      sound = sound_left s c.self.invariant.sound n c.requires.there.0 here name c.requires.name
+          free lines are
           c.room_for_name.new.self.items room;
     }
 
@@ -207,7 +226,8 @@ returns-in-Err-NoMemory-clause-state g c a at =
     let room : c.room_for_name.new.self.items ≡ s.adaptors = c.room_for_name.ensures.items in
     rw (← c.self.view_is)
     (unmade_left s c.self.invariant.sound n a here name c.requires.name free lines are
-    c.room_for_name.new.self.items room (rw c.in-Err-NoMemory.field-0-is at c.in-Err-NoMemory.ensures.told))
+    c.room_for_name.new.self.items room
+    (rw c.in-Err-NoMemory.field-0-is at c.in-Err-NoMemory.ensures.told))
 
 pub returns-in-Err-NoMemory-clause-told : goal.returns-in-Err-NoMemory-clause-told
 returns-in-Err-NoMemory-clause-told g c stamped =
@@ -220,12 +240,16 @@ returns-in-Err-NoMemory-clause-told g c stamped =
     let free : named_in name 0 s.adaptors ≡ None =
     subst (λ (t : State). named_in name 0 t.adaptors ≡ None) (sym c.self.view_is) c.requires.free in
     let are : lines ≡ lines_of (revived_at s n name c.requires.there.0) =
-    subst (λ (t : State). lines ≡ lines_of (revived_at t n name c.requires.there.0)) (sym c.self.view_is)
+    subst (λ (t : State). lines ≡ lines_of (revived_at t n name c.requires.there.0))
+    (sym c.self.view_is)
     (c.in_ok-check.ensures c.requires.there.0 c.requires.there.1) in
     let room : c.room_for_name.new.self.items ≡ s.adaptors = c.room_for_name.ensures.items in
     rw (← c.self.view_is)
-    (told_left s c.self.invariant.sound n c.requires.there.0 here name c.requires.name free lines are
-    c.room_for_name.new.self.items room stamped (ap (λ (t : State). t.ready) c.self.view_is ∙ c.requires.ready) c.in-Err-NoMemory.ensures.read
+    (told_left s c.self.invariant.sound n c.requires.there.0 here name c.requires.name free lines
+    are
+    c.room_for_name.new.self.items room stamped
+    (ap (λ (t : State). t.ready) c.self.view_is ∙ c.requires.ready)
+    c.in-Err-NoMemory.ensures.read
     (rw c.in-Err-NoMemory.field-0-is at c.in-Err-NoMemory.ensures.told)
     (rw c.in-Err-NoMemory.field-0-is at c.in-Err-NoMemory.ensures.unmade))
 
@@ -235,11 +259,13 @@ returns-in-Err-NoMemory-clause-undamaged g c =
 
 pub returns-in-Err-NoMemory-clause-last : goal.returns-in-Err-NoMemory-clause-last
 returns-in-Err-NoMemory-clause-last g c =
-    last_by (Unit {0}) (Unit {0}) no_memory (rw c.in-Err-NoMemory.field-0-is at c.in-Err-NoMemory.ensures.last)
+    last_by (Unit {0}) (Unit {0}) no_memory
+    (rw c.in-Err-NoMemory.field-0-is at c.in-Err-NoMemory.ensures.last)
 
 pub returns-in-Err-NoMemory-clause-cause : goal.returns-in-Err-NoMemory-clause-cause
 returns-in-Err-NoMemory-clause-cause g c =
-    cause_by (Unit {0}) (Unit {0}) no_memory _ _ (rw c.in-Err-NoMemory.field-0-is at c.in-Err-NoMemory.ensures.cause)
+    cause_by (Unit {0}) (Unit {0}) no_memory _ _
+    (rw c.in-Err-NoMemory.field-0-is at c.in-Err-NoMemory.ensures.cause)
 
 pub invariant_of-self-in-Err-Outside : goal.invariant_of-self-in-Err-Outside
 invariant_of-self-in-Err-Outside g c =
@@ -252,12 +278,14 @@ invariant_of-self-in-Err-Outside g c =
     let free : named_in name 0 s.adaptors ≡ None =
     subst (λ (t : State). named_in name 0 t.adaptors ≡ None) (sym c.self.view_is) c.requires.free in
     let are : lines ≡ lines_of (revived_at s n name c.requires.there.0) =
-    subst (λ (t : State). lines ≡ lines_of (revived_at t n name c.requires.there.0)) (sym c.self.view_is)
+    subst (λ (t : State). lines ≡ lines_of (revived_at t n name c.requires.there.0))
+    (sym c.self.view_is)
     (c.in_ok-check.ensures c.requires.there.0 c.requires.there.1) in
     let room : c.room_for_name.new.self.items ≡ s.adaptors = c.room_for_name.ensures.items in
     record {
       role = c.self.invariant.role;
-      sound = sound_lost s c.self.invariant.sound n c.requires.there.0 here name c.requires.name free lines are
+      sound = sound_lost s c.self.invariant.sound n c.requires.there.0 here name c.requires.name
+          free lines are
           c.room_for_name.new.self.items room;
     }
 
@@ -277,7 +305,8 @@ returns-clause-state g c a at =
     let room : c.room_for_name.new.self.items ≡ s.adaptors = c.room_for_name.ensures.items in
     rw (← c.self.view_is)
     (failed_lost s c.self.invariant.sound n a here name c.requires.name free lines are
-    c.room_for_name.new.self.items room c.in-Err-Outside.call (rw c.in-Err-Outside.field-0-is at c.in-Err-Outside.ensures.told))
+    c.room_for_name.new.self.items room c.in-Err-Outside.call
+    (rw c.in-Err-Outside.field-0-is at c.in-Err-Outside.ensures.told))
 
 pub returns-clause-told : goal.returns-clause-told
 returns-clause-told g c stamped =
@@ -290,12 +319,16 @@ returns-clause-told g c stamped =
     let free : named_in name 0 s.adaptors ≡ None =
     subst (λ (t : State). named_in name 0 t.adaptors ≡ None) (sym c.self.view_is) c.requires.free in
     let are : lines ≡ lines_of (revived_at s n name c.requires.there.0) =
-    subst (λ (t : State). lines ≡ lines_of (revived_at t n name c.requires.there.0)) (sym c.self.view_is)
+    subst (λ (t : State). lines ≡ lines_of (revived_at t n name c.requires.there.0))
+    (sym c.self.view_is)
     (c.in_ok-check.ensures c.requires.there.0 c.requires.there.1) in
     let room : c.room_for_name.new.self.items ≡ s.adaptors = c.room_for_name.ensures.items in
     rw (← c.self.view_is)
-    (told_lost s c.self.invariant.sound n c.requires.there.0 here name c.requires.name free lines are
-    c.room_for_name.new.self.items room stamped (ap (λ (t : State). t.ready) c.self.view_is ∙ c.requires.ready) c.in-Err-Outside.ensures.read c.in-Err-Outside.call
+    (told_lost s c.self.invariant.sound n c.requires.there.0 here name c.requires.name free lines
+    are
+    c.room_for_name.new.self.items room stamped
+    (ap (λ (t : State). t.ready) c.self.view_is ∙ c.requires.ready)
+    c.in-Err-Outside.ensures.read c.in-Err-Outside.call
     (rw c.in-Err-Outside.field-0-is at c.in-Err-Outside.ensures.told))
 
 pub returns-clause-undamaged : goal.returns-clause-undamaged
@@ -304,8 +337,10 @@ returns-clause-undamaged g c =
 
 pub returns-clause-last : goal.returns-clause-last
 returns-clause-last g c =
-    last_by (Unit {0}) (Unit {0}) (site_failed c.in-Err-Outside.call) (rw c.in-Err-Outside.field-0-is at c.in-Err-Outside.ensures.last)
+    last_by (Unit {0}) (Unit {0}) (site_failed c.in-Err-Outside.call)
+    (rw c.in-Err-Outside.field-0-is at c.in-Err-Outside.ensures.last)
 
 pub returns-clause-cause : goal.returns-clause-cause
 returns-clause-cause g c =
-    cause_by (Unit {0}) (Unit {0}) (site_failed c.in-Err-Outside.call) _ _ (rw c.in-Err-Outside.field-0-is at c.in-Err-Outside.ensures.cause)
+    cause_by (Unit {0}) (Unit {0}) (site_failed c.in-Err-Outside.call) _ _
+    (rw c.in-Err-Outside.field-0-is at c.in-Err-Outside.ensures.cause)

@@ -1,9 +1,11 @@
 use Rattle.std.proofs.Common.{Bool, Ok, Err, [], ap, sym, subst, ◌∙◌}
 use Rattle.std.proofs.lemmas.Result.{err_from_is_err_and}
 use Rattle.chk_agent.specs.declared.answers.Settled.{Settled}
-use Rattle.chk_agent.specs.Turns.{IsTurned, unfilled, unposted, unanswered, unpolled, unsettled, turned}
+use Rattle.chk_agent.specs.Turns.{IsTurned, unfilled, unposted, unanswered, unpolled, unsettled}
+use Rattle.chk_agent.specs.Turns.{turned}
 use Rattle.chk_agent.proofs.TurningFaults.{is_wanting, last_wanting, last_same, last_then, last_ok}
-use Rattle.chk_agent.proofs.TurningTold.{filled_same, posts_same, replies_same, due_same, told_1, told_2, told_3, told_4, told_5}
+use Rattle.chk_agent.proofs.TurningTold.{filled_same, posts_same, replies_same, due_same, told_1}
+use Rattle.chk_agent.proofs.TurningTold.{told_2, told_3, told_4, told_5}
 use Rattle.chk_agent.proofs.agent.Agent.turn.Goals as goal
 
 pub returns-in_err-_filled-clause-state : goal.returns-in_err-_filled-clause-state

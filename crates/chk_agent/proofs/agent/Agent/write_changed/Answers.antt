@@ -7,10 +7,12 @@ use Rattle.chk_agent.specs.Settles.{settled}
 use Rattle.chk_agent.specs.Faults.{FailsLast}
 use Rattle.chk_agent.specs.Fields.{agent_view}
 use Rattle.chk_agent.proofs.TurningFaults.{last_ok}
-use Rattle.chk_site.specs.declared.acts.OutsideFault.TheVariants.{Outside as site_failed, NoMemory as no_memory}
+use Rattle.chk_site.specs.declared.acts.OutsideFault.TheVariants.{Outside as site_failed}
+use Rattle.chk_site.specs.declared.acts.OutsideFault.TheVariants.{NoMemory as no_memory}
 use Rattle.chk_agent.proofs.AddingLines.{last_by, cause_by}
 use Rattle.chk_agent.proofs.SettlingExits.{writes_as, good_lines, sound_after, sound_written}
-use Rattle.chk_agent.proofs.SettlingExits.{same_state, same_told, written_state, written_told, failed_state, failed_told, unmade_state, unmade_told}
+use Rattle.chk_agent.proofs.SettlingExits.{same_state, same_told, written_state, written_told}
+use Rattle.chk_agent.proofs.SettlingExits.{failed_state, failed_told, unmade_state, unmade_told}
 use Rattle.chk_agent.proofs.agent.Agent.write_changed.Goals as goal
 
 pub invariant_of-self : goal.invariant_of-self
@@ -130,11 +132,13 @@ returns-in-Err-NoMemory-clause-told g c stamped =
     (rw c.in-Err-NoMemory.field-0-is at c.in-Err-NoMemory.ensures.told) in
     let ready = ap (λ (s : State). s.ready) c.self.view_is ∙ c.requires.ready in
     rw (← c.self.view_is) (unmade_told s c.self.invariant.sound lines are ready
-    c.in-Err-NoMemory.ensures.read stamped script (rw c.in-Err-NoMemory.field-0-is at c.in-Err-NoMemory.ensures.unmade))
+    c.in-Err-NoMemory.ensures.read stamped script
+    (rw c.in-Err-NoMemory.field-0-is at c.in-Err-NoMemory.ensures.unmade))
 
 pub returns-in-Err-NoMemory-clause-last : goal.returns-in-Err-NoMemory-clause-last
 returns-in-Err-NoMemory-clause-last g c =
-    last_by (Unit {0}) Settled no_memory (rw c.in-Err-NoMemory.field-0-is at c.in-Err-NoMemory.ensures.last)
+    last_by (Unit {0}) Settled no_memory
+    (rw c.in-Err-NoMemory.field-0-is at c.in-Err-NoMemory.ensures.last)
 
 pub returns-clause-state : goal.returns-clause-state
 returns-clause-state g c now was is many =
@@ -167,11 +171,13 @@ returns-clause-told g c stamped =
 
 pub returns-clause-last : goal.returns-clause-last
 returns-clause-last g c =
-    last_by (Unit {0}) Settled (site_failed c.in-Err-Outside.call) (rw c.in-Err-Outside.field-0-is at c.in-Err-Outside.ensures.last)
+    last_by (Unit {0}) Settled (site_failed c.in-Err-Outside.call)
+    (rw c.in-Err-Outside.field-0-is at c.in-Err-Outside.ensures.last)
 
 pub returns-clause-cause : goal.returns-clause-cause
 returns-clause-cause g c =
-    cause_by (Unit {0}) Settled (site_failed c.in-Err-Outside.call) _ _ (rw c.in-Err-Outside.field-0-is at c.in-Err-Outside.ensures.cause)
+    cause_by (Unit {0}) Settled (site_failed c.in-Err-Outside.call) _ _
+    (rw c.in-Err-Outside.field-0-is at c.in-Err-Outside.ensures.cause)
 
 pub returns-then-are_same-clause-undamaged : goal.returns-then-are_same-clause-undamaged
 returns-then-are_same-clause-undamaged g c =

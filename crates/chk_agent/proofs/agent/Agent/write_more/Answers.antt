@@ -1,4 +1,5 @@
-use Rattle.std.proofs.Common.{◌≡◌, ◌∙◌, ap, sym, subst, length, map, arith, [], ◌∷◌, ◌++◌, None, Err}
+use Rattle.std.proofs.Common.{◌≡◌, ◌∙◌, ap, sym, subst, length, map, arith, [], ◌∷◌, ◌++◌, None}
+use Rattle.std.proofs.Common.{Err}
 use Rattle.std.specs.Prelude.{position}
 use Rattle.std.proofs.lemmas.Result.{err_from_is_err_and}
 use Rattle.chk_checkpoint.specs.Lines.{shown}
@@ -12,9 +13,12 @@ use Rattle.chk_agent.specs.Adds.{with_added}
 use Rattle.chk_agent.specs.Takes.{Keeps, wanting}
 use Rattle.chk_agent.proofs.TurningFaults.{last_ok}
 use Rattle.chk_agent.proofs.TableFound.{none_found, none_named}
-use Rattle.chk_site.specs.declared.acts.OutsideFault.TheVariants.{Outside as site_failed, NoMemory as no_memory}
+use Rattle.chk_site.specs.declared.acts.OutsideFault.TheVariants.{Outside as site_failed}
+use Rattle.chk_site.specs.declared.acts.OutsideFault.TheVariants.{NoMemory as no_memory}
 use Rattle.chk_agent.proofs.AddingLines.{last_none, last_by, cause_by}
-use Rattle.chk_agent.proofs.AddingKept.{same_room, kept_from, good_new, free_new, sound_more, kept_more, told_more, sound_kept, sound_room, failed_room, told_room, told_unmade, unmade_room, newest_left}
+use Rattle.chk_agent.proofs.AddingKept.{same_room, kept_from, good_new, free_new, sound_more}
+use Rattle.chk_agent.proofs.AddingKept.{kept_more, told_more, sound_kept, sound_room, failed_room}
+use Rattle.chk_agent.proofs.AddingKept.{told_room, told_unmade, unmade_room, newest_left}
 use Rattle.chk_agent.proofs.agent.Agent.write_more.Goals as goal
 
 pub returns-in_err-keys-clause-state : goal.returns-in_err-keys-clause-state
@@ -202,7 +206,8 @@ returns-in-Err-Outside-clause-state g c l m =
     c.args.adaptor lines m
     c.used-used.ensures.table.as_many in
     rw (← c.self.view_is)
-    (failed_room s l lines k c.room_for.new.self.items c.room_for.ensures.items c.in-Err-Outside.call
+    (failed_room s l lines k c.room_for.new.self.items c.room_for.ensures.items
+    c.in-Err-Outside.call
     (rw c.in-Err-Outside.field-0-is at c.in-Err-Outside.ensures.told))
 
 pub returns-in-Err-Outside-clause-told : goal.returns-in-Err-Outside-clause-told

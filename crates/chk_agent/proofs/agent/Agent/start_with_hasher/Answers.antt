@@ -7,7 +7,7 @@ use Rattle.chk_agent.specs.States.{State}
 use Rattle.chk_agent.proofs.StartingMatches.{start_refused, start_matches}
 use Rattle.chk_agent.proofs.StartingFinds.{starts_on, starts_refused}
 use Rattle.chk_agent.proofs.StartingFinds.{finds_value, finds_fault, finds_none}
-use Rattle.chk_agent.proofs.agent.Agent.start.Goals as goal
+use Rattle.chk_agent.proofs.agent.Agent.start_with_hasher.Goals as goal
 
 pub returns-in_err-check-clause-told : goal.returns-in_err-check-clause-told
 returns-in_err-check-clause-told g c stamped =
