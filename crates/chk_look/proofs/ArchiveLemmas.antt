@@ -1,7 +1,7 @@
 -- A book's segments, followed one after the other.
-use Rattle.std.proofs.Common.{◌≡◌, ℕ, ◌+◌, ◌<◌, ◌^◌, List, [], ◌∷◌, ◌++◌, length, map, take, drop, Option, Some, Ok, Err, refl, sym, ap, ap₂, subst, ◌∙◌, append_assoc, append-nil}
+use Rattle.std.proofs.Common.{◌≡◌, ℕ, ◌+◌, ◌<◌, ◌^◌, List, [], ◌∷◌, ◌++◌, length, map, take, drop, Option, Some, None, Ok, Err, refl, sym, ap, ap₂, subst, ◌∙◌, append_assoc, append-nil}
 use Rattle.chk_site.specs.Files.{File, Files}
-use Rattle.chk_site.specs.History.{History}
+use Rattle.chk_site.specs.History.{History, files_after}
 use Rattle.chk_site.specs.Site.{Adds}
 use Rattle.chk_site.proofs.Runs.{adds_none}
 use Rattle.chk_salvage.proofs.FeedLemmas.{records_of-nil}
@@ -135,13 +135,18 @@ module _ (most : ℕ) (names : List (List ℕ)) (c d : Course) (front : List (Li
           let one = one_held held all in
           let p = b one.0 one.1 in
           (p.0, front_more p.0 held t u (a all) (subst (λ bytes. IsFrontText most d p.0 bytes u) (sym (bytes_held held one.0 one.1)) p.1))
-      by Gone held t u history a b = (
+      by (Gone which) held t u history a b = (
         b.0,
-        record { front = front; which = w; back = back; split = split; lost = b.1 },
+        record {
+          front = front;
+          back = back;
+          split = split ∙ ap (λ v. front ++ v ∷ back) (sym b.1);
+          lost = subst (λ v. files_after history v ≡ None) (sym b.1) b.2;
+        },
         λ all.
             let one = one_held held all in
             front_more e.reached held t u (a all)
-            (subst (λ bytes. IsFrontText most d e.reached bytes u) (sym (bytes_held held one.0 one.1)) (b.2 one.0 one.1)),
+            (subst (λ bytes. IsFrontText most d e.reached bytes u) (sym (bytes_held held one.0 one.1)) (b.3 one.0 one.1)),
       )
       by (Damaged which at) held t u history a b = λ all.
           let one = one_held held all in

@@ -6,3 +6,4 @@ pub mod SegmentLemmas
 pub mod ArchiveLemmas
 pub mod Wanted
 pub mod StreamLemmas
+pub mod Loads

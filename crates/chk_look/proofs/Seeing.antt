@@ -21,8 +21,10 @@ use Rattle.chk_site.proofs.Stays.{unnamed_stays}
 use Rattle.chk_replace.proofs.CallSteps.{call_each}
 use Rattle.chk_world.specs.Sight.{job}
 use Rattle.chk_world.specs.JobSteps.{IsOf, reads}
-use Rattle.chk_look.specs.declared.fault.LookFault.TheVariants.{Outside as LookOutside, Gone, NoMemory as LookNoMemory}
-use Rattle.chk_look.specs.Looking.{LooksOrSays, looks, says, AreOrWent, Sees}
+use Rattle.chk_look.specs.declared.fault.LookFault.{LookFault}
+use Rattle.chk_look.specs.declared.fault.LookFault.TheVariants.{Outside as LookOutside, Damaged as LookDamaged, Gone, NoMemory as LookNoMemory}
+use Rattle.chk_look.specs.Faults.{IsLoss}
+use Rattle.chk_look.specs.Looking.{LooksOrSays, looks, says, text_of, AreOrWent, Sees}
 use Rattle.chk_look.specs.Segments.{asks_from, Looked, Said}
 use Rattle.chk_look.proofs.Texts.{acted_text, failed_text, unmade_text, keeps_files}
 
@@ -88,11 +90,18 @@ module _ (who : Who) (name : List ℕ) (at : ℕ) (is_job : who ≡ job) where
         own = read_own who name at (Ok A) is_job calls;
       })
 
-  pub missing_seen : {old new : Option History} → Adds old new (Calls (read_of who name at) (Err Missing))
-      → Adds old new (Sees (Looked name at (Err Gone)))
-  missing_seen told =
+  missed_so : (fault : LookFault) → IsLoss name fault → (held : Files) (text : List ℕ) (history : History)
+      → AreOrWent held history × (files_after history name ≡ None) × (text ≡ []) → Looked name at (Err fault) held text history
+  missed_so (LookOutside call) loss held text history x = absurd loss
+  missed_so (LookDamaged which place) loss held text history x = absurd loss
+  missed_so (Gone which) loss held text history x = (x.0, loss, x.1, x.2)
+  missed_so LookNoMemory loss held text history x = x.2
+
+  pub missing_seen : (fault : LookFault) → IsLoss name fault → {old new : Option History}
+      → Adds old new (Calls (read_of who name at) (Err Missing)) → Adds old new (Sees (Looked name at (Err fault)))
+  missing_seen fault loss told =
       let A : ActAnswer = Refused Missing in
-      adds_as (Sees (Looked name at (Err Gone))) told
+      adds_as (Sees (Looked name at (Err fault))) told
       (λ added history calls.
       let acted = ran (Err Missing) (λ e. cc) calls in
       record {
@@ -104,7 +113,8 @@ module _ (who : Who) (name : List ℕ) (at : ℕ) (is_job : who ≡ job) where
               unnamed_stays before (own_step (read_of who name at) A files logs) name honest.modelled refl refl ∙ honest.agrees,
             ) in
             let y : B (added ++ history) = acted_leads B (keeps_files held) shows acted s h in
-            (y.0, acted_text (read_of who name at) A acted, y.1);
+            missed_so fault loss held (text_of added) (added ++ history)
+            (y.0, y.1, acted_text (read_of who name at) A acted);
         own = read_own who name at (Err Missing) is_job calls;
       })
 

@@ -10,7 +10,7 @@ use Rattle.chk_site.specs.Files.{File, Files}
 use Rattle.chk_site.specs.History.{History}
 use Rattle.chk_site.specs.Site.{Adds, LastFailed, OutsideCause}
 use Rattle.chk_site.proofs.Runs.{adds_as, adds_none, adds_then}
-use Rattle.chk_replace.proofs.CallSteps.{last_then}
+use Rattle.chk_site.proofs.LastCalls.{last_of_both as last_then}
 use Rattle.chk_seqfile.specs.Entries.{IsSequenceFile, records_of}
 use Rattle.chk_salvage.specs.declared.pieces.Pieces.{Pieces}
 use Rattle.chk_salvage.specs.declared.fed.Fed.TheVariants.{More}
@@ -22,12 +22,13 @@ use Rattle.chk_heads.proofs.FedRecords.{both_chunks}
 use Rattle.chk_look.specs.declared.course.Course.{Course}
 use Rattle.chk_look.specs.declared.fault.LookFault.{LookFault}
 use Rattle.chk_look.specs.declared.fault.LookFault.TheVariants.{Outside, Damaged, Gone, NoMemory}
-use Rattle.chk_look.specs.Faults.{look_fault, IsDamage, FailsLast, LookCause}
+use Rattle.chk_look.specs.Faults.{look_fault, IsDamage, IsLoss, FailsLast, LookCause}
 use Rattle.chk_look.specs.Courses.{KeepsCourse, GoesOver, wanted_by, chunks_at, Followed, FollowedFed}
 use Rattle.chk_look.specs.Looking.{AreOrWent, Sees}
 use Rattle.chk_look.specs.Segments.{asks_from, Looked, Said, FollowedSaid, EndsSo, IsFrontText, IsWholeText, IsWrongAt, Printed}
 use Rattle.chk_look.proofs.CourseLemmas.{keeps_self, keeps_then, over_then, wanted_then}
 use Rattle.chk_look.proofs.Texts.{sees_then, sees_as}
+use Rattle.chk_heads.proofs.Gathering.{no_records}
 
 -- all of these bytes was fed, and the records up to the reader's place are chunks
 pub record HasFed (most : ℕ) (p : Pieces) (at : ℕ) (fed : List ℕ) : Type 0 where
@@ -64,9 +65,6 @@ pub record IsFollowing (old now : Option History) (most : ℕ) (name : List ℕ)
   pub small : at < 2 ^ 63
   pub keeps : KeepsCourse c d
   pub told : Adds old now (Sees (CameTo most name c d p at))
-
-no_records : (place : ℕ) → records_of (take place []) ≡ []
-no_records place = ap records_of (take_all place [] (omega arith)) ∙ records_of-nil
 
 pub begins : (now : Option History) (most : ℕ) (name : List ℕ) (c : Course) (p : Pieces) → fed_limit p ≡ limit_of most → IsFed p []
     → IsFollowing now now most name c c p 0
@@ -213,7 +211,7 @@ module _ (old now : Option History) (most : ℕ) (name : List ℕ) (c d : Course
           front f.bytes t u k.0 k.1,
         ),
       )
-      by Gone damage held t u history come = absurd damage
+      by (Gone which) damage held t u history come = absurd damage
       by NoMemory damage held t u history come = λ f is. let k = come f is in (e.reached, front f.bytes t u k.0 k.1)
 
   -- all was gone over
@@ -256,7 +254,8 @@ module _ (old now : Option History) (most : ℕ) (name : List ℕ) (c d : Course
             → Printed most name c e (Err fault) held (t ++ u) history
         by (Outside call) held t u history come none = λ f is. (e.reached, front_of most c e q at f.bytes t u (come f is) none)
         by (Damaged which place) held t u history come none = absurd none
-        by Gone held t u history come b = (b.0, b.2, λ f is. front_of most c e q at f.bytes t u (come f is) b.1)
+        by (Gone which) held t u history come b =
+            (b.0, b.1, b.2, λ f is. front_of most c e q at f.bytes t u (come f is) b.3)
         by NoMemory held t u history come none = λ f is. (e.reached, front_of most c e q at f.bytes t u (come f is) none)
 
     -- a piece came
@@ -386,7 +385,7 @@ module _ (old now : Option History) (most : ℕ) (name : List ℕ) (c d : Course
                 whole f.bytes t u h none (all_of f.bytes h.fed h.has.size (k f is).1 small h.begins) (ended f is),
           )
           by (Err (Outside call)) held t u history are none k ended some = absurd some.2
-          by (Err Gone) held t u history are none k ended some = absurd some.2
+          by (Err (Gone which)) held t u history are none k ended some = absurd some.2
           by (Err NoMemory) held t u history are none k ended some = λ f is. (e.reached, front_of most c e q at f.bytes t u (k f is).0.come none)
           by (Err (Damaged which place)) held t u history are none k ended some = (
             some.2.0,
@@ -420,7 +419,7 @@ looks_last T V fault so_far last =
     by : (fault : LookFault) (a b history : History) → FailsLast {T = V} (Err fault) b (a ++ history) → FailsLast {T = T} (Err fault) (b ++ a) history
     by (Outside call) a b history q = last_then {T = Unit {0}} (Err (site_failed call)) b a history q
     by (Damaged which place) a b history q = tt
-    by Gone a b history q = tt
+    by (Gone which) a b history q = tt
     by NoMemory a b history q = tt
 
 pub caused : (T V : Type 0) (fault : OutsideFault) (before mid now : ℕ) → mid ≡ before → OutsideCause {T = V} mid now (Err fault)
@@ -432,7 +431,7 @@ pub looks_cause : (T V : Type 0) (fault : LookFault) (before mid now : ℕ) → 
     → LookCause {T = T} before now (Err fault)
 looks_cause T V (Outside call) before mid now same cause = rw (← same) cause
 looks_cause T V (Damaged which place) before mid now same cause = cause ∙ same
-looks_cause T V Gone before mid now same cause = cause ∙ same
+looks_cause T V (Gone which) before mid now same cause = cause ∙ same
 looks_cause T V NoMemory before mid now same cause = cause ∙ same
 
 -- damage is no call
@@ -443,15 +442,33 @@ no_call name at fault damage told = adds_as (FailsLast {T = Unit {0}} (Err fault
     by : (fault : LookFault) → IsDamage name at fault → (added history : History) → FailsLast {T = Unit {0}} (Err fault) added history
     by (Outside call) damage added history = absurd damage
     by (Damaged which place) damage added history = tt
-    by Gone damage added history = tt
+    by (Gone which) damage added history = absurd damage
     by NoMemory damage added history = tt
 
 pub no_cause : (name : List ℕ) (at : ℕ) (fault : LookFault) (before now : ℕ) → IsDamage name at fault → now ≡ before
     → LookCause {T = Unit {0}} before now (Err fault)
 no_cause name at (Outside call) before now damage same = absurd damage
 no_cause name at (Damaged which place) before now damage same = same
-no_cause name at Gone before now damage same = same
+no_cause name at (Gone which) before now damage same = absurd damage
 no_cause name at NoMemory before now damage same = same
+
+-- nor is a file that isn't there
+pub loss_last : (T : Type 0) {P : History → History → Type 0} (name : List ℕ) (fault : LookFault)
+    {old new : Option History} → IsLoss name fault → Adds old new P → Adds old new (FailsLast {T = T} (Err fault))
+loss_last T name fault loss told = adds_as (FailsLast {T = T} (Err fault)) told (λ added history x. by fault loss added history)
+  where
+    by : (fault : LookFault) → IsLoss name fault → (added history : History) → FailsLast {T = T} (Err fault) added history
+    by (Outside call) loss added history = absurd loss
+    by (Damaged which place) loss added history = tt
+    by (Gone which) loss added history = tt
+    by NoMemory loss added history = tt
+
+pub loss_cause : (T : Type 0) (name : List ℕ) (fault : LookFault) (before now : ℕ) → IsLoss name fault → now ≡ before
+    → LookCause {T = T} before now (Err fault)
+loss_cause T name (Outside call) before now loss same = absurd loss
+loss_cause T name (Damaged which place) before now loss same = same
+loss_cause T name (Gone which) before now loss same = same
+loss_cause T name NoMemory before now loss same = same
 
 -- nor is an end
 pub ends_last : {P : History → History → Type 0} (name fed : List ℕ) (place : ℕ) (result : Result (Unit {0}) LookFault) {old new : Option History}

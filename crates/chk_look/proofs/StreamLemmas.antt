@@ -15,9 +15,10 @@ use Rattle.chk_look.specs.declared.fault.LookFault.{LookFault}
 use Rattle.chk_look.specs.declared.stream.Came.{Came}
 use Rattle.chk_look.specs.declared.stream.Came.TheVariants.{Unknown}
 use Rattle.chk_look.specs.Archives.{PrintedAll}
+use Rattle.chk_look.specs.Courses.{KeepsCourse}
 use Rattle.chk_look.specs.Faults.{FailsLast, LookCause}
 use Rattle.chk_look.specs.Looking.{LooksOrSays, looks, Sees}
-use Rattle.chk_look.specs.Streams.{course_from, look_of, printed_result, CameTo, PrintedBy}
+use Rattle.chk_look.specs.Streams.{course_from, look_of, printed_result, CameTo, PrintedBy, Stays}
 use Rattle.chk_look.proofs.Texts.{sees_as}
 use Rattle.chk_look.proofs.SegmentLemmas.{looks_last, looks_cause}
 
@@ -36,6 +37,17 @@ booked_seen most names o e c b d result {old = old} {new = new} is begun came to
     subst (λ (o : Option End). Adds old new (Sees (PrintedBy most names o c d result))) (sym is)
     (sees_as (PrintedBy most names (Some e) c d result)
     (λ held t h x. (came, subst (λ (k : Course). PrintedAll most names k d (printed_result result) held t h) begun x)) told)
+
+-- the course is as it was, where the book doesn't have its stream
+pub unknown_stays : (o : Option End) (c : Course) → o ≡ None → Stays o c c
+unknown_stays o c e = subst (λ (o : Option End). Stays o c c) (sym e) refl
+
+-- and else the one from the stream's start there, come further
+pub booked_stays : (o : Option End) (e : End) (c b d : Course) → o ≡ Some e → b ≡ course_from c e
+    → KeepsCourse b d → Stays o c d
+booked_stays o e c b d is begun keeps =
+    subst (λ (o : Option End). Stays o c d) (sym is)
+    (subst (λ (k : Course). KeepsCourse k d) begun keeps)
 
 reads_look : (before : History) (step : Step) → IsOf ReadsFile before step → IsOf LooksOrSays before step
 reads_look before step (inl theirs) = inl theirs

@@ -65,10 +65,9 @@ pub record IsWrongIn (most : ℕ) (c : Course) (names : List (List ℕ)) (held :
   pub over : GoesOver c (chunks_held most held front) there.reached
   pub wrong : IsWrongAt most there (bytes_in (held which)) at
 
--- one of the files isn't there
-pub record HasLost (names : List (List ℕ)) (history : History) : Type 0 where
+-- this one of the files isn't there
+pub record HasLost (names : List (List ℕ)) (which : List ℕ) (history : History) : Type 0 where
   pub front : List (List ℕ)
-  pub which : List ℕ
   pub back : List (List ℕ)
   pub split : names ≡ front ++ which ∷ back
   pub lost : files_after history which ≡ None
@@ -77,8 +76,8 @@ pub record HasLost (names : List (List ℕ)) (history : History) : Type 0 where
 abbrev pub PrintedAll : ℕ → List (List ℕ) → Course → Course → Result (Unit {0}) LookFault → Files → List ℕ → History → Type 0
 PrintedAll most names old new (Ok value) held text history = AreOrWent held history
     × (AreHeld names held → IsWholeArchive most old new.reached names held text)
-PrintedAll most names old new (Err Gone) held text history = AreOrWent held history
-    × HasLost names history
+PrintedAll most names old new (Err (Gone which)) held text history = AreOrWent held history
+    × HasLost names which history
     × (AreHeld names held → IsFrontArchive most old new.reached names held text)
 PrintedAll most names old new (Err (Damaged which at)) held text history =
     AreHeld names held → IsWrongIn most old names held which at × IsFrontArchive most old new.reached names held text

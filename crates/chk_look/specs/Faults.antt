@@ -5,7 +5,7 @@ use Rattle.chk_site.specs.declared.acts.OutsideFault.TheVariants.{Outside as sit
 use Rattle.chk_site.specs.History.{History, is_stopped}
 use Rattle.chk_site.specs.Site.{Rose, EndsIn}
 use Rattle.chk_look.specs.declared.fault.LookFault.{LookFault}
-use Rattle.chk_look.specs.declared.fault.LookFault.TheVariants.{Outside, Damaged, NoMemory}
+use Rattle.chk_look.specs.declared.fault.LookFault.TheVariants.{Outside, Damaged, Gone, NoMemory}
 
 abbrev pub look_fault : OutsideFault → LookFault
 look_fault (site_failed call) = Outside call
@@ -16,6 +16,12 @@ abbrev pub IsDamage : List ℕ → ℕ → LookFault → Type 0
 IsDamage name at (Damaged which place) = (which ≡ name) × (place ≡ at)
 IsDamage name at NoMemory = Unit {0}
 IsDamage name at fault = ⊥
+
+-- the file of this name isn't there, or there was no memory for the name
+abbrev pub IsLoss : List ℕ → LookFault → Type 0
+IsLoss name (Gone which) = which ≡ name
+IsLoss name NoMemory = Unit {0}
+IsLoss name fault = ⊥
 
 -- only a call of the outside that failed raises the count
 abbrev pub LookCause : {T : Type 0} → ℕ → ℕ → Result T LookFault → Type 0

@@ -25,7 +25,8 @@ asks_from at = min (2 ^ 63 - 1 - at) 1048576
 abbrev pub Looked : List ℕ → ℕ → Result (List ℕ) LookFault → Files → List ℕ → History → Type 0
 Looked name at (Ok piece) held text history = AreOrWent held history × (text ≡ [])
     × ((f : File) → held name ≡ Some f → piece ≡ take (asks_from at) (drop at f.bytes))
-Looked name at (Err Gone) held text history = AreOrWent held history × (text ≡ []) × (files_after history name ≡ None)
+Looked name at (Err (Gone which)) held text history = AreOrWent held history × (which ≡ name)
+    × (files_after history name ≡ None) × (text ≡ [])
 Looked name at (Err (Damaged which place)) held text history = ⊥
 Looked name at (Err fault) held text history = text ≡ []
 
@@ -79,7 +80,8 @@ IsWrongAt most c bytes at = IsBadAt most bytes at ⊎ IsOffIn most c bytes at
 abbrev pub Printed : ℕ → List ℕ → Course → Course → Result (Unit {0}) LookFault → Files → List ℕ → History → Type 0
 Printed most name old new (Ok value) held text history = AreOrWent held history
     × ((f : File) → held name ≡ Some f → length f.bytes < 2 ^ 63 → IsWholeText most old new.reached f.bytes text)
-Printed most name old new (Err Gone) held text history = AreOrWent held history × (files_after history name ≡ None)
+Printed most name old new (Err (Gone which)) held text history = AreOrWent held history × (which ≡ name)
+    × (files_after history name ≡ None)
     × ((f : File) → held name ≡ Some f → IsFrontText most old new.reached f.bytes text)
 Printed most name old new (Err (Damaged which at)) held text history = (which ≡ name)
     × ((f : File) → held name ≡ Some f → length f.bytes < 2 ^ 63

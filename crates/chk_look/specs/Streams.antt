@@ -1,25 +1,20 @@
 -- What is printed of a stream, as the book that is read names it.
 use Rattle.std.specs.Prelude.{◌≡◌, ℕ, List, [], ◌∷◌, Option, Some, None, Result, Ok, Err, if◌then◌else◌}
-use Rattle.chk_site.specs.Files.{File, Files}
-use Rattle.chk_site.specs.Effect.{IsSmallFile}
+use Rattle.chk_site.specs.Files.{Files}
 use Rattle.chk_site.specs.History.{History}
 use Rattle.chk_site.specs.Site.{Adds}
-use Rattle.chk_site.specs.Runs.{anyhow, Leads}
-use Rattle.chk_replace.specs.Load.{Has}
 use Rattle.chk_chunk.specs.Keys.{Stream, same_stream}
 use Rattle.chk_world.specs.Books.{Book, End}
-use Rattle.chk_world.specs.JobSteps.{SparesFile}
 use Rattle.chk_heads.specs.declared.fault.JobFault.{JobFault}
 use Rattle.chk_heads.specs.declared.fault.JobFault.TheVariants.{Outside as job_outside, Damaged as job_damaged, Spent as job_spent, NoMemory as job_no_memory}
-use Rattle.chk_book.specs.Folders.{book_name}
-use Rattle.chk_book.specs.Loaded.{LoadedBook}
 use Rattle.chk_look.specs.declared.course.Course.{Course}
 use Rattle.chk_look.specs.declared.fault.LookFault.{LookFault}
 use Rattle.chk_look.specs.declared.fault.LookFault.TheVariants.{Outside, Damaged, NoMemory}
 use Rattle.chk_look.specs.declared.stream.Came.{Came}
 use Rattle.chk_look.specs.declared.stream.Came.TheVariants.{Whole, Short, Unknown}
-use Rattle.chk_look.specs.Courses.{stream_of}
+use Rattle.chk_look.specs.Courses.{stream_of, KeepsCourse}
 use Rattle.chk_look.specs.Archives.{names_of, PrintedAll}
+use Rattle.chk_look.specs.Loading.{BookFound}
 use Rattle.chk_look.specs.Looking.{Sees}
 
 -- the first end of the stream
@@ -69,16 +64,25 @@ PrintedBy most names None old new result held text history = (result ≡ Ok Unkn
 PrintedBy most names (Some e) old new result held text history =
     CameTo new result × PrintedAll most names (course_from old e) new (printed_result result) held text history
 
--- what follows a read of the book
-abbrev pub Went : List ℕ → ℕ → Course → Course → Result Book JobFault → Result Came LookFault → Option History → Option History → Type 0
-Went folder most old new (Ok b) result before after =
-    Adds before after (Sees (PrintedBy most (names_of folder b.segments) (end_of (stream_of old) b.ends) old new result))
-Went folder most old new (Err fault) result before after = (after ≡ before) × (result ≡ Err (look_of fault))
+-- where the book has the stream, the course is the one from its start there, come further; else it is as it was
+abbrev pub Stays : Option End → Course → Course → Type 0
+Stays None old new = new ≡ old
+Stays (Some e) old new = KeepsCourse (course_from old e) new
 
--- the book was read, which others leave meanwhile, and then its archive of the stream was printed
-pub record Stage (folder : List ℕ) (most : ℕ) (old new : Course) (result : Result Came LookFault) (before after : Option History) : Type 0 where
+-- what follows a read of the book
+abbrev pub Went : List ℕ → ℕ → Course → Course → Result Book JobFault → Result Came LookFault
+    → Option History → Option History → Type 0
+Went folder most old new (Ok b) result before after =
+    Stays (end_of (stream_of old) b.ends) old new
+    × Adds before after (Sees (PrintedBy most (names_of folder b.segments)
+    (end_of (stream_of old) b.ends) old new result))
+Went folder most old new (Err fault) result before after =
+    (new ≡ old) × (after ≡ before) × (result ≡ Err (look_of fault))
+
+-- the book was read, and then its archive of the stream was printed
+pub record Stage (folder : List ℕ) (most : ℕ) (old new : Course) (result : Result Came LookFault)
+    (before after : Option History) : Type 0 where
   pub given : Result Book JobFault
   pub middle : Option History
-  pub loaded : (file : Option File) → IsSmallFile file
-      → Adds before middle (Leads (anyhow (SparesFile (book_name folder))) (Has (book_name folder) file) (LoadedBook folder file given))
+  pub read : BookFound folder given before middle
   pub went : Went folder most old new given result middle after

@@ -2,7 +2,7 @@
 
 ghost use Rattle.std.specs.Prelude.{IsTrue};
 ghost use Rattle.chk_bytes.specs.Words.{is_word};
-ghost use Rattle.chk_look.specs.Faults.{IsDamage};
+ghost use Rattle.chk_look.specs.Faults.{IsDamage, IsLoss};
 
 use chk_bytes::{NoMemory, Word};
 use chk_site::{Call, OutsideFault};
@@ -15,8 +15,8 @@ pub enum LookFault {
     Outside { call: Call },
     /// The file `name` isn't what it has to be, from its byte `at` on.
     Damaged { name: Word, at: u64 },
-    /// A segment that the book named isn't there any more: a job has put another one in its place.
-    Gone,
+    /// The file `name` isn't there: a job has put another one in its place, or it was lost.
+    Gone { name: Word },
     /// There was no memory.
     NoMemory,
 }
@@ -53,6 +53,17 @@ pub(crate) fn damaged(alloc: Global, name: &str, at: u64) -> LookFault
 {
     match Word::from_text(alloc, name) {
         Ok(name) => LookFault::Damaged { name, at },
+        Err(_) => LookFault::NoMemory,
+    }
+}
+
+/// The fault of the file `name` that isn't there, or want of memory for its name.
+pub(crate) fn gone(alloc: Global, name: &str) -> LookFault
+    requires { IsTrue (is_word name.now) }
+    ensures { IsLoss name.now result }
+{
+    match Word::from_text(alloc, name) {
+        Ok(name) => LookFault::Gone { name },
         Err(_) => LookFault::NoMemory,
     }
 }

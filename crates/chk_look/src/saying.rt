@@ -1,13 +1,14 @@
 //! One read, and one print.
 
-ghost use Rattle.std.specs.Prelude.{◌≡◌, ◌≤◌, length, IfOk};
+ghost use Rattle.std.specs.Prelude.{◌≡◌, ◌≤◌, length, IfOk, IsTrue};
+ghost use Rattle.chk_bytes.specs.Words.{is_word};
 ghost use Rattle.chk_site.specs.Site.{Adds, LastFailed, OutsideCause};
 ghost use Rattle.chk_world.specs.Sight.{job};
 ghost use Rattle.chk_look.specs.Faults.{FailsLast, LookCause};
 ghost use Rattle.chk_look.specs.Looking.{Sees};
 ghost use Rattle.chk_look.specs.Segments.{asks_from, Looked, Said};
 
-use crate::fault::LookFault;
+use crate::fault::{LookFault, gone};
 use chk_bytes::Bytes;
 use chk_site::{Call, CallFault, OutsideFault, Site, Who};
 use std::alloc::Global;
@@ -26,7 +27,8 @@ pub(crate) fn look<S: Site>(
     name: &str,
     at: u64,
 ) -> Result<Bytes, LookFault>
-    requires { who.now ≡ job }
+    requires job { who.now ≡ job }
+    requires name { IsTrue (is_word name.now) }
     ensures told { Adds (S.told site.old) (S.told site.new) (Sees (Looked name.now at result)) }
     ensures few { IfOk result (λ bytes. length bytes ≤ asks_from at) }
     ensures last { Adds (S.told site.old) (S.told site.new) (FailsLast result) }
@@ -35,7 +37,7 @@ pub(crate) fn look<S: Site>(
     let max = END.saturating_sub(at).min(PIECE) as u32;
     match site.read(alloc, who, name, at, max) {
         Ok(bytes) => Ok(bytes),
-        Err(CallFault::Missing) => Err(LookFault::Gone),
+        Err(CallFault::Missing) => Err(gone(alloc, name)),
         Err(CallFault::Short { .. }) => Ok(Bytes::new(alloc)),
         Err(CallFault::Failed) => Err(LookFault::Outside { call: Call::Read }),
         Err(CallFault::NoMemory) => Err(LookFault::NoMemory),

@@ -6,7 +6,6 @@ ghost use Rattle.chk_site.specs.History.{Every};
 ghost use Rattle.chk_site.specs.Site.{Adds};
 ghost use Rattle.chk_world.specs.JobSteps.{IsOf};
 ghost use Rattle.chk_world.specs.Sight.{job};
-ghost use Rattle.chk_heads.specs.Faults.{IsOfRead};
 ghost use Rattle.chk_book.specs.Books.{book_view};
 ghost use Rattle.chk_book.specs.Folders.{is_folder};
 ghost use Rattle.chk_book.specs.Views.{end_view};
@@ -14,13 +13,13 @@ ghost use Rattle.chk_look.specs.Archives.{names_of};
 ghost use Rattle.chk_look.specs.Courses.{stream_of};
 ghost use Rattle.chk_look.specs.Faults.{FailsLast, LookCause};
 ghost use Rattle.chk_look.specs.Looking.{LooksOrSays, Sees};
-ghost use Rattle.chk_look.specs.Streams.{course_from, end_of, look_of, IsCame, PrintedBy, Stage};
+ghost use Rattle.chk_look.specs.Streams.{course_from, end_of, IsCame, PrintedBy, Stage, Stays};
 
 use crate::archive::print_archive;
 use crate::course::Course;
 use crate::fault::LookFault;
-use chk_book::{Book, End, load_book};
-use chk_heads::JobFault;
+use crate::loading::{find_book, look_of};
+use chk_book::{Book, End};
 use chk_site::{Site, Who};
 use std::alloc::Global;
 
@@ -36,10 +35,10 @@ pub enum Came {
 }
 
 /// Reads the book of a folder, and prints the archive of the stream that it names, from the offset `begin` of the course on.
-/// The course is then where the printing came to; its start and its end are those in the book.
+/// The course is then where the printing came to; its start and its end are those in the book, and `begin` is kept.
 ///
-/// After `Gone` the same call again reads the new book, and goes on where `begin` is raised to `reached`. It costs a read of the
-/// book and of each segment that it names; see `print_segment`.
+/// After `Gone` the same call again reads the new book, and goes on where `begin` is raised to `reached`. It costs a read of
+/// the book, as `find_book` does, and of each segment that it names; see `print_segment`.
 pub fn print_stream<S: Site>(
     alloc: Global,
     site: &mut S,
@@ -56,7 +55,7 @@ pub fn print_stream<S: Site>(
     ensures last { Adds (S.told site.old) (S.told site.new) (FailsLast result) }
     ensures cause { LookCause (S.fault_count site.old) (S.fault_count site.new) result }
 {
-    match load_book(alloc, site, who, folder) {
+    match find_book(alloc, site, who, folder) {
         Ok(book) => print_booked(alloc, site, who, folder, most, &book, course),
         Err(fault) => Err(look_of(fault)),
     }
@@ -78,6 +77,7 @@ fn print_booked<S: Site>(
     ensures told { Adds (S.told site.old) (S.told site.new)
         (Sees (PrintedBy most (names_of folder.now (book_view book.now).segments)
         (end_of (stream_of course.old) (book_view book.now).ends) course.old course.new result)) }
+    ensures stays { Stays (end_of (stream_of course.old) (book_view book.now).ends) course.old course.new }
     ensures last { Adds (S.told site.old) (S.told site.new) (FailsLast result) }
     ensures cause { LookCause (S.fault_count site.old) (S.fault_count site.new) result }
 {
@@ -129,17 +129,4 @@ fn end_of<'a>(ends: &'a [End], course: &Course<'_>) -> Option<&'a End>
         }
     }
     None
-}
-
-/// A refusal of a read of the job's as one of a look.
-fn look_of(fault: JobFault) -> LookFault
-    requires { IsOfRead fault }
-    ensures { result ≡ look_of fault }
-{
-    match fault {
-        JobFault::Outside { call } => LookFault::Outside { call },
-        JobFault::Damaged { name, at } => LookFault::Damaged { name, at },
-        JobFault::Spent { .. } => unreachable!(),
-        JobFault::NoMemory => LookFault::NoMemory,
-    }
 }

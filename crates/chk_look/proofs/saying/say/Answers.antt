@@ -5,7 +5,7 @@ use Rattle.chk_site.specs.declared.acts.OutsideFault.TheVariants.{Outside, NoMem
 use Rattle.chk_site.specs.declared.acts.Call.TheVariants.{Say}
 use Rattle.chk_site.specs.Site.{plain, LastFailed}
 use Rattle.chk_site.proofs.Runs.{adds_as}
-use Rattle.chk_replace.proofs.CallSteps.{ends_last}
+use Rattle.chk_site.proofs.LastCalls.{ended_last as ends_last}
 use Rattle.chk_look.proofs.Seeing.{said_seen, say_failed, say_unmade, unsaid}
 use Rattle.chk_look.proofs.saying.say.Goals as goal
 

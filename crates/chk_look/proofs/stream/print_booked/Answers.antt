@@ -10,13 +10,15 @@ use Rattle.chk_look.specs.Courses.{stream_of}
 use Rattle.chk_look.specs.Faults.{FailsLast}
 use Rattle.chk_look.specs.Streams.{end_of}
 use Rattle.chk_look.proofs.SegmentLemmas.{looks_last, looks_cause}
-use Rattle.chk_look.proofs.StreamLemmas.{unknown_seen, booked_seen}
+use Rattle.chk_look.proofs.StreamLemmas.{unknown_seen, booked_seen, unknown_stays, booked_stays}
 use Rattle.chk_look.proofs.stream.print_booked.Goals as goal
 
 pub returns-in_default : goal.returns-in_default
 returns-in_default g c = record {
   told = unknown_seen (g.S.Site.told c.args.site.now) c.args.most (names_of c.args.folder.now (book_view c.args.book.now).segments)
       (end_of (stream_of c.args.course.now) (book_view c.args.book.now).ends) c.args.course.now
+      (rw c.as_slice.ensures at (rw c.in_default.is at c.end_of.ensures.none));
+  stays = unknown_stays (end_of (stream_of c.args.course.now) (book_view c.args.book.now).ends) c.args.course.now
       (rw c.as_slice.ensures at (rw c.in_default.is at c.end_of.ensures.none));
   last = adds_none (g.S.Site.told c.args.site.now) (FailsLast {T = Came} (Ok Unknown)) (λ history. tt);
   cause = refl;
@@ -32,6 +34,9 @@ returns-in_err-print_archive g c =
           (end_of (stream_of c.args.course.now) (book_view c.args.book.now).ends) (end_view c.in-Some.end.now) c.args.course.now
           c.begin_at.new.course c.print_archive.new.course (Err fault)
           (rw c.as_slice.ensures at (rw c.in-Some.is at c.end_of.ensures.some)) c.begin_at.ensures tt c.in_err-print_archive.ensures.told;
+      stays = booked_stays (end_of (stream_of c.args.course.now) (book_view c.args.book.now).ends) (end_view c.in-Some.end.now)
+          c.args.course.now c.begin_at.new.course c.print_archive.new.course
+          (rw c.as_slice.ensures at (rw c.in-Some.is at c.end_of.ensures.some)) c.begin_at.ensures c.print_archive.ensures.keeps;
       last = looks_last Came (Unit {0}) fault (adds_none (g.S.Site.told c.args.site.now) (λ a h. Unit {0}) (λ h. tt)) c.in_err-print_archive.ensures.last;
       cause = looks_cause Came (Unit {0}) fault (g.S.Site.fault_count c.args.site.now) (g.S.Site.fault_count c.args.site.now)
           (g.S.Site.fault_count c.print_archive.new.site) refl c.in_err-print_archive.ensures.cause;
@@ -43,6 +48,9 @@ returns g c = record {
       (end_of (stream_of c.args.course.now) (book_view c.args.book.now).ends) (end_view c.in-Some.end.now) c.args.course.now
       c.begin_at.new.course c.print_archive.new.course (Ok c.outcome_of.result)
       (rw c.as_slice.ensures at (rw c.in-Some.is at c.end_of.ensures.some)) c.begin_at.ensures c.outcome_of.ensures c.in_ok-print_archive.ensures.told;
+  stays = booked_stays (end_of (stream_of c.args.course.now) (book_view c.args.book.now).ends) (end_view c.in-Some.end.now)
+      c.args.course.now c.begin_at.new.course c.print_archive.new.course
+      (rw c.as_slice.ensures at (rw c.in-Some.is at c.end_of.ensures.some)) c.begin_at.ensures c.print_archive.ensures.keeps;
   last = adds_as (FailsLast {T = Came} (Ok c.outcome_of.result)) c.in_ok-print_archive.ensures.told (λ added history x. tt);
   cause = c.in_ok-print_archive.ensures.cause;
 }

@@ -1,0 +1,4 @@
+pub mod Outcomes
+pub mod Finding
+pub mod Summing
+pub mod Runs

@@ -1,0 +1,14 @@
+//! The commands of `chukwactl`, over any outside.
+#![tactic(auto)]
+
+mod finding;
+mod outcome;
+mod running;
+mod showing;
+mod summing;
+mod telling;
+mod verifying;
+
+pub use chk_look_words::Usage;
+pub use outcome::Outcome;
+pub use running::run;

@@ -1,0 +1,145 @@
+//! How a look ends.
+
+ghost use Rattle.std.specs.Prelude.{◌≡◌};
+ghost use Rattle.chk_heads.specs.Faults.{IsOfRead};
+ghost use Rattle.chk_look_run.specs.Outcomes.{listed_as, outcome_of, outcome_of_fault};
+ghost use Rattle.chk_look_run.specs.Outcomes.{outcome_of_job, outcome_status, shown_as, told_as};
+
+use chk_bytes::Word;
+use chk_heads::JobFault;
+use chk_look::{Came, LookFault};
+use chk_look_words::Usage;
+use chk_site::{Call, OutsideFault};
+use std::fmt;
+use std::fmt::{Display, Formatter};
+
+/// How a look ends. Each has a status, and each but `Done` a message to the operator.
+#[derive(Debug, Drop)]
+pub enum Outcome {
+    /// All was done; 0.
+    Done,
+    /// There is no `archive/book`; 1.
+    NoArchive,
+    /// The store has no such stream; 1.
+    Unknown,
+    /// The records of the stream end before its end in the book; 1.
+    Short,
+    /// The file isn't in its grammar from its byte `at` on, or its record there doesn't go on
+    /// from those before it; 1.
+    Damaged { name: Word, at: u64 },
+    /// The words aren't a command; 2.
+    Usage(Usage),
+    /// This call on the outside failed; 3.
+    Outside { call: Call },
+    /// The segment `name` isn't there, and two books in turn named it, or many each another one;
+    /// 3.
+    Gone { name: Word },
+    /// There was no memory; 4.
+    NoMemory,
+}
+
+impl Outcome {
+    /// The status with which the program ends.
+    pub fn status(&self) -> u8
+        ensures { result ≡ outcome_status self.now }
+    {
+        match self {
+            Outcome::Done => 0,
+            Outcome::NoArchive | Outcome::Unknown | Outcome::Short | Outcome::Damaged { .. } => 1,
+            Outcome::Usage(_) => 2,
+            Outcome::Outside { .. } | Outcome::Gone { .. } => 3,
+            Outcome::NoMemory => 4,
+        }
+    }
+}
+
+/// What is told of it, in one line without a newline; of words that aren't a command the line of
+/// their usage is told instead.
+impl Display for Outcome {
+    fn fmt<W: fmt::Write>(&self, f: &mut Formatter<W>) -> fmt::Result {
+        match self {
+            Outcome::Done => Ok(()),
+            Outcome::NoArchive => write!(f, "there is no archive/book"),
+            Outcome::Unknown => write!(f, "no such stream"),
+            Outcome::Short => write!(f, "the records end before the end in the book"),
+            Outcome::Damaged { name, at } => {
+                let name = name.as_str();
+                write!(f, "damaged {name} {at}")
+            }
+            Outcome::Usage(usage) => write!(f, "{}", usage.text().trim_end()),
+            Outcome::Outside { call } => write!(f, "outside {}", call.name()),
+            Outcome::Gone { name } => {
+                let name = name.as_str();
+                write!(f, "{name} isn't there")
+            }
+            Outcome::NoMemory => write!(f, "out of memory"),
+        }
+    }
+}
+
+/// The outcome of what was printed of a stream.
+pub(crate) fn shown_as(given: Result<Came, LookFault>) -> Outcome
+    ensures { result ≡ shown_as given }
+{
+    match given {
+        Ok(came) => outcome_of(came),
+        Err(fault) => outcome_of_fault(fault),
+    }
+}
+
+/// The outcome of the lines of streams.
+pub(crate) fn listed_as(given: Result<(), LookFault>) -> Outcome
+    ensures { result ≡ listed_as given }
+{
+    match given {
+        Ok(()) => Outcome::Done,
+        Err(fault) => outcome_of_fault(fault),
+    }
+}
+
+/// The outcome of one line.
+pub(crate) fn told_as(given: Result<(), OutsideFault>) -> Outcome
+    ensures { result ≡ told_as given }
+{
+    match given {
+        Ok(()) => Outcome::Done,
+        Err(OutsideFault::Outside { call }) => Outcome::Outside { call },
+        Err(OutsideFault::NoMemory) => Outcome::NoMemory,
+    }
+}
+
+/// What a refusal of a read of the job's comes to.
+pub(crate) fn outcome_of_job(fault: JobFault) -> Outcome
+    requires { IsOfRead fault }
+    ensures { result ≡ outcome_of_job fault }
+{
+    match fault {
+        JobFault::Outside { call } => Outcome::Outside { call },
+        JobFault::Damaged { name, at } => Outcome::Damaged { name, at },
+        JobFault::Spent { .. } => unreachable!(),
+        JobFault::NoMemory => Outcome::NoMemory,
+    }
+}
+
+/// What a stream that was printed came to.
+fn outcome_of(came: Came) -> Outcome
+    ensures { result ≡ outcome_of came }
+{
+    match came {
+        Came::Whole => Outcome::Done,
+        Came::Short => Outcome::Short,
+        Came::Unknown => Outcome::Unknown,
+    }
+}
+
+/// What a refusal comes to.
+fn outcome_of_fault(fault: LookFault) -> Outcome
+    ensures { result ≡ outcome_of_fault fault }
+{
+    match fault {
+        LookFault::Outside { call } => Outcome::Outside { call },
+        LookFault::Damaged { name, at } => Outcome::Damaged { name, at },
+        LookFault::Gone { name } => Outcome::Gone { name },
+        LookFault::NoMemory => Outcome::NoMemory,
+    }
+}

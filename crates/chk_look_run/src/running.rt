@@ -1,0 +1,96 @@
+//! A run of the program.
+
+ghost use Rattle.std.specs.Prelude.{◌≡◌, map, IfOk};
+ghost use Rattle.chk_site.specs.History.{Every};
+ghost use Rattle.chk_site.specs.Site.{Adds};
+ghost use Rattle.chk_world.specs.JobSteps.{IsOf};
+ghost use Rattle.chk_world.specs.Sight.{job};
+ghost use Rattle.chk_look_store.specs.Following.{LooksAgain};
+ghost use Rattle.chk_look_words.specs.Commands.{asked_of};
+ghost use Rattle.chk_look_run.specs.Outcomes.{OutcomeCause};
+ghost use Rattle.chk_look_run.specs.Runs.{Ran, Shows};
+
+use crate::outcome::Outcome;
+use crate::showing::{show_stream, show_streams};
+use crate::summing::show_sums;
+use crate::telling::{tell_usage, tell_version};
+use crate::verifying::show_verified;
+use chk_bytes::{NoMemory, Word};
+use chk_look_words::{Command, WordsFault, read_words, usage_of};
+use chk_site::{Role, Site, Who};
+use std::alloc::Global;
+
+/// Runs the command that the words behind the program's name ask for. It reads files, prints,
+/// waits, and does nothing else: it doesn't start as a process either, so it may run beside those
+/// that do. The files are named from the folder STORE, which is the site's. A store without
+/// `archive/book` is none: `NoArchive`.
+///
+/// `cat [--begin N] [--follow] [--records] STORE SOURCE TYPE NAME` prints the archived bytes of a
+/// stream from the offset N on, as `archive/book` names them, or its records joined, as
+/// `demux/book` does; where the stream starts past N, from its start on. Where a job replaces a
+/// segment meanwhile, the new book is read, and the printing goes on at its offset. With
+/// `--follow` it looks again every 5,000 ms, also for a stream that the book doesn't have (yet);
+/// a look that finds more of it reads all segments again.
+///
+/// `streams STORE` prints `stream <source> <type> <name> start <offset> end <offset> demuxed
+/// <offset>` for each stream.
+///
+/// `verify STORE` looks whether both books, the segments that they name and the streams' records
+/// are as they have to be, and prints `ok archive <records> demux <records>`, or ends with the
+/// first damage. Where there is no `demux/book` it prints `none` in place of the last number.
+///
+/// `sum STORE` prints `stream <source> <type> <name> start <offset> end <offset> sha256 <digest>`
+/// for each stream, of its archived bytes, or ends with the first damage and no line.
+///
+/// `--help`, alone or behind a command's name, prints how it is used, and `--version` alone the
+/// version.
+pub fn run<'a, S: Site>(alloc: Global, site: &mut S, words: &'a [&'a str]) -> Outcome
+    ensures ran { Ran (map (λ w. w.now) words.now) result (S.told site.old) (S.told site.new) }
+    ensures own { Adds (S.told site.old) (S.told site.new) (Every (IsOf LooksAgain)) }
+    ensures cause { OutcomeCause (S.fault_count site.old) (S.fault_count site.new) result }
+{
+    match read_words(alloc, words) {
+        Ok(command) => show(alloc, site, &command),
+        Err(WordsFault::Usage) => Outcome::Usage(usage_of(words)),
+        Err(WordsFault::NoMemory) => Outcome::NoMemory,
+    }
+}
+
+/// Does what is asked for.
+fn show<S: Site>(alloc: Global, site: &mut S, command: &Command<'_>) -> Outcome
+    ensures told { Shows (asked_of command.now) result (S.told site.old) (S.told site.new) }
+    ensures own { Adds (S.told site.old) (S.told site.new) (Every (IsOf LooksAgain)) }
+    ensures cause { OutcomeCause (S.fault_count site.old) (S.fault_count site.new) result }
+{
+    match looker(alloc) {
+        Ok(who) => show_asked(alloc, site, &who, command),
+        Err(NoMemory) => Outcome::NoMemory,
+    }
+}
+
+/// Does what is asked for, as this process.
+fn show_asked<S: Site>(alloc: Global, site: &mut S, who: &Who, command: &Command<'_>) -> Outcome
+    requires job { who.now ≡ job }
+    ensures told { Shows (asked_of command.now) result (S.told site.old) (S.told site.new) }
+    ensures own { Adds (S.told site.old) (S.told site.new) (Every (IsOf LooksAgain)) }
+    ensures cause { OutcomeCause (S.fault_count site.old) (S.fault_count site.new) result }
+{
+    match command {
+        Command::Cat(words) => show_stream(alloc, site, who, words),
+        Command::Streams(_) => show_streams(alloc, site, who),
+        Command::Verify(_) => show_verified(alloc, site, who),
+        Command::Sum(_) => show_sums(alloc, site, who),
+        Command::Help(usage) => tell_usage(alloc, site, who, *usage),
+        Command::Version => tell_version(alloc, site, who),
+    }
+}
+
+/// The process as which files are read. It never starts, so it takes no lock.
+fn looker(alloc: Global) -> Result<Who, NoMemory>
+    ensures { IfOk result (λ who. who ≡ job) }
+{
+    Ok(Who {
+        role: Role::Job,
+        name: Word::from_text(alloc, "job")?,
+    })
+}

@@ -1,0 +1,126 @@
+//! Whether the files of a store are what they have to be.
+
+ghost use Rattle.std.specs.Prelude.{◌≡◌, string_bytes, IfOk, IsTrue};
+ghost use Rattle.chk_site.specs.History.{Every};
+ghost use Rattle.chk_site.specs.Site.{Adds};
+ghost use Rattle.chk_world.specs.ArchiveRuns.{is_one_line};
+ghost use Rattle.chk_world.specs.JobSteps.{IsOf};
+ghost use Rattle.chk_world.specs.Sight.{job};
+ghost use Rattle.chk_look_store.specs.Following.{LooksAgain};
+ghost use Rattle.chk_look_run.specs.Outcomes.{OutcomeCause};
+ghost use Rattle.chk_look_run.specs.Finding.{InStore};
+ghost use Rattle.chk_look_run.specs.Runs.{
+  archive_line,
+  sound_line,
+  ShowsRecords,
+  ShowsRest,
+  ShowsVerified,
+  Tells,
+};
+
+use crate::finding::{find_archive, find_file};
+use crate::outcome::{Outcome, outcome_of_job, told_as};
+use crate::showing::{ARCHIVE, RECORDS};
+use crate::telling::tell;
+use chk_bytes::NoMemory;
+use chk_look_verify::verify;
+use chk_site::{Site, Who};
+use std::alloc::Global;
+
+/// Looks at the archive and then at the records, and prints how many records both have; damage
+/// ends it.
+pub(crate) fn show_verified<S: Site>(alloc: Global, site: &mut S, who: &Who) -> Outcome
+    requires job { who.now ≡ job }
+    ensures told { InStore ShowsVerified result (S.told site.old) (S.told site.new) }
+    ensures own { Adds (S.told site.old) (S.told site.new) (Every (IsOf LooksAgain)) }
+    ensures cause { OutcomeCause (S.fault_count site.old) (S.fault_count site.new) result }
+{
+    match find_archive(alloc, site, who) {
+        Ok(()) => show_archive(alloc, site, who),
+        Err(outcome) => outcome,
+    }
+}
+
+/// The same of a store that has an archive.
+fn show_archive<S: Site>(alloc: Global, site: &mut S, who: &Who) -> Outcome
+    requires job { who.now ≡ job }
+    ensures told { ShowsVerified result (S.told site.old) (S.told site.new) }
+    ensures own { Adds (S.told site.old) (S.told site.new) (Every (IsOf LooksAgain)) }
+    ensures cause { OutcomeCause (S.fault_count site.old) (S.fault_count site.new) result }
+{
+    match verify(alloc, site, who, ARCHIVE) {
+        Ok(archived) => show_rest(alloc, site, who, archived),
+        Err(fault) => outcome_of_job(fault),
+    }
+}
+
+/// Looks at the records, where there is a book of them, and prints the line.
+fn show_rest<S: Site>(alloc: Global, site: &mut S, who: &Who, archived: u64) -> Outcome
+    requires job { who.now ≡ job }
+    ensures told { ShowsRest archived result (S.told site.old) (S.told site.new) }
+    ensures own { Adds (S.told site.old) (S.told site.new) (Every (IsOf LooksAgain)) }
+    ensures cause { OutcomeCause (S.fault_count site.old) (S.fault_count site.new) result }
+{
+    match find_file(alloc, site, who, "demux/book") {
+        Ok(true) => show_records(alloc, site, who, archived),
+        Ok(false) => show_alone(alloc, site, who, archived),
+        Err(fault) => told_as(Err(fault)),
+    }
+}
+
+/// Looks at the records, and prints the line.
+fn show_records<S: Site>(alloc: Global, site: &mut S, who: &Who, archived: u64) -> Outcome
+    requires job { who.now ≡ job }
+    ensures told { ShowsRecords archived result (S.told site.old) (S.told site.new) }
+    ensures own { Adds (S.told site.old) (S.told site.new) (Every (IsOf LooksAgain)) }
+    ensures cause { OutcomeCause (S.fault_count site.old) (S.fault_count site.new) result }
+{
+    match verify(alloc, site, who, RECORDS) {
+        Ok(split) => show_sound(alloc, site, who, archived, split),
+        Err(fault) => outcome_of_job(fault),
+    }
+}
+
+/// Prints the line of a store that has no book of records.
+fn show_alone<S: Site>(alloc: Global, site: &mut S, who: &Who, archived: u64) -> Outcome
+    requires job { who.now ≡ job }
+    ensures told { Tells (archive_line archived) result (S.told site.old) (S.told site.new) }
+    ensures own { Adds (S.told site.old) (S.told site.new) (Every (IsOf LooksAgain)) }
+    ensures cause { OutcomeCause (S.fault_count site.old) (S.fault_count site.new) result }
+{
+    match archive_text(alloc, archived) {
+        Ok(line) => tell(alloc, site, who, line.as_str()),
+        Err(NoMemory) => Outcome::NoMemory,
+    }
+}
+
+/// Its text.
+fn archive_text(alloc: Global, archived: u64) -> Result<String, NoMemory>
+    ensures line { IfOk result (λ line. string_bytes line ≡ archive_line archived) }
+    ensures one { IsTrue (is_one_line (archive_line archived)) }
+{
+    let text = format!(in alloc; "ok archive {archived} demux none\n")?;
+    Ok(text)
+}
+
+/// Prints the line of a store whose files are what they have to be.
+fn show_sound<S: Site>(alloc: Global, site: &mut S, who: &Who, archived: u64, split: u64) -> Outcome
+    requires job { who.now ≡ job }
+    ensures told { Tells (sound_line archived split) result (S.told site.old) (S.told site.new) }
+    ensures own { Adds (S.told site.old) (S.told site.new) (Every (IsOf LooksAgain)) }
+    ensures cause { OutcomeCause (S.fault_count site.old) (S.fault_count site.new) result }
+{
+    match sound_text(alloc, archived, split) {
+        Ok(line) => tell(alloc, site, who, line.as_str()),
+        Err(NoMemory) => Outcome::NoMemory,
+    }
+}
+
+/// Its text.
+fn sound_text(alloc: Global, archived: u64, split: u64) -> Result<String, NoMemory>
+    ensures line { IfOk result (λ line. string_bytes line ≡ sound_line archived split) }
+    ensures one { IsTrue (is_one_line (sound_line archived split)) }
+{
+    let text = format!(in alloc; "ok archive {archived} demux {split}\n")?;
+    Ok(text)
+}

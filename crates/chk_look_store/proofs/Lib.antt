@@ -1,0 +1,4 @@
+pub mod LineWords
+pub mod Listed
+pub mod Again
+pub mod Gone

@@ -1,0 +1,7 @@
+mod InOrder
+mod Blocks
+mod Steps
+mod Streams
+mod LineWords
+mod Sides
+mod Later

@@ -1,0 +1,90 @@
+-- The bytes of a stream's records, in order, are its archive.
+use Rattle.std.proofs.Common.{◌≡◌, ℕ, Bool, true, false, List, [], ◌∷◌, map, refl, ap, ap₂, sym, subst, ◌∙◌, if◌then◌else◌}
+use Rattle.std.specs.Prelude.{filter}
+use Rattle.chk_site.specs.Files.{Files}
+use Rattle.chk_chunk.specs.Keys.{Stream, Chunk, same_stream, is_of}
+use Rattle.chk_world.specs.Books.{Book, End, chunks_of_stream, values}
+use Rattle.chk_world.proofs.Each.{Each}
+use Rattle.chk_heads.specs.Heads.{Head}
+use Rattle.chk_heads.specs.Order.{in_head_order}
+use Rattle.chk_book.specs.Folders.{most_in}
+use Rattle.chk_book.specs.Views.{end_view}
+use Rattle.chk_book.specs.declared.lists.End.{End as EndStruct}
+use Rattle.chk_merge.specs.Segments.{names_of, heads_from, chunks_in_files}
+use Rattle.chk_merge.specs.Courses.{is_head_of}
+use Rattle.chk_merge.specs.Checking.{AllGoWell}
+use Rattle.chk_merge.specs.Archives.{IsKnown, chunk_in, values_in}
+use Rattle.chk_merge.proofs.AllRead.{known_from}
+use Rattle.chk_merge.proofs.Joining.{chunks_from, values_of}
+use Rattle.chk_compare.specs.declared.gathering.Side.{Side}
+use Rattle.chk_compare.specs.Blocks.{StreamsRise}
+use Rattle.chk_compare.specs.Reading.{AreAmong}
+use Rattle.chk_compare.specs.Comparing.{IsSide}
+use Rattle.sha2.specs.Sha256.{sha256}
+use Rattle.chk_look_sum.specs.Summing.{bytes_of, digest_of}
+use Rattle.chk_look_sum.specs.Sums.{archived}
+use Rattle.chk_look_sum.proofs.InOrder.{heads_rise, each_sort, order_keeps}
+
+chunks_of_heads : (s : Stream) (f : Head → Chunk) (hs : List Head)
+    → ((h : Head) → (f h).key ≡ h.key)
+    → chunks_of_stream s (map f hs) ≡ map f (filter (is_head_of s) hs)
+chunks_of_heads s f [] key = refl
+chunks_of_heads s f (h ∷ hs) key =
+    ap (λ k. if same_stream s k.stream then f h ∷ filter (is_of s) (map f hs)
+    else filter (is_of s) (map f hs)) (key h)
+    ∙ go (is_head_of s h) (chunks_of_heads s f hs key)
+  where
+    go : (b : Bool) → chunks_of_stream s (map f hs) ≡ map f (filter (is_head_of s) hs)
+        → (if b then f h ∷ filter (is_of s) (map f hs) else filter (is_of s) (map f hs))
+        ≡ map f (if b then h ∷ filter (is_head_of s) hs else filter (is_head_of s) hs)
+    go true rest = ap (λ l. f h ∷ l) rest
+    go false rest = rest
+
+module _ (folder : List ℕ) (b : Book) (held : Files) (side : Side)
+    (names_are : side.names.now ≡ names_of folder b)
+    (heads_are : side.heads.now
+    ≡ in_head_order (heads_from (most_in folder) held 0 (names_of folder b))) where
+  abbrev Names : List (List ℕ)
+  Names = names_of folder b
+
+  abbrev Hs : List Head
+  Hs = heads_from (most_in folder) held 0 Names
+
+  abbrev F : Head → Chunk
+  F = chunk_in Names held
+
+  pub is_side : IsSide (most_in folder) Names held side
+  is_side = record {
+    among = subst (AreAmong Names) (sym names_are) (λ w one. one);
+    known = subst (λ ns. Each (IsKnown (most_in folder) ns held) side.heads.now) (sym names_are)
+        (subst (Each (IsKnown (most_in folder) Names held)) (sym heads_are)
+        (each_sort (IsKnown (most_in folder) Names held) Hs
+        (known_from (most_in folder) Names held 0 [] Names refl refl)));
+  }
+
+  pub side_rises : StreamsRise side.heads.now
+  side_rises = subst StreamsRise (sym heads_are) (heads_rise Hs)
+
+  module _ (well : AllGoWell b.ends Hs) where
+    ordered : (s : Stream) → chunks_of_stream s (map F (in_head_order Hs))
+        ≡ chunks_of_stream s (chunks_in_files (most_in folder) held Names)
+    ordered s =
+        chunks_of_heads s F (in_head_order Hs) (λ h. refl)
+        ∙ (ap (map F) (order_keeps s b.ends (most_in folder) held Names (well s))
+        ∙ (sym (chunks_of_heads s F Hs (λ h. refl))
+        ∙ ap (chunks_of_stream s) (chunks_from (most_in folder) Names held 0 [] Names refl refl)))
+
+    stream_bytes : (s : Stream) → bytes_of side held s ≡ archived folder b held s
+    stream_bytes s =
+        ap (λ ns. values_in s ns held side.heads.now) names_are
+        ∙ (ap (values_in s Names held) heads_are
+        ∙ (values_of s Names held (in_head_order Hs) ∙ ap values (ordered s)))
+
+    -- and so are the digests
+    pub digests_same : (ends : List EndStruct)
+        → map {A = EndStruct} {B = List ℕ} (λ e. digest_of side held (end_view e).stream) ends
+        ≡ map (λ (e : End). sha256 (archived folder b held e.stream)) (map end_view ends)
+    digests_same [] = refl
+    digests_same (e ∷ ends) =
+        ap₂ (λ (x : List ℕ) (l : List (List ℕ)). x ∷ l)
+        (ap sha256 (stream_bytes (end_view e).stream)) (digests_same ends)

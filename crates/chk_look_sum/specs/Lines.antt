@@ -1,0 +1,32 @@
+-- The line of a stream and its digest, and those of all.
+use Rattle.std.specs.Prelude.{ℕ, List, [], ◌∷◌, ◌++◌, codes, decimal}
+use Rattle.chk_bytes.specs.Words.{joined_at}
+use Rattle.chk_world.specs.Books.{End}
+use Rattle.hex.specs.Hex.{encode_lower}
+
+-- the words of a line
+abbrev pub sum_words : List ℕ → List ℕ → List ℕ → ℕ → ℕ → List ℕ → List (List ℕ)
+sum_words source kind name start end digits =
+    codes "stream" ∷ source ∷ kind ∷ name ∷ codes "start" ∷ decimal start ∷ codes "end"
+    ∷ decimal end ∷ codes "sha256" ∷ digits ∷ []
+
+-- the words that name the stream, in front of the offsets
+abbrev pub named : List ℕ → List ℕ → List ℕ → List ℕ
+named source kind name =
+    codes "stream " ++ (source ++ (codes " " ++ (kind ++ (codes " " ++ name))))
+
+-- words with a space between each two, and a newline
+abbrev pub line_of : List (List ℕ) → List ℕ
+line_of words = joined_at 32 words ++ 10 ∷ []
+
+-- the line of a stream
+abbrev pub sum_line : End → List ℕ → List ℕ
+sum_line e digest =
+    line_of (sum_words e.stream.source e.stream.kind e.stream.name e.start e.end
+    (encode_lower digest))
+
+-- the line of each stream and the digest at its place
+abbrev pub sum_lines : List End → List (List ℕ) → List (List ℕ)
+sum_lines [] digests = []
+sum_lines (e ∷ ends) [] = []
+sum_lines (e ∷ ends) (d ∷ digests) = sum_line e d ∷ sum_lines ends digests

@@ -1,0 +1,12 @@
+//! The SHA-256 of the archive of each stream, as a folder's book names it, and its lines.
+#![tactic(auto)]
+
+mod digests;
+mod lines;
+mod names;
+mod summing;
+mod sums;
+
+pub use digests::Digests;
+pub use lines::print_sums;
+pub use sums::{Sums, sum};

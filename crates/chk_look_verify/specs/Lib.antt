@@ -1,0 +1,2 @@
+-- Whether a folder is as it has to be.
+pub mod Verifying

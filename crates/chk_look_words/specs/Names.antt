@@ -1,0 +1,17 @@
+-- Which texts are names of stores, and numbers.
+use Rattle.std.specs.Prelude.{ℕ, ◌-◌, ◌^◌, Bool, nat_lt, nat_le, List, length, if◌then◌else◌}
+use Rattle.std.specs.Prelude.{Option, Some, None, option_and_then}
+use Rattle.chk_bytes.specs.Numbers.{number_in_digits}
+
+-- the path of a folder
+abbrev pub is_store : List ℕ → Bool
+is_store text = nat_lt 0 (length text)
+
+-- a number of 1 to 19 digits that is at most so large
+abbrev pub number_in : ℕ → List ℕ → Option ℕ
+number_in most text = option_and_then (λ n. if nat_le n most then Some n else None)
+    (number_in_digits text)
+
+-- the most that an offset may be
+abbrev pub most : ℕ
+most = 2 ^ 63 - 1

@@ -1,0 +1,72 @@
+//! What words ask for.
+
+use crate::usage::Usage;
+use chk_bytes::NoMemory;
+use std::alloc::AllocError;
+
+/// What a look is asked for. The texts are borrowed from the words.
+#[derive(Clone, Copy, Debug)]
+pub enum Command<'a> {
+    /// What a store has of a stream.
+    Cat(CatWords<'a>),
+    /// A line for each stream of the store in this folder.
+    Streams(&'a str),
+    /// Whether the files of the store in this folder are what they have to be.
+    Verify(&'a str),
+    /// The folder of the store.
+    Sum(&'a str),
+    /// How this command is used.
+    Help(Usage),
+    /// Which version the program is.
+    Version,
+}
+
+/// The words of `cat`.
+#[derive(Clone, Copy, Debug)]
+pub struct CatWords<'a> {
+    /// The first offset that is wanted.
+    pub begin: u64,
+    /// It looks again, every 5,000 ms.
+    pub follow: bool,
+    /// The records, and not the archived bytes.
+    pub records: bool,
+    /// The folder of the store.
+    pub store: &'a str,
+    /// The source of the stream, a word.
+    pub source: &'a str,
+    /// Its type, a word.
+    pub kind: &'a str,
+    /// Its name, a word: as a rule the path of its log.
+    pub name: &'a str,
+}
+
+/// Why there is no command.
+#[derive(Clone, Copy, Debug, PartialEq, Eq)]
+pub enum WordsFault {
+    /// The words aren't a command.
+    Usage,
+    /// There was no memory to read them.
+    NoMemory,
+}
+
+impl From<NoMemory> for WordsFault {
+    ghost use Rattle.std.specs.Prelude.{◌≡◌};
+    ghost use Rattle.chk_look_words.specs.declared.commands.WordsFault.TheVariants.{NoMemory as no_memory};
+
+    ghost from_gives = { λ _ fault. fault ≡ no_memory };
+
+    fn from(_: NoMemory) -> Self {
+        WordsFault::NoMemory
+    }
+}
+
+impl From<AllocError> for WordsFault {
+    ghost use Rattle.std.specs.Prelude.{◌≡◌};
+    ghost use Rattle.chk_look_words.specs.declared.commands.WordsFault.TheVariants.{NoMemory as no_memory};
+
+    ghost from_gives = { λ _ fault. fault ≡ no_memory };
+
+    fn from(_: AllocError) -> Self {
+        WordsFault::NoMemory
+    }
+}

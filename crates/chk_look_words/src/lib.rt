@@ -1,0 +1,12 @@
+//! The words of `chukwactl`.
+#![tactic(auto)]
+
+mod commands;
+mod names;
+mod options;
+mod reading;
+mod usage;
+
+pub use commands::{CatWords, Command, WordsFault};
+pub use reading::read_words;
+pub use usage::{Usage, usage_of};

@@ -1,0 +1,86 @@
+//! How commands are used.
+
+ghost use Rattle.std.specs.Prelude.{◌≡◌, map};
+ghost use Rattle.chk_look_words.specs.Usages.{usage_of, usage_named, usage_text, option_names};
+ghost use Rattle.chk_look_words.specs.Usages.{flag_names};
+
+static CAT: [&str; 1] = ["begin"];
+
+static CAT_FLAGS: [&str; 3] = ["follow", "records", "help"];
+
+static FLAGS: [&str; 1] = ["help"];
+
+static NONE: [&str; 0] = [];
+
+/// Which command the first word names.
+#[derive(Clone, Copy, Debug, PartialEq, Eq)]
+pub enum Usage {
+    /// None of them.
+    Commands,
+    /// `cat`.
+    Cat,
+    /// `streams`.
+    Streams,
+    /// `verify`.
+    Verify,
+    Sum,
+}
+
+impl Usage {
+    /// The line that tells how the words should have been, with its newline.
+    pub fn text(self) -> &'static str
+        ensures { result.now ≡ usage_text self }
+    {
+        match self {
+            Usage::Commands => "usage: chukwactl cat|streams|verify|sum [--help], or --version\n",
+            Usage::Cat => {
+                "usage: chukwactl cat [--begin N] [--follow] [--records] STORE SOURCE TYPE NAME\n"
+            }
+            Usage::Streams => "usage: chukwactl streams STORE\n",
+            Usage::Verify => "usage: chukwactl verify STORE\n",
+            Usage::Sum => "usage: chukwactl sum STORE\n",
+        }
+    }
+
+    /// The names of its options that take a value, without the hyphens.
+    pub(crate) fn options<'a>(self) -> &'a [&'a str]
+        ensures { map (λ name. name.now) result.now ≡ option_names self }
+    {
+        match self {
+            Usage::Cat => CAT.as_slice(),
+            _ => NONE.as_slice(),
+        }
+    }
+
+    /// The names of its options that take none.
+    pub(crate) fn flags<'a>(self) -> &'a [&'a str]
+        ensures { map (λ name. name.now) result.now ≡ flag_names self }
+    {
+        match self {
+            Usage::Cat => CAT_FLAGS.as_slice(),
+            _ => FLAGS.as_slice(),
+        }
+    }
+}
+
+/// The command that the first of these words names.
+pub fn usage_of(words: &[&str]) -> Usage
+    ensures { result ≡ usage_of (map (λ w. w.now) words.now) }
+{
+    match words {
+        [first, ..] => usage_named(first),
+        [] => Usage::Commands,
+    }
+}
+
+fn usage_named(first: &str) -> Usage
+    ensures { result ≡ usage_named first.now }
+{
+    match first {
+        "cat" => Usage::Cat,
+        "streams" => Usage::Streams,
+        "verify" => Usage::Verify,
+        "sum" => Usage::Sum,
+        _ => Usage::Commands,
+    }
+}

@@ -1,0 +1,17 @@
+//! Tests of what looks at a store from outside, over a site in memory.
+#![tactic(auto)]
+
+#[cfg(test)]
+mod files;
+#[cfg(test)]
+mod merges;
+#[cfg(test)]
+mod parts;
+#[cfg(test)]
+mod scene;
+#[cfg(test)]
+mod streams;
+#[cfg(test)]
+mod sums;
+#[cfg(test)]
+mod words;
