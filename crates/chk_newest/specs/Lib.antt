@@ -1,0 +1,3 @@
+-- The heads of what is new in an archive.
+pub mod Backward
+pub mod Newest

@@ -1,0 +1,9 @@
+//! The heads of what is new in an archive: its segments are read from the newest one back, until
+//! for each stream the place is reached from which on its records are new. Older segments aren't
+//! read.
+#![tactic(auto)]
+
+mod backward;
+mod reading;
+
+pub use reading::newest_heads;
