@@ -1,4 +1,4 @@
-//! Tests of an agent and of its drains over a site in memory.
+//! Tests of an agent, of its drains and of its runs over a site in memory.
 #![tactic(auto)]
 
 #[cfg(test)]
@@ -9,5 +9,13 @@ mod drained;
 mod each_call;
 #[cfg(test)]
 mod programs;
+#[cfg(test)]
+mod run_calls;
+#[cfg(test)]
+mod run_programs;
+#[cfg(test)]
+mod run_scene;
+#[cfg(test)]
+mod run_writing;
 #[cfg(test)]
 mod turns;

@@ -85,6 +85,98 @@ put archive/book HEAD 9223372036854775807 #16 1 140 2 140 3 140 4 140 5 140 6 14
 run = spent 9223372036854775807
 book = next 9223372036854775807, 1 140, 2 140, 3 140, 4 140, 5 140, 6 140, 7 140, 8 140, 9 140, \
 10 140, 11 140, 12 140, 13 140, 14 140, 15 140, 16 140, h1 Log /a.log 0 32
+
+sixteen segments, and one number left
+put archive/seg.1 SEG_1 LINE 2 REST
+put archive/seg.2 SEG_1 LINE 4 REST
+put archive/seg.3 SEG_1 LINE 6 REST
+put archive/seg.4 SEG_1 LINE 8 REST
+put archive/seg.5 SEG_1 LINE 10 REST
+put archive/seg.6 SEG_1 LINE 12 REST
+put archive/seg.7 SEG_1 LINE 14 REST
+put archive/seg.8 SEG_1 LINE 16 REST
+put archive/seg.9 SEG_1 LINE 18 REST
+put archive/seg.10 SEG_1 LINE 20 REST
+put archive/seg.11 SEG_1 LINE 22 REST
+put archive/seg.12 SEG_1 LINE 24 REST
+put archive/seg.13 SEG_1 LINE 26 REST
+put archive/seg.14 SEG_1 LINE 28 REST
+put archive/seg.15 SEG_1 LINE 30 REST
+put archive/seg.16 SEG_1 LINE 32 REST
+put archive/book HEAD 9223372036854775806 #16 1 140 2 140 3 140 4 140 5 140 6 140 7 140 8 140 9 \
+140 10 140 11 140 12 140 13 140 14 140 15 140 16 140 #1 32 TEXTS
+run = unclosed 0 - taken 0 held 0 removed 0, h1 Log /a.log 0 32
+book = next 9223372036854775807, 9223372036854775806 800, h1 Log /a.log 0 32
+
+sixteen segments and a part, and one number left
+put archive/seg.1 SEG_1 LINE 2 REST
+put archive/seg.2 SEG_1 LINE 4 REST
+put archive/seg.3 SEG_1 LINE 6 REST
+put archive/seg.4 SEG_1 LINE 8 REST
+put archive/seg.5 SEG_1 LINE 10 REST
+put archive/seg.6 SEG_1 LINE 12 REST
+put archive/seg.7 SEG_1 LINE 14 REST
+put archive/seg.8 SEG_1 LINE 16 REST
+put archive/seg.9 SEG_1 LINE 18 REST
+put archive/seg.10 SEG_1 LINE 20 REST
+put archive/seg.11 SEG_1 LINE 22 REST
+put archive/seg.12 SEG_1 LINE 24 REST
+put archive/seg.13 SEG_1 LINE 26 REST
+put archive/seg.14 SEG_1 LINE 28 REST
+put archive/seg.15 SEG_1 LINE 30 REST
+put archive/seg.16 SEG_1 LINE 32 REST
+put archive/book HEAD 9223372036854775806 #16 1 140 2 140 3 140 4 140 5 140 6 140 7 140 8 140 9 \
+140 10 140 11 140 12 140 13 140 14 140 15 140 16 140 #1 32 TEXTS
+put sinks/c1.1.1.done C1_1_1 LINE 34 REST
+run = spent 9223372036854775807
+book = next 9223372036854775807, 9223372036854775806 800, h1 Log /a.log 0 32
+is sinks/c1.1.1.done C1_1_1 LINE 34 REST
+
+sixteen segments, one of which is none
+put archive/seg.1 SEG_1 LINE 2 REST
+put archive/seg.2 SEG_1 LINE 4 REST
+put archive/seg.3 SEG_1 LINE 6 REST
+put archive/seg.4 SEG_1 LINE 8 REST
+put archive/seg.5 SEG_1 LINE 10 REST
+put archive/seg.6 SEG_1 LINE 12 REST
+put archive/seg.7 SEG_1 LINE 14 REST
+put archive/seg.8 SEG_1 LINE 16 REST
+put archive/seg.9 BYTE
+put archive/seg.10 SEG_1 LINE 20 REST
+put archive/seg.11 SEG_1 LINE 22 REST
+put archive/seg.12 SEG_1 LINE 24 REST
+put archive/seg.13 SEG_1 LINE 26 REST
+put archive/seg.14 SEG_1 LINE 28 REST
+put archive/seg.15 SEG_1 LINE 30 REST
+put archive/seg.16 SEG_1 LINE 32 REST
+put archive/book HEAD 17 #16 1 140 2 140 3 140 4 140 5 140 6 140 7 140 8 140 9 \
+140 10 140 11 140 12 140 13 140 14 140 15 140 16 140 #1 32 TEXTS
+run = damaged archive/seg.9 0
+is archive/seg.9 BYTE
+is archive/seg.17
+
+sixteen segments, one of which doesn't go on from the one before it
+put archive/seg.1 SEG_1 LINE 2 REST
+put archive/seg.2 SEG_1 LINE 4 REST
+put archive/seg.3 SEG_1 LINE 6 REST
+put archive/seg.4 SEG_1 LINE 8 REST
+put archive/seg.5 SEG_1 LINE 10 REST
+put archive/seg.6 SEG_1 LINE 12 REST
+put archive/seg.7 SEG_1 LINE 14 REST
+put archive/seg.8 SEG_1 LINE 16 REST
+put archive/seg.9 SEG_1 LINE 20 REST
+put archive/seg.10 SEG_1 LINE 20 REST
+put archive/seg.11 SEG_1 LINE 22 REST
+put archive/seg.12 SEG_1 LINE 24 REST
+put archive/seg.13 SEG_1 LINE 26 REST
+put archive/seg.14 SEG_1 LINE 28 REST
+put archive/seg.15 SEG_1 LINE 30 REST
+put archive/seg.16 SEG_1 LINE 32 REST
+put archive/book HEAD 17 #16 1 140 2 140 3 140 4 140 5 140 6 140 7 140 8 140 9 \
+140 10 140 11 140 12 140 13 140 14 140 15 140 16 140 #1 32 TEXTS
+run = damaged archive/seg.9 96
+is archive/seg.9 SEG_1 LINE 20 REST
+is archive/seg.17
 ";
 
 #[test]

@@ -1,4 +1,5 @@
-//! Tests of a collector's sinks, and of what it replies, over a site in memory.
+//! Tests of a collector over a site in memory: its sinks, what it replies, its turns, and the tee: its
+//! messages and filters, its subscribers and what they are sent.
 #![tactic(auto)]
 
 #[cfg(test)]
@@ -15,3 +16,17 @@ mod sink_calls;
 mod sink_programs;
 #[cfg(test)]
 mod sinks;
+#[cfg(test)]
+mod tee_filters;
+#[cfg(test)]
+mod tee_messages;
+#[cfg(test)]
+mod tee_passing;
+#[cfg(test)]
+mod tee_subscribers;
+#[cfg(test)]
+mod turn_calls;
+#[cfg(test)]
+mod turn_scene;
+#[cfg(test)]
+mod turns;

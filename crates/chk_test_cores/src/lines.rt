@@ -30,7 +30,7 @@ fn usage_lines(rt: HostRuntime) -> Result<(), NoMemory> {
     for (usage, wanted) in [
         (
             Usage::Commands,
-            "usage: chukwa round|agent|collector|drain|archive|demux|salvage|load|udp|subscribe\n",
+            "usage: chukwa round|agent|collector|drain|archive|demux|salvage|load|udp|subscribe|join\n",
         ),
         (
             Usage::Round,
@@ -56,6 +56,7 @@ fn usage_lines(rt: HostRuntime) -> Result<(), NoMemory> {
             Usage::Subscribe,
             "usage: chukwa subscribe [--turns N] ADDRESS\n",
         ),
+        (Usage::Join, "usage: chukwa join LEFT RIGHT\n"),
     ] {
         let mut out = Bytes::new(rt.alloc());
         put_usage(&mut out, usage)?;
@@ -125,6 +126,19 @@ fn endings_by_name(rt: HostRuntime) -> Result<(), NoMemory> {
     ] {
         assert!(rt; ends(rt.alloc(), &ending, status, line)?, "{line}");
     }
+    Ok(())
+}
+
+#[test]
+fn an_ending_by_stream(rt: HostRuntime) -> Result<(), NoMemory> {
+    let differ = Ending::Differ {
+        source: word(rt.alloc(), "h1")?,
+        kind: word(rt.alloc(), "Log")?,
+        name: word(rt.alloc(), "/a.log")?,
+        at: 4,
+    };
+    let line = "differ h1 Log /a.log 4\n";
+    assert!(rt; ends(rt.alloc(), &differ, 11, line)?, "{line}");
     Ok(())
 }
 

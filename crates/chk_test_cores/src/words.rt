@@ -158,6 +158,15 @@ fn other_refusals(rt: HostRuntime) -> Result<(), NoMemory> {
         ("subscribe --turns 0 A", Usage::Subscribe),
         ("subscribe --turns 9223372036854775808 A", Usage::Subscribe),
         ("subscribe --messages 1 A", Usage::Subscribe),
+        ("join", Usage::Join),
+        ("join a", Usage::Join),
+        ("join a b c", Usage::Join),
+        ("join joined b", Usage::Join),
+        ("join a joined", Usage::Join),
+        ("join demux b", Usage::Join),
+        ("join a demux", Usage::Join),
+        ("join a\tb c", Usage::Join),
+        ("join --turns 1 a b", Usage::Join),
     ] {
         assert!(rt; is_refused(rt.alloc(), text, usage)?, "{text}");
     }
@@ -226,6 +235,10 @@ fn commands(rt: HostRuntime) -> Result<(), NoMemory> {
         (
             "subscribe --turns=01 -- -x",
             "Subscribe(SubscribeWords { turns: 1, address: \"-x\" })",
+        ),
+        (
+            "join a archive",
+            "Join(JoinWords { left: \"a\", right: \"archive\" })",
         ),
     ] {
         let found = shown(rt.alloc(), text)?;

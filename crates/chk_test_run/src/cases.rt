@@ -138,6 +138,27 @@ prefix demux h1 HadoopLog /var/log/hadoop/namenode.log
 sizes demux h1 HadoopLog /var/log/hadoop/namenode.log => 47 100
 ";
 
+// Two archives of a log, of which the right one has more of it, and a segment that no book names.
+const JOIN: &str = "\
+a join
+log /a.log hello|world|
+bytes a/seg.1 HEADER SEG_1 HELLO
+bytes a/book BOOK eight:2 four:1 eight:1 eight:144 four:1 eight:6 STREAM
+bytes b/seg.1 HEADER SEG_1 HELLO WORLD
+bytes b/book BOOK eight:2 four:1 eight:1 eight:192 four:1 eight:12 STREAM
+bytes joined/seg.17 HEADER SEG_1 HELLO
+
+join a b
+prefix joined h1 Log /a.log
+is a/seg.1 HEADER SEG_1 HELLO
+is b/seg.1 HEADER SEG_1 HELLO WORLD
+
+whole joined h1 Log /a.log
+size joined/seg.17 => none
+is a/book BOOK eight:2 four:1 eight:1 eight:144 four:1 eight:6 STREAM
+is b/book BOOK eight:2 four:1 eight:1 eight:192 four:1 eight:12 STREAM
+";
+
 // Two generated lines.
 const LOAD: &str = "\
 a load
@@ -179,6 +200,11 @@ fn each_call_over_what_was_set_aside(rt: HostRuntime) -> Result<(), Fail> {
 #[test]
 fn each_call_of_a_demux_run(rt: HostRuntime) -> Result<(), Fail> {
     each_call(rt.alloc(), DEMUX, 15)
+}
+
+#[test]
+fn each_call_of_a_join(rt: HostRuntime) -> Result<(), Fail> {
+    each_call(rt.alloc(), JOIN, 15)
 }
 
 #[test]

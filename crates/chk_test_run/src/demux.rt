@@ -108,6 +108,18 @@ run demux => 0 demux taken 6 entries 1 left 0|
 size demux/seg.9223372036854775806 => 144
 run demux => 0 demux taken 0 entries 0 left 0|
 
+one number left, and a segment twice
+bytes archive/seg.1 HEADER SEG_1 HELLO
+bytes archive/book BOOK eight:2 four:1 eight:1 eight:144 four:1 eight:6 STREAM
+bytes demux/book BOOK eight:9223372036854775806 four:0 four:0
+run demux => 0 demux taken 6 entries 1 left 0|
+bytes sinks/c1.1.1.done HEADER C1_1_1 WORLD
+run archive => 0 archive unclosed 0 taken 6 held 0 removed 1|end h1 Log /a.log 12|
+run demux => 8 spent 9223372036854775807|
+size demux/seg.9223372036854775807 => none
+is demux/book BOOK eight:9223372036854775807 four:1 eight:9223372036854775806 eight:144 \
+four:1 eight:6 STREAM
+
 no segment is needed
 bytes archive/seg.1 HEADER SEG_1 A_B
 bytes archive/book A_B_BOOK

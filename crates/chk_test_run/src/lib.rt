@@ -26,6 +26,8 @@ mod faults;
 #[cfg(test)]
 mod hostile;
 #[cfg(test)]
+mod join;
+#[cfg(test)]
 mod limits;
 #[cfg(test)]
 mod load;

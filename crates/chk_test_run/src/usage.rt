@@ -4,7 +4,7 @@ use std::test::Fail;
 
 // The usage lines; a newline stands as `|`.
 const ALL: &str =
-    "usage: chukwa round|agent|collector|drain|archive|demux|salvage|load|udp|subscribe|";
+    "usage: chukwa round|agent|collector|drain|archive|demux|salvage|load|udp|subscribe|join|";
 
 const ROUND: &str =
     "usage: chukwa round [--class CLASS] [--reads N] [--cluster NAME] SOURCE TYPE LOG...|";
@@ -27,6 +27,8 @@ const SALVAGE: &str = "usage: chukwa salvage FILE|";
 const LOAD: &str = "usage: chukwa load N|";
 
 const SUBSCRIBE: &str = "usage: chukwa subscribe [--turns N] ADDRESS|";
+
+const JOIN: &str = "usage: chukwa join LEFT RIGHT|";
 
 // The first row has no words.
 const OTHERS: &str = "\nnothing\nrounds\n--turns\n";
@@ -83,6 +85,8 @@ subscribe --turns 9223372036854775808 A
 subscribe --rotate 1 A
 ";
 
+const JOINS: &str = "join\njoin a\njoin a b c\njoin joined b\njoin a demux\njoin --turns 1 a b\n";
+
 const LOADS: &str = "load\nload 0\nload 200001\nload 1 2\n";
 
 #[test]
@@ -96,5 +100,6 @@ fn usage(rt: HostRuntime) -> Result<(), Fail> {
     refuses_each(rt.alloc(), DEMUXES, DEMUX)?;
     refuses_each(rt.alloc(), SALVAGES, SALVAGE)?;
     refuses_each(rt.alloc(), LOADS, LOAD)?;
-    refuses_each(rt.alloc(), SUBSCRIBES, SUBSCRIBE)
+    refuses_each(rt.alloc(), SUBSCRIBES, SUBSCRIBE)?;
+    refuses_each(rt.alloc(), JOINS, JOIN)
 }
