@@ -85,7 +85,7 @@ decimal_lacks_dot n small =
     let n_small : n < 2 ^ 63 = small in
     digits_lack_dot (decimal n) (digits_decimal all_digits n (omega arith))
 
-decimal_value : (n : ℕ) → n < limit → digits_value 10 (decimal n) ≡ n
+pub decimal_value : (n : ℕ) → n < limit → digits_value 10 (decimal n) ≡ n
 decimal_value n small = let n_small : n < 2 ^ 63 =
     small in digits_value-decimal all_digits n (omega arith)
 

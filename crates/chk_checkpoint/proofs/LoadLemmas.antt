@@ -27,7 +27,7 @@ use Rattle.chk_world.specs.Names.{Name, CheckFile, read, spell, owns, is_source}
 use Rattle.chk_world.specs.Checkpoints.{Line, Two, fits_version, are_lines, lines_in}
 use Rattle.std.specs.List.{list_all}
 use Rattle.std.specs.Prelude.{IfOk}
-use Rattle.chk_world.proofs.SpelledLemmas.{checkpoint_so}
+use Rattle.chk_world.proofs.SpelledLemmas.{checkpoint_so, all_fit_two as all_fit}
 use Rattle.chk_checkpoint.proofs.SeenLemmas.{lines_parts, lines_from}
 use Rattle.chk_world.specs.Committed.{OnFile}
 use Rattle.chk_world.specs.Laws.{IsCheckpointFile}
@@ -49,10 +49,7 @@ use Rattle.std.specs.Prelude.{true}
 use Rattle.chk_checkpoint.specs.Lines.{lines_of}
 use Rattle.chk_checkpoint.specs.Damage.{IsReading}
 use Rattle.chk_checkpoint.specs.Loads.{IsReadingOf, IsSound, LoadedLines}
-
-all_fit : (lines : List Line) → list_all (fits_version Two) lines ≡ true
-all_fit [] = refl
-all_fit (l ∷ lines) = all_fit lines
+use Rattle.chk_world.proofs.LogEnds.{legal_modelled as all_modelled}
 
 -- lines that were read may be written
 pub may_be_written : (text : List ℕ) (r : Result Checkpoint CheckFault) → IsReading text r → IfOk r (λ check. IsTrue (are_lines Two (lines_of check)))
@@ -146,10 +143,6 @@ same_cause (site_failed call) before now cause = cause
 same_cause no_memory before now cause = cause
 
 -- ---- over legal histories
-
-all_modelled : (stamped : List (List ℕ)) (history : History) → Legal stamped history → AllModelled history
-all_modelled stamped [] legal = tt
-all_modelled stamped (step ∷ history) legal = (all_modelled stamped history legal.0, legal.1.honest.modelled)
 
 own_looks : (me : Who) (name : List ℕ) (added history : History) → Every (IsLook me name) added history → Owns (IsBy me) added history
 own_looks me name [] history looks = tt

@@ -109,7 +109,7 @@ pub record IsTextThere (at : ℕ) (bytes : List ℕ) : Type 0 where
   pub word : IsTrue (is_word (text_at at bytes))
   pub within : behind_text at bytes ≤ length bytes
 
-text_length : (at : ℕ) (bytes : List ℕ) → behind_text at bytes ≤ length bytes → length (text_at at bytes) ≡ spelled_at at 2 bytes
+pub text_length : (at : ℕ) (bytes : List ℕ) → behind_text at bytes ≤ length bytes → length (text_at at bytes) ≡ spelled_at at 2 bytes
 text_length at bytes within =
     length-take-le (spelled_at at 2 bytes) (drop (at + 2) bytes) (let n = length-drop (at + 2) bytes in omega arith)
 

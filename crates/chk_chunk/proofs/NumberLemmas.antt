@@ -5,7 +5,7 @@ use Rattle.chk_bytes.specs.Laws.{AreBytes}
 use Rattle.chk_bytes.specs.Numbers.{be16, be32, be64, spelled_at}
 use Rattle.chk_bytes.proofs.NumberLemmas.{be16-spelled, be32-spelled, be64-spelled}
 
-AreBytes-drop : (n : ℕ) (bytes : List ℕ) → AreBytes bytes → AreBytes (drop n bytes)
+pub AreBytes-drop : (n : ℕ) (bytes : List ℕ) → AreBytes bytes → AreBytes (drop n bytes)
 AreBytes-drop n bytes are i = rw get_or-drop (are (n + i))
 
 pub AreBytes-take : (n : ℕ) (bytes : List ℕ) → AreBytes bytes → AreBytes (take n bytes)

@@ -204,7 +204,7 @@ pub record IsReadChunk (at : ℕ) (body : List ℕ) (c : Chunk) (rest : List ℕ
   pub follows : drop (behind_chunk at body) body ≡ rest
   pub size : behind_chunk at body + length rest ≡ length body
 
-chunk_by : (k l : Key) (v w : List ℕ) → k ≡ l → v ≡ w → Path Chunk record { key = k; value = v } record { key = l; value = w }
+pub chunk_by : (k l : Key) (v w : List ℕ) → k ≡ l → v ≡ w → Path Chunk record { key = k; value = v } record { key = l; value = w }
 chunk_by k l v w h i = cc
 
 pub read_chunk : (at : ℕ) (body : List ℕ) (c : Chunk) (key rest : List ℕ) → IsTrue (is_chunk c) → IsKey c.key key

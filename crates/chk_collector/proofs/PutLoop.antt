@@ -55,7 +55,7 @@ pub record PutSoFar (old now : Option History) (before count : ℕ) (first s : S
 same_self : (s : State) → IsSameStart s s
 same_self s = record { collector = refl; born = refl; rotate = refl; number = omega arith }
 
-same_then : (a b c : State) → IsSameStart a b → IsSameStart b c → IsSameStart a c
+pub same_then : (a b c : State) → IsSameStart a b → IsSameStart b c → IsSameStart a c
 same_then a b c x y = record {
   collector = y.collector ∙ x.collector;
   born = y.born ∙ x.born;

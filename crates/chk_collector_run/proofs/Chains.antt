@@ -15,7 +15,8 @@ use Rattle.chk_collector.specs.Replies.{MayHaveRisen}
 use Rattle.chk_tees.specs.declared.Subscriber.{Subscriber}
 use Rattle.chk_collector_run.specs.Legality.{IsSettled, TurnEnds, ChainEnds, Finds, TurnCause}
 use Rattle.chk_collector_run.specs.Turns.{IsCollectorTurn, IsCutTurn, AreCollectorTurns, over, turn, AreTurned}
-use Rattle.chk_collector_run.proofs.Counts.{same_start, start_then, not_risen, risen_then, turn_after, last_then}
+use Rattle.chk_collector_run.proofs.Counts.{same_start, not_risen, risen_then, turn_after, last_then}
+use Rattle.chk_collector.proofs.PutLoop.{same_then as start_then}
 use Rattle.chk_collector_run.proofs.Takings.{finds_then}
 use Rattle.chk_collector_run.proofs.Turning.{same_process}
 

@@ -22,14 +22,6 @@ use Rattle.chk_collector_run.specs.Legality.{TurnCause}
 pub same_start : (s : State) → IsSameStart s s
 same_start s = record { collector = refl; born = refl; rotate = refl; number = omega arith }
 
-pub start_then : (a b c : State) → IsSameStart a b → IsSameStart b c → IsSameStart a c
-start_then a b c x y = record {
-  collector = y.collector ∙ x.collector;
-  born = y.born ∙ x.born;
-  rotate = y.rotate ∙ x.rotate;
-  number = omega (arith, x.number, y.number);
-}
-
 -- ---- counts
 
 pub not_risen : (n : ℕ) → MayHaveRisen n n

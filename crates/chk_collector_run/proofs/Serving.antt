@@ -22,7 +22,8 @@ use Rattle.chk_collector.specs.Replies.{MayHaveRisen}
 use Rattle.chk_tees.specs.declared.Subscriber.{Subscriber}
 use Rattle.chk_collector_run.specs.Legality.{HasTaken}
 use Rattle.chk_collector_run.specs.Messages.{EndsBy, IsAnswered, wait_behind, IsTakenUpTo, enough, none, one, untaken, unanswered}
-use Rattle.chk_collector_run.proofs.Counts.{same_start, start_then, not_risen, risen_then, ended_so, last_then}
+use Rattle.chk_collector_run.proofs.Counts.{same_start, not_risen, risen_then, ended_so, last_then}
+use Rattle.chk_collector.proofs.PutLoop.{same_then as start_then}
 use Rattle.chk_collector_run.proofs.Talking.{took, untook}
 use Rattle.chk_collector_run.proofs.Turning.{same_process}
 

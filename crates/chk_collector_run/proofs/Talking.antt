@@ -43,6 +43,7 @@ use Rattle.chk_collector.specs.Answering.{Taken, MayAnswer, Answered}
 use Rattle.chk_collector.proofs.AnswerStays.{may_answer_stays}
 use Rattle.chk_collector_run.specs.Messages.{IsReadOn, whole, came, over, broken, unread, unkept}
 use Rattle.chk_collector_run.specs.Legality.{HasTaken}
+use Rattle.chk_sink.proofs.Questions.{goes_tail}
 
 -- ---- what such a step leaves
 
@@ -62,13 +63,6 @@ talks_none (Answers t bytes) name talks = refl
 talks_none AsksClock name talks = refl
 talks_none (Sends n address bytes) name talks = refl
 talks_none call name talks = absurd talks
-
-goes_tail : (answer : ActAnswer) (name : List ℕ) → GoesOn answer → tail_in answer name ≡ None
-goes_tail (Done words number of) name goes = refl
-goes_tail (Refused fault) name goes = refl
-goes_tail (Stopped left) name goes = absurd goes
-goes_tail (Rotated suffix) name goes = refl
-goes_tail (Deleted suffix) name goes = refl
 
 -- what is seen of the sinks is the same
 record SameSinks (v w : View) : Type 0 where

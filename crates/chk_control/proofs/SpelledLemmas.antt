@@ -100,7 +100,7 @@ adaptor_read : (name : Option (List ℕ)) (class : Class) (kind path : List ℕ)
 adaptor_read name class kind path offset a =
     rw (all_good name class kind path offset a, class_of_bare class, offset_of-decimal offset a.offset_is) refl
 
-false_from_not : (b : Bool) → not b ≡ true → b ≡ false
+pub false_from_not : (b : Bool) → not b ≡ true → b ≡ false
 false_from_not true h = absurd (cc)
 false_from_not false h = refl
 

@@ -11,7 +11,8 @@ use Rattle.chk_world.specs.Agents.{AreFor}
 use Rattle.chk_delivery.specs.declared.answers.Below.{Below}
 use Rattle.chk_delivery.specs.Turns.{length_of, below_row, first_below, first_named}
 use Rattle.chk_delivery.proofs.LengthStates.{kept_less}
-use Rattle.chk_delivery.proofs.Lengths.{stem_is, stem_self}
+use Rattle.chk_delivery.proofs.Lengths.{stem_self}
+use Rattle.chk_world.proofs.NameTests.{stem_same as stem_is}
 
 stem_sym : (x y : Stem) → same_stem x y ≡ same_stem y x
 stem_sym x y = go (same_stem x y) refl (same_stem y x) refl

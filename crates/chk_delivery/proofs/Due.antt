@@ -28,7 +28,7 @@ due_where now s waits is = ap (λ b. b && is_long_ago now s) (sym (is ∙ some_w
 
 -- ---- a beginning
 
-set_index : (xs : List ℕ) (i j x : ℕ) → (j ≡ i → ⊥) → slice_index (slice_set xs i x) j ≡ slice_index xs j
+pub set_index : (xs : List ℕ) (i j x : ℕ) → (j ≡ i → ⊥) → slice_index (slice_set xs i x) j ≡ slice_index xs j
 set_index [] i j x other = refl
 set_index (y ∷ xs) zero zero x other = absurd (other refl)
 set_index (y ∷ xs) zero (suc j) x other = refl

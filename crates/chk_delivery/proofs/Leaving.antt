@@ -36,7 +36,7 @@ owners_below last (i ∷ owners) (c ∷ chunks) many turn = (
 )
 
 -- the last ends of the others stay
-length-last_back : (gone committed : List ℕ) (i : ℕ) (last : List ℕ)
+pub length-last_back : (gone committed : List ℕ) (i : ℕ) (last : List ℕ)
     → length (last_back gone committed i last) ≡ length last
 length-last_back gone committed i [] = refl
 length-last_back gone committed i (o ∷ last) = ap suc (length-last_back gone committed (suc i) last)

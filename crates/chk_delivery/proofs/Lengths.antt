@@ -4,7 +4,7 @@ use Rattle.std.proofs.Common.{Bool, true, false, not, true≢false, eq-eqb}
 use Rattle.chk_bytes.specs.Stems.{Stem, same_stem}
 use Rattle.chk_world.specs.Names.{SinkFile}
 use Rattle.chk_world.proofs.Ends.{bytes_self}
-use Rattle.chk_world.proofs.NameTests.{name_same}
+use Rattle.chk_world.proofs.NameTests.{name_same, stem_same as stem_is}
 use Rattle.chk_message.specs.Messages.{Ack, IsGoodReply, acks_text}
 use Rattle.chk_message.proofs.Accepted.{IsGoodReply-same}
 use Rattle.chk_world.specs.Agents.{AreFor}
@@ -67,13 +67,6 @@ for_end stems all i lines f last = f.on (none (drop i stems) lines (no_more stem
     none [] [] e size = tt
     none [] (k ∷ ks) e size = absurd (let z : ⊥ = omega (arith, size) in z)
     none (x ∷ xs) ks e size = absurd (cc)
-
--- equal stems are one
-pub stem_is : (x y : Stem) → same_stem x y ≡ true → x ≡ y
-stem_is x y e = names (name_same (SinkFile x) (SinkFile y) e)
-  where
-    names : SinkFile x ≡ SinkFile y → x ≡ y
-    names e = cc
 
 pub stem_self : (z : Stem) → same_stem z z ≡ true
 stem_self z = rw (bytes_self z.collector, eq-eqb z.born z.born refl, eq-eqb z.number z.number refl) refl

@@ -48,7 +48,7 @@ in_end (x ∷ xs) r row (suc k, below, at) = elim (in_end xs r row (k, omega (ar
   | inr same ↦ inr same
 ]
 
-in_drop : {X : Type 0} (n : ℕ) (xs : List X) (x : X) → Contains (drop n xs) x → Contains xs x
+pub in_drop : {X : Type 0} (n : ℕ) (xs : List X) (x : X) → Contains (drop n xs) x → Contains xs x
 in_drop zero xs x one = one
 in_drop (suc n) [] x one = one
 in_drop (suc n) (y ∷ ys) x one =

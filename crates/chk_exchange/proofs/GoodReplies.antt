@@ -22,7 +22,7 @@ use Rattle.chk_world.proofs.AppendsStand.{AllStand, Stand, appends_stand, wrote_
 use Rattle.chk_world.proofs.Commits.{below}
 use Rattle.chk_world.proofs.TakenChunks.{AllOf}
 use Rattle.chk_world.proofs.NameTests.{nat_self}
-use Rattle.chk_world.proofs.RepliesTell.{told_are}
+use Rattle.chk_world.proofs.RepliesTell.{told_are, ever_since}
 use Rattle.chk_sink.specs.States.{State, process}
 use Rattle.chk_collector.specs.Answering.{MayAnswer, Stands, taken_with}
 use Rattle.chk_collector.specs.Outcomes.{Outcome, Refused, BadPost, Lines, Fails, IsOutcomeOf, code_of, body_of}
@@ -43,19 +43,6 @@ as_many (c ∷ cs) [] ws tells = absurd tells
 as_many (c ∷ cs) (a ∷ acks) [] tells = absurd tells
 as_many (c ∷ cs) (a ∷ acks) (w ∷ ws) (inl t) = ap suc (as_many cs acks ws t.1)
 as_many (c ∷ cs) (a ∷ acks) (w ∷ ws) (inr t) = as_many (c ∷ cs) (a ∷ acks) ws t
-
--- what held since a taking held at some moment
-ever_since : (P : History → Type 0) (who : Who) (t : ℕ) (history : History)
-    → SinceTaking who t P history → Ever P history
-ever_since P who t [] h = absurd h
-ever_since P who t (step ∷ history) (inl h) = inl h
-ever_since P who t (step ∷ history) (inr h) =
-    pick (is_taking who t step) (λ h. ever_since P who t history h) h
-  where
-    pick : (b : Bool) → (SinceTaking who t P history → Ever P history)
-        → MatchBool b ⊥ (SinceTaking who t P history) → Ever P (step ∷ history)
-    pick true earlier h = absurd h
-    pick false earlier h = inr (earlier h)
 
 module _ (stamped : List (List ℕ)) (history : History) (legal : Legal stamped history) (who : Who)
     (t : ℕ) where

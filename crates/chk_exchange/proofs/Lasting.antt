@@ -17,6 +17,7 @@ use Rattle.chk_world.specs.Works.{NoneFailed}
 use Rattle.chk_exchange.specs.declared.fault.ExchangeFault.{ExchangeFault}
 use Rattle.chk_exchange.specs.declared.fault.ExchangeFault.TheVariants.{Outside, NoMemory, Damaged, Spent, Refused}
 use Rattle.chk_exchange.specs.Faults.{EndsBy, FailedNewest, FailedInside, FailsLast}
+use Rattle.chk_world.proofs.Working.{theirs_fine}
 
 -- ---- the acts of a call
 
@@ -174,11 +175,6 @@ failed_inside T call a g is_answer is_got answer got failed answers gets =
 
 abbrev Fine : History → Step → Type 0
 Fine before step = step.act.answer ≢ act_refused Failed
-
-theirs_fine : (added history : History) → Every IsTheirs added history → Owns Fine added history
-theirs_fine [] history theirs = tt
-theirs_fine (step ∷ added) history theirs =
-    (theirs_fine added history theirs.0, λ own. absurd (true≢false (sym own ∙ theirs.1.0)))
 
 call_fine : (q : Asked) (answer : ActAnswer) (added history : History) → WasDone answer
     → Calls q (Ok answer) added history

@@ -23,12 +23,7 @@ use Rattle.chk_sink.specs.declared.fault.SinkFault.{SinkFault}
 use Rattle.chk_collector.specs.Outcomes.{Outcome, Refused, BadPost, Lines, Fails, code_of, body_of, reply_of, line, sink_fault_text}
 use Rattle.chk_exchange.specs.declared.fault.ExchangeFault.{ExchangeFault}
 use Rattle.chk_exchange.specs.Faults.{IsTold, IsMade, IsUntold, IsUnread}
-
-value_bytes : (n : ℕ) → n < 2 ^ 64 → list_all is_value_byte (decimal n) ≡ true
-value_bytes n small =
-    list_all-weaker (is_between 47 58) is_value_byte
-    (λ b e. value_from_between b (is_between-wider 47 58 31 127 b (omega arith) (omega arith) e))
-    (decimal n) (decimal_between n small)
+use Rattle.chk_message.proofs.Written.{number_bytes as value_bytes}
 
 module _ (code : ℕ) (phrase body : List ℕ) (from : 100 ≤ code) (below : code < 1000)
     (is : IsTrue (is_phrase phrase))

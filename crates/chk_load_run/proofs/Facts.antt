@@ -24,7 +24,8 @@ use Rattle.chk_load_run.specs.Pieces.{AppendsFront, HasAppended, LogPiece, Write
 use Rattle.chk_load_run.specs.Processes.{chukwa}
 use Rattle.chk_load_run.proofs.Joined.{front_then, joined_then}
 use Rattle.chk_load_run.proofs.OwnCalls.{OwnCalls, appends_own, own_join, round_own, round_silent, say_own}
-use Rattle.chk_load_run.proofs.Scripts.{AreDone, AsksFront, PrintsNothing, appends_asked, appends_done, appends_last, appends_silent, call_one, made, one_act, theirs_silent, writer_join}
+use Rattle.chk_load_run.proofs.Scripts.{AreDone, AsksFront, PrintsNothing, appends_asked, appends_done, appends_last, appends_silent, call_one, made, one_act, writer_join}
+use Rattle.chk_archive.proofs.OnceListed.{theirs_none as theirs_silent}
 
 -- ---- the appends
 

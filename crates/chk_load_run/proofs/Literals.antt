@@ -19,10 +19,6 @@ pub kind_is_word : IsTrue (is_word (codes "Load"))
 unfolding is_word is_utf8 chars encode
 kind_is_word = refl
 
-pub cluster_is_word : IsTrue (is_word (codes "none"))
-unfolding is_word is_utf8 chars encode
-cluster_is_word = refl
-
 pub path_is_word : (log : ℕ) → log < 3 → IsTrue (is_word (load_log log))
 unfolding is_word is_utf8 chars encode digits
 path_is_word zero low = refl

@@ -15,6 +15,7 @@ use Rattle.chk_site.proofs.Runs.{adds_as, adds_none, adds_then, ran}
 use Rattle.chk_replace.proofs.CallSteps.{script_last}
 use Rattle.chk_load_run.specs.Pieces.{AppendsInTurn, all_appended, unappended, appended_on, ended, appending, LogPiece, of_writer, asked_piece, done_piece, done_print}
 use Rattle.chk_load_run.specs.Processes.{chukwa}
+use Rattle.chk_archive.proofs.OnceListed.{own_join as acts_then, theirs_none as theirs_silent}
 
 -- ---- joining
 
@@ -42,10 +43,6 @@ appends_last script = script_last (appends_made script)
 
 abbrev pub made : Asked → ActAnswer → Act
 made q answer = record { who = q.who; call = q.call; words = q.words; number = q.number; max = q.max; answer = answer }
-
-pub theirs_silent : (added history : History) → Every IsTheirs added history → own_acts added ≡ []
-theirs_silent [] history theirs = refl
-theirs_silent (step ∷ added) history theirs = rw theirs.1.0 (theirs_silent added history theirs.0)
 
 pub one_act : (q : Asked) (answer : ActAnswer) (added history : History) → Acted q answer added history
     → own_acts added ≡ made q answer ∷ []
@@ -75,16 +72,6 @@ call_one q how given added history calls = by (is_stopped history) refl
     by false e = added_one q how given added history (calls.running e)
 
 -- ---- what the writer's acts have
-
--- the acts of two stretches, the second one being the newer
-pub acts_then : (b a : History) → own_acts (b ++ a) ≡ own_acts b ++ own_acts a
-acts_then [] a = refl
-acts_then (step ∷ b) a = go step.own refl (acts_then b a)
-  where
-    go : (own : Bool) → step.own ≡ own → own_acts (b ++ a) ≡ own_acts b ++ own_acts a
-        → own_acts (step ∷ (b ++ a)) ≡ own_acts (step ∷ b) ++ own_acts a
-    go true e rest = rw e (ap (λ (acts : List Act). step.act ∷ acts) rest)
-    go false e rest = rw e rest
 
 module _ {X : Type 0} (part : Deed → ActAnswer → List X) where
   writer_then : (b a : List Act) → of_writer part (b ++ a) ≡ of_writer part a ++ of_writer part b

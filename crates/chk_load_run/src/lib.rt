@@ -9,3 +9,4 @@ mod words;
 
 pub use ends::{LoadEnd, LoadReport};
 pub use running::run_load;
+pub use words::writer;

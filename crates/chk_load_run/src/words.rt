@@ -15,7 +15,7 @@ use std::alloc::Global;
 const READS: u64 = 1_000_000;
 
 /// The process that appends the lines and prints the summary.
-pub(crate) fn writer(alloc: Global) -> Result<Who, NoMemory>
+pub fn writer(alloc: Global) -> Result<Who, NoMemory>
     ensures { IfOk result (λ who. who ≡ chukwa) }
 {
     Ok(Who {

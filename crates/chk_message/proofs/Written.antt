@@ -22,7 +22,7 @@ use Rattle.chk_message.proofs.WrittenHeads.{post_head_valid, post_head_lengths, 
 value_bytes : (address : List ℕ) → IsTrue (is_word address) → list_all is_value_byte address ≡ true
 value_bytes address to = list_all-weaker _ is_value_byte value_from_word address (word_facts address to).word_bytes
 
-number_bytes : (n : ℕ) → n < 2 ^ 64 → list_all is_value_byte (decimal n) ≡ true
+pub number_bytes : (n : ℕ) → n < 2 ^ 64 → list_all is_value_byte (decimal n) ≡ true
 number_bytes n small =
     list_all-weaker (is_between 47 58) is_value_byte
     (λ b e. value_from_between b (is_between-wider 47 58 31 127 b (omega arith) (omega arith) e)) (decimal n) (decimal_between n small)

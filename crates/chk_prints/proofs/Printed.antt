@@ -59,7 +59,7 @@ printed_then (act ∷ b) a =
 pub prints_join : (b a : History) → printed (own_acts (b ++ a)) ≡ printed (own_acts a) ++ printed (own_acts b)
 prints_join b a = ap printed (acts_then b a) ∙ printed_then (own_acts b) (own_acts a)
 
-theirs_silent : (added history : History) → Every IsTheirs added history → own_acts added ≡ []
+pub theirs_silent : (added history : History) → Every IsTheirs added history → own_acts added ≡ []
 theirs_silent [] history theirs = refl
 theirs_silent (step ∷ added) history theirs = rw theirs.1.0 (theirs_silent added history theirs.0)
 

@@ -14,11 +14,7 @@ use Rattle.chk_rotate.specs.Marks.{forgotten, kept_to, newest_at}
 use Rattle.chk_rotate.specs.Readers.{Reader, stepped}
 use Rattle.chk_world.specs.Checkpoints.{is_after_text}
 use Rattle.chk_reading.specs.Fields.{AreNamed}
-
--- what holds of both holds of either
-either : {X : Type 0} (P : X → Type 0) (b : Bool) {x y : X} → P x → P y → P (if b then x else y)
-either P true p q = p
-either P false p q = q
+use Rattle.chk_rotate.proofs.MarkLemmas.{either}
 
 pub named_forgotten : (o : ℕ) (marks : List Spot) → AreNamed marks → AreNamed (forgotten o marks)
 named_forgotten o [] named = tt

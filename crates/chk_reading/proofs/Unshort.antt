@@ -29,7 +29,7 @@ use Rattle.chk_world.specs.Standing.{Stands}
 use Rattle.chk_world.specs.Streams.{IsTruePlace}
 use Rattle.chk_world.specs.Reading.{IsPlacePast, part_for, ReadsOn}
 use Rattle.chk_world.specs.Knowing.{agent, Both, Grows, Knows, Told}
-use Rattle.chk_world.proofs.AgentDoes.{IsReaderOf}
+use Rattle.chk_world.proofs.AgentDoes.{IsReaderOf, may_read_at}
 use Rattle.chk_world.proofs.AgentKnows.{agent_took}
 use Rattle.chk_world.proofs.CheckpointsMove.{found}
 use Rattle.chk_world.proofs.Ends.{bytes_same}
@@ -58,16 +58,6 @@ none_refused (Refused NoMemory) at max g within is agrees = is
 none_refused (Refused Missing) at max g within is agrees = agrees
 none_refused (Refused Exists) at max g within is agrees = agrees
 none_refused _ at max g within is agrees = is
-
-may_read_at : (history : History) (s : Stream) (l line : Line) → IsTruePlace history s l
-    → (plain : Bool) → IsPlacePast (if plain then TheBase else Past l.after) l line
-    → IsAtOrPast history s (if plain then TheBase else Past l.after) (l.offset - l.first) line
-may_read_at history s l line place true h = h
-may_read_at history s l line place false h =
-    let first = place.first in
-    let on = place.on in
-    let past = h.2 in
-    (h.0, h.1, omega (arith, first, on, past))
 
 module _ (stamped : List (List ℕ)) (source : List ℕ) (named : IsTrue (is_source source))
     (cluster : List ℕ) (lines : List Line) (F : History → Type 0)

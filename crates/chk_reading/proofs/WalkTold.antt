@@ -36,6 +36,7 @@ use Rattle.chk_tail.specs.Walks.{Decides, Walks, decided, walked, unkept}
 use Rattle.chk_reading.specs.Facts.{GaveChunk, IsLong}
 use Rattle.chk_reading.proofs.Unshort.{short_told}
 use Rattle.chk_reading.proofs.WalkFacts.{at_spot, MarksAre, WalkFacts}
+use Rattle.chk_control.proofs.SpelledLemmas.{false_from_not as not_true}
 
 -- ---- what a read adds grows
 
@@ -61,10 +62,6 @@ gained_grows stamped source known s of l count (Some piece) history step legal n
     after_read_grows stamped source known s of l piece (count piece) history step legal no_start h
 
 -- ---- the reader behind a generation
-
-not_true : (b : Bool) → not b ≡ true → b ≡ false
-not_true true e = absurd (true≢false (sym e))
-not_true false e = refl
 
 or_true : (b : Bool) → (b || true) ≡ true
 or_true true = refl

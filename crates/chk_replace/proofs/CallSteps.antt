@@ -14,6 +14,8 @@ use Rattle.chk_site.specs.Site.{Adds, Asked, own_step, answered, plain, Acted, A
 use Rattle.chk_site.specs.Runs.{MadeInTurn, finished, unbegun, went_on, ended}
 use Rattle.chk_site.proofs.Runs.{adds_then, adds_as, adds_none, every_join}
 use Rattle.chk_site.proofs.Leads.{theirs_run}
+use Rattle.chk_site.proofs.LastCalls.{ends_in_both, last_of_both as last_then, failed_last}
+use Rattle.chk_site.proofs.LastCalls.{ended_last as ends_last}
 
 -- P holds of each step of others
 abbrev pub OfOthers : (History → Step → Type 0) → Type 0
@@ -76,45 +78,6 @@ script_each P others own (went_on given is told script) =
     (λ a b history p q. every_join P b a history p q)
 script_each P others own (ended given ends told) =
     adds_as (Every P) told (λ a history calls. call_each P (answered plain given) others own.0 calls)
-
-ends_in_both : (call : Call) (b a : History) → EndsIn call b → EndsIn call (b ++ a)
-ends_in_both call [] a ends = absurd ends
-ends_in_both call (step ∷ b) a ends = ends
-
--- the last step of the second stretch is the last one of both
-pub last_then : {T : Type 0} (result : Result T OutsideFault) (b a history : History)
-    → LastFailed result b (a ++ history) → LastFailed result (b ++ a) history
-last_then (Ok value) b a history last = tt
-last_then (Err (Outside call)) b a history last =
-    λ running. ends_in_both call b a (last (subst (λ (h : History). is_stopped h ≡ false) (append_assoc b a history) running))
-last_then (Err no_memory) b a history last = tt
-
--- a call that failed ends in its failure, where it wasn't stopped
-failed_last : (T : Type 0) {q : Asked} {added history : History} → Calls q (Err Failed) added history
-    → LastFailed {T = T} (Err (Outside q.call)) added history
-failed_last T {q = q} {added = added} {history = history} calls =
-    let L : History → Type 0 = λ a. is_stopped (a ++ history) ≡ false → EndsIn q.call a in
-    let by : (b : Bool) → is_stopped history ≡ b → L added =
-    λ b. elim b as (λ b. is_stopped history ≡ b → L added) [
-      | true ↦ λ e. subst L (sym (calls.stopped e).0) (λ running. absurd (let x : is_stopped history ≡ false = running in cc))
-      | false ↦ λ e. elim (calls.running e) [
-        | inl acted ↦ subst L (sym acted.added_is) (λ running. (refl, refl, refl))
-        | inr stopped ↦ subst L (sym stopped.1.added_is) (λ running. absurd (let x : true ≡ false = running in cc))
-      ]
-    ] in
-    by (is_stopped history) refl
-
--- the last step of a call that ended the work
-pub ends_last : (T : Type 0) {V : Type 0} {q : Asked} (how : V → ActAnswer) (given : Result V CallFault) (fault : OutsideFault) {added history : History}
-    → Ends q.call given fault → Calls q (answered how given) added history → LastFailed {T = T} (Err fault) added history
-ends_last T how (Ok value) fault ends calls = absurd ends
-ends_last T how (Err Failed) fault {added = added} {history = history} ends calls =
-    subst (λ (f : OutsideFault). LastFailed {T = T} (Err f) added history) (sym ends) (failed_last T calls)
-ends_last T how (Err NoMemory) fault {added = added} {history = history} ends calls =
-    subst (λ (f : OutsideFault). LastFailed {T = T} (Err f) added history) (sym ends) tt
-ends_last T how (Err Missing) fault ends calls = absurd ends
-ends_last T how (Err Exists) fault ends calls = absurd ends
-ends_last T how (Err (Short size)) fault ends calls = absurd ends
 
 -- the last step of a script
 pub script_last : {qs : List Asked} {result : Result (Unit {0}) OutsideFault} {old new : Option History}

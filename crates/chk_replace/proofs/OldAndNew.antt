@@ -27,10 +27,10 @@ use Rattle.chk_replace.proofs.CallSteps.{OfEach, script_each}
 abbrev call_of : Asked → Deed
 call_of q = deed_by q.call q.words q.number q.max
 
-same_name : (name : List ℕ) → bytes_eq name name ≡ true
+pub same_name : (name : List ℕ) → bytes_eq name name ≡ true
 same_name name = (bytes_eq-Decides name name).1 refl
 
-other_name : (a b : List ℕ) → a ≢ b → bytes_eq a b ≡ false
+pub other_name : (a b : List ℕ) → a ≢ b → bytes_eq a b ≡ false
 other_name a b apart = false_from_ne_true (bytes_eq a b) (λ e. apart ((bytes_eq-Decides a b).0 e))
 
 -- the next content has another name
@@ -164,7 +164,7 @@ next_call name bytes earlier U W q out makes rest script =
 not_there : (file : Option File) (f : File) → file ≡ None → file ≡ Some f → ⊥
 not_there file f none some = cc
 
-not_absent : (file : Option File) → IsSome file → file ≡ None → ⊥
+pub not_absent : (file : Option File) → IsSome file → file ≡ None → ⊥
 not_absent file some none = absurd (false≢true (subst (λ (o : Option File). IsSome o) none some))
 
 -- the next content is removed, where it is there

@@ -21,7 +21,8 @@ use Rattle.chk_site.proofs.Leads.{Keeps, Shows, acted_leads, leads_then, leads_n
 use Rattle.chk_site.proofs.Stays.{unnamed_stays}
 use Rattle.chk_replace.specs.Replace.{LeavesFile}
 use Rattle.chk_replace.specs.Load.{asks_at, IsRead, IsLook, Has, HasPiece, IsGone, Loaded, bytes_of, IsFront, HasFront}
-use Rattle.chk_replace.proofs.CallSteps.{call_each, last_then}
+use Rattle.chk_replace.proofs.CallSteps.{call_each}
+use Rattle.chk_site.proofs.LastCalls.{last_of_both as last_then}
 
 -- a read of the file at this place
 abbrev pub read_at : Who → List ℕ → ℕ → Asked
@@ -122,12 +123,12 @@ piece_gone who name at told =
     adds_as (IsGone name (Ok None)) told (λ added history calls. gone_acted who name at (ran (Err Missing) (λ e. cc) calls))
 
 -- nothing was read yet
-front_none : (file : Option File) → IsFront [] file
+pub front_none : (file : Option File) → IsFront [] file
 front_none None = refl
 front_none (Some file) = (file.bytes, refl)
 
 -- one piece more
-front_more : (bytes piece : List ℕ) (at : ℕ) (file : Option File) → at ≡ length bytes
+pub front_more : (bytes piece : List ℕ) (at : ℕ) (file : Option File) → at ≡ length bytes
     → Some piece ≡ option_map (λ bytes. take (asks_at at) (drop at bytes)) (bytes_of file) → IsFront bytes file → IsFront (bytes ++ piece) file
 front_more bytes piece at None here given front = cc
 front_more bytes piece at (Some file) here given front =
@@ -142,7 +143,7 @@ front_more bytes piece at (Some file) here given front =
     )
 
 -- an empty piece stands at the end
-front_whole : (bytes piece : List ℕ) (at : ℕ) (file : Option File) → at ≡ length bytes → length piece ≡ 0 → IsSmallFile file
+pub front_whole : (bytes piece : List ℕ) (at : ℕ) (file : Option File) → at ≡ length bytes → length piece ≡ 0 → IsSmallFile file
     → Some piece ≡ option_map (λ bytes. take (asks_at at) (drop at bytes)) (bytes_of file) → IsFront bytes file
     → Some bytes ≡ bytes_of file
 front_whole bytes piece at None here empty small given front = cc
@@ -157,7 +158,7 @@ front_whole bytes piece at (Some file) here empty small given front =
     let none : rest ≡ [] = nil_from_length rest (omega arith) in
     ap (λ bytes. Some bytes) (sym (front.1 ∙ ap (λ t. bytes ++ t) none ∙ append-nil bytes))
 
-none_whole : (n at : ℕ) (file : Option File) → None ≡ option_map (λ bytes. take n (drop at bytes)) (bytes_of file) → None ≡ bytes_of file
+pub none_whole : (n at : ℕ) (file : Option File) → None ≡ option_map (λ bytes. take n (drop at bytes)) (bytes_of file) → None ≡ bytes_of file
 none_whole n at None given = refl
 none_whole n at (Some file) given = cc
 

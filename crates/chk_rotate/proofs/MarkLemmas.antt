@@ -106,7 +106,7 @@ forgotten_rest (m ∷ n ∷ marks) x o rise = elim (cases_lt o n.first) [
 ]
 
 -- what holds of both holds of either
-either : {X : Type 0} (P : X → Type 0) (b : Bool) {x y : X} → P x → P y → P (if b then x else y)
+pub either : {X : Type 0} (P : X → Type 0) (b : Bool) {x y : X} → P x → P y → P (if b then x else y)
 either P true p q = p
 either P false p q = q
 

@@ -15,7 +15,7 @@ use Rattle.chk_agent.proofs.Soundness.{below_at, in_lines}
 use Rattle.chk_round.specs.Following.{HasPathAlone, KeepsLogs}
 use Rattle.chk_round.specs.Reading.{ReadsAlone, ReadsOn}
 use Rattle.chk_round.specs.Rounds.{AllSteady}
-use Rattle.chk_round.proofs.Sent.{some_at}
+use Rattle.chk_drain.proofs.DrainingAll.{some_at}
 
 -- ---- no two adaptors are of one stream
 

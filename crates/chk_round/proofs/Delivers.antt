@@ -27,7 +27,7 @@ use Rattle.chk_agent.specs.Settles.{IsSettled}
 use Rattle.chk_agent.specs.Settles as settle
 use Rattle.chk_agent.specs.States.{State as Agents, process as agent_of}
 use Rattle.chk_agent.proofs.SettlingSound.{settled_at}
-use Rattle.chk_drain.proofs.Settled.{all_committed, settled_delivered, settled_ready, settled_source}
+use Rattle.chk_drain.proofs.Settled.{all_committed, settled_delivered, settled_ready, settled_source, none_gone}
 use Rattle.chk_round.specs.Delivering.{Delivered, ReadAsFar}
 use Rattle.chk_round.specs.Faults.{of_agent}
 use Rattle.chk_round.specs.Following.{KeepsLogs}
@@ -47,10 +47,6 @@ pub rows_gone : (d : Delivery) → 1 ≤ d.table.room → d.table.room ≤ free_
 rows_gone d some free = none_left d.table.rows (omega (arith, some, free))
 
 -- ---- none goes back
-
-none_gone : (i n : ℕ) → numbers_of [] i n ≡ []
-none_gone i zero = refl
-none_gone i (suc n) = none_gone (suc i) n
 
 gone_none : (now : ℕ) (s : Agents) → s.delivery.table.rows ≡ [] → settle.gone_at now s ≡ []
 gone_none now s none =

@@ -26,7 +26,7 @@ use Rattle.chk_agent.proofs.AddingPast.{set_size}
 use Rattle.chk_agent.proofs.Soundness.{in_lines, line_in}
 use Rattle.chk_agent.proofs.SteppingSound.{set_at}
 use Rattle.chk_drain.specs.Parts.{AdaptorsBut}
-use Rattle.chk_drain.proofs.Steps.{step_leaves}
+use Rattle.chk_drain.proofs.Steps.{step_leaves, put_there}
 use Rattle.chk_round.specs.Adding.{AddsLogs}
 use Rattle.chk_round.specs.Adding as adding
 use Rattle.chk_round.specs.Following.{Follows, HasLiveLine, HasNoRoom, IsFollowed, IsFullWithout, KeepsLogs}
@@ -115,12 +115,6 @@ keeps_but n a b but live kind path = (
         h.none n m.0 m.1 (sym m.2 ∙ k) (sym m.3 ∙ p)
 
 -- ---- a step
-
-put_there : {X : Type 0} (xs : List X) (i : ℕ) (x y : X) → slice_get xs i ≡ Some x
-    → slice_get (slice_set xs i y) i ≡ Some y
-put_there [] i x y at = absurd (none-some x at)
-put_there (z ∷ xs) zero x y at = refl
-put_there (z ∷ xs) (suc i) x y at = put_there xs i x y at
 
 live_after : {i : ℕ} {a : Adaptor} {s t : State} {given : Stepped} {old new : Option History}
     → IsOneStepped i a s (Ok given) t old new → ((had size : ℕ) → given ≢ Shrank had size)

@@ -20,7 +20,7 @@ use Rattle.chk_world.specs.Names.{Name, BornFile, SinkFile, MarkFile, DoneFile, 
 use Rattle.chk_world.specs.Places.{Foreign, touched_by_stop}
 use Rattle.chk_world.specs.Rules.{Framed, Legal, is_fixed}
 use Rattle.chk_world.specs.Together.{IsByOne, Outside}
-use Rattle.chk_world.proofs.Beside.{StaysOver, all_stay}
+use Rattle.chk_world.proofs.Beside.{StaysOver, all_stay, no_stop_touches as not_touched}
 use Rattle.chk_world.proofs.Frames.{apart, apart_removed}
 use Rattle.chk_world.proofs.Law.{holds_always}
 use Rattle.chk_world.proofs.NameTests.{same_name}
@@ -75,13 +75,6 @@ not_stopped who own (Done words number of) goes = refl
 not_stopped who own (Refused fault) goes = refl
 not_stopped who own (Rotated suffix) goes = refl
 not_stopped who own (Deleted suffix) goes = refl
-
-not_touched : (who : Who) (answer : ActAnswer) → is_stop answer ≡ false → touched_by_stop who answer ≡ false
-not_touched who (Stopped left) goes = absurd (true≢false goes)
-not_touched who (Done words number of) goes = refl
-not_touched who (Refused fault) goes = refl
-not_touched who (Rotated suffix) goes = refl
-not_touched who (Deleted suffix) goes = refl
 
 neither : (a b : Bool) → a ≡ false → b ≡ false → (a || b) ≡ false
 neither a b e f = ap (λ a. a || b) e ∙ f

@@ -15,6 +15,8 @@ use Rattle.chk_round.specs.Faults.{FailsInside, FailsLast, of_exchange}
 use Rattle.chk_round.specs.Scripts.{Anything}
 use Rattle.chk_round.specs.Reading as told
 use Rattle.chk_round.specs.Reading.{IsGrowing, IsShrank}
+use Rattle.chk_site.proofs.LastCalls.{ends_in_both as newest}
+use Rattle.chk_archive.proofs.OnceListed.{own_join}
 
 pub went_none : (now : Option History) → Adds now now Anything
 went_none now = adds_none now Anything (λ history. tt)
@@ -27,20 +29,6 @@ pub went_then : {P Q : History → History → Type 0} {old mid new : Option His
 went_then p q = adds_then Anything p q (λ a b h x y. tt)
 
 -- ---- behind other calls
-
-own_join : (b a : History) → own_acts (b ++ a) ≡ own_acts b ++ own_acts a
-own_join [] a = refl
-own_join (step ∷ b) a = go step.own (own_join b a)
-  where
-    go : (t : Bool) → own_acts (b ++ a) ≡ own_acts b ++ own_acts a
-        → (if t then step.act ∷ own_acts (b ++ a) else own_acts (b ++ a))
-        ≡ (if t then step.act ∷ own_acts b else own_acts b) ++ own_acts a
-    go true rest = ap (λ l. step.act ∷ l) rest
-    go false rest = rest
-
-newest : (call : Call) (b a : History) → EndsIn call b → EndsIn call (b ++ a)
-newest call [] a ends = absurd ends
-newest call (step ∷ b) a ends = ends
 
 failed : (call : Call) (xs ys : List Act) → FailedNewest call xs → FailedNewest call (xs ++ ys)
 failed call [] ys f = absurd f

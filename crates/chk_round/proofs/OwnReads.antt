@@ -43,7 +43,7 @@ use Rattle.chk_round.specs.Scripts as scripts
 use Rattle.chk_round.specs.Scripts.{ReadsOut}
 use Rattle.chk_round.proofs.Acts.{step_acts}
 use Rattle.chk_round.proofs.Lasting.{went_then}
-use Rattle.chk_round.proofs.Sent.{some_at}
+use Rattle.chk_drain.proofs.DrainingAll.{some_at}
 use Rattle.chk_round.proofs.Stepping.{on_same, on_then, step_on}
 
 -- ---- moments

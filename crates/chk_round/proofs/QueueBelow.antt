@@ -28,6 +28,7 @@ use Rattle.chk_agent.specs.States.{State, basis_of, lines_at}
 use Rattle.chk_agent.specs.Turns.{GetsLengths, GetsPostReply, Polls, Posts}
 use Rattle.chk_agent.proofs.Soundness.{line_there, map_at}
 use Rattle.chk_round.specs.Sending.{QueueBelow}
+use Rattle.chk_delivery.proofs.ReplyTold.{in_drop}
 
 -- ---- ends rise
 
@@ -106,13 +107,6 @@ queue_below a sound i x at c one of =
     omega (arith, begin, read, end)
 
 -- ---- posts and polls
-
-in_drop : {X : Type 0} (n : ℕ) (xs : List X) (x : X) → Contains (drop n xs) x → Contains xs x
-in_drop zero xs x one = one
-in_drop (suc n) [] x one = one
-in_drop (suc n) (y ∷ ys) x one =
-    let r = in_drop n ys x one in
-    let below = r.1 in (suc r.0, omega (arith, below), r.2)
 
 -- no chunk comes
 abbrev pub NoneCame : Delivery → Delivery → Type 0

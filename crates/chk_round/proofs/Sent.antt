@@ -23,6 +23,7 @@ use Rattle.chk_round.specs.Sending.{QueueBelow, SendsOn}
 use Rattle.chk_round.proofs.NonePast.{sends_none, sends_then}
 use Rattle.chk_round.proofs.QueueBelow.{queue_below}
 use Rattle.chk_round.proofs.SendsInside.{poll_below, poll_none_past, post_below, post_none_past}
+use Rattle.chk_drain.proofs.DrainingAll.{some_at}
 
 -- what follows at Ok
 pub on_ok : {T : Type 0} {K L : Type 0} (r : Result T RoundFault) → (K → L) → OnOk r K → OnOk r L
@@ -97,12 +98,6 @@ pub record IsOther (n : ℕ) (a : Agents) : Type 0 where
   pub adaptor : Adaptor
   pub apart : place ≢ n
   pub at : slice_get a.adaptors place ≡ Some adaptor
-
-pub some_at : {X : Type 0} (xs : List X) (i : ℕ) → i < length xs
-    → (x : X) × (slice_get xs i ≡ Some x)
-some_at [] i below = absurd (let z : ⊥ = omega (arith, below) in z)
-some_at (x ∷ xs) zero below = (x, refl)
-some_at (x ∷ xs) (suc i) below = some_at xs i (omega (arith, below))
 
 -- it is still there
 pub other_at : (n : ℕ) (a b : Agents) → AdaptorsBut n a b → (k : ℕ) (x : Adaptor) → k ≢ n

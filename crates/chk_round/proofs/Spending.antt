@@ -31,6 +31,8 @@ use Rattle.chk_round.specs.Joint.{BothAt}
 use Rattle.chk_round.specs.Spent.{LastSink, ToldSpent, Went, WhereRunning}
 use Rattle.chk_round.proofs.Digits.{same_number}
 use Rattle.chk_round.proofs.Lasting.{went, went_none}
+use Rattle.chk_exchange.proofs.Polling.{sends_outside as poll_unsent}
+use Rattle.chk_exchange.proofs.Posting.{sends_outside as post_unsent}
 
 -- ---- what an exchange tells
 
@@ -84,11 +86,6 @@ replied (script.got p bytes is call takes) = went call
 replied (script.silent p is call) = went call
 replied (script.wanting fault p is call) = went call
 
-post_unsent : {a b : Agents} {fault : ExchangeFault} {old new : Option History} → SendsPost a
-    (Err fault) b old new → IsOutside fault
-post_unsent (SendsPost.failed posts) = tt
-post_unsent (SendsPost.unsent posts) = tt
-
 post_ended : {who : Who} {s u : Sinks} {now count : ℕ} {b c : Agents} {made : Option ExchangeFault}
     {result : Result (Unit {0}) ExchangeFault} {old mid next new : Option History}
     → Went old mid → Serves who s (Ok made) u mid next → EndsPost now count b made result c next new
@@ -130,11 +127,6 @@ answered (script.nothing {at = at} is) = went_none at
 answered (script.got p bytes is call takes) = went call
 answered (script.silent p is call) = went call
 answered (script.wanting fault p is call) = went call
-
-poll_unsent : {a b : Agents} {fault : ExchangeFault} {old new : Option History} → SendsPoll a
-    (Err fault) b old new → IsOutside fault
-poll_unsent (SendsPoll.failed polls) = tt
-poll_unsent (SendsPoll.unsent polls) = tt
 
 poll_ended : {who : Who} {s u : Sinks} {count : ℕ} {b c : Agents} {made : Option ExchangeFault}
     {result : Result (Option Below) ExchangeFault} {old mid next new : Option History}

@@ -49,7 +49,8 @@ use Rattle.chk_round.proofs.Acts.{acts_none, acts_then, as_round, step_acts}
 use Rattle.chk_round.proofs.NonePast.{quiet_none_past, sends_none, sends_then}
 use Rattle.chk_round.proofs.OwnRows.{own_none, own_step, own_then}
 use Rattle.chk_round.proofs.Polls.{starts_none, starts_then}
-use Rattle.chk_round.proofs.Sent.{other_low, some_at}
+use Rattle.chk_round.proofs.Sent.{other_low}
+use Rattle.chk_drain.proofs.DrainingAll.{some_at}
 use Rattle.chk_round.proofs.Sides.{agent_acts}
 
 -- ---- ends that say nothing of the history

@@ -58,7 +58,8 @@ use Rattle.chk_round.proofs.Acts.{rest_then}
 use Rattle.chk_round.proofs.Alone.{alone_before}
 use Rattle.chk_round.proofs.OwnReads.{at_read_early, rest_reads_none}
 use Rattle.chk_round.proofs.QueueBelow.{queue_below}
-use Rattle.chk_round.proofs.Sent.{Known, Waits, adds_each, some_at}
+use Rattle.chk_round.proofs.Sent.{Known, Waits, adds_each}
+use Rattle.chk_drain.proofs.DrainingAll.{some_at}
 use Rattle.chk_round.proofs.Theirs.{found_in}
 use Rattle.chk_round.proofs.WholeRounds.{adaptor_archive, adaptor_whole, done_ran, job_ran_whole, none_read_join, read_alone, read_on}
 

@@ -19,4 +19,5 @@ mod words;
 
 pub use faults::RoundFault;
 pub use whole_round::{Rounded, round, round_within};
+pub use whos::{agent_of, job};
 pub use words::{Limits, RoundWords};

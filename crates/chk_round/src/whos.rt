@@ -39,8 +39,8 @@ fn collector_c1(alloc: Global) -> Result<Who, NoMemory>
     })
 }
 
-// The agent of this source.
-fn agent_of(source: &Word) -> Result<Who, NoMemory>
+/// The agent of this source.
+pub fn agent_of(source: &Word) -> Result<Who, NoMemory>
     ensures { IfOk result (λ who. who ≡ agent source.now) }
 {
     Ok(Who {
@@ -49,8 +49,8 @@ fn agent_of(source: &Word) -> Result<Who, NoMemory>
     })
 }
 
-// The archive job.
-fn job(alloc: Global) -> Result<Who, NoMemory>
+/// The archive job.
+pub fn job(alloc: Global) -> Result<Who, NoMemory>
     ensures { IfOk result (λ who. who ≡ job) }
 {
     Ok(Who {

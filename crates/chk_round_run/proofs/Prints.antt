@@ -29,6 +29,7 @@ use Rattle.chk_prints.specs.Printing.{PrintsInTurn, all_printed, unprinted, prin
 use Rattle.chk_prints.proofs.Printed.{prints_join, prints_run, prints_told}
 use Rattle.chk_round.specs.Processes.{IsRunOf}
 use Rattle.chk_round_run.specs.Telling.{Tells, cut, told, round_prints, stream_lines}
+use Rattle.chk_archive_run.proofs.TrueLines.{in_any_case}
 
 abbrev pub Any : History → Type 0
 Any history = Unit {0}
@@ -68,10 +69,6 @@ module _ (stamped : List (List ℕ)) (source : List ℕ) (named : IsTrue (is_sou
       (λ before answer files logs is legal d. tt) (λ history d. tt) ends said)
 
 -- ---- the job
-
-in_any_case : {T : Type 0} (b : Bool) → T → MatchBool b T (Unit {0})
-in_any_case true t = t
-in_any_case false t = tt
 
 module _ (stamped : List (List ℕ)) (r : Report) where
   pub ran_stays : Stays stamped job (RanNow r)

@@ -8,7 +8,8 @@ use Rattle.chk_site.specs.History.{History, is_stopped, since_start}
 use Rattle.chk_site.specs.Site.{Adds, LastFailed, OutsideCause}
 use Rattle.chk_site.specs.Runs.{Leads, own_acts}
 use Rattle.chk_site.proofs.Runs.{adds_as, adds_both, adds_none, adds_then}
-use Rattle.chk_replace.proofs.CallSteps.{last_then, script_last}
+use Rattle.chk_replace.proofs.CallSteps.{script_last}
+use Rattle.chk_site.proofs.LastCalls.{last_of_both as last_then}
 use Rattle.chk_world.specs.Agents.{AllOfCluster}
 use Rattle.chk_world.specs.Checkpoints.{Line}
 use Rattle.chk_world.specs.Knowing.{agent}

@@ -1,21 +1,19 @@
 //! A round, and what it prints.
 
-ghost use Rattle.std.specs.Prelude.{◌≡◌, ◌≤◌, ℕ, List, IfOk, IsTrue, MatchOption, None, Some};
+ghost use Rattle.std.specs.Prelude.{◌≡◌, ◌≤◌, ℕ, List, IsTrue, MatchOption, None, Some};
 ghost use Rattle.chk_bytes.specs.Words.{before_end};
 ghost use Rattle.chk_site.specs.declared.acts.Who.{Who as Person};
 ghost use Rattle.chk_site.specs.Site.{Adds};
-ghost use Rattle.chk_world.specs.Knowing.{agent};
 ghost use Rattle.chk_world.specs.Names.{is_source};
-ghost use Rattle.chk_world.specs.Sight.{job};
 ghost use Rattle.chk_round.specs.Processes.{IsRunOf};
 ghost use Rattle.chk_round_run.specs.Telling.{end_by, is_by_c1, is_of_c1};
 ghost use Rattle.chk_round_run.specs.Running.{EndsByCall, RunCause, RunsRound, RunsTo};
 
 use crate::ends::RoundEnd;
 use crate::telling::tell;
-use chk_bytes::{NoMemory, Stem, Word};
-use chk_round::{RoundWords, round};
-use chk_site::{Role, Site, Who};
+use chk_bytes::{Stem, Word};
+use chk_round::{RoundWords, agent_of, job, round};
+use chk_site::Site;
 use std::alloc::Global;
 
 /// Runs a round, and then prints a line for each live adaptor, as the agent, and the line of the
@@ -77,24 +75,4 @@ fn without_end<'a>(text: &'a [u8], ending: &[u8]) -> Option<&'a [u8]>
         (λ front. before_end ending.now text.now ≡ Some front.now) }
 {
     text.strip_suffix(ending)
-}
-
-// The agent of this source.
-fn agent_of(source: &Word) -> Result<Who, NoMemory>
-    ensures { IfOk result (λ who. who ≡ agent source.now) }
-{
-    Ok(Who {
-        role: Role::Agent,
-        name: source.copy()?,
-    })
-}
-
-// The archive job.
-fn job(alloc: Global) -> Result<Who, NoMemory>
-    ensures { IfOk result (λ who. who ≡ job) }
-{
-    Ok(Who {
-        role: Role::Job,
-        name: Word::from_text(alloc, "job")?,
-    })
 }

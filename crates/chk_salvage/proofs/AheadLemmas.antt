@@ -17,6 +17,7 @@ use Rattle.chk_salvage.specs.declared.pieces.Pieces.{Pieces}
 use Rattle.chk_salvage.specs.declared.fed.Ahead.{Ahead}
 use Rattle.chk_salvage.proofs.FrontLemmas.{take_further, read_so_more}
 use Rattle.chk_salvage.proofs.FeedLemmas.{read_so_longer}
+use Rattle.chk_seqfile.proofs.FoundEntries.{parted}
 
 -- four bytes from a place are those of the number that they spell, whatever follows
 four_at : (at n : ℕ) (bytes more : List ℕ) → AreBytes bytes → at + 4 ≤ length bytes → spelled_at at 4 bytes ≡ n
@@ -31,10 +32,6 @@ four_at at n bytes more are within is =
     (λ past. rw (get_or_past four i 0 (omega arith)) (omega arith))
     (cases_lt i 4)))
     ∙ ap be32 is
-
--- what stands from a place on, in two parts
-parted : (n m : ℕ) (bytes : List ℕ) → drop n bytes ≡ take m (drop n bytes) ++ drop (n + m) bytes
-parted n m bytes = sym (take-append-drop m (drop n bytes)) ∙ ap (λ x. take m (drop n bytes) ++ x) (drop-drop m n bytes)
 
 module _ (bytes : List ℕ) (k v : ℕ) (are : AreBytes bytes) (h : HasHead bytes k v) where
   -- its key

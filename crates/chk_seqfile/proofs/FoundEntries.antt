@@ -25,7 +25,7 @@ record ReadRecord (bytes key value : List ℕ) : Type 0 where
   value_is : take (r - k - 4) (drop (12 + k) bytes) ≡ value
 
 -- where another answer would have been given, the test was false
-passed : {X : Type 0} (b : Bool) (x y z : X) → cond b x y ≡ z → (x ≡ z → ⊥) → (b ≡ false) × (y ≡ z)
+pub passed : {X : Type 0} (b : Bool) (x y z : X) → cond b x y ≡ z → (x ≡ z → ⊥) → (b ≡ false) × (y ≡ z)
 passed true x y z e other = absurd (other e)
 passed false x y z e other = (refl, e)
 
@@ -33,7 +33,7 @@ held : {X : Type 0} (b : Bool) (x y z : X) → cond b x y ≡ z → (y ≡ z →
 held true x y z e other = (refl, e)
 held false x y z e other = absurd (other e)
 
-sync_no_record : (marker bytes key value : List ℕ) → sync_or_not marker bytes ≡ RecordEntry key value → ⊥
+pub sync_no_record : (marker bytes key value : List ℕ) → sync_or_not marker bytes ≡ RecordEntry key value → ⊥
 sync_no_record marker bytes key value read =
     let long = passed (ltb (length bytes) 20) _ _ _ read (λ e. cc) in
     let other = passed (bytes_eq (take 16 (drop 4 bytes)) marker) _ _ _ long.1 (λ e. cc) in
@@ -83,7 +83,7 @@ four_at at bytes are within =
     (cases_lt i 4))
 
 -- what stands from a place on, in two parts
-parted : (n m : ℕ) (bytes : List ℕ) → drop n bytes ≡ take m (drop n bytes) ++ drop (n + m) bytes
+pub parted : (n m : ℕ) (bytes : List ℕ) → drop n bytes ≡ take m (drop n bytes) ++ drop (n + m) bytes
 parted n m bytes = sym (take-append-drop m (drop n bytes)) ∙ ap (λ x. take m (drop n bytes) ++ x) (drop-drop m n bytes)
 
 -- a record that was read stands there

@@ -41,12 +41,9 @@ use Rattle.chk_sink.proofs.Holding.{changed_by, told_by, both_absent, own_sink, 
 use Rattle.chk_sink.proofs.Scripts.{StaysStopped, stopped_script}
 use Rattle.chk_sink.proofs.Tidying.{other_stem, stem_other, replacement_marks, stays_tidy}
 use Rattle.chk_sink.proofs.Appending.{current_of}
+use Rattle.chk_world.proofs.LogEnds.{legal_modelled}
 
 -- ---- lengths
-
-legal_modelled : (stamped : List (List ℕ)) (history : History) → Legal stamped history → AllModelled history
-legal_modelled stamped [] legal = tt
-legal_modelled stamped (step ∷ history) legal = (legal_modelled stamped history legal.0, legal.1.honest.modelled)
 
 -- a file of a legal history is shorter than 2^63 bytes
 short : (stamped : List (List ℕ)) (history : History) (w : List ℕ) (n : ℕ) → Legal stamped history

@@ -29,6 +29,7 @@ use Rattle.chk_world.proofs.CollectorCalls.{own_sight, collector_rule}
 use Rattle.chk_sink.specs.States.{State, Writing, process, last_stem, next_stem, one_more, counted}
 use Rattle.chk_sink.specs.Held.{Handles, Ready}
 use Rattle.chk_sink.proofs.Holding.{changed_by, WasMade, HasEnded, both_absent, handles_stays}
+use Rattle.chk_world.proofs.DoneSinks.{none_is as absent_none}
 
 -- the next sink, made and empty
 abbrev pub empty_writing : Writing
@@ -43,10 +44,6 @@ with_empty s = record {
   current = Some empty_writing;
   abandoned = s.abandoned;
 }
-
-absent_none : (o : Option File) → IsAbsent o → o ≡ None
-absent_none None h = refl
-absent_none (Some f) h = absurd h
 
 absent_number : (o : Option File) → IsAbsent o → number_in o ≡ 0
 absent_number None h = refl

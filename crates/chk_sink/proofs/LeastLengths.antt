@@ -28,11 +28,7 @@ use Rattle.chk_sink.specs.declared.fault.SinkFault.{SinkFault}
 use Rattle.chk_sink.proofs.AskedLengths.{size_there, size_missing, read_there, same_mark}
 use Rattle.chk_sink.proofs.NumberBytes.{read_whole, missing_read}
 use Rattle.chk_sink.proofs.Questions.{same_word}
-
-pub legal_front : (stamped : List (List ℕ)) (later front : History) → Legal stamped (later ++ front)
-    → Legal stamped front
-legal_front stamped [] front legal = legal
-legal_front stamped (step ∷ later) front legal = legal_front stamped later front legal.0
+use Rattle.chk_world.proofs.Rounds.{legal_front}
 
 -- ---- the fronts of some steps
 

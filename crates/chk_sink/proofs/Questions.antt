@@ -90,7 +90,7 @@ asks_gave (AsksSize w) t answer asks = refl
 asks_gave (Reads w at max) t answer asks = refl
 asks_gave call t answer asks = absurd (asks)
 
-goes_tail : (answer : ActAnswer) (name : List ℕ) → GoesOn answer → tail_in answer name ≡ None
+pub goes_tail : (answer : ActAnswer) (name : List ℕ) → GoesOn answer → tail_in answer name ≡ None
 goes_tail (Stopped left) name goes = absurd goes
 goes_tail answer name goes = refl
 

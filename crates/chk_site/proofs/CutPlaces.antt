@@ -19,7 +19,7 @@ iff_then : {A B C : Type 0} → (A ↔ B) → (B ↔ C) → A ↔ C
 iff_then p q = (λ a. q.0 (p.0 a), λ c. p.1 (q.1 c))
 
 -- one byte on
-cut_suc : (closed : Bool) (run b : ℕ) (bytes : List ℕ) (n : ℕ)
+pub cut_suc : (closed : Bool) (run b : ℕ) (bytes : List ℕ) (n : ℕ)
     → is_line_cut closed run (b ∷ bytes) (suc n) ≡ is_line_cut closed (run_behind b run) bytes n
 cut_suc closed run b bytes n =
     let first : (suc n == 0) ≡ false = ne_eqb (suc n) 0 (λ e. omega arith) in
@@ -135,7 +135,7 @@ one_chain closed bytes p k d cut line within = elim (cases_lt p (length bytes)) 
       (λ h. inl (0, omega arith), λ h. subst (λ (at : ℕ). IsTrue (is_line_cut closed 0 bytes at)) same cut)
 ]
 
-either_stays : (b x y y' : Bool) → (y ≡ true → y' ≡ true) → (if b then x else y) ≡ true → (if b then x else y') ≡ true
+pub either_stays : (b x y y' : Bool) → (y ≡ true → y' ≡ true) → (if b then x else y) ≡ true → (if b then x else y') ≡ true
 either_stays true x y y' stays h = h
 either_stays false x y y' stays h = stays h
 

@@ -11,7 +11,7 @@ use Rattle.chk_site.specs.declared.acts.ActAnswer.{ActAnswer}
 use Rattle.chk_site.specs.History.{History, is_stopped}
 use Rattle.chk_site.specs.Site.{Asked, answered, Calls, Ends, EndsIn, LastFailed}
 
-ends_in_both : (call : Call) (b a : History) → EndsIn call b → EndsIn call (b ++ a)
+pub ends_in_both : (call : Call) (b a : History) → EndsIn call b → EndsIn call (b ++ a)
 ends_in_both call [] a ends = absurd ends
 ends_in_both call (step ∷ b) a ends = ends
 
@@ -25,7 +25,7 @@ last_of_both (Err (Outside call)) b a history last = λ running.
 last_of_both (Err no_memory) b a history last = tt
 
 -- a call that failed ends in its failure, where it wasn't stopped
-failed_last : (T : Type 0) {q : Asked} {added history : History}
+pub failed_last : (T : Type 0) {q : Asked} {added history : History}
     → Calls q (Err Failed) added history
     → LastFailed {T = T} (Err (Outside q.call)) added history
 failed_last T {q = q} {added = added} {history = history} calls =

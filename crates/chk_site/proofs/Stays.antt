@@ -22,7 +22,7 @@ reaches (Gone n) name = bytes_eq name n
 reaches (Shortened n k) name = bytes_eq name n
 reaches change name = false
 
-moved_elsewhere : (file : Option File) (old new : List ℕ) (files : Files) (name : List ℕ) (a b : Bool)
+pub moved_elsewhere : (file : Option File) (old new : List ℕ) (files : Files) (name : List ℕ) (a b : Bool)
     → bytes_eq name new ≡ a → bytes_eq name old ≡ b → a || b ≡ false → moved file old new files name ≡ files name
 moved_elsewhere None old new files name a b at_new at_old out = refl
 moved_elsewhere (Some file) old new files name true b at_new at_old out = cc

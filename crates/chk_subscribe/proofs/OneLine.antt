@@ -11,32 +11,16 @@ use Rattle.chk_bytes.proofs.StemLemmas.{stem_text_plain, length-stem_text}
 use Rattle.chk_chunk.proofs.KeyLemmas.{key_facts, stream_facts}
 use Rattle.chk_chunk.proofs.PostGrammar.{value_facts}
 use Rattle.chk_world.specs.ArchiveRuns.{is_one_line}
-use Rattle.chk_prints.proofs.OneLine.{one_line, joined_lacks, number_lacks}
+use Rattle.chk_prints.proofs.OneLine.{Lack, none, next, number_lacks, words_line}
 use Rattle.chk_tee.specs.Messages.{Teed, is_teed}
 use Rattle.chk_subscribe.specs.Lines.{line_of, chunk_line, end_line}
-
--- none of these words has a newline
-data Lack : List (List ℕ) → Type 0 where
-  none : Lack []
-  next : {word : List ℕ} {words : List (List ℕ)} → IsTrue (lacks 10 word) → Lack words → Lack (word ∷ words)
-
-all_lack : {words : List (List ℕ)} → Lack words → IsTrue (list_all (lacks 10) words)
-all_lack none = refl
-all_lack (next {word = word} {words = words} one rest) = and_from (lacks 10 word) (list_all (lacks 10) words) one (all_lack rest)
-
-words_line : {words : List (List ℕ)} → Lack words → IsTrue (is_one_line (line_of words))
-words_line {words = words} all = one_line (joined_at 32 words) (joined_lacks 32 words refl (all_lack all))
+use Rattle.chk_tee.proofs.FieldLemmas.{stem_is_word as stem_word}
 
 pub end_line_one : (printed refused : ℕ) → printed < 2 ^ 64 → refused < 2 ^ 64 → IsTrue (is_one_line (end_line printed refused))
 end_line_one printed refused a b =
     let all : Lack (codes "subscribe" ∷ codes "chunks" ∷ decimal printed ∷ codes "refused" ∷ decimal refused ∷ []) =
     next refl (next refl (next (number_lacks printed a) (next refl (next (number_lacks refused b) none)))) in
     words_line all
-
-stem_word : (x : Stem) → IsTrue (is_stem x) → IsTrue (is_word (stem_text x))
-stem_word x h =
-    let size = length-stem_text x h in
-    plain_word (stem_text x) (stem_text_plain x h) size.0 (omega (arith, size.1))
 
 pub chunk_line_one : (t : Teed) → IsTrue (is_teed t) → IsTrue (is_one_line (chunk_line t))
 chunk_line_one t h =

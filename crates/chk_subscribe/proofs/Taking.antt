@@ -20,6 +20,7 @@ use Rattle.chk_world.proofs.ToldCalls.{who_self}
 use Rattle.chk_subscribe.specs.Watching.{IsReadOn}
 use Rattle.chk_subscribe.specs.Runs.{taking}
 use Rattle.chk_subscribe.specs.Taking.{taken_in, taken_by, IsTaken, AreTaken, all_chunks}
+use Rattle.chk_world.proofs.SinksKept.{ever_now}
 
 -- ---- by one call
 
@@ -135,10 +136,6 @@ ever_more : (P : History → Type 0) (added history : History) → Ever P histor
     → Ever P (added ++ history)
 ever_more P [] history e = e
 ever_more P (step ∷ added) history e = inr (ever_more P added history e)
-
-ever_now : (P : History → Type 0) (history : History) → P history → Ever P history
-ever_now P [] e = e
-ever_now P (step ∷ history) e = inl e
 
 -- a message that has come is taken, and stays so
 pub came_taken : (who : Who) (t : ℕ) (bytes : List ℕ) (items : List Teed) → IsTee items bytes

@@ -20,7 +20,8 @@ use Rattle.chk_tees.specs.Sieves.{mark_of, is_fresh, asked_for, let_through, ris
 use Rattle.chk_tees.specs.declared.sieve.Mark.{Mark}
 use Rattle.chk_tees.proofs.SieveLaws.{each_once}
 use Rattle.chk_prints.specs.Printing.{PrintsInTurn, all_printed, unprinted, printed_on, ended, printing, Print, by, print_of, printed}
-use Rattle.chk_prints.proofs.Printed.{prints_join, prints_told}
+use Rattle.chk_prints.proofs.Printed.{prints_join, prints_told, theirs_silent}
+use Rattle.chk_prints.proofs.Silent.{Silent, acted_silent as acted, silent_call, silent_then}
 use Rattle.chk_subscribe.specs.declared.Watch.{Watch}
 use Rattle.chk_subscribe.specs.Lines.{chunk_line, end_line}
 use Rattle.chk_subscribe.specs.Watching.{IsReadOn, PrintsMessage, PrintsFresh, fresh_of, marks_behind}
@@ -28,44 +29,6 @@ use Rattle.chk_subscribe.specs.Runs.{IsTurn, AreTurns, HasSubscribed, taking, un
 use Rattle.chk_subscribe.specs.Told.{places, PrintsUpTo, PrintsOnce}
 
 -- ---- calls that print nothing
-
-abbrev pub Silent : History → History → Type 0
-Silent added history = printed (own_acts added) ≡ []
-
-pub silent_then : {old mid new : Option History} → Adds old mid Silent → Adds mid new Silent → Adds old new Silent
-silent_then p q = adds_then Silent p q (λ a b history x y. prints_join b a ∙ (λ i. x i ++ y i))
-
-theirs_silent : (added history : History) → Every IsTheirs added history → own_acts added ≡ []
-theirs_silent [] history theirs = refl
-theirs_silent (step ∷ added) history theirs = rw theirs.1.0 (theirs_silent added history theirs.0)
-
--- what the call prints, by its answer
-abbrev PrintedBy : Asked → ActAnswer → List Print
-PrintedBy q answer = print_of q.who (deed_by q.call q.words q.number q.max) answer
-
-acted : (q : Asked) (answer : ActAnswer) {added history : History} → PrintedBy q answer ≡ [] → Acted q answer added history
-    → Silent added history
-acted q answer {history = history} quiet a =
-    ap (λ (k : History). printed (own_acts k)) a.added_is
-    ∙ (ap (λ (acts : List Act). printed acts ++ PrintedBy q answer) (theirs_silent a.others history a.theirs) ∙ quiet)
-
--- such a call prints nothing
-module _ (q : Asked) (quiet : (answer : ActAnswer) → PrintedBy q answer ≡ []) where
-  running : (given : Result ActAnswer CallFault) (added history : History) → Added q given added history → Silent added history
-  running (Ok answer) added history a = acted q answer (quiet answer) a
-  running (Err NoMemory) added history a = ap printed (theirs_silent added history a)
-  running (Err Failed) added history (inl a) = acted q (Refused Failed) (quiet (Refused Failed)) a
-  running (Err Failed) added history (inr a) = acted q (Stopped a.0) (quiet (Stopped a.0)) a.1
-  running (Err Missing) added history a = acted q (Refused Missing) (quiet (Refused Missing)) a
-  running (Err Exists) added history a = acted q (Refused Exists) (quiet (Refused Exists)) a
-  running (Err (Short size)) added history a = acted q (Refused (Short size)) (quiet (Refused (Short size))) a
-
-  silent_call : (given : Result ActAnswer CallFault) (added history : History) → Calls q given added history → Silent added history
-  silent_call given added history c = go (is_stopped history) refl
-    where
-      go : (b : Bool) → is_stopped history ≡ b → Silent added history
-      go true is = ap (λ (k : History). printed (own_acts k)) (c.stopped is).0
-      go false is = running given added history (c.running is)
 
 pub taken_silent : (who : Who) (door : List ℕ) (given : Result (Option Taking) CallFault) {old new : Option History}
     → Adds old new (CallsSome (λ of. taking who door) (λ of. answered (taking_given of) given)) → Adds old new Silent

@@ -16,7 +16,8 @@ use Rattle.chk_subscribe.specs.Lines.{chunk_line, end_line}
 use Rattle.chk_subscribe.specs.Watching.{PrintsMessage, PrintsFresh, fresh_of, marks_behind}
 use Rattle.chk_subscribe.specs.Runs.{IsTurn, AreTurns, HasSubscribed, unseen}
 use Rattle.chk_subscribe.specs.Told.{PrintsUpTo}
-use Rattle.chk_subscribe.proofs.Told.{Silent, silent_then, taken_silent, read_silent, upto_then, upto_none, UpTo, silently, prints_upto, fresh_join, marks_join, lines_join, fresh_rises, SeenBy}
+use Rattle.chk_prints.proofs.Silent.{Silent, silent_then}
+use Rattle.chk_subscribe.proofs.Told.{taken_silent, read_silent, upto_then, upto_none, UpTo, silently, prints_upto, fresh_join, marks_join, lines_join, fresh_rises, SeenBy}
 use Rattle.chk_subscribe.specs.Taking.{AreTaken, all_chunks}
 use Rattle.chk_subscribe.specs.Watched.{PrintsTaken}
 use Rattle.chk_subscribe.proofs.Taking.{HasCome, message_came, came_taken, taken_stay, taken_join, chunks_join}

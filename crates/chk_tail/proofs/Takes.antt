@@ -12,7 +12,7 @@ use Rattle.chk_site.specs.declared.acts.ActAnswer.TheVariants.{Done}
 use Rattle.chk_site.specs.Honest.{AtLogRead}
 use Rattle.chk_site.specs.Logs.{Shown, is_line_cut, ended}
 use Rattle.chk_site.specs.CutLaws.{NoNewline}
-use Rattle.chk_site.proofs.CutPlaces.{one_chain}
+use Rattle.chk_site.proofs.CutPlaces.{one_chain, cut_suc}
 use Rattle.chk_site.specs.CutLaws.{MayStop}
 use Rattle.chk_tail.specs.Taking.{to_last_newline, taken, TakesMost}
 use Rattle.chk_site.specs.declared.limits.TheConstants.{PIECE_BYTES}
@@ -22,13 +22,6 @@ use Rattle.chk_tail.proofs.Newlines.{last_newline}
 
 abbrev run_behind : ℕ → ℕ → ℕ
 run_behind b run = if b == 10 then 0 else if run == 131071 then 0 else run + 1
-
-cut_suc : (closed : Bool) (run b : ℕ) (bytes : List ℕ) (n : ℕ)
-    → is_line_cut closed run (b ∷ bytes) (suc n) ≡ is_line_cut closed (run_behind b run) bytes n
-cut_suc closed run b bytes n =
-    let first : (suc n == 0) ≡ false = ne_eqb (suc n) 0 (λ e. omega arith) in
-    let less : suc n - 1 ≡ n = omega arith in
-    rw (first, less) refl
 
 begin_cut : (closed : Bool) (bytes : List ℕ) → is_line_cut closed 0 bytes 0 ≡ true
 begin_cut closed [] = refl

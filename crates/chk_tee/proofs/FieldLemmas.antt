@@ -15,21 +15,17 @@ use Rattle.chk_chunk.specs.Posts.{part_at, behind_part, up_to_part}
 use Rattle.chk_chunk.specs.Faults.{key_fault}
 use Rattle.chk_chunk.specs.declared.faults.ChunkFault.{ChunkFault}
 use Rattle.chk_chunk.proofs.NumberLemmas.{AreBytes-take, be64-stands}
-use Rattle.chk_chunk.proofs.FieldLemmas.{text_spelled, read_text}
+use Rattle.chk_chunk.proofs.FieldLemmas.{text_spelled, read_text, text_length}
 use Rattle.chk_chunk.proofs.KeyLemmas.{key_facts}
 use Rattle.chk_chunk.proofs.KeyReading.{key_read, key_from_faultless, valid_from_faultless}
 use Rattle.chk_chunk.proofs.PostGrammar.{IsKeyThere, IsValueThere, key_part}
 use Rattle.chk_tee.specs.Messages.{stem_in}
 use Rattle.chk_tee.specs.Fields.{IsKeyAt}
 use Rattle.chk_tee.specs.Faults.{stem_wrong, offset_wrong, key_wrong, value_wrong, bad_part, stem_limit}
-use Rattle.chk_tee.proofs.Near.{AreBytes-drop}
+use Rattle.chk_chunk.proofs.NumberLemmas.{AreBytes-drop}
 use Rattle.chk_tee.proofs.WrongLemmas.{wrong_parts, fine_left, fine_from, wrong_if-none, wrong_if-false}
 
 -- ---- stems
-
-text_length : (at : ℕ) (bytes : List ℕ) → behind_text at bytes ≤ length bytes → length (text_at at bytes) ≡ spelled_at at 2 bytes
-text_length at bytes within =
-    length-take-le (spelled_at at 2 bytes) (drop (at + 2) bytes) (let n = length-drop (at + 2) bytes in omega arith)
 
 -- a stem stands behind its length
 pub record IsStemThere (at : ℕ) (bytes : List ℕ) : Type 0 where
@@ -89,7 +85,7 @@ pub record IsReadStem (at : ℕ) (bytes : List ℕ) (x : Stem) (rest : List ℕ)
   pub follows : drop (behind_text at bytes) bytes ≡ rest
   pub size : behind_text at bytes + length rest ≡ length bytes
 
-stem_is_word : (x : Stem) → IsTrue (is_stem x) → IsTrue (is_word (stem_text x))
+pub stem_is_word : (x : Stem) → IsTrue (is_stem x) → IsTrue (is_word (stem_text x))
 stem_is_word x valid =
     let long = length-stem_text x valid in
     plain_word (stem_text x) (stem_text_plain x valid) long.0 (omega (arith, long.1))

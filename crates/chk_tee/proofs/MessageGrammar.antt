@@ -12,7 +12,7 @@ use Rattle.chk_bytes.proofs.NumberLemmas.{spelled-be32}
 use Rattle.chk_chunk.specs.Keys.{Chunk, Key, IsKey, is_chunk, counted, text_at, behind_text, guessed_key}
 use Rattle.chk_chunk.specs.Posts.{post_part, part_at, behind_part, up_to_part, guessed_chunk}
 use Rattle.chk_chunk.proofs.NumberLemmas.{be32-stands}
-use Rattle.chk_chunk.proofs.PostGrammar.{IsChunkThere, chunk_is_valid, chunk_spelled, chunk_key_spelled, read_chunk}
+use Rattle.chk_chunk.proofs.PostGrammar.{IsChunkThere, chunk_is_valid, chunk_spelled, chunk_key_spelled, read_chunk, chunk_by}
 use Rattle.chk_tee.specs.Messages.{Teed, IsTee, AreTeeParts, tee_part, tee_mark, is_teed, tee_limit, most_teed, stem_in, chunk_at, guessed_teed, behind_teed, guessed_teeds}
 use Rattle.chk_tee.specs.Faults.{first_wrong, wrong_if, mark_wrong, offset_wrong, key_wrong, value_wrong, teed_wrong, teeds_wrong, tee_fault}
 use Rattle.chk_tee.specs.Fields.{IsStemAt, IsOffsetAt, IsKeyAt, IsValueAt, IsTeedAt}
@@ -273,9 +273,6 @@ tee_alone ts us a b h i begins =
     sym (begins.1 ∙ (ap (λ t. a ++ t) nothing ∙ append-nil a))
 
 -- ---- what the functions that read need
-
-chunk_by : (k l : Key) (v w : List ℕ) → k ≡ l → v ≡ w → Path Chunk record { key = k; value = v } record { key = l; value = w }
-chunk_by k l v w h i = cc
 
 -- the fields that were found are a chunk
 pub teed_found : (at : ℕ) (bytes : List ℕ) (x : Stem) (p n : ℕ) (key : Key) (q : ℕ) (value : List ℕ) (end : ℕ) → AreBytes bytes

@@ -10,7 +10,7 @@ use Rattle.chk_bytes.specs.Laws.{AreBytes}
 use Rattle.chk_bytes.specs.Numbers.{spelled, spelled_at}
 use Rattle.chk_bytes.specs.Words.{is_word_byte}
 use Rattle.chk_bytes.proofs.NumberLemmas.{spelled_below}
-use Rattle.chk_chunk.proofs.NumberLemmas.{AreBytes-take}
+use Rattle.chk_chunk.proofs.NumberLemmas.{AreBytes-take, AreBytes-drop}
 use Rattle.chk_chunk.specs.Keys.{text_at, behind_text, behind_stream, is_version_1}
 use Rattle.chk_chunk.specs.Faults.{first_fault, fault_if, letters_fault, text_fault, stream_fault, head_fault, rest_1_fault, rest_2_fault, key_fault}
 use Rattle.chk_chunk.specs.declared.faults.ChunkFault.{ChunkFault}
@@ -49,9 +49,6 @@ length_take_most : (n : ℕ) (xs : List ℕ) → length (take n xs) ≤ n
 length_take_most zero xs = omega arith
 length_take_most (suc n) [] = omega arith
 length_take_most (suc n) (x ∷ xs) = omega (arith, length_take_most n xs)
-
-pub AreBytes-drop : (n : ℕ) (bytes : List ℕ) → AreBytes bytes → AreBytes (drop n bytes)
-AreBytes-drop n bytes are i = rw get_or-drop (are (n + i))
 
 -- no number of two bytes is more
 pub spelled_2 : (at : ℕ) (bytes : List ℕ) → AreBytes bytes → spelled_at at 2 bytes < 65536

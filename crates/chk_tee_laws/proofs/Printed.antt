@@ -28,12 +28,9 @@ use Rattle.chk_tee_laws.proofs.Passing.{passed_rises}
 use Rattle.chk_tee_laws.proofs.Unique.{one_answer}
 use Rattle.chk_subscribe.proofs.Watched.{prints_taken}
 use Rattle.chk_subscribe.specs.Runs.{HasSubscribed}
+use Rattle.chk_tees.proofs.SieveLaws.{or_parts}
 
 -- ---- the order
-
-or_parts : (a b : Bool) → (a || b) ≡ true → (a ≡ true) ⊎ (b ≡ true)
-or_parts true b h = inl refl
-or_parts false b h = inr h
 
 above : (a b : Mark) → later a b ≡ true → IsAbove a b
 above a b h =

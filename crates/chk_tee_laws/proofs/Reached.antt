@@ -25,6 +25,7 @@ use Rattle.chk_tees.specs.Sieves.{mark_of}
 use Rattle.chk_tees.specs.declared.sieve.Mark.{Mark}
 use Rattle.chk_tee_laws.specs.Passed.{IsAbove}
 use Rattle.chk_tee_laws.proofs.Named.{IsNewest, current_is_newest}
+use Rattle.chk_world.proofs.AppendsStand.{size_is}
 
 -- so much was written to this sink of the collector
 pub record IsReached (name : List ℕ) (history : History) (m : Mark) : Type 0 where
@@ -47,10 +48,6 @@ reached_stays name history step m r = record {
         (written_by m.stem (deed step.act) step.act.answer),
   );
 }
-
-size_is : (o : Option File) (n : ℕ) → HasFile o (λ f. length f.bytes ≡ n) → size_in o ≡ n
-size_is None n h = absurd h
-size_is (Some f) n h = h
 
 module _ (stamped : List (List ℕ)) (history : History) (step : Step)
     (legal : Legal stamped (step ∷ history)) (word piece : List ℕ)

@@ -15,7 +15,7 @@ Above a b =
     ⊎ ((a.stem.born ≡ b.stem.born)
     × ((a.stem.number < b.stem.number) ⊎ ((a.stem.number ≡ b.stem.number) × (a.offset < b.offset))))
 
-or_parts : (a b : Bool) → (a || b) ≡ true → (a ≡ true) ⊎ (b ≡ true)
+pub or_parts : (a b : Bool) → (a || b) ≡ true → (a ≡ true) ⊎ (b ≡ true)
 or_parts true b h = inl refl
 or_parts false b h = inr h
 

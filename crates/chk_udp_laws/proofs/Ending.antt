@@ -23,7 +23,8 @@ use Rattle.chk_replace.specs.Replace.{whole}
 use Rattle.chk_wahead.specs.States.{last_number}
 use Rattle.chk_udp_laws.specs.Marked.{Tally, tally, took as took_of, joined, IsPart, saved_all, under_mark, closed_in}
 use Rattle.chk_udp_laws.specs.Histories.{NextTemporary, MarkTemporary}
-use Rattle.chk_udp_laws.proofs.Naming.{B, M, N, C, MT, self_name, n_b, n_m, n_c, n_mt, b_m, b_c, b_mt, m_b, m_c, c_b, c_m, c_mt, c_c, mt_m}
+use Rattle.chk_udp_laws.proofs.Naming.{B, M, N, C, MT, n_b, n_m, n_c, n_mt, b_m, b_c, b_mt, m_b, m_c, c_b, c_m, c_mt, c_c, mt_m}
+use Rattle.chk_replace.proofs.OldAndNew.{same_name as self_name}
 use Rattle.chk_udp_laws.proofs.Standing.{Stands, stands_as, unmarks, drops, cuts, marks, closes, under_is, small_spelled}
 use Rattle.chk_udp_laws.proofs.Steps.{At, at_as, at_tails, Some_at}
 use Rattle.chk_udp_laws.proofs.Parts.{joined_more}

@@ -38,9 +38,10 @@ use Rattle.chk_udp_run.proofs.Turning.{turn_same, turn_tidy}
 use Rattle.chk_udp_run.proofs.Starting.{begun}
 use Rattle.chk_udp_laws.specs.Marked.{tally, took, joined}
 use Rattle.chk_udp_laws.specs.Histories.{BufferFile, MarkFile, IsApart}
-use Rattle.chk_udp_laws.specs.Uses.{Waits}
+use Rattle.chk_udp_run.specs.Takings.{Waits}
 use Rattle.chk_udp_laws.specs.Wholes.{gave_by, gave_last, IsTidyAt, FindsTidy, TurnsFindTidy}
-use Rattle.chk_udp_laws.proofs.Naming.{B, M, self_name}
+use Rattle.chk_udp_laws.proofs.Naming.{B, M}
+use Rattle.chk_replace.proofs.OldAndNew.{same_name as self_name}
 use Rattle.chk_udp_laws.proofs.Phases.{All, Plain, S, mine, owned, view}
 use Rattle.chk_udp_laws.proofs.Ending.{mark_there}
 use Rattle.chk_udp_laws.proofs.Calls.{Holds, all_saved}

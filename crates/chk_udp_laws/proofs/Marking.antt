@@ -20,7 +20,8 @@ use Rattle.chk_replace.specs.Replace.{whole}
 use Rattle.chk_wahead.specs.States.{last_number}
 use Rattle.chk_udp_laws.specs.Marked.{Tally, tally, took, joined, IsPart, added, under_mark}
 use Rattle.chk_udp_laws.specs.Histories.{NextTemporary, MarkTemporary, ClosedFile}
-use Rattle.chk_udp_laws.proofs.Naming.{B, M, N, C, NT, self_name, n_b, n_m, b_n, b_nt, m_n, m_b, m_nt, c_n, c_b, c_nt}
+use Rattle.chk_udp_laws.proofs.Naming.{B, M, N, C, NT, n_b, n_m, b_n, b_nt, m_n, m_b, m_nt, c_n, c_b, c_nt}
+use Rattle.chk_replace.proofs.OldAndNew.{same_name as self_name}
 use Rattle.chk_udp_laws.proofs.Standing.{stands_as, grows, syncs, begins, numbers, under_past}
 use Rattle.chk_udp_laws.proofs.Steps.{At, at_as, Some_at, Leaving, leaving_some}
 use Rattle.chk_udp_laws.proofs.Parts.{joined_one}

@@ -19,9 +19,11 @@ use Rattle.chk_world.proofs.Outcomes.{leaves}
 use Rattle.chk_replace.specs.Replace.{whole}
 use Rattle.chk_udp_laws.specs.Marked.{Tally, tally, tally_by, took, given_by, joined}
 use Rattle.chk_udp_laws.specs.Histories.{OwnFile, NextTemporary, MarkTemporary, own_name}
-use Rattle.chk_udp_laws.proofs.Naming.{B, M, N, C, self_name, n_nt, n_mt, b_nt, b_mt, m_nt, m_mt, c_nt, c_mt, nt_b, mt_b}
+use Rattle.chk_udp_laws.proofs.Naming.{B, M, N, C, n_nt, n_mt, b_nt, b_mt, m_nt, m_mt, c_nt, c_mt, nt_b, mt_b}
+use Rattle.chk_replace.proofs.OldAndNew.{same_name as self_name}
 use Rattle.chk_udp_laws.proofs.Steps.{At, Untouched, Leaving, at_untouched, leaving_some}
 use Rattle.chk_udp_laws.proofs.Phases.{View, Anything, Is, present_done, done_files, mine, All, now, InPhase, all_on, keeps, view_as, tally_own, took_own, Move, Walk, rest, step_on}
+use Rattle.chk_replace.proofs.OldAndNew.{not_absent}
 
 pub done_tail : (answer : ActAnswer) (name : List ℕ) → WasDone answer → tail_in answer name ≡ None
 done_tail (Done words number of) name was = refl
@@ -29,9 +31,6 @@ done_tail (Refused fault) name was = refl
 done_tail (Stopped left) name was = absurd was
 done_tail (Rotated suffix) name was = refl
 done_tail (Deleted suffix) name was = refl
-
-not_absent : (file : Option File) → IsSome file → file ≡ None → ⊥
-not_absent file some none = absurd (false≢true (subst (λ (o : Option File). IsSome o) none some))
 
 -- a call that was refused for want of a file left all as it was
 pub stayed : (q : Asked) (before : History) (files : Files) (logs : Logs)

@@ -9,12 +9,7 @@ use Rattle.chk_bytes.proofs.DecimalLemmas.{all_digits}
 use Rattle.chk_replace.specs.Replace.{tmp}
 use Rattle.chk_wahead.specs.Names.{file_name, next_name, buffer_name, mark_name, closed_name, digits}
 use Rattle.chk_wahead.specs.States.{last_number}
-
-pub self_name : (name : List ℕ) → bytes_eq name name ≡ true
-self_name name = (bytes_eq-Decides name name).1 refl
-
-other_name : (a b : List ℕ) → a ≢ b → bytes_eq a b ≡ false
-other_name a b apart = false_from_ne_true (bytes_eq a b) (λ e. apart ((bytes_eq-Decides a b).0 e))
+use Rattle.chk_replace.proofs.OldAndNew.{other_name}
 
 -- files of one writer with two endings are two
 apart : (n a b : List ℕ) → bytes_eq a b ≡ false → bytes_eq (file_name n a) (file_name n b) ≡ false

@@ -19,7 +19,8 @@ use Rattle.chk_site.proofs.Stays.{unnamed_stays}
 use Rattle.chk_wahead.specs.Names.{writer}
 use Rattle.chk_udp_laws.specs.Marked.{Tally, tally, tally_by, took, given_by, joined, IsPart}
 use Rattle.chk_udp_laws.specs.Histories.{OwnFile, NextFile, NextTemporary, BufferFile, MarkFile, ClosedFile, own_name, IsApart, LeavesFiles}
-use Rattle.chk_udp_laws.proofs.Naming.{B, M, self_name}
+use Rattle.chk_udp_laws.proofs.Naming.{B, M}
+use Rattle.chk_replace.proofs.OldAndNew.{same_name as self_name}
 use Rattle.chk_udp_laws.proofs.Steps.{At, Some_at, Untouched, at_untouched}
 
 -- what is known of the buffer, its mark, what is saved and what was taken

@@ -7,19 +7,11 @@ use Rattle.chk_site.specs.Files.{File, Files, Grown, IsSettled, changed, moved}
 use Rattle.chk_site.specs.Acts.{Deed, Creates, Appends, Syncs, Renames, Removes, Cuts, deed, change_of, touches, tail_of, is_done}
 use Rattle.chk_site.specs.Effect.{UnsyncedTails, in_work, with_tail}
 use Rattle.chk_site.specs.History.{Step, History, Modelled, files_after}
-use Rattle.chk_site.proofs.Stays.{settled_stays, tails_of_settled}
+use Rattle.chk_site.proofs.Stays.{settled_stays, tails_of_settled, moved_elsewhere as moved_else}
 use Rattle.chk_wahead.specs.States.{last_number}
 use Rattle.chk_world.proofs.Outcomes.{CameTo, whole as came_whole, nothing as came_nothing, junk as came_junk, Leaves, went_on, was_stopped, leaves}
 use Rattle.chk_udp_laws.proofs.Standing.{Stands, Numbered, MarkFits, with_tails, stands_as}
 use Rattle.chk_udp_laws.proofs.Naming.{N, B, M, C}
-
-moved_else : (file : Option File) (old new : List ℕ) (files : Files) (name : List ℕ) (a b : Bool)
-    → bytes_eq name new ≡ a → bytes_eq name old ≡ b → a || b ≡ false
-    → moved file old new files name ≡ files name
-moved_else None old new files name a b at_new at_old out = refl
-moved_else (Some file) old new files name true b at_new at_old out = cc
-moved_else (Some file) old new files name false true at_new at_old out = cc
-moved_else (Some file) old new files name false false at_new at_old out = rw (at_new, at_old) refl
 
 whole_else : (call : Deed) (before : Files) (name : List ℕ) → touches call name ≡ false
     → changed (change_of call) before name ≡ before name

@@ -14,13 +14,7 @@ use Rattle.chk_wahead.specs.Names.{writer}
 use Rattle.chk_wahead.specs.Scripts.{Did, Puts, commit_of, close_of}
 use Rattle.chk_wahead.specs.States.{State, all_marked}
 use Rattle.chk_wahead.specs.Telling.{Starts}
-
--- the taking waited so long at the door, and this was given
-abbrev pub Waits : Who → List ℕ → ℕ → Result (Option Taking) CallFault → Option History
-    → Option History → Type 0
-Waits who door wait given old new =
-    Adds old new (CallsSome (λ of. asked who Take (door ∷ []) wait 0)
-    (λ of. answered (taking_given of) given))
+use Rattle.chk_udp_run.specs.Takings.{Waits}
 
 -- From these buffers on: datagrams are taken and put, what was put is committed, buffers are
 -- closed, and lines are printed, in

@@ -11,7 +11,9 @@ use Rattle.chk_site.specs.History.{History}
 use Rattle.chk_site.specs.Site.{Adds, Asked, LastFailed}
 use Rattle.chk_site.specs.Runs.{MadeInTurn}
 use Rattle.chk_site.proofs.Runs.{adds_then, adds_as, adds_none}
-use Rattle.chk_replace.proofs.CallSteps.{script_last, ends_last, last_then}
+use Rattle.chk_replace.proofs.CallSteps.{script_last}
+use Rattle.chk_site.proofs.LastCalls.{ended_last as ends_last}
+use Rattle.chk_site.proofs.LastCalls.{last_of_both as last_then}
 use Rattle.chk_wahead.specs.declared.fault.WaheadFault.{WaheadFault}
 use Rattle.chk_wahead.specs.declared.fault.WaheadFault.TheVariants.{Outside, Damaged, Spent, NoMemory}
 use Rattle.chk_wahead.specs.declared.found.Found.{Found}

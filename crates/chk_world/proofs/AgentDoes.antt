@@ -56,7 +56,7 @@ start_is stamped history legal s known k there l h =
     ap start_at h.founded ∙ (b.start ∙ ap (λ (l : Line). l.start) (same_Some b.line k (sym b.there ∙ there)))
 
 -- a read at a place at or past the line is at or past it, where the place is a true one
-may_read_at : (history : History) (s : Stream) (l line : Line) → IsTruePlace history s l
+pub may_read_at : (history : History) (s : Stream) (l line : Line) → IsTruePlace history s l
     → (plain : Bool)
     → IsPlacePast (if plain then TheBase else Past l.after) l line
     → IsAtOrPast history s (if plain then TheBase else Past l.after) (l.offset - l.first) line

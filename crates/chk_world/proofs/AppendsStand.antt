@@ -84,7 +84,7 @@ small_size : (o : Option File) → IsSmallFile o → size_in o < limit
 small_size None h = omega arith
 small_size (Some f) h = h
 
-size_is : (o : Option File) (n : ℕ) → HasFile o (λ f. length f.bytes ≡ n) → size_in o ≡ n
+pub size_is : (o : Option File) (n : ℕ) → HasFile o (λ f. length f.bytes ≡ n) → size_in o ≡ n
 size_is None n h = absurd h
 size_is (Some f) n h = h
 

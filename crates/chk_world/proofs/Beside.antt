@@ -116,7 +116,7 @@ stay_always keeps = record {
   ours = λ history step is legal own h. keeps history step legal h;
 }
 
-no_stop_touches : (who : Who) (answer : ActAnswer) → is_stop answer ≡ false
+pub no_stop_touches : (who : Who) (answer : ActAnswer) → is_stop answer ≡ false
     → touched_by_stop who answer ≡ false
 no_stop_touches who (Stopped left) goes = absurd (true≢false goes)
 no_stop_touches who (Done words number of) goes = refl

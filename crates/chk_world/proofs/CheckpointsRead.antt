@@ -23,6 +23,7 @@ use Rattle.chk_chunk.specs.Keys.{start_limit}
 use Rattle.chk_message.proofs.Apart.{no_mark}
 use Rattle.chk_world.specs.Checkpoints.{Line, Version, One, Two, after_text, version_text, start_words, line_words, line_text, checkpoint_text, is_after_text, is_line, are_apart, fits_version, are_lines, guessed_after, guessed_start, guessed_line, guessed_lines, guessed_version, behind_first, read_checkpoint}
 use Rattle.chk_world.proofs.Ends.{bytes_same}
+use Rattle.chk_bytes.proofs.StemLemmas.{decimal_value as number_back}
 
 -- texts joined by a separator that none of them has are parted there again
 pub parts_back : (c : ℕ) (word : List ℕ) (words : List (List ℕ)) → IsTrue (lacks c word) → list_all (lacks c) words ≡ true
@@ -158,9 +159,6 @@ class_back : (class : Class) → unwrap_or (class_named (class_name class)) Plai
 class_back Plain = refl
 class_back Rotating = refl
 class_back Lines = refl
-
-number_back : (n : ℕ) → n < limit → digits_value 10 (decimal n) ≡ n
-number_back n small = let s : n < 2 ^ 63 = small in digits_value-decimal all_digits n (omega arith)
 
 pub after_back : (after : Option (List ℕ)) → IsTrue (is_after_text after) → guessed_after (after_text after) ≡ after
 after_back None h = refl

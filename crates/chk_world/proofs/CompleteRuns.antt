@@ -156,7 +156,7 @@ count_none {X = X} p xs x none one passes = go xs one.0 none one.1 one.2
     go (y ∷ xs) zero none below at = let e : p y ≡ true = ap p at ∙ passes in let one = ap {B = ℕ} (λ b. cond b 1 0) e in let more = sum_by-cons (λ x. cond (p x) 1 0) y xs in omega (arith, one, more, none)
     go (y ∷ xs) (suc k) none below at = let more = sum_by-cons (λ x. cond (p x) 1 0) y xs in go xs k (omega (arith, none, more)) (omega arith) at
 
-flat_in : {X Y : Type 0} (f : X → List Y) (xs : List X) (x : X) (y : Y) → Contains xs x → Contains (f x) y → Contains (flat_map f xs) y
+pub flat_in : {X Y : Type 0} (f : X → List Y) (xs : List X) (x : X) (y : Y) → Contains xs x → Contains (f x) y → Contains (flat_map f xs) y
 flat_in {X = X} {Y = Y} f xs x y one in_it = go xs one.0 one.1 one.2
   where
     go : (xs : List X) (k : ℕ) → k < length xs → slice_index_or xs k x ≡ x → Contains (flat_map f xs) y

@@ -9,17 +9,13 @@ use Rattle.chk_site.specs.Files.{Files}
 use Rattle.chk_site.specs.Logs.{Generation, Log, log_dropped, log_turned, is_line_cut, is_cut_place, last_cut}
 use Rattle.chk_site.specs.CutLaws.{IsLastCut}
 use Rattle.chk_site.specs.History.{Step, History, files_after, logs_after}
-use Rattle.chk_site.proofs.CutPlaces.{cut_stays, last_is}
+use Rattle.chk_site.proofs.CutPlaces.{cut_stays, last_is, either_stays}
 use Rattle.chk_chunk.specs.Keys.{Stream}
 use Rattle.chk_world.specs.Names.{is_source}
 use Rattle.chk_world.specs.Checkpoints.{line_of}
 use Rattle.chk_world.specs.Streams.{Founding, founding, founded_by, or_else, start_at, start_of, chosen, Parts, parts_since, parts_of, bytes_of, log_of, is_stream_cut, whole_log, whole_end}
 use Rattle.chk_world.specs.Rules.{Legal, IsRotatable}
 use Rattle.chk_world.proofs.LogsGrow.{LogTurn, as_it_was, grew, was_turned, was_dropped, rotated_since, chosen_more, chosen_marked, turn_of, class_turns, is_founded}
-
-either_stays : (b x y y' : Bool) → (y ≡ true → y' ≡ true) → (if b then x else y) ≡ true → (if b then x else y') ≡ true
-either_stays true x y y' stays h = h
-either_stays false x y y' stays h = stays h
 
 -- ---- cut places of a list of generations
 

@@ -25,7 +25,7 @@ use Rattle.chk_world.proofs.Ends.{bytes_same}
 use Rattle.chk_world.proofs.OwnSteps.{known_stem}
 use Rattle.chk_world.proofs.Law.{holds_always}
 
-none_is : (o : Option File) → IsAbsent o → o ≡ None
+pub none_is : (o : Option File) → IsAbsent o → o ≡ None
 none_is None a = refl
 none_is (Some f) a = absurd a
 

@@ -273,7 +273,7 @@ lift_reads stamped P Q S A B lasts spares raw own =
 
 -- ---- writes of one segment that no book names
 
-no_write_starts : (w : List ℕ) → WritesTo w Starts → ⊥
+pub no_write_starts : (w : List ℕ) → WritesTo w Starts → ⊥
 no_write_starts w h = elim h [ ]
 
 -- what the job knows, with this for one of its files

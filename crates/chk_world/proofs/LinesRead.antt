@@ -31,6 +31,7 @@ use Rattle.chk_world.proofs.CutsStay.{cut_on}
 use Rattle.chk_world.proofs.LinesStand.{text_lt_trans, Alike, marked_alike}
 use Rattle.chk_world.proofs.LinesShow.{shows_later}
 use Rattle.chk_world.proofs.LinesTrue.{lines_stand}
+use Rattle.chk_site.proofs.CutPlaces.{cut_suc}
 
 -- ---- the suffixes rise
 
@@ -230,14 +231,6 @@ run_behind b run = if b == 10 then 0 else if run == 131071 then 0 else run + 1
 
 pub run_small : (b run : ℕ) → run < 131072 → run_behind b run < 131072
 run_small b run small = grind (arith, nat_tests)
-
--- whether a reader may stop one byte on
-pub cut_suc : (closed : Bool) (run b : ℕ) (bytes : List ℕ) (n : ℕ)
-    → is_line_cut closed run (b ∷ bytes) (suc n) ≡ is_line_cut closed (run_behind b run) bytes n
-cut_suc closed run b bytes n =
-    let first : (suc n == 0) ≡ false = ne_eqb (suc n) 0 (λ e. omega arith) in
-    let less : suc n - 1 ≡ n = omega arith in
-    rw (first, less) refl
 
 line_end : (run : ℕ) (bytes : List ℕ) → run < 131072
     → is_line_cut true run bytes (length bytes) ≡ true

@@ -27,7 +27,8 @@ use Rattle.chk_world.proofs.CutsStay.{cut_is_whole, whole_is, whole_length}
 use Rattle.chk_world.proofs.CheckpointsMove.{found}
 use Rattle.chk_world.proofs.LogsGrow.{is_founded}
 use Rattle.chk_world.proofs.Segments.{all_in}
-use Rattle.chk_world.proofs.LinesRead.{Known, Head, ahead, head_of, may_stop, run_behind, cut_suc, line_begin, next_is, cut_at, from_place, known, shown_head, stop_to, lines_are, base_is, rotated_is}
+use Rattle.chk_world.proofs.LinesRead.{Known, Head, ahead, head_of, may_stop, run_behind, line_begin, next_is, cut_at, from_place, known, shown_head, stop_to, lines_are, base_is, rotated_is}
+use Rattle.chk_site.proofs.CutPlaces.{cut_suc}
 
 -- ---- a place at which to stop within 131,072 bytes
 
@@ -234,7 +235,7 @@ module _ (start : ℕ) (p : Parts) (l : Line) (max : ℕ) (piece : List ℕ)
 
 -- ---- so it is of a read in a legal history
 
-legal_modelled : (stamped : List (List ℕ)) (history : History) → Legal stamped history
+pub legal_modelled : (stamped : List (List ℕ)) (history : History) → Legal stamped history
     → AllModelled history
 legal_modelled stamped [] legal = tt
 legal_modelled stamped (step ∷ history) legal = (legal_modelled stamped history legal.0, legal.1.honest.modelled)

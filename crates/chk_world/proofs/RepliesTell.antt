@@ -131,7 +131,7 @@ told_stand history (d ∷ cs) (b ∷ acks) (w ∷ ws) are (inl t) all c a (inl l
 -- ---- an answer to a poll
 
 -- what held since a taking held at some moment
-ever_since : (P : History → Type 0) (who : Who) (t : ℕ) (history : History) → SinceTaking who t P history → Ever P history
+pub ever_since : (P : History → Type 0) (who : Who) (t : ℕ) (history : History) → SinceTaking who t P history → Ever P history
 ever_since P who t [] h = absurd h
 ever_since P who t (step ∷ history) (inl h) = inl h
 ever_since P who t (step ∷ history) (inr h) = pick (is_taking who t step) (λ h. ever_since P who t history h) h

@@ -26,7 +26,7 @@ use Rattle.chk_world.specs.Laws.{RunsCoverCheckpoints}
 
 -- ---- what stays over the steps after a front of a history
 
-legal_front : (stamped : List (List ℕ)) (later front : History) → Legal stamped (later ++ front) → Legal stamped front
+pub legal_front : (stamped : List (List ℕ)) (later front : History) → Legal stamped (later ++ front) → Legal stamped front
 legal_front stamped [] front legal = legal
 legal_front stamped (step ∷ later) front legal = legal_front stamped later front legal.0
 
@@ -65,7 +65,7 @@ founding_later s (step ∷ later) front f e =
 
 -- ---- what was sent
 
-stream_self : (s : Stream) → same_stream s s ≡ true
+pub stream_self : (s : Stream) → same_stream s s ≡ true
 stream_self s = rw (bytes_self s.source, bytes_self s.kind, bytes_self s.name) refl
 
 -- each chunk that was sent ends where a reader may stop

@@ -106,7 +106,7 @@ done_sinks_stay stamped history step legal x known = record {
 
 -- ---- what a listing shows was done
 
-name_in : (names : List (List ℕ)) (name : List ℕ) → list_any (bytes_eq name) names ≡ true
+pub name_in : (names : List (List ℕ)) (name : List ℕ) → list_any (bytes_eq name) names ≡ true
     → Contains names name
 name_in [] name h = absurd (true≢false (sym h))
 name_in (n ∷ names) name h = elim (or_cases (bytes_eq name n) (list_any (bytes_eq name) names) h) [
@@ -119,7 +119,7 @@ done_name : (x : Stem)
 unfolding spell
 done_name x = refl
 
-some_file : (o : Option File) → IsSome o → (f : File) × (o ≡ Some f)
+pub some_file : (o : Option File) → IsSome o → (f : File) × (o ≡ Some f)
 some_file None h = absurd (true≢false (sym h))
 some_file (Some f) h = (f, refl)
 

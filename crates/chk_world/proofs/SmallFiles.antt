@@ -44,7 +44,7 @@ rename_small before (OtherFile w) n small h = came_from before (OtherFile w) n (
 small_fixed : (n : Name) → is_small n ≡ true → is_fixed n ≡ true
 small_fixed n e = rw e refl
 
-not_both : (b : Bool) → b ≡ true → not b ≡ true → ⊥
+pub not_both : (b : Bool) → b ≡ true → not b ≡ true → ⊥
 not_both true e n = true≢false (sym n)
 not_both false e n = true≢false (sym e)
 

@@ -27,7 +27,7 @@ refit v w lines fit h =
     let c = and_parts (list_all (fits_version v) lines) (are_apart lines) b.1 in
     and_from _ _ a.0 (and_from _ _ b.0 (and_from _ _ fit c.1))
 
-all_fit_two : (lines : List Line) → list_all (fits_version Two) lines ≡ true
+pub all_fit_two : (lines : List Line) → list_all (fits_version Two) lines ≡ true
 all_fit_two [] = refl
 all_fit_two (l ∷ lines) = all_fit_two lines
 

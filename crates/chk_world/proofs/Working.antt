@@ -13,7 +13,8 @@ use Rattle.chk_site.specs.Site.{Adds, Asked, answered, plain, Acted, Calls, IsDo
 use Rattle.chk_site.specs.Runs.{Owns, MadeInTurn, finished, unbegun as unmade, went_on, ended}
 use Rattle.chk_site.proofs.Leads.{call_owned}
 use Rattle.chk_site.proofs.Runs.{adds_then, adds_as, adds_none, every_join, ran}
-use Rattle.chk_replace.proofs.CallSteps.{ends_last, last_then}
+use Rattle.chk_site.proofs.LastCalls.{ended_last as ends_last}
+use Rattle.chk_site.proofs.LastCalls.{last_of_both as last_then}
 use Rattle.chk_world.specs.Works.{Works, rests, unbegun, works, ends, IsOneOf, Asks, NoneFailed, WentOn, fault_of, deed_of}
 
 -- ---- how they join
@@ -119,7 +120,7 @@ works_own {who = who} {P = P} (ends q given by may is told) =
 abbrev Fine : History → Step → Type 0
 Fine before step = step.act.answer ≢ Refused Failed
 
-theirs_fine : (added history : History) → Every IsTheirs added history → Owns Fine added history
+pub theirs_fine : (added history : History) → Every IsTheirs added history → Owns Fine added history
 theirs_fine [] history theirs = tt
 theirs_fine (step ∷ added) history theirs = (theirs_fine added history theirs.0, λ own. absurd (true≢false (sym own ∙ theirs.1.0)))
 

@@ -1,6 +1,7 @@
 -- It is legal: the sink is archived and removed, and the run is reported.
 use Rattle.chk_site.specs.declared.acts.Call.TheVariants.{Create, Append, Sync, Rename, Remove}
-use Rattle.chk_world_examples.specs.Texts.{chunk, stem, entry, job, done_sink, seg, book_tmp, book_name, seg_head, stream, segment, end, book_1st, book_text}
+use Rattle.chk_world_examples.specs.Texts.{chunk, stem, entry, done_sink, seg, book_tmp, book_name, seg_head, stream, segment, end, book_1st, book_text}
+use Rattle.chk_world.specs.Sight.{job}
 use Rattle.chk_world_examples.specs.Moments.{l30, g31, g32, g33, g34, g35, g36, g37, g38, g39}
 use Rattle.chk_world_examples.proofs.Went.{went}
 use Rattle.std.proofs.Common.{◌≡◌, ◌⊎◌, inl, inr, Bool, true, false, [], ◌∷◌, refl, arith, ◌≤◌, if◌then◌else◌, sym, subst, ap, ◌∙◌}

@@ -1,6 +1,7 @@
 -- It is legal: the sink is done, and the job lists the sinks.
 use Rattle.chk_site.specs.declared.acts.Call.TheVariants.{Start, Rename, Remove, List as ListNames}
-use Rattle.chk_world_examples.specs.Texts.{c1, sink, mark, job, done_sink, listed_names}
+use Rattle.chk_world_examples.specs.Texts.{c1, sink, mark, done_sink, listed_names}
+use Rattle.chk_world.specs.Sight.{job}
 use Rattle.chk_world_examples.specs.Moments.{g27, g28, g29, g30, l30}
 use Rattle.chk_world_examples.proofs.Went.{went}
 use Rattle.std.proofs.Common.{◌≡◌, ℕ, zero, suc, ◌<◌, Bool, true, false, ◌||◌, List, [], ◌∷◌, is_some, ap, sym, subst, ◌∙◌, refl, arith, true≢false, bytes_eq}

@@ -1,7 +1,8 @@
 -- The job's run in it is complete, and its report is a true one.
 use Rattle.chk_site.specs.declared.acts.Call.TheVariants.{Say}
 use Rattle.chk_world.specs.ArchiveRuns.{report, Listing, found, end_before, end_since, is_closed, sink_path, HasReached, IsArchiveRun}
-use Rattle.chk_world_examples.specs.Texts.{chunk, job, listed_names, stream, end}
+use Rattle.chk_world_examples.specs.Texts.{chunk, listed_names, stream, end}
+use Rattle.chk_world.specs.Sight.{job}
 use Rattle.chk_world_examples.specs.Moments.{l30, g39, g40}
 use Rattle.chk_world_examples.proofs.Went.{went}
 use Rattle.std.proofs.Common.{◌≡◌, inl, inr, ℕ, Bool, true, false, List, [], ◌∷◌, length, None, ap, sym, subst, ◌∙◌, refl, arith, true≢false, if◌then◌else◌}

@@ -6,6 +6,7 @@ use Rattle.chk_site.specs.Files.{Files}
 use Rattle.chk_site.specs.Honest.{in_folder}
 use Rattle.chk_world.proofs.Ends.{bytes_same}
 use Rattle.chk_world_examples.proofs.Present.{is_among, NoOthers}
+use Rattle.chk_world.proofs.SightStays.{name_in as is_listed}
 
 -- it holds of each
 abbrev pub AllOf : {X : Type 0} → (X → Type 0) → List X → Type 0
@@ -19,18 +20,6 @@ of_all {X = X} P xs z all c = go xs c.0 all c.1 c.2
     go [] k all below at = absurd (let w : ⊥ = omega (arith, below) in w)
     go (x ∷ xs) zero all below at = subst P at all.0
     go (x ∷ xs) (suc k) all below at = go xs k all.1 (omega (arith, below)) at
-
--- a name that is one of these is in their list
-pub is_listed : (names : List (List ℕ)) (name : List ℕ) → list_any (bytes_eq name) names ≡ true → Contains names name
-is_listed [] name e = absurd (true≢false (sym e))
-is_listed (n ∷ names) name e = go (bytes_eq name n) refl (λ rest. is_listed names name rest)
-  where
-    go : (b : Bool) → bytes_eq name n ≡ b → (list_any (bytes_eq name) names ≡ true → Contains names name) → Contains (n ∷ names) name
-    go true p rest = (0, omega arith, sym (bytes_same name n p))
-    go false p rest =
-        let r = rest (sym (ap (λ b. b || list_any (bytes_eq name) names) p) ∙ e) in
-        let below = r.1 in
-        (suc r.0, omega (arith, below), r.2)
 
 -- where no other file is there, a file of the folder is one of these
 pub none_missed : (all names : List (List ℕ)) (files : Files) → NoOthers all files

@@ -5,7 +5,8 @@ use Rattle.chk_site.specs.declared.acts.Call.TheVariants.{Create, Append, Sync, 
 use Rattle.chk_site.specs.History.{History, files_after}
 use Rattle.chk_chunk.specs.Keys.{key_2, Stream, Chunk, Covers, same_stream, same_data, chunk_end}
 use Rattle.chk_world.specs.Rules.{Legal}
-use Rattle.chk_world_examples.specs.Texts.{c1, job, sink, stem, mark, done_sink, book_tmp, book_name, stream}
+use Rattle.chk_world_examples.specs.Texts.{c1, sink, stem, mark, done_sink, book_tmp, book_name, stream}
+use Rattle.chk_world.specs.Sight.{job}
 use Rattle.chk_world_examples.specs.LongRound.{run_2, first_chunk, second_chunk, entry_1, entry_2, listed_2, seg_2, seg_2_head, whole_segment, whole_end, book_whole, k62, k63, k64, k65, k66, k67, k68, k69, k70, k71, k72, k73, k74, k75, k76}
 use Rattle.chk_world_examples.proofs.ExampleMessages.{in_one, in_none}
 use Rattle.chk_world_examples.proofs.Went.{went}

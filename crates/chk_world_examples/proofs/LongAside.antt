@@ -5,7 +5,8 @@ use Rattle.chk_site.specs.declared.acts.Call.TheVariants.{Start, Create, Append,
 use Rattle.chk_site.specs.History.{files_after}
 use Rattle.chk_chunk.specs.Keys.{key_2, Stream, Chunk, Covers, same_stream, same_data, chunk_end}
 use Rattle.chk_world.specs.Rules.{Legal}
-use Rattle.chk_world_examples.specs.Texts.{job, seg, seg_head, book_tmp, book_name, stream}
+use Rattle.chk_world_examples.specs.Texts.{seg, seg_head, book_tmp, book_name, stream}
+use Rattle.chk_world.specs.Sight.{job}
 use Rattle.chk_world_examples.specs.LongRound.{second_chunk, entry_2, stem_2, done_2, listed_1, aside_segment, book_aside, k50, k51, k52, k53, k54, k55, k56, k57, k58, k59, k60, k61, k62}
 use Rattle.chk_world_examples.proofs.ExampleMessages.{in_one, in_none}
 use Rattle.chk_world_examples.proofs.Went.{went}

@@ -5,7 +5,8 @@ use Rattle.chk_site.specs.declared.acts.Call.TheVariants.{Create, Append, Sync, 
 use Rattle.chk_site.specs.History.{files_after}
 use Rattle.chk_chunk.specs.Keys.{key_2, Stream, Chunk, same_stream}
 use Rattle.chk_world.specs.Rules.{Legal}
-use Rattle.chk_world_examples.specs.Texts.{job, seg_head, stream}
+use Rattle.chk_world_examples.specs.Texts.{seg_head, stream}
+use Rattle.chk_world.specs.Sight.{job}
 use Rattle.chk_world_examples.specs.LongRound.{first_chunk, second_chunk, entry_1, entry_2, whole_end, demux_seg, demux_tmp, demux_book, demux_segment, book_demux, k76, k77, k78, k79, k80, k81, k82, k83, k84, k85}
 use Rattle.chk_world_examples.proofs.ExampleMessages.{in_one}
 use Rattle.chk_world_examples.proofs.Went.{went}

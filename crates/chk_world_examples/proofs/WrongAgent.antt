@@ -16,6 +16,7 @@ use Rattle.chk_world_examples.specs.Moments.{g2, g6, g7, g27}
 use Rattle.chk_world_examples.proofs.ExampleMessages.{in_one}
 use Rattle.chk_world_examples.proofs.Unfolded.{texts}
 use Rattle.chk_world_examples.specs.Agents.{newest, next_check, no_line, keeping, other_path, no_request}
+use Rattle.chk_world.proofs.SmallFiles.{not_both}
 
 none_any : {X : Type 0} (P : X → Type 0) (xs : List X) → [] ≡ xs → Any P xs → ⊥
 none_any P xs e a = let below = a.2 in omega (arith, below, ap length e)
@@ -70,10 +71,6 @@ is_send call = false
 abbrev sends_none : List Step → Bool
 sends_none [] = true
 sends_none (s ∷ ss) = not (is_send (deed s.act)) && sends_none ss
-
-not_both : (b : Bool) → b ≡ true → not b ≡ true → ⊥
-not_both true e n = true≢false (sym n)
-not_both false e n = true≢false (sym e)
 
 none_sent : (mine : List Step) (k : ℕ) (s : Step) (m : ℕ) (address bytes : List ℕ) → sends_none mine ≡ true → k < length mine
     → slice_index_or mine k s ≡ s → deed s.act ≡ Sends m address bytes → ⊥

@@ -1,7 +1,8 @@
 -- Of the steps that a rule refuses: all else that a step owes holds of them.
 use Rattle.chk_site.specs.declared.acts.Call.TheVariants.{Create, Append, Rename, Remove, LogRead, LogAppend, Send, Answer, Clock, Cut, Say}
 use Rattle.chk_world.specs.ArchiveRuns.{report}
-use Rattle.chk_world_examples.specs.Texts.{reply, c1, born, born_tmp, sink, a1, path, check_tmp, check, hello, line, request, entry, mark_tmp, mark, job, done_sink, seg, book_tmp, book_name, book_text}
+use Rattle.chk_world_examples.specs.Texts.{reply, c1, born, born_tmp, sink, a1, path, check_tmp, check, hello, line, request, entry, mark_tmp, mark, done_sink, seg, book_tmp, book_name, book_text}
+use Rattle.chk_world.specs.Sight.{job}
 use Rattle.chk_world_examples.specs.Moments.{g4, g6, g7, g8, g9, g10, g12, g24, g27, g29, g30, g33, g34, g38, g39, w3, p22, p23, p28, p29}
 use Rattle.chk_world_examples.proofs.Went.{else_holds}
 use Rattle.std.proofs.Common.{[], ◌∷◌, refl, subst, inl, arith}

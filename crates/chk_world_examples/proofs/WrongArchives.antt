@@ -16,7 +16,8 @@ use Rattle.chk_world.specs.Streams.{Founding}
 use Rattle.chk_world.specs.Books.{Segment, End, Book, Two, Three, read_book, chunks_of_stream}
 use Rattle.chk_world.specs.Committed.{OnFile, HasFile}
 use Rattle.chk_world.specs.Jobs.{IsSource, Grows, IsSoundSegment, Run, NewBook, HasStart, chunks_after}
-use Rattle.chk_world_examples.specs.Texts.{job, hello, done_sink, book_tmp, book_name, segment, stream, chunk, stem, end}
+use Rattle.chk_world_examples.specs.Texts.{hello, done_sink, book_tmp, book_name, segment, stream, chunk, stem, end}
+use Rattle.chk_world.specs.Sight.{job}
 use Rattle.chk_world_examples.proofs.ExampleMessages.{in_one, in_none}
 use Rattle.chk_world.proofs.NameTests.{streams_same}
 use Rattle.chk_world_examples.specs.Refusing.{TheRule, ObeysBut, next_by}

@@ -1,6 +1,7 @@
 -- Books that the job's rule refuses for one part of what they owe, each beside one that differs in the one fact and is allowed.
 use Rattle.chk_site.specs.declared.acts.Call.TheVariants.{Rename}
-use Rattle.chk_world_examples.specs.Texts.{chunk, stem, sink, hello, job, done_sink, book_tmp, book_name, seg_head, stream, segment, end, book_1st}
+use Rattle.chk_world_examples.specs.Texts.{chunk, stem, sink, hello, done_sink, book_tmp, book_name, seg_head, stream, segment, end, book_1st}
+use Rattle.chk_world.specs.Sight.{job}
 use Rattle.chk_world_examples.proofs.Went.{else_holds}
 use Rattle.std.proofs.Common.{◌≡◌, ℕ, ◌+◌, ◌<◌, Bool, true, false, List, [], ◌∷◌, ◌++◌, length, drop, ◌-◌, bytes_eq, refl, ap, sym, ◌∙◌, inl, inr, subst, length-append, true≢false, arith, if◌then◌else◌}
 use Rattle.std.specs.Prelude.{codes, Contains, Any}

@@ -1,6 +1,7 @@
 -- Books of `demux` that the job's rule refuses since their records aren't the archive's split, or don't go on, each beside one that is allowed.
 use Rattle.chk_site.specs.declared.acts.Call.TheVariants.{Rename}
-use Rattle.chk_world_examples.specs.Texts.{chunk, hello, job, seg_head, stream, segment, end, book_1st}
+use Rattle.chk_world_examples.specs.Texts.{chunk, hello, seg_head, stream, segment, end, book_1st}
+use Rattle.chk_world.specs.Sight.{job}
 use Rattle.chk_world_examples.proofs.Went.{else_holds}
 use Rattle.std.proofs.Common.{◌≡◌, ℕ, Bool, true, false, List, [], ◌∷◌, ◌++◌, bytes_eq, refl, ap, sym, inr, subst, true≢false, arith, if◌then◌else◌, map, length, suc, ◌∙◌}
 use Rattle.std.specs.Prelude.{codes, Any}

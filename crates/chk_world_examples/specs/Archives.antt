@@ -13,7 +13,8 @@ use Rattle.chk_world.specs.Names.{ArchiveFolder, BookFile, SegmentFile, Temporar
 use Rattle.chk_world.specs.Committed.{OnFile, IsWhole, HasFile, aside_chunks}
 use Rattle.chk_world.specs.Jobs.{IsSource, Grows, IsSoundSegment, Run, HasStart, all_segments, aside_after, end_after, chunks_after, JobRule}
 use Rattle.chk_world.specs.Rules.{must_start}
-use Rattle.chk_world_examples.specs.Texts.{job, hello, head, done_sink, seg, book_tmp, book_name, segment, stream, chunk, end}
+use Rattle.chk_world_examples.specs.Texts.{hello, head, done_sink, seg, book_tmp, book_name, segment, stream, chunk, end}
+use Rattle.chk_world.specs.Sight.{job}
 use Rattle.chk_world_examples.specs.Books.{with_files, segment_of}
 
 -- a part of what a book of the archive owes, or none

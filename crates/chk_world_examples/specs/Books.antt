@@ -1,6 +1,7 @@
 -- Books that the job's rule refuses for one part of what they owe, each beside one that differs in the one fact and is allowed.
 use Rattle.chk_site.specs.declared.acts.Call.TheVariants.{Rename, Clock}
-use Rattle.chk_world_examples.specs.Texts.{book_name, done_sink, sink, job, line, check, hello, seg, seg_head, book_tmp, book_1st, book_text, segment, stream, chunk}
+use Rattle.chk_world_examples.specs.Texts.{book_name, done_sink, sink, line, check, hello, seg, seg_head, book_tmp, book_1st, book_text, segment, stream, chunk}
+use Rattle.chk_world.specs.Sight.{job}
 use Rattle.chk_world_examples.specs.Parts.{ItsSource, ItsValue, part_with, sink_with, Thing, PartBut}
 use Rattle.chk_world_examples.specs.Refusing.{TheRule, by, ObeysBut}
 use Rattle.chk_world.specs.Jobs.{JobRule, folder_limit, Grows, Run, BookNamesSyncedSegments, HasStart, aside_after, chunks_after}

@@ -4,7 +4,8 @@ use Rattle.chk_site.specs.declared.acts.Call.TheVariants.{Rename, Remove, Say, C
 use Rattle.chk_site.specs.History.{Step, History}
 use Rattle.chk_world.specs.Books.{One, book_bytes, Book}
 use Rattle.chk_world.specs.ArchiveRuns.{report}
-use Rattle.chk_world_examples.specs.Texts.{seg, entry, done_sink, book_name, book_text, job, book_tmp, segment, stream}
+use Rattle.chk_world_examples.specs.Texts.{seg, entry, done_sink, book_name, book_text, book_tmp, segment, stream}
+use Rattle.chk_world.specs.Sight.{job}
 use Rattle.chk_world_examples.specs.Moments.{g29, g30, g32, g33, g34, g37, g38, g39, done}
 use Rattle.chk_world_examples.specs.Refusing.{TheRule, by, Apart}
 use Rattle.chk_site.specs.declared.acts.ActAnswer.TheVariants.{Done}

@@ -28,7 +28,8 @@ use Rattle.chk_world.specs.Rules.{Legal}
 use Rattle.chk_world.specs.Laws.{IsComplete}
 use Rattle.chk_world.specs.Reading.{ReadsOn, ChunkStands}
 use Rattle.chk_world.specs.DoneSinks.{IsGone}
-use Rattle.chk_world_examples.specs.Texts.{a1, c1, job, log, path, check, check_tmp, sink, head, mark, mark_tmp, done_sink, poll, hello, seg, seg_head, book_tmp, book_name, stream}
+use Rattle.chk_world_examples.specs.Texts.{a1, c1, log, path, check, check_tmp, sink, head, mark, mark_tmp, done_sink, poll, hello, seg, seg_head, book_tmp, book_name, stream}
+use Rattle.chk_world.specs.Sight.{job}
 use Rattle.chk_world_examples.specs.Moments.{g1}
 use Rattle.chk_world_examples.specs.Refusing.{next_by}
 use Rattle.chk_world_examples.specs.Writers.{turns}

@@ -14,7 +14,8 @@ use Rattle.chk_site.specs.Acts.{deed, deed_by, change_of, tail_of}
 use Rattle.chk_site.specs.Effect.{with_tail}
 use Rattle.chk_site.specs.History.{Step, History, files_after, logs_after, since_start}
 use Rattle.chk_world.specs.ArchiveRuns.{report}
-use Rattle.chk_world_examples.specs.Texts.{c1, born, born_tmp, sink, head, a1, log, path, check_tmp, check, hello, text, request, entry, mark_tmp, mark, text_6, job, done_sink, listed_names, seg, book_tmp, book_name, seg_head, book_text, left, reply, poll}
+use Rattle.chk_world_examples.specs.Texts.{c1, born, born_tmp, sink, head, a1, log, path, check_tmp, check, hello, text, request, entry, mark_tmp, mark, text_6, done_sink, listed_names, seg, book_tmp, book_name, seg_head, book_text, left, reply, poll}
+use Rattle.chk_world.specs.Sight.{job}
 
 abbrev pub act_of : Call → List (List ℕ) → ActAnswer → Act
 act_of call words answer = record { who = c1; call = call; words = words; number = 0; max = 0; answer = answer }

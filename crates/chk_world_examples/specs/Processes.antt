@@ -2,7 +2,8 @@
 use Rattle.chk_site.specs.declared.acts.Call.TheVariants.{Start, Create, Append, Rename, Clock, LogAppend, Send, Remove}
 use Rattle.chk_site.specs.declared.acts.ActAnswer.TheVariants.{Done, Stopped}
 use Rattle.chk_site.specs.History.{Step, History, files_after, logs_after}
-use Rattle.chk_world_examples.specs.Texts.{a1, c1, log, path, hello, request, sink, check, check_tmp, job, done_sink}
+use Rattle.chk_world_examples.specs.Texts.{a1, c1, log, path, hello, request, sink, check, check_tmp, done_sink}
+use Rattle.chk_world.specs.Sight.{job}
 use Rattle.chk_world_examples.specs.Moments.{g4, g5, g7, g8, g9, g24, p23, g38}
 use Rattle.chk_world_examples.specs.Refusing.{OwnFiles, Starting, TheLogs, Requests, next_by, by, Apart}
 use Rattle.std.specs.Prelude.{codes, ℕ, true, false, List, [], ◌∷◌}

@@ -17,7 +17,8 @@ use Rattle.chk_world.specs.Books.{Segment, Book, Two as book_2, Three}
 use Rattle.chk_world.specs.Streams.{start_of}
 use Rattle.chk_world.specs.ArchiveRuns.{report}
 use Rattle.chk_world.specs.Rules.{Obeys, Legal}
-use Rattle.chk_world_examples.specs.Texts.{c1, job, log, path, hello, mark, done_sink, segment, end, request, poll}
+use Rattle.chk_world_examples.specs.Texts.{c1, log, path, hello, mark, done_sink, segment, end, request, poll}
+use Rattle.chk_world.specs.Sight.{job}
 use Rattle.chk_world_examples.specs.Moments.{done, h6, g7, l30, g39}
 use Rattle.chk_world_examples.specs.Refusing.{TheRule, Starting, Requests, by, Apart}
 use Rattle.chk_world_examples.specs.Agents.{reads_past, between, day_9, rotated}

@@ -2,7 +2,8 @@
 use Rattle.std.specs.Prelude.{◌∷◌, ◌≡◌, ℕ, false, List, [], Some, None, bytes_eq, if◌then◌else◌, length, codes}
 use Rattle.chk_site.specs.declared.acts.Call.TheVariants.{Rename}
 use Rattle.chk_site.specs.History.{Step, History, files_after}
-use Rattle.chk_world_examples.specs.Texts.{job, hello, seg, book_name, book_1st, stream}
+use Rattle.chk_world_examples.specs.Texts.{hello, seg, book_name, book_1st, stream}
+use Rattle.chk_world.specs.Sight.{job}
 use Rattle.chk_world_examples.specs.Refusing.{TheRule, by, ObeysBut}
 use Rattle.chk_site.specs.Acts.{Renames}
 use Rattle.chk_chunk.specs.Keys.{Stream, same_stream}

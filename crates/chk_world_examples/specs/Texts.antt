@@ -91,9 +91,6 @@ line_6 = record { live = true; name = codes "adaptor_1"; class = Plain; kind = c
 abbrev pub text_6 : List ℕ
 text_6 = checkpoint_text One (line_6 ∷ [])
 
-abbrev pub job : Who
-job = record { role = Job; name = codes "job" }
-
 abbrev pub done_sink : List ℕ
 done_sink = codes "sinks/c1.1.1.done"
 

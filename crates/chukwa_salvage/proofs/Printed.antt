@@ -13,7 +13,9 @@ use Rattle.chk_site.specs.Acts.{Says}
 use Rattle.chk_site.specs.History.{History, is_stopped}
 use Rattle.chk_site.specs.Site.{Adds, Asked, asked, answered, plain, Acted, Calls, IsDone, Ends, MayFail, LastFailed}
 use Rattle.chk_site.proofs.Runs.{adds_then, adds_as, every_join, ran}
-use Rattle.chk_replace.proofs.CallSteps.{call_each, ends_last, last_then}
+use Rattle.chk_replace.proofs.CallSteps.{call_each}
+use Rattle.chk_site.proofs.LastCalls.{ended_last as ends_last}
+use Rattle.chk_site.proofs.LastCalls.{last_of_both as last_then}
 use Rattle.chk_salvage.specs.Front.{Item}
 use Rattle.chukwa_salvage.specs.Lines.{AreLines}
 use Rattle.chukwa_salvage.specs.Printing.{text_said}

@@ -27,7 +27,7 @@ acted_runs : {q : Asked} (answer : ActAnswer) {added history : History} → is_s
 acted_runs answer {history = history} goes acted =
     subst (λ (a : History). is_stopped (a ++ history) ≡ false) (sym acted.added_is) goes
 
-done_goes : (answer : ActAnswer) → WasDone answer → is_stop answer ≡ false
+pub done_goes : (answer : ActAnswer) → WasDone answer → is_stop answer ≡ false
 done_goes (Done words number of) done = refl
 done_goes (Refused fault) done = refl
 done_goes (Stopped left) done = elim done [ ]

@@ -13,7 +13,7 @@ use Rattle.chk_site.specs.Runs.{anyhow, Leads}
 use Rattle.chk_site.proofs.Runs.{adds_then, adds_as, every_join, every_early}
 use Rattle.chk_replace.specs.Replace.{LeavesFile}
 use Rattle.chk_replace.specs.Load.{Has, IsLook, Loaded, bytes_of}
-use Rattle.chk_replace.proofs.CallSteps.{last_then}
+use Rattle.chk_site.proofs.LastCalls.{last_of_both as last_then}
 use Rattle.chk_seqfile.specs.declared.headers.HeaderRef.{HeaderRef}
 use Rattle.chk_seqfile.specs.declared.headers.HeaderFault.{HeaderFault}
 use Rattle.chk_seqfile.specs.Headers.{read_header}

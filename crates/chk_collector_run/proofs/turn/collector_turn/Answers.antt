@@ -2,7 +2,8 @@ use Rattle.std.proofs.Common.{ℕ, [], Ok, sym, ◌∙◌}
 use Rattle.std.proofs.lemmas.Result.{err_from_is_err_and}
 use Rattle.chk_site.specs.declared.acts.Call.TheVariants.{Clock}
 use Rattle.chk_collector_run.specs.Turns.{untaken, untimed}
-use Rattle.chk_collector_run.proofs.Counts.{start_then, risen_then, sink_risen, sink_after, turn_after, last_then}
+use Rattle.chk_collector_run.proofs.Counts.{risen_then, sink_risen, sink_after, turn_after, last_then}
+use Rattle.chk_collector.proofs.PutLoop.{same_then as start_then}
 use Rattle.chk_collector_run.proofs.Serving.{named_at, clock_last}
 use Rattle.chk_collector_run.proofs.TickEnds.{outside_of_tick, tick_cause, settled_by, turn_by, cut_by, finds_by}
 use Rattle.chk_collector_run.proofs.Turning.{ends_outside, same_process, cut_told, timed_told, ticked_told, cut_finds}

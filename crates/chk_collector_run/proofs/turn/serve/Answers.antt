@@ -2,7 +2,8 @@ use Rattle.std.proofs.Common.{inl, Ok, Option, arith}
 use Rattle.std.proofs.lemmas.Result.{err_from_is_err_and}
 use Rattle.chk_site.specs.declared.acts.Call.TheVariants.{Take}
 use Rattle.chk_site.specs.declared.suffixes.Taking.{Taking}
-use Rattle.chk_collector_run.proofs.Counts.{start_then, risen_then, sink_after}
+use Rattle.chk_collector_run.proofs.Counts.{risen_then, sink_after}
+use Rattle.chk_collector.proofs.PutLoop.{same_then as start_then}
 use Rattle.chk_collector_run.proofs.Serving.{taken_told, untaken_told, serving_begins, serving_goes_on, serving_none, serving_untaken, serving_unanswered, serving_over, served_on}
 use Rattle.chk_collector_run.proofs.Turning.{ends_outside, taken_last}
 use Rattle.chk_collector_run.proofs.turn.serve.Goals as goal

@@ -1,4 +1,5 @@
-use Rattle.chk_load_run.proofs.Literals.{cluster_is_word, kind_is_word, source_is_word}
+use Rattle.chk_load_run.proofs.Literals.{kind_is_word, source_is_word}
+use Rattle.chk_words.proofs.NameLemmas.{none_is_word as cluster_is_word}
 use Rattle.chk_load_run.proofs.words.round_words.Goals as goal
 
 pub from_text-requires : goal.from_text-requires

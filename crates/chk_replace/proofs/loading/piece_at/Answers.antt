@@ -5,7 +5,7 @@ use Rattle.chk_site.specs.declared.acts.Call.TheVariants.{Read}
 use Rattle.chk_site.specs.Site.{bytes_given, LastFailed}
 use Rattle.chk_site.proofs.Runs.{adds_as}
 use Rattle.chk_replace.specs.Load.{IsGone}
-use Rattle.chk_replace.proofs.CallSteps.{ends_last}
+use Rattle.chk_site.proofs.LastCalls.{ended_last as ends_last}
 use Rattle.chk_replace.proofs.Pieces.{piece_given, piece_missing, piece_short, not_read, piece_looks, piece_gone}
 use Rattle.chk_replace.proofs.loading.piece_at.Goals as goal
 

@@ -1,4 +1,4 @@
-use Rattle.chk_round_run.proofs.Lines.{stream_line_one}
+use Rattle.chk_prints.proofs.OneLine.{stream_line_one}
 use Rattle.chk_round_run.proofs.telling.stream_line.Goals as goal
 
 pub returns-in_err-put_stream-clause-one : goal.returns-in_err-put_stream-clause-one
