@@ -1,13 +1,16 @@
 #!/usr/bin/env python3
 """Times an agent's turns over many logs that don't grow.
 
-usage: tools/figures.py idle [--program FILE] [--logs N] [--rounds N]
+usage: tools/figures.py idle [--program FILE] [--logs N] [--rounds N] [--minute]
 
 In a new folder below the current one it writes a checkpoint of N lines (10,000) whose logs aren't there, then the
 same with a log of one byte for each line, read before, in folders of a hundred and in one folder, and runs `agent`
 over it for one turn and for several, with a collector's address at which nobody listens. A row has the best and the
 worst of so many rounds (3): a turn is the difference of both runs except for its pause of 200 ms, by their number, in
 milliseconds by the clock and of the processor.
+
+With `--minute` it runs `agent` over the first of these checkpoints for 300 turns, so for a minute of pauses, and
+prints the processor seconds of the whole run.
 """
 import os
 import resource
@@ -54,15 +57,26 @@ def turns(program, where, what, paths, at, rounds, more):
         f"processor {min(processor):.1f} to {max(processor):.1f} ms", flush=True)
 
 
+def minute(program, where, paths):
+    write_checkpoint(paths, 0)
+    clock, processor = run(program, 300, where)
+    print(f"300 turns of {len(paths)} idle logs: {clock:.1f} s, {processor:.2f} processor seconds", flush=True)
+
+
 def main():
     parser = parser_of(__doc__)
     add_program(parser)
     parser.add_argument("--logs", type=int, default=10_000)
     parser.add_argument("--rounds", type=int, default=3)
+    parser.add_argument("--minute", action="store_true", help="a run of 300 turns in place of the rows")
     asked = parser.parse_args()
     program, where, home = program_of(asked), f"127.0.0.1:{free_ports(1)[0]}", os.getcwd()
     with tempfile.TemporaryDirectory(dir=".") as folder:
         os.chdir(folder)
+        if asked.minute:
+            minute(program, where, [f"idle.{n}.log" for n in range(asked.logs)])
+            os.chdir(home)
+            return
         turns(program, where, "none there", [f"idle.{n}.log" for n in range(asked.logs)], 0, asked.rounds, 10)
         apart = [f"idle/{n // 100}/{n}.log" for n in range(asked.logs)]
         together = [f"idle/all/{n}.log" for n in range(asked.logs)]

@@ -22,7 +22,7 @@ HEADER = len(FRONT) + 16
 SYNC_EVERY = 2000
 ESCAPE = b"\xff\xff\xff\xff"
 # Bytes of a chunk, and of a record of a line.
-MOST_DATA = {"archive": 131_072, "demux": 1_048_576}
+MOST_DATA = {"archive": 131_072, "joined": 131_072, "demux": 1_048_576}
 
 # A chunk's `first` is the offset of its first byte, `end` that after its last one.
 Chunk = collections.namedtuple("Chunk", "stream start first end data")

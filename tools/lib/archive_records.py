@@ -1,11 +1,11 @@
 #!/usr/bin/env python3
-"""Makes the bytes of which the rows of `chk_test_archive` put together sinks, segments and books.
+"""Makes the bytes of which the rows of archive runs and of joins put together sinks, segments and books.
 
 usage: tools/lib/archive_records.py [check]
 
-It writes `src/records.rt` of `crates/chk_test_archive`; with `check` it writes nothing, and ends with 1 where the file
-is not as it would write it. It follows docs/FORMATS.md and shares no line with the program, so that what the program
-writes is compared with what another writer makes.
+It writes `src/records.rt` of `crates/chk_test_archive` and `src/parts.rt` of `crates/chk_test_join`; with `check` it
+writes nothing, and ends with 1 where one is not as it would write it. It follows docs/FORMATS.md and shares no line with
+the program, so that what the program writes is compared with what another writer makes.
 """
 import hashlib
 import os
@@ -13,6 +13,7 @@ import sys
 
 HERE = os.path.dirname(os.path.abspath(__file__))
 FILE = os.path.join(HERE, "../../crates/chk_test_archive/src/records.rt")
+PARTS = os.path.join(HERE, "../../crates/chk_test_join/src/parts.rt")
 
 CLASS = b"\x22org.apache.hadoop.io.BytesWritable"
 LOG = ("h1", "Log", "/a.log")
@@ -204,12 +205,34 @@ def text():
     return made
 
 
+def parts():
+    """The parts of two archives that are joined."""
+    head = b"SEQ\x06" + CLASS + CLASS + b"\0\0" + big_endian(0, 4)
+    segments = [(name, head + mark) for name, mark in markers() if name in ("SEG_1", "SEG_2", "SEG_17")]
+    made = dict(records())
+    names = ["HELLO", "WORL", "WORLD", "WORLD_ALOUD", "WORLD_OF_WEST", "HELLO_WORLD", "BEGUN", "OTHER"]
+    chunks = [(name, made[name]) for name in names]
+    chunks += [("HELLX", record(6, b"hellx\n")), ("OTHER_ALOUD", record(2, b"X\n", ("h2", "Log", "/a.log"))),
+               ("BEGUN_ALOUD", record(11, b"heLlo\n", LOG, 5))]
+    fields = [("HEAD", b"CHKB\x01"), ("HEAD_2", b"CHKB\x02"), ("HEAD_3", b"CHKB\x03"), ("OTHER_HEAD", b"CHKX\x01"),
+              ("TEXTS", stream(LOG)), ("OTHER_TEXTS", stream(("h2", "Log", "/a.log"))), ("BYTE", b"x")]
+    made = "//! The parts of segments and books, as `tools/lib/archive_records.py` makes them.\n"
+    made += group("The headers of segments, with their markers.", segments)
+    made += group("Records of chunks.", chunks)
+    made += group("The first field of a book, a stream's texts, and a byte.", fields)
+    made += lookup("part", "The part of this name.", names_of(segments + chunks + fields))
+    return made
+
+
 def main(words):
-    if words == ["check"]:
-        with open(FILE) as held:
-            sys.exit(0 if held.read() == text() else 1)
-    with open(FILE, "w") as made:
-        made.write(text())
+    for file, made in ((FILE, text()), (PARTS, parts())):
+        if words == ["check"]:
+            with open(file) as held:
+                if held.read() != made:
+                    sys.exit(1)
+        else:
+            with open(file, "w") as new:
+                new.write(made)
 
 
 if __name__ == "__main__":

@@ -127,12 +127,16 @@ def doc_above(lines, at):
     return "\n".join(found)
 
 
+# Type parameters with their bounds, which may have type arguments of their own.
+PARAMETERS = r"(?:<(?:->|[^<>]|<[^<>]*>)*>)"
+
+
 def owner_of(line):
     """What an `impl` or a `trait` line that begins a block names: the type or trait, and the trait that is implemented."""
     found = re.match(r"(?:pub(?:\([^)]*\))? )?trait (\w+)", line)
     if found:
         return found.group(1), ""
-    found = re.match(r"impl(?:<.*?>)? (?:(.+?) for )?(?:&(?:mut )?)?(?:'\w+ )?([\w:]+)", line)
+    found = re.match(rf"impl{PARAMETERS}? (?:(.+?) for )?(?:&(?:mut )?)?(?:'\w+ )?([\w:]+)", line)
     if found:
         return found.group(2), re.sub(r"<.*", "", found.group(1) or "")
     return None

@@ -301,6 +301,41 @@ class SmallDemux(SmallScene):
                 raise Wrong(f"the records of {stream} are {records.pieces.get(stream)}")
 
 
+class SmallJoin(SmallScene):
+    """A join of two archives of a log, of which the right one has more of it."""
+
+    words = ["join", "archive", "other"]
+    lines = nothing = "join streams 1 bytes 12\n"
+    folders = ["archive", "other", "joined"]
+
+    def __init__(self):
+        stream, log = ("h1", "Log", "/a.log"), b"hello\nworld\n"
+        self.logs, self.before = {stream: log}, {stream: 6}
+        pieces = [(stream, log, 0, 6), (stream, log, 6, 12)]
+        self.left = {"archive/seg.1": sequence_bytes("seg.1", pieces[:1]), "other/seg.1": sequence_bytes("seg.1", pieces)}
+        self.left["archive/book"] = made.book(2, [(1, 144)], [(stream, 6, 0)])
+        self.left["other/book"] = made.book(2, [(1, 192)], [(stream, 12, 0)])
+        self.left |= {"joined/seg.1": self.left["other/seg.1"], "joined/book": self.left["other/book"]}
+        sized(self.left, {"archive/seg.1": 144, "other/seg.1": 192, "joined/book": 62})
+
+    def make(self, folder):
+        folders(folder)
+        os.makedirs(f"{folder}/other")
+        for name in ("archive/seg.1", "archive/book", "other/seg.1", "other/book"):
+            with open(f"{folder}/{name}", "wb") as file:
+                file.write(self.left[name])
+
+    def whole(self, folder):
+        prefixes(self, folder)
+        for name in ("archive/seg.1", "archive/book", "other/seg.1", "other/book"):
+            if contents(f"{folder}/{name}") != self.left[name]:
+                raise Wrong(f"{name} has changed")
+        joined = Archive(folder, "joined")
+        ((stream, log),) = self.logs.items()
+        if joined.lost or joined.doubled or joined.pieces.get(stream) != log.splitlines(keepends=True):
+            raise Wrong(f"joined are {joined.pieces}")
+
+
 def sized(files, sizes):
     """The sizes that the formats' text tells are those of the files that are wanted."""
     assert all(len(files[name]) == size for name, size in sizes.items()), {name: len(files[name]) for name in sizes}
@@ -341,4 +376,4 @@ def again(program, words, folder):
 
 
 SCENES = {"archive": ArchiveScene, "demux": DemuxScene, "round": RoundScene}
-SMALL = {"small-round": SmallRound, "small-archive": SmallArchive, "small-demux": SmallDemux}
+SMALL = {"small-round": SmallRound, "small-archive": SmallArchive, "small-demux": SmallDemux, "small-join": SmallJoin}

@@ -1,10 +1,12 @@
 #!/usr/bin/env python3
 """Asks whether the files that the documents name are there.
 
-usage: tools/make/cited.py [--check]
+usage: tools/make/cited.py [--check] [--proofs]
 
 Looked at are the links of all documents, and each path in backquotes that begins with a folder of the repository, a
-crate, or `W/` or `R/`, as docs/CHANGING.md shortens two crates. It writes nothing, and ends with 1 where one isn't there.
+crate, or `W/` or `R/`, as docs/CHANGING.md shortens two crates. With `--proofs` also the tables of PROOFS: each call
+that a row names has to stand in the row's crate, and each clause at a call of it (what stands before `of` in a cell is
+a part of that clause, and isn't asked), and its list of the crates with edits has to be whole. It writes nothing, and ends with 1 where one isn't there.
 """
 import glob
 import os
@@ -13,7 +15,7 @@ import sys
 
 sys.path.insert(0, os.path.join(os.path.dirname(os.path.abspath(__file__)), "../lib"))
 
-from contracts import TOP, text_of
+from contracts import TOP, Crate, crates, sources, text_of
 
 SHORT = {"W": "crates/chk_words", "R": "crates/chukwa_run"}
 FOLDERS = ("crates", "tools", "docs", "packaging", "bin", *SHORT)
@@ -45,11 +47,50 @@ def absent():
                 yield f"{name}: there is no {cited}"
 
 
+class Named:
+    """The names of a crate's clauses, and the text of its sources."""
+
+    def __init__(self, name):
+        functions = Crate(name).functions
+        self.clauses = {clause[1] for each in functions for clause in each.clauses} | {each.name for each in functions}
+        self.text = "\n".join(text_of(path) for path in sources(f"{TOP}/crates/{name}/src", ".rt"))
+
+    def calls(self, name):
+        return re.search(rf"\b{name}\b", self.text) is not None
+
+
+def unproved():
+    """Each call and clause of a row of PROOFS that isn't in the row's crate."""
+    known, crate = {name: Named(name) for name in crates()}, None
+    for number, line in enumerate(text_of(f"{TOP}/docs/PROOFS.md").split("\n"), 1):
+        cells = [cell.strip() for cell in line.strip("|").split("|")]
+        if not line.startswith("| ") or len(cells) < 4:
+            crate = None
+            continue
+        crate = next(iter(re.findall(r"`(ch\w+)`", cells[0])), crate)
+        if crate not in known:
+            continue
+        clauses = re.sub(r"unnamed: [^;]*|\d of .*|(`\w+`, )*`\w+` of (?=`)", "", cells[2])
+        for name in re.findall(r"`([a-z]\w*)`", clauses):
+            if name not in known[crate].clauses:
+                yield f"docs/PROOFS.md:{number}: no call of {crate} has a clause {name}"
+        for name in re.findall(r"`(?:\w+::)?([a-z]\w*)`", cells[1]):
+            if not known[crate].calls(name):
+                yield f"docs/PROOFS.md:{number}: {crate} has no {name}"
+    line = next(line for line in text_of(f"{TOP}/docs/PROOFS.md").split("\n") if line.startswith("An edit is "))
+    tried = {name for name in known if glob.glob(f"{TOP}/crates/{name}/must-fail/*.edit")}
+    for name in tried ^ set(re.findall(r"`(ch\w+)`", line)):
+        yield f"docs/PROOFS.md: of the crates with edits {name} is {'left out' if name in tried else 'none'}"
+
+
 def main():
-    if sys.argv[1:] not in ([], ["--check"]):
+    words = [word for word in sys.argv[1:] if word != "--proofs"]
+    if words not in ([], ["--check"]):
         print(__doc__.strip())
-        return 0 if sys.argv[1:] in (["--help"], ["-h"]) else 2
+        return 0 if words in (["--help"], ["-h"]) else 2
     found = list(absent())
+    if "--proofs" in sys.argv:
+        found += unproved()
     for line in found:
         print(line, file=sys.stderr)
     return 1 if found else 0

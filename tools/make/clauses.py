@@ -3,10 +3,11 @@
 
 usage: tools/make/clauses.py [--tests] [--text] [--renamed OLD=NEW]... OLD NEW
 
-OLD and NEW are commits, or folders of checkouts. Functions that are `pub` in a module of their crate's own count too. A line for each public function, clause and definition that differs:
+OLD and NEW are commits, or folders of checkouts. Functions that are `pub` in a module of their crate's own count too. A line for each public function, clause, type and definition that differs:
 
   gone      a function, clause or definition that isn't there any more
-  changed   another text of a clause, a signature or a definition, or of what a type is seen as
+  changed   another text of a clause, a signature or a definition, of what a type is seen as, or of its public fields
+            or variants
   asked     a `requires` that is new or has another text: a caller owes something else
   moved     the same function or definition in another crate or file
   new       a function, an `ensures` or a definition that came
@@ -25,7 +26,7 @@ import tempfile
 
 sys.path.insert(0, os.path.join(os.path.dirname(os.path.abspath(__file__)), "../lib"))
 
-from contracts import BREAKS, TOP, Crate, Definitions, crates, one_line
+from contracts import BREAKS, TOP, Crate, Definitions, crates, one_line, text_of
 
 
 def unpacked(state, room):
@@ -54,6 +55,8 @@ class State:
                     continue
                 key = self.now(name), function.owner, getattr(function, "trait", ""), function.name
                 self.functions[key] = function
+        self.types = {(self.now(name), each.name): self.text(shape(crate, each))
+                      for name, crate in self.crates.items() for each in crate.public_types() if each.kind != "trait"}
         self.definitions = Definitions(folder)
         self.items = {(self.now(item.crate), item.file, item.name): item for item in self.definitions.items.values()
                       if item.crate in self.crates}
@@ -97,6 +100,30 @@ class State:
                 if any(uses.get(word) in places for word in BREAKS.split(text)):
                     found.add(key)
         return found
+
+
+def shape(crate, each):
+    """The text of a type that others see: of a struct its head and public fields, else all of it, without comments."""
+    first, last = each.lines
+    lines = [line for line in text_of(f"{crate.folder}/{each.file}").split("\n")[first - 1:last]
+             if not re.match(r" *(//|#\[)", line)]
+    if each.kind == "struct" and len(lines) > 1:
+        lines = [line for line in lines if not line.startswith(" ") or line.lstrip().startswith("pub ")]
+    return "\n".join(lines)
+
+
+def types_that_differ(old, new):
+    for key, before in old.types.items():
+        after = new.types.get(key)
+        if after is None:
+            moved = [at for at, text in new.types.items() if at[1] == key[1] and text == before and at not in old.types]
+            yield ("moved", f"{key[0]}: the type {key[1]} is in {moved[0][0]}", "", "") if moved \
+                else ("gone", f"{key[0]}: the type {key[1]}", before, "")
+        elif before != after:
+            yield "changed", f"{key[0]}: the type {key[1]}", before, after
+    for key, after in new.types.items():
+        if key not in old.types:
+            yield "new", f"{key[0]}: the type {key[1]}", "", after
 
 
 def shown(key):
@@ -183,7 +210,8 @@ def main():
     with tempfile.TemporaryDirectory() as room:
         old = State(unpacked(asked.old, room), asked.tests, renamed)
         new = State(unpacked(asked.new, room), asked.tests, {})
-        for kind, text, before, after in sorted(functions_that_differ(old, new), key=lambda each: each[1]):
+        differ = [*functions_that_differ(old, new), *types_that_differ(old, new)]
+        for kind, text, before, after in sorted(differ, key=lambda each: each[1]):
             count[kind] = count.get(kind, 0) + 1
             told(kind, text, before, after, asked.text)
         for kind, (crate, file, name), there, before, after in sorted(definitions_that_differ(old, new), key=lambda each: each[1]):

@@ -2,14 +2,22 @@
 """Tells what a gate's run costs, crate by crate, and writes it as docs/GATE.md.
 
 usage: tools/make/gate_times.py [--to FILE] [COMMAND...]
+       tools/make/gate_times.py [--to FILE] --samples FILE.. [--minutes N] [--of TEXT]
 
 Runs COMMAND at the top of the checkout, by default `rt ci --anew`, which proves and tries all from
 nothing, and looks twice a second at what runs below it. What a proof takes after its last look is
 in the sum of all alone, so the sums of the crates are a little less. Memory is that of the largest
 process. The script ends with the status of the command, and writes nothing where that isn't 0.
+
+With `--samples` it runs nothing, but adds up what others sampled: JSON objects of processor seconds
+by `CRATE|proof`, `CRATE|test` and `CRATE|edit`. Crates that crates.txt doesn't name, and seconds
+without a crate, are in the sum of all alone. `--minutes` are those by the clock, and `--of` says what
+was run. So a gate that runs in parts, or beside other work, is measured too; the page says so, and
+names the crates of which there are no samples, since those were kept from an earlier run.
 """
 import argparse
 import collections
+import json
 import os
 import re
 import resource
@@ -134,7 +142,28 @@ def said_by(*words):
     return subprocess.run(words, cwd=TOP, stdout=subprocess.PIPE, text=True, check=False).stdout.strip()
 
 
-def page(words, tasks, clock, processor):
+def sampled(files):
+    """A task a sample, and the seconds of all of them, those of no crate too."""
+    tasks, whole = [], 0.0
+    kinds = {"proof": "proof", "test": "tests", "edit": "edits"}
+    for name in files:
+        with open(name, encoding="utf-8") as file:
+            for key, seconds in json.load(file).items():
+                crate, _, kind = key.partition("|")
+                whole += seconds
+                if kind in kinds:
+                    tasks.append(Task(crate.split("/")[0], kinds[kind]))
+                    tasks[-1].seconds = seconds
+    return tasks, whole
+
+
+def unsampled(tasks, top):
+    """The crates that have no sample, in the order of crates.txt."""
+    seen = {task.crate for task in tasks if task is not None}
+    return [name for name in deps_of(top) if name not in seen]
+
+
+def page(words, tasks, clock, processor, note=""):
     """The text of docs/GATE.md."""
     commit = said_by("git", "rev-parse", "--short=10", "HEAD")
     changed = " with changes" if said_by("git", "status", "--porcelain", "--untracked-files=no") else ""
@@ -142,8 +171,8 @@ def page(words, tasks, clock, processor):
     yield ""
     yield f"Made by `tools/make/gate_times.py` of commit {commit}{changed}, by `{' '.join(words)}` with {said_by('rt', 'version')},"
     yield f"on {time.strftime('%Y-%m-%d')} with {len(os.sched_getaffinity(0))} processors: **{processor / 60:.0f} processor minutes,"
-    yield f"{clock / 60:.0f} minutes by the clock**. In the columns are processor seconds of the crate's own proof, of its"
-    yield "tests' proof (which proves the crate once more), and of its edits (whose first check is as dear as the crate's own); then"
+    yield f"{clock / 60:.0f} minutes by the clock**. {note}In the columns are processor seconds of the crate's own proof, of its"
+    yield "tests' proof (which proves the crate once more), and of its edits (whose first check is as costly as the crate's own); then"
     yield "the number of edits, the memory of the largest process in MiB, and how many crates stand above it, which are all proved"
     yield "anew where it changes."
     yield ""
@@ -152,13 +181,31 @@ def page(words, tasks, clock, processor):
     yield from table(tasks, TOP)
 
 
+def added_up(asked):
+    """Writes the page of the samples."""
+    tasks, whole = sampled(asked.samples)
+    lacks = unsampled(tasks, TOP)
+    note = "Sampled from outside, twice a second. "
+    if lacks:
+        note += f"Kept from earlier, and so without samples: {', '.join(f'`{name}`' for name in lacks)}. "
+    text = "\n".join(page([asked.of], tasks, asked.minutes * 60, whole, note)) + "\n"
+    with open(asked.to, "w", encoding="utf-8") as file:
+        file.write(text)
+    return 0
+
+
 def main():
     what, _, more = __doc__.split("\n\n", 2)
     parser = argparse.ArgumentParser(description=what, epilog=more, formatter_class=argparse.RawDescriptionHelpFormatter)
     parser.add_argument("--to", default=f"{TOP}/docs/GATE.md", metavar="FILE", help="the file to write (default: docs/GATE.md)")
+    parser.add_argument("--samples", action="append", metavar="FILE", help="runs nothing, and adds up these samples")
+    parser.add_argument("--minutes", type=float, default=0, metavar="N", help="the minutes by the clock of what was sampled")
+    parser.add_argument("--of", default="rt ci", metavar="TEXT", help="what was sampled (default: rt ci)")
     parser.add_argument("command", nargs=argparse.REMAINDER, metavar="COMMAND", help="what to run (default: rt ci --anew)")
     asked = parser.parse_args()
     words = [word for word in asked.command if word != "--"] or ["rt", "ci", "--anew"]
+    if asked.samples:
+        return added_up(asked)
     tasks, began = {}, time.monotonic()
     child = subprocess.Popen(words, cwd=TOP, stdin=subprocess.DEVNULL)
     try:

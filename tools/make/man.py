@@ -4,7 +4,7 @@
 usage: tools/make/man.py FOLDER        writes FOLDER/man1, man5 and man7
        tools/make/man.py --usages      prints the usage lines that the manual has, one a line
 
-chukwa(1) and a page for each command come from OPERATING, chukwa-formats(5) from FORMATS, chukwa(7) from
+chukwa(1), chukwactl(1) and a page for each command come from OPERATING, chukwa-formats(5) from FORMATS, chukwa(7) from
 README's guarantee and OPERATING's rules, stops and limits. A page says what its text says, and nothing else.
 """
 import os
@@ -23,6 +23,7 @@ COMMANDS = {
     "load": "make logs for trials and archive them",
     "udp": "take datagrams into synced buffers",
     "subscribe": "print the chunks that tees send",
+    "join": "make one archive of two of the same logs",
 }
 
 
@@ -165,6 +166,9 @@ def pages():
         [("Synopsis", ["\\fBchukwa\\fR \\fIcommand\\fR [\\fIword\\fR...]"]), ("Description", body(whole["What it does"])),
          ("Commands", listed + body(words)), ("Watching", body(whole["Watching"])),
          ("When it hurts", body(whole["When it hurts"])), *also])
+    made["man1/chukwactl.1"] = page(
+        "chukwactl", 1, "show what a store has",
+        [("Synopsis", ["\\fBchukwactl\\fR \\fIcommand\\fR [\\fIword\\fR...]"]), ("Description", body(whole["Looking"])), *also])
     made["man7/chukwa.7"] = page(
         "chukwa", 7, "what chukwa promises, and what it wants for it",
         [("The guarantee", body(sections(readme, "##")["The guarantee"])), ("Rules", body(whole["Rules that cost bytes"])),

@@ -6,7 +6,8 @@ usage: tools/make/twice.py [--tests] [WHAT...]
 WHAT is one or more of these, by default all:
 
   definitions   definitions of specs/ with the same text except for their name, in two crates or more
-  statements    statements of lemmas with the same text except for their name, in two crates or more
+  statements    statements of lemmas with the same text except for their name, in two crates or more; the answers
+                to goals are left out
   functions     functions with the same signature and body, in two files or more
   uncited       definitions, and functions that are public in their file, which no text but their own names
 
@@ -23,6 +24,8 @@ sys.path.insert(0, os.path.join(os.path.dirname(os.path.abspath(__file__)), "../
 from contracts import TOP, Crate, Definitions, crates, one_line, sources, text_of
 
 LEMMA = re.compile(r"^( *)(?:pub )?([^\s:(){}]+) : ")
+# Files of the answers to goals, whose names the checker gives: they are no lemmas.
+GOALS = {"Answers.antt", "Invariants.antt", "Proof.antt"}
 KEYWORDS = {"use", "pub", "mod", "module", "abbrev", "record", "data", "unfoldable", "unfolding"}
 
 
@@ -49,6 +52,8 @@ def statements(names):
     """Statements of lemmas: a name at the start of a line, or one step in, a colon, and its type up to its own name."""
     for crate in names:
         for path in sources(f"{TOP}/crates/{crate}/proofs", ".antt"):
+            if os.path.basename(path) in GOALS:
+                continue
             lines = without_comments(text_of(path)).split("\n")
             for at, line in enumerate(lines):
                 found = LEMMA.match(line)

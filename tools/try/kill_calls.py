@@ -4,8 +4,8 @@
 usage: tools/try/kill_calls.py [--every N] [--jobs N] [--error NAME]... [--keep FOLDER] [--program FILE] COMMAND...
 
 COMMAND is `archive` over made sinks, a book with sixteen segments, which the run merges, and chunks that were
-set aside; `demux` over a made archive; `round` over two logs; or one of `small-archive`, `small-demux` and
-`small-round` over a few bytes. It needs `strace`, of Debian's packages. One run tells the calls on files that
+set aside; `demux` over a made archive; `round` over two logs; or one of `small-archive`, `small-demux`,
+`small-join` and `small-round` over a few bytes. It needs `strace`, of Debian's packages. One run tells the calls on files that
 the command makes. For each of them, in an own folder, the command is killed by SIGKILL when it enters the
 call, and in further runs the call answers EIO and, where that can be, ENOSPC, without being done. After each
 the archive has to be readable, each stream's a prefix of its log and no shorter than before; a run that ended

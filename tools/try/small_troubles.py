@@ -9,6 +9,8 @@ usage: tools/try/small_troubles.py [--program FILE] [CASE...]
 - `limit`: a `round` whose sink would pass the limit of a file's size ends with a failed append, and one
   after it without the limit takes all.
 - `signals`: a `round` that is stopped and goes on many times takes all.
+- `waits`: a `drain` whose collector doesn't answer for 1.6 s is stopped for 50 ms and goes on, 16 times in
+  that time. It delivers all.
 - `web`: requests of the web come to a control door, with control lines as their bodies. None is followed.
 - `refused`: a line of an initial file is no good `add`. It is told with its number and what is wrong with it.
 - `folder`: a log in a folder of 5,000 others is rotated while an agent follows it. None of its bytes is lost.
@@ -88,6 +90,32 @@ def signals(program, folder):
     process.close()
     print(f"  it was stopped {count} times, and ended with {status} {said!r}")
     return int(status != 0 or Archive(folder).bytes_of(("h1", "Log", "a.log")) != data), "of 1 stopped rounds went wrong"
+
+
+def waits(program, folder):
+    """Whether stops and goes ended a drain that waited for its collector, or lost bytes."""
+    data = b"a line of the log\n" * 1_000
+    write(f"{folder}/a.log", data)
+    write(f"{folder}/add", b"add CharFileTailingAdaptorUTF8 Log a.log 0\n")
+    (door,) = free_ports(1)
+    collector = Process("collector", [program, "collector", "c1", f"127.0.0.1:{door}"], folder)
+    try:
+        while collector.status() is None and not listening(door):
+            time.sleep(0.02)
+        os.killpg(collector.child.pid, signal.SIGSTOP)
+        drain = Process("drain", [program, "drain", "--initial", "add", "h1", f"127.0.0.1:{door}"], folder)
+        for _ in range(16):
+            os.killpg(drain.child.pid, signal.SIGSTOP)
+            time.sleep(0.05)
+            os.killpg(drain.child.pid, signal.SIGCONT)
+            time.sleep(0.05)
+        os.killpg(collector.child.pid, signal.SIGCONT)
+        status, said = drain.wait(90), drain.error()
+        drain.close()
+    finally:
+        collector.close()
+    print(f"  it ended with {status} {said!r}")
+    return int(status != 0), "of 1 waiting drains went wrong"
 
 
 def web(program, folder):
@@ -176,7 +204,7 @@ def folder(program, folder):
         collector.close()
 
 
-CASES = [closed, pipe, limit, signals, web, refused, folder]
+CASES = [closed, pipe, limit, signals, waits, web, refused, folder]
 
 
 def main():

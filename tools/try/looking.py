@@ -1,0 +1,196 @@
+#!/usr/bin/env python3
+"""Looks into stores that are made by hand, and into one beside a job that goes on.
+
+usage: tools/try/looking.py [--program FILE] [--look FILE] [--seconds N]
+
+Each command of `chukwactl` runs below `strace` in a folder that is made by docs/FORMATS.md: its status, its standard
+output and its standard error have to be those that are written here, it may open no file but for reading (and
+/dev/null in place of a descriptor), and make, change, lock and sync none. Then, where the program `chukwa` is built
+too, rounds archive a growing log for N seconds (20 without the option), while `streams`, `verify`, `sum` and `cat`
+look at the store and `cat --follow` goes on beside them: no look may find damage, what was printed is the log, and a
+digest is that of its front. It prints how many looks were made, and ends with 1 where one went wrong. It wants strace.
+"""
+import hashlib
+import os
+import re
+import shutil
+import subprocess
+import sys
+import tempfile
+import time
+
+sys.path.insert(0, os.path.join(os.path.dirname(os.path.abspath(__file__)), "../lib"))
+
+from archive_records import CLASS, LOG, big_endian, book, record
+from running import TOP, Process, add_program, parser_of, ran
+
+LOOK = f"{TOP}/crates/chukwactl/out/chukwactl"
+OTHER = ("h2", "Log", "/a.log")
+# Calls that make, change, lock or sync a file, or send.
+CHANGES = ("mkdir", "rename", "unlink", "link", "symlink", "rmdir", "truncate", "ftruncate", "fallocate", "chmod",
+           "fchmod", "chown", "fchown", "mknod", "utime", "futime", "flock", "fsync", "fdatasync", "sync", "pwrite",
+           "socket", "connect", "bind", "sendto", "creat")
+
+
+def segment(number, *records):
+    marker = hashlib.md5(f"seg.{number}".encode()).digest()
+    return b"SEQ\x06" + CLASS + CLASS + b"\0\0" + big_endian(0, 4) + marker + b"".join(records)
+
+
+HELLO, WORL, X = record(6, b"hello\n"), record(10, b"worl"), record(2, b"x\n", OTHER)
+SOUND = {
+    "archive/seg.1": segment(1, HELLO),
+    "archive/seg.2": segment(2, X, WORL),
+    "archive/book": book(3, [(1, 144), (2, 186)], [(LOG, 10, 0), (OTHER, 2, 0)]),
+    "demux/seg.1": segment(1, HELLO),
+    "demux/book": book(2, [(1, 144)], [(LOG, 6, 0)]),
+}
+FLIPPED = bytearray(SOUND["archive/seg.2"])
+FLIPPED[99] ^= 1
+CHANGED = bytearray(SOUND["archive/seg.2"])
+CHANGED[-1] ^= 1
+STREAM = "stream {} Log /a.log start 0 end {} demuxed {}\n"
+
+
+def summed(host, content):
+    digest = hashlib.sha256(content).hexdigest()
+    return f"stream {host} Log /a.log start 0 end {len(content)} sha256 {digest}\n"
+
+
+# The files, the words (S is the folder), the status, the standard output and the standard error.
+ROWS = [
+    (SOUND, "streams S", 0, STREAM.format("h1", 10, 6) + STREAM.format("h2", 2, 0), ""),
+    (SOUND, "cat S h1 Log /a.log", 0, "hello\nworl", ""),
+    (SOUND, "cat --begin 4 S h1 Log /a.log", 0, "o\nworl", ""),
+    (SOUND, "cat --records S h1 Log /a.log", 0, "hello\n", ""),
+    (SOUND, "cat S h3 Log /a.log", 1, "", "chukwactl: no such stream\n"),
+    (SOUND, "verify S", 0, "ok archive 3 demux 1\n", ""),
+    ({**SOUND, "archive/seg.2": bytes(FLIPPED)}, "verify S", 1, "", "chukwactl: damaged archive/seg.2 96\n"),
+    ({**SOUND, "archive/seg.1": None}, "verify S", 1, "", "chukwactl: damaged archive/seg.1 0\n"),
+    ({**SOUND, "archive/seg.2": None}, "cat S h1 Log /a.log", 3, "hello\n", "chukwactl: archive/seg.2 isn't there\n"),
+    (SOUND, "sum S", 0, summed("h1", b"hello\nworl") + summed("h2", b"x\n"), ""),
+    ({**SOUND, "archive/seg.2": bytes(CHANGED)}, "sum S", 0,
+     summed("h1", b"hello\nworm") + summed("h2", b"x\n"), ""),
+    ({**SOUND, "archive/seg.2": bytes(FLIPPED)}, "sum S", 1, "", "chukwactl: damaged archive/seg.2 96\n"),
+    ({**SOUND, "demux/book": None}, "verify S", 0, "ok archive 3 demux none\n", ""),
+    ({**SOUND, "archive/book": None}, "verify S", 1, "", "chukwactl: there is no archive/book\n"),
+    ({"archive/seg.1": SOUND["archive/seg.1"]}, "streams S", 1, "", "chukwactl: there is no archive/book\n"),
+    ({}, "streams S", 3, "", None),
+    ({}, "streams S/none", 3, "", None),
+    ({}, "cat", 2, "", "usage: chukwactl cat [--begin N] [--follow] [--records] STORE SOURCE TYPE NAME\n"),
+    ({}, "verify --help", 0, "usage: chukwactl verify STORE\n", ""),
+]
+
+
+def made(folder, files):
+    for name, content in files.items():
+        if content is not None:
+            os.makedirs(os.path.dirname(f"{folder}/{name}"), exist_ok=True)
+            with open(f"{folder}/{name}", "wb") as file:
+                file.write(content)
+
+
+def changing(trace):
+    """The calls of a trace that do more than read and print."""
+    with open(trace, encoding="utf-8", errors="replace") as file:
+        for line in file:
+            call = re.match(r"(?:\d+ +)?([a-z0-9_]+)\((.*)", line)
+            if not call:
+                continue
+            name, words = call[1], call[2]
+            opens = name in ("open", "openat") and re.search(r"O_(WRONLY|RDWR|CREAT|TRUNC|APPEND)", words)
+            writes = name in ("write", "writev") and not re.match(r"[12],", words)
+            locks = name == "fcntl" and "F_SETLK" in words
+            if opens and '"/dev/null"' not in words or writes or locks or name.startswith(CHANGES):
+                yield line.strip()
+
+
+def wrong_rows(look):
+    wrong = 0
+    for number, (files, words, status, out, error) in enumerate(ROWS):
+        with tempfile.TemporaryDirectory() as place:
+            folder, trace = f"{place}/store", f"{place}/trace"
+            os.mkdir(folder)
+            made(folder, files)
+            words = [folder + word[1:] if re.match("S(/|$)", word) else word for word in words.split()]
+            done = subprocess.run(["strace", "-f", "-qq", "-o", trace, look, *words], cwd=place, capture_output=True,
+                                  text=True, timeout=60, stdin=subprocess.DEVNULL)
+            found = (done.returncode, done.stdout, done.stderr if error is not None else None)
+            told = [] if found == (status, out, error) else [f"{found} in place of {(status, out, error)}"]
+            told += [f"it calls {line}" for line in changing(trace)]
+            for line in told:
+                print(f"row {number + 1}, {' '.join(words)}: {line}")
+            wrong += bool(told)
+    print(f"{wrong} of {len(ROWS)} looks at folders made by hand went wrong")
+    return wrong
+
+
+def is_true(command, out, log):
+    """What `cat` and `sum` print of the only stream is of a front of its log."""
+    if command == "cat":
+        return log.startswith(out.encode())
+    if command == "sum":
+        words = out.split()
+        return words[-1] == hashlib.sha256(log[:int(words[-3])]).hexdigest()
+    return True
+
+
+def beside(look, program, seconds):
+    """Looks at a store while rounds archive a log; how many went wrong."""
+    wrong, looks, log = 0, 0, b""
+    with tempfile.TemporaryDirectory() as place:
+        path, end = f"{place}/a.log", time.monotonic() + seconds
+        stream = [place, "h1", "Log", path]
+        round_of = [program, "round", "h1", "Log", path]
+
+        def grow():
+            nonlocal log
+            more = b"".join(b"%d a line of this log\n" % number for number in range(len(log), len(log) + 3_000))
+            log += more
+            with open(path, "ab") as file:
+                file.write(more)
+
+        grow()
+        if (given := ran(round_of, place))[0] != 0:
+            sys.exit(f"round: {given}")
+        follow = Process("cat", [look, "cat", "--follow", *stream], place)
+        while time.monotonic() < end:
+            grow()
+            job = Process("round", round_of, place)
+            while job.status() is None:
+                for words in (["streams", place], ["verify", place], ["sum", place], ["cat", *stream]):
+                    status, out, error = ran([look, *words], place)
+                    looks += 1
+                    if status != 0 or error or not is_true(words[0], out, log):
+                        print(f"{words[0]}: {status} {out[:200]!r} {error!r}")
+                        wrong += 1
+            if job.status() != 0:
+                sys.exit(f"round: {job.status()} {job.error()}")
+            job.close()
+        whole = ran([look, "cat", *stream], place)[1].encode() == log
+        time.sleep(7)
+        same = follow.printed().encode() == log and follow.status() is None and follow.error() == ""
+        follow.close()
+    print(f"{wrong} of {looks} looks beside a job went wrong; cat has {'all' if whole else 'NOT all'} of the log, "
+          f"and cat --follow {'too' if same else 'NOT'}")
+    return wrong + (not whole) + (not same)
+
+
+def main():
+    parser = parser_of(__doc__)
+    add_program(parser)
+    parser.add_argument("--look", default=LOOK, help="the program that looks (default: the checkout's)")
+    parser.add_argument("--seconds", type=float, default=20, help="how long rounds are run (20)")
+    asked = parser.parse_args()
+    if not shutil.which("strace"):
+        sys.exit("strace isn't here")
+    if not os.path.isfile(asked.look):
+        sys.exit(f"there is no program {asked.look}")
+    wrong = wrong_rows(os.path.abspath(asked.look))
+    if os.path.isfile(asked.program):
+        wrong += beside(os.path.abspath(asked.look), os.path.abspath(asked.program), asked.seconds)
+    return 1 if wrong else 0
+
+
+if __name__ == "__main__":
+    sys.exit(main())
