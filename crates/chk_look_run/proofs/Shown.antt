@@ -26,7 +26,7 @@ use Rattle.chk_look.specs.Faults.{LookCause}
 use Rattle.chk_look_words.specs.Usages.{usage_text}
 use Rattle.chk_look_words.specs.declared.usage.Usage.{Usage}
 use Rattle.chk_look_words.specs.declared.usage.Usage.TheVariants.{Commands, Cat, Streams}
-use Rattle.chk_look_words.specs.declared.usage.Usage.TheVariants.{Verify, Sum}
+use Rattle.chk_look_words.specs.declared.usage.Usage.TheVariants.{Verify, Sum, Held}
 use Rattle.chk_look_run.specs.Outcomes.{listed_as, outcome_of_fault, outcome_of_job, shown_as}
 use Rattle.chk_look_run.specs.Outcomes.{told_as, OutcomeCause}
 use Rattle.chk_look_run.specs.Runs.{archive_line, sound_line, version_line}
@@ -46,6 +46,7 @@ usage_one Cat = refl
 usage_one Streams = refl
 usage_one Verify = refl
 usage_one Sum = refl
+usage_one Held = refl
 
 pub version_one : IsTrue (is_one_line version_line)
 version_one = refl

@@ -1,4 +1,5 @@
 pub mod Outcomes
 pub mod Finding
 pub mod Summing
+pub mod Holding
 pub mod Runs

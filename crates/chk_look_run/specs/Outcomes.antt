@@ -13,7 +13,7 @@ use Rattle.chk_look.specs.declared.stream.Came.TheVariants as came
 use Rattle.chk_look_run.specs.declared.outcome.Outcome.{Outcome}
 use Rattle.chk_look_run.specs.declared.outcome.Outcome.TheVariants.{Done, NoArchive, Unknown}
 use Rattle.chk_look_run.specs.declared.outcome.Outcome.TheVariants.{Short, Damaged, Usage, Outside}
-use Rattle.chk_look_run.specs.declared.outcome.Outcome.TheVariants.{Gone, NoMemory}
+use Rattle.chk_look_run.specs.declared.outcome.Outcome.TheVariants.{Gone, NoMemory, Waits}
 
 abbrev pub outcome_status : Outcome → ℕ
 outcome_status Done = 0
@@ -21,6 +21,7 @@ outcome_status NoArchive = 1
 outcome_status Unknown = 1
 outcome_status Short = 1
 outcome_status (Damaged name at) = 1
+outcome_status Waits = 1
 outcome_status (Usage usage) = 2
 outcome_status (Outside call) = 3
 outcome_status (Gone name) = 3

@@ -16,7 +16,7 @@ use Rattle.chk_look_store.specs.Going.{GoesOn}
 use Rattle.chk_look_store.specs.Following.{Follows}
 use Rattle.chk_look_verify.specs.Verifying.{VerifiedBy}
 use Rattle.chk_look_words.specs.Asked.{asked}
-use Rattle.chk_look_words.specs.Commands.{Asked, Cat, Streams, Verify, Sum, Help}
+use Rattle.chk_look_words.specs.Commands.{Asked, Cat, Streams, Verify, Sum, Held, Help}
 use Rattle.chk_look_words.specs.Commands.{Version, CatAsked}
 use Rattle.chk_look_words.specs.Usages.{usage_of, usage_text}
 use Rattle.chk_look_run.specs.declared.outcome.Outcome.{Outcome}
@@ -24,6 +24,7 @@ use Rattle.chk_look_run.specs.declared.outcome.Outcome.TheVariants.{Usage, NoMem
 use Rattle.chk_look_run.specs.Outcomes.{listed_as, outcome_of_job, shown_as, told_as}
 use Rattle.chk_look_run.specs.Finding.{FindsFile, InStore}
 use Rattle.chk_look_run.specs.Summing.{ShowsSums}
+use Rattle.chk_look_run.specs.Holding.{ShowsHeld}
 
 -- the folder of what is wanted, and the most bytes of a record in it
 abbrev pub folder_of : CatAsked → List ℕ
@@ -123,6 +124,7 @@ ShowsAsked (Cat w) outcome before after = InStore (ShowsStream w) outcome before
 ShowsAsked (Streams store) outcome before after = InStore ShowsStreams outcome before after
 ShowsAsked (Verify store) outcome before after = InStore ShowsVerified outcome before after
 ShowsAsked (Sum store) outcome before after = InStore ShowsSums outcome before after
+ShowsAsked (Held store) outcome before after = InStore ShowsHeld outcome before after
 ShowsAsked (Help usage) outcome before after = Tells (usage_text usage) outcome before after
 ShowsAsked Version outcome before after = Tells version_line outcome before after
 

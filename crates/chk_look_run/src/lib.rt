@@ -2,6 +2,7 @@
 #![tactic(auto)]
 
 mod finding;
+mod holding;
 mod outcome;
 mod running;
 mod showing;

@@ -27,6 +27,8 @@ pub enum Outcome {
     /// The file isn't in its grammar from its byte `at` on, or its record there doesn't go on
     /// from those before it; 1.
     Damaged { name: Word, at: u64 },
+    /// Chunks are set aside, since bytes before them aren't archived; 1.
+    Waits,
     /// The words aren't a command; 2.
     Usage(Usage),
     /// This call on the outside failed; 3.
@@ -46,6 +48,7 @@ impl Outcome {
         match self {
             Outcome::Done => 0,
             Outcome::NoArchive | Outcome::Unknown | Outcome::Short | Outcome::Damaged { .. } => 1,
+            Outcome::Waits => 1,
             Outcome::Usage(_) => 2,
             Outcome::Outside { .. } | Outcome::Gone { .. } => 3,
             Outcome::NoMemory => 4,
@@ -66,6 +69,7 @@ impl Display for Outcome {
                 let name = name.as_str();
                 write!(f, "damaged {name} {at}")
             }
+            Outcome::Waits => write!(f, "chunks wait for bytes that aren't archived"),
             Outcome::Usage(usage) => write!(f, "{}", usage.text().trim_end()),
             Outcome::Outside { call } => write!(f, "outside {}", call.name()),
             Outcome::Gone { name } => {

@@ -10,6 +10,7 @@ ghost use Rattle.chk_look_words.specs.Commands.{asked_of};
 ghost use Rattle.chk_look_run.specs.Outcomes.{OutcomeCause};
 ghost use Rattle.chk_look_run.specs.Runs.{Ran, Shows};
 
+use crate::holding::show_held;
 use crate::outcome::Outcome;
 use crate::showing::{show_stream, show_streams};
 use crate::summing::show_sums;
@@ -41,6 +42,11 @@ use std::alloc::Global;
 ///
 /// `sum STORE` prints `stream <source> <type> <name> start <offset> end <offset> sha256 <digest>`
 /// for each stream, of its archived bytes, or ends with the first damage and no line.
+///
+/// `held STORE` prints `held <source> <type> <name> archived <offset> missing <offset> to <offset>
+/// waits <offset> to <offset> chunks <count>` for each stream of which chunks are set aside, and
+/// ends with `Waits` where there are some; damage of the book or of their segment ends it before
+/// the first line.
 ///
 /// `--help`, alone or behind a command's name, prints how it is used, and `--version` alone the
 /// version.
@@ -80,6 +86,7 @@ fn show_asked<S: Site>(alloc: Global, site: &mut S, who: &Who, command: &Command
         Command::Streams(_) => show_streams(alloc, site, who),
         Command::Verify(_) => show_verified(alloc, site, who),
         Command::Sum(_) => show_sums(alloc, site, who),
+        Command::Held(_) => show_held(alloc, site, who),
         Command::Help(usage) => tell_usage(alloc, site, who, *usage),
         Command::Version => tell_version(alloc, site, who),
     }

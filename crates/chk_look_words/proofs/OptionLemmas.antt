@@ -21,7 +21,7 @@ use Rattle.chk_look_words.specs.declared.commands.WordsFault.TheVariants.{NoMemo
 use Rattle.chk_look_words.specs.declared.options.Given.{Given}
 use Rattle.chk_look_words.specs.declared.usage.Usage.{Usage}
 use Rattle.chk_look_words.specs.declared.usage.Usage.TheVariants.{Commands, Cat, Streams}
-use Rattle.chk_look_words.specs.declared.usage.Usage.TheVariants.{Verify, Sum}
+use Rattle.chk_look_words.specs.declared.usage.Usage.TheVariants.{Verify, Sum, Held}
 
 -- the command with these options that take a value
 abbrev pub with_options : List Text → App
@@ -73,6 +73,7 @@ all_simple Cat = refl
 all_simple Streams = refl
 all_simple Verify = refl
 all_simple Sum = refl
+all_simple Held = refl
 
 -- an error where no words are taken, or of memory
 none_told : (kind : ErrorKind) → ReadsOptions None (Err (fault_by kind))

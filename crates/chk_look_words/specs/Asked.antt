@@ -6,7 +6,7 @@ use Rattle.clap.specs.Walk.{Row}
 use Rattle.chk_look_words.specs.Names.{is_store, number_in, most}
 use Rattle.chk_look_words.specs.Options.{parsed, plain_of, by_option, is_flagged}
 use Rattle.chk_look_words.specs.Usages.{usage_of, option_names, flag_names}
-use Rattle.chk_look_words.specs.Commands.{Asked, Cat, Streams, Verify, Sum, Help}
+use Rattle.chk_look_words.specs.Commands.{Asked, Cat, Streams, Verify, Sum, Held, Help}
 use Rattle.chk_look_words.specs.Commands.{Version, asked_of}
 use Rattle.chk_look_words.specs.declared.commands.Command.{Command}
 use Rattle.chk_look_words.specs.declared.commands.WordsFault.{WordsFault}
@@ -50,6 +50,7 @@ asked_for usage.Cat rows = asked_cat rows
 asked_for usage.Streams rows = option_map Streams (store_of rows)
 asked_for usage.Verify rows = option_map Verify (store_of rows)
 asked_for usage.Sum rows = option_map Sum (store_of rows)
+asked_for usage.Held rows = option_map Held (store_of rows)
 
 -- the same, or how it is used
 abbrev pub asked_by : Usage → List Row → Option Asked

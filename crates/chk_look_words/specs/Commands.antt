@@ -23,6 +23,7 @@ pub data Asked : Type 0 where
   Streams : List ℕ → Asked
   Verify : List ℕ → Asked
   Sum : List ℕ → Asked
+  Held : List ℕ → Asked
   Help : Usage → Asked
   Version : Asked
 
@@ -43,6 +44,7 @@ asked_of (words.Cat w) = Cat (cat_of w)
 asked_of (words.Streams store) = Streams store.now
 asked_of (words.Verify store) = Verify store.now
 asked_of (words.Sum store) = Sum store.now
+asked_of (words.Held store) = Held store.now
 asked_of (words.Help usage) = Help usage
 asked_of words.Version = Version
 
@@ -54,5 +56,6 @@ IsGood (Cat w) =
 IsGood (Streams store) = IsTrue (is_store store)
 IsGood (Verify store) = IsTrue (is_store store)
 IsGood (Sum store) = IsTrue (is_store store)
+IsGood (Held store) = IsTrue (is_store store)
 IsGood (Help usage) = Unit {0}
 IsGood Version = Unit {0}

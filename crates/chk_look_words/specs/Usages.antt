@@ -1,7 +1,7 @@
 -- Which command the first word names, its options, and the line that tells how it is used.
 use Rattle.std.specs.Prelude.{ℕ, List, [], ◌∷◌, codes, bytes_eq, if◌then◌else◌}
 use Rattle.chk_look_words.specs.declared.usage.Usage.{Usage}
-use Rattle.chk_look_words.specs.declared.usage.Usage.TheVariants.{Commands, Cat, Streams, Verify, Sum}
+use Rattle.chk_look_words.specs.declared.usage.Usage.TheVariants.{Commands, Cat, Streams, Verify, Sum, Held}
 
 -- the command of this name, or none
 abbrev pub usage_named : List ℕ → Usage
@@ -9,7 +9,8 @@ usage_named first =
     if bytes_eq first (codes "cat") then Cat
     else if bytes_eq first (codes "streams") then Streams
     else if bytes_eq first (codes "verify") then Verify
-    else if bytes_eq first (codes "sum") then Sum else Commands
+    else if bytes_eq first (codes "sum") then Sum
+    else if bytes_eq first (codes "held") then Held else Commands
 
 -- the command that the first word names
 abbrev pub usage_of : List (List ℕ) → Usage
@@ -28,8 +29,9 @@ flag_names usage = codes "help" ∷ []
 
 -- how the words should have been
 abbrev pub usage_text : Usage → List ℕ
-usage_text Commands = codes "usage: chukwactl cat|streams|verify|sum [--help], or --version\n"
+usage_text Commands = codes "usage: chukwactl cat|streams|verify|sum|held [--help], or --version\n"
 usage_text Cat = codes "usage: chukwactl cat [--begin N] [--follow] [--records] STORE SOURCE TYPE NAME\n"
 usage_text Streams = codes "usage: chukwactl streams STORE\n"
 usage_text Verify = codes "usage: chukwactl verify STORE\n"
 usage_text Sum = codes "usage: chukwactl sum STORE\n"
+usage_text Held = codes "usage: chukwactl held STORE\n"

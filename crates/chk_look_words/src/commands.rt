@@ -15,6 +15,8 @@ pub enum Command<'a> {
     Verify(&'a str),
     /// The folder of the store.
     Sum(&'a str),
+    /// The folder of the store of which the streams are shown that have chunks set aside.
+    Held(&'a str),
     /// How this command is used.
     Help(Usage),
     /// Which version the program is.

@@ -30,6 +30,7 @@ pub fn read_words<'a>(alloc: Global, words: &'a [&'a str]) -> Result<Command<'a>
         Usage::Streams => read_command(alloc, Usage::Streams, words),
         Usage::Verify => read_command(alloc, Usage::Verify, words),
         Usage::Sum => read_command(alloc, Usage::Sum, words),
+        Usage::Held => read_command(alloc, Usage::Held, words),
     }
 }
 
@@ -80,6 +81,7 @@ fn command_by<'a>(usage: Usage, given: &Given<'a>) -> Option<Command<'a>>
         Usage::Streams => Some(Command::Streams(read_store(given)?)),
         Usage::Verify => Some(Command::Verify(read_store(given)?)),
         Usage::Sum => Some(Command::Sum(read_store(given)?)),
+        Usage::Held => Some(Command::Held(read_store(given)?)),
     }
 }
 

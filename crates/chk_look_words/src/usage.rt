@@ -24,6 +24,8 @@ pub enum Usage {
     /// `verify`.
     Verify,
     Sum,
+    /// `held`.
+    Held,
 }
 
 impl Usage {
@@ -32,13 +34,15 @@ impl Usage {
         ensures { result.now ≡ usage_text self }
     {
         match self {
-            Usage::Commands => "usage: chukwactl cat|streams|verify|sum [--help], or --version\n",
+            Usage::Commands =>
+                "usage: chukwactl cat|streams|verify|sum|held [--help], or --version\n",
             Usage::Cat => {
                 "usage: chukwactl cat [--begin N] [--follow] [--records] STORE SOURCE TYPE NAME\n"
             }
             Usage::Streams => "usage: chukwactl streams STORE\n",
             Usage::Verify => "usage: chukwactl verify STORE\n",
             Usage::Sum => "usage: chukwactl sum STORE\n",
+            Usage::Held => "usage: chukwactl held STORE\n",
         }
     }
 
@@ -81,6 +85,7 @@ fn usage_named(first: &str) -> Usage
         "streams" => Usage::Streams,
         "verify" => Usage::Verify,
         "sum" => Usage::Sum,
+        "held" => Usage::Held,
         _ => Usage::Commands,
     }
 }

@@ -24,6 +24,10 @@ const LATER: &[u8] =
 const OTHER: &[u8] =
     b"\0\0\0$\0\0\0\x1e\0\0\0\x1a\x01\0\0\0\0\0\0\0\x02\0\x02h2\0\x03Log\0\x06/a.log\0\0\0\x02x\n";
 
+// Its bytes 3 to 5.
+const LATER_2: &[u8] =
+    b"\0\0\0$\0\0\0\x1e\0\0\0\x1a\x01\0\0\0\0\0\0\0\x05\0\x02h2\0\x03Log\0\x06/a.log\0\0\0\x02x\n";
+
 // The length of a record without the rest.
 const TORN: &[u8] = b"\0\0\0\x28";
 
@@ -48,6 +52,7 @@ pub(crate) fn part(name: &str) -> Option<&'static [u8]> {
         "BOTH" => Some(BOTH),
         "LATER" => Some(LATER),
         "OTHER" => Some(OTHER),
+        "LATER_2" => Some(LATER_2),
         "TORN" => Some(TORN),
         "HEAD" => Some(HEAD),
         "HEAD_2" => Some(HEAD_2),

@@ -81,6 +81,7 @@ fn store_in<'a>(rt: HostRuntime, words: &'a [&'a str]) -> Result<Option<&'a str>
         Ok(Command::Streams(store)) => Ok(Some(store)),
         Ok(Command::Verify(store)) => Ok(Some(store)),
         Ok(Command::Sum(store)) => Ok(Some(store)),
+        Ok(Command::Held(store)) => Ok(Some(store)),
         Ok(Command::Help(_)) | Ok(Command::Version) | Err(WordsFault::Usage) => Ok(None),
         Err(WordsFault::NoMemory) => Err(NO_MEMORY),
     }

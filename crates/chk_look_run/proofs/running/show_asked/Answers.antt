@@ -29,6 +29,13 @@ returns-in-Sum g c = record {
   cause = c.show_sums.ensures.cause;
 }
 
+pub returns-in-Held : goal.returns-in-Held
+returns-in-Held g c = record {
+  told = rw c.in-Held.is (shows c.show_held.ensures.told);
+  own = c.show_held.ensures.own;
+  cause = c.show_held.ensures.cause;
+}
+
 pub returns-in-Help : goal.returns-in-Help
 returns-in-Help g c = record {
   told = rw c.in-Help.is (shows c.tell_usage.ensures.told);

@@ -1,0 +1,4 @@
+mod Later
+mod LineWords
+mod Grouped
+mod Sorted
