@@ -57,6 +57,15 @@ def summed(host, content):
     return f"stream {host} Log /a.log start 0 end {len(content)} sha256 {digest}\n"
 
 
+WAITING = {
+    "archive/seg.1": segment(1, HELLO),
+    "archive/seg.2": segment(2, record(11, b"worl")),
+    "archive/book": b"CHKB\x03" + big_endian(3, 8) + big_endian(1, 4) + big_endian(1, 8) + big_endian(144, 8)
+    + big_endian(1, 4) + big_endian(0, 8) + big_endian(6, 8) + b"\0\x02h1\0\x03Log\0\x06/a.log"
+    + big_endian(2, 8) + big_endian(142, 8),
+}
+HELD = "held h1 Log /a.log archived 6 missing 6 to 7 waits 7 to 11 chunks 1\n"
+
 # The files, the words (S is the folder), the status, the standard output and the standard error.
 ROWS = [
     (SOUND, "streams S", 0, STREAM.format("h1", 10, 6) + STREAM.format("h2", 2, 0), ""),
@@ -72,6 +81,9 @@ ROWS = [
     ({**SOUND, "archive/seg.2": bytes(CHANGED)}, "sum S", 0,
      summed("h1", b"hello\nworm") + summed("h2", b"x\n"), ""),
     ({**SOUND, "archive/seg.2": bytes(FLIPPED)}, "sum S", 1, "", "chukwactl: damaged archive/seg.2 96\n"),
+    (SOUND, "held S", 0, "", ""),
+    (WAITING, "held S", 1, HELD, "chukwactl: chunks wait for bytes that aren't archived\n"),
+    ({**WAITING, "archive/seg.2": None}, "held S", 1, "", "chukwactl: damaged archive/seg.2 0\n"),
     ({**SOUND, "demux/book": None}, "verify S", 0, "ok archive 3 demux none\n", ""),
     ({**SOUND, "archive/book": None}, "verify S", 1, "", "chukwactl: there is no archive/book\n"),
     ({"archive/seg.1": SOUND["archive/seg.1"]}, "streams S", 1, "", "chukwactl: there is no archive/book\n"),
