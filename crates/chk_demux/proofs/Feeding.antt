@@ -137,7 +137,7 @@ module _ (heads : List Head) (e : End) (index from : ℕ) (t : Bool) (fed value 
   abbrev N : List ℕ
   N = take n (drop at value)
 
-  fed_now : A ++ N ≡ fed ++ take (at + n) value
+  pub fed_now : A ++ N ≡ fed ++ take (at + n) value
   fed_now = append_assoc fed (take at value) N ∙ ap (λ l. fed ++ l) (take_add at n value)
 
   pub still_splits : IsSplitting t (fed ++ take (at + n) value) new

@@ -56,7 +56,7 @@ module _ (v : Sight) (files : List (List ℕ)) (heads : List Head) (cs outs : Li
   pub passed : ends_past e from (head_in heads i) ≡ false → (u : Sight) → P u
       → SplitSoFar v files heads cs outs e from (i + 1) b o r s u
   passed misses u p =
-      let same : Fed (i + 1) ≡ Fed i = not_past v files heads cs e from records runs i low misses in
+      let same : Fed (i + 1) ≡ Fed i = not_past v files heads cs e from records runs.bytes i low misses in
       record {
         output = subst (λ l. IsOutput v (outs ++ chunks_of_fed heads e from b l) o u) (sym same) p.output;
         windows = p.windows;
@@ -64,13 +64,13 @@ module _ (v : Sight) (files : List (List ℕ)) (heads : List Head) (cs outs : Li
       }
 
   abbrev pub Own : Chunk
-  Own = D v files heads cs e from records runs i low
+  Own = D v files heads cs e from records runs.bytes i low
 
   abbrev pub W : List ℕ
   W = head_file files heads i
 
   is : IsRecordAt v files heads i Own
-  is = record_at v files heads cs e from records runs i low
+  is = record_at v files heads cs e from records runs.bytes i low
 
   can : CanBeRead v (read W)
   can = (records.sound W (one_of_files v files heads i Own records.sound is)).can
@@ -147,12 +147,12 @@ module _ (v : Sight) (files : List (List ℕ)) (heads : List Head) (cs outs : Li
       given_so : X → given ≡ past_of from Own
       given_so x =
           given_is ∙ ap₂ (λ m l. drop (from - m) l)
-          (begins ∙ (record_at v files heads cs e from records runs i low).begin) x.1
+          (begins ∙ (record_at v files heads cs e from records runs.bytes i low).begin) x.1
 
       all_so : X → Fed i ++ given ≡ Fed (i + 1)
       all_so x =
           ap (λ l. Fed i ++ l) (given_so x)
-          ∙ sym (is_past v files heads cs e from records runs i low passes)
+          ∙ sym (is_past v files heads cs e from records runs.bytes i low passes)
 
       ended : (z : Result (Unit {0}) JobFault) → X
           → ((value : Unit {0}) → z ≡ Ok value → IsSplitting b (Fed i ++ given) q) → (h : History)
@@ -183,7 +183,7 @@ module _ (v : Sight) (files : List (List ℕ)) (heads : List Head) (cs outs : Li
           let fed = Fed i in
           let placed : IsPlaced heads e i from (fed ++ given) =
           subst (λ l. IsPlaced heads e i from (fed ++ l)) (sym (given_so px.1))
-          (is_placed v files heads cs e from records runs i low passes) in
+          (is_placed v files heads cs e from records runs.bytes i low passes runs) in
           reach stamped h (AtJob stamped (IsOutput v (outs ++ chunks_of_fed heads e from b fed) o)) C
           (leads_as (λ h k. k) (λ g j. ended z px.1 (λ value e. splits fed px.0.splits value e) g j) (told fed px.0.splits placed))
           (record { legal = k.legal; may_act = k.may_act; alive = λ still. px.0.output }))

@@ -2,9 +2,12 @@
 use Rattle.std.proofs.Common.{◌≡◌, inl, inr, ℕ, zero, suc, ◌+◌, ◌-◌, ◌<◌, ◌≤◌, Bool, true, false, ◌&&◌, ◌||◌, List, [], ◌∷◌, length, take, ap, sym, subst, ◌∙◌, refl, arith, true≢false}
 use Rattle.std.specs.Prelude.{nat_lt, nat_eq}
 use Rattle.std.proofs.lemmas.Bool.{and_left, or_parts, cases_Bool}
+use Rattle.std.proofs.lemmas.List.{take_all}
 use Rattle.chk_chunk.specs.Keys.{Stream, Chunk, same_stream, stream_lt}
 use Rattle.chk_world.specs.Books.{End}
 use Rattle.chk_world.specs.Sight.{Sight}
+use Rattle.chk_world.specs.TrueBooks.{HasBytes}
+use Rattle.chk_world.proofs.Each.{Each}
 use Rattle.chk_world.proofs.NameTests.{streams_same}
 use Rattle.chk_heads.specs.Heads.{Head}
 use Rattle.chk_heads.specs.Order.{no_head, head_before, in_head_order}
@@ -14,8 +17,8 @@ use Rattle.chk_plan.specs.Passes.{head_in}
 use Rattle.chk_plan.proofs.Bridges.{each_index}
 use Rattle.chk_merge.specs.Courses.{is_head_of}
 use Rattle.chk_parts.specs.Records.{AreRecords}
-use Rattle.chk_demux.specs.Splitting.{past_in, RunsSo, StreamsRise, FirstStands, HoldsStream}
-use Rattle.chk_demux.proofs.Places.{not_past}
+use Rattle.chk_demux.specs.Splitting.{past_in, StreamsRise, FirstStands, HoldsStream}
+use Rattle.chk_demux.proofs.Places.{not_past, same_size}
 
 -- ---- the order of heads
 
@@ -103,13 +106,13 @@ holds_any heads s = record {
 -- ---- what the others give
 
 module _ (v : Sight) (files : List (List ℕ)) (heads : List Head) (cs : List Chunk) (e : End) (from : ℕ)
-    (records : AreRecords v files heads cs) (runs : RunsSo cs e from) where
+    (records : AreRecords v files heads cs) (bytes : Each HasBytes cs) where
   abbrev Past : ℕ → List ℕ
   Past n = past_in from e.stream (take n cs)
 
   one_other : (i : ℕ) → i < length heads → is_head_of e.stream (head_in heads i) ≡ false → Past (i + 1) ≡ Past i
   one_other i low other =
-      not_past v files heads cs e from records runs i low
+      not_past v files heads cs e from records bytes i low
       (and_left (is_head_of e.stream (head_in heads i)) (nat_lt from (head_in heads i).key.seq) other)
 
   pub others_give : (i n : ℕ) → i + n ≤ length heads
@@ -119,3 +122,19 @@ module _ (v : Sight) (files : List (List ℕ)) (heads : List Head) (cs : List Ch
       ap Past (let z : i + suc n ≡ i + n + 1 = omega arith in z)
       ∙ (one_other (i + n) (omega (arith, low)) (other (i + n) (omega arith) (omega arith))
       ∙ others_give i n (omega (arith, low)) (λ k a b. other k a (omega (arith, b))))
+
+  -- nothing stands before the stream's first head, and nothing behind its last one
+  module _ (first past : ℕ) (low : first ≤ past) (high : past ≤ length heads)
+      (holds : HoldsStream heads e.stream first past) where
+    pub none_before : past_in from e.stream (take first cs) ≡ []
+    none_before =
+        ap Past (let z : first ≡ 0 + first = omega arith in z)
+        ∙ others_give 0 first (omega (arith, low, high)) (λ k a b. holds.before k (omega (arith, b)))
+
+    pub none_behind : past_in from e.stream cs ≡ past_in from e.stream (take past cs)
+    none_behind =
+        let size = same_size v files heads cs e from records bytes in
+        ap (past_in from e.stream)
+        (sym (take_all (past + (length heads - past)) cs (omega (arith, size, high))))
+        ∙ others_give past (length heads - past) (omega (arith, high))
+        (λ k a b. holds.behind k a (omega (arith, b, high)))

@@ -26,5 +26,6 @@ mod NextRecords
 mod RunFacts
 pub mod Shown
 mod NewHeads
+mod Due
 mod RunSteps
 pub mod DoneStays

@@ -76,12 +76,12 @@ module _ (v : Sight) (files : List (List ℕ)) (heads : List Head) (cs : List Ch
   cluster_of at on h =
       let i = h.index in
       let c = slice_index_or cs i no_chunk in
-      let size = same_size v files heads cs e from records runs in
+      let size = same_size v files heads cs e from records runs.bytes in
       let low_c = h.low in
       let low : i < length heads = omega (arith, low_c, size) in
-      let is = record_at v files heads cs e from records runs i low in
+      let is = record_at v files heads cs e from records runs.bytes i low in
       let key : (head_in heads i).key ≡ c.key = ap (λ (x : Chunk). x.key) is.is in
-      let of : is_head_of e.stream (head_in heads i) ≡ true = of_same v files heads cs e from records runs i low ∙ h.of in
+      let of : is_head_of e.stream (head_in heads i) ≡ true = of_same v files heads cs e from records runs.bytes i low ∙ h.of in
       let seq : (head_in heads i).key.seq ≡ chunk_end c = ap chunk_end is.is in
       let before : at < chunk_end c = h.before in
       let begin : (head_in heads i).begin ≡ chunk_begin c = is.begin in
@@ -94,7 +94,7 @@ module _ (v : Sight) (files : List (List ℕ)) (heads : List Head) (cs : List Ch
       let holds : holds_byte e.stream at (head_in heads i) ≡ true =
       and_from (is_head_of e.stream (head_in heads i)) (nat_le (head_in heads i).begin at) of
       (not_more (head_in heads i).begin at (omega (arith, begin, begins))) in
-      sym ((is_placed v files heads cs e from records runs i low passes).alone at below)
+      sym ((is_placed v files heads cs e from records runs.bytes i low passes runs).alone at below)
       ∙ (ap (cluster_back heads e.stream at) (add_one i)
       ∙ (ap (λ b. if b then (head_in heads i).key.cluster else cluster_back heads e.stream at i) holds
       ∙ ap (λ k. k.cluster) key))

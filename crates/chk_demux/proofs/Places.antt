@@ -211,7 +211,7 @@ dropped (c ∷ cs) (suc i) (suc k) low =
     ∙ ap (λ m. slice_index_or (drop i cs) m no_chunk) (let z : k - i ≡ suc k - suc i = omega arith in z)
 
 module _ (v : Sight) (files : List (List ℕ)) (heads : List Head) (cs : List Chunk) (e : End) (from : ℕ)
-    (records : AreRecords v files heads cs) (runs : RunsSo cs e from) where
+    (records : AreRecords v files heads cs) (bytes : Each HasBytes cs) where
   zip_size : (hs : List Head) (ds : List Chunk) → AllZip (IsRecordOf v files) hs ds → length hs ≡ length ds
   zip_size [] [] zip = refl
   zip_size [] (d ∷ ds) zip = absurd zip
@@ -238,7 +238,7 @@ module _ (v : Sight) (files : List (List ℕ)) (heads : List Head) (cs : List Ch
     D = C cs i few from e.stream
 
     own : HasBytes D
-    own = each_index HasBytes cs runs.bytes i few no_chunk
+    own = each_index HasBytes cs bytes i few no_chunk
 
     -- where the head's record isn't past the offset, nothing is taken
     pub not_past : ends_past e from (head_in heads i) ≡ false
@@ -263,34 +263,35 @@ module _ (v : Sight) (files : List (List ℕ)) (heads : List Head) (cs : List Ch
       pub is_past : past_in from e.stream (take (i + 1) cs) ≡ past_in from e.stream (take i cs) ++ past_of from D
       is_past = past_one cs i few from e.stream of_it
 
-      later : (k : ℕ) → i + 1 ≤ k → k < length heads → (at : ℕ) → at < (head_in heads i).key.seq
-          → holds_byte e.stream at (head_in heads k) ≡ false
-      later k past high at below = elim (cases_Bool (holds_byte e.stream at (head_in heads k))) [
-        | inr misses ↦ misses
-        | inl holds ↦
-            let p = and_parts (is_head_of e.stream (head_in heads k)) (nat_le (head_in heads k).begin at) holds in
-            let low_k : k < length cs = let size = same_size in omega (arith, high, size) in
-            let rest = length-drop (i + 1) cs in
-            let in_rest : k - (i + 1) < length (drop (i + 1) cs) = omega (arith, past, low_k, rest) in
-            let there = each_index (λ (d : Chunk). is_of e.stream d ≡ true → chunk_end D ≤ chunk_begin d) (drop (i + 1) cs)
-            (later_begin cs i few from e.stream e.start e.end runs.bytes runs.run of_it) (k - (i + 1)) in_rest no_chunk in
-            let same = dropped cs (i + 1) k past in
-            let begins : chunk_end D ≤ chunk_begin (slice_index_or cs k no_chunk) =
-            subst (λ (d : Chunk). is_of e.stream d ≡ true → chunk_end D ≤ chunk_begin d) (sym same) there
-            (sym (of_same k high) ∙ p.0) in
-            let begin = (record_at k high).begin in
-            let end = seq_is i low in
-            let under : (head_in heads k).begin ≤ at = leb-true (head_in heads k).begin at p.1 in
-            absurd (let z : ⊥ = omega (arith, begins, begin, end, under, below) in z)
-      ]
+      module _ (runs : RunsSo cs e from) where
+        later : (k : ℕ) → i + 1 ≤ k → k < length heads → (at : ℕ) → at < (head_in heads i).key.seq
+            → holds_byte e.stream at (head_in heads k) ≡ false
+        later k past high at below = elim (cases_Bool (holds_byte e.stream at (head_in heads k))) [
+          | inr misses ↦ misses
+          | inl holds ↦
+              let p = and_parts (is_head_of e.stream (head_in heads k)) (nat_le (head_in heads k).begin at) holds in
+              let low_k : k < length cs = let size = same_size in omega (arith, high, size) in
+              let rest = length-drop (i + 1) cs in
+              let in_rest : k - (i + 1) < length (drop (i + 1) cs) = omega (arith, past, low_k, rest) in
+              let there = each_index (λ (d : Chunk). is_of e.stream d ≡ true → chunk_end D ≤ chunk_begin d) (drop (i + 1) cs)
+              (later_begin cs i few from e.stream e.start e.end runs.bytes runs.run of_it) (k - (i + 1)) in_rest no_chunk in
+              let same = dropped cs (i + 1) k past in
+              let begins : chunk_end D ≤ chunk_begin (slice_index_or cs k no_chunk) =
+              subst (λ (d : Chunk). is_of e.stream d ≡ true → chunk_end D ≤ chunk_begin d) (sym same) there
+              (sym (of_same k high) ∙ p.0) in
+              let begin = (record_at k high).begin in
+              let end = seq_is i low in
+              let under : (head_in heads k).begin ≤ at = leb-true (head_in heads k).begin at p.1 in
+              absurd (let z : ⊥ = omega (arith, begins, begin, end, under, below) in z)
+        ]
 
-      pub is_placed : IsPlaced heads e i from (past_in from e.stream (take i cs) ++ past_of from D)
-      is_placed = record {
-        ends =
-            let end = seq_is i low in
-            let past : from < chunk_end D = let q = ltb-true from (head_in heads i).key.seq parts.1 in omega (arith, end, q) in
-            end ∙ (ends_with cs i few from e.stream e.start e.end runs.bytes runs.run of_it runs.from_on past
-            ∙ ap (λ l. from + length l) is_past);
-        alone = λ at below.
-            back_same heads e.stream at (i + 1) (length heads) (omega (arith, low)) (λ k past high. later k past high at below);
-      }
+        pub is_placed : IsPlaced heads e i from (past_in from e.stream (take i cs) ++ past_of from D)
+        is_placed = record {
+          ends =
+              let end = seq_is i low in
+              let past : from < chunk_end D = let q = ltb-true from (head_in heads i).key.seq parts.1 in omega (arith, end, q) in
+              end ∙ (ends_with cs i few from e.stream e.start e.end runs.bytes runs.run of_it runs.from_on past
+              ∙ ap (λ l. from + length l) is_past);
+          alone = λ at below.
+              back_same heads e.stream at (i + 1) (length heads) (omega (arith, low)) (λ k past high. later k past high at below);
+        }

@@ -1,6 +1,6 @@
 -- What the reads of a run lead to, whatever was told before.
-use Rattle.std.proofs.Common.{◌≡◌, ℕ, zero, suc, ◌+◌, ◌<◌, false, List, [], ◌∷◌, ◌++◌, length, map, Option, Some, None, Ok, Err, Result, refl, sym, subst, ◌∙◌, ap, ap₂, arith}
-use Rattle.std.specs.Prelude.{Contains, IfErr, codes, bytes_eq, slice_index_or}
+use Rattle.std.proofs.Common.{◌≡◌, ℕ, zero, suc, ◌+◌, ◌<◌, false, List, [], ◌∷◌, ◌++◌, length, map, Option, Some, None, Ok, Err, Result, refl, sym, subst, ◌∙◌, ap, ap₂, arith, inl, inr}
+use Rattle.std.specs.Prelude.{Contains, IfErr, IsTrue, codes, bytes_eq, slice_index_or}
 use Rattle.std.proofs.lemmas.Option.{same_Some}
 use Rattle.std.proofs.lemmas.List.{append_cancel_right}
 use Rattle.std.proofs.lemmas.List.Elements.{Contains-append_left}
@@ -17,38 +17,46 @@ use Rattle.chk_site.proofs.Leads.{leads_as, leads_then, owned_anyhow}
 use Rattle.chk_replace.specs.Load.{Has}
 use Rattle.chk_chunk.specs.Keys.{Chunk, chunk_limit}
 use Rattle.chk_world.specs.ArchiveRuns.{in_order}
-use Rattle.chk_world.specs.Books.{Segment, Book, AllChunks, book_in}
+use Rattle.chk_world.specs.Books.{Segment, Book, AllChunks, book_in, chunks_within, ends_rise}
+use Rattle.chk_world.specs.TrueBooks.{HasBytes}
 use Rattle.chk_world.specs.Jobs.{segment_list}
 use Rattle.chk_world.specs.JobSteps.{IsOf, ReadsFile, SparesFile, WritesTo, removes, creates, appends, syncs}
 use Rattle.chk_world.specs.Names.{ArchiveFolder, SegmentFile, read, spell}
 use Rattle.chk_world.specs.Sight.{Sight}
-use Rattle.chk_world.proofs.Each.{each_at, later_one}
+use Rattle.chk_world.proofs.Each.{Each, each_at, later_one}
+use Rattle.chk_world.proofs.BooksTrue.{each_flat, each_within}
 use Rattle.chk_world.proofs.NameLemmas.{read-spell}
 use Rattle.chk_world.proofs.Segments.{counts_in, none_in}
 use Rattle.chk_heads.specs.Heads.{Head, heads_in}
 use Rattle.chk_heads.specs.Order.{no_head, in_head_order}
 use Rattle.chk_heads.specs.Pieces.{bytes_in}
-use Rattle.chk_heads.specs.Faults.{job_fault, IsOfWrite}
+use Rattle.chk_heads.specs.Faults.{job_fault, IsOfRead, IsOfWrite}
 use Rattle.chk_heads.specs.declared.fault.JobFault.{JobFault}
 use Rattle.chk_heads.specs.declared.fault.JobFault.TheVariants.{Outside, Damaged, Spent, NoMemory}
 use Rattle.chk_book.specs.Books.{book_view}
 use Rattle.chk_book.specs.Folders.{segment_name}
 use Rattle.chk_book.specs.Loaded.{LoadedBook, IsBookOf, book_result, file_bytes}
 use Rattle.chk_book.specs.declared.book.Book.{Book as Struct}
-use Rattle.chk_merge.specs.Segments.{names_of, HasFiles, SparesFiles, AreSettled, IsSound, heads_from}
+use Rattle.chk_merge.specs.Segments.{names_of, chunks_in_files, HasFiles, SparesFiles, AreSettled, IsSound, heads_from}
 use Rattle.chk_merge.specs.Merging.{SoundHeads, AreApart}
+use Rattle.chk_merge.specs.ReadBack.{value_held}
 use Rattle.chk_merge.specs.declared.reader.RecordReader.{RecordReader}
 use Rattle.chk_merge.proofs.Frames.{reads_quiet, stays_so, spares_one, among}
 use Rattle.chk_parts.specs.Cuts.{no_chunk}
 use Rattle.chk_parts.specs.Gathering.{held as known_file, held_at, CanBeRead, own_segment, IsSoundFile, AreSound, heads_of}
-use Rattle.chk_parts.specs.Records.{IsRecordOf, AreRecords, found_in}
+use Rattle.chk_parts.specs.Records.{IsRecordOf, AreRecords, chunks_held, found_in}
 use Rattle.chk_parts.specs.Fetching.{head_file, IsRecordAt, AreWindows, CanFetch, Fetched}
 use Rattle.chk_parts.proofs.CutLists.{zip_at}
 use Rattle.chk_parts.proofs.Fetches.{one_of_files}
 use Rattle.chk_parts.proofs.FoundRecords.{records_in_order}
 use Rattle.chk_parts.proofs.OneSegment.{segment_spelled}
 use Rattle.chk_demux.specs.Beginning.{Begins, starts, only_reads}
-use Rattle.chk_demux.specs.Damage.{archive_name, demux_name, archive_book, reads_of, RunsAll, no_archive_book, no_demux_book, bad_records, LoadedBooks, HasCounts, ReadsOn, NotDamaged, ReadSoundly, ReadAll}
+use Rattle.chk_demux.specs.Damage.{archive_name, demux_name, archive_book, reads_of, RunsAll, no_archive_book, no_demux_book, bad_records, LoadedBooks, HasCounts, AreRead, ReadsOn, NotDamaged, SplitSoundly, RanSoundly, ReadAll}
+use Rattle.chk_demux.specs.Due.{HasDue, IsDueIn}
+use Rattle.chk_demux.specs.Shown.{PutsIf}
+use Rattle.chk_demux.specs.Splitting.{StreamsRise}
+use Rattle.chk_demux.proofs.Due.{order_bytes, book_rises}
+use Rattle.chk_demux.proofs.HeadsInOrder.{streams_rise}
 use Rattle.chk_demux.specs.declared.beginning.Books.{Books}
 
 -- ---- frames
@@ -84,6 +92,17 @@ among_more all some held within {B = B} told =
     adds_as (Leads (anyhow (SparesFiles all)) (HasFiles all held) B) told
     (λ added history x. record {
       leads = λ s h. x.leads (spares_fewer all some within added history s) (λ w one. h w (within w one));
+      own = owned_anyhow added history;
+    })
+
+-- what doesn't speak of the history stays beside it
+pub beside : (X : Type 0) {S : History → Step → Type 0} {B C : History → Type 0}
+    {old new : Option History} → Adds old new (Leads (anyhow S) B C)
+    → Adds old new (Leads (anyhow S) (λ h. B h × X) (λ h. C h × X))
+beside X {S = S} {B = B} {C = C} told =
+    adds_as (Leads (anyhow S) (λ h. B h × X) (λ h. C h × X)) told
+    (λ added history l. record {
+      leads = λ s h. (l.leads s h.0, h.1);
       own = owned_anyhow added history;
     })
 
@@ -140,7 +159,10 @@ module _ (v : Sight) (files : List (List ℕ)) (heads : List Head) (cs : List Ch
   Hs' = HasFiles files (known_file v)
 
   abbrev pub On : RecordReader → History → Type 0
-  On r h = Hs' h × AreWindows v files r
+  On r h = AreRead v files r h
+
+  abbrev pub With : RecordReader → Type 0 → History → Type 0
+  With r X h = On r h × X
 
   module _ (i : ℕ) (low : i < length heads) (r t : RecordReader) (result : Result (Unit {0}) JobFault) {old mid : Option History}
       (raw : (v : Sight) (c : Chunk) → AreSound v files → IsRecordAt v files heads i c
@@ -168,69 +190,81 @@ module _ (v : Sight) (files : List (List ℕ)) (heads : List Head) (cs : List Ch
           own = owned_anyhow added history;
         })
 
-    pub fetch_refused : (U : Type 0) (other : RecordReader) (fault : JobFault) → result ≡ Err fault
-        → Adds old mid (Leads (anyhow Sp') (On r) (ReadsOn {T = U} v files other (Err fault)))
-    fetch_refused U other fault bad =
-        leads_as (λ h z. z) (λ h z. go fault h (subst (λ x. Fetched v files heads i D t x h) bad z.1)) fetched
+    pub fetch_refused : (U X Y : Type 0) (other : RecordReader) (fault : JobFault) → result ≡ Err fault
+        → Adds old mid (Leads (anyhow Sp') (With r X) (ReadsOn {T = U} v files other Y (Err fault)))
+    fetch_refused U X Y other fault bad =
+        leads_as (λ h z. z.0) (λ h z. go fault h (subst (λ x. Fetched v files heads i D t x h) bad z.1)) fetched
       where
         go : (fault : JobFault) (h : History) → Fetched v files heads i D t (Err fault) h
-            → ReadsOn {T = U} v files other (Err fault) h
+            → ReadsOn {T = U} v files other Y (Err fault) h
         go (Outside call) h z = tt
         go (Damaged name at) h z = z
         go (Spent n) h z = tt
         go NoMemory h z = tt
 
-    pub fetched_on : (value : Unit {0}) → result ≡ Ok value → Adds old mid (Leads (anyhow Sp') (On r) (On t))
-    fetched_on value good =
+    pub fetched_on : (X : Type 0) (value : Unit {0}) → result ≡ Ok value
+        → Adds old mid (Leads (anyhow Sp') (With r X) (With t ((value_held t ≡ D.value) × X)))
+    fetched_on X value good =
         leads_as (λ h z. z)
-        (λ h z. (z.0, (subst (λ x. Fetched v files heads i D t x h) good z.1).0)) fetched
+        (λ h z.
+        let y = subst (λ x. Fetched v files heads i D t x h) good z.0.1 in
+        ((z.0.0, y.0), (y.1, z.1))) (beside X fetched)
 
   -- what is written leaves the files
-  pub written_on : (s : List ℕ) → AreApart files s → (t : RecordReader) (q : Result (Unit {0}) JobFault) → IfErr q IsOfWrite
+  pub written_on : (s : List ℕ) → AreApart files s → (t : RecordReader) (X Y : Type 0)
+      (q : Result (Unit {0}) JobFault) → IfErr q IsOfWrite
+      → ((value : Unit {0}) → q ≡ Ok value → X → Y)
       → {mid new : Option History} → Adds mid new (Every (IsOf (WritesTo s)))
-      → Adds mid new (Leads (anyhow Sp') (On t) (ReadsOn v files t q))
-  written_on s apart t q only own =
-      adds_as (Leads (anyhow Sp') (On t) (ReadsOn v files t q))
+      → Adds mid new (Leads (anyhow Sp') (With t X) (ReadsOn v files t Y q))
+  written_on s apart t X Y q only then own =
+      adds_as (Leads (anyhow Sp') (With t X) (ReadsOn v files t Y q))
       (files_stay (WritesTo s) files (known_file v) (quiet_writes files s apart) settled own)
       (λ added history x. record {
-        leads = λ o h. go q only (added ++ history) (x.leads o h.0) h.1;
+        leads = λ o h. go q only then (added ++ history) (x.leads o h.0.0, h.0.1) h.1;
         own = owned_anyhow added history;
       })
     where
-      go : (q : Result (Unit {0}) JobFault) → IfErr q IsOfWrite → (h : History) → Hs' h → AreWindows v files t
-          → ReadsOn v files t q h
-      go (Ok value) only h hs w = (hs, w)
-      go (Err (Outside call)) only h hs w = tt
-      go (Err (Damaged name at)) only h hs w = absurd only
-      go (Err (Spent n)) only h hs w = tt
-      go (Err NoMemory) only h hs w = tt
+      go : (q : Result (Unit {0}) JobFault) → IfErr q IsOfWrite
+          → ((value : Unit {0}) → q ≡ Ok value → X → Y) → (h : History) → On t h → X
+          → ReadsOn v files t Y q h
+      go (Ok value) only then h on x = (on, then value refl x)
+      go (Err (Outside call)) only then h on x = tt
+      go (Err (Damaged name at)) only then h on x = absurd only
+      go (Err (Spent n)) only then h on x = tt
+      go (Err NoMemory) only then h on x = tt
 
   -- a refusal is one of what follows too, and what was done is what follows begins with
-  pub on_refused : {T : Type 0} (U : Type 0) (r t other : RecordReader) (q : Result T JobFault) (fault : JobFault) → q ≡ Err fault
-      → {old new : Option History} → Adds old new (Leads (anyhow Sp') (On r) (ReadsOn v files t q))
-      → Adds old new (Leads (anyhow Sp') (On r) (ReadsOn {T = U} v files other (Err fault)))
-  on_refused {T = T} U r t other q fault bad told =
-      leads_as (λ h z. z) (λ h z. go fault h (subst (λ x. ReadsOn v files t x h) bad z)) told
+  pub on_refused : {T : Type 0} (U Y Z : Type 0) (t other : RecordReader) (q : Result T JobFault)
+      (fault : JobFault) → q ≡ Err fault → {B : History → Type 0} {old new : Option History}
+      → Adds old new (Leads (anyhow Sp') B (ReadsOn v files t Y q))
+      → Adds old new (Leads (anyhow Sp') B (ReadsOn {T = U} v files other Z (Err fault)))
+  on_refused {T = T} U Y Z t other q fault bad told =
+      leads_as (λ h z. z) (λ h z. go fault h (subst (λ x. ReadsOn v files t Y x h) bad z)) told
     where
-      go : (fault : JobFault) (h : History) → ReadsOn {T = T} v files t (Err fault) h → ReadsOn {T = U} v files other (Err fault) h
+      go : (fault : JobFault) (h : History) → ReadsOn {T = T} v files t Y (Err fault) h
+          → ReadsOn {T = U} v files other Z (Err fault) h
       go (Outside call) h z = tt
       go (Damaged name at) h z = z
       go (Spent n) h z = tt
       go NoMemory h z = tt
 
-  pub on_done : {T : Type 0} (r t : RecordReader) (q : Result T JobFault) (value : T) → q ≡ Ok value
-      → {old new : Option History} → Adds old new (Leads (anyhow Sp') (On r) (ReadsOn v files t q))
-      → Adds old new (Leads (anyhow Sp') (On r) (On t))
-  on_done r t q value good told = leads_as (λ h z. z) (λ h z. subst (λ x. ReadsOn v files t x h) good z) told
+  pub on_done : {T : Type 0} (Y : Type 0) (t : RecordReader) (q : Result T JobFault) (value : T)
+      → q ≡ Ok value → {B : History → Type 0} {old new : Option History}
+      → Adds old new (Leads (anyhow Sp') B (ReadsOn v files t Y q))
+      → Adds old new (Leads (anyhow Sp') B (With t Y))
+  on_done Y t q value good told =
+      leads_as (λ h z. z) (λ h z. subst (λ x. ReadsOn v files t Y x h) good z) told
 
   -- of all streams
-  pub none_damaged : {T : Type 0} (U : Type 0) (t : RecordReader) (q : Result T JobFault) (fault : JobFault) → q ≡ Err fault
-      → {old new : Option History} → Adds old new (Leads (anyhow Sp') Hs' (ReadsOn v files t q))
-      → Adds old new (Leads (anyhow Sp') Hs' (NotDamaged {T = U} (Err fault)))
-  none_damaged {T = T} U t q fault bad told =
-      leads_as (λ h z. z) (λ h z. go fault h (subst (λ x. ReadsOn v files t x h) bad z)) told
+  pub none_damaged : {T : Type 0} (U Y Z : Type 0) (t : RecordReader) (q : Result T JobFault)
+      (fault : JobFault) → q ≡ Err fault → {old new : Option History}
+      → Adds old new (Leads (anyhow Sp') Hs' (ReadsOn v files t Y q))
+      → Adds old new (Leads (anyhow Sp') Hs' (NotDamaged {T = U} Z (Err fault)))
+  none_damaged {T = T} U Y Z t q fault bad told =
+      leads_as (λ h z. z) (λ h z. go fault h (subst (λ x. ReadsOn v files t Y x h) bad z)) told
     where
-      go : (fault : JobFault) (h : History) → ReadsOn {T = T} v files t (Err fault) h → NotDamaged {T = U} (Err fault) h
+      go : (fault : JobFault) (h : History) → ReadsOn {T = T} v files t Y (Err fault) h
+          → NotDamaged {T = U} Z (Err fault) h
       go (Outside call) h z = tt
       go (Damaged name at) h z = z
       go (Spent n) h z = tt
@@ -336,33 +370,58 @@ module _ (b : Book) (files : Files) (settled : AreSettled (names_of (codes "arch
   abbrev Found : List Head → Type 0
   Found heads = RunsAll b files × (heads ≡ in_head_order (heads_from chunk_limit files 0 Names))
 
-  soundly : {T : Type 0} (q : Result T JobFault) → RunsAll b files → (h : History) → NotDamaged q h → ReadSoundly b files q h
-  soundly (Ok value) x h n = x
-  soundly (Err (Outside call)) x h n = tt
-  soundly (Err (Damaged name at)) x h n = absurd n
-  soundly (Err (Spent k)) x h n = tt
-  soundly (Err NoMemory) x h n = tt
+  chunks_alike : (ws : List (List ℕ)) → ((w : List ℕ) → Contains ws w → known_file V w ≡ files w)
+      → found_in V ws ≡ chunks_in_files chunk_limit files ws
+  chunks_alike [] same = refl
+  chunks_alike (w ∷ ws) same =
+      ap₂ (λ o l. chunks_within chunk_limit (bytes_in o) ++ l) (same w (0, omega arith, refl))
+      (chunks_alike ws (λ x one. same x (later_one w ws x one)))
 
-  module _ (r : Result (List Head) JobFault) {old mid : Option History}
+  has_bytes : Each HasBytes (in_order (found_in V Names))
+  has_bytes =
+      order_bytes (found_in V Names)
+      (each_flat HasBytes (chunks_held V) Names
+      (λ w. each_within chunk_limit (bytes_in (known_file V w))))
+
+  module _ (types : List (List ℕ)) (records : Book) (m n : ℕ) where
+    abbrev Puts : Type 0
+    Puts = PutsIf (HasDue types b records (in_order (found_in V Names))) m n
+
+    soundly : (q : Result ℕ JobFault) → RunsAll b files → (h : History) → NotDamaged Puts q h
+        → SplitSoundly types b records files m n q h
+    soundly (Ok left) x h puts = (
+      x,
+      subst (λ cs. PutsIf (HasDue types b records (in_order cs)) m n) (chunks_alike Names held_same) puts,
+    )
+    soundly (Err (Outside call)) x h puts = tt
+    soundly (Err (Damaged name at)) x h puts = absurd puts
+    soundly (Err (Spent k)) x h puts = tt
+    soundly (Err NoMemory) x h puts = tt
+
+  module _ (types : List (List ℕ)) (records : Book) (m n : ℕ) (r : Result (List Head) JobFault)
+      {old mid : Option History}
       (told : Adds old mid (Leads (anyhow (SparesFiles Names)) (HasFiles Names files) (SoundHeads (codes "archive") b files r))) where
-    pub heads_refused : (U : Type 0) (fault : JobFault) → r ≡ Err fault
-        → Adds old mid (Leads (anyhow (SparesFiles Names)) (HasFiles Names files) (ReadSoundly {T = U} b files (Err fault)))
-    heads_refused U fault is =
+    pub heads_refused : (fault : JobFault) → r ≡ Err fault
+        → Adds old mid (Leads (anyhow (SparesFiles Names)) (HasFiles Names files)
+        (SplitSoundly types b records files m n (Err fault)))
+    heads_refused fault is =
         leads_as (λ h z. z) (λ h z. go fault h (subst (λ x. SoundHeads (codes "archive") b files x h) is z)) told
       where
         go : (fault : JobFault) (h : History) → SoundHeads (codes "archive") b files (Err fault) h
-            → ReadSoundly {T = U} b files (Err fault) h
+            → SplitSoundly types b records files m n (Err fault) h
         go (Outside call) h z = tt
         go (Damaged name at) h z = z
         go (Spent n) h z = tt
         go NoMemory h z = tt
 
-    pub heads_read : {U : Type 0} (heads : List Head) → r ≡ Ok heads → (ns : List (List ℕ)) → ns ≡ Names → (k : ℕ)
-        → (q : Result U JobFault) {P : History → History → Type 0} {new : Option History} → Adds mid new P
-        → ((v : Sight) (cs : List Chunk) → AreRecords v ns heads cs → AreSettled ns (known_file v)
-        → AreApart ns (segment_name (codes "demux") k)
-        → Adds mid new (Leads (anyhow (SparesFiles ns)) (HasFiles ns (known_file v)) (NotDamaged q)))
-        → Adds old new (Leads (anyhow (SparesFiles Names)) (HasFiles Names files) (ReadSoundly b files q))
+    pub heads_read : (heads : List Head) → r ≡ Ok heads → (ns : List (List ℕ)) → ns ≡ Names → (k : ℕ)
+        → (q : Result ℕ JobFault) {P : History → History → Type 0} {new : Option History} → Adds mid new P
+        → ((v : Sight) (cs : List Chunk) → AreRecords v ns heads cs → Each HasBytes cs
+        → AreSettled ns (known_file v) → AreApart ns (segment_name (codes "demux") k) → StreamsRise heads
+        → Adds mid new (Leads (anyhow (SparesFiles ns)) (HasFiles ns (known_file v))
+        (NotDamaged (PutsIf (HasDue types b records cs) m n) q)))
+        → Adds old new (Leads (anyhow (SparesFiles Names)) (HasFiles Names files)
+        (SplitSoundly types b records files m n q))
     heads_read heads is ns are k q {new = new} made raw =
         leads_then
         (leads_as {B' = λ h. Found heads × HasFiles Names files h} (λ h z. z)
@@ -370,46 +429,69 @@ module _ (b : Book) (files : Files) (settled : AreSettled (names_of (codes "arch
         let y = subst (λ x. SoundHeads (codes "archive") b files x h) is z in
         ((record { sound = y.1; well = y.2 }, y.3), y.0)) told)
         (given (Found heads) made (λ x.
-        leads_as (λ h z w one. z w one ∙ sym (held_same w one)) (λ h z. soundly q x.0 h z)
-        (subst (λ (ws : List (List ℕ)). AreRecords V ws heads (in_order (found_in V Names)) → AreSettled ws (known_file V)
-        → AreApart ws (segment_name (codes "demux") k)
-        → Adds mid new (Leads (anyhow (SparesFiles ws)) (HasFiles ws (known_file V)) (NotDamaged q))) are
-        (raw V (in_order (found_in V Names))) (records_of x.0 heads x.1) settled_v (apart k))))
+        leads_as (λ h z w one. z w one ∙ sym (held_same w one))
+        (λ h z. soundly types records m n q x.0 h z)
+        (subst (λ (ws : List (List ℕ)). AreRecords V ws heads (in_order (found_in V Names))
+        → Each HasBytes (in_order (found_in V Names)) → AreSettled ws (known_file V)
+        → AreApart ws (segment_name (codes "demux") k) → StreamsRise heads
+        → Adds mid new (Leads (anyhow (SparesFiles ws)) (HasFiles ws (known_file V))
+        (NotDamaged (Puts types records m n) q))) are
+        (raw V (in_order (found_in V Names))) (records_of x.0 heads x.1) has_bytes settled_v (apart k)
+        (subst StreamsRise (sym x.1) (streams_rise (heads_from chunk_limit files 0 Names))))))
 
-module _ (b : Book) (files : Files) {T : Type 0} (r : Result T JobFault) {old mid : Option History}
+module _ (types : List (List ℕ)) (b records : Book) (files : Files) (m n : ℕ) (r : Result ℕ JobFault)
+    {old mid : Option History}
     (told : Adds old mid (Leads (anyhow (SparesFiles (names_of (codes "archive") b))) (HasFiles (names_of (codes "archive") b) files)
-    (ReadSoundly b files r))) where
-  pub split_refused : (U : Type 0) (fault : JobFault) → r ≡ Err fault
-      → Adds old mid (Leads (anyhow (SparesFiles (names_of (codes "archive") b))) (HasFiles (names_of (codes "archive") b) files)
-      (ReadSoundly {T = U} b files (Err fault)))
-  split_refused U fault is =
-      leads_as (λ h z. z) (λ h z. go fault h (subst (λ x. ReadSoundly b files x h) is z)) told
-    where
-      go : (fault : JobFault) (h : History) → ReadSoundly {T = T} b files (Err fault) h
-          → ReadSoundly {T = U} b files (Err fault) h
-      go (Outside call) h z = tt
-      go (Damaged name at) h z = z
-      go (Spent n) h z = tt
-      go NoMemory h z = tt
+    (SplitSoundly types b records files m n r))) where
+  abbrev Ran : {U : Type 0} → Option History → Result U JobFault → Type 0
+  Ran new q =
+      Adds old new (Leads (anyhow (SparesFiles (names_of (codes "archive") b)))
+      (HasFiles (names_of (codes "archive") b) files) (RanSoundly types b records files q))
 
-  pub split_on : {U : Type 0} (value : T) → r ≡ Ok value → (q : Result U JobFault) → IfErr q IsOfWrite
-      → {P : History → History → Type 0} {new : Option History} → Adds mid new P
-      → Adds old new (Leads (anyhow (SparesFiles (names_of (codes "archive") b))) (HasFiles (names_of (codes "archive") b) files)
-      (ReadSoundly b files q))
-  split_on {U = U} value is q only second =
+  pub split_refused : (U : Type 0) (fault : JobFault) → IsOfRead fault → r ≡ Err fault
+      → Ran {U = U} mid (Err fault)
+  split_refused U fault only is =
+      leads_as (λ h z. z)
+      (λ h z. go fault only h (subst (λ x. SplitSoundly types b records files m n x h) is z)) told
+    where
+      go : (fault : JobFault) → IsOfRead fault → (h : History)
+          → SplitSoundly types b records files m n (Err fault) h
+          → RanSoundly {T = U} types b records files (Err fault) h
+      go (Outside call) only h z = tt
+      go (Damaged name at) only h z = z
+      go (Spent n) only h z = absurd only
+      go NoMemory only h z = tt
+
+  -- records were put, of which none was before
+  pub split_spent : (U : Type 0) (left : ℕ) → r ≡ Ok left → m ≡ 0 → 0 < n → (k : ℕ)
+      → Ran {U = U} mid (Err (Spent k))
+  split_spent U left is none some k =
+      leads_as (λ h z. z)
+      (λ h z. go (subst (λ x. SplitSoundly types b records files m n x h) is z).1) told
+    where
+      go : PutsIf (IsDueIn types b records files) m n → IsDueIn types b records files
+      go (inl same) = absurd (let z : ⊥ = omega (arith, same, none, some) in z)
+      go (inr due) = due
+
+  pub split_on : {U : Type 0} (left : ℕ) → r ≡ Ok left → (q : Result U JobFault) → IfErr q IsOfWrite
+      → {P : History → History → Type 0} {new : Option History} → Adds mid new P → Ran new q
+  split_on {U = U} left is q only second =
       leads_then
-      (leads_as {B' = λ h. RunsAll b files} (λ h z. z) (λ h z. subst (λ x. ReadSoundly b files x h) is z) told)
-      (adds_as (Leads (anyhow (SparesFiles (names_of (codes "archive") b))) (λ h. RunsAll b files) (ReadSoundly b files q)) second
+      (leads_as {B' = λ h. RunsAll b files} (λ h z. z)
+      (λ h z. (subst (λ x. SplitSoundly types b records files m n x h) is z).0) told)
+      (adds_as (Leads (anyhow (SparesFiles (names_of (codes "archive") b))) (λ h. RunsAll b files)
+      (RanSoundly types b records files q)) second
       (λ added history p. record {
         leads = λ s x. go q only x (added ++ history);
         own = owned_anyhow added history;
       }))
     where
-      go : (q : Result U JobFault) → IfErr q IsOfWrite → RunsAll b files → (h : History) → ReadSoundly b files q h
+      go : (q : Result U JobFault) → IfErr q IsOfWrite → RunsAll b files → (h : History)
+          → RanSoundly types b records files q h
       go (Ok value) only x h = x
       go (Err (Outside call)) only x h = tt
       go (Err (Damaged name at)) only x h = absurd only
-      go (Err (Spent n)) only x h = tt
+      go (Err (Spent n)) only x h = absurd only
       go (Err NoMemory) only x h = tt
 
 -- ---- the books
@@ -524,6 +606,7 @@ module _ (held : Files) (settled : AreSettled (reads_of held) held) where
           record {
             same = y.1;
             is = y.0.0;
+            records = y.2.1;
             archive = y.0.1;
             demux = subst (IsBookOf (file_bytes (held demux_name))) y.2.1 y.2.2;
           }) both
@@ -544,46 +627,54 @@ module _ (held : Files) (settled : AreSettled (reads_of held) held) where
 
   abbrev Known : Books → Type 0
   Known b =
-      (book_view b.archive ≡ archive_book held) × IsBookOf (file_bytes (held archive_name)) (archive_book held)
+      (book_view b.archive ≡ archive_book held) × (book_view b.demux ≡ book_in (held demux_name))
+      × IsBookOf (file_bytes (held archive_name)) (archive_book held)
       × IsBookOf (file_bytes (held demux_name)) (book_in (held demux_name))
 
-  module _ (s : Result Books JobFault) {old mid : Option History}
+  module _ (types : List (List ℕ)) (s : Result Books JobFault) {old mid : Option History}
       (first : Adds old mid (Leads (anyhow Sp) Hs (LoadedBooks held s))) where
-    pub not_loaded : (U : Type 0) (fault : JobFault) → s ≡ Err fault
-        → Adds old mid (Leads (anyhow Sp) Hs (ReadAll {T = U} held (Err fault)))
-    not_loaded U fault is = leads_as (λ h z. z) (λ h z. go fault h (subst (λ x. LoadedBooks held x h) is z)) first
+    pub not_loaded : (U : Type 0) (fault : JobFault) → IsOfRead fault → s ≡ Err fault
+        → Adds old mid (Leads (anyhow Sp) Hs (ReadAll {T = U} types held (Err fault)))
+    not_loaded U fault only is =
+        leads_as (λ h z. z) (λ h z. go fault only h (subst (λ x. LoadedBooks held x h) is z)) first
       where
-        go : (fault : JobFault) (h : History) → LoadedBooks held (Err fault) h → ReadAll {T = U} held (Err fault) h
-        go (Outside call) h z = tt
-        go (Damaged name at) h z = z
-        go (Spent n) h z = tt
-        go NoMemory h z = tt
+        go : (fault : JobFault) → IsOfRead fault → (h : History) → LoadedBooks held (Err fault) h
+            → ReadAll {T = U} types held (Err fault) h
+        go (Outside call) only h z = tt
+        go (Damaged name at) only h z = z
+        go (Spent n) only h z = absurd only
+        go NoMemory only h z = tt
 
     pub all_read : {T : Type 0} (b : Books) → s ≡ Ok b → (r : Result T JobFault) {Q : History → History → Type 0}
         {new : Option History} → Adds mid new Q
         → (AreSettled (names_of (codes "archive") (book_view b.archive)) held → HasCounts (book_view b.archive)
+        → IsTrue (ends_rise (book_view b.demux).ends)
         → Adds mid new (Leads (anyhow (SparesFiles (names_of (codes "archive") (book_view b.archive))))
-        (HasFiles (names_of (codes "archive") (book_view b.archive)) held) (ReadSoundly (book_view b.archive) held r)))
-        → Adds old new (Leads (anyhow Sp) Hs (ReadAll held r))
+        (HasFiles (names_of (codes "archive") (book_view b.archive)) held)
+        (RanSoundly types (book_view b.archive) (book_view b.demux) held r)))
+        → Adds old new (Leads (anyhow Sp) Hs (ReadAll types held r))
     all_read {T = T} b is r {new = new} made raw =
         leads_then
         (leads_as (λ h z. z)
-        (λ h z. let y = subst (λ x. LoadedBooks held x h) is z in ((y.is, y.archive, y.demux), y.same)) first)
+        (λ h z. let y = subst (λ x. LoadedBooks held x h) is z in ((y.is, y.records, y.archive, y.demux), y.same)) first)
         (given (Known b) made (λ x. run x))
       where
-        wholly : Known b → (r : Result T JobFault) (h : History) → ReadSoundly (archive_book held) held r h → ReadAll held r h
-        wholly k (Ok value) h z = record { archive = k.1; demux = k.2; runs = z }
+        wholly : Known b → (r : Result T JobFault) (h : History)
+            → RanSoundly types (archive_book held) (book_view b.demux) held r h → ReadAll types held r h
+        wholly k (Ok value) h z = record { archive = k.2; demux = k.3; runs = z }
         wholly k (Err (Outside call)) h z = tt
         wholly k (Err (Damaged name at)) h d = bad_records d.0 d.1
-        wholly k (Err (Spent n)) h z = tt
+        wholly k (Err (Spent n)) h z = subst (λ (x : Book). IsDueIn types (archive_book held) x held) k.1 z
         wholly k (Err NoMemory) h z = tt
 
-        run : Known b → Adds mid new (Leads (anyhow Sp) Hs (ReadAll held r))
+        run : Known b → Adds mid new (Leads (anyhow Sp) Hs (ReadAll types held r))
         run k =
             let own : AreSettled (names_of (codes "archive") (archive_book held)) held = λ w one. settled w (within w one) in
             among_more All (names_of (codes "archive") (archive_book held)) held within
             (leads_as (λ h z. z) (λ h z. wholly k r h z)
             (subst (λ (x : Book). Adds mid new (Leads (anyhow (SparesFiles (names_of (codes "archive") x)))
-            (HasFiles (names_of (codes "archive") x) held) (ReadSoundly x held r))) k.0
+            (HasFiles (names_of (codes "archive") x) held) (RanSoundly types x (book_view b.demux) held r))) k.0
             (raw (subst (λ (x : Book). AreSettled (names_of (codes "archive") x) held) (sym k.0) own)
-            (subst HasCounts (sym k.0) (counted (held archive_name) (settled archive_name a_in).0 k.1)))))
+            (subst HasCounts (sym k.0) (counted (held archive_name) (settled archive_name a_in).0 k.2))
+            (subst (λ (x : Book). IsTrue (ends_rise x.ends)) (sym k.1)
+            (book_rises (file_bytes (held demux_name)) (book_in (held demux_name)) k.3)))))

@@ -2,7 +2,7 @@
 use Rattle.std.proofs.Common.{◌≡◌, inl, inr, Option, Ok, Err, Result, ℕ, zero, suc, ◌+◌, ◌-◌, ◌<◌, ◌≤◌, Bool, true, false, List, [], ◌∷◌, ◌++◌, length, take, map, ap, sym, subst, ◌∙◌, refl, arith, append-nil}
 use Rattle.std.specs.Prelude.{slice_index_or}
 use Rattle.std.proofs.lemmas.Grind.{flat_map-append}
-use Rattle.std.proofs.lemmas.List.{take_all, take_more}
+use Rattle.std.proofs.lemmas.List.{take_more}
 use Rattle.std.proofs.lemmas.List.Sums.{sum_by-append}
 use Rattle.chk_bytes.specs.Words.{joined}
 use Rattle.chk_chunk.specs.Keys.{Chunk}
@@ -31,8 +31,7 @@ use Rattle.chk_demux.specs.Giving.{IsSplitting, chunks_of_fed, pending_of}
 use Rattle.chk_demux.specs.Splitting.{past_in, RunsSo, HoldsStream, SplitSoFar, stream_chunks, stream_left, all_chunks, all_left}
 use Rattle.chk_demux.specs.declared.output.Output.{Output}
 use Rattle.chk_demux.proofs.Ends.{at_as, so_fails, so_done}
-use Rattle.chk_demux.proofs.HeadsInOrder.{others_give}
-use Rattle.chk_demux.proofs.Places.{same_size}
+use Rattle.chk_demux.proofs.HeadsInOrder.{none_before, none_behind}
 use Rattle.chk_demux.proofs.Works.{own_of}
 use Rattle.chk_demux.proofs.Feeding.{fresh_splits, held_size}
 
@@ -42,30 +41,22 @@ none_fed heads e from false = refl
 
 module _ (v : Sight) (files : List (List ℕ)) (heads : List Head) (cs outs : List Chunk) (e : End) (from : ℕ) (b : Bool)
     (o : Output) (r : RecordReader) (s : Splitting) (u : Sight) where
-  -- nothing stands before its first head, and nothing behind its last one
   module _ (first past : ℕ) (low : first ≤ past) (high : past ≤ length heads) (records : AreRecords v files heads cs)
       (runs : RunsSo cs e from) (holds : HoldsStream heads e.stream first past) where
-    none_before : past_in from e.stream (take first cs) ≡ []
-    none_before =
-        ap (λ n. past_in from e.stream (take n cs)) (let z : first ≡ 0 + first = omega arith in z)
-        ∙ others_give v files heads cs e from records runs 0 first (omega (arith, low, high)) (λ k a b. holds.before k (omega (arith, b)))
+    before : past_in from e.stream (take first cs) ≡ []
+    before = none_before v files heads cs e from records runs.bytes first past low high holds
 
-    none_behind : past_in from e.stream cs ≡ past_in from e.stream (take past cs)
-    none_behind =
-        let size = same_size v files heads cs e from records runs in
-        ap (past_in from e.stream)
-        (sym (take_all (past + (length heads - past)) cs (omega (arith, size, high))))
-        ∙ others_give v files heads cs e from records runs past (length heads - past) (omega (arith, high))
-        (λ k a b. holds.behind k a (omega (arith, b, high)))
+    behind : past_in from e.stream cs ≡ past_in from e.stream (take past cs)
+    behind = none_behind v files heads cs e from records runs.bytes first past low high holds
 
     pub stream_begun : s ≡ fresh b → IsOutput v outs o u × AreWindows v files r
         → SplitSoFar v files heads cs outs e from first b o r s u
     stream_begun is p = record {
       output = subst (λ l. IsOutput v l o u)
-          (sym (ap (λ l. outs ++ chunks_of_fed heads e from b l) none_before
+          (sym (ap (λ l. outs ++ chunks_of_fed heads e from b l) before
           ∙ (ap (λ l. outs ++ l) (none_fed heads e from b) ∙ append-nil outs))) p.0;
       windows = p.1;
-      splits = subst (λ l. IsSplitting b l s) (sym none_before) (subst (IsSplitting b []) (sym is) (fresh_splits b));
+      splits = subst (λ l. IsSplitting b l s) (sym before) (subst (IsSplitting b []) (sym is) (fresh_splits b));
     }
 
     pub stream_ended : SplitSoFar v files heads cs outs e from past b o r s u
@@ -73,8 +64,8 @@ module _ (v : Sight) (files : List (List ℕ)) (heads : List Head) (cs outs : Li
         × AreWindows v files r
         × (pending_of s ≡ length (past_in from e.stream cs) - length (joined (pieces_of b (past_in from e.stream cs))))
     stream_ended p =
-        let held = held_size b (past_in from e.stream cs) s (subst (λ l. IsSplitting b l s) (sym none_behind) p.splits) in (
-          subst (λ l. IsOutput v (outs ++ chunks_of_fed heads e from b l) o u) (sym none_behind) p.output,
+        let held = held_size b (past_in from e.stream cs) s (subst (λ l. IsSplitting b l s) (sym behind) p.splits) in (
+          subst (λ l. IsOutput v (outs ++ chunks_of_fed heads e from b l) o u) (sym behind) p.output,
           p.windows,
           omega (arith, held),
         )

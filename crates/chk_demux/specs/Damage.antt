@@ -8,7 +8,7 @@ use Rattle.chk_world.specs.Books.{Segment, Book, book_in}
 use Rattle.chk_world.specs.Sight.{Sight}
 use Rattle.chk_world.proofs.Each.{Each}
 use Rattle.chk_heads.specs.declared.fault.JobFault.{JobFault}
-use Rattle.chk_heads.specs.declared.fault.JobFault.TheVariants.{Damaged}
+use Rattle.chk_heads.specs.declared.fault.JobFault.TheVariants.{Damaged, Spent}
 use Rattle.chk_book.specs.Books.{book_view}
 use Rattle.chk_book.specs.Folders.{book_name}
 use Rattle.chk_book.specs.Loaded.{IsBookOf, IsNoBookAt, file_bytes}
@@ -18,6 +18,8 @@ use Rattle.chk_merge.specs.Archives.{IsDamagedAt}
 use Rattle.chk_merge.specs.declared.reader.RecordReader.{RecordReader}
 use Rattle.chk_parts.specs.Gathering.{held}
 use Rattle.chk_parts.specs.Fetching.{AreWindows}
+use Rattle.chk_demux.specs.Shown.{PutsIf}
+use Rattle.chk_demux.specs.Due.{IsDueIn}
 use Rattle.chk_demux.specs.declared.beginning.Books.{Books}
 
 -- the files of the two books
@@ -57,6 +59,7 @@ pub data IsDamagedIn (files : Files) (name : List ℕ) (at : ℕ) : Type 0 where
 pub record AreBooks (files : Files) (b : Books) (history : History) : Type 0 where
   pub same : HasFiles (reads_of files) files history
   pub is : book_view b.archive ≡ archive_book files
+  pub records : book_view b.demux ≡ book_in (files demux_name)
   pub archive : IsBookOf (file_bytes (files archive_name)) (archive_book files)
   pub demux : IsBookOf (file_bytes (files demux_name)) (book_in (files demux_name))
 
@@ -69,25 +72,47 @@ LoadedBooks files (Err fault) history = Unit {0}
 abbrev pub HasCounts : Book → Type 0
 HasCounts b = (g : Segment) → Contains b.segments g → IsTrue (is_count g.number)
 
--- after a part of the reading the files are as they were, and the reader's windows are true; nothing is ever damaged
-abbrev pub ReadsOn : {T : Type 0} → Sight → List (List ℕ) → RecordReader → Result T JobFault → History → Type 0
-ReadsOn v files r (Ok value) history = HasFiles files (held v) history × AreWindows v files r
-ReadsOn v files r (Err (Damaged name at)) history = ⊥
-ReadsOn v files r (Err fault) history = Unit {0}
+-- the files are as they were, and the reader's windows are true
+abbrev pub AreRead : Sight → List (List ℕ) → RecordReader → History → Type 0
+AreRead v files r history = HasFiles files (held v) history × AreWindows v files r
 
--- nothing is damaged
-abbrev pub NotDamaged : {T : Type 0} → Result T JobFault → History → Type 0
-NotDamaged (Err (Damaged name at)) history = ⊥
-NotDamaged r history = Unit {0}
+-- after a part of the reading it is still so, and this holds; nothing is ever damaged
+abbrev pub ReadsOn : {T : Type 0} → Sight → List (List ℕ) → RecordReader → Type 0
+    → Result T JobFault → History → Type 0
+ReadsOn v files r X (Ok value) history = AreRead v files r history × X
+ReadsOn v files r X (Err (Damaged name at)) history = ⊥
+ReadsOn v files r X (Err fault) history = Unit {0}
 
--- after the reading of the archive's records by this book of it: at Ok all of them run; damage is of some stream
-abbrev pub ReadSoundly : {T : Type 0} → Book → Files → Result T JobFault → History → Type 0
-ReadSoundly b files (Ok value) history = RunsAll b files
-ReadSoundly b files (Err (Damaged name at)) history = (s : Stream) × IsDamagedAt (codes "archive") b files s name at
-ReadSoundly b files (Err fault) history = Unit {0}
+-- nothing is damaged, and at Ok this holds
+abbrev pub NotDamaged : {T : Type 0} → Type 0 → Result T JobFault → History → Type 0
+NotDamaged X (Ok value) history = X
+NotDamaged X (Err (Damaged name at)) history = ⊥
+NotDamaged X (Err fault) history = Unit {0}
 
--- after a run: at Ok both are books, and all records run; damage is where a file isn't so
-abbrev pub ReadAll : {T : Type 0} → Files → Result T JobFault → History → Type 0
-ReadAll files (Ok value) history = ReadsWell files
-ReadAll files (Err (Damaged name at)) history = IsDamagedIn files name at
-ReadAll files (Err fault) history = Unit {0}
+-- After the split of the archive's records by both books: at Ok all of them run, and no record was
+-- put since there were so many, or else one is to be written; damage is of some stream.
+abbrev pub SplitSoundly : List (List ℕ) → Book → Book → Files → ℕ → ℕ → Result ℕ JobFault
+    → History → Type 0
+SplitSoundly types b records files old new (Ok left) history =
+    RunsAll b files × PutsIf (IsDueIn types b records files) old new
+SplitSoundly types b records files old new (Err (Damaged name at)) history =
+    (s : Stream) × IsDamagedAt (codes "archive") b files s name at
+SplitSoundly types b records files old new (Err fault) history = Unit {0}
+
+-- the same of a run by both books, whose numbers are spent only where a record is to be written
+abbrev pub RanSoundly : {T : Type 0} → List (List ℕ) → Book → Book → Files → Result T JobFault
+    → History → Type 0
+RanSoundly types b records files (Ok value) history = RunsAll b files
+RanSoundly types b records files (Err (Damaged name at)) history =
+    (s : Stream) × IsDamagedAt (codes "archive") b files s name at
+RanSoundly types b records files (Err (Spent n)) history = IsDueIn types b records files
+RanSoundly types b records files (Err fault) history = Unit {0}
+
+-- After a run: at Ok both are books, and all records run; damage is where a file isn't so; and the
+-- numbers are spent only where a record is to be written.
+abbrev pub ReadAll : {T : Type 0} → List (List ℕ) → Files → Result T JobFault → History → Type 0
+ReadAll types files (Ok value) history = ReadsWell files
+ReadAll types files (Err (Damaged name at)) history = IsDamagedIn files name at
+ReadAll types files (Err (Spent n)) history =
+    IsDueIn types (archive_book files) (book_in (files demux_name)) files
+ReadAll types files (Err fault) history = Unit {0}

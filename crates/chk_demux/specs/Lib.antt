@@ -9,4 +9,5 @@ pub mod Splitting
 pub mod Entering
 pub mod Running
 pub mod Shown
+pub mod Due
 pub mod Laws

@@ -18,6 +18,8 @@ ghost use Rattle.chk_book.specs.Books.{book_view};
 ghost use Rattle.chk_book.specs.Views.{end_view};
 ghost use Rattle.chk_demux.specs.Working.{Worked, EndsSo};
 ghost use Rattle.chk_demux.specs.Writes.{IsFree, IsWriter, IsOutput};
+ghost use Rattle.chk_demux.specs.Shown.{PutsIf};
+ghost use Rattle.chk_demux.specs.Due.{HasRecord};
 ghost use Rattle.chk_demux.specs.Giving.{IsOwnHead, holds_byte, cluster_back, keyed, given_chunks, place_given, IsSplitting, IsPlaced, chunks_of_fed};
 
 use crate::output::{Output, put};
@@ -143,6 +145,7 @@ fn give<S: Site>(
         (EndsSo stamped (λ t u. IsOutput v
         (outs ++ given_chunks heads.now (end_view end.now) index (place_given heads.now index behind splitter.now) splitter.now.given)
         output.new u) result)) }
+    ensures due { OnOk result (PutsIf (0 < length splitter.now.given) output.old.entries output.new.entries) }
     ensures writer { OnOk result (IsWriter (book_view book.now).next output.new.segmenter) }
     ensures only { IfErr result IsOfWrite }
     ensures works { Adds (S.told site.old) (S.told site.new) (Worked (WritesTo (segment_name (codes "demux") (book_view book.now).next)) result) }
@@ -226,6 +229,8 @@ pub(crate) fn split_value<S: Site>(
         (outs ++ chunks_of_fed heads.now (end_view end.now) from by_stamps (fed ++ value.now)) output.new u) result)) }
     ensures split { (by_stamps : Bool) (fed : List ℕ) → IsSplitting by_stamps fed splitter.old
         → OnOk result (IsSplitting by_stamps (fed ++ value.now) splitter.new) }
+    ensures due { (by_stamps : Bool) (fed : List ℕ) → IsSplitting by_stamps fed splitter.old
+        → OnOk result (PutsIf (HasRecord by_stamps (fed ++ value.now)) output.old.entries output.new.entries) }
     ensures writer { OnOk result (IsWriter (book_view book.now).next output.new.segmenter) }
     ensures only { IfErr result IsOfWrite }
     ensures works { Adds (S.told site.old) (S.told site.new) (Worked (WritesTo (segment_name (codes "demux") (book_view book.now).next)) result) }

@@ -1,11 +1,12 @@
 //! The demux run.
 
-ghost use Rattle.std.specs.Prelude.{◌≡◌, ◌-◌, ◌^◌, ◌&&◌, ℕ, List, [], nat_eq, nat_lt, IfOk, IfErr, OnOk, codes};
+ghost use Rattle.std.specs.Prelude.{◌≡◌, ◌-◌, ◌^◌, ◌&&◌, ℕ, List, [], nat_eq, nat_lt, IsTrue, IfOk, IfErr, OnOk, codes};
 ghost use Rattle.chk_site.specs.Files.{Files};
 ghost use Rattle.chk_site.specs.History.{Every};
 ghost use Rattle.chk_site.specs.Site.{Adds};
 ghost use Rattle.chk_site.specs.Runs.{anyhow, Leads};
 ghost use Rattle.chk_chunk.specs.Keys.{Chunk};
+ghost use Rattle.chk_world.specs.Books.{ends_rise};
 ghost use Rattle.chk_world.specs.Places.{As};
 ghost use Rattle.chk_world.specs.Sight.{job, Sight, AtJob};
 ghost use Rattle.chk_world.specs.JobSteps.{IsOf};
@@ -21,7 +22,7 @@ ghost use Rattle.chk_book.specs.Folders.{segment_name};
 ghost use Rattle.chk_merge.specs.Segments.{names_of, HasFiles, SparesFiles, AreSettled};
 ghost use Rattle.chk_merge.specs.Checking.{AllGoWell, ToldOfSome};
 ghost use Rattle.chk_merge.specs.Merging.{SoundHeads};
-ghost use Rattle.chk_demux.specs.Damage.{reads_of, HasCounts, ReadSoundly, ReadAll};
+ghost use Rattle.chk_demux.specs.Damage.{reads_of, HasCounts, SplitSoundly, RanSoundly, ReadAll};
 ghost use Rattle.chk_demux.specs.Demuxed.{Earlier, Begun, Demuxed, DemuxesBy, NamesStamped, WritesBook};
 ghost use Rattle.chk_demux.specs.Entering.{MayEnter, Entered};
 ghost use Rattle.chk_demux.specs.Working.{Worked, EndsSo};
@@ -126,11 +127,12 @@ fn split_named<S: Site>(
         (all_chunks (texts types.now) (book_view book.now) (archive_heads v (book_view archive.now)) cs (book_view archive.now).ends) output.new u
         × (left ≡ all_left (texts types.now) (book_view book.now) cs (book_view archive.now).ends)) result)) }
     ensures raw { (held : Files) → AreSettled (names_of (codes "archive") (book_view archive.now)) held
-        → HasCounts (book_view archive.now)
+        → HasCounts (book_view archive.now) → IsTrue (ends_rise (book_view book.now).ends)
         → Adds (S.told site.old) (S.told site.new)
         (Leads (anyhow (SparesFiles (names_of (codes "archive") (book_view archive.now))))
         (HasFiles (names_of (codes "archive") (book_view archive.now)) held)
-        (ReadSoundly (book_view archive.now) held result)) }
+        (SplitSoundly (texts types.now) (book_view archive.now) (book_view book.now) held
+        output.old.entries output.new.entries result)) }
     ensures writer { OnOk result (IsWriter (book_view book.now).next output.new.segmenter) }
     ensures due { Adds (S.told site.old) (S.told site.new)
         (ShowsPut (book_view archive.now) (book_view book.now) output.old.entries
@@ -203,11 +205,11 @@ fn split_archive<S: Site>(
         → Adds (S.told site.old) (S.told site.new)
         (Leads (As stamped job) (AtJob stamped (λ u. u ≡ v)) (Ran stamped v result)) }
     ensures raw { (held : Files) → AreSettled (names_of (codes "archive") (book_view archive.now)) held
-        → HasCounts (book_view archive.now)
+        → HasCounts (book_view archive.now) → IsTrue (ends_rise (book_view book.old).ends)
         → Adds (S.told site.old) (S.told site.new)
         (Leads (anyhow (SparesFiles (names_of (codes "archive") (book_view archive.now))))
         (HasFiles (names_of (codes "archive") (book_view archive.now)) held)
-        (ReadSoundly (book_view archive.now) held result)) }
+        (RanSoundly (texts types.now) (book_view archive.now) (book_view book.old) held result)) }
     ensures shown { Adds (S.told site.old) (S.told site.new) (Shows (IsUnsound (codes "archive") (book_view archive.now)) result) }
     ensures spent { Adds (S.told site.old) (S.told site.new)
         (SpentBy (book_view archive.now) (book_view book.old) result) }
@@ -250,7 +252,8 @@ pub fn demux<S: Site>(
         → Adds (S.told site.old) (S.told site.new)
         (Leads (As stamped job) (Begun stamped before) (Demuxed stamped before result)) }
     ensures raw { (held : Files) → AreSettled (reads_of held) held → Adds (S.told site.old) (S.told site.new)
-        (Leads (anyhow (SparesFiles (reads_of held))) (HasFiles (reads_of held) held) (ReadAll held result)) }
+        (Leads (anyhow (SparesFiles (reads_of held))) (HasFiles (reads_of held) held)
+        (ReadAll (texts types.now) held result)) }
     ensures shown { Adds (S.told site.old) (S.told site.new) (Shows IsDamage result) }
     ensures spent { Adds (S.told site.old) (S.told site.new) (ShowsSpent result) }
     ensures own { Adds (S.told site.old) (S.told site.new) (Every (IsOf DemuxesBy)) }

@@ -7,6 +7,8 @@ ghost use Rattle.chk_site.specs.Site.{Adds};
 ghost use Rattle.chk_site.specs.Runs.{anyhow, Leads};
 ghost use Rattle.chk_chunk.specs.Keys.{Chunk};
 ghost use Rattle.chk_world.specs.Books.{ends_rise};
+ghost use Rattle.chk_world.specs.TrueBooks.{HasBytes};
+ghost use Rattle.chk_world.proofs.Each.{Each};
 ghost use Rattle.chk_world.specs.Places.{As};
 ghost use Rattle.chk_world.specs.Sight.{job, Sight, AtJob};
 ghost use Rattle.chk_world.specs.JobSteps.{IsOf, ReadsFile, ReadsOrWrites, SparesFile};
@@ -18,7 +20,8 @@ ghost use Rattle.chk_parts.specs.Records.{AreRecords};
 ghost use Rattle.chk_parts.specs.Gathering.{held, AreSound};
 ghost use Rattle.chk_merge.specs.Segments.{HasFiles, SparesFiles, AreSettled};
 ghost use Rattle.chk_merge.specs.Merging.{AreApart};
-ghost use Rattle.chk_demux.specs.Damage.{ReadsOn, NotDamaged};
+ghost use Rattle.chk_demux.specs.Damage.{AreRead, ReadsOn, NotDamaged};
+ghost use Rattle.chk_demux.specs.Due.{IsFed, StreamHasRecord, HasDue};
 ghost use Rattle.chk_parts.specs.Fetching.{head_file, IsRecordAt, CanFetch, Fetched, AreWindows};
 ghost use Rattle.chk_book.specs.Folders.{segment_name};
 ghost use Rattle.chk_book.specs.Books.{book_view, end_in};
@@ -107,10 +110,13 @@ fn split_record<S: Site>(
         (AtJob stamped (SplitSoFar v files.now heads.now cs outs (end_view end.now) from index by_stamps output.old reader.old splitter.old))
         (EndsSo stamped
         (λ t u. SplitSoFar v files.now heads.now cs outs (end_view end.now) from (index + 1) by_stamps output.new reader.new splitter.new u) result)) }
-    ensures raw { (v : Sight) (cs : List Chunk) → AreRecords v files.now heads.now cs → AreSettled files.now (held v)
+    ensures raw { (v : Sight) (cs : List Chunk) (by_stamps : Bool) (count : ℕ) → AreRecords v files.now heads.now cs
+        → Each HasBytes cs → AreSettled files.now (held v)
         → AreApart files.now (segment_name (codes "demux") (book_view book.now).next) → Adds (S.told site.old) (S.told site.new)
-        (Leads (anyhow (SparesFiles files.now)) (λ h. HasFiles files.now (held v) h × AreWindows v files.now reader.old)
-        (ReadsOn v files.now reader.new result)) }
+        (Leads (anyhow (SparesFiles files.now)) (λ h. AreRead v files.now reader.old h
+        × IsFed cs (end_view end.now) from index by_stamps splitter.old count output.old.entries)
+        (ReadsOn v files.now reader.new
+        (IsFed cs (end_view end.now) from (index + 1) by_stamps splitter.new count output.new.entries) result)) }
     ensures writer { OnOk result (IsWriter (book_view book.now).next output.new.segmenter) }
     ensures due { OnOk result
         (PutsIf (IsTrue (ends_past (end_view end.now) from (head_in heads.now index)))
@@ -159,10 +165,12 @@ fn split_stream<S: Site>(
         (EndsSo stamped (λ left u. IsOutput v
         (outs ++ stream_chunks (texts types.now) (book_view book.now) heads.now cs (end_view end.now)) output.new u
         × AreWindows v files.now reader.new × (left ≡ stream_left (texts types.now) (book_view book.now) cs (end_view end.now))) result)) }
-    ensures raw { (v : Sight) (cs : List Chunk) → AreRecords v files.now heads.now cs → AreSettled files.now (held v)
-        → AreApart files.now (segment_name (codes "demux") (book_view book.now).next) → Adds (S.told site.old) (S.told site.new)
-        (Leads (anyhow (SparesFiles files.now)) (λ h. HasFiles files.now (held v) h × AreWindows v files.now reader.old)
-        (ReadsOn v files.now reader.new result)) }
+    ensures raw { (v : Sight) (cs : List Chunk) → AreRecords v files.now heads.now cs → Each HasBytes cs
+        → AreSettled files.now (held v) → AreApart files.now (segment_name (codes "demux") (book_view book.now).next)
+        → HoldsStream heads.now (end_view end.now).stream block.first block.end → Adds (S.told site.old) (S.told site.new)
+        (Leads (anyhow (SparesFiles files.now)) (AreRead v files.now reader.old)
+        (ReadsOn v files.now reader.new (PutsIf (StreamHasRecord (texts types.now) cs (end_view end.now) from)
+        output.old.entries output.new.entries) result)) }
     ensures writer { OnOk result (IsWriter (book_view book.now).next output.new.segmenter) }
     ensures due { OnOk result (PutsIf (HasPast heads.now (end_view end.now) from)
         output.old.entries output.new.entries) }
@@ -214,10 +222,12 @@ pub(crate) fn split_streams<S: Site>(
         (EndsSo stamped (λ left u. IsOutput v
         (all_chunks (texts types.now) (book_view book.now) heads.now cs (book_view archive.now).ends) output.new u
         × (left ≡ all_left (texts types.now) (book_view book.now) cs (book_view archive.now).ends)) result)) }
-    ensures raw { (v : Sight) (cs : List Chunk) → AreRecords v files.now heads.now cs → AreSettled files.now (held v)
-        → AreApart files.now (segment_name (codes "demux") (book_view book.now).next) → Adds (S.told site.old) (S.told site.new)
+    ensures raw { (v : Sight) (cs : List Chunk) → AreRecords v files.now heads.now cs → Each HasBytes cs
+        → AreSettled files.now (held v) → AreApart files.now (segment_name (codes "demux") (book_view book.now).next)
+        → StreamsRise heads.now → IsTrue (ends_rise (book_view book.now).ends) → Adds (S.told site.old) (S.told site.new)
         (Leads (anyhow (SparesFiles files.now)) (HasFiles files.now (held v))
-        (NotDamaged result)) }
+        (NotDamaged (PutsIf (HasDue (texts types.now) (book_view archive.now) (book_view book.now) cs)
+        output.old.entries output.new.entries) result)) }
     ensures writer { OnOk result (IsWriter (book_view book.now).next output.new.segmenter) }
     ensures due { IsTrue (ends_rise (book_view book.now).ends)
         → OnOk result (PutsIf (HasNew (book_view archive.now) (book_view book.now) heads.now)

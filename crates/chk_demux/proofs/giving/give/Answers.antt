@@ -1,4 +1,4 @@
-use Rattle.std.proofs.Common.{◌≡◌, ◌∙◌, ◌-◌, ◌++◌, ap, ap₂, sym, subst}
+use Rattle.std.proofs.Common.{◌≡◌, ◌∙◌, ◌-◌, ◌++◌, ◌<◌, length, ap, ap₂, sym, subst, inl, refl}
 use Rattle.std.specs.Prelude.{codes}
 use Rattle.chk_site.specs.Site.{Adds}
 use Rattle.chk_site.specs.Runs.{Leads}
@@ -15,6 +15,7 @@ use Rattle.chk_demux.specs.Writes.{IsOutput}
 use Rattle.chk_demux.specs.Giving.{given_chunks, place_given}
 use Rattle.chk_demux.proofs.Feeding.{given_none}
 use Rattle.chk_demux.proofs.Works.{works_none, works_memory}
+use Rattle.chk_demux.proofs.NewHeads.{past_put}
 use Rattle.chk_demux.proofs.giving.give.Goals as goal
 
 pub returns-in_default-clause-told : goal.returns-in_default-clause-told
@@ -47,3 +48,11 @@ returns-clause-told g c stamped v outs free =
     (EndsSo stamped (λ t u. IsOutput v (outs ++ l) c.write_record.new.output u) c.write_record.result)))
     (ap₂ (λ m r. given_chunks heads e c.args.index m r) place c.in-Some.ensures.lent)
     (c.write_record.ensures.told stamped v outs free)
+
+pub returns-in_default-clause-due : goal.returns-in_default-clause-due
+returns-in_default-clause-due g c = inl refl
+
+pub returns-clause-due : goal.returns-clause-due
+returns-clause-due g c =
+    past_put c.write_record.result c.args.output.now.entries c.write_record.new.output.entries
+    (subst (λ l. 0 < length l) c.in-Some.ensures.lent c.in-Some.ensures.some)

@@ -1,4 +1,4 @@
-use Rattle.std.proofs.Common.{◌≡◌, ◌∙◌, ◌+◌, ◌-◌, ◌++◌, sym, subst, refl, ◌≤◌, arith, take, drop, length, length-drop, append-nil, Ok}
+use Rattle.std.proofs.Common.{◌≡◌, ◌∙◌, ◌+◌, ◌-◌, ◌++◌, sym, subst, refl, inl, ◌≤◌, arith, take, drop, length, length-drop, append-nil, Ok}
 use Rattle.std.specs.Prelude.{codes}
 use Rattle.std.proofs.lemmas.Result.{err_from_is_err_and}
 use Rattle.std.proofs.lemmas.List.{take_all}
@@ -16,7 +16,10 @@ use Rattle.chk_demux.specs.Writes.{IsOutput}
 use Rattle.chk_splitter.specs.Splitting.{Feeds}
 use Rattle.chk_demux.specs.Giving.{IsSplitting, chunks_of_fed, given_chunks, place_given}
 use Rattle.chk_demux.proofs.Ends.{so_fails, so_done, no_more, cause_behind}
+use Rattle.chk_demux.specs.Shown.{PutsIf}
+use Rattle.chk_demux.specs.Due.{HasRecord}
 use Rattle.chk_demux.proofs.Feeding.{still_splits, value_on}
+use Rattle.chk_demux.proofs.Due.{still_due}
 use Rattle.chk_demux.proofs.Works.{works_none, works_then, works_end, works_result}
 use Rattle.chk_demux.proofs.giving.split_value.Goals as goal
 
@@ -27,6 +30,7 @@ loop-at-init g c =
     record {
       within = omega arith;
       splits = λ t fed s. subst (λ l. IsSplitting t l c.args.splitter.now) (sym (append-nil fed)) s;
+      due = λ t fed s. inl refl;
       so_far = λ stamped v outs from t fed free s placed.
           leads_none (g.S.Site.told c.args.site.now)
           (λ h k. subst (λ l. AtJob stamped (IsOutput v (outs ++ chunks_of_fed heads e from t l) c.args.output.now) h)
@@ -69,6 +73,10 @@ loop-at-preserved g c =
           omega (arith, few, size, low);
       splits = λ t fed s.
           still_splits heads e c.args.index 0 t fed value l.at n l.splitter c.feed.new.self (l.invariant.splits t fed s) feeds;
+      due = λ t fed s.
+          still_due heads e t fed value l.at n l.splitter c.feed.new.self
+          (l.invariant.splits t fed s) feeds c.args.output.now.entries l.output.entries
+          c.give.new.output.entries (l.invariant.due t fed s) c.in_ok-give.ensures.due;
       so_far = λ stamped v outs from t fed free s placed.
           let so = outs ++ chunks_of_fed heads e from t (fed ++ take l.at value) in
           subst (λ x. Adds (g.S.Site.told c.args.site.now) (g.S.Site.told c.give.new.site) (Leads (As stamped job)
@@ -199,3 +207,19 @@ pub returns-in_err-give-clause-only : goal.returns-in_err-give-clause-only
 returns-in_err-give-clause-only g c =
     let p = err_from_is_err_and c.from_residual-in_err-give.result c.from_residual-in_err-give.ensures.1 in
     rw (p.1, p.2) c.in_err-give.ensures.only
+
+pub returns-in_err-taken-clause-due : goal.returns-in_err-taken-clause-due
+returns-in_err-taken-clause-due g c t fed s =
+    let p = err_from_is_err_and c.from_residual.result c.from_residual.ensures.1 in
+    rw p.1 tt
+
+pub returns-in_err-give-clause-due : goal.returns-in_err-give-clause-due
+returns-in_err-give-clause-due g c t fed s =
+    let p = err_from_is_err_and c.from_residual-in_err-give.result c.from_residual-in_err-give.ensures.1 in
+    rw p.1 tt
+
+pub returns-clause-due : goal.returns-clause-due
+returns-clause-due g c t fed s =
+    subst (λ x. PutsIf (HasRecord t (fed ++ x)) c.args.output.now.entries c.loop-at.output.entries)
+    (take_all c.loop-at.at c.args.value.now c.loop-at-test.false)
+    (c.loop-at.invariant.due t fed s)

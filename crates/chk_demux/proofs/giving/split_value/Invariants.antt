@@ -11,6 +11,8 @@ use Rattle.chk_book.specs.Books.{book_view}
 use Rattle.chk_book.specs.Views.{end_view}
 use Rattle.chk_demux.specs.Working.{Worked}
 use Rattle.chk_demux.specs.Writes.{IsFree, IsWriter, IsOutput}
+use Rattle.chk_demux.specs.Shown.{PutsIf}
+use Rattle.chk_demux.specs.Due.{HasRecord}
 use Rattle.chk_demux.specs.Giving.{IsSplitting, IsPlaced, chunks_of_fed}
 use Rattle.chk_demux.proofs.giving.split_value.Given as goal
 
@@ -19,6 +21,8 @@ invariant-loop-at g l = record {
   within : l.at ≤ length l.value;
   splits : (t : Bool) (fed : List ℕ) → IsSplitting t fed l.fn.splitter
       → IsSplitting t (fed ++ take l.at l.value) l.splitter;
+  due : (t : Bool) (fed : List ℕ) → IsSplitting t fed l.fn.splitter
+      → PutsIf (HasRecord t (fed ++ take l.at l.value)) l.fn.output.entries l.output.entries;
   so_far : (stamped : List (List ℕ)) (v : Sight) (outs : List Chunk) (from : ℕ) (t : Bool) (fed : List ℕ)
       → IsFree v (book_view l.book).next → IsSplitting t fed l.fn.splitter
       → IsPlaced l.heads (end_view l.end) l.index from (fed ++ l.value)

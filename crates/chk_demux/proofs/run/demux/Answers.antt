@@ -1,6 +1,7 @@
 use Rattle.std.proofs.Common.{Err}
 use Rattle.std.proofs.lemmas.Result.{err_from_is_err_and}
 use Rattle.chk_demux.specs.Demuxed.{DemuxesBy}
+use Rattle.chk_demux.specs.Splitting.{texts}
 use Rattle.chk_demux.specs.declared.report.DemuxReport.{DemuxReport}
 use Rattle.chk_demux.proofs.RawReads.{not_loaded, all_read}
 use Rattle.chk_demux.proofs.RunSteps.{not_begun, whole_run, begun_works, whole_works}
@@ -25,13 +26,14 @@ pub returns-in_err-books-clause-raw : goal.returns-in_err-books-clause-raw
 returns-in_err-books-clause-raw g c held settled =
     let q = err_from_is_err_and c.from_residual.result c.from_residual.ensures.1 in
     rw (q.1, q.2)
-    (not_loaded held settled c.begin.result (c.begin.ensures.raw held settled) DemuxReport c.in_err-books.field-0.0
-    c.in_err-books.was)
+    (not_loaded held settled (texts c.args.types.now) c.begin.result (c.begin.ensures.raw held settled)
+    DemuxReport c.in_err-books.field-0.0 c.in_err-books.ensures.only c.in_err-books.was)
 
 pub returns-clause-raw : goal.returns-clause-raw
 returns-clause-raw g c held settled =
-    all_read held settled c.begin.result (c.begin.ensures.raw held settled) c.in_ok-books.books c.in_ok-books.was
-    c.split_archive.result c.split_archive.ensures.works (λ own counts. c.split_archive.ensures.raw held own counts)
+    all_read held settled (texts c.args.types.now) c.begin.result (c.begin.ensures.raw held settled)
+    c.in_ok-books.books c.in_ok-books.was c.split_archive.result c.split_archive.ensures.works
+    (λ own counts rises. c.split_archive.ensures.raw held own counts rises)
 
 pub returns-in_err-books-clause-own : goal.returns-in_err-books-clause-own
 returns-in_err-books-clause-own g c =

@@ -3,7 +3,6 @@ use Rattle.std.proofs.lemmas.Result.{err_from_is_err_and}
 use Rattle.chk_heads.specs.Faults.{JobCause}
 use Rattle.chk_book.specs.Books.{book_view}
 use Rattle.chk_site.proofs.Runs.{adds_as}
-use Rattle.chk_site.proofs.Leads.{leads_as}
 use Rattle.chk_heads.specs.declared.fault.JobFault.TheVariants.{Spent}
 use Rattle.chk_demux.specs.Running.{RunsOn}
 use Rattle.chk_demux.specs.Working.{Worked}
@@ -11,7 +10,7 @@ use Rattle.chk_demux.specs.Writes.{IsWriter}
 use Rattle.chk_demux.specs.declared.report.DemuxReport.{DemuxReport}
 use Rattle.chk_demux.specs.Splitting.{texts}
 use Rattle.chk_demux.proofs.Ends.{cause_behind}
-use Rattle.chk_demux.proofs.RawReads.{split_refused, split_on}
+use Rattle.chk_demux.proofs.RawReads.{split_refused, split_spent, split_on}
 use Rattle.chk_demux.proofs.RunFacts.{can_run}
 use Rattle.chk_demux.proofs.RunSteps.{nothing_put, some_lack, none_lack, none_left, not_split, all_ran, enters}
 use Rattle.chk_demux.proofs.Works.{works_result}
@@ -56,8 +55,15 @@ returns-then-lacks_number-clause-told g c stamped v named ready =
     c.in_ok-left.left c.in_ok-left.was lacks.0 lacks.1 c.in_ok-left.ensures.writer
 
 pub returns-then-lacks_number-clause-raw : goal.returns-then-lacks_number-clause-raw
-returns-then-lacks_number-clause-raw g c held settled counts =
-    leads_as (λ h z. z) (λ h z. tt) (c.split_named.ensures.raw held settled counts)
+returns-then-lacks_number-clause-raw g c held settled counts rises =
+    let b = book_view c.args.book.now in
+    let n = c.split_named.new.output.entries in
+    let lacks = some_lack b.next n c.lacks_number.result c.lacks_number.ensures
+    c.if-lacks_number.true in
+    split_spent (texts c.args.types.now) (book_view c.args.archive.now) b held
+    c.new-output.result.entries n c.split_named.result
+    (c.split_named.ensures.raw held settled counts rises) DemuxReport c.in_ok-left.left
+    c.in_ok-left.was c.new-output.ensures.entries lacks.1 b.next
 
 pub returns-then-lacks_number-clause-shown : goal.returns-then-lacks_number-clause-shown
 returns-then-lacks_number-clause-shown g c = adds_as _ c.split_named.ensures.works (λ added history x. tt)
@@ -71,15 +77,19 @@ pub returns-then-lacks_number-clause-cause : goal.returns-then-lacks_number-clau
 returns-then-lacks_number-clause-cause g c = c.in_ok-left.ensures.cause
 
 pub returns-in_err-left-clause-raw : goal.returns-in_err-left-clause-raw
-returns-in_err-left-clause-raw g c held settled counts =
+returns-in_err-left-clause-raw g c held settled counts rises =
     let q = err_from_is_err_and c.from_residual.result c.from_residual.ensures.1 in
     rw (q.1, q.2)
-    (split_refused (book_view c.args.archive.now) held c.split_named.result (c.split_named.ensures.raw held settled counts)
-    DemuxReport c.in_err-left.field-0.0 c.in_err-left.was)
+    (split_refused (texts c.args.types.now) (book_view c.args.archive.now) (book_view c.args.book.now) held
+    c.new-output.result.entries c.split_named.new.output.entries c.split_named.result
+    (c.split_named.ensures.raw held settled counts rises) DemuxReport c.in_err-left.field-0.0
+    c.in_err-left.ensures.only c.in_err-left.was)
 
 pub returns-clause-raw : goal.returns-clause-raw
-returns-clause-raw g c held settled counts =
-    split_on (book_view c.args.archive.now) held c.split_named.result (c.split_named.ensures.raw held settled counts)
+returns-clause-raw g c held settled counts rises =
+    split_on (texts c.args.types.now) (book_view c.args.archive.now) (book_view c.args.book.now) held
+    c.new-output.result.entries c.split_named.new.output.entries c.split_named.result
+    (c.split_named.ensures.raw held settled counts rises)
     c.in_ok-left.left c.in_ok-left.was c.enter_output.result c.enter_output.ensures.only c.enter_output.ensures.works
 
 pub returns-in_err-left-clause-works : goal.returns-in_err-left-clause-works

@@ -31,7 +31,7 @@ returns-in_err-files-clause-told g c stamped v cs can none =
     (leads_none (g.S.Site.told c.args.site.now) (λ h z. z)))
 
 pub returns-in_err-files-clause-raw : goal.returns-in_err-files-clause-raw
-returns-in_err-files-clause-raw g c held settled counts =
+returns-in_err-files-clause-raw g c held settled counts rises =
     let q = err_from_is_err_and c.from_residual.result c.from_residual.ensures.1 in
     rw (q.1, q.2) (leads_none (g.S.Site.told c.args.site.now) (λ h z. tt))
 
@@ -69,18 +69,24 @@ pub heads_in_order-requires-clause-names : goal.heads_in_order-requires-clause-n
 heads_in_order-requires-clause-names g c = c.as_slice-names.ensures.value ∙ c.in_ok-files.ensures
 
 pub returns-in_err-heads-clause-raw : goal.returns-in_err-heads-clause-raw
-returns-in_err-heads-clause-raw g c held settled counts =
+returns-in_err-heads-clause-raw g c held settled counts rises =
     let q = err_from_is_err_and c.from_residual-in_err-heads.result c.from_residual-in_err-heads.ensures.1 in
+    let old = c.args.output.now.entries in
     rw (q.1, q.2)
-    (heads_refused (book_view c.args.archive.now) held settled counts c.heads_in_order.result
-    (c.heads_in_order.ensures.raw held settled) ℕ c.in_err-heads.field-0.0 c.in_err-heads.was)
+    (heads_refused (book_view c.args.archive.now) held settled counts (texts c.args.types.now)
+    (book_view c.args.book.now) old old c.heads_in_order.result
+    (c.heads_in_order.ensures.raw held settled) c.in_err-heads.field-0.0 c.in_err-heads.was)
 
 pub returns-clause-raw : goal.returns-clause-raw
-returns-clause-raw g c held settled counts =
-    heads_read (book_view c.args.archive.now) held settled counts c.heads_in_order.result
+returns-clause-raw g c held settled counts rises =
+    heads_read (book_view c.args.archive.now) held settled counts (texts c.args.types.now)
+    (book_view c.args.book.now) c.args.output.now.entries c.split_streams.new.output.entries
+    c.heads_in_order.result
     (c.heads_in_order.ensures.raw held settled) c.in_ok-heads.heads c.in_ok-heads.was c.as_slice-names.result.now
     (c.as_slice-names.ensures.value ∙ c.in_ok-files.ensures) (book_view c.args.book.now).next c.split_streams.result
-    c.split_streams.ensures.works c.split_streams.ensures.raw
+    c.split_streams.ensures.works
+    (λ v cs records bytes own apart rise.
+    c.split_streams.ensures.raw v cs records bytes own apart rise rises)
 
 pub returns-in_err-heads-clause-writer : goal.returns-in_err-heads-clause-writer
 returns-in_err-heads-clause-writer g c =

@@ -1,5 +1,5 @@
-use Rattle.std.proofs.Common.{◌≡◌, ◌∙◌, ◌+◌, ◌-◌, ◌++◌, drop, ap, sym, subst, refl, inl, inr, true, false}
-use Rattle.std.specs.Prelude.{codes, OnOk}
+use Rattle.std.proofs.Common.{◌≡◌, ◌∙◌, ◌+◌, ◌-◌, ◌++◌, drop, ap, ap₂, sym, subst, refl, inl, inr, true, false}
+use Rattle.std.specs.Prelude.{codes, slice_index_or, OnOk}
 use Rattle.std.proofs.lemmas.Result.{err_from_is_err_and}
 use Rattle.chk_site.proofs.Leads.{leads_none, leads_then}
 use Rattle.chk_heads.specs.Heads.{Head}
@@ -8,9 +8,15 @@ use Rattle.chk_book.specs.Books.{book_view}
 use Rattle.chk_book.specs.Views.{end_view}
 use Rattle.chk_book.specs.Folders.{segment_name}
 use Rattle.chk_world.specs.JobSteps.{ReadsFile, WritesTo, ReadsOrWrites}
+use Rattle.chk_chunk.specs.Keys.{chunk_begin}
+use Rattle.chk_merge.specs.ReadBack.{value_held}
+use Rattle.chk_parts.specs.Cuts.{no_chunk}
+use Rattle.chk_demux.specs.Due.{IsFed}
 use Rattle.chk_demux.specs.Giving.{IsSplitting}
 use Rattle.chk_demux.specs.Splitting.{ends_past, SplitSoFar}
 use Rattle.chk_demux.proofs.RawReads.{fetch_refused, fetched_on, written_on}
+use Rattle.chk_demux.proofs.Due.{fed_passed, fed_more}
+use Rattle.chk_demux.proofs.Places.{record_at}
 use Rattle.chk_demux.proofs.Ends.{at_as}
 use Rattle.chk_demux.proofs.Fetches.{P, passed, not_fetched, record_split}
 use Rattle.chk_demux.proofs.Works.{worked, works_none, works_as, works_result, works_then, own_of}
@@ -90,24 +96,65 @@ returns-clause-works g c =
     (works_as (WritesTo w) (ReadsOrWrites w) (λ call k. inr k) c.split_value.result c.split_value.ensures.works)
 
 pub returns-then-not-ends_past-clause-raw : goal.returns-then-not-ends_past-clause-raw
-returns-then-not-ends_past-clause-raw g c v cs records settled apart = leads_none (g.S.Site.told c.args.site.now) (λ h z. z)
+returns-then-not-ends_past-clause-raw g c v cs b count records bytes settled apart =
+    let heads = c.args.heads.now in
+    let e = end_view c.args.end.now in
+    let misses : ends_past e c.args.from (head_in heads c.args.index) ≡ false =
+    sym (ap (ends_past e c.args.from) c.get-head.ensures.head)
+    ∙ (sym c.ends_past.ensures ∙ c.if-not-ends_past.true) in
+    leads_none (g.S.Site.told c.args.site.now)
+    (λ h z. (
+      z.0,
+      fed_passed v c.args.files.now heads cs e c.args.from records bytes b c.args.index
+          c.requires.index c.args.splitter.now count c.args.output.now.entries misses z.1,
+    ))
 
 pub returns-in_err-fetch-clause-raw : goal.returns-in_err-fetch-clause-raw
-returns-in_err-fetch-clause-raw g c v cs records settled apart =
+returns-in_err-fetch-clause-raw g c v cs b count records bytes settled apart =
     let p = err_from_is_err_and c.from_residual.result c.from_residual.ensures.1 in
     rw (p.1, p.2)
     (fetch_refused v c.args.files.now c.args.heads.now cs records settled c.args.index c.requires.index c.args.reader.now
-    c.fetch.new.reader c.fetch.result c.fetch.ensures.raw c.fetch.ensures.own (Unit {0}) c.fetch.new.reader
-    c.in_err-fetch.field-0.0 c.in_err-fetch.was)
+    c.fetch.new.reader c.fetch.result c.fetch.ensures.raw c.fetch.ensures.own (Unit {0})
+    (IsFed cs (end_view c.args.end.now) c.args.from c.args.index b c.args.splitter.now count
+    c.args.output.now.entries)
+    (IsFed cs (end_view c.args.end.now) c.args.from (c.args.index + 1) b c.args.splitter.now count
+    c.args.output.now.entries)
+    c.fetch.new.reader c.in_err-fetch.field-0.0 c.in_err-fetch.was)
 
 pub returns-clause-raw : goal.returns-clause-raw
-returns-clause-raw g c v cs records settled apart =
+returns-clause-raw g c v cs b count records bytes settled apart =
     let w = segment_name (codes "demux") (book_view c.args.book.now).next in
+    let files = c.args.files.now in
+    let heads = c.args.heads.now in
+    let e = end_view c.args.end.now in
+    let i = c.args.index in
+    let given = c.past-value.result.now in
+    let own = slice_index_or cs i no_chunk in
+    let fed = IsFed cs e c.args.from i b c.args.splitter.now count c.args.output.now.entries in
+    let more = IsFed cs e c.args.from (i + 1) b c.split_value.new.splitter count
+    c.split_value.new.output.entries in
+    let passes : ends_past e c.args.from (head_in heads i) ≡ true =
+    sym (ap (ends_past e c.args.from) c.get-head.ensures.head)
+    ∙ (sym c.ends_past.ensures ∙ c.if-not-ends_past.false) in
+    let begins : c.get-head.result.begin ≡ chunk_begin own =
+    ap (λ (h : Head). h.begin) c.get-head.ensures.head
+    ∙ (record_at v files heads cs e c.args.from records bytes i c.requires.index).begin in
     leads_then
-    (fetched_on v c.args.files.now c.args.heads.now cs records settled c.args.index c.requires.index c.args.reader.now
-    c.fetch.new.reader c.fetch.result c.fetch.ensures.raw c.fetch.ensures.own c.in_ok-fetch.field-0 c.in_ok-fetch.was)
-    (written_on v c.args.files.now c.args.heads.now cs records settled w apart c.fetch.new.reader c.split_value.result
-    c.split_value.ensures.only (own_of (WritesTo w) c.split_value.result c.split_value.ensures.works))
+    (fetched_on v files heads cs records settled i c.requires.index c.args.reader.now
+    c.fetch.new.reader c.fetch.result c.fetch.ensures.raw c.fetch.ensures.own fed
+    c.in_ok-fetch.field-0 c.in_ok-fetch.was)
+    (written_on v files heads cs records settled w apart c.fetch.new.reader
+    ((value_held c.fetch.new.reader ≡ own.value) × fed) more c.split_value.result
+    c.split_value.ensures.only
+    (λ value good x.
+    fed_more v files heads cs e c.args.from records bytes b i c.requires.index c.args.splitter.now
+    count c.args.output.now.entries passes given
+    (c.past-value.ensures
+    ∙ ap₂ (λ m l. drop (c.args.from - m) l) begins (c.value.ensures ∙ x.0))
+    c.split_value.new.splitter c.split_value.new.output.entries c.split_value.result
+    (λ fed k. c.split_value.ensures.split b fed k) (λ fed k. c.split_value.ensures.due b fed k)
+    value good x.1)
+    (own_of (WritesTo w) c.split_value.result c.split_value.ensures.works))
 
 pub returns-then-not-ends_past-clause-shown : goal.returns-then-not-ends_past-clause-shown
 returns-then-not-ends_past-clause-shown g c = adds_none _ _ (λ history. tt)

@@ -15,6 +15,9 @@ use Rattle.chk_demux.specs.Working.{Worked}
 use Rattle.chk_demux.specs.Writes.{IsOutput}
 use Rattle.chk_demux.specs.Giving.{chunks_of_fed}
 use Rattle.chk_demux.specs.Splitting.{texts, past_in, is_stamped, RunsSo, SplitSoFar, stream_chunks, stream_left}
+use Rattle.chk_demux.specs.Shown.{PutsIf}
+use Rattle.chk_demux.specs.Due.{IsFed, StreamHasRecord}
+use Rattle.chk_demux.proofs.Due.{fed_none, fed_all}
 use Rattle.chk_demux.proofs.RawReads.{on_refused, on_done}
 use Rattle.chk_demux.proofs.Ends.{at_as, so_fails, so_done}
 use Rattle.chk_demux.proofs.Streams.{stream_begun, stream_ended}
@@ -36,7 +39,14 @@ loop-index-init g c = record {
       (λ u p. stream_begun v c.args.files.now c.args.heads.now cs outs (end_view c.args.end.now) c.args.from b
       c.args.output.now c.args.reader.now c.new-splitter.result u c.args.block.first c.args.block.end c.requires.block.0
       c.requires.block.1 records runs holds is p) h k);
-  raw_so_far = λ v cs records settled apart. leads_none (g.S.Site.told c.args.site.now) (λ h z. z);
+  raw_so_far = λ v cs b records bytes settled apart holds is.
+      leads_none (g.S.Site.told c.args.site.now)
+      (λ h z. (
+        z,
+        fed_none v c.args.files.now c.args.heads.now cs (end_view c.args.end.now)
+            c.args.from records bytes b c.args.block.first c.args.block.end c.requires.block.0
+            c.requires.block.1 holds c.new-splitter.result is c.args.output.now.entries,
+      ));
   writer = c.requires.writer;
   due = inl refl;
   works = works_none (ReadsOrWrites (segment_name (codes "demux") (book_view c.args.book.now).next)) tt (g.S.Site.told c.args.site.now);
@@ -59,11 +69,13 @@ loop-index-preserved g c =
           c.split_record.new.reader c.split_record.new.splitter u)
           c.split_record.result c.in_ok-split_record.field-0 c.in_ok-split_record.was
           (c.split_record.ensures.told stamped v cs outs b records free runs));
-      raw_so_far = λ v cs records settled apart.
-          leads_then (l.invariant.raw_so_far v cs records settled apart)
-          (on_done v c.args.files.now c.args.heads.now cs records settled l.reader c.split_record.new.reader
+      raw_so_far = λ v cs b records bytes settled apart holds is.
+          leads_then (l.invariant.raw_so_far v cs b records bytes settled apart holds is)
+          (on_done v c.args.files.now c.args.heads.now cs records settled
+          (IsFed cs e from (l.index + 1) b c.split_record.new.splitter c.args.output.now.entries
+          c.split_record.new.output.entries) c.split_record.new.reader
           c.split_record.result c.in_ok-split_record.field-0 c.in_ok-split_record.was
-          (c.split_record.ensures.raw v cs records settled apart));
+          (c.split_record.ensures.raw v cs b c.args.output.now.entries records bytes settled apart));
       writer = c.in_ok-split_record.ensures.writer;
       due = then_put c.args.output.now.entries l.output.entries c.split_record.new.output.entries
           l.invariant.due
@@ -143,17 +155,45 @@ returns-clause-told g c stamped v cs outs records free runs holds goes =
     (l.invariant.so_far stamped v cs outs b records free here holds is)
 
 pub returns-in_err-split_record-clause-raw : goal.returns-in_err-split_record-clause-raw
-returns-in_err-split_record-clause-raw g c v cs records settled apart =
+returns-in_err-split_record-clause-raw g c v cs records bytes settled apart holds =
     let p = err_from_is_err_and c.from_residual.result c.from_residual.ensures.1 in
     let l = c.loop-index in
+    let e = end_view c.args.end.now in
+    let from = c.args.from in
+    let types = texts c.args.types.now in
+    let b = is_stamped types e.stream.kind in
+    let old = c.args.output.now.entries in
+    let new = c.split_record.new.output.entries in
+    let is : c.new-splitter.result ≡ fresh b =
+    c.new-splitter.ensures ∙ ap fresh (c.is_stamped.ensures ∙ ap (is_stamped types) c.as_str.ensures.text) in
     rw (p.1, p.2)
-    (leads_then (l.invariant.raw_so_far v cs records settled apart)
-    (on_refused v c.args.files.now c.args.heads.now cs records settled ℕ l.reader c.split_record.new.reader
+    (leads_then (l.invariant.raw_so_far v cs b records bytes settled apart holds is)
+    (on_refused v c.args.files.now c.args.heads.now cs records settled ℕ
+    (IsFed cs e from (l.index + 1) b c.split_record.new.splitter old new)
+    (PutsIf (StreamHasRecord types cs e from) old new) c.split_record.new.reader
     c.split_record.new.reader c.split_record.result c.in_err-split_record.field-0.0 c.in_err-split_record.was
-    (c.split_record.ensures.raw v cs records settled apart)))
+    (c.split_record.ensures.raw v cs b old records bytes settled apart)))
 
 pub returns-clause-raw : goal.returns-clause-raw
-returns-clause-raw g c v cs records settled apart = c.loop-index.invariant.raw_so_far v cs records settled apart
+returns-clause-raw g c v cs records bytes settled apart holds =
+    let l = c.loop-index in
+    let e = end_view c.args.end.now in
+    let types = texts c.args.types.now in
+    let b = is_stamped types e.stream.kind in
+    let is : c.new-splitter.result ≡ fresh b =
+    c.new-splitter.ensures ∙ ap fresh (c.is_stamped.ensures ∙ ap (is_stamped types) c.as_str.ensures.text) in
+    let past = c.args.block.end in
+    let high = c.loop-index-test.false in
+    let low = l.auto.index-end in
+    let all : l.index ≡ past = omega (arith, high, low) in
+    leads_as (λ h z. z)
+    (λ h z. (
+      z.0,
+      fed_all v c.args.files.now c.args.heads.now cs e c.args.from records bytes b
+          c.args.block.first past c.requires.block.0 c.requires.block.1 holds l.splitter l.index
+          c.args.output.now.entries l.output.entries all z.1,
+    ))
+    (l.invariant.raw_so_far v cs b records bytes settled apart holds is)
 
 pub returns-in_err-split_record-clause-shown : goal.returns-in_err-split_record-clause-shown
 returns-in_err-split_record-clause-shown g c =
