@@ -10,7 +10,7 @@ use Rattle.chk_heads.specs.Faults.{job_fault, IsOfRead}
 use Rattle.chk_archive.specs.Archived.{Begun}
 use Rattle.chk_site.specs.Files.{File}
 use Rattle.chk_site.specs.Effect.{IsSmallFile}
-use Rattle.chk_site.specs.History.{History, AllModelled, Every, files_after, is_stopped}
+use Rattle.chk_site.specs.History.{History, Every, files_after, is_stopped}
 use Rattle.chk_site.specs.Site.{Adds}
 use Rattle.chk_site.specs.Runs.{Leads, anyhow}
 use Rattle.chk_site.proofs.Runs.{adds_as}

@@ -3,7 +3,6 @@ use Rattle.std.proofs.Common.{◌≡◌, ℕ, Bool, true, false, List, [], ◌�
 use Rattle.std.specs.Prelude.{map, if◌then◌else◌}
 use Rattle.chk_chunk.specs.Keys.{Stream, same_stream}
 use Rattle.chk_world.specs.Books.{End}
-use Rattle.chk_world.proofs.Ends.{bytes_self}
 use Rattle.chk_world.proofs.NameTests.{streams_same}
 use Rattle.chk_heads.specs.Heads.{Head}
 use Rattle.chk_book.specs.Books.{end_in}

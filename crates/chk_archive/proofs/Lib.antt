@@ -33,6 +33,7 @@ mod MergeSteps
 mod MergeFacts
 mod MergedBook
 mod RawSources
+mod Holding
 mod MergeOrder
 mod MergedMany
 mod Uncounted

@@ -16,7 +16,7 @@ use Rattle.chk_world.specs.Jobs.{Run, IsSoundSegment, BookNamesSyncedSegments, s
 use Rattle.chk_world.specs.Rules.{Legal}
 use Rattle.chk_world.proofs.BooksTrue.{books_stay_true}
 use Rattle.chk_world.proofs.Each.{Each, first_in, each_from, each_at, filter_in, filter_each, later_one}
-use Rattle.chk_world.proofs.Ends.{bytes_same, bytes_self}
+use Rattle.chk_world.proofs.Ends.{bytes_same}
 use Rattle.chk_world.proofs.NameLemmas.{read-spell}
 use Rattle.chk_world.proofs.NameTests.{streams_same}
 use Rattle.chk_world.proofs.Segments.{counts_in, none_in}

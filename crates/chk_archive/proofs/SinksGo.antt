@@ -3,7 +3,7 @@ use Rattle.std.proofs.Common.{◌≡◌, ◌⊎◌, inl, inr, ℕ, zero, suc, �
 use Rattle.std.proofs.Math.Seq.{drop-append_seam}
 use Rattle.std.specs.Prelude.{IsTrue, Contains, Any, codes, filter, map, is_some, slice_index_or}
 use Rattle.std.specs.List.{list_any}
-use Rattle.std.proofs.lemmas.Bool.{and_parts, and_from, or_right, or_cases, cases_Bool}
+use Rattle.std.proofs.lemmas.Bool.{and_parts, and_from, or_right, cases_Bool}
 use Rattle.std.proofs.lemmas.Option.{none-some}
 use Rattle.chk_bytes.specs.Words.{before_end}
 use Rattle.chk_bytes.specs.Stems.{Stem, is_stem, stem_text}
@@ -30,7 +30,7 @@ use Rattle.chk_world.specs.Places.{As}
 use Rattle.chk_world.specs.Sight.{job, is_job_file, listed_sinks, shows_done, Sight, sight, AtJob, own_archive, own_aside}
 use Rattle.chk_world.specs.JobSteps.{IsOf}
 use Rattle.chk_world.proofs.Each.{later_one, passes_in}
-use Rattle.chk_world.proofs.Ends.{bytes_self, bytes_same}
+use Rattle.chk_world.proofs.Ends.{bytes_self}
 use Rattle.chk_world.proofs.NameLemmas.{read-spell}
 use Rattle.chk_world.proofs.NameTests.{same_name, name_same, stem_self}
 use Rattle.chk_world.proofs.KeptTrue.{source_true}

@@ -1,10 +1,10 @@
 -- Once all is taken the listed done sinks may be removed.
-use Rattle.std.proofs.Common.{◌≡◌, inl, inr, ℕ, zero, suc, ◌+◌, ◌<◌, Bool, true, false, List, [], ◌∷◌, ◌++◌, length, Some, None, sym, subst, ◌∙◌, refl, arith, if◌then◌else◌, bytes_eq}
-use Rattle.std.specs.Prelude.{IsTrue, Any, Contains, codes, flat_map, slice_index_or}
+use Rattle.std.proofs.Common.{◌≡◌, inl, inr, ℕ, ◌+◌, Bool, true, false, List, [], ◌++◌, length, Some, None, sym, subst, ◌∙◌, refl, arith, if◌then◌else◌, bytes_eq}
+use Rattle.std.specs.Prelude.{IsTrue, Any, Contains, codes, flat_map}
 use Rattle.std.specs.List.{list_any}
 use Rattle.std.proofs.lemmas.Bool.{and_parts}
 use Rattle.std.proofs.lemmas.Option.{none-some, same_Some}
-use Rattle.std.proofs.lemmas.List.Elements.{Contains-append_left, Contains-append_right}
+use Rattle.std.proofs.lemmas.List.Elements.{Contains-append_right}
 use Rattle.chk_bytes.specs.Stems.{Stem, is_stem, stem_text}
 use Rattle.chk_site.specs.Files.{File}
 use Rattle.chk_site.specs.History.{files_after}

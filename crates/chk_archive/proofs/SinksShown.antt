@@ -1,5 +1,5 @@
 -- A listing of the sinks by the job.
-use Rattle.std.proofs.Common.{◌≡◌, inl, inr, ℕ, true, List, ◌∷◌, Option, Some, None, Ok, Err, Result, ap, sym, subst, ◌∙◌, refl, true≢false}
+use Rattle.std.proofs.Common.{◌≡◌, inl, inr, ℕ, true, List, ◌∷◌, Option, Some, Ok, Err, Result, ap, sym, subst, ◌∙◌, refl}
 use Rattle.std.specs.Prelude.{IsSome, IfOk, IfErr, OnErr, Contains, codes}
 use Rattle.chk_site.specs.declared.acts.OutsideFault.{OutsideFault}
 use Rattle.chk_site.specs.declared.acts.ActAnswer.{ActAnswer}

@@ -16,3 +16,4 @@ pub mod Taking
 pub mod Merged
 pub mod Running
 pub mod Reporting
+pub mod Holding

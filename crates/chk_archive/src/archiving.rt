@@ -11,6 +11,7 @@ ghost use Rattle.chk_world.specs.JobSteps.{IsOf};
 ghost use Rattle.chk_heads.specs.Faults.{JobCause, FailsLast};
 ghost use Rattle.chk_heads.specs.Pieces.{AsksInPieces};
 ghost use Rattle.chk_archive.specs.Shown.{ShowsArchived, ShowsSettled};
+ghost use Rattle.chk_archive.specs.Holding.{ShowsHeld};
 ghost use Rattle.chk_book.specs.Loaded.{book_result};
 ghost use Rattle.chk_archive.specs.Archived.{Archived, ArchivesBy, Begun, GivenOnce, ListedOnce, ListsNoSinks};
 ghost use Rattle.chk_archive.specs.Reporting.{report_result};
@@ -37,6 +38,7 @@ pub fn archive<S: Site>(alloc: Global, site: &mut S, who: &Who) -> Result<Report
     ensures told { (stamped : List (List ℕ)) (loaded : Parts) → Adds (S.told site.old) (S.told site.new)
         (Leads (As stamped job) (Begun stamped loaded) (Archived stamped loaded (report_result result))) }
     ensures shown { Adds (S.told site.old) (S.told site.new) (ShowsArchived result) }
+    ensures holds { Adds (S.told site.old) (S.told site.new) (ShowsHeld result) }
     ensures own { Adds (S.told site.old) (S.told site.new) (Every (IsOf ArchivesBy)) }
     ensures once { Adds (S.told site.old) (S.told site.new) (ListedOnce result) }
     ensures given { OnOk result (Adds (S.told site.old) (S.told site.new) GivenOnce) }

@@ -3,7 +3,7 @@
 ghost use Rattle.std.specs.Prelude.{◌≡◌, ℕ, List};
 ghost use Rattle.chk_site.specs.History.{Every};
 ghost use Rattle.chk_site.specs.Site.{Adds};
-ghost use Rattle.chk_site.specs.Runs.{Leads};
+ghost use Rattle.chk_site.specs.Runs.{anyhow, Leads};
 ghost use Rattle.chk_world.specs.Books.{Book as Parts};
 ghost use Rattle.chk_world.specs.Places.{As};
 ghost use Rattle.chk_world.specs.Sight.{job, Sight, AtJob};
@@ -18,6 +18,9 @@ ghost use Rattle.chk_archive.specs.Listed.{IsListed};
 ghost use Rattle.chk_archive.specs.Merged.{IsMergeOf};
 ghost use Rattle.chk_archive.specs.Reporting.{report_result};
 ghost use Rattle.chk_archive.specs.Running.{FinishesBy};
+ghost use Rattle.chk_archive.specs.Holding.{ReportsHeld};
+ghost use Rattle.chk_merge.specs.Segments.{HasFiles, SparesFiles, AreSettled};
+ghost use Rattle.chk_parts.specs.Gathering.{held, AreSound};
 
 use crate::counting::count_names;
 use crate::report::Report;
@@ -43,6 +46,11 @@ pub(crate) fn finish<S: Site>(
         → IsMergeOf loaded (book_view book) v
         → Adds (S.told site.old) (S.told site.new)
         (Leads (As stamped job) (AtJob stamped (λ u. u ≡ v)) (Archived stamped loaded (report_result result))) }
+    ensures holds { (v : Sight) → AreSound v (sources_in (book_view book) names.now)
+        → AreSettled (sources_in (book_view book) names.now) (held v) → Adds (S.told site.old) (S.told site.new)
+        (Leads (anyhow (SparesFiles (sources_in (book_view book) names.now)))
+        (HasFiles (sources_in (book_view book) names.now) (held v))
+        (ReportsHeld (book_view book) v (sources_in (book_view book) names.now) result)) }
     ensures shown { Adds (S.told site.old) (S.told site.new)
         (ShowsTaken (book_view book) (sources_in (book_view book) names.now) result) }
     ensures own { Adds (S.told site.old) (S.told site.new) (Every (IsOf FinishesBy)) }

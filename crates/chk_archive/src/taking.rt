@@ -20,10 +20,11 @@ ghost use Rattle.chk_book.specs.Books.{book_view};
 ghost use Rattle.chk_merge.specs.Segments.{HasFiles, SparesFiles, AreSettled};
 ghost use Rattle.chk_parts.specs.Cuts.{AreWithin, cut_chunks};
 ghost use Rattle.chk_parts.specs.Kept.{IsFirst};
-ghost use Rattle.chk_parts.specs.Records.{AreRecords};
+ghost use Rattle.chk_parts.specs.Records.{AreRecords, found_in};
+ghost use Rattle.chk_archive.specs.Holding.{HoldsOnce};
 ghost use Rattle.chk_archive.specs.Archived.{MergesBy, ReplacesBook};
 ghost use Rattle.chk_archive.specs.Listed.{IsListed, sources_in};
-ghost use Rattle.chk_parts.specs.Gathering.{heads_of};
+ghost use Rattle.chk_parts.specs.Gathering.{held, AreSound, heads_of};
 ghost use Rattle.chk_archive.specs.Starts.{HaveStartsIn, ToldOtherStart};
 ghost use Rattle.chk_heads.specs.Order.{in_head_order};
 ghost use Rattle.chk_world.specs.ArchiveRuns.{in_order, found};
@@ -79,6 +80,12 @@ pub(crate) fn take_in<S: Site>(
         (Leads (anyhow (SparesFiles (sources_in (book_view book.old) names.now)))
         (HasFiles (sources_in (book_view book.old) names.now) held)
         (ReadSources (sources_in (book_view book.old) names.now) (book_view book.old).ends held result)) }
+    ensures holds { (v : Sight) → AreSound v (sources_in (book_view book.old) names.now)
+        → AreSettled (sources_in (book_view book.old) names.now) (held v) → Adds (S.told site.old) (S.told site.new)
+        (Leads (anyhow (SparesFiles (sources_in (book_view book.old) names.now)))
+        (HasFiles (sources_in (book_view book.old) names.now) (held v))
+        (HoldsOnce (book_view book.old) (in_head_order (heads_of v 0 (sources_in (book_view book.old) names.now)))
+        (in_order (found_in v (sources_in (book_view book.old) names.now))) result)) }
     ensures told { (stamped : List (List ℕ)) (v : Sight) → IsListed stamped names.now (book_view book.old) v
         → Adds (S.told site.old) (S.told site.new)
         (Leads (As stamped job) (AtJob stamped (λ u. u ≡ v)) (TookSo stamped v (book_view book.old) (book_view book.new) result)) }
@@ -113,6 +120,10 @@ fn take_found<S: Site>(
         → (files.now ≡ sources_in (book_view book.old) names) → (heads ≡ heads_of v 0 files.now)
         → Adds (S.told site.old) (S.told site.new)
         (Leads (As stamped job) (AtJob stamped (λ u. u ≡ v)) (TookSo stamped v (book_view book.old) (book_view book.new) result)) }
+    ensures raw { (v : Sight) → AreSound v files.now → heads ≡ heads_of v 0 files.now
+        → Adds (S.told site.old) (S.told site.new)
+        (Leads (anyhow (SparesFiles files.now)) (HasFiles files.now (held v))
+        (HoldsOnce (book_view book.old) (in_head_order heads) (in_order (found_in v files.now)) result)) }
     ensures spent { IfErr result (IfSpent (LacksOne (book_view book.old) heads)) }
     ensures shown { Adds (S.told site.old) (S.told site.new) (Shows (IsUnfit (book_view book.old).ends files.now heads) result) }
     ensures own { Adds (S.told site.old) (S.told site.new) (Every (IsOf MergesBy)) }
@@ -146,6 +157,10 @@ fn take_planned<S: Site>(
         → AreSorted v (sources_in (book_view book.old) names) files.now heads.now old
         → Adds (S.told site.old) (S.told site.new)
         (Leads (As stamped job) (AtJob stamped (λ u. u ≡ v)) (TookSo stamped v (book_view book.old) (book_view book.new) result)) }
+    ensures raw { (v : Sight) (found : List Chunk) → AreRecords v files.now heads.now (in_order found)
+        → Adds (S.told site.old) (S.told site.new)
+        (Leads (anyhow (SparesFiles files.now)) (HasFiles files.now (held v))
+        (HoldsOnce (book_view book.old) heads.now (in_order found) result)) }
     ensures spent { IfErr result
         (IfSpent (LacksOver (book_view book.old) heads.now old planned.now)) }
     ensures shown { Adds (S.told site.old) (S.told site.new) (Shows (IsGoneIn files.now heads.now) result) }
@@ -189,6 +204,7 @@ fn write_planned<S: Site>(
         → Each (IsFirst (in_order (found at.shows.listing)) planned.now.spans.items) kept.now
         → Adds (S.told site.old) (S.told site.new)
         (Leads (As stamped job) (AtJob stamped (λ u. u ≡ v)) (TookSo stamped v (book_view book.old) (book_view book.new) result)) }
+    ensures count { IfOk result (λ t. t.held ≡ length kept.now) }
     ensures spent { IfErr result
         (IfSpent (LacksFor (book_view book.old) heads.now old planned.now.cuts kept.now)) }
     ensures shown { Adds (S.told site.old) (S.told site.new) (Shows (IsGoneIn files.now heads.now) result) }

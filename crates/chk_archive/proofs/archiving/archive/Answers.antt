@@ -19,6 +19,8 @@ use Rattle.chk_archive.specs.Running.{FinishesBy}
 use Rattle.chk_archive.specs.Shown.{GivesNames}
 use Rattle.chk_archive.specs.Sinks.{OwnAre, ShowsSinks, ListsSinks}
 use Rattle.chk_archive.specs.declared.report.Report.{Report as Struct}
+use Rattle.chk_site.proofs.Runs.{adds_as}
+use Rattle.chk_archive.proofs.Holding.{held_since}
 use Rattle.chk_archive.proofs.Lasts.{as_fails}
 use Rattle.chk_archive.proofs.OnceListed.{at_ok, given_between, refused_before, refused_then, listed_between}
 use Rattle.chk_archive.proofs.RunKinds.{of_listing, of_finish, finish_lists_none, listing_reads_none}
@@ -128,3 +130,24 @@ returns-clause-shown g c =
     (subst (λ ns. Adds (g.S.Site.told c.settle.new.site) (g.S.Site.told c.list_sinks.new.site) (GivesNames ns))
     (sym c.as_slice.ensures.value) c.in_ok-names.ensures.names)
     c.finish.ensures.shown
+
+pub returns-in_err-book-clause-holds : goal.returns-in_err-book-clause-holds
+returns-in_err-book-clause-holds g c =
+    let q = err_from_is_err_and c.from_residual.result c.from_residual.ensures.1 in
+    rw (q.1, q.2) (adds_as _ c.settle.ensures.own (λ added history x. tt))
+
+pub returns-in_err-names-clause-holds : goal.returns-in_err-names-clause-holds
+returns-in_err-names-clause-holds g c =
+    let q = err_from_is_err_and c.from_residual-in_err-names.result c.from_residual-in_err-names.ensures.1 in
+    rw (q.1, q.2)
+    (adds_as _
+    (every_then (IsOf ArchivesBy) c.settle.ensures.own (as_kind ListsSinks ArchivesBy of_listing c.list_sinks.ensures.own))
+    (λ added history x. tt))
+
+pub returns-clause-holds : goal.returns-clause-holds
+returns-clause-holds g c =
+    held_since (book_view c.in_ok-book.book) c.as_slice.result.now c.finish.result
+    c.in_ok-book.ensures.shown
+    (subst (λ ns. Adds (g.S.Site.told c.settle.new.site) (g.S.Site.told c.list_sinks.new.site) (GivesNames ns))
+    (sym c.as_slice.ensures.value) c.in_ok-names.ensures.names)
+    c.finish.ensures.own (λ v sound settled. c.finish.ensures.holds v sound settled)

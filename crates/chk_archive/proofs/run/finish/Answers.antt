@@ -1,4 +1,4 @@
-use Rattle.std.proofs.Common.{Ok, Err}
+use Rattle.std.proofs.Common.{Ok, Err, refl}
 use Rattle.std.proofs.lemmas.Result.{err_from_is_err_and}
 use Rattle.chk_site.proofs.Runs.{adds_as}
 use Rattle.chk_site.proofs.Leads.{leads_none, leads_as}
@@ -12,6 +12,7 @@ use Rattle.chk_archive.specs.Archived.{MergesBy}
 use Rattle.chk_archive.specs.Running.{FinishesBy}
 use Rattle.chk_archive.specs.Sinks.{RemovesShown}
 use Rattle.chk_archive.specs.declared.report.Report.{Report as Struct}
+use Rattle.chk_archive.proofs.Holding.{held_reported, held_unreported}
 use Rattle.chk_archive.proofs.Lasts.{as_fails}
 use Rattle.chk_archive.proofs.Finished.{removals_read_nothing, of_take, of_removal, take_fails, removal_fails, run_finished}
 use Rattle.chk_archive.proofs.Shown.{taken_as, taken_fails, taken_kept}
@@ -119,3 +120,35 @@ returns-clause-shown g c =
       removed = c.in_ok-counted.counted.closed;
       ends = c.take_in.new.book.ends;
     }) c.in_ok-took.took c.in_ok-took.ensures.shown c.remove_sinks.ensures.own
+
+pub returns-in_err-counted-clause-holds : goal.returns-in_err-counted-clause-holds
+returns-in_err-counted-clause-holds g c v sound settled =
+    let q = err_from_is_err_and c.from_residual.result c.from_residual.ensures.1 in
+    rw (q.1, q.2) (leads_none (g.S.Site.told c.args.site.now) (λ h k. tt))
+
+pub returns-in_err-took-clause-holds : goal.returns-in_err-took-clause-holds
+returns-in_err-took-clause-holds g c v sound settled =
+    let q = err_from_is_err_and c.from_residual-in_err-took.result c.from_residual-in_err-took.ensures.1 in
+    rw (q.1, q.2)
+    (leads_as (λ h k. k) (λ h k. tt) (c.in_err-took.ensures.holds v sound settled))
+
+pub returns-in_err-remove_sinks-clause-holds : goal.returns-in_err-remove_sinks-clause-holds
+returns-in_err-remove_sinks-clause-holds g c v sound settled =
+    let q = err_from_is_err_and c.from_residual-in_err-remove_sinks.result c.from_residual-in_err-remove_sinks.ensures.1 in
+    rw (q.1, q.2)
+    (held_unreported (book_view c.args.book) v (sources_in (book_view c.args.book) c.args.names.now)
+    (job_fault c.in_err-remove_sinks.field-0.0)
+    (every_then (IsOf FinishesBy) (as_kind MergesBy FinishesBy of_take c.take_in.ensures.own)
+    (as_kind (RemovesShown c.args.names.now) FinishesBy (of_removal c.args.names.now) c.remove_sinks.ensures.own)))
+
+pub returns-clause-holds : goal.returns-clause-holds
+returns-clause-holds g c v sound settled =
+    let b = book_view c.args.book in
+    held_reported b v (sources_in b c.args.names.now) c.in_ok-took.took (record {
+      unclosed = c.in_ok-counted.counted.unclosed;
+      first_unclosed = c.in_ok-counted.counted.first_unclosed;
+      taken = c.in_ok-took.took.taken;
+      held = c.in_ok-took.took.held;
+      removed = c.in_ok-counted.counted.closed;
+      ends = c.take_in.new.book.ends;
+    }) refl (c.in_ok-took.ensures.holds v sound settled) c.remove_sinks.ensures.own

@@ -1,7 +1,15 @@
-use Rattle.std.proofs.Common.{◌∙◌, ap}
+use Rattle.std.proofs.Common.{◌∙◌, ap, subst}
 use Rattle.std.specs.Prelude.{count_by}
 use Rattle.std.proofs.lemmas.Result.{err_from_is_err_and}
+use Rattle.chk_site.specs.Site.{Adds}
+use Rattle.chk_site.specs.Runs.{anyhow, Leads}
 use Rattle.chk_site.proofs.Leads.{leads_none}
+use Rattle.chk_world.specs.ArchiveRuns.{in_order}
+use Rattle.chk_merge.specs.Segments.{HasFiles, SparesFiles}
+use Rattle.chk_parts.specs.Gathering.{held}
+use Rattle.chk_parts.specs.Records.{found_in}
+use Rattle.chk_archive.specs.Holding.{HoldsOnce}
+use Rattle.chk_archive.proofs.Holding.{found_records}
 use Rattle.chk_heads.specs.Order.{in_head_order}
 use Rattle.chk_book.specs.Books.{book_view}
 use Rattle.chk_parts.specs.Kept.{is_first}
@@ -81,3 +89,30 @@ returns-clause-spent g c =
     let p = c.in_ok-planned.planned in
     found_spent b c.args.heads c.sort.new.self c.count_first-old.result p c.take_planned.result
     c.in_ok-sort.ensures.ok c.count_first-old.ensures c.take_planned.ensures.spent
+
+pub returns-in_err-sort-clause-raw : goal.returns-in_err-sort-clause-raw
+returns-in_err-sort-clause-raw g c v sound is =
+    let q = err_from_is_err_and c.from_residual.result c.from_residual.ensures.1 in
+    rw (q.1, q.2) (leads_none (g.S.Site.told c.args.site.now) (λ h k. tt))
+
+pub returns-in_err-check_starts-clause-raw : goal.returns-in_err-check_starts-clause-raw
+returns-in_err-check_starts-clause-raw g c v sound is =
+    let q = err_from_is_err_and c.from_residual-in_err-check_starts.result
+    c.from_residual-in_err-check_starts.ensures.1 in
+    rw (q.1, q.2) (leads_none (g.S.Site.told c.args.site.now) (λ h k. tt))
+
+pub returns-in_err-planned-clause-raw : goal.returns-in_err-planned-clause-raw
+returns-in_err-planned-clause-raw g c v sound is =
+    let q = err_from_is_err_and c.from_residual-in_err-planned.result
+    c.from_residual-in_err-planned.ensures.1 in
+    rw (q.1, q.2) (leads_none (g.S.Site.told c.args.site.now) (λ h k. tt))
+
+pub returns-clause-raw : goal.returns-clause-raw
+returns-clause-raw g c v sound is =
+    let files = c.args.files.now in
+    let cs = in_order (found_in v files) in
+    subst (λ hs. Adds (g.S.Site.told c.args.site.now) (g.S.Site.told c.take_planned.new.site)
+    (Leads (anyhow (SparesFiles files)) (HasFiles files (held v))
+    (HoldsOnce (book_view c.args.book.now) hs cs c.take_planned.result))) c.in_ok-sort.ensures.ok
+    (c.take_planned.ensures.raw v (found_in v files)
+    (found_records v files c.args.heads c.sort.new.self sound is c.in_ok-sort.ensures.ok))

@@ -1,4 +1,4 @@
-use Rattle.std.proofs.Common.{◌≡◌, ◌∙◌, Ok, Err, sym, subst}
+use Rattle.std.proofs.Common.{◌≡◌, ◌∙◌, Ok, Err, ap, sym, subst}
 use Rattle.std.specs.Prelude.{IfErr}
 use Rattle.std.proofs.lemmas.Result.{err_from_is_err_and}
 use Rattle.chk_site.proofs.Leads.{leads_none, leads_as}
@@ -6,7 +6,11 @@ use Rattle.chk_world.specs.JobSteps.{IsOf, ReadsFile}
 use Rattle.chk_heads.specs.Pieces.{AsksInPieces}
 use Rattle.chk_heads.proofs.Gathering.{every_then}
 use Rattle.chk_book.specs.Books.{book_view}
-use Rattle.chk_parts.specs.Gathering.{AreSound, heads_of}
+use Rattle.chk_world.specs.ArchiveRuns.{in_order}
+use Rattle.chk_parts.specs.Gathering.{held, AreSound, heads_of}
+use Rattle.chk_parts.specs.Records.{found_in}
+use Rattle.chk_archive.specs.Holding.{HoldsOnce}
+use Rattle.chk_archive.proofs.Holding.{gathered_held}
 use Rattle.chk_parts.proofs.StepKinds.{as_kind, fails_behind}
 use Rattle.chk_archive.specs.Archived.{MergesBy, merge_reads}
 use Rattle.chk_archive.specs.Listed.{sources_in}
@@ -125,3 +129,40 @@ returns-clause-shown g c =
     (ShowsAllGathered chunk_limit ws (Ok heads))) files c.in_ok-heads.ensures.shown)
     (subst (λ ws. Adds (g.S.Site.told c.gather_found.new.site) (g.S.Site.told c.take_found.new.site)
     (Shows (IsUnfit b.ends ws heads) c.take_found.result)) again c.take_found.ensures.shown)
+
+pub returns-in_err-files-clause-holds : goal.returns-in_err-files-clause-holds
+returns-in_err-files-clause-holds g c v sound settled =
+    let q = err_from_is_err_and c.from_residual.result c.from_residual.ensures.1 in
+    rw (q.1, q.2) (leads_none (g.S.Site.told c.args.site.now) (λ h k. tt))
+
+pub returns-in_err-heads-clause-holds : goal.returns-in_err-heads-clause-holds
+returns-in_err-heads-clause-holds g c v sound settled =
+    let q = err_from_is_err_and c.from_residual-in_err-heads.result c.from_residual-in_err-heads.ensures.1 in
+    let b = book_view c.args.book.now in
+    let files : c.as_slice.result.now ≡ sources_in b c.args.names.now = c.as_slice.ensures.value ∙ c.in_ok-files.ensures in
+    rw (q.1, q.2)
+    (leads_as (λ h k. k) (λ h k. tt)
+    (subst (λ ws. Adds (g.S.Site.told c.args.site.now) (g.S.Site.told c.gather_found.new.site)
+    (Leads (anyhow (SparesFiles ws)) (HasFiles ws (held v))
+    (GatheredAll chunk_limit ws (held v) (Err c.in_err-heads.field-0.0)))) files
+    (c.in_err-heads.ensures.raw (held v) (subst (λ ws. AreSettled ws (held v)) (sym files) settled))))
+
+pub returns-clause-holds : goal.returns-clause-holds
+returns-clause-holds g c v sound settled =
+    let b = book_view c.args.book.now in
+    let names = c.args.names.now in
+    let heads = c.in_ok-heads.heads in
+    let files : c.as_slice.result.now ≡ sources_in b names = c.as_slice.ensures.value ∙ c.in_ok-files.ensures in
+    let again : c.as_slice-2.result.now ≡ sources_in b names = c.as_slice-2.ensures.value ∙ c.in_ok-files.ensures in
+    gathered_held b v (sources_in b names) heads c.take_found.result
+    (subst (λ ws. Adds (g.S.Site.told c.args.site.now) (g.S.Site.told c.gather_found.new.site)
+    (Leads (anyhow (SparesFiles ws)) (HasFiles ws (held v))
+    (GatheredAll chunk_limit ws (held v) (Ok heads)))) files
+    (c.in_ok-heads.ensures.raw (held v) (subst (λ ws. AreSettled ws (held v)) (sym files) settled)))
+    c.take_found.ensures.own
+    (λ is.
+    subst (λ ws. Adds (g.S.Site.told c.gather_found.new.site) (g.S.Site.told c.take_found.new.site)
+    (Leads (anyhow (SparesFiles ws)) (HasFiles ws (held v))
+    (HoldsOnce b (in_head_order heads) (in_order (found_in v ws)) c.take_found.result))) again
+    (c.take_found.ensures.raw v (subst (AreSound v) (sym again) sound)
+    (is ∙ ap (heads_of v 0) (sym again))))

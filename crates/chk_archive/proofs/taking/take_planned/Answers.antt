@@ -2,7 +2,7 @@ use Rattle.std.proofs.Common.{◌∙◌, List, ap, sym, subst, length}
 use Rattle.std.proofs.lemmas.Result.{err_from_is_err_and}
 use Rattle.chk_site.proofs.Leads.{leads_as}
 use Rattle.chk_world.proofs.Each.{Each}
-use Rattle.chk_world.specs.ArchiveRuns.{once}
+use Rattle.chk_world.specs.ArchiveRuns.{in_order, once}
 use Rattle.chk_world.specs.JobSteps.{IsOf, ReadsFile}
 use Rattle.chk_heads.specs.Pieces.{AsksInPieces}
 use Rattle.chk_heads.proofs.Gathering.{every_then}
@@ -14,6 +14,7 @@ use Rattle.chk_parts.proofs.StepKinds.{as_kind, fails_behind}
 use Rattle.chk_archive.specs.Archived.{MergesBy, merge_reads}
 use Rattle.chk_archive.specs.Shown.{LacksOver}
 use Rattle.chk_archive.proofs.SpentCauses.{spent_reading, planned_spent}
+use Rattle.chk_archive.proofs.Holding.{kept_held}
 use Rattle.chk_archive.proofs.FoundPlan.{Found}
 use Rattle.chk_archive.proofs.NextBook.{Cs}
 use Rattle.chk_archive.proofs.TakenIn.{records_are, kept_so, kept_fails, then_taken}
@@ -114,3 +115,26 @@ returns-clause-spent g c =
     (subst (KeepsFirsts heads p.spans.items) (sym c.as_slice-2.ensures)
     (subst (λ ss. KeepsFirsts heads ss c.in_ok-kept.kept) c.as_slice.ensures.value
     c.in_ok-kept.ensures.among)) c.write_planned.ensures.spent
+
+pub returns-in_err-kept-clause-raw : goal.returns-in_err-kept-clause-raw
+returns-in_err-kept-clause-raw g c v found records =
+    let q = err_from_is_err_and c.from_residual.result c.from_residual.ensures.1 in
+    let heads = c.args.heads.now in
+    let known = c.requires.plan.known in
+    rw (q.1, q.2)
+    (leads_as (λ h k. k) (λ h k. tt)
+    (c.in_err-kept.ensures.raw v found known records
+    (subst (λ s. AreSpans known heads 0 s (length heads)) (sym c.as_slice.ensures.value)
+    c.requires.plan.spans)))
+
+pub returns-clause-raw : goal.returns-clause-raw
+returns-clause-raw g c v found records =
+    let heads = c.args.heads.now in
+    let known = c.requires.plan.known in
+    kept_held (book_view c.args.book.now) heads (in_order found) c.args.planned.now c.requires.plan
+    c.as_slice.result.now c.in_ok-kept.kept c.as_slice-2.result.now c.write_planned.result
+    c.as_slice.ensures.value c.as_slice-2.ensures c.write_planned.ensures.count
+    (c.in_ok-kept.ensures.raw v found known records
+    (subst (λ s. AreSpans known heads 0 s (length heads)) (sym c.as_slice.ensures.value)
+    c.requires.plan.spans))
+    c.write_planned.ensures.own
