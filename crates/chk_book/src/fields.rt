@@ -2,7 +2,7 @@
 
 ghost use Rattle.std.specs.Prelude.{◌≡◌, ◌≤◌, ◌<◌, ◌+◌, ◌^◌, ℕ, List, length, drop, take, Some, None, IfOk, IfErr, IsTrue, string_bytes};
 ghost use Rattle.chk_bytes.specs.Numbers.{be64, spelled_at};
-ghost use Rattle.chk_bytes.specs.Words.{text_lt, is_word};
+ghost use Rattle.chk_bytes.specs.Words.{is_word};
 ghost use Rattle.chk_bytes.specs.WordFaults.{IsRefusal};
 ghost use Rattle.chk_chunk.specs.Keys.{text_at, behind_text};
 ghost use Rattle.chk_book.specs.Damage.{head_damage, next_damage, count_damage, segment_damage, offsets_damage, text_damage, end_place, start_there, texts_place};
@@ -162,11 +162,4 @@ fn refusal_of(fault: WordFault, at: u64) -> BookFault
         WordFault::NotUtf8 { .. } => BookFault::Damaged { at },
         WordFault::NotWord { .. } => BookFault::Damaged { at },
     }
-}
-
-/// In byte order.
-pub(crate) fn comes_before(a: &str, b: &str) -> bool
-    ensures { result ≡ text_lt a.now b.now }
-{
-    a < b
 }

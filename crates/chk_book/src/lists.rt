@@ -9,8 +9,7 @@ ghost use Rattle.chk_book.specs.Segmenting.{end_of, raised_end, raised_by};
 ghost use Rattle.chk_book.specs.Raising.{IsPlaceOf, ArePassed, AreUpTo, goes_by};
 ghost use Rattle.chk_book.specs.Recent.{IsLast};
 
-use crate::fields::comes_before;
-use chk_bytes::{NoMemory, Word};
+use chk_bytes::{NoMemory, Word, comes_before};
 use chk_chunk::ChunkRef;
 use std::alloc::Global;
 use std::marker::Model;

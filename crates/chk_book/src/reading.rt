@@ -14,11 +14,9 @@ ghost use Rattle.chk_book.specs.Reading.{IsRefused};
 ghost use Rattle.chk_book.specs.Found.{AreSegmentsAt, IsEndAt, AreEndsAt, IsTailAt};
 
 use crate::book::Book;
-use crate::fields::{
-    BookFault, comes_before, count_at, next_of, offsets_at, segment_at, text_at, version_of,
-};
+use crate::fields::{BookFault, count_at, next_of, offsets_at, segment_at, text_at, version_of};
 use crate::lists::{End, Ends, Segment, Segments};
-use chk_bytes::{Word, take_u64};
+use chk_bytes::{Word, comes_before, take_u64};
 use std::alloc::Global;
 
 /// So many segments, from the place 17 on.

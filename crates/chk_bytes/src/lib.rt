@@ -20,7 +20,7 @@ pub use numbers::{put_u16, put_u32, put_u64, take_u16, take_u32, take_u64};
 use std::alloc::{AllocError, AllocFailed};
 pub use stem::Stem;
 pub use vints::{VintFault, put_vint, take_vint};
-pub use word::{Word, WordFault, word_fault};
+pub use word::{Word, WordFault, comes_before, word_fault};
 
 /// There was no memory.
 #[derive(Clone, Copy, Debug, PartialEq, Eq)]

@@ -1,7 +1,7 @@
 //! Words: the texts that name sources, types, streams, paths and addresses.
 
 ghost use Rattle.std.specs.Prelude.{◌≡◌, ℕ, List, IfOk, IfErr, IsTrue, not, position, Some, string_bytes};
-ghost use Rattle.chk_bytes.specs.Words.{is_word, is_word_byte};
+ghost use Rattle.chk_bytes.specs.Words.{is_word, is_word_byte, text_lt};
 ghost use Rattle.chk_bytes.specs.WordFaults.{word_fault_of, IsRefusal};
 
 use crate::NoMemory;
@@ -122,4 +122,11 @@ fn not_word_at(text: &[u8]) -> Option<usize>
     ensures { result ≡ position (λ b. not (is_word_byte b)) text.now }
 {
     text.iter().position(|b| *b <= 0x20 || *b == 0x7F)
+}
+
+/// The first text comes before the other one in byte order.
+pub fn comes_before(a: &str, b: &str) -> bool
+    ensures { result ≡ text_lt a.now b.now }
+{
+    a < b
 }

@@ -1,13 +1,13 @@
 //! The order of streams.
 
 ghost use Rattle.std.specs.Prelude.{◌≡◌};
-ghost use Rattle.chk_bytes.specs.Words.{text_lt};
 ghost use Rattle.chk_chunk.specs.Keys.{stream_lt};
 ghost use Rattle.chk_heads.specs.Order.{lent_head};
 ghost use Rattle.chk_merge.specs.Courses.{is_head_of};
 ghost use Rattle.chk_book.specs.Views.{end_view};
 
 use chk_book::End;
+use chk_bytes::comes_before;
 use chk_heads::HeadRef;
 
 /// The stream of the first one comes before the other one's, in byte order of source, type and name.
@@ -30,13 +30,6 @@ pub(crate) fn is_head_before(head: &HeadRef<'_>, end: &End) -> bool
             && (comes_before(head.key.kind, end.kind.as_str())
                 || (head.key.kind == end.kind.as_str()
                     && comes_before(head.key.name, end.name.as_str()))))
-}
-
-/// In byte order.
-fn comes_before(a: &str, b: &str) -> bool
-    ensures { result ≡ text_lt a.now b.now }
-{
-    a < b
 }
 
 /// The head is of the end's stream.

@@ -1,13 +1,13 @@
 //! Where a stream's records end, as their book says.
 
 ghost use Rattle.std.specs.Prelude.{◌≡◌, ◌≤◌, length, map, drop, IsTrue, if◌then◌else◌};
-ghost use Rattle.chk_bytes.specs.Words.{text_lt};
 ghost use Rattle.chk_chunk.specs.Keys.{same_stream, stream_lt};
 ghost use Rattle.chk_world.specs.Books.{ends_rise};
 ghost use Rattle.chk_book.specs.Books.{end_in};
 ghost use Rattle.chk_book.specs.Views.{end_view};
 
 use chk_book::End;
+use chk_bytes::comes_before;
 
 /// The offset past the last byte of the records of the end's stream, 0 where it has none, among ends that stand in byte order
 /// of source, type and name. It is looked for from `next` on, if the end in front of that comes before the stream, and else
@@ -60,11 +60,4 @@ fn is_before(one: &End, end: &End) -> bool
             && (comes_before(one.kind.as_str(), end.kind.as_str())
                 || (one.kind.as_str() == end.kind.as_str()
                     && comes_before(one.name.as_str(), end.name.as_str()))))
-}
-
-/// In byte order.
-fn comes_before(a: &str, b: &str) -> bool
-    ensures { result ≡ text_lt a.now b.now }
-{
-    a < b
 }

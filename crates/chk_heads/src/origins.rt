@@ -4,11 +4,10 @@ ghost use Rattle.std.specs.Prelude.{◌≡◌, ◌≤◌, ◌<◌, ◌++◌, ◌
 ghost use Rattle.std.specs.List.Sorted.{IsSearchInRange};
 ghost use Rattle.chk_chunk.specs.Keys.{has_words};
 ghost use Rattle.chk_chunk.specs.Lent.{lent_key};
-ghost use Rattle.chk_bytes.specs.Words.{text_lt};
 ghost use Rattle.chk_heads.specs.Order.{origin_before};
 ghost use Rattle.chk_heads.specs.HeadRows.{is_origin_of, origin_of, HasOrigin, HasGrown};
 
-use chk_bytes::{NoMemory, Word};
+use chk_bytes::{NoMemory, Word, comes_before};
 use chk_chunk::KeyRef;
 use std::alloc::Global;
 use std::cmp::Ordering;
@@ -68,13 +67,6 @@ impl Origin {
                     || self.kind.as_str() == other.kind.as_str()
                         && comes_before(self.name.as_str(), other.name.as_str()))
     }
-}
-
-/// In byte order.
-fn comes_before(a: &str, b: &str) -> bool
-    ensures { result ≡ text_lt a.now b.now }
-{
-    a < b
 }
 
 /// The origin of this number is there, and is the key's.

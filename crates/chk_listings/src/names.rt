@@ -1,11 +1,10 @@
 //! The names in a folder, as they were listed.
 
 ghost use Rattle.std.specs.Prelude.{◌≡◌, ◌↔◌, ◌≤◌, ℕ, length, take, drop, IsTrue};
-ghost use Rattle.chk_bytes.specs.Words.{text_lt};
 ghost use Rattle.chk_listings.specs.Names.{begins, with_front, IsEndOfFront, IsEndOfLower, IsFrom, IsInOrder, IsOfBoth};
 
 use crate::stamps::Stamp;
-use chk_bytes::Word;
+use chk_bytes::{Word, comes_before};
 
 /// The names in a folder that may be those of rotated generations.
 #[derive(Drop)]
@@ -56,13 +55,6 @@ fn count_beginning(names: &[Word], front: &str) -> usize
     ensures place { IsFrom front.now names.now → IsEndOfFront names.now front.now result }
 {
     names.partition_point(|name| begins_with(name.as_str(), front))
-}
-
-// In byte order.
-fn comes_before(a: &str, b: &str) -> bool
-    ensures { result ≡ text_lt a.now b.now }
-{
-    a < b
 }
 
 fn begins_with(name: &str, front: &str) -> bool

@@ -1,6 +1,5 @@
 // What is read of a log.
 ghost use Rattle.std.specs.Prelude.{◌≡◌, ◌≤◌, [], ◌∷◌, IfOk, Some, None, length, nat_le, ◌+◌, option_to_list, map, if◌then◌else◌};
-ghost use Rattle.chk_bytes.specs.Words.{text_lt};
 ghost use Rattle.chk_site.specs.Logs.{newest, read_from, part_of, first_shown, shown_after, ended};
 ghost use Rattle.chk_site.specs.Site.{part_text, EndsPast};
 ghost use Rattle.chk_site.specs.declared.suffixes.Part.TheVariants.{After};
@@ -10,7 +9,7 @@ ghost use Rattle.chk_mem_store.specs.Stored.{log_at, log_of, generation_of};
 
 use crate::logs::{MemGeneration, MemLog};
 use crate::words::two;
-use chk_bytes::{Bytes, NoMemory};
+use chk_bytes::{Bytes, NoMemory, comes_before};
 use chk_site::{Part, Suffix, Words};
 use std::alloc::Global;
 
@@ -95,14 +94,8 @@ fn is_after(after: Option<&Suffix>, suffix: &Suffix) -> bool
 {
     match after {
         None => true,
-        Some(after) => comes_before(after.as_str().as_bytes(), suffix.as_str().as_bytes()),
+        Some(after) => comes_before(after.as_str(), suffix.as_str()),
     }
-}
-
-fn comes_before(first: &[u8], second: &[u8]) -> bool
-    ensures { result ≡ text_lt first.now second.now }
-{
-    first < second
 }
 
 /// How a path and a part stand among the words of a call.

@@ -1,7 +1,6 @@
 //! The check of all streams' records in one pass over their heads.
 
 ghost use Rattle.std.specs.Prelude.{◌≡◌, ◌<◌, ◌≤◌, length, map, slice_index, true, IsTrue, IfOk, IfSome};
-ghost use Rattle.chk_bytes.specs.Words.{text_lt};
 ghost use Rattle.chk_chunk.specs.Keys.{stream_lt};
 ghost use Rattle.chk_heads.specs.Order.{lent_head};
 ghost use Rattle.chk_book.specs.declared.lists.End.{End as EndStruct};
@@ -13,7 +12,7 @@ ghost use Rattle.chk_merge.specs.OnePass.{end_at, AreOnce, TookHead, AreReached}
 
 use crate::courses::{StreamRef, goes_on};
 use chk_book::End;
-use chk_bytes::NoMemory;
+use chk_bytes::{NoMemory, comes_before};
 use chk_heads::{HeadRef, Heads};
 use std::alloc::Global;
 use std::cmp::Ordering;
@@ -118,11 +117,4 @@ fn is_before(end: &End, other: &End) -> bool
             && (comes_before(end.kind.as_str(), other.kind.as_str())
                 || (end.kind.as_str() == other.kind.as_str()
                     && comes_before(end.name.as_str(), other.name.as_str()))))
-}
-
-/// In byte order.
-fn comes_before(a: &str, b: &str) -> bool
-    ensures { result ≡ text_lt a.now b.now }
-{
-    a < b
 }

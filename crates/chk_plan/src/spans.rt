@@ -1,13 +1,12 @@
 //! The pass over heads that stand in order.
 
 ghost use Rattle.std.specs.Prelude.{◌≡◌, ◌≤◌, ◌<◌, ◌^◌, ℕ, length, sum_by, IsTrue, IsFalse, IfOk, IfSome, IfNone, Some, None};
-ghost use Rattle.chk_bytes.specs.Words.{text_lt};
 ghost use Rattle.chk_chunk.specs.Keys.{same_stream, stream_lt};
 ghost use Rattle.chk_heads.specs.Order.{lent_head, of_one_stream};
 ghost use Rattle.chk_plan.specs.Passes.{between, pass_end, pass_past, begins_at, known_of, head_in, known_stream, AreSorted, IsSpan, AreSpans};
 ghost use Rattle.chk_plan.specs.Laws.{span_gain};
 
-use chk_bytes::NoMemory;
+use chk_bytes::{NoMemory, comes_before};
 use chk_heads::{HeadRef, Heads};
 use std::alloc::Global;
 
@@ -181,13 +180,6 @@ fn gone_through<'k, 'a>(known: &'k [Known<'a>], head: &HeadRef<'_>) -> Option<&'
         }
     }
     None
-}
-
-/// In byte order.
-fn comes_before(a: &str, b: &str) -> bool
-    ensures { result ≡ text_lt a.now b.now }
-{
-    a < b
 }
 
 /// Goes over the heads of one stream from the end before on.

@@ -3,7 +3,7 @@ ghost use Rattle.std.specs.Prelude.{◌≡◌, IfOk, IfSome, IsTrue};
 ghost use Rattle.chk_bytes.specs.Words.{text_lt};
 ghost use Rattle.chk_rotations.specs.Generations.{first_in, is_below, later_in, newest_in, shown_in, suffix_in, text_at};
 
-use chk_bytes::{NoMemory, Word, WordFault};
+use chk_bytes::{NoMemory, Word, WordFault, comes_before};
 use chk_site::Suffix;
 use std::alloc::Global;
 
@@ -91,11 +91,4 @@ fn suffix_of(alloc: Global, name: &str, base: &str) -> Result<Option<Suffix>, No
         Err(WordFault::NoMemory) => Err(NoMemory),
         Err(_) => Ok(None),
     }
-}
-
-/// In byte order.
-pub(crate) fn comes_before(a: &str, b: &str) -> bool
-    ensures { result ≡ text_lt a.now b.now }
-{
-    a < b
 }

@@ -2,9 +2,8 @@
 ghost use Rattle.std.specs.Prelude.{◌≡◌, ◌≤◌, ◌<◌, [], length, IfOk, IfSome, IfNone, IsTrue, OnErr, ◌↔◌};
 ghost use Rattle.chk_rotations.specs.Logs.{AreRising, IsAt, IsPathEnd, IsPlaced, StaysKnown};
 
-use crate::generations::comes_before;
 use crate::log::Log;
-use chk_bytes::NoMemory;
+use chk_bytes::{NoMemory, comes_before};
 use std::alloc::Global;
 
 /// How many logs are remembered; further ones aren't, so that their renamed files are shown at once.

@@ -3,7 +3,7 @@ use Rattle.std.specs.Ordering.{is_lt, nat_cmp}
 use Rattle.std.proofs.lemmas.Bool.Decides.{nat_tests}
 use Rattle.std.proofs.lemmas.Cmp.{same_from_slice_cmp}
 use Rattle.chk_bytes.specs.Words.{text_lt}
-use Rattle.chk_merge.proofs.one_pass.comes_before.Goals as goal
+use Rattle.chk_bytes.proofs.word.comes_before.Goals as goal
 
 pub returns : goal.returns
 returns c = c.lt.ensures
