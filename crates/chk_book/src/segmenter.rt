@@ -9,15 +9,12 @@ use crate::files::{append_to, begin_segment_file, finish_file};
 use crate::lists::{Ends, Segment};
 use crate::noting::note;
 use crate::{JobFault, names};
-use chk_bytes::{Bytes, NoMemory, Word};
+use chk_bytes::{Bytes, LAST_NUMBER, NoMemory, Word};
 use chk_chunk::{Chunk, ChunkRef};
 use chk_last_key::LastKey;
 use chk_seqfile::SeqWriter;
 use chk_site::{OutsideFault, Site, Who};
 use std::alloc::Global;
-
-/// The last number of a segment.
-const LAST_NUMBER: u64 = (1 << 63) - 1;
 
 /// Where this many bytes are still to be appended, they are appended.
 const BUFFER: usize = 1 << 20;

@@ -1,5 +1,5 @@
 -- Numbers as bytes and as digits.
-use Rattle.std.specs.Prelude.{ℕ, ◌+◌, ◌*◌, ◌/◌, ◌%◌, ◌^◌, ◌&&◌, nat_lt, nat_le, List, [], ◌∷◌, ◌++◌, length, take, drop, decimal, bytes_eq, if◌then◌else◌, Option, Some, None}
+use Rattle.std.specs.Prelude.{ℕ, ◌+◌, ◌-◌, ◌*◌, ◌/◌, ◌%◌, ◌^◌, ◌&&◌, nat_lt, nat_le, List, [], ◌∷◌, ◌++◌, length, take, drop, decimal, bytes_eq, if◌then◌else◌, Option, Some, None}
 use Rattle.std.specs.Char.{is_ascii_digit}
 use Rattle.std.specs.List.{list_all}
 use Rattle.std.specs.Str.Parse.{digits_value}
@@ -38,6 +38,10 @@ spelled_at at size bytes = spelled (take size (drop at bytes))
 -- numbers in files are below this
 abbrev pub limit : ℕ
 limit = 2 ^ 63
+
+-- the last of them
+abbrev pub last_number : ℕ
+last_number = 2 ^ 63 - 1
 
 -- the number of 1 to 19 digits that stand there, below 2^63
 abbrev pub number_in_digits : List ℕ → Option ℕ

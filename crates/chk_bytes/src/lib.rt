@@ -16,7 +16,7 @@ pub use laws::{
     decimals_read_back, equal_stems_are_one, numbers_read_back, stems_read_back,
     vints_are_shortest, vints_follow_the_table, vints_read_back, word_is_faultless,
 };
-pub use numbers::{put_u16, put_u32, put_u64, take_u16, take_u32, take_u64};
+pub use numbers::{LAST_NUMBER, put_u16, put_u32, put_u64, take_u16, take_u32, take_u64};
 use std::alloc::{AllocError, AllocFailed};
 pub use stem::Stem;
 pub use vints::{VintFault, put_vint, take_vint};

@@ -5,6 +5,9 @@ ghost use Rattle.chk_bytes.specs.Numbers.{be16, be32, be64, spelled, spelled_at}
 
 use crate::{Bytes, NoMemory};
 
+/// The last number that files have: all are below 2^63.
+pub const LAST_NUMBER: u64 = (1 << 63) - 1;
+
 /// Appends a number as 2 bytes, or without memory nothing.
 pub fn put_u16(out: &mut Bytes, n: u16) -> Result<(), NoMemory>
     ensures ok { OnOk result (out.new ≡ out.old ++ be16 n) }

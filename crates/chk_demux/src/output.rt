@@ -16,6 +16,7 @@ ghost use Rattle.chk_demux.specs.Working.{Worked, EndsSo};
 ghost use Rattle.chk_demux.specs.Writes.{IsFree, IsWriter, IsOutput, SoFar, IsSoFar, IsForDemux};
 
 use chk_book::{Book, Segmenter};
+use chk_bytes::LAST_NUMBER;
 use chk_chunk::ChunkRef;
 use chk_heads::JobFault;
 use chk_site::{Site, Who};
@@ -30,9 +31,6 @@ pub(crate) struct Output {
     /// How many records were put, also where none could be written for want of a number.
     pub entries: u64,
 }
-
-/// No segment can have this number, which a book can have in hand as its next one.
-const LAST_NUMBER: u64 = (1 << 63) - 1;
 
 /// The book has no number left for a segment.
 pub(crate) fn is_spent(book: &Book) -> bool

@@ -28,13 +28,10 @@ use crate::names::{most_in, segment_names};
 use crate::parts::{chunk_of, is_part};
 use crate::reader::RecordReader;
 use chk_book::{Book, Ends, Segmenter, Segments};
-use chk_bytes::Word;
+use chk_bytes::{LAST_NUMBER, Word};
 use chk_heads::{Heads, JobFault};
 use chk_site::{Site, Who};
 use std::alloc::Global;
-
-/// The last number of a segment.
-const LAST_NUMBER: u64 = (1 << 63) - 1;
 
 /// Writes one segment with all records of those that the book of a folder names, stream after stream in the book's order,
 /// and names it alone. The aside segment stays, and the book isn't published. After a refusal the book is as before.

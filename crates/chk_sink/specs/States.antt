@@ -1,5 +1,6 @@
 -- The sinks of one start of a collector, as callers see them.
 use Rattle.std.specs.Prelude.{◌≡◌, ℕ, ◌+◌, ◌-◌, ◌≤◌, ◌^◌, Bool, true, false, ◌||◌, ◌&&◌, nat_lt, nat_le, List, IsTrue, is_some, if◌then◌else◌, Option, Some, None, option_map, Result, Ok, Err}
+pub use Rattle.chk_bytes.specs.Numbers.{last_number}
 use Rattle.chk_bytes.specs.Stems.{Stem}
 use Rattle.chk_site.specs.declared.acts.Role.TheVariants.{Collector}
 use Rattle.chk_site.specs.declared.acts.Who.{Who}
@@ -131,10 +132,6 @@ committed_state s = with_current s (option_map all_marked s.current)
 -- a sink of more bytes is written to no more
 abbrev pub full_size : ℕ
 full_size = 2 ^ 62
-
--- the number of the last sink that a start may create
-abbrev pub last_number : ℕ
-last_number = 2 ^ 63 - 1
 
 -- the next sink is to be created: none is written to, or it is full
 abbrev pub needs_next : Option Writing → Bool

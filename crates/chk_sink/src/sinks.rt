@@ -39,7 +39,7 @@ use crate::current::{Current, append_to, first_pieces};
 use crate::settling::settle_left;
 use crate::starting::{born_name, publish_next};
 use crate::{SinkFault, names};
-use chk_bytes::{Bytes, Stem};
+use chk_bytes::{Bytes, LAST_NUMBER, Stem};
 use chk_chunk::{ChunkRef, write_key};
 use chk_site::{Call, CallFault, OutsideFault, Site, Who, done};
 use std::alloc::Global;
@@ -50,9 +50,6 @@ mod ticking;
 
 /// A sink of more bytes is written to no more.
 const FULL: u64 = 1 << 62;
-
-/// The number of the last sink that a start may create.
-const LAST_NUMBER: u64 = (1 << 63) - 1;
 
 /// The sinks of one start of a collector. One of them at most is written to. It holds no bytes of it.
 #[derive(Drop)]

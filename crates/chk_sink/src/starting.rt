@@ -21,13 +21,10 @@ ghost use Rattle.chk_sink.specs.Starting.{ReadsNumber, Looked, ShowsStart, Publi
 
 use crate::SinkFault;
 use crate::numbers::number_from;
-use chk_bytes::{NoMemory, Word};
+use chk_bytes::{LAST_NUMBER, NoMemory, Word};
 use chk_replace::replace;
 use chk_site::{Call, OutsideFault, Site, Who, done, taken};
 use std::alloc::Global;
-
-/// The last number of a start.
-const LAST_START: u64 = (1 << 63) - 1;
 
 /// The name of the collector's number of starts.
 pub(crate) fn born_name(alloc: Global, collector: &Word) -> Result<Word, NoMemory>
@@ -62,7 +59,7 @@ pub(crate) fn publish_next<S: Site>(
     let Some(last) = looked else {
         return Err(SinkFault::Damaged { name, at: 0 });
     };
-    if last == LAST_START {
+    if last == LAST_NUMBER {
         return Err(SinkFault::Spent { born: last });
     }
     let born = last + 1;

@@ -1,5 +1,6 @@
 -- What a writer's buffers are seen as, and what each call makes of it.
 use Rattle.std.specs.Prelude.{ℕ, ◌+◌, Bool, false, Option, Some, None, Result, Ok, Err}
+pub use Rattle.chk_bytes.specs.Numbers.{last_number}
 use Rattle.chk_site.specs.declared.acts.Who.{Who}
 use Rattle.chk_site.specs.declared.acts.OutsideFault.{OutsideFault}
 
@@ -14,10 +15,6 @@ pub record State : Type 0 where
   pub number : ℕ
   pub held : Option Held
   pub ready : Bool
-
--- the last number of a buffer
-abbrev pub last_number : ℕ
-last_number = 9223372036854775807
 
 -- the length of the buffer that is written to, 0 without one
 abbrev pub length_of : Option Held → ℕ

@@ -17,13 +17,10 @@ use crate::calls::{add, begin, cut, publish, remove, shut};
 use crate::found::Plan;
 use crate::starting::look;
 use crate::{WaheadFault, names};
-use chk_bytes::{NoMemory, Word};
+use chk_bytes::{LAST_NUMBER, NoMemory, Word};
 use chk_site::{OutsideFault, Site, Who};
 use std::alloc::Global;
 use std::marker::Model;
-
-/// The number of the last buffer that can be.
-const LAST_NUMBER: u64 = (1 << 63) - 1;
 
 /// The buffer that is written to: its length, and how much of it its mark says.
 #[derive(Clone, Copy)]

@@ -1,9 +1,9 @@
 -- Which texts are words, names and numbers.
-use Rattle.std.specs.Prelude.{ℕ, ◌-◌, ◌^◌, Bool, ◌&&◌, ◌||◌, not, ◌==◌, nat_lt, nat_le, List, length, slice_index, if◌then◌else◌, Option, Some, None, option_and_then}
+use Rattle.std.specs.Prelude.{ℕ, ◌-◌, Bool, ◌&&◌, ◌||◌, not, ◌==◌, nat_lt, nat_le, List, length, slice_index, if◌then◌else◌, Option, Some, None, option_and_then}
 use Rattle.std.specs.Char.{is_ascii_alphanumeric}
 use Rattle.std.specs.List.{list_all}
 use Rattle.chk_bytes.specs.Words.{is_word}
-use Rattle.chk_bytes.specs.Numbers.{number_in_digits}
+use Rattle.chk_bytes.specs.Numbers.{number_in_digits, last_number}
 
 -- a letter, a digit, `_`, `-` or `.`
 abbrev pub is_source_byte : ℕ → Bool
@@ -28,4 +28,4 @@ number_in least most text =
 
 -- the most that a number may be
 abbrev pub most : ℕ
-most = 2 ^ 63 - 1
+most = last_number

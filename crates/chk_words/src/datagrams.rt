@@ -13,8 +13,8 @@ use crate::commands::Command;
 use crate::lines::{Part, put_line};
 use crate::names::is_word;
 use crate::options::Given;
-use crate::reading::{MOST, MOST_MESSAGES};
-use chk_bytes::{Bytes, NoMemory};
+use crate::reading::MOST_MESSAGES;
+use chk_bytes::{Bytes, LAST_NUMBER, NoMemory};
 
 /// The words of `udp`.
 #[derive(Clone, Copy, Debug)]
@@ -60,8 +60,8 @@ fn udp_options(given: &Given<'_>) -> Option<UdpOptions>
     ensures good { IfSome result AreGoodUdp }
 {
     Some(UdpOptions {
-        turns: given.number("turns", MOST, 1, MOST)?,
-        rotate: given.number("rotate", 1_048_576, 1, MOST)?,
+        turns: given.number("turns", LAST_NUMBER, 1, LAST_NUMBER)?,
+        rotate: given.number("rotate", 1_048_576, 1, LAST_NUMBER)?,
         messages: given.number("messages", 1, 1, MOST_MESSAGES)?,
     })
 }

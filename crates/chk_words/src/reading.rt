@@ -14,11 +14,9 @@ use crate::names::{are_words, is_collector, is_source, is_word, number_in};
 use crate::options::Given;
 use crate::subscribing::read_subscribe;
 use crate::usage::{Usage, usage_of};
+use chk_bytes::LAST_NUMBER;
 use chk_control::Class;
 use std::alloc::Global;
-
-// The most of a number, and of turns where none are given.
-pub(crate) const MOST: u64 = (1 << 63) - 1;
 
 // The most milliseconds of a pause, and its length where none is given.
 const LONGEST_PAUSE: u64 = 200;
@@ -90,7 +88,7 @@ fn round_options<'a>(given: &Given<'a>) -> Option<RoundOptions<'a>>
 {
     Some(RoundOptions {
         class: given.class()?,
-        reads: given.number("reads", 1_000_000, 1, MOST)?,
+        reads: given.number("reads", 1_000_000, 1, LAST_NUMBER)?,
         cluster: given.cluster()?,
     })
 }
@@ -132,9 +130,9 @@ fn agent_options<'a>(given: &Given<'a>) -> Option<AgentOptions<'a>>
     Some(AgentOptions {
         initial: given.word("initial")?,
         control: given.word("control")?,
-        turns: given.number("turns", MOST, 1, MOST)?,
-        poll: given.number("poll", 10_000, 0, MOST)?,
-        expire: given.number("expire", 300_000, 0, MOST)?,
+        turns: given.number("turns", LAST_NUMBER, 1, LAST_NUMBER)?,
+        poll: given.number("poll", 10_000, 0, LAST_NUMBER)?,
+        expire: given.number("expire", 300_000, 0, LAST_NUMBER)?,
         pause: given.number("pause", LONGEST_PAUSE, 0, LONGEST_PAUSE)?,
         cluster: given.cluster()?,
     })
@@ -173,8 +171,8 @@ fn collector_options<'a>(given: &Given<'a>) -> Option<CollectorOptions<'a>>
     ensures good { IfSome result AreGoodCollector }
 {
     Some(CollectorOptions {
-        rotate: given.number("rotate", 300_000, 0, MOST)?,
-        turns: given.number("turns", MOST, 1, MOST)?,
+        rotate: given.number("rotate", 300_000, 0, LAST_NUMBER)?,
+        turns: given.number("turns", LAST_NUMBER, 1, LAST_NUMBER)?,
         messages: given.number("messages", 1, 1, MOST_MESSAGES)?,
         tee: given.word("tee")?,
     })
@@ -210,7 +208,7 @@ fn drain_options<'a>(given: &Given<'a>) -> Option<DrainOptions<'a>>
 {
     Some(DrainOptions {
         initial: given.word("initial")?,
-        reads: given.number("reads", 1_000_000, 1, MOST)?,
+        reads: given.number("reads", 1_000_000, 1, LAST_NUMBER)?,
         polls: given.number("polls", 60, 1, 1_000_000)?,
         cluster: given.cluster()?,
     })

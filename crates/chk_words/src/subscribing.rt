@@ -9,7 +9,7 @@ ghost use Rattle.chk_words.specs.Good.{IsGood};
 use crate::commands::Command;
 use crate::names::is_word;
 use crate::options::Given;
-use crate::reading::MOST;
+use chk_bytes::LAST_NUMBER;
 
 /// The words of `subscribe`.
 #[derive(Clone, Copy, Debug)]
@@ -24,7 +24,7 @@ pub(crate) fn read_subscribe<'a>(given: &Given<'a>) -> Option<Command<'a>>
     ensures asked { option_map asked_of result ≡ asked_subscribe (rows_in given.now) }
     ensures good { IfSome result (λ command. IsGood (asked_of command)) }
 {
-    let turns = given.number("turns", MOST, 1, MOST)?;
+    let turns = given.number("turns", LAST_NUMBER, 1, LAST_NUMBER)?;
     match given.plain()? {
         [address] if is_word(address) => {
             Some(Command::Subscribe(SubscribeWords { turns, address }))

@@ -23,7 +23,7 @@ pub returns-in_err-publish-clause-told : goal.returns-in_err-publish-clause-told
 returns-in_err-publish-clause-told g c stamped =
     let looked = rw c.in-Some.is at (c.in_ok-looked.ensures.told stamped) in
     let number : IsInLimit (Some c.in-Some.last) = rw c.in-Some.is at c.in_ok-looked.ensures.number in
-    let other = c.if-last-eq-LAST_START.false in
+    let other = c.if-last-eq-LAST_NUMBER.false in
     let small : c.in-Some.last + 1 < limit = omega (arith, number, other) in
     rw (refused_by c.from_residual-in_err-publish.ensures.1)
     (leads_then looked
@@ -34,7 +34,7 @@ pub returns-clause-told : goal.returns-clause-told
 returns-clause-told g c stamped =
     let looked = rw c.in-Some.is at (c.in_ok-looked.ensures.told stamped) in
     let number : IsInLimit (Some c.in-Some.last) = rw c.in-Some.is at c.in_ok-looked.ensures.number in
-    let other = c.if-last-eq-LAST_START.false in
+    let other = c.if-last-eq-LAST_NUMBER.false in
     let small : c.in-Some.last + 1 < limit = omega (arith, number, other) in
     leads_then looked
     (published_told stamped c.as_str-2.result.now c.in-Some.last small (Ok tt) c.args.who.now c.requires.role c.requires.collector
@@ -50,8 +50,8 @@ returns-in_err-looked-clause-own g c =
 pub returns-in_default-clause-own : goal.returns-in_default-clause-own
 returns-in_default-clause-own g c = (works_as (OfPublishing c.args.who.now) (λ call one. inl one) c.in_ok-looked.ensures.own)
 
-pub returns-then-last-eq-LAST_START-clause-own : goal.returns-then-last-eq-LAST_START-clause-own
-returns-then-last-eq-LAST_START-clause-own g c = (works_as (OfPublishing c.args.who.now) (λ call one. inl one) c.in_ok-looked.ensures.own)
+pub returns-then-last-eq-LAST_NUMBER-clause-own : goal.returns-then-last-eq-LAST_NUMBER-clause-own
+returns-then-last-eq-LAST_NUMBER-clause-own g c = (works_as (OfPublishing c.args.who.now) (λ call one. inl one) c.in_ok-looked.ensures.own)
 
 pub returns-in_err-publish-clause-own : goal.returns-in_err-publish-clause-own
 returns-in_err-publish-clause-own g c =
@@ -67,7 +67,7 @@ returns-clause-own g c =
 pub returns-in_err-publish-clause-spent_exactly : goal.returns-in_err-publish-clause-spent_exactly
 returns-in_err-publish-clause-spent_exactly g c =
     let refused = refused_by c.from_residual-in_err-publish.ensures.1 in
-    shown_spent c.as_str.result.now c.in-Some.last _ writes_unread (ne_eqb _ _ c.if-last-eq-LAST_START.false)
+    shown_spent c.as_str.result.now c.in-Some.last _ writes_unread (ne_eqb _ _ c.if-last-eq-LAST_NUMBER.false)
     (of_outside _ (Err c.in_err-publish.field-0.0) refused) (rw c.in-Some.is at c.in_ok-looked.ensures.shown)
     (made_err _ _ refused (replaced_writes c.args.who.now c.as_str-2.result.now _ c.in_err-publish.ensures.told))
 
@@ -80,7 +80,7 @@ returns-in_err-publish-clause-damaged g c =
 
 pub returns-clause-spent_exactly : goal.returns-clause-spent_exactly
 returns-clause-spent_exactly g c =
-    shown_spent c.as_str.result.now c.in-Some.last (Ok (c.in-Some.last + 1)) writes_unread (ne_eqb _ _ c.if-last-eq-LAST_START.false) tt
+    shown_spent c.as_str.result.now c.in-Some.last (Ok (c.in-Some.last + 1)) writes_unread (ne_eqb _ _ c.if-last-eq-LAST_NUMBER.false) tt
     (rw c.in-Some.is at c.in_ok-looked.ensures.shown) (replaced_writes c.args.who.now c.as_str-2.result.now _ c.in_ok-publish.ensures.told)
 
 pub returns-clause-damaged : goal.returns-clause-damaged
