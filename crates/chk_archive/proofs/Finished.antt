@@ -63,7 +63,7 @@ take_fails stamped v old new loaded (Damaged name place) h k = k
 take_fails stamped v old new loaded (Spent n) h k = record {
   legal = k.legal;
   may_act = k.may_act;
-  alive = λ runs. let t = k.alive runs in (t.last_number, for_new t.l t.last t.lacks);
+  alive = λ runs. let t = k.alive runs in (t.number, for_new t.l t.last t.lacks);
 }
 take_fails stamped v old new loaded NoMemory h k = k
 

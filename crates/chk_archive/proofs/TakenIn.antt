@@ -255,7 +255,7 @@ module _ (stamped : List (List ℕ)) (names : List (List ℕ)) (b : Book) (v : S
             let lacks = x.1 in
             let least = needed_least in
             record {
-              last_number = x.0;
+              number = x.0;
               l = K stamped names b v at;
               last = x.3 ∙ at.shows.last;
               lacks = omega (arith, lacks, least);

@@ -1,5 +1,6 @@
 -- What one run of the archive job leads to.
 use Rattle.std.specs.Prelude.{◌≡◌, ◌⊎◌, ℕ, ◌-◌, ◌≤◌, ◌^◌, Bool, false, ◌&&◌, List, length, find, codes, bytes_eq, IsTrue, Contains, count_by, Some, Result, Ok, Err}
+use Rattle.chk_bytes.specs.Numbers.{last_number}
 use Rattle.chk_site.specs.declared.acts.Act.{Act}
 use Rattle.chk_site.specs.declared.acts.ActAnswer.{ActAnswer}
 use Rattle.chk_site.specs.declared.acts.ActAnswer.TheVariants.{Done}
@@ -52,7 +53,7 @@ abbrev pub Archived : List (List ℕ) → Book → Result Report JobFault → Hi
 Archived stamped loaded (Ok r) history = AtTold stamped job (RunDone loaded r) history
 Archived stamped loaded (Err (Damaged name at)) history = AtTold stamped job (λ h. ⊥) history
 Archived stamped loaded (Err (Spent n)) history =
-    AtTold stamped job (λ h. (n ≡ 2 ^ 63 - 1) × LacksNumbers h) history
+    AtTold stamped job (λ h. (n ≡ last_number) × LacksNumbers h) history
 Archived stamped loaded (Err fault) history = Legal stamped history
 
 -- the archive's book before the call

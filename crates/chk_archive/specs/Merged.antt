@@ -1,5 +1,6 @@
 -- What the merging of the archive's segments leaves.
 use Rattle.std.specs.Prelude.{◌≡◌, ◌⊎◌, ℕ, ◌+◌, ◌-◌, ◌<◌, ◌≤◌, ◌^◌, IsTrue, List, [], ◌∷◌, length, Contains, None, Result, Ok, Err}
+use Rattle.chk_bytes.specs.Numbers.{last_number}
 use Rattle.chk_bytes.specs.Stems.{is_count}
 use Rattle.chk_site.specs.History.{History}
 use Rattle.chk_world.specs.Names.{ArchiveFolder, SegmentFile}
@@ -34,6 +35,6 @@ abbrev pub Merged : List (List ℕ) → Book → Book → Result Unit JobFault �
 Merged stamped loaded b (Ok value) history = AtJob stamped (IsMerged loaded b) history
 Merged stamped loaded b (Err (Damaged name at)) history = AtTold stamped job (λ h. ⊥) history
 Merged stamped loaded b (Err (Spent n)) history =
-    AtJob stamped (λ u. (n ≡ 2 ^ 63 - 1) × (16 ≤ length loaded.segments) × (loaded.next ≡ 2 ^ 63 - 1)
+    AtJob stamped (λ u. (n ≡ last_number) × (16 ≤ length loaded.segments) × (loaded.next ≡ last_number)
     × (own_book u ArchiveFolder ≡ loaded)) history
 Merged stamped loaded b (Err fault) history = Legal stamped history

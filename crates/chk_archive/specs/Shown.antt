@@ -1,5 +1,6 @@
 -- What the own reads of an archive run show, on every site.
 use Rattle.std.specs.Prelude.{◌≡◌, ℕ, ◌+◌, ◌-◌, ◌<◌, ◌≤◌, ◌^◌, false, List, [], ◌∷◌, length, count_by, codes, Contains, Result, Ok, Err}
+use Rattle.chk_bytes.specs.Numbers.{last_number}
 use Rattle.chk_site.specs.History.{History}
 use Rattle.chk_site.specs.Site.{Calls, names_given}
 use Rattle.chk_chunk.specs.Keys.{chunk_limit}
@@ -39,12 +40,12 @@ pub data IsUntaken (ends : List End) (files : List (List ℕ)) (name : List ℕ)
 
 -- the fault is that the numbers are spent only with this cause
 abbrev pub IfSpent : Type 0 → JobFault → Type 0
-IfSpent Why (Spent n) = (n ≡ 2 ^ 63 - 1) × Why
+IfSpent Why (Spent n) = (n ≡ last_number) × Why
 IfSpent Why fault = Unit {0}
 
 -- the book's next number is the last one
 abbrev pub IsAtLast : Book → Type 0
-IsAtLast b = b.next ≡ 2 ^ 63 - 1
+IsAtLast b = b.next ≡ last_number
 
 -- how many numbers the segment of what is taken asks for
 abbrev pub number_for : List Cut → ℕ
@@ -57,7 +58,7 @@ number_for (k ∷ ks) = 1
 pub data LacksFor (b : Book) (heads : List Head) (old : ℕ) (cuts kept : List Cut) : Type 0 where
   for_parts : (cuts ≡ [] → ⊥) → IsAtLast b → LacksFor b heads old cuts kept
   for_aside : (kept ≡ [] → ⊥) → stays_aside b heads old kept ≡ false
-      → b.next + number_for cuts ≡ 2 ^ 63 - 1 → LacksFor b heads old cuts kept
+      → b.next + number_for cuts ≡ last_number → LacksFor b heads old cuts kept
 
 -- so it is of what is planned for heads that stand in order, and of what is kept past its gaps
 pub record LacksOver (b : Book) (heads : List Head) (old : ℕ) (p : Planned) : Type 0 where
@@ -82,7 +83,7 @@ ShowsTaken b files (Ok value) added history =
 ShowsTaken b files (Err (Damaged name at)) added history =
     IsUntaken b.ends files name at added history
 ShowsTaken b files (Err (Spent n)) added history =
-    (n ≡ 2 ^ 63 - 1) × (heads : List Head)
+    (n ≡ last_number) × (heads : List Head)
     × Within (ShowAll chunk_limit 0 files heads) added history × LacksOne b heads
 ShowsTaken b files (Err fault) added history = Unit {0}
 
@@ -137,7 +138,7 @@ pub data IsSpent (added history : History) : Type 0 where
 -- the cause of a fault: of damage, and that the numbers are spent; of any other nothing is said
 abbrev pub ShowsCause : JobFault → History → History → Type 0
 ShowsCause (Damaged name at) added history = IsDamage name at added history
-ShowsCause (Spent n) added history = (n ≡ 2 ^ 63 - 1) × IsSpent added history
+ShowsCause (Spent n) added history = (n ≡ last_number) × IsSpent added history
 ShowsCause fault added history = Unit {0}
 
 -- the book in hand behind the merging, of one that own reads show, or such a cause

@@ -1,5 +1,6 @@
 -- What an archive run takes, once the sinks are listed.
 use Rattle.std.specs.Prelude.{◌≡◌, ◌⊎◌, ℕ, ◌+◌, ◌-◌, ◌<◌, ◌≤◌, ◌^◌, Bool, true, false, not, ◌&&◌, IsTrue, List, [], ◌∷◌, ◌++◌, length, count_by, flat_map, sum_by, Contains, Some, None, Result, Ok, Err}
+use Rattle.chk_bytes.specs.Numbers.{last_number}
 use Rattle.chk_bytes.specs.Stems.{Stem}
 use Rattle.chk_site.specs.Files.{Files}
 use Rattle.chk_site.specs.History.{History}
@@ -94,12 +95,12 @@ pub data AsideNamed (u : Sight) (old new : Book) (kept : List Chunk) : Type 0 wh
 pub data HasParts (v : Sight) (old new : Book) (parts : List Chunk) (u : Sight) : Type 0 where
   no_parts : parts ≡ [] → new ≡ old → SameBelow old.next v u → HasParts v old new parts u
   with_parts : (g : Segment) → g.number ≡ old.next → HoldsChunks u g parts → new ≡ with_segment old g parts
-      → (old.next ≡ 2 ^ 63 - 1 → ⊥) → (parts ≡ [] → ⊥) → SameBelow old.next v u → HasParts v old new parts u
+      → (old.next ≡ last_number → ⊥) → (parts ≡ [] → ⊥) → SameBelow old.next v u → HasParts v old new parts u
 
 -- where the numbers are spent, the archive's book has fewer than this many left, and is the one that it had
 abbrev pub IsSpentFor : ℕ → Sight → ℕ → Sight → Type 0
 IsSpentFor needed v n u =
-    (n ≡ 2 ^ 63 - 1) × (2 ^ 63 ≤ (own_book u ArchiveFolder).next + needed) × (own_book u ArchiveFolder ≡ own_book v ArchiveFolder)
+    (n ≡ last_number) × (2 ^ 63 ≤ (own_book u ArchiveFolder).next + needed) × (own_book u ArchiveFolder ≡ own_book v ArchiveFolder)
     × (u.listing ≡ v.listing)
 
 abbrev pub PartsTaken : List (List ℕ) → Sight → Book → Book → List Chunk → Result Unit JobFault → History → Type 0
@@ -126,7 +127,7 @@ pub record HasAside (v : Sight) (old new : Book) (kept : List Chunk) (stays chan
 -- where the numbers are spent, the next one is the last, one segment is needed, and the archive has the book that it had
 abbrev pub IsLast : Book → Sight → ℕ → ℕ → Sight → Type 0
 IsLast b v needed n u =
-    (n ≡ 2 ^ 63 - 1) × (b.next ≡ 2 ^ 63 - 1) × (needed ≡ 1) × (own_book u ArchiveFolder ≡ own_book v ArchiveFolder)
+    (n ≡ last_number) × (b.next ≡ last_number) × (needed ≡ 1) × (own_book u ArchiveFolder ≡ own_book v ArchiveFolder)
     × (u.listing ≡ v.listing)
 
 abbrev pub AsideKept : List (List ℕ) → Sight → Book → Book → List Chunk → Bool → Result Bool JobFault → History → Type 0
@@ -178,7 +179,7 @@ pub record TookAll (v : Sight) (new : Book) (t : Taken) (u : Sight) : Type 0 whe
 
 -- where the numbers are spent, fewer are left than are needed for what the last listing shows
 pub record TookNone (n : ℕ) (u : Sight) : Type 0 where
-  pub last_number : n ≡ 2 ^ 63 - 1
+  pub number : n ≡ last_number
   pub l : Listing
   pub last : u.listing ≡ Some l
   pub lacks : 2 ^ 63 ≤ (own_book u ArchiveFolder).next + needed_behind l

@@ -1,5 +1,6 @@
 -- The segments that an archive run writes, and how many numbers it needs for them.
 use Rattle.std.specs.Prelude.{◌≡◌, ℕ, ◌+◌, ◌-◌, ◌<◌, ◌≤◌, ◌^◌, Bool, true, false, ◌&&◌, nat_le, List, [], ◌∷◌, ◌++◌, length, Some, if◌then◌else◌}
+use Rattle.chk_bytes.specs.Numbers.{last_number}
 use Rattle.chk_site.specs.Files.{Files}
 use Rattle.chk_site.specs.History.{History, files_after}
 use Rattle.chk_chunk.specs.Keys.{Chunk, same_data}
@@ -78,6 +79,6 @@ HadNumbers loaded l = loaded.next + (one_merge loaded + needed_behind l) < 2 ^ 6
 -- fewer numbers left than what the last listing shows needs.
 pub data LacksNumbers (history : History) : Type 0 where
   for_merge : 16 ≤ length (book_of (files_after history) ArchiveFolder).segments
-      → (book_of (files_after history) ArchiveFolder).next ≡ 2 ^ 63 - 1 → LacksNumbers history
+      → (book_of (files_after history) ArchiveFolder).next ≡ last_number → LacksNumbers history
   for_new : (l : Listing) → last_listing history ≡ Some l
       → 2 ^ 63 ≤ (book_of (files_after history) ArchiveFolder).next + needed_behind l → LacksNumbers history

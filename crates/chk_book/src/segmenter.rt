@@ -1,6 +1,7 @@
 //! Writes one segment in parts.
 
 ghost use Rattle.std.specs.Prelude.{◌≡◌, ◌-◌, ◌^◌, ◌<◌, IsTrue};
+ghost use Rattle.chk_bytes.specs.Numbers.{last_number};
 ghost use Rattle.chk_book.specs.Folders.{is_folder};
 ghost use Rattle.chk_book.specs.Recent.{IsRecent};
 
@@ -34,7 +35,7 @@ pub struct Segmenter {
     /// The ends that its parts give their streams, in turn; those of neighbours of one stream as one.
     pub ends: Ends,
     ghost folder_can: { IsTrue (is_folder folder) },
-    ghost numbered: { number < 2 ^ 63 - 1 },
+    ghost numbered: { number < last_number },
     ghost recent: { IsRecent key ends },
 }
 
@@ -140,7 +141,7 @@ impl Segmenter {
     /// The segment of this number, of which only the header is written.
     fn new(alloc: Global, who: &Who, folder: &str, number: u64) -> Result<Segmenter, NoMemory>
         requires folder { IsTrue (is_folder folder.now) }
-        requires number { number < 2 ^ 63 - 1 }
+        requires number { number < last_number }
         ensures at { IfOk result (λ s. IsAt s (begun folder.now number)) }
         ensures who { IfOk result (λ s. s.who ≡ who.now) }
     {

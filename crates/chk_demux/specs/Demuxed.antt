@@ -1,6 +1,7 @@
 -- What one run of the demux job leads to.
 use Rattle.std.specs.Prelude.{◌≡◌, ℕ, ◌+◌, ◌-◌, ◌≤◌, ◌<◌, ◌^◌, false, List, [], ◌∷◌, ◌++◌, length, codes, bytes_eq, Contains, Result, Ok, Err}
 use Rattle.std.specs.List.{list_any}
+use Rattle.chk_bytes.specs.Numbers.{last_number}
 use Rattle.chk_site.specs.Acts.{Deed, Starts}
 use Rattle.chk_site.specs.Files.{Files}
 use Rattle.chk_site.specs.History.{History, files_after}
@@ -79,7 +80,7 @@ pub record DemuxDone (stamped : List (List ℕ)) (before : Earlier) (r : DemuxRe
   pub added : List Chunk
   pub are : all_named (files_after history) DemuxFolder ≡ before.records ++ added
   pub segments : OneMore before.segments added (book_of (files_after history) DemuxFolder).segments
-  pub number : 0 < length added → before.next ≡ 2 ^ 63 - 1 → ⊥
+  pub number : 0 < length added → before.next ≡ last_number → ⊥
   pub order : InStreamOrder added
   pub keys : Each (HasKey (all_named (files_after history) ArchiveFolder)) added
   pub taken : r.taken ≡ bytes_of added
@@ -97,7 +98,7 @@ pub record IsDue (stamped : List (List ℕ)) (history : History) : Type 0 where
 
 -- A segment is needed for which no number is left.
 pub record LacksNumber (stamped : List (List ℕ)) (history : History) : Type 0 where
-  pub last : (book_of (files_after history) DemuxFolder).next ≡ 2 ^ 63 - 1
+  pub last : (book_of (files_after history) DemuxFolder).next ≡ last_number
   pub due : IsDue stamped history
 
 -- At Ok the split is done. Nothing of the program's own is ever damaged. The numbers are spent only where the next one is the last
@@ -107,7 +108,7 @@ abbrev pub Demuxed : List (List ℕ) → Earlier → Result DemuxReport JobFault
 Demuxed stamped before (Ok r) history = AtTold stamped job (DemuxDone stamped before r) history
 Demuxed stamped before (Err (Damaged name at)) history = AtTold stamped job (λ h. ⊥) history
 Demuxed stamped before (Err (Spent n)) history =
-    AtTold stamped job (λ h. (n ≡ 2 ^ 63 - 1) × LacksNumber stamped h) history
+    AtTold stamped job (λ h. (n ≡ last_number) × LacksNumber stamped h) history
 Demuxed stamped before (Err fault) history = Legal stamped history
 
 -- the calls that replace the book of the records

@@ -1,5 +1,6 @@
 -- What the own reads of a demux run show, on every site.
 use Rattle.std.specs.Prelude.{◌≡◌, ◌⊎◌, ℕ, ◌-◌, ◌^◌, IsTrue, List, codes, Contains, Result, Ok, Err}
+use Rattle.chk_bytes.specs.Numbers.{last_number}
 use Rattle.chk_site.specs.History.{History}
 use Rattle.chk_world.specs.Books.{Book, End, ends_rise}
 use Rattle.chk_heads.specs.Heads.{Head}
@@ -64,7 +65,7 @@ ShowsPut archive records old new (Err fault) added history = Unit {0}
 -- show something new, where that book's ends rise
 abbrev pub SpentBy : {T : Type 0} → Book → Book → Result T JobFault → History → History → Type 0
 SpentBy archive records (Err (Spent n)) added history =
-    (n ≡ 2 ^ 63 - 1) × (records.next ≡ 2 ^ 63 - 1)
+    (n ≡ last_number) × (records.next ≡ last_number)
     × (IsTrue (ends_rise records.ends) → ShowsNew archive records added history)
 SpentBy archive records result added history = Unit {0}
 
@@ -74,14 +75,14 @@ SpentBy archive records result added history = Unit {0}
 pub record IsSpent (added history : History) : Type 0 where
   pub records : Book
   pub has_records : ShowsRecords records added history
-  pub last : records.next ≡ 2 ^ 63 - 1
+  pub last : records.next ≡ last_number
   pub archive : Book
   pub has_archive : ShowsArchive archive added history
   pub new : ShowsNew archive records added history
 
 -- the numbers are told to be spent only with such a cause; nothing is said of any other answer
 abbrev pub ShowsSpent : {T : Type 0} → Result T JobFault → History → History → Type 0
-ShowsSpent (Err (Spent n)) added history = (n ≡ 2 ^ 63 - 1) × IsSpent added history
+ShowsSpent (Err (Spent n)) added history = (n ≡ last_number) × IsSpent added history
 ShowsSpent result added history = Unit {0}
 
 -- at Ok own reads show both books; damage has such a cause

@@ -1,6 +1,7 @@
 -- What the writing of one segment of records leaves.
 use Rattle.std.specs.List.{list_any}
 use Rattle.std.specs.Prelude.{◌≡◌, ◌⊎◌, ℕ, ◌-◌, ◌^◌, ◌<◌, nat_eq, IsTrue, IsFalse, List, [], codes, length, sum_by, Option, Some, None}
+use Rattle.chk_bytes.specs.Numbers.{last_number}
 use Rattle.chk_bytes.specs.Stems.{Stem, is_count}
 use Rattle.chk_site.specs.Files.{File}
 use Rattle.chk_chunk.specs.Keys.{Chunk, record_limit}
@@ -36,7 +37,7 @@ pub record IsFree (v : Sight) (k : ℕ) : Type 0 where
 
 -- the segmenter is the job's, and writes the segment of records of this number, which isn't the last one
 pub record IsForDemux (k : ℕ) (s : Segmenter) : Type 0 where
-  pub below : k ≡ 2 ^ 63 - 1 → ⊥
+  pub below : k ≡ last_number → ⊥
   pub who : s.who ≡ job
   pub number : s.number ≡ k
   pub w : Writing
@@ -66,7 +67,7 @@ SoFar v chunks (Some s) u = IsSoFar v chunks s u
 
 -- the same of records that are put: where the next number is the last one they are counted alone
 abbrev pub PutSoFar : Sight → List Chunk → Option Segmenter → Sight → Type 0
-PutSoFar v chunks None u = ((chunks ≡ []) ⊎ ((own_book v DemuxFolder).next ≡ 2 ^ 63 - 1)) × (u ≡ v)
+PutSoFar v chunks None u = ((chunks ≡ []) ⊎ ((own_book v DemuxFolder).next ≡ last_number)) × (u ≡ v)
 PutSoFar v chunks (Some s) u = IsSoFar v chunks s u
 
 -- how many bytes the chunks have

@@ -1,6 +1,7 @@
 //! The segment to which a demux run writes records, once it has one.
 
 ghost use Rattle.std.specs.Prelude.{◌≡◌, ◌+◌, ◌++◌, ◌∷◌, ◌-◌, ◌^◌, [], ℕ, List, length, nat_eq, codes, IsTrue, IfOk, IfErr, OnOk, OnErr, None};
+ghost use Rattle.chk_bytes.specs.Numbers.{last_number};
 ghost use Rattle.chk_site.specs.Site.{Adds};
 ghost use Rattle.chk_site.specs.Runs.{Leads};
 ghost use Rattle.chk_chunk.specs.Keys.{Chunk, is_key, has_value, record_limit};
@@ -34,7 +35,7 @@ pub(crate) struct Output {
 
 /// The book has no number left for a segment.
 pub(crate) fn is_spent(book: &Book) -> bool
-    ensures { result ≡ nat_eq (book_view book.now).next (2 ^ 63 - 1) }
+    ensures { result ≡ nat_eq (book_view book.now).next last_number }
 {
     book.next == LAST_NUMBER
 }
@@ -81,7 +82,7 @@ fn open<S: Site>(
 ) -> Result<Segmenter, JobFault>
     requires job { who.now ≡ job }
     requires writer { IsWriter (book_view book.now).next segmenter }
-    requires below { (book_view book.now).next ≡ 2 ^ 63 - 1 → ⊥ }
+    requires below { (book_view book.now).next ≡ last_number → ⊥ }
     ensures told { (stamped : List (List ℕ)) (v : Sight) (outs : List Chunk) → IsFree v (book_view book.now).next
         → Adds (S.told site.old) (S.told site.new)
         (Leads (As stamped job) (AtJob stamped (SoFar v outs segmenter))
@@ -108,7 +109,7 @@ fn write_first<S: Site>(
 ) -> Result<Segmenter, JobFault>
     requires job { who.now ≡ job }
     requires writer { IsWriter (book_view book.now).next segmenter }
-    requires below { (book_view book.now).next ≡ 2 ^ 63 - 1 → ⊥ }
+    requires below { (book_view book.now).next ≡ last_number → ⊥ }
     requires key { IsTrue (is_key (lent_chunk chunk.now).key) }
     requires value { IsTrue (has_value record_limit (lent_chunk chunk.now).key (lent_chunk chunk.now).value) }
     ensures told { (stamped : List (List ℕ)) (v : Sight) (outs : List Chunk) → IsFree v (book_view book.now).next

@@ -1,5 +1,6 @@
 //! The demux run.
 
+ghost use Rattle.chk_bytes.specs.Numbers.{last_number};
 ghost use Rattle.std.specs.Prelude.{◌≡◌, ◌-◌, ◌^◌, ◌&&◌, ℕ, List, [], nat_eq, nat_lt, IsTrue, IfOk, IfErr, OnOk, codes};
 ghost use Rattle.chk_site.specs.Files.{Files};
 ghost use Rattle.chk_site.specs.History.{Every};
@@ -185,7 +186,7 @@ fn enter_output<S: Site>(
 
 /// Records were put, and the book has no number left for their segment.
 fn lacks_number(book: &Book, output: &Output) -> bool
-    ensures { result ≡ (nat_eq (book_view book.now).next (2 ^ 63 - 1) && nat_lt 0 output.now.entries) }
+    ensures { result ≡ (nat_eq (book_view book.now).next last_number && nat_lt 0 output.now.entries) }
 {
     is_spent(book) && output.entries > 0
 }

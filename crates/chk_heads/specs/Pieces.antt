@@ -1,5 +1,6 @@
 -- What one read asks for and gives.
 use Rattle.std.specs.Prelude.{◌≡◌, ℕ, ◌-◌, ◌≤◌, ◌^◌, min, true, List, [], take, drop, Option, Some, None, option_map, Result, Ok, Err}
+use Rattle.chk_bytes.specs.Numbers.{last_number}
 use Rattle.chk_site.specs.declared.acts.OutsideFault.{OutsideFault}
 use Rattle.chk_site.specs.Files.{File}
 use Rattle.chk_site.specs.Acts.{Reads, deed}
@@ -13,7 +14,7 @@ AsksInPieces before step =
 
 -- how many bytes a read of at most so many asks for: none past the place at which each file counts as ended
 abbrev pub asks_for : ℕ → ℕ → ℕ
-asks_for most at = min (2 ^ 63 - 1 - at) most
+asks_for most at = min (last_number - at) most
 
 -- at Ok the piece is what the file has at this place, of at most so many bytes
 abbrev pub HasMost : List ℕ → ℕ → ℕ → Option File → Result (Option (List ℕ)) OutsideFault → History → Type 0

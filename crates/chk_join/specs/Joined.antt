@@ -1,5 +1,6 @@
 -- Archives in folders, and what a join of two of them leaves.
 use Rattle.std.specs.Prelude.{◌≡◌, ◌⊎◌, ℕ, ◌+◌, ◌-◌, ◌^◌, min, nat_lt, List, [], ◌∷◌, ◌++◌, length, codes, Bool, ◌&&◌, not, bytes_eq, IsTrue, Option, Some, None, Result, Ok, Err, if◌then◌else◌}
+use Rattle.chk_bytes.specs.Numbers.{last_number}
 use Rattle.chk_site.specs.Files.{File, Files}
 use Rattle.chk_site.specs.History.{Step, History, files_after}
 use Rattle.chk_site.specs.Honest.{in_folder}
@@ -169,7 +170,7 @@ Joined files left right (Err (Differ source kind name at)) history =
 Joined files left right (Err (Job (Damaged name at))) history = IsDamagedIn files left right name at
 Joined files left right (Err (Job (Spent n))) history =
     AllReadWell files left right × Agree (archive_in files left) (archive_in files right)
-    × (n ≡ 2 ^ 63 - 1) × ((folder_book files joined_folder).next ≡ 2 ^ 63 - 1)
+    × (n ≡ last_number) × ((folder_book files joined_folder).next ≡ last_number)
     × ((s : Stream) × (join (archive_in files left) (archive_in files right) s ≡ None → ⊥))
 Joined files left right (Err fault) history = Unit {0}
 

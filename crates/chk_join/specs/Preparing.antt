@@ -1,5 +1,6 @@
 -- What a join comes to before its book is published.
 use Rattle.std.specs.Prelude.{◌≡◌, ◌⊎◌, ℕ, ◌-◌, ◌^◌, IsTrue, List, [], ◌∷◌, length, map, flat_map, Contains, Result, Ok, Err, Some, None}
+use Rattle.chk_bytes.specs.Numbers.{last_number}
 use Rattle.chk_site.specs.Files.{File, Files}
 use Rattle.chk_site.specs.History.{History}
 use Rattle.chk_bytes.specs.Stems.{is_count}
@@ -45,11 +46,11 @@ IsCounted (Differs d) = Unit {0}
 
 -- the number is spent exactly where it is the last one, and there is a stream; without memory nothing is said
 abbrev pub SpentPlan : {T : Type 0} → ℕ → List End → Result T JobFault → Type 0
-SpentPlan next es (Err (Spent n)) = (n ≡ 2 ^ 63 - 1) × ((next ≡ 2 ^ 63 - 1) × (es ≡ [] → ⊥))
+SpentPlan next es (Err (Spent n)) = (n ≡ last_number) × ((next ≡ last_number) × (es ≡ [] → ⊥))
 SpentPlan next es (Err NoMemory) = Unit {0}
-SpentPlan next es (Err (Outside call)) = next ≡ 2 ^ 63 - 1 → es ≡ []
-SpentPlan next es (Err (Damaged name at)) = next ≡ 2 ^ 63 - 1 → es ≡ []
-SpentPlan next es (Ok value) = next ≡ 2 ^ 63 - 1 → es ≡ []
+SpentPlan next es (Err (Outside call)) = next ≡ last_number → es ≡ []
+SpentPlan next es (Err (Damaged name at)) = next ≡ last_number → es ≡ []
+SpentPlan next es (Ok value) = next ≡ last_number → es ≡ []
 
 -- the chosen records were written as one segment, where there is a stream, and run as these ends say
 abbrev pub WrotePlan : ℕ → List Chunk → List End → Result Book JobFault → History → Type 0
@@ -115,7 +116,7 @@ pub record IsPlanned (next : ℕ) (l r : Side) (held : Files) (ps : List Pair) (
   pub are : chunks ≡ flat_map (chosen_chunks l r held) plan.choices.items
   pub alone : IsAlone next b.ends b chunks history
   pub runs : AreRuns b.ends chunks
-  pub unspent : next ≡ 2 ^ 63 - 1 → b.ends ≡ []
+  pub unspent : next ≡ last_number → b.ends ≡ []
 
 -- at Ok all pairs are alike, and the plan of them was written, or the first one that isn't differs there; the number was spent only
 -- where it is the last one, and there is a stream
@@ -125,7 +126,7 @@ JoinedSides held next l r ps (Ok (Ready b report)) history =
 JoinedSides held next l r ps (Ok (Differs d)) history = FirstPairDiffers l r held ps d
 JoinedSides held next l r ps (Err (Damaged name at)) history = ⊥
 JoinedSides held next l r ps (Err (Spent n)) history =
-    Each (PairAgrees l r held) ps × ((n ≡ 2 ^ 63 - 1) × ((next ≡ 2 ^ 63 - 1) × (ps ≡ [] → ⊥)))
+    Each (PairAgrees l r held) ps × ((n ≡ last_number) × ((next ≡ last_number) × (ps ≡ [] → ⊥)))
 JoinedSides held next l r ps (Err fault) history = Unit {0}
 
 -- the same of the archives that both sides are, which have these records
@@ -134,11 +135,11 @@ abbrev pub JoinsAs : Archive → Archive → List Chunk → List Chunk → ℕ �
 JoinsAs A B xs ys next (Ok (Ready b r)) history =
     Agree A B × ((cs : List Chunk) × (IsAlone next (book_view b).ends (book_view b) cs history
     × (((s : Stream) → archive_with (book_view b) cs s ≡ join A B s) × ((r.bytes ≡ bytes_of cs)
-    × ((next ≡ 2 ^ 63 - 1 → (book_view b).ends ≡ [])
+    × ((next ≡ last_number → (book_view b).ends ≡ [])
     × (AreJoined A B xs ys cs × AreRuns (book_view b).ends cs))))))
 JoinsAs A B xs ys next (Ok (Differs d)) history = FirstDiffers A B (stream_of d) d.at
 JoinsAs A B xs ys next (Err (Spent n)) history =
-    Agree A B × ((n ≡ 2 ^ 63 - 1) × ((next ≡ 2 ^ 63 - 1) × ((s : Stream) × (join A B s ≡ None → ⊥))))
+    Agree A B × ((n ≡ last_number) × ((next ≡ last_number) × ((s : Stream) × (join A B s ≡ None → ⊥))))
 JoinsAs A B xs ys next (Err fault) history = Unit {0}
 
 -- the records of both folders run as their books say, and were joined; damage is of one of them

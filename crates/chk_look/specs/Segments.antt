@@ -1,5 +1,6 @@
 -- What is printed of one segment.
 use Rattle.std.specs.Prelude.{◌≡◌, ◌⊎◌, ℕ, ◌<◌, ◌-◌, ◌^◌, min, List, [], length, take, drop, Option, Some, None, Result, Ok, Err}
+use Rattle.chk_bytes.specs.Numbers.{last_number}
 use Rattle.chk_bytes.specs.Words.{BeginsWith}
 use Rattle.chk_site.specs.declared.acts.OutsideFault.{OutsideFault}
 use Rattle.chk_site.specs.Files.{File, Files}
@@ -19,7 +20,7 @@ use Rattle.chk_look.specs.Looking.{AreOrWent}
 
 -- how many bytes a read asks for: none past the place at which each file counts as ended
 abbrev pub asks_from : ℕ → ℕ
-asks_from at = min (2 ^ 63 - 1 - at) 1048576
+asks_from at = min (last_number - at) 1048576
 
 -- at Ok the piece is what the file has at this place, and it went only where it isn't there
 abbrev pub Looked : List ℕ → ℕ → Result (List ℕ) LookFault → Files → List ℕ → History → Type 0

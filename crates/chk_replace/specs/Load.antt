@@ -1,5 +1,6 @@
 -- The reading of a whole file.
 use Rattle.std.specs.Prelude.{◌≡◌, ◌⊎◌, ℕ, ◌-◌, ◌^◌, min, true, false, List, [], ◌∷◌, ◌++◌, length, take, drop, Option, Some, None, option_map, Result, Ok, Err}
+use Rattle.chk_bytes.specs.Numbers.{last_number}
 use Rattle.chk_bytes.specs.Words.{BeginsWith}
 use Rattle.chk_site.specs.declared.acts.Who.{Who}
 use Rattle.chk_site.specs.declared.acts.OutsideFault.{OutsideFault}
@@ -15,7 +16,7 @@ use Rattle.chk_site.specs.Honest.{Honest}
 
 -- how many bytes a read at this place asks for: at most 1,048,576, and none at or past the place 2^63 - 1
 abbrev pub asks_at : ℕ → ℕ
-asks_at at = min (2 ^ 63 - 1 - at) 1048576
+asks_at at = min (last_number - at) 1048576
 
 -- the step is the site's own, and a read of this file by this process
 pub record IsRead (who : Who) (name : List ℕ) (before : History) (step : Step) : Type 0 where

@@ -1,5 +1,6 @@
 -- Why a round has no number left.
 use Rattle.std.specs.Prelude.{◌≡◌, ℕ, ◌-◌, ◌^◌, false, List, ◌++◌, Option, Some, None, Ok}
+use Rattle.chk_bytes.specs.Numbers.{last_number}
 use Rattle.chk_site.specs.declared.acts.Who.{Who}
 use Rattle.chk_site.specs.History.{History, files_after, is_stopped}
 use Rattle.chk_site.specs.Site.{Adds}
@@ -8,7 +9,7 @@ use Rattle.chk_world.specs.Names.{BornFile, file}
 use Rattle.chk_world.specs.Rules.{Legal}
 use Rattle.chk_archive.specs.Written.{LacksNumbers}
 use Rattle.chk_sink.specs.Held.{Holds}
-use Rattle.chk_sink.specs.States.{State as Sinks, last_number, process}
+use Rattle.chk_sink.specs.States.{State as Sinks, process}
 use Rattle.chk_exchange.specs.declared.fault.ExchangeFault.TheVariants.{Spent}
 use Rattle.chk_exchange.specs.Exchanges.{Serves}
 
@@ -54,7 +55,7 @@ pub record LastSink (collector : List ℕ) (n : ℕ) (history : History) : Type 
 -- no number is left for a segment that is needed now
 abbrev pub IsSpentArchive : ℕ → History → Type 0
 IsSpentArchive n history =
-    (n ≡ 2 ^ 63 - 1) × LacksNumbers history
+    (n ≡ last_number) × LacksNumbers history
 
 -- Which numbers are spent: those of the collector's starts, of the sinks of its start, or of the
 -- archive's segments.

@@ -1,6 +1,7 @@
 -- What a read of a log gives to a reader that stands at a true place.
 use Rattle.std.specs.Prelude.{◌≡◌, ℕ, ◌+◌, ◌-◌, ◌^◌, ◌≤◌, ◌<◌, Bool, true, ◌&&◌, not, IsTrue, List, [], ◌∷◌, length, take, drop, min, Contains, if◌then◌else◌, Option, Some}
 use Rattle.std.specs.List.{list_all}
+use Rattle.chk_bytes.specs.Numbers.{last_number}
 use Rattle.chk_bytes.specs.Words.{text_lt}
 use Rattle.chk_control.specs.declared.Class.{Class}
 use Rattle.chk_control.specs.Classes.{is_plain, breaks_lines}
@@ -90,7 +91,7 @@ pub record GivesNoMore (lines : Bool) (g : Shown) (at max : ℕ) (words : List (
 
 -- a whole piece was asked for, or all up to the greatest place
 abbrev pub AsksEnough : Line → ℕ → Type 0
-AsksEnough l max = min (2 ^ 63 - 1 - l.offset) 131072 ≤ max
+AsksEnough l max = min (last_number - l.offset) 131072 ≤ max
 
 -- where such a read gives no more, the whole log ends at the place
 abbrev pub ReadsFindEnd : Type 0

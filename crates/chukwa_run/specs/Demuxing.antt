@@ -1,5 +1,6 @@
 -- What a demux run did, and what its end shows.
 use Rattle.std.specs.Prelude.{◌≡◌, ◌⊎◌, ℕ, ◌-◌, ◌^◌, List, [], ◌∷◌, ◌++◌}
+use Rattle.chk_bytes.specs.Numbers.{last_number}
 use Rattle.chk_site.specs.declared.acts.Act.{Act}
 use Rattle.chk_site.specs.Acts.{deed}
 use Rattle.chk_site.specs.History.{History, files_after}
@@ -42,5 +43,5 @@ pub record DemuxWhole (stamped : List (List ℕ)) (earlier added : History) : Ty
 -- record is still to be written, by these types.
 abbrev pub DemuxFits : List (List ℕ) → History → Ending → Type 0
 DemuxFits kinds history (Damaged name at) = ⊥
-DemuxFits kinds history (Spent n) = (n ≡ 2 ^ 63 - 1) × LacksNumber kinds history
+DemuxFits kinds history (Spent n) = (n ≡ last_number) × LacksNumber kinds history
 DemuxFits kinds history e = Unit {0}

@@ -1,5 +1,6 @@
 -- What each ending shows, status by status.
 use Rattle.std.specs.Prelude.{◌≡◌, ◌⊎◌, ℕ, ◌-◌, ◌^◌, false, List, [], ◌∷◌, ◌++◌, Option, Some, None, Ok, Err}
+use Rattle.chk_bytes.specs.Numbers.{last_number}
 use Rattle.chk_site.specs.declared.acts.Act.{Act}
 use Rattle.chk_site.specs.declared.acts.Call.{Call}
 use Rattle.chk_site.specs.declared.acts.CallFault.TheVariants.{Failed}
@@ -18,7 +19,6 @@ use Rattle.chk_archive.specs.Shown.{IsDamage as IsArchiveDamage, IsSpent as IsAr
 use Rattle.chk_demux.specs.Shown.{IsDamage as IsDemuxDamage, IsSpent as IsDemuxSpent}
 use Rattle.chk_sink.specs.declared.fault.SinkFault.{SinkFault}
 use Rattle.chk_sink.specs.declared.fault.SinkFault.TheVariants as Sinks
-use Rattle.chk_sink.specs.States.{last_number}
 use Rattle.chk_agent_run.specs.declared.faults.RunFault.TheVariants as runs
 use Rattle.chk_collector_run.specs.Runs.{IsCutRun}
 use Rattle.chk_drain.specs.Parts.{is_talk}
@@ -162,7 +162,7 @@ ArchiveFault e added = ⊥
 -- to be spent
 abbrev pub ArchiveShown : History → Ending → History → Type 0
 ArchiveShown earlier (Damaged name at) added = IsArchiveDamage name at added earlier
-ArchiveShown earlier (Spent n) added = (n ≡ 2 ^ 63 - 1) × IsArchiveSpent added earlier
+ArchiveShown earlier (Spent n) added = (n ≡ last_number) × IsArchiveSpent added earlier
 ArchiveShown earlier e added = Unit {0}
 
 -- it made only calls of an archive run and of its prints
@@ -174,7 +174,7 @@ ArchiveCut earlier e added = AreArchiveActs (own_acts added) × ArchiveFault e a
 abbrev pub ArchiveFits : History → Ending → Type 0
 ArchiveFits history (Damaged name at) = ⊥
 ArchiveFits history (Spent n) =
-    (n ≡ 2 ^ 63 - 1) × LacksNumbers history
+    (n ≡ last_number) × LacksNumbers history
 ArchiveFits history e = Unit {0}
 
 -- ---- a demux run
@@ -182,7 +182,7 @@ ArchiveFits history e = Unit {0}
 -- the same of a demux run
 abbrev pub DemuxShown : History → Ending → History → Type 0
 DemuxShown earlier (Damaged name at) added = IsDemuxDamage name at added earlier
-DemuxShown earlier (Spent n) added = (n ≡ 2 ^ 63 - 1) × IsDemuxSpent added earlier
+DemuxShown earlier (Spent n) added = (n ≡ last_number) × IsDemuxSpent added earlier
 DemuxShown earlier e added = Unit {0}
 
 -- it made only calls of a demux run and of its print, and printed at most one line
