@@ -11,8 +11,8 @@ ghost use Rattle.chk_checkpoint.specs.Fields.{words_in, has_start, lent, lent_af
 use crate::CheckLine;
 use crate::version::Version;
 use crate::words::{Words, words_of};
-use chk_bytes::{NoMemory, Word, take_plain_decimal, word_fault};
-use chk_control::Class;
+use chk_bytes::{NoMemory, Word, take_plain_decimal};
+use chk_control::{Class, class_named, is_name, is_word};
 use chk_rotate::Place;
 use chk_site::{Suffix, is_suffix};
 use std::alloc::Global;
@@ -104,21 +104,6 @@ fn live_of(word: &[u8]) -> Option<bool>
     }
 }
 
-// The class of a bare name.
-fn class_named(name: &[u8]) -> Option<Class>
-    ensures { result ≡ class_named name.now }
-{
-    if name == b"LWFTAdaptor".as_slice() {
-        Some(Class::Plain)
-    } else if name == b"FileTailingAdaptor".as_slice() {
-        Some(Class::Rotating)
-    } else if name == b"CharFileTailingAdaptorUTF8".as_slice() {
-        Some(Class::Lines)
-    } else {
-        None
-    }
-}
-
 // The suffix that a word names, where it isn't the sign for none.
 fn after_of<'a>(word: &'a [u8]) -> Option<Option<&'a [u8]>>
     ensures some { IfSome result (λ after. after_text (lent_after after) ≡ word.now) }
@@ -141,18 +126,6 @@ fn start_of(word: Option<&[u8]>) -> Option<u64>
         None => Some(0),
         Some(word) => take_plain_decimal(word),
     }
-}
-
-fn is_word(text: &[u8]) -> bool
-    ensures { result ≡ is_word text.now }
-{
-    word_fault(text).is_none()
-}
-
-fn is_name(text: &[u8]) -> bool
-    ensures { result ≡ is_name text.now }
-{
-    text.len() <= 64 && text != b"=".as_slice() && is_word(text)
 }
 
 fn is_line(line: &LineRef<'_>) -> bool

@@ -1,21 +1,27 @@
 //! The names of classes in lines.
 
 ghost use Rattle.std.specs.Prelude.{◌≡◌};
-ghost use Rattle.chk_control.specs.Classes.{bare_name, class_of_name, NamesTellClasses};
+ghost use Rattle.chk_control.specs.Classes.{bare_name, class_named, class_of_name, NamesTellClasses};
 
 use crate::Class;
 
 /// The class of a name, which is bare or stands behind one of the two packages.
 #[tactic(auto, unfolding(crate::specs::Classes::class_of_name))]
-pub(crate) fn class_of_name(name: &[u8]) -> Option<Class>
+pub fn class_of_name(name: &[u8]) -> Option<Class>
     ensures { result ≡ class_of_name name.now }
 {
-    let bare = bare_name(name);
-    if bare == b"LWFTAdaptor".as_slice() {
+    class_named(bare_name(name))
+}
+
+/// The class of a bare name.
+pub fn class_named(name: &[u8]) -> Option<Class>
+    ensures { result ≡ class_named name.now }
+{
+    if name == b"LWFTAdaptor".as_slice() {
         Some(Class::Plain)
-    } else if bare == b"FileTailingAdaptor".as_slice() {
+    } else if name == b"FileTailingAdaptor".as_slice() {
         Some(Class::Rotating)
-    } else if bare == b"CharFileTailingAdaptorUTF8".as_slice() {
+    } else if name == b"CharFileTailingAdaptorUTF8".as_slice() {
         Some(Class::Lines)
     } else {
         None

@@ -11,9 +11,11 @@ mod line_words;
 mod lines;
 
 pub use answers::{Answer, State, write_answer};
-pub use class_names::law_class_names;
+pub use class_names::{class_named, class_of_name, law_class_names};
 pub use commands::{Command, LineFault};
-pub use lines::{law_commands, law_plain_words, law_spacing, law_spellings, read_line};
+pub use lines::{
+    is_name, is_word, law_commands, law_plain_words, law_spacing, law_spellings, read_line,
+};
 
 /// How an adaptor reads its log.
 #[derive(Clone, Copy, Debug, PartialEq, Eq)]

@@ -203,13 +203,15 @@ fn offset_of(word: &[u8]) -> Option<u64>
     if n < 1 << 62 { Some(n) } else { None }
 }
 
-fn is_word(text: &[u8]) -> bool
+/// The bytes are a word.
+pub fn is_word(text: &[u8]) -> bool
     ensures { result ≡ is_word text.now }
 {
     word_fault(text).is_none()
 }
 
-fn is_name(text: &[u8]) -> bool
+/// The bytes may name an adaptor: a word of at most 64 bytes other than `=`.
+pub fn is_name(text: &[u8]) -> bool
     ensures { result ≡ is_name text.now }
 {
     text.len() <= 64 && text != b"=".as_slice() && is_word(text)

@@ -4,12 +4,10 @@ ghost use Rattle.std.specs.Prelude.{◌≡◌, map, IfSome};
 ghost use Rattle.std.specs.List.{list_all};
 ghost use Rattle.chk_bytes.specs.Words.{is_word};
 ghost use Rattle.chk_bytes.specs.Stems.{is_collector};
-ghost use Rattle.chk_control.specs.Classes.{bare_name, class_of_name};
 ghost use Rattle.chk_words.specs.Good.{IsIn};
 ghost use Rattle.chk_words.specs.Names.{is_source, is_source_byte, number_in, are_words};
 
 use chk_bytes::{Stem, take_decimal, word_fault};
-use chk_control::Class;
 
 /// Whether a text may stand as a type, a path, an address or a cluster.
 pub(crate) fn is_word(text: &str) -> bool
@@ -63,35 +61,4 @@ pub(crate) fn number_in(text: &str, least: u64, most: u64) -> Option<u64>
     } else {
         None
     }
-}
-
-/// The class of a name, which is bare or stands behind one of the two packages.
-#[tactic(auto, unfolding(chk_control::specs::Classes::class_of_name))]
-pub(crate) fn class_of(name: &str) -> Option<Class>
-    ensures { result ≡ class_of_name name.now }
-{
-    let bare = bare_name(name.as_bytes());
-    if bare == b"LWFTAdaptor".as_slice() {
-        Some(Class::Plain)
-    } else if bare == b"FileTailingAdaptor".as_slice() {
-        Some(Class::Rotating)
-    } else if bare == b"CharFileTailingAdaptorUTF8".as_slice() {
-        Some(Class::Lines)
-    } else {
-        None
-    }
-}
-
-fn bare_name(name: &[u8]) -> &[u8]
-    ensures { result.now ≡ bare_name name.now }
-{
-    if let Some(bare) = name.strip_prefix(
-        b"org.apache.hadoop.chukwa.datacollection.adaptor.filetailer.".as_slice(),
-    ) {
-        return bare;
-    }
-    if let Some(bare) = name.strip_prefix(b"filetailer.".as_slice()) {
-        return bare;
-    }
-    name
 }

@@ -13,9 +13,9 @@ ghost use Rattle.chk_words.specs.Good.{IsIn, IsWordIfAny};
 ghost use Rattle.chk_words.specs.Given.{rows_in, ReadsOptions};
 
 use crate::commands::WordsFault;
-use crate::names::{class_of, is_word, number_in};
+use crate::names::{is_word, number_in};
 use crate::usage::Usage;
-use chk_control::Class;
+use chk_control::{Class, class_of_name};
 use clap::error::ErrorKind;
 use clap::{Arg, ArgAction, ArgMatches, Error};
 use std::alloc::{AllocError, Global};
@@ -101,7 +101,7 @@ impl<'a> Given<'a> {
         ensures { result ≡ by_option Plain class_of_name (codes "class") (rows_in self.now) }
     {
         match self.value("class") {
-            Some(text) => class_of(text),
+            Some(text) => class_of_name(text.as_bytes()),
             None => Some(Class::Plain),
         }
     }
