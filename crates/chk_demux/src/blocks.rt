@@ -1,8 +1,7 @@
 //! Where a stream's heads stand among heads in order.
 
 ghost use Rattle.std.specs.Prelude.{◌≡◌, ◌<◌, ◌≤◌, ◌-◌, true, false, length, IsTrue, IsFalse};
-ghost use Rattle.chk_heads.specs.Order.{lent_head, of_one_stream};
-ghost use Rattle.chk_plan.specs.Passes.{head_in};
+ghost use Rattle.chk_heads.specs.Order.{lent_head};
 ghost use Rattle.chk_merge.specs.Courses.{is_head_of};
 ghost use Rattle.chk_book.specs.Views.{end_view};
 ghost use Rattle.chk_demux.specs.Splitting.{StreamsRise, HoldsStream, FirstStands};
@@ -10,6 +9,7 @@ ghost use Rattle.chk_demux.specs.Splitting.{StreamsRise, HoldsStream, FirstStand
 use crate::giving::is_of;
 use chk_book::End;
 use chk_heads::Heads;
+use chk_plan::span_end;
 
 /// Heads that stand together.
 #[derive(Clone, Copy)]
@@ -33,7 +33,7 @@ pub(crate) fn block_of(heads: &Heads, end: &End, next: &mut usize) -> Block
         };
     }
     let first = *next;
-    let past = past_last(heads, first);
+    let past = span_end(heads, first);
     *next = past;
     Block { first, end: past }
 }
@@ -46,20 +46,4 @@ fn begins_at(heads: &Heads, end: &End, at: usize) -> bool
         return false;
     }
     at == 0 || !is_of(end, &heads.get(at - 1))
-}
-
-/// The place past the heads that stand from `first` on and are of the stream of the head there.
-fn past_last(heads: &Heads, first: usize) -> usize
-    requires { first < length heads.now }
-    ensures beyond { first < result }
-    ensures within { result ≤ length heads.now }
-    ensures next { result < length heads.now → IsFalse (of_one_stream (head_in heads.now first) (head_in heads.now result)) }
-{
-    let len = heads.len();
-    for i in first + 1..len {
-        if !heads.are_of_one(first, i) {
-            return i;
-        }
-    }
-    len
 }

@@ -7,5 +7,5 @@ mod spans;
 mod starts;
 
 pub use laws::{found_may_go, passes_reach, plans_are_runs, plans_give, plans_may_be_published};
-pub use spans::{Known, Span, plan, taken};
+pub use spans::{Known, Span, plan, span_end, taken};
 pub use starts::other_start;

@@ -95,8 +95,9 @@ fn span_at(heads: &Heads, first: usize, known: &[Known<'_>], are_sorted: bool) -
     pass(heads, first, end, from)
 }
 
-/// The place past the last head of the stream that begins there.
-fn span_end(heads: &Heads, first: usize) -> usize
+/// The place past the heads that stand from `first` on and are of the stream of the head there. It
+/// costs a comparison a head.
+pub fn span_end(heads: &Heads, first: usize) -> usize
     requires { first < length heads.now }
     ensures beyond { first < result }
     ensures within { result ≤ length heads.now }

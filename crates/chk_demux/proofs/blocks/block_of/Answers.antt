@@ -12,9 +12,9 @@ returns-clause-holds c rise =
     let heads = c.args.heads.now in
     let s : Stream = (end_view c.args.end.now).stream in
     let first = c.args.next.now in
-    let past = c.past_last-past.result in
+    let past = c.span_end-past.result in
     let stands = c.begins_at.ensures c.if-not-begins_at.false in
     let next : past < length heads → is_head_of s (head_in heads past) ≡ false =
     subst (λ (t : Stream). past < length heads → same_stream t (head_in heads past).key.stream ≡ false)
-    (sym (streams_same s (head_in heads first).key.stream stands.own)) c.past_last-past.ensures.next in
-    holds_all heads rise s first past stands c.past_last-past.ensures.beyond next
+    (sym (streams_same s (head_in heads first).key.stream stands.own)) c.span_end-past.ensures.next in
+    holds_all heads rise s first past stands c.span_end-past.ensures.beyond next
