@@ -1,7 +1,6 @@
 //! A round, and what it prints.
 
-ghost use Rattle.std.specs.Prelude.{◌≡◌, ◌≤◌, ℕ, List, IsTrue, MatchOption, None, Some};
-ghost use Rattle.chk_bytes.specs.Words.{before_end};
+ghost use Rattle.std.specs.Prelude.{◌≡◌, ◌≤◌, ℕ, List, IsTrue, None, Some};
 ghost use Rattle.chk_site.specs.declared.acts.Who.{Who as Person};
 ghost use Rattle.chk_site.specs.Site.{Adds};
 ghost use Rattle.chk_world.specs.Names.{is_source};
@@ -54,7 +53,7 @@ fn end_by(first_unclosed: Option<Word>) -> Result<(), RoundEnd>
 fn is_of_c1(name: &str) -> bool
     ensures { result ≡ is_of_c1 name.now }
 {
-    match without_end(name.as_bytes(), b".chukwa") {
+    match name.as_bytes().strip_suffix(b".chukwa".as_slice()) {
         Some(text) => is_by_c1(Stem::read(text)),
         None => false,
     }
@@ -67,12 +66,4 @@ fn is_by_c1(stem: Option<Stem>) -> bool
         Some(stem) => stem.name() == "c1",
         None => false,
     }
-}
-
-// What stands before this ending.
-fn without_end<'a>(text: &'a [u8], ending: &[u8]) -> Option<&'a [u8]>
-    ensures { MatchOption result (before_end ending.now text.now ≡ None)
-        (λ front. before_end ending.now text.now ≡ Some front.now) }
-{
-    text.strip_suffix(ending)
 }
