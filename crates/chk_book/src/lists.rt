@@ -76,8 +76,8 @@ impl End {
             && self.name.as_str() == other.name.as_str()
     }
 
-    /// Its stream comes before the other one.
-    fn is_before(&self, other: &End) -> bool
+    /// Its stream comes before the other one's, in byte order of source, type and name.
+    pub fn is_before(&self, other: &End) -> bool
         ensures { result ≡ stream_lt (end_view self.now).stream (end_view other.now).stream }
     {
         comes_before(self.source.as_str(), other.source.as_str())

@@ -6,7 +6,6 @@ ghost use Rattle.chk_choose.specs.Pairs.{turn_of};
 ghost use Rattle.chk_choose.specs.declared.pairs.Turn.TheVariants.{Left, Right, Both};
 
 use chk_book::End;
-use chk_compare::is_before;
 
 /// How far the ends and the heads of both sides are gone through.
 #[derive(Clone, Copy)]
@@ -54,9 +53,9 @@ pub(crate) fn next_turn(lefts: &[End], rights: &[End], left: usize, right: usize
 fn turn_between(a: &End, b: &End) -> Turn
     ensures { result ≡ turn_of (end_view a.now ∷ []) (end_view b.now ∷ []) }
 {
-    if is_before(a, b) {
+    if a.is_before(b) {
         Turn::Left
-    } else if is_before(b, a) {
+    } else if b.is_before(a) {
         Turn::Right
     } else {
         Turn::Both

@@ -6,9 +6,10 @@ ghost use Rattle.chk_heads.specs.Order.{lent_head};
 ghost use Rattle.chk_book.specs.Views.{end_view};
 ghost use Rattle.chk_compare.specs.Blocks.{StreamsRise, IsPlaceOf, StandsAt, AllOf, EndsAt, HoldsStream};
 
-use crate::streams::{is_head_before, is_of};
+use crate::streams::is_head_before;
 use chk_book::End;
 use chk_heads::Heads;
+use chk_merge::is_of;
 
 /// Heads that stand together.
 #[derive(Clone, Copy)]

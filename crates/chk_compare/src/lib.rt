@@ -10,4 +10,3 @@ mod streams;
 pub use blocks::{Block, block_of};
 pub use comparing::{Readers, compare_blocks};
 pub use gathering::{Side, fetch, sound_heads};
-pub use streams::{is_before, is_of};

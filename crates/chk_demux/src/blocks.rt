@@ -6,9 +6,9 @@ ghost use Rattle.chk_merge.specs.Courses.{is_head_of};
 ghost use Rattle.chk_book.specs.Views.{end_view};
 ghost use Rattle.chk_demux.specs.Splitting.{StreamsRise, HoldsStream, FirstStands};
 
-use crate::giving::is_of;
 use chk_book::End;
 use chk_heads::Heads;
+use chk_merge::is_of;
 use chk_plan::span_end;
 
 /// Heads that stand together.

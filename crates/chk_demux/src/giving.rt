@@ -12,7 +12,6 @@ ghost use Rattle.chk_world.specs.JobSteps.{WritesTo};
 ghost use Rattle.chk_heads.specs.Faults.{JobCause, IsOfWrite};
 ghost use Rattle.chk_heads.specs.Order.{lent_head};
 ghost use Rattle.chk_plan.specs.Passes.{head_in};
-ghost use Rattle.chk_merge.specs.Courses.{is_head_of};
 ghost use Rattle.chk_book.specs.Folders.{segment_name};
 ghost use Rattle.chk_book.specs.Books.{book_view};
 ghost use Rattle.chk_book.specs.Views.{end_view};
@@ -26,18 +25,10 @@ use crate::output::{Output, put};
 use chk_book::{Book, End};
 use chk_chunk::ChunkRef;
 use chk_heads::{HeadRef, Heads, JobFault};
+use chk_merge::is_of;
 use chk_site::{Site, Who};
 use chk_splitter::Splitter;
 use std::alloc::Global;
-
-/// The head is of the end's stream.
-pub(crate) fn is_of(end: &End, head: &HeadRef<'_>) -> bool
-    ensures { result ≡ is_head_of (end_view end.now).stream (lent_head head.now) }
-{
-    end.name.as_str() == head.key.name
-        && end.source.as_str() == head.key.source
-        && end.kind.as_str() == head.key.kind
-}
 
 /// The head is of the end's stream and begins at the offset `at` or below it.
 fn holds_byte(end: &End, head: &HeadRef<'_>, at: u64) -> bool

@@ -1,13 +1,12 @@
 //! Where a stream's records end, as their book says.
 
 ghost use Rattle.std.specs.Prelude.{◌≡◌, ◌≤◌, length, map, drop, IsTrue, if◌then◌else◌};
-ghost use Rattle.chk_chunk.specs.Keys.{same_stream, stream_lt};
+ghost use Rattle.chk_chunk.specs.Keys.{same_stream};
 ghost use Rattle.chk_world.specs.Books.{ends_rise};
 ghost use Rattle.chk_book.specs.Books.{end_in};
 ghost use Rattle.chk_book.specs.Views.{end_view};
 
 use chk_book::End;
-use chk_bytes::comes_before;
 
 /// The offset past the last byte of the records of the end's stream, 0 where it has none, among ends that stand in byte order
 /// of source, type and name. It is looked for from `next` on, if the end in front of that comes before the stream, and else
@@ -18,7 +17,7 @@ pub(crate) fn recorded_end(ends: &[End], end: &End, next: &mut usize) -> u64
 {
     for at in begin_for(ends, end, *next)..ends.len() {
         let one = &ends[at];
-        if !is_before(one, end) {
+        if !one.is_before(end) {
             *next = at;
             return end_if(one, end);
         }
@@ -35,7 +34,7 @@ fn begin_for(ends: &[End], end: &End, near: usize) -> usize
         → end_in 0 (drop result (map end_view ends.now)) (end_view end.now).stream
         ≡ end_in 0 (map end_view ends.now) (end_view end.now).stream }
 {
-    if near > 0 && near <= ends.len() && is_before(&ends[near - 1], end) {
+    if near > 0 && near <= ends.len() && ends[near - 1].is_before(end) {
         return near;
     }
     0
@@ -49,15 +48,4 @@ fn end_if(one: &End, end: &End) -> u64
         && end.source.as_str() == one.source.as_str()
         && end.kind.as_str() == one.kind.as_str();
     if is_of { one.end } else { 0 }
-}
-
-/// The stream of the first one comes before the other one's.
-fn is_before(one: &End, end: &End) -> bool
-    ensures { result ≡ stream_lt (end_view one.now).stream (end_view end.now).stream }
-{
-    comes_before(one.source.as_str(), end.source.as_str())
-        || (one.source.as_str() == end.source.as_str()
-            && (comes_before(one.kind.as_str(), end.kind.as_str())
-                || (one.kind.as_str() == end.kind.as_str()
-                    && comes_before(one.name.as_str(), end.name.as_str()))))
 }

@@ -34,13 +34,13 @@ ghost use Rattle.chk_demux.specs.Shown.{PutsIf, HasPast, HasNew};
 ghost use Rattle.chk_demux.specs.Splitting.{texts, past_in, split_from, ends_past, is_stamped, RunsSo, SplitSoFar, SplitAll, StreamsRise, HoldsStream, stream_chunks, stream_left, all_chunks, all_left};
 
 use crate::blocks::{Block, block_of};
-use crate::giving::{is_of, split_value};
+use crate::giving::split_value;
 use crate::output::Output;
 use crate::recorded::recorded_end;
 use chk_book::{Book, End};
 use chk_bytes::Word;
 use chk_heads::{HeadRef, Heads, JobFault};
-use chk_merge::RecordReader;
+use chk_merge::{RecordReader, is_of};
 use chk_parts::fetch;
 use chk_site::{Site, Who};
 use chk_splitter::Splitter;

@@ -10,7 +10,6 @@ mod preparing;
 mod publishing;
 mod report;
 mod run;
-mod spelling;
 mod tidying;
 
 pub use fault::JoinFault;

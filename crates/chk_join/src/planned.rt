@@ -9,8 +9,9 @@ ghost use Rattle.chk_join.specs.Runs.{HeadsRun, ChosenRun};
 
 use chk_book::End;
 use chk_choose::Choice;
-use chk_compare::{Block, Side, is_of};
+use chk_compare::{Block, Side};
 use chk_heads::Heads;
+use chk_merge::is_of;
 
 /// The chosen records of each stream run from its start to its end. It costs the number of the records.
 pub(crate) fn runs_on(left: &Side<'_>, right: &Side<'_>, choices: &[Choice], ends: &[End]) -> bool

@@ -15,9 +15,9 @@ ghost use Rattle.chk_parts.specs.Publishing.{ReplacesBookOf};
 ghost use Rattle.chk_join.specs.Working.{Worked};
 ghost use Rattle.chk_join.specs.Publishing.{HoldsBook, EndsLegally, PublishedSo};
 
-use crate::spelling::can_be_spelled;
 use chk_book::Book;
 use chk_heads::JobFault;
+use chk_parts::can_be_spelled;
 use chk_site::{Site, Who};
 use std::alloc::Global;
 

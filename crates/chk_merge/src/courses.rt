@@ -35,6 +35,15 @@ impl StreamRef<'_> {
     }
 }
 
+/// The head is of the end's stream.
+pub fn is_of(end: &End, head: &HeadRef<'_>) -> bool
+    ensures { result ≡ is_head_of (end_view end.now).stream (lent_head head.now) }
+{
+    end.name.as_str() == head.key.name
+        && end.source.as_str() == head.key.source
+        && end.kind.as_str() == head.key.kind
+}
+
 /// What is wrong with the records of a stream.
 #[derive(Clone, Copy)]
 pub(crate) enum Break {

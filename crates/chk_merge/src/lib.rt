@@ -20,6 +20,7 @@ mod spans;
 pub use archives::archive_of;
 pub use checking::check_records;
 pub use chk_heads::JobFault;
+pub use courses::is_of;
 pub use faults::head_fault;
 pub use laws::heads_stand_for_chunks;
 pub use merging::merge;

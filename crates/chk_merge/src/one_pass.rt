@@ -1,7 +1,6 @@
 //! The check of all streams' records in one pass over their heads.
 
 ghost use Rattle.std.specs.Prelude.{◌≡◌, ◌<◌, ◌≤◌, length, map, slice_index, true, IsTrue, IfOk, IfSome};
-ghost use Rattle.chk_chunk.specs.Keys.{stream_lt};
 ghost use Rattle.chk_heads.specs.Order.{lent_head};
 ghost use Rattle.chk_book.specs.declared.lists.End.{End as EndStruct};
 ghost use Rattle.chk_book.specs.Views.{end_view};
@@ -12,7 +11,7 @@ ghost use Rattle.chk_merge.specs.OnePass.{end_at, AreOnce, TookHead, AreReached}
 
 use crate::courses::{StreamRef, goes_on};
 use chk_book::End;
-use chk_bytes::{NoMemory, comes_before};
+use chk_bytes::NoMemory;
 use chk_heads::{HeadRef, Heads};
 use std::alloc::Global;
 use std::cmp::Ordering;
@@ -40,7 +39,7 @@ fn is_rising(ends: &[End]) -> bool
     ensures { IsTrue result → AreOnce (map end_view ends.now) }
 {
     for index in 1..ends.len() {
-        if !is_before(&ends[index - 1], &ends[index]) {
+        if !ends[index - 1].is_before(&ends[index]) {
             return false;
         }
     }
@@ -106,15 +105,4 @@ fn compare(end: &End, stream: &StreamRef<'_>) -> Ordering {
         .cmp(stream.source)
         .then(end.kind.as_str().cmp(stream.kind))
         .then(end.name.as_str().cmp(stream.name))
-}
-
-/// The first one's stream comes before the other's.
-fn is_before(end: &End, other: &End) -> bool
-    ensures { result ≡ stream_lt (end_view end.now).stream (end_view other.now).stream }
-{
-    comes_before(end.source.as_str(), other.source.as_str())
-        || (end.source.as_str() == other.source.as_str()
-            && (comes_before(end.kind.as_str(), other.kind.as_str())
-                || (end.kind.as_str() == other.kind.as_str()
-                    && comes_before(end.name.as_str(), other.name.as_str()))))
 }

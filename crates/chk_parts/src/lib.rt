@@ -18,5 +18,5 @@ pub use fetching::{fetch, fetch_by_head};
 pub use gathering::gather_found;
 pub use kept::kept_of;
 pub use laws::{cuts_are_parts, old_asides_are_whole};
-pub use publishing::publish_next;
+pub use publishing::{can_be_spelled, publish_next};
 pub use writing::{Purpose, add_segment};

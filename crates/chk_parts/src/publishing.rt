@@ -3,7 +3,6 @@
 ghost use Rattle.std.specs.Prelude.{◌≡◌, ◌+◌, ◌<◌, ℕ, true, List, length, map, option_map, nat_eq, slice_index_or, IsTrue};
 ghost use Rattle.std.specs.List.{list_all, list_any};
 ghost use Rattle.chk_bytes.specs.Stems.{is_count};
-ghost use Rattle.chk_bytes.specs.Words.{text_lt};
 ghost use Rattle.chk_chunk.specs.Keys.{stream_lt};
 ghost use Rattle.chk_site.specs.History.{Every};
 ghost use Rattle.chk_site.specs.Site.{Adds, LastFailed, OutsideCause};
@@ -49,8 +48,9 @@ pub fn publish_next<S: Site>(
     book.write(alloc, site, who, folder)
 }
 
-/// The book can be spelled.
-fn can_be_spelled(book: &Book) -> bool
+/// The book can be spelled: its numbers are in their ranges, and its segments and streams rise. It goes
+/// over both once.
+pub fn can_be_spelled(book: &Book) -> bool
     ensures { result ≡ true → IsTrue (is_book (written_version (book_view book.now)) (book_view book.now)) }
 {
     let segments = book.segments.as_slice();
@@ -118,30 +118,12 @@ fn are_ends(ends: &[End]) -> bool
     ends.iter().all(|end| is_end(end))
 }
 
-/// The stream of the first one comes before the other one's, in byte order of source, type and name.
-fn comes_before(a: &End, b: &End) -> bool
-    ensures { result ≡ stream_lt (end_view a.now).stream (end_view b.now).stream }
-{
-    is_less(a.source.as_str(), b.source.as_str())
-        || (a.source.as_str() == b.source.as_str()
-            && (is_less(a.kind.as_str(), b.kind.as_str())
-                || (a.kind.as_str() == b.kind.as_str()
-                    && is_less(a.name.as_str(), b.name.as_str()))))
-}
-
-/// In byte order.
-fn is_less(a: &str, b: &str) -> bool
-    ensures { result ≡ text_lt a.now b.now }
-{
-    a < b
-}
-
 /// The streams rise.
 fn ends_rise(ends: &[End]) -> bool
     ensures { result ≡ true → StreamsRise ends.now }
 {
     for i in 1..ends.len() {
-        if !comes_before(&ends[i - 1], &ends[i]) {
+        if !ends[i - 1].is_before(&ends[i]) {
             return false;
         }
     }
