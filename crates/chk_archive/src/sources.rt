@@ -6,7 +6,7 @@ ghost use Rattle.chk_book.specs.Folders.{segment_name};
 ghost use Rattle.chk_archive.specs.Listed.{aside_files, sources_in};
 
 use crate::folder_names::{is_closed, path};
-use chk_book::Book;
+use chk_book::{Book, segment_name};
 use chk_bytes::{NoMemory, Word};
 use std::alloc::Global;
 
@@ -29,15 +29,7 @@ fn asides(alloc: Global, book: &Book) -> Result<Vec<Word>, NoMemory>
 {
     let mut files = Vec::new(alloc);
     if let Some(segment) = &book.aside {
-        files.push(segment_path(alloc, segment.number)?)?;
+        files.push(segment_name(alloc, "archive", segment.number)?)?;
     }
     Ok(files)
-}
-
-/// The file of the archive's segment of this number. One that no call can name counts as want of memory.
-fn segment_path(alloc: Global, number: u64) -> Result<Word, NoMemory>
-    ensures { IfOk result (λ path. path ≡ segment_name (codes "archive") number) }
-{
-    let text = format!(in alloc; "archive/seg.{number}")?;
-    Word::new(alloc, text.as_bytes()).map_err(|_| NoMemory)
 }

@@ -175,7 +175,8 @@ fn is_taken(segments: &[Segment], number: u64) -> bool
     has_number(segments, number)
 }
 
-fn has_number(segments: &[Segment], number: u64) -> bool
+/// One of the segments has this number.
+pub fn has_number(segments: &[Segment], number: u64) -> bool
     ensures { result ≡ list_any (λ g. nat_eq g.number number) segments.now }
 {
     segments.iter().any(|segment| segment.number == number)

@@ -51,7 +51,8 @@ fn version_of(book: &Book) -> u8
     }
 }
 
-fn begin_at_0(ends: &[End]) -> bool
+/// Each stream begins at 0.
+pub fn begin_at_0(ends: &[End]) -> bool
     ensures { result ≡ list_all (λ e. begins_at_0 (end_view e)) ends.now }
 {
     ends.iter().all(|end| end.start == 0)

@@ -23,7 +23,7 @@ ghost use Rattle.chk_compare.specs.Reading.{AreAmong, Fetched};
 use chk_book::Book;
 use chk_bytes::Word;
 use chk_heads::{Heads, JobFault};
-use chk_merge::{RecordReader, check_records};
+use chk_merge::{RecordReader, check_records, most_in};
 use chk_site::{Site, Who};
 use std::alloc::Global;
 
@@ -66,18 +66,6 @@ fn next(file: u32) -> Result<u32, JobFault>
     ensures err { IfErr result (λ fault. fault ≡ NoMemory) }
 {
     file.checked_add(1).ok_or(JobFault::NoMemory)
-}
-
-/// The most bytes of a value in a segment of the folder.
-fn most_in(folder: &str) -> u32
-    ensures most { result ≡ most_in folder.now }
-    ensures few { result ≤ 1048576 }
-{
-    if folder == "demux" {
-        1_048_576
-    } else {
-        131_072
-    }
 }
 
 /// The heads of all records that the book of `folder` names, in order, where their streams go on up to their ends. `names` are

@@ -19,7 +19,6 @@ ghost use Rattle.chk_merge.specs.Gone.{IsUnsound, ShowsSound};
 ghost use Rattle.chk_demux.specs.Shown.{IsDamage, ShowsPut, SpentBy, ShowsSpent};
 ghost use Rattle.chk_parts.specs.Gathering.{AreSound, heads_of};
 ghost use Rattle.chk_book.specs.Books.{book_view};
-ghost use Rattle.chk_book.specs.Folders.{segment_name};
 ghost use Rattle.chk_merge.specs.Segments.{names_of, HasFiles, SparesFiles, AreSettled};
 ghost use Rattle.chk_merge.specs.Checking.{AllGoWell, ToldOfSome};
 ghost use Rattle.chk_merge.specs.Merging.{SoundHeads};
@@ -37,31 +36,12 @@ use crate::publishing::enter;
 use crate::report::DemuxReport;
 use crate::splitting::split_streams;
 use chk_book::Book;
-use chk_bytes::{NoMemory, Word};
+use chk_bytes::Word;
 use chk_heads::{Heads, JobFault};
-use chk_merge::check_records;
+use chk_merge::{check_records, segment_names};
 use chk_parts::gather_found;
 use chk_site::{Site, Who};
 use std::alloc::Global;
-
-/// The names of the segments that the archive's book names, in its order.
-fn segment_names(alloc: Global, book: &Book) -> Result<Vec<Word>, NoMemory>
-    ensures { IfOk result (λ names. names.items ≡ names_of (codes "archive") (book_view book.now)) }
-{
-    let mut names = Vec::new(alloc);
-    for segment in book.segments.as_slice() {
-        names.push(segment_path(alloc, segment.number)?)?;
-    }
-    Ok(names)
-}
-
-/// The file of the archive's segment of this number. One that no call can name counts as want of memory.
-fn segment_path(alloc: Global, number: u64) -> Result<Word, NoMemory>
-    ensures { IfOk result (λ path. path ≡ segment_name (codes "archive") number) }
-{
-    let text = format!(in alloc; "archive/seg.{number}")?;
-    Word::new(alloc, text.as_bytes()).map_err(|_| NoMemory)
-}
 
 /// The heads of the records in these files, in order, where all streams' records run as the archive's book says.
 fn heads_in_order<S: Site>(
@@ -143,7 +123,7 @@ fn split_named<S: Site>(
     ensures works { Adds (S.told site.old) (S.told site.new) (Worked RunsOn result) }
     ensures cause { JobCause (S.fault_count site.old) (S.fault_count site.new) result }
 {
-    let files = segment_names(alloc, archive)?;
+    let files = segment_names(alloc, "archive", archive)?;
     let names = files.as_slice();
     let heads = heads_in_order(alloc, site, who, archive, names)?;
     split_streams(

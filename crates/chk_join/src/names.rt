@@ -5,32 +5,12 @@ ghost use Rattle.chk_bytes.specs.Stems.{is_count};
 ghost use Rattle.chk_world.proofs.Each.{Each};
 ghost use Rattle.chk_book.specs.Books.{book_view};
 ghost use Rattle.chk_book.specs.Folders.{segment_name, segment_stem};
-ghost use Rattle.chk_merge.specs.Segments.{names_of};
 ghost use Rattle.chk_copy.specs.Copying.{joined_segment};
 ghost use Rattle.chk_join.specs.Names.{names_segment, segment_number, unnamed_only, AddsStray, IsStrayNumber, IsStray};
 
-use chk_book::{Book, Segment};
+use chk_book::{Book, Segment, segment_name};
 use chk_bytes::{NoMemory, Word, take_plain_decimal};
 use std::alloc::Global;
-
-/// The names of the segments that a book of the folder names, in its order; its aside segment isn't one of them.
-pub(crate) fn segment_names(alloc: Global, folder: &str, book: &Book) -> Result<Vec<Word>, NoMemory>
-    ensures { IfOk result (λ names. names.items ≡ names_of folder.now (book_view book.now)) }
-{
-    let mut names = Vec::new(alloc);
-    for segment in book.segments.as_slice() {
-        names.push(segment_name(alloc, folder, segment.number)?)?;
-    }
-    Ok(names)
-}
-
-/// The name of a folder's segment. One that no call can name counts as want of memory.
-fn segment_name(alloc: Global, folder: &str, number: u64) -> Result<Word, NoMemory>
-    ensures { IfOk result (λ name. name ≡ segment_name folder.now number) }
-{
-    let text = format!(in alloc; "{folder}/seg.{number}")?;
-    Word::new(alloc, text.as_bytes()).map_err(|_| NoMemory)
-}
 
 /// The files of the segments that a listing of `joined` shows and the book doesn't name.
 pub(crate) fn strays(alloc: Global, book: &Book, names: &[Word]) -> Result<Vec<Word>, NoMemory>

@@ -31,7 +31,6 @@ ghost use Rattle.chk_join.specs.Joined.{can_join, joined_folder, folder_book, re
 ghost use Rattle.chk_join.specs.Preparing.{IsCounted, SpentPlan, WrotePlan, StoodPlan, TookPlan, StandsReady, HasOrder, IsGathered, JoinedSides, JoinedBooks, Covers, IsFolderBook, PreparedFrom, PreparedSo, PreparedLegal};
 
 use crate::beginning::begin;
-use crate::names::segment_names;
 use crate::planned::runs_on;
 use crate::report::JoinReport;
 use crate::tidying::tidy;
@@ -41,6 +40,7 @@ use chk_choose::{Choice, Chosen, Difference, Plan, choose};
 use chk_compare::{Side, sound_heads};
 use chk_copy::write_chosen;
 use chk_heads::JobFault;
+use chk_merge::segment_names;
 use chk_site::{Site, Who};
 use std::alloc::Global;
 

@@ -14,8 +14,7 @@ ghost use Rattle.chk_look.specs.Segments.{Printed};
 use crate::course::Course;
 use crate::fault::LookFault;
 use crate::segment::print_segment;
-use chk_book::{Book, Segment};
-use chk_bytes::{NoMemory, Word};
+use chk_book::{Book, Segment, segment_name};
 use chk_site::{Site, Who};
 use std::alloc::Global;
 
@@ -69,12 +68,4 @@ fn print_numbered<S: Site>(
 {
     let name = segment_name(alloc, folder, segment.number)?;
     print_segment(alloc, site, who, name.as_str(), course, most)
-}
-
-/// The name of a folder's segment. One that no call can name counts as want of memory.
-fn segment_name(alloc: Global, folder: &str, number: u64) -> Result<Word, NoMemory>
-    ensures { IfOk result (λ name. name ≡ segment_name folder.now number) }
-{
-    let text = format!(in alloc; "{folder}/seg.{number}")?;
-    Word::new(alloc, text.as_bytes()).map_err(|_| NoMemory)
 }

@@ -24,5 +24,6 @@ pub use courses::is_of;
 pub use faults::head_fault;
 pub use laws::heads_stand_for_chunks;
 pub use merging::merge;
+pub use names::{most_in, segment_names};
 pub use reader::RecordReader;
 pub use spans::{Ahead, Window};

@@ -5,13 +5,13 @@ ghost use Rattle.chk_book.specs.Books.{book_view};
 ghost use Rattle.chk_book.specs.Folders.{book_name, segment_name, most_in};
 ghost use Rattle.chk_merge.specs.Segments.{names_of};
 
-use chk_book::Book;
+use chk_book::{Book, segment_name};
 use chk_bytes::{NoMemory, Word};
 use std::alloc::Global;
 
 /// The names of the segments that a book of the folder names, in its order; its aside segment
-/// isn't one of them.
-pub(crate) fn segment_names(alloc: Global, folder: &str, book: &Book) -> Result<Vec<Word>, NoMemory>
+/// isn't one of them. A name that no call can take counts as want of memory.
+pub fn segment_names(alloc: Global, folder: &str, book: &Book) -> Result<Vec<Word>, NoMemory>
     ensures { IfOk result (λ names. names.items ≡ names_of folder.now (book_view book.now)) }
 {
     let mut names = Vec::new(alloc);
@@ -19,14 +19,6 @@ pub(crate) fn segment_names(alloc: Global, folder: &str, book: &Book) -> Result<
         names.push(segment_name(alloc, folder, segment.number)?)?;
     }
     Ok(names)
-}
-
-/// The name of a folder's segment. One that no call can name counts as want of memory.
-fn segment_name(alloc: Global, folder: &str, number: u64) -> Result<Word, NoMemory>
-    ensures { IfOk result (λ name. name ≡ segment_name folder.now number) }
-{
-    let text = format!(in alloc; "{folder}/seg.{number}")?;
-    Word::new(alloc, text.as_bytes()).map_err(|_| NoMemory)
 }
 
 /// The name of a folder's book.
@@ -38,7 +30,7 @@ pub(crate) fn book_name(alloc: Global, folder: &str) -> Result<Word, NoMemory>
 }
 
 /// The most bytes of a value in a segment of the folder.
-pub(crate) fn most_in(folder: &str) -> u32
+pub fn most_in(folder: &str) -> u32
     ensures most { result ≡ most_in folder.now }
     ensures few { result ≤ 1048576 }
 {

@@ -1,15 +1,14 @@
 //! Where a stream's end stands in the bytes of a book.
 
 ghost use Rattle.std.specs.Prelude.{◌≡◌, ◌+◌, map, length, IfSome};
-ghost use Rattle.std.specs.List.{list_all};
-ghost use Rattle.chk_world.specs.Books.{begins_at_0, end_bytes, has_starts, written_version};
+ghost use Rattle.chk_world.specs.Books.{end_bytes, has_starts, written_version};
 ghost use Rattle.chk_book.specs.Books.{book_view};
 ghost use Rattle.chk_book.specs.Views.{end_view};
 ghost use Rattle.chk_merge.specs.Streams.{stream_of};
 ghost use Rattle.chk_merge.specs.Archives.{end_place, place_in_book};
 
 use crate::courses::StreamRef;
-use chk_book::{Book, End};
+use chk_book::{Book, End, begin_at_0};
 
 /// The place of a stream's end in the book's bytes, as they are written; `None` where 64 bits
 /// don't hold it.
@@ -47,13 +46,6 @@ fn has_starts(book: &Book) -> bool
     ensures { result ≡ has_starts (written_version (book_view book.now)) }
 {
     book.aside.is_some() || !begin_at_0(book.ends.as_slice())
-}
-
-/// Whether each stream begins at 0.
-fn begin_at_0(ends: &[End]) -> bool
-    ensures { result ≡ list_all (λ e. begins_at_0 (end_view e)) ends.now }
-{
-    ends.iter().all(|end| end.start == 0)
 }
 
 /// How many bytes a stream has in a book.

@@ -1,7 +1,7 @@
 //! A folder's next book is published.
 
-ghost use Rattle.std.specs.Prelude.{◌≡◌, ◌+◌, ◌<◌, ℕ, true, List, length, map, option_map, nat_eq, slice_index_or, IsTrue};
-ghost use Rattle.std.specs.List.{list_all, list_any};
+ghost use Rattle.std.specs.Prelude.{◌≡◌, ◌+◌, ◌<◌, ℕ, true, List, length, map, option_map, slice_index_or, IsTrue};
+ghost use Rattle.std.specs.List.{list_all};
 ghost use Rattle.chk_bytes.specs.Stems.{is_count};
 ghost use Rattle.chk_chunk.specs.Keys.{stream_lt};
 ghost use Rattle.chk_site.specs.History.{Every};
@@ -17,7 +17,7 @@ ghost use Rattle.chk_book.specs.Books.{book_view};
 ghost use Rattle.chk_book.specs.Views.{segment_view, end_view};
 ghost use Rattle.chk_parts.specs.Publishing.{MayFollow, Published, ReplacesBookOf, NumbersRise, StreamsRise};
 
-use chk_book::{Book, End, Segment};
+use chk_book::{Book, End, Segment, has_number};
 use chk_site::{OutsideFault, Site, Who};
 use std::alloc::Global;
 
@@ -138,11 +138,4 @@ fn is_aside(next: u64, segments: &[Segment], aside: &Option<Segment>) -> bool
         Some(segment) => is_segment(next, segment) && !has_number(segments, segment.number),
         None => true,
     }
-}
-
-/// One of the segments has this number.
-fn has_number(segments: &[Segment], number: u64) -> bool
-    ensures { result ≡ list_any (λ g. nat_eq g.number number) segments.now }
-{
-    segments.iter().any(|segment| segment.number == number)
 }
