@@ -9,21 +9,20 @@ ghost use Rattle.chk_world.specs.Sight.{job};
 ghost use Rattle.chk_world.specs.JobSteps.{IsOf, ReadsFile};
 ghost use Rattle.chk_world.proofs.Each.{Each};
 ghost use Rattle.chk_heads.specs.Faults.{JobCause, FailsLast, IsOfRead};
-ghost use Rattle.chk_heads.specs.Order.{no_head, in_head_order};
+ghost use Rattle.chk_heads.specs.Order.{no_head};
 ghost use Rattle.chk_heads.specs.Pieces.{AsksInPieces};
 ghost use Rattle.chk_heads.specs.declared.fault.JobFault.TheVariants.{NoMemory};
 ghost use Rattle.chk_book.specs.Books.{book_view};
 ghost use Rattle.chk_book.specs.Folders.{most_in};
 ghost use Rattle.chk_merge.specs.Segments.{names_of, HasFiles, SparesFiles, AreSettled, GatheredAll};
 ghost use Rattle.chk_merge.specs.Archives.{IsKnown, AreWindows};
-ghost use Rattle.chk_merge.specs.Checking.{AllGoWell, ToldOfSome};
 ghost use Rattle.chk_merge.specs.Merging.{SoundHeads};
 ghost use Rattle.chk_compare.specs.Reading.{AreAmong, Fetched};
 
 use chk_book::Book;
 use chk_bytes::Word;
 use chk_heads::{Heads, JobFault};
-use chk_merge::{RecordReader, check_records, most_in};
+use chk_merge::{RecordReader, check_records, most_in, put_in_order};
 use chk_site::{Site, Who};
 use std::alloc::Global;
 
@@ -95,23 +94,6 @@ pub fn sound_heads<S: Site>(
     let mut heads = gather_all(alloc, site, who, names, most_in(folder))?;
     put_in_order(&mut heads, alloc, book, folder, names)?;
     Ok(heads)
-}
-
-/// Puts the heads in order, where their streams go on up to their ends.
-fn put_in_order(
-    heads: &mut Heads,
-    alloc: Global,
-    book: &Book,
-    folder: &str,
-    names: &[Word],
-) -> Result<(), JobFault>
-    ensures well { OnOk result (AllGoWell (book_view book.now).ends heads.old) }
-    ensures order { OnOk result (heads.new ≡ in_head_order heads.old) }
-    ensures err { IfErr result (ToldOfSome folder.now (book_view book.now) names.now heads.old) }
-{
-    check_records(alloc, book, folder, names, heads)?;
-    heads.sort(alloc)?;
-    Ok(())
 }
 
 /// Makes the record of the head at `index` the one whose value the reader holds. A head of none of the files counts as want of

@@ -20,7 +20,7 @@ ghost use Rattle.chk_demux.specs.Shown.{IsDamage, ShowsPut, SpentBy, ShowsSpent}
 ghost use Rattle.chk_parts.specs.Gathering.{AreSound, heads_of};
 ghost use Rattle.chk_book.specs.Books.{book_view};
 ghost use Rattle.chk_merge.specs.Segments.{names_of, HasFiles, SparesFiles, AreSettled};
-ghost use Rattle.chk_merge.specs.Checking.{AllGoWell, ToldOfSome};
+ghost use Rattle.chk_merge.specs.Checking.{AllGoWell};
 ghost use Rattle.chk_merge.specs.Merging.{SoundHeads};
 ghost use Rattle.chk_demux.specs.Damage.{reads_of, HasCounts, SplitSoundly, RanSoundly, ReadAll};
 ghost use Rattle.chk_demux.specs.Demuxed.{Earlier, Begun, Demuxed, DemuxesBy, NamesStamped, WritesBook};
@@ -38,7 +38,7 @@ use crate::splitting::split_streams;
 use chk_book::Book;
 use chk_bytes::Word;
 use chk_heads::{Heads, JobFault};
-use chk_merge::{check_records, segment_names};
+use chk_merge::{check_records, put_in_order, segment_names};
 use chk_parts::gather_found;
 use chk_site::{Site, Who};
 use std::alloc::Global;
@@ -68,24 +68,8 @@ fn heads_in_order<S: Site>(
     ensures cause { JobCause (S.fault_count site.old) (S.fault_count site.new) result }
 {
     let mut heads = gather_found(alloc, site, who, names)?;
-    put_in_order(&mut heads, alloc, archive, names)?;
+    put_in_order(&mut heads, alloc, archive, "archive", names)?;
     Ok(heads)
-}
-
-/// Puts the heads in order, where all streams' records run as the archive's book says.
-fn put_in_order(
-    heads: &mut Heads,
-    alloc: Global,
-    archive: &Book,
-    names: &[Word],
-) -> Result<(), JobFault>
-    ensures well { OnOk result (AllGoWell (book_view archive.now).ends heads.old) }
-    ensures order { OnOk result (heads.new ≡ in_head_order heads.old) }
-    ensures err { IfErr result (ToldOfSome (codes "archive") (book_view archive.now) names.now heads.old) }
-{
-    check_records(alloc, archive, "archive", names, heads)?;
-    heads.sort(alloc)?;
-    Ok(())
 }
 
 /// Splits the archive from the last records on into the output, and says how many bytes are of no complete record.

@@ -23,7 +23,7 @@ pub use chk_heads::JobFault;
 pub use courses::is_of;
 pub use faults::head_fault;
 pub use laws::heads_stand_for_chunks;
-pub use merging::merge;
+pub use merging::{merge, put_in_order};
 pub use names::{most_in, segment_names};
 pub use reader::RecordReader;
 pub use spans::{Ahead, Window};

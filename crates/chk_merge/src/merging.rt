@@ -104,8 +104,9 @@ fn sound_heads<S: Site>(
     Ok(heads)
 }
 
-/// Puts the heads in order, where their streams go on up to their ends.
-fn put_in_order(
+/// Puts the heads of a folder's records in order, where their streams go on up to the ends of its book;
+/// else it tells the place at which one doesn't. `names` are those of the book's segments.
+pub fn put_in_order(
     heads: &mut Heads,
     alloc: Global,
     book: &Book,
