@@ -6,8 +6,8 @@ ghost use Rattle.chk_world.specs.ArchiveRuns.{is_closed};
 ghost use Rattle.chk_book.specs.Books.{book_view};
 ghost use Rattle.chk_archive.specs.FolderNames.{segment_number, names_segment, is_stray, strays_in, closed_in};
 
-use chk_book::Book;
-use chk_bytes::{NoMemory, Word, take_plain_decimal};
+use chk_book::{Book, names_segment, segment_number};
+use chk_bytes::{NoMemory, Word};
 use std::alloc::Global;
 
 /// The files of the segments that a listing of the archive shows and the book doesn't name.
@@ -57,34 +57,6 @@ fn is_stray(book: &Book, name: &str) -> bool
 {
     match segment_number(name) {
         Some(number) => !names_segment(book, number),
-        None => false,
-    }
-}
-
-/// The number of the segment that has this name in its folder.
-fn segment_number(name: &str) -> Option<u64>
-    ensures { result ≡ segment_number name.now }
-{
-    let digits = name.as_bytes().strip_prefix(b"seg.")?;
-    let number = take_plain_decimal(digits)?;
-    if number > 0 && number < 1 << 63 {
-        Some(number)
-    } else {
-        None
-    }
-}
-
-/// Whether the book names the segment of this number.
-fn names_segment(book: &Book, number: u64) -> bool
-    ensures { result ≡ names_segment (book_view book.now) number }
-{
-    for segment in book.segments.as_slice() {
-        if segment.number == number {
-            return true;
-        }
-    }
-    match &book.aside {
-        Some(segment) => segment.number == number,
         None => false,
     }
 }

@@ -15,3 +15,4 @@ pub mod Adding
 pub mod Causes
 pub mod Laws
 pub mod Publishing
+pub mod SegmentNames

@@ -17,7 +17,7 @@ pub use book::{Book, load_book};
 pub use chk_heads::JobFault;
 pub use laws::books_have_no_damage;
 pub use lists::{End, Ends, Segment, Segments};
-pub use paths::segment_name;
+pub use paths::{names_segment, segment_name, segment_number};
 pub use reading::has_number;
 pub use segmenter::Segmenter;
 pub use writing::begin_at_0;

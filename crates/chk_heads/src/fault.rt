@@ -52,7 +52,7 @@ impl From<OutsideFault> for JobFault {
 }
 
 /// The fault of the file `name` that is damaged at `at`, or want of memory for its name.
-pub(crate) fn damaged(alloc: Global, name: &str, at: u64) -> JobFault
+pub fn damaged(alloc: Global, name: &str, at: u64) -> JobFault
     requires { IsTrue (is_word name.now) }
     ensures { IsDamage name.now at result }
 {

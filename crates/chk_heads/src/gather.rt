@@ -366,7 +366,7 @@ impl Heads {
 }
 
 /// Where the file is damaged, if it ends where all was fed: within its header, or within an entry.
-fn unfinished(pieces: &Pieces) -> Option<u64>
+pub fn unfinished(pieces: &Pieces) -> Option<u64>
     ensures { (fed : List ℕ) → IsFed pieces.now fed → Stands (fed_limit pieces.now) fed (fed_marker pieces.now) (fed_place pieces.now) More
         → IsEnd fed (fed_place pieces.now) result }
 {

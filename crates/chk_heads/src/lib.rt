@@ -10,7 +10,7 @@ mod reading;
 mod recent;
 mod recents;
 
-pub use fault::JobFault;
-pub use gather::{HeadRef, Heads, SLACK};
+pub use fault::{JobFault, damaged};
+pub use gather::{HeadRef, Heads, SLACK, unfinished};
 pub use laws::chunks_have_no_damage;
 pub use reading::{PIECE, read_file, read_piece};

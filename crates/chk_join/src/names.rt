@@ -1,15 +1,14 @@
 //! The names of a folder's files.
 
 ghost use Rattle.std.specs.Prelude.{◌≡◌, ℕ, Contains, IfOk, IfSome, IsTrue, OnOk};
-ghost use Rattle.chk_bytes.specs.Stems.{is_count};
 ghost use Rattle.chk_world.proofs.Each.{Each};
 ghost use Rattle.chk_book.specs.Books.{book_view};
 ghost use Rattle.chk_book.specs.Folders.{segment_name, segment_stem};
 ghost use Rattle.chk_copy.specs.Copying.{joined_segment};
 ghost use Rattle.chk_join.specs.Names.{names_segment, segment_number, unnamed_only, AddsStray, IsStrayNumber, IsStray};
 
-use chk_book::{Book, Segment, segment_name};
-use chk_bytes::{NoMemory, Word, take_plain_decimal};
+use chk_book::{Book, Segment, names_segment, segment_name, segment_number};
+use chk_bytes::{NoMemory, Word};
 use std::alloc::Global;
 
 /// The files of the segments that a listing of `joined` shows and the book doesn't name.
@@ -46,34 +45,5 @@ fn stray_number(book: &Book, name: &str) -> Option<u64>
         None
     } else {
         Some(number)
-    }
-}
-
-/// The number of the segment that has this name in its folder.
-fn segment_number(name: &str) -> Option<u64>
-    ensures is { result ≡ segment_number name.now }
-    ensures count { IfSome result (λ n. IsTrue (is_count n)) }
-{
-    let digits = name.as_bytes().strip_prefix(b"seg.")?;
-    let number = take_plain_decimal(digits)?;
-    if number > 0 && number < 1 << 63 {
-        Some(number)
-    } else {
-        None
-    }
-}
-
-/// Whether the book names the segment of this number.
-fn names_segment(book: &Book, number: u64) -> bool
-    ensures { result ≡ names_segment (book_view book.now) number }
-{
-    for segment in book.segments.as_slice() {
-        if segment.number == number {
-            return true;
-        }
-    }
-    match &book.aside {
-        Some(segment) => segment.number == number,
-        None => false,
     }
 }

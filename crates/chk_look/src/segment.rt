@@ -8,7 +8,7 @@ ghost use Rattle.std.specs.Prelude.{take};
 ghost use Rattle.chk_salvage.specs.Feeding.{IsFed, fed_limit, fed_marker, fed_place, Stands};
 ghost use Rattle.chk_salvage.specs.declared.fed.Fed.TheVariants.{More};
 ghost use Rattle.chk_world.specs.Sight.{job};
-ghost use Rattle.chk_heads.specs.Feeding.{AreChunks, IsEnd};
+ghost use Rattle.chk_heads.specs.Feeding.{AreChunks};
 ghost use Rattle.chk_look.specs.Courses.{KeepsCourse, FollowedFed};
 ghost use Rattle.chk_look.specs.Faults.{FailsLast, LookCause};
 ghost use Rattle.chk_look.specs.Looking.{Sees};
@@ -18,7 +18,7 @@ use crate::course::Course;
 use crate::fault::{LookFault, damaged};
 use crate::saying::{look, say};
 use chk_bytes::Bytes;
-use chk_heads::SLACK;
+use chk_heads::{SLACK, unfinished};
 use chk_salvage::Pieces;
 use chk_site::{OutsideFault, Site, Who};
 use std::alloc::Global;
@@ -91,17 +91,6 @@ fn follow<S: Site>(
         Ok(()) => Ok(stop),
         Err(fault) => Err(fault),
     }
-}
-
-/// Where the file is damaged, if it ends where all was fed: within its header, or within an entry.
-fn unfinished(pieces: &Pieces) -> Option<u64>
-    ensures { (fed : List ℕ) → IsFed pieces.now fed → Stands (fed_limit pieces.now) fed (fed_marker pieces.now) (fed_place pieces.now) More
-        → IsEnd fed (fed_place pieces.now) result }
-{
-    if pieces.place() == 0 || pieces.left() > 0 {
-        return Some(pieces.place());
-    }
-    None
 }
 
 /// Whether the file is whole, if it ends where all was fed.

@@ -2,7 +2,6 @@
 
 ghost use Rattle.std.specs.Prelude.{◌<◌, length, slice_index_or, IsTrue, Some};
 ghost use Rattle.chk_bytes.specs.Words.{is_word};
-ghost use Rattle.chk_heads.specs.Faults.{IsDamage};
 ghost use Rattle.chk_heads.specs.Order.{no_head};
 ghost use Rattle.chk_book.specs.Books.{book_view};
 ghost use Rattle.chk_merge.specs.Streams.{stream_of};
@@ -14,19 +13,8 @@ use crate::names::book_name;
 use crate::places::end_place;
 use chk_book::Book;
 use chk_bytes::Word;
-use chk_heads::{Heads, JobFault};
+use chk_heads::{Heads, JobFault, damaged};
 use std::alloc::Global;
-
-/// The fault of the file `name` that is damaged at `at`, or want of memory for its name.
-pub(crate) fn damaged(alloc: Global, name: &str, at: u64) -> JobFault
-    requires { IsTrue (is_word name.now) }
-    ensures { IsDamage name.now at result }
-{
-    match Word::from_text(alloc, name) {
-        Ok(name) => JobFault::Damaged { name, at },
-        Err(_) => JobFault::NoMemory,
-    }
-}
 
 /// The fault of what is wrong with a stream's records. A head of no file, and a place that 64 bits
 /// don't hold, count as want of memory.

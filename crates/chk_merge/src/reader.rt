@@ -2,11 +2,10 @@
 
 ghost use Rattle.std.specs.Prelude.{◌+◌, ◌≤◌, length};
 
-use crate::faults::damaged;
 use crate::reading::read_run;
 use crate::spans::{Ahead, Run, Span, run_of, value_span};
 use chk_bytes::Bytes;
-use chk_heads::{HeadRef, Heads, JobFault};
+use chk_heads::{HeadRef, Heads, JobFault, damaged};
 use chk_site::{OutsideFault, Site, Who};
 use std::alloc::Global;
 

@@ -5,8 +5,8 @@ use Rattle.chk_world.specs.Books.{Segment}
 use Rattle.chk_world.specs.Jobs.{segment_list}
 use Rattle.chk_book.specs.Views.{segment_view}
 use Rattle.chk_book.specs.Books.{book_view}
-use Rattle.chk_join.specs.Names.{names_segment}
-use Rattle.chk_join.proofs.names.names_segment.Given as goal
+use Rattle.chk_book.specs.SegmentNames.{names_segment}
+use Rattle.chk_book.proofs.paths.names_segment.Given as goal
 
 abbrev pub invariant-loop-segment : goal.invariant-loop-segment
 invariant-loop-segment l =
