@@ -92,7 +92,7 @@ impl Adaptors {
         ensures place { result ≡ position (is_of kind.now path.now) self.now.items }
         ensures few { length self.now.items ≤ 10000 }
     {
-        let _word = kind.as_str();
+        let _sound = kind.as_str();
         match stream_key(self.alloc, kind, path) {
             Ok(key) => self.streams.get_index_of(key.as_str()),
             Err(_) => place_among(self.as_slice(), kind, path),

@@ -249,7 +249,7 @@ impl Agent {
         ensures last { Adds (S.told site.old) (S.told site.new) (FailsLast result) }
         ensures cause { AgentCause (S.fault_count site.old) (S.fault_count site.new) result }
     {
-        let _ready = self.ready();
+        let _sound = self.ready();
         let words = copies(kind, path)?;
         let after = self.newest(alloc, site, class, path)?;
         let place = Place {
@@ -358,7 +358,7 @@ impl Agent {
         ensures last { Adds (S.told site.old) (S.told site.new) (FailsLast result) }
         ensures cause { AgentCause (S.fault_count site.old) (S.fault_count site.new) result }
     {
-        let _used = self.delivery.used();
+        let _sound = self.delivery.used();
         let number = self.adaptors.len();
         let keys = self.adaptors.room_for(&adaptor)?;
         match self.write_lines(alloc, site, &check) {
@@ -370,7 +370,7 @@ impl Agent {
             }
         }
         self.delivery.begin(number, start);
-        let _begun = self.delivery.used();
+        let _sound_begun = self.delivery.used();
         self.adaptors.add(keys, adaptor);
         self.saved = check.lines;
         Ok(())
@@ -405,8 +405,8 @@ fn copies(kind: &Word, path: &Word) -> Result<StreamWords, NoMemory>
     ensures { IfOk result (λ words. (words.kind ≡ kind.now) × (words.path ≡ path.now)
         × IsTrue (is_word kind.now) × IsTrue (is_word path.now)) }
 {
-    let _kind = kind.as_str();
-    let _path = path.as_str();
+    let _sound_kind = kind.as_str();
+    let _sound_path = path.as_str();
     Ok(StreamWords {
         kind: kind.copy()?,
         path: path.copy()?,

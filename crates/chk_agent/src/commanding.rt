@@ -194,7 +194,7 @@ impl Agent {
         let count = self.delivery.addresses();
         let reply = answer(alloc, Answer::Reloaded { count }, Then::Go)?;
         self.delivery.first_address();
-        let _used = self.delivery.used();
+        let _sound = self.delivery.used();
         Ok(reply)
     }
 
@@ -207,7 +207,7 @@ impl Agent {
         };
         let reply = answer(alloc, Answer::Stopped { name }, Then::Go)?;
         self.delivery.stop(alloc, &[place])?;
-        let _used = self.delivery.used();
+        let _sound = self.delivery.used();
         let committed = self.delivery.committed_end(place);
         self.adaptors.stop(place, committed);
         Ok(reply)
@@ -221,7 +221,7 @@ impl Agent {
         let count = gone.as_slice().len() as u32;
         let reply = answer(alloc, Answer::StoppedAll { count }, Then::Go)?;
         self.delivery.stop(alloc, gone.as_slice())?;
-        let _used = self.delivery.used();
+        let _sound = self.delivery.used();
         stop_live(&mut self.adaptors, &self.delivery);
         Ok(reply)
     }

@@ -55,6 +55,6 @@ impl Agent {
         ensures { self.new ≡ first_again self.old }
     {
         self.delivery.first_address();
-        let _used = self.delivery.used();
+        let _sound = self.delivery.used();
     }
 }

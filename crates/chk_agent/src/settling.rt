@@ -49,7 +49,7 @@ impl Agent {
     {
         let mut check = lines_now(alloc, self.adaptors.as_slice(), &self.delivery)?;
         let gone = self.delivery.expire(alloc, now)?;
-        let _used = self.delivery.used();
+        let _sound = self.delivery.used();
         let reset = gone.as_slice().len() as u32;
         send_back(&mut self.adaptors, &self.delivery, gone.as_slice());
         note_ended(

@@ -52,8 +52,8 @@ impl Agent {
             return Ok(Stepped::Held { used });
         }
         let _sound = self.delivery.used();
-        let _word = self.cluster.as_str();
-        let _name = self.who.name.as_str();
+        let _sound_word = self.cluster.as_str();
+        let _sound_name = self.who.name.as_str();
         let before = self.adaptors.at(adaptor).before();
         let step = self.adaptors.step(alloc, site, &self.who, adaptor)?;
         match step {
@@ -71,7 +71,7 @@ impl Agent {
                     self.adaptors.undo(adaptor, before);
                     return Err(AgentFault::NoMemory);
                 }
-                let _used = self.delivery.used();
+                let _sound_still = self.delivery.used();
                 self.last = Some(adaptor);
                 Ok(Stepped::Read { bytes: size })
             }

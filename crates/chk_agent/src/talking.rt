@@ -31,7 +31,7 @@ impl Agent {
         ensures failed { CauseBy (S.fault_count site.old) (S.fault_count site.new) (fails_post result) }
     {
         let given = self.delivery.post(alloc, site, &self.who);
-        let _used = self.delivery.used();
+        let _sound = self.delivery.used();
         as_agent(given)
     }
 
@@ -50,7 +50,7 @@ impl Agent {
         ensures failed { CauseBy (S.fault_count site.old) (S.fault_count site.new) (fails_answer result) }
     {
         let given = self.delivery.post_reply(alloc, site, &self.who, now);
-        let _used = self.delivery.used();
+        let _sound = self.delivery.used();
         as_agent(given)
     }
 
@@ -65,7 +65,7 @@ impl Agent {
         ensures failed { CauseBy (S.fault_count site.old) (S.fault_count site.new) (fails_poll result) }
     {
         let given = self.delivery.poll(alloc, site, &self.who);
-        let _used = self.delivery.used();
+        let _sound = self.delivery.used();
         as_agent(given)
     }
 
@@ -83,7 +83,7 @@ impl Agent {
         ensures failed { CauseBy (S.fault_count site.old) (S.fault_count site.new) (fails_lengths result) }
     {
         let given = self.delivery.poll_reply(alloc, site, &self.who);
-        let _used = self.delivery.used();
+        let _sound = self.delivery.used();
         as_agent(given)
     }
 }

@@ -21,7 +21,7 @@ pub(crate) fn put_line(lines: &mut Bytes, stem: &Stem, number: u64) -> Result<()
     ensures of_sink { IsTrue (is_stem stem.now) }
     ensures wide { number < 2 ^ 64 }
 {
-    let _of_sink = stem.number();
+    let _sound = stem.number();
     stem.write(lines)?;
     lines.push_all(b" ")?;
     put_decimal(lines, number)?;

@@ -137,7 +137,7 @@ impl Delivery {
         ensures sound { IsSound self.now }
         ensures table { IsSoundTable self.now.table }
     {
-        let _free = self.acks.free();
+        let _sound = self.acks.free();
         self.queue.used()
     }
 
@@ -491,7 +491,7 @@ impl Delivery {
     {
         let marks = marks_of(alloc, self.acks.adaptors(), gone)?;
         let kept = kept_places(alloc, &self.owners, &marks)?;
-        let _free = self.acks.free();
+        let _sound = self.acks.free();
         self.queue.keep(&kept);
         keep_others(&mut self.owners, &marks);
         self.acks.reset(&marks);
@@ -574,7 +574,7 @@ fn add_rows(
     requires room { length acks.old.rows + length front.now ≤ acks.old.room }
     ensures { acks.new ≡ answered_rows now owners.now.items front.now lines.entry acks.old }
 {
-    let _free = acks.free();
+    let _sound = acks.free();
     for place in 0..front.len() {
         let Some((stem, number)) = lines.next() else {
             unreachable!();

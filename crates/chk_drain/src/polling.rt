@@ -77,7 +77,7 @@ fn pause<S: Site>(alloc: Global, agent: &Agent, site: &mut S) -> Result<(), Agen
     ensures last { Adds (S.told site.old) (S.told site.new) (FailsLast result) }
     ensures cause { AgentCause (S.fault_count site.old) (S.fault_count site.new) result }
 {
-    let _free = agent.free_rows();
+    let _sound = agent.free_rows();
     let given = site.pause(alloc, agent.who(), BETWEEN_POLLS);
     done(Call::Pause, given)?;
     Ok(())

@@ -81,7 +81,7 @@ pub(crate) fn post_next<S: Site>(
         → Part now reads polls p agent.old (PostedBy p agent.old) result agent.new
         (S.told site.old) (S.told site.new) (S.fault_count site.old) (S.fault_count site.new) }
 {
-    let _most = agent.most_rows();
+    let _sound = agent.most_rows();
     if let Some(end) = poll_until_free(alloc, agent, site, polls, 1) {
         return Some(end);
     }

@@ -71,7 +71,7 @@ fn read_out<S: Site>(
         match agent.step(alloc, site, adaptor) {
             Ok(Stepped::AtEnd) => return None,
             Ok(Stepped::Held { .. }) => {
-                let _free = agent.free_rows();
+                let _sound = agent.free_rows();
                 if let Some(end) = post_next(alloc, agent, site, now, polls) {
                     return Some(end);
                 }

@@ -87,7 +87,7 @@ fn send_post<S: Site>(alloc: Global, site: &mut S, agent: &mut Agent) -> Result<
 {
     match agent.post(alloc, site) {
         Ok(Posted::Sent { .. }) => {
-            let _ready = agent.ready();
+            let _sound = agent.ready();
             Ok(())
         }
         Ok(Posted::Failed) => Err(ExchangeFault::Outside { call: Call::Send }),
@@ -190,7 +190,7 @@ fn send_poll<S: Site>(alloc: Global, site: &mut S, agent: &mut Agent) -> Result<
 {
     match agent.poll(alloc, site) {
         Ok(Polled::Sent { .. }) => {
-            let _ready = agent.ready();
+            let _sound = agent.ready();
             Ok(())
         }
         Ok(Polled::Failed) => Err(ExchangeFault::Outside { call: Call::Send }),

@@ -129,7 +129,7 @@ fn put_stems(out: &mut Bytes, stems: &[Stem]) -> Result<(), NoMemory>
 {
     for (place, stem) in stems.iter().enumerate() {
         put_separator(out, place)?;
-        let _number = stem.number();
+        let _sound = stem.number();
         stem.write(out)?;
     }
     Ok(())

@@ -106,9 +106,9 @@ fn segments_rise(segments: &[Segment]) -> bool
 fn is_end(end: &End) -> bool
     ensures { result ≡ is_end (end_view end.now) }
 {
-    let _source = end.source.as_str();
-    let _kind = end.kind.as_str();
-    let _name = end.name.as_str();
+    let _sound_source = end.source.as_str();
+    let _sound_kind = end.kind.as_str();
+    let _sound_name = end.name.as_str();
     end.start < 1 << 62 && end.start <= end.end && end.end < 1 << 63
 }
 

@@ -52,7 +52,7 @@ pub(crate) fn deliver<S: Site>(
     post_rest(alloc, site, agent, collector, collecting, now)?;
     let rows = agent.most_rows();
     commit_rows(alloc, site, agent, collector, collecting, now, rows)?;
-    let _free = agent.free_rows();
+    let _sound = agent.free_rows();
     let _settled = agent.settle(alloc, site, now)?;
     Ok(())
 }

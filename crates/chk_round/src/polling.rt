@@ -49,7 +49,7 @@ pub(crate) fn make_room<S: Site>(
     ensures only { IfErr result IsNoRead }
     ensures cause { RoundCause (S.fault_count site.old) (S.fault_count site.new) result }
 {
-    let _most = agent.most_rows();
+    let _sound = agent.most_rows();
     if agent.free_rows() > 0 {
         Ok(())
     } else {

@@ -104,7 +104,7 @@ fn read_out<S: Site>(
     let mut count = 0;
     'reads: loop {
         let step = agent.step(alloc, site, adaptor)?;
-        let _free = agent.free_rows();
+        let _sound = agent.free_rows();
         match step {
             Stepped::AtEnd => return Ok(()),
             Stepped::Held { .. } => {

@@ -55,7 +55,7 @@ pub(crate) fn run_pair<S: Site>(
     ensures cause { RoundCause (S.fault_count site.old) (S.fault_count site.new) result }
 {
     read_all(alloc, site, agent, collector, collecting, now, reads)?;
-    let _read = agent.ready();
+    let _sound_read = agent.ready();
     deliver(alloc, site, agent, collector, collecting, now)?;
     let _sound = agent.ready();
     let report = close(alloc, site, collector, archiving)?;

@@ -5,7 +5,7 @@ use Rattle.chk_delivery.proofs.delivery.add_rows.Goals as goal
 pub loop-place-init : goal.loop-place-init
 loop-place-init c =
     rows_begin c.args.now c.args.owners.now.items c.args.front.now c.args.lines c.args.acks.now c.requires.as_many c.requires.turn c.requires.room
-    c.free-free.ensures.sound.as_many
+    c.free-sound.ensures.sound.as_many
 
 -- the row that comes next
 next_row : (c : goal.After-len) → MayAdd c.loop-place.acks c.index-owner.result.now c.index-front-place.result

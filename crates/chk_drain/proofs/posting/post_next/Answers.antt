@@ -4,8 +4,8 @@ use Rattle.chk_drain.proofs.posting.post_next.Goals as goal
 
 pub poll_until_free-requires : goal.poll_until_free-requires
 poll_until_free-requires g c =
-    let most = c.most_rows-most.ensures.most in
-    let some = c.most_rows-most.ensures.some in
+    let most = c.most_rows-sound.ensures.most in
+    let some = c.most_rows-sound.ensures.some in
     record { ready = c.requires.ready; few = omega (arith, most, some); wants = inl refl }
 
 pub returns-in-Some : goal.returns-in-Some

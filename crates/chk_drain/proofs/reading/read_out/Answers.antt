@@ -33,7 +33,7 @@ post_next-requires g c = record {
       (step_talks c.reads.agent c.step.new.self c.args.adaptor c.step.result c.step.ensures.told)
       c.step.ensures.cause
       c.in-Ok-Held.field-0-0 (c.in-Ok-Held.is ∙ ap Ok c.in-Ok-Held.field-0-is)
-      c.free_rows-free.ensures.sound;
+      c.free_rows-sound.ensures.sound;
 }
 
 pub overflow_add-count : goal.overflow_add-count
@@ -66,7 +66,7 @@ reads-preserved-in_default g c =
     (step_talks c.reads.agent c.step.new.self c.args.adaptor c.step.result c.step.ensures.told)
     c.step.ensures.cause
     c.in-Ok-Held.field-0-0 (c.in-Ok-Held.is ∙ ap Ok c.in-Ok-Held.field-0-is)
-    c.free_rows-free.ensures.sound c.post_next.new.agent c.post_next.result
+    c.free_rows-sound.ensures.sound c.post_next.new.agent c.post_next.result
     (λ reads. c.post_next.ensures reads)
     c.in_default.is
 
@@ -78,7 +78,7 @@ reads-smaller-in_default g c =
     (step_talks c.reads.agent c.step.new.self c.args.adaptor c.step.result c.step.ensures.told)
     c.step.ensures.cause
     c.in-Ok-Held.field-0-0 (c.in-Ok-Held.is ∙ ap Ok c.in-Ok-Held.field-0-is)
-    c.free_rows-free.ensures.sound c.post_next.new.agent c.post_next.result
+    c.free_rows-sound.ensures.sound c.post_next.new.agent c.post_next.result
     (λ reads. c.post_next.ensures reads)
     c.in_default.is in
     omega (arith, less)
@@ -111,7 +111,7 @@ returns-in-Some-clause-part g c =
     (step_talks c.reads.agent c.step.new.self c.args.adaptor c.step.result c.step.ensures.told)
     c.step.ensures.cause
     c.in-Ok-Held.field-0-0 (c.in-Ok-Held.is ∙ ap Ok c.in-Ok-Held.field-0-is)
-    c.free_rows-free.ensures.sound c.post_next.new.agent c.post_next.result
+    c.free_rows-sound.ensures.sound c.post_next.new.agent c.post_next.result
     (λ reads. c.post_next.ensures reads)
     c.in-Some.end c.in-Some.is
 

@@ -9,5 +9,5 @@ loop-place-preserved c =
       written = stems_more c.args.stems.now c.loop-place.place stem stem c.args.out.now c.loop-place.out c.put_separator.new.out c.write.new.out
           c.loop-place-test.true (sym c.index-stems-place.is) c.loop-place.invariant.written c.in_ok-put_separator.ensures c.in_ok-write.ensures.ok;
       valid = valid_more c.args.stems.now c.loop-place.place stem stem c.loop-place-test.true (sym c.index-stems-place.is)
-          c.loop-place.invariant.valid c.number-number.ensures.stem;
+          c.loop-place.invariant.valid c.number-sound.ensures.stem;
     }

@@ -119,7 +119,7 @@ returns-clause-all g c =
     c.in_ok-post_rest.ensures.all
     (subst (λ n. HasFree n c.post_rest.new.agent c.commit_rows.new.agent) c.most_rows-rows.ensures.most c.in_ok-commit_rows.ensures.free)
     (let most = c.most_rows-rows.ensures.most in let some = c.most_rows-rows.ensures.some in omega (arith, most, some))
-    c.free_rows-free.ensures.sound c.free_rows-free.ensures.table c.requires.ready c.in_ok-_settled.ensures.state
+    c.free_rows-sound.ensures.sound c.free_rows-sound.ensures.table c.requires.ready c.in_ok-_settled.ensures.state
 
 pub returns-clause-same : goal.returns-clause-same
 returns-clause-same g c =
@@ -145,7 +145,7 @@ returns-clause-live g c =
     c.in_ok-post_rest.ensures.all
     (subst (λ n. HasFree n c.post_rest.new.agent c.commit_rows.new.agent) c.most_rows-rows.ensures.most c.in_ok-commit_rows.ensures.free)
     (let most = c.most_rows-rows.ensures.most in let some = c.most_rows-rows.ensures.some in omega (arith, most, some))
-    c.free_rows-free.ensures.sound c.in_ok-_settled.ensures.state
+    c.free_rows-sound.ensures.sound c.in_ok-_settled.ensures.state
 
 pub returns-in_err-post_rest-clause-last : goal.returns-in_err-post_rest-clause-last
 returns-in_err-post_rest-clause-last g c =

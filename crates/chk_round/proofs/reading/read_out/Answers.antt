@@ -49,7 +49,7 @@ post_next-requires-clause-address g c =
 
 pub post_next-requires-clause-some : goal.post_next-requires-clause-some
 post_next-requires-clause-some g c =
-    held_some c.step.new.self c.free_rows-free.ensures.sound
+    held_some c.step.new.self c.free_rows-sound.ensures.sound
     (held_is c.args.adaptor c.reads.count c.args.reads c.args.collector.now c.reads.collector c.args.agent.now c.reads.agent
     c.reads.invariant c.step.new.self (Ok c.in_ok-step.step) c.in_ok-step.ensures.told c.in_ok-step.ensures.state
     c.in-Held.used (ap Ok c.in-Held.is))
@@ -60,7 +60,7 @@ reads-smaller-in-Continue-branch-2 g c =
     c.reads.invariant c.step.new.self (Ok c.in_ok-step.step) c.in_ok-step.ensures.told c.in_ok-step.ensures.state
     c.in-Held.used (ap Ok c.in-Held.is) c.post_next.new.collector c.post_next.new.agent
     c.in_ok-post_next-in-Held.ensures.joint c.post_next.ensures.same c.in_ok-post_next-in-Held.ensures.some
-    c.free_rows-free.ensures.sound c.in_ok-post_next-in-Held.ensures.sends c.in_ok-post_next-in-Held.ensures.acts
+    c.free_rows-sound.ensures.sound c.in_ok-post_next-in-Held.ensures.sends c.in_ok-post_next-in-Held.ensures.acts
     c.in_ok-post_next-in-Held.ensures.rows
 
 pub reads-preserved-in-Continue-branch-2 : goal.reads-preserved-in-Continue-branch-2
@@ -69,7 +69,7 @@ reads-preserved-in-Continue-branch-2 g c =
     c.reads.invariant c.step.new.self (Ok c.in_ok-step.step) c.in_ok-step.ensures.told c.in_ok-step.ensures.state
     c.in-Held.used (ap Ok c.in-Held.is) c.post_next.new.collector c.post_next.new.agent
     c.in_ok-post_next-in-Held.ensures.joint c.post_next.ensures.same c.in_ok-post_next-in-Held.ensures.some
-    c.free_rows-free.ensures.sound c.in_ok-post_next-in-Held.ensures.sends c.in_ok-post_next-in-Held.ensures.acts
+    c.free_rows-sound.ensures.sound c.in_ok-post_next-in-Held.ensures.sends c.in_ok-post_next-in-Held.ensures.acts
     c.in_ok-post_next-in-Held.ensures.rows
     (g.S.Site.fault_count c.post_next.new.site)
     (let one = c.in_ok-step.ensures.cause in let two = c.in_ok-post_next-in-Held.ensures.cause in omega (arith, one, two))

@@ -110,7 +110,7 @@ returns-clause-told g c stamped started acting run j_in j_acts steady =
     (c.deliver.ensures.same.collector ∙ c.read_all.ensures.same.collector) (all.source ∙ on.source) run in
     round_ends stamped started acting c.args.collector.now c.args.agent.now run c.read_all.new.collector c.read_all.new.agent
     c.read_all.ensures.same.collector on (c.in_ok-read_all.ensures.read stamped started acting run)
-    c.deliver.new.collector c.deliver.new.agent c.in_ok-deliver.ensures.joint steady c.ready-read.ensures.sound all
+    c.deliver.new.collector c.deliver.new.agent c.in_ok-deliver.ensures.joint steady c.ready-sound_read.ensures.sound all
     c.in_ok-deliver.ensures.sends
     (reads_given stamped started acting c.args.collector.now c.args.agent.now run c.read_all.new.collector c.read_all.new.agent
     c.read_all.ensures.same.collector on (c.in_ok-read_all.ensures.read stamped started acting run)

@@ -7,4 +7,4 @@ returns-in-Ok-clause-place c =
     c.get_index_of.ensures.index
     ∙ find_is c.self.inside c.args.self.now c.self.view_is c.self.invariant c.args.kind.now
     c.args.path.now c.as_str.result.now
-    c.as_str-word.ensures.word (c.as_str.ensures.value ∙ c.in-Ok.ensures)
+    c.as_str-sound.ensures.word (c.as_str.ensures.value ∙ c.in-Ok.ensures)

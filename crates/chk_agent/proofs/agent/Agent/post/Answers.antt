@@ -11,7 +11,7 @@ invariant_of-self g c = record {
   role = c.self.invariant.role;
   sound = posted_sound c.self.inside.who
       (agent_view c.self.inside) c.self.invariant.sound c.post-given.ensures.state
-      c.used-used.ensures.sound;
+      c.used-sound.ensures.sound;
 }
 
 pub returns-clause-state : goal.returns-clause-state

@@ -65,8 +65,8 @@ note_ended-requires-clause-few g c =
     let w = went_back c.args.now s d back c.in_ok-gone.gone.items c.as_slice-3.result.now s.adaptors
     c.in_ok-gone.ensures.ok
     c.in_ok-gone.ensures.gone c.as_slice-3.ensures.value refl c.send_back.ensures
-    c.used-used.ensures.sound
-    c.used-used.ensures.table in
+    c.used-sound.ensures.sound
+    c.used-sound.ensures.table in
     let good = back_sound c.args.now s sound d back w in
     let few = good.few in
     let size = ap length c.as_slice-4.ensures in
@@ -81,8 +81,8 @@ note_ended-requires-clause-known g c =
     let w = went_back c.args.now s d back c.in_ok-gone.gone.items c.as_slice-3.result.now s.adaptors
     c.in_ok-gone.ensures.ok
     c.in_ok-gone.ensures.gone c.as_slice-3.ensures.value refl c.send_back.ensures
-    c.used-used.ensures.sound
-    c.used-used.ensures.table in
+    c.used-sound.ensures.sound
+    c.used-sound.ensures.table in
     let good = back_sound c.args.now s sound d back w in
     let few = good.few in
     let size = ap length c.as_slice-4.ensures in
@@ -98,8 +98,8 @@ note_ended-requires-clause-lines g c =
     let w = went_back c.args.now s d back c.in_ok-gone.gone.items c.as_slice-3.result.now
     s.adaptors c.in_ok-gone.ensures.ok
     c.in_ok-gone.ensures.gone c.as_slice-3.ensures.value refl c.send_back.ensures
-    c.used-used.ensures.sound
-    c.used-used.ensures.table in
+    c.used-sound.ensures.sound
+    c.used-sound.ensures.table in
     ap (map shown) c.as_mut_slice.ensures.value
     ∙ (c.in_ok-check.ensures ∙ (ap (λ xs. lines_at xs s.delivery.table.committed) c.as_slice.ensures
     ∙ (sym (back_lines c.args.now s sound d back w)
@@ -114,8 +114,8 @@ invariant_of-self-2 g c =
     let w = went_back c.args.now s d back c.in_ok-gone.gone.items c.as_slice-3.result.now
     s.adaptors c.in_ok-gone.ensures.ok
     c.in_ok-gone.ensures.gone c.as_slice-3.ensures.value refl c.send_back.ensures
-    c.used-used.ensures.sound
-    c.used-used.ensures.table in
+    c.used-sound.ensures.sound
+    c.used-sound.ensures.table in
     record { role = c.self.invariant.role; sound = back_sound c.args.now s sound d back w }
 
 pub write_changed-requires-clause-lines : goal.write_changed-requires-clause-lines
@@ -136,8 +136,8 @@ returns-clause-state g c =
     let w = went_back c.args.now s d back c.in_ok-gone.gone.items c.as_slice-3.result.now
     s.adaptors c.in_ok-gone.ensures.ok
     c.in_ok-gone.ensures.gone c.as_slice-3.ensures.value refl c.send_back.ensures
-    c.used-used.ensures.sound
-    c.used-used.ensures.table in
+    c.used-sound.ensures.sound
+    c.used-sound.ensures.table in
     let many : length c.as_slice-2.result.now ≡ length (gone_at c.args.now s) = ap length (c.as_slice-2.ensures.value ∙ c.in_ok-gone.ensures.gone) in
     rw (← c.self.view_is) (c.write_changed.ensures.state c.args.now s (reset_is c.args.now s sound d back w) many)
 
@@ -150,7 +150,7 @@ returns-clause-told g c stamped =
     let w = went_back c.args.now s d back c.in_ok-gone.gone.items c.as_slice-3.result.now
     s.adaptors c.in_ok-gone.ensures.ok
     c.in_ok-gone.ensures.gone c.as_slice-3.ensures.value refl c.send_back.ensures
-    c.used-used.ensures.sound
-    c.used-used.ensures.table in
+    c.used-sound.ensures.sound
+    c.used-sound.ensures.table in
     rw (← c.self.view_is)
     (leads_as (back_matches c.args.now s sound d back w stamped) (λ h x. x) (c.write_changed.ensures.told stamped))

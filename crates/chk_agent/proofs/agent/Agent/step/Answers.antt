@@ -115,8 +115,8 @@ keep-requires-clause-valid g c =
     st.set
     bytes end m.step given in
     let valid = chunk_valid s sound i a b at xs st.set bytes end m.step given
-    c.as_str-name.ensures.word
-    c.as_str-word.ensures.word in
+    c.as_str-sound_name.ensures.word
+    c.as_str-sound_word.ensures.word in
     if_ok c.chunk_of-chunk.result _ (λ k. is_chunk (chunk_of k) ≡ true)
     (λ k e. subst (λ k. is_chunk (chunk_of k) ≡ true) (sym (e ∙ is)) valid)
     c.chunk_of-chunk.ensures
@@ -398,8 +398,8 @@ returns-else-is_err-clause-told g c stamped =
     no_err c.keep.ensures.ok) in
     let ready = ap (λ (s : State). s.ready) c.self.view_is ∙ c.requires.ready in
     let valid = chunk_valid s sound i a b at xs st.set bytes end m.step given
-    c.as_str-name.ensures.word
-    c.as_str-word.ensures.word in
+    c.as_str-sound_name.ensures.word
+    c.as_str-sound_word.ensures.word in
     rw (← c.self.view_is)
     (after_of stamped s _ i _ (λ h. tt) (made_on s sound i a b at xs st.set (Bytes bytes end) m.step
     stamped
@@ -441,7 +441,7 @@ invariant_of-self-in-Bytes g c =
       sound = made_sound s sound i a b at xs st.set (Bytes bytes end) m.step given
           c.requires.read_on.2
           m.placed d put c.used-sound.ensures.table
-          c.used-used-in-Bytes.ensures.sound;
+          c.used-sound_still.ensures.sound;
     }
 
 pub returns-in-AtEnd-clause-state : goal.returns-in-AtEnd-clause-state

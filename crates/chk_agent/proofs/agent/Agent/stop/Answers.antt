@@ -73,7 +73,7 @@ invariant_of-self-2 c =
           c.in-Some.place c.committed_end-committed.result there.adaptor xs
           v.adaptors refl c.committed_end-committed.ensures there.at refl
           (ap (λ (h : Held). h.items) (c.stop-2.ensures there.adaptor there.at)))
-          c.used-used.ensures.sound c.used-used.ensures.table;
+          c.used-sound.ensures.sound c.used-sound.ensures.table;
     }
 
 pub returns : goal.returns

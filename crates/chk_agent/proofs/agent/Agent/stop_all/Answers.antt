@@ -66,7 +66,7 @@ invariant_of-self-2 c =
       role = c.self.invariant.role;
       sound = stop_sound v c.self.invariant.sound c.as_slice-3.result.now c.stop.new.self
           c.in_ok-stop.ensures.ok xs past
-          c.used-used.ensures.sound c.used-used.ensures.table;
+          c.used-sound.ensures.sound c.used-sound.ensures.table;
     }
 
 pub returns : goal.returns

@@ -23,7 +23,7 @@ returns-in_err-after-clause-state g c =
 
 pub returns-in_err-after-clause-told : goal.returns-in_err-after-clause-told
 returns-in_err-after-clause-told g c stamped =
-    asks_refused stamped c.args.self.now c.ready-ready.ensures.sound c.requires.ready c.args.path.now
+    asks_refused stamped c.args.self.now c.ready-sound.ensures.sound c.requires.ready c.args.path.now
     (not (is_plain c.args.class)) c.in_err-after.field-0.0 c.in_err-after.ensures.told
 
 pub returns-clause-state : goal.returns-clause-state
@@ -41,7 +41,7 @@ returns-clause-told g c stamped =
     let after = c.in_ok-after.after in
     let l : Line = new_line c.args.name c.args.class words.kind words.path c.args.start after in
     leads_then
-    (newest_known stamped c.args.self.now c.ready-ready.ensures.sound c.requires.ready l
+    (newest_known stamped c.args.self.now c.ready-sound.ensures.sound c.requires.ready l
     (λ plain. let e = c.in_ok-after.ensures.plain plain in cc)
     (subst (λ p. IsNewest c.args.self.now p (not (is_plain c.args.class)) after (g.S.Site.told c.args.site.now) (g.S.Site.told c.newest.new.site))
     (sym c.in_ok-words.ensures.1) c.in_ok-after.ensures.told))

@@ -45,7 +45,7 @@ write_lines-requires g c =
     let lines = map shown c.args.check.lines.items in
     let k = kept_from s c.args.self.now c.self.view_is c.self.invariant.sound l c.args.start
     c.args.adaptor lines c.requires.more.1
-    c.used-used.ensures.table.as_many in
+    c.used-sound.ensures.table.as_many in
     good_new s l lines k
 
 pub add-requires-clause-stream : goal.add-requires-clause-stream
@@ -56,7 +56,7 @@ add-requires-clause-stream g c =
     let xs = c.room_for.new.self.items in
     let k = kept_from s c.args.self.now c.self.view_is c.self.invariant.sound l c.args.start
     c.args.adaptor (map shown c.args.check.lines.items) m
-    c.used-used.ensures.table.as_many in
+    c.used-sound.ensures.table.as_many in
     subst (λ (a : Adaptor). position (is_of a.kind a.path) xs ≡ None) (sym m.adaptor)
     (ap (position (is_of l.kind l.path)) c.room_for.ensures.items
     ∙ none_found l.kind l.path s.adaptors k.new.stream)
@@ -69,7 +69,7 @@ add-requires-clause-name g c live =
     let xs = c.room_for.new.self.items in
     let k = kept_from s c.args.self.now c.self.view_is c.self.invariant.sound l c.args.start
     c.args.adaptor (map shown c.args.check.lines.items) m
-    c.used-used.ensures.table.as_many in
+    c.used-sound.ensures.table.as_many in
     subst (λ (a : Adaptor). position (is_named a.name) xs ≡ None) (sym m.adaptor)
     (ap (position (is_named l.name)) c.room_for.ensures.items
     ∙ none_named l.name s.adaptors k.new.name)
@@ -81,7 +81,7 @@ begin-requires-clause-none g c =
     let lines = map shown c.args.check.lines.items in
     let k = kept_from s c.args.self.now c.self.view_is c.self.invariant.sound l c.args.start
     c.args.adaptor lines c.requires.more.1
-    c.used-used.ensures.table.as_many in
+    c.used-sound.ensures.table.as_many in
     let number : c.len-number.result ≡ length s.adaptors =
     c.len-number.ensures.len in
     free_new s l lines k c.len-number.result number
@@ -94,7 +94,7 @@ invariant_of-self-3 g c =
     let lines = map shown c.args.check.lines.items in
     let k = kept_from s c.args.self.now c.self.view_is c.self.invariant.sound l c.args.start
     c.args.adaptor lines m
-    c.used-used.ensures.table.as_many in
+    c.used-sound.ensures.table.as_many in
     let number : c.len-number.result ≡ length s.adaptors =
     c.len-number.ensures.len in
     let more : c.add.new.self.items ≡ s.adaptors ++ adaptor_of l ∷ [] =
@@ -105,7 +105,7 @@ invariant_of-self-3 g c =
     record {
       role = c.self.invariant.role;
       sound = sound_more s l lines k c.add.new.self.items more c.begin.new.self begun
-          c.used-begun.ensures.sound;
+          c.used-sound_begun.ensures.sound;
     }
 
 pub returns-clause-state : goal.returns-clause-state
@@ -114,7 +114,7 @@ returns-clause-state g c l m =
     let lines = map shown c.args.check.lines.items in
     let k = kept_from s c.args.self.now c.self.view_is c.self.invariant.sound l c.args.start
     c.args.adaptor lines m
-    c.used-used.ensures.table.as_many in
+    c.used-sound.ensures.table.as_many in
     let number : c.len-number.result ≡ length s.adaptors =
     c.len-number.ensures.len in
     let more : c.add.new.self.items ≡ s.adaptors ++ adaptor_of l ∷ [] =
@@ -131,7 +131,7 @@ returns-clause-told g c stamped l m =
     let lines = map shown c.args.check.lines.items in
     let k = kept_from s c.args.self.now c.self.view_is c.self.invariant.sound l c.args.start
     c.args.adaptor lines m
-    c.used-used.ensures.table.as_many in
+    c.used-sound.ensures.table.as_many in
     let number : c.len-number.result ≡ length s.adaptors =
     c.len-number.ensures.len in
     let more : c.add.new.self.items ≡ s.adaptors ++ adaptor_of l ∷ [] =
@@ -150,7 +150,7 @@ invariant_of-self-in-Err-NoMemory g c =
     let lines = map shown c.args.check.lines.items in
     let k = kept_from s c.args.self.now c.self.view_is c.self.invariant.sound l c.args.start
     c.args.adaptor lines c.requires.more.1
-    c.used-used.ensures.table.as_many in
+    c.used-sound.ensures.table.as_many in
     record {
       role = c.self.invariant.role;
       sound = sound_kept s l lines k c.room_for.new.self.items c.room_for.ensures.items;
@@ -162,7 +162,7 @@ returns-in-Err-NoMemory-clause-state g c l m =
     let lines = map shown c.args.check.lines.items in
     let k = kept_from s c.args.self.now c.self.view_is c.self.invariant.sound l c.args.start
     c.args.adaptor lines m
-    c.used-used.ensures.table.as_many in
+    c.used-sound.ensures.table.as_many in
     rw (← c.self.view_is)
     (unmade_room s l lines k c.room_for.new.self.items c.room_for.ensures.items
     (rw c.in-Err-NoMemory.field-0-is at c.in-Err-NoMemory.ensures.told))
@@ -173,7 +173,7 @@ returns-in-Err-NoMemory-clause-told g c stamped l m =
     let lines = map shown c.args.check.lines.items in
     let k = kept_from s c.args.self.now c.self.view_is c.self.invariant.sound l c.args.start
     c.args.adaptor lines m
-    c.used-used.ensures.table.as_many in
+    c.used-sound.ensures.table.as_many in
     rw (← c.self.view_is)
     (told_unmade s l lines k c.room_for.new.self.items c.room_for.ensures.items stamped
     c.in-Err-NoMemory.ensures.read (rw c.in-Err-NoMemory.field-0-is at
@@ -192,7 +192,7 @@ invariant_of-self-in-Err-Outside g c =
     let lines = map shown c.args.check.lines.items in
     let k = kept_from s c.args.self.now c.self.view_is c.self.invariant.sound l c.args.start
     c.args.adaptor lines c.requires.more.1
-    c.used-used.ensures.table.as_many in
+    c.used-sound.ensures.table.as_many in
     record {
       role = c.self.invariant.role;
       sound = sound_room s l lines k c.room_for.new.self.items c.room_for.ensures.items;
@@ -204,7 +204,7 @@ returns-in-Err-Outside-clause-state g c l m =
     let lines = map shown c.args.check.lines.items in
     let k = kept_from s c.args.self.now c.self.view_is c.self.invariant.sound l c.args.start
     c.args.adaptor lines m
-    c.used-used.ensures.table.as_many in
+    c.used-sound.ensures.table.as_many in
     rw (← c.self.view_is)
     (failed_room s l lines k c.room_for.new.self.items c.room_for.ensures.items
     c.in-Err-Outside.call
@@ -216,7 +216,7 @@ returns-in-Err-Outside-clause-told g c stamped l m =
     let lines = map shown c.args.check.lines.items in
     let k = kept_from s c.args.self.now c.self.view_is c.self.invariant.sound l c.args.start
     c.args.adaptor lines m
-    c.used-used.ensures.table.as_many in
+    c.used-sound.ensures.table.as_many in
     rw (← c.self.view_is)
     (told_room s l lines k c.room_for.new.self.items c.room_for.ensures.items stamped
     c.in-Err-Outside.call

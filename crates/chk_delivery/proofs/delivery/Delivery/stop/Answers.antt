@@ -16,7 +16,7 @@ left : (c : goal.After-deref-2) → IsLeft (delivery_view c.self.inside) c.args.
     c.in_ok-marks.marks.items
 left c =
     is_left_by (delivery_view c.self.inside) c.args.gone.now c.in_ok-marks.marks.items
-    c.self.invariant c.free-free.ensures.sound
+    c.self.invariant c.free-sound.ensures.sound
     (c.in_ok-marks.ensures ∙ ap (λ n. fold with_mark (replicate n false) c.args.gone.now)
     c.adaptors.ensures)
 
@@ -35,7 +35,7 @@ pub reset-requires : goal.reset-requires
 reset-requires c =
     ap length c.deref-4.ensures.value
     ∙ (is_left_by (delivery_view c.self.inside) c.args.gone.now c.in_ok-marks.marks.items
-    c.self.invariant c.free-free.ensures.sound
+    c.self.invariant c.free-sound.ensures.sound
     (c.in_ok-marks.ensures ∙ ap (λ n. fold with_mark (replicate n false) c.args.gone.now)
     c.adaptors.ensures)).size
 
@@ -54,7 +54,7 @@ whole c =
     left_state s c.args.gone.now marks c.in_ok-kept.kept.items c.keep.new.self
     c.keep_others.new.owners.items c.reset.new.self
     (option_map post_view c.still_out-self-inside.result)
-    (is_left_by s c.args.gone.now marks c.self.invariant c.free-free.ensures.sound
+    (is_left_by s c.args.gone.now marks c.self.invariant c.free-sound.ensures.sound
     (c.in_ok-marks.ensures ∙ ap (λ n. fold with_mark (replicate n false) c.args.gone.now)
     c.adaptors.ensures))
     (c.in_ok-kept.ensures ∙ ap (λ m. map (is_left m) c.self.inside.owners.items)
