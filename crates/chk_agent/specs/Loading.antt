@@ -1,11 +1,8 @@
 -- The parts of a start.
-use Rattle.std.specs.Prelude.{◌≡◌, ℕ, List, [], length, IsTrue, Option, Some, None, Result, Ok, Err}
-use Rattle.std.specs.Prelude.{MatchResult, slice_get, slice_index, Contains}
+use Rattle.std.specs.Prelude.{◌≡◌, ℕ, List, [], length, IsTrue, Some, None, Result, Ok, Err}
+use Rattle.std.specs.Prelude.{slice_get, slice_index, Contains}
 use Rattle.chk_site.specs.declared.acts.Who.{Who}
-use Rattle.chk_site.specs.declared.acts.CallFault.{CallFault}
-use Rattle.chk_site.specs.declared.acts.OutsideFault.{OutsideFault}
 use Rattle.chk_site.specs.History.{History}
-use Rattle.chk_site.specs.Site.{Adds, Asked, answered, plain, Calls, IsDone, Ends}
 use Rattle.chk_failover.specs.Turns.{Turns}
 use Rattle.chk_checkpoint.specs.declared.Checkpoint.{Checkpoint}
 use Rattle.chk_checkpoint.specs.Lines.{lines_of}
@@ -17,12 +14,7 @@ use Rattle.chk_delivery.specs.declared.delivery.Rules.{Rules}
 use Rattle.chk_delivery.specs.States.{State as Delivery}
 use Rattle.chk_agent.specs.declared.answers.AgentFault.{AgentFault}
 use Rattle.chk_agent.specs.declared.answers.AgentFault.TheVariants.{Damaged}
-
--- the call was made, and was done or refused for the state of the files, or else it ended the work
-pub record MadeOnce (q : Asked) (result : Result (Unit {0}) OutsideFault) (old new : Option History) : Type 0 where
-  pub given : Result (Unit {0}) CallFault
-  pub came : MatchResult result (λ value. IsDone given) (λ fault. Ends q.call given fault)
-  pub told : Adds old new (Calls q (answered plain given))
+pub use Rattle.chk_site.specs.Once.{MadeOnce}
 
 -- after a load: the checkpoint has the lines, and nothing was sent since the start; it is never damaged
 abbrev pub Loaded : List (List ℕ) → List ℕ → Who → Result Checkpoint AgentFault → History → Type 0

@@ -1,17 +1,16 @@
 -- How an archive run begins.
 use Rattle.std.specs.Prelude.{◌≡◌, List, ℕ, Result, Ok, Err}
 use Rattle.chk_site.specs.declared.acts.OutsideFault.{OutsideFault}
-use Rattle.chk_site.specs.Acts.{Deed, Starts}
 use Rattle.chk_site.specs.History.{History}
 use Rattle.chk_world.specs.Names.{ArchiveFolder}
 use Rattle.chk_world.specs.Books.{Book}
 use Rattle.chk_world.specs.Rules.{Legal}
 use Rattle.chk_world.specs.Places.{AtTold}
 use Rattle.chk_world.specs.Sight.{job, own_book, AtJob}
-use Rattle.chk_world.specs.JobSteps.{ReadsFile}
 use Rattle.chk_heads.specs.declared.fault.JobFault.{JobFault}
 use Rattle.chk_heads.specs.declared.fault.JobFault.TheVariants.{Damaged}
 use Rattle.chk_archive.specs.Tidying.{HasBook}
+pub use Rattle.chk_merge.specs.Courses.{Begins, starts, only_reads}
 
 -- at Ok the job may act, and the archive has the book that it had; else the history is legal
 abbrev pub HasStartedSo : {T : Type 0} → List (List ℕ) → Book → Result T OutsideFault → History
@@ -25,8 +24,3 @@ HasBegun stamped loaded (Ok b) history =
     AtJob stamped (λ v. (own_book v ArchiveFolder ≡ loaded) × (b ≡ loaded)) history
 HasBegun stamped loaded (Err (Damaged name at)) history = AtTold stamped job (λ h. ⊥) history
 HasBegun stamped loaded (Err fault) history = Legal stamped history
-
--- the calls: it starts, and reads
-pub data Begins : Deed → Type 0 where
-  starts : Begins Starts
-  only_reads : (call : Deed) → ReadsFile call → Begins call

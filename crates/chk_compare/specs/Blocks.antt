@@ -1,13 +1,9 @@
 -- Where a stream's heads stand among heads in order.
-use Rattle.std.specs.Prelude.{ℕ, ◌-◌, ◌<◌, ◌≤◌, IsTrue, IsFalse, List, length, slice_index_or}
+use Rattle.std.specs.Prelude.{ℕ, ◌-◌, ◌<◌, ◌≤◌, IsTrue, IsFalse, List, length}
 use Rattle.chk_chunk.specs.Keys.{Stream, stream_lt}
 use Rattle.chk_heads.specs.Heads.{Head}
-use Rattle.chk_heads.specs.Order.{no_head}
 use Rattle.chk_merge.specs.Courses.{is_head_of}
-
--- the head at a place
-abbrev pub head_in : List Head → ℕ → Head
-head_in heads i = slice_index_or heads i no_head
+pub use Rattle.chk_heads.specs.Order.{head_in}
 
 -- the stream of the head at a place
 abbrev pub stream_in : List Head → ℕ → Stream

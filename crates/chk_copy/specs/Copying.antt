@@ -2,13 +2,11 @@
 use Rattle.std.specs.Prelude.{◌≡◌, ℕ, ◌-◌, ◌≤◌, List, codes, length, map, take, drop, Result, Ok, Err, if◌then◌else◌}
 use Rattle.chk_site.specs.Files.{Files}
 use Rattle.chk_site.specs.Acts.{Deed}
-use Rattle.chk_site.specs.History.{History, Every}
-use Rattle.chk_chunk.specs.Keys.{Key, Chunk}
+use Rattle.chk_site.specs.History.{History}
+use Rattle.chk_chunk.specs.Keys.{Chunk}
 use Rattle.chk_world.specs.Books.{Book}
 use Rattle.chk_world.specs.Sight.{job}
-use Rattle.chk_world.specs.JobSteps.{IsOf, ReadsOrWrites}
-use Rattle.chk_heads.specs.Faults.{FailsLast}
-use Rattle.chk_heads.specs.Pieces.{AsksInPieces}
+use Rattle.chk_world.specs.JobSteps.{ReadsOrWrites}
 use Rattle.chk_heads.specs.declared.fault.JobFault.{JobFault}
 use Rattle.chk_heads.specs.declared.fault.JobFault.TheVariants.{Damaged}
 use Rattle.chk_book.specs.Folders.{segment_name, most_in}
@@ -23,6 +21,7 @@ use Rattle.chk_compare.specs.declared.gathering.Side.{Side}
 use Rattle.chk_compare.specs.declared.comparing.Readers.{Readers}
 use Rattle.chk_compare.specs.Comparing.{AreTrue}
 use Rattle.chk_choose.specs.declared.plan.Choice.{Choice}
+pub use Rattle.chk_heads.specs.Faults.{Worked}
 
 -- the file of the segment of `joined` of this number
 abbrev pub joined_segment : ℕ → List ℕ
@@ -43,12 +42,6 @@ pub record IsForJoined (s : Segmenter) : Type 0 where
 pub record GoesOn (old new : Segmenter) : Type 0 where
   pub number : new.number ≡ old.number
   pub writer : IsForJoined new
-
--- its own calls are of this kind and ask for pieces; one that failed is the last one
-pub record Worked {T : Type 0} (K : Deed → Type 0) (r : Result T JobFault) (added history : History) : Type 0 where
-  pub own : Every (IsOf K) added history
-  pub pieces : Every AsksInPieces added history
-  pub last : FailsLast r added history
 
 -- all files are as they were, and the segment has these chunks
 pub record HasCopied (all : List (List ℕ)) (held : Files) (chunks : List Chunk) (s : Segmenter) (history : History) : Type 0 where

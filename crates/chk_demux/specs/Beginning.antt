@@ -1,18 +1,17 @@
 -- How a demux run begins.
 use Rattle.std.specs.Prelude.{◌≡◌, List, ℕ, Result, Ok, Err}
 use Rattle.chk_site.specs.declared.acts.OutsideFault.{OutsideFault}
-use Rattle.chk_site.specs.Acts.{Deed, Starts}
 use Rattle.chk_site.specs.History.{History}
 use Rattle.chk_world.specs.Names.{ArchiveFolder, DemuxFolder}
 use Rattle.chk_world.specs.Rules.{Legal}
 use Rattle.chk_world.specs.Places.{AtTold}
 use Rattle.chk_world.specs.Sight.{job, Sight, own_book, own_chunks, AtJob}
-use Rattle.chk_world.specs.JobSteps.{ReadsFile}
 use Rattle.chk_book.specs.Books.{book_view}
 use Rattle.chk_heads.specs.declared.fault.JobFault.{JobFault}
 use Rattle.chk_heads.specs.declared.fault.JobFault.TheVariants.{Damaged}
 use Rattle.chk_demux.specs.Demuxed.{Earlier}
 use Rattle.chk_demux.specs.declared.beginning.Books.{Books}
+pub use Rattle.chk_merge.specs.Courses.{Begins, starts, only_reads}
 
 -- what the job knows of the records and of their book
 abbrev pub own_earlier : Sight → Earlier
@@ -42,8 +41,3 @@ abbrev pub HasBegun : List (List ℕ) → Earlier → Result Books JobFault → 
 HasBegun stamped before (Ok b) history = AtJob stamped (HasBooks before b) history
 HasBegun stamped before (Err (Damaged name at)) history = AtTold stamped job (λ h. ⊥) history
 HasBegun stamped before (Err fault) history = Legal stamped history
-
--- the calls: it starts, and reads
-pub data Begins : Deed → Type 0 where
-  starts : Begins Starts
-  only_reads : (call : Deed) → ReadsFile call → Begins call

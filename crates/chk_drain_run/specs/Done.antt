@@ -17,6 +17,7 @@ use Rattle.chk_words.specs.Lines.{stream_line}
 use Rattle.chk_prints.specs.Printing.{by, printed}
 use Rattle.chk_drain_run.specs.declared.faults.DrainFault.{DrainFault}
 use Rattle.chk_drain_run.specs.declared.faults.DrainFault.TheVariants.{Shrank}
+pub use Rattle.chk_world.specs.Checkpoints.{HasLiveLine}
 
 -- ---- the lines of a checkpoint
 
@@ -32,14 +33,6 @@ line_here source l = if l.live then stream_line source l.kind l.path l.offset �
 abbrev pub lines_here : List ℕ → List Line → List (List ℕ)
 lines_here source [] = []
 lines_here source (l ∷ lines) = line_here source l ++ lines_here source lines
-
--- there is a live line of the stream of this type and path
-pub record HasLiveLine (kind path : List ℕ) (lines : List Line) : Type 0 where
-  pub line : Line
-  pub one : Contains lines line
-  pub live : line.live ≡ true
-  pub kind_is : line.kind ≡ kind
-  pub path_is : line.path ≡ path
 
 -- ---- the lines of an initial file
 

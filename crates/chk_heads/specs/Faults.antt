@@ -1,8 +1,11 @@
 -- Why a call of the job is refused.
 use Rattle.std.specs.Prelude.{◌≡◌, ℕ, List, ◌≤◌, false, ◌++◌, Result, Ok, Err}
+use Rattle.chk_heads.specs.Pieces.{AsksInPieces}
+use Rattle.chk_world.specs.JobSteps.{IsOf}
+use Rattle.chk_site.specs.Acts.{Deed}
 use Rattle.chk_site.specs.declared.acts.OutsideFault.{OutsideFault}
 use Rattle.chk_site.specs.declared.acts.OutsideFault.TheVariants.{Outside as site_failed, NoMemory as no_memory}
-use Rattle.chk_site.specs.History.{History, is_stopped}
+use Rattle.chk_site.specs.History.{History, is_stopped, Every}
 use Rattle.chk_site.specs.Site.{Rose, EndsIn}
 use Rattle.chk_heads.specs.declared.fault.JobFault.{JobFault}
 use Rattle.chk_heads.specs.declared.fault.JobFault.TheVariants.{Outside, Damaged, Spent, NoMemory}
@@ -42,3 +45,14 @@ abbrev pub IsDamage : List ℕ → ℕ → JobFault → Type 0
 IsDamage name at (Damaged which place) = (which ≡ name) × (place ≡ at)
 IsDamage name at NoMemory = Unit {0}
 IsDamage name at fault = ⊥
+
+-- its own calls are of this kind and ask for pieces; one that failed is the last one
+pub record Worked {T : Type 0} (K : Deed → Type 0) (r : Result T JobFault) (added history : History) : Type 0 where
+  pub own : Every (IsOf K) added history
+  pub pieces : Every AsksInPieces added history
+  pub last : FailsLast r added history
+
+-- the same result, of the job
+abbrev pub job_result : {T : Type 0} → Result T OutsideFault → Result T JobFault
+job_result (Ok value) = Ok value
+job_result (Err fault) = Err (job_fault fault)

@@ -90,3 +90,7 @@ lent_head h = record { key = lent_key h.key; begin = h.begin; file = h.file; at 
 -- the heads are of one stream
 abbrev pub of_one_stream : Head → Head → Bool
 of_one_stream h k = same_stream h.key.stream k.key.stream
+
+-- the head at this place
+abbrev pub head_in : List Head → ℕ → Head
+head_in heads i = slice_index_or heads i no_head

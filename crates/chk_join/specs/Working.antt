@@ -1,26 +1,11 @@
 -- Which calls the parts of a join make.
-use Rattle.std.specs.Prelude.{ℕ, List, codes, Result, Ok, Err}
-use Rattle.chk_site.specs.declared.acts.OutsideFault.{OutsideFault}
+use Rattle.std.specs.Prelude.{ℕ, List, codes}
 use Rattle.chk_site.specs.Acts.{Deed, Starts, Lists, Removes}
-use Rattle.chk_site.specs.History.{History, Every}
 use Rattle.chk_world.specs.Books.{Book}
-use Rattle.chk_world.specs.JobSteps.{IsOf, ReadsFile, WritesTo}
+use Rattle.chk_world.specs.JobSteps.{ReadsFile, WritesTo}
 use Rattle.chk_book.specs.Folders.{segment_name}
-use Rattle.chk_heads.specs.Faults.{FailsLast, job_fault}
-use Rattle.chk_heads.specs.Pieces.{AsksInPieces}
-use Rattle.chk_heads.specs.declared.fault.JobFault.{JobFault}
 use Rattle.chk_join.specs.Names.{IsStray}
-
--- its own calls are of this kind and ask for pieces; one that failed is the last one
-pub record Worked {T : Type 0} (K : Deed → Type 0) (r : Result T JobFault) (added history : History) : Type 0 where
-  pub own : Every (IsOf K) added history
-  pub pieces : Every AsksInPieces added history
-  pub last : FailsLast r added history
-
--- the same result, of the job
-abbrev pub job_result : {T : Type 0} → Result T OutsideFault → Result T JobFault
-job_result (Ok value) = Ok value
-job_result (Err fault) = Err (job_fault fault)
+pub use Rattle.chk_heads.specs.Faults.{Worked, job_result}
 
 -- it starts
 pub data Starting : Deed → Type 0 where

@@ -25,11 +25,11 @@ use Rattle.chk_look.specs.declared.fault.LookFault.{LookFault}
 use Rattle.chk_look.specs.declared.fault.LookFault.TheVariants.{Outside as LookOutside, Damaged as LookDamaged, Gone, NoMemory as LookNoMemory}
 use Rattle.chk_look.specs.Faults.{IsLoss}
 use Rattle.chk_look.specs.Looking.{LooksOrSays, looks, says, text_of, AreOrWent, Sees}
-use Rattle.chk_look.specs.Segments.{asks_from, Looked, Said}
+use Rattle.chk_look.specs.Segments.{asks_at, Looked, Said}
 use Rattle.chk_look.proofs.Texts.{acted_text, failed_text, unmade_text, keeps_files}
 
 abbrev pub read_of : Who → List ℕ → ℕ → Asked
-read_of who name at = asked who Read (name ∷ []) at (asks_from at)
+read_of who name at = asked who Read (name ∷ []) at (asks_at at)
 
 abbrev pub say_of : Who → List ℕ → Asked
 say_of who text = asked who Say (text ∷ []) 0 0
@@ -48,7 +48,7 @@ read_own : (who : Who) (name : List ℕ) (at : ℕ) (given : Result ActAnswer Ca
 read_own who name at given is calls =
     call_each (IsOf LooksOrSays) given (λ before step theirs. inl theirs)
     (λ before answer files logs running honest.
-    inr (record { own = refl; running = running; honest = honest; by = is }, looks (Reads name at (asks_from at)) (reads name at (asks_from at))))
+    inr (record { own = refl; running = running; honest = honest; by = is }, looks (Reads name at (asks_at at)) (reads name at (asks_at at))))
     calls
 
 say_own : (who : Who) (text : List ℕ) (given : Result ActAnswer CallFault) {added history : History} → who ≡ job
@@ -62,8 +62,8 @@ say_own who text given is calls =
 -- ---- a read
 
 module _ (who : Who) (name : List ℕ) (at : ℕ) (is_job : who ≡ job) where
-  piece_is : (bytes : List ℕ) (f : File) → AtRead (Done (bytes ∷ []) 0 0) at (asks_from at) (Some f)
-      → bytes ≡ take (asks_from at) (drop at f.bytes)
+  piece_is : (bytes : List ℕ) (f : File) → AtRead (Done (bytes ∷ []) 0 0) at (asks_at at) (Some f)
+      → bytes ≡ take (asks_at at) (drop at f.bytes)
   piece_is bytes f agrees = let e = agrees.1 in cc
 
   pub piece_seen : (bytes : List ℕ) {old new : Option History} → Adds old new (Calls (read_of who name at) (Ok (bytes_given bytes)))
@@ -76,13 +76,13 @@ module _ (who : Who) (name : List ℕ) (at : ℕ) (is_job : who ≡ job) where
       record {
         sees = λ held s h.
             let B : History → Type 0 =
-            λ k. AreOrWent held k × ((f : File) → held name ≡ Some f → bytes ≡ take (asks_from at) (drop at f.bytes)) in
+            λ k. AreOrWent held k × ((f : File) → held name ≡ Some f → bytes ≡ take (asks_at at) (drop at f.bytes)) in
             let shows : Shows (AreOrWent held) B (read_of who name at) A =
             λ before files logs running honest are. (
               still held (read_of who name at) A (λ n. refl) (λ n. refl) before files logs honest are,
               λ f is. elim (are name f is) [
-                | inl there ↦ piece_is bytes f (subst (AtRead A at (asks_from at)) there honest.agrees)
-                | inr went ↦ absurd (subst (AtRead A at (asks_from at)) went honest.agrees)
+                | inl there ↦ piece_is bytes f (subst (AtRead A at (asks_at at)) there honest.agrees)
+                | inr went ↦ absurd (subst (AtRead A at (asks_at at)) went honest.agrees)
               ],
             ) in
             let y : B (added ++ history) = acted_leads B (keeps_files held) shows acted s h in
@@ -118,10 +118,10 @@ module _ (who : Who) (name : List ℕ) (at : ℕ) (is_job : who ≡ job) where
         own = read_own who name at (Err Missing) is_job calls;
       })
 
-  short_is : (size : ℕ) (f : File) → AtRead (Refused (Short size)) at (asks_from at) (Some f) → [] ≡ take (asks_from at) (drop at f.bytes)
+  short_is : (size : ℕ) (f : File) → AtRead (Refused (Short size)) at (asks_at at) (Some f) → [] ≡ take (asks_at at) (drop at f.bytes)
   short_is size f agrees =
       let past : length f.bytes ≤ at = omega (arith, agrees.0) in
-      sym (ap (take (asks_from at)) (drop_all at f.bytes past) ∙ take-nil (asks_from at))
+      sym (ap (take (asks_at at)) (drop_all at f.bytes past) ∙ take-nil (asks_at at))
 
   pub short_seen : (size : ℕ) {old new : Option History} → Adds old new (Calls (read_of who name at) (Err (Short size)))
       → Adds old new (Sees (Looked name at (Ok [])))
@@ -133,13 +133,13 @@ module _ (who : Who) (name : List ℕ) (at : ℕ) (is_job : who ≡ job) where
       record {
         sees = λ held s h.
             let B : History → Type 0 =
-            λ k. AreOrWent held k × ((f : File) → held name ≡ Some f → [] ≡ take (asks_from at) (drop at f.bytes)) in
+            λ k. AreOrWent held k × ((f : File) → held name ≡ Some f → [] ≡ take (asks_at at) (drop at f.bytes)) in
             let shows : Shows (AreOrWent held) B (read_of who name at) A =
             λ before files logs running honest are. (
               still held (read_of who name at) A (λ n. refl) (λ n. refl) before files logs honest are,
               λ f is. elim (are name f is) [
-                | inl there ↦ short_is size f (subst (AtRead A at (asks_from at)) there honest.agrees)
-                | inr went ↦ absurd (subst (AtRead A at (asks_from at)) went honest.agrees)
+                | inl there ↦ short_is size f (subst (AtRead A at (asks_at at)) there honest.agrees)
+                | inr went ↦ absurd (subst (AtRead A at (asks_at at)) went honest.agrees)
               ],
             ) in
             let y : B (added ++ history) = acted_leads B (keeps_files held) shows acted s h in

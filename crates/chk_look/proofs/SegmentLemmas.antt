@@ -25,7 +25,7 @@ use Rattle.chk_look.specs.declared.fault.LookFault.TheVariants.{Outside, Damaged
 use Rattle.chk_look.specs.Faults.{look_fault, IsDamage, IsLoss, FailsLast, LookCause}
 use Rattle.chk_look.specs.Courses.{KeepsCourse, GoesOver, wanted_by, chunks_at, Followed, FollowedFed}
 use Rattle.chk_look.specs.Looking.{AreOrWent, Sees}
-use Rattle.chk_look.specs.Segments.{asks_from, Looked, Said, FollowedSaid, EndsSo, IsFrontText, IsWholeText, IsWrongAt, Printed}
+use Rattle.chk_look.specs.Segments.{asks_at, Looked, Said, FollowedSaid, EndsSo, IsFrontText, IsWholeText, IsWrongAt, Printed}
 use Rattle.chk_look.proofs.CourseLemmas.{keeps_self, keeps_then, over_then, wanted_then}
 use Rattle.chk_look.proofs.Texts.{sees_then, sees_as}
 use Rattle.chk_heads.proofs.Gathering.{no_records}
@@ -268,7 +268,7 @@ module _ (old now : Option History) (most : ℕ) (name : List ℕ) (c d : Course
           follow_past looked
 
       -- what was read ends below the place at which each file counts as ended
-      pub room : length piece ≤ asks_from at → at + length piece < 2 ^ 63
+      pub room : length piece ≤ asks_at at → at + length piece < 2 ^ 63
       room few = let low = inv.small in omega (arith, few, low)
 
       all_fed : at ≡ fed_place q + length (fed_rest q)
@@ -276,11 +276,11 @@ module _ (old now : Option History) (most : ℕ) (name : List ℕ) (c d : Course
           let h = some_past.0 in let within = h.state.within in let rest = ap length h.state.rest in
           omega (arith, h.size, within, rest, length-drop (fed_place q) inv.some)
 
-      pub room_fed : length piece ≤ asks_from at → fed_place q + length (fed_rest q) + length piece < 2 ^ 63
+      pub room_fed : length piece ≤ asks_at at → fed_place q + length (fed_rest q) + length piece < 2 ^ 63
       room_fed few = subst (λ k. k + length piece < 2 ^ 63) all_fed (room few)
 
       -- the reader is fed
-      pub goes_on : (r : Pieces) (next : ℕ) → length piece ≤ asks_from at → 0 < length piece
+      pub goes_on : (r : Pieces) (next : ℕ) → length piece ≤ asks_at at → 0 < length piece
           → (fed_limit r ≡ fed_limit q) × (fed_marker r ≡ fed_marker q) × (fed_place r ≡ fed_place q)
           → ((fed : List ℕ) → IsFed q fed → IsFed r (fed ++ piece)) → next ≡ at + length piece
           → IsFollowing old new most name c e r next
@@ -308,17 +308,17 @@ module _ (old now : Option History) (most : ℕ) (name : List ℕ) (c d : Course
             chunks = subst (AreChunks most) (sym (records fed h.state)) h.chunks;
           }
 
-          begins_more : (bytes fed : List ℕ) → at ≡ length fed → piece ≡ take (asks_from at) (drop at bytes) → BeginsWith bytes fed
+          begins_more : (bytes fed : List ℕ) → at ≡ length fed → piece ≡ take (asks_at at) (drop at bytes) → BeginsWith bytes fed
               → BeginsWith bytes (fed ++ piece)
           begins_more bytes fed size piece_is (rest, front) =
               let left : drop at bytes ≡ rest = ap₂ (λ n b. drop n b) size front ∙ drop-append_seam fed rest in
-              let head : piece ≡ take (asks_from at) rest = piece_is ∙ ap (take (asks_from at)) left in (
-                drop (asks_from at) rest,
-                front ∙ ap (λ x. fed ++ x) (sym (take-append-drop (asks_from at) rest) ∙ ap (λ x. x ++ drop (asks_from at) rest) (sym head))
-                    ∙ sym (append_assoc fed piece (drop (asks_from at) rest)),
+              let head : piece ≡ take (asks_at at) rest = piece_is ∙ ap (take (asks_at at)) left in (
+                drop (asks_at at) rest,
+                front ∙ ap (λ x. fed ++ x) (sym (take-append-drop (asks_at at) rest) ∙ ap (λ x. x ++ drop (asks_at at) rest) (sym head))
+                    ∙ sym (append_assoc fed piece (drop (asks_at at) rest)),
               )
 
-          come : (bytes t u : List ℕ) → HasCome most c e q at bytes t → u ≡ [] → piece ≡ take (asks_from at) (drop at bytes)
+          come : (bytes t u : List ℕ) → HasCome most c e q at bytes t → u ≡ [] → piece ≡ take (asks_at at) (drop at bytes)
               → HasCome most c e r next bytes (t ++ u)
           come bytes t u h none piece_is = record {
             fed = h.fed ++ piece;
@@ -345,10 +345,10 @@ module _ (old now : Option History) (most : ℕ) (name : List ℕ) (c d : Course
           follow_past looked
         where
           -- all of the file was fed
-          all_of : (bytes fed : List ℕ) → at ≡ length fed → piece ≡ take (asks_from at) (drop at bytes) → length bytes < 2 ^ 63
+          all_of : (bytes fed : List ℕ) → at ≡ length fed → piece ≡ take (asks_at at) (drop at bytes) → length bytes < 2 ^ 63
               → BeginsWith bytes fed → bytes ≡ fed
           all_of bytes fed size piece_is low (rest, front) =
-              let few : length piece ≡ min (asks_from at) (length (drop at bytes)) = ap length piece_is ∙ length-take (asks_from at) (drop at bytes) in
+              let few : length piece ≡ min (asks_at at) (length (drop at bytes)) = ap length piece_is ∙ length-take (asks_at at) (drop at bytes) in
               let past_end : length bytes ≤ at = omega (arith, few, empty, low, length-drop at bytes) in
               let all : length bytes ≡ length fed + length rest = ap length front ∙ length-append fed rest in
               let none : rest ≡ [] = nil_from_length rest (omega (arith, all, past_end, size)) in
@@ -376,7 +376,7 @@ module _ (old now : Option History) (most : ℕ) (name : List ℕ) (c d : Course
 
           by : (result : Result (Unit {0}) LookFault) (held : Files) (t u : List ℕ) (history : History) → AreOrWent held history → u ≡ []
               → (k : (f : File) → held name ≡ Some f
-              → HasPast most c e q at f.bytes t × (piece ≡ take (asks_from at) (drop at f.bytes)))
+              → HasPast most c e q at f.bytes t × (piece ≡ take (asks_at at) (drop at f.bytes)))
               → ((f : File) (is : held name ≡ Some f) → EndsSo name (k f is).0.come.fed (fed_place q) result)
               → EndsSo name inv.some (fed_place q) result → Printed most name c e result held (t ++ u) history
           by (Ok value) held t u history are none k ended some = (

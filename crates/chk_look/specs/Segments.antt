@@ -1,6 +1,5 @@
 -- What is printed of one segment.
-use Rattle.std.specs.Prelude.{◌≡◌, ◌⊎◌, ℕ, ◌<◌, ◌-◌, ◌^◌, min, List, [], length, take, drop, Option, Some, None, Result, Ok, Err}
-use Rattle.chk_bytes.specs.Numbers.{last_number}
+use Rattle.std.specs.Prelude.{◌≡◌, ◌⊎◌, ℕ, ◌<◌, ◌-◌, ◌^◌, List, [], length, take, drop, Option, Some, None, Result, Ok, Err}
 use Rattle.chk_bytes.specs.Words.{BeginsWith}
 use Rattle.chk_site.specs.declared.acts.OutsideFault.{OutsideFault}
 use Rattle.chk_site.specs.Files.{File, Files}
@@ -17,15 +16,12 @@ use Rattle.chk_heads.specs.Feeding.{IsEnd}
 use Rattle.chk_look.specs.Courses.{GoesOver, wanted_by, chunks_at, IsOffAt, KeepsCourse, FollowedFed}
 use Rattle.chk_look.specs.Faults.{IsDamage}
 use Rattle.chk_look.specs.Looking.{AreOrWent}
-
--- how many bytes a read asks for: none past the place at which each file counts as ended
-abbrev pub asks_from : ℕ → ℕ
-asks_from at = min (last_number - at) 1048576
+pub use Rattle.chk_replace.specs.Load.{asks_at}
 
 -- at Ok the piece is what the file has at this place, and it went only where it isn't there
 abbrev pub Looked : List ℕ → ℕ → Result (List ℕ) LookFault → Files → List ℕ → History → Type 0
 Looked name at (Ok piece) held text history = AreOrWent held history × (text ≡ [])
-    × ((f : File) → held name ≡ Some f → piece ≡ take (asks_from at) (drop at f.bytes))
+    × ((f : File) → held name ≡ Some f → piece ≡ take (asks_at at) (drop at f.bytes))
 Looked name at (Err (Gone which)) held text history = AreOrWent held history × (which ≡ name)
     × (files_after history name ≡ None) × (text ≡ [])
 Looked name at (Err (Damaged which place)) held text history = ⊥

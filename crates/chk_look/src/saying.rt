@@ -6,7 +6,7 @@ ghost use Rattle.chk_site.specs.Site.{Adds, LastFailed, OutsideCause};
 ghost use Rattle.chk_world.specs.Sight.{job};
 ghost use Rattle.chk_look.specs.Faults.{FailsLast, LookCause};
 ghost use Rattle.chk_look.specs.Looking.{Sees};
-ghost use Rattle.chk_look.specs.Segments.{asks_from, Looked, Said};
+ghost use Rattle.chk_look.specs.Segments.{asks_at, Looked, Said};
 
 use crate::fault::{LookFault, gone};
 use chk_bytes::Bytes;
@@ -30,7 +30,7 @@ pub(crate) fn look<S: Site>(
     requires job { who.now ≡ job }
     requires name { IsTrue (is_word name.now) }
     ensures told { Adds (S.told site.old) (S.told site.new) (Sees (Looked name.now at result)) }
-    ensures few { IfOk result (λ bytes. length bytes ≤ asks_from at) }
+    ensures few { IfOk result (λ bytes. length bytes ≤ asks_at at) }
     ensures last { Adds (S.told site.old) (S.told site.new) (FailsLast result) }
     ensures cause { LookCause (S.fault_count site.old) (S.fault_count site.new) result }
 {

@@ -1,5 +1,7 @@
 -- Whether the records of a stream go on from each other, up to its end in a book.
 use Rattle.std.specs.Prelude.{◌≡◌, ◌<◌, ℕ, Bool, ◌&&◌, ◌==◌, nat_le, List, [], ◌∷◌, length, slice_index_or, Option, Some, None, if◌then◌else◌}
+use Rattle.chk_world.specs.JobSteps.{ReadsFile}
+use Rattle.chk_site.specs.Acts.{Deed, Starts}
 use Rattle.chk_chunk.specs.Keys.{Stream, same_stream}
 use Rattle.chk_world.specs.Books.{End}
 use Rattle.chk_heads.specs.Heads.{Head}
@@ -59,3 +61,8 @@ IsBreakBy s o heads None = (break_by s o heads ≡ None) × reaches s o heads
 IsBreakBy s o heads (Some (BreakHead index)) =
     (index < length heads) × (break_by s o heads ≡ Some (slice_index_or heads index no_head))
 IsBreakBy s o heads (Some BreakEnd) = (break_by s o heads ≡ None) × (reaches s o heads → ⊥)
+
+-- the calls: it starts, and reads
+pub data Begins : Deed → Type 0 where
+  starts : Begins Starts
+  only_reads : (call : Deed) → ReadsFile call → Begins call

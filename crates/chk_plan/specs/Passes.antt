@@ -1,11 +1,12 @@
 -- What a pass over heads that stand in order reaches, stream after stream.
-use Rattle.std.specs.Prelude.{◌≡◌, ℕ, ◌≤◌, ◌<◌, Bool, true, false, ◌&&◌, nat_lt, nat_le, IsTrue, IsFalse, List, [], ◌∷◌, length, take, drop, slice_index_or, Option, Some, None, if◌then◌else◌}
+use Rattle.std.specs.Prelude.{◌≡◌, ℕ, ◌≤◌, ◌<◌, Bool, true, false, ◌&&◌, nat_lt, nat_le, IsTrue, IsFalse, List, [], ◌∷◌, length, take, drop, Option, Some, None, if◌then◌else◌}
 use Rattle.std.specs.List.Sorted.{IsSortedBy}
 use Rattle.chk_chunk.specs.Keys.{Stream, same_stream, stream_lt}
 use Rattle.chk_heads.specs.Heads.{Head}
-use Rattle.chk_heads.specs.Order.{no_head, of_one_stream}
+use Rattle.chk_heads.specs.Order.{of_one_stream}
 use Rattle.chk_plan.specs.declared.spans.Span.{Span}
 use Rattle.chk_plan.specs.declared.spans.Known.{Known}
+pub use Rattle.chk_heads.specs.Order.{head_in}
 
 -- the elements from one place up to another
 abbrev pub between : {X : Type 0} → ℕ → ℕ → List X → List X
@@ -49,10 +50,6 @@ begins_at [] h = h.key.start
 begins_at (k ∷ ks) h =
     let s : Stream = record { source = k.source.now; kind = k.kind.now; name = k.name.now } in
     if same_stream s h.key.stream then k.end else begins_at ks h
-
--- the head at this place
-abbrev pub head_in : List Head → ℕ → Head
-head_in heads i = slice_index_or heads i no_head
 
 -- the span is all of one stream from its first head on, and this is what the pass over it reaches
 pub record IsSpan (known : List Known) (heads : List Head) (s : Span) : Type 0 where

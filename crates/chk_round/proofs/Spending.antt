@@ -28,7 +28,7 @@ use Rattle.chk_exchange.specs.Exchanges.{EndsPoll, EndsPost, PollsInside, PostsI
 use Rattle.chk_exchange.specs.Faults.{IsMade}
 use Rattle.chk_exchange.proofs.Ending.{IsOutside, serves_outside}
 use Rattle.chk_round.specs.Joint.{BothAt}
-use Rattle.chk_round.specs.Spent.{LastSink, ToldSpent, Went, WhereRunning}
+use Rattle.chk_round.specs.Spent.{LastSink, ToldSpent, Goes, WhereRunning}
 use Rattle.chk_round.proofs.Digits.{same_number}
 use Rattle.chk_round.proofs.Lasting.{went, went_none}
 use Rattle.chk_exchange.proofs.Polling.{sends_outside as poll_unsent}
@@ -52,7 +52,7 @@ tells_outside T who s t (Refused code) old new is = tt
 
 tells_made : (T : Type 0) {who : Who} {s t : Sinks} (fault : ExchangeFault)
     (made : Option ExchangeFault) {old mid next new : Option History}
-    → made ≡ Some fault → Went old mid → Serves who s (Ok made) t mid next → Went next new
+    → made ≡ Some fault → Goes old mid → Serves who s (Ok made) t mid next → Goes next new
     → Tells {T = T} who s t (Err fault) old new
 tells_made T (Outside call) made is sent serves got = tt
 tells_made T NoMemory made is sent serves got = tt
@@ -70,7 +70,7 @@ tells_made T (Refused code) made is sent serves got = tt
 -- ---- a post
 
 posted : {who : Who} {d e : Delivery} {given : Result Posted Wanting} {old new : Option History}
-    → IsPosted who d given e old new → Went old new
+    → IsPosted who d given e old new → Goes old new
 posted (script.empty {now = now} is) = went_none now
 posted (script.no_rows {now = now} some is) = went_none now
 posted (script.sent front bytes m is written call) = went call
@@ -80,7 +80,7 @@ posted (script.refused fault front bytes is written call) = went call
 
 replied : {who : Who} {now : ℕ} {d e : Delivery} {given : Result Answered Wanting}
     {old new : Option History}
-    → IsPostReplied who now d given e old new → Went old new
+    → IsPostReplied who now d given e old new → Goes old new
 replied (script.nothing {at = at} is) = went_none at
 replied (script.got p bytes is call takes) = went call
 replied (script.silent p is call) = went call
@@ -88,7 +88,7 @@ replied (script.wanting fault p is call) = went call
 
 post_ended : {who : Who} {s u : Sinks} {now count : ℕ} {b c : Agents} {made : Option ExchangeFault}
     {result : Result (Unit {0}) ExchangeFault} {old mid next new : Option History}
-    → Went old mid → Serves who s (Ok made) u mid next → EndsPost now count b made result c next new
+    → Goes old mid → Serves who s (Ok made) u mid next → EndsPost now count b made result c next new
     → Tells who s u result old new
 post_ended sent serves (EndsPost.ungot replies) = tt
 post_ended sent serves (EndsPost.silent replies) = tt
@@ -113,7 +113,7 @@ post_tells (inside.PostsInside.ended count made posts serves ends) = post_ended
 -- ---- a poll
 
 polled : {who : Who} {d e : Delivery} {given : Result Polled Wanting} {old new : Option History}
-    → IsPolled who d given e old new → Went old new
+    → IsPolled who d given e old new → Goes old new
 polled (script.none {now = now} is) = went_none now
 polled (script.sent bytes m written call) = went call
 polled (script.failed bytes written call) = went call
@@ -122,7 +122,7 @@ polled (script.refused fault bytes written call) = went call
 
 answered : {who : Who} {d e : Delivery} {given : Result PollAnswer Wanting}
     {old new : Option History}
-    → IsPollReplied who d given e old new → Went old new
+    → IsPollReplied who d given e old new → Goes old new
 answered (script.nothing {at = at} is) = went_none at
 answered (script.got p bytes is call takes) = went call
 answered (script.silent p is call) = went call
@@ -130,7 +130,7 @@ answered (script.wanting fault p is call) = went call
 
 poll_ended : {who : Who} {s u : Sinks} {count : ℕ} {b c : Agents} {made : Option ExchangeFault}
     {result : Result (Option Below) ExchangeFault} {old mid next new : Option History}
-    → Went old mid → Serves who s (Ok made) u mid next → EndsPoll count b made result c next new
+    → Goes old mid → Serves who s (Ok made) u mid next → EndsPoll count b made result c next new
     → Tells who s u result old new
 poll_ended sent serves (EndsPoll.ungot replies) = tt
 poll_ended sent serves (EndsPoll.silent replies) = tt

@@ -4,6 +4,7 @@ use Rattle.chk_reading.specs.declared.adaptor.Phase.TheVariants.{Live}
 use Rattle.chk_reading.specs.Adaptors.{Adaptor}
 use Rattle.chk_world.specs.Checkpoints.{Line}
 use Rattle.chk_agent.specs.States.{State}
+pub use Rattle.chk_world.specs.Checkpoints.{HasLiveLine}
 
 -- a live adaptor reads the log of this path under this type
 pub record IsFollowed (kind path : List ℕ) (s : State) : Type 0 where
@@ -30,14 +31,6 @@ KeepsLogs s t =
     × (HasNoRoom kind path s → HasNoRoom kind path t)
 
 -- ---- the lines
-
--- a live line of this type and path
-pub record HasLiveLine (kind path : List ℕ) (lines : List Line) : Type 0 where
-  pub line : Line
-  pub one : Contains lines line
-  pub live : line.live ≡ true
-  pub kind_is : line.kind ≡ kind
-  pub path_is : line.path ≡ path
 
 -- there are 10,000 lines, and none of them has this type and path
 pub record IsFullWithout (kind path : List ℕ) (lines : List Line) : Type 0 where

@@ -3,7 +3,6 @@ use Rattle.std.specs.Prelude.{◌≡◌, ℕ, ◌-◌, ◌^◌, false, List, ◌
 use Rattle.chk_bytes.specs.Numbers.{last_number}
 use Rattle.chk_site.specs.declared.acts.Who.{Who}
 use Rattle.chk_site.specs.History.{History, files_after, is_stopped}
-use Rattle.chk_site.specs.Site.{Adds}
 use Rattle.chk_world.specs.Committed.{number_in}
 use Rattle.chk_world.specs.Names.{BornFile, file}
 use Rattle.chk_world.specs.Rules.{Legal}
@@ -12,6 +11,7 @@ use Rattle.chk_sink.specs.Held.{Holds}
 use Rattle.chk_sink.specs.States.{State as Sinks, process}
 use Rattle.chk_exchange.specs.declared.fault.ExchangeFault.TheVariants.{Spent}
 use Rattle.chk_exchange.specs.Exchanges.{Serves}
+pub use Rattle.chk_exchange.specs.Least.{Goes}
 
 -- the history is legal, and where the site wasn't stopped P holds of it
 pub record WhereRunning (stamped : List (List ℕ)) (P : History → Type 0)
@@ -21,18 +21,14 @@ pub record WhereRunning (stamped : List (List ℕ)) (P : History → Type 0)
 
 -- ---- the sinks of a start
 
--- some calls were made
-abbrev pub Went : Option History → Option History → Type 0
-Went old new = Adds old new (λ added history. Unit {0})
-
 -- An agent sent a message, the collector took it and answered that this number is spent, and the
 -- agent asked for the answer. The handling led from the first sinks to the second ones.
 pub record ToldSpent (who : Who) (n : ℕ) (s t : Sinks) (old new : Option History) : Type 0 where
   pub mid : Option History
   pub next : Option History
-  pub sent : Went old mid
+  pub sent : Goes old mid
   pub served : Serves who s (Ok (Some (Spent n))) t mid next
-  pub got : Went next new
+  pub got : Goes next new
 
 -- The collector's start of this number has no number left for a sink: a put of a chunk told so.
 -- Before that exchange, which ends the history, the history held the sinks; behind it the last one

@@ -1,13 +1,9 @@
 -- The questions for a sink's committed length.
-use Rattle.std.specs.Prelude.{◌≡◌, ℕ, true, false, IsTrue, List, is_some, Option, None, Result, Ok, Err, MatchResult}
+use Rattle.std.specs.Prelude.{◌≡◌, ℕ, true, false, IsTrue, List, is_some, None, Result, Ok, Err}
 use Rattle.chk_bytes.specs.Numbers.{spelled}
 use Rattle.chk_bytes.specs.Stems.{Stem, is_stem, is_collector}
 use Rattle.chk_site.specs.declared.acts.Who.{Who}
-use Rattle.chk_site.specs.declared.acts.CallFault.{CallFault}
-use Rattle.chk_site.specs.declared.acts.OutsideFault.{OutsideFault}
-use Rattle.chk_site.specs.declared.acts.ActAnswer.{ActAnswer}
 use Rattle.chk_site.specs.History.{History, files_after}
-use Rattle.chk_site.specs.Site.{Adds, Asked, answered, Calls, IsTaken, Ends}
 use Rattle.chk_message.specs.Messages.{Ack}
 use Rattle.chk_world.specs.Names.{DoneFile, file}
 use Rattle.chk_world.specs.Collectors.{Handling, is_quiet}
@@ -17,13 +13,7 @@ use Rattle.chk_sink.specs.declared.fault.SinkFault.TheVariants.{Damaged, NoMemor
 use Rattle.chk_sink.specs.States.{State, process, last_stem}
 use Rattle.chk_sink.specs.Asked.{Counts, QuietSince}
 use Rattle.chk_sink.specs.Damage.{is_number_from}
-
--- the call was made, and gave this, or was refused for the state of the files, or else it ended the work
-pub record TakenOnce {V : Type 0} (q : Asked) (how : V → ActAnswer) (result : Result (Option V) OutsideFault)
-    (old new : Option History) : Type 0 where
-  pub given : Result V CallFault
-  pub came : MatchResult result (λ taken. IsTaken given taken) (λ fault. Ends q.call given fault)
-  pub told : Adds old new (Calls q (answered how given))
+pub use Rattle.chk_site.specs.Once.{TakenOnce}
 
 -- the stems have these lengths, and where nobody touched the sink x since the taking it isn't done
 pub record CountsOpen (s : State) (handled : List Handling) (t : ℕ) (stems : List Stem) (acks : List Ack) (x : Stem)

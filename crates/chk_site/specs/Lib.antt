@@ -10,3 +10,4 @@ pub mod Site
 pub mod Runs
 pub mod CallNames
 pub mod CutLaws
+pub mod Once

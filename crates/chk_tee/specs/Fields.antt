@@ -6,11 +6,7 @@ use Rattle.chk_chunk.specs.Keys.{Key, is_key, guessed_key, text_at, behind_text}
 use Rattle.chk_chunk.specs.Posts.{part_at, behind_part, up_to_part}
 use Rattle.chk_tee.specs.Messages.{Teed, is_teed, stem_in, guessed_teed, behind_teed}
 use Rattle.chk_tee.specs.Faults.{stem_wrong, offset_wrong, key_wrong, value_wrong, teed_wrong}
-
--- the number that so many bytes at a place spell
-pub record IsNumberAt (at size : ℕ) (bytes : List ℕ) (n : ℕ) : Type 0 where
-  pub within : at + size ≤ length bytes
-  pub is : n ≡ spelled_at at size bytes
+pub use Rattle.chk_chunk.specs.Fields.{IsNumberAt}
 
 -- the stem whose length stands at a place, and the place behind it
 pub record IsStemAt (at : ℕ) (bytes : List ℕ) (stem : Stem) (end : ℕ) : Type 0 where

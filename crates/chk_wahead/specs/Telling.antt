@@ -2,11 +2,9 @@
 use Rattle.std.specs.Prelude.{◌≡◌, ℕ, true, List, [], ◌∷◌, Option, Some, None, Result, Ok, Err, MatchResult}
 use Rattle.chk_site.specs.declared.acts.Who.{Who}
 use Rattle.chk_site.specs.declared.acts.Call.TheVariants.{Start, Read, Size}
-use Rattle.chk_site.specs.declared.acts.CallFault.{CallFault}
 use Rattle.chk_site.specs.declared.acts.OutsideFault.{OutsideFault}
-use Rattle.chk_site.specs.declared.acts.ActAnswer.{ActAnswer}
 use Rattle.chk_site.specs.History.{History}
-use Rattle.chk_site.specs.Site.{Adds, Asked, asked, answered, bytes_given, sized, Calls, IsTaken, Ends}
+use Rattle.chk_site.specs.Site.{Asked, asked, bytes_given, sized}
 use Rattle.chk_site.specs.Runs.{MadeInTurn}
 use Rattle.chk_wahead.specs.declared.fault.WaheadFault.{WaheadFault}
 use Rattle.chk_wahead.specs.declared.fault.WaheadFault.TheVariants.{Damaged, NoMemory}
@@ -17,13 +15,7 @@ use Rattle.chk_wahead.specs.Scripts.{Did}
 use Rattle.chk_wahead.specs.Names.{next_name, buffer_name, mark_name}
 use Rattle.chk_wahead.specs.States.{State}
 use Rattle.chk_wahead.specs.Starting.{found_of, plan_of, number_in, settling, damaged_file}
-
--- the call was made, and gave this, or was refused for the state of the files, or else it ended the work
-pub record TakenOnce {V : Type 0} (q : Asked) (how : V → ActAnswer) (result : Result (Option V) OutsideFault)
-    (old new : Option History) : Type 0 where
-  pub given : Result V CallFault
-  pub came : MatchResult result (λ taken. IsTaken given taken) (λ fault. Ends q.call given fault)
-  pub told : Adds old new (Calls q (answered how given))
+pub use Rattle.chk_site.specs.Once.{TakenOnce}
 
 -- the first 9 bytes of a small file are read
 abbrev pub Reading : Who → List ℕ → Result (Option (List ℕ)) OutsideFault → Option History → Option History → Type 0

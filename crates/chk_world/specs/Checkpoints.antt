@@ -1,5 +1,5 @@
 -- Checkpoints: one line for each stream that an agent has read.
-use Rattle.std.specs.Prelude.{ℕ, Bool, true, false, ◌&&◌, ◌||◌, not, ◌==◌, nat_eq, nat_lt, nat_le, List, [], ◌∷◌, ◌++◌, length, map, codes, decimal, bytes_eq, if◌then◌else◌, Option, Some, None, find, unwrap_or}
+use Rattle.std.specs.Prelude.{ℕ, Bool, true, false, ◌&&◌, ◌||◌, not, ◌==◌, nat_eq, nat_lt, nat_le, List, [], ◌∷◌, ◌++◌, length, map, codes, decimal, bytes_eq, if◌then◌else◌, Option, Some, None, find, unwrap_or, ◌≡◌, Contains}
 use Rattle.std.specs.List.{list_all, list_any}
 use Rattle.std.specs.Str.Parse.{digits_value}
 use Rattle.chk_bytes.specs.Numbers.{limit}
@@ -174,3 +174,11 @@ offset_in (Some l) = l.offset
 -- the offset of a stream in the checkpoint file, or 0
 abbrev pub checkpoint_of : Files → Stream → ℕ
 checkpoint_of files s = offset_in (line_of files s)
+
+-- a live line of this type and path
+pub record HasLiveLine (kind path : List ℕ) (lines : List Line) : Type 0 where
+  pub line : Line
+  pub one : Contains lines line
+  pub live : line.live ≡ true
+  pub kind_is : line.kind ≡ kind
+  pub path_is : line.path ≡ path
