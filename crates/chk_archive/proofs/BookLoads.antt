@@ -175,7 +175,3 @@ pub begin_refused : (stamped : List (List ℕ)) (loaded : Book)
     (HasBegun stamped loaded (Err (job_fault fault))))
 begin_refused stamped loaded (site_failed call) told = told
 begin_refused stamped loaded no_memory told = told
-
-pub of_read : (fault : OutsideFault) → IsOfRead (job_fault fault)
-of_read (site_failed call) = tt
-of_read no_memory = tt

@@ -37,12 +37,6 @@ removals_last ws {result = result} so_far script =
     adds_then (LastFailed result) so_far (script_last script)
     (λ a b history p q. last_then result b a history q)
 
--- without memory there is no such call
-pub none_last : (T : Type 0) {P : History → History → Type 0} {old new : Option History}
-    → Adds old new P
-    → Adds old new (LastFailed {T = T} (Err no_memory))
-none_last T told = adds_as (LastFailed {T = T} (Err no_memory)) told (λ added history p. tt)
-
 -- of the start
 pub start_last : (r : Result (Unit {0}) OutsideFault)
     (given : Result (Unit {0}) CallFault) {old new : Option History}

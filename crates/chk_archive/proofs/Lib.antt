@@ -28,7 +28,7 @@ mod ListingKept
 mod SinksSaved
 mod RunsDone
 pub mod OnceListed
-mod Finished
+pub mod Finished
 mod MergeSteps
 mod MergeFacts
 mod MergedBook
@@ -36,7 +36,7 @@ mod RawSources
 mod Holding
 mod MergeOrder
 mod MergedMany
-mod Uncounted
+pub mod Uncounted
 mod NoStrays
 mod Settled
 mod RunKinds

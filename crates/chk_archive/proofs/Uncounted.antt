@@ -22,14 +22,14 @@ ten_some : (j : ℕ) → 1 ≤ 10 ^ j
 ten_some zero = omega arith
 ten_some (suc j) = let low = ten_some j in omega (arith, low)
 
-next : (j n : ℕ) (acc : List ℕ) → 10 ≤ n
+pub next : (j n : ℕ) (acc : List ℕ) → 10 ≤ n
     → digits_onto (suc j) 10 false n acc ≡ digits_onto j 10 false (n / 10) (digit_glyph false (n % 10) ∷ acc)
 next j n acc h =
     ap (λ t. if t then digit_glyph false (n % 10) ∷ acc
     else digits_onto j 10 false (n / 10) (digit_glyph false (n % 10) ∷ acc))
     (ne_eqb (n / 10) 0 (λ e. let z : ⊥ = omega (arith, e, h) in z))
 
-long : (j n : ℕ) (acc : List ℕ) → 10 ^ j ≤ n → length (digits_onto j 10 false n acc) ≡ j + length acc
+pub long : (j n : ℕ) (acc : List ℕ) → 10 ^ j ≤ n → length (digits_onto j 10 false n acc) ≡ j + length acc
 long zero n acc big = omega arith
 long (suc j) n acc big =
     let some = ten_some j in
@@ -39,7 +39,7 @@ long (suc j) n acc big =
     omega (arith, step, rest)
 
 -- a number of 64 digits or more has 64 of them
-wide : (k : ℕ) → 10 ^ 64 ≤ k → length (decimal k) ≡ 64
+pub wide : (k : ℕ) → 10 ^ 64 ≤ k → length (decimal k) ≡ 64
 unfolding digits
 wide k big = let e = long 64 k [] big in omega (arith, e)
 
@@ -78,7 +78,7 @@ last_join [] ys d y = refl
 last_join (x ∷ xs) ys d y = last_join xs ys x y
 
 -- two numbers that are spelled alike are the same, where one is below the limit
-same_number : (m k : ℕ) → m < 2 ^ 63 → decimal m ≡ decimal k → m ≡ k
+pub same_number : (m k : ℕ) → m < 2 ^ 63 → decimal m ≡ decimal k → m ≡ k
 same_number m k small e = elim (cases_Bool (nat_lt k (10 ^ 64))) [
   | inl low ↦
       sym (decimal_is_IsNumeral_wide m (omega (arith, small))).1

@@ -26,11 +26,7 @@ use Rattle.chk_prints.proofs.Printed.{prints_made, prints_told, prints_join, pri
 use Rattle.chk_archive_run.proofs.CallKinds.{archive_silent, Tells, of_archive, of_print, prints_own, prints_list_nothing}
 use Rattle.chk_archive_run.specs.Telling.{report_lines, ArchivesAndTells}
 use Rattle.chk_archive_run.proofs.TrueLines.{StaysDone, prints_lead, lines_truly}
-
-of_fault : (stamped : List (List ℕ)) (loaded : Book) (fault : OutsideFault) (h : History) → Legal stamped h
-    → Archived stamped loaded (Err (job_fault fault)) h
-of_fault stamped loaded (site_failed call) h legal = legal
-of_fault stamped loaded no_memory h legal = legal
+use Rattle.chk_archive.proofs.Finished.{of_fault}
 
 fails_later : (T : Type 0) (fault : OutsideFault) (b a history : History) → LastFailed {T = Unit {0}} (Err fault) b (a ++ history)
     → FailsLast {T = T} (Err (job_fault fault)) (b ++ a) history

@@ -1,6 +1,6 @@
 -- Proofs of the choice.
 mod NextPairs
-mod BlockBytes
+pub mod BlockBytes
 mod PairsCompared
 mod Planned
 mod Calm

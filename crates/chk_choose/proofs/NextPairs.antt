@@ -60,11 +60,6 @@ both_first a xs b ys is =
 pub at_place : (es : List End) (k : ℕ) → k < length es → drop k es ≡ end_at es k ∷ drop (k + 1) es
 at_place es k below = drop_more es k no_end below
 
--- the end at a place is that of the struct there
-pub end_there : (es : List EndStruct) (k : ℕ) (e : EndStruct) → k < length es → e ≡ get_or es k e
-    → end_view e ≡ end_at (map end_view es) k
-end_there es k e below is = ap end_view is ∙ sym (get_or-map end_view es k e no_end below)
-
 module _ (ls rs : List End) (old new : Places) where
   pub left_passed : old.left < length ls → Left ≡ turn_of (drop old.left ls) (drop old.right rs) → new.left ≡ old.left + 1
       → new.right ≡ old.right → pairs_left ls rs old ≡ left_alone (end_at ls old.left) ∷ pairs_left ls rs new

@@ -24,17 +24,6 @@ use Rattle.chk_choose.specs.Pairs.{Pair, paired}
 use Rattle.chk_choose.specs.Differing.{difference_at, difference_by, place_behind, bytes_of, DifferAt, FoundOf, PairAgrees, PairDiffers, FirstDiffers}
 use Rattle.chk_choose.specs.Choosing.{ComparedPair, ComparedFirst, ComparedPairs}
 
--- what holds of no history may be told before the steps
-pub under : {X : Type 0} {Supposed : History → Step → Type 0} {A B : History → Type 0} {K : History → History → Type 0}
-    {old new : Option History} → Adds old new K → ((x : X) → Adds old new (Leads (anyhow Supposed) A B))
-    → Adds old new (Leads (anyhow Supposed) (λ history. A history × X) B)
-under {X = X} {Supposed = Supposed} {A = A} {B = B} k each =
-    adds_all (Leads (anyhow Supposed) (λ history. A history × X) B) k each
-    (λ added history p q. record {
-      leads = λ others had. (q had.1).leads others had.0;
-      own = owned_anyhow added history;
-    })
-
 -- ---- one stream that both have
 
 module _ (all : List (List ℕ)) (l r : Side) (held : Files) (rs : Readers) (a b : End) (v w : List ℕ) where

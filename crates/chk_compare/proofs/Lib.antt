@@ -2,6 +2,6 @@
 mod HeadsInOrder
 mod Differences
 mod Steps
-mod OneFetch
+pub mod OneFetch
 mod OneComparison
-mod AllCompared
+pub mod AllCompared

@@ -1,7 +1,7 @@
 -- Proofs of the copying.
-mod Steps
+pub mod Steps
 mod OneFetch
 mod OneRecord
 mod Blocks
-mod Segment
+pub mod Segment
 mod Standing

@@ -60,8 +60,3 @@ module _ (most : ℕ) (all names : List (List ℕ)) (held : Files) (settled : Ar
   one_fetched result raw own =
       leads_as (λ history x. x) (λ history x. said result history x)
       (among all held w settled (within w one) (leads_as (λ history has. ready history has) (λ history x. x) raw) own)
-
--- a head of no file
-pub none_fetched : (all names : List (List ℕ)) (held : Files) (h : Head) (new : RecordReader) (now : Option History)
-    → Adds now now (Leads (anyhow (SparesFiles all)) (HasFiles all held) (Fetched all names held h new (Err NoMemory)))
-none_fetched all names held h new now = leads_none now (λ history x. tt)

@@ -29,7 +29,8 @@ use Rattle.chk_compare.specs.declared.gathering.Side.{Side}
 use Rattle.chk_compare.specs.Reading.{Fetched}
 use Rattle.chk_copy.specs.Copying.{joined_segment, CanCopy, Copied}
 use Rattle.chk_merge.specs.Merging.{chunk_with}
-use Rattle.chk_copy.proofs.Steps.{of_files, of_segment, under, segment_is, files_left}
+use Rattle.chk_copy.proofs.Steps.{of_files, of_segment, segment_is, files_left}
+use Rattle.chk_compare.proofs.AllCompared.{under}
 
 -- at Ok the reader holds the value of the head's record
 abbrev pub FetchedFor : List (List ℕ) → Files → Side → Head → List Chunk → RecordReader → Segmenter → Result (Unit {0}) JobFault

@@ -25,6 +25,7 @@ use Rattle.chk_merge.specs.Merging.{SparesBoth, AreApart}
 use Rattle.chk_merge.proofs.Frames.{stays_so, spares_one}
 use Rattle.chk_merge.proofs.AllRead.{adds_all}
 use Rattle.chk_copy.specs.Copying.{joined_segment, Copies, IsForJoined, GoesOn, Worked}
+use Rattle.chk_merge.proofs.Writing.{writes_quiet}
 
 -- ---- steps of others
 
@@ -41,17 +42,6 @@ of_segment all segment w is (step ∷ added) history s = (
   λ theirs. subst (λ v. SparesFile v (added ++ history) step) (sym is) (s.1 theirs).1,
 )
 
--- what holds of no history may be told before the steps
-pub under : {X : Type 0} {Supposed : History → Step → Type 0} {A B : History → Type 0} {K : History → History → Type 0}
-    {old new : Option History} → Adds old new K → ((x : X) → Adds old new (Leads (anyhow Supposed) A B))
-    → Adds old new (Leads (anyhow Supposed) (λ history. A history × X) B)
-under {X = X} {Supposed = Supposed} {A = A} {B = B} k each =
-    adds_all (Leads (anyhow Supposed) (λ history. A history × X) B) k each
-    (λ added history p q. record {
-      leads = λ others had. (q had.1).leads others had.0;
-      own = owned_anyhow added history;
-    })
-
 -- ---- the segment
 
 pub segment_is : (s : Segmenter) (w : Writing) → IsAt s w → w.folder ≡ codes "joined"
@@ -67,12 +57,6 @@ goes_on s t c (Ok value) f at who =
       writer = record { who = who ∙ f.who; w = taken s f.w c; at = a; folder = f.folder };
     }
 goes_on s t c (Err fault) f at who = tt
-
-writes_quiet : (segment v : List ℕ) → bytes_eq v segment ≡ false → (call : Deed) → WritesTo segment call → touches call v ≡ false
-writes_quiet segment v apart call removes = apart
-writes_quiet segment v apart call creates = apart
-writes_quiet segment v apart call (appends piece) = apart
-writes_quiet segment v apart call syncs = apart
 
 -- own writing of the segment leaves the files
 pub files_left : (all : List (List ℕ)) (held : Files) (segment : List ℕ) → AreSettled all held → AreApart all segment
@@ -135,27 +119,6 @@ reads_copy n own = as_kind ReadsFile (Copies n) (λ call k. inl k) own
 pub writes_copy : (n : ℕ) {old new : Option History} → Adds old new (Every (IsOf (WritesTo (joined_segment n))))
     → Adds old new (Every (IsOf (Copies n)))
 writes_copy n own = as_kind (WritesTo (joined_segment n)) (Copies n) (λ call k. inr k) own
-
--- steps that write a segment read nothing
-pub writes_ask : (segment : List ℕ) {old new : Option History} → Adds old new (Every (IsOf (WritesTo segment)))
-    → Adds old new (Every AsksInPieces)
-writes_ask segment made = adds_as (Every AsksInPieces) made (λ added history every. go added history every)
-  where
-    no_read : (call : Deed) → WritesTo segment call → (name : List ℕ) (at max : ℕ) → call ≡ Reads name at max → ⊥
-    no_read call removes name at max is = absurd (cc)
-    no_read call creates name at max is = absurd (cc)
-    no_read call (appends piece) name at max is = absurd (cc)
-    no_read call syncs name at max is = absurd (cc)
-
-    go : (added history : History) → Every (IsOf (WritesTo segment)) added history → Every AsksInPieces added history
-    go [] history every = tt
-    go (step ∷ added) history every = (
-      go added history every.0,
-      λ mine name at max is. elim every.1 [
-        | inl theirs ↦ absurd (true≢false (sym mine ∙ theirs.0))
-        | inr own ↦ absurd (no_read (deed step.act) own.1 name at max is)
-      ],
-    )
 
 -- what refuses writing may refuse reading and writing
 pub of_write : {T : Type 0} (result : Result T JobFault) → IfErr result IsOfWrite → IfErr result IsOfRead

@@ -9,7 +9,8 @@ use Rattle.chk_plan.proofs.Bridges.{each_index}
 use Rattle.chk_book.specs.Books.{end_in}
 use Rattle.chk_book.specs.Views.{end_view}
 use Rattle.chk_book.specs.declared.lists.End.{End as EndStruct}
-use Rattle.chk_parts.proofs.EndsInOrder.{apart, apart_from, Sorted, before_on, behind_it}
+use Rattle.chk_parts.proofs.EndsInOrder.{apart, apart_from, Sorted, behind_it}
+use Rattle.chk_merge.proofs.OnePass.{stream_onward as before_on}
 use Rattle.chk_demux.proofs.Streams.{seen_at}
 
 -- an item of a list, as it is seen

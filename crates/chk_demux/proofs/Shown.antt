@@ -25,18 +25,6 @@ use Rattle.chk_merge.proofs.Causes.{late_gone_in, late_unsound}
 use Rattle.chk_demux.specs.declared.beginning.Books.{Books}
 use Rattle.chk_demux.specs.Shown.{ShowsArchive, IsDamage, ShowsSpent, no_archive, no_records, unsound, ShowsBegun}
 
--- no damage is told
-pub shows_opened : {T : Type 0} (C : Cause) (result : Result T JobFault) {P : History → History → Type 0} {old new : Option History}
-    → IfErr result IsOfWrite → Adds old new P → Adds old new (Shows C result)
-shows_opened C result of told = adds_as (Shows C result) told (λ added history x. said C result of added history)
-  where
-    said : {T : Type 0} (C : Cause) (result : Result T JobFault) → IfErr result IsOfWrite → (added history : History) → Shows C result added history
-    said C (Ok value) of added history = tt
-    said C (Err (Outside call)) of added history = tt
-    said C (Err (Damaged name at)) of added history = absurd of
-    said C (Err (Spent n)) of added history = tt
-    said C (Err NoMemory) of added history = tt
-
 -- a record isn't found again
 pub gone_behind : {T : Type 0} (folder : List ℕ) (b : Book) (ns : List (List ℕ)) (heads : List Head) (result : Result T JobFault)
     {old mid new : Option History} → ns ≡ names_of folder b → Adds old mid (ShowsSound folder b (Ok heads))

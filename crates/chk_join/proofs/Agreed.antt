@@ -18,7 +18,7 @@ use Rattle.chk_choose.proofs.Lookup.{pair_stream, pair_for}
 use Rattle.chk_join.specs.Preparing.{stream_of}
 use Rattle.chk_world.proofs.Rounds.{stream_self}
 use Rattle.chk_join.proofs.PairFacts.{PairsRise, no_pair}
-use Rattle.chk_parts.proofs.EndsInOrder.{before_on}
+use Rattle.chk_merge.proofs.OnePass.{stream_onward as before_on}
 
 -- ---- bytes
 

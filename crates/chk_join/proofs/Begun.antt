@@ -31,9 +31,6 @@ use Rattle.chk_join.specs.Working.{Worked, Starting, starts}
 use Rattle.chk_join.proofs.BookLoads.{HasLoaded}
 use Rattle.chk_join.proofs.Works.{worked, works_as}
 
-pub joined_is_folder : is_folder (codes "joined") ≡ true
-joined_is_folder = and_from _ _ (plain_word (codes "joined") refl (omega arith) (omega arith)) refl
-
 abbrev pub joined_book : List ℕ
 joined_book = book_name (codes "joined")
 
@@ -105,7 +102,3 @@ pub load_begins : {T : Type 0} (r : Result T JobFault) {old new : Option History
     → Adds old new (Every AsksInPieces) → Adds old new (FailsLast r) → Adds old new (Worked Begins r)
 load_begins r own pieces last =
     works_as ReadsFile Begins (λ call k. begins_reading call k) r (worked ReadsFile r own pieces last)
-
-pub of_read : (fault : OutsideFault) → IsOfRead (job_fault fault)
-of_read (site_failed call) = tt
-of_read no_memory = tt

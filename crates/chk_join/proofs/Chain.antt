@@ -40,13 +40,9 @@ use Rattle.chk_join.specs.Working.{Worked}
 use Rattle.chk_join.proofs.Joins.{joins}
 use Rattle.chk_join.proofs.Works.{worked, works_as}
 use Rattle.chk_join.proofs.Gathered.{is_side}
+use Rattle.chk_copy.proofs.Steps.{of_files}
 
 -- ---- steps of others
-
-pub of_files : (all : List (List ℕ)) (segment : List ℕ) (added history : History)
-    → Others (SparesBoth all segment) added history → Others (SparesFiles all) added history
-of_files all segment [] history s = tt
-of_files all segment (step ∷ added) history s = (of_files all segment added history s.0, λ theirs. (s.1 theirs).0)
 
 pub of_segment : (all : List (List ℕ)) (segment : List ℕ) (added history : History)
     → Others (SparesBoth all segment) added history → Others (SparesFile segment) added history

@@ -29,8 +29,8 @@ use Rattle.chk_choose.specs.Choosing.{IsSideInOrder}
 use Rattle.chk_choose.specs.Differing.{bytes_of}
 use Rattle.chk_join.specs.Joined.{records_of_book}
 use Rattle.chk_join.specs.Preparing.{IsGathered}
-use Rattle.chk_join.proofs.SortedStream.{each_sort}
-use Rattle.chk_join.proofs.SortedRuns.{HasBytes, order_keeps}
+use Rattle.chk_merge.proofs.SortedStream.{each_sort}
+use Rattle.chk_merge.proofs.SortedRuns.{HasBytes, order_keeps}
 use Rattle.chk_join.proofs.Taken.{side_chunks, side_bytes, chunks_of_heads}
 
 -- ---- the streams of heads in order rise

@@ -6,8 +6,6 @@ mod BookLoads
 mod Begun
 mod Tidied
 mod RunFacts
-mod SortedStream
-mod SortedRuns
 mod BlockHeads
 mod PairFacts
 mod Taken
@@ -18,7 +16,6 @@ mod PlanWritten
 mod Chain
 mod Apart
 mod RunsOn
-mod BookSpelled
 mod Published
 mod Folders
 mod Whole

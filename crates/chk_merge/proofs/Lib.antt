@@ -1,20 +1,20 @@
 mod Sized
 pub mod Records
 mod Windows
-mod RunReads
-mod Fetching
+pub mod RunReads
+pub mod Fetching
 pub mod Causes
 pub mod Frames
 pub mod AllGathered
 pub mod AllRead
 pub mod Joining
 pub mod Archived
-mod SortedStream
-mod SortedRuns
+pub mod SortedStream
+pub mod SortedRuns
 mod Checked
-mod OnePass
+pub mod OnePass
 pub mod SoundHeads
-mod Writing
+pub mod Writing
 mod Merged
 mod MergedInto
 pub mod Undamaged

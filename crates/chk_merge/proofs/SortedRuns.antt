@@ -22,7 +22,7 @@ abbrev BeginsPast : Stream → ℕ → Head → Type 0
 BeginsPast s n h = is_head_of s h ≡ true → n ≤ h.begin
 
 -- those behind one that goes on begin where it ends, or past that
-behind : (s : Stream) (e : End) (n : ℕ) (hs : List Head) → Each HasBytes hs → first_break s e n hs ≡ None → Each (BeginsPast s n) hs
+pub behind : (s : Stream) (e : End) (n : ℕ) (hs : List Head) → Each HasBytes hs → first_break s e n hs ≡ None → Each (BeginsPast s n) hs
 behind s e n [] some fine = tt
 behind s e n (h ∷ hs) some fine =
     go (λ m f. behind s e m hs some.1 f) (is_head_of s h) (goes_on e n h) refl refl fine
@@ -44,7 +44,7 @@ behind s e n (h ∷ hs) some fine =
     go rest false g is on fine = ((λ own. absurd (true≢false (sym own ∙ is))), rest n fine)
 
 -- one that begins past the end of another of its stream doesn't come before it
-not_before : (s : Stream) (h k : Head) → is_head_of s h ≡ true → is_head_of s k ≡ true → HasBytes h → h.key.seq ≤ k.begin → head_before k h ≡ false
+pub not_before : (s : Stream) (h k : Head) → is_head_of s h ≡ true → is_head_of s k ≡ true → HasBytes h → h.key.seq ≤ k.begin → head_before k h ≡ false
 not_before s h k mine also some past =
     let same : s ≡ h.key.stream = streams_same s h.key.stream mine in
     let alike : same_stream h.key.stream k.key.stream ≡ true = subst (λ t. same_stream t k.key.stream ≡ true) same also in

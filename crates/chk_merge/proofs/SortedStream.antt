@@ -13,7 +13,7 @@ abbrev pub Rises : {X : Type 0} → (X → X → Bool) → (X → Bool) → List
 Rises lt p [] = Unit {0}
 Rises lt p (x ∷ xs) = (p x ≡ true → Each (NoneBefore lt p x) xs) × Rises lt p xs
 
-each_put : {X : Type 0} (P : X → Type 0) (lt : X → X → Bool) (x : X) (ys : List X) → P x → Each P ys → Each P (put_by lt x ys)
+pub each_put : {X : Type 0} (P : X → Type 0) (lt : X → X → Bool) (x : X) (ys : List X) → P x → Each P ys → Each P (put_by lt x ys)
 each_put P lt x [] one all = (one, tt)
 each_put P lt x (y ∷ ys) one all = go (lt y x) (each_put P lt x ys one all.1)
   where
@@ -26,7 +26,7 @@ each_sort P lt [] all = tt
 each_sort P lt (x ∷ xs) all = each_put P lt x (sort_by lt xs) all.0 (each_sort P lt xs all.1)
 
 -- one that doesn't pass
-put_other : {X : Type 0} (lt : X → X → Bool) (p : X → Bool) (x : X) (ys : List X) → p x ≡ false → filter p (put_by lt x ys) ≡ filter p ys
+pub put_other : {X : Type 0} (lt : X → X → Bool) (p : X → Bool) (x : X) (ys : List X) → p x ≡ false → filter p (put_by lt x ys) ≡ filter p ys
 put_other lt p x [] other = rw other refl
 put_other lt p x (y ∷ ys) other = go (lt y x) (put_other lt p x ys other)
   where
@@ -36,7 +36,7 @@ put_other lt p x (y ∷ ys) other = go (lt y x) (put_other lt p x ys other)
     go false rest = rw other refl
 
 -- one that passes, and before which no other comes
-put_first : {X : Type 0} (lt : X → X → Bool) (p : X → Bool) (x : X) (ys : List X) → p x ≡ true → Each (NoneBefore lt p x) ys
+pub put_first : {X : Type 0} (lt : X → X → Bool) (p : X → Bool) (x : X) (ys : List X) → p x ≡ true → Each (NoneBefore lt p x) ys
     → filter p (put_by lt x ys) ≡ x ∷ filter p ys
 put_first lt p x [] mine none = rw mine refl
 put_first lt p x (y ∷ ys) mine none = go (lt y x) (p y) refl refl (put_first lt p x ys mine none.1)

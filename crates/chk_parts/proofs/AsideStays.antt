@@ -35,7 +35,8 @@ use Rattle.chk_parts.specs.Kept.{is_first, rise_from, are_old_aside, IsFirst}
 use Rattle.chk_parts.specs.Records.{file_at, IsRecordOf, AreRecords}
 use Rattle.chk_parts.proofs.CutLists.{zip_at, no_cut}
 use Rattle.chk_parts.proofs.FoundRecords.{is_head}
-use Rattle.chk_parts.proofs.KeptOnce.{same_behind, filter_all, Differ, differ_at, same_length}
+use Rattle.chk_parts.proofs.KeptOnce.{same_behind, Differ, differ_at, same_length}
+use Rattle.chk_plan.proofs.Blocks.{filter_all}
 use Rattle.chk_world.proofs.BooksTrue.{each_append as each_join}
 use Rattle.chk_parts.proofs.Rising.{RisesFrom, IsIn, is_in, heads_past}
 use Rattle.chk_plan.proofs.HeadOrder.{compares}

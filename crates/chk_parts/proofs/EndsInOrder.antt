@@ -9,15 +9,9 @@ use Rattle.chk_world.proofs.Each.{Each, each_as}
 use Rattle.chk_heads.proofs.Orders.{streams}
 use Rattle.chk_book.specs.Segmenting.{raised_end}
 use Rattle.chk_book.proofs.EndRaises.{ending_at, raised_same, raised_put, raised_on}
+use Rattle.chk_merge.proofs.OnePass.{stream_onward as before_on}
 
 -- ---- streams in order
-
-pub before_on : (a b c : Stream) → stream_lt a b ≡ true → stream_lt b c ≡ true → stream_lt a c ≡ true
-before_on a b c p q = elim (cases_Bool (stream_lt a c)) [
-  | inl h ↦ h
-  | inr unlike ↦ absurd (true≢false (sym p
-      ∙ streams.order.onward a c b unlike (streams.order.one_way b c q)))
-]
 
 -- one that comes before another is not the same
 pub apart : (a b : Stream) → stream_lt a b ≡ true → same_stream a b ≡ false

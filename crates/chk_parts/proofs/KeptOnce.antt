@@ -24,6 +24,7 @@ use Rattle.chk_parts.specs.Cuts.{no_chunk, cut_of, cut_chunk, cut_chunks}
 use Rattle.chk_parts.specs.Kept.{past_chunks, whole_from, past_cuts}
 use Rattle.chk_parts.proofs.CutParts.{place}
 use Rattle.chk_world.proofs.BooksTrue.{each_append as each_join}
+use Rattle.chk_plan.proofs.Blocks.{filter_all}
 
 pub between_more : {X : Type 0} (xs : List X) (i j : ℕ) (d : X) → i < j → j ≤ length xs
     → between i j xs ≡ slice_index_or xs i d ∷ between (i + 1) j xs
@@ -111,10 +112,6 @@ filter_on p x xs e = ap (λ b. cond b (x ∷ filter p xs) (filter p xs)) e
 
 filter_off : (p : Chunk → Bool) (x : Chunk) (xs : List Chunk) → p x ≡ false → filter p (x ∷ xs) ≡ filter p xs
 filter_off p x xs e = ap (λ b. cond b (x ∷ filter p xs) (filter p xs)) e
-
-pub filter_all : (p : Chunk → Bool) (xs : List Chunk) → Each (λ c. p c ≡ true) xs → filter p xs ≡ xs
-filter_all p [] all = refl
-filter_all p (x ∷ xs) all = filter_on p x xs all.0 ∙ ap (λ l. x ∷ l) (filter_all p xs all.1)
 
 abbrev other_than : Chunk → Chunk → Bool
 other_than c x = not (same_data c x)

@@ -6,7 +6,7 @@ pub mod Gaps
 pub mod BooksMay
 pub mod SetAside
 pub mod HeadOrder
-mod Blocks
+pub mod Blocks
 pub mod Bridges
 pub mod SpanBlocks
 pub mod KnownSearch

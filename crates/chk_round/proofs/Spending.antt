@@ -29,7 +29,7 @@ use Rattle.chk_exchange.specs.Faults.{IsMade}
 use Rattle.chk_exchange.proofs.Ending.{IsOutside, serves_outside}
 use Rattle.chk_round.specs.Joint.{BothAt}
 use Rattle.chk_round.specs.Spent.{LastSink, ToldSpent, Goes, WhereRunning}
-use Rattle.chk_round.proofs.Digits.{same_number}
+use Rattle.chk_archive.proofs.Uncounted.{same_number}
 use Rattle.chk_round.proofs.Lasting.{went, went_none}
 use Rattle.chk_exchange.proofs.Polling.{sends_outside as poll_unsent}
 use Rattle.chk_exchange.proofs.Posting.{sends_outside as post_unsent}

@@ -5,7 +5,8 @@ use Rattle.chk_heads.proofs.Gathering.{every_then}
 use Rattle.chk_book.specs.Loaded.{book_result}
 use Rattle.chk_archive.specs.Beginning.{Begins}
 use Rattle.chk_heads.specs.Pieces.{AsksInPieces}
-use Rattle.chk_archive.proofs.BookLoads.{book_loaded, load_works, begin_refused, of_read}
+use Rattle.chk_archive.proofs.BookLoads.{book_loaded, load_works, begin_refused}
+use Rattle.chk_merge.proofs.Fetching.{failed_read as of_read}
 use Rattle.chk_book.specs.declared.book.Book.{Book as Struct}
 use Rattle.chk_parts.proofs.WholeSegments.{archive_folder}
 use Rattle.chk_parts.proofs.StepKinds.{fails_behind}

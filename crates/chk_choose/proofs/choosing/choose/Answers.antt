@@ -21,7 +21,8 @@ use Rattle.chk_choose.specs.declared.choosing.Chosen.TheVariants.{Agree, Differ}
 use Rattle.chk_choose.specs.declared.difference.Difference.{Difference}
 use Rattle.chk_choose.specs.declared.pairs.Places.{Places}
 use Rattle.chk_choose.specs.Pairs.{pairs_of, pairs_left}
-use Rattle.chk_choose.proofs.PairsCompared.{ComparedUpTo, under, begun, one_more, one_differs, one_refused, all_agree}
+use Rattle.chk_choose.proofs.PairsCompared.{ComparedUpTo, begun, one_more, one_differs, one_refused, all_agree}
+use Rattle.chk_compare.proofs.AllCompared.{under}
 use Rattle.chk_choose.proofs.Planned.{IsPlannedUpTo, planned_none, planned_more, planned_all}
 use Rattle.chk_choose.proofs.choosing.choose.Goals as goal
 

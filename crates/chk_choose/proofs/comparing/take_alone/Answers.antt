@@ -2,7 +2,7 @@ use Rattle.std.proofs.Common.{subst}
 use Rattle.chk_world.specs.Books.{End}
 use Rattle.chk_book.specs.Views.{end_view}
 use Rattle.chk_choose.specs.Plans.{HasTakenBlock}
-use Rattle.chk_choose.proofs.NextPairs.{end_there}
+use Rattle.chk_merge.proofs.OnePass.{end_there}
 use Rattle.chk_choose.proofs.BlockBytes.{is_block}
 use Rattle.chk_choose.proofs.comparing.take_alone.Goals as goal
 

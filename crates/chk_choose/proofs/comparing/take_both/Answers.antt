@@ -5,7 +5,7 @@ use Rattle.chk_merge.specs.OnePass.{end_at}
 use Rattle.chk_compare.specs.Comparing.{values_between}
 use Rattle.chk_choose.specs.Pairs.{paired}
 use Rattle.chk_choose.specs.Plans.{HasTakenPair}
-use Rattle.chk_choose.proofs.NextPairs.{end_there}
+use Rattle.chk_merge.proofs.OnePass.{end_there}
 use Rattle.chk_choose.proofs.BlockBytes.{block_bytes, is_block}
 use Rattle.chk_choose.proofs.Longer.{took_pair}
 use Rattle.chk_choose.proofs.PairsCompared.{pair_told, pair_fault, as_ends}

@@ -3,7 +3,8 @@ use Rattle.std.proofs.lemmas.List.{drop_all, length-map}
 use Rattle.chk_world.specs.Books.{End}
 use Rattle.chk_book.specs.Views.{end_view}
 use Rattle.chk_choose.specs.Pairs.{turn_of}
-use Rattle.chk_choose.proofs.NextPairs.{at_place, end_there}
+use Rattle.chk_choose.proofs.NextPairs.{at_place}
+use Rattle.chk_merge.proofs.OnePass.{end_there}
 use Rattle.chk_choose.proofs.pairs.next_turn.Goals as goal
 
 pub returns-then-right-rights-clause-is : goal.returns-then-right-rights-clause-is

@@ -2,7 +2,8 @@ use Rattle.std.proofs.Common.{◌≡◌, ◌∙◌, [], ap, sym, get_or}
 use Rattle.std.specs.Prelude.{Contains}
 use Rattle.chk_heads.specs.Heads.{Head}
 use Rattle.chk_heads.specs.Order.{no_head}
-use Rattle.chk_copy.proofs.OneFetch.{one_fetched, none_fetched}
+use Rattle.chk_copy.proofs.OneFetch.{one_fetched}
+use Rattle.chk_compare.proofs.OneFetch.{none_fetched}
 use Rattle.chk_site.proofs.Leads.{leads_none}
 use Rattle.chk_copy.proofs.records.fetch.Goals as goal
 

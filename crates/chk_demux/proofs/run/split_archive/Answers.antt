@@ -18,7 +18,7 @@ use Rattle.std.proofs.Common.{ℕ}
 use Rattle.std.specs.Prelude.{codes}
 use Rattle.chk_heads.proofs.Causes.{shows_first}
 use Rattle.chk_merge.specs.Gone.{IsUnsound}
-use Rattle.chk_demux.proofs.Shown.{shows_opened}
+use Rattle.chk_merge.proofs.Causes.{shows_written as shows_opened}
 use Rattle.chk_demux.proofs.NewHeads.{reads_spend, writes_spend, puts_spend}
 use Rattle.chk_demux.proofs.run.split_archive.Goals as goal
 

@@ -23,7 +23,8 @@ use Rattle.chk_demux.proofs.Works.{worked, works_none, works_as, works_result, w
 use Rattle.chk_site.proofs.Runs.{adds_none}
 use Rattle.chk_heads.proofs.Causes.{shows_first}
 use Rattle.chk_merge.specs.Gone.{IsGoneIn}
-use Rattle.chk_demux.proofs.Shown.{shows_opened, writes_read}
+use Rattle.chk_merge.proofs.Causes.{shows_written as shows_opened}
+use Rattle.chk_demux.proofs.Shown.{writes_read}
 use Rattle.chk_demux.proofs.NewHeads.{past_put}
 use Rattle.chk_demux.proofs.splitting.split_record.Goals as goal
 
