@@ -1,10 +1,12 @@
 -- The beginning of a join.
-use Rattle.std.proofs.Common.{◌≡◌, ℕ, false, true, List, ◌++◌, Option, Ok, Err, Result, refl, subst, arith}
+use Rattle.std.proofs.Common.{◌≡◌, ℕ, false, true, List, ◌++◌, Option, Ok, Err, Result, refl, subst}
+use Rattle.std.proofs.Common.{arith}
 use Rattle.std.specs.Prelude.{codes}
 use Rattle.std.proofs.lemmas.Bool.{and_from}
 use Rattle.chk_bytes.proofs.WordLemmas.{plain_word}
 use Rattle.chk_site.specs.declared.acts.OutsideFault.{OutsideFault}
-use Rattle.chk_site.specs.declared.acts.OutsideFault.TheVariants.{Outside as site_failed, NoMemory as no_memory}
+use Rattle.chk_site.specs.declared.acts.OutsideFault.TheVariants.{Outside as site_failed}
+use Rattle.chk_site.specs.declared.acts.OutsideFault.TheVariants.{NoMemory as no_memory}
 use Rattle.chk_site.specs.Files.{File, IsSettled}
 use Rattle.chk_site.specs.Acts.{Deed, touches}
 use Rattle.chk_site.specs.History.{History, Every}

@@ -1,5 +1,6 @@
 -- The load of a folder's book in a legal history.
-use Rattle.std.proofs.Common.{◌≡◌, ℕ, List, Option, Some, None, Ok, Err, Result, ap, sym, subst, ◌∙◌, refl, false}
+use Rattle.std.proofs.Common.{◌≡◌, ℕ, List, Option, Some, None, Ok, Err, Result, ap, sym, subst}
+use Rattle.std.proofs.Common.{◌∙◌, refl, false}
 use Rattle.std.proofs.lemmas.Option.{none-some}
 use Rattle.chk_site.specs.Files.{File}
 use Rattle.chk_site.specs.Effect.{IsSmallFile}

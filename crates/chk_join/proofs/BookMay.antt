@@ -7,7 +7,9 @@ use Rattle.chk_replace.specs.Replace.{replacement}
 use Rattle.chk_site.proofs.Leads.{leads_as}
 use Rattle.chk_site.specs.Runs.{Leads, MadeInTurn}
 use Rattle.chk_site.specs.Site.{Adds}
-use Rattle.std.proofs.Common.{◌≡◌, inl, inr, ℕ, zero, suc, ◌≤◌, Bool, true, false, List, [], ◌∷◌, ◌++◌, length, Option, Some, None, refl, ap, sym, subst, ◌∙◌, arith, append-nil, if◌then◌else◌, Result, Ok, Err}
+use Rattle.std.proofs.Common.{◌≡◌, inl, inr, ℕ, zero, suc, ◌≤◌, Bool, true, false, List, [], ◌∷◌}
+use Rattle.std.proofs.Common.{◌++◌, length, Option, Some, None, refl, ap, sym, subst, ◌∙◌, arith}
+use Rattle.std.proofs.Common.{append-nil, if◌then◌else◌, Result, Ok, Err}
 use Rattle.std.specs.Prelude.{IsTrue, Contains, filter_map, flat_map, nat_le, codes, nat_lt}
 use Rattle.std.specs.List.{cons_option, list_all}
 use Rattle.std.proofs.lemmas.Bool.{and_parts, and_from, leb-true}
@@ -17,9 +19,13 @@ use Rattle.chk_site.specs.History.{History, files_after}
 use Rattle.chk_chunk.specs.Keys.{Key, Chunk, chunk_limit, record_limit, has_value, read_key}
 use Rattle.chk_seqfile.specs.Entries.{Placed, records_of}
 use Rattle.chk_world.specs.Names.{JoinedFolder, SegmentFile, file}
-use Rattle.chk_world.specs.Books.{Segment, Book, AllChunks, chunk_if, chunk_with, chunk_of, chunks_in, chunks_within, chunks_named, chunks_of_stream, segment_chunks, ends_rise, Version, is_book, is_segment, is_end, segments_rise, book_bytes, written_version}
+use Rattle.chk_world.specs.Books.{Segment, Book, AllChunks, chunk_if, chunk_with, chunk_of}
+use Rattle.chk_world.specs.Books.{chunks_in, chunks_within, chunks_named, chunks_of_stream}
+use Rattle.chk_world.specs.Books.{segment_chunks, ends_rise, Version, is_book, is_segment, is_end}
+use Rattle.chk_world.specs.Books.{segments_rise, book_bytes, written_version}
 use Rattle.chk_world.specs.Committed.{HasFile}
-use Rattle.chk_world.specs.Jobs.{Run, IsSoundSegment, BookNamesSyncedSegments, segment_list, all_segments}
+use Rattle.chk_world.specs.Jobs.{Run, IsSoundSegment, BookNamesSyncedSegments, segment_list}
+use Rattle.chk_world.specs.Jobs.{all_segments}
 use Rattle.chk_world.specs.Sight.{Sight, sight, own_book, job, AtJob}
 use Rattle.chk_parts.specs.Publishing.{IsPublished, MayFollow, Published, ReplacesBookOf}
 use Rattle.chk_parts.proofs.OneSegment.{some_has}

@@ -1,5 +1,6 @@
 -- One part of a join behind the other.
-use Rattle.std.proofs.Common.{◌≡◌, inl, inr, ℕ, ◌≤◌, false, List, [], ◌∷◌, ◌++◌, map, length, Option, Ok, Err, Result, refl, ap, ap₂, sym, subst, ◌∙◌, arith}
+use Rattle.std.proofs.Common.{◌≡◌, inl, inr, ℕ, ◌≤◌, false, List, [], ◌∷◌, ◌++◌, map, length}
+use Rattle.std.proofs.Common.{Option, Ok, Err, Result, refl, ap, ap₂, sym, subst, ◌∙◌, arith}
 use Rattle.std.specs.Prelude.{flat_map, Contains, if◌then◌else◌}
 use Rattle.chk_site.specs.Files.{Files}
 use Rattle.chk_site.specs.Acts.{Deed, touches}
@@ -19,7 +20,8 @@ use Rattle.chk_heads.specs.declared.fault.JobFault.{JobFault}
 use Rattle.chk_heads.specs.declared.fault.JobFault.TheVariants.{Outside, Damaged, Spent, NoMemory}
 use Rattle.chk_book.specs.Views.{end_view}
 use Rattle.chk_book.specs.Folders.{most_in}
-use Rattle.chk_merge.specs.Segments.{names_of, HasFiles, SparesFiles, AreSettled, IsSound, heads_from}
+use Rattle.chk_merge.specs.Segments.{names_of, HasFiles, SparesFiles, AreSettled, IsSound}
+use Rattle.chk_merge.specs.Segments.{heads_from}
 use Rattle.chk_merge.specs.Checking.{AllGoWell}
 use Rattle.chk_merge.specs.Merging.{SparesBoth, AreApart, SoundHeads}
 use Rattle.chk_merge.proofs.AllRead.{adds_all}
@@ -33,7 +35,8 @@ use Rattle.chk_choose.specs.Plans.{IsPlanOf, AreChoicesOf}
 use Rattle.chk_choose.specs.Differing.{PairAgrees}
 use Rattle.chk_choose.specs.Choosing.{IsSideInOrder, ComparedPairs}
 use Rattle.chk_copy.specs.Copying.{joined_segment, chosen_chunks, FitsIn, Copies}
-use Rattle.chk_join.specs.Preparing.{SpentPlan, WrotePlan, TookPlan, HasOrder, IsGathered, JoinedSides, JoinedBooks}
+use Rattle.chk_join.specs.Preparing.{SpentPlan, WrotePlan, TookPlan, HasOrder, IsGathered}
+use Rattle.chk_join.specs.Preparing.{JoinedSides, JoinedBooks}
 use Rattle.chk_join.specs.declared.preparing.Prepared.{Prepared}
 use Rattle.chk_join.specs.declared.preparing.Prepared.TheVariants.{Ready, Differs}
 use Rattle.chk_join.specs.Working.{Worked}

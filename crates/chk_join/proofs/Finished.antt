@@ -1,5 +1,6 @@
 -- What stands behind a join.
-use Rattle.std.proofs.Common.{◌≡◌, inl, inr, ℕ, false, List, ◌∷◌, ◌++◌, length, map, Some, refl, ap, sym, subst, ◌∙◌, bytes_eq, append-nil}
+use Rattle.std.proofs.Common.{◌≡◌, inl, inr, ℕ, false, List, ◌∷◌, ◌++◌, length, map, Some, refl, ap}
+use Rattle.std.proofs.Common.{sym, subst, ◌∙◌, bytes_eq, append-nil}
 use Rattle.std.specs.Prelude.{codes, unwrap_or}
 use Rattle.std.proofs.lemmas.Bool.{or_from}
 use Rattle.chk_site.specs.Files.{Files}
@@ -7,7 +8,8 @@ use Rattle.chk_site.specs.Acts.{Deed, touches}
 use Rattle.chk_site.specs.History.{History, Every, Others, files_after}
 use Rattle.chk_replace.specs.Replace.{tmp}
 use Rattle.chk_chunk.specs.Keys.{Stream, Chunk, chunk_limit}
-use Rattle.chk_world.specs.Books.{Segment, End, Book, book_in, empty_book, chunks_within, chunks_of_stream}
+use Rattle.chk_world.specs.Books.{Segment, End, Book, book_in, empty_book, chunks_within}
+use Rattle.chk_world.specs.Books.{chunks_of_stream}
 use Rattle.chk_world.specs.JobSteps.{IsOf, removes, creates, appends, syncs}
 use Rattle.chk_heads.specs.Pieces.{bytes_in}
 use Rattle.chk_book.specs.Folders.{segment_name, segment_stem}
@@ -19,7 +21,9 @@ use Rattle.chk_parts.proofs.OneSegment.{has_some, some_has}
 use Rattle.chk_copy.specs.Copying.{joined_segment}
 use Rattle.chk_join.specs.Archives.{join, Agree}
 use Rattle.chk_join.specs.Runs.{IsAlone, AreRuns, bytes_of}
-use Rattle.chk_join.specs.Joined.{joined_folder, folder_book, archive_with, archive_by, archive_in, records_of_book, records_in, AreJoined, of_joined, LeavesFolders, NamesAlone, JoinDone}
+use Rattle.chk_join.specs.Joined.{joined_folder, folder_book, archive_with, archive_by, archive_in}
+use Rattle.chk_join.specs.Joined.{records_of_book, records_in, AreJoined, of_joined, LeavesFolders}
+use Rattle.chk_join.specs.Joined.{NamesAlone, JoinDone}
 use Rattle.chk_join.specs.Publishing.{HasNewBook}
 use Rattle.chk_join.specs.declared.report.JoinReport.{JoinReport}
 use Rattle.chk_join.proofs.Begun.{joined_book}

@@ -1,11 +1,13 @@
 -- The books of the folders are loaded, and their archives joined.
-use Rattle.std.proofs.Common.{◌≡◌, inl, inr, ℕ, Bool, true, false, ◌&&◌, List, length, [], ◌∷◌, Option, Some, None, Ok, Err, Result, refl, sym, subst}
+use Rattle.std.proofs.Common.{◌≡◌, inl, inr, ℕ, Bool, true, false, ◌&&◌, List, length, [], ◌∷◌}
+use Rattle.std.proofs.Common.{Option, Some, None, Ok, Err, Result, refl, sym, subst}
 use Rattle.std.specs.Prelude.{Contains, nat_lt}
 use Rattle.std.specs.List.{list_all}
 use Rattle.std.proofs.lemmas.Bool.{and_parts}
 use Rattle.chk_bytes.specs.Stems.{is_count}
 use Rattle.chk_site.specs.declared.acts.OutsideFault.{OutsideFault}
-use Rattle.chk_site.specs.declared.acts.OutsideFault.TheVariants.{Outside as site_failed, NoMemory as no_memory}
+use Rattle.chk_site.specs.declared.acts.OutsideFault.TheVariants.{Outside as site_failed}
+use Rattle.chk_site.specs.declared.acts.OutsideFault.TheVariants.{NoMemory as no_memory}
 use Rattle.chk_site.specs.Files.{Files}
 use Rattle.chk_site.specs.Acts.{Deed, Removes, touches}
 use Rattle.chk_site.specs.History.{History, Every, Others}
@@ -14,7 +16,8 @@ use Rattle.chk_site.specs.Runs.{anyhow, Leads}
 use Rattle.chk_site.proofs.Runs.{adds_both}
 use Rattle.chk_site.proofs.Leads.{owned_anyhow}
 use Rattle.chk_replace.specs.Load.{Has}
-use Rattle.chk_world.specs.Books.{Book, is_segment, is_end, is_aside, fits_version, segments_rise, ends_rise, empty_book}
+use Rattle.chk_world.specs.Books.{Book, is_segment, is_end, is_aside, fits_version, segments_rise}
+use Rattle.chk_world.specs.Books.{ends_rise, empty_book}
 use Rattle.chk_world.specs.JobSteps.{IsOf, ReadsFile, SparesFile}
 use Rattle.chk_world.proofs.SpelledLemmas.{book_so}
 use Rattle.chk_heads.specs.Faults.{IsOfRead, FailsLast, JobCause, job_fault}
@@ -31,9 +34,13 @@ use Rattle.chk_merge.specs.Archives.{IsDamagedAt}
 use Rattle.chk_merge.proofs.Frames.{reads_quiet}
 use Rattle.chk_copy.specs.Copying.{Copies}
 use Rattle.chk_join.specs.Beginning.{Begins, begins_starting, begins_reading}
-use Rattle.chk_join.specs.Working.{Worked, TidiesBy, lists_joined, removes_stray, PreparesBy, goes_reading, goes_tidying, goes_writing, Prepares, first_starts, goes_on, job_result}
-use Rattle.chk_join.specs.Joined.{archive_by, archive_in, records_of_book, records_in, RunsAll, ReadsWell, no_book, bad_records}
-use Rattle.chk_join.specs.Preparing.{HasOrder, JoinedBooks, JoinsAs, Covers, IsFolderBook, PreparedFrom}
+use Rattle.chk_join.specs.Working.{Worked, TidiesBy, lists_joined, removes_stray, PreparesBy}
+use Rattle.chk_join.specs.Working.{goes_reading, goes_tidying, goes_writing, Prepares, first_starts}
+use Rattle.chk_join.specs.Working.{goes_on, job_result}
+use Rattle.chk_join.specs.Joined.{archive_by, archive_in, records_of_book, records_in, RunsAll}
+use Rattle.chk_join.specs.Joined.{ReadsWell, no_book, bad_records}
+use Rattle.chk_join.specs.Preparing.{HasOrder, JoinedBooks, JoinsAs, Covers, IsFolderBook}
+use Rattle.chk_join.specs.Preparing.{PreparedFrom}
 use Rattle.chk_join.specs.declared.preparing.Prepared.{Prepared}
 use Rattle.chk_join.proofs.Works.{worked, works_as, works_fail}
 use Rattle.chk_join.proofs.Chain.{files_stay}

@@ -1,5 +1,7 @@
 -- The join, by the answers of its parts.
-use Rattle.std.proofs.Common.{◌≡◌, ◌⊎◌, inl, inr, ℕ, zero, suc, List, [], ◌∷◌, ◌++◌, map, Option, Ok, Err, Result, refl, ap, sym, subst, ◌∙◌, arith, bytes_eq, true, false, append_assoc}
+use Rattle.std.proofs.Common.{◌≡◌, ◌⊎◌, inl, inr, ℕ, zero, suc, List, [], ◌∷◌, ◌++◌, map, Option}
+use Rattle.std.proofs.Common.{Ok, Err, Result, refl, ap, sym, subst, ◌∙◌, arith, bytes_eq, true}
+use Rattle.std.proofs.Common.{false, append_assoc}
 use Rattle.std.specs.Prelude.{Contains, codes, IfErr}
 use Rattle.std.proofs.lemmas.List.Elements.{Contains-append_left, Contains-append_right}
 use Rattle.chk_site.specs.Files.{File, Files}
@@ -17,7 +19,8 @@ use Rattle.chk_world.proofs.Each.{later_one}
 use Rattle.chk_heads.specs.Faults.{JobCause, FailsLast, IsOfWrite}
 use Rattle.chk_heads.specs.Pieces.{AsksInPieces}
 use Rattle.chk_heads.specs.declared.fault.JobFault.{JobFault}
-use Rattle.chk_heads.specs.declared.fault.JobFault.TheVariants.{Outside, Damaged, Spent, NoMemory as no_memory}
+use Rattle.chk_heads.specs.declared.fault.JobFault.TheVariants.{Outside, Damaged, Spent}
+use Rattle.chk_heads.specs.declared.fault.JobFault.TheVariants.{NoMemory as no_memory}
 use Rattle.chk_book.specs.Books.{book_view}
 use Rattle.chk_book.specs.Folders.{segment_name, segment_stem}
 use Rattle.chk_book.specs.declared.book.Book.{Book as Struct}
@@ -25,11 +28,16 @@ use Rattle.chk_choose.specs.declared.difference.Difference.{Difference}
 use Rattle.chk_merge.specs.Segments.{HasFiles, AreSettled}
 use Rattle.chk_merge.proofs.Frames.{stays_so}
 use Rattle.chk_parts.specs.Publishing.{ReplacesBookOf}
-use Rattle.chk_join.specs.Working.{Worked, PreparesBy, goes_reading, goes_tidying, goes_writing, Prepares, first_starts, goes_on, lists_joined, removes_stray}
-use Rattle.chk_join.specs.Faults.{join_fault, JoinCause, JoinFailsLast, JoinsBy, starts, only_reads, lists_folder, removes_segment, writes_segment, replaces_book, IsJoinFault}
-use Rattle.chk_join.specs.Joined.{can_join, joined_folder, folder_book, archive_files, reads_of, LeavesFolders, Joined, JoinDone, OldOrDone, BookKept, Kept}
+use Rattle.chk_join.specs.Working.{Worked, PreparesBy, goes_reading, goes_tidying, goes_writing}
+use Rattle.chk_join.specs.Working.{Prepares, first_starts, goes_on, lists_joined, removes_stray}
+use Rattle.chk_join.specs.Faults.{join_fault, JoinCause, JoinFailsLast, JoinsBy, starts, only_reads}
+use Rattle.chk_join.specs.Faults.{lists_folder, removes_segment, writes_segment, replaces_book}
+use Rattle.chk_join.specs.Faults.{IsJoinFault}
+use Rattle.chk_join.specs.Joined.{can_join, joined_folder, folder_book, archive_files, reads_of}
+use Rattle.chk_join.specs.Joined.{LeavesFolders, Joined, JoinDone, OldOrDone, BookKept, Kept}
 use Rattle.chk_join.specs.Preparing.{IsCounted, PreparedSo}
-use Rattle.chk_join.specs.Publishing.{HasNewBook, PublishedSo, FinishedSo, WorkedSo, IsFinishFault, differ_fault}
+use Rattle.chk_join.specs.Publishing.{HasNewBook, PublishedSo, FinishedSo, WorkedSo, IsFinishFault}
+use Rattle.chk_join.specs.Publishing.{differ_fault}
 use Rattle.chk_join.specs.declared.preparing.Prepared.{Prepared}
 use Rattle.chk_join.specs.declared.preparing.Prepared.TheVariants.{Ready, Differs}
 use Rattle.chk_join.specs.declared.report.JoinReport.{JoinReport}

@@ -1,5 +1,7 @@
 -- The chosen records of two archives are their join.
-use Rattle.std.proofs.Common.{◌≡◌, inl, inr, ℕ, ◌+◌, Bool, true, false, List, [], ◌∷◌, ◌++◌, length, map, Option, Some, None, Ok, Err, Result, refl, ap, ap₂, sym, subst, ◌∙◌, arith, if◌then◌else◌}
+use Rattle.std.proofs.Common.{◌≡◌, inl, inr, ℕ, ◌+◌, Bool, true, false, List, [], ◌∷◌, ◌++◌, length}
+use Rattle.std.proofs.Common.{map, Option, Some, None, Ok, Err, Result, refl, ap, ap₂, sym, subst}
+use Rattle.std.proofs.Common.{◌∙◌, arith, if◌then◌else◌}
 use Rattle.std.specs.Prelude.{option_map, nat_lt, sum_by}
 use Rattle.std.proofs.lemmas.Bool.{ltb-true, ltb-false}
 use Rattle.std.proofs.lemmas.List.{length-append}
@@ -22,14 +24,17 @@ use Rattle.chk_merge.specs.Courses.{end_of}
 use Rattle.chk_parts.proofs.EndsInOrder.{sorted}
 use Rattle.chk_compare.specs.declared.gathering.Side.{Side}
 use Rattle.chk_compare.specs.Blocks.{StreamsRise}
-use Rattle.chk_choose.specs.Pairs.{Pair, left_alone, right_alone, paired, pairs_of, is_from_right, taken_end}
+use Rattle.chk_choose.specs.Pairs.{Pair, left_alone, right_alone, paired, pairs_of, is_from_right}
+use Rattle.chk_choose.specs.Pairs.{taken_end}
 use Rattle.chk_choose.specs.Plans.{size_of}
 use Rattle.chk_choose.specs.Differing.{bytes_of, DifferAt, AreAlike, PairAgrees, PairDiffers}
 use Rattle.chk_choose.proofs.Lookup.{pair_stream, pair_for, pair_with_both, lookup, each_for}
 use Rattle.chk_join.specs.Archives.{Archived, Archive, join, longer, AgreeAt, Agree}
 use Rattle.chk_join.specs.Runs.{AreRuns, IsAlone, bytes_of as size_of_chunks}
-use Rattle.chk_join.specs.Joined.{archived_with, archive_with, archive_by, records_of_book, records_by, AreJoined, DiffersAt, FirstDiffers}
-use Rattle.chk_join.specs.Preparing.{IsGathered, HasOrder, IsPlanned, JoinedSides, JoinsAs, stream_of}
+use Rattle.chk_join.specs.Joined.{archived_with, archive_with, archive_by, records_of_book}
+use Rattle.chk_join.specs.Joined.{records_by, AreJoined, DiffersAt, FirstDiffers}
+use Rattle.chk_join.specs.Preparing.{IsGathered, HasOrder, IsPlanned, JoinedSides, JoinsAs}
+use Rattle.chk_join.specs.Preparing.{stream_of}
 use Rattle.chk_join.specs.declared.preparing.Prepared.{Prepared}
 use Rattle.chk_join.specs.declared.preparing.Prepared.TheVariants.{Ready, Differs}
 use Rattle.chk_world.proofs.Rounds.{stream_self}

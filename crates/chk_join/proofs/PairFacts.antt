@@ -1,5 +1,6 @@
 -- The pairs of two archives' streams rise, and each is of one stream.
-use Rattle.std.proofs.Common.{◌≡◌, Bool, true, false, List, [], ◌∷◌, map, Some, None, refl, ap, sym, subst, ◌∙◌}
+use Rattle.std.proofs.Common.{◌≡◌, Bool, true, false, List, [], ◌∷◌, map, Some, None, refl, ap, sym}
+use Rattle.std.proofs.Common.{subst, ◌∙◌}
 use Rattle.std.specs.Prelude.{option_map, if◌then◌else◌, nat_lt}
 use Rattle.chk_chunk.specs.Keys.{Stream, same_stream, stream_lt}
 use Rattle.chk_world.specs.Books.{End}
@@ -9,7 +10,8 @@ use Rattle.chk_heads.proofs.Orders.{streams}
 use Rattle.chk_merge.specs.Courses.{end_of}
 use Rattle.chk_parts.proofs.EndsInOrder.{apart, Sorted}
 use Rattle.chk_merge.proofs.OnePass.{stream_onward as before_on}
-use Rattle.chk_choose.specs.Pairs.{Pair, left_alone, right_alone, paired, pairs_of, pair_with, taken_end}
+use Rattle.chk_choose.specs.Pairs.{Pair, left_alone, right_alone, paired, pairs_of, pair_with}
+use Rattle.chk_choose.specs.Pairs.{taken_end}
 use Rattle.chk_choose.proofs.Lookup.{pair_stream, pair_for}
 
 -- both ends of a pair are of one stream

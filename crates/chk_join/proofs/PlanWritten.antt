@@ -1,5 +1,6 @@
 -- The chosen records are written, where there are any.
-use Rattle.std.proofs.Common.{◌≡◌, inl, inr, ℕ, ◌+◌, List, [], ◌∷◌, ◌++◌, length, Option, Ok, Err, Result, refl, ap, sym, subst, ◌∙◌}
+use Rattle.std.proofs.Common.{◌≡◌, inl, inr, ℕ, ◌+◌, List, [], ◌∷◌, ◌++◌, length, Option, Ok, Err}
+use Rattle.std.proofs.Common.{Result, refl, ap, sym, subst, ◌∙◌}
 use Rattle.std.specs.Prelude.{flat_map}
 use Rattle.std.proofs.lemmas.Option.{same_Some}
 use Rattle.chk_site.specs.Files.{File, Files}

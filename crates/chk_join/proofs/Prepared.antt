@@ -1,5 +1,6 @@
 -- What a join leads to before its publishing, in every legal history.
-use Rattle.std.proofs.Common.{◌≡◌, inl, inr, ℕ, List, length, Option, Ok, Err, Result, ap, sym, subst, ◌∙◌, if◌then◌else◌, None}
+use Rattle.std.proofs.Common.{◌≡◌, inl, inr, ℕ, List, length, Option, Ok, Err, Result, ap, sym}
+use Rattle.std.proofs.Common.{subst, ◌∙◌, if◌then◌else◌, None}
 use Rattle.std.specs.Prelude.{IsTrue}
 use Rattle.chk_bytes.specs.Stems.{is_count}
 use Rattle.chk_site.specs.History.{History, Every, files_after}

@@ -1,5 +1,6 @@
 -- The joined archive's book is published.
-use Rattle.std.proofs.Common.{◌≡◌, ◌⊎◌, inl, inr, ℕ, true, List, ◌++◌, Option, Some, Ok, Err, Result, sym, ◌∙◌, subst}
+use Rattle.std.proofs.Common.{◌≡◌, ◌⊎◌, inl, inr, ℕ, true, List, ◌++◌, Option, Some, Ok, Err}
+use Rattle.std.proofs.Common.{Result, sym, ◌∙◌, subst}
 use Rattle.std.specs.Prelude.{codes}
 use Rattle.chk_site.specs.Files.{File, IsSettled}
 use Rattle.chk_site.specs.History.{History, files_after}

@@ -1,12 +1,14 @@
 -- The start of the job.
-use Rattle.std.proofs.Common.{◌≡◌, ℕ, inl, inr, List, [], Option, Ok, Err, Result, sym, ◌∙◌, refl, true≢false}
+use Rattle.std.proofs.Common.{◌≡◌, ℕ, inl, inr, List, [], Option, Ok, Err, Result, sym, ◌∙◌, refl}
+use Rattle.std.proofs.Common.{true≢false}
 use Rattle.std.specs.Prelude.{MatchResult}
 use Rattle.chk_site.specs.declared.acts.OutsideFault.{OutsideFault}
 use Rattle.chk_site.specs.declared.acts.CallFault.{CallFault}
 use Rattle.chk_site.specs.declared.acts.Call.TheVariants.{Start}
 use Rattle.chk_site.specs.Acts.{Starts, Reads}
 use Rattle.chk_site.specs.History.{History, Every}
-use Rattle.chk_site.specs.Site.{Adds, LastFailed, Asked, asked, answered, plain, IsDone, Calls, Ends}
+use Rattle.chk_site.specs.Site.{Adds, LastFailed, Asked, asked, answered, plain, IsDone, Calls}
+use Rattle.chk_site.specs.Site.{Ends}
 use Rattle.chk_site.specs.Runs.{Leads}
 use Rattle.chk_site.proofs.Runs.{adds_as}
 use Rattle.chk_site.proofs.Leads.{ends_leads}

@@ -1,6 +1,7 @@
 -- The calls of a join between the load of its book and the publishing of the new one obey the job's rules: they read, list `joined`,
 -- and change segments there that the book doesn't name.
-use Rattle.std.proofs.Common.{◌≡◌, ◌⊎◌, inl, inr, ℕ, ◌<◌, ◌||◌, true, false, List, [], ◌∷◌, ◌++◌, length, Option, None, Some, refl, ap, sym, subst, ◌∙◌, arith}
+use Rattle.std.proofs.Common.{◌≡◌, ◌⊎◌, inl, inr, ℕ, ◌<◌, ◌||◌, true, false, List, [], ◌∷◌, ◌++◌}
+use Rattle.std.proofs.Common.{length, Option, None, Some, refl, ap, sym, subst, ◌∙◌, arith}
 use Rattle.std.specs.Prelude.{IsTrue, nat_eq, nat_lt, codes}
 use Rattle.std.specs.List.{list_all, list_any}
 use Rattle.std.proofs.lemmas.Bool.{and_parts, and_from, ltb-true}
@@ -19,14 +20,16 @@ use Rattle.chk_site.specs.Runs.{Leads, anyhow}
 use Rattle.chk_site.proofs.Runs.{adds_both}
 use Rattle.chk_site.proofs.Leads.{owned_anyhow, leads_as}
 use Rattle.chk_world.specs.Names.{JoinedFolder, BookFile, SegmentFile, spell, file}
-use Rattle.chk_world.specs.Books.{Segment, Book, Version, book_in, is_book, is_segment, is_end, is_aside, fits_version, segments_rise, ends_rise}
+use Rattle.chk_world.specs.Books.{Segment, Book, Version, book_in, is_book, is_segment, is_end}
+use Rattle.chk_world.specs.Books.{is_aside, fits_version, segments_rise, ends_rise}
 use Rattle.chk_world.specs.Committed.{OnFile}
 use Rattle.chk_world.specs.Laws.{IsWholeBook}
 use Rattle.chk_world.specs.Jobs.{segment_list, all_segments, is_named, JobRule}
 use Rattle.chk_world.specs.Rules.{Legal, Framed, OnlyWritersGrowLogs, OnlyAgentsPost, RoleMay}
 use Rattle.chk_world.specs.Places.{As, Foreign}
 use Rattle.chk_world.specs.Sight.{job, sight, AtJob}
-use Rattle.chk_world.specs.JobSteps.{IsOwnStep, IsOf, ReadsFile, reads, asks, WritesTo, removes, SparesFile}
+use Rattle.chk_world.specs.JobSteps.{IsOwnStep, IsOf, ReadsFile, reads, asks, WritesTo, removes}
+use Rattle.chk_world.specs.JobSteps.{SparesFile}
 use Rattle.chk_world.proofs.DoneSinks.{came_same}
 use Rattle.chk_world.proofs.Lifts.{lift_reads, steps_keep, owned_by}
 use Rattle.chk_world.proofs.Outcomes.{leaves}
@@ -41,7 +44,8 @@ use Rattle.chk_world.proofs.Lifts.{no_write_starts}
 use Rattle.chk_parts.proofs.OneSegment.{quiet_write}
 use Rattle.chk_join.specs.Beginning.{HasBook}
 use Rattle.chk_join.specs.Names.{names_segment, IsStrayNumber}
-use Rattle.chk_join.specs.Working.{TidiesBy, lists_joined, removes_stray, PreparesBy, goes_reading, goes_tidying, goes_writing}
+use Rattle.chk_join.specs.Working.{TidiesBy, lists_joined, removes_stray, PreparesBy, goes_reading}
+use Rattle.chk_join.specs.Working.{goes_tidying, goes_writing}
 
 pub segment_spelled : (k : ℕ) → joined_segment k ≡ spell (SegmentFile JoinedFolder k)
 unfolding spell

@@ -1,5 +1,8 @@
 -- Segments of `joined` that its book doesn't name are gone behind the tidying.
-use Rattle.std.proofs.Common.{◌≡◌, inl, inr, ℕ, zero, suc, ◌+◌, ◌<◌, ◌^◌, Bool, true, false, not, ◌&&◌, List, [], ◌∷◌, ◌++◌, length, Option, Some, None, Ok, Err, Result, refl, ap, sym, subst, ◌∙◌, arith, true≢false, bytes_eq, length-append, drop, take, if◌then◌else◌}
+use Rattle.std.proofs.Common.{◌≡◌, inl, inr, ℕ, zero, suc, ◌+◌, ◌<◌, ◌^◌, Bool, true, false, not}
+use Rattle.std.proofs.Common.{◌&&◌, List, [], ◌∷◌, ◌++◌, length, Option, Some, None, Ok, Err}
+use Rattle.std.proofs.Common.{Result, refl, ap, sym, subst, ◌∙◌, arith, true≢false, bytes_eq}
+use Rattle.std.proofs.Common.{length-append, drop, take, if◌then◌else◌}
 use Rattle.std.specs.Prelude.{IsTrue, Contains, slice_index_or, codes, decimal, is_some, ◌==◌}
 use Rattle.std.specs.List.{list_any}
 use Rattle.std.proofs.lemmas.Bool.{and_parts, and_from, ltb-true}
@@ -13,14 +16,16 @@ use Rattle.chk_bytes.proofs.WordLemmas.{plain_word, plain-append}
 use Rattle.chk_bytes.proofs.StemLemmas.{decimal_plain}
 use Rattle.chk_bytes.proofs.DecimalLemmas.{plain_number-decimal}
 use Rattle.chk_site.specs.declared.acts.ActAnswer.{ActAnswer}
-use Rattle.chk_site.specs.declared.acts.ActAnswer.TheVariants.{Done, Refused, Stopped, Rotated, Deleted}
+use Rattle.chk_site.specs.declared.acts.ActAnswer.TheVariants.{Done, Refused, Stopped, Rotated}
+use Rattle.chk_site.specs.declared.acts.ActAnswer.TheVariants.{Deleted}
 use Rattle.chk_site.specs.declared.acts.CallFault.{CallFault}
 use Rattle.chk_site.specs.Files.{File, Files}
 use Rattle.chk_site.specs.Logs.{Logs}
 use Rattle.chk_site.specs.Acts.{Deed, is_done, tail_in, touches}
 use Rattle.chk_site.specs.History.{Step, History, Every, Others, IsTheirs, files_after}
 use Rattle.chk_site.specs.Honest.{Honest, IsListing}
-use Rattle.chk_site.specs.Site.{Adds, own_step, answered, plain, names_given, WasDone, IsDone, Calls}
+use Rattle.chk_site.specs.Site.{Adds, own_step, answered, plain, names_given, WasDone, IsDone}
+use Rattle.chk_site.specs.Site.{Calls}
 use Rattle.chk_site.specs.Runs.{Leads, anyhow}
 use Rattle.chk_site.proofs.Stays.{unnamed_stays}
 use Rattle.chk_site.proofs.Runs.{adds_as}
@@ -34,14 +39,16 @@ use Rattle.chk_world.proofs.Ends.{bytes_same}
 use Rattle.chk_world.proofs.NameLemmas.{read-spell}
 use Rattle.chk_world.proofs.NameTests.{same_name, nat_self}
 use Rattle.chk_world.proofs.SpelledLemmas.{book_so}
-use Rattle.chk_world.proofs.OwnFiles.{done_file, refused_file, MissedOrDone, was_done, was_missing, missed_or_done}
+use Rattle.chk_world.proofs.OwnFiles.{done_file, refused_file, MissedOrDone, was_done, was_missing}
+use Rattle.chk_world.proofs.OwnFiles.{missed_or_done}
 use Rattle.chk_heads.specs.declared.fault.JobFault.{JobFault}
 use Rattle.chk_heads.specs.declared.fault.JobFault.TheVariants.{Outside, Damaged, Spent, NoMemory}
 use Rattle.chk_merge.proofs.Frames.{stays_so, reads_quiet}
 use Rattle.chk_book.specs.Folders.{book_name, segment_stem}
 use Rattle.chk_book.specs.Loaded.{IsBookOf, file_bytes}
 use Rattle.chk_copy.specs.Copying.{joined_segment, Copies}
-use Rattle.chk_join.specs.Names.{segment_number, counted_only, unnamed_only, AddsStray, IsStray, IsStrayNumber}
+use Rattle.chk_join.specs.Names.{segment_number, counted_only, unnamed_only, AddsStray, IsStray}
+use Rattle.chk_join.specs.Names.{IsStrayNumber}
 use Rattle.chk_join.specs.Cleaned.{Pending, Shown, GoneAtOk, IsCleaned}
 use Rattle.chk_join.specs.Joined.{joined_folder, LeavesFolders, of_joined}
 use Rattle.chk_join.specs.Preparing.{IsFolderBook}

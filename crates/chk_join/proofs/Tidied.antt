@@ -3,12 +3,14 @@ use Rattle.std.proofs.Common.{◌≡◌, ℕ, inl, inr, List, [], ◌∷◌, Opt
 use Rattle.std.specs.Prelude.{MatchResult, IfErr, codes}
 use Rattle.chk_site.specs.declared.acts.OutsideFault.{OutsideFault}
 use Rattle.chk_site.specs.declared.acts.CallFault.{CallFault}
-use Rattle.chk_site.specs.declared.acts.CallFault.TheVariants.{Failed, Missing, Exists, Short, NoMemory}
+use Rattle.chk_site.specs.declared.acts.CallFault.TheVariants.{Failed, Missing, Exists, Short}
+use Rattle.chk_site.specs.declared.acts.CallFault.TheVariants.{NoMemory}
 use Rattle.chk_site.specs.declared.acts.ActAnswer.{ActAnswer}
 use Rattle.chk_site.specs.declared.acts.Call.TheVariants.{Remove, List as ListNames}
 use Rattle.chk_site.specs.Acts.{Deed, Reads}
 use Rattle.chk_site.specs.History.{History, Every}
-use Rattle.chk_site.specs.Site.{Adds, LastFailed, Asked, asked, answered, plain, IsDone, Calls, CauseOf, Ends}
+use Rattle.chk_site.specs.Site.{Adds, LastFailed, Asked, asked, answered, plain, IsDone, Calls}
+use Rattle.chk_site.specs.Site.{CauseOf, Ends}
 use Rattle.chk_site.proofs.Runs.{adds_as}
 use Rattle.chk_replace.proofs.CallSteps.{OfOwn, call_each}
 use Rattle.chk_site.proofs.LastCalls.{ended_last as ends_last}

@@ -1,5 +1,6 @@
 -- A join from its start to its end.
-use Rattle.std.proofs.Common.{◌≡◌, inl, inr, ℕ, zero, suc, false, List, [], ◌∷◌, ◌++◌, map, Option, Ok, Err, Result, refl, sym, subst, ◌∙◌, arith, true≢false, bytes_eq}
+use Rattle.std.proofs.Common.{◌≡◌, inl, inr, ℕ, zero, suc, false, List, [], ◌∷◌, ◌++◌, map, Option}
+use Rattle.std.proofs.Common.{Ok, Err, Result, refl, sym, subst, ◌∙◌, arith, true≢false, bytes_eq}
 use Rattle.std.specs.Prelude.{Contains, codes}
 use Rattle.chk_site.specs.Files.{Files}
 use Rattle.chk_site.specs.Acts.{Deed, touches}
@@ -24,8 +25,11 @@ use Rattle.chk_merge.specs.Merging.{SparesBoth}
 use Rattle.chk_merge.proofs.Frames.{reads_quiet}
 use Rattle.chk_copy.specs.Copying.{joined_segment}
 use Rattle.chk_join.specs.Beginning.{Begins, begins_starting, begins_reading}
-use Rattle.chk_join.specs.Working.{PreparesBy, goes_reading, goes_tidying, goes_writing, Prepares, first_starts, goes_on}
-use Rattle.chk_join.specs.Joined.{joined_folder, folder_book, archive_files, reads_of, IsOfFolders, of_joined, of_left, of_right, LeavesFolders, archive_in, records_in, no_book}
+use Rattle.chk_join.specs.Working.{PreparesBy, goes_reading, goes_tidying, goes_writing, Prepares}
+use Rattle.chk_join.specs.Working.{first_starts, goes_on}
+use Rattle.chk_join.specs.Joined.{joined_folder, folder_book, archive_files, reads_of, IsOfFolders}
+use Rattle.chk_join.specs.Joined.{of_joined, of_left, of_right, LeavesFolders, archive_in}
+use Rattle.chk_join.specs.Joined.{records_in, no_book}
 use Rattle.chk_join.specs.Preparing.{Covers, IsFolderBook, JoinsAs, PreparedFrom, PreparedSo}
 use Rattle.chk_join.specs.declared.preparing.Prepared.{Prepared}
 use Rattle.chk_join.proofs.Begun.{joined_book}

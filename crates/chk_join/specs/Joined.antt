@@ -1,5 +1,7 @@
 -- Archives in folders, and what a join of two of them leaves.
-use Rattle.std.specs.Prelude.{◌≡◌, ◌⊎◌, ℕ, ◌+◌, ◌-◌, ◌^◌, min, nat_lt, List, [], ◌∷◌, ◌++◌, length, codes, Bool, ◌&&◌, not, bytes_eq, IsTrue, Option, Some, None, Result, Ok, Err, if◌then◌else◌}
+use Rattle.std.specs.Prelude.{◌≡◌, ◌⊎◌, ℕ, ◌+◌, ◌-◌, ◌^◌, min, nat_lt, List, [], ◌∷◌, ◌++◌, length}
+use Rattle.std.specs.Prelude.{codes, Bool, ◌&&◌, not, bytes_eq, IsTrue, Option, Some, None, Result}
+use Rattle.std.specs.Prelude.{Ok, Err, if◌then◌else◌}
 use Rattle.chk_bytes.specs.Numbers.{last_number}
 use Rattle.chk_site.specs.Files.{File, Files}
 use Rattle.chk_site.specs.History.{Step, History, files_after}

@@ -1,9 +1,11 @@
 -- What the names that a listing of `joined` shows are to a join.
-use Rattle.std.specs.Prelude.{◌≡◌, ℕ, Bool, false, Option, Some, None, if◌then◌else◌, IsTrue, List, [], ◌∷◌, ◌++◌, codes}
+use Rattle.std.specs.Prelude.{◌≡◌, ℕ, Bool, false, Option, Some, None, if◌then◌else◌, IsTrue, List}
+use Rattle.std.specs.Prelude.{[], ◌∷◌, ◌++◌, codes}
 use Rattle.chk_bytes.specs.Stems.{is_count}
 use Rattle.chk_world.specs.Books.{Book}
 use Rattle.chk_book.specs.Folders.{segment_name}
-pub use Rattle.chk_book.specs.SegmentNames.{counted_only, number_behind, segment_number, names_segment}
+pub use Rattle.chk_book.specs.SegmentNames.{counted_only, number_behind, segment_number}
+pub use Rattle.chk_book.specs.SegmentNames.{names_segment}
 
 -- where the book doesn't name it
 abbrev pub unnamed_only : Book → Option ℕ → Option ℕ

@@ -1,5 +1,6 @@
 -- What a join comes to before its book is published.
-use Rattle.std.specs.Prelude.{◌≡◌, ◌⊎◌, ℕ, ◌-◌, ◌^◌, IsTrue, List, [], ◌∷◌, length, map, flat_map, Contains, Result, Ok, Err, Some, None}
+use Rattle.std.specs.Prelude.{◌≡◌, ◌⊎◌, ℕ, ◌-◌, ◌^◌, IsTrue, List, [], ◌∷◌, length, map, flat_map}
+use Rattle.std.specs.Prelude.{Contains, Result, Ok, Err, Some, None}
 use Rattle.chk_bytes.specs.Numbers.{last_number}
 use Rattle.chk_site.specs.Files.{File, Files}
 use Rattle.chk_site.specs.History.{History}
@@ -30,7 +31,9 @@ use Rattle.chk_compare.specs.Reading.{AreAmong}
 use Rattle.chk_copy.specs.Copying.{joined_segment, chosen_chunks}
 use Rattle.chk_join.specs.Archives.{Archive, join, Agree}
 use Rattle.chk_join.specs.Runs.{AreRuns, IsAlone, bytes_of}
-use Rattle.chk_join.specs.Joined.{archive_with, archive_by, archive_in, folder_book, joined_folder, records_of_book, records_in, AreJoined, RunsAll, FirstDiffers, ReadsWell, AllReadWell, IsDamagedIn}
+use Rattle.chk_join.specs.Joined.{archive_with, archive_by, archive_in, folder_book, joined_folder}
+use Rattle.chk_join.specs.Joined.{records_of_book, records_in, AreJoined, RunsAll, FirstDiffers}
+use Rattle.chk_join.specs.Joined.{ReadsWell, AllReadWell, IsDamagedIn}
 use Rattle.chk_join.specs.declared.preparing.Prepared.{Prepared}
 use Rattle.chk_join.specs.declared.preparing.Prepared.TheVariants.{Ready, Differs}
 use Rattle.chk_join.specs.declared.report.JoinReport.{JoinReport}

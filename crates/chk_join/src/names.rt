@@ -5,7 +5,8 @@ ghost use Rattle.chk_world.proofs.Each.{Each};
 ghost use Rattle.chk_book.specs.Books.{book_view};
 ghost use Rattle.chk_book.specs.Folders.{segment_name, segment_stem};
 ghost use Rattle.chk_copy.specs.Copying.{joined_segment};
-ghost use Rattle.chk_join.specs.Names.{names_segment, segment_number, unnamed_only, AddsStray, IsStrayNumber, IsStray};
+ghost use Rattle.chk_join.specs.Names.{names_segment, segment_number, unnamed_only, AddsStray};
+ghost use Rattle.chk_join.specs.Names.{IsStrayNumber, IsStray};
 
 use chk_book::{Book, Segment, names_segment, segment_name, segment_number};
 use chk_bytes::{NoMemory, Word};

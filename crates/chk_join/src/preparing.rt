@@ -1,6 +1,7 @@
 //! The join of two archives, up to the book that is to be published.
 
-ghost use Rattle.std.specs.Prelude.{◌≡◌, ◌≤◌, ℕ, List, Contains, map, flat_map, IsTrue, IfOk, codes};
+ghost use Rattle.std.specs.Prelude.{◌≡◌, ◌≤◌, ℕ, List, Contains, map, flat_map, IsTrue, IfOk};
+ghost use Rattle.std.specs.Prelude.{codes};
 ghost use Rattle.chk_site.specs.Files.{Files};
 ghost use Rattle.chk_site.specs.Site.{Adds};
 ghost use Rattle.chk_site.specs.Runs.{anyhow, Leads};
@@ -27,8 +28,12 @@ ghost use Rattle.chk_copy.specs.Copying.{joined_segment, chosen_chunks, FitsIn, 
 ghost use Rattle.chk_join.specs.Working.{Worked, PreparesBy, Prepares};
 ghost use Rattle.chk_join.specs.Cleaned.{GoneAtOk};
 ghost use Rattle.chk_join.specs.Names.{IsStrayNumber};
-ghost use Rattle.chk_join.specs.Joined.{can_join, joined_folder, folder_book, reads_of, LeavesFolders};
-ghost use Rattle.chk_join.specs.Preparing.{IsCounted, SpentPlan, WrotePlan, StoodPlan, TookPlan, StandsReady, HasOrder, IsGathered, JoinedSides, JoinedBooks, Covers, IsFolderBook, PreparedFrom, PreparedSo, PreparedLegal};
+ghost use Rattle.chk_join.specs.Joined.{can_join, joined_folder, folder_book, reads_of};
+ghost use Rattle.chk_join.specs.Joined.{LeavesFolders};
+ghost use Rattle.chk_join.specs.Preparing.{IsCounted, SpentPlan, WrotePlan, StoodPlan, TookPlan};
+ghost use Rattle.chk_join.specs.Preparing.{StandsReady, HasOrder, IsGathered, JoinedSides};
+ghost use Rattle.chk_join.specs.Preparing.{JoinedBooks, Covers, IsFolderBook, PreparedFrom};
+ghost use Rattle.chk_join.specs.Preparing.{PreparedSo, PreparedLegal};
 
 use crate::beginning::begin;
 use crate::planned::runs_on;

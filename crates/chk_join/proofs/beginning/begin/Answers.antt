@@ -8,7 +8,8 @@ use Rattle.chk_join.specs.Beginning.{Begins}
 use Rattle.chk_join.specs.Working.{Starting, job_result}
 use Rattle.chk_book.specs.declared.book.Book.{Book as Struct}
 use Rattle.chk_join.proofs.BookLoads.{book_loaded}
-use Rattle.chk_join.proofs.Begun.{joined_book, begin_refused, begun_so, start_stays, start_not_loaded, start_begins, load_begins}
+use Rattle.chk_join.proofs.Begun.{joined_book, begin_refused, begun_so, start_stays}
+use Rattle.chk_join.proofs.Begun.{start_not_loaded, start_begins, load_begins}
 use Rattle.chk_copy.proofs.Segment.{joined_folder as joined_is_folder}
 use Rattle.chk_merge.proofs.Fetching.{failed_read as of_read}
 use Rattle.chk_join.proofs.Works.{own_of, works_then, works_result}

@@ -13,7 +13,8 @@ use Rattle.chk_join.specs.declared.preparing.Prepared.{Prepared}
 use Rattle.chk_join.proofs.Works.{own_of, works_then, works_as}
 use Rattle.chk_join.proofs.Apart.{chunk_most}
 use Rattle.chk_join.proofs.Chain.{stays_over, untold}
-use Rattle.chk_join.proofs.Folders.{has_order, quiet_tidy, folders_joined, copies_prepare, tidies_prepare, cause_job, not_tidied, not_tidied_works}
+use Rattle.chk_join.proofs.Folders.{has_order, quiet_tidy, folders_joined, copies_prepare}
+use Rattle.chk_join.proofs.Folders.{tidies_prepare, cause_job, not_tidied, not_tidied_works}
 use Rattle.chk_join.proofs.preparing.join_tidied.Goals as goal
 
 pub returns-in-Ok-clause-raw : goal.returns-in-Ok-clause-raw

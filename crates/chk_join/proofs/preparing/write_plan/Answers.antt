@@ -1,5 +1,6 @@
 use Rattle.chk_join.specs.Runs.{AreRuns}
-use Rattle.std.proofs.Common.{◌≡◌, ◌==◌, ◌∙◌, List, [], None, ap, ap₂, sym, map, length, true≢false, subst, refl}
+use Rattle.std.proofs.Common.{◌≡◌, ◌==◌, ◌∙◌, List, [], None, ap, ap₂, sym, map, length, true≢false}
+use Rattle.std.proofs.Common.{subst, refl}
 use Rattle.std.specs.Prelude.{flat_map}
 use Rattle.std.proofs.lemmas.Bool.{eqb-true}
 use Rattle.std.proofs.lemmas.List.{nil_from_length}

@@ -4,7 +4,8 @@ use Rattle.chk_parts.specs.Publishing.{ReplacesBookOf}
 use Rattle.chk_join.specs.Joined.{joined_folder}
 use Rattle.chk_join.specs.Publishing.{IsFinishFault}
 use Rattle.chk_join.specs.declared.report.JoinReport.{JoinReport}
-use Rattle.chk_join.proofs.Joining.{finished_so, not_finished, worked_ok, worked_err, finish_fault, cause_so}
+use Rattle.chk_join.proofs.Joining.{finished_so, not_finished, worked_ok, worked_err, finish_fault}
+use Rattle.chk_join.proofs.Joining.{cause_so}
 use Rattle.chk_join.proofs.run.finish.Goals as goal
 
 pub returns-in-Ok-clause-raw : goal.returns-in-Ok-clause-raw

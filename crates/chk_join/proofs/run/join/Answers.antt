@@ -17,7 +17,10 @@ use Rattle.chk_join.specs.declared.report.JoinReport.{JoinReport}
 use Rattle.chk_join.proofs.Begun.{joined_book}
 use Rattle.chk_join.proofs.Works.{own_of, pieces_of_work}
 use Rattle.chk_join.proofs.Whole.{is_first}
-use Rattle.chk_join.proofs.Joining.{prepared_kept, published_join, prepares_join, replaces_join, own_so, pieces_so, last_so, join_fails_behind, joins_fault, differ_so, differ_kept, unprepared, unprepared_kept, failed_so, differs_last, cause_so, fault_so, caused_then}
+use Rattle.chk_join.proofs.Joining.{prepared_kept, published_join, prepares_join, replaces_join}
+use Rattle.chk_join.proofs.Joining.{own_so, pieces_so, last_so, join_fails_behind, joins_fault}
+use Rattle.chk_join.proofs.Joining.{differ_so, differ_kept, unprepared, unprepared_kept, failed_so}
+use Rattle.chk_join.proofs.Joining.{differs_last, cause_so, fault_so, caused_then}
 use Rattle.chk_join.proofs.run.join.Goals as goal
 
 pub returns-in-Ok-Ready-clause-raw : goal.returns-in-Ok-Ready-clause-raw
