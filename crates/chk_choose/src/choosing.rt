@@ -1,6 +1,7 @@
 //! Which side's records of each stream are the joined archive's.
 
 ghost use Rattle.std.specs.Prelude.{◌≡◌, ◌≤◌, ℕ, List, map, IfOk, IfErr};
+ghost use Rattle.chk_chunk.specs.Keys.{record_limit};
 ghost use Rattle.chk_site.specs.Files.{Files};
 ghost use Rattle.chk_site.specs.History.{Every};
 ghost use Rattle.chk_site.specs.Site.{Adds};
@@ -46,7 +47,7 @@ pub fn choose<S: Site>(
     right: &Side<'_>,
 ) -> Result<Chosen, JobFault>
     requires job { who.now ≡ job }
-    ensures raw { (most : ℕ) (all : List (List ℕ)) (held : Files) → most ≤ 1048576 → AreSettled all held
+    ensures raw { (most : ℕ) (all : List (List ℕ)) (held : Files) → most ≤ record_limit → AreSettled all held
         → IsSideInOrder most all held left.now → IsSideInOrder most all held right.now
         → Adds (S.told site.old) (S.told site.new) (Leads (anyhow (SparesFiles all)) (HasFiles all held)
         (ComparedPairs all left.now right.now held (pairs_of (map end_view lefts.now) (map end_view rights.now)) result)) }

@@ -1,6 +1,7 @@
 //! The next stream of two archives is taken, or found to differ.
 
 ghost use Rattle.std.specs.Prelude.{◌≡◌, ◌⊎◌, ◌+◌, ◌-◌, ◌^◌, ◌<◌, ◌≤◌, ℕ, min, List, length, map, true, false, OnOk, IfOk, IfErr, IfNone, None, Some};
+ghost use Rattle.chk_chunk.specs.Keys.{record_limit};
 ghost use Rattle.chk_site.specs.Files.{Files};
 ghost use Rattle.chk_site.specs.History.{Every};
 ghost use Rattle.chk_site.specs.Site.{Adds};
@@ -67,7 +68,7 @@ fn find_difference<S: Site>(
     requires job { who.now ≡ job }
     requires lefts { (first.first ≤ first.end) × (first.end ≤ length left.now.heads.now) }
     requires rights { (second.first ≤ second.end) × (second.end ≤ length right.now.heads.now) }
-    ensures raw { (most : ℕ) (all : List (List ℕ)) (held : Files) → most ≤ 1048576 → AreSettled all held → IsSide most all held left.now
+    ensures raw { (most : ℕ) (all : List (List ℕ)) (held : Files) → most ≤ record_limit → AreSettled all held → IsSide most all held left.now
         → IsSide most all held right.now → AreTrue left.now right.now held readers.old → Adds (S.told site.old) (S.told site.new)
         (Leads (anyhow (SparesFiles all)) (HasFiles all held) (FoundOf all left.now right.now held readers.new
         (end_view a.now) (end_view b.now) (values_between left.now held first.first first.end)
@@ -195,7 +196,7 @@ fn take_both<S: Site>(
     requires job { who.now ≡ job }
     requires lefts { at.old.left < length lefts.now }
     requires rights { at.old.right < length rights.now }
-    ensures raw { (most : ℕ) (all : List (List ℕ)) (held : Files) → most ≤ 1048576 → AreSettled all held
+    ensures raw { (most : ℕ) (all : List (List ℕ)) (held : Files) → most ≤ record_limit → AreSettled all held
         → IsSideInOrder most all held left.now → IsSideInOrder most all held right.now → AreTrue left.now right.now held readers.old
         → Adds (S.told site.old) (S.told site.new) (Leads (anyhow (SparesFiles all)) (HasFiles all held)
         (ComparedPair all left.now right.now held readers.new
@@ -237,7 +238,7 @@ pub(crate) fn take_next<S: Site>(
     requires some { (at.old.left < length lefts.now) ⊎ (at.old.right < length rights.now) }
     requires left { at.old.left ≤ length lefts.now }
     requires right { at.old.right ≤ length rights.now }
-    ensures raw { (most : ℕ) (all : List (List ℕ)) (held : Files) → most ≤ 1048576 → AreSettled all held
+    ensures raw { (most : ℕ) (all : List (List ℕ)) (held : Files) → most ≤ record_limit → AreSettled all held
         → IsSideInOrder most all held left.now → IsSideInOrder most all held right.now → AreTrue left.now right.now held readers.old
         → Adds (S.told site.old) (S.told site.new) (Leads (anyhow (SparesFiles all)) (HasFiles all held)
         (ComparedFirst all left.now right.now held readers.new

@@ -1,6 +1,7 @@
 //! The bytes of a stream in both archives are compared.
 
 ghost use Rattle.std.specs.Prelude.{◌≡◌, ◌+◌, ◌-◌, ◌<◌, ◌≤◌, ℕ, List, length, take, drop, IfOk, IfErr, IfNone};
+ghost use Rattle.chk_chunk.specs.Keys.{record_limit};
 ghost use Rattle.chk_site.specs.Files.{Files};
 ghost use Rattle.chk_site.specs.History.{Every};
 ghost use Rattle.chk_site.specs.Site.{Adds};
@@ -156,7 +157,7 @@ fn compare_records<S: Site>(
     requires right { at.old.right.index < at.old.right.end }
     requires lefts { at.old.left.end ≤ length left.now.heads.now }
     requires rights { at.old.right.end ≤ length right.now.heads.now }
-    ensures raw { (most : ℕ) (all : List (List ℕ)) (held : Files) → most ≤ 1048576 → AreSettled all held → IsSide most all held left.now
+    ensures raw { (most : ℕ) (all : List (List ℕ)) (held : Files) → most ≤ record_limit → AreSettled all held → IsSide most all held left.now
         → IsSide most all held right.now → AreTrue left.now right.now held readers.old → AreWithin left.now right.now held at.old
         → Adds (S.told site.old) (S.told site.new)
         (Leads (anyhow (SparesFiles all)) (HasFiles all held) (ComparedOne all left.now right.now held readers.new at.old at.new result)) }
@@ -194,7 +195,7 @@ pub fn compare_blocks<S: Site>(
     requires job { who.now ≡ job }
     requires lefts { (first.first ≤ first.end) × (first.end ≤ length left.now.heads.now) }
     requires rights { (second.first ≤ second.end) × (second.end ≤ length right.now.heads.now) }
-    ensures raw { (most : ℕ) (all : List (List ℕ)) (held : Files) → most ≤ 1048576 → AreSettled all held → IsSide most all held left.now
+    ensures raw { (most : ℕ) (all : List (List ℕ)) (held : Files) → most ≤ record_limit → AreSettled all held → IsSide most all held left.now
         → IsSide most all held right.now → AreTrue left.now right.now held readers.old → Adds (S.told site.old) (S.told site.new)
         (Leads (anyhow (SparesFiles all)) (HasFiles all held) (ComparedAll all left.now right.now held readers.new
         (values_between left.now held first.first first.end) (values_between right.now held second.first second.end) result)) }

@@ -1,6 +1,7 @@
 //! The heads of the records in some files, and the records themselves.
 
 ghost use Rattle.std.specs.Prelude.{◌≡◌, ◌+◌, ◌<◌, ◌≤◌, ℕ, List, length, slice_index_or, IfOk, IfErr, OnOk};
+ghost use Rattle.chk_chunk.specs.Keys.{record_limit};
 ghost use Rattle.chk_site.specs.Files.{Files};
 ghost use Rattle.chk_site.specs.History.{Every};
 ghost use Rattle.chk_site.specs.Site.{Adds};
@@ -41,7 +42,7 @@ fn gather_all<S: Site>(
     names: &[Word],
     most: u32,
 ) -> Result<Heads, JobFault>
-    requires { most ≤ 1048576 }
+    requires { most ≤ record_limit }
     ensures raw { (held : Files) → who.now ≡ job → AreSettled names.now held → Adds (S.told site.old) (S.told site.new)
         (Leads (anyhow (SparesFiles names.now)) (HasFiles names.now held) (GatheredAll most names.now held result)) }
     ensures own { who.now ≡ job → Adds (S.told site.old) (S.told site.new) (Every (IsOf ReadsFile)) }
@@ -108,7 +109,7 @@ pub fn fetch<S: Site>(
 ) -> Result<(), JobFault>
     requires job { who.now ≡ job }
     requires index { index < length side.now.heads.now }
-    ensures raw { (most : ℕ) (all : List (List ℕ)) (held : Files) → most ≤ 1048576 → AreSettled all held → AreAmong all side.now.names.now
+    ensures raw { (most : ℕ) (all : List (List ℕ)) (held : Files) → most ≤ record_limit → AreSettled all held → AreAmong all side.now.names.now
         → Each (IsKnown most side.now.names.now held) side.now.heads.now → AreWindows side.now.names.now held reader.old
         → Adds (S.told site.old) (S.told site.new)
         (Leads (anyhow (SparesFiles all)) (HasFiles all held)

@@ -4,7 +4,7 @@ ghost use Rattle.std.specs.Prelude.{◌≡◌, ◌≤◌, ◌++◌, ℕ, List, l
 ghost use Rattle.chk_site.specs.Files.{Files};
 ghost use Rattle.chk_site.specs.Site.{Adds};
 ghost use Rattle.chk_site.specs.Runs.{anyhow, Leads};
-ghost use Rattle.chk_chunk.specs.Keys.{Chunk};
+ghost use Rattle.chk_chunk.specs.Keys.{Chunk, record_limit};
 ghost use Rattle.chk_world.specs.Sight.{job};
 ghost use Rattle.chk_world.specs.JobSteps.{SparesFile};
 ghost use Rattle.chk_world.proofs.Each.{Each};
@@ -38,7 +38,7 @@ fn copy_block<S: Site>(
     requires segment { IsForJoined segmenter.old }
     requires low { block.first ≤ block.end }
     requires high { block.end ≤ length side.now.heads.now }
-    ensures raw { (most : ℕ) (all : List (List ℕ)) (held : Files) (chunks : List Chunk) → most ≤ 1048576 → AreSettled all held
+    ensures raw { (most : ℕ) (all : List (List ℕ)) (held : Files) (chunks : List Chunk) → most ≤ record_limit → AreSettled all held
         → AreApart all (joined_segment segmenter.old.number) → IsSide most all held side.now
         → Adds (S.told site.old) (S.told site.new)
         (Leads (anyhow (SparesBoth all (joined_segment segmenter.old.number)))
@@ -73,7 +73,7 @@ fn copy_choice<S: Site>(
     requires job { who.now ≡ job }
     requires segment { IsForJoined segmenter.old }
     requires fits { FitsIn left.now right.now choice }
-    ensures raw { (most : ℕ) (all : List (List ℕ)) (held : Files) (chunks : List Chunk) → most ≤ 1048576 → AreSettled all held
+    ensures raw { (most : ℕ) (all : List (List ℕ)) (held : Files) (chunks : List Chunk) → most ≤ record_limit → AreSettled all held
         → AreApart all (joined_segment segmenter.old.number) → IsSide most all held left.now → IsSide most all held right.now
         → Adds (S.told site.old) (S.told site.new)
         (Leads (anyhow (SparesBoth all (joined_segment segmenter.old.number)))
@@ -116,7 +116,7 @@ pub(crate) fn copy_all<S: Site>(
     requires job { who.now ≡ job }
     requires segment { IsForJoined segmenter.old }
     requires fits { Each (FitsIn left.now right.now) choices.now }
-    ensures raw { (most : ℕ) (all : List (List ℕ)) (held : Files) (chunks : List Chunk) → most ≤ 1048576 → AreSettled all held
+    ensures raw { (most : ℕ) (all : List (List ℕ)) (held : Files) (chunks : List Chunk) → most ≤ record_limit → AreSettled all held
         → AreApart all (joined_segment segmenter.old.number) → IsSide most all held left.now → IsSide most all held right.now
         → Adds (S.told site.old) (S.told site.new)
         (Leads (anyhow (SparesBoth all (joined_segment segmenter.old.number)))

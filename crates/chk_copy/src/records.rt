@@ -5,7 +5,7 @@ ghost use Rattle.chk_site.specs.Files.{File, Files};
 ghost use Rattle.chk_site.specs.History.{Every};
 ghost use Rattle.chk_site.specs.Site.{Adds};
 ghost use Rattle.chk_site.specs.Runs.{anyhow, Leads};
-ghost use Rattle.chk_chunk.specs.Keys.{Chunk, is_key, has_value, has_words, chunk_limit, chunk_begin};
+ghost use Rattle.chk_chunk.specs.Keys.{Chunk, is_key, has_value, has_words, chunk_limit, chunk_begin, record_limit};
 ghost use Rattle.chk_chunk.specs.Lent.{lent_chunk, lent_key};
 ghost use Rattle.chk_world.specs.Sight.{job};
 ghost use Rattle.chk_world.specs.JobSteps.{IsOf, ReadsFile, WritesTo, SparesFile};
@@ -103,7 +103,7 @@ fn fetch<S: Site>(
 ) -> Result<(), JobFault>
     requires job { who.now ≡ job }
     requires index { index < length side.now.heads.now }
-    ensures raw { (most : ℕ) (all : List (List ℕ)) (held : Files) → most ≤ 1048576 → AreSettled all held → AreAmong all side.now.names.now
+    ensures raw { (most : ℕ) (all : List (List ℕ)) (held : Files) → most ≤ record_limit → AreSettled all held → AreAmong all side.now.names.now
         → Each (IsKnown most side.now.names.now held) side.now.heads.now → AreWindows side.now.names.now held reader.old
         → Adds (S.told site.old) (S.told site.new)
         (Leads (anyhow (SparesFiles all)) (HasFiles all held)
@@ -135,7 +135,7 @@ pub(crate) fn copy_record<S: Site>(
     requires job { who.now ≡ job }
     requires segment { IsForJoined segmenter.old }
     requires index { index < length side.now.heads.now }
-    ensures raw { (most : ℕ) (all : List (List ℕ)) (held : Files) (chunks : List Chunk) → most ≤ 1048576 → AreSettled all held
+    ensures raw { (most : ℕ) (all : List (List ℕ)) (held : Files) (chunks : List Chunk) → most ≤ record_limit → AreSettled all held
         → AreApart all (joined_segment segmenter.old.number) → IsSide most all held side.now
         → Adds (S.told site.old) (S.told site.new)
         (Leads (anyhow (SparesBoth all (joined_segment segmenter.old.number)))

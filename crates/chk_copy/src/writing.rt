@@ -1,6 +1,7 @@
 //! The segment with the chosen records is written.
 
 ghost use Rattle.std.specs.Prelude.{◌≡◌, ◌≤◌, ℕ, List, flat_map};
+ghost use Rattle.chk_chunk.specs.Keys.{record_limit};
 ghost use Rattle.chk_site.specs.Files.{Files};
 ghost use Rattle.chk_site.specs.History.{Every};
 ghost use Rattle.chk_site.specs.Site.{Adds};
@@ -43,7 +44,7 @@ pub fn write_chosen<S: Site>(
 ) -> Result<Book, JobFault>
     requires job { who.now ≡ job }
     requires fits { Each (FitsIn left.now right.now) choices.now }
-    ensures raw { (most : ℕ) (all : List (List ℕ)) (held : Files) → most ≤ 1048576 → AreSettled all held
+    ensures raw { (most : ℕ) (all : List (List ℕ)) (held : Files) → most ≤ record_limit → AreSettled all held
         → AreApart all (joined_segment next) → IsSide most all held left.now → IsSide most all held right.now
         → Adds (S.told site.old) (S.told site.new)
         (Leads (anyhow (SparesBoth all (joined_segment next))) (HasFiles all held)
@@ -80,7 +81,7 @@ fn write_segment<S: Site>(
     requires job { who.now ≡ job }
     requires bare { book_view book.old ≡ bare_book book.old.next }
     requires fits { Each (FitsIn left.now right.now) choices.now }
-    ensures raw { (most : ℕ) (all : List (List ℕ)) (held : Files) → most ≤ 1048576 → AreSettled all held
+    ensures raw { (most : ℕ) (all : List (List ℕ)) (held : Files) → most ≤ record_limit → AreSettled all held
         → AreApart all (joined_segment book.old.next) → IsSide most all held left.now → IsSide most all held right.now
         → Adds (S.told site.old) (S.told site.new)
         (Leads (anyhow (SparesBoth all (joined_segment book.old.next))) (HasFiles all held)

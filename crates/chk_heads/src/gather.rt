@@ -7,7 +7,7 @@ ghost use Rattle.chk_site.specs.History.{Every};
 ghost use Rattle.chk_site.specs.Site.{Adds};
 ghost use Rattle.chk_site.specs.Runs.{anyhow, Leads};
 ghost use Rattle.chk_replace.specs.Load.{Has};
-ghost use Rattle.chk_chunk.specs.Keys.{Key, IsKey, has_value};
+ghost use Rattle.chk_chunk.specs.Keys.{Key, IsKey, has_value, record_limit};
 ghost use Rattle.chk_chunk.specs.Lent.{lent_key};
 ghost use Rattle.chk_seqfile.specs.Entries.{records_of};
 ghost use Rattle.chk_salvage.specs.Views.{placed_of};
@@ -128,7 +128,7 @@ impl Heads {
         most: u32,
     ) -> Result<u64, JobFault>
         requires name { IsTrue (is_word name.now) }
-        requires most { most ≤ 1048576 }
+        requires most { most ≤ record_limit }
         ensures raw { (f : Option File) → IsSmallFile f → Adds (S.told site.old) (S.told site.new)
             (Leads (anyhow (SparesFile name.now)) (Has name.now f) (Gathered most name.now f file self.old self.new result)) }
         ensures shown { Adds (S.told site.old) (S.told site.new) (ShowsGathered most name.now file self.old self.new result) }
@@ -160,7 +160,7 @@ impl Heads {
         most: u32,
     ) -> Result<(), JobFault>
         requires name { IsTrue (is_word name.now) }
-        requires most { most ≤ 1048576 }
+        requires most { most ≤ record_limit }
         ensures raw { (f : Option File) → IsSmallFile f → Adds (S.told site.old) (S.told site.new)
             (Leads (anyhow (SparesFile name.now)) (Has name.now f) (GatheredFile most name.now f file self.old self.new result)) }
         ensures shown { Adds (S.told site.old) (S.told site.new) (ShowsGathered most name.now file self.old self.new result) }
@@ -400,7 +400,7 @@ fn is_size(start: u64, seq: u64, size: u64, most: u32) -> bool
 /// How many bytes are asked for: few at the front and behind a record that is passed over, since others may be passed over then.
 fn amount(at: u64, last: Option<u64>) -> u32
     ensures some { 0 < result }
-    ensures most { result ≤ 1048576 }
+    ensures most { result ≤ record_limit }
 {
     if at == 0 || last.is_some() {
         LOOK

@@ -7,7 +7,7 @@ ghost use Rattle.chk_site.specs.Site.{Adds};
 ghost use Rattle.chk_site.specs.Runs.{anyhow, Leads};
 ghost use Rattle.chk_bytes.specs.Stems.{is_count};
 ghost use Rattle.chk_replace.specs.Replace.{LeavesFile};
-ghost use Rattle.chk_chunk.specs.Keys.{chunk_limit};
+ghost use Rattle.chk_chunk.specs.Keys.{chunk_limit, record_limit};
 ghost use Rattle.chk_world.specs.Places.{As};
 ghost use Rattle.chk_world.specs.Rules.{Legal};
 ghost use Rattle.chk_world.specs.Sight.{job};
@@ -70,7 +70,7 @@ fn write_plan<S: Site>(
 ) -> Result<Book, JobFault>
     requires job { who.now ≡ job }
     requires fits { Each (FitsIn left.now right.now) choices.now }
-    ensures raw { (most : ℕ) (all : List (List ℕ)) (held : Files) → most ≤ 1048576 → AreSettled all held
+    ensures raw { (most : ℕ) (all : List (List ℕ)) (held : Files) → most ≤ record_limit → AreSettled all held
         → AreApart all (joined_segment next) → IsSide most all held left.now → IsSide most all held right.now
         → Adds (S.told site.old) (S.told site.new)
         (Leads (anyhow (SparesBoth all (joined_segment next))) (HasFiles all held)
@@ -109,7 +109,7 @@ fn take_plan<S: Site>(
 ) -> Result<Prepared, JobFault>
     requires job { who.now ≡ job }
     requires fits { Each (FitsIn left.now right.now) plan.choices.items }
-    ensures raw { (most : ℕ) (all : List (List ℕ)) (held : Files) → most ≤ 1048576 → AreSettled all held
+    ensures raw { (most : ℕ) (all : List (List ℕ)) (held : Files) → most ≤ record_limit → AreSettled all held
         → AreApart all (joined_segment next) → IsSide most all held left.now → IsSide most all held right.now
         → Adds (S.told site.old) (S.told site.new)
         (Leads (anyhow (SparesBoth all (joined_segment next))) (HasFiles all held)
@@ -145,7 +145,7 @@ fn join_sides<S: Site>(
     right: &Side<'_>,
 ) -> Result<Prepared, JobFault>
     requires job { who.now ≡ job }
-    ensures raw { (most : ℕ) (all : List (List ℕ)) (held : Files) → most ≤ 1048576 → AreSettled all held
+    ensures raw { (most : ℕ) (all : List (List ℕ)) (held : Files) → most ≤ record_limit → AreSettled all held
         → AreApart all (joined_segment next) → IsSideInOrder most all held left.now → IsSideInOrder most all held right.now
         → Adds (S.told site.old) (S.told site.new)
         (Leads (anyhow (SparesBoth all (joined_segment next))) (HasFiles all held)

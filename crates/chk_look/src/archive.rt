@@ -1,6 +1,7 @@
 //! What of one stream stands in a folder's segments.
 
 ghost use Rattle.std.specs.Prelude.{◌≡◌, ◌≤◌, IsTrue, IfOk};
+ghost use Rattle.chk_chunk.specs.Keys.{record_limit};
 ghost use Rattle.chk_site.specs.Site.{Adds};
 ghost use Rattle.chk_world.specs.Sight.{job};
 ghost use Rattle.chk_book.specs.Books.{book_view};
@@ -34,7 +35,7 @@ pub fn print_archive<S: Site>(
 ) -> Result<(), LookFault>
     requires job { who.now ≡ job }
     requires folder { IsTrue (is_folder folder.now) }
-    requires most { most ≤ 1048576 }
+    requires most { most ≤ record_limit }
     ensures told { Adds (S.told site.old) (S.told site.new)
         (Sees (PrintedAll most (names_of folder.now (book_view book.now).segments) course.old course.new result)) }
     ensures keeps { KeepsCourse course.old course.new }
@@ -59,7 +60,7 @@ fn print_numbered<S: Site>(
 ) -> Result<(), LookFault>
     requires job { who.now ≡ job }
     requires folder { IsTrue (is_folder folder.now) }
-    requires most { most ≤ 1048576 }
+    requires most { most ≤ record_limit }
     ensures told { Adds (S.told site.old) (S.told site.new)
         (Sees (Printed most (segment_name folder.now segment.now.number) course.old course.new result)) }
     ensures keeps { KeepsCourse course.old course.new }

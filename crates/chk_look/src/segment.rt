@@ -1,6 +1,7 @@
 //! What of one stream stands in one segment.
 
 ghost use Rattle.std.specs.Prelude.{◌≡◌, ◌≤◌, [], ℕ, List, IsTrue, IfOk};
+ghost use Rattle.chk_chunk.specs.Keys.{record_limit};
 ghost use Rattle.chk_bytes.specs.Words.{is_word};
 ghost use Rattle.chk_site.specs.Site.{Adds, LastFailed, OutsideCause};
 ghost use Rattle.chk_seqfile.specs.Entries.{records_of};
@@ -42,7 +43,7 @@ pub fn print_segment<S: Site>(
 ) -> Result<(), LookFault>
     requires job { who.now ≡ job }
     requires name { IsTrue (is_word name.now) }
-    requires most { most ≤ 1048576 }
+    requires most { most ≤ record_limit }
     ensures told { Adds (S.told site.old) (S.told site.new) (Sees (Printed most name.now course.old course.new result)) }
     ensures keeps { KeepsCourse course.old course.new }
     ensures last { Adds (S.told site.old) (S.told site.new) (FailsLast result) }

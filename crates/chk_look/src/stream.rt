@@ -1,7 +1,7 @@
 //! One stream's archive, as the book that is read names it.
 
 ghost use Rattle.std.specs.Prelude.{◌≡◌, ◌≤◌, map, IsTrue, IfSome, IfNone, Some, None};
-ghost use Rattle.chk_chunk.specs.Keys.{same_stream};
+ghost use Rattle.chk_chunk.specs.Keys.{same_stream, record_limit};
 ghost use Rattle.chk_site.specs.History.{Every};
 ghost use Rattle.chk_site.specs.Site.{Adds};
 ghost use Rattle.chk_world.specs.JobSteps.{IsOf};
@@ -49,7 +49,7 @@ pub fn print_stream<S: Site>(
 ) -> Result<Came, LookFault>
     requires job { who.now ≡ job }
     requires folder { IsTrue (is_folder folder.now) }
-    requires most { most ≤ 1048576 }
+    requires most { most ≤ record_limit }
     ensures told { Stage folder.now most course.old course.new result (S.told site.old) (S.told site.new) }
     ensures own { Adds (S.told site.old) (S.told site.new) (Every (IsOf LooksOrSays)) }
     ensures last { Adds (S.told site.old) (S.told site.new) (FailsLast result) }
@@ -73,7 +73,7 @@ fn print_booked<S: Site>(
 ) -> Result<Came, LookFault>
     requires job { who.now ≡ job }
     requires folder { IsTrue (is_folder folder.now) }
-    requires most { most ≤ 1048576 }
+    requires most { most ≤ record_limit }
     ensures told { Adds (S.told site.old) (S.told site.new)
         (Sees (PrintedBy most (names_of folder.now (book_view book.now).segments)
         (end_of (stream_of course.old) (book_view book.now).ends) course.old course.new result)) }

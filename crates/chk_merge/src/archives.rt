@@ -1,6 +1,7 @@
 //! The bytes of one stream in a folder's segments.
 
 ghost use Rattle.std.specs.Prelude.{◌≡◌, ◌<◌, ◌≤◌, ℕ, length, IsTrue, IfErr};
+ghost use Rattle.chk_chunk.specs.Keys.{record_limit};
 ghost use Rattle.chk_site.specs.Files.{Files};
 ghost use Rattle.chk_site.specs.History.{Every};
 ghost use Rattle.chk_site.specs.Site.{Adds};
@@ -113,7 +114,7 @@ fn joined<S: Site>(
     heads: &Heads,
     stream: &StreamRef<'_>,
 ) -> Result<Bytes, JobFault>
-    ensures raw { (most : ℕ) (held : Files) → most ≤ 1048576 → AreSettled names.now held → Adds
+    ensures raw { (most : ℕ) (held : Files) → most ≤ record_limit → AreSettled names.now held → Adds
         (S.told site.old) (S.told site.new)
         (Leads (anyhow (SparesFiles names.now)) (CanJoin most names.now held heads.now)
         (HasJoined (stream_of stream.now) names.now held heads.now result)) }
@@ -157,7 +158,7 @@ fn join_one<S: Site>(
     stream: &StreamRef<'_>,
 ) -> Result<(), JobFault>
     requires { index < length heads.now }
-    ensures raw { (most : ℕ) (held : Files) → most ≤ 1048576 → AreSettled names.now held → Adds
+    ensures raw { (most : ℕ) (held : Files) → most ≤ record_limit → AreSettled names.now held → Adds
         (S.told site.old) (S.told site.new)
         (Leads (anyhow (SparesFiles names.now)) (HasSoFar
         (stream_of stream.now) most names.now held heads.now reader.old bytes.old index)

@@ -1,6 +1,7 @@
 //! The heads of the records in some files, and the records themselves.
 
 ghost use Rattle.std.specs.Prelude.{◌≡◌, ◌+◌, ◌<◌, ◌≤◌, ℕ, List, Option, length, slice_index_or, IfOk, IfErr};
+ghost use Rattle.chk_chunk.specs.Keys.{record_limit};
 ghost use Rattle.chk_site.specs.Files.{File, Files};
 ghost use Rattle.chk_site.specs.History.{Every};
 ghost use Rattle.chk_site.specs.Site.{Adds};
@@ -34,7 +35,7 @@ pub(crate) fn gather_all<S: Site>(
     names: &[Word],
     most: u32,
 ) -> Result<Heads, JobFault>
-    requires { most ≤ 1048576 }
+    requires { most ≤ record_limit }
     ensures raw { (held : Files) → who.now ≡ job → AreSettled names.now held → Adds
         (S.told site.old) (S.told site.new)
         (Leads (anyhow (SparesFiles names.now)) (HasFiles names.now held)
@@ -76,7 +77,7 @@ pub(crate) fn fetch<S: Site>(
     index: usize,
 ) -> Result<(), JobFault>
     requires { index < length heads.now }
-    ensures raw { (most : ℕ) (held : Files) → most ≤ 1048576 → AreSettled names.now held → Adds
+    ensures raw { (most : ℕ) (held : Files) → most ≤ record_limit → AreSettled names.now held → Adds
         (S.told site.old) (S.told site.new)
         (Leads (anyhow (SparesFiles names.now)) (CanReadAll most names.now held heads.now
         reader.old)

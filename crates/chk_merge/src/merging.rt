@@ -1,6 +1,7 @@
 //! One segment of all records that a book names.
 
 ghost use Rattle.std.specs.Prelude.{◌≡◌, ◌+◌, ◌<◌, ◌≤◌, length, slice_index_or, IfOk, OnOk, OnErr, IfErr, IsTrue};
+ghost use Rattle.chk_chunk.specs.Keys.{record_limit};
 ghost use Rattle.chk_site.specs.Files.{Files};
 ghost use Rattle.chk_site.specs.History.{Every};
 ghost use Rattle.chk_site.specs.Site.{Adds};
@@ -136,7 +137,7 @@ fn write_one<S: Site>(
 ) -> Result<(), JobFault>
     requires index { index < length heads.now }
     requires most { most ≡ most_in segmenter.old.folder }
-    requires few { most ≤ 1048576 }
+    requires few { most ≤ record_limit }
     requires who { segmenter.old.who ≡ who.now }
     ensures raw { (w : Writing) (held : Files) → who.now ≡ job → IsAt segmenter.old w → AreSettled names.now held
         → AreApart names.now (segment_name w.folder w.number) → Adds (S.told site.old) (S.told site.new)

@@ -1,6 +1,7 @@
 //! The names of a folder's files, and what its segments may hold.
 
 ghost use Rattle.std.specs.Prelude.{◌≡◌, ◌≤◌, IfOk};
+ghost use Rattle.chk_chunk.specs.Keys.{record_limit};
 ghost use Rattle.chk_book.specs.Books.{book_view};
 ghost use Rattle.chk_book.specs.Folders.{book_name, segment_name, most_in};
 ghost use Rattle.chk_merge.specs.Segments.{names_of};
@@ -32,7 +33,7 @@ pub(crate) fn book_name(alloc: Global, folder: &str) -> Result<Word, NoMemory>
 /// The most bytes of a value in a segment of the folder.
 pub fn most_in(folder: &str) -> u32
     ensures most { result ≡ most_in folder.now }
-    ensures few { result ≤ 1048576 }
+    ensures few { result ≤ record_limit }
 {
     if folder == "demux" {
         1_048_576

@@ -1,6 +1,7 @@
 //! Reads records back whose heads are known.
 
 ghost use Rattle.std.specs.Prelude.{◌+◌, ◌≤◌, length};
+ghost use Rattle.chk_chunk.specs.Keys.{record_limit};
 
 use crate::reading::read_run;
 use crate::spans::{Ahead, Run, Span, run_of, value_span};
@@ -73,7 +74,7 @@ impl RecordReader {
     ) -> Result<(), JobFault>
         requires name { IsTrue (is_word name.now) }
         requires index { index < length heads.now }
-        ensures raw { (most : ℕ) (f : Option File) → most ≤ 1048576 → IsSmallFile f → Adds
+        ensures raw { (most : ℕ) (f : Option File) → most ≤ record_limit → IsSmallFile f → Adds
             (S.told site.old) (S.told site.new)
             (Leads (anyhow (SparesFile name.now)) (CanRead most name.now f
             (slice_index_or heads.now index no_head) self.old)
@@ -115,7 +116,7 @@ impl RecordReader {
         requires name { IsTrue (is_word name.now) }
         requires index { index < length heads.now }
         requires head { lent_head head.now ≡ slice_index_or heads.now index no_head }
-        ensures raw { (most : ℕ) (f : Option File) → most ≤ 1048576 → IsSmallFile f → Adds
+        ensures raw { (most : ℕ) (f : Option File) → most ≤ record_limit → IsSmallFile f → Adds
             (S.told site.old) (S.told site.new)
             (Leads (anyhow (SparesFile name.now)) (CanRead most name.now f
             (slice_index_or heads.now index no_head) self.old)
@@ -157,7 +158,7 @@ impl RecordReader {
     ) -> Result<(), JobFault>
         requires name { IsTrue (is_word name.now) }
         requires index { index < length heads.now }
-        ensures raw { (most : ℕ) (f : Option File) → most ≤ 1048576 → IsSmallFile f → Adds
+        ensures raw { (most : ℕ) (f : Option File) → most ≤ record_limit → IsSmallFile f → Adds
             (S.told site.old) (S.told site.new)
             (Leads (anyhow (SparesFile name.now)) (CanRead most name.now f
             (slice_index_or heads.now index no_head) self.old)

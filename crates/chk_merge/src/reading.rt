@@ -1,6 +1,7 @@
 //! One run of a file's bytes.
 
 ghost use Rattle.std.specs.Prelude.{◌≡◌, ◌≤◌, ℕ, List, Option};
+ghost use Rattle.chk_chunk.specs.Keys.{record_limit};
 ghost use Rattle.chk_site.specs.Files.{File};
 ghost use Rattle.chk_site.specs.Effect.{IsSmallFile};
 ghost use Rattle.chk_site.specs.History.{Every};
@@ -29,7 +30,7 @@ fn read_once<S: Site>(
     at: u64,
     max: u32,
 ) -> Result<Bytes, OutsideFault>
-    requires { max ≤ 1048576 }
+    requires { max ≤ record_limit }
     ensures raw { (file : Option File) → Adds (S.told site.old) (S.told site.new)
         (Leads (anyhow (SparesFile name.now)) (Has name.now file)
         (HasRun name.now at max file result)) }
