@@ -1,6 +1,7 @@
 -- How the parts of a state fit. It speaks of no history.
 use Rattle.std.specs.Prelude.{◌≡◌, ℕ, ◌≤◌, IsTrue, List, [], ◌∷◌, length, map, Contains, Any, Some}
 use Rattle.std.specs.Prelude.{find, slice_get, slice_index}
+use Rattle.chk_chunk.specs.Keys.{chunk_limit}
 use Rattle.chk_tail.specs.Walks.{Spot}
 use Rattle.chk_rotate.specs.Marks.{place_of, BeginsBelow}
 use Rattle.chk_world.specs.Names.{is_source}
@@ -50,7 +51,7 @@ pub record FitsAdaptor (source : List ℕ) (lines : List Line) (begin committed 
 -- there is room for a row, and for the bytes of a chunk
 pub record IsEnough (rules : Rules) : Type 0 where
   pub some_rows : 1 ≤ rules.rows
-  pub a_piece : 131072 ≤ rules.queue
+  pub a_piece : chunk_limit ≤ rules.queue
 
 -- The table has 10,000 adaptors. No line of the checkpoint is lost, no two adaptors are of one
 -- stream, and no two live ones have one name; all this but the lines themselves is known of the

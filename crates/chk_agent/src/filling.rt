@@ -1,6 +1,7 @@
 //! A fill: each adaptor that is still read is stepped once.
 
 ghost use Rattle.std.specs.Prelude.{◌≡◌, ◌≤◌, ◌<◌, ◌==◌, ◌||◌, ℕ, List, IfOk, length, slice_get};
+ghost use Rattle.chk_chunk.specs.Keys.{chunk_limit};
 ghost use Rattle.std.specs.Prelude.{true};
 ghost use Rattle.chk_site.specs.Site.{Adds};
 ghost use Rattle.chk_site.specs.Runs.{Leads};
@@ -89,7 +90,7 @@ impl Agent {
 
 // A step gave so many bytes.
 fn note(full: &mut bool, bytes: u64)
-    ensures { full.new ≡ (full.old || bytes == 131072) }
+    ensures { full.new ≡ (full.old || bytes == chunk_limit) }
 {
     if bytes == PIECE {
         *full = true;

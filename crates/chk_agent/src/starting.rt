@@ -1,6 +1,7 @@
 //! The start of an agent.
 
 ghost use Rattle.std.specs.Prelude.{◌≡◌, ◌≤◌, ℕ, List, [], IsTrue, IfOk, map, length};
+ghost use Rattle.chk_chunk.specs.Keys.{chunk_limit};
 ghost use Rattle.chk_site.specs.declared.acts.Role.TheVariants.{Agent as agent_role};
 ghost use Rattle.chk_site.specs.declared.acts.Call.TheVariants.{Start};
 ghost use Rattle.chk_site.specs.Site.{Adds, asked, LastFailed, OutsideCause};
@@ -46,7 +47,7 @@ impl Agent {
         requires role { who.now.role ≡ agent_role }
         requires name { IsTrue (is_source who.now.name) }
         requires some_rows { 1 ≤ rules.rows }
-        requires a_piece { 131072 ≤ rules.queue }
+        requires a_piece { chunk_limit ≤ rules.queue }
         ensures fresh { IfOk result (IsFresh who.now ring rules) }
         ensures starts { IfOk result (λ _. Adds (S.told site.old) (S.told site.new) (HasStarted who.now)) }
         ensures told { (stamped : List (List ℕ)) → Adds (S.told site.old) (S.told site.new)
@@ -73,7 +74,7 @@ impl Agent {
         requires role { who.now.role ≡ agent_role }
         requires name { IsTrue (is_source who.now.name) }
         requires some_rows { 1 ≤ rules.rows }
-        requires a_piece { 131072 ≤ rules.queue }
+        requires a_piece { chunk_limit ≤ rules.queue }
         ensures fresh { IfOk result (IsFresh who.now ring rules) }
         ensures starts { IfOk result (λ _. Adds (S.told site.old) (S.told site.new) (HasStarted who.now)) }
         ensures told { (stamped : List (List ℕ)) → Adds (S.told site.old) (S.told site.new)
@@ -131,7 +132,7 @@ fn new_agent(
     requires role { who.now.role ≡ agent_role }
     requires name { IsTrue (is_source who.now.name) }
     requires some_rows { 1 ≤ rules.rows }
-    requires a_piece { 131072 ≤ rules.queue }
+    requires a_piece { chunk_limit ≤ rules.queue }
     requires lines { IsTrue (are_lines Two (lines_of check)) }
     ensures fresh { IfOk result (IsFresh who.now ring rules) }
     ensures saved { IfOk result (λ agent. agent.saved ≡ lines_of check) }

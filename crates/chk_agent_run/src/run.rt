@@ -1,6 +1,7 @@
 //! The run of an agent.
 
 ghost use Rattle.std.specs.Prelude.{◌≡◌, ◌≤◌, ℕ, List, IsTrue};
+ghost use Rattle.chk_chunk.specs.Keys.{chunk_limit};
 ghost use Rattle.chk_site.specs.declared.acts.Role.TheVariants.{Agent as agent_role, Writer as writer_role};
 ghost use Rattle.chk_site.specs.Site.{Adds};
 ghost use Rattle.chk_site.specs.Runs.{Leads};
@@ -56,7 +57,7 @@ pub fn run_agent<S: Site>(
     requires name { IsTrue (is_source who.now.name) }
     requires writer { writer.now.role ≡ writer_role }
     requires some_rows { 1 ≤ rules.rows }
-    requires a_piece { 131072 ≤ rules.queue }
+    requires a_piece { chunk_limit ≤ rules.queue }
     ensures ran { HasRun who.now writer.now ring rules work.now result (S.told site.old) (S.told site.new) }
     ensures told { (stamped : List (List ℕ)) → Adds (S.told site.old) (S.told site.new)
         (Leads (InRun stamped who.now writer.now) (Legal stamped) (RunEnds stamped who.now result)) }

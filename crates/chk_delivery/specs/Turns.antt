@@ -1,6 +1,7 @@
 -- What each call makes of the state, by what the site answered.
 use Rattle.std.specs.Prelude.{◌≡◌, ℕ, zero, suc, ◌+◌, ◌-◌, ◌<◌, Bool, true, ◌&&◌, not, nat_lt, nat_le, ◌==◌, min, List, [], ◌∷◌, ◌++◌, length, map, filter, take, drop, if◌then◌else◌, Option, Some, None, is_some, option_map, find, slice_index}
 use Rattle.std.specs.List.{list_any}
+use Rattle.chk_chunk.specs.Keys.{chunk_limit}
 use Rattle.chk_bytes.specs.Stems.{Stem, same_stem}
 use Rattle.chk_chunk.specs.declared.Chunk.{Chunk}
 use Rattle.chk_chunk.specs.Posts.{post_limit, most_chunks}
@@ -42,7 +43,7 @@ with_chunk i c s = record s {
 
 -- fewer bytes are free than a chunk may have
 abbrev pub is_held : State → Bool
-is_held s = nat_lt (s.queue.limit - data_size s.queue.chunks) 131072
+is_held s = nat_lt (s.queue.limit - data_size s.queue.chunks) chunk_limit
 
 -- ---- a post
 

@@ -1,6 +1,7 @@
 //! Collector and agent start, and the logs of the words are added.
 
 ghost use Rattle.std.specs.Prelude.{◌≡◌, IfErr, ◌≤◌, ℕ, List, Contains, IsTrue, IfOk};
+ghost use Rattle.chk_chunk.specs.Keys.{chunk_limit};
 ghost use Rattle.chk_site.specs.declared.acts.Who.{Who as Person};
 ghost use Rattle.chk_site.specs.Site.{Adds};
 ghost use Rattle.chk_site.specs.Runs.{Leads};
@@ -41,7 +42,7 @@ pub(crate) fn gather<S: Site>(
     requires name { IsTrue (is_source reading.now.name) }
     requires ring { ring ≡ inside }
     requires some_rows { 1 ≤ rules.rows }
-    requires a_piece { 131072 ≤ rules.queue }
+    requires a_piece { chunk_limit ≤ rules.queue }
     ensures gathered { IfOk result (λ pair. IsGathered reading.now.name pair.collector pair.agent) }
     ensures live { IfOk result (λ pair. (log : List ℕ) → Contains given.now.logs.items log
         → Follows given.now.kind log pair.agent) }

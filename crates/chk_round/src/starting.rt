@@ -1,6 +1,7 @@
 //! The start of a round: collector and agent start, and the agent asks for the time.
 
 ghost use Rattle.std.specs.Prelude.{◌≡◌, IfErr, ◌≤◌, ℕ, List, IsTrue, IfOk};
+ghost use Rattle.chk_chunk.specs.Keys.{chunk_limit};
 ghost use Rattle.chk_site.specs.declared.acts.Who.{Who as Person};
 ghost use Rattle.chk_site.specs.Site.{Adds};
 ghost use Rattle.chk_site.specs.Runs.{Leads, Owns};
@@ -55,7 +56,7 @@ pub(crate) fn start_pair<S: Site>(
     requires agent_is { reading.now ≡ agent reading.now.name }
     requires name { IsTrue (is_source reading.now.name) }
     requires some_rows { 1 ≤ rules.rows }
-    requires a_piece { 131072 ≤ rules.queue }
+    requires a_piece { chunk_limit ≤ rules.queue }
     ensures fresh { IfOk result (λ pair. AreFresh reading.now.name ring rules pair.collector pair.agent) }
     ensures told { (stamped : List (List ℕ)) (started acting : List Person)
         → AreBoth reading.now.name started acting → Adds (S.told site.old) (S.told site.new)

@@ -1,6 +1,7 @@
 //! A round.
 
 ghost use Rattle.std.specs.Prelude.{◌≡◌, ◌≤◌, ℕ, List, IfOk, IsTrue};
+ghost use Rattle.chk_chunk.specs.Keys.{chunk_limit};
 ghost use Rattle.chk_site.specs.declared.acts.Who.{Who as Person};
 ghost use Rattle.chk_site.specs.Site.{Adds};
 ghost use Rattle.chk_world.specs.Names.{is_source};
@@ -83,7 +84,7 @@ pub fn round_within<S: Site>(
     requires name { IsTrue (is_source given.now.source) }
     requires a_read { 1 ≤ given.now.reads }
     requires some_rows { 1 ≤ limits.rows }
-    requires a_piece { 131072 ≤ limits.queue }
+    requires a_piece { chunk_limit ≤ limits.queue }
     ensures told { (stamped : List (List ℕ)) (started acting : List Person)
         → IsRunOf given.now.source started acting → Adds (S.told site.old) (S.told site.new)
         (RoundTo stamped started acting given.now.source result) }
@@ -122,7 +123,7 @@ fn run_prepared<S: Site>(
     requires processes { processes.now ≡ processes_of given.now.source }
     requires ring { ring ≡ inside }
     requires some_rows { 1 ≤ rules.rows }
-    requires a_piece { 131072 ≤ rules.queue }
+    requires a_piece { chunk_limit ≤ rules.queue }
     requires cluster { rules.cluster ≡ given.now.cluster }
     requires name { IsTrue (is_source given.now.source) }
     requires a_read { 1 ≤ given.now.reads }

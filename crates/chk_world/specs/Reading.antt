@@ -11,7 +11,7 @@ use Rattle.chk_site.specs.Honest.{AtLogRead}
 use Rattle.chk_site.specs.CutLaws.{MayStop}
 use Rattle.chk_site.specs.Logs.{Generation, Shown, Part, TheBase, Past, read_from}
 use Rattle.chk_site.specs.History.{Step, History, files_after, logs_after}
-use Rattle.chk_chunk.specs.Keys.{Stream, Chunk, chunk_end, is_chunk}
+use Rattle.chk_chunk.specs.Keys.{Stream, Chunk, chunk_end, is_chunk, chunk_limit}
 use Rattle.chk_world.specs.Names.{is_source}
 use Rattle.chk_world.specs.Checkpoints.{Line, line_of}
 use Rattle.chk_world.specs.Streams.{Founding, founding, start_of, log_of, whole_end, is_stream_cut, IsTrueChunk}
@@ -91,7 +91,7 @@ pub record GivesNoMore (lines : Bool) (g : Shown) (at max : ℕ) (words : List (
 
 -- a whole piece was asked for, or all up to the greatest place
 abbrev pub AsksEnough : Line → ℕ → Type 0
-AsksEnough l max = min (last_number - l.offset) 131072 ≤ max
+AsksEnough l max = min (last_number - l.offset) chunk_limit ≤ max
 
 -- where such a read gives no more, the whole log ends at the place
 abbrev pub ReadsFindEnd : Type 0
