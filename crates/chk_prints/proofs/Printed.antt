@@ -1,11 +1,15 @@
 -- What lines that are printed in turn add.
 use Rattle.std.proofs.Common.{◌≡◌, ℕ, Bool, true, false, List, [], ◌∷◌, ◌++◌, Ok, Err, Option, Result, map, refl, sym, ◌∙◌, ap, subst, append_assoc, append-nil}
+use Rattle.std.specs.Prelude.{IsTrue, MatchResult}
 use Rattle.chk_site.specs.declared.acts.Who.{Who}
 use Rattle.chk_site.specs.declared.acts.Act.{Act}
 use Rattle.chk_site.specs.declared.acts.OutsideFault.{OutsideFault}
+use Rattle.chk_site.specs.declared.acts.CallFault.{CallFault}
+use Rattle.chk_site.specs.declared.acts.Call.TheVariants.{Say}
+use Rattle.chk_world.specs.ArchiveRuns.{is_one_line}
 use Rattle.chk_site.specs.Acts.{deed}
 use Rattle.chk_site.specs.History.{History, Every, IsTheirs, is_stopped}
-use Rattle.chk_site.specs.Site.{Adds, Asked, Acted, Calls, plain}
+use Rattle.chk_site.specs.Site.{Adds, Asked, Acted, Calls, plain, answered, Ends}
 use Rattle.chk_site.specs.Runs.{MadeInTurn, finished, unbegun, went_on, ended as ended_so, own_acts}
 use Rattle.chk_site.proofs.Runs.{adds_then, adds_none, ran}
 use Rattle.chk_prints.specs.Printing.{PrintsInTurn, all_printed, unprinted, printed_on, ended, printing, Print, by, print_of, printed}
@@ -21,6 +25,17 @@ prints_made all_printed = finished
 prints_made unprinted = unbegun
 prints_made (printed_on one told rest) = went_on (Ok tt) tt told (prints_made rest)
 prints_made (ended given one ends told) = ended_so given ends told
+
+-- one line is said, and the answer tells how that ended
+pub said_line : {who : Who} {line : List ℕ} {old new : Option History} (given : Result (Unit {0}) CallFault)
+    (result : Result (Unit {0}) OutsideFault) → IsTrue (is_one_line line)
+    → Adds old new (Calls (printing who line) (answered plain given))
+    → MatchResult result (λ value. given ≡ Ok value) (λ fault. Ends Say given fault)
+    → PrintsInTurn who (line ∷ []) result old new
+said_line {who} {line} {old} {new} given (Ok tt) one told is =
+    printed_on one (subst (λ (x : Result (Unit {0}) CallFault). Adds old new (Calls (printing who line) (answered plain x))) is told)
+    all_printed
+said_line given (Err fault) one told ends = ended given one ends told
 
 -- ---- joining
 

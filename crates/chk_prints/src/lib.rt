@@ -6,7 +6,7 @@ ghost use Rattle.chk_site.specs.Site.{OutsideCause};
 ghost use Rattle.chk_world.specs.ArchiveRuns.{is_one_line};
 ghost use Rattle.chk_prints.specs.Printing.{PrintsInTurn};
 
-use chk_site::{Call, CallFault, OutsideFault, Site, Who};
+use chk_site::{Call, OutsideFault, Site, Who, reached};
 use std::alloc::Global;
 
 /// Prints one line with its newline as this process. It costs one call.
@@ -20,10 +20,6 @@ pub fn print_line<S: Site>(
     ensures told { PrintsInTurn who.now (line.now ∷ []) result (S.told site.old) (S.told site.new) }
     ensures cause { OutsideCause (S.fault_count site.old) (S.fault_count site.new) result }
 {
-    match site.say(alloc, who, line) {
-        Ok(()) => Ok(()),
-        Err(CallFault::Failed) => Err(OutsideFault::Outside { call: Call::Say }),
-        Err(CallFault::NoMemory) => Err(OutsideFault::NoMemory),
-        Err(_) => unreachable!(),
-    }
+    let given = site.say(alloc, who, line);
+    reached(Call::Say, given)
 }

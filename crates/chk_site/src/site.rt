@@ -1,5 +1,5 @@
 // The outside, by what each call adds to the history.
-ghost use Rattle.std.specs.Prelude.{◌≡◌, ℕ, ◌≤◌, [], ◌∷◌, Option, length, IfOk, MatchResult};
+ghost use Rattle.std.specs.Prelude.{◌≡◌, ℕ, ◌≤◌, [], ◌∷◌, Option, Ok, length, IfOk, MatchResult};
 ghost use Rattle.chk_site.specs.declared.acts.Call.TheVariants.{Start, LogRead, LogNewest, LogAppend, Create, Append, Sync, Rename, Remove, Cut, Size, Read, List, Clock, Pause, Send, Got, Take, More, Answer, Say};
 ghost use Rattle.chk_site.specs.History.{History};
 ghost use Rattle.chk_site.specs.Site.{Adds, asked, answered, plain, sized, bytes_given, suffix_given, names_given, piece_given, taking_given, part_text, EndsPast, Calls, CallsSome, CauseOf, MayFail, MayExist, MayMiss, MayBeShort, MayMissOrBeShort, IsDone, Ends, IsTaken};
@@ -227,5 +227,18 @@ pub fn taken<T: Drop>(call: Call, given: Result<T, CallFault>) -> Result<Option<
         Err(CallFault::Failed) => Err(OutsideFault::Outside { call }),
         Err(CallFault::NoMemory) => Err(OutsideFault::NoMemory),
         Err(_) => Ok(None),
+    }
+}
+
+/// The value of a call that is never refused for the state of the files.
+pub fn reached<T: Drop>(call: Call, given: Result<T, CallFault>) -> Result<T, OutsideFault>
+    requires { MayFail given }
+    ensures { MatchResult result (λ value. given ≡ Ok value) (λ fault. Ends call given fault) }
+{
+    match given {
+        Ok(value) => Ok(value),
+        Err(CallFault::Failed) => Err(OutsideFault::Outside { call }),
+        Err(CallFault::NoMemory) => Err(OutsideFault::NoMemory),
+        Err(_) => unreachable!(),
     }
 }
