@@ -1,6 +1,6 @@
 //! The lines of a text, and how an agent runs them.
 
-ghost use Rattle.std.specs.Prelude.{◌≡◌, ◌≤◌, ◌+◌, ◌==◌, ◌<◌, ◌^◌, ℕ, List, [], ◌∷◌, true, length, position, IfOk};
+ghost use Rattle.std.specs.Prelude.{◌≡◌, ◌≤◌, ◌+◌, ◌==◌, ◌<◌, ◌^◌, ℕ, List, [], ◌∷◌, true, length, IfOk};
 ghost use Rattle.chk_bytes.specs.Words.{parts_at};
 ghost use Rattle.chk_site.specs.Site.{Adds};
 ghost use Rattle.chk_site.specs.Runs.{Leads};
@@ -11,16 +11,9 @@ ghost use Rattle.chk_agent.specs.Faults.{AgentCause, FailsLast, IsUndamaged};
 ghost use Rattle.chk_agent_run.specs.Lines.{lines_from, AreRun};
 
 use chk_agent::{Agent, AgentFault, Reply, Then};
-use chk_bytes::Bytes;
+use chk_bytes::{Bytes, line_size};
 use chk_site::Site;
 use std::alloc::Global;
-
-// How many bytes stand before the first newline.
-pub(crate) fn line_size(text: &[u8]) -> Option<usize>
-    ensures { result ≡ position (λ b. b == 10) text.now }
-{
-    text.iter().position(|b| *b == b'\n')
-}
 
 // The line of a text that begins at a place, without its newline.
 pub(crate) fn line_at(text: &[u8], at: usize) -> &[u8]

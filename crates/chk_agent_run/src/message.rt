@@ -11,9 +11,8 @@ ghost use Rattle.chk_agent.specs.Facts.{Matches};
 ghost use Rattle.chk_agent_run.specs.Closing.{closes, capped, IsPassed};
 ghost use Rattle.chk_agent_run.specs.Messages.{IsRead, Scanned, Brought};
 
-use crate::lines::line_size;
 use chk_agent::{Agent, AgentFault};
-use chk_bytes::{Bytes, NoMemory};
+use chk_bytes::{Bytes, NoMemory, line_size};
 use chk_control::{Command, LineFault, read_line};
 use chk_site::{CallFault, Site, Taking, Who};
 use std::alloc::Global;

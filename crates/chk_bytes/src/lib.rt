@@ -2,6 +2,7 @@
 //! log collector stands on.
 #![tactic(auto)]
 
+mod breaks;
 mod byte_list;
 mod decimals;
 mod laws;
@@ -10,6 +11,7 @@ mod stem;
 mod vints;
 mod word;
 
+pub use breaks::{first_space, line_size};
 pub use byte_list::Bytes;
 pub use decimals::{put_decimal, take_decimal, take_plain_decimal};
 pub use laws::{

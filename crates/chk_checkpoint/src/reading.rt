@@ -1,6 +1,6 @@
 //! The lines of a text.
 
-ghost use Rattle.std.specs.Prelude.{◌≡◌, ◌≤◌, ◌==◌, ◌++◌, ◌∷◌, [], length, map, position, IfOk, IfSome, IfNone};
+ghost use Rattle.std.specs.Prelude.{◌≡◌, ◌≤◌, ◌==◌, ◌++◌, ◌∷◌, [], length, map, IfOk, IfSome, IfNone};
 ghost use Rattle.std.specs.Bool.{OnTrue};
 ghost use Rattle.chk_checkpoint.specs.Lines.{shown, text_version};
 ghost use Rattle.chk_checkpoint.specs.Fields.{lent};
@@ -11,7 +11,7 @@ use crate::line::{LineRef, own_line, read_line};
 use crate::seen::Seen;
 use crate::version::{Version, version_of};
 use crate::{CheckFault, CheckLine, Checkpoint, MOST_LINES};
-use chk_bytes::NoMemory;
+use chk_bytes::{NoMemory, line_size};
 use std::alloc::Global;
 
 /// The lines of a text. Its cost is the text's length, and for each line a look-up among the names and streams so far.
@@ -80,11 +80,4 @@ fn take_line<'a>(
     }
     lines.push(own_line(alloc, line)?)?;
     Ok(true)
-}
-
-// How many bytes stand before the first newline.
-fn line_size(text: &[u8]) -> Option<usize>
-    ensures { result ≡ position (λ b. b == 10) text.now }
-{
-    text.iter().position(|b| *b == b'\n')
 }

@@ -1,11 +1,12 @@
 //! The words of a line, one space between each two.
 
-ghost use Rattle.std.specs.Prelude.{◌≡◌, ◌<◌, ◌+◌, ◌∷◌, [], List, ℕ, length, position, IfSome, IfNone, ◌==◌, is_some};
+ghost use Rattle.std.specs.Prelude.{◌≡◌, ◌<◌, ◌+◌, ◌∷◌, [], List, ℕ, length, IfSome, IfNone, ◌==◌, is_some};
 ghost use Rattle.chk_bytes.specs.Words.{parts_at};
 ghost use Rattle.chk_checkpoint.specs.Lines.{text_version};
 ghost use Rattle.chk_checkpoint.specs.Fields.{rest_words, last_words, words_in, count_of, has_start};
 
 use crate::version::Version;
+use chk_bytes::first_space;
 use std::marker::Model;
 
 /// The words that are still to come.
@@ -71,12 +72,6 @@ impl<'a> Spaced<'a> {
         }
         Some(start)
     }
-}
-
-fn first_space(text: &[u8]) -> Option<usize>
-    ensures { result ≡ position (λ b. b == 32) text.now }
-{
-    text.iter().position(|b| *b == b' ')
 }
 
 /// The words of a line by what they stand for. The start is there in the second version alone.

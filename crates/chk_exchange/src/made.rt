@@ -1,6 +1,6 @@
 //! The fault that a made reply tells.
 
-ghost use Rattle.std.specs.Prelude.{◌≡◌, ◌==◌, ◌++◌, ◌∷◌, ℕ, List, IfErr, IfOk, IfSome, position, decimal};
+ghost use Rattle.std.specs.Prelude.{◌≡◌, ◌==◌, ◌++◌, ◌∷◌, ℕ, List, IfErr, IfOk, IfSome, decimal};
 ghost use Rattle.chk_bytes.specs.Words.{SplitsAt};
 ghost use Rattle.chk_message.specs.Messages.{IsReply};
 ghost use Rattle.chk_sink.specs.declared.fault.SinkFault.{SinkFault};
@@ -9,7 +9,7 @@ ghost use Rattle.chk_collector.specs.Outcomes.{Outcome, body_of, code_of, line, 
 ghost use Rattle.chk_exchange.specs.Faults.{IsMade, IsTold, IsUnread, IsUntold, called};
 
 use crate::fault::ExchangeFault;
-use chk_bytes::{NoMemory, Word, take_plain_decimal};
+use chk_bytes::{NoMemory, Word, first_space, take_plain_decimal};
 use chk_http::read_reply;
 use chk_site::Call;
 use std::alloc::Global;
@@ -121,10 +121,4 @@ fn split_at_space(text: &[u8]) -> Option<(&[u8], &[u8])>
 {
     let space = first_space(text)?;
     Some((&text[..space], &text[space + 1..]))
-}
-
-fn first_space(text: &[u8]) -> Option<usize>
-    ensures { result ≡ position (λ b. b == 32) text.now }
-{
-    text.iter().position(|b| *b == b' ')
 }

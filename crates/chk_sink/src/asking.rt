@@ -24,20 +24,6 @@ use chk_bytes::{Bytes, Stem};
 use chk_site::{Call, OutsideFault, Site, Who, taken};
 use std::alloc::Global;
 
-/// The length of the file of this name, where it is there.
-pub(crate) fn size_of<S: Site>(
-    alloc: Global,
-    site: &mut S,
-    who: &Who,
-    name: &str,
-) -> Result<Option<u64>, OutsideFault>
-    ensures told { TakenOnce (asked who.now Size (name.now ∷ []) 0 0) sized result (S.told site.old) (S.told site.new) }
-    ensures cause { OutsideCause (S.fault_count site.old) (S.fault_count site.new) result }
-{
-    let given = site.size(alloc, who, name);
-    taken(Call::Size, given)
-}
-
 /// The bytes of the file of this name, where it is there: the first 9, so that it is seen whether they are 8.
 pub(crate) fn bytes_of<S: Site>(
     alloc: Global,

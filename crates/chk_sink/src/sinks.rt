@@ -33,7 +33,7 @@ ghost use Rattle.chk_sink.specs.Settling.{kept_stem};
 ghost use Rattle.chk_sink.specs.Asked.{Counted, CountedOn, ExactSince, IsToldAt, IsOfQuestion};
 ghost use Rattle.chk_sink.specs.Least.{AtLeast};
 
-use crate::asking::{marked, size_of, stem_is_good};
+use crate::asking::{marked, stem_is_good};
 use crate::closing::{publish, rename_to_done};
 use crate::current::{Current, append_to, first_pieces};
 use crate::settling::settle_left;
@@ -41,7 +41,7 @@ use crate::starting::{born_name, publish_next};
 use crate::{SinkFault, names};
 use chk_bytes::{Bytes, LAST_NUMBER, Stem};
 use chk_chunk::{ChunkRef, write_key};
-use chk_site::{Call, CallFault, OutsideFault, Site, Who, done};
+use chk_site::{Call, CallFault, OutsideFault, Site, Who, done, size_of};
 use std::alloc::Global;
 use std::marker::Model;
 

@@ -14,5 +14,5 @@ pub use laws::law_cut_places;
 pub use limits::{LOG_BYTES, LOG_END, PIECE_BYTES};
 pub use lists::{Left, Lefts, Words};
 pub use scripts::{Other, Script, StopAt};
-pub use site::{Site, done, reached, taken};
+pub use site::{Site, done, reached, size_of, taken};
 pub use suffixes::{Part, Piece, Suffix, Taking, is_suffix};

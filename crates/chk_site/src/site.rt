@@ -2,7 +2,8 @@
 ghost use Rattle.std.specs.Prelude.{◌≡◌, ℕ, ◌≤◌, [], ◌∷◌, Option, Ok, length, IfOk, MatchResult};
 ghost use Rattle.chk_site.specs.declared.acts.Call.TheVariants.{Start, LogRead, LogNewest, LogAppend, Create, Append, Sync, Rename, Remove, Cut, Size, Read, List, Clock, Pause, Send, Got, Take, More, Answer, Say};
 ghost use Rattle.chk_site.specs.History.{History};
-ghost use Rattle.chk_site.specs.Site.{Adds, asked, answered, plain, sized, bytes_given, suffix_given, names_given, piece_given, taking_given, part_text, EndsPast, Calls, CallsSome, CauseOf, MayFail, MayExist, MayMiss, MayBeShort, MayMissOrBeShort, IsDone, Ends, IsTaken};
+ghost use Rattle.chk_site.specs.Site.{Adds, asked, answered, plain, sized, bytes_given, suffix_given, names_given, piece_given, taking_given, part_text, EndsPast, Calls, CallsSome, CauseOf, MayFail, MayExist, MayMiss, MayBeShort, MayMissOrBeShort, IsDone, Ends, IsTaken, OutsideCause};
+ghost use Rattle.chk_site.specs.Once.{TakenOnce};
 
 use crate::{Call, CallFault, OutsideFault, Part, Piece, Suffix, Taking, Who};
 use chk_bytes::{Bytes, Word};
@@ -228,6 +229,20 @@ pub fn taken<T: Drop>(call: Call, given: Result<T, CallFault>) -> Result<Option<
         Err(CallFault::NoMemory) => Err(OutsideFault::NoMemory),
         Err(_) => Ok(None),
     }
+}
+
+/// The length of the file of this name, where it is there. It costs one call.
+pub fn size_of<S: Site>(
+    alloc: Global,
+    site: &mut S,
+    who: &Who,
+    name: &str,
+) -> Result<Option<u64>, OutsideFault>
+    ensures told { TakenOnce (asked who.now Size (name.now ∷ []) 0 0) sized result (S.told site.old) (S.told site.new) }
+    ensures cause { OutsideCause (S.fault_count site.old) (S.fault_count site.new) result }
+{
+    let given = site.size(alloc, who, name);
+    taken(Call::Size, given)
 }
 
 /// The value of a call that is never refused for the state of the files.

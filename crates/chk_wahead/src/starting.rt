@@ -9,7 +9,7 @@ ghost use Rattle.chk_wahead.specs.Telling.{Looks, TakenOnce};
 
 use crate::found::{Found, small_of};
 use chk_bytes::Bytes;
-use chk_site::{Call, OutsideFault, Site, Who, done, taken};
+use chk_site::{Call, OutsideFault, Site, Who, done, size_of, taken};
 use std::alloc::Global;
 
 /// Starts the process, and looks at the number of its last buffer, the mark and the buffer.
@@ -58,17 +58,4 @@ fn read<S: Site>(
 {
     let given = site.read(alloc, who, name, 0, 9);
     taken(Call::Read, given)
-}
-
-fn size_of<S: Site>(
-    alloc: Global,
-    site: &mut S,
-    who: &Who,
-    name: &str,
-) -> Result<Option<u64>, OutsideFault>
-    ensures told { TakenOnce (asked who.now Size (name.now ∷ []) 0 0) sized result (S.told site.old) (S.told site.new) }
-    ensures cause { OutsideCause (S.fault_count site.old) (S.fault_count site.new) result }
-{
-    let given = site.size(alloc, who, name);
-    taken(Call::Size, given)
 }
