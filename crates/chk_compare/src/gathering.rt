@@ -23,7 +23,7 @@ ghost use Rattle.chk_compare.specs.Reading.{AreAmong, Fetched};
 use chk_book::Book;
 use chk_bytes::Word;
 use chk_heads::{Heads, JobFault};
-use chk_merge::{RecordReader, check_records, most_in, put_in_order};
+use chk_merge::{RecordReader, most_in, put_in_order};
 use chk_site::{Site, Who};
 use std::alloc::Global;
 

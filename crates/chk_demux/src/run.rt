@@ -38,7 +38,7 @@ use crate::splitting::split_streams;
 use chk_book::Book;
 use chk_bytes::Word;
 use chk_heads::{Heads, JobFault};
-use chk_merge::{check_records, put_in_order, segment_names};
+use chk_merge::{put_in_order, segment_names};
 use chk_parts::gather_found;
 use chk_site::{Site, Who};
 use std::alloc::Global;

@@ -8,7 +8,7 @@ ghost use Rattle.chk_copy.specs.Copying.{joined_segment};
 ghost use Rattle.chk_join.specs.Names.{names_segment, segment_number, unnamed_only, AddsStray};
 ghost use Rattle.chk_join.specs.Names.{IsStrayNumber, IsStray};
 
-use chk_book::{Book, Segment, names_segment, segment_name, segment_number};
+use chk_book::{Book, names_segment, segment_name, segment_number};
 use chk_bytes::{NoMemory, Word};
 use std::alloc::Global;
 
