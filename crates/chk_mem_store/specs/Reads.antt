@@ -1,15 +1,10 @@
 -- What a read of a log reads.
-use Rattle.std.specs.Prelude.{ℕ, List, Option, Some, None}
 use denote.Ref.{Bor}
 use Rattle.chk_site.specs.declared.suffixes.Part.{Part}
 use Rattle.chk_site.specs.declared.suffixes.Part.TheVariants.{Base, After}
 use Rattle.chk_site.specs.Logs.{Part as Asked, TheBase, Past, Shown}
 use Rattle.chk_mem_store.specs.declared.log_reads.ShownBytes.{ShownBytes}
-
--- the text behind a reference, where there is one
-abbrev pub text_at : Option (Bor (List ℕ)) → Option (List ℕ)
-text_at None = None
-text_at (Some text) = Some text.now
+pub use Rattle.chk_site.specs.Honest.{text_at}
 
 -- a part of a log as the file model sees it
 abbrev pub part_seen : Part → Asked

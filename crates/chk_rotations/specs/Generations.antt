@@ -1,13 +1,8 @@
 -- The names of a log's rotated generations among those in a folder.
 use Rattle.std.specs.Prelude.{ℕ, Bool, true, if◌then◌else◌, Option, Some, None, List, [], ◌∷◌}
-use Rattle.std.specs.Borrow.{Bor}
 use Rattle.chk_bytes.specs.Words.{behind_front, text_lt}
 use Rattle.chk_site.specs.Suffixes.{is_suffix}
-
--- a text that may be given
-abbrev pub text_at : Option (Bor (List ℕ)) → Option (List ℕ)
-text_at None = None
-text_at (Some text) = Some text.now
+pub use Rattle.chk_site.specs.Honest.{text_at}
 
 -- the first of the two that is there
 abbrev pub or_else : Option (List ℕ) → Option (List ℕ) → Option (List ℕ)

@@ -1,6 +1,7 @@
 -- An honest step: its answer agrees with the state before it.
 use Rattle.std.specs.Prelude.{◌≡◌, ◌≢◌, ◌⊎◌, ◌↔◌, ℕ, ◌≤◌, ◌<◌, Bool, ◌&&◌, ◌==◌, not, IsTrue, List, [], ◌∷◌, ◌++◌, length, take, drop, Contains, bytes_eq, Option, Some, None, IsSome, MatchBool}
 use Rattle.std.specs.List.{list_any}
+use Rattle.std.specs.Borrow.{Bor}
 use Rattle.chk_bytes.specs.Words.{is_word, BeginsWith, text_lt}
 use Rattle.chk_site.specs.declared.acts.Who.{Who}
 use Rattle.chk_site.specs.declared.acts.Role.{Role}
@@ -183,3 +184,8 @@ Agrees history who call answer = Plain answer
 pub record Honest (history : History) (step : Step) : Type 0 where
   pub modelled : Modelled history step
   pub agrees : Agrees history step.act.who (deed step.act) step.act.answer
+
+-- a text that may be given
+abbrev pub text_at : Option (Bor (List ℕ)) → Option (List ℕ)
+text_at None = None
+text_at (Some text) = Some text.now
