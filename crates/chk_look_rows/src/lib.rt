@@ -1,0 +1,9 @@
+//! The rows of a store's state: its sinks, as they are seen, and the lines of its tables.
+#![tactic(auto)]
+
+mod lines;
+mod names;
+mod sinks;
+
+pub use lines::{counts_line, sink_lines, stream_lines};
+pub use sinks::{OpenSink, Sinks, find_sinks};
