@@ -1,0 +1,4 @@
+mod FindingLines
+mod OwnCalls
+mod SilentLines
+mod Split

@@ -1,0 +1,19 @@
+-- The line of what was found, and those of all.
+use Rattle.std.specs.Prelude.{ℕ, List, [], ◌∷◌, ◌++◌, map, codes, decimal}
+use Rattle.chk_bytes.specs.Words.{joined_at}
+use Rattle.chk_look_check.specs.declared.finding.Finding.{Finding}
+use Rattle.chk_look_check.specs.declared.trouble.Trouble.{Trouble}
+use Rattle.chk_look_check.specs.Troubles.{trouble_name}
+
+-- words with a space between each two, and a newline
+abbrev pub line_of : List (List ℕ) → List ℕ
+line_of words = joined_at 32 words ++ 10 ∷ []
+
+abbrev pub trouble_line : ℕ → Trouble → List ℕ
+trouble_line line trouble = line_of (codes "line" ∷ decimal line ∷ trouble_name trouble ∷ [])
+
+abbrev pub finding_line : Finding → List ℕ
+finding_line f = trouble_line f.line f.trouble
+
+abbrev pub finding_lines : List Finding → List (List ℕ)
+finding_lines findings = map finding_line findings
