@@ -14,6 +14,7 @@ import hashlib
 import os
 import re
 import shutil
+import socket
 import subprocess
 import sys
 import tempfile
@@ -66,7 +67,17 @@ WAITING = {
 }
 HELD = "held h1 Log /a.log archived 6 missing 6 to 7 waits 7 to 11 chunks 1\n"
 
-# The files, the words (S is the folder), the status, the standard output and the standard error.
+PASSED = {
+    "agents/h1.check": b"chukwa-checkpoint 1\nadd a = FileTailingAdaptor Log a.log 4 4 .2010-11-08\n",
+    "a.log.2010-11-08": b"one\n",
+    "a.log": b"two\n",
+}
+BEHIND = {**PASSED, "agents/h1.check": b"chukwa-checkpoint 1\nadd a = FileTailingAdaptor Log a.log 3 0 -\n"}
+
+FILE = {"f": b"add LWFTAdaptor Log $S/a.log 0\nadd FileTailing Log $S/a.log 0\n", "a.log": b"x"}
+FOUND = "line 2 BadClass\n"
+
+# The files ($S in them is the folder), the words (S is the folder, P a port at which somebody listens), the status, the standard output and the standard error.
 ROWS = [
     (SOUND, "streams S", 0, STREAM.format("h1", 10, 6) + STREAM.format("h2", 2, 0), ""),
     (SOUND, "cat S h1 Log /a.log", 0, "hello\nworl", ""),
@@ -84,11 +95,18 @@ ROWS = [
     (SOUND, "held S", 0, "", ""),
     (WAITING, "held S", 1, HELD, "chukwactl: chunks wait for bytes that aren't archived\n"),
     ({**WAITING, "archive/seg.2": None}, "held S", 1, "", "chukwactl: damaged archive/seg.2 0\n"),
+    (PASSED, "passed --agent S a.log", 0, "", ""),
+    (BEHIND, "passed --agent S a.log", 1, "", "chukwactl: the oldest generation isn't read to its end\n"),
+    (PASSED, "passed --agent S b.log", 1, "", "chukwactl: no such stream\n"),
     ({**SOUND, "demux/book": None}, "verify S", 0, "ok archive 3 demux none\n", ""),
     ({**SOUND, "archive/book": None}, "verify S", 1, "", "chukwactl: there is no archive/book\n"),
     ({"archive/seg.1": SOUND["archive/seg.1"]}, "streams S", 1, "", "chukwactl: there is no archive/book\n"),
     ({}, "streams S", 3, "", None),
     ({}, "streams S/none", 3, "", None),
+    ({"f": FILE["f"].split(b"\n")[0], "a.log": b"x"}, "check --initial S/f 127.0.0.1:P", 0, "", ""),
+    (FILE, "check --initial S/f 127.0.0.1:P", 1, FOUND, "chukwactl: a start would refuse or skip some of it\n"),
+    (FILE, "check --initial S/f 127.0.0.1:1", 1, FOUND + "collector 127.0.0.1:1 NoAnswer\n", None),
+    ({}, "check --initial S/f 127.0.0.1:P", 3, "", "chukwactl: the initial file isn't there\n"),
     ({}, "cat", 2, "", "usage: chukwactl cat [--begin N] [--follow] [--records] STORE SOURCE TYPE NAME\n"),
     ({}, "verify --help", 0, "usage: chukwactl verify STORE\n", ""),
 ]
@@ -99,11 +117,11 @@ def made(folder, files):
         if content is not None:
             os.makedirs(os.path.dirname(f"{folder}/{name}"), exist_ok=True)
             with open(f"{folder}/{name}", "wb") as file:
-                file.write(content)
+                file.write(content.replace(b"$S", folder.encode()))
 
 
-def changing(trace):
-    """The calls of a trace that do more than read and print."""
+def changing(trace, asks):
+    """The calls of a trace that do more than read and print, and open connections where that is asked for."""
     with open(trace, encoding="utf-8", errors="replace") as file:
         for line in file:
             call = re.match(r"(?:\d+ +)?([a-z0-9_]+)\((.*)", line)
@@ -113,23 +131,27 @@ def changing(trace):
             opens = name in ("open", "openat") and re.search(r"O_(WRONLY|RDWR|CREAT|TRUNC|APPEND)", words)
             writes = name in ("write", "writev") and not re.match(r"[12],", words)
             locks = name == "fcntl" and "F_SETLK" in words
+            if asks and name in ("socket", "connect"):
+                continue
             if opens and '"/dev/null"' not in words or writes or locks or name.startswith(CHANGES):
                 yield line.strip()
 
 
 def wrong_rows(look):
     wrong = 0
+    door = socket.create_server(("127.0.0.1", 0))
+    port = str(door.getsockname()[1])
     for number, (files, words, status, out, error) in enumerate(ROWS):
         with tempfile.TemporaryDirectory() as place:
             folder, trace = f"{place}/store", f"{place}/trace"
             os.mkdir(folder)
             made(folder, files)
-            words = [folder + word[1:] if re.match("S(/|$)", word) else word for word in words.split()]
+            words = [folder + word[1:] if re.match("S(/|$)", word) else re.sub(":P$", f":{port}", word) for word in words.split()]
             done = subprocess.run(["strace", "-f", "-qq", "-o", trace, look, *words], cwd=place, capture_output=True,
                                   text=True, timeout=60, stdin=subprocess.DEVNULL)
             found = (done.returncode, done.stdout, done.stderr if error is not None else None)
             told = [] if found == (status, out, error) else [f"{found} in place of {(status, out, error)}"]
-            told += [f"it calls {line}" for line in changing(trace)]
+            told += [f"it calls {line}" for line in changing(trace, words[0] == "check")]
             for line in told:
                 print(f"row {number + 1}, {' '.join(words)}: {line}")
             wrong += bool(told)

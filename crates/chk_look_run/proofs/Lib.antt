@@ -1,3 +1,5 @@
 pub mod Shown
 pub mod Found
 mod Held
+mod Passed
+mod Checked

@@ -25,8 +25,9 @@ use Rattle.chk_look.specs.declared.stream.Came.TheVariants as came
 use Rattle.chk_look.specs.Faults.{LookCause}
 use Rattle.chk_look_words.specs.Usages.{usage_text}
 use Rattle.chk_look_words.specs.declared.usage.Usage.{Usage}
-use Rattle.chk_look_words.specs.declared.usage.Usage.TheVariants.{Commands, Cat, Streams}
+use Rattle.chk_look_words.specs.declared.usage.Usage.TheVariants.{Commands, Cat, Check, Streams}
 use Rattle.chk_look_words.specs.declared.usage.Usage.TheVariants.{Verify, Sum, Held}
+use Rattle.chk_look_words.specs.declared.usage.Usage.TheVariants.{Passed}
 use Rattle.chk_look_run.specs.Outcomes.{listed_as, outcome_of_fault, outcome_of_job, shown_as}
 use Rattle.chk_look_run.specs.Outcomes.{told_as, OutcomeCause}
 use Rattle.chk_look_run.specs.Runs.{archive_line, sound_line, version_line}
@@ -43,10 +44,12 @@ told_by {who = who} {text = text} {given = given} {old = old} {new = new} is sam
 pub usage_one : (usage : Usage) → IsTrue (is_one_line (usage_text usage))
 usage_one Commands = refl
 usage_one Cat = refl
+usage_one Check = refl
 usage_one Streams = refl
 usage_one Verify = refl
 usage_one Sum = refl
 usage_one Held = refl
+usage_one Passed = refl
 
 pub version_one : IsTrue (is_one_line version_line)
 version_one = refl

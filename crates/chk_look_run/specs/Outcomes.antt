@@ -13,7 +13,8 @@ use Rattle.chk_look.specs.declared.stream.Came.TheVariants as came
 use Rattle.chk_look_run.specs.declared.outcome.Outcome.{Outcome}
 use Rattle.chk_look_run.specs.declared.outcome.Outcome.TheVariants.{Done, NoArchive, Unknown}
 use Rattle.chk_look_run.specs.declared.outcome.Outcome.TheVariants.{Short, Damaged, Usage, Outside}
-use Rattle.chk_look_run.specs.declared.outcome.Outcome.TheVariants.{Gone, NoMemory, Waits}
+use Rattle.chk_look_run.specs.declared.outcome.Outcome.TheVariants.{Behind, Gone, NoMemory, Waits}
+use Rattle.chk_look_run.specs.declared.outcome.Outcome.TheVariants.{Found, NoFile}
 
 abbrev pub outcome_status : Outcome → ℕ
 outcome_status Done = 0
@@ -22,8 +23,11 @@ outcome_status Unknown = 1
 outcome_status Short = 1
 outcome_status (Damaged name at) = 1
 outcome_status Waits = 1
+outcome_status Behind = 1
+outcome_status Found = 1
 outcome_status (Usage usage) = 2
 outcome_status (Outside call) = 3
+outcome_status NoFile = 3
 outcome_status (Gone name) = 3
 outcome_status NoMemory = 4
 

@@ -16,15 +16,17 @@ use Rattle.chk_look_store.specs.Going.{GoesOn}
 use Rattle.chk_look_store.specs.Following.{Follows}
 use Rattle.chk_look_verify.specs.Verifying.{VerifiedBy}
 use Rattle.chk_look_words.specs.Asked.{asked}
-use Rattle.chk_look_words.specs.Commands.{Asked, Cat, Streams, Verify, Sum, Held, Help}
-use Rattle.chk_look_words.specs.Commands.{Version, CatAsked}
+use Rattle.chk_look_words.specs.Commands.{Asked, Cat, Check, Streams, Verify, Sum, Held, Help}
+use Rattle.chk_look_words.specs.Commands.{Passed, Version, CatAsked}
 use Rattle.chk_look_words.specs.Usages.{usage_of, usage_text}
 use Rattle.chk_look_run.specs.declared.outcome.Outcome.{Outcome}
 use Rattle.chk_look_run.specs.declared.outcome.Outcome.TheVariants.{Usage, NoMemory}
 use Rattle.chk_look_run.specs.Outcomes.{listed_as, outcome_of_job, shown_as, told_as}
+use Rattle.chk_look_run.specs.Checking.{ShowsChecked}
 use Rattle.chk_look_run.specs.Finding.{FindsFile, InStore}
 use Rattle.chk_look_run.specs.Summing.{ShowsSums}
 use Rattle.chk_look_run.specs.Holding.{ShowsHeld}
+use Rattle.chk_look_run.specs.Passing.{ShowsPassed}
 
 -- the folder of what is wanted, and the most bytes of a record in it
 abbrev pub folder_of : CatAsked → List ℕ
@@ -121,10 +123,12 @@ version_line = codes "chukwactl 1.1.0\n"
 -- what is asked for is shown
 abbrev pub ShowsAsked : Asked → Outcome → Option History → Option History → Type 0
 ShowsAsked (Cat w) outcome before after = InStore (ShowsStream w) outcome before after
+ShowsAsked (Check w) outcome before after = ShowsChecked w outcome before after
 ShowsAsked (Streams store) outcome before after = InStore ShowsStreams outcome before after
 ShowsAsked (Verify store) outcome before after = InStore ShowsVerified outcome before after
 ShowsAsked (Sum store) outcome before after = InStore ShowsSums outcome before after
 ShowsAsked (Held store) outcome before after = InStore ShowsHeld outcome before after
+ShowsAsked (Passed w) outcome before after = ShowsPassed w outcome before after
 ShowsAsked (Help usage) outcome before after = Tells (usage_text usage) outcome before after
 ShowsAsked Version outcome before after = Tells version_line outcome before after
 

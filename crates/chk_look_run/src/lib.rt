@@ -1,9 +1,11 @@
 //! The commands of `chukwactl`, over any outside.
 #![tactic(auto)]
 
+mod checking;
 mod finding;
 mod holding;
 mod outcome;
+mod passing;
 mod running;
 mod showing;
 mod summing;

@@ -20,7 +20,7 @@ pub enum Outcome {
     Done,
     /// There is no `archive/book`; 1.
     NoArchive,
-    /// The store has no such stream; 1.
+    /// The store has no such stream, or no checkpoint has one of the log; 1.
     Unknown,
     /// The records of the stream end before its end in the book; 1.
     Short,
@@ -29,10 +29,16 @@ pub enum Outcome {
     Damaged { name: Word, at: u64 },
     /// Chunks are set aside, since bytes before them aren't archived; 1.
     Waits,
+    /// A checkpoint hasn't passed the oldest generation of the log, or that changed meanwhile; 1.
+    Behind,
+    /// A start would refuse or skip what was printed, or a collector doesn't answer; 1.
+    Found,
     /// The words aren't a command; 2.
     Usage(Usage),
     /// This call on the outside failed; 3.
     Outside { call: Call },
+    /// The initial file isn't there; 3.
+    NoFile,
     /// The segment `name` isn't there, and two books in turn named it, or many each another one;
     /// 3.
     Gone { name: Word },
@@ -48,9 +54,9 @@ impl Outcome {
         match self {
             Outcome::Done => 0,
             Outcome::NoArchive | Outcome::Unknown | Outcome::Short | Outcome::Damaged { .. } => 1,
-            Outcome::Waits => 1,
+            Outcome::Behind | Outcome::Waits | Outcome::Found => 1,
             Outcome::Usage(_) => 2,
-            Outcome::Outside { .. } | Outcome::Gone { .. } => 3,
+            Outcome::Outside { .. } | Outcome::Gone { .. } | Outcome::NoFile => 3,
             Outcome::NoMemory => 4,
         }
     }
@@ -70,8 +76,11 @@ impl Display for Outcome {
                 write!(f, "damaged {name} {at}")
             }
             Outcome::Waits => write!(f, "chunks wait for bytes that aren't archived"),
+            Outcome::Behind => write!(f, "the oldest generation isn't read to its end"),
+            Outcome::Found => write!(f, "a start would refuse or skip some of it"),
             Outcome::Usage(usage) => write!(f, "{}", usage.text().trim_end()),
             Outcome::Outside { call } => write!(f, "outside {}", call.name()),
+            Outcome::NoFile => write!(f, "the initial file isn't there"),
             Outcome::Gone { name } => {
                 let name = name.as_str();
                 write!(f, "{name} isn't there")

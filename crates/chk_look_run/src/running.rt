@@ -3,15 +3,16 @@
 ghost use Rattle.std.specs.Prelude.{◌≡◌, map, IfOk};
 ghost use Rattle.chk_site.specs.History.{Every};
 ghost use Rattle.chk_site.specs.Site.{Adds};
-ghost use Rattle.chk_world.specs.JobSteps.{IsOf};
 ghost use Rattle.chk_world.specs.Sight.{job};
-ghost use Rattle.chk_look_store.specs.Following.{LooksAgain};
-ghost use Rattle.chk_look_words.specs.Commands.{asked_of};
-ghost use Rattle.chk_look_run.specs.Outcomes.{OutcomeCause};
+ghost use Rattle.chk_look_words.specs.Asked.{asked};
+ghost use Rattle.chk_look_words.specs.Commands.{asked_of, IsGood};
+ghost use Rattle.chk_look_run.specs.Calls.{CauseOfAsked, CauseOfRun, IsOfAsked, IsOfRun};
 ghost use Rattle.chk_look_run.specs.Runs.{Ran, Shows};
 
+use crate::checking::show_checked;
 use crate::holding::show_held;
 use crate::outcome::Outcome;
+use crate::passing::show_passed;
 use crate::showing::{show_stream, show_streams};
 use crate::summing::show_sums;
 use crate::telling::{tell_usage, tell_version};
@@ -22,9 +23,9 @@ use chk_site::{Role, Site, Who};
 use std::alloc::Global;
 
 /// Runs the command that the words behind the program's name ask for. It reads files, prints,
-/// waits, and does nothing else: it doesn't start as a process either, so it may run beside those
-/// that do. The files are named from the folder STORE, which is the site's. A store without
-/// `archive/book` is none: `NoArchive`.
+/// waits, and for `check` sends messages without a byte, and does nothing else: it doesn't start
+/// as a process either, so it may run beside those that do. The files are named from the folder
+/// STORE, which is the site's. A store without `archive/book` is none: `NoArchive`.
 ///
 /// `cat [--begin N] [--follow] [--records] STORE SOURCE TYPE NAME` prints the archived bytes of a
 /// stream from the offset N on, as `archive/book` names them, or its records joined, as
@@ -32,6 +33,13 @@ use std::alloc::Global;
 /// segment meanwhile, the new book is read, and the printing goes on at its offset. With
 /// `--follow` it looks again every 5,000 ms, also for a stream that the book doesn't have (yet);
 /// a look that finds more of it reads all segments again.
+///
+/// `check --initial FILE COLLECTOR...` prints `line <number> <name>` for each thing for which a
+/// start of an agent or a drain would refuse or skip a line of FILE, or lose bytes of its log, and
+/// `collector <address> NoAnswer` for each address at which nobody answers, and ends with `Found`
+/// where there are some; `NoFile` where FILE isn't there. It lists the folders of the logs, reads
+/// their first bytes, sends a message without a byte to each collector, and takes no part in a
+/// store.
 ///
 /// `streams STORE` prints `stream <source> <type> <name> start <offset> end <offset> demuxed
 /// <offset>` for each stream.
@@ -48,12 +56,19 @@ use std::alloc::Global;
 /// ends with `Waits` where there are some; damage of the book or of their segment ends it before
 /// the first line.
 ///
+/// `passed --agent DIR LOG` is `Done` only where some checkpoint of the folder `agents` has the log
+/// of this path, and each that has it has passed the log's oldest generation that is there; else
+/// it is `Behind`, or `Unknown` where none has the log. It prints nothing. Here the site's folder
+/// is DIR.
+///
 /// `--help`, alone or behind a command's name, prints how it is used, and `--version` alone the
 /// version.
 pub fn run<'a, S: Site>(alloc: Global, site: &mut S, words: &'a [&'a str]) -> Outcome
     ensures ran { Ran (map (λ w. w.now) words.now) result (S.told site.old) (S.told site.new) }
-    ensures own { Adds (S.told site.old) (S.told site.new) (Every (IsOf LooksAgain)) }
-    ensures cause { OutcomeCause (S.fault_count site.old) (S.fault_count site.new) result }
+    ensures own { Adds (S.told site.old) (S.told site.new)
+        (Every (IsOfRun (asked (map (λ w. w.now) words.now)))) }
+    ensures cause { CauseOfRun (asked (map (λ w. w.now) words.now))
+        (S.fault_count site.old) (S.fault_count site.new) result }
 {
     match read_words(alloc, words) {
         Ok(command) => show(alloc, site, &command),
@@ -64,9 +79,12 @@ pub fn run<'a, S: Site>(alloc: Global, site: &mut S, words: &'a [&'a str]) -> Ou
 
 /// Does what is asked for.
 fn show<S: Site>(alloc: Global, site: &mut S, command: &Command<'_>) -> Outcome
+    requires good { IsGood (asked_of command.now) }
     ensures told { Shows (asked_of command.now) result (S.told site.old) (S.told site.new) }
-    ensures own { Adds (S.told site.old) (S.told site.new) (Every (IsOf LooksAgain)) }
-    ensures cause { OutcomeCause (S.fault_count site.old) (S.fault_count site.new) result }
+    ensures own { Adds (S.told site.old) (S.told site.new)
+        (Every (IsOfAsked (asked_of command.now))) }
+    ensures cause { CauseOfAsked (asked_of command.now)
+        (S.fault_count site.old) (S.fault_count site.new) result }
 {
     match looker(alloc) {
         Ok(who) => show_asked(alloc, site, &who, command),
@@ -77,16 +95,21 @@ fn show<S: Site>(alloc: Global, site: &mut S, command: &Command<'_>) -> Outcome
 /// Does what is asked for, as this process.
 fn show_asked<S: Site>(alloc: Global, site: &mut S, who: &Who, command: &Command<'_>) -> Outcome
     requires job { who.now ≡ job }
+    requires good { IsGood (asked_of command.now) }
     ensures told { Shows (asked_of command.now) result (S.told site.old) (S.told site.new) }
-    ensures own { Adds (S.told site.old) (S.told site.new) (Every (IsOf LooksAgain)) }
-    ensures cause { OutcomeCause (S.fault_count site.old) (S.fault_count site.new) result }
+    ensures own { Adds (S.told site.old) (S.told site.new)
+        (Every (IsOfAsked (asked_of command.now))) }
+    ensures cause { CauseOfAsked (asked_of command.now)
+        (S.fault_count site.old) (S.fault_count site.new) result }
 {
     match command {
         Command::Cat(words) => show_stream(alloc, site, who, words),
+        Command::Check(words) => show_checked(alloc, site, who, words),
         Command::Streams(_) => show_streams(alloc, site, who),
         Command::Verify(_) => show_verified(alloc, site, who),
         Command::Sum(_) => show_sums(alloc, site, who),
         Command::Held(_) => show_held(alloc, site, who),
+        Command::Passed(words) => show_passed(alloc, site, who, words),
         Command::Help(usage) => tell_usage(alloc, site, who, *usage),
         Command::Version => tell_version(alloc, site, who),
     }

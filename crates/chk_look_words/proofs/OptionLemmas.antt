@@ -20,8 +20,9 @@ use Rattle.chk_look_words.specs.declared.commands.WordsFault.TheVariants.{Usage 
 use Rattle.chk_look_words.specs.declared.commands.WordsFault.TheVariants.{NoMemory}
 use Rattle.chk_look_words.specs.declared.options.Given.{Given}
 use Rattle.chk_look_words.specs.declared.usage.Usage.{Usage}
-use Rattle.chk_look_words.specs.declared.usage.Usage.TheVariants.{Commands, Cat, Streams}
+use Rattle.chk_look_words.specs.declared.usage.Usage.TheVariants.{Commands, Cat, Check, Streams}
 use Rattle.chk_look_words.specs.declared.usage.Usage.TheVariants.{Verify, Sum, Held}
+use Rattle.chk_look_words.specs.declared.usage.Usage.TheVariants.{Passed}
 
 -- the command with these options that take a value
 abbrev pub with_options : List Text → App
@@ -70,10 +71,12 @@ pub all_simple : (usage : Usage) → is_simple_and_free
     (app_with (option_names usage) (flag_names usage)) ≡ true
 all_simple Commands = refl
 all_simple Cat = refl
+all_simple Check = refl
 all_simple Streams = refl
 all_simple Verify = refl
 all_simple Sum = refl
 all_simple Held = refl
+all_simple Passed = refl
 
 -- an error where no words are taken, or of memory
 none_told : (kind : ErrorKind) → ReadsOptions None (Err (fault_by kind))

@@ -2,12 +2,12 @@
 use Rattle.std.specs.Prelude.{◌≡◌, ℕ, ◌&&◌, List, [], ◌∷◌, codes, bytes_eq, if◌then◌else◌, Option}
 use Rattle.std.specs.Prelude.{Some, None, option_and_then, option_map, Result, Ok, Err}
 use Rattle.chk_bytes.specs.Words.{is_word}
-use Rattle.clap.specs.Walk.{Row}
-use Rattle.chk_look_words.specs.Names.{is_store, number_in, most}
+use Rattle.clap.specs.Walk.{first_of, Row}
+use Rattle.chk_look_words.specs.Names.{are_collectors, is_store, number_in, most}
 use Rattle.chk_look_words.specs.Options.{parsed, plain_of, by_option, is_flagged}
 use Rattle.chk_look_words.specs.Usages.{usage_of, option_names, flag_names}
-use Rattle.chk_look_words.specs.Commands.{Asked, Cat, Streams, Verify, Sum, Held, Help}
-use Rattle.chk_look_words.specs.Commands.{Version, asked_of}
+use Rattle.chk_look_words.specs.Commands.{Asked, Cat, Check, Streams, Verify, Sum, Held, Help}
+use Rattle.chk_look_words.specs.Commands.{Passed, Version, asked_of}
 use Rattle.chk_look_words.specs.declared.commands.Command.{Command}
 use Rattle.chk_look_words.specs.declared.commands.WordsFault.{WordsFault}
 use Rattle.chk_look_words.specs.declared.commands.WordsFault.TheVariants.{Usage as IsUsage}
@@ -35,6 +35,37 @@ asked_cat rows =
     option_and_then (λ begin. option_and_then (cat_with rows begin) (plain_of rows))
     (by_option 0 (number_in most) (codes "begin") rows)
 
+-- `passed --agent DIR LOG`
+abbrev pub passed_with : List ℕ → List (List ℕ) → Option Asked
+passed_with agent (log ∷ []) =
+    if is_store agent && is_word log then Some (Passed (record { agent = agent; log = log }))
+    else None
+passed_with agent plain = None
+
+abbrev pub asked_passed : List Row → Option Asked
+asked_passed rows =
+    option_and_then (λ agent. option_and_then (passed_with agent) (plain_of rows))
+    (first_of (codes "agent") rows)
+
+-- a text that is a word
+abbrev pub word_in : Option (List ℕ) → Option (List ℕ)
+word_in None = None
+word_in (Some text) = if is_word text then Some text else None
+
+-- texts that may be the addresses of an agent's collectors
+abbrev pub collectors_in : Option (List (List ℕ)) → Option (List (List ℕ))
+collectors_in None = None
+collectors_in (Some plain) = if are_collectors plain then Some plain else None
+
+-- `check --initial FILE COLLECTOR...`
+abbrev pub check_with : List ℕ → List (List ℕ) → Asked
+check_with file collectors = Check (record { file = file; collectors = collectors })
+
+abbrev pub asked_check : List Row → Option Asked
+asked_check rows =
+    option_and_then (λ file. option_map (check_with file) (collectors_in (plain_of rows)))
+    (word_in (first_of (codes "initial") rows))
+
 -- `STORE` alone
 abbrev pub store_in : List (List ℕ) → Option (List ℕ)
 store_in (store ∷ []) = if is_store store then Some store else None
@@ -47,10 +78,12 @@ store_of rows = option_and_then store_in (plain_of rows)
 abbrev pub asked_for : Usage → List Row → Option Asked
 asked_for usage.Commands rows = None
 asked_for usage.Cat rows = asked_cat rows
+asked_for usage.Check rows = asked_check rows
 asked_for usage.Streams rows = option_map Streams (store_of rows)
 asked_for usage.Verify rows = option_map Verify (store_of rows)
 asked_for usage.Sum rows = option_map Sum (store_of rows)
 asked_for usage.Held rows = option_map Held (store_of rows)
+asked_for usage.Passed rows = asked_passed rows
 
 -- the same, or how it is used
 abbrev pub asked_by : Usage → List Row → Option Asked

@@ -1,8 +1,10 @@
 -- What words may ask for.
-use Rattle.std.specs.Prelude.{ℕ, ◌≤◌, Bool, List, IsTrue}
+use Rattle.std.specs.Prelude.{ℕ, ◌≤◌, Bool, List, map, IsTrue}
 use Rattle.chk_bytes.specs.Words.{is_word}
-use Rattle.chk_look_words.specs.Names.{is_store, most}
+use Rattle.chk_look_words.specs.Names.{are_collectors, is_store, most}
 use Rattle.chk_look_words.specs.declared.commands.CatWords.{CatWords}
+use Rattle.chk_look_words.specs.declared.commands.CheckWords.{CheckWords}
+use Rattle.chk_look_words.specs.declared.commands.PassedWords.{PassedWords}
 use Rattle.chk_look_words.specs.declared.commands.Command.{Command}
 use Rattle.chk_look_words.specs.declared.commands.Command.TheVariants as words
 use Rattle.chk_look_words.specs.declared.usage.Usage.{Usage}
@@ -17,13 +19,25 @@ pub record CatAsked : Type 0 where
   pub kind : List ℕ
   pub name : List ℕ
 
+-- `check`
+pub record CheckAsked : Type 0 where
+  pub file : List ℕ
+  pub collectors : List (List ℕ)
+
+-- `passed`
+pub record PassedAsked : Type 0 where
+  pub agent : List ℕ
+  pub log : List ℕ
+
 -- a command, or how it is used
 pub data Asked : Type 0 where
   Cat : CatAsked → Asked
+  Check : CheckAsked → Asked
   Streams : List ℕ → Asked
   Verify : List ℕ → Asked
   Sum : List ℕ → Asked
   Held : List ℕ → Asked
+  Passed : PassedAsked → Asked
   Help : Usage → Asked
   Version : Asked
 
@@ -39,12 +53,20 @@ cat_of w = record {
   name = w.name.now;
 }
 
+abbrev pub passed_of : PassedWords → PassedAsked
+passed_of w = record { agent = w.agent.now; log = w.log.now }
+
+abbrev pub check_of : CheckWords → CheckAsked
+check_of w = record { file = w.file.now; collectors = map (λ a. a.now) w.collectors.items }
+
 abbrev pub asked_of : Command → Asked
 asked_of (words.Cat w) = Cat (cat_of w)
+asked_of (words.Check w) = Check (check_of w)
 asked_of (words.Streams store) = Streams store.now
 asked_of (words.Verify store) = Verify store.now
 asked_of (words.Sum store) = Sum store.now
 asked_of (words.Held store) = Held store.now
+asked_of (words.Passed w) = Passed (passed_of w)
 asked_of (words.Help usage) = Help usage
 asked_of words.Version = Version
 
@@ -53,9 +75,11 @@ abbrev pub IsGood : Asked → Type 0
 IsGood (Cat w) =
     IsTrue (is_store w.store) × IsTrue (is_word w.source) × IsTrue (is_word w.kind)
     × IsTrue (is_word w.name) × (w.begin ≤ most)
+IsGood (Check w) = IsTrue (is_word w.file) × IsTrue (are_collectors w.collectors)
 IsGood (Streams store) = IsTrue (is_store store)
 IsGood (Verify store) = IsTrue (is_store store)
 IsGood (Sum store) = IsTrue (is_store store)
 IsGood (Held store) = IsTrue (is_store store)
+IsGood (Passed w) = IsTrue (is_store w.agent) × IsTrue (is_word w.log)
 IsGood (Help usage) = Unit {0}
 IsGood Version = Unit {0}

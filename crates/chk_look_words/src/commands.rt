@@ -5,10 +5,12 @@ use chk_bytes::NoMemory;
 use std::alloc::AllocError;
 
 /// What a look is asked for. The texts are borrowed from the words.
-#[derive(Clone, Copy, Debug)]
+#[derive(Debug, Drop)]
 pub enum Command<'a> {
     /// What a store has of a stream.
     Cat(CatWords<'a>),
+    /// What a start with an initial file would refuse or skip.
+    Check(CheckWords<'a>),
     /// A line for each stream of the store in this folder.
     Streams(&'a str),
     /// Whether the files of the store in this folder are what they have to be.
@@ -17,6 +19,8 @@ pub enum Command<'a> {
     Sum(&'a str),
     /// The folder of the store of which the streams are shown that have chunks set aside.
     Held(&'a str),
+    /// Whether an agent has read what a rotation would remove of a log.
+    Passed(PassedWords<'a>),
     /// How this command is used.
     Help(Usage),
     /// Which version the program is.
@@ -40,6 +44,24 @@ pub struct CatWords<'a> {
     pub kind: &'a str,
     /// Its name, a word: as a rule the path of its log.
     pub name: &'a str,
+}
+
+/// The words of `passed`.
+#[derive(Clone, Copy, Debug)]
+pub struct PassedWords<'a> {
+    /// The folder in which the agent works.
+    pub agent: &'a str,
+    /// The log's path, a word, as the agent names it.
+    pub log: &'a str,
+}
+
+/// The words of `check`.
+#[derive(Debug, Drop)]
+pub struct CheckWords<'a> {
+    /// The initial file, a word.
+    pub file: &'a str,
+    /// The addresses of the collectors, 1 to 64 words.
+    pub collectors: Vec<&'a str>,
 }
 
 /// Why there is no command.

@@ -1,16 +1,33 @@
 //! Tests of single words.
 
-ghost use Rattle.std.specs.Prelude.{◌≡◌, IfSome};
+ghost use Rattle.std.specs.Prelude.{◌≡◌, map};
+ghost use Rattle.std.specs.List.{list_all};
 ghost use Rattle.chk_bytes.specs.Words.{is_word};
-ghost use Rattle.chk_look_words.specs.Names.{is_store, number_in};
+ghost use Rattle.chk_look_words.specs.Names.{are_collectors, is_store, number_in};
 
 use chk_bytes::{take_decimal, word_fault};
+
+/// The most collectors of an agent.
+const MOST_COLLECTORS: usize = 64;
 
 /// Whether a text may stand as a source, a type or a name.
 pub(crate) fn is_word(text: &str) -> bool
     ensures { result ≡ is_word text.now }
 {
     word_fault(text.as_bytes()).is_none()
+}
+
+/// Whether texts may be the addresses of an agent's collectors.
+pub(crate) fn are_collectors(words: &[&str]) -> bool
+    ensures { result ≡ are_collectors (map (λ w. w.now) words.now) }
+{
+    1 <= words.len() && words.len() <= MOST_COLLECTORS && are_words(words)
+}
+
+fn are_words(words: &[&str]) -> bool
+    ensures { result ≡ list_all (λ w. is_word w.now) words.now }
+{
+    words.iter().all(|word| is_word(word))
 }
 
 /// Whether a text may name a store: the path of a folder, with spaces too.

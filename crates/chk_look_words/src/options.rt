@@ -47,8 +47,8 @@ impl<'a> Given<'a> {
         self.matches.get_strs("words")
     }
 
-    // The value of an option; of one that takes none `true` or `false`.
-    fn value(&self, name: &str) -> Option<&'a str>
+    /// The value of an option; of one that takes none `true` or `false`.
+    pub(crate) fn value(&self, name: &str) -> Option<&'a str>
         ensures { option_map (λ w. w.now) result ≡ first_of name.now (rows_in self.now) }
     {
         self.matches.get_str(name)

@@ -1,13 +1,14 @@
 //! Words to commands.
 
-ghost use Rattle.std.specs.Prelude.{◌≡◌, map, option_map, IfOk, IfSome, IsTrue};
+ghost use Rattle.std.specs.Prelude.{◌≡◌, ◌≢◌, map, option_map, IfOk, IfSome, IsTrue};
 ghost use Rattle.chk_look_words.specs.Names.{is_store};
 ghost use Rattle.chk_look_words.specs.Asked.{asked, alone_named, asked_alone, asked_by, asked_cat};
-ghost use Rattle.chk_look_words.specs.Asked.{asked_in, store_of, ReadsCommand};
+ghost use Rattle.chk_look_words.specs.Asked.{asked_in, asked_passed, store_of, ReadsCommand};
 ghost use Rattle.chk_look_words.specs.Commands.{asked_of, IsGood};
 ghost use Rattle.chk_look_words.specs.Given.{rows_in};
 
-use crate::commands::{CatWords, Command, WordsFault};
+use crate::checking::read_check;
+use crate::commands::{CatWords, Command, PassedWords, WordsFault};
 use crate::names::{is_store, is_word};
 use crate::options::Given;
 use crate::usage::{Usage, usage_of};
@@ -27,10 +28,12 @@ pub fn read_words<'a>(alloc: Global, words: &'a [&'a str]) -> Result<Command<'a>
     match usage_of(words) {
         Usage::Commands => read_alone(words).ok_or(WordsFault::Usage),
         Usage::Cat => read_command(alloc, Usage::Cat, words),
+        Usage::Check => read_check(alloc, words),
         Usage::Streams => read_command(alloc, Usage::Streams, words),
         Usage::Verify => read_command(alloc, Usage::Verify, words),
         Usage::Sum => read_command(alloc, Usage::Sum, words),
         Usage::Held => read_command(alloc, Usage::Held, words),
+        Usage::Passed => read_command(alloc, Usage::Passed, words),
     }
 }
 
@@ -61,6 +64,7 @@ fn read_command<'a>(
     usage: Usage,
     words: &'a [&'a str],
 ) -> Result<Command<'a>, WordsFault>
+    requires alone { usage ≢ Usage.Check }
     ensures asked { ReadsCommand (asked_in usage (map (λ w. w.now) words.now)) result }
     ensures good { IfOk result (λ command. IsGood (asked_of command)) }
 {
@@ -69,6 +73,7 @@ fn read_command<'a>(
 }
 
 fn command_by<'a>(usage: Usage, given: &Given<'a>) -> Option<Command<'a>>
+    requires alone { usage ≢ Usage.Check }
     ensures asked { option_map asked_of result ≡ asked_by usage (rows_in given.now) }
     ensures good { IfSome result (λ command. IsGood (asked_of command)) }
 {
@@ -78,10 +83,12 @@ fn command_by<'a>(usage: Usage, given: &Given<'a>) -> Option<Command<'a>>
     match usage {
         Usage::Commands => None,
         Usage::Cat => read_cat(given),
+        Usage::Check => unreachable!(),
         Usage::Streams => Some(Command::Streams(read_store(given)?)),
         Usage::Verify => Some(Command::Verify(read_store(given)?)),
         Usage::Sum => Some(Command::Sum(read_store(given)?)),
         Usage::Held => Some(Command::Held(read_store(given)?)),
+        Usage::Passed => read_passed(given),
     }
 }
 
@@ -102,6 +109,19 @@ fn read_cat<'a>(given: &Given<'a>) -> Option<Command<'a>>
                 kind,
                 name,
             }))
+        }
+        _ => None,
+    }
+}
+
+fn read_passed<'a>(given: &Given<'a>) -> Option<Command<'a>>
+    ensures asked { option_map asked_of result ≡ asked_passed (rows_in given.now) }
+    ensures good { IfSome result (λ command. IsGood (asked_of command)) }
+{
+    let agent = given.value("agent")?;
+    match given.plain()? {
+        [log] if is_store(agent) && is_word(log) => {
+            Some(Command::Passed(PassedWords { agent, log }))
         }
         _ => None,
     }

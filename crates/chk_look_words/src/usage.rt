@@ -6,11 +6,15 @@ ghost use Rattle.chk_look_words.specs.Usages.{flag_names};
 
 static CAT: [&str; 1] = ["begin"];
 
+static CHECK: [&str; 1] = ["initial"];
+
 static CAT_FLAGS: [&str; 3] = ["follow", "records", "help"];
 
 static FLAGS: [&str; 1] = ["help"];
 
 static NONE: [&str; 0] = [];
+
+static PASSED: [&str; 1] = ["agent"];
 
 /// Which command the first word names.
 #[derive(Clone, Copy, Debug, PartialEq, Eq)]
@@ -19,6 +23,8 @@ pub enum Usage {
     Commands,
     /// `cat`.
     Cat,
+    /// `check`.
+    Check,
     /// `streams`.
     Streams,
     /// `verify`.
@@ -26,6 +32,8 @@ pub enum Usage {
     Sum,
     /// `held`.
     Held,
+    /// `passed`.
+    Passed,
 }
 
 impl Usage {
@@ -35,14 +43,16 @@ impl Usage {
     {
         match self {
             Usage::Commands =>
-                "usage: chukwactl cat|streams|verify|sum|held [--help], or --version\n",
+                "usage: chukwactl cat|check|held|passed|streams|sum|verify [--help], or --version\n",
             Usage::Cat => {
                 "usage: chukwactl cat [--begin N] [--follow] [--records] STORE SOURCE TYPE NAME\n"
             }
+            Usage::Check => "usage: chukwactl check --initial FILE COLLECTOR...\n",
             Usage::Streams => "usage: chukwactl streams STORE\n",
             Usage::Verify => "usage: chukwactl verify STORE\n",
             Usage::Sum => "usage: chukwactl sum STORE\n",
             Usage::Held => "usage: chukwactl held STORE\n",
+            Usage::Passed => "usage: chukwactl passed --agent DIR LOG\n",
         }
     }
 
@@ -52,6 +62,8 @@ impl Usage {
     {
         match self {
             Usage::Cat => CAT.as_slice(),
+            Usage::Passed => PASSED.as_slice(),
+            Usage::Check => CHECK.as_slice(),
             _ => NONE.as_slice(),
         }
     }
@@ -82,10 +94,12 @@ fn usage_named(first: &str) -> Usage
 {
     match first {
         "cat" => Usage::Cat,
+        "check" => Usage::Check,
         "streams" => Usage::Streams,
         "verify" => Usage::Verify,
         "sum" => Usage::Sum,
         "held" => Usage::Held,
+        "passed" => Usage::Passed,
         _ => Usage::Commands,
     }
 }

@@ -37,6 +37,21 @@ fn bytes_of(alloc: Global, parts: &str) -> Result<Bytes, Fail> {
 pub(crate) fn puts(alloc: Global, site: &mut SiteMem, text: &str) -> Result<(), Fail> {
     let (name, parts) = text.split_once(' ').ok_or("no parts")?;
     let bytes = bytes_of(alloc, parts)?;
+    makes(alloc, site, name, &bytes)
+}
+
+// `NAME TEXT`, with `|` in place of each newline.
+pub(crate) fn puts_text(alloc: Global, site: &mut SiteMem, text: &str) -> Result<(), Fail> {
+    let (name, text) = text.split_once(' ').ok_or("no text")?;
+    let mut bytes = Bytes::new(alloc);
+    for b in text.as_bytes() {
+        let b = if *b == b'|' { b'\n' } else { *b };
+        bytes.push_all(&[b])?;
+    }
+    makes(alloc, site, name, &bytes)
+}
+
+fn makes(alloc: Global, site: &mut SiteMem, name: &str, bytes: &Bytes) -> Result<(), Fail> {
     let who = archiver(alloc)?;
     if site.create(alloc, &who, name).is_err() {
         return Err(Fail::new(name));

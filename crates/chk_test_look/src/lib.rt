@@ -2,13 +2,19 @@
 #![tactic(auto)]
 
 #[cfg(test)]
+mod checks;
+#[cfg(test)]
 mod files;
 #[cfg(test)]
 mod held;
 #[cfg(test)]
+mod logs;
+#[cfg(test)]
 mod merges;
 #[cfg(test)]
 mod parts;
+#[cfg(test)]
+mod passed;
 #[cfg(test)]
 mod scene;
 #[cfg(test)]

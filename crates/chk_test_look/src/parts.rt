@@ -43,6 +43,14 @@ const H1: &[u8] = b"\0\x02h1\0\x03Log\0\x06/a.log";
 
 const H2: &[u8] = b"\0\x02h2\0\x03Log\0\x06/a.log";
 
+// A checkpoint's first line, and streams of /a.log: one at the third byte, and one behind the first
+// generation, which has 4 bytes.
+const CHECK: &[u8] = b"chukwa-checkpoint 1\n";
+
+const AT_0: &[u8] = b"add a = FileTailingAdaptor Log /a.log 3 0 -\n";
+
+const AT_4: &[u8] = b"add a = FileTailingAdaptor Log /a.log 4 4 .2010-11-08\n";
+
 pub(crate) fn part(name: &str) -> Option<&'static [u8]> {
     match name {
         "HEADER" => Some(HEADER),
@@ -59,6 +67,9 @@ pub(crate) fn part(name: &str) -> Option<&'static [u8]> {
         "HEAD_3" => Some(HEAD_3),
         "H1" => Some(H1),
         "H2" => Some(H2),
+        "CHECK" => Some(CHECK),
+        "AT_0" => Some(AT_0),
+        "AT_4" => Some(AT_4),
         _ => None,
     }
 }

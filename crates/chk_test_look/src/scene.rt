@@ -1,5 +1,6 @@
 //! A site in memory at which is looked, told line by line.
-use crate::files::puts;
+use crate::files::{puts, puts_text};
+use crate::logs::{drops, grows, turns};
 use chk_look_run::run;
 use chk_site::{Call, Script};
 use chk_site_mem::SiteMem;
@@ -60,6 +61,8 @@ fn adds_act(alloc: Global, script: &mut Script, text: &str) -> Result<(), Fail> 
 }
 
 // - `put NAME PARTS`: a file comes.
+// - `text NAME TEXT`: the same of a file of text.
+// - `grows TEXT`, `turns SUFFIX`, `drops SUFFIX`: /a.log gets a line, is rotated, loses a generation.
 // - `fails AT`: the call of this number of the next run fails.
 // - `before AT CALL WORDS`: the job makes this call before that one.
 // - `run WORDS = ANSWER`.
@@ -73,6 +76,10 @@ fn plays(
     let (verb, text) = line.split_once(' ').ok_or("no verb")?;
     match verb {
         "put" => puts(alloc, site, text),
+        "text" => puts_text(alloc, site, text),
+        "grows" => grows(alloc, next, text),
+        "turns" => turns(alloc, next, text),
+        "drops" => drops(alloc, next, text),
         "fails" => Ok(next.failing.push(text.parse()?)?),
         "before" => adds_act(alloc, next, text),
         _ => {

@@ -1,5 +1,5 @@
-//! `chukwactl`: shows what a store holds. The words behind the program's name ask for a command.
-//! It reads files and prints; it makes, changes and locks none.
+//! `chukwactl`: shows what a store holds, and what a start would refuse. The words behind the
+//! program's name ask for a command. It reads files and prints; it makes, changes and locks none.
 #![tactic(auto)]
 
 use chk_look_run::{Outcome, run};
@@ -73,8 +73,9 @@ fn run_given(rt: HostRuntime, given: &[String]) -> u8 {
     outcome.status()
 }
 
-// The store that is looked at, where the words name one; or how the program ends for want of
-// memory, since it would look at the current folder else.
+// The folder that is looked at, a store or an agent's, where the words name one, as `check`
+// doesn't; or how the program ends for want of memory, since it would look at the current folder
+// else.
 fn store_in<'a>(rt: HostRuntime, words: &'a [&'a str]) -> Result<Option<&'a str>, u8> {
     match read_words(rt.alloc(), words) {
         Ok(Command::Cat(words)) => Ok(Some(words.store)),
@@ -82,7 +83,9 @@ fn store_in<'a>(rt: HostRuntime, words: &'a [&'a str]) -> Result<Option<&'a str>
         Ok(Command::Verify(store)) => Ok(Some(store)),
         Ok(Command::Sum(store)) => Ok(Some(store)),
         Ok(Command::Held(store)) => Ok(Some(store)),
-        Ok(Command::Help(_)) | Ok(Command::Version) | Err(WordsFault::Usage) => Ok(None),
+        Ok(Command::Passed(words)) => Ok(Some(words.agent)),
+        Ok(Command::Check(_)) | Ok(Command::Help(_)) | Ok(Command::Version) => Ok(None),
+        Err(WordsFault::Usage) => Ok(None),
         Err(WordsFault::NoMemory) => Err(NO_MEMORY),
     }
 }

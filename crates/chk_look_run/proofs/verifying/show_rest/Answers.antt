@@ -1,4 +1,3 @@
-use Rattle.std.proofs.Common.{Bool}
 use Rattle.chk_look_run.specs.Runs.{no_records, records, unfound}
 use Rattle.chk_look_run.proofs.Found.{found_own, found_then, cause_then, sought_cause}
 use Rattle.chk_look_run.proofs.verifying.show_rest.Goals as goal

@@ -1,0 +1,6 @@
+mod Seen
+mod Behind
+mod Joined
+mod Mapped
+mod InTurn
+mod Owned

@@ -1,0 +1,5 @@
+pub mod Oldest
+pub mod Judging
+pub mod Passing
+pub mod Laws
+pub mod Agents
