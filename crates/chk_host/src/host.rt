@@ -1,7 +1,8 @@
 //! The machine: its runtime, and files by their names. The file written last and the file read
 //! last are kept open, so that a further piece costs one system call.
-ghost use Rattle.std.specs.Prelude.{◌≡◌, ◌≢◌, ◌≤◌, ◌↔◌, [], None, if◌then◌else◌, length, option_map, string_bytes, IfOk, IfSome, IsOk, IsSomeAnd, IsTrue, OnErr, OnOk};
+ghost use Rattle.std.specs.Prelude.{◌≡◌, ◌≢◌, ◌≤◌, ◌↔◌, [], None, Err, false, true, if◌then◌else◌, length, option_map, string_bytes, IfOk, IfSome, IsErr, IsOk, IsSomeAnd, IsTrue, OnErr, OnOk};
 ghost use Rattle.chk_site.specs.Site.{MayFail, MayExist, MayMiss, MayBeShort, MayMissOrBeShort};
+ghost use Rattle.chk_site.specs.declared.acts.CallFault.TheVariants.{Missing};
 ghost use Rattle.chk_faults.specs.Faults.{answer_of};
 ghost use Rattle.chk_host.specs.Opened.{is_mark, is_temporary, unsettled_by, IsClosed};
 
@@ -36,6 +37,8 @@ pub struct Host<R: Files<File = File>> {
     unsettled: Option<String>,
     /// The mark that was renamed last, whose folder was synced behind that.
     settled_mark: Option<String>,
+    /// Nothing is synced behind a read, and a folder that isn't there has no file.
+    only_looks: bool,
     pub(crate) reading: Option<Kept>,
     pub(crate) listings: Listings,
     /// What is known of the logs that were looked at.
@@ -56,6 +59,7 @@ impl<R: Files<File = File>> Host<R> {
         ensures listings { result.listings ≡ [] }
         ensures logs { result.logs.seen.items ≡ [] }
         ensures buffer { result.buffer.items ≡ [] }
+        ensures looks { result.only_looks ≡ false }
     {
         let longest = longest_file(&rt, alloc);
         Host {
@@ -64,12 +68,25 @@ impl<R: Files<File = File>> Host<R> {
             writing: None,
             unsettled: None,
             settled_mark: None,
+            only_looks: false,
             reading: None,
             listings: Listings::new(alloc),
             logs: Logs::new(alloc),
             notices: Notices::new(alloc),
             buffer: Vec::new(alloc),
         }
+    }
+
+    /// The machine for a program that only looks: a read syncs nothing, and of a folder that isn't there
+    /// `read` and `size` answer `Missing`. What it reads of a mark may be lost
+    /// with the next loss of power, so it is for no agent's ears.
+    pub fn read_only(rt: R, alloc: Global) -> Host<R>
+        ensures looks { result.only_looks ≡ true }
+        ensures unsettled { result.unsettled ≡ None }
+    {
+        let mut host = Host::new(rt, alloc);
+        host.only_looks = true;
+        host
     }
 
     /// `Exists` where the file is there. The new file is kept open. Its folder is synced, but of a file
@@ -246,7 +263,7 @@ impl<R: Files<File = File>> Host<R> {
     {
         match file_size(&self.rt, name)? {
             Some(size) => Ok(size),
-            None => no_file(&self.rt, name),
+            None => self.absent(name),
         }
     }
 
@@ -258,6 +275,7 @@ impl<R: Files<File = File>> Host<R> {
         max: u32,
     ) -> Result<Bytes, SystemFault>
         ensures most { IfOk result (λ bytes. length bytes ≤ max) }
+        ensures looks { self.new.only_looks ≡ self.old.only_looks }
         ensures only { MayMissOrBeShort (answer_of result) }
     {
         match self.read_found(alloc, name, at, max)? {
@@ -265,17 +283,32 @@ impl<R: Files<File = File>> Host<R> {
                 self.settle_name(name)?;
                 Ok(bytes)
             }
-            None => no_file(&self.rt, name),
+            None => self.absent(name),
         }
+    }
+
+    // There is no file of this name. To a program that only looks it is missing also where its folder isn't
+    // there: nobody made that folder yet, or the store was copied without it.
+    fn absent<T>(&self, name: &str) -> Result<T, SystemFault>
+        ensures refused { IsErr result }
+        ensures looks { IsTrue self.now.only_looks → answer_of result ≡ Err Missing }
+        ensures only { MayMiss (answer_of result) }
+    {
+        if self.only_looks {
+            return Err(SystemFault::Missing);
+        }
+        no_file(&self.rt, name)
     }
 
     // Another collector may have renamed a mark to this name and not synced it yet. What was read of a
     // mark is told to agents, so it stays on the disk before it is answered. The mark that this process
-    // renamed last is on the disk, and nobody else renames to its name.
+    // renamed last is on the disk, and nobody else renames to its name. A program that only looks tells no
+    // agent, and syncs nothing.
     fn settle_name(&self, name: &str) -> Result<(), SystemFault>
-        ensures { MayFail (answer_of result) }
+        ensures looks { IsTrue self.now.only_looks → IsOk result }
+        ensures only { MayFail (answer_of result) }
     {
-        if is_mark(name) && !self.has_settled(name) {
+        if !self.only_looks && is_mark(name) && !self.has_settled(name) {
             sync_folder(&self.rt, name)?;
         }
         Ok(())
@@ -300,6 +333,7 @@ impl<R: Files<File = File>> Host<R> {
         max: u32,
     ) -> Result<Option<Bytes>, SystemFault>
         ensures most { IfOk result (λ found. IfSome found (λ bytes. length bytes ≤ max)) }
+        ensures looks { self.new.only_looks ≡ self.old.only_looks }
         ensures only { MayBeShort (answer_of result) }
     {
         if at == 0 {
@@ -324,6 +358,7 @@ impl<R: Files<File = File>> Host<R> {
         max: u32,
     ) -> Result<Option<Bytes>, SystemFault>
         ensures most { IfOk result (λ found. IfSome found (λ bytes. length bytes ≤ max)) }
+        ensures looks { self.new.only_looks ≡ self.old.only_looks }
         ensures only { MayBeShort (answer_of result) }
     {
         match self.goes_on(name, at)? {
@@ -356,6 +391,7 @@ impl<R: Files<File = File>> Host<R> {
         max: u32,
     ) -> Result<Bytes, SystemFault>
         ensures most { IfOk result (λ bytes. length bytes ≤ max) }
+        ensures looks { self.new.only_looks ≡ self.old.only_looks }
         ensures only { MayBeShort (answer_of result) }
     {
         let reader = self.reader(alloc, name)?;
@@ -383,6 +419,7 @@ impl<R: Files<File = File>> Host<R> {
     // The file to read, taken from what is kept.
     fn reader(&mut self, alloc: Global, name: &str) -> Result<Kept, SystemFault>
         ensures name { IfOk result (λ kept. string_bytes kept.name ≡ name.now) }
+        ensures looks { self.new.only_looks ≡ self.old.only_looks }
         ensures only { MayFail (answer_of result) }
     {
         if let Some(kept) = self.reading.take() {
@@ -397,7 +434,8 @@ impl<R: Files<File = File>> Host<R> {
 
     /// Closes the file that was read last, where it is kept.
     pub(crate) fn stop_reading(&mut self)
-        ensures { self.new.reading ≡ None }
+        ensures reading { self.new.reading ≡ None }
+        ensures looks { self.new.only_looks ≡ self.old.only_looks }
     {
         self.reading = None;
     }

@@ -1,5 +1,5 @@
 //! The site of the real outside.
-ghost use Rattle.std.specs.Prelude.{◌≡◌, ◌≤◌, ◌∷◌, [], None, Err, IsSome, option_map};
+ghost use Rattle.std.specs.Prelude.{◌≡◌, ◌≤◌, ◌∷◌, [], None, Err, IsSome, IsTrue, option_map};
 ghost use Rattle.chk_site.specs.Site.{answered, asked, taking_given, Adds, CallsSome, CauseOf, MayFail};
 ghost use Rattle.chk_site.specs.declared.acts.Call.TheVariants as call;
 ghost use Rattle.chk_site.specs.declared.acts.CallFault.TheVariants.{Failed};
@@ -33,7 +33,7 @@ const LONGEST_MESSAGE: usize = 4_210_688;
 /// paths. What was made, renamed, removed or cut is so after a stop of the machine too, and what was
 /// appended once it is synced; a new file `.tmp` stays from its rename on. To append to, sync or rename a
 /// file that isn't there fails; only `cut`, `remove`, `size` and `read` answer `Missing`, and they fail too
-/// where the file's folder isn't there. A read asks the machine for 131,072 bytes at a time. At most two
+/// where the file's folder isn't there, but `size` and `read` of a program that only looks. A read asks the machine for 131,072 bytes at a time. At most two
 /// files are open, the one written last and the one read last.
 ///
 /// A log's rotated generations are found by their names in its folder, before each read, and after the
@@ -88,28 +88,30 @@ impl<R: Files<File = File> + Net + Clock + Print + Eprint + Drop> SiteReal<R> {
         ensures counted { IsSome result.unsettled → result.faults ≡ 1 }
     {
         let folders = make_folders(&rt);
-        SiteReal::over(rt, alloc, folders)
+        SiteReal::over(Host::new(rt, alloc), alloc, folders)
     }
 
-    /// The outside for a program that only looks: no folder is made or synced, so the count of faults begins
-    /// at 0. Such a program makes no start: that would make the file of a lock, and take it.
+    /// The outside for a program that only looks: no folder is made or synced, neither now nor behind a read
+    /// of a mark, so the count of faults begins at 0. Such a program makes no start: that would make the file of a lock, and take it.
     pub fn read_only(rt: R, alloc: Global) -> SiteReal<R>
         ensures faults { result.faults ≡ 0 }
         ensures settled { result.unsettled ≡ None }
+        ensures looks { IsTrue result.host.only_looks }
     {
         let folders = Folders {
             faults: 0,
             unsettled: None,
         };
-        SiteReal::over(rt, alloc, folders)
+        SiteReal::over(Host::read_only(rt, alloc), alloc, folders)
     }
 
-    // The outside, where this became of the folders.
-    fn over(rt: R, alloc: Global, folders: Folders) -> SiteReal<R>
+    // The outside over this machine, where this became of the folders.
+    fn over(host: Host<R>, alloc: Global, folders: Folders) -> SiteReal<R>
         ensures faults { result.faults ≡ folders.faults }
         ensures unsettled { result.unsettled ≡ folders.unsettled }
         ensures failure { result.failure ≡ None }
         ensures sent { result.sent ≡ None }
+        ensures host { result.host ≡ host }
     {
         keep_freed_memory(alloc);
         SiteReal {
@@ -117,7 +119,7 @@ impl<R: Files<File = File> + Net + Clock + Print + Eprint + Drop> SiteReal<R> {
             failure: None,
             unsettled: folders.unsettled,
             locks: Locks::new(alloc),
-            host: Host::new(rt, alloc),
+            host,
             messages: Messages::new(alloc),
             sent: None,
         }
