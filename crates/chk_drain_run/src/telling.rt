@@ -3,10 +3,8 @@
 ghost use Rattle.std.specs.Prelude.{◌≡◌, ◌<◌, [], ◌∷◌, ◌++◌, length, map, slice_get, Some, IfOk, IsTrue};
 ghost use Rattle.chk_site.specs.Site.{OutsideCause};
 ghost use Rattle.chk_world.specs.ArchiveRuns.{is_one_line};
-ghost use Rattle.chk_bytes.specs.Words.{is_word};
 ghost use Rattle.chk_reading.specs.Adaptors.{Adaptor};
 ghost use Rattle.chk_agent.specs.Commands.{live_from};
-ghost use Rattle.chk_words.specs.Lines.{stream_line};
 ghost use Rattle.chk_prints.specs.Printing.{PrintsInTurn};
 ghost use Rattle.chk_drain_run.specs.Streams.{told_line, live_here};
 
@@ -14,7 +12,7 @@ use chk_agent::Agent;
 use chk_bytes::{Bytes, NoMemory, Word};
 use chk_prints::print_line;
 use chk_site::{OutsideFault, Site, Who};
-use chk_words::put_stream;
+use chk_words::stream_line;
 use std::alloc::Global;
 
 /// The numbers of the adaptors that aren't past.
@@ -98,22 +96,4 @@ pub(crate) fn word(alloc: Global, text: &str) -> Result<Word, NoMemory>
     ensures { IfOk result (λ word. word ≡ text.now) }
 {
     Word::new(alloc, text.as_bytes()).map_err(|_| NoMemory)
-}
-
-fn stream_line(
-    alloc: Global,
-    source: &str,
-    kind: &str,
-    path: &str,
-    offset: u64,
-) -> Result<Bytes, NoMemory>
-    requires source { IsTrue (is_word source.now) }
-    requires kind { IsTrue (is_word kind.now) }
-    requires path { IsTrue (is_word path.now) }
-    ensures line { IfOk result (λ line. line ≡ stream_line source.now kind.now path.now offset) }
-    ensures one { IsTrue (is_one_line (stream_line source.now kind.now path.now offset)) }
-{
-    let mut line = Bytes::new(alloc);
-    put_stream(&mut line, source, kind, path, offset)?;
-    Ok(line)
 }

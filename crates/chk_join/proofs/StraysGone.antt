@@ -3,7 +3,8 @@ use Rattle.std.proofs.Common.{◌≡◌, inl, inr, ℕ, zero, suc, ◌+◌, ◌<
 use Rattle.std.proofs.Common.{◌&&◌, List, [], ◌∷◌, ◌++◌, length, Option, Some, None, Ok, Err}
 use Rattle.std.proofs.Common.{Result, refl, ap, sym, subst, ◌∙◌, arith, true≢false, bytes_eq}
 use Rattle.std.proofs.Common.{length-append, drop, take, if◌then◌else◌}
-use Rattle.std.specs.Prelude.{IsTrue, Contains, slice_index_or, codes, decimal, is_some, ◌==◌}
+use Rattle.std.specs.Prelude.{IsTrue, IfOk, MatchResult, Contains, slice_index_or, codes, decimal}
+use Rattle.std.specs.Prelude.{is_some, ◌==◌}
 use Rattle.std.specs.List.{list_any}
 use Rattle.std.proofs.lemmas.Bool.{and_parts, and_from, ltb-true}
 use Rattle.std.proofs.lemmas.Fmt.{decimal_injective, length-decimal-le}
@@ -19,13 +20,15 @@ use Rattle.chk_site.specs.declared.acts.ActAnswer.{ActAnswer}
 use Rattle.chk_site.specs.declared.acts.ActAnswer.TheVariants.{Done, Refused, Stopped, Rotated}
 use Rattle.chk_site.specs.declared.acts.ActAnswer.TheVariants.{Deleted}
 use Rattle.chk_site.specs.declared.acts.CallFault.{CallFault}
+use Rattle.chk_site.specs.declared.acts.OutsideFault.{OutsideFault}
+use Rattle.chk_site.specs.declared.acts.Call.TheVariants.{List as ListNames}
 use Rattle.chk_site.specs.Files.{File, Files}
 use Rattle.chk_site.specs.Logs.{Logs}
 use Rattle.chk_site.specs.Acts.{Deed, is_done, tail_in, touches}
 use Rattle.chk_site.specs.History.{Step, History, Every, Others, IsTheirs, files_after}
 use Rattle.chk_site.specs.Honest.{Honest, IsListing}
 use Rattle.chk_site.specs.Site.{Adds, own_step, answered, plain, names_given, WasDone, IsDone}
-use Rattle.chk_site.specs.Site.{Calls}
+use Rattle.chk_site.specs.Site.{Calls, Ends}
 use Rattle.chk_site.specs.Runs.{Leads, anyhow}
 use Rattle.chk_site.proofs.Stays.{unnamed_stays}
 use Rattle.chk_site.proofs.Runs.{adds_as}
@@ -342,3 +345,18 @@ module _ (b : Book) (names files : List (List ℕ)) (i : ℕ) (item name : List 
       each_both : (Q : List ℕ → Type 0) (xs : List (List ℕ)) (x : List ℕ) → Each Q xs → Q x → Each Q (xs ++ x ∷ [])
       each_both Q [] x all q = (q, tt)
       each_both Q (y ∷ xs) x all q = (all.0, each_both Q xs x all.1 q)
+
+-- ---- the listing, as it ended
+
+-- the names that came are shown
+pub list_shown : {V : Type 0} (names : V → List (List ℕ)) (given : Result V CallFault)
+    (r : Result V OutsideFault) {old new : Option History}
+    → Adds old new (Calls listing (answered (λ v. names_given (names v)) given))
+    → MatchResult r (λ value. given ≡ Ok value) (λ fault. Ends ListNames given fault)
+    → IfOk r (λ v. (k : ℕ) → IsTrue (is_count k) → Adds old new
+    (Leads (anyhow (LeavesFile (joined_segment k))) (λ h. Unit {0}) (Shown k (names v))))
+list_shown {V} names given (Ok v) {old} {new} told is = λ k count.
+    list_shows k count (names v) (subst
+    (λ (x : Result V CallFault). Adds old new (Calls listing (answered (λ w. names_given (names w)) x)))
+    is told)
+list_shown names given (Err fault) told ends = tt

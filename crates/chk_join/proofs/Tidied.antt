@@ -52,6 +52,13 @@ list_works b given how r {old = old} {new = new} told ends =
     worked (TidiesBy b) (job_result r) own (no_reads (TidiesBy b) (tidies_no_reads b) own)
     (as_job r (list_last how given r ends told))
 
+-- how the listing ended, where it gave no names
+pub list_ends : {V : Type 0} (given : Result V CallFault) (r : Result V OutsideFault)
+    → MatchResult r (λ value. given ≡ Ok value) (λ fault. Ends ListNames given fault)
+    → IfErr r (λ fault. Ends ListNames given fault)
+list_ends given (Ok value) is = tt
+list_ends given (Err fault) ends = ends
+
 abbrev pub removal : List ℕ → Asked
 removal w = asked job Remove (w ∷ []) 0 0
 

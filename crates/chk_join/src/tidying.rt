@@ -17,7 +17,7 @@ ghost use Rattle.chk_join.specs.Working.{Worked, TidiesBy, job_result};
 use crate::names::strays;
 use chk_book::Book;
 use chk_bytes::Word;
-use chk_site::{Call, CallFault, OutsideFault, Site, Who, done};
+use chk_site::{Call, OutsideFault, Site, Who, done, reached};
 use std::alloc::Global;
 
 /// Removes each segment of `joined` that its book doesn't name. It costs a call, and one for each of these segments.
@@ -46,12 +46,8 @@ fn list_joined<S: Site>(alloc: Global, site: &mut S, who: &Who) -> Result<Vec<Wo
         (Leads (anyhow (LeavesFile (joined_segment k))) (λ history. Unit {0}) (Shown k names.items))) }
     ensures cause { OutsideCause (S.fault_count site.old) (S.fault_count site.new) result }
 {
-    match site.list(alloc, who, "joined") {
-        Ok(names) => Ok(names),
-        Err(CallFault::Failed) => Err(OutsideFault::Outside { call: Call::List }),
-        Err(CallFault::NoMemory) => Err(OutsideFault::NoMemory),
-        Err(_) => unreachable!(),
-    }
+    let given = site.list(alloc, who, "joined");
+    reached(Call::List, given)
 }
 
 /// Removes these files, in turn, whether or not they are there. It costs a call for each.

@@ -1,9 +1,10 @@
 -- The writer's calls under the rules of all processes.
-use Rattle.std.proofs.Common.{ℕ, List, ◌∷◌, Ok, Option, Result, refl}
-use Rattle.std.specs.Prelude.{Contains}
+use Rattle.std.proofs.Common.{◌≡◌, ℕ, List, [], ◌∷◌, Ok, Err, Option, Result, refl, subst}
+use Rattle.std.specs.Prelude.{Contains, MatchResult}
 use Rattle.chk_site.specs.declared.acts.CallFault.{CallFault}
 use Rattle.chk_site.specs.declared.acts.OutsideFault.{OutsideFault}
 use Rattle.chk_site.specs.declared.acts.ActAnswer.{ActAnswer}
+use Rattle.chk_site.specs.declared.acts.Call.TheVariants.{LogAppend, Say}
 use Rattle.chk_site.specs.declared.acts.ActAnswer.TheVariants.{Refused, Stopped}
 use Rattle.chk_site.specs.declared.acts.Who.{Who}
 use Rattle.chk_site.specs.Acts.{GrowsLog}
@@ -12,13 +13,37 @@ use Rattle.chk_site.specs.Logs.{Logs}
 use Rattle.chk_site.specs.History.{History, files_after, logs_after}
 use Rattle.chk_site.specs.Honest.{Honest}
 use Rattle.chk_site.specs.Runs.{Leads}
-use Rattle.chk_site.specs.Site.{Adds, Calls, answered, own_step, plain}
+use Rattle.chk_site.specs.Site.{Adds, Calls, Ends, answered, own_step, plain}
 use Rattle.chk_site.proofs.Leads.{any_leads, leads_none, leads_then}
 use Rattle.chk_world.specs.Rules.{Legal, WriterRule}
 use Rattle.chk_world.specs.Together.{Together}
 use Rattle.chk_load_run.specs.Loads.{SaysLine, unsaid, said, unsayable, saying}
-use Rattle.chk_load_run.specs.Pieces.{AppendsInTurn, all_appended, unappended, appended_on, ended, appending, LogPiece}
+use Rattle.chk_load_run.specs.Pieces.{AppendsInTurn, all_appended, unappended, appended_on, ended}
+use Rattle.chk_load_run.specs.Pieces.{appending, LogPiece, IsPiece}
 use Rattle.chk_load_run.specs.Processes.{chukwa}
+
+-- the piece is appended, and the answer tells how that ended
+pub appended_one : {who : Who} {p : LogPiece} {old new : Option History}
+    (given : Result (Unit {0}) CallFault) (result : Result (Unit {0}) OutsideFault) → IsPiece p
+    → Adds old new (Calls (appending who p) (answered plain given))
+    → MatchResult result (λ value. given ≡ Ok value) (λ fault. Ends LogAppend given fault)
+    → AppendsInTurn who (p ∷ []) result old new
+appended_one {who} {p} {old} {new} given (Ok tt) good told is =
+    appended_on good (subst
+    (λ (x : Result (Unit {0}) CallFault). Adds old new (Calls (appending who p) (answered plain x))) is told)
+    all_appended
+appended_one given (Err fault) good told ends = ended given good ends told
+
+-- the line is said, and the answer tells how that ended
+pub said_one : {who : Who} {line : List ℕ} {old new : Option History}
+    (given : Result (Unit {0}) CallFault) (result : Result (Unit {0}) OutsideFault)
+    → Adds old new (Calls (saying who line) (answered plain given))
+    → MatchResult result (λ value. given ≡ Ok value) (λ fault. Ends Say given fault)
+    → SaysLine who line result old new
+said_one {who} {line} {old} {new} given (Ok tt) told is =
+    said (subst
+    (λ (x : Result (Unit {0}) CallFault). Adds old new (Calls (saying who line) (answered plain x))) is told)
+said_one given (Err fault) told ends = unsayable given ends told
 
 module _ (stamped : List (List ℕ)) (started acting : List Who) (writes : Contains acting chukwa) where
   abbrev Stays : Option History → Option History → Type 0

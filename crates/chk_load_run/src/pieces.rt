@@ -8,7 +8,7 @@ ghost use Rattle.chk_load_run.specs.Lines.{ends_lines};
 ghost use Rattle.chk_load_run.specs.Pieces.{AppendsInTurn, Flushes, WritesAll, WritesLog};
 
 use chk_bytes::{Bytes, NoMemory};
-use chk_site::{Call, CallFault, OutsideFault, Site, Who};
+use chk_site::{Call, OutsideFault, Site, Who, reached};
 use chk_words::{LoadLines, load_log};
 use std::alloc::Global;
 
@@ -123,12 +123,6 @@ fn append_piece<S: Site>(
         (record { path = load_log log; bytes = piece.now } ∷ []) result (S.told site.old) (S.told site.new) }
     ensures cause { OutsideCause (S.fault_count site.old) (S.fault_count site.new) result }
 {
-    match site.log_append(alloc, writer, load_log(log), piece) {
-        Ok(()) => Ok(()),
-        Err(CallFault::Failed) => Err(OutsideFault::Outside {
-            call: Call::LogAppend,
-        }),
-        Err(CallFault::NoMemory) => Err(OutsideFault::NoMemory),
-        Err(_) => unreachable!(),
-    }
+    let given = site.log_append(alloc, writer, load_log(log), piece);
+    reached(Call::LogAppend, given)
 }

@@ -17,7 +17,7 @@ use crate::words::{round_words, writer};
 use chk_archive::Report;
 use chk_bytes::{Bytes, NoMemory};
 use chk_round::{Rounded, round};
-use chk_site::{Call, CallFault, OutsideFault, Site, Who};
+use chk_site::{Call, OutsideFault, Site, Who, reached};
 use chk_words::put_load;
 use std::alloc::Global;
 
@@ -78,12 +78,8 @@ fn tell<S: Site>(
     ensures cause { OutsideCause (S.fault_count site.old) (S.fault_count site.new) result }
 {
     let line = line_of(alloc, report)?;
-    match site.say(alloc, writer, line.as_slice()) {
-        Ok(()) => Ok(()),
-        Err(CallFault::Failed) => Err(OutsideFault::Outside { call: Call::Say }),
-        Err(CallFault::NoMemory) => Err(OutsideFault::NoMemory),
-        Err(_) => unreachable!(),
-    }
+    let given = site.say(alloc, writer, line.as_slice());
+    reached(Call::Say, given)
 }
 
 fn line_of(alloc: Global, report: LoadReport) -> Result<Bytes, NoMemory>

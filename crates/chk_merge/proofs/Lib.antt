@@ -16,5 +16,5 @@ pub mod OnePass
 pub mod SoundHeads
 pub mod Writing
 mod Merged
-mod MergedInto
+pub mod MergedInto
 pub mod Undamaged

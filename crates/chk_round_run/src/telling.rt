@@ -1,22 +1,18 @@
 //! The lines of a round.
 
-ghost use Rattle.std.specs.Prelude.{◌≡◌, ◌<◌, ℕ, IfOk, IsTrue, Some, length, slice_get};
-ghost use Rattle.chk_bytes.specs.Words.{is_word};
+ghost use Rattle.std.specs.Prelude.{◌≡◌, ◌<◌, ℕ, Some, length, slice_get};
 ghost use Rattle.chk_site.specs.Site.{OutsideCause};
-ghost use Rattle.chk_world.specs.ArchiveRuns.{is_one_line};
 ghost use Rattle.chk_agent.specs.States.{lines_of};
 ghost use Rattle.chk_archive.specs.Reporting.{report_view};
-ghost use Rattle.chk_words.specs.Lines.{stream_line};
 ghost use Rattle.chk_prints.specs.Printing.{PrintsInTurn};
 ghost use Rattle.chk_round_run.specs.Telling.{Tells, shown_at, stream_lines};
 
 use chk_agent::Agent;
 use chk_archive_run::tell_run;
-use chk_bytes::{Bytes, NoMemory};
 use chk_prints::print_line;
 use chk_round::Rounded;
 use chk_site::{OutsideFault, Site, Who};
-use chk_words::put_stream;
+use chk_words::stream_line;
 use std::alloc::Global;
 
 /// Prints a line for each live adaptor, as the agent, and then the line of the archive run, as the
@@ -79,22 +75,4 @@ fn tell_stream<S: Site>(
         agent.committed_end(number),
     )?;
     print_line(alloc, site, who, line.as_slice())
-}
-
-fn stream_line(
-    alloc: Global,
-    source: &str,
-    kind: &str,
-    path: &str,
-    offset: u64,
-) -> Result<Bytes, NoMemory>
-    requires source { IsTrue (is_word source.now) }
-    requires kind { IsTrue (is_word kind.now) }
-    requires path { IsTrue (is_word path.now) }
-    ensures line { IfOk result (λ line. line ≡ stream_line source.now kind.now path.now offset) }
-    ensures one { IsTrue (is_one_line (stream_line source.now kind.now path.now offset)) }
-{
-    let mut line = Bytes::new(alloc);
-    put_stream(&mut line, source, kind, path, offset)?;
-    Ok(line)
 }

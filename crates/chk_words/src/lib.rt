@@ -17,7 +17,7 @@ pub use commands::{AgentWords, CollectorWords, Command, DrainWords, RoundWords, 
 pub use datagrams::{UdpWords, put_udp};
 pub use endings::Ending;
 pub use joining::{JoinWords, put_join};
-pub use lines::{put_archive, put_demux, put_end, put_load, put_stream};
+pub use lines::{put_archive, put_demux, put_end, put_load, put_stream, stream_line};
 pub use load::{LoadLines, load_log};
 pub use reading::read_words;
 pub use subscribing::SubscribeWords;

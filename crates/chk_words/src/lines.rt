@@ -1,10 +1,11 @@
 //! Lines of words and numbers.
 
-ghost use Rattle.std.specs.Prelude.{◌≡◌, ◌++◌, ◌∷◌, [], ℕ, List, map, codes, decimal, OnOk, OnErr};
+ghost use Rattle.std.specs.Prelude.{◌≡◌, ◌++◌, ◌∷◌, [], ℕ, List, map, codes, decimal, IfOk, OnOk, OnErr};
 ghost use Rattle.chk_bytes.specs.Words.{BeginsWith};
 ghost use Rattle.chk_words.specs.Lines.{line_of, part_text, archive_line, demux_line, end_line, load_line, stream_line};
 
 use chk_bytes::{Bytes, NoMemory, Stem, put_decimal};
+use std::alloc::Global;
 
 /// A word of a line.
 #[derive(Clone, Copy)]
@@ -71,6 +72,21 @@ pub fn put_stream<'a>(
         Part::Number(offset),
     ];
     put_line(out, &parts)
+}
+
+/// The line of a stream that was read to this offset.
+pub fn stream_line(
+    alloc: Global,
+    source: &str,
+    kind: &str,
+    name: &str,
+    offset: u64,
+) -> Result<Bytes, NoMemory>
+    ensures { IfOk result (λ line. line ≡ stream_line source.now kind.now name.now offset) }
+{
+    let mut line = Bytes::new(alloc);
+    put_stream(&mut line, source, kind, name, offset)?;
+    Ok(line)
 }
 
 /// Appends the line of a stream that is archived up to this offset, or without memory nothing.
