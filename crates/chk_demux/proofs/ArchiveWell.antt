@@ -54,7 +54,7 @@ end_is s (d ∷ es) e is = go (is_end_of s d) refl is (λ i. end_is s es e i)
     go false mine i rest = let r = rest i in (later_one d es e r.0, r.1)
 
 -- the heads of files that the job knows
-heads_same : (v : Sight) (n : ℕ) (ws : List (List ℕ)) → heads_from chunk_limit (held v) n ws ≡ heads_of v n ws
+pub heads_same : (v : Sight) (n : ℕ) (ws : List (List ℕ)) → heads_from chunk_limit (held v) n ws ≡ heads_of v n ws
 heads_same v n [] = refl
 heads_same v n (w ∷ ws) = ap (λ l. heads_in chunk_limit n (bytes_in (held v w)) ++ l) (heads_same v (n + 1) ws)
 

@@ -87,20 +87,21 @@ run_keeps s start from to (c ∷ cs) all r = go (λ n run. run_keeps s start n t
         ∙ ap (λ l. c ∷ l) (rest (chunk_end c) r.2)
     go rest false other r = put_other s c (in_order cs) other ∙ rest from r
 
-order_keeps : (cs : List Chunk) (e : End) (from : ℕ) → RunsSo cs e from
+pub order_keeps : (cs : List Chunk) (e : End) (from : ℕ) → RunsSo cs e from
     → filter (is_of e.stream) (in_order cs) ≡ filter (is_of e.stream) cs
-order_keeps cs e from runs = run_keeps e.stream e.start e.start e.end cs runs.bytes runs.run
+order_keeps cs e from runs = run_keeps e.stream e.start runs.first e.end cs runs.bytes runs.run
 
 -- ---- and its split
 
 pub runs_in_order : (cs : List Chunk) (e : End) (from : ℕ) → RunsSo cs e from → RunsSo (in_order cs) e from
 runs_in_order cs e from runs = record {
   bytes = each_from HasBytes (in_order cs) (λ c one. each_at HasBytes cs c runs.bytes (all_put cs c one));
-  run = subst (λ l. Run e.start e.start l e.end) (sym (order_keeps cs e from runs)) runs.run;
+  first = runs.first;
+  run = subst (λ l. Run e.start runs.first l e.end) (sym (order_keeps cs e from runs)) runs.run;
   from_on = runs.from_on;
 }
 
-same_past : (cs : List Chunk) (e : End) (from : ℕ) → RunsSo cs e from
+pub same_past : (cs : List Chunk) (e : End) (from : ℕ) → RunsSo cs e from
     → past_in from e.stream (in_order cs) ≡ past_in from e.stream cs
 same_past cs e from runs = ap (flat_map (past_of from)) (order_keeps cs e from runs)
 

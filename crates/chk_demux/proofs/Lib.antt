@@ -22,10 +22,18 @@ mod ChunksInOrder
 mod RaisedEnds
 mod NewRecords
 mod NewKeys
+mod NewestChunks
+mod Quiet
+mod NewestHeads
+mod Suffixes
+mod RawSplit
+mod Whole
+mod NewestRaw
 mod NextRecords
 mod RunFacts
 pub mod Shown
 mod NewHeads
 mod Due
+mod NewestTold
 mod RunSteps
 pub mod DoneStays

@@ -1,5 +1,5 @@
 -- That a record of the archive has bytes that aren't split, as own reads of a demux run show it.
-use Rattle.std.proofs.Common.{◌≡◌, inl, inr, ℕ, ◌<◌, ◌-◌, ◌^◌, Bool, true, List, [], ◌∷◌, ◌++◌, length, codes, Option, Ok, Err, Result, refl, sym, subst, ◌∙◌, arith}
+use Rattle.std.proofs.Common.{◌≡◌, inl, inr, ℕ, ◌<◌, ◌-◌, ◌^◌, Bool, true, false, true≢false, List, [], ◌∷◌, ◌++◌, length, codes, Option, Ok, Err, Result, refl, sym, subst, ◌∙◌, arith}
 use Rattle.std.specs.Prelude.{Contains, IsTrue, IfErr, OnOk}
 use Rattle.std.proofs.lemmas.List.Elements.{Contains-get_or}
 use Rattle.chk_site.specs.History.{History}
@@ -10,17 +10,18 @@ use Rattle.chk_world.proofs.Each.{Each, each_from, each_at}
 use Rattle.chk_world.proofs.SpelledLemmas.{book_so}
 use Rattle.chk_heads.specs.Heads.{Head}
 use Rattle.chk_heads.specs.Order.{no_head, head_before, sort_by, in_head_order}
+use Rattle.chk_heads.specs.Shown.{Within}
 use Rattle.chk_heads.specs.Faults.{IsOfRead, IsOfWrite}
 use Rattle.chk_heads.specs.declared.fault.JobFault.{JobFault}
 use Rattle.chk_heads.specs.declared.fault.JobFault.TheVariants.{Outside, Damaged, Spent, NoMemory}
 use Rattle.chk_heads.proofs.Sorting.{each_put}
-use Rattle.chk_heads.proofs.Showing.{within_all, within_late, within_early}
+use Rattle.chk_heads.proofs.Showing.{within_late, within_early}
 use Rattle.chk_book.specs.Books.{book_view}
-use Rattle.chk_merge.specs.Gone.{ShowsSound}
+use Rattle.chk_book.specs.Loaded.{ShowsBook}
 use Rattle.chk_plan.specs.Passes.{head_in}
 use Rattle.chk_demux.specs.declared.beginning.Books.{Books}
 use Rattle.chk_demux.specs.Splitting.{split_from, ends_past}
-use Rattle.chk_demux.specs.Shown.{HasPast, HasNew, ShowsNew, PutsIf, ShowsPut, SpentBy, ShowsRecords, ShowsBegun, ShowsSpent}
+use Rattle.chk_demux.specs.Shown.{HasPast, HasNew, ShowsNew, ShowsNewestSound, PutsIf, ShowsPut, SpentBy, ShowsBegun, ShowsSpent}
 use Rattle.chk_demux.proofs.NewRecords.{rise_of}
 
 -- ---- one of the heads, in whatever order
@@ -30,7 +31,7 @@ each_sort : {X : Type 0} (P : X → Type 0) (lt : X → X → Bool) (xs : List X
 each_sort P lt [] ps = tt
 each_sort P lt (x ∷ xs) ps = each_put lt P x (sort_by lt xs) ps.0 (each_sort P lt xs ps.1)
 
-in_sorted : (heads : List Head) (h : Head) → Contains (in_head_order heads) h → Contains heads h
+pub in_sorted : (heads : List Head) (h : Head) → Contains (in_head_order heads) h → Contains heads h
 in_sorted heads h one =
     each_at (Contains heads) (in_head_order heads) h
     (each_sort (Contains heads) head_before heads (each_from (Contains heads) heads (λ x k. k))) one
@@ -77,26 +78,27 @@ stream_put archive records heads e from old new named is (inr past) =
 pub put_behind : (archive records : Book) (heads : List Head) (result : Result ℕ JobFault)
     (m n : ℕ) {P : History → History → Type 0} {old mid new : Option History}
     → (IsTrue (ends_rise records.ends) → OnOk result (PutsIf (HasNew archive records heads) m n))
-    → Adds old mid (ShowsSound (codes "archive") archive (Ok heads)) → Adds mid new P
+    → Adds old mid (ShowsNewestSound archive (Ok heads)) → Adds mid new P
     → Adds old new (ShowsPut archive records m n result)
 put_behind archive records heads result m n due so_far told =
     adds_then (ShowsPut archive records m n result) so_far told
     (λ a d history x y. said result due a d history x)
   where
-    shows : (a d history : History) → ShowsSound (codes "archive") archive (Ok heads) a history
+    shows : (a d history : History) → ShowsNewestSound archive (Ok heads) a history
         → PutsIf (HasNew archive records heads) m n
         → PutsIf (ShowsNew archive records (d ++ a) history) m n
     shows a d history x (inl same) = inl same
     shows a d history x (inr has) = inr (record {
-      heads = x.0;
-      shown = within_early _ d a history (within_all _ a history x.2);
-      new = new_found archive records heads x.0 x.1 has;
+      first = x.0;
+      heads = x.1;
+      shown = within_early _ d a history x.3;
+      new = new_found archive records heads x.1 x.2 has;
     })
 
     said : (result : Result ℕ JobFault)
         → (IsTrue (ends_rise records.ends)
         → OnOk result (PutsIf (HasNew archive records heads) m n))
-        → (a d history : History) → ShowsSound (codes "archive") archive (Ok heads) a history
+        → (a d history : History) → ShowsNewestSound archive (Ok heads) a history
         → ShowsPut archive records m n result (d ++ a) history
     said (Ok left) due a d history x = λ rises. shows a d history x (due rises)
     said (Err fault) due a d history x = tt
@@ -147,20 +149,36 @@ puts_spend T archive records left m n none some last told =
 late_new : (archive records : Book) (d a history : History)
     → ShowsNew archive records d (a ++ history) → ShowsNew archive records (d ++ a) history
 late_new archive records d a history s = record {
+  first = s.first;
   heads = s.heads;
   shown = within_late _ d a history s.shown;
   new = s.new;
 }
 
 -- the ends of a book that own reads show rise
-shown_rise : (b : Book) (added history : History) → ShowsRecords b added history
+pub shown_rise : (folder : List ℕ) (b : Book) (added history : History)
+    → Within (ShowsBook folder (Ok b)) added history
     → ends_rise b.ends ≡ true
-shown_rise b added history w = elim w.holds [
+shown_rise folder b added history w = elim w.holds [
   | inl missed ↦ subst (λ (x : Book). ends_rise x.ends ≡ true) (sym missed.1) refl
   | inr shown ↦
       let so = book_so shown.some b (shown.each shown.some shown.small shown.agree).0 in
       rise_of so.0 b so.1
 ]
+
+-- where both books are loaded the ends of the archive's rise
+pub where_rises : (b : Books) (Q : History → History → Type 0) {P : History → History → Type 0}
+    {old mid new : Option History} → Adds old mid (ShowsBegun (Ok b)) → Adds mid new P
+    → (IsTrue (ends_rise (book_view b.archive).ends) → Adds old new Q) → Adds old new Q
+where_rises b Q {old = old} {new = new} so_far made on = go (ends_rise (book_view b.archive).ends) refl
+  where
+    go : (t : Bool) → ends_rise (book_view b.archive).ends ≡ t → Adds old new Q
+    go true is = on is
+    go false is =
+        adds_then Q so_far made
+        (λ a d history x y.
+        absurd (true≢false
+        (sym (shown_rise (codes "archive") (book_view b.archive) a history x.0) ∙ is)))
 
 -- the book that was loaded has the last number
 pub spent_behind : {T : Type 0} (b : Books) (result : Result T JobFault)
@@ -186,7 +204,7 @@ spent_behind b result so_far told = adds_then (ShowsSpent result) so_far told
         archive = book_view b.archive;
         has_archive = within_early _ d a history x.0;
         new = late_new (book_view b.archive) (book_view b.demux) d a history
-            (y.2 (shown_rise (book_view b.demux) a history x.1));
+            (y.2 (shown_rise (codes "demux") (book_view b.demux) a history x.1));
       },
     )
     said (Err NoMemory) a d history x y = tt

@@ -22,13 +22,13 @@ use Rattle.chk_demux.specs.Splitting.{ends_past, RunsSo}
 use Rattle.chk_demux.proofs.Places.{same_size, record_at, of_same, is_placed}
 
 -- one of these is the stream's, has its start, and holds this byte
-record Holds (s : Stream) (start at : ℕ) (cs : List Chunk) : Type 0 where
-  index : ℕ
-  low : index < length cs
-  of : is_of s (slice_index_or cs index no_chunk) ≡ true
-  start_is : (slice_index_or cs index no_chunk).key.start ≡ start
-  on : chunk_begin (slice_index_or cs index no_chunk) ≤ at
-  before : at < chunk_end (slice_index_or cs index no_chunk)
+pub record Holds (s : Stream) (start at : ℕ) (cs : List Chunk) : Type 0 where
+  pub index : ℕ
+  pub low : index < length cs
+  pub of : is_of s (slice_index_or cs index no_chunk) ≡ true
+  pub start_is : (slice_index_or cs index no_chunk).key.start ≡ start
+  pub on : chunk_begin (slice_index_or cs index no_chunk) ≤ at
+  pub before : at < chunk_end (slice_index_or cs index no_chunk)
 
 holds_later : (s : Stream) (start at : ℕ) (c : Chunk) (cs : List Chunk) → Holds s start at cs → Holds s start at (c ∷ cs)
 holds_later s start at c cs h = record {
@@ -41,7 +41,7 @@ holds_later s start at c cs h = record {
 }
 
 -- a byte of a run stands in one of its chunks
-held_by : (s : Stream) (start from to at : ℕ) (cs : List Chunk) → Run start from (filter (is_of s) cs) to → from ≤ at → at < to
+pub held_by : (s : Stream) (start from to at : ℕ) (cs : List Chunk) → Run start from (filter (is_of s) cs) to → from ≤ at → at < to
     → Holds s start at cs
 held_by s start from to at [] r on before = absurd (let z : ⊥ = omega (arith, r, on, before) in z)
 held_by s start from to at (c ∷ cs) r on before =
@@ -71,7 +71,7 @@ held_by s start from to at (c ∷ cs) r on before =
 module _ (v : Sight) (files : List (List ℕ)) (heads : List Head) (cs : List Chunk) (e : End) (from : ℕ)
     (records : AreRecords v files heads cs) (runs : RunsSo cs e from) where
   -- the cluster that is found is that of the record that holds the byte
-  cluster_of : (at : ℕ) → from ≤ at → (h : Holds e.stream e.start at cs)
+  pub cluster_of : (at : ℕ) → from ≤ at → (h : Holds e.stream e.start at cs)
       → cluster_back heads e.stream at (length heads) ≡ (slice_index_or cs h.index no_chunk).key.cluster
   cluster_of at on h =
       let i = h.index in
@@ -117,7 +117,7 @@ module _ (v : Sight) (files : List (List ℕ)) (heads : List Head) (cs : List Ch
       let some : 0 < length p = all.0.some in
       let size = length-append p (joined ps) in
       let begins : at + length p - length p ≡ at = omega arith in
-      let h = held_by e.stream e.start e.start e.end at cs runs.run (from_start at on) (omega (arith, some, size, fits)) in
+      let h = held_by e.stream e.start runs.first e.end at cs runs.run (from_start at on) (omega (arith, some, size, fits)) in
       let c = slice_index_or cs h.index no_chunk in
       let hold = h.on in
       let before = h.before in (
@@ -135,7 +135,7 @@ module _ (v : Sight) (files : List (List ℕ)) (heads : List Head) (cs : List Ch
         keys_found (at + length p) ps (omega (arith, on)) (omega (arith, size, fits)) all.1,
       )
     where
-      from_start : (at : ℕ) → from ≤ at → e.start ≤ at
+      from_start : (at : ℕ) → from ≤ at → runs.first ≤ at
       from_start at low = let high = runs.from_on in omega (arith, low, high)
 
       at_index : (cs : List Chunk) (k : ℕ) → k < length cs

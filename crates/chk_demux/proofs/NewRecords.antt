@@ -102,7 +102,7 @@ records_fit begun (line ∷ lines) =
         let size = length-append line (joined lines) in
         omega (arith, both, size, on)
 
-pieces_fit : (t : Bool) (bytes : List ℕ) → length (joined (pieces_of t bytes)) ≤ length bytes
+pub pieces_fit : (t : Bool) (bytes : List ℕ) → length (joined (pieces_of t bytes)) ≤ length bytes
 pieces_fit false bytes = let fit = lines_fit [] bytes in omega (arith, fit)
 pieces_fit true bytes = go (lines_from [] bytes) (lines_fit [] bytes)
   where

@@ -133,7 +133,7 @@ module _ (cs : List Chunk) (i : ℕ) (low : i < length cs) (from : ℕ) (s : Str
 
   -- ---- where its stream's chunks run
 
-  module _ (start to : ℕ) (all : Each HasBytes cs) (run : Run start start (filter (is_of s) cs) to)
+  module _ (start first to : ℕ) (all : Each HasBytes cs) (run : Run start first (filter (is_of s) cs) to)
       (is : is_of s C ≡ true) where
     of_stream : filter (is_of s) cs ≡ filter (is_of s) (take i cs) ++ C ∷ filter (is_of s) (drop (i + 1) cs)
     of_stream =
@@ -141,10 +141,10 @@ module _ (cs : List Chunk) (i : ℕ) (low : i < length cs) (from : ℕ) (s : Str
         ∙ (filter-append (is_of s) (take i cs) (C ∷ drop (i + 1) cs)
         ∙ ap (λ b. filter (is_of s) (take i cs) ++ cond b (C ∷ filter (is_of s) (drop (i + 1) cs)) (filter (is_of s) (drop (i + 1) cs))) is)
 
-    pub here : SplitsRun start start (filter (is_of s) (take i cs)) C (filter (is_of s) (drop (i + 1) cs)) to
+    pub here : SplitsRun start first (filter (is_of s) (take i cs)) C (filter (is_of s) (drop (i + 1) cs)) to
     here =
-        run_split start start to (filter (is_of s) (take i cs)) C (filter (is_of s) (drop (i + 1) cs))
-        (subst (λ l. Run start start l to) of_stream run)
+        run_split start first to (filter (is_of s) (take i cs)) C (filter (is_of s) (drop (i + 1) cs))
+        (subst (λ l. Run start first l to) of_stream run)
 
     bytes_all : Each HasBytes (take i cs ++ C ∷ drop (i + 1) cs)
     bytes_all = subst (Each HasBytes) all_split all
@@ -163,13 +163,13 @@ module _ (cs : List Chunk) (i : ℕ) (low : i < length cs) (from : ℕ) (s : Str
     own_bytes = (front_bytes (take i cs) (C ∷ drop (i + 1) cs) bytes_all).1.0
 
     -- what is taken up to it ends with it
-    pub ends_with : start ≤ from → from < chunk_end C
+    pub ends_with : first ≤ from → from < chunk_end C
         → chunk_end C ≡ from + length (past_in from s (take (i + 1) cs))
     ends_with on low_from =
         let room = own_bytes.room in
-        let before = run_length start start (filter (is_of s) (take i cs)) (chunk_begin C) before_bytes here.before in
-        let taken = ap length (past_values start start (chunk_begin C) (filter (is_of s) (take i cs)) from before_bytes here.before) in
-        let size = length-drop (from - start) (values (filter (is_of s) (take i cs))) in
+        let before = run_length start first (filter (is_of s) (take i cs)) (chunk_begin C) before_bytes here.before in
+        let taken = ap length (past_values start first (chunk_begin C) (filter (is_of s) (take i cs)) from before_bytes here.before) in
+        let size = length-drop (from - first) (values (filter (is_of s) (take i cs))) in
         let own = length-drop (from - chunk_begin C) C.value in
         let more = ap length (past_one is) in
         let both = length-append (past_in from s (take i cs)) (past_of from C) in
@@ -274,7 +274,7 @@ module _ (v : Sight) (files : List (List ℕ)) (heads : List Head) (cs : List Ch
               let rest = length-drop (i + 1) cs in
               let in_rest : k - (i + 1) < length (drop (i + 1) cs) = omega (arith, past, low_k, rest) in
               let there = each_index (λ (d : Chunk). is_of e.stream d ≡ true → chunk_end D ≤ chunk_begin d) (drop (i + 1) cs)
-              (later_begin cs i few from e.stream e.start e.end runs.bytes runs.run of_it) (k - (i + 1)) in_rest no_chunk in
+              (later_begin cs i few from e.stream e.start runs.first e.end runs.bytes runs.run of_it) (k - (i + 1)) in_rest no_chunk in
               let same = dropped cs (i + 1) k past in
               let begins : chunk_end D ≤ chunk_begin (slice_index_or cs k no_chunk) =
               subst (λ (d : Chunk). is_of e.stream d ≡ true → chunk_end D ≤ chunk_begin d) (sym same) there
@@ -290,7 +290,7 @@ module _ (v : Sight) (files : List (List ℕ)) (heads : List Head) (cs : List Ch
           ends =
               let end = seq_is i low in
               let past : from < chunk_end D = let q = ltb-true from (head_in heads i).key.seq parts.1 in omega (arith, end, q) in
-              end ∙ (ends_with cs i few from e.stream e.start e.end runs.bytes runs.run of_it runs.from_on past
+              end ∙ (ends_with cs i few from e.stream e.start runs.first e.end runs.bytes runs.run of_it runs.from_on past
               ∙ ap (λ l. from + length l) is_past);
           alone = λ at below.
               back_same heads e.stream at (i + 1) (length heads) (omega (arith, low)) (λ k past high. later k past high at below);

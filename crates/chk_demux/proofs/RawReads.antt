@@ -1,9 +1,9 @@
 -- What the reads of a run lead to, whatever was told before.
-use Rattle.std.proofs.Common.{◌≡◌, ℕ, zero, suc, ◌+◌, ◌<◌, false, List, [], ◌∷◌, ◌++◌, length, map, Option, Some, None, Ok, Err, Result, refl, sym, subst, ◌∙◌, ap, ap₂, arith, inl, inr}
-use Rattle.std.specs.Prelude.{Contains, IfErr, IsTrue, codes, bytes_eq, slice_index_or}
+use Rattle.std.proofs.Common.{◌≡◌, ℕ, ◌<◌, false, List, [], ◌∷◌, ◌++◌, length, Option, Some, None, Ok, Err, Result, refl, sym, subst, ◌∙◌, arith, inl, inr}
+use Rattle.std.specs.Prelude.{drop, Contains, IfErr, IsTrue, codes, slice_index_or}
 use Rattle.std.proofs.lemmas.Option.{same_Some}
 use Rattle.std.proofs.lemmas.List.{append_cancel_right}
-use Rattle.std.proofs.lemmas.List.Elements.{Contains-append_left}
+use Rattle.std.proofs.lemmas.List.Elements.{Contains-append_left, Contains-get_or}
 use Rattle.chk_site.specs.declared.acts.OutsideFault.{OutsideFault}
 use Rattle.chk_site.specs.declared.acts.OutsideFault.TheVariants.{Outside as site_failed, NoMemory as no_memory}
 use Rattle.chk_site.specs.Acts.{Deed, touches}
@@ -15,48 +15,38 @@ use Rattle.chk_site.specs.Runs.{anyhow, Leads}
 use Rattle.chk_site.proofs.Runs.{adds_as}
 use Rattle.chk_site.proofs.Leads.{leads_as, leads_then, owned_anyhow}
 use Rattle.chk_replace.specs.Load.{Has}
-use Rattle.chk_chunk.specs.Keys.{Chunk, chunk_limit}
-use Rattle.chk_world.specs.ArchiveRuns.{in_order}
-use Rattle.chk_world.specs.Books.{Segment, Book, AllChunks, book_in, chunks_within, ends_rise}
-use Rattle.chk_world.specs.TrueBooks.{HasBytes}
+use Rattle.chk_chunk.specs.Keys.{Chunk}
+use Rattle.chk_world.specs.Books.{Book, book_in, ends_rise}
 use Rattle.chk_world.specs.Jobs.{segment_list}
 use Rattle.chk_world.specs.JobSteps.{IsOf, ReadsFile, SparesFile, WritesTo, removes, creates, appends, syncs}
-use Rattle.chk_world.specs.Names.{ArchiveFolder, SegmentFile, read, spell}
 use Rattle.chk_world.specs.Sight.{Sight}
-use Rattle.chk_world.proofs.Each.{Each, each_at, later_one}
-use Rattle.chk_world.proofs.BooksTrue.{each_flat, each_within}
-use Rattle.chk_world.proofs.NameLemmas.{read-spell}
+use Rattle.chk_world.proofs.Each.{later_one}
 use Rattle.chk_world.proofs.Segments.{counts_in, none_in}
-use Rattle.chk_heads.specs.Heads.{Head, heads_in}
-use Rattle.chk_heads.specs.Order.{no_head, in_head_order}
-use Rattle.chk_heads.specs.Pieces.{bytes_in}
+use Rattle.chk_heads.specs.Heads.{Head}
+use Rattle.chk_heads.specs.Order.{no_head}
 use Rattle.chk_heads.specs.Faults.{job_fault, IsOfRead, IsOfWrite}
 use Rattle.chk_heads.specs.declared.fault.JobFault.{JobFault}
 use Rattle.chk_heads.specs.declared.fault.JobFault.TheVariants.{Outside, Damaged, Spent, NoMemory}
 use Rattle.chk_book.specs.Books.{book_view}
-use Rattle.chk_book.specs.Folders.{segment_name}
 use Rattle.chk_book.specs.Loaded.{LoadedBook, IsBookOf, book_result, file_bytes}
 use Rattle.chk_book.specs.declared.book.Book.{Book as Struct}
-use Rattle.chk_merge.specs.Segments.{names_of, chunks_in_files, HasFiles, SparesFiles, AreSettled, IsSound, heads_from}
-use Rattle.chk_merge.specs.Merging.{SoundHeads, AreApart}
+use Rattle.chk_merge.specs.Segments.{names_of, HasFiles, SparesFiles, AreSettled}
+use Rattle.chk_merge.specs.Merging.{AreApart}
 use Rattle.chk_merge.specs.ReadBack.{value_held}
 use Rattle.chk_merge.specs.declared.reader.RecordReader.{RecordReader}
 use Rattle.chk_merge.proofs.Frames.{reads_quiet, stays_so, spares_one, among}
 use Rattle.chk_parts.specs.Cuts.{no_chunk}
-use Rattle.chk_parts.specs.Gathering.{held as known_file, held_at, CanBeRead, own_segment, IsSoundFile, AreSound, heads_of}
-use Rattle.chk_parts.specs.Records.{IsRecordOf, AreRecords, chunks_held, found_in}
+use Rattle.chk_parts.specs.Gathering.{held as known_file, AreSound}
+use Rattle.chk_parts.specs.Records.{IsRecordOf, AreRecords}
+use Rattle.chk_plan.specs.Passes.{head_in}
 use Rattle.chk_parts.specs.Fetching.{head_file, IsRecordAt, AreWindows, CanFetch, Fetched}
 use Rattle.chk_parts.proofs.CutLists.{zip_at}
-use Rattle.chk_parts.proofs.Fetches.{one_of_files}
-use Rattle.chk_parts.proofs.FoundRecords.{records_in_order}
-use Rattle.chk_parts.proofs.OneSegment.{segment_spelled}
 use Rattle.chk_demux.specs.Beginning.{Begins, starts, only_reads}
-use Rattle.chk_demux.specs.Damage.{archive_name, demux_name, archive_book, reads_of, RunsAll, no_archive_book, no_demux_book, bad_records, LoadedBooks, HasCounts, AreRead, ReadsOn, NotDamaged, SplitSoundly, RanSoundly, ReadAll}
-use Rattle.chk_demux.specs.Due.{HasDue, IsDueIn}
+use Rattle.chk_demux.specs.Damage.{archive_name, demux_name, archive_book, with_books, reads_of, reads_from, no_book, BooksAlone, no_archive_book, no_demux_book, bad_records, LoadedBooks, HasCounts, AreRead, AreOfNew, ReadsOn, NotDamaged, SplitSoundly, RanSoundly, ReadAll}
+use Rattle.chk_demux.specs.Due.{IsDueFrom, IsDueIn}
+use Rattle.chk_demux.specs.Enough.{RunsFrom, IsEnoughFrom}
 use Rattle.chk_demux.specs.Shown.{PutsIf}
-use Rattle.chk_demux.specs.Splitting.{StreamsRise}
-use Rattle.chk_demux.proofs.Due.{order_bytes, book_rises}
-use Rattle.chk_demux.proofs.HeadsInOrder.{streams_rise}
+use Rattle.chk_demux.proofs.Due.{book_rises}
 use Rattle.chk_demux.specs.declared.beginning.Books.{Books}
 
 -- ---- frames
@@ -151,15 +141,15 @@ quiet_writes names s apart call syncs w one = apart w one
 -- ---- one record, and several
 
 module _ (v : Sight) (files : List (List ℕ)) (heads : List Head) (cs : List Chunk) (records : AreRecords v files heads cs)
-    (settled : AreSettled files (known_file v)) where
+    (ws : List (List ℕ)) (within : AreOfNew files heads ws) (settled : AreSettled ws (known_file v)) where
   abbrev Sp' : History → Step → Type 0
-  Sp' = SparesFiles files
+  Sp' = SparesFiles ws
 
   abbrev Hs' : History → Type 0
-  Hs' = HasFiles files (known_file v)
+  Hs' = HasFiles ws (known_file v)
 
   abbrev pub On : RecordReader → History → Type 0
-  On r h = AreRead v files r h
+  On r h = AreRead v ws files r h
 
   abbrev pub With : RecordReader → Type 0 → History → Type 0
   With r X h = On r h × X
@@ -181,7 +171,7 @@ module _ (v : Sight) (files : List (List ℕ)) (heads : List Head) (cs : List Ch
     fetched : Adds old mid (Leads (anyhow Sp') (On r) (λ h. Hs' h × Fetched v files heads i D t result h))
     fetched =
         adds_as (Leads (anyhow Sp') (On r) (λ h. Hs' h × Fetched v files heads i D t result h))
-        (among files (known_file v) W settled (one_of_files v files heads i D records.sound is)
+        (among ws (known_file v) W settled (within (head_in heads i) (Contains-get_or heads i no_head low))
         (adds_as (Leads (anyhow (SparesFile W)) (Has W (known_file v W))
         (λ h. AreWindows v files r → Fetched v files heads i D t result h)) (raw v D records.sound is)
         (λ added history l. record { leads = λ others h x. l.leads others (h, x); own = owned_anyhow added history })) own)
@@ -191,12 +181,12 @@ module _ (v : Sight) (files : List (List ℕ)) (heads : List Head) (cs : List Ch
         })
 
     pub fetch_refused : (U X Y : Type 0) (other : RecordReader) (fault : JobFault) → result ≡ Err fault
-        → Adds old mid (Leads (anyhow Sp') (With r X) (ReadsOn {T = U} v files other Y (Err fault)))
+        → Adds old mid (Leads (anyhow Sp') (With r X) (ReadsOn {T = U} v ws files other Y (Err fault)))
     fetch_refused U X Y other fault bad =
         leads_as (λ h z. z.0) (λ h z. go fault h (subst (λ x. Fetched v files heads i D t x h) bad z.1)) fetched
       where
         go : (fault : JobFault) (h : History) → Fetched v files heads i D t (Err fault) h
-            → ReadsOn {T = U} v files other Y (Err fault) h
+            → ReadsOn {T = U} v ws files other Y (Err fault) h
         go (Outside call) h z = tt
         go (Damaged name at) h z = z
         go (Spent n) h z = tt
@@ -211,14 +201,14 @@ module _ (v : Sight) (files : List (List ℕ)) (heads : List Head) (cs : List Ch
         ((z.0.0, y.0), (y.1, z.1))) (beside X fetched)
 
   -- what is written leaves the files
-  pub written_on : (s : List ℕ) → AreApart files s → (t : RecordReader) (X Y : Type 0)
+  pub written_on : (s : List ℕ) → AreApart ws s → (t : RecordReader) (X Y : Type 0)
       (q : Result (Unit {0}) JobFault) → IfErr q IsOfWrite
       → ((value : Unit {0}) → q ≡ Ok value → X → Y)
       → {mid new : Option History} → Adds mid new (Every (IsOf (WritesTo s)))
-      → Adds mid new (Leads (anyhow Sp') (With t X) (ReadsOn v files t Y q))
+      → Adds mid new (Leads (anyhow Sp') (With t X) (ReadsOn v ws files t Y q))
   written_on s apart t X Y q only then own =
-      adds_as (Leads (anyhow Sp') (With t X) (ReadsOn v files t Y q))
-      (files_stay (WritesTo s) files (known_file v) (quiet_writes files s apart) settled own)
+      adds_as (Leads (anyhow Sp') (With t X) (ReadsOn v ws files t Y q))
+      (files_stay (WritesTo s) ws (known_file v) (quiet_writes ws s apart) settled own)
       (λ added history x. record {
         leads = λ o h. go q only then (added ++ history) (x.leads o h.0.0, h.0.1) h.1;
         own = owned_anyhow added history;
@@ -226,7 +216,7 @@ module _ (v : Sight) (files : List (List ℕ)) (heads : List Head) (cs : List Ch
     where
       go : (q : Result (Unit {0}) JobFault) → IfErr q IsOfWrite
           → ((value : Unit {0}) → q ≡ Ok value → X → Y) → (h : History) → On t h → X
-          → ReadsOn v files t Y q h
+          → ReadsOn v ws files t Y q h
       go (Ok value) only then h on x = (on, then value refl x)
       go (Err (Outside call)) only then h on x = tt
       go (Err (Damaged name at)) only then h on x = absurd only
@@ -236,13 +226,13 @@ module _ (v : Sight) (files : List (List ℕ)) (heads : List Head) (cs : List Ch
   -- a refusal is one of what follows too, and what was done is what follows begins with
   pub on_refused : {T : Type 0} (U Y Z : Type 0) (t other : RecordReader) (q : Result T JobFault)
       (fault : JobFault) → q ≡ Err fault → {B : History → Type 0} {old new : Option History}
-      → Adds old new (Leads (anyhow Sp') B (ReadsOn v files t Y q))
-      → Adds old new (Leads (anyhow Sp') B (ReadsOn {T = U} v files other Z (Err fault)))
+      → Adds old new (Leads (anyhow Sp') B (ReadsOn v ws files t Y q))
+      → Adds old new (Leads (anyhow Sp') B (ReadsOn {T = U} v ws files other Z (Err fault)))
   on_refused {T = T} U Y Z t other q fault bad told =
-      leads_as (λ h z. z) (λ h z. go fault h (subst (λ x. ReadsOn v files t Y x h) bad z)) told
+      leads_as (λ h z. z) (λ h z. go fault h (subst (λ x. ReadsOn v ws files t Y x h) bad z)) told
     where
-      go : (fault : JobFault) (h : History) → ReadsOn {T = T} v files t Y (Err fault) h
-          → ReadsOn {T = U} v files other Z (Err fault) h
+      go : (fault : JobFault) (h : History) → ReadsOn {T = T} v ws files t Y (Err fault) h
+          → ReadsOn {T = U} v ws files other Z (Err fault) h
       go (Outside call) h z = tt
       go (Damaged name at) h z = z
       go (Spent n) h z = tt
@@ -250,199 +240,35 @@ module _ (v : Sight) (files : List (List ℕ)) (heads : List Head) (cs : List Ch
 
   pub on_done : {T : Type 0} (Y : Type 0) (t : RecordReader) (q : Result T JobFault) (value : T)
       → q ≡ Ok value → {B : History → Type 0} {old new : Option History}
-      → Adds old new (Leads (anyhow Sp') B (ReadsOn v files t Y q))
+      → Adds old new (Leads (anyhow Sp') B (ReadsOn v ws files t Y q))
       → Adds old new (Leads (anyhow Sp') B (With t Y))
   on_done Y t q value good told =
-      leads_as (λ h z. z) (λ h z. subst (λ x. ReadsOn v files t Y x h) good z) told
+      leads_as (λ h z. z) (λ h z. subst (λ x. ReadsOn v ws files t Y x h) good z) told
 
   -- of all streams
   pub none_damaged : {T : Type 0} (U Y Z : Type 0) (t : RecordReader) (q : Result T JobFault)
       (fault : JobFault) → q ≡ Err fault → {old new : Option History}
-      → Adds old new (Leads (anyhow Sp') Hs' (ReadsOn v files t Y q))
+      → Adds old new (Leads (anyhow Sp') Hs' (ReadsOn v ws files t Y q))
       → Adds old new (Leads (anyhow Sp') Hs' (NotDamaged {T = U} Z (Err fault)))
   none_damaged {T = T} U Y Z t q fault bad told =
-      leads_as (λ h z. z) (λ h z. go fault h (subst (λ x. ReadsOn v files t Y x h) bad z)) told
+      leads_as (λ h z. z) (λ h z. go fault h (subst (λ x. ReadsOn v ws files t Y x h) bad z)) told
     where
-      go : (fault : JobFault) (h : History) → ReadsOn {T = T} v files t Y (Err fault) h
+      go : (fault : JobFault) (h : History) → ReadsOn {T = T} v ws files t Y (Err fault) h
           → NotDamaged {T = U} Z (Err fault) h
       go (Outside call) h z = tt
       go (Damaged name at) h z = z
       go (Spent n) h z = tt
       go NoMemory h z = tt
 
--- ---- the records
-
--- bytes that aren't there are of no chunks
-none_is_some : (x : ℕ) (xs : List ℕ) → [] ≡ x ∷ xs → ⊥
-none_is_some x xs e = cc
-
-no_chunks : (most : ℕ) → AllChunks most [] → ⊥
-no_chunks most all =
-    none_is_some _ _ (all.form.is ∙ ap (λ l. l ++ all.form.entries) all.form.header.is)
-
--- the job that knows just these files
-abbrev sight_of : Files → Sight
-sight_of files = record { listing = None; own = λ n. files (spell n); sinks = λ x. None }
-
-module _ (b : Book) (files : Files) (settled : AreSettled (names_of (codes "archive") b) files) (counts : HasCounts b) where
-  abbrev Names : List (List ℕ)
-  Names = names_of (codes "archive") b
-
-  abbrev V : Sight
-  V = sight_of files
-
-  module _ (g : Segment) (one : Contains b.segments g) where
-    abbrev Q : List ℕ
-    Q = segment_name (codes "archive") g.number
-
-    reads_it : read Q ≡ SegmentFile ArchiveFolder g.number
-    reads_it = ap read (segment_spelled g.number) ∙ read-spell (SegmentFile ArchiveFolder g.number) (counts g one)
-
-    held_it : known_file V Q ≡ files Q
-    held_it = ap (held_at V) reads_it ∙ ap files (sym (segment_spelled g.number))
-
-    sound_it : IsSmallFile (files Q) → AllChunks chunk_limit (bytes_in (files Q)) → IsSoundFile V Q
-    sound_it small all = go (files Q) refl all
-      where
-        go : (o : Option File) → files Q ≡ o → AllChunks chunk_limit (bytes_in o) → IsSoundFile V Q
-        go None e all = absurd (no_chunks chunk_limit all)
-        go (Some f) e all = record {
-          can = subst (CanBeRead V) (sym reads_it) (own_segment g.number (counts g one));
-          file = f;
-          there = held_it ∙ e;
-          chunks = all;
-          small = subst IsSmallFile (sym held_it) small;
-        }
-
-  -- of each name
-  of_name : (P : List ℕ → Type 0) → ((g : Segment) → Contains b.segments g → P (segment_name (codes "archive") g.number))
-      → (w : List ℕ) → Contains Names w → P w
-  of_name P each w one = go b.segments (λ g k. k) one
-    where
-      go : (gs : List Segment) → ((g : Segment) → Contains gs g → Contains b.segments g)
-          → Contains (map (λ (g : Segment). segment_name (codes "archive") g.number) gs) w → P w
-      go [] of k = absurd (none_in w k)
-      go (g ∷ gs) of (zero, low, is) = subst P is (each g (of g (0, omega arith, refl)))
-      go (g ∷ gs) of (suc k, low, is) = go gs (λ f m. of f (later_one g gs f m)) (k, omega (arith, low), is)
-
-  pub held_same : (w : List ℕ) → Contains Names w → known_file V w ≡ files w
-  held_same w one = of_name (λ w. known_file V w ≡ files w) held_it w one
-
-  named : (g : Segment) → Contains b.segments g → Contains Names (segment_name (codes "archive") g.number)
-  named g one = go b.segments one
-    where
-      go : (gs : List Segment) → Contains gs g
-          → Contains (map (λ (x : Segment). segment_name (codes "archive") x.number) gs) (segment_name (codes "archive") g.number)
-      go [] k = absurd (none_in g k)
-      go (x ∷ gs) (zero, low, is) = (0, omega arith, ap (λ (y : Segment). segment_name (codes "archive") y.number) is)
-      go (x ∷ gs) (suc k, low, is) =
-          later_one (segment_name (codes "archive") x.number)
-          (map (λ (y : Segment). segment_name (codes "archive") y.number) gs) (segment_name (codes "archive") g.number)
-          (go gs (k, omega (arith, low), is))
-
-  sound_all : RunsAll b files → AreSound V Names
-  sound_all x w one =
-      of_name (IsSoundFile V)
-      (λ g k.
-      let n = named g k in
-      sound_it g k (settled (segment_name (codes "archive") g.number) n).1
-      (each_at (IsSound chunk_limit files) Names (segment_name (codes "archive") g.number) x.sound n)) w one
-
-  apart : (k : ℕ) → AreApart Names (segment_name (codes "demux") k)
-  apart k w one = of_name (λ w. bytes_eq w (segment_name (codes "demux") k) ≡ false) (λ g m. refl) w one
-
-  heads_alike : (n : ℕ) (ws : List (List ℕ)) → ((w : List ℕ) → Contains ws w → known_file V w ≡ files w)
-      → heads_from chunk_limit files n ws ≡ heads_of V n ws
-  heads_alike n [] same = refl
-  heads_alike n (w ∷ ws) same =
-      ap₂ (λ o l. heads_in chunk_limit n (bytes_in o) ++ l) (sym (same w (0, omega arith, refl)))
-      (heads_alike (n + 1) ws (λ x one. same x (later_one w ws x one)))
-
-  records_of : RunsAll b files → (heads : List Head) → heads ≡ in_head_order (heads_from chunk_limit files 0 Names)
-      → AreRecords V Names heads (in_order (found_in V Names))
-  records_of x heads is =
-      subst (λ hs. AreRecords V Names hs (in_order (found_in V Names)))
-      (sym (is ∙ ap in_head_order (heads_alike 0 Names held_same))) (records_in_order V Names (sound_all x))
-
-  settled_v : AreSettled Names (known_file V)
-  settled_v w one = subst (λ o. IsSettled o × IsSmallFile o) (sym (held_same w one)) (settled w one)
-
-  abbrev Found : List Head → Type 0
-  Found heads = RunsAll b files × (heads ≡ in_head_order (heads_from chunk_limit files 0 Names))
-
-  chunks_alike : (ws : List (List ℕ)) → ((w : List ℕ) → Contains ws w → known_file V w ≡ files w)
-      → found_in V ws ≡ chunks_in_files chunk_limit files ws
-  chunks_alike [] same = refl
-  chunks_alike (w ∷ ws) same =
-      ap₂ (λ o l. chunks_within chunk_limit (bytes_in o) ++ l) (same w (0, omega arith, refl))
-      (chunks_alike ws (λ x one. same x (later_one w ws x one)))
-
-  has_bytes : Each HasBytes (in_order (found_in V Names))
-  has_bytes =
-      order_bytes (found_in V Names)
-      (each_flat HasBytes (chunks_held V) Names
-      (λ w. each_within chunk_limit (bytes_in (known_file V w))))
-
-  module _ (types : List (List ℕ)) (records : Book) (m n : ℕ) where
-    abbrev Puts : Type 0
-    Puts = PutsIf (HasDue types b records (in_order (found_in V Names))) m n
-
-    soundly : (q : Result ℕ JobFault) → RunsAll b files → (h : History) → NotDamaged Puts q h
-        → SplitSoundly types b records files m n q h
-    soundly (Ok left) x h puts = (
-      x,
-      subst (λ cs. PutsIf (HasDue types b records (in_order cs)) m n) (chunks_alike Names held_same) puts,
-    )
-    soundly (Err (Outside call)) x h puts = tt
-    soundly (Err (Damaged name at)) x h puts = absurd puts
-    soundly (Err (Spent k)) x h puts = tt
-    soundly (Err NoMemory) x h puts = tt
-
-  module _ (types : List (List ℕ)) (records : Book) (m n : ℕ) (r : Result (List Head) JobFault)
-      {old mid : Option History}
-      (told : Adds old mid (Leads (anyhow (SparesFiles Names)) (HasFiles Names files) (SoundHeads (codes "archive") b files r))) where
-    pub heads_refused : (fault : JobFault) → r ≡ Err fault
-        → Adds old mid (Leads (anyhow (SparesFiles Names)) (HasFiles Names files)
-        (SplitSoundly types b records files m n (Err fault)))
-    heads_refused fault is =
-        leads_as (λ h z. z) (λ h z. go fault h (subst (λ x. SoundHeads (codes "archive") b files x h) is z)) told
-      where
-        go : (fault : JobFault) (h : History) → SoundHeads (codes "archive") b files (Err fault) h
-            → SplitSoundly types b records files m n (Err fault) h
-        go (Outside call) h z = tt
-        go (Damaged name at) h z = z
-        go (Spent n) h z = tt
-        go NoMemory h z = tt
-
-    pub heads_read : (heads : List Head) → r ≡ Ok heads → (ns : List (List ℕ)) → ns ≡ Names → (k : ℕ)
-        → (q : Result ℕ JobFault) {P : History → History → Type 0} {new : Option History} → Adds mid new P
-        → ((v : Sight) (cs : List Chunk) → AreRecords v ns heads cs → Each HasBytes cs
-        → AreSettled ns (known_file v) → AreApart ns (segment_name (codes "demux") k) → StreamsRise heads
-        → Adds mid new (Leads (anyhow (SparesFiles ns)) (HasFiles ns (known_file v))
-        (NotDamaged (PutsIf (HasDue types b records cs) m n) q)))
-        → Adds old new (Leads (anyhow (SparesFiles Names)) (HasFiles Names files)
-        (SplitSoundly types b records files m n q))
-    heads_read heads is ns are k q {new = new} made raw =
-        leads_then
-        (leads_as {B' = λ h. Found heads × HasFiles Names files h} (λ h z. z)
-        (λ h z.
-        let y = subst (λ x. SoundHeads (codes "archive") b files x h) is z in
-        ((record { sound = y.1; well = y.2 }, y.3), y.0)) told)
-        (given (Found heads) made (λ x.
-        leads_as (λ h z w one. z w one ∙ sym (held_same w one))
-        (λ h z. soundly types records m n q x.0 h z)
-        (subst (λ (ws : List (List ℕ)). AreRecords V ws heads (in_order (found_in V Names))
-        → Each HasBytes (in_order (found_in V Names)) → AreSettled ws (known_file V)
-        → AreApart ws (segment_name (codes "demux") k) → StreamsRise heads
-        → Adds mid new (Leads (anyhow (SparesFiles ws)) (HasFiles ws (known_file V))
-        (NotDamaged (Puts types records m n) q))) are
-        (raw V (in_order (found_in V Names))) (records_of x.0 heads x.1) has_bytes settled_v (apart k)
-        (subst StreamsRise (sym x.1) (streams_rise (heads_from chunk_limit files 0 Names))))))
+-- ---- the split, and what is entered behind it
 
 module _ (types : List (List ℕ)) (b records : Book) (files : Files) (m n : ℕ) (r : Result ℕ JobFault)
     {old mid : Option History}
     (told : Adds old mid (Leads (anyhow (SparesFiles (names_of (codes "archive") b))) (HasFiles (names_of (codes "archive") b) files)
     (SplitSoundly types b records files m n r))) where
+  abbrev Runs : Type 0
+  Runs = (first : ℕ) × RunsFrom b records files first
+
   abbrev Ran : {U : Type 0} → Option History → Result U JobFault → Type 0
   Ran new q =
       Adds old new (Leads (anyhow (SparesFiles (names_of (codes "archive") b)))
@@ -467,26 +293,29 @@ module _ (types : List (List ℕ)) (b records : Book) (files : Files) (m n : ℕ
       → Ran {U = U} mid (Err (Spent k))
   split_spent U left is none some k =
       leads_as (λ h z. z)
-      (λ h z. go (subst (λ x. SplitSoundly types b records files m n x h) is z).1) told
+      (λ h z.
+      let y = subst (λ x. SplitSoundly types b records files m n x h) is z in
+      go y.0 y.1 y.2) told
     where
-      go : PutsIf (IsDueIn types b records files) m n → IsDueIn types b records files
-      go (inl same) = absurd (let z : ⊥ = omega (arith, same, none, some) in z)
-      go (inr due) = due
+      go : (first : ℕ) → RunsFrom b records files first
+          → PutsIf (IsDueFrom types b records files first) m n → IsDueIn types b records files
+      go first runs (inl same) = absurd (let z : ⊥ = omega (arith, same, none, some) in z)
+      go first runs (inr due) = (first, runs, due)
 
   pub split_on : {U : Type 0} (left : ℕ) → r ≡ Ok left → (q : Result U JobFault) → IfErr q IsOfWrite
       → {P : History → History → Type 0} {new : Option History} → Adds mid new P → Ran new q
   split_on {U = U} left is q only second =
       leads_then
-      (leads_as {B' = λ h. RunsAll b files} (λ h z. z)
-      (λ h z. (subst (λ x. SplitSoundly types b records files m n x h) is z).0) told)
-      (adds_as (Leads (anyhow (SparesFiles (names_of (codes "archive") b))) (λ h. RunsAll b files)
+      (leads_as {B' = λ h. Runs} (λ h z. z)
+      (λ h z. let y = subst (λ x. SplitSoundly types b records files m n x h) is z in (y.0, y.1)) told)
+      (adds_as (Leads (anyhow (SparesFiles (names_of (codes "archive") b))) (λ h. Runs)
       (RanSoundly types b records files q)) second
       (λ added history p. record {
         leads = λ s x. go q only x (added ++ history);
         own = owned_anyhow added history;
       }))
     where
-      go : (q : Result U JobFault) → IfErr q IsOfWrite → RunsAll b files → (h : History)
+      go : (q : Result U JobFault) → IfErr q IsOfWrite → Runs → (h : History)
           → RanSoundly types b records files q h
       go (Ok value) only x h = x
       go (Err (Outside call)) only x h = tt
@@ -494,15 +323,59 @@ module _ (types : List (List ℕ)) (b records : Book) (files : Files) (m n : ℕ
       go (Err (Spent n)) only x h = absurd only
       go (Err NoMemory) only x h = tt
 
+-- ---- the same where nothing is damaged
+
+pub clear_refused : {S : History → Step → Type 0} {B : History → Type 0} (T U : Type 0)
+    (r : Result T JobFault)
+    (fault : JobFault) → r ≡ Err fault → {old mid : Option History}
+    → Adds old mid (Leads (anyhow S) B (NotDamaged (Unit {0}) r))
+    → Adds old mid (Leads (anyhow S) B (NotDamaged {T = U} (Unit {0}) (Err fault)))
+clear_refused T U r fault is told =
+    leads_as (λ h z. z) (λ h z. go fault h (subst (λ x. NotDamaged (Unit {0}) x h) is z)) told
+  where
+    go : (fault : JobFault) (h : History) → NotDamaged {T = T} (Unit {0}) (Err fault) h
+        → NotDamaged {T = U} (Unit {0}) (Err fault) h
+    go (Outside call) h z = tt
+    go (Damaged name at) h z = z
+    go (Spent n) h z = tt
+    go NoMemory h z = tt
+
+pub clear_spent : {S : History → Step → Type 0} {B : History → Type 0} (T U : Type 0)
+    (r : Result T JobFault)
+    (k : ℕ) {old mid : Option History} → Adds old mid (Leads (anyhow S) B (NotDamaged (Unit {0}) r))
+    → Adds old mid (Leads (anyhow S) B (NotDamaged {T = U} (Unit {0}) (Err (Spent k))))
+clear_spent T U r k told = leads_as (λ h z. z) (λ h z. tt) told
+
+pub clear_on : {S : History → Step → Type 0} {B : History → Type 0} {T U : Type 0}
+    (r : Result T JobFault)
+    (q : Result U JobFault) → IfErr q IsOfWrite → {P : History → History → Type 0}
+    {old mid new : Option History}
+    → Adds old mid (Leads (anyhow S) B (NotDamaged (Unit {0}) r)) → Adds mid new P
+    → Adds old new (Leads (anyhow S) B (NotDamaged (Unit {0}) q))
+clear_on {S = S} {U = U} r q only told second =
+    leads_then (leads_as {B' = λ h. Unit {0}} (λ h z. z) (λ h z. tt) told)
+    (adds_as (Leads (anyhow S) (λ h. Unit {0}) (NotDamaged (Unit {0}) q)) second
+    (λ added history p. record {
+      leads = λ s x. go q only (added ++ history);
+      own = owned_anyhow added history;
+    }))
+  where
+    go : (q : Result U JobFault) → IfErr q IsOfWrite → (h : History) → NotDamaged (Unit {0}) q h
+    go (Ok value) only h = tt
+    go (Err (Outside call)) only h = tt
+    go (Err (Damaged name at)) only h = absurd only
+    go (Err (Spent n)) only h = absurd only
+    go (Err NoMemory) only h = tt
+
 -- ---- the books
 
 quiet_begins : (call : Deed) → Begins call → (w : List ℕ) → touches call w ≡ false
 quiet_begins call starts w = refl
 quiet_begins call (only_reads c k) w = reads_quiet w c k
 
-module _ (held : Files) (settled : AreSettled (reads_of held) held) where
+module _ (held : Files) (names : List (List ℕ)) (settled : AreSettled (with_books names) held) where
   abbrev All : List (List ℕ)
-  All = reads_of held
+  All = with_books names
 
   abbrev Sp : History → Step → Type 0
   Sp = SparesFiles All
@@ -527,12 +400,12 @@ module _ (held : Files) (settled : AreSettled (reads_of held) held) where
   started own = files_stay Begins All held (λ call k w one. quiet_begins call k w) settled own
 
   pub not_started : (fault : OutsideFault) {P : History → History → Type 0} {old mid : Option History} → Adds old mid P
-      → Adds old mid (Leads (anyhow Sp) Hs (LoadedBooks held (Err (job_fault fault))))
+      → Adds old mid (Leads (anyhow Sp) Hs (LoadedBooks names held (Err (job_fault fault))))
   not_started fault told =
-      adds_as (Leads (anyhow Sp) Hs (LoadedBooks held (Err (job_fault fault)))) told
+      adds_as (Leads (anyhow Sp) Hs (LoadedBooks names held (Err (job_fault fault)))) told
       (λ added history p. record { leads = λ s h. go fault (added ++ history); own = owned_anyhow added history })
     where
-      go : (fault : OutsideFault) (h : History) → LoadedBooks held (Err (job_fault fault)) h
+      go : (fault : OutsideFault) (h : History) → LoadedBooks names held (Err (job_fault fault)) h
       go (site_failed call) h = tt
       go no_memory h = tt
 
@@ -548,11 +421,12 @@ module _ (held : Files) (settled : AreSettled (reads_of held) held) where
     loaded = leads_then begun (among All held archive_name settled a_in raw own)
 
     pub archive_refused : (fault : JobFault) → r ≡ Err fault
-        → Adds old m (Leads (anyhow Sp) Hs (LoadedBooks held (Err fault)))
+        → Adds old m (Leads (anyhow Sp) Hs (LoadedBooks names held (Err fault)))
     archive_refused fault is = leads_as (λ h z. z) (λ h z. go fault h (subst (λ x. First x h) is z).1) loaded
       where
         go : (fault : JobFault) (h : History)
-            → LoadedBook (codes "archive") (held archive_name) (book_result (Err fault)) h → LoadedBooks held (Err fault) h
+            → LoadedBook (codes "archive") (held archive_name) (book_result (Err fault)) h
+            → LoadedBooks names held (Err fault) h
         go (Outside call) h z = tt
         go (Damaged name at) h z = no_archive_book z.0 z.1
         go (Spent n) h z = tt
@@ -587,18 +461,20 @@ module _ (held : Files) (settled : AreSettled (reads_of held) held) where
           }))
 
       pub demux_refused : (fault : JobFault) → q ≡ Err fault
-          → Adds old new (Leads (anyhow Sp) Hs (LoadedBooks held (Err fault)))
+          → Adds old new (Leads (anyhow Sp) Hs (LoadedBooks names held (Err fault)))
       demux_refused fault bad = leads_as (λ h z. z) (λ h z. go fault h (subst (λ x. Second x h) bad z).2) both
         where
           go : (fault : JobFault) (h : History)
-              → LoadedBook (codes "demux") (held demux_name) (book_result (Err fault)) h → LoadedBooks held (Err fault) h
+              → LoadedBook (codes "demux") (held demux_name) (book_result (Err fault)) h
+              → LoadedBooks names held (Err fault) h
           go (Outside call) h z = tt
           go (Damaged name at) h z = no_demux_book z.0 z.1
           go (Spent n) h z = tt
           go NoMemory h z = tt
 
       pub books_loaded : (d : Struct) → q ≡ Ok d
-          → Adds old new (Leads (anyhow Sp) Hs (LoadedBooks held (Ok (record { archive = a; demux = d }))))
+          → Adds old new (Leads (anyhow Sp) Hs
+          (LoadedBooks names held (Ok (record { archive = a; demux = d }))))
       books_loaded d good =
           leads_as (λ h z. z)
           (λ h z.
@@ -618,12 +494,9 @@ module _ (held : Files) (settled : AreSettled (reads_of held) held) where
       counts_in (Some f) (record { whole = whole; book = book_in (Some f); is = so.0 }) g
       (Contains-append_left (book_in (Some f)).segments (segment_list (book_in (Some f)).aside) g one)
 
-  -- ---- the run
-
-  within : (w : List ℕ) → Contains (names_of (codes "archive") (archive_book held)) w → Contains All w
+  within : (w : List ℕ) → Contains names w → Contains All w
   within w one =
-      later_one archive_name (demux_name ∷ names_of (codes "archive") (archive_book held)) w
-      (later_one demux_name (names_of (codes "archive") (archive_book held)) w one)
+      later_one archive_name (demux_name ∷ names) w (later_one demux_name names w one)
 
   abbrev Known : Books → Type 0
   Known b =
@@ -631,50 +504,156 @@ module _ (held : Files) (settled : AreSettled (reads_of held) held) where
       × IsBookOf (file_bytes (held archive_name)) (archive_book held)
       × IsBookOf (file_bytes (held demux_name)) (book_in (held demux_name))
 
-  module _ (types : List (List ℕ)) (s : Result Books JobFault) {old mid : Option History}
-      (first : Adds old mid (Leads (anyhow Sp) Hs (LoadedBooks held s))) where
-    pub not_loaded : (U : Type 0) (fault : JobFault) → IsOfRead fault → s ≡ Err fault
-        → Adds old mid (Leads (anyhow Sp) Hs (ReadAll {T = U} types held (Err fault)))
-    not_loaded U fault only is =
-        leads_as (λ h z. z) (λ h z. go fault only h (subst (λ x. LoadedBooks held x h) is z)) first
-      where
-        go : (fault : JobFault) → IsOfRead fault → (h : History) → LoadedBooks held (Err fault) h
-            → ReadAll {T = U} types held (Err fault) h
-        go (Outside call) only h z = tt
-        go (Damaged name at) only h z = z
-        go (Spent n) only h z = absurd only
-        go NoMemory only h z = tt
+  -- what is done with both books
+  then_run : {C : History → Type 0} (b : Books) (s : Result Books JobFault) → s ≡ Ok b
+      → {Q : History → History → Type 0} {old mid new : Option History}
+      → Adds old mid (Leads (anyhow Sp) Hs (LoadedBooks names held s)) → Adds mid new Q
+      → (Known b → AreSettled names held → HasCounts (book_view b.archive)
+      → IsTrue (ends_rise (book_view b.archive).ends) → IsTrue (ends_rise (book_view b.demux).ends)
+      → Adds mid new (Leads (anyhow (SparesFiles names)) (HasFiles names held) C))
+      → Adds old new (Leads (anyhow Sp) Hs C)
+  then_run b s is first made raw =
+      leads_then
+      (leads_as (λ h z. z)
+      (λ h z.
+      let y = subst (λ x. LoadedBooks names held x h) is z in
+      ((y.is, y.records, y.archive, y.demux), y.same)) first)
+      (given (Known b) made
+      (λ k.
+      among_more All names held within
+      (raw k (λ w one. settled w (within w one))
+      (subst HasCounts (sym k.0) (counted (held archive_name) (settled archive_name a_in).0 k.2))
+      (subst (λ (x : Book). IsTrue (ends_rise x.ends)) (sym k.0)
+      (book_rises (file_bytes (held archive_name)) (archive_book held) k.2))
+      (subst (λ (x : Book). IsTrue (ends_rise x.ends)) (sym k.1)
+      (book_rises (file_bytes (held demux_name)) (book_in (held demux_name)) k.3)))))
 
-    pub all_read : {T : Type 0} (b : Books) → s ≡ Ok b → (r : Result T JobFault) {Q : History → History → Type 0}
-        {new : Option History} → Adds mid new Q
-        → (AreSettled (names_of (codes "archive") (book_view b.archive)) held → HasCounts (book_view b.archive)
-        → IsTrue (ends_rise (book_view b.demux).ends)
-        → Adds mid new (Leads (anyhow (SparesFiles (names_of (codes "archive") (book_view b.archive))))
-        (HasFiles (names_of (codes "archive") (book_view b.archive)) held)
-        (RanSoundly types (book_view b.archive) (book_view b.demux) held r)))
-        → Adds old new (Leads (anyhow Sp) Hs (ReadAll types held r))
-    all_read {T = T} b is r {new = new} made raw =
-        leads_then
-        (leads_as (λ h z. z)
-        (λ h z. let y = subst (λ x. LoadedBooks held x h) is z in ((y.is, y.records, y.archive, y.demux), y.same)) first)
-        (given (Known b) made (λ x. run x))
-      where
-        wholly : Known b → (r : Result T JobFault) (h : History)
-            → RanSoundly types (archive_book held) (book_view b.demux) held r h → ReadAll types held r h
-        wholly k (Ok value) h z = record { archive = k.2; demux = k.3; runs = z }
-        wholly k (Err (Outside call)) h z = tt
-        wholly k (Err (Damaged name at)) h d = bad_records d.0 d.1
-        wholly k (Err (Spent n)) h z = subst (λ (x : Book). IsDueIn types (archive_book held) x held) k.1 z
-        wholly k (Err NoMemory) h z = tt
+-- ---- the run
 
-        run : Known b → Adds mid new (Leads (anyhow Sp) Hs (ReadAll types held r))
-        run k =
-            let own : AreSettled (names_of (codes "archive") (archive_book held)) held = λ w one. settled w (within w one) in
-            among_more All (names_of (codes "archive") (archive_book held)) held within
-            (leads_as (λ h z. z) (λ h z. wholly k r h z)
-            (subst (λ (x : Book). Adds mid new (Leads (anyhow (SparesFiles (names_of (codes "archive") x)))
-            (HasFiles (names_of (codes "archive") x) held) (RanSoundly types x (book_view b.demux) held r))) k.0
-            (raw (subst (λ (x : Book). AreSettled (names_of (codes "archive") x) held) (sym k.0) own)
-            (subst HasCounts (sym k.0) (counted (held archive_name) (settled archive_name a_in).0 k.2))
-            (subst (λ (x : Book). IsTrue (ends_rise x.ends)) (sym k.1)
-            (book_rises (file_bytes (held demux_name)) (book_in (held demux_name)) k.3)))))
+module _ (held : Files) (settled : AreSettled (reads_of held) held) (types : List (List ℕ))
+    (s : Result Books JobFault) {old mid : Option History}
+    (first : Adds old mid (Leads (anyhow (SparesFiles (reads_of held)))
+    (HasFiles (reads_of held) held)
+    (LoadedBooks (names_of (codes "archive") (archive_book held)) held s))) where
+  abbrev Named : List (List ℕ)
+  Named = names_of (codes "archive") (archive_book held)
+
+  abbrev Ended : {T : Type 0} → Option History → Result T JobFault → Type 0
+  Ended new r =
+      Adds old new (Leads (anyhow (SparesFiles (reads_of held))) (HasFiles (reads_of held) held)
+      (ReadAll types held r))
+
+  pub not_loaded : (U : Type 0) (fault : JobFault) → IsOfRead fault → s ≡ Err fault
+      → Ended {T = U} mid (Err fault)
+  not_loaded U fault only is =
+      leads_as (λ h z. z) (λ h z. go fault only h
+      (subst (λ x. LoadedBooks Named held x h) is z)) first
+    where
+      go : (fault : JobFault) → IsOfRead fault → (h : History) → LoadedBooks Named held
+          (Err fault) h
+          → ReadAll {T = U} types held (Err fault) h
+      go (Outside call) only h z = tt
+      go (Damaged name at) only h z = no_book z
+      go (Spent n) only h z = absurd only
+      go NoMemory only h z = tt
+
+  pub all_read : {T : Type 0} (b : Books) → s ≡ Ok b → (r : Result T JobFault)
+      {Q : History → History → Type 0}
+      {new : Option History} → Adds mid new Q
+      → (AreSettled (names_of (codes "archive") (book_view b.archive)) held → HasCounts
+      (book_view b.archive)
+      → IsTrue (ends_rise (book_view b.archive).ends) → IsTrue (ends_rise (book_view b.demux).ends)
+      → Adds mid new (Leads (anyhow (SparesFiles
+      (names_of (codes "archive") (book_view b.archive))))
+      (HasFiles (names_of (codes "archive") (book_view b.archive)) held)
+      (RanSoundly types (book_view b.archive) (book_view b.demux) held r)))
+      → Ended new r
+  all_read {T = T} b is r {new = new} made raw =
+      then_run held Named settled b s is first made
+      (λ k own counts sorted rises.
+      leads_as (λ h z. z) (λ h z. wholly k r h z)
+      (subst (λ (x : Book). Adds mid new
+      (Leads (anyhow (SparesFiles (names_of (codes "archive") x)))
+      (HasFiles (names_of (codes "archive") x) held)
+      (RanSoundly types x (book_view b.demux) held r))) k.0
+      (raw (subst (λ (x : Book). AreSettled (names_of (codes "archive") x) held)
+      (sym k.0) own) counts sorted
+      rises)))
+    where
+      wholly : Known held Named settled b → (r : Result T JobFault) (h : History)
+          → RanSoundly types (archive_book held) (book_view b.demux) held r h
+          → ReadAll types held r h
+      wholly k (Ok value) h z = record {
+        archive = k.2;
+        demux = k.3;
+        first = z.0;
+        runs = subst (λ (x : Book). RunsFrom (archive_book held) x held z.0) k.1 z.1;
+      }
+      wholly k (Err (Outside call)) h z = tt
+      wholly k (Err (Damaged name at)) h d = bad_records d.0 d.1
+      wholly k (Err (Spent n)) h z = subst
+          (λ (x : Book). IsDueIn types (archive_book held) x held) k.1 z
+      wholly k (Err NoMemory) h z = tt
+
+-- ---- the same where the segments from some one on suffice, whatever the older ones are
+
+module _ (held : Files) (n : ℕ) (enough : IsEnoughFrom (archive_book held)
+    (book_in (held demux_name)) held n)
+    (settled : AreSettled (reads_from held n) held) (s : Result Books JobFault)
+    {old mid : Option History}
+    (first : Adds old mid (Leads (anyhow (SparesFiles (reads_from held n)))
+    (HasFiles (reads_from held n) held)
+    (LoadedBooks (drop n (names_of (codes "archive") (archive_book held))) held s))) where
+  abbrev Newest : List (List ℕ)
+  Newest = drop n (names_of (codes "archive") (archive_book held))
+
+  abbrev Clear : {T : Type 0} → Option History → Result T JobFault → Type 0
+  Clear new r =
+      Adds old new (Leads (anyhow (SparesFiles (reads_from held n)))
+      (HasFiles (reads_from held n) held)
+      (BooksAlone held r))
+
+  pub older_refused : (U : Type 0) (fault : JobFault) → s ≡ Err fault → Clear {T = U} mid
+      (Err fault)
+  older_refused U fault is =
+      leads_as (λ h z. z) (λ h z. go fault h (subst (λ x. LoadedBooks Newest held x h) is z)) first
+    where
+      go : (fault : JobFault) (h : History) → LoadedBooks Newest held (Err fault) h
+          → BooksAlone {T = U} held (Err fault) h
+      go (Outside call) h z = tt
+      go (Damaged name at) h z = z
+      go (Spent n) h z = tt
+      go NoMemory h z = tt
+
+  pub older_read : {T : Type 0} (b : Books) → s ≡ Ok b → (r : Result T JobFault)
+      {Q : History → History → Type 0}
+      {new : Option History} → Adds mid new Q
+      → (IsEnoughFrom (book_view b.archive) (book_view b.demux) held n
+      → AreSettled (drop n (names_of (codes "archive") (book_view b.archive))) held
+      → HasCounts (book_view b.archive)
+      → IsTrue (ends_rise (book_view b.archive).ends) → IsTrue (ends_rise (book_view b.demux).ends)
+      → Adds mid new (Leads (anyhow (SparesFiles
+      (drop n (names_of (codes "archive") (book_view b.archive)))))
+      (HasFiles (drop n (names_of (codes "archive") (book_view b.archive))) held)
+      (NotDamaged (Unit {0}) r)))
+      → Clear new r
+  older_read {T = T} b is r {new = new} made raw =
+      then_run held Newest settled b s is first made
+      (λ k own counts sorted rises.
+      leads_as (λ h z. z) (λ h z. go r h z)
+      (subst (λ (x : Book). Adds mid new
+      (Leads (anyhow (SparesFiles (drop n (names_of (codes "archive") x))))
+      (HasFiles (drop n (names_of (codes "archive") x)) held) (NotDamaged (Unit {0}) r))) k.0
+      (raw
+      (subst (λ (x : Book). IsEnoughFrom (book_view b.archive) x held n) (sym k.1)
+      (subst (λ (x : Book). IsEnoughFrom x (book_in (held demux_name)) held n) (sym k.0) enough))
+      (subst (λ (x : Book). AreSettled (drop n (names_of (codes "archive") x)) held)
+      (sym k.0) own) counts sorted
+      rises)))
+    where
+      go : (r : Result T JobFault) (h : History) → NotDamaged (Unit {0}) r h → BooksAlone held r h
+      go (Ok value) h z = tt
+      go (Err (Outside call)) h z = tt
+      go (Err (Damaged name at)) h z = absurd z
+      go (Err (Spent n)) h z = tt
+      go (Err NoMemory) h z = tt

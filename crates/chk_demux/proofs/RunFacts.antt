@@ -30,7 +30,7 @@ use Rattle.chk_demux.specs.Demuxed.{all_named, NamesStamped, OneMore, HasKey, De
 use Rattle.chk_demux.specs.Beginning.{own_earlier}
 use Rattle.chk_demux.specs.Entering.{MayEnter, SameBeside, NamesMore, Entered}
 use Rattle.chk_demux.specs.Running.{IsReady, CanSplit, archive_heads}
-use Rattle.chk_demux.specs.Splitting.{RunsSo, split_from, stream_chunks, all_chunks, all_left}
+use Rattle.chk_demux.specs.Splitting.{RunsSo, SplitAll, split_from, stream_chunks, all_chunks, all_left}
 use Rattle.chk_demux.specs.Writes.{HasSome, HoldsChunks, bytes_of}
 use Rattle.chk_demux.specs.declared.report.DemuxReport.{DemuxReport}
 use Rattle.chk_demux.proofs.ArchiveWell.{archive_well}
@@ -40,7 +40,7 @@ use Rattle.chk_demux.proofs.NewRecords.{whole_split, left_is, new_fits, archive_
 use Rattle.chk_demux.proofs.NextRecords.{may_publish}
 use Rattle.chk_demux.proofs.Ordered.{all_in_order, of_stream}
 use Rattle.chk_demux.proofs.SortedEnds.{just_of}
-use Rattle.chk_demux.proofs.Sources.{archive_sound, archive_records, archive_runs, records_free}
+use Rattle.chk_demux.proofs.Sources.{archive_sound, archive_settled, archive_found, archive_records, archive_runs, records_free}
 use Rattle.chk_demux.proofs.Started.{named_known}
 
 -- the new records, of these archived ones
@@ -249,6 +249,9 @@ module _ (stamped types : List (List ℕ)) (named : NamesStamped stamped types) 
       well = archive_well stamped history legal;
       records = archive_records stamped history legal;
       runs = all_run types D Heads Cs A.ends (archive_runs stamped history legal D);
+      unsorted = subst (λ l. SplitAll l A.ends D) (sym (archive_found stamped history legal)) (archive_runs stamped history legal D);
+      sorted = archive_rises stamped types named history legal Heads;
+      settled = archive_settled stamped history legal;
       rises = records_rise stamped types named history legal Heads;
       free = records_free stamped history legal;
     };

@@ -30,11 +30,12 @@ use Rattle.chk_book.specs.Folders.{segment_name}
 use Rattle.chk_merge.specs.Segments.{names_of}
 use Rattle.chk_merge.specs.Checking.{AllGoWell, ToldOfSome}
 use Rattle.chk_merge.specs.Archives.{ToldBreak}
-use Rattle.chk_parts.specs.Gathering.{heads_of, AreSound, Found}
+use Rattle.chk_parts.specs.Gathering.{heads_of, Found}
 use Rattle.chk_parts.specs.Records.{AreRecords}
 use Rattle.chk_parts.proofs.FromKnown.{from_known, reach, reach_known, with_fact}
 use Rattle.chk_demux.specs.Beginning.{HasBegun, HasBooks, Begins, starts as begins_it, only_reads as begins_reading}
 use Rattle.chk_demux.specs.Demuxed.{Earlier, Begun, Demuxed, DemuxesBy, starts, only_reads, writes_records, replaces_book, WritesBook, writes_segment, replaces}
+use Rattle.chk_demux.specs.Enough.{Enough}
 use Rattle.chk_demux.specs.Running.{IsReady, Ran, RunsOn, CanSplit, archive_heads, Reports, goes_reading, goes_writing, goes_replacing}
 use Rattle.chk_demux.specs.Splitting.{all_chunks, all_left, SplitAll, StreamsRise}
 use Rattle.chk_demux.specs.Working.{Worked, Failed, EndsSo}
@@ -45,7 +46,6 @@ use Rattle.chk_demux.specs.declared.output.Output.{Output}
 use Rattle.chk_demux.specs.declared.report.DemuxReport.{DemuxReport}
 use Rattle.chk_demux.proofs.Ends.{at_as, ends_bottom, so_fails, so_done, no_more}
 use Rattle.chk_parts.proofs.Published.{replaces_no_start, quiet_replace}
-use Rattle.chk_demux.proofs.HeadsInOrder.{streams_rise}
 use Rattle.chk_demux.proofs.RunFacts.{CanRun, News}
 use Rattle.chk_demux.proofs.Streams.{reads_or_writes_start, quiet_reads_or_writes}
 use Rattle.chk_demux.proofs.Works.{own_of, worked, works_as, works_then}
@@ -150,43 +150,37 @@ module _ (stamped types : List (List ℕ)) (a b : Book) (v : Sight) (cs : List C
   abbrev W : List ℕ
   W = segment_name (codes "demux") b.next
 
-  abbrev InOrder : List Head → Sight → Type 0
-  InOrder heads u = (u ≡ v) × (heads ≡ in_head_order (heads_of v 0 names))
-
-  pub sound_names : AreSound v names
-  sound_names = subst (AreSound v) (sym are) k.sound
-
-  pub well_names : AllGoWell a.ends (heads_of v 0 names)
-  well_names = subst (λ ws. AllGoWell a.ends (heads_of v 0 ws)) (sym are) k.well
+  abbrev HasHeads : List Head → Sight → Type 0
+  HasHeads heads u = (u ≡ v) × Enough v a b names (archive_heads v a) cs heads
 
   module _ (r : Result (List Head) JobFault) {old mid : Option History}
-      (first : Adds old mid (Leads (As stamped job) (AtJob stamped (λ u. u ≡ v)) (EndsSo stamped InOrder r))) where
+      (first : Adds old mid (Leads (As stamped job) (AtJob stamped (λ u. u ≡ v)) (EndsSo stamped HasHeads r))) where
     pub no_heads : (fault : JobFault) → r ≡ Err fault
         → Adds old mid (Leads (As stamped job) (AtJob stamped (λ u. u ≡ v)) (EndsSo stamped SplitSo (Err fault)))
-    no_heads fault is = so_fails stamped (AtJob stamped (λ u. u ≡ v)) InOrder SplitSo r fault is first
+    no_heads fault is = so_fails stamped (AtJob stamped (λ u. u ≡ v)) HasHeads SplitSo r fault is first
 
     pub split_so : (heads : List Head) → r ≡ Ok heads → (q : Result ℕ JobFault) {new : Option History}
         → Adds mid new (Worked (ReadsOrWrites (segment_name (codes "demux") b.next)) q)
-        → (AreRecords v names heads cs → IsFree v b.next → SplitAll cs a.ends b
+        → ((ds : List Chunk) → AreRecords v names heads ds → IsFree v b.next → SplitAll ds a.ends b
         → StreamsRise heads → IsTrue (ends_rise b.ends) → Adds mid new (Leads (As stamped job) (AtJob stamped (IsOutput v [] o))
-        (EndsSo stamped (λ left u. IsOutput v (all_chunks types b heads cs a.ends) n u
-        × (left ≡ all_left types b cs a.ends)) q)))
+        (EndsSo stamped (λ left u. IsOutput v (all_chunks types b heads ds a.ends) n u
+        × (left ≡ all_left types b ds a.ends)) q)))
         → Adds old new (Leads (As stamped job) (AtJob stamped (λ u. u ≡ v)) (EndsSo stamped SplitSo q))
     split_so heads is q {new} works told =
-        leads_then (so_done stamped (AtJob stamped (λ u. u ≡ v)) InOrder r heads is first)
-        (from_known stamped (ReadsOrWrites W) (reads_or_writes_start W) (quiet_reads_or_writes W) (InOrder heads)
+        leads_then (so_done stamped (AtJob stamped (λ u. u ≡ v)) HasHeads r heads is first)
+        (from_known stamped (ReadsOrWrites W) (reads_or_writes_start W) (quiet_reads_or_writes W) (HasHeads heads)
         (EndsSo stamped SplitSo q) (own_of (ReadsOrWrites W) q works)
         (λ h z runs.
-        let sorted : heads ≡ archive_heads v a =
-        (z.alive runs).1 ∙ ap (λ ws. in_head_order (heads_of v 0 ws)) are in
+        let e = (z.alive runs).1 in
         reach stamped h (AtJob stamped (IsOutput v [] o)) (EndsSo stamped SplitSo q)
-        (subst (λ hs. Adds mid new (Leads (As stamped job) (AtJob stamped (IsOutput v [] o))
-        (EndsSo stamped (λ left u. IsOutput v (all_chunks types b hs cs a.ends) n u
-        × (left ≡ all_left types b cs a.ends)) q))) sorted
-        (told (subst (λ ws. AreRecords v ws heads cs) (sym are)
-        (subst (λ hs. AreRecords v (names_of (codes "archive") a) hs cs) (sym sorted) k.records)) k.free k.runs
-        (subst StreamsRise (sym sorted) (streams_rise (heads_of v 0 (names_of (codes "archive") a)))) k.rises))
-        (at_as stamped (InOrder heads) (IsOutput v [] o) (λ u p. subst (IsOutput v [] o) (sym p.0) none) h z))
+        (subst (λ m. Adds mid new (Leads (As stamped job) (AtJob stamped (IsOutput v [] o))
+        (EndsSo stamped (λ left u. IsOutput v (all_chunks types b (archive_heads v a) cs a.ends) n u
+        × (left ≡ m)) q))) (e.left types)
+        (subst (λ l. Adds mid new (Leads (As stamped job) (AtJob stamped (IsOutput v [] o))
+        (EndsSo stamped (λ left u. IsOutput v l n u
+        × (left ≡ all_left types b e.chunks a.ends)) q))) (e.same types)
+        (told e.chunks e.records k.free e.runs e.rise k.rises)))
+        (at_as stamped (HasHeads heads) (IsOutput v [] o) (λ u p. subst (IsOutput v [] o) (sym p.0) none) h z))
         (λ h z. ends_bottom stamped SplitSo q h z))
 
 -- ---- the numbers

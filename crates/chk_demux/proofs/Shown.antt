@@ -12,7 +12,7 @@ use Rattle.chk_heads.specs.declared.fault.JobFault.TheVariants.{Outside, Damaged
 use Rattle.chk_heads.specs.Heads.{Head}
 use Rattle.chk_heads.specs.Order.{in_head_order}
 use Rattle.chk_heads.specs.Faults.{job_fault, IsOfBegin, IsOfRead, IsOfWrite}
-use Rattle.chk_heads.specs.Causes.{Cause, Shows}
+use Rattle.chk_heads.specs.Causes.{Shows}
 use Rattle.chk_heads.proofs.Showing.{within_all, within_late, within_early}
 use Rattle.chk_book.specs.Books.{book_view}
 use Rattle.chk_book.specs.Loaded.{ShowsBook}
@@ -20,28 +20,50 @@ use Rattle.chk_book.specs.declared.book.Book.{Book as Struct}
 use Rattle.chk_book.specs.Causes.{SpentBook}
 use Rattle.chk_merge.specs.Checking.{ToldOfSome}
 use Rattle.chk_merge.specs.Segments.{names_of}
-use Rattle.chk_merge.specs.Gone.{IsGoneIn, IsUnsound, gone, ShowsSound}
+use Rattle.chk_merge.specs.Gone.{IsGoneIn}
 use Rattle.chk_merge.proofs.Causes.{late_gone_in, late_unsound}
 use Rattle.chk_demux.specs.declared.beginning.Books.{Books}
-use Rattle.chk_demux.specs.Shown.{ShowsArchive, IsDamage, ShowsSpent, no_archive, no_records, unsound, ShowsBegun}
+use Rattle.chk_demux.specs.Shown.{ShowsArchive, IsUnsoundFrom, whole, lost, ShowsNewestSound, IsDamage, ShowsSpent, no_archive, no_records, unsound, ShowsBegun}
 
 -- a record isn't found again
-pub gone_behind : {T : Type 0} (folder : List ℕ) (b : Book) (ns : List (List ℕ)) (heads : List Head) (result : Result T JobFault)
-    {old mid new : Option History} → ns ≡ names_of folder b → Adds old mid (ShowsSound folder b (Ok heads))
-    → Adds mid new (Shows (IsGoneIn ns heads) result) → Adds old new (Shows (IsUnsound folder b) result)
-gone_behind folder b ns heads result n so_far told =
-    adds_then (Shows (IsUnsound folder b) result) so_far told (λ a d history x y. said result a d history x y)
+pub gone_behind : {T : Type 0} (b : Book) (ns : List (List ℕ)) (heads : List Head) (result : Result T JobFault)
+    {old mid new : Option History} → ns ≡ names_of (codes "archive") b → Adds old mid (ShowsNewestSound b (Ok heads))
+    → Adds mid new (Shows (IsGoneIn ns heads) result) → Adds old new (Shows (IsUnsoundFrom b) result)
+gone_behind b ns heads result n so_far told =
+    adds_then (Shows (IsUnsoundFrom b) result) so_far told (λ a d history x y. said result a d history x y)
   where
-    said : {T : Type 0} (result : Result T JobFault) (a d history : History) → ShowsSound folder b (Ok heads) a history
-        → Shows (IsGoneIn ns heads) result d (a ++ history) → Shows (IsUnsound folder b) result (d ++ a) history
+    said : {T : Type 0} (result : Result T JobFault) (a d history : History) → ShowsNewestSound b (Ok heads) a history
+        → Shows (IsGoneIn ns heads) result d (a ++ history) → Shows (IsUnsoundFrom b) result (d ++ a) history
     said (Ok value) a d history x y = tt
     said (Err (Outside call)) a d history x y = tt
     said (Err (Damaged name at)) a d history x y =
-        gone x.0 (within_early _ d a history (within_all _ a history x.2))
-        (subst (λ ws. IsGoneIn ws (in_head_order x.0) name at (d ++ a) history) n
-        (subst (λ hs. IsGoneIn ns hs name at (d ++ a) history) x.1 (late_gone_in ns heads name at d a history y)))
+        lost x.0 x.1 (within_early _ d a history x.3)
+        (subst (λ ws. IsGoneIn ws (in_head_order x.1) name at (d ++ a) history) n
+        (subst (λ hs. IsGoneIn ns hs name at (d ++ a) history) x.2 (late_gone_in ns heads name at d a history y)))
     said (Err (Spent k)) a d history x y = tt
     said (Err NoMemory) a d history x y = tt
+
+-- the heads couldn't be had
+pub heads_fail : (T : Type 0) (b : Book) (fault : JobFault) {old new : Option History}
+    → Adds old new (ShowsNewestSound b (Err fault))
+    → Adds old new (Shows {T = T} (IsUnsoundFrom b) (Err fault))
+heads_fail T b fault told =
+    adds_as (Shows {T = T} (IsUnsoundFrom b) (Err fault)) told (λ added history x. said fault added history x)
+  where
+    said : (fault : JobFault) (added history : History) → ShowsNewestSound b (Err fault) added history
+        → Shows {T = T} (IsUnsoundFrom b) (Err fault) added history
+    said (Outside call) added history x = tt
+    said (Damaged name at) added history x = whole x
+    said (Spent n) added history x = tt
+    said NoMemory added history x = tt
+
+-- what is shown behind other calls is shown by all of them
+late_from : (b : Book) (name : List ℕ) (at : ℕ) (d a history : History)
+    → IsUnsoundFrom b name at d (a ++ history) → IsUnsoundFrom b name at (d ++ a) history
+late_from b name at d a history (whole u) = whole (late_unsound (codes "archive") b name at d a history u)
+late_from b name at d a history (lost first heads s g) =
+    lost first heads (within_late _ d a history s)
+    (late_gone_in (names_of (codes "archive") b) (in_head_order heads) name at d a history g)
 
 -- ---- the books
 
@@ -123,15 +145,15 @@ damage_begun T fault told = adds_as (Shows {T = T} IsDamage (Err fault)) told (�
     said NoMemory added history x = tt
 
 pub damage_behind : {T : Type 0} (b : Books) (result : Result T JobFault) {old mid new : Option History} → Adds old mid (ShowsBegun (Ok b))
-    → Adds mid new (Shows (IsUnsound (codes "archive") (book_view b.archive)) result) → Adds old new (Shows IsDamage result)
+    → Adds mid new (Shows (IsUnsoundFrom (book_view b.archive)) result) → Adds old new (Shows IsDamage result)
 damage_behind b result so_far told = adds_then (Shows IsDamage result) so_far told (λ a d history x y. said result a d history x y)
   where
     said : {T : Type 0} (result : Result T JobFault) (a d history : History) → ShowsBegun (Ok b) a history
-        → Shows (IsUnsound (codes "archive") (book_view b.archive)) result d (a ++ history) → Shows IsDamage result (d ++ a) history
+        → Shows (IsUnsoundFrom (book_view b.archive)) result d (a ++ history) → Shows IsDamage result (d ++ a) history
     said (Ok value) a d history x y = tt
     said (Err (Outside call)) a d history x y = tt
     said (Err (Damaged name at)) a d history x y =
-        unsound (book_view b.archive) (within_early _ d a history x.0) (late_unsound (codes "archive") (book_view b.archive) name at d a history y)
+        unsound (book_view b.archive) (within_early _ d a history x.0) (late_from (book_view b.archive) name at d a history y)
     said (Err (Spent n)) a d history x y = tt
     said (Err NoMemory) a d history x y = tt
 

@@ -6,7 +6,7 @@ use Rattle.std.proofs.lemmas.Bool.{and_parts, and_from, leb-true, ltb-true}
 use Rattle.std.proofs.lemmas.List.Elements.{Contains-append_left}
 use Rattle.std.proofs.lemmas.List.Folds.{list_all-append}
 use Rattle.chk_bytes.specs.Stems.{is_count}
-use Rattle.chk_site.specs.Files.{File}
+use Rattle.chk_site.specs.Files.{File, IsSettled}
 use Rattle.chk_site.specs.Effect.{IsSmallFile}
 use Rattle.chk_site.specs.History.{History, files_after}
 use Rattle.chk_site.proofs.Small.{all_small}
@@ -30,7 +30,7 @@ use Rattle.chk_heads.specs.Order.{in_head_order}
 use Rattle.chk_heads.specs.Pieces.{bytes_in}
 use Rattle.chk_book.specs.Folders.{segment_name}
 use Rattle.chk_book.specs.Books.{end_in}
-use Rattle.chk_merge.specs.Segments.{names_of}
+use Rattle.chk_merge.specs.Segments.{names_of, AreSettled}
 use Rattle.chk_parts.specs.Gathering.{held, held_at, CanBeRead, own_segment, IsSoundFile, AreSound, heads_of}
 use Rattle.chk_parts.specs.Records.{chunks_held, found_in, AreRecords}
 use Rattle.chk_parts.proofs.FoundRecords.{records_in_order}
@@ -141,6 +141,14 @@ module _ (stamped : List (List ℕ)) (history : History) (legal : Legal stamped 
               ((all_small history (legal_modelled stamped history legal)).files W);
         }
 
+    segment_settled : IsSettled (held v W) × IsSmallFile (held v W)
+    segment_settled = (go (file (files_after history) (SegmentFile ArchiveFolder g.number)) refl sound_now, segment_sound.small)
+      where
+        go : (o : Option File) → file (files_after history) (SegmentFile ArchiveFolder g.number) ≡ o
+            → HasFile o (IsSoundSegment ArchiveFolder g) → IsSettled (held v W)
+        go None e h = absurd h
+        go (Some f) e h = subst IsSettled (sym (segment_held ∙ e)) (h.synced_is ∙ sym h.length_is)
+
     segment_chunks_are : chunks_held v W ≡ segment_chunks (files_after history) ArchiveFolder g
     segment_chunks_are = go (file (files_after history) (SegmentFile ArchiveFolder g.number)) refl sound_now
       where
@@ -160,6 +168,18 @@ module _ (stamped : List (List ℕ)) (history : History) (legal : Legal stamped 
           → Contains (map (λ (g : Segment). segment_name (codes "archive") g.number) gs) w → IsSoundFile v w
       go [] of k = absurd (none_in w k)
       go (g ∷ gs) of (zero, low, is) = subst (IsSoundFile v) is (segment_sound g (of g (0, omega arith, refl)))
+      go (g ∷ gs) of (suc k, low, is) = go gs (λ f m. of f (later_one g gs f m)) (k, omega (arith, low), is)
+
+  -- and wholly on the disk
+  pub archive_settled : AreSettled (names_of (codes "archive") b) (held v)
+  archive_settled w one = go b.segments (λ g k. k) one
+    where
+      go : (gs : List Segment) → ((g : Segment) → Contains gs g → Contains b.segments g)
+          → Contains (map (λ (g : Segment). segment_name (codes "archive") g.number) gs) w
+          → IsSettled (held v w) × IsSmallFile (held v w)
+      go [] of k = absurd (none_in w k)
+      go (g ∷ gs) of (zero, low, is) =
+          subst (λ x. IsSettled (held v x) × IsSmallFile (held v x)) is (segment_settled g (of g (0, omega arith, refl)))
       go (g ∷ gs) of (suc k, low, is) = go gs (λ f m. of f (later_one g gs f m)) (k, omega (arith, low), is)
 
   -- and hold just the archive's records
@@ -185,6 +205,7 @@ module _ (stamped : List (List ℕ)) (history : History) (legal : Legal stamped 
       each_from (λ e. RunsSo (all_named (files_after history) ArchiveFolder) e (split_from d e)) b.ends
       (λ e one. record {
         bytes = each_named (files_after history) ArchiveFolder (book_of (files_after history) ArchiveFolder);
+        first = e.start;
         run = (books_stay_true stamped history legal ArchiveFolder).ends e one;
         from_on = above e.start (end_in 0 d.ends e.stream);
       })

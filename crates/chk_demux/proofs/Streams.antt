@@ -35,7 +35,7 @@ use Rattle.chk_demux.proofs.HeadsInOrder.{none_before, none_behind}
 use Rattle.chk_demux.proofs.Works.{own_of}
 use Rattle.chk_demux.proofs.Feeding.{fresh_splits, held_size}
 
-none_fed : (heads : List Head) (e : End) (from : ℕ) (b : Bool) → chunks_of_fed heads e from b [] ≡ []
+pub none_fed : (heads : List Head) (e : End) (from : ℕ) (b : Bool) → chunks_of_fed heads e from b [] ≡ []
 none_fed heads e from true = refl
 none_fed heads e from false = refl
 

@@ -1,5 +1,5 @@
 -- What one run of the demux job leads to.
-use Rattle.std.specs.Prelude.{◌≡◌, ℕ, ◌+◌, ◌-◌, ◌≤◌, ◌<◌, ◌^◌, false, List, [], ◌∷◌, ◌++◌, length, codes, bytes_eq, Contains, Result, Ok, Err}
+use Rattle.std.specs.Prelude.{◌≡◌, ℕ, ◌+◌, ◌≤◌, ◌<◌, false, List, [], ◌∷◌, ◌++◌, length, codes, bytes_eq, Contains, Result, Ok, Err}
 use Rattle.std.specs.List.{list_any}
 use Rattle.chk_bytes.specs.Numbers.{last_number}
 use Rattle.chk_site.specs.Acts.{Deed, Starts}

@@ -1,5 +1,5 @@
 -- Which records a demux run finds to write, where the files that it reads stay.
-use Rattle.std.specs.Prelude.{ℕ, ◌<◌, Bool, List, length, take, codes, Contains}
+use Rattle.std.specs.Prelude.{ℕ, ◌<◌, Bool, List, length, take, drop, codes, Contains}
 use Rattle.chk_site.specs.Files.{Files}
 use Rattle.chk_chunk.specs.Keys.{Chunk, chunk_limit}
 use Rattle.chk_world.specs.ArchiveRuns.{in_order}
@@ -8,6 +8,7 @@ use Rattle.chk_merge.specs.Segments.{names_of, chunks_in_files}
 use Rattle.chk_splitter.specs.Splitting.{Splitting, pieces_of}
 use Rattle.chk_demux.specs.Giving.{IsSplitting}
 use Rattle.chk_demux.specs.Splitting.{past_in, split_from, is_stamped}
+use Rattle.chk_demux.specs.Enough.{RunsFrom}
 use Rattle.chk_demux.specs.Shown.{PutsIf}
 
 -- the bytes have a complete record
@@ -33,8 +34,14 @@ abbrev pub HasDue : List (List ℕ) → Book → Book → List Chunk → Type 0
 HasDue types archive records cs = (e : End) × Contains archive.ends e
     × StreamHasRecord types cs e (split_from records e)
 
--- so it is of the chunks of the segments that the archive's book names
+-- so it is of the chunks of the segments that the archive's book names, from this one on
+abbrev pub IsDueFrom : List (List ℕ) → Book → Book → Files → ℕ → Type 0
+IsDueFrom types archive records files first =
+    HasDue types archive records
+    (in_order (chunks_in_files chunk_limit files
+    (drop first (names_of (codes "archive") archive))))
+
+-- so it is of the newest ones that suffice
 abbrev pub IsDueIn : List (List ℕ) → Book → Book → Files → Type 0
 IsDueIn types archive records files =
-    HasDue types archive records
-    (in_order (chunks_in_files chunk_limit files (names_of (codes "archive") archive)))
+    (first : ℕ) × RunsFrom archive records files first × IsDueFrom types archive records files first

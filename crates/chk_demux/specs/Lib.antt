@@ -6,6 +6,7 @@ pub mod Beginning
 pub mod Damage
 pub mod Giving
 pub mod Splitting
+pub mod Enough
 pub mod Entering
 pub mod Running
 pub mod Shown

@@ -10,10 +10,10 @@ use Rattle.chk_world.specs.Sight.{Sight, sight, own_book}
 use Rattle.chk_world.specs.JobSteps.{ReadsFile, WritesTo}
 use Rattle.chk_heads.specs.Heads.{Head}
 use Rattle.chk_heads.specs.Order.{in_head_order}
-use Rattle.chk_merge.specs.Segments.{names_of}
+use Rattle.chk_merge.specs.Segments.{names_of, AreSettled}
 use Rattle.chk_merge.specs.Checking.{AllGoWell}
-use Rattle.chk_parts.specs.Gathering.{AreSound, heads_of}
-use Rattle.chk_parts.specs.Records.{AreRecords}
+use Rattle.chk_parts.specs.Gathering.{held, AreSound, heads_of}
+use Rattle.chk_parts.specs.Records.{AreRecords, found_in}
 use Rattle.chk_book.specs.Folders.{segment_name}
 use Rattle.chk_heads.specs.declared.fault.JobFault.{JobFault}
 use Rattle.chk_demux.specs.Demuxed.{Demuxed, ReplacesBook}
@@ -36,12 +36,15 @@ abbrev pub archive_heads : Sight → Book → List Head
 archive_heads v archive = in_head_order (heads_of v 0 (names_of (codes "archive") archive))
 
 -- all streams' records run as the archive's book says; these chunks are what its segments hold, and each stream's run on where its
--- split goes on
+-- split goes on, also as they stand in the segments
 pub record CanSplit (archive demux : Book) (v : Sight) (cs : List Chunk) : Type 0 where
   pub sound : AreSound v (names_of (codes "archive") archive)
   pub well : AllGoWell archive.ends (heads_of v 0 (names_of (codes "archive") archive))
   pub records : AreRecords v (names_of (codes "archive") archive) (archive_heads v archive) cs
   pub runs : SplitAll cs archive.ends demux
+  pub unsorted : SplitAll (found_in v (names_of (codes "archive") archive)) archive.ends demux
+  pub sorted : IsTrue (ends_rise archive.ends)
+  pub settled : AreSettled (names_of (codes "archive") archive) (held v)
   pub rises : IsTrue (ends_rise demux.ends)
   pub free : IsFree v demux.next
 

@@ -1,9 +1,10 @@
 -- What the own reads of a demux run show, on every site.
-use Rattle.std.specs.Prelude.{◌≡◌, ◌⊎◌, ℕ, ◌-◌, ◌^◌, IsTrue, List, codes, Contains, Result, Ok, Err}
+use Rattle.std.specs.Prelude.{◌≡◌, ◌⊎◌, ℕ, IsTrue, List, drop, codes, Contains, Result, Ok, Err}
 use Rattle.chk_bytes.specs.Numbers.{last_number}
 use Rattle.chk_site.specs.History.{History}
 use Rattle.chk_world.specs.Books.{Book, End, ends_rise}
 use Rattle.chk_heads.specs.Heads.{Head}
+use Rattle.chk_heads.specs.Order.{in_head_order}
 use Rattle.chk_heads.specs.Shown.{Within}
 use Rattle.chk_heads.specs.ShownHeads.{ShowAll}
 use Rattle.chk_heads.specs.Causes.{Shows}
@@ -12,7 +13,7 @@ use Rattle.chk_heads.specs.declared.fault.JobFault.TheVariants.{Damaged, Spent}
 use Rattle.chk_book.specs.Books.{book_view}
 use Rattle.chk_book.specs.Folders.{most_in}
 use Rattle.chk_book.specs.Loaded.{ShowsBook}
-use Rattle.chk_merge.specs.Gone.{IsUnsound}
+use Rattle.chk_merge.specs.Gone.{IsGoneIn, IsUnsound}
 use Rattle.chk_merge.specs.Segments.{names_of}
 use Rattle.chk_demux.specs.Splitting.{split_from, ends_past}
 use Rattle.chk_demux.specs.declared.beginning.Books.{Books}
@@ -21,12 +22,38 @@ use Rattle.chk_demux.specs.declared.beginning.Books.{Books}
 abbrev pub ShowsArchive : Book → History → History → Type 0
 ShowsArchive b added history = Within (ShowsBook (codes "archive") (Ok b)) added history
 
+-- a stretch of own reads shows the heads of all records of the segments that the archive's book
+-- names, from this one on
+abbrev pub ShowsHeadsFrom : Book → ℕ → List Head → History → History → Type 0
+ShowsHeadsFrom b first heads added history =
+    Within (ShowAll (most_in (codes "archive")) first
+    (drop first (names_of (codes "archive") b)) heads) added history
+
+-- Why a segment that the archive's book names, or that book, is told to be damaged: where all of
+-- them are read it is unsound; or own reads show the heads of all records of those from some one
+-- on, and one that other own reads don't find again.
+pub data IsUnsoundFrom (b : Book) (name : List ℕ) (at : ℕ) (added history : History) : Type 0 where
+  whole : IsUnsound (codes "archive") b name at added history
+      → IsUnsoundFrom b name at added history
+  lost : (first : ℕ) (heads : List Head) → ShowsHeadsFrom b first heads added history
+      → IsGoneIn (names_of (codes "archive") b) (in_head_order heads) name at added history
+      → IsUnsoundFrom b name at added history
+
+-- at Ok own reads show the heads of all records of the segments from some one on, which these are
+-- in order; damage has a cause in all segments
+abbrev pub ShowsNewestSound : Book → Result (List Head) JobFault → History → History → Type 0
+ShowsNewestSound b (Ok heads) added history =
+    (first : ℕ) × (found : List Head) × (heads ≡ in_head_order found)
+    × ShowsHeadsFrom b first found added history
+ShowsNewestSound b (Err fault) added history =
+    Shows {T = Unit {0}} (IsUnsound (codes "archive") b) (Err fault) added history
+
 -- Why a demux run tells that a file is damaged: own reads show that one of the two books is none; or they show the archive's book, and
 -- why one of the segments that it names, or that book, is damaged.
 pub data IsDamage (name : List ℕ) (at : ℕ) (added history : History) : Type 0 where
   no_archive : Within (ShowsBook (codes "archive") (Err (Damaged name at))) added history → IsDamage name at added history
   no_records : Within (ShowsBook (codes "demux") (Err (Damaged name at))) added history → IsDamage name at added history
-  unsound : (b : Book) → ShowsArchive b added history → IsUnsound (codes "archive") b name at added history → IsDamage name at added history
+  unsound : (b : Book) → ShowsArchive b added history → IsUnsoundFrom b name at added history → IsDamage name at added history
 
 -- a stretch of own reads shows that the records' book is this one
 abbrev pub ShowsRecords : Book → History → History → Type 0
@@ -42,12 +69,12 @@ abbrev pub HasNew : Book → Book → List Head → Type 0
 HasNew archive records heads =
     (e : End) × Contains archive.ends e × HasPast heads e (split_from records e)
 
--- own reads show the heads of all records of the segments that the archive's book names, and one of
--- them has bytes that aren't split by the records' book
+-- own reads show the heads of all records of the segments that the archive's book names, from some
+-- one on, and one of these has bytes that aren't split by the records' book
 pub record ShowsNew (archive records : Book) (added history : History) : Type 0 where
+  pub first : ℕ
   pub heads : List Head
-  pub shown : Within
-      (ShowAll (most_in (codes "archive")) 0 (names_of (codes "archive") archive) heads) added history
+  pub shown : ShowsHeadsFrom archive first heads added history
   pub new : HasNew archive records heads
 
 -- no record was put since there were so many, or else it is so
@@ -71,7 +98,7 @@ SpentBy archive records result added history = Unit {0}
 
 -- Why a demux run tells that the numbers are spent: own reads show the records' book, and its next
 -- number is the last one; and they show the archive's book and the heads of all records of its
--- segments, of which one has bytes that aren't split by the records' book.
+-- newest segments, of which one has bytes that aren't split by the records' book.
 pub record IsSpent (added history : History) : Type 0 where
   pub records : Book
   pub has_records : ShowsRecords records added history

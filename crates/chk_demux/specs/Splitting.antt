@@ -36,11 +36,12 @@ past_of from c = drop (from - chunk_begin c) c.value
 abbrev pub past_in : ℕ → Stream → List Chunk → List ℕ
 past_in from s cs = flat_map (past_of from) (filter (is_of s) cs)
 
--- the stream's chunks run from its start to its end in the book, and the split goes on at or past that start
+-- the stream's chunks run from some offset on up to its end in the book, and the split goes on at that offset or past it
 pub record RunsSo (cs : List Chunk) (e : End) (from : ℕ) : Type 0 where
   pub bytes : Each HasBytes cs
-  pub run : Run e.start e.start (filter (is_of e.stream) cs) e.end
-  pub from_on : e.start ≤ from
+  pub first : ℕ
+  pub run : Run e.start first (filter (is_of e.stream) cs) e.end
+  pub from_on : first ≤ from
 
 -- these texts, without the borrows
 abbrev pub texts : List (Bor (List ℕ)) → List (List ℕ)

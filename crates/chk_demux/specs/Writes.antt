@@ -1,6 +1,6 @@
 -- What the writing of one segment of records leaves.
 use Rattle.std.specs.List.{list_any}
-use Rattle.std.specs.Prelude.{◌≡◌, ◌⊎◌, ℕ, ◌-◌, ◌^◌, ◌<◌, nat_eq, IsTrue, IsFalse, List, [], codes, length, sum_by, Option, Some, None}
+use Rattle.std.specs.Prelude.{◌≡◌, ◌⊎◌, ℕ, ◌<◌, nat_eq, IsTrue, IsFalse, List, [], codes, length, sum_by, Option, Some, None}
 use Rattle.chk_bytes.specs.Numbers.{last_number}
 use Rattle.chk_bytes.specs.Stems.{Stem, is_count}
 use Rattle.chk_site.specs.Files.{File}

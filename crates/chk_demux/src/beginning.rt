@@ -8,7 +8,7 @@ ghost use Rattle.chk_world.specs.Places.{As};
 ghost use Rattle.chk_world.specs.Sight.{job};
 ghost use Rattle.chk_heads.specs.Faults.{JobCause, IsOfRead};
 ghost use Rattle.chk_merge.specs.Segments.{HasFiles, SparesFiles, AreSettled};
-ghost use Rattle.chk_demux.specs.Damage.{reads_of, LoadedBooks};
+ghost use Rattle.chk_demux.specs.Damage.{with_books, LoadedBooks};
 ghost use Rattle.chk_demux.specs.Demuxed.{Earlier, Begun};
 ghost use Rattle.chk_demux.specs.Working.{Worked, job_result};
 ghost use Rattle.chk_demux.specs.Beginning.{Begins, HasStarted, HasBegun};
@@ -31,8 +31,9 @@ pub(crate) fn begin<S: Site>(alloc: Global, site: &mut S, who: &Who) -> Result<B
     requires { who.now ≡ job }
     ensures told { (stamped : List (List ℕ)) (before : Earlier) → Adds (S.told site.old) (S.told site.new)
         (Leads (As stamped job) (Begun stamped before) (HasBegun stamped before result)) }
-    ensures raw { (held : Files) → AreSettled (reads_of held) held → Adds (S.told site.old) (S.told site.new)
-        (Leads (anyhow (SparesFiles (reads_of held))) (HasFiles (reads_of held) held) (LoadedBooks held result)) }
+    ensures raw { (held : Files) (names : List (List ℕ)) → AreSettled (with_books names) held
+        → Adds (S.told site.old) (S.told site.new) (Leads (anyhow (SparesFiles (with_books names)))
+        (HasFiles (with_books names) held) (LoadedBooks names held result)) }
     ensures shown { Adds (S.told site.old) (S.told site.new) (ShowsBegun result) }
     ensures works { Adds (S.told site.old) (S.told site.new) (Worked Begins result) }
     ensures only { IfErr result IsOfRead }

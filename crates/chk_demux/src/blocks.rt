@@ -21,7 +21,7 @@ pub(crate) struct Block {
 }
 
 /// The block of all heads of the end's stream, where the first one of these stands at `next`, which then moves past them; else that
-/// of all heads. It costs the stream's heads.
+/// of all heads. It costs the stream's heads, and where these don't stand there two of all.
 pub(crate) fn block_of(heads: &Heads, end: &End, next: &mut usize) -> Block
     ensures within { (result.first ≤ result.end) × (result.end ≤ length heads.now) }
     ensures holds { StreamsRise heads.now → HoldsStream heads.now (end_view end.now).stream result.first result.end }

@@ -20,7 +20,7 @@ ghost use Rattle.chk_parts.specs.Records.{AreRecords};
 ghost use Rattle.chk_parts.specs.Gathering.{held, AreSound};
 ghost use Rattle.chk_merge.specs.Segments.{HasFiles, SparesFiles, AreSettled};
 ghost use Rattle.chk_merge.specs.Merging.{AreApart};
-ghost use Rattle.chk_demux.specs.Damage.{AreRead, ReadsOn, NotDamaged};
+ghost use Rattle.chk_demux.specs.Damage.{AreRead, AreOfNew, ReadsOn, NotDamaged};
 ghost use Rattle.chk_demux.specs.Due.{IsFed, StreamHasRecord, HasDue};
 ghost use Rattle.chk_parts.specs.Fetching.{head_file, IsRecordAt, CanFetch, Fetched, AreWindows};
 ghost use Rattle.chk_book.specs.Folders.{segment_name};
@@ -31,6 +31,7 @@ ghost use Rattle.chk_heads.specs.Causes.{Shows};
 ghost use Rattle.chk_merge.specs.Gone.{IsGoneIn};
 ghost use Rattle.chk_demux.specs.Writes.{IsFree, IsWriter, IsOutput};
 ghost use Rattle.chk_demux.specs.Shown.{PutsIf, HasPast, HasNew};
+ghost use Rattle.chk_demux.specs.Enough.{places_for};
 ghost use Rattle.chk_demux.specs.Splitting.{texts, past_in, split_from, ends_past, is_stamped, RunsSo, SplitSoFar, SplitAll, StreamsRise, HoldsStream, stream_chunks, stream_left, all_chunks, all_left};
 
 use crate::blocks::{Block, block_of};
@@ -65,6 +66,24 @@ fn split_from(end: &End, book: &Book, next: &mut usize) -> u64
 {
     let ended = recorded_end(book.ends.as_slice(), end, next);
     end.start.max(ended)
+}
+
+/// Where the split of each stream of the archive goes on, in the order of its book. It costs a pass over the streams of both books.
+pub(crate) fn places_of(
+    alloc: Global,
+    archive: &Book,
+    book: &Book,
+) -> Result<Vec<u64>, chk_bytes::NoMemory>
+    ensures size { IfOk result (λ places. length places.items ≡ length (book_view archive.now).ends) }
+    ensures are { IfOk result (λ places. IsTrue (ends_rise (book_view book.now).ends)
+        → places.items ≡ places_for (book_view archive.now) (book_view book.now)) }
+{
+    let mut places = Vec::new(alloc);
+    let mut recorded = 0;
+    for end in archive.ends.as_slice() {
+        places.push(split_from(end, book, &mut recorded))?;
+    }
+    Ok(places)
 }
 
 /// The head is of the end's stream, and its record ends past the offset `from`.
@@ -110,12 +129,13 @@ fn split_record<S: Site>(
         (AtJob stamped (SplitSoFar v files.now heads.now cs outs (end_view end.now) from index by_stamps output.old reader.old splitter.old))
         (EndsSo stamped
         (λ t u. SplitSoFar v files.now heads.now cs outs (end_view end.now) from (index + 1) by_stamps output.new reader.new splitter.new u) result)) }
-    ensures raw { (v : Sight) (cs : List Chunk) (by_stamps : Bool) (count : ℕ) → AreRecords v files.now heads.now cs
-        → Each HasBytes cs → AreSettled files.now (held v)
-        → AreApart files.now (segment_name (codes "demux") (book_view book.now).next) → Adds (S.told site.old) (S.told site.new)
-        (Leads (anyhow (SparesFiles files.now)) (λ h. AreRead v files.now reader.old h
+    ensures raw { (v : Sight) (cs : List Chunk) (new : List (List ℕ)) (by_stamps : Bool) (count : ℕ)
+        → AreRecords v files.now heads.now cs → Each HasBytes cs → AreOfNew files.now heads.now new
+        → AreSettled new (held v) → AreApart new (segment_name (codes "demux") (book_view book.now).next)
+        → Adds (S.told site.old) (S.told site.new)
+        (Leads (anyhow (SparesFiles new)) (λ h. AreRead v new files.now reader.old h
         × IsFed cs (end_view end.now) from index by_stamps splitter.old count output.old.entries)
-        (ReadsOn v files.now reader.new
+        (ReadsOn v new files.now reader.new
         (IsFed cs (end_view end.now) from (index + 1) by_stamps splitter.new count output.new.entries) result)) }
     ensures writer { OnOk result (IsWriter (book_view book.now).next output.new.segmenter) }
     ensures due { OnOk result
@@ -138,7 +158,8 @@ fn split_record<S: Site>(
 }
 
 /// Splits what the archive has of the end's stream from the offset `from` on, where its split goes on, and says how many
-/// bytes are of no complete record. The stream's heads stand in the block.
+/// bytes are of no complete record. The stream's heads stand in the block. Where the stream doesn't end past that offset they
+/// aren't looked at.
 fn split_stream<S: Site>(
     alloc: Global,
     site: &mut S,
@@ -165,11 +186,12 @@ fn split_stream<S: Site>(
         (EndsSo stamped (λ left u. IsOutput v
         (outs ++ stream_chunks (texts types.now) (book_view book.now) heads.now cs (end_view end.now)) output.new u
         × AreWindows v files.now reader.new × (left ≡ stream_left (texts types.now) (book_view book.now) cs (end_view end.now))) result)) }
-    ensures raw { (v : Sight) (cs : List Chunk) → AreRecords v files.now heads.now cs → Each HasBytes cs
-        → AreSettled files.now (held v) → AreApart files.now (segment_name (codes "demux") (book_view book.now).next)
+    ensures raw { (v : Sight) (cs : List Chunk) (new : List (List ℕ)) → AreRecords v files.now heads.now cs
+        → Each HasBytes cs → AreOfNew files.now heads.now new → AreSettled new (held v)
+        → AreApart new (segment_name (codes "demux") (book_view book.now).next)
         → HoldsStream heads.now (end_view end.now).stream block.first block.end → Adds (S.told site.old) (S.told site.new)
-        (Leads (anyhow (SparesFiles files.now)) (AreRead v files.now reader.old)
-        (ReadsOn v files.now reader.new (PutsIf (StreamHasRecord (texts types.now) cs (end_view end.now) from)
+        (Leads (anyhow (SparesFiles new)) (AreRead v new files.now reader.old)
+        (ReadsOn v new files.now reader.new (PutsIf (StreamHasRecord (texts types.now) cs (end_view end.now) from)
         output.old.entries output.new.entries) result)) }
     ensures writer { OnOk result (IsWriter (book_view book.now).next output.new.segmenter) }
     ensures due { OnOk result (PutsIf (HasPast heads.now (end_view end.now) from)
@@ -179,6 +201,9 @@ fn split_stream<S: Site>(
     ensures works { Adds (S.told site.old) (S.told site.new) (Worked (ReadsOrWrites (segment_name (codes "demux") (book_view book.now).next)) result) }
     ensures cause { JobCause (S.fault_count site.old) (S.fault_count site.new) result }
 {
+    if from >= end.end {
+        return Ok(0);
+    }
     let mut splitter = Splitter::new(alloc, is_stamped(end.kind.as_str(), types));
     for index in block.first..block.end {
         split_record(
@@ -201,7 +226,7 @@ fn split_stream<S: Site>(
 
 /// Splits what the archive has of each stream of its book, in the book's order, each from its last record on, and says how many
 /// bytes are of no complete record. The heads stand in order, which is that of both books' streams too, so that it goes over
-/// the heads and over both books once, and reads each record once. A stream that has no heads costs a pass over all of them.
+/// the heads and over both books once, and reads each record once. A stream without news costs a look in the books.
 pub(crate) fn split_streams<S: Site>(
     alloc: Global,
     site: &mut S,
@@ -222,10 +247,11 @@ pub(crate) fn split_streams<S: Site>(
         (EndsSo stamped (λ left u. IsOutput v
         (all_chunks (texts types.now) (book_view book.now) heads.now cs (book_view archive.now).ends) output.new u
         × (left ≡ all_left (texts types.now) (book_view book.now) cs (book_view archive.now).ends)) result)) }
-    ensures raw { (v : Sight) (cs : List Chunk) → AreRecords v files.now heads.now cs → Each HasBytes cs
-        → AreSettled files.now (held v) → AreApart files.now (segment_name (codes "demux") (book_view book.now).next)
+    ensures raw { (v : Sight) (cs : List Chunk) (new : List (List ℕ)) → AreRecords v files.now heads.now cs
+        → Each HasBytes cs → AreOfNew files.now heads.now new → AreSettled new (held v)
+        → AreApart new (segment_name (codes "demux") (book_view book.now).next)
         → StreamsRise heads.now → IsTrue (ends_rise (book_view book.now).ends) → Adds (S.told site.old) (S.told site.new)
-        (Leads (anyhow (SparesFiles files.now)) (HasFiles files.now (held v))
+        (Leads (anyhow (SparesFiles new)) (HasFiles new (held v))
         (NotDamaged (PutsIf (HasDue (texts types.now) (book_view archive.now) (book_view book.now) cs)
         output.old.entries output.new.entries) result)) }
     ensures writer { OnOk result (IsWriter (book_view book.now).next output.new.segmenter) }

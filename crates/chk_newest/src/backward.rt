@@ -1,7 +1,6 @@
 //! Streams' records, followed from the newest one back.
 
 ghost use Rattle.std.specs.Prelude.{◌≡◌, ◌<◌, ◌≤◌, ◌++◌, ◌∷◌, ℕ, List, length, drop, map, slice_index, true, IsTrue, IsFalse, IfOk, IfSome, IfNone, None};
-ghost use Rattle.chk_bytes.specs.Words.{text_lt};
 ghost use Rattle.chk_chunk.specs.Keys.{same_stream, stream_lt};
 ghost use Rattle.chk_world.specs.Books.{ends_rise};
 ghost use Rattle.chk_heads.specs.Heads.{Head};
@@ -13,7 +12,7 @@ ghost use Rattle.chk_merge.specs.OnePass.{end_at};
 ghost use Rattle.chk_newest.specs.Backward.{leads_to, AllRunBack, AreBegins};
 
 use chk_book::End;
-use chk_bytes::NoMemory;
+use chk_bytes::{NoMemory, comes_before};
 use chk_heads::{HeadRef, Heads};
 use std::alloc::Global;
 
@@ -110,13 +109,6 @@ fn is_before(end: &End, head: &HeadRef<'_>) -> bool
             && (comes_before(end.kind.as_str(), head.key.kind)
                 || (end.kind.as_str() == head.key.kind
                     && comes_before(end.name.as_str(), head.key.name))))
-}
-
-/// In byte order.
-fn comes_before(a: &str, b: &str) -> bool
-    ensures { result ≡ text_lt a.now b.now }
-{
-    a < b
 }
 
 /// Each stream's records begin at its place or below it.

@@ -138,6 +138,24 @@ prefix demux h1 HadoopLog /var/log/hadoop/namenode.log
 sizes demux h1 HadoopLog /var/log/hadoop/namenode.log => 47 100
 ";
 
+// Of the archive the last line is new. What was taken stands in a segment that isn't read.
+const DEMUX_NEWEST: &str = "\
+a demux run that reads the newest segment
+log /a.log hello|world|
+bytes archive/seg.1 x
+bytes archive/seg.2 HEADER SEG_2 WORLD
+bytes archive/book BOOK eight:3 four:2 eight:1 eight:144 eight:2 eight:144 four:1 eight:12 STREAM
+bytes demux/seg.1 HEADER SEG_1 HELLO
+bytes demux/book BOOK eight:2 four:1 eight:1 eight:144 four:1 eight:6 STREAM
+
+demux
+prefix demux h1 Log /a.log
+
+sinks => none
+whole demux h1 Log /a.log
+is archive/seg.1 x
+";
+
 // Two archives of a log, of which the right one has more of it, and a segment that no book names.
 const JOIN: &str = "\
 a join
@@ -199,7 +217,8 @@ fn each_call_over_what_was_set_aside(rt: HostRuntime) -> Result<(), Fail> {
 
 #[test]
 fn each_call_of_a_demux_run(rt: HostRuntime) -> Result<(), Fail> {
-    each_call(rt.alloc(), DEMUX, 15)
+    each_call(rt.alloc(), DEMUX, 15)?;
+    each_call(rt.alloc(), DEMUX_NEWEST, 15)
 }
 
 #[test]
@@ -231,7 +250,8 @@ fn pairs_of_archive_runs(rt: HostRuntime) -> Result<(), Fail> {
 
 #[test]
 fn pairs_of_demux_runs(rt: HostRuntime) -> Result<(), Fail> {
-    each_pair(rt.alloc(), DEMUX, SEEDS)
+    each_pair(rt.alloc(), DEMUX, SEEDS)?;
+    each_pair(rt.alloc(), DEMUX_NEWEST, SEEDS)
 }
 
 #[test]

@@ -148,6 +148,167 @@ fn splits(rt: HostRuntime) -> Result<(), Fail> {
     follows_each(rt.alloc(), PROGRAMS)
 }
 
+// Segments are read from the newest one back, until what is new is found. One that isn't read may be
+// damaged or missing; of what is read each damage is told, by the first one of all segments. The
+// merged segment has 16 lines of 2 bytes, each a record of 44 bytes behind the header of 96. A run
+// reads each book that is there, and each segment that it needs, by two reads, of which the last one
+// finds the end, and each new record by one.
+const NEWEST: &str = "\
+what was taken stands in a damaged segment
+bytes archive/seg.1 x
+bytes archive/seg.2 HEADER SEG_2 WORLD
+bytes archive/book BOOK eight:3 four:2 eight:1 eight:144 eight:2 eight:144 four:1 eight:12 STREAM
+bytes demux/seg.1 HEADER SEG_1 HELLO
+bytes demux/book BOOK eight:2 four:1 eight:1 eight:144 four:1 eight:6 STREAM
+run demux => 0 demux taken 6 entries 1 left 0|
+is demux/seg.2 HEADER SEG_2 WORLD
+is demux/book BOOK eight:3 four:2 eight:1 eight:144 eight:2 eight:144 four:1 eight:12 STREAM
+run demux => 0 demux taken 0 entries 0 left 0|
+
+what was taken stands in a segment that isn't there
+bytes archive/seg.2 HEADER SEG_2 WORLD
+bytes archive/book BOOK eight:3 four:2 eight:1 eight:144 eight:2 eight:144 four:1 eight:12 STREAM
+bytes demux/seg.1 HEADER SEG_1 HELLO
+bytes demux/book BOOK eight:2 four:1 eight:1 eight:144 four:1 eight:6 STREAM
+run demux => 0 demux taken 6 entries 1 left 0|
+count read => 7
+
+nothing is new, and nothing is read
+bytes archive/seg.1 x
+bytes archive/book BOOK eight:3 four:2 eight:1 eight:144 eight:2 eight:144 four:1 eight:12 STREAM
+bytes demux/book BOOK eight:2 four:1 eight:1 eight:192 four:1 eight:12 STREAM
+run demux => 0 demux taken 0 entries 0 left 0|
+count read => 4
+
+nothing was taken
+bytes archive/seg.1 HEADER SEG_1 HELLO
+bytes archive/seg.2 HEADER SEG_2 WORLD
+bytes archive/book BOOK eight:3 four:2 eight:1 eight:144 eight:2 eight:144 four:1 eight:12 STREAM
+run demux => 0 demux taken 12 entries 2 left 0|
+count read => 9
+is demux/seg.1 HEADER SEG_1 HELLO WORLD
+
+the newest segment is damaged
+bytes archive/seg.1 HEADER SEG_1 HELLO
+bytes archive/seg.2 x
+bytes archive/book BOOK eight:3 four:2 eight:1 eight:144 eight:2 eight:144 four:1 eight:12 STREAM
+bytes demux/book BOOK eight:2 four:1 eight:1 eight:144 four:1 eight:6 STREAM
+run demux => 5 damaged archive/seg.2 0|
+size demux/seg.2 => none
+
+both segments are damaged
+bytes archive/seg.1 x
+bytes archive/seg.2 x
+bytes archive/book BOOK eight:3 four:2 eight:1 eight:144 eight:2 eight:144 four:1 eight:12 STREAM
+bytes demux/book BOOK eight:2 four:1 eight:1 eight:144 four:1 eight:6 STREAM
+run demux => 5 damaged archive/seg.1 0|
+
+the older segment is damaged, and is needed
+bytes archive/seg.1 x
+bytes archive/seg.2 HEADER SEG_2 WORLD
+bytes archive/book BOOK eight:3 four:2 eight:1 eight:144 eight:2 eight:144 four:1 eight:12 STREAM
+run demux => 5 damaged archive/seg.1 0|
+
+the newest record doesn't go on from the older one
+bytes archive/seg.1 HEADER SEG_1 HELLO
+bytes archive/seg.2 HEADER SEG_2 WORL
+bytes archive/book BOOK eight:3 four:2 eight:1 eight:144 eight:2 eight:144 four:1 eight:10 STREAM
+run demux => 5 damaged archive/seg.2 96|
+
+the newest record doesn't reach the end in the book
+bytes archive/seg.1 HEADER SEG_1 HELLO
+bytes archive/seg.2 HEADER SEG_2 WORLD
+bytes archive/book BOOK eight:3 four:2 eight:1 eight:144 eight:2 eight:144 four:1 eight:13 STREAM
+bytes demux/book BOOK eight:2 four:1 eight:1 eight:144 four:1 eight:12 STREAM
+run demux => 5 damaged archive/book 53|
+
+the newest record has another start, where the older one was taken
+bytes archive/seg.1 HEADER SEG_1 HELLO
+bytes archive/seg.2 HEADER SEG_2 EAST
+bytes archive/book BOOK eight:3 four:2 eight:1 eight:144 eight:2 eight:156 four:1 eight:9 STREAM
+bytes demux/book BOOK eight:2 four:1 eight:1 eight:144 four:1 eight:6 STREAM
+run demux => 5 damaged archive/seg.2 96|
+
+the newest segment has two streams, and not in the order of the book
+bytes archive/seg.1 x
+bytes archive/seg.2 HEADER SEG_2 WORLD four:64 four:58 four:54 one:1 eight:2 H1 NAMENODE four:2 \
+B_LINE
+bytes archive/book BOOK eight:3 four:2 eight:1 eight:144 eight:2 eight:212 four:2 eight:2 H1 \
+NAMENODE eight:12 STREAM
+bytes demux/book BOOK eight:2 four:1 eight:1 eight:144 four:1 eight:6 STREAM
+run demux => 0 demux taken 8 entries 2 left 0|
+is demux/seg.2 HEADER SEG_2 four:64 four:58 four:54 one:1 eight:2 H1 NAMENODE four:2 B_LINE WORLD
+
+what is new of one stream stands in the older segment
+bytes archive/seg.1 HEADER SEG_1 HELLO
+bytes archive/seg.2 HEADER SEG_2 four:64 four:58 four:54 one:1 eight:2 H1 NAMENODE four:2 B_LINE
+bytes archive/book BOOK eight:3 four:2 eight:1 eight:144 eight:2 eight:164 four:2 eight:2 H1 \
+NAMENODE eight:6 STREAM
+bytes demux/book BOOK eight:2 four:1 eight:1 eight:164 four:1 eight:2 H1 NAMENODE
+run demux => 0 demux taken 6 entries 1 left 0|
+is demux/seg.2 HEADER SEG_2 HELLO
+
+the same, and that segment is damaged
+bytes archive/seg.1 x
+bytes archive/seg.2 HEADER SEG_2 four:64 four:58 four:54 one:1 eight:2 H1 NAMENODE four:2 B_LINE
+bytes archive/book BOOK eight:3 four:2 eight:1 eight:144 eight:2 eight:164 four:2 eight:2 H1 \
+NAMENODE eight:6 STREAM
+bytes demux/book BOOK eight:2 four:1 eight:1 eight:164 four:1 eight:2 H1 NAMENODE
+run demux => 5 damaged archive/seg.1 0|
+
+the last number of a segment, and what was taken is damaged
+bytes archive/seg.1 x
+bytes archive/seg.2 HEADER SEG_2 WORLD
+bytes archive/book BOOK eight:3 four:2 eight:1 eight:144 eight:2 eight:144 four:1 eight:12 STREAM
+bytes demux/book BOOK eight:9223372036854775807 four:1 eight:1 eight:144 four:1 eight:6 STREAM
+run demux => 8 spent 9223372036854775807|
+
+the last number of a segment, and what is new is damaged
+bytes archive/seg.1 HEADER SEG_1 HELLO
+bytes archive/seg.2 x
+bytes archive/book BOOK eight:3 four:2 eight:1 eight:144 eight:2 eight:144 four:1 eight:12 STREAM
+bytes demux/book BOOK eight:9223372036854775807 four:1 eight:1 eight:144 four:1 eight:6 STREAM
+run demux => 5 damaged archive/seg.2 0|
+
+behind a merge, when all was taken before
+bytes archive/seg.17 HEADER C1_1_1 LINE one:2 REST LINE one:4 REST LINE one:6 REST LINE one:8 \
+REST LINE one:10 REST LINE one:12 REST LINE one:14 REST LINE one:16 REST LINE one:18 REST LINE \
+one:20 REST LINE one:22 REST LINE one:24 REST LINE one:26 REST LINE one:28 REST LINE one:30 REST \
+LINE one:32 REST
+bytes archive/seg.18 HEADER C1_1_1 LINE one:34 REST
+bytes archive/book BOOK eight:19 four:2 eight:17 eight:800 eight:18 eight:140 four:1 eight:34 STREAM
+bytes demux/book BOOK eight:2 four:1 eight:1 eight:800 four:1 eight:32 STREAM
+run demux => 0 demux taken 2 entries 1 left 0|
+count read => 7
+is demux/seg.2 HEADER SEG_2 LINE one:34 REST
+
+behind a merge of what wasn't taken
+bytes archive/seg.17 HEADER C1_1_1 LINE one:2 REST LINE one:4 REST LINE one:6 REST LINE one:8 \
+REST LINE one:10 REST LINE one:12 REST LINE one:14 REST LINE one:16 REST LINE one:18 REST LINE \
+one:20 REST LINE one:22 REST LINE one:24 REST LINE one:26 REST LINE one:28 REST LINE one:30 REST \
+LINE one:32 REST
+bytes archive/seg.18 HEADER C1_1_1 LINE one:34 REST
+bytes archive/book BOOK eight:19 four:2 eight:17 eight:800 eight:18 eight:140 four:1 eight:34 STREAM
+bytes demux/book BOOK eight:2 four:1 eight:1 eight:756 four:1 eight:30 STREAM
+run demux => 0 demux taken 4 entries 2 left 0|
+is demux/seg.2 HEADER SEG_2 LINE one:32 REST LINE one:34 REST
+
+behind a stop in a merge
+bytes archive/seg.15 x
+bytes archive/seg.16 HEADER C1_1_1 LINE one:32 REST
+bytes archive/seg.17 HEADER C1_1_1 LINE one:2 REST LINE
+bytes archive/book BOOK eight:17 four:2 eight:15 eight:756 eight:16 eight:140 four:1 eight:32 STREAM
+bytes demux/book BOOK eight:2 four:1 eight:1 eight:756 four:1 eight:30 STREAM
+run demux => 0 demux taken 2 entries 1 left 0|
+is demux/seg.2 HEADER SEG_2 LINE one:32 REST
+is archive/seg.17 HEADER C1_1_1 LINE one:2 REST LINE
+";
+
+#[test]
+fn reads_from_the_newest_segment_back(rt: HostRuntime) -> Result<(), Fail> {
+    follows_each(rt.alloc(), NEWEST)
+}
+
 // Blocks of 131,072 bytes without a newline, and of 256 lines of 64 bytes.
 const LONG: &str = "\
 lines without end

@@ -30,37 +30,42 @@ returns-in_err-start-clause-told g c stamped before =
     (begin_refused stamped before c.start.result c.in_err-start.field-0.0 c.in_err-start.was (c.start.ensures.told stamped before))
 
 pub returns-in_err-start-clause-raw : goal.returns-in_err-start-clause-raw
-returns-in_err-start-clause-raw g c held settled =
+returns-in_err-start-clause-raw g c held names settled =
     let q = err_from_is_err_and c.from_residual.result c.from_residual.ensures.1 in
-    rw (q.1, q.2) (not_started held settled c.in_err-start.field-0.0 c.start.ensures.works)
+    rw (q.1, q.2) (not_started held names settled c.in_err-start.field-0.0 c.start.ensures.works)
 
 pub returns-in_err-archive-clause-raw : goal.returns-in_err-archive-clause-raw
-returns-in_err-archive-clause-raw g c held settled =
+returns-in_err-archive-clause-raw g c held names settled =
     let q = err_from_is_err_and c.from_residual-in_err-archive.result c.from_residual-in_err-archive.ensures.1 in
     rw (q.1, q.2)
-    (archive_refused held settled c.load_book.result
-    (started held settled (own_of Begins (job_result c.start.result) c.start.ensures.works))
-    (c.load_book.ensures.raw (held archive_name) (small_archive held settled)) (c.load_book.ensures.own c.requires)
+    (archive_refused held names settled c.load_book.result
+    (started held names settled (own_of Begins (job_result c.start.result) c.start.ensures.works))
+    (c.load_book.ensures.raw (held archive_name) (small_archive held names settled))
+    (c.load_book.ensures.own c.requires)
     c.in_err-archive.field-0.0 c.in_err-archive.was)
 
 pub returns-in_err-demux-clause-raw : goal.returns-in_err-demux-clause-raw
-returns-in_err-demux-clause-raw g c held settled =
+returns-in_err-demux-clause-raw g c held names settled =
     let q = err_from_is_err_and c.from_residual-in_err-demux.result c.from_residual-in_err-demux.ensures.1 in
     rw (q.1, q.2)
-    (demux_refused held settled c.load_book.result
-    (started held settled (own_of Begins (job_result c.start.result) c.start.ensures.works))
-    (c.load_book.ensures.raw (held archive_name) (small_archive held settled)) (c.load_book.ensures.own c.requires)
+    (demux_refused held names settled c.load_book.result
+    (started held names settled (own_of Begins (job_result c.start.result) c.start.ensures.works))
+    (c.load_book.ensures.raw (held archive_name) (small_archive held names settled))
+    (c.load_book.ensures.own c.requires)
     c.in_ok-archive.archive c.in_ok-archive.was c.load_book-2.result
-    (c.load_book-2.ensures.raw (held demux_name) (small_demux held settled)) (c.load_book-2.ensures.own c.requires)
+    (c.load_book-2.ensures.raw (held demux_name) (small_demux held names settled))
+    (c.load_book-2.ensures.own c.requires)
     c.in_err-demux.field-0.0 c.in_err-demux.was)
 
 pub returns-clause-raw : goal.returns-clause-raw
-returns-clause-raw g c held settled =
-    books_loaded held settled c.load_book.result
-    (started held settled (own_of Begins (job_result c.start.result) c.start.ensures.works))
-    (c.load_book.ensures.raw (held archive_name) (small_archive held settled)) (c.load_book.ensures.own c.requires)
+returns-clause-raw g c held names settled =
+    books_loaded held names settled c.load_book.result
+    (started held names settled (own_of Begins (job_result c.start.result) c.start.ensures.works))
+    (c.load_book.ensures.raw (held archive_name) (small_archive held names settled))
+    (c.load_book.ensures.own c.requires)
     c.in_ok-archive.archive c.in_ok-archive.was c.load_book-2.result
-    (c.load_book-2.ensures.raw (held demux_name) (small_demux held settled)) (c.load_book-2.ensures.own c.requires)
+    (c.load_book-2.ensures.raw (held demux_name) (small_demux held names settled))
+    (c.load_book-2.ensures.own c.requires)
     c.in_ok-demux.demux c.in_ok-demux.was
 
 pub returns-in_err-archive-clause-told : goal.returns-in_err-archive-clause-told

@@ -97,7 +97,7 @@ returns-clause-works g c =
     (works_as (WritesTo w) (ReadsOrWrites w) (λ call k. inr k) c.split_value.result c.split_value.ensures.works)
 
 pub returns-then-not-ends_past-clause-raw : goal.returns-then-not-ends_past-clause-raw
-returns-then-not-ends_past-clause-raw g c v cs b count records bytes settled apart =
+returns-then-not-ends_past-clause-raw g c v cs ws b count records bytes within settled apart =
     let heads = c.args.heads.now in
     let e = end_view c.args.end.now in
     let misses : ends_past e c.args.from (head_in heads c.args.index) ≡ false =
@@ -111,10 +111,10 @@ returns-then-not-ends_past-clause-raw g c v cs b count records bytes settled apa
     ))
 
 pub returns-in_err-fetch-clause-raw : goal.returns-in_err-fetch-clause-raw
-returns-in_err-fetch-clause-raw g c v cs b count records bytes settled apart =
+returns-in_err-fetch-clause-raw g c v cs ws b count records bytes within settled apart =
     let p = err_from_is_err_and c.from_residual.result c.from_residual.ensures.1 in
     rw (p.1, p.2)
-    (fetch_refused v c.args.files.now c.args.heads.now cs records settled c.args.index c.requires.index c.args.reader.now
+    (fetch_refused v c.args.files.now c.args.heads.now cs records ws within settled c.args.index c.requires.index c.args.reader.now
     c.fetch.new.reader c.fetch.result c.fetch.ensures.raw c.fetch.ensures.own (Unit {0})
     (IsFed cs (end_view c.args.end.now) c.args.from c.args.index b c.args.splitter.now count
     c.args.output.now.entries)
@@ -123,7 +123,7 @@ returns-in_err-fetch-clause-raw g c v cs b count records bytes settled apart =
     c.fetch.new.reader c.in_err-fetch.field-0.0 c.in_err-fetch.was)
 
 pub returns-clause-raw : goal.returns-clause-raw
-returns-clause-raw g c v cs b count records bytes settled apart =
+returns-clause-raw g c v cs ws b count records bytes within settled apart =
     let w = segment_name (codes "demux") (book_view c.args.book.now).next in
     let files = c.args.files.now in
     let heads = c.args.heads.now in
@@ -141,10 +141,10 @@ returns-clause-raw g c v cs b count records bytes settled apart =
     ap (λ (h : Head). h.begin) c.get-head.ensures.head
     ∙ (record_at v files heads cs e c.args.from records bytes i c.requires.index).begin in
     leads_then
-    (fetched_on v files heads cs records settled i c.requires.index c.args.reader.now
+    (fetched_on v files heads cs records ws within settled i c.requires.index c.args.reader.now
     c.fetch.new.reader c.fetch.result c.fetch.ensures.raw c.fetch.ensures.own fed
     c.in_ok-fetch.field-0 c.in_ok-fetch.was)
-    (written_on v files heads cs records settled w apart c.fetch.new.reader
+    (written_on v files heads cs records ws within settled w apart c.fetch.new.reader
     ((value_held c.fetch.new.reader ≡ own.value) × fed) more c.split_value.result
     c.split_value.ensures.only
     (λ value good x.

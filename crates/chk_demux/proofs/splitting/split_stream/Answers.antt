@@ -1,4 +1,4 @@
-use Rattle.std.proofs.Common.{◌≡◌, ◌∙◌, ◌+◌, ◌-◌, ◌++◌, ap, sym, subst, refl, inl, arith, length, Ok, ℕ}
+use Rattle.std.proofs.Common.{◌≡◌, ◌≤◌, ◌∙◌, ◌+◌, ◌-◌, ◌++◌, ap, sym, subst, refl, inl, arith, length, Ok, ℕ}
 use Rattle.std.specs.Prelude.{codes}
 use Rattle.std.proofs.lemmas.Result.{err_from_is_err_and}
 use Rattle.chk_site.specs.Site.{Adds}
@@ -14,20 +14,52 @@ use Rattle.chk_splitter.specs.Splitting.{fresh, pieces_of}
 use Rattle.chk_demux.specs.Working.{Worked}
 use Rattle.chk_demux.specs.Writes.{IsOutput}
 use Rattle.chk_demux.specs.Giving.{chunks_of_fed}
-use Rattle.chk_demux.specs.Splitting.{texts, past_in, is_stamped, RunsSo, SplitSoFar, stream_chunks, stream_left}
+use Rattle.chk_demux.specs.Splitting.{texts, past_in, split_from, is_stamped, RunsSo, SplitSoFar, stream_chunks, stream_left}
 use Rattle.chk_demux.specs.Shown.{PutsIf}
 use Rattle.chk_demux.specs.Due.{IsFed, StreamHasRecord}
 use Rattle.chk_demux.proofs.Due.{fed_none, fed_all}
+use Rattle.chk_demux.proofs.Quiet.{quiet}
 use Rattle.chk_demux.proofs.RawReads.{on_refused, on_done}
 use Rattle.chk_demux.proofs.Ends.{at_as, so_fails, so_done}
 use Rattle.chk_demux.proofs.Streams.{stream_begun, stream_ended}
 use Rattle.chk_demux.proofs.Works.{works_none, works_then, works_result}
-use Rattle.chk_site.proofs.Runs.{adds_as}
+use Rattle.chk_site.proofs.Runs.{adds_as, adds_none}
 use Rattle.chk_heads.proofs.Causes.{shows_then}
 use Rattle.chk_merge.specs.Gone.{IsGoneIn}
 use Rattle.chk_merge.proofs.Causes.{late_gone_in}
 use Rattle.chk_demux.proofs.NewHeads.{then_put, head_put}
 use Rattle.chk_demux.proofs.splitting.split_stream.Goals as goal
+
+pub returns-then-from-end-clause-told : goal.returns-then-from-end-clause-told
+returns-then-from-end-clause-told g c stamped v cs outs records free runs holds goes =
+    let e = end_view c.args.end.now in
+    let types = texts c.args.types.now in
+    let b = book_view c.args.book.now in
+    let heads = c.args.heads.now in
+    let files = c.args.files.now in
+    let o = c.args.output.now in
+    let r = c.args.reader.now in
+    let low : e.end ≤ split_from b e = subst (λ n. e.end ≤ n) goes c.if-from-end.true in
+    leads_none (g.S.Site.told c.args.site.now)
+    (λ h k. at_as stamped (λ u. IsOutput v outs o u × AreWindows v files r)
+    (λ u. IsOutput v (outs ++ stream_chunks types b heads cs e) o u × AreWindows v files r
+    × (0 ≡ stream_left types b cs e))
+    (λ u p. quiet types b heads cs outs e runs low v files o r u p) h k)
+
+pub returns-then-from-end-clause-raw : goal.returns-then-from-end-clause-raw
+returns-then-from-end-clause-raw g c v cs ws records bytes within settled apart holds =
+    leads_none (g.S.Site.told c.args.site.now) (λ h z. (z, inl refl))
+
+pub returns-then-from-end-clause-due : goal.returns-then-from-end-clause-due
+returns-then-from-end-clause-due g c = inl refl
+
+pub returns-then-from-end-clause-shown : goal.returns-then-from-end-clause-shown
+returns-then-from-end-clause-shown g c = adds_none _ _ (λ history. tt)
+
+pub returns-then-from-end-clause-works : goal.returns-then-from-end-clause-works
+returns-then-from-end-clause-works g c =
+    works_none (ReadsOrWrites (segment_name (codes "demux") (book_view c.args.book.now).next)) 0
+    (g.S.Site.told c.args.site.now)
 
 pub loop-index-init : goal.loop-index-init
 loop-index-init g c = record {
@@ -39,7 +71,7 @@ loop-index-init g c = record {
       (λ u p. stream_begun v c.args.files.now c.args.heads.now cs outs (end_view c.args.end.now) c.args.from b
       c.args.output.now c.args.reader.now c.new-splitter.result u c.args.block.first c.args.block.end c.requires.block.0
       c.requires.block.1 records runs holds is p) h k);
-  raw_so_far = λ v cs b records bytes settled apart holds is.
+  raw_so_far = λ v cs ws b records bytes within settled apart holds is.
       leads_none (g.S.Site.told c.args.site.now)
       (λ h z. (
         z,
@@ -69,13 +101,13 @@ loop-index-preserved g c =
           c.split_record.new.reader c.split_record.new.splitter u)
           c.split_record.result c.in_ok-split_record.field-0 c.in_ok-split_record.was
           (c.split_record.ensures.told stamped v cs outs b records free runs));
-      raw_so_far = λ v cs b records bytes settled apart holds is.
-          leads_then (l.invariant.raw_so_far v cs b records bytes settled apart holds is)
-          (on_done v c.args.files.now c.args.heads.now cs records settled
+      raw_so_far = λ v cs ws b records bytes within settled apart holds is.
+          leads_then (l.invariant.raw_so_far v cs ws b records bytes within settled apart holds is)
+          (on_done v c.args.files.now c.args.heads.now cs records ws within settled
           (IsFed cs e from (l.index + 1) b c.split_record.new.splitter c.args.output.now.entries
           c.split_record.new.output.entries) c.split_record.new.reader
           c.split_record.result c.in_ok-split_record.field-0 c.in_ok-split_record.was
-          (c.split_record.ensures.raw v cs b c.args.output.now.entries records bytes settled apart));
+          (c.split_record.ensures.raw v cs ws b c.args.output.now.entries records bytes within settled apart));
       writer = c.in_ok-split_record.ensures.writer;
       due = then_put c.args.output.now.entries l.output.entries c.split_record.new.output.entries
           l.invariant.due
@@ -155,7 +187,7 @@ returns-clause-told g c stamped v cs outs records free runs holds goes =
     (l.invariant.so_far stamped v cs outs b records free here holds is)
 
 pub returns-in_err-split_record-clause-raw : goal.returns-in_err-split_record-clause-raw
-returns-in_err-split_record-clause-raw g c v cs records bytes settled apart holds =
+returns-in_err-split_record-clause-raw g c v cs ws records bytes within settled apart holds =
     let p = err_from_is_err_and c.from_residual.result c.from_residual.ensures.1 in
     let l = c.loop-index in
     let e = end_view c.args.end.now in
@@ -167,15 +199,15 @@ returns-in_err-split_record-clause-raw g c v cs records bytes settled apart hold
     let is : c.new-splitter.result ≡ fresh b =
     c.new-splitter.ensures ∙ ap fresh (c.is_stamped.ensures ∙ ap (is_stamped types) c.as_str.ensures.text) in
     rw (p.1, p.2)
-    (leads_then (l.invariant.raw_so_far v cs b records bytes settled apart holds is)
-    (on_refused v c.args.files.now c.args.heads.now cs records settled ℕ
+    (leads_then (l.invariant.raw_so_far v cs ws b records bytes within settled apart holds is)
+    (on_refused v c.args.files.now c.args.heads.now cs records ws within settled ℕ
     (IsFed cs e from (l.index + 1) b c.split_record.new.splitter old new)
     (PutsIf (StreamHasRecord types cs e from) old new) c.split_record.new.reader
     c.split_record.new.reader c.split_record.result c.in_err-split_record.field-0.0 c.in_err-split_record.was
-    (c.split_record.ensures.raw v cs b old records bytes settled apart)))
+    (c.split_record.ensures.raw v cs ws b old records bytes within settled apart)))
 
 pub returns-clause-raw : goal.returns-clause-raw
-returns-clause-raw g c v cs records bytes settled apart holds =
+returns-clause-raw g c v cs ws records bytes within settled apart holds =
     let l = c.loop-index in
     let e = end_view c.args.end.now in
     let types = texts c.args.types.now in
@@ -193,7 +225,7 @@ returns-clause-raw g c v cs records bytes settled apart holds =
           c.args.block.first past c.requires.block.0 c.requires.block.1 holds l.splitter l.index
           c.args.output.now.entries l.output.entries all z.1,
     ))
-    (l.invariant.raw_so_far v cs b records bytes settled apart holds is)
+    (l.invariant.raw_so_far v cs ws b records bytes within settled apart holds is)
 
 pub returns-in_err-split_record-clause-shown : goal.returns-in_err-split_record-clause-shown
 returns-in_err-split_record-clause-shown g c =

@@ -17,7 +17,7 @@ use Rattle.chk_parts.specs.Gathering.{held}
 use Rattle.chk_parts.specs.Records.{AreRecords}
 use Rattle.chk_parts.specs.Fetching.{AreWindows}
 use Rattle.chk_splitter.specs.Splitting.{fresh}
-use Rattle.chk_demux.specs.Damage.{AreRead}
+use Rattle.chk_demux.specs.Damage.{AreRead, AreOfNew}
 use Rattle.chk_demux.specs.Due.{IsFed}
 use Rattle.chk_demux.specs.Working.{Worked}
 use Rattle.chk_demux.specs.Writes.{IsFree, IsWriter, IsOutput}
@@ -33,14 +33,15 @@ invariant-loop-index g l = record {
       → Adds (g.S.Site.told l.fn.site) (g.S.Site.told l.site) (Leads (As stamped job)
       (AtJob stamped (λ u. IsOutput v outs l.fn.output u × AreWindows v l.files l.fn.reader))
       (AtJob stamped (SplitSoFar v l.files l.heads cs outs (end_view l.end) l.from l.index b l.output l.reader l.splitter)));
-  raw_so_far : (v : Sight) (cs : List Chunk) (b : Bool) → AreRecords v l.files l.heads cs
-      → Each HasBytes cs → AreSettled l.files (held v)
-      → AreApart l.files (segment_name (codes "demux") (book_view l.book).next)
+  raw_so_far : (v : Sight) (cs : List Chunk) (new : List (List ℕ)) (b : Bool)
+      → AreRecords v l.files l.heads cs → Each HasBytes cs → AreOfNew l.files l.heads new
+      → AreSettled new (held v)
+      → AreApart new (segment_name (codes "demux") (book_view l.book).next)
       → HoldsStream l.heads (end_view l.end).stream l.fn.block.first l.fn.block.end
       → l.initial.splitter ≡ fresh b
-      → Adds (g.S.Site.told l.fn.site) (g.S.Site.told l.site) (Leads (anyhow (SparesFiles l.files))
-      (AreRead v l.files l.fn.reader)
-      (λ h. AreRead v l.files l.reader h × IsFed cs (end_view l.end) l.from l.index b l.splitter
+      → Adds (g.S.Site.told l.fn.site) (g.S.Site.told l.site) (Leads (anyhow (SparesFiles new))
+      (AreRead v new l.files l.fn.reader)
+      (λ h. AreRead v new l.files l.reader h × IsFed cs (end_view l.end) l.from l.index b l.splitter
       l.fn.output.entries l.output.entries));
   writer : IsWriter (book_view l.book).next l.output.segmenter;
   due : PutsIf (HasPast l.heads (end_view l.end) l.from) l.fn.output.entries l.output.entries;

@@ -41,7 +41,7 @@ loop-end-init g c = record {
         alive = λ running.
             (k.alive running, nothing_windows v c.args.files.now c.new-reader.result c.new-reader.ensures, refl);
       });
-  raw_so_far = λ v cs records bytes settled apart rise rises.
+  raw_so_far = λ v cs ws records bytes within settled apart rise rises.
       leads_none (g.S.Site.told c.args.site.now)
       (λ h z. ((z, nothing_windows v c.args.files.now c.new-reader.result c.new-reader.ensures), inl refl));
   writer = c.requires.writer;
@@ -95,12 +95,12 @@ loop-end-preserved g c =
           )) h k)
           (stream_done stamped w A P P X R c.split_stream.result first second c.split_stream.ensures.works
           c.in_ok-more.more c.in_ok-more.was);
-      raw_so_far = λ v cs records bytes settled apart rise rises.
+      raw_so_far = λ v cs ws records bytes within settled apart rise rises.
           let a = book_view c.args.archive.now in
           let old = c.args.output.now.entries in
           let new = c.split_stream.new.output.entries in
           let from = c.split_from-from.result in
-          leads_then (l.invariant.raw_so_far v cs records bytes settled apart rise rises)
+          leads_then (l.invariant.raw_so_far v cs ws records bytes within settled apart rise rises)
           (leads_as (λ h z. z)
           (λ h z. (
             z.0.0,
@@ -109,10 +109,10 @@ loop-end-preserved g c =
                 (c.split_from-from.ensures rises) z.0.1),
           ))
           (beside (PutsIf (HasDue types a b cs) old l.output.entries)
-          (on_done v files heads cs records settled
+          (on_done v files heads cs records ws within settled
           (PutsIf (StreamHasRecord types cs e from) l.output.entries new)
           c.split_stream.new.reader c.split_stream.result c.in_ok-more.more c.in_ok-more.was
-          (c.split_stream.ensures.raw v cs records bytes settled apart
+          (c.split_stream.ensures.raw v cs ws records bytes within settled apart
           (c.block_of-block.ensures.holds rise)))));
       writer = c.in_ok-more.ensures.writer;
       due = λ rises.
@@ -247,40 +247,40 @@ returns-clause-told g c stamped v cs records free runs rise rises =
     (l.invariant.so_far stamped v cs records free runs rise rises)
 
 pub returns-in_err-more-clause-raw : goal.returns-in_err-more-clause-raw
-returns-in_err-more-clause-raw g c v cs records bytes settled apart rise rises =
+returns-in_err-more-clause-raw g c v cs ws records bytes within settled apart rise rises =
     let p = err_from_is_err_and c.from_residual.result c.from_residual.ensures.1 in
     let l = c.loop-end in
     let types = texts c.args.types.now in
     let b = book_view c.args.book.now in
     let new = c.split_stream.new.output.entries in
     rw (p.1, p.2)
-    (none_damaged v c.args.files.now c.args.heads.now cs records settled ℕ
+    (none_damaged v c.args.files.now c.args.heads.now cs records ws within settled ℕ
     (PutsIf (StreamHasRecord types cs (end_view c.end-item.result) c.split_from-from.result)
     l.output.entries new)
     (PutsIf (HasDue types (book_view c.args.archive.now) b cs) c.args.output.now.entries new)
     c.split_stream.new.reader c.split_stream.result c.in_err-more.field-0.0 c.in_err-more.was
     (leads_then
     (leads_as (λ h z. z) (λ h z. z.0)
-    (l.invariant.raw_so_far v cs records bytes settled apart rise rises))
-    (c.split_stream.ensures.raw v cs records bytes settled apart
+    (l.invariant.raw_so_far v cs ws records bytes within settled apart rise rises))
+    (c.split_stream.ensures.raw v cs ws records bytes within settled apart
     (c.block_of-block.ensures.holds rise))))
 
 pub returns-in_err-left-clause-raw : goal.returns-in_err-left-clause-raw
-returns-in_err-left-clause-raw g c v cs records bytes settled apart rise rises =
+returns-in_err-left-clause-raw g c v cs ws records bytes within settled apart rise rises =
     let p = err_from_is_err_and c.from_residual-in_err-left.result c.from_residual-in_err-left.ensures.1 in
     let l = c.loop-end in
     rw (p.1, p.2, c.in_err-left.ensures.only)
     (leads_as (λ h z. z) (λ h z. tt)
     (leads_then
     (leads_as (λ h z. z) (λ h z. z.0)
-    (l.invariant.raw_so_far v cs records bytes settled apart rise rises))
-    (c.split_stream.ensures.raw v cs records bytes settled apart
+    (l.invariant.raw_so_far v cs ws records bytes within settled apart rise rises))
+    (c.split_stream.ensures.raw v cs ws records bytes within settled apart
     (c.block_of-block.ensures.holds rise))))
 
 pub returns-clause-raw : goal.returns-clause-raw
-returns-clause-raw g c v cs records bytes settled apart rise rises =
+returns-clause-raw g c v cs ws records bytes within settled apart rise rises =
     leads_as (λ h z. z) (λ h z. z.1)
-    (c.loop-end.invariant.raw_so_far v cs records bytes settled apart rise rises)
+    (c.loop-end.invariant.raw_so_far v cs ws records bytes within settled apart rise rises)
 
 pub returns-in_err-more-clause-shown : goal.returns-in_err-more-clause-shown
 returns-in_err-more-clause-shown g c =

@@ -16,7 +16,7 @@ use Rattle.chk_merge.specs.Merging.{AreApart}
 use Rattle.chk_parts.specs.Gathering.{held}
 use Rattle.chk_parts.specs.Records.{AreRecords}
 use Rattle.chk_parts.specs.Fetching.{AreWindows}
-use Rattle.chk_demux.specs.Damage.{AreRead}
+use Rattle.chk_demux.specs.Damage.{AreRead, AreOfNew}
 use Rattle.chk_demux.specs.Due.{HasDue}
 use Rattle.chk_demux.specs.Working.{Worked}
 use Rattle.chk_demux.specs.Writes.{IsFree, IsWriter, IsOutput}
@@ -34,12 +34,13 @@ invariant-loop-end g l = record {
       (AtJob stamped (λ u. IsOutput v (all_chunks (texts l.types) (book_view l.book) l.heads cs (take l.end-index (book_view l.archive).ends)) l.output u
       × AreWindows v l.files l.reader
       × (l.left ≡ all_left (texts l.types) (book_view l.book) cs (take l.end-index (book_view l.archive).ends)))));
-  raw_so_far : (v : Sight) (cs : List Chunk) → AreRecords v l.files l.heads cs → Each HasBytes cs
-      → AreSettled l.files (held v)
-      → AreApart l.files (segment_name (codes "demux") (book_view l.book).next)
+  raw_so_far : (v : Sight) (cs : List Chunk) (new : List (List ℕ))
+      → AreRecords v l.files l.heads cs → Each HasBytes cs → AreOfNew l.files l.heads new
+      → AreSettled new (held v)
+      → AreApart new (segment_name (codes "demux") (book_view l.book).next)
       → StreamsRise l.heads → IsTrue (ends_rise (book_view l.book).ends)
-      → Adds (g.S.Site.told l.fn.site) (g.S.Site.told l.site) (Leads (anyhow (SparesFiles l.files))
-      (HasFiles l.files (held v)) (λ h. AreRead v l.files l.reader h
+      → Adds (g.S.Site.told l.fn.site) (g.S.Site.told l.site) (Leads (anyhow (SparesFiles new))
+      (HasFiles new (held v)) (λ h. AreRead v new l.files l.reader h
       × PutsIf (HasDue (texts l.types) (book_view l.archive) (book_view l.book) cs)
       l.fn.output.entries l.output.entries));
   writer : IsWriter (book_view l.book).next l.output.segmenter;
