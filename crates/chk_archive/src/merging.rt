@@ -18,8 +18,8 @@ ghost use Rattle.chk_archive.specs.Archived.{MergesBy};
 ghost use Rattle.chk_archive.specs.Merged.{Merged};
 
 use chk_book::Book;
+use chk_cursors::merge;
 use chk_heads::JobFault;
-use chk_merge::merge;
 use chk_parts::publish_next;
 use chk_site::{Site, Who};
 use std::alloc::Global;

@@ -18,6 +18,9 @@ const HEAD_4: &[u8] = b"CHKB\x04";
 // last byte.
 const TEXTS: &[u8] = b"\0\x02h1\0\x03Log\0\x06/a.log";
 
+// The texts of the stream of h2.
+const TEXTS_EAST: &[u8] = b"\0\x02h2\0\x03Log\0\x06/a.log";
+
 const BEFORE: &[u8] = b"\0\x02h0\0\x03Log\0\x06/a.log";
 
 const TYPED_BEFORE: &[u8] = b"\0\x02h1\0\x03App\0\x06/a.log";
@@ -42,6 +45,7 @@ pub(crate) fn field(name: &str) -> Option<&'static [u8]> {
         "HEAD_0" => Some(HEAD_0),
         "HEAD_4" => Some(HEAD_4),
         "TEXTS" => Some(TEXTS),
+        "TEXTS_EAST" => Some(TEXTS_EAST),
         "BEFORE" => Some(BEFORE),
         "TYPED_BEFORE" => Some(TYPED_BEFORE),
         "CUT" => Some(CUT),

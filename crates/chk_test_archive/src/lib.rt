@@ -18,6 +18,8 @@ mod gaps;
 #[cfg(test)]
 mod numbers;
 #[cfg(test)]
+mod orders;
+#[cfg(test)]
 mod passed;
 #[cfg(test)]
 mod records;

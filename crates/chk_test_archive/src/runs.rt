@@ -160,6 +160,31 @@ book = next 19, 17 816, 18 140, h1 Log /a.log 0 32, h2 Log /a.log 100 104
 is archive/seg.17 SEG_17 FIFTEEN EAST
 archive h1 = [a|a|a|a|a|a|a|a|a|a|a|a|a|a|a|a|]
 run = unclosed 0 - taken 0 held 0 removed 0, h1 Log /a.log 0 32, h2 Log /a.log 100 104
+
+streams in another order in the first of sixteen segments
+put archive/seg.1 SEG_1 EAST LINE 2 REST
+put archive/seg.2 SEG_1 LINE 4 REST
+put archive/seg.3 SEG_1 LINE 6 REST
+put archive/seg.4 SEG_1 LINE 8 REST
+put archive/seg.5 SEG_1 LINE 10 REST
+put archive/seg.6 SEG_1 LINE 12 REST
+put archive/seg.7 SEG_1 LINE 14 REST
+put archive/seg.8 SEG_1 LINE 16 REST
+put archive/seg.9 SEG_1 LINE 18 REST
+put archive/seg.10 SEG_1 LINE 20 REST
+put archive/seg.11 SEG_1 LINE 22 REST
+put archive/seg.12 SEG_1 LINE 24 REST
+put archive/seg.13 SEG_1 LINE 26 REST
+put archive/seg.14 SEG_1 LINE 28 REST
+put archive/seg.15 SEG_1 LINE 30 REST
+put archive/seg.16 SEG_1 LINE 32 REST
+put archive/book HEAD_2 17 #16 1 200 2 140 3 140 4 140 5 140 6 140 7 140 8 140 9 140 10 140 \
+11 140 12 140 13 140 14 140 15 140 16 140 #2 0 32 TEXTS 100 104 TEXTS_EAST
+run = unclosed 0 - taken 0 held 0 removed 0, h1 Log /a.log 0 32, h2 Log /a.log 100 104
+book = next 18, 17 860, h1 Log /a.log 0 32, h2 Log /a.log 100 104
+is archive/seg.17 SEG_17 LINE 2 REST LINE 4 REST LINE 6 REST LINE 8 REST LINE 10 REST LINE \
+12 REST LINE 14 REST LINE 16 REST LINE 18 REST LINE 20 REST LINE 22 REST LINE 24 REST LINE \
+26 REST LINE 28 REST LINE 30 REST LINE 32 REST EAST
 ";
 
 #[test]

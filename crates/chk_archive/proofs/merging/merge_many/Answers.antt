@@ -34,8 +34,11 @@ many_view b many =
     let size : length (map segment_view b.segments) ≡ length b.segments = length-map b.segments segment_view in
     omega (arith, many, size)
 
-pub merge-requires : goal.merge-requires
-merge-requires g c = archive_folder
+pub merge-requires-clause-folder : goal.merge-requires-clause-folder
+merge-requires-clause-folder g c = archive_folder
+
+pub merge-requires-clause-job : goal.merge-requires-clause-job
+merge-requires-clause-job g c = c.requires
 
 pub publish_next-requires-clause-folder : goal.publish_next-requires-clause-folder
 publish_next-requires-clause-folder g c = archive_folder
@@ -49,15 +52,15 @@ returns-in_err-merge-clause-told g c stamped =
     (leads_as (λ h k. k) (λ h k. merge_fails stamped b new new c.in_err-merge.field-0.0 h k)
     (merged_so stamped b new (Err c.in_err-merge.field-0.0) c.in_err-merge.ensures.spent
     (many_view c.args.book.now (subst (λ l. 16 ≤ length l) c.as_slice.ensures c.if-as_slice-lt-MANY.false))
-    (λ held settled apart. c.in_err-merge.ensures.raw held c.requires settled apart) (c.in_err-merge.ensures.own c.requires)))
+    (λ held settled apart. c.in_err-merge.ensures.raw held settled apart) c.in_err-merge.ensures.own))
 
 pub returns-in_err-merge-clause-own : goal.returns-in_err-merge-clause-own
 returns-in_err-merge-clause-own g c =
     let n = (book_view c.args.book.now).next in
-    as_kind (ReadsOrWrites (segment_name (codes "archive") n)) MergesBy (of_merge n) (c.in_err-merge.ensures.own c.requires)
+    as_kind (ReadsOrWrites (segment_name (codes "archive") n)) MergesBy (of_merge n) c.in_err-merge.ensures.own
 
 pub returns-in_err-merge-clause-pieces : goal.returns-in_err-merge-clause-pieces
-returns-in_err-merge-clause-pieces g c = c.in_err-merge.ensures.pieces c.requires
+returns-in_err-merge-clause-pieces g c = c.in_err-merge.ensures.pieces
 
 pub returns-in_err-publish_next-clause-told : goal.returns-in_err-publish_next-clause-told
 returns-in_err-publish_next-clause-told g c stamped =
@@ -68,7 +71,7 @@ returns-in_err-publish_next-clause-told g c stamped =
     rw (q.1, q.2)
     (publish_fails stamped b new many c.publish_next.result
     (merged_so stamped b new (Ok tt) c.in_ok-merge.ensures.spent many
-    (λ held settled apart. c.in_ok-merge.ensures.raw held c.requires settled apart) (c.in_ok-merge.ensures.own c.requires))
+    (λ held settled apart. c.in_ok-merge.ensures.raw held settled apart) c.in_ok-merge.ensures.own)
     c.publish_next.ensures.own (λ u may. c.publish_next.ensures.told stamped ArchiveFolder u refl may) new c.in_err-publish_next.field-0.0
     c.in_err-publish_next.was)
 
@@ -76,18 +79,18 @@ pub returns-in_err-publish_next-clause-own : goal.returns-in_err-publish_next-cl
 returns-in_err-publish_next-clause-own g c =
     let n = (book_view c.args.book.now).next in
     every_then (IsOf MergesBy)
-    (as_kind (ReadsOrWrites (segment_name (codes "archive") n)) MergesBy (of_merge n) (c.in_ok-merge.ensures.own c.requires))
+    (as_kind (ReadsOrWrites (segment_name (codes "archive") n)) MergesBy (of_merge n) c.in_ok-merge.ensures.own)
     (as_kind ReplacesBook MergesBy of_replace c.publish_next.ensures.own)
 
 pub returns-in_err-publish_next-clause-pieces : goal.returns-in_err-publish_next-clause-pieces
 returns-in_err-publish_next-clause-pieces g c =
-    every_then AsksInPieces (c.in_ok-merge.ensures.pieces c.requires) (no_reads ReplacesBook (replaces_no_reads (codes "archive")) c.publish_next.ensures.own)
+    every_then AsksInPieces c.in_ok-merge.ensures.pieces (no_reads ReplacesBook (replaces_no_reads (codes "archive")) c.publish_next.ensures.own)
 
 pub returns-in_err-publish_next-clause-last : goal.returns-in_err-publish_next-clause-last
 returns-in_err-publish_next-clause-last g c =
     let q = err_from_is_err_and c.from_residual-in_err-publish_next.result c.from_residual-in_err-publish_next.ensures.1 in
     rw (q.1, q.2)
-    (fails_behind {T = Unit {0}} (Err (job_fault c.in_err-publish_next.field-0.0)) (c.in_ok-merge.ensures.own c.requires)
+    (fails_behind {T = Unit {0}} (Err (job_fault c.in_err-publish_next.field-0.0)) c.in_ok-merge.ensures.own
     (as_fails (Unit {0}) (Unit {0}) c.in_err-publish_next.field-0.0 c.in_err-publish_next.ensures.last))
 
 pub returns-clause-told : goal.returns-clause-told
@@ -97,24 +100,24 @@ returns-clause-told g c stamped =
     let many = many_view c.args.book.now (subst (λ l. 16 ≤ length l) c.as_slice.ensures c.if-as_slice-lt-MANY.false) in
     all_merged stamped b new many c.publish_next.result
     (merged_so stamped b new (Ok tt) c.in_ok-merge.ensures.spent many
-    (λ held settled apart. c.in_ok-merge.ensures.raw held c.requires settled apart) (c.in_ok-merge.ensures.own c.requires))
+    (λ held settled apart. c.in_ok-merge.ensures.raw held settled apart) c.in_ok-merge.ensures.own)
     c.publish_next.ensures.own (λ u may. c.publish_next.ensures.told stamped ArchiveFolder u refl may) tt c.in_ok-publish_next.was
 
 pub returns-clause-own : goal.returns-clause-own
 returns-clause-own g c =
     let n = (book_view c.args.book.now).next in
     every_then (IsOf MergesBy)
-    (as_kind (ReadsOrWrites (segment_name (codes "archive") n)) MergesBy (of_merge n) (c.in_ok-merge.ensures.own c.requires))
+    (as_kind (ReadsOrWrites (segment_name (codes "archive") n)) MergesBy (of_merge n) c.in_ok-merge.ensures.own)
     (as_kind ReplacesBook MergesBy of_replace c.publish_next.ensures.own)
 
 pub returns-clause-pieces : goal.returns-clause-pieces
 returns-clause-pieces g c =
-    every_then AsksInPieces (c.in_ok-merge.ensures.pieces c.requires) (no_reads ReplacesBook (replaces_no_reads (codes "archive")) c.publish_next.ensures.own)
+    every_then AsksInPieces c.in_ok-merge.ensures.pieces (no_reads ReplacesBook (replaces_no_reads (codes "archive")) c.publish_next.ensures.own)
 
 pub returns-clause-last : goal.returns-clause-last
 returns-clause-last g c =
     adds_as (FailsLast {T = Unit {0}} (Ok tt))
-    (every_then AsksInPieces (c.in_ok-merge.ensures.pieces c.requires) (no_reads ReplacesBook (replaces_no_reads (codes "archive")) c.publish_next.ensures.own))
+    (every_then AsksInPieces c.in_ok-merge.ensures.pieces (no_reads ReplacesBook (replaces_no_reads (codes "archive")) c.publish_next.ensures.own))
     (λ added history k. tt)
 
 pub returns-then-as_slice-lt-MANY-clause-told : goal.returns-then-as_slice-lt-MANY-clause-told
@@ -155,12 +158,12 @@ returns-in_err-publish_next-clause-shown g c =
     let q = err_from_is_err_and c.from_residual-in_err-publish_next.result c.from_residual-in_err-publish_next.ensures.1 in
     rw (q.1, q.2)
     (shows_outside (Unit {0}) (IsUnsound (codes "archive") (book_view c.args.book.now)) c.in_err-publish_next.field-0.0
-    (every_then AsksInPieces (c.in_ok-merge.ensures.pieces c.requires) (no_reads ReplacesBook (replaces_no_reads (codes "archive")) c.publish_next.ensures.own)))
+    (every_then AsksInPieces c.in_ok-merge.ensures.pieces (no_reads ReplacesBook (replaces_no_reads (codes "archive")) c.publish_next.ensures.own)))
 
 pub returns-clause-shown : goal.returns-clause-shown
 returns-clause-shown g c =
     shows_ok (IsUnsound (codes "archive") (book_view c.args.book.now)) (tt {0})
-    (every_then AsksInPieces (c.in_ok-merge.ensures.pieces c.requires) (no_reads ReplacesBook (replaces_no_reads (codes "archive")) c.publish_next.ensures.own))
+    (every_then AsksInPieces c.in_ok-merge.ensures.pieces (no_reads ReplacesBook (replaces_no_reads (codes "archive")) c.publish_next.ensures.own))
 
 pub returns-in_err-merge-clause-spent : goal.returns-in_err-merge-clause-spent
 returns-in_err-merge-clause-spent g c =

@@ -1,0 +1,15 @@
+pub mod Works
+pub mod Blocks
+pub mod InOrder
+pub mod FileOrder
+pub mod ShortReads
+pub mod Going
+pub mod Onward
+pub mod Values
+pub mod Sides
+pub mod Touring
+pub mod InTurn
+pub mod Beside
+pub mod Opening
+pub mod Putting
+pub mod Wholes
