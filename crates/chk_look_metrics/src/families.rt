@@ -1,0 +1,245 @@
+//! The families of metrics.
+
+ghost use Rattle.std.specs.Prelude.{◌≡◌, ◌++◌, ◌≤◌, flat_map, string_bytes, IfOk, OnOk};
+ghost use Rattle.chk_book.specs.Books.{book_view};
+ghost use Rattle.chk_book.specs.Views.{end_view};
+ghost use Rattle.chk_look_rows.specs.Lines.{split_to};
+ghost use Rattle.chk_look_metrics.specs.Families.{archived_row, committed_row, demuxed_row};
+ghost use Rattle.chk_look_metrics.specs.Families.{family_text, head_of, help_of, metrics_text, name_of};
+ghost use Rattle.chk_look_metrics.specs.Families.{open_families, quiet_of, quiet_row, rows_of, sink_families, stream_families, type_of, waiting_families, written_row};
+ghost use Rattle.chk_look_metrics.specs.Metrics.{store_row};
+ghost use Rattle.chk_bytes.specs.Stems.{stem_text};
+
+use crate::rows::{put_sink_row, put_store_row, put_stream_row};
+use chk_book::{Book, End};
+use chk_bytes::{Bytes, NoMemory};
+use chk_look_rows::OpenSink;
+use chk_look_status::StoreSeen;
+use std::alloc::Global;
+
+/// A store that was seen, and the name of its folder.
+#[derive(Debug, Drop)]
+pub struct NamedStore {
+    pub folder: String,
+    pub seen: StoreSeen,
+}
+
+/// What the rows of a family tell.
+#[derive(Clone, Copy, Debug, PartialEq, Eq)]
+pub(crate) enum Family {
+    Archived,
+    Demuxed,
+    Written,
+    Committed,
+    Quiet,
+    Unclosed,
+    Closed,
+    Held,
+}
+
+impl Family {
+    /// The name of its metric.
+    fn name(self) -> &'static str
+        ensures { result.now ≡ name_of self }
+    {
+        match self {
+            Family::Archived => "chukwa_archived_bytes",
+            Family::Demuxed => "chukwa_demuxed_bytes",
+            Family::Written => "chukwa_sink_written_bytes",
+            Family::Committed => "chukwa_sink_committed_bytes",
+            Family::Quiet => "chukwa_sink_quiet_seconds",
+            Family::Unclosed => "chukwa_sinks_unclosed",
+            Family::Closed => "chukwa_sinks_closed",
+            Family::Held => "chukwa_chunks_held",
+        }
+    }
+
+    /// What its metric is.
+    fn help(self) -> &'static str
+        ensures { result.now ≡ help_of self }
+    {
+        match self {
+            Family::Archived => "Offset up to which the stream is archived.",
+            Family::Demuxed => "Offset up to which the stream is split into records.",
+            Family::Written => "Length of a sink under writing.",
+            Family::Committed => "Length up to which a sink under writing is committed.",
+            Family::Quiet => "Seconds since a sink under writing grew.",
+            Family::Unclosed => "Sinks under writing.",
+            Family::Closed => "Closed sinks that wait for the job.",
+            Family::Held => "Chunks that are set aside.",
+        }
+    }
+}
+
+/// The state of the stores as OpenMetrics has it (version 1.0.0): eight families of gauges, each with
+/// its rows of all stores, and the mark of the end. Labels are the store's folder, and the stream's
+/// source, type and name or the sink's stem. Of a sink it isn't told how long it is quiet where that
+/// isn't known. It holds the whole text.
+pub fn metrics_of(alloc: Global, stores: &[NamedStore]) -> Result<Bytes, NoMemory>
+    ensures { IfOk result (λ text. text ≡ metrics_text stores.now) }
+{
+    let mut out = Bytes::new(alloc);
+    put_stream_families(&mut out, stores)?;
+    put_sink_families(&mut out, stores)?;
+    put_open_families(&mut out, stores)?;
+    put_waiting_families(&mut out, stores)?;
+    out.push_all(b"# EOF\n")?;
+    Ok(out)
+}
+
+fn put_stream_families(out: &mut Bytes, stores: &[NamedStore]) -> Result<(), NoMemory>
+    ensures { OnOk result (out.new ≡ out.old ++ flat_map (family_text stores.now) stream_families) }
+{
+    put_family(out, Family::Archived, stores)?;
+    put_family(out, Family::Demuxed, stores)
+}
+
+fn put_sink_families(out: &mut Bytes, stores: &[NamedStore]) -> Result<(), NoMemory>
+    ensures { OnOk result (out.new ≡ out.old ++ flat_map (family_text stores.now) sink_families) }
+{
+    put_family(out, Family::Written, stores)?;
+    put_family(out, Family::Committed, stores)
+}
+
+fn put_open_families(out: &mut Bytes, stores: &[NamedStore]) -> Result<(), NoMemory>
+    ensures { OnOk result (out.new ≡ out.old ++ flat_map (family_text stores.now) open_families) }
+{
+    put_family(out, Family::Quiet, stores)?;
+    put_family(out, Family::Unclosed, stores)
+}
+
+fn put_waiting_families(out: &mut Bytes, stores: &[NamedStore]) -> Result<(), NoMemory>
+    ensures { OnOk result (out.new ≡ out.old ++ flat_map (family_text stores.now) waiting_families) }
+{
+    put_family(out, Family::Closed, stores)?;
+    put_family(out, Family::Held, stores)
+}
+
+/// Appends a family with its rows of all stores.
+fn put_family(out: &mut Bytes, family: Family, stores: &[NamedStore]) -> Result<(), NoMemory>
+    ensures { OnOk result (out.new ≡ out.old ++ family_text stores.now family) }
+{
+    put_head(out, family)?;
+    for store in stores {
+        put_rows(out, family, store)?;
+    }
+    Ok(())
+}
+
+fn put_head(out: &mut Bytes, family: Family) -> Result<(), NoMemory>
+    ensures { OnOk result (out.new ≡ out.old ++ head_of family) }
+{
+    put_type(out, family)?;
+    out.push_all(family.name().as_bytes())?;
+    out.push_all(b" ")?;
+    out.push_all(family.help().as_bytes())?;
+    out.push_all(b"\n")
+}
+
+fn put_type(out: &mut Bytes, family: Family) -> Result<(), NoMemory>
+    ensures { OnOk result (out.new ≡ out.old ++ type_of family) }
+{
+    out.push_all(b"# TYPE ")?;
+    out.push_all(family.name().as_bytes())?;
+    out.push_all(b" gauge\n# HELP ")
+}
+
+/// Appends the rows that the family has of the store.
+fn put_rows(out: &mut Bytes, family: Family, store: &NamedStore) -> Result<(), NoMemory>
+    ensures { OnOk result (out.new ≡ out.old ++ rows_of family store.now) }
+{
+    match family {
+        Family::Archived => put_archived(out, store),
+        Family::Demuxed => put_demuxed(out, store),
+        Family::Written => put_written(out, store),
+        Family::Committed => put_committed(out, store),
+        Family::Quiet => put_quiet(out, store),
+        Family::Unclosed => put_count(out, family, store, store.seen.sinks.unclosed.len() as u64),
+        Family::Closed => put_count(out, family, store, store.seen.sinks.closed),
+        Family::Held => put_count(out, family, store, store.seen.waiting.heads.len() as u64),
+    }
+}
+
+fn put_count(
+    out: &mut Bytes,
+    family: Family,
+    store: &NamedStore,
+    count: u64,
+) -> Result<(), NoMemory>
+    ensures { OnOk result (out.new ≡ out.old ++ store_row (name_of family) (string_bytes store.now.folder) count) }
+{
+    put_store_row(out, family.name(), store.folder.as_str(), count)
+}
+
+fn put_archived(out: &mut Bytes, store: &NamedStore) -> Result<(), NoMemory>
+    ensures { OnOk result (out.new ≡ out.old
+        ++ flat_map (archived_row store.now) store.now.seen.waiting.book.ends) }
+{
+    for end in store.seen.waiting.book.ends.as_slice() {
+        let name = Family::Archived.name();
+        put_stream_row(out, name, store.folder.as_str(), end, end.end)?;
+    }
+    Ok(())
+}
+
+fn put_demuxed(out: &mut Bytes, store: &NamedStore) -> Result<(), NoMemory>
+    ensures { OnOk result (out.new ≡ out.old
+        ++ flat_map (demuxed_row store.now) store.now.seen.waiting.book.ends) }
+{
+    for end in store.seen.waiting.book.ends.as_slice() {
+        let name = Family::Demuxed.name();
+        let split = split_to(&store.seen.split, end);
+        put_stream_row(out, name, store.folder.as_str(), end, split)?;
+    }
+    Ok(())
+}
+
+/// The offset up to which the records of the stream go; its start where there are none.
+fn split_to(records: &Book, end: &End) -> u64
+    ensures { result ≡ split_to (book_view records.now).ends (end_view end.now) }
+{
+    let split = records.archived_end(end.source.as_str(), end.kind.as_str(), end.name.as_str());
+    split.max(end.start)
+}
+
+fn put_written(out: &mut Bytes, store: &NamedStore) -> Result<(), NoMemory>
+    ensures { OnOk result (out.new ≡ out.old
+        ++ flat_map (written_row store.now) store.now.seen.sinks.unclosed.items) }
+{
+    for sink in &store.seen.sinks.unclosed {
+        let name = Family::Written.name();
+        put_sink_row(out, name, store.folder.as_str(), &sink.stem, sink.written)?;
+    }
+    Ok(())
+}
+
+fn put_committed(out: &mut Bytes, store: &NamedStore) -> Result<(), NoMemory>
+    ensures { OnOk result (out.new ≡ out.old
+        ++ flat_map (committed_row store.now) store.now.seen.sinks.unclosed.items) }
+{
+    for sink in &store.seen.sinks.unclosed {
+        let name = Family::Committed.name();
+        put_sink_row(out, name, store.folder.as_str(), &sink.stem, sink.committed)?;
+    }
+    Ok(())
+}
+
+fn put_quiet(out: &mut Bytes, store: &NamedStore) -> Result<(), NoMemory>
+    ensures { OnOk result (out.new ≡ out.old
+        ++ flat_map (quiet_row store.now) store.now.seen.sinks.unclosed.items) }
+{
+    for sink in &store.seen.sinks.unclosed {
+        put_quiet_row(out, store.folder.as_str(), sink)?;
+    }
+    Ok(())
+}
+
+fn put_quiet_row(out: &mut Bytes, store: &str, sink: &OpenSink) -> Result<(), NoMemory>
+    ensures { OnOk result (out.new ≡ out.old
+        ++ quiet_of store.now (stem_text sink.now.stem) sink.now.quiet) }
+{
+    match sink.quiet {
+        Some(seconds) => { put_sink_row(out, Family::Quiet.name(), store, &sink.stem, seconds) }
+        None => Ok(()),
+    }
+}

@@ -1,0 +1,8 @@
+//! What is seen of stores as OpenMetrics has it, for whoever keeps such numbers over time.
+#![tactic(auto)]
+
+mod escaping;
+mod families;
+mod rows;
+
+pub use families::{NamedStore, metrics_of};

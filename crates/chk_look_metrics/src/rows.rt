@@ -1,0 +1,81 @@
+//! The rows of a metric.
+
+ghost use Rattle.std.specs.Prelude.{◌≡◌, ◌++◌, OnOk};
+ghost use Rattle.chk_bytes.specs.Stems.{stem_text};
+ghost use Rattle.chk_book.specs.Views.{end_view};
+ghost use Rattle.chk_look_metrics.specs.Metrics.{front_of, more_of, sink_row, store_row, stream_row};
+ghost use Rattle.chk_look_metrics.specs.Metrics.{tail_of};
+
+use crate::escaping::put_label;
+use chk_book::End;
+use chk_bytes::{Bytes, NoMemory, Stem, put_decimal};
+
+/// Appends the row of a store.
+pub(crate) fn put_store_row(
+    out: &mut Bytes,
+    metric: &str,
+    store: &str,
+    value: u64,
+) -> Result<(), NoMemory>
+    ensures { OnOk result (out.new ≡ out.old ++ store_row metric.now store.now value) }
+{
+    put_store(out, metric, store)?;
+    put_tail(out, value)
+}
+
+/// Appends the row of a stream.
+pub(crate) fn put_stream_row(
+    out: &mut Bytes,
+    metric: &str,
+    store: &str,
+    end: &End,
+    value: u64,
+) -> Result<(), NoMemory>
+    ensures { OnOk result (out.new ≡ out.old ++ stream_row metric.now store.now (end_view end.now) value) }
+{
+    put_store(out, metric, store)?;
+    put_more(out, "source", end.source.as_str())?;
+    put_more(out, "type", end.kind.as_str())?;
+    put_more(out, "name", end.name.as_str())?;
+    put_tail(out, value)
+}
+
+/// Appends the row of a sink.
+pub(crate) fn put_sink_row(
+    out: &mut Bytes,
+    metric: &str,
+    store: &str,
+    stem: &Stem,
+    value: u64,
+) -> Result<(), NoMemory>
+    ensures { OnOk result (out.new ≡ out.old ++ sink_row metric.now store.now (stem_text stem.now) value) }
+{
+    put_store(out, metric, store)?;
+    out.push_all(b",sink=\"")?;
+    stem.write(out)?;
+    out.push_all(b"\"")?;
+    put_tail(out, value)
+}
+
+fn put_store(out: &mut Bytes, metric: &str, store: &str) -> Result<(), NoMemory>
+    ensures { OnOk result (out.new ≡ out.old ++ front_of metric.now store.now) }
+{
+    out.push_all(metric.as_bytes())?;
+    out.push_all(b"{")?;
+    put_label(out, "store", store)
+}
+
+fn put_more(out: &mut Bytes, name: &str, value: &str) -> Result<(), NoMemory>
+    ensures { OnOk result (out.new ≡ out.old ++ more_of name.now value.now) }
+{
+    out.push_all(b",")?;
+    put_label(out, name, value)
+}
+
+fn put_tail(out: &mut Bytes, value: u64) -> Result<(), NoMemory>
+    ensures { OnOk result (out.new ≡ out.old ++ tail_of value) }
+{
+    out.push_all(b"} ")?;
+    put_decimal(out, value)?;
+    out.push_all(b"\n")
+}
