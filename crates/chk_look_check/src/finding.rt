@@ -1,7 +1,6 @@
 //! What is wrong with the lines of a file.
 
-ghost use Rattle.std.specs.Prelude.{◌≡◌, ◌≤◌, ◌+◌, ◌<◌, ◌++◌, ◌==◌, [], drop, length, map};
-ghost use Rattle.std.specs.Prelude.{position};
+ghost use Rattle.std.specs.Prelude.{◌≡◌, ◌≤◌, ◌+◌, ◌<◌, ◌++◌, [], drop, length, map};
 ghost use Rattle.std.specs.Prelude.{List, IfOk, OnOk};
 ghost use Rattle.chk_look_check.specs.declared.finding.Finding.{Finding};
 ghost use Rattle.chk_bytes.specs.Words.{parts_at};
@@ -16,7 +15,7 @@ ghost use Rattle.chk_look_check.specs.Looking.{finding, AsksOfLogs, LinesSeen, V
 use crate::judging::{Added, Verdict, judge};
 use crate::looking::see_log;
 use crate::trouble::Trouble;
-use chk_bytes::NoMemory;
+use chk_bytes::{NoMemory, line_size};
 use chk_site::{Site, Who};
 use std::alloc::Global;
 
@@ -65,13 +64,6 @@ pub fn find_troubles<S: Site>(
     }
     find_in(alloc, site, who, &mut added, &mut findings, line, rest)?;
     Ok(findings)
-}
-
-/// How many bytes stand before the first newline.
-fn line_size(text: &[u8]) -> Option<usize>
-    ensures { result ≡ position (λ b. b == 10) text.now }
-{
-    text.iter().position(|b| *b == b'\n')
 }
 
 /// What stands behind the byte at this place.

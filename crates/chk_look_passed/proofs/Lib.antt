@@ -3,4 +3,4 @@ mod Behind
 mod Joined
 mod Mapped
 mod InTurn
-mod Owned
+pub mod Owned

@@ -1,6 +1,6 @@
 -- Whose steps a look at the agents' checkpoints adds, and what its faults come to.
-use Rattle.std.proofs.Common.{◌≡◌, ◌∙◌, inl, inr, ℕ, List, [], ◌∷◌, Bool, true, false, Option}
-use Rattle.std.proofs.Common.{Some, None, Result, Ok, Err, refl, sym, subst, ap, ◌++◌}
+use Rattle.std.proofs.Common.{◌≡◌, inl, inr, ℕ, List, [], ◌∷◌, Bool, true, false, Option}
+use Rattle.std.proofs.Common.{Some, None, Result, Ok, Err, refl, sym, subst, ap}
 use Rattle.std.specs.Prelude.{codes, is_none, if◌then◌else◌}
 use Rattle.chk_bytes.specs.Words.{before_end}
 use Rattle.chk_bytes.specs.WordFaults.{word_fault_of}
@@ -10,7 +10,7 @@ use Rattle.chk_site.specs.declared.acts.CallFault.{CallFault}
 use Rattle.chk_site.specs.declared.acts.CallFault.TheVariants as refused
 use Rattle.chk_site.specs.declared.acts.Role.TheVariants.{Job}
 use Rattle.chk_site.specs.declared.acts.Who.{Who}
-use Rattle.chk_site.specs.History.{Step, History, Every}
+use Rattle.chk_site.specs.History.{History, Every}
 use Rattle.chk_site.specs.Site.{Adds, asked, answered, names_given, Calls}
 use Rattle.chk_site.proofs.Runs.{adds_as, adds_none, adds_then, every_join}
 use Rattle.chk_replace.proofs.CallSteps.{call_each}
@@ -26,7 +26,7 @@ use Rattle.chk_heads.specs.declared.fault.JobFault.TheVariants.{Damaged, NoMemor
 use Rattle.chk_heads.specs.Faults.{IsDamage, IsOfRead, JobCause}
 use Rattle.chk_look_passed.specs.declared.judging.Verdict.{Verdict}
 use Rattle.chk_look_passed.specs.Agents.{agent_named, agent_of, at_end, ByEach, ByFolder}
-use Rattle.chk_look_passed.specs.Agents.{ByNames, ended, IsFaultIn, lists, ListsAgents}
+use Rattle.chk_look_passed.specs.Agents.{ByNames, ended, IsFaultIn, lists}
 use Rattle.chk_look_passed.specs.Agents.{LooksAtAgents, One, OneMore, went_on}
 use Rattle.chk_look_passed.specs.Oldest.{LooksAtLog}
 use Rattle.chk_look_passed.specs.Passing.{check_name, Followed, HasPassed, Looks}
@@ -38,12 +38,12 @@ damage_only name at NoMemory x = tt
 damage_only name at (Outside call) x = absurd x
 damage_only name at (Spent number) x = absurd x
 
-damage_cause : (name : List ℕ) (at : ℕ) (told : JobFault) (before now : ℕ)
-    → IsDamage name at told → now ≡ before → JobCause {T = Verdict} before now (Err told)
-damage_cause name at (Damaged which place) before now x same = same
-damage_cause name at NoMemory before now x same = same
-damage_cause name at (Outside call) before now x same = absurd x
-damage_cause name at (Spent number) before now x same = absurd x
+damage_cause : (V : Type 0) (name : List ℕ) (at : ℕ) (told : JobFault) (before now : ℕ)
+    → IsDamage name at told → now ≡ before → JobCause {T = V} before now (Err told)
+damage_cause V name at (Damaged which place) before now x same = same
+damage_cause V name at NoMemory before now x same = same
+damage_cause V name at (Outside call) before now x same = absurd x
+damage_cause V name at (Spent number) before now x same = absurd x
 
 pub fault_only : (name : List ℕ) (fault : CheckFault) (told : JobFault)
     → IsFaultIn name fault told → IsOfRead told
@@ -51,15 +51,15 @@ fault_only name (check.Damaged at) told x = damage_only name at told x
 fault_only name (check.Outside call) told x = subst IsOfRead (sym x) tt
 fault_only name check.NoMemory told x = subst IsOfRead (sym x) tt
 
-pub fault_cause : (name : List ℕ) (fault : CheckFault) (told : JobFault) (before now : ℕ)
-    → IsFaultIn name fault told → CheckCause {T = Verdict} before now (Err fault)
-    → JobCause {T = Verdict} before now (Err told)
-fault_cause name (check.Damaged at) told before now x cause =
-    damage_cause name at told before now x cause
-fault_cause name (check.Outside call) told before now x cause =
-    subst (λ (f : JobFault). JobCause {T = Verdict} before now (Err f)) (sym x) cause
-fault_cause name check.NoMemory told before now x cause =
-    subst (λ (f : JobFault). JobCause {T = Verdict} before now (Err f)) (sym x) cause
+pub fault_cause : (T V : Type 0) (name : List ℕ) (fault : CheckFault) (told : JobFault)
+    (before now : ℕ) → IsFaultIn name fault told → CheckCause {T = T} before now (Err fault)
+    → JobCause {T = V} before now (Err told)
+fault_cause T V name (check.Damaged at) told before now x cause =
+    damage_cause V name at told before now x cause
+fault_cause T V name (check.Outside call) told before now x cause =
+    subst (λ (f : JobFault). JobCause {T = V} before now (Err f)) (sym x) cause
+fault_cause T V name check.NoMemory told before now x cause =
+    subst (λ (f : JobFault). JobCause {T = V} before now (Err f)) (sym x) cause
 
 -- nothing was added
 same_own : (path : List ℕ) {old new : Option History} → new ≡ old

@@ -113,8 +113,8 @@ fn weigh_agent<S: Site>(
     }
 }
 
-/// The fault of this agent's checkpoint, by the name of its file.
-fn fault_in(alloc: Global, agent: &Who, fault: CheckFault) -> JobFault
+/// The fault of the checkpoint of this agent, by the name of its file.
+pub fn fault_in(alloc: Global, agent: &Who, fault: CheckFault) -> JobFault
     ensures is { IsFaultIn (check_name agent.now) fault result }
 {
     match fault {

@@ -2,12 +2,12 @@
 
 ghost use Rattle.std.specs.Prelude.{◌≡◌, map};
 ghost use Rattle.std.specs.List.{list_all, list_any};
-ghost use Rattle.chk_bytes.specs.Words.{text_lt};
 ghost use Rattle.chk_checkpoint.specs.Lines.{shown};
 ghost use Rattle.chk_look_passed.specs.Judging.{is_of, is_past, oldest_text, passes, verdict_by};
 ghost use Rattle.chk_look_passed.specs.Judging.{verdict_of};
 
 use crate::oldest::Oldest;
+use chk_bytes::comes_before;
 use chk_checkpoint::CheckLine;
 use chk_site::Suffix;
 
@@ -74,11 +74,4 @@ fn is_past(after: Option<&Suffix>, oldest: &Suffix) -> bool
         Some(after) => !comes_before(after.as_str(), oldest.as_str()),
         None => false,
     }
-}
-
-/// In byte order.
-fn comes_before(a: &str, b: &str) -> bool
-    ensures { result ≡ text_lt a.now b.now }
-{
-    a < b
 }

@@ -7,7 +7,7 @@ mod laws;
 mod oldest;
 mod passing;
 
-pub use agents::all_have_passed;
+pub use agents::{all_have_passed, fault_in};
 pub use judging::Verdict;
 pub use laws::law_passed;
 pub use oldest::{Oldest, find_oldest};

@@ -13,15 +13,17 @@ use Rattle.chk_book.proofs.Added.{cause_later}
 use Rattle.chk_merge.proofs.AllGathered.{fails_later}
 use Rattle.chk_merge.specs.Merging.{SoundHeads}
 use Rattle.chk_look_sum.specs.declared.sums.Sums.{Sums}
-use Rattle.chk_look_sum.specs.Sums.{SummedFiles, HasDamage}
+use Rattle.chk_look_sum.specs.declared.rests.Rest.{Rest}
+use Rattle.chk_look_sum.specs.Sums.{SummedFrom, HasDamage}
 
 -- a refusal of the heads is one of the digests
-pub refused_so : (folder : List ℕ) (b : Book) (held : Files) (fault : JobFault) (history : History)
-    → SoundHeads folder b held (Err fault) history → SummedFiles folder b held (Err fault) history
-refused_so folder b held (Outside call) history x = tt
-refused_so folder b held (Damaged name at) history x = x
-refused_so folder b held (Spent number) history x = tt
-refused_so folder b held NoMemory history x = tt
+pub refused_so : (folder : List ℕ) (b : Book) (held : Files) (rests : List Rest) (fault : JobFault)
+    (history : History) → SoundHeads folder b held (Err fault) history
+    → SummedFrom folder b rests held (Err fault) history
+refused_so folder b held rests (Outside call) history x = tt
+refused_so folder b held rests (Damaged name at) history x = x
+refused_so folder b held rests (Spent number) history x = tt
+refused_so folder b held rests NoMemory history x = tt
 
 pub last_later : {T : Type 0} {P : History → History → Type 0} (result : Result T JobFault)
     {old mid new : Option History} → Adds old mid P → Adds mid new (FailsLast result)

@@ -2,6 +2,7 @@ mod InOrder
 mod Blocks
 mod Steps
 mod Streams
-mod LineWords
+pub mod LineWords
 mod Sides
 mod Later
+mod Skipped

@@ -22,7 +22,7 @@ digit_apart (b ∷ t) zero h = (and_parts (not (b == 10)) (lacks 10 t) h).0
 digit_apart (b ∷ t) (suc d) h =
     digit_apart t d (and_parts (not (b == 10)) (lacks 10 t) h).1
 
-digits_lack : (bytes : List ℕ) → IsTrue (lacks 10 (encode_lower bytes))
+pub digits_lack : (bytes : List ℕ) → IsTrue (lacks 10 (encode_lower bytes))
 unfolding encode_with
 digits_lack [] = refl
 digits_lack (b ∷ rest) =
@@ -49,7 +49,7 @@ words_one source kind name start end digest a b c d e =
 
 -- ---- the lines from a place on
 
-next_of : {A : Type 0} (xs : List A) (i : ℕ) (x : A) → i < length xs → x ≡ get_or xs i x
+pub next_of : {A : Type 0} (xs : List A) (i : ℕ) (x : A) → i < length xs → x ≡ get_or xs i x
     → drop i xs ≡ x ∷ drop (i + 1) xs
 next_of {A = A} xs i x low is =
     drop-cons xs i x low

@@ -22,9 +22,10 @@ use Rattle.chk_compare.specs.Blocks.{StreamsRise}
 use Rattle.chk_compare.specs.Comparing.{IsSide}
 use Rattle.sha2.specs.Sha256.{sha256}
 use Rattle.chk_look_sum.specs.Summing.{digest_of, SummedAll}
-use Rattle.chk_look_sum.specs.Sums.{archived, SummedFiles}
+use Rattle.chk_look_sum.specs.declared.rests.Rest.{Rest}
+use Rattle.chk_look_sum.specs.Sums.{archived, SummedFiles, SummedFrom}
 use Rattle.chk_look_sum.proofs.Steps.{under}
-use Rattle.chk_look_sum.proofs.Streams.{is_side, side_rises, digests_same}
+use Rattle.chk_look_sum.proofs.Streams.{is_side, side_rises, digests_same, whole_digests}
 
 -- what is known of the heads
 pub record AreSound (folder : List ℕ) (b : Book) (held : Files) (side : Side) : Type 0 where
@@ -33,42 +34,36 @@ pub record AreSound (folder : List ℕ) (b : Book) (held : Files) (side : Side) 
   pub ordered : side.heads.now
       ≡ in_head_order (heads_from (most_in folder) held 0 (names_of folder b))
 
-said : (folder : List ℕ) (b : Book) (held : Files) (side : Side) (ends : List EndStruct)
-    → side.names.now ≡ names_of folder b → map end_view ends ≡ b.ends
-    → AreSound folder b held side → (result : Result (List (List ℕ)) JobFault) (h : History)
-    → SummedAll (names_of folder b) held
-    (map {A = EndStruct} {B = List ℕ} (λ e. digest_of side held (end_view e).stream) ends) result h
-    → SummedFiles folder b held result h
-said folder b held side ends names_are ends_are known (Ok digests) h x = (
+said : (folder : List ℕ) (b : Book) (held : Files) (side : Side) (rests : List Rest)
+    → side.names.now ≡ names_of folder b → AreSound folder b held side
+    → (result : Result (List (List ℕ)) JobFault) (h : History)
+    → SummedAll (names_of folder b) held (map (digest_of side held) rests) result h
+    → SummedFrom folder b rests held result h
+said folder b held side rests names_are known (Ok digests) h x = (
   x.0,
   known.sound,
   known.well,
-  x.1 ∙ (digests_same folder b held side names_are known.ordered known.well ends
-      ∙ ap (map (λ (e : End). sha256 (archived folder b held e.stream))) ends_are),
+  x.1 ∙ digests_same folder b held side names_are known.ordered known.well rests,
 )
-said folder b held side ends names_are ends_are known (Err (Outside call)) h x = tt
-said folder b held side ends names_are ends_are known (Err (Damaged name at)) h x = absurd x
-said folder b held side ends names_are ends_are known (Err (Spent n)) h x = tt
-said folder b held side ends names_are ends_are known (Err NoMemory) h x = tt
+said folder b held side rests names_are known (Err (Outside call)) h x = tt
+said folder b held side rests names_are known (Err (Damaged name at)) h x = absurd x
+said folder b held side rests names_are known (Err (Spent n)) h x = tt
+said folder b held side rests names_are known (Err NoMemory) h x = tt
 
-pub summed_so : (folder : List ℕ) (b : Book) (held : Files) {side : Side} (ends : List EndStruct)
+pub summed_so : (folder : List ℕ) (b : Book) (held : Files) {side : Side} (rests : List Rest)
     (result : Result (List (List ℕ)) JobFault) {K : History → History → Type 0}
     {old mid new : Option History}
     → ((most : ℕ) (all : List (List ℕ)) (files : Files) → most ≤ 1048576 → AreSettled all files
     → IsSide most all files side → StreamsRise side.heads.now
     → Adds mid new (Leads (anyhow (SparesFiles all)) (HasFiles all files)
-    (SummedAll all files
-    (map {A = EndStruct} {B = List ℕ} (λ e. digest_of side files (end_view e).stream) ends)
-    result)))
-    → side.names.now ≡ names_of folder b → map end_view ends ≡ b.ends
-    → AreSettled (names_of folder b) held
+    (SummedAll all files (map (digest_of side files) rests) result)))
+    → side.names.now ≡ names_of folder b → AreSettled (names_of folder b) held
     → Adds old mid (Leads (anyhow (SparesFiles (names_of folder b)))
     (HasFiles (names_of folder b) held) (SoundHeads folder b held (Ok side.heads.now)))
     → Adds mid new K
     → Adds old new (Leads (anyhow (SparesFiles (names_of folder b)))
-    (HasFiles (names_of folder b) held) (SummedFiles folder b held result))
-summed_so folder b held {side = side} ends result raw names_are ends_are
-    settled sound own =
+    (HasFiles (names_of folder b) held) (SummedFrom folder b rests held result))
+summed_so folder b held {side = side} rests result raw names_are settled sound own =
     leads_then
     (leads_as (λ h x. x)
     (λ h x. (
@@ -80,7 +75,25 @@ summed_so folder b held {side = side} ends result raw names_are ends_are
     (under own
     (λ (known : AreSound folder b held side).
     leads_as (λ h x. x)
-    (λ h x. said folder b held side ends names_are ends_are known result h x)
+    (λ h x. said folder b held side rests names_are known result h x)
     (raw (most_in folder) (names_of folder b) held (most_bound folder) settled
     (is_side folder b held side names_are known.ordered)
     (side_rises folder b held side names_are known.ordered))))
+
+-- the digests of all streams from their starts on are those of the book
+pub whole_so : (folder : List ℕ) (b : Book) (held : Files) (rests : List Rest)
+    (ends : List EndStruct) → map (λ (r : Rest). r.end.now) rests ≡ ends
+    → map (λ (r : Rest). r.begin) rests ≡ map (λ (e : EndStruct). e.start) ends
+    → map end_view ends ≡ b.ends → (result : Result (List (List ℕ)) JobFault) (h : History)
+    → SummedFrom folder b rests held result h → SummedFiles folder b held result h
+whole_so folder b held rests ends es is ends_are (Ok digests) h x = (
+  x.0,
+  x.1,
+  x.2,
+  x.3 ∙ (whole_digests folder b held rests ends es is
+      ∙ ap (map (λ (e : End). sha256 (archived folder b held e.stream))) ends_are),
+)
+whole_so folder b held rests ends es is ends_are (Err (Outside call)) h x = x
+whole_so folder b held rests ends es is ends_are (Err (Damaged name at)) h x = x
+whole_so folder b held rests ends es is ends_are (Err (Spent n)) h x = x
+whole_so folder b held rests ends es is ends_are (Err NoMemory) h x = x

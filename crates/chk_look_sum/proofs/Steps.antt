@@ -18,9 +18,9 @@ use Rattle.chk_compare.specs.declared.gathering.Side.{Side}
 use Rattle.chk_compare.specs.Blocks.{head_in}
 use Rattle.chk_compare.specs.Comparing.{value_there}
 use Rattle.chk_compare.specs.Reading.{Fetched}
-use Rattle.sha2.specs.declared.Sha256.{Sha256}
-use Rattle.sha2.specs.Hashers.{Holds256}
 use Rattle.sha2.specs.Sha256.{sha256}
+use Rattle.chk_look_sum.specs.declared.rests.Skipping.{Skipping}
+use Rattle.chk_look_sum.specs.Rests.{HoldsRest}
 use Rattle.chk_look_sum.specs.Summing.{CanSum, HasSummed, TookOne, SummedOne, SummedAll}
 
 -- what holds of no history may be told before the steps
@@ -37,51 +37,56 @@ under {X = X} {Supposed = Supposed} {A = A} {B = B} k each =
 
 module _ (all : List (List ℕ)) (held : Files) (side : Side) where
   -- a record is fetched, and the hasher takes its value
-  pub taken_so : (old new : RecordReader) (before after : Sha256) (taken : List ℕ) (index : ℕ)
-      {K : History → History → Type 0} {from to : Option History} → Adds from to K
+  pub taken_so : (old new : RecordReader) (before after : Skipping) (skip : ℕ) (taken : List ℕ)
+      (index : ℕ) {K : History → History → Type 0} {from to : Option History} → Adds from to K
       → (AreWindows side.names.now held old → Adds from to (Leads (anyhow (SparesFiles all))
       (HasFiles all held)
       (Fetched all side.names.now held (head_in side.heads.now index) new (Ok tt))))
-      → ((m : List ℕ) → Holds256 before m → Holds256 after (m ++ value_held new))
-      → Adds from to (Leads (anyhow (SparesFiles all)) (HasSummed all held side taken old before)
-      (TookOne all held side (taken ++ value_there side held index) new after (Ok tt)))
-  taken_so old new before after taken index own told update =
+      → ((m : List ℕ) → HoldsRest skip before m → HoldsRest skip after (m ++ value_held new))
+      → Adds from to (Leads (anyhow (SparesFiles all))
+      (HasSummed all held side skip taken old before)
+      (TookOne all held side skip (taken ++ value_there side held index) new after (Ok tt)))
+  taken_so old new before after skip taken index own told update =
       leads_as (λ h x. (x.0.0, (x.0.1, x.1))) (λ h x. x)
       (under own
-      (λ (x : AreWindows side.names.now held old × Holds256 before taken).
+      (λ (x : AreWindows side.names.now held old × HoldsRest skip before taken).
       leads_as (λ h y. y)
-      (λ h y. ((y.0, y.1), subst (λ v. Holds256 after (taken ++ v)) y.2 (update taken x.1)))
+      (λ h y. (
+        (y.0, y.1),
+        subst (λ v. HoldsRest skip after (taken ++ v)) y.2 (update taken x.1),
+      ))
       (told x.0)))
 
-  pub taken_not : (old new : RecordReader) (before after : Sha256) (taken more : List ℕ)
-      (index : ℕ) (fault : JobFault) {K : History → History → Type 0} {from to : Option History}
-      → Adds from to K
+  pub taken_not : (old new : RecordReader) (before after : Skipping) (skip : ℕ)
+      (taken more : List ℕ) (index : ℕ) (fault : JobFault) {K : History → History → Type 0}
+      {from to : Option History} → Adds from to K
       → (AreWindows side.names.now held old → Adds from to (Leads (anyhow (SparesFiles all))
       (HasFiles all held)
       (Fetched all side.names.now held (head_in side.heads.now index) new (Err fault))))
-      → Adds from to (Leads (anyhow (SparesFiles all)) (HasSummed all held side taken old before)
-      (TookOne all held side more new after (Err fault)))
-  taken_not old new before after taken more index fault own told =
+      → Adds from to (Leads (anyhow (SparesFiles all))
+      (HasSummed all held side skip taken old before)
+      (TookOne all held side skip more new after (Err fault)))
+  taken_not old new before after skip taken more index fault own told =
       leads_as (λ h x. (x.0.0, x.0.1)) (λ h x. said fault h x) (under own told)
     where
       said : (fault : JobFault) (h : History)
           → Fetched all side.names.now held (head_in side.heads.now index) new (Err fault) h
-          → TookOne all held side more new after (Err fault) h
+          → TookOne all held side skip more new after (Err fault) h
       said (Outside call) h x = tt
       said (Damaged name at) h x = x
       said (Spent n) h x = tt
       said NoMemory h x = tt
 
   -- a refusal of a record is that of its block
-  pub block_fails : (bytes more : List ℕ) (r : RecordReader) (s : Sha256) (fault : JobFault)
-      {A : History → Type 0} {old new : Option History}
+  pub block_fails : (bytes : List ℕ) (skip : ℕ) (more : List ℕ) (r : RecordReader) (s : Skipping)
+      (fault : JobFault) {A : History → Type 0} {old new : Option History}
       → Adds old new (Leads (anyhow (SparesFiles all)) A
-      (TookOne all held side more r s (Err fault)))
+      (TookOne all held side skip more r s (Err fault)))
       → Adds old new (Leads (anyhow (SparesFiles all)) A
       (SummedOne all held side bytes r (Err fault)))
-  block_fails bytes more r s fault told = leads_as (λ h x. x) (λ h x. said fault h x) told
+  block_fails bytes skip more r s fault told = leads_as (λ h x. x) (λ h x. said fault h x) told
     where
-      said : (fault : JobFault) (h : History) → TookOne all held side more r s (Err fault) h
+      said : (fault : JobFault) (h : History) → TookOne all held side skip more r s (Err fault) h
           → SummedOne all held side bytes r (Err fault) h
       said (Outside call) h x = tt
       said (Damaged name at) h x = x

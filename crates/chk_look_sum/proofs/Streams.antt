@@ -1,5 +1,5 @@
 -- The bytes of a stream's records, in order, are its archive.
-use Rattle.std.proofs.Common.{◌≡◌, ℕ, Bool, true, false, List, [], ◌∷◌, map, refl, ap, ap₂, sym, subst, ◌∙◌, if◌then◌else◌}
+use Rattle.std.proofs.Common.{◌≡◌, ℕ, Bool, true, false, ◌-◌, arith, List, [], ◌∷◌, drop, map, refl, ap, ap₂, sym, subst, ◌∙◌, if◌then◌else◌}
 use Rattle.std.specs.Prelude.{filter}
 use Rattle.chk_site.specs.Files.{Files}
 use Rattle.chk_chunk.specs.Keys.{Stream, Chunk, same_stream, is_of}
@@ -21,8 +21,10 @@ use Rattle.chk_compare.specs.Blocks.{StreamsRise}
 use Rattle.chk_compare.specs.Reading.{AreAmong}
 use Rattle.chk_compare.specs.Comparing.{IsSide}
 use Rattle.sha2.specs.Sha256.{sha256}
+use Rattle.chk_look_sum.specs.declared.rests.Rest.{Rest}
+use Rattle.chk_look_sum.specs.Rests.{end_of, skip_of}
 use Rattle.chk_look_sum.specs.Summing.{bytes_of, digest_of}
-use Rattle.chk_look_sum.specs.Sums.{archived}
+use Rattle.chk_look_sum.specs.Sums.{archived, archived_from, rest_digests}
 use Rattle.chk_look_sum.proofs.InOrder.{heads_rise, each_sort, order_keeps}
 
 chunks_of_heads : (s : Stream) (f : Head → Chunk) (hs : List Head)
@@ -81,10 +83,40 @@ module _ (folder : List ℕ) (b : Book) (held : Files) (side : Side)
         ∙ (values_of s Names held (in_head_order Hs) ∙ ap values (ordered s)))
 
     -- and so are the digests
-    pub digests_same : (ends : List EndStruct)
-        → map {A = EndStruct} {B = List ℕ} (λ e. digest_of side held (end_view e).stream) ends
-        ≡ map (λ (e : End). sha256 (archived folder b held e.stream)) (map end_view ends)
+    pub digests_same : (rests : List Rest)
+        → map (digest_of side held) rests ≡ rest_digests folder b held rests
     digests_same [] = refl
-    digests_same (e ∷ ends) =
+    digests_same (r ∷ rests) =
         ap₂ (λ (x : List ℕ) (l : List (List ℕ)). x ∷ l)
-        (ap sha256 (stream_bytes (end_view e).stream)) (digests_same ends)
+        (ap (λ (bytes : List ℕ). sha256 (drop (skip_of r) bytes)) (stream_bytes (end_of r).stream))
+        (digests_same rests)
+
+-- each stream from its start on
+whole_digest : (folder : List ℕ) (b : Book) (held : Files) (r : Rest)
+    → r.begin ≡ r.end.now.start
+    → sha256 (archived_from folder b held r) ≡ sha256 (archived folder b held (end_of r).stream)
+whole_digest folder b held r is =
+    ap (λ (k : ℕ). sha256 (drop k (archived folder b held (end_of r).stream)))
+    (let z : r.begin - r.end.now.start ≡ 0 = omega (arith, is) in z)
+
+heads_tails : {X : Type 0} (x y : X) (xs ys : List X) → x ∷ xs ≡ y ∷ ys → (x ≡ y) × (xs ≡ ys)
+heads_tails x y xs ys h = (cc, cc)
+
+pub whole_digests : (folder : List ℕ) (b : Book) (held : Files) (rests : List Rest)
+    (ends : List EndStruct) → map (λ (r : Rest). r.end.now) rests ≡ ends
+    → map (λ (r : Rest). r.begin) rests ≡ map (λ (e : EndStruct). e.start) ends
+    → rest_digests folder b held rests
+    ≡ map (λ (e : End). sha256 (archived folder b held e.stream)) (map end_view ends)
+whole_digests folder b held [] [] es is = refl
+whole_digests folder b held [] (e ∷ ends) es is =
+    absurd (let x : [] ≡ e ∷ ends = es in cc)
+whole_digests folder b held (r ∷ rests) [] es is =
+    absurd (let x : r.end.now ∷ map (λ (q : Rest). q.end.now) rests ≡ [] = es in cc)
+whole_digests folder b held (r ∷ rests) (e ∷ ends) es is =
+    let p = heads_tails r.end.now e (map (λ (q : Rest). q.end.now) rests) ends es in
+    let q = heads_tails r.begin e.start (map (λ (q : Rest). q.begin) rests)
+    (map (λ (e : EndStruct). e.start) ends) is in
+    ap₂ (λ (x : List ℕ) (l : List (List ℕ)). x ∷ l)
+    (whole_digest folder b held r (q.0 ∙ sym (ap (λ (x : EndStruct). x.start) p.0))
+    ∙ ap (λ (x : EndStruct). sha256 (archived folder b held (end_view x).stream)) p.0)
+    (whole_digests folder b held rests ends p.1 q.1)

@@ -1,3 +1,4 @@
 pub mod Lines
+pub mod Rests
 pub mod Summing
 pub mod Sums

@@ -1,5 +1,5 @@
 -- What is read and summed of records whose heads are known.
-use Rattle.std.specs.Prelude.{◌≡◌, ℕ, List, Result, Ok, Err}
+use Rattle.std.specs.Prelude.{◌≡◌, ℕ, List, drop, Result, Ok, Err}
 use Rattle.chk_site.specs.Files.{Files}
 use Rattle.chk_site.specs.History.{History}
 use Rattle.chk_chunk.specs.Keys.{Stream}
@@ -9,33 +9,40 @@ use Rattle.chk_merge.specs.declared.reader.RecordReader.{RecordReader}
 use Rattle.chk_merge.specs.Segments.{HasFiles}
 use Rattle.chk_merge.specs.Archives.{AreWindows, values_in}
 use Rattle.chk_compare.specs.declared.gathering.Side.{Side}
-use Rattle.sha2.specs.declared.Sha256.{Sha256}
-use Rattle.sha2.specs.Hashers.{Holds256}
 use Rattle.sha2.specs.Sha256.{sha256}
+use Rattle.chk_look_sum.specs.declared.rests.Rest.{Rest}
+use Rattle.chk_look_sum.specs.declared.rests.Skipping.{Skipping}
+use Rattle.chk_look_sum.specs.Rests.{end_of, skip_of, HoldsRest}
 
 -- the values of a stream's records, joined
 abbrev pub bytes_of : Side → Files → Stream → List ℕ
 bytes_of side held s = values_in s side.names.now held side.heads.now
 
+-- those from an offset on
+abbrev pub rest_of : Side → Files → Rest → List ℕ
+rest_of side held r = drop (skip_of r) (bytes_of side held (end_of r).stream)
+
 -- their digest
-abbrev pub digest_of : Side → Files → Stream → List ℕ
-digest_of side held s = sha256 (bytes_of side held s)
+abbrev pub digest_of : Side → Files → Rest → List ℕ
+digest_of side held r = sha256 (rest_of side held r)
 
 -- all files are as they were, and what the reader holds is what they have
 abbrev pub CanSum : List (List ℕ) → Files → Side → RecordReader → History → Type 0
 CanSum all held side r history = HasFiles all held history × AreWindows side.names.now held r
 
--- the same, and the hasher has taken these bytes
-abbrev pub HasSummed : List (List ℕ) → Files → Side → List ℕ → RecordReader → Sha256 → History
+-- the same, and the hasher, which leaves out so many of them, was fed these bytes
+abbrev pub HasSummed : List (List ℕ) → Files → Side → ℕ → List ℕ → RecordReader → Skipping → History
     → Type 0
-HasSummed all held side taken r h history = CanSum all held side r history × Holds256 h taken
+HasSummed all held side skip taken r h history =
+    CanSum all held side r history × HoldsRest skip h taken
 
 -- at Ok it has; nothing is ever damaged
-abbrev pub TookOne : List (List ℕ) → Files → Side → List ℕ → RecordReader → Sha256
+abbrev pub TookOne : List (List ℕ) → Files → Side → ℕ → List ℕ → RecordReader → Skipping
     → Result (Unit {0}) JobFault → History → Type 0
-TookOne all held side taken r h (Ok value) history = HasSummed all held side taken r h history
-TookOne all held side taken r h (Err (Damaged name at)) history = ⊥
-TookOne all held side taken r h (Err fault) history = Unit {0}
+TookOne all held side skip taken r h (Ok value) history =
+    HasSummed all held side skip taken r h history
+TookOne all held side skip taken r h (Err (Damaged name at)) history = ⊥
+TookOne all held side skip taken r h (Err fault) history = Unit {0}
 
 -- at Ok this is the digest of these bytes
 abbrev pub SummedOne : List (List ℕ) → Files → Side → List ℕ → RecordReader

@@ -1,5 +1,5 @@
 -- The digests of a folder's streams, as its book names them.
-use Rattle.std.specs.Prelude.{◌≡◌, ℕ, Bool, true, false, List, length, map, Option, Result, Ok, Err}
+use Rattle.std.specs.Prelude.{◌≡◌, ℕ, Bool, true, false, List, drop, length, map, Option, Result, Ok, Err}
 use Rattle.chk_site.specs.Files.{Files}
 use Rattle.chk_site.specs.History.{History}
 use Rattle.chk_site.specs.Site.{Adds}
@@ -16,7 +16,9 @@ use Rattle.chk_merge.specs.Segments.{names_of, HasFiles, SparesFiles, AreSettled
 use Rattle.chk_merge.specs.Archives.{IsDamagedAt}
 use Rattle.chk_merge.specs.Checking.{AllGoWell}
 use Rattle.sha2.specs.Sha256.{sha256}
+use Rattle.chk_look_sum.specs.declared.rests.Rest.{Rest}
 use Rattle.chk_look_sum.specs.declared.sums.Sums.{Sums}
+use Rattle.chk_look_sum.specs.Rests.{end_of, skip_of}
 
 -- the bytes of a stream's archive: those of its records in the segments that the book names
 abbrev pub archived : List ℕ → Book → Files → Stream → List ℕ
@@ -47,6 +49,34 @@ SummedBook folder b result before after =
     (held : Files) → AreSettled (names_of folder b) held
     → Adds before after (Leads (anyhow (SparesFiles (names_of folder b)))
     (HasFiles (names_of folder b) held) (SummedFiles folder b held result))
+
+-- the bytes of a stream's archive from an offset on
+abbrev pub archived_from : List ℕ → Book → Files → Rest → List ℕ
+archived_from folder b held r = drop (skip_of r) (archived folder b held (end_of r).stream)
+
+-- the digest of each of these
+abbrev pub rest_digests : List ℕ → Book → Files → List Rest → List (List ℕ)
+rest_digests folder b held rests = map (λ (r : Rest). sha256 (archived_from folder b held r)) rests
+
+-- What `SummedFiles` says, of streams from an offset on: these are the digests of their bytes.
+abbrev pub SummedFrom : List ℕ → Book → List Rest → Files → Result (List (List ℕ)) JobFault
+    → History → Type 0
+SummedFrom folder b rests held (Ok digests) history =
+    HasFiles (names_of folder b) held history
+    × Each (IsSound (most_in folder) held) (names_of folder b)
+    × AllGoWell b.ends (heads_from (most_in folder) held 0 (names_of folder b))
+    × (digests ≡ rest_digests folder b held rests)
+SummedFrom folder b rests held (Err (Damaged name at)) history =
+    (s : Stream) × IsDamagedAt folder b held s name at
+SummedFrom folder b rests held (Err fault) history = Unit {0}
+
+-- the same, where the files that the book names are wholly on the disk, and others leave them
+abbrev pub SummedRests : List ℕ → Book → List Rest → Result (List (List ℕ)) JobFault
+    → Option History → Option History → Type 0
+SummedRests folder b rests result before after =
+    (held : Files) → AreSettled (names_of folder b) held
+    → Adds before after (Leads (anyhow (SparesFiles (names_of folder b)))
+    (HasFiles (names_of folder b) held) (SummedFrom folder b rests held result))
 
 -- what is given is of these digests, one beside each stream of the book; or the refusal
 abbrev pub AreSums : Book → Result (List (List ℕ)) JobFault → Result Sums JobFault → Type 0

@@ -3,10 +3,11 @@
 
 mod digests;
 mod lines;
-mod names;
+mod rests;
 mod summing;
 mod sums;
 
 pub use digests::Digests;
 pub use lines::print_sums;
-pub use sums::{Sums, sum};
+pub use rests::Rest;
+pub use sums::{Sums, sum, sum_rests};

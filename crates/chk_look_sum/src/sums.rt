@@ -10,14 +10,16 @@ ghost use Rattle.chk_book.specs.Books.{book_view};
 ghost use Rattle.chk_book.specs.Folders.{is_folder};
 ghost use Rattle.chk_merge.specs.Segments.{names_of};
 ghost use Rattle.chk_look_sum.specs.Sums.{HasDamage, SummedBook, SummedFolder, SummedAgain};
+ghost use Rattle.chk_look_sum.specs.Sums.{SummedRests};
 
 use crate::digests::Digests;
-use crate::names::segment_names;
+use crate::rests::{Rest, whole_rests};
 use crate::summing::sum_streams;
 use chk_book::{Book, Ends, load_book};
 use chk_bytes::{NoMemory, Word};
 use chk_compare::{Side, sound_heads};
 use chk_heads::JobFault;
+use chk_merge::segment_names;
 use chk_site::{Site, Who};
 use std::alloc::Global;
 
@@ -108,8 +110,38 @@ fn sum_book<S: Site>(
     ensures last { Adds (S.told site.old) (S.told site.new) (FailsLast result) }
     ensures cause { JobCause (S.fault_count site.old) (S.fault_count site.new) result }
 {
+    let ends = book.ends.as_slice();
+    match whole_rests(alloc, ends) {
+        Ok(rests) => sum_rests(alloc, site, who, folder, book, rests.as_slice()),
+        Err(NoMemory) => Err(JobFault::NoMemory),
+    }
+}
+
+/// The SHA-256 of the archived bytes of each of these streams from its offset on, in their order.
+/// The streams are those of a book of the folder; what it says of damage is what `sum` does, but
+/// that the first look decides.
+///
+/// It costs the reads of each segment, and those of the records once more, also of those in front
+/// of an offset; for streams in the book's order one pass over the heads.
+pub fn sum_rests<S: Site>(
+    alloc: Global,
+    site: &mut S,
+    who: &Who,
+    folder: &str,
+    book: &Book,
+    rests: &[Rest<'_>],
+) -> Result<Digests, JobFault>
+    requires job { who.now ≡ job }
+    ensures raw { SummedRests folder.now (book_view book.now) rests.now result (S.told site.old)
+        (S.told site.new) }
+    ensures count { IfOk result (λ digests. length digests ≡ length rests.now) }
+    ensures own { Adds (S.told site.old) (S.told site.new) (Every (IsOf ReadsFile)) }
+    ensures only { IfErr result IsOfRead }
+    ensures last { Adds (S.told site.old) (S.told site.new) (FailsLast result) }
+    ensures cause { JobCause (S.fault_count site.old) (S.fault_count site.new) result }
+{
     match segment_names(alloc, folder, book) {
-        Ok(names) => sum_segments(alloc, site, who, folder, book, names.as_slice()),
+        Ok(names) => sum_segments(alloc, site, who, folder, book, names.as_slice(), rests),
         Err(NoMemory) => Err(JobFault::NoMemory),
     }
 }
@@ -122,12 +154,13 @@ fn sum_segments<S: Site>(
     folder: &str,
     book: &Book,
     names: &[Word],
+    rests: &[Rest<'_>],
 ) -> Result<Digests, JobFault>
     requires job { who.now ≡ job }
     requires names { names.now ≡ names_of folder.now (book_view book.now) }
-    ensures raw { SummedBook folder.now (book_view book.now) result (S.told site.old)
+    ensures raw { SummedRests folder.now (book_view book.now) rests.now result (S.told site.old)
         (S.told site.new) }
-    ensures count { IfOk result (λ digests. length digests ≡ length (book_view book.now).ends) }
+    ensures count { IfOk result (λ digests. length digests ≡ length rests.now) }
     ensures own { Adds (S.told site.old) (S.told site.new) (Every (IsOf ReadsFile)) }
     ensures only { IfErr result IsOfRead }
     ensures last { Adds (S.told site.old) (S.told site.new) (FailsLast result) }
@@ -139,7 +172,7 @@ fn sum_segments<S: Site>(
                 names,
                 heads: &heads,
             };
-            sum_streams(alloc, site, who, &side, book.ends.as_slice())
+            sum_streams(alloc, site, who, &side, rests)
         }
         Err(fault) => Err(fault),
     }

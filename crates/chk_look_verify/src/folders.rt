@@ -12,12 +12,12 @@ ghost use Rattle.chk_look.specs.Loading.{HasDamage};
 ghost use Rattle.chk_merge.specs.Segments.{names_of};
 ghost use Rattle.chk_look_verify.specs.Verifying.{IsSame, SoundBook, Verified, VerifiedBy};
 
-use crate::names::segment_names;
 use chk_book::Book;
 use chk_bytes::{NoMemory, Word};
 use chk_compare::sound_heads;
 use chk_heads::JobFault;
 use chk_look::find_book;
+use chk_merge::segment_names;
 use chk_site::{Site, Who};
 use std::alloc::Global;
 

@@ -4,6 +4,5 @@
 #![tactic(auto)]
 
 mod folders;
-mod names;
 
 pub use folders::verify;

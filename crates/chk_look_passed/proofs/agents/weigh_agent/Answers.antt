@@ -25,7 +25,7 @@ returns-in-Err g c =
         ),
       );
       only = fault_only name c.in-Err.fault c.fault_in.result c.fault_in.ensures.is;
-      cause = fault_cause name c.in-Err.fault c.fault_in.result
+      cause = fault_cause Verdict Verdict name c.in-Err.fault c.fault_in.result
           (g.S.Site.fault_count c.args.site.now) (g.S.Site.fault_count c.has_passed.new.site)
           c.fault_in.ensures.is c.in-Err.ensures.cause;
     }

@@ -1,4 +1,4 @@
-use Rattle.std.proofs.Common.{◌≡◌, ◌∙◌, ◌++◌, ℕ, List, Ok, refl, subst, arith}
+use Rattle.std.proofs.Common.{◌≡◌, ◌∙◌, ◌++◌, ℕ, List, Ok, drop, refl, subst, arith}
 use Rattle.std.proofs.lemmas.Result.{err_from_is_err_and}
 use Rattle.chk_site.specs.History.{Every}
 use Rattle.chk_site.specs.Site.{Adds}
@@ -12,7 +12,7 @@ use Rattle.chk_book.proofs.Added.{cause_later}
 use Rattle.chk_merge.specs.Segments.{SparesFiles}
 use Rattle.chk_merge.proofs.AllGathered.{fails_later}
 use Rattle.chk_compare.specs.Comparing.{values_between, value_there}
-use Rattle.sha2.specs.Hashers.{Holds256}
+use Rattle.chk_look_sum.specs.Rests.{HoldsRest}
 use Rattle.chk_look_sum.specs.Summing.{HasSummed}
 use Rattle.chk_look_sum.proofs.Blocks.{between_none, between_more}
 use Rattle.chk_look_sum.proofs.Steps.{block_fails}
@@ -24,7 +24,7 @@ loop-index-init g c = record {
       leads_none (g.S.Site.told c.args.site.now)
       (λ h x. (
         x,
-        subst (Holds256 c.new-hasher.result)
+        subst (HoldsRest c.args.skip c.new-hasher.result)
             (between_none c.args.side.now held c.args.block.first) c.new-hasher.ensures,
       ));
   own = adds_none (g.S.Site.told c.args.site.now) (Every (IsOf ReadsFile)) (λ history. tt);
@@ -45,10 +45,10 @@ loop-index-preserved g c =
           let before = values_between s held c.args.block.first l.index in
           leads_then (i.so most all held few settled side)
           (subst (λ bytes. Adds (g.S.Site.told l.site) (g.S.Site.told c.take_record.new.site)
-          (Leads (anyhow (SparesFiles all)) (HasSummed all held s before l.reader l.hasher)
-          (HasSummed all held s bytes c.take_record.new.reader c.take_record.new.hasher)))
+          (Leads (anyhow (SparesFiles all)) (HasSummed all held s c.args.skip before l.reader l.hasher)
+          (HasSummed all held s c.args.skip bytes c.take_record.new.reader c.take_record.new.hasher)))
           (between_more s held c.args.block.first l.index i.low (omega (arith, below, high)))
-          (c.in_ok-take_record.ensures.raw most all held before few settled side));
+          (c.in_ok-take_record.ensures.raw most all held c.args.skip before few settled side));
       own = every_then (IsOf ReadsFile) i.own c.in_ok-take_record.ensures.own;
       count = c.in_ok-take_record.ensures.cause ∙ i.count;
       low = let low = i.low in omega (arith, low);
@@ -67,10 +67,11 @@ returns-in_err-take_record g c =
       raw = λ most all held few settled side.
           let before = values_between s held c.args.block.first l.index in
           leads_then (i.so most all held few settled side)
-          (block_fails all held s (values_between s held c.args.block.first c.args.block.end)
-          (before ++ value_there s held l.index) c.take_record.new.reader
+          (block_fails all held s
+          (drop c.args.skip (values_between s held c.args.block.first c.args.block.end))
+          c.args.skip (before ++ value_there s held l.index) c.take_record.new.reader
           c.take_record.new.hasher fault
-          (c.in_err-take_record.ensures.raw most all held before few settled side));
+          (c.in_err-take_record.ensures.raw most all held c.args.skip before few settled side));
       own = every_then (IsOf ReadsFile) i.own c.in_err-take_record.ensures.own;
       only = c.in_err-take_record.ensures.only;
       last = fails_later (List ℕ) (Unit {0}) fault i.own c.in_err-take_record.ensures.last;
@@ -92,8 +93,10 @@ returns g c =
           leads_as (λ h x. x)
           (λ h x. (
             x.0,
-            c.finalize.ensures (values_between s held c.args.block.first c.args.block.end)
-                (subst (λ (k : ℕ). Holds256 l.hasher (values_between s held c.args.block.first k)) e x.1),
+            c.finalize.ensures c.args.skip
+                (values_between s held c.args.block.first c.args.block.end)
+                (subst (λ (k : ℕ). HoldsRest c.args.skip l.hasher
+                (values_between s held c.args.block.first k)) e x.1),
           ))
           (i.so most all held few settled side);
       own = i.own;

@@ -14,8 +14,8 @@ invariant-loop-index g l = record {
   so : (most : ℕ) (all : List (List ℕ)) (held : Files) → most ≤ 1048576 → AreSettled all held
       → IsSide most all held l.side → Adds (g.S.Site.told l.fn.site) (g.S.Site.told l.site)
       (Leads (anyhow (SparesFiles all)) (CanSum all held l.side l.fn.reader)
-      (HasSummed all held l.side (values_between l.side held l.fn.block.first l.index) l.reader
-      l.hasher));
+      (HasSummed all held l.side l.skip (values_between l.side held l.fn.block.first l.index)
+      l.reader l.hasher));
   own : Adds (g.S.Site.told l.fn.site) (g.S.Site.told l.site) (Every (IsOf ReadsFile));
   count : g.S.Site.fault_count l.site ≡ g.S.Site.fault_count l.fn.site;
   low : l.fn.block.first ≤ l.index;

@@ -11,17 +11,16 @@ use Rattle.chk_heads.specs.Faults.{FailsLast}
 use Rattle.chk_heads.specs.declared.fault.JobFault.TheVariants.{NoMemory}
 use Rattle.chk_heads.proofs.Gathering.{every_then}
 use Rattle.chk_book.proofs.Added.{cause_later}
-use Rattle.chk_book.specs.Views.{end_view}
-use Rattle.chk_book.specs.declared.lists.End.{End}
 use Rattle.chk_merge.specs.Segments.{HasFiles, SparesFiles}
 use Rattle.chk_merge.proofs.AllGathered.{fails_later}
 use Rattle.chk_merge.proofs.AllRead.{no_windows}
-use Rattle.chk_look_sum.specs.Summing.{bytes_of, digest_of}
+use Rattle.chk_look_sum.specs.Summing.{digest_of, rest_of}
+use Rattle.chk_look_sum.specs.declared.rests.Rest.{Rest}
 use Rattle.chk_look_sum.proofs.Steps.{SoFar, stream_more, stream_fails, taken_more}
 use Rattle.chk_look_sum.proofs.summing.sum_streams.Goals as goal
 
-pub loop-end-init : goal.loop-end-init
-loop-end-init g c = record {
+pub loop-rest-init : goal.loop-rest-init
+loop-rest-init g c = record {
   so = λ most all held few settled side rise.
       leads_none (g.S.Site.told c.args.site.now)
       (λ h x. (
@@ -37,25 +36,25 @@ loop-end-init g c = record {
   number = ap length c.new-digests.ensures;
 }
 
-pub loop-end-preserved : goal.loop-end-preserved
-loop-end-preserved g c =
-    let l = c.loop-end in
+pub loop-rest-preserved : goal.loop-rest-preserved
+loop-rest-preserved g c =
+    let l = c.loop-rest in
     let i = l.invariant in
     let s = c.args.side.now in
-    let e = c.end-item.result in
+    let e = c.rest-item.result in
     let more = c.in_ok-push.ensures in
     let size = length-append l.digests (c.in_ok-digest.digest ∷ []) in
     let so_far = i.number in
     record {
       so = λ most all held few settled side rise.
-          let f : End → List ℕ = λ d. digest_of s held (end_view d).stream in
+          let f : Rest → List ℕ = digest_of s held in
           subst (λ wanted. Adds (g.S.Site.told c.args.site.now)
           (g.S.Site.told c.sum_stream.new.site)
           (Leads (anyhow (SparesFiles all)) (HasFiles all held)
           (SoFar all held s wanted c.sum_stream.new.reader c.push.new.self)))
-          (taken_more f c.args.ends.now l.end-index e c.loop-end-test.true c.end-item.is)
-          (stream_more all held s (map f (take l.end-index c.args.ends.now)) l.digests
-          c.push.new.self (bytes_of s held (end_view e).stream) c.in_ok-digest.digest l.reader
+          (taken_more f c.args.rests.now l.rest-index e c.loop-rest-test.true c.rest-item.is)
+          (stream_more all held s (map f (take l.rest-index c.args.rests.now)) l.digests
+          c.push.new.self (rest_of s held e) c.in_ok-digest.digest l.reader
           c.sum_stream.new.reader more (i.so most all held few settled side rise)
           (c.in_ok-digest.ensures.raw most all held few settled side rise));
       own = every_then (IsOf ReadsFile) i.own c.in_ok-digest.ensures.own;
@@ -66,16 +65,16 @@ loop-end-preserved g c =
 pub returns-in_err-digest : goal.returns-in_err-digest
 returns-in_err-digest g c =
     let p = err_from_is_err_and c.from_residual.result c.from_residual.ensures.1 in
-    let l = c.loop-end in
+    let l = c.loop-rest in
     let i = l.invariant in
     let s = c.args.side.now in
     let fault = c.in_err-digest.field-0.0 in
     rw (p.1, p.2)
     (record {
       raw = λ most all held few settled side rise.
-          let f : End → List ℕ = λ d. digest_of s held (end_view d).stream in
-          stream_fails all held s (map f (take l.end-index c.args.ends.now)) l.digests
-          (bytes_of s held (end_view c.end-item.result).stream) (map f c.args.ends.now) l.reader
+          let f : Rest → List ℕ = digest_of s held in
+          stream_fails all held s (map f (take l.rest-index c.args.rests.now)) l.digests
+          (rest_of s held c.rest-item.result) (map f c.args.rests.now) l.reader
           c.sum_stream.new.reader fault (i.so most all held few settled side rise)
           (c.in_err-digest.ensures.raw most all held few settled side rise);
       count = tt;
@@ -89,7 +88,7 @@ returns-in_err-digest g c =
 
 pub returns-in_err-push : goal.returns-in_err-push
 returns-in_err-push g c =
-    let l = c.loop-end in
+    let l = c.loop-rest in
     let i = l.invariant in
     let r = c.from_residual-in_err-push in
     let p = err_from_is_err_and r.result r.ensures.1 in
@@ -109,17 +108,17 @@ returns-in_err-push g c =
 
 pub returns : goal.returns
 returns g c =
-    let l = c.loop-end in
+    let l = c.loop-rest in
     let i = l.invariant in
     let s = c.args.side.now in
-    let ends = c.args.ends.now in
-    let low = c.loop-end-test.false in
-    let high = l.auto.end-index-end in
+    let rests = c.args.rests.now in
+    let low = c.loop-rest-test.false in
+    let high = l.auto.rest-index-end in
     let number = i.number in
-    let past : take l.end-index ends ≡ ends = take_all l.end-index ends c.loop-end-test.false in
+    let past : take l.rest-index rests ≡ rests = take_all l.rest-index rests c.loop-rest-test.false in
     record {
       raw = λ most all held few settled side rise.
-          let f : End → List ℕ = λ d. digest_of s held (end_view d).stream in
+          let f : Rest → List ℕ = digest_of s held in
           leads_as (λ h x. x) (λ h x. (x.0.0, x.1 ∙ ap (map f) past))
           (i.so most all held few settled side rise);
       count = omega (arith, low, high, number);

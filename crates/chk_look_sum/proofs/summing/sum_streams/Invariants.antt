@@ -4,7 +4,6 @@ use Rattle.chk_site.specs.History.{Every}
 use Rattle.chk_site.specs.Site.{Adds}
 use Rattle.chk_site.specs.Runs.{anyhow, Leads}
 use Rattle.chk_world.specs.JobSteps.{IsOf, ReadsFile}
-use Rattle.chk_book.specs.Views.{end_view}
 use Rattle.chk_merge.specs.Segments.{HasFiles, SparesFiles, AreSettled}
 use Rattle.chk_compare.specs.Blocks.{StreamsRise}
 use Rattle.chk_compare.specs.Comparing.{IsSide}
@@ -12,15 +11,15 @@ use Rattle.chk_look_sum.specs.Summing.{digest_of}
 use Rattle.chk_look_sum.proofs.Steps.{SoFar}
 use Rattle.chk_look_sum.proofs.summing.sum_streams.Given as goal
 
-abbrev pub invariant-loop-end : goal.invariant-loop-end
-invariant-loop-end g l = record {
+abbrev pub invariant-loop-rest : goal.invariant-loop-rest
+invariant-loop-rest g l = record {
   so : (most : ℕ) (all : List (List ℕ)) (held : Files) → most ≤ 1048576 → AreSettled all held
       → IsSide most all held l.side → StreamsRise l.side.heads.now
       → Adds (g.S.Site.told l.fn.site) (g.S.Site.told l.site)
       (Leads (anyhow (SparesFiles all)) (HasFiles all held)
-      (SoFar all held l.side (map (λ e. digest_of l.side held (end_view e).stream)
-      (take l.end-index l.ends)) l.reader l.digests));
+      (SoFar all held l.side (map (digest_of l.side held)
+      (take l.rest-index l.rests)) l.reader l.digests));
   own : Adds (g.S.Site.told l.fn.site) (g.S.Site.told l.site) (Every (IsOf ReadsFile));
   count : g.S.Site.fault_count l.site ≡ g.S.Site.fault_count l.fn.site;
-  number : length l.digests ≡ l.end-index;
+  number : length l.digests ≡ l.rest-index;
 }

@@ -1,5 +1,4 @@
-use Rattle.std.proofs.Common.{◌∙◌, ℕ, List, ap, sym, length, refl, map}
-use Rattle.std.proofs.lemmas.List.{length-map}
+use Rattle.std.proofs.Common.{ℕ, List, refl}
 use Rattle.chk_site.proofs.Leads.{leads_as}
 use Rattle.chk_site.proofs.Runs.{adds_none}
 use Rattle.chk_world.specs.JobSteps.{IsOf, ReadsFile}
@@ -7,9 +6,8 @@ use Rattle.chk_heads.proofs.Gathering.{every_then}
 use Rattle.chk_heads.specs.Heads.{Head}
 use Rattle.chk_book.proofs.Added.{cause_later}
 use Rattle.chk_book.specs.Books.{book_view}
-use Rattle.chk_book.specs.Views.{end_view}
 use Rattle.chk_merge.proofs.AllGathered.{fails_later}
-use Rattle.chk_look_sum.proofs.Later.{counted, refused_so, last_later, cause_after}
+use Rattle.chk_look_sum.proofs.Later.{refused_so, last_later, cause_after}
 use Rattle.chk_look_sum.proofs.Sides.{summed_so}
 use Rattle.chk_look_sum.proofs.sums.sum_segments.Goals as goal
 
@@ -18,14 +16,10 @@ returns-in-Ok g c =
     let result = c.sum_streams.result in
     record {
       raw = λ held settled.
-          summed_so c.args.folder.now (book_view c.args.book.now) held c.as_slice.result.now
-          result c.sum_streams.ensures.raw
-          c.requires.names (ap (map end_view) c.as_slice.ensures) settled
+          summed_so c.args.folder.now (book_view c.args.book.now) held c.args.rests.now result
+          c.sum_streams.ensures.raw c.requires.names settled
           (c.in-Ok.ensures.raw held c.requires.job settled) c.sum_streams.ensures.own;
-      count = counted result (length c.as_slice.result.now)
-          (length (map end_view c.args.book.now.ends))
-          (ap length c.as_slice.ensures ∙ sym (length-map c.args.book.now.ends end_view))
-          c.sum_streams.ensures.count;
+      count = c.sum_streams.ensures.count;
       own = every_then (IsOf ReadsFile) (c.in-Ok.ensures.own c.requires.job)
           c.sum_streams.ensures.own;
       only = c.sum_streams.ensures.only;
@@ -44,7 +38,8 @@ returns-in-Err g c =
       raw = λ held settled.
           leads_as (λ history x. x)
           (λ history x.
-          refused_so c.args.folder.now (book_view c.args.book.now) held fault history x)
+          refused_so c.args.folder.now (book_view c.args.book.now) held c.args.rests.now fault
+          history x)
           (c.in-Err.ensures.raw held c.requires.job settled);
       count = tt;
       own = c.in-Err.ensures.own c.requires.job;

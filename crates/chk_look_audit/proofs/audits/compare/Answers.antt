@@ -1,0 +1,36 @@
+use Rattle.std.proofs.Common.{Bool, List, ℕ, Ok, Err, refl, subst}
+use Rattle.chk_look_audit.specs.Streams.{Audits}
+use Rattle.chk_look_audit.proofs.Steps.{call_cause, of_call}
+use Rattle.chk_look_audit.proofs.audits.compare.Goals as goal
+
+pub returns-in-Ok : goal.returns-in-Ok
+returns-in-Ok g c =
+    let given = Ok c.in-Ok.same in
+    record {
+      told = (
+        given,
+        subst (λ (ds : List (List ℕ)). Audits given c.args.rests.now ds _ (g.S.Site.told c.args.site.now)
+            (g.S.Site.told c.audit_each.new.site)) c.as_slice.ensures c.in-Ok.ensures.told,
+        refl,
+        c.requires.count,
+      );
+      only = tt;
+      cause = c.in-Ok.ensures.cause;
+    }
+
+pub returns-in-Err : goal.returns-in-Err
+returns-in-Err g c =
+    let fault = c.in-Err.fault in
+    rw c.from.ensures
+    (record {
+      told = (
+        Err fault,
+        subst (λ (ds : List (List ℕ)). Audits (Err fault) c.args.rests.now ds _ (g.S.Site.told c.args.site.now)
+            (g.S.Site.told c.audit_each.new.site)) c.as_slice.ensures c.in-Err.ensures.told,
+        refl,
+        c.requires.count,
+      );
+      only = of_call fault;
+      cause = call_cause Bool Bool fault (g.S.Site.fault_count c.args.site.now)
+          (g.S.Site.fault_count c.audit_each.new.site) c.in-Err.ensures.cause;
+    })

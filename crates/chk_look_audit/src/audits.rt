@@ -1,0 +1,142 @@
+//! The streams of a store that agents of a folder have.
+
+ghost use Rattle.std.specs.Prelude.{◌≡◌, length, IfErr, IsTrue, Ok};
+ghost use Rattle.chk_site.specs.History.{Every};
+ghost use Rattle.chk_site.specs.Site.{Adds};
+ghost use Rattle.chk_world.specs.Sight.{job};
+ghost use Rattle.chk_heads.specs.Faults.{IsOfRead, JobCause};
+ghost use Rattle.chk_book.specs.Books.{book_view};
+ghost use Rattle.chk_book.specs.Folders.{is_folder};
+ghost use Rattle.chk_look_audit.specs.Audits.{Audited, AuditedAgain, AuditedBook, AuditedBy};
+ghost use Rattle.chk_look_audit.specs.Audits.{AuditedRests, HasDamage, LooksAtAudit};
+
+use crate::agents::find_rests;
+use crate::streams::audit_each;
+use chk_book::{Book, load_book};
+use chk_heads::JobFault;
+use chk_look_sum::{Digests, Rest, sum_rests};
+use chk_site::{Site, Who};
+use std::alloc::Global;
+
+/// Compares the archive of each stream that the folder's book names, and that the checkpoint of an
+/// agent in the folder `agents` has, with its log, and prints a line for each. Says whether all are
+/// the same.
+///
+/// Where the log begins that is there follows from the checkpoint's line and the sizes of the
+/// generations up to its place. From there on, or from the stream's start, the SHA-256 of the
+/// archived bytes is compared with that of the log's at the same offsets, generation by generation.
+/// The lines are `same <source> <type> <name> start <offset> end <offset> sha256 <digest>`, with
+/// `PART` and `log begins at <offset>` behind the offsets where the log has the first bytes no
+/// more, and `DIFFERS`, with `log begins at <offset>` too, and `archive <digest> log <digest>`, or
+/// `log ends at <offset>`.
+///
+/// Damage is told before the first line, where a second look at once finds some too. It costs what
+/// `sum` does, and the reads of each checkpoint and of each log, in pieces of 131,072 bytes. A
+/// stream is looked for in all lines of its checkpoint.
+pub fn audit<S: Site>(
+    alloc: Global,
+    site: &mut S,
+    who: &Who,
+    folder: &str,
+) -> Result<bool, JobFault>
+    requires job { who.now ≡ job }
+    requires folder { IsTrue (is_folder folder.now) }
+    ensures told { AuditedAgain folder.now result (S.told site.old) (S.told site.new) }
+    ensures own { Adds (S.told site.old) (S.told site.new) (Every LooksAtAudit) }
+    ensures only { IfErr result IsOfRead }
+    ensures cause { JobCause (S.fault_count site.old) (S.fault_count site.new) result }
+{
+    let given = audit_folder(alloc, site, who, folder);
+    if !is_damaged(&given) {
+        return given;
+    }
+    audit_folder(alloc, site, who, folder)
+}
+
+/// Damage was found.
+fn is_damaged(given: &Result<bool, JobFault>) -> bool
+    ensures { HasDamage result given.now }
+{
+    matches!(given, Err(JobFault::Damaged { .. }))
+}
+
+/// One look.
+fn audit_folder<S: Site>(
+    alloc: Global,
+    site: &mut S,
+    who: &Who,
+    folder: &str,
+) -> Result<bool, JobFault>
+    requires job { who.now ≡ job }
+    requires folder { IsTrue (is_folder folder.now) }
+    ensures told { Audited folder.now result (S.told site.old) (S.told site.new) }
+    ensures only { IfErr result IsOfRead }
+    ensures cause { JobCause (S.fault_count site.old) (S.fault_count site.new) result }
+{
+    match load_book(alloc, site, who, folder) {
+        Ok(book) => audit_book(alloc, site, who, folder, &book),
+        Err(fault) => Err(fault),
+    }
+}
+
+/// The same of the streams of this book of the folder.
+fn audit_book<S: Site>(
+    alloc: Global,
+    site: &mut S,
+    who: &Who,
+    folder: &str,
+    book: &Book,
+) -> Result<bool, JobFault>
+    requires job { who.now ≡ job }
+    ensures told { AuditedBook folder.now (book_view book.now) result (S.told site.old)
+        (S.told site.new) }
+    ensures only { IfErr result IsOfRead }
+    ensures cause { JobCause (S.fault_count site.old) (S.fault_count site.new) result }
+{
+    let mut rests = Vec::new(alloc);
+    let ends = book.ends.as_slice();
+    find_rests(alloc, site, who, ends, &mut rests)?;
+    audit_rests(alloc, site, who, folder, book, rests.as_slice())
+}
+
+/// The same of the streams that were found.
+fn audit_rests<S: Site>(
+    alloc: Global,
+    site: &mut S,
+    who: &Who,
+    folder: &str,
+    book: &Book,
+    rests: &[Rest<'_>],
+) -> Result<bool, JobFault>
+    requires job { who.now ≡ job }
+    ensures told { AuditedRests folder.now (book_view book.now) rests.now result
+        (S.told site.old) (S.told site.new) }
+    ensures only { IfErr result IsOfRead }
+    ensures cause { JobCause (S.fault_count site.old) (S.fault_count site.new) result }
+{
+    match sum_rests(alloc, site, who, folder, book, rests) {
+        Ok(digests) => compare(alloc, site, who, rests, &digests),
+        Err(fault) => Err(fault),
+    }
+}
+
+/// The same, whose archives have these digests.
+fn compare<S: Site>(
+    alloc: Global,
+    site: &mut S,
+    who: &Who,
+    rests: &[Rest<'_>],
+    digests: &Digests,
+) -> Result<bool, JobFault>
+    requires job { who.now ≡ job }
+    requires count { length digests.now ≡ length rests.now }
+    ensures told { AuditedBy rests.now (Ok digests.now) result (S.told site.old)
+        (S.told site.new) }
+    ensures only { IfErr result IsOfRead }
+    ensures cause { JobCause (S.fault_count site.old) (S.fault_count site.new) result }
+{
+    match audit_each(alloc, site, who, rests, digests.as_slice()) {
+        Ok(same) => Ok(same),
+        Err(fault) => Err(JobFault::from(fault)),
+    }
+}

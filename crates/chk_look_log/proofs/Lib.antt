@@ -1,0 +1,4 @@
+mod Gave
+mod Loop
+mod Owned
+mod Placed
