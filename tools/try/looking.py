@@ -50,6 +50,14 @@ FLIPPED = bytearray(SOUND["archive/seg.2"])
 FLIPPED[99] ^= 1
 CHANGED = bytearray(SOUND["archive/seg.2"])
 CHANGED[-1] ^= 1
+UNSOUND = "chukwactl: files are damaged\n"
+COLLECTED = {
+    "agents/h1.check": b"chukwa-checkpoint 1\nadd adaptor_1 = LWFTAdaptor Log /a.log 6 0 -\n",
+    "sinks/c.born": big_endian(1, 8),
+    "sinks/c.1.1.done": segment(1, HELLO),
+    "sinks/c.1.2.chukwa": segment(1, HELLO) + b"\0",
+    "sinks/c.1.2.mark": big_endian(144, 8),
+}
 STREAM = "stream {} Log /a.log start 0 end {} demuxed {}\n"
 
 
@@ -58,6 +66,29 @@ def summed(host, content):
     return f"stream {host} Log /a.log start 0 end {len(content)} sha256 {digest}\n"
 
 
+# A store with a sink under writing that grew last long ago, and one with a sink that grew just now.
+SINKS = {**SOUND, "sinks/c1.1.3.chukwa": SOUND["archive/seg.1"], "sinks/c1.1.3.mark": big_endian(96, 8),
+         "sinks/c1.1.2.done": SOUND["archive/seg.1"]}
+STATUS = """\
+store @
+       ARCHIVED         DEMUXED  STREAM
+             10               6  h1 Log /a.log
+              2               0  h2 Log /a.log
+        WRITTEN       COMMITTED           QUIET  SINK
+            144              96               {}  c1.1.3
+       UNCLOSED          CLOSED            HELD
+              1               1               0
+"""
+NO_SINKS = """\
+store @
+       ARCHIVED         DEMUXED  STREAM
+             10               6  h1 Log /a.log
+              2               0  h2 Log /a.log
+        WRITTEN       COMMITTED           QUIET  SINK
+       UNCLOSED          CLOSED            HELD
+              0               0               0
+"""
+
 WAITING = {
     "archive/seg.1": segment(1, HELLO),
     "archive/seg.2": segment(2, record(11, b"worl")),
@@ -65,6 +96,9 @@ WAITING = {
     + big_endian(1, 4) + big_endian(0, 8) + big_endian(6, 8) + b"\0\x02h1\0\x03Log\0\x06/a.log"
     + big_endian(2, 8) + big_endian(142, 8),
 }
+TWO = {**{f"s1/{name}": content for name, content in WAITING.items()},
+       **{f"s2/{name}": content for name, content in SOUND.items()}}
+FOUND_IN = "store S/s1\n{}found h1 Log /a.log from 6 to 7 archived in S/s2\nstore S/s2\n"
 HELD = "held h1 Log /a.log archived 6 missing 6 to 7 waits 7 to 11 chunks 1\n"
 
 PASSED = {
@@ -77,7 +111,8 @@ BEHIND = {**PASSED, "agents/h1.check": b"chukwa-checkpoint 1\nadd a = FileTailin
 FILE = {"f": b"add LWFTAdaptor Log $S/a.log 0\nadd FileTailing Log $S/a.log 0\n", "a.log": b"x"}
 FOUND = "line 2 BadClass\n"
 
-# The files ($S in them is the folder), the words (S is the folder, P a port at which somebody listens), the status, the standard output and the standard error.
+# The files ($S in them is the folder), the words (S is the folder, P a port at which somebody listens), the status, the standard output and the
+# standard error (` S/` in them is the folder).
 ROWS = [
     (SOUND, "streams S", 0, STREAM.format("h1", 10, 6) + STREAM.format("h2", 2, 0), ""),
     (SOUND, "cat S h1 Log /a.log", 0, "hello\nworl", ""),
@@ -85,8 +120,13 @@ ROWS = [
     (SOUND, "cat --records S h1 Log /a.log", 0, "hello\n", ""),
     (SOUND, "cat S h3 Log /a.log", 1, "", "chukwactl: no such stream\n"),
     (SOUND, "verify S", 0, "ok archive 3 demux 1\n", ""),
-    ({**SOUND, "archive/seg.2": bytes(FLIPPED)}, "verify S", 1, "", "chukwactl: damaged archive/seg.2 96\n"),
-    ({**SOUND, "archive/seg.1": None}, "verify S", 1, "", "chukwactl: damaged archive/seg.1 0\n"),
+    ({**SOUND, "archive/seg.2": bytes(FLIPPED)}, "verify S", 1, "damaged archive/seg.2 96\n", UNSOUND),
+    ({**SOUND, "archive/seg.1": None}, "verify S", 1, "damaged archive/seg.1 0\n", UNSOUND),
+    ({**SOUND, **COLLECTED}, "verify S", 0, "ok archive 3 demux 1\n", ""),
+    ({**SOUND, **COLLECTED, "sinks/c.1.1.done": COLLECTED["sinks/c.1.1.done"] + b"\0", "sinks/c.1.2.mark": big_endian(200, 8),
+      "agents/h1.check": b"chukwa-checkpoint 1"}, "verify S", 1,
+     "damaged agents/h1.check 0\ndamaged sinks/c.1.1.done 144\ndamaged sinks/c.1.2.chukwa 144\n"
+     "damaged sinks/c.1.2.mark 0\n", UNSOUND),
     ({**SOUND, "archive/seg.2": None}, "cat S h1 Log /a.log", 3, "hello\n", "chukwactl: archive/seg.2 isn't there\n"),
     (SOUND, "sum S", 0, summed("h1", b"hello\nworl") + summed("h2", b"x\n"), ""),
     ({**SOUND, "archive/seg.2": bytes(CHANGED)}, "sum S", 0,
@@ -95,26 +135,38 @@ ROWS = [
     (SOUND, "held S", 0, "", ""),
     (WAITING, "held S", 1, HELD, "chukwactl: chunks wait for bytes that aren't archived\n"),
     ({**WAITING, "archive/seg.2": None}, "held S", 1, "", "chukwactl: damaged archive/seg.2 0\n"),
+    (TWO, "held S/s1 S/s2", 1, FOUND_IN.format(HELD), "chukwactl: chunks wait for bytes that aren't archived\n"),
+    ({**TWO, "s2/archive/book": None}, "held S/s1 S/s2", 1, "", "chukwactl: there is no S/s2/archive/book\n"),
     (PASSED, "passed --agent S a.log", 0, "", ""),
     (BEHIND, "passed --agent S a.log", 1, "", "chukwactl: the oldest generation isn't read to its end\n"),
     (PASSED, "passed --agent S b.log", 1, "", "chukwactl: no such stream\n"),
+    (SINKS, "status --store S", 0, STATUS.format(0), ""),
+    (SINKS, "status -q --store S", 0, "OK - @: unclosed 1 closed 1 held 0 quiet 0\n", ""),
+    ({**SINKS, "quiet": 700}, "status -q --store S", 1,
+     "WARNING - @: unclosed 1 closed 1 held 0 quiet 700\n", ""),
+    (SOUND, "status --store S", 0, NO_SINKS, ""),
+    ({**SOUND, "archive/book": SOUND["archive/book"][:17]}, "status --store S", 1, "", "chukwactl: damaged archive/book 17\n"),
+    ({}, "status --help", 0, "usage: chukwactl status [-q] [--watch S] --store DIR [--store DIR]..\n", ""),
     ({**SOUND, "demux/book": None}, "verify S", 0, "ok archive 3 demux none\n", ""),
     ({**SOUND, "archive/book": None}, "verify S", 1, "", "chukwactl: there is no archive/book\n"),
     ({"archive/seg.1": SOUND["archive/seg.1"]}, "streams S", 1, "", "chukwactl: there is no archive/book\n"),
-    ({}, "streams S", 3, "", None),
+    ({}, "streams S", 1, "", "chukwactl: there is no archive/book\n"),
     ({}, "streams S/none", 3, "", None),
     ({"f": FILE["f"].split(b"\n")[0], "a.log": b"x"}, "check --initial S/f 127.0.0.1:P", 0, "", ""),
     (FILE, "check --initial S/f 127.0.0.1:P", 1, FOUND, "chukwactl: a start would refuse or skip some of it\n"),
     (FILE, "check --initial S/f 127.0.0.1:1", 1, FOUND + "collector 127.0.0.1:1 NoAnswer\n", None),
     ({}, "check --initial S/f 127.0.0.1:P", 3, "", "chukwactl: the initial file isn't there\n"),
     ({}, "cat", 2, "", "usage: chukwactl cat [--begin N] [--follow] [--records] STORE SOURCE TYPE NAME\n"),
-    ({}, "verify --help", 0, "usage: chukwactl verify STORE\n", ""),
+    ({}, "verify --help", 0, "usage: chukwactl verify [--progress] STORE\n", ""),
 ]
 
 
 def made(folder, files):
     for name, content in files.items():
-        if content is not None:
+        if name == "quiet":
+            then = time.time() - content
+            os.utime(f"{folder}/sinks/c1.1.3.chukwa", (then, then))
+        elif content is not None:
             os.makedirs(os.path.dirname(f"{folder}/{name}"), exist_ok=True)
             with open(f"{folder}/{name}", "wb") as file:
                 file.write(content.replace(b"$S", folder.encode()))
@@ -137,6 +189,12 @@ def changing(trace, asks):
                 yield line.strip()
 
 
+def is_as(text, wanted, folder):
+    """The text is what is wanted of a store in this folder, where it is said at once and where within three seconds."""
+    return text in [wanted.replace("@", folder).replace(" 0  c1", f" {late}  c1").replace("quiet 700", f"quiet {700 + late}")
+                    for late in range(4)]
+
+
 def wrong_rows(look):
     wrong = 0
     door = socket.create_server(("127.0.0.1", 0))
@@ -147,10 +205,12 @@ def wrong_rows(look):
             os.mkdir(folder)
             made(folder, files)
             words = [folder + word[1:] if re.match("S(/|$)", word) else re.sub(":P$", f":{port}", word) for word in words.split()]
+            out, error = (text and text.replace(" S/", f" {folder}/") for text in (out, error))
             done = subprocess.run(["strace", "-f", "-qq", "-o", trace, look, *words], cwd=place, capture_output=True,
                                   text=True, timeout=60, stdin=subprocess.DEVNULL)
             found = (done.returncode, done.stdout, done.stderr if error is not None else None)
-            told = [] if found == (status, out, error) else [f"{found} in place of {(status, out, error)}"]
+            same = found[::2] == (status, error) and is_as(done.stdout, out, folder)
+            told = [] if same else [f"{found} in place of {(status, out, error)}"]
             told += [f"it calls {line}" for line in changing(trace, words[0] == "check")]
             for line in told:
                 print(f"row {number + 1}, {' '.join(words)}: {line}")

@@ -1,4 +1,8 @@
+mod EndPlaces
+mod Grouped
+mod HeadPlaces
 mod Later
 mod LineWords
-mod Grouped
+mod Printed
 mod Sorted
+mod StoreLines

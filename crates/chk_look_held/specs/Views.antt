@@ -3,7 +3,7 @@ use Rattle.std.specs.Prelude.{ℕ, ◌+◌, ◌<◌, ◌≤◌, List, slice_inde
 use Rattle.chk_heads.specs.Heads.{Head}
 use Rattle.chk_heads.specs.Order.{no_head}
 use Rattle.chk_look_held.specs.Groups.{Group}
-use Rattle.chk_look_held.specs.declared.lines.Group.{Group as Struct}
+use Rattle.chk_look_held.specs.declared.groups.Group.{Group as Struct}
 
 abbrev pub group_view : List Head → Struct → Group
 group_view heads g = record {

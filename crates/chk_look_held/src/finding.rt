@@ -6,12 +6,13 @@ ghost use Rattle.chk_site.specs.Site.{Adds};
 ghost use Rattle.chk_world.specs.Sight.{job};
 ghost use Rattle.chk_world.specs.JobSteps.{IsOf, ReadsFile};
 ghost use Rattle.chk_heads.specs.Faults.{JobCause, FailsLast, IsOfRead};
-ghost use Rattle.chk_book.specs.Folders.{is_folder, segment_name};
+ghost use Rattle.chk_book.specs.Folders.{is_folder};
 ghost use Rattle.chk_book.specs.Views.{segment_view};
 ghost use Rattle.chk_look_held.specs.Finding.{ShowsAside, ShowsSegment, FoundWaiting, FoundAgain};
 ghost use Rattle.chk_look_held.specs.Finding.{HasDamage};
+ghost use Rattle.chk_look_held.specs.Order.{StreamsRise};
 
-use chk_book::{Book, Segment, load_book};
+use chk_book::{Book, Segment, load_book, segment_name};
 use chk_bytes::{NoMemory, Word};
 use chk_chunk::CHUNK_BYTES;
 use chk_heads::{Heads, JobFault};
@@ -49,6 +50,7 @@ pub fn find_waiting<S: Site>(
     ensures own { Adds (S.told site.old) (S.told site.new) (Every (IsOf ReadsFile)) }
     ensures only { IfErr result IsOfRead }
     ensures last { Adds (S.told site.old) (S.told site.new) (FailsLast result) }
+    ensures order { IfOk result (λ w. StreamsRise w.heads) }
     ensures cause { JobCause (S.fault_count site.old) (S.fault_count site.new) result }
 {
     let given = find_once(alloc, site, who, folder);
@@ -78,6 +80,7 @@ fn find_once<S: Site>(
     ensures own { Adds (S.told site.old) (S.told site.new) (Every (IsOf ReadsFile)) }
     ensures only { IfErr result IsOfRead }
     ensures last { Adds (S.told site.old) (S.told site.new) (FailsLast result) }
+    ensures order { IfOk result (λ w. StreamsRise w.heads) }
     ensures cause { JobCause (S.fault_count site.old) (S.fault_count site.new) result }
 {
     match load_book(alloc, site, who, folder) {
@@ -103,6 +106,7 @@ fn aside_heads<S: Site>(
     ensures own { Adds (S.told site.old) (S.told site.new) (Every (IsOf ReadsFile)) }
     ensures only { IfErr result IsOfRead }
     ensures last { Adds (S.told site.old) (S.told site.new) (FailsLast result) }
+    ensures order { IfOk result StreamsRise }
     ensures cause { JobCause (S.fault_count site.old) (S.fault_count site.new) result }
 {
     match aside {
@@ -126,6 +130,7 @@ fn segment_heads<S: Site>(
     ensures own { Adds (S.told site.old) (S.told site.new) (Every (IsOf ReadsFile)) }
     ensures only { IfErr result IsOfRead }
     ensures last { Adds (S.told site.old) (S.told site.new) (FailsLast result) }
+    ensures order { IfOk result StreamsRise }
     ensures cause { JobCause (S.fault_count site.old) (S.fault_count site.new) result }
 {
     let mut heads = Heads::new(alloc);
@@ -136,12 +141,4 @@ fn segment_heads<S: Site>(
         },
         Err(fault) => Err(fault),
     }
-}
-
-/// The name of a folder's segment. One that no call can name counts as want of memory.
-fn segment_name(alloc: Global, folder: &str, number: u64) -> Result<Word, NoMemory>
-    ensures { IfOk result (λ name. name ≡ segment_name folder.now number) }
-{
-    let text = format!(in alloc; "{folder}/seg.{number}")?;
-    Word::new(alloc, text.as_bytes()).map_err(|_| NoMemory)
 }

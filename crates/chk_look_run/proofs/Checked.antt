@@ -11,7 +11,8 @@ use Rattle.chk_site.specs.declared.acts.OutsideFault.TheVariants as site
 use Rattle.chk_look_check.specs.declared.checking.Checked.{Checked}
 use Rattle.chk_look_check.specs.declared.checking.Checked.TheVariants as check
 use Rattle.chk_look_check.specs.Checking.{CheckCause}
-use Rattle.chk_look_words.specs.Commands.{Asked, Cat, Check, Streams, Verify, Sum, Held, Help}
+use Rattle.chk_look_words.specs.Commands.{Asked, Cat, Check, Streams, Verify, Sum, Held, HeldIn}
+use Rattle.chk_look_words.specs.Commands.{Help}
 use Rattle.chk_look_words.specs.Commands.{Passed, Version}
 use Rattle.chk_look_words.specs.Names.{are_collectors}
 use Rattle.chk_look_run.specs.declared.outcome.Outcome.{Outcome}
@@ -44,6 +45,7 @@ no_cause (Streams store) n = refl
 no_cause (Verify store) n = refl
 no_cause (Sum store) n = refl
 no_cause (Held store) n = refl
+no_cause (HeldIn stores) n = refl
 no_cause (Passed w) n = refl
 no_cause (Help usage) n = refl
 no_cause Version n = refl

@@ -1,19 +1,25 @@
 -- Whether a file is there, by one read; and what holds behind reads.
-use Rattle.std.proofs.Common.{◌≡◌, ◌∙◌, Bool, true, false, ℕ, List, Option, Some, None, Ok, Err}
+use Rattle.std.proofs.Common.{◌≡◌, ◌∙◌, Bool, true, false, ℕ, List, [], ◌∷◌, ◌++◌, Option, Some}
+use Rattle.std.proofs.Common.{None, Ok, Err, inl, inr}
 use Rattle.std.proofs.Common.{Result, ap, sym, subst}
 use Rattle.std.specs.Prelude.{is_some, option_map}
 use Rattle.chk_site.specs.declared.acts.OutsideFault.{OutsideFault}
 use Rattle.chk_site.specs.declared.acts.OutsideFault.TheVariants as site
 use Rattle.chk_site.specs.Files.{File}
-use Rattle.chk_site.specs.History.{History, Every}
+use Rattle.chk_site.specs.Acts.{Deed, deed}
+use Rattle.chk_site.specs.History.{History, Step, Every}
 use Rattle.chk_site.specs.Site.{Adds, OutsideCause}
-use Rattle.chk_site.proofs.Runs.{adds_then, every_join}
+use Rattle.chk_site.proofs.Runs.{adds_as, adds_then, every_join}
 use Rattle.chk_replace.specs.Load.{bytes_of}
 use Rattle.chk_world.specs.JobSteps.{IsOf, ReadsFile}
 use Rattle.chk_heads.specs.Shown.{ShowsPiece}
 use Rattle.chk_look.proofs.StreamLemmas.{reads_own}
 use Rattle.chk_look_store.proofs.Again.{looks_again}
-use Rattle.chk_look_store.specs.Following.{LooksAgain}
+use Rattle.chk_look.specs.Looking.{looks, says}
+use Rattle.chk_look_files.specs.Calls.{looks_at, quiet as quiet_call, says as said_around}
+use Rattle.chk_look_files.specs.Calls.{waits as waits_around}
+use Rattle.chk_look_files.specs.Calls.{LooksAround, Looks}
+use Rattle.chk_look_store.specs.Following.{looks_once, waits, LooksAgain}
 use Rattle.chk_look_run.specs.declared.outcome.Outcome.{Outcome}
 use Rattle.chk_look_run.specs.Outcomes.{told_as, OutcomeCause}
 use Rattle.chk_look_run.specs.Finding.{found_as, is_there, FoundCause, ShowsMissed}
@@ -66,3 +72,41 @@ pub cause_then : (outcome : Outcome) (before mid now : ℕ) → mid ≡ before
     → OutcomeCause before now outcome
 cause_then outcome before mid now same cause = subst (λ (n : ℕ). OutcomeCause n now outcome) same
     cause
+
+again_step : (before : History) (step : Step) → IsOf LooksAgain before step → Looks before step
+again_step before step (inl theirs) = inl theirs
+again_step before step (inr own) =
+    inr (
+      record { own = own.0.own; running = own.0.running; honest = own.0.honest },
+      by_call (deed step.act) own.1,
+    )
+  where
+    by_call : (call : Deed) → LooksAgain call → LooksAround call
+    by_call call (looks_once _ (looks _ is)) = quiet_call call (looks_at call is)
+    by_call call (looks_once _ (says text)) = said_around text
+    by_call call (waits ms) = waits_around ms
+
+again_every : (added history : History) → Every (IsOf LooksAgain) added history
+    → Every Looks added history
+again_every [] history each = tt
+again_every (step ∷ added) history each = (
+  again_every added history each.0,
+  again_step (added ++ history) step each.1,
+)
+
+-- who looks again and again looks around
+pub around : {old new : Option History} → Adds old new (Every (IsOf LooksAgain))
+    → Adds old new (Every Looks)
+around told = adds_as (Every Looks) told (λ added history x. again_every added history x)
+
+pub around_then : {old mid new : Option History} → Adds old mid (Every Looks)
+    → Adds mid new (Every (IsOf LooksAgain)) → Adds old new (Every Looks)
+around_then first rest =
+    adds_then (Every Looks) first (around rest)
+    (λ a b history p q. every_join Looks b a history p q)
+
+-- a refusal of the outside
+pub err_cause : (T : Type 0) (fault : OutsideFault) (before now : ℕ)
+    → OutsideCause {T = T} before now (Err fault) → OutcomeCause before now (told_as (Err fault))
+err_cause T (site.Outside call) before now cause = cause
+err_cause T site.NoMemory before now cause = cause

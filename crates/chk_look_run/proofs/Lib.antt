@@ -1,3 +1,4 @@
+mod StoreSteps
 pub mod Shown
 pub mod Found
 mod Held

@@ -25,12 +25,13 @@ use Rattle.chk_look.specs.declared.stream.Came.TheVariants as came
 use Rattle.chk_look.specs.Faults.{LookCause}
 use Rattle.chk_look_words.specs.Usages.{usage_text}
 use Rattle.chk_look_words.specs.declared.usage.Usage.{Usage}
-use Rattle.chk_look_words.specs.declared.usage.Usage.TheVariants.{Commands, Cat, Check, Streams}
+use Rattle.chk_look_words.specs.declared.usage.Usage.TheVariants.{Commands, Cat, Check, Status}
 use Rattle.chk_look_words.specs.declared.usage.Usage.TheVariants.{Verify, Sum, Held}
-use Rattle.chk_look_words.specs.declared.usage.Usage.TheVariants.{Passed}
+use Rattle.chk_look_words.specs.declared.usage.Usage.TheVariants.{Passed, Streams}
 use Rattle.chk_look_run.specs.Outcomes.{listed_as, outcome_of_fault, outcome_of_job, shown_as}
 use Rattle.chk_look_run.specs.Outcomes.{told_as, OutcomeCause}
-use Rattle.chk_look_run.specs.Runs.{archive_line, sound_line, version_line}
+use Rattle.chk_look_run.specs.Runs.{version_line}
+use Rattle.chk_look_run.specs.Verifying.{archive_line, sound_line}
 
 -- a line that this process prints
 pub told_by : {who : Who} {text line : List ℕ} {given : Result (Unit {0}) OutsideFault}
@@ -45,6 +46,7 @@ pub usage_one : (usage : Usage) → IsTrue (is_one_line (usage_text usage))
 usage_one Commands = refl
 usage_one Cat = refl
 usage_one Check = refl
+usage_one Status = refl
 usage_one Streams = refl
 usage_one Verify = refl
 usage_one Sum = refl

@@ -1,8 +1,11 @@
 pub mod Outcomes
+pub mod Telling
 pub mod Finding
 pub mod Summing
 pub mod Holding
 pub mod Passing
 pub mod Checking
 pub mod Calls
+pub mod Verifying
 pub mod Runs
+pub mod Several

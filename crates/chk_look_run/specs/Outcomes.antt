@@ -11,17 +11,19 @@ use Rattle.chk_look.specs.declared.fault.LookFault.TheVariants as fault
 use Rattle.chk_look.specs.declared.stream.Came.{Came}
 use Rattle.chk_look.specs.declared.stream.Came.TheVariants as came
 use Rattle.chk_look_run.specs.declared.outcome.Outcome.{Outcome}
-use Rattle.chk_look_run.specs.declared.outcome.Outcome.TheVariants.{Done, NoArchive, Unknown}
+use Rattle.chk_look_run.specs.declared.outcome.Outcome.TheVariants.{Done, NoArchive, NoBook, Unknown}
 use Rattle.chk_look_run.specs.declared.outcome.Outcome.TheVariants.{Short, Damaged, Usage, Outside}
 use Rattle.chk_look_run.specs.declared.outcome.Outcome.TheVariants.{Behind, Gone, NoMemory, Waits}
-use Rattle.chk_look_run.specs.declared.outcome.Outcome.TheVariants.{Found, NoFile}
+use Rattle.chk_look_run.specs.declared.outcome.Outcome.TheVariants.{Found, NoFile, Unsound}
 
 abbrev pub outcome_status : Outcome → ℕ
 outcome_status Done = 0
 outcome_status NoArchive = 1
+outcome_status (NoBook name) = 1
 outcome_status Unknown = 1
 outcome_status Short = 1
 outcome_status (Damaged name at) = 1
+outcome_status Unsound = 1
 outcome_status Waits = 1
 outcome_status Behind = 1
 outcome_status Found = 1

@@ -1,32 +1,30 @@
 -- What a run shows, by its words.
-use Rattle.std.specs.Prelude.{◌≡◌, ℕ, ◌-◌, ◌^◌, Bool, true, false, List, [], ◌∷◌, codes, decimal}
-use Rattle.std.specs.Prelude.{if◌then◌else◌, Option, Some, None, Result, Ok, Err}
-use Rattle.chk_site.specs.declared.acts.OutsideFault.{OutsideFault}
+use Rattle.std.specs.Prelude.{◌≡◌, ℕ, ◌-◌, ◌^◌, Bool, true, false, List, codes}
+use Rattle.std.specs.Prelude.{if◌then◌else◌, Option, Some, None, Result}
 use Rattle.chk_site.specs.History.{History}
 use Rattle.chk_world.specs.Sight.{job}
-use Rattle.chk_heads.specs.declared.fault.JobFault.{JobFault}
-use Rattle.chk_prints.specs.Printing.{PrintsInTurn}
 use Rattle.chk_look.specs.declared.course.Course.{Course}
 use Rattle.chk_look.specs.declared.fault.LookFault.{LookFault}
 use Rattle.chk_look.specs.declared.stream.Came.{Came}
 use Rattle.chk_look.specs.Courses.{stream_of}
-use Rattle.chk_look_store.specs.Lines.{line_of}
 use Rattle.chk_look_store.specs.Listing.{Listed}
 use Rattle.chk_look_store.specs.Going.{GoesOn}
 use Rattle.chk_look_store.specs.Following.{Follows}
-use Rattle.chk_look_verify.specs.Verifying.{VerifiedBy}
 use Rattle.chk_look_words.specs.Asked.{asked}
 use Rattle.chk_look_words.specs.Commands.{Asked, Cat, Check, Streams, Verify, Sum, Held, Help}
-use Rattle.chk_look_words.specs.Commands.{Passed, Version, CatAsked}
+use Rattle.chk_look_words.specs.Commands.{HeldIn, Passed, Version, CatAsked}
 use Rattle.chk_look_words.specs.Usages.{usage_of, usage_text}
 use Rattle.chk_look_run.specs.declared.outcome.Outcome.{Outcome}
 use Rattle.chk_look_run.specs.declared.outcome.Outcome.TheVariants.{Usage, NoMemory}
-use Rattle.chk_look_run.specs.Outcomes.{listed_as, outcome_of_job, shown_as, told_as}
+use Rattle.chk_look_run.specs.Outcomes.{listed_as, shown_as}
 use Rattle.chk_look_run.specs.Checking.{ShowsChecked}
-use Rattle.chk_look_run.specs.Finding.{FindsFile, InStore}
+use Rattle.chk_look_run.specs.Finding.{InStore}
 use Rattle.chk_look_run.specs.Summing.{ShowsSums}
 use Rattle.chk_look_run.specs.Holding.{ShowsHeld}
 use Rattle.chk_look_run.specs.Passing.{ShowsPassed}
+use Rattle.chk_look_run.specs.Several.{ShowsStores}
+use Rattle.chk_look_run.specs.Verifying.{ShowsVerified}
+pub use Rattle.chk_look_run.specs.Telling.{Tells}
 
 -- the folder of what is wanted, and the most bytes of a record in it
 abbrev pub folder_of : CatAsked → List ℕ
@@ -34,12 +32,6 @@ folder_of w = if w.records then codes "demux" else codes "archive"
 
 abbrev pub most_of : CatAsked → ℕ
 most_of w = if w.records then 1048576 else 131072
-
--- the line is printed, up to a refusal
-pub record Tells (line : List ℕ) (outcome : Outcome) (before after : Option History) : Type 0 where
-  pub given : Result (Unit {0}) OutsideFault
-  pub printed : PrintsInTurn job (line ∷ []) given before after
-  pub is : outcome ≡ told_as given
 
 -- a line for each stream of the two books is printed
 pub record ShowsStreams (outcome : Outcome) (before after : Option History) : Type 0 where
@@ -74,48 +66,6 @@ pub record ShowsStream (w : CatAsked) (outcome : Outcome) (before after : Option
   pub shown : ShowsFrom w given before after
   pub is : outcome ≡ shown_as given
 
--- the line of a store whose files are what they have to be: how many records are archived, and
--- how many are split
-abbrev pub sound_line : ℕ → ℕ → List ℕ
-sound_line archived split =
-    line_of (codes "ok" ∷ codes "archive" ∷ decimal archived ∷ codes "demux" ∷ decimal split ∷ [])
-
--- the same of a store that has no book of records
-abbrev pub archive_line : ℕ → List ℕ
-archive_line archived =
-    line_of (codes "ok" ∷ codes "archive" ∷ decimal archived ∷ codes "demux" ∷ codes "none" ∷ [])
-
--- the folder of the records is looked at, and then the line is printed; or damage ends the work
-pub data ShowsRecords (archived : ℕ) : Outcome → Option History → Option History → Type 0 where
-  bad_records : {old new : Option History} (fault : JobFault)
-      → VerifiedBy (codes "demux") 64 (Err fault) old new
-      → ShowsRecords archived (outcome_of_job fault) old new
-  sound_records : {outcome : Outcome} {old mid new : Option History} (split : ℕ)
-      → VerifiedBy (codes "demux") 64 (Ok split) old mid
-      → Tells (sound_line archived split) outcome mid new
-      → ShowsRecords archived outcome old new
-
--- the same, where that folder has a book
-pub data ShowsRest (archived : ℕ) : Outcome → Option History → Option History → Type 0 where
-  unfound : {old new : Option History} (fault : OutsideFault)
-      → FindsFile (codes "demux/book") (Err fault) old new
-      → ShowsRest archived (told_as (Err fault)) old new
-  no_records : {outcome : Outcome} {old mid new : Option History}
-      → FindsFile (codes "demux/book") (Ok false) old mid
-      → Tells (archive_line archived) outcome mid new → ShowsRest archived outcome old new
-  records : {outcome : Outcome} {old mid new : Option History}
-      → FindsFile (codes "demux/book") (Ok true) old mid
-      → ShowsRecords archived outcome mid new → ShowsRest archived outcome old new
-
--- the folder of the archive is looked at before
-pub data ShowsVerified : Outcome → Option History → Option History → Type 0 where
-  bad_archive : {old new : Option History} (fault : JobFault)
-      → VerifiedBy (codes "archive") 64 (Err fault) old new
-      → ShowsVerified (outcome_of_job fault) old new
-  sound_archive : {outcome : Outcome} {old mid new : Option History} (archived : ℕ)
-      → VerifiedBy (codes "archive") 64 (Ok archived) old mid → ShowsRest archived outcome mid new
-      → ShowsVerified outcome old new
-
 -- the line of the version
 abbrev pub version_line : List ℕ
 version_line = codes "chukwactl 1.1.0\n"
@@ -125,9 +75,10 @@ abbrev pub ShowsAsked : Asked → Outcome → Option History → Option History 
 ShowsAsked (Cat w) outcome before after = InStore (ShowsStream w) outcome before after
 ShowsAsked (Check w) outcome before after = ShowsChecked w outcome before after
 ShowsAsked (Streams store) outcome before after = InStore ShowsStreams outcome before after
-ShowsAsked (Verify store) outcome before after = InStore ShowsVerified outcome before after
+ShowsAsked (Verify store) outcome before after = ShowsVerified outcome before after
 ShowsAsked (Sum store) outcome before after = InStore ShowsSums outcome before after
 ShowsAsked (Held store) outcome before after = InStore ShowsHeld outcome before after
+ShowsAsked (HeldIn stores) outcome before after = ShowsStores stores outcome before after
 ShowsAsked (Passed w) outcome before after = ShowsPassed w outcome before after
 ShowsAsked (Help usage) outcome before after = Tells (usage_text usage) outcome before after
 ShowsAsked Version outcome before after = Tells version_line outcome before after

@@ -4,14 +4,16 @@
 mod checking;
 mod finding;
 mod holding;
+mod naming;
 mod outcome;
 mod passing;
 mod running;
+mod several;
 mod showing;
 mod summing;
 mod telling;
 mod verifying;
 
 pub use chk_look_words::Usage;
-pub use outcome::Outcome;
-pub use running::run;
+pub use outcome::{Outcome, outcome_of_job, told_as};
+pub use running::{looker, run};

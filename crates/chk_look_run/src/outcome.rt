@@ -20,6 +20,8 @@ pub enum Outcome {
     Done,
     /// There is no `archive/book`; 1.
     NoArchive,
+    /// Of several stores this book isn't there; 1.
+    NoBook { name: Word },
     /// The store has no such stream, or no checkpoint has one of the log; 1.
     Unknown,
     /// The records of the stream end before its end in the book; 1.
@@ -27,6 +29,8 @@ pub enum Outcome {
     /// The file isn't in its grammar from its byte `at` on, or its record there doesn't go on
     /// from those before it; 1.
     Damaged { name: Word, at: u64 },
+    /// Files of the store aren't in their grammar, and a line was printed for each; 1.
+    Unsound,
     /// Chunks are set aside, since bytes before them aren't archived; 1.
     Waits,
     /// A checkpoint hasn't passed the oldest generation of the log, or that changed meanwhile; 1.
@@ -53,8 +57,9 @@ impl Outcome {
     {
         match self {
             Outcome::Done => 0,
-            Outcome::NoArchive | Outcome::Unknown | Outcome::Short | Outcome::Damaged { .. } => 1,
-            Outcome::Behind | Outcome::Waits | Outcome::Found => 1,
+            Outcome::NoArchive | Outcome::NoBook { .. } => 1,
+            Outcome::Unknown | Outcome::Short | Outcome::Damaged { .. } => 1,
+            Outcome::Unsound | Outcome::Behind | Outcome::Waits | Outcome::Found => 1,
             Outcome::Usage(_) => 2,
             Outcome::Outside { .. } | Outcome::Gone { .. } | Outcome::NoFile => 3,
             Outcome::NoMemory => 4,
@@ -69,12 +74,17 @@ impl Display for Outcome {
         match self {
             Outcome::Done => Ok(()),
             Outcome::NoArchive => write!(f, "there is no archive/book"),
+            Outcome::NoBook { name } => {
+                let name = name.as_str();
+                write!(f, "there is no {name}")
+            }
             Outcome::Unknown => write!(f, "no such stream"),
             Outcome::Short => write!(f, "the records end before the end in the book"),
             Outcome::Damaged { name, at } => {
                 let name = name.as_str();
                 write!(f, "damaged {name} {at}")
             }
+            Outcome::Unsound => write!(f, "files are damaged"),
             Outcome::Waits => write!(f, "chunks wait for bytes that aren't archived"),
             Outcome::Behind => write!(f, "the oldest generation isn't read to its end"),
             Outcome::Found => write!(f, "a start would refuse or skip some of it"),
@@ -111,7 +121,7 @@ pub(crate) fn listed_as(given: Result<(), LookFault>) -> Outcome
 }
 
 /// The outcome of one line.
-pub(crate) fn told_as(given: Result<(), OutsideFault>) -> Outcome
+pub fn told_as(given: Result<(), OutsideFault>) -> Outcome
     ensures { result ≡ told_as given }
 {
     match given {
@@ -122,7 +132,7 @@ pub(crate) fn told_as(given: Result<(), OutsideFault>) -> Outcome
 }
 
 /// What a refusal of a read of the job's comes to.
-pub(crate) fn outcome_of_job(fault: JobFault) -> Outcome
+pub fn outcome_of_job(fault: JobFault) -> Outcome
     requires { IsOfRead fault }
     ensures { result ≡ outcome_of_job fault }
 {

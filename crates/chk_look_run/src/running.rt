@@ -13,6 +13,7 @@ use crate::checking::show_checked;
 use crate::holding::show_held;
 use crate::outcome::Outcome;
 use crate::passing::show_passed;
+use crate::several::show_stores;
 use crate::showing::{show_stream, show_streams};
 use crate::summing::show_sums;
 use crate::telling::{tell_usage, tell_version};
@@ -23,8 +24,9 @@ use chk_site::{Role, Site, Who};
 use std::alloc::Global;
 
 /// Runs the command that the words behind the program's name ask for. It reads files, prints,
-/// waits, and for `check` sends messages without a byte, and does nothing else: it doesn't start
-/// as a process either, so it may run beside those that do. The files are named from the folder
+/// waits, lists folders for `check`, `passed` and `verify`, and for `check` sends messages without
+/// a byte, and does nothing else: it doesn't start as a process either, so it may run beside those
+/// that do. The files are named from the folder
 /// STORE, which is the site's. A store without `archive/book` is none: `NoArchive`.
 ///
 /// `cat [--begin N] [--follow] [--records] STORE SOURCE TYPE NAME` prints the archived bytes of a
@@ -44,9 +46,11 @@ use std::alloc::Global;
 /// `streams STORE` prints `stream <source> <type> <name> start <offset> end <offset> demuxed
 /// <offset>` for each stream.
 ///
-/// `verify STORE` looks whether both books, the segments that they name and the streams' records
-/// are as they have to be, and prints `ok archive <records> demux <records>`, or ends with the
-/// first damage. Where there is no `demux/book` it prints `none` in place of the last number.
+/// `verify [--progress] STORE` looks whether each file is in its grammar: checkpoints, books, segments, sinks,
+/// marks and numbers, where the store has them; whether the streams' records go on; and whether
+/// they end where the books say. It prints `ok archive <records> demux <records>`, or for each
+/// file that isn't `damaged <name> <at>` by its first damage, and ends with `Unsound`. Where there
+/// is no `demux/book` it prints `none` in place of the last number.
 ///
 /// `sum STORE` prints `stream <source> <type> <name> start <offset> end <offset> sha256 <digest>`
 /// for each stream, of its archived bytes, or ends with the first damage and no line.
@@ -54,12 +58,19 @@ use std::alloc::Global;
 /// `held STORE` prints `held <source> <type> <name> archived <offset> missing <offset> to <offset>
 /// waits <offset> to <offset> chunks <count>` for each stream of which chunks are set aside, and
 /// ends with `Waits` where there are some; damage of the book or of their segment ends it before
-/// the first line.
+/// the first line. With more stores, 2 to 64 paths of at most 4,064 bytes without a space, named
+/// from the site's folder, it prints for each a line `store <path>`, these lines of it, and behind
+/// each of them what the other stores have of the missing bytes: `found <source> <type> <name>
+/// from <offset> to <offset> archived in <path>`, or `.. waits in <path>`. All stores are read and
+/// held before the first line: a store without a book is `NoBook`. It ends with `Waits` where
+/// chunks are set aside in one of them.
 ///
 /// `passed --agent DIR LOG` is `Done` only where some checkpoint of the folder `agents` has the log
 /// of this path, and each that has it has passed the log's oldest generation that is there; else
 /// it is `Behind`, or `Unknown` where none has the log. It prints nothing. Here the site's folder
 /// is DIR.
+///
+/// Words of `status` ask for nothing here: `Usage`.
 ///
 /// `--help`, alone or behind a command's name, prints how it is used, and `--version` alone the
 /// version.
@@ -109,6 +120,7 @@ fn show_asked<S: Site>(alloc: Global, site: &mut S, who: &Who, command: &Command
         Command::Verify(_) => show_verified(alloc, site, who),
         Command::Sum(_) => show_sums(alloc, site, who),
         Command::Held(_) => show_held(alloc, site, who),
+        Command::HeldIn(stores) => show_stores(alloc, site, who, stores.as_slice()),
         Command::Passed(words) => show_passed(alloc, site, who, words),
         Command::Help(usage) => tell_usage(alloc, site, who, *usage),
         Command::Version => tell_version(alloc, site, who),
@@ -116,7 +128,7 @@ fn show_asked<S: Site>(alloc: Global, site: &mut S, who: &Who, command: &Command
 }
 
 /// The process as which files are read. It never starts, so it takes no lock.
-fn looker(alloc: Global) -> Result<Who, NoMemory>
+pub fn looker(alloc: Global) -> Result<Who, NoMemory>
     ensures { IfOk result (λ who. who ≡ job) }
 {
     Ok(Who {

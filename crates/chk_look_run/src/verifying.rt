@@ -8,76 +8,74 @@ ghost use Rattle.chk_world.specs.JobSteps.{IsOf};
 ghost use Rattle.chk_world.specs.Sight.{job};
 ghost use Rattle.chk_look_store.specs.Following.{LooksAgain};
 ghost use Rattle.chk_look_run.specs.Outcomes.{OutcomeCause};
+ghost use Rattle.chk_look_files.specs.Calls.{Looks};
 ghost use Rattle.chk_look_run.specs.Finding.{InStore};
-ghost use Rattle.chk_look_run.specs.Runs.{
-  archive_line,
-  sound_line,
-  ShowsRecords,
-  ShowsRest,
-  ShowsVerified,
-  Tells,
-};
+ghost use Rattle.chk_look_run.specs.Telling.{Tells};
+ghost use Rattle.chk_look_run.specs.Verifying.{archive_line, sound_line};
+ghost use Rattle.chk_look_run.specs.Verifying.{ShowsFound, ShowsRest, ShowsVerified};
 
 use crate::finding::{find_archive, find_file};
-use crate::outcome::{Outcome, outcome_of_job, told_as};
-use crate::showing::{ARCHIVE, RECORDS};
+use crate::outcome::{Outcome, told_as};
 use crate::telling::tell;
 use chk_bytes::NoMemory;
-use chk_look_verify::verify;
+use chk_look_files::{Store, check_store};
 use chk_site::{Site, Who};
 use std::alloc::Global;
 
-/// Looks at the archive and then at the records, and prints how many records both have; damage
-/// ends it.
+/// Looks at each file of the store, and prints how many records the archive and the split ones
+/// have, where none is damaged; of each that is a line was printed.
 pub(crate) fn show_verified<S: Site>(alloc: Global, site: &mut S, who: &Who) -> Outcome
     requires job { who.now ≡ job }
-    ensures told { InStore ShowsVerified result (S.told site.old) (S.told site.new) }
-    ensures own { Adds (S.told site.old) (S.told site.new) (Every (IsOf LooksAgain)) }
-    ensures cause { OutcomeCause (S.fault_count site.old) (S.fault_count site.new) result }
-{
-    match find_archive(alloc, site, who) {
-        Ok(()) => show_archive(alloc, site, who),
-        Err(outcome) => outcome,
-    }
-}
-
-/// The same of a store that has an archive.
-fn show_archive<S: Site>(alloc: Global, site: &mut S, who: &Who) -> Outcome
-    requires job { who.now ≡ job }
     ensures told { ShowsVerified result (S.told site.old) (S.told site.new) }
-    ensures own { Adds (S.told site.old) (S.told site.new) (Every (IsOf LooksAgain)) }
+    ensures own { Adds (S.told site.old) (S.told site.new) (Every Looks) }
     ensures cause { OutcomeCause (S.fault_count site.old) (S.fault_count site.new) result }
 {
-    match verify(alloc, site, who, ARCHIVE) {
-        Ok(archived) => show_rest(alloc, site, who, archived),
-        Err(fault) => outcome_of_job(fault),
-    }
-}
-
-/// Looks at the records, where there is a book of them, and prints the line.
-fn show_rest<S: Site>(alloc: Global, site: &mut S, who: &Who, archived: u64) -> Outcome
-    requires job { who.now ≡ job }
-    ensures told { ShowsRest archived result (S.told site.old) (S.told site.new) }
-    ensures own { Adds (S.told site.old) (S.told site.new) (Every (IsOf LooksAgain)) }
-    ensures cause { OutcomeCause (S.fault_count site.old) (S.fault_count site.new) result }
-{
-    match find_file(alloc, site, who, "demux/book") {
-        Ok(true) => show_records(alloc, site, who, archived),
-        Ok(false) => show_alone(alloc, site, who, archived),
+    match check_store(alloc, site, who) {
+        Ok(store) => show_found(alloc, site, who, store),
         Err(fault) => told_as(Err(fault)),
     }
 }
 
-/// Looks at the records, and prints the line.
-fn show_records<S: Site>(alloc: Global, site: &mut S, who: &Who, archived: u64) -> Outcome
+/// What was found of a store.
+fn show_found<S: Site>(alloc: Global, site: &mut S, who: &Who, store: Store) -> Outcome
     requires job { who.now ≡ job }
-    ensures told { ShowsRecords archived result (S.told site.old) (S.told site.new) }
+    ensures told { ShowsFound store.archived store.split store.damaged result
+        (S.told site.old) (S.told site.new) }
     ensures own { Adds (S.told site.old) (S.told site.new) (Every (IsOf LooksAgain)) }
     ensures cause { OutcomeCause (S.fault_count site.old) (S.fault_count site.new) result }
 {
-    match verify(alloc, site, who, RECORDS) {
-        Ok(split) => show_sound(alloc, site, who, archived, split),
-        Err(fault) => outcome_of_job(fault),
+    if store.damaged {
+        return Outcome::Unsound;
+    }
+    show_archive(alloc, site, who, store)
+}
+
+/// The same of a store of which no file is damaged.
+fn show_archive<S: Site>(alloc: Global, site: &mut S, who: &Who, store: Store) -> Outcome
+    requires job { who.now ≡ job }
+    ensures told { InStore (ShowsRest store.archived store.split) result (S.told site.old)
+        (S.told site.new) }
+    ensures own { Adds (S.told site.old) (S.told site.new) (Every (IsOf LooksAgain)) }
+    ensures cause { OutcomeCause (S.fault_count site.old) (S.fault_count site.new) result }
+{
+    match find_archive(alloc, site, who) {
+        Ok(()) => show_rest(alloc, site, who, store),
+        Err(outcome) => outcome,
+    }
+}
+
+/// Prints the line of a store that has an archive, by whether it has a book of records.
+fn show_rest<S: Site>(alloc: Global, site: &mut S, who: &Who, store: Store) -> Outcome
+    requires job { who.now ≡ job }
+    ensures told { ShowsRest store.archived store.split result (S.told site.old)
+        (S.told site.new) }
+    ensures own { Adds (S.told site.old) (S.told site.new) (Every (IsOf LooksAgain)) }
+    ensures cause { OutcomeCause (S.fault_count site.old) (S.fault_count site.new) result }
+{
+    match find_file(alloc, site, who, "demux/book") {
+        Ok(true) => show_sound(alloc, site, who, store.archived, store.split),
+        Ok(false) => show_alone(alloc, site, who, store.archived),
+        Err(fault) => told_as(Err(fault)),
     }
 }
 

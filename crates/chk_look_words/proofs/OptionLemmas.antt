@@ -20,9 +20,9 @@ use Rattle.chk_look_words.specs.declared.commands.WordsFault.TheVariants.{Usage 
 use Rattle.chk_look_words.specs.declared.commands.WordsFault.TheVariants.{NoMemory}
 use Rattle.chk_look_words.specs.declared.options.Given.{Given}
 use Rattle.chk_look_words.specs.declared.usage.Usage.{Usage}
-use Rattle.chk_look_words.specs.declared.usage.Usage.TheVariants.{Commands, Cat, Check, Streams}
+use Rattle.chk_look_words.specs.declared.usage.Usage.TheVariants.{Commands, Cat, Check, Status}
 use Rattle.chk_look_words.specs.declared.usage.Usage.TheVariants.{Verify, Sum, Held}
-use Rattle.chk_look_words.specs.declared.usage.Usage.TheVariants.{Passed}
+use Rattle.chk_look_words.specs.declared.usage.Usage.TheVariants.{Passed, Streams}
 
 -- the command with these options that take a value
 abbrev pub with_options : List Text → App
@@ -72,6 +72,7 @@ pub all_simple : (usage : Usage) → is_simple_and_free
 all_simple Commands = refl
 all_simple Cat = refl
 all_simple Check = refl
+all_simple Status = refl
 all_simple Streams = refl
 all_simple Verify = refl
 all_simple Sum = refl

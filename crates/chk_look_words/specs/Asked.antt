@@ -3,11 +3,11 @@ use Rattle.std.specs.Prelude.{◌≡◌, ℕ, ◌&&◌, List, [], ◌∷◌, cod
 use Rattle.std.specs.Prelude.{Some, None, option_and_then, option_map, Result, Ok, Err}
 use Rattle.chk_bytes.specs.Words.{is_word}
 use Rattle.clap.specs.Walk.{first_of, Row}
-use Rattle.chk_look_words.specs.Names.{are_collectors, is_store, number_in, most}
+use Rattle.chk_look_words.specs.Names.{are_collectors, are_stores, is_store, number_in, most}
 use Rattle.chk_look_words.specs.Options.{parsed, plain_of, by_option, is_flagged}
 use Rattle.chk_look_words.specs.Usages.{usage_of, option_names, flag_names}
 use Rattle.chk_look_words.specs.Commands.{Asked, Cat, Check, Streams, Verify, Sum, Held, Help}
-use Rattle.chk_look_words.specs.Commands.{Passed, Version, asked_of}
+use Rattle.chk_look_words.specs.Commands.{HeldIn, Passed, Version, asked_of}
 use Rattle.chk_look_words.specs.declared.commands.Command.{Command}
 use Rattle.chk_look_words.specs.declared.commands.WordsFault.{WordsFault}
 use Rattle.chk_look_words.specs.declared.commands.WordsFault.TheVariants.{Usage as IsUsage}
@@ -74,15 +74,26 @@ store_in plain = None
 abbrev pub store_of : List Row → Option (List ℕ)
 store_of rows = option_and_then store_in (plain_of rows)
 
+-- `STORE [STORE]..`
+abbrev pub held_in : List (List ℕ) → Option Asked
+held_in [] = None
+held_in (store ∷ []) = if is_store store then Some (Held store) else None
+held_in (store ∷ other ∷ stores) =
+    if are_stores (store ∷ other ∷ stores) then Some (HeldIn (store ∷ other ∷ stores)) else None
+
+abbrev pub asked_held : List Row → Option Asked
+asked_held rows = option_and_then held_in (plain_of rows)
+
 -- the command that is named, by its own words
 abbrev pub asked_for : Usage → List Row → Option Asked
 asked_for usage.Commands rows = None
 asked_for usage.Cat rows = asked_cat rows
 asked_for usage.Check rows = asked_check rows
+asked_for usage.Status rows = None
 asked_for usage.Streams rows = option_map Streams (store_of rows)
 asked_for usage.Verify rows = option_map Verify (store_of rows)
 asked_for usage.Sum rows = option_map Sum (store_of rows)
-asked_for usage.Held rows = option_map Held (store_of rows)
+asked_for usage.Held rows = asked_held rows
 asked_for usage.Passed rows = asked_passed rows
 
 -- the same, or how it is used
@@ -107,6 +118,7 @@ asked_alone words = None
 -- by the command that the first word names
 abbrev pub asked_as : Usage → List (List ℕ) → Option Asked
 asked_as usage.Commands words = asked_alone words
+asked_as usage.Status words = None
 asked_as u words = asked_in u words
 
 abbrev pub asked : List (List ℕ) → Option Asked

@@ -1,7 +1,7 @@
 -- What words may ask for.
 use Rattle.std.specs.Prelude.{ℕ, ◌≤◌, Bool, List, map, IsTrue}
 use Rattle.chk_bytes.specs.Words.{is_word}
-use Rattle.chk_look_words.specs.Names.{are_collectors, is_store, most}
+use Rattle.chk_look_words.specs.Names.{are_collectors, are_stores, is_store, most}
 use Rattle.chk_look_words.specs.declared.commands.CatWords.{CatWords}
 use Rattle.chk_look_words.specs.declared.commands.CheckWords.{CheckWords}
 use Rattle.chk_look_words.specs.declared.commands.PassedWords.{PassedWords}
@@ -37,6 +37,7 @@ pub data Asked : Type 0 where
   Verify : List ℕ → Asked
   Sum : List ℕ → Asked
   Held : List ℕ → Asked
+  HeldIn : List (List ℕ) → Asked
   Passed : PassedAsked → Asked
   Help : Usage → Asked
   Version : Asked
@@ -66,6 +67,7 @@ asked_of (words.Streams store) = Streams store.now
 asked_of (words.Verify store) = Verify store.now
 asked_of (words.Sum store) = Sum store.now
 asked_of (words.Held store) = Held store.now
+asked_of (words.HeldIn stores) = HeldIn (map (λ w. w.now) stores.items)
 asked_of (words.Passed w) = Passed (passed_of w)
 asked_of (words.Help usage) = Help usage
 asked_of words.Version = Version
@@ -80,6 +82,7 @@ IsGood (Streams store) = IsTrue (is_store store)
 IsGood (Verify store) = IsTrue (is_store store)
 IsGood (Sum store) = IsTrue (is_store store)
 IsGood (Held store) = IsTrue (is_store store)
+IsGood (HeldIn stores) = IsTrue (are_stores stores)
 IsGood (Passed w) = IsTrue (is_store w.agent) × IsTrue (is_word w.log)
 IsGood (Help usage) = Unit {0}
 IsGood Version = Unit {0}

@@ -4,3 +4,4 @@ pub mod Options
 pub mod Given
 pub mod Commands
 pub mod Asked
+pub mod Status

@@ -9,6 +9,15 @@ use Rattle.chk_bytes.specs.Numbers.{number_in_digits}
 abbrev pub is_store : List ℕ → Bool
 is_store text = nat_lt 0 (length text)
 
+-- a path that may stand in front of the names of a store's files
+abbrev pub is_path : List ℕ → Bool
+is_path text = is_word text && nat_le (length text) 4064
+
+-- 2 to 64 such paths
+abbrev pub are_stores : List (List ℕ) → Bool
+are_stores words =
+    nat_le 2 (length words) && nat_le (length words) 64 && list_all is_path words
+
 -- 1 to 64 words
 abbrev pub are_collectors : List (List ℕ) → Bool
 are_collectors words =

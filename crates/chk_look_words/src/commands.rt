@@ -19,6 +19,8 @@ pub enum Command<'a> {
     Sum(&'a str),
     /// The folder of the store of which the streams are shown that have chunks set aside.
     Held(&'a str),
+    /// The folders of the stores, 2 to 64 words, among which missing bytes are looked for.
+    HeldIn(Vec<&'a str>),
     /// Whether an agent has read what a rotation would remove of a log.
     Passed(PassedWords<'a>),
     /// How this command is used.

@@ -1,7 +1,7 @@
 //! The options of a command, read by `clap`.
 
 ghost use Rattle.std.specs.Prelude.{◌≡◌, map, option_map, IfOk};
-ghost use Rattle.clap.specs.Walk.{first_of};
+ghost use Rattle.clap.specs.Walk.{all_of, first_of};
 ghost use Rattle.clap.specs.Words.{app_of, kind_of, with_rule};
 ghost use Rattle.chk_look_words.specs.Given.{rows_in, ReadsOptions};
 ghost use Rattle.chk_look_words.specs.Names.{number_in};
@@ -20,7 +20,7 @@ use std::alloc::{AllocError, Global};
 /// The options and the other words that were given.
 #[derive(Drop)]
 pub(crate) struct Given<'a> {
-    matches: ArgMatches<'a>,
+    pub(crate) matches: ArgMatches<'a>,
 }
 
 impl<'a> Given<'a> {
@@ -45,6 +45,14 @@ impl<'a> Given<'a> {
         ensures { option_map (λ s. map (λ w. w.now) s.now) result ≡ plain_of (rows_in self.now) }
     {
         self.matches.get_strs("words")
+    }
+
+    /// The values of an option that may come again and again, in their order.
+    pub(crate) fn values(&self, name: &str) -> Option<&[&'a str]>
+        ensures { option_map (λ s. map (λ w. w.now) s.now) result
+            ≡ all_of name.now (rows_in self.now) }
+    {
+        self.matches.get_strs(name)
     }
 
     /// The value of an option; of one that takes none `true` or `false`.
@@ -105,7 +113,7 @@ fn flagged<'a>(
     with_words(alloc, command)
 }
 
-fn with_option<'a>(
+pub(crate) fn with_option<'a>(
     alloc: Global,
     command: clap::Command<'a>,
     name: &'a str,
@@ -117,7 +125,7 @@ fn with_option<'a>(
     command.arg(option)
 }
 
-fn with_flag<'a>(
+pub(crate) fn with_flag<'a>(
     alloc: Global,
     command: clap::Command<'a>,
     name: &'a str,
@@ -139,7 +147,7 @@ fn with_words<'a>(
     command.arg(words)
 }
 
-fn fault_of(error: &Error) -> WordsFault
+pub(crate) fn fault_of(error: &Error) -> WordsFault
     ensures { result ≡ fault_by (kind_of error.now) }
 {
     match error.kind() {

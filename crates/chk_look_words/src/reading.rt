@@ -9,6 +9,7 @@ ghost use Rattle.chk_look_words.specs.Given.{rows_in};
 
 use crate::checking::read_check;
 use crate::commands::{CatWords, Command, PassedWords, WordsFault};
+use crate::holding::read_held;
 use crate::names::{is_store, is_word};
 use crate::options::Given;
 use crate::usage::{Usage, usage_of};
@@ -19,7 +20,8 @@ const MOST: u64 = (1 << 63) - 1;
 
 /// Reads the words behind the program's name. `Usage` comes exactly where they aren't a command;
 /// `usage_of` says which line tells how they should have been. `--help` behind a command's name
-/// asks for that line, whatever the other words that are no options are. A parse takes memory for
+/// asks for that line, whatever the other words that are no options are. Words of `status` are
+/// no command here: `read_status` reads them. A parse takes memory for
 /// the options and for one reference a word.
 pub fn read_words<'a>(alloc: Global, words: &'a [&'a str]) -> Result<Command<'a>, WordsFault>
     ensures asked { ReadsCommand (asked (map (λ w. w.now) words.now)) result }
@@ -29,10 +31,11 @@ pub fn read_words<'a>(alloc: Global, words: &'a [&'a str]) -> Result<Command<'a>
         Usage::Commands => read_alone(words).ok_or(WordsFault::Usage),
         Usage::Cat => read_command(alloc, Usage::Cat, words),
         Usage::Check => read_check(alloc, words),
+        Usage::Status => Err(WordsFault::Usage),
         Usage::Streams => read_command(alloc, Usage::Streams, words),
         Usage::Verify => read_command(alloc, Usage::Verify, words),
         Usage::Sum => read_command(alloc, Usage::Sum, words),
-        Usage::Held => read_command(alloc, Usage::Held, words),
+        Usage::Held => read_held(alloc, words),
         Usage::Passed => read_command(alloc, Usage::Passed, words),
     }
 }
@@ -65,6 +68,7 @@ fn read_command<'a>(
     words: &'a [&'a str],
 ) -> Result<Command<'a>, WordsFault>
     requires alone { usage ≢ Usage.Check }
+    requires apart { usage ≢ Usage.Held }
     ensures asked { ReadsCommand (asked_in usage (map (λ w. w.now) words.now)) result }
     ensures good { IfOk result (λ command. IsGood (asked_of command)) }
 {
@@ -74,6 +78,7 @@ fn read_command<'a>(
 
 fn command_by<'a>(usage: Usage, given: &Given<'a>) -> Option<Command<'a>>
     requires alone { usage ≢ Usage.Check }
+    requires apart { usage ≢ Usage.Held }
     ensures asked { option_map asked_of result ≡ asked_by usage (rows_in given.now) }
     ensures good { IfSome result (λ command. IsGood (asked_of command)) }
 {
@@ -83,11 +88,11 @@ fn command_by<'a>(usage: Usage, given: &Given<'a>) -> Option<Command<'a>>
     match usage {
         Usage::Commands => None,
         Usage::Cat => read_cat(given),
-        Usage::Check => unreachable!(),
+        Usage::Check | Usage::Held => unreachable!(),
+        Usage::Status => None,
         Usage::Streams => Some(Command::Streams(read_store(given)?)),
         Usage::Verify => Some(Command::Verify(read_store(given)?)),
         Usage::Sum => Some(Command::Sum(read_store(given)?)),
-        Usage::Held => Some(Command::Held(read_store(given)?)),
         Usage::Passed => read_passed(given),
     }
 }

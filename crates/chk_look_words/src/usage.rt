@@ -12,9 +12,13 @@ static CAT_FLAGS: [&str; 3] = ["follow", "records", "help"];
 
 static FLAGS: [&str; 1] = ["help"];
 
+static VERIFY_FLAGS: [&str; 2] = ["progress", "help"];
+
 static NONE: [&str; 0] = [];
 
 static PASSED: [&str; 1] = ["agent"];
+
+const STATUS: &str = "usage: chukwactl status [-q] [--watch S] --store DIR [--store DIR]..\n";
 
 /// Which command the first word names.
 #[derive(Clone, Copy, Debug, PartialEq, Eq)]
@@ -25,6 +29,8 @@ pub enum Usage {
     Cat,
     /// `check`.
     Check,
+    /// `status`, which `read_status` reads.
+    Status,
     /// `streams`.
     Streams,
     /// `verify`.
@@ -43,15 +49,16 @@ impl Usage {
     {
         match self {
             Usage::Commands =>
-                "usage: chukwactl cat|check|held|passed|streams|sum|verify [--help], or --version\n",
+                "usage: chukwactl cat|check|held|passed|status|streams|sum|verify [--help], or --version\n",
             Usage::Cat => {
                 "usage: chukwactl cat [--begin N] [--follow] [--records] STORE SOURCE TYPE NAME\n"
             }
             Usage::Check => "usage: chukwactl check --initial FILE COLLECTOR...\n",
+            Usage::Status => STATUS,
             Usage::Streams => "usage: chukwactl streams STORE\n",
-            Usage::Verify => "usage: chukwactl verify STORE\n",
+            Usage::Verify => "usage: chukwactl verify [--progress] STORE\n",
             Usage::Sum => "usage: chukwactl sum STORE\n",
-            Usage::Held => "usage: chukwactl held STORE\n",
+            Usage::Held => "usage: chukwactl held STORE [STORE]..\n",
             Usage::Passed => "usage: chukwactl passed --agent DIR LOG\n",
         }
     }
@@ -74,6 +81,7 @@ impl Usage {
     {
         match self {
             Usage::Cat => CAT_FLAGS.as_slice(),
+            Usage::Verify => VERIFY_FLAGS.as_slice(),
             _ => FLAGS.as_slice(),
         }
     }
@@ -95,6 +103,7 @@ fn usage_named(first: &str) -> Usage
     match first {
         "cat" => Usage::Cat,
         "check" => Usage::Check,
+        "status" => Usage::Status,
         "streams" => Usage::Streams,
         "verify" => Usage::Verify,
         "sum" => Usage::Sum,

@@ -18,8 +18,14 @@ mod passed;
 #[cfg(test)]
 mod scene;
 #[cfg(test)]
+mod several;
+#[cfg(test)]
+mod status;
+#[cfg(test)]
 mod streams;
 #[cfg(test)]
 mod sums;
+#[cfg(test)]
+mod verified;
 #[cfg(test)]
 mod words;

@@ -1,7 +1,9 @@
 //! A site in memory at which is looked, told line by line.
 use crate::files::{puts, puts_text};
 use crate::logs::{drops, grows, turns};
-use chk_look_run::run;
+use crate::status::{ended, looks};
+use chk_look_run::{Usage, run};
+use chk_look_words::usage_of;
 use chk_site::{Call, Script};
 use chk_site_mem::SiteMem;
 use chk_test_calls::{quiet, written};
@@ -31,14 +33,17 @@ fn add_bytes(text: &mut String, bytes: &[u8]) -> Result<(), Fail> {
 fn runs(alloc: Global, site: &mut SiteMem, words: &str) -> Result<String, Fail> {
     let before = site.printed(alloc)?.len();
     let words = words_of(alloc, words)?;
-    let outcome = run(alloc, site, words.as_slice());
-    let status = outcome.status();
+    let shown = if usage_of(words.as_slice()) == Usage::Status {
+        looks(alloc, site, words.as_slice())?
+    } else {
+        ended(alloc, &run(alloc, site, words.as_slice()))?
+    };
+    let status = shown.status;
     let mut text = format!(in alloc; "{status} [")?;
     let printed = site.printed(alloc)?;
     add_bytes(&mut text, printed.as_slice().get(before..).unwrap_or(b""))?;
-    let message = format!(in alloc; "{outcome}")?;
     text.push_str("] ")?;
-    text.push_str(message.as_str())?;
+    text.push_str(shown.message.as_str())?;
     Ok(text)
 }
 

@@ -192,10 +192,10 @@ put archive/seg.1 HEADER MARKER HELLO
 put archive/book HEAD 2 #1 1 144 #1 6 H1
 run verify s = 0 [ok archive 1 demux none|]
 
-an aside segment isn't looked at
+an aside segment
 put archive/seg.1 HEADER MARKER HELLO
-put archive/seg.2 HEADER MARKER TORN
-put archive/book HEAD_3 3 #1 1 144 #1 0 6 H1 2 100
+put archive/seg.2 HEADER MARKER LATER
+put archive/book HEAD_3 3 #1 1 144 #1 0 6 H1 2 142
 run verify s = 0 [ok archive 1 demux none|]
 
 two segments, and records
@@ -209,41 +209,46 @@ run verify s = 0 [ok archive 3 demux 1|]
 a torn record
 put archive/seg.1 HEADER MARKER HELLO TORN
 put archive/book HEAD 2 #1 1 148 #1 6 H1
-run verify s = 1 [] damaged archive/seg.1 144
+run verify s = 1 [damaged archive/seg.1 144|] files are damaged
 
 a gap
 put archive/seg.1 HEADER MARKER HELLO
 put archive/seg.2 HEADER MARKER LATER
 put archive/book HEAD 3 #2 1 144 2 142 #1 11 H1
-run verify s = 1 [] damaged archive/seg.2 96
+run verify s = 1 [damaged archive/seg.2 96|] files are damaged
 
 an end that isn't reached
 put archive/seg.1 HEADER MARKER HELLO
 put archive/book HEAD 2 #1 1 144 #1 10 H1
-run verify s = 1 [] damaged archive/book 37
+run verify s = 1 [damaged archive/book 37|] files are damaged
 
 a stream that the book doesn't have
 put archive/seg.1 HEADER MARKER HELLO OTHER
 put archive/book HEAD 2 #1 1 186 #1 6 H1
-run verify s = 1 [] damaged archive/seg.1 144
+run verify s = 1 [damaged archive/seg.1 144|] files are damaged
 
 a segment that isn't there
 put archive/book HEAD 2 #1 1 144 #1 6 H1
-run verify s = 1 [] damaged archive/seg.1 0
+run verify s = 1 [damaged archive/seg.1 0|] files are damaged
 
 a book that is none
 put archive/book HEAD 0 #0 #0
-run verify s = 1 [] damaged archive/book 5
+run verify s = 1 [damaged archive/book 5|] files are damaged
 
 a book of the records that is none
 put archive/seg.1 HEADER MARKER HELLO
 put archive/book HEAD 2 #1 1 144 #1 6 H1
 put demux/book HEAD 0 #0 #0
-run verify s = 1 [] damaged demux/book 5
+run verify s = 1 [damaged demux/book 5|] files are damaged
+
+the first call fails
+put archive/book HEAD 2 #1 1 144 #1 6 H1
+fails 1
+run verify s = 3 [] outside list
 
 the first read fails
 put archive/book HEAD 2 #1 1 144 #1 6 H1
-fails 1
+fails 2
 run verify s = 3 [] outside read
 ";
 
@@ -281,7 +286,7 @@ put archive/book HEAD 2 #1 1 144 #1 6 H1
 put archive/new HEAD 3 #1 2 152 #1 10 H1
 before 4 rename archive/new archive/book
 before 4 remove archive/seg.1
-run verify s = 1 [] damaged archive/seg.2 148
+run verify s = 1 [damaged archive/seg.2 148|] files are damaged
 ";
 
 #[test]

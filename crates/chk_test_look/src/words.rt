@@ -4,16 +4,16 @@ use std::test::Fail;
 
 const WORDS: &str = "\
 help
-run --help = 0 [usage: chukwactl cat|check|held|passed|streams|sum|verify [--help], or --version|]
+run --help = 0 [usage: chukwactl cat|check|held|passed|status|streams|sum|verify [--help], or --version|]
 run cat --help = 0 [usage: chukwactl cat [--begin N] [--follow] [--records] STORE SOURCE TYPE NAME|]
 run streams --help = 0 [usage: chukwactl streams STORE|]
 run streams s --help = 0 [usage: chukwactl streams STORE|]
 run --version = 0 [chukwactl 1.1.0|]
 
 none
-run  = 2 [] usage: chukwactl cat|check|held|passed|streams|sum|verify [--help], or --version
-run dog = 2 [] usage: chukwactl cat|check|held|passed|streams|sum|verify [--help], or --version
-run --version s = 2 [] usage: chukwactl cat|check|held|passed|streams|sum|verify [--help], or --version
+run  = 2 [] usage: chukwactl cat|check|held|passed|status|streams|sum|verify [--help], or --version
+run dog = 2 [] usage: chukwactl cat|check|held|passed|status|streams|sum|verify [--help], or --version
+run --version s = 2 [] usage: chukwactl cat|check|held|passed|status|streams|sum|verify [--help], or --version
 run cat = 2 [] usage: chukwactl cat [--begin N] [--follow] [--records] STORE SOURCE TYPE NAME
 run cat s h1 Log = 2 [] usage: chukwactl cat [--begin N] [--follow] [--records] STORE SOURCE TYPE NAME
 run cat s h1 Log a b = 2 [] usage: chukwactl cat [--begin N] [--follow] [--records] STORE SOURCE TYPE NAME
@@ -24,14 +24,14 @@ run cat --quiet s h1 Log a = 2 [] usage: chukwactl cat [--begin N] [--follow] [-
 run streams = 2 [] usage: chukwactl streams STORE
 run streams s t = 2 [] usage: chukwactl streams STORE
 run streams --records s = 2 [] usage: chukwactl streams STORE
-run verify --help = 0 [usage: chukwactl verify STORE|]
-run verify = 2 [] usage: chukwactl verify STORE
-run verify s t = 2 [] usage: chukwactl verify STORE
+run verify --help = 0 [usage: chukwactl verify [--progress] STORE|]
+run verify = 2 [] usage: chukwactl verify [--progress] STORE
+run verify s t = 2 [] usage: chukwactl verify [--progress] STORE
 run sum --help = 0 [usage: chukwactl sum STORE|]
 run sum = 2 [] usage: chukwactl sum STORE
 run sum --begin 1 s = 2 [] usage: chukwactl sum STORE
-run held --help = 0 [usage: chukwactl held STORE|]
-run held = 2 [] usage: chukwactl held STORE
+run held --help = 0 [usage: chukwactl held STORE [STORE]..|]
+run held = 2 [] usage: chukwactl held STORE [STORE]..
 run check --help = 0 [usage: chukwactl check --initial FILE COLLECTOR...|]
 run check = 2 [] usage: chukwactl check --initial FILE COLLECTOR...
 run check c1:9 = 2 [] usage: chukwactl check --initial FILE COLLECTOR...

@@ -2,9 +2,13 @@
 //! program's name ask for a command. It reads files and prints; it makes, changes and locks none.
 #![tactic(auto)]
 
-use chk_look_run::{Outcome, run};
-use chk_look_words::{Command, WordsFault, read_words};
-use chk_site_real::SiteReal;
+mod progress;
+mod status;
+
+use crate::progress::site_for;
+use crate::status::run_status;
+use chk_look_run::{Outcome, Usage, run};
+use chk_look_words::{Command, WordsFault, read_words, usage_of};
 use std::fs::{File, OpenOptions};
 use std::os::fd::AsRawFd;
 use std::process::ExitCode;
@@ -54,6 +58,9 @@ fn run_given(rt: HostRuntime, given: &[String]) -> u8 {
             return NO_MEMORY;
         }
     }
+    if usage_of(words.as_slice()) == Usage::Status {
+        return run_status(rt, words.as_slice());
+    }
     let store = match store_in(rt, words.as_slice()) {
         Ok(store) => store,
         Err(status) => return status,
@@ -64,9 +71,10 @@ fn run_given(rt: HostRuntime, given: &[String]) -> u8 {
             return OUTSIDE;
         }
     }
-    let mut site = SiteReal::read_only(rt, rt.alloc());
+    let mut site = site_for(rt, words.as_slice());
     let outcome = run(rt.alloc(), &mut site, words.as_slice());
-    if let Some(failure) = site.failure() {
+    site.clear();
+    if let Some(failure) = site.site.failure() {
         let _told = eprintln!(rt; "chukwactl: {failure}");
     }
     tell(rt, &outcome);
@@ -84,7 +92,8 @@ fn store_in<'a>(rt: HostRuntime, words: &'a [&'a str]) -> Result<Option<&'a str>
         Ok(Command::Sum(store)) => Ok(Some(store)),
         Ok(Command::Held(store)) => Ok(Some(store)),
         Ok(Command::Passed(words)) => Ok(Some(words.agent)),
-        Ok(Command::Check(_)) | Ok(Command::Help(_)) | Ok(Command::Version) => Ok(None),
+        Ok(Command::Check(_)) | Ok(Command::HeldIn(_)) => Ok(None),
+        Ok(Command::Help(_)) | Ok(Command::Version) => Ok(None),
         Err(WordsFault::Usage) => Ok(None),
         Err(WordsFault::NoMemory) => Err(NO_MEMORY),
     }

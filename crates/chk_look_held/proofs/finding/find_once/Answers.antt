@@ -30,6 +30,7 @@ returns-in-Ok-aside_heads g c =
       own = own;
       only = tt;
       last = adds_as (FailsLast {T = Waiting} (Ok waiting)) own (λ added history x. tt);
+      order = c.in-Ok-aside_heads.ensures.order;
       cause = c.in-Ok-aside_heads.ensures.cause ∙ c.in-Ok.ensures.cause;
     }
 
@@ -48,6 +49,7 @@ returns-in-Err-aside_heads g c =
       only = c.in-Err-aside_heads.ensures.only;
       last = refused_later Waiting (List Head) fault c.in-Ok.ensures.pieces
           c.in-Err-aside_heads.ensures.last;
+      order = tt;
       cause = cause_later Waiting (List Head) fault (g.S.Site.fault_count c.args.site.now)
           (g.S.Site.fault_count c.load_book.new.site) (g.S.Site.fault_count c.aside_heads.new.site)
           c.in-Ok.ensures.cause c.in-Err-aside_heads.ensures.cause;
@@ -69,6 +71,7 @@ returns-in-Err g c =
       last = refused_later Waiting Struct fault
           (adds_none (g.S.Site.told c.args.site.now) (λ added history. Unit {0}) (λ history. tt))
           c.in-Err.ensures.last;
+      order = tt;
       cause = cause_later Waiting Struct fault before before
           (g.S.Site.fault_count c.load_book.new.site) refl c.in-Err.ensures.cause;
     }

@@ -13,6 +13,7 @@ returns-then-not-is_damaged g c = record {
   own = c.find_once-given.ensures.own;
   only = c.find_once-given.ensures.only;
   last = c.find_once-given.ensures.last;
+  order = c.find_once-given.ensures.order;
   cause = c.find_once-given.ensures.cause;
 }
 
@@ -30,6 +31,7 @@ returns g c =
       own = every_then (IsOf ReadsFile) c.find_once-given.ensures.own c.find_once.ensures.own;
       only = c.find_once.ensures.only;
       last = last_later result c.find_once-given.ensures.own c.find_once.ensures.last;
+      order = c.find_once.ensures.order;
       cause = cause_after result before middle after
           (damage_same given before middle has c.find_once-given.ensures.cause)
           c.find_once.ensures.cause;

@@ -1,6 +1,7 @@
 use Rattle.std.proofs.Common.{Ok, Err}
 use Rattle.chk_site.proofs.Runs.{adds_as}
 use Rattle.chk_look_held.specs.Finding.{ShowsSegment}
+use Rattle.chk_look_held.proofs.HeadPlaces.{rises_so}
 use Rattle.chk_look_held.proofs.Sorted.{sorted_so, refused_so}
 use Rattle.chk_look_held.proofs.finding.segment_heads.Goals as goal
 
@@ -15,3 +16,7 @@ returns-in-Err-clause-shown g c =
     adds_as (ShowsSegment c.args.name.now (Err c.in-Err.fault)) c.in-Err.ensures.shown
     (λ added history x. refused_so c.new-heads.result c.gather.new.self added history
     c.in-Err.fault c.as_str.ensures.text x)
+
+pub returns-in-Ok-sort-clause-order : goal.returns-in-Ok-sort-clause-order
+returns-in-Ok-sort-clause-order g c =
+    rises_so c.gather.new.self c.sort.new.self c.in-Ok-sort.ensures.ok

@@ -1,5 +1,7 @@
-use Rattle.std.proofs.Common.{◌∙◌, ◌++◌, ℕ, List, ap₂}
+use Rattle.std.proofs.Common.{◌∙◌, ◌++◌, ℕ, List, ap₂, subst, sym}
 use Rattle.std.specs.Fmt.{digits}
+use Rattle.std.specs.Prelude.{IsTrue}
+use Rattle.chk_world.specs.ArchiveRuns.{is_one_line}
 use Rattle.chk_look_held.proofs.LineWords.{words_one, counted, spelled}
 use Rattle.chk_look_held.proofs.lines.line_with.Goals as goal
 
@@ -14,24 +16,7 @@ returns-clause-line c =
 
 pub returns-clause-one : goal.returns-clause-one
 returns-clause-one c =
-    words_one c.args.source.now c.args.kind.now c.args.name.now c.args.archived c.args.begin
+    subst (λ (l : List ℕ). IsTrue (is_one_line l)) (sym (returns-clause-line c))
+    (words_one c.args.source.now c.args.kind.now c.args.name.now c.args.archived c.args.begin
     c.args.end c.args.count c.requires.source c.requires.kind c.requires.name
-    c.ranges.archived.fits c.ranges.begin.fits c.ranges.end.fits c.ranges.count.fits
-
-pub returns-in_err-text-clause-one : goal.returns-in_err-text-clause-one
-returns-in_err-text-clause-one c =
-    words_one c.args.source.now c.args.kind.now c.args.name.now c.args.archived c.args.begin
-    c.args.end c.args.count c.requires.source c.requires.kind c.requires.name
-    c.ranges.archived.fits c.ranges.begin.fits c.ranges.end.fits c.ranges.count.fits
-
-pub returns-in_err-places-clause-one : goal.returns-in_err-places-clause-one
-returns-in_err-places-clause-one c =
-    words_one c.args.source.now c.args.kind.now c.args.name.now c.args.archived c.args.begin
-    c.args.end c.args.count c.requires.source c.requires.kind c.requires.name
-    c.ranges.archived.fits c.ranges.begin.fits c.ranges.end.fits c.ranges.count.fits
-
-pub returns-in_err-named-clause-one : goal.returns-in_err-named-clause-one
-returns-in_err-named-clause-one c =
-    words_one c.args.source.now c.args.kind.now c.args.name.now c.args.archived c.args.begin
-    c.args.end c.args.count c.requires.source c.requires.kind c.requires.name
-    c.ranges.archived.fits c.ranges.begin.fits c.ranges.end.fits c.ranges.count.fits
+    c.ranges.archived.fits c.ranges.begin.fits c.ranges.end.fits c.ranges.count.fits)

@@ -66,3 +66,14 @@ returns-in-Version g c = record {
   own = rw c.in-Version.is c.tell_version.ensures.own;
   cause = rw c.in-Version.is c.tell_version.ensures.cause;
 }
+
+pub show_stores-requires-clause-words : goal.show_stores-requires-clause-words
+show_stores-requires-clause-words g c =
+    rw c.as_slice.ensures.value (rw c.in-HeldIn.is at c.requires.good)
+
+pub returns-in-HeldIn : goal.returns-in-HeldIn
+returns-in-HeldIn g c = record {
+  told = rw c.in-HeldIn.is (shows (rw c.as_slice.ensures.value at c.show_stores.ensures.told));
+  own = rw c.in-HeldIn.is c.show_stores.ensures.own;
+  cause = rw c.in-HeldIn.is c.show_stores.ensures.cause;
+}

@@ -1,4 +1,4 @@
-use Rattle.chk_look_run.specs.Runs.{no_records, records, unfound}
+use Rattle.chk_look_run.specs.Verifying.{no_records, records, unfound}
 use Rattle.chk_look_run.proofs.Found.{found_own, found_then, cause_then, sought_cause}
 use Rattle.chk_look_run.proofs.verifying.show_rest.Goals as goal
 
@@ -6,12 +6,12 @@ pub returns-in-Ok-true : goal.returns-in-Ok-true
 returns-in-Ok-true g c =
     let found = rw c.in-Ok-true.field-0-test at c.in-Ok-true.ensures.told in
     record {
-      told = records found c.show_records.ensures.told;
-      own = found_then found.quiet c.show_records.ensures.own;
-      cause = cause_then c.show_records.result (g.S.Site.fault_count c.args.site.now)
+      told = records found c.show_sound.ensures.told;
+      own = found_then found.quiet c.show_sound.ensures.own;
+      cause = cause_then c.show_sound.result (g.S.Site.fault_count c.args.site.now)
           (g.S.Site.fault_count c.find_file.new.site)
-          (g.S.Site.fault_count c.show_records.new.site)
-          c.in-Ok-true.ensures.cause c.show_records.ensures.cause;
+          (g.S.Site.fault_count c.show_sound.new.site)
+          c.in-Ok-true.ensures.cause c.show_sound.ensures.cause;
     }
 
 pub returns-in-Ok-false : goal.returns-in-Ok-false

@@ -1,19 +1,26 @@
-use Rattle.chk_look_run.specs.Finding.{in_store, not_found}
-use Rattle.chk_look_run.proofs.Found.{found_own, found_then, cause_then}
+use Rattle.chk_look_files.specs.declared.store.Store.{Store}
+use Rattle.chk_look_run.specs.Verifying.{checked, unchecked}
+use Rattle.chk_look_run.proofs.Found.{around_then, cause_then, err_cause}
 use Rattle.chk_look_run.proofs.verifying.show_verified.Goals as goal
 
 pub returns-in-Ok : goal.returns-in-Ok
-returns-in-Ok g c = record {
-  told = in_store c.in-Ok.ensures.told c.show_archive.ensures.told;
-  own = found_then c.in-Ok.ensures.told.found.quiet c.show_archive.ensures.own;
-  cause = cause_then c.show_archive.result (g.S.Site.fault_count c.args.site.now)
-      (g.S.Site.fault_count c.find_archive.new.site) (g.S.Site.fault_count c.show_archive.new.site)
-      c.in-Ok.ensures.cause c.show_archive.ensures.cause;
-}
+returns-in-Ok g c =
+    let store = c.in-Ok.store in
+    record {
+      told = checked store c.in-Ok.ensures.told c.show_found.ensures.told;
+      own = around_then c.in-Ok.ensures.own c.show_found.ensures.own;
+      cause = cause_then c.show_found.result (g.S.Site.fault_count c.args.site.now)
+          (g.S.Site.fault_count c.check_store.new.site)
+          (g.S.Site.fault_count c.show_found.new.site) c.in-Ok.ensures.cause
+          c.show_found.ensures.cause;
+    }
 
 pub returns-in-Err : goal.returns-in-Err
-returns-in-Err g c = record {
-  told = not_found c.in-Err.ensures.told;
-  own = found_own c.in-Err.ensures.told.found.quiet;
-  cause = c.in-Err.ensures.cause;
-}
+returns-in-Err g c =
+    rw c.told_as.ensures
+    (record {
+      told = unchecked c.in-Err.fault c.in-Err.ensures.told;
+      own = c.in-Err.ensures.own;
+      cause = err_cause Store c.in-Err.fault (g.S.Site.fault_count c.args.site.now)
+          (g.S.Site.fault_count c.check_store.new.site) c.in-Err.ensures.cause;
+    })

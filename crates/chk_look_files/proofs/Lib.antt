@@ -1,0 +1,7 @@
+mod Steps
+mod Said
+mod Causes
+mod Seen
+mod Turns
+mod Lines
+mod FolderWords

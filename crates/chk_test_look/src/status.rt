@@ -1,0 +1,121 @@
+//! The state of stores that are made by hand.
+ghost use Rattle.std.specs.Prelude.{◌≡◌};
+ghost use Rattle.chk_world.specs.Sight.{job};
+
+use crate::scene::follows_each;
+use chk_look_run::{Outcome, Usage, looker, outcome_of_job, told_as};
+use chk_look_status::{find_store, tell_line, tell_store};
+use chk_look_words::{Form, StatusWords, WordsFault, read_status};
+use chk_site::Who;
+use chk_site_mem::SiteMem;
+use std::alloc::Global;
+use std::test::Fail;
+
+const STATUS: &str = "\
+two streams, and two collectors
+put archive/seg.1 HEADER MARKER HELLO
+put archive/book HEAD 2 #1 1 144 #2 6 H1 2 H2
+put demux/book HEAD 2 #1 1 144 #1 4 H1
+put sinks/c1.1.3.chukwa HEADER MARKER HELLO
+put sinks/c1.1.3.mark 96
+put sinks/c1.1.2.done HEADER MARKER HELLO
+put sinks/c2.5.1.chukwa HEADER MARKER HELLO WORL
+put sinks/c1.born 1
+run status --store s = 0 [store s|\
+\x20      ARCHIVED         DEMUXED  STREAM|\
+\x20             6               4  h1 Log /a.log|\
+\x20             2               0  h2 Log /a.log|\
+\x20       WRITTEN       COMMITTED           QUIET  SINK|\
+\x20           144              96               -  c1.1.3|\
+\x20           190               0               -  c2.5.1|\
+\x20      UNCLOSED          CLOSED            HELD|\
+\x20             2               1               0|]
+run status -q --store s = 0 [OK - s: unclosed 2 closed 1 held 0 quiet 0|]
+
+chunks that are set aside
+put archive/seg.2 HEADER MARKER LATER WORL
+put archive/book HEAD_3 3 #0 #0 2 188
+put sinks/c1.born 1
+run status --store s = 1 [store s|\
+\x20      ARCHIVED         DEMUXED  STREAM|\
+\x20       WRITTEN       COMMITTED           QUIET  SINK|\
+\x20      UNCLOSED          CLOSED            HELD|\
+\x20             0               0               2|]
+run status -q --store s = 1 [WARNING - s: unclosed 0 closed 0 held 2 quiet 0|]
+
+a new store
+put sinks/c1.born 1
+run status -q --store s = 0 [OK - s: unclosed 0 closed 0 held 0 quiet 0|]
+
+a book that is none
+put archive/book HEAD 2 #1
+run status --store s = 1 [] damaged archive/book 17
+
+a call that fails
+put sinks/c1.1.3.chukwa HEADER MARKER HELLO
+fails 3
+run status --store s = 3 [] outside list
+
+words
+run status = 2 [] usage: chukwactl status [-q] [--watch S] --store DIR [--store DIR]..
+run status s = 2 [] usage: chukwactl status [-q] [--watch S] --store DIR [--store DIR]..
+run status --store s --watch 86401 = 2 [] usage: chukwactl status [-q] [--watch S] --store DIR [--store DIR]..
+run status -q -q --store s = 2 [] usage: chukwactl status [-q] [--watch S] --store DIR [--store DIR]..
+";
+
+// What the words of `status` show of the site, as the program does it in each folder.
+pub(crate) fn looks(alloc: Global, site: &mut SiteMem, words: &[&str]) -> Result<Shown, Fail> {
+    match read_status(alloc, words) {
+        Ok(asked) => match looker(alloc) {
+            Ok(who) => shows(alloc, site, &who, &asked),
+            Err(_) => Err(Fail::new("no memory")),
+        },
+        Err(WordsFault::Usage) => ended(alloc, &Outcome::Usage(Usage::Status)),
+        Err(WordsFault::NoMemory) => Err(Fail::new("no memory")),
+    }
+}
+
+fn shows(
+    alloc: Global,
+    site: &mut SiteMem,
+    who: &Who,
+    asked: &StatusWords<'_>,
+) -> Result<Shown, Fail>
+    requires job { who.now ≡ job }
+{
+    let stores = asked.stores().ok_or("no store")?;
+    let store = stores.first().ok_or("no store")?;
+    match find_store(alloc, site, who) {
+        Ok(seen) => {
+            let given = match asked.form() {
+                Form::Table => tell_store(alloc, site, who, store, &seen),
+                Form::Line => tell_line(alloc, site, who, store, &seen),
+            };
+            let mut shown = ended(alloc, &told_as(given))?;
+            if seen.has_trouble() {
+                shown.status = 1;
+            }
+            Ok(shown)
+        }
+        Err(fault) => ended(alloc, &outcome_of_job(fault)),
+    }
+}
+
+/// How a look ends.
+#[derive(Drop)]
+pub(crate) struct Shown {
+    pub(crate) status: u8,
+    pub(crate) message: String,
+}
+
+pub(crate) fn ended(alloc: Global, outcome: &Outcome) -> Result<Shown, Fail> {
+    Ok(Shown {
+        status: outcome.status(),
+        message: format!(in alloc; "{outcome}")?,
+    })
+}
+
+#[test]
+fn status(rt: HostRuntime) -> Result<(), Fail> {
+    follows_each(rt.alloc(), STATUS)
+}
