@@ -13,7 +13,7 @@ use chk_faults::{SystemFault, text};
 use chk_host::{Folders, Host, Unsettled, make_folders};
 use chk_listings::sorted_names;
 use chk_notices::{Failure, clock_moment};
-use chk_site::{Call, CallFault, Part, Piece, Role, Site, Suffix, Taking, Who};
+use chk_site::{Call, CallFault, LOG_END, Part, Piece, Role, Site, Suffix, Taking, Who};
 use chk_sockets::Messages;
 use std::alloc::{AllocError, Global};
 use std::fs::File;
@@ -46,7 +46,8 @@ const LONGEST_MESSAGE: usize = 4_210_688;
 /// logs). What isn't a file counts as no log; a file that may not be read fails each look at it until it
 /// was read once. Only at those looks, and where it has bytes at the place, a file is opened.
 ///
-/// What happens is told on standard error, with the moment (`chk_notices`).
+/// What happens is told on standard error, with the moment (`chk_notices`). That a log is shorter than
+/// `LOG_END` isn't: a read there asks how long it is.
 ///
 /// A start fails where one of the folders couldn't be synced when the site was made. Else it takes the
 /// lock of its process, which no other process can hold meanwhile: on the file
@@ -311,9 +312,12 @@ impl<R: Files<File = File> + Net + Clock + Print + Eprint + Drop> Site for SiteR
     ) -> Result<Piece, CallFault> {
         let given = self.host.read_log(alloc, path, part, at, max);
         if let Err(SystemFault::Short { size }) = &given {
-            self.host
-                .notices
-                .tell_shrank(&self.host.rt, alloc, path, at, *size);
+            // A read at the end of all places asks how many bytes the log has.
+            if at < LOG_END {
+                self.host
+                    .notices
+                    .tell_shrank(&self.host.rt, alloc, path, at, *size);
+            }
         }
         self.settle(alloc, Call::LogRead, path, given)
     }
