@@ -1,21 +1,13 @@
 -- What holds of a look after another one.
-use Rattle.std.proofs.Common.{◌≡◌, ◌∙◌, ℕ, true, Option, Ok, Err, Result}
+use Rattle.std.proofs.Common.{◌≡◌, ℕ, true, Option, Ok, Err, Result}
 use Rattle.chk_site.specs.History.{History}
 use Rattle.chk_site.specs.Site.{Adds}
 use Rattle.chk_heads.specs.Faults.{JobCause, FailsLast}
 use Rattle.chk_heads.specs.declared.fault.JobFault.{JobFault}
 use Rattle.chk_heads.specs.declared.fault.JobFault.TheVariants.{Outside, Damaged, Spent, NoMemory}
-use Rattle.chk_book.proofs.Added.{cause_later, fails_later}
+use Rattle.chk_book.proofs.Added.{fails_as, fails_later}
 use Rattle.chk_look_held.specs.declared.finding.Waiting.{Waiting}
 use Rattle.chk_look_held.specs.Finding.{HasDamage}
-
--- the same refusal, of another result
-fails_as : (T U : Type 0) (fault : JobFault) {old new : Option History}
-    → Adds old new (FailsLast {T = U} (Err fault)) → Adds old new (FailsLast {T = T} (Err fault))
-fails_as T U (Outside call) told = told
-fails_as T U (Damaged name at) told = told
-fails_as T U (Spent number) told = told
-fails_as T U NoMemory told = told
 
 -- a refusal behind other calls
 pub refused_later : (T U : Type 0) {P : History → History → Type 0} (fault : JobFault)
@@ -23,17 +15,6 @@ pub refused_later : (T U : Type 0) {P : History → History → Type 0} (fault :
     → Adds old new (FailsLast {T = T} (Err fault))
 refused_later T U fault first second = fails_later {T = T} (Err fault) first
     (fails_as T U fault second)
-
-pub last_later : {T : Type 0} {P : History → History → Type 0} (result : Result T JobFault)
-    {old mid new : Option History} → Adds old mid P → Adds mid new (FailsLast result)
-    → Adds old new (FailsLast result)
-last_later result first second = fails_later result first second
-
-pub cause_after : {T : Type 0} (result : Result T JobFault) (before mid now : ℕ) → mid ≡ before
-    → JobCause mid now result → JobCause before now result
-cause_after (Ok value) before mid now same cause = cause ∙ same
-cause_after {T = T} (Err fault) before mid now same cause =
-    cause_later T T fault before mid now same cause
 
 -- damage isn't counted as a call that failed
 pub damage_same : (given : Result Waiting JobFault) (before now : ℕ) → HasDamage true given

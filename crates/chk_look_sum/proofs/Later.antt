@@ -1,16 +1,12 @@
 -- What holds of a look after another one.
-use Rattle.std.proofs.Common.{◌≡◌, ◌∙◌, ℕ, true, List, length, Option, Ok, Err, Result}
+use Rattle.std.proofs.Common.{◌≡◌, ◌∙◌, ℕ, true, List, length, Ok, Err, Result}
 use Rattle.std.specs.Prelude.{IfOk}
 use Rattle.chk_site.specs.Files.{Files}
 use Rattle.chk_site.specs.History.{History}
-use Rattle.chk_site.specs.Site.{Adds}
-use Rattle.chk_site.proofs.Runs.{adds_then}
 use Rattle.chk_world.specs.Books.{Book}
-use Rattle.chk_heads.specs.Faults.{JobCause, FailsLast}
+use Rattle.chk_heads.specs.Faults.{JobCause}
 use Rattle.chk_heads.specs.declared.fault.JobFault.{JobFault}
 use Rattle.chk_heads.specs.declared.fault.JobFault.TheVariants.{Outside, Damaged, Spent, NoMemory}
-use Rattle.chk_book.proofs.Added.{cause_later}
-use Rattle.chk_merge.proofs.AllGathered.{fails_later}
 use Rattle.chk_merge.specs.Merging.{SoundHeads}
 use Rattle.chk_look_sum.specs.declared.sums.Sums.{Sums}
 use Rattle.chk_look_sum.specs.declared.rests.Rest.{Rest}
@@ -24,19 +20,6 @@ refused_so folder b held rests (Outside call) history x = tt
 refused_so folder b held rests (Damaged name at) history x = x
 refused_so folder b held rests (Spent number) history x = tt
 refused_so folder b held rests NoMemory history x = tt
-
-pub last_later : {T : Type 0} {P : History → History → Type 0} (result : Result T JobFault)
-    {old mid new : Option History} → Adds old mid P → Adds mid new (FailsLast result)
-    → Adds old new (FailsLast result)
-last_later {T = T} (Ok value) first second =
-    adds_then (FailsLast {T = T} (Ok value)) first second (λ a b history p q. tt)
-last_later {T = T} (Err fault) first second = fails_later T T fault first second
-
-pub cause_after : {T : Type 0} (result : Result T JobFault) (before mid now : ℕ) → mid ≡ before
-    → JobCause mid now result → JobCause before now result
-cause_after (Ok value) before mid now same cause = cause ∙ same
-cause_after {T = T} (Err fault) before mid now same cause =
-    cause_later T T fault before mid now same cause
 
 -- damage isn't counted as a call that failed
 pub damage_same : (given : Result Sums JobFault) (before now : ℕ) → HasDamage true given

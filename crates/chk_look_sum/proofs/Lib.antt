@@ -1,8 +1,8 @@
 mod InOrder
-mod Blocks
-mod Steps
+pub mod Blocks
+pub mod Steps
 mod Streams
 pub mod LineWords
-mod Sides
-mod Later
-mod Skipped
+pub mod Sides
+pub mod Later
+pub mod Skipped

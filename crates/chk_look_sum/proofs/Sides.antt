@@ -24,7 +24,7 @@ use Rattle.sha2.specs.Sha256.{sha256}
 use Rattle.chk_look_sum.specs.Summing.{digest_of, SummedAll}
 use Rattle.chk_look_sum.specs.declared.rests.Rest.{Rest}
 use Rattle.chk_look_sum.specs.Sums.{archived, SummedFiles, SummedFrom}
-use Rattle.chk_look_sum.proofs.Steps.{under}
+use Rattle.chk_compare.proofs.AllCompared.{under}
 use Rattle.chk_look_sum.proofs.Streams.{is_side, side_rises, digests_same, whole_digests}
 
 -- what is known of the heads

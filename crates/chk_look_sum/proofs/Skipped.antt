@@ -6,7 +6,7 @@ use Rattle.sha2.specs.Hashers.{Holds256}
 use Rattle.chk_look_sum.specs.declared.rests.Skipping.{Skipping}
 use Rattle.chk_look_sum.specs.Rests.{HoldsRest}
 
-drop_over : (skip : ℕ) (xs ys : List ℕ)
+pub drop_over : (skip : ℕ) (xs ys : List ℕ)
     → drop skip (xs ++ ys) ≡ drop skip xs ++ drop (skip - length xs) ys
 drop_over zero xs ys =
     ap (λ (k : ℕ). xs ++ drop k ys) (let z : 0 ≡ 0 - length xs = omega arith in z)
@@ -17,7 +17,7 @@ drop_over (suc skip) (x ∷ xs) ys =
     ∙ ap (λ (k : ℕ). drop skip xs ++ drop k ys)
     (let z : skip - length xs ≡ suc skip - suc (length xs) = omega arith in z)
 
-none_dropped : (skip : ℕ) → drop {A = ℕ} skip [] ≡ []
+pub none_dropped : (skip : ℕ) → drop {A = ℕ} skip [] ≡ []
 none_dropped skip = drop_all skip [] (let z : 0 ≤ skip = omega arith in z)
 
 pub begun : (skip : ℕ) (h : Skipping) → h.left ≡ skip → Holds256 h.hasher [] → HoldsRest skip h []

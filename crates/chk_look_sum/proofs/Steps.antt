@@ -2,38 +2,26 @@
 use Rattle.std.proofs.Common.{◌≡◌, ℕ, ◌+◌, ◌<◌, List, [], ◌∷◌, ◌++◌, length, map, take, Option, Ok, Err, sym, ap, ap₂, subst, get_or, ◌∙◌}
 use Rattle.std.proofs.lemmas.List.{map-append, take_more}
 use Rattle.chk_site.specs.Files.{Files}
-use Rattle.chk_site.specs.History.{Step, History}
+use Rattle.chk_site.specs.History.{History}
 use Rattle.chk_site.specs.Site.{Adds}
 use Rattle.chk_site.specs.Runs.{anyhow, Leads}
 use Rattle.chk_site.proofs.Runs.{adds_as}
-use Rattle.chk_site.proofs.Leads.{leads_as, leads_then, owned_anyhow}
+use Rattle.chk_site.proofs.Leads.{leads_as, leads_then}
 use Rattle.chk_heads.specs.declared.fault.JobFault.{JobFault}
 use Rattle.chk_heads.specs.declared.fault.JobFault.TheVariants.{Outside, Damaged, Spent, NoMemory}
 use Rattle.chk_merge.specs.declared.reader.RecordReader.{RecordReader}
 use Rattle.chk_merge.specs.ReadBack.{value_held}
 use Rattle.chk_merge.specs.Segments.{HasFiles, SparesFiles}
 use Rattle.chk_merge.specs.Archives.{AreWindows}
-use Rattle.chk_merge.proofs.AllRead.{adds_all}
 use Rattle.chk_compare.specs.declared.gathering.Side.{Side}
 use Rattle.chk_compare.specs.Blocks.{head_in}
 use Rattle.chk_compare.specs.Comparing.{value_there}
 use Rattle.chk_compare.specs.Reading.{Fetched}
+use Rattle.chk_compare.proofs.AllCompared.{under}
 use Rattle.sha2.specs.Sha256.{sha256}
 use Rattle.chk_look_sum.specs.declared.rests.Skipping.{Skipping}
 use Rattle.chk_look_sum.specs.Rests.{HoldsRest}
 use Rattle.chk_look_sum.specs.Summing.{CanSum, HasSummed, TookOne, SummedOne, SummedAll}
-
--- what holds of no history may be told before the steps
-pub under : {X : Type 0} {Supposed : History → Step → Type 0} {A B : History → Type 0}
-    {K : History → History → Type 0} {old new : Option History} → Adds old new K
-    → ((x : X) → Adds old new (Leads (anyhow Supposed) A B))
-    → Adds old new (Leads (anyhow Supposed) (λ history. A history × X) B)
-under {X = X} {Supposed = Supposed} {A = A} {B = B} k each =
-    adds_all (Leads (anyhow Supposed) (λ history. A history × X) B) k each
-    (λ added history p q. record {
-      leads = λ others had. (q had.1).leads others had.0;
-      own = owned_anyhow added history;
-    })
 
 module _ (all : List (List ℕ)) (held : Files) (side : Side) where
   -- a record is fetched, and the hasher takes its value

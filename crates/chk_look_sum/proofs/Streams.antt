@@ -6,7 +6,7 @@ use Rattle.chk_chunk.specs.Keys.{Stream, Chunk, same_stream, is_of}
 use Rattle.chk_world.specs.Books.{Book, End, chunks_of_stream, values}
 use Rattle.chk_world.proofs.Each.{Each}
 use Rattle.chk_heads.specs.Heads.{Head}
-use Rattle.chk_heads.specs.Order.{in_head_order}
+use Rattle.chk_heads.specs.Order.{head_before, in_head_order}
 use Rattle.chk_book.specs.Folders.{most_in}
 use Rattle.chk_book.specs.Views.{end_view}
 use Rattle.chk_book.specs.declared.lists.End.{End as EndStruct}
@@ -16,6 +16,7 @@ use Rattle.chk_merge.specs.Checking.{AllGoWell}
 use Rattle.chk_merge.specs.Archives.{IsKnown, chunk_in, values_in}
 use Rattle.chk_merge.proofs.AllRead.{known_from}
 use Rattle.chk_merge.proofs.Joining.{chunks_from, values_of}
+use Rattle.chk_merge.proofs.SortedStream.{each_sort}
 use Rattle.chk_compare.specs.declared.gathering.Side.{Side}
 use Rattle.chk_compare.specs.Blocks.{StreamsRise}
 use Rattle.chk_compare.specs.Reading.{AreAmong}
@@ -25,7 +26,7 @@ use Rattle.chk_look_sum.specs.declared.rests.Rest.{Rest}
 use Rattle.chk_look_sum.specs.Rests.{end_of, skip_of}
 use Rattle.chk_look_sum.specs.Summing.{bytes_of, digest_of}
 use Rattle.chk_look_sum.specs.Sums.{archived, archived_from, rest_digests}
-use Rattle.chk_look_sum.proofs.InOrder.{heads_rise, each_sort, order_keeps}
+use Rattle.chk_look_sum.proofs.InOrder.{heads_rise, order_keeps}
 
 chunks_of_heads : (s : Stream) (f : Head → Chunk) (hs : List Head)
     → ((h : Head) → (f h).key ≡ h.key)
@@ -60,7 +61,7 @@ module _ (folder : List ℕ) (b : Book) (held : Files) (side : Side)
     among = subst (AreAmong Names) (sym names_are) (λ w one. one);
     known = subst (λ ns. Each (IsKnown (most_in folder) ns held) side.heads.now) (sym names_are)
         (subst (Each (IsKnown (most_in folder) Names held)) (sym heads_are)
-        (each_sort (IsKnown (most_in folder) Names held) Hs
+        (each_sort (IsKnown (most_in folder) Names held) head_before Hs
         (known_from (most_in folder) Names held 0 [] Names refl refl)));
   }
 

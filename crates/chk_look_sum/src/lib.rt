@@ -9,5 +9,6 @@ mod sums;
 
 pub use digests::Digests;
 pub use lines::print_sums;
-pub use rests::Rest;
+pub use rests::{Rest, behind};
+pub use summing::sum_streams;
 pub use sums::{Sums, sum, sum_rests};

@@ -19,7 +19,7 @@ pub struct Rest<'a> {
 
 impl<'a> Rest<'a> {
     /// How many of the archived bytes are left out.
-    pub(crate) fn skip(&self) -> u64
+    pub fn skip(&self) -> u64
         ensures { result ≡ skip_of self.now }
     {
         self.begin.saturating_sub(self.end.start)
@@ -75,7 +75,7 @@ impl Skipping {
 }
 
 /// What stands behind so many bytes.
-fn behind(bytes: &[u8], skip: u64) -> &[u8]
+pub fn behind(bytes: &[u8], skip: u64) -> &[u8]
     ensures { result.now ≡ drop skip bytes.now }
 {
     if skip < bytes.len() as u64 {

@@ -1,6 +1,7 @@
 //! The digests of the streams whose records' heads are known.
 
 ghost use Rattle.std.specs.Prelude.{◌≡◌, ◌<◌, ◌≤◌, ◌++◌, ℕ, List, drop, length, map, IfErr, IfOk};
+ghost use Rattle.chk_chunk.specs.Keys.{record_limit};
 ghost use Rattle.chk_site.specs.Files.{Files};
 ghost use Rattle.chk_site.specs.History.{Every};
 ghost use Rattle.chk_site.specs.Site.{Adds};
@@ -35,7 +36,7 @@ fn take_record<S: Site>(
     requires job { who.now ≡ job }
     requires index { index < length side.now.heads.now }
     ensures raw { (most : ℕ) (all : List (List ℕ)) (held : Files) (skip : ℕ) (taken : List ℕ)
-        → most ≤ 1048576 → AreSettled all held → IsSide most all held side.now
+        → most ≤ record_limit → AreSettled all held → IsSide most all held side.now
         → Adds (S.told site.old) (S.told site.new) (Leads (anyhow (SparesFiles all))
         (HasSummed all held side.now skip taken reader.old hasher.old)
         (TookOne all held side.now skip (taken ++ value_there side.now held index) reader.new
@@ -68,7 +69,7 @@ fn sum_block<S: Site>(
     requires job { who.now ≡ job }
     requires low { block.first ≤ block.end }
     requires high { block.end ≤ length side.now.heads.now }
-    ensures raw { (most : ℕ) (all : List (List ℕ)) (held : Files) → most ≤ 1048576
+    ensures raw { (most : ℕ) (all : List (List ℕ)) (held : Files) → most ≤ record_limit
         → AreSettled all held → IsSide most all held side.now
         → Adds (S.told site.old) (S.told site.new)
         (Leads (anyhow (SparesFiles all)) (CanSum all held side.now reader.old)
@@ -98,7 +99,7 @@ fn sum_stream<S: Site>(
     rest: &Rest<'_>,
 ) -> Result<[u8; 32], JobFault>
     requires job { who.now ≡ job }
-    ensures raw { (most : ℕ) (all : List (List ℕ)) (held : Files) → most ≤ 1048576
+    ensures raw { (most : ℕ) (all : List (List ℕ)) (held : Files) → most ≤ record_limit
         → AreSettled all held → IsSide most all held side.now → StreamsRise side.now.heads.now
         → Adds (S.told site.old) (S.told site.new)
         (Leads (anyhow (SparesFiles all)) (CanSum all held side.now reader.old)
@@ -112,8 +113,10 @@ fn sum_stream<S: Site>(
     sum_block(alloc, site, who, side, reader, block, rest.skip())
 }
 
-/// The digest of each stream from its offset on, in their order.
-pub(crate) fn sum_streams<S: Site>(
+/// The digest of each stream from its offset on, in their order. It costs the reads of their
+/// records, in pieces of at most 1,048,576 bytes, of which one is held, and for streams in order one
+/// pass over the heads.
+pub fn sum_streams<S: Site>(
     alloc: Global,
     site: &mut S,
     who: &Who,
@@ -121,7 +124,7 @@ pub(crate) fn sum_streams<S: Site>(
     rests: &[Rest<'_>],
 ) -> Result<Digests, JobFault>
     requires job { who.now ≡ job }
-    ensures raw { (most : ℕ) (all : List (List ℕ)) (held : Files) → most ≤ 1048576
+    ensures raw { (most : ℕ) (all : List (List ℕ)) (held : Files) → most ≤ record_limit
         → AreSettled all held → IsSide most all held side.now → StreamsRise side.now.heads.now
         → Adds (S.told site.old) (S.told site.new)
         (Leads (anyhow (SparesFiles all)) (HasFiles all held)

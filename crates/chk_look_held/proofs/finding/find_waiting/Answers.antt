@@ -1,8 +1,9 @@
 use Rattle.std.proofs.Common.{subst}
 use Rattle.chk_world.specs.JobSteps.{IsOf, ReadsFile}
 use Rattle.chk_heads.proofs.Gathering.{every_then}
+use Rattle.chk_book.proofs.Added.{cause_then, fails_later}
 use Rattle.chk_look_held.specs.Finding.{HasDamage, once, again}
-use Rattle.chk_look_held.proofs.Later.{last_later, cause_after, damage_same}
+use Rattle.chk_look_held.proofs.Later.{damage_same}
 use Rattle.chk_look_held.proofs.finding.find_waiting.Goals as goal
 
 -- the first look is the last one
@@ -30,9 +31,9 @@ returns g c =
       told = again has c.find_once-given.ensures.told c.find_once.ensures.told;
       own = every_then (IsOf ReadsFile) c.find_once-given.ensures.own c.find_once.ensures.own;
       only = c.find_once.ensures.only;
-      last = last_later result c.find_once-given.ensures.own c.find_once.ensures.last;
+      last = fails_later result c.find_once-given.ensures.own c.find_once.ensures.last;
       order = c.find_once.ensures.order;
-      cause = cause_after result before middle after
+      cause = cause_then result before middle after
           (damage_same given before middle has c.find_once-given.ensures.cause)
           c.find_once.ensures.cause;
     }

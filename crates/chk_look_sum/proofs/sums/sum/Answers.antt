@@ -1,8 +1,9 @@
 use Rattle.std.proofs.Common.{subst}
 use Rattle.chk_world.specs.JobSteps.{IsOf, ReadsFile}
 use Rattle.chk_heads.proofs.Gathering.{every_then}
+use Rattle.chk_book.proofs.Added.{cause_then, fails_later}
 use Rattle.chk_look_sum.specs.Sums.{HasDamage, once, again}
-use Rattle.chk_look_sum.proofs.Later.{last_later, cause_after, damage_same}
+use Rattle.chk_look_sum.proofs.Later.{damage_same}
 use Rattle.chk_look_sum.proofs.sums.sum.Goals as goal
 
 -- the first look is the last one
@@ -29,8 +30,8 @@ returns g c =
       told = again has c.sum_folder-given.ensures.told c.sum_folder.ensures.told;
       own = every_then (IsOf ReadsFile) c.sum_folder-given.ensures.own c.sum_folder.ensures.own;
       only = c.sum_folder.ensures.only;
-      last = last_later result c.sum_folder-given.ensures.own c.sum_folder.ensures.last;
-      cause = cause_after result before middle after
+      last = fails_later result c.sum_folder-given.ensures.own c.sum_folder.ensures.last;
+      cause = cause_then result before middle after
           (damage_same given before middle has c.sum_folder-given.ensures.cause)
           c.sum_folder.ensures.cause;
     }

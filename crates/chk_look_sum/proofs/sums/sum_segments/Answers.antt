@@ -4,10 +4,10 @@ use Rattle.chk_site.proofs.Runs.{adds_none}
 use Rattle.chk_world.specs.JobSteps.{IsOf, ReadsFile}
 use Rattle.chk_heads.proofs.Gathering.{every_then}
 use Rattle.chk_heads.specs.Heads.{Head}
-use Rattle.chk_book.proofs.Added.{cause_later}
+use Rattle.chk_book.proofs.Added.{cause_later, cause_then, fails_later as last_later}
 use Rattle.chk_book.specs.Books.{book_view}
 use Rattle.chk_merge.proofs.AllGathered.{fails_later}
-use Rattle.chk_look_sum.proofs.Later.{refused_so, last_later, cause_after}
+use Rattle.chk_look_sum.proofs.Later.{refused_so}
 use Rattle.chk_look_sum.proofs.Sides.{summed_so}
 use Rattle.chk_look_sum.proofs.sums.sum_segments.Goals as goal
 
@@ -24,7 +24,7 @@ returns-in-Ok g c =
           c.sum_streams.ensures.own;
       only = c.sum_streams.ensures.only;
       last = last_later result (c.in-Ok.ensures.own c.requires.job) c.sum_streams.ensures.last;
-      cause = cause_after result (g.S.Site.fault_count c.args.site.now)
+      cause = cause_then result (g.S.Site.fault_count c.args.site.now)
           (g.S.Site.fault_count c.sound_heads.new.site)
           (g.S.Site.fault_count c.sum_streams.new.site) c.in-Ok.ensures.cause
           c.sum_streams.ensures.cause;
