@@ -1,5 +1,5 @@
 -- The calls of a look are those of looks again and again, and so is a wait.
-use Rattle.std.proofs.Common.{inl, inr, ℕ, List, [], ◌∷◌, ◌++◌, Ok, Err, Option, Result, refl}
+use Rattle.std.proofs.Common.{inl, inr, ℕ, [], ◌∷◌, ◌++◌, Ok, Err, Option, Result, refl}
 use Rattle.chk_site.specs.declared.acts.OutsideFault.{OutsideFault}
 use Rattle.chk_site.specs.Acts.{deed}
 use Rattle.chk_site.specs.History.{Step, History, Every}

@@ -9,7 +9,7 @@ use Rattle.chk_look.specs.declared.fault.LookFault.TheVariants.{Outside, Damaged
 use Rattle.chk_look.specs.declared.stream.Came.{Came}
 use Rattle.chk_look.specs.Faults.{LookCause}
 use Rattle.chk_look.specs.Streams.{Stage}
-use Rattle.chk_look_store.specs.Going.{going_on, Goes, GoesOn, HasGone, IsSameLoss, came, lost}
+use Rattle.chk_look_store.specs.Going.{going_on, Goes, GoesOn, HasGone, came, lost}
 use Rattle.chk_look_store.specs.Going.{no_more}
 
 -- a segment that isn't there isn't a call that failed

@@ -1,19 +1,16 @@
 -- Reads of books, and then lines.
-use Rattle.std.proofs.Common.{◌≡◌, inl, inr, ℕ, List, [], ◌∷◌, ◌++◌, Option, Ok, Err, Result, refl}
+use Rattle.std.proofs.Common.{◌≡◌, inl, inr, ℕ, List, [], ◌∷◌, Option, Ok, Err, Result, refl}
 use Rattle.std.proofs.Common.{subst, ◌∙◌}
 use Rattle.chk_site.specs.declared.acts.Who.{Who}
 use Rattle.chk_site.specs.declared.acts.OutsideFault.{OutsideFault}
-use Rattle.chk_site.specs.declared.acts.OutsideFault.TheVariants.{Outside as site_failed}
-use Rattle.chk_site.specs.declared.acts.OutsideFault.TheVariants.{NoMemory as no_memory}
 use Rattle.chk_site.specs.History.{History, Every}
 use Rattle.chk_site.specs.Site.{Adds, OutsideCause}
-use Rattle.chk_site.proofs.Runs.{adds_as, adds_then, every_join}
+use Rattle.chk_site.proofs.Runs.{adds_then, every_join}
 use Rattle.chk_replace.proofs.CallSteps.{OfEach, script_each, script_last}
 use Rattle.chk_world.specs.Sight.{job}
 use Rattle.chk_world.specs.JobSteps.{IsOf, ReadsFile}
 use Rattle.chk_prints.specs.Printing.{PrintsInTurn}
 use Rattle.chk_prints.proofs.Printed.{printings, prints_made}
-use Rattle.chk_look.specs.declared.fault.LookFault.{LookFault}
 use Rattle.chk_look.specs.Faults.{FailsLast, LookCause}
 use Rattle.chk_look.specs.Looking.{LooksOrSays, says}
 use Rattle.chk_look.proofs.StreamLemmas.{reads_own}

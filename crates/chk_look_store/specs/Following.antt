@@ -14,13 +14,14 @@ use Rattle.chk_book.specs.Books.{end_in}
 use Rattle.chk_look.specs.declared.course.Course.{Course}
 use Rattle.chk_look.specs.declared.fault.LookFault.{LookFault}
 use Rattle.chk_look.specs.declared.stream.Came.{Came}
-use Rattle.chk_look.specs.declared.stream.Came.TheVariants.{Whole, Short, Unknown}
+use Rattle.chk_look.specs.declared.stream.Came.TheVariants.{Whole, Short}
 use Rattle.chk_look.specs.Courses.{stream_of}
 use Rattle.chk_look.specs.Faults.{look_fault}
 use Rattle.chk_look.specs.Loading.{BookFound}
 use Rattle.chk_look.specs.Looking.{LooksOrSays}
 use Rattle.chk_look.specs.Streams.{look_of}
-use Rattle.chk_look_store.specs.Going.{going_on, GoesOn}
+use Rattle.chk_look_store.specs.Going.{going_on}
+use Rattle.chk_look_store.specs.Newest.{PrintsNews}
 
 -- the calls: those of a look, and waits
 pub data LooksAgain : Deed → Type 0 where
@@ -31,28 +32,25 @@ pub data LooksAgain : Deed → Type 0 where
 abbrev pub waiting : List Asked
 waiting = asked job Pause [] 5000 0 ∷ []
 
--- the folder's book is read, and has more of the stream than is wanted from, or no more; or it
--- can't be read
-abbrev pub Peeked : List ℕ → Course → Result Bool LookFault → Option History → Option History
-    → Type 0
-Peeked folder c (Ok more) before after =
-    (b : Book) × BookFound folder (Ok b) before after
-    × (more ≡ nat_lt c.begin (end_in 0 b.ends (stream_of c)))
-Peeked folder c (Err fault) before after =
-    (given : JobFault) × BookFound folder (Err given) before after × (fault ≡ look_of given)
+-- what follows a read of this book: where it has more of the stream, that is printed on, from the
+-- offset on that was come to; else nothing is done
+pub data GoesPast (folder : List ℕ) (most books : ℕ) (b : Book) (c : Course)
+    : Course → Result Came LookFault → Option History → Option History → Type 0 where
+  nothing_new : {now : Option History} → nat_lt c.begin (end_in 0 b.ends (stream_of c)) ≡ false
+      → GoesPast folder most books b c c (Ok Whole) now now
+  something_new : {d : Course} {result : Result Came LookFault} {old new : Option History}
+      → nat_lt c.begin (end_in 0 b.ends (stream_of c)) ≡ true
+      → PrintsNews folder most books b c d result old new
+      → GoesPast folder most books b c (going_on d) result old new
 
--- One look: where the book has more of the stream, it is printed on, from the offset on that was
--- come to; else nothing is done.
+-- One look: the folder's book is read, and what follows; or it can't be read.
 pub data Looks (folder : List ℕ) (most books : ℕ) (c : Course)
     : Course → Result Came LookFault → Option History → Option History → Type 0 where
-  unread : {fault : LookFault} {old new : Option History} → Peeked folder c (Err fault) old new
-      → Looks folder most books c c (Err fault) old new
-  nothing_new : {old new : Option History} → Peeked folder c (Ok false) old new
-      → Looks folder most books c c (Ok Whole) old new
-  something_new : {d : Course} {result : Result Came LookFault} {old mid new : Option History}
-      → Peeked folder c (Ok true) old mid
-      → GoesOn folder most books c d result mid new
-      → Looks folder most books c (going_on d) result old new
+  unread : {old new : Option History} (fault : JobFault) → BookFound folder (Err fault) old new
+      → Looks folder most books c c (Err (look_of fault)) old new
+  read : {d : Course} {result : Result Came LookFault} {old mid new : Option History} (b : Book)
+      → BookFound folder (Ok b) old mid → GoesPast folder most books b c d result mid new
+      → Looks folder most books c d result old new
 
 -- after such a look there is a further one
 abbrev pub IsFurther : Came → Type 0

@@ -1,5 +1,5 @@
 -- A stream that is printed on from book to book.
-use Rattle.std.specs.Prelude.{◌≡◌, ℕ, ◌+◌, ◌≤◌, max, Bool, true, false, List, Option, Result, Ok}
+use Rattle.std.specs.Prelude.{◌≡◌, ℕ, ◌+◌, ◌≤◌, max, Bool, true, false, List, Option, Result}
 use Rattle.std.specs.Prelude.{Err}
 use Rattle.chk_site.specs.History.{History}
 use Rattle.chk_look.specs.declared.course.Course.{Course}

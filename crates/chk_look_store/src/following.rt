@@ -12,9 +12,10 @@ ghost use Rattle.chk_look.specs.Courses.{stream_of};
 ghost use Rattle.chk_look.specs.Faults.{FailsLast, LookCause};
 ghost use Rattle.chk_look.specs.Looking.{LooksOrSays};
 ghost use Rattle.chk_look_store.specs.Following.{after_wait, Follows, HasShort, Looks, LooksAgain};
-ghost use Rattle.chk_look_store.specs.Following.{Peeked, Turns, Waits, waiting};
+ghost use Rattle.chk_look_store.specs.Following.{GoesPast, Turns, Waits, waiting};
 
-use crate::going::{go_on, print_on};
+use crate::going::go_on;
+use crate::newest::{Passed, print_news};
 use chk_book::Book;
 use chk_look::{Came, Course, LookFault, find_book, look_of};
 use chk_site::{Call, OutsideFault, Site, Who, done};
@@ -27,8 +28,10 @@ const PAUSE: u64 = 5_000;
 /// every 5,000 ms, so many times. A stream that the book doesn't have yet is looked for again.
 ///
 /// It ends early where the records of the stream end before its end in the book, as `Short`, and
-/// at the first refusal. A look that finds nothing new costs a read of the book; else it costs
-/// what `print_on` does too, so all segments are read again.
+/// at the first refusal. A look that finds nothing new costs a read of the book. One that does
+/// costs a read of each segment besides that the book of the look before didn't name; the first
+/// one, and one by a book that names none of those segments, costs what `print_on` does, and so
+/// does one more where the stream's records don't go on in the new segments.
 pub fn follow<S: Site>(
     alloc: Global,
     site: &mut S,
@@ -48,10 +51,11 @@ pub fn follow<S: Site>(
     ensures last { Adds (S.told site.old) (S.told site.new) (FailsLast result) }
     ensures cause { LookCause (S.fault_count site.old) (S.fault_count site.new) result }
 {
+    let mut passed = Passed::nothing();
     let mut left = looks;
     while left > 0 {
         left -= 1;
-        let came = turn(alloc, site, who, folder, most, books, course)?;
+        let came = turn(alloc, site, who, folder, most, books, &mut passed, course)?;
         if is_short(came) {
             return Ok(came);
         }
@@ -67,6 +71,7 @@ fn turn<S: Site>(
     folder: &str,
     most: u32,
     books: u32,
+    passed: &mut Passed,
     course: &mut Course<'_>,
 ) -> Result<Came, LookFault>
     requires job { who.now ≡ job }
@@ -78,13 +83,13 @@ fn turn<S: Site>(
     ensures last { Adds (S.told site.old) (S.told site.new) (FailsLast result) }
     ensures cause { LookCause (S.fault_count site.old) (S.fault_count site.new) result }
 {
-    match look_on(alloc, site, who, folder, most, books, course) {
+    match look_on(alloc, site, who, folder, most, books, passed, course) {
         Ok(came) => wait_after(alloc, site, who, came),
         Err(fault) => Err(fault),
     }
 }
 
-/// Prints the stream on, where the book has more of it than was come to.
+/// Reads the book, and prints the stream on, where that has more of it than was come to.
 fn look_on<S: Site>(
     alloc: Global,
     site: &mut S,
@@ -92,6 +97,7 @@ fn look_on<S: Site>(
     folder: &str,
     most: u32,
     books: u32,
+    passed: &mut Passed,
     course: &mut Course<'_>,
 ) -> Result<Came, LookFault>
     requires job { who.now ≡ job }
@@ -103,34 +109,41 @@ fn look_on<S: Site>(
     ensures last { Adds (S.told site.old) (S.told site.new) (FailsLast result) }
     ensures cause { LookCause (S.fault_count site.old) (S.fault_count site.new) result }
 {
-    let more = has_more(alloc, site, who, folder, course)?;
-    if !more {
-        return Ok(Came::Whole);
+    match find_book(alloc, site, who, folder) {
+        Ok(book) => print_past(alloc, site, who, folder, most, books, book, passed, course),
+        Err(fault) => Err(look_of(fault)),
     }
-    let given = print_on(alloc, site, who, folder, most, books, course);
-    go_on(course);
-    given
 }
 
-/// Whether the folder's book has more of the stream than was come to. It costs a read of the book.
-fn has_more<S: Site>(
+/// Prints the stream on, where this book has more of it than was come to.
+fn print_past<S: Site>(
     alloc: Global,
     site: &mut S,
     who: &Who,
     folder: &str,
-    course: &Course<'_>,
-) -> Result<bool, LookFault>
+    most: u32,
+    books: u32,
+    book: Book,
+    passed: &mut Passed,
+    course: &mut Course<'_>,
+) -> Result<Came, LookFault>
     requires job { who.now ≡ job }
     requires folder { IsTrue (is_folder folder.now) }
-    ensures told { Peeked folder.now course.now result (S.told site.old) (S.told site.new) }
+    requires most { most ≤ 1048576 }
+    ensures told { GoesPast folder.now most books (book_view book) course.old course.new result
+        (S.told site.old) (S.told site.new) }
     ensures own { Adds (S.told site.old) (S.told site.new) (Every (IsOf LooksOrSays)) }
     ensures last { Adds (S.told site.old) (S.told site.new) (FailsLast result) }
     ensures cause { LookCause (S.fault_count site.old) (S.fault_count site.new) result }
 {
-    match find_book(alloc, site, who, folder) {
-        Ok(book) => Ok(is_past(&book, course)),
-        Err(fault) => Err(look_of(fault)),
+    let before = *passed;
+    *passed = Passed::of(&book, course);
+    if !is_past(&book, course) {
+        return Ok(Came::Whole);
     }
+    let given = print_news(alloc, site, who, folder, most, books, book, before, course);
+    go_on(course);
+    given
 }
 
 /// The stream's end in the book lies past the offset that is wanted.

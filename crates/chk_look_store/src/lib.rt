@@ -6,9 +6,13 @@
 mod fault;
 mod following;
 mod going;
+mod laws;
 mod lines;
+mod newest;
+mod recorded;
 mod streams;
 
 pub use following::follow;
 pub use going::print_on;
+pub use laws::law_newest;
 pub use streams::print_streams;

@@ -4,12 +4,14 @@ ghost use Rattle.std.specs.Prelude.{◌≡◌, [], ◌∷◌, map, string_bytes,
 ghost use Rattle.chk_bytes.specs.Words.{is_word};
 ghost use Rattle.chk_site.specs.Site.{OutsideCause};
 ghost use Rattle.chk_world.specs.ArchiveRuns.{is_one_line};
-ghost use Rattle.chk_book.specs.Books.{book_view};
+ghost use Rattle.chk_world.specs.Books.{ends_rise};
+ghost use Rattle.chk_book.specs.Books.{book_view, end_in};
 ghost use Rattle.chk_book.specs.Views.{end_view};
 ghost use Rattle.chk_prints.specs.Printing.{PrintsInTurn};
 ghost use Rattle.chk_look_store.specs.Lines.{line_in, line_of, named, split_to, stream_line};
 ghost use Rattle.chk_look_store.specs.Lines.{stream_lines, stream_words};
 
+use crate::recorded::{do_rise, recorded_end};
 use chk_book::{Book, End};
 use chk_bytes::NoMemory;
 use chk_prints::print_line;
@@ -17,7 +19,7 @@ use chk_site::{OutsideFault, Site, Who};
 use std::alloc::Global;
 
 /// Prints a line for each stream of the archive's book, in its order. It costs a call a line, and
-/// the product of the numbers of streams in both books.
+/// one pass over the streams of both books, where these stand in byte order, as books have them.
 pub(crate) fn print_lines<S: Site>(
     alloc: Global,
     site: &mut S,
@@ -30,7 +32,8 @@ pub(crate) fn print_lines<S: Site>(
         (S.told site.old) (S.told site.new) }
     ensures cause { OutsideCause (S.fault_count site.old) (S.fault_count site.new) result }
 {
-    print_ends(alloc, site, who, archive.ends.as_slice(), records)
+    let in_order = do_rise(records.ends.as_slice());
+    print_ends(alloc, site, who, archive.ends.as_slice(), records, in_order)
 }
 
 /// Prints the lines of these streams.
@@ -40,14 +43,17 @@ fn print_ends<S: Site>(
     who: &Who,
     ends: &[End],
     records: &Book,
+    in_order: bool,
 ) -> Result<(), OutsideFault>
+    requires { IsTrue in_order → IsTrue (ends_rise (book_view records.now).ends) }
     ensures told { PrintsInTurn who.now (map (λ e. line_in (book_view records.now).ends (end_view
         e)) ends.now) result
         (S.told site.old) (S.told site.new) }
     ensures cause { OutsideCause (S.fault_count site.old) (S.fault_count site.new) result }
 {
+    let mut next = 0;
     for end in ends {
-        print_end(alloc, site, who, end, records)?;
+        print_end(alloc, site, who, end, records, in_order, &mut next)?;
     }
     Ok(())
 }
@@ -59,22 +65,37 @@ fn print_end<S: Site>(
     who: &Who,
     end: &End,
     records: &Book,
+    in_order: bool,
+    next: &mut usize,
 ) -> Result<(), OutsideFault>
+    requires { IsTrue in_order → IsTrue (ends_rise (book_view records.now).ends) }
     ensures told { PrintsInTurn who.now (line_in (book_view records.now).ends (end_view end.now)
         ∷ []) result
         (S.told site.old) (S.told site.new) }
     ensures cause { OutsideCause (S.fault_count site.old) (S.fault_count site.new) result }
 {
-    let line = stream_line(alloc, end, split_to(records, end))?;
+    let line = stream_line(alloc, end, split_to(records, end, in_order, next))?;
     print_line(alloc, site, who, line.as_bytes())
 }
 
-/// The offset up to which the records of the stream go; its start where there are none.
-fn split_to(records: &Book, end: &End) -> u64
+/// The offset up to which the records of the stream go; its start where there are none. Where the
+/// records' ends stand in order it is looked for as `recorded_end` does.
+fn split_to(records: &Book, end: &End, in_order: bool, next: &mut usize) -> u64
+    requires { IsTrue in_order → IsTrue (ends_rise (book_view records.now).ends) }
     ensures { result ≡ split_to (book_view records.now).ends (end_view end.now) }
 {
-    let split = records.archived_end(end.source.as_str(), end.kind.as_str(), end.name.as_str());
-    split.max(end.start)
+    split_end(records, end, in_order, next).max(end.start)
+}
+
+/// The offset up to which the records of the stream go, 0 where there are none.
+fn split_end(records: &Book, end: &End, in_order: bool, next: &mut usize) -> u64
+    requires { IsTrue in_order → IsTrue (ends_rise (book_view records.now).ends) }
+    ensures { result ≡ end_in 0 (book_view records.now).ends (end_view end.now).stream }
+{
+    if in_order {
+        return recorded_end(records.ends.as_slice(), end, next);
+    }
+    records.archived_end(end.source.as_str(), end.kind.as_str(), end.name.as_str())
 }
 
 /// The line of a stream whose records go up to this offset.

@@ -25,8 +25,8 @@ use std::alloc::Global;
 /// records go, at least its start. The archive's book is read first, so a stream may have more
 /// records by then than its line has archived bytes.
 ///
-/// It costs the reads of both books, a call a line, and the product of the numbers of streams in
-/// both; both books are held. A folder without a book has no stream. After a refusal in
+/// It costs the reads of both books, a call a line, and one pass over the streams of both; both
+/// books are held. A folder without a book has no stream. After a refusal in
 /// mid-stream the lines before it stay printed. `Gone` never comes.
 pub fn print_streams<S: Site>(
     alloc: Global,

@@ -1,4 +1,4 @@
-use Rattle.std.proofs.Common.{◌≡◌, ◌∙◌, ◌+◌, ℕ, refl, subst, arith}
+use Rattle.std.proofs.Common.{◌≡◌, ◌+◌, ℕ, subst, arith}
 use Rattle.chk_site.specs.History.{Every}
 use Rattle.chk_site.proofs.Runs.{adds_then, every_join}
 use Rattle.chk_world.specs.JobSteps.{IsOf}

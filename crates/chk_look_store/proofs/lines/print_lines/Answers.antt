@@ -13,6 +13,6 @@ returns-clause-told g c =
     subst (λ (lines : List (List ℕ)). PrintsInTurn c.args.who.now lines c.print_ends.result
     (g.S.Site.told c.args.site.now) (g.S.Site.told c.print_ends.new.site))
     (ap (λ (ends : List End). map {A = End} {B = List ℕ} (λ e. line_in records (end_view e))
-    ends) c.as_slice.ensures
+    ends) c.as_slice-2.ensures
     ∙ same_lines records c.args.archive.now.ends)
     c.print_ends.ensures.told
