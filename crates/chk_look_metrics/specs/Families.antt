@@ -1,6 +1,7 @@
 -- The families of metrics, and the text of all of them.
 use Rattle.std.specs.Prelude.{ℕ, List, [], ◌∷◌, ◌++◌, codes, flat_map, length, string_bytes}
 use Rattle.std.specs.Prelude.{Option, Some, None}
+use Rattle.std.specs.Borrow.{Bor}
 use Rattle.chk_bytes.specs.Stems.{stem_text}
 use Rattle.chk_book.specs.declared.lists.End.{End as EndStruct}
 use Rattle.chk_book.specs.Books.{book_view}
@@ -14,6 +15,7 @@ use Rattle.chk_look_metrics.specs.Metrics.{sink_row, store_row, stream_row}
 
 -- the name of a family's metric
 abbrev pub name_of : Family → List ℕ
+name_of family.Found = codes "chukwa_store_found"
 name_of family.Archived = codes "chukwa_archived_bytes"
 name_of family.Demuxed = codes "chukwa_demuxed_bytes"
 name_of family.Written = codes "chukwa_sink_written_bytes"
@@ -25,6 +27,7 @@ name_of family.Held = codes "chukwa_chunks_held"
 
 -- what it is
 abbrev pub help_of : Family → List ℕ
+help_of family.Found = codes "1 where the folder is a store, 0 where it is none."
 help_of family.Archived = codes "Offset up to which the stream is archived."
 help_of family.Demuxed = codes "Offset up to which the stream is split into records."
 help_of family.Written = codes "Length of a sink under writing."
@@ -70,6 +73,7 @@ quiet_row s o = quiet_of (string_bytes s.folder) (stem_text o.stem) o.quiet
 
 -- the rows that a family has of a store
 abbrev pub rows_of : Family → NamedStore → List ℕ
+rows_of family.Found s = store_row (name_of family.Found) (string_bytes s.folder) 1
 rows_of family.Archived s = flat_map (archived_row s) s.seen.waiting.book.ends
 rows_of family.Demuxed s = flat_map (demuxed_row s) s.seen.waiting.book.ends
 rows_of family.Written s = flat_map (written_row s) s.seen.sinks.unclosed.items
@@ -86,6 +90,14 @@ rows_of family.Held s =
 abbrev pub family_text : List NamedStore → Family → List ℕ
 family_text stores f = head_of f ++ flat_map (rows_of f) stores
 
+-- which folders are stores: the row of one that is none, and all of them
+abbrev pub absent_row : List ℕ → List ℕ
+absent_row folder = store_row (name_of family.Found) folder 0
+
+abbrev pub found_text : List NamedStore → List (Bor (List ℕ)) → List ℕ
+found_text stores absent =
+    family_text stores family.Found ++ flat_map (λ w. absent_row w.now) absent
+
 -- those of streams, of the bytes of sinks, of sinks under writing, and of what waits
 abbrev pub stream_families : List Family
 stream_families = family.Archived ∷ family.Demuxed ∷ []
@@ -100,8 +112,9 @@ abbrev pub waiting_families : List Family
 waiting_families = family.Closed ∷ family.Held ∷ []
 
 -- all of them, and the mark of the end
-abbrev pub metrics_text : List NamedStore → List ℕ
-metrics_text stores =
-    flat_map (family_text stores) stream_families ++ (flat_map (family_text stores) sink_families
+abbrev pub metrics_text : List NamedStore → List (Bor (List ℕ)) → List ℕ
+metrics_text stores absent =
+    found_text stores absent ++ (flat_map (family_text stores) stream_families
+    ++ (flat_map (family_text stores) sink_families
     ++ (flat_map (family_text stores) open_families
-    ++ (flat_map (family_text stores) waiting_families ++ codes "# EOF\n")))
+    ++ (flat_map (family_text stores) waiting_families ++ codes "# EOF\n"))))

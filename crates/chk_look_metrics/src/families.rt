@@ -4,8 +4,8 @@ ghost use Rattle.std.specs.Prelude.{◌≡◌, ◌++◌, ◌≤◌, flat_map, st
 ghost use Rattle.chk_book.specs.Books.{book_view};
 ghost use Rattle.chk_book.specs.Views.{end_view};
 ghost use Rattle.chk_look_rows.specs.Lines.{split_to};
-ghost use Rattle.chk_look_metrics.specs.Families.{archived_row, committed_row, demuxed_row};
-ghost use Rattle.chk_look_metrics.specs.Families.{family_text, head_of, help_of, metrics_text, name_of};
+ghost use Rattle.chk_look_metrics.specs.Families.{absent_row, archived_row, committed_row, demuxed_row};
+ghost use Rattle.chk_look_metrics.specs.Families.{family_text, found_text, head_of, help_of, metrics_text, name_of};
 ghost use Rattle.chk_look_metrics.specs.Families.{open_families, quiet_of, quiet_row, rows_of, sink_families, stream_families, type_of, waiting_families, written_row};
 ghost use Rattle.chk_look_metrics.specs.Metrics.{store_row};
 ghost use Rattle.chk_bytes.specs.Stems.{stem_text};
@@ -27,6 +27,7 @@ pub struct NamedStore {
 /// What the rows of a family tell.
 #[derive(Clone, Copy, Debug, PartialEq, Eq)]
 pub(crate) enum Family {
+    Found,
     Archived,
     Demuxed,
     Written,
@@ -43,6 +44,7 @@ impl Family {
         ensures { result.now ≡ name_of self }
     {
         match self {
+            Family::Found => "chukwa_store_found",
             Family::Archived => "chukwa_archived_bytes",
             Family::Demuxed => "chukwa_demuxed_bytes",
             Family::Written => "chukwa_sink_written_bytes",
@@ -59,6 +61,7 @@ impl Family {
         ensures { result.now ≡ help_of self }
     {
         match self {
+            Family::Found => "1 where the folder is a store, 0 where it is none.",
             Family::Archived => "Offset up to which the stream is archived.",
             Family::Demuxed => "Offset up to which the stream is split into records.",
             Family::Written => "Length of a sink under writing.",
@@ -71,20 +74,38 @@ impl Family {
     }
 }
 
-/// The state of the stores as OpenMetrics has it (version 1.0.0): eight families of gauges, each with
+/// The state of the stores as OpenMetrics has it (version 1.0.0): nine families of gauges, each with
 /// its rows of all stores, and the mark of the end. Labels are the store's folder, and the stream's
 /// source, type and name or the sink's stem. Of a sink it isn't told how long it is quiet where that
-/// isn't known. It holds the whole text.
-pub fn metrics_of(alloc: Global, stores: &[NamedStore]) -> Result<Bytes, NoMemory>
-    ensures { IfOk result (λ text. text ≡ metrics_text stores.now) }
+/// isn't known. Of a folder that is no store it has that one row. It holds the whole text.
+pub fn metrics_of(alloc: Global, stores: &[NamedStore], absent: &[&str]) -> Result<Bytes, NoMemory>
+    ensures { IfOk result (λ text. text ≡ metrics_text stores.now absent.now) }
 {
     let mut out = Bytes::new(alloc);
+    put_found(&mut out, stores, absent)?;
     put_stream_families(&mut out, stores)?;
     put_sink_families(&mut out, stores)?;
     put_open_families(&mut out, stores)?;
     put_waiting_families(&mut out, stores)?;
     out.push_all(b"# EOF\n")?;
     Ok(out)
+}
+
+/// Appends which of the folders are stores.
+fn put_found(out: &mut Bytes, stores: &[NamedStore], absent: &[&str]) -> Result<(), NoMemory>
+    ensures { OnOk result (out.new ≡ out.old ++ found_text stores.now absent.now) }
+{
+    put_family(out, Family::Found, stores)?;
+    put_absent(out, absent)
+}
+
+fn put_absent(out: &mut Bytes, absent: &[&str]) -> Result<(), NoMemory>
+    ensures { OnOk result (out.new ≡ out.old ++ flat_map (λ w. absent_row w.now) absent.now) }
+{
+    for folder in absent {
+        put_store_row(out, Family::Found.name(), folder, 0)?;
+    }
+    Ok(())
 }
 
 fn put_stream_families(out: &mut Bytes, stores: &[NamedStore]) -> Result<(), NoMemory>
@@ -149,6 +170,7 @@ fn put_rows(out: &mut Bytes, family: Family, store: &NamedStore) -> Result<(), N
     ensures { OnOk result (out.new ≡ out.old ++ rows_of family store.now) }
 {
     match family {
+        Family::Found => put_count(out, family, store, 1),
         Family::Archived => put_archived(out, store),
         Family::Demuxed => put_demuxed(out, store),
         Family::Written => put_written(out, store),

@@ -4,5 +4,7 @@
 mod escaping;
 mod families;
 mod rows;
+mod telling;
 
 pub use families::{NamedStore, metrics_of};
+pub use telling::tell_metrics;

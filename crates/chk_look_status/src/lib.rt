@@ -1,8 +1,17 @@
-//! The state of a store: how far its streams are archived and split, and what waits.
+//! The state of stores and agents: how far streams are committed, archived and split, and what
+//! waits.
 #![tactic(auto)]
 
+mod absent;
+mod doors;
+mod lags;
+mod locks;
 mod store;
 mod telling;
 
+pub use absent::{tell_absent, tell_absent_line};
+pub use doors::{Door, ask_list, door_of, tell_door, tell_door_line};
+pub use lags::{tell_agents, tell_agents_line};
+pub use locks::{Holder, Lock, holder_in, tell_locks, tell_locks_line};
 pub use store::{QUIET_SECONDS, StoreSeen, find_store};
-pub use telling::{tell_line, tell_store};
+pub use telling::{say_bytes, tell_line, tell_store};

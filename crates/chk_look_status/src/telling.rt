@@ -62,11 +62,29 @@ pub fn tell_line<S: Site>(
     }
 }
 
-fn say_text<S: Site>(alloc: Global, site: &mut S, who: &Who, text: &str) -> Result<(), OutsideFault>
+pub(crate) fn say_text<S: Site>(
+    alloc: Global,
+    site: &mut S,
+    who: &Who,
+    text: &str,
+) -> Result<(), OutsideFault>
     ensures told { Tells who.now text.now result (S.told site.old) (S.told site.new) }
     ensures cause { OutsideCause (S.fault_count site.old) (S.fault_count site.new) result }
 {
-    let given = site.say(alloc, who, text.as_bytes());
+    say_bytes(alloc, site, who, text.as_bytes())
+}
+
+/// Prints a text in one piece. It costs one call.
+pub fn say_bytes<S: Site>(
+    alloc: Global,
+    site: &mut S,
+    who: &Who,
+    text: &[u8],
+) -> Result<(), OutsideFault>
+    ensures told { Tells who.now text.now result (S.told site.old) (S.told site.new) }
+    ensures cause { OutsideCause (S.fault_count site.old) (S.fault_count site.new) result }
+{
+    let given = site.say(alloc, who, text);
     reached(Call::Say, given)
 }
 

@@ -1,0 +1,5 @@
+pub mod Own
+pub mod Causes
+pub mod Turns
+pub mod Parts
+pub mod Finds
