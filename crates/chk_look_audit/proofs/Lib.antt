@@ -1,3 +1,3 @@
 mod LineWords
-mod Owned
+pub mod Owned
 mod Steps

@@ -24,6 +24,7 @@ use Rattle.chk_look_passed.specs.Passing.{check_name}
 use Rattle.chk_look_log.specs.declared.summing.LogSum.{LogSum}
 use Rattle.chk_look_log.specs.Placing.{ReadsLogOf}
 use Rattle.chk_look_sum.specs.declared.rests.Rest.{Rest}
+use Rattle.chk_look_audit.specs.declared.audits.Compared.{Compared}
 use Rattle.chk_look_audit.specs.Audits.{again, Audited, AuditedAgain, AuditedAs}
 use Rattle.chk_look_audit.specs.Audits.{AuditedBy, AuditedOf, AuditsBy, LooksAtAudit}
 use Rattle.chk_look_audit.specs.Audits.{once, reads_file, reads_log, says}
@@ -171,32 +172,32 @@ audits_own result rests digests same (audited {r = r} {rests = rs} {digest = dig
     join_own (stream_own r digest (Ok one) x) (audits_own result rs ds _ others)
 
 compared_own : (rests : List Rest) (given : Result (List (List ℕ)) JobFault)
-    (result : Result Bool JobFault) {old new : Option History}
+    (result : Result Compared JobFault) {old new : Option History}
     → AuditedBy rests given result old new → Own old new
 compared_own rests (Ok digests) result x = audits_own x.0 rests digests _ x.1
 compared_own rests (Err fault) result x = same_own x.0
 
 of_own : (folder : List ℕ) (b : Book) (rests : List Rest) (given : Result (Unit {0}) JobFault)
-    (result : Result Bool JobFault) {old new : Option History}
+    (result : Result Compared JobFault) {old new : Option History}
     → AuditedOf folder b rests given result old new → Own old new
 of_own folder b rests (Ok value) result x =
     join_own (files_own x.own) (compared_own rests x.given result x.compared)
 of_own folder b rests (Err fault) result x = same_own x.0
 
-as_own : (folder : List ℕ) (given : Result Book JobFault) (result : Result Bool JobFault)
+as_own : (folder : List ℕ) (given : Result Book JobFault) (result : Result Compared JobFault)
     {old new : Option History} → AuditedAs folder given result old new → Own old new
 as_own folder (Ok b) result x =
     join_own (each_own x.given x.rests x.ends [] x.found)
     (of_own folder b x.rests x.given result x.audited)
 as_own folder (Err fault) result x = same_own x.0
 
-audited_own : (folder : List ℕ) (result : Result Bool JobFault) {old new : Option History}
+audited_own : (folder : List ℕ) (result : Result Compared JobFault) {old new : Option History}
     → Audited folder result old new → Own old new
 audited_own folder result x =
     join_own (files_own x.own) (as_own folder x.given result x.audited)
 
 -- all that an audit adds
-pub again_own : (folder : List ℕ) (result : Result Bool JobFault) {old new : Option History}
+pub again_own : (folder : List ℕ) (result : Result Compared JobFault) {old new : Option History}
     → AuditedAgain folder result old new → Own old new
 again_own folder result (once has x) = audited_own folder result x
 again_own folder result (again {given = given} has x y) =

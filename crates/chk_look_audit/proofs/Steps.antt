@@ -23,6 +23,7 @@ use Rattle.chk_checkpoint.specs.declared.CheckLine.{CheckLine}
 use Rattle.chk_checkpoint.specs.Lines.{shown}
 use Rattle.chk_book.specs.Views.{end_view}
 use Rattle.chk_look_sum.specs.declared.rests.Rest.{Rest}
+use Rattle.chk_look_audit.specs.declared.audits.Compared.{Compared}
 use Rattle.chk_look_audit.specs.Audits.{HasDamage}
 use Rattle.chk_look_audit.specs.Finding.{AreOfOne, FindsLine, FindsLines, FindsOne, found_at}
 use Rattle.chk_look_audit.specs.Finding.{goes_on, HasMore, IsFrom, line_for, no_room, source_of}
@@ -75,9 +76,9 @@ result_cause (Ok value) before now x = x
 result_cause {T = T} (Err f) before now x = call_cause T T f before now x
 
 -- damage isn't counted as a call that failed
-pub damage_same : (given : Result Bool JobFault) (before now : ℕ) → HasDamage true given
+pub damage_same : (given : Result Compared JobFault) (before now : ℕ) → HasDamage true given
     → JobCause before now given → now ≡ before
-damage_same (Ok same) before now has cause = absurd has
+damage_same (Ok value) before now has cause = absurd has
 damage_same (Err (fault.Outside call)) before now has cause = absurd has
 damage_same (Err (fault.Damaged name at)) before now has cause = cause
 damage_same (Err (fault.Spent number)) before now has cause = absurd has

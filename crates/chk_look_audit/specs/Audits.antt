@@ -1,5 +1,5 @@
 -- What an audit of a store finds.
-use Rattle.std.specs.Prelude.{◌≡◌, ◌⊎◌, ℕ, Bool, true, false, List, [], length, map}
+use Rattle.std.specs.Prelude.{◌≡◌, ◌⊎◌, ℕ, Bool, true, false, List, [], ◌∷◌, length, map}
 use Rattle.std.specs.Prelude.{Option, Result, Ok, Err}
 use Rattle.chk_site.specs.declared.acts.OutsideFault.{OutsideFault}
 use Rattle.chk_site.specs.declared.acts.Role.TheVariants.{Job}
@@ -12,7 +12,7 @@ use Rattle.chk_world.specs.Books.{Book}
 use Rattle.chk_world.specs.JobSteps.{IsOf, ReadsFile}
 use Rattle.chk_heads.specs.declared.fault.JobFault.{JobFault}
 use Rattle.chk_heads.specs.declared.fault.JobFault.TheVariants.{Damaged}
-use Rattle.chk_heads.specs.Faults.{job_result}
+use Rattle.chk_heads.specs.Faults.{job_fault}
 use Rattle.chk_book.specs.declared.lists.End.{End}
 use Rattle.chk_book.specs.Loaded.{ShowsBook}
 use Rattle.chk_book.specs.Views.{end_view}
@@ -20,6 +20,8 @@ use Rattle.chk_look_passed.specs.Passing.{check_name}
 use Rattle.chk_look_log.specs.Placing.{ReadsLogOf}
 use Rattle.chk_look_sum.specs.declared.rests.Rest.{Rest}
 use Rattle.chk_look_sum.specs.Sums.{SummedRests}
+use Rattle.chk_look_audit.specs.declared.audits.Compared.{Compared}
+use Rattle.chk_look_audit.specs.declared.audits.Compared.TheVariants.{Nothing, Same, Differs}
 use Rattle.chk_look_audit.specs.Finding.{FindsEach}
 use Rattle.chk_look_audit.specs.Streams.{Audits}
 
@@ -35,18 +37,28 @@ LooksAtAudit before step =
     IsOf AuditsBy before step
     ⊎ ((agent : Who) × (agent.role ≡ Job) × IsLook agent (check_name agent) before step)
 
+-- what all of these streams come to
+abbrev pub compared_of : List Rest → Bool → Compared
+compared_of [] same = Nothing
+compared_of (r ∷ rests) true = Same
+compared_of (r ∷ rests) false = Differs
+
+abbrev pub compared_by : List Rest → Result Bool OutsideFault → Result Compared JobFault
+compared_by rests (Ok same) = Ok (compared_of rests same)
+compared_by rests (Err fault) = Err (job_fault fault)
+
 -- what follows the digests of the archive
-abbrev pub AuditedBy : List Rest → Result (List (List ℕ)) JobFault → Result Bool JobFault
+abbrev pub AuditedBy : List Rest → Result (List (List ℕ)) JobFault → Result Compared JobFault
     → Option History → Option History → Type 0
 AuditedBy rests (Ok digests) result before after =
     (given : Result Bool OutsideFault) × Audits given rests digests true before after
-    × (result ≡ job_result given) × (length digests ≡ length rests)
+    × (result ≡ compared_by rests given) × (length digests ≡ length rests)
 AuditedBy rests (Err fault) result before after = (after ≡ before) × (result ≡ Err fault)
 
 -- the archive's bytes of these streams are summed from where their logs begin on, and then each is
 -- compared with its log
 pub record AuditedRests (folder : List ℕ) (b : Book) (rests : List Rest)
-    (result : Result Bool JobFault) (before after : Option History) : Type 0 where
+    (result : Result Compared JobFault) (before after : Option History) : Type 0 where
   pub given : Result (List (List ℕ)) JobFault
   pub middle : Option History
   pub summed : SummedRests folder b rests given before middle
@@ -55,14 +67,14 @@ pub record AuditedRests (folder : List ℕ) (b : Book) (rests : List Rest)
 
 -- what follows the look at the agents
 abbrev pub AuditedOf : List ℕ → Book → List Rest → Result (Unit {0}) JobFault
-    → Result Bool JobFault → Option History → Option History → Type 0
+    → Result Compared JobFault → Option History → Option History → Type 0
 AuditedOf folder b rests (Ok value) result before after =
     AuditedRests folder b rests result before after
 AuditedOf folder b rests (Err fault) result before after =
     (after ≡ before) × (result ≡ Err fault)
 
 -- the book's streams are looked for at the agents, and then those that were found are audited
-pub record AuditedBook (folder : List ℕ) (b : Book) (result : Result Bool JobFault)
+pub record AuditedBook (folder : List ℕ) (b : Book) (result : Result Compared JobFault)
     (before after : Option History) : Type 0 where
   pub ends : List End
   pub are : map end_view ends ≡ b.ends
@@ -73,13 +85,13 @@ pub record AuditedBook (folder : List ℕ) (b : Book) (result : Result Bool JobF
   pub audited : AuditedOf folder b rests given result middle after
 
 -- what follows the read of the book
-abbrev pub AuditedAs : List ℕ → Result Book JobFault → Result Bool JobFault → Option History
+abbrev pub AuditedAs : List ℕ → Result Book JobFault → Result Compared JobFault → Option History
     → Option History → Type 0
 AuditedAs folder (Ok b) result before after = AuditedBook folder b result before after
 AuditedAs folder (Err fault) result before after = (after ≡ before) × (result ≡ Err fault)
 
 -- own reads show the folder's book, and then its streams are audited; or they show why there is none
-pub record Audited (folder : List ℕ) (result : Result Bool JobFault)
+pub record Audited (folder : List ℕ) (result : Result Compared JobFault)
     (before after : Option History) : Type 0 where
   pub given : Result Book JobFault
   pub middle : Option History
@@ -88,17 +100,17 @@ pub record Audited (folder : List ℕ) (result : Result Bool JobFault)
   pub audited : AuditedAs folder given result middle after
 
 -- whether damage was found
-abbrev pub HasDamage : Bool → Result Bool JobFault → Type 0
+abbrev pub HasDamage : Bool → Result Compared JobFault → Type 0
 HasDamage true (Err (Damaged name at)) = Unit {0}
 HasDamage true result = ⊥
 HasDamage false (Err (Damaged name at)) = ⊥
 HasDamage false result = Unit {0}
 
 -- one look; or a second one, where the first one found damage
-pub data AuditedAgain (folder : List ℕ) (result : Result Bool JobFault) : Option History
+pub data AuditedAgain (folder : List ℕ) (result : Result Compared JobFault) : Option History
     → Option History → Type 0 where
   once : {old new : Option History} → HasDamage false result → Audited folder result old new
       → AuditedAgain folder result old new
-  again : {given : Result Bool JobFault} {old mid new : Option History} → HasDamage true given
+  again : {given : Result Compared JobFault} {old mid new : Option History} → HasDamage true given
       → Audited folder given old mid → Audited folder result mid new
       → AuditedAgain folder result old new

@@ -8,7 +8,7 @@ ghost use Rattle.chk_heads.specs.Faults.{IsOfRead, JobCause};
 ghost use Rattle.chk_book.specs.Books.{book_view};
 ghost use Rattle.chk_book.specs.Folders.{is_folder};
 ghost use Rattle.chk_look_audit.specs.Audits.{Audited, AuditedAgain, AuditedBook, AuditedBy};
-ghost use Rattle.chk_look_audit.specs.Audits.{AuditedRests, HasDamage, LooksAtAudit};
+ghost use Rattle.chk_look_audit.specs.Audits.{compared_of, AuditedRests, HasDamage, LooksAtAudit};
 
 use crate::agents::find_rests;
 use crate::streams::audit_each;
@@ -18,9 +18,20 @@ use chk_look_sum::{Digests, Rest, sum_rests};
 use chk_site::{Site, Who};
 use std::alloc::Global;
 
+/// What an audit comes to.
+#[derive(Clone, Copy, Debug, PartialEq, Eq)]
+pub enum Compared {
+    /// No stream of the book is in a checkpoint of these agents.
+    Nothing,
+    /// The log of each that is has all that its archive has, to the byte.
+    Same,
+    /// A log has other bytes, or doesn't have all of them, or no more.
+    Differs,
+}
+
 /// Compares the archive of each stream that the folder's book names, and that the checkpoint of an
-/// agent in the folder `agents` has, with its log, and prints a line for each. Says whether all are
-/// the same.
+/// agent in the folder `agents` has, with its log, and prints a line for each. Says what
+/// they come to.
 ///
 /// Where the log begins that is there follows from the checkpoint's line and the sizes of the
 /// generations up to its place. From there on, or from the stream's start, the SHA-256 of the
@@ -38,7 +49,7 @@ pub fn audit<S: Site>(
     site: &mut S,
     who: &Who,
     folder: &str,
-) -> Result<bool, JobFault>
+) -> Result<Compared, JobFault>
     requires job { who.now ≡ job }
     requires folder { IsTrue (is_folder folder.now) }
     ensures told { AuditedAgain folder.now result (S.told site.old) (S.told site.new) }
@@ -54,7 +65,7 @@ pub fn audit<S: Site>(
 }
 
 /// Damage was found.
-fn is_damaged(given: &Result<bool, JobFault>) -> bool
+fn is_damaged(given: &Result<Compared, JobFault>) -> bool
     ensures { HasDamage result given.now }
 {
     matches!(given, Err(JobFault::Damaged { .. }))
@@ -66,7 +77,7 @@ fn audit_folder<S: Site>(
     site: &mut S,
     who: &Who,
     folder: &str,
-) -> Result<bool, JobFault>
+) -> Result<Compared, JobFault>
     requires job { who.now ≡ job }
     requires folder { IsTrue (is_folder folder.now) }
     ensures told { Audited folder.now result (S.told site.old) (S.told site.new) }
@@ -86,7 +97,7 @@ fn audit_book<S: Site>(
     who: &Who,
     folder: &str,
     book: &Book,
-) -> Result<bool, JobFault>
+) -> Result<Compared, JobFault>
     requires job { who.now ≡ job }
     ensures told { AuditedBook folder.now (book_view book.now) result (S.told site.old)
         (S.told site.new) }
@@ -107,7 +118,7 @@ fn audit_rests<S: Site>(
     folder: &str,
     book: &Book,
     rests: &[Rest<'_>],
-) -> Result<bool, JobFault>
+) -> Result<Compared, JobFault>
     requires job { who.now ≡ job }
     ensures told { AuditedRests folder.now (book_view book.now) rests.now result
         (S.told site.old) (S.told site.new) }
@@ -127,7 +138,7 @@ fn compare<S: Site>(
     who: &Who,
     rests: &[Rest<'_>],
     digests: &Digests,
-) -> Result<bool, JobFault>
+) -> Result<Compared, JobFault>
     requires job { who.now ≡ job }
     requires count { length digests.now ≡ length rests.now }
     ensures told { AuditedBy rests.now (Ok digests.now) result (S.told site.old)
@@ -136,7 +147,18 @@ fn compare<S: Site>(
     ensures cause { JobCause (S.fault_count site.old) (S.fault_count site.new) result }
 {
     match audit_each(alloc, site, who, rests, digests.as_slice()) {
-        Ok(same) => Ok(same),
+        Ok(same) => Ok(compared_of(rests, same)),
         Err(fault) => Err(JobFault::from(fault)),
+    }
+}
+
+/// What all of these streams come to.
+fn compared_of(rests: &[Rest<'_>], same: bool) -> Compared
+    ensures { result ≡ compared_of rests.now same }
+{
+    match rests {
+        [] => Compared::Nothing,
+        [_, ..] if same => Compared::Same,
+        _ => Compared::Differs,
     }
 }

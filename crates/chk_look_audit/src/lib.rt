@@ -6,4 +6,4 @@ mod audits;
 mod lines;
 mod streams;
 
-pub use audits::audit;
+pub use audits::{Compared, audit};

@@ -1,4 +1,4 @@
-mod Gave
+pub mod Gave
 mod Loop
-mod Owned
+pub mod Owned
 mod Placed

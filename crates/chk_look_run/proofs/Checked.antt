@@ -11,7 +11,7 @@ use Rattle.chk_site.specs.declared.acts.OutsideFault.TheVariants as site
 use Rattle.chk_look_check.specs.declared.checking.Checked.{Checked}
 use Rattle.chk_look_check.specs.declared.checking.Checked.TheVariants as check
 use Rattle.chk_look_check.specs.Checking.{CheckCause}
-use Rattle.chk_look_words.specs.Commands.{Asked, Cat, Check, Streams, Verify, Sum, Held, HeldIn}
+use Rattle.chk_look_words.specs.Commands.{Asked, Audit, Cat, Check, Streams, Verify, Sum, Held, HeldIn}
 use Rattle.chk_look_words.specs.Commands.{Help}
 use Rattle.chk_look_words.specs.Commands.{Passed, Version}
 use Rattle.chk_look_words.specs.Names.{are_collectors}
@@ -39,6 +39,7 @@ checked_cause (Err site.NoMemory) before now cause = cause
 
 -- where there was no memory no call failed
 pub no_cause : (command : Asked) (n : ℕ) → CauseOfAsked command n n NoMemory
+no_cause (Audit w) n = refl
 no_cause (Cat w) n = refl
 no_cause (Check w) n = omega arith
 no_cause (Streams store) n = refl

@@ -4,3 +4,4 @@ pub mod Found
 mod Held
 mod Passed
 mod Checked
+mod Audited

@@ -25,8 +25,8 @@ use Rattle.chk_look.specs.declared.stream.Came.TheVariants as came
 use Rattle.chk_look.specs.Faults.{LookCause}
 use Rattle.chk_look_words.specs.Usages.{usage_text}
 use Rattle.chk_look_words.specs.declared.usage.Usage.{Usage}
-use Rattle.chk_look_words.specs.declared.usage.Usage.TheVariants.{Commands, Cat, Check, Status}
-use Rattle.chk_look_words.specs.declared.usage.Usage.TheVariants.{Verify, Sum, Held}
+use Rattle.chk_look_words.specs.declared.usage.Usage.TheVariants.{Commands, Audit, Cat, Check}
+use Rattle.chk_look_words.specs.declared.usage.Usage.TheVariants.{Status, Verify, Sum, Held}
 use Rattle.chk_look_words.specs.declared.usage.Usage.TheVariants.{Passed, Streams}
 use Rattle.chk_look_run.specs.Outcomes.{listed_as, outcome_of_fault, outcome_of_job, shown_as}
 use Rattle.chk_look_run.specs.Outcomes.{told_as, OutcomeCause}
@@ -44,6 +44,7 @@ told_by {who = who} {text = text} {given = given} {old = old} {new = new} is sam
 -- the lines of usages and of the version are single lines
 pub usage_one : (usage : Usage) → IsTrue (is_one_line (usage_text usage))
 usage_one Commands = refl
+usage_one Audit = refl
 usage_one Cat = refl
 usage_one Check = refl
 usage_one Status = refl

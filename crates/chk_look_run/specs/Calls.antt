@@ -2,19 +2,21 @@
 use Rattle.std.specs.Prelude.{ℕ, Option, Some, None}
 use Rattle.chk_site.specs.History.{History, Step}
 use Rattle.chk_world.specs.JobSteps.{IsOf}
+use Rattle.chk_look_audit.specs.Audits.{LooksAtAudit}
 use Rattle.chk_look_check.specs.Checking.{ChecksBy}
 use Rattle.chk_look_files.specs.Calls.{Looks}
 use Rattle.chk_look_passed.specs.Agents.{LooksAtAgents}
 use Rattle.chk_look_store.specs.Following.{LooksAgain}
-use Rattle.chk_look_words.specs.Commands.{Asked, Check, Passed, Verify}
+use Rattle.chk_look_words.specs.Commands.{Asked, Audit, Check, Passed, Verify}
 use Rattle.chk_look_run.specs.declared.outcome.Outcome.{Outcome}
 use Rattle.chk_look_run.specs.Checking.{CheckedCause}
 use Rattle.chk_look_run.specs.Outcomes.{OutcomeCause}
 
 -- the step is one of others, or a call of the command: `check` makes those of checks, `passed`
--- reads checkpoints by the names of their agents, `verify` does so too and lists folders, and all
--- else is a look
+-- reads checkpoints by the names of their agents, `verify` does so too and lists folders, `audit`
+-- reads them and logs, and all else is a look
 abbrev pub IsOfAsked : Asked → History → Step → Type 0
+IsOfAsked (Audit w) before step = LooksAtAudit before step
 IsOfAsked (Check w) before step = IsOf ChecksBy before step
 IsOfAsked (Passed w) before step = LooksAtAgents w.log before step
 IsOfAsked (Verify store) before step = Looks before step

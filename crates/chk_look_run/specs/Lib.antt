@@ -7,5 +7,6 @@ pub mod Passing
 pub mod Checking
 pub mod Calls
 pub mod Verifying
-pub mod Runs
 pub mod Several
+pub mod Auditing
+pub mod Runs

@@ -14,7 +14,7 @@ use Rattle.chk_look_run.specs.declared.outcome.Outcome.{Outcome}
 use Rattle.chk_look_run.specs.declared.outcome.Outcome.TheVariants.{Done, NoArchive, NoBook, Unknown}
 use Rattle.chk_look_run.specs.declared.outcome.Outcome.TheVariants.{Short, Damaged, Usage, Outside}
 use Rattle.chk_look_run.specs.declared.outcome.Outcome.TheVariants.{Behind, Gone, NoMemory, Waits}
-use Rattle.chk_look_run.specs.declared.outcome.Outcome.TheVariants.{Found, NoFile, Unsound}
+use Rattle.chk_look_run.specs.declared.outcome.Outcome.TheVariants.{Differs, Found, NoFile, Unsound}
 
 abbrev pub outcome_status : Outcome → ℕ
 outcome_status Done = 0
@@ -26,6 +26,7 @@ outcome_status (Damaged name at) = 1
 outcome_status Unsound = 1
 outcome_status Waits = 1
 outcome_status Behind = 1
+outcome_status Differs = 1
 outcome_status Found = 1
 outcome_status (Usage usage) = 2
 outcome_status (Outside call) = 3

@@ -11,12 +11,13 @@ use Rattle.chk_look_store.specs.Listing.{Listed}
 use Rattle.chk_look_store.specs.Going.{GoesOn}
 use Rattle.chk_look_store.specs.Following.{Follows}
 use Rattle.chk_look_words.specs.Asked.{asked}
-use Rattle.chk_look_words.specs.Commands.{Asked, Cat, Check, Streams, Verify, Sum, Held, Help}
-use Rattle.chk_look_words.specs.Commands.{HeldIn, Passed, Version, CatAsked}
+use Rattle.chk_look_words.specs.Commands.{Asked, Audit, Cat, Check, Streams, Verify, Sum, Held}
+use Rattle.chk_look_words.specs.Commands.{Help, HeldIn, Passed, Version, CatAsked}
 use Rattle.chk_look_words.specs.Usages.{usage_of, usage_text}
 use Rattle.chk_look_run.specs.declared.outcome.Outcome.{Outcome}
 use Rattle.chk_look_run.specs.declared.outcome.Outcome.TheVariants.{Usage, NoMemory}
 use Rattle.chk_look_run.specs.Outcomes.{listed_as, shown_as}
+use Rattle.chk_look_run.specs.Auditing.{ShowsAudit}
 use Rattle.chk_look_run.specs.Checking.{ShowsChecked}
 use Rattle.chk_look_run.specs.Finding.{InStore}
 use Rattle.chk_look_run.specs.Summing.{ShowsSums}
@@ -72,6 +73,7 @@ version_line = codes "chukwactl 1.1.0\n"
 
 -- what is asked for is shown
 abbrev pub ShowsAsked : Asked → Outcome → Option History → Option History → Type 0
+ShowsAsked (Audit w) outcome before after = ShowsAudit w.store outcome before after
 ShowsAsked (Cat w) outcome before after = InStore (ShowsStream w) outcome before after
 ShowsAsked (Check w) outcome before after = ShowsChecked w outcome before after
 ShowsAsked (Streams store) outcome before after = InStore ShowsStreams outcome before after

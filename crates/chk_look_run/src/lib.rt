@@ -1,6 +1,7 @@
 //! The commands of `chukwactl`, over any outside.
 #![tactic(auto)]
 
+mod auditing;
 mod checking;
 mod finding;
 mod holding;

@@ -35,6 +35,8 @@ pub enum Outcome {
     Waits,
     /// A checkpoint hasn't passed the oldest generation of the log, or that changed meanwhile; 1.
     Behind,
+    /// A log hasn't all that the archive of its stream has, to the byte; 1.
+    Differs,
     /// A start would refuse or skip what was printed, or a collector doesn't answer; 1.
     Found,
     /// The words aren't a command; 2.
@@ -60,6 +62,7 @@ impl Outcome {
             Outcome::NoArchive | Outcome::NoBook { .. } => 1,
             Outcome::Unknown | Outcome::Short | Outcome::Damaged { .. } => 1,
             Outcome::Unsound | Outcome::Behind | Outcome::Waits | Outcome::Found => 1,
+            Outcome::Differs => 1,
             Outcome::Usage(_) => 2,
             Outcome::Outside { .. } | Outcome::Gone { .. } | Outcome::NoFile => 3,
             Outcome::NoMemory => 4,
@@ -87,6 +90,7 @@ impl Display for Outcome {
             Outcome::Unsound => write!(f, "files are damaged"),
             Outcome::Waits => write!(f, "chunks wait for bytes that aren't archived"),
             Outcome::Behind => write!(f, "the oldest generation isn't read to its end"),
+            Outcome::Differs => write!(f, "a log hasn't all that the archive has"),
             Outcome::Found => write!(f, "a start would refuse or skip some of it"),
             Outcome::Usage(usage) => write!(f, "{}", usage.text().trim_end()),
             Outcome::Outside { call } => write!(f, "outside {}", call.name()),

@@ -9,6 +9,7 @@ ghost use Rattle.chk_look_words.specs.Commands.{asked_of, IsGood};
 ghost use Rattle.chk_look_run.specs.Calls.{CauseOfAsked, CauseOfRun, IsOfAsked, IsOfRun};
 ghost use Rattle.chk_look_run.specs.Runs.{Ran, Shows};
 
+use crate::auditing::show_audit;
 use crate::checking::show_checked;
 use crate::holding::show_held;
 use crate::outcome::Outcome;
@@ -29,12 +30,19 @@ use std::alloc::Global;
 /// that do. The files are named from the folder
 /// STORE, which is the site's. A store without `archive/book` is none: `NoArchive`.
 ///
+/// `audit --agent DIR --store DIR` compares the archive of each stream that a checkpoint of the
+/// folder `agents` has with its log, from where that begins on, and prints `same <source> <type>
+/// <name> start <offset> end <offset> sha256 <digest>`, `PART` where the log has the first bytes
+/// no more, or `DIFFERS`. It is `Done` only where some are compared and all are `same`, `Unknown`
+/// where none is, and else `Differs`; a store without a book is `NoBook`. Here the site's folder
+/// is that of the agents, from which the store and relative paths of logs are named.
+///
 /// `cat [--begin N] [--follow] [--records] STORE SOURCE TYPE NAME` prints the archived bytes of a
 /// stream from the offset N on, as `archive/book` names them, or its records joined, as
 /// `demux/book` does; where the stream starts past N, from its start on. Where a job replaces a
 /// segment meanwhile, the new book is read, and the printing goes on at its offset. With
 /// `--follow` it looks again every 5,000 ms, also for a stream that the book doesn't have (yet);
-/// a look that finds more of it reads all segments again.
+/// a look that finds more reads the new segments, or all.
 ///
 /// `check --initial FILE COLLECTOR...` prints `line <number> <name>` for each thing for which a
 /// start of an agent or a drain would refuse or skip a line of FILE, or lose bytes of its log, and
@@ -114,6 +122,7 @@ fn show_asked<S: Site>(alloc: Global, site: &mut S, who: &Who, command: &Command
         (S.fault_count site.old) (S.fault_count site.new) result }
 {
     match command {
+        Command::Audit(words) => show_audit(alloc, site, who, words.store),
         Command::Cat(words) => show_stream(alloc, site, who, words),
         Command::Check(words) => show_checked(alloc, site, who, words),
         Command::Streams(_) => show_streams(alloc, site, who),

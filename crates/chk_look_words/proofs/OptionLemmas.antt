@@ -20,8 +20,8 @@ use Rattle.chk_look_words.specs.declared.commands.WordsFault.TheVariants.{Usage 
 use Rattle.chk_look_words.specs.declared.commands.WordsFault.TheVariants.{NoMemory}
 use Rattle.chk_look_words.specs.declared.options.Given.{Given}
 use Rattle.chk_look_words.specs.declared.usage.Usage.{Usage}
-use Rattle.chk_look_words.specs.declared.usage.Usage.TheVariants.{Commands, Cat, Check, Status}
-use Rattle.chk_look_words.specs.declared.usage.Usage.TheVariants.{Verify, Sum, Held}
+use Rattle.chk_look_words.specs.declared.usage.Usage.TheVariants.{Commands, Audit, Cat, Check}
+use Rattle.chk_look_words.specs.declared.usage.Usage.TheVariants.{Status, Verify, Sum, Held}
 use Rattle.chk_look_words.specs.declared.usage.Usage.TheVariants.{Passed, Streams}
 
 -- the command with these options that take a value
@@ -70,6 +70,7 @@ all_flags {X = X} f xs i old all past before =
 pub all_simple : (usage : Usage) → is_simple_and_free
     (app_with (option_names usage) (flag_names usage)) ≡ true
 all_simple Commands = refl
+all_simple Audit = refl
 all_simple Cat = refl
 all_simple Check = refl
 all_simple Status = refl

@@ -6,6 +6,7 @@ use Rattle.clap.specs.Walk.{first_of, Row}
 use Rattle.chk_look_words.specs.Names.{are_collectors, are_stores, is_store, number_in, most}
 use Rattle.chk_look_words.specs.Options.{parsed, plain_of, by_option, is_flagged}
 use Rattle.chk_look_words.specs.Usages.{usage_of, option_names, flag_names}
+use Rattle.chk_look_words.specs.Auditing.{asked_audit}
 use Rattle.chk_look_words.specs.Commands.{Asked, Cat, Check, Streams, Verify, Sum, Held, Help}
 use Rattle.chk_look_words.specs.Commands.{HeldIn, Passed, Version, asked_of}
 use Rattle.chk_look_words.specs.declared.commands.Command.{Command}
@@ -87,6 +88,7 @@ asked_held rows = option_and_then held_in (plain_of rows)
 -- the command that is named, by its own words
 abbrev pub asked_for : Usage → List Row → Option Asked
 asked_for usage.Commands rows = None
+asked_for usage.Audit rows = asked_audit rows
 asked_for usage.Cat rows = asked_cat rows
 asked_for usage.Check rows = asked_check rows
 asked_for usage.Status rows = None

@@ -1,7 +1,8 @@
 -- What words may ask for.
 use Rattle.std.specs.Prelude.{ℕ, ◌≤◌, Bool, List, map, IsTrue}
 use Rattle.chk_bytes.specs.Words.{is_word}
-use Rattle.chk_look_words.specs.Names.{are_collectors, are_stores, is_store, most}
+use Rattle.chk_look_words.specs.Names.{are_collectors, are_stores, is_path, is_store, most}
+use Rattle.chk_look_words.specs.declared.commands.AuditWords.{AuditWords}
 use Rattle.chk_look_words.specs.declared.commands.CatWords.{CatWords}
 use Rattle.chk_look_words.specs.declared.commands.CheckWords.{CheckWords}
 use Rattle.chk_look_words.specs.declared.commands.PassedWords.{PassedWords}
@@ -19,6 +20,11 @@ pub record CatAsked : Type 0 where
   pub kind : List ℕ
   pub name : List ℕ
 
+-- `audit`
+pub record AuditAsked : Type 0 where
+  pub agent : List ℕ
+  pub store : List ℕ
+
 -- `check`
 pub record CheckAsked : Type 0 where
   pub file : List ℕ
@@ -31,6 +37,7 @@ pub record PassedAsked : Type 0 where
 
 -- a command, or how it is used
 pub data Asked : Type 0 where
+  Audit : AuditAsked → Asked
   Cat : CatAsked → Asked
   Check : CheckAsked → Asked
   Streams : List ℕ → Asked
@@ -54,6 +61,9 @@ cat_of w = record {
   name = w.name.now;
 }
 
+abbrev pub audit_of : AuditWords → AuditAsked
+audit_of w = record { agent = w.agent.now; store = w.store.now }
+
 abbrev pub passed_of : PassedWords → PassedAsked
 passed_of w = record { agent = w.agent.now; log = w.log.now }
 
@@ -61,6 +71,7 @@ abbrev pub check_of : CheckWords → CheckAsked
 check_of w = record { file = w.file.now; collectors = map (λ a. a.now) w.collectors.items }
 
 abbrev pub asked_of : Command → Asked
+asked_of (words.Audit w) = Audit (audit_of w)
 asked_of (words.Cat w) = Cat (cat_of w)
 asked_of (words.Check w) = Check (check_of w)
 asked_of (words.Streams store) = Streams store.now
@@ -74,6 +85,7 @@ asked_of words.Version = Version
 
 -- what holds of the words of each
 abbrev pub IsGood : Asked → Type 0
+IsGood (Audit w) = IsTrue (is_store w.agent) × IsTrue (is_path w.store)
 IsGood (Cat w) =
     IsTrue (is_store w.store) × IsTrue (is_word w.source) × IsTrue (is_word w.kind)
     × IsTrue (is_word w.name) × (w.begin ≤ most)

@@ -3,5 +3,7 @@ pub mod Usages
 pub mod Options
 pub mod Given
 pub mod Commands
+pub mod Auditing
 pub mod Asked
+pub mod Controls
 pub mod Status

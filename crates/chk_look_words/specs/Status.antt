@@ -1,11 +1,12 @@
 -- What the words of `status` ask for.
-use Rattle.std.specs.Prelude.{◌≡◌, ℕ, Bool, ◌||◌, List, [], ◌∷◌, codes}
+use Rattle.std.specs.Prelude.{◌≡◌, ℕ, Bool, not, ◌&&◌, ◌||◌, List, [], ◌∷◌, codes}
 use Rattle.std.specs.Prelude.{if◌then◌else◌, is_some, option_and_then, Option, Some}
 use Rattle.std.specs.Prelude.{None, Result, Ok, Err}
 use Rattle.clap.specs.Walk.{Row, Rule, Text, all_of}
 use Rattle.clap.specs.Simple.{App, matches_of, new_rule}
 use Rattle.clap.specs.Faults.{fault_of}
 use Rattle.clap.specs.declared.builder.action.ArgAction.TheVariants.{Append, SetTrue}
+use Rattle.chk_look_words.specs.Controls.{are_controls}
 use Rattle.chk_look_words.specs.Given.{rows_in}
 use Rattle.chk_look_words.specs.Names.{number_in}
 use Rattle.chk_look_words.specs.Options.{by_option, faultless, flag_rule, is_flagged, option_rule}
@@ -13,14 +14,16 @@ use Rattle.chk_look_words.specs.Options.{with_rules}
 use Rattle.chk_look_words.specs.declared.commands.WordsFault.{WordsFault}
 use Rattle.chk_look_words.specs.declared.commands.WordsFault.TheVariants.{Usage, NoMemory}
 use Rattle.chk_look_words.specs.declared.status.Form.{Form}
-use Rattle.chk_look_words.specs.declared.status.Form.TheVariants.{Table, Line}
+use Rattle.chk_look_words.specs.declared.status.Form.TheVariants.{Table, Line, Metrics}
 use Rattle.chk_look_words.specs.declared.status.StatusWords.{StatusWords}
 
--- what is asked for: folders of stores, how their state is shown, and how many seconds there are
--- between two looks
+-- what is asked for: folders of agents and of stores, control doors, how their state is shown, and
+-- how many seconds there are between two looks
 pub record Status : Type 0 where
   pub help : Bool
+  pub agents : Option (List (List ℕ))
   pub stores : Option (List (List ℕ))
+  pub controls : Option (List (List ℕ))
   pub form : Form
   pub seconds : ℕ
 
@@ -32,26 +35,47 @@ list_rule name = record (new_rule name) { long = Some name; action = Some Append
 abbrev pub short_rule : Rule
 short_rule = record (new_rule (codes "q")) { short = Some 113; action = Some SetTrue }
 
+-- the options that may come again and again
+abbrev pub list_rules : List Rule
+list_rules = list_rule (codes "agent") ∷ list_rule (codes "store") ∷ list_rule (codes "control") ∷ []
+
 -- the options, and no other words
 abbrev pub status_app : App
-status_app = with_rules (list_rule (codes "store") ∷ option_rule (codes "watch") ∷ short_rule
-    ∷ flag_rule (codes "help") ∷ [])
+status_app = with_rules (list_rule (codes "agent") ∷ list_rule (codes "store")
+    ∷ list_rule (codes "control") ∷ option_rule (codes "watch") ∷ short_rule
+    ∷ flag_rule (codes "metrics") ∷ flag_rule (codes "help") ∷ [])
 
 -- what `clap` finds in the words, where it takes them
 abbrev pub status_rows : List Text → Option (List Row)
 status_rows words = faultless (fault_of status_app words) (matches_of status_app words)
 
 abbrev pub form_in : List Row → Form
-form_in rows = if is_flagged (codes "q") rows then Line else Table
+form_in rows =
+    if is_flagged (codes "q") rows then Line
+    else if is_flagged (codes "metrics") rows then Metrics else Table
 
--- help, or some folder
+-- something to look at is named
+abbrev pub is_named : List Row → Bool
+is_named rows =
+    is_some (all_of (codes "agent") rows) || is_some (all_of (codes "store") rows)
+    || is_some (all_of (codes "control") rows)
+
+-- there is one form, and each control door has a name and an address
+abbrev pub is_legal : List Row → Bool
+is_legal rows =
+    not (is_flagged (codes "q") rows && is_flagged (codes "metrics") rows)
+    && are_controls (all_of (codes "control") rows)
+
+-- help, or something to look at in one form
 abbrev pub is_asked : List Row → Bool
-is_asked rows = is_flagged (codes "help") rows || is_some (all_of (codes "store") rows)
+is_asked rows = is_flagged (codes "help") rows || is_named rows && is_legal rows
 
 abbrev pub status_in : List Row → ℕ → Status
 status_in rows seconds = record {
   help = is_flagged (codes "help") rows;
+  agents = all_of (codes "agent") rows;
   stores = all_of (codes "store") rows;
+  controls = all_of (codes "control") rows;
   form = form_in rows;
   seconds = seconds;
 }

@@ -7,6 +7,8 @@ use std::alloc::AllocError;
 /// What a look is asked for. The texts are borrowed from the words.
 #[derive(Debug, Drop)]
 pub enum Command<'a> {
+    /// Whether a store has what the logs of its agents have.
+    Audit(AuditWords<'a>),
     /// What a store has of a stream.
     Cat(CatWords<'a>),
     /// What a start with an initial file would refuse or skip.
@@ -27,6 +29,15 @@ pub enum Command<'a> {
     Help(Usage),
     /// Which version the program is.
     Version,
+}
+
+/// The words of `audit`.
+#[derive(Clone, Copy, Debug)]
+pub struct AuditWords<'a> {
+    /// The folder in which the agents work.
+    pub agent: &'a str,
+    /// The path of the store, a word of at most 4,064 bytes.
+    pub store: &'a str,
 }
 
 /// The words of `cat`.

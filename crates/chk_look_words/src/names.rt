@@ -51,7 +51,7 @@ fn are_paths(words: &[&str]) -> bool
 }
 
 /// Whether a text may stand in front of the names of a store's files.
-fn is_path(text: &str) -> bool
+pub(crate) fn is_path(text: &str) -> bool
     ensures { result ≡ is_path text.now }
 {
     is_word(text) && text.len() <= MOST_PATH

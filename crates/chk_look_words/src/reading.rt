@@ -7,6 +7,7 @@ ghost use Rattle.chk_look_words.specs.Asked.{asked_in, asked_passed, store_of, R
 ghost use Rattle.chk_look_words.specs.Commands.{asked_of, IsGood};
 ghost use Rattle.chk_look_words.specs.Given.{rows_in};
 
+use crate::auditing::read_audit;
 use crate::checking::read_check;
 use crate::commands::{CatWords, Command, PassedWords, WordsFault};
 use crate::holding::read_held;
@@ -29,6 +30,7 @@ pub fn read_words<'a>(alloc: Global, words: &'a [&'a str]) -> Result<Command<'a>
 {
     match usage_of(words) {
         Usage::Commands => read_alone(words).ok_or(WordsFault::Usage),
+        Usage::Audit => read_command(alloc, Usage::Audit, words),
         Usage::Cat => read_command(alloc, Usage::Cat, words),
         Usage::Check => read_check(alloc, words),
         Usage::Status => Err(WordsFault::Usage),
@@ -87,6 +89,7 @@ fn command_by<'a>(usage: Usage, given: &Given<'a>) -> Option<Command<'a>>
     }
     match usage {
         Usage::Commands => None,
+        Usage::Audit => read_audit(given),
         Usage::Cat => read_cat(given),
         Usage::Check | Usage::Held => unreachable!(),
         Usage::Status => None,

@@ -3,11 +3,14 @@
 ghost use Rattle.std.specs.Prelude.{◌≡◌, map, option_map, IfOk};
 ghost use Rattle.clap.specs.Words.{app_of, with_rule};
 ghost use Rattle.chk_look_words.specs.Given.{rows_in, ReadsOptions};
+ghost use Rattle.chk_look_words.specs.Options.{with_rules};
 ghost use Rattle.chk_look_words.specs.Status.{asked_in_rows, asked_status, form_in};
-ghost use Rattle.chk_look_words.specs.Status.{is_asked, list_rule, short_rule};
-ghost use Rattle.chk_look_words.specs.Status.{status_app, status_at, status_of, status_rows, ReadsStatus};
+ghost use Rattle.chk_look_words.specs.Status.{is_asked, is_legal, is_named, list_rule, list_rules};
+ghost use Rattle.chk_look_words.specs.Status.{short_rule, status_app, status_at, status_of};
+ghost use Rattle.chk_look_words.specs.Status.{status_rows, ReadsStatus};
 
 use crate::commands::WordsFault;
+use crate::controls::are_controls;
 use crate::options::{Given, fault_of, with_flag, with_option};
 use clap::{Arg, ArgAction};
 use std::alloc::{AllocError, Global};
@@ -22,6 +25,8 @@ pub enum Form {
     Table,
     /// One line, as Nagios reads it.
     Line,
+    /// One text for all that is looked at, as OpenMetrics has it.
+    Metrics,
 }
 
 /// The words of `status`.
@@ -39,11 +44,25 @@ impl<'a> StatusWords<'a> {
         self.given.has("help")
     }
 
+    /// The folders of agents, as they were named, where some were.
+    pub fn agents(&self) -> Option<&[&'a str]>
+        ensures { option_map (λ s. map (λ w. w.now) s.now) result ≡ (status_of self.now).agents }
+    {
+        self.given.values("agent")
+    }
+
     /// The folders of the stores, as they were named, where some were.
     pub fn stores(&self) -> Option<&[&'a str]>
         ensures { option_map (λ s. map (λ w. w.now) s.now) result ≡ (status_of self.now).stores }
     {
         self.given.values("store")
+    }
+
+    /// The control doors, where some were named; `control_in` reads each.
+    pub fn controls(&self) -> Option<&[&'a str]>
+        ensures { option_map (λ s. map (λ w. w.now) s.now) result ≡ (status_of self.now).controls }
+    {
+        self.given.values("control")
     }
 
     /// How the state is shown.
@@ -61,8 +80,9 @@ impl<'a> StatusWords<'a> {
     }
 }
 
-/// Reads the words of which the first is `status`. `Usage` comes exactly where they name no folder
-/// or aren't such words; then `Usage::Status` tells how they should have been.
+/// Reads the words of which the first is `status`. `Usage` comes exactly where they name nothing to
+/// look at, name a control door that isn't `NAME=ADDRESS`, ask for two forms, or aren't such words;
+/// then `Usage::Status` tells how they should have been.
 pub fn read_status<'a>(alloc: Global, words: &'a [&'a str]) -> Result<StatusWords<'a>, WordsFault>
     ensures { ReadsStatus (asked_status (map (λ w. w.now) words.now)) result }
 {
@@ -91,11 +111,27 @@ fn status_with<'a>(given: Given<'a>, watch: u64) -> Result<StatusWords<'a>, Word
     }
 }
 
-// Help, or some folder.
+// Help, or something to look at in one form.
 fn is_asked(given: &Given<'_>) -> bool
     ensures { result ≡ is_asked (rows_in given.now) }
 {
-    given.has("help") || given.values("store").is_some()
+    given.has("help") || (is_named(given) && is_legal(given))
+}
+
+// Something to look at is named.
+fn is_named(given: &Given<'_>) -> bool
+    ensures { result ≡ is_named (rows_in given.now) }
+{
+    given.values("agent").is_some()
+        || given.values("store").is_some()
+        || given.values("control").is_some()
+}
+
+// There is one form, and each control door has a name and an address.
+fn is_legal(given: &Given<'_>) -> bool
+    ensures { result ≡ is_legal (rows_in given.now) }
+{
+    !(given.has("q") && given.has("metrics")) && are_controls(given.values("control"))
 }
 
 fn form_of(given: &Given<'_>) -> Form
@@ -103,6 +139,8 @@ fn form_of(given: &Given<'_>) -> Form
 {
     if given.has("q") {
         Form::Line
+    } else if given.has("metrics") {
+        Form::Metrics
     } else {
         Form::Table
     }
@@ -121,11 +159,20 @@ fn given_by<'a>(alloc: Global, words: &'a [&'a str]) -> Result<Given<'a>, WordsF
 fn status_command<'a>(alloc: Global) -> Result<clap::Command<'a>, AllocError>
     ensures { IfOk result (λ c. app_of c ≡ status_app) }
 {
-    let bare = clap::Command::new(alloc, "chukwactl").disable_help_flag(true);
-    let stores = with_list(alloc, bare, "store")?;
-    let watched = with_option(alloc, stores, "watch")?;
+    let listed = with_lists(alloc)?;
+    let watched = with_option(alloc, listed, "watch")?;
     let short = with_short(alloc, watched)?;
-    with_flag(alloc, short, "help")
+    let measured = with_flag(alloc, short, "metrics")?;
+    with_flag(alloc, measured, "help")
+}
+
+fn with_lists<'a>(alloc: Global) -> Result<clap::Command<'a>, AllocError>
+    ensures { IfOk result (λ c. app_of c ≡ with_rules list_rules) }
+{
+    let bare = clap::Command::new(alloc, "chukwactl").disable_help_flag(true);
+    let agents = with_list(alloc, bare, "agent")?;
+    let stores = with_list(alloc, agents, "store")?;
+    with_list(alloc, stores, "control")
 }
 
 fn with_list<'a>(

@@ -4,6 +4,8 @@ ghost use Rattle.std.specs.Prelude.{◌≡◌, map};
 ghost use Rattle.chk_look_words.specs.Usages.{usage_of, usage_named, usage_text, option_names};
 ghost use Rattle.chk_look_words.specs.Usages.{flag_names};
 
+static AUDIT: [&str; 2] = ["agent", "store"];
+
 static CAT: [&str; 1] = ["begin"];
 
 static CHECK: [&str; 1] = ["initial"];
@@ -18,13 +20,19 @@ static NONE: [&str; 0] = [];
 
 static PASSED: [&str; 1] = ["agent"];
 
-const STATUS: &str = "usage: chukwactl status [-q] [--watch S] --store DIR [--store DIR]..\n";
+const COMMANDS: &str = "usage: chukwactl audit|cat|check|held|passed|status|streams|sum|verify \
+[--help], or --version\n";
+
+const STATUS: &str =
+    "usage: chukwactl status [--agent DIR].. [--store DIR].. [--control NAME=ADDRESS].. [-q|--metrics] [--watch S]\n";
 
 /// Which command the first word names.
 #[derive(Clone, Copy, Debug, PartialEq, Eq)]
 pub enum Usage {
     /// None of them.
     Commands,
+    /// `audit`.
+    Audit,
     /// `cat`.
     Cat,
     /// `check`.
@@ -48,8 +56,8 @@ impl Usage {
         ensures { result.now ≡ usage_text self }
     {
         match self {
-            Usage::Commands =>
-                "usage: chukwactl cat|check|held|passed|status|streams|sum|verify [--help], or --version\n",
+            Usage::Commands => COMMANDS,
+            Usage::Audit => "usage: chukwactl audit --agent DIR --store DIR\n",
             Usage::Cat => {
                 "usage: chukwactl cat [--begin N] [--follow] [--records] STORE SOURCE TYPE NAME\n"
             }
@@ -68,6 +76,7 @@ impl Usage {
         ensures { map (λ name. name.now) result.now ≡ option_names self }
     {
         match self {
+            Usage::Audit => AUDIT.as_slice(),
             Usage::Cat => CAT.as_slice(),
             Usage::Passed => PASSED.as_slice(),
             Usage::Check => CHECK.as_slice(),
@@ -101,6 +110,7 @@ fn usage_named(first: &str) -> Usage
     ensures { result ≡ usage_named first.now }
 {
     match first {
+        "audit" => Usage::Audit,
         "cat" => Usage::Cat,
         "check" => Usage::Check,
         "status" => Usage::Status,

@@ -2,7 +2,13 @@
 #![tactic(auto)]
 
 #[cfg(test)]
+mod agents;
+#[cfg(test)]
+mod audits;
+#[cfg(test)]
 mod checks;
+#[cfg(test)]
+mod courses;
 #[cfg(test)]
 mod files;
 #[cfg(test)]

@@ -14,6 +14,10 @@ const HELLO: &[u8] =
 const WORL: &[u8] =
     b"\0\0\0&\0\0\0\x1e\0\0\0\x1a\x01\0\0\0\0\0\0\0\n\0\x02h1\0\x03Log\0\x06/a.log\0\0\0\x04worl";
 
+// The second one with another last byte.
+const WORM: &[u8] =
+    b"\0\0\0&\0\0\0\x1e\0\0\0\x1a\x01\0\0\0\0\0\0\0\n\0\x02h1\0\x03Log\0\x06/a.log\0\0\0\x04worm";
+
 const BOTH: &[u8] =
     b"\0\0\0,\0\0\0\x1e\0\0\0\x1a\x01\0\0\0\0\0\0\0\n\0\x02h1\0\x03Log\0\x06/a.log\0\0\0\nhello\nworl";
 
@@ -51,12 +55,16 @@ const AT_0: &[u8] = b"add a = FileTailingAdaptor Log /a.log 3 0 -\n";
 
 const AT_4: &[u8] = b"add a = FileTailingAdaptor Log /a.log 4 4 .2010-11-08\n";
 
+// One behind a first generation of 6 bytes.
+const AT_6: &[u8] = b"add a = FileTailingAdaptor Log /a.log 6 6 .2010-11-08\n";
+
 pub(crate) fn part(name: &str) -> Option<&'static [u8]> {
     match name {
         "HEADER" => Some(HEADER),
         "MARKER" => Some(MARKER),
         "HELLO" => Some(HELLO),
         "WORL" => Some(WORL),
+        "WORM" => Some(WORM),
         "BOTH" => Some(BOTH),
         "LATER" => Some(LATER),
         "OTHER" => Some(OTHER),
@@ -69,6 +77,7 @@ pub(crate) fn part(name: &str) -> Option<&'static [u8]> {
         "H2" => Some(H2),
         "CHECK" => Some(CHECK),
         "AT_0" => Some(AT_0),
+        "AT_6" => Some(AT_6),
         "AT_4" => Some(AT_4),
         _ => None,
     }

@@ -2,9 +2,11 @@
 ghost use Rattle.std.specs.Prelude.{◌≡◌};
 ghost use Rattle.chk_world.specs.Sight.{job};
 
+use crate::agents::shows_agents;
 use crate::scene::follows_each;
+use chk_look_metrics::{NamedStore, tell_metrics};
 use chk_look_run::{Outcome, Usage, looker, outcome_of_job, told_as};
-use chk_look_status::{find_store, tell_line, tell_store};
+use chk_look_status::{StoreSeen, find_store, tell_line, tell_store};
 use chk_look_words::{Form, StatusWords, WordsFault, read_status};
 use chk_site::Who;
 use chk_site_mem::SiteMem;
@@ -32,6 +34,36 @@ run status --store s = 0 [store s|\
 \x20             2               1               0|]
 run status -q --store s = 0 [OK - s: unclosed 2 closed 1 held 0 quiet 0|]
 
+the same as OpenMetrics has it
+put archive/seg.1 HEADER MARKER HELLO
+put archive/book HEAD 2 #1 1 144 #2 6 H1 2 H2
+put demux/book HEAD 2 #1 1 144 #1 4 H1
+put sinks/c1.1.3.chukwa HEADER MARKER HELLO
+put sinks/c1.1.3.mark 96
+put sinks/c1.1.2.done HEADER MARKER HELLO
+run status --metrics --store a\"b = 0 [\
+# TYPE chukwa_store_found gauge|# HELP chukwa_store_found 1 where the folder is a store, 0 where it is none.|\
+chukwa_store_found{store=\"a\\\"b\"} 1|\
+chukwa_store_found{store=\"t\"} 0|\
+# TYPE chukwa_archived_bytes gauge|# HELP chukwa_archived_bytes Offset up to which the stream is archived.|\
+chukwa_archived_bytes{store=\"a\\\"b\",source=\"h1\",type=\"Log\",name=\"/a.log\"} 6|\
+chukwa_archived_bytes{store=\"a\\\"b\",source=\"h2\",type=\"Log\",name=\"/a.log\"} 2|\
+# TYPE chukwa_demuxed_bytes gauge|# HELP chukwa_demuxed_bytes Offset up to which the stream is split into records.|\
+chukwa_demuxed_bytes{store=\"a\\\"b\",source=\"h1\",type=\"Log\",name=\"/a.log\"} 4|\
+chukwa_demuxed_bytes{store=\"a\\\"b\",source=\"h2\",type=\"Log\",name=\"/a.log\"} 0|\
+# TYPE chukwa_sink_written_bytes gauge|# HELP chukwa_sink_written_bytes Length of a sink under writing.|\
+chukwa_sink_written_bytes{store=\"a\\\"b\",sink=\"c1.1.3\"} 144|\
+# TYPE chukwa_sink_committed_bytes gauge|# HELP chukwa_sink_committed_bytes Length up to which a sink under writing is committed.|\
+chukwa_sink_committed_bytes{store=\"a\\\"b\",sink=\"c1.1.3\"} 96|\
+# TYPE chukwa_sink_quiet_seconds gauge|# HELP chukwa_sink_quiet_seconds Seconds since a sink under writing grew.|\
+# TYPE chukwa_sinks_unclosed gauge|# HELP chukwa_sinks_unclosed Sinks under writing.|\
+chukwa_sinks_unclosed{store=\"a\\\"b\"} 1|\
+# TYPE chukwa_sinks_closed gauge|# HELP chukwa_sinks_closed Closed sinks that wait for the job.|\
+chukwa_sinks_closed{store=\"a\\\"b\"} 1|\
+# TYPE chukwa_chunks_held gauge|# HELP chukwa_chunks_held Chunks that are set aside.|\
+chukwa_chunks_held{store=\"a\\\"b\"} 0|\
+# EOF|]
+
 chunks that are set aside
 put archive/seg.2 HEADER MARKER LATER WORL
 put archive/book HEAD_3 3 #0 #0 2 188
@@ -57,10 +89,16 @@ fails 3
 run status --store s = 3 [] outside list
 
 words
-run status = 2 [] usage: chukwactl status [-q] [--watch S] --store DIR [--store DIR]..
-run status s = 2 [] usage: chukwactl status [-q] [--watch S] --store DIR [--store DIR]..
-run status --store s --watch 86401 = 2 [] usage: chukwactl status [-q] [--watch S] --store DIR [--store DIR]..
-run status -q -q --store s = 2 [] usage: chukwactl status [-q] [--watch S] --store DIR [--store DIR]..
+run status = 2 [] usage: chukwactl status [--agent DIR].. [--store DIR].. [--control NAME=ADDRESS].. [-q|--metrics] [--watch S]
+run status s = 2 [] usage: chukwactl status [--agent DIR].. [--store DIR].. [--control NAME=ADDRESS].. [-q|--metrics] [--watch S]
+run status --store s --watch 86401 = 2 [] usage: chukwactl status [--agent DIR].. [--store DIR].. [--control NAME=ADDRESS].. [-q|--metrics] [--watch S]
+run status --metrics --metrics --store s = 2 [] usage: chukwactl status [--agent DIR].. [--store DIR].. [--control NAME=ADDRESS].. [-q|--metrics] [--watch S]
+run status -q --metrics --store s = 2 [] usage: chukwactl status [--agent DIR].. [--store DIR].. [--control NAME=ADDRESS].. [-q|--metrics] [--watch S]
+run status --control a --store s = 2 [] usage: chukwactl status [--agent DIR].. [--store DIR].. [--control NAME=ADDRESS].. [-q|--metrics] [--watch S]
+run status --control a= --store s = 2 [] usage: chukwactl status [--agent DIR].. [--store DIR].. [--control NAME=ADDRESS].. [-q|--metrics] [--watch S]
+run status --control =c1:9 = 2 [] usage: chukwactl status [--agent DIR].. [--store DIR].. [--control NAME=ADDRESS].. [-q|--metrics] [--watch S]
+run status --agent = 2 [] usage: chukwactl status [--agent DIR].. [--store DIR].. [--control NAME=ADDRESS].. [-q|--metrics] [--watch S]
+run status -q -q --store s = 2 [] usage: chukwactl status [--agent DIR].. [--store DIR].. [--control NAME=ADDRESS].. [-q|--metrics] [--watch S]
 ";
 
 // What the words of `status` show of the site, as the program does it in each folder.
@@ -83,22 +121,42 @@ fn shows(
 ) -> Result<Shown, Fail>
     requires job { who.now ≡ job }
 {
+    if let Some(folder) = asked.agents().and_then(|folders| folders.first()) {
+        return shows_agents(alloc, site, who, folder, asked);
+    }
     let stores = asked.stores().ok_or("no store")?;
     let store = stores.first().ok_or("no store")?;
     match find_store(alloc, site, who) {
         Ok(seen) => {
+            let trouble = seen.has_trouble();
             let given = match asked.form() {
                 Form::Table => tell_store(alloc, site, who, store, &seen),
                 Form::Line => tell_line(alloc, site, who, store, &seen),
+                Form::Metrics => return measured(alloc, site, who, store, seen),
             };
             let mut shown = ended(alloc, &told_as(given))?;
-            if seen.has_trouble() {
+            if trouble {
                 shown.status = 1;
             }
             Ok(shown)
         }
         Err(fault) => ended(alloc, &outcome_of_job(fault)),
     }
+}
+
+// The metrics of the store, and of a folder `t` that is none.
+fn measured(
+    alloc: Global,
+    site: &mut SiteMem,
+    who: &Who,
+    store: &str,
+    seen: StoreSeen,
+) -> Result<Shown, Fail> {
+    let folder = String::from_str(alloc, store)?;
+    let mut stores = Vec::new(alloc);
+    stores.push(NamedStore { folder, seen })?;
+    let given = tell_metrics(alloc, site, who, stores.as_slice(), &["t"]);
+    ended(alloc, &told_as(given))
 }
 
 /// How a look ends.

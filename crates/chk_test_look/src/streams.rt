@@ -97,23 +97,67 @@ fn cats(rt: HostRuntime) -> Result<(), Fail> {
     follows_each(rt.alloc(), CAT)
 }
 
-// Each call of a look: whether there is a book, its bytes and its end, those of each segment with
-// what it has between, and the wait.
+// The calls: whether there is a book; then of each look the book's bytes and its end, of the first
+// one once more, and of each segment that is gone over what it has and its end, with what is printed
+// of it between; and the wait.
 const FOLLOWED: &str = "\
 nothing new
 put archive/seg.1 HEADER MARKER HELLO
 put archive/book HEAD 2 #1 1 144 #1 6 H1
-fails 12
+fails 18
 run cat --follow s h1 Log /a.log = 3 [hello|] outside pause
 
-more of it
+more of it, for which the new segment alone is read
 put archive/seg.1 HEADER MARKER HELLO
 put archive/seg.2 HEADER MARKER WORL
 put archive/book HEAD 2 #1 1 144 #1 6 H1
 put archive/new HEAD 3 #2 1 144 2 142 #1 10 H1
 before 10 rename archive/new archive/book
-fails 19
+fails 15
 run cat --follow --begin 3 s h1 Log /a.log = 3 [lo|worl] outside pause
+
+two new segments
+put archive/seg.1 HEADER MARKER HELLO
+put archive/seg.2 HEADER MARKER OTHER
+put archive/seg.3 HEADER MARKER WORL
+put archive/book HEAD 2 #1 1 144 #1 6 H1
+put archive/new HEAD 4 #3 1 144 2 140 3 142 #2 10 H1 2 H2
+before 10 rename archive/new archive/book
+fails 17
+run cat --follow s h1 Log /a.log = 3 [hello|worl] outside pause
+
+a merged segment, for which all are read by the book that is read then
+put archive/seg.1 HEADER MARKER HELLO
+put archive/seg.3 HEADER MARKER HELLO WORL
+put archive/book HEAD 2 #1 1 144 #1 6 H1
+put archive/new HEAD 4 #1 3 190 #1 10 H1
+before 10 rename archive/new archive/book
+fails 17
+run cat --follow s h1 Log /a.log = 3 [hello|worl] outside pause
+
+an offset past the end
+put archive/seg.1 HEADER MARKER HELLO
+put archive/seg.2 HEADER MARKER WORL
+put archive/book HEAD 2 #1 1 144 #1 6 H1
+put archive/new HEAD 3 #2 1 144 2 142 #1 10 H1
+before 5 rename archive/new archive/book
+fails 10
+run cat --follow --begin 8 s h1 Log /a.log = 3 [rl] outside pause
+
+a new segment that doesn't go on
+put archive/seg.1 HEADER MARKER HELLO
+put archive/seg.2 HEADER MARKER LATER
+put archive/book HEAD 2 #1 1 144 #1 6 H1
+put archive/new HEAD 3 #2 1 144 2 142 #1 11 H1
+before 10 rename archive/new archive/book
+run cat --follow s h1 Log /a.log = 1 [hello|] damaged archive/seg.2 96
+
+a new segment that isn't there
+put archive/seg.1 HEADER MARKER HELLO
+put archive/book HEAD 2 #1 1 144 #1 6 H1
+put archive/new HEAD 3 #2 1 144 2 142 #1 10 H1
+before 10 rename archive/new archive/book
+run cat --follow s h1 Log /a.log = 3 [hello|] archive/seg.2 isn't there
 
 a stream that isn't there
 put archive/seg.1 HEADER MARKER HELLO
@@ -125,6 +169,14 @@ an end that isn't reached
 put archive/seg.1 HEADER MARKER HELLO
 put archive/book HEAD 2 #1 1 144 #1 10 H1
 run cat --follow s h1 Log /a.log = 1 [hello|] the records end before the end in the book
+
+an end that isn't reached by what is new
+put archive/seg.1 HEADER MARKER HELLO
+put archive/seg.2 HEADER MARKER WORL
+put archive/book HEAD 2 #1 1 144 #1 6 H1
+put archive/new HEAD 3 #2 1 144 2 142 #1 12 H1
+before 10 rename archive/new archive/book
+run cat --follow s h1 Log /a.log = 1 [hello|worl] the records end before the end in the book
 ";
 
 #[test]

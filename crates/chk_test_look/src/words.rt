@@ -4,16 +4,16 @@ use std::test::Fail;
 
 const WORDS: &str = "\
 help
-run --help = 0 [usage: chukwactl cat|check|held|passed|status|streams|sum|verify [--help], or --version|]
+run --help = 0 [usage: chukwactl audit|cat|check|held|passed|status|streams|sum|verify [--help], or --version|]
 run cat --help = 0 [usage: chukwactl cat [--begin N] [--follow] [--records] STORE SOURCE TYPE NAME|]
 run streams --help = 0 [usage: chukwactl streams STORE|]
 run streams s --help = 0 [usage: chukwactl streams STORE|]
 run --version = 0 [chukwactl 1.1.0|]
 
 none
-run  = 2 [] usage: chukwactl cat|check|held|passed|status|streams|sum|verify [--help], or --version
-run dog = 2 [] usage: chukwactl cat|check|held|passed|status|streams|sum|verify [--help], or --version
-run --version s = 2 [] usage: chukwactl cat|check|held|passed|status|streams|sum|verify [--help], or --version
+run  = 2 [] usage: chukwactl audit|cat|check|held|passed|status|streams|sum|verify [--help], or --version
+run dog = 2 [] usage: chukwactl audit|cat|check|held|passed|status|streams|sum|verify [--help], or --version
+run --version s = 2 [] usage: chukwactl audit|cat|check|held|passed|status|streams|sum|verify [--help], or --version
 run cat = 2 [] usage: chukwactl cat [--begin N] [--follow] [--records] STORE SOURCE TYPE NAME
 run cat s h1 Log = 2 [] usage: chukwactl cat [--begin N] [--follow] [--records] STORE SOURCE TYPE NAME
 run cat s h1 Log a b = 2 [] usage: chukwactl cat [--begin N] [--follow] [--records] STORE SOURCE TYPE NAME
@@ -37,6 +37,12 @@ run check = 2 [] usage: chukwactl check --initial FILE COLLECTOR...
 run check c1:9 = 2 [] usage: chukwactl check --initial FILE COLLECTOR...
 run check --initial f = 2 [] usage: chukwactl check --initial FILE COLLECTOR...
 run check --initial f --initial f c1:9 = 2 [] usage: chukwactl check --initial FILE COLLECTOR...
+run audit --help = 0 [usage: chukwactl audit --agent DIR --store DIR|]
+run audit = 2 [] usage: chukwactl audit --agent DIR --store DIR
+run audit --agent d = 2 [] usage: chukwactl audit --agent DIR --store DIR
+run audit --store s = 2 [] usage: chukwactl audit --agent DIR --store DIR
+run audit --agent d --store s /a.log = 2 [] usage: chukwactl audit --agent DIR --store DIR
+run audit --agent d --store s --store t = 2 [] usage: chukwactl audit --agent DIR --store DIR
 run passed --help = 0 [usage: chukwactl passed --agent DIR LOG|]
 run passed = 2 [] usage: chukwactl passed --agent DIR LOG
 run passed /a.log = 2 [] usage: chukwactl passed --agent DIR LOG

@@ -2,9 +2,13 @@
 //! program's name ask for a command. It reads files and prints; it makes, changes and locks none.
 #![tactic(auto)]
 
+mod agents;
+mod auditing;
+mod locks;
 mod progress;
 mod status;
 
+use crate::auditing::{whole_store, words_there};
 use crate::progress::site_for;
 use crate::status::run_status;
 use chk_look_run::{Outcome, Usage, run};
@@ -61,6 +65,10 @@ fn run_given(rt: HostRuntime, given: &[String]) -> u8 {
     if usage_of(words.as_slice()) == Usage::Status {
         return run_status(rt, words.as_slice());
     }
+    let whole = match whole_store(rt, words.as_slice()) {
+        Ok(whole) => whole,
+        Err(status) => return status,
+    };
     let store = match store_in(rt, words.as_slice()) {
         Ok(store) => store,
         Err(status) => return status,
@@ -71,8 +79,16 @@ fn run_given(rt: HostRuntime, given: &[String]) -> u8 {
             return OUTSIDE;
         }
     }
-    let mut site = site_for(rt, words.as_slice());
-    let outcome = run(rt.alloc(), &mut site, words.as_slice());
+    match &whole {
+        Some(path) => run_words(rt, &words_there(path.to_string_lossy())),
+        None => run_words(rt, words.as_slice()),
+    }
+}
+
+// The same in the folder that is looked at.
+fn run_words(rt: HostRuntime, words: &[&str]) -> u8 {
+    let mut site = site_for(rt, words);
+    let outcome = run(rt.alloc(), &mut site, words);
     site.clear();
     if let Some(failure) = site.site.failure() {
         let _told = eprintln!(rt; "chukwactl: {failure}");
@@ -86,6 +102,7 @@ fn run_given(rt: HostRuntime, given: &[String]) -> u8 {
 // else.
 fn store_in<'a>(rt: HostRuntime, words: &'a [&'a str]) -> Result<Option<&'a str>, u8> {
     match read_words(rt.alloc(), words) {
+        Ok(Command::Audit(words)) => Ok(Some(words.agent)),
         Ok(Command::Cat(words)) => Ok(Some(words.store)),
         Ok(Command::Streams(store)) => Ok(Some(store)),
         Ok(Command::Verify(store)) => Ok(Some(store)),

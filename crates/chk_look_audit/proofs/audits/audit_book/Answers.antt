@@ -1,7 +1,8 @@
-use Rattle.std.proofs.Common.{Bool, List, [], Ok, Err, ap, map, refl, subst, sym}
+use Rattle.std.proofs.Common.{List, [], Ok, Err, ap, map, refl, subst, sym}
 use Rattle.std.proofs.lemmas.Result.{err_from_is_err_and}
 use Rattle.chk_book.specs.Views.{end_view}
 use Rattle.chk_look_sum.specs.declared.rests.Rest.{Rest}
+use Rattle.chk_look_audit.specs.declared.audits.Compared.{Compared}
 use Rattle.chk_look_audit.specs.Finding.{FindsEach}
 use Rattle.chk_look_audit.proofs.Steps.{job_as, job_then}
 use Rattle.chk_look_audit.proofs.audits.audit_book.Goals as goal
@@ -53,6 +54,6 @@ returns-in_err-find_rests g c =
         audited = (refl, refl);
       };
       only = c.in_err-find_rests.ensures.only;
-      cause = job_as (Unit {0}) Bool fault (g.S.Site.fault_count c.args.site.now)
+      cause = job_as (Unit {0}) Compared fault (g.S.Site.fault_count c.args.site.now)
           (g.S.Site.fault_count c.find_rests.new.site) c.in_err-find_rests.ensures.cause;
     })

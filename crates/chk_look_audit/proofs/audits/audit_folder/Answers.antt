@@ -1,6 +1,7 @@
-use Rattle.std.proofs.Common.{Bool, Ok, Err, refl}
+use Rattle.std.proofs.Common.{Ok, Err, refl}
 use Rattle.chk_book.specs.Books.{book_view}
 use Rattle.chk_book.specs.declared.book.Book.{Book}
+use Rattle.chk_look_audit.specs.declared.audits.Compared.{Compared}
 use Rattle.chk_look_audit.proofs.Steps.{job_as, job_then}
 use Rattle.chk_look_audit.proofs.audits.audit_folder.Goals as goal
 
@@ -29,6 +30,6 @@ returns-in-Err g c = record {
     audited = (refl, refl);
   };
   only = c.in-Err.ensures.only;
-  cause = job_as Book Bool c.in-Err.fault (g.S.Site.fault_count c.args.site.now)
+  cause = job_as Book Compared c.in-Err.fault (g.S.Site.fault_count c.args.site.now)
       (g.S.Site.fault_count c.load_book.new.site) c.in-Err.ensures.cause;
 }

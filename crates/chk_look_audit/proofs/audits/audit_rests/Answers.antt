@@ -1,4 +1,5 @@
-use Rattle.std.proofs.Common.{Bool, List, ℕ, Ok, Err, refl}
+use Rattle.std.proofs.Common.{List, ℕ, Ok, Err, refl}
+use Rattle.chk_look_audit.specs.declared.audits.Compared.{Compared}
 use Rattle.chk_look_audit.proofs.Steps.{job_as, job_then}
 use Rattle.chk_look_audit.proofs.audits.audit_rests.Goals as goal
 
@@ -27,6 +28,6 @@ returns-in-Err g c = record {
     compared = (refl, refl);
   };
   only = c.in-Err.ensures.only;
-  cause = job_as (List (List ℕ)) Bool c.in-Err.fault (g.S.Site.fault_count c.args.site.now)
+  cause = job_as (List (List ℕ)) Compared c.in-Err.fault (g.S.Site.fault_count c.args.site.now)
       (g.S.Site.fault_count c.sum_rests.new.site) c.in-Err.ensures.cause;
 }

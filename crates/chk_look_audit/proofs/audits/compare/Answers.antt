@@ -1,4 +1,5 @@
-use Rattle.std.proofs.Common.{Bool, List, ℕ, Ok, Err, refl, subst}
+use Rattle.std.proofs.Common.{Bool, List, ℕ, Ok, Err, ap, refl, subst}
+use Rattle.chk_look_audit.specs.declared.audits.Compared.{Compared}
 use Rattle.chk_look_audit.specs.Streams.{Audits}
 use Rattle.chk_look_audit.proofs.Steps.{call_cause, of_call}
 use Rattle.chk_look_audit.proofs.audits.compare.Goals as goal
@@ -11,7 +12,7 @@ returns-in-Ok g c =
         given,
         subst (λ (ds : List (List ℕ)). Audits given c.args.rests.now ds _ (g.S.Site.told c.args.site.now)
             (g.S.Site.told c.audit_each.new.site)) c.as_slice.ensures c.in-Ok.ensures.told,
-        refl,
+        ap (λ (x : Compared). Ok x) c.compared_of.ensures,
         c.requires.count,
       );
       only = tt;
@@ -31,6 +32,6 @@ returns-in-Err g c =
         c.requires.count,
       );
       only = of_call fault;
-      cause = call_cause Bool Bool fault (g.S.Site.fault_count c.args.site.now)
+      cause = call_cause Bool Compared fault (g.S.Site.fault_count c.args.site.now)
           (g.S.Site.fault_count c.audit_each.new.site) c.in-Err.ensures.cause;
     })

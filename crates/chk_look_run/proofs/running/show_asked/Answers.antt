@@ -1,6 +1,16 @@
 use Rattle.chk_look_run.specs.Runs.{shows}
 use Rattle.chk_look_run.proofs.running.show_asked.Goals as goal
 
+pub show_audit-requires-clause-path : goal.show_audit-requires-clause-path
+show_audit-requires-clause-path g c = (rw c.in-Audit.is at c.requires.good).1
+
+pub returns-in-Audit : goal.returns-in-Audit
+returns-in-Audit g c = record {
+  told = rw c.in-Audit.is (shows c.show_audit.ensures.told);
+  own = rw c.in-Audit.is c.show_audit.ensures.own;
+  cause = rw c.in-Audit.is c.show_audit.ensures.cause;
+}
+
 pub returns-in-Cat : goal.returns-in-Cat
 returns-in-Cat g c = record {
   told = rw c.in-Cat.is (shows c.show_stream.ensures.told);
