@@ -6,6 +6,8 @@ mod added;
 #[cfg(test)]
 mod archives;
 #[cfg(test)]
+mod asides;
+#[cfg(test)]
 mod books;
 #[cfg(test)]
 mod calls;

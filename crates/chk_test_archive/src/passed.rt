@@ -102,7 +102,7 @@ fn holding(alloc: Global, bytes: &[u8]) -> Result<SiteMem, Fail> {
 }
 
 // How many bytes a read gave.
-fn given(act: &Act) -> usize {
+pub(crate) fn given(act: &Act) -> usize {
     match &act.answer {
         ActAnswer::Done { words, .. } if act.call == Call::Read => {
             words.as_slice().first().map_or(0, |bytes| bytes.len())

@@ -1,5 +1,6 @@
 //! A site in memory, told line by line what to do.
 use crate::added::adds_hello;
+use crate::asides::told_reads;
 use crate::calls::{archived, begun, gathers, is_published, loaded, runs};
 use crate::files::{bytes_of, looks, puts};
 use crate::telling::{book_text, bytes_text, fault_text, numbers_text, plain, report_text};
@@ -138,6 +139,7 @@ fn publishes(alloc: Global, site: &mut SiteMem) -> Result<String, Fail> {
 //   of h1, which are of its stream or set aside.
 // - `begins NEXT`: a segment is begun by a book with this next number.
 // - `publishes`: a book without segments is published.
+// - `reads NAME`: how many reads of this file there were, and how many bytes they gave.
 fn asks(alloc: Global, site: &mut SiteMem, verb: &str, text: &str) -> Result<String, Fail> {
     match verb {
         "book" => told_book(alloc, site),
@@ -147,6 +149,7 @@ fn asks(alloc: Global, site: &mut SiteMem, verb: &str, text: &str) -> Result<Str
         "part" | "aside" => adds_hello(alloc, site, verb, text),
         "begins" => begins(alloc, site, text),
         "publishes" => publishes(alloc, site),
+        "reads" => told_reads(alloc, site, text),
         _ => Err(Fail::from("no such verb")),
     }
 }
