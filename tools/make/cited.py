@@ -4,7 +4,7 @@
 usage: tools/make/cited.py [--check] [--proofs]
 
 Looked at are the links of all documents, and each path in backquotes that begins with a folder of the repository, a
-crate, or `W/` or `R/`, as docs/CHANGING.md shortens two crates. With `--proofs` also the tables of PROOFS: each call
+crate, or `W/` or `R/`, as docs/CHANGING.md shortens two crates; and each crate has to have a row in LAYERS. With `--proofs` also the tables of PROOFS: each call
 that a row names has to stand in the row's crate, and each clause at a call of it (what stands before `of` in a cell is
 a part of that clause, and isn't asked), and its list of the crates with edits has to be whole. It writes nothing, and ends with 1 where one isn't there.
 """
@@ -45,6 +45,22 @@ def absent():
             path = place_of(cited.rstrip("."))
             if path and "out/" not in path and not os.path.exists(f"{TOP}/{path}"):
                 yield f"{name}: there is no {cited}"
+
+
+def unnamed():
+    """Each crate that has no row in LAYERS, and each crate in a row that isn't below the row's."""
+    deps = {name: below for name, (_, below) in crates().items()}
+    seen = set()
+    for line in text_of(f"{TOP}/docs/LAYERS.md").split("\n"):
+        cells = [cell.strip() for cell in line.strip("|").split("|")]
+        name = cells[0].strip("`")
+        if line.startswith("| `") and len(cells) == 3 and name in deps:
+            seen.add(name)
+            for below in re.findall(r"\bch(?:k|ukwa)_?\w*", cells[1]):
+                if below not in deps[name]:
+                    yield f"docs/LAYERS.md: crates.txt has {below} not below {name}"
+    for name in deps.keys() - seen:
+        yield f"docs/LAYERS.md: there is no row of {name}"
 
 
 class Named:
@@ -88,7 +104,7 @@ def main():
     if words not in ([], ["--check"]):
         print(__doc__.strip())
         return 0 if words in (["--help"], ["-h"]) else 2
-    found = list(absent())
+    found = [*absent(), *unnamed()]
     if "--proofs" in sys.argv:
         found += unproved()
     for line in found:

@@ -4,9 +4,9 @@
 usage: tools/make/documents.py [--check]
 
 It runs the scripts of this folder that have `--check`, each with the same words, and ends with 1 where one did; of
-them `options.py` and `cited.py` only look: whether manual and completion name the program's options, and whether
-the files that documents name are there. They
-take a few seconds, and want neither a kit nor a built program. The gate's neighbour, `.ci/run`, asks with `--check`.
+them `options.py` and `cited.py` only look: whether manual and completion name the program's options, whether the
+files that documents name are there, and whether LAYERS has each crate. They take a few seconds, and want neither a
+kit nor a built program. The gate's neighbour, `.ci/run`, asks with `--check`.
 """
 import os
 import subprocess

@@ -2,7 +2,7 @@
 """Tells what a gate's run costs, crate by crate, and writes it as docs/GATE.md.
 
 usage: tools/make/gate_times.py [--to FILE] [COMMAND...]
-       tools/make/gate_times.py [--to FILE] --samples FILE.. [--minutes N] [--of TEXT]
+       tools/make/gate_times.py [--to FILE] --samples FILE.. [--minutes N] [--of TEXT] [--keep]
 
 Runs COMMAND at the top of the checkout, by default `rt ci --anew`, which proves and tries all from
 nothing, and looks twice a second at what runs below it. What a proof takes after its last look is
@@ -13,7 +13,9 @@ With `--samples` it runs nothing, but adds up what others sampled: JSON objects 
 by `CRATE|proof`, `CRATE|test` and `CRATE|edit`. Crates that crates.txt doesn't name, and seconds
 without a crate, are in the sum of all alone. `--minutes` are those by the clock, and `--of` says what
 was run. So a gate that runs in parts, or beside other work, is measured too; the page says so, and
-names the crates of which there are no samples, since those were kept from an earlier run.
+names the crates of which there are no samples, since those were kept from an earlier run. With
+`--keep` what wasn't sampled stays as the page has it, each row with the commit of its proof, and the
+sum is that of the table: so a page is brought up to date by a run of some crates.
 """
 import argparse
 import collections
@@ -122,20 +124,49 @@ def edits_of(top, name):
     return len([each for each in os.listdir(folder) if each.endswith(".edit")]) if os.path.isdir(folder) else 0
 
 
-def table(tasks, top):
-    """A row a crate: its seconds by part, its edits, its memory, and the crates above it; dearest first."""
-    deps = deps_of(top)
-    seconds, memory = collections.Counter(), collections.Counter()
+class Kept:
+    """A row of the page before: its seconds by part, its memory in KiB, and the commit of its proof."""
+
+    def __init__(self, cells):
+        self.seconds = dict(zip(PARTS, map(float, cells[:3])))
+        self.memory, self.commit = float(cells[4]) * 1024, cells[6]
+
+
+def kept_rows(path):
+    """The rows of a page, by their crates."""
+    with open(path, encoding="utf-8") as file:
+        rows = [[cell.strip() for cell in line.strip("|\n ").split("|")] for line in file if line.startswith("| `")]
+    return {row[0].strip("`"): Kept(row[1:]) for row in rows if len(row) == 8}
+
+
+def seconds_of(tasks, top, kept):
+    """The seconds of each crate's parts: those of the tasks, and where there are none those that are kept."""
+    seconds, names = collections.Counter(), deps_of(top)
     for task in filter(None, tasks):
         seconds[task.crate, task.part] += task.seconds
+    for name, row in kept.items():
+        for part in PARTS:
+            if name in names and (name, part) not in seconds and (part != "edits" or edits_of(top, name)):
+                seconds[name, part] = row.seconds[part]
+    return seconds
+
+
+def table(tasks, top, commit, kept):
+    """A row a crate: its seconds by part, its edits, its memory, and the crates above it; dearest first."""
+    deps, tasks = deps_of(top), list(filter(None, tasks))
+    seconds, memory = seconds_of(tasks, top, kept), collections.Counter()
+    for task in tasks:
         memory[task.crate] = max(memory[task.crate], task.memory)
+    proved = {task.crate for task in tasks if task.part == "proof"}
     above = collections.Counter(dep for name in deps for dep in all_below(name, deps))
     sums = {name: sum(seconds[name, part] for part in PARTS) for name in deps}
     for name in sorted(deps, key=lambda name: -sums[name]):
         parts = " | ".join(f"{seconds[name, part]:.0f}" for part in PARTS)
-        yield f"| `{name}` | {parts} | {edits_of(top, name)} | {memory[name] / 1024:.0f} | {above[name]} |"
+        memory[name] = memory[name] or (kept[name].memory if name in kept else 0)
+        of = commit if name in proved or name not in kept else kept[name].commit
+        yield f"| `{name}` | {parts} | {edits_of(top, name)} | {memory[name] / 1024:.0f} | {above[name]} | {of} |"
     whole = " | ".join(f"{sum(seconds[name, part] for name in deps):.0f}" for part in PARTS)
-    yield f"| all | {whole} | {sum(edits_of(top, name) for name in deps)} | {max(memory.values(), default=0) / 1024:.0f} | |"
+    yield f"| all | {whole} | {sum(edits_of(top, name) for name in deps)} | {max(memory.values(), default=0) / 1024:.0f} | | |"
 
 
 def said_by(*words):
@@ -163,7 +194,7 @@ def unsampled(tasks, top):
     return [name for name in deps_of(top) if name not in seen]
 
 
-def page(words, tasks, clock, processor, note=""):
+def page(words, tasks, clock, processor, note="", kept=None):
     """The text of docs/GATE.md."""
     commit = said_by("git", "rev-parse", "--short=10", "HEAD")
     changed = " with changes" if said_by("git", "status", "--porcelain", "--untracked-files=no") else ""
@@ -173,22 +204,25 @@ def page(words, tasks, clock, processor, note=""):
     yield f"on {time.strftime('%Y-%m-%d')} with {len(os.sched_getaffinity(0))} processors: **{processor / 60:.0f} processor minutes,"
     yield f"{clock / 60:.0f} minutes by the clock**. {note}In the columns are processor seconds of the crate's own proof, of its"
     yield "tests' proof (which proves the crate once more), and of its edits (whose first check is as costly as the crate's own); then"
-    yield "the number of edits, the memory of the largest process in MiB, and how many crates stand above it, which are all proved"
-    yield "anew where it changes."
+    yield "the number of edits, the memory of the largest process in MiB, how many crates stand above it, which are all proved"
+    yield "anew where it changes, and over which commit its proof was timed."
     yield ""
-    yield "| crate | proof | tests | edits | number of edits | MiB | above |"
-    yield "|---|---|---|---|---|---|---|"
-    yield from table(tasks, TOP)
+    yield "| crate | proof | tests | edits | number of edits | MiB | above | of |"
+    yield "|---|---|---|---|---|---|---|---|"
+    yield from table(tasks, TOP, commit[:8], kept or {})
 
 
 def added_up(asked):
     """Writes the page of the samples."""
     tasks, whole = sampled(asked.samples)
-    lacks = unsampled(tasks, TOP)
+    lacks, kept = unsampled(tasks, TOP), kept_rows(asked.to) if asked.keep else {}
     note = "Sampled from outside, twice a second. "
-    if lacks:
+    if kept:
+        now, whole = whole, sum(seconds_of(tasks, TOP, kept)[name, part] for name in deps_of(TOP) for part in PARTS)
+        note += f"{now / 60:.0f} minutes of it were seen; what wasn't is as an earlier page had it. "
+    elif lacks:
         note += f"Kept from earlier, and so without samples: {', '.join(f'`{name}`' for name in lacks)}. "
-    text = "\n".join(page([asked.of], tasks, asked.minutes * 60, whole, note)) + "\n"
+    text = "\n".join(page([asked.of], tasks, asked.minutes * 60, whole, note, kept)) + "\n"
     with open(asked.to, "w", encoding="utf-8") as file:
         file.write(text)
     return 0
@@ -200,6 +234,7 @@ def main():
     parser.add_argument("--to", default=f"{TOP}/docs/GATE.md", metavar="FILE", help="the file to write (default: docs/GATE.md)")
     parser.add_argument("--samples", action="append", metavar="FILE", help="runs nothing, and adds up these samples")
     parser.add_argument("--minutes", type=float, default=0, metavar="N", help="the minutes by the clock of what was sampled")
+    parser.add_argument("--keep", action="store_true", help="leaves what wasn't sampled as FILE has it")
     parser.add_argument("--of", default="rt ci", metavar="TEXT", help="what was sampled (default: rt ci)")
     parser.add_argument("command", nargs=argparse.REMAINDER, metavar="COMMAND", help="what to run (default: rt ci --anew)")
     asked = parser.parse_args()

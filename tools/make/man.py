@@ -4,8 +4,9 @@
 usage: tools/make/man.py FOLDER        writes FOLDER/man1, man5 and man7
        tools/make/man.py --usages      prints the usage lines that the manual has, one a line
 
-chukwa(1), chukwactl(1) and a page for each command come from OPERATING, chukwa-formats(5) from FORMATS, chukwa(7) from
-README's guarantee and OPERATING's rules, stops and limits. A page says what its text says, and nothing else.
+chukwa(1), chukwactl(1) and a page for each command come from OPERATING, the lines that each prints from FORMATS, what to
+look at where a call failed from RUNBOOK; chukwa-formats(5) from FORMATS, chukwa(7) from README's guarantee and OPERATING's
+rules, stops and limits. A page says what its text says, and nothing else.
 """
 import os
 import re
@@ -147,8 +148,15 @@ def command_parts(manual):
     return found
 
 
+def printed_by(name, lines):
+    """The rows of the table of printed lines that name the command as where they come from."""
+    rows = [line for line in lines.split("\n") if line.startswith("|")]
+    return [row for row in rows[2:] if f"`{name}`" in re.split(r"[,:]", row.split(" | ", 1)[1])[0]]
+
+
 def pages():
     manual, readme = text_of("docs/OPERATING.md"), text_of("README.md")
+    formats = sections(text_of("docs/FORMATS.md"), "##")
     whole, commands = sections(manual, "##"), command_parts(manual)
     also = [("See also", ["\\fBchukwa\\fR(1), \\fBchukwa\\fR(7), \\fBchukwa\\-formats\\fR(5)"])]
     beyond = sections(manual, "###").get("Options beyond the common ones", "")
@@ -156,6 +164,8 @@ def pages():
     for name, (usage, rest) in commands.items():
         more = [row for row in beyond.split("\n") if f"`{name}`" in row]
         extra = [("Options beyond the usage line", table(beyond.split("\n")[2:4] + more))] if more else []
+        if lines := printed_by(name, formats["Printed lines"]):
+            extra.append(("Printed lines", table(["| line | |", "|---|---|"] + lines)))
         made[f"man1/chukwa-{name}.1"] = page(
             f"chukwa-{name}", 1, COMMANDS[name],
             [("Synopsis", [f"\\fB{plain(usage)}\\fR"]), ("Description", body(rest)), *extra, *also])
@@ -165,15 +175,16 @@ def pages():
         "chukwa", 1, "collect logs, each byte once",
         [("Synopsis", ["\\fBchukwa\\fR \\fIcommand\\fR [\\fIword\\fR...]"]), ("Description", body(whole["What it does"])),
          ("Commands", listed + body(words)), ("Watching", body(whole["Watching"])),
-         ("When it hurts", body(whole["When it hurts"])), *also])
+         ("When it hurts", body(whole["When it hurts"])),
+         ("A call failed", body(sections(text_of("docs/RUNBOOK.md"), "##")["A call failed"])), *also])
     made["man1/chukwactl.1"] = page(
         "chukwactl", 1, "show what a store has",
-        [("Synopsis", ["\\fBchukwactl\\fR \\fIcommand\\fR [\\fIword\\fR...]"]), ("Description", body(whole["Looking"])), *also])
+        [("Synopsis", ["\\fBchukwactl\\fR \\fIcommand\\fR [\\fIword\\fR...]"]), ("Description", body(whole["Looking"])),
+         ("Printed lines", body(formats["What `chukwactl` prints"])), *also])
     made["man7/chukwa.7"] = page(
         "chukwa", 7, "what chukwa promises, and what it wants for it",
         [("The guarantee", body(sections(readme, "##")["The guarantee"])), ("Rules", body(whole["Rules that cost bytes"])),
          ("Stops and locks", body(whole["Stops and locks"])), ("Known limits", body(whole["Known limits"])), *also])
-    formats = sections(text_of("docs/FORMATS.md"), "##")
     made["man5/chukwa-formats.5"] = page(
         "chukwa-formats", 5, "each byte that chukwa writes or reads", [(title, body(text)) for title, text in formats.items()] + also)
     return made
@@ -183,6 +194,9 @@ def main():
     if sys.argv[1:] == ["--usages"]:
         for usage, _ in command_parts(text_of("docs/OPERATING.md")).values():
             print("usage: " + usage)
+        return
+    if sys.argv[1:] in (["--help"], ["-h"]):
+        print(__doc__.strip())
         return
     if len(sys.argv) != 2 or sys.argv[1].startswith("-"):
         sys.exit(__doc__)

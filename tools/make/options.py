@@ -5,7 +5,9 @@ usage: tools/make/options.py [--check]
 
 The program's own lists are those of crates/chk_words/src/usage.rt. Each option has to stand in its command's section
 of OPERATING or in the table of further options there, and the line of a command in packaging/bash-completion/chukwa
-has to have just its options. It writes nothing, and ends with 1 where something differs.
+has to have just its options. Of `chukwactl` each usage line of crates/chk_look_words/src/usage.rt has to stand in
+OPERATING, and packaging/bash-completion/chukwactl has to have just its options, beside `--help`. It writes nothing, and
+ends with 1 where something differs.
 """
 import os
 import re
@@ -39,11 +41,29 @@ def differences():
             yield f"bash completes {command} to {' '.join(sorted(names))}, and it takes {' '.join(sorted(options))}"
 
 
+def of_looks():
+    """What differs of `chukwactl`."""
+    usage, manual = text_of(f"{TOP}/crates/chk_look_words/src/usage.rt"), text_of(f"{TOP}/docs/OPERATING.md")
+    completion = text_of(f"{TOP}/packaging/bash-completion/chukwactl")
+    lines = {name: line for line, name in re.findall(r'"usage: (chukwactl ([a-z]+) [^"]*)\\n"', usage)}
+    named = re.search(r'compgen -W "([a-z ]*)', completion)[1].split()
+    if sorted(named) != sorted(lines):
+        yield f"bash completes the commands {' '.join(named)} of chukwactl, and it has {' '.join(sorted(lines))}"
+    for command, line in lines.items():
+        if f"    {line}\n" not in manual:
+            yield f"OPERATING hasn't the line: {line}"
+        given = re.search(rf'!= {command} \] \|\| options="([^"]*)"', completion)
+        names = set(given[1].split() if given else []) - {"--help"}
+        wanted = set(re.findall(r"(?<![\w-])--?[a-z][a-z-]*", line))
+        if names != wanted:
+            yield f"bash completes chukwactl {command} to {' '.join(sorted(names))}, and it takes {' '.join(sorted(wanted))}"
+
+
 def main():
     if sys.argv[1:] not in ([], ["--check"]):
         print(__doc__.strip())
         return 0 if sys.argv[1:] in (["--help"], ["-h"]) else 2
-    found = list(differences())
+    found = [*differences(), *of_looks()]
     for line in found:
         print(line, file=sys.stderr)
     return 1 if found else 0

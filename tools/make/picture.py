@@ -95,8 +95,8 @@ def main():
     """Writes the picture, or compares it."""
     words = sys.argv[1:]
     if words not in ([], ["--check"]):
-        print(__doc__.split("\n\n")[1], file=sys.stderr)
-        return 2
+        print(__doc__.strip())
+        return 0 if words in (["--help"], ["-h"]) else 2
     file = os.path.join(HERE, "docs", "crates.svg")
     made = picture()
     if words:

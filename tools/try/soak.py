@@ -1,7 +1,7 @@
 #!/usr/bin/env python3
 """Kills agents, collectors and jobs at random while logs grow, and compares each log with its archive.
 
-usage: tools/try/soak.py [--seconds N] [--seed N] [--kb N] [--late N] [--commit MS] [--program FILE]
+usage: tools/try/soak.py [--seconds N] [--seed N] [--kb N] [--late N] [--commit MS] [--program FILE] [--look FILE]
 
 Two agents, two collectors and the jobs `archive` and `demux` run as programs on 127.0.0.1, in a new folder
 below the current one. The collector c1 commits each message by itself, c2 up to eight at a time. Logs of each
@@ -17,10 +17,13 @@ ends with 1 where a byte is lost, doubled or in a wrong place, where a process e
 was committed in time. The seed of what is done at random is told; the same seed doesn't give the same moments.
 With `--late` a log's daemon goes on writing into the renamed file for so many seconds; no agent is killed then,
 since one that begins after a rotation sees it at once. With `--commit` each commit takes so many milliseconds
-longer, by `strace`.
+longer, by `strace`. With `--look`, the program `chukwactl`, its `streams`, `verify`, `held`, `sum` and `status` look
+at the folder all along, one after the other, and none may find damage; `cat --follow` of one log goes on beside them,
+and has to print the whole log.
 """
 import os
 import random
+import re
 import signal
 import sys
 import tempfile
@@ -28,12 +31,16 @@ import time
 
 sys.path.insert(0, os.path.join(os.path.dirname(os.path.abspath(__file__)), "../lib"))
 
-from archive_reader import Comparison, Damaged, checkpoint
+from archive_reader import Comparison, Damaged, checkpoint, contents
 from late_daemon import slowed
 from running import Process, add_program, asked_at, free_ports, load, parser_of, program_of, ran
 
 CLASSES = ["FileTailingAdaptor", "CharFileTailingAdaptorUTF8", "LWFTAdaptor"]
 FINISH = 150
+# So many seconds `cat --follow` has to come to the end of a log that doesn't grow.
+FOLLOWED = 30
+# What a look says before the first archive run.
+NO_BOOK = ["chukwactl: there is no archive/book\n", "chukwactl: there is no ./archive/book\n"]
 # How often it tells what was done, in seconds.
 TELLING = 60
 # Kilobytes that all logs grow in a second, at the sizes below.
@@ -173,6 +180,61 @@ class Job:
         self.process = None
 
 
+class Looks:
+    """Looks at the folder, one at a time, and `cat --follow` of one log."""
+
+    # Each look's words, and what it may say on standard error where it ends with 1.
+    WORDS = [
+        (["streams", "."], NO_BOOK),
+        (["verify", "."], NO_BOOK),
+        (["held", "."], ["chukwactl: chunks wait for bytes that aren't archived\n", *NO_BOOK]),
+        (["sum", "."], NO_BOOK),
+        (["status", "--store", "."], []),
+    ]
+
+    def __init__(self, soak, look):
+        self.soak, self.look, self.log = soak, look, soak.logs[-1]
+        self.process = self.follow = None
+        self.count = 0
+
+    def tend(self):
+        if self.follow is None and self.soak.ends["archive"].get(self.log.stream, 0) > 0:
+            self.follow = Process("cat", [self.look, "cat", "--follow", ".", *self.log.stream], self.soak.folder)
+        if self.process is None:
+            words, self.may = self.WORDS[self.count % len(self.WORDS)]
+            self.process = Process(words[0], [self.look, *words], self.soak.folder)
+        elif self.process.status() is not None:
+            self.judge()
+
+    def judge(self):
+        """The look found no damage."""
+        process, self.process = self.process, None
+        self.count += 1
+        status, error = process.status(), process.error()
+        # Beside kills chunks wait past a gap until an agent sends again what lies in it; `status` says so, and ends with 1.
+        waits = process.name == "status" and re.search(r"HELD\n +\d+ +\d+ +[1-9]", process.printed())
+        if not (status == 0 and error == "" or status == 1 and error in ([""] if waits else self.may)):
+            self.soak.wrong(f"chukwactl {process.name}: {status} {process.printed()[:400]} {error}")
+        process.close()
+
+    def finish(self):
+        """What is followed comes to the log's end within some seconds."""
+        if self.process:
+            self.process.wait(FINISH)
+            self.judge()
+        until, log = time.monotonic() + FOLLOWED, contents(self.log.copy).decode()
+        while self.follow and self.follow.printed() != log and time.monotonic() < until:
+            time.sleep(0.5)
+        if self.follow is None or self.follow.printed() != log or self.follow.status() is not None:
+            self.soak.wrong(f"cat --follow: {self.follow and (self.follow.status(), self.follow.error())}")
+        print(f"looks {self.count}; cat --follow beside them over {len(log)} bytes")
+
+    def close(self):
+        for each in (self.process, self.follow):
+            if each:
+                each.close()
+
+
 class Lines(Comparison):
     """The records of `demux`, each of which has to be a line of its log."""
 
@@ -185,7 +247,7 @@ class Lines(Comparison):
 class Soak:
     def __init__(self, asked, program, folder, chance):
         self.program, self.folder, self.chance, self.growth = program, folder, chance, asked.kb / GROWTH
-        self.commit = asked.commit
+        self.commit, self.look, self.looks = asked.commit, asked.look and os.path.abspath(asked.look), None
         self.faults, self.checks, self.servers = [], 0, []
         for name in ("logs", "copies"):
             os.mkdir(f"{folder}/{name}")
@@ -213,6 +275,8 @@ class Soak:
             words += ["--control", f"127.0.0.1:{self.doors[source]}", source]
             self.servers.append(Server(self, source, words + self.addresses))
         self.job = Job(self)
+        if self.look:
+            self.looks = Looks(self, self.look)
 
     def write(self, step):
         for log in self.logs:
@@ -260,6 +324,8 @@ class Soak:
             self.write(step)
             for each in (*self.servers, self.job):
                 each.tend(now, self.chance, step)
+            if self.looks:
+                self.looks.tend()
             if now - looked > 1:
                 looked = now
                 for log in self.logs:
@@ -310,6 +376,8 @@ class Soak:
         left = [name for name in os.listdir(f"{self.folder}/sinks") if name.endswith((".done", ".chukwa", ".mark"))]
         if left:
             self.wrong(f"sinks are left: {left}")
+        if self.looks:
+            self.looks.finish()
 
     def done(self, name, words, printed):
         status, out, error = ran(words, self.folder)
@@ -337,6 +405,8 @@ class Soak:
         for each in (*self.servers, getattr(self, "job", None)):
             if each and each.process:
                 each.process.close()
+        if self.looks:
+            self.looks.close()
 
 
 def main():
@@ -346,6 +416,7 @@ def main():
     parser.add_argument("--kb", type=float, default=GROWTH, help="kilobytes that the logs grow in a second (400)")
     parser.add_argument("--late", type=float, default=0, help="how late daemons follow a rotation, in seconds (0)")
     parser.add_argument("--commit", type=int, default=0, help="so many milliseconds longer a commit takes (0)")
+    parser.add_argument("--look", help="the program chukwactl, which looks at the folder all along")
     add_program(parser)
     asked_for = parser.parse_args()
     program = program_of(asked_for)
