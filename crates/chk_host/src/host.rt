@@ -364,7 +364,7 @@ impl<R: Files<File = File>> Host<R> {
         match self.goes_on(name, at)? {
             None => Ok(None),
             Some(false) => Ok(Some(Bytes::new(alloc))),
-            Some(true) => Ok(Some(self.read_open(alloc, name, at, max)?)),
+            Some(true) => self.read_open(alloc, name, at, max),
         }
     }
 
@@ -383,21 +383,24 @@ impl<R: Files<File = File>> Host<R> {
         }
     }
 
+    // None where the file went behind the look at its length.
     fn read_open(
         &mut self,
         alloc: Global,
         name: &str,
         at: u64,
         max: u32,
-    ) -> Result<Bytes, SystemFault>
-        ensures most { IfOk result (λ bytes. length bytes ≤ max) }
+    ) -> Result<Option<Bytes>, SystemFault>
+        ensures most { IfOk result (λ found. IfSome found (λ bytes. length bytes ≤ max)) }
         ensures looks { self.new.only_looks ≡ self.old.only_looks }
         ensures only { MayBeShort (answer_of result) }
     {
-        let reader = self.reader(alloc, name)?;
+        let Some(reader) = self.reader(alloc, name)? else {
+            return Ok(None);
+        };
         let bytes = reader.piece(alloc, at, max)?;
         self.reading = Some(reader);
-        Ok(bytes)
+        Ok(Some(bytes))
     }
 
     // The file to append to, taken from what is kept.
@@ -416,20 +419,23 @@ impl<R: Files<File = File>> Host<R> {
         Ok(Kept::new(kept_name, file))
     }
 
-    // The file to read, taken from what is kept.
-    fn reader(&mut self, alloc: Global, name: &str) -> Result<Kept, SystemFault>
-        ensures name { IfOk result (λ kept. string_bytes kept.name ≡ name.now) }
+    // The file to read, taken from what is kept, or else opened. None where there is no such file.
+    fn reader(&mut self, alloc: Global, name: &str) -> Result<Option<Kept>, SystemFault>
+        ensures name { IfOk result (λ found. IfSome found (λ kept. string_bytes kept.name ≡ name.now)) }
         ensures looks { self.new.only_looks ≡ self.old.only_looks }
         ensures only { MayFail (answer_of result) }
     {
         if let Some(kept) = self.reading.take() {
             if kept.name.as_str() == name {
-                return Ok(kept);
+                return Ok(Some(kept));
             }
         }
         let kept_name = text(alloc, name)?;
-        let file = File::open(&self.rt, name)?;
-        Ok(Kept::new(kept_name, file))
+        match File::open(&self.rt, name) {
+            Ok(file) => Ok(Some(Kept::new(kept_name, file))),
+            Err(error) if error.kind() == ErrorKind::NotFound => Ok(None),
+            Err(error) => Err(SystemFault::Failed(error)),
+        }
     }
 
     /// Closes the file that was read last, where it is kept.
