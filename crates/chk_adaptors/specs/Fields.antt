@@ -6,6 +6,7 @@ use Rattle.std.specs.String.{string_bytes}
 use Rattle.std.specs.HashMap.{get_by_text}
 use Rattle.indexmap.specs.IndexMap.{keys, values, spare}
 use Rattle.chk_bytes.specs.Words.{is_word}
+use Rattle.chk_world.specs.Checkpoints.{most_lines}
 use Rattle.chk_reading.specs.Adaptors.{Adaptor, is_past}
 use Rattle.chk_adaptors.specs.declared.adaptors.Adaptors.TheInside.{Inside}
 use Rattle.chk_adaptors.specs.Adaptors.{Held, stream_key}
@@ -20,7 +21,7 @@ key_of a = stream_key a.kind a.path
 -- under a name is the number of an adaptor that has it, or had it when it ended.
 pub record IsSound (keys : List (List ℕ)) (items : List Adaptor)
     (numbers : List ℕ → Option ℕ) : Type 0 where
-  pub few : length items ≤ 10000
+  pub few : length items ≤ most_lines
   pub keyed : keys ≡ map key_of items
   pub words : (i : ℕ) (a : Adaptor) → slice_get items i ≡ Some a → IsTrue (is_word a.kind)
   pub live : (i : ℕ) (a : Adaptor) → slice_get items i ≡ Some a → is_past a.phase ≡ false

@@ -2,6 +2,7 @@
 
 ghost use Rattle.std.specs.Prelude.{◌≡◌, ◌≤◌, ◌<◌, [], Some, None, length, position, slice_get};
 ghost use Rattle.std.specs.Prelude.{if◌then◌else◌};
+ghost use Rattle.chk_world.specs.Checkpoints.{most_lines};
 ghost use Rattle.chk_reading.specs.Adaptors.{Adaptor as Reading, is_past};
 ghost use Rattle.chk_adaptors.specs.Adaptors.{is_of, is_named};
 
@@ -56,7 +57,7 @@ impl Adaptors {
     /// How many there are, past ones included.
     pub fn len(&self) -> u32
         ensures len { result ≡ length self.now.items }
-        ensures few { result ≤ 10000 }
+        ensures few { result ≤ most_lines }
     {
         self.streams.len() as u32
     }
@@ -90,7 +91,7 @@ impl Adaptors {
     // The place of the adaptor of this type and path.
     fn place_of(&self, kind: &Word, path: &Word) -> Option<usize>
         ensures place { result ≡ position (is_of kind.now path.now) self.now.items }
-        ensures few { length self.now.items ≤ 10000 }
+        ensures few { length self.now.items ≤ most_lines }
     {
         let _sound = kind.as_str();
         match stream_key(self.alloc, kind, path) {

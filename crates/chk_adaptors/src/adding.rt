@@ -4,6 +4,7 @@ ghost use Rattle.std.specs.Prelude.{◌≡◌, ◌≤◌, ◌<◌, ◌+◌, ◌+
 ghost use Rattle.std.specs.Prelude.{OnErr};
 ghost use Rattle.std.specs.Prelude.{length, position};
 ghost use Rattle.std.specs.String.{string_bytes};
+ghost use Rattle.chk_world.specs.Checkpoints.{most_lines};
 ghost use Rattle.chk_reading.specs.Adaptors.{is_past};
 ghost use Rattle.chk_adaptors.specs.Adaptors.{AreKeysOf, is_of, is_named};
 
@@ -19,7 +20,7 @@ impl Adaptors {
     /// where it is live none of those has its name.
     pub fn add(&mut self, keys: Keys, adaptor: Adaptor)
         requires room { 0 < self.old.spare }
-        requires few { length self.old.items < 10000 }
+        requires few { length self.old.items < most_lines }
         requires keys { AreKeysOf adaptor keys }
         requires stream { position (is_of adaptor.kind adaptor.path) self.old.items ≡ None }
         requires name { is_past adaptor.phase ≡ false
@@ -35,7 +36,7 @@ impl Adaptors {
 
     /// Takes the memory for the adaptor, and adds it. Without memory nothing changes.
     pub fn push(&mut self, adaptor: Adaptor) -> Result<(), NoMemory>
-        requires few { length self.old.items < 10000 }
+        requires few { length self.old.items < most_lines }
         requires stream { position (is_of adaptor.kind adaptor.path) self.old.items ≡ None }
         requires name { is_past adaptor.phase ≡ false
             → position (is_named adaptor.name) self.old.items ≡ None }

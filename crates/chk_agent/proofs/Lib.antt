@@ -46,3 +46,4 @@ pub mod CommandingStates
 pub mod CommandingPlain
 pub mod CommandingShut
 pub mod CommandingAdds
+pub mod Alike

@@ -11,7 +11,7 @@ use Rattle.chk_site.specs.declared.acts.OutsideFault.TheVariants.{Outside as sit
 use Rattle.chk_site.specs.declared.acts.OutsideFault.TheVariants.{NoMemory as no_memory}
 use Rattle.chk_site.specs.History.{History}
 use Rattle.chk_site.specs.Site.{Adds, asked, answered, suffix_given, Calls}
-use Rattle.chk_world.specs.Checkpoints.{Line}
+use Rattle.chk_world.specs.Checkpoints.{Line, most_lines}
 use Rattle.chk_reading.specs.Adaptors.{Adaptor, adaptor_of, is_past, revived}
 use Rattle.chk_delivery.specs.Turns.{begun_at}
 use Rattle.chk_agent.specs.declared.answers.AgentFault.{AgentFault}
@@ -130,13 +130,13 @@ class_for class (Some found) = found.adaptor.class
 
 -- a past one, or a new one for which there is room
 abbrev pub MayTake : Option Found → ℕ → Type 0
-MayTake None count = count < 10000
+MayTake None count = count < most_lines
 MayTake (Some found) count = is_past found.adaptor.phase ≡ true
 
 pub data IsAdded (class : Class) (kind path : List ℕ) (s : State) : Result Added AgentFault → State → Option History → Option History → Type 0 where
   live : {now : Option History} (found : Found) → stream_in kind path 0 s.adaptors ≡ Some found
       → is_past found.adaptor.phase ≡ false → IsAdded class kind path s (Ok (live_already found.number)) s now now
-  too_many : {now : Option History} → stream_in kind path 0 s.adaptors ≡ None → length s.adaptors ≡ 10000
+  too_many : {now : Option History} → stream_in kind path 0 s.adaptors ≡ None → length s.adaptors ≡ most_lines
       → IsAdded class kind path s (Ok TooMany) s now now
   new : {t : State} {old new : Option History} (name : List ℕ) (found : Option Found)
       → stream_in kind path 0 s.adaptors ≡ found → MayTake found (length s.adaptors) → IsNameFor s None name

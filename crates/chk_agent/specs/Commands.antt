@@ -21,6 +21,7 @@ use Rattle.chk_control.specs.Lines.{Meaning, meaning_of}
 use Rattle.chk_control.specs.Answers.{answer_text, fault_number}
 use Rattle.chk_control.specs.Classes.{same_class}
 use Rattle.chk_site.specs.History.{History}
+use Rattle.chk_world.specs.Checkpoints.{most_lines}
 use Rattle.chk_reading.specs.declared.adaptor.Phase.{Phase}
 use Rattle.chk_reading.specs.declared.adaptor.Phase.TheVariants.{Live, Stopping, Shrank, Past}
 use Rattle.chk_reading.specs.Adaptors.{Adaptor, is_past, shut_down, stopped}
@@ -135,7 +136,7 @@ IsAnswered text on (Err fault) = fault ≡ NoMemory
 -- the number of the refusal: by the adaptor of this name, the one of this stream, how many there are, and what was asked
 abbrev pub add_refusal : Option ℕ → Option Found → ℕ → Class → ℕ → Option ℕ
 add_refusal (Some named) found count class offset = Some 9
-add_refusal None None count class offset = if count == 10000 then Some 11 else None
+add_refusal None None count class offset = if count == most_lines then Some 11 else None
 add_refusal None (Some found) count class offset =
     if not (is_past found.adaptor.phase) then Some 10
     else if not (same_class found.adaptor.class class) then Some 13

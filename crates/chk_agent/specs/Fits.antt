@@ -5,7 +5,7 @@ use Rattle.chk_chunk.specs.Keys.{chunk_limit}
 use Rattle.chk_tail.specs.Walks.{Spot}
 use Rattle.chk_rotate.specs.Marks.{place_of, BeginsBelow}
 use Rattle.chk_world.specs.Names.{is_source}
-use Rattle.chk_world.specs.Checkpoints.{Line, is_line, is_line_of, same_log, are_apart}
+use Rattle.chk_world.specs.Checkpoints.{Line, is_line, is_line_of, same_log, are_apart, most_lines}
 use Rattle.chk_world.specs.Answering.{MovesToLater}
 use Rattle.chk_reading.specs.Adaptors.{Adaptor, stream_at, line_at, read_line, IsPlaced}
 use Rattle.chk_delivery.specs.declared.delivery.Rules.{Rules}
@@ -60,8 +60,8 @@ pub record IsSound (s : State) : Type 0 where
   pub source : IsTrue (is_source s.source)
   pub delivery : IsSoundDelivery s.delivery
   pub enough : IsEnough s.delivery.rules
-  pub known : length s.delivery.table.committed ≡ 10000
-  pub few : length s.adaptors ≤ 10000
+  pub known : length s.delivery.table.committed ≡ most_lines
+  pub few : length s.adaptors ≤ most_lines
   pub each : (i : ℕ) (a : Adaptor) → slice_get s.adaptors i ≡ Some a
       → FitsAdaptor s.source s.saved (slice_index (next_begins s.delivery) i) (committed_at s i) a
   pub owned : AreOwned (basis_of s) s.delivery.owners s.delivery.queue.chunks

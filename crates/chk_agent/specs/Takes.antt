@@ -12,7 +12,7 @@ use Rattle.chk_site.specs.declared.acts.OutsideFault.TheVariants.{NoMemory as no
 use Rattle.chk_site.specs.History.{History, since_start}
 use Rattle.chk_site.specs.Site.{Adds, asked, answered, suffix_given, Calls}
 use Rattle.chk_world.specs.Agents.{last_newest}
-use Rattle.chk_world.specs.Checkpoints.{Line, is_line}
+use Rattle.chk_world.specs.Checkpoints.{Line, is_line, most_lines}
 use Rattle.chk_reading.specs.Adaptors.{Adaptor, adaptor_of, line_at}
 use Rattle.chk_world.specs.Places.{AtTold}
 use Rattle.chk_world.specs.Knowing.{agent, Both, Knows}
@@ -40,7 +40,7 @@ pub record IsNewLine (s : State) (l : Line) : Type 0 where
   pub offset : l.offset ≡ l.start
   pub stream : stream_in l.kind l.path 0 s.adaptors ≡ None
   pub name : named_in l.name 0 s.adaptors ≡ None
-  pub room : length s.adaptors < 10000
+  pub room : length s.adaptors < most_lines
 
 -- the adaptor of a new line, which begins there, and the lines with that line more
 pub record IsMore (s : State) (l : Line) (from : ℕ) (a : Adaptor) (lines : List Line) : Type 0 where

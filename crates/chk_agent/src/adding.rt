@@ -17,6 +17,7 @@ ghost use Rattle.chk_replace.specs.Replace.{SparesOld};
 ghost use Rattle.chk_world.specs.Names.{CheckFile, spell};
 ghost use Rattle.chk_site.specs.Runs.{Leads};
 ghost use Rattle.chk_world.specs.Places.{As};
+ghost use Rattle.chk_world.specs.Checkpoints.{most_lines};
 ghost use Rattle.chk_reading.specs.Adaptors.{Adaptor as Reading, is_past, line_at};
 ghost use Rattle.chk_agent.specs.States.{process, lines_of as lines_now};
 ghost use Rattle.chk_agent.specs.Facts.{Matches};
@@ -240,7 +241,7 @@ impl Agent {
         requires free { named_in name 0 self.old.adaptors ≡ None }
         requires start { start < 2 ^ 62 }
         requires stream { stream_in kind.now path.now 0 self.old.adaptors ≡ None }
-        requires room { length self.old.adaptors < 10000 }
+        requires room { length self.old.adaptors < most_lines }
         ensures state { TakesStream self.old name class kind.now path.now start None result self.new
             (S.told site.old) (S.told site.new) }
         ensures told { (stamped : List (List ℕ)) → Adds (S.told site.old) (S.told site.new)

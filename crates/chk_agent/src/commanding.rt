@@ -14,6 +14,7 @@ ghost use Rattle.chk_control.specs.Lines.{is_name_if_given};
 ghost use Rattle.chk_control.specs.Spellings.{is_command};
 ghost use Rattle.chk_rotate.specs.Marks.{BeginsBelow};
 ghost use Rattle.chk_world.specs.Places.{As};
+ghost use Rattle.chk_world.specs.Checkpoints.{most_lines};
 ghost use Rattle.chk_reading.specs.Adaptors.{Adaptor as Reading, is_past, shut_down, stopped};
 ghost use Rattle.chk_agent.specs.declared.answers.AgentFault.TheVariants.{NoMemory as wanting};
 ghost use Rattle.chk_agent.specs.States.{State as Held, process};
@@ -127,7 +128,7 @@ impl Agent {
         ensures refusal { (name : List ℕ) → IsNameFor self.now given.now name
             → result ≡ add_refusal (named_in name 0 self.now.adaptors)
             (stream_in kind.now path.now 0 self.now.adaptors) (length self.now.adaptors) class offset }
-        ensures few { length self.now.adaptors ≤ 10000 }
+        ensures few { length self.now.adaptors ≤ most_lines }
         ensures known { IfSome result (λ n. (1 ≤ n) × (n ≤ 14)) }
     {
         let count = self.adaptors.len();
@@ -292,7 +293,7 @@ fn refusal_by(adaptor: &Adaptor, class: Class, offset: u64) -> Option<u8>
 
 // The numbers of those that aren't past.
 fn live_numbers(alloc: Global, adaptors: &[Adaptor]) -> Result<Vec<u32>, NoMemory>
-    requires { length adaptors.now ≤ 10000 }
+    requires { length adaptors.now ≤ most_lines }
     ensures { IfOk result (λ gone. gone.items ≡ live_from 0 adaptors.now) }
 {
     let mut gone = Vec::with_capacity(alloc, adaptors.len())?;
@@ -325,7 +326,7 @@ fn stop_live(adaptors: &mut Adaptors, delivery: &Delivery)
 
 // Appends the line of each adaptor that isn't past, and answers how many there are.
 fn put_lines(out: &mut Bytes, adaptors: &[Adaptor], delivery: &Delivery) -> Result<u32, NoMemory>
-    requires few { length adaptors.now ≤ 10000 }
+    requires few { length adaptors.now ≤ most_lines }
     requires known { length adaptors.now ≤ length delivery.now.table.committed }
     ensures text { OnOk result (out.new ≡ out.old ++ list_lines adaptors.now delivery.now.table.committed) }
     ensures count { IfOk result (λ count. count ≡ length (live_from 0 adaptors.now)) }

@@ -1,6 +1,7 @@
 //! The lines of an agent's checkpoint.
 
 ghost use Rattle.std.specs.Prelude.{◌≡◌, ◌≤◌, ℕ, Some, IfOk, length, slice_get, slice_index};
+ghost use Rattle.chk_world.specs.Checkpoints.{most_lines};
 ghost use Rattle.chk_rotate.specs.Marks.{BeginsBelow};
 ghost use Rattle.chk_reading.specs.Adaptors.{Adaptor as Reading};
 ghost use Rattle.chk_checkpoint.specs.Lines.{lines_of};
@@ -19,7 +20,7 @@ pub(crate) fn lines_now(
     delivery: &Delivery,
 ) -> Result<Checkpoint, NoMemory>
     requires known { length adaptors.now ≤ length delivery.now.table.committed }
-    requires few { length adaptors.now ≤ 10000 }
+    requires few { length adaptors.now ≤ most_lines }
     requires from { (i : ℕ) (a : Reading) → slice_get adaptors.now i ≡ Some a
         → BeginsBelow (slice_index delivery.now.table.committed i) a.marks }
     requires to { (i : ℕ) (a : Reading) → slice_get adaptors.now i ≡ Some a

@@ -2,6 +2,7 @@
 
 ghost use Rattle.std.specs.Prelude.{◌≡◌, ◌≤◌, IfOk, IsTrue, not, true, length, position, slice_set};
 ghost use Rattle.chk_control.specs.Lines.{is_name};
+ghost use Rattle.chk_world.specs.Checkpoints.{most_lines};
 ghost use Rattle.chk_agent.specs.Adds.{default_name};
 ghost use Rattle.chk_agent.specs.DefaultNames.{IsLeastFree, marked, name_number, number_in};
 ghost use Rattle.chk_agent.specs.DefaultNames.{unmarked};
@@ -13,7 +14,7 @@ use std::alloc::Global;
 /// The least number from 1 on whose default name no live adaptor has. It is one pass over the
 /// adaptors, and takes a byte for each.
 pub(crate) fn least_free(alloc: Global, adaptors: &[Adaptor]) -> Result<u64, NoMemory>
-    requires few { length adaptors.now ≤ 10000 }
+    requires few { length adaptors.now ≤ most_lines }
     ensures { IfOk result (IsLeastFree adaptors.now) }
 {
     let taken = numbers_taken(alloc, adaptors)?;
@@ -35,7 +36,7 @@ pub(crate) fn name_of(alloc: Global, number: u64) -> Result<Word, NoMemory>
 // Marks the numbers that live adaptors' default names take, and 0, which no default name has. One
 // of the numbers up to that of the adaptors and one more is free.
 fn numbers_taken(alloc: Global, adaptors: &[Adaptor]) -> Result<Vec<bool>, NoMemory>
-    requires few { length adaptors.now ≤ 10000 }
+    requires few { length adaptors.now ≤ most_lines }
     ensures { IfOk result (λ taken. taken.items ≡ marked (unmarked (length adaptors.now)) adaptors.now) }
 {
     let mut taken = Vec::with_capacity(alloc, adaptors.len() + 2)?;

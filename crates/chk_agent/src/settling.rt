@@ -6,6 +6,7 @@ ghost use Rattle.std.specs.Prelude.{slice_get, slice_index};
 ghost use Rattle.chk_site.specs.Site.{Adds};
 ghost use Rattle.chk_site.specs.Runs.{Leads};
 ghost use Rattle.chk_world.specs.Places.{As};
+ghost use Rattle.chk_world.specs.Checkpoints.{most_lines};
 ghost use Rattle.chk_checkpoint.specs.Lines.{shown, lines_of};
 ghost use Rattle.chk_reading.specs.Adaptors.{Adaptor as Reading, is_past, phase_at};
 ghost use Rattle.chk_rotate.specs.Marks.{BeginsBelow};
@@ -126,7 +127,7 @@ fn send_back(adaptors: &mut Adaptors, delivery: &Delivery, gone: &[u32])
 
 // The lines of the adaptors that have come to their ends are past.
 fn note_ended(lines: &mut [CheckLine], adaptors: &[Adaptor], delivery: &Delivery)
-    requires few { length adaptors.now ≤ 10000 }
+    requires few { length adaptors.now ≤ most_lines }
     requires known { length adaptors.now ≤ length delivery.now.table.committed }
     requires lines { map shown lines.old ≡ lines_at adaptors.now delivery.now.table.committed }
     ensures { map shown lines.new

@@ -7,7 +7,7 @@ ghost use Rattle.chk_site.specs.declared.acts.Call.TheVariants.{Start};
 ghost use Rattle.chk_site.specs.Site.{Adds, asked, LastFailed, OutsideCause};
 ghost use Rattle.chk_site.specs.Runs.{HasStarted, Leads};
 ghost use Rattle.chk_world.specs.Names.{is_source};
-ghost use Rattle.chk_world.specs.Checkpoints.{Two, are_lines};
+ghost use Rattle.chk_world.specs.Checkpoints.{Two, are_lines, most_lines};
 ghost use Rattle.chk_world.specs.Rules.{Legal};
 ghost use Rattle.chk_world.specs.Places.{As};
 ghost use Rattle.chk_checkpoint.specs.Lines.{shown, lines_of};
@@ -179,8 +179,8 @@ fn begun_delivery(
     rules: chk_delivery::Rules,
     lines: &[CheckLine],
 ) -> Result<Delivery, NoMemory>
-    requires few { length lines.now ≤ 10000 }
-    ensures { IfOk result (λ new. (old : Delivery) × IsEmptyFor ring rules 10000 old × IsBegun (map shown lines.now) old new) }
+    requires few { length lines.now ≤ most_lines }
+    ensures { IfOk result (λ new. (old : Delivery) × IsEmptyFor ring rules most_lines old × IsBegun (map shown lines.now) old new) }
 {
     let mut delivery = new_delivery(alloc, ring, rules, MOST_LINES as u32)?;
     begin_all(&mut delivery, lines);
@@ -205,7 +205,7 @@ fn begin_all(delivery: &mut Delivery, lines: &[CheckLine])
     requires no_rows { delivery.old.table.rows ≡ [] }
     requires known { length lines.now ≤ length delivery.old.table.committed }
     requires last { length delivery.old.table.last ≡ length delivery.old.table.committed }
-    requires few { length lines.now ≤ 10000 }
+    requires few { length lines.now ≤ most_lines }
     ensures { IsBegun (map shown lines.now) delivery.old delivery.new }
 {
     for (i, line) in lines.iter().enumerate() {

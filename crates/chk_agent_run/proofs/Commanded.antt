@@ -1,17 +1,17 @@
 -- A control line leaves the agent the same, and ready where it was answered.
-use Rattle.std.proofs.Common.{◌≡◌, ℕ, List, Option, Some, None, Result, Ok, Err, ap, sym, subst, ◌∙◌, refl}
+use Rattle.std.proofs.Common.{◌≡◌, ℕ, List, Option, Some, None, Result, Ok, Err, ap, subst, ◌∙◌, refl}
 use Rattle.std.proofs.lemmas.Option.{same_Some, none-some}
 use Rattle.chk_control.specs.declared.commands.Command.TheVariants.{Blank, Add, Close, Help, List as ListAll, ReloadCollectors, Stop, StopAll, Shutdown, StopAgent}
 use Rattle.chk_control.specs.Lines.{Meaning, meaning_of}
 use Rattle.chk_site.specs.History.{History}
-use Rattle.chk_world.specs.Checkpoints.{Line}
 use Rattle.chk_reading.specs.Adaptors.{Adaptor}
 use Rattle.chk_agent.specs.declared.answers.AgentFault.{AgentFault}
 use Rattle.chk_agent.specs.declared.answers.Reply.{Reply}
 use Rattle.chk_agent.specs.States.{State}
-use Rattle.chk_agent.specs.Adds.{Found, TakesStream, with_added, written, failed, unwritten, unkept, unasked, wanting as take_wanting, unbegun}
+use Rattle.chk_agent.specs.Adds.{TakesStream, written, failed, unwritten, unkept, unasked, wanting as take_wanting, unbegun}
 use Rattle.chk_agent.specs.Commands.{Effect, plain_effect, stop_effect, shutdown_effect, ending, IsCommand, plainly, refused_add, added, failed_add, wanting}
 use Rattle.chk_agent.proofs.TurningTold.{IsSameAgent, same_agent}
+use Rattle.chk_agent.proofs.Alike.{same_as, with_same}
 
 -- the effect that some says
 same_effect : (s : State) (f e : Effect) → Some f ≡ Some e → IsSameAgent s f.next → IsSameAgent s e.next
@@ -41,14 +41,6 @@ effect_same (Ok StopAll) s e is = same_effect s _ e is (record { source = refl; 
 effect_same (Ok (Shutdown name)) s e is = shut_same name _ s e is
 effect_same (Ok StopAgent) s e is = same_effect s _ e is (same_agent s)
 effect_same (Err fault) s e is = same_effect s _ e is (same_agent s)
-
-with_same : (s : State) (found : Option Found) (l : Line) → IsSameAgent s (with_added s found l)
-with_same s None l = record { source = refl; ready = refl }
-with_same s (Some found) l = record { source = refl; ready = refl }
-
--- a state that another one is
-same_as : (s t u : State) → t ≡ u → IsSameAgent s u → IsSameAgent s t
-same_as s t u is same = subst (λ (k : State). IsSameAgent s k) (sym is) same
 
 pub command_same : {line : List ℕ} {s t : State} {reply : Reply} {old new : Option History}
     → IsCommand line s (Ok reply) t old new → IsSameAgent s t

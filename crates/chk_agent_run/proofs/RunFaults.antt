@@ -27,10 +27,6 @@ run_last {T = T} U fault result is p q =
     adds_as (LastOfRun result) (last_then {T = U} (Err fault) p q)
     (λ a h x. subst (λ (r : Result T RunFault). LastOfRun r a h) (sym is) (fault_last T U fault a h x))
 
--- an end that names no call
-pub nothing_last : {P : History → History → Type 0} {old new : Option History} → Adds old new P → Adds old new (λ a h. Unit {0})
-nothing_last p = adds_as (λ a h. Unit {0}) p (λ a h x. tt)
-
 fault_cause : (T U : Type 0) (before mid now : ℕ) (fault : AgentFault) → before ≤ mid → AgentCause {T = U} mid now (Err fault)
     → RunCause {T = T} before now (Err (fault_of fault))
 fault_cause T U before mid now (Damaged at) le cause = omega (arith, le, cause)

@@ -6,22 +6,15 @@ use Rattle.chk_site.specs.History.{History}
 use Rattle.chk_agent.specs.declared.answers.AgentFault.{AgentFault}
 use Rattle.chk_agent.specs.declared.answers.Settled.{Settled}
 use Rattle.chk_agent.specs.States.{State, process}
-use Rattle.chk_agent.specs.Settles.{IsSettled, same, written, failed, unwritten, wanting}
+use Rattle.chk_agent.specs.Settles.{IsSettled, same, written}
 use Rattle.chk_agent.specs.Turns.{IsTurned, unfilled, unposted, unanswered, unpolled, unsettled, turned}
 use Rattle.chk_agent.proofs.TurningTold.{IsSameAgent, same_then, filled_same, posts_same, replies_same, due_same}
+use Rattle.chk_agent.proofs.Alike.{settled_source}
 
 settled_same : {now : ℕ} {s t : State} {settled : Settled} {old new : Option History} → IsSettled now s (Ok settled) t old new
     → IsSameAgent s t
 settled_same (same is) = record { source = refl; ready = refl }
 settled_same (written other writes) = record { source = refl; ready = refl }
-
-settled_source : {now : ℕ} {s t : State} {result : Result Settled AgentFault} {old new : Option History} → IsSettled now s result t old new
-    → t.source ≡ s.source
-settled_source (same is) = refl
-settled_source (written other writes) = refl
-settled_source (failed call other writes) = refl
-settled_source (unwritten other writes) = refl
-settled_source wanting = refl
 
 pub turned_same : {now : ℕ} {s t : State} {full : Bool} {old new : Option History} → IsTurned now s (Ok full) t old new → IsSameAgent s t
 turned_same {s = s} {t = x} (turned {t = t} {u = u} {v = v} {w = w} filled posted answered settled fills posts replies polls settles) =

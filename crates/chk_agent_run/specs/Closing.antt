@@ -21,14 +21,18 @@ but_last (line ∷ next ∷ lines) = line ∷ but_last (next ∷ lines)
 abbrev pub is_closed_by : List ℕ → Bool
 is_closed_by bytes = list_any (λ line. closes (meaning_of line)) (but_last (parts_at 10 bytes))
 
--- what is read of a message: its first 65,536 bytes
+-- the most bytes that are read of a message
+abbrev pub message_limit : ℕ
+message_limit = 65536
+
+-- what is read of a message: its first bytes, up to the limit
 abbrev pub capped : List ℕ → List ℕ
-capped bytes = take 65536 bytes
+capped bytes = take message_limit bytes
 
 -- it is read on
 pub record IsOpen (bytes : List ℕ) : Type 0 where
   pub unclosed : is_closed_by bytes ≡ false
-  pub short : length bytes < 65536
+  pub short : length bytes < message_limit
 
 -- whole lines end at this place, and none of them ends the message, whatever follows
 pub record IsPassed (at : ℕ) (bytes : List ℕ) : Type 0 where

@@ -8,7 +8,7 @@ use Rattle.chk_site.specs.History.{History}
 use Rattle.chk_site.specs.Site.{Adds, Asked, asked, answered, bytes_given, Calls}
 use Rattle.chk_agent.specs.declared.answers.AgentFault.{AgentFault}
 use Rattle.chk_agent.specs.declared.answers.AgentFault.TheVariants.{NoMemory}
-use Rattle.chk_agent_run.specs.Closing.{is_closed_by, capped, IsOpen, IsPassed}
+use Rattle.chk_agent_run.specs.Closing.{is_closed_by, capped, IsOpen, IsPassed, message_limit}
 use Rattle.chk_agent_run.specs.declared.message.Scan.{Scan}
 use Rattle.chk_agent_run.specs.declared.message.Scan.TheVariants.{Closed, Open}
 
@@ -31,7 +31,7 @@ AsksMore who t = asked who More [] t 0
 -- then there is nothing to run.
 pub data IsRead (who : Who) (t : ℕ) : List ℕ → Result (Option (List ℕ)) AgentFault → Option History → Option History → Type 0 where
   closed : {bytes : List ℕ} {now : Option History} → is_closed_by bytes ≡ true → IsRead who t bytes (Ok (Some bytes)) now now
-  long : {bytes : List ℕ} {now : Option History} → 65536 ≤ length bytes → IsRead who t bytes (Ok (Some bytes)) now now
+  long : {bytes : List ℕ} {now : Option History} → message_limit ≤ length bytes → IsRead who t bytes (Ok (Some bytes)) now now
   came : {bytes : List ℕ} {result : Result (Option (List ℕ)) AgentFault} {old mid new : Option History} (piece : List ℕ)
       → IsOpen bytes → 0 < length piece
       → Adds old mid (Calls (AsksMore who t) (answered bytes_given (Ok piece)))

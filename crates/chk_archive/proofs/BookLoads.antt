@@ -1,9 +1,9 @@
 -- The load of the archive's book in a legal history.
-use Rattle.std.proofs.Common.{◌≡◌, ℕ, false, List, [], ◌∷◌, ◌++◌, Option, Some, None, Ok, Err, Result, ap, sym, subst, ◌∙◌, refl, true≢false, inl, inr}
+use Rattle.std.proofs.Common.{◌≡◌, ℕ, false, List, [], ◌∷◌, ◌++◌, Option, Ok, Err, Result, ap, sym, subst, ◌∙◌, refl, true≢false, inl, inr}
 use Rattle.std.specs.Prelude.{codes}
 use Rattle.std.proofs.lemmas.Bool.{cases_Bool}
 use Rattle.std.proofs.lemmas.List.{append_cancel_right}
-use Rattle.std.proofs.lemmas.Option.{same_Some, none-some}
+use Rattle.std.proofs.lemmas.Option.{same_Some}
 use Rattle.chk_site.specs.declared.acts.OutsideFault.{OutsideFault}
 use Rattle.chk_site.specs.declared.acts.OutsideFault.TheVariants.{Outside as site_failed, NoMemory as no_memory}
 use Rattle.chk_heads.specs.Faults.{job_fault, IsOfRead}
@@ -19,8 +19,6 @@ use Rattle.chk_replace.specs.Load.{Has}
 use Rattle.chk_world.specs.Names.{ArchiveFolder, BookFile, spell, read}
 use Rattle.chk_world.specs.Books.{Book, book_in}
 use Rattle.chk_world.specs.Laws.{IsWholeBook}
-use Rattle.chk_world.proofs.SpelledLemmas.{book_so}
-use Rattle.chk_book.specs.Damage.{book_damage}
 use Rattle.chk_world.specs.Committed.{OnFile}
 use Rattle.chk_world.specs.Places.{As}
 use Rattle.chk_world.specs.Rules.{Legal}
@@ -34,13 +32,13 @@ use Rattle.chk_world.proofs.SmallFiles.{readable}
 use Rattle.chk_heads.specs.declared.fault.JobFault.{JobFault}
 use Rattle.chk_heads.specs.declared.fault.JobFault.TheVariants.{Outside, Damaged, Spent, NoMemory}
 use Rattle.chk_book.specs.Folders.{book_name}
-use Rattle.chk_book.specs.Loaded.{LoadedBook, IsNoBookAt, file_bytes}
-use Rattle.chk_book.proofs.NoDamage.{no_damage}
+use Rattle.chk_book.specs.Loaded.{LoadedBook}
 use Rattle.chk_archive.specs.Beginning.{HasBegun, Begins, only_reads}
 use Rattle.chk_parts.specs.Gathering.{held, held_at, CanBeRead, own_book_file}
 use Rattle.chk_archive.specs.Tidying.{HasBook}
 use Rattle.chk_parts.proofs.OneFile.{Knows, stays_stopped, file_known, one_file}
 use Rattle.chk_world.proofs.LogEnds.{legal_modelled}
+use Rattle.chk_parts.proofs.Beginning.{undamaged}
 
 abbrev W : List ℕ
 W = book_name (codes "archive")
@@ -57,13 +55,6 @@ can_read v = subst (CanBeRead v) (sym reads_book) own_book_file
 
 book_held : (v : Sight) → book_in (held v W) ≡ own_book v ArchiveFolder
 book_held v = ap (λ n. book_in (held_at v n)) reads_book
-
--- a book of a legal history has no wrong field
-undamaged : (o : Option File) (at : ℕ) → OnFile o IsWholeBook → IsNoBookAt (file_bytes o) at → ⊥
-undamaged None at whole bad = bad
-undamaged (Some f) at whole bad =
-    let so = book_so f.bytes whole.book whole.is in
-    none-some at (sym (ap book_damage (sym so.2) ∙ no_damage so.0 whole.book so.1) ∙ bad)
 
 module _ (stamped : List (List ℕ)) (loaded : Book)
     (r : Result Book JobFault) {old new : Option History}

@@ -32,6 +32,7 @@ use Rattle.chk_parts.specs.Records.{AreOfLogs}
 use Rattle.chk_archive.specs.Listed.{IsListed}
 use Rattle.chk_archive.proofs.SinksGo.{good_stem}
 use Rattle.chk_archive.proofs.Listings.{L, legal_then, book_then, sink_held}
+use Rattle.chk_parts.proofs.InTurn.{from_both}
 
 -- ---- lists
 
@@ -50,14 +51,6 @@ from_flat f (x ∷ xs) y one = elim (split (f x) (flat_map f xs) one) [
       | inl r ↦ inl (later_one z ys y r)
       | inr r ↦ inr r
     ]
-
-pub from_both : {Y : Type 0} (ys zs : List Y) (y : Y) → Contains (ys ++ zs) y → Contains ys y ⊎ Contains zs y
-from_both [] zs y k = inr k
-from_both (z ∷ ys) zs y (zero, low, at) = inl (0, omega arith, at)
-from_both (z ∷ ys) zs y (suc k, low, at) = elim (from_both ys zs y (k, omega (arith, low), at)) [
-  | inl r ↦ inl (later_one z ys y r)
-  | inr r ↦ inr r
-]
 
 -- ---- the sinks and the aside segment are as they were
 

@@ -1,13 +1,10 @@
 -- Removals that a loop makes in turn.
-use Rattle.std.proofs.Common.{◌≡◌, ℕ, ◌+◌, ◌<◌, List, [], ◌∷◌, Ok, Err, Option, Result, length, drop, ap, sym, subst, ◌∙◌}
-use Rattle.std.specs.Prelude.{slice_index_or}
-use Rattle.std.proofs.lemmas.List.{drop_more}
+use Rattle.std.proofs.Common.{◌≡◌, ℕ, List, [], ◌∷◌, Ok, Err, Option, Result, sym, subst}
 use Rattle.chk_site.specs.declared.acts.OutsideFault.{OutsideFault}
 use Rattle.chk_site.specs.declared.acts.CallFault.{CallFault}
 use Rattle.chk_site.specs.declared.acts.Who.{Who}
 use Rattle.chk_site.specs.History.{History}
-use Rattle.chk_site.specs.Site.{Adds, answered, plain, Calls, CauseOf, IsDone, Ends}
-use Rattle.chk_site.specs.declared.acts.CallFault.TheVariants.{Failed, Missing, Exists, Short, NoMemory}
+use Rattle.chk_site.specs.Site.{Adds, answered, plain, Calls, IsDone, Ends}
 use Rattle.chk_site.specs.Runs.{MadeInTurn, finished, went_on, ended}
 use Rattle.chk_archive.specs.Calling.{removal, removals}
 
@@ -16,23 +13,6 @@ abbrev pub SoFar : Who → List (List ℕ) → List (List ℕ) → Option Histor
 SoFar who all left old now =
     (result : Result (Unit {0}) OutsideFault) (new : Option History)
     → MadeInTurn (removals who left) result now new → MadeInTurn (removals who all) result old new
-
--- the element at a place is the first of those from there on
-pub next_is : (names : List (List ℕ)) (i : ℕ) (item name : List ℕ) → i < length names
-    → item ≡ slice_index_or names i item → name ≡ item → drop i names ≡ name ∷ drop (i + 1) names
-next_is names i item name low is text =
-    drop_more names i item low ∙ ap (λ n. n ∷ drop (i + 1) names) (sym is ∙ sym text)
-
--- a call that was done leaves the count of faults
-pub cause_done : (before now : ℕ) (given : Result (Unit {0}) CallFault) → IsDone given
-    → CauseOf before now given
-    → now ≡ before
-cause_done before now (Ok value) is cause = cause
-cause_done before now (Err Failed) is cause = absurd is
-cause_done before now (Err Missing) is cause = cause
-cause_done before now (Err Exists) is cause = cause
-cause_done before now (Err (Short size)) is cause = cause
-cause_done before now (Err NoMemory) is cause = cause
 
 pub one_more : (who : Who) (all : List (List ℕ)) (name : List ℕ) (left : List (List ℕ))
     (old now mid : Option History)

@@ -1,11 +1,10 @@
 -- The call that failed is the last one.
 use Rattle.std.proofs.Common.{ℕ, List, Option, Ok, Err, Result}
-use Rattle.std.specs.Prelude.{IfOk, IfErr, MatchResult}
+use Rattle.std.specs.Prelude.{IfOk, IfErr}
 use Rattle.chk_site.specs.declared.acts.OutsideFault.{OutsideFault}
 use Rattle.chk_site.specs.declared.acts.OutsideFault.TheVariants.{Outside as site_failed, NoMemory as no_memory}
-use Rattle.chk_site.specs.declared.acts.CallFault.{CallFault}
 use Rattle.chk_site.specs.History.{History}
-use Rattle.chk_site.specs.Site.{Adds, LastFailed, answered, plain, names_given, IsDone, Calls, Ends}
+use Rattle.chk_site.specs.Site.{Adds, LastFailed, names_given}
 use Rattle.chk_site.specs.Runs.{MadeInTurn}
 use Rattle.chk_site.proofs.Runs.{adds_as, adds_then}
 use Rattle.chk_replace.proofs.CallSteps.{script_last}
@@ -14,7 +13,6 @@ use Rattle.chk_site.proofs.LastCalls.{last_of_both as last_then}
 use Rattle.chk_world.specs.Sight.{job}
 use Rattle.chk_heads.specs.Faults.{FailsLast, job_fault}
 use Rattle.chk_archive.specs.Calling.{removals, Listed}
-use Rattle.chk_archive.proofs.Started.{StartQ}
 
 -- of a listing, by its result
 pub listed_last : {T : Type 0} (items : T → List (List ℕ)) (folder : List ℕ)
@@ -36,17 +34,6 @@ pub removals_last : {P : History → History → Type 0}
 removals_last ws {result = result} so_far script =
     adds_then (LastFailed result) so_far (script_last script)
     (λ a b history p q. last_then result b a history q)
-
--- of the start
-pub start_last : (r : Result (Unit {0}) OutsideFault)
-    (given : Result (Unit {0}) CallFault) {old new : Option History}
-    → MatchResult r (λ _. IsDone given) (λ fault. Ends StartQ.call given fault)
-    → Adds old new (Calls StartQ (answered plain given)) → Adds old new (LastFailed r)
-start_last (Ok value) given is told = adds_as (LastFailed (Ok value)) told
-    (λ added history calls. tt)
-start_last (Err fault) given ends told =
-    adds_as (LastFailed {T = Unit {0}} (Err fault)) told
-    (λ added history calls. ends_last (Unit {0}) plain given fault ends calls)
 
 -- as a fault of the job
 pub as_fails : (T U : Type 0) (fault : OutsideFault) {old new : Option History} → Adds old new

@@ -32,7 +32,7 @@ use Rattle.chk_parts.proofs.OneSegment.{segment_spelled, has_some}
 use Rattle.chk_archive.specs.Numbers.{Numbered}
 use Rattle.chk_archive.proofs.BookFacts.{numbered}
 use Rattle.chk_world.proofs.LogEnds.{legal_modelled}
-use Rattle.chk_archive.proofs.Listings.{limits_agree}
+use Rattle.chk_merge.proofs.BothLimits.{limits_agree}
 use Rattle.chk_world.proofs.Rounds.{stream_self}
 
 pub in_map : {X Y : Type 0} (f : X → Y) (xs : List X) (y : Y) → Contains (map f xs) y

@@ -1,9 +1,7 @@
 -- A call that reads files and writes a segment that no book names keeps what the job knows beside
 -- it, whatever others do.
-use Rattle.std.proofs.Common.{◌≡◌, inl, inr, ℕ, false, List, [], ◌∷◌, ◌++◌, Option, Some, sym, subst, refl}
+use Rattle.std.proofs.Common.{◌≡◌, inl, inr, ℕ, false, List, [], ◌∷◌, ◌++◌, Option, subst, refl}
 use Rattle.std.specs.Prelude.{IsTrue, codes}
-use Rattle.std.proofs.lemmas.List.{append_cancel_right}
-use Rattle.std.proofs.lemmas.Option.{same_Some, none-some}
 use Rattle.chk_bytes.specs.Stems.{is_count}
 use Rattle.chk_site.specs.Files.{File}
 use Rattle.chk_site.specs.Acts.{Deed, Starts}
@@ -24,6 +22,7 @@ use Rattle.chk_world.proofs.ToldCalls.{talks}
 use Rattle.chk_book.specs.Folders.{segment_name}
 use Rattle.chk_parts.proofs.OneSegment.{segment_spelled, quiet_write}
 use Rattle.chk_world.proofs.Lifts.{no_write_starts}
+use Rattle.chk_parts.proofs.OneStep.{single, single_leads}
 
 pub no_merge_starts : (w : List ℕ) → ReadsOrWrites w Starts → ⊥
 no_merge_starts w (inl k) = elim k [ ]
@@ -33,27 +32,6 @@ pub quiet_merging : (w : List ℕ) (call : Deed) → ReadsOrWrites w call → ta
 quiet_merging w call (inl (reads name at max)) = refl
 quiet_merging w call (inl (asks name)) = refl
 quiet_merging w call (inr k) = quiet_write w call k
-
--- one step more
-single : (before : History) (step : Step) (Q : History → History → Type 0) → Q (step ∷ []) before
-    → Adds (Some before) (Some (step ∷ before)) Q
-single before step Q q = record {
-  told = λ history e.
-      subst (λ h. (added : History) × (Some (step ∷ before) ≡ Some (added ++ h)) × Q added h)
-      (same_Some before history e) (step ∷ [], refl, q);
-  untold = λ e. absurd (none-some before (sym e));
-}
-
-single_leads : (stamped : List (List ℕ)) (before : History) (step : Step) (A B : History → Type 0)
-    → Adds (Some before) (Some (step ∷ before)) (Leads (As stamped job) A B)
-    → (step.own ≡ false → Foreign stamped job before step) → A before → B (step ∷ before)
-single_leads stamped before step A B told theirs a =
-    let x = told.told before refl in
-    let same : x.0 ≡ step ∷ [] =
-    append_cancel_right x.0 (step ∷ []) before (same_Some (x.0 ++ before) (step ∷ before) (sym x.1)) in
-    let led : Leads (As stamped job) A B (step ∷ []) before =
-    subst (λ (l : History). Leads (As stamped job) A B l before) same x.2 in
-    led.leads (tt, theirs) a
 
 module _ (stamped : List (List ℕ)) (P : Sight → Type 0) (k : ℕ) (count : IsTrue (is_count k))
     (unnamed : (history : History) → P (sight history)

@@ -46,7 +46,7 @@ use Rattle.chk_archive.proofs.BookFacts.{unnamed}
 use Rattle.chk_archive.proofs.Preparing.{but_book}
 use Rattle.chk_archive.proofs.MergeSteps.{no_merge_starts, quiet_merging, over_merge}
 use Rattle.chk_archive.proofs.MergeFacts.{facts, counted, in_map, settled, named_chunks, never_damaged, apart}
-use Rattle.chk_archive.proofs.Listings.{limits_agree}
+use Rattle.chk_merge.proofs.BothLimits.{limits_agree}
 use Rattle.chk_archive.proofs.MergedBook.{IsMergedFor, known_chunks, merged_may}
 use Rattle.chk_archive.proofs.MergeOrder.{merged_in_order}
 

@@ -34,8 +34,10 @@ use Rattle.chk_book.specs.Segmenting.{end_of, raised_all}
 use Rattle.chk_parts.specs.Writes.{HoldsChunks}
 use Rattle.chk_archive.specs.Listed.{IsListed}
 use Rattle.chk_archive.specs.Taking.{PartsAdded, nothing_taken, one_added, AsideNamed, none_kept, old_kept, new_kept}
-use Rattle.chk_archive.proofs.Listings.{legal_then, own_then, book_then, limits_agree}
-use Rattle.chk_archive.proofs.FoundSources.{K, then_files, StillThere, source_found, are_found, founded, found_bytes, true_book, from_both, listed_end}
+use Rattle.chk_archive.proofs.Listings.{legal_then, own_then, book_then}
+use Rattle.chk_merge.proofs.BothLimits.{limits_agree}
+use Rattle.chk_archive.proofs.FoundSources.{K, then_files, StillThere, source_found, are_found, founded, found_bytes, true_book, listed_end}
+use Rattle.chk_parts.proofs.InTurn.{from_both}
 use Rattle.chk_archive.specs.Numbers.{Numbered}
 use Rattle.chk_archive.proofs.BookFacts.{numbered}
 use Rattle.chk_parts.proofs.EndsInOrder.{sorted, Has, has_any, any_has}

@@ -30,7 +30,8 @@ use Rattle.chk_archive.specs.Written.{taken_parts, needed_behind, one_merge, Hol
 use Rattle.chk_archive.specs.Taking.{PartsAdded, nothing_taken, one_added, TookAll}
 use Rattle.chk_archive.proofs.MergeFacts.{facts as ending}
 use Rattle.chk_archive.proofs.NextBook.{facts}
-use Rattle.chk_archive.proofs.Listings.{limits_agree, own_then, counted}
+use Rattle.chk_archive.proofs.Listings.{own_then, counted}
+use Rattle.chk_merge.proofs.BothLimits.{limits_agree}
 use Rattle.chk_parts.specs.Writes.{HoldsChunks}
 use Rattle.chk_archive.specs.declared.taking.Taken.{Taken}
 use Rattle.chk_archive.specs.declared.counting.Counted.{Counted}

@@ -1,13 +1,12 @@
 -- The start of the job leaves the archive's book.
-use Rattle.std.proofs.Common.{◌≡◌, ℕ, inl, inr, Bool, true, false, List, [], ◌∷◌, Option, Ok, Err, Result, ap, sym, ◌∙◌, refl, true≢false}
+use Rattle.std.proofs.Common.{◌≡◌, ℕ, inl, inr, Bool, true, false, List, ◌∷◌, Option, Ok, Err, Result, ap, sym, ◌∙◌, refl, true≢false}
 use Rattle.std.specs.Prelude.{MatchResult}
 use Rattle.chk_site.specs.declared.acts.OutsideFault.{OutsideFault}
 use Rattle.chk_site.specs.declared.acts.CallFault.{CallFault}
 use Rattle.chk_site.specs.declared.acts.ActAnswer.{ActAnswer}
-use Rattle.chk_site.specs.declared.acts.Call.TheVariants.{Start}
-use Rattle.chk_site.specs.Acts.{Starts, Reads, is_done}
+use Rattle.chk_site.specs.Acts.{is_done}
 use Rattle.chk_site.specs.History.{Step, History, Every, files_after}
-use Rattle.chk_site.specs.Site.{Adds, Asked, asked, own_step, answered, plain, WasDone, IsDone, Calls, Ends}
+use Rattle.chk_site.specs.Site.{Adds, own_step, answered, plain, WasDone, IsDone, Calls, Ends}
 use Rattle.chk_site.specs.Runs.{Leads}
 use Rattle.chk_site.proofs.Runs.{adds_as, adds_both}
 use Rattle.chk_site.proofs.Leads.{Shows, leads_as, done_leads, ends_leads}
@@ -25,9 +24,7 @@ use Rattle.chk_world.proofs.ToldCalls.{owned, told_start}
 use Rattle.chk_archive.specs.Archived.{Begun}
 use Rattle.chk_archive.specs.Beginning.{HasStartedSo, Begins, starts}
 use Rattle.chk_archive.specs.Tidying.{HasBook}
-
-abbrev pub StartQ : Asked
-StartQ = asked job Start [] 0 0
+use Rattle.chk_parts.proofs.Beginning.{no_read, StartQ}
 
 module _ (stamped : List (List ℕ)) (loaded : Book) where
   -- others leave it
@@ -111,10 +108,6 @@ pub start_so : (stamped : List (List ℕ)) (loaded : Book) (r : Result (Unit {0}
 start_so stamped loaded (Ok value) given is told = started stamped loaded given is told
 start_so stamped loaded
     (Err fault) given ends told = not_started stamped loaded given fault ends told
-
--- it reads nothing
-no_read : (name : List ℕ) (at max : ℕ) → Starts ≡ Reads name at max → ⊥
-no_read name at max is = absurd (cc)
 
 pub start_pieces : (given : Result (Unit {0}) CallFault) {old new : Option History}
     → Adds old new (Calls StartQ (answered plain given)) → Adds old new (Every AsksInPieces)

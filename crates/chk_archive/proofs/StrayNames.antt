@@ -1,8 +1,8 @@
 -- The names of segments that a book doesn't name.
-use Rattle.std.proofs.Common.{◌≡◌, ◌⊎◌, inl, inr, ℕ, zero, suc, ◌<◌, ◌^◌, Bool, true, false, not, ◌&&◌, ◌||◌, List, [], ◌∷◌, ◌++◌, length, Option, Some, None, ap, sym, subst, ◌∙◌, refl, arith, true≢false, length-append, bytes_eq, take, drop, if◌then◌else◌}
+use Rattle.std.proofs.Common.{◌≡◌, ◌⊎◌, inl, inr, ℕ, zero, suc, ◌<◌, Bool, true, false, not, ◌&&◌, ◌||◌, List, [], ◌∷◌, ◌++◌, length, Option, Some, None, ap, sym, subst, ◌∙◌, refl, arith, true≢false, length-append, bytes_eq, take, drop, if◌then◌else◌}
 use Rattle.std.specs.Prelude.{IsTrue, Contains, codes, decimal, filter, map, slice_index_or, ◌==◌}
 use Rattle.std.specs.List.{list_any}
-use Rattle.std.proofs.lemmas.Bool.{and_parts, and_from, ltb-true}
+use Rattle.std.proofs.lemmas.Bool.{and_parts, and_from}
 use Rattle.std.proofs.lemmas.Fmt.{length-decimal-le}
 use Rattle.std.proofs.lemmas.List.{take-append-drop}
 use Rattle.std.proofs.lemmas.Option.{same_Some, none-some}
@@ -11,7 +11,7 @@ use Rattle.chk_bytes.specs.Numbers.{plain_number}
 use Rattle.chk_bytes.specs.Stems.{is_count}
 use Rattle.chk_bytes.proofs.WordLemmas.{plain_word, plain-append}
 use Rattle.chk_bytes.proofs.StemLemmas.{decimal_plain}
-use Rattle.chk_bytes.proofs.DecimalLemmas.{plain_number-decimal, plain_number-Some}
+use Rattle.chk_bytes.proofs.DecimalLemmas.{plain_number-Some}
 use Rattle.chk_message.proofs.Apart.{no_mark}
 use Rattle.chk_site.specs.Honest.{in_folder}
 use Rattle.chk_world.specs.Names.{ArchiveFolder, SegmentFile, spell}
@@ -20,10 +20,7 @@ use Rattle.chk_world.proofs.Each.{passes_in, later_one}
 use Rattle.chk_world.proofs.Ends.{bytes_same}
 use Rattle.chk_book.specs.Folders.{segment_stem}
 use Rattle.chk_archive.specs.FolderNames.{counted_only, number_behind, segment_number, names_segment, is_stray, strays_in}
-
--- a count is below 2 ^ 63
-pub count_small : (k : ℕ) → is_count k ≡ true → k < 2 ^ 63
-count_small k count = ltb-true k (2 ^ 63) (and_parts _ _ count).1
+use Rattle.chk_book.proofs.StemNumbers.{count_small, number_of_stem}
 
 pub segment_spelled : (k : ℕ) → spell (SegmentFile ArchiveFolder k) ≡ in_folder (codes "archive")
     (segment_stem k)
@@ -53,12 +50,6 @@ stem_word k count =
     (decimal_plain k (omega (arith, small))))
     (omega (arith, size)) (omega (arith, size, digits)))
     (ap not (none_any (segment_stem k) (no_mark 47 k (omega arith) small)))
-
--- the name of a segment has its number
-pub number_of_stem : (k : ℕ) → is_count k ≡ true → segment_number (segment_stem k) ≡ Some k
-number_of_stem k count =
-    ap (λ o. counted_only o) (plain_number-decimal k (count_small k count))
-    ∙ ap (λ b. elim b as (λ t. Option ℕ) [ true ↦ Some k | false ↦ None ]) count
 
 -- and only that name has it
 pub stem_of_number : (name : List ℕ) (k : ℕ) → segment_number name ≡ Some k

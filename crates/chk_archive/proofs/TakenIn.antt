@@ -55,7 +55,8 @@ use Rattle.chk_archive.specs.Sinks.{as_sight}
 use Rattle.chk_archive.specs.Written.{one_for, same_chunks, one_aside, taken_parts, kept_aside, needed_behind}
 use Rattle.chk_archive.specs.declared.taking.Taken.{Taken}
 use Rattle.chk_archive.proofs.ByStream.{SameByStream}
-use Rattle.chk_archive.proofs.Listings.{limits_agree, legal_then, own_then}
+use Rattle.chk_archive.proofs.Listings.{legal_then, own_then}
+use Rattle.chk_merge.proofs.BothLimits.{limits_agree}
 use Rattle.chk_archive.proofs.FoundSources.{K, founded, true_book}
 use Rattle.chk_archive.proofs.NextBook.{Ends, Cs, may_follow, now_reached}
 use Rattle.chk_archive.proofs.Preparing.{below_book, below_segment}

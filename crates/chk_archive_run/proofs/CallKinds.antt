@@ -7,30 +7,19 @@ use Rattle.chk_site.specs.History.{History, Every}
 use Rattle.chk_site.specs.Site.{Adds}
 use Rattle.chk_site.specs.Runs.{own_acts}
 use Rattle.chk_site.proofs.Runs.{adds_as}
-use Rattle.chk_replace.proofs.CallSteps.{OfEach, script_each}
-use Rattle.chk_world.specs.JobSteps.{IsOf, ReadsFile, reads, asks, WritesTo, removes, creates, appends, syncs}
+use Rattle.chk_world.specs.JobSteps.{IsOf}
 use Rattle.chk_world.specs.Sight.{job}
 use Rattle.chk_archive.specs.Archived.{ArchivesBy, starts, lists_archive, lists_sinks_folder, reads_and_writes, removes_sink, MergesBy, merge_reads, merge_writes, merge_replaces, ReplacesBook, writes_book, names_book, is_sinks_listing}
 use Rattle.chk_archive.proofs.OnceListed.{Counted, none_listed}
 use Rattle.chk_prints.specs.Printing.{PrintsInTurn, print_of, printed}
-use Rattle.chk_prints.proofs.Printed.{printings, prints_made}
 use Rattle.chk_archive_run.specs.Telling.{ArchivesAndTells, archives, tells}
+use Rattle.chk_prints.proofs.CallKinds.{silent_write, silent_read, prints_own}
 
 -- ---- an archive run prints nothing
-
-silent_write : (name : List ℕ) (call : Deed) (answer : ActAnswer) → WritesTo name call → print_of job call answer ≡ []
-silent_write name call answer removes = refl
-silent_write name call answer creates = refl
-silent_write name call answer (appends piece) = refl
-silent_write name call answer syncs = refl
 
 silent_book : (call : Deed) (answer : ActAnswer) → ReplacesBook call → print_of job call answer ≡ []
 silent_book call answer (writes_book c k) = silent_write _ call answer k
 silent_book call answer names_book = refl
-
-silent_read : (call : Deed) (answer : ActAnswer) → ReadsFile call → print_of job call answer ≡ []
-silent_read call answer (reads name at max) = refl
-silent_read call answer (asks name) = refl
 
 silent_merge : (call : Deed) (answer : ActAnswer) → MergesBy call → print_of job call answer ≡ []
 silent_merge call answer (merge_reads c k) = silent_read call answer k
@@ -63,18 +52,6 @@ archive_silent own = adds_as (λ added history. printed (own_acts added) ≡ [])
 pub data Tells : Deed → Type 0 where
   says : (text : List ℕ) → Tells (Says text)
 
-each_tells : (lines : List (List ℕ)) → OfEach (IsOf Tells) (printings job lines)
-each_tells [] = tt
-each_tells (line ∷ lines) = (
-  λ before answer files logs running honest.
-      inr (record { own = refl; running = running; honest = honest; by = refl }, says line),
-  each_tells lines,
-)
-
-pub prints_own : {lines : List (List ℕ)} {result : Result (Unit {0}) OutsideFault} {old new : Option History}
-    → PrintsInTurn job lines result old new → Adds old new (Every (IsOf Tells))
-prints_own {lines = lines} prints = script_each (IsOf Tells) (λ before step theirs. inl theirs) (each_tells lines) (prints_made prints)
-
 pub of_archive : (call : Deed) → ArchivesBy call → ArchivesAndTells call
 of_archive call k = archives call k
 
@@ -86,4 +63,4 @@ lists_nothing call (says text) = refl
 
 pub prints_list_nothing : {lines : List (List ℕ)} {result : Result (Unit {0}) OutsideFault} {old new : Option History}
     → PrintsInTurn job lines result old new → Adds old new (Counted 0)
-prints_list_nothing prints = none_listed Tells lists_nothing (prints_own prints)
+prints_list_nothing prints = none_listed Tells lists_nothing (prints_own Tells says prints)

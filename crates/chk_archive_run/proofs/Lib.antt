@@ -3,4 +3,3 @@ pub mod RunStays
 pub mod TrueLines
 pub mod CallKinds
 pub mod Told
-pub mod InOrder

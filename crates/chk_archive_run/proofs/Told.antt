@@ -23,10 +23,11 @@ use Rattle.chk_archive.specs.Reports.{Report}
 use Rattle.chk_archive.proofs.OnceListed.{Counted, listed_then}
 use Rattle.chk_prints.specs.Printing.{PrintsInTurn, Print, by, printed}
 use Rattle.chk_prints.proofs.Printed.{prints_made, prints_told, prints_join, prints_run}
-use Rattle.chk_archive_run.proofs.CallKinds.{archive_silent, Tells, of_archive, of_print, prints_own, prints_list_nothing}
+use Rattle.chk_archive_run.proofs.CallKinds.{archive_silent, Tells, of_archive, of_print, prints_list_nothing, says}
 use Rattle.chk_archive_run.specs.Telling.{report_lines, ArchivesAndTells}
 use Rattle.chk_archive_run.proofs.TrueLines.{StaysDone, prints_lead, lines_truly}
 use Rattle.chk_archive.proofs.Finished.{of_fault}
+use Rattle.chk_prints.proofs.CallKinds.{prints_own}
 
 fails_later : (T : Type 0) (fault : OutsideFault) (b a history : History) → LastFailed {T = Unit {0}} (Err fault) b (a ++ history)
     → FailsLast {T = T} (Err (job_fault fault)) (b ++ a) history
@@ -60,7 +61,7 @@ module _ (r : Report) (result : Result (Unit {0}) OutsideFault) {old mid new : O
   pub own_both : Adds old new (Every (IsOf ArchivesAndTells))
   own_both =
       adds_then (Every (IsOf ArchivesAndTells)) (as_kind ArchivesBy ArchivesAndTells of_archive archives_own)
-      (as_kind Tells ArchivesAndTells of_print (prints_own prints))
+      (as_kind Tells ArchivesAndTells of_print (prints_own Tells says prints))
       (λ a b history p q. every_join (IsOf ArchivesAndTells) b a history p q)
 
   pub once_both : Adds old mid (Counted 1) → Adds old new (Counted 1)

@@ -10,3 +10,5 @@ pub mod Storing
 pub mod SegmentForms
 pub mod Segmented
 pub mod Added
+pub mod Works
+pub mod StemNumbers

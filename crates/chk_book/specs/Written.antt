@@ -27,9 +27,12 @@ pub record IsAt (s : Segmenter) (w : Writing) : Type 0 where
 abbrev pub next_piece : Segmenter → Chunk → List ℕ
 next_piece s c = piece_at s.writer.marker s.writer.place s.writer.last_sync (written_key c.key) c.value
 
--- what is still to be appended is appended from this many bytes on
+-- from this many bytes on what is still to be appended is appended
+abbrev pub full_size : ℕ
+full_size = 1048576
+
 abbrev pub is_full : List ℕ → Bool
-is_full left = nat_le 1048576 (length left)
+is_full left = nat_le full_size (length left)
 
 -- the segment with the chunk behind the others
 abbrev pub taken : Segmenter → Writing → Chunk → Writing

@@ -4,7 +4,7 @@ use Rattle.std.specs.List.{list_any}
 use Rattle.std.specs.BTreeSet.{contains_by}
 use Rattle.std.specs.Ordering.{nat_cmp, ordering_then}
 use Rattle.std.specs.Cmp.Lexicographic.{slice_cmp}
-use Rattle.chk_world.specs.Checkpoints.{Line, Version as Text, clash, is_line, fits_version, line_words}
+use Rattle.chk_world.specs.Checkpoints.{Line, Version as Text, clash, is_line, fits_version, line_words, most_lines}
 use Rattle.chk_bytes.specs.Words.{joined_at}
 use Rattle.chk_checkpoint.specs.Fields.{IsLineText}
 use Rattle.chk_checkpoint.specs.declared.seen.Seen.{Seen}
@@ -33,7 +33,7 @@ pub record HasSeen (s : Seen) (lines : List Line) : Type 0 where
 
 -- the line may stand behind these, of which it is none
 abbrev pub may_follow : List Line → Line → Bool
-may_follow lines l = nat_lt (length lines) 10000 && not (list_any (λ m. clash m l) lines)
+may_follow lines l = nat_lt (length lines) most_lines && not (list_any (λ m. clash m l) lines)
 
 -- a line without its newline
 abbrev pub body : Text → Line → List ℕ

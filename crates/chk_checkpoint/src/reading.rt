@@ -2,6 +2,7 @@
 
 ghost use Rattle.std.specs.Prelude.{◌≡◌, ◌≤◌, ◌==◌, ◌++◌, ◌∷◌, [], length, map, IfOk, IfSome, IfNone};
 ghost use Rattle.std.specs.Bool.{OnTrue};
+ghost use Rattle.chk_world.specs.Checkpoints.{most_lines};
 ghost use Rattle.chk_checkpoint.specs.Lines.{shown, text_version};
 ghost use Rattle.chk_checkpoint.specs.Fields.{lent};
 ghost use Rattle.chk_checkpoint.specs.Seen.{HasSeen, may_follow, NoLine, TookLine};
@@ -41,7 +42,7 @@ fn next_line<'a>(
     lines: &mut Vec<CheckLine>,
     seen: &mut Seen<'a>,
 ) -> Result<Option<usize>, NoMemory>
-    requires few { length lines.old.items ≤ 10000 }
+    requires few { length lines.old.items ≤ most_lines }
     requires seen { HasSeen seen.old (map shown lines.old.items) }
     ensures some { IfOk result (λ size. IfSome size
         (TookLine (text_version version) (map shown lines.old.items) text.now (map shown lines.new.items) seen.new)) }
@@ -66,7 +67,7 @@ fn take_line<'a>(
     seen: &mut Seen<'a>,
     line: &LineRef<'a>,
 ) -> Result<bool, NoMemory>
-    requires few { length lines.old.items ≤ 10000 }
+    requires few { length lines.old.items ≤ most_lines }
     requires seen { HasSeen seen.old (map shown lines.old.items) }
     ensures taken { IfOk result (λ taken. taken ≡ may_follow (map shown lines.old.items) (lent line.now)) }
     ensures lines { IfOk result (λ taken. OnTrue taken (map shown lines.new.items ≡ map shown lines.old.items ++ lent line.now ∷ [])) }

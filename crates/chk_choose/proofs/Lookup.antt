@@ -9,6 +9,7 @@ use Rattle.chk_world.proofs.NameTests.{streams_same}
 use Rattle.chk_heads.proofs.Orders.{streams}
 use Rattle.chk_merge.specs.Courses.{end_of}
 use Rattle.chk_choose.specs.Pairs.{Pair, left_alone, right_alone, paired, pairs_of}
+use Rattle.chk_heads.proofs.Apart.{apart as not_same}
 
 -- the stream of a pair
 abbrev pub pair_stream : Pair → Stream
@@ -29,13 +30,6 @@ pair_with_both None (Some b) = Some (right_alone b)
 pair_with_both (Some a) (Some b) = Some (paired a b)
 
 -- ---- ends that rise
-
-not_same : (s t : Stream) → stream_lt s t ≡ true → same_stream s t ≡ false
-not_same s t below = go (same_stream s t) refl
-  where
-    go : (b : Bool) → same_stream s t ≡ b → same_stream s t ≡ false
-    go true e = absurd (true≢false (sym below ∙ (streams.neither s t e).0))
-    go false e = e
 
 onward : (s t u : Stream) → stream_lt s t ≡ true → stream_lt t u ≡ true → stream_lt s u ≡ true
 onward s t u first second = go (stream_lt s u) refl

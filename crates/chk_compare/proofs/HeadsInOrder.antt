@@ -5,6 +5,7 @@ use Rattle.chk_world.proofs.NameTests.{streams_same}
 use Rattle.chk_heads.specs.Heads.{Head}
 use Rattle.chk_heads.proofs.Orders.{streams}
 use Rattle.chk_compare.specs.Blocks.{stream_in, StreamsRise, IsPlaceOf, StandsAt, EndsAt, HoldsStream}
+use Rattle.chk_heads.proofs.Apart.{not_of}
 
 -- of one that isn't below
 not_below : (a b c : Stream) → stream_lt b a ≡ false → stream_lt b c ≡ true → stream_lt a c ≡ true
@@ -48,14 +49,6 @@ pub found_first : (heads : List Head) (s : Stream) (at : ℕ) → StreamsRise he
     → ((k : ℕ) → k < at → stream_lt (stream_in heads k) s ≡ true)
     → (at < length heads → stream_lt (stream_in heads at) s ≡ false) → IsPlaceOf heads s at
 found_first heads s at rise before there = record { before = before; behind = all_behind heads s at rise there }
-
--- the head isn't of a stream that it comes before
-not_of : (s t : Stream) → stream_lt t s ≡ true → same_stream s t ≡ false
-not_of s t below = go (same_stream s t) refl
-  where
-    go : (b : Bool) → same_stream s t ≡ b → same_stream s t ≡ false
-    go true e = absurd (true≢false (sym below ∙ (streams.neither s t e).1))
-    go false e = e
 
 pub block_holds : (heads : List Head) (s : Stream) (first past : ℕ) → StreamsRise heads → IsPlaceOf heads s first
     → first ≤ past → EndsAt heads s past → HoldsStream heads s first past

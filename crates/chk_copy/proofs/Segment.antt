@@ -27,7 +27,8 @@ use Rattle.chk_merge.specs.Segments.{HasFiles, AreSettled}
 use Rattle.chk_merge.specs.Merging.{SparesBoth, AreApart, bare_book, merged_result}
 use Rattle.chk_merge.proofs.AllRead.{adds_all}
 use Rattle.chk_copy.specs.Copying.{joined_segment, IsForJoined, HasCopied, CopiedAll, WroteChosen, Worked, Copies}
-use Rattle.chk_copy.proofs.Steps.{of_segment, segment_is, files_left, worked, own_of, pieces_of, last_of, writes_copy}
+use Rattle.chk_copy.proofs.Steps.{of_segment, segment_is, files_left, writes_copy}
+use Rattle.chk_book.proofs.Works.{last_of, pieces_of, own_of, worked}
 use Rattle.chk_merge.proofs.Writing.{writes_ask}
 
 -- what isn't damage says nothing

@@ -2,20 +2,16 @@
 use Rattle.std.proofs.Common.{◌≡◌, inl, inr, ℕ, false, List, [], ◌∷◌, ◌++◌, Option, Ok, Err, Result, sym, ap, ◌∙◌, subst, bytes_eq, true≢false}
 use Rattle.std.specs.Prelude.{OnOk, IfErr, codes}
 use Rattle.chk_site.specs.Files.{Files}
-use Rattle.chk_site.specs.Acts.{Deed, Reads, deed, touches}
+use Rattle.chk_site.specs.Acts.{Reads, touches}
 use Rattle.chk_site.specs.History.{Step, History, Every, Others}
 use Rattle.chk_site.specs.Site.{Adds}
 use Rattle.chk_site.specs.Runs.{anyhow, Leads}
-use Rattle.chk_site.proofs.Runs.{adds_as, adds_both, adds_none}
 use Rattle.chk_site.proofs.Leads.{owned_anyhow}
 use Rattle.chk_chunk.specs.Keys.{Chunk}
 use Rattle.chk_world.specs.JobSteps.{IsOf, ReadsFile, WritesTo, removes, creates, appends, syncs, SparesFile}
-use Rattle.chk_heads.specs.Faults.{FailsLast, IsOfRead, IsOfWrite}
-use Rattle.chk_heads.specs.Pieces.{AsksInPieces}
+use Rattle.chk_heads.specs.Faults.{IsOfRead, IsOfWrite}
 use Rattle.chk_heads.specs.declared.fault.JobFault.{JobFault}
 use Rattle.chk_heads.specs.declared.fault.JobFault.TheVariants.{Outside, Damaged, Spent, NoMemory}
-use Rattle.chk_heads.proofs.Gathering.{every_then}
-use Rattle.chk_book.proofs.Added.{fails_later}
 use Rattle.chk_book.specs.declared.segmenter.Segmenter.{Segmenter}
 use Rattle.chk_book.specs.Folders.{segment_name}
 use Rattle.chk_book.specs.Segmenting.{Writing}
@@ -26,6 +22,7 @@ use Rattle.chk_merge.proofs.Frames.{stays_so, spares_one}
 use Rattle.chk_merge.proofs.AllRead.{adds_all}
 use Rattle.chk_copy.specs.Copying.{joined_segment, Copies, IsForJoined, GoesOn, Worked}
 use Rattle.chk_merge.proofs.Writing.{writes_quiet}
+use Rattle.chk_book.proofs.Works.{as_kind}
 
 -- ---- steps of others
 
@@ -67,51 +64,6 @@ files_left all held segment settled apart added history made s files v is =
     (spares_one all v is added history (of_files all segment added history s)) (files v is)
 
 -- ---- own calls
-
-pub worked : {T : Type 0} (K : Deed → Type 0) (r : Result T JobFault) {old new : Option History}
-    → Adds old new (Every (IsOf K)) → Adds old new (Every AsksInPieces) → Adds old new (FailsLast r)
-    → Adds old new (Worked K r)
-worked K r own pieces last =
-    adds_both (Worked K r)
-    (adds_both (λ added history. Every (IsOf K) added history × Every AsksInPieces added history) own pieces
-    (λ added history a b. (a, b))) last
-    (λ added history a b. record { own = a.0; pieces = a.1; last = b })
-
-pub own_of : {T : Type 0} (K : Deed → Type 0) (r : Result T JobFault) {old new : Option History}
-    → Adds old new (Worked K r) → Adds old new (Every (IsOf K))
-own_of K r told = adds_as (Every (IsOf K)) told (λ added history w. w.own)
-
-pub pieces_of : {T : Type 0} (K : Deed → Type 0) (r : Result T JobFault) {old new : Option History}
-    → Adds old new (Worked K r) → Adds old new (Every AsksInPieces)
-pieces_of K r told = adds_as (Every AsksInPieces) told (λ added history w. w.pieces)
-
-pub last_of : {T : Type 0} (K : Deed → Type 0) (r : Result T JobFault) {old new : Option History}
-    → Adds old new (Worked K r) → Adds old new (FailsLast r)
-last_of K r told = adds_as (FailsLast r) told (λ added history w. w.last)
-
-pub works_then : {T U : Type 0} (K : Deed → Type 0) (s : Result T JobFault) (r : Result U JobFault)
-    {old mid new : Option History} → Adds old mid (Worked K s) → Adds mid new (Worked K r) → Adds old new (Worked K r)
-works_then K s r first second =
-    worked K r (every_then (IsOf K) (own_of K s first) (own_of K r second))
-    (every_then AsksInPieces (pieces_of K s first) (pieces_of K r second))
-    (fails_later r first (last_of K r second))
-
-pub works_none : {T : Type 0} (K : Deed → Type 0) (value : T) (now : Option History) → Adds now now (Worked {T = T} K (Ok value))
-works_none K value now = adds_none now (Worked K (Ok value)) (λ history. record { own = tt; pieces = tt; last = tt })
-
-as_kind : (K M : Deed → Type 0) → ((call : Deed) → K call → M call) → {old new : Option History}
-    → Adds old new (Every (IsOf K)) → Adds old new (Every (IsOf M))
-as_kind K M wider own = adds_as (Every (IsOf M)) own (λ added history made. go added history made)
-  where
-    go : (added history : History) → Every (IsOf K) added history → Every (IsOf M) added history
-    go [] history made = tt
-    go (step ∷ added) history made = (
-      go added history made.0,
-      elim made.1 [
-        | inl theirs ↦ inl theirs
-        | inr mine ↦ inr (mine.0, wider (deed step.act) mine.1)
-      ],
-    )
 
 pub reads_copy : (n : ℕ) {old new : Option History} → Adds old new (Every (IsOf ReadsFile)) → Adds old new (Every (IsOf (Copies n)))
 reads_copy n own = as_kind ReadsFile (Copies n) (λ call k. inl k) own

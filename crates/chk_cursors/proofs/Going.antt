@@ -1,26 +1,20 @@
 -- How a cursor goes on among the records of a file.
-use Rattle.std.proofs.Common.{◌≡◌, ℕ, ◌+◌, ◌-◌, ◌<◌, ◌≤◌, ◌^◌, min, true, false, List, [], ◌∷◌, ◌++◌, length, take, drop, Option, Some, None, refl, sym, ◌∙◌, ap, ap₂, subst, arith, append_assoc, append-nil, length-append, length-take, true≢false}
+use Rattle.std.proofs.Common.{◌≡◌, ℕ, ◌+◌, ◌-◌, ◌<◌, ◌≤◌, ◌^◌, min, true, false, List, [], ◌∷◌, ◌++◌, length, take, drop, None, refl, sym, ◌∙◌, ap, ap₂, subst, arith, append_assoc, append-nil, length-append, length-take, true≢false}
 use Rattle.std.proofs.lemmas.List.{length-drop, take_all, take-append-le, take-append-drop, nil_from_length}
 use Rattle.std.proofs.Math.Seq.{drop-append_seam}
 use Rattle.std.specs.Prelude.{nat_lt, nat_le, ◌&&◌}
 use Rattle.std.proofs.lemmas.Bool.{and_from, ltb-true}
 use Rattle.chk_chunk.specs.Keys.{Key, has_value}
-use Rattle.chk_site.specs.Files.{File}
-use Rattle.chk_site.specs.Effect.{IsSmallFile}
 use Rattle.chk_seqfile.specs.Entries.{IsSequenceFile, Placed, records_of}
 use Rattle.chk_salvage.specs.declared.pieces.Pieces.{Pieces}
 use Rattle.chk_salvage.specs.declared.fed.Fed.TheVariants.{More}
 use Rattle.chk_salvage.specs.Feeding.{fed_place, fed_rest, fed_limit, fed_marker, IsFed, Stands}
 use Rattle.chk_heads.specs.Feeding.{IsEnd}
-use Rattle.chk_heads.specs.Pieces.{asks_for, bytes_in}
+use Rattle.chk_heads.specs.Pieces.{asks_for}
 use Rattle.chk_heads.proofs.Gathering.{no_records}
 use Rattle.chk_cursors.specs.declared.cursor.Cursor.{Cursor}
 use Rattle.chk_cursors.specs.declared.cursor.Taken.TheVariants as taken
 use Rattle.chk_cursors.specs.Cursors.{HasGone, Took, StandsBehind, at_record, at_end}
-
-pub small_bytes : (f : Option File) → IsSmallFile f → length (bytes_in f) < 2 ^ 63
-small_bytes None small = omega arith
-small_bytes (Some file) small = small
 
 -- a reader to which nothing was fed
 pub none_gone : (bytes : List ℕ) (c : Cursor) → IsFed c.pieces [] → c.whole ≡ false → HasGone bytes c []

@@ -1,13 +1,12 @@
 -- What a cursor's calls lead to, one behind the other.
-use Rattle.std.proofs.Common.{◌≡◌, ℕ, Bool, true, false, List, ◌++◌, Option, Some, None, Ok, Err, Result, sym, ap}
+use Rattle.std.proofs.Common.{◌≡◌, ℕ, Bool, true, false, List, Option, Some, None, Ok, Err, Result, sym, ap}
 use Rattle.std.specs.Prelude.{not}
 use Rattle.std.specs.Option.{is_none, is_some}
 use Rattle.chk_site.specs.Files.{Files}
-use Rattle.chk_site.specs.History.{History, Step}
+use Rattle.chk_site.specs.History.{History}
 use Rattle.chk_site.specs.Site.{Adds}
-use Rattle.chk_site.specs.Runs.{Side, Leads, anyhow}
-use Rattle.chk_site.proofs.Runs.{adds_as}
-use Rattle.chk_site.proofs.Leads.{leads_as, leads_then, leads_frame, owned_anyhow}
+use Rattle.chk_site.specs.Runs.{Side, Leads}
+use Rattle.chk_site.proofs.Leads.{leads_as, leads_then, leads_frame}
 use Rattle.chk_seqfile.specs.Entries.{Placed}
 use Rattle.chk_salvage.specs.declared.fed.Fed.TheVariants.{More}
 use Rattle.chk_salvage.specs.Feeding.{fed_place, fed_limit, fed_marker, IsFed, Stands}
@@ -19,12 +18,6 @@ use Rattle.chk_cursors.specs.declared.cursor.Cursor.{Cursor}
 use Rattle.chk_cursors.specs.declared.cursor.Taken.TheVariants as taken
 use Rattle.chk_cursors.specs.Cursors.{HasGone, FedMore, Took, Stepped, Advanced}
 use Rattle.chk_cursors.proofs.Going.{more_left, ended}
-
--- no answer promises anything
-pub led_anyhow : {S : History → Step → Type 0} {A B : History → Type 0} {P : History → History → Type 0}
-    {old new : Option History} → ((h : History) → B h) → Adds old new P → Adds old new (Leads (anyhow S) A B)
-led_anyhow {S = S} {A = A} {B = B} all told =
-    adds_as (Leads (anyhow S) A B) told (λ added history p. record { leads = λ s h. all (added ++ history); own = owned_anyhow added history })
 
 -- one behind the other, where the first one showed something of no history
 pub leads_with : {S : Side} {A B C R : History → Type 0} {P : Type 0} {old mid new : Option History}

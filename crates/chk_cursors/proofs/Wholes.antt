@@ -1,5 +1,5 @@
 -- A whole segment that is written in turn, and the merge that it is.
-use Rattle.std.proofs.Common.{◌≡◌, ℕ, Bool, true, false, List, [], ◌++◌, length, Option, Some, None, Ok, Err, Result, refl, sym, ◌∙◌, ap, subst}
+use Rattle.std.proofs.Common.{◌≡◌, ℕ, Bool, true, false, List, [], ◌++◌, length, Option, Some, None, Ok, Err, Result, refl, sym, subst}
 use Rattle.std.specs.Prelude.{IfErr}
 use Rattle.std.proofs.lemmas.List.{append_cancel_right}
 use Rattle.std.proofs.lemmas.Option.{same_Some}
@@ -152,15 +152,3 @@ spent_bare b (Err (Outside call)) spent = spent
 spent_bare b (Err (Damaged name at)) spent = spent
 spent_bare b (Err (Spent n)) spent = spent
 spent_bare b (Err NoMemory) spent = tt
-
--- the same of the segment by other names
-pub named_as : (names : List (List ℕ)) (w : Writing) (folder : List ℕ) (next : ℕ) → w.folder ≡ folder → w.number ≡ next → {A B : History → Type 0}
-    {old new : Option History} → Adds old new (Leads (anyhow (SparesBoth names (segment_name w.folder w.number))) A B)
-    → Adds old new (Leads (anyhow (SparesBoth names (segment_name folder next))) A B)
-named_as names w folder next f n {A = A} {B = B} {old = old} {new = new} told =
-    subst (λ (s : List ℕ). Adds old new (Leads (anyhow (SparesBoth names s)) A B)) (ap (λ x. segment_name x w.number) f ∙ ap (segment_name folder) n) told
-
-pub apart_as : (names : List (List ℕ)) (w : Writing) (folder : List ℕ) (next : ℕ) → w.folder ≡ folder → w.number ≡ next
-    → AreApart names (segment_name folder next) → AreApart names (segment_name w.folder w.number)
-apart_as names w folder next f n apart =
-    subst (AreApart names) (sym (ap (λ x. segment_name x w.number) f ∙ ap (segment_name folder) n)) apart

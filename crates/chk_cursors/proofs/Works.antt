@@ -3,48 +3,15 @@ use Rattle.std.proofs.Common.{◌≡◌, ℕ, List, Option, Ok, Err, Result, ◌
 use Rattle.chk_site.specs.Acts.{Deed}
 use Rattle.chk_site.specs.History.{History, Every}
 use Rattle.chk_site.specs.Site.{Adds}
-use Rattle.chk_site.proofs.Runs.{adds_as, adds_both, adds_none}
+use Rattle.chk_site.proofs.Runs.{adds_as}
 use Rattle.chk_world.specs.JobSteps.{IsOf, ReadsFile, WritesTo, ReadsOrWrites}
 use Rattle.chk_heads.specs.Faults.{FailsLast, Worked}
-use Rattle.chk_heads.specs.Pieces.{AsksInPieces}
 use Rattle.chk_heads.specs.declared.fault.JobFault.{JobFault}
 use Rattle.chk_heads.specs.declared.fault.JobFault.TheVariants.{Outside, Damaged, Spent, NoMemory}
-use Rattle.chk_heads.proofs.Gathering.{every_then}
-use Rattle.chk_book.proofs.Added.{fails_later}
 use Rattle.chk_book.specs.Folders.{segment_name}
 use Rattle.chk_book.specs.Segmenting.{Writing}
 use Rattle.chk_merge.proofs.Writing.{reads_as, writes_as, writes_ask}
-
-pub worked : {T : Type 0} (K : Deed → Type 0) (r : Result T JobFault) {old new : Option History}
-    → Adds old new (Every (IsOf K)) → Adds old new (Every AsksInPieces) → Adds old new (FailsLast r)
-    → Adds old new (Worked K r)
-worked K r own pieces last =
-    adds_both (Worked K r)
-    (adds_both (λ added history. Every (IsOf K) added history × Every AsksInPieces added history) own pieces
-    (λ added history a b. (a, b))) last
-    (λ added history a b. record { own = a.0; pieces = a.1; last = b })
-
-pub own_of : {T : Type 0} (K : Deed → Type 0) (r : Result T JobFault) {old new : Option History}
-    → Adds old new (Worked K r) → Adds old new (Every (IsOf K))
-own_of K r told = adds_as (Every (IsOf K)) told (λ added history w. w.own)
-
-pub pieces_of : {T : Type 0} (K : Deed → Type 0) (r : Result T JobFault) {old new : Option History}
-    → Adds old new (Worked K r) → Adds old new (Every AsksInPieces)
-pieces_of K r told = adds_as (Every AsksInPieces) told (λ added history w. w.pieces)
-
-pub last_of : {T : Type 0} (K : Deed → Type 0) (r : Result T JobFault) {old new : Option History}
-    → Adds old new (Worked K r) → Adds old new (FailsLast r)
-last_of K r told = adds_as (FailsLast r) told (λ added history w. w.last)
-
-pub works_then : {T U : Type 0} (K : Deed → Type 0) (s : Result T JobFault) (r : Result U JobFault)
-    {old mid new : Option History} → Adds old mid (Worked K s) → Adds mid new (Worked K r) → Adds old new (Worked K r)
-works_then K s r first second =
-    worked K r (every_then (IsOf K) (own_of K s first) (own_of K r second))
-    (every_then AsksInPieces (pieces_of K s first) (pieces_of K r second))
-    (fails_later r first (last_of K r second))
-
-pub works_none : {T : Type 0} (K : Deed → Type 0) (value : T) (now : Option History) → Adds now now (Worked {T = T} K (Ok value))
-works_none K value now = adds_none now (Worked K (Ok value)) (λ history. record { own = tt; pieces = tt; last = tt })
+use Rattle.chk_book.proofs.Works.{worked, own_of, pieces_of, last_of}
 
 -- nothing was called, or no call failed
 pub works_value : {T U : Type 0} (K : Deed → Type 0) (value : T) (other : U) {old new : Option History}

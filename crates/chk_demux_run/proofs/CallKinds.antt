@@ -1,31 +1,19 @@
 -- The calls of a demux run and of its print, by their kind.
-use Rattle.std.proofs.Common.{◌≡◌, inl, inr, ℕ, List, [], ◌∷◌, Option, Result, refl}
-use Rattle.chk_site.specs.declared.acts.OutsideFault.{OutsideFault}
+use Rattle.std.proofs.Common.{◌≡◌, inl, inr, ℕ, List, [], ◌∷◌, Option, refl}
 use Rattle.chk_site.specs.declared.acts.ActAnswer.{ActAnswer}
 use Rattle.chk_site.specs.Acts.{Deed, Says, deed}
 use Rattle.chk_site.specs.History.{History, Every}
 use Rattle.chk_site.specs.Site.{Adds}
 use Rattle.chk_site.specs.Runs.{own_acts}
 use Rattle.chk_site.proofs.Runs.{adds_as}
-use Rattle.chk_replace.proofs.CallSteps.{OfEach, script_each}
-use Rattle.chk_world.specs.JobSteps.{IsOf, ReadsFile, reads, asks, WritesTo, removes, creates, appends, syncs}
+use Rattle.chk_world.specs.JobSteps.{IsOf}
 use Rattle.chk_world.specs.Sight.{job}
 use Rattle.chk_demux.specs.Demuxed.{DemuxesBy, starts, only_reads, writes_records, replaces_book, ReplacesBook, writes_book, names_book}
-use Rattle.chk_prints.specs.Printing.{PrintsInTurn, print_of, printed}
-use Rattle.chk_prints.proofs.Printed.{printings, prints_made}
+use Rattle.chk_prints.specs.Printing.{print_of, printed}
 use Rattle.chk_demux_run.specs.Telling.{DemuxesAndTells, demuxes, tells}
+use Rattle.chk_prints.proofs.CallKinds.{silent_write, silent_read}
 
 -- ---- a demux run prints nothing
-
-silent_write : (name : List ℕ) (call : Deed) (answer : ActAnswer) → WritesTo name call → print_of job call answer ≡ []
-silent_write name call answer removes = refl
-silent_write name call answer creates = refl
-silent_write name call answer (appends piece) = refl
-silent_write name call answer syncs = refl
-
-silent_read : (call : Deed) (answer : ActAnswer) → ReadsFile call → print_of job call answer ≡ []
-silent_read call answer (reads name at max) = refl
-silent_read call answer (asks name) = refl
 
 silent_book : (call : Deed) (answer : ActAnswer) → ReplacesBook call → print_of job call answer ≡ []
 silent_book call answer (writes_book c k) = silent_write _ call answer k
@@ -55,18 +43,6 @@ demux_silent own = adds_as (λ added history. printed (own_acts added) ≡ []) o
 -- a print
 pub data Tells : Deed → Type 0 where
   says : (text : List ℕ) → Tells (Says text)
-
-each_tells : (lines : List (List ℕ)) → OfEach (IsOf Tells) (printings job lines)
-each_tells [] = tt
-each_tells (line ∷ lines) = (
-  λ before answer files logs running honest.
-      inr (record { own = refl; running = running; honest = honest; by = refl }, says line),
-  each_tells lines,
-)
-
-pub prints_own : {lines : List (List ℕ)} {result : Result (Unit {0}) OutsideFault} {old new : Option History}
-    → PrintsInTurn job lines result old new → Adds old new (Every (IsOf Tells))
-prints_own {lines = lines} prints = script_each (IsOf Tells) (λ before step theirs. inl theirs) (each_tells lines) (prints_made prints)
 
 pub of_demux : (call : Deed) → DemuxesBy call → DemuxesAndTells call
 of_demux call k = demuxes call k

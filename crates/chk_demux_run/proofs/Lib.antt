@@ -1,5 +1,4 @@
 mod Lines
 mod CallKinds
-mod AtMost
 mod Prints
 mod Told

@@ -21,11 +21,12 @@ use Rattle.chk_demux.specs.Demuxed.{Earlier, Begun, Demuxed, DemuxesBy}
 use Rattle.chk_demux.specs.declared.report.DemuxReport.{DemuxReport}
 use Rattle.chk_prints.specs.Printing.{PrintsInTurn, Print, by, printed}
 use Rattle.chk_prints.proofs.Printed.{prints_made, prints_told, prints_join, prints_run}
-use Rattle.chk_demux_run.proofs.CallKinds.{demux_silent, Tells, of_demux, of_print, prints_own}
-use Rattle.chk_demux_run.proofs.AtMost.{at_most}
+use Rattle.chk_demux_run.proofs.CallKinds.{demux_silent, Tells, of_demux, of_print, says}
+use Rattle.chk_prints.proofs.AtMost.{at_most}
 use Rattle.chk_demux_run.proofs.Lines.{demux_is_no_report}
 use Rattle.chk_demux_run.proofs.Prints.{StaysDone, prints_lead}
 use Rattle.chk_demux_run.specs.Telling.{run_line, IsTold, DemuxesAndTells}
+use Rattle.chk_prints.proofs.CallKinds.{prints_own}
 
 of_fault : (stamped : List (List ℕ)) (before : Earlier) (fault : OutsideFault) (h : History) → Legal stamped h
     → Demuxed stamped before (Err (job_fault fault)) h
@@ -66,7 +67,7 @@ module _ (r : DemuxReport) (result : Result (Unit {0}) OutsideFault) {old mid ne
   pub own_both : Adds old new (Every (IsOf DemuxesAndTells))
   own_both =
       adds_then (Every (IsOf DemuxesAndTells)) (as_kind DemuxesBy DemuxesAndTells of_demux demuxes_own)
-      (as_kind Tells DemuxesAndTells of_print (prints_own prints))
+      (as_kind Tells DemuxesAndTells of_print (prints_own Tells says prints))
       (λ a b history p q. every_join (IsOf DemuxesAndTells) b a history p q)
 
   pub prints_both : result ≡ Ok tt → Adds old new (λ added history. printed (own_acts added) ≡ by job (run_line r) ∷ [])

@@ -1,5 +1,5 @@
 -- A settle behind which all is delivered.
-use Rattle.std.proofs.Common.{◌≡◌, ℕ, suc, zero, ◌<◌, List, [], ◌∷◌, length, Option, Some, Result, Ok, ap, sym, subst, ◌∙◌, refl, arith}
+use Rattle.std.proofs.Common.{◌≡◌, ℕ, suc, zero, ◌<◌, List, [], ◌∷◌, length, Option, Some, Ok, ap, sym, subst, ◌∙◌, refl, arith}
 use Rattle.std.specs.Prelude.{slice_get, slice_index}
 use Rattle.chk_site.specs.History.{History}
 use Rattle.chk_acks.specs.Rows.{expired_adaptors, rows_of}
@@ -7,7 +7,6 @@ use Rattle.chk_acks.specs.Sound.{IsSound as IsSoundTable, AreInTurn}
 use Rattle.chk_reading.specs.Adaptors.{Adaptor}
 use Rattle.chk_delivery.specs.Sound.{ends_after}
 use Rattle.chk_delivery.specs.Turns.{numbers_of, without_chunks}
-use Rattle.chk_agent.specs.declared.answers.AgentFault.{AgentFault}
 use Rattle.chk_agent.specs.declared.answers.Settled.{Settled}
 use Rattle.chk_agent.specs.States.{State, committed_at}
 use Rattle.chk_agent.specs.Fits.{IsSound}
@@ -97,12 +96,3 @@ pub settled_ends : {now : ℕ} {s t : State} {given : Settled} {old new : Option
     → IsSettled now s (Ok given) t old new → (i : ℕ) → committed_at t i ≡ committed_at s i
 settled_ends (settle.same same) i = refl
 settled_ends (settle.written other writes) i = refl
-
-pub settled_source : {now : ℕ} {s t : State} {result : Result Settled AgentFault}
-    {old new : Option History}
-    → IsSettled now s result t old new → t.source ≡ s.source
-settled_source (settle.same same) = refl
-settled_source (settle.written other writes) = refl
-settled_source (settle.failed call other writes) = refl
-settled_source (settle.unwritten other writes) = refl
-settled_source settle.wanting = refl

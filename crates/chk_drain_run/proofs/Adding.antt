@@ -25,43 +25,9 @@ use Rattle.chk_agent_run.specs.Initial.{AddsStream, AreAdded, IsLineAdded, is_li
 use Rattle.chk_agent_run.specs.Initial as lines
 use Rattle.chk_drain_run.specs.Done.{HasLiveLine}
 use Rattle.chk_drain_run.specs.Parts.{AreSteady, IsRead, SavedAreRead}
-
-pub not_past : (p : Bool) → not p ≡ true → p ≡ false
-not_past true e = absurd (true≢false (sym e))
-not_past false e = refl
+use Rattle.chk_agent.proofs.Alike.{not_past, loaded, found_is as found_from}
 
 -- ---- one more stream
-
--- the adaptor of a type and path that was found
-found_from : (kind path : List ℕ) (n : ℕ) (xs : List Adaptor) (f : Found)
-    → stream_in kind path n xs ≡ Some f
-    → (k : ℕ) × (f.number ≡ n + k) × (slice_get xs k ≡ Some f.adaptor)
-    × (f.adaptor.kind ≡ kind) × (f.adaptor.path ≡ path)
-found_from kind path n [] f e = absurd (none-some f e)
-found_from kind path n (a ∷ xs) f e =
-    go (bytes_eq a.kind kind && bytes_eq a.path path) refl e (found_from kind path (n + 1) xs f)
-  where
-    go : (b : Bool) → (bytes_eq a.kind kind && bytes_eq a.path path) ≡ b
-        → (if b then Some (record { number = n; adaptor = a }) else stream_in kind path (n + 1) xs)
-        ≡ Some f
-        → (stream_in kind path (n + 1) xs ≡ Some f → (k : ℕ) × (f.number ≡ n + 1 + k)
-        × (slice_get xs k ≡ Some f.adaptor) × (f.adaptor.kind ≡ kind) × (f.adaptor.path ≡ path))
-        → (k : ℕ) × (f.number ≡ n + k) × (slice_get (a ∷ xs) k ≡ Some f.adaptor)
-        × (f.adaptor.kind ≡ kind) × (f.adaptor.path ≡ path)
-    go true is e rest =
-        let same : record { number = n; adaptor = a } ≡ f =
-        same_Some (record { number = n; adaptor = a }) f e in
-        let number = ap (λ (g : Found). g.number) same in
-        let p = and_parts (bytes_eq a.kind kind) (bytes_eq a.path path) is in (
-          0,
-          omega (arith, number),
-          ap (λ (g : Found). Some g.adaptor) same,
-          sym (ap (λ (g : Found). g.adaptor.kind) same) ∙ bytes_same a.kind kind p.0,
-          sym (ap (λ (g : Found). g.adaptor.path) same) ∙ bytes_same a.path path p.1,
-        )
-    go false is e rest =
-        let r = rest e in
-        let number = r.1 in (suc r.0, omega (arith, number), r.2, r.3, r.4)
 
 -- what an `add` of this stream makes of the adaptors
 record MakesRead (kind path : List ℕ) (xs ys : List Adaptor) : Type 0 where
@@ -317,15 +283,6 @@ pub all_added : {all : List (List ℕ)} {s t : State} {old new : Option History}
 all_added script = all_add script refl
 
 -- ---- an agent that has just started
-
--- the line of an adaptor that was loaded
-loaded : (ls : List Line) (i : ℕ) (a : Adaptor) → slice_get (map adaptor_of ls) i ≡ Some a
-    → (l : Line) × Contains ls l × (adaptor_of l ≡ a)
-loaded [] i a at = absurd (none-some a at)
-loaded (l ∷ ls) zero a at = (l, (0, omega arith, refl), same_Some (adaptor_of l) a at)
-loaded (l ∷ ls) (suc i) a at =
-    let r = loaded ls i a at in
-    let below = r.1.1 in (r.0, (suc r.1.0, omega (arith, below), r.1.2), r.2)
 
 -- the adaptor of a live line that was loaded
 load_at : (ls : List Line) (l : Line) → Contains ls l → l.live ≡ true

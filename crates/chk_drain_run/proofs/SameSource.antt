@@ -7,7 +7,7 @@ use Rattle.chk_agent.proofs.TurningTold.{lengths_same, polls_same, posts_same, r
 use Rattle.chk_drain.specs.declared.answers.Drained.{Drained}
 use Rattle.chk_drain.specs.Drains as drain
 use Rattle.chk_drain.specs.Drains.{Progress, Drains, IsDrained, PollGives, PollTries, PostTries, Wants}
-use Rattle.chk_drain.proofs.Settled.{settled_source}
+use Rattle.chk_agent.proofs.Alike.{settled_source}
 use Rattle.chk_drain.proofs.Steps.{step_leaves}
 
 post_tries : {now : ℕ} {p q : Progress} {s t : State} {old new : Option History}

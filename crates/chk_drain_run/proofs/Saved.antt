@@ -16,7 +16,8 @@ use Rattle.chk_drain_run.specs.Done.{HasLiveLine, lines_here}
 use Rattle.chk_drain_run.specs.Drains.{Finishes}
 use Rattle.chk_drain_run.specs.Parts.{AreSteady, IsRead, Reads, SavedAreRead}
 use Rattle.chk_drain_run.specs.Streams.{line_of_stream, told_line}
-use Rattle.chk_drain_run.proofs.Adding.{line_read, not_past}
+use Rattle.chk_drain_run.proofs.Adding.{line_read}
+use Rattle.chk_agent.proofs.Alike.{not_past}
 use Rattle.chk_drain_run.proofs.Keeping.{AllKeep, drained_keeps, is_kept, live_still, was_kept}
 use Rattle.chk_drain_run.proofs.SameSource.{drained_source}
 

@@ -69,7 +69,7 @@ pub record IsGathered (old now : Option History) (name : List ℕ) (most file : 
 
 -- ---- the bytes
 
-small_bytes : (f : Option File) → IsSmallFile f → length (bytes_in f) < 2 ^ 63
+pub small_bytes : (f : Option File) → IsSmallFile f → length (bytes_in f) < 2 ^ 63
 small_bytes None small = omega arith
 small_bytes (Some file) small = small
 

@@ -15,3 +15,5 @@ pub mod WholeReads
 pub mod NoDamage
 pub mod Stretches
 pub mod Causes
+pub mod InTurn
+pub mod Apart

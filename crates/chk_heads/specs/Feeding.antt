@@ -25,9 +25,13 @@ AreChunks most records = length (filter_map (chunk_of most) records) ≡ length 
 abbrev pub HasMore : List Head → List Head → Type 0
 HasMore old new = (more : List Head) × (new ≡ old ++ more)
 
--- the longest record that is read where values have at most so many bytes: a key has at most 16,409
+-- how much longer than its value a record may say that it is: a key has at most 16,409 bytes
+abbrev pub slack : ℕ
+slack = 131072
+
+-- the longest record that is read where values have at most so many bytes
 abbrev pub limit_of : ℕ → ℕ
-limit_of most = most + 131072
+limit_of most = most + slack
 
 -- the reader went on over these records, each a chunk, and their heads stand behind the others
 pub record WentOver (most file : ℕ) (p q : Pieces) (fed : List ℕ) (old new : List Head) : Type 0 where

@@ -5,12 +5,12 @@ use Rattle.chk_site.specs.declared.acts.OutsideFault.{OutsideFault}
 use Rattle.chk_site.specs.Files.{File}
 use Rattle.chk_site.specs.Acts.{Reads, deed}
 use Rattle.chk_site.specs.History.{Step, History}
-use Rattle.chk_replace.specs.Load.{Has, bytes_of}
+use Rattle.chk_replace.specs.Load.{Has, bytes_of, piece_limit}
 
 -- a read by the site's own process asks for at most 1,048,576 bytes
 abbrev pub AsksInPieces : History → Step → Type 0
 AsksInPieces before step =
-    step.own ≡ true → (name : List ℕ) (at max : ℕ) → deed step.act ≡ Reads name at max → max ≤ 1048576
+    step.own ≡ true → (name : List ℕ) (at max : ℕ) → deed step.act ≡ Reads name at max → max ≤ piece_limit
 
 -- how many bytes a read of at most so many asks for: none past the place at which each file counts as ended
 abbrev pub asks_for : ℕ → ℕ → ℕ

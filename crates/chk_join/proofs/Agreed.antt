@@ -9,7 +9,7 @@ use Rattle.chk_site.specs.Files.{Files}
 use Rattle.chk_chunk.specs.Keys.{Stream, same_stream, stream_lt}
 use Rattle.chk_world.proofs.Each.{Each}
 use Rattle.chk_world.proofs.NameTests.{streams_same}
-use Rattle.chk_parts.proofs.EndsInOrder.{apart, apart_from}
+use Rattle.chk_heads.proofs.Apart.{apart_from, apart}
 use Rattle.chk_compare.specs.declared.gathering.Side.{Side}
 use Rattle.chk_compare.specs.Differences.{first_difference}
 use Rattle.chk_choose.specs.declared.difference.Difference.{Difference}

@@ -18,7 +18,8 @@ use Rattle.chk_merge.specs.Merging.{AreApart}
 use Rattle.chk_copy.specs.Copying.{joined_segment}
 use Rattle.chk_join.specs.Joined.{can_join, joined_folder, archive_files, reads_of, folder_book}
 use Rattle.chk_join.specs.Preparing.{Covers}
-use Rattle.chk_join.proofs.RunFacts.{from_both, none_in}
+use Rattle.chk_join.proofs.RunFacts.{none_in}
+use Rattle.chk_parts.proofs.InTurn.{from_both}
 
 -- ---- slashes
 

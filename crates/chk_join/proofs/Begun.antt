@@ -31,7 +31,8 @@ use Rattle.chk_merge.proofs.Frames.{stays_so}
 use Rattle.chk_join.specs.Beginning.{HasStarted, HasBegun, Begins, begins_starting, begins_reading}
 use Rattle.chk_join.specs.Working.{Worked, Starting, starts}
 use Rattle.chk_join.proofs.BookLoads.{HasLoaded}
-use Rattle.chk_join.proofs.Works.{worked, works_as}
+use Rattle.chk_parts.proofs.Works.{works_as}
+use Rattle.chk_book.proofs.Works.{worked}
 
 abbrev pub joined_book : List ℕ
 joined_book = book_name (codes "joined")

@@ -41,7 +41,8 @@ use Rattle.chk_join.specs.declared.preparing.Prepared.{Prepared}
 use Rattle.chk_join.specs.declared.preparing.Prepared.TheVariants.{Ready, Differs}
 use Rattle.chk_join.specs.Working.{Worked}
 use Rattle.chk_join.proofs.Joins.{joins}
-use Rattle.chk_join.proofs.Works.{worked, works_as}
+use Rattle.chk_parts.proofs.Works.{works_as}
+use Rattle.chk_book.proofs.Works.{worked}
 use Rattle.chk_join.proofs.Gathered.{is_side}
 use Rattle.chk_copy.proofs.Steps.{of_files}
 

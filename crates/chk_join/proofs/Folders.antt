@@ -42,7 +42,8 @@ use Rattle.chk_join.specs.Joined.{ReadsWell, no_book, bad_records}
 use Rattle.chk_join.specs.Preparing.{HasOrder, JoinedBooks, JoinsAs, Covers, IsFolderBook}
 use Rattle.chk_join.specs.Preparing.{PreparedFrom}
 use Rattle.chk_join.specs.declared.preparing.Prepared.{Prepared}
-use Rattle.chk_join.proofs.Works.{worked, works_as, works_fail}
+use Rattle.chk_parts.proofs.Works.{works_as, works_fail}
+use Rattle.chk_book.proofs.Works.{worked}
 use Rattle.chk_join.proofs.Chain.{files_stay}
 
 -- ---- a folder's book

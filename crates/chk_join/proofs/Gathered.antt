@@ -2,15 +2,14 @@
 use Rattle.std.proofs.Common.{◌≡◌, ℕ, zero, suc, ◌+◌, ◌<◌, false, ◌||◌, List, [], ◌∷◌, length, map}
 use Rattle.std.proofs.Common.{Some, None, refl, ap, sym, subst, ◌∙◌, arith}
 use Rattle.std.specs.Prelude.{filter, nat_lt, nat_eq, ◌&&◌}
-use Rattle.std.proofs.lemmas.Bool.{or_parts}
 use Rattle.chk_site.specs.Files.{Files}
 use Rattle.chk_chunk.specs.Keys.{Stream, Chunk, same_stream, stream_lt, is_of}
 use Rattle.chk_world.specs.TrueBooks.{HasBytes as HasRoom}
 use Rattle.chk_world.specs.Books.{End, Book, chunks_of_stream, chunks_within, values}
 use Rattle.chk_world.specs.Jobs.{Run}
 use Rattle.chk_world.proofs.Each.{Each, each_at, each_filter}
-use Rattle.chk_world.proofs.BooksTrue.{run_length, each_within, each_append, each_flat}
-use Rattle.chk_heads.specs.Heads.{Head, heads_in}
+use Rattle.chk_world.proofs.BooksTrue.{run_length, each_within, each_flat}
+use Rattle.chk_heads.specs.Heads.{Head}
 use Rattle.chk_heads.specs.Order.{no_head, head_before, in_head_order}
 use Rattle.chk_heads.specs.Pieces.{bytes_in}
 use Rattle.chk_heads.proofs.Orders.{WeakOrder, lex, tested_through, numbers, streams}
@@ -22,7 +21,6 @@ use Rattle.chk_merge.specs.Archives.{IsKnown, chunk_in}
 use Rattle.chk_merge.proofs.AllRead.{known_from}
 use Rattle.chk_merge.proofs.Joining.{chunks_from, begin_from, runs_from}
 use Rattle.chk_merge.proofs.Causes.{at_place}
-use Rattle.chk_merge.proofs.Records.{heads_have_bytes}
 use Rattle.chk_compare.specs.declared.gathering.Side.{Side}
 use Rattle.chk_compare.specs.Blocks.{head_in, stream_in, StreamsRise}
 use Rattle.chk_compare.specs.Reading.{AreAmong}
@@ -31,8 +29,11 @@ use Rattle.chk_choose.specs.Differing.{bytes_of}
 use Rattle.chk_join.specs.Joined.{records_of_book}
 use Rattle.chk_join.specs.Preparing.{IsGathered}
 use Rattle.chk_merge.proofs.SortedStream.{each_sort}
-use Rattle.chk_merge.proofs.SortedRuns.{HasBytes, order_keeps}
-use Rattle.chk_join.proofs.Taken.{side_chunks, side_bytes, chunks_of_heads}
+use Rattle.chk_merge.proofs.SortedRuns.{order_keeps}
+use Rattle.chk_join.proofs.Taken.{side_chunks, side_bytes}
+use Rattle.chk_merge.proofs.HeadStreams.{chunks_of_heads}
+use Rattle.chk_merge.proofs.MergedInto.{bytes_from as all_have_bytes}
+use Rattle.chk_heads.proofs.Apart.{stream_not_before as not_before}
 
 -- ---- the streams of heads in order rise
 
@@ -45,12 +46,6 @@ by_stream =
     (λ (a b : Head). nat_lt a.key.seq b.key.seq)
     (tested_through (λ (a : Head). a.begin) nat_lt nat_eq numbers)
     (tested_through (λ (a : Head). a.key.seq) nat_lt nat_eq numbers).order)
-
-not_before : (h k : Head) → head_before k h ≡ false → stream_lt k.key.stream h.key.stream ≡ false
-not_before h k e =
-    (or_parts (stream_lt k.key.stream h.key.stream)
-    (same_stream k.key.stream h.key.stream
-    && (nat_lt k.begin h.begin || (nat_eq k.begin h.begin && nat_lt k.key.seq h.key.seq))) e).0
 
 rises : (hs : List Head) → Sorted head_before hs → (i j : ℕ) → i < j → j < length hs
     → stream_lt (stream_in hs j) (stream_in hs i) ≡ false
@@ -65,13 +60,6 @@ pub heads_rise : (hs : List Head) → StreamsRise (in_head_order hs)
 heads_rise hs i j less within = rises (in_head_order hs) (sort_sorted head_before by_stream hs) i j less within
 
 -- ---- the heads have bytes
-
-all_have_bytes : (most : ℕ) (held : Files) (number : ℕ) (ws : List (List ℕ))
-    → Each HasBytes (heads_from most held number ws)
-all_have_bytes most held number [] = tt
-all_have_bytes most held number (w ∷ ws) =
-    each_append HasBytes (heads_in most number (bytes_in (held w))) (heads_from most held (number + 1) ws)
-    (heads_have_bytes most number (bytes_in (held w))) (all_have_bytes most held (number + 1) ws)
 
 module _ (folder : List ℕ) (b : Book) (held : Files) where
   abbrev Names : List (List ℕ)

@@ -1,6 +1,5 @@
 -- The join of two archives.
 mod JoinLaws
-mod Works
 mod Started
 mod BookLoads
 mod Begun

@@ -8,7 +8,8 @@ use Rattle.chk_world.proofs.Each.{Each, each_as}
 use Rattle.chk_world.proofs.NameTests.{streams_same}
 use Rattle.chk_heads.proofs.Orders.{streams}
 use Rattle.chk_merge.specs.Courses.{end_of}
-use Rattle.chk_parts.proofs.EndsInOrder.{apart, Sorted}
+use Rattle.chk_parts.proofs.EndsInOrder.{Sorted}
+use Rattle.chk_heads.proofs.Apart.{apart}
 use Rattle.chk_merge.proofs.OnePass.{stream_onward as before_on}
 use Rattle.chk_choose.specs.Pairs.{Pair, left_alone, right_alone, paired, pairs_of, pair_with}
 use Rattle.chk_choose.specs.Pairs.{taken_end}

@@ -24,7 +24,7 @@ use Rattle.chk_parts.proofs.StepKinds.{no_reads}
 use Rattle.chk_join.specs.Publishing.{HasNewBook, PublishedSo}
 use Rattle.chk_join.specs.Working.{Worked}
 use Rattle.chk_join.proofs.Begun.{joined_book}
-use Rattle.chk_join.proofs.Works.{worked}
+use Rattle.chk_book.proofs.Works.{worked}
 
 module _ (f : Option File) (b : Book) (can : is_book (written_version b) b ≡ true) where
   abbrev bytes : List ℕ

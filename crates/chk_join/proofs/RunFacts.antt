@@ -9,15 +9,17 @@ use Rattle.chk_chunk.specs.Keys.{Stream, Chunk, same_stream, stream_lt, is_of}
 use Rattle.chk_world.specs.Books.{End, chunks_of_stream}
 use Rattle.chk_world.specs.Jobs.{Run}
 use Rattle.chk_world.proofs.NameTests.{streams_same}
-use Rattle.chk_world.proofs.Each.{Each, each_at, later_one}
+use Rattle.chk_world.proofs.Each.{Each, each_at}
 use Rattle.chk_heads.specs.Heads.{Head}
 use Rattle.chk_merge.specs.Courses.{is_end_of, end_of}
-use Rattle.chk_parts.proofs.EndsInOrder.{apart, apart_from, Sorted}
+use Rattle.chk_parts.proofs.EndsInOrder.{Sorted}
+use Rattle.chk_heads.proofs.Apart.{apart_from, apart}
 use Rattle.chk_compare.specs.declared.gathering.Side.{Side}
 use Rattle.chk_choose.specs.declared.plan.Choice.{Choice}
 use Rattle.chk_copy.specs.Standing.{AreCopies, chosen_heads}
 use Rattle.chk_join.specs.Runs.{IsRunOf, AreRuns, HeadsRun, ChosenRun}
 use Rattle.chk_world.proofs.Rounds.{stream_self}
+use Rattle.chk_parts.proofs.InTurn.{from_both}
 
 -- ---- copies of heads that run
 
@@ -120,14 +122,6 @@ runs_stream s (e ∷ es) cs f sorted runs is =
     go false mine i rest =
         let front = none_of s e.stream mine runs.0 runs.1.1.1.0.of in
         subst (λ l. IsRunOf f (l ++ filter (is_of s) runs.1.0) × (f.stream ≡ s)) (sym front) (rest i)
-
-pub from_both : {Y : Type 0} (ys zs : List Y) (y : Y) → Contains (ys ++ zs) y → Contains ys y ⊎ Contains zs y
-from_both [] zs y k = inr k
-from_both (z ∷ ys) zs y (zero, low, at) = inl (0, omega arith, at)
-from_both (z ∷ ys) zs y (suc k, low, at) = elim (from_both ys zs y (k, omega (arith, low), at)) [
-  | inl r ↦ inl (later_one z ys y r)
-  | inr r ↦ inr r
-]
 
 pub none_in : {Y : Type 0} (y : Y) → Contains [] y → ⊥
 none_in y one = let low = one.1 in let z : ⊥ = omega (arith, low) in z

@@ -1,19 +1,16 @@
 -- The start of the job.
-use Rattle.std.proofs.Common.{◌≡◌, ℕ, inl, inr, List, [], Option, Ok, Err, Result, sym, ◌∙◌, refl}
+use Rattle.std.proofs.Common.{ℕ, inl, inr, List, Option, Ok, Err, Result, sym, ◌∙◌, refl}
 use Rattle.std.proofs.Common.{true≢false}
 use Rattle.std.specs.Prelude.{MatchResult}
 use Rattle.chk_site.specs.declared.acts.OutsideFault.{OutsideFault}
 use Rattle.chk_site.specs.declared.acts.CallFault.{CallFault}
-use Rattle.chk_site.specs.declared.acts.Call.TheVariants.{Start}
-use Rattle.chk_site.specs.Acts.{Starts, Reads}
 use Rattle.chk_site.specs.History.{History, Every}
-use Rattle.chk_site.specs.Site.{Adds, LastFailed, Asked, asked, answered, plain, IsDone, Calls}
+use Rattle.chk_site.specs.Site.{Adds, answered, plain, IsDone, Calls}
 use Rattle.chk_site.specs.Site.{Ends}
 use Rattle.chk_site.specs.Runs.{Leads}
 use Rattle.chk_site.proofs.Runs.{adds_as}
 use Rattle.chk_site.proofs.Leads.{ends_leads}
 use Rattle.chk_replace.proofs.CallSteps.{OfOwn, call_each}
-use Rattle.chk_site.proofs.LastCalls.{ended_last as ends_last}
 use Rattle.chk_world.specs.Places.{As}
 use Rattle.chk_world.specs.Rules.{Legal}
 use Rattle.chk_world.specs.Sight.{job}
@@ -22,10 +19,9 @@ use Rattle.chk_world.proofs.ToldCalls.{owned, told_start}
 use Rattle.chk_heads.specs.Pieces.{AsksInPieces}
 use Rattle.chk_join.specs.Beginning.{HasStarted}
 use Rattle.chk_join.specs.Working.{Worked, Starting, starts, job_result}
-use Rattle.chk_join.proofs.Works.{worked, as_job}
-
-abbrev pub StartQ : Asked
-StartQ = asked job Start [] 0 0
+use Rattle.chk_parts.proofs.Works.{as_job}
+use Rattle.chk_book.proofs.Works.{worked}
+use Rattle.chk_parts.proofs.Beginning.{no_read, start_last, StartQ}
 
 not_started : (stamped : List (List ℕ)) (given : Result (Unit {0}) CallFault) (fault : OutsideFault)
     {old new : Option History} → Ends StartQ.call given fault → Adds old new (Calls StartQ (answered plain given))
@@ -55,17 +51,6 @@ start_so stamped (Err fault) given ends told = not_started stamped given fault e
 start_is : OfOwn (IsOf Starting) StartQ
 start_is before answer files logs running honest =
     inr (record { own = refl; running = running; honest = honest; by = refl }, starts)
-
-no_read : (name : List ℕ) (at max : ℕ) → Starts ≡ Reads name at max → ⊥
-no_read name at max is = absurd (cc)
-
-start_last : (r : Result (Unit {0}) OutsideFault) (given : Result (Unit {0}) CallFault) {old new : Option History}
-    → MatchResult r (λ _. IsDone given) (λ fault. Ends StartQ.call given fault)
-    → Adds old new (Calls StartQ (answered plain given)) → Adds old new (LastFailed r)
-start_last (Ok value) given is told = adds_as (LastFailed (Ok value)) told (λ added history calls. tt)
-start_last (Err fault) given ends told =
-    adds_as (LastFailed {T = Unit {0}} (Err fault)) told
-    (λ added history calls. ends_last (Unit {0}) plain given fault ends calls)
 
 pub start_works : (r : Result (Unit {0}) OutsideFault) (given : Result (Unit {0}) CallFault) {old new : Option History}
     → MatchResult r (λ _. IsDone given) (λ fault. Ends StartQ.call given fault)

@@ -5,9 +5,7 @@ use Rattle.std.proofs.Common.{length, Option, None, Some, refl, ap, sym, subst, 
 use Rattle.std.specs.Prelude.{IsTrue, nat_eq, nat_lt, codes}
 use Rattle.std.specs.List.{list_all, list_any}
 use Rattle.std.proofs.lemmas.Bool.{and_parts, and_from, ltb-true}
-use Rattle.std.proofs.lemmas.List.{append_cancel_right}
 use Rattle.std.proofs.lemmas.List.Folds.{list_all-append}
-use Rattle.std.proofs.lemmas.Option.{same_Some, none-some}
 use Rattle.chk_bytes.specs.Stems.{is_count}
 use Rattle.chk_site.specs.declared.acts.Role.{Role}
 use Rattle.chk_site.specs.declared.acts.Role.TheVariants.{Agent, Collector, Job, Writer}
@@ -28,7 +26,7 @@ use Rattle.chk_world.specs.Jobs.{segment_list, all_segments, is_named, JobRule}
 use Rattle.chk_world.specs.Rules.{Legal, Framed, OnlyWritersGrowLogs, OnlyAgentsPost, RoleMay}
 use Rattle.chk_world.specs.Places.{As, Foreign}
 use Rattle.chk_world.specs.Sight.{job, sight, AtJob}
-use Rattle.chk_world.specs.JobSteps.{IsOwnStep, IsOf, ReadsFile, reads, asks, WritesTo, removes}
+use Rattle.chk_world.specs.JobSteps.{IsOwnStep, IsOf, ReadsFile, WritesTo, removes}
 use Rattle.chk_world.specs.JobSteps.{SparesFile}
 use Rattle.chk_world.proofs.DoneSinks.{came_same}
 use Rattle.chk_world.proofs.Lifts.{lift_reads, steps_keep, owned_by}
@@ -46,6 +44,8 @@ use Rattle.chk_join.specs.Beginning.{HasBook}
 use Rattle.chk_join.specs.Names.{names_segment, IsStrayNumber}
 use Rattle.chk_join.specs.Working.{TidiesBy, lists_joined, removes_stray, PreparesBy, goes_reading}
 use Rattle.chk_join.specs.Working.{goes_tidying, goes_writing}
+use Rattle.chk_parts.proofs.Beginning.{quiet_read as reads_silent}
+use Rattle.chk_parts.proofs.OneStep.{single, single_leads}
 
 pub segment_spelled : (k : ℕ) → joined_segment k ≡ spell (SegmentFile JoinedFolder k)
 unfolding spell
@@ -117,10 +117,6 @@ tidies_quiet : (b : Book) (call : Deed) → TidiesBy b call → talks call ≡ f
 tidies_quiet b call lists_joined = refl
 tidies_quiet b call (removes_stray w stray) = refl
 
-reads_silent : (call : Deed) → ReadsFile call → talks call ≡ false
-reads_silent call (reads name at max) = refl
-reads_silent call (asks name) = refl
-
 quiet : (b : Book) (call : Deed) → PreparesBy b call → talks call ≡ false
 quiet b call (goes_reading c k) = reads_silent c k
 quiet b call (goes_tidying c k) = tidies_quiet b c k
@@ -174,26 +170,6 @@ module _ (stamped : List (List ℕ)) (b : Book) where
           step.files (rw is at came) refl (λ v piece e. absurd (cc))
 
 -- ---- one step more
-
-single : (before : History) (step : Step) (Q : History → History → Type 0) → Q (step ∷ []) before
-    → Adds (Some before) (Some (step ∷ before)) Q
-single before step Q q = record {
-  told = λ history e.
-      subst (λ h. (added : History) × (Some (step ∷ before) ≡ Some (added ++ h)) × Q added h)
-      (same_Some before history e) (step ∷ [], refl, q);
-  untold = λ e. absurd (none-some before (sym e));
-}
-
-single_leads : (stamped : List (List ℕ)) (before : History) (step : Step) (A B : History → Type 0)
-    → Adds (Some before) (Some (step ∷ before)) (Leads (As stamped job) A B)
-    → (step.own ≡ false → Foreign stamped job before step) → A before → B (step ∷ before)
-single_leads stamped before step A B told theirs a =
-    let x = told.told before refl in
-    let same : x.0 ≡ step ∷ [] =
-    append_cancel_right x.0 (step ∷ []) before (same_Some (x.0 ++ before) (step ∷ before) (sym x.1)) in
-    let led : Leads (As stamped job) A B (step ∷ []) before =
-    subst (λ (l : History). Leads (As stamped job) A B l before) same x.2 in
-    led.leads (tt, theirs) a
 
 module _ (stamped : List (List ℕ)) (b : Book) (next : IsStrayNumber b b.next) where
   abbrev None_ : History → Step → Type 0

@@ -1,21 +1,20 @@
 -- Segments of `joined` that its book doesn't name are gone behind the tidying.
-use Rattle.std.proofs.Common.{◌≡◌, inl, inr, ℕ, zero, suc, ◌+◌, ◌<◌, ◌^◌, Bool, true, false, not}
+use Rattle.std.proofs.Common.{◌≡◌, inl, inr, ℕ, zero, suc, ◌+◌, ◌<◌, Bool, true, false, not}
 use Rattle.std.proofs.Common.{◌&&◌, List, [], ◌∷◌, ◌++◌, length, Option, Some, None, Ok, Err}
 use Rattle.std.proofs.Common.{Result, refl, ap, sym, subst, ◌∙◌, arith, true≢false, bytes_eq}
-use Rattle.std.proofs.Common.{length-append, drop, take, if◌then◌else◌}
+use Rattle.std.proofs.Common.{length-append, take, if◌then◌else◌}
 use Rattle.std.specs.Prelude.{IsTrue, IfOk, MatchResult, Contains, slice_index_or, codes, decimal}
 use Rattle.std.specs.Prelude.{is_some, ◌==◌}
 use Rattle.std.specs.List.{list_any}
-use Rattle.std.proofs.lemmas.Bool.{and_parts, and_from, ltb-true}
+use Rattle.std.proofs.lemmas.Bool.{and_parts, and_from}
 use Rattle.std.proofs.lemmas.Fmt.{decimal_injective, length-decimal-le}
-use Rattle.std.proofs.lemmas.List.{append_cancel_left, drop_more, take_more}
+use Rattle.std.proofs.lemmas.List.{append_cancel_left, take_more}
 use Rattle.std.proofs.lemmas.List.Elements.{Contains-append_left, Contains-append_right}
 use Rattle.std.proofs.lemmas.Option.{same_Some, none-some}
 use Rattle.chk_bytes.specs.Words.{is_word}
 use Rattle.chk_bytes.specs.Stems.{is_count}
 use Rattle.chk_bytes.proofs.WordLemmas.{plain_word, plain-append}
 use Rattle.chk_bytes.proofs.StemLemmas.{decimal_plain}
-use Rattle.chk_bytes.proofs.DecimalLemmas.{plain_number-decimal}
 use Rattle.chk_site.specs.declared.acts.ActAnswer.{ActAnswer}
 use Rattle.chk_site.specs.declared.acts.ActAnswer.TheVariants.{Done, Refused, Stopped, Rotated}
 use Rattle.chk_site.specs.declared.acts.ActAnswer.TheVariants.{Deleted}
@@ -50,7 +49,7 @@ use Rattle.chk_merge.proofs.Frames.{stays_so, reads_quiet}
 use Rattle.chk_book.specs.Folders.{book_name, segment_stem}
 use Rattle.chk_book.specs.Loaded.{IsBookOf, file_bytes}
 use Rattle.chk_copy.specs.Copying.{joined_segment, Copies}
-use Rattle.chk_join.specs.Names.{segment_number, counted_only, unnamed_only, AddsStray, IsStray}
+use Rattle.chk_join.specs.Names.{segment_number, unnamed_only, AddsStray, IsStray}
 use Rattle.chk_join.specs.Names.{IsStrayNumber}
 use Rattle.chk_join.specs.Cleaned.{Pending, Shown, GoneAtOk, IsCleaned}
 use Rattle.chk_join.specs.Joined.{joined_folder, LeavesFolders, of_joined}
@@ -61,20 +60,12 @@ use Rattle.chk_join.specs.declared.fault.JoinFault.{JoinFault}
 use Rattle.chk_join.specs.declared.fault.JoinFault.TheVariants.{Job, Differ, NoMemory as no_memory}
 use Rattle.chk_join.proofs.Whole.{quiet_write}
 use Rattle.chk_join.proofs.Apart.{stem_no_slash}
-use Rattle.chk_join.proofs.RunFacts.{from_both}
+use Rattle.chk_parts.proofs.InTurn.{from_both}
 use Rattle.chk_join.proofs.StepsKept.{segment_spelled}
 use Rattle.chk_join.proofs.Tidied.{listing, removal}
+use Rattle.chk_book.proofs.StemNumbers.{count_small, number_of_stem}
 
 -- ---- names
-
-count_small : (k : ℕ) → is_count k ≡ true → k < 2 ^ 63
-count_small k count = ltb-true k (2 ^ 63) (and_parts _ _ count).1
-
--- the name of a segment has its number
-pub number_of_stem : (k : ℕ) → is_count k ≡ true → segment_number (segment_stem k) ≡ Some k
-number_of_stem k count =
-    ap (λ o. counted_only o) (plain_number-decimal k (count_small k count))
-    ∙ ap (λ b. elim b as (λ t. Option ℕ) [ true ↦ Some k | false ↦ None ]) count
 
 -- segments of other numbers have other names
 pub other_segment : (k n : ℕ) → is_count k ≡ true → is_count n ≡ true → (k ≡ n → ⊥)
@@ -277,12 +268,6 @@ book_count held b one = go (file_bytes (held (book_name joined_folder))) one.boo
     go : (o : Option (List ℕ)) → IsBookOf o b → is_count b.next ≡ true
     go None is = ap (λ (x : Book). is_count x.next) is
     go (Some bytes) is = let so = book_so bytes b is.0 in (and_parts (is_count b.next) _ so.1).0
-
--- the names that are still to come, from one on
-pub next_is : (names : List (List ℕ)) (i : ℕ) (item name : List ℕ) → i < length names
-    → item ≡ slice_index_or names i item → name ≡ item → drop i names ≡ name ∷ drop (i + 1) names
-next_is names i item name low is text =
-    drop_more names i item low ∙ ap (λ w. w ∷ drop (i + 1) names) (sym (text ∙ is))
 
 -- ---- the strays of a listing
 

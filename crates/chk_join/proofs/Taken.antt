@@ -25,6 +25,7 @@ use Rattle.chk_copy.specs.Copying.{chunks_between, chosen_chunks}
 use Rattle.chk_join.proofs.BlockHeads.{block_heads}
 use Rattle.chk_join.proofs.PairFacts.{IsMatched, PairsRise, taken_stream, no_pair}
 use Rattle.chk_join.proofs.RunFacts.{all_of, none_of}
+use Rattle.chk_merge.proofs.HeadStreams.{chunks_of_heads}
 
 -- ---- a block
 
@@ -56,22 +57,6 @@ block_stream side held s first end low high all =
     (each_block (λ (h : Head). h.key.stream ≡ s) side.heads.now first (end - first) (omega (arith, low, high))
     (λ k from less. sym (streams_same s (head_in side.heads.now k).key.stream
     (all k from (omega (arith, low, from, less))))))
-
--- the stream's among the chunks of heads
-pub chunks_of_heads : (s : Stream) (f : Head → Chunk) (hs : List Head)
-    → ((h : Head) → (f h).key ≡ h.key)
-    → chunks_of_stream s (map f hs) ≡ map f (filter (is_head_of s) hs)
-chunks_of_heads s f [] key = refl
-chunks_of_heads s f (h ∷ hs) key =
-    ap (λ k. if same_stream s k.stream then f h ∷ filter (is_of s) (map f hs)
-    else filter (is_of s) (map f hs)) (key h)
-    ∙ go (is_head_of s h) (chunks_of_heads s f hs key)
-  where
-    go : (b : Bool) → chunks_of_stream s (map f hs) ≡ map f (filter (is_head_of s) hs)
-        → (if b then f h ∷ filter (is_of s) (map f hs) else filter (is_of s) (map f hs))
-        ≡ map f (if b then h ∷ filter (is_head_of s) hs else filter (is_head_of s) hs)
-    go true rest = ap (λ l. f h ∷ l) rest
-    go false rest = rest
 
 -- the chunks of the stream's heads
 abbrev pub side_chunks : Side → Files → Stream → List Chunk

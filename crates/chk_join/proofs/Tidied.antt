@@ -3,14 +3,12 @@ use Rattle.std.proofs.Common.{◌≡◌, ℕ, inl, inr, List, [], ◌∷◌, Opt
 use Rattle.std.specs.Prelude.{MatchResult, IfErr, codes}
 use Rattle.chk_site.specs.declared.acts.OutsideFault.{OutsideFault}
 use Rattle.chk_site.specs.declared.acts.CallFault.{CallFault}
-use Rattle.chk_site.specs.declared.acts.CallFault.TheVariants.{Failed, Missing, Exists, Short}
-use Rattle.chk_site.specs.declared.acts.CallFault.TheVariants.{NoMemory}
 use Rattle.chk_site.specs.declared.acts.ActAnswer.{ActAnswer}
 use Rattle.chk_site.specs.declared.acts.Call.TheVariants.{Remove, List as ListNames}
 use Rattle.chk_site.specs.Acts.{Deed, Reads}
 use Rattle.chk_site.specs.History.{History, Every}
 use Rattle.chk_site.specs.Site.{Adds, LastFailed, Asked, asked, answered, plain, IsDone, Calls}
-use Rattle.chk_site.specs.Site.{CauseOf, Ends}
+use Rattle.chk_site.specs.Site.{Ends}
 use Rattle.chk_site.proofs.Runs.{adds_as}
 use Rattle.chk_replace.proofs.CallSteps.{OfOwn, call_each}
 use Rattle.chk_site.proofs.LastCalls.{ended_last as ends_last}
@@ -20,7 +18,8 @@ use Rattle.chk_world.specs.JobSteps.{IsOf}
 use Rattle.chk_parts.proofs.StepKinds.{no_reads}
 use Rattle.chk_join.specs.Names.{IsStray}
 use Rattle.chk_join.specs.Working.{Worked, TidiesBy, lists_joined, removes_stray, job_result}
-use Rattle.chk_join.proofs.Works.{worked, as_job}
+use Rattle.chk_parts.proofs.Works.{as_job}
+use Rattle.chk_book.proofs.Works.{worked}
 
 pub tidies_no_reads : (b : Book) (call : Deed) → TidiesBy b call → (name : List ℕ) (at max : ℕ)
     → call ≡ Reads name at max → ⊥
@@ -85,13 +84,3 @@ remove_works b w stray given r {old = old} {new = new} ends told =
     (λ before step theirs. inl theirs) (remove_is b w stray) calls) in
     worked (TidiesBy b) (job_result r) own (no_reads (TidiesBy b) (tidies_no_reads b) own)
     (as_job r (remove_last w given r ends told))
-
--- a call that was done leaves the count of faults
-pub cause_done : (before now : ℕ) (given : Result (Unit {0}) CallFault) → IsDone given → CauseOf before now given
-    → now ≡ before
-cause_done before now (Ok value) is cause = cause
-cause_done before now (Err Failed) is cause = absurd is
-cause_done before now (Err Missing) is cause = cause
-cause_done before now (Err Exists) is cause = cause
-cause_done before now (Err (Short size)) is cause = cause
-cause_done before now (Err NoMemory) is cause = cause

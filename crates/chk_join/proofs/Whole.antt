@@ -35,7 +35,8 @@ use Rattle.chk_join.specs.declared.preparing.Prepared.{Prepared}
 use Rattle.chk_join.proofs.Begun.{joined_book}
 use Rattle.chk_join.proofs.Chain.{files_stay}
 use Rattle.chk_join.proofs.Folders.{quiet_tidy}
-use Rattle.chk_join.proofs.RunFacts.{from_both, none_in}
+use Rattle.chk_join.proofs.RunFacts.{none_in}
+use Rattle.chk_parts.proofs.InTurn.{from_both}
 
 -- ---- what is supposed of others
 

@@ -1,33 +1,20 @@
 -- The calls of a join and of its print, by their kind.
-use Rattle.std.proofs.Common.{◌≡◌, inl, inr, ℕ, List, [], ◌∷◌, Option, Result, refl}
-use Rattle.chk_site.specs.declared.acts.OutsideFault.{OutsideFault}
+use Rattle.std.proofs.Common.{◌≡◌, inl, inr, ℕ, List, [], ◌∷◌, Option, refl}
 use Rattle.chk_site.specs.declared.acts.ActAnswer.{ActAnswer}
 use Rattle.chk_site.specs.Acts.{Deed, deed}
 use Rattle.chk_site.specs.History.{History, Every}
 use Rattle.chk_site.specs.Site.{Adds}
 use Rattle.chk_site.specs.Runs.{own_acts}
 use Rattle.chk_site.proofs.Runs.{adds_as}
-use Rattle.chk_replace.proofs.CallSteps.{OfEach, script_each}
-use Rattle.chk_world.specs.JobSteps.{IsOf, ReadsFile, reads, asks, WritesTo, removes, creates, appends, syncs}
+use Rattle.chk_world.specs.JobSteps.{IsOf}
 use Rattle.chk_world.specs.Sight.{job}
 use Rattle.chk_parts.specs.Publishing.{ReplacesBookOf, writes_book, names_book}
 use Rattle.chk_join.specs.Faults.{JoinsBy, starts, only_reads, lists_folder, removes_segment, writes_segment, replaces_book}
-use Rattle.chk_prints.specs.Printing.{PrintsInTurn, print_of, printed}
-use Rattle.chk_prints.proofs.Printed.{printings, prints_made}
+use Rattle.chk_prints.specs.Printing.{print_of, printed}
 use Rattle.chk_join_run.specs.Telling.{JoinsAndTells, joins, tells, Tells, says}
+use Rattle.chk_prints.proofs.CallKinds.{silent_write, silent_read}
 
 -- ---- a join prints nothing
-
-silent_write : (name : List ℕ) (call : Deed) (answer : ActAnswer) → WritesTo name call
-    → print_of job call answer ≡ []
-silent_write name call answer removes = refl
-silent_write name call answer creates = refl
-silent_write name call answer (appends piece) = refl
-silent_write name call answer syncs = refl
-
-silent_read : (call : Deed) (answer : ActAnswer) → ReadsFile call → print_of job call answer ≡ []
-silent_read call answer (reads name at max) = refl
-silent_read call answer (asks name) = refl
 
 silent_book : (folder : List ℕ) (call : Deed) (answer : ActAnswer) → ReplacesBookOf folder call
     → print_of job call answer ≡ []
@@ -58,21 +45,6 @@ pub join_silent : {old new : Option History} → Adds old new (Every (IsOf Joins
 join_silent own = adds_as (λ added history. printed (own_acts added) ≡ []) own silent_run
 
 -- ---- the print
-
-each_tells : (lines : List (List ℕ)) → OfEach (IsOf Tells) (printings job lines)
-each_tells [] = tt
-each_tells (line ∷ lines) = (
-  λ before answer files logs running honest.
-      inr (record { own = refl; running = running; honest = honest; by = refl }, says line),
-  each_tells lines,
-)
-
-pub prints_own : {lines : List (List ℕ)} {result : Result
-    (Unit {0}) OutsideFault} {old new : Option History}
-    → PrintsInTurn job lines result old new → Adds old new (Every (IsOf Tells))
-prints_own {lines = lines} prints =
-    script_each (IsOf Tells) (λ before step theirs. inl theirs) (each_tells lines)
-    (prints_made prints)
 
 pub of_join : (call : Deed) → JoinsBy call → JoinsAndTells call
 of_join call k = joins call k

@@ -32,11 +32,12 @@ use Rattle.chk_join.specs.declared.fault.JoinFault.{JoinFault}
 use Rattle.chk_join.specs.declared.fault.JoinFault.TheVariants.{Job, NoMemory}
 use Rattle.chk_prints.specs.Printing.{all_printed, unprinted, printed_on, ended, PrintsInTurn, Print, printed}
 use Rattle.chk_prints.proofs.Printed.{prints_made, prints_told, prints_join, prints_run}
-use Rattle.chk_join_run.specs.Telling.{run_line, tell_fault, printed_result, PrintsReport, IsTold, JoinsAndTells, EndsRunning, Tells, IsAnswerOf, LeftByJoin, ShowsJoin}
-use Rattle.chk_join_run.proofs.AtMost.{at_most}
-use Rattle.chk_join_run.proofs.CallKinds.{join_silent, of_join, of_print, prints_own}
+use Rattle.chk_join_run.specs.Telling.{run_line, tell_fault, printed_result, PrintsReport, IsTold, JoinsAndTells, EndsRunning, Tells, IsAnswerOf, LeftByJoin, ShowsJoin, says}
+use Rattle.chk_prints.proofs.AtMost.{at_most}
+use Rattle.chk_join_run.proofs.CallKinds.{join_silent, of_join, of_print}
 use Rattle.chk_join_run.proofs.Lines.{join_is_no_report}
 use Rattle.chk_join_run.proofs.Prints.{prints_lead}
+use Rattle.chk_prints.proofs.CallKinds.{prints_own}
 
 -- ---- what a join leaves, from the files that stood there
 
@@ -176,13 +177,13 @@ module _ (r : JoinReport) {old mid new : Option History}
       → PrintsInTurn job (run_line r ∷ []) said mid new
       → Adds old new (JoinFailsLast (printed_result r said))
   last_of (Ok value) prints =
-      adds_then (JoinFailsLast (Ok r)) own (prints_own prints) (λ a b history p q. tt)
+      adds_then (JoinFailsLast (Ok r)) own (prints_own Tells says prints) (λ a b history p q. tt)
   last_of (Err (site_failed call)) prints =
       adds_then (JoinFailsLast {T = JoinReport} (Err (Job (Jobs.Outside call)))) own
       (script_last (prints_made prints))
       (λ a b history p q. last_then {T = Unit {0}} (Err (site_failed call)) b a history q)
   last_of (Err no_memory) prints =
-      adds_then (JoinFailsLast {T = JoinReport} (Err NoMemory)) own (prints_own prints)
+      adds_then (JoinFailsLast {T = JoinReport} (Err NoMemory)) own (prints_own Tells says prints)
       (λ a b history p q. tt)
 
 only_of : (r : JoinReport) (said : Result (Unit {0}) OutsideFault)
@@ -210,13 +211,13 @@ module _ (who : Who) (by_job : who ≡ job) (r : JoinReport) (result : Result Jo
   pub own_both : Adds old new (Every (IsOf JoinsAndTells))
   own_both =
       adds_then (Every (IsOf JoinsAndTells)) (as_kind JoinsBy JoinsAndTells of_join own)
-      (as_kind Tells JoinsAndTells of_print (prints_own prints))
+      (as_kind Tells JoinsAndTells of_print (prints_own Tells says prints))
       (λ a b history p q. every_join (IsOf JoinsAndTells) b a history p q)
 
   pub shows_both : (left right : List ℕ) → Adds old mid (JoinLeft left right (Ok r))
       → Adds old new (ShowsJoin left right result)
   shows_both left right told =
-      adds_then (ShowsJoin left right result) told (prints_own prints)
+      adds_then (ShowsJoin left right result) told (prints_own Tells says prints)
       (λ a b history x p. record {
         tail = b;
         body = a;

@@ -9,14 +9,22 @@ name_count l = vec_len l.names
 abbrev pub is_of : List ℕ → Listing → Bool
 is_of folder l = bytes_eq (string_bytes l.folder) folder
 
--- at most 64 folders, and 65,536 names in all
+-- the most names that are kept in all
+abbrev pub most_names : ℕ
+most_names = 65536
+
+-- the most folders whose listings are kept
+abbrev pub most_folders : ℕ
+most_folders = 64
+
+-- no more folders than that, and no more names in all
 pub record IsBounded (kept : List Listing) : Type 0 where
-  pub folders : length kept ≤ 64
-  pub names : sum_by name_count kept ≤ 65536
+  pub folders : length kept ≤ most_folders
+  pub names : sum_by name_count kept ≤ most_names
 
 -- a listing of so many names can be kept beside these
 abbrev pub has_room : ℕ → List Listing → Bool
-has_room names kept = nat_lt (length kept) 64 && nat_le (sum_by name_count kept + names) 65536
+has_room names kept = nat_lt (length kept) most_folders && nat_le (sum_by name_count kept + names) most_names
 
 -- those that stay when one of so many names comes: the first go, and no more than have to
 abbrev pub with_room : ℕ → List Listing → List Listing
@@ -33,7 +41,7 @@ pub record IsTaken (old new : List Listing) (folder : List ℕ) (listing : Listi
 
 -- the listing has a stamp, and not too many names
 abbrev pub may_keep : Listing → Bool
-may_keep l = is_some l.stamp && nat_le (name_count l) 65536
+may_keep l = is_some l.stamp && nat_le (name_count l) most_names
 
 -- it stands last behind those that stay; where memory was wanting these are left alone
 abbrev pub IsKept : List Listing → List Listing → Listing → Type 0

@@ -21,13 +21,17 @@ pub record LogPiece : Type 0 where
   pub path : List ℕ
   pub bytes : List ℕ
 
--- whole lines for one of the three logs, at least one and 65,536 bytes at most
+-- the most bytes of a piece that a load appends
+abbrev pub log_piece_limit : ℕ
+log_piece_limit = 65536
+
+-- whole lines for one of the three logs, at least one, and no more bytes than the limit
 pub record IsPiece (p : LogPiece) : Type 0 where
   pub log : ℕ
   pub low : log < 3
   pub path : p.path ≡ load_log log
   pub some : 0 < length p.bytes
-  pub most : length p.bytes ≤ 65536
+  pub most : length p.bytes ≤ log_piece_limit
   pub lines : IsTrue (ends_lines p.bytes)
 
 -- what the pieces for one log have, joined in order

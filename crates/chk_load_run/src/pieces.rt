@@ -6,6 +6,7 @@ ghost use Rattle.chk_site.specs.Site.{OutsideCause};
 ghost use Rattle.chk_words.specs.Loads.{load_log, load_text};
 ghost use Rattle.chk_load_run.specs.Lines.{ends_lines};
 ghost use Rattle.chk_load_run.specs.Pieces.{AppendsInTurn, Flushes, WritesAll, WritesLog};
+ghost use Rattle.chk_load_run.specs.Pieces.{log_piece_limit};
 
 use chk_bytes::{Bytes, NoMemory};
 use chk_site::{Call, OutsideFault, Site, Who, reached};
@@ -92,7 +93,7 @@ fn append_from<S: Site>(
 ) -> Result<u64, OutsideFault>
     requires one { log < 3 }
     requires some { 1 ≤ least }
-    requires most { length piece.old ≤ 65536 }
+    requires most { length piece.old ≤ log_piece_limit }
     requires lines { IsTrue (ends_lines piece.old) }
     ensures flushes { Flushes writer.now (load_log log) least piece.old piece.new result
         (S.told site.old) (S.told site.new) }
@@ -117,7 +118,7 @@ fn append_piece<S: Site>(
 ) -> Result<(), OutsideFault>
     requires one { log < 3 }
     requires some { 0 < length piece.now }
-    requires most { length piece.now ≤ 65536 }
+    requires most { length piece.now ≤ log_piece_limit }
     requires lines { IsTrue (ends_lines piece.now) }
     ensures appends { AppendsInTurn writer.now
         (record { path = load_log log; bytes = piece.now } ∷ []) result (S.told site.old) (S.told site.new) }

@@ -15,7 +15,7 @@ pub run_then : (start from mid to : ℕ) (ks ls : List Chunk) → Run start from
 run_then start from mid to [] ls a b = subst (λ n. Run start n ls to) a b
 run_then start from mid to (k ∷ ks) ls a b = (a.0, a.1, run_then start (chunk_end k) mid to ks ls a.2 b)
 
-wanted_both : (s : Stream) (begin : ℕ) (ks ls : List Chunk) → wanted s begin (ks ++ ls) ≡ wanted s begin ks ++ wanted s begin ls
+pub wanted_both : (s : Stream) (begin : ℕ) (ks ls : List Chunk) → wanted s begin (ks ++ ls) ≡ wanted s begin ks ++ wanted s begin ls
 wanted_both s begin ks ls =
     ap (flat_map (wanted_of begin)) (filter-append (is_of s) ks ls)
     ∙ flat_map-append (wanted_of begin) (chunks_of_stream s ks) (chunks_of_stream s ls)

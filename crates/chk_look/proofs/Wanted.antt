@@ -38,7 +38,7 @@ wanted_run begin start from to (k ∷ ks) all run =
     (wanted_run begin start (chunk_end k) to ks all.1 run.2 ∙ ap (λ m. drop m (values ks)) later)
     ∙ sym (drop_parts (begin - from) k.value (values ks))
 
-held_bytes : (most : ℕ) (held : Files) (names : List (List ℕ)) → Each HasBytes (chunks_held most held names)
+pub held_bytes : (most : ℕ) (held : Files) (names : List (List ℕ)) → Each HasBytes (chunks_held most held names)
 held_bytes most held [] = tt
 held_bytes most held (w ∷ ws) =
     each_append HasBytes (chunks_within most (bytes_in (held w))) (chunks_held most held ws)

@@ -1,4 +1,4 @@
 mod FindingLines
 mod OwnCalls
-mod SilentLines
+pub mod SilentLines
 mod Split

@@ -1,13 +1,9 @@
 -- The line of what was found, and those of all.
-use Rattle.std.specs.Prelude.{ℕ, List, [], ◌∷◌, ◌++◌, map, codes, decimal}
-use Rattle.chk_bytes.specs.Words.{joined_at}
+use Rattle.std.specs.Prelude.{ℕ, List, [], ◌∷◌, map, codes, decimal}
 use Rattle.chk_look_check.specs.declared.finding.Finding.{Finding}
 use Rattle.chk_look_check.specs.declared.trouble.Trouble.{Trouble}
 use Rattle.chk_look_check.specs.Troubles.{trouble_name}
-
--- words with a space between each two, and a newline
-abbrev pub line_of : List (List ℕ) → List ℕ
-line_of words = joined_at 32 words ++ 10 ∷ []
+pub use Rattle.chk_prints.specs.Lines.{line_of}
 
 abbrev pub trouble_line : ℕ → Trouble → List ℕ
 trouble_line line trouble = line_of (codes "line" ∷ decimal line ∷ trouble_name trouble ∷ [])

@@ -4,4 +4,4 @@ mod Causes
 mod Seen
 mod Turns
 mod Lines
-mod FolderWords
+pub mod FolderWords

@@ -15,13 +15,7 @@ use Rattle.chk_book.specs.Books.{end_in}
 use Rattle.chk_book.specs.Views.{end_view}
 use Rattle.chk_book.specs.declared.lists.End.{End as Struct}
 use Rattle.chk_look_held.specs.Order.{end_before, end_of, EndsRise, IsEndPlace}
-
--- a stream that comes before another one isn't that one
-pub not_of : (s t : Stream) → stream_lt t s ≡ true → same_stream s t ≡ false
-not_of s t below = elim (cases_Bool (same_stream s t)) [
-  | inr other ↦ other
-  | inl same ↦ absurd (true≢false (sym below ∙ (streams.neither s t same).1))
-]
+use Rattle.chk_heads.proofs.Apart.{not_of}
 
 abbrev pub stream_at : List Struct → ℕ → Struct → Stream
 stream_at ends k d = (end_view (slice_index_or ends k d)).stream

@@ -13,7 +13,7 @@ use Rattle.chk_heads.proofs.Sorting.{Sorted, sort_sorted}
 use Rattle.chk_look_held.specs.declared.spans.Span.{Span}
 use Rattle.chk_look_held.specs.Elsewhere.{Gap, clipped, waiting_from, with_span}
 use Rattle.chk_look_held.specs.Order.{stream_in, IsPlaceOf, StreamsRise}
-use Rattle.chk_look_held.proofs.EndPlaces.{not_of}
+use Rattle.chk_heads.proofs.Apart.{not_of}
 
 -- ---- the streams of heads in order rise
 

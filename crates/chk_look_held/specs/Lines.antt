@@ -1,10 +1,10 @@
 -- The line of a stream of which chunks wait, and those of all.
 use Rattle.std.specs.Prelude.{ℕ, List, [], ◌∷◌, ◌++◌, map, codes, decimal}
-use Rattle.chk_bytes.specs.Words.{joined_at}
 use Rattle.chk_world.specs.Books.{Book, End}
 use Rattle.chk_heads.specs.Heads.{Head}
 use Rattle.chk_book.specs.Books.{end_in}
 use Rattle.chk_look_held.specs.Groups.{Group, groups}
+pub use Rattle.chk_prints.specs.Lines.{line_of}
 
 -- the words of a line
 abbrev pub held_words : List ℕ → List ℕ → List ℕ → ℕ → ℕ → ℕ → ℕ → List (List ℕ)
@@ -24,10 +24,6 @@ places archived begin end =
     codes " archived " ++ (decimal archived ++ (codes " missing " ++ (decimal archived
     ++ (codes " to " ++ (decimal begin ++ (codes " waits " ++ (decimal begin ++ (codes " to "
     ++ decimal end))))))))
-
--- words with a space between each two, and a newline
-abbrev pub line_of : List (List ℕ) → List ℕ
-line_of words = joined_at 32 words ++ 10 ∷ []
 
 -- the line of a stream that is archived up to this offset: the bytes from there to the first one
 -- that waits are missing

@@ -10,6 +10,7 @@ use Rattle.chk_site.specs.declared.acts.ActAnswer.TheVariants.{Refused}
 use Rattle.chk_site.specs.Acts.{Deed, ReadsLog, AsksNewest}
 use Rattle.chk_site.specs.Logs.{Log, Past, read_from}
 use Rattle.chk_site.specs.History.{History, logs_after}
+use Rattle.chk_site.specs.declared.limits.TheConstants.{PIECE_BYTES}
 use Rattle.chk_look_passed.specs.declared.oldest.Oldest.{Oldest}
 use Rattle.chk_look_passed.specs.declared.oldest.Oldest.TheVariants.{Base, Rotated, Changed}
 use Rattle.chk_look_passed.specs.declared.oldest.Came.{Came}
@@ -19,7 +20,7 @@ use Rattle.chk_look_passed.specs.declared.oldest.Came.TheVariants.{Changed as ot
 
 -- the call reads the log from its oldest generation on, or asks for its newest one
 pub data LooksAtLog (path : List ℕ) : Deed → Type 0 where
-  reads : (at : ℕ) → LooksAtLog path (ReadsLog path (Past None) at 131072)
+  reads : (at : ℕ) → LooksAtLog path (ReadsLog path (Past None) at PIECE_BYTES)
   asks : LooksAtLog path (AsksNewest path)
 
 -- the suffix of the oldest generation that is there; none where that is the base file

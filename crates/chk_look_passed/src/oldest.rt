@@ -3,6 +3,7 @@
 ghost use Rattle.std.specs.Prelude.{◌≡◌, ◌<◌, ◌≤◌, length, IfOk};
 ghost use Rattle.chk_site.specs.History.{Every};
 ghost use Rattle.chk_site.specs.Site.{Adds, LastFailed, OutsideCause};
+ghost use Rattle.chk_site.specs.declared.limits.TheConstants.{PIECE_BYTES};
 ghost use Rattle.chk_world.specs.JobSteps.{IsOf};
 ghost use Rattle.chk_world.specs.Sight.{job};
 ghost use Rattle.chk_look_passed.specs.Oldest.{came_of, further, GoesUp, LooksAtLog};
@@ -137,7 +138,7 @@ fn read_at<S: Site>(
 
 /// What a read at the place showed.
 fn came_of(piece: Piece, at: u64) -> Came
-    requires few { length piece.bytes ≤ 131072 }
+    requires few { length piece.bytes ≤ PIECE_BYTES }
     ensures is { result ≡ came_of piece at }
     ensures up { GoesUp at result }
 {

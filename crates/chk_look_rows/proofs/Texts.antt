@@ -1,18 +1,10 @@
 -- Texts that are put together line by line.
-use Rattle.std.proofs.Common.{◌≡◌, ◌∙◌, ℕ, suc, ◌+◌, ◌<◌, ◌≤◌, List, ◌∷◌, ◌++◌, drop, length}
-use Rattle.std.proofs.Common.{get_or, ap, sym, add-one, append_assoc}
+use Rattle.std.proofs.Common.{◌≡◌, ◌∙◌, ℕ, ◌+◌, ◌<◌, ◌≤◌, List, ◌++◌, drop, length}
+use Rattle.std.proofs.Common.{get_or, ap, sym, append_assoc}
 use Rattle.std.specs.Prelude.{flat_map}
 use Rattle.std.proofs.lemmas.List.{append-nil}
 use Rattle.std.proofs.Math.ListN.{drop_of_length-le}
-use Rattle.std.proofs.Math.Seq.{drop-cons}
-
--- the next one of a list, and those behind it
-pub next_of : {A : Type 0} (xs : List A) (i : ℕ) (x : A) → i < length xs → x ≡ get_or xs i x
-    → drop i xs ≡ x ∷ drop (i + 1) xs
-next_of {A = A} xs i x low is =
-    drop-cons xs i x low
-    ∙ (ap (λ (y : A). y ∷ drop (suc i) xs) (sym is)
-    ∙ ap (λ (k : ℕ). x ∷ drop k xs) (sym (add-one i)))
+use Rattle.chk_heads.proofs.InTurn.{next_of}
 
 -- one more line behind the text
 pub line_more : {A : Type 0} (f : A → List ℕ) (xs : List A) (i : ℕ) (x : A)

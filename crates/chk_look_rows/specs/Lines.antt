@@ -1,10 +1,10 @@
 -- The lines of the tables.
-use Rattle.std.specs.Prelude.{ℕ, ◌-◌, ◌^◌, max, List, ◌++◌, codes, Option, Some, None}
+use Rattle.std.specs.Prelude.{ℕ, ◌-◌, ◌^◌, List, ◌++◌, codes, Option, Some, None}
 use Rattle.std.specs.Fmt.{format_spec, styled_decimal}
 use Rattle.chk_bytes.specs.Stems.{stem_text}
 use Rattle.chk_world.specs.Books.{End}
-use Rattle.chk_book.specs.Books.{end_in}
 use Rattle.chk_look_rows.specs.declared.sinks.OpenSink.{OpenSink}
+pub use Rattle.chk_book.specs.Books.{split_to}
 
 -- a number at the right end of a column of 15 places, with spaces before it
 abbrev pub right : ℕ → List ℕ
@@ -17,11 +17,6 @@ columns first second = right first ++ (codes " " ++ right second)
 -- the words that name a stream
 abbrev pub words_of : List ℕ → List ℕ → List ℕ → List ℕ
 words_of source kind name = source ++ (codes " " ++ (kind ++ (codes " " ++ name)))
-
--- the offset up to which the records of a stream go, by the ends of their book; its start where
--- they have none of it
-abbrev pub split_to : List End → End → ℕ
-split_to records e = max (end_in 0 records e.stream) e.start
 
 -- a stream that is archived up to its end, and whose records go up to this offset
 abbrev pub stream_line : End → ℕ → List ℕ

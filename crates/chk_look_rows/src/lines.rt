@@ -49,7 +49,7 @@ pub fn counts_line(alloc: Global, first: u64, second: u64, third: u64) -> Result
 }
 
 /// The offset up to which the records of the stream go; its start where there are none.
-fn split_to(records: &Book, end: &End) -> u64
+pub fn split_to(records: &Book, end: &End) -> u64
     ensures { result ≡ split_to (book_view records.now).ends (end_view end.now) }
 {
     let split = records.archived_end(end.source.as_str(), end.kind.as_str(), end.name.as_str());

@@ -1,10 +1,9 @@
 -- What is shown, by the process that looks.
 use Rattle.std.proofs.Common.{◌≡◌, ℕ, ◌<◌, List, [], ◌∷◌, ◌++◌, append_assoc, Option, Ok, Err}
-use Rattle.std.proofs.Common.{Result, refl, subst, arith}
+use Rattle.std.proofs.Common.{Result, refl, subst}
 use Rattle.std.specs.Prelude.{IsTrue, codes, decimal, ◌^◌}
 use Rattle.std.proofs.lemmas.Bool.{and_from}
 use Rattle.chk_bytes.specs.Words.{joined_at}
-use Rattle.chk_bytes.proofs.WordLemmas.{plain_word}
 use Rattle.chk_site.specs.declared.acts.Who.{Who}
 use Rattle.chk_site.specs.declared.acts.OutsideFault.{OutsideFault}
 use Rattle.chk_site.specs.declared.acts.OutsideFault.TheVariants as site
@@ -12,7 +11,6 @@ use Rattle.chk_site.specs.Site.{OutsideCause}
 use Rattle.chk_site.specs.History.{History}
 use Rattle.chk_world.specs.ArchiveRuns.{is_one_line}
 use Rattle.chk_world.specs.Sight.{job as the_job}
-use Rattle.chk_book.specs.Folders.{is_folder}
 use Rattle.chk_heads.specs.declared.fault.JobFault.{JobFault}
 use Rattle.chk_heads.specs.declared.fault.JobFault.TheVariants as job
 use Rattle.chk_heads.specs.Faults.{JobCause}
@@ -56,13 +54,6 @@ usage_one Passed = refl
 
 pub version_one : IsTrue (is_one_line version_line)
 version_one = refl
-
--- the folders of a store can be named
-pub archive_folder : IsTrue (is_folder (codes "archive"))
-archive_folder = and_from _ _ (plain_word (codes "archive") refl (omega arith) (omega arith)) refl
-
-pub records_folder : IsTrue (is_folder (codes "demux"))
-records_folder = and_from _ _ (plain_word (codes "demux") refl (omega arith) (omega arith)) refl
 
 -- the cause of an outcome is that of its refusal
 fault_cause : (T : Type 0) (f : LookFault) (before now : ℕ) → LookCause {T = T} before now (Err f)

@@ -1,9 +1,8 @@
 -- Store after store is read.
-use Rattle.std.proofs.Common.{◌≡◌, ◌∙◌, ℕ, zero, suc, ◌+◌, ◌<◌, ◌≤◌, Bool, true, false, List, [], ◌∷◌, length, drop, map, get_or, ap, sym, subst, refl, arith, add-one, Ok, Err, Option, Result, length-append}
+use Rattle.std.proofs.Common.{◌≡◌, ℕ, zero, suc, ◌<◌, ◌≤◌, Bool, true, false, List, [], ◌∷◌, length, map, get_or, sym, subst, refl, arith, Ok, Err, Option, Result, length-append}
 use Rattle.std.specs.Borrow.{Bor}
 use Rattle.std.specs.List.{list_all}
 use Rattle.std.specs.Prelude.{IsTrue, codes, nat_le}
-use Rattle.std.proofs.Math.Seq.{drop-cons}
 use Rattle.std.proofs.lemmas.Bool.{and_from, and_parts, le-leb, leb-true}
 use Rattle.chk_site.specs.declared.acts.OutsideFault.{OutsideFault}
 use Rattle.chk_site.specs.declared.acts.OutsideFault.TheVariants as site
@@ -61,12 +60,6 @@ path_at (x ∷ xs) (suc i) d low all = path_at xs i d (omega (arith, low)) (and_
 pub stores_path : (xs : List (Bor (List ℕ))) (i : ℕ) (d : Bor (List ℕ)) → i < length xs
     → IsTrue (are_stores (map (λ a. a.now) xs)) → IsTrue (is_path (get_or xs i d).now)
 stores_path xs i d low h = path_at xs i d low (and_parts _ _ h).1
-
-pub next_word : (xs : List (Bor (List ℕ))) (i : ℕ) (d : Bor (List ℕ)) → i < length xs
-    → map (λ a. a.now) (drop i xs) ≡ (get_or xs i d).now ∷ map (λ a. a.now) (drop (i + 1) xs)
-next_word xs i d low =
-    ap (map (λ a. a.now)) (drop-cons xs i d low
-    ∙ ap (λ (k : ℕ). get_or xs i d ∷ drop k xs) (sym (add-one i)))
 
 -- ---- calls and causes
 

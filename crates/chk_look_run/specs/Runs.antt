@@ -2,6 +2,7 @@
 use Rattle.std.specs.Prelude.{◌≡◌, ℕ, ◌-◌, ◌^◌, Bool, true, false, List, codes}
 use Rattle.std.specs.Prelude.{if◌then◌else◌, Option, Some, None, Result}
 use Rattle.chk_site.specs.History.{History}
+use Rattle.chk_chunk.specs.Keys.{record_limit, chunk_limit}
 use Rattle.chk_world.specs.Sight.{job}
 use Rattle.chk_look.specs.declared.course.Course.{Course}
 use Rattle.chk_look.specs.declared.fault.LookFault.{LookFault}
@@ -32,7 +33,7 @@ abbrev pub folder_of : CatAsked → List ℕ
 folder_of w = if w.records then codes "demux" else codes "archive"
 
 abbrev pub most_of : CatAsked → ℕ
-most_of w = if w.records then 1048576 else 131072
+most_of w = if w.records then record_limit else chunk_limit
 
 -- a line for each stream of the two books is printed
 pub record ShowsStreams (outcome : Outcome) (before after : Option History) : Type 0 where

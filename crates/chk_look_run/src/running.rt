@@ -33,9 +33,10 @@ use std::alloc::Global;
 /// `audit --agent DIR --store DIR` compares the archive of each stream that a checkpoint of the
 /// folder `agents` has with its log, from where that begins on, and prints `same <source> <type>
 /// <name> start <offset> end <offset> sha256 <digest>`, `PART` where the log has the first bytes
-/// no more, or `DIFFERS`. It is `Done` only where some are compared and all are `same`, `Unknown`
-/// where none is, and else `Differs`; a store without a book is `NoBook`. Here the site's folder
-/// is that of the agents, from which the store and relative paths of logs are named.
+/// no more, or `DIFFERS at <offset>`, the first at which it has another one or none. It is `Done`
+/// only where some are compared and all are `same`, `Unknown` where none is, and else `Differs`; a
+/// store without a book is `NoBook`. Here the site's folder is that of the agents, from which the
+/// store and relative paths of logs are named.
 ///
 /// `cat [--begin N] [--follow] [--records] STORE SOURCE TYPE NAME` prints the archived bytes of a
 /// stream from the offset N on, as `archive/book` names them, or its records joined, as

@@ -3,6 +3,7 @@
 ghost use Rattle.std.specs.Prelude.{◌≡◌, ◌≤◌, IsTrue};
 ghost use Rattle.chk_site.specs.History.{Every};
 ghost use Rattle.chk_site.specs.Site.{Adds};
+ghost use Rattle.chk_chunk.specs.Keys.{record_limit};
 ghost use Rattle.chk_world.specs.JobSteps.{IsOf};
 ghost use Rattle.chk_world.specs.Sight.{job};
 ghost use Rattle.chk_book.specs.Folders.{is_folder};
@@ -124,7 +125,7 @@ fn print_by<S: Site>(
 ) -> Result<Came, LookFault>
     requires job { who.now ≡ job }
     requires folder { IsTrue (is_folder folder.now) }
-    requires most { most ≤ 1048576 }
+    requires most { most ≤ record_limit }
     ensures told { PrintsBy again folder.now most course.old course.new result (S.told site.old)
         (S.told site.new) }
     ensures own { Adds (S.told site.old) (S.told site.new) (Every (IsOf LooksAgain)) }
@@ -162,7 +163,7 @@ fn folder_of<'a>(words: &CatWords<'_>) -> &'a str
 /// The most bytes of a record there.
 fn most_of(words: &CatWords<'_>) -> u32
     ensures is { result ≡ most_of (cat_of words.now) }
-    ensures few { result ≤ 1048576 }
+    ensures few { result ≤ record_limit }
 {
     if words.records { RECORD } else { CHUNK }
 }

@@ -12,6 +12,7 @@ use Rattle.chk_heads.proofs.Orders.{streams}
 use Rattle.chk_book.specs.Books.{end_in}
 use Rattle.chk_book.specs.Views.{end_view}
 use Rattle.chk_book.specs.declared.lists.End.{End as EndStruct}
+use Rattle.chk_heads.proofs.Apart.{apart, apart_from, behind_it}
 
 before_on : (a b c : Stream) → stream_lt a b ≡ true → stream_lt b c ≡ true
     → stream_lt a c ≡ true
@@ -19,26 +20,6 @@ before_on a b c p q = elim (cases_Bool (stream_lt a c)) [
   | inl before ↦ before
   | inr late ↦
       absurd (true≢false (sym p ∙ streams.order.onward a c b late (streams.order.one_way b c q)))
-]
-
--- one that comes before another is not the same
-apart : (a b : Stream) → stream_lt a b ≡ true → same_stream a b ≡ false
-apart a b p = elim (cases_Bool (same_stream a b)) [
-  | inr unlike ↦ unlike
-  | inl same ↦ absurd (true≢false (sym p ∙ (streams.neither a b same).0))
-]
-
-apart_from : (a b : Stream) → stream_lt a b ≡ true → same_stream b a ≡ false
-apart_from a b p = elim (cases_Bool (same_stream b a)) [
-  | inr unlike ↦ unlike
-  | inl same ↦ absurd (true≢false (sym p ∙ (streams.neither b a same).1))
-]
-
-behind_it : (a b : Stream) → same_stream b a ≡ false → stream_lt a b ≡ false
-    → stream_lt b a ≡ true
-behind_it a b other unlike = elim (cases_Bool (stream_lt b a)) [
-  | inl h ↦ h
-  | inr also ↦ absurd (true≢false (sym (streams.are_alike b a also unlike) ∙ other))
 ]
 
 -- each stream stands once, in order

@@ -1,22 +1,21 @@
 -- What is wanted of a stream's chunks lies in the newest of them.
 use Rattle.std.proofs.Common.{◌≡◌, ◌∙◌, ℕ, ◌-◌, ◌<◌, List, [], ◌∷◌, ◌++◌, take}
 use Rattle.std.proofs.Common.{drop, refl, sym, ap, subst, arith, append_assoc}
-use Rattle.std.specs.Prelude.{flat_map}
 use Rattle.std.proofs.lemmas.List.{drop_all, take-append-drop}
 use Rattle.std.proofs.lemmas.List.Elements.{filter-append}
-use Rattle.std.proofs.lemmas.List.Concat.{flat_map-append}
 use Rattle.chk_site.specs.Files.{Files}
-use Rattle.chk_chunk.specs.Keys.{Stream, Chunk, chunk_end, is_of}
+use Rattle.chk_chunk.specs.Keys.{Chunk, chunk_end, is_of}
 use Rattle.chk_world.specs.Books.{chunks_of_stream, chunks_within, values}
 use Rattle.chk_world.specs.Jobs.{Run}
 use Rattle.chk_world.specs.TrueBooks.{HasBytes}
-use Rattle.chk_world.proofs.Each.{Each, each_filter}
-use Rattle.chk_world.proofs.BooksTrue.{each_within, each_append, run_length}
+use Rattle.chk_world.proofs.Each.{each_filter}
+use Rattle.chk_world.proofs.BooksTrue.{run_length}
 use Rattle.chk_heads.specs.Pieces.{bytes_in}
 use Rattle.chk_look.specs.Archives.{chunks_held}
-use Rattle.chk_look.specs.Courses.{wanted, wanted_of}
-use Rattle.chk_look.proofs.Wanted.{wanted_held}
+use Rattle.chk_look.specs.Courses.{wanted}
+use Rattle.chk_look.proofs.Wanted.{wanted_held, held_bytes}
 use Rattle.chk_look_store.specs.Laws.{NewestHaveTheRest}
+use Rattle.chk_look.proofs.CourseLemmas.{wanted_both as wanted_parts}
 
 held_then : (most : ℕ) (held : Files) (front back : List (List ℕ))
     → chunks_held most held (front ++ back)
@@ -27,13 +26,6 @@ held_then most held (w ∷ front) back =
     ∙ sym (append_assoc (chunks_within most (bytes_in (held w))) (chunks_held most held front)
     (chunks_held most held back))
 
-held_bytes : (most : ℕ) (held : Files) (names : List (List ℕ))
-    → Each HasBytes (chunks_held most held names)
-held_bytes most held [] = tt
-held_bytes most held (w ∷ names) =
-    each_append HasBytes (chunks_within most (bytes_in (held w))) (chunks_held most held names)
-    (each_within most (bytes_in (held w))) (held_bytes most held names)
-
 -- a run up to where another one begins that ends it
 seam : (start n end first m to : ℕ) (xs ys : List Chunk) → Run start n (xs ++ ys) end
     → Run first m ys to → m < to → Run start n xs m
@@ -42,12 +34,6 @@ seam start n end first m to [] [] whole rest some =
 seam start n end first m to [] (y ∷ ys) whole rest some = sym rest.1 ∙ whole.1
 seam start n end first m to (x ∷ xs) ys whole rest some =
     (whole.0, whole.1, seam start (chunk_end x) end first m to xs ys whole.2 rest some)
-
-wanted_parts : (s : Stream) (begin : ℕ) (ks ls : List Chunk)
-    → wanted s begin (ks ++ ls) ≡ wanted s begin ks ++ wanted s begin ls
-wanted_parts s begin ks ls =
-    ap (flat_map (wanted_of begin)) (filter-append (is_of s) ks ls)
-    ∙ flat_map-append (wanted_of begin) (chunks_of_stream s ks) (chunks_of_stream s ls)
 
 pub newest_have : NewestHaveTheRest
 newest_have most held names oldest s begin start end first from to whole rest low past =

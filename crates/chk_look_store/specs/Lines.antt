@@ -1,13 +1,8 @@
 -- The line of a stream, and those of all.
-use Rattle.std.specs.Prelude.{ℕ, max, List, [], ◌∷◌, ◌++◌, map, codes, decimal}
-use Rattle.chk_bytes.specs.Words.{joined_at}
+use Rattle.std.specs.Prelude.{ℕ, List, [], ◌∷◌, map, codes, decimal}
 use Rattle.chk_world.specs.Books.{Book, End}
-use Rattle.chk_book.specs.Books.{end_in}
-
--- the offset up to which the records of a stream go, by the ends of their book; its start where
--- they have none of it
-abbrev pub split_to : List End → End → ℕ
-split_to records e = max (end_in 0 records e.stream) e.start
+pub use Rattle.chk_book.specs.Books.{split_to}
+pub use Rattle.chk_prints.specs.Lines.{line_of, named}
 
 -- the words of the line of a stream
 abbrev pub stream_words : List ℕ → List ℕ → List ℕ → ℕ → ℕ → ℕ → List (List ℕ)
@@ -15,15 +10,6 @@ stream_words source kind name start end split =
     codes "stream" ∷ source ∷ kind ∷ name ∷ codes "start" ∷ decimal start ∷ codes "end"
     ∷ decimal end
     ∷ codes "demuxed" ∷ decimal split ∷ []
-
--- the words that name it, in front of the offsets
-abbrev pub named : List ℕ → List ℕ → List ℕ → List ℕ
-named source kind name = codes "stream " ++ (source ++ (codes " " ++ (kind ++ (codes " "
-    ++ name))))
-
--- words with a space between each two, and a newline
-abbrev pub line_of : List (List ℕ) → List ℕ
-line_of words = joined_at 32 words ++ 10 ∷ []
 
 -- the line of a stream whose records go up to this offset
 abbrev pub stream_line : End → ℕ → List ℕ

@@ -4,6 +4,7 @@ ghost use Rattle.std.specs.Prelude.{◌≡◌, ◌≤◌, nat_lt, IsTrue};
 ghost use Rattle.chk_site.specs.History.{Every};
 ghost use Rattle.chk_site.specs.Runs.{MadeInTurn};
 ghost use Rattle.chk_site.specs.Site.{Adds, OutsideCause};
+ghost use Rattle.chk_chunk.specs.Keys.{record_limit};
 ghost use Rattle.chk_world.specs.Sight.{job};
 ghost use Rattle.chk_world.specs.JobSteps.{IsOf};
 ghost use Rattle.chk_book.specs.Books.{book_view, end_in};
@@ -44,7 +45,7 @@ pub fn follow<S: Site>(
 ) -> Result<Came, LookFault>
     requires job { who.now ≡ job }
     requires folder { IsTrue (is_folder folder.now) }
-    requires most { most ≤ 1048576 }
+    requires most { most ≤ record_limit }
     ensures told { Follows folder.now most books looks course.old course.new result
         (S.told site.old) (S.told site.new) }
     ensures own { Adds (S.told site.old) (S.told site.new) (Every (IsOf LooksAgain)) }
@@ -76,7 +77,7 @@ fn turn<S: Site>(
 ) -> Result<Came, LookFault>
     requires job { who.now ≡ job }
     requires folder { IsTrue (is_folder folder.now) }
-    requires most { most ≤ 1048576 }
+    requires most { most ≤ record_limit }
     ensures told { Turns folder.now most books course.old course.new result (S.told site.old)
         (S.told site.new) }
     ensures own { Adds (S.told site.old) (S.told site.new) (Every (IsOf LooksAgain)) }
@@ -102,7 +103,7 @@ fn look_on<S: Site>(
 ) -> Result<Came, LookFault>
     requires job { who.now ≡ job }
     requires folder { IsTrue (is_folder folder.now) }
-    requires most { most ≤ 1048576 }
+    requires most { most ≤ record_limit }
     ensures told { Looks folder.now most books course.old course.new result (S.told site.old)
         (S.told site.new) }
     ensures own { Adds (S.told site.old) (S.told site.new) (Every (IsOf LooksOrSays)) }
@@ -129,7 +130,7 @@ fn print_past<S: Site>(
 ) -> Result<Came, LookFault>
     requires job { who.now ≡ job }
     requires folder { IsTrue (is_folder folder.now) }
-    requires most { most ≤ 1048576 }
+    requires most { most ≤ record_limit }
     ensures told { GoesPast folder.now most books (book_view book) course.old course.new result
         (S.told site.old) (S.told site.new) }
     ensures own { Adds (S.told site.old) (S.told site.new) (Every (IsOf LooksOrSays)) }

@@ -3,6 +3,7 @@
 ghost use Rattle.std.specs.Prelude.{◌≡◌, ◌≤◌, true, IsTrue};
 ghost use Rattle.chk_site.specs.History.{Every};
 ghost use Rattle.chk_site.specs.Site.{Adds};
+ghost use Rattle.chk_chunk.specs.Keys.{record_limit};
 ghost use Rattle.chk_world.specs.Sight.{job};
 ghost use Rattle.chk_world.specs.JobSteps.{IsOf};
 ghost use Rattle.chk_book.specs.Folders.{is_folder};
@@ -33,7 +34,7 @@ pub fn print_on<S: Site>(
 ) -> Result<Came, LookFault>
     requires job { who.now ≡ job }
     requires folder { IsTrue (is_folder folder.now) }
-    requires most { most ≤ 1048576 }
+    requires most { most ≤ record_limit }
     ensures told { GoesOn folder.now most books course.old course.new result (S.told site.old)
         (S.told site.new) }
     ensures own { Adds (S.told site.old) (S.told site.new) (Every (IsOf LooksOrSays)) }

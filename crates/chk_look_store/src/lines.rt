@@ -8,13 +8,13 @@ ghost use Rattle.chk_world.specs.Books.{ends_rise};
 ghost use Rattle.chk_book.specs.Books.{book_view, end_in};
 ghost use Rattle.chk_book.specs.Views.{end_view};
 ghost use Rattle.chk_prints.specs.Printing.{PrintsInTurn};
-ghost use Rattle.chk_look_store.specs.Lines.{line_in, line_of, named, split_to, stream_line};
+ghost use Rattle.chk_look_store.specs.Lines.{line_in, line_of, split_to, stream_line};
 ghost use Rattle.chk_look_store.specs.Lines.{stream_lines, stream_words};
 
 use crate::recorded::{do_rise, recorded_end};
 use chk_book::{Book, End};
 use chk_bytes::NoMemory;
-use chk_prints::print_line;
+use chk_prints::{named, print_line};
 use chk_site::{OutsideFault, Site, Who};
 use std::alloc::Global;
 
@@ -134,13 +134,5 @@ fn line_with(
 {
     let named = named(alloc, source, kind, name)?;
     let text = format!(in alloc; "{named} start {start} end {end} demuxed {split}\n")?;
-    Ok(text)
-}
-
-/// The front of the line, with the words that name the stream.
-fn named(alloc: Global, source: &str, kind: &str, name: &str) -> Result<String, NoMemory>
-    ensures { IfOk result (λ text. string_bytes text ≡ named source.now kind.now name.now) }
-{
-    let text = format!(in alloc; "stream {source} {kind} {name}")?;
     Ok(text)
 }

@@ -3,6 +3,7 @@
 ghost use Rattle.std.specs.Prelude.{◌≡◌, ◌≤◌, length, drop, map, IfOk, IsTrue};
 ghost use Rattle.chk_site.specs.History.{Every};
 ghost use Rattle.chk_site.specs.Site.{Adds};
+ghost use Rattle.chk_chunk.specs.Keys.{record_limit};
 ghost use Rattle.chk_world.specs.Sight.{job};
 ghost use Rattle.chk_world.specs.JobSteps.{IsOf};
 ghost use Rattle.chk_book.specs.Books.{book_view, end_in};
@@ -68,7 +69,7 @@ pub(crate) fn print_news<S: Site>(
 ) -> Result<Came, LookFault>
     requires job { who.now ≡ job }
     requires folder { IsTrue (is_folder folder.now) }
-    requires most { most ≤ 1048576 }
+    requires most { most ≤ record_limit }
     ensures told { PrintsNews folder.now most books (book_view book) course.old course.new result
         (S.told site.old) (S.told site.new) }
     ensures own { Adds (S.told site.old) (S.told site.new) (Every (IsOf LooksOrSays)) }
@@ -125,7 +126,7 @@ fn print_rest<S: Site>(
 ) -> Result<Came, LookFault>
     requires job { who.now ≡ job }
     requires folder { IsTrue (is_folder folder.now) }
-    requires most { most ≤ 1048576 }
+    requires most { most ≤ record_limit }
     ensures told { PrintsRest folder.now most books (book_view newest.now).segments
         (end_in 0 (book_view newest.now).ends (stream_of course.old)) from course.old course.new
         result (S.told site.old) (S.told site.new) }
@@ -154,7 +155,7 @@ fn print_newest<S: Site>(
 ) -> Result<bool, LookFault>
     requires job { who.now ≡ job }
     requires folder { IsTrue (is_folder folder.now) }
-    requires most { most ≤ 1048576 }
+    requires most { most ≤ record_limit }
     ensures told { PrintsNewest folder.now most (book_view newest.now).segments
         (end_in 0 (book_view newest.now).ends (stream_of course.old)) from course.old course.new
         result (S.told site.old) (S.told site.new) }
@@ -200,7 +201,7 @@ fn print_further<S: Site>(
 ) -> Result<Came, LookFault>
     requires job { who.now ≡ job }
     requires folder { IsTrue (is_folder folder.now) }
-    requires most { most ≤ 1048576 }
+    requires most { most ≤ record_limit }
     ensures told { GoesOn folder.now most books (going_on course.old) course.new result
         (S.told site.old) (S.told site.new) }
     ensures own { Adds (S.told site.old) (S.told site.new) (Every (IsOf LooksOrSays)) }

@@ -1,6 +1,5 @@
 -- The line of a stream is one line, and so it is put together.
-use Rattle.std.proofs.Common.{◌≡◌, ℕ, ◌+◌, ◌<◌, ◌≤◌, ◌^◌, ◌⊎◌, inl, inr, true, List, [], ◌∷◌, length, map, drop, refl, ap, ap₂, sym, ◌∙◌, arith, add-one, get_or, zero, suc}
-use Rattle.std.proofs.Math.Seq.{drop-cons}
+use Rattle.std.proofs.Common.{◌≡◌, ℕ, ◌+◌, ◌<◌, ◌≤◌, ◌^◌, ◌⊎◌, inl, inr, true, List, [], ◌∷◌, length, map, drop, refl, ap, ap₂, ◌∙◌, arith, get_or, zero, suc}
 use Rattle.std.specs.Prelude.{IsTrue, slice_index, ◌/◌, ◌%◌, ◌==◌, not, min}
 use Rattle.std.proofs.lemmas.List.{drop_all}
 use Rattle.std.proofs.lemmas.Bool.{and_from, and_parts}
@@ -13,6 +12,7 @@ use Rattle.chk_book.specs.declared.lists.End.{End as EndStruct}
 use Rattle.chk_prints.proofs.OneLine.{Lack, none, next, number_lacks, words_line}
 use Rattle.hex.specs.Hex.{encode_with, encode_lower, lower_digits}
 use Rattle.chk_look_sum.specs.Lines.{line_of, sum_line, sum_lines, sum_words}
+use Rattle.chk_heads.proofs.InTurn.{next_of}
 
 -- ---- hex digits have no newline
 
@@ -48,13 +48,6 @@ words_one source kind name start end digest a b c d e =
     words_line all
 
 -- ---- the lines from a place on
-
-pub next_of : {A : Type 0} (xs : List A) (i : ℕ) (x : A) → i < length xs → x ≡ get_or xs i x
-    → drop i xs ≡ x ∷ drop (i + 1) xs
-next_of {A = A} xs i x low is =
-    drop-cons xs i x low
-    ∙ (ap (λ (y : A). y ∷ drop (suc i) xs) (sym is)
-    ∙ ap (λ (k : ℕ). x ∷ drop k xs) (sym (add-one i)))
 
 -- those of these streams and digests, from a place on
 abbrev pub lines_from : List EndStruct → List (List ℕ) → ℕ → List (List ℕ)

@@ -1,8 +1,7 @@
 -- The bytes of a stream's records, in order, are its archive.
-use Rattle.std.proofs.Common.{◌≡◌, ℕ, Bool, true, false, ◌-◌, arith, List, [], ◌∷◌, drop, map, refl, ap, ap₂, sym, subst, ◌∙◌, if◌then◌else◌}
-use Rattle.std.specs.Prelude.{filter}
+use Rattle.std.proofs.Common.{◌≡◌, ℕ, ◌-◌, arith, List, [], ◌∷◌, drop, map, refl, ap, ap₂, sym, subst, ◌∙◌}
 use Rattle.chk_site.specs.Files.{Files}
-use Rattle.chk_chunk.specs.Keys.{Stream, Chunk, same_stream, is_of}
+use Rattle.chk_chunk.specs.Keys.{Stream, Chunk}
 use Rattle.chk_world.specs.Books.{Book, End, chunks_of_stream, values}
 use Rattle.chk_world.proofs.Each.{Each}
 use Rattle.chk_heads.specs.Heads.{Head}
@@ -11,7 +10,6 @@ use Rattle.chk_book.specs.Folders.{most_in}
 use Rattle.chk_book.specs.Views.{end_view}
 use Rattle.chk_book.specs.declared.lists.End.{End as EndStruct}
 use Rattle.chk_merge.specs.Segments.{names_of, heads_from, chunks_in_files}
-use Rattle.chk_merge.specs.Courses.{is_head_of}
 use Rattle.chk_merge.specs.Checking.{AllGoWell}
 use Rattle.chk_merge.specs.Archives.{IsKnown, chunk_in, values_in}
 use Rattle.chk_merge.proofs.AllRead.{known_from}
@@ -27,21 +25,7 @@ use Rattle.chk_look_sum.specs.Rests.{end_of, skip_of}
 use Rattle.chk_look_sum.specs.Summing.{bytes_of, digest_of}
 use Rattle.chk_look_sum.specs.Sums.{archived, archived_from, rest_digests}
 use Rattle.chk_look_sum.proofs.InOrder.{heads_rise, order_keeps}
-
-chunks_of_heads : (s : Stream) (f : Head → Chunk) (hs : List Head)
-    → ((h : Head) → (f h).key ≡ h.key)
-    → chunks_of_stream s (map f hs) ≡ map f (filter (is_head_of s) hs)
-chunks_of_heads s f [] key = refl
-chunks_of_heads s f (h ∷ hs) key =
-    ap (λ k. if same_stream s k.stream then f h ∷ filter (is_of s) (map f hs)
-    else filter (is_of s) (map f hs)) (key h)
-    ∙ go (is_head_of s h) (chunks_of_heads s f hs key)
-  where
-    go : (b : Bool) → chunks_of_stream s (map f hs) ≡ map f (filter (is_head_of s) hs)
-        → (if b then f h ∷ filter (is_of s) (map f hs) else filter (is_of s) (map f hs))
-        ≡ map f (if b then h ∷ filter (is_head_of s) hs else filter (is_head_of s) hs)
-    go true rest = ap (λ l. f h ∷ l) rest
-    go false rest = rest
+use Rattle.chk_merge.proofs.HeadStreams.{chunks_of_heads}
 
 module _ (folder : List ℕ) (b : Book) (held : Files) (side : Side)
     (names_are : side.names.now ≡ names_of folder b)

@@ -1,23 +1,14 @@
 -- The line of a stream and its digest, and those of all.
-use Rattle.std.specs.Prelude.{ℕ, List, [], ◌∷◌, ◌++◌, codes, decimal}
-use Rattle.chk_bytes.specs.Words.{joined_at}
+use Rattle.std.specs.Prelude.{ℕ, List, [], ◌∷◌, codes, decimal}
 use Rattle.chk_world.specs.Books.{End}
 use Rattle.hex.specs.Hex.{encode_lower}
+pub use Rattle.chk_prints.specs.Lines.{line_of, named}
 
 -- the words of a line
 abbrev pub sum_words : List ℕ → List ℕ → List ℕ → ℕ → ℕ → List ℕ → List (List ℕ)
 sum_words source kind name start end digits =
     codes "stream" ∷ source ∷ kind ∷ name ∷ codes "start" ∷ decimal start ∷ codes "end"
     ∷ decimal end ∷ codes "sha256" ∷ digits ∷ []
-
--- the words that name the stream, in front of the offsets
-abbrev pub named : List ℕ → List ℕ → List ℕ → List ℕ
-named source kind name =
-    codes "stream " ++ (source ++ (codes " " ++ (kind ++ (codes " " ++ name))))
-
--- words with a space between each two, and a newline
-abbrev pub line_of : List (List ℕ) → List ℕ
-line_of words = joined_at 32 words ++ 10 ∷ []
 
 -- the line of a stream
 abbrev pub sum_line : End → List ℕ → List ℕ

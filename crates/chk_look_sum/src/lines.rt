@@ -7,12 +7,12 @@ ghost use Rattle.chk_world.specs.ArchiveRuns.{is_one_line};
 ghost use Rattle.chk_book.specs.Views.{end_view};
 ghost use Rattle.chk_prints.specs.Printing.{PrintsInTurn};
 ghost use Rattle.hex.specs.Hex.{encode_lower};
-ghost use Rattle.chk_look_sum.specs.Lines.{line_of, named, sum_line, sum_lines, sum_words};
+ghost use Rattle.chk_look_sum.specs.Lines.{line_of, sum_line, sum_lines, sum_words};
 
 use crate::sums::Sums;
 use chk_book::End;
 use chk_bytes::NoMemory;
-use chk_prints::print_line;
+use chk_prints::{named, print_line};
 use chk_site::{OutsideFault, Site, Who};
 use std::alloc::Global;
 
@@ -112,14 +112,6 @@ fn line_with(
     let named = named(alloc, source, kind, name)?;
     let digits = hex_of(alloc, digest)?;
     let text = format!(in alloc; "{named} start {start} end {end} sha256 {digits}\n")?;
-    Ok(text)
-}
-
-/// The front of the line, with the words that name the stream.
-fn named(alloc: Global, source: &str, kind: &str, name: &str) -> Result<String, NoMemory>
-    ensures { IfOk result (λ text. string_bytes text ≡ named source.now kind.now name.now) }
-{
-    let text = format!(in alloc; "stream {source} {kind} {name}")?;
     Ok(text)
 }
 

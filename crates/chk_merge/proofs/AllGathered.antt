@@ -6,14 +6,11 @@ use Rattle.chk_site.specs.Files.{Files}
 use Rattle.chk_site.specs.History.{History, Every}
 use Rattle.chk_site.specs.Site.{Adds}
 use Rattle.chk_site.specs.Runs.{anyhow, Leads}
-use Rattle.chk_site.proofs.Runs.{adds_as, adds_then}
+use Rattle.chk_site.proofs.Runs.{adds_as}
 use Rattle.chk_site.proofs.Leads.{leads_as, leads_none, leads_then, owned_anyhow}
 use Rattle.chk_replace.specs.Load.{Has}
-use Rattle.chk_site.proofs.LastCalls.{last_of_both as last_then}
-use Rattle.chk_site.specs.declared.acts.OutsideFault.TheVariants.{Outside as site_failed}
 use Rattle.chk_world.specs.JobSteps.{IsOf, ReadsFile, SparesFile}
 use Rattle.chk_world.proofs.Each.{Each}
-use Rattle.chk_heads.specs.Faults.{FailsLast}
 use Rattle.chk_heads.specs.Heads.{Head, heads_in}
 use Rattle.chk_heads.specs.Gathered.{Gathered}
 use Rattle.chk_heads.specs.Pieces.{bytes_in}
@@ -21,6 +18,7 @@ use Rattle.chk_heads.specs.declared.fault.JobFault.{JobFault}
 use Rattle.chk_heads.specs.declared.fault.JobFault.TheVariants.{Outside, Damaged, Spent, NoMemory}
 use Rattle.chk_merge.specs.Segments.{HasFiles, SparesFiles, AreSettled, IsSound, heads_from, IsBadFile, GatheredAll}
 use Rattle.chk_merge.proofs.Frames.{among}
+pub use Rattle.chk_book.proofs.Works.{refused_later as fails_later}
 
 -- the files so far are sound, and these are their heads
 abbrev pub HasHeads : ℕ → List (List ℕ) → Files → List (List ℕ) → List Head → History → Type 0
@@ -151,18 +149,3 @@ all_gathered most names held ws heads all told =
       x.2 ∙ ap
           (heads_from most held 0) all,
     )) told
-
--- the call that failed is the last one of all
-pub fails_later : (T U : Type 0) {P : History → History → Type 0} (fault : JobFault)
-    {old mid new : Option History}
-    → Adds old mid P → Adds mid new (FailsLast {T = U} (Err fault)) → Adds old new (FailsLast
-    {T = T} (Err fault))
-fails_later T U (Outside call) first second =
-    adds_then (FailsLast {T = T} (Err (Outside call))) first second (λ a b history p q. last_then
-    {T = T} (Err (site_failed call)) b a history q)
-fails_later T U (Damaged name at) first second = adds_then (FailsLast {T = T} (Err
-    (Damaged name at))) first second (λ a b history p q. tt)
-fails_later T U (Spent n) first second = adds_then (FailsLast {T = T} (Err (Spent n))) first second
-    (λ a b history p q. tt)
-fails_later T U NoMemory first second = adds_then (FailsLast {T = T} (Err NoMemory)) first second
-    (λ a b history p q. tt)

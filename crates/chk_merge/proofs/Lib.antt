@@ -15,6 +15,8 @@ mod Checked
 pub mod OnePass
 pub mod SoundHeads
 pub mod Writing
-mod Merged
+pub mod Merged
 pub mod MergedInto
 pub mod Undamaged
+pub mod BothLimits
+pub mod HeadStreams

@@ -34,14 +34,14 @@ use Rattle.chk_merge.proofs.SortedStream.{Rises, each_sort, sorted_keeps}
 use Rattle.chk_merge.proofs.SortedRuns.{HasBytes, order_keeps}
 use Rattle.chk_merge.proofs.Writing.{others_as}
 
-bytes_from : (most : ℕ) (held : Files) (number : ℕ) (ws : List (List ℕ)) → Each HasBytes (heads_from most held number ws)
+pub bytes_from : (most : ℕ) (held : Files) (number : ℕ) (ws : List (List ℕ)) → Each HasBytes (heads_from most held number ws)
 bytes_from most held number [] = tt
 bytes_from most held number (w ∷ ws) =
     each_append HasBytes (heads_in most number (bytes_in (held w))) (heads_from most held (number + 1) ws) (heads_have_bytes most number (bytes_in (held w)))
     (bytes_from most held (number + 1) ws)
 
 -- where there is no head of the stream
-none_rises : (s : Stream) (hs : List Head) → first_head s hs ≡ None → Rises head_before (is_head_of s) hs
+pub none_rises : (s : Stream) (hs : List Head) → first_head s hs ≡ None → Rises head_before (is_head_of s) hs
 none_rises s [] none = tt
 none_rises s (h ∷ hs) none = go (is_head_of s h) refl (λ f. none_rises s hs f) none
   where

@@ -2,6 +2,7 @@
 use Rattle.std.specs.Prelude.{◌≡◌, ℕ, ◌+◌, ◌-◌, ◌≤◌, ◌<◌, ◌^◌, min, List, [], ◌++◌, length, slice_index_or, Contains, Result, Ok, Err}
 use Rattle.chk_site.specs.declared.acts.OutsideFault.{OutsideFault}
 use Rattle.chk_site.specs.History.{History}
+use Rattle.chk_replace.specs.Load.{piece_limit}
 use Rattle.chk_world.specs.Books.{Book}
 use Rattle.chk_heads.specs.Heads.{Head}
 use Rattle.chk_heads.specs.Order.{in_head_order}
@@ -21,8 +22,8 @@ use Rattle.chk_merge.specs.declared.reader.RecordReader.{RecordReader}
 pub data GaveRun (name : List ℕ) (at size : ℕ) (bytes : List ℕ) (added history : History) : Type 0 where
   once : Gave name at size bytes added history → GaveRun name at size bytes added history
   ended : (max : ℕ) → max ≤ size → length bytes < max → Gave name at max bytes added history → GaveRun name at size bytes added history
-  twice : (behind : ℕ) (first rest : List ℕ) (b a : History) → added ≡ b ++ a → bytes ≡ first ++ rest → 1048576 ≤ length first
-      → behind ≡ min (at + 1048576) (2 ^ 64 - 1) → Gave name at 1048576 first a history → Gave name behind (size - 1048576) rest b (a ++ history)
+  twice : (behind : ℕ) (first rest : List ℕ) (b a : History) → added ≡ b ++ a → bytes ≡ first ++ rest → piece_limit ≤ length first
+      → behind ≡ min (at + piece_limit) (2 ^ 64 - 1) → Gave name at piece_limit first a history → Gave name behind (size - piece_limit) rest b (a ++ history)
       → GaveRun name at size bytes added history
 
 abbrev pub ShowsRun : List ℕ → ℕ → ℕ → Result (List ℕ) OutsideFault → History → History → Type 0

@@ -5,6 +5,7 @@ use Rattle.chk_site.specs.declared.acts.OutsideFault.{OutsideFault}
 use Rattle.chk_site.specs.Files.{File}
 use Rattle.chk_site.specs.History.{History}
 use Rattle.chk_replace.specs.Load.{Has}
+use Rattle.chk_chunk.specs.Keys.{record_limit}
 use Rattle.chk_heads.specs.Heads.{Head}
 use Rattle.chk_heads.specs.Pieces.{bytes_in}
 
@@ -38,7 +39,7 @@ abbrev pub room_of : Head → ℕ
 room_of h =
     41 + (counted_room h.key.stream.source + counted_room h.key.stream.kind + counted_room
     h.key.stream.name
-    + counted_room h.key.cluster) + min (h.key.seq - h.begin) 1048576
+    + counted_room h.key.cluster) + min (h.key.seq - h.begin) record_limit
 
 -- at Ok the bytes are those of the file from this place on, at most so many, and the file is still
 -- this one

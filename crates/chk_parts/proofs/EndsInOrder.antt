@@ -1,36 +1,17 @@
 -- Ends of streams that stand in order, each stream once, and one of them raised.
-use Rattle.std.proofs.Common.{◌≡◌, ◌⊎◌, inl, inr, ℕ, zero, suc, Bool, true, false, List, [], ◌∷◌, ap, sym, subst, ◌∙◌, refl, arith, true≢false}
+use Rattle.std.proofs.Common.{◌≡◌, ◌⊎◌, inl, inr, ℕ, zero, suc, Bool, true, false, List, [], ◌∷◌, ap, sym, subst, ◌∙◌, refl, arith}
 use Rattle.std.specs.Prelude.{Any}
-use Rattle.std.proofs.lemmas.Bool.{and_parts, cases_Bool}
+use Rattle.std.proofs.lemmas.Bool.{and_parts}
 use Rattle.chk_chunk.specs.Keys.{Stream, same_stream, stream_lt}
 use Rattle.chk_world.specs.Books.{End, ends_rise}
 use Rattle.chk_world.proofs.NameTests.{streams_same}
 use Rattle.chk_world.proofs.Each.{Each, each_as}
-use Rattle.chk_heads.proofs.Orders.{streams}
 use Rattle.chk_book.specs.Segmenting.{raised_end}
 use Rattle.chk_book.proofs.EndRaises.{ending_at, raised_same, raised_put, raised_on}
 use Rattle.chk_merge.proofs.OnePass.{stream_onward as before_on}
+pub use Rattle.chk_heads.proofs.Apart.{apart, apart_from, behind_it}
 
 -- ---- streams in order
-
--- one that comes before another is not the same
-pub apart : (a b : Stream) → stream_lt a b ≡ true → same_stream a b ≡ false
-apart a b p = elim (cases_Bool (same_stream a b)) [
-  | inr unlike ↦ unlike
-  | inl same ↦ absurd (true≢false (sym p ∙ (streams.neither a b same).0))
-]
-
-pub apart_from : (a b : Stream) → stream_lt a b ≡ true → same_stream b a ≡ false
-apart_from a b p = elim (cases_Bool (same_stream b a)) [
-  | inr unlike ↦ unlike
-  | inl same ↦ absurd (true≢false (sym p ∙ (streams.neither b a same).1))
-]
-
-pub behind_it : (a b : Stream) → same_stream b a ≡ false → stream_lt a b ≡ false → stream_lt b a ≡ true
-behind_it a b other unlike = elim (cases_Bool (stream_lt b a)) [
-  | inl h ↦ h
-  | inr also ↦ absurd (true≢false (sym (streams.are_alike b a also unlike) ∙ other))
-]
 
 -- each stream stands once, in order
 abbrev pub Sorted : List End → Type 0

@@ -25,3 +25,7 @@ pub mod EndsInOrder
 pub mod Shelved
 pub mod ShelfWrites
 pub mod AsideStays
+pub mod Works
+pub mod Beginning
+pub mod InTurn
+pub mod OneStep

@@ -9,21 +9,7 @@ use Rattle.chk_heads.specs.Faults.{FailsLast}
 use Rattle.chk_heads.specs.Pieces.{AsksInPieces}
 use Rattle.chk_heads.specs.declared.fault.JobFault.{JobFault}
 use Rattle.chk_parts.proofs.AllFiles.{fails_later}
-
--- steps of one kind are of a wider one
-pub as_kind : (K M : Deed → Type 0) → ((call : Deed) → K call → M call) → {old new : Option History}
-    → Adds old new (Every (IsOf K)) → Adds old new (Every (IsOf M))
-as_kind K M wider own = adds_as (Every (IsOf M)) own (λ added history made. go added history made)
-  where
-    go : (added history : History) → Every (IsOf K) added history → Every (IsOf M) added history
-    go [] history made = tt
-    go (step ∷ added) history made = (
-      go added history made.0,
-      elim made.1 [
-        | inl theirs ↦ inl theirs
-        | inr mine ↦ inr (mine.0, wider (deed step.act) mine.1)
-      ],
-    )
+pub use Rattle.chk_book.proofs.Works.{as_kind}
 
 -- steps that read nothing ask for no piece
 pub no_reads : (K : Deed → Type 0)

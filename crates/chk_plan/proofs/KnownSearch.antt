@@ -14,6 +14,7 @@ use Rattle.chk_heads.proofs.Sorting.{as_std}
 use Rattle.chk_plan.specs.declared.spans.Known.{Known}
 use Rattle.chk_plan.specs.Passes.{begins_at, known_of, known_stream, AreSorted}
 use Rattle.chk_plan.specs.Starts.{start_known}
+use Rattle.chk_heads.proofs.Apart.{apart as not_same}
 
 abbrev pub known_lt : Known → Known → Bool
 known_lt k l = stream_lt (known_stream k) (known_stream l)
@@ -47,12 +48,6 @@ passed (x ∷ ks) (suc i) s other =
     passed ks i s (λ k d low high. other (suc k) d (omega (arith, low)) (omega (arith, high)))
     in
     ap (λ b. if b then Some x else known_of ks s) (other zero x (omega arith) (omega arith)) ∙ rest
-
-not_same : (s t : Stream) → stream_lt s t ≡ true → same_stream s t ≡ false
-not_same s t before = elim (cases_Bool (same_stream s t)) [
-  | inl same ↦ absurd (true≢false (sym before ∙ (streams.neither s t same).0))
-  | inr other ↦ other
-]
 
 -- a stream behind one that comes behind another isn't that one
 behind : (s t u : Stream) → stream_lt s u ≡ false → same_stream s u ≡ false

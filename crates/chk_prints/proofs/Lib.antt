@@ -1,3 +1,5 @@
 pub mod Printed
 pub mod OneLine
 pub mod Silent
+pub mod CallKinds
+pub mod AtMost

@@ -6,7 +6,10 @@ ghost use Rattle.chk_site.specs.Site.{OutsideCause};
 ghost use Rattle.chk_world.specs.ArchiveRuns.{is_one_line};
 ghost use Rattle.chk_prints.specs.Printing.{PrintsInTurn};
 
+mod lines;
+
 use chk_site::{Call, OutsideFault, Site, Who, reached};
+pub use lines::named;
 use std::alloc::Global;
 
 /// Prints one line with its newline as this process. It costs one call.

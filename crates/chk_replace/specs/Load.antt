@@ -14,9 +14,13 @@ use Rattle.chk_site.specs.Acts.{Reads, deed}
 use Rattle.chk_site.specs.History.{Step, History, IsTheirs, files_after, is_stopped}
 use Rattle.chk_site.specs.Honest.{Honest}
 
--- how many bytes a read at this place asks for: at most 1,048,576, and none at or past the place 2^63 - 1
+-- the most bytes that one read asks for
+abbrev pub piece_limit : ℕ
+piece_limit = 1048576
+
+-- how many bytes a read at this place asks for, and none at or past the place 2^63 - 1
 abbrev pub asks_at : ℕ → ℕ
-asks_at at = min (last_number - at) 1048576
+asks_at at = min (last_number - at) piece_limit
 
 -- the step is the site's own, and a read of this file by this process
 pub record IsRead (who : Who) (name : List ℕ) (before : History) (step : Step) : Type 0 where

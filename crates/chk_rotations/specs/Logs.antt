@@ -10,6 +10,10 @@ use Rattle.chk_rotations.specs.declared.log.Change.TheVariants.{Nothing, Held, R
 use Rattle.chk_rotations.specs.declared.log.Log.{Log}
 use Rattle.chk_rotations.specs.Holdings.{held_from, is_over, looked}
 
+-- the most logs that are known
+abbrev pub most_logs : ℕ
+most_logs = 65536
+
 -- both are one file
 abbrev pub same_file : FileId → FileId → Bool
 same_file a b = (a.device == b.device) && (a.number == b.number)

@@ -1,6 +1,6 @@
 //! The logs that were looked at.
 ghost use Rattle.std.specs.Prelude.{◌≡◌, ◌≤◌, ◌<◌, [], length, IfOk, IfSome, IfNone, IsTrue, OnErr, ◌↔◌};
-ghost use Rattle.chk_rotations.specs.Logs.{AreRising, IsAt, IsPathEnd, IsPlaced, StaysKnown};
+ghost use Rattle.chk_rotations.specs.Logs.{most_logs, AreRising, IsAt, IsPathEnd, IsPlaced, StaysKnown};
 
 use crate::log::Log;
 use chk_bytes::{NoMemory, comes_before};
@@ -30,7 +30,7 @@ impl Logs {
         ensures placed { IfOk result (λ found. IfSome found
             (IsPlaced self.old.seen.items self.new.seen.items path.now)) }
         ensures full { IfOk result (λ found. IfNone found ((self.new.seen.items ≡ self.old.seen.items)
-            × (65536 ≤ length self.old.seen.items))) }
+            × (most_logs ≤ length self.old.seen.items))) }
         ensures err { OnErr result (self.new.seen.items ≡ self.old.seen.items) }
         ensures rising { AreRising self.old.seen.items → AreRising self.new.seen.items }
         ensures once { IfOk result (StaysKnown self.old.seen.items self.new.seen.items path.now) }

@@ -22,6 +22,7 @@ use Rattle.chk_round.specs.declared.faults.RoundFault.{RoundFault}
 use Rattle.chk_round.specs.Adding.{AddsLogs}
 use Rattle.chk_round.specs.Adding as adding
 use Rattle.chk_round.specs.Faults.{IsOfCall, of_agent}
+use Rattle.chk_agent.proofs.Alike.{same_as, with_same}
 
 -- the element at a place is the first of those from there on
 pub next_is : (names : List (List ℕ)) (i : ℕ) (item : List ℕ) → i < length names
@@ -33,13 +34,6 @@ abbrev pub AddedSoFar : Class → List ℕ → List (List ℕ) → List (List �
 AddedSoFar class kind all left s t old now =
     (result : Result (Unit {0}) RoundFault) (u : State) (new : Option History)
     → AddsLogs class kind left t result u now new → AddsLogs class kind all s result u old new
-
-with_same : (s : State) (found : Option Found) (l : Line) → IsSameAgent s (with_added s found l)
-with_same s None l = record { source = refl; ready = refl }
-with_same s (Some found) l = record { source = refl; ready = refl }
-
-same_as : (s t u : State) → t ≡ u → IsSameAgent s u → IsSameAgent s t
-same_as s t u is same = subst (λ (k : State). IsSameAgent s k) (sym is) same
 
 pub added_same : {class : Class} {kind path : List ℕ} {s t : State} {added : Added} {old new : Option History}
     → IsAdded class kind path s (Ok added) t old new → IsSameAgent s t

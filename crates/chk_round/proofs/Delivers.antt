@@ -27,7 +27,8 @@ use Rattle.chk_agent.specs.Settles.{IsSettled}
 use Rattle.chk_agent.specs.Settles as settle
 use Rattle.chk_agent.specs.States.{State as Agents, process as agent_of}
 use Rattle.chk_agent.proofs.SettlingSound.{settled_at}
-use Rattle.chk_drain.proofs.Settled.{all_committed, settled_delivered, settled_ready, settled_source, none_gone}
+use Rattle.chk_drain.proofs.Settled.{all_committed, settled_delivered, settled_ready, none_gone}
+use Rattle.chk_agent.proofs.Alike.{settled_source}
 use Rattle.chk_round.specs.Delivering.{Delivered, ReadAsFar}
 use Rattle.chk_round.specs.Faults.{of_agent}
 use Rattle.chk_round.specs.Following.{KeepsLogs}

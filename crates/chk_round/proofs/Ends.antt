@@ -69,10 +69,6 @@ pub job_last : (T U : Type 0) (fault : JobFault) {old new : Option History}
     → Adds old new (JobFailsLast {T = U} (Err fault)) → Adds old new (FailsLast {T = T} (Err (of_job fault)))
 job_last T U fault p = adds_as (FailsLast {T = T} (Err (of_job fault))) p (job_one T U fault)
 
--- an end that names no call
-pub nothing_last : {P : History → History → Type 0} {old new : Option History} → Adds old new P → Adds old new (λ a h. Unit {0})
-nothing_last p = adds_as (λ a h. Unit {0}) p (λ a h x. tt)
-
 pub nothing_then : {P Q : History → History → Type 0} {old mid new : Option History} → Adds old mid P → Adds mid new Q
     → Adds old new (λ a h. Unit {0})
 nothing_then p q = adds_then (λ a h. Unit {0}) p q (λ a b h x y. tt)

@@ -1,10 +1,9 @@
 -- Which logs a round reads, from their adding to the end.
 use Rattle.std.proofs.Common.{◌≡◌, ◌≢◌, inl, inr, ◌⊎◌, ℕ, zero, suc, ◌+◌, Bool, true, false, ◌&&◌, not, List, [], ◌∷◌, ◌++◌, length, bytes_eq, Option, Some, None, Ok, ap, sym, subst, ◌∙◌, refl, arith, if◌then◌else◌}
 use Rattle.std.specs.Prelude.{Contains, slice_get, slice_set, slice_index}
-use Rattle.std.proofs.lemmas.Bool.{and_parts}
 use Rattle.std.proofs.lemmas.Option.{same_Some, none-some}
 use Rattle.chk_control.specs.declared.Class.{Class}
-use Rattle.chk_seqfile.proofs.FieldLemmas.{bytes_same, same_bytes}
+use Rattle.chk_seqfile.proofs.FieldLemmas.{same_bytes}
 use Rattle.chk_site.specs.History.{History}
 use Rattle.chk_world.specs.Checkpoints.{Line}
 use Rattle.chk_tail.specs.declared.step.Step.{Step}
@@ -33,6 +32,7 @@ use Rattle.chk_round.specs.Following.{Follows, HasLiveLine, HasNoRoom, IsFollowe
 use Rattle.chk_round.specs.Rounds.{AllSteady}
 use Rattle.chk_round.proofs.Gathers.{added_steady}
 use Rattle.chk_round.proofs.Sent.{other_at}
+use Rattle.chk_agent.proofs.Alike.{found_is}
 
 -- ---- the adaptors are kept
 
@@ -160,32 +160,6 @@ none_in kind path n (a ∷ xs) e i x at k p =
     go false is e zero at rest =
         let no : false ≡ true = here false is (same_Some a x at) in cc
     go false is e (suc i) at rest = rest e i x at k p
-
-found_is : (kind path : List ℕ) (n : ℕ) (xs : List Adaptor) (f : Found) → stream_in kind path n xs ≡ Some f
-    → (k : ℕ) × (f.number ≡ n + k) × (slice_get xs k ≡ Some f.adaptor)
-    × (f.adaptor.kind ≡ kind) × (f.adaptor.path ≡ path)
-found_is kind path n [] f e = absurd (none-some f e)
-found_is kind path n (a ∷ xs) f e =
-    go (bytes_eq a.kind kind && bytes_eq a.path path) refl e (found_is kind path (n + 1) xs f)
-  where
-    go : (b : Bool) → (bytes_eq a.kind kind && bytes_eq a.path path) ≡ b
-        → (if b then Some (record { number = n; adaptor = a }) else stream_in kind path (n + 1) xs) ≡ Some f
-        → (stream_in kind path (n + 1) xs ≡ Some f → (k : ℕ) × (f.number ≡ n + 1 + k)
-        × (slice_get xs k ≡ Some f.adaptor) × (f.adaptor.kind ≡ kind) × (f.adaptor.path ≡ path))
-        → (k : ℕ) × (f.number ≡ n + k) × (slice_get (a ∷ xs) k ≡ Some f.adaptor)
-        × (f.adaptor.kind ≡ kind) × (f.adaptor.path ≡ path)
-    go true is e rest =
-        let same : record { number = n; adaptor = a } ≡ f = same_Some (record { number = n; adaptor = a }) f e in
-        let number = ap (λ (g : Found). g.number) same in
-        let p = and_parts (bytes_eq a.kind kind) (bytes_eq a.path path) is in (
-          0,
-          omega (arith, number),
-          ap (λ (g : Found). Some g.adaptor) same,
-          sym (ap (λ (g : Found). g.adaptor.kind) same) ∙ bytes_same a.kind kind p.0,
-          sym (ap (λ (g : Found). g.adaptor.path) same) ∙ bytes_same a.path path p.1,
-        )
-    go false is e rest =
-        let r = rest e in let number = r.1 in (suc r.0, omega (arith, number), r.2, r.3, r.4)
 
 pub found_here : (kind path : List ℕ) (xs : List Adaptor) (f : Found) → stream_in kind path 0 xs ≡ Some f
     → (slice_get xs f.number ≡ Some f.adaptor) × (f.adaptor.kind ≡ kind) × (f.adaptor.path ≡ path)

@@ -1,7 +1,6 @@
 -- Just the streams that the start found live, and the logs of the words, are live behind a round.
 use Rattle.std.proofs.Common.{◌≡◌, inl, inr, ◌⊎◌, ℕ, zero, suc, Bool, true, false, not, List, [], ◌∷◌, ◌++◌, map, Option, Some, None, Ok, ap, sym, subst, ◌∙◌, refl, arith, append_assoc, true≢false, if◌then◌else◌}
 use Rattle.std.specs.Prelude.{Contains, slice_get, slice_index}
-use Rattle.std.proofs.lemmas.Option.{same_Some, none-some}
 use Rattle.chk_control.specs.declared.Class.{Class}
 use Rattle.chk_site.specs.declared.acts.Who.{Who}
 use Rattle.chk_site.specs.History.{History, Others, files_after, is_stopped}
@@ -39,6 +38,7 @@ use Rattle.chk_round.proofs.Acts.{logs_acts}
 use Rattle.chk_round.proofs.Following.{found_here, logs_keep}
 use Rattle.chk_round.proofs.Gathers.{more_at}
 use Rattle.chk_round.proofs.Logs.{early, late}
+use Rattle.chk_agent.proofs.Alike.{loaded}
 
 -- ---- which streams the adaptors read
 
@@ -58,14 +58,6 @@ stepped_lives Shrank e = refl
 stepped_lives Past e = absurd (true≢false (sym e))
 
 -- ---- behind the start
-
-loaded : (ls : List Line) (i : ℕ) (a : Adaptor) → slice_get (map adaptor_of ls) i ≡ Some a
-    → (l : Line) × Contains ls l × (adaptor_of l ≡ a)
-loaded [] i a at = absurd (none-some a at)
-loaded (l ∷ ls) zero a at = (l, (0, omega arith, refl), same_Some (adaptor_of l) a at)
-loaded (l ∷ ls) (suc i) a at =
-    let r = loaded ls i a at in
-    let below = r.1.1 in (r.0, (suc r.1.0, omega (arith, below), r.1.2), r.2)
 
 load_at : (ls : List Line) (l : Line) → Contains ls l
     → (i : ℕ) × (slice_get (map adaptor_of ls) i ≡ Some (adaptor_of l))

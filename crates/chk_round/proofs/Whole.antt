@@ -1,5 +1,5 @@
 -- The parts of a round in turn.
-use Rattle.std.proofs.Common.{◌≡◌, ◌⊎◌, inl, inr, ℕ, Bool, true, false, not, List, [], ◌∷◌, ◌++◌, Option, Some, None, Result, Ok, Err, ap, sym, subst, ◌∙◌, refl, arith, append_assoc, true≢false}
+use Rattle.std.proofs.Common.{◌≡◌, ◌⊎◌, inl, inr, ℕ, Bool, true, false, List, [], ◌∷◌, ◌++◌, Option, Some, None, Result, Ok, Err, ap, sym, subst, ◌∙◌, refl, arith, append_assoc, true≢false}
 use Rattle.std.specs.Prelude.{Contains, IsFalse, IsTrue, codes, is_some, ◌&&◌, slice_get}
 use Rattle.chk_bytes.specs.Stems.{Stem, is_stem, same_stem, stem_text}
 use Rattle.chk_site.specs.declared.acts.Role.TheVariants.{Agent, Collector}
@@ -62,6 +62,7 @@ use Rattle.chk_round.proofs.Sent.{Known, Waits, adds_each}
 use Rattle.chk_drain.proofs.DrainingAll.{some_at}
 use Rattle.chk_round.proofs.Theirs.{found_in}
 use Rattle.chk_round.proofs.WholeRounds.{adaptor_archive, adaptor_whole, done_ran, job_ran_whole, none_read_join, read_alone, read_on}
+use Rattle.chk_agent.proofs.Alike.{not_past}
 
 -- ---- the ends
 
@@ -147,10 +148,6 @@ record LineRead (source : List ℕ) (b : Agents) (l : Line) (added history : His
 record LineBefore (source : List ℕ) (a1 b : Agents) (l : Line) (added history : History) : Type 0 where
   line : LineRead source b l added history
   low : QueueBelow (stream_at b.source line.adaptor) line.adaptor.read.offset a1
-
-not_past : (p : Bool) → not p ≡ true → p ≡ false
-not_past true e = absurd (true≢false (sym e))
-not_past false e = refl
 
 -- an adaptor that isn't past behind the reads was to be read
 was_stepped : (a a1 : Agents) → AllSteady a → ReadsOn a a1 → (i : ℕ) (k y : Adaptor)

@@ -2,7 +2,7 @@
 use Rattle.std.specs.Prelude.{◌≡◌, ◌⊎◌, ℕ, true, List, length, Contains, Some, slice_get}
 use Rattle.chk_reading.specs.declared.adaptor.Phase.TheVariants.{Live}
 use Rattle.chk_reading.specs.Adaptors.{Adaptor}
-use Rattle.chk_world.specs.Checkpoints.{Line}
+use Rattle.chk_world.specs.Checkpoints.{Line, most_lines}
 use Rattle.chk_agent.specs.States.{State}
 pub use Rattle.chk_world.specs.Checkpoints.{HasLiveLine}
 
@@ -17,7 +17,7 @@ pub record IsFollowed (kind path : List ℕ) (s : State) : Type 0 where
 
 -- there is no room for it: 10,000 adaptors are there, and none of them has this type and path
 pub record HasNoRoom (kind path : List ℕ) (s : State) : Type 0 where
-  pub full : length s.adaptors ≡ 10000
+  pub full : length s.adaptors ≡ most_lines
   pub none : (i : ℕ) (x : Adaptor) → slice_get s.adaptors i ≡ Some x → x.kind ≡ kind
       → x.path ≡ path → ⊥
 
@@ -34,7 +34,7 @@ KeepsLogs s t =
 
 -- there are 10,000 lines, and none of them has this type and path
 pub record IsFullWithout (kind path : List ℕ) (lines : List Line) : Type 0 where
-  pub full : length lines ≡ 10000
+  pub full : length lines ≡ most_lines
   pub none : (l : Line) → Contains lines l → l.kind ≡ kind → l.path ≡ path → ⊥
 
 -- each of these logs has a live line of this type, but where the checkpoint is full without it

@@ -1,12 +1,8 @@
 -- The lines that a watcher prints.
-use Rattle.std.specs.Prelude.{ℕ, List, [], ◌∷◌, ◌++◌, length, codes, decimal}
+use Rattle.std.specs.Prelude.{ℕ, List, [], ◌∷◌, length, codes, decimal}
 use Rattle.chk_bytes.specs.Stems.{stem_text}
-use Rattle.chk_bytes.specs.Words.{joined_at}
 use Rattle.chk_tee.specs.Messages.{Teed}
-
--- words with a space between each two, and a newline
-abbrev pub line_of : List (List ℕ) → List ℕ
-line_of words = joined_at 32 words ++ 10 ∷ []
+pub use Rattle.chk_prints.specs.Lines.{line_of}
 
 -- a chunk: its sink and place, its stream, its offset and its size
 abbrev pub chunk_line : Teed → List ℕ

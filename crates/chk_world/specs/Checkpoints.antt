@@ -94,10 +94,14 @@ abbrev pub fits_version : Version → Line → Bool
 fits_version One l = l.start == 0
 fits_version Two l = true
 
+-- the most lines of a checkpoint
+abbrev pub most_lines : ℕ
+most_lines = 10000
+
 -- lines that this version can spell
 abbrev pub are_lines : Version → List Line → Bool
 are_lines v lines =
-    nat_le (length lines) 10000 && (list_all is_line lines && (list_all (fits_version v) lines && are_apart lines))
+    nat_le (length lines) most_lines && (list_all is_line lines && (list_all (fits_version v) lines && are_apart lines))
 
 -- the first version is written where it says all
 abbrev pub written_version : List Line → Version

@@ -3,6 +3,7 @@ use Rattle.std.specs.Prelude.{ℕ, List, ◌++◌, Option, Some, Result, Ok}
 use Rattle.chk_site.specs.History.{History}
 use Rattle.chk_failover.specs.Turns.{Turns}
 use Rattle.chk_agent.specs.declared.agent.Rules.{Rules}
+use Rattle.chk_agent_run.specs.declared.run.TheConstants.{ROWS, QUEUE}
 use Rattle.chk_drain_run.specs.declared.faults.DrainFault.{DrainFault}
 use Rattle.chk_drain_run.specs.declared.run.Work.{Work}
 use Rattle.chk_drain_run.specs.Done.{DrainDone}
@@ -19,7 +20,7 @@ ring_at addresses = record { addresses = addresses; place = 0; failures = 0 }
 -- polls lie 1,000 ms apart, and no chunk expires within the run
 abbrev pub drain_rules : List ℕ → Rules
 drain_rules cluster =
-    record { rows = 65536; queue = 10485760; poll = 1000; expire = 300000; cluster = cluster }
+    record { rows = ROWS; queue = QUEUE; poll = 1000; expire = 300000; cluster = cluster }
 
 abbrev pub drain_work : DrainAsked → Work
 drain_work w = record { initial = w.initial; reads = w.reads; polls = w.polls }

@@ -19,13 +19,14 @@ use Rattle.chk_collector_run.specs.Runs.{CollectorRan, IsNoneOpen}
 use Rattle.chk_world.specs.Books.{book_of}
 use Rattle.chk_world.specs.Names.{ArchiveFolder}
 use Rattle.chk_world.specs.Sight.{job}
+use Rattle.chk_agent_run.specs.declared.run.TheConstants.{ROWS, QUEUE}
 use Rattle.chk_archive.specs.Archived.{RunDone, lists_sinks}
 use Rattle.chk_archive.specs.Reports.{Report}
 use Rattle.chk_demux.specs.declared.report.DemuxReport.{DemuxReport}
 use Rattle.chk_prints.specs.Printing.{by, printed}
 use Rattle.chk_archive_run.specs.Telling.{ArchivesAndTells, report_lines}
 use Rattle.chk_words.specs.Commands.{AgentAsked, CollectorAsked}
-use Rattle.chukwa_salvage.specs.Printing.{IsWhole, bytes_or_none, said}
+use Rattle.chukwa_salvage.specs.Printing.{IsWhole, bytes_or_none, said, print_limit}
 use Rattle.chk_words.specs.Commands.{Asked, Round, Agent, Collector, Drain, Archive, Demux, Salvage, Load, Udp, Subscribe, Join}
 use Rattle.chukwa_run.specs.Demuxing.{DemuxedOnce, DemuxWhole}
 use Rattle.chukwa_run.specs.Loading.{LoadDid, LoadWhole}
@@ -50,7 +51,7 @@ SalvagePrinted file earlier added =
 -- the call reads the file, in a piece of at most 1,048,576 bytes, or prints at most 65,536 bytes
 abbrev pub ReadsOrPrints : List ℕ → Deed → Type 0
 ReadsOrPrints file (Reads name at max) = (name ≡ file) × (max ≡ asks_at at)
-ReadsOrPrints file (Says text) = length text ≤ 65536
+ReadsOrPrints file (Says text) = length text ≤ print_limit
 ReadsOrPrints file call = ⊥
 
 -- all of these acts are such ones of the writer
@@ -65,7 +66,7 @@ abbrev pub ring_of : AgentAsked → Turns
 ring_of w = record { addresses = w.collectors; place = 0; failures = 0 }
 
 abbrev pub rules_of : AgentAsked → Rules
-rules_of w = record { rows = 65536; queue = 10485760; poll = w.poll; expire = w.expire; cluster = w.cluster }
+rules_of w = record { rows = ROWS; queue = QUEUE; poll = w.poll; expire = w.expire; cluster = w.cluster }
 
 abbrev pub work_of : AgentAsked → Work
 work_of w = record { initial = w.initial; control = w.control; turns = w.turns; pause = w.pause }

@@ -70,7 +70,11 @@ pub record PrintsFile (name : List ℕ) (result : Result Unit SalvageFault) (add
   pub prints : (file : Option File) → IsSmallFile file → Others (LeavesFile name) added history → files_after history name ≡ file
       → Printed (bytes_or_none file) result (said (own_acts added))
 
--- the step is the site's own, and prints at most 65,536 bytes as this process
+-- the most bytes that are printed at once
+abbrev pub print_limit : ℕ
+print_limit = 65536
+
+-- the step is the site's own, and prints no more bytes than that as this process
 pub record IsPrint (who : Who) (before : History) (step : Step) : Type 0 where
   pub own : step.own ≡ true
   pub running : is_stopped before ≡ false
@@ -78,7 +82,7 @@ pub record IsPrint (who : Who) (before : History) (step : Step) : Type 0 where
   pub by : step.act.who ≡ who
   pub text : List ℕ
   pub says : deed step.act ≡ Says text
-  pub few : length text ≤ 65536
+  pub few : length text ≤ print_limit
 
 -- the step is one of others, a read of this file, or such a print
 abbrev pub LooksOrPrints : Who → List ℕ → History → Step → Type 0

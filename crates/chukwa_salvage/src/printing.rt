@@ -6,6 +6,7 @@ ghost use Rattle.chk_site.specs.Site.{Adds, OutsideCause};
 ghost use Rattle.chk_salvage.specs.Readers.{items_left};
 ghost use Rattle.chukwa_salvage.specs.Printing.{PrintsFile, LooksOrPrints, FailsLast, CauseOf, GoesOnRunning, EndsRunning};
 ghost use Rattle.chukwa_salvage.specs.Steps.{PrintsItems, Prints};
+ghost use Rattle.chukwa_salvage.specs.Printing.{print_limit};
 
 use crate::fault::SalvageFault;
 use crate::lines::put_next;
@@ -74,7 +75,7 @@ fn make_room<S: Site>(
     who: &Who,
     buffer: &mut Bytes,
 ) -> Result<(), OutsideFault>
-    requires few { length buffer.old ≤ 65536 }
+    requires few { length buffer.old ≤ print_limit }
     ensures told { Adds (S.told site.old) (S.told site.new) (Prints who.now buffer.old buffer.new result) }
     ensures room { OnOk result (length buffer.new ≤ 53176) }
     ensures runs { OnOk result (Adds (S.told site.old) (S.told site.new) GoesOnRunning) }
@@ -95,7 +96,7 @@ fn print_rest<S: Site>(
     who: &Who,
     buffer: &Bytes,
 ) -> Result<(), OutsideFault>
-    requires few { length buffer.now ≤ 65536 }
+    requires few { length buffer.now ≤ print_limit }
     ensures told { Adds (S.told site.old) (S.told site.new) (Prints who.now buffer.now [] result) }
     ensures runs { OnOk result (Adds (S.told site.old) (S.told site.new) GoesOnRunning) }
     ensures cause { OutsideCause (S.fault_count site.old) (S.fault_count site.new) result }
@@ -107,7 +108,7 @@ fn print_rest<S: Site>(
 }
 
 fn print<S: Site>(alloc: Global, site: &mut S, who: &Who, text: &[u8]) -> Result<(), OutsideFault>
-    requires few { length text.now ≤ 65536 }
+    requires few { length text.now ≤ print_limit }
     ensures told { Adds (S.told site.old) (S.told site.new) (Prints who.now text.now [] result) }
     ensures runs { OnOk result (Adds (S.told site.old) (S.told site.new) GoesOnRunning) }
     ensures cause { OutsideCause (S.fault_count site.old) (S.fault_count site.new) result }

@@ -2,7 +2,8 @@ use Rattle.std.proofs.Common.{Bool, [], ◌+◌, length, Ok, Err, ap, sym, ◌�
 use Rattle.std.proofs.lemmas.Result.{err_from_is_err_and}
 use Rattle.chk_agent_run.specs.Faults.{fault_of}
 use Rattle.chk_agent_run.proofs.Carried.{carried_by, carried_then, ends_with}
-use Rattle.chk_agent_run.proofs.RunFaults.{run_last, nothing_last, run_cause, no_checkpoint}
+use Rattle.chk_agent_run.proofs.RunFaults.{run_last, run_cause, no_checkpoint}
+use Rattle.chk_agent.proofs.Alike.{nothing_last}
 use Rattle.chk_agent_run.proofs.InitialLines.{added_none, added_all, failed_one, bad_one, added_one}
 use Rattle.chk_agent_run.proofs.initial.add_lines.Goals as goal
 

@@ -8,10 +8,11 @@ use Rattle.chk_archive.specs.declared.report.Report.{Report}
 use Rattle.chk_parts.proofs.StepKinds.{as_kind}
 use Rattle.chk_prints.specs.Printing.{PrintsInTurn}
 use Rattle.chk_archive_run.specs.Telling.{ArchivesAndTells, report_lines}
-use Rattle.chk_archive_run.proofs.CallKinds.{of_archive, prints_own}
+use Rattle.chk_archive_run.proofs.CallKinds.{of_archive, Tells, says}
 use Rattle.chk_archive_run.proofs.Told.{told_done, told_fails, own_both, once_both, once_fails, prints_both, runs_both, last_both}
 use Rattle.chk_archive.proofs.Shown.{archived_fails, archived_kept}
 use Rattle.chk_archive_run.proofs.running.run_archive.Goals as goal
+use Rattle.chk_prints.proofs.CallKinds.{prints_own}
 
 pub returns-in_err-report-clause-told : goal.returns-in_err-report-clause-told
 returns-in_err-report-clause-told g c stamped loaded =
@@ -97,5 +98,5 @@ returns-in_err-tell-clause-shown g c =
 pub returns-clause-shown : goal.returns-clause-shown
 returns-clause-shown g c =
     archived_kept Report c.in_ok-report.report c.in_ok-report.ensures.shown
-    (prints_own (subst (λ w. PrintsInTurn w (report_lines (report_view c.in_ok-report.report)) (Ok tt) (g.S.Site.told c.archive.new.site)
+    (prints_own Tells says (subst (λ w. PrintsInTurn w (report_lines (report_view c.in_ok-report.report)) (Ok tt) (g.S.Site.told c.archive.new.site)
     (g.S.Site.told c.tell.new.site)) c.requires c.in_ok-tell.ensures.told))

@@ -7,7 +7,7 @@ use Rattle.chk_site.specs.Site.{OutsideCause}
 use Rattle.chk_prints.specs.Printing.{PrintsInTurn, all_printed}
 use Rattle.chk_prints.proofs.Printed.{prints_then, prints_ended}
 use Rattle.chk_archive_run.specs.Telling.{stream_line}
-use Rattle.chk_archive_run.proofs.InOrder.{next_of}
+use Rattle.chk_heads.proofs.InTurn.{next_of}
 use Rattle.chk_archive_run.proofs.telling.tell_ends.Goals as goal
 
 abbrev lines : List End → List (List ℕ)

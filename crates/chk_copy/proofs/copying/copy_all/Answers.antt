@@ -9,7 +9,8 @@ use Rattle.chk_book.proofs.Added.{cause_later}
 use Rattle.chk_merge.specs.Merging.{SparesBoth, AreApart}
 use Rattle.chk_merge.proofs.AllRead.{each_get, no_windows}
 use Rattle.chk_copy.specs.Copying.{joined_segment, HasCopied, CanCopyBoth, Copies, chosen_chunks, FitsIn}
-use Rattle.chk_copy.proofs.Steps.{works_none, works_then, works_number}
+use Rattle.chk_copy.proofs.Steps.{works_number}
+use Rattle.chk_book.proofs.Works.{works_none, works_then}
 use Rattle.chk_copy.proofs.Blocks.{no_choice, choices_more, of_number, all_fails}
 use Rattle.std.proofs.Common.{List}
 use Rattle.chk_world.specs.JobSteps.{SparesFile}

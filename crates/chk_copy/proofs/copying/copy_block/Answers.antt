@@ -8,7 +8,8 @@ use Rattle.chk_merge.specs.Archives.{chunk_in}
 use Rattle.chk_merge.specs.Merging.{SparesBoth, AreApart}
 use Rattle.chk_compare.specs.Blocks.{head_in}
 use Rattle.chk_copy.specs.Copying.{joined_segment, CanCopy, Copies, chunks_between}
-use Rattle.chk_copy.proofs.Steps.{works_none, works_then, works_number}
+use Rattle.chk_copy.proofs.Steps.{works_number}
+use Rattle.chk_book.proofs.Works.{works_none, works_then}
 use Rattle.chk_copy.proofs.Blocks.{between_none, between_more, of_number, block_fails}
 use Rattle.std.proofs.Common.{List}
 use Rattle.chk_world.specs.JobSteps.{SparesFile}

@@ -9,7 +9,8 @@ use Rattle.chk_site.proofs.Leads.{leads_then}
 use Rattle.chk_merge.specs.Archives.{chunk_in}
 use Rattle.chk_compare.specs.Blocks.{head_in}
 use Rattle.chk_copy.specs.Copying.{joined_segment, Copies}
-use Rattle.chk_copy.proofs.Steps.{worked, reads_copy, writes_copy, of_write}
+use Rattle.chk_copy.proofs.Steps.{reads_copy, writes_copy, of_write}
+use Rattle.chk_book.proofs.Works.{worked}
 use Rattle.chk_merge.proofs.Writing.{writes_ask}
 use Rattle.chk_copy.proofs.OneRecord.{fetched_for, not_copied, put_behind}
 use Rattle.chk_merge.specs.Merging.{chunk_with}

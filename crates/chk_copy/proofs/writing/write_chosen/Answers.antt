@@ -7,7 +7,7 @@ use Rattle.chk_book.specs.Views.{segment_view, end_view}
 use Rattle.chk_merge.specs.Merging.{bare_book}
 use Rattle.chk_book.proofs.Added.{fails_as, cause_later, spent_same}
 use Rattle.chk_copy.specs.Copying.{Copies}
-use Rattle.chk_copy.proofs.Steps.{own_of, pieces_of, last_of}
+use Rattle.chk_book.proofs.Works.{last_of, pieces_of, own_of}
 use Rattle.chk_copy.proofs.writing.write_chosen.Goals as goal
 
 pub write_segment-requires-clause-bare : goal.write_segment-requires-clause-bare

@@ -11,7 +11,8 @@ use Rattle.chk_book.specs.declared.segmenter.Segmenter.{Segmenter}
 use Rattle.chk_book.proofs.Added.{fails_as, cause_later, cause_then, spent_same, spent_written}
 use Rattle.chk_merge.specs.Merging.{AreApart, bare_book}
 use Rattle.chk_copy.specs.Copying.{joined_segment, Copies, chosen_chunks}
-use Rattle.chk_copy.proofs.Steps.{worked, works_then, works_number, writes_copy}
+use Rattle.chk_copy.proofs.Steps.{works_number, writes_copy}
+use Rattle.chk_book.proofs.Works.{works_then, worked}
 use Rattle.chk_merge.proofs.Writing.{writes_ask}
 use Rattle.chk_copy.proofs.Blocks.{of_number}
 use Rattle.chk_copy.proofs.Segment.{not_written, begun_so, not_all, ended_so, own_writes, joined_folder, begun_copied, begun_works, spent_copied}

@@ -3,8 +3,9 @@ use Rattle.std.proofs.lemmas.Result.{err_from_is_err_and}
 use Rattle.chk_site.proofs.Leads.{leads_as, leads_then}
 use Rattle.chk_world.specs.JobSteps.{ReadsFile}
 use Rattle.chk_book.proofs.Added.{cause_then}
-use Rattle.chk_cursors.proofs.Onward.{led_anyhow}
-use Rattle.chk_cursors.proofs.Works.{works_then, works_value}
+use Rattle.chk_book.proofs.Segmented.{unsaid as led_anyhow}
+use Rattle.chk_cursors.proofs.Works.{works_value}
+use Rattle.chk_book.proofs.Works.{works_then}
 use Rattle.chk_cursors.proofs.Wholes.{opened_has}
 use Rattle.chk_cursors.proofs.merging.are_in_order.Goals as goal
 

@@ -18,7 +18,7 @@ use Rattle.chk_merge.specs.Segments.{HasFiles, AreSettled}
 use Rattle.chk_merge.proofs.Causes.{late_unsound, shows_begun}
 use Rattle.chk_cursors.specs.Merges.{HasTried}
 use Rattle.chk_cursors.proofs.Wholes.{merged_tried, not_tried}
-use Rattle.chk_cursors.proofs.Works.{own_of, pieces_of, last_of}
+use Rattle.chk_book.proofs.Works.{last_of, pieces_of, own_of}
 use Rattle.chk_cursors.proofs.merging.merge.Goals as goal
 
 pub returns-then-book-eq-LAST_NUMBER-clause-raw : goal.returns-then-book-eq-LAST_NUMBER-clause-raw

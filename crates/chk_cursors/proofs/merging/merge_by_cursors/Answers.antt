@@ -8,9 +8,10 @@ use Rattle.chk_book.specs.Books.{book_view}
 use Rattle.chk_book.specs.Folders.{segment_name}
 use Rattle.chk_book.specs.Views.{end_view}
 use Rattle.chk_merge.specs.Segments.{HasFiles}
-use Rattle.chk_cursors.proofs.Onward.{led_anyhow}
+use Rattle.chk_book.proofs.Segmented.{unsaid as led_anyhow}
 use Rattle.chk_cursors.proofs.Wholes.{spared_more, tried_as, spent_bare}
-use Rattle.chk_cursors.proofs.Works.{works_then, works_none, works_value, works_fault, works_read}
+use Rattle.chk_cursors.proofs.Works.{works_value, works_fault, works_read}
+use Rattle.chk_book.proofs.Works.{works_none, works_then}
 use Rattle.chk_cursors.proofs.merging.merge_by_cursors.Goals as goal
 
 pub returns-in_err-are_in_order-clause-raw : goal.returns-in_err-are_in_order-clause-raw

@@ -9,9 +9,11 @@ use Rattle.chk_world.specs.JobSteps.{ReadsFile}
 use Rattle.chk_book.proofs.Added.{cause_later}
 use Rattle.chk_merge.specs.Segments.{HasFiles, SparesFiles}
 use Rattle.chk_cursors.specs.Sides.{AreSides}
-use Rattle.chk_cursors.proofs.Onward.{led_anyhow, still_there}
+use Rattle.chk_cursors.proofs.Onward.{still_there}
+use Rattle.chk_book.proofs.Segmented.{unsaid as led_anyhow}
 use Rattle.chk_cursors.proofs.Opening.{one_opened}
-use Rattle.chk_cursors.proofs.Works.{works_then, works_none, works_value, works_memory}
+use Rattle.chk_cursors.proofs.Works.{works_value, works_memory}
+use Rattle.chk_book.proofs.Works.{works_none, works_then}
 use Rattle.chk_cursors.proofs.merging.open_all.Goals as goal
 
 pub loop-name-init : goal.loop-name-init

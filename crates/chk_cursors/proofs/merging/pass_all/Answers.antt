@@ -3,8 +3,9 @@ use Rattle.std.proofs.lemmas.Result.{err_from_is_err_and}
 use Rattle.chk_site.proofs.Leads.{leads_none, leads_then}
 use Rattle.chk_world.specs.JobSteps.{ReadsFile}
 use Rattle.chk_book.proofs.Added.{cause_later}
-use Rattle.chk_cursors.proofs.Onward.{led_anyhow}
-use Rattle.chk_cursors.proofs.Works.{works_then, works_none, works_value, works_fault}
+use Rattle.chk_book.proofs.Segmented.{unsaid as led_anyhow}
+use Rattle.chk_cursors.proofs.Works.{works_value, works_fault}
+use Rattle.chk_book.proofs.Works.{works_none, works_then}
 use Rattle.chk_cursors.proofs.merging.pass_all.Goals as goal
 
 pub loop-turn-init : goal.loop-turn-init

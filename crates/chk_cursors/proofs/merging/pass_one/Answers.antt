@@ -3,8 +3,10 @@ use Rattle.std.proofs.lemmas.Result.{err_from_is_err_and}
 use Rattle.chk_site.proofs.Leads.{leads_as, leads_none}
 use Rattle.chk_world.specs.JobSteps.{ReadsFile}
 use Rattle.chk_book.proofs.Added.{cause_later}
-use Rattle.chk_cursors.proofs.Onward.{led_anyhow, still_there}
-use Rattle.chk_cursors.proofs.Works.{works_none, works_value, works_fault}
+use Rattle.chk_cursors.proofs.Onward.{still_there}
+use Rattle.chk_book.proofs.Segmented.{unsaid as led_anyhow}
+use Rattle.chk_cursors.proofs.Works.{works_value, works_fault}
+use Rattle.chk_book.proofs.Works.{works_none}
 use Rattle.chk_cursors.proofs.merging.pass_one.Goals as goal
 
 pub returns-in_default-clause-raw : goal.returns-in_default-clause-raw

@@ -14,7 +14,7 @@ use Rattle.chk_book.specs.Segmenting.{HoldsSegment}
 use Rattle.chk_book.specs.Views.{end_view}
 use Rattle.chk_book.specs.Written.{IsAt, taken}
 use Rattle.chk_heads.specs.Faults.{FailsLast}
-use Rattle.chk_cursors.proofs.Onward.{led_anyhow}
+use Rattle.chk_book.proofs.Segmented.{unsaid as led_anyhow}
 use Rattle.chk_cursors.proofs.Putting.{chunk_can, here_is, here_next}
 use Rattle.chk_cursors.proofs.merging.put_one.Goals as goal
 

@@ -7,11 +7,12 @@ use Rattle.chk_book.specs.Folders.{segment_name, most_in}
 use Rattle.chk_book.specs.Segmenting.{begun}
 use Rattle.chk_book.specs.Views.{end_view}
 use Rattle.chk_book.specs.Written.{taken}
-use Rattle.chk_cursors.proofs.Wholes.{named_as, apart_as}
+use Rattle.chk_merge.proofs.Merged.{apart_as, named_as}
 use Rattle.chk_cursors.specs.Merges.{chunk_at}
 use Rattle.chk_cursors.proofs.InTurn.{merging_begins, merging_further}
-use Rattle.chk_cursors.proofs.Onward.{led_anyhow}
-use Rattle.chk_cursors.proofs.Works.{works_then, works_none, works_value, works_fault, works_named}
+use Rattle.chk_book.proofs.Segmented.{unsaid as led_anyhow}
+use Rattle.chk_cursors.proofs.Works.{works_value, works_fault, works_named}
+use Rattle.chk_book.proofs.Works.{works_none, works_then}
 use Rattle.chk_cursors.proofs.merging.write_all.Goals as goal
 
 pub loop-turn-init : goal.loop-turn-init

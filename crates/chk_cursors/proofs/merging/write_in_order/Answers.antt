@@ -7,9 +7,10 @@ use Rattle.chk_book.specs.declared.book.Book.{Book as Struct}
 use Rattle.chk_book.specs.Folders.{segment_name}
 use Rattle.chk_merge.specs.Merging.{bare_book}
 use Rattle.chk_cursors.specs.Merges.{StandOpen}
-use Rattle.chk_cursors.proofs.Onward.{led_anyhow}
+use Rattle.chk_book.proofs.Segmented.{unsaid as led_anyhow}
 use Rattle.chk_cursors.proofs.Wholes.{spared_more, opened_has}
-use Rattle.chk_cursors.proofs.Works.{works_then, works_value, works_fault, works_read}
+use Rattle.chk_cursors.proofs.Works.{works_value, works_fault, works_read}
+use Rattle.chk_book.proofs.Works.{works_then}
 use Rattle.chk_cursors.proofs.merging.write_in_order.Goals as goal
 
 pub returns-in_err-open_all-clause-raw : goal.returns-in_err-open_all-clause-raw

@@ -6,7 +6,7 @@ use Rattle.chk_book.proofs.Added.{cause_later}
 use Rattle.chk_book.specs.declared.book.Book.{Book as Struct}
 use Rattle.chk_book.specs.Folders.{segment_name}
 use Rattle.chk_book.specs.Views.{segment_view, end_view}
-use Rattle.chk_cursors.proofs.Onward.{led_anyhow}
+use Rattle.chk_book.proofs.Segmented.{unsaid as led_anyhow}
 use Rattle.chk_cursors.proofs.Works.{works_value, works_fault}
 use Rattle.chk_cursors.proofs.merging.write_merged.Goals as goal
 

@@ -7,9 +7,10 @@ use Rattle.chk_book.specs.Views.{end_view}
 use Rattle.chk_book.specs.Written.{taken}
 use Rattle.chk_cursors.specs.Merges.{chunk_here}
 use Rattle.chk_cursors.proofs.Beside.{read_beside}
-use Rattle.chk_cursors.proofs.Onward.{led_anyhow}
+use Rattle.chk_book.proofs.Segmented.{unsaid as led_anyhow}
 use Rattle.chk_cursors.proofs.Putting.{put_on, put_off, put_none}
-use Rattle.chk_cursors.proofs.Works.{works_then, works_value, works_fault, works_read, works_write}
+use Rattle.chk_cursors.proofs.Works.{works_value, works_fault, works_read, works_write}
+use Rattle.chk_book.proofs.Works.{works_then}
 use Rattle.chk_cursors.proofs.merging.write_one.Goals as goal
 
 pub put_one-requires-clause-job : goal.put_one-requires-clause-job

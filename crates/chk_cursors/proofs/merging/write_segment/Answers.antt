@@ -19,9 +19,10 @@ use Rattle.chk_merge.proofs.OnePass.{AreRising}
 use Rattle.chk_merge.proofs.MergedInto.{spent_same}
 use Rattle.chk_cursors.specs.Merges.{AreOpen}
 use Rattle.chk_cursors.proofs.Beside.{write_beside}
-use Rattle.chk_cursors.proofs.Onward.{led_anyhow}
+use Rattle.chk_book.proofs.Segmented.{unsaid as led_anyhow}
 use Rattle.chk_cursors.proofs.Wholes.{finished}
-use Rattle.chk_cursors.proofs.Works.{works_then, works_value, works_fault, works_write, works_named}
+use Rattle.chk_cursors.proofs.Works.{works_value, works_fault, works_write, works_named}
+use Rattle.chk_book.proofs.Works.{works_then}
 use Rattle.chk_cursors.proofs.merging.write_segment.Goals as goal
 
 pub returns-in_err-segmenter-clause-raw : goal.returns-in_err-segmenter-clause-raw

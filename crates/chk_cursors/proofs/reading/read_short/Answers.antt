@@ -9,9 +9,9 @@ use Rattle.chk_world.specs.JobSteps.{ReadsFile}
 use Rattle.chk_heads.specs.Faults.{FailsLast}
 use Rattle.chk_heads.specs.declared.fault.JobFault.TheVariants.{Outside, NoMemory as none_left}
 use Rattle.chk_heads.proofs.PieceReads.{piece_own, piece_asks}
-use Rattle.chk_cursors.proofs.Works.{worked}
+use Rattle.chk_book.proofs.Works.{worked}
 use Rattle.chk_cursors.proofs.ShortReads.{short_given, short_missing, short_past}
-use Rattle.chk_cursors.proofs.Onward.{led_anyhow}
+use Rattle.chk_book.proofs.Segmented.{unsaid as led_anyhow}
 use Rattle.chk_cursors.proofs.reading.read_short.Goals as goal
 
 pub returns-in-Ok : goal.returns-in-Ok

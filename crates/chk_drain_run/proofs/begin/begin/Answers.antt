@@ -15,7 +15,8 @@ use Rattle.chk_agent_run.proofs.Carried.{carried_none, carried_by, ends_with}
 use Rattle.chk_agent_run.proofs.Turned.{process_on}
 use Rattle.chk_agent_run.proofs.LineAdded.{word_copied}
 use Rattle.chk_agent_run.proofs.Endings.{start_so, who_started, unread_leads, unstarted_leads, late_ends}
-use Rattle.chk_agent_run.proofs.RunFaults.{run_last, run_cause, no_checkpoint, none_of, last_of, outside_last, outside_cause, nothing_last}
+use Rattle.chk_agent_run.proofs.RunFaults.{run_last, run_cause, no_checkpoint, none_of, last_of, outside_last, outside_cause}
+use Rattle.chk_agent.proofs.Alike.{nothing_last}
 use Rattle.chk_agent_run.proofs.RunCauses.{cause_behind}
 use Rattle.chk_drain_run.specs.declared.begin.Begun.{Begun}
 use Rattle.chk_drain_run.specs.Begins.{BeginsWith, unread, unstarted, untimed, unadded, begun}

@@ -12,7 +12,8 @@ use Rattle.chk_join.proofs.Begun.{joined_book, begin_refused, begun_so, start_st
 use Rattle.chk_join.proofs.Begun.{start_not_loaded, start_begins, load_begins}
 use Rattle.chk_copy.proofs.Segment.{joined_folder as joined_is_folder}
 use Rattle.chk_merge.proofs.Fetching.{failed_read as of_read}
-use Rattle.chk_join.proofs.Works.{own_of, works_then, works_result}
+use Rattle.chk_parts.proofs.Works.{works_result}
+use Rattle.chk_book.proofs.Works.{works_then, own_of}
 use Rattle.chk_join.proofs.beginning.begin.Goals as goal
 
 pub load_book-requires : goal.load_book-requires

@@ -9,7 +9,8 @@ use Rattle.chk_merge.specs.Segments.{names_of}
 use Rattle.chk_copy.specs.Copying.{joined_segment, Copies}
 use Rattle.chk_join.specs.declared.preparing.Prepared.{Prepared}
 use Rattle.chk_join.proofs.Chain.{reads_told, right_damaged, right_joined, reads_work, untold}
-use Rattle.chk_join.proofs.Works.{works_then, works_fail}
+use Rattle.chk_parts.proofs.Works.{works_fail}
+use Rattle.chk_book.proofs.Works.{works_then}
 use Rattle.chk_join.proofs.preparing.join_left.Goals as goal
 
 pub returns-in_err-heads-clause-raw : goal.returns-in_err-heads-clause-raw

@@ -11,7 +11,8 @@ use Rattle.chk_join.specs.declared.preparing.Prepared.{Prepared}
 use Rattle.chk_join.specs.declared.preparing.Prepared.TheVariants.{Differs}
 use Rattle.chk_join.proofs.Chain.{beside_segment, with_fact, chosen_fit, took_sides, not_compared}
 use Rattle.chk_join.proofs.Chain.{reads_work, untold}
-use Rattle.chk_join.proofs.Works.{works_then, works_value, works_fail}
+use Rattle.chk_parts.proofs.Works.{works_value, works_fail}
+use Rattle.chk_book.proofs.Works.{works_then}
 use Rattle.chk_join.proofs.preparing.join_sides.Goals as goal
 
 pub take_plan-requires-clause-fits : goal.take_plan-requires-clause-fits

@@ -10,7 +10,8 @@ use Rattle.chk_compare.specs.Reading.{AreAmong}
 use Rattle.chk_copy.specs.Copying.{joined_segment, Copies}
 use Rattle.chk_join.specs.Working.{TidiesBy, PreparesBy}
 use Rattle.chk_join.specs.declared.preparing.Prepared.{Prepared}
-use Rattle.chk_join.proofs.Works.{own_of, works_then, works_as}
+use Rattle.chk_parts.proofs.Works.{works_as}
+use Rattle.chk_book.proofs.Works.{works_then, own_of}
 use Rattle.chk_join.proofs.Apart.{chunk_most}
 use Rattle.chk_join.proofs.Chain.{stays_over, untold}
 use Rattle.chk_join.proofs.Folders.{has_order, quiet_tidy, folders_joined, copies_prepare}

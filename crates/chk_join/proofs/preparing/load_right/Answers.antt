@@ -9,7 +9,8 @@ use Rattle.chk_copy.specs.Copying.{joined_segment}
 use Rattle.chk_join.specs.Working.{PreparesBy}
 use Rattle.chk_join.specs.Preparing.{IsFolderBook}
 use Rattle.chk_join.specs.declared.preparing.Prepared.{Prepared}
-use Rattle.chk_join.proofs.Works.{works_then, works_fail}
+use Rattle.chk_parts.proofs.Works.{works_fail}
+use Rattle.chk_book.proofs.Works.{works_then}
 use Rattle.chk_join.proofs.Apart.{plain_folder}
 use Rattle.chk_join.proofs.Chain.{under, untold}
 use Rattle.chk_join.proofs.Folders.{load_told, folder_loaded, right_not_loaded, reads_prepare}

@@ -12,7 +12,8 @@ use Rattle.chk_book.specs.declared.book.Book.{Book as Struct}
 use Rattle.chk_choose.specs.declared.plan.Choice.{Choice}
 use Rattle.chk_copy.specs.Copying.{chosen_chunks, Copies}
 use Rattle.chk_join.proofs.PlanWritten.{none_chosen, wrote_plan, none_alone, stood_plan}
-use Rattle.chk_join.proofs.Works.{worked, works_none, works_memory}
+use Rattle.chk_parts.proofs.Works.{works_memory}
+use Rattle.chk_book.proofs.Works.{works_none, worked}
 use Rattle.chk_join.proofs.preparing.write_plan.Goals as goal
 
 pub returns-then-not-runs_on-clause-raw : goal.returns-then-not-runs_on-clause-raw

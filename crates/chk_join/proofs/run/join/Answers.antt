@@ -15,7 +15,7 @@ use Rattle.chk_join.specs.declared.preparing.Prepared.TheVariants.{Ready, Differ
 use Rattle.chk_join.specs.declared.preparing.Prepared.{Prepared}
 use Rattle.chk_join.specs.declared.report.JoinReport.{JoinReport}
 use Rattle.chk_join.proofs.Begun.{joined_book}
-use Rattle.chk_join.proofs.Works.{own_of, pieces_of_work}
+use Rattle.chk_book.proofs.Works.{pieces_of as pieces_of_work, own_of}
 use Rattle.chk_join.proofs.Whole.{is_first}
 use Rattle.chk_join.proofs.Joining.{prepared_kept, published_join, prepares_join, replaces_join}
 use Rattle.chk_join.proofs.Joining.{own_so, pieces_so, last_so, join_fails_behind, joins_fault}

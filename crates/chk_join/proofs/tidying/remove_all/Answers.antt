@@ -1,5 +1,6 @@
 use Rattle.chk_join.proofs.Chain.{untold}
-use Rattle.chk_join.proofs.StraysGone.{next_is, removed_one, none_pending}
+use Rattle.chk_join.proofs.StraysGone.{removed_one, none_pending}
+use Rattle.chk_parts.proofs.InTurn.{next_is, cause_done}
 use Rattle.chk_join.specs.Cleaned.{Pending}
 use Rattle.chk_copy.specs.Copying.{joined_segment}
 use Rattle.chk_replace.specs.Replace.{LeavesFile}
@@ -14,8 +15,8 @@ use Rattle.chk_heads.specs.Faults.{job_fault}
 use Rattle.chk_merge.proofs.AllRead.{each_get}
 use Rattle.chk_join.specs.Names.{IsStray}
 use Rattle.chk_join.specs.Working.{TidiesBy}
-use Rattle.chk_join.proofs.Works.{works_none, works_then}
-use Rattle.chk_join.proofs.Tidied.{remove_works, cause_done}
+use Rattle.chk_book.proofs.Works.{works_none, works_then}
+use Rattle.chk_join.proofs.Tidied.{remove_works}
 use Rattle.chk_join.proofs.tidying.remove_all.Goals as goal
 
 pub loop-name-init : goal.loop-name-init

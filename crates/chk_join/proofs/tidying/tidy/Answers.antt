@@ -15,7 +15,8 @@ use Rattle.chk_world.proofs.Each.{Each}
 use Rattle.chk_book.specs.Books.{book_view}
 use Rattle.chk_join.specs.Names.{IsStray}
 use Rattle.chk_join.specs.Working.{TidiesBy, job_result}
-use Rattle.chk_join.proofs.Works.{works_then, works_fail, works_end}
+use Rattle.chk_parts.proofs.Works.{works_end, works_fail}
+use Rattle.chk_book.proofs.Works.{works_then}
 use Rattle.chk_join.proofs.tidying.tidy.Goals as goal
 
 pub returns-in_err-names-clause-works : goal.returns-in_err-names-clause-works

@@ -8,7 +8,7 @@ use Rattle.chk_book.specs.Books.{book_view}
 use Rattle.chk_book.specs.declared.book.Book.{Book as Struct}
 use Rattle.chk_heads.specs.Heads.{Head}
 use Rattle.chk_look_held.specs.declared.finding.Waiting.{Waiting}
-use Rattle.chk_look_held.proofs.Later.{refused_later}
+use Rattle.chk_book.proofs.Works.{refused_later}
 use Rattle.chk_look_held.proofs.finding.find_once.Goals as goal
 
 pub returns-in-Ok-aside_heads : goal.returns-in-Ok-aside_heads

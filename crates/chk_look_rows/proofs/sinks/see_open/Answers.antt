@@ -3,7 +3,7 @@ use Rattle.std.proofs.Math.ListN.{drop_of_length-le}
 use Rattle.std.proofs.lemmas.Result.{err_from_is_err_and}
 use Rattle.chk_site.specs.Site.{OutsideCause}
 use Rattle.chk_look_rows.specs.Sinks.{ended, none_left, one_more, AddsSink, SeesSinks}
-use Rattle.chk_look_rows.proofs.Texts.{next_of}
+use Rattle.chk_heads.proofs.InTurn.{next_of}
 use Rattle.chk_look_rows.proofs.sinks.see_open.Goals as goal
 
 pub returns-in_err-add_sink-clause-told : goal.returns-in_err-add_sink-clause-told

@@ -1,7 +1,8 @@
 use Rattle.chk_look_held.specs.declared.finding.Waiting.{Waiting}
 use Rattle.chk_look_run.specs.Holding.{found_out, not_found_out}
 use Rattle.chk_look_run.proofs.Found.{found_own, found_then, cause_then}
-use Rattle.chk_look_run.proofs.Shown.{archive_folder, job_cause}
+use Rattle.chk_look_run.proofs.Shown.{job_cause}
+use Rattle.chk_look_files.proofs.FolderWords.{archive_folder}
 use Rattle.chk_look_run.proofs.holding.show_waiting.Goals as goal
 
 pub find_waiting-requires-clause-folder : goal.find_waiting-requires-clause-folder

@@ -11,7 +11,8 @@ use Rattle.chk_look_run.specs.declared.outcome.Outcome.TheVariants.{NoMemory}
 use Rattle.chk_look_run.specs.Outcomes.{OutcomeCause}
 use Rattle.chk_look_run.specs.Several.{FindsStores, all_found, no_place, one_found, one_missed}
 use Rattle.chk_look_run.proofs.Found.{cause_then}
-use Rattle.chk_look_run.proofs.StoreSteps.{looks_then, next_word, stores_path}
+use Rattle.chk_look_run.proofs.StoreSteps.{looks_then, stores_path}
+use Rattle.chk_look_check.proofs.SilentLines.{next_address as next_word}
 use Rattle.chk_look_run.proofs.several.find_stores.Goals as goal
 
 pub loop-word-init : goal.loop-word-init

@@ -1,4 +1,4 @@
-use Rattle.chk_look_run.proofs.Shown.{archive_folder, records_folder}
+use Rattle.chk_look_files.proofs.FolderWords.{records_folder, archive_folder}
 use Rattle.chk_look_run.proofs.showing.folder_of.Goals as goal
 
 pub returns-then-words-clause-folder : goal.returns-then-words-clause-folder

@@ -1,7 +1,8 @@
 use Rattle.std.proofs.Common.{◌≡◌, refl}
 use Rattle.chk_world.specs.Sight.{job}
 use Rattle.chk_look_store.proofs.Again.{looks_again}
-use Rattle.chk_look_run.proofs.Shown.{archive_folder, records_folder, listed_cause}
+use Rattle.chk_look_run.proofs.Shown.{listed_cause}
+use Rattle.chk_look_files.proofs.FolderWords.{records_folder, archive_folder}
 use Rattle.chk_look_run.proofs.showing.list_streams.Goals as goal
 
 pub print_streams-given-requires-clause-archive : goal.print_streams-given-requires-clause-archive

@@ -1,7 +1,8 @@
 use Rattle.chk_look_sum.specs.declared.sums.Sums.{Sums}
 use Rattle.chk_look_run.specs.Summing.{summed, not_summed}
 use Rattle.chk_look_run.proofs.Found.{found_own, found_then, cause_then}
-use Rattle.chk_look_run.proofs.Shown.{archive_folder, job_cause}
+use Rattle.chk_look_run.proofs.Shown.{job_cause}
+use Rattle.chk_look_files.proofs.FolderWords.{archive_folder}
 use Rattle.chk_look_run.proofs.summing.sum_archive.Goals as goal
 
 pub sum-requires-clause-folder : goal.sum-requires-clause-folder

@@ -9,7 +9,7 @@ use Rattle.chk_site.specs.Site.{OutsideCause}
 use Rattle.chk_prints.specs.Printing.{PrintsInTurn, all_printed}
 use Rattle.chk_prints.proofs.Printed.{prints_then, prints_ended}
 use Rattle.chk_look_store.specs.Lines.{line_in}
-use Rattle.chk_look_store.proofs.LineWords.{next_of}
+use Rattle.chk_heads.proofs.InTurn.{next_of}
 use Rattle.chk_look_store.proofs.lines.print_ends.Goals as goal
 
 abbrev lines : List BookEnd → List End → List (List ℕ)

@@ -6,7 +6,8 @@ use Rattle.chk_agent.specs.declared.answers.Added.{Added}
 use Rattle.chk_round.specs.declared.faults.RoundFault.{RoundFault}
 use Rattle.chk_round.specs.Faults.{FailsLast}
 use Rattle.chk_round.proofs.Added.{added_same, added_source, all_added, ended_added, next_is, one_added, quiet_then}
-use Rattle.chk_round.proofs.Ends.{agent_last, last_late, nothing_last}
+use Rattle.chk_round.proofs.Ends.{agent_last, last_late}
+use Rattle.chk_agent.proofs.Alike.{nothing_last}
 use Rattle.chk_round.proofs.adding.add_logs.Goals as goal
 
 pub returns-in_err-_added-clause-script : goal.returns-in_err-_added-clause-script

@@ -3,8 +3,10 @@ use Rattle.std.proofs.lemmas.Result.{err_from_is_err_and}
 use Rattle.chk_site.proofs.Leads.{leads_as, leads_none}
 use Rattle.chk_world.specs.JobSteps.{ReadsFile}
 use Rattle.chk_book.proofs.Added.{cause_later}
-use Rattle.chk_cursors.proofs.Onward.{led_anyhow, leads_with, stepped}
-use Rattle.chk_cursors.proofs.Works.{works_then, works_none, works_value, works_fault}
+use Rattle.chk_cursors.proofs.Onward.{leads_with, stepped}
+use Rattle.chk_book.proofs.Segmented.{unsaid as led_anyhow}
+use Rattle.chk_cursors.proofs.Works.{works_value, works_fault}
+use Rattle.chk_book.proofs.Works.{works_none, works_then}
 use Rattle.chk_cursors.proofs.cursor.Cursor.advance.Goals as goal
 
 pub loop-turn-init : goal.loop-turn-init

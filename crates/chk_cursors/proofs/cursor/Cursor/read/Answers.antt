@@ -4,9 +4,10 @@ use Rattle.std.proofs.lemmas.Result.{err_from_is_err_and}
 use Rattle.chk_site.proofs.Leads.{leads_as, leads_none}
 use Rattle.chk_heads.specs.Pieces.{bytes_in}
 use Rattle.chk_world.specs.JobSteps.{ReadsFile}
-use Rattle.chk_cursors.proofs.Works.{works_none}
-use Rattle.chk_cursors.proofs.Onward.{led_anyhow}
-use Rattle.chk_cursors.proofs.Going.{small_bytes, more_gone, all_fed}
+use Rattle.chk_book.proofs.Works.{works_none}
+use Rattle.chk_book.proofs.Segmented.{unsaid as led_anyhow}
+use Rattle.chk_cursors.proofs.Going.{more_gone, all_fed}
+use Rattle.chk_heads.proofs.Gathering.{small_bytes}
 use Rattle.chk_cursors.proofs.cursor.Cursor.read.Goals as goal
 
 pub returns-in_err-piece-clause-raw : goal.returns-in_err-piece-clause-raw

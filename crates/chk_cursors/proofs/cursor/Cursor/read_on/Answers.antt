@@ -3,7 +3,8 @@ use Rattle.std.proofs.lemmas.Result.{err_from_is_err_and}
 use Rattle.chk_site.proofs.Leads.{leads_as}
 use Rattle.chk_world.specs.JobSteps.{ReadsFile}
 use Rattle.chk_book.proofs.Added.{cause_later}
-use Rattle.chk_cursors.proofs.Onward.{led_anyhow, none_from_some, all_read, more_read}
+use Rattle.chk_cursors.proofs.Onward.{none_from_some, all_read, more_read}
+use Rattle.chk_book.proofs.Segmented.{unsaid as led_anyhow}
 use Rattle.chk_cursors.proofs.Works.{works_value, works_fault}
 use Rattle.chk_cursors.proofs.cursor.Cursor.read_on.Goals as goal
 

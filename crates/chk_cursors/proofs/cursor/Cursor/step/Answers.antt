@@ -3,7 +3,7 @@ use Rattle.chk_site.proofs.Leads.{leads_as, leads_none}
 use Rattle.chk_world.specs.JobSteps.{ReadsFile}
 use Rattle.chk_heads.specs.Pieces.{bytes_in}
 use Rattle.chk_cursors.proofs.Going.{took_gone}
-use Rattle.chk_cursors.proofs.Works.{works_none}
+use Rattle.chk_book.proofs.Works.{works_none}
 use Rattle.chk_cursors.proofs.cursor.Cursor.step.Goals as goal
 
 pub returns-in-Record-clause-raw : goal.returns-in-Record-clause-raw

@@ -1,4 +1,4 @@
--- The own calls of the parts of a run, one behind the other.
+-- What the own calls of a part of a run are, by its answer.
 use Rattle.std.proofs.Common.{◌≡◌, ℕ, List, Option, Ok, Err, Result, subst}
 use Rattle.chk_site.specs.declared.acts.OutsideFault.{OutsideFault}
 use Rattle.chk_site.specs.declared.acts.OutsideFault.TheVariants.{Outside as site_failed}
@@ -6,47 +6,16 @@ use Rattle.chk_site.specs.declared.acts.OutsideFault.TheVariants.{NoMemory as no
 use Rattle.chk_site.specs.Acts.{Deed}
 use Rattle.chk_site.specs.History.{History, Every}
 use Rattle.chk_site.specs.Site.{Adds, LastFailed}
-use Rattle.chk_site.proofs.Runs.{adds_as, adds_both, adds_none}
+use Rattle.chk_site.proofs.Runs.{adds_as, adds_none}
 use Rattle.chk_world.specs.JobSteps.{IsOf, WritesTo}
-use Rattle.chk_heads.specs.Faults.{FailsLast}
-use Rattle.chk_heads.specs.Pieces.{AsksInPieces}
+use Rattle.chk_heads.specs.Faults.{FailsLast, Worked, job_result}
 use Rattle.chk_heads.specs.declared.fault.JobFault.{JobFault}
 use Rattle.chk_heads.specs.declared.fault.JobFault.TheVariants.{Outside, Damaged, Spent, NoMemory}
-use Rattle.chk_heads.proofs.Gathering.{every_then}
-use Rattle.chk_parts.proofs.StepKinds.{as_kind, no_reads, writes_no_reads, fails_behind}
-use Rattle.chk_join.specs.Working.{Worked, job_result}
-
-pub worked : {T : Type 0} (K : Deed → Type 0) (r : Result T JobFault) {old new : Option History}
-    → Adds old new (Every (IsOf K)) → Adds old new (Every AsksInPieces) → Adds old new (FailsLast r)
-    → Adds old new (Worked K r)
-worked K r own pieces last =
-    adds_both (Worked K r)
-    (adds_both (λ added history. Every (IsOf K) added history × Every AsksInPieces added history) own pieces
-    (λ added history a b. (a, b))) last
-    (λ added history a b. record { own = a.0; pieces = a.1; last = b })
-
-pub own_of : {T : Type 0} (K : Deed → Type 0) (r : Result T JobFault) {old new : Option History}
-    → Adds old new (Worked K r) → Adds old new (Every (IsOf K))
-own_of K r told = adds_as (Every (IsOf K)) told (λ added history w. w.own)
-
-pub pieces_of_work : {T : Type 0} (K : Deed → Type 0) (r : Result T JobFault) {old new : Option History}
-    → Adds old new (Worked K r) → Adds old new (Every AsksInPieces)
-pieces_of_work K r told = adds_as (Every AsksInPieces) told (λ added history w. w.pieces)
-
-pub last_of_work : {T : Type 0} (K : Deed → Type 0) (r : Result T JobFault) {old new : Option History}
-    → Adds old new (Worked K r) → Adds old new (FailsLast r)
-last_of_work K r told = adds_as (FailsLast r) told (λ added history w. w.last)
-
--- one behind the other
-pub works_then : {T U : Type 0} (K : Deed → Type 0) (s : Result T JobFault) (r : Result U JobFault)
-    {old mid new : Option History} → Adds old mid (Worked K s) → Adds mid new (Worked K r) → Adds old new (Worked K r)
-works_then K s r first second =
-    worked K r (every_then (IsOf K) (own_of K s first) (own_of K r second))
-    (every_then AsksInPieces (pieces_of_work K s first) (pieces_of_work K r second))
-    (fails_behind r first (last_of_work K r second))
+use Rattle.chk_book.proofs.Works.{worked, own_of, pieces_of, last_of}
+use Rattle.chk_parts.proofs.StepKinds.{as_kind, no_reads, writes_no_reads}
 
 -- the same refusal
-fails_same : (T U : Type 0) (fault : JobFault) (added history : History)
+pub fails_same : (T U : Type 0) (fault : JobFault) (added history : History)
     → FailsLast {T = T} (Err fault) added history → FailsLast {T = U} (Err fault) added history
 fails_same T U (Outside call) added history k = k
 fails_same T U (Damaged name at) added history k = k
@@ -63,12 +32,7 @@ works_fail T U K fault told =
 pub works_as : {T : Type 0} (K M : Deed → Type 0) → ((call : Deed) → K call → M call) → (r : Result T JobFault)
     → {old new : Option History} → Adds old new (Worked K r) → Adds old new (Worked M r)
 works_as K M wider r told =
-    worked M r (as_kind K M wider (own_of K r told)) (pieces_of_work K r told) (last_of_work K r told)
-
--- no call
-pub works_none : {T : Type 0} (K : Deed → Type 0) (value : T) (now : Option History)
-    → Adds now now (Worked {T = T} K (Ok value))
-works_none K value now = adds_none now (Worked K (Ok value)) (λ history. record { own = tt; pieces = tt; last = tt })
+    worked M r (as_kind K M wider (own_of K r told)) (pieces_of K r told) (last_of K r told)
 
 -- want of memory behind other calls, or another answer
 pub works_end : (T U : Type 0) (K : Deed → Type 0) (value : T) {old new : Option History}
