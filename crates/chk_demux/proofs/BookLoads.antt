@@ -1,6 +1,5 @@
 -- The load of a folder's book in a legal history.
-use Rattle.std.proofs.Common.{◌≡◌, ℕ, List, Option, Some, None, Ok, Err, Result, ap, sym, subst, ◌∙◌, refl, false}
-use Rattle.std.proofs.lemmas.Option.{none-some}
+use Rattle.std.proofs.Common.{◌≡◌, ℕ, List, Option, Ok, Err, Result, ap, sym, subst, ◌∙◌, refl}
 use Rattle.chk_site.specs.declared.acts.OutsideFault.{OutsideFault}
 use Rattle.chk_site.specs.declared.acts.OutsideFault.TheVariants.{Outside as site_failed, NoMemory as no_memory}
 use Rattle.chk_heads.specs.Faults.{FailsLast, job_fault}
@@ -16,7 +15,6 @@ use Rattle.chk_replace.specs.Load.{Has}
 use Rattle.chk_world.specs.Names.{Folder, ArchiveFolder, DemuxFolder, BookFile, folder_text, spell}
 use Rattle.chk_world.specs.Books.{book_in}
 use Rattle.chk_world.specs.Laws.{IsWholeBook}
-use Rattle.chk_world.proofs.SpelledLemmas.{book_so}
 use Rattle.chk_world.specs.Committed.{OnFile}
 use Rattle.chk_world.specs.Places.{As, AtTold}
 use Rattle.chk_world.specs.Rules.{Legal}
@@ -24,31 +22,23 @@ use Rattle.chk_world.specs.Sight.{job, Sight, own_book, AtJob}
 use Rattle.chk_world.specs.JobSteps.{IsOf, ReadsFile, reads, asks, SparesFile}
 use Rattle.chk_world.proofs.Spares.{reads_own}
 use Rattle.chk_world.proofs.SmallFiles.{readable}
-use Rattle.chk_world.proofs.ToldCalls.{talks}
 use Rattle.chk_heads.specs.declared.fault.JobFault.{JobFault}
 use Rattle.chk_heads.specs.declared.fault.JobFault.TheVariants.{Outside, Damaged, Spent, NoMemory}
 use Rattle.chk_heads.specs.Pieces.{AsksInPieces}
 use Rattle.chk_book.specs.Books.{book_view}
 use Rattle.chk_book.specs.Folders.{book_name}
-use Rattle.chk_book.specs.Damage.{book_damage}
-use Rattle.chk_book.specs.Loaded.{LoadedBook, IsNoBookAt, book_result, file_bytes}
+use Rattle.chk_book.specs.Loaded.{LoadedBook, book_result}
 use Rattle.chk_book.specs.declared.book.Book.{Book as Struct}
-use Rattle.chk_book.proofs.NoDamage.{no_damage}
 use Rattle.chk_parts.proofs.FromKnown.{from_known, reach}
 use Rattle.chk_demux.specs.Demuxed.{Earlier}
 use Rattle.chk_demux.specs.Beginning.{HasRecords, HasStarted, HasBegun, Begins, only_reads}
 use Rattle.chk_demux.specs.Working.{Worked}
 use Rattle.chk_demux.specs.declared.beginning.Books.{Books}
 use Rattle.chk_parts.proofs.Published.{book_named}
-use Rattle.chk_demux.proofs.Works.{worked, works_as, works_value}
+use Rattle.chk_parts.proofs.Works.{works_value, works_as}
+use Rattle.chk_book.proofs.Works.{worked}
 use Rattle.chk_world.proofs.LogEnds.{legal_modelled}
-
--- a book of a legal history has no wrong field
-undamaged : (o : Option File) (at : ℕ) → OnFile o IsWholeBook → IsNoBookAt (file_bytes o) at → ⊥
-undamaged None at whole bad = bad
-undamaged (Some f) at whole bad =
-    let so = book_so f.bytes whole.book whole.is in
-    none-some at (sym (ap book_damage (sym so.2) ∙ no_damage so.0 whole.book so.1) ∙ bad)
+use Rattle.chk_parts.proofs.Beginning.{undamaged, quiet_read}
 
 -- at Ok the folder has this book, and the job knows what it knew; it is never damaged
 abbrev pub HasLoaded : List (List ℕ) → (Sight → Type 0) → Folder → Result Struct JobFault → History → Type 0
@@ -62,10 +52,6 @@ no_start k = go Starts refl k
     go : (call : Deed) → call ≡ Starts → ReadsFile call → ⊥
     go call is (reads name at max) = absurd (cc)
     go call is (asks name) = absurd (cc)
-
-quiet_read : (call : Deed) → ReadsFile call → talks call ≡ false
-quiet_read call (reads name at max) = refl
-quiet_read call (asks name) = refl
 
 bottom : (stamped : List (List ℕ)) (P : Sight → Type 0) (f : Folder) (r : Result Struct JobFault) (h : History)
     → AtJob stamped (λ u. ⊥) h → HasLoaded stamped P f r h

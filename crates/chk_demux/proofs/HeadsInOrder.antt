@@ -22,7 +22,7 @@ use Rattle.chk_demux.proofs.Places.{not_past, same_size}
 
 -- ---- the order of heads
 
-heads_ordered : WeakOrder head_before
+pub heads_ordered : WeakOrder head_before
 heads_ordered =
     lex (λ (h k : Head). stream_lt h.key.stream k.key.stream) (λ (h k : Head). same_stream h.key.stream k.key.stream)
     (λ (h k : Head). nat_lt h.begin k.begin || (nat_eq h.begin k.begin && nat_lt h.key.seq k.key.seq))

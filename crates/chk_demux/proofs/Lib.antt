@@ -28,6 +28,7 @@ mod NewestHeads
 mod Suffixes
 mod RawSplit
 mod Whole
+mod Thinned
 mod NewestRaw
 mod NextRecords
 mod RunFacts

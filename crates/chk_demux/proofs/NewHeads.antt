@@ -1,20 +1,19 @@
 -- That a record of the archive has bytes that aren't split, as own reads of a demux run show it.
-use Rattle.std.proofs.Common.{◌≡◌, inl, inr, ℕ, ◌<◌, ◌-◌, ◌^◌, Bool, true, false, true≢false, List, [], ◌∷◌, ◌++◌, length, codes, Option, Ok, Err, Result, refl, sym, subst, ◌∙◌, arith}
+use Rattle.std.proofs.Common.{◌≡◌, inl, inr, ℕ, ◌<◌, ◌-◌, ◌^◌, Bool, true, false, true≢false, List, ◌++◌, length, codes, Option, Ok, Err, Result, refl, sym, subst, ◌∙◌, arith}
 use Rattle.std.specs.Prelude.{Contains, IsTrue, IfErr, OnOk}
 use Rattle.std.proofs.lemmas.List.Elements.{Contains-get_or}
 use Rattle.chk_site.specs.History.{History}
 use Rattle.chk_site.specs.Site.{Adds}
 use Rattle.chk_site.proofs.Runs.{adds_then, adds_as}
 use Rattle.chk_world.specs.Books.{Book, End, ends_rise}
-use Rattle.chk_world.proofs.Each.{Each, each_from, each_at}
+use Rattle.chk_world.proofs.Each.{each_from, each_at}
 use Rattle.chk_world.proofs.SpelledLemmas.{book_so}
 use Rattle.chk_heads.specs.Heads.{Head}
-use Rattle.chk_heads.specs.Order.{no_head, head_before, sort_by, in_head_order}
+use Rattle.chk_heads.specs.Order.{no_head, head_before, in_head_order}
 use Rattle.chk_heads.specs.Shown.{Within}
 use Rattle.chk_heads.specs.Faults.{IsOfRead, IsOfWrite}
 use Rattle.chk_heads.specs.declared.fault.JobFault.{JobFault}
 use Rattle.chk_heads.specs.declared.fault.JobFault.TheVariants.{Outside, Damaged, Spent, NoMemory}
-use Rattle.chk_heads.proofs.Sorting.{each_put}
 use Rattle.chk_heads.proofs.Showing.{within_late, within_early}
 use Rattle.chk_book.specs.Books.{book_view}
 use Rattle.chk_book.specs.Loaded.{ShowsBook}
@@ -23,27 +22,24 @@ use Rattle.chk_demux.specs.declared.beginning.Books.{Books}
 use Rattle.chk_demux.specs.Splitting.{split_from, ends_past}
 use Rattle.chk_demux.specs.Shown.{HasPast, HasNew, ShowsNew, ShowsNewestSound, PutsIf, ShowsPut, SpentBy, ShowsBegun, ShowsSpent}
 use Rattle.chk_demux.proofs.NewRecords.{rise_of}
+use Rattle.chk_merge.proofs.SortedStream.{each_sort}
 
 -- ---- one of the heads, in whatever order
-
-each_sort : {X : Type 0} (P : X → Type 0) (lt : X → X → Bool) (xs : List X) → Each P xs
-    → Each P (sort_by lt xs)
-each_sort P lt [] ps = tt
-each_sort P lt (x ∷ xs) ps = each_put lt P x (sort_by lt xs) ps.0 (each_sort P lt xs ps.1)
 
 pub in_sorted : (heads : List Head) (h : Head) → Contains (in_head_order heads) h → Contains heads h
 in_sorted heads h one =
     each_at (Contains heads) (in_head_order heads) h
     (each_sort (Contains heads) head_before heads (each_from (Contains heads) heads (λ x k. k))) one
 
-new_found : (archive records : Book) (heads found : List Head) → heads ≡ in_head_order found
+new_found : (archive records : Book) (heads found : List Head)
+    → ((h : Head) → Contains heads h → Contains (in_head_order found) h)
     → HasNew archive records heads → HasNew archive records found
-new_found archive records heads found order (e, named, past) = (
+new_found archive records heads found some (e, named, past) = (
   e,
   named,
   (
     past.0,
-    in_sorted found past.0 (subst (λ hs. Contains hs past.0) order past.1),
+    in_sorted found past.0 (some past.0 past.1),
     past.2,
   ),
 )

@@ -71,6 +71,85 @@ pieces_some true bytes = go (lines_from [] bytes) (lines_some [] bytes)
     go [] all = tt
     go (line ∷ lines) all = records_some line lines all.0 all.1
 
+-- ---- chunks of a stream among which others are
+
+module _ (e : End) (from : ℕ) (all new : List Chunk) (whole : RunsSo all e from)
+    (runs : RunsSo new e from)
+    (among : (c : Chunk) → Contains new c → is_of e.stream c ≡ true → Contains all c) (v : Sight)
+    (files : List (List ℕ)) (heads hs : List Head) (all_heads : AreRecords v files heads all)
+    (new_heads : AreRecords v files hs new) where
+  -- both find the same cluster for a byte
+  same_cluster : (at : ℕ) → from ≤ at → at < e.end
+      → cluster_back hs e.stream at (length hs) ≡ cluster_back heads e.stream at (length heads)
+  same_cluster at on before =
+      let low = runs.from_on in
+      let h = held_by e.stream e.start runs.first e.end at new runs.run (omega (arith, low, on))
+      before in
+      let c = slice_index_or new h.index no_chunk in
+      let one : Contains all c = among c (Contains-get_or new h.index no_chunk h.low) h.of in
+      let there : slice_index_or all one.0 no_chunk ≡ c =
+      get_or_default all one.0 no_chunk c one.1 ∙ one.2 in
+      let k : Holds e.stream e.start at all =
+      record {
+        index = one.0;
+        low = one.1;
+        of = subst (λ x. is_of e.stream x ≡ true) (sym there) h.of;
+        start_is = ap (λ (x : Chunk). x.key.start) there ∙ h.start_is;
+        on = subst (λ x. chunk_begin x ≤ at) (sym there) h.on;
+        before = subst (λ x. at < chunk_end x) (sym there) h.before;
+      } in
+      cluster_of v files hs new e from new_heads runs at on h
+      ∙ (sym (ap (λ (x : Chunk). x.key.cluster) there)
+      ∙ sym (cluster_of v files heads all e from all_heads whole at on k))
+
+  same_records : (at : ℕ) (ps : List (List ℕ)) → from ≤ at
+      → (at + length (joined ps) ≤ e.end) ⊎ (length (joined ps) ≡ 0) → Each IsSome ps
+      → map (record_chunk hs e) (ends_from at ps) ≡ map (record_chunk heads e) (ends_from at ps)
+  same_records at [] on fits some = refl
+  same_records at (p ∷ ps) on fits some =
+      let has : 0 < length p = some.0 in
+      let size = length-append p (joined ps) in
+      let begins : at + length p - length p ≡ at = omega arith in
+      let below : at < e.end = elim fits [
+        | inl low ↦ omega (arith, low, size, has)
+        | inr none ↦ absurd (let z : ⊥ = omega (arith, none, size, has) in z)
+      ] in
+      ap₂ (λ x xs. x ∷ xs)
+      (ap (λ k. keyed e k (at + length p) p)
+      (subst (λ n. cluster_back hs e.stream n (length hs)
+      ≡ cluster_back heads e.stream n (length heads)) (sym begins) (same_cluster at on below)))
+      (same_records (at + length p) ps (omega (arith, on))
+      (elim fits [
+        | inl low ↦ inl (omega (arith, low, size))
+        | inr none ↦ absurd (let z : ⊥ = omega (arith, none, size, has) in z)
+      ]) some.1)
+
+  -- the complete records end at the stream's end or below it
+  records_fit : (t : Bool)
+      → (from + length (joined (pieces_of t (past_in from e.stream new))) ≤ e.end)
+      ⊎ (length (joined (pieces_of t (past_in from e.stream new))) ≡ 0)
+  records_fit t =
+      let mine = each_filter HasBytes (is_of e.stream) new runs.bytes in
+      let own = filter (is_of e.stream) new in
+      let fit = pieces_fit t (past_in from e.stream new) in
+      let past = ap length (past_values e.start runs.first e.end own from mine runs.run) in
+      let size = length-drop (from - runs.first) (values own) in
+      let run = run_length e.start runs.first own e.end mine runs.run in
+      let low = runs.from_on in
+      elim (cases_lt e.end from) [
+        | inl over ↦ inr (omega (arith, fit, past, size, run, low, over))
+        | inr up ↦ inl (omega (arith, fit, past, size, run, low, up))
+      ]
+
+  -- what is the same from an offset on gives the same records
+  pub fed_alike : (t : Bool) → past_in from e.stream new ≡ past_in from e.stream all
+      → chunks_of_fed hs e from t (past_in from e.stream new)
+      ≡ chunks_of_fed heads e from t (past_in from e.stream all)
+  fed_alike t same =
+      same_records from (pieces_of t (past_in from e.stream new)) (omega arith) (records_fit t)
+      (pieces_some t (past_in from e.stream new))
+      ∙ ap (chunks_of_fed heads e from t) same
+
 -- ---- what stands in front of the newest ones
 
 -- a run that goes on as another one does runs up to where that begins
@@ -129,79 +208,14 @@ module _ (front new : List Chunk) (e : End) (from : ℕ) (whole : RunsSo (front 
       (subst (λ l. Contains l c) (sym (order_keeps (front ++ new) e from whole))
       (in_filter (is_of e.stream) (front ++ new) c (Contains-append_right front new c (all_put new c one)) mine))
 
-  module _ (v : Sight) (files : List (List ℕ)) (heads hs : List Head) (all_heads : AreRecords v files heads (in_order (front ++ new)))
-      (new_heads : AreRecords v files hs (in_order new)) where
-    -- both find the same cluster for a byte
-    same_cluster : (at : ℕ) → from ≤ at → at < e.end
-        → cluster_back hs e.stream at (length hs) ≡ cluster_back heads e.stream at (length heads)
-    same_cluster at on before =
-        let r = runs_in_order new e from runs in
-        let w = runs_in_order (front ++ new) e from whole in
-        let low = r.from_on in
-        let h = held_by e.stream e.start r.first e.end at (in_order new) r.run (omega (arith, low, on)) before in
-        let c = slice_index_or (in_order new) h.index no_chunk in
-        let one : Contains (in_order (front ++ new)) c =
-        among_all c (Contains-get_or (in_order new) h.index no_chunk h.low) h.of in
-        let there : slice_index_or (in_order (front ++ new)) one.0 no_chunk ≡ c =
-        get_or_default (in_order (front ++ new)) one.0 no_chunk c one.1 ∙ one.2 in
-        let k : Holds e.stream e.start at (in_order (front ++ new)) =
-        record {
-          index = one.0;
-          low = one.1;
-          of = subst (λ x. is_of e.stream x ≡ true) (sym there) h.of;
-          start_is = ap (λ (x : Chunk). x.key.start) there ∙ h.start_is;
-          on = subst (λ x. chunk_begin x ≤ at) (sym there) h.on;
-          before = subst (λ x. at < chunk_end x) (sym there) h.before;
-        } in
-        cluster_of v files hs (in_order new) e from new_heads r at on h
-        ∙ (sym (ap (λ (x : Chunk). x.key.cluster) there)
-        ∙ sym (cluster_of v files heads (in_order (front ++ new)) e from all_heads w at on k))
-
-    same_records : (at : ℕ) (ps : List (List ℕ)) → from ≤ at → (at + length (joined ps) ≤ e.end) ⊎ (length (joined ps) ≡ 0)
-        → Each IsSome ps → map (record_chunk hs e) (ends_from at ps) ≡ map (record_chunk heads e) (ends_from at ps)
-    same_records at [] on fits some = refl
-    same_records at (p ∷ ps) on fits some =
-        let has : 0 < length p = some.0 in
-        let size = length-append p (joined ps) in
-        let begins : at + length p - length p ≡ at = omega arith in
-        let below : at < e.end = elim fits [
-          | inl low ↦ omega (arith, low, size, has)
-          | inr none ↦ absurd (let z : ⊥ = omega (arith, none, size, has) in z)
-        ] in
-        ap₂ (λ x xs. x ∷ xs)
-        (ap (λ k. keyed e k (at + length p) p)
-        (subst (λ n. cluster_back hs e.stream n (length hs) ≡ cluster_back heads e.stream n (length heads)) (sym begins)
-        (same_cluster at on below)))
-        (same_records (at + length p) ps (omega (arith, on))
-        (elim fits [
-          | inl low ↦ inl (omega (arith, low, size))
-          | inr none ↦ absurd (let z : ⊥ = omega (arith, none, size, has) in z)
-        ]) some.1)
-
-    -- the complete records end at the stream's end or below it
-    records_fit : (t : Bool)
-        → (from + length (joined (pieces_of t (past_in from e.stream (in_order new)))) ≤ e.end)
-        ⊎ (length (joined (pieces_of t (past_in from e.stream (in_order new)))) ≡ 0)
-    records_fit t =
-        let r = runs_in_order new e from runs in
-        let mine = each_filter HasBytes (is_of e.stream) (in_order new) r.bytes in
-        let own = Mine (in_order new) in
-        let fit = pieces_fit t (past_in from e.stream (in_order new)) in
-        let past = ap length (past_values e.start r.first e.end own from mine r.run) in
-        let size = length-drop (from - r.first) (values own) in
-        let run = run_length e.start r.first own e.end mine r.run in
-        let low = r.from_on in
-        elim (cases_lt e.end from) [
-          | inl over ↦ inr (omega (arith, fit, past, size, run, low, over))
-          | inr up ↦ inl (omega (arith, fit, past, size, run, low, up))
-        ]
-
-    pub same_fed : (t : Bool) → chunks_of_fed hs e from t (past_in from e.stream (in_order new))
-        ≡ chunks_of_fed heads e from t (past_in from e.stream (in_order (front ++ new)))
-    same_fed t =
-        same_records from (pieces_of t (past_in from e.stream (in_order new))) (omega arith) (records_fit t)
-        (pieces_some t (past_in from e.stream (in_order new)))
-        ∙ ap (chunks_of_fed heads e from t) same_bytes
+  pub same_fed : (v : Sight) (files : List (List ℕ)) (heads hs : List Head)
+      → AreRecords v files heads (in_order (front ++ new)) → AreRecords v files hs (in_order new)
+      → (t : Bool) → chunks_of_fed hs e from t (past_in from e.stream (in_order new))
+      ≡ chunks_of_fed heads e from t (past_in from e.stream (in_order (front ++ new)))
+  same_fed v files heads hs all_heads new_heads t =
+      fed_alike e from (in_order (front ++ new)) (in_order new)
+      (runs_in_order (front ++ new) e from whole) (runs_in_order new e from runs) among_all v files
+      heads hs all_heads new_heads t same_bytes
 
 -- ---- all streams
 

@@ -1,6 +1,6 @@
 -- What the reading of the newest segments leads to, whatever was told before, and what it shows.
-use Rattle.std.proofs.Common.{◌≡◌, ℕ, List, ◌++◌, Option, Some, None, Ok, Err, Result, subst, arith}
-use Rattle.std.specs.Prelude.{IsTrue, drop, ◌≤◌, codes}
+use Rattle.std.proofs.Common.{◌≡◌, ◌∙◌, ℕ, List, ◌++◌, Option, Some, None, Ok, Err, Result, subst, arith}
+use Rattle.std.specs.Prelude.{Contains, IsTrue, drop, ◌≤◌, codes}
 use Rattle.chk_site.specs.Files.{Files}
 use Rattle.chk_site.specs.History.{History, Every}
 use Rattle.chk_site.specs.Site.{Adds}
@@ -9,7 +9,9 @@ use Rattle.chk_site.proofs.Runs.{adds_as, adds_both, adds_then}
 use Rattle.chk_site.proofs.Leads.{leads_as, leads_then, owned_anyhow}
 use Rattle.chk_world.specs.Books.{Book, ends_rise}
 use Rattle.chk_world.specs.JobSteps.{IsOf, ReadsFile}
+use Rattle.chk_world.proofs.Each.{filter_in}
 use Rattle.chk_heads.specs.Heads.{Head}
+use Rattle.chk_heads.specs.Order.{in_head_order}
 use Rattle.chk_heads.specs.Faults.{IsOfWrite}
 use Rattle.chk_heads.specs.declared.fault.JobFault.{JobFault}
 use Rattle.chk_heads.specs.declared.fault.JobFault.TheVariants.{Outside, Damaged, Spent, NoMemory}
@@ -19,11 +21,13 @@ use Rattle.chk_merge.specs.Merging.{SoundHeads}
 use Rattle.chk_merge.specs.Segments.{names_of, HasFiles, SparesFiles, AreSettled}
 use Rattle.chk_merge.proofs.Causes.{late_unsound}
 use Rattle.chk_merge.proofs.Frames.{reads_quiet}
+use Rattle.chk_newest.specs.Forward.{is_past, past_of}
 use Rattle.chk_newest.specs.Newest.{Suffice, FoundFrom, are_found, too_few, FoundNewest, ShowsNewest}
 use Rattle.chk_demux.proofs.Whole.{whole_back, whole_starts}
 use Rattle.chk_demux.specs.Enough.{places_for, AreNewest, SoundNewest, IsEnoughFrom, SoundOlder}
 use Rattle.chk_demux.specs.Shown.{ShowsNewestSound}
 use Rattle.chk_demux.proofs.RawReads.{beside, files_stay}
+use Rattle.chk_demux.proofs.Thinned.{filter_in_order}
 
 module _ (a b : Book) (files : Files) (sorted : IsTrue (ends_rise a.ends))
     (settled : AreSettled (names_of (codes "archive") a) files) (names : List (List ℕ))
@@ -177,17 +181,26 @@ module _ (a b : Book) (files : Files) (k : ℕ) (enough : IsEnoughFrom a b files
 
 -- ---- what own reads show
 
-module _ (a : Book) (names : List (List ℕ)) (are : names ≡ names_of (codes "archive") a) where
+module _ (a : Book) (names : List (List ℕ)) (are : names ≡ names_of (codes "archive") a)
+    (places : List ℕ) where
+  -- heads that are picked out are some of all of them
+  some_of : (heads found : List Head) → heads ≡ in_head_order (past_of a.ends places found)
+      → (h : Head) → Contains heads h → Contains (in_head_order found) h
+  some_of heads found order h one =
+      filter_in (is_past a.ends places) (in_head_order found) h
+      (subst (λ hs. Contains hs h)
+      (order ∙ filter_in_order (is_past a.ends places) found) one)
+
   pub newest_shown : (heads : List Head) (r : Result (Option (List Head)) JobFault)
       → r ≡ Ok (Some heads) → {old mid : Option History}
-      → Adds old mid (ShowsNewest a.ends names r)
+      → Adds old mid (ShowsNewest a.ends places names r)
       → Adds old mid (ShowsNewestSound a (Ok heads))
   newest_shown heads r is told =
       adds_as (ShowsNewestSound a (Ok heads)) told
       (λ added history x.
-      let y = subst (λ ws. ShowsNewest a.ends ws (Ok (Some heads)) added history) are
-      (subst (λ v. ShowsNewest a.ends names v added history) is x) in
-      (y.first, y.found, y.order, within_all _ added history y.show))
+      let y = subst (λ ws. ShowsNewest a.ends places ws (Ok (Some heads)) added history) are
+      (subst (λ v. ShowsNewest a.ends places names v added history) is x) in
+      (y.first, y.found, some_of heads y.found y.order, within_all _ added history y.show))
 
   pub newest_shows_none : (fault : JobFault) → IsOfWrite fault → {P : History → History → Type 0}
       {old mid : Option History} → Adds old mid P → Adds old mid (ShowsNewestSound a (Err fault))
@@ -208,8 +221,12 @@ module _ (a : Book) (names : List (List ℕ)) (are : names ≡ names_of (codes "
       go : (q : Result (List Head) JobFault) (p d history : History)
           → ShowsSound (codes "archive") a q d (p ++ history)
           → ShowsNewestSound a q (d ++ p) history
-      go (Ok heads) p d history y =
-          (0, y.0, y.1, within_late _ d p history (within_all _ d (p ++ history) y.2))
+      go (Ok heads) p d history y = (
+        0,
+        y.0,
+        (λ h one. subst (λ l. Contains l h) y.1 one),
+        within_late _ d p history (within_all _ d (p ++ history) y.2),
+      )
       go (Err (Outside call)) p d history y = tt
       go (Err (Damaged name at)) p d history y =
           late_unsound (codes "archive") a name at d p history y

@@ -1,5 +1,5 @@
 -- In a legal history the heads of the newest segments are enough.
-use Rattle.std.proofs.Common.{◌≡◌, ℕ, zero, suc, ◌≤◌, false, List, drop, get_or, Option, Some, Ok, Err, Result, ap, sym, subst, ◌∙◌, refl, arith}
+use Rattle.std.proofs.Common.{◌≡◌, ℕ, zero, suc, ◌≤◌, false, List, drop, get_or, Option, Some, Ok, Err, Result, ap, sym, subst, ◌∙◌, refl, arith, ap₂}
 use Rattle.std.specs.Prelude.{Contains, IsTrue, codes, max}
 use Rattle.std.proofs.lemmas.List.{get_or-map, get_or_default}
 use Rattle.chk_site.specs.History.{History, Every, is_stopped}
@@ -21,6 +21,7 @@ use Rattle.chk_merge.specs.Segments.{names_of, HasFiles, SparesFiles, AreSettled
 use Rattle.chk_merge.specs.Checking.{AllGoWell}
 use Rattle.chk_merge.specs.OnePass.{no_end, end_at}
 use Rattle.chk_newest.specs.Backward.{begin_in, AllRunBack}
+use Rattle.chk_newest.specs.Forward.{past_of}
 use Rattle.chk_newest.specs.Newest.{ReachFar, IsNewest, FoundFrom, are_found, too_few, FoundNewest}
 use Rattle.chk_parts.specs.Gathering.{held, heads_of, AreSound}
 use Rattle.chk_parts.specs.Records.{AreRecords, found_in}
@@ -33,6 +34,7 @@ use Rattle.chk_demux.proofs.ArchiveWell.{heads_same}
 use Rattle.chk_demux.proofs.Ends.{ends_as}
 use Rattle.chk_demux.proofs.HeadsInOrder.{streams_rise}
 use Rattle.chk_demux.proofs.NewestHeads.{enough}
+use Rattle.chk_demux.proofs.Thinned.{thinned}
 
 -- a refusal without damage is one of reading
 pub of_read : (fault : JobFault) → IsOfWrite fault → IsOfRead fault
@@ -91,23 +93,30 @@ module _ (stamped : List (List ℕ)) (a b : Book) (v : Sight) (cs : List Chunk) 
         ∙ (get_or-map (split_from b) a.ends one.0 no_end 0 one.1 ∙ ap (split_from b) is) in
         subst (λ n. begin_in e hs ≤ n) place (subst (λ d. begin_in d hs ≤ get_or places one.0 0) is (far one.0 one.1))
 
-    reach_of : (j : ℕ) (heads : List Head) → IsNewest a.ends places names (held v) j heads → Reach v a b names heads
+    reach_of : (j : ℕ) (heads : List Head) → IsNewest a.ends places names (held v) j heads
+        → Reach v a b names (in_head_order (heads_of v j (drop j names)))
     reach_of j heads n = record {
       first = j;
       within = n.within;
       run = subst (AllRunBack a.ends) (heads_same v j (drop j names)) n.suffice.run;
       far = subst (λ hs. (e : End) → Contains a.ends e → begin_in e hs ≤ split_from b e) (heads_same v j (drop j names))
           (far_of j _ n.suffice.far);
-      order = n.order ∙ ap in_head_order (heads_same v j (drop j names));
+      order = refl;
     }
 
     newest_enough : (heads : List Head) → FoundFrom a.ends places names (held v) 0 heads
         → Enough v a b names (archive_heads v a) cs heads
     newest_enough heads (are_found j up n) =
-        subst (λ ws. Enough v a b names (in_head_order (heads_of v 0 ws)) cs heads) are
+        subst (λ hs. Enough v a b names (archive_heads v a) cs hs)
+        (sym (n.order ∙ ap₂ (λ ps hs. in_head_order (past_of a.ends ps hs)) (placed can.rises)
+        (heads_same v j (drop j names))))
+        (thinned v a b names (archive_heads v a) cs (heads_of v j (drop j names)) can.sorted
+        (subst (λ ws. Enough v a b names (in_head_order (heads_of v 0 ws)) cs
+        (in_head_order (heads_of v j (drop j names)))) are
         (enough v a b names cs
         (subst (λ ws. AreRecords v ws (in_head_order (heads_of v 0 ws)) cs) (sym are) can.records) can.runs
-        (subst (λ ws. SplitAll (found_in v ws) a.ends b) (sym are) can.unsorted) heads (reach_of j heads n))
+        (subst (λ ws. SplitAll (found_in v ws) a.ends b) (sym are) can.unsorted)
+        (in_head_order (heads_of v j (drop j names))) (reach_of j heads n))))
     newest_enough heads (too_few some few) = absurd (let z : ⊥ = omega (arith, some) in z)
 
     module _ (r : Result (Option (List Head)) JobFault) {old mid : Option History}

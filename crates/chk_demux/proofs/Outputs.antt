@@ -21,7 +21,8 @@ use Rattle.chk_demux.specs.Working.{EndsSo, Worked}
 use Rattle.chk_demux.specs.Writes.{IsFree, IsSoFar, SoFar, PutSoFar, IsOutput, IsForDemux, IsWriter, HasSome, bytes_of}
 use Rattle.chk_demux.specs.declared.output.Output.{Output}
 use Rattle.chk_demux.proofs.Ends.{at_as, so_fails, so_done}
-use Rattle.chk_demux.proofs.Works.{works_none, works_memory, works_value, works_end}
+use Rattle.chk_parts.proofs.Works.{works_memory, works_value, works_end}
+use Rattle.chk_book.proofs.Works.{works_none}
 
 -- what less is asked before
 pub before_as : (stamped : List (List ℕ)) (P Q : Sight → Type 0) (C : History → Type 0) → ((u : Sight) → P u → Q u)

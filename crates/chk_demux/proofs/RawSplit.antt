@@ -1,6 +1,6 @@
 -- What the split of an archive's newest segments leads to, whatever was told before.
 use Rattle.std.proofs.Common.{◌≡◌, ◌∙◌, ℕ, ◌≤◌, ◌-◌, zero, suc, ◌+◌, ◌<◌, ◌^◌, Bool, true, false, List, [], ◌∷◌, ◌++◌, length, take, drop, map, Option, Some, None, Ok, Err, Result, ap, ap₂, sym, subst, refl, arith, if◌then◌else◌, get_or}
-use Rattle.std.specs.Prelude.{Contains, bytes_eq, codes, filter_map}
+use Rattle.std.specs.Prelude.{Contains, IsTrue, bytes_eq, codes, filter, filter_map}
 use Rattle.std.specs.List.{list_any}
 use Rattle.std.proofs.lemmas.List.{take-append-drop, drop-drop, length-take-le}
 use Rattle.std.proofs.lemmas.List.Elements.{Contains-append_right}
@@ -18,11 +18,11 @@ use Rattle.chk_seqfile.specs.Headers.{header}
 use Rattle.chk_seqfile.proofs.FileLemmas.{IsSequenceFile-header, records_of-written_header}
 use Rattle.chk_seqfile.proofs.HeaderLemmas.{length-header}
 use Rattle.chk_world.specs.ArchiveRuns.{in_order}
-use Rattle.chk_world.specs.Books.{Segment, Book, AllChunks, chunk_of, chunks_within}
+use Rattle.chk_world.specs.Books.{Segment, Book, AllChunks, chunk_of, chunks_within, ends_rise}
 use Rattle.chk_world.specs.TrueBooks.{HasBytes}
 use Rattle.chk_world.specs.Names.{ArchiveFolder, SegmentFile, read, spell}
 use Rattle.chk_world.specs.Sight.{Sight}
-use Rattle.chk_world.proofs.Each.{Each, each_at, later_one}
+use Rattle.chk_world.proofs.Each.{Each, each_at, each_filter, filter_in, later_one}
 use Rattle.chk_world.proofs.BooksTrue.{each_flat, each_within}
 use Rattle.chk_world.proofs.NameLemmas.{read-spell}
 use Rattle.chk_world.proofs.Segments.{none_in}
@@ -39,16 +39,18 @@ use Rattle.chk_parts.specs.Records.{AreRecords, chunks_held, file_at, found_in}
 use Rattle.chk_parts.proofs.FoundRecords.{records_in_order}
 use Rattle.chk_parts.proofs.OneSegment.{segment_spelled}
 use Rattle.chk_demux.specs.Damage.{HasCounts, AreOfNew, NotDamaged, SplitSoundly}
-use Rattle.chk_demux.specs.Due.{HasDue}
-use Rattle.chk_demux.specs.Enough.{RunsFrom, AreNewest, SoundNewest, SoundOlder}
+use Rattle.chk_newest.specs.Forward.{is_past, past_of as heads_past}
+use Rattle.chk_demux.specs.Due.{HasRecord, HasDue}
+use Rattle.chk_demux.specs.Enough.{places_for, RunsFrom, AreNewest, SoundNewest, SoundOlder}
 use Rattle.chk_demux.specs.Shown.{PutsIf}
-use Rattle.chk_demux.specs.Splitting.{StreamsRise}
-use Rattle.chk_demux.proofs.Due.{order_bytes}
+use Rattle.chk_demux.specs.Splitting.{is_stamped, StreamsRise}
+use Rattle.chk_demux.proofs.Due.{order_bytes, put_as}
 use Rattle.chk_demux.proofs.HeadsInOrder.{streams_rise}
 use Rattle.chk_demux.proofs.NewHeads.{in_sorted}
 use Rattle.chk_demux.proofs.NewestHeads.{suffix_records}
 use Rattle.chk_demux.proofs.RawReads.{among_more, given}
 use Rattle.chk_demux.proofs.Suffixes.{suffix_chunks, suffix_files}
+use Rattle.chk_demux.proofs.Thinned.{chunk_past, filter_in_order, past_records, past_same}
 
 -- ---- a file without records
 
@@ -214,45 +216,81 @@ module _ (b records : Book) (files : Files) (least : ℕ)
       ap₂ (λ o l. chunks_within chunk_limit (bytes_in o) ++ l) (same w (0, omega arith, refl))
       (chunks_alike ws (λ x one. same x (later_one w ws x one)))
 
-  has_bytes : Each HasBytes (in_order (found_in V New))
-  has_bytes =
+  -- the chunks of what is new
+  abbrev Chunks : List Chunk
+  Chunks = filter (chunk_past b records) (in_order (found_in V New))
+
+  all_bytes : Each HasBytes (in_order (found_in V New))
+  all_bytes =
       order_bytes (found_in V New)
       (each_flat HasBytes (chunks_held V) New
       (λ w. each_within chunk_limit (bytes_in (known_file V w))))
 
+  has_bytes : Each HasBytes Chunks
+  has_bytes =
+      each_filter HasBytes (chunk_past b records) (in_order (found_in V New)) all_bytes
+
   front_size : first ≡ length (take first Names)
   front_size = sym (length-take-le first Names runs.within)
 
-  module _ (heads : List Head) (order : heads ≡ in_head_order (heads_from chunk_limit files first New)) where
-    order_v : heads ≡ in_head_order (heads_of V first New)
-    order_v = order ∙ ap in_head_order (heads_alike first New held_new)
+  abbrev Places : List ℕ
+  Places = places_for b records
 
-    are_records : AreRecords V Names heads (in_order (found_in V New))
-    are_records =
-        subst (λ l. AreRecords V Names heads (in_order l))
+  module _ (heads : List Head)
+      (order : heads ≡ in_head_order (heads_past b.ends Places
+      (heads_from chunk_limit files first New))) where
+    order_v : heads ≡ heads_past b.ends Places (in_head_order (heads_of V first New))
+    order_v =
+        order
+        ∙ (ap (λ hs. in_head_order (heads_past b.ends Places hs)) (heads_alike first New held_new)
+        ∙ filter_in_order (is_past b.ends Places) (heads_of V first New))
+
+    all_records : AreRecords V Names (in_head_order (heads_of V first New))
+        (in_order (found_in V New))
+    all_records =
+        subst (λ l. AreRecords V Names (in_head_order (heads_of V first New)) (in_order l))
         (suffix_chunks V Names first (take first Names) New front_size
         (sym (take-append-drop first Names)))
         (suffix_records V Names (in_order (found_in V Names)) (records_in_order V Names sound_all) first
-        runs.within heads order_v)
+        runs.within (in_head_order (heads_of V first New)) refl)
+
+    are_records : AreRecords V Names heads Chunks
+    are_records =
+        subst (λ hs. AreRecords V Names hs Chunks) (sym order_v)
+        (past_records b records V Names (in_head_order (heads_of V first New))
+        (in_order (found_in V New)) all_records)
 
     of_new : AreOfNew Names heads New
     of_new h one =
         each_at (λ (k : Head). Contains New (file_at Names k.file)) (heads_of V first New) h
         (suffix_files V Names New first (take first Names) New front_size
         (sym (take-append-drop first Names)) (λ w k. k))
-        (in_sorted (heads_of V first New) h (subst (λ hs. Contains hs h) order_v one))
+        (in_sorted (heads_of V first New) h
+        (filter_in (is_past b.ends Places) (in_head_order (heads_of V first New)) h
+        (subst (λ hs. Contains hs h) order_v one)))
 
     rise : StreamsRise heads
-    rise = subst StreamsRise (sym order) (streams_rise (heads_from chunk_limit files first New))
+    rise =
+        subst StreamsRise (sym order)
+        (streams_rise (heads_past b.ends Places (heads_from chunk_limit files first New)))
 
-  module _ (types : List (List ℕ)) (m n : ℕ) where
+  module _ (sorted : IsTrue (ends_rise b.ends)) (types : List (List ℕ)) (m n : ℕ) where
+    due : HasDue types b records Chunks → HasDue types b records (in_order (found_in V New))
+    due (e, named, has) = (
+      e,
+      named,
+      subst (HasRecord (is_stamped types e.stream.kind))
+          (past_same b records sorted e named (in_order (found_in V New)) all_bytes) has,
+    )
+
     soundly : (q : Result ℕ JobFault) (h : History)
-        → NotDamaged (PutsIf (HasDue types b records (in_order (found_in V New))) m n) q h
+        → NotDamaged (PutsIf (HasDue types b records Chunks) m n) q h
         → SplitSoundly types b records files m n q h
     soundly (Ok left) h puts = (
       first,
       runs,
-      subst (λ cs. PutsIf (HasDue types b records (in_order cs)) m n) (chunks_alike New held_new) puts,
+      subst (λ cs. PutsIf (HasDue types b records (in_order cs)) m n) (chunks_alike New held_new)
+          (put_as m n due puts),
     )
     soundly (Err (Outside call)) h puts = tt
     soundly (Err (Damaged name at)) h puts = absurd puts
@@ -285,7 +323,7 @@ module _ (b : Book) (files : Files) (settled : AreSettled (names_of (codes "arch
       go (Spent n) h z = tt
       go NoMemory h z = tt
 
-  pub heads_read : (heads : List Head) → r ≡ Ok heads → (ns : List (List ℕ)) → ns ≡ All → (k : ℕ)
+  pub heads_read : IsTrue (ends_rise b.ends) → (heads : List Head) → r ≡ Ok heads → (ns : List (List ℕ)) → ns ≡ All → (k : ℕ)
       → (q : Result ℕ JobFault) {P : History → History → Type 0} {new : Option History}
       → Adds mid new P
       → ((v : Sight) (cs : List Chunk) (ws : List (List ℕ)) → AreRecords v ns heads cs
@@ -296,7 +334,7 @@ module _ (b : Book) (files : Files) (settled : AreSettled (names_of (codes "arch
       (NotDamaged (PutsIf (HasDue types b records cs) m n) q)))
       → Adds old new (Leads (anyhow (SparesFiles All)) (HasFiles All files)
       (SplitSoundly types b records files m n q))
-  heads_read heads is ns are k q {new = new} made raw =
+  heads_read sorted heads is ns are k q {new = new} made raw =
       leads_then
       (leads_as {B' = λ h. AreNewest b records files heads × HasFiles All files h} (λ h z. z)
       (λ h z. let y = subst (λ x. SoundNewest b records files x h) is z in (y.1, y.0)) told)
@@ -308,14 +346,15 @@ module _ (b : Book) (files : Files) (settled : AreSettled (names_of (codes "arch
       on x =
           let now = drop x.first All in
           let v = V b records files 0 settled counts x.first (from_zero x.first) x.runs in
+          let cs = Chunks b records files 0 settled counts x.first (from_zero x.first) x.runs in
           among_more All now files (in_names b records files 0 settled counts x.first
           (from_zero x.first) x.runs)
           (leads_as (λ h z w one. z w one ∙ sym
           (held_new b records files 0 settled counts x.first (from_zero x.first) x.runs w one))
           (λ h z. soundly b records files 0 settled counts x.first
-          (from_zero x.first) x.runs types m n q h z)
-          (raw v (in_order (found_in v now)) now
-          (subst (λ ws. AreRecords v ws heads (in_order (found_in v now))) (sym are)
+          (from_zero x.first) x.runs sorted types m n q h z)
+          (raw v cs now
+          (subst (λ ws. AreRecords v ws heads cs) (sym are)
           (are_records b records files 0 settled counts x.first
           (from_zero x.first) x.runs heads x.order))
           (has_bytes b records files 0 settled counts x.first (from_zero x.first) x.runs)
@@ -386,13 +425,14 @@ module _ (b records : Book) (files : Files) (least : ℕ)
       on x up =
           let now = drop x.first (names_of (codes "archive") b) in
           let v = V b records files least settled counts x.first up x.runs in
+          let cs = Chunks b records files least settled counts x.first up x.runs in
           among_more Least now files
           (in_least b records files least settled counts x.first up x.runs)
           (leads_as (λ h z w one. z w one ∙ sym
           (held_new b records files least settled counts x.first up x.runs w one))
-          (λ h z. clear (X (in_order (found_in v now))) q h z)
-          (raw v (in_order (found_in v now)) now
-          (subst (λ ws. AreRecords v ws heads (in_order (found_in v now))) (sym are)
+          (λ h z. clear (X cs) q h z)
+          (raw v cs now
+          (subst (λ ws. AreRecords v ws heads cs) (sym are)
           (are_records b records files least settled counts x.first up x.runs heads x.order))
           (has_bytes b records files least settled counts x.first up x.runs)
           (subst (λ ws. AreOfNew ws heads now) (sym are)

@@ -48,7 +48,8 @@ use Rattle.chk_demux.proofs.Ends.{at_as, ends_bottom, so_fails, so_done, no_more
 use Rattle.chk_parts.proofs.Published.{replaces_no_start, quiet_replace}
 use Rattle.chk_demux.proofs.RunFacts.{CanRun, News}
 use Rattle.chk_demux.proofs.Streams.{reads_or_writes_start, quiet_reads_or_writes}
-use Rattle.chk_demux.proofs.Works.{own_of, worked, works_as, works_then}
+use Rattle.chk_parts.proofs.Works.{works_as}
+use Rattle.chk_book.proofs.Works.{works_then, own_of, worked}
 use Rattle.chk_parts.proofs.OneSegment.{quiet_write}
 use Rattle.chk_world.proofs.Lifts.{no_write_starts}
 use Rattle.chk_site.specs.Acts.{Starts}

@@ -1,6 +1,6 @@
 -- What the own reads of a demux run show, from call to call.
 use Rattle.std.proofs.Common.{◌≡◌, ℕ, ◌-◌, ◌^◌, List, ◌++◌, codes, Option, Ok, Err, Result, subst}
-use Rattle.std.specs.Prelude.{IfErr}
+use Rattle.std.specs.Prelude.{Contains, IfErr}
 use Rattle.chk_site.specs.declared.acts.OutsideFault.{OutsideFault}
 use Rattle.chk_site.specs.declared.acts.OutsideFault.TheVariants.{Outside as site_failed, NoMemory as no_memory}
 use Rattle.chk_site.specs.History.{History}
@@ -25,6 +25,13 @@ use Rattle.chk_merge.proofs.Causes.{late_gone_in, late_unsound}
 use Rattle.chk_demux.specs.declared.beginning.Books.{Books}
 use Rattle.chk_demux.specs.Shown.{ShowsArchive, IsUnsoundFrom, whole, lost, ShowsNewestSound, IsDamage, ShowsSpent, no_archive, no_records, unsound, ShowsBegun}
 
+-- one of some heads is one of all of them
+gone_among : (ns : List (List ℕ)) (heads all : List Head) (name : List ℕ) (at : ℕ)
+    (added history : History) → ((h : Head) → Contains heads h → Contains all h)
+    → IsGoneIn ns heads name at added history → IsGoneIn ns all name at added history
+gone_among ns heads all name at added history some (h, one, named, here, gone) =
+    (h, some h one, named, here, gone)
+
 -- a record isn't found again
 pub gone_behind : {T : Type 0} (b : Book) (ns : List (List ℕ)) (heads : List Head) (result : Result T JobFault)
     {old mid new : Option History} → ns ≡ names_of (codes "archive") b → Adds old mid (ShowsNewestSound b (Ok heads))
@@ -39,7 +46,8 @@ gone_behind b ns heads result n so_far told =
     said (Err (Damaged name at)) a d history x y =
         lost x.0 x.1 (within_early _ d a history x.3)
         (subst (λ ws. IsGoneIn ws (in_head_order x.1) name at (d ++ a) history) n
-        (subst (λ hs. IsGoneIn ns hs name at (d ++ a) history) x.2 (late_gone_in ns heads name at d a history y)))
+        (gone_among ns heads (in_head_order x.1) name at (d ++ a) history x.2
+        (late_gone_in ns heads name at d a history y)))
     said (Err (Spent k)) a d history x y = tt
     said (Err NoMemory) a d history x y = tt
 

@@ -7,14 +7,13 @@ use Rattle.chk_site.specs.declared.acts.CallFault.{CallFault}
 use Rattle.chk_site.specs.declared.acts.ActAnswer.{ActAnswer}
 use Rattle.chk_site.specs.declared.acts.Call.TheVariants.{Start}
 use Rattle.chk_site.specs.Files.{Files}
-use Rattle.chk_site.specs.Acts.{Starts, Reads, is_done}
+use Rattle.chk_site.specs.Acts.{is_done}
 use Rattle.chk_site.specs.History.{Step, History, Every, files_after}
-use Rattle.chk_site.specs.Site.{Adds, LastFailed, Asked, asked, own_step, answered, plain, WasDone, IsDone, Calls, Ends}
+use Rattle.chk_site.specs.Site.{Adds, Asked, asked, own_step, answered, plain, WasDone, IsDone, Calls, Ends}
 use Rattle.chk_site.specs.Runs.{Leads}
 use Rattle.chk_site.proofs.Runs.{adds_as, adds_both}
 use Rattle.chk_site.proofs.Leads.{Shows, leads_as, done_leads, ends_leads}
 use Rattle.chk_replace.proofs.CallSteps.{OfOwn, call_each}
-use Rattle.chk_site.proofs.LastCalls.{ended_last as ends_last}
 use Rattle.chk_chunk.specs.Keys.{Chunk}
 use Rattle.chk_world.specs.Names.{Folder, DemuxFolder, Name, BookFile, SegmentFile, file, is_known}
 use Rattle.chk_world.specs.Books.{Segment, Book, book_in, book_of, chunks_in, segment_chunks}
@@ -32,7 +31,9 @@ use Rattle.chk_heads.specs.Pieces.{AsksInPieces}
 use Rattle.chk_demux.specs.Demuxed.{Earlier, Begun, all_named}
 use Rattle.chk_demux.specs.Beginning.{own_earlier, HasRecords, HasStarted, Begins, starts}
 use Rattle.chk_demux.specs.Working.{Worked, job_result}
-use Rattle.chk_demux.proofs.Works.{worked, as_job}
+use Rattle.chk_parts.proofs.Works.{as_job}
+use Rattle.chk_book.proofs.Works.{worked}
+use Rattle.chk_parts.proofs.Beginning.{no_read, start_last}
 
 abbrev pub StartQ : Asked
 StartQ = asked job Start [] 0 0
@@ -147,18 +148,6 @@ module _ (stamped : List (List ℕ)) (all : Earlier) where
 start_is : OfOwn (IsOf Begins) StartQ
 start_is before answer files logs running honest =
     inr (record { own = refl; running = running; honest = honest; by = refl }, starts)
-
--- it reads nothing
-no_read : (name : List ℕ) (at max : ℕ) → Starts ≡ Reads name at max → ⊥
-no_read name at max is = absurd (cc)
-
-start_last : (r : Result (Unit {0}) OutsideFault) (given : Result (Unit {0}) CallFault) {old new : Option History}
-    → MatchResult r (λ _. IsDone given) (λ fault. Ends StartQ.call given fault)
-    → Adds old new (Calls StartQ (answered plain given)) → Adds old new (LastFailed r)
-start_last (Ok value) given is told = adds_as (LastFailed (Ok value)) told (λ added history calls. tt)
-start_last (Err fault) given ends told =
-    adds_as (LastFailed {T = Unit {0}} (Err fault)) told
-    (λ added history calls. ends_last (Unit {0}) plain given fault ends calls)
 
 pub start_works : (r : Result (Unit {0}) OutsideFault) (given : Result (Unit {0}) CallFault) {old new : Option History}
     → MatchResult r (λ _. IsDone given) (λ fault. Ends StartQ.call given fault)

@@ -32,7 +32,7 @@ use Rattle.chk_demux.specs.Splitting.{past_in, RunsSo, HoldsStream, SplitSoFar, 
 use Rattle.chk_demux.specs.declared.output.Output.{Output}
 use Rattle.chk_demux.proofs.Ends.{at_as, so_fails, so_done}
 use Rattle.chk_demux.proofs.HeadsInOrder.{none_before, none_behind}
-use Rattle.chk_demux.proofs.Works.{own_of}
+use Rattle.chk_book.proofs.Works.{own_of}
 use Rattle.chk_demux.proofs.Feeding.{fresh_splits, held_size}
 
 pub none_fed : (heads : List Head) (e : End) (from : ℕ) (b : Bool) → chunks_of_fed heads e from b [] ≡ []

@@ -1,112 +1,19 @@
 -- The own calls of the parts of a run, one behind the other.
-use Rattle.std.proofs.Common.{◌≡◌, ℕ, List, Option, Ok, Err, Result, subst}
+use Rattle.std.proofs.Common.{Option, Result}
 use Rattle.std.specs.Prelude.{codes}
 use Rattle.chk_site.specs.declared.acts.OutsideFault.{OutsideFault}
-use Rattle.chk_site.specs.declared.acts.OutsideFault.TheVariants.{Outside as site_failed, NoMemory as no_memory}
-use Rattle.chk_site.specs.Acts.{Deed}
 use Rattle.chk_site.specs.History.{History, Every}
 use Rattle.chk_site.specs.Site.{Adds, LastFailed}
-use Rattle.chk_site.proofs.Runs.{adds_as, adds_both, adds_none}
-use Rattle.chk_world.specs.JobSteps.{IsOf, WritesTo}
-use Rattle.chk_heads.specs.Faults.{FailsLast}
-use Rattle.chk_heads.specs.Pieces.{AsksInPieces}
-use Rattle.chk_heads.specs.declared.fault.JobFault.{JobFault}
-use Rattle.chk_heads.specs.declared.fault.JobFault.TheVariants.{Outside, Damaged, Spent, NoMemory}
-use Rattle.chk_heads.proofs.Gathering.{every_then}
-use Rattle.chk_parts.proofs.StepKinds.{as_kind, no_reads, writes_no_reads, fails_behind}
+use Rattle.chk_world.specs.JobSteps.{IsOf}
+use Rattle.chk_parts.proofs.StepKinds.{no_reads}
 use Rattle.chk_parts.proofs.Published.{replaces_no_reads}
 use Rattle.chk_demux.specs.Demuxed.{ReplacesBook}
 use Rattle.chk_demux.specs.Working.{Worked, job_result}
-
-pub worked : {T : Type 0} (K : Deed → Type 0) (r : Result T JobFault) {old new : Option History}
-    → Adds old new (Every (IsOf K)) → Adds old new (Every AsksInPieces) → Adds old new (FailsLast r)
-    → Adds old new (Worked K r)
-worked K r own pieces last =
-    adds_both (Worked K r)
-    (adds_both (λ added history. Every (IsOf K) added history × Every AsksInPieces added history) own pieces
-    (λ added history a b. (a, b))) last
-    (λ added history a b. record { own = a.0; pieces = a.1; last = b })
-
-pub own_of : {T : Type 0} (K : Deed → Type 0) (r : Result T JobFault) {old new : Option History}
-    → Adds old new (Worked K r) → Adds old new (Every (IsOf K))
-own_of K r told = adds_as (Every (IsOf K)) told (λ added history w. w.own)
-
-pub pieces_of_work : {T : Type 0} (K : Deed → Type 0) (r : Result T JobFault) {old new : Option History}
-    → Adds old new (Worked K r) → Adds old new (Every AsksInPieces)
-pieces_of_work K r told = adds_as (Every AsksInPieces) told (λ added history w. w.pieces)
-
-pub last_of_work : {T : Type 0} (K : Deed → Type 0) (r : Result T JobFault) {old new : Option History}
-    → Adds old new (Worked K r) → Adds old new (FailsLast r)
-last_of_work K r told = adds_as (FailsLast r) told (λ added history w. w.last)
-
--- one behind the other
-pub works_then : {T U : Type 0} (K : Deed → Type 0) (s : Result T JobFault) (r : Result U JobFault)
-    {old mid new : Option History} → Adds old mid (Worked K s) → Adds mid new (Worked K r) → Adds old new (Worked K r)
-works_then K s r first second =
-    worked K r (every_then (IsOf K) (own_of K s first) (own_of K r second))
-    (every_then AsksInPieces (pieces_of_work K s first) (pieces_of_work K r second))
-    (fails_behind r first (last_of_work K r second))
-
--- the same refusal
-fails_same : (T U : Type 0) (fault : JobFault) (added history : History)
-    → FailsLast {T = T} (Err fault) added history → FailsLast {T = U} (Err fault) added history
-fails_same T U (Outside call) added history k = k
-fails_same T U (Damaged name at) added history k = k
-fails_same T U (Spent n) added history k = k
-fails_same T U NoMemory added history k = k
-
-pub works_fail : (T U : Type 0) (K : Deed → Type 0) (fault : JobFault) {old new : Option History}
-    → Adds old new (Worked {T = T} K (Err fault)) → Adds old new (Worked {T = U} K (Err fault))
-works_fail T U K fault told =
-    adds_as (Worked {T = U} K (Err fault)) told
-    (λ added history w. record { own = w.own; pieces = w.pieces; last = fails_same T U fault added history w.last })
-
--- of a wider kind
-pub works_as : {T : Type 0} (K M : Deed → Type 0) → ((call : Deed) → K call → M call) → (r : Result T JobFault)
-    → {old new : Option History} → Adds old new (Worked K r) → Adds old new (Worked M r)
-works_as K M wider r told =
-    worked M r (as_kind K M wider (own_of K r told)) (pieces_of_work K r told) (last_of_work K r told)
-
--- no call
-pub works_none : {T : Type 0} (K : Deed → Type 0) (value : T) (now : Option History)
-    → Adds now now (Worked {T = T} K (Ok value))
-works_none K value now = adds_none now (Worked K (Ok value)) (λ history. record { own = tt; pieces = tt; last = tt })
-
--- want of memory behind other calls, or another answer
-pub works_end : (T U : Type 0) (K : Deed → Type 0) (value : T) {old new : Option History}
-    → Adds old new (Worked {T = T} K (Ok value)) → Adds old new (Worked {T = U} K (Err NoMemory))
-works_end T U K value told =
-    adds_as (Worked {T = U} K (Err NoMemory)) told (λ added history w. record { own = w.own; pieces = w.pieces; last = tt })
-
-pub works_value : (T U : Type 0) (K : Deed → Type 0) (value : T) (other : U) {old new : Option History}
-    → Adds old new (Worked {T = T} K (Ok value)) → Adds old new (Worked {T = U} K (Ok other))
-works_value T U K value other told =
-    adds_as (Worked {T = U} K (Ok other)) told (λ added history w. record { own = w.own; pieces = w.pieces; last = tt })
-
-pub works_memory : (T : Type 0) (K : Deed → Type 0) (now : Option History)
-    → Adds now now (Worked {T = T} K (Err NoMemory))
-works_memory T K now = adds_none now (Worked {T = T} K (Err NoMemory)) (λ history. record { own = tt; pieces = tt; last = tt })
-
--- writes of one file
-pub worked_writes : {T : Type 0} (w : List ℕ) (r : Result T JobFault) {old new : Option History}
-    → Adds old new (Every (IsOf (WritesTo w))) → Adds old new (FailsLast r) → Adds old new (Worked (WritesTo w) r)
-worked_writes w r own last = worked (WritesTo w) r own (no_reads (WritesTo w) (writes_no_reads w) own) last
-
--- a call of the site's
-pub as_job : {T : Type 0} (r : Result T OutsideFault) {old new : Option History}
-    → Adds old new (LastFailed r) → Adds old new (FailsLast (job_result r))
-as_job (Ok value) told = adds_as (FailsLast (Ok value)) told (λ added history k. tt)
-as_job {T = T} (Err (site_failed call)) told = adds_as (FailsLast {T = T} (Err (Outside call))) told (λ added history k. k)
-as_job {T = T} (Err no_memory) told = adds_as (FailsLast {T = T} (Err NoMemory)) told (λ added history k. tt)
+use Rattle.chk_book.proofs.Works.{worked}
+use Rattle.chk_parts.proofs.Works.{as_job}
 
 -- the replacement of the book of the records
 pub worked_replaces : {T : Type 0} (r : Result T OutsideFault) {old new : Option History}
     → Adds old new (Every (IsOf ReplacesBook)) → Adds old new (LastFailed r) → Adds old new (Worked ReplacesBook (job_result r))
 worked_replaces r own last =
     worked ReplacesBook (job_result r) own (no_reads ReplacesBook (replaces_no_reads (codes "demux")) own) (as_job r last)
-
--- by what it answered
-pub works_result : {T : Type 0} (U : Type 0) (K : Deed → Type 0) (r : Result T JobFault) (fault : JobFault) → r ≡ Err fault
-    → {old new : Option History} → Adds old new (Worked K r) → Adds old new (Worked {T = U} K (Err fault))
-works_result {T} U K r fault e {old} {new} told =
-    works_fail T U K fault (subst (λ x. Adds old new (Worked K x)) e told)

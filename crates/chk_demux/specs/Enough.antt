@@ -14,6 +14,7 @@ use Rattle.chk_merge.specs.Segments.{names_of, HasFiles}
 use Rattle.chk_parts.specs.Gathering.{heads_of}
 use Rattle.chk_parts.specs.Records.{AreRecords}
 use Rattle.chk_newest.specs.Backward.{begin_in, AllRunBack, ReachPlaces}
+use Rattle.chk_newest.specs.Forward.{past_of}
 use Rattle.chk_newest.specs.Newest.{heads_behind, Suffice}
 use Rattle.chk_demux.specs.Splitting.{split_from, SplitAll, StreamsRise, all_chunks, all_left}
 
@@ -53,12 +54,13 @@ pub record RunsFrom (archive records : Book) (files : Files) (first : ℕ) : Typ
       → ReachPlaces archive.ends (places_for archive records)
       (heads_behind files (names_of (codes "archive") archive) i) → ⊥
 
--- these are the heads of those segments, in order
+-- these are the heads of those segments' records that end past where the split of their streams
+-- goes on, in order
 pub record AreNewest (archive records : Book) (files : Files) (heads : List Head) : Type 0 where
   pub first : ℕ
   pub runs : RunsFrom archive records files first
-  pub order : heads ≡ in_head_order
-      (heads_behind files (names_of (codes "archive") archive) first)
+  pub order : heads ≡ in_head_order (past_of archive.ends (places_for archive records)
+      (heads_behind files (names_of (codes "archive") archive) first))
 
 -- at Ok these are the heads, and the files are as they were; damage is of some stream
 abbrev pub SoundNewest : Book → Book → Files → Result (List Head) JobFault → History → Type 0

@@ -39,11 +39,12 @@ pub data IsUnsoundFrom (b : Book) (name : List ℕ) (at : ℕ) (added history : 
       → IsGoneIn (names_of (codes "archive") b) (in_head_order heads) name at added history
       → IsUnsoundFrom b name at added history
 
--- at Ok own reads show the heads of all records of the segments from some one on, which these are
--- in order; damage has a cause in all segments
+-- at Ok own reads show the heads of all records of the segments from some one on, of which these
+-- are some; damage has a cause in all segments
 abbrev pub ShowsNewestSound : Book → Result (List Head) JobFault → History → History → Type 0
 ShowsNewestSound b (Ok heads) added history =
-    (first : ℕ) × (found : List Head) × (heads ≡ in_head_order found)
+    (first : ℕ) × (found : List Head)
+    × ((h : Head) → Contains heads h → Contains (in_head_order found) h)
     × ShowsHeadsFrom b first found added history
 ShowsNewestSound b (Err fault) added history =
     Shows {T = Unit {0}} (IsUnsound (codes "archive") b) (Err fault) added history

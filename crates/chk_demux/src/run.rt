@@ -75,7 +75,8 @@ fn heads_in_order<S: Site>(
 }
 
 /// The heads of the records that the split needs, in order: of the newest segments that reach back, for each stream, to where its
-/// split goes on. Where anything is wrong with these, all segments are read, and it is told as `heads_in_order` has it.
+/// split goes on, those that end past it. Where anything is wrong with these segments, all are read, and it is told as
+/// `heads_in_order` has it, which holds the heads of all records.
 fn heads_for_split<S: Site>(
     alloc: Global,
     site: &mut S,
@@ -266,13 +267,14 @@ fn split_archive<S: Site>(
 /// The archive's segments are read from the newest one back, until for each stream the place is reached from which on its split
 /// goes on: all bytes of these once, for the heads of their records, and each record that ends past its stream's place once more,
 /// in pieces of at most 1,048,576 bytes. Older segments aren't read, and where no stream ends past its place none is. Held are a
-/// head of 32 bytes for each record of the segments that were read, 16 bytes for each stream, such a piece, one record, and the
+/// head of 32 bytes for each record that ends past its stream's place, 32 bytes for each stream, such a piece, one record, and the
 /// bytes of the segment that aren't appended yet, at most 1,048,576 and a record. Once the heads stand in order it goes over them
 /// once, and over the streams of the archive's book and of the records' book twice, side by side.
 ///
 /// `Damaged` comes where a book isn't in its grammar, with its name and the place of its first wrong field; else where a segment
 /// that was read isn't one of chunks, or the records there don't go on from each other up to the ends in the archive's book. All
-/// segments are read then, and the first damage is told, as `check_records` has it: where a segment isn't one of chunks, with the
+/// segments are read then, a head of 32 bytes is held for each of their records, so that such a run may end for want of memory,
+/// and the first damage is told, as `check_records` has it: where a segment isn't one of chunks, with the
 /// segment's name and the place from which on it isn't; at the first record of a stream that has another start than in the book,
 /// doesn't begin where the stream's earlier ones end, or ends past its end in the book, with the segment's name; else with the
 /// book's name at the stream's end there, where the records don't reach it. Nothing is written then. What isn't read isn't tested.

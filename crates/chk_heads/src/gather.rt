@@ -202,8 +202,10 @@ impl Heads {
         self.rows.len()
     }
 
-    /// Puts a head behind the others, whose key these bytes are; the key may be kept.
-    fn push(
+    /// Puts a head behind the others, whose key these bytes are; the key may be kept. Its record has
+    /// `size` bytes of data and stands at the place `at` of the file of this number. Without memory the
+    /// heads are as before.
+    pub fn push(
         &mut self,
         alloc: Global,
         bytes: &[u8],

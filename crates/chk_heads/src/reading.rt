@@ -6,7 +6,7 @@ ghost use Rattle.chk_site.specs.Effect.{IsSmallFile};
 ghost use Rattle.chk_site.specs.History.{Every};
 ghost use Rattle.chk_site.specs.Site.{Adds, LastFailed, OutsideCause};
 ghost use Rattle.chk_site.specs.Runs.{anyhow, Leads};
-ghost use Rattle.chk_replace.specs.Load.{asks_at, Has, HasPiece, Loaded};
+ghost use Rattle.chk_replace.specs.Load.{asks_at, Has, HasPiece, Loaded, piece_limit};
 ghost use Rattle.chk_world.specs.Sight.{job};
 ghost use Rattle.chk_world.specs.JobSteps.{IsOf, ReadsFile, SparesFile};
 ghost use Rattle.chk_heads.specs.Pieces.{AsksInPieces, asks_for, HasMost, HasBytes};
@@ -52,7 +52,7 @@ fn read_most<S: Site>(
     at: u64,
     most: u32,
 ) -> Result<Option<Bytes>, OutsideFault>
-    requires { most ≤ 1048576 }
+    requires { most ≤ piece_limit }
     ensures raw { (file : Option File) → Adds (S.told site.old) (S.told site.new)
         (Leads (anyhow (SparesFile name.now)) (Has name.now file) (HasMost name.now at most file result)) }
     ensures shown { Adds (S.told site.old) (S.told site.new) (ShowsPiece name.now at (asks_for most at) result) }
@@ -111,7 +111,7 @@ pub(crate) fn read_bytes<S: Site>(
     at: u64,
     most: u32,
 ) -> Result<Bytes, OutsideFault>
-    requires { most ≤ 1048576 }
+    requires { most ≤ piece_limit }
     ensures raw { (file : Option File) → Adds (S.told site.old) (S.told site.new)
         (Leads (anyhow (SparesFile name.now)) (Has name.now file) (HasBytes name.now at most file result)) }
     ensures shown { Adds (S.told site.old) (S.told site.new) (ShowsBytes name.now at (asks_for most at) result) }

@@ -1,11 +1,11 @@
 -- Streams' records, followed from the newest one back.
-use Rattle.std.proofs.Common.{◌≡◌, ◌<◌, ◌≤◌, ◌+◌, ◌-◌, inl, inr, ℕ, zero, suc, Bool, true, false, true≢false, List, [], ◌∷◌, ◌++◌, length, map, get_or, set, Some, None, refl, sym, ◌∙◌, ap, subst, arith, if◌then◌else◌, get_or-set_same, get_or-set_other, ◌&&◌, ◌==◌}
+use Rattle.std.proofs.Common.{◌≡◌, ◌<◌, ◌≤◌, ◌+◌, ◌-◌, inl, inr, ℕ, zero, suc, Bool, true, false, true≢false, List, [], ◌∷◌, ◌++◌, length, map, get_or, Some, None, refl, sym, ◌∙◌, ap, subst, arith, if◌then◌else◌, ◌&&◌, ◌==◌}
 use Rattle.std.specs.Prelude.{IsTrue, nat_le}
-use Rattle.std.proofs.lemmas.Bool.{cases_eq, cases_lt, cases_Bool, and_parts, and_from, eqb-true, eq-eqb}
+use Rattle.std.proofs.lemmas.Bool.{cases_lt, and_parts, eqb-true}
 use Rattle.std.specs.List.Sorted.{IsPartitionedBy, IsPartitionPoint}
-use Rattle.std.proofs.lemmas.List.{get_or-map, get_or_default, length-map}
+use Rattle.std.proofs.lemmas.List.{get_or-map, length-map}
 use Rattle.std.proofs.lemmas.Option.{none-some}
-use Rattle.chk_chunk.specs.Keys.{Stream, same_stream, stream_lt}
+use Rattle.chk_chunk.specs.Keys.{Stream, stream_lt}
 use Rattle.chk_world.specs.Books.{End, ends_rise}
 use Rattle.chk_world.proofs.Each.{Each}
 use Rattle.chk_world.proofs.NameTests.{streams_same}
@@ -15,8 +15,9 @@ use Rattle.chk_book.specs.Views.{end_view}
 use Rattle.chk_merge.specs.Courses.{is_head_of, is_end_of, end_of, goes_on, first_break, reached}
 use Rattle.chk_merge.specs.OnePass.{no_end, end_at, AreOnce, IsListed}
 use Rattle.chk_heads.proofs.Orders.{streams}
-use Rattle.chk_newest.proofs.Streams.{AreRising, rising_more, rising_once, head_listed, stream_onward, end_there}
-use Rattle.chk_newest.specs.Backward.{begin_in, RunsBack, AllRunBack, leads_to, AreBegins}
+use Rattle.chk_newest.proofs.Streams.{AreRising}
+use Rattle.chk_merge.proofs.OnePass.{rising_once, rising_more, stream_onward}
+use Rattle.chk_newest.specs.Backward.{begin_in, AllRunBack, AreBegins}
 
 -- ---- ends in byte order are of one stream each
 
@@ -49,21 +50,10 @@ once es r = rising_once es (length es) (omega arith) (rising es r)
 
 -- ---- the records of one stream
 
-pub record Goes (e : End) (from : ℕ) (h : Head) : Type 0 where
-  pub start : h.key.start ≡ e.start
-  pub begin : h.begin ≡ from
-  pub within : nat_le h.key.seq e.end ≡ true
-
-goes : (e : End) (from : ℕ) (h : Head) → goes_on e from h ≡ true → Goes e from h
-goes e from h on =
+begins_at : (e : End) (from : ℕ) (h : Head) → goes_on e from h ≡ true → h.begin ≡ from
+begins_at e from h on =
     let p = and_parts (h.key.start == e.start) (h.begin == from && nat_le h.key.seq e.end) on in
-    let q = and_parts (h.begin == from) (nat_le h.key.seq e.end) p.1 in
-    record {
-      start = eqb-true h.key.start e.start p.0;
-      begin = eqb-true h.begin from q.0;
-      within =
-          q.1;
-    }
+    eqb-true h.begin from (and_parts (h.begin == from) (nat_le h.key.seq e.end) p.1).0
 
 -- where they run up to the end, they begin there
 pub begins_so : (e : End) (b : ℕ) (hs : List Head) → first_break e.stream e b hs ≡ None
@@ -79,7 +69,7 @@ begins_so e b (h ∷ hs) fine ends =
         e.stream e b hs) ≡ None
         → (if p then reached e.stream h.key.seq hs else reached e.stream b hs) ≡ e.end
         → b ≡ (if p then h.begin else begin_in e hs)
-    go rest true true on fine ends = sym (goes e b h on).begin
+    go rest true true on fine ends = sym (begins_at e b h on)
     go rest true false on fine ends = absurd (none-some h (sym fine))
     go rest false g on fine ends = rest b fine ends
 
@@ -110,128 +100,6 @@ course_behind e b (h ∷ front) rest fine ends =
     go later true false fine ends = absurd (none-some h (sym fine))
     go later false g fine ends = later b fine ends
 
--- one of them, by the test that takes it
-leads : (e : End) (b c : ℕ) (h : Head) (hs : List Head) → is_head_of e.stream h ≡ true
-    → Course e b (h ∷ hs) → c ≡ begin_in e hs
-    → leads_to e c h ≡ true
-leads e b c h hs mine course at =
-    go (goes_on e b h) refl
-    (ap (λ p. if p then (if goes_on e b h then first_break e.stream e h.key.seq hs else Some h)
-    else first_break e.stream e b hs) (sym mine) ∙ course.fine)
-    (ap (λ p. if p then reached e.stream h.key.seq hs else reached e.stream b hs) (sym mine) ∙
-    course.ends)
-  where
-    go : (g : Bool) → goes_on e b h ≡ g
-        → (if g then first_break e.stream e h.key.seq hs else Some h) ≡ None
-        → reached e.stream h.key.seq hs ≡ e.end
-        → leads_to e c h ≡ true
-    go true on fine ends =
-        let p = goes e b h on in
-        and_from (h.key.start == e.start) (h.key.seq == c && nat_le h.key.seq e.end)
-        (eq-eqb h.key.start e.start p.start)
-        (and_from (h.key.seq == c) (nat_le h.key.seq e.end)
-        (eq-eqb h.key.seq c (begins_so e h.key.seq hs fine ends ∙ sym at)) p.within)
-    go false on fine ends = absurd (none-some h (sym fine))
-
--- ---- a head in front of others
-
-runs_here : (e : End) (c : ℕ) (h : Head) (hs : List Head) → is_head_of e.stream h ≡ true
-    → leads_to e c h ≡ true
-    → c ≡ begin_in e hs → RunsBack e hs → RunsBack e (h ∷ hs)
-runs_here e c h hs mine leads at runs =
-    let p = and_parts (h.key.start == e.start) (h.key.seq == c && nat_le h.key.seq e.end) leads in
-    let q = and_parts (h.key.seq == c) (nat_le h.key.seq e.end) p.1 in
-    let seq_is : h.key.seq ≡ begin_in e hs = eqb-true h.key.seq c q.0 ∙ at in
-    let on : goes_on e h.begin h ≡ true =
-    and_from (h.key.start == e.start) (h.begin == h.begin && nat_le h.key.seq e.end) p.0
-    (and_from (h.begin == h.begin) (nat_le h.key.seq e.end) (eq-eqb h.begin h.begin refl) q.1) in
-    let begin_is : begin_in e (h ∷ hs) ≡ h.begin = ap (λ b. if b then h.begin else begin_in e hs)
-    mine in
-    record {
-      unbroken = ap (λ n. first_break e.stream e n (h ∷ hs)) begin_is
-          ∙ (ap (λ b. if b then (if goes_on e h.begin h then first_break e.stream e h.key.seq hs
-          else Some h)
-          else first_break e.stream e h.begin hs) mine
-          ∙ (ap (λ b. if b then first_break e.stream e h.key.seq hs else Some h) on
-          ∙ (ap (λ n. first_break e.stream e n hs) seq_is ∙ runs.unbroken)));
-      reaches = ap (λ n. reached e.stream n (h ∷ hs)) begin_is
-          ∙ (ap (λ b. if b then reached e.stream h.key.seq hs else reached e.stream h.begin hs)
-          mine
-          ∙ (ap (λ n. reached e.stream n hs) seq_is ∙ runs.reaches));
-    }
-
-begin_elsewhere : (e : End) (h : Head) (hs : List Head) → is_head_of e.stream h ≡ false
-    → begin_in e (h ∷ hs) ≡ begin_in e hs
-begin_elsewhere e h hs other = ap (λ b. if b then h.begin else begin_in e hs) other
-
-runs_elsewhere : (e : End) (h : Head) (hs : List Head) → is_head_of e.stream h ≡ false
-    → RunsBack e hs → RunsBack e (h ∷ hs)
-runs_elsewhere e h hs other runs =
-    let begin_is = begin_elsewhere e h hs other in
-    let b = begin_in e hs in
-    record {
-      unbroken = ap (λ n. first_break e.stream e n (h ∷ hs)) begin_is
-          ∙ (ap (λ p. if p then (if goes_on e b h then first_break e.stream e h.key.seq hs else
-          Some h)
-          else first_break e.stream e b hs) other ∙ runs.unbroken);
-      reaches = ap (λ n. reached e.stream n (h ∷ hs)) begin_is
-          ∙ (ap (λ p. if p then reached e.stream h.key.seq hs else reached e.stream b hs) other ∙
-          runs.reaches);
-    }
-
--- ---- a head is taken
-
-module _ (es : List End) (before after : List ℕ) (h : Head) (k : ℕ) (below : k < length es)
-    (only : AreOnce es)
-    (same : length before ≡ length es) (found : is_end_of h.key.stream (end_at es k) ≡ true)
-    (led : leads_to (end_at es k) (get_or before k 0) h ≡ true) (to : after ≡ set before k h.begin)
-  where
-    of_end : h.key.stream ≡ (end_at es k).stream
-    of_end = streams_same h.key.stream (end_at es k).stream found
-
-    mine : is_head_of (end_at es k).stream h ≡ true
-    mine = subst (λ t. same_stream (end_at es k).stream t ≡ true) (sym of_end)
-        (subst (λ t. same_stream t (end_at es k).stream ≡ true) of_end found)
-
-    elsewhere : (j : ℕ) → (j ≡ k → ⊥) → j < length es → is_head_of (end_at es j).stream h ≡ false
-    elsewhere j apart low = elim (cases_Bool (is_head_of (end_at es j).stream h)) [
-      | inl its ↦ absurd (apart (only j k low below
-          (subst (λ t. same_stream (end_at es j).stream t ≡ true) of_end its)))
-      | inr other ↦ other
-    ]
-
-    runs_at : (later : List Head) → AreBegins es later before → (j : ℕ) → j < length es
-        → RunsBack (end_at es j) (h ∷ later)
-    runs_at later are j low = elim (cases_eq j k) [
-      | inl here ↦
-          subst (λ i. RunsBack (end_at es i) (h ∷ later)) (sym here)
-          (runs_here (end_at es k) (get_or before k 0) h later mine led (are.are k below)
-          (are.all.run k below))
-      | inr apart ↦ runs_elsewhere (end_at es j) h later (elsewhere j apart low) (are.all.run j low)
-    ]
-
-    begin_at : (later : List Head) → AreBegins es later before → (j : ℕ) → j < length es
-        → get_or after j 0 ≡ begin_in (end_at es j) (h ∷ later)
-    begin_at later are j low = elim (cases_eq j k) [
-      | inl here ↦
-          subst (λ i. get_or after i 0 ≡ begin_in (end_at es i) (h ∷ later)) (sym here)
-          (ap (λ l. get_or l k 0) to ∙ (get_or-set_same before k h.begin 0
-          (omega (arith, below, same))
-          ∙ sym (ap (λ b. if b then h.begin else begin_in (end_at es k) later) mine)))
-      | inr apart ↦
-          ap (λ l. get_or l j 0) to ∙ (get_or-set_other before k j h.begin 0 apart
-          ∙ (are.are j low ∙ sym (begin_elsewhere (end_at es j) h later (elsewhere j apart low))))
-    ]
-
-    pub taken : (later : List Head) → AreBegins es later before → AreBegins es (h ∷ later) after
-    taken later are = record {
-      all = record {
-        listed = (head_listed h.key.stream es k below found, are.all.listed);
-        run = runs_at later are;
-      };
-      are = begin_at later are;
-    }
-
 -- one of these is of a listed stream
 listed_behind : (es : List End) (front rest : List Head) (h : Head)
     → Each (IsListed es) (front ++ h ∷ rest) → IsListed es h
@@ -244,23 +112,6 @@ pub not_listed : (es : List End) (front later : List Head) (h : Head)
     → AllRunBack es (front ++ h ∷ later) → ⊥
 not_listed es front later h none all = listed_behind es front later h all.listed none
 
--- the head doesn't lead to those that were taken
-pub not_led : (es : List End) (before : List ℕ) (front later : List Head) (h : Head) (k : ℕ)
-    → k < length es
-    → is_end_of h.key.stream (end_at es k) ≡ true
-    → leads_to (end_at es k) (get_or before k 0) h ≡ false
-    → AreBegins es later before → AllRunBack es (front ++ h ∷ later) → ⊥
-not_led es before front later h k below found off are all =
-    let e = end_at es k in
-    let of_end : h.key.stream ≡ e.stream = streams_same h.key.stream e.stream found in
-    let mine : is_head_of e.stream h ≡ true =
-    subst (λ t. same_stream e.stream t ≡ true) (sym of_end)
-    (subst (λ t. same_stream t e.stream ≡ true) of_end found) in
-    let runs = all.run k below in
-    let c = course_behind e (begin_in e (front ++ h ∷ later)) front (h ∷ later) runs.unbroken
-    runs.reaches in
-    true≢false (sym (leads e c.0 (get_or before k 0) h later mine c.1 (are.are k below)) ∙ off)
-
 -- ---- the same of the structs of ends
 
 no_struct : EndStruct
@@ -268,35 +119,6 @@ no_struct = record { source = []; kind = []; name = []; start = 0; end = 0 }
 
 within_view : (es : List EndStruct) (k : ℕ) → k < length es → k < length (map end_view es)
 within_view es k low = let same = length-map es end_view in omega (arith, same, low)
-
-module _ (es : List EndStruct) (before : List ℕ) (h : Head) (k : ℕ) (e : EndStruct) (b : ℕ)
-    (below : k < length es)
-    (same : length before ≡ length es) (is : e ≡ get_or es k e) (at : b ≡ get_or before k b)
-    (found : is_end_of h.key.stream (end_at (map end_view es) k) ≡ true) where
-  begin_is : b ≡ get_or before k 0
-  begin_is = at ∙ get_or_default before k b 0 (omega (arith, below, same))
-
-  test_is : (x : Bool) → leads_to (end_view e) b h ≡ x
-      → leads_to (end_at (map end_view es) k) (get_or before k 0) h ≡ x
-  test_is x so =
-      subst (λ d. leads_to d (get_or before k 0) h ≡ x) (end_there es k e below is)
-      (subst (λ n. leads_to (end_view e) n h ≡ x) begin_is so)
-
-  pub taken_at : IsTrue (ends_rise (map end_view es)) → leads_to (end_view e) b h ≡ true
-      → (later : List Head)
-      → AreBegins (map end_view es) later before
-      → AreBegins (map end_view es) (h ∷ later) (set before k h.begin)
-  taken_at rise so later are =
-      taken (map end_view es) before (set before k h.begin) h k (within_view es k below)
-      (once (map end_view es) rise)
-      (same ∙ sym (length-map es end_view)) found (test_is true so) refl later are
-
-  pub not_led_at : leads_to (end_view e) b h ≡ false → (front later : List Head)
-      → AreBegins (map end_view es) later before
-      → AllRunBack (map end_view es) (front ++ h ∷ later) → ⊥
-  not_led_at off front later are all =
-      not_led (map end_view es) before front later h k (within_view es k below) found
-      (test_is false off) are all
 
 -- ---- the place of a stream among ends in byte order
 

@@ -31,8 +31,8 @@ Told names held k first last B =
 
 module _ (lent ends : List EndStruct) (is : lent ≡ ends)
     (rise : IsTrue (ends_rise (map end_view ends)))
-    (names : List (List ℕ)) {first last : Option History} where
-  module _ (places : List ℕ) (held : Files) (k : ℕ) where
+    (places : List ℕ) (names : List (List ℕ)) {first last : Option History} where
+  module _ (held : Files) (k : ℕ) where
     pub found_all : (heads sorted : List Head) → sorted ≡ in_head_order heads → (b : Bool)
         → b ≡ true
         → (IsTrue (ends_rise (map end_view lent))
@@ -60,29 +60,32 @@ module _ (lent ends : List EndStruct) (is : lent ≡ ends)
   pub shows_found : (heads sorted : List Head) → sorted ≡ in_head_order heads → (b : Bool)
       → b ≡ true
       → (IsTrue (ends_rise (map end_view lent))
-      → Adds first last (ShowsBack (map end_view lent) names heads (Ok b)))
-      → Adds first last (ShowsNewest (map end_view ends) names (Ok (Some sorted)))
+      → Adds first last (ShowsBack (map end_view lent) places names heads (Ok b)))
+      → Adds first last (ShowsNewest (map end_view ends) places names (Ok (Some sorted)))
   shows_found heads sorted order false wrong told = absurd (true≢false (sym wrong))
   shows_found heads sorted order true all told =
-      adds_as (ShowsNewest (map end_view ends) names (Ok (Some sorted)))
-      (of_book (λ es. Adds first last (ShowsBack es names heads (Ok true))) lent ends is told rise)
+      adds_as (ShowsNewest (map end_view ends) places names (Ok (Some sorted)))
+      (of_book (λ es. Adds first last (ShowsBack es places names heads (Ok true))) lent ends is told
+      rise)
       (λ added history x. x sorted order)
 
-module _ (es : List End) (names : List (List ℕ)) {first last : Option History} where
-  pub found_failed : (places : List ℕ) (held : Files) (k : ℕ) {P : History → History → Type 0}
+module _ (es : List End) (places : List ℕ) (names : List (List ℕ))
+    {first last : Option History} where
+  pub found_failed : (held : Files) (k : ℕ) {P : History → History → Type 0}
       (fault : JobFault)
       → Adds first last P
       → Adds first last (Leads (anyhow (SparesFiles (drop k names))) (HasFiles (drop k names) held)
       (FoundNewest es places names held k (Err fault)))
-  found_failed places held k fault told =
+  found_failed held k fault told =
       adds_as (Leads (anyhow (SparesFiles (drop k names))) (HasFiles (drop k names) held)
       (FoundNewest es places names held k (Err fault))) told
       (λ added history p. record { leads = λ s h. tt; own = owned_anyhow added history })
 
   pub shows_none : {P : History → History → Type 0} → Adds first last P
-      → Adds first last (ShowsNewest es names (Ok None))
-  shows_none told = adds_as (ShowsNewest es names (Ok None)) told (λ added history x. tt)
+      → Adds first last (ShowsNewest es places names (Ok None))
+  shows_none told = adds_as (ShowsNewest es places names (Ok None)) told (λ added history x. tt)
 
   pub shows_not : {P : History → History → Type 0} (fault : JobFault) → Adds first last P
-      → Adds first last (ShowsNewest es names (Err fault))
-  shows_not fault told = adds_as (ShowsNewest es names (Err fault)) told (λ added history x. tt)
+      → Adds first last (ShowsNewest es places names (Err fault))
+  shows_not fault told =
+      adds_as (ShowsNewest es places names (Err fault)) told (λ added history x. tt)

@@ -1,8 +1,11 @@
 -- The heads of what is new in an archive.
 mod Streams
-mod Cuts
 mod Backwards
+pub mod Forwards
 mod Turned
+mod HeadLooks
+mod FedLooks
+mod FileLooks
 mod OneFile
 mod Steps
 mod ShownBack

@@ -1,6 +1,5 @@
 -- What the reading of one file gives.
-use Rattle.std.proofs.Common.{◌≡◌, ℕ, Bool, true, false, true≢false, List, ◌++◌, length, drop, Option, Ok, Err, refl, sym, ◌∙◌, ap, subst}
-use Rattle.std.proofs.Math.Seq.{drop-append_seam}
+use Rattle.std.proofs.Common.{◌≡◌, ℕ, Bool, true, false, true≢false, List, ◌++◌, Option, Ok, Err, refl, sym, subst}
 use Rattle.chk_site.specs.Files.{File}
 use Rattle.chk_site.specs.History.{History}
 use Rattle.chk_site.specs.Site.{Adds}
@@ -11,134 +10,139 @@ use Rattle.chk_replace.specs.Load.{Has}
 use Rattle.chk_chunk.specs.Keys.{chunk_limit}
 use Rattle.chk_world.specs.Books.{End}
 use Rattle.chk_world.specs.JobSteps.{SparesFile}
-use Rattle.chk_heads.specs.Faults.{FailsLast, IsOfRead, IsOfWrite}
+use Rattle.chk_heads.specs.Faults.{FailsLast}
 use Rattle.chk_heads.specs.Heads.{Head, heads_in}
 use Rattle.chk_heads.specs.Pieces.{bytes_in}
-use Rattle.chk_heads.specs.Gathered.{Gathered, ShowsGathered}
+use Rattle.chk_heads.specs.ShownHeads.{ShowsHeads}
 use Rattle.chk_heads.specs.declared.fault.JobFault.{JobFault}
-use Rattle.chk_heads.specs.declared.fault.JobFault.TheVariants.{Outside, Damaged, Spent, NoMemory}
-use Rattle.chk_heads.proofs.NoDamage.{no_damage}
-use Rattle.chk_heads.proofs.Stretches.{own_heads}
 use Rattle.chk_newest.specs.Backward.{AllRunBack, AreBegins}
-use Rattle.chk_newest.specs.Newest.{TookFile, ShowsTook, TookNext}
+use Rattle.chk_newest.specs.Forward.{past_of, AreSpans, IsBroken, Looks, runs, breaks}
+use Rattle.chk_newest.specs.Looking.{LookedAt, ShowsLooked}
+use Rattle.chk_newest.specs.Newest.{ShowsTook, TookNext}
+use Rattle.chk_newest.specs.declared.forward.Span.{Span}
+use Rattle.chk_newest.specs.declared.looking.Look.{Look}
 
--- ---- a file is gathered
+module _ (es : List End) (places : List ℕ) (seen old new : List Head) (spans : List Span) where
+  looks_run : (b : Bool) → b ≡ false → Looks es places seen old new spans b
+      → AreSpans es seen spans × (new ≡ old ++ past_of es places seen)
+  looks_run false is (runs are at) = (are, at)
+  looks_run true wrong looks = absurd (true≢false wrong)
 
-module _ (name : List ℕ) (f : Option File) (number : ℕ) (old new : List Head)
-    {first last : Option History} where
-  pub took_all : (n count : ℕ) → n ≡ number
-      → Adds first last (Leads (anyhow (SparesFile name)) (Has name f)
-      (Gathered chunk_limit name f n old new (Ok count)))
-      → Adds first last (Leads (anyhow (SparesFile name)) (Has name f)
-      (TookFile name f number old new (Ok true)))
-  took_all n count is told =
-      leads_as (λ h x. x)
-      (λ h x. (x.0, x.1, x.2 ∙ ap (λ m. old ++ heads_in chunk_limit m (bytes_in f)) is)) told
+  looks_broken : (b : Bool) → b ≡ true → Looks es places seen old new spans b → IsBroken es seen
+  looks_broken true is (breaks broken) = broken
+  looks_broken false wrong looks = absurd (true≢false (sym wrong))
 
-  pub took_none : (n : ℕ) (fault : JobFault) (which : List ℕ) (at : ℕ) → fault ≡ Damaged which at
-      → Adds first last (Leads (anyhow (SparesFile name)) (Has name f)
-      (Gathered chunk_limit name f n old new (Err fault)))
-      → Adds first last (Leads (anyhow (SparesFile name)) (Has name f)
-      (TookFile name f number old new (Ok false)))
-  took_none n fault which at is told =
-      leads_as (λ h x. x)
-      (λ h x all. no_damage chunk_limit (bytes_in f) all at
-      (subst (λ (e : JobFault). Gathered chunk_limit name f n old new (Err e) h) is x).2) told
+module _ (es : List End) (places : List ℕ) (name : List ℕ) (number : ℕ) (old new : List Head)
+    (look : Look) (n : ℕ) (at : n ≡ number) where
+  -- the spans stand in front of the later ones
+  abbrev pub Joins : List Span → List ℕ → List ℕ → Type 0
+  Joins spans before after = (seen later : List Head) → AreSpans es seen spans
+      → AreBegins es later before → AreBegins es (seen ++ later) after
 
-  pub took_failed : {P : History → History → Type 0} (fault : JobFault) → Adds first last P
+  -- they don't
+  abbrev pub Misses : List Span → List ℕ → Type 0
+  Misses spans before = (front seen later : List Head) → AreSpans es seen spans
+      → AreBegins es later before → AllRunBack es (front ++ (seen ++ later)) → ⊥
+
+  abbrev pub Looked : Option File → Option History → Option History → Bool → Type 0
+  Looked f first last all = Adds first last (Leads (anyhow (SparesFile name)) (Has name f)
+      (LookedAt es places name f n old new look (Ok all)))
+
+  abbrev pub Took : Option File → List ℕ → List ℕ → Option History → Option History → Bool
+      → Type 0
+  Took f before after first last b = Adds first last (Leads (anyhow (SparesFile name)) (Has name f)
+      (TookNext es places name f number old new before after (Ok b)))
+
+  module _ (f : Option File) (before after : List ℕ) {first last : Option History} where
+    pub next_none : (all : Bool) → all ≡ false → Looked f first last all
+        → Took f before after first last false
+    next_none true wrong told = absurd (true≢false wrong)
+    next_none false is told = leads_as (λ h x. x) (λ h x front later are chunks all. x chunks) told
+
+    pub next_broken : (all : Bool) → all ≡ true → look.broken ≡ true → Looked f first last all
+        → Took f before after first last false
+    next_broken false wrong off told = absurd (true≢false (sym wrong))
+    next_broken true is off told =
+        leads_as (λ h x. x)
+        (λ h x front later are chunks all.
+        looks_broken es places (heads_in chunk_limit n (bytes_in f)) old new look.spans.items
+        look.broken off x.2 front later
+        (subst (λ m. AllRunBack es (front ++ (heads_in chunk_limit m (bytes_in f) ++ later)))
+        (sym at) all)) told
+
+    pub next_all : (all : Bool) → all ≡ true → look.broken ≡ false → (b : Bool)
+        → (spans : List Span) → spans ≡ look.spans.items
+        → (b ≡ true → Joins spans before after) → (b ≡ false → Misses spans before)
+        → Looked f first last all
+        → Took f before after first last b
+    next_all false wrong on b spans same joined missed told = absurd (true≢false (sym wrong))
+    next_all true is on true spans same joined missed told =
+        leads_as (λ h x. x)
+        (λ h x.
+        let l = looks_run es places (heads_in chunk_limit n (bytes_in f)) old new look.spans.items
+        look.broken on x.2 in (
+          x.0,
+          x.1,
+          subst (λ m. new ≡ old ++ past_of es places (heads_in chunk_limit m (bytes_in f))) at l.1,
+          λ later are.
+              subst (λ m. AreBegins es (heads_in chunk_limit m (bytes_in f) ++ later) after) at
+              (joined refl (heads_in chunk_limit n (bytes_in f)) later
+              (subst (AreSpans es (heads_in chunk_limit n (bytes_in f))) (sym same) l.0) are),
+        )) told
+    next_all true is on false spans same joined missed told =
+        leads_as (λ h x. x)
+        (λ h x front later are chunks all.
+        let l = looks_run es places (heads_in chunk_limit n (bytes_in f)) old new look.spans.items
+        look.broken on x.2 in
+        missed refl front (heads_in chunk_limit n (bytes_in f)) later
+        (subst (AreSpans es (heads_in chunk_limit n (bytes_in f))) (sym same) l.0) are
+        (subst (λ m. AllRunBack es (front ++ (heads_in chunk_limit m (bytes_in f) ++ later)))
+        (sym at) all)) told
+
+  -- ---- what own reads show of it
+
+  module _ (before after : List ℕ) {first last : Option History} where
+    pub shows_all : (all : Bool) → all ≡ true → look.broken ≡ false → (b : Bool)
+        → (spans : List Span) → spans ≡ look.spans.items → (b ≡ true → Joins spans before after)
+        → Adds first last (ShowsLooked es places name n old new look (Ok all))
+        → Adds first last (ShowsTook es places name number old new before after (Ok b))
+    shows_all false wrong on b spans same joined told = absurd (true≢false (sym wrong))
+    shows_all true is on true spans same joined told =
+        adds_as (ShowsTook es places name number old new before after (Ok true)) told
+        (λ added history (own, looks, shows).
+        let l = looks_run es places own old new look.spans.items look.broken on looks in (
+          own,
+          l.1,
+          λ later are. joined refl own later (subst (AreSpans es own) (sym same) l.0) are,
+          subst (λ m. ShowsHeads chunk_limit m name own added history) at shows,
+        ))
+    shows_all true is on false spans same joined told =
+        adds_as (ShowsTook es places name number old new before after (Ok false)) told
+        (λ added history x. tt)
+
+-- ---- where nothing is said
+
+module _ (es : List End) (places : List ℕ) (name : List ℕ) (number : ℕ) (old new : List Head)
+    (before after : List ℕ) {P : History → History → Type 0} {first last : Option History} where
+  pub next_failed : (f : Option File) (fault : JobFault) → Adds first last P
       → Adds first last (Leads (anyhow (SparesFile name)) (Has name f)
-      (TookFile name f number old new (Err fault)))
-  took_failed fault told =
+      (TookNext es places name f number old new before after (Err fault)))
+  next_failed f fault told =
       adds_as (Leads (anyhow (SparesFile name)) (Has name f)
-      (TookFile name f number old new (Err fault))) told
+      (TookNext es places name f number old new before after (Err fault))) told
       (λ added history p. record { leads = λ s h. tt; own = owned_anyhow added history })
 
-  -- ---- and its heads are taken back
-
-  pub next_all : (es : List End) (before : List ℕ) (from : ℕ) (all b : Bool) → all ≡ true
-      → from ≡ length old
-      → (b ≡ false → (front later : List Head) → AreBegins es later before
-      → AllRunBack es (front ++ (drop from new ++ later)) → ⊥)
-      → Adds first last (Leads (anyhow (SparesFile name)) (Has name f)
-      (TookFile name f number old new (Ok all)))
-      → Adds first last (Leads (anyhow (SparesFile name)) (Has name f)
-      (TookNext es name f number old new before (Ok b)))
-  next_all es before from false b wrong at misses told = absurd (true≢false (sym wrong))
-  next_all es before from true true is at misses told = told
-  next_all es before from true false is at misses told =
-      leads_as (λ h x. x)
-      (λ h x front later are chunks all.
-      let block : drop from new ≡ heads_in chunk_limit number (bytes_in f) =
-      ap (λ n. drop n new) at ∙ (ap (drop (length old)) x.2 ∙ drop-append_seam old
-      (heads_in chunk_limit number (bytes_in f))) in
-      misses refl front later are (subst (λ l. AllRunBack es (front ++ (l ++ later))) (sym block)
-      all)) told
-
-  pub next_none : (es : List End) (before : List ℕ) (all : Bool) → all ≡ false
-      → Adds first last (Leads (anyhow (SparesFile name)) (Has name f)
-      (TookFile name f number old new (Ok all)))
-      → Adds first last (Leads (anyhow (SparesFile name)) (Has name f)
-      (TookNext es name f number old new before (Ok false)))
-  next_none es before true wrong told = absurd (true≢false wrong)
-  next_none es before false is told = leads_as (λ h x. x)
-      (λ h x front later are chunks all. x chunks) told
-
-  pub next_failed : {P : History → History → Type 0} (es : List End) (before : List ℕ)
-      (fault : JobFault) → Adds first last P
-      → Adds first last (Leads (anyhow (SparesFile name)) (Has name f)
-      (TookNext es name f number old new before (Err fault)))
-  next_failed es before fault told =
-      adds_as (Leads (anyhow (SparesFile name)) (Has name f)
-      (TookNext es name f number old new before (Err fault))) told
-      (λ added history p. record { leads = λ s h. tt; own = owned_anyhow added history })
-
--- the heads that were taken lead to the later ones
-pub leads_on : (es : List End) (before after : List ℕ) (old new own later : List Head) (from : ℕ)
-    → from ≡ length old → new ≡ old ++ own
-    → AreBegins es (drop from new ++ later) after → AreBegins es (own ++ later) after
-leads_on es before after old new own later from at is are =
-    subst (λ l. AreBegins es (l ++ later) after)
-    (ap (λ n. drop n new) at ∙ (ap (drop (length old)) is ∙ drop-append_seam old own)) are
-
--- ---- what own reads show of it
-
-module _ (name : List ℕ) (number : ℕ) (old new : List Head) {first last : Option History} where
-  pub shows_all : (n count : ℕ) → n ≡ number → Adds first last
-      (ShowsGathered {T = ℕ} chunk_limit name n old new (Ok count))
-      → Adds first last (ShowsTook name number old new (Ok true))
-  shows_all n count is told =
-      adds_as (ShowsTook name number old new (Ok true)) told
-      (λ added history x. own_heads chunk_limit number name old new added history
-      (subst (λ m. ShowsGathered {T = ℕ} chunk_limit name m old new (Ok count) added history) is
-      x))
-
-  pub shows_nothing : {P : History → History → Type 0} → Adds first last P
-      → Adds first last (ShowsTook name number old new (Ok false))
-  shows_nothing told = adds_as (ShowsTook name number old new (Ok false)) told
+  pub shows_nothing : Adds first last P
+      → Adds first last (ShowsTook es places name number old new before after (Ok false))
+  shows_nothing told =
+      adds_as (ShowsTook es places name number old new before after (Ok false)) told
       (λ added history x. tt)
 
-  pub shows_failed : {P : History → History → Type 0} (fault : JobFault) → Adds first last P
-      → Adds first last (ShowsTook name number old new (Err fault))
-  shows_failed fault told = adds_as (ShowsTook name number old new (Err fault)) told
+  pub shows_failed : (fault : JobFault) → Adds first last P
+      → Adds first last (ShowsTook es places name number old new before after (Err fault))
+  shows_failed fault told =
+      adds_as (ShowsTook es places name number old new before after (Err fault)) told
       (λ added history x. tt)
-
-  -- where nothing more is read
-  pub shows_next : (all b : Bool) → all ≡ true
-      → Adds first last (ShowsTook name number old new (Ok all))
-      → Adds first last (ShowsTook name number old new (Ok b))
-  shows_next false b wrong told = absurd (true≢false (sym wrong))
-  shows_next true true is told = told
-  shows_next true false is told = shows_nothing told
-
--- ---- faults
-
--- a fault of a read that isn't damage
-pub of_write : (fault : JobFault) → IsOfRead fault
-    → ((name : List ℕ) (at : ℕ) → fault ≡ Damaged name at → ⊥) → IsOfWrite fault
-of_write (Outside call) of other = tt
-of_write (Damaged name at) of other = other name at refl
-of_write (Spent n) of other = of
-of_write NoMemory of other = tt
 
 -- no call failed
 pub none_failed : {T : Type 0} {P : History → History → Type 0} (value : T)

@@ -16,6 +16,7 @@ use Rattle.chk_heads.proofs.Stretches.{all_early}
 use Rattle.chk_merge.proofs.Records.{heads_have_bytes}
 use Rattle.chk_newest.proofs.Streams.{HasBytes}
 use Rattle.chk_newest.specs.Backward.{AreBegins}
+use Rattle.chk_newest.specs.Forward.{is_past, past_of}
 use Rattle.chk_newest.specs.Newest.{ShowsFrom, ShowsBack, ShowsTook, SameTies}
 use Rattle.chk_newest.proofs.Turned.{in_one_order, ties_step}
 
@@ -36,11 +37,11 @@ all_bytes number (name ∷ names) heads added history (own, rest, are, one, all)
     (each_append HasBytes own rest (file_bytes number name own added history one)
     (all_bytes (number + 1) names rest added history all))
 
-module _ (es : List End) (names : List (List ℕ)) where
+module _ (es : List End) (places : List ℕ) (names : List (List ℕ)) where
   pub show_first : (i : ℕ) (begins : List ℕ) (now : Option History) → i ≡ length names
       → AreBegins es [] begins
-      → Adds now now (ShowsFrom es names i [] begins)
-  show_first i begins now is are = adds_none now (ShowsFrom es names i [] begins)
+      → Adds now now (ShowsFrom es places names i [] begins)
+  show_first i begins now is are = adds_none now (ShowsFrom es places names i [] begins)
       (λ history. record {
         found = [];
         show = subst (λ ns. ShowAll chunk_limit i ns [] [] history)
@@ -52,15 +53,13 @@ module _ (es : List End) (names : List (List ℕ)) where
   show_more : (m i : ℕ) (w : List ℕ) (heads more : List Head) (begins after : List ℕ)
       {old mid new : Option History} → i ≡ m + 1
       → m < length names → get_or names m w ≡ w
-      → ((own later : List Head) → more ≡ heads ++ own → AreBegins es later begins
-      → AreBegins es (own ++ later) after)
-      → Adds old mid (ShowsFrom es names i heads begins)
-      → Adds mid new (ShowsTook w m heads more (Ok true))
-      → Adds old new (ShowsFrom es names m more after)
-  show_more m i w heads more begins after next within is leads so_far told =
-      adds_then (ShowsFrom es names m more after) so_far told
-      (λ a b history x (own, are, shows).
-      let led = leads own x.found are x.course in
+      → Adds old mid (ShowsFrom es places names i heads begins)
+      → Adds mid new (ShowsTook es places w m heads more begins after (Ok true))
+      → Adds old new (ShowsFrom es places names m more after)
+  show_more m i w heads more begins after next within is so_far told =
+      adds_then (ShowsFrom es places names m more after) so_far told
+      (λ a b history x (own, are, leads, shows).
+      let led = leads x.found x.course in
       let late : ShowsHeads chunk_limit m w own (b ++ a) history = within_late _ b a history shows
       in
       let early = all_early chunk_limit i (drop i names) x.found b a history x.show in
@@ -71,11 +70,11 @@ module _ (es : List End) (names : List (List ℕ)) where
         show = subst (λ ns. ShowAll chunk_limit m ns (own ++ x.found) (b ++ a) history)
             (sym more_names) (own, x.found, refl, late, rest);
         course = led;
-        order = subst (λ l. SameTies l (own ++ x.found)) (sym are)
+        order = subst (λ l. SameTies l (past_of es places (own ++ x.found))) (sym are)
             (ties_step es own x.found led.all
             (each_append HasBytes own x.found (file_bytes m w own (b ++ a) history late)
             (all_bytes i (drop i names) x.found (b ++ a) history early))
-            heads x.order);
+            (is_past es places) heads x.order);
       })
     where
       more_names : drop m names ≡ w ∷ drop i names
@@ -86,45 +85,44 @@ module _ (es : List End) (names : List (List ℕ)) where
       (b : Bool)
       {old mid new : Option History} → b ≡ true → i ≡ m + 1 → m < length names
       → get_or names m w ≡ w
-      → ((own later : List Head) → more ≡ heads ++ own → AreBegins es later begins
-      → AreBegins es (own ++ later) after)
-      → Adds old mid (ShowsFrom es names i heads begins)
-      → Adds mid new (ShowsTook w m heads more (Ok b))
-      → Adds old new (ShowsFrom es names m more after)
-  show_next m i w heads more begins after true is next within at leads so_far told =
-      show_more m i w heads more begins after next within at leads so_far told
-  show_next m i w heads more begins after false wrong next within at leads so_far told =
+      → Adds old mid (ShowsFrom es places names i heads begins)
+      → Adds mid new (ShowsTook es places w m heads more begins after (Ok b))
+      → Adds old new (ShowsFrom es places names m more after)
+  show_next m i w heads more begins after true is next within at so_far told =
+      show_more m i w heads more begins after next within at so_far told
+  show_next m i w heads more begins after false wrong next within at so_far told =
       absurd (true≢false (sym wrong))
 
   pub show_done : (i : ℕ) (heads : List Head) (begins : List ℕ) {old new : Option History}
       → i ≤ length names
-      → Adds old new (ShowsFrom es names i heads begins)
-      → Adds old new (ShowsBack es names heads (Ok true))
+      → Adds old new (ShowsFrom es places names i heads begins)
+      → Adds old new (ShowsBack es places names heads (Ok true))
   show_done i heads begins low told =
-      adds_as (ShowsBack es names heads (Ok true)) told
+      adds_as (ShowsBack es places names heads (Ok true)) told
       (λ added history x sorted is. record {
         first = i;
         within = low;
         found = x.found;
         show = x.show;
         run = x.course.all;
-        order = is ∙ in_one_order heads x.found x.order;
+        order = is ∙ in_one_order heads (past_of es places x.found) x.order;
       })
 
   pub show_none : {P : History → History → Type 0} (heads : List Head) {old new : Option History}
       → Adds old new P
-      → Adds old new (ShowsBack es names heads (Ok false))
-  show_none heads told = adds_as (ShowsBack es names heads (Ok false)) told (λ added history x. tt)
+      → Adds old new (ShowsBack es places names heads (Ok false))
+  show_none heads told =
+      adds_as (ShowsBack es places names heads (Ok false)) told (λ added history x. tt)
 
   pub show_end : (i : ℕ) (heads : List Head) (begins : List ℕ) (b : Bool)
       {old new : Option History} → i ≤ length names
-      → Adds old new (ShowsFrom es names i heads begins)
-      → Adds old new (ShowsBack es names heads (Ok b))
+      → Adds old new (ShowsFrom es places names i heads begins)
+      → Adds old new (ShowsBack es places names heads (Ok b))
   show_end i heads begins true low told = show_done i heads begins low told
   show_end i heads begins false low told = show_none heads told
 
   pub show_failed : {P : History → History → Type 0} (heads : List Head) (fault : JobFault)
       {old new : Option History} → Adds old new P
-      → Adds old new (ShowsBack es names heads (Err fault))
-  show_failed heads fault told = adds_as (ShowsBack es names heads (Err fault)) told
+      → Adds old new (ShowsBack es places names heads (Err fault))
+  show_failed heads fault told = adds_as (ShowsBack es places names heads (Err fault)) told
       (λ added history x. tt)

@@ -26,6 +26,7 @@ use Rattle.chk_merge.proofs.Frames.{reads_quiet, stays_so, spares_one, among}
 use Rattle.chk_merge.proofs.Records.{heads_have_bytes}
 use Rattle.chk_newest.proofs.Streams.{HasBytes}
 use Rattle.chk_newest.specs.Backward.{AllRunBack, ReachPlaces, ReachStarts, AreBegins}
+use Rattle.chk_newest.specs.Forward.{is_past, past_of}
 use Rattle.chk_newest.specs.Newest.{heads_behind, ReachFar, Suffice, IsNewest, FoundFrom, are_found, too_few, IsBack, SoFar, ReadBack, TookNext, SameTies}
 use Rattle.chk_newest.proofs.Turned.{in_one_order, ties_step}
 
@@ -121,7 +122,7 @@ module _ (es : List End) (places : List ℕ) (names : List (List ℕ)) (held : F
       let no_heads : Behind i ≡ [] = ap (heads_from chunk_limit held i) none in
       record {
         sound = subst (Each (IsSound chunk_limit held)) (sym none) tt;
-        order = subst (SameTies []) (sym no_heads) (λ z. refl);
+        order = subst (λ hs. SameTies [] (past_of es places hs)) (sym no_heads) (λ z. refl);
         course = subst (λ hs. AreBegins es hs begins) (sym no_heads) are;
         newest = λ j low high. absurd (let z : ⊥ = omega (arith, low, high, is) in z);
       }
@@ -146,7 +147,7 @@ module _ (es : List End) (places : List ℕ) (names : List (List ℕ)) (held : F
     within = low;
     suffice = record { sound = back.sound; run = back.course.all; far = far };
     newest = back.newest;
-    order = is ∙ in_one_order heads (Behind i) back.order;
+    order = is ∙ in_one_order heads (past_of es places (Behind i)) back.order;
   }
 
   module _ (k i : ℕ) (low : i ≤ length names) (heads : List Head) (begins : List ℕ)
@@ -226,19 +227,19 @@ module _ (es : List End) (places : List ℕ) (names : List (List ℕ)) (held : F
         (heads_have_bytes chunk_limit m (bytes_in (held w))) (bytes_from held i (drop i names))
 
     back_more : (heads more : List Head) (begins after : List ℕ)
-        → AllChunks chunk_limit (bytes_in (held w)) → more ≡ heads ++ Block
-        → ((own later : List Head) → more ≡ heads ++ own → AreBegins es later begins
-        → AreBegins es (own ++ later) after)
+        → AllChunks chunk_limit (bytes_in (held w)) → more ≡ heads ++ past_of es places Block
+        → ((later : List Head) → AreBegins es later begins → AreBegins es (Block ++ later) after)
         → (AreBegins es (Behind i) begins → ReachPlaces es places (Behind i) → ⊥)
         → IsBack es places names held i heads begins → IsBack es places names held m more after
     back_more heads more begins after chunks are leads fails back =
-        let led : AreBegins es (Block ++ Behind i) after = leads Block (Behind i) are back.course
-        in
+        let led : AreBegins es (Block ++ Behind i) after = leads (Behind i) back.course in
         record {
           sound = subst (Each (IsSound chunk_limit held)) (sym names_more) (chunks, back.sound);
-          order = subst (λ l. SameTies l (Behind m)) (sym are)
-              (subst (SameTies (heads ++ Block)) (sym behind_more)
-              (ties_step es Block (Behind i) led.all block_bytes heads back.order));
+          order = subst (λ l. SameTies l (past_of es places (Behind m))) (sym are)
+              (subst (λ l. SameTies (heads ++ past_of es places Block) (past_of es places l))
+              (sym behind_more)
+              (ties_step es Block (Behind i) led.all block_bytes (is_past es places) heads
+              back.order));
           course = subst (λ hs. AreBegins es hs after) (sym behind_more) led;
           newest = λ j high low. elim (cases_eq j i) [
             | inl here ↦ subst (λ n. ReachPlaces es places (Behind n) → ⊥) (sym here)
@@ -280,13 +281,11 @@ module _ (es : List End) (places : List ℕ) (names : List (List ℕ)) (held : F
       one_more_so : (after : List ℕ)
           → ((f : Option File) → IsSmallFile f
           → Adds mid new (Leads (anyhow (SparesFile w)) (Has w f)
-          (TookNext es w f m heads more begins (Ok true))))
-          → ((own later : List Head) → more ≡ heads ++ own → AreBegins es later begins
-          → AreBegins es (own ++ later) after)
+          (TookNext es places w f m heads more begins after (Ok true))))
           → Adds old new (Leads (anyhow (SparesFiles (drop k names)))
           (HasFiles (drop k names) held)
           (SoFar es places names held k m more after))
-      one_more_so after raw leads = leads_then so_far (elim (cases_lt m k) [
+      one_more_so after raw = leads_then so_far (elim (cases_lt m k) [
         | inl low ↦
             adds_as (Leads (anyhow (SparesFiles (drop k names)))
             (SoFar es places names held k i heads begins)
@@ -310,7 +309,7 @@ module _ (es : List End) (places : List ℕ) (names : List (List ℕ)) (held : F
               leads = λ s h.
                   let y = x.leads s h.files in record {
                     files = y.0;
-                    back = λ same. back_more heads more begins after y.1.1 y.1.2 leads fails
+                    back = λ same. back_more heads more begins after y.1.1 y.1.2 y.1.3 fails
                         (h.back (omega (arith, up, next)));
                     few = λ below. few_more k heads begins fails h below;
                   };
@@ -321,22 +320,21 @@ module _ (es : List End) (places : List ℕ) (names : List (List ℕ)) (held : F
       pub one_more : (after : List ℕ) (b : Bool) → b ≡ true
           → ((f : Option File) → IsSmallFile f
           → Adds mid new (Leads (anyhow (SparesFile w)) (Has w f)
-          (TookNext es w f m heads more begins (Ok b))))
-          → ((own later : List Head) → more ≡ heads ++ own → AreBegins es later begins
-          → AreBegins es (own ++ later) after)
+          (TookNext es places w f m heads more begins after (Ok b))))
           → Adds old new (Leads (anyhow (SparesFiles (drop k names)))
           (HasFiles (drop k names) held)
           (SoFar es places names held k m more after))
-      one_more after true is raw leads = one_more_so after raw leads
-      one_more after false wrong raw leads = absurd (true≢false (sym wrong))
+      one_more after true is raw = one_more_so after raw
+      one_more after false wrong raw = absurd (true≢false (sym wrong))
 
-      one_wrong_so : ((f : Option File) → IsSmallFile f
+      one_wrong_so : (after : List ℕ)
+          → ((f : Option File) → IsSmallFile f
           → Adds mid new (Leads (anyhow (SparesFile w)) (Has w f)
-          (TookNext es w f m heads more begins (Ok false))))
+          (TookNext es places w f m heads more begins after (Ok false))))
           → Adds old new (Leads (anyhow (SparesFiles (drop k names)))
           (HasFiles (drop k names) held)
           (ReadBack es places names held k more (Ok false)))
-      one_wrong_so raw = leads_then so_far (elim (cases_lt m k) [
+      one_wrong_so after raw = leads_then so_far (elim (cases_lt m k) [
         | inl low ↦
             adds_as (Leads (anyhow (SparesFiles (drop k names)))
             (SoFar es places names held k i heads begins)
@@ -363,15 +361,15 @@ module _ (es : List End) (places : List ℕ) (names : List (List ℕ)) (held : F
             })
       ])
 
-      pub one_wrong : (b : Bool) → b ≡ false
+      pub one_wrong : (after : List ℕ) (b : Bool) → b ≡ false
           → ((f : Option File) → IsSmallFile f
           → Adds mid new (Leads (anyhow (SparesFile w)) (Has w f)
-          (TookNext es w f m heads more begins (Ok b))))
+          (TookNext es places w f m heads more begins after (Ok b))))
           → Adds old new (Leads (anyhow (SparesFiles (drop k names)))
           (HasFiles (drop k names) held)
           (ReadBack es places names held k more (Ok false)))
-      one_wrong true wrong raw = absurd (true≢false wrong)
-      one_wrong false is raw = one_wrong_so raw
+      one_wrong after true wrong raw = absurd (true≢false wrong)
+      one_wrong after false is raw = one_wrong_so after raw
 
 -- nothing is said after a refusal
 pub not_read : {P : History → History → Type 0} (es : List End) (places : List ℕ)

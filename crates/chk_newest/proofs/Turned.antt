@@ -19,6 +19,7 @@ use Rattle.chk_merge.specs.Courses.{is_head_of, end_of, goes_on, first_break}
 use Rattle.chk_merge.specs.OnePass.{no_end, IsListed}
 use Rattle.chk_newest.proofs.Streams.{end_found}
 use Rattle.chk_newest.proofs.Streams.{HasBytes}
+use Rattle.chk_newest.proofs.Forwards.{filter_swap}
 use Rattle.chk_newest.specs.Backward.{RunsBack, AllRunBack}
 use Rattle.chk_newest.specs.Newest.{SameTies}
 
@@ -53,6 +54,12 @@ none_pass : {X : Type 0} (p : X → Bool) (xs : List X) → Each (λ x. p x ≡ 
 none_pass p [] all = refl
 none_pass p (x ∷ xs) all = ap (λ b. if b then x ∷ filter p xs else filter p xs) all.0 ∙ none_pass p
     xs all.1
+
+swap : (xs ys : List Head) → (xs ≡ []) ⊎ (ys ≡ []) → xs ++ ys ≡ ys ++ xs
+swap xs ys (inl none) = ap (λ l. l ++ ys) none ∙
+    (sym (append-nil ys) ∙ sym (ap (λ l. ys ++ l) none))
+swap xs ys (inr none) = ap (λ l. xs ++ l) none ∙
+    (append-nil xs ∙ sym (ap (λ l. l ++ xs) none))
 
 -- ---- the records of a stream in front of others of it
 
@@ -212,17 +219,24 @@ module _ (es : List End) (block found : List Head) (all : AllRunBack es (block +
           (first_in (filter (ties head_before z) found) x xs is) in
           inr (none_pass (ties head_before z) block (unlike z x there tie))
 
-  -- so the file's heads may stand behind those of the later files, or in front of them
-  pub ties_step : (heads : List Head) → SameTies heads found
-      → SameTies (heads ++ block) (block ++ found)
-  ties_step heads same z =
-      filter-append (ties head_before z) heads block
-      ∙ (ap (λ l. l ++ filter (ties head_before z) block) (same z)
-      ∙ (swap (filter (ties head_before z) found) (filter (ties head_before z) block) (one_empty z)
-      ∙ sym (filter-append (ties head_before z) block found)))
+  -- so those of the file's heads that pass a test may stand behind those of the later files, or in
+  -- front of them
+  pub ties_step : (p : Head → Bool) (heads : List Head) → SameTies heads (filter p found)
+      → SameTies (heads ++ filter p block) (filter p (block ++ found))
+  ties_step p heads same z =
+      filter-append t heads (filter p block)
+      ∙ (ap (λ l. l ++ filter t (filter p block)) (same z)
+      ∙ (swap (filter t (filter p found)) (filter t (filter p block)) (empty (one_empty z))
+      ∙ (sym (filter-append t (filter p block) (filter p found))
+      ∙ sym (ap (filter t) (filter-append p block found)))))
     where
-      swap : (xs ys : List Head) → (xs ≡ []) ⊎ (ys ≡ []) → xs ++ ys ≡ ys ++ xs
-      swap xs ys (inl none) = ap (λ l. l ++ ys) none ∙
-          (sym (append-nil ys) ∙ sym (ap (λ l. ys ++ l) none))
-      swap xs ys (inr none) = ap (λ l. xs ++ l) none ∙
-          (append-nil xs ∙ sym (ap (λ l. l ++ xs) none))
+      t : Head → Bool
+      t = ties head_before z
+
+      none_left : (hs : List Head) → filter t hs ≡ [] → filter t (filter p hs) ≡ []
+      none_left hs none = filter_swap t p hs ∙ ap (filter p) none
+
+      empty : (filter t found ≡ []) ⊎ (filter t block ≡ [])
+          → (filter t (filter p found) ≡ []) ⊎ (filter t (filter p block) ≡ [])
+      empty (inl none) = inl (none_left found none)
+      empty (inr none) = inr (none_left block none)

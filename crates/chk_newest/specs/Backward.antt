@@ -1,5 +1,5 @@
 -- Streams' records, followed from the newest one back.
-use Rattle.std.specs.Prelude.{◌≡◌, ℕ, ◌<◌, ◌≤◌, Bool, ◌&&◌, ◌==◌, nat_le, List, [], ◌∷◌, length, slice_index, None, if◌then◌else◌}
+use Rattle.std.specs.Prelude.{◌≡◌, ℕ, ◌<◌, ◌≤◌, List, [], ◌∷◌, length, slice_index, None, if◌then◌else◌}
 use Rattle.chk_world.specs.Books.{End}
 use Rattle.chk_world.proofs.Each.{Each}
 use Rattle.chk_heads.specs.Heads.{Head}
@@ -29,11 +29,6 @@ ReachPlaces es places hs = (k : ℕ) → k < length es
 -- each stream's records begin at its start
 abbrev pub ReachStarts : List End → List Head → Type 0
 ReachStarts es hs = (k : ℕ) → k < length es → begin_in (end_at es k) hs ≡ (end_at es k).start
-
--- the head ends where the stream's records begin so far, has its start, and doesn't end past its
--- end in the book
-abbrev pub leads_to : End → ℕ → Head → Bool
-leads_to e begin h = h.key.start == e.start && (h.key.seq == begin && nat_le h.key.seq e.end)
 
 -- they run so, and these numbers are where each stream's begin
 pub record AreBegins (es : List End) (hs : List Head) (begins : List ℕ) : Type 0 where

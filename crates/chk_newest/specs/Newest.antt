@@ -14,6 +14,7 @@ use Rattle.chk_heads.specs.ShownHeads.{ShowsHeads, ShowAll}
 use Rattle.chk_heads.specs.declared.fault.JobFault.{JobFault}
 use Rattle.chk_merge.specs.Segments.{HasFiles, IsSound, heads_from}
 use Rattle.chk_newest.specs.Backward.{AllRunBack, ReachPlaces, ReachStarts, AreBegins}
+use Rattle.chk_newest.specs.Forward.{past_of}
 
 -- the heads of the files from this one on, in the order of the files
 abbrev pub heads_behind : Files → List (List ℕ) → ℕ → List Head
@@ -33,14 +34,15 @@ pub record Suffice (es : List End) (places : List ℕ) (names : List (List ℕ))
   pub run : AllRunBack es (heads_behind held names j)
   pub far : ReachFar es places j (heads_behind held names j)
 
--- They suffice, and no fewer reach back so far. The heads are theirs, in order.
+-- They suffice, and no fewer reach back so far. The heads are those of their records that end past
+-- the places of their streams, in order.
 pub record IsNewest (es : List End) (places : List ℕ) (names : List (List ℕ)) (held : Files)
     (j : ℕ) (heads : List Head) : Type 0 where
   pub within : j ≤ length names
   pub suffice : Suffice es places names held j
   pub newest : (i : ℕ) → j < i → i ≤ length names
       → ReachPlaces es places (heads_behind held names i) → ⊥
-  pub order : heads ≡ in_head_order (heads_behind held names j)
+  pub order : heads ≡ in_head_order (past_of es places (heads_behind held names j))
 
 -- among the files from the k-th one on are such; or these don't suffice
 pub data FoundFrom (es : List End) (places : List ℕ) (names : List (List ℕ)) (held : Files) (k : ℕ)
@@ -58,52 +60,47 @@ FoundNewest es places names held k (Ok (Some heads)) history =
 FoundNewest es places names held k (Ok None) history = Suffice es places names held k → ⊥
 FoundNewest es places names held k (Err fault) history = Unit {0}
 
--- own reads show the heads of the records in the files from some one on; these run, and put in
--- order they are the given ones
-pub record ShowsSome (es : List End) (names : List (List ℕ)) (heads : List Head)
+-- own reads show the heads of the records in the files from some one on; these run, and those that
+-- end past the places of their streams are the given ones, put in order
+pub record ShowsSome (es : List End) (places : List ℕ) (names : List (List ℕ)) (heads : List Head)
     (added history : History) : Type 0 where
   pub first : ℕ
   pub within : first ≤ length names
   pub found : List Head
   pub show : ShowAll chunk_limit first (drop first names) found added history
   pub run : AllRunBack es found
-  pub order : heads ≡ in_head_order found
+  pub order : heads ≡ in_head_order (past_of es places found)
 
 -- at Ok own reads show the heads, where there are any
-abbrev pub ShowsNewest : List End → List (List ℕ) → Result (Option (List Head)) JobFault → History
-    → History → Type 0
-ShowsNewest es names (Ok (Some heads)) added history = ShowsSome es names heads added history
-ShowsNewest es names (Ok None) added history = Unit {0}
-ShowsNewest es names (Err fault) added history = Unit {0}
+abbrev pub ShowsNewest : List End → List ℕ → List (List ℕ) → Result (Option (List Head)) JobFault
+    → History → History → Type 0
+ShowsNewest es places names (Ok (Some heads)) added history =
+    ShowsSome es places names heads added history
+ShowsNewest es places names (Ok None) added history = Unit {0}
+ShowsNewest es places names (Err fault) added history = Unit {0}
 
--- at Ok the heads of the file's records stand behind the others, or it isn't one of chunks
-abbrev pub TookFile : List ℕ → Option File → ℕ → List Head → List Head → Result Bool JobFault
-    → History → Type 0
-TookFile name f number old new (Ok true) history =
-    Has name f history × AllChunks chunk_limit (bytes_in f) ×
-    (new ≡ old ++ heads_in chunk_limit number (bytes_in f))
-TookFile name f number old new (Ok false) history = AllChunks chunk_limit (bytes_in f) → ⊥
-TookFile name f number old new (Err fault) history = Unit {0}
-
--- at Ok own reads show the heads that stand behind the others
-abbrev pub ShowsTook : List ℕ → ℕ → List Head → List Head → Result Bool JobFault → History
-    → History → Type 0
-ShowsTook name number old new (Ok true) added history =
-    (own : List Head) × (new ≡ old ++ own) × ShowsHeads chunk_limit number name own added history
-ShowsTook name number old new (Ok false) added history = Unit {0}
-ShowsTook name number old new (Err fault) added history = Unit {0}
+-- At Ok own reads show the heads of the file's records. Those that end past the places of their
+-- streams stand behind the others, and all of them are in front of the later records.
+abbrev pub ShowsTook : List End → List ℕ → List ℕ → ℕ → List Head → List Head → List ℕ → List ℕ
+    → Result Bool JobFault → History → History → Type 0
+ShowsTook es places name number old new before after (Ok true) added history =
+    (own : List Head) × (new ≡ old ++ past_of es places own)
+    × ((later : List Head) → AreBegins es later before → AreBegins es (own ++ later) after)
+    × ShowsHeads chunk_limit number name own added history
+ShowsTook es places name number old new before after (Ok false) added history = Unit {0}
+ShowsTook es places name number old new before after (Err fault) added history = Unit {0}
 
 -- of each kind of heads that no order tells apart both lists have the same ones, in the same order
 abbrev pub SameTies : List Head → List Head → Type 0
 SameTies hs ks = (h : Head) → filter (ties head_before h) hs ≡ filter (ties head_before h) ks
 
--- the files from the i-th one on are read: their heads are these, they run, these are where each
--- stream's records begin, and no fewer files reach back so far
+-- the files from the i-th one on are read: these heads are those of what is new there, the records
+-- run, these are where each stream's begin, and no fewer files reach back so far
 pub record IsBack (es : List End) (places : List ℕ) (names : List (List ℕ)) (held : Files) (i : ℕ)
     (heads : List Head)
     (begins : List ℕ) : Type 0 where
   pub sound : Each (IsSound chunk_limit held) (drop i names)
-  pub order : SameTies heads (heads_behind held names i)
+  pub order : SameTies heads (past_of es places (heads_behind held names i))
   pub course : AreBegins es (heads_behind held names i) begins
   pub newest : (j : ℕ) → i < j → j ≤ length names
       → ReachPlaces es places (heads_behind held names j) → ⊥
@@ -126,29 +123,33 @@ ReadBack es places names held k heads (Ok false) history = Suffice es places nam
 ReadBack es places names held k heads (Err fault) history = Unit {0}
 
 -- own reads show the heads of the files from the i-th one on, which run; the heads that were taken
--- are these in another order
-pub record ShowsFrom (es : List End) (names : List (List ℕ)) (i : ℕ) (heads : List Head)
-    (begins : List ℕ) (added history : History) : Type 0 where
+-- are those of what is new among these, in another order
+pub record ShowsFrom (es : List End) (places : List ℕ) (names : List (List ℕ)) (i : ℕ)
+    (heads : List Head) (begins : List ℕ) (added history : History) : Type 0 where
   pub found : List Head
   pub show : ShowAll chunk_limit i (drop i names) found added history
   pub course : AreBegins es found begins
-  pub order : SameTies heads found
+  pub order : SameTies heads (past_of es places found)
 
-abbrev pub ShowsBack : List End → List (List ℕ) → List Head → Result Bool JobFault → History
-    → History → Type 0
-ShowsBack es names heads (Ok true) added history =
-    (sorted : List Head) → sorted ≡ in_head_order heads → ShowsSome es names sorted added history
-ShowsBack es names heads (Ok false) added history = Unit {0}
-ShowsBack es names heads (Err fault) added history = Unit {0}
+abbrev pub ShowsBack : List End → List ℕ → List (List ℕ) → List Head → Result Bool JobFault
+    → History → History → Type 0
+ShowsBack es places names heads (Ok true) added history =
+    (sorted : List Head) → sorted ≡ in_head_order heads
+    → ShowsSome es places names sorted added history
+ShowsBack es places names heads (Ok false) added history = Unit {0}
+ShowsBack es places names heads (Err fault) added history = Unit {0}
 
--- at Ok the heads of the file's records stand behind the others; or the file isn't of chunks, or
--- they don't lead to the earlier ones
-abbrev pub TookNext : List End → List ℕ → Option File → ℕ → List Head → List Head → List ℕ
-    → Result Bool JobFault → History → Type 0
-TookNext es name f number old new before (Ok true) history =
-    Has name f history × AllChunks chunk_limit (bytes_in f) ×
-    (new ≡ old ++ heads_in chunk_limit number (bytes_in f))
-TookNext es name f number old new before (Ok false) history =
+-- At Ok the file is of chunks. The heads of its records that end past the places of their streams
+-- stand behind the others, and all of them are in front of the later records. Or the file isn't of
+-- chunks, or they aren't in front of those.
+abbrev pub TookNext : List End → List ℕ → List ℕ → Option File → ℕ → List Head → List Head
+    → List ℕ → List ℕ → Result Bool JobFault → History → Type 0
+TookNext es places name f number old new before after (Ok true) history =
+    Has name f history × AllChunks chunk_limit (bytes_in f)
+    × (new ≡ old ++ past_of es places (heads_in chunk_limit number (bytes_in f)))
+    × ((later : List Head) → AreBegins es later before
+    → AreBegins es (heads_in chunk_limit number (bytes_in f) ++ later) after)
+TookNext es places name f number old new before after (Ok false) history =
     (front later : List Head) → AreBegins es later before → AllChunks chunk_limit (bytes_in f)
     → AllRunBack es (front ++ (heads_in chunk_limit number (bytes_in f) ++ later)) → ⊥
-TookNext es name f number old new before (Err fault) history = Unit {0}
+TookNext es places name f number old new before after (Err fault) history = Unit {0}

@@ -1,19 +1,17 @@
 //! Streams' records, followed from the newest one back.
 
-ghost use Rattle.std.specs.Prelude.{◌≡◌, ◌<◌, ◌≤◌, ◌++◌, ◌∷◌, ℕ, List, length, drop, map, slice_index, true, IsTrue, IsFalse, IfOk, IfSome, IfNone, None};
+ghost use Rattle.std.specs.Prelude.{◌≡◌, ◌<◌, ◌≤◌, ℕ, length, map, slice_index, true, IsTrue, IsFalse, IfOk, IfSome, IfNone, None};
 ghost use Rattle.chk_chunk.specs.Keys.{same_stream, stream_lt};
 ghost use Rattle.chk_world.specs.Books.{ends_rise};
-ghost use Rattle.chk_heads.specs.Heads.{Head};
 ghost use Rattle.chk_heads.specs.Order.{lent_head};
 ghost use Rattle.chk_book.specs.declared.lists.End.{End as EndStruct};
 ghost use Rattle.chk_book.specs.Views.{end_view};
 ghost use Rattle.chk_merge.specs.Courses.{is_head_of, is_end_of, end_of};
 ghost use Rattle.chk_merge.specs.OnePass.{end_at};
-ghost use Rattle.chk_newest.specs.Backward.{leads_to, AllRunBack, AreBegins};
 
 use chk_book::End;
 use chk_bytes::{NoMemory, comes_before};
-use chk_heads::{HeadRef, Heads};
+use chk_heads::HeadRef;
 use std::alloc::Global;
 
 /// Where each stream ends in the book.
@@ -24,60 +22,8 @@ pub(crate) fn ends_of(alloc: Global, ends: &[End]) -> Result<Vec<u64>, NoMemory>
     Ok(found)
 }
 
-/// Takes the heads from `from` on, the last one first, each as the one in front of those of its
-/// stream that were taken, and notes where it begins. Where one isn't so, the answer is `false`.
-/// It costs a search among the streams for each head.
-pub(crate) fn take_back(ends: &[End], begins: &mut Vec<u64>, heads: &Heads, from: usize) -> bool
-    requires { length begins.old.items ≡ length ends.now }
-    ensures same { length begins.new.items ≡ length ends.now }
-    ensures took { IsTrue result → IsTrue (ends_rise (map end_view ends.now)) → (later : List Head)
-        → AreBegins (map end_view ends.now) later begins.old.items
-        → AreBegins (map end_view ends.now) (drop from heads.now ++ later) begins.new.items }
-    ensures not { IsFalse result → IsTrue (ends_rise (map end_view ends.now))
-        → (front later : List Head)
-        → AreBegins (map end_view ends.now) later begins.old.items
-        → AllRunBack (map end_view ends.now) (front ++ (drop from heads.now ++ later)) → ⊥ }
-{
-    for index in (from..heads.len()).rev() {
-        if !take_head(ends, begins, &heads.get(index)) {
-            return false;
-        }
-    }
-    true
-}
-
-/// Takes a head as the one in front of those of its stream that were taken, where it is so.
-fn take_head(ends: &[End], begins: &mut Vec<u64>, head: &HeadRef<'_>) -> bool
-    requires { length begins.old.items ≡ length ends.now }
-    ensures same { length begins.new.items ≡ length ends.now }
-    ensures took { IsTrue result → IsTrue (ends_rise (map end_view ends.now)) → (later : List Head)
-        → AreBegins (map end_view ends.now) later begins.old.items
-        → AreBegins (map end_view ends.now) (lent_head head.now ∷ later) begins.new.items }
-    ensures not { IsFalse result → IsTrue (ends_rise (map end_view ends.now))
-        → (front later : List Head)
-        → AreBegins (map end_view ends.now) later begins.old.items
-        → AllRunBack (map end_view ends.now) (front ++ lent_head head.now ∷ later) → ⊥ }
-{
-    let Some(place) = place_of(ends, head) else {
-        return false;
-    };
-    if !leads_to(&ends[place], begins[place], head) {
-        return false;
-    }
-    begins[place] = head.begin;
-    true
-}
-
-/// The head ends where its stream's records begin so far, has the stream's start, and doesn't end
-/// past its end in the book.
-fn leads_to(end: &End, begin: u64, head: &HeadRef<'_>) -> bool
-    ensures { result ≡ leads_to (end_view end.now) begin (lent_head head.now) }
-{
-    head.key.start == end.start && head.key.seq == begin && head.key.seq <= end.end
-}
-
 /// Where the end of the head's stream stands among ends in byte order, if it is there.
-fn place_of(ends: &[End], head: &HeadRef<'_>) -> Option<usize>
+pub(crate) fn place_of(ends: &[End], head: &HeadRef<'_>) -> Option<usize>
     ensures within { IfSome result (λ k. k < length ends.now) }
     ensures found { IfSome result (λ k. is_end_of (lent_head head.now).key.stream
         (end_at (map end_view ends.now) k) ≡ true) }

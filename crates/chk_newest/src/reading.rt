@@ -1,6 +1,6 @@
 //! The newest segments are read, until they suffice.
 
-ghost use Rattle.std.specs.Prelude.{◌≡◌, ◌+◌, ◌≤◌, ◌<◌, ◌++◌, ℕ, List, [], Option, length, drop, map, IsTrue, IfOk, IfErr, OnOk};
+ghost use Rattle.std.specs.Prelude.{◌≡◌, ◌+◌, ◌≤◌, ◌<◌, ℕ, [], Option, length, drop, map, IsTrue, IfOk, IfErr, OnOk};
 ghost use Rattle.chk_bytes.specs.Words.{is_word};
 ghost use Rattle.chk_site.specs.Files.{File, Files};
 ghost use Rattle.chk_site.specs.Effect.{IsSmallFile};
@@ -18,24 +18,22 @@ ghost use Rattle.chk_book.specs.declared.lists.End.{End as EndStruct};
 ghost use Rattle.chk_book.specs.Books.{book_view};
 ghost use Rattle.chk_book.specs.Views.{end_view};
 ghost use Rattle.chk_merge.specs.Segments.{HasFiles, SparesFiles, AreSettled};
-ghost use Rattle.chk_heads.specs.Heads.{Head};
-ghost use Rattle.chk_newest.specs.Backward.{AreBegins};
-ghost use Rattle.chk_newest.specs.Newest.{FoundNewest, ShowsNewest, TookFile, ShowsTook, TookNext, ReadBack, ShowsBack};
+ghost use Rattle.chk_newest.specs.Newest.{FoundNewest, ShowsNewest, ShowsTook, TookNext, ReadBack, ShowsBack};
 
-use crate::backward::{ends_of, reach_places, reach_starts, take_back};
+use crate::backward::{ends_of, reach_places, reach_starts};
+use crate::forward::join_spans;
+use crate::looking::{Look, look_file};
 use chk_book::{Book, End};
 use chk_bytes::{NoMemory, Word};
 use chk_heads::{Heads, JobFault};
 use chk_site::{Site, Who};
 use std::alloc::Global;
 
-/// The most bytes of a chunk's data.
-const MOST: u32 = 131_072;
-
-/// The heads of the records in the newest of these files, which are the segments that the book of
+/// The heads of what is new in the newest of these files, which are the segments that the book of
 /// an archive names, in its order: of as few of them as reach back, for each stream of the book,
 /// to its place in `places` or below it; of all of them, back to the streams' starts, where fewer
-/// don't. The heads stand in order, each with the place of its file's name.
+/// don't. They are those of the records there that end past their streams' places, and stand in
+/// order, each with the place of its file's name.
 ///
 /// The answer is `None` where one of the files that were read isn't one of chunks, or the records
 /// in them don't go on from each other up to their streams' ends in the book: whoever reads all
@@ -43,7 +41,9 @@ const MOST: u32 = 131_072;
 ///
 /// The files are read from the last one back, each once and in pieces of at most 1,048,576 bytes;
 /// without a stream whose place is below its end no file is read. It holds a head of 32 bytes for
-/// each record of the files that were read, and 8 bytes for each stream.
+/// each record that ends past its stream's place, 24 bytes for each stream, and a piece and a
+/// record of one file. Each record costs a search among the streams, and each file a pass over
+/// them.
 pub fn newest_heads<S: Site>(
     alloc: Global,
     site: &mut S,
@@ -61,7 +61,7 @@ pub fn newest_heads<S: Site>(
         (FoundNewest (book_view book.now).ends places.now names.now held k result)) }
     ensures shown { IsTrue (ends_rise (book_view book.now).ends)
         → Adds (S.told site.old) (S.told site.new)
-        (ShowsNewest (book_view book.now).ends names.now result) }
+        (ShowsNewest (book_view book.now).ends places.now names.now result) }
     ensures own { Adds (S.told site.old) (S.told site.new) (Every (IsOf ReadsFile)) }
     ensures pieces { Adds (S.told site.old) (S.told site.new) (Every AsksInPieces) }
     ensures only { IfErr result IsOfWrite }
@@ -110,7 +110,7 @@ fn read_back<S: Site>(
         (ReadBack (map end_view ends.now) places.now names.now held k heads.new result)) }
     ensures shown { IsTrue (ends_rise (map end_view ends.now))
         → Adds (S.told site.old) (S.told site.new)
-        (ShowsBack (map end_view ends.now) names.now heads.new result) }
+        (ShowsBack (map end_view ends.now) places.now names.now heads.new result) }
     ensures own { Adds (S.told site.old) (S.told site.new) (Every (IsOf ReadsFile)) }
     ensures pieces { Adds (S.told site.old) (S.told site.new) (Every AsksInPieces) }
     ensures only { IfErr result IsOfWrite }
@@ -126,6 +126,7 @@ fn read_back<S: Site>(
             site,
             who,
             ends,
+            places,
             names[index].as_str(),
             index,
             begins,
@@ -137,13 +138,14 @@ fn read_back<S: Site>(
     Ok(reach_starts(ends, begins))
 }
 
-/// Reads a file, and takes the heads of its records, the last one first, in front of those that
-/// were taken.
+/// Looks at a file's records, and holds the heads of those of what is new; where they are in front
+/// of those of the later files, the streams begin where they do.
 fn take_next<S: Site>(
     alloc: Global,
     site: &mut S,
     who: &Who,
     ends: &[End],
+    places: &[u64],
     name: &str,
     number: usize,
     begins: &mut Vec<u64>,
@@ -151,49 +153,18 @@ fn take_next<S: Site>(
 ) -> Result<bool, JobFault>
     requires job { who.now ≡ job }
     requires word { IsTrue (is_word name.now) }
+    requires places { length places.now ≡ length ends.now }
     requires begins { length begins.old.items ≡ length ends.now }
     ensures raw { (f : Option File) → IsTrue (ends_rise (map end_view ends.now)) → IsSmallFile f
         → Adds (S.told site.old) (S.told site.new)
         (Leads (anyhow (SparesFile name.now)) (Has name.now f)
-        (TookNext (map end_view ends.now) name.now f number heads.old heads.new begins.old.items
-        result)) }
-    ensures leads { IfOk result (λ more. IsTrue more → IsTrue (ends_rise (map end_view ends.now))
-        → (own later : List Head)
-        → heads.new ≡ heads.old ++ own → AreBegins (map end_view ends.now) later begins.old.items
-        → AreBegins (map end_view ends.now) (own ++ later) begins.new.items) }
+        (TookNext (map end_view ends.now) places.now name.now f number heads.old heads.new
+        begins.old.items begins.new.items result)) }
     ensures same { OnOk result (length begins.new.items ≡ length ends.now) }
-    ensures shown { Adds (S.told site.old) (S.told site.new)
-        (ShowsTook name.now number heads.old heads.new result) }
-    ensures own { Adds (S.told site.old) (S.told site.new) (Every (IsOf ReadsFile)) }
-    ensures pieces { Adds (S.told site.old) (S.told site.new) (Every AsksInPieces) }
-    ensures only { IfErr result IsOfWrite }
-    ensures last { Adds (S.told site.old) (S.told site.new) (FailsLast result) }
-    ensures cause { JobCause (S.fault_count site.old) (S.fault_count site.new) result }
-{
-    let from = heads.len();
-    if !take_file(alloc, site, who, name, number, heads)? {
-        return Ok(false);
-    }
-    Ok(take_back(ends, begins, heads, from))
-}
-
-/// Puts the heads of a file's records behind the others; the answer is `false` where the file
-/// isn't one of chunks.
-fn take_file<S: Site>(
-    alloc: Global,
-    site: &mut S,
-    who: &Who,
-    name: &str,
-    number: usize,
-    heads: &mut Heads,
-) -> Result<bool, JobFault>
-    requires job { who.now ≡ job }
-    requires word { IsTrue (is_word name.now) }
-    ensures raw { (f : Option File) → IsSmallFile f → Adds (S.told site.old) (S.told site.new)
-        (Leads (anyhow (SparesFile name.now)) (Has name.now f)
-        (TookFile name.now f number heads.old heads.new result)) }
-    ensures shown { Adds (S.told site.old) (S.told site.new)
-        (ShowsTook name.now number heads.old heads.new result) }
+    ensures shown { IsTrue (ends_rise (map end_view ends.now))
+        → Adds (S.told site.old) (S.told site.new)
+        (ShowsTook (map end_view ends.now) places.now name.now number heads.old heads.new
+        begins.old.items begins.new.items result) }
     ensures own { Adds (S.told site.old) (S.told site.new) (Every (IsOf ReadsFile)) }
     ensures pieces { Adds (S.told site.old) (S.told site.new) (Every AsksInPieces) }
     ensures only { IfErr result IsOfWrite }
@@ -203,11 +174,14 @@ fn take_file<S: Site>(
     let Ok(file) = number_of(number) else {
         return Err(JobFault::NoMemory);
     };
-    match heads.gather(alloc, site, who, name, file, MOST) {
-        Ok(_) => Ok(true),
-        Err(JobFault::Damaged { .. }) => Ok(false),
-        Err(fault) => Err(fault),
+    let mut look = Look::new(alloc, ends)?;
+    if !look_file(alloc, site, who, ends, places, name, file, &mut look, heads)? {
+        return Ok(false);
     }
+    if look.broken {
+        return Ok(false);
+    }
+    Ok(join_spans(ends, look.spans.as_slice(), begins))
 }
 
 /// The number of a file, of which 32 bits count.

@@ -152,7 +152,8 @@ fn splits(rt: HostRuntime) -> Result<(), Fail> {
 // damaged or missing; of what is read each damage is told, by the first one of all segments. The
 // merged segment has 16 lines of 2 bytes, each a record of 44 bytes behind the header of 96. A run
 // reads each book that is there, and each segment that it needs, by two reads, of which the last one
-// finds the end, and each new record by one.
+// finds the end, and each new record by one. How many heads a run holds no row can see: the figures
+// of a store that grows measure its memory.
 const NEWEST: &str = "\
 what was taken stands in a damaged segment
 bytes archive/seg.1 x
@@ -292,6 +293,21 @@ bytes archive/book BOOK eight:19 four:2 eight:17 eight:800 eight:18 eight:140 fo
 bytes demux/book BOOK eight:2 four:1 eight:1 eight:756 four:1 eight:30 STREAM
 run demux => 0 demux taken 4 entries 2 left 0|
 is demux/seg.2 HEADER SEG_2 LINE one:32 REST LINE one:34 REST
+
+behind a merge, the place stands within a record
+bytes archive/seg.17 HEADER C1_1_1 HELLO WORLD
+bytes archive/book BOOK eight:18 four:1 eight:17 eight:192 four:1 eight:12 STREAM
+bytes demux/book BOOK eight:2 four:1 eight:1 eight:141 four:1 eight:3 STREAM
+run demux => 0 demux taken 9 entries 2 left 0|
+size demux/seg.2 => 189
+
+behind a merge, and an old record doesn't go on
+bytes archive/seg.17 HEADER C1_1_1 LINE one:2 REST LINE one:6 REST LINE one:8 REST
+bytes archive/seg.18 HEADER C1_1_1 LINE one:10 REST
+bytes archive/book BOOK eight:19 four:2 eight:17 eight:228 eight:18 eight:140 four:1 eight:10 STREAM
+bytes demux/book BOOK eight:2 four:1 eight:1 eight:140 four:1 eight:6 STREAM
+run demux => 5 damaged archive/seg.17 140|
+size demux/seg.2 => none
 
 behind a stop in a merge
 bytes archive/seg.15 x

@@ -14,7 +14,8 @@ use Rattle.chk_demux.specs.Working.{EndsSo}
 use Rattle.chk_demux.specs.Writes.{IsOutput}
 use Rattle.chk_demux.specs.Giving.{given_chunks, place_given}
 use Rattle.chk_demux.proofs.Feeding.{given_none}
-use Rattle.chk_demux.proofs.Works.{works_none, works_memory}
+use Rattle.chk_parts.proofs.Works.{works_memory}
+use Rattle.chk_book.proofs.Works.{works_none}
 use Rattle.chk_demux.proofs.NewHeads.{past_put}
 use Rattle.chk_demux.proofs.giving.give.Goals as goal
 

@@ -20,7 +20,8 @@ use Rattle.chk_demux.specs.Shown.{PutsIf}
 use Rattle.chk_demux.specs.Due.{HasRecord}
 use Rattle.chk_demux.proofs.Feeding.{still_splits, value_on}
 use Rattle.chk_demux.proofs.Due.{still_due}
-use Rattle.chk_demux.proofs.Works.{works_none, works_then, works_end, works_result}
+use Rattle.chk_parts.proofs.Works.{works_result, works_end}
+use Rattle.chk_book.proofs.Works.{works_none, works_then}
 use Rattle.chk_demux.proofs.giving.split_value.Goals as goal
 
 pub loop-at-init : goal.loop-at-init

@@ -14,7 +14,8 @@ use Rattle.chk_demux.specs.Writes.{IsSoFar, SoFar}
 use Rattle.chk_demux.proofs.Ends.{so_fails, so_done}
 use Rattle.chk_demux.proofs.OneSegment.{put_so, writes_it, still_for}
 use Rattle.chk_demux.proofs.Outputs.{still_writer}
-use Rattle.chk_demux.proofs.Works.{worked_writes, works_then, works_result, works_value}
+use Rattle.chk_parts.proofs.Works.{works_result, worked_writes, works_value}
+use Rattle.chk_book.proofs.Works.{works_then}
 use Rattle.chk_demux.proofs.output.write_first.Goals as goal
 
 pub returns-in_err-segmenter-clause-told : goal.returns-in_err-segmenter-clause-told

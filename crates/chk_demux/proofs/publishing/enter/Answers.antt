@@ -11,7 +11,7 @@ use Rattle.chk_demux.specs.Writes.{SoFar}
 use Rattle.chk_demux.specs.Entering.{Entered}
 use Rattle.chk_demux.proofs.Ends.{at_as}
 use Rattle.chk_demux.proofs.Entries.{none_entered}
-use Rattle.chk_demux.proofs.Works.{works_none}
+use Rattle.chk_book.proofs.Works.{works_none}
 use Rattle.chk_demux.proofs.publishing.enter.Goals as goal
 
 pub returns-in-Some-clause-told : goal.returns-in-Some-clause-told

@@ -19,7 +19,9 @@ use Rattle.chk_demux.proofs.RawReads.{call_writes}
 use Rattle.chk_demux.proofs.Ends.{so_fails}
 use Rattle.chk_demux.proofs.Entries.{entered_so}
 use Rattle.chk_demux.proofs.OneSegment.{demux_folder, HasWritten, finish_so, writes_it}
-use Rattle.chk_demux.proofs.Works.{works_as, works_result, works_then, worked_writes, worked_replaces}
+use Rattle.chk_demux.proofs.Works.{worked_replaces}
+use Rattle.chk_parts.proofs.Works.{works_result, worked_writes, works_as}
+use Rattle.chk_book.proofs.Works.{works_then}
 use Rattle.chk_demux.proofs.publishing.enter_segment.Goals as goal
 
 pub finish-requires : goal.finish-requires

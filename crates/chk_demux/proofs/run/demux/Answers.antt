@@ -10,7 +10,8 @@ use Rattle.chk_demux.specs.Splitting.{texts}
 use Rattle.chk_demux.specs.declared.report.DemuxReport.{DemuxReport}
 use Rattle.chk_demux.proofs.RawReads.{not_loaded, all_read, older_refused, older_read}
 use Rattle.chk_demux.proofs.RunSteps.{not_begun, whole_run, begun_works, whole_works}
-use Rattle.chk_demux.proofs.Works.{own_of, pieces_of_work, last_of_work, works_result}
+use Rattle.chk_parts.proofs.Works.{works_result}
+use Rattle.chk_book.proofs.Works.{last_of as last_of_work, pieces_of as pieces_of_work, own_of}
 use Rattle.chk_demux.proofs.Shown.{damage_begun, damage_behind, spent_begun}
 use Rattle.chk_demux.proofs.NewHeads.{where_rises, spent_behind}
 use Rattle.chk_demux.proofs.run.demux.Goals as goal

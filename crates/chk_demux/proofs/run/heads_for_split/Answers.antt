@@ -11,7 +11,8 @@ use Rattle.chk_demux.proofs.NewestRaw.{newest_sound, newest_failed, then_sound, 
 use Rattle.chk_demux.proofs.NewestTold.{newest_told, then_all, not_newest, of_read, from_none, names_sound, names_settled, names_well}
 use Rattle.chk_demux.proofs.RunSteps.{gathers}
 use Rattle.chk_demux.proofs.Ends.{cause_behind}
-use Rattle.chk_demux.proofs.Works.{works_memory, works_value, works_then, works_fail}
+use Rattle.chk_parts.proofs.Works.{works_memory, works_value, works_fail}
+use Rattle.chk_book.proofs.Works.{works_then}
 use Rattle.chk_demux.proofs.run.heads_for_split.Goals as goal
 
 pub returns-in_err-places-clause-told : goal.returns-in_err-places-clause-told
@@ -168,17 +169,17 @@ returns-in_err-newest-clause-shown g c sorted =
     let r = c.from_residual-in_err-newest in
     let p = err_from_is_err_and r.result r.ensures.1 in
     rw (p.1, p.2)
-    (newest_shows_none (book_view c.args.archive.now) c.args.names.now c.requires.names c.in_err-newest.field-0.0
+    (newest_shows_none (book_view c.args.archive.now) c.args.names.now c.requires.names c.as_slice.result.now c.in_err-newest.field-0.0
     c.in_err-newest.ensures.only c.in_err-newest.ensures.own)
 
 pub returns-in-Some-clause-shown : goal.returns-in-Some-clause-shown
 returns-in-Some-clause-shown g c sorted =
-    newest_shown (book_view c.args.archive.now) c.args.names.now c.requires.names c.in-Some.heads
+    newest_shown (book_view c.args.archive.now) c.args.names.now c.requires.names c.as_slice.result.now c.in-Some.heads
     (Ok c.in_ok-newest.newest) (ap Ok c.in-Some.is) (c.in_ok-newest.ensures.shown sorted)
 
 pub returns-clause-shown : goal.returns-clause-shown
 returns-clause-shown g c sorted =
-    then_shown (book_view c.args.archive.now) c.args.names.now c.requires.names c.in_ok-newest.ensures.own
+    then_shown (book_view c.args.archive.now) c.args.names.now c.requires.names c.as_slice.result.now c.in_ok-newest.ensures.own
     c.heads_in_order.result c.heads_in_order.ensures.shown
 
 -- ---- whatever the older files are

@@ -13,7 +13,7 @@ use Rattle.chk_demux.specs.Running.{RunsOn}
 use Rattle.chk_demux.specs.Working.{Worked}
 use Rattle.chk_demux.proofs.Ends.{cause_behind}
 use Rattle.chk_demux.proofs.RunSteps.{not_found, not_checked, not_run, all_sorted, gathers}
-use Rattle.chk_demux.proofs.Works.{works_result, works_value}
+use Rattle.chk_parts.proofs.Works.{works_result, works_value}
 use Rattle.chk_merge.proofs.Causes.{sound_bad, sound_broken, sound_so}
 use Rattle.chk_demux.proofs.Shown.{told_reads}
 use Rattle.chk_demux.proofs.run.heads_in_order.Goals as goal

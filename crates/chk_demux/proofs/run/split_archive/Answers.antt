@@ -13,7 +13,7 @@ use Rattle.chk_demux.proofs.Ends.{cause_behind}
 use Rattle.chk_demux.proofs.RawReads.{split_refused, split_spent, split_on, clear_refused, clear_spent, clear_on}
 use Rattle.chk_demux.proofs.RunFacts.{can_run}
 use Rattle.chk_demux.proofs.RunSteps.{nothing_put, some_lack, none_lack, none_left, not_split, all_ran, enters}
-use Rattle.chk_demux.proofs.Works.{works_result}
+use Rattle.chk_parts.proofs.Works.{works_result}
 use Rattle.std.proofs.Common.{ℕ}
 use Rattle.chk_heads.proofs.Causes.{shows_first}
 use Rattle.chk_demux.specs.Shown.{IsUnsoundFrom}

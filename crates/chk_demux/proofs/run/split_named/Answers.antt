@@ -12,7 +12,7 @@ use Rattle.chk_demux.specs.Shown.{PutsIf}
 use Rattle.chk_demux.proofs.Ends.{cause_behind, no_more}
 use Rattle.chk_demux.proofs.RawSplit.{heads_refused, heads_read, older_fails, older_split}
 use Rattle.chk_demux.proofs.RunSteps.{no_heads, split_so, splits}
-use Rattle.chk_demux.proofs.Works.{works_memory, works_result}
+use Rattle.chk_parts.proofs.Works.{works_result, works_memory}
 use Rattle.chk_site.proofs.Runs.{adds_none, adds_as}
 use Rattle.chk_demux.proofs.Shown.{heads_fail, gone_behind}
 use Rattle.chk_demux.proofs.NewHeads.{put_behind}
@@ -78,7 +78,8 @@ returns-clause-raw g c held settled counts sorted rises =
     heads_read (book_view c.args.archive.now) held settled counts (texts c.args.types.now)
     (book_view c.args.book.now) c.args.output.now.entries c.split_streams.new.output.entries
     c.heads_for_split.result
-    (c.heads_for_split.ensures.raw held settled sorted rises) c.in_ok-heads.heads c.in_ok-heads.was c.as_slice-names.result.now
+    (c.heads_for_split.ensures.raw held settled sorted rises) sorted c.in_ok-heads.heads
+    c.in_ok-heads.was c.as_slice-names.result.now
     (c.as_slice-names.ensures.value ∙ c.in_ok-files.ensures) (book_view c.args.book.now).next c.split_streams.result
     c.split_streams.ensures.works
     (λ v cs ws records bytes within own apart rise.

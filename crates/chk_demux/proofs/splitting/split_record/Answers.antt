@@ -19,7 +19,8 @@ use Rattle.chk_demux.proofs.Due.{fed_passed, fed_more}
 use Rattle.chk_demux.proofs.Places.{record_at}
 use Rattle.chk_demux.proofs.Ends.{at_as}
 use Rattle.chk_demux.proofs.Fetches.{P, passed, not_fetched, record_split}
-use Rattle.chk_demux.proofs.Works.{worked, works_none, works_as, works_result, works_then, own_of}
+use Rattle.chk_parts.proofs.Works.{works_result, works_as}
+use Rattle.chk_book.proofs.Works.{works_none, works_then, own_of, worked}
 use Rattle.chk_site.proofs.Runs.{adds_none}
 use Rattle.chk_heads.proofs.Causes.{shows_first}
 use Rattle.chk_merge.specs.Gone.{IsGoneIn}

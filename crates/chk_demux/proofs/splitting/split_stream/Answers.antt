@@ -22,7 +22,8 @@ use Rattle.chk_demux.proofs.Quiet.{quiet}
 use Rattle.chk_demux.proofs.RawReads.{on_refused, on_done}
 use Rattle.chk_demux.proofs.Ends.{at_as, so_fails, so_done}
 use Rattle.chk_demux.proofs.Streams.{stream_begun, stream_ended}
-use Rattle.chk_demux.proofs.Works.{works_none, works_then, works_result}
+use Rattle.chk_parts.proofs.Works.{works_result}
+use Rattle.chk_book.proofs.Works.{works_none, works_then}
 use Rattle.chk_site.proofs.Runs.{adds_as, adds_none}
 use Rattle.chk_heads.proofs.Causes.{shows_then}
 use Rattle.chk_merge.specs.Gone.{IsGoneIn}

@@ -22,7 +22,8 @@ use Rattle.chk_demux.proofs.Due.{stream_due}
 use Rattle.chk_demux.proofs.RawReads.{beside, on_done, none_damaged}
 use Rattle.chk_demux.proofs.Ends.{at_as, no_more}
 use Rattle.chk_demux.proofs.Streams.{seen_at, chunks_more, left_more, stream_fails, stream_done}
-use Rattle.chk_demux.proofs.Works.{works_none, works_then, works_result, works_value, works_end}
+use Rattle.chk_parts.proofs.Works.{works_result, works_value, works_end}
+use Rattle.chk_book.proofs.Works.{works_none, works_then}
 use Rattle.chk_site.proofs.Runs.{adds_as}
 use Rattle.chk_site.specs.declared.acts.OutsideFault.TheVariants.{NoMemory as no_memory}
 use Rattle.chk_heads.proofs.Causes.{shows_then, shows_outside}

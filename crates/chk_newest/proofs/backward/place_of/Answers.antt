@@ -5,7 +5,7 @@ use Rattle.chk_heads.specs.Order.{lent_head}
 use Rattle.chk_book.specs.declared.lists.End.{End as EndStruct}
 use Rattle.chk_book.specs.Views.{end_view}
 use Rattle.chk_merge.specs.Courses.{is_end_of}
-use Rattle.chk_newest.proofs.Streams.{end_there}
+use Rattle.chk_merge.proofs.OnePass.{end_there}
 use Rattle.chk_newest.proofs.Backwards.{parted, none_found}
 use Rattle.chk_newest.proofs.backward.place_of.Goals.{else-place-ends-via-then-place-ends+else-is_of, else-place-ends-via-else-place-ends}
 use Rattle.chk_newest.proofs.backward.place_of.Goals as goal

@@ -37,8 +37,9 @@ loop-index-init g c =
           (so_far_first es c.args.places.now names held k n begins now refl low
           (none_taken c.args.ends.now begins c.requires.begins));
       shown = λ rise.
-          subst (λ hs. Adds now now (ShowsFrom es names n hs begins)) (sym c.requires.heads)
-          (show_first es names n begins now refl
+          subst (λ hs. Adds now now (ShowsFrom es c.args.places.now names n hs begins))
+          (sym c.requires.heads)
+          (show_first es c.args.places.now names n begins now refl
           (none_taken c.args.ends.now begins c.requires.begins));
       own = adds_none now (Every (IsOf ReadsFile)) (λ history. tt);
       pieces = adds_none now (Every AsksInPieces) (λ history. tt);
@@ -68,7 +69,8 @@ returns-then-reach_places-clause-raw g c held k rise low settled =
 pub returns-then-reach_places-clause-shown : goal.returns-then-reach_places-clause-shown
 returns-then-reach_places-clause-shown g c rise =
     let inv = c.loop-index.invariant in
-    show_done (map end_view c.args.ends.now) c.args.names.now c.loop-index.index c.loop-index.heads
+    show_done (map end_view c.args.ends.now) c.args.places.now c.args.names.now
+    c.loop-index.index c.loop-index.heads
     c.loop-index.begins.items inv.low (inv.shown rise)
 
 pub returns-then-reach_places-clause-own : goal.returns-then-reach_places-clause-own
@@ -98,8 +100,8 @@ pub returns-in_err-take_next-clause-shown : goal.returns-in_err-take_next-clause
 returns-in_err-take_next-clause-shown g c rise =
     let p = err_from_is_err_and c.from_residual.result c.from_residual.ensures.1 in
     rw (p.1, p.2)
-    (show_failed (map end_view c.args.ends.now) c.args.names.now c.take_next.new.heads
-    c.in_err-take_next.field-0.0
+    (show_failed (map end_view c.args.ends.now) c.args.places.now c.args.names.now
+    c.take_next.new.heads c.in_err-take_next.field-0.0
     (every_then AsksInPieces c.loop-index.invariant.pieces c.in_err-take_next.ensures.pieces))
 
 pub returns-in_err-take_next-clause-own : goal.returns-in_err-take_next-clause-own
@@ -140,12 +142,13 @@ returns-then-not-branch-clause-raw g c held k rise low settled =
     (subst (λ bs. (n : ℕ) → n < length bs → get_or bs n 0 ≤ get_or places n 0)
     (sym c.deref.ensures.value) passes)))
     (inv.so_far held k rise low settled) c.in_ok-take_next.ensures.own
-    c.in_ok-take_next.field-0 c.if-not-branch.true
+    c.take_next.new.begins.items c.in_ok-take_next.field-0 c.if-not-branch.true
     (λ f small. c.in_ok-take_next.ensures.raw f rise small)
 
 pub returns-then-not-branch-clause-shown : goal.returns-then-not-branch-clause-shown
 returns-then-not-branch-clause-shown g c rise =
-    show_none (map end_view c.args.ends.now) c.args.names.now c.take_next.new.heads
+    show_none (map end_view c.args.ends.now) c.args.places.now c.args.names.now
+    c.take_next.new.heads
     (every_then AsksInPieces c.loop-index.invariant.pieces c.in_ok-take_next.ensures.pieces)
 
 pub returns-then-not-branch-clause-own : goal.returns-then-not-branch-clause-own
@@ -194,14 +197,12 @@ loop-index-preserved g c =
           (sym c.deref.ensures.value) passes)))
           (inv.so_far held k rise low settled) c.in_ok-take_next.ensures.own
           after c.in_ok-take_next.field-0 c.if-not-branch.false
-          (λ f small. c.in_ok-take_next.ensures.raw f rise small)
-          (c.in_ok-take_next.ensures.leads c.if-not-branch.false rise);
+          (λ f small. c.in_ok-take_next.ensures.raw f rise small);
       shown = λ rise.
-          show_next es names (i - 1) i w heads more begins after c.in_ok-take_next.field-0
+          show_next es places names (i - 1) i w heads more begins after c.in_ok-take_next.field-0
           c.if-not-branch.false
           (omega (arith, some)) (omega (arith, some, high)) there
-          (c.in_ok-take_next.ensures.leads c.if-not-branch.false rise) (inv.shown rise)
-          c.in_ok-take_next.ensures.shown;
+          (inv.shown rise) (c.in_ok-take_next.ensures.shown rise);
       own = every_then (IsOf ReadsFile) inv.own c.in_ok-take_next.ensures.own;
       pieces = every_then AsksInPieces inv.pieces c.in_ok-take_next.ensures.pieces;
       count = c.in_ok-take_next.ensures.cause ∙ inv.count;
@@ -230,7 +231,8 @@ returns-clause-raw g c held k rise low settled =
 pub returns-clause-shown : goal.returns-clause-shown
 returns-clause-shown g c rise =
     let inv = c.loop-index.invariant in
-    show_end (map end_view c.args.ends.now) c.args.names.now c.loop-index.index c.loop-index.heads
+    show_end (map end_view c.args.ends.now) c.args.places.now c.args.names.now
+    c.loop-index.index c.loop-index.heads
     c.loop-index.begins.items c.reach_starts.result inv.low (inv.shown rise)
 
 pub returns-clause-own : goal.returns-clause-own

@@ -22,7 +22,7 @@ invariant-loop-index g l = record {
       (SoFar (map end_view l.ends) l.places l.names held k l.index l.heads l.begins.items));
   shown : IsTrue (ends_rise (map end_view l.ends))
       → Adds (g.S.Site.told l.fn.site) (g.S.Site.told l.site)
-      (ShowsFrom (map end_view l.ends) l.names l.index l.heads l.begins.items);
+      (ShowsFrom (map end_view l.ends) l.places l.names l.index l.heads l.begins.items);
   own : Adds (g.S.Site.told l.fn.site) (g.S.Site.told l.site) (Every (IsOf ReadsFile));
   pieces : Adds (g.S.Site.told l.fn.site) (g.S.Site.told l.site) (Every AsksInPieces);
   count : g.S.Site.fault_count l.site ≡ g.S.Site.fault_count l.fn.site;
