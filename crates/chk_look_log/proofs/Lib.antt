@@ -1,4 +1,4 @@
 pub mod Gave
 mod Loop
 pub mod Owned
-mod Placed
+pub mod Placed

@@ -1,0 +1,3 @@
+mod Logs
+pub mod Causes
+mod Blocks

@@ -1,0 +1,4 @@
+pub mod Ahead
+pub mod Meeting
+pub mod Records
+pub mod Streams
