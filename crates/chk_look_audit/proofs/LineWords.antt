@@ -11,7 +11,7 @@ use Rattle.chk_look_sum.proofs.LineWords.{digits_lack}
 use Rattle.chk_look_audit.specs.Lines.{begins, front_of, line_by, named, other_line, other_words, same_line}
 use Rattle.chk_look_audit.specs.Lines.{same_words, short_line, short_words}
 
-both_lack : (a b : List ℕ) → IsTrue (lacks 10 a) → IsTrue (lacks 10 b) → IsTrue (lacks 10 (a ++ b))
+pub both_lack : (a b : List ℕ) → IsTrue (lacks 10 a) → IsTrue (lacks 10 b) → IsTrue (lacks 10 (a ++ b))
 both_lack a b one other =
     list_all-append (λ (x : ℕ). not (x == 10)) a b ∙ and_from (lacks 10 a) (lacks 10 b) one other
 
@@ -65,16 +65,20 @@ module _ (source kind name : List ℕ) (start end begin : ℕ) (a : IsTrue (is_w
           line_one (codes "PART") refl (begins begin (same_words digest))
           (begins_lack (same_lack digest))
 
-  pub other_one : (digest log : List ℕ)
-      → IsTrue (is_one_line (other_line source kind name start end begin digest log))
-  other_one digest log =
+  pub other_one : (words : List ℕ) → IsTrue (lacks 10 words) → (digest log : List ℕ)
+      → IsTrue (is_one_line (other_line words source kind name start end begin digest log))
+  other_one words one digest log =
       let rest : Lack (other_words digest log) =
       next refl (next (digits_lack digest) (next refl (next (digits_lack log) none))) in
-      line_one (codes "DIFFERS") refl (begins begin (other_words digest log)) (begins_lack rest)
+      line_one words one (begins begin (other_words digest log)) (begins_lack rest)
 
-  pub short_one : (at : ℕ) → at < 2 ^ 64
-      → IsTrue (is_one_line (short_line source kind name start end begin at))
-  short_one at g =
+  pub short_one : (words : List ℕ) → IsTrue (lacks 10 words) → (at : ℕ) → at < 2 ^ 64
+      → IsTrue (is_one_line (short_line words source kind name start end begin at))
+  short_one words one at g =
       let rest : Lack (short_words at) =
       next refl (next refl (next refl (next (number_lacks at g) none))) in
-      line_one (codes "DIFFERS") refl (begins begin (short_words at)) (begins_lack rest)
+      line_one words one (begins begin (short_words at)) (begins_lack rest)
+
+-- the first words where they differ at an offset
+pub differs_lacks : (at : ℕ) → at < 2 ^ 64 → IsTrue (lacks 10 (codes "DIFFERS at " ++ decimal at))
+differs_lacks at fits = both_lack (codes "DIFFERS at ") (decimal at) refl (number_lacks at fits)

@@ -1,6 +1,6 @@
 -- Which steps an audit adds.
 use Rattle.std.proofs.Common.{◌≡◌, inl, inr, ℕ, List, [], ◌∷◌, Option, Some, None, Result, Ok, Err}
-use Rattle.std.proofs.Common.{Bool, refl, sym, subst}
+use Rattle.std.proofs.Common.{Bool, true, false, refl, sym, subst}
 use Rattle.chk_site.specs.declared.acts.OutsideFault.{OutsideFault}
 use Rattle.chk_site.specs.declared.acts.Who.{Who}
 use Rattle.chk_site.specs.Acts.{Deed, deed}
@@ -33,7 +33,10 @@ use Rattle.chk_look_audit.specs.Finding.{FindsBy, FindsEach, FindsFrom, FindsLin
 use Rattle.chk_look_audit.specs.Finding.{FindsOne, found_at, goes_on, left_out, line_for, more, no_room, stops}
 use Rattle.chk_look_audit.specs.Finding.{over, source_of}
 use Rattle.chk_look_audit.specs.Streams.{audited, audited_all, AuditedStream, Audits, ended}
-use Rattle.chk_look_audit.specs.Streams.{no_digest, ToldOf}
+use Rattle.chk_look_audit.specs.Streams.{has_all, no_digest, FindsParts, ToldOf, ToldParts}
+use Rattle.chk_compare.specs.declared.gathering.Side.{Side}
+use Rattle.chk_look_beside.specs.Records.{reads_file as file_beside, reads_log as log_beside}
+use Rattle.chk_look_beside.specs.Records.{ReadsBeside}
 
 abbrev Own : Option History → Option History → Type 0
 Own old new = Adds old new (Every LooksAtAudit)
@@ -149,39 +152,61 @@ prints_own {lines = lines} prints =
       each_says lines,
     )
 
-told_own : (r : Rest) (digest : List ℕ) (given : Result LogSum OutsideFault)
-    (result : Result Bool OutsideFault) {old new : Option History}
-    → ToldOf r digest given result old new → Own old new
-told_own r digest (Ok found) result x = prints_own x.printed
-told_own r digest (Err fault) result x = same_own x.0
+beside_own : (path : List ℕ) {old new : Option History}
+    → Adds old new (Every (IsOf (ReadsBeside path))) → Own old new
+beside_own path told = of_kind (ReadsBeside path) (λ call x. by call x) told
+  where
+    by : (call : Deed) → ReadsBeside path call → AuditsBy call
+    by call (file_beside one is) = reads_file call is
+    by call (log_beside one is) = reads_log path call is
 
-stream_own : (r : Rest) (digest : List ℕ) (result : Result Bool OutsideFault)
-    {old new : Option History} → AuditedStream r digest result old new → Own old new
-stream_own r digest result x =
-    join_own (log_own r.end.now.name x.own) (told_own r digest x.given result x.told)
+parts_own : (same : Bool) (side : Side) (r : Rest) (result : Result (Option ℕ) JobFault)
+    {old new : Option History} → FindsParts same side r result old new → Own old new
+parts_own true side r result x = same_own x.0
+parts_own false side r result x = beside_own r.end.now.name x.own
 
-audits_own : (result : Result Bool OutsideFault) (rests : List Rest) (digests : List (List ℕ))
-    (same : Bool) {old new : Option History} → Audits result rests digests same old new
-    → Own old new
-audits_own result rests digests same (audited_all ok) = same_own refl
-audits_own result rests digests same (no_digest ok) = same_own refl
-audits_own result rests digests same (ended {r = r} {digest = digest} {fault = fault} is x) =
-    stream_own r digest (Err fault) x
-audits_own result rests digests same (audited {r = r} {rests = rs} {digest = digest}
+line_told : (r : Rest) (digest : List ℕ) (found : LogSum) (parts : Result (Option ℕ) JobFault)
+    (result : Result Bool JobFault) {old new : Option History}
+    → ToldParts r digest found parts result old new → Own old new
+line_told r digest found (Ok parts) result x = prints_own x.1.printed
+line_told r digest found (Err fault) result x = same_own x.0
+
+told_own : (side : Side) (r : Rest) (digest : List ℕ) (given : Result LogSum OutsideFault)
+    (result : Result Bool JobFault) {old new : Option History}
+    → ToldOf side r digest given result old new → Own old new
+told_own side r digest (Ok found) result x =
+    join_own (parts_own (has_all digest found) side r x.given x.finds)
+    (line_told r digest found x.given result x.told)
+told_own side r digest (Err fault) result x = same_own x.0
+
+stream_own : (side : Side) (r : Rest) (digest : List ℕ) (result : Result Bool JobFault)
+    {old new : Option History} → AuditedStream side r digest result old new → Own old new
+stream_own side r digest result x =
+    join_own (log_own r.end.now.name x.own) (told_own side r digest x.given result x.told)
+
+audits_own : (side : Side) (result : Result Bool JobFault) (rests : List Rest)
+    (digests : List (List ℕ)) (same : Bool) {old new : Option History}
+    → Audits side result rests digests same old new → Own old new
+audits_own side result rests digests same (audited_all ok) = same_own refl
+audits_own side result rests digests same (no_digest ok) = same_own refl
+audits_own side result rests digests same (ended {r = r} {digest = digest} {fault = fault} is x) =
+    stream_own side r digest (Err fault) x
+audits_own side result rests digests same (audited {r = r} {rests = rs} {digest = digest}
     {digests = ds} {one = one} x others) =
-    join_own (stream_own r digest (Ok one) x) (audits_own result rs ds _ others)
+    join_own (stream_own side r digest (Ok one) x) (audits_own side result rs ds _ others)
 
-compared_own : (rests : List Rest) (given : Result (List (List ℕ)) JobFault)
-    (result : Result Compared JobFault) {old new : Option History}
-    → AuditedBy rests given result old new → Own old new
-compared_own rests (Ok digests) result x = audits_own x.0 rests digests _ x.1
-compared_own rests (Err fault) result x = same_own x.0
+compared_own : (folder : List ℕ) (b : Book) (rests : List Rest) (start : Option History)
+    (given : Result (List (List ℕ)) JobFault) (result : Result Compared JobFault)
+    {old new : Option History} → AuditedBy folder b rests start given result old new → Own old new
+compared_own folder b rests start (Ok digests) result x =
+    audits_own x.0 x.2.0 rests digests _ x.2.1
+compared_own folder b rests start (Err fault) result x = same_own x.0
 
 of_own : (folder : List ℕ) (b : Book) (rests : List Rest) (given : Result (Unit {0}) JobFault)
     (result : Result Compared JobFault) {old new : Option History}
     → AuditedOf folder b rests given result old new → Own old new
 of_own folder b rests (Ok value) result x =
-    join_own (files_own x.own) (compared_own rests x.given result x.compared)
+    join_own (files_own x.own) (compared_own folder b rests _ x.given result x.compared)
 of_own folder b rests (Err fault) result x = same_own x.0
 
 as_own : (folder : List ℕ) (given : Result Book JobFault) (result : Result Compared JobFault)

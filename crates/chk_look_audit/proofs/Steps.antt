@@ -13,7 +13,7 @@ use Rattle.chk_site.specs.Site.{OutsideCause}
 use Rattle.chk_world.specs.Sight.{job}
 use Rattle.chk_heads.specs.declared.fault.JobFault.{JobFault}
 use Rattle.chk_heads.specs.declared.fault.JobFault.TheVariants as fault
-use Rattle.chk_heads.specs.Faults.{job_fault, job_result, IsOfRead, JobCause}
+use Rattle.chk_heads.specs.Faults.{job_result, IsOfRead, JobCause}
 use Rattle.chk_prints.specs.Printing.{PrintsInTurn}
 use Rattle.chk_world.proofs.BooksTrue.{each_append}
 use Rattle.chk_world.proofs.Each.{Each}
@@ -30,7 +30,10 @@ use Rattle.chk_look_audit.specs.Finding.{goes_on, HasMore, IsFrom, line_for, no_
 use Rattle.chk_look_audit.specs.Finding.{stops}
 use Rattle.std.specs.Prelude.{IfErr, OnOk}
 use Rattle.chk_look_audit.specs.Streams.{audited, audited_all, AuditedStream, Audits, ended}
-use Rattle.chk_look_audit.specs.Streams.{no_digest}
+use Rattle.chk_look_audit.specs.Streams.{no_digest, parts_of}
+use Rattle.chk_compare.specs.declared.gathering.Side.{Side}
+use Rattle.chk_look_beside.specs.declared.comparing.Met.{Met}
+pub use Rattle.chk_look_beside.proofs.Causes.{call_cause, job_as, job_then, of_call}
 
 -- a line that this process prints
 pub printed_by : {who : Who} {text line : List ℕ} {given : Result (Unit {0}) OutsideFault}
@@ -48,27 +51,6 @@ pub cause_as : (T V : Type 0) (f : OutsideFault) (before now : ℕ)
     → OutsideCause {T = T} before now (Err f) → OutsideCause {T = V} before now (Err f)
 cause_as T V (Outside call) before now x = x
 cause_as T V no_memory before now x = x
-
-pub job_then : {T : Type 0} (result : Result T JobFault) (a b c : ℕ) → b ≡ a
-    → JobCause b c result → JobCause a c result
-job_then result a b c same x = subst (λ n. JobCause n c result) same x
-
-pub job_as : (T V : Type 0) (f : JobFault) (before now : ℕ) → JobCause {T = T} before now (Err f)
-    → JobCause {T = V} before now (Err f)
-job_as T V (fault.Outside call) before now x = x
-job_as T V (fault.Damaged name at) before now x = x
-job_as T V (fault.Spent number) before now x = x
-job_as T V fault.NoMemory before now x = x
-
--- a refusal of a call is one of the job
-pub of_call : (f : OutsideFault) → IsOfRead (job_fault f)
-of_call (Outside call) = tt
-of_call no_memory = tt
-
-pub call_cause : (T V : Type 0) (f : OutsideFault) (before now : ℕ)
-    → OutsideCause {T = T} before now (Err f) → JobCause {T = V} before now (Err (job_fault f))
-call_cause T V (Outside call) before now x = x
-call_cause T V no_memory before now x = x
 
 pub result_cause : {T : Type 0} (result : Result T OutsideFault) (before now : ℕ)
     → OutsideCause before now result → JobCause before now (job_result result)
@@ -135,45 +117,65 @@ one_more source ends i e low is same each =
 
 -- ---- the streams that are compared
 
-pub audits_next : (result : Result Bool OutsideFault) (rests : List Rest)
+pub audits_next : (side : Side) (result : Result Bool JobFault) (rests : List Rest)
     (digests : List (List ℕ)) (i : ℕ) (r : Rest) (d : List ℕ) (same one : Bool)
     {old mid new : Option History} → i < length rests → i < length digests
-    → r ≡ get_or rests i r → d ≡ get_or digests i d → AuditedStream r d (Ok one) old mid
-    → Audits result (drop (i + 1) rests) (drop (i + 1) digests) (same && one) mid new
-    → Audits result (drop i rests) (drop i digests) same old new
-audits_next result rests digests i r d same one {old = old} {new = new} low high is are x rest =
-    subst (λ (rs : List Rest). Audits result rs (drop i digests) same old new)
+    → r ≡ get_or rests i r → d ≡ get_or digests i d → AuditedStream side r d (Ok one) old mid
+    → Audits side result (drop (i + 1) rests) (drop (i + 1) digests) (same && one) mid new
+    → Audits side result (drop i rests) (drop i digests) same old new
+audits_next side result rests digests i r d same one {old = old} {new = new} low high is are x rest =
+    subst (λ (rs : List Rest). Audits side result rs (drop i digests) same old new)
     (sym (next_in rests i r low is))
-    (subst (λ (ds : List (List ℕ)). Audits result (r ∷ drop (i + 1) rests) ds same old new)
+    (subst (λ (ds : List (List ℕ)). Audits side result (r ∷ drop (i + 1) rests) ds same old new)
     (sym (next_in digests i d high are)) (audited x rest))
 
-pub audits_failed : (f : OutsideFault) (rests : List Rest) (digests : List (List ℕ)) (i : ℕ)
+pub audits_failed : (side : Side) (f : JobFault) (rests : List Rest) (digests : List (List ℕ)) (i : ℕ)
     (r : Rest) (d : List ℕ) (same : Bool) {old new : Option History} → i < length rests
     → i < length digests → r ≡ get_or rests i r → d ≡ get_or digests i d
-    → AuditedStream r d (Err f) old new
-    → Audits (Err f) (drop i rests) (drop i digests) same old new
-audits_failed f rests digests i r d same {old = old} {new = new} low high is are x =
-    subst (λ (rs : List Rest). Audits (Err f) rs (drop i digests) same old new)
+    → AuditedStream side r d (Err f) old new
+    → Audits side (Err f) (drop i rests) (drop i digests) same old new
+audits_failed side f rests digests i r d same {old = old} {new = new} low high is are x =
+    subst (λ (rs : List Rest). Audits side (Err f) rs (drop i digests) same old new)
     (sym (next_in rests i r low is))
-    (subst (λ (ds : List (List ℕ)). Audits (Err f) (r ∷ drop (i + 1) rests) ds same old new)
+    (subst (λ (ds : List (List ℕ)). Audits side (Err f) (r ∷ drop (i + 1) rests) ds same old new)
     (sym (next_in digests i d high are)) (ended refl x))
 
-pub audits_end : (rests : List Rest) (digests : List (List ℕ)) (i : ℕ) (same : Bool)
+pub audits_end : (side : Side) (rests : List Rest) (digests : List (List ℕ)) (i : ℕ) (same : Bool)
     (now : Option History) → min (length rests) (length digests) ≤ i
-    → Audits (Ok same) (drop i rests) (drop i digests) same now now
-audits_end rests digests i same now past = go (one_past (length rests) (length digests) i past)
+    → Audits side (Ok same) (drop i rests) (drop i digests) same now now
+audits_end side rests digests i same now past = go (one_past (length rests) (length digests) i past)
   where
     one_past : (p q k : ℕ) → min p q ≤ k → (p ≤ k) ⊎ (q ≤ k)
     one_past p q k h = grind arith
 
     go : (length rests ≤ i) ⊎ (length digests ≤ i)
-        → Audits (Ok same) (drop i rests) (drop i digests) same now now
+        → Audits side (Ok same) (drop i rests) (drop i digests) same now now
     go (inl low) =
-        subst (λ (rs : List Rest). Audits (Ok same) rs (drop i digests) same now now)
+        subst (λ (rs : List Rest). Audits side (Ok same) rs (drop i digests) same now now)
         (sym (drop_all i rests low)) (audited_all refl)
     go (inr low) =
-        subst (λ (ds : List (List ℕ)). Audits (Ok same) (drop i rests) ds same now now)
+        subst (λ (ds : List (List ℕ)). Audits side (Ok same) (drop i rests) ds same now now)
         (sym (drop_all i digests low)) (no_digest refl)
+
+-- what is found of where they part is told of the stream, or a refusal is
+pub parts_only : (given : Result Met JobFault) → IfErr given IsOfRead → IfErr (parts_of given) IsOfRead
+parts_only (Ok met) only = tt
+parts_only (Err (fault.Outside call)) only = only
+parts_only (Err (fault.Damaged name at)) only = tt
+parts_only (Err (fault.Spent number)) only = only
+parts_only (Err fault.NoMemory) only = only
+
+pub parts_cause : (given : Result Met JobFault) (before now : ℕ) → JobCause before now given
+    → JobCause before now (parts_of given)
+parts_cause (Ok met) before now cause = cause
+parts_cause (Err (fault.Outside call)) before now cause = cause
+parts_cause (Err (fault.Damaged name at)) before now cause = cause
+parts_cause (Err (fault.Spent number)) before now cause = cause
+parts_cause (Err fault.NoMemory) before now cause = cause
+
+pub result_only : {T : Type 0} (result : Result T OutsideFault) → IfErr (job_result result) IsOfRead
+result_only (Ok value) = tt
+result_only (Err f) = of_call f
 
 -- ---- the line of a stream
 

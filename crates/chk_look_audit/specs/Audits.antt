@@ -1,21 +1,24 @@
 -- What an audit of a store finds.
 use Rattle.std.specs.Prelude.{◌≡◌, ◌⊎◌, ℕ, Bool, true, false, List, [], ◌∷◌, length, map}
 use Rattle.std.specs.Prelude.{Option, Result, Ok, Err}
-use Rattle.chk_site.specs.declared.acts.OutsideFault.{OutsideFault}
 use Rattle.chk_site.specs.declared.acts.Role.TheVariants.{Job}
 use Rattle.chk_site.specs.declared.acts.Who.{Who}
 use Rattle.chk_site.specs.Acts.{Deed, Says}
 use Rattle.chk_site.specs.History.{History, Step, Every}
 use Rattle.chk_site.specs.Site.{Adds}
+use Rattle.chk_site.specs.Files.{Files}
+use Rattle.chk_site.specs.Runs.{anyhow, Leads}
 use Rattle.chk_replace.specs.Load.{IsLook}
 use Rattle.chk_world.specs.Books.{Book}
 use Rattle.chk_world.specs.JobSteps.{IsOf, ReadsFile}
 use Rattle.chk_heads.specs.declared.fault.JobFault.{JobFault}
 use Rattle.chk_heads.specs.declared.fault.JobFault.TheVariants.{Damaged}
-use Rattle.chk_heads.specs.Faults.{job_fault}
 use Rattle.chk_book.specs.declared.lists.End.{End}
 use Rattle.chk_book.specs.Loaded.{ShowsBook}
 use Rattle.chk_book.specs.Views.{end_view}
+use Rattle.chk_merge.specs.Segments.{names_of, AreSettled, HasFiles, SparesFiles}
+use Rattle.chk_merge.specs.Merging.{SoundHeads}
+use Rattle.chk_compare.specs.declared.gathering.Side.{Side}
 use Rattle.chk_look_passed.specs.Passing.{check_name}
 use Rattle.chk_look_log.specs.Placing.{ReadsLogOf}
 use Rattle.chk_look_sum.specs.declared.rests.Rest.{Rest}
@@ -43,17 +46,36 @@ compared_of [] same = Nothing
 compared_of (r ∷ rests) true = Same
 compared_of (r ∷ rests) false = Differs
 
-abbrev pub compared_by : List Rest → Result Bool OutsideFault → Result Compared JobFault
+abbrev pub compared_by : List Rest → Result Bool JobFault → Result Compared JobFault
 compared_by rests (Ok same) = Ok (compared_of rests same)
-compared_by rests (Err fault) = Err (job_fault fault)
+compared_by rests (Err fault) = Err fault
 
--- what follows the digests of the archive
-abbrev pub AuditedBy : List Rest → Result (List (List ℕ)) JobFault → Result Compared JobFault
+-- each stream is compared with its log, beside its digest
+abbrev pub ComparedBy : Side → List Rest → List (List ℕ) → Result Compared JobFault
     → Option History → Option History → Type 0
-AuditedBy rests (Ok digests) result before after =
-    (given : Result Bool OutsideFault) × Audits given rests digests true before after
+ComparedBy side rests digests result before after =
+    (given : Result Bool JobFault) × Audits side given rests digests true before after
     × (result ≡ compared_by rests given) × (length digests ≡ length rests)
-AuditedBy rests (Err fault) result before after = (after ≡ before) × (result ≡ Err fault)
+
+-- Own reads showed the heads of the segments that the book names, and others were made behind them.
+pub record IsGathered (folder : List ℕ) (b : Book) (side : Side) (before after : Option History)
+    : Type 0 where
+  pub names_are : side.names.now ≡ names_of folder b
+  pub middle : Option History
+  pub sound : (held : Files) → AreSettled (names_of folder b) held
+      → Adds before middle (Leads (anyhow (SparesFiles (names_of folder b)))
+      (HasFiles (names_of folder b) held) (SoundHeads folder b held (Ok side.heads.now)))
+  pub own : Adds middle after (Every (IsOf ReadsFile))
+
+-- What follows the digests of the archive: the streams of the segments whose heads were gathered
+-- since `start` are compared.
+abbrev pub AuditedBy : List ℕ → Book → List Rest → Option History → Result (List (List ℕ)) JobFault
+    → Result Compared JobFault → Option History → Option History → Type 0
+AuditedBy folder b rests start (Ok digests) result before after =
+    (side : Side) × IsGathered folder b side start before
+    × ComparedBy side rests digests result before after
+AuditedBy folder b rests start (Err fault) result before after =
+    (after ≡ before) × (result ≡ Err fault)
 
 -- the archive's bytes of these streams are summed from where their logs begin on, and then each is
 -- compared with its log
@@ -63,7 +85,7 @@ pub record AuditedRests (folder : List ℕ) (b : Book) (rests : List Rest)
   pub middle : Option History
   pub summed : SummedRests folder b rests given before middle
   pub own : Adds before middle (Every (IsOf ReadsFile))
-  pub compared : AuditedBy rests given result middle after
+  pub compared : AuditedBy folder b rests before given result middle after
 
 -- what follows the look at the agents
 abbrev pub AuditedOf : List ℕ → Book → List Rest → Result (Unit {0}) JobFault

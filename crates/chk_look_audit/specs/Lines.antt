@@ -1,6 +1,6 @@
 -- The lines of an audit.
 use Rattle.std.specs.Prelude.{ℕ, List, [], ◌∷◌, ◌++◌, codes, decimal, bytes_eq, nat_le}
-use Rattle.std.specs.Prelude.{if◌then◌else◌}
+use Rattle.std.specs.Prelude.{if◌then◌else◌, Option, Some, None}
 use Rattle.chk_world.specs.Books.{End}
 use Rattle.hex.specs.Hex.{encode_lower}
 use Rattle.chk_look_log.specs.declared.summing.LogSum.{LogSum}
@@ -48,22 +48,27 @@ same_line source kind name start end begin digest =
     then line_by (codes "same") source kind name start end (same_words digest)
     else line_by (codes "PART") source kind name start end (begins begin (same_words digest))
 
--- the line of one whose log has other bytes
-abbrev pub other_line : List ℕ → List ℕ → List ℕ → ℕ → ℕ → ℕ → List ℕ → List ℕ → List ℕ
-other_line source kind name start end begin digest log =
-    line_by (codes "DIFFERS") source kind name start end (begins begin (other_words digest log))
+-- the first words where they differ, with the offset, where a second reading found it
+abbrev pub differs : Option ℕ → List ℕ
+differs None = codes "DIFFERS"
+differs (Some at) = codes "DIFFERS at " ++ decimal at
+
+-- the line of one whose log has other bytes, which begins with these words
+abbrev pub other_line : List ℕ → List ℕ → List ℕ → List ℕ → ℕ → ℕ → ℕ → List ℕ → List ℕ → List ℕ
+other_line words source kind name start end begin digest log =
+    line_by words source kind name start end (begins begin (other_words digest log))
 
 -- the line of one whose log ends before the archive
-abbrev pub short_line : List ℕ → List ℕ → List ℕ → ℕ → ℕ → ℕ → ℕ → List ℕ
-short_line source kind name start end begin at =
-    line_by (codes "DIFFERS") source kind name start end (begins begin (short_words at))
+abbrev pub short_line : List ℕ → List ℕ → List ℕ → List ℕ → ℕ → ℕ → ℕ → ℕ → List ℕ
+short_line words source kind name start end begin at =
+    line_by words source kind name start end (begins begin (short_words at))
 
 -- The line of a stream whose archive has this digest from where its log begins on, by what was
--- found of the log.
-abbrev pub audit_line : End → ℕ → List ℕ → LogSum → List ℕ
-audit_line e begin digest (Whole log) =
+-- found of the log; these are the first words of one that differs.
+abbrev pub audit_line : End → ℕ → List ℕ → LogSum → List ℕ → List ℕ
+audit_line e begin digest (Whole log) words =
     if bytes_eq log digest
     then same_line e.stream.source e.stream.kind e.stream.name e.start e.end begin digest
-    else other_line e.stream.source e.stream.kind e.stream.name e.start e.end begin digest log
-audit_line e begin digest (Ends at) =
-    short_line e.stream.source e.stream.kind e.stream.name e.start e.end begin at
+    else other_line words e.stream.source e.stream.kind e.stream.name e.start e.end begin digest log
+audit_line e begin digest (Ends at) words =
+    short_line words e.stream.source e.stream.kind e.stream.name e.start e.end begin at

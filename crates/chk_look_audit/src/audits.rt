@@ -7,14 +7,18 @@ ghost use Rattle.chk_world.specs.Sight.{job};
 ghost use Rattle.chk_heads.specs.Faults.{IsOfRead, JobCause};
 ghost use Rattle.chk_book.specs.Books.{book_view};
 ghost use Rattle.chk_book.specs.Folders.{is_folder};
-ghost use Rattle.chk_look_audit.specs.Audits.{Audited, AuditedAgain, AuditedBook, AuditedBy};
+ghost use Rattle.chk_merge.specs.Segments.{names_of};
+ghost use Rattle.chk_look_audit.specs.Audits.{Audited, AuditedAgain, AuditedBook, ComparedBy};
 ghost use Rattle.chk_look_audit.specs.Audits.{compared_of, AuditedRests, HasDamage, LooksAtAudit};
 
 use crate::agents::find_rests;
 use crate::streams::audit_each;
 use chk_book::{Book, load_book};
+use chk_bytes::{NoMemory, Word};
+use chk_compare::{Side, sound_heads};
 use chk_heads::JobFault;
-use chk_look_sum::{Digests, Rest, sum_rests};
+use chk_look_sum::{Digests, Rest, sum_streams};
+use chk_merge::segment_names;
 use chk_site::{Site, Who};
 use std::alloc::Global;
 
@@ -38,12 +42,16 @@ pub enum Compared {
 /// archived bytes is compared with that of the log's at the same offsets, generation by generation.
 /// The lines are `same <source> <type> <name> start <offset> end <offset> sha256 <digest>`, with
 /// `PART` and `log begins at <offset>` behind the offsets where the log has the first bytes no
-/// more, and `DIFFERS`, with `log begins at <offset>` too, and `archive <digest> log <digest>`, or
-/// `log ends at <offset>`.
+/// more, and `DIFFERS at <offset>`, with `log begins at <offset>` too, and `archive <digest> log
+/// <digest>`, or `log ends at <offset>`. The offset behind `at` is that of the first byte of the
+/// archive that the log doesn't have: it has another one there, or ends. It is found by a second
+/// reading of both, side by side. Where that finds none, since one of them was changed meanwhile,
+/// the line is without it.
 ///
 /// Damage is told before the first line, where a second look at once finds some too. It costs what
-/// `sum` does, and the reads of each checkpoint and of each log, in pieces of 131,072 bytes. A
-/// stream is looked for in all lines of its checkpoint.
+/// `sum` does, and the reads of each checkpoint and of each log, in pieces of 131,072 bytes, and
+/// for each stream that differs once more those of its records and of its log, up to where they
+/// part. A stream is looked for in all lines of its checkpoint.
 pub fn audit<S: Site>(
     alloc: Global,
     site: &mut S,
@@ -125,8 +133,40 @@ fn audit_rests<S: Site>(
     ensures only { IfErr result IsOfRead }
     ensures cause { JobCause (S.fault_count site.old) (S.fault_count site.new) result }
 {
-    match sum_rests(alloc, site, who, folder, book, rests) {
-        Ok(digests) => compare(alloc, site, who, rests, &digests),
+    match segment_names(alloc, folder, book) {
+        Ok(names) => audit_segments(alloc, site, who, folder, book, names.as_slice(), rests),
+        Err(NoMemory) => Err(JobFault::NoMemory),
+    }
+}
+
+/// The same, of the segments of these names.
+fn audit_segments<S: Site>(
+    alloc: Global,
+    site: &mut S,
+    who: &Who,
+    folder: &str,
+    book: &Book,
+    names: &[Word],
+    rests: &[Rest<'_>],
+) -> Result<Compared, JobFault>
+    requires job { who.now ≡ job }
+    requires names { names.now ≡ names_of folder.now (book_view book.now) }
+    ensures told { AuditedRests folder.now (book_view book.now) rests.now result
+        (S.told site.old) (S.told site.new) }
+    ensures only { IfErr result IsOfRead }
+    ensures cause { JobCause (S.fault_count site.old) (S.fault_count site.new) result }
+{
+    match sound_heads(book, alloc, site, who, folder, names) {
+        Ok(heads) => {
+            let side = Side {
+                names,
+                heads: &heads,
+            };
+            match sum_streams(alloc, site, who, &side, rests) {
+                Ok(digests) => compare(alloc, site, who, &side, rests, &digests),
+                Err(fault) => Err(fault),
+            }
+        }
         Err(fault) => Err(fault),
     }
 }
@@ -136,19 +176,20 @@ fn compare<S: Site>(
     alloc: Global,
     site: &mut S,
     who: &Who,
+    side: &Side<'_>,
     rests: &[Rest<'_>],
     digests: &Digests,
 ) -> Result<Compared, JobFault>
     requires job { who.now ≡ job }
     requires count { length digests.now ≡ length rests.now }
-    ensures told { AuditedBy rests.now (Ok digests.now) result (S.told site.old)
+    ensures told { ComparedBy side.now rests.now digests.now result (S.told site.old)
         (S.told site.new) }
     ensures only { IfErr result IsOfRead }
     ensures cause { JobCause (S.fault_count site.old) (S.fault_count site.new) result }
 {
-    match audit_each(alloc, site, who, rests, digests.as_slice()) {
+    match audit_each(alloc, site, who, side, rests, digests.as_slice()) {
         Ok(same) => Ok(compared_of(rests, same)),
-        Err(fault) => Err(JobFault::from(fault)),
+        Err(fault) => Err(fault),
     }
 }
 

@@ -1,12 +1,13 @@
 //! The lines of an audit.
 
-ghost use Rattle.std.specs.Prelude.{◌≡◌, ◌++◌, codes, string_bytes, IfOk, IsTrue};
-ghost use Rattle.chk_bytes.specs.Words.{is_word};
+ghost use Rattle.std.specs.Prelude.{◌≡◌, ◌++◌, codes, decimal, string_bytes, IfOk, IsTrue};
+ghost use Rattle.chk_bytes.specs.Words.{is_word, lacks};
 ghost use Rattle.chk_world.specs.ArchiveRuns.{is_one_line};
 ghost use Rattle.chk_look_sum.specs.Lines.{line_of};
 ghost use Rattle.hex.specs.Hex.{encode_lower};
-ghost use Rattle.chk_look_audit.specs.Lines.{audit_line, begins, front_of, line_by, named, other_line};
-ghost use Rattle.chk_look_audit.specs.Lines.{other_words, same_line, same_words, short_line, short_words};
+ghost use Rattle.chk_look_audit.specs.Lines.{audit_line, begins, differs, front_of, line_by, named};
+ghost use Rattle.chk_look_audit.specs.Lines.{other_line, other_words, same_line, same_words};
+ghost use Rattle.chk_look_audit.specs.Lines.{short_line, short_words};
 ghost use Rattle.chk_look_log.specs.declared.summing.LogSum.TheVariants.{Whole};
 ghost use Rattle.chk_look_sum.specs.Rests.{end_of};
 
@@ -16,23 +17,52 @@ use chk_look_log::LogSum;
 use chk_look_sum::Rest;
 use std::alloc::Global;
 
+/// The words that a line begins with whose stream differs, with the offset where that is known.
+pub(crate) fn differs(alloc: Global, parts: Option<u64>) -> Result<String, NoMemory>
+    ensures text { IfOk result (λ text. string_bytes text ≡ differs parts) }
+    ensures one { IsTrue (lacks 10 (differs parts)) }
+{
+    match parts {
+        Some(at) => differs_at(alloc, at),
+        None => differs_somewhere(alloc),
+    }
+}
+
+fn differs_at(alloc: Global, at: u64) -> Result<String, NoMemory>
+    ensures text { IfOk result (λ text. string_bytes text ≡ codes "DIFFERS at " ++ decimal at) }
+    ensures one { IsTrue (lacks 10 (codes "DIFFERS at " ++ decimal at)) }
+{
+    let text = format!(in alloc; "DIFFERS at {at}")?;
+    Ok(text)
+}
+
+fn differs_somewhere(alloc: Global) -> Result<String, NoMemory>
+    ensures { IfOk result (λ text. string_bytes text ≡ codes "DIFFERS") }
+{
+    let text = format!(in alloc; "DIFFERS")?;
+    Ok(text)
+}
+
 /// The line of a stream whose archive has this digest from where its log begins on, by what was
-/// found of that.
+/// found of that; where they differ it begins with these words.
 pub(crate) fn audit_line(
     alloc: Global,
     rest: &Rest<'_>,
     digest: &[u8; 32],
     found: &LogSum,
+    words: &str,
 ) -> Result<String, NoMemory>
-    ensures line { IfOk result (λ line.
-        string_bytes line ≡ audit_line (end_of rest.now) rest.now.begin digest.now found.now) }
+    requires words { IsTrue (lacks 10 words.now) }
+    ensures line { IfOk result (λ line. string_bytes line
+        ≡ audit_line (end_of rest.now) rest.now.begin digest.now found.now words.now) }
     ensures one { IsTrue (is_one_line
-        (audit_line (end_of rest.now) rest.now.begin digest.now found.now)) }
+        (audit_line (end_of rest.now) rest.now.begin digest.now found.now words.now)) }
 {
     match found {
-        LogSum::Whole(log) => whole_line(alloc, rest, digest, log),
+        LogSum::Whole(log) => whole_line(alloc, rest, digest, log, words),
         LogSum::Ends(at) => short_line(
             alloc,
+            words,
             rest.end.source.as_str(),
             rest.end.kind.as_str(),
             rest.end.name.as_str(),
@@ -50,11 +80,13 @@ fn whole_line(
     rest: &Rest<'_>,
     digest: &[u8; 32],
     log: &[u8; 32],
+    words: &str,
 ) -> Result<String, NoMemory>
+    requires words { IsTrue (lacks 10 words.now) }
     ensures line { IfOk result (λ line. string_bytes line
-        ≡ audit_line (end_of rest.now) rest.now.begin digest.now (Whole log.now)) }
+        ≡ audit_line (end_of rest.now) rest.now.begin digest.now (Whole log.now) words.now) }
     ensures one { IsTrue (is_one_line
-        (audit_line (end_of rest.now) rest.now.begin digest.now (Whole log.now))) }
+        (audit_line (end_of rest.now) rest.now.begin digest.now (Whole log.now) words.now)) }
 {
     if are_equal(log.as_slice(), digest.as_slice()) {
         same_line(
@@ -70,6 +102,7 @@ fn whole_line(
     } else {
         other_line(
             alloc,
+            words,
             rest.end.source.as_str(),
             rest.end.kind.as_str(),
             rest.end.name.as_str(),
@@ -176,6 +209,7 @@ fn part_tail(alloc: Global, begin: u64, digest: &[u8; 32]) -> Result<String, NoM
 
 fn other_line(
     alloc: Global,
+    words: &str,
     source: &str,
     kind: &str,
     name: &str,
@@ -185,19 +219,23 @@ fn other_line(
     digest: &[u8; 32],
     log: &[u8; 32],
 ) -> Result<String, NoMemory>
+    requires words { IsTrue (lacks 10 words.now) }
     requires source { IsTrue (is_word source.now) }
     requires kind { IsTrue (is_word kind.now) }
     requires name { IsTrue (is_word name.now) }
     ensures line { IfOk result (λ line. string_bytes line
-        ≡ other_line source.now kind.now name.now start end begin digest.now log.now) }
+        ≡ other_line words.now source.now kind.now name.now start end begin digest.now log.now) }
     ensures one { IsTrue (is_one_line
-        (other_line source.now kind.now name.now start end begin digest.now log.now)) }
+        (other_line words.now source.now kind.now name.now start end begin digest.now log.now)) }
 {
-    other_text(alloc, source, kind, name, start, end, begin, digest, log)
+    other_text(
+        alloc, words, source, kind, name, start, end, begin, digest, log,
+    )
 }
 
 fn other_text(
     alloc: Global,
+    words: &str,
     source: &str,
     kind: &str,
     name: &str,
@@ -208,19 +246,10 @@ fn other_text(
     log: &[u8; 32],
 ) -> Result<String, NoMemory>
     ensures { IfOk result (λ line. string_bytes line
-        ≡ other_line source.now kind.now name.now start end begin digest.now log.now) }
+        ≡ other_line words.now source.now kind.now name.now start end begin digest.now log.now) }
 {
     let tail = other_tail(alloc, begin, digest, log)?;
-    text_of(
-        alloc,
-        "DIFFERS",
-        source,
-        kind,
-        name,
-        start,
-        end,
-        tail.as_str(),
-    )
+    text_of(alloc, words, source, kind, name, start, end, tail.as_str())
 }
 
 fn other_tail(
@@ -240,6 +269,7 @@ fn other_tail(
 
 fn short_line(
     alloc: Global,
+    words: &str,
     source: &str,
     kind: &str,
     name: &str,
@@ -248,19 +278,21 @@ fn short_line(
     begin: u64,
     at: u64,
 ) -> Result<String, NoMemory>
+    requires words { IsTrue (lacks 10 words.now) }
     requires source { IsTrue (is_word source.now) }
     requires kind { IsTrue (is_word kind.now) }
     requires name { IsTrue (is_word name.now) }
     ensures line { IfOk result (λ line. string_bytes line
-        ≡ short_line source.now kind.now name.now start end begin at) }
+        ≡ short_line words.now source.now kind.now name.now start end begin at) }
     ensures one { IsTrue (is_one_line
-        (short_line source.now kind.now name.now start end begin at)) }
+        (short_line words.now source.now kind.now name.now start end begin at)) }
 {
-    short_text(alloc, source, kind, name, start, end, begin, at)
+    short_text(alloc, words, source, kind, name, start, end, begin, at)
 }
 
 fn short_text(
     alloc: Global,
+    words: &str,
     source: &str,
     kind: &str,
     name: &str,
@@ -270,19 +302,10 @@ fn short_text(
     at: u64,
 ) -> Result<String, NoMemory>
     ensures { IfOk result (λ line. string_bytes line
-        ≡ short_line source.now kind.now name.now start end begin at) }
+        ≡ short_line words.now source.now kind.now name.now start end begin at) }
 {
     let tail = short_tail(alloc, begin, at)?;
-    text_of(
-        alloc,
-        "DIFFERS",
-        source,
-        kind,
-        name,
-        start,
-        end,
-        tail.as_str(),
-    )
+    text_of(alloc, words, source, kind, name, start, end, tail.as_str())
 }
 
 fn short_tail(alloc: Global, begin: u64, at: u64) -> Result<String, NoMemory>

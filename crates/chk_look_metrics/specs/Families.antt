@@ -1,4 +1,4 @@
--- The families of metrics, and the text of all of them.
+-- The families of metrics of stores, and the text of all of them.
 use Rattle.std.specs.Prelude.{ℕ, List, [], ◌∷◌, ◌++◌, codes, flat_map, length, string_bytes}
 use Rattle.std.specs.Prelude.{Option, Some, None}
 use Rattle.std.specs.Borrow.{Bor}
@@ -24,6 +24,7 @@ name_of family.Quiet = codes "chukwa_sink_quiet_seconds"
 name_of family.Unclosed = codes "chukwa_sinks_unclosed"
 name_of family.Closed = codes "chukwa_sinks_closed"
 name_of family.Held = codes "chukwa_chunks_held"
+name_of family.Free = codes "chukwa_free_bytes"
 
 -- what it is
 abbrev pub help_of : Family → List ℕ
@@ -36,13 +37,14 @@ help_of family.Quiet = codes "Seconds since a sink under writing grew."
 help_of family.Unclosed = codes "Sinks under writing."
 help_of family.Closed = codes "Closed sinks that wait for the job."
 help_of family.Held = codes "Chunks that are set aside."
+help_of family.Free = codes "Bytes that are free where the store is."
 
--- what stands before its rows
-abbrev pub type_of : Family → List ℕ
-type_of f = codes "# TYPE " ++ (name_of f ++ codes " gauge\n# HELP ")
+-- what stands before the rows of a metric
+abbrev pub type_text : List ℕ → List ℕ
+type_text name = codes "# TYPE " ++ (name ++ codes " gauge\n# HELP ")
 
-abbrev pub head_of : Family → List ℕ
-head_of f = type_of f ++ (name_of f ++ (codes " " ++ (help_of f ++ codes "\n")))
+abbrev pub head_text : List ℕ → List ℕ → List ℕ
+head_text name help = type_text name ++ (name ++ (codes " " ++ (help ++ codes "\n")))
 
 -- the rows of a store's streams
 abbrev pub archived_row : NamedStore → EndStruct → List ℕ
@@ -71,6 +73,11 @@ quiet_of store stem None = []
 abbrev pub quiet_row : NamedStore → OpenSink → List ℕ
 quiet_row s o = quiet_of (string_bytes s.folder) (stem_text o.stem) o.quiet
 
+-- the row of what is free, none where that isn't known
+abbrev pub free_of : List ℕ → Option ℕ → List ℕ
+free_of store (Some bytes) = store_row (name_of family.Free) store bytes
+free_of store None = []
+
 -- the rows that a family has of a store
 abbrev pub rows_of : Family → NamedStore → List ℕ
 rows_of family.Found s = store_row (name_of family.Found) (string_bytes s.folder) 1
@@ -85,10 +92,11 @@ rows_of family.Closed s =
     store_row (name_of family.Closed) (string_bytes s.folder) s.seen.sinks.closed
 rows_of family.Held s =
     store_row (name_of family.Held) (string_bytes s.folder) (length s.seen.waiting.heads)
+rows_of family.Free s = free_of (string_bytes s.folder) s.seen.free
 
 -- a family with its rows of all stores
-abbrev pub family_text : List NamedStore → Family → List ℕ
-family_text stores f = head_of f ++ flat_map (rows_of f) stores
+unfoldable pub family_text : List NamedStore → Family → List ℕ
+family_text stores f = head_text (name_of f) (help_of f) ++ flat_map (rows_of f) stores
 
 -- which folders are stores: the row of one that is none, and all of them
 abbrev pub absent_row : List ℕ → List ℕ
@@ -98,7 +106,7 @@ abbrev pub found_text : List NamedStore → List (Bor (List ℕ)) → List ℕ
 found_text stores absent =
     family_text stores family.Found ++ flat_map (λ w. absent_row w.now) absent
 
--- those of streams, of the bytes of sinks, of sinks under writing, and of what waits
+-- those of streams, of the bytes of sinks, of sinks under writing, of what waits and what is free
 abbrev pub stream_families : List Family
 stream_families = family.Archived ∷ family.Demuxed ∷ []
 
@@ -109,12 +117,12 @@ abbrev pub open_families : List Family
 open_families = family.Quiet ∷ family.Unclosed ∷ []
 
 abbrev pub waiting_families : List Family
-waiting_families = family.Closed ∷ family.Held ∷ []
+waiting_families = family.Closed ∷ family.Held ∷ family.Free ∷ []
 
--- all of them, and the mark of the end
-abbrev pub metrics_text : List NamedStore → List (Bor (List ℕ)) → List ℕ
-metrics_text stores absent =
+-- all of them
+abbrev pub stores_text : List NamedStore → List (Bor (List ℕ)) → List ℕ
+stores_text stores absent =
     found_text stores absent ++ (flat_map (family_text stores) stream_families
     ++ (flat_map (family_text stores) sink_families
     ++ (flat_map (family_text stores) open_families
-    ++ (flat_map (family_text stores) waiting_families ++ codes "# EOF\n"))))
+    ++ flat_map (family_text stores) waiting_families)))

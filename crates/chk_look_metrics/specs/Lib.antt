@@ -1,2 +1,3 @@
 pub mod Metrics
 pub mod Families
+pub mod Agents

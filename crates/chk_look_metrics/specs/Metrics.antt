@@ -12,9 +12,13 @@ escaped byte =
 abbrev pub label : List ℕ → List ℕ → List ℕ
 label name value = name ++ (codes "=\"" ++ (flat_map escaped value ++ codes "\""))
 
--- a row up to the name of the store
+-- a row up to its first label
+abbrev pub front_by : List ℕ → List ℕ → List ℕ → List ℕ
+front_by metric name value = metric ++ (codes "{" ++ label name value)
+
+-- where that is the name of the store
 abbrev pub front_of : List ℕ → List ℕ → List ℕ
-front_of metric store = metric ++ (codes "{" ++ label (codes "store") store)
+front_of metric store = front_by metric (codes "store") store
 
 -- a further label
 abbrev pub more_of : List ℕ → List ℕ → List ℕ
@@ -39,3 +43,14 @@ stream_row metric store e value =
 abbrev pub sink_row : List ℕ → List ℕ → List ℕ → ℕ → List ℕ
 sink_row metric store stem value =
     front_of metric store ++ (codes ",sink=\"" ++ (stem ++ (codes "\"" ++ tail_of value)))
+
+-- the row of a stream of an agent: its folder, its source, and the type and name of the stream
+abbrev pub log_row : List ℕ → List ℕ → List ℕ → List ℕ → List ℕ → ℕ → List ℕ
+log_row metric folder source kind name value =
+    front_by metric (codes "agent") folder ++ (more_of (codes "source") source
+    ++ (more_of (codes "type") kind ++ (more_of (codes "name") name ++ tail_of value)))
+
+-- a row of two labels
+abbrev pub pair_row : List ℕ → List ℕ → List ℕ → List ℕ → List ℕ → ℕ → List ℕ
+pair_row metric first folder second name value =
+    front_by metric first folder ++ (more_of second name ++ tail_of value)

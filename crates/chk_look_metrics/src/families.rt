@@ -1,27 +1,25 @@
-//! The families of metrics.
+//! The families of metrics of stores.
 
-ghost use Rattle.std.specs.Prelude.{◌≡◌, ◌++◌, ◌≤◌, flat_map, string_bytes, IfOk, OnOk};
-ghost use Rattle.chk_book.specs.Books.{book_view};
-ghost use Rattle.chk_book.specs.Views.{end_view};
-ghost use Rattle.chk_look_rows.specs.Lines.{split_to};
+ghost use Rattle.std.specs.Prelude.{◌≡◌, ◌++◌, flat_map, string_bytes, OnOk};
 ghost use Rattle.chk_look_metrics.specs.Families.{absent_row, archived_row, committed_row, demuxed_row};
-ghost use Rattle.chk_look_metrics.specs.Families.{family_text, found_text, head_of, help_of, metrics_text, name_of};
-ghost use Rattle.chk_look_metrics.specs.Families.{open_families, quiet_of, quiet_row, rows_of, sink_families, stream_families, type_of, waiting_families, written_row};
+ghost use Rattle.chk_look_metrics.specs.Families.{family_text, found_text, free_of, head_text, help_of};
+ghost use Rattle.chk_look_metrics.specs.Families.{name_of, stores_text};
+ghost use Rattle.chk_look_metrics.specs.Families.{open_families, quiet_of, quiet_row, rows_of, sink_families, stream_families, type_text, waiting_families, written_row};
 ghost use Rattle.chk_look_metrics.specs.Metrics.{store_row};
 ghost use Rattle.chk_bytes.specs.Stems.{stem_text};
 
 use crate::rows::{put_sink_row, put_store_row, put_stream_row};
-use chk_book::{Book, End};
 use chk_bytes::{Bytes, NoMemory};
-use chk_look_rows::OpenSink;
-use chk_look_status::StoreSeen;
-use std::alloc::Global;
+use chk_look_rows::{OpenSink, split_to};
+use chk_look_status::{Lock, StoreSeen};
 
 /// A store that was seen, and the name of its folder.
 #[derive(Debug, Drop)]
 pub struct NamedStore {
     pub folder: String,
     pub seen: StoreSeen,
+    /// The folder's locks.
+    pub locks: Vec<Lock>,
 }
 
 /// What the rows of a family tell.
@@ -36,6 +34,7 @@ pub(crate) enum Family {
     Unclosed,
     Closed,
     Held,
+    Free,
 }
 
 impl Family {
@@ -53,6 +52,7 @@ impl Family {
             Family::Unclosed => "chukwa_sinks_unclosed",
             Family::Closed => "chukwa_sinks_closed",
             Family::Held => "chukwa_chunks_held",
+            Family::Free => "chukwa_free_bytes",
         }
     }
 
@@ -70,25 +70,25 @@ impl Family {
             Family::Unclosed => "Sinks under writing.",
             Family::Closed => "Closed sinks that wait for the job.",
             Family::Held => "Chunks that are set aside.",
+            Family::Free => "Bytes that are free where the store is.",
         }
     }
 }
 
-/// The state of the stores as OpenMetrics has it (version 1.0.0): nine families of gauges, each with
-/// its rows of all stores, and the mark of the end. Labels are the store's folder, and the stream's
-/// source, type and name or the sink's stem. Of a sink it isn't told how long it is quiet where that
-/// isn't known. Of a folder that is no store it has that one row. It holds the whole text.
-pub fn metrics_of(alloc: Global, stores: &[NamedStore], absent: &[&str]) -> Result<Bytes, NoMemory>
-    ensures { IfOk result (λ text. text ≡ metrics_text stores.now absent.now) }
+/// Appends ten families, each with its rows of all stores. Of a folder that is no store it has the
+/// row that says so alone.
+pub(crate) fn put_stores(
+    out: &mut Bytes,
+    stores: &[NamedStore],
+    absent: &[&str],
+) -> Result<(), NoMemory>
+    ensures { OnOk result (out.new ≡ out.old ++ stores_text stores.now absent.now) }
 {
-    let mut out = Bytes::new(alloc);
-    put_found(&mut out, stores, absent)?;
-    put_stream_families(&mut out, stores)?;
-    put_sink_families(&mut out, stores)?;
-    put_open_families(&mut out, stores)?;
-    put_waiting_families(&mut out, stores)?;
-    out.push_all(b"# EOF\n")?;
-    Ok(out)
+    put_found(out, stores, absent)?;
+    put_stream_families(out, stores)?;
+    put_sink_families(out, stores)?;
+    put_open_families(out, stores)?;
+    put_waiting_families(out, stores)
 }
 
 /// Appends which of the folders are stores.
@@ -133,35 +133,38 @@ fn put_waiting_families(out: &mut Bytes, stores: &[NamedStore]) -> Result<(), No
     ensures { OnOk result (out.new ≡ out.old ++ flat_map (family_text stores.now) waiting_families) }
 {
     put_family(out, Family::Closed, stores)?;
-    put_family(out, Family::Held, stores)
+    put_family(out, Family::Held, stores)?;
+    put_family(out, Family::Free, stores)
 }
 
 /// Appends a family with its rows of all stores.
+#[tactic(auto, unfolding(crate::specs::Families::family_text))]
 fn put_family(out: &mut Bytes, family: Family, stores: &[NamedStore]) -> Result<(), NoMemory>
     ensures { OnOk result (out.new ≡ out.old ++ family_text stores.now family) }
 {
-    put_head(out, family)?;
+    put_head(out, family.name(), family.help())?;
     for store in stores {
         put_rows(out, family, store)?;
     }
     Ok(())
 }
 
-fn put_head(out: &mut Bytes, family: Family) -> Result<(), NoMemory>
-    ensures { OnOk result (out.new ≡ out.old ++ head_of family) }
+/// Appends what stands before the rows of a metric.
+pub(crate) fn put_head(out: &mut Bytes, name: &str, help: &str) -> Result<(), NoMemory>
+    ensures { OnOk result (out.new ≡ out.old ++ head_text name.now help.now) }
 {
-    put_type(out, family)?;
-    out.push_all(family.name().as_bytes())?;
+    put_type(out, name)?;
+    out.push_all(name.as_bytes())?;
     out.push_all(b" ")?;
-    out.push_all(family.help().as_bytes())?;
+    out.push_all(help.as_bytes())?;
     out.push_all(b"\n")
 }
 
-fn put_type(out: &mut Bytes, family: Family) -> Result<(), NoMemory>
-    ensures { OnOk result (out.new ≡ out.old ++ type_of family) }
+fn put_type(out: &mut Bytes, name: &str) -> Result<(), NoMemory>
+    ensures { OnOk result (out.new ≡ out.old ++ type_text name.now) }
 {
     out.push_all(b"# TYPE ")?;
-    out.push_all(family.name().as_bytes())?;
+    out.push_all(name.as_bytes())?;
     out.push_all(b" gauge\n# HELP ")
 }
 
@@ -179,6 +182,7 @@ fn put_rows(out: &mut Bytes, family: Family, store: &NamedStore) -> Result<(), N
         Family::Unclosed => put_count(out, family, store, store.seen.sinks.unclosed.len() as u64),
         Family::Closed => put_count(out, family, store, store.seen.sinks.closed),
         Family::Held => put_count(out, family, store, store.seen.waiting.heads.len() as u64),
+        Family::Free => put_free(out, store),
     }
 }
 
@@ -191,6 +195,16 @@ fn put_count(
     ensures { OnOk result (out.new ≡ out.old ++ store_row (name_of family) (string_bytes store.now.folder) count) }
 {
     put_store_row(out, family.name(), store.folder.as_str(), count)
+}
+
+fn put_free(out: &mut Bytes, store: &NamedStore) -> Result<(), NoMemory>
+    ensures { OnOk result (out.new ≡ out.old
+        ++ free_of (string_bytes store.now.folder) store.now.seen.free) }
+{
+    match store.seen.free {
+        Some(bytes) => put_count(out, Family::Free, store, bytes),
+        None => Ok(()),
+    }
 }
 
 fn put_archived(out: &mut Bytes, store: &NamedStore) -> Result<(), NoMemory>
@@ -214,14 +228,6 @@ fn put_demuxed(out: &mut Bytes, store: &NamedStore) -> Result<(), NoMemory>
         put_stream_row(out, name, store.folder.as_str(), end, split)?;
     }
     Ok(())
-}
-
-/// The offset up to which the records of the stream go; its start where there are none.
-fn split_to(records: &Book, end: &End) -> u64
-    ensures { result ≡ split_to (book_view records.now).ends (end_view end.now) }
-{
-    let split = records.archived_end(end.source.as_str(), end.kind.as_str(), end.name.as_str());
-    split.max(end.start)
 }
 
 fn put_written(out: &mut Bytes, store: &NamedStore) -> Result<(), NoMemory>

@@ -1,3 +1,4 @@
+pub mod Free
 pub mod Stores
 pub mod Telling
 pub mod Absent

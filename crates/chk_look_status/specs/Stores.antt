@@ -20,6 +20,7 @@ use Rattle.chk_look_rows.specs.declared.sinks.OpenSink.{OpenSink}
 use Rattle.chk_look_rows.specs.Lines.{counts_line, sink_line, stream_in}
 use Rattle.chk_look_rows.specs.Sinks.{FindsSinks}
 use Rattle.chk_look_status.specs.declared.store.StoreSeen.{StoreSeen}
+use Rattle.chk_look_status.specs.Free.{free_text, free_word}
 
 -- a refusal of the site as one of the job's
 abbrev pub job_of : OutsideFault → JobFault
@@ -32,7 +33,7 @@ pub data FoundRest (w : Waiting) (b : Book) : Result StoreSeen JobFault → Opti
   no_sinks : {old new : Option History} (given : OutsideFault)
       → FindsSinks job (Err given) old new → FoundRest w b (Err (job_of given)) old new
   with_sinks : {old new : Option History} (sinks : Sinks) → FindsSinks job (Ok sinks) old new
-      → FoundRest w b (Ok (record { waiting = w; split = b; sinks = sinks })) old new
+      → FoundRest w b (Ok (record { waiting = w; split = b; sinks = sinks; free = None })) old new
 
 -- the book of the records is read before
 pub data FoundBeside (w : Waiting) : Result StoreSeen JobFault → Option History → Option History
@@ -62,10 +63,12 @@ has_trouble s =
     nat_lt 0 (length s.waiting.heads)
     || list_any (λ (o : OpenSink). is_quiet o.quiet) s.sinks.unclosed.items
 
--- how many sinks are under writing, how many closed ones wait, and how many chunks are set aside
+-- how many sinks are under writing, how many closed ones wait, and how many chunks are set aside;
+-- and below that what is free
 abbrev pub store_counts : StoreSeen → List ℕ
 store_counts s =
     counts_line (length s.sinks.unclosed.items) s.sinks.closed (length s.waiting.heads)
+    ++ free_text s.free
 
 -- the tables, below the name of the folder
 abbrev pub text_of : List ℕ → List ℕ → List ℕ → List ℕ → List ℕ
@@ -92,7 +95,8 @@ abbrev pub line_counts : StoreSeen → List ℕ
 line_counts s =
     codes "unclosed " ++ (decimal (length s.sinks.unclosed.items) ++ (codes " closed "
     ++ (decimal s.sinks.closed ++ (codes " held " ++ (decimal (length s.waiting.heads)
-    ++ (codes " quiet " ++ decimal (longest 0 s.sinks.unclosed.items)))))))
+    ++ (codes " quiet " ++ (decimal (longest 0 s.sinks.unclosed.items)
+    ++ (codes " free " ++ free_word s.free))))))))
 
 -- one line on a store
 abbrev pub line_text : List ℕ → StoreSeen → List ℕ

@@ -210,8 +210,8 @@ fn lag_at(agent: &AgentSeen, index: usize, line: &CheckLine, books: &[&Book]) ->
     lag_in(agent.source.as_str(), line, end, books).unwrap_or(0)
 }
 
-/// Up to where the log of the line at this place goes.
-fn end_at(ends: &[Option<u64>], index: usize) -> Option<u64>
+/// Up to where the log of the line at this place goes, where that is known.
+pub fn end_at(ends: &[Option<u64>], index: usize) -> Option<u64>
     ensures { result ≡ get_or ends.now index None }
 {
     if index < ends.len() {
@@ -293,8 +293,10 @@ fn cell(alloc: Global, value: Option<u64>) -> Result<String, NoMemory>
     }
 }
 
-/// How many bytes the log of the line goes on behind what is archived or committed.
-fn lag_in(source: &str, line: &CheckLine, end: Option<u64>, books: &[&Book]) -> Option<u64>
+/// How many bytes the log of the line, which goes up to this end, goes on behind what is archived
+/// by these books, or behind what is committed where there is none. None where the log ends before
+/// either, or its end isn't known. It costs the number of streams in all books.
+pub fn lag_in(source: &str, line: &CheckLine, end: Option<u64>, books: &[&Book]) -> Option<u64>
     ensures { result ≡ lag_in books.now source.now line.now end }
 {
     lag_of(end, line.place.offset, archived_of(source, line, books))

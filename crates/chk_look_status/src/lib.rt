@@ -4,6 +4,7 @@
 
 mod absent;
 mod doors;
+mod free;
 mod lags;
 mod locks;
 mod store;
@@ -11,7 +12,8 @@ mod telling;
 
 pub use absent::{tell_absent, tell_absent_line};
 pub use doors::{Door, ask_list, door_of, tell_door, tell_door_line};
-pub use lags::{tell_agents, tell_agents_line};
+pub use free::free_in;
+pub use lags::{end_at, lag_in, tell_agents, tell_agents_line};
 pub use locks::{Holder, Lock, holder_in, tell_locks, tell_locks_line};
 pub use store::{QUIET_SECONDS, StoreSeen, find_store};
 pub use telling::{say_bytes, tell_line, tell_store};

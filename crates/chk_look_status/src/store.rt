@@ -31,6 +31,8 @@ pub struct StoreSeen {
     /// The book of the records.
     pub split: Book,
     pub sinks: Sinks,
+    /// How many bytes are free where the store is, where that is known.
+    pub free: Option<u64>,
 }
 
 impl StoreSeen {
@@ -60,7 +62,7 @@ fn is_quiet(quiet: Option<u64>) -> bool
 }
 
 /// The books of the store in the site's folder, the chunks that are set aside, and the sinks. A
-/// folder without a book has no stream. How long sinks are quiet isn't known.
+/// folder without a book has no stream. How long sinks are quiet, and what is free, isn't known.
 ///
 /// It costs the reads of both books and of the aside segment, as `find_waiting` has them, one
 /// listing, and two calls a sink under writing.
@@ -115,6 +117,7 @@ fn find_rest<S: Site>(
             waiting,
             split,
             sinks,
+            free: None,
         }),
         Err(fault) => Err(job_of(fault)),
     }

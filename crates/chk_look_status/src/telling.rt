@@ -6,6 +6,7 @@ ghost use Rattle.chk_look_status.specs.Stores.{line_counts, line_text, longest, 
 ghost use Rattle.chk_look_status.specs.Stores.{store_text, text_of};
 ghost use Rattle.chk_look_status.specs.Telling.{Tells};
 
+use crate::free::{free_text, free_word};
 use crate::store::StoreSeen;
 use chk_bytes::NoMemory;
 use chk_look_rows::{OpenSink, counts_line, sink_lines, stream_lines};
@@ -24,7 +25,8 @@ const COUNTS: &str = "       UNCLOSED          CLOSED            HELD\n";
 /// Prints the tables of a store, in one piece: of each stream how far it is archived and split; of
 /// each sink under writing its length, what is committed, and how many seconds it is quiet; and
 /// how many sinks are under writing, how many closed ones wait for the job, and how many chunks
-/// are set aside. It costs one call, and holds the text.
+/// are set aside; and how many bytes are free, `-` where that isn't known. It costs one call, and
+/// holds the text.
 pub fn tell_store<S: Site>(
     alloc: Global,
     site: &mut S,
@@ -43,8 +45,8 @@ pub fn tell_store<S: Site>(
 }
 
 /// Prints one line on a store, as Nagios reads it: `OK - ` or, where it has trouble, `WARNING - `,
-/// and then `<folder>: unclosed <n> closed <n> held <n> quiet <s>`, with the most seconds that a
-/// sink under writing is known to be quiet. It costs one call.
+/// and then `<folder>: unclosed <n> closed <n> held <n> quiet <s> free <bytes>`, with the most
+/// seconds that a sink under writing is known to be quiet. It costs one call.
 pub fn tell_line<S: Site>(
     alloc: Global,
     site: &mut S,
@@ -109,7 +111,10 @@ fn store_counts(alloc: Global, seen: &StoreSeen) -> Result<String, NoMemory>
 {
     let unclosed = seen.sinks.unclosed.len() as u64;
     let held = seen.waiting.heads.len() as u64;
-    counts_line(alloc, unclosed, seen.sinks.closed, held)
+    let counts = counts_line(alloc, unclosed, seen.sinks.closed, held)?;
+    let free = free_text(alloc, seen.free)?;
+    let text = format!(in alloc; "{counts}{free}")?;
+    Ok(text)
 }
 
 fn text_of(
@@ -144,7 +149,8 @@ fn line_counts(alloc: Global, seen: &StoreSeen) -> Result<String, NoMemory>
     let held = seen.waiting.heads.len();
     let quiet = longest_quiet(seen.sinks.unclosed.as_slice());
     let front = format!(in alloc; "unclosed {unclosed} closed {closed}")?;
-    let text = format!(in alloc; "{front} held {held} quiet {quiet}")?;
+    let free = free_word(alloc, seen.free)?;
+    let text = format!(in alloc; "{front} held {held} quiet {quiet} free {free}")?;
     Ok(text)
 }
 

@@ -32,7 +32,7 @@ put s/archive/book HEAD 3 #2 1 144 2 142 #1 10 H1
 put agents/h1.check CHECK AT_0
 grows hello
 grows worl
-run audit --agent d --store s = 1 [DIFFERS h1 Log /a.log start 0 end 10 log begins at 0 \
+run audit --agent d --store s = 1 [DIFFERS at 9 h1 Log /a.log start 0 end 10 log begins at 0 \
 archive a6ea49492f217a13988fea97fac6a502c017db9990c08fa652578ac1464eb2de \
 log aa9bd1c43029e2bc856ae770c57cd0ccfee4c461cc445c8af54eab202cbda22b|] \
 a log hasn't all that the archive has
@@ -43,7 +43,57 @@ put s/archive/seg.2 HEADER MARKER WORL
 put s/archive/book HEAD 3 #2 1 144 2 142 #1 10 H1
 put agents/h1.check CHECK AT_0
 grows hello
-run audit --agent d --store s = 1 [DIFFERS h1 Log /a.log start 0 end 10 log begins at 0 log ends at 6|] \
+run audit --agent d --store s = 1 [DIFFERS at 6 h1 Log /a.log start 0 end 10 log begins at 0 log ends at 6|] \
+a log hasn't all that the archive has
+
+one that was cut off and grew again
+put s/archive/seg.1 HEADER MARKER HELLO
+put s/archive/seg.2 HEADER MARKER WORL
+put s/archive/book HEAD 3 #2 1 144 2 142 #1 10 H1
+put agents/h1.check CHECK AT_0
+grows worl
+run audit --agent d --store s = 1 [DIFFERS at 0 h1 Log /a.log start 0 end 10 log begins at 0 log ends at 5|] \
+a log hasn't all that the archive has
+
+a byte differs behind the first generation, which is removed
+put s/archive/seg.1 HEADER MARKER HELLO
+put s/archive/seg.2 HEADER MARKER WORM
+put s/archive/book HEAD 3 #2 1 144 2 142 #1 10 H1
+put agents/h1.check CHECK AT_6
+grows hello
+turns .2010-11-08
+grows worl
+drops .2010-11-08
+run audit --agent d --store s = 1 [DIFFERS at 9 h1 Log /a.log start 0 end 10 log begins at 6 \
+archive b9af17af4fc5708e9ba636512213b9d0cf6f894c0c3ba6e1d970c13a921c5db9 \
+log 0373f59a8d38d54deadb78a4c14dedb129652ea39dcf1bb8f4bbe6069bb31f4a|] \
+a log hasn't all that the archive has
+
+it is the same again at the second reading
+put s/archive/seg.1 HEADER MARKER HELLO
+put s/archive/seg.2 HEADER MARKER WORM
+put s/archive/new HEADER MARKER WORL
+put s/archive/book HEAD 3 #2 1 144 2 142 #1 10 H1
+put agents/h1.check CHECK AT_0
+grows hello
+grows worl
+before 12 rename s/archive/new s/archive/seg.2
+run audit --agent d --store s = 1 [DIFFERS h1 Log /a.log start 0 end 10 log begins at 0 \
+archive a6ea49492f217a13988fea97fac6a502c017db9990c08fa652578ac1464eb2de \
+log aa9bd1c43029e2bc856ae770c57cd0ccfee4c461cc445c8af54eab202cbda22b|] \
+a log hasn't all that the archive has
+
+its segment goes before the second reading
+put s/archive/seg.1 HEADER MARKER HELLO
+put s/archive/seg.2 HEADER MARKER WORM
+put s/archive/book HEAD 3 #2 1 144 2 142 #1 10 H1
+put agents/h1.check CHECK AT_0
+grows hello
+grows worl
+before 12 remove s/archive/seg.2
+run audit --agent d --store s = 1 [DIFFERS h1 Log /a.log start 0 end 10 log begins at 0 \
+archive a6ea49492f217a13988fea97fac6a502c017db9990c08fa652578ac1464eb2de \
+log aa9bd1c43029e2bc856ae770c57cd0ccfee4c461cc445c8af54eab202cbda22b|] \
 a log hasn't all that the archive has
 
 a generation is removed that the stream has passed
@@ -70,7 +120,7 @@ grows worl
 turns .2010-11-09
 grows more
 drops .2010-11-09
-run audit --agent d --store s = 1 [DIFFERS h1 Log /a.log start 0 end 10 log begins at 0 \
+run audit --agent d --store s = 1 [DIFFERS at 6 h1 Log /a.log start 0 end 10 log begins at 0 \
 archive aa9bd1c43029e2bc856ae770c57cd0ccfee4c461cc445c8af54eab202cbda22b \
 log 1eafeb68cb64677c626fe713cf5e7f3aadee1865c79f3ab6201668872ae211b3|] \
 a log hasn't all that the archive has

@@ -12,6 +12,8 @@ mod courses;
 #[cfg(test)]
 mod files;
 #[cfg(test)]
+mod free;
+#[cfg(test)]
 mod held;
 #[cfg(test)]
 mod logs;

@@ -4,9 +4,11 @@ ghost use Rattle.chk_world.specs.Sight.{job};
 
 use crate::agents::shows_agents;
 use crate::scene::follows_each;
-use chk_look_metrics::{NamedStore, tell_metrics};
+use chk_bytes::Word;
+use chk_look_logs::find_agents;
+use chk_look_metrics::{NamedAgents, NamedDoor, NamedStore, tell_metrics};
 use chk_look_run::{Outcome, Usage, looker, outcome_of_job, told_as};
-use chk_look_status::{StoreSeen, find_store, tell_line, tell_store};
+use chk_look_status::{Door, Holder, Lock, StoreSeen, find_store, tell_line, tell_store};
 use chk_look_words::{Form, StatusWords, WordsFault, read_status};
 use chk_site::Who;
 use chk_site_mem::SiteMem;
@@ -31,8 +33,10 @@ run status --store s = 0 [store s|\
 \x20           144              96               -  c1.1.3|\
 \x20           190               0               -  c2.5.1|\
 \x20      UNCLOSED          CLOSED            HELD|\
-\x20             2               1               0|]
-run status -q --store s = 0 [OK - s: unclosed 2 closed 1 held 0 quiet 0|]
+\x20             2               1               0|\
+\x20          FREE|\
+\x20             -|]
+run status -q --store s = 0 [OK - s: unclosed 2 closed 1 held 0 quiet 0 free -|]
 
 the same as OpenMetrics has it
 put archive/seg.1 HEADER MARKER HELLO
@@ -41,6 +45,9 @@ put demux/book HEAD 2 #1 1 144 #1 4 H1
 put sinks/c1.1.3.chukwa HEADER MARKER HELLO
 put sinks/c1.1.3.mark 96
 put sinks/c1.1.2.done HEADER MARKER HELLO
+put agents/h1.check CHECK AT_0
+grows one
+grows two
 run status --metrics --store a\"b = 0 [\
 # TYPE chukwa_store_found gauge|# HELP chukwa_store_found 1 where the folder is a store, 0 where it is none.|\
 chukwa_store_found{store=\"a\\\"b\"} 1|\
@@ -62,6 +69,20 @@ chukwa_sinks_unclosed{store=\"a\\\"b\"} 1|\
 chukwa_sinks_closed{store=\"a\\\"b\"} 1|\
 # TYPE chukwa_chunks_held gauge|# HELP chukwa_chunks_held Chunks that are set aside.|\
 chukwa_chunks_held{store=\"a\\\"b\"} 0|\
+# TYPE chukwa_free_bytes gauge|# HELP chukwa_free_bytes Bytes that are free where the store is.|\
+chukwa_free_bytes{store=\"a\\\"b\"} 4096|\
+# TYPE chukwa_log_bytes gauge|# HELP chukwa_log_bytes Offset up to which the log goes.|\
+chukwa_log_bytes{agent=\"d\",source=\"h1\",type=\"Log\",name=\"/a.log\"} 8|\
+# TYPE chukwa_log_committed_bytes gauge|# HELP chukwa_log_committed_bytes Offset up to which the log is committed.|\
+chukwa_log_committed_bytes{agent=\"d\",source=\"h1\",type=\"Log\",name=\"/a.log\"} 3|\
+# TYPE chukwa_lag_bytes gauge|# HELP chukwa_lag_bytes Bytes that the log is ahead of what is archived.|\
+chukwa_lag_bytes{agent=\"d\",source=\"h1\",type=\"Log\",name=\"/a.log\"} 2|\
+# TYPE chukwa_checkpoint_age_seconds gauge|# HELP chukwa_checkpoint_age_seconds Seconds since the checkpoint was written.|\
+# TYPE chukwa_control_up gauge|# HELP chukwa_control_up 1 where the control door answers with a list, 0 where it doesn't.|\
+chukwa_control_up{name=\"h1\",address=\"c1:9\"} 0|\
+# TYPE chukwa_lock_held gauge|# HELP chukwa_lock_held 1 where a process holds the lock, 0 where none does.|\
+chukwa_lock_held{store=\"a\\\"b\",lock=\"job\"} 1|\
+chukwa_lock_held{agent=\"d\",lock=\"agent.h1\"} 0|\
 # EOF|]
 
 chunks that are set aside
@@ -72,12 +93,14 @@ run status --store s = 1 [store s|\
 \x20      ARCHIVED         DEMUXED  STREAM|\
 \x20       WRITTEN       COMMITTED           QUIET  SINK|\
 \x20      UNCLOSED          CLOSED            HELD|\
-\x20             0               0               2|]
-run status -q --store s = 1 [WARNING - s: unclosed 0 closed 0 held 2 quiet 0|]
+\x20             0               0               2|\
+\x20          FREE|\
+\x20             -|]
+run status -q --store s = 1 [WARNING - s: unclosed 0 closed 0 held 2 quiet 0 free -|]
 
 a new store
 put sinks/c1.born 1
-run status -q --store s = 0 [OK - s: unclosed 0 closed 0 held 0 quiet 0|]
+run status -q --store s = 0 [OK - s: unclosed 0 closed 0 held 0 quiet 0 free -|]
 
 a book that is none
 put archive/book HEAD 2 #1
@@ -144,19 +167,89 @@ fn shows(
     }
 }
 
-// The metrics of the store, and of a folder `t` that is none.
+// The metrics of the store, of a folder `t` that is none, of the agents there as those of a folder
+// `d`, of a control door that doesn't answer, and of a lock of the store that is held, one of the
+// agents' folder that nobody holds, and one of which the system doesn't say who does.
 fn measured(
     alloc: Global,
     site: &mut SiteMem,
     who: &Who,
     store: &str,
-    seen: StoreSeen,
-) -> Result<Shown, Fail> {
-    let folder = String::from_str(alloc, store)?;
-    let mut stores = Vec::new(alloc);
-    stores.push(NamedStore { folder, seen })?;
-    let given = tell_metrics(alloc, site, who, stores.as_slice(), &["t"]);
+    mut seen: StoreSeen,
+) -> Result<Shown, Fail>
+    requires job { who.now ≡ job }
+{
+    seen.free = Some(4096);
+    let agents = agents_of(alloc, site, who)?;
+    let stores = stores_of(alloc, store, seen)?;
+    let doors = doors_of(alloc)?;
+    let mut books = Vec::new(alloc);
+    for store in &stores {
+        books.push(&store.seen.waiting.book)?;
+    }
+    let given = tell_metrics(
+        alloc,
+        site,
+        who,
+        stores.as_slice(),
+        &["t"],
+        agents.as_slice(),
+        books.as_slice(),
+        doors.as_slice(),
+    );
     ended(alloc, &told_as(given))
+}
+
+fn stores_of(alloc: Global, store: &str, seen: StoreSeen) -> Result<Vec<NamedStore>, Fail> {
+    let folder = String::from_str(alloc, store)?;
+    let locks = locks_of(alloc, "job", Holder::Process(7))?;
+    let mut stores = Vec::new(alloc);
+    stores.push(NamedStore {
+        folder,
+        seen,
+        locks,
+    })?;
+    Ok(stores)
+}
+
+fn agents_of(alloc: Global, site: &mut SiteMem, who: &Who) -> Result<Vec<NamedAgents>, Fail>
+    requires job { who.now ≡ job }
+{
+    let folder = String::from_str(alloc, "d")?;
+    let locks = locks_of(alloc, "agent.h1", Holder::Nobody)?;
+    let agents = match find_agents(alloc, site, who) {
+        Ok(agents) => agents,
+        Err(_) => return Err(Fail::new("no agents")),
+    };
+    let mut folders = Vec::new(alloc);
+    folders.push(NamedAgents {
+        folder,
+        agents,
+        locks,
+    })?;
+    Ok(folders)
+}
+
+// A lock of this name, and one of which nothing is known.
+fn locks_of(alloc: Global, name: &str, holder: Holder) -> Result<Vec<Lock>, Fail> {
+    let mut locks = Vec::new(alloc);
+    for (name, holder) in [(name, holder), ("dark", Holder::Unknown)] {
+        match Word::new(alloc, name.as_bytes()) {
+            Ok(name) => locks.push(Lock { name, holder })?,
+            Err(_) => return Err(Fail::new("no word")),
+        }
+    }
+    Ok(locks)
+}
+
+fn doors_of(alloc: Global) -> Result<Vec<NamedDoor>, Fail> {
+    let mut doors = Vec::new(alloc);
+    doors.push(NamedDoor {
+        name: String::from_str(alloc, "h1")?,
+        address: String::from_str(alloc, "c1:9")?,
+        door: Door::Silent,
+    })?;
+    Ok(doors)
 }
 
 /// How a look ends.

@@ -3,17 +3,8 @@
 use chk_bytes::{NoMemory, Word};
 use chk_look_logs::{AgentSeen, AgentsFault, find_agents};
 use chk_look_run::{Outcome, looker};
-use chk_look_status::Lock;
 use chk_site::Site;
 use std::fs;
-
-/// A folder of agents, as it was named, and who holds its locks.
-#[derive(Drop)]
-pub(crate) struct AgentsIn<'a> {
-    pub(crate) folder: &'a str,
-    pub(crate) agents: Vec<AgentSeen>,
-    pub(crate) locks: Vec<Lock>,
-}
 
 /// What is seen of the agents in the current folder.
 pub(crate) fn find_here<S: Site>(rt: HostRuntime, site: &mut S) -> Result<Vec<AgentSeen>, Outcome> {

@@ -1,9 +1,11 @@
 //! `chukwactl`: shows what a store holds, and what a start would refuse. The words behind the
 //! program's name ask for a command. It reads files and prints; it makes, changes and locks none.
+//! `status` runs `df`, which does no more.
 #![tactic(auto)]
 
 mod agents;
 mod auditing;
+mod free;
 mod locks;
 mod progress;
 mod status;

@@ -1,11 +1,13 @@
 //! `status`: what is seen of stores and agents, folder after folder.
 
-use crate::agents::{AgentsIn, find_here};
+use crate::agents::find_here;
+use crate::free::free_here;
 use crate::locks::locks_here;
 use crate::{NO_MEMORY, OUTSIDE, tell};
 use chk_book::Book;
 use chk_bytes::NoMemory;
-use chk_look_metrics::{NamedStore, tell_metrics};
+use chk_look_logs::AgentSeen;
+use chk_look_metrics::{NamedAgents, NamedDoor, NamedStore, tell_metrics};
 use chk_look_rows::OpenSink;
 use chk_look_run::{Outcome, Usage, looker, outcome_of_job, told_as};
 use chk_look_status::{
@@ -76,21 +78,12 @@ fn look(rt: HostRuntime, base: &PathBuf, asked: &StatusWords<'_>) -> u8 {
 /// What one look has seen, and the greatest status so far.
 #[derive(Drop)]
 struct Sight<'a> {
-    agents: Vec<AgentsIn<'a>>,
+    agents: Vec<NamedAgents>,
     stores: Vec<NamedStore>,
-    /// The locks of each store.
-    locks: Vec<Vec<Lock>>,
     /// The folders that are no stores.
     absent: Vec<&'a str>,
-    doors: Vec<DoorSeen<'a>>,
+    doors: Vec<NamedDoor>,
     status: u8,
-}
-
-/// A control door.
-#[derive(Drop)]
-struct DoorSeen<'a> {
-    control: ControlWords<'a>,
-    door: Door,
 }
 
 fn looked<'a>(
@@ -101,7 +94,6 @@ fn looked<'a>(
     let mut seen = Sight {
         agents: Vec::new(rt.alloc()),
         stores: Vec::new(rt.alloc()),
-        locks: Vec::new(rt.alloc()),
         absent: Vec::new(rt.alloc()),
         doors: Vec::new(rt.alloc()),
         status: 0,
@@ -129,38 +121,48 @@ fn look_at_agents<'a>(
 
 // A look at the folder of agents of this name, from where the user stands. The stores are looked at
 // before, so that no log is found to end before its archive.
-fn look_at_agent<'a>(
+fn look_at_agent(
     rt: HostRuntime,
     base: &PathBuf,
-    folder: &'a str,
-    seen: &mut Sight<'a>,
+    folder: &str,
+    seen: &mut Sight<'_>,
 ) -> Result<u8, NoMemory> {
     if let Err(error) = enter(rt, base, folder) {
         let _told = eprintln!(rt; "chukwactl: {folder}: {error}");
         return Ok(OUTSIDE);
     }
-    match agents_found(rt, folder) {
-        Ok(found) => {
-            let status = if found.agents.is_empty() { FOUND } else { 0 };
-            seen.agents.push(found)?;
+    match agents_found(rt) {
+        Ok(agents) => keep_agents(rt, folder, agents, seen),
+        Err(status) => Ok(status),
+    }
+}
+
+fn keep_agents(
+    rt: HostRuntime,
+    folder: &str,
+    agents: Vec<AgentSeen>,
+    seen: &mut Sight<'_>,
+) -> Result<u8, NoMemory> {
+    match locks_found(rt) {
+        Ok(locks) => {
+            let status = if agents.is_empty() { FOUND } else { 0 };
+            let folder = String::from_str(rt.alloc(), folder)?;
+            seen.agents.push(NamedAgents {
+                folder,
+                agents,
+                locks,
+            })?;
             Ok(status)
         }
         Err(status) => Ok(status),
     }
 }
 
-// What is seen of the agents in the current folder, and its locks; or how the look at it ends.
-fn agents_found<'a>(rt: HostRuntime, folder: &'a str) -> Result<AgentsIn<'a>, u8> {
+// What is seen of the agents in the current folder, or how the look at it ends.
+fn agents_found(rt: HostRuntime) -> Result<Vec<AgentSeen>, u8> {
     let mut site = SiteReal::read_only(rt, rt.alloc());
     match find_here(rt, &mut site) {
-        Ok(agents) => {
-            let locks = locks_found(rt)?;
-            Ok(AgentsIn {
-                folder,
-                agents,
-                locks,
-            })
-        }
+        Ok(agents) => Ok(agents),
         Err(outcome) => {
             tell_failure(rt, &site);
             Err(told(rt, &outcome))
@@ -204,20 +206,20 @@ fn look_in<'a>(
     }
 }
 
-fn keep_store<'a>(
+fn keep_store(
     rt: HostRuntime,
-    store: &'a str,
+    store: &str,
     found: StoreSeen,
-    seen: &mut Sight<'a>,
+    seen: &mut Sight<'_>,
 ) -> Result<u8, NoMemory> {
     match locks_found(rt) {
         Ok(locks) => {
             let status = if found.has_trouble() { FOUND } else { 0 };
             let folder = String::from_str(rt.alloc(), store)?;
-            seen.locks.push(locks)?;
             seen.stores.push(NamedStore {
                 folder,
                 seen: found,
+                locks,
             })?;
             Ok(status)
         }
@@ -240,16 +242,22 @@ fn look_at_doors<'a>(
     Ok(())
 }
 
-fn look_at_door<'a>(
+fn look_at_door(
     rt: HostRuntime,
-    control: ControlWords<'a>,
-    seen: &mut Sight<'a>,
+    control: ControlWords<'_>,
+    seen: &mut Sight<'_>,
 ) -> Result<(), NoMemory> {
     let door = answer_at(rt, control.address)?;
     if door.has_trouble() {
         seen.status = seen.status.max(FOUND);
     }
-    seen.doors.push(DoorSeen { control, door })?;
+    let name = String::from_str(rt.alloc(), control.name)?;
+    let address = String::from_str(rt.alloc(), control.address)?;
+    seen.doors.push(NamedDoor {
+        name,
+        address,
+        door,
+    })?;
     Ok(())
 }
 
@@ -283,6 +291,7 @@ fn find(rt: HostRuntime) -> Result<StoreSeen, u8> {
     match find_by(rt, &mut site) {
         Ok(mut seen) => {
             ask_ages(rt, &mut seen);
+            seen.free = free_here(rt);
             Ok(seen)
         }
         Err(outcome) => {
@@ -345,14 +354,27 @@ fn tell_as<S: Site>(
     match form {
         Form::Table => tell_tables(rt, site, who, seen),
         Form::Line => tell_lines(rt, site, who, seen),
-        Form::Metrics => tell_metrics(
-            rt.alloc(),
-            site,
-            who,
-            seen.stores.as_slice(),
-            seen.absent.as_slice(),
-        ),
+        Form::Metrics => tell_numbers(rt, site, who, seen),
     }
+}
+
+fn tell_numbers<S: Site>(
+    rt: HostRuntime,
+    site: &mut S,
+    who: &Who,
+    seen: &Sight<'_>,
+) -> Result<(), OutsideFault> {
+    let books = books_of(rt, seen)?;
+    tell_metrics(
+        rt.alloc(),
+        site,
+        who,
+        seen.stores.as_slice(),
+        seen.absent.as_slice(),
+        seen.agents.as_slice(),
+        books.as_slice(),
+        seen.doors.as_slice(),
+    )
 }
 
 fn tell_tables<S: Site>(
@@ -368,7 +390,7 @@ fn tell_tables<S: Site>(
             rt.alloc(),
             site,
             who,
-            found.folder,
+            found.folder.as_str(),
             agents,
             books.as_slice(),
         )?;
@@ -377,18 +399,17 @@ fn tell_tables<S: Site>(
     for folder in &seen.absent {
         tell_absent(rt.alloc(), site, who, folder)?;
     }
-    for (store, locks) in seen.stores.iter().zip(seen.locks.iter()) {
+    for store in &seen.stores {
         tell_store(rt.alloc(), site, who, store.folder.as_str(), &store.seen)?;
-        tell_locks(rt.alloc(), site, who, locks.as_slice())?;
+        tell_locks(rt.alloc(), site, who, store.locks.as_slice())?;
     }
     for door in &seen.doors {
-        let control = &door.control;
         tell_door(
             rt.alloc(),
             site,
             who,
-            control.name,
-            control.address,
+            door.name.as_str(),
+            door.address.as_str(),
             &door.door,
         )?;
     }
@@ -415,13 +436,12 @@ fn tell_lines<S: Site>(
         tell_absent_line(rt.alloc(), site, who, folder)?;
     }
     for door in &seen.doors {
-        let control = &door.control;
         tell_door_line(
             rt.alloc(),
             site,
             who,
-            control.name,
-            control.address,
+            door.name.as_str(),
+            door.address.as_str(),
             &door.door,
         )?;
     }
@@ -435,11 +455,12 @@ fn tell_lines<S: Site>(
             rt.alloc(),
             site,
             who,
-            found.folder,
+            found.folder.as_str(),
             agents,
             books.as_slice(),
         )?;
-        tell_locks_line(rt.alloc(), site, who, found.folder, found.locks.as_slice())?;
+        let locks = found.locks.as_slice();
+        tell_locks_line(rt.alloc(), site, who, found.folder.as_str(), locks)?;
     }
     Ok(())
 }

@@ -1,7 +1,7 @@
 use Rattle.std.proofs.Common.{Bool, List, ℕ, Ok, Err, ap, refl, subst}
 use Rattle.chk_look_audit.specs.declared.audits.Compared.{Compared}
 use Rattle.chk_look_audit.specs.Streams.{Audits}
-use Rattle.chk_look_audit.proofs.Steps.{call_cause, of_call}
+use Rattle.chk_look_audit.proofs.Steps.{job_as}
 use Rattle.chk_look_audit.proofs.audits.compare.Goals as goal
 
 pub returns-in-Ok : goal.returns-in-Ok
@@ -10,8 +10,9 @@ returns-in-Ok g c =
     record {
       told = (
         given,
-        subst (λ (ds : List (List ℕ)). Audits given c.args.rests.now ds _ (g.S.Site.told c.args.site.now)
-            (g.S.Site.told c.audit_each.new.site)) c.as_slice.ensures c.in-Ok.ensures.told,
+        subst (λ (ds : List (List ℕ)). Audits c.args.side.now given c.args.rests.now ds _
+            (g.S.Site.told c.args.site.now) (g.S.Site.told c.audit_each.new.site))
+            c.as_slice.ensures c.in-Ok.ensures.told,
         ap (λ (x : Compared). Ok x) c.compared_of.ensures,
         c.requires.count,
       );
@@ -22,16 +23,16 @@ returns-in-Ok g c =
 pub returns-in-Err : goal.returns-in-Err
 returns-in-Err g c =
     let fault = c.in-Err.fault in
-    rw c.from.ensures
-    (record {
+    record {
       told = (
         Err fault,
-        subst (λ (ds : List (List ℕ)). Audits (Err fault) c.args.rests.now ds _ (g.S.Site.told c.args.site.now)
-            (g.S.Site.told c.audit_each.new.site)) c.as_slice.ensures c.in-Err.ensures.told,
+        subst (λ (ds : List (List ℕ)). Audits c.args.side.now (Err fault) c.args.rests.now ds _
+            (g.S.Site.told c.args.site.now) (g.S.Site.told c.audit_each.new.site))
+            c.as_slice.ensures c.in-Err.ensures.told,
         refl,
         c.requires.count,
       );
-      only = of_call fault;
-      cause = call_cause Bool Compared fault (g.S.Site.fault_count c.args.site.now)
+      only = c.in-Err.ensures.only;
+      cause = job_as Bool Compared fault (g.S.Site.fault_count c.args.site.now)
           (g.S.Site.fault_count c.audit_each.new.site) c.in-Err.ensures.cause;
-    })
+    }

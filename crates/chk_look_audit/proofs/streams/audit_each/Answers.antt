@@ -2,7 +2,7 @@ use Rattle.std.proofs.Common.{◌∙◌, ◌≤◌, [], Bool, List, Ok, Err, ℕ
 use Rattle.std.proofs.lemmas.List.{get_or_default}
 use Rattle.chk_look_sum.proofs.LineWords.{below_both}
 use Rattle.chk_look_audit.specs.Streams.{Audits}
-use Rattle.chk_look_audit.proofs.Steps.{audits_end, audits_failed, audits_next, cause_then}
+use Rattle.chk_look_audit.proofs.Steps.{audits_end, audits_failed, audits_next, job_then}
 use Rattle.chk_look_audit.proofs.streams.audit_each.Goals as goal
 
 pub loop-index-init : goal.loop-index-init
@@ -20,10 +20,10 @@ loop-index-preserved g c =
       faults = c.in-Ok.ensures.cause ∙ l.invariant.faults;
       behind = λ result new rest.
           l.invariant.behind result new
-          (audits_next result rests digests l.index c.index-rests-index.result digest l.same
+          (audits_next c.args.side.now result rests digests l.index c.index-rests-index.result digest l.same
           c.in-Ok.one low.0 low.1 c.index-rests-index.is
           (sym (get_or_default digests l.index digest [] low.1)) c.in-Ok.ensures.told
-          (subst (λ (s : Bool). Audits result (drop (l.index + 1) rests) (drop (l.index + 1) digests) s
+          (subst (λ (s : Bool). Audits c.args.side.now result (drop (l.index + 1) rests) (drop (l.index + 1) digests) s
           (g.S.Site.told c.audit_stream.new.site) new) c.both-same.ensures rest));
     }
 
@@ -37,10 +37,11 @@ returns-in-Err g c =
     let digest : List ℕ = get_or digests l.index [] in
     record {
       told = l.invariant.behind (Err c.in-Err.fault) (g.S.Site.told c.audit_stream.new.site)
-          (audits_failed c.in-Err.fault rests digests l.index c.index-rests-index.result digest
+          (audits_failed c.args.side.now c.in-Err.fault rests digests l.index c.index-rests-index.result digest
           l.same low.0 low.1 c.index-rests-index.is
           (sym (get_or_default digests l.index digest [] low.1)) c.in-Err.ensures.told);
-      cause = cause_then {T = Bool} (Err c.in-Err.fault) (g.S.Site.fault_count c.args.site.now)
+      only = c.in-Err.ensures.only;
+      cause = job_then {T = Bool} (Err c.in-Err.fault) (g.S.Site.fault_count c.args.site.now)
           (g.S.Site.fault_count l.site) (g.S.Site.fault_count c.audit_stream.new.site)
           l.invariant.faults c.in-Err.ensures.cause;
     }
@@ -54,6 +55,7 @@ returns g c =
     subst (λ (n : ℕ). n ≤ l.index) c.min-count.ensures c.loop-index-test.false in
     record {
       told = l.invariant.behind (Ok l.same) (g.S.Site.told l.site)
-          (audits_end rests digests l.index l.same (g.S.Site.told l.site) past);
+          (audits_end c.args.side.now rests digests l.index l.same (g.S.Site.told l.site) past);
+      only = tt;
       cause = l.invariant.faults;
     }

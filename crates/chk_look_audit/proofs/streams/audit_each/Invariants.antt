@@ -1,14 +1,14 @@
 use Rattle.std.proofs.Common.{◌≡◌, Bool, true, drop, Option, Result}
-use Rattle.chk_site.specs.declared.acts.OutsideFault.{OutsideFault}
 use Rattle.chk_site.specs.History.{History}
+use Rattle.chk_heads.specs.declared.fault.JobFault.{JobFault}
 use Rattle.chk_look_audit.specs.Streams.{Audits}
 use Rattle.chk_look_audit.proofs.streams.audit_each.Given as goal
 
 abbrev pub invariant-loop-index : goal.invariant-loop-index
 invariant-loop-index g l = record {
   faults : g.S.Site.fault_count l.site ≡ g.S.Site.fault_count l.fn.site;
-  behind : (result : Result Bool OutsideFault) (new : Option History)
-      → Audits result (drop l.index l.rests) (drop l.index l.digests) l.same
+  behind : (result : Result Bool JobFault) (new : Option History)
+      → Audits l.side result (drop l.index l.rests) (drop l.index l.digests) l.same
       (g.S.Site.told l.site) new
-      → Audits result l.rests l.digests true (g.S.Site.told l.fn.site) new;
+      → Audits l.side result l.rests l.digests true (g.S.Site.told l.fn.site) new;
 }
