@@ -5,7 +5,8 @@ usage: tools/make/twice.py [--tests] [WHAT...]
 
 WHAT is one or more of these, by default all:
 
-  definitions   definitions of specs/ with the same text except for their name, in two crates or more
+  definitions   definitions of specs/ with the same text except for their name, in two crates or more; names of plain
+                numbers are left out, since two limits may be as large
   statements    statements of lemmas with the same text except for their name, in two crates or more; the answers
                 to goals are left out
   functions     functions with the same signature and body, in two files or more
@@ -26,6 +27,8 @@ from contracts import TOP, Crate, Definitions, crates, one_line, sources, text_o
 LEMMA = re.compile(r"^( *)(?:pub )?([^\s:(){}]+) : ")
 # Files of the answers to goals, whose names the checker gives: they are no lemmas.
 GOALS = {"Answers.antt", "Invariants.antt", "Proof.antt"}
+# A definition that only names a number.
+NUMBER = re.compile(r": ℕ _ = [\d ^-]+$")
 KEYWORDS = {"use", "pub", "mod", "module", "abbrev", "record", "data", "unfoldable", "unfolding"}
 
 
@@ -45,6 +48,8 @@ def definitions(names):
     for (place, name), item in Definitions().items.items():
         if item.crate in names:
             text = re.sub(rf"(?<![^\s(){{}},;]){re.escape(name)}(?![^\s(){{}},;])", "_", one_line(without_comments(item.text)))
+            if NUMBER.search(text):
+                continue
             yield text, (item.crate, f"{item.file}: {name}")
 
 

@@ -5,7 +5,8 @@ usage: tools/try/looking.py [--program FILE] [--look FILE] [--seconds N] [--besi
 
 Each command of `chukwactl` runs below `strace` in a folder that is made by docs/FORMATS.md: its status, its standard
 output and its standard error have to be those that are written here, it may open no file but for reading (and
-/dev/null in place of a descriptor), and make, change, lock and sync none; metrics have to be in their grammar. Then a store
+/dev/null in place of a descriptor), make, change, lock and sync none, and run none but `df`, which is a script of this one
+that prints what is known before, and is traced too; metrics have to be in their grammar. Then a store
 of 8 MB is followed: a look without news may read its book and nothing else, and one with news also what is new; and slow
 looks at one of 24 MB have to tell how far they are, on a pseudo terminal and elsewhere. Then, where the program `chukwa`
 is built too, rounds archive a growing log for N seconds (20 without the option), and on until one merged, while
@@ -74,26 +75,38 @@ def summed(host, content):
     return f"stream {host} Log /a.log start 0 end {len(content)} sha256 {digest}\n"
 
 
+# What `df` answers in each folder, in blocks of 1,024 bytes, where a row says nothing else of it, and the bytes that
+# are free by that; and an answer in which names have spaces.
+DF = """\
+Filesystem     1024-blocks     Used Available Capacity Mounted on
+/dev/sda1         82045336 12345678  65000000      16% /
+"""
+FREE = 65000000 * 1024
+SPACED = "Filesystem 1024-blocks Used Available Capacity Mounted on\n//host/a share 9 1 8 12% /mnt/5% of it\n"
+
 # A store with a sink under writing that grew last long ago, and one with a sink that grew just now.
 SINKS = {**SOUND, "sinks/c1.1.3.chukwa": SOUND["archive/seg.1"], "sinks/c1.1.3.mark": big_endian(96, 8),
          "sinks/c1.1.2.done": SOUND["archive/seg.1"]}
-STATUS = """\
+STATUS = f"""\
 store @
        ARCHIVED         DEMUXED  STREAM
              10               6  h1 Log /a.log
               2               0  h2 Log /a.log
         WRITTEN       COMMITTED           QUIET  SINK
-            144              96               {}  c1.1.3
+            144              96               {{}}  c1.1.3
        UNCLOSED          CLOSED            HELD
               1               1               0
+           FREE
+{FREE:>15}
             PID  LOCK
 """
+UNKNOWN = "OK - @: unclosed 1 closed 1 held 0 quiet 0 free -\n"
 NO_STORE = "store @\n  no store: it has no folder sinks\n"
 # The same with locks, of which this script holds that of the job.
 LOCKED = {**SINKS, "locks/collector.c1": b"", "locks/job": b"", "held": "locks/job"}
 LOCKS = f"              -  collector.c1\n{os.getpid():>15}  job\n"
 EMPTY = {"sinks/c1.born": big_endian(1, 8)}
-EMPTY_LINE = "OK - {}: unclosed 0 closed 0 held 0 quiet 0\n"
+EMPTY_LINE = f"OK - {{}}: unclosed 0 closed 0 held 0 quiet 0 free {FREE}\n"
 
 # What the control door at each letter's port answers.
 LIST = "a LWFTAdaptor Log /a.log 6 6 live\nb FileTailingAdaptor Log /b.log 9 4 shrank\n"
@@ -138,13 +151,15 @@ AGENT = {**LOGS, "locks/agent.h1": b"", "held": "locks/agent.h1"}
 SIX = book(2, [(1, 144)], [(("h1", "Log", "a.log"), 6, 0)])
 BESIDE = {**{f"a/{name}": content for name, content in LOGS.items()},
           "s/archive/book": SIX, "s/demux/book": SIX, "s/sinks/c.born": big_endian(1, 8)}
-STORE = """\
+STORE = f"""\
 store S/s
        ARCHIVED         DEMUXED  STREAM
               6               6  h1 Log a.log
         WRITTEN       COMMITTED           QUIET  SINK
        UNCLOSED          CLOSED            HELD
               0               0               0
+           FREE
+{FREE:>15}
             PID  LOCK
 """
 # An archive beside its log, which has two generations and more than is archived.
@@ -173,14 +188,15 @@ SAME = audited("same", "sha256 " + digest(b"hello\nworl"))
 PART = audited("PART", "log begins at 6 sha256 " + digest(b"worl"))
 
 
-def differing(archive, log):
-    return audited("DIFFERS", f"log begins at 0 archive {digest(archive)} log {digest(log)}")
+def differing(at, archive, log):
+    return audited(f"DIFFERS at {at}", f"log begins at 0 archive {digest(archive)} log {digest(log)}")
 
 
 FILE = {"f": b"add LWFTAdaptor Log $S/a.log 0\nadd FileTailing Log $S/a.log 0\n", "a.log": b"x"}
 FOUND = "line 2 BadClass\n"
 
-# The files ($S in them is the folder; `held` is the one that this script locks), the words (S is the folder, P a port at which somebody listens, D, E
+# The files ($S in them is the folder; `held` is the one that this script locks; `df` is what that program prints,
+# None where it ends with 1, a number where it goes on for so many seconds, False where there is none), the words (S is the folder, P a port at which somebody listens, D, E
 # and F those of control doors), the status, the standard output (None: metrics, in their grammar) and the standard error (` S/` in them is the folder).
 ROWS = [
     (SOUND, "streams S", 0, STREAM.format("h1", 10, 6) + STREAM.format("h2", 2, 0), ""),
@@ -212,10 +228,13 @@ ROWS = [
     (AUDITED, "audit --agent S --store S", 0, SAME, ""),
     (AUDITED, "audit --agent store --store store", 0, SAME, ""),
     ({**AUDITED, "archive/seg.2": SECOND[:-1] + b"m"}, "audit --agent S --store S", 1,
-     differing(b"hello\nworm", b"hello\nworl"), OTHERS),
+     differing(9, b"hello\nworm", b"hello\nworl"), OTHERS),
     ({**AUDITED, "a.log": b"a log that was cut off and grew again\n"}, "audit --agent S --store S", 1,
-     differing(b"hello\nworl", b"hello\na lo"), OTHERS),
-    ({**AUDITED, "a.log": b"w"}, "audit --agent S --store S", 1, audited("DIFFERS", "log begins at 0 log ends at 7"), OTHERS),
+     differing(6, b"hello\nworl", b"hello\na lo"), OTHERS),
+    ({**AUDITED, "a.log": b"w"}, "audit --agent S --store S", 1,
+     audited("DIFFERS at 7", "log begins at 0 log ends at 7"), OTHERS),
+    ({**AUDITED, "a.log": b"m"}, "audit --agent S --store S", 1,
+     audited("DIFFERS at 6", "log begins at 0 log ends at 7"), OTHERS),
     ({**AUDITED, "a.log.2010-11-08": None}, "audit --agent S --store S", 1,
      PART, OTHERS),
     ({**AUDITED, "agents/h1.check": None}, "audit --agent S --store S", 1, "", "chukwactl: no such stream\n"),
@@ -223,9 +242,17 @@ ROWS = [
     (AUDITED, "audit --agent S/none --store S", 3, "", None),
     ({}, "audit --agent S", 2, "", "usage: chukwactl audit --agent DIR --store DIR\n"),
     (SINKS, "status --store S", 0, STATUS.format(0), ""),
-    (SINKS, "status -q --store S", 0, "OK - @: unclosed 1 closed 1 held 0 quiet 0\n", ""),
+    (SINKS, "status -q --store S", 0, f"OK - @: unclosed 1 closed 1 held 0 quiet 0 free {FREE}\n", ""),
     ({**SINKS, "quiet": 700}, "status -q --store S", 1,
-     "WARNING - @: unclosed 1 closed 1 held 0 quiet 700\n", ""),
+     f"WARNING - @: unclosed 1 closed 1 held 0 quiet 700 free {FREE}\n", ""),
+    ({**SINKS, "df": SPACED}, "status -q --store S", 0, "OK - @: unclosed 1 closed 1 held 0 quiet 0 free 8192\n", ""),
+    ({**SINKS, "df": DF[:-1]}, "status -q --store S", 0, UNKNOWN, ""),
+    ({**SINKS, "df": DF * 40}, "status -q --store S", 0, UNKNOWN, ""),
+    ({**SINKS, "df": DF * 800}, "status -q --store S", 0, UNKNOWN, ""),
+    ({**SINKS, "df": "/dev/sda1 is full\n"}, "status -q --store S", 0, UNKNOWN, ""),
+    ({**SINKS, "df": 100}, "status -q --store S", 0, UNKNOWN, ""),
+    ({**SINKS, "df": False}, "status -q --store S", 0, UNKNOWN, ""),
+    ({**SINKS, "df": None}, "status --store S", 0, STATUS.format(0).replace(f"{FREE:>15}", f"{'-':>15}"), ""),
     (SOUND, "status --store S", 1, NO_STORE, ""),
     (SOUND, "status -q --store S", 1, "WARNING - @: no store\n", ""),
     (EMPTY, "status -q --store S", 0, EMPTY_LINE.format("@"), ""),
@@ -239,13 +266,16 @@ ROWS = [
      "WARNING - control h1 at 127.0.0.1:E: no list\nWARNING - control h2 at 127.0.0.1:F: no list\n", ""),
     ({}, "status --control h1=127.0.0.1:1", 1, "control h1 at 127.0.0.1:1: no answer\n", None),
     (SINKS, "status --metrics --store S", 0, None, ""),
+    ({**SINKS, "df": None}, "status --metrics --store S", 0, None, ""),
+    (BESIDE, "status --metrics --agent S/a --store S/s --control h1=127.0.0.1:D", 0, None, ""),
+    (AGENT, "status --metrics --agent S --store S", 1, None, ""),
     ({"s/sinks/c1.born": EMPTY["sinks/c1.born"], "t/a.log": b""}, "status --metrics --store S/s --store S/t", 1, None, ""),
     ({**SINKS, "archive/book": SOUND["archive/book"][:17]}, "status --store S", 1, "", "chukwactl: damaged archive/book 17\n"),
     (AGENT, "status --agent S", 0, AGENTS.format("@", "-", "10", "-") + f"{os.getpid():>15}  agent.h1\n", ""),
     (AGENT, "status -q --agent S", 0, "OK - @: agents 2 lag 10\nOK - @: locks 1 held 1\n", ""),
     (BESIDE, "status --agent S/a --store S/s", 0, AGENTS.format("S/a", "6", " 8", "0") + STORE, ""),
     (BESIDE, "status -q --agent S/a --store S/s", 0,
-     "OK - S/s: unclosed 0 closed 0 held 0 quiet 0\nOK - S/a: agents 2 lag 8\n"
+     f"OK - S/s: unclosed 0 closed 0 held 0 quiet 0 free {FREE}\nOK - S/a: agents 2 lag 8\n"
      "OK - S/a: locks 0 held 0\n", ""),
     ({**LOGS, "agents/h1.check": b"chukwa-checkpoint 1"}, "status --agent S", 1, "", "chukwactl: damaged agents/h1.check 0\n"),
     (SOUND, "status --agent S", 1, "agent @\n  no agent: it has no checkpoint\n            PID  LOCK\n", ""),
@@ -268,7 +298,7 @@ ROWS = [
 
 def made(folder, files):
     for name, content in files.items():
-        if name == "held":
+        if name in ("held", "df"):
             continue
         if name == "quiet":
             then = time.time() - content
@@ -277,6 +307,20 @@ def made(folder, files):
             os.makedirs(os.path.dirname(f"{folder}/{name}"), exist_ok=True)
             with open(f"{folder}/{name}", "wb") as file:
                 file.write(content.replace(b"$S", folder.encode()))
+
+
+def made_df(folder, answer):
+    """The PATH whose `df`, to the words `-P -k .` alone, does what a row says of it."""
+    os.mkdir(folder)
+    if answer is False:
+        return folder
+    with open(f"{folder}/answer", "w", encoding="utf-8") as file:
+        file.write(answer if isinstance(answer, str) else "")
+    does = f"exec sleep {answer}" if isinstance(answer, int) else f"cat {folder}/answer; exit {int(answer is None)}"
+    with open(f"{folder}/df", "w", encoding="utf-8") as file:
+        file.write(f'#!/bin/sh\n[ "$*" = "-P -k ." ] || exit 2\n{does}\n')
+    os.chmod(f"{folder}/df", 0o755)
+    return f"{folder}:{os.environ['PATH']}"
 
 
 class Answering(threading.Thread):
@@ -341,13 +385,17 @@ def faults_by_promtool(text):
 
 
 def changing(trace, asks, lists):
-    """The calls of a trace that do more than read and print, open connections where that is asked for, and send `list`."""
+    """The calls of a trace that do more than read and print, open connections where that is asked for, send `list`, and
+    run `df -P -k .`, and that one `cat` or `sleep`."""
+    runs = 0
     with open(trace, encoding="utf-8", errors="replace") as file:
         for line in file:
             call = re.match(r"(?:\d+ +)?([a-z0-9_]+)\((.*)", line)
             if not call:
                 continue
             name, words = call[1], call[2]
+            runs += name == "execve"
+            starts = name == "execve" and runs > 1 and not re.match(r'"[^"]*/(df", \["df", "-P", "-k", "\."\]|cat", \["cat"|sleep", \["sleep")', words)
             opens = name in ("open", "openat") and re.search(r"O_(WRONLY|RDWR|CREAT|TRUNC|APPEND)", words)
             writes = name in ("write", "writev") and not re.match(r"[12],", words)
             locks = name == "fcntl" and "F_SETLK" in words
@@ -355,7 +403,7 @@ def changing(trace, asks, lists):
                 continue
             if lists and name in ("sendto", "write") and re.match(r'\d+, "list\\n", 5', words):
                 continue
-            if opens and '"/dev/null"' not in words or writes or locks or name.startswith(CHANGES):
+            if opens and '"/dev/null"' not in words or writes or locks or starts or name.startswith(CHANGES):
                 yield line.strip()
 
 
@@ -371,7 +419,7 @@ def with_ports(text, ports):
 
 
 def wrong_rows(look):
-    wrong = 0
+    wrong, strace = 0, shutil.which("strace")
     door = socket.create_server(("127.0.0.1", 0))
     ports = {"P": str(door.getsockname()[1])}
     doors = {letter: Answering(answer) for letter, answer in DOORS.items()}
@@ -384,10 +432,11 @@ def wrong_rows(look):
             held = open(f"{folder}/{files['held']}", "w") if "held" in files else None
             if held:
                 fcntl.flock(held, fcntl.LOCK_EX)
+            environment = {**os.environ, "PATH": made_df(f"{place}/bin", files.get("df", DF))}
             words = [folder + word[1:] if re.match("S(/|$)", word) else with_ports(word, ports) for word in words.split()]
             out, error = (text and with_ports(text.replace(" S/", f" {folder}/"), ports) for text in (out, error))
-            done = subprocess.run(["strace", "-f", "-qq", "-o", trace, look, *words], cwd=place, capture_output=True,
-                                  text=True, timeout=60, stdin=subprocess.DEVNULL)
+            done = subprocess.run([strace, "-f", "-qq", "-o", trace, look, *words], cwd=place, capture_output=True,
+                                  text=True, timeout=60, stdin=subprocess.DEVNULL, env=environment)
             found = (done.returncode, done.stdout, done.stderr if error is not None else None)
             same = found[::2] == (status, error) and (out is None or is_as(done.stdout, out, folder))
             told = [] if same else [f"{found} in place of {(status, out, error)}"]
@@ -534,6 +583,28 @@ def wrong_courses(look):
     return (not good) + (not also)
 
 
+def wrong_goings(look):
+    """Has a mark go between the look at its length and its opening; 1 where `verify` doesn't say what it says without it."""
+    mark, told = "sinks/c.1.2.mark", []
+    for late in (True, False):
+        with tempfile.TemporaryDirectory() as place:
+            made(place, {**COLLECTED, **SOUND})
+            slow = ["strace", "-qq", "-o", "/dev/null", "-P", mark, "-e", "inject=openat:delay_enter=2000000"] if late else []
+            if not late:
+                os.remove(f"{place}/{mark}")
+            with subprocess.Popen([*slow, look, "verify", "."], cwd=place, stdin=subprocess.DEVNULL, stdout=subprocess.PIPE,
+                                  stderr=subprocess.PIPE, text=True) as child:
+                if late:
+                    time.sleep(1)
+                    os.remove(f"{place}/{mark}")
+                out, error = child.communicate(timeout=60)
+            told.append((child.returncode, out, [line for line in error.splitlines() if not line.startswith("strace: ")]))
+    wrong = told[0] != told[1] or told[0][0] != 0
+    print(f"verify says {told[0]} where a mark goes in between, and {told[1]} without it" if wrong
+          else "a mark that goes between two calls of a look is as one that isn't there")
+    return wrong
+
+
 def is_true(command, out, log):
     """What `cat` and `sum` print of the only stream is of a front of its log."""
     if command == "cat":
@@ -613,7 +684,7 @@ def main():
     if not os.path.isfile(asked.look):
         sys.exit(f"there is no program {asked.look}")
     look = os.path.abspath(asked.look)
-    wrong = wrong_rows(look) + wrong_follows(look) + wrong_courses(look)
+    wrong = wrong_rows(look) + wrong_follows(look) + wrong_courses(look) + wrong_goings(look)
     if asked.beside:
         wrong += beside_soak(look, os.path.abspath(asked.program), asked.beside)
     elif os.path.isfile(asked.program):

@@ -18,7 +18,7 @@ was committed in time. The seed of what is done at random is told; the same seed
 With `--late` a log's daemon goes on writing into the renamed file for so many seconds; no agent is killed then,
 since one that begins after a rotation sees it at once. With `--commit` each commit takes so many milliseconds
 longer, by `strace`. With `--look`, the program `chukwactl`, its `streams`, `verify`, `held`, `sum` and `status` look
-at the folder all along, one after the other, and none may find damage; `cat --follow` of one log goes on beside them,
+at the folder all along, one after the other, and none may find damage; `cat --follow` of each log goes on beside them,
 and has to print the whole log.
 """
 import os
@@ -181,7 +181,7 @@ class Job:
 
 
 class Looks:
-    """Looks at the folder, one at a time, and `cat --follow` of one log."""
+    """Looks at the folder, one at a time, and `cat --follow` of each log."""
 
     # Each look's words, and what it may say on standard error where it ends with 1.
     WORDS = [
@@ -193,13 +193,15 @@ class Looks:
     ]
 
     def __init__(self, soak, look):
-        self.soak, self.look, self.log = soak, look, soak.logs[-1]
-        self.process = self.follow = None
+        self.soak, self.look = soak, look
+        self.process, self.follows = None, {}
         self.count = 0
 
     def tend(self):
-        if self.follow is None and self.soak.ends["archive"].get(self.log.stream, 0) > 0:
-            self.follow = Process("cat", [self.look, "cat", "--follow", ".", *self.log.stream], self.soak.folder)
+        for log in self.soak.logs:
+            if log.stream not in self.follows and self.soak.ends["archive"].get(log.stream, 0) > 0:
+                words = [self.look, "cat", "--follow", ".", *log.stream]
+                self.follows[log.stream] = Process("cat", words, self.soak.folder)
         if self.process is None:
             words, self.may = self.WORDS[self.count % len(self.WORDS)]
             self.process = Process(words[0], [self.look, *words], self.soak.folder)
@@ -222,15 +224,18 @@ class Looks:
         if self.process:
             self.process.wait(FINISH)
             self.judge()
-        until, log = time.monotonic() + FOLLOWED, contents(self.log.copy).decode()
-        while self.follow and self.follow.printed() != log and time.monotonic() < until:
-            time.sleep(0.5)
-        if self.follow is None or self.follow.printed() != log or self.follow.status() is not None:
-            self.soak.wrong(f"cat --follow: {self.follow and (self.follow.status(), self.follow.error())}")
-        print(f"looks {self.count}; cat --follow beside them over {len(log)} bytes")
+        until, size = time.monotonic() + FOLLOWED, 0
+        for log in self.soak.logs:
+            follow, whole = self.follows.get(log.stream), contents(log.copy).decode()
+            while follow and follow.printed() != whole and time.monotonic() < until:
+                time.sleep(0.5)
+            if follow is None or follow.printed() != whole or follow.status() is not None:
+                self.soak.wrong(f"cat --follow of {log.stream}: {follow and (follow.status(), follow.error())}")
+            size += len(whole)
+        print(f"looks {self.count}; cat --follow of {len(self.soak.logs)} logs beside them over {size} bytes")
 
     def close(self):
-        for each in (self.process, self.follow):
+        for each in (self.process, *self.follows.values()):
             if each:
                 each.close()
 
