@@ -21,6 +21,7 @@ use Rattle.chk_book.specs.declared.lists.End.{End}
 use Rattle.chk_prints.specs.Printing.{PrintsInTurn}
 use Rattle.chk_prints.proofs.Printed.{prints_made, printings}
 use Rattle.chk_look_passed.specs.Passing.{check_name}
+use Rattle.chk_look_passed.proofs.Joined.{every_as}
 use Rattle.chk_look_log.specs.declared.summing.LogSum.{LogSum}
 use Rattle.chk_look_log.specs.Placing.{ReadsLogOf}
 use Rattle.chk_look_sum.specs.declared.rests.Rest.{Rest}
@@ -40,12 +41,6 @@ use Rattle.chk_look_beside.specs.Records.{ReadsBeside}
 
 abbrev Own : Option History → Option History → Type 0
 Own old new = Adds old new (Every LooksAtAudit)
-
-every_as : (P Q : History → Step → Type 0)
-    → ((before : History) (step : Step) → P before step → Q before step)
-    → (a h : History) → Every P a h → Every Q a h
-every_as P Q so [] h x = tt
-every_as P Q so (step ∷ a) h x = (every_as P Q so a h x.0, so _ step x.1)
 
 -- calls of one kind are an audit's
 of_kind : (K : Deed → Type 0) → ((call : Deed) → K call → AuditsBy call)

@@ -3,10 +3,8 @@ use Rattle.std.proofs.Common.{◌≡◌, ◌∙◌, ℕ, ◌+◌, ◌-◌, ◌<�
 use Rattle.std.proofs.Common.{Result, Ok, Err, Bool, refl, sym, ap, subst, drop, take, length}
 use Rattle.std.proofs.Common.{arith, suc, true, false, get_or, min, map, inl, inr, ◌⊎◌, ◌&&◌}
 use Rattle.std.proofs.Common.{Some, None}
-use Rattle.std.proofs.Math.Seq.{drop-cons}
 use Rattle.std.proofs.lemmas.List.{take-append-drop, drop_all, drop-drop, take_all, take_more, length-drop}
 use Rattle.chk_site.specs.declared.acts.OutsideFault.{OutsideFault}
-use Rattle.chk_site.specs.declared.acts.OutsideFault.TheVariants.{Outside, NoMemory as no_memory}
 use Rattle.chk_site.specs.declared.acts.Who.{Who}
 use Rattle.chk_site.specs.History.{History}
 use Rattle.chk_site.specs.Site.{OutsideCause}
@@ -14,6 +12,7 @@ use Rattle.chk_world.specs.Sight.{job}
 use Rattle.chk_heads.specs.declared.fault.JobFault.{JobFault}
 use Rattle.chk_heads.specs.declared.fault.JobFault.TheVariants as fault
 use Rattle.chk_heads.specs.Faults.{job_result, IsOfRead, JobCause}
+use Rattle.chk_heads.proofs.InTurn.{next_of}
 use Rattle.chk_prints.specs.Printing.{PrintsInTurn}
 use Rattle.chk_world.proofs.BooksTrue.{each_append}
 use Rattle.chk_world.proofs.Each.{Each}
@@ -43,15 +42,6 @@ printed_by {who = who} {text = text} {given = given} {old = old} {new = new} is 
     subst (λ (l : List ℕ). PrintsInTurn job (l ∷ []) given old new) same
     (subst (λ (w : Who). PrintsInTurn w (text ∷ []) given old new) is prints)
 
-pub cause_then : {T : Type 0} (result : Result T OutsideFault) (a b c : ℕ) → b ≡ a
-    → OutsideCause b c result → OutsideCause a c result
-cause_then result a b c same x = subst (λ n. OutsideCause n c result) same x
-
-pub cause_as : (T V : Type 0) (f : OutsideFault) (before now : ℕ)
-    → OutsideCause {T = T} before now (Err f) → OutsideCause {T = V} before now (Err f)
-cause_as T V (Outside call) before now x = x
-cause_as T V no_memory before now x = x
-
 pub result_cause : {T : Type 0} (result : Result T OutsideFault) (before now : ℕ)
     → OutsideCause before now result → JobCause before now (job_result result)
 result_cause (Ok value) before now x = x
@@ -76,13 +66,6 @@ split_at at past xs less =
     (drop-drop (past - at) at xs
     ∙ ap (λ (k : ℕ). drop k xs) (let e : at + (past - at) ≡ past = omega (arith, less) in e))
 
-pub next_in : {A : Type 0} (xs : List A) (i : ℕ) (x : A) → i < length xs → x ≡ get_or xs i x
-    → drop i xs ≡ x ∷ drop (i + 1) xs
-next_in {A = A} xs i x low is =
-    drop-cons xs i x low
-    ∙ (ap (λ (y : A). y ∷ drop (suc i) xs) (sym is)
-    ∙ ap (λ (k : ℕ). x ∷ drop k xs) (let e : suc i ≡ i + 1 = omega arith in e))
-
 -- the source of the first stream
 pub first_source : (ends : List End) (e : End) → 0 < length ends → e ≡ get_or ends 0 e
     → source_of ends ≡ e.source
@@ -95,7 +78,7 @@ pub one_of : (ends : List End) (at k : ℕ) (e : End) → at < length ends → e
     → AreOfOne (take (at + 1 + k - at) (drop at ends))
 one_of ends at k e low is each =
     subst AreOfOne
-    (sym (ap (λ xs. take (at + 1 + k - at) xs) (next_in ends at e low is)
+    (sym (ap (λ xs. take (at + 1 + k - at) xs) (next_of ends at e low is)
     ∙ ap (λ (n : ℕ). take n (e ∷ drop (at + 1) ends))
     (let z : at + 1 + k - at ≡ suc k = omega arith in z)))
     (let x : AreOfOne (e ∷ take k (drop (at + 1) ends)) = (refl, each) in x)
@@ -125,9 +108,9 @@ pub audits_next : (side : Side) (result : Result Bool JobFault) (rests : List Re
     → Audits side result (drop i rests) (drop i digests) same old new
 audits_next side result rests digests i r d same one {old = old} {new = new} low high is are x rest =
     subst (λ (rs : List Rest). Audits side result rs (drop i digests) same old new)
-    (sym (next_in rests i r low is))
+    (sym (next_of rests i r low is))
     (subst (λ (ds : List (List ℕ)). Audits side result (r ∷ drop (i + 1) rests) ds same old new)
-    (sym (next_in digests i d high are)) (audited x rest))
+    (sym (next_of digests i d high are)) (audited x rest))
 
 pub audits_failed : (side : Side) (f : JobFault) (rests : List Rest) (digests : List (List ℕ)) (i : ℕ)
     (r : Rest) (d : List ℕ) (same : Bool) {old new : Option History} → i < length rests
@@ -136,9 +119,9 @@ pub audits_failed : (side : Side) (f : JobFault) (rests : List Rest) (digests : 
     → Audits side (Err f) (drop i rests) (drop i digests) same old new
 audits_failed side f rests digests i r d same {old = old} {new = new} low high is are x =
     subst (λ (rs : List Rest). Audits side (Err f) rs (drop i digests) same old new)
-    (sym (next_in rests i r low is))
+    (sym (next_of rests i r low is))
     (subst (λ (ds : List (List ℕ)). Audits side (Err f) (r ∷ drop (i + 1) rests) ds same old new)
-    (sym (next_in digests i d high are)) (ended refl x))
+    (sym (next_of digests i d high are)) (ended refl x))
 
 pub audits_end : (side : Side) (rests : List Rest) (digests : List (List ℕ)) (i : ℕ) (same : Bool)
     (now : Option History) → min (length rests) (length digests) ≤ i
@@ -183,7 +166,7 @@ pub line_next : (lines : List CheckLine) (e : End) (i : ℕ) (l : CheckLine) →
     → l ≡ get_or lines i l → is_line_of (end_view e).stream (shown l) ≡ false
     → line_for (map shown (drop i lines)) e ≡ line_for (map shown (drop (i + 1) lines)) e
 line_next lines e i l low is other =
-    ap (λ (ls : List CheckLine). line_for (map shown ls) e) (next_in lines i l low is)
+    ap (λ (ls : List CheckLine). line_for (map shown ls) e) (next_of lines i l low is)
     ∙ (let x : line_for (map shown (l ∷ drop (i + 1) lines)) e
     ≡ line_for (map shown (drop (i + 1) lines)) e = rw other refl in x)
 
@@ -191,7 +174,7 @@ pub line_found : (lines : List CheckLine) (e : End) (i : ℕ) (l : CheckLine) �
     → l ≡ get_or lines i l → is_line_of (end_view e).stream (shown l) ≡ true
     → line_for (map shown (drop i lines)) e ≡ Some (shown l)
 line_found lines e i l low is mine =
-    ap (λ (ls : List CheckLine). line_for (map shown ls) e) (next_in lines i l low is)
+    ap (λ (ls : List CheckLine). line_for (map shown ls) e) (next_of lines i l low is)
     ∙ (let x : line_for (map shown (l ∷ drop (i + 1) lines)) e ≡ Some (shown l) = rw mine refl in
     x)
 
@@ -209,7 +192,7 @@ pub finds_next : (lines : List Line) (result : Result (Unit {0}) JobFault) (last
     → FindsLines lines result last (drop i ends) found old new
 finds_next lines result last ends i e found next {old = old} {new = new} low is one rest =
     subst (λ (es : List End). FindsLines lines result last es found old new)
-    (sym (next_in ends i e low is)) (goes_on one rest)
+    (sym (next_of ends i e low is)) (goes_on one rest)
 
 pub finds_stop : (lines : List Line) (f : JobFault) (last : List Rest) (ends : List End) (i : ℕ)
     (e : End) (found : List Rest) {old new : Option History} → i < length ends
@@ -217,7 +200,7 @@ pub finds_stop : (lines : List Line) (f : JobFault) (last : List Rest) (ends : L
     → FindsLines lines (Err f) last (drop i ends) found old new
 finds_stop lines f last ends i e found {old = old} {new = new} low is one =
     subst (λ (es : List End). FindsLines lines (Err f) last es found old new)
-    (sym (next_in ends i e low is)) (stops one refl)
+    (sym (next_of ends i e low is)) (stops one refl)
 
 -- a stream is put behind the others, or there is no room for it
 pub line_added : (lines : List Line) (e : End) (found next : List Rest) (begin : ℕ)

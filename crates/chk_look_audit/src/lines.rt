@@ -4,7 +4,6 @@ ghost use Rattle.std.specs.Prelude.{◌≡◌, ◌++◌, codes, decimal, string_
 ghost use Rattle.chk_bytes.specs.Words.{is_word, lacks};
 ghost use Rattle.chk_world.specs.ArchiveRuns.{is_one_line};
 ghost use Rattle.chk_look_sum.specs.Lines.{line_of};
-ghost use Rattle.hex.specs.Hex.{encode_lower};
 ghost use Rattle.chk_look_audit.specs.Lines.{audit_line, begins, differs, front_of, line_by, named};
 ghost use Rattle.chk_look_audit.specs.Lines.{other_line, other_words, same_line, same_words};
 ghost use Rattle.chk_look_audit.specs.Lines.{short_line, short_words};
@@ -14,7 +13,7 @@ ghost use Rattle.chk_look_sum.specs.Rests.{end_of};
 use crate::streams::are_equal;
 use chk_bytes::NoMemory;
 use chk_look_log::LogSum;
-use chk_look_sum::Rest;
+use chk_look_sum::{Rest, hex_of};
 use std::alloc::Global;
 
 /// The words that a line begins with whose stream differs, with the offset where that is known.
@@ -365,13 +364,5 @@ fn named(
         string_bytes text ≡ named found.now source.now kind.now name.now) }
 {
     let text = format!(in alloc; "{found} {source} {kind} {name}")?;
-    Ok(text)
-}
-
-/// A digest in hex digits.
-fn hex_of(alloc: Global, digest: &[u8; 32]) -> Result<String, NoMemory>
-    ensures { IfOk result (λ text. string_bytes text ≡ encode_lower digest.now) }
-{
-    let text = hex::encode(alloc, digest.as_slice())?;
     Ok(text)
 }

@@ -15,6 +15,7 @@ use Rattle.chk_site.specs.Runs.{anyhow, Leads}
 use Rattle.chk_site.specs.Site.{Adds}
 use Rattle.chk_site.proofs.Runs.{adds_as}
 use Rattle.chk_site.proofs.Leads.{leads_as, leads_none, leads_then, owned_anyhow}
+use Rattle.chk_chunk.specs.Keys.{record_limit}
 use Rattle.chk_world.specs.JobSteps.{IsOf, ReadsFile}
 use Rattle.chk_heads.specs.Heads.{Head}
 use Rattle.chk_heads.specs.declared.fault.JobFault.{JobFault}
@@ -186,7 +187,7 @@ pub record SoFar (who : Who) (side : Side) (old here : RecordReader) (from : Rea
   pub taken : List ℕ
   pub log : LogAt who from (drop skip taken) l before now
   pub left_is : left ≡ skip - length taken
-  pub are : (most : ℕ) (all : List (List ℕ)) (held : Files) → most ≤ 1048576
+  pub are : (most : ℕ) (all : List (List ℕ)) (held : Files) → most ≤ record_limit
       → AreSettled all held → IsSide most all held side
       → Adds before now (Leads (anyhow (SparesFiles all)) (CanSum all held side old)
       (λ history. CanSum all held side here history
@@ -210,7 +211,7 @@ pub record OneMet (who : Who) (side : Side) (old new : RecordReader) (from : Rea
   pub told : (taken : List ℕ) (before : Option History) → before_left ≡ skip - length taken
       → LogAt who from (drop skip taken) l before earlier
       → RecordMet {F = JobFault} who from skip taken (value_held new) m left before (Ok met) now
-  pub raw : (most : ℕ) (all : List (List ℕ)) (held : Files) → most ≤ 1048576
+  pub raw : (most : ℕ) (all : List (List ℕ)) (held : Files) → most ≤ record_limit
       → AreSettled all held → IsSide most all held side
       → Adds earlier now (Leads (anyhow (SparesFiles all)) (CanSum all held side old)
       (FetchedOne all held side index new (Ok met)))
@@ -247,16 +248,16 @@ module _ (who : Who) (side : Side) (old mid new : RecordReader) (from : Reader)
     (skip first index : ℕ) (low : first ≤ index) (high : index < length side.heads.now) where
   -- what was taken then
   taken_then : (taken : List ℕ) (met : Met) {before here now : Option History}
-      → ((most : ℕ) (all : List (List ℕ)) (held : Files) → most ≤ 1048576
+      → ((most : ℕ) (all : List (List ℕ)) (held : Files) → most ≤ record_limit
       → AreSettled all held → IsSide most all held side
       → Adds before here (Leads (anyhow (SparesFiles all)) (CanSum all held side old)
       (λ history. CanSum all held side mid history
       × (taken ≡ values_between side held first index))))
-      → ((most : ℕ) (all : List (List ℕ)) (held : Files) → most ≤ 1048576
+      → ((most : ℕ) (all : List (List ℕ)) (held : Files) → most ≤ record_limit
       → AreSettled all held → IsSide most all held side
       → Adds here now (Leads (anyhow (SparesFiles all)) (CanSum all held side mid)
       (FetchedOne all held side index new (Ok met))))
-      → (most : ℕ) (all : List (List ℕ)) (held : Files) → most ≤ 1048576
+      → (most : ℕ) (all : List (List ℕ)) (held : Files) → most ≤ record_limit
       → AreSettled all held → IsSide most all held side
       → Adds before now (Leads (anyhow (SparesFiles all)) (CanSum all held side old)
       (λ history. CanSum all held side new history
@@ -317,7 +318,7 @@ module _ (who : Who) (side : Side) (old mid new : RecordReader) (from : Reader)
 pub block_fails : (who : Who) (side : Side) (old mid new : RecordReader) (from : Reader)
     (skip first index end left : ℕ) (l m : Ahead) (f : JobFault) {before here now : Option History}
     → SoFar who side old mid from skip first index left l before here
-    → ((most : ℕ) (all : List (List ℕ)) (held : Files) → most ≤ 1048576
+    → ((most : ℕ) (all : List (List ℕ)) (held : Files) → most ≤ record_limit
     → AreSettled all held → IsSide most all held side
     → Adds here now (Leads (anyhow (SparesFiles all)) (CanSum all held side mid)
     (FetchedOne all held side index new (Err f))))

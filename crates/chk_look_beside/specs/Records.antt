@@ -7,6 +7,7 @@ use Rattle.chk_site.specs.Files.{Files}
 use Rattle.chk_site.specs.History.{History}
 use Rattle.chk_site.specs.Runs.{anyhow, Leads}
 use Rattle.chk_site.specs.Site.{Adds}
+use Rattle.chk_chunk.specs.Keys.{record_limit}
 use Rattle.chk_world.specs.JobSteps.{ReadsFile}
 use Rattle.chk_heads.specs.declared.fault.JobFault.{JobFault}
 use Rattle.chk_heads.specs.declared.fault.JobFault.TheVariants.{Damaged}
@@ -63,7 +64,7 @@ pub record BlockParts (who : Who) (side : Side) (r : RecordReader) (from : Reade
     (first end : ℕ) (met : Met) (l : Ahead) (before now : Option History) : Type 0 where
   pub taken : List ℕ
   pub parts : PartsAt who from (drop skip taken) met l before now
-  pub are : (most : ℕ) (all : List (List ℕ)) (held : Files) → most ≤ 1048576
+  pub are : (most : ℕ) (all : List (List ℕ)) (held : Files) → most ≤ record_limit
       → AreSettled all held → IsSide most all held side
       → Adds before now (Leads (anyhow (SparesFiles all)) (CanSum all held side r)
       (λ history. HasFiles all held history
@@ -71,8 +72,8 @@ pub record BlockParts (who : Who) (side : Side) (r : RecordReader) (from : Reade
 
 -- A record was read that isn't one: others didn't leave the files as they were.
 abbrev pub BlockChanged : Side → RecordReader → Option History → Option History → Type 0
-BlockChanged side r before now = (most : ℕ) (all : List (List ℕ)) (held : Files) → most ≤ 1048576
-    → AreSettled all held → IsSide most all held side
+BlockChanged side r before now = (most : ℕ) (all : List (List ℕ)) (held : Files)
+    → most ≤ record_limit → AreSettled all held → IsSide most all held side
     → Adds before now (Leads (anyhow (SparesFiles all)) (CanSum all held side r) (λ history. ⊥))
 
 abbrev pub BlockMet : Who → Side → RecordReader → Reader → ℕ → ℕ → ℕ → Ahead → Option History

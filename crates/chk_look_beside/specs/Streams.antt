@@ -6,6 +6,7 @@ use Rattle.chk_site.specs.Files.{Files}
 use Rattle.chk_site.specs.History.{History}
 use Rattle.chk_site.specs.Runs.{anyhow, Leads}
 use Rattle.chk_site.specs.Site.{Adds}
+use Rattle.chk_chunk.specs.Keys.{record_limit}
 use Rattle.chk_heads.specs.declared.fault.JobFault.{JobFault}
 use Rattle.chk_heads.specs.declared.fault.JobFault.TheVariants.{Damaged}
 use Rattle.chk_rotate.specs.Readers.{Reader, reader_at}
@@ -36,7 +37,7 @@ pub record StreamParts (who : Who) (side : Side) (r : Rest) (met : Met)
   pub taken : List ℕ
   pub log : Ahead
   pub parts : PartsAt who (log_of r) (drop (skip_of r) taken) met log before now
-  pub are : (most : ℕ) (all : List (List ℕ)) (held : Files) → most ≤ 1048576
+  pub are : (most : ℕ) (all : List (List ℕ)) (held : Files) → most ≤ record_limit
       → AreSettled all held → IsSide most all held side → StreamsRise side.heads.now
       → Adds before now (Leads (anyhow (SparesFiles all)) (HasFiles all held)
       (λ history. HasFiles all held history
@@ -44,7 +45,7 @@ pub record StreamParts (who : Who) (side : Side) (r : Rest) (met : Met)
 
 -- A record was read that isn't one: others didn't leave the files as they were.
 abbrev pub IsChanged : Side → Option History → Option History → Type 0
-IsChanged side before now = (most : ℕ) (all : List (List ℕ)) (held : Files) → most ≤ 1048576
+IsChanged side before now = (most : ℕ) (all : List (List ℕ)) (held : Files) → most ≤ record_limit
     → AreSettled all held → IsSide most all held side
     → Adds before now (Leads (anyhow (SparesFiles all)) (HasFiles all held) (λ history. ⊥))
 

@@ -6,6 +6,7 @@ ghost use Rattle.chk_site.specs.Files.{Files};
 ghost use Rattle.chk_site.specs.History.{Every, History};
 ghost use Rattle.chk_site.specs.Site.{Adds, OutsideCause};
 ghost use Rattle.chk_site.specs.Runs.{anyhow, Leads};
+ghost use Rattle.chk_chunk.specs.Keys.{record_limit};
 ghost use Rattle.chk_world.specs.JobSteps.{IsOf};
 ghost use Rattle.chk_world.specs.Sight.{job};
 ghost use Rattle.chk_heads.specs.Faults.{JobCause, IsOfRead};
@@ -70,7 +71,7 @@ fn compare_record<S: Site>(
         → LogAt who.now from (drop skip taken) log.old before (S.told site.old)
         → RecordMet who.now from skip taken (value_held reader.new) log.new left.new before result
         (S.told site.new) }
-    ensures raw { (most : ℕ) (all : List (List ℕ)) (held : Files) → most ≤ 1048576
+    ensures raw { (most : ℕ) (all : List (List ℕ)) (held : Files) → most ≤ record_limit
         → AreSettled all held → IsSide most all held side.now
         → Adds (S.told site.old) (S.told site.new) (Leads (anyhow (SparesFiles all))
         (CanSum all held side.now reader.old)

@@ -1,4 +1,4 @@
 mod FindingLines
-mod OwnCalls
+pub mod OwnCalls
 pub mod SilentLines
 mod Split

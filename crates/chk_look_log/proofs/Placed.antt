@@ -10,6 +10,7 @@ use Rattle.chk_site.specs.declared.acts.CallFault.{CallFault}
 use Rattle.chk_site.specs.declared.acts.OutsideFault.{OutsideFault}
 use Rattle.chk_site.specs.declared.acts.OutsideFault.TheVariants.{Outside, NoMemory as no_memory}
 use Rattle.chk_site.specs.declared.acts.Who.{Who}
+use Rattle.chk_site.specs.declared.limits.TheConstants.{PIECE_BYTES}
 use Rattle.chk_site.specs.declared.suffixes.Part.TheVariants.{After}
 use Rattle.chk_site.specs.History.{History}
 use Rattle.chk_site.specs.Site.{Adds, asked, Calls, OutsideCause, part_text}
@@ -27,10 +28,12 @@ part_lent (Some suffix) = refl
 
 pub read_at : (who : Who) (path : List ℕ) (after : Option (Bor (List ℕ))) (at : ℕ)
     (given : Result ActAnswer CallFault) {old new : Option History}
-    → Adds old new (Calls (asked who LogRead (path ∷ part_text (After after) ∷ []) at 131072) given)
+    → Adds old new
+    (Calls (asked who LogRead (path ∷ part_text (After after) ∷ []) at PIECE_BYTES) given)
     → Adds old new (Calls (reading_at who path (option_copied after) at) given)
 read_at who path after at given {old = old} {new = new} told =
-    subst (λ (w : List ℕ). Adds old new (Calls (asked who LogRead (path ∷ w ∷ []) at 131072) given))
+    subst
+    (λ (w : List ℕ). Adds old new (Calls (asked who LogRead (path ∷ w ∷ []) at PIECE_BYTES) given))
     (part_lent after) told
 
 pub cause_then : {T : Type 0} (result : Result T OutsideFault) (a b c : ℕ) → b ≡ a

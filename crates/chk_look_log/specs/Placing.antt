@@ -10,7 +10,7 @@ use Rattle.chk_site.specs.declared.acts.OutsideFault.{OutsideFault}
 use Rattle.chk_site.specs.declared.acts.OutsideFault.TheVariants.{Outside}
 use Rattle.chk_site.specs.declared.acts.OutsideFault.TheVariants.{NoMemory as no_memory}
 use Rattle.chk_site.specs.declared.acts.Who.{Who}
-use Rattle.chk_site.specs.declared.limits.TheConstants.{LOG_END}
+use Rattle.chk_site.specs.declared.limits.TheConstants.{LOG_END, PIECE_BYTES}
 use Rattle.chk_site.specs.declared.suffixes.Piece.{Piece}
 use Rattle.chk_site.specs.Acts.{Deed, ReadsLog}
 use Rattle.chk_site.specs.History.{History}
@@ -28,7 +28,7 @@ pub data ReadsLogOf (path : List ℕ) : Deed → Type 0 where
 
 -- a read of the generation behind a suffix
 abbrev pub reading_at : Who → List ℕ → Option (List ℕ) → ℕ → Asked
-reading_at who path after at = asked who LogRead (path ∷ part true after ∷ []) at 131072
+reading_at who path after at = asked who LogRead (path ∷ part true after ∷ []) at PIECE_BYTES
 
 -- what a read at a generation's end shows of it
 abbrev pub seen_of : ℕ → Option (List ℕ) → ℕ → Next

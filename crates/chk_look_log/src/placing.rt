@@ -12,12 +12,12 @@ ghost use Rattle.chk_look_log.specs.Placing.{ReadsLogOf, SeenBehind, SeesNext};
 ghost use Rattle.chk_look_log.specs.declared.placing.Next.TheVariants.{Other};
 
 use chk_bytes::comes_before;
-use chk_site::{Call, CallFault, OutsideFault, Part, Piece, Site, Suffix, Who};
+use chk_site::{Call, CallFault, OutsideFault, PIECE_BYTES, Part, Piece, Site, Suffix, Who};
 use chk_tail::LOG_END;
 use std::alloc::Global;
 
 /// The most bytes of one read.
-const PIECE: u32 = 131_072;
+const PIECE: u32 = PIECE_BYTES as u32;
 
 /// The generation behind a suffix.
 #[derive(Drop)]

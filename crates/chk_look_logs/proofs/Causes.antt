@@ -13,11 +13,6 @@ use Rattle.chk_look_logs.specs.declared.probing.Probe.{Probe}
 use Rattle.chk_look_logs.specs.declared.probing.Probe.TheVariants as probe
 
 -- what comes behind calls that raised it not
-pub after : {T : Type 0} (result : Result T OutsideFault) (before mid now : ℕ)
-    → mid ≡ before → OutsideCause mid now result → OutsideCause before now result
-after {T = T} result before mid now same cause =
-    subst (λ (n : ℕ). OutsideCause {T = T} n now result) same cause
-
 pub agents_after : {T : Type 0} (result : Result T AgentsFault) (before mid now : ℕ)
     → mid ≡ before → AgentsCause mid now result → AgentsCause before now result
 agents_after {T = T} result before mid now same cause =
@@ -50,8 +45,3 @@ cause_base first (Ok (probe.Ended suffix)) before now cause = cause
 cause_base first (Ok probe.Open) before now cause = cause
 cause_base first (Err (site.Outside call)) before now cause = cause
 cause_base first (Err site.NoMemory) before now cause = cause
-
-pub cause_other : (V T : Type 0) (fault : OutsideFault) (before now : ℕ)
-    → OutsideCause {T = V} before now (Err fault) → OutsideCause {T = T} before now (Err fault)
-cause_other V T (site.Outside call) before now cause = cause
-cause_other V T site.NoMemory before now cause = cause

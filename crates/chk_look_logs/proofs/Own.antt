@@ -1,9 +1,8 @@
 -- Own calls of one who looks at agents and their logs.
 use Rattle.std.proofs.Common.{◌≡◌, inl, inr, ℕ, Bool, true, false, List, [], ◌∷◌, refl}
-use Rattle.std.proofs.Common.{Option, Some, None, Ok, Err, Result, ap, sym, subst}
-use Rattle.std.specs.Prelude.{codes, is_none, if◌then◌else◌}
+use Rattle.std.proofs.Common.{Option, Some, None, Ok, Err, Result, sym, subst}
+use Rattle.std.specs.Prelude.{codes}
 use Rattle.chk_bytes.specs.Words.{before_end}
-use Rattle.chk_bytes.specs.WordFaults.{word_fault_of}
 use Rattle.chk_control.specs.declared.Class.{Class}
 use Rattle.chk_control.specs.declared.Class.TheVariants.{Plain, Rotating, Lines}
 use Rattle.chk_site.specs.declared.acts.OutsideFault.{OutsideFault}
@@ -25,7 +24,6 @@ use Rattle.chk_look_logs.specs.declared.agents.AgentsFault.{AgentsFault}
 use Rattle.chk_look_logs.specs.declared.probing.Next.{Next}
 use Rattle.chk_look_logs.specs.declared.probing.Next.TheVariants as next
 use Rattle.chk_look_logs.specs.declared.probing.Probe.{Probe}
-use Rattle.chk_look_logs.specs.declared.probing.Probe.TheVariants as probe
 use Rattle.chk_look_logs.specs.Agents.{added, ended, failed, listed, listing, lists, log_added}
 use Rattle.chk_look_logs.specs.Agents.{log_failed, logs_ended, named, no_logs, none_left, one_log}
 use Rattle.chk_look_logs.specs.Agents.{one_more, other, reads, unlisted, unnamed, AddsAgent}
@@ -35,7 +33,8 @@ use Rattle.chk_look_logs.specs.Agents.{SeesAgent, SeesAgents, SeesLogs}
 use Rattle.chk_look_logs.specs.Ends.{ends, goes_on, probing, size_shown, too_many, Behind, BySize}
 use Rattle.chk_look_logs.specs.Ends.{FindsBy, Follows}
 use Rattle.chk_look_logs.specs.Ends.{Probes, Sees, SumsOn}
-use Rattle.chk_look_logs.specs.Names.{agent_named, agent_of}
+use Rattle.chk_look_passed.specs.Agents.{agent_of}
+use Rattle.chk_look_passed.proofs.Owned.{role_by}
 
 abbrev OwnCalls : Option History → Option History → Type 0
 OwnCalls old new = Adds old new (Every LooksAtLogs)
@@ -148,19 +147,6 @@ agent_own {agent = agent} {result = result} is s =
     (checked_own agent s.given result s.checked)
 
 -- an agent whose checkpoint is looked at is read as the job
-by_word : (source : List ℕ) (b : Bool) (agent : Who)
-    → (if b then Some (record { role = Job; name = source }) else None) ≡ Some agent
-    → agent.role ≡ Job
-by_word source true agent e =
-    ap (λ (w : Who). w.role) (let x : agent ≡ record { role = Job; name = source } = cc in x)
-by_word source false agent e = absurd (let x : None ≡ Some agent = e in cc)
-
-role_by : (o : Option (List ℕ)) (agent : Who)
-    → elim o [ None ↦ None | Some source ↦ agent_named source ] ≡ Some agent
-    → agent.role ≡ Job
-role_by None agent e = absurd (let x : None ≡ Some agent = e in cc)
-role_by (Some source) agent e = by_word source (is_none (word_fault_of source)) agent e
-
 role_of : (name : List ℕ) (agent : Who) → agent_of name ≡ Some agent → agent.role ≡ Job
 role_of name agent e = role_by (before_end (codes ".check") name) agent e
 

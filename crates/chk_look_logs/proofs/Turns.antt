@@ -1,18 +1,9 @@
 -- The items of a list, in turn.
-use Rattle.std.proofs.Common.{◌≡◌, ◌∙◌, ℕ, suc, ◌+◌, ◌<◌, List, ◌∷◌, drop, length, get_or, map, []}
-use Rattle.std.proofs.Common.{ap, sym, add-one, ◌≤◌}
+use Rattle.std.proofs.Common.{◌≡◌, ℕ, ◌+◌, ◌<◌, ◌≤◌, List, [], ◌∷◌, drop, length, get_or, map, ap}
 use Rattle.std.proofs.Math.ListN.{drop_of_length-le}
-use Rattle.std.proofs.Math.Seq.{drop-cons}
+use Rattle.chk_heads.proofs.InTurn.{next_of}
 
--- the next one, and those behind it
-pub next_of : {A : Type 0} (xs : List A) (i : ℕ) (x : A) → i < length xs → x ≡ get_or xs i x
-    → drop i xs ≡ x ∷ drop (i + 1) xs
-next_of {A = A} xs i x low is =
-    drop-cons xs i x low
-    ∙ (ap (λ (y : A). y ∷ drop (suc i) xs) (sym is)
-    ∙ ap (λ (k : ℕ). x ∷ drop k xs) (sym (add-one i)))
-
--- the same of what they stand for
+-- the next one, and those behind it, by what they stand for
 pub next_as : {A B : Type 0} (f : A → B) (xs : List A) (i : ℕ) (x : A) → i < length xs
     → x ≡ get_or xs i x → map f (drop i xs) ≡ f x ∷ map f (drop (i + 1) xs)
 next_as f xs i x low is = ap (λ rest. map f rest) (next_of xs i x low is)

@@ -28,7 +28,7 @@ use Rattle.chk_look_logs.specs.declared.agents.AgentSeen.{AgentSeen}
 use Rattle.chk_look_logs.specs.declared.agents.AgentsFault.{AgentsFault}
 use Rattle.chk_look_logs.specs.declared.agents.AgentsFault.TheVariants.{Damaged, Outside, NoMemory}
 use Rattle.chk_look_logs.specs.Ends.{FindsEnd}
-use Rattle.chk_look_logs.specs.Names.{agent_of}
+use Rattle.chk_look_passed.specs.Agents.{agent_of}
 
 -- the call lists the agents' checkpoints, or reads a byte of a log
 pub data ReadsLogs : Deed → Type 0 where

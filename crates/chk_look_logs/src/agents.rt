@@ -11,9 +11,9 @@ ghost use Rattle.chk_look_logs.specs.Agents.{FindsAgents, Listed, LooksAtLogs, S
 ghost use Rattle.chk_look_logs.specs.Agents.{SeesAgents, SeesChecked, SeesLogs};
 
 use crate::ends::log_end;
-use crate::names::agent_of;
 use chk_bytes::{NoMemory, Word};
 use chk_checkpoint::{CheckFault, CheckLine, Checkpoint, load_checkpoint};
+use chk_look_passed::agent_of;
 use chk_site::{Call, CallFault, OutsideFault, Site, Who};
 use std::alloc::Global;
 

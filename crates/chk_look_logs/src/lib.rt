@@ -3,7 +3,6 @@
 
 mod agents;
 mod ends;
-mod names;
 mod probing;
 
 pub use agents::{AgentSeen, AgentsFault, find_agents};

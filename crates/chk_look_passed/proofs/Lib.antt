@@ -1,6 +1,6 @@
 mod Seen
 mod Behind
-mod Joined
+pub mod Joined
 mod Mapped
 mod InTurn
 pub mod Owned

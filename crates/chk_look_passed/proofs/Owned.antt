@@ -112,7 +112,7 @@ by_word source true agent e =
     ap (λ (w : Who). w.role) (let x : agent ≡ record { role = Job; name = source } = cc in x)
 by_word source false agent e = absurd (let x : None ≡ Some agent = e in cc)
 
-role_by : (o : Option (List ℕ)) (agent : Who)
+pub role_by : (o : Option (List ℕ)) (agent : Who)
     → elim o [ None ↦ None | Some source ↦ agent_named source ] ≡ Some agent
     → agent.role ≡ Job
 role_by None agent e = absurd (let x : None ≡ Some agent = e in cc)

@@ -1,23 +1,23 @@
 //! The checkpoints of the agents of a folder.
 
-ghost use Rattle.std.specs.Prelude.{◌≡◌, string_bytes, None, Some, IfErr, IfOk, MatchOption};
-ghost use Rattle.chk_bytes.specs.Words.{before_end};
+ghost use Rattle.std.specs.Prelude.{◌≡◌, string_bytes, Some, IfErr, IfOk};
 ghost use Rattle.chk_site.specs.History.{Every};
 ghost use Rattle.chk_site.specs.Site.{Adds};
 ghost use Rattle.chk_world.specs.Names.{spell, CheckFile};
 ghost use Rattle.chk_world.specs.Sight.{job};
 ghost use Rattle.chk_heads.specs.Faults.{IsDamage, IsOfRead, JobCause};
-ghost use Rattle.chk_look_passed.specs.Agents.{agent_named, agent_of, both, ByEach, ByFolder};
+ghost use Rattle.chk_look_passed.specs.Agents.{both, ByEach, ByFolder};
 ghost use Rattle.chk_look_passed.specs.Agents.{IsFaultIn, LooksAtAgents, One, OneMore};
 ghost use Rattle.chk_look_passed.specs.Passing.{check_name};
 ghost use Rattle.chk_look_passed.specs.declared.judging.Verdict.TheVariants.{Unknown};
 
 use crate::judging::Verdict;
+use crate::names::agent_of;
 use crate::passing::has_passed;
-use chk_bytes::{NoMemory, Word, WordFault};
+use chk_bytes::{NoMemory, Word};
 use chk_checkpoint::CheckFault;
 use chk_heads::JobFault;
-use chk_site::{Call, CallFault, Role, Site, Who};
+use chk_site::{Call, CallFault, Site, Who};
 use std::alloc::Global;
 
 /// What the checkpoints of the agents in the folder `agents` say of the oldest generation of the
@@ -161,36 +161,4 @@ fn both(one: Verdict, other: Verdict) -> Verdict
         (Verdict::Passed, _) => Verdict::Passed,
         (Verdict::Unknown, other) => other,
     }
-}
-
-/// The agent whose checkpoint has this name in the folder; none where no agent's has.
-fn agent_of(alloc: Global, name: &str) -> Result<Option<Who>, NoMemory>
-    ensures { IfOk result (λ agent. agent ≡ agent_of name.now) }
-{
-    match without_end(name.as_bytes(), b".check") {
-        Some(source) => agent_named(alloc, source),
-        None => Ok(None),
-    }
-}
-
-/// The agent of this source, where it is a word.
-fn agent_named(alloc: Global, source: &[u8]) -> Result<Option<Who>, NoMemory>
-    ensures { IfOk result (λ agent. agent ≡ agent_named source.now) }
-{
-    match Word::new(alloc, source) {
-        Ok(name) => Ok(Some(Who {
-            role: Role::Job,
-            name,
-        })),
-        Err(WordFault::NoMemory) => Err(NoMemory),
-        Err(_) => Ok(None),
-    }
-}
-
-/// What stands before this ending.
-fn without_end<'a>(text: &'a [u8], ending: &[u8]) -> Option<&'a [u8]>
-    ensures { MatchOption result (before_end ending.now text.now ≡ None)
-        (λ front. before_end ending.now text.now ≡ Some front.now) }
-{
-    text.strip_suffix(ending)
 }

@@ -5,5 +5,5 @@ mod lines;
 mod names;
 mod sinks;
 
-pub use lines::{counts_line, sink_lines, split_to, stream_lines};
+pub use lines::{counts_line, sink_lines, split_to, stream_lines, words_of};
 pub use sinks::{OpenSink, Sinks, find_sinks};

@@ -70,7 +70,8 @@ fn stream_line(alloc: Global, end: &End, split: u64) -> Result<String, NoMemory>
     Ok(text)
 }
 
-fn words_of(alloc: Global, source: &str, kind: &str, name: &str) -> Result<String, NoMemory>
+/// The words that name a stream, with a space between two: its source, its type and its name.
+pub fn words_of(alloc: Global, source: &str, kind: &str, name: &str) -> Result<String, NoMemory>
     ensures { IfOk result (λ text. string_bytes text ≡ words_of source.now kind.now name.now) }
 {
     let text = format!(in alloc; "{source} {kind} {name}")?;

@@ -15,6 +15,7 @@ use chk_book::Book;
 use chk_bytes::NoMemory;
 use chk_checkpoint::CheckLine;
 use chk_look_logs::AgentSeen;
+use chk_look_rows::words_of;
 use chk_site::{OutsideFault, Site, Who};
 use std::alloc::Global;
 
@@ -257,13 +258,6 @@ fn row_text(
         ≡ row_text front.now back.now age.now words.now) }
 {
     let text = format!(in alloc; "{front} {back} {age}  {words}\n")?;
-    Ok(text)
-}
-
-fn words_of(alloc: Global, source: &str, kind: &str, name: &str) -> Result<String, NoMemory>
-    ensures { IfOk result (λ text. string_bytes text ≡ words_of source.now kind.now name.now) }
-{
-    let text = format!(in alloc; "{source} {kind} {name}")?;
     Ok(text)
 }
 

@@ -8,7 +8,7 @@ mod summing;
 mod sums;
 
 pub use digests::Digests;
-pub use lines::print_sums;
+pub use lines::{hex_of, print_sums};
 pub use rests::{Rest, behind};
 pub use summing::sum_streams;
 pub use sums::{Sums, sum, sum_rests};

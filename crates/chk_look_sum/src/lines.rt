@@ -115,8 +115,8 @@ fn line_with(
     Ok(text)
 }
 
-/// The digest in hex digits.
-fn hex_of(alloc: Global, digest: &[u8; 32]) -> Result<String, NoMemory>
+/// The digest in 64 hex digits, in lower case.
+pub fn hex_of(alloc: Global, digest: &[u8; 32]) -> Result<String, NoMemory>
     ensures { IfOk result (λ text. string_bytes text ≡ encode_lower digest.now) }
 {
     let text = hex::encode(alloc, digest.as_slice())?;

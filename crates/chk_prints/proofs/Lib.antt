@@ -3,3 +3,4 @@ pub mod OneLine
 pub mod Silent
 pub mod CallKinds
 pub mod AtMost
+pub mod Talking

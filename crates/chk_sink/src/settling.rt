@@ -1,7 +1,6 @@
 //! The settling of the sinks that were left under writing.
 
-ghost use Rattle.std.specs.Prelude.{◌≡◌, ◌<◌, ◌≤◌, ℕ, List, [], ◌∷◌, Bool, Option, None, IfErr, IfSome, IsTrue, MatchOption, length};
-ghost use Rattle.chk_bytes.specs.Words.{before_end};
+ghost use Rattle.std.specs.Prelude.{◌≡◌, ◌<◌, ◌≤◌, ℕ, List, [], ◌∷◌, Bool, Option, None, IfErr, IfSome, IsTrue, length};
 ghost use Rattle.chk_bytes.specs.Stems.{Stem as Parts, is_stem};
 ghost use Rattle.chk_site.specs.Site.{Adds};
 ghost use Rattle.chk_site.specs.Runs.{Leads};
@@ -139,18 +138,10 @@ fn is_same(one: &Option<Stem>, stem: &Stem) -> bool
 fn left_stem(name: &[u8]) -> Option<Stem>
     ensures { result ≡ left_in name.now }
 {
-    match without_end(name, b".chukwa") {
+    match name.strip_suffix(b".chukwa".as_slice()) {
         Some(text) => Stem::read(text),
-        None => Stem::read(without_end(name, b".mark")?),
+        None => Stem::read(name.strip_suffix(b".mark".as_slice())?),
     }
-}
-
-// What stands before this ending.
-fn without_end<'a>(text: &'a [u8], ending: &[u8]) -> Option<&'a [u8]>
-    ensures { MatchOption result (before_end ending.now text.now ≡ None)
-        (λ front. before_end ending.now text.now ≡ Some front.now) }
-{
-    text.strip_suffix(ending)
 }
 
 // Settles a sink of the collector: with a mark it is cut to it and closed, without one it is removed.

@@ -1,6 +1,5 @@
 -- A run stays legal.
-use Rattle.std.proofs.Common.{◌≡◌, inl, inr, ℕ, Bool, List, [], ◌∷◌, ◌++◌, Option, Some, None, Result, Ok, Err, sym, subst, refl, ◌∙◌}
-use Rattle.std.specs.Prelude.{IsTrue}
+use Rattle.std.proofs.Common.{◌≡◌, inl, inr, ℕ, Bool, List, [], ◌∷◌, ◌++◌, Option, Some, None, Result, Ok, Err, subst, refl, ◌∙◌}
 use Rattle.chk_site.specs.declared.acts.Role.TheVariants.{Writer}
 use Rattle.chk_site.specs.declared.acts.Who.{Who}
 use Rattle.chk_site.specs.declared.acts.ActAnswer.{ActAnswer}
@@ -10,15 +9,13 @@ use Rattle.chk_site.specs.declared.acts.CallFault.{CallFault}
 use Rattle.chk_site.specs.declared.acts.CallFault.TheVariants.{Failed, Missing, Exists, Short, NoMemory}
 use Rattle.chk_site.specs.declared.acts.OutsideFault.{OutsideFault}
 use Rattle.chk_site.specs.declared.suffixes.Taking.{Taking}
-use Rattle.chk_site.specs.Acts.{Deed, Takes, Says, deed}
-use Rattle.chk_site.specs.History.{Step, History, Others, files_after}
-use Rattle.chk_site.specs.Honest.{Honest}
+use Rattle.chk_site.specs.History.{History, Others}
 use Rattle.chk_site.specs.Site.{Adds, Asked, asked, answered, plain, taking_given, Calls}
 use Rattle.chk_site.specs.Runs.{Leads}
 use Rattle.chk_site.proofs.Leads.{leads_then, leads_none, Keeps, Owned, Shows, call_owned, acted_leads, failed_leads, unmade_leads}
 use Rattle.chk_site.proofs.Runs.{adds_as, ran}
 use Rattle.chk_world.specs.Places.{IsBy}
-use Rattle.chk_world.specs.Rules.{Framed, OnlyWritersGrowLogs, OnlyAgentsPost, StartsAfterStop, RoleMay, Obeys, Legal, is_named_so}
+use Rattle.chk_world.specs.Rules.{Obeys, Legal}
 use Rattle.chk_world.proofs.Beside.{owns_as}
 use Rattle.chk_wahead.specs.declared.fault.WaheadFault.{WaheadFault}
 use Rattle.chk_wahead.specs.Legality.{StaysLegal}
@@ -26,6 +23,7 @@ use Rattle.chk_wahead.specs.Scripts.{Puts}
 use Rattle.chk_wahead.specs.States.{State}
 use Rattle.chk_wahead.proofs.Staying.{start_legal, put_legal, commit_legal, close_legal}
 use Rattle.chk_prints.specs.Printing.{PrintsInTurn, all_printed, unprinted, printed_on, ended, printing}
+use Rattle.chk_prints.proofs.Talking.{saying, taking, writer_talks}
 use Rattle.chk_udp_run.specs.declared.tally.Tally.{Tally}
 use Rattle.chk_udp_run.specs.Takings.{TakesOnce, Further, enough, full, none, one, Gathers}
 use Rattle.chk_udp_run.specs.Turns.{Commits, Closes, Settles, uncommitted, kept, closed, IsTurn}
@@ -35,46 +33,6 @@ use Rattle.chk_udp_run.proofs.Keeping.{put_same, done_same}
 use Rattle.chk_udp_run.proofs.Gathering.{gathers_same}
 use Rattle.chk_udp_run.proofs.Turning.{turn_same}
 use Rattle.chk_udp_run.proofs.Starting.{begun}
-
--- ---- a taking and a print obey a writer's rule
-
-data OfTalk : Deed → Type 0 where
-  taking : (door : List ℕ) (wait : ℕ) → OfTalk (Takes door wait)
-  saying : (text : List ℕ) → OfTalk (Says text)
-
-framed : (who : Who) (before : History) (call : Deed) → OfTalk call
-    → Framed who (files_after before) call
-framed who before call (taking door wait) = tt
-framed who before call (saying text) = tt
-
-starts_well : (name : List ℕ) (before : History) (call : Deed) → OfTalk call
-    → StartsAfterStop (record { role = Writer; name = name }) before call
-starts_well name before call (taking door wait) = refl
-starts_well name before call (saying text) = refl
-
-no_logs : (call : Deed) → OfTalk call → OnlyWritersGrowLogs Writer call
-no_logs call (taking door wait) = tt
-no_logs call (saying text) = tt
-
-no_posts : (call : Deed) → OfTalk call → OnlyAgentsPost Writer call
-no_posts call (taking door wait) = tt
-no_posts call (saying text) = tt
-
-writer_talks : (stamped : List (List ℕ)) (name : List ℕ) (before : History) (step : Step)
-    → step.act.who ≡ record { role = Writer; name = name } → OfTalk (deed step.act)
-    → RoleMay stamped Writer before step → Honest before step → Obeys stamped before step
-writer_talks stamped name before step by of may honest = record {
-  honest = honest;
-  named = subst (λ (w : Who). IsTrue (is_named_so w.role w.name)) (sym by) refl;
-  starts = subst (λ (w : Who). StartsAfterStop w before (deed step.act)) (sym by)
-      (starts_well name before (deed step.act) of);
-  own_files = framed step.act.who before (deed step.act) of;
-  logs = subst (λ (w : Who). OnlyWritersGrowLogs w.role (deed step.act)) (sym by)
-      (no_logs (deed step.act) of);
-  requests = subst (λ (w : Who). OnlyAgentsPost w.role (deed step.act)) (sym by)
-      (no_posts (deed step.act) of);
-  rule = subst (λ (w : Who). RoleMay stamped w.role before step) (sym by) may;
-}
 
 module _ (stamped : List (List ℕ)) (who writer : Who) (is : who.role ≡ Writer)
     (is_writer : writer.role ≡ Writer) where

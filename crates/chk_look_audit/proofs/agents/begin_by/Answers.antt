@@ -6,7 +6,7 @@ use Rattle.chk_site.specs.Site.{Adds}
 use Rattle.chk_world.specs.JobSteps.{IsOf}
 use Rattle.chk_world.specs.Sight.{job}
 use Rattle.chk_look_log.specs.Placing.{FoundBegin, ReadsLogOf}
-use Rattle.chk_look_audit.proofs.Steps.{cause_as}
+use Rattle.chk_look_passed.proofs.Joined.{cause_as}
 use Rattle.chk_look_audit.proofs.agents.begin_by.Goals as goal
 
 pub returns-in-Ok : goal.returns-in-Ok

@@ -1,5 +1,6 @@
 use Rattle.std.proofs.Common.{Bool, Ok, Err, refl}
-use Rattle.chk_look_audit.proofs.Steps.{cause_as, printed_by}
+use Rattle.chk_look_passed.proofs.Joined.{cause_as}
+use Rattle.chk_look_audit.proofs.Steps.{printed_by}
 use Rattle.chk_look_audit.proofs.streams.say_line.Goals as goal
 
 pub returns-in-Ok : goal.returns-in-Ok

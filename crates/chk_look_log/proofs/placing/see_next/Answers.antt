@@ -1,6 +1,6 @@
 use Rattle.std.proofs.Common.{Ok, Err, ap, refl}
 use Rattle.chk_site.specs.Site.{answered, piece_given}
-use Rattle.chk_site.specs.declared.limits.TheConstants.{LOG_END}
+use Rattle.chk_site.specs.declared.limits.TheConstants.{LOG_END, PIECE_BYTES}
 use Rattle.chk_look_log.specs.declared.placing.Next.{Next}
 use Rattle.chk_look_log.proofs.Owned.{own_then, read_own}
 use Rattle.chk_look_log.proofs.Placed.{cause_then, read_at}
@@ -17,7 +17,7 @@ returns-in-Ok g c =
             (answered piece_given given) c.in-Ok.ensures.told;
         behind = (refl, ap (λ (n : Next). Ok n) c.beyond.ensures);
       };
-      own = read_own c.args.who.now c.args.path.now _ LOG_END 131072 _ c.requires.job
+      own = read_own c.args.who.now c.args.path.now _ LOG_END PIECE_BYTES _ c.requires.job
           c.in-Ok.ensures.told;
       cause = c.in-Ok.ensures.cause;
     }
@@ -35,7 +35,7 @@ returns-in-Err-Short g c =
         behind = rw c.in-Err-Short.field-0-is c.see_end.ensures.told;
       };
       own = own_then path
-          (read_own c.args.who.now path _ LOG_END 131072 _ c.requires.job
+          (read_own c.args.who.now path _ LOG_END PIECE_BYTES _ c.requires.job
           c.in-Err-Short.ensures.told)
           c.see_end.ensures.own;
       cause = cause_then c.see_end.result (g.S.Site.fault_count c.args.site.now)
@@ -54,7 +54,7 @@ returns-in-Err-Failed g c =
             (answered piece_given given) c.in-Err-Failed.ensures.told;
         behind = rw c.in-Err-Failed.field-0-is (refl, refl);
       };
-      own = read_own c.args.who.now c.args.path.now _ LOG_END 131072 _ c.requires.job
+      own = read_own c.args.who.now c.args.path.now _ LOG_END PIECE_BYTES _ c.requires.job
           c.in-Err-Failed.ensures.told;
       cause = rw c.in-Err-Failed.field-0-is at c.in-Err-Failed.ensures.cause;
     }
@@ -70,7 +70,7 @@ returns-in-Err-NoMemory g c =
             (answered piece_given given) c.in-Err-NoMemory.ensures.told;
         behind = rw c.in-Err-NoMemory.field-0-is (refl, refl);
       };
-      own = read_own c.args.who.now c.args.path.now _ LOG_END 131072 _ c.requires.job
+      own = read_own c.args.who.now c.args.path.now _ LOG_END PIECE_BYTES _ c.requires.job
           c.in-Err-NoMemory.ensures.told;
       cause = rw c.in-Err-NoMemory.field-0-is at c.in-Err-NoMemory.ensures.cause;
     }

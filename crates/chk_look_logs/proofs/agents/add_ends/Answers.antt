@@ -1,4 +1,4 @@
-use Rattle.std.proofs.Common.{◌∙◌, List, Ok, Err, ℕ, map, subst, sym}
+use Rattle.std.proofs.Common.{◌∙◌, List, Ok, Err, ℕ, subst, sym}
 use Rattle.std.proofs.lemmas.Result.{err_from_is_err_and}
 use Rattle.chk_site.specs.Site.{OutsideCause}
 use Rattle.chk_world.specs.Checkpoints.{Line}

@@ -3,7 +3,7 @@ use Rattle.std.proofs.Math.ListN.{drop_of_length-le}
 use Rattle.std.proofs.lemmas.Result.{err_from_is_err_and}
 use Rattle.chk_look_logs.specs.Agents.{AgentsCause}
 use Rattle.chk_look_logs.specs.Agents.{ended, none_left, one_more, AddsAgent, SeesAgents}
-use Rattle.chk_look_logs.proofs.Turns.{next_of}
+use Rattle.chk_heads.proofs.InTurn.{next_of}
 use Rattle.chk_look_logs.proofs.agents.see_each.Goals as goal
 
 pub returns-in_err-add_agent-clause-told : goal.returns-in_err-add_agent-clause-told

@@ -1,7 +1,7 @@
-use Rattle.std.proofs.Common.{ℕ, Option, Ok, Err, None, Some, refl}
+use Rattle.std.proofs.Common.{ℕ, Option, Ok, Err, refl}
 use Rattle.chk_look_logs.specs.declared.probing.Next.{Next}
 use Rattle.chk_look_logs.specs.declared.probing.Next.TheVariants.{Last, More, Changed}
-use Rattle.chk_look_logs.proofs.Causes.{after, cause_other}
+use Rattle.chk_look_passed.proofs.Joined.{cause_as, cause_then}
 use Rattle.chk_look_logs.proofs.Parts.{sees_lent}
 use Rattle.chk_look_logs.proofs.ends.rotated_end.Goals as goal
 
@@ -17,7 +17,7 @@ returns-in-Ok-More-clause-told g c = record {
 
 pub returns-in-Ok-More-clause-cause : goal.returns-in-Ok-More-clause-cause
 returns-in-Ok-More-clause-cause g c =
-    after c.sum_on.result (g.S.Site.fault_count c.args.site.now)
+    cause_then c.sum_on.result (g.S.Site.fault_count c.args.site.now)
     (g.S.Site.fault_count c.see.new.site) (g.S.Site.fault_count c.sum_on.new.site)
     c.in-Ok-More.ensures.cause c.sum_on.ensures.cause
 
@@ -53,5 +53,5 @@ returns-in-Err-clause-told g c = record {
 
 pub returns-in-Err-clause-cause : goal.returns-in-Err-clause-cause
 returns-in-Err-clause-cause g c =
-    cause_other Next (Option ℕ) c.in-Err.fault (g.S.Site.fault_count c.args.site.now)
+    cause_as Next (Option ℕ) c.in-Err.fault (g.S.Site.fault_count c.args.site.now)
     (g.S.Site.fault_count c.see.new.site) c.in-Err.ensures.cause

@@ -1,8 +1,8 @@
 use Rattle.std.proofs.Common.{◌∙◌, ℕ, Option, Ok, Err, None, Some, refl}
 use Rattle.chk_look_logs.specs.declared.probing.Next.{Next}
-use Rattle.chk_look_logs.specs.declared.probing.Next.TheVariants.{Last, More, Changed}
+use Rattle.chk_look_logs.specs.declared.probing.Next.TheVariants.{Last, Changed}
 use Rattle.chk_look_logs.specs.Ends.{ends, goes_on, too_many}
-use Rattle.chk_look_logs.proofs.Causes.{after, cause_other}
+use Rattle.chk_look_passed.proofs.Joined.{cause_as, cause_then}
 use Rattle.chk_look_logs.proofs.ends.sum_on.Goals as goal
 
 pub loop-seen-preserved : goal.loop-seen-preserved
@@ -42,10 +42,10 @@ returns-in-Err-clause-told g c =
 
 pub returns-in-Err-clause-cause : goal.returns-in-Err-clause-cause
 returns-in-Err-clause-cause g c =
-    after {T = Option ℕ} (Err c.in-Err.fault) (g.S.Site.fault_count c.args.site.now)
+    cause_then {T = Option ℕ} (Err c.in-Err.fault) (g.S.Site.fault_count c.args.site.now)
     (g.S.Site.fault_count c.loop-seen.site) (g.S.Site.fault_count c.see.new.site)
     c.loop-seen.invariant.count
-    (cause_other Next (Option ℕ) c.in-Err.fault (g.S.Site.fault_count c.loop-seen.site)
+    (cause_as Next (Option ℕ) c.in-Err.fault (g.S.Site.fault_count c.loop-seen.site)
     (g.S.Site.fault_count c.see.new.site) c.in-Err.ensures.cause)
 
 pub returns-clause-told : goal.returns-clause-told

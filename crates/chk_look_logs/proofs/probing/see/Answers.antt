@@ -3,7 +3,7 @@ use Rattle.std.specs.Option.{option_copied}
 use Rattle.chk_look_logs.specs.Ends.{BySize}
 use Rattle.chk_world.specs.Checkpoints.{after_text}
 use Rattle.chk_look_logs.proofs.Parts.{probes_after}
-use Rattle.chk_look_logs.proofs.Causes.{after}
+use Rattle.chk_look_passed.proofs.Joined.{cause_then}
 use Rattle.chk_look_logs.proofs.probing.see.Goals as goal
 
 pub returns-in-Ok : goal.returns-in-Ok
@@ -19,7 +19,7 @@ returns-in-Ok g c = record {
         c.size_shown.ensures c.see_by.ensures.told;
   };
   cause =
-      after c.see_by.result (g.S.Site.fault_count c.args.site.now)
+      cause_then c.see_by.result (g.S.Site.fault_count c.args.site.now)
       (g.S.Site.fault_count c.read_at.new.site) (g.S.Site.fault_count c.see_by.new.site)
       c.in-Ok.ensures.cause c.see_by.ensures.cause;
 }

@@ -1,5 +1,5 @@
 use Rattle.std.proofs.Common.{sym, subst}
-use Rattle.std.specs.Prelude.{ℕ, Result}
+use Rattle.std.specs.Prelude.{Result}
 use Rattle.chk_site.specs.Site.{OutsideCause}
 use Rattle.chk_site.specs.declared.acts.OutsideFault.{OutsideFault}
 use Rattle.chk_look_logs.specs.declared.probing.Next.{Next}

@@ -1,7 +1,7 @@
 use Rattle.std.proofs.Common.{List, ℕ, Option, Result, subst, sym}
 use Rattle.chk_site.specs.declared.acts.OutsideFault.{OutsideFault}
 use Rattle.chk_look_status.specs.Doors.{sends, sent, unsent, AsksList, ListAsked}
-use Rattle.chk_look_status.proofs.Asks.{own_then, some_own}
+use Rattle.chk_look_check.proofs.OwnCalls.{own_then, some_own}
 use Rattle.chk_look_status.proofs.doors.ask_list.Goals as goal
 
 pub returns-in-Ok-clause-told : goal.returns-in-Ok-clause-told

@@ -1,7 +1,7 @@
 use Rattle.std.proofs.Common.{List, ℕ, Option, Result, subst, sym}
 use Rattle.chk_site.specs.declared.acts.OutsideFault.{OutsideFault}
 use Rattle.chk_look_status.specs.Doors.{gets, got, AsksList, ListGot}
-use Rattle.chk_look_status.proofs.Asks.{call_own}
+use Rattle.chk_look_check.proofs.OwnCalls.{call_own}
 use Rattle.chk_look_status.proofs.doors.got_list.Goals as goal
 
 pub returns-clause-told : goal.returns-clause-told

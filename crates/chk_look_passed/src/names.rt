@@ -1,24 +1,24 @@
 //! The names of agents' checkpoints.
 
-ghost use Rattle.std.specs.Prelude.{◌≡◌, None, Some, IfOk, MatchOption};
-ghost use Rattle.chk_bytes.specs.Words.{before_end};
-ghost use Rattle.chk_look_logs.specs.Names.{agent_named, agent_of};
+ghost use Rattle.std.specs.Prelude.{◌≡◌, IfOk};
+ghost use Rattle.chk_look_passed.specs.Agents.{agent_named, agent_of};
 
 use chk_bytes::{NoMemory, Word, WordFault};
 use chk_site::{Role, Who};
 use std::alloc::Global;
 
 /// The agent whose checkpoint has this name in its folder; none where no agent's has. It is named
-/// as the job, so that a look is no act of the agent's.
-pub(crate) fn agent_of(alloc: Global, name: &str) -> Result<Option<Who>, NoMemory>
+/// as the job, so that a look is no act of the agent's. It copies the source.
+pub fn agent_of(alloc: Global, name: &str) -> Result<Option<Who>, NoMemory>
     ensures { IfOk result (λ agent. agent ≡ agent_of name.now) }
 {
-    match without_end(name.as_bytes(), b".check") {
+    match name.as_bytes().strip_suffix(b".check".as_slice()) {
         Some(source) => agent_named(alloc, source),
         None => Ok(None),
     }
 }
 
+/// The agent of this source, where it is a word.
 fn agent_named(alloc: Global, source: &[u8]) -> Result<Option<Who>, NoMemory>
     ensures { IfOk result (λ agent. agent ≡ agent_named source.now) }
 {
@@ -30,11 +30,4 @@ fn agent_named(alloc: Global, source: &[u8]) -> Result<Option<Who>, NoMemory>
         Err(WordFault::NoMemory) => Err(NoMemory),
         Err(_) => Ok(None),
     }
-}
-
-fn without_end<'a>(text: &'a [u8], ending: &[u8]) -> Option<&'a [u8]>
-    ensures { MatchOption result (before_end ending.now text.now ≡ None)
-        (λ front. before_end ending.now text.now ≡ Some front.now) }
-{
-    text.strip_suffix(ending)
 }
