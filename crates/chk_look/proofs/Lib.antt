@@ -7,3 +7,4 @@ pub mod ArchiveLemmas
 pub mod Wanted
 pub mod StreamLemmas
 pub mod Loads
+mod NextKey

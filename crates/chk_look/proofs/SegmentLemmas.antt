@@ -15,7 +15,6 @@ use Rattle.chk_seqfile.specs.Entries.{IsSequenceFile, records_of}
 use Rattle.chk_salvage.specs.declared.pieces.Pieces.{Pieces}
 use Rattle.chk_salvage.specs.declared.fed.Fed.TheVariants.{More}
 use Rattle.chk_salvage.specs.Feeding.{fed_place, fed_rest, fed_limit, fed_marker, IsFed, Stands}
-use Rattle.chk_salvage.proofs.FeedLemmas.{records_of-nil}
 use Rattle.chk_world.specs.Books.{chunk_of, chunks_within}
 use Rattle.chk_heads.specs.Feeding.{AreChunks, limit_of, IsSpoiled, IsEnd, IsBadAt, no_header, torn, spoiled}
 use Rattle.chk_heads.proofs.FedRecords.{both_chunks}

@@ -1,4 +1,5 @@
 pub mod Courses
+pub mod Recents
 pub mod Faults
 pub mod Looking
 pub mod Loading

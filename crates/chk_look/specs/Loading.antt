@@ -1,5 +1,5 @@
 -- How one who only looks reads the book of a folder.
-use Rattle.std.specs.Prelude.{List, ℕ, Bool, true, false, Option, Result, Ok, Err}
+use Rattle.std.specs.Prelude.{List, ℕ, Bool, true, false, Option, Result, Err}
 use Rattle.chk_site.specs.Files.{File}
 use Rattle.chk_site.specs.Effect.{IsSmallFile}
 use Rattle.chk_site.specs.History.{History, Every}

@@ -1,5 +1,6 @@
 -- What is printed of one segment.
-use Rattle.std.specs.Prelude.{◌≡◌, ◌⊎◌, ℕ, ◌<◌, ◌-◌, ◌^◌, List, [], length, take, drop, Option, Some, None, Result, Ok, Err}
+use Rattle.std.specs.Prelude.{◌≡◌, ◌⊎◌, ℕ, ◌<◌, ◌-◌, ◌^◌, min, List, [], length, take, drop, Option, Some, None, Result, Ok, Err}
+use Rattle.chk_bytes.specs.Numbers.{last_number}
 use Rattle.chk_bytes.specs.Words.{BeginsWith}
 use Rattle.chk_site.specs.declared.acts.OutsideFault.{OutsideFault}
 use Rattle.chk_site.specs.Files.{File, Files}
@@ -16,7 +17,14 @@ use Rattle.chk_heads.specs.Feeding.{IsEnd}
 use Rattle.chk_look.specs.Courses.{GoesOver, wanted_by, chunks_at, IsOffAt, KeepsCourse, FollowedFed}
 use Rattle.chk_look.specs.Faults.{IsDamage}
 use Rattle.chk_look.specs.Looking.{AreOrWent}
-pub use Rattle.chk_replace.specs.Load.{asks_at}
+
+-- the most bytes that one read asks for
+abbrev pub look_limit : ℕ
+look_limit = 131072
+
+-- how many bytes a read at this place asks for, and none at or past the place 2^63 - 1
+abbrev pub asks_at : ℕ → ℕ
+asks_at at = min (last_number - at) look_limit
 
 -- at Ok the piece is what the file has at this place, and it went only where it isn't there
 abbrev pub Looked : List ℕ → ℕ → Result (List ℕ) LookFault → Files → List ℕ → History → Type 0

@@ -8,11 +8,14 @@ ghost use Rattle.chk_chunk.specs.Keys.{Key, same_stream, has_value};
 ghost use Rattle.chk_salvage.specs.Views.{placed_of};
 ghost use Rattle.chk_salvage.specs.Feeding.{IsFed, fed_limit, fed_place};
 ghost use Rattle.chk_heads.specs.Feeding.{AreChunks};
+ghost use Rattle.chk_look.specs.Recents.{IsRecent, row_of};
 ghost use Rattle.chk_look.specs.Courses.{chunk_with, TookChunk, TookRecord, KeepsCourse, stream_of, FollowedFed};
 
+use crate::recent::{Recent, Row};
 use chk_bytes::{Bytes, NoMemory};
-use chk_chunk::{KeyRef, read_key};
+use chk_chunk::KeyRef;
 use chk_salvage::{EntryRef, Fed, Pieces};
+use std::alloc::Global;
 
 /// One stream in a book, the offset from which on its bytes are wanted, and how far its records were followed.
 #[derive(Clone, Copy, Debug)]
@@ -32,7 +35,7 @@ pub struct Course<'a> {
 
 impl Course<'_> {
     /// The key is of this stream.
-    fn is_of(&self, key: &KeyRef<'_>) -> bool
+    pub(crate) fn is_of(&self, key: &KeyRef<'_>) -> bool
         ensures { result ≡ same_stream (stream_of self.now) (lent_key key.now).stream }
     {
         self.source == key.source && self.kind == key.kind && self.name == key.name
@@ -40,24 +43,20 @@ impl Course<'_> {
 
     /// Goes on over a chunk, and puts what is wanted of it behind the others; one of another stream is passed over.
     /// It says whether the chunk goes on from those before it, up to the stream's end at most.
-    fn take_chunk(
-        &mut self,
-        out: &mut Bytes,
-        key: &KeyRef<'_>,
-        value: &[u8],
-    ) -> Result<bool, NoMemory>
+    fn take_chunk(&mut self, out: &mut Bytes, row: Row, value: &[u8]) -> Result<bool, NoMemory>
         ensures keeps { KeepsCourse self.old self.new }
-        ensures ok { IfOk result (λ is. TookChunk is (chunk_with (lent_key key.now) value.now) self.old self.new out.old out.new) }
+        ensures ok { IfOk result (λ is. (k : Key) → row ≡ row_of (stream_of self.old) k
+            → TookChunk is (chunk_with k value.now) self.old self.new out.old out.new) }
     {
-        if !self.is_of(key) {
+        if !row.of {
             return Ok(true);
         }
-        let begin = key.seq.saturating_sub(value.len() as u64);
-        if key.start != self.start || begin != self.reached || key.seq > self.end {
+        let begin = row.seq.saturating_sub(value.len() as u64);
+        if row.start != self.start || begin != self.reached || row.seq > self.end {
             return Ok(false);
         }
         out.push_all(behind(value, self.begin.saturating_sub(begin)))?;
-        self.reached = key.seq;
+        self.reached = row.seq;
         Ok(true)
     }
 
@@ -65,26 +64,30 @@ impl Course<'_> {
     fn take_record(
         &mut self,
         out: &mut Bytes,
+        recent: &mut Recent,
         found: &EntryRef<'_>,
         most: u32,
     ) -> Result<bool, NoMemory>
+        requires recent { IsRecent (stream_of self.old) recent.old }
+        ensures recent { IsRecent (stream_of self.old) recent.new }
         ensures keeps { KeepsCourse self.old self.new }
         ensures ok { IfOk result (λ is. TookRecord is most (placed_of found.now) self.old self.new out.old out.new) }
     {
-        let key = match read_key(found.key) {
-            Ok(key) => key,
-            Err(_) => return Ok(false),
+        let row = match recent.read(self, found.key)? {
+            Some(row) => row,
+            None => return Ok(false),
         };
-        if !is_size(key.start, key.seq, found.value.len() as u64, most) {
+        if !is_size(row.start, row.seq, found.value.len() as u64, most) {
             return Ok(false);
         }
-        self.take_chunk(out, &key, found.value)
+        self.take_chunk(out, row, found.value)
     }
 
     /// Goes on over all records that are whole in what was fed. It says at which place the file can't be one whose
     /// records go on, whatever follows.
     pub(crate) fn take_fed(
         &mut self,
+        alloc: Global,
         out: &mut Bytes,
         pieces: &mut Pieces,
         most: u32,
@@ -96,11 +99,12 @@ impl Course<'_> {
             → AreChunks most (records_of (take (fed_place pieces.old) fed))
             → FollowedFed most self.old self.new pieces.old pieces.new out.old out.new fed stop) }
     {
+        let mut recent = Recent::nothing(alloc);
         let mut place = pieces.place();
         loop {
             match pieces.next() {
                 Fed::Entry(found) => {
-                    if !self.take_record(out, &found, most)? {
+                    if !self.take_record(out, &mut recent, &found, most)? {
                         return Ok(Some(found.at));
                     }
                     place = found.end;

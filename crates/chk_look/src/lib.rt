@@ -6,6 +6,7 @@ mod course;
 mod fault;
 mod laws;
 mod loading;
+mod recent;
 mod saying;
 mod segment;
 mod stream;

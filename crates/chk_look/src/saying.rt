@@ -10,16 +10,16 @@ ghost use Rattle.chk_look.specs.Segments.{asks_at, Looked, Said};
 
 use crate::fault::{LookFault, gone};
 use chk_bytes::Bytes;
-use chk_site::{Call, CallFault, OutsideFault, Site, Who};
+use chk_site::{Call, CallFault, OutsideFault, PIECE_BYTES, Site, Who};
 use std::alloc::Global;
 
-/// The most bytes that one read asks for.
-const PIECE: u64 = 1 << 20;
+/// The most bytes that one read asks for: so few that what is read, gone over and printed stays in the processor's cache.
+const PIECE: u64 = PIECE_BYTES as u64;
 
 /// The place at which each file counts as ended.
 const END: u64 = (1 << 63) - 1;
 
-/// What a file has from a place on, at most 1,048,576 bytes; `Gone` comes exactly where it isn't there. It costs one read.
+/// What a file has from a place on, at most 131,072 bytes; `Gone` comes exactly where it isn't there. It costs one read.
 pub(crate) fn look<S: Site>(
     alloc: Global,
     site: &mut S,

@@ -31,7 +31,7 @@ use std::alloc::Global;
 /// stream's end. What was printed before stays printed: it is what stands in front of that place, and after `Gone` the
 /// stream's bytes up to `reached`.
 ///
-/// The file is read once, in pieces of at most 1,048,576 bytes, and what is wanted of a piece is printed with one call. No
+/// The file is read once, in pieces of at most 131,072 bytes, and what is wanted of a piece is printed with one call. No
 /// more is held than one piece, what is printed of it, and one record.
 pub fn print_segment<S: Site>(
     alloc: Global,
@@ -50,9 +50,10 @@ pub fn print_segment<S: Site>(
     ensures cause { LookCause (S.fault_count site.old) (S.fault_count site.new) result }
 {
     let mut pieces = Pieces::new(alloc, most + SLACK);
+    let mut out = Bytes::new(alloc);
     let mut at = 0;
     loop {
-        if let Some(place) = follow(alloc, site, who, &mut pieces, course, most)? {
+        if let Some(place) = follow(alloc, site, who, &mut pieces, course, &mut out, most)? {
             return Err(damaged(alloc, name, place));
         }
         let piece = look(alloc, site, who, name, at)?;
@@ -64,14 +65,15 @@ pub fn print_segment<S: Site>(
     }
 }
 
-/// Goes on over what was fed, and prints what is wanted of it. It says at which place the file can't be one whose records
-/// go on.
+/// Goes on over what was fed, and prints what is wanted of it, which is put together in the room that is lent. It says at
+/// which place the file can't be one whose records go on.
 fn follow<S: Site>(
     alloc: Global,
     site: &mut S,
     who: &Who,
     pieces: &mut Pieces,
     course: &mut Course<'_>,
+    out: &mut Bytes,
     most: u32,
 ) -> Result<Option<u64>, OutsideFault>
     requires job { who.now ≡ job }
@@ -86,8 +88,8 @@ fn follow<S: Site>(
     ensures last { Adds (S.told site.old) (S.told site.new) (LastFailed result) }
     ensures cause { OutsideCause (S.fault_count site.old) (S.fault_count site.new) result }
 {
-    let mut out = Bytes::new(alloc);
-    let stop = course.take_fed(&mut out, pieces, most)?;
+    out.truncate(0);
+    let stop = course.take_fed(alloc, out, pieces, most)?;
     match say(alloc, site, who, out.as_slice()) {
         Ok(()) => Ok(stop),
         Err(fault) => Err(fault),

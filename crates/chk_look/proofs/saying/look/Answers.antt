@@ -13,7 +13,7 @@ use Rattle.chk_look.proofs.saying.look.Goals as goal
 
 pub returns-in-Ok : goal.returns-in-Ok
 returns-in-Ok g c =
-    let most = c.min-max.ensures ∙ ap (λ n. min n 1048576) c.saturating_sub.ensures in
+    let most = c.min-max.ensures ∙ ap (λ n. min n 131072) c.saturating_sub.ensures in
     let told = rw most at c.in-Ok.ensures.told in
     record {
       told = piece_seen c.args.who.now c.args.name.now c.args.at c.requires.job c.in-Ok.bytes told;
@@ -24,7 +24,7 @@ returns-in-Ok g c =
 
 pub returns-in-Err-Missing : goal.returns-in-Err-Missing
 returns-in-Err-Missing g c =
-    let most = c.min-max.ensures ∙ ap (λ n. min n 1048576) c.saturating_sub.ensures in
+    let most = c.min-max.ensures ∙ ap (λ n. min n 131072) c.saturating_sub.ensures in
     let told = rw most at (rw c.in-Err-Missing.field-0-is at c.in-Err-Missing.ensures.told) in
     record {
       told = missing_seen c.args.who.now c.args.name.now c.args.at c.requires.job c.gone.result c.gone.ensures told;
@@ -36,7 +36,7 @@ returns-in-Err-Missing g c =
 
 pub returns-in-Err-Failed : goal.returns-in-Err-Failed
 returns-in-Err-Failed g c =
-    let most = c.min-max.ensures ∙ ap (λ n. min n 1048576) c.saturating_sub.ensures in
+    let most = c.min-max.ensures ∙ ap (λ n. min n 131072) c.saturating_sub.ensures in
     let told = rw most at (rw c.in-Err-Failed.field-0-is at c.in-Err-Failed.ensures.told) in
     record {
       told = read_failed c.args.who.now c.args.name.now c.args.at c.requires.job told;
@@ -48,7 +48,7 @@ returns-in-Err-Failed g c =
 
 pub returns-in-Err-NoMemory : goal.returns-in-Err-NoMemory
 returns-in-Err-NoMemory g c =
-    let most = c.min-max.ensures ∙ ap (λ n. min n 1048576) c.saturating_sub.ensures in
+    let most = c.min-max.ensures ∙ ap (λ n. min n 131072) c.saturating_sub.ensures in
     let told = rw most at (rw c.in-Err-NoMemory.field-0-is at c.in-Err-NoMemory.ensures.told) in
     record {
       told = read_unmade c.args.who.now c.args.name.now c.args.at c.requires.job told;
@@ -59,7 +59,7 @@ returns-in-Err-NoMemory g c =
 
 pub returns-in-Err-Short : goal.returns-in-Err-Short
 returns-in-Err-Short g c =
-    let most = c.min-max.ensures ∙ ap (λ n. min n 1048576) c.saturating_sub.ensures in
+    let most = c.min-max.ensures ∙ ap (λ n. min n 131072) c.saturating_sub.ensures in
     let told = rw most at (rw c.in-Err-Short.field-0-is at c.in-Err-Short.ensures.told) in
     rw c.new.ensures
     (record {

@@ -24,15 +24,15 @@ returns-in-Ok g c = record {
   limit = c.take_fed.ensures.limit;
   keeps = c.take_fed.ensures.keeps;
   over = over_some c.args.most c.args.course.now c.take_fed.new.self c.args.pieces.now c.take_fed.new.pieces c.in_ok-stop.stop
-      c.new-out.result c.take_fed.new.out c.new-out.ensures c.in_ok-stop.ensures.ok;
+      c.truncate.new.self c.take_fed.new.out c.truncate.ensures c.in_ok-stop.ensures.ok;
   told = follow_said c.args.most c.args.course.now c.take_fed.new.self c.args.pieces.now c.take_fed.new.pieces c.in_ok-stop.stop
-      c.new-out.result c.take_fed.new.out c.as_slice.result.now c.new-out.ensures c.as_slice.ensures c.in_ok-stop.ensures.ok
+      c.truncate.new.self c.take_fed.new.out c.as_slice.result.now c.truncate.ensures c.as_slice.ensures c.in_ok-stop.ensures.ok
       c.in-Ok.ensures.told;
   last = adds_as (LastFailed {T = Option ℕ} (Ok c.in_ok-stop.stop)) c.in-Ok.ensures.told (λ added history x. tt);
   cause = c.in-Ok.ensures.cause;
 }
 
-pub returns-clause-told : goal.returns-clause-told
-returns-clause-told g c =
+pub returns-in-Err-clause-told : goal.returns-in-Err-clause-told
+returns-in-Err-clause-told g c =
     follow_unsaid c.args.most c.args.course.now c.take_fed.new.self c.args.pieces.now c.take_fed.new.pieces c.as_slice.result.now
     c.in-Err.fault c.in-Err.ensures.told
