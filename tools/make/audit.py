@@ -28,7 +28,7 @@ HEADLINE = [
     ("chukwa_run.Processes.RunSide", "what is supposed of the steps of others: the rules of each role"),
     ("chukwa_run.Runs.Begins", "the history before the run is legal"),
     ("chukwa_run.Demuxing.SuitsTypes", "a demux run is asked for the types that the rules split by stamps"),
-    ("chk_words.Asked.asked", "which words ask for which command"),
+    ("chk_cmd_line.Asked.asked", "which words ask for which command"),
     ("chk_site.Runs.Leads", "what steps lead to, where those of others meet a supposition"),
     ("chk_site.Site.Adds", "what the site tells of the history"),
 ]

@@ -17,7 +17,7 @@ sys.path.insert(0, os.path.join(os.path.dirname(os.path.abspath(__file__)), "../
 
 from contracts import TOP, Crate, crates, sources, text_of
 
-SHORT = {"W": "crates/chk_words", "R": "crates/chukwa_run"}
+SHORT = {"W": "crates/chk_cmd_line", "R": "crates/chukwa_run"}
 FOLDERS = ("crates", "tools", "docs", "packaging", "bin", *SHORT)
 
 

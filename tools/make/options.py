@@ -3,9 +3,9 @@
 
 usage: tools/make/options.py [--check]
 
-The program's own lists are those of crates/chk_words/src/usage.rt. Each option has to stand in its command's section
+The program's own lists are those of crates/chk_cmd_line/src/usage.rt. Each option has to stand in its command's section
 of OPERATING or in the table of further options there, and the line of a command in packaging/bash-completion/chukwa
-has to have just its options. Of `chukwactl` each usage line of crates/chk_look_words/src/usage.rt has to stand in
+has to have just its options. Of `chukwactl` each usage line of crates/chk_ctl_line/src/usage.rt has to stand in
 OPERATING, and packaging/bash-completion/chukwactl has to have just its options, beside `--help`. It writes nothing, and
 ends with 1 where something differs.
 """
@@ -20,7 +20,7 @@ from contracts import TOP, text_of
 
 def taken():
     """The options of each command, by the program's lists."""
-    text = text_of(f"{TOP}/crates/chk_words/src/usage.rt")
+    text = text_of(f"{TOP}/crates/chk_cmd_line/src/usage.rt")
     lists = re.findall(r"^static ([A-Z]+): \[&str; (\d+)\] = \[(.*?)\];", text, re.M | re.S)
     found = {name.lower(): re.findall(r'"([a-z-]+)"', names) for name, _, names in lists}
     return {command: options for command, options in found.items() if command != "none"}
@@ -43,7 +43,7 @@ def differences():
 
 def of_looks():
     """What differs of `chukwactl`."""
-    usage, manual = text_of(f"{TOP}/crates/chk_look_words/src/usage.rt"), text_of(f"{TOP}/docs/OPERATING.md")
+    usage, manual = text_of(f"{TOP}/crates/chk_ctl_line/src/usage.rt"), text_of(f"{TOP}/docs/OPERATING.md")
     completion = text_of(f"{TOP}/packaging/bash-completion/chukwactl")
     lines = {name: line for line, name in re.findall(r'"usage: (chukwactl ([a-z]+) [^"]*)\\n"', usage)}
     named = re.search(r'compgen -W "([a-z ]*)', completion)[1].split()

@@ -17,7 +17,7 @@ use Rattle.chk_world.specs.Checkpoints.{Line, Two, are_lines, read_checkpoint}
 use Rattle.chk_world.specs.Knowing.{agent}
 use Rattle.chk_world.specs.Names.{CheckFile, spell}
 use Rattle.chk_world.specs.Places.{As}
-use Rattle.chk_reading.specs.Adaptors.{Adaptor, revived}
+use Rattle.chk_agent_adaptor.specs.Adaptors.{Adaptor, revived}
 use Rattle.chk_agent.specs.declared.answers.AgentFault.TheVariants.{Outside, NoMemory}
 use Rattle.chk_agent.specs.States.{State, process, lines_of}
 use Rattle.chk_agent.specs.Facts.{Matches}

@@ -21,10 +21,10 @@ use Rattle.chk_site.proofs.Leads.{leads_none}
 use Rattle.chk_checkpoint.specs.Lines.{written_text}
 use Rattle.chk_world.specs.Checkpoints.{Line, Two, are_lines, read_checkpoint}
 use Rattle.chk_world.specs.Places.{As}
-use Rattle.chk_reading.specs.Adaptors.{Adaptor, adaptor_of, line_at}
-use Rattle.chk_delivery.specs.States.{State as Delivery}
-use Rattle.chk_delivery.specs.Sound.{IsSound as IsSoundDelivery, next_begins}
-use Rattle.chk_delivery.specs.Turns.{begun_at}
+use Rattle.chk_agent_adaptor.specs.Adaptors.{Adaptor, adaptor_of, line_at}
+use Rattle.chk_agent_delivery.specs.States.{State as Delivery}
+use Rattle.chk_agent_delivery.specs.Sound.{IsSound as IsSoundDelivery, next_begins}
+use Rattle.chk_agent_delivery.specs.Turns.{begun_at}
 use Rattle.chk_agent.specs.declared.answers.AgentFault.{AgentFault}
 use Rattle.chk_agent.specs.declared.answers.AgentFault.TheVariants.{Outside, NoMemory}
 use Rattle.chk_agent.specs.States.{State, process, lines_of}

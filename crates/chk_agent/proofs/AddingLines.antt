@@ -15,7 +15,7 @@ use Rattle.chk_agent.specs.Faults.{AgentCause, FailsLast, IsUndamaged, fault_of}
 use Rattle.chk_checkpoint.specs.declared.CheckLine.{CheckLine}
 use Rattle.chk_checkpoint.specs.Lines.{shown}
 use Rattle.chk_world.specs.Checkpoints.{Line}
-use Rattle.chk_reading.specs.Adaptors.{Adaptor, line_at, revived}
+use Rattle.chk_agent_adaptor.specs.Adaptors.{Adaptor, line_at, revived}
 use Rattle.chk_agent.specs.States.{lines_at}
 use Rattle.chk_agent.proofs.Soundness.{at_map}
 use Rattle.chk_agent.proofs.Listing.{line_get}

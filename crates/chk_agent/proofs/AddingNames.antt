@@ -8,10 +8,10 @@ use Rattle.std.proofs.lemmas.Bool.{and_parts, and_from}
 use Rattle.std.proofs.lemmas.Option.{same_Some, none-some}
 use Rattle.chk_world.specs.Checkpoints.{same_log, clash, are_apart}
 use Rattle.chk_world.proofs.Ends.{bytes_same, bytes_self}
-use Rattle.chk_reading.specs.Adaptors.{Adaptor, is_past, line_at, revived}
+use Rattle.chk_agent_adaptor.specs.Adaptors.{Adaptor, is_past, line_at, revived}
 use Rattle.chk_agent.specs.Adds.{Found, named_in, stream_in}
 use Rattle.chk_control.proofs.SpelledLemmas.{false_from_not as not-true}
-use Rattle.chk_delivery.proofs.Due.{neither}
+use Rattle.chk_agent_delivery.proofs.Due.{neither}
 
 -- no live one has the name
 abbrev pub IsFree : List ℕ → Adaptor → Type 0

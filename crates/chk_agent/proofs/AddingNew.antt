@@ -10,11 +10,11 @@ use Rattle.std.proofs.lemmas.List.{get_or-set_same, get_or-set_other}
 use Rattle.chk_chunk.specs.Keys.{Stream}
 use Rattle.chk_chunk.specs.declared.Chunk.{Chunk}
 use Rattle.chk_world.specs.Checkpoints.{Line}
-use Rattle.chk_reading.specs.declared.adaptor.Phase.TheVariants.{Live, Past}
-use Rattle.chk_reading.specs.Adaptors.{Adaptor, adaptor_of, is_past, line_at, stream_at}
-use Rattle.chk_delivery.specs.Basis.{Basis, AreOwned}
-use Rattle.chk_delivery.specs.Turns.{begun_at}
-use Rattle.chk_delivery.specs.Sound.{IsSound as IsSoundDelivery, ends_after, next_begins}
+use Rattle.chk_agent_adaptor.specs.declared.adaptor.Phase.TheVariants.{Live, Past}
+use Rattle.chk_agent_adaptor.specs.Adaptors.{Adaptor, adaptor_of, is_past, line_at, stream_at}
+use Rattle.chk_agent_delivery.specs.Basis.{Basis, AreOwned}
+use Rattle.chk_agent_delivery.specs.Turns.{begun_at}
+use Rattle.chk_agent_delivery.specs.Sound.{IsSound as IsSoundDelivery, ends_after, next_begins}
 use Rattle.chk_agent.specs.States.{State, committed_at, lines_at, lines_of, basis_of}
 use Rattle.chk_agent.specs.Settles.{saved_now}
 use Rattle.chk_agent.specs.Fits.{FitsPlace, IsSound}

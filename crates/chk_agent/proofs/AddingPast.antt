@@ -7,17 +7,17 @@ use Rattle.std.proofs.lemmas.Option.{same_Some, none-some}
 use Rattle.chk_site.specs.History.{History}
 use Rattle.chk_control.specs.Lines.{is_name}
 use Rattle.chk_world.specs.Checkpoints.{Line, same_log}
-use Rattle.chk_reading.specs.Adaptors.{Adaptor, line_at, read_line, revived, stream_at}
-use Rattle.chk_reading.specs.Facts.{ReaderStands}
-use Rattle.chk_delivery.specs.Facts.{Holds as HoldsDelivery}
-use Rattle.chk_delivery.specs.Sound.{next_begins}
+use Rattle.chk_agent_adaptor.specs.Adaptors.{Adaptor, line_at, read_line, revived, stream_at}
+use Rattle.chk_agent_adaptor.specs.Facts.{ReaderStands}
+use Rattle.chk_agent_delivery.specs.Facts.{Holds as HoldsDelivery}
+use Rattle.chk_agent_delivery.specs.Sound.{next_begins}
 use Rattle.chk_agent.specs.States.{State, committed_at, basis_of}
 use Rattle.chk_agent.specs.Facts.{Holds, Matches}
 use Rattle.chk_agent.specs.Fits.{FitsAdaptor, IsSound}
 use Rattle.chk_agent.specs.Adds.{named_in, revived_at}
 use Rattle.chk_agent.proofs.Soundness.{in_at, owned_on}
 use Rattle.chk_agent.proofs.SettlingHolds.{at_in, marks_like}
-use Rattle.chk_reading.proofs.Told.{stands_like}
+use Rattle.chk_agent_adaptor.proofs.Told.{stands_like}
 use Rattle.chk_agent.proofs.AddingNames.{apart_revived}
 
 -- what stands in a list of which one was replaced

@@ -38,10 +38,10 @@ use Rattle.chk_world.proofs.AgentCalls.{KeptByWrites}
 use Rattle.chk_world.proofs.AgentWrites.{AfterWriting, newest_told, newest_stays, newest_writes}
 use Rattle.chk_world.proofs.AgentWrites.{written_told, grows_stays, grows_writes}
 use Rattle.chk_world.proofs.LinesTrue.{lines_stand}
-use Rattle.chk_reading.specs.Adaptors.{Adaptor, adaptor_of, line_at, read_line, stream_at}
-use Rattle.chk_reading.specs.Facts.{place_line, ReaderStands}
-use Rattle.chk_delivery.specs.Facts.{RowStands}
-use Rattle.chk_delivery.proofs.Members.{in_filter}
+use Rattle.chk_agent_adaptor.specs.Adaptors.{Adaptor, adaptor_of, line_at, read_line, stream_at}
+use Rattle.chk_agent_adaptor.specs.Facts.{place_line, ReaderStands}
+use Rattle.chk_agent_delivery.specs.Facts.{RowStands}
+use Rattle.chk_agent_delivery.proofs.Members.{in_filter}
 use Rattle.chk_agent.specs.States.{State, process, lines_of}
 use Rattle.chk_agent.specs.Facts.{Holds, Matches}
 use Rattle.chk_agent.specs.Fits.{IsSound}
@@ -51,7 +51,7 @@ use Rattle.chk_agent.specs.Takes.{Asks, IsNewLine, SuffixIsNewest, MatchesNewest
 use Rattle.chk_agent.proofs.Soundness.{in_at, map_at, at_map, line_there, none_lost}
 use Rattle.chk_agent.proofs.StartingSound.{line_again}
 use Rattle.chk_agent.proofs.StartingHolds.{stand_cut}
-use Rattle.chk_reading.proofs.Told.{stands_like}
+use Rattle.chk_agent_adaptor.proofs.Told.{stands_like}
 use Rattle.chk_agent.proofs.SettlingHolds.{at_in}
 use Rattle.chk_agent.proofs.SettlingTold.{state_grows, lines_go_on}
 use Rattle.chk_agent.proofs.Unrenamed.{unmade_told}

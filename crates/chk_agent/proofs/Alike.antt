@@ -8,7 +8,7 @@ use Rattle.chk_site.specs.History.{History}
 use Rattle.chk_site.specs.Site.{Adds}
 use Rattle.chk_world.specs.Checkpoints.{Line}
 use Rattle.chk_world.proofs.Ends.{bytes_same}
-use Rattle.chk_reading.specs.Adaptors.{Adaptor, adaptor_of}
+use Rattle.chk_agent_adaptor.specs.Adaptors.{Adaptor, adaptor_of}
 use Rattle.chk_agent.proofs.TurningTold.{IsSameAgent}
 use Rattle.chk_agent.specs.Adds.{Found, with_added, stream_in}
 use Rattle.chk_agent.specs.Settles as settle

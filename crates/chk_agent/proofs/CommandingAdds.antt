@@ -10,7 +10,7 @@ use Rattle.chk_control.specs.declared.commands.Command.TheVariants.{Add}
 use Rattle.chk_control.specs.declared.answers.Answer.TheVariants.{Added, Bad}
 use Rattle.chk_control.specs.Answers.{answer_text}
 use Rattle.chk_control.specs.Lines.{meaning_of}
-use Rattle.chk_reading.specs.Adaptors.{Adaptor, is_past}
+use Rattle.chk_agent_adaptor.specs.Adaptors.{Adaptor, is_past}
 use Rattle.chk_agent.specs.declared.answers.AgentFault.{AgentFault}
 use Rattle.chk_agent.specs.declared.answers.Reply.{Reply}
 use Rattle.chk_agent.specs.declared.answers.Then.TheVariants.{Go}

@@ -4,8 +4,8 @@ use Rattle.std.proofs.Common.{not, List, [], ◌∷◌, length, Some, ap, sym, �
 use Rattle.std.proofs.Common.{eq-eqb, bytes_eq, if◌then◌else◌}
 use Rattle.std.specs.Prelude.{slice_get, slice_set, slice_index}
 use Rattle.std.proofs.lemmas.Option.{same_Some, none-some}
-use Rattle.chk_reading.specs.Adaptors.{Adaptor, is_past, stopped}
-use Rattle.chk_delivery.specs.Turns.{is_one_of}
+use Rattle.chk_agent_adaptor.specs.Adaptors.{Adaptor, is_past, stopped}
+use Rattle.chk_agent_delivery.specs.Turns.{is_one_of}
 use Rattle.chk_agent.specs.Adds.{named_in}
 use Rattle.chk_agent.specs.Commands.{live_from, all_past}
 

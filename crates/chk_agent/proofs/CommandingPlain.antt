@@ -15,8 +15,8 @@ use Rattle.chk_control.specs.declared.commands.Command.TheVariants.{List as List
 use Rattle.chk_control.specs.declared.commands.Command.TheVariants.{ReloadCollectors, Stop, StopAll}
 use Rattle.chk_control.specs.declared.commands.Command.TheVariants.{Shutdown, StopAgent}
 use Rattle.chk_control.specs.Lines.{Meaning, meaning_of}
-use Rattle.chk_reading.specs.Adaptors.{Adaptor}
-use Rattle.chk_delivery.specs.States.{State as Delivery}
+use Rattle.chk_agent_adaptor.specs.Adaptors.{Adaptor}
+use Rattle.chk_agent_delivery.specs.States.{State as Delivery}
 use Rattle.chk_agent.specs.declared.answers.AgentFault.{AgentFault}
 use Rattle.chk_agent.specs.declared.answers.AgentFault.TheVariants.{NoMemory}
 use Rattle.chk_agent.specs.declared.answers.Reply.{Reply}

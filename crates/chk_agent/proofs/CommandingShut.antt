@@ -8,10 +8,10 @@ use Rattle.chk_control.specs.declared.answers.Answer.TheVariants.{Bad}
 use Rattle.chk_control.specs.Answers.{answer_text}
 use Rattle.chk_rotate.specs.Marks.{BeginsBelow}
 use Rattle.chk_acks.specs.Sound.{IsSound as IsSoundTable}
-use Rattle.chk_reading.specs.Adaptors.{Adaptor, shut_down, stopped}
-use Rattle.chk_delivery.specs.States.{State as Delivery}
-use Rattle.chk_delivery.specs.Sound.{IsSound as IsSoundDelivery}
-use Rattle.chk_delivery.specs.Turns.{without_adaptors}
+use Rattle.chk_agent_adaptor.specs.Adaptors.{Adaptor, shut_down, stopped}
+use Rattle.chk_agent_delivery.specs.States.{State as Delivery}
+use Rattle.chk_agent_delivery.specs.Sound.{IsSound as IsSoundDelivery}
+use Rattle.chk_agent_delivery.specs.Turns.{without_adaptors}
 use Rattle.chk_agent.specs.declared.answers.Then.TheVariants.{Go}
 use Rattle.chk_agent.specs.States.{State, committed_at}
 use Rattle.chk_agent.specs.Fits.{IsSound}
@@ -20,7 +20,7 @@ use Rattle.chk_agent.specs.Commands.{plain_effect, stop_effect, shutdown_effect,
 use Rattle.chk_agent.specs.Commands.{live_from, stopped_state}
 use Rattle.chk_agent.proofs.CommandingLists.{IsThere, named_there, past_one}
 use Rattle.chk_agent.proofs.CommandingStates.{phases_sound, ending_rephased, stopped_sound}
-use Rattle.chk_delivery.proofs.Leaving.{length-last_back as last_size}
+use Rattle.chk_agent_delivery.proofs.Leaving.{length-last_back as last_size}
 
 -- the one that was found
 pub found_one : (name : List ℕ) (xs : List Adaptor) (o : Option ℕ) (i : ℕ) → o ≡ Some i

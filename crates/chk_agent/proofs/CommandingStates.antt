@@ -7,14 +7,14 @@ use Rattle.chk_site.specs.History.{History}
 use Rattle.chk_chunk.specs.Keys.{Stream}
 use Rattle.chk_tail.specs.Walks.{Spot}
 use Rattle.chk_world.specs.Checkpoints.{Line}
-use Rattle.chk_reading.specs.declared.adaptor.Phase.{Phase}
-use Rattle.chk_reading.specs.declared.adaptor.Phase.TheVariants.{Live, Stopping, Shrank, Past}
-use Rattle.chk_reading.specs.Adaptors.{Adaptor, is_past, read_line, sent_back, stopped, shut_down}
-use Rattle.chk_reading.specs.Adaptors.{phase_to_end}
-use Rattle.chk_reading.specs.Facts.{place_line, MarksStand, ReaderStands}
-use Rattle.chk_delivery.specs.Sound.{IsSound as IsSoundDelivery}
-use Rattle.chk_delivery.specs.Turns.{without_adaptors, is_one_of}
-use Rattle.chk_delivery.specs.Facts.{Holds as HoldsDelivery}
+use Rattle.chk_agent_adaptor.specs.declared.adaptor.Phase.{Phase}
+use Rattle.chk_agent_adaptor.specs.declared.adaptor.Phase.TheVariants.{Live, Stopping, Shrank, Past}
+use Rattle.chk_agent_adaptor.specs.Adaptors.{Adaptor, is_past, read_line, sent_back, stopped, shut_down}
+use Rattle.chk_agent_adaptor.specs.Adaptors.{phase_to_end}
+use Rattle.chk_agent_adaptor.specs.Facts.{place_line, MarksStand, ReaderStands}
+use Rattle.chk_agent_delivery.specs.Sound.{IsSound as IsSoundDelivery}
+use Rattle.chk_agent_delivery.specs.Turns.{without_adaptors, is_one_of}
+use Rattle.chk_agent_delivery.specs.Facts.{Holds as HoldsDelivery}
 use Rattle.chk_agent.specs.States.{State}
 use Rattle.chk_agent.specs.Facts.{Holds}
 use Rattle.chk_agent.specs.Fits.{FitsAdaptor, IsSound}
@@ -24,7 +24,7 @@ use Rattle.chk_agent.proofs.Soundness.{in_at, GoesOnAs, AllGoOn, go_on_at, strea
 use Rattle.chk_agent.proofs.Soundness.{sound_changed}
 use Rattle.chk_agent.proofs.SettlingSound.{sound_reset}
 use Rattle.chk_agent.proofs.SettlingHolds.{at_in, holds_reset}
-use Rattle.chk_reading.proofs.Told.{stands_like}
+use Rattle.chk_agent_adaptor.proofs.Told.{stands_like}
 
 -- ---- the phase is no matter of where an adaptor stands
 

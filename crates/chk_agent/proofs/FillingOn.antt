@@ -7,7 +7,7 @@ use Rattle.std.proofs.lemmas.List.Sums.{sum_by-append}
 use Rattle.std.proofs.lemmas.Bool.{lt-ltb, le-ltb, cases_lt}
 use Rattle.chk_site.specs.declared.acts.Role.TheVariants.{Agent}
 use Rattle.chk_chunk.specs.declared.Chunk.{Chunk}
-use Rattle.chk_reading.specs.Steps.{IsStepped}
+use Rattle.chk_agent_adaptor.specs.Steps.{IsStepped}
 use Rattle.chk_site.specs.declared.acts.Call.{Call}
 use Rattle.chk_site.specs.History.{History, is_stopped}
 use Rattle.chk_site.proofs.Runs.{adds_then, adds_as}
@@ -19,8 +19,8 @@ use Rattle.chk_tail.specs.declared.step.Step.TheVariants.{Bytes, AtEnd as gave_n
 use Rattle.chk_tail.specs.declared.step.Step.TheVariants.{Shrank as is_short}
 use Rattle.chk_queue.specs.Queues.{data_size}
 use Rattle.chk_world.specs.Places.{As}
-use Rattle.chk_reading.specs.Adaptors.{Adaptor, is_stepped}
-use Rattle.chk_delivery.specs.Turns.{is_held}
+use Rattle.chk_agent_adaptor.specs.Adaptors.{Adaptor, is_stepped}
+use Rattle.chk_agent_delivery.specs.Turns.{is_held}
 use Rattle.chk_agent.specs.declared.answers.AgentFault.{AgentFault}
 use Rattle.chk_agent.specs.declared.answers.AgentFault.TheVariants.{Damaged, Outside, NoMemory}
 use Rattle.chk_agent.specs.Faults.{FailsLast}

@@ -11,7 +11,7 @@ use Rattle.chk_chunk.specs.declared.Chunk.{Chunk}
 use Rattle.chk_tail.specs.declared.step.Step.{Step}
 use Rattle.chk_tail.specs.declared.step.Step.TheVariants.{Bytes, AtEnd as gave_none}
 use Rattle.chk_tail.specs.declared.step.Step.TheVariants.{Shrank as is_short}
-use Rattle.chk_reading.specs.Adaptors.{Adaptor}
+use Rattle.chk_agent_adaptor.specs.Adaptors.{Adaptor}
 use Rattle.chk_agent.specs.declared.answers.AgentFault.{AgentFault}
 use Rattle.chk_agent.specs.declared.answers.Stepped.{Stepped}
 use Rattle.chk_agent.specs.declared.answers.Stepped.TheVariants.{Read as step_read}

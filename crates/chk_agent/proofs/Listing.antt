@@ -6,7 +6,7 @@ use Rattle.std.proofs.lemmas.Option.{same_Some, none-some}
 use Rattle.chk_checkpoint.specs.declared.CheckLine.{CheckLine}
 use Rattle.chk_checkpoint.specs.Lines.{shown}
 use Rattle.chk_world.specs.Checkpoints.{Line}
-use Rattle.chk_reading.specs.Adaptors.{Adaptor, line_at}
+use Rattle.chk_agent_adaptor.specs.Adaptors.{Adaptor, line_at}
 use Rattle.chk_agent.specs.States.{lines_at}
 
 pub take_next : {X : Type 0} (xs : List X) (i : ℕ) (x : X) → slice_get xs i ≡ Some x → take i xs ++ x ∷ [] ≡ take (suc i) xs

@@ -18,7 +18,7 @@ use Rattle.chk_bytes.proofs.StemLemmas.{decimal_plain}
 use Rattle.chk_bytes.proofs.WordLemmas.{plain-append, plain_word}
 use Rattle.chk_control.specs.Lines.{is_name}
 use Rattle.chk_world.proofs.Ends.{bytes_same, bytes_self}
-use Rattle.chk_reading.specs.Adaptors.{Adaptor, is_past}
+use Rattle.chk_agent_adaptor.specs.Adaptors.{Adaptor, is_past}
 use Rattle.chk_agent.specs.States.{State}
 use Rattle.chk_agent.specs.Adds.{default_name, named_in, IsNameFor}
 use Rattle.chk_agent.specs.DefaultNames.{number_in, name_number, marked_one, marked, unmarked}

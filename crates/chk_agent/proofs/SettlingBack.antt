@@ -8,11 +8,11 @@ use Rattle.std.proofs.lemmas.Option.{same_Some, none-some}
 use Rattle.chk_tail.specs.Walks.{Spot}
 use Rattle.chk_rotate.specs.Marks.{mark_at, place_of, kept_to, BeginsBelow, RiseTo}
 use Rattle.chk_rotate.proofs.MarkLemmas.{kept_one, kept_none}
-use Rattle.chk_reading.specs.declared.adaptor.Phase.{Phase}
-use Rattle.chk_reading.specs.declared.adaptor.Phase.TheVariants.{Live, Stopping, Shrank, Past}
-use Rattle.chk_reading.specs.Adaptors.{Adaptor, is_past, line_at, stream_at, sent_back, phase_back}
-use Rattle.chk_reading.specs.Adaptors.{IsPlaced}
-use Rattle.chk_delivery.specs.Turns.{is_one_of}
+use Rattle.chk_agent_adaptor.specs.declared.adaptor.Phase.{Phase}
+use Rattle.chk_agent_adaptor.specs.declared.adaptor.Phase.TheVariants.{Live, Stopping, Shrank, Past}
+use Rattle.chk_agent_adaptor.specs.Adaptors.{Adaptor, is_past, line_at, stream_at, sent_back, phase_back}
+use Rattle.chk_agent_adaptor.specs.Adaptors.{IsPlaced}
+use Rattle.chk_agent_delivery.specs.Turns.{is_one_of}
 use Rattle.chk_agent.specs.States.{lines_at}
 use Rattle.chk_agent.specs.Settles.{all_back}
 use Rattle.chk_agent.specs.Within.{Rising}

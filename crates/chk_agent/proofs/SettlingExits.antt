@@ -22,10 +22,10 @@ use Rattle.chk_world.specs.Checkpoints.{Line, Two, are_lines, read_checkpoint}
 use Rattle.chk_world.specs.Places.{As}
 use Rattle.chk_world.specs.Answering.{LinesGoOn}
 use Rattle.chk_world.specs.Knowing.{agent}
-use Rattle.chk_reading.specs.Adaptors.{Adaptor}
-use Rattle.chk_delivery.specs.States.{State as Delivery}
-use Rattle.chk_delivery.specs.Sound.{IsSound as IsSoundDelivery}
-use Rattle.chk_delivery.specs.Turns.{is_one_of, numbers_of, without_adaptors}
+use Rattle.chk_agent_adaptor.specs.Adaptors.{Adaptor}
+use Rattle.chk_agent_delivery.specs.States.{State as Delivery}
+use Rattle.chk_agent_delivery.specs.Sound.{IsSound as IsSoundDelivery}
+use Rattle.chk_agent_delivery.specs.Turns.{is_one_of, numbers_of, without_adaptors}
 use Rattle.chk_agent.specs.declared.answers.AgentFault.TheVariants.{Outside, NoMemory}
 use Rattle.chk_agent.specs.States.{State, process, committed_at, lines_at, lines_of}
 use Rattle.chk_agent.specs.Settles.{all_back, reset, settled_all, settled, saved_now, unsure}
@@ -35,7 +35,7 @@ use Rattle.chk_agent.specs.Fits.{IsSound}
 use Rattle.chk_agent.specs.Within.{Rising}
 use Rattle.chk_agent.proofs.Soundness.{lines_spelled, sound_saved}
 use Rattle.chk_agent.proofs.SettlingBack.{lines_back}
-use Rattle.chk_delivery.proofs.Leaving.{length-last_back as last_size}
+use Rattle.chk_agent_delivery.proofs.Leaving.{length-last_back as last_size}
 use Rattle.chk_agent.proofs.SettlingSound.{sound_reset, sound_settled}
 use Rattle.chk_agent.proofs.SettlingHolds.{holds_settled}
 use Rattle.chk_agent.proofs.SettlingTold.{reset_matches, settled_matches, lines_go_on, lines_unmade}

@@ -14,14 +14,14 @@ use Rattle.chk_rotate.proofs.MarkLemmas.{kept_one, kept_none}
 use Rattle.chk_world.specs.Checkpoints.{Line, is_line_of}
 use Rattle.chk_world.specs.Streams.{is_stream_cut}
 use Rattle.chk_world.specs.Standing.{Stands}
-use Rattle.chk_reading.specs.Adaptors.{Adaptor, stream_at, line_at, read_line, sent_back}
-use Rattle.chk_reading.specs.Adaptors.{settled_one}
-use Rattle.chk_reading.specs.Facts.{place_line, MarksStand, ReaderStands}
-use Rattle.chk_delivery.specs.States.{State as Delivery}
-use Rattle.chk_delivery.specs.Basis.{Basis}
-use Rattle.chk_delivery.specs.Facts.{Holds as HoldsDelivery, PostStands}
-use Rattle.chk_delivery.specs.Turns.{is_one_of, without_adaptors, without_chunks}
-use Rattle.chk_delivery.proofs.Members.{in_filter}
+use Rattle.chk_agent_adaptor.specs.Adaptors.{Adaptor, stream_at, line_at, read_line, sent_back}
+use Rattle.chk_agent_adaptor.specs.Adaptors.{settled_one}
+use Rattle.chk_agent_adaptor.specs.Facts.{place_line, MarksStand, ReaderStands}
+use Rattle.chk_agent_delivery.specs.States.{State as Delivery}
+use Rattle.chk_agent_delivery.specs.Basis.{Basis}
+use Rattle.chk_agent_delivery.specs.Facts.{Holds as HoldsDelivery, PostStands}
+use Rattle.chk_agent_delivery.specs.Turns.{is_one_of, without_adaptors, without_chunks}
+use Rattle.chk_agent_delivery.proofs.Members.{in_filter}
 use Rattle.chk_agent.specs.States.{State, committed_at, basis_of, lines_of}
 use Rattle.chk_agent.specs.Settles.{all_back, reset, settled_all, settled, saved_now}
 use Rattle.chk_agent.specs.Facts.{Holds}
@@ -30,7 +30,7 @@ use Rattle.chk_agent.proofs.Soundness.{in_at, at_map, map_at, line_there, stream
 use Rattle.chk_agent.proofs.SettlingBack.{back_at, streams_back}
 use Rattle.chk_agent.proofs.SettlingNext.{chunk_left, all_left}
 use Rattle.chk_agent.proofs.SettlingSound.{place_offset, settled_at, all_settle}
-use Rattle.chk_reading.proofs.Told.{stands_like}
+use Rattle.chk_agent_adaptor.proofs.Told.{stands_like}
 
 -- the place of one in a list
 pub at_in : {X : Type 0} (xs : List X) (x : X) → Contains xs x → (i : ℕ) × (slice_get xs i ≡ Some x)

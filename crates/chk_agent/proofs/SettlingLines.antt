@@ -11,7 +11,7 @@ use Rattle.chk_control.specs.Classes.{same_class}
 use Rattle.chk_tail.specs.Walks.{Spot}
 use Rattle.chk_world.specs.Checkpoints.{Line}
 use Rattle.chk_world.proofs.Ends.{bytes_same, bytes_self}
-use Rattle.chk_reading.specs.Adaptors.{Adaptor, is_past, line_at, phase_at, settled_one}
+use Rattle.chk_agent_adaptor.specs.Adaptors.{Adaptor, is_past, line_at, phase_at, settled_one}
 use Rattle.chk_agent.specs.States.{lines_at}
 use Rattle.chk_agent.specs.Settles.{settled_all}
 use Rattle.chk_agent.specs.Within.{same_suffix, same_truth, same_place, place_in, same_kind}

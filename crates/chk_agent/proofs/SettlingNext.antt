@@ -4,11 +4,11 @@ use Rattle.std.proofs.Common.{◌∷◌, length, ap, sym, ◌∙◌, refl, arith
 use Rattle.std.specs.Prelude.{slice_index, slice_set, filter, Contains}
 use Rattle.std.specs.List.{list_any}
 use Rattle.chk_chunk.specs.declared.Chunk.{Chunk}
-use Rattle.chk_delivery.specs.Basis.{Basis, AreOwned}
-use Rattle.chk_delivery.specs.Sound.{ends_after}
-use Rattle.chk_delivery.specs.Turns.{is_one_of, without_chunks, last_back}
-use Rattle.chk_delivery.proofs.Due.{set_index as set_other, neither}
-use Rattle.chk_delivery.proofs.Rows.{length_set}
+use Rattle.chk_agent_delivery.specs.Basis.{Basis, AreOwned}
+use Rattle.chk_agent_delivery.specs.Sound.{ends_after}
+use Rattle.chk_agent_delivery.specs.Turns.{is_one_of, without_chunks, last_back}
+use Rattle.chk_agent_delivery.proofs.Due.{set_index as set_other, neither}
+use Rattle.chk_agent_delivery.proofs.Rows.{length_set}
 
 set_like : (xs ys : List ℕ) (i x j : ℕ) → length xs ≡ length ys → slice_index xs j ≡ slice_index ys j
     → slice_index (slice_set xs i x) j ≡ slice_index (slice_set ys i x) j

@@ -12,20 +12,20 @@ use Rattle.chk_rotate.proofs.MarkLemmas.{kept_one, kept_none, rise_kept, rise_fo
 use Rattle.chk_rotate.proofs.MarkLemmas.{newest_kept, newest_forgotten}
 use Rattle.chk_world.specs.Checkpoints.{is_line}
 use Rattle.chk_world.specs.Answering.{MovesToLater}
-use Rattle.chk_reading.specs.declared.adaptor.Phase.{Phase}
-use Rattle.chk_reading.specs.declared.adaptor.Phase.TheVariants.{Live, Stopping, Shrank, Past}
-use Rattle.chk_reading.specs.Adaptors.{Adaptor, is_past, sent_back, settled_one, phase_back}
-use Rattle.chk_reading.specs.Adaptors.{phase_at}
-use Rattle.chk_delivery.specs.Sound.{IsSound as IsSoundDelivery, next_begins}
-use Rattle.chk_delivery.specs.Turns.{is_one_of, without_adaptors, last_back}
-use Rattle.chk_delivery.proofs.Members.{in_filter}
+use Rattle.chk_agent_adaptor.specs.declared.adaptor.Phase.{Phase}
+use Rattle.chk_agent_adaptor.specs.declared.adaptor.Phase.TheVariants.{Live, Stopping, Shrank, Past}
+use Rattle.chk_agent_adaptor.specs.Adaptors.{Adaptor, is_past, sent_back, settled_one, phase_back}
+use Rattle.chk_agent_adaptor.specs.Adaptors.{phase_at}
+use Rattle.chk_agent_delivery.specs.Sound.{IsSound as IsSoundDelivery, next_begins}
+use Rattle.chk_agent_delivery.specs.Turns.{is_one_of, without_adaptors, last_back}
+use Rattle.chk_agent_delivery.proofs.Members.{in_filter}
 use Rattle.chk_agent.specs.States.{State, committed_at, basis_of}
 use Rattle.chk_agent.specs.Settles.{all_back, reset, settled_all, settled}
 use Rattle.chk_agent.specs.Fits.{SuffixesRise, mark_line, IsMarked, FitsAdaptor, IsSound}
 use Rattle.chk_agent.proofs.Soundness.{below_at, line_on, AllGoOn, GoesOnAs, sound_changed}
 use Rattle.chk_agent.proofs.SettlingBack.{back_one, back_at, place_kept}
 use Rattle.chk_agent.proofs.SettlingNext.{gone_ends, other_ends, last_at, owned_left}
-use Rattle.chk_delivery.proofs.Leaving.{length-last_back as last_size}
+use Rattle.chk_agent_delivery.proofs.Leaving.{length-last_back as last_size}
 
 -- ---- marks up to an offset
 

@@ -20,9 +20,9 @@ use Rattle.chk_world.specs.Answering.{GoesOnOrBegins, LinesGoOn}
 use Rattle.chk_world.specs.Knowing.{agent, Grows}
 use Rattle.chk_world.proofs.LinesStand.{stands_on}
 use Rattle.chk_world.proofs.AgentWrites.{AfterWriting, written_told, grows_stays, grows_writes}
-use Rattle.chk_reading.specs.Adaptors.{Adaptor, stream_at, line_at, read_line}
-use Rattle.chk_reading.specs.Facts.{MarksStand, ReaderStands}
-use Rattle.chk_delivery.proofs.Growing.{holds_grows}
+use Rattle.chk_agent_adaptor.specs.Adaptors.{Adaptor, stream_at, line_at, read_line}
+use Rattle.chk_agent_adaptor.specs.Facts.{MarksStand, ReaderStands}
+use Rattle.chk_agent_delivery.proofs.Growing.{holds_grows}
 use Rattle.chk_agent.specs.States.{State, process, committed_at, lines_of, basis_of}
 use Rattle.chk_agent.specs.Settles.{reset, settled, saved_now, unsure, Writes}
 use Rattle.chk_agent.specs.Facts.{Holds, Matches}

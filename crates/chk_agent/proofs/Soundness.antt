@@ -23,10 +23,10 @@ use Rattle.chk_world.specs.Reading.{IsPlacePast}
 use Rattle.chk_world.specs.Answering.{MovesToLater}
 use Rattle.chk_world.proofs.Ends.{bytes_self}
 use Rattle.chk_world.proofs.NewLines.{line_found}
-use Rattle.chk_reading.specs.Adaptors.{Adaptor, is_past, stream_at, line_at, read_line, IsPastLine}
-use Rattle.chk_delivery.specs.States.{State as Delivery}
-use Rattle.chk_delivery.specs.Basis.{Basis, AreOwned, IsSaved, Fits, stream_of_chunk}
-use Rattle.chk_delivery.specs.Sound.{IsSound as IsSoundDelivery, next_begins}
+use Rattle.chk_agent_adaptor.specs.Adaptors.{Adaptor, is_past, stream_at, line_at, read_line, IsPastLine}
+use Rattle.chk_agent_delivery.specs.States.{State as Delivery}
+use Rattle.chk_agent_delivery.specs.Basis.{Basis, AreOwned, IsSaved, Fits, stream_of_chunk}
+use Rattle.chk_agent_delivery.specs.Sound.{IsSound as IsSoundDelivery, next_begins}
 use Rattle.chk_agent.specs.States.{State, committed_at, lines_at, lines_of, basis_of}
 use Rattle.chk_agent.specs.Settles.{saved_now, unsure}
 use Rattle.chk_agent.specs.Fits.{IsEnough, mark_line, IsMarked, FitsPlace, FitsAdaptor, IsSound}
@@ -34,7 +34,7 @@ use Rattle.chk_agent.proofs.Suffixes.{later_same, later_then, later_behind, late
 use Rattle.chk_agent.proofs.Suffixes.{place_read, place_among}
 use Rattle.chk_control.proofs.SpelledLemmas.{false_from_not as not-true}
 use Rattle.chk_world.proofs.SpelledLemmas.{all_fit_two as all_fit}
-use Rattle.chk_delivery.proofs.Due.{neither}
+use Rattle.chk_agent_delivery.proofs.Due.{neither}
 
 -- ---- lists
 

@@ -16,10 +16,10 @@ use Rattle.chk_world.specs.Rules.{Legal}
 use Rattle.chk_world.specs.Standing.{Stands}
 use Rattle.chk_world.proofs.NewLines.{line_found}
 use Rattle.chk_world.proofs.LinesTrue.{lines_stand}
-use Rattle.chk_reading.specs.Adaptors.{adaptor_of, read_line, stream_at}
-use Rattle.chk_reading.specs.Facts.{place_line, ReaderStands}
-use Rattle.chk_delivery.specs.Facts.{EndStands, PostStands, PollStands}
-use Rattle.chk_delivery.proofs.Members.{in_map}
+use Rattle.chk_agent_adaptor.specs.Adaptors.{adaptor_of, read_line, stream_at}
+use Rattle.chk_agent_adaptor.specs.Facts.{place_line, ReaderStands}
+use Rattle.chk_agent_delivery.specs.Facts.{EndStands, PostStands, PollStands}
+use Rattle.chk_agent_delivery.proofs.Members.{in_map}
 use Rattle.chk_failover.specs.Turns.{Turns}
 use Rattle.chk_site.specs.declared.acts.Who.{Who}
 use Rattle.chk_agent.specs.declared.agent.Rules.{Rules}
@@ -27,7 +27,7 @@ use Rattle.chk_agent.specs.States.{State}
 use Rattle.chk_agent.specs.Facts.{Holds}
 use Rattle.chk_agent.specs.Starts.{IsFresh}
 use Rattle.chk_agent.proofs.Soundness.{in_at, map_at}
-use Rattle.chk_reading.proofs.Told.{stands_like}
+use Rattle.chk_agent_adaptor.proofs.Told.{stands_like}
 
 none_of : {X : Type 0} {xs : List X} {x : X} → xs ≡ [] → Contains xs x → ⊥
 none_of {x = x} e c = let d = subst (λ l. Contains l x) e c in let below = d.1 in omega (arith, below)

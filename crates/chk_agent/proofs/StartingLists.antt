@@ -5,7 +5,7 @@ use Rattle.std.specs.Prelude.{IsTrue}
 use Rattle.chk_checkpoint.specs.declared.CheckLine.{CheckLine}
 use Rattle.chk_checkpoint.specs.Lines.{shown}
 use Rattle.chk_world.specs.Checkpoints.{is_line}
-use Rattle.chk_reading.specs.Adaptors.{Adaptor, adaptor_of}
+use Rattle.chk_agent_adaptor.specs.Adaptors.{Adaptor, adaptor_of}
 use Rattle.chk_agent.specs.Loading.{AreLines}
 
 -- the first of some lines, and the rest of them

@@ -11,15 +11,15 @@ use Rattle.chk_checkpoint.specs.Lines.{shown}
 use Rattle.chk_world.specs.Names.{is_source}
 use Rattle.chk_world.specs.Checkpoints.{Line, Two, is_line, same_log, clash, are_apart, are_lines}
 use Rattle.chk_world.specs.Checkpoints.{fits_version}
-use Rattle.chk_reading.specs.declared.adaptor.Phase.TheVariants.{Live, Past}
-use Rattle.chk_reading.specs.Adaptors.{Adaptor, adaptor_of, is_past, line_at}
-use Rattle.chk_delivery.specs.Basis.{AreOwned}
-use Rattle.chk_delivery.specs.Sound.{IsSound as IsSoundDelivery, ends_after, next_begins}
+use Rattle.chk_agent_adaptor.specs.declared.adaptor.Phase.TheVariants.{Live, Past}
+use Rattle.chk_agent_adaptor.specs.Adaptors.{Adaptor, adaptor_of, is_past, line_at}
+use Rattle.chk_agent_delivery.specs.Basis.{AreOwned}
+use Rattle.chk_agent_delivery.specs.Sound.{IsSound as IsSoundDelivery, ends_after, next_begins}
 use Rattle.chk_agent.specs.States.{State, lines_at, basis_of}
 use Rattle.chk_agent.specs.Fits.{IsEnough, mark_line, FitsPlace, IsSound}
 use Rattle.chk_failover.specs.Turns.{Turns}
-use Rattle.chk_delivery.specs.declared.delivery.Rules.{Rules}
-use Rattle.chk_delivery.specs.States.{State as Delivery}
+use Rattle.chk_agent_delivery.specs.declared.delivery.Rules.{Rules}
+use Rattle.chk_agent_delivery.specs.States.{State as Delivery}
 use Rattle.chk_agent.specs.Loading.{AreLines, BeginsAt, IsEmptyFor, IsBegun}
 use Rattle.chk_agent.proofs.Soundness.{has_place, HavePlaces, sound_written, in_at, map_at}
 use Rattle.chk_agent.proofs.Soundness.{size_map}

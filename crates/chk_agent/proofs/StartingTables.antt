@@ -10,9 +10,9 @@ use Rattle.std.proofs.lemmas.Iterator.Adapters.{position_from-zero}
 use Rattle.chk_checkpoint.specs.declared.CheckLine.{CheckLine}
 use Rattle.chk_checkpoint.specs.Lines.{shown}
 use Rattle.chk_world.specs.Checkpoints.{Line, Two, are_apart, are_lines, clash, same_log}
-use Rattle.chk_reading.specs.declared.adaptor.Phase.TheVariants.{Live, Past}
-use Rattle.chk_reading.specs.Adaptors.{Adaptor, adaptor_of, is_past}
-use Rattle.chk_adaptors.specs.Adaptors.{is_named, is_of}
+use Rattle.chk_agent_adaptor.specs.declared.adaptor.Phase.TheVariants.{Live, Past}
+use Rattle.chk_agent_adaptor.specs.Adaptors.{Adaptor, adaptor_of, is_past}
+use Rattle.chk_agent_table.specs.Adaptors.{is_named, is_of}
 use Rattle.chk_agent.proofs.StartingSound.{are_good}
 use Rattle.chk_control.proofs.SpelledLemmas.{false_from_not as not-true}
 

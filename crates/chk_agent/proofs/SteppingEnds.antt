@@ -43,9 +43,9 @@ use Rattle.chk_world.proofs.AgentKnows.{agent_took, both_grow}
 use Rattle.chk_world.proofs.AgentDoes.{Gained, IsReaderOf, read_told, may_read_at}
 use Rattle.chk_world.proofs.LinesRead.{reads_give_log}
 use Rattle.chk_world.proofs.LogEnds.{reads_find_end}
-use Rattle.chk_reading.proofs.Texts.{taken_all, taken_within, part_is, takes_to_stop}
-use Rattle.chk_reading.proofs.WalkFacts.{at_spot}
-use Rattle.chk_reading.proofs.WalkTold.{after_read_grows, reader_behind, told_as}
+use Rattle.chk_agent_adaptor.proofs.Texts.{taken_all, taken_within, part_is, takes_to_stop}
+use Rattle.chk_agent_adaptor.proofs.WalkFacts.{at_spot}
+use Rattle.chk_agent_adaptor.proofs.WalkTold.{after_read_grows, reader_behind, told_as}
 
 -- the whole log ends at this offset
 abbrev pub EndsAt : Stream → ℕ → History → Type 0

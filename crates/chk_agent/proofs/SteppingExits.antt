@@ -33,11 +33,11 @@ use Rattle.chk_tail.specs.Walks.{Spot}
 use Rattle.chk_rotate.specs.Marks.{RiseTo}
 use Rattle.chk_world.specs.Checkpoints.{is_after_text, is_line_of}
 use Rattle.chk_world.specs.Places.{As}
-use Rattle.chk_reading.specs.Adaptors.{Adaptor, is_stepped, stream_at, read_line, IsPlaced}
-use Rattle.chk_reading.specs.Steps.{IsStepped, stepped, way_of}
-use Rattle.chk_delivery.specs.States.{State as Delivery}
-use Rattle.chk_delivery.specs.Sound.{IsSound as IsSoundDelivery, next_begins}
-use Rattle.chk_delivery.specs.Turns.{is_held, with_chunk}
+use Rattle.chk_agent_adaptor.specs.Adaptors.{Adaptor, is_stepped, stream_at, read_line, IsPlaced}
+use Rattle.chk_agent_adaptor.specs.Steps.{IsStepped, stepped, way_of}
+use Rattle.chk_agent_delivery.specs.States.{State as Delivery}
+use Rattle.chk_agent_delivery.specs.Sound.{IsSound as IsSoundDelivery, next_begins}
+use Rattle.chk_agent_delivery.specs.Turns.{is_held, with_chunk}
 use Rattle.chk_agent.specs.declared.answers.AgentFault.{AgentFault}
 use Rattle.chk_agent.specs.declared.answers.AgentFault.TheVariants.{NoMemory}
 use Rattle.chk_agent.specs.declared.answers.Stepped.{Stepped}
@@ -48,7 +48,7 @@ use Rattle.chk_agent.specs.Fills.{queued, after_step, step_answer, IsOneStepped,
 use Rattle.chk_agent.specs.Facts.{Holds, Matches, AfterStep, AtEndOf}
 use Rattle.chk_agent.specs.Fits.{mark_line, IsMarked, IsSound}
 use Rattle.chk_agent.specs.Within.{chunk_made}
-use Rattle.chk_adaptors.specs.Adaptors.{Held, StepsAt}
+use Rattle.chk_agent_table.specs.Adaptors.{Held, StepsAt}
 use Rattle.chk_agent.proofs.SteppingWalks.{given_size, GivenFrom, WalkEnds, walk_ends}
 use Rattle.chk_agent.proofs.SteppingSound.{spelled_of, known_end, sound_step, valid_given}
 use Rattle.chk_agent.proofs.SteppingHolds.{IsValid}

@@ -8,15 +8,15 @@ use Rattle.chk_site.specs.History.{History}
 use Rattle.chk_chunk.specs.Keys.{is_chunk}
 use Rattle.chk_chunk.specs.declared.Chunk.{Chunk}
 use Rattle.chk_chunk.specs.Lent.{chunk_of, chunks_of}
-use Rattle.chk_message.specs.Messages.{WrittenPost}
+use Rattle.chk_http_grammar.specs.Messages.{WrittenPost}
 use Rattle.chk_tail.specs.declared.step.Step.{Step}
 use Rattle.chk_tail.specs.declared.step.Step.TheVariants.{Bytes, AtEnd, Shrank as is_short}
 use Rattle.chk_world.specs.Reading.{ChunkStands}
-use Rattle.chk_reading.specs.Adaptors.{Adaptor, stream_at}
-use Rattle.chk_reading.specs.Facts.{ReaderStands, StepStands}
-use Rattle.chk_delivery.specs.States.{Post}
-use Rattle.chk_delivery.specs.Sound.{PostFits}
-use Rattle.chk_delivery.specs.Facts.{Holds as HoldsDelivery, PostStands}
+use Rattle.chk_agent_adaptor.specs.Adaptors.{Adaptor, stream_at}
+use Rattle.chk_agent_adaptor.specs.Facts.{ReaderStands, StepStands}
+use Rattle.chk_agent_delivery.specs.States.{Post}
+use Rattle.chk_agent_delivery.specs.Sound.{PostFits}
+use Rattle.chk_agent_delivery.specs.Facts.{Holds as HoldsDelivery, PostStands}
 use Rattle.chk_agent.specs.States.{State, basis_of, chunk_given}
 use Rattle.chk_agent.specs.Fills.{queued, after_step}
 use Rattle.chk_agent.specs.Facts.{Holds}

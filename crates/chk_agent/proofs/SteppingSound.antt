@@ -19,22 +19,22 @@ use Rattle.chk_tail.specs.Walks.{Spot}
 use Rattle.chk_rotate.specs.Marks.{mark_at, place_of, BeginsBelow, RiseTo, last_of, newest_at}
 use Rattle.chk_world.specs.Checkpoints.{Line, is_line, is_after_text, is_absent}
 use Rattle.chk_world.specs.Answering.{MovesToLater}
-use Rattle.chk_reading.specs.declared.adaptor.Phase.{Phase}
-use Rattle.chk_reading.specs.declared.adaptor.Phase.TheVariants.{Live, Stopping, Shrank, Past}
-use Rattle.chk_reading.specs.Adaptors.{Adaptor, is_past, is_stepped, stream_at, read_line, IsPlaced}
-use Rattle.chk_reading.specs.Steps.{way_of, phase_after, stepped}
+use Rattle.chk_agent_adaptor.specs.declared.adaptor.Phase.{Phase}
+use Rattle.chk_agent_adaptor.specs.declared.adaptor.Phase.TheVariants.{Live, Stopping, Shrank, Past}
+use Rattle.chk_agent_adaptor.specs.Adaptors.{Adaptor, is_past, is_stepped, stream_at, read_line, IsPlaced}
+use Rattle.chk_agent_adaptor.specs.Steps.{way_of, phase_after, stepped}
 use Rattle.chk_acks.specs.Table.{Table}
-use Rattle.chk_delivery.specs.States.{State as Delivery}
-use Rattle.chk_delivery.specs.Basis.{Basis, AreOwned, stream_of_chunk}
-use Rattle.chk_delivery.specs.Sound.{IsSound as IsSoundDelivery, ends_after, next_begins}
+use Rattle.chk_agent_delivery.specs.States.{State as Delivery}
+use Rattle.chk_agent_delivery.specs.Basis.{Basis, AreOwned, stream_of_chunk}
+use Rattle.chk_agent_delivery.specs.Sound.{IsSound as IsSoundDelivery, ends_after, next_begins}
 use Rattle.chk_agent.specs.States.{State, process, committed_at, basis_of, chunk_given}
 use Rattle.chk_agent.specs.Fills.{queued, after_step}
 use Rattle.chk_agent.specs.Fits.{SuffixesRise, mark_line, IsMarked, FitsAdaptor, IsSound}
 use Rattle.chk_agent.proofs.Suffixes.{later_same, later_then}
 use Rattle.chk_agent.proofs.Soundness.{below_at, at_map, sound_changed, go_on_at}
 use Rattle.chk_agent.proofs.SteppingWalks.{given_size, GivenFrom, Follows, Passes, WalkEnds}
-use Rattle.chk_delivery.proofs.Due.{set_index as set_other}
-use Rattle.chk_delivery.proofs.Rows.{length_set}
+use Rattle.chk_agent_delivery.proofs.Due.{set_index as set_other}
+use Rattle.chk_agent_delivery.proofs.Rows.{length_set}
 
 -- ---- a line that can be spelled, part by part
 

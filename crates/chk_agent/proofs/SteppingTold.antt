@@ -10,10 +10,10 @@ use Rattle.chk_tail.specs.declared.step.Step.{Step}
 use Rattle.chk_world.specs.Checkpoints.{is_after_text}
 use Rattle.chk_world.specs.Places.{As}
 use Rattle.chk_world.specs.Knowing.{agent, Both, Told}
-use Rattle.chk_reading.specs.Adaptors.{Adaptor, stream_at, IsPlaced}
-use Rattle.chk_reading.specs.Steps.{IsStepped}
-use Rattle.chk_reading.specs.Facts.{StepStands}
-use Rattle.chk_reading.proofs.Told.{step_leads}
+use Rattle.chk_agent_adaptor.specs.Adaptors.{Adaptor, stream_at, IsPlaced}
+use Rattle.chk_agent_adaptor.specs.Steps.{IsStepped}
+use Rattle.chk_agent_adaptor.specs.Facts.{StepStands}
+use Rattle.chk_agent_adaptor.proofs.Told.{step_leads}
 use Rattle.chk_agent.specs.States.{State, process, committed_at}
 use Rattle.chk_agent.specs.Fills.{after_step}
 use Rattle.chk_agent.specs.Facts.{Holds, Matches}

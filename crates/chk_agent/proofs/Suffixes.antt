@@ -13,7 +13,7 @@ use Rattle.chk_world.specs.Reading.{IsAtOrBehind}
 use Rattle.chk_world.specs.Answering.{MovesToLater}
 use Rattle.chk_world.proofs.Ends.{bytes_self}
 use Rattle.chk_world.proofs.LinesStand.{text_lt_trans}
-use Rattle.chk_reading.specs.Adaptors.{Adaptor, IsPlaced}
+use Rattle.chk_agent_adaptor.specs.Adaptors.{Adaptor, IsPlaced}
 use Rattle.chk_agent.specs.Fits.{SuffixesRise}
 
 -- ---- one suffix behind another

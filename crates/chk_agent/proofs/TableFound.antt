@@ -4,8 +4,8 @@ use Rattle.std.proofs.Common.{length, Some, None, refl, ap, ◌∙◌, arith, if
 use Rattle.std.specs.Prelude.{option_map, position, slice_get}
 use Rattle.std.specs.List.{position_from}
 use Rattle.std.proofs.lemmas.Iterator.Adapters.{position_from-zero}
-use Rattle.chk_reading.specs.Adaptors.{Adaptor}
-use Rattle.chk_adaptors.specs.Adaptors.{is_named, is_of}
+use Rattle.chk_agent_adaptor.specs.Adaptors.{Adaptor}
+use Rattle.chk_agent_table.specs.Adaptors.{is_named, is_of}
 use Rattle.chk_agent.specs.Adds.{Found, named_in, stream_in}
 use Rattle.chk_agent.proofs.AddingFound.{found_at}
 

@@ -7,26 +7,26 @@ use Rattle.chk_bytes.specs.declared.NoMemory.{NoMemory}
 use Rattle.chk_site.specs.declared.acts.Who.{Who}
 use Rattle.chk_site.specs.History.{History}
 use Rattle.chk_chunk.specs.declared.Chunk.{Chunk}
-use Rattle.chk_message.specs.Messages.{Ack}
+use Rattle.chk_http_grammar.specs.Messages.{Ack}
 use Rattle.chk_failover.specs.Turns.{Turns}
 use Rattle.chk_acks.specs.Table.{Table, answer_row, added}
 use Rattle.chk_acks.specs.Sound.{IsSound as IsSoundTable}
 use Rattle.chk_acks.proofs.Turns.{turn_on}
-use Rattle.chk_reading.specs.Adaptors.{Adaptor}
-use Rattle.chk_delivery.specs.declared.answers.Posted.{Posted}
-use Rattle.chk_delivery.specs.declared.answers.Answered.{Answered}
-use Rattle.chk_delivery.specs.declared.answers.Polled.{Polled}
-use Rattle.chk_delivery.specs.declared.answers.PollAnswer.{PollAnswer}
-use Rattle.chk_delivery.specs.States.{Post, Poll, State as Delivery}
-use Rattle.chk_delivery.specs.Basis.{Basis, AreOwned}
-use Rattle.chk_delivery.specs.Sound.{InTurn, ends_after, PostFits, IsSound as IsSoundDelivery}
-use Rattle.chk_delivery.specs.Turns.{answered_rows, SeesAll, post_taken, poll_taken}
-use Rattle.chk_delivery.specs.Scripts.{IsPosted, empty, no_rows, none, sent, failed, unsent}
-use Rattle.chk_delivery.specs.Scripts.{refused, IsPostReplied, nothing, got, silent, wanting, good}
-use Rattle.chk_delivery.specs.Scripts.{bad}
-use Rattle.chk_delivery.specs.Scripts.{IsPolled, IsPollReplied}
-use Rattle.chk_delivery.proofs.Rows.{answered_same}
-use Rattle.chk_delivery.proofs.LengthStates.{seen_less}
+use Rattle.chk_agent_adaptor.specs.Adaptors.{Adaptor}
+use Rattle.chk_agent_delivery.specs.declared.answers.Posted.{Posted}
+use Rattle.chk_agent_delivery.specs.declared.answers.Answered.{Answered}
+use Rattle.chk_agent_delivery.specs.declared.answers.Polled.{Polled}
+use Rattle.chk_agent_delivery.specs.declared.answers.PollAnswer.{PollAnswer}
+use Rattle.chk_agent_delivery.specs.States.{Post, Poll, State as Delivery}
+use Rattle.chk_agent_delivery.specs.Basis.{Basis, AreOwned}
+use Rattle.chk_agent_delivery.specs.Sound.{InTurn, ends_after, PostFits, IsSound as IsSoundDelivery}
+use Rattle.chk_agent_delivery.specs.Turns.{answered_rows, SeesAll, post_taken, poll_taken}
+use Rattle.chk_agent_delivery.specs.Scripts.{IsPosted, empty, no_rows, none, sent, failed, unsent}
+use Rattle.chk_agent_delivery.specs.Scripts.{refused, IsPostReplied, nothing, got, silent, wanting, good}
+use Rattle.chk_agent_delivery.specs.Scripts.{bad}
+use Rattle.chk_agent_delivery.specs.Scripts.{IsPolled, IsPollReplied}
+use Rattle.chk_agent_delivery.proofs.Rows.{answered_same}
+use Rattle.chk_agent_delivery.proofs.LengthStates.{seen_less}
 use Rattle.chk_agent.specs.States.{State, committed_at, basis_of}
 use Rattle.chk_agent.specs.Turns.{with_delivery}
 use Rattle.chk_agent.specs.Fits.{IsSound}

@@ -17,27 +17,27 @@ use Rattle.chk_world.specs.Knowing.{agent}
 use Rattle.chk_world.specs.Rules.{Legal}
 use Rattle.chk_world.proofs.AgentFacts.{AlwaysStays}
 use Rattle.chk_world.proofs.LinesStand.{stands_on}
-use Rattle.chk_reading.specs.Adaptors.{Adaptor, stream_at, read_line}
-use Rattle.chk_reading.specs.Facts.{place_line, MarksStand, ReaderStands}
-use Rattle.chk_delivery.specs.States.{State as Delivery}
-use Rattle.chk_delivery.specs.Basis.{Basis, Fits}
-use Rattle.chk_delivery.specs.Facts.{Matches as MatchesDelivery}
-use Rattle.chk_delivery.specs.declared.answers.Posted.{Posted}
-use Rattle.chk_delivery.specs.declared.answers.Answered.{Answered}
-use Rattle.chk_delivery.specs.declared.answers.Polled.{Polled}
-use Rattle.chk_delivery.specs.declared.answers.PollAnswer.{PollAnswer}
-use Rattle.chk_delivery.specs.declared.answers.Posted.TheVariants.{Sent, Empty, NoRows}
-use Rattle.chk_delivery.specs.declared.answers.Posted.TheVariants.{Failed as post_failed}
-use Rattle.chk_delivery.specs.declared.answers.Answered.TheVariants.{Taken, Refused, Silent}
-use Rattle.chk_delivery.specs.declared.answers.Answered.TheVariants.{Nothing}
-use Rattle.chk_delivery.specs.declared.answers.Polled.TheVariants.{Sent as poll_sent, NoneWaiting}
-use Rattle.chk_delivery.specs.declared.answers.Polled.TheVariants.{Failed as poll_failed}
-use Rattle.chk_delivery.specs.declared.answers.PollAnswer.TheVariants.{Lengths}
-use Rattle.chk_delivery.specs.declared.answers.PollAnswer.TheVariants.{Refused as poll_refused}
-use Rattle.chk_delivery.specs.declared.answers.PollAnswer.TheVariants.{Silent as poll_silent}
-use Rattle.chk_delivery.specs.declared.answers.PollAnswer.TheVariants.{Nothing as no_poll}
-use Rattle.chk_delivery.specs.Scripts.{IsPosted, IsPostReplied, IsPolled, IsPollReplied, CauseBy}
-use Rattle.chk_delivery.specs.Scripts.{post_fails, reply_fails, poll_fails, lengths_fail}
+use Rattle.chk_agent_adaptor.specs.Adaptors.{Adaptor, stream_at, read_line}
+use Rattle.chk_agent_adaptor.specs.Facts.{place_line, MarksStand, ReaderStands}
+use Rattle.chk_agent_delivery.specs.States.{State as Delivery}
+use Rattle.chk_agent_delivery.specs.Basis.{Basis, Fits}
+use Rattle.chk_agent_delivery.specs.Facts.{Matches as MatchesDelivery}
+use Rattle.chk_agent_delivery.specs.declared.answers.Posted.{Posted}
+use Rattle.chk_agent_delivery.specs.declared.answers.Answered.{Answered}
+use Rattle.chk_agent_delivery.specs.declared.answers.Polled.{Polled}
+use Rattle.chk_agent_delivery.specs.declared.answers.PollAnswer.{PollAnswer}
+use Rattle.chk_agent_delivery.specs.declared.answers.Posted.TheVariants.{Sent, Empty, NoRows}
+use Rattle.chk_agent_delivery.specs.declared.answers.Posted.TheVariants.{Failed as post_failed}
+use Rattle.chk_agent_delivery.specs.declared.answers.Answered.TheVariants.{Taken, Refused, Silent}
+use Rattle.chk_agent_delivery.specs.declared.answers.Answered.TheVariants.{Nothing}
+use Rattle.chk_agent_delivery.specs.declared.answers.Polled.TheVariants.{Sent as poll_sent, NoneWaiting}
+use Rattle.chk_agent_delivery.specs.declared.answers.Polled.TheVariants.{Failed as poll_failed}
+use Rattle.chk_agent_delivery.specs.declared.answers.PollAnswer.TheVariants.{Lengths}
+use Rattle.chk_agent_delivery.specs.declared.answers.PollAnswer.TheVariants.{Refused as poll_refused}
+use Rattle.chk_agent_delivery.specs.declared.answers.PollAnswer.TheVariants.{Silent as poll_silent}
+use Rattle.chk_agent_delivery.specs.declared.answers.PollAnswer.TheVariants.{Nothing as no_poll}
+use Rattle.chk_agent_delivery.specs.Scripts.{IsPosted, IsPostReplied, IsPolled, IsPollReplied, CauseBy}
+use Rattle.chk_agent_delivery.specs.Scripts.{post_fails, reply_fails, poll_fails, lengths_fail}
 use Rattle.chk_agent.specs.declared.answers.AgentFault.{AgentFault}
 use Rattle.chk_agent.specs.declared.agent.Agent.TheInside.{Inside}
 use Rattle.chk_agent.specs.States.{State, process, basis_of}

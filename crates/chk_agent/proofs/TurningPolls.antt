@@ -5,10 +5,10 @@ use Rattle.chk_site.specs.Site.{Adds}
 use Rattle.chk_site.specs.Runs.{Leads}
 use Rattle.chk_site.proofs.Leads.{leads_as}
 use Rattle.chk_world.specs.Places.{As}
-use Rattle.chk_delivery.specs.declared.answers.Polled.{Polled}
-use Rattle.chk_delivery.specs.declared.answers.Polled.TheVariants.{Sent, Failed}
-use Rattle.chk_delivery.specs.declared.answers.PollAnswer.{PollAnswer}
-use Rattle.chk_delivery.specs.Turns.{is_due}
+use Rattle.chk_agent_delivery.specs.declared.answers.Polled.{Polled}
+use Rattle.chk_agent_delivery.specs.declared.answers.Polled.TheVariants.{Sent, Failed}
+use Rattle.chk_agent_delivery.specs.declared.answers.PollAnswer.{PollAnswer}
+use Rattle.chk_agent_delivery.specs.Turns.{is_due}
 use Rattle.chk_agent.specs.declared.answers.AgentFault.{AgentFault}
 use Rattle.chk_agent.specs.States.{State, process}
 use Rattle.chk_agent.specs.Facts.{Matches}

@@ -15,15 +15,15 @@ use Rattle.chk_acks.specs.declared.row.Row.{Row}
 use Rattle.chk_acks.specs.Rows.{is_unmarked}
 use Rattle.chk_world.specs.Places.{As, Talking, IsBy, IsMadeBy}
 use Rattle.chk_world.proofs.Beside.{owns_as}
-use Rattle.chk_delivery.specs.declared.answers.Posted.{Posted}
-use Rattle.chk_delivery.specs.declared.answers.Answered.{Answered}
+use Rattle.chk_agent_delivery.specs.declared.answers.Posted.{Posted}
+use Rattle.chk_agent_delivery.specs.declared.answers.Answered.{Answered}
 use Rattle.chk_bytes.specs.declared.NoMemory.{NoMemory as Wanting}
-use Rattle.chk_delivery.specs.declared.answers.Polled.{Polled}
-use Rattle.chk_delivery.specs.declared.answers.Polled.TheVariants.{NoneWaiting}
-use Rattle.chk_delivery.specs.declared.answers.PollAnswer.{PollAnswer}
-use Rattle.chk_delivery.specs.Turns.{is_due, first_stems, asked_stems}
-use Rattle.chk_delivery.specs.States.{State as Delivery}
-use Rattle.chk_delivery.specs.Scripts.{IsPolled, none, sent, failed, unsent, refused}
+use Rattle.chk_agent_delivery.specs.declared.answers.Polled.{Polled}
+use Rattle.chk_agent_delivery.specs.declared.answers.Polled.TheVariants.{NoneWaiting}
+use Rattle.chk_agent_delivery.specs.declared.answers.PollAnswer.{PollAnswer}
+use Rattle.chk_agent_delivery.specs.Turns.{is_due, first_stems, asked_stems}
+use Rattle.chk_agent_delivery.specs.States.{State as Delivery}
+use Rattle.chk_agent_delivery.specs.Scripts.{IsPolled, none, sent, failed, unsent, refused}
 use Rattle.chk_agent.specs.declared.answers.AgentFault.{AgentFault}
 use Rattle.chk_agent.specs.declared.answers.Filled.{Filled}
 use Rattle.chk_agent.specs.States.{State, process}

@@ -12,8 +12,8 @@ use Rattle.chk_site.specs.declared.acts.OutsideFault.TheVariants.{NoMemory as no
 use Rattle.chk_site.specs.History.{History}
 use Rattle.chk_site.specs.Site.{Adds, asked, answered, suffix_given, Calls}
 use Rattle.chk_world.specs.Checkpoints.{Line, most_lines}
-use Rattle.chk_reading.specs.Adaptors.{Adaptor, adaptor_of, is_past, revived}
-use Rattle.chk_delivery.specs.Turns.{begun_at}
+use Rattle.chk_agent_adaptor.specs.Adaptors.{Adaptor, adaptor_of, is_past, revived}
+use Rattle.chk_agent_delivery.specs.Turns.{begun_at}
 use Rattle.chk_agent.specs.declared.answers.AgentFault.{AgentFault}
 use Rattle.chk_agent.specs.declared.answers.AgentFault.TheVariants.{Outside, NoMemory}
 use Rattle.chk_agent.specs.declared.answers.Added.{Added}

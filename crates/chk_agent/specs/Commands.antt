@@ -22,10 +22,10 @@ use Rattle.chk_control.specs.Answers.{answer_text, fault_number}
 use Rattle.chk_control.specs.Classes.{same_class}
 use Rattle.chk_site.specs.History.{History}
 use Rattle.chk_world.specs.Checkpoints.{most_lines}
-use Rattle.chk_reading.specs.declared.adaptor.Phase.{Phase}
-use Rattle.chk_reading.specs.declared.adaptor.Phase.TheVariants.{Live, Stopping, Shrank, Past}
-use Rattle.chk_reading.specs.Adaptors.{Adaptor, is_past, shut_down, stopped}
-use Rattle.chk_delivery.specs.Turns.{without_adaptors, is_one_of}
+use Rattle.chk_agent_adaptor.specs.declared.adaptor.Phase.{Phase}
+use Rattle.chk_agent_adaptor.specs.declared.adaptor.Phase.TheVariants.{Live, Stopping, Shrank, Past}
+use Rattle.chk_agent_adaptor.specs.Adaptors.{Adaptor, is_past, shut_down, stopped}
+use Rattle.chk_agent_delivery.specs.Turns.{without_adaptors, is_one_of}
 use Rattle.chk_agent.specs.declared.answers.AgentFault.{AgentFault}
 use Rattle.chk_agent.specs.declared.answers.AgentFault.TheVariants.{NoMemory}
 use Rattle.chk_agent.specs.declared.answers.Then.{Then}

@@ -3,7 +3,7 @@ use Rattle.std.specs.Prelude.{◌≡◌, ℕ, ◌+◌, ◌<◌, Bool, true, fals
 use Rattle.std.specs.Prelude.{slice_set, option_and_then, if◌then◌else◌, Option, Some, None}
 use Rattle.chk_bytes.specs.Words.{behind_front}
 use Rattle.chk_bytes.specs.Numbers.{plain_number}
-use Rattle.chk_reading.specs.Adaptors.{Adaptor, is_past}
+use Rattle.chk_agent_adaptor.specs.Adaptors.{Adaptor, is_past}
 use Rattle.chk_agent.specs.Adds.{default_name, named_in}
 
 -- the number in a default name

@@ -4,9 +4,9 @@ use Rattle.chk_site.specs.History.{History, is_stopped}
 use Rattle.chk_world.specs.Streams.{whole_end}
 use Rattle.chk_world.specs.Places.{AtTold}
 use Rattle.chk_world.specs.Knowing.{Knows}
-use Rattle.chk_reading.specs.Adaptors.{Adaptor, stream_at}
-use Rattle.chk_reading.specs.Facts.{ReaderStands}
-use Rattle.chk_delivery.specs.Facts.{Holds as HoldsDelivery}
+use Rattle.chk_agent_adaptor.specs.Adaptors.{Adaptor, stream_at}
+use Rattle.chk_agent_adaptor.specs.Facts.{ReaderStands}
+use Rattle.chk_agent_delivery.specs.Facts.{Holds as HoldsDelivery}
 use Rattle.chk_agent.specs.declared.answers.AgentFault.{AgentFault}
 use Rattle.chk_agent.specs.declared.answers.Stepped.{Stepped}
 use Rattle.chk_agent.specs.declared.answers.Stepped.TheVariants.{AtEnd, Shrank}

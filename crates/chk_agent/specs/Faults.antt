@@ -9,14 +9,14 @@ use Rattle.chk_checkpoint.specs.declared.fault.CheckFault.{CheckFault}
 use Rattle.chk_checkpoint.specs.declared.fault.CheckFault.TheVariants.{Damaged as check_damaged}
 use Rattle.chk_checkpoint.specs.declared.fault.CheckFault.TheVariants.{Outside as check_failed}
 use Rattle.chk_checkpoint.specs.declared.fault.CheckFault.TheVariants.{NoMemory as check_wanting}
-use Rattle.chk_delivery.specs.declared.answers.Posted.{Posted}
-use Rattle.chk_delivery.specs.declared.answers.Posted.TheVariants.{Failed as post_failed}
-use Rattle.chk_delivery.specs.declared.answers.Answered.{Answered}
-use Rattle.chk_delivery.specs.declared.answers.Answered.TheVariants.{Silent}
-use Rattle.chk_delivery.specs.declared.answers.Polled.{Polled}
-use Rattle.chk_delivery.specs.declared.answers.Polled.TheVariants.{Failed as poll_failed}
-use Rattle.chk_delivery.specs.declared.answers.PollAnswer.{PollAnswer}
-use Rattle.chk_delivery.specs.declared.answers.PollAnswer.TheVariants.{Silent as poll_silent}
+use Rattle.chk_agent_delivery.specs.declared.answers.Posted.{Posted}
+use Rattle.chk_agent_delivery.specs.declared.answers.Posted.TheVariants.{Failed as post_failed}
+use Rattle.chk_agent_delivery.specs.declared.answers.Answered.{Answered}
+use Rattle.chk_agent_delivery.specs.declared.answers.Answered.TheVariants.{Silent}
+use Rattle.chk_agent_delivery.specs.declared.answers.Polled.{Polled}
+use Rattle.chk_agent_delivery.specs.declared.answers.Polled.TheVariants.{Failed as poll_failed}
+use Rattle.chk_agent_delivery.specs.declared.answers.PollAnswer.{PollAnswer}
+use Rattle.chk_agent_delivery.specs.declared.answers.PollAnswer.TheVariants.{Silent as poll_silent}
 use Rattle.chk_agent.specs.declared.answers.AgentFault.{AgentFault}
 use Rattle.chk_agent.specs.declared.answers.AgentFault.TheVariants.{Damaged, Outside, NoMemory}
 

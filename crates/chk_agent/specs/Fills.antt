@@ -7,10 +7,10 @@ use Rattle.chk_tail.specs.declared.step.Step.{Step}
 use Rattle.chk_tail.specs.declared.step.Step.TheVariants.{Bytes, AtEnd as gave_none}
 use Rattle.chk_tail.specs.declared.step.Step.TheVariants.{Shrank as is_short}
 use Rattle.chk_queue.specs.Queues.{data_size}
-use Rattle.chk_reading.specs.Adaptors.{Adaptor, is_stepped}
-use Rattle.chk_reading.specs.Steps.{IsStepped}
-use Rattle.chk_delivery.specs.States.{State as Delivery}
-use Rattle.chk_delivery.specs.Turns.{with_chunk, is_held}
+use Rattle.chk_agent_adaptor.specs.Adaptors.{Adaptor, is_stepped}
+use Rattle.chk_agent_adaptor.specs.Steps.{IsStepped}
+use Rattle.chk_agent_delivery.specs.States.{State as Delivery}
+use Rattle.chk_agent_delivery.specs.Turns.{with_chunk, is_held}
 use Rattle.chk_agent.specs.declared.answers.AgentFault.{AgentFault}
 use Rattle.chk_agent.specs.declared.answers.AgentFault.TheVariants.{NoMemory}
 use Rattle.chk_agent.specs.declared.answers.Filled.{Filled}

@@ -7,10 +7,10 @@ use Rattle.chk_rotate.specs.Marks.{place_of, BeginsBelow}
 use Rattle.chk_world.specs.Names.{is_source}
 use Rattle.chk_world.specs.Checkpoints.{Line, is_line, is_line_of, same_log, are_apart, most_lines}
 use Rattle.chk_world.specs.Answering.{MovesToLater}
-use Rattle.chk_reading.specs.Adaptors.{Adaptor, stream_at, line_at, read_line, IsPlaced}
-use Rattle.chk_delivery.specs.declared.delivery.Rules.{Rules}
-use Rattle.chk_delivery.specs.Sound.{IsSound as IsSoundDelivery, next_begins}
-use Rattle.chk_delivery.specs.Basis.{AreOwned}
+use Rattle.chk_agent_adaptor.specs.Adaptors.{Adaptor, stream_at, line_at, read_line, IsPlaced}
+use Rattle.chk_agent_delivery.specs.declared.delivery.Rules.{Rules}
+use Rattle.chk_agent_delivery.specs.Sound.{IsSound as IsSoundDelivery, next_begins}
+use Rattle.chk_agent_delivery.specs.Basis.{AreOwned}
 use Rattle.chk_agent.specs.States.{State, committed_at, basis_of}
 
 -- each mark's suffix is that of the one before it, or a later one

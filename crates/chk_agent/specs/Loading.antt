@@ -10,8 +10,8 @@ use Rattle.chk_world.specs.Checkpoints.{Line, is_line}
 use Rattle.chk_world.specs.Rules.{Legal}
 use Rattle.chk_world.specs.Places.{AtTold}
 use Rattle.chk_world.specs.Knowing.{Told}
-use Rattle.chk_delivery.specs.declared.delivery.Rules.{Rules}
-use Rattle.chk_delivery.specs.States.{State as Delivery}
+use Rattle.chk_agent_delivery.specs.declared.delivery.Rules.{Rules}
+use Rattle.chk_agent_delivery.specs.States.{State as Delivery}
 use Rattle.chk_agent.specs.declared.answers.AgentFault.{AgentFault}
 use Rattle.chk_agent.specs.declared.answers.AgentFault.TheVariants.{Damaged}
 pub use Rattle.chk_site.specs.Once.{MadeOnce}

@@ -11,8 +11,8 @@ use Rattle.chk_replace.specs.Replace.{replacement}
 use Rattle.chk_checkpoint.specs.Lines.{written_text}
 use Rattle.chk_world.specs.Names.{CheckFile, spell}
 use Rattle.chk_world.specs.Checkpoints.{Line}
-use Rattle.chk_reading.specs.Adaptors.{Adaptor, sent_back, settled_one}
-use Rattle.chk_delivery.specs.Turns.{without_adaptors, expired_in, is_one_of}
+use Rattle.chk_agent_adaptor.specs.Adaptors.{Adaptor, sent_back, settled_one}
+use Rattle.chk_agent_delivery.specs.Turns.{without_adaptors, expired_in, is_one_of}
 use Rattle.chk_agent.specs.declared.answers.AgentFault.{AgentFault}
 use Rattle.chk_agent.specs.declared.answers.AgentFault.TheVariants.{Outside, NoMemory}
 use Rattle.chk_agent.specs.declared.answers.Settled.{Settled}

@@ -17,8 +17,8 @@ use Rattle.chk_world.specs.Rules.{Legal}
 use Rattle.chk_world.specs.Checkpoints.{Line, read_checkpoint}
 use Rattle.chk_world.specs.Places.{AtTold}
 use Rattle.chk_checkpoint.specs.Damage.{IsFirstBad}
-use Rattle.chk_reading.specs.Adaptors.{Adaptor, adaptor_of}
-use Rattle.chk_delivery.specs.States.{State as Delivery}
+use Rattle.chk_agent_adaptor.specs.Adaptors.{Adaptor, adaptor_of}
+use Rattle.chk_agent_delivery.specs.States.{State as Delivery}
 use Rattle.chk_agent.specs.declared.agent.Rules.{Rules}
 use Rattle.chk_agent.specs.declared.answers.AgentFault.{AgentFault}
 use Rattle.chk_agent.specs.declared.answers.AgentFault.TheVariants.{Damaged}

@@ -5,9 +5,9 @@ use Rattle.chk_site.specs.declared.acts.Role.TheVariants.{Agent}
 use Rattle.chk_site.specs.declared.acts.Who.{Who}
 use Rattle.chk_chunk.specs.declared.Chunk.{Chunk}
 use Rattle.chk_world.specs.Checkpoints.{Line}
-use Rattle.chk_reading.specs.Adaptors.{Adaptor, is_stepped, stream_at, line_at}
-use Rattle.chk_delivery.specs.States.{State as Delivery}
-use Rattle.chk_delivery.specs.Basis.{Basis}
+use Rattle.chk_agent_adaptor.specs.Adaptors.{Adaptor, is_stepped, stream_at, line_at}
+use Rattle.chk_agent_delivery.specs.States.{State as Delivery}
+use Rattle.chk_agent_delivery.specs.Basis.{Basis}
 
 -- The source and the cluster, the adaptors in order of adding, the one that was stepped last, what is to be delivered, the
 -- lines of the checkpoint as it was last loaded or written, and whether the file is known to have just these.

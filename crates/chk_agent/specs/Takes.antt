@@ -13,7 +13,7 @@ use Rattle.chk_site.specs.History.{History, since_start}
 use Rattle.chk_site.specs.Site.{Adds, asked, answered, suffix_given, Calls}
 use Rattle.chk_world.specs.Agents.{last_newest}
 use Rattle.chk_world.specs.Checkpoints.{Line, is_line, most_lines}
-use Rattle.chk_reading.specs.Adaptors.{Adaptor, adaptor_of, line_at}
+use Rattle.chk_agent_adaptor.specs.Adaptors.{Adaptor, adaptor_of, line_at}
 use Rattle.chk_world.specs.Places.{AtTold}
 use Rattle.chk_world.specs.Knowing.{agent, Both, Knows}
 use Rattle.chk_agent.specs.declared.answers.AgentFault.{AgentFault}

@@ -4,7 +4,7 @@ use Rattle.std.specs.Prelude.{not, List, [], ◌∷◌, bytes_eq, if◌then◌el
 use Rattle.chk_control.specs.Classes.{same_class}
 use Rattle.chk_tail.specs.Walks.{Spot}
 use Rattle.chk_chunk.specs.declared.Chunk.{Chunk}
-use Rattle.chk_reading.specs.Adaptors.{Adaptor}
+use Rattle.chk_agent_adaptor.specs.Adaptors.{Adaptor}
 use Rattle.chk_world.specs.Checkpoints.{Line}
 use Rattle.chk_agent.specs.declared.answers.Filled.{Filled}
 use Rattle.chk_agent.specs.declared.answers.Filled.TheVariants.{Held, Read}

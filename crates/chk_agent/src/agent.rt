@@ -1,17 +1,17 @@
 //! The calls of an agent.
 
 ghost use Rattle.std.specs.Prelude.{◌≡◌, ◌<◌, Some, length, slice_get};
-ghost use Rattle.chk_reading.specs.Adaptors.{Adaptor as Reading};
+ghost use Rattle.chk_agent_adaptor.specs.Adaptors.{Adaptor as Reading};
 ghost use Rattle.chk_agent.specs.States.{committed_at};
 ghost use Rattle.chk_agent.specs.Fits.{IsSound};
 ghost use Rattle.chk_agent.specs.Commands.{state_of};
 
-use chk_adaptors::Adaptors;
+use chk_agent_adaptor::Phase;
+use chk_agent_delivery::Delivery;
+use chk_agent_table::Adaptors;
 use chk_bytes::Word;
 use chk_checkpoint::CheckLine;
 use chk_control::State;
-use chk_delivery::Delivery;
-use chk_reading::Phase;
 use chk_site::Who;
 use std::marker::Model;
 

@@ -15,7 +15,7 @@ ghost use Rattle.chk_control.specs.Spellings.{is_command};
 ghost use Rattle.chk_rotate.specs.Marks.{BeginsBelow};
 ghost use Rattle.chk_world.specs.Places.{As};
 ghost use Rattle.chk_world.specs.Checkpoints.{most_lines};
-ghost use Rattle.chk_reading.specs.Adaptors.{Adaptor as Reading, is_past, shut_down, stopped};
+ghost use Rattle.chk_agent_adaptor.specs.Adaptors.{Adaptor as Reading, is_past, shut_down, stopped};
 ghost use Rattle.chk_agent.specs.declared.answers.AgentFault.TheVariants.{NoMemory as wanting};
 ghost use Rattle.chk_agent.specs.States.{State as Held, process};
 ghost use Rattle.chk_agent.specs.Facts.{Matches};
@@ -28,12 +28,12 @@ ghost use Rattle.chk_agent.specs.Commands.{IsAnswered};
 
 use crate::agent::Agent;
 use crate::answers::{AgentFault, Reply, Then};
-use chk_adaptors::Adaptors;
+use chk_agent_adaptor::{Adaptor, Phase};
+use chk_agent_delivery::Delivery;
+use chk_agent_table::Adaptors;
 use chk_bytes::{Bytes, NoMemory, Word};
 use chk_checkpoint::MOST_LINES;
 use chk_control::{Answer, Class, Command, LineFault, State, read_line, write_answer};
-use chk_delivery::Delivery;
-use chk_reading::{Adaptor, Phase};
 use chk_site::Site;
 use std::alloc::Global;
 

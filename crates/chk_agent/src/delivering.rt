@@ -2,7 +2,7 @@
 
 ghost use Rattle.std.specs.Prelude.{◌≡◌, ◌<◌, ◌≤◌, ◌↔◌, IsTrue, [], length};
 ghost use Rattle.chk_acks.specs.Sound.{IsSound as IsSoundTable};
-ghost use Rattle.chk_delivery.specs.States.{free_rows};
+ghost use Rattle.chk_agent_delivery.specs.States.{free_rows};
 ghost use Rattle.chk_agent.specs.States.{process};
 ghost use Rattle.chk_agent.specs.Fits.{IsSound};
 ghost use Rattle.chk_agent.specs.Commands.{first_again};

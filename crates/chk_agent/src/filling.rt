@@ -15,7 +15,7 @@ ghost use Rattle.chk_agent.specs.Within.{first_of, number_at, held_by};
 
 use crate::agent::Agent;
 use crate::answers::{AgentFault, Filled, Stepped};
-use chk_reading::Phase;
+use chk_agent_adaptor::Phase;
 use chk_site::Site;
 use std::alloc::Global;
 

@@ -19,5 +19,5 @@ mod turning;
 
 pub use agent::{Agent, Rules};
 pub use answers::{Added, AgentFault, Filled, Reply, Settled, Stepped, Then};
-pub use chk_adaptors::Hashing;
-pub use chk_delivery::{Answered, Below, PollAnswer, Polled, Posted};
+pub use chk_agent_delivery::{Answered, Below, PollAnswer, Polled, Posted};
+pub use chk_agent_table::Hashing;

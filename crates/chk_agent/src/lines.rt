@@ -3,14 +3,14 @@
 ghost use Rattle.std.specs.Prelude.{◌≡◌, ◌≤◌, ℕ, Some, IfOk, length, slice_get, slice_index};
 ghost use Rattle.chk_world.specs.Checkpoints.{most_lines};
 ghost use Rattle.chk_rotate.specs.Marks.{BeginsBelow};
-ghost use Rattle.chk_reading.specs.Adaptors.{Adaptor as Reading};
+ghost use Rattle.chk_agent_adaptor.specs.Adaptors.{Adaptor as Reading};
 ghost use Rattle.chk_checkpoint.specs.Lines.{lines_of};
 ghost use Rattle.chk_agent.specs.States.{lines_at};
 
+use chk_agent_adaptor::Adaptor;
+use chk_agent_delivery::Delivery;
 use chk_bytes::NoMemory;
 use chk_checkpoint::Checkpoint;
-use chk_delivery::Delivery;
-use chk_reading::Adaptor;
 use std::alloc::Global;
 
 /// The lines of the adaptors, each at its committed end. It copies their words.

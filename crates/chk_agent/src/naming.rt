@@ -7,8 +7,8 @@ ghost use Rattle.chk_agent.specs.Adds.{default_name};
 ghost use Rattle.chk_agent.specs.DefaultNames.{IsLeastFree, marked, name_number, number_in};
 ghost use Rattle.chk_agent.specs.DefaultNames.{unmarked};
 
+use chk_agent_adaptor::{Adaptor, Phase};
 use chk_bytes::{NoMemory, Word, take_plain_decimal};
-use chk_reading::{Adaptor, Phase};
 use std::alloc::Global;
 
 /// The least number from 1 on whose default name no live adaptor has. It is one pass over the

@@ -11,8 +11,8 @@ ghost use Rattle.chk_world.specs.Checkpoints.{Two, are_lines, most_lines};
 ghost use Rattle.chk_world.specs.Rules.{Legal};
 ghost use Rattle.chk_world.specs.Places.{As};
 ghost use Rattle.chk_checkpoint.specs.Lines.{shown, lines_of};
-ghost use Rattle.chk_reading.specs.Adaptors.{adaptor_of};
-ghost use Rattle.chk_delivery.specs.States.{State as Delivery};
+ghost use Rattle.chk_agent_adaptor.specs.Adaptors.{adaptor_of};
+ghost use Rattle.chk_agent_delivery.specs.States.{State as Delivery};
 ghost use Rattle.chk_agent.specs.Faults.{AgentCause, FailsLast};
 ghost use Rattle.chk_agent.specs.Loading.{MadeOnce, Loaded, IsEmptyFor, IsBegun, AreLines};
 ghost use Rattle.chk_agent.specs.Fits.{IsSound};
@@ -22,12 +22,12 @@ ghost use Rattle.chk_agent.specs.Starts.{begun_state};
 use crate::agent::{Agent, Rules};
 use crate::answers::AgentFault;
 use crate::lines::lines_now;
-use chk_adaptors::{Adaptors, Hashing};
+use chk_agent_adaptor::Adaptor;
+use chk_agent_delivery::Delivery;
+use chk_agent_table::{Adaptors, Hashing};
 use chk_bytes::{NoMemory, Word};
 use chk_checkpoint::{CheckLine, Checkpoint, MOST_LINES, load_checkpoint};
-use chk_delivery::Delivery;
 use chk_failover::Ring;
-use chk_reading::Adaptor;
 use chk_site::{Call, OutsideFault, Site, Who, done};
 use std::alloc::Global;
 
@@ -137,7 +137,7 @@ fn new_agent(
     ensures fresh { IfOk result (IsFresh who.now ring rules) }
     ensures saved { IfOk result (λ agent. agent.saved ≡ lines_of check) }
 {
-    let limits = chk_delivery::Rules {
+    let limits = chk_agent_delivery::Rules {
         rows: rules.rows,
         queue: rules.queue,
         poll: rules.poll,
@@ -176,7 +176,7 @@ fn agent_with(
 fn begun_delivery(
     alloc: Global,
     ring: Ring,
-    rules: chk_delivery::Rules,
+    rules: chk_agent_delivery::Rules,
     lines: &[CheckLine],
 ) -> Result<Delivery, NoMemory>
     requires few { length lines.now ≤ most_lines }
@@ -191,7 +191,7 @@ fn begun_delivery(
 fn new_delivery(
     alloc: Global,
     ring: Ring,
-    rules: chk_delivery::Rules,
+    rules: chk_agent_delivery::Rules,
     adaptors: u32,
 ) -> Result<Delivery, NoMemory>
     ensures { IfOk result (IsEmptyFor ring rules adaptors) }

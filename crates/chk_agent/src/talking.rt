@@ -7,15 +7,15 @@ ghost use Rattle.chk_site.specs.Runs.{Leads};
 ghost use Rattle.chk_world.specs.Places.{As, Making};
 ghost use Rattle.chk_agent.specs.States.{process};
 ghost use Rattle.chk_agent.specs.Facts.{Matches};
-ghost use Rattle.chk_delivery.specs.Scripts.{CauseBy};
+ghost use Rattle.chk_agent_delivery.specs.Scripts.{CauseBy};
 ghost use Rattle.chk_agent.specs.Faults.{AgentCause, fails_post, fails_answer, fails_poll};
 ghost use Rattle.chk_agent.specs.Faults.{fails_lengths};
 ghost use Rattle.chk_agent.specs.Turns.{Posts, GetsPostReply, Polls, GetsLengths, as_agent};
 
 use crate::agent::Agent;
 use crate::answers::AgentFault;
+use chk_agent_delivery::{Answered, PollAnswer, Polled, Posted};
 use chk_bytes::NoMemory;
-use chk_delivery::{Answered, PollAnswer, Polled, Posted};
 use chk_site::Site;
 use std::alloc::Global;
 

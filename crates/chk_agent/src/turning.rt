@@ -4,7 +4,7 @@ ghost use Rattle.std.specs.Prelude.{◌≡◌, ℕ, List, true, IfErr};
 ghost use Rattle.chk_site.specs.Site.{Adds};
 ghost use Rattle.chk_site.specs.Runs.{Leads};
 ghost use Rattle.chk_world.specs.Places.{Talking};
-ghost use Rattle.chk_delivery.specs.Turns.{is_due};
+ghost use Rattle.chk_agent_delivery.specs.Turns.{is_due};
 ghost use Rattle.chk_agent.specs.declared.answers.AgentFault.TheVariants.{NoMemory as wanting};
 ghost use Rattle.chk_agent.specs.States.{process};
 ghost use Rattle.chk_agent.specs.Facts.{Matches};
@@ -13,7 +13,7 @@ ghost use Rattle.chk_agent.specs.Turns.{PollsIfDue, IsTurned, note_poll};
 
 use crate::agent::Agent;
 use crate::answers::AgentFault;
-use chk_delivery::Polled;
+use chk_agent_delivery::Polled;
 use chk_site::Site;
 use std::alloc::Global;
 

@@ -13,7 +13,7 @@ use Rattle.chk_control.specs.Answers.{answer_text}
 use Rattle.chk_control.specs.Lines.{Meaning, meaning_of}
 use Rattle.chk_site.specs.History.{History}
 use Rattle.chk_world.proofs.Ends.{bytes_self}
-use Rattle.chk_reading.specs.Adaptors.{Adaptor, adaptor_of, is_past, revived}
+use Rattle.chk_agent_adaptor.specs.Adaptors.{Adaptor, adaptor_of, is_past, revived}
 use Rattle.chk_agent.specs.declared.answers.Reply.{Reply}
 use Rattle.chk_agent.specs.declared.answers.Then.TheVariants.{Go}
 use Rattle.chk_agent.specs.Replies.{reply_of}

@@ -4,7 +4,7 @@ use Rattle.std.proofs.lemmas.Option.{same_Some, none-some}
 use Rattle.chk_control.specs.declared.commands.Command.TheVariants.{Blank, Add, Close, Help, List as ListAll, ReloadCollectors, Stop, StopAll, Shutdown, StopAgent}
 use Rattle.chk_control.specs.Lines.{Meaning, meaning_of}
 use Rattle.chk_site.specs.History.{History}
-use Rattle.chk_reading.specs.Adaptors.{Adaptor}
+use Rattle.chk_agent_adaptor.specs.Adaptors.{Adaptor}
 use Rattle.chk_agent.specs.declared.answers.AgentFault.{AgentFault}
 use Rattle.chk_agent.specs.declared.answers.Reply.{Reply}
 use Rattle.chk_agent.specs.States.{State}

@@ -7,9 +7,9 @@ use Rattle.std.proofs.lemmas.Option.{same_Some, none-some}
 use Rattle.chk_control.specs.declared.answers.State.{State as Named}
 use Rattle.chk_world.specs.Checkpoints.{are_apart, clash, same_log}
 use Rattle.chk_world.proofs.Ends.{bytes_same, bytes_self}
-use Rattle.chk_reading.specs.declared.adaptor.Phase.{Phase}
-use Rattle.chk_reading.specs.declared.adaptor.Phase.TheVariants.{Live, Stopping, Shrank, Past}
-use Rattle.chk_reading.specs.Adaptors.{Adaptor, is_past, line_at}
+use Rattle.chk_agent_adaptor.specs.declared.adaptor.Phase.{Phase}
+use Rattle.chk_agent_adaptor.specs.declared.adaptor.Phase.TheVariants.{Live, Stopping, Shrank, Past}
+use Rattle.chk_agent_adaptor.specs.Adaptors.{Adaptor, is_past, line_at}
 use Rattle.chk_agent.specs.Adds.{Found, stream_in}
 use Rattle.chk_agent.specs.Commands.{state_of}
 use Rattle.chk_agent.specs.Fits.{IsSound}

@@ -10,7 +10,7 @@ use Rattle.chk_site.specs.declared.acts.Who.{Who}
 use Rattle.chk_site.specs.declared.acts.OutsideFault.{OutsideFault}
 use Rattle.chk_site.specs.History.{Step, History}
 use Rattle.chk_replace.specs.Load.{ReadInTurn, IsLook}
-use Rattle.chk_reading.specs.Adaptors.{Adaptor, is_past}
+use Rattle.chk_agent_adaptor.specs.Adaptors.{Adaptor, is_past}
 use Rattle.chk_agent.specs.declared.answers.AgentFault.{AgentFault}
 use Rattle.chk_agent.specs.declared.answers.AgentFault.TheVariants.{NoMemory}
 use Rattle.chk_agent.specs.declared.answers.Reply.{Reply}

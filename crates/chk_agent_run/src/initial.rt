@@ -7,7 +7,7 @@ ghost use Rattle.chk_site.specs.History.{Every};
 ghost use Rattle.chk_site.specs.Site.{Adds, LastFailed, OutsideCause};
 ghost use Rattle.chk_site.specs.Runs.{Leads};
 ghost use Rattle.chk_world.specs.Places.{Talking};
-ghost use Rattle.chk_reading.specs.Adaptors.{Adaptor};
+ghost use Rattle.chk_agent_adaptor.specs.Adaptors.{Adaptor};
 ghost use Rattle.chk_agent.specs.States.{process};
 ghost use Rattle.chk_agent.specs.Facts.{Matches};
 ghost use Rattle.chk_agent.specs.Faults.{AgentCause, FailsLast, IsUndamaged};

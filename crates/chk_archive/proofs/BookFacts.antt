@@ -14,7 +14,7 @@ use Rattle.chk_world.proofs.Segments.{all_in, none_in, book_is}
 use Rattle.chk_world.proofs.Each.{later_one}
 use Rattle.chk_archive.specs.FolderNames.{names_segment}
 use Rattle.chk_archive.specs.Numbers.{Numbered}
-use Rattle.chk_parts.proofs.InTurn.{from_both}
+use Rattle.chk_archive_parts.proofs.InTurn.{from_both}
 
 of_book : (v : Version) (b : Book) → is_book v b ≡ true → Numbered b
 of_book v b is =

@@ -6,7 +6,7 @@ use Rattle.std.proofs.lemmas.List.{append_cancel_right}
 use Rattle.std.proofs.lemmas.Option.{same_Some}
 use Rattle.chk_site.specs.declared.acts.OutsideFault.{OutsideFault}
 use Rattle.chk_site.specs.declared.acts.OutsideFault.TheVariants.{Outside as site_failed, NoMemory as no_memory}
-use Rattle.chk_heads.specs.Faults.{job_fault, IsOfRead}
+use Rattle.chk_record_index.specs.Faults.{job_fault, IsOfRead}
 use Rattle.chk_archive.specs.Archived.{Begun}
 use Rattle.chk_site.specs.Files.{File}
 use Rattle.chk_site.specs.Effect.{IsSmallFile}
@@ -29,16 +29,16 @@ use Rattle.chk_world.proofs.Lifts.{owned_by}
 use Rattle.chk_world.proofs.ToldCalls.{talks}
 use Rattle.chk_world.proofs.NameLemmas.{read-spell}
 use Rattle.chk_world.proofs.SmallFiles.{readable}
-use Rattle.chk_heads.specs.declared.fault.JobFault.{JobFault}
-use Rattle.chk_heads.specs.declared.fault.JobFault.TheVariants.{Outside, Damaged, Spent, NoMemory}
+use Rattle.chk_record_index.specs.declared.fault.JobFault.{JobFault}
+use Rattle.chk_record_index.specs.declared.fault.JobFault.TheVariants.{Outside, Damaged, Spent, NoMemory}
 use Rattle.chk_book.specs.Folders.{book_name}
 use Rattle.chk_book.specs.Loaded.{LoadedBook}
 use Rattle.chk_archive.specs.Beginning.{HasBegun, Begins, only_reads}
-use Rattle.chk_parts.specs.Gathering.{held, held_at, CanBeRead, own_book_file}
+use Rattle.chk_archive_parts.specs.Gathering.{held, held_at, CanBeRead, own_book_file}
 use Rattle.chk_archive.specs.Tidying.{HasBook}
-use Rattle.chk_parts.proofs.OneFile.{Knows, stays_stopped, file_known, one_file}
+use Rattle.chk_archive_parts.proofs.OneFile.{Knows, stays_stopped, file_known, one_file}
 use Rattle.chk_world.proofs.LogEnds.{legal_modelled}
-use Rattle.chk_parts.proofs.Beginning.{undamaged}
+use Rattle.chk_archive_parts.proofs.Beginning.{undamaged}
 
 abbrev W : List ℕ
 W = book_name (codes "archive")

@@ -3,7 +3,7 @@ use Rattle.std.proofs.Common.{◌≡◌, List, subst}
 use Rattle.std.specs.Prelude.{Contains, filter}
 use Rattle.chk_chunk.specs.Keys.{Stream, Chunk, is_of}
 use Rattle.chk_world.proofs.Each.{Each, each_from, each_at, passes_in, filter_in}
-use Rattle.chk_plan.proofs.Parts.{stream_self}
+use Rattle.chk_archive_plan.proofs.Parts.{stream_self}
 
 -- of each stream they are the same, and stand in the same order
 abbrev pub SameByStream : List Chunk → List Chunk → Type 0

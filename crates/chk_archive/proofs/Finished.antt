@@ -16,11 +16,11 @@ use Rattle.chk_world.specs.Places.{As, AtTold}
 use Rattle.chk_world.specs.Sight.{job, Sight, sight, AtJob}
 use Rattle.chk_world.specs.JobSteps.{IsOf}
 use Rattle.chk_world.proofs.ToldCalls.{talks}
-use Rattle.chk_heads.specs.Faults.{job_fault}
-use Rattle.chk_heads.specs.declared.fault.JobFault.{JobFault}
-use Rattle.chk_heads.specs.declared.fault.JobFault.TheVariants.{Outside, Damaged, Spent, NoMemory}
-use Rattle.chk_parts.proofs.OneFile.{Knows}
-use Rattle.chk_parts.proofs.FromKnown.{from_known, reach}
+use Rattle.chk_record_index.specs.Faults.{job_fault}
+use Rattle.chk_record_index.specs.declared.fault.JobFault.{JobFault}
+use Rattle.chk_record_index.specs.declared.fault.JobFault.TheVariants.{Outside, Damaged, Spent, NoMemory}
+use Rattle.chk_archive_parts.proofs.OneFile.{Knows}
+use Rattle.chk_archive_parts.proofs.FromKnown.{from_known, reach}
 use Rattle.chk_archive.specs.Archived.{Archived, RunDone, NoStray, MergesBy}
 use Rattle.chk_archive.specs.Counting.{IsCounted}
 use Rattle.chk_archive.specs.Listed.{IsListed}

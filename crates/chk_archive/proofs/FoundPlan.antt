@@ -14,37 +14,37 @@ use Rattle.chk_world.specs.TrueBooks.{HasBytes}
 use Rattle.chk_world.specs.ArchiveRuns.{in_order, found, total_gain, once, is_closed, sink_path}
 use Rattle.chk_world.specs.Jobs.{segment_list, all_segments}
 use Rattle.chk_world.specs.Sight.{Sight, own_chunks, own_aside}
-use Rattle.chk_heads.specs.Heads.{Head, head_of, head_at, heads_in}
-use Rattle.chk_heads.specs.Order.{in_head_order, no_head}
-use Rattle.chk_heads.specs.Pieces.{bytes_in}
+use Rattle.chk_record_index.specs.Heads.{Head, head_of, head_at, heads_in}
+use Rattle.chk_record_index.specs.Order.{in_head_order, no_head}
+use Rattle.chk_record_index.specs.Pieces.{bytes_in}
 use Rattle.chk_site.specs.Honest.{in_folder}
 use Rattle.chk_world.proofs.Segments.{none_in}
 use Rattle.chk_world.proofs.Each.{Each, each_from, each_at, later_one}
 use Rattle.chk_book.specs.Books.{end_in}
 use Rattle.chk_book.specs.Folders.{segment_name}
-use Rattle.chk_plan.specs.HeadsOf.{AreHeads}
-use Rattle.chk_plan.specs.Passes.{head_in, IsSpan, AreSpans}
-use Rattle.chk_plan.specs.Plan.{parts_of, ends_of, set_aside}
-use Rattle.chk_plan.specs.Laws.{BeginAt, SpansGive}
-use Rattle.chk_plan.specs.declared.spans.Span.{Span}
-use Rattle.chk_plan.proofs.Gives.{plans_give}
-use Rattle.chk_plan.proofs.ChunkOrder.{in_order_ordered}
-use Rattle.chk_plan.proofs.HeadOrder.{heads_sort}
-use Rattle.chk_plan.proofs.Runs.{all_put}
-use Rattle.chk_parts.specs.declared.cuts.Cut.{Cut}
-use Rattle.chk_merge.specs.ReadBack.{chunk_at}
-use Rattle.chk_merge.proofs.Records.{chunks_of_heads}
-use Rattle.chk_parts.specs.Cuts.{no_chunk, cut_chunk, cut_chunks, AreWithin}
-use Rattle.chk_parts.specs.Kept.{past_chunks, is_first, are_old_aside, IsFirst}
-use Rattle.chk_parts.specs.Gathering.{held, heads_of}
-use Rattle.chk_parts.specs.Records.{IsRecordOf, AreRecords, chunks_held}
-use Rattle.chk_parts.proofs.CutLists.{zip_at, no_cut}
-use Rattle.chk_parts.proofs.KeptOnce.{Differ, same_length as zip_size}
-use Rattle.chk_parts.proofs.AsideStays.{aside_stays}
-use Rattle.chk_parts.proofs.Fetches.{any_default}
-use Rattle.chk_parts.proofs.FoundRecords.{records_in_order, are_heads}
-use Rattle.chk_parts.proofs.CutParts.{cuts_are_parts}
-use Rattle.chk_parts.proofs.OldAsides.{old_asides_are_whole}
+use Rattle.chk_archive_plan.specs.HeadsOf.{AreHeads}
+use Rattle.chk_archive_plan.specs.Passes.{head_in, IsSpan, AreSpans}
+use Rattle.chk_archive_plan.specs.Plan.{parts_of, ends_of, set_aside}
+use Rattle.chk_archive_plan.specs.Laws.{BeginAt, SpansGive}
+use Rattle.chk_archive_plan.specs.declared.spans.Span.{Span}
+use Rattle.chk_archive_plan.proofs.Gives.{plans_give}
+use Rattle.chk_archive_plan.proofs.ChunkOrder.{in_order_ordered}
+use Rattle.chk_archive_plan.proofs.HeadOrder.{heads_sort}
+use Rattle.chk_archive_plan.proofs.Runs.{all_put}
+use Rattle.chk_archive_parts.specs.declared.cuts.Cut.{Cut}
+use Rattle.chk_record_reader.specs.ReadBack.{chunk_at}
+use Rattle.chk_record_reader.proofs.Records.{chunks_of_heads}
+use Rattle.chk_archive_parts.specs.Cuts.{no_chunk, cut_chunk, cut_chunks, AreWithin}
+use Rattle.chk_archive_parts.specs.Kept.{past_chunks, is_first, are_old_aside, IsFirst}
+use Rattle.chk_archive_parts.specs.Gathering.{held, heads_of}
+use Rattle.chk_archive_parts.specs.Records.{IsRecordOf, AreRecords, chunks_held}
+use Rattle.chk_archive_parts.proofs.CutLists.{zip_at, no_cut}
+use Rattle.chk_archive_parts.proofs.KeptOnce.{Differ, same_length as zip_size}
+use Rattle.chk_archive_parts.proofs.AsideStays.{aside_stays}
+use Rattle.chk_archive_parts.proofs.Fetches.{any_default}
+use Rattle.chk_archive_parts.proofs.FoundRecords.{records_in_order, are_heads}
+use Rattle.chk_archive_parts.proofs.CutParts.{cuts_are_parts}
+use Rattle.chk_archive_parts.proofs.OldAsides.{old_asides_are_whole}
 use Rattle.chk_archive.specs.FolderNames.{closed_in}
 use Rattle.chk_archive.specs.Listed.{IsListed, aside_files, sources_in}
 use Rattle.chk_archive.specs.Taking.{IsPlanned, IsWhole, CanPrepare, asked, stays_aside}

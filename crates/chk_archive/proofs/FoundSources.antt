@@ -24,15 +24,15 @@ use Rattle.chk_world.proofs.BooksTrue.{each_named, run_length, has_start_is, boo
 use Rattle.chk_world.proofs.KeptTrue.{source_true}
 use Rattle.chk_world.proofs.StaysTrue.{IsFoundedChunk}
 use Rattle.chk_book.specs.Books.{end_in}
-use Rattle.chk_plan.specs.NextBooks.{AreFound}
-use Rattle.chk_plan.proofs.Parts.{stream_self}
-use Rattle.chk_plan.proofs.Runs.{put_all, all_put}
-use Rattle.chk_parts.specs.Gathering.{held_at}
-use Rattle.chk_parts.specs.Records.{AreOfLogs}
+use Rattle.chk_archive_plan.specs.NextBooks.{AreFound}
+use Rattle.chk_archive_plan.proofs.Parts.{stream_self}
+use Rattle.chk_archive_plan.proofs.Runs.{put_all, all_put}
+use Rattle.chk_archive_parts.specs.Gathering.{held_at}
+use Rattle.chk_archive_parts.specs.Records.{AreOfLogs}
 use Rattle.chk_archive.specs.Listed.{IsListed}
 use Rattle.chk_archive.proofs.SinksGo.{good_stem}
 use Rattle.chk_archive.proofs.Listings.{L, legal_then, book_then, sink_held}
-use Rattle.chk_parts.proofs.InTurn.{from_both}
+use Rattle.chk_archive_parts.proofs.InTurn.{from_both}
 
 -- ---- lists
 

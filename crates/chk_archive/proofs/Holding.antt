@@ -11,20 +11,20 @@ use Rattle.chk_chunk.specs.Keys.{Chunk, chunk_limit}
 use Rattle.chk_world.specs.ArchiveRuns.{in_order, once}
 use Rattle.chk_world.specs.Books.{Book}
 use Rattle.chk_world.specs.Sight.{Sight}
-use Rattle.chk_heads.specs.Heads.{Head, heads_in}
-use Rattle.chk_heads.specs.Order.{in_head_order}
-use Rattle.chk_heads.specs.Pieces.{bytes_in}
-use Rattle.chk_heads.proofs.Showing.{within_all, within_late, within_early}
-use Rattle.chk_heads.specs.declared.fault.JobFault.{JobFault}
-use Rattle.chk_merge.specs.Segments.{heads_from, HasFiles, SparesFiles, AreSettled, GatheredAll}
-use Rattle.chk_merge.proofs.AllRead.{adds_all}
-use Rattle.chk_parts.specs.Cuts.{cut_chunk, cut_chunks}
-use Rattle.chk_parts.specs.Gathering.{held, AreSound, heads_of}
-use Rattle.chk_parts.specs.Kept.{past_chunks, AreKeptOnce, KeptSo}
-use Rattle.chk_parts.specs.Records.{AreRecords, found_in}
-use Rattle.chk_parts.proofs.FoundRecords.{records_in_order}
-use Rattle.chk_parts.specs.declared.cuts.Cut.{Cut}
-use Rattle.chk_plan.specs.declared.spans.Span.{Span}
+use Rattle.chk_record_index.specs.Heads.{Head, heads_in}
+use Rattle.chk_record_index.specs.Order.{in_head_order}
+use Rattle.chk_record_index.specs.Pieces.{bytes_in}
+use Rattle.chk_record_index.proofs.Showing.{within_all, within_late, within_early}
+use Rattle.chk_record_index.specs.declared.fault.JobFault.{JobFault}
+use Rattle.chk_record_reader.specs.Segments.{heads_from, HasFiles, SparesFiles, AreSettled, GatheredAll}
+use Rattle.chk_record_reader.proofs.AllRead.{adds_all}
+use Rattle.chk_archive_parts.specs.Cuts.{cut_chunk, cut_chunks}
+use Rattle.chk_archive_parts.specs.Gathering.{held, AreSound, heads_of}
+use Rattle.chk_archive_parts.specs.Kept.{past_chunks, AreKeptOnce, KeptSo}
+use Rattle.chk_archive_parts.specs.Records.{AreRecords, found_in}
+use Rattle.chk_archive_parts.proofs.FoundRecords.{records_in_order}
+use Rattle.chk_archive_parts.specs.declared.cuts.Cut.{Cut}
+use Rattle.chk_archive_plan.specs.declared.spans.Span.{Span}
 use Rattle.chk_archive.specs.Listed.{sources_in}
 use Rattle.chk_archive.specs.Shown.{ShowsLoaded, IsInHand, GivesNames, GaveNames, ShowsSettled}
 use Rattle.chk_archive.specs.Taking.{IsPlanned}

@@ -4,11 +4,11 @@ use Rattle.std.specs.Prelude.{map, if◌then◌else◌}
 use Rattle.chk_chunk.specs.Keys.{Stream, same_stream}
 use Rattle.chk_world.specs.Books.{End}
 use Rattle.chk_world.proofs.NameTests.{streams_same}
-use Rattle.chk_heads.specs.Heads.{Head}
+use Rattle.chk_record_index.specs.Heads.{Head}
 use Rattle.chk_book.specs.Books.{end_in}
-use Rattle.chk_plan.specs.declared.spans.Known.{Known}
-use Rattle.chk_plan.specs.Passes.{begins_at, known_stream}
-use Rattle.chk_plan.specs.Starts.{start_known}
+use Rattle.chk_archive_plan.specs.declared.spans.Known.{Known}
+use Rattle.chk_archive_plan.specs.Passes.{begins_at, known_stream}
+use Rattle.chk_archive_plan.specs.Starts.{start_known}
 use Rattle.chk_archive.specs.Starts.{start_in}
 use Rattle.chk_world.proofs.Rounds.{stream_self}
 

@@ -11,7 +11,7 @@ use Rattle.chk_replace.proofs.CallSteps.{script_last}
 use Rattle.chk_site.proofs.LastCalls.{ended_last as ends_last}
 use Rattle.chk_site.proofs.LastCalls.{last_of_both as last_then}
 use Rattle.chk_world.specs.Sight.{job}
-use Rattle.chk_heads.specs.Faults.{FailsLast, job_fault}
+use Rattle.chk_record_index.specs.Faults.{FailsLast, job_fault}
 use Rattle.chk_archive.specs.Calling.{removals, Listed}
 
 -- of a listing, by its result

@@ -28,17 +28,17 @@ use Rattle.chk_world.proofs.Segments.{counts_in, none_in}
 use Rattle.chk_world.proofs.BooksTrue.{books_stay_true}
 use Rattle.chk_world.proofs.CompleteRuns.{listed}
 use Rattle.chk_world.proofs.Each.{later_one}
-use Rattle.chk_heads.specs.Pieces.{bytes_in}
+use Rattle.chk_record_index.specs.Pieces.{bytes_in}
 use Rattle.chk_book.specs.Folders.{segment_name}
-use Rattle.chk_parts.specs.Gathering.{held, held_at, CanBeRead, own_segment, shown_sink, IsSoundFile, AreSound}
-use Rattle.chk_parts.specs.Records.{chunks_held, found_in}
-use Rattle.chk_parts.proofs.OneFile.{file_known}
-use Rattle.chk_parts.proofs.OneSegment.{segment_spelled}
+use Rattle.chk_archive_parts.specs.Gathering.{held, held_at, CanBeRead, own_segment, shown_sink, IsSoundFile, AreSound}
+use Rattle.chk_archive_parts.specs.Records.{chunks_held, found_in}
+use Rattle.chk_archive_parts.proofs.OneFile.{file_known}
+use Rattle.chk_archive_parts.proofs.OneSegment.{segment_spelled}
 use Rattle.chk_archive.specs.FolderNames.{closed_in}
 use Rattle.chk_archive.specs.Listed.{IsListed, sources_in}
 use Rattle.chk_archive.proofs.SinksGo.{good_stem, in_any}
 use Rattle.chk_world.proofs.LogEnds.{legal_modelled}
-use Rattle.chk_merge.proofs.BothLimits.{limits_agree}
+use Rattle.chk_record_reader.proofs.BothLimits.{limits_agree}
 
 -- ---- lists
 

@@ -21,18 +21,18 @@ use Rattle.chk_world.proofs.NameLemmas.{read-spell}
 use Rattle.chk_world.proofs.NameTests.{streams_same}
 use Rattle.chk_world.proofs.Segments.{counts_in, none_in}
 use Rattle.chk_world.proofs.SmallFiles.{readable}
-use Rattle.chk_heads.specs.Pieces.{bytes_in}
+use Rattle.chk_record_index.specs.Pieces.{bytes_in}
 use Rattle.chk_book.specs.Folders.{segment_name, most_in}
-use Rattle.chk_merge.specs.Segments.{names_of, AreSettled, IsSound, chunks_in_files}
-use Rattle.chk_merge.specs.Courses.{end_of, is_end_of}
-use Rattle.chk_merge.specs.Archives.{RunsSo, IsDamagedAt}
-use Rattle.chk_merge.specs.Merging.{AreApart}
-use Rattle.chk_merge.proofs.Undamaged.{undamaged}
-use Rattle.chk_parts.proofs.OneSegment.{segment_spelled, has_some}
+use Rattle.chk_record_reader.specs.Segments.{names_of, AreSettled, IsSound, chunks_in_files}
+use Rattle.chk_record_reader.specs.Courses.{end_of, is_end_of}
+use Rattle.chk_record_reader.specs.Archives.{RunsSo, IsDamagedAt}
+use Rattle.chk_record_reader.specs.Merging.{AreApart}
+use Rattle.chk_record_reader.proofs.Undamaged.{undamaged}
+use Rattle.chk_archive_parts.proofs.OneSegment.{segment_spelled, has_some}
 use Rattle.chk_archive.specs.Numbers.{Numbered}
 use Rattle.chk_archive.proofs.BookFacts.{numbered}
 use Rattle.chk_world.proofs.LogEnds.{legal_modelled}
-use Rattle.chk_merge.proofs.BothLimits.{limits_agree}
+use Rattle.chk_record_reader.proofs.BothLimits.{limits_agree}
 use Rattle.chk_world.proofs.Rounds.{stream_self}
 
 pub in_map : {X Y : Type 0} (f : X → Y) (xs : List X) (y : Y) → Contains (map f xs) y

@@ -5,13 +5,13 @@ use Rattle.chk_site.specs.Files.{Files}
 use Rattle.chk_chunk.specs.Keys.{Chunk}
 use Rattle.chk_world.specs.ArchiveRuns.{in_order}
 use Rattle.chk_world.proofs.Each.{Each}
-use Rattle.chk_heads.specs.Heads.{Head}
-use Rattle.chk_heads.specs.Order.{in_head_order}
-use Rattle.chk_plan.specs.HeadsOf.{IsHeadOf}
-use Rattle.chk_plan.proofs.HeadOrder.{ties_sort}
-use Rattle.chk_merge.specs.Archives.{chunk_in}
-use Rattle.chk_merge.specs.Segments.{heads_from, chunks_in_files}
-use Rattle.chk_merge.proofs.Joining.{BeginsSo, chunks_from, begin_from}
+use Rattle.chk_record_index.specs.Heads.{Head}
+use Rattle.chk_record_index.specs.Order.{in_head_order}
+use Rattle.chk_archive_plan.specs.HeadsOf.{IsHeadOf}
+use Rattle.chk_archive_plan.proofs.HeadOrder.{ties_sort}
+use Rattle.chk_record_reader.specs.Archives.{chunk_in}
+use Rattle.chk_record_reader.specs.Segments.{heads_from, chunks_in_files}
+use Rattle.chk_record_reader.proofs.Joining.{BeginsSo, chunks_from, begin_from}
 
 module _ (most : ℕ) (held : Files) (names : List (List ℕ)) where
   abbrev Ties : Head → Chunk → Type 0

@@ -20,9 +20,9 @@ use Rattle.chk_world.proofs.Lifts.{with_own, lift_reads, owned_by}
 use Rattle.chk_world.proofs.Spares.{writes_segment}
 use Rattle.chk_world.proofs.ToldCalls.{talks}
 use Rattle.chk_book.specs.Folders.{segment_name}
-use Rattle.chk_parts.proofs.OneSegment.{segment_spelled, quiet_write}
+use Rattle.chk_archive_parts.proofs.OneSegment.{segment_spelled, quiet_write}
 use Rattle.chk_world.proofs.Lifts.{no_write_starts}
-use Rattle.chk_parts.proofs.OneStep.{single, single_leads}
+use Rattle.chk_archive_parts.proofs.OneStep.{single, single_leads}
 
 pub no_merge_starts : (w : List ℕ) → ReadsOrWrites w Starts → ⊥
 no_merge_starts w (inl k) = elim k [ ]

@@ -15,11 +15,11 @@ use Rattle.chk_world.specs.Rules.{Legal}
 use Rattle.chk_world.specs.Sight.{Sight, sight, own_book, own_chunks}
 use Rattle.chk_world.proofs.Each.{filter_in, passes_in}
 use Rattle.chk_world.proofs.Segments.{flat_same, data_self}
-use Rattle.chk_parts.proofs.OneSegment.{segment_spelled, segment_own, some_has}
+use Rattle.chk_archive_parts.proofs.OneSegment.{segment_spelled, segment_own, some_has}
 use Rattle.chk_archive.specs.FolderNames.{names_segment}
-use Rattle.chk_parts.specs.Publishing.{IsPublished, MayFollow}
-use Rattle.chk_parts.proofs.InTurn.{from_both}
-use Rattle.chk_merge.proofs.BothLimits.{limits_agree}
+use Rattle.chk_archive_parts.specs.Publishing.{IsPublished, MayFollow}
+use Rattle.chk_archive_parts.proofs.InTurn.{from_both}
+use Rattle.chk_record_reader.proofs.BothLimits.{limits_agree}
 use Rattle.chk_archive.proofs.MergeFacts.{facts, true_book, counted}
 use Rattle.chk_world.proofs.Rounds.{stream_self}
 

@@ -25,28 +25,28 @@ use Rattle.chk_world.proofs.Lifts.{with_own}
 use Rattle.chk_world.proofs.NameTests.{same_name, name_same, nat_self}
 use Rattle.chk_world.proofs.Segments.{flat_same, none_in}
 use Rattle.chk_world.proofs.Spares.{own_spared}
-use Rattle.chk_heads.specs.Faults.{job_fault}
-use Rattle.chk_heads.specs.Pieces.{bytes_in}
-use Rattle.chk_heads.specs.declared.fault.JobFault.{JobFault}
-use Rattle.chk_heads.specs.declared.fault.JobFault.TheVariants.{Outside, Damaged, Spent, NoMemory}
+use Rattle.chk_record_index.specs.Faults.{job_fault}
+use Rattle.chk_record_index.specs.Pieces.{bytes_in}
+use Rattle.chk_record_index.specs.declared.fault.JobFault.{JobFault}
+use Rattle.chk_record_index.specs.declared.fault.JobFault.TheVariants.{Outside, Damaged, Spent, NoMemory}
 use Rattle.chk_book.specs.Causes.{SpentBook}
 use Rattle.chk_book.specs.Folders.{segment_name}
-use Rattle.chk_merge.specs.Segments.{names_of, HasFiles, AreSettled}
-use Rattle.chk_merge.specs.Merging.{SparesBoth, AreApart, MergedInto, HasMerged}
-use Rattle.chk_parts.specs.Writes.{SameBut, IsFree}
-use Rattle.chk_parts.proofs.OneSegment.{segment_spelled, segment_own, same_self, still_unnamed}
-use Rattle.chk_parts.proofs.FromKnown.{from_known, reach, reach_known}
+use Rattle.chk_record_reader.specs.Segments.{names_of, HasFiles, AreSettled}
+use Rattle.chk_record_reader.specs.Merging.{SparesBoth, AreApart, MergedInto, HasMerged}
+use Rattle.chk_archive_parts.specs.Writes.{SameBut, IsFree}
+use Rattle.chk_archive_parts.proofs.OneSegment.{segment_spelled, segment_own, same_self, still_unnamed}
+use Rattle.chk_archive_parts.proofs.FromKnown.{from_known, reach, reach_known}
 use Rattle.chk_archive.specs.Archived.{ReplacesBook}
 use Rattle.chk_archive.specs.FolderNames.{names_segment}
 use Rattle.chk_archive.specs.Tidying.{IsTidy}
 use Rattle.chk_archive.specs.Merged.{few_stay, many_merged, IsMerged, Merged}
-use Rattle.chk_parts.specs.Publishing.{IsPublished, MayFollow, Published}
-use Rattle.chk_parts.proofs.Published.{replaces_no_start, quiet_replace}
+use Rattle.chk_archive_parts.specs.Publishing.{IsPublished, MayFollow, Published}
+use Rattle.chk_archive_parts.proofs.Published.{replaces_no_start, quiet_replace}
 use Rattle.chk_archive.proofs.BookFacts.{unnamed}
 use Rattle.chk_archive.proofs.Preparing.{but_book}
 use Rattle.chk_archive.proofs.MergeSteps.{no_merge_starts, quiet_merging, over_merge}
 use Rattle.chk_archive.proofs.MergeFacts.{facts, counted, in_map, settled, named_chunks, never_damaged, apart}
-use Rattle.chk_merge.proofs.BothLimits.{limits_agree}
+use Rattle.chk_record_reader.proofs.BothLimits.{limits_agree}
 use Rattle.chk_archive.proofs.MergedBook.{IsMergedFor, known_chunks, merged_may}
 use Rattle.chk_archive.proofs.MergeOrder.{merged_in_order}
 

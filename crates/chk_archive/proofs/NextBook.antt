@@ -24,23 +24,23 @@ use Rattle.chk_world.proofs.Segments.{chunks_same, aside_same, counts_in, none_i
 use Rattle.chk_world.proofs.BooksTrue.{books_stay_true, has_start_is}
 use Rattle.chk_world.proofs.KeptTrue.{source_true}
 use Rattle.chk_world.proofs.OwnArchive.{own_aside_is}
-use Rattle.chk_plan.specs.Plan.{goes_on, part_past, parts_from, reached_from, parts_of, ends_of, is_past, set_aside}
-use Rattle.chk_plan.specs.NextBooks.{StartsSo, NamesParts, AsideIs}
-use Rattle.chk_plan.proofs.Parts.{ends_at, parts_at}
-use Rattle.chk_plan.proofs.SetAside.{run_may}
-use Rattle.chk_plan.proofs.Runs.{all_put}
-use Rattle.chk_plan.proofs.Gives.{gain_from}
+use Rattle.chk_archive_plan.specs.Plan.{goes_on, part_past, parts_from, reached_from, parts_of, ends_of, is_past, set_aside}
+use Rattle.chk_archive_plan.specs.NextBooks.{StartsSo, NamesParts, AsideIs}
+use Rattle.chk_archive_plan.proofs.Parts.{ends_at, parts_at}
+use Rattle.chk_archive_plan.proofs.SetAside.{run_may}
+use Rattle.chk_archive_plan.proofs.Runs.{all_put}
+use Rattle.chk_archive_plan.proofs.Gives.{gain_from}
 use Rattle.chk_book.specs.Segmenting.{end_of, raised_all}
-use Rattle.chk_parts.specs.Writes.{HoldsChunks}
+use Rattle.chk_archive_parts.specs.Writes.{HoldsChunks}
 use Rattle.chk_archive.specs.Listed.{IsListed}
 use Rattle.chk_archive.specs.Taking.{PartsAdded, nothing_taken, one_added, AsideNamed, none_kept, old_kept, new_kept}
 use Rattle.chk_archive.proofs.Listings.{legal_then, own_then, book_then}
-use Rattle.chk_merge.proofs.BothLimits.{limits_agree}
+use Rattle.chk_record_reader.proofs.BothLimits.{limits_agree}
 use Rattle.chk_archive.proofs.FoundSources.{K, then_files, StillThere, source_found, are_found, founded, found_bytes, true_book, listed_end}
-use Rattle.chk_parts.proofs.InTurn.{from_both}
+use Rattle.chk_archive_parts.proofs.InTurn.{from_both}
 use Rattle.chk_archive.specs.Numbers.{Numbered}
 use Rattle.chk_archive.proofs.BookFacts.{numbered}
-use Rattle.chk_parts.proofs.EndsInOrder.{sorted, Has, has_any, any_has}
+use Rattle.chk_archive_parts.proofs.EndsInOrder.{sorted, Has, has_any, any_has}
 use Rattle.chk_archive.proofs.ByStream.{SameByStream, each_by_stream}
 use Rattle.chk_archive.proofs.RaisedEnds.{EndsAre, ends_by, pass_ends, same_ends, ends_follow, starts_follow, all_listed, parts_listed}
 

@@ -17,7 +17,7 @@ use Rattle.chk_site.specs.declared.acts.ActAnswer.{ActAnswer}
 use Rattle.chk_site.proofs.Runs.{adds_as, adds_then, ran}
 use Rattle.chk_world.specs.JobSteps.{IsOf}
 use Rattle.chk_world.specs.Sight.{job}
-use Rattle.chk_heads.specs.declared.fault.JobFault.{JobFault}
+use Rattle.chk_record_index.specs.declared.fault.JobFault.{JobFault}
 use Rattle.chk_archive.specs.Archived.{GivenOnce, ListedOnce, ListsNoSinks, gives_sinks, is_job_listing, is_sinks_listing, lists_sinks}
 use Rattle.chk_archive.specs.Calling.{listing, Listed}
 

@@ -4,12 +4,12 @@ use Rattle.std.specs.Prelude.{All, IfOk}
 use Rattle.chk_world.proofs.Each.{Each, each_as}
 use Rattle.chk_bytes.specs.declared.NoMemory.{NoMemory}
 use Rattle.chk_world.specs.Books.{Book}
-use Rattle.chk_heads.specs.Heads.{Head}
-use Rattle.chk_plan.specs.Passes.{IsSpan, AreSpans, begins_at}
-use Rattle.chk_plan.specs.declared.spans.Span.{Span}
-use Rattle.chk_plan.specs.declared.spans.Known.{Known}
+use Rattle.chk_record_index.specs.Heads.{Head}
+use Rattle.chk_archive_plan.specs.Passes.{IsSpan, AreSpans, begins_at}
+use Rattle.chk_archive_plan.specs.declared.spans.Span.{Span}
+use Rattle.chk_archive_plan.specs.declared.spans.Known.{Known}
 use Rattle.chk_book.specs.Books.{end_in}
-use Rattle.chk_parts.specs.Kept.{AreSpansWithin}
+use Rattle.chk_archive_parts.specs.Kept.{AreSpansWithin}
 use Rattle.chk_archive.specs.Taking.{IsPlanned, IsCut}
 use Rattle.chk_archive.specs.declared.taking.Planned.{Planned}
 

@@ -10,16 +10,16 @@ use Rattle.chk_world.specs.Books.{Segment, Book, book_in, is_nothing}
 use Rattle.chk_world.specs.Sight.{Sight, sight, own_book}
 use Rattle.chk_world.specs.JobSteps.{ReadsOrWrites}
 use Rattle.chk_world.proofs.NameTests.{same_name, name_same}
-use Rattle.chk_heads.specs.Heads.{Head}
-use Rattle.chk_heads.specs.declared.fault.JobFault.{JobFault}
-use Rattle.chk_heads.specs.declared.fault.JobFault.TheVariants.{Outside, Damaged, Spent, NoMemory}
+use Rattle.chk_record_index.specs.Heads.{Head}
+use Rattle.chk_record_index.specs.declared.fault.JobFault.{JobFault}
+use Rattle.chk_record_index.specs.declared.fault.JobFault.TheVariants.{Outside, Damaged, Spent, NoMemory}
 use Rattle.chk_book.specs.Causes.{SpentBook}
 use Rattle.chk_book.specs.Folders.{segment_name}
 use Rattle.chk_book.specs.Segmenting.{with_segment, with_aside}
-use Rattle.chk_parts.specs.declared.cuts.Cut.{Cut}
-use Rattle.chk_parts.specs.Cuts.{cut_chunks}
-use Rattle.chk_parts.specs.Kept.{are_old_aside}
-use Rattle.chk_parts.specs.Writes.{SameBut, HasWritten, Written}
+use Rattle.chk_archive_parts.specs.declared.cuts.Cut.{Cut}
+use Rattle.chk_archive_parts.specs.Cuts.{cut_chunks}
+use Rattle.chk_archive_parts.specs.Kept.{are_old_aside}
+use Rattle.chk_archive_parts.specs.Writes.{SameBut, HasWritten, Written}
 use Rattle.chk_archive.specs.Archived.{MergesBy, merge_reads, merge_writes}
 use Rattle.chk_archive.specs.Written.{one_for}
 use Rattle.chk_archive.specs.Taking.{SameBelow, IsWhole, none_kept, old_kept, new_kept, HasParts, no_parts, with_parts, PartsTaken, HasAside, AsideKept, stays_aside}

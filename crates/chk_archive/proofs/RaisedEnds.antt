@@ -9,10 +9,10 @@ use Rattle.chk_world.proofs.NameTests.{streams_same}
 use Rattle.chk_world.proofs.Each.{Each}
 use Rattle.chk_book.specs.Segmenting.{end_of, raised, raised_all}
 use Rattle.chk_book.proofs.EndRaises.{ending_at}
-use Rattle.chk_plan.specs.Plan.{goes_on, part_past, parts_of, ends_of}
-use Rattle.chk_plan.proofs.Parts.{stream_self}
+use Rattle.chk_archive_plan.specs.Plan.{goes_on, part_past, parts_of, ends_of}
+use Rattle.chk_archive_plan.proofs.Parts.{stream_self}
 use Rattle.chk_archive.proofs.ByStream.{SameByStream}
-use Rattle.chk_parts.proofs.EndsInOrder.{Sorted, Has, has_still, has_now, all_raised, ends_raised}
+use Rattle.chk_archive_parts.proofs.EndsInOrder.{Sorted, Has, has_still, has_now, all_raised, ends_raised}
 
 -- ---- the ends of parts
 

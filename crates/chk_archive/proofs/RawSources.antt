@@ -10,11 +10,11 @@ use Rattle.chk_site.proofs.Leads.{leads_as, leads_then, owned_anyhow}
 use Rattle.chk_chunk.specs.Keys.{chunk_limit}
 use Rattle.chk_world.specs.Books.{End}
 use Rattle.chk_world.specs.JobSteps.{IsOf}
-use Rattle.chk_heads.specs.Heads.{Head}
-use Rattle.chk_heads.specs.Order.{in_head_order}
-use Rattle.chk_heads.specs.declared.fault.JobFault.{JobFault}
-use Rattle.chk_heads.specs.declared.fault.JobFault.TheVariants.{Outside, Damaged, Spent, NoMemory}
-use Rattle.chk_merge.specs.Segments.{heads_from, HasFiles, SparesFiles, GatheredAll}
+use Rattle.chk_record_index.specs.Heads.{Head}
+use Rattle.chk_record_index.specs.Order.{in_head_order}
+use Rattle.chk_record_index.specs.declared.fault.JobFault.{JobFault}
+use Rattle.chk_record_index.specs.declared.fault.JobFault.TheVariants.{Outside, Damaged, Spent, NoMemory}
+use Rattle.chk_record_reader.specs.Segments.{heads_from, HasFiles, SparesFiles, GatheredAll}
 use Rattle.chk_archive.specs.Starts.{HaveStartsIn, ToldOtherStart}
 use Rattle.chk_archive.specs.Archived.{MergesBy}
 use Rattle.chk_archive.specs.Taking.{ReadSources}

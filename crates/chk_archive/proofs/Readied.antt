@@ -14,7 +14,7 @@ use Rattle.chk_site.proofs.Leads.{leads_as, leads_then}
 use Rattle.chk_chunk.specs.Keys.{Chunk, chunk_limit}
 use Rattle.chk_world.specs.Names.{ArchiveFolder, Name, BookFile, SegmentFile, read}
 use Rattle.chk_world.specs.Books.{Segment, Book, chunks_in, is_nothing}
-use Rattle.chk_parts.specs.Kept.{are_old_aside}
+use Rattle.chk_archive_parts.specs.Kept.{are_old_aside}
 use Rattle.chk_world.specs.Jobs.{segment_list}
 use Rattle.chk_world.specs.Places.{As}
 use Rattle.chk_world.specs.Sight.{job, Sight, sight, own_book, own_aside, AtJob}
@@ -22,20 +22,20 @@ use Rattle.chk_world.specs.JobSteps.{IsOf, reads, asks}
 use Rattle.chk_world.proofs.NameTests.{same_name, name_same}
 use Rattle.chk_world.proofs.Segments.{flat_same}
 use Rattle.chk_world.proofs.ToldCalls.{talks}
-use Rattle.chk_heads.specs.Heads.{Head, heads_in}
-use Rattle.chk_heads.specs.Pieces.{bytes_in}
-use Rattle.chk_heads.specs.declared.fault.JobFault.{JobFault}
-use Rattle.chk_heads.specs.declared.fault.JobFault.TheVariants.{Outside, Damaged, Spent, NoMemory}
-use Rattle.chk_merge.specs.ReadBack.{chunk_at}
-use Rattle.chk_parts.specs.declared.cuts.Cut.{Cut}
-use Rattle.chk_parts.specs.Cuts.{cut_chunks}
-use Rattle.chk_parts.specs.Gathering.{held, held_at, CanBeRead, own_book_file, own_segment, shown_sink, AreSound}
-use Rattle.chk_parts.specs.Records.{file_at, IsRecordOf, AreRecords}
-use Rattle.chk_parts.specs.Writes.{IsFree, HoldsChunks}
-use Rattle.chk_parts.proofs.OneFile.{Knows, can_still}
-use Rattle.chk_parts.proofs.Fetches.{any_default}
-use Rattle.chk_parts.proofs.FromKnown.{from_known, reach_known}
-use Rattle.chk_parts.proofs.OneSegment.{quiet_write}
+use Rattle.chk_record_index.specs.Heads.{Head, heads_in}
+use Rattle.chk_record_index.specs.Pieces.{bytes_in}
+use Rattle.chk_record_index.specs.declared.fault.JobFault.{JobFault}
+use Rattle.chk_record_index.specs.declared.fault.JobFault.TheVariants.{Outside, Damaged, Spent, NoMemory}
+use Rattle.chk_record_reader.specs.ReadBack.{chunk_at}
+use Rattle.chk_archive_parts.specs.declared.cuts.Cut.{Cut}
+use Rattle.chk_archive_parts.specs.Cuts.{cut_chunks}
+use Rattle.chk_archive_parts.specs.Gathering.{held, held_at, CanBeRead, own_book_file, own_segment, shown_sink, AreSound}
+use Rattle.chk_archive_parts.specs.Records.{file_at, IsRecordOf, AreRecords}
+use Rattle.chk_archive_parts.specs.Writes.{IsFree, HoldsChunks}
+use Rattle.chk_archive_parts.proofs.OneFile.{Knows, can_still}
+use Rattle.chk_archive_parts.proofs.Fetches.{any_default}
+use Rattle.chk_archive_parts.proofs.FromKnown.{from_known, reach_known}
+use Rattle.chk_archive_parts.proofs.OneSegment.{quiet_write}
 use Rattle.chk_archive.specs.Archived.{writes_book, names_book, MergesBy, merge_reads, merge_writes, merge_replaces}
 use Rattle.chk_archive.specs.FolderNames.{names_segment}
 use Rattle.chk_archive.specs.Taking.{SameBelow, IsWhole, CanPrepare, PartsAdded, nothing_taken, one_added, AsideNamed, none_kept, old_kept, new_kept, HasParts, no_parts, with_parts, PartsTaken, HasAside, AsideKept, IsReady, Prepared, stays_aside}

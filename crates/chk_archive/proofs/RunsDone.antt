@@ -19,7 +19,7 @@ use Rattle.chk_world.specs.Rules.{Legal}
 use Rattle.chk_world.specs.Sight.{Sight, sight, shows_done, own_book, own_chunks, own_archive, own_aside}
 use Rattle.chk_world.proofs.NameLemmas.{spell-read}
 use Rattle.chk_world.proofs.OwnArchive.{own_archive_is, own_aside_is}
-use Rattle.chk_plan.proofs.Runs.{run_is}
+use Rattle.chk_archive_plan.proofs.Runs.{run_is}
 use Rattle.chk_archive.specs.Archived.{RunDone, NoStray}
 use Rattle.chk_archive.specs.Counting.{IsCounted}
 use Rattle.chk_archive.specs.Listed.{IsListed}
@@ -31,8 +31,8 @@ use Rattle.chk_archive.specs.Taking.{PartsAdded, nothing_taken, one_added, TookA
 use Rattle.chk_archive.proofs.MergeFacts.{facts as ending}
 use Rattle.chk_archive.proofs.NextBook.{facts}
 use Rattle.chk_archive.proofs.Listings.{own_then, counted}
-use Rattle.chk_merge.proofs.BothLimits.{limits_agree}
-use Rattle.chk_parts.specs.Writes.{HoldsChunks}
+use Rattle.chk_record_reader.proofs.BothLimits.{limits_agree}
+use Rattle.chk_archive_parts.specs.Writes.{HoldsChunks}
 use Rattle.chk_archive.specs.declared.taking.Taken.{Taken}
 use Rattle.chk_archive.specs.declared.counting.Counted.{Counted}
 use Rattle.chk_archive.proofs.FoundSources.{K}

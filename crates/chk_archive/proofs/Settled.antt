@@ -15,11 +15,11 @@ use Rattle.chk_world.specs.Places.{As}
 use Rattle.chk_world.specs.Sight.{job, Sight, sight, own_book, AtJob}
 use Rattle.chk_world.specs.JobSteps.{IsOf}
 use Rattle.chk_world.proofs.ToldCalls.{talks}
-use Rattle.chk_heads.specs.Faults.{job_fault, IsOfRead}
-use Rattle.chk_heads.specs.declared.fault.JobFault.{JobFault}
-use Rattle.chk_heads.specs.declared.fault.JobFault.TheVariants.{Outside, Damaged, Spent, NoMemory}
-use Rattle.chk_parts.proofs.OneFile.{Knows}
-use Rattle.chk_parts.proofs.FromKnown.{from_known, reach, reach_known, with_fact}
+use Rattle.chk_record_index.specs.Faults.{job_fault, IsOfRead}
+use Rattle.chk_record_index.specs.declared.fault.JobFault.{JobFault}
+use Rattle.chk_record_index.specs.declared.fault.JobFault.TheVariants.{Outside, Damaged, Spent, NoMemory}
+use Rattle.chk_archive_parts.proofs.OneFile.{Knows}
+use Rattle.chk_archive_parts.proofs.FromKnown.{from_known, reach, reach_known, with_fact}
 use Rattle.chk_archive.specs.Archived.{Archived, Begun, MergesBy, NoStray}
 use Rattle.chk_archive.specs.Beginning.{HasBegun}
 use Rattle.chk_archive.specs.FolderNames.{names_segment}

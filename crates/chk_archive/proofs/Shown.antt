@@ -9,20 +9,20 @@ use Rattle.chk_site.proofs.Runs.{adds_then, adds_as, adds_none}
 use Rattle.chk_chunk.specs.Keys.{chunk_limit}
 use Rattle.chk_world.specs.Books.{End, Book, Segment}
 use Rattle.chk_world.specs.Jobs.{segment_list}
-use Rattle.chk_heads.specs.declared.fault.JobFault.{JobFault}
-use Rattle.chk_heads.specs.declared.fault.JobFault.TheVariants.{Outside, Damaged, Spent, NoMemory}
-use Rattle.chk_heads.specs.Heads.{Head}
-use Rattle.chk_heads.specs.Order.{in_head_order}
-use Rattle.chk_heads.specs.Faults.{job_fault, IsOfRead}
-use Rattle.chk_heads.specs.Shown.{Within}
-use Rattle.chk_heads.specs.ShownHeads.{ShowAll, ShowsAllGathered}
-use Rattle.chk_heads.specs.Causes.{Cause, Shows}
-use Rattle.chk_heads.proofs.Showing.{within_all, within_late, within_early}
-use Rattle.chk_heads.proofs.Causes.{IsLate, Implies}
+use Rattle.chk_record_index.specs.declared.fault.JobFault.{JobFault}
+use Rattle.chk_record_index.specs.declared.fault.JobFault.TheVariants.{Outside, Damaged, Spent, NoMemory}
+use Rattle.chk_record_index.specs.Heads.{Head}
+use Rattle.chk_record_index.specs.Order.{in_head_order}
+use Rattle.chk_record_index.specs.Faults.{job_fault, IsOfRead}
+use Rattle.chk_record_index.specs.Shown.{Within}
+use Rattle.chk_record_index.specs.ShownHeads.{ShowAll, ShowsAllGathered}
+use Rattle.chk_record_index.specs.Causes.{Cause, Shows}
+use Rattle.chk_record_index.proofs.Showing.{within_all, within_late, within_early}
+use Rattle.chk_record_index.proofs.Causes.{IsLate, Implies}
 use Rattle.chk_book.specs.Loaded.{ShowsBook}
 use Rattle.chk_book.specs.Folders.{segment_name}
-use Rattle.chk_merge.specs.Gone.{IsGoneIn, IsUnsound}
-use Rattle.chk_merge.proofs.Causes.{late_gone_in, late_unsound}
+use Rattle.chk_record_reader.specs.Gone.{IsGoneIn, IsUnsound}
+use Rattle.chk_record_reader.proofs.Causes.{late_gone_in, late_unsound}
 use Rattle.chk_archive.specs.FolderNames.{closed_in}
 use Rattle.chk_archive.specs.Listed.{sources_in}
 use Rattle.chk_archive.specs.Starts.{HaveStartsIn, ToldOtherStart}

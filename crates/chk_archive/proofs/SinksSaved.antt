@@ -15,9 +15,9 @@ use Rattle.chk_world.specs.Committed.{sink_chunks, aside_chunks, archived_end}
 use Rattle.chk_world.specs.Streams.{start_of}
 use Rattle.chk_world.specs.ArchiveRuns.{Listing, in_order, found, sink_path, listed_chunks}
 use Rattle.chk_world.specs.Sight.{Sight, shows_done, own_aside, own_archive}
-use Rattle.chk_plan.specs.Plan.{ends_of, set_aside}
-use Rattle.chk_plan.proofs.Runs.{put_all}
-use Rattle.chk_plan.proofs.SetAside.{saved}
+use Rattle.chk_archive_plan.specs.Plan.{ends_of, set_aside}
+use Rattle.chk_archive_plan.proofs.Runs.{put_all}
+use Rattle.chk_archive_plan.proofs.SetAside.{saved}
 use Rattle.chk_archive.specs.Listed.{IsListed}
 use Rattle.chk_archive.specs.Sinks.{MayGo}
 use Rattle.chk_archive.specs.Taking.{TookAll}

@@ -4,15 +4,15 @@ use Rattle.std.specs.Prelude.{◌&&◌, IfErr, OnOk, count_by}
 use Rattle.chk_site.specs.declared.acts.OutsideFault.{OutsideFault}
 use Rattle.chk_site.specs.declared.acts.OutsideFault.TheVariants.{Outside as site_failed, NoMemory as no_memory}
 use Rattle.chk_world.specs.Books.{End, Book, is_nothing}
-use Rattle.chk_heads.specs.Heads.{Head}
-use Rattle.chk_heads.specs.Faults.{job_fault, IsOfRead}
-use Rattle.chk_heads.specs.declared.fault.JobFault.{JobFault}
-use Rattle.chk_heads.specs.declared.fault.JobFault.TheVariants.{Outside, Damaged, Spent, NoMemory}
+use Rattle.chk_record_index.specs.Heads.{Head}
+use Rattle.chk_record_index.specs.Faults.{job_fault, IsOfRead}
+use Rattle.chk_record_index.specs.declared.fault.JobFault.{JobFault}
+use Rattle.chk_record_index.specs.declared.fault.JobFault.TheVariants.{Outside, Damaged, Spent, NoMemory}
 use Rattle.chk_book.specs.Causes.{SpentBook}
-use Rattle.chk_heads.specs.Order.{in_head_order}
-use Rattle.chk_parts.specs.Cuts.{AreWithin}
-use Rattle.chk_parts.specs.Kept.{is_first, are_old_aside, KeepsFirsts}
-use Rattle.chk_parts.specs.declared.cuts.Cut.{Cut}
+use Rattle.chk_record_index.specs.Order.{in_head_order}
+use Rattle.chk_archive_parts.specs.Cuts.{AreWithin}
+use Rattle.chk_archive_parts.specs.Kept.{is_first, are_old_aside, KeepsFirsts}
+use Rattle.chk_archive_parts.specs.declared.cuts.Cut.{Cut}
 use Rattle.chk_archive.specs.Starts.{ToldOtherStart}
 use Rattle.chk_archive.specs.Taking.{IsPlanned, stays_aside}
 use Rattle.chk_archive.specs.declared.taking.Planned.{Planned}

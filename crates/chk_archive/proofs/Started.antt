@@ -16,7 +16,7 @@ use Rattle.chk_world.specs.Books.{Book, book_of, book_in}
 use Rattle.chk_world.specs.Places.{As, Foreign}
 use Rattle.chk_world.specs.Rules.{Legal}
 use Rattle.chk_world.specs.Sight.{job, AtJob}
-use Rattle.chk_heads.specs.Pieces.{AsksInPieces}
+use Rattle.chk_record_index.specs.Pieces.{AsksInPieces}
 use Rattle.chk_world.specs.JobSteps.{IsOf}
 use Rattle.chk_world.proofs.Frames.{files_stay}
 use Rattle.chk_world.proofs.OwnFiles.{done_file, refused_file}
@@ -24,7 +24,7 @@ use Rattle.chk_world.proofs.ToldCalls.{owned, told_start}
 use Rattle.chk_archive.specs.Archived.{Begun}
 use Rattle.chk_archive.specs.Beginning.{HasStartedSo, Begins, starts}
 use Rattle.chk_archive.specs.Tidying.{HasBook}
-use Rattle.chk_parts.proofs.Beginning.{no_read, StartQ}
+use Rattle.chk_archive_parts.proofs.Beginning.{no_read, StartQ}
 
 module _ (stamped : List (List ℕ)) (loaded : Book) where
   -- others leave it

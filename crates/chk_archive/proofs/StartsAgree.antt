@@ -6,17 +6,17 @@ use Rattle.chk_world.specs.Books.{End}
 use Rattle.chk_world.specs.Sight.{Sight}
 use Rattle.chk_world.proofs.Each.{Each}
 use Rattle.chk_world.proofs.NameTests.{streams_same}
-use Rattle.chk_heads.specs.Heads.{Head}
-use Rattle.chk_heads.specs.declared.fault.JobFault.{JobFault}
-use Rattle.chk_heads.specs.declared.fault.JobFault.TheVariants.{Outside, Damaged, Spent, NoMemory}
-use Rattle.chk_heads.specs.Faults.{IsOfRead}
-use Rattle.chk_plan.specs.Passes.{head_in}
-use Rattle.chk_plan.specs.declared.spans.Known.{Known}
-use Rattle.chk_plan.specs.Starts.{first_start, start_known, HasStart, HaveStarts, IsOtherStart}
-use Rattle.chk_plan.proofs.Parts.{stream_self}
-use Rattle.chk_parts.specs.Records.{IsRecordOf, AreRecords}
+use Rattle.chk_record_index.specs.Heads.{Head}
+use Rattle.chk_record_index.specs.declared.fault.JobFault.{JobFault}
+use Rattle.chk_record_index.specs.declared.fault.JobFault.TheVariants.{Outside, Damaged, Spent, NoMemory}
+use Rattle.chk_record_index.specs.Faults.{IsOfRead}
+use Rattle.chk_archive_plan.specs.Passes.{head_in}
+use Rattle.chk_archive_plan.specs.declared.spans.Known.{Known}
+use Rattle.chk_archive_plan.specs.Starts.{first_start, start_known, HasStart, HaveStarts, IsOtherStart}
+use Rattle.chk_archive_plan.proofs.Parts.{stream_self}
+use Rattle.chk_archive_parts.specs.Records.{IsRecordOf, AreRecords}
 use Rattle.chk_archive.specs.Starts.{start_in, HasStartIn, HaveStartsIn, IsOtherStartIn, ToldOtherStart}
-use Rattle.chk_merge.specs.Archives.{IsHeadFault}
+use Rattle.chk_record_reader.specs.Archives.{IsHeadFault}
 
 module _ (start : Stream → ℕ) where
   abbrev pub EndStarts : End → Type 0

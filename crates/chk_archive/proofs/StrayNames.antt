@@ -12,7 +12,7 @@ use Rattle.chk_bytes.specs.Stems.{is_count}
 use Rattle.chk_bytes.proofs.WordLemmas.{plain_word, plain-append}
 use Rattle.chk_bytes.proofs.StemLemmas.{decimal_plain}
 use Rattle.chk_bytes.proofs.DecimalLemmas.{plain_number-Some}
-use Rattle.chk_message.proofs.Apart.{no_mark}
+use Rattle.chk_http_grammar.proofs.Apart.{no_mark}
 use Rattle.chk_site.specs.Honest.{in_folder}
 use Rattle.chk_world.specs.Names.{ArchiveFolder, SegmentFile, spell}
 use Rattle.chk_world.specs.Books.{Book}

@@ -23,32 +23,32 @@ use Rattle.chk_world.specs.Sight.{job, Sight, sight, own_files, own_book, own_ch
 use Rattle.chk_world.specs.JobSteps.{IsOf}
 use Rattle.chk_world.proofs.Segments.{flat_same, data_self}
 use Rattle.chk_world.proofs.OwnArchive.{own_archive_is, own_aside_is}
-use Rattle.chk_heads.specs.Faults.{job_fault, IsOfRead}
-use Rattle.chk_heads.specs.declared.fault.JobFault.{JobFault}
-use Rattle.chk_heads.specs.declared.fault.JobFault.TheVariants.{Outside, Damaged, Spent, NoMemory}
-use Rattle.chk_plan.specs.Plan.{parts_of, ends_of, set_aside}
-use Rattle.chk_parts.specs.declared.cuts.Cut.{Cut}
-use Rattle.chk_heads.specs.Heads.{Head}
-use Rattle.chk_parts.specs.Cuts.{cut_chunks, AreWithin}
-use Rattle.chk_parts.specs.Kept.{is_first, are_old_aside, past_chunks, KeptTold, IsFirst}
-use Rattle.chk_parts.proofs.KeptOnce.{Differ, once_differ}
+use Rattle.chk_record_index.specs.Faults.{job_fault, IsOfRead}
+use Rattle.chk_record_index.specs.declared.fault.JobFault.{JobFault}
+use Rattle.chk_record_index.specs.declared.fault.JobFault.TheVariants.{Outside, Damaged, Spent, NoMemory}
+use Rattle.chk_archive_plan.specs.Plan.{parts_of, ends_of, set_aside}
+use Rattle.chk_archive_parts.specs.declared.cuts.Cut.{Cut}
+use Rattle.chk_record_index.specs.Heads.{Head}
+use Rattle.chk_archive_parts.specs.Cuts.{cut_chunks, AreWithin}
+use Rattle.chk_archive_parts.specs.Kept.{is_first, are_old_aside, past_chunks, KeptTold, IsFirst}
+use Rattle.chk_archive_parts.proofs.KeptOnce.{Differ, once_differ}
 use Rattle.chk_archive.specs.Starts.{HaveStartsIn, ToldOtherStart}
 use Rattle.chk_archive.proofs.StartsAgree.{starts_of_records, no_other_start}
-use Rattle.chk_plan.specs.declared.spans.Span.{Span}
-use Rattle.chk_plan.specs.Passes.{AreSpans}
-use Rattle.chk_plan.proofs.Runs.{all_put}
-use Rattle.chk_heads.specs.Order.{in_head_order}
+use Rattle.chk_archive_plan.specs.declared.spans.Span.{Span}
+use Rattle.chk_archive_plan.specs.Passes.{AreSpans}
+use Rattle.chk_archive_plan.proofs.Runs.{all_put}
+use Rattle.chk_record_index.specs.Order.{in_head_order}
 use Rattle.chk_world.proofs.BooksTrue.{has_start_is}
 use Rattle.chk_world.proofs.Each.{Each, each_from}
-use Rattle.chk_parts.specs.Gathering.{heads_of, Found}
-use Rattle.chk_parts.specs.Records.{AreRecords}
-use Rattle.chk_parts.specs.Writes.{HoldsChunks}
-use Rattle.chk_parts.proofs.OneFile.{Knows}
-use Rattle.chk_parts.proofs.FromKnown.{from_known, reach, reach_known}
+use Rattle.chk_archive_parts.specs.Gathering.{heads_of, Found}
+use Rattle.chk_archive_parts.specs.Records.{AreRecords}
+use Rattle.chk_archive_parts.specs.Writes.{HoldsChunks}
+use Rattle.chk_archive_parts.proofs.OneFile.{Knows}
+use Rattle.chk_archive_parts.proofs.FromKnown.{from_known, reach, reach_known}
 use Rattle.chk_archive.specs.Archived.{ReplacesBook, MergesBy, merge_replaces}
 use Rattle.chk_archive.specs.Listed.{IsListed, sources_in}
-use Rattle.chk_parts.specs.Publishing.{IsPublished, MayFollow, Published}
-use Rattle.chk_parts.proofs.Published.{replaces_no_start, quiet_replace}
+use Rattle.chk_archive_parts.specs.Publishing.{IsPublished, MayFollow, Published}
+use Rattle.chk_archive_parts.proofs.Published.{replaces_no_start, quiet_replace}
 use Rattle.chk_archive.specs.declared.taking.Planned.{Planned}
 use Rattle.chk_archive.specs.Taking.{AreSorted, IsPlanned, CanPrepare, MayFollowIf, PartsAdded, nothing_taken, one_added, AsideNamed, none_kept, old_kept, new_kept, asked, IsReady, Prepared, stays_aside, TookAll, TookSo}
 use Rattle.chk_archive.specs.Sinks.{as_sight}
@@ -56,7 +56,7 @@ use Rattle.chk_archive.specs.Written.{one_for, same_chunks, one_aside, taken_par
 use Rattle.chk_archive.specs.declared.taking.Taken.{Taken}
 use Rattle.chk_archive.proofs.ByStream.{SameByStream}
 use Rattle.chk_archive.proofs.Listings.{legal_then, own_then}
-use Rattle.chk_merge.proofs.BothLimits.{limits_agree}
+use Rattle.chk_record_reader.proofs.BothLimits.{limits_agree}
 use Rattle.chk_archive.proofs.FoundSources.{K, founded, true_book}
 use Rattle.chk_archive.proofs.NextBook.{Ends, Cs, may_follow, now_reached}
 use Rattle.chk_archive.proofs.Preparing.{below_book, below_segment}

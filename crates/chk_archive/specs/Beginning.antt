@@ -7,10 +7,10 @@ use Rattle.chk_world.specs.Books.{Book}
 use Rattle.chk_world.specs.Rules.{Legal}
 use Rattle.chk_world.specs.Places.{AtTold}
 use Rattle.chk_world.specs.Sight.{job, own_book, AtJob}
-use Rattle.chk_heads.specs.declared.fault.JobFault.{JobFault}
-use Rattle.chk_heads.specs.declared.fault.JobFault.TheVariants.{Damaged}
+use Rattle.chk_record_index.specs.declared.fault.JobFault.{JobFault}
+use Rattle.chk_record_index.specs.declared.fault.JobFault.TheVariants.{Damaged}
 use Rattle.chk_archive.specs.Tidying.{HasBook}
-pub use Rattle.chk_merge.specs.Courses.{Begins, starts, only_reads}
+pub use Rattle.chk_record_reader.specs.Courses.{Begins, starts, only_reads}
 
 -- at Ok the job may act, and the archive has the book that it had; else the history is legal
 abbrev pub HasStartedSo : {T : Type 0} → List (List ℕ) → Book → Result T OutsideFault → History

@@ -6,13 +6,13 @@ use Rattle.chk_chunk.specs.Keys.{Chunk}
 use Rattle.chk_world.specs.ArchiveRuns.{in_order, once}
 use Rattle.chk_world.specs.Books.{Book}
 use Rattle.chk_world.specs.Sight.{Sight}
-use Rattle.chk_heads.specs.Heads.{Head}
-use Rattle.chk_heads.specs.Order.{in_head_order}
-use Rattle.chk_heads.specs.declared.fault.JobFault.{JobFault}
-use Rattle.chk_merge.specs.Segments.{HasFiles, SparesFiles, AreSettled}
-use Rattle.chk_parts.specs.Gathering.{held, AreSound, heads_of}
-use Rattle.chk_parts.specs.Kept.{past_chunks}
-use Rattle.chk_parts.specs.Records.{found_in}
+use Rattle.chk_record_index.specs.Heads.{Head}
+use Rattle.chk_record_index.specs.Order.{in_head_order}
+use Rattle.chk_record_index.specs.declared.fault.JobFault.{JobFault}
+use Rattle.chk_record_reader.specs.Segments.{HasFiles, SparesFiles, AreSettled}
+use Rattle.chk_archive_parts.specs.Gathering.{held, AreSound, heads_of}
+use Rattle.chk_archive_parts.specs.Kept.{past_chunks}
+use Rattle.chk_archive_parts.specs.Records.{found_in}
 use Rattle.chk_archive.specs.Listed.{sources_in}
 use Rattle.chk_archive.specs.Shown.{ShowsLoaded, IsInHand, GaveNames}
 use Rattle.chk_archive.specs.Taking.{IsPlanned}

@@ -1,6 +1,6 @@
 -- What the struct of a report stands for.
 use Rattle.std.specs.Prelude.{map, Result, Ok, Err}
-use Rattle.chk_heads.specs.declared.fault.JobFault.{JobFault}
+use Rattle.chk_record_index.specs.declared.fault.JobFault.{JobFault}
 use Rattle.chk_book.specs.Views.{end_view}
 use Rattle.chk_archive.specs.Reports.{Report}
 use Rattle.chk_archive.specs.declared.report.Report.{Report as Struct}

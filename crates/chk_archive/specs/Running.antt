@@ -5,7 +5,7 @@ use Rattle.chk_site.specs.History.{History}
 use Rattle.chk_world.specs.ArchiveRuns.{is_closed, sink_path}
 use Rattle.chk_world.specs.Books.{Book}
 use Rattle.chk_world.specs.Sight.{AtJob}
-use Rattle.chk_heads.specs.declared.fault.JobFault.{JobFault}
+use Rattle.chk_record_index.specs.declared.fault.JobFault.{JobFault}
 use Rattle.chk_archive.specs.Archived.{Archived, MergesBy}
 use Rattle.chk_archive.specs.Merged.{IsMerged}
 

@@ -6,18 +6,18 @@ use Rattle.chk_site.specs.Site.{Calls, names_given}
 use Rattle.chk_chunk.specs.Keys.{chunk_limit}
 use Rattle.chk_world.specs.Books.{End, Book}
 use Rattle.chk_world.specs.Sight.{job}
-use Rattle.chk_heads.specs.Heads.{Head}
-use Rattle.chk_heads.specs.Order.{in_head_order}
-use Rattle.chk_heads.specs.Shown.{Within}
-use Rattle.chk_heads.specs.ShownHeads.{ShowAll, ShowsBad}
-use Rattle.chk_heads.specs.Causes.{Shows}
-use Rattle.chk_heads.specs.declared.fault.JobFault.{JobFault}
-use Rattle.chk_heads.specs.declared.fault.JobFault.TheVariants.{Damaged, Spent}
+use Rattle.chk_record_index.specs.Heads.{Head}
+use Rattle.chk_record_index.specs.Order.{in_head_order}
+use Rattle.chk_record_index.specs.Shown.{Within}
+use Rattle.chk_record_index.specs.ShownHeads.{ShowAll, ShowsBad}
+use Rattle.chk_record_index.specs.Causes.{Shows}
+use Rattle.chk_record_index.specs.declared.fault.JobFault.{JobFault}
+use Rattle.chk_record_index.specs.declared.fault.JobFault.TheVariants.{Damaged, Spent}
 use Rattle.chk_book.specs.Loaded.{ShowsBook}
-use Rattle.chk_merge.specs.Gone.{IsGoneIn, IsUnsound}
-use Rattle.chk_parts.specs.Cuts.{AreWithin}
-use Rattle.chk_parts.specs.Kept.{is_first, KeepsFirsts}
-use Rattle.chk_parts.specs.declared.cuts.Cut.{Cut}
+use Rattle.chk_record_reader.specs.Gone.{IsGoneIn, IsUnsound}
+use Rattle.chk_archive_parts.specs.Cuts.{AreWithin}
+use Rattle.chk_archive_parts.specs.Kept.{is_first, KeepsFirsts}
+use Rattle.chk_archive_parts.specs.declared.cuts.Cut.{Cut}
 use Rattle.chk_archive.specs.Taking.{IsPlanned, stays_aside}
 use Rattle.chk_archive.specs.declared.taking.Planned.{Planned}
 use Rattle.chk_archive.specs.Starts.{HaveStartsIn, ToldOtherStart}

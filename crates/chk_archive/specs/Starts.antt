@@ -2,12 +2,12 @@
 use Rattle.std.specs.Prelude.{◌≡◌, ◌<◌, ℕ, List, [], ◌∷◌, length, if◌then◌else◌}
 use Rattle.chk_chunk.specs.Keys.{Stream, same_stream}
 use Rattle.chk_world.specs.Books.{End}
-use Rattle.chk_heads.specs.Heads.{Head}
-use Rattle.chk_heads.specs.declared.fault.JobFault.{JobFault}
-use Rattle.chk_heads.specs.declared.fault.JobFault.TheVariants.{Damaged, NoMemory}
-use Rattle.chk_plan.specs.Passes.{head_in}
-use Rattle.chk_plan.specs.Starts.{first_start}
-use Rattle.chk_parts.specs.Fetching.{head_file}
+use Rattle.chk_record_index.specs.Heads.{Head}
+use Rattle.chk_record_index.specs.declared.fault.JobFault.{JobFault}
+use Rattle.chk_record_index.specs.declared.fault.JobFault.TheVariants.{Damaged, NoMemory}
+use Rattle.chk_archive_plan.specs.Passes.{head_in}
+use Rattle.chk_archive_plan.specs.Starts.{first_start}
+use Rattle.chk_archive_parts.specs.Fetching.{head_file}
 
 -- the start of a stream in a list of ends, or this one
 abbrev pub start_in : ℕ → List End → Stream → ℕ

@@ -5,7 +5,7 @@ use Rattle.chk_bytes.specs.Stems.{Stem}
 use Rattle.chk_site.specs.Files.{Files}
 use Rattle.chk_site.specs.History.{History}
 use Rattle.chk_chunk.specs.Keys.{Stream, Chunk, chunk_limit}
-use Rattle.chk_merge.specs.Segments.{heads_from, IsBadFile}
+use Rattle.chk_record_reader.specs.Segments.{heads_from, IsBadFile}
 use Rattle.chk_archive.specs.Starts.{HaveStartsIn, ToldOtherStart}
 use Rattle.chk_world.specs.Names.{Name, ArchiveFolder, SegmentFile, read}
 use Rattle.chk_world.specs.Books.{Segment, End, Book, is_nothing}
@@ -15,25 +15,25 @@ use Rattle.chk_world.specs.ArchiveRuns.{Listing, in_order, found, total_gain}
 use Rattle.chk_world.specs.Rules.{Legal}
 use Rattle.chk_world.specs.Places.{AtTold}
 use Rattle.chk_world.specs.Sight.{job, Sight, own_book, own_archive, own_aside, AtJob}
-use Rattle.chk_heads.specs.Heads.{Head}
-use Rattle.chk_heads.specs.declared.fault.JobFault.{JobFault}
-use Rattle.chk_heads.specs.declared.fault.JobFault.TheVariants.{Damaged, Spent}
+use Rattle.chk_record_index.specs.Heads.{Head}
+use Rattle.chk_record_index.specs.declared.fault.JobFault.{JobFault}
+use Rattle.chk_record_index.specs.declared.fault.JobFault.TheVariants.{Damaged, Spent}
 use Rattle.chk_book.specs.Books.{end_in}
 use Rattle.chk_book.specs.Segmenting.{raised_all, with_segment}
-use Rattle.chk_plan.specs.Passes.{begins_at, AreSpans}
-use Rattle.chk_plan.specs.Laws.{span_gain}
-use Rattle.chk_plan.specs.Plan.{ends_of, set_aside}
-use Rattle.chk_plan.specs.declared.spans.Known.{Known}
-use Rattle.chk_plan.specs.declared.spans.Span.{Span}
-use Rattle.chk_parts.specs.Cuts.{AreWithin, span_cuts}
-use Rattle.chk_heads.specs.Order.{in_head_order}
-use Rattle.chk_parts.specs.Gathering.{heads_of}
-use Rattle.chk_parts.specs.Kept.{AreSpansWithin, is_first, are_old_aside}
-use Rattle.chk_parts.specs.declared.cuts.Cut.{Cut}
+use Rattle.chk_archive_plan.specs.Passes.{begins_at, AreSpans}
+use Rattle.chk_archive_plan.specs.Laws.{span_gain}
+use Rattle.chk_archive_plan.specs.Plan.{ends_of, set_aside}
+use Rattle.chk_archive_plan.specs.declared.spans.Known.{Known}
+use Rattle.chk_archive_plan.specs.declared.spans.Span.{Span}
+use Rattle.chk_archive_parts.specs.Cuts.{AreWithin, span_cuts}
+use Rattle.chk_record_index.specs.Order.{in_head_order}
+use Rattle.chk_archive_parts.specs.Gathering.{heads_of}
+use Rattle.chk_archive_parts.specs.Kept.{AreSpansWithin, is_first, are_old_aside}
+use Rattle.chk_archive_parts.specs.declared.cuts.Cut.{Cut}
 use Rattle.chk_archive.specs.Numbers.{Numbered}
 use Rattle.chk_archive.specs.Written.{one_for, taken_parts, needed_behind}
-use Rattle.chk_parts.specs.Publishing.{MayFollow}
-use Rattle.chk_parts.specs.Writes.{HoldsChunks}
+use Rattle.chk_archive_parts.specs.Publishing.{MayFollow}
+use Rattle.chk_archive_parts.specs.Writes.{HoldsChunks}
 use Rattle.chk_archive.specs.declared.taking.Planned.{Planned}
 use Rattle.chk_archive.specs.declared.taking.Taken.{Taken}
 

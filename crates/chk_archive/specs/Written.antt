@@ -8,7 +8,7 @@ use Rattle.chk_world.specs.Names.{ArchiveFolder}
 use Rattle.chk_world.specs.Books.{Segment, Book, book_of, segment_chunks, chunks_named}
 use Rattle.chk_world.specs.Committed.{aside_chunks, archived_end}
 use Rattle.chk_world.specs.ArchiveRuns.{Listing, last_listing, in_order, found}
-use Rattle.chk_plan.specs.Plan.{parts_of, ends_of, set_aside}
+use Rattle.chk_archive_plan.specs.Plan.{parts_of, ends_of, set_aside}
 
 -- ---- what is written
 

@@ -8,15 +8,15 @@ ghost use Rattle.chk_world.specs.Books.{Book as Parts};
 ghost use Rattle.chk_world.specs.Places.{As};
 ghost use Rattle.chk_world.specs.Sight.{job};
 ghost use Rattle.chk_world.specs.JobSteps.{IsOf};
-ghost use Rattle.chk_heads.specs.Faults.{JobCause, FailsLast, IsOfRead};
-ghost use Rattle.chk_heads.specs.Pieces.{AsksInPieces};
+ghost use Rattle.chk_record_index.specs.Faults.{JobCause, FailsLast, IsOfRead};
+ghost use Rattle.chk_record_index.specs.Pieces.{AsksInPieces};
 ghost use Rattle.chk_archive.specs.Shown.{ShowsBegun};
 ghost use Rattle.chk_book.specs.Loaded.{book_result};
 ghost use Rattle.chk_archive.specs.Archived.{Begun};
 ghost use Rattle.chk_archive.specs.Beginning.{HasStartedSo, HasBegun, Begins};
 
 use chk_book::{Book, load_book};
-use chk_heads::JobFault;
+use chk_record_index::JobFault;
 use chk_site::{Call, OutsideFault, Site, Who, done};
 use std::alloc::Global;
 

@@ -2,15 +2,15 @@
 
 ghost use Rattle.std.specs.Prelude.{◌≡◌, ℕ, IfOk};
 ghost use Rattle.chk_chunk.specs.Keys.{Stream};
-ghost use Rattle.chk_heads.specs.Heads.{Head};
-ghost use Rattle.chk_plan.specs.Passes.{begins_at};
-ghost use Rattle.chk_plan.specs.Starts.{start_known};
+ghost use Rattle.chk_record_index.specs.Heads.{Head};
+ghost use Rattle.chk_archive_plan.specs.Passes.{begins_at};
+ghost use Rattle.chk_archive_plan.specs.Starts.{start_known};
 ghost use Rattle.chk_book.specs.Books.{book_view, end_in};
 ghost use Rattle.chk_archive.specs.Starts.{start_in};
 
+use chk_archive_plan::Known;
 use chk_book::Book;
 use chk_bytes::NoMemory;
-use chk_plan::Known;
 use std::alloc::Global;
 
 /// The starts and ends of a book's streams, in its order. It costs the number of streams.

@@ -17,5 +17,5 @@ mod taking;
 mod tidying;
 
 pub use archiving::archive;
-pub use chk_heads::JobFault;
+pub use chk_record_index::JobFault;
 pub use report::Report;

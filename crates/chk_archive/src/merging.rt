@@ -7,20 +7,20 @@ ghost use Rattle.chk_site.specs.Runs.{Leads};
 ghost use Rattle.chk_world.specs.Places.{As};
 ghost use Rattle.chk_world.specs.Sight.{job, AtJob};
 ghost use Rattle.chk_world.specs.JobSteps.{IsOf};
-ghost use Rattle.chk_heads.specs.Faults.{JobCause, FailsLast};
-ghost use Rattle.chk_heads.specs.Pieces.{AsksInPieces};
-ghost use Rattle.chk_heads.specs.Causes.{Shows};
-ghost use Rattle.chk_merge.specs.Gone.{IsUnsound};
+ghost use Rattle.chk_record_index.specs.Faults.{JobCause, FailsLast};
+ghost use Rattle.chk_record_index.specs.Pieces.{AsksInPieces};
+ghost use Rattle.chk_record_index.specs.Causes.{Shows};
+ghost use Rattle.chk_record_reader.specs.Gone.{IsUnsound};
 ghost use Rattle.chk_book.specs.Books.{book_view};
 ghost use Rattle.chk_archive.specs.Shown.{IfSpent, IsAtLast};
 ghost use Rattle.chk_archive.specs.Tidying.{IsTidy};
 ghost use Rattle.chk_archive.specs.Archived.{MergesBy};
 ghost use Rattle.chk_archive.specs.Merged.{Merged};
 
+use chk_archive_merge::merge;
+use chk_archive_parts::publish_next;
 use chk_book::Book;
-use chk_cursors::merge;
-use chk_heads::JobFault;
-use chk_parts::publish_next;
+use chk_record_index::JobFault;
 use chk_site::{Site, Who};
 use std::alloc::Global;
 

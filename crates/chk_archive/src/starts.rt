@@ -1,17 +1,17 @@
 //! Whether all records have the starts of their streams.
 
 ghost use Rattle.std.specs.Prelude.{◌≡◌, List, OnOk, IfErr};
-ghost use Rattle.chk_heads.specs.Heads.{Head};
-ghost use Rattle.chk_heads.specs.Order.{in_head_order};
+ghost use Rattle.chk_record_index.specs.Heads.{Head};
+ghost use Rattle.chk_record_index.specs.Order.{in_head_order};
 ghost use Rattle.chk_book.specs.Books.{book_view};
 ghost use Rattle.chk_archive.specs.Starts.{HaveStartsIn, ToldOtherStart};
 
 use crate::known::known_ends;
+use chk_archive_plan::other_start;
 use chk_book::Book;
 use chk_bytes::Word;
-use chk_heads::{Heads, JobFault};
-use chk_merge::head_fault;
-use chk_plan::other_start;
+use chk_record_index::{Heads, JobFault};
+use chk_record_reader::head_fault;
 use std::alloc::Global;
 
 /// Whether each record, of which heads are given in order, has its stream's start: the one in the book or, where the book hasn't

@@ -11,41 +11,41 @@ ghost use Rattle.chk_world.specs.Places.{As};
 ghost use Rattle.chk_world.specs.Sight.{job, Sight, own_book, AtJob};
 ghost use Rattle.chk_world.specs.JobSteps.{IsOf};
 ghost use Rattle.chk_world.specs.Names.{ArchiveFolder};
-ghost use Rattle.chk_heads.specs.Faults.{JobCause, FailsLast};
-ghost use Rattle.chk_heads.specs.Pieces.{AsksInPieces};
-ghost use Rattle.chk_heads.specs.Causes.{Shows};
-ghost use Rattle.chk_merge.specs.Gone.{IsGoneIn};
+ghost use Rattle.chk_record_index.specs.Faults.{JobCause, FailsLast};
+ghost use Rattle.chk_record_index.specs.Pieces.{AsksInPieces};
+ghost use Rattle.chk_record_index.specs.Causes.{Shows};
+ghost use Rattle.chk_record_reader.specs.Gone.{IsGoneIn};
 ghost use Rattle.chk_archive.specs.Shown.{IsUnfit, ShowsTaken, IfSpent, IsAtLast, number_for, LacksFor, LacksOver, LacksOne};
 ghost use Rattle.chk_book.specs.Books.{book_view};
-ghost use Rattle.chk_merge.specs.Segments.{HasFiles, SparesFiles, AreSettled};
-ghost use Rattle.chk_parts.specs.Cuts.{AreWithin, cut_chunks};
-ghost use Rattle.chk_parts.specs.Kept.{IsFirst};
-ghost use Rattle.chk_parts.specs.Records.{AreRecords, found_in};
+ghost use Rattle.chk_record_reader.specs.Segments.{HasFiles, SparesFiles, AreSettled};
+ghost use Rattle.chk_archive_parts.specs.Cuts.{AreWithin, cut_chunks};
+ghost use Rattle.chk_archive_parts.specs.Kept.{IsFirst};
+ghost use Rattle.chk_archive_parts.specs.Records.{AreRecords, found_in};
 ghost use Rattle.chk_archive.specs.Holding.{HoldsOnce};
 ghost use Rattle.chk_archive.specs.Archived.{MergesBy, ReplacesBook};
 ghost use Rattle.chk_archive.specs.Listed.{IsListed, sources_in};
-ghost use Rattle.chk_parts.specs.Gathering.{held, AreSound, heads_of};
+ghost use Rattle.chk_archive_parts.specs.Gathering.{held, AreSound, heads_of};
 ghost use Rattle.chk_archive.specs.Starts.{HaveStartsIn, ToldOtherStart};
-ghost use Rattle.chk_heads.specs.Order.{in_head_order};
+ghost use Rattle.chk_record_index.specs.Order.{in_head_order};
 ghost use Rattle.chk_world.specs.ArchiveRuns.{in_order, found};
 ghost use Rattle.chk_archive.specs.Written.{kept_aside};
-ghost use Rattle.chk_parts.specs.Publishing.{Published};
+ghost use Rattle.chk_archive_parts.specs.Publishing.{Published};
 ghost use Rattle.chk_archive.specs.Numbers.{Numbered};
-ghost use Rattle.chk_parts.specs.Writes.{IsFree};
+ghost use Rattle.chk_archive_parts.specs.Writes.{IsFree};
 ghost use Rattle.chk_archive.specs.Taking.{IsPlanned, IsCut, AreSorted, CanPrepare, IsWhole, Prepared, PartsTaken, AsideKept, stays_aside, MayFollowIf, TookSo, ReadSources};
 
 use crate::counting::count_of;
 use crate::known::known_ends;
 use crate::sources::sources;
 use crate::starts::check_starts;
-use chk_book::Book;
-use chk_bytes::{NoMemory, Word};
-use chk_heads::{Heads, JobFault};
-use chk_parts::{
+use chk_archive_parts::{
     Cut, Cuts, Purpose, add_segment, count_first, cuts_of, gather_found, is_old_aside, kept_of,
     publish_next,
 };
-use chk_plan::{Span, plan, taken};
+use chk_archive_plan::{Span, plan, taken};
+use chk_book::Book;
+use chk_bytes::{NoMemory, Word};
+use chk_record_index::{Heads, JobFault};
 use chk_site::{OutsideFault, Site, Who};
 use std::alloc::Global;
 

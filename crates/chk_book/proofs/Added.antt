@@ -14,9 +14,9 @@ use Rattle.chk_chunk.specs.declared.Chunk.{Chunk as OwnedChunk}
 use Rattle.chk_chunk.specs.Lent.{chunk_of, chunks_of}
 use Rattle.chk_world.specs.Books.{Book}
 use Rattle.chk_world.specs.JobSteps.{IsOf, WritesTo, SparesFile}
-use Rattle.chk_heads.specs.declared.fault.JobFault.{JobFault}
-use Rattle.chk_heads.specs.declared.fault.JobFault.TheVariants.{Outside, Damaged, Spent, NoMemory}
-use Rattle.chk_heads.specs.Faults.{FailsLast, JobCause, IsOfBegin, IsOfWrite}
+use Rattle.chk_record_index.specs.declared.fault.JobFault.{JobFault}
+use Rattle.chk_record_index.specs.declared.fault.JobFault.TheVariants.{Outside, Damaged, Spent, NoMemory}
+use Rattle.chk_record_index.specs.Faults.{FailsLast, JobCause, IsOfBegin, IsOfWrite}
 use Rattle.chk_book.specs.declared.segmenter.Segmenter.{Segmenter}
 use Rattle.chk_book.specs.Folders.{segment_name, most_in}
 use Rattle.chk_book.specs.Segmenting.{Writing, all_bytes, IsSegmentOf, segment_of, with_segment}

@@ -5,7 +5,7 @@ use Rattle.std.proofs.Math.Seq.{drop-cons, take-suc}
 use Rattle.std.proofs.lemmas.List.{take-append-drop, take-set, drop-set, take-map, drop-map, drop_all, map-append, length-drop, length-map}
 use Rattle.std.proofs.lemmas.Bool.{cases_lt}
 use Rattle.chk_chunk.specs.Keys.{Stream, same_stream, stream_lt}
-use Rattle.chk_heads.proofs.Orders.{streams}
+use Rattle.chk_record_index.proofs.Orders.{streams}
 use Rattle.chk_world.specs.Books.{End}
 use Rattle.chk_book.specs.declared.lists.End.{End as EndStruct}
 use Rattle.chk_book.specs.Views.{end_view}

@@ -2,7 +2,7 @@
 use Rattle.std.proofs.Common.{◌≡◌, ℕ, List, [], subst}
 use Rattle.std.specs.Prelude.{IsTrue}
 use Rattle.chk_chunk.specs.Keys.{Stream, Key, is_key, written_key}
-use Rattle.chk_last_key.proofs.LastKeys.{of_its_stream, none_is_but}
+use Rattle.chk_record_index.proofs.LastKeys.{of_its_stream, none_is_but}
 use Rattle.chk_book.specs.declared.lists.End.{End}
 use Rattle.chk_book.specs.Recent.{IsLast, IsRecent}
 

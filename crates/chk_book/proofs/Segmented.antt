@@ -17,8 +17,8 @@ use Rattle.chk_seqfile.specs.declared.writer.SeqWriter.{SeqWriter}
 use Rattle.chk_world.specs.Sight.{job}
 use Rattle.chk_world.specs.Books.{Book, End, Segment}
 use Rattle.chk_world.specs.JobSteps.{IsOf, WritesTo, SparesFile}
-use Rattle.chk_heads.specs.declared.fault.JobFault.{JobFault}
-use Rattle.chk_heads.specs.Faults.{job_fault, FailsLast, JobCause, IsOfBegin}
+use Rattle.chk_record_index.specs.declared.fault.JobFault.{JobFault}
+use Rattle.chk_record_index.specs.Faults.{job_fault, FailsLast, JobCause, IsOfBegin}
 use Rattle.chk_book.specs.declared.segmenter.Segmenter.{Segmenter}
 use Rattle.chk_book.specs.Causes.{SpentBook}
 use Rattle.chk_book.specs.Folders.{segment_name, segment_stem, most_in}

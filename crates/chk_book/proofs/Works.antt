@@ -5,10 +5,10 @@ use Rattle.chk_site.specs.History.{History, Every}
 use Rattle.chk_site.specs.Site.{Adds}
 use Rattle.chk_site.proofs.Runs.{adds_as, adds_both, adds_none}
 use Rattle.chk_world.specs.JobSteps.{IsOf}
-use Rattle.chk_heads.specs.Faults.{FailsLast, Worked}
-use Rattle.chk_heads.specs.Pieces.{AsksInPieces}
-use Rattle.chk_heads.specs.declared.fault.JobFault.{JobFault}
-use Rattle.chk_heads.proofs.Gathering.{every_then}
+use Rattle.chk_record_index.specs.Faults.{FailsLast, Worked}
+use Rattle.chk_record_index.specs.Pieces.{AsksInPieces}
+use Rattle.chk_record_index.specs.declared.fault.JobFault.{JobFault}
+use Rattle.chk_record_index.proofs.Gathering.{every_then}
 use Rattle.chk_book.proofs.Added.{fails_as, fails_later}
 
 pub worked : {T : Type 0} (K : Deed → Type 0) (r : Result T JobFault) {old new : Option History}

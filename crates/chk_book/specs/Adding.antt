@@ -3,7 +3,7 @@ use Rattle.std.specs.Prelude.{◌≡◌, ℕ, ◌&&◌, Bool, List, Result, Ok, 
 use Rattle.chk_site.specs.History.{History}
 use Rattle.chk_chunk.specs.Keys.{Chunk, is_key, has_value}
 use Rattle.chk_world.specs.Books.{Book}
-use Rattle.chk_heads.specs.declared.fault.JobFault.{JobFault}
+use Rattle.chk_record_index.specs.declared.fault.JobFault.{JobFault}
 use Rattle.chk_book.specs.Folders.{most_in}
 use Rattle.chk_book.specs.Segmenting.{Writing, all_bytes, IsSegmentOf, IsFinished, segment_of, with_segment}
 

@@ -4,9 +4,9 @@ use Rattle.chk_site.specs.Files.{File}
 use Rattle.chk_site.specs.History.{History}
 use Rattle.chk_replace.specs.Load.{Has}
 use Rattle.chk_world.specs.Books.{Book, read_book, empty_book, book_in}
-use Rattle.chk_heads.specs.declared.fault.JobFault.{JobFault}
-use Rattle.chk_heads.specs.declared.fault.JobFault.TheVariants.{Outside, Damaged, Spent, NoMemory}
-use Rattle.chk_heads.specs.Shown.{Shown, HasMissed}
+use Rattle.chk_record_index.specs.declared.fault.JobFault.{JobFault}
+use Rattle.chk_record_index.specs.declared.fault.JobFault.TheVariants.{Outside, Damaged, Spent, NoMemory}
+use Rattle.chk_record_index.specs.Shown.{Shown, HasMissed}
 use Rattle.chk_book.specs.Folders.{book_name}
 use Rattle.chk_book.specs.Damage.{book_damage}
 use Rattle.chk_book.specs.Books.{book_view}

@@ -1,7 +1,7 @@
 -- The stream of the last key is that of the last of the ends that are noted.
 use Rattle.std.specs.Prelude.{ℕ, ◌-◌, ◌<◌, List, length, slice_index_or, IsTrue}
 use Rattle.chk_chunk.specs.Keys.{Stream, Key, is_key, same_stream}
-use Rattle.chk_last_key.specs.LastKeys.{IsButSeq}
+use Rattle.chk_record_index.specs.LastKeys.{IsButSeq}
 use Rattle.chk_book.specs.declared.lists.End.{End}
 use Rattle.chk_book.specs.Views.{end_view}
 

@@ -5,7 +5,7 @@ use Rattle.chk_chunk.specs.Keys.{Chunk, written_key}
 use Rattle.chk_seqfile.specs.Entries.{piece_at}
 use Rattle.chk_seqfile.specs.Headers.{marker_of}
 use Rattle.chk_world.specs.Books.{Book, End}
-use Rattle.chk_heads.specs.declared.fault.JobFault.{JobFault}
+use Rattle.chk_record_index.specs.declared.fault.JobFault.{JobFault}
 use Rattle.chk_book.specs.declared.segmenter.Segmenter.{Segmenter}
 use Rattle.chk_book.specs.Folders.{segment_stem, most_in}
 use Rattle.chk_book.specs.Views.{end_view}

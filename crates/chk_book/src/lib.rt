@@ -14,7 +14,7 @@ mod segmenter;
 mod writing;
 
 pub use book::{Book, load_book};
-pub use chk_heads::JobFault;
+pub use chk_record_index::JobFault;
 pub use laws::books_have_no_damage;
 pub use lists::{End, Ends, Segment, Segments};
 pub use paths::{names_segment, segment_name, segment_number};

@@ -11,7 +11,7 @@ ghost use Rattle.chk_book.specs.Recent.{IsRecent};
 use crate::lists::Ends;
 use chk_bytes::NoMemory;
 use chk_chunk::ChunkRef;
-use chk_last_key::{LastKey, Written};
+use chk_record_index::{LastKey, Written};
 use std::alloc::Global;
 
 /// Makes the key the chunk's, and notes the end that the chunk gives its stream. Where the key is written over the last one, that

@@ -12,7 +12,7 @@ use crate::noting::note;
 use crate::{JobFault, names};
 use chk_bytes::{Bytes, LAST_NUMBER, NoMemory, Word};
 use chk_chunk::{Chunk, ChunkRef};
-use chk_last_key::LastKey;
+use chk_record_index::LastKey;
 use chk_seqfile::SeqWriter;
 use chk_site::{OutsideFault, Site, Who};
 use std::alloc::Global;
@@ -48,7 +48,7 @@ impl Book {
     ghost use Rattle.chk_site.specs.Runs.{anyhow, Leads};
     ghost use Rattle.chk_world.specs.Sight.{job};
     ghost use Rattle.chk_world.specs.JobSteps.{IsOf, WritesTo, SparesFile};
-    ghost use Rattle.chk_heads.specs.Faults.{JobCause, FailsLast, IsOfBegin};
+    ghost use Rattle.chk_record_index.specs.Faults.{JobCause, FailsLast, IsOfBegin};
     ghost use Rattle.chk_book.specs.Causes.{SpentBook};
     ghost use Rattle.chk_book.specs.Folders.{segment_name};
     ghost use Rattle.chk_book.specs.Books.{book_view};
@@ -131,7 +131,7 @@ impl Segmenter {
     ghost use Rattle.chk_chunk.specs.Lent.{lent_chunk};
     ghost use Rattle.chk_world.specs.Sight.{job};
     ghost use Rattle.chk_world.specs.JobSteps.{IsOf, WritesTo, SparesFile};
-    ghost use Rattle.chk_heads.specs.Faults.{JobCause, FailsLast, IsOfWrite};
+    ghost use Rattle.chk_record_index.specs.Faults.{JobCause, FailsLast, IsOfWrite};
     ghost use Rattle.chk_book.specs.Folders.{segment_name, most_in};
     ghost use Rattle.chk_book.specs.Books.{book_view};
     ghost use Rattle.chk_book.specs.Storing.{appending, ending};

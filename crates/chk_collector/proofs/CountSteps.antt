@@ -14,7 +14,7 @@ use Rattle.chk_site.specs.Site.{Adds}
 use Rattle.chk_site.specs.Runs.{Leads}
 use Rattle.chk_site.proofs.Leads.{leads_then, leads_as, leads_none}
 use Rattle.chk_site.proofs.Runs.{adds_none}
-use Rattle.chk_message.specs.Messages.{Ack, ack_of, ack_text, acks_text}
+use Rattle.chk_http_grammar.specs.Messages.{Ack, ack_of, ack_text, acks_text}
 use Rattle.chk_world.specs.Collectors.{Handling}
 use Rattle.chk_world.specs.Places.{As}
 use Rattle.chk_sink.specs.declared.fault.SinkFault.{SinkFault}

@@ -2,7 +2,7 @@
 use Rattle.std.proofs.Common.{◌≡◌, inl, inr, ℕ, ◌≤◌, ◌<◌, Bool, true, false, List, [], ◌∷◌, ◌++◌, Option, Some, None, Result, Ok, Err, ap, sym, subst, refl, ◌∙◌, arith, ◌⊎◌, if◌then◌else◌}
 use Rattle.std.specs.Prelude.{IfErr, MatchBool}
 use Rattle.chk_bytes.specs.Stems.{Stem}
-use Rattle.chk_message.specs.Messages.{Ack, ack_of}
+use Rattle.chk_http_grammar.specs.Messages.{Ack, ack_of}
 use Rattle.chk_sink.specs.declared.fault.SinkFault.{SinkFault}
 use Rattle.chk_sink.specs.declared.fault.SinkFault.TheVariants.{Outside, Damaged, Spent, NoMemory}
 use Rattle.chk_sink.specs.States.{State, Writing, needs_next, let_go}

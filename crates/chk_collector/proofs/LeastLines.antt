@@ -5,8 +5,8 @@ use Rattle.chk_site.specs.declared.acts.Who.{Who}
 use Rattle.chk_site.specs.History.{History, files_after}
 use Rattle.chk_site.specs.Site.{Adds}
 use Rattle.chk_site.proofs.Runs.{adds_both, adds_none, adds_then}
-use Rattle.chk_message.specs.Messages.{Ack, IsPostOf, ack_of}
-use Rattle.chk_message.proofs.Accepted.{never_both}
+use Rattle.chk_http_grammar.specs.Messages.{Ack, IsPostOf, ack_of}
+use Rattle.chk_http_grammar.proofs.Accepted.{never_both}
 use Rattle.chk_chunk.specs.Keys.{Chunk}
 use Rattle.chk_world.specs.Committed.{committed_length}
 use Rattle.chk_sink.specs.Least.{AtLeast, EachFront, StaysReached}

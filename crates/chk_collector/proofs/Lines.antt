@@ -1,6 +1,6 @@
 -- One more line.
 use Rattle.std.proofs.Common.{◌≡◌, ℕ, ◌*◌, ◌≤◌, List, [], ◌∷◌, ◌++◌, length, length-append, sym, ap, ◌∙◌, append_assoc, append-nil, arith}
-use Rattle.chk_message.specs.Messages.{Ack, ack_text, acks_text}
+use Rattle.chk_http_grammar.specs.Messages.{Ack, ack_text, acks_text}
 
 pub acks_text-more : (acks : List Ack) (a : Ack) → acks_text acks ++ ack_text a ≡ acks_text (acks ++ a ∷ [])
 acks_text-more [] a = sym (append-nil (ack_text a))

@@ -10,8 +10,8 @@ use Rattle.chk_site.proofs.Leads.{leads_none}
 use Rattle.chk_chunk.specs.Keys.{Chunk}
 use Rattle.chk_chunk.specs.Posts.{IsPost, post_limit}
 use Rattle.chk_chunk.proofs.PostGrammar.{one_post}
-use Rattle.chk_message.specs.Messages.{Ack, IsPostOf, PollRequest, IsReply}
-use Rattle.chk_message.proofs.Accepted.{PostRequest-same, IsReply-same}
+use Rattle.chk_http_grammar.specs.Messages.{Ack, IsPostOf, PollRequest, IsReply}
+use Rattle.chk_http_grammar.proofs.Accepted.{PostRequest-same, IsReply-same}
 use Rattle.chk_world.specs.Collectors.{Appended, Handling, TellAll, view, with_appends, handling_of, NoSyncBeforeAnswer, AnswersWell}
 use Rattle.chk_world.specs.Places.{As}
 use Rattle.chk_sink.specs.declared.fault.SinkFault.{SinkFault}

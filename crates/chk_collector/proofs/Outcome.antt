@@ -23,8 +23,8 @@ use Rattle.chk_chunk.specs.declared.faults.ChunkFault.{ChunkFault}
 use Rattle.chk_chunk.specs.Keys.{Chunk}
 use Rattle.chk_chunk.specs.Posts.{IsPost}
 use Rattle.chk_chunk.specs.Faults.{post_fault}
-use Rattle.chk_message.specs.Messages.{PostRequest, PollRequest, IsPostOf, written_reply}
-use Rattle.chk_message.proofs.Accepted.{PostRequest-same}
+use Rattle.chk_http_grammar.specs.Messages.{PostRequest, PollRequest, IsPostOf, written_reply}
+use Rattle.chk_http_grammar.proofs.Accepted.{PostRequest-same}
 use Rattle.chk_http.specs.declared.fault.HttpFault.{HttpFault}
 use Rattle.chk_http.specs.Faults.{fault_code, fault_name}
 use Rattle.chk_http.specs.Written.{phrase_of}

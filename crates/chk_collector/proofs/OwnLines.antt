@@ -2,8 +2,8 @@
 use Rattle.std.proofs.Common.{ℕ, ◌<◌, ◌^◌, List, [], ◌∷◌, ◌++◌, sym, ap, ◌∙◌}
 use Rattle.std.specs.Prelude.{IsTrue}
 use Rattle.chk_bytes.specs.Stems.{Stem, is_stem}
-use Rattle.chk_message.specs.Messages.{Ack, ack_of, PollRequest}
-use Rattle.chk_message.proofs.Accepted.{never_both}
+use Rattle.chk_http_grammar.specs.Messages.{Ack, ack_of, PollRequest}
+use Rattle.chk_http_grammar.proofs.Accepted.{never_both}
 use Rattle.chk_sink.specs.Puts.{IsPlaced}
 use Rattle.chk_sink.specs.States.{IsSameStart, State}
 use Rattle.chk_collector.specs.OwnLines.{AreOfStart, IsOfStart}

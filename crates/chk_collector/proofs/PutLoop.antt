@@ -20,7 +20,7 @@ use Rattle.chk_site.specs.Runs.{Leads, Owns}
 use Rattle.chk_site.proofs.Leads.{leads_then, leads_none}
 use Rattle.chk_site.proofs.Runs.{adds_as, adds_both}
 use Rattle.chk_chunk.specs.Keys.{Chunk}
-use Rattle.chk_message.specs.Messages.{Ack, ack_of, ack_text, acks_text}
+use Rattle.chk_http_grammar.specs.Messages.{Ack, ack_of, ack_text, acks_text}
 use Rattle.chk_world.specs.Collectors.{Handling, with_appends}
 use Rattle.chk_world.specs.Places.{As, IsBy}
 use Rattle.chk_sink.specs.declared.fault.SinkFault.{SinkFault}

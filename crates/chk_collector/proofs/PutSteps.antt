@@ -8,7 +8,7 @@ use Rattle.chk_site.specs.History.{History, is_stopped}
 use Rattle.chk_site.specs.Site.{Adds}
 use Rattle.chk_site.specs.Runs.{Leads}
 use Rattle.chk_chunk.specs.Keys.{Chunk}
-use Rattle.chk_message.specs.Messages.{Ack, ack_of, ack_text}
+use Rattle.chk_http_grammar.specs.Messages.{Ack, ack_of, ack_text}
 use Rattle.chk_world.specs.Collectors.{Handling, Appended, IsPosted, Tells, TellAll, view, with_appends}
 use Rattle.chk_world.specs.Places.{As}
 use Rattle.chk_sink.specs.declared.fault.SinkFault.{SinkFault}

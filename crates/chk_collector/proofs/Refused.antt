@@ -2,7 +2,7 @@
 use Rattle.std.proofs.Common.{◌≡◌, inl, inr, ℕ, List, Result, Err, refl, arith}
 use Rattle.std.specs.Prelude.{◌↔◌}
 use Rattle.chk_bytes.specs.Stems.{Stem}
-use Rattle.chk_message.specs.Messages.{PostRequest, PollRequest, IsRequest}
+use Rattle.chk_http_grammar.specs.Messages.{PostRequest, PollRequest, IsRequest}
 use Rattle.chk_http.specs.declared.fault.HttpFault.{HttpFault}
 use Rattle.chk_http.specs.declared.fault.HttpFault.TheVariants.{BadHead, NoLength, TooLarge, NotYet, BadPath, BadMethod, BadLine}
 use Rattle.chk_http.specs.declared.request.RequestRef.{RequestRef}

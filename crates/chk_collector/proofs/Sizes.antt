@@ -11,7 +11,7 @@ use Rattle.chk_bytes.proofs.StemLemmas.{length-stem_text}
 use Rattle.chk_site.specs.declared.acts.Call.{Call}
 use Rattle.chk_site.specs.declared.acts.Call.TheVariants.{Start}
 use Rattle.chk_site.specs.CallNames.{call_name}
-use Rattle.chk_message.specs.Messages.{ack_of, ack_text}
+use Rattle.chk_http_grammar.specs.Messages.{ack_of, ack_text}
 
 pub decimal_short : (n : ℕ) → n < 2 ^ 64 → length (decimal n) ≤ 20
 decimal_short n small = length-decimal-le 20 n (omega arith) (omega arith) (omega arith)

@@ -3,7 +3,7 @@ use Rattle.std.specs.Prelude.{◌≡◌, ◌⊎◌, ℕ, List, [], ◌∷◌, ma
 use Rattle.chk_site.specs.Acts.{Answers}
 use Rattle.chk_site.specs.History.{History}
 use Rattle.chk_chunk.specs.Keys.{Chunk}
-use Rattle.chk_message.specs.Messages.{IsPostOf, ack_of}
+use Rattle.chk_http_grammar.specs.Messages.{IsPostOf, ack_of}
 use Rattle.chk_world.specs.Collectors.{Handling, Appended, CollectorRule, Tells, begun, view, with_appends}
 use Rattle.chk_world.specs.Places.{AtTold}
 use Rattle.chk_sink.specs.States.{State, process}

@@ -4,7 +4,7 @@ use Rattle.chk_bytes.specs.Stems.{Stem}
 use Rattle.chk_site.specs.Acts.{Deed}
 use Rattle.chk_site.specs.History.{History}
 use Rattle.chk_chunk.specs.Keys.{Chunk}
-use Rattle.chk_message.specs.Messages.{Ack, PollRequest, IsPostOf}
+use Rattle.chk_http_grammar.specs.Messages.{Ack, PollRequest, IsPostOf}
 use Rattle.chk_world.specs.Works.{Works}
 use Rattle.chk_sink.specs.declared.fault.SinkFault.{SinkFault}
 use Rattle.chk_sink.specs.declared.fault.SinkFault.TheVariants.{NoMemory}

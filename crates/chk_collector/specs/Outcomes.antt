@@ -18,7 +18,7 @@ use Rattle.chk_chunk.specs.declared.faults.ChunkFault.{ChunkFault}
 use Rattle.chk_chunk.specs.declared.faults.ChunkFault.TheVariants.{Short, Version, NotUtf8, Empty, TooLong, BeforeStart, TooMany, Trailing, TooHigh, NotWord, StartHigh}
 use Rattle.chk_chunk.specs.Keys.{Chunk}
 use Rattle.chk_chunk.specs.Faults.{post_fault}
-use Rattle.chk_message.specs.Messages.{Ack, PostRequest, PollRequest, IsRequest, IsPostOf, acks_text, written_reply}
+use Rattle.chk_http_grammar.specs.Messages.{Ack, PostRequest, PollRequest, IsRequest, IsPostOf, acks_text, written_reply}
 use Rattle.chk_http.specs.declared.fault.HttpFault.{HttpFault}
 use Rattle.chk_http.specs.declared.fault.HttpFault.TheVariants.{BadHead, NoLength, TooLarge, NotYet, BadPath, BadMethod, BadLine}
 use Rattle.chk_http.specs.Faults.{fault_code, fault_name}

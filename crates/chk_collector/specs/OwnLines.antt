@@ -1,7 +1,7 @@
 -- Of which sinks the lines of a reply to a post are.
 use Rattle.std.specs.Prelude.{◌≡◌, ◌<◌, ◌^◌, IsTrue, List, [], ◌∷◌}
 use Rattle.chk_bytes.specs.Stems.{is_stem}
-use Rattle.chk_message.specs.Messages.{Ack}
+use Rattle.chk_http_grammar.specs.Messages.{Ack}
 use Rattle.chk_sink.specs.States.{State}
 
 -- the line is of a sink of this collector's start, with a number of 8 bytes

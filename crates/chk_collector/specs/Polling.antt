@@ -4,7 +4,7 @@ use Rattle.std.specs.Prelude.{◌≡◌, ℕ, ◌*◌, ◌≤◌, List, length, 
 use Rattle.chk_bytes.specs.Stems.{Stem}
 use Rattle.chk_site.specs.declared.acts.Who.{Who}
 use Rattle.chk_site.specs.History.{History}
-use Rattle.chk_message.specs.Messages.{Ack, PollRequest, acks_text}
+use Rattle.chk_http_grammar.specs.Messages.{Ack, PollRequest, acks_text}
 use Rattle.chk_http.specs.Queries.{IsQuery}
 use Rattle.chk_world.specs.Collectors.{Handling, CommittedLengths}
 use Rattle.chk_world.specs.Places.{AtTold}

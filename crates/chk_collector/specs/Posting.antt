@@ -3,7 +3,7 @@ use Rattle.chk_collector.specs.Handled.{EndsInPlace}
 use Rattle.std.specs.Prelude.{◌≡◌, ◌⊎◌, ℕ, ◌*◌, ◌≤◌, List, [], ◌∷◌, length, map, Contains, Result}
 use Rattle.chk_site.specs.History.{History}
 use Rattle.chk_chunk.specs.Keys.{Chunk}
-use Rattle.chk_message.specs.Messages.{Ack, ack_of, acks_text}
+use Rattle.chk_http_grammar.specs.Messages.{Ack, ack_of, acks_text}
 use Rattle.chk_world.specs.Collectors.{Handling, Appended, IsPosted, Tells, TellAll, with_appends}
 use Rattle.chk_world.specs.Places.{AtTold}
 use Rattle.chk_sink.specs.declared.fault.SinkFault.{SinkFault}

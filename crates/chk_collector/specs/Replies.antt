@@ -1,7 +1,7 @@
 -- The reply by what came of the sinks' calls.
 use Rattle.std.specs.Prelude.{◌≡◌, ◌⊎◌, ℕ, ◌≤◌, List, Result, Ok, Err}
 use Rattle.chk_site.specs.Site.{Rose}
-use Rattle.chk_message.specs.Messages.{written_reply}
+use Rattle.chk_http_grammar.specs.Messages.{written_reply}
 use Rattle.chk_http.specs.Written.{phrase_of}
 use Rattle.chk_sink.specs.declared.fault.SinkFault.{SinkFault}
 use Rattle.chk_sink.specs.declared.fault.SinkFault.TheVariants.{NoMemory}

@@ -6,7 +6,7 @@ ghost use Rattle.chk_site.specs.declared.acts.Role.TheVariants.{Collector as col
 ghost use Rattle.chk_site.specs.History.{Every};
 ghost use Rattle.chk_site.specs.Site.{Adds};
 ghost use Rattle.chk_site.specs.Runs.{HasStarted, Leads};
-ghost use Rattle.chk_message.specs.Messages.{PostRequest};
+ghost use Rattle.chk_http_grammar.specs.Messages.{PostRequest};
 ghost use Rattle.chk_http.specs.Queries.{IsQuery};
 ghost use Rattle.chk_world.specs.Collectors.{Appended, Handling};
 ghost use Rattle.chk_world.specs.Rules.{Legal};

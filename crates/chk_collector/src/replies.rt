@@ -3,7 +3,7 @@
 ghost use Rattle.std.specs.Prelude.{◌≡◌, ◌<◌, ◌≤◌, ◌^◌, ◌++◌, IsTrue, IfOk, OnOk, length};
 ghost use Rattle.chk_bytes.specs.Stems.{is_stem};
 ghost use Rattle.chk_chunk.specs.Posts.{post_limit};
-ghost use Rattle.chk_message.specs.Messages.{IsReply, ack_of, ack_text, written_reply};
+ghost use Rattle.chk_http_grammar.specs.Messages.{IsReply, ack_of, ack_text, written_reply};
 ghost use Rattle.chk_http.specs.Written.{is_answer_code, phrase_of};
 ghost use Rattle.chk_sink.specs.Closes.{OnceDone};
 ghost use Rattle.chk_collector.specs.Outcomes.{line, sink_fault_text};

@@ -12,7 +12,7 @@ use Rattle.chk_sink.specs.Faults.{FailsLast}
 use Rattle.chk_sink.specs.Held.{Matches}
 use Rattle.chk_sink.specs.States.{State, IsSameStart, process}
 use Rattle.chk_collector.specs.Replies.{MayHaveRisen}
-use Rattle.chk_tees.specs.declared.Subscriber.{Subscriber}
+use Rattle.chk_tee_sender.specs.declared.Subscriber.{Subscriber}
 use Rattle.chk_collector_run.specs.Legality.{IsSettled, TurnEnds, ChainEnds, Finds, TurnCause}
 use Rattle.chk_collector_run.specs.Turns.{IsCollectorTurn, IsCutTurn, AreCollectorTurns, over, turn, AreTurned}
 use Rattle.chk_collector_run.proofs.Counts.{same_start, not_risen, risen_then, turn_after, last_then}

@@ -17,9 +17,9 @@ use Rattle.chk_sink.specs.Held.{Matches}
 use Rattle.chk_sink.specs.States.{State, IsSameStart, process}
 use Rattle.chk_collector.specs.Handled.{KeepsSeen, OfRequest, Unanswered}
 use Rattle.chk_collector.specs.Outcomes.{Replied, outcome_ended}
-use Rattle.chk_tees.specs.declared.Subscriber.{Subscriber}
-use Rattle.chk_tees.specs.declared.tees.Passed.{Passed}
-use Rattle.chk_tees.specs.Offers.{IsPassed}
+use Rattle.chk_tee_sender.specs.declared.Subscriber.{Subscriber}
+use Rattle.chk_tee_sender.specs.declared.tees.Passed.{Passed}
+use Rattle.chk_tee_sender.specs.Offers.{IsPassed}
 use Rattle.chk_collector_run.specs.Calls.{sending_of}
 use Rattle.chk_collector_run.specs.Legality.{HasTaken}
 use Rattle.chk_collector_run.specs.Messages.{IsReadOn, LeadsToReply, IsHandled, IsUnreplied, IsSentOrFailed}

@@ -13,11 +13,11 @@ use Rattle.chk_world.specs.Places.{Talking}
 use Rattle.chk_sink.specs.Held.{Matches}
 use Rattle.chk_sink.specs.States.{State, process}
 use Rattle.chk_tee.specs.Messages.{Teed, written_tee}
-use Rattle.chk_tees.specs.declared.Subscriber.{Subscriber}
-use Rattle.chk_tees.specs.declared.tees.Passed.{Passed}
-use Rattle.chk_tees.specs.Offers.{IsPassed, nobody, nothing, passed}
-use Rattle.chk_tees.specs.Passing.{Passes, PassCause}
-use Rattle.chk_tees.specs.Sending.{IsSentTo, PassesOn, all_passed, wanting, passed_by, sent_to, dropped, ended, wanted}
+use Rattle.chk_tee_sender.specs.declared.Subscriber.{Subscriber}
+use Rattle.chk_tee_sender.specs.declared.tees.Passed.{Passed}
+use Rattle.chk_tee_sender.specs.Offers.{IsPassed, nobody, nothing, passed}
+use Rattle.chk_tee_sender.specs.Passing.{Passes, PassCause}
+use Rattle.chk_tee_sender.specs.Sending.{IsSentTo, PassesOn, all_passed, wanting, passed_by, sent_to, dropped, ended, wanted}
 use Rattle.chk_collector.specs.Replies.{MayHaveRisen}
 use Rattle.chk_collector_run.proofs.Talking.{sent_on}
 

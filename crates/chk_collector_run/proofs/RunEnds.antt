@@ -18,7 +18,7 @@ use Rattle.chk_sink.specs.Starts.{IsFresh, Started, IsLastStart}
 use Rattle.chk_sink.specs.States.{State, IsSameStart, process}
 use Rattle.chk_sink.specs.Works.{OfStart, OfTick}
 use Rattle.chk_collector.specs.Finishing.{finished, Finished, LeavesAfterFinish}
-use Rattle.chk_tees.specs.declared.Subscriber.{Subscriber}
+use Rattle.chk_tee_sender.specs.declared.Subscriber.{Subscriber}
 use Rattle.chk_collector_run.specs.Runs.{IsStarted, IsUnstarted, CollectorRan, IsCutRun, unfinished}
 use Rattle.chk_collector_run.specs.Turns.{AreCollectorTurns}
 use Rattle.chk_collector_run.proofs.Running.{made_quiet}

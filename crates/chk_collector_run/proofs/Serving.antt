@@ -19,7 +19,7 @@ use Rattle.chk_sink.specs.Faults.{FailsLast}
 use Rattle.chk_sink.specs.Held.{Matches}
 use Rattle.chk_sink.specs.States.{State, IsSameStart, process}
 use Rattle.chk_collector.specs.Replies.{MayHaveRisen}
-use Rattle.chk_tees.specs.declared.Subscriber.{Subscriber}
+use Rattle.chk_tee_sender.specs.declared.Subscriber.{Subscriber}
 use Rattle.chk_collector_run.specs.Legality.{HasTaken}
 use Rattle.chk_collector_run.specs.Messages.{EndsBy, IsAnswered, wait_behind, IsTakenUpTo, enough, none, one, untaken, unanswered}
 use Rattle.chk_collector_run.proofs.Counts.{same_start, not_risen, risen_then, ended_so, last_then}

@@ -20,11 +20,11 @@ use Rattle.chk_sink.specs.Held.{Holds, Matches}
 use Rattle.chk_sink.specs.States.{State, process}
 use Rattle.chk_sink.proofs.HoldsStay.{holds_stay}
 use Rattle.chk_tee.specs.Messages.{Teed}
-use Rattle.chk_tees.specs.declared.Subscriber.{Subscriber}
-use Rattle.chk_tees.specs.declared.tees.Passed.{Passed}
-use Rattle.chk_tees.specs.Offers.{IsPassed, nobody, nothing, passed}
-use Rattle.chk_tees.specs.Passing.{Passes}
-use Rattle.chk_tees.specs.Sending.{IsSentTo, PassesOn, all_passed, wanting, passed_by, sent_to, dropped, ended}
+use Rattle.chk_tee_sender.specs.declared.Subscriber.{Subscriber}
+use Rattle.chk_tee_sender.specs.declared.tees.Passed.{Passed}
+use Rattle.chk_tee_sender.specs.Offers.{IsPassed, nobody, nothing, passed}
+use Rattle.chk_tee_sender.specs.Passing.{Passes}
+use Rattle.chk_tee_sender.specs.Sending.{IsSentTo, PassesOn, all_passed, wanting, passed_by, sent_to, dropped, ended}
 use Rattle.chk_collector_run.specs.Legality.{IsSettled, opens_turn, FindsCommitted, Finds}
 use Rattle.chk_collector_run.specs.Messages.{IsReadOn, whole, came, over, broken, unread, unkept, IsReplied, sent, unreplied, unsent, IsPassedOn, lost, passed_on, unpassed, undone, IsAnswered, replied, wait_behind, further_wait, long_bytes, IsTakenUpTo, enough, none, one, untaken, unanswered}
 use Rattle.chk_collector_run.proofs.SettledSinks.{all_committed}

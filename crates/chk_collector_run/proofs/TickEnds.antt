@@ -18,7 +18,7 @@ use Rattle.chk_sink.specs.Faults.{FailsLast, IsOutside, SinkCause, ended_by}
 use Rattle.chk_sink.specs.Held.{Matches}
 use Rattle.chk_sink.specs.States.{State, IsSameStart, process, ticked_state}
 use Rattle.chk_sink.specs.Works.{OfTick, LeavesAfterTick}
-use Rattle.chk_tees.specs.declared.Subscriber.{Subscriber}
+use Rattle.chk_tee_sender.specs.declared.Subscriber.{Subscriber}
 use Rattle.chk_collector_run.specs.Legality.{IsSettled, Finds, TurnCause}
 use Rattle.chk_collector_run.specs.Messages.{IsTakenUpTo}
 use Rattle.chk_collector_run.specs.Turns.{IsCollectorTurn, IsCutTurn, unticked}

@@ -20,7 +20,7 @@ use Rattle.chk_sink.specs.Closes.{Ticked}
 use Rattle.chk_sink.specs.Faults.{FailsLast, IsOutside}
 use Rattle.chk_sink.specs.Held.{Matches}
 use Rattle.chk_sink.specs.States.{State, IsSameStart, process}
-use Rattle.chk_tees.specs.declared.Subscriber.{Subscriber}
+use Rattle.chk_tee_sender.specs.declared.Subscriber.{Subscriber}
 use Rattle.chk_collector_run.specs.Legality.{IsSettled, TurnEnds, Finds}
 use Rattle.chk_collector_run.specs.Messages.{EndsBy, IsTakenUpTo, enough, none, one, untaken as not_taken, unanswered}
 use Rattle.chk_collector_run.specs.Turns.{IsCollectorTurn, IsCutTurn, untaken, untimed, unticked}

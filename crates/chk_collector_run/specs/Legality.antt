@@ -5,7 +5,7 @@ use Rattle.chk_site.specs.Acts.{Deed, Takes, deed}
 use Rattle.chk_site.specs.History.{Step, History, Every, Others, files_after}
 use Rattle.chk_site.specs.Site.{Rose}
 use Rattle.chk_world.specs.Collectors.{Handling, begun}
-use Rattle.chk_message.specs.Messages.{Ack}
+use Rattle.chk_http_grammar.specs.Messages.{Ack}
 use Rattle.chk_world.specs.NamedEnds.{IsAllCommitted, HasNamed, IsReached, gave_up}
 use Rattle.chk_world.specs.Places.{AtTold}
 use Rattle.chk_sink.specs.declared.fault.SinkFault.{SinkFault}

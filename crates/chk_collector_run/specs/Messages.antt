@@ -11,7 +11,7 @@ use Rattle.chk_site.specs.declared.suffixes.Taking.{Taking}
 use Rattle.chk_site.specs.History.{History}
 use Rattle.chk_site.specs.Site.{Adds, asked, answered, plain, bytes_given, taking_given, Calls, CallsSome}
 use Rattle.chk_site.specs.Runs.{Leads, Owns}
-use Rattle.chk_message.specs.Messages.{PostRequest, PollRequest}
+use Rattle.chk_http_grammar.specs.Messages.{PostRequest, PollRequest}
 use Rattle.httparse.specs.Grammar.{EndsInTarget}
 use Rattle.chk_http.specs.declared.fault.HttpFault.{HttpFault}
 use Rattle.chk_http.specs.declared.fault.HttpFault.TheVariants.{NotYet}
@@ -25,9 +25,9 @@ use Rattle.chk_sink.specs.States.{State, IsSameStart}
 use Rattle.chk_collector.specs.Answering.{Taken, Answered}
 use Rattle.chk_collector.specs.Handled.{KeepsSeen, OfRequest, Unanswered}
 use Rattle.chk_collector.specs.Outcomes.{Outcome, RefusedBy, IsOutcomeOf, OutcomeActs, OutcomeDamage, OutcomeLast, OutcomeState, outcome_ended, reply_of}
-use Rattle.chk_tees.specs.declared.Subscriber.{Subscriber}
-use Rattle.chk_tees.specs.declared.tees.Passed.{Passed}
-use Rattle.chk_tees.specs.Offers.{IsPassed}
+use Rattle.chk_tee_sender.specs.declared.Subscriber.{Subscriber}
+use Rattle.chk_tee_sender.specs.declared.tees.Passed.{Passed}
+use Rattle.chk_tee_sender.specs.Offers.{IsPassed}
 
 -- the bytes of a whole head and of the longest body: a message of so many is read no further
 abbrev pub most_bytes : ℕ

@@ -21,7 +21,7 @@ use Rattle.chk_sink.specs.Starts.{IsFresh, Started, IsLastStart}
 use Rattle.chk_sink.specs.States.{State, IsSameStart, last_number}
 use Rattle.chk_sink.specs.Works.{OfStart, OfTick}
 use Rattle.chk_collector.specs.Finishing.{finished, Finished, LeavesAfterFinish}
-use Rattle.chk_tees.specs.declared.Subscriber.{Subscriber}
+use Rattle.chk_tee_sender.specs.declared.Subscriber.{Subscriber}
 use Rattle.chk_collector_run.specs.Turns.{AreCollectorTurns, IsCutChain}
 
 -- The start, after whose `rotate` milliseconds a sink is closed. From a legal history the history

@@ -16,7 +16,7 @@ use Rattle.chk_sink.specs.Faults.{FailsLast, ended_by}
 use Rattle.chk_sink.specs.Held.{Matches}
 use Rattle.chk_sink.specs.States.{State, IsSameStart, ticked_state}
 use Rattle.chk_sink.specs.Works.{OfTick, LeavesAfterTick}
-use Rattle.chk_tees.specs.declared.Subscriber.{Subscriber}
+use Rattle.chk_tee_sender.specs.declared.Subscriber.{Subscriber}
 use Rattle.chk_collector_run.specs.Messages.{EndsBy, IsTakenUpTo}
 
 -- A tick at this moment: its calls were done, and no sink is left that is to be closed. From a

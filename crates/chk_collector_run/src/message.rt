@@ -16,7 +16,7 @@ use chk_bytes::{Bytes, NoMemory};
 use chk_collector::Collector;
 use chk_http::{HttpFault, read_request};
 use chk_site::{Site, Taking, Who};
-use chk_tees::Tees;
+use chk_tee_sender::Tees;
 use std::alloc::Global;
 
 /// The bytes of a whole head and of the longest body.

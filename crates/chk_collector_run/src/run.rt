@@ -23,7 +23,7 @@ use chk_bytes::Word;
 use chk_collector::Collector;
 use chk_sink::SinkFault;
 use chk_site::{Site, Who};
-use chk_tees::Tees;
+use chk_tee_sender::Tees;
 use std::alloc::Global;
 
 /// The command: starts the collector, runs so many turns at that door, each of at most `most`

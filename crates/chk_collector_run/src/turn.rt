@@ -19,7 +19,7 @@ use chk_bytes::Word;
 use chk_collector::Collector;
 use chk_sink::SinkFault;
 use chk_site::{Site, Who};
-use chk_tees::Tees;
+use chk_tee_sender::Tees;
 use std::alloc::Global;
 
 /// A message of so many bytes is a long one: its sender has more to send. A post has at most

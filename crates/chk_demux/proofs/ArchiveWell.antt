@@ -13,16 +13,16 @@ use Rattle.chk_world.proofs.BooksTrue.{books_stay_true}
 use Rattle.chk_world.proofs.Each.{Each, first_in, each_from, each_at, filter_in, filter_each, later_one}
 use Rattle.chk_world.proofs.NameTests.{streams_same}
 use Rattle.chk_world.proofs.Segments.{none_in}
-use Rattle.chk_heads.specs.Heads.{Head, heads_in}
-use Rattle.chk_heads.specs.Pieces.{bytes_in}
-use Rattle.chk_plan.proofs.Parts.{stream_self}
-use Rattle.chk_merge.specs.Segments.{names_of, IsSound, heads_from, chunks_in_files}
-use Rattle.chk_merge.specs.Courses.{end_of, is_end_of, break_by, reached, reaches, IsBreakBy}
-use Rattle.chk_merge.specs.Checking.{AllGoWell}
+use Rattle.chk_record_index.specs.Heads.{Head, heads_in}
+use Rattle.chk_record_index.specs.Pieces.{bytes_in}
+use Rattle.chk_archive_plan.proofs.Parts.{stream_self}
+use Rattle.chk_record_reader.specs.Segments.{names_of, IsSound, heads_from, chunks_in_files}
+use Rattle.chk_record_reader.specs.Courses.{end_of, is_end_of, break_by, reached, reaches, IsBreakBy}
+use Rattle.chk_record_reader.specs.Checking.{AllGoWell}
 use Rattle.chk_book.specs.Folders.{book_name}
-use Rattle.chk_merge.specs.Archives.{RunsSo, IsDamagedAt, broken, unreached, place_in_book}
-use Rattle.chk_merge.proofs.Undamaged.{undamaged}
-use Rattle.chk_parts.specs.Gathering.{held, heads_of}
+use Rattle.chk_record_reader.specs.Archives.{RunsSo, IsDamagedAt, broken, unreached, place_in_book}
+use Rattle.chk_record_reader.proofs.Undamaged.{undamaged}
+use Rattle.chk_archive_parts.specs.Gathering.{held, heads_of}
 use Rattle.chk_demux.specs.Demuxed.{all_named}
 use Rattle.chk_demux.proofs.Sources.{archive_sound, archive_found}
 

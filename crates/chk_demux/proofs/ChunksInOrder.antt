@@ -11,10 +11,10 @@ use Rattle.chk_world.specs.TrueBooks.{HasBytes}
 use Rattle.chk_world.proofs.Each.{Each, each_as, each_at, each_filter, each_from}
 use Rattle.chk_world.proofs.NameTests.{streams_same}
 use Rattle.chk_world.proofs.Segments.{flat_same}
-use Rattle.chk_heads.specs.Heads.{Head}
-use Rattle.chk_heads.proofs.Orders.{streams}
-use Rattle.chk_plan.proofs.Runs.{all_put}
-use Rattle.chk_splitter.specs.Splitting.{pieces_of}
+use Rattle.chk_record_index.specs.Heads.{Head}
+use Rattle.chk_record_index.proofs.Orders.{streams}
+use Rattle.chk_archive_plan.proofs.Runs.{all_put}
+use Rattle.chk_demux_split.specs.Splitting.{pieces_of}
 use Rattle.chk_demux.specs.Giving.{chunks_of_fed}
 use Rattle.chk_demux.specs.Splitting.{split_from, past_in, past_of, is_stamped, RunsSo, SplitAll, stream_chunks, stream_left, all_chunks, all_left}
 use Rattle.chk_demux.proofs.Places.{begins_past, unfiltered}

@@ -8,14 +8,14 @@ use Rattle.chk_world.specs.Sight.{Sight}
 use Rattle.chk_world.specs.TrueBooks.{HasBytes}
 use Rattle.chk_world.proofs.Each.{Each, each_from, each_at}
 use Rattle.chk_world.proofs.SpelledLemmas.{book_so}
-use Rattle.chk_heads.specs.Heads.{Head}
-use Rattle.chk_heads.specs.declared.fault.JobFault.{JobFault}
-use Rattle.chk_plan.specs.Passes.{head_in}
-use Rattle.chk_plan.proofs.Runs.{all_put}
+use Rattle.chk_record_index.specs.Heads.{Head}
+use Rattle.chk_record_index.specs.declared.fault.JobFault.{JobFault}
+use Rattle.chk_archive_plan.specs.Passes.{head_in}
+use Rattle.chk_archive_plan.proofs.Runs.{all_put}
 use Rattle.chk_book.specs.Loaded.{IsBookOf}
-use Rattle.chk_parts.specs.Cuts.{no_chunk}
-use Rattle.chk_parts.specs.Records.{AreRecords}
-use Rattle.chk_splitter.specs.Splitting.{Splitting, Feeds, fresh, record_of, pieces_of, records_ahead}
+use Rattle.chk_archive_parts.specs.Cuts.{no_chunk}
+use Rattle.chk_archive_parts.specs.Records.{AreRecords}
+use Rattle.chk_demux_split.specs.Splitting.{Splitting, Feeds, fresh, record_of, pieces_of, records_ahead}
 use Rattle.chk_demux.specs.Giving.{IsSplitting}
 use Rattle.chk_demux.specs.Splitting.{split_from, ends_past, past_of, past_in, HoldsStream}
 use Rattle.chk_demux.specs.Shown.{PutsIf}

@@ -19,15 +19,15 @@ use Rattle.chk_world.proofs.Segments.{flat_same}
 use Rattle.chk_world.specs.Places.{As}
 use Rattle.chk_world.specs.Sight.{job, Sight, sight, own_chunks, AtJob}
 use Rattle.chk_world.specs.JobSteps.{IsOf}
-use Rattle.chk_heads.specs.declared.fault.JobFault.{JobFault}
+use Rattle.chk_record_index.specs.declared.fault.JobFault.{JobFault}
 use Rattle.chk_book.specs.declared.segmenter.Segmenter.{Segmenter}
-use Rattle.chk_parts.proofs.FromKnown.{from_known, reach_known}
-use Rattle.chk_parts.proofs.OneFile.{Knows}
+use Rattle.chk_archive_parts.proofs.FromKnown.{from_known, reach_known}
+use Rattle.chk_archive_parts.proofs.OneFile.{Knows}
 use Rattle.chk_demux.specs.Demuxed.{ReplacesBook}
 use Rattle.chk_demux.specs.Working.{EndsSo, job_result}
 use Rattle.chk_demux.specs.Writes.{IsFree, SoFar, IsSoFar}
-use Rattle.chk_parts.specs.Publishing.{IsPublished, MayFollow, Published}
-use Rattle.chk_parts.proofs.Published.{replaces_no_start, quiet_replace}
+use Rattle.chk_archive_parts.specs.Publishing.{IsPublished, MayFollow, Published}
+use Rattle.chk_archive_parts.proofs.Published.{replaces_no_start, quiet_replace}
 use Rattle.chk_demux.specs.Entering.{MayEnter, Entered}
 use Rattle.chk_demux.proofs.Ends.{ends_bottom, so_done}
 use Rattle.chk_demux.proofs.OneSegment.{HasWritten}

@@ -5,12 +5,12 @@ use Rattle.chk_bytes.specs.Words.{joined}
 use Rattle.chk_chunk.specs.Keys.{Chunk}
 use Rattle.chk_world.specs.Books.{End}
 use Rattle.chk_world.specs.Splits.{ends_from}
-use Rattle.chk_heads.specs.Heads.{Head}
-use Rattle.chk_plan.specs.Passes.{head_in}
-use Rattle.chk_splitter.specs.Splitting.{Splitting, Feeds, fresh, record_of, pieces_of, records_ahead}
+use Rattle.chk_record_index.specs.Heads.{Head}
+use Rattle.chk_archive_plan.specs.Passes.{head_in}
+use Rattle.chk_demux_split.specs.Splitting.{Splitting, Feeds, fresh, record_of, pieces_of, records_ahead}
 use Rattle.chk_demux.specs.Giving.{keyed, made_chunk, given_chunks, pending_of, place_given, IsSplitting, IsPlaced, record_chunk, chunks_of_fed}
-use Rattle.chk_splitter.proofs.FeedLemmas.{none_ahead, joined-append, joined-record}
-use Rattle.chk_splitter.proofs.RecordLemmas.{ends-append}
+use Rattle.chk_demux_split.proofs.FeedLemmas.{none_ahead, joined-append, joined-record}
+use Rattle.chk_demux_split.proofs.RecordLemmas.{ends-append}
 
 -- before the first byte
 pub fresh_splits : (t : Bool) → IsSplitting t [] (fresh t)

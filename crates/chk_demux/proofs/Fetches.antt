@@ -12,23 +12,23 @@ use Rattle.chk_world.specs.Names.{ArchiveFolder, Name, BookFile, SegmentFile, re
 use Rattle.chk_world.specs.Places.{As}
 use Rattle.chk_world.specs.Sight.{job, Sight, sight, AtJob}
 use Rattle.chk_world.specs.JobSteps.{IsOf, ReadsFile, WritesTo, SparesFile}
-use Rattle.chk_heads.specs.Heads.{Head}
-use Rattle.chk_heads.specs.Faults.{IsOfRead}
-use Rattle.chk_heads.specs.declared.fault.JobFault.{JobFault}
-use Rattle.chk_heads.specs.declared.fault.JobFault.TheVariants.{Outside, Damaged, Spent, NoMemory}
-use Rattle.chk_plan.specs.Passes.{head_in}
+use Rattle.chk_record_index.specs.Heads.{Head}
+use Rattle.chk_record_index.specs.Faults.{IsOfRead}
+use Rattle.chk_record_index.specs.declared.fault.JobFault.{JobFault}
+use Rattle.chk_record_index.specs.declared.fault.JobFault.TheVariants.{Outside, Damaged, Spent, NoMemory}
+use Rattle.chk_archive_plan.specs.Passes.{head_in}
 use Rattle.chk_book.specs.declared.segmenter.Segmenter.{Segmenter}
-use Rattle.chk_merge.specs.ReadBack.{value_held}
-use Rattle.chk_merge.specs.declared.reader.RecordReader.{RecordReader}
-use Rattle.chk_parts.specs.Gathering.{held, held_at, AreSound, CanBeRead, own_book_file, own_segment, shown_sink}
-use Rattle.chk_parts.specs.Records.{AreRecords}
-use Rattle.chk_parts.specs.Fetching.{head_file, IsRecordAt, AreWindows, CanFetch, Fetched}
-use Rattle.chk_parts.proofs.OneFile.{reads_in}
-use Rattle.chk_parts.proofs.FromKnown.{from_known, reach}
-use Rattle.chk_parts.proofs.OneSegment.{quiet_write}
+use Rattle.chk_record_reader.specs.ReadBack.{value_held}
+use Rattle.chk_record_reader.specs.declared.reader.RecordReader.{RecordReader}
+use Rattle.chk_archive_parts.specs.Gathering.{held, held_at, AreSound, CanBeRead, own_book_file, own_segment, shown_sink}
+use Rattle.chk_archive_parts.specs.Records.{AreRecords}
+use Rattle.chk_archive_parts.specs.Fetching.{head_file, IsRecordAt, AreWindows, CanFetch, Fetched}
+use Rattle.chk_archive_parts.proofs.OneFile.{reads_in}
+use Rattle.chk_archive_parts.proofs.FromKnown.{from_known, reach}
+use Rattle.chk_archive_parts.proofs.OneSegment.{quiet_write}
 use Rattle.chk_world.proofs.Lifts.{no_write_starts}
-use Rattle.chk_parts.proofs.Fetches.{one_of_files}
-use Rattle.chk_splitter.specs.Splitting.{Splitting}
+use Rattle.chk_archive_parts.proofs.Fetches.{one_of_files}
+use Rattle.chk_demux_split.specs.Splitting.{Splitting}
 use Rattle.chk_demux.specs.Working.{EndsSo, Failed}
 use Rattle.chk_demux.specs.Writes.{SameBut, PutSoFar, IsOutput}
 use Rattle.chk_demux.specs.Giving.{IsSplitting, IsPlaced, chunks_of_fed}

@@ -9,14 +9,14 @@ use Rattle.chk_world.specs.Sight.{Sight}
 use Rattle.chk_world.specs.TrueBooks.{HasBytes}
 use Rattle.chk_world.proofs.Each.{Each}
 use Rattle.chk_world.proofs.NameTests.{streams_same}
-use Rattle.chk_heads.specs.Heads.{Head}
-use Rattle.chk_heads.specs.Order.{no_head, head_before, in_head_order}
-use Rattle.chk_heads.proofs.Orders.{WeakOrder, lex, through, tested_through, numbers, streams}
-use Rattle.chk_heads.proofs.Sorting.{Sorted, sort_sorted}
-use Rattle.chk_plan.specs.Passes.{head_in}
-use Rattle.chk_plan.proofs.Bridges.{each_index}
-use Rattle.chk_merge.specs.Courses.{is_head_of}
-use Rattle.chk_parts.specs.Records.{AreRecords}
+use Rattle.chk_record_index.specs.Heads.{Head}
+use Rattle.chk_record_index.specs.Order.{no_head, head_before, in_head_order}
+use Rattle.chk_record_index.proofs.Orders.{WeakOrder, lex, through, tested_through, numbers, streams}
+use Rattle.chk_record_index.proofs.Sorting.{Sorted, sort_sorted}
+use Rattle.chk_archive_plan.specs.Passes.{head_in}
+use Rattle.chk_archive_plan.proofs.Bridges.{each_index}
+use Rattle.chk_record_reader.specs.Courses.{is_head_of}
+use Rattle.chk_archive_parts.specs.Records.{AreRecords}
 use Rattle.chk_demux.specs.Splitting.{past_in, StreamsRise, FirstStands, HoldsStream}
 use Rattle.chk_demux.proofs.Places.{not_past, same_size}
 

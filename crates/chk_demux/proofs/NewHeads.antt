@@ -8,21 +8,21 @@ use Rattle.chk_site.proofs.Runs.{adds_then, adds_as}
 use Rattle.chk_world.specs.Books.{Book, End, ends_rise}
 use Rattle.chk_world.proofs.Each.{each_from, each_at}
 use Rattle.chk_world.proofs.SpelledLemmas.{book_so}
-use Rattle.chk_heads.specs.Heads.{Head}
-use Rattle.chk_heads.specs.Order.{no_head, head_before, in_head_order}
-use Rattle.chk_heads.specs.Shown.{Within}
-use Rattle.chk_heads.specs.Faults.{IsOfRead, IsOfWrite}
-use Rattle.chk_heads.specs.declared.fault.JobFault.{JobFault}
-use Rattle.chk_heads.specs.declared.fault.JobFault.TheVariants.{Outside, Damaged, Spent, NoMemory}
-use Rattle.chk_heads.proofs.Showing.{within_late, within_early}
+use Rattle.chk_record_index.specs.Heads.{Head}
+use Rattle.chk_record_index.specs.Order.{no_head, head_before, in_head_order}
+use Rattle.chk_record_index.specs.Shown.{Within}
+use Rattle.chk_record_index.specs.Faults.{IsOfRead, IsOfWrite}
+use Rattle.chk_record_index.specs.declared.fault.JobFault.{JobFault}
+use Rattle.chk_record_index.specs.declared.fault.JobFault.TheVariants.{Outside, Damaged, Spent, NoMemory}
+use Rattle.chk_record_index.proofs.Showing.{within_late, within_early}
 use Rattle.chk_book.specs.Books.{book_view}
 use Rattle.chk_book.specs.Loaded.{ShowsBook}
-use Rattle.chk_plan.specs.Passes.{head_in}
+use Rattle.chk_archive_plan.specs.Passes.{head_in}
 use Rattle.chk_demux.specs.declared.beginning.Books.{Books}
 use Rattle.chk_demux.specs.Splitting.{split_from, ends_past}
 use Rattle.chk_demux.specs.Shown.{HasPast, HasNew, ShowsNew, ShowsNewestSound, PutsIf, ShowsPut, SpentBy, ShowsBegun, ShowsSpent}
 use Rattle.chk_demux.proofs.NewRecords.{rise_of}
-use Rattle.chk_merge.proofs.SortedStream.{each_sort}
+use Rattle.chk_record_reader.proofs.SortedStream.{each_sort}
 
 -- ---- one of the heads, in whatever order
 

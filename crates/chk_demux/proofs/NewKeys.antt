@@ -11,11 +11,11 @@ use Rattle.chk_world.specs.Splits.{ends_from}
 use Rattle.chk_world.specs.TrueBooks.{HasBytes}
 use Rattle.chk_world.proofs.NameTests.{streams_same}
 use Rattle.chk_world.proofs.Each.{Each}
-use Rattle.chk_heads.specs.Heads.{Head}
-use Rattle.chk_plan.specs.Passes.{head_in}
-use Rattle.chk_merge.specs.Courses.{is_head_of}
-use Rattle.chk_parts.specs.Cuts.{no_chunk}
-use Rattle.chk_parts.specs.Records.{AreRecords}
+use Rattle.chk_record_index.specs.Heads.{Head}
+use Rattle.chk_archive_plan.specs.Passes.{head_in}
+use Rattle.chk_record_reader.specs.Courses.{is_head_of}
+use Rattle.chk_archive_parts.specs.Cuts.{no_chunk}
+use Rattle.chk_archive_parts.specs.Records.{AreRecords}
 use Rattle.chk_demux.specs.Demuxed.{HasKey}
 use Rattle.chk_demux.specs.Giving.{holds_byte, cluster_back, record_chunk}
 use Rattle.chk_demux.specs.Splitting.{ends_past, RunsSo}

@@ -26,12 +26,12 @@ use Rattle.chk_world.proofs.Segments.{book_is, none_in}
 use Rattle.chk_world.proofs.SmallFiles.{readable}
 use Rattle.chk_world.proofs.SpelledLemmas.{book_so}
 use Rattle.chk_world.proofs.BooksTrue.{books_stay_true, each_named, has_start_is, run_length}
-use Rattle.chk_heads.specs.Heads.{Head}
-use Rattle.chk_plan.proofs.Parts.{run_then, stream_self}
+use Rattle.chk_record_index.specs.Heads.{Head}
+use Rattle.chk_archive_plan.proofs.Parts.{run_then, stream_self}
 use Rattle.chk_book.specs.Books.{end_in}
-use Rattle.chk_splitter.specs.Laws.{size_of}
-use Rattle.chk_splitter.specs.Splitting.{pieces_of}
-use Rattle.chk_splitter.proofs.RecordLemmas.{split_goes_on, split_pieces}
+use Rattle.chk_demux_split.specs.Laws.{size_of}
+use Rattle.chk_demux_split.specs.Splitting.{pieces_of}
+use Rattle.chk_demux_split.proofs.RecordLemmas.{split_goes_on, split_pieces}
 use Rattle.chk_demux.specs.Demuxed.{all_named, NamesStamped}
 use Rattle.chk_demux.specs.Giving.{record_chunk}
 use Rattle.chk_demux.specs.Splitting.{split_from, past_in, is_stamped, stream_chunks, stream_left, all_chunks, all_left}
@@ -39,7 +39,7 @@ use Rattle.chk_demux.specs.Writes.{bytes_of}
 use Rattle.chk_demux.proofs.Ordered.{of_stream}
 use Rattle.chk_demux.proofs.Places.{past_values}
 use Rattle.chk_demux.proofs.Prefixes.{records_are_the_split, split_none}
-use Rattle.chk_parts.proofs.EndsInOrder.{Sorted, sorted, Has, has_any}
+use Rattle.chk_archive_parts.proofs.EndsInOrder.{Sorted, sorted, Has, has_any}
 use Rattle.chk_demux.proofs.SortedEnds.{EndOf, find_end, not_has, none_of, just_of, sum_each, sum_both, bytes_over}
 
 -- ---- how many bytes the records have

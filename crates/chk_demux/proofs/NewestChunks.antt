@@ -17,11 +17,11 @@ use Rattle.chk_world.specs.TrueBooks.{HasBytes}
 use Rattle.chk_world.proofs.Each.{Each, each_at, each_from, each_filter, filter_in, later_one}
 use Rattle.chk_world.proofs.BooksTrue.{run_length}
 use Rattle.chk_world.proofs.Segments.{flat_same}
-use Rattle.chk_heads.specs.Heads.{Head}
-use Rattle.chk_parts.specs.Cuts.{no_chunk}
-use Rattle.chk_parts.specs.Records.{AreRecords}
-use Rattle.chk_plan.proofs.Runs.{all_put}
-use Rattle.chk_splitter.specs.Splitting.{pieces_of}
+use Rattle.chk_record_index.specs.Heads.{Head}
+use Rattle.chk_archive_parts.specs.Cuts.{no_chunk}
+use Rattle.chk_archive_parts.specs.Records.{AreRecords}
+use Rattle.chk_archive_plan.proofs.Runs.{all_put}
+use Rattle.chk_demux_split.specs.Splitting.{pieces_of}
 use Rattle.chk_demux.specs.Giving.{cluster_back, keyed, record_chunk, chunks_of_fed}
 use Rattle.chk_demux.specs.Splitting.{split_from, past_in, past_of, is_stamped, RunsSo, SplitAll, stream_chunks, stream_left, all_chunks, all_left}
 use Rattle.chk_demux.proofs.ChunksInOrder.{order_keeps, runs_in_order, same_past}

@@ -13,18 +13,18 @@ use Rattle.chk_world.specs.Jobs.{Run}
 use Rattle.chk_world.specs.Sight.{Sight}
 use Rattle.chk_world.specs.TrueBooks.{HasBytes}
 use Rattle.chk_world.proofs.Each.{Each, each_at, each_from}
-use Rattle.chk_heads.specs.Heads.{Head, heads_in}
-use Rattle.chk_heads.specs.Order.{head_before, put_by, in_head_order}
-use Rattle.chk_heads.specs.Pieces.{bytes_in}
-use Rattle.chk_plan.specs.HeadsOf.{AreHeads}
-use Rattle.chk_plan.proofs.HeadOrder.{ties_sort}
-use Rattle.chk_merge.specs.Courses.{is_head_of, goes_on, first_break, reached}
-use Rattle.chk_merge.specs.OnePass.{no_end}
-use Rattle.chk_merge.specs.ReadBack.{chunk_at}
-use Rattle.chk_newest.specs.Backward.{begin_in, RunsBack}
-use Rattle.chk_parts.specs.Gathering.{held, heads_of}
-use Rattle.chk_parts.specs.Records.{file_at, IsRecordOf, AreRecords, found_in}
-use Rattle.chk_parts.proofs.FoundRecords.{is_head, are_heads}
+use Rattle.chk_record_index.specs.Heads.{Head, heads_in}
+use Rattle.chk_record_index.specs.Order.{head_before, put_by, in_head_order}
+use Rattle.chk_record_index.specs.Pieces.{bytes_in}
+use Rattle.chk_archive_plan.specs.HeadsOf.{AreHeads}
+use Rattle.chk_archive_plan.proofs.HeadOrder.{ties_sort}
+use Rattle.chk_record_reader.specs.Courses.{is_head_of, goes_on, first_break, reached}
+use Rattle.chk_record_reader.specs.OnePass.{no_end}
+use Rattle.chk_record_reader.specs.ReadBack.{chunk_at}
+use Rattle.chk_demux_scan.specs.Backward.{begin_in, RunsBack}
+use Rattle.chk_archive_parts.specs.Gathering.{held, heads_of}
+use Rattle.chk_archive_parts.specs.Records.{file_at, IsRecordOf, AreRecords, found_in}
+use Rattle.chk_archive_parts.proofs.FoundRecords.{is_head, are_heads}
 use Rattle.chk_demux.specs.Enough.{Reach, Enough}
 use Rattle.chk_demux.specs.Splitting.{split_from, RunsSo, SplitAll, StreamsRise, all_chunks, all_left}
 use Rattle.chk_demux.proofs.ChunksInOrder.{all_run}

@@ -10,19 +10,19 @@ use Rattle.chk_site.proofs.Leads.{leads_as, leads_then, owned_anyhow}
 use Rattle.chk_world.specs.Books.{Book, ends_rise}
 use Rattle.chk_world.specs.JobSteps.{IsOf, ReadsFile}
 use Rattle.chk_world.proofs.Each.{filter_in}
-use Rattle.chk_heads.specs.Heads.{Head}
-use Rattle.chk_heads.specs.Order.{in_head_order}
-use Rattle.chk_heads.specs.Faults.{IsOfWrite}
-use Rattle.chk_heads.specs.declared.fault.JobFault.{JobFault}
-use Rattle.chk_heads.specs.declared.fault.JobFault.TheVariants.{Outside, Damaged, Spent, NoMemory}
-use Rattle.chk_heads.proofs.Showing.{within_all, within_late}
-use Rattle.chk_merge.specs.Gone.{ShowsSound}
-use Rattle.chk_merge.specs.Merging.{SoundHeads}
-use Rattle.chk_merge.specs.Segments.{names_of, HasFiles, SparesFiles, AreSettled}
-use Rattle.chk_merge.proofs.Causes.{late_unsound}
-use Rattle.chk_merge.proofs.Frames.{reads_quiet}
-use Rattle.chk_newest.specs.Forward.{is_past, past_of}
-use Rattle.chk_newest.specs.Newest.{Suffice, FoundFrom, are_found, too_few, FoundNewest, ShowsNewest}
+use Rattle.chk_record_index.specs.Heads.{Head}
+use Rattle.chk_record_index.specs.Order.{in_head_order}
+use Rattle.chk_record_index.specs.Faults.{IsOfWrite}
+use Rattle.chk_record_index.specs.declared.fault.JobFault.{JobFault}
+use Rattle.chk_record_index.specs.declared.fault.JobFault.TheVariants.{Outside, Damaged, Spent, NoMemory}
+use Rattle.chk_record_index.proofs.Showing.{within_all, within_late}
+use Rattle.chk_record_reader.specs.Gone.{ShowsSound}
+use Rattle.chk_record_reader.specs.Merging.{SoundHeads}
+use Rattle.chk_record_reader.specs.Segments.{names_of, HasFiles, SparesFiles, AreSettled}
+use Rattle.chk_record_reader.proofs.Causes.{late_unsound}
+use Rattle.chk_record_reader.proofs.Frames.{reads_quiet}
+use Rattle.chk_demux_scan.specs.Forward.{is_past, past_of}
+use Rattle.chk_demux_scan.specs.Newest.{Suffice, FoundFrom, are_found, too_few, FoundNewest, ShowsNewest}
 use Rattle.chk_demux.proofs.Whole.{whole_back, whole_starts}
 use Rattle.chk_demux.specs.Enough.{places_for, AreNewest, SoundNewest, IsEnoughFrom, SoundOlder}
 use Rattle.chk_demux.specs.Shown.{ShowsNewestSound}

@@ -11,21 +11,21 @@ use Rattle.chk_world.specs.Books.{Book, End, ends_rise}
 use Rattle.chk_world.specs.Places.{As}
 use Rattle.chk_world.specs.Sight.{job, Sight, AtJob}
 use Rattle.chk_world.specs.JobSteps.{IsOf, ReadsFile}
-use Rattle.chk_heads.specs.Heads.{Head}
-use Rattle.chk_heads.specs.Order.{in_head_order}
-use Rattle.chk_heads.specs.Faults.{IsOfRead, IsOfWrite}
-use Rattle.chk_heads.specs.declared.fault.JobFault.{JobFault}
-use Rattle.chk_heads.specs.declared.fault.JobFault.TheVariants.{Outside, Damaged, Spent, NoMemory}
+use Rattle.chk_record_index.specs.Heads.{Head}
+use Rattle.chk_record_index.specs.Order.{in_head_order}
+use Rattle.chk_record_index.specs.Faults.{IsOfRead, IsOfWrite}
+use Rattle.chk_record_index.specs.declared.fault.JobFault.{JobFault}
+use Rattle.chk_record_index.specs.declared.fault.JobFault.TheVariants.{Outside, Damaged, Spent, NoMemory}
 use Rattle.chk_book.specs.Books.{end_in}
-use Rattle.chk_merge.specs.Segments.{names_of, HasFiles, SparesFiles, AreSettled}
-use Rattle.chk_merge.specs.Checking.{AllGoWell}
-use Rattle.chk_merge.specs.OnePass.{no_end, end_at}
-use Rattle.chk_newest.specs.Backward.{begin_in, AllRunBack}
-use Rattle.chk_newest.specs.Forward.{past_of}
-use Rattle.chk_newest.specs.Newest.{ReachFar, IsNewest, FoundFrom, are_found, too_few, FoundNewest}
-use Rattle.chk_parts.specs.Gathering.{held, heads_of, AreSound}
-use Rattle.chk_parts.specs.Records.{AreRecords, found_in}
-use Rattle.chk_parts.proofs.ManyFiles.{reads_all}
+use Rattle.chk_record_reader.specs.Segments.{names_of, HasFiles, SparesFiles, AreSettled}
+use Rattle.chk_record_reader.specs.Checking.{AllGoWell}
+use Rattle.chk_record_reader.specs.OnePass.{no_end, end_at}
+use Rattle.chk_demux_scan.specs.Backward.{begin_in, AllRunBack}
+use Rattle.chk_demux_scan.specs.Forward.{past_of}
+use Rattle.chk_demux_scan.specs.Newest.{ReachFar, IsNewest, FoundFrom, are_found, too_few, FoundNewest}
+use Rattle.chk_archive_parts.specs.Gathering.{held, heads_of, AreSound}
+use Rattle.chk_archive_parts.specs.Records.{AreRecords, found_in}
+use Rattle.chk_archive_parts.proofs.ManyFiles.{reads_all}
 use Rattle.chk_demux.specs.Enough.{places_for, Reach, Enough}
 use Rattle.chk_demux.specs.Running.{CanSplit, archive_heads}
 use Rattle.chk_demux.specs.Splitting.{split_from, SplitAll, StreamsRise, all_chunks}

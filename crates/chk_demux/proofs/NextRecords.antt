@@ -19,13 +19,13 @@ use Rattle.chk_world.specs.Splits.{record_in, records_named}
 use Rattle.chk_world.specs.Streams.{founding, start_of}
 use Rattle.chk_world.proofs.Each.{each_at, each_from, passes_in}
 use Rattle.chk_world.proofs.BooksTrue.{has_start_is}
-use Rattle.chk_heads.specs.Heads.{Head}
-use Rattle.chk_plan.proofs.Parts.{stream_self}
+use Rattle.chk_record_index.specs.Heads.{Head}
+use Rattle.chk_archive_plan.proofs.Parts.{stream_self}
 use Rattle.chk_book.specs.Segmenting.{raised_all, with_segment}
 use Rattle.chk_demux.specs.Demuxed.{NamesStamped}
 use Rattle.chk_demux.specs.Writes.{HoldsChunks}
 use Rattle.chk_demux.proofs.NewRecords.{A, D, archived, olds, outs, own_chunks, archive_true, records_true, archive_sorted, records_sorted, whole_run, whole_split, new_listed, start_same}
-use Rattle.chk_parts.proofs.EndsInOrder.{Has, has_any, any_has}
+use Rattle.chk_archive_parts.proofs.EndsInOrder.{Has, has_any, any_has}
 use Rattle.chk_demux.proofs.SortedEnds.{EndOf, just_of}
 use Rattle.chk_demux.proofs.Ordered.{of_stream}
 use Rattle.chk_demux.proofs.RaisedEnds.{Fits, RunsIn, all_fit}

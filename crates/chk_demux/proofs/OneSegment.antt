@@ -19,16 +19,16 @@ use Rattle.chk_world.specs.Sight.{job, Sight, sight, AtJob}
 use Rattle.chk_world.specs.JobSteps.{IsOf, WritesTo, SparesFile}
 use Rattle.chk_world.proofs.Lifts.{with_own}
 use Rattle.chk_world.proofs.Spares.{writes_segment}
-use Rattle.chk_heads.specs.declared.fault.JobFault.{JobFault}
-use Rattle.chk_heads.specs.Faults.{IsOfWrite, IsOfBegin}
-use Rattle.chk_heads.specs.declared.fault.JobFault.TheVariants.{Outside, Damaged, Spent, NoMemory}
+use Rattle.chk_record_index.specs.declared.fault.JobFault.{JobFault}
+use Rattle.chk_record_index.specs.Faults.{IsOfWrite, IsOfBegin}
+use Rattle.chk_record_index.specs.declared.fault.JobFault.TheVariants.{Outside, Damaged, Spent, NoMemory}
 use Rattle.chk_book.specs.Causes.{SpentBook}
 use Rattle.chk_book.specs.Folders.{is_folder, segment_name, most_in}
 use Rattle.chk_book.specs.Segmenting.{Writing, HoldsSegment, IsFinished, IsSegmentOf, all_bytes, segment_of, with_segment, begun}
 use Rattle.chk_book.specs.Written.{IsAt, taken, HasTaken, HasBegun, HasEnded}
 use Rattle.chk_book.specs.declared.segmenter.Segmenter.{Segmenter}
-use Rattle.chk_parts.proofs.FromKnown.{from_known, reach, with_fact}
-use Rattle.chk_parts.proofs.OneSegment.{has_some, some_has, quiet_write}
+use Rattle.chk_archive_parts.proofs.FromKnown.{from_known, reach, with_fact}
+use Rattle.chk_archive_parts.proofs.OneSegment.{has_some, some_has, quiet_write}
 use Rattle.chk_world.proofs.Lifts.{no_write_starts}
 use Rattle.chk_demux.specs.Working.{EndsSo, Failed}
 use Rattle.chk_demux.specs.Writes.{SameBut, IsFree, IsSoFar, SoFar, IsForDemux, HoldsChunks}

@@ -7,8 +7,8 @@ use Rattle.chk_world.specs.Books.{End, Book, ends_rise}
 use Rattle.chk_world.specs.Splits.{Record}
 use Rattle.chk_world.proofs.Each.{Each, each_as}
 use Rattle.chk_world.proofs.BooksTrue.{each_append}
-use Rattle.chk_heads.specs.Heads.{Head}
-use Rattle.chk_heads.proofs.Orders.{streams}
+use Rattle.chk_record_index.specs.Heads.{Head}
+use Rattle.chk_record_index.proofs.Orders.{streams}
 use Rattle.chk_demux.specs.Demuxed.{InStreamOrder}
 use Rattle.chk_demux.specs.Giving.{record_chunk}
 use Rattle.chk_demux.specs.Splitting.{stream_chunks, all_chunks}

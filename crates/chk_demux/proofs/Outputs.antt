@@ -11,17 +11,17 @@ use Rattle.chk_world.specs.Places.{As}
 use Rattle.chk_world.specs.Sight.{job, Sight, sight, AtJob}
 use Rattle.chk_world.specs.JobSteps.{IsOf, WritesTo}
 use Rattle.chk_world.proofs.NameTests.{nat_same, nat_self}
-use Rattle.chk_heads.specs.declared.fault.JobFault.{JobFault}
-use Rattle.chk_heads.specs.declared.fault.JobFault.TheVariants.{NoMemory}
+use Rattle.chk_record_index.specs.declared.fault.JobFault.{JobFault}
+use Rattle.chk_record_index.specs.declared.fault.JobFault.TheVariants.{NoMemory}
 use Rattle.chk_book.specs.declared.segmenter.Segmenter.{Segmenter}
-use Rattle.chk_parts.proofs.FromKnown.{with_fact}
-use Rattle.chk_parts.proofs.OneSegment.{quiet_write}
+use Rattle.chk_archive_parts.proofs.FromKnown.{with_fact}
+use Rattle.chk_archive_parts.proofs.OneSegment.{quiet_write}
 use Rattle.chk_world.proofs.Lifts.{no_write_starts}
 use Rattle.chk_demux.specs.Working.{EndsSo, Worked}
 use Rattle.chk_demux.specs.Writes.{IsFree, IsSoFar, SoFar, PutSoFar, IsOutput, IsForDemux, IsWriter, HasSome, bytes_of}
 use Rattle.chk_demux.specs.declared.output.Output.{Output}
 use Rattle.chk_demux.proofs.Ends.{at_as, so_fails, so_done}
-use Rattle.chk_parts.proofs.Works.{works_memory, works_value, works_end}
+use Rattle.chk_archive_parts.proofs.Works.{works_memory, works_value, works_end}
 use Rattle.chk_book.proofs.Works.{works_none}
 
 -- what less is asked before

@@ -13,14 +13,14 @@ use Rattle.chk_world.specs.Sight.{Sight}
 use Rattle.chk_world.specs.TrueBooks.{HasBytes}
 use Rattle.chk_world.proofs.Each.{Each, each_filter, each_as}
 use Rattle.chk_world.proofs.BooksTrue.{run_length}
-use Rattle.chk_heads.specs.Heads.{Head}
-use Rattle.chk_heads.specs.Order.{no_head}
-use Rattle.chk_plan.specs.Passes.{head_in}
-use Rattle.chk_plan.proofs.Bridges.{each_index}
-use Rattle.chk_merge.specs.Courses.{is_head_of}
-use Rattle.chk_parts.specs.Cuts.{no_chunk}
-use Rattle.chk_parts.specs.Records.{IsRecordOf, AreRecords}
-use Rattle.chk_parts.proofs.CutLists.{zip_at}
+use Rattle.chk_record_index.specs.Heads.{Head}
+use Rattle.chk_record_index.specs.Order.{no_head}
+use Rattle.chk_archive_plan.specs.Passes.{head_in}
+use Rattle.chk_archive_plan.proofs.Bridges.{each_index}
+use Rattle.chk_record_reader.specs.Courses.{is_head_of}
+use Rattle.chk_archive_parts.specs.Cuts.{no_chunk}
+use Rattle.chk_archive_parts.specs.Records.{IsRecordOf, AreRecords}
+use Rattle.chk_archive_parts.proofs.CutLists.{zip_at}
 use Rattle.chk_demux.specs.Giving.{holds_byte, cluster_back, IsPlaced}
 use Rattle.chk_demux.specs.Splitting.{ends_past, past_of, past_in, RunsSo}
 

@@ -16,8 +16,8 @@ use Rattle.chk_world.proofs.NameTests.{streams_same}
 use Rattle.chk_world.proofs.Segments.{named_sound, names_segments, NamedAreSound, NewlyPublished, book_after, segment_stays, new_stays, chunks_same, book_is, archive_grows}
 use Rattle.chk_world.proofs.BooksTrue.{books_stay_true}
 use Rattle.chk_world.proofs.Each.{each_at, filter_each, filter_in, first_in}
-use Rattle.chk_splitter.proofs.RecordLemmas.{split_pieces, split_grows}
-use Rattle.chk_splitter.specs.Splitting.{pieces_of}
+use Rattle.chk_demux_split.proofs.RecordLemmas.{split_pieces, split_grows}
+use Rattle.chk_demux_split.specs.Splitting.{pieces_of}
 
 -- no bytes have no records
 pub split_none : (stamped : List (List ℕ)) (s : Stream) (start : ℕ) → split stamped s start [] ≡ []

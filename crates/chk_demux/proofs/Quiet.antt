@@ -7,10 +7,10 @@ use Rattle.chk_world.specs.Books.{Book, End}
 use Rattle.chk_world.specs.Sight.{Sight}
 use Rattle.chk_world.specs.TrueBooks.{HasBytes}
 use Rattle.chk_world.proofs.Each.{each_filter}
-use Rattle.chk_heads.specs.Heads.{Head}
-use Rattle.chk_merge.specs.declared.reader.RecordReader.{RecordReader}
-use Rattle.chk_parts.specs.Fetching.{AreWindows}
-use Rattle.chk_splitter.specs.Splitting.{pieces_of}
+use Rattle.chk_record_index.specs.Heads.{Head}
+use Rattle.chk_record_reader.specs.declared.reader.RecordReader.{RecordReader}
+use Rattle.chk_archive_parts.specs.Fetching.{AreWindows}
+use Rattle.chk_demux_split.specs.Splitting.{pieces_of}
 use Rattle.chk_demux.specs.Giving.{chunks_of_fed}
 use Rattle.chk_demux.specs.Splitting.{split_from, past_in, is_stamped, RunsSo, stream_chunks, stream_left}
 use Rattle.chk_demux.specs.Writes.{IsOutput}

@@ -11,10 +11,10 @@ use Rattle.chk_world.specs.Jobs.{Run, HasStart}
 use Rattle.chk_world.proofs.NameTests.{streams_same}
 use Rattle.chk_world.proofs.Each.{Each, each_as}
 use Rattle.chk_world.proofs.BooksTrue.{has_start_is, each_append}
-use Rattle.chk_plan.proofs.Parts.{run_then, stream_self}
+use Rattle.chk_archive_plan.proofs.Parts.{run_then, stream_self}
 use Rattle.chk_book.specs.Segmenting.{end_of, raised, raised_all}
 use Rattle.chk_book.proofs.EndRaises.{ending_at}
-use Rattle.chk_parts.proofs.EndsInOrder.{Sorted, Has, has_still, has_now, ends_raised}
+use Rattle.chk_archive_parts.proofs.EndsInOrder.{Sorted, Has, has_still, has_now, ends_raised}
 use Rattle.chk_demux.proofs.Places.{run_split}
 
 -- ---- one record more

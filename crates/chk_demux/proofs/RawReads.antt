@@ -22,25 +22,25 @@ use Rattle.chk_world.specs.JobSteps.{IsOf, ReadsFile, SparesFile, WritesTo, remo
 use Rattle.chk_world.specs.Sight.{Sight}
 use Rattle.chk_world.proofs.Each.{later_one}
 use Rattle.chk_world.proofs.Segments.{counts_in, none_in}
-use Rattle.chk_heads.specs.Heads.{Head}
-use Rattle.chk_heads.specs.Order.{no_head}
-use Rattle.chk_heads.specs.Faults.{job_fault, IsOfRead, IsOfWrite}
-use Rattle.chk_heads.specs.declared.fault.JobFault.{JobFault}
-use Rattle.chk_heads.specs.declared.fault.JobFault.TheVariants.{Outside, Damaged, Spent, NoMemory}
+use Rattle.chk_record_index.specs.Heads.{Head}
+use Rattle.chk_record_index.specs.Order.{no_head}
+use Rattle.chk_record_index.specs.Faults.{job_fault, IsOfRead, IsOfWrite}
+use Rattle.chk_record_index.specs.declared.fault.JobFault.{JobFault}
+use Rattle.chk_record_index.specs.declared.fault.JobFault.TheVariants.{Outside, Damaged, Spent, NoMemory}
 use Rattle.chk_book.specs.Books.{book_view}
 use Rattle.chk_book.specs.Loaded.{LoadedBook, IsBookOf, book_result, file_bytes}
 use Rattle.chk_book.specs.declared.book.Book.{Book as Struct}
-use Rattle.chk_merge.specs.Segments.{names_of, HasFiles, SparesFiles, AreSettled}
-use Rattle.chk_merge.specs.Merging.{AreApart}
-use Rattle.chk_merge.specs.ReadBack.{value_held}
-use Rattle.chk_merge.specs.declared.reader.RecordReader.{RecordReader}
-use Rattle.chk_merge.proofs.Frames.{reads_quiet, stays_so, spares_one, among}
-use Rattle.chk_parts.specs.Cuts.{no_chunk}
-use Rattle.chk_parts.specs.Gathering.{held as known_file, AreSound}
-use Rattle.chk_parts.specs.Records.{IsRecordOf, AreRecords}
-use Rattle.chk_plan.specs.Passes.{head_in}
-use Rattle.chk_parts.specs.Fetching.{head_file, IsRecordAt, AreWindows, CanFetch, Fetched}
-use Rattle.chk_parts.proofs.CutLists.{zip_at}
+use Rattle.chk_record_reader.specs.Segments.{names_of, HasFiles, SparesFiles, AreSettled}
+use Rattle.chk_record_reader.specs.Merging.{AreApart}
+use Rattle.chk_record_reader.specs.ReadBack.{value_held}
+use Rattle.chk_record_reader.specs.declared.reader.RecordReader.{RecordReader}
+use Rattle.chk_record_reader.proofs.Frames.{reads_quiet, stays_so, spares_one, among}
+use Rattle.chk_archive_parts.specs.Cuts.{no_chunk}
+use Rattle.chk_archive_parts.specs.Gathering.{held as known_file, AreSound}
+use Rattle.chk_archive_parts.specs.Records.{IsRecordOf, AreRecords}
+use Rattle.chk_archive_plan.specs.Passes.{head_in}
+use Rattle.chk_archive_parts.specs.Fetching.{head_file, IsRecordAt, AreWindows, CanFetch, Fetched}
+use Rattle.chk_archive_parts.proofs.CutLists.{zip_at}
 use Rattle.chk_demux.specs.Beginning.{Begins, starts, only_reads}
 use Rattle.chk_demux.specs.Damage.{archive_name, demux_name, archive_book, with_books, reads_of, reads_from, no_book, BooksAlone, no_archive_book, no_demux_book, bad_records, LoadedBooks, HasCounts, AreRead, AreOfNew, ReadsOn, NotDamaged, SplitSoundly, RanSoundly, ReadAll}
 use Rattle.chk_demux.specs.Due.{IsDueFrom, IsDueIn}

@@ -26,20 +26,20 @@ use Rattle.chk_world.proofs.Each.{Each, each_at, each_filter, filter_in, later_o
 use Rattle.chk_world.proofs.BooksTrue.{each_flat, each_within}
 use Rattle.chk_world.proofs.NameLemmas.{read-spell}
 use Rattle.chk_world.proofs.Segments.{none_in}
-use Rattle.chk_heads.specs.Heads.{Head, heads_in}
-use Rattle.chk_heads.specs.Order.{in_head_order}
-use Rattle.chk_heads.specs.Pieces.{bytes_in}
-use Rattle.chk_heads.specs.declared.fault.JobFault.{JobFault}
-use Rattle.chk_heads.specs.declared.fault.JobFault.TheVariants.{Outside, Damaged, Spent, NoMemory}
+use Rattle.chk_record_index.specs.Heads.{Head, heads_in}
+use Rattle.chk_record_index.specs.Order.{in_head_order}
+use Rattle.chk_record_index.specs.Pieces.{bytes_in}
+use Rattle.chk_record_index.specs.declared.fault.JobFault.{JobFault}
+use Rattle.chk_record_index.specs.declared.fault.JobFault.TheVariants.{Outside, Damaged, Spent, NoMemory}
 use Rattle.chk_book.specs.Folders.{segment_name}
-use Rattle.chk_merge.specs.Segments.{names_of, chunks_in_files, HasFiles, SparesFiles, AreSettled, IsSound, heads_from}
-use Rattle.chk_merge.specs.Merging.{AreApart}
-use Rattle.chk_parts.specs.Gathering.{held as known_file, held_at, CanBeRead, own_segment, IsSoundFile, AreSound, heads_of}
-use Rattle.chk_parts.specs.Records.{AreRecords, chunks_held, file_at, found_in}
-use Rattle.chk_parts.proofs.FoundRecords.{records_in_order}
-use Rattle.chk_parts.proofs.OneSegment.{segment_spelled}
+use Rattle.chk_record_reader.specs.Segments.{names_of, chunks_in_files, HasFiles, SparesFiles, AreSettled, IsSound, heads_from}
+use Rattle.chk_record_reader.specs.Merging.{AreApart}
+use Rattle.chk_archive_parts.specs.Gathering.{held as known_file, held_at, CanBeRead, own_segment, IsSoundFile, AreSound, heads_of}
+use Rattle.chk_archive_parts.specs.Records.{AreRecords, chunks_held, file_at, found_in}
+use Rattle.chk_archive_parts.proofs.FoundRecords.{records_in_order}
+use Rattle.chk_archive_parts.proofs.OneSegment.{segment_spelled}
 use Rattle.chk_demux.specs.Damage.{HasCounts, AreOfNew, NotDamaged, SplitSoundly}
-use Rattle.chk_newest.specs.Forward.{is_past, past_of as heads_past}
+use Rattle.chk_demux_scan.specs.Forward.{is_past, past_of as heads_past}
 use Rattle.chk_demux.specs.Due.{HasRecord, HasDue}
 use Rattle.chk_demux.specs.Enough.{places_for, RunsFrom, AreNewest, SoundNewest, SoundOlder}
 use Rattle.chk_demux.specs.Shown.{PutsIf}

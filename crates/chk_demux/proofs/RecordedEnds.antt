@@ -5,12 +5,12 @@ use Rattle.std.proofs.lemmas.List.{drop_more}
 use Rattle.chk_chunk.specs.Keys.{Stream, same_stream, stream_lt}
 use Rattle.chk_world.specs.Books.{End}
 use Rattle.chk_world.proofs.Each.{Each, each_as}
-use Rattle.chk_plan.proofs.Bridges.{each_index}
+use Rattle.chk_archive_plan.proofs.Bridges.{each_index}
 use Rattle.chk_book.specs.Books.{end_in}
 use Rattle.chk_book.specs.Views.{end_view}
 use Rattle.chk_book.specs.declared.lists.End.{End as EndStruct}
-use Rattle.chk_parts.proofs.EndsInOrder.{apart, apart_from, Sorted, behind_it}
-use Rattle.chk_merge.proofs.OnePass.{stream_onward as before_on}
+use Rattle.chk_archive_parts.proofs.EndsInOrder.{apart, apart_from, Sorted, behind_it}
+use Rattle.chk_record_reader.proofs.OnePass.{stream_onward as before_on}
 use Rattle.chk_demux.proofs.Streams.{seen_at}
 
 -- an item of a list, as it is seen

@@ -19,11 +19,11 @@ use Rattle.chk_world.specs.TrueBooks.{HasBytes}
 use Rattle.chk_world.proofs.Each.{Each, each_as, each_at, each_filter, later_one}
 use Rattle.chk_world.proofs.Segments.{flat_same}
 use Rattle.chk_world.proofs.BooksTrue.{books_stay_true, each_append, each_named, has_start_is}
-use Rattle.chk_heads.specs.Heads.{Head}
-use Rattle.chk_heads.specs.Order.{in_head_order}
-use Rattle.chk_plan.proofs.Runs.{all_put}
-use Rattle.chk_merge.specs.Segments.{names_of}
-use Rattle.chk_parts.specs.Gathering.{heads_of}
+use Rattle.chk_record_index.specs.Heads.{Head}
+use Rattle.chk_record_index.specs.Order.{in_head_order}
+use Rattle.chk_archive_plan.proofs.Runs.{all_put}
+use Rattle.chk_record_reader.specs.Segments.{names_of}
+use Rattle.chk_archive_parts.specs.Gathering.{heads_of}
 use Rattle.chk_book.specs.Segmenting.{with_segment}
 use Rattle.chk_book.specs.declared.segmenter.Segmenter.{Segmenter}
 use Rattle.chk_demux.specs.Demuxed.{all_named, NamesStamped, OneMore, HasKey, DemuxDone, IsDue}

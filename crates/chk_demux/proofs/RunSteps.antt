@@ -19,20 +19,20 @@ use Rattle.chk_world.specs.Books.{Book, ends_rise}
 use Rattle.chk_world.specs.Places.{As}
 use Rattle.chk_world.specs.Sight.{job, Sight, sight, own_book, AtJob}
 use Rattle.chk_world.specs.JobSteps.{IsOf, ReadsFile, ReadsOrWrites}
-use Rattle.chk_heads.specs.declared.fault.JobFault.{JobFault}
-use Rattle.chk_heads.specs.declared.fault.JobFault.TheVariants.{Outside, Damaged, Spent, NoMemory}
-use Rattle.chk_heads.specs.Faults.{FailsLast, IsOfRead}
-use Rattle.chk_heads.specs.Pieces.{AsksInPieces}
-use Rattle.chk_heads.specs.Heads.{Head}
-use Rattle.chk_heads.specs.Order.{in_head_order}
+use Rattle.chk_record_index.specs.declared.fault.JobFault.{JobFault}
+use Rattle.chk_record_index.specs.declared.fault.JobFault.TheVariants.{Outside, Damaged, Spent, NoMemory}
+use Rattle.chk_record_index.specs.Faults.{FailsLast, IsOfRead}
+use Rattle.chk_record_index.specs.Pieces.{AsksInPieces}
+use Rattle.chk_record_index.specs.Heads.{Head}
+use Rattle.chk_record_index.specs.Order.{in_head_order}
 use Rattle.chk_book.specs.Books.{book_view}
 use Rattle.chk_book.specs.Folders.{segment_name}
-use Rattle.chk_merge.specs.Segments.{names_of}
-use Rattle.chk_merge.specs.Checking.{AllGoWell, ToldOfSome}
-use Rattle.chk_merge.specs.Archives.{ToldBreak}
-use Rattle.chk_parts.specs.Gathering.{heads_of, Found}
-use Rattle.chk_parts.specs.Records.{AreRecords}
-use Rattle.chk_parts.proofs.FromKnown.{from_known, reach, reach_known, with_fact}
+use Rattle.chk_record_reader.specs.Segments.{names_of}
+use Rattle.chk_record_reader.specs.Checking.{AllGoWell, ToldOfSome}
+use Rattle.chk_record_reader.specs.Archives.{ToldBreak}
+use Rattle.chk_archive_parts.specs.Gathering.{heads_of, Found}
+use Rattle.chk_archive_parts.specs.Records.{AreRecords}
+use Rattle.chk_archive_parts.proofs.FromKnown.{from_known, reach, reach_known, with_fact}
 use Rattle.chk_demux.specs.Beginning.{HasBegun, HasBooks, Begins, starts as begins_it, only_reads as begins_reading}
 use Rattle.chk_demux.specs.Demuxed.{Earlier, Begun, Demuxed, DemuxesBy, starts, only_reads, writes_records, replaces_book, WritesBook, writes_segment, replaces}
 use Rattle.chk_demux.specs.Enough.{Enough}
@@ -45,12 +45,12 @@ use Rattle.chk_demux.specs.declared.beginning.Books.{Books}
 use Rattle.chk_demux.specs.declared.output.Output.{Output}
 use Rattle.chk_demux.specs.declared.report.DemuxReport.{DemuxReport}
 use Rattle.chk_demux.proofs.Ends.{at_as, ends_bottom, so_fails, so_done, no_more}
-use Rattle.chk_parts.proofs.Published.{replaces_no_start, quiet_replace}
+use Rattle.chk_archive_parts.proofs.Published.{replaces_no_start, quiet_replace}
 use Rattle.chk_demux.proofs.RunFacts.{CanRun, News}
 use Rattle.chk_demux.proofs.Streams.{reads_or_writes_start, quiet_reads_or_writes}
-use Rattle.chk_parts.proofs.Works.{works_as}
+use Rattle.chk_archive_parts.proofs.Works.{works_as}
 use Rattle.chk_book.proofs.Works.{works_then, own_of, worked}
-use Rattle.chk_parts.proofs.OneSegment.{quiet_write}
+use Rattle.chk_archive_parts.proofs.OneSegment.{quiet_write}
 use Rattle.chk_world.proofs.Lifts.{no_write_starts}
 use Rattle.chk_site.specs.Acts.{Starts}
 use Rattle.chk_world.proofs.ToldCalls.{talks}

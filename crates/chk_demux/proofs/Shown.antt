@@ -7,21 +7,21 @@ use Rattle.chk_site.specs.History.{History}
 use Rattle.chk_site.specs.Site.{Adds}
 use Rattle.chk_site.proofs.Runs.{adds_then, adds_as}
 use Rattle.chk_world.specs.Books.{Book}
-use Rattle.chk_heads.specs.declared.fault.JobFault.{JobFault}
-use Rattle.chk_heads.specs.declared.fault.JobFault.TheVariants.{Outside, Damaged, Spent, NoMemory}
-use Rattle.chk_heads.specs.Heads.{Head}
-use Rattle.chk_heads.specs.Order.{in_head_order}
-use Rattle.chk_heads.specs.Faults.{job_fault, IsOfBegin, IsOfRead, IsOfWrite}
-use Rattle.chk_heads.specs.Causes.{Shows}
-use Rattle.chk_heads.proofs.Showing.{within_all, within_late, within_early}
+use Rattle.chk_record_index.specs.declared.fault.JobFault.{JobFault}
+use Rattle.chk_record_index.specs.declared.fault.JobFault.TheVariants.{Outside, Damaged, Spent, NoMemory}
+use Rattle.chk_record_index.specs.Heads.{Head}
+use Rattle.chk_record_index.specs.Order.{in_head_order}
+use Rattle.chk_record_index.specs.Faults.{job_fault, IsOfBegin, IsOfRead, IsOfWrite}
+use Rattle.chk_record_index.specs.Causes.{Shows}
+use Rattle.chk_record_index.proofs.Showing.{within_all, within_late, within_early}
 use Rattle.chk_book.specs.Books.{book_view}
 use Rattle.chk_book.specs.Loaded.{ShowsBook}
 use Rattle.chk_book.specs.declared.book.Book.{Book as Struct}
 use Rattle.chk_book.specs.Causes.{SpentBook}
-use Rattle.chk_merge.specs.Checking.{ToldOfSome}
-use Rattle.chk_merge.specs.Segments.{names_of}
-use Rattle.chk_merge.specs.Gone.{IsGoneIn}
-use Rattle.chk_merge.proofs.Causes.{late_gone_in, late_unsound}
+use Rattle.chk_record_reader.specs.Checking.{ToldOfSome}
+use Rattle.chk_record_reader.specs.Segments.{names_of}
+use Rattle.chk_record_reader.specs.Gone.{IsGoneIn}
+use Rattle.chk_record_reader.proofs.Causes.{late_gone_in, late_unsound}
 use Rattle.chk_demux.specs.declared.beginning.Books.{Books}
 use Rattle.chk_demux.specs.Shown.{ShowsArchive, IsUnsoundFrom, whole, lost, ShowsNewestSound, IsDamage, ShowsSpent, no_archive, no_records, unsound, ShowsBegun}
 

@@ -7,8 +7,8 @@ use Rattle.chk_chunk.specs.Keys.{Stream, Chunk, same_stream, stream_lt, is_of}
 use Rattle.chk_world.specs.Books.{End}
 use Rattle.chk_world.proofs.NameTests.{streams_same}
 use Rattle.chk_world.proofs.Each.{Each, each_as, each_at, each_from, later_one}
-use Rattle.chk_plan.proofs.Parts.{stream_self}
-use Rattle.chk_parts.proofs.EndsInOrder.{apart, apart_from, Sorted, Has}
+use Rattle.chk_archive_plan.proofs.Parts.{stream_self}
+use Rattle.chk_archive_parts.proofs.EndsInOrder.{apart, apart_from, Sorted, Has}
 use Rattle.chk_demux.specs.Writes.{bytes_of}
 
 -- ---- whether a stream is among them

@@ -25,21 +25,21 @@ use Rattle.chk_world.proofs.SmallFiles.{readable}
 use Rattle.chk_world.proofs.SpelledLemmas.{book_so}
 use Rattle.chk_world.proofs.Segments.{counts_in, none_in, book_is}
 use Rattle.chk_world.proofs.BooksTrue.{books_stay_true, each_named}
-use Rattle.chk_heads.specs.Order.{in_head_order}
-use Rattle.chk_heads.specs.Pieces.{bytes_in}
+use Rattle.chk_record_index.specs.Order.{in_head_order}
+use Rattle.chk_record_index.specs.Pieces.{bytes_in}
 use Rattle.chk_book.specs.Folders.{segment_name}
 use Rattle.chk_book.specs.Books.{end_in}
-use Rattle.chk_merge.specs.Segments.{names_of, AreSettled}
-use Rattle.chk_parts.specs.Gathering.{held, held_at, CanBeRead, own_segment, IsSoundFile, AreSound, heads_of}
-use Rattle.chk_parts.specs.Records.{chunks_held, found_in, AreRecords}
-use Rattle.chk_parts.proofs.FoundRecords.{records_in_order}
-use Rattle.chk_parts.proofs.OneFile.{file_known}
-use Rattle.chk_parts.proofs.OneSegment.{segment_spelled}
+use Rattle.chk_record_reader.specs.Segments.{names_of, AreSettled}
+use Rattle.chk_archive_parts.specs.Gathering.{held, held_at, CanBeRead, own_segment, IsSoundFile, AreSound, heads_of}
+use Rattle.chk_archive_parts.specs.Records.{chunks_held, found_in, AreRecords}
+use Rattle.chk_archive_parts.proofs.FoundRecords.{records_in_order}
+use Rattle.chk_archive_parts.proofs.OneFile.{file_known}
+use Rattle.chk_archive_parts.proofs.OneSegment.{segment_spelled}
 use Rattle.chk_demux.specs.Demuxed.{all_named}
 use Rattle.chk_demux.specs.Splitting.{split_from, RunsSo, SplitAll}
 use Rattle.chk_demux.specs.Writes.{IsFree}
 use Rattle.chk_world.proofs.LogEnds.{legal_modelled}
-use Rattle.chk_merge.proofs.BothLimits.{limits_agree}
+use Rattle.chk_record_reader.proofs.BothLimits.{limits_agree}
 
 -- ---- chunks of at most so many bytes are chunks of at most more
 

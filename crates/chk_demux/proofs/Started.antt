@@ -27,13 +27,13 @@ use Rattle.chk_world.proofs.Segments.{counts_in, flat_same}
 use Rattle.chk_world.proofs.SightStays.{sight_stays}
 use Rattle.chk_world.proofs.OwnFiles.{done_file, refused_file}
 use Rattle.chk_world.proofs.ToldCalls.{owned, told_start}
-use Rattle.chk_heads.specs.Pieces.{AsksInPieces}
+use Rattle.chk_record_index.specs.Pieces.{AsksInPieces}
 use Rattle.chk_demux.specs.Demuxed.{Earlier, Begun, all_named}
 use Rattle.chk_demux.specs.Beginning.{own_earlier, HasRecords, HasStarted, Begins, starts}
 use Rattle.chk_demux.specs.Working.{Worked, job_result}
-use Rattle.chk_parts.proofs.Works.{as_job}
+use Rattle.chk_archive_parts.proofs.Works.{as_job}
 use Rattle.chk_book.proofs.Works.{worked}
-use Rattle.chk_parts.proofs.Beginning.{no_read, start_last}
+use Rattle.chk_archive_parts.proofs.Beginning.{no_read, start_last}
 
 abbrev pub StartQ : Asked
 StartQ = asked job Start [] 0 0

@@ -8,11 +8,11 @@ use Rattle.chk_bytes.specs.Words.{joined}
 use Rattle.chk_chunk.specs.Keys.{Chunk}
 use Rattle.chk_world.specs.Books.{End, Book}
 use Rattle.chk_world.specs.Sight.{job, Sight, AtJob}
-use Rattle.chk_heads.specs.Heads.{Head}
-use Rattle.chk_merge.specs.declared.reader.RecordReader.{RecordReader}
-use Rattle.chk_parts.specs.Fetching.{AreWindows}
-use Rattle.chk_parts.specs.Records.{AreRecords}
-use Rattle.chk_splitter.specs.Splitting.{Splitting, fresh, pieces_of}
+use Rattle.chk_record_index.specs.Heads.{Head}
+use Rattle.chk_record_reader.specs.declared.reader.RecordReader.{RecordReader}
+use Rattle.chk_archive_parts.specs.Fetching.{AreWindows}
+use Rattle.chk_archive_parts.specs.Records.{AreRecords}
+use Rattle.chk_demux_split.specs.Splitting.{Splitting, fresh, pieces_of}
 use Rattle.chk_site.specs.Acts.{Deed, Starts}
 use Rattle.chk_site.specs.History.{History}
 use Rattle.chk_site.specs.Site.{Adds}
@@ -21,9 +21,9 @@ use Rattle.chk_site.proofs.Leads.{leads_as, leads_then}
 use Rattle.chk_world.specs.Places.{As}
 use Rattle.chk_world.specs.JobSteps.{ReadsFile, reads, asks, ReadsOrWrites}
 use Rattle.chk_world.proofs.ToldCalls.{talks}
-use Rattle.chk_heads.specs.declared.fault.JobFault.{JobFault}
-use Rattle.chk_parts.proofs.FromKnown.{with_fact}
-use Rattle.chk_parts.proofs.OneSegment.{quiet_write}
+use Rattle.chk_record_index.specs.declared.fault.JobFault.{JobFault}
+use Rattle.chk_archive_parts.proofs.FromKnown.{with_fact}
+use Rattle.chk_archive_parts.proofs.OneSegment.{quiet_write}
 use Rattle.chk_world.proofs.Lifts.{no_write_starts}
 use Rattle.chk_demux.specs.Working.{EndsSo, Worked}
 use Rattle.chk_demux.specs.Writes.{IsOutput}

@@ -9,13 +9,13 @@ use Rattle.chk_world.specs.Books.{chunks_within}
 use Rattle.chk_world.specs.Sight.{Sight}
 use Rattle.chk_world.proofs.BooksTrue.{each_append}
 use Rattle.chk_world.proofs.Each.{Each, each_at, each_from, later_one}
-use Rattle.chk_heads.specs.Heads.{Head, heads_in}
-use Rattle.chk_heads.specs.Pieces.{bytes_in}
-use Rattle.chk_merge.specs.ReadBack.{chunk_at}
-use Rattle.chk_merge.proofs.AllRead.{numbered}
-use Rattle.chk_merge.proofs.Records.{chunks_of_heads}
-use Rattle.chk_parts.specs.Gathering.{held, heads_of}
-use Rattle.chk_parts.specs.Records.{file_at, found_in}
+use Rattle.chk_record_index.specs.Heads.{Head, heads_in}
+use Rattle.chk_record_index.specs.Pieces.{bytes_in}
+use Rattle.chk_record_reader.specs.ReadBack.{chunk_at}
+use Rattle.chk_record_reader.proofs.AllRead.{numbered}
+use Rattle.chk_record_reader.proofs.Records.{chunks_of_heads}
+use Rattle.chk_archive_parts.specs.Gathering.{held, heads_of}
+use Rattle.chk_archive_parts.specs.Records.{file_at, found_in}
 use Rattle.chk_demux.proofs.NewestHeads.{chunk_for}
 
 map_alike : (f g : Head → Chunk) (hs : List Head) → Each (λ h. f h ≡ g h) hs → map f hs ≡ map g hs

@@ -15,21 +15,21 @@ use Rattle.chk_world.specs.TrueBooks.{HasBytes}
 use Rattle.chk_world.proofs.Each.{Each, each_at, each_filter, each_from, filter_in}
 use Rattle.chk_world.proofs.NameTests.{streams_same}
 use Rattle.chk_world.proofs.Segments.{flat_same}
-use Rattle.chk_heads.specs.Heads.{Head, head_of}
-use Rattle.chk_heads.specs.Order.{head_before, in_head_order}
-use Rattle.chk_heads.proofs.Sorting.{Sorted, one_order, sort_sorted, sort_ties}
-use Rattle.chk_merge.specs.Courses.{is_head_of}
-use Rattle.chk_parts.specs.Records.{IsRecordOf, AreRecords}
-use Rattle.chk_parts.proofs.EndsInOrder.{apart, Sorted as Rising, sorted}
-use Rattle.chk_parts.proofs.FoundRecords.{is_head}
-use Rattle.chk_newest.specs.Forward.{is_past, past_of as heads_past}
-use Rattle.chk_splitter.specs.Splitting.{pieces_of}
+use Rattle.chk_record_index.specs.Heads.{Head, head_of}
+use Rattle.chk_record_index.specs.Order.{head_before, in_head_order}
+use Rattle.chk_record_index.proofs.Sorting.{Sorted, one_order, sort_sorted, sort_ties}
+use Rattle.chk_record_reader.specs.Courses.{is_head_of}
+use Rattle.chk_archive_parts.specs.Records.{IsRecordOf, AreRecords}
+use Rattle.chk_archive_parts.proofs.EndsInOrder.{apart, Sorted as Rising, sorted}
+use Rattle.chk_archive_parts.proofs.FoundRecords.{is_head}
+use Rattle.chk_demux_scan.specs.Forward.{is_past, past_of as heads_past}
+use Rattle.chk_demux_split.specs.Splitting.{pieces_of}
 use Rattle.chk_demux.specs.Enough.{places_for, Enough}
 use Rattle.chk_demux.specs.Splitting.{split_from, past_of, past_in, is_stamped, RunsSo, stream_chunks, stream_left}
 use Rattle.chk_demux.proofs.HeadsInOrder.{heads_ordered, streams_rise}
 use Rattle.chk_demux.proofs.NewestChunks.{fed_alike}
 use Rattle.chk_demux.proofs.SortedEnds.{sum_each}
-use Rattle.chk_newest.proofs.Forwards.{filter_swap}
+use Rattle.chk_demux_scan.proofs.Forwards.{filter_swap}
 
 -- ---- heads in order that pass a test
 

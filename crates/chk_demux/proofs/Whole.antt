@@ -8,13 +8,13 @@ use Rattle.std.proofs.lemmas.Option.{none-some}
 use Rattle.chk_chunk.specs.Keys.{same_stream, stream_lt}
 use Rattle.chk_world.specs.Books.{End, ends_rise}
 use Rattle.chk_world.proofs.Each.{each_at, each_from}
-use Rattle.chk_heads.specs.Heads.{Head}
-use Rattle.chk_merge.specs.Checking.{AllGoWell}
-use Rattle.chk_merge.specs.Courses.{is_head_of, end_of, first_head, goes_on, first_break, reached, IsBreakBy}
-use Rattle.chk_merge.specs.OnePass.{no_end, end_at, IsListed}
-use Rattle.chk_newest.specs.Backward.{begin_in, RunsBack, AllRunBack, ReachStarts}
-use Rattle.chk_parts.proofs.EndsInOrder.{apart_from, Sorted, sorted}
-use Rattle.chk_plan.proofs.Parts.{stream_self}
+use Rattle.chk_record_index.specs.Heads.{Head}
+use Rattle.chk_record_reader.specs.Checking.{AllGoWell}
+use Rattle.chk_record_reader.specs.Courses.{is_head_of, end_of, first_head, goes_on, first_break, reached, IsBreakBy}
+use Rattle.chk_record_reader.specs.OnePass.{no_end, end_at, IsListed}
+use Rattle.chk_demux_scan.specs.Backward.{begin_in, RunsBack, AllRunBack, ReachStarts}
+use Rattle.chk_archive_parts.proofs.EndsInOrder.{apart_from, Sorted, sorted}
+use Rattle.chk_archive_plan.proofs.Parts.{stream_self}
 
 -- of ends in order the one of a stream is found
 own_end : (es : List End) → Sorted es → (e : End) → Contains es e → end_of e.stream es ≡ Some e

@@ -7,11 +7,11 @@ use Rattle.chk_world.specs.Rules.{Legal}
 use Rattle.chk_world.specs.Places.{AtTold}
 use Rattle.chk_world.specs.Sight.{job, Sight, own_book, own_chunks, AtJob}
 use Rattle.chk_book.specs.Books.{book_view}
-use Rattle.chk_heads.specs.declared.fault.JobFault.{JobFault}
-use Rattle.chk_heads.specs.declared.fault.JobFault.TheVariants.{Damaged}
+use Rattle.chk_record_index.specs.declared.fault.JobFault.{JobFault}
+use Rattle.chk_record_index.specs.declared.fault.JobFault.TheVariants.{Damaged}
 use Rattle.chk_demux.specs.Demuxed.{Earlier}
 use Rattle.chk_demux.specs.declared.beginning.Books.{Books}
-pub use Rattle.chk_merge.specs.Courses.{Begins, starts, only_reads}
+pub use Rattle.chk_record_reader.specs.Courses.{Begins, starts, only_reads}
 
 -- what the job knows of the records and of their book
 abbrev pub own_earlier : Sight → Earlier

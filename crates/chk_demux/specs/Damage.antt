@@ -6,18 +6,18 @@ use Rattle.chk_site.specs.History.{History}
 use Rattle.chk_chunk.specs.Keys.{Stream}
 use Rattle.chk_world.specs.Books.{Segment, Book, book_in}
 use Rattle.chk_world.specs.Sight.{Sight}
-use Rattle.chk_heads.specs.Heads.{Head}
-use Rattle.chk_heads.specs.declared.fault.JobFault.{JobFault}
-use Rattle.chk_heads.specs.declared.fault.JobFault.TheVariants.{Damaged, Spent}
+use Rattle.chk_record_index.specs.Heads.{Head}
+use Rattle.chk_record_index.specs.declared.fault.JobFault.{JobFault}
+use Rattle.chk_record_index.specs.declared.fault.JobFault.TheVariants.{Damaged, Spent}
 use Rattle.chk_book.specs.Books.{book_view}
 use Rattle.chk_book.specs.Folders.{book_name}
 use Rattle.chk_book.specs.Loaded.{IsBookOf, IsNoBookAt, file_bytes}
-use Rattle.chk_merge.specs.Segments.{names_of, HasFiles}
-use Rattle.chk_merge.specs.Archives.{IsDamagedAt}
-use Rattle.chk_merge.specs.declared.reader.RecordReader.{RecordReader}
-use Rattle.chk_parts.specs.Gathering.{held}
-use Rattle.chk_parts.specs.Fetching.{AreWindows}
-use Rattle.chk_parts.specs.Records.{file_at}
+use Rattle.chk_record_reader.specs.Segments.{names_of, HasFiles}
+use Rattle.chk_record_reader.specs.Archives.{IsDamagedAt}
+use Rattle.chk_record_reader.specs.declared.reader.RecordReader.{RecordReader}
+use Rattle.chk_archive_parts.specs.Gathering.{held}
+use Rattle.chk_archive_parts.specs.Fetching.{AreWindows}
+use Rattle.chk_archive_parts.specs.Records.{file_at}
 use Rattle.chk_demux.specs.Shown.{PutsIf}
 use Rattle.chk_demux.specs.Due.{IsDueFrom, IsDueIn}
 use Rattle.chk_demux.specs.Enough.{RunsFrom}

@@ -17,10 +17,10 @@ use Rattle.chk_world.specs.Sight.{job}
 use Rattle.chk_world.specs.JobSteps.{ReadsFile, WritesTo}
 use Rattle.chk_world.proofs.Each.{Each}
 use Rattle.chk_book.specs.Folders.{segment_name}
-use Rattle.chk_heads.specs.declared.fault.JobFault.{JobFault}
-use Rattle.chk_heads.specs.declared.fault.JobFault.TheVariants.{Damaged, Spent}
-use Rattle.chk_parts.specs.Publishing.{ReplacesBookOf}
-pub use Rattle.chk_parts.specs.Publishing.{writes_book, names_book}
+use Rattle.chk_record_index.specs.declared.fault.JobFault.{JobFault}
+use Rattle.chk_record_index.specs.declared.fault.JobFault.TheVariants.{Damaged, Spent}
+use Rattle.chk_archive_parts.specs.Publishing.{ReplacesBookOf}
+pub use Rattle.chk_archive_parts.specs.Publishing.{writes_book, names_book}
 use Rattle.chk_demux.specs.Writes.{bytes_of}
 use Rattle.chk_demux.specs.declared.report.DemuxReport.{DemuxReport}
 

@@ -4,8 +4,8 @@ use Rattle.chk_site.specs.Files.{Files}
 use Rattle.chk_chunk.specs.Keys.{Chunk, chunk_limit}
 use Rattle.chk_world.specs.ArchiveRuns.{in_order}
 use Rattle.chk_world.specs.Books.{Book, End}
-use Rattle.chk_merge.specs.Segments.{names_of, chunks_in_files}
-use Rattle.chk_splitter.specs.Splitting.{Splitting, pieces_of}
+use Rattle.chk_record_reader.specs.Segments.{names_of, chunks_in_files}
+use Rattle.chk_demux_split.specs.Splitting.{Splitting, pieces_of}
 use Rattle.chk_demux.specs.Giving.{IsSplitting}
 use Rattle.chk_demux.specs.Splitting.{past_in, split_from, is_stamped}
 use Rattle.chk_demux.specs.Enough.{RunsFrom}

@@ -5,17 +5,17 @@ use Rattle.chk_site.specs.History.{History}
 use Rattle.chk_chunk.specs.Keys.{Stream, Chunk}
 use Rattle.chk_world.specs.Books.{Book, End}
 use Rattle.chk_world.specs.Sight.{Sight}
-use Rattle.chk_heads.specs.Heads.{Head}
-use Rattle.chk_heads.specs.Order.{in_head_order}
-use Rattle.chk_heads.specs.declared.fault.JobFault.{JobFault}
-use Rattle.chk_heads.specs.declared.fault.JobFault.TheVariants.{Damaged}
-use Rattle.chk_merge.specs.Archives.{IsDamagedAt}
-use Rattle.chk_merge.specs.Segments.{names_of, HasFiles}
-use Rattle.chk_parts.specs.Gathering.{heads_of}
-use Rattle.chk_parts.specs.Records.{AreRecords}
-use Rattle.chk_newest.specs.Backward.{begin_in, AllRunBack, ReachPlaces}
-use Rattle.chk_newest.specs.Forward.{past_of}
-use Rattle.chk_newest.specs.Newest.{heads_behind, Suffice}
+use Rattle.chk_record_index.specs.Heads.{Head}
+use Rattle.chk_record_index.specs.Order.{in_head_order}
+use Rattle.chk_record_index.specs.declared.fault.JobFault.{JobFault}
+use Rattle.chk_record_index.specs.declared.fault.JobFault.TheVariants.{Damaged}
+use Rattle.chk_record_reader.specs.Archives.{IsDamagedAt}
+use Rattle.chk_record_reader.specs.Segments.{names_of, HasFiles}
+use Rattle.chk_archive_parts.specs.Gathering.{heads_of}
+use Rattle.chk_archive_parts.specs.Records.{AreRecords}
+use Rattle.chk_demux_scan.specs.Backward.{begin_in, AllRunBack, ReachPlaces}
+use Rattle.chk_demux_scan.specs.Forward.{past_of}
+use Rattle.chk_demux_scan.specs.Newest.{heads_behind, Suffice}
 use Rattle.chk_demux.specs.Splitting.{split_from, SplitAll, StreamsRise, all_chunks, all_left}
 
 -- where the split of each stream of the archive goes on

@@ -5,12 +5,12 @@ use Rattle.chk_chunk.specs.Keys.{Stream, Chunk, has_words}
 use Rattle.chk_chunk.specs.Lent.{lent_key}
 use Rattle.chk_world.specs.Books.{End}
 use Rattle.chk_world.specs.Splits.{Record, ends_from}
-use Rattle.chk_heads.specs.Heads.{Head}
-use Rattle.chk_heads.specs.Order.{lent_head}
-use Rattle.chk_heads.specs.declared.gather.order.HeadRef.{HeadRef}
-use Rattle.chk_plan.specs.Passes.{head_in}
-use Rattle.chk_merge.specs.Courses.{is_head_of}
-use Rattle.chk_splitter.specs.Splitting.{Splitting, pieces_of, records_ahead}
+use Rattle.chk_record_index.specs.Heads.{Head}
+use Rattle.chk_record_index.specs.Order.{lent_head}
+use Rattle.chk_record_index.specs.declared.gather.order.HeadRef.{HeadRef}
+use Rattle.chk_archive_plan.specs.Passes.{head_in}
+use Rattle.chk_record_reader.specs.Courses.{is_head_of}
+use Rattle.chk_demux_split.specs.Splitting.{Splitting, pieces_of, records_ahead}
 
 -- the borrowed head is the one at this place, which is of the stream
 pub record IsOwnHead (heads : List Head) (s : Stream) (index : ℕ) (h : HeadRef) : Type 0 where

@@ -8,14 +8,14 @@ use Rattle.chk_world.specs.Books.{Book, ends_rise}
 use Rattle.chk_world.specs.Rules.{Legal}
 use Rattle.chk_world.specs.Sight.{Sight, sight, own_book}
 use Rattle.chk_world.specs.JobSteps.{ReadsFile, WritesTo}
-use Rattle.chk_heads.specs.Heads.{Head}
-use Rattle.chk_heads.specs.Order.{in_head_order}
-use Rattle.chk_merge.specs.Segments.{names_of, AreSettled}
-use Rattle.chk_merge.specs.Checking.{AllGoWell}
-use Rattle.chk_parts.specs.Gathering.{held, AreSound, heads_of}
-use Rattle.chk_parts.specs.Records.{AreRecords, found_in}
+use Rattle.chk_record_index.specs.Heads.{Head}
+use Rattle.chk_record_index.specs.Order.{in_head_order}
+use Rattle.chk_record_reader.specs.Segments.{names_of, AreSettled}
+use Rattle.chk_record_reader.specs.Checking.{AllGoWell}
+use Rattle.chk_archive_parts.specs.Gathering.{held, AreSound, heads_of}
+use Rattle.chk_archive_parts.specs.Records.{AreRecords, found_in}
 use Rattle.chk_book.specs.Folders.{segment_name}
-use Rattle.chk_heads.specs.declared.fault.JobFault.{JobFault}
+use Rattle.chk_record_index.specs.declared.fault.JobFault.{JobFault}
 use Rattle.chk_demux.specs.Demuxed.{Demuxed, ReplacesBook}
 use Rattle.chk_demux.specs.Beginning.{own_earlier}
 use Rattle.chk_demux.specs.Splitting.{SplitAll}

@@ -3,18 +3,18 @@ use Rattle.std.specs.Prelude.{◌≡◌, ◌⊎◌, ℕ, IsTrue, List, drop, cod
 use Rattle.chk_bytes.specs.Numbers.{last_number}
 use Rattle.chk_site.specs.History.{History}
 use Rattle.chk_world.specs.Books.{Book, End, ends_rise}
-use Rattle.chk_heads.specs.Heads.{Head}
-use Rattle.chk_heads.specs.Order.{in_head_order}
-use Rattle.chk_heads.specs.Shown.{Within}
-use Rattle.chk_heads.specs.ShownHeads.{ShowAll}
-use Rattle.chk_heads.specs.Causes.{Shows}
-use Rattle.chk_heads.specs.declared.fault.JobFault.{JobFault}
-use Rattle.chk_heads.specs.declared.fault.JobFault.TheVariants.{Damaged, Spent}
+use Rattle.chk_record_index.specs.Heads.{Head}
+use Rattle.chk_record_index.specs.Order.{in_head_order}
+use Rattle.chk_record_index.specs.Shown.{Within}
+use Rattle.chk_record_index.specs.ShownHeads.{ShowAll}
+use Rattle.chk_record_index.specs.Causes.{Shows}
+use Rattle.chk_record_index.specs.declared.fault.JobFault.{JobFault}
+use Rattle.chk_record_index.specs.declared.fault.JobFault.TheVariants.{Damaged, Spent}
 use Rattle.chk_book.specs.Books.{book_view}
 use Rattle.chk_book.specs.Folders.{most_in}
 use Rattle.chk_book.specs.Loaded.{ShowsBook}
-use Rattle.chk_merge.specs.Gone.{IsGoneIn, IsUnsound}
-use Rattle.chk_merge.specs.Segments.{names_of}
+use Rattle.chk_record_reader.specs.Gone.{IsGoneIn, IsUnsound}
+use Rattle.chk_record_reader.specs.Segments.{names_of}
 use Rattle.chk_demux.specs.Splitting.{split_from, ends_past}
 use Rattle.chk_demux.specs.declared.beginning.Books.{Books}
 

@@ -9,13 +9,13 @@ use Rattle.chk_world.specs.Jobs.{Run}
 use Rattle.chk_world.specs.Sight.{Sight}
 use Rattle.chk_world.specs.TrueBooks.{HasBytes}
 use Rattle.chk_world.proofs.Each.{Each}
-use Rattle.chk_heads.specs.Heads.{Head}
-use Rattle.chk_plan.specs.Passes.{head_in}
-use Rattle.chk_merge.specs.Courses.{is_head_of}
-use Rattle.chk_merge.specs.declared.reader.RecordReader.{RecordReader}
+use Rattle.chk_record_index.specs.Heads.{Head}
+use Rattle.chk_archive_plan.specs.Passes.{head_in}
+use Rattle.chk_record_reader.specs.Courses.{is_head_of}
+use Rattle.chk_record_reader.specs.declared.reader.RecordReader.{RecordReader}
 use Rattle.chk_book.specs.Books.{end_in}
-use Rattle.chk_parts.specs.Fetching.{AreWindows}
-use Rattle.chk_splitter.specs.Splitting.{Splitting, pieces_of}
+use Rattle.chk_archive_parts.specs.Fetching.{AreWindows}
+use Rattle.chk_demux_split.specs.Splitting.{Splitting, pieces_of}
 use Rattle.chk_demux.specs.Writes.{IsOutput}
 use Rattle.chk_demux.specs.Giving.{IsSplitting, chunks_of_fed}
 use Rattle.chk_demux.specs.declared.output.Output.{Output}

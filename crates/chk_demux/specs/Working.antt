@@ -4,9 +4,9 @@ use Rattle.chk_site.specs.History.{History}
 use Rattle.chk_world.specs.Rules.{Legal}
 use Rattle.chk_world.specs.Places.{AtTold}
 use Rattle.chk_world.specs.Sight.{job, Sight, AtJob}
-use Rattle.chk_heads.specs.declared.fault.JobFault.{JobFault}
-use Rattle.chk_heads.specs.declared.fault.JobFault.TheVariants.{Damaged, Spent}
-pub use Rattle.chk_heads.specs.Faults.{Worked, job_result}
+use Rattle.chk_record_index.specs.declared.fault.JobFault.{JobFault}
+use Rattle.chk_record_index.specs.declared.fault.JobFault.TheVariants.{Damaged, Spent}
+pub use Rattle.chk_record_index.specs.Faults.{Worked, job_result}
 
 -- After a refusal: nothing is damaged, and no number is asked for where none is left; else the history is legal.
 abbrev pub Failed : List (List ℕ) → JobFault → History → Type 0

@@ -6,8 +6,8 @@ ghost use Rattle.chk_site.specs.Files.{Files};
 ghost use Rattle.chk_site.specs.Runs.{anyhow, Leads};
 ghost use Rattle.chk_world.specs.Places.{As};
 ghost use Rattle.chk_world.specs.Sight.{job};
-ghost use Rattle.chk_heads.specs.Faults.{JobCause, IsOfRead};
-ghost use Rattle.chk_merge.specs.Segments.{HasFiles, SparesFiles, AreSettled};
+ghost use Rattle.chk_record_index.specs.Faults.{JobCause, IsOfRead};
+ghost use Rattle.chk_record_reader.specs.Segments.{HasFiles, SparesFiles, AreSettled};
 ghost use Rattle.chk_demux.specs.Damage.{with_books, LoadedBooks};
 ghost use Rattle.chk_demux.specs.Demuxed.{Earlier, Begun};
 ghost use Rattle.chk_demux.specs.Working.{Worked, job_result};
@@ -15,7 +15,7 @@ ghost use Rattle.chk_demux.specs.Beginning.{Begins, HasStarted, HasBegun};
 ghost use Rattle.chk_demux.specs.Shown.{ShowsBegun};
 
 use chk_book::{Book, load_book};
-use chk_heads::JobFault;
+use chk_record_index::JobFault;
 use chk_site::{Call, OutsideFault, Site, Who, done};
 use std::alloc::Global;
 

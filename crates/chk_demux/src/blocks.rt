@@ -1,15 +1,15 @@
 //! Where a stream's heads stand among heads in order.
 
 ghost use Rattle.std.specs.Prelude.{◌≡◌, ◌<◌, ◌≤◌, ◌-◌, true, false, length, IsTrue, IsFalse};
-ghost use Rattle.chk_heads.specs.Order.{lent_head};
-ghost use Rattle.chk_merge.specs.Courses.{is_head_of};
+ghost use Rattle.chk_record_index.specs.Order.{lent_head};
+ghost use Rattle.chk_record_reader.specs.Courses.{is_head_of};
 ghost use Rattle.chk_book.specs.Views.{end_view};
 ghost use Rattle.chk_demux.specs.Splitting.{StreamsRise, HoldsStream, FirstStands};
 
+use chk_archive_plan::span_end;
 use chk_book::End;
-use chk_heads::Heads;
-use chk_merge::is_of;
-use chk_plan::span_end;
+use chk_record_index::Heads;
+use chk_record_reader::is_of;
 
 /// Heads that stand together.
 #[derive(Clone, Copy)]

@@ -9,9 +9,9 @@ ghost use Rattle.chk_chunk.specs.Lent.{lent_chunk};
 ghost use Rattle.chk_world.specs.Places.{As};
 ghost use Rattle.chk_world.specs.Sight.{job, Sight, AtJob};
 ghost use Rattle.chk_world.specs.JobSteps.{WritesTo};
-ghost use Rattle.chk_heads.specs.Faults.{JobCause, IsOfWrite};
-ghost use Rattle.chk_heads.specs.Order.{lent_head};
-ghost use Rattle.chk_plan.specs.Passes.{head_in};
+ghost use Rattle.chk_record_index.specs.Faults.{JobCause, IsOfWrite};
+ghost use Rattle.chk_record_index.specs.Order.{lent_head};
+ghost use Rattle.chk_archive_plan.specs.Passes.{head_in};
 ghost use Rattle.chk_book.specs.Folders.{segment_name};
 ghost use Rattle.chk_book.specs.Books.{book_view};
 ghost use Rattle.chk_book.specs.Views.{end_view};
@@ -24,10 +24,10 @@ ghost use Rattle.chk_demux.specs.Giving.{IsOwnHead, holds_byte, cluster_back, ke
 use crate::output::{Output, put};
 use chk_book::{Book, End};
 use chk_chunk::ChunkRef;
-use chk_heads::{HeadRef, Heads, JobFault};
-use chk_merge::is_of;
+use chk_demux_split::Splitter;
+use chk_record_index::{HeadRef, Heads, JobFault};
+use chk_record_reader::is_of;
 use chk_site::{Site, Who};
-use chk_splitter::Splitter;
 use std::alloc::Global;
 
 /// The head is of the end's stream and begins at the offset `at` or below it.

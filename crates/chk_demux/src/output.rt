@@ -9,17 +9,17 @@ ghost use Rattle.chk_chunk.specs.Lent.{lent_chunk};
 ghost use Rattle.chk_world.specs.Places.{As};
 ghost use Rattle.chk_world.specs.Sight.{job, Sight, AtJob};
 ghost use Rattle.chk_world.specs.JobSteps.{WritesTo};
-ghost use Rattle.chk_heads.specs.Faults.{JobCause, IsOfWrite};
+ghost use Rattle.chk_record_index.specs.Faults.{JobCause, IsOfWrite};
 ghost use Rattle.chk_book.specs.Folders.{segment_name};
 ghost use Rattle.chk_book.specs.Books.{book_view};
-ghost use Rattle.chk_heads.specs.declared.fault.JobFault.TheVariants.{NoMemory};
+ghost use Rattle.chk_record_index.specs.declared.fault.JobFault.TheVariants.{NoMemory};
 ghost use Rattle.chk_demux.specs.Working.{Worked, EndsSo};
 ghost use Rattle.chk_demux.specs.Writes.{IsFree, IsWriter, IsOutput, SoFar, IsSoFar, IsForDemux};
 
 use chk_book::{Book, Segmenter};
 use chk_bytes::LAST_NUMBER;
 use chk_chunk::ChunkRef;
-use chk_heads::JobFault;
+use chk_record_index::JobFault;
 use chk_site::{Site, Who};
 use std::alloc::Global;
 

@@ -6,16 +6,16 @@ ghost use Rattle.chk_site.specs.Site.{Adds};
 ghost use Rattle.chk_site.specs.Runs.{Leads};
 ghost use Rattle.chk_world.specs.Places.{As};
 ghost use Rattle.chk_world.specs.Sight.{job, Sight, AtJob};
-ghost use Rattle.chk_heads.specs.Faults.{JobCause, IsOfWrite};
+ghost use Rattle.chk_record_index.specs.Faults.{JobCause, IsOfWrite};
 ghost use Rattle.chk_book.specs.Books.{book_view};
 ghost use Rattle.chk_demux.specs.Demuxed.{WritesBook};
 ghost use Rattle.chk_demux.specs.Working.{Worked, EndsSo};
 ghost use Rattle.chk_demux.specs.Writes.{IsFree, IsWriter, IsForDemux, SoFar, IsSoFar};
 ghost use Rattle.chk_demux.specs.Entering.{MayEnter, Entered};
 
+use chk_archive_parts::publish_next;
 use chk_book::{Book, Segmenter};
-use chk_heads::JobFault;
-use chk_parts::publish_next;
+use chk_record_index::JobFault;
 use chk_site::{Site, Who};
 use std::alloc::Global;
 

@@ -14,7 +14,7 @@ use Rattle.chk_world.specs.Rules.{Legal}
 use Rattle.chk_world.specs.Together.{Together}
 use Rattle.chk_world.specs.Works.{NoneFailed}
 use Rattle.chk_sink.specs.States.{State as Sinks, process}
-use Rattle.chk_delivery.specs.Scripts.{AsksReply}
+use Rattle.chk_agent_delivery.specs.Scripts.{AsksReply}
 use Rattle.chk_agent.specs.States.{State as Agents, process as agent_of}
 use Rattle.chk_agent.specs.Facts.{Matches as AgentMatches}
 use Rattle.chk_exchange.specs.declared.fault.ExchangeFault.{ExchangeFault}

@@ -14,16 +14,16 @@ use Rattle.chk_site.specs.Site.{Adds, asked, bytes_given, Calls}
 use Rattle.chk_site.specs.Runs.{Leads}
 use Rattle.chk_site.proofs.Family.{leads_family}
 use Rattle.chk_site.proofs.Leads.{leads_as}
-use Rattle.chk_message.specs.Messages.{IsReply}
-use Rattle.chk_message.proofs.Accepted.{IsReply-same}
+use Rattle.chk_http_grammar.specs.Messages.{IsReply}
+use Rattle.chk_http_grammar.proofs.Accepted.{IsReply-same}
 use Rattle.chk_failover.specs.Turns.{Turns}
 use Rattle.chk_world.specs.Mailbox.{IsEmptyFor, IsInHand}
 use Rattle.chk_world.specs.Places.{As, AtTold}
 use Rattle.chk_world.specs.Rules.{Legal}
 use Rattle.chk_world.specs.Together.{Together}
 use Rattle.chk_sink.specs.States.{State as Sinks, process}
-use Rattle.chk_delivery.specs.Scripts.{IsCode}
-use Rattle.chk_delivery.specs.States.{address_now}
+use Rattle.chk_agent_delivery.specs.Scripts.{IsCode}
+use Rattle.chk_agent_delivery.specs.States.{address_now}
 use Rattle.chk_agent.specs.States.{State as Agents, process as agent_of}
 use Rattle.chk_agent.specs.Facts.{Matches as AgentMatches}
 use Rattle.chk_exchange.specs.declared.fault.ExchangeFault.{ExchangeFault}

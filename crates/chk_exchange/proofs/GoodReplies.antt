@@ -10,10 +10,10 @@ use Rattle.chk_bytes.specs.Stems.{Stem, is_stem}
 use Rattle.chk_site.specs.declared.acts.Who.{Who}
 use Rattle.chk_site.specs.History.{History, Ever, files_after}
 use Rattle.chk_chunk.specs.Keys.{Chunk}
-use Rattle.chk_message.specs.Messages.{Ack, is_ack, acks_text, IsPostOf, PollRequest, IsReply, IsGoodReply, WrittenPost, WrittenPoll}
-use Rattle.chk_message.proofs.Accepted.{never_both}
-use Rattle.chk_message.proofs.Fronts.{front_of_post_chunks, front_of_poll}
-use Rattle.chk_message.proofs.Written.{written_is_post, written_is_poll}
+use Rattle.chk_http_grammar.specs.Messages.{Ack, is_ack, acks_text, IsPostOf, PollRequest, IsReply, IsGoodReply, WrittenPost, WrittenPoll}
+use Rattle.chk_http_grammar.proofs.Accepted.{never_both}
+use Rattle.chk_http_grammar.proofs.Fronts.{front_of_post_chunks, front_of_poll}
+use Rattle.chk_http_grammar.proofs.Written.{written_is_post, written_is_poll}
 use Rattle.chk_world.specs.Agents.{AreFor}
 use Rattle.chk_world.specs.Collectors.{Appended, Handling, with_appends, TellAll, SinceTaking, is_taking, CommittedLengths, GoodAnswer, AnswersWell, handling_of, view}
 use Rattle.chk_world.specs.Committed.{committed_length}

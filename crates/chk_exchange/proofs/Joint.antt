@@ -29,7 +29,7 @@ use Rattle.chk_sink.proofs.HoldsStay.{holds_stay}
 use Rattle.chk_collector.specs.Answering.{MayAnswer}
 use Rattle.chk_collector_run.specs.Legality.{HasTaken}
 use Rattle.chk_collector_run.proofs.Talking.{took, untook, sent}
-use Rattle.chk_delivery.proofs.Growing.{holds_grows}
+use Rattle.chk_agent_delivery.proofs.Growing.{holds_grows}
 use Rattle.chk_agent.specs.States.{State as Agents, process as agent_of, basis_of}
 use Rattle.chk_agent.specs.Facts.{Holds as AgentHolds, Matches as AgentMatches}
 use Rattle.chk_agent.specs.Fits.{IsSound}

@@ -3,8 +3,8 @@ use Rattle.std.proofs.Common.{◌≡◌, ℕ, true, List, Option, Ok, ap, ◌∙
 use Rattle.std.specs.Prelude.{IsTrue}
 use Rattle.chk_bytes.specs.Words.{is_word}
 use Rattle.chk_site.specs.History.{History}
-use Rattle.chk_delivery.specs.Scripts.{Sends}
-use Rattle.chk_delivery.specs.States.{State as Delivery, address_now}
+use Rattle.chk_agent_delivery.specs.Scripts.{Sends}
+use Rattle.chk_agent_delivery.specs.States.{State as Delivery, address_now}
 use Rattle.chk_agent.specs.States.{State as Agents, process as agent_of}
 use Rattle.chk_agent.specs.Turns.{with_delivery}
 

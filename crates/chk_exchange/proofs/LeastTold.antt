@@ -3,7 +3,7 @@ use Rattle.std.proofs.Common.{ℕ, List, Option}
 use Rattle.chk_site.specs.History.{History}
 use Rattle.chk_site.specs.Site.{Adds}
 use Rattle.chk_site.proofs.Runs.{adds_none}
-use Rattle.chk_message.specs.Messages.{IsReply}
+use Rattle.chk_http_grammar.specs.Messages.{IsReply}
 use Rattle.chk_sink.specs.States.{State as Sinks}
 use Rattle.chk_collector.specs.Outcomes.{Replied, body_of, code_of}
 use Rattle.chk_exchange.specs.Least.{RepliedIn}

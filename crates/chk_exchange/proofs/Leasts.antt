@@ -14,10 +14,10 @@ use Rattle.chk_site.specs.Site.{Adds}
 use Rattle.chk_site.specs.Runs.{Leads}
 use Rattle.chk_site.proofs.Leads.{leads_then}
 use Rattle.chk_site.proofs.Runs.{adds_as, adds_then}
-use Rattle.chk_message.specs.Messages.{Ack, is_ack, acks_text, PollRequest, IsReply, IsGoodReply}
-use Rattle.chk_message.proofs.Accepted.{IsReply-same, never_both}
-use Rattle.chk_message.proofs.Apart.{acks_text-same}
-use Rattle.chk_message.proofs.Written.{written_is_poll}
+use Rattle.chk_http_grammar.specs.Messages.{Ack, is_ack, acks_text, PollRequest, IsReply, IsGoodReply}
+use Rattle.chk_http_grammar.proofs.Accepted.{IsReply-same, never_both}
+use Rattle.chk_http_grammar.proofs.Apart.{acks_text-same}
+use Rattle.chk_http_grammar.proofs.Written.{written_is_poll}
 use Rattle.chk_world.specs.Places.{As, Foreign}
 use Rattle.chk_world.specs.Rules.{Legal}
 use Rattle.chk_world.specs.Together.{Outside, Together}
@@ -32,12 +32,12 @@ use Rattle.chk_http.specs.Faults.{fault_code}
 use Rattle.chk_acks.specs.declared.row.Row.{Row}
 use Rattle.chk_acks.specs.Rows.{is_unmarked}
 use Rattle.chk_acks.specs.Table.{Table}
-use Rattle.chk_delivery.specs.declared.answers.Below.{Below}
-use Rattle.chk_delivery.specs.declared.answers.PollAnswer.{PollAnswer}
-use Rattle.chk_delivery.specs.declared.answers.PollAnswer.TheVariants.{Lengths}
-use Rattle.chk_delivery.specs.Scripts.{AsksReply, IsPollReplied, TakesPollReply}
-use Rattle.chk_delivery.specs.States.{Poll, State as Delivery}
-use Rattle.chk_delivery.specs.Turns.{SeesAll, below_in, below_row, first_below, length_of}
+use Rattle.chk_agent_delivery.specs.declared.answers.Below.{Below}
+use Rattle.chk_agent_delivery.specs.declared.answers.PollAnswer.{PollAnswer}
+use Rattle.chk_agent_delivery.specs.declared.answers.PollAnswer.TheVariants.{Lengths}
+use Rattle.chk_agent_delivery.specs.Scripts.{AsksReply, IsPollReplied, TakesPollReply}
+use Rattle.chk_agent_delivery.specs.States.{Poll, State as Delivery}
+use Rattle.chk_agent_delivery.specs.Turns.{SeesAll, below_in, below_row, first_below, length_of}
 use Rattle.chk_agent.specs.Facts.{Matches as AgentMatches}
 use Rattle.chk_agent.specs.States.{State as Agents, process as agent_of}
 use Rattle.chk_agent.specs.Turns.{GetsLengths}

@@ -18,11 +18,11 @@ use Rattle.chk_site.specs.History.{History}
 use Rattle.chk_site.specs.Site.{Adds}
 use Rattle.chk_site.specs.Runs.{Leads}
 use Rattle.chk_site.proofs.Leads.{leads_then}
-use Rattle.chk_message.specs.Messages.{Ack, ack_of, ack_text, acks_text, is_ack, IsPostOf, IsReply, IsGoodReply}
-use Rattle.chk_message.proofs.Accepted.{IsReply-same}
-use Rattle.chk_message.proofs.Apart.{ack_line, no_mark_in_stem, stem_text-same, unparted}
-use Rattle.chk_message.proofs.Texts.{decimal_between, is_between, list_all-weaker}
-use Rattle.chk_message.proofs.Written.{written_is_post}
+use Rattle.chk_http_grammar.specs.Messages.{Ack, ack_of, ack_text, acks_text, is_ack, IsPostOf, IsReply, IsGoodReply}
+use Rattle.chk_http_grammar.proofs.Accepted.{IsReply-same}
+use Rattle.chk_http_grammar.proofs.Apart.{ack_line, no_mark_in_stem, stem_text-same, unparted}
+use Rattle.chk_http_grammar.proofs.Texts.{decimal_between, is_between, list_all-weaker}
+use Rattle.chk_http_grammar.proofs.Written.{written_is_post}
 use Rattle.chk_http.specs.Faults.{fault_code}
 use Rattle.chk_world.specs.Places.{As}
 use Rattle.chk_world.specs.Rules.{Legal}
@@ -33,12 +33,12 @@ use Rattle.chk_sink.specs.States.{State as Sinks, IsSameStart, process}
 use Rattle.chk_collector.specs.Outcomes.{Outcome, Refused, BadPost, Lines, Fails, OutcomeOfStart, body_of, code_of}
 use Rattle.chk_collector.specs.OwnLines.{AreOfStart}
 use Rattle.chk_collector.proofs.Refused.{bad_code}
-use Rattle.chk_delivery.specs.declared.answers.Answered.{Answered}
-use Rattle.chk_delivery.specs.declared.answers.Answered.TheVariants.{Taken}
-use Rattle.chk_delivery.specs.declared.answers.Posted.{Posted}
-use Rattle.chk_delivery.specs.Scripts.{AsksReply, IsPosted, IsPostReplied, TakesPostReply}
-use Rattle.chk_delivery.specs.States.{Post, State as Delivery}
-use Rattle.chk_delivery.specs.Turns.{answered_rows}
+use Rattle.chk_agent_delivery.specs.declared.answers.Answered.{Answered}
+use Rattle.chk_agent_delivery.specs.declared.answers.Answered.TheVariants.{Taken}
+use Rattle.chk_agent_delivery.specs.declared.answers.Posted.{Posted}
+use Rattle.chk_agent_delivery.specs.Scripts.{AsksReply, IsPosted, IsPostReplied, TakesPostReply}
+use Rattle.chk_agent_delivery.specs.States.{Post, State as Delivery}
+use Rattle.chk_agent_delivery.specs.Turns.{answered_rows}
 use Rattle.chk_agent.specs.Facts.{Matches as AgentMatches}
 use Rattle.chk_agent.specs.States.{State as Agents, process as agent_of}
 use Rattle.chk_agent.specs.Turns.{GetsPostReply}

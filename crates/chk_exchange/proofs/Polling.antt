@@ -4,21 +4,21 @@ use Rattle.std.specs.Prelude.{◌==◌, is_some, option_map}
 use Rattle.std.proofs.lemmas.Option.{same_Some}
 use Rattle.chk_bytes.specs.declared.NoMemory.{NoMemory as Wanting}
 use Rattle.chk_bytes.specs.Stems.{Stem}
-use Rattle.chk_message.specs.Messages.{WrittenPoll, IsGoodReply}
+use Rattle.chk_http_grammar.specs.Messages.{WrittenPoll, IsGoodReply}
 use Rattle.chk_site.specs.declared.acts.Who.{Who}
 use Rattle.chk_site.specs.declared.acts.Call.TheVariants.{Send}
 use Rattle.chk_site.specs.declared.acts.CallFault.TheVariants.{Failed}
 use Rattle.chk_site.specs.History.{History}
 use Rattle.chk_site.specs.Site.{Adds, asked, sized}
 use Rattle.chk_world.proofs.NameTests.{nat_same}
-use Rattle.chk_delivery.specs.declared.answers.Below.{Below}
-use Rattle.chk_delivery.specs.declared.answers.Polled.{Polled}
-use Rattle.chk_delivery.specs.declared.answers.Polled.TheVariants.{Sent, Failed as poll_failed}
-use Rattle.chk_delivery.specs.declared.answers.PollAnswer.{PollAnswer}
-use Rattle.chk_delivery.specs.declared.answers.PollAnswer.TheVariants.{Lengths, Refused as poll_refused_by, Silent, Nothing}
-use Rattle.chk_delivery.specs.Scripts.{Sends, AsksReply, IsPolled, IsPollReplied, TakesPollReply, IsCode, IsNoPollReply}
-use Rattle.chk_delivery.specs.States.{Poll, State as Delivery, address_now}
-use Rattle.chk_delivery.specs.Turns.{asked_stems, asked_for}
+use Rattle.chk_agent_delivery.specs.declared.answers.Below.{Below}
+use Rattle.chk_agent_delivery.specs.declared.answers.Polled.{Polled}
+use Rattle.chk_agent_delivery.specs.declared.answers.Polled.TheVariants.{Sent, Failed as poll_failed}
+use Rattle.chk_agent_delivery.specs.declared.answers.PollAnswer.{PollAnswer}
+use Rattle.chk_agent_delivery.specs.declared.answers.PollAnswer.TheVariants.{Lengths, Refused as poll_refused_by, Silent, Nothing}
+use Rattle.chk_agent_delivery.specs.Scripts.{Sends, AsksReply, IsPolled, IsPollReplied, TakesPollReply, IsCode, IsNoPollReply}
+use Rattle.chk_agent_delivery.specs.States.{Poll, State as Delivery, address_now}
+use Rattle.chk_agent_delivery.specs.Turns.{asked_stems, asked_for}
 use Rattle.chk_agent.specs.declared.answers.AgentFault.{AgentFault}
 use Rattle.chk_agent.specs.States.{State as Agents, process as agent_of}
 use Rattle.chk_agent.specs.Turns.{Polls, GetsLengths, with_delivery}

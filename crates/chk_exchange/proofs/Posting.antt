@@ -5,20 +5,20 @@ use Rattle.std.proofs.lemmas.Option.{same_Some}
 use Rattle.chk_bytes.specs.declared.NoMemory.{NoMemory as Wanting}
 use Rattle.chk_chunk.specs.declared.Chunk.{Chunk}
 use Rattle.chk_chunk.specs.Lent.{chunks_of}
-use Rattle.chk_message.specs.Messages.{WrittenPost, IsGoodReply}
+use Rattle.chk_http_grammar.specs.Messages.{WrittenPost, IsGoodReply}
 use Rattle.chk_site.specs.declared.acts.Who.{Who}
 use Rattle.chk_site.specs.declared.acts.Call.TheVariants.{Send}
 use Rattle.chk_site.specs.declared.acts.CallFault.TheVariants.{Failed}
 use Rattle.chk_site.specs.History.{History}
 use Rattle.chk_site.specs.Site.{Adds, asked, sized}
 use Rattle.chk_world.proofs.NameTests.{nat_same}
-use Rattle.chk_delivery.specs.declared.answers.Posted.{Posted}
-use Rattle.chk_delivery.specs.declared.answers.Posted.TheVariants.{Sent, Failed as post_failed}
-use Rattle.chk_delivery.specs.declared.answers.Answered.{Answered}
-use Rattle.chk_delivery.specs.declared.answers.Answered.TheVariants.{Taken, Refused as post_refused_by, Silent, Nothing}
-use Rattle.chk_delivery.specs.Scripts.{Sends, AsksReply, IsPosted, IsPostReplied, TakesPostReply, IsCode, IsNoPostReply}
-use Rattle.chk_delivery.specs.States.{Post, State as Delivery, address_now}
-use Rattle.chk_delivery.specs.Turns.{posted}
+use Rattle.chk_agent_delivery.specs.declared.answers.Posted.{Posted}
+use Rattle.chk_agent_delivery.specs.declared.answers.Posted.TheVariants.{Sent, Failed as post_failed}
+use Rattle.chk_agent_delivery.specs.declared.answers.Answered.{Answered}
+use Rattle.chk_agent_delivery.specs.declared.answers.Answered.TheVariants.{Taken, Refused as post_refused_by, Silent, Nothing}
+use Rattle.chk_agent_delivery.specs.Scripts.{Sends, AsksReply, IsPosted, IsPostReplied, TakesPostReply, IsCode, IsNoPostReply}
+use Rattle.chk_agent_delivery.specs.States.{Post, State as Delivery, address_now}
+use Rattle.chk_agent_delivery.specs.Turns.{posted}
 use Rattle.chk_agent.specs.declared.answers.AgentFault.{AgentFault}
 use Rattle.chk_agent.specs.States.{State as Agents, process as agent_of}
 use Rattle.chk_agent.specs.Turns.{Posts, GetsPostReply, with_delivery}

@@ -8,12 +8,12 @@ use Rattle.std.proofs.lemmas.Fmt.{length-decimal-le}
 use Rattle.std.proofs.lemmas.Option.{same_Some}
 use Rattle.httparse.specs.Grammar.{is_value_byte, print_response, status_code}
 use Rattle.chk_bytes.proofs.DecimalLemmas.{number_in_digits-decimal}
-use Rattle.chk_message.specs.Heads.{HasReplyHead, stated_length, length_in}
-use Rattle.chk_message.specs.Messages.{IsReply, is_phrase, written_reply}
-use Rattle.chk_message.proofs.HeadLemmas.{HasReplyHead-same}
-use Rattle.chk_message.proofs.Printed.{reply_head, print-reply}
-use Rattle.chk_message.proofs.Texts.{is_between, is_between-wider, list_all-weaker, value_from_between, decimal_between}
-use Rattle.chk_message.proofs.WrittenHeads.{reply_head_valid, reply_head_lengths, reply_head_code, reply_head_size}
+use Rattle.chk_http_grammar.specs.Heads.{HasReplyHead, stated_length, length_in}
+use Rattle.chk_http_grammar.specs.Messages.{IsReply, is_phrase, written_reply}
+use Rattle.chk_http_grammar.proofs.HeadLemmas.{HasReplyHead-same}
+use Rattle.chk_http_grammar.proofs.Printed.{reply_head, print-reply}
+use Rattle.chk_http_grammar.proofs.Texts.{is_between, is_between-wider, list_all-weaker, value_from_between, decimal_between}
+use Rattle.chk_http_grammar.proofs.WrittenHeads.{reply_head_valid, reply_head_lengths, reply_head_code, reply_head_size}
 use Rattle.chk_http.specs.declared.fault.HttpFault.{HttpFault}
 use Rattle.chk_http.specs.declared.fault.HttpFault.TheVariants.{BadHead, NoLength, TooLarge, NotYet, BadPath, BadMethod, BadLine}
 use Rattle.chk_http.specs.Faults.{fault_code}
@@ -23,7 +23,7 @@ use Rattle.chk_sink.specs.declared.fault.SinkFault.{SinkFault}
 use Rattle.chk_collector.specs.Outcomes.{Outcome, Refused, BadPost, Lines, Fails, code_of, body_of, reply_of, line, sink_fault_text}
 use Rattle.chk_exchange.specs.declared.fault.ExchangeFault.{ExchangeFault}
 use Rattle.chk_exchange.specs.Faults.{IsTold, IsMade, IsUntold, IsUnread}
-use Rattle.chk_message.proofs.Written.{number_bytes as value_bytes}
+use Rattle.chk_http_grammar.proofs.Written.{number_bytes as value_bytes}
 
 module _ (code : ℕ) (phrase body : List ℕ) (from : 100 ≤ code) (below : code < 1000)
     (is : IsTrue (is_phrase phrase))

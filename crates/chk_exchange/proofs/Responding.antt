@@ -11,7 +11,7 @@ use Rattle.chk_site.specs.Runs.{Leads}
 use Rattle.chk_site.proofs.Family.{leads_family}
 use Rattle.chk_site.proofs.Leads.{leads_then, leads_as}
 use Rattle.chk_site.proofs.Runs.{adds_both}
-use Rattle.chk_message.specs.Messages.{IsReply}
+use Rattle.chk_http_grammar.specs.Messages.{IsReply}
 use Rattle.chk_world.specs.Collectors.{Appended, Handling}
 use Rattle.chk_world.specs.Places.{As, AtTold}
 use Rattle.chk_world.specs.Rules.{Legal}

@@ -11,7 +11,7 @@ use Rattle.chk_bytes.proofs.PartLemmas.{same_split}
 use Rattle.chk_site.specs.declared.acts.Call.{Call}
 use Rattle.chk_site.specs.declared.acts.Call.TheVariants.{Start, LogRead, LogNewest, LogAppend, Create, Append, Sync, Rename, Remove, Cut, Size, Read, List as ListNames, Clock, Pause, Send, Got, Take, More, Answer, Say}
 use Rattle.chk_site.specs.CallNames.{call_name}
-use Rattle.chk_message.proofs.Apart.{unparted, no_mark}
+use Rattle.chk_http_grammar.proofs.Apart.{unparted, no_mark}
 use Rattle.chk_sink.specs.declared.fault.SinkFault.{SinkFault}
 use Rattle.chk_sink.specs.declared.fault.SinkFault.TheVariants.{Outside as sink_outside, Damaged as sink_damaged, Spent as sink_spent, NoMemory as sink_wanting}
 use Rattle.chk_collector.specs.Outcomes.{line, sink_fault_text}

@@ -3,13 +3,13 @@ use Rattle.std.proofs.Common.{◌≡◌, ℕ, ◌<◌, Bool, true, false, not, �
 use Rattle.std.specs.Prelude.{filter, find, is_some, option_map}
 use Rattle.std.proofs.lemmas.Option.{same_Some, none-some}
 use Rattle.chk_bytes.specs.Stems.{Stem, same_stem}
-use Rattle.chk_message.specs.Messages.{Ack}
+use Rattle.chk_http_grammar.specs.Messages.{Ack}
 use Rattle.chk_world.proofs.NameTests.{stem_same, stem_self}
 use Rattle.chk_acks.specs.declared.row.Row.{Row}
 use Rattle.chk_acks.specs.Rows.{is_past, is_reached, is_unmarked, marked_at}
 use Rattle.chk_acks.specs.Table.{Table}
-use Rattle.chk_delivery.specs.declared.answers.Below.{Below}
-use Rattle.chk_delivery.specs.Turns.{SeesAll, below_in, below_row, first_below, length_of}
+use Rattle.chk_agent_delivery.specs.declared.answers.Below.{Below}
+use Rattle.chk_agent_delivery.specs.Turns.{SeesAll, below_in, below_row, first_below, length_of}
 
 -- where the row is of this sink and isn't marked, it ends past this length
 abbrev IsAbove : Stem → ℕ → Row → Type 0

@@ -15,8 +15,8 @@ use Rattle.chk_world.specs.Works.{NoneFailed}
 use Rattle.chk_sink.specs.Held.{Matches as SinksMatch}
 use Rattle.chk_sink.specs.States.{State as Sinks, IsSameStart, process}
 use Rattle.chk_collector_run.proofs.Turning.{same_process}
-use Rattle.chk_delivery.specs.Scripts.{Sends}
-use Rattle.chk_delivery.specs.States.{address_now}
+use Rattle.chk_agent_delivery.specs.Scripts.{Sends}
+use Rattle.chk_agent_delivery.specs.States.{address_now}
 use Rattle.chk_agent.specs.States.{State as Agents, process as agent_of}
 use Rattle.chk_agent.specs.Facts.{Matches as AgentMatches}
 use Rattle.chk_agent.specs.Fits.{IsSound}

@@ -10,13 +10,13 @@ use Rattle.chk_site.specs.Site.{Adds, asked, answered, plain, taking_given, Call
 use Rattle.chk_sink.specs.States.{State as Sinks}
 use Rattle.chk_collector.specs.Handled.{Unanswered}
 use Rattle.chk_collector.specs.Outcomes.{Replied}
-use Rattle.chk_delivery.specs.declared.answers.Answered.{Answered}
-use Rattle.chk_delivery.specs.declared.answers.Answered.TheVariants.{Taken, Refused as post_refused, Silent}
-use Rattle.chk_delivery.specs.declared.answers.Below.{Below}
-use Rattle.chk_delivery.specs.declared.answers.Polled.TheVariants.{Sent as poll_sent, Failed as poll_failed}
-use Rattle.chk_delivery.specs.declared.answers.PollAnswer.{PollAnswer}
-use Rattle.chk_delivery.specs.declared.answers.PollAnswer.TheVariants.{Lengths, Refused as poll_refused, Silent as poll_silent}
-use Rattle.chk_delivery.specs.declared.answers.Posted.TheVariants.{Sent, Failed as post_failed}
+use Rattle.chk_agent_delivery.specs.declared.answers.Answered.{Answered}
+use Rattle.chk_agent_delivery.specs.declared.answers.Answered.TheVariants.{Taken, Refused as post_refused, Silent}
+use Rattle.chk_agent_delivery.specs.declared.answers.Below.{Below}
+use Rattle.chk_agent_delivery.specs.declared.answers.Polled.TheVariants.{Sent as poll_sent, Failed as poll_failed}
+use Rattle.chk_agent_delivery.specs.declared.answers.PollAnswer.{PollAnswer}
+use Rattle.chk_agent_delivery.specs.declared.answers.PollAnswer.TheVariants.{Lengths, Refused as poll_refused, Silent as poll_silent}
+use Rattle.chk_agent_delivery.specs.declared.answers.Posted.TheVariants.{Sent, Failed as post_failed}
 use Rattle.chk_agent.specs.declared.answers.AgentFault.TheVariants.{NoMemory as wanting}
 use Rattle.chk_agent.specs.States.{State as Agents}
 use Rattle.chk_agent.specs.Turns.{Posts, GetsPostReply, Polls, GetsLengths}

@@ -2,7 +2,7 @@
 -- faults.
 use Rattle.std.specs.Prelude.{◌≡◌, ◌≢◌, ◌⊎◌, ℕ, ◌≤◌, ◌<◌, List, [], ◌∷◌, ◌++◌, false, bytes_eq, decimal, find, Option, Some, None, Result, Ok, Err}
 use Rattle.chk_bytes.specs.Numbers.{limit}
-use Rattle.chk_message.specs.Messages.{IsReply}
+use Rattle.chk_http_grammar.specs.Messages.{IsReply}
 use Rattle.chk_site.specs.declared.acts.Act.{Act}
 use Rattle.chk_site.specs.declared.acts.Call.{Call}
 use Rattle.chk_site.specs.declared.acts.Call.TheVariants.{Start, LogRead, LogNewest, LogAppend, Create, Append, Sync, Rename, Remove, Cut, Size, Read, List as ListNames, Clock, Pause, Send, Got, Take, More, Answer, Say}

@@ -3,13 +3,13 @@ use Rattle.std.specs.Prelude.{◌≡◌, ℕ, ◌≤◌, ◌<◌, List, Contains
 use Rattle.chk_site.specs.declared.acts.Who.{Who}
 use Rattle.chk_site.specs.History.{History, Others, files_after}
 use Rattle.chk_site.specs.Site.{Adds}
-use Rattle.chk_message.specs.Messages.{IsReply}
+use Rattle.chk_http_grammar.specs.Messages.{IsReply}
 use Rattle.chk_world.specs.Committed.{committed_length}
 use Rattle.chk_world.specs.Together.{Outside}
 use Rattle.chk_sink.specs.Least.{EachFront}
 use Rattle.chk_sink.specs.States.{State as Sinks}
 use Rattle.chk_collector.specs.Outcomes.{Replied, body_of, code_of}
-use Rattle.chk_delivery.specs.declared.answers.Below.{Below}
+use Rattle.chk_agent_delivery.specs.declared.answers.Below.{Below}
 use Rattle.chk_agent.specs.States.{State as Agents, process as agent_of}
 use Rattle.chk_exchange.specs.Legality.{BothAt}
 

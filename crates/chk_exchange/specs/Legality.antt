@@ -3,7 +3,7 @@ use Rattle.std.specs.Prelude.{◌≡◌, ℕ, List, length, Option, Some, None, 
 use Rattle.chk_bytes.specs.Stems.{Stem}
 use Rattle.chk_site.specs.History.{History}
 use Rattle.chk_chunk.specs.Keys.{Chunk}
-use Rattle.chk_message.specs.Messages.{Ack, IsReply, IsGoodReply, WrittenPost, WrittenPoll}
+use Rattle.chk_http_grammar.specs.Messages.{Ack, IsReply, IsGoodReply, WrittenPost, WrittenPoll}
 use Rattle.chk_world.specs.Agents.{AreFor}
 use Rattle.chk_world.specs.Mailbox.{IsEmptyFor, Waits, IsInHand}
 use Rattle.chk_world.specs.Places.{AtTold}

@@ -2,7 +2,7 @@
 
 ghost use Rattle.std.specs.Prelude.{◌≡◌, ◌==◌, ◌++◌, ◌∷◌, ℕ, List, IfErr, IfOk, IfSome, decimal};
 ghost use Rattle.chk_bytes.specs.Words.{SplitsAt};
-ghost use Rattle.chk_message.specs.Messages.{IsReply};
+ghost use Rattle.chk_http_grammar.specs.Messages.{IsReply};
 ghost use Rattle.chk_sink.specs.declared.fault.SinkFault.{SinkFault};
 ghost use Rattle.chk_sink.specs.declared.fault.SinkFault.TheVariants.{Damaged};
 ghost use Rattle.chk_collector.specs.Outcomes.{Outcome, body_of, code_of, line, reply_of, sink_fault_text};

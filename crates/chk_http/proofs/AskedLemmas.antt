@@ -5,7 +5,7 @@ use Rattle.std.specs.Str.{str_to_ascii_lowercase}
 use Rattle.httparse.specs.declared.spans.HeaderSpan.{HeaderSpan}
 use Rattle.httparse.specs.Grammar.{Field, RequestHead, field_value}
 use Rattle.httparse.specs.Spans.{IsRequestAt, AreFieldsAt, name_and_value}
-use Rattle.chk_message.specs.Heads.{values_named}
+use Rattle.chk_http_grammar.specs.Heads.{values_named}
 use Rattle.chk_http.specs.declared.head.RequestPlaces.{RequestPlaces}
 use Rattle.chk_http.specs.HeaderLines.{values_among, values_at}
 use Rattle.chk_http.specs.Requests.{Asked, asked_in, asked_at}

@@ -10,8 +10,8 @@ use Rattle.chk_bytes.specs.Stems.{Stem, is_stem, stem_text, read_stem}
 use Rattle.chk_bytes.proofs.DecimalLemmas.{plain_number-decimal, plain_number-Some}
 use Rattle.chk_bytes.proofs.PartLemmas.{parts_at-whole, parts_at-front, lacks-separator, same_split}
 use Rattle.chk_bytes.proofs.StemLemmas.{read_stem-stem_text, read_stem-Some}
-use Rattle.chk_message.specs.Messages.{Ack, ack_of, is_ack, ack_text, acks_text}
-use Rattle.chk_message.proofs.Apart.{no_mark, no_mark_in_stem, ack_line, ack_parted}
+use Rattle.chk_http_grammar.specs.Messages.{Ack, ack_of, is_ack, ack_text, acks_text}
+use Rattle.chk_http_grammar.proofs.Apart.{no_mark, no_mark_in_stem, ack_line, ack_parted}
 use Rattle.chk_http.specs.declared.line_list.Line.{Line}
 use Rattle.chk_http.specs.Lines.{IsLines, ack_of_parts, acks_in, AreLinesListed, HasNoLine, BeginsWithLine}
 use Rattle.chk_http.proofs.QueryLemmas.{stem_at-text}

@@ -12,7 +12,7 @@ use Rattle.http.specs.StatusCode.{code_digits, reason_phrase}
 use Rattle.httparse.proofs.GrammarLemmas.{cons-append}
 use Rattle.chk_bytes.specs.Stems.{Stem, is_stem, stem_text}
 use Rattle.chk_http.specs.Written.{is_answer_code, separator_at, phrase_of}
-use Rattle.chk_message.specs.Messages.{head_line, is_phrase, query_text, written_post_request, written_poll_request, written_reply}
+use Rattle.chk_http_grammar.specs.Messages.{head_line, is_phrase, query_text, written_post_request, written_poll_request, written_reply}
 
 -- five and six pieces, one after the other
 joined_5 : (a b c d e n0 n1 n2 n3 n4 n5 : List ℕ) → n0 ≡ [] → n1 ≡ n0 ++ a → n2 ≡ n1 ++ b → n3 ≡ n2 ++ c → n4 ≡ n3

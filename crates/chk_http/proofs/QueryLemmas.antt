@@ -9,9 +9,9 @@ use Rattle.chk_bytes.specs.Words.{parts_at, lacks, SplitsAt}
 use Rattle.chk_bytes.specs.Stems.{Stem, stem_of, is_stem, stem_text, read_stem}
 use Rattle.chk_bytes.proofs.PartLemmas.{parts_at-whole, parts_at-front, lacks-separator, same_split}
 use Rattle.chk_bytes.proofs.StemLemmas.{read_stem-stem_text, read_stem-Some}
-use Rattle.chk_message.specs.Messages.{query_text}
-use Rattle.chk_message.proofs.Texts.{is_between, is_between-wider, list_all-weaker, utf8_from_between, query_between}
-use Rattle.chk_message.proofs.Apart.{query_text-some, no_mark_in_stem}
+use Rattle.chk_http_grammar.specs.Messages.{query_text}
+use Rattle.chk_http_grammar.proofs.Texts.{is_between, is_between-wider, list_all-weaker, utf8_from_between, query_between}
+use Rattle.chk_http_grammar.proofs.Apart.{query_text-some, no_mark_in_stem}
 use Rattle.chk_http.specs.Queries.{AreUpTo, stem_at, stems_in, AreListed, IsFirstPart}
 
 -- ---- the stems that a text names

@@ -4,9 +4,9 @@ use Rattle.std.specs.Prelude.{◌↔◌, codes, IfErr}
 use Rattle.std.proofs.lemmas.Option.{same_Some}
 use Rattle.httparse.specs.Grammar.{ResponseHead, status_code}
 use Rattle.httparse.specs.Spans.{IsResponseAt}
-use Rattle.chk_message.specs.Heads.{HasReplyHead, stated_lengths}
-use Rattle.chk_message.specs.Messages.{IsReply}
-use Rattle.chk_message.proofs.HeadLemmas.{HasReplyHead-same}
+use Rattle.chk_http_grammar.specs.Heads.{HasReplyHead, stated_lengths}
+use Rattle.chk_http_grammar.specs.Messages.{IsReply}
+use Rattle.chk_http_grammar.proofs.HeadLemmas.{HasReplyHead-same}
 use Rattle.chk_http.specs.declared.fault.HttpFault.{HttpFault}
 use Rattle.chk_http.specs.declared.fault.HttpFault.TheVariants.{BadHead, NoLength, TooLarge, NotYet, BadPath, BadMethod, BadLine}
 use Rattle.chk_http.specs.declared.head.ReplyPlaces.{ReplyPlaces}

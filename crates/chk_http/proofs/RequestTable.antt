@@ -4,9 +4,9 @@ use Rattle.std.specs.Prelude.{◌↔◌, codes}
 use Rattle.std.proofs.lemmas.Option.{same_Some}
 use Rattle.httparse.specs.Grammar.{RequestHead}
 use Rattle.chk_bytes.specs.Stems.{Stem}
-use Rattle.chk_message.specs.Heads.{HasRequestHead}
-use Rattle.chk_message.specs.Messages.{PostRequest, PollRequest, query_text}
-use Rattle.chk_message.proofs.HeadLemmas.{HasRequestHead-same}
+use Rattle.chk_http_grammar.specs.Heads.{HasRequestHead}
+use Rattle.chk_http_grammar.specs.Messages.{PostRequest, PollRequest, query_text}
+use Rattle.chk_http_grammar.proofs.HeadLemmas.{HasRequestHead-same}
 use Rattle.chk_http.specs.declared.fault.HttpFault.{HttpFault}
 use Rattle.chk_http.specs.declared.fault.HttpFault.TheVariants.{BadHead, NoLength, TooLarge, NotYet, BadPath, BadMethod, BadLine}
 use Rattle.chk_http.specs.declared.request.RequestRef.{RequestRef}

@@ -6,7 +6,7 @@ use Rattle.std.proofs.lemmas.List.{length-take, take-append-drop, take-append-le
 use Rattle.std.proofs.lemmas.Slice.Eq.{bytes_eq-Decides}
 use Rattle.std.proofs.Math.Nat.{min-le_right}
 use Rattle.chk_chunk.specs.Posts.{post_limit}
-use Rattle.chk_message.specs.Heads.{length_in}
+use Rattle.chk_http_grammar.specs.Heads.{length_in}
 use Rattle.chk_http.specs.Bodies.{BodyStands, IsBadLength, IsLongLength, IsCutBody}
 use Rattle.chk_http.specs.Requests.{Asked, IsPollTarget, AsksNothing, AsksOtherwise, AsksToPoll, AsksToPost, PostsNoLength, PostsBadLength, PostsTooMuch, PostsTooFew, PostsBody}
 

@@ -4,7 +4,7 @@ use Rattle.std.specs.Prelude.{bytes_eq}
 use Rattle.std.proofs.lemmas.List.{take-append-drop}
 use Rattle.std.proofs.lemmas.Slice.Eq.{bytes_eq-Decides}
 use Rattle.chk_bytes.specs.Stems.{Stem}
-use Rattle.chk_message.proofs.Apart.{query_text-some}
+use Rattle.chk_http_grammar.proofs.Apart.{query_text-some}
 use Rattle.chk_http.specs.Queries.{IsQuery}
 
 -- what stands behind a prefix

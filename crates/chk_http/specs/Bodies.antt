@@ -3,7 +3,7 @@ use Rattle.std.specs.Prelude.{◌≡◌, ◌≢◌, ℕ, ◌≤◌, ◌<◌, Lis
 use Rattle.std.specs.Borrow.{Bor}
 use Rattle.chk_bytes.specs.Numbers.{number_in_digits}
 use Rattle.chk_chunk.specs.Posts.{post_limit}
-use Rattle.chk_message.specs.Heads.{length_in}
+use Rattle.chk_http_grammar.specs.Heads.{length_in}
 use Rattle.chk_http.specs.declared.fault.HttpFault.{HttpFault}
 use Rattle.chk_http.specs.declared.fault.HttpFault.TheVariants.{BadHead, NoLength, TooLarge, NotYet, BadPath, BadMethod, BadLine}
 

@@ -2,7 +2,7 @@
 use Rattle.std.specs.Prelude.{◌⊎◌, ℕ, ◌≤◌, List, length}
 use Rattle.httparse.specs.Grammar.{RequestHead, ResponseHead, NeverHasRequest, NeverHasResponse, HasNoRequest, HasNoResponse, MayBecomeRequest, MayBecomeResponse}
 use Rattle.httparse.specs.Spans.{RequestExceeds, RequestOverflows, ResponseExceeds, ResponseOverflows}
-use Rattle.chk_message.specs.Heads.{HasRequestHead, HasReplyHead}
+use Rattle.chk_http_grammar.specs.Heads.{HasRequestHead, HasReplyHead}
 use Rattle.chk_http.specs.declared.fault.HttpFault.{HttpFault}
 use Rattle.chk_http.specs.declared.fault.HttpFault.TheVariants.{BadHead, NoLength, TooLarge, NotYet, BadPath, BadMethod, BadLine}
 

@@ -4,7 +4,7 @@ use Rattle.std.specs.List.{list_all}
 use Rattle.chk_bytes.specs.Numbers.{plain_number}
 use Rattle.chk_bytes.specs.Words.{parts_at}
 use Rattle.chk_bytes.specs.Stems.{stem_of}
-use Rattle.chk_message.specs.Messages.{Ack, ack_of, is_ack, ack_text, acks_text}
+use Rattle.chk_http_grammar.specs.Messages.{Ack, ack_of, is_ack, ack_text, acks_text}
 use Rattle.chk_http.specs.declared.line_list.Line.{Line}
 use Rattle.chk_http.specs.Queries.{stem_at}
 

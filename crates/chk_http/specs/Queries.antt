@@ -3,7 +3,7 @@ use Rattle.std.specs.Prelude.{◌≡◌, ◌⊎◌, ℕ, ◌≤◌, ◌<◌, IsT
 use Rattle.std.specs.List.{list_all}
 use Rattle.chk_bytes.specs.Words.{parts_at, lacks, SplitsAt}
 use Rattle.chk_bytes.specs.Stems.{Stem, stem_of, is_stem, read_stem}
-use Rattle.chk_message.specs.Messages.{query_text}
+use Rattle.chk_http_grammar.specs.Messages.{query_text}
 
 -- the text is these stems, at least one and at most so many
 pub record AreUpTo (most : ℕ) (stems : List Stem) (text : List ℕ) : Type 0 where

@@ -1,7 +1,7 @@
 -- How a reply is answered (RFC 9112): each fault with the bytes at which it comes.
 use Rattle.std.specs.Prelude.{◌≡◌, ◌⊎◌, ℕ, List, [], take, drop, codes, Result, Ok, Err}
 use Rattle.httparse.specs.Grammar.{ResponseHead, status_code}
-use Rattle.chk_message.specs.Heads.{HasReplyHead, stated_lengths}
+use Rattle.chk_http_grammar.specs.Heads.{HasReplyHead, stated_lengths}
 use Rattle.chk_http.specs.declared.fault.HttpFault.{HttpFault}
 use Rattle.chk_http.specs.declared.fault.HttpFault.TheVariants.{BadHead, NoLength, TooLarge, NotYet, BadPath, BadMethod, BadLine}
 use Rattle.chk_http.specs.declared.head.ReplyPlaces.{ReplyPlaces}

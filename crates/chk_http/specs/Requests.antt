@@ -4,7 +4,7 @@ use Rattle.std.specs.Borrow.{Bor}
 use Rattle.httparse.specs.Grammar.{RequestHead}
 use Rattle.httparse.specs.Spans.{span_bytes}
 use Rattle.chk_bytes.specs.Stems.{Stem}
-use Rattle.chk_message.specs.Heads.{HasRequestHead, stated_lengths, stated_codings}
+use Rattle.chk_http_grammar.specs.Heads.{HasRequestHead, stated_lengths, stated_codings}
 use Rattle.chk_http.specs.declared.fault.HttpFault.{HttpFault}
 use Rattle.chk_http.specs.declared.fault.HttpFault.TheVariants.{BadHead, NoLength, TooLarge, NotYet, BadPath, BadMethod, BadLine}
 use Rattle.chk_http.specs.declared.request.RequestRef.{RequestRef}

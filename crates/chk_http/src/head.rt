@@ -4,7 +4,7 @@ ghost use Rattle.std.specs.Prelude.{◌≡◌, ◌≤◌, ℕ, List, length, dro
 ghost use Rattle.httparse.specs.Spans.{IsRequestWithin, IsRequestAt, IsResponseWithin};
 ghost use Rattle.httparse.specs.Spans.{IsResponseAt};
 ghost use Rattle.httparse.specs.Grammar.{RequestHead, ReadsRequest, ResponseHead, ReadsResponse};
-ghost use Rattle.chk_message.specs.Heads.{HasRequestHead, HasReplyHead};
+ghost use Rattle.chk_http_grammar.specs.Heads.{HasRequestHead, HasReplyHead};
 ghost use Rattle.chk_http.specs.Heads.{IsEndlessRequest, IsRequestHeadFault, IsRequestFrontFault};
 ghost use Rattle.chk_http.specs.Heads.{IsEndlessReply, IsReplyHeadFault, IsReplyFrontFault};
 

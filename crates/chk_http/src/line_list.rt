@@ -2,7 +2,7 @@
 
 ghost use Rattle.std.specs.Prelude.{◌≡◌, [], ◌∷◌, ℕ, List, IsTrue, IfSome, IfNone, IfOk, IfErr};
 ghost use Rattle.std.specs.Prelude.{MatchOption};
-ghost use Rattle.chk_message.specs.Messages.{Ack, ack_of};
+ghost use Rattle.chk_http_grammar.specs.Messages.{Ack, ack_of};
 ghost use Rattle.chk_http.specs.Lines.{IsLines, HasNoLine, BeginsWithLine};
 
 use crate::HttpFault;
@@ -19,7 +19,7 @@ pub struct LineList<'a> {
 
 impl<'a> Model for LineList<'a> {
     ghost use Rattle.std.specs.Prelude.{List};
-    ghost use Rattle.chk_message.specs.Messages.{Ack};
+    ghost use Rattle.chk_http_grammar.specs.Messages.{Ack};
 
     ghost Value = { List Ack };
 

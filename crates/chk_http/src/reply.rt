@@ -2,7 +2,7 @@
 
 ghost use Rattle.std.specs.Prelude.{◌≡◌, ◌↔◌, ℕ, List, IfErr};
 ghost use Rattle.httparse.specs.Spans.{IsResponseWithin};
-ghost use Rattle.chk_message.specs.Messages.{IsReply};
+ghost use Rattle.chk_http_grammar.specs.Messages.{IsReply};
 ghost use Rattle.chk_http.specs.Heads.{IsEndlessReply};
 ghost use Rattle.chk_http.specs.Replies.{AnswersReplied, replied_at, GivesReply, IsReplyFault};
 ghost use Rattle.chk_http.specs.Replies.{IsReplyWithoutLength, HasBadReplyLength};

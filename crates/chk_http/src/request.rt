@@ -3,7 +3,7 @@
 ghost use Rattle.std.specs.Prelude.{◌≡◌, ◌≤◌, ◌↔◌, IsTrue, ℕ, List, length, take, drop, codes, All};
 ghost use Rattle.httparse.specs.Spans.{IsHeaderWithin, IsRequestWithin};
 ghost use Rattle.chk_bytes.specs.Stems.{Stem};
-ghost use Rattle.chk_message.specs.Messages.{PostRequest, PollRequest};
+ghost use Rattle.chk_http_grammar.specs.Messages.{PostRequest, PollRequest};
 ghost use Rattle.chk_http.specs.HeaderLines.{values_at};
 ghost use Rattle.chk_http.specs.Heads.{IsEndlessRequest};
 ghost use Rattle.chk_http.specs.Queries.{IsQuery};

@@ -7,9 +7,9 @@ ghost use Rattle.http.specs.StatusCode.{code_digits};
 ghost use Rattle.chk_bytes.specs.Words.{is_word};
 ghost use Rattle.chk_bytes.specs.Stems.{is_stem};
 ghost use Rattle.chk_chunk.specs.Posts.{post_limit};
-ghost use Rattle.chk_message.specs.Messages.{head_line, query_text, written_post_request};
-ghost use Rattle.chk_message.specs.Messages.{written_reply, WrittenPoll, WrittenReply};
-ghost use Rattle.chk_message.specs.Messages.{PostRequest, PollRequest, IsReply};
+ghost use Rattle.chk_http_grammar.specs.Messages.{head_line, query_text, written_post_request};
+ghost use Rattle.chk_http_grammar.specs.Messages.{written_reply, WrittenPoll, WrittenReply};
+ghost use Rattle.chk_http_grammar.specs.Messages.{PostRequest, PollRequest, IsReply};
 ghost use Rattle.chk_http.specs.Written.{is_answer_code, phrase_of, separator_at};
 
 use chk_bytes::{Bytes, NoMemory, Stem, put_decimal};

@@ -9,17 +9,17 @@ use Rattle.chk_site.specs.Files.{Files}
 use Rattle.chk_chunk.specs.Keys.{Stream, same_stream, stream_lt}
 use Rattle.chk_world.proofs.Each.{Each}
 use Rattle.chk_world.proofs.NameTests.{streams_same}
-use Rattle.chk_heads.proofs.Apart.{apart_from, apart}
-use Rattle.chk_compare.specs.declared.gathering.Side.{Side}
-use Rattle.chk_compare.specs.Differences.{first_difference}
-use Rattle.chk_choose.specs.declared.difference.Difference.{Difference}
-use Rattle.chk_choose.specs.Pairs.{Pair, left_alone, right_alone, paired}
-use Rattle.chk_choose.specs.Differing.{PairAgrees, PairDiffers, FirstDiffers}
-use Rattle.chk_choose.proofs.Lookup.{pair_stream, pair_for}
+use Rattle.chk_record_index.proofs.Apart.{apart_from, apart}
+use Rattle.chk_join_sources.specs.declared.gathering.Side.{Side}
+use Rattle.chk_join_sources.specs.Differences.{first_difference}
+use Rattle.chk_join_sources.specs.declared.difference.Difference.{Difference}
+use Rattle.chk_join_sources.specs.Pairs.{Pair, left_alone, right_alone, paired}
+use Rattle.chk_join_sources.specs.Differing.{PairAgrees, PairDiffers, FirstDiffers}
+use Rattle.chk_join_sources.proofs.Lookup.{pair_stream, pair_for}
 use Rattle.chk_join.specs.Preparing.{stream_of}
 use Rattle.chk_world.proofs.Rounds.{stream_self}
 use Rattle.chk_join.proofs.PairFacts.{PairsRise, no_pair}
-use Rattle.chk_merge.proofs.OnePass.{stream_onward as before_on}
+use Rattle.chk_record_reader.proofs.OnePass.{stream_onward as before_on}
 
 -- ---- bytes
 

@@ -13,13 +13,13 @@ use Rattle.chk_world.specs.Books.{Segment, Book}
 use Rattle.chk_world.proofs.Each.{later_one}
 use Rattle.chk_book.specs.Folders.{segment_name, segment_stem, book_name, is_folder, most_in}
 use Rattle.chk_chunk.specs.Keys.{chunk_limit, record_limit}
-use Rattle.chk_merge.specs.Segments.{names_of, AreSettled}
-use Rattle.chk_merge.specs.Merging.{AreApart}
-use Rattle.chk_copy.specs.Copying.{joined_segment}
+use Rattle.chk_record_reader.specs.Segments.{names_of, AreSettled}
+use Rattle.chk_record_reader.specs.Merging.{AreApart}
+use Rattle.chk_join_sources.specs.Copying.{joined_segment}
 use Rattle.chk_join.specs.Joined.{can_join, joined_folder, archive_files, reads_of, folder_book}
 use Rattle.chk_join.specs.Preparing.{Covers}
 use Rattle.chk_join.proofs.RunFacts.{none_in}
-use Rattle.chk_parts.proofs.InTurn.{from_both}
+use Rattle.chk_archive_parts.proofs.InTurn.{from_both}
 
 -- ---- slashes
 

@@ -20,18 +20,18 @@ use Rattle.chk_world.specs.Places.{As}
 use Rattle.chk_world.specs.Rules.{Legal}
 use Rattle.chk_world.specs.Sight.{job}
 use Rattle.chk_world.specs.JobSteps.{IsOf, ReadsFile, SparesFile}
-use Rattle.chk_heads.specs.Faults.{FailsLast, IsOfRead, job_fault}
-use Rattle.chk_heads.specs.Pieces.{AsksInPieces}
-use Rattle.chk_heads.specs.declared.fault.JobFault.{JobFault}
-use Rattle.chk_heads.specs.declared.fault.JobFault.TheVariants.{Outside, Damaged, Spent, NoMemory}
+use Rattle.chk_record_index.specs.Faults.{FailsLast, IsOfRead, job_fault}
+use Rattle.chk_record_index.specs.Pieces.{AsksInPieces}
+use Rattle.chk_record_index.specs.declared.fault.JobFault.{JobFault}
+use Rattle.chk_record_index.specs.declared.fault.JobFault.TheVariants.{Outside, Damaged, Spent, NoMemory}
 use Rattle.chk_book.specs.Folders.{is_folder, book_name}
 use Rattle.chk_book.specs.Loaded.{LoadedBook, book_result}
 use Rattle.chk_book.specs.declared.book.Book.{Book as Struct}
-use Rattle.chk_merge.proofs.Frames.{stays_so}
+use Rattle.chk_record_reader.proofs.Frames.{stays_so}
 use Rattle.chk_join.specs.Beginning.{HasStarted, HasBegun, Begins, begins_starting, begins_reading}
 use Rattle.chk_join.specs.Working.{Worked, Starting, starts}
 use Rattle.chk_join.proofs.BookLoads.{HasLoaded}
-use Rattle.chk_parts.proofs.Works.{works_as}
+use Rattle.chk_archive_parts.proofs.Works.{works_as}
 use Rattle.chk_book.proofs.Works.{worked}
 
 abbrev pub joined_book : List ℕ

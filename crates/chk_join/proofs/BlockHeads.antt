@@ -3,11 +3,11 @@ use Rattle.std.proofs.Common.{◌≡◌, ℕ, zero, suc, ◌+◌, ◌-◌, ◌<�
 use Rattle.std.proofs.Common.{◌∷◌, length, take, drop, refl, ap, sym, ◌∙◌, arith}
 use Rattle.std.specs.Prelude.{if◌then◌else◌, filter}
 use Rattle.chk_chunk.specs.Keys.{Stream}
-use Rattle.chk_heads.specs.Heads.{Head}
-use Rattle.chk_merge.specs.Courses.{is_head_of}
-use Rattle.chk_compare.specs.declared.blocks.Block.{Block}
-use Rattle.chk_compare.specs.Blocks.{head_in, StreamsRise}
-use Rattle.chk_choose.specs.Plans.{IsBlockOf}
+use Rattle.chk_record_index.specs.Heads.{Head}
+use Rattle.chk_record_reader.specs.Courses.{is_head_of}
+use Rattle.chk_join_sources.specs.declared.blocks.Block.{Block}
+use Rattle.chk_join_sources.specs.Blocks.{head_in, StreamsRise}
+use Rattle.chk_join_sources.specs.Plans.{IsBlockOf}
 
 module _ (p : Head → Bool) where
   abbrev with_it : Head → List Head → Bool → List Head

@@ -20,16 +20,16 @@ use Rattle.chk_world.specs.Sight.{job, Sight, own_book, AtJob}
 use Rattle.chk_world.specs.JobSteps.{IsOf, ReadsFile, reads, asks, SparesFile}
 use Rattle.chk_world.proofs.Spares.{reads_own}
 use Rattle.chk_world.proofs.SmallFiles.{readable}
-use Rattle.chk_heads.specs.declared.fault.JobFault.{JobFault}
-use Rattle.chk_heads.specs.declared.fault.JobFault.TheVariants.{Outside, Damaged, Spent, NoMemory}
+use Rattle.chk_record_index.specs.declared.fault.JobFault.{JobFault}
+use Rattle.chk_record_index.specs.declared.fault.JobFault.TheVariants.{Outside, Damaged, Spent, NoMemory}
 use Rattle.chk_book.specs.Books.{book_view}
 use Rattle.chk_book.specs.Folders.{book_name}
 use Rattle.chk_book.specs.Loaded.{LoadedBook, book_result}
 use Rattle.chk_book.specs.declared.book.Book.{Book as Struct}
-use Rattle.chk_parts.proofs.FromKnown.{from_known, reach}
-use Rattle.chk_parts.proofs.Published.{book_named}
+use Rattle.chk_archive_parts.proofs.FromKnown.{from_known, reach}
+use Rattle.chk_archive_parts.proofs.Published.{book_named}
 use Rattle.chk_world.proofs.LogEnds.{legal_modelled}
-use Rattle.chk_parts.proofs.Beginning.{undamaged, quiet_read}
+use Rattle.chk_archive_parts.proofs.Beginning.{undamaged, quiet_read}
 
 -- at Ok the folder has this book, and the job knows what it knew; it is never damaged
 abbrev pub HasLoaded : List (List ℕ) → (Sight → Type 0) → Folder → Result Struct JobFault → History → Type 0

@@ -1,7 +1,7 @@
 -- The joined archive's book may be published.
 use Rattle.chk_join.proofs.Begun.{joined_book}
-use Rattle.chk_parts.proofs.FromKnown.{from_known, reach_known}
-use Rattle.chk_parts.proofs.Published.{published, publishes, replaces_no_start, quiet_replace}
+use Rattle.chk_archive_parts.proofs.FromKnown.{from_known, reach_known}
+use Rattle.chk_archive_parts.proofs.Published.{published, publishes, replaces_no_start, quiet_replace}
 use Rattle.chk_world.specs.Places.{As}
 use Rattle.chk_replace.specs.Replace.{replacement}
 use Rattle.chk_site.proofs.Leads.{leads_as}
@@ -26,17 +26,17 @@ use Rattle.chk_world.specs.Committed.{HasFile}
 use Rattle.chk_world.specs.Jobs.{Run, IsSoundSegment, BookNamesSyncedSegments, segment_list}
 use Rattle.chk_world.specs.Jobs.{all_segments}
 use Rattle.chk_world.specs.Sight.{Sight, sight, own_book, job, AtJob}
-use Rattle.chk_parts.specs.Publishing.{IsPublished, MayFollow, Published, ReplacesBookOf}
-use Rattle.chk_parts.proofs.OneSegment.{some_has}
-use Rattle.chk_parts.proofs.EndsInOrder.{Sorted, sorted}
-use Rattle.chk_heads.specs.declared.fault.JobFault.{JobFault}
-use Rattle.chk_heads.specs.declared.fault.JobFault.TheVariants.{Outside, Damaged, Spent, NoMemory}
+use Rattle.chk_archive_parts.specs.Publishing.{IsPublished, MayFollow, Published, ReplacesBookOf}
+use Rattle.chk_archive_parts.proofs.OneSegment.{some_has}
+use Rattle.chk_archive_parts.proofs.EndsInOrder.{Sorted, sorted}
+use Rattle.chk_record_index.specs.declared.fault.JobFault.{JobFault}
+use Rattle.chk_record_index.specs.declared.fault.JobFault.TheVariants.{Outside, Damaged, Spent, NoMemory}
 use Rattle.chk_book.specs.Publishing.{site_result}
 use Rattle.chk_join.specs.Runs.{AreRuns}
 use Rattle.chk_join.specs.Preparing.{HoldsSegmentSo, HoldsAlone}
 use Rattle.chk_join.specs.Publishing.{HoldsBook, EndsLegally}
 use Rattle.chk_join.proofs.RunFacts.{runs_listed, runs_stream, end_is_in, none_in}
-use Rattle.chk_merge.proofs.BothLimits.{limits_agree}
+use Rattle.chk_record_reader.proofs.BothLimits.{limits_agree}
 
 -- ---- the book
 

@@ -13,38 +13,38 @@ use Rattle.chk_chunk.specs.Keys.{Chunk, chunk_limit}
 use Rattle.chk_world.specs.Books.{End, Book}
 use Rattle.chk_world.specs.JobSteps.{IsOf, ReadsFile, SparesFile}
 use Rattle.chk_world.proofs.Each.{Each}
-use Rattle.chk_heads.specs.Faults.{IsOfRead, FailsLast}
-use Rattle.chk_heads.specs.Order.{in_head_order}
-use Rattle.chk_heads.specs.Pieces.{AsksInPieces}
-use Rattle.chk_heads.specs.declared.fault.JobFault.{JobFault}
-use Rattle.chk_heads.specs.declared.fault.JobFault.TheVariants.{Outside, Damaged, Spent, NoMemory}
+use Rattle.chk_record_index.specs.Faults.{IsOfRead, FailsLast}
+use Rattle.chk_record_index.specs.Order.{in_head_order}
+use Rattle.chk_record_index.specs.Pieces.{AsksInPieces}
+use Rattle.chk_record_index.specs.declared.fault.JobFault.{JobFault}
+use Rattle.chk_record_index.specs.declared.fault.JobFault.TheVariants.{Outside, Damaged, Spent, NoMemory}
 use Rattle.chk_book.specs.Views.{end_view}
 use Rattle.chk_book.specs.Folders.{most_in}
-use Rattle.chk_merge.specs.Segments.{names_of, HasFiles, SparesFiles, AreSettled, IsSound}
-use Rattle.chk_merge.specs.Segments.{heads_from}
-use Rattle.chk_merge.specs.Checking.{AllGoWell}
-use Rattle.chk_merge.specs.Merging.{SparesBoth, AreApart, SoundHeads}
-use Rattle.chk_merge.proofs.AllRead.{adds_all}
-use Rattle.chk_merge.proofs.Frames.{stays_so, spares_one, reads_quiet}
-use Rattle.chk_compare.specs.declared.gathering.Side.{Side}
-use Rattle.chk_compare.specs.Reading.{AreAmong}
-use Rattle.chk_choose.specs.declared.plan.Plan.{Plan}
-use Rattle.chk_choose.specs.declared.plan.Choice.{Choice}
-use Rattle.chk_choose.specs.Pairs.{Pair, pairs_of, taken_end}
-use Rattle.chk_choose.specs.Plans.{IsPlanOf, AreChoicesOf}
-use Rattle.chk_choose.specs.Differing.{PairAgrees}
-use Rattle.chk_choose.specs.Choosing.{IsSideInOrder, ComparedPairs}
-use Rattle.chk_copy.specs.Copying.{joined_segment, chosen_chunks, FitsIn, Copies}
+use Rattle.chk_record_reader.specs.Segments.{names_of, HasFiles, SparesFiles, AreSettled, IsSound}
+use Rattle.chk_record_reader.specs.Segments.{heads_from}
+use Rattle.chk_record_reader.specs.Checking.{AllGoWell}
+use Rattle.chk_record_reader.specs.Merging.{SparesBoth, AreApart, SoundHeads}
+use Rattle.chk_record_reader.proofs.AllRead.{adds_all}
+use Rattle.chk_record_reader.proofs.Frames.{stays_so, spares_one, reads_quiet}
+use Rattle.chk_join_sources.specs.declared.gathering.Side.{Side}
+use Rattle.chk_join_sources.specs.Reading.{AreAmong}
+use Rattle.chk_join_sources.specs.declared.plan.Plan.{Plan}
+use Rattle.chk_join_sources.specs.declared.plan.Choice.{Choice}
+use Rattle.chk_join_sources.specs.Pairs.{Pair, pairs_of, taken_end}
+use Rattle.chk_join_sources.specs.Plans.{IsPlanOf, AreChoicesOf}
+use Rattle.chk_join_sources.specs.Differing.{PairAgrees}
+use Rattle.chk_join_sources.specs.Choosing.{IsSideInOrder, ComparedPairs}
+use Rattle.chk_join_sources.specs.Copying.{joined_segment, chosen_chunks, FitsIn, Copies}
 use Rattle.chk_join.specs.Preparing.{SpentPlan, WrotePlan, TookPlan, HasOrder, IsGathered}
 use Rattle.chk_join.specs.Preparing.{JoinedSides, JoinedBooks}
 use Rattle.chk_join.specs.declared.preparing.Prepared.{Prepared}
 use Rattle.chk_join.specs.declared.preparing.Prepared.TheVariants.{Ready, Differs}
 use Rattle.chk_join.specs.Working.{Worked}
 use Rattle.chk_join.proofs.Joins.{joins}
-use Rattle.chk_parts.proofs.Works.{works_as}
+use Rattle.chk_archive_parts.proofs.Works.{works_as}
 use Rattle.chk_book.proofs.Works.{worked}
 use Rattle.chk_join.proofs.Gathered.{is_side}
-use Rattle.chk_copy.proofs.Steps.{of_files}
+use Rattle.chk_join_sources.proofs.CopySteps.{of_files}
 
 -- ---- steps of others
 

@@ -11,14 +11,14 @@ use Rattle.chk_chunk.specs.Keys.{Stream, Chunk, chunk_limit}
 use Rattle.chk_world.specs.Books.{Segment, End, Book, book_in, empty_book, chunks_within}
 use Rattle.chk_world.specs.Books.{chunks_of_stream}
 use Rattle.chk_world.specs.JobSteps.{IsOf, removes, creates, appends, syncs}
-use Rattle.chk_heads.specs.Pieces.{bytes_in}
+use Rattle.chk_record_index.specs.Pieces.{bytes_in}
 use Rattle.chk_book.specs.Folders.{segment_name, segment_stem}
 use Rattle.chk_book.specs.Segmenting.{all_bytes, segment_of}
-use Rattle.chk_merge.specs.Segments.{chunks_in_files}
-use Rattle.chk_merge.proofs.Frames.{stays_so}
-use Rattle.chk_parts.specs.Publishing.{ReplacesBookOf, writes_book, names_book}
-use Rattle.chk_parts.proofs.OneSegment.{has_some, some_has}
-use Rattle.chk_copy.specs.Copying.{joined_segment}
+use Rattle.chk_record_reader.specs.Segments.{chunks_in_files}
+use Rattle.chk_record_reader.proofs.Frames.{stays_so}
+use Rattle.chk_archive_parts.specs.Publishing.{ReplacesBookOf, writes_book, names_book}
+use Rattle.chk_archive_parts.proofs.OneSegment.{has_some, some_has}
+use Rattle.chk_join_sources.specs.Copying.{joined_segment}
 use Rattle.chk_join.specs.Archives.{join, Agree}
 use Rattle.chk_join.specs.Runs.{IsAlone, AreRuns, bytes_of}
 use Rattle.chk_join.specs.Joined.{joined_folder, folder_book, archive_with, archive_by, archive_in}

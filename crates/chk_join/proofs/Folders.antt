@@ -20,19 +20,19 @@ use Rattle.chk_world.specs.Books.{Book, is_segment, is_end, is_aside, fits_versi
 use Rattle.chk_world.specs.Books.{ends_rise, empty_book}
 use Rattle.chk_world.specs.JobSteps.{IsOf, ReadsFile, SparesFile}
 use Rattle.chk_world.proofs.SpelledLemmas.{book_so}
-use Rattle.chk_heads.specs.Faults.{IsOfRead, FailsLast, JobCause, job_fault}
-use Rattle.chk_heads.specs.Pieces.{AsksInPieces}
-use Rattle.chk_heads.specs.declared.fault.JobFault.{JobFault}
-use Rattle.chk_heads.specs.declared.fault.JobFault.TheVariants.{Outside, Damaged, Spent, NoMemory}
+use Rattle.chk_record_index.specs.Faults.{IsOfRead, FailsLast, JobCause, job_fault}
+use Rattle.chk_record_index.specs.Pieces.{AsksInPieces}
+use Rattle.chk_record_index.specs.declared.fault.JobFault.{JobFault}
+use Rattle.chk_record_index.specs.declared.fault.JobFault.TheVariants.{Outside, Damaged, Spent, NoMemory}
 use Rattle.chk_book.specs.Folders.{book_name}
 use Rattle.chk_book.specs.Loaded.{LoadedBook, IsBookOf, file_bytes}
 use Rattle.chk_book.specs.Books.{book_view}
 use Rattle.chk_book.specs.declared.book.Book.{Book as Struct}
-use Rattle.chk_merge.specs.Segments.{HasFiles, AreSettled}
-use Rattle.chk_merge.specs.Merging.{SparesBoth}
-use Rattle.chk_merge.specs.Archives.{IsDamagedAt}
-use Rattle.chk_merge.proofs.Frames.{reads_quiet}
-use Rattle.chk_copy.specs.Copying.{Copies}
+use Rattle.chk_record_reader.specs.Segments.{HasFiles, AreSettled}
+use Rattle.chk_record_reader.specs.Merging.{SparesBoth}
+use Rattle.chk_record_reader.specs.Archives.{IsDamagedAt}
+use Rattle.chk_record_reader.proofs.Frames.{reads_quiet}
+use Rattle.chk_join_sources.specs.Copying.{Copies}
 use Rattle.chk_join.specs.Beginning.{Begins, begins_starting, begins_reading}
 use Rattle.chk_join.specs.Working.{Worked, TidiesBy, lists_joined, removes_stray, PreparesBy}
 use Rattle.chk_join.specs.Working.{goes_reading, goes_tidying, goes_writing, Prepares, first_starts}
@@ -42,7 +42,7 @@ use Rattle.chk_join.specs.Joined.{ReadsWell, no_book, bad_records}
 use Rattle.chk_join.specs.Preparing.{HasOrder, JoinedBooks, JoinsAs, Covers, IsFolderBook}
 use Rattle.chk_join.specs.Preparing.{PreparedFrom}
 use Rattle.chk_join.specs.declared.preparing.Prepared.{Prepared}
-use Rattle.chk_parts.proofs.Works.{works_as, works_fail}
+use Rattle.chk_archive_parts.proofs.Works.{works_as, works_fail}
 use Rattle.chk_book.proofs.Works.{worked}
 use Rattle.chk_join.proofs.Chain.{files_stay}
 

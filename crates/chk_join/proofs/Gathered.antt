@@ -9,31 +9,31 @@ use Rattle.chk_world.specs.Books.{End, Book, chunks_of_stream, chunks_within, va
 use Rattle.chk_world.specs.Jobs.{Run}
 use Rattle.chk_world.proofs.Each.{Each, each_at, each_filter}
 use Rattle.chk_world.proofs.BooksTrue.{run_length, each_within, each_flat}
-use Rattle.chk_heads.specs.Heads.{Head}
-use Rattle.chk_heads.specs.Order.{no_head, head_before, in_head_order}
-use Rattle.chk_heads.specs.Pieces.{bytes_in}
-use Rattle.chk_heads.proofs.Orders.{WeakOrder, lex, tested_through, numbers, streams}
-use Rattle.chk_heads.proofs.Sorting.{Sorted, sort_sorted}
+use Rattle.chk_record_index.specs.Heads.{Head}
+use Rattle.chk_record_index.specs.Order.{no_head, head_before, in_head_order}
+use Rattle.chk_record_index.specs.Pieces.{bytes_in}
+use Rattle.chk_record_index.proofs.Orders.{WeakOrder, lex, tested_through, numbers, streams}
+use Rattle.chk_record_index.proofs.Sorting.{Sorted, sort_sorted}
 use Rattle.chk_book.specs.Folders.{most_in}
-use Rattle.chk_merge.specs.Segments.{names_of, heads_from}
-use Rattle.chk_merge.specs.Courses.{is_head_of, end_of, reached, first_break, IsBreakBy}
-use Rattle.chk_merge.specs.Archives.{IsKnown, chunk_in}
-use Rattle.chk_merge.proofs.AllRead.{known_from}
-use Rattle.chk_merge.proofs.Joining.{chunks_from, begin_from, runs_from}
-use Rattle.chk_merge.proofs.Causes.{at_place}
-use Rattle.chk_compare.specs.declared.gathering.Side.{Side}
-use Rattle.chk_compare.specs.Blocks.{head_in, stream_in, StreamsRise}
-use Rattle.chk_compare.specs.Reading.{AreAmong}
-use Rattle.chk_choose.specs.Choosing.{IsSideInOrder}
-use Rattle.chk_choose.specs.Differing.{bytes_of}
+use Rattle.chk_record_reader.specs.Segments.{names_of, heads_from}
+use Rattle.chk_record_reader.specs.Courses.{is_head_of, end_of, reached, first_break, IsBreakBy}
+use Rattle.chk_record_reader.specs.Archives.{IsKnown, chunk_in}
+use Rattle.chk_record_reader.proofs.AllRead.{known_from}
+use Rattle.chk_record_reader.proofs.Joining.{chunks_from, begin_from, runs_from}
+use Rattle.chk_record_reader.proofs.Causes.{at_place}
+use Rattle.chk_join_sources.specs.declared.gathering.Side.{Side}
+use Rattle.chk_join_sources.specs.Blocks.{head_in, stream_in, StreamsRise}
+use Rattle.chk_join_sources.specs.Reading.{AreAmong}
+use Rattle.chk_join_sources.specs.Choosing.{IsSideInOrder}
+use Rattle.chk_join_sources.specs.Differing.{bytes_of}
 use Rattle.chk_join.specs.Joined.{records_of_book}
 use Rattle.chk_join.specs.Preparing.{IsGathered}
-use Rattle.chk_merge.proofs.SortedStream.{each_sort}
-use Rattle.chk_merge.proofs.SortedRuns.{order_keeps}
+use Rattle.chk_record_reader.proofs.SortedStream.{each_sort}
+use Rattle.chk_record_reader.proofs.SortedRuns.{order_keeps}
 use Rattle.chk_join.proofs.Taken.{side_chunks, side_bytes}
-use Rattle.chk_merge.proofs.HeadStreams.{chunks_of_heads}
-use Rattle.chk_merge.proofs.MergedInto.{bytes_from as all_have_bytes}
-use Rattle.chk_heads.proofs.Apart.{stream_not_before as not_before}
+use Rattle.chk_record_reader.proofs.HeadStreams.{chunks_of_heads}
+use Rattle.chk_record_reader.proofs.MergedInto.{bytes_from as all_have_bytes}
+use Rattle.chk_record_index.proofs.Apart.{stream_not_before as not_before}
 
 -- ---- the streams of heads in order rise
 

@@ -16,18 +16,18 @@ use Rattle.chk_replace.specs.Replace.{LeavesBoth}
 use Rattle.chk_world.specs.Books.{Segment, Book}
 use Rattle.chk_world.specs.JobSteps.{IsOf}
 use Rattle.chk_world.proofs.Each.{later_one}
-use Rattle.chk_heads.specs.Faults.{JobCause, FailsLast, IsOfWrite}
-use Rattle.chk_heads.specs.Pieces.{AsksInPieces}
-use Rattle.chk_heads.specs.declared.fault.JobFault.{JobFault}
-use Rattle.chk_heads.specs.declared.fault.JobFault.TheVariants.{Outside, Damaged, Spent}
-use Rattle.chk_heads.specs.declared.fault.JobFault.TheVariants.{NoMemory as no_memory}
+use Rattle.chk_record_index.specs.Faults.{JobCause, FailsLast, IsOfWrite}
+use Rattle.chk_record_index.specs.Pieces.{AsksInPieces}
+use Rattle.chk_record_index.specs.declared.fault.JobFault.{JobFault}
+use Rattle.chk_record_index.specs.declared.fault.JobFault.TheVariants.{Outside, Damaged, Spent}
+use Rattle.chk_record_index.specs.declared.fault.JobFault.TheVariants.{NoMemory as no_memory}
 use Rattle.chk_book.specs.Books.{book_view}
 use Rattle.chk_book.specs.Folders.{segment_name, segment_stem}
 use Rattle.chk_book.specs.declared.book.Book.{Book as Struct}
-use Rattle.chk_choose.specs.declared.difference.Difference.{Difference}
-use Rattle.chk_merge.specs.Segments.{HasFiles, AreSettled}
-use Rattle.chk_merge.proofs.Frames.{stays_so}
-use Rattle.chk_parts.specs.Publishing.{ReplacesBookOf}
+use Rattle.chk_join_sources.specs.declared.difference.Difference.{Difference}
+use Rattle.chk_record_reader.specs.Segments.{HasFiles, AreSettled}
+use Rattle.chk_record_reader.proofs.Frames.{stays_so}
+use Rattle.chk_archive_parts.specs.Publishing.{ReplacesBookOf}
 use Rattle.chk_join.specs.Working.{Worked, PreparesBy, goes_reading, goes_tidying, goes_writing}
 use Rattle.chk_join.specs.Working.{Prepares, first_starts, goes_on, lists_joined, removes_stray}
 use Rattle.chk_join.specs.Faults.{join_fault, JoinCause, JoinFailsLast, JoinsBy, starts, only_reads}
@@ -48,7 +48,7 @@ use Rattle.chk_join.proofs.Apart.{other_folder, covers}
 use Rattle.chk_join.proofs.Chain.{files_stay}
 use Rattle.chk_join.proofs.Whole.{spares_both, leaves_book, one_spared, is_read, quiet_prepares}
 use Rattle.chk_join.proofs.RunFacts.{none_in}
-use Rattle.chk_copy.specs.Copying.{joined_segment}
+use Rattle.chk_join_sources.specs.Copying.{joined_segment}
 use Rattle.chk_join.proofs.Finished.{join_done, alone_stays, quiet_other}
 use Rattle.chk_site.proofs.LastCalls.{ends_in_both as ends_behind}
 

@@ -10,25 +10,25 @@ use Rattle.std.proofs.lemmas.Option.{none-some, same_Some}
 use Rattle.chk_site.specs.Files.{Files}
 use Rattle.chk_site.specs.History.{History}
 use Rattle.chk_book.specs.Folders.{most_in}
-use Rattle.chk_merge.specs.Segments.{names_of, heads_from}
+use Rattle.chk_record_reader.specs.Segments.{names_of, heads_from}
 use Rattle.chk_chunk.specs.Keys.{Stream, Chunk, chunk_limit, same_stream}
 use Rattle.chk_world.specs.TrueBooks.{HasBytes as HasRoom}
 use Rattle.chk_world.specs.Books.{End, Book, chunks_of_stream, values}
 use Rattle.chk_world.proofs.Each.{Each}
 use Rattle.chk_world.proofs.NameTests.{streams_same}
 use Rattle.chk_world.proofs.BooksTrue.{run_length, each_within}
-use Rattle.chk_heads.specs.declared.fault.JobFault.{JobFault}
-use Rattle.chk_heads.specs.declared.fault.JobFault.TheVariants.{Outside, Damaged, Spent, NoMemory}
+use Rattle.chk_record_index.specs.declared.fault.JobFault.{JobFault}
+use Rattle.chk_record_index.specs.declared.fault.JobFault.TheVariants.{Outside, Damaged, Spent, NoMemory}
 use Rattle.chk_book.specs.Books.{book_view}
-use Rattle.chk_merge.specs.Courses.{end_of}
-use Rattle.chk_parts.proofs.EndsInOrder.{sorted}
-use Rattle.chk_compare.specs.declared.gathering.Side.{Side}
-use Rattle.chk_compare.specs.Blocks.{StreamsRise}
-use Rattle.chk_choose.specs.Pairs.{Pair, left_alone, right_alone, paired, pairs_of, is_from_right}
-use Rattle.chk_choose.specs.Pairs.{taken_end}
-use Rattle.chk_choose.specs.Plans.{size_of}
-use Rattle.chk_choose.specs.Differing.{bytes_of, DifferAt, AreAlike, PairAgrees, PairDiffers}
-use Rattle.chk_choose.proofs.Lookup.{pair_stream, pair_for, pair_with_both, lookup, each_for}
+use Rattle.chk_record_reader.specs.Courses.{end_of}
+use Rattle.chk_archive_parts.proofs.EndsInOrder.{sorted}
+use Rattle.chk_join_sources.specs.declared.gathering.Side.{Side}
+use Rattle.chk_join_sources.specs.Blocks.{StreamsRise}
+use Rattle.chk_join_sources.specs.Pairs.{Pair, left_alone, right_alone, paired, pairs_of, is_from_right}
+use Rattle.chk_join_sources.specs.Pairs.{taken_end}
+use Rattle.chk_join_sources.specs.Plans.{size_of}
+use Rattle.chk_join_sources.specs.Differing.{bytes_of, DifferAt, AreAlike, PairAgrees, PairDiffers}
+use Rattle.chk_join_sources.proofs.Lookup.{pair_stream, pair_for, pair_with_both, lookup, each_for}
 use Rattle.chk_join.specs.Archives.{Archived, Archive, join, longer, AgreeAt, Agree}
 use Rattle.chk_join.specs.Runs.{AreRuns, IsAlone, bytes_of as size_of_chunks}
 use Rattle.chk_join.specs.Joined.{archived_with, archive_with, archive_by, records_of_book}

@@ -6,14 +6,14 @@ use Rattle.chk_chunk.specs.Keys.{Stream, same_stream, stream_lt}
 use Rattle.chk_world.specs.Books.{End}
 use Rattle.chk_world.proofs.Each.{Each, each_as}
 use Rattle.chk_world.proofs.NameTests.{streams_same}
-use Rattle.chk_heads.proofs.Orders.{streams}
-use Rattle.chk_merge.specs.Courses.{end_of}
-use Rattle.chk_parts.proofs.EndsInOrder.{Sorted}
-use Rattle.chk_heads.proofs.Apart.{apart}
-use Rattle.chk_merge.proofs.OnePass.{stream_onward as before_on}
-use Rattle.chk_choose.specs.Pairs.{Pair, left_alone, right_alone, paired, pairs_of, pair_with}
-use Rattle.chk_choose.specs.Pairs.{taken_end}
-use Rattle.chk_choose.proofs.Lookup.{pair_stream, pair_for}
+use Rattle.chk_record_index.proofs.Orders.{streams}
+use Rattle.chk_record_reader.specs.Courses.{end_of}
+use Rattle.chk_archive_parts.proofs.EndsInOrder.{Sorted}
+use Rattle.chk_record_index.proofs.Apart.{apart}
+use Rattle.chk_record_reader.proofs.OnePass.{stream_onward as before_on}
+use Rattle.chk_join_sources.specs.Pairs.{Pair, left_alone, right_alone, paired, pairs_of, pair_with}
+use Rattle.chk_join_sources.specs.Pairs.{taken_end}
+use Rattle.chk_join_sources.proofs.Lookup.{pair_stream, pair_for}
 
 -- both ends of a pair are of one stream
 abbrev pub IsMatched : Pair → Type 0

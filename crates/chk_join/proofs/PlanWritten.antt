@@ -12,19 +12,19 @@ use Rattle.chk_site.proofs.Leads.{leads_as, owned_anyhow}
 use Rattle.chk_chunk.specs.Keys.{Chunk, chunk_limit}
 use Rattle.chk_world.specs.Books.{End, Book, chunks_within}
 use Rattle.chk_world.specs.JobSteps.{SparesFile}
-use Rattle.chk_heads.specs.declared.fault.JobFault.{JobFault}
-use Rattle.chk_heads.specs.declared.fault.JobFault.TheVariants.{Outside, Damaged, Spent, NoMemory}
+use Rattle.chk_record_index.specs.declared.fault.JobFault.{JobFault}
+use Rattle.chk_record_index.specs.declared.fault.JobFault.TheVariants.{Outside, Damaged, Spent, NoMemory}
 use Rattle.chk_book.specs.Folders.{segment_name}
 use Rattle.chk_book.specs.Segmenting.{Writing, all_bytes}
-use Rattle.chk_merge.specs.Segments.{HasFiles}
-use Rattle.chk_merge.specs.Merging.{SparesBoth}
-use Rattle.chk_parts.proofs.OneSegment.{has_some}
-use Rattle.chk_compare.specs.declared.gathering.Side.{Side}
-use Rattle.chk_choose.specs.declared.plan.Choice.{Choice}
-use Rattle.chk_copy.specs.Copying.{joined_segment, IsChosenSegment, WroteChosen}
-use Rattle.chk_copy.specs.Standing.{chosen_heads, WroteCopies}
+use Rattle.chk_record_reader.specs.Segments.{HasFiles}
+use Rattle.chk_record_reader.specs.Merging.{SparesBoth}
+use Rattle.chk_archive_parts.proofs.OneSegment.{has_some}
+use Rattle.chk_join_sources.specs.declared.gathering.Side.{Side}
+use Rattle.chk_join_sources.specs.declared.plan.Choice.{Choice}
+use Rattle.chk_join_sources.specs.Copying.{joined_segment, IsChosenSegment, WroteChosen}
+use Rattle.chk_join_sources.specs.Standing.{chosen_heads, WroteCopies}
 use Rattle.chk_book.specs.Causes.{SpentBook}
-use Rattle.chk_merge.specs.Merging.{bare_book}
+use Rattle.chk_record_reader.specs.Merging.{bare_book}
 use Rattle.chk_join.specs.Runs.{AreRuns, ChosenRun, IsWritten, IsAlone}
 use Rattle.chk_join.specs.Preparing.{SpentPlan, WrotePlan, StoodPlan}
 use Rattle.chk_join.proofs.RunFacts.{runs_of_copies}

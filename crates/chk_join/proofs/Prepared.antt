@@ -12,13 +12,13 @@ use Rattle.chk_world.specs.Books.{Book, AllChunks, chunks_within}
 use Rattle.chk_world.specs.Places.{As}
 use Rattle.chk_world.specs.Sight.{job, sight, AtJob}
 use Rattle.chk_world.specs.JobSteps.{IsOf, SparesFile}
-use Rattle.chk_heads.specs.declared.fault.JobFault.{JobFault}
-use Rattle.chk_heads.specs.declared.fault.JobFault.TheVariants.{Outside, Damaged, Spent, NoMemory}
+use Rattle.chk_record_index.specs.declared.fault.JobFault.{JobFault}
+use Rattle.chk_record_index.specs.declared.fault.JobFault.TheVariants.{Outside, Damaged, Spent, NoMemory}
 use Rattle.chk_book.specs.Books.{book_view}
 use Rattle.chk_book.specs.Folders.{segment_name}
 use Rattle.chk_book.specs.Segmenting.{Writing, all_bytes, segment_of}
-use Rattle.chk_copy.specs.Copying.{joined_segment}
-use Rattle.chk_parts.proofs.OneSegment.{has_some}
+use Rattle.chk_join_sources.specs.Copying.{joined_segment}
+use Rattle.chk_archive_parts.proofs.OneSegment.{has_some}
 use Rattle.chk_join.specs.Beginning.{HasBook, HasBegun}
 use Rattle.chk_join.specs.Runs.{IsWritten, IsAlone}
 use Rattle.chk_join.specs.Preparing.{StandsReady, HoldsSegmentSo, HoldsAlone, PreparedLegal}

@@ -14,13 +14,13 @@ use Rattle.chk_replace.proofs.OldAndNew.{replaced}
 use Rattle.chk_world.specs.Books.{Book, is_book, book_bytes, written_version}
 use Rattle.chk_world.specs.Sight.{job}
 use Rattle.chk_world.proofs.BooksRead.{book_back}
-use Rattle.chk_heads.specs.Faults.{FailsLast}
-use Rattle.chk_heads.specs.declared.fault.JobFault.{JobFault}
-use Rattle.chk_heads.specs.declared.fault.JobFault.TheVariants.{Outside, Damaged, Spent, NoMemory}
+use Rattle.chk_record_index.specs.Faults.{FailsLast}
+use Rattle.chk_record_index.specs.declared.fault.JobFault.{JobFault}
+use Rattle.chk_record_index.specs.declared.fault.JobFault.TheVariants.{Outside, Damaged, Spent, NoMemory}
 use Rattle.chk_book.specs.Publishing.{site_result}
-use Rattle.chk_parts.specs.Publishing.{ReplacesBookOf}
-use Rattle.chk_parts.proofs.Published.{publishes, replaces_no_reads}
-use Rattle.chk_parts.proofs.StepKinds.{no_reads}
+use Rattle.chk_archive_parts.specs.Publishing.{ReplacesBookOf}
+use Rattle.chk_archive_parts.proofs.Published.{publishes, replaces_no_reads}
+use Rattle.chk_archive_parts.proofs.StepKinds.{no_reads}
 use Rattle.chk_join.specs.Publishing.{HasNewBook, PublishedSo}
 use Rattle.chk_join.specs.Working.{Worked}
 use Rattle.chk_join.proofs.Begun.{joined_book}

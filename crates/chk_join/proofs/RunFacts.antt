@@ -10,16 +10,16 @@ use Rattle.chk_world.specs.Books.{End, chunks_of_stream}
 use Rattle.chk_world.specs.Jobs.{Run}
 use Rattle.chk_world.proofs.NameTests.{streams_same}
 use Rattle.chk_world.proofs.Each.{Each, each_at}
-use Rattle.chk_heads.specs.Heads.{Head}
-use Rattle.chk_merge.specs.Courses.{is_end_of, end_of}
-use Rattle.chk_parts.proofs.EndsInOrder.{Sorted}
-use Rattle.chk_heads.proofs.Apart.{apart_from, apart}
-use Rattle.chk_compare.specs.declared.gathering.Side.{Side}
-use Rattle.chk_choose.specs.declared.plan.Choice.{Choice}
-use Rattle.chk_copy.specs.Standing.{AreCopies, chosen_heads}
+use Rattle.chk_record_index.specs.Heads.{Head}
+use Rattle.chk_record_reader.specs.Courses.{is_end_of, end_of}
+use Rattle.chk_archive_parts.proofs.EndsInOrder.{Sorted}
+use Rattle.chk_record_index.proofs.Apart.{apart_from, apart}
+use Rattle.chk_join_sources.specs.declared.gathering.Side.{Side}
+use Rattle.chk_join_sources.specs.declared.plan.Choice.{Choice}
+use Rattle.chk_join_sources.specs.Standing.{AreCopies, chosen_heads}
 use Rattle.chk_join.specs.Runs.{IsRunOf, AreRuns, HeadsRun, ChosenRun}
 use Rattle.chk_world.proofs.Rounds.{stream_self}
-use Rattle.chk_parts.proofs.InTurn.{from_both}
+use Rattle.chk_archive_parts.proofs.InTurn.{from_both}
 
 -- ---- copies of heads that run
 

@@ -5,15 +5,15 @@ use Rattle.std.proofs.Common.{if◌then◌else◌}
 use Rattle.std.proofs.lemmas.List.{take_more, length-drop, get_or-drop, map-append}
 use Rattle.chk_world.specs.Books.{End}
 use Rattle.chk_world.proofs.NameTests.{streams_same}
-use Rattle.chk_heads.specs.Heads.{Head}
-use Rattle.chk_heads.specs.Order.{no_head}
+use Rattle.chk_record_index.specs.Heads.{Head}
+use Rattle.chk_record_index.specs.Order.{no_head}
 use Rattle.chk_book.specs.Views.{end_view}
 use Rattle.chk_book.specs.declared.lists.End.{End as EndStruct}
-use Rattle.chk_merge.specs.Courses.{is_head_of}
-use Rattle.chk_compare.specs.declared.gathering.Side.{Side}
-use Rattle.chk_compare.specs.Blocks.{head_in}
-use Rattle.chk_choose.specs.declared.plan.Choice.{Choice}
-use Rattle.chk_copy.specs.Standing.{heads_between, chosen_heads}
+use Rattle.chk_record_reader.specs.Courses.{is_head_of}
+use Rattle.chk_join_sources.specs.declared.gathering.Side.{Side}
+use Rattle.chk_join_sources.specs.Blocks.{head_in}
+use Rattle.chk_join_sources.specs.declared.plan.Choice.{Choice}
+use Rattle.chk_join_sources.specs.Standing.{heads_between, chosen_heads}
 use Rattle.chk_join.specs.Runs.{HeadsRun, ChosenRun}
 
 run_more : (e : End) (from : ℕ) (hs : List Head) (to : ℕ) (h : Head) → HeadsRun e from hs to

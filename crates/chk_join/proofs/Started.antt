@@ -16,12 +16,12 @@ use Rattle.chk_world.specs.Rules.{Legal}
 use Rattle.chk_world.specs.Sight.{job}
 use Rattle.chk_world.specs.JobSteps.{IsOf}
 use Rattle.chk_world.proofs.ToldCalls.{owned, told_start}
-use Rattle.chk_heads.specs.Pieces.{AsksInPieces}
+use Rattle.chk_record_index.specs.Pieces.{AsksInPieces}
 use Rattle.chk_join.specs.Beginning.{HasStarted}
 use Rattle.chk_join.specs.Working.{Worked, Starting, starts, job_result}
-use Rattle.chk_parts.proofs.Works.{as_job}
+use Rattle.chk_archive_parts.proofs.Works.{as_job}
 use Rattle.chk_book.proofs.Works.{worked}
-use Rattle.chk_parts.proofs.Beginning.{no_read, start_last, StartQ}
+use Rattle.chk_archive_parts.proofs.Beginning.{no_read, start_last, StartQ}
 
 not_started : (stamped : List (List ℕ)) (given : Result (Unit {0}) CallFault) (fault : OutsideFault)
     {old new : Option History} → Ends StartQ.call given fault → Adds old new (Calls StartQ (answered plain given))

@@ -36,16 +36,16 @@ use Rattle.chk_world.proofs.SmallFiles.{readable}
 use Rattle.chk_world.proofs.SpelledLemmas.{book_so}
 use Rattle.chk_world.proofs.Spares.{own_spared, writes_segment}
 use Rattle.chk_world.proofs.ToldCalls.{Allowed, talks, GoesOn, came_on}
-use Rattle.chk_copy.specs.Copying.{joined_segment}
-use Rattle.chk_parts.proofs.FromKnown.{from_known, reach}
+use Rattle.chk_join_sources.specs.Copying.{joined_segment}
+use Rattle.chk_archive_parts.proofs.FromKnown.{from_known, reach}
 use Rattle.chk_world.proofs.Lifts.{no_write_starts}
-use Rattle.chk_parts.proofs.OneSegment.{quiet_write}
+use Rattle.chk_archive_parts.proofs.OneSegment.{quiet_write}
 use Rattle.chk_join.specs.Beginning.{HasBook}
 use Rattle.chk_join.specs.Names.{names_segment, IsStrayNumber}
 use Rattle.chk_join.specs.Working.{TidiesBy, lists_joined, removes_stray, PreparesBy, goes_reading}
 use Rattle.chk_join.specs.Working.{goes_tidying, goes_writing}
-use Rattle.chk_parts.proofs.Beginning.{quiet_read as reads_silent}
-use Rattle.chk_parts.proofs.OneStep.{single, single_leads}
+use Rattle.chk_archive_parts.proofs.Beginning.{quiet_read as reads_silent}
+use Rattle.chk_archive_parts.proofs.OneStep.{single, single_leads}
 
 pub segment_spelled : (k : ℕ) → joined_segment k ≡ spell (SegmentFile JoinedFolder k)
 unfolding spell

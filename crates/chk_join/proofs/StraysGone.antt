@@ -43,12 +43,12 @@ use Rattle.chk_world.proofs.NameTests.{same_name, nat_self}
 use Rattle.chk_world.proofs.SpelledLemmas.{book_so}
 use Rattle.chk_world.proofs.OwnFiles.{done_file, refused_file, MissedOrDone, was_done, was_missing}
 use Rattle.chk_world.proofs.OwnFiles.{missed_or_done}
-use Rattle.chk_heads.specs.declared.fault.JobFault.{JobFault}
-use Rattle.chk_heads.specs.declared.fault.JobFault.TheVariants.{Outside, Damaged, Spent, NoMemory}
-use Rattle.chk_merge.proofs.Frames.{stays_so, reads_quiet}
+use Rattle.chk_record_index.specs.declared.fault.JobFault.{JobFault}
+use Rattle.chk_record_index.specs.declared.fault.JobFault.TheVariants.{Outside, Damaged, Spent, NoMemory}
+use Rattle.chk_record_reader.proofs.Frames.{stays_so, reads_quiet}
 use Rattle.chk_book.specs.Folders.{book_name, segment_stem}
 use Rattle.chk_book.specs.Loaded.{IsBookOf, file_bytes}
-use Rattle.chk_copy.specs.Copying.{joined_segment, Copies}
+use Rattle.chk_join_sources.specs.Copying.{joined_segment, Copies}
 use Rattle.chk_join.specs.Names.{segment_number, unnamed_only, AddsStray, IsStray}
 use Rattle.chk_join.specs.Names.{IsStrayNumber}
 use Rattle.chk_join.specs.Cleaned.{Pending, Shown, GoneAtOk, IsCleaned}
@@ -60,7 +60,7 @@ use Rattle.chk_join.specs.declared.fault.JoinFault.{JoinFault}
 use Rattle.chk_join.specs.declared.fault.JoinFault.TheVariants.{Job, Differ, NoMemory as no_memory}
 use Rattle.chk_join.proofs.Whole.{quiet_write}
 use Rattle.chk_join.proofs.Apart.{stem_no_slash}
-use Rattle.chk_parts.proofs.InTurn.{from_both}
+use Rattle.chk_archive_parts.proofs.InTurn.{from_both}
 use Rattle.chk_join.proofs.StepsKept.{segment_spelled}
 use Rattle.chk_join.proofs.Tidied.{listing, removal}
 use Rattle.chk_book.proofs.StemNumbers.{count_small, number_of_stem}

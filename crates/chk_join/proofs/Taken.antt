@@ -10,22 +10,22 @@ use Rattle.chk_chunk.specs.Keys.{Stream, Chunk, same_stream, stream_lt, is_of}
 use Rattle.chk_world.specs.Books.{chunks_of_stream, values}
 use Rattle.chk_world.proofs.Each.{Each}
 use Rattle.chk_world.proofs.NameTests.{streams_same}
-use Rattle.chk_heads.specs.Heads.{Head}
-use Rattle.chk_merge.specs.Courses.{is_head_of}
-use Rattle.chk_merge.specs.Archives.{chunk_in}
-use Rattle.chk_merge.proofs.Joining.{values_of}
-use Rattle.chk_compare.specs.declared.gathering.Side.{Side}
-use Rattle.chk_compare.specs.Blocks.{head_in, StreamsRise}
-use Rattle.chk_choose.specs.declared.plan.Choice.{Choice}
-use Rattle.chk_choose.specs.Pairs.{Pair, is_from_right, taken_end}
-use Rattle.chk_choose.specs.Plans.{IsBlockOf, IsChoiceOf, AreChoicesOf}
-use Rattle.chk_choose.specs.Differing.{bytes_of}
-use Rattle.chk_choose.proofs.Lookup.{pair_stream, pair_for}
-use Rattle.chk_copy.specs.Copying.{chunks_between, chosen_chunks}
+use Rattle.chk_record_index.specs.Heads.{Head}
+use Rattle.chk_record_reader.specs.Courses.{is_head_of}
+use Rattle.chk_record_reader.specs.Archives.{chunk_in}
+use Rattle.chk_record_reader.proofs.Joining.{values_of}
+use Rattle.chk_join_sources.specs.declared.gathering.Side.{Side}
+use Rattle.chk_join_sources.specs.Blocks.{head_in, StreamsRise}
+use Rattle.chk_join_sources.specs.declared.plan.Choice.{Choice}
+use Rattle.chk_join_sources.specs.Pairs.{Pair, is_from_right, taken_end}
+use Rattle.chk_join_sources.specs.Plans.{IsBlockOf, IsChoiceOf, AreChoicesOf}
+use Rattle.chk_join_sources.specs.Differing.{bytes_of}
+use Rattle.chk_join_sources.proofs.Lookup.{pair_stream, pair_for}
+use Rattle.chk_join_sources.specs.Copying.{chunks_between, chosen_chunks}
 use Rattle.chk_join.proofs.BlockHeads.{block_heads}
 use Rattle.chk_join.proofs.PairFacts.{IsMatched, PairsRise, taken_stream, no_pair}
 use Rattle.chk_join.proofs.RunFacts.{all_of, none_of}
-use Rattle.chk_merge.proofs.HeadStreams.{chunks_of_heads}
+use Rattle.chk_record_reader.proofs.HeadStreams.{chunks_of_heads}
 
 -- ---- a block
 

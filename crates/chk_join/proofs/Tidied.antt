@@ -15,10 +15,10 @@ use Rattle.chk_site.proofs.LastCalls.{ended_last as ends_last}
 use Rattle.chk_world.specs.Books.{Book}
 use Rattle.chk_world.specs.Sight.{job}
 use Rattle.chk_world.specs.JobSteps.{IsOf}
-use Rattle.chk_parts.proofs.StepKinds.{no_reads}
+use Rattle.chk_archive_parts.proofs.StepKinds.{no_reads}
 use Rattle.chk_join.specs.Names.{IsStray}
 use Rattle.chk_join.specs.Working.{Worked, TidiesBy, lists_joined, removes_stray, job_result}
-use Rattle.chk_parts.proofs.Works.{as_job}
+use Rattle.chk_archive_parts.proofs.Works.{as_job}
 use Rattle.chk_book.proofs.Works.{worked}
 
 pub tidies_no_reads : (b : Book) (call : Deed) → TidiesBy b call → (name : List ℕ) (at max : ℕ)

@@ -15,15 +15,15 @@ use Rattle.chk_replace.specs.Load.{Has}
 use Rattle.chk_replace.specs.Replace.{tmp, LeavesBoth}
 use Rattle.chk_world.specs.Books.{Segment, Book}
 use Rattle.chk_world.specs.JobSteps.{IsOf, WritesTo, removes, creates, appends, syncs, SparesFile}
-use Rattle.chk_heads.specs.declared.fault.JobFault.{JobFault}
-use Rattle.chk_heads.specs.declared.fault.JobFault.TheVariants.{Outside, Damaged, Spent, NoMemory}
+use Rattle.chk_record_index.specs.declared.fault.JobFault.{JobFault}
+use Rattle.chk_record_index.specs.declared.fault.JobFault.TheVariants.{Outside, Damaged, Spent, NoMemory}
 use Rattle.chk_book.specs.Folders.{book_name, segment_name, segment_stem}
 use Rattle.chk_book.specs.Loaded.{LoadedBook, IsBookOf, file_bytes}
-use Rattle.chk_heads.specs.Faults.{IsOfRead}
-use Rattle.chk_merge.specs.Segments.{HasFiles, AreSettled}
-use Rattle.chk_merge.specs.Merging.{SparesBoth}
-use Rattle.chk_merge.proofs.Frames.{reads_quiet}
-use Rattle.chk_copy.specs.Copying.{joined_segment}
+use Rattle.chk_record_index.specs.Faults.{IsOfRead}
+use Rattle.chk_record_reader.specs.Segments.{HasFiles, AreSettled}
+use Rattle.chk_record_reader.specs.Merging.{SparesBoth}
+use Rattle.chk_record_reader.proofs.Frames.{reads_quiet}
+use Rattle.chk_join_sources.specs.Copying.{joined_segment}
 use Rattle.chk_join.specs.Beginning.{Begins, begins_starting, begins_reading}
 use Rattle.chk_join.specs.Working.{PreparesBy, goes_reading, goes_tidying, goes_writing, Prepares}
 use Rattle.chk_join.specs.Working.{first_starts, goes_on}
@@ -36,7 +36,7 @@ use Rattle.chk_join.proofs.Begun.{joined_book}
 use Rattle.chk_join.proofs.Chain.{files_stay}
 use Rattle.chk_join.proofs.Folders.{quiet_tidy}
 use Rattle.chk_join.proofs.RunFacts.{none_in}
-use Rattle.chk_parts.proofs.InTurn.{from_both}
+use Rattle.chk_archive_parts.proofs.InTurn.{from_both}
 
 -- ---- what is supposed of others
 

@@ -9,8 +9,8 @@ use Rattle.chk_world.specs.Rules.{Legal}
 use Rattle.chk_world.specs.Places.{AtTold}
 use Rattle.chk_world.specs.Sight.{job, Sight, own_book, AtJob}
 use Rattle.chk_world.specs.JobSteps.{ReadsFile}
-use Rattle.chk_heads.specs.declared.fault.JobFault.{JobFault}
-use Rattle.chk_heads.specs.declared.fault.JobFault.TheVariants.{Damaged}
+use Rattle.chk_record_index.specs.declared.fault.JobFault.{JobFault}
+use Rattle.chk_record_index.specs.declared.fault.JobFault.TheVariants.{Damaged}
 
 -- `joined` has this book
 abbrev pub HasBook : Book → Sight → Type 0

@@ -2,7 +2,7 @@
 use Rattle.std.specs.Prelude.{◌≡◌, ◌⊎◌, ℕ, List, Contains, None, Result, Ok, Err}
 use Rattle.chk_site.specs.History.{History, files_after}
 use Rattle.chk_book.specs.Folders.{segment_stem}
-use Rattle.chk_copy.specs.Copying.{joined_segment}
+use Rattle.chk_join_sources.specs.Copying.{joined_segment}
 use Rattle.chk_join.specs.declared.report.JoinReport.{JoinReport}
 use Rattle.chk_join.specs.declared.fault.JoinFault.{JoinFault}
 use Rattle.chk_join.specs.declared.fault.JoinFault.TheVariants.{Differ}

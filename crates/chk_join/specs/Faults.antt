@@ -5,10 +5,10 @@ use Rattle.chk_site.specs.History.{History, is_stopped}
 use Rattle.chk_site.specs.Site.{Rose, EndsIn}
 use Rattle.chk_world.specs.JobSteps.{ReadsFile, WritesTo}
 use Rattle.chk_book.specs.Folders.{segment_name}
-use Rattle.chk_parts.specs.Publishing.{ReplacesBookOf}
-use Rattle.chk_heads.specs.declared.fault.JobFault.{JobFault}
-use Rattle.chk_heads.specs.declared.fault.JobFault.TheVariants.{Outside, Damaged, Spent}
-use Rattle.chk_heads.specs.declared.fault.JobFault.TheVariants.{NoMemory as no_memory}
+use Rattle.chk_archive_parts.specs.Publishing.{ReplacesBookOf}
+use Rattle.chk_record_index.specs.declared.fault.JobFault.{JobFault}
+use Rattle.chk_record_index.specs.declared.fault.JobFault.TheVariants.{Outside, Damaged, Spent}
+use Rattle.chk_record_index.specs.declared.fault.JobFault.TheVariants.{NoMemory as no_memory}
 use Rattle.chk_join.specs.declared.fault.JoinFault.{JoinFault}
 use Rattle.chk_join.specs.declared.fault.JoinFault.TheVariants.{Job, NoMemory}
 

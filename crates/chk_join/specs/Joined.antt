@@ -11,14 +11,14 @@ use Rattle.chk_replace.specs.Replace.{LeavesFile}
 use Rattle.chk_chunk.specs.Keys.{Stream, Chunk, stream_lt}
 use Rattle.chk_world.specs.Books.{Segment, End, Book, read_book, book_in, chunks_of_stream, values}
 use Rattle.chk_world.proofs.Each.{Each}
-use Rattle.chk_heads.specs.declared.fault.JobFault.TheVariants.{Outside, Damaged, Spent}
+use Rattle.chk_record_index.specs.declared.fault.JobFault.TheVariants.{Outside, Damaged, Spent}
 use Rattle.chk_book.specs.Folders.{book_name, most_in, is_folder}
 use Rattle.chk_book.specs.Loaded.{IsBookOf, IsNoBookAt, file_bytes}
-use Rattle.chk_merge.specs.Segments.{names_of, HasFiles, IsSound, heads_from, chunks_in_files}
-use Rattle.chk_merge.specs.Courses.{end_of}
-use Rattle.chk_merge.specs.Checking.{AllGoWell}
-use Rattle.chk_merge.specs.Archives.{IsDamagedAt}
-use Rattle.chk_compare.specs.Differences.{first_difference}
+use Rattle.chk_record_reader.specs.Segments.{names_of, HasFiles, IsSound, heads_from, chunks_in_files}
+use Rattle.chk_record_reader.specs.Courses.{end_of}
+use Rattle.chk_record_reader.specs.Checking.{AllGoWell}
+use Rattle.chk_record_reader.specs.Archives.{IsDamagedAt}
+use Rattle.chk_join_sources.specs.Differences.{first_difference}
 use Rattle.chk_join.specs.Archives.{Archived, Archive, join, AgreeAt, Agree}
 use Rattle.chk_join.specs.Runs.{bytes_of, AreRuns}
 use Rattle.chk_join.specs.declared.report.JoinReport.{JoinReport}

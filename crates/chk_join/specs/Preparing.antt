@@ -11,24 +11,24 @@ use Rattle.chk_world.specs.Books.{Segment, End, Book, AllChunks, chunks_within, 
 use Rattle.chk_world.specs.Rules.{Legal}
 use Rattle.chk_world.specs.Sight.{Sight, AtJob}
 use Rattle.chk_world.proofs.Each.{Each}
-use Rattle.chk_heads.specs.Order.{in_head_order}
-use Rattle.chk_heads.specs.declared.fault.JobFault.{JobFault}
-use Rattle.chk_heads.specs.declared.fault.JobFault.TheVariants.{Outside, Damaged, Spent, NoMemory}
+use Rattle.chk_record_index.specs.Order.{in_head_order}
+use Rattle.chk_record_index.specs.declared.fault.JobFault.{JobFault}
+use Rattle.chk_record_index.specs.declared.fault.JobFault.TheVariants.{Outside, Damaged, Spent, NoMemory}
 use Rattle.chk_book.specs.Books.{book_view}
 use Rattle.chk_book.specs.Views.{end_view}
 use Rattle.chk_book.specs.Folders.{book_name, most_in}
 use Rattle.chk_book.specs.Loaded.{IsBookOf, file_bytes}
-use Rattle.chk_merge.specs.Segments.{names_of, AreSettled, heads_from}
-use Rattle.chk_merge.specs.Merging.{AreApart}
-use Rattle.chk_merge.specs.Archives.{IsDamagedAt}
-use Rattle.chk_compare.specs.declared.gathering.Side.{Side}
-use Rattle.chk_choose.specs.declared.plan.Plan.{Plan}
-use Rattle.chk_choose.specs.declared.difference.Difference.{Difference}
-use Rattle.chk_choose.specs.Pairs.{Pair}
-use Rattle.chk_choose.specs.Plans.{IsPlanOf}
-use Rattle.chk_choose.specs.Differing.{PairAgrees, FirstDiffers as FirstPairDiffers}
-use Rattle.chk_compare.specs.Reading.{AreAmong}
-use Rattle.chk_copy.specs.Copying.{joined_segment, chosen_chunks}
+use Rattle.chk_record_reader.specs.Segments.{names_of, AreSettled, heads_from}
+use Rattle.chk_record_reader.specs.Merging.{AreApart}
+use Rattle.chk_record_reader.specs.Archives.{IsDamagedAt}
+use Rattle.chk_join_sources.specs.declared.gathering.Side.{Side}
+use Rattle.chk_join_sources.specs.declared.plan.Plan.{Plan}
+use Rattle.chk_join_sources.specs.declared.difference.Difference.{Difference}
+use Rattle.chk_join_sources.specs.Pairs.{Pair}
+use Rattle.chk_join_sources.specs.Plans.{IsPlanOf}
+use Rattle.chk_join_sources.specs.Differing.{PairAgrees, FirstDiffers as FirstPairDiffers}
+use Rattle.chk_join_sources.specs.Reading.{AreAmong}
+use Rattle.chk_join_sources.specs.Copying.{joined_segment, chosen_chunks}
 use Rattle.chk_join.specs.Archives.{Archive, join, Agree}
 use Rattle.chk_join.specs.Runs.{AreRuns, IsAlone, bytes_of}
 use Rattle.chk_join.specs.Joined.{archive_with, archive_by, archive_in, folder_book, joined_folder}

@@ -7,13 +7,13 @@ use Rattle.chk_chunk.specs.Keys.{Chunk}
 use Rattle.chk_world.specs.Books.{Book, read_book}
 use Rattle.chk_world.specs.Rules.{Legal}
 use Rattle.chk_world.specs.Sight.{Sight, AtJob}
-use Rattle.chk_heads.specs.declared.fault.JobFault.{JobFault}
+use Rattle.chk_record_index.specs.declared.fault.JobFault.{JobFault}
 use Rattle.chk_book.specs.Folders.{book_name}
 use Rattle.chk_site.specs.Acts.{Deed}
 use Rattle.chk_world.specs.JobSteps.{IsOf}
-use Rattle.chk_heads.specs.Pieces.{AsksInPieces}
-use Rattle.chk_heads.specs.declared.fault.JobFault.TheVariants.{Outside}
-use Rattle.chk_choose.specs.declared.difference.Difference.{Difference}
+use Rattle.chk_record_index.specs.Pieces.{AsksInPieces}
+use Rattle.chk_record_index.specs.declared.fault.JobFault.TheVariants.{Outside}
+use Rattle.chk_join_sources.specs.declared.difference.Difference.{Difference}
 use Rattle.chk_join.specs.declared.report.JoinReport.{JoinReport}
 use Rattle.chk_join.specs.declared.fault.JoinFault.{JoinFault}
 use Rattle.chk_join.specs.declared.fault.JoinFault.TheVariants.{Job, Differ, NoMemory}

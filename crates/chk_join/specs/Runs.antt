@@ -5,10 +5,10 @@ use Rattle.chk_chunk.specs.Keys.{Chunk, chunk_limit}
 use Rattle.chk_world.specs.Books.{End, Book}
 use Rattle.chk_world.specs.Jobs.{Run}
 use Rattle.chk_world.proofs.Each.{Each}
-use Rattle.chk_heads.specs.Heads.{Head}
-use Rattle.chk_compare.specs.declared.gathering.Side.{Side}
-use Rattle.chk_choose.specs.declared.plan.Choice.{Choice}
-use Rattle.chk_copy.specs.Standing.{chosen_heads}
+use Rattle.chk_record_index.specs.Heads.{Head}
+use Rattle.chk_join_sources.specs.declared.gathering.Side.{Side}
+use Rattle.chk_join_sources.specs.declared.plan.Choice.{Choice}
+use Rattle.chk_join_sources.specs.Standing.{chosen_heads}
 use Rattle.chk_book.specs.Segmenting.{Writing, IsSegmentOf, all_bytes, IsFinished, segment_of}
 
 -- these chunks are a stream's, and run from its start to its end

@@ -5,7 +5,7 @@ use Rattle.chk_world.specs.Books.{Book}
 use Rattle.chk_world.specs.JobSteps.{ReadsFile, WritesTo}
 use Rattle.chk_book.specs.Folders.{segment_name}
 use Rattle.chk_join.specs.Names.{IsStray}
-pub use Rattle.chk_heads.specs.Faults.{Worked, job_result}
+pub use Rattle.chk_record_index.specs.Faults.{Worked, job_result}
 
 -- it starts
 pub data Starting : Deed → Type 0 where

@@ -10,14 +10,14 @@ ghost use Rattle.chk_world.specs.Places.{As};
 ghost use Rattle.chk_world.specs.Rules.{Legal};
 ghost use Rattle.chk_world.specs.Sight.{job};
 ghost use Rattle.chk_world.specs.JobSteps.{SparesFile};
-ghost use Rattle.chk_heads.specs.Faults.{JobCause, IsOfRead};
+ghost use Rattle.chk_record_index.specs.Faults.{JobCause, IsOfRead};
 ghost use Rattle.chk_book.specs.Folders.{book_name};
 ghost use Rattle.chk_book.specs.Loaded.{LoadedBook, book_result};
 ghost use Rattle.chk_join.specs.Working.{Worked, Starting, job_result};
 ghost use Rattle.chk_join.specs.Beginning.{HasStarted, HasBegun, Begins};
 
 use chk_book::{Book, load_book};
-use chk_heads::JobFault;
+use chk_record_index::JobFault;
 use chk_site::{Call, OutsideFault, Site, Who, done};
 use std::alloc::Global;
 

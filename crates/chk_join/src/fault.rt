@@ -1,7 +1,7 @@
 //! Why a join is refused.
 
 use chk_bytes::Word;
-use chk_heads::JobFault;
+use chk_record_index::JobFault;
 use thiserror::Error;
 
 /// Why a join is refused.

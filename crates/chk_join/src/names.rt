@@ -4,7 +4,7 @@ ghost use Rattle.std.specs.Prelude.{◌≡◌, ℕ, Contains, IfOk, IfSome, IsTr
 ghost use Rattle.chk_world.proofs.Each.{Each};
 ghost use Rattle.chk_book.specs.Books.{book_view};
 ghost use Rattle.chk_book.specs.Folders.{segment_name, segment_stem};
-ghost use Rattle.chk_copy.specs.Copying.{joined_segment};
+ghost use Rattle.chk_join_sources.specs.Copying.{joined_segment};
 ghost use Rattle.chk_join.specs.Names.{names_segment, segment_number, unnamed_only, AddsStray};
 ghost use Rattle.chk_join.specs.Names.{IsStrayNumber, IsStray};
 

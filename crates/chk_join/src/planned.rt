@@ -3,15 +3,14 @@
 ghost use Rattle.std.specs.Prelude.{◌≡◌, ◌≤◌, ◌-◌, true, take, drop, length, map};
 ghost use Rattle.chk_world.proofs.Each.{Each};
 ghost use Rattle.chk_book.specs.Views.{end_view};
-ghost use Rattle.chk_copy.specs.Copying.{FitsIn};
-ghost use Rattle.chk_copy.specs.Standing.{chosen_heads};
+ghost use Rattle.chk_join_sources.specs.Copying.{FitsIn};
+ghost use Rattle.chk_join_sources.specs.Standing.{chosen_heads};
 ghost use Rattle.chk_join.specs.Runs.{HeadsRun, ChosenRun};
 
 use chk_book::End;
-use chk_choose::Choice;
-use chk_compare::{Block, Side};
-use chk_heads::Heads;
-use chk_merge::is_of;
+use chk_join_sources::{Block, Choice, Side};
+use chk_record_index::Heads;
+use chk_record_reader::is_of;
 
 /// The chosen records of each stream run from its start to its end. It costs the number of the records.
 pub(crate) fn runs_on(left: &Side<'_>, right: &Side<'_>, choices: &[Choice], ends: &[End]) -> bool

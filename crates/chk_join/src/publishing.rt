@@ -8,16 +8,16 @@ ghost use Rattle.chk_replace.specs.Load.{Has};
 ghost use Rattle.chk_replace.specs.Replace.{LeavesBoth};
 ghost use Rattle.chk_world.specs.Places.{As};
 ghost use Rattle.chk_world.specs.Sight.{job, AtJob};
-ghost use Rattle.chk_heads.specs.Faults.{JobCause, IsOfWrite};
+ghost use Rattle.chk_record_index.specs.Faults.{JobCause, IsOfWrite};
 ghost use Rattle.chk_book.specs.Books.{book_view};
 ghost use Rattle.chk_book.specs.Folders.{book_name};
-ghost use Rattle.chk_parts.specs.Publishing.{ReplacesBookOf};
+ghost use Rattle.chk_archive_parts.specs.Publishing.{ReplacesBookOf};
 ghost use Rattle.chk_join.specs.Working.{Worked};
 ghost use Rattle.chk_join.specs.Publishing.{HoldsBook, EndsLegally, PublishedSo};
 
+use chk_archive_parts::can_be_spelled;
 use chk_book::Book;
-use chk_heads::JobFault;
-use chk_parts::can_be_spelled;
+use chk_record_index::JobFault;
 use chk_site::{Site, Who};
 use std::alloc::Global;
 

@@ -9,7 +9,7 @@ ghost use Rattle.chk_world.specs.Books.{Book as Parts};
 ghost use Rattle.chk_world.specs.Sight.{job};
 ghost use Rattle.chk_world.proofs.Each.{Each};
 ghost use Rattle.chk_book.specs.Books.{book_view};
-ghost use Rattle.chk_copy.specs.Copying.{joined_segment};
+ghost use Rattle.chk_join_sources.specs.Copying.{joined_segment};
 ghost use Rattle.chk_join.specs.Cleaned.{Shown, Pending, GoneAtOk};
 ghost use Rattle.chk_join.specs.Names.{IsStray, IsStrayNumber};
 ghost use Rattle.chk_join.specs.Working.{Worked, TidiesBy, job_result};

@@ -36,15 +36,15 @@ use Rattle.chk_world.proofs.Working.{script_works, works_own}
 use Rattle.chk_sink.specs.States.{State as Sinks, Writing, last_stem, needs_next, next_stem, process}
 use Rattle.chk_sink.specs.Works.{IsAppendTo, IsMaking, OfPut, OfStart, OfTick, close_calls, commit_calls}
 use Rattle.chk_collector.specs.Handled.{OfRequest}
-use Rattle.chk_reading.specs.Adaptors.{Adaptor}
-use Rattle.chk_delivery.specs.declared.answers.Answered.{Answered}
-use Rattle.chk_delivery.specs.declared.answers.Below.{Below}
-use Rattle.chk_delivery.specs.declared.answers.PollAnswer.{PollAnswer}
-use Rattle.chk_delivery.specs.declared.answers.Polled.{Polled}
-use Rattle.chk_delivery.specs.declared.answers.Posted.{Posted}
-use Rattle.chk_delivery.specs.Scripts as script
-use Rattle.chk_delivery.specs.Scripts.{AsksReply, IsPolled, IsPollReplied, IsPosted, IsPostReplied, Sends}
-use Rattle.chk_delivery.specs.States.{State as Delivery, address_now}
+use Rattle.chk_agent_adaptor.specs.Adaptors.{Adaptor}
+use Rattle.chk_agent_delivery.specs.declared.answers.Answered.{Answered}
+use Rattle.chk_agent_delivery.specs.declared.answers.Below.{Below}
+use Rattle.chk_agent_delivery.specs.declared.answers.PollAnswer.{PollAnswer}
+use Rattle.chk_agent_delivery.specs.declared.answers.Polled.{Polled}
+use Rattle.chk_agent_delivery.specs.declared.answers.Posted.{Posted}
+use Rattle.chk_agent_delivery.specs.Scripts as script
+use Rattle.chk_agent_delivery.specs.Scripts.{AsksReply, IsPolled, IsPollReplied, IsPosted, IsPostReplied, Sends}
+use Rattle.chk_agent_delivery.specs.States.{State as Delivery, address_now}
 use Rattle.chk_agent.specs.Adds as adding
 use Rattle.chk_agent.specs.Adds.{Found, IsAdded, IsNewest, TakesStream}
 use Rattle.chk_agent.specs.declared.answers.Added.{Added}

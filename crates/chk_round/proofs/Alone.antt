@@ -6,16 +6,16 @@ use Rattle.std.proofs.lemmas.Bool.{and_parts, not-true}
 use Rattle.std.proofs.lemmas.Option.{same_Some, none-some}
 use Rattle.chk_seqfile.proofs.FieldLemmas.{same_bytes}
 use Rattle.chk_world.specs.Checkpoints.{Line, are_apart, clash}
-use Rattle.chk_reading.specs.declared.adaptor.Phase.{Phase}
-use Rattle.chk_reading.specs.declared.adaptor.Phase.TheVariants.{Live, Past, Shrank, Stopping}
-use Rattle.chk_reading.specs.Adaptors.{Adaptor, is_past, is_stepped, line_at}
+use Rattle.chk_agent_adaptor.specs.declared.adaptor.Phase.{Phase}
+use Rattle.chk_agent_adaptor.specs.declared.adaptor.Phase.TheVariants.{Live, Past, Shrank, Stopping}
+use Rattle.chk_agent_adaptor.specs.Adaptors.{Adaptor, is_past, is_stepped, line_at}
 use Rattle.chk_agent.specs.Fits.{IsSound}
 use Rattle.chk_agent.specs.States.{State, lines_of}
 use Rattle.chk_agent.proofs.Soundness.{below_at, in_lines}
 use Rattle.chk_round.specs.Following.{HasPathAlone, KeepsLogs}
 use Rattle.chk_round.specs.Reading.{ReadsAlone, ReadsOn}
 use Rattle.chk_round.specs.Rounds.{AllSteady}
-use Rattle.chk_drain.proofs.DrainingAll.{some_at}
+use Rattle.chk_agent_drain.proofs.DrainingAll.{some_at}
 
 -- ---- no two adaptors are of one stream
 

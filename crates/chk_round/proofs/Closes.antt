@@ -22,8 +22,8 @@ use Rattle.chk_collector.specs.Finishing.{Finished}
 use Rattle.chk_agent.specs.Facts.{Matches as AgentMatches}
 use Rattle.chk_agent.specs.Fits.{IsSound}
 use Rattle.chk_agent.specs.States.{State as Agents}
-use Rattle.chk_heads.specs.declared.fault.JobFault.{JobFault}
-use Rattle.chk_heads.specs.declared.fault.JobFault.TheVariants.{Outside as job_failed, Damaged as job_damaged, Spent as job_spent, NoMemory as job_wanting}
+use Rattle.chk_record_index.specs.declared.fault.JobFault.{JobFault}
+use Rattle.chk_record_index.specs.declared.fault.JobFault.TheVariants.{Outside as job_failed, Damaged as job_damaged, Spent as job_spent, NoMemory as job_wanting}
 use Rattle.chk_archive.specs.declared.report.Report.{Report}
 use Rattle.chk_archive.specs.Archived.{Archived, Begun}
 use Rattle.chk_archive.specs.Reporting.{report_result}

@@ -9,14 +9,14 @@ use Rattle.chk_site.proofs.Leads.{leads_as}
 use Rattle.chk_world.specs.Places.{As}
 use Rattle.chk_acks.specs.declared.row.Row.{Row}
 use Rattle.chk_acks.specs.Rows.{expired_adaptors}
-use Rattle.chk_delivery.specs.Turns.{numbers_of}
+use Rattle.chk_agent_delivery.specs.Turns.{numbers_of}
 use Rattle.chk_acks.specs.Sound.{IsSound as IsSoundTable}
 use Rattle.chk_queue.specs.Queues.{Waiting}
 use Rattle.chk_sink.specs.States.{State as Sinks}
-use Rattle.chk_reading.specs.declared.adaptor.Phase.{Phase}
-use Rattle.chk_reading.specs.declared.adaptor.Phase.TheVariants.{Live, Stopping, Shrank, Past}
-use Rattle.chk_reading.specs.Adaptors.{Adaptor, is_past, phase_at, settled_one}
-use Rattle.chk_delivery.specs.States.{State as Delivery, free_rows}
+use Rattle.chk_agent_adaptor.specs.declared.adaptor.Phase.{Phase}
+use Rattle.chk_agent_adaptor.specs.declared.adaptor.Phase.TheVariants.{Live, Stopping, Shrank, Past}
+use Rattle.chk_agent_adaptor.specs.Adaptors.{Adaptor, is_past, phase_at, settled_one}
+use Rattle.chk_agent_delivery.specs.States.{State as Delivery, free_rows}
 use Rattle.chk_agent.specs.declared.answers.AgentFault.{AgentFault}
 use Rattle.chk_agent.specs.declared.answers.AgentFault.TheVariants.{Damaged as agent_damaged, Outside as agent_failed, NoMemory as agent_wanting}
 use Rattle.chk_agent.specs.declared.answers.Settled.{Settled}
@@ -27,7 +27,7 @@ use Rattle.chk_agent.specs.Settles.{IsSettled}
 use Rattle.chk_agent.specs.Settles as settle
 use Rattle.chk_agent.specs.States.{State as Agents, process as agent_of}
 use Rattle.chk_agent.proofs.SettlingSound.{settled_at}
-use Rattle.chk_drain.proofs.Settled.{all_committed, settled_delivered, settled_ready, none_gone}
+use Rattle.chk_agent_drain.proofs.Settled.{all_committed, settled_delivered, settled_ready, none_gone}
 use Rattle.chk_agent.proofs.Alike.{settled_source}
 use Rattle.chk_round.specs.Delivering.{Delivered, ReadAsFar}
 use Rattle.chk_round.specs.Faults.{of_agent}

@@ -11,9 +11,9 @@ use Rattle.chk_agent.specs.declared.answers.AgentFault.TheVariants.{Damaged as a
 use Rattle.chk_agent.specs.Faults.{AgentCause, FailsLast as AgentFailsLast}
 use Rattle.chk_round.specs.declared.faults.RoundFault.{RoundFault}
 use Rattle.chk_round.specs.declared.faults.RoundFault.TheVariants.{Outside, NoMemory, Damaged, Length, Growing, Shrank, Spent, Refused, Checkpoint}
-use Rattle.chk_heads.specs.declared.fault.JobFault.{JobFault}
-use Rattle.chk_heads.specs.declared.fault.JobFault.TheVariants.{Outside as job_failed, Damaged as job_damaged, Spent as job_spent, NoMemory as job_wanting}
-use Rattle.chk_heads.specs.Faults.{FailsLast as JobFailsLast}
+use Rattle.chk_record_index.specs.declared.fault.JobFault.{JobFault}
+use Rattle.chk_record_index.specs.declared.fault.JobFault.TheVariants.{Outside as job_failed, Damaged as job_damaged, Spent as job_spent, NoMemory as job_wanting}
+use Rattle.chk_record_index.specs.Faults.{FailsLast as JobFailsLast}
 use Rattle.chk_round.specs.Faults.{of_agent, of_job, of_sinks, RoundCause, FailsLast}
 
 -- ---- the last call

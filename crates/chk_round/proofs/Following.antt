@@ -8,9 +8,9 @@ use Rattle.chk_site.specs.History.{History}
 use Rattle.chk_world.specs.Checkpoints.{Line}
 use Rattle.chk_tail.specs.declared.step.Step.{Step}
 use Rattle.chk_tail.specs.declared.step.Step.TheVariants.{Bytes, AtEnd as gave_none, Shrank as is_short}
-use Rattle.chk_reading.specs.declared.adaptor.Phase.TheVariants.{Live}
-use Rattle.chk_reading.specs.Adaptors.{Adaptor, adaptor_of, is_past, line_at, revived}
-use Rattle.chk_reading.specs.Steps.{phase_after, stepped}
+use Rattle.chk_agent_adaptor.specs.declared.adaptor.Phase.TheVariants.{Live}
+use Rattle.chk_agent_adaptor.specs.Adaptors.{Adaptor, adaptor_of, is_past, line_at, revived}
+use Rattle.chk_agent_adaptor.specs.Steps.{phase_after, stepped}
 use Rattle.chk_agent.specs.declared.answers.Added.{Added}
 use Rattle.chk_agent.specs.declared.answers.Stepped.{Stepped}
 use Rattle.chk_agent.specs.declared.answers.Stepped.TheVariants.{Shrank}
@@ -24,8 +24,8 @@ use Rattle.chk_agent.proofs.AddingNew.{get_more}
 use Rattle.chk_agent.proofs.AddingPast.{set_size}
 use Rattle.chk_agent.proofs.Soundness.{in_lines, line_in}
 use Rattle.chk_agent.proofs.SteppingSound.{set_at}
-use Rattle.chk_drain.specs.Parts.{AdaptorsBut}
-use Rattle.chk_drain.proofs.Steps.{step_leaves, put_there}
+use Rattle.chk_agent_drain.specs.Parts.{AdaptorsBut}
+use Rattle.chk_agent_drain.proofs.Steps.{step_leaves, put_there}
 use Rattle.chk_round.specs.Adding.{AddsLogs}
 use Rattle.chk_round.specs.Adding as adding
 use Rattle.chk_round.specs.Following.{Follows, HasLiveLine, HasNoRoom, IsFollowed, IsFullWithout, KeepsLogs}

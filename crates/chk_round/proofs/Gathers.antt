@@ -15,8 +15,8 @@ use Rattle.chk_world.specs.Places.{As}
 use Rattle.chk_world.specs.Rules.{Legal}
 use Rattle.chk_world.specs.Together.{Together}
 use Rattle.chk_sink.specs.States.{State as Sinks}
-use Rattle.chk_reading.specs.declared.adaptor.Phase.TheVariants.{Live, Past}
-use Rattle.chk_reading.specs.Adaptors.{Adaptor, adaptor_of, is_past, revived}
+use Rattle.chk_agent_adaptor.specs.declared.adaptor.Phase.TheVariants.{Live, Past}
+use Rattle.chk_agent_adaptor.specs.Adaptors.{Adaptor, adaptor_of, is_past, revived}
 use Rattle.chk_agent.specs.declared.agent.Rules.{Rules}
 use Rattle.chk_agent.specs.declared.answers.Added.{Added}
 use Rattle.chk_agent.specs.Adds.{Found, IsAdded, with_added}

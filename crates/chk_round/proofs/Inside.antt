@@ -6,20 +6,20 @@ use Rattle.chk_site.specs.declared.acts.Who.{Who}
 use Rattle.chk_site.specs.History.{History}
 use Rattle.chk_site.specs.Site.{Adds}
 use Rattle.chk_sink.specs.States.{State as Sinks}
-use Rattle.chk_delivery.specs.declared.answers.Answered.{Answered}
-use Rattle.chk_delivery.specs.declared.answers.PollAnswer.{PollAnswer}
-use Rattle.chk_delivery.specs.declared.answers.Polled.{Polled}
-use Rattle.chk_delivery.specs.declared.answers.Posted.{Posted}
-use Rattle.chk_delivery.specs.States.{State as Delivery}
-use Rattle.chk_delivery.specs.Scripts as script
-use Rattle.chk_delivery.specs.Scripts.{IsPolled, IsPollReplied, IsPosted, IsPostReplied}
-use Rattle.chk_delivery.specs.Turns.{asked_stems}
+use Rattle.chk_agent_delivery.specs.declared.answers.Answered.{Answered}
+use Rattle.chk_agent_delivery.specs.declared.answers.PollAnswer.{PollAnswer}
+use Rattle.chk_agent_delivery.specs.declared.answers.Polled.{Polled}
+use Rattle.chk_agent_delivery.specs.declared.answers.Posted.{Posted}
+use Rattle.chk_agent_delivery.specs.States.{State as Delivery}
+use Rattle.chk_agent_delivery.specs.Scripts as script
+use Rattle.chk_agent_delivery.specs.Scripts.{IsPolled, IsPollReplied, IsPosted, IsPostReplied}
+use Rattle.chk_agent_delivery.specs.Turns.{asked_stems}
 use Rattle.chk_agent.specs.declared.answers.AgentFault.{AgentFault}
 use Rattle.chk_agent.specs.States.{State}
 use Rattle.chk_agent.specs.Turns.{GetsLengths, GetsPostReply, Polls, Posts}
-use Rattle.chk_drain.specs.Parts as once
-use Rattle.chk_drain.specs.Parts.{PollsOnce, PostsOnce}
-use Rattle.chk_drain.proofs.Kept.{poll_good, post_good}
+use Rattle.chk_agent_drain.specs.Parts as once
+use Rattle.chk_agent_drain.specs.Parts.{PollsOnce, PostsOnce}
+use Rattle.chk_agent_drain.proofs.Kept.{poll_good, post_good}
 use Rattle.chk_exchange.specs.Exchanges as inside
 use Rattle.chk_exchange.specs.Exchanges.{EndsPoll, EndsPost, PollsInside, PostsInside}
 use Rattle.chk_round.specs.Polling.{PolledAll, PostedSome}

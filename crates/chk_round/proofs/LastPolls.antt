@@ -22,8 +22,8 @@ use Rattle.chk_sink.specs.Least.{EachFront}
 use Rattle.chk_sink.specs.States.{IsSameStart, State as Sinks, process}
 use Rattle.chk_collector.specs.Passing.{HasPassed}
 use Rattle.chk_collector_run.proofs.SettledSinks.{all_committed}
-use Rattle.chk_message.specs.Messages.{ack_of}
-use Rattle.chk_delivery.specs.declared.answers.Below.{Below}
+use Rattle.chk_http_grammar.specs.Messages.{ack_of}
+use Rattle.chk_agent_delivery.specs.declared.answers.Below.{Below}
 use Rattle.chk_agent.specs.States.{State as Agents}
 use Rattle.chk_exchange.specs.declared.fault.ExchangeFault.{ExchangeFault}
 use Rattle.chk_exchange.specs.declared.fault.ExchangeFault.TheVariants.{Outside as call_failed, NoMemory as wanting, Damaged as was_damaged, Spent as was_spent, Refused as was_refused}

@@ -5,7 +5,7 @@ use Rattle.chk_site.specs.History.{History}
 use Rattle.chk_site.specs.Site.{Adds}
 use Rattle.chk_sink.specs.Closes.{IsMarked}
 use Rattle.chk_sink.specs.States.{State as Sinks, Writing, is_closed_at, seen_first, ticked, ticked_state}
-use Rattle.chk_delivery.specs.declared.answers.Below.{Below}
+use Rattle.chk_agent_delivery.specs.declared.answers.Below.{Below}
 use Rattle.chk_agent.specs.States.{State as Agents}
 use Rattle.chk_exchange.specs.Exchanges.{PollsInside}
 use Rattle.chk_round.specs.declared.faults.RoundFault.{RoundFault}

@@ -11,7 +11,7 @@ use Rattle.chk_chunk.specs.Keys.{Stream}
 use Rattle.chk_world.specs.Laws.{agent_of}
 use Rattle.chk_world.specs.Together.{IsByOne, Outside as OutsideOf, Together}
 use Rattle.chk_sink.specs.States.{IsSameStart, State as Sinks}
-use Rattle.chk_reading.specs.Adaptors.{Adaptor, is_stepped, stream_at}
+use Rattle.chk_agent_adaptor.specs.Adaptors.{Adaptor, is_stepped, stream_at}
 use Rattle.chk_agent.specs.States.{State as Agents, is_read_on, process}
 use Rattle.chk_agent.proofs.FillingOn.{read_one}
 use Rattle.chk_agent.proofs.Soundness.{below_at, in_at}

@@ -16,16 +16,16 @@ use Rattle.chk_site.specs.Site.{Adds, Asked, asked, answered, sized, own_step, C
 use Rattle.chk_site.proofs.Leads.{call_owned}
 use Rattle.chk_site.proofs.Runs.{adds_as, adds_none, adds_then, every_early, every_join, every_late}
 use Rattle.chk_chunk.specs.Keys.{Stream, Chunk, chunk_end, is_of}
-use Rattle.chk_message.specs.Messages.{WrittenPoll, WrittenPost}
-use Rattle.chk_message.proofs.Fronts.{front_of_post_chunks, front_of_post_is_no_poll}
-use Rattle.chk_message.proofs.Written.{written_is_poll, written_is_post}
+use Rattle.chk_http_grammar.specs.Messages.{WrittenPoll, WrittenPost}
+use Rattle.chk_http_grammar.proofs.Fronts.{front_of_post_chunks, front_of_post_is_no_poll}
+use Rattle.chk_http_grammar.proofs.Written.{written_is_poll, written_is_post}
 use Rattle.chk_world.specs.Laws.{agent_of}
 use Rattle.chk_world.specs.Places.{As, IsBy, is_message}
 use Rattle.chk_world.specs.Rounds.{SendsNonePast}
 use Rattle.chk_world.specs.Together.{Outside}
 use Rattle.chk_world.specs.Works.{Works, rests, unbegun, works, ends}
 use Rattle.chk_world.proofs.ToldCalls.{talks, talks_by, who_self}
-use Rattle.chk_delivery.specs.Scripts.{Sends as SendsTo}
+use Rattle.chk_agent_delivery.specs.Scripts.{Sends as SendsTo}
 use Rattle.chk_round.specs.Sending.{NonePast, SendsBelow}
 
 -- ---- one step

@@ -26,7 +26,7 @@ use Rattle.chk_tail.specs.declared.step.Step.TheVariants.{Bytes, AtEnd as gave_n
 use Rattle.chk_tail.specs.Walks as walk
 use Rattle.chk_tail.specs.Walks.{Decides, Spot, Walks, Way, in_file, part, reading}
 use Rattle.chk_tail.specs.Taking.{asks_at}
-use Rattle.chk_reading.specs.Adaptors.{Adaptor}
+use Rattle.chk_agent_adaptor.specs.Adaptors.{Adaptor}
 use Rattle.chk_agent.specs.declared.answers.AgentFault.{AgentFault}
 use Rattle.chk_agent.specs.declared.answers.Stepped.{Stepped}
 use Rattle.chk_agent.specs.declared.answers.Stepped.TheVariants.{AtEnd}
@@ -43,7 +43,7 @@ use Rattle.chk_round.specs.Scripts as scripts
 use Rattle.chk_round.specs.Scripts.{ReadsOut}
 use Rattle.chk_round.proofs.Acts.{step_acts}
 use Rattle.chk_round.proofs.Lasting.{went_then}
-use Rattle.chk_drain.proofs.DrainingAll.{some_at}
+use Rattle.chk_agent_drain.proofs.DrainingAll.{some_at}
 use Rattle.chk_round.proofs.Stepping.{on_same, on_then, step_on}
 
 -- ---- moments

@@ -14,7 +14,7 @@ use Rattle.chk_agent.specs.declared.answers.AgentFault.{AgentFault}
 use Rattle.chk_agent.specs.declared.answers.Stepped.{Stepped}
 use Rattle.chk_tail.specs.declared.step.Step.{Step as Read}
 use Rattle.chk_tail.specs.declared.step.Step.TheVariants.{Bytes, AtEnd as gave_none, Shrank as is_short}
-use Rattle.chk_reading.specs.Adaptors.{Adaptor}
+use Rattle.chk_agent_adaptor.specs.Adaptors.{Adaptor}
 use Rattle.chk_agent.specs.Fills as fill
 use Rattle.chk_agent.specs.Fills.{IsOneStepped, after_step}
 use Rattle.chk_agent.specs.States.{State as Agents}

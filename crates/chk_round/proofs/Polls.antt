@@ -6,10 +6,10 @@ use Rattle.chk_site.specs.Site.{Adds}
 use Rattle.chk_acks.specs.declared.row.Row.{Row}
 use Rattle.chk_acks.specs.Sound.{IsSound as IsSoundTable}
 use Rattle.chk_sink.specs.States.{IsSameStart, State as Sinks}
-use Rattle.chk_delivery.specs.States.{State as Delivery, free_rows}
-use Rattle.chk_delivery.specs.Turns.{asked_stems}
+use Rattle.chk_agent_delivery.specs.States.{State as Delivery, free_rows}
+use Rattle.chk_agent_delivery.specs.Turns.{asked_stems}
 use Rattle.chk_agent.specs.States.{State as Agents}
-use Rattle.chk_drain.proofs.Unmarked.{some_asked}
+use Rattle.chk_agent_drain.proofs.Unmarked.{some_asked}
 use Rattle.chk_round.specs.declared.faults.RoundFault.{RoundFault}
 use Rattle.chk_round.specs.Joint.{IsSameAgent, JointTo}
 use Rattle.chk_round.specs.Lengths.{PollsOn}

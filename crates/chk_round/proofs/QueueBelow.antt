@@ -12,23 +12,23 @@ use Rattle.chk_chunk.specs.Keys.{Stream}
 use Rattle.chk_chunk.specs.declared.Chunk.{Chunk}
 use Rattle.chk_world.specs.Checkpoints.{Line, is_line_of}
 use Rattle.chk_world.proofs.NameTests.{streams_same}
-use Rattle.chk_reading.specs.Adaptors.{Adaptor, line_at, stream_at}
-use Rattle.chk_delivery.specs.declared.answers.Answered.{Answered}
-use Rattle.chk_delivery.specs.declared.answers.Polled.{Polled}
-use Rattle.chk_delivery.specs.declared.answers.PollAnswer.{PollAnswer}
-use Rattle.chk_delivery.specs.declared.answers.Posted.{Posted}
-use Rattle.chk_delivery.specs.Basis.{AreOwned, Basis, stream_of_chunk}
-use Rattle.chk_delivery.specs.Scripts as script
-use Rattle.chk_delivery.specs.Scripts.{IsPolled, IsPollReplied, IsPosted, IsPostReplied, TakesPollReply, TakesPostReply}
-use Rattle.chk_delivery.specs.Sound.{InTurn, ends_after, next_begins}
-use Rattle.chk_delivery.specs.States.{State as Delivery}
+use Rattle.chk_agent_adaptor.specs.Adaptors.{Adaptor, line_at, stream_at}
+use Rattle.chk_agent_delivery.specs.declared.answers.Answered.{Answered}
+use Rattle.chk_agent_delivery.specs.declared.answers.Polled.{Polled}
+use Rattle.chk_agent_delivery.specs.declared.answers.PollAnswer.{PollAnswer}
+use Rattle.chk_agent_delivery.specs.declared.answers.Posted.{Posted}
+use Rattle.chk_agent_delivery.specs.Basis.{AreOwned, Basis, stream_of_chunk}
+use Rattle.chk_agent_delivery.specs.Scripts as script
+use Rattle.chk_agent_delivery.specs.Scripts.{IsPolled, IsPollReplied, IsPosted, IsPostReplied, TakesPollReply, TakesPostReply}
+use Rattle.chk_agent_delivery.specs.Sound.{InTurn, ends_after, next_begins}
+use Rattle.chk_agent_delivery.specs.States.{State as Delivery}
 use Rattle.chk_agent.specs.declared.answers.AgentFault.{AgentFault}
 use Rattle.chk_agent.specs.Fits.{IsSound}
 use Rattle.chk_agent.specs.States.{State, basis_of, lines_at}
 use Rattle.chk_agent.specs.Turns.{GetsLengths, GetsPostReply, Polls, Posts}
 use Rattle.chk_agent.proofs.Soundness.{line_there, map_at}
 use Rattle.chk_round.specs.Sending.{QueueBelow}
-use Rattle.chk_delivery.proofs.ReplyTold.{in_drop}
+use Rattle.chk_agent_delivery.proofs.ReplyTold.{in_drop}
 
 -- ---- ends rise
 

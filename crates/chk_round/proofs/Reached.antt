@@ -9,7 +9,7 @@ use Rattle.chk_site.specs.Files.{File}
 use Rattle.chk_site.specs.History.{Step, History, files_after, since_start}
 use Rattle.chk_site.specs.Messages.{Message}
 use Rattle.chk_chunk.specs.Keys.{Chunk}
-use Rattle.chk_message.specs.Messages.{Ack, WrittenPost}
+use Rattle.chk_http_grammar.specs.Messages.{Ack, WrittenPost}
 use Rattle.chk_world.specs.Answering.{IsAnswered}
 use Rattle.chk_world.specs.Committed.{OnFile, committed_length, committed_of}
 use Rattle.chk_world.specs.DoneSinks.{IsGone}

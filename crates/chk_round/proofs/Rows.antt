@@ -4,21 +4,21 @@ use Rattle.std.specs.Prelude.{Contains, filter, is_some, option_map}
 use Rattle.std.proofs.lemmas.Option.{same_Some, none-some}
 use Rattle.chk_bytes.specs.declared.NoMemory.{NoMemory as Wanting}
 use Rattle.chk_bytes.specs.Stems.{Stem}
-use Rattle.chk_message.specs.Messages.{Ack}
+use Rattle.chk_http_grammar.specs.Messages.{Ack}
 use Rattle.chk_site.specs.declared.acts.Who.{Who}
 use Rattle.chk_site.specs.History.{History}
 use Rattle.chk_acks.specs.declared.row.Row.{Row}
 use Rattle.chk_acks.specs.Rows.{is_past, is_unmarked, marked_at}
 use Rattle.chk_acks.specs.Table.{Table}
 use Rattle.chk_sink.specs.States.{State as Sinks}
-use Rattle.chk_delivery.specs.declared.answers.Below.{Below}
-use Rattle.chk_delivery.specs.declared.answers.Polled.{Polled}
-use Rattle.chk_delivery.specs.declared.answers.PollAnswer.{PollAnswer}
-use Rattle.chk_delivery.specs.declared.answers.PollAnswer.TheVariants.{Lengths}
-use Rattle.chk_delivery.specs.Scripts as script
-use Rattle.chk_delivery.specs.Scripts.{IsPolled, IsPollReplied}
-use Rattle.chk_delivery.specs.States.{State as Delivery}
-use Rattle.chk_delivery.specs.Turns.{SeesAll, below_in, below_row, first_below, length_of}
+use Rattle.chk_agent_delivery.specs.declared.answers.Below.{Below}
+use Rattle.chk_agent_delivery.specs.declared.answers.Polled.{Polled}
+use Rattle.chk_agent_delivery.specs.declared.answers.PollAnswer.{PollAnswer}
+use Rattle.chk_agent_delivery.specs.declared.answers.PollAnswer.TheVariants.{Lengths}
+use Rattle.chk_agent_delivery.specs.Scripts as script
+use Rattle.chk_agent_delivery.specs.Scripts.{IsPolled, IsPollReplied}
+use Rattle.chk_agent_delivery.specs.States.{State as Delivery}
+use Rattle.chk_agent_delivery.specs.Turns.{SeesAll, below_in, below_row, first_below, length_of}
 use Rattle.chk_agent.specs.States.{State as Agents}
 use Rattle.chk_exchange.specs.Exchanges as inside
 use Rattle.chk_exchange.specs.Exchanges.{PollsInside}

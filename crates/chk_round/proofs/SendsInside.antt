@@ -20,16 +20,16 @@ use Rattle.chk_chunk.specs.declared.Chunk.{Chunk as OwnedChunk}
 use Rattle.chk_world.specs.Laws.{agent_of}
 use Rattle.chk_world.specs.Rounds.{SendsNonePast}
 use Rattle.chk_sink.specs.States.{State as Sinks, process}
-use Rattle.chk_delivery.specs.declared.answers.Answered.{Answered}
-use Rattle.chk_delivery.specs.declared.answers.Below.{Below}
-use Rattle.chk_delivery.specs.declared.answers.PollAnswer.{PollAnswer}
-use Rattle.chk_delivery.specs.declared.answers.Polled.{Polled}
-use Rattle.chk_delivery.specs.declared.answers.Posted.{Posted}
-use Rattle.chk_delivery.specs.Scripts as script
-use Rattle.chk_delivery.specs.Scripts.{AsksReply, IsPolled, IsPollReplied, IsPosted, IsPostReplied}
-use Rattle.chk_delivery.specs.States.{State as Delivery, address_now}
-use Rattle.chk_delivery.specs.Turns.{IsFrontToSend, asked_stems}
-use Rattle.chk_delivery.proofs.Members.{in_map, in_take}
+use Rattle.chk_agent_delivery.specs.declared.answers.Answered.{Answered}
+use Rattle.chk_agent_delivery.specs.declared.answers.Below.{Below}
+use Rattle.chk_agent_delivery.specs.declared.answers.PollAnswer.{PollAnswer}
+use Rattle.chk_agent_delivery.specs.declared.answers.Polled.{Polled}
+use Rattle.chk_agent_delivery.specs.declared.answers.Posted.{Posted}
+use Rattle.chk_agent_delivery.specs.Scripts as script
+use Rattle.chk_agent_delivery.specs.Scripts.{AsksReply, IsPolled, IsPollReplied, IsPosted, IsPostReplied}
+use Rattle.chk_agent_delivery.specs.States.{State as Delivery, address_now}
+use Rattle.chk_agent_delivery.specs.Turns.{IsFrontToSend, asked_stems}
+use Rattle.chk_agent_delivery.proofs.Members.{in_map, in_take}
 use Rattle.chk_agent.specs.declared.answers.AgentFault.{AgentFault}
 use Rattle.chk_agent.specs.States.{State}
 use Rattle.chk_agent.specs.Turns.{GetsLengths, GetsPostReply, Polls, Posts}

@@ -10,12 +10,12 @@ use Rattle.chk_site.specs.Site.{Adds}
 use Rattle.chk_chunk.specs.Keys.{Stream}
 use Rattle.chk_world.specs.Laws.{agent_of}
 use Rattle.chk_sink.specs.States.{State as Sinks}
-use Rattle.chk_reading.specs.Adaptors.{Adaptor, stream_at}
-use Rattle.chk_delivery.specs.declared.answers.Below.{Below}
+use Rattle.chk_agent_adaptor.specs.Adaptors.{Adaptor, stream_at}
+use Rattle.chk_agent_delivery.specs.declared.answers.Below.{Below}
 use Rattle.chk_agent.specs.Fits.{IsSound}
 use Rattle.chk_agent.specs.States.{State as Agents}
 use Rattle.chk_agent.proofs.Soundness.{below_at}
-use Rattle.chk_drain.specs.Parts.{AdaptorsBut}
+use Rattle.chk_agent_drain.specs.Parts.{AdaptorsBut}
 use Rattle.chk_exchange.specs.declared.fault.ExchangeFault.{ExchangeFault}
 use Rattle.chk_exchange.specs.Exchanges.{PollsInside, PostsInside}
 use Rattle.chk_round.specs.declared.faults.RoundFault.{RoundFault}
@@ -23,7 +23,7 @@ use Rattle.chk_round.specs.Sending.{QueueBelow, SendsOn}
 use Rattle.chk_round.proofs.NonePast.{sends_none, sends_then}
 use Rattle.chk_round.proofs.QueueBelow.{queue_below}
 use Rattle.chk_round.proofs.SendsInside.{poll_below, poll_none_past, post_below, post_none_past}
-use Rattle.chk_drain.proofs.DrainingAll.{some_at}
+use Rattle.chk_agent_drain.proofs.DrainingAll.{some_at}
 
 -- what follows at Ok
 pub on_ok : {T : Type 0} {K L : Type 0} (r : Result T RoundFault) → (K → L) → OnOk r K → OnOk r L

@@ -13,9 +13,9 @@ use Rattle.chk_world.specs.Places.{As}
 use Rattle.chk_world.specs.Rules.{Legal}
 use Rattle.chk_world.specs.Together.{IsByOne, Outside}
 use Rattle.chk_world.proofs.Beside.{others_foreign}
-use Rattle.chk_reading.specs.declared.adaptor.Phase.{Phase}
-use Rattle.chk_reading.specs.declared.adaptor.Phase.TheVariants.{Live, Past, Shrank, Stopping}
-use Rattle.chk_reading.specs.Adaptors.{Adaptor, adaptor_of, is_past, is_stepped, line_at, revived}
+use Rattle.chk_agent_adaptor.specs.declared.adaptor.Phase.{Phase}
+use Rattle.chk_agent_adaptor.specs.declared.adaptor.Phase.TheVariants.{Live, Past, Shrank, Stopping}
+use Rattle.chk_agent_adaptor.specs.Adaptors.{Adaptor, adaptor_of, is_past, is_stepped, line_at, revived}
 use Rattle.chk_agent.specs.declared.answers.Added.{Added}
 use Rattle.chk_agent.specs.Adds.{Found, IsAdded, new_line, class_for, with_added}
 use Rattle.chk_agent.specs.Adds as adds

@@ -15,8 +15,8 @@ use Rattle.chk_tail.specs.declared.step.Step.{Step}
 use Rattle.chk_tail.specs.declared.step.Step.TheVariants.{Bytes, AtEnd as gave_none, Shrank as is_short}
 use Rattle.chk_sink.specs.Held.{Matches as SinksMatch}
 use Rattle.chk_sink.specs.States.{IsSameStart, State as Sinks, process}
-use Rattle.chk_reading.specs.Adaptors.{Adaptor, stream_at}
-use Rattle.chk_delivery.specs.Turns.{is_held}
+use Rattle.chk_agent_adaptor.specs.Adaptors.{Adaptor, stream_at}
+use Rattle.chk_agent_delivery.specs.Turns.{is_held}
 use Rattle.chk_agent.specs.declared.answers.AgentFault.{AgentFault}
 use Rattle.chk_agent.specs.declared.answers.AgentFault.TheVariants.{Damaged as agent_damaged, Outside as agent_failed, NoMemory as agent_wanting}
 use Rattle.chk_agent.specs.declared.answers.Stepped.{Stepped}
@@ -28,7 +28,7 @@ use Rattle.chk_agent.specs.Fills as fill
 use Rattle.chk_agent.specs.Fills.{IsOneStepped, after_step, queued}
 use Rattle.chk_agent.specs.States.{State as Agents, process as agent_of}
 use Rattle.chk_agent.proofs.Soundness.{below_at}
-use Rattle.chk_drain.proofs.Steps.{IsReadOn, but_same, but_then, step_grows, step_leaves, step_read}
+use Rattle.chk_agent_drain.proofs.Steps.{IsReadOn, but_same, but_then, step_grows, step_leaves, step_read}
 use Rattle.chk_round.specs.declared.faults.RoundFault.{RoundFault}
 use Rattle.chk_round.specs.declared.faults.RoundFault.TheVariants.{Outside, NoMemory, Damaged, Length, Growing, Shrank, Spent, Refused, Checkpoint}
 use Rattle.chk_round.specs.Faults.{of_agent, RoundCause}
@@ -50,7 +50,7 @@ use Rattle.chk_round.proofs.NonePast.{quiet_none_past, sends_none, sends_then}
 use Rattle.chk_round.proofs.OwnRows.{own_none, own_step, own_then}
 use Rattle.chk_round.proofs.Polls.{starts_none, starts_then}
 use Rattle.chk_round.proofs.Sent.{other_low}
-use Rattle.chk_drain.proofs.DrainingAll.{some_at}
+use Rattle.chk_agent_drain.proofs.DrainingAll.{some_at}
 use Rattle.chk_round.proofs.Sides.{agent_acts}
 
 -- ---- ends that say nothing of the history

@@ -25,7 +25,7 @@ use Rattle.chk_world.specs.Together.{IsByOne, Outside as OutsideOf, Together}
 use Rattle.chk_sink.specs.Held.{Matches as SinksMatch}
 use Rattle.chk_sink.specs.States.{IsSameStart, State as Sinks, Writing, last_stem}
 use Rattle.chk_collector.specs.Finishing.{finished}
-use Rattle.chk_reading.specs.Adaptors.{Adaptor, is_past, is_stepped, stream_at}
+use Rattle.chk_agent_adaptor.specs.Adaptors.{Adaptor, is_past, is_stepped, stream_at}
 use Rattle.chk_agent.specs.Fits.{IsSound}
 use Rattle.chk_agent.specs.States.{State as Agents, lines_of}
 use Rattle.chk_agent.proofs.Soundness.{below_at, line_in}
@@ -59,7 +59,7 @@ use Rattle.chk_round.proofs.Alone.{alone_before}
 use Rattle.chk_round.proofs.OwnReads.{at_read_early, rest_reads_none}
 use Rattle.chk_round.proofs.QueueBelow.{queue_below}
 use Rattle.chk_round.proofs.Sent.{Known, Waits, adds_each}
-use Rattle.chk_drain.proofs.DrainingAll.{some_at}
+use Rattle.chk_agent_drain.proofs.DrainingAll.{some_at}
 use Rattle.chk_round.proofs.Theirs.{found_in}
 use Rattle.chk_round.proofs.WholeRounds.{adaptor_archive, adaptor_whole, done_ran, job_ran_whole, none_read_join, read_alone, read_on}
 use Rattle.chk_agent.proofs.Alike.{not_past}

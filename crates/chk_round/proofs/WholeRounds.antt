@@ -24,14 +24,14 @@ use Rattle.chk_world.specs.Rules.{Legal}
 use Rattle.chk_world.specs.Streams.{whole_end, whole_log}
 use Rattle.chk_world.proofs.AcknowledgedSaved.{law_covered}
 use Rattle.chk_world.proofs.Rounds.{rounds_whole}
-use Rattle.chk_reading.specs.Adaptors.{Adaptor, is_past, stream_at}
+use Rattle.chk_agent_adaptor.specs.Adaptors.{Adaptor, is_past, stream_at}
 use Rattle.chk_agent.specs.Facts.{Matches}
 use Rattle.chk_agent.specs.Fits.{IsSound}
 use Rattle.chk_agent.specs.States.{State, committed_at, lines_of}
 use Rattle.chk_agent.proofs.Soundness.{line_there}
 use Rattle.chk_archive.specs.Archived.{GivenOnce, RunDone, gives_sinks, is_job_listing}
 use Rattle.chk_archive.specs.Reports.{Report}
-use Rattle.chk_drain.specs.Drains.{AllDelivered}
+use Rattle.chk_agent_drain.specs.Drains.{AllDelivered}
 use Rattle.chk_round.specs.Done.{ArchivedTo, EndedAt, HasBegun, JobRan, NoneRead, RanWhole, ReadTo}
 use Rattle.chk_round.specs.Sending.{NonePast}
 use Rattle.chk_round.proofs.NonePast.{none_past_in, none_past_join}

@@ -1,8 +1,8 @@
 -- What a delivery of all leaves.
 use Rattle.std.specs.Prelude.{◌≡◌, ℕ, true, false, Some, slice_get}
-use Rattle.chk_reading.specs.Adaptors.{Adaptor, is_past}
+use Rattle.chk_agent_adaptor.specs.Adaptors.{Adaptor, is_past}
 use Rattle.chk_agent.specs.States.{State}
-use Rattle.chk_drain.specs.Drains.{AllDelivered}
+use Rattle.chk_agent_drain.specs.Drains.{AllDelivered}
 
 -- the adaptor is read as far as it was, and lived where it lives
 pub record ReadAsFar (a b : Adaptor) : Type 0 where

@@ -9,9 +9,9 @@ use Rattle.chk_agent.specs.declared.answers.AgentFault.{AgentFault}
 use Rattle.chk_agent.specs.declared.answers.AgentFault.TheVariants.{Outside as agent_failed, Damaged as agent_damaged, NoMemory as agent_wanting}
 use Rattle.chk_exchange.specs.declared.fault.ExchangeFault.{ExchangeFault}
 use Rattle.chk_exchange.specs.declared.fault.ExchangeFault.TheVariants.{Outside as inside_failed, NoMemory as inside_wanting, Damaged as inside_damaged, Spent as inside_spent, Refused as inside_refused}
-use Rattle.chk_heads.specs.declared.fault.JobFault.{JobFault}
+use Rattle.chk_record_index.specs.declared.fault.JobFault.{JobFault}
 use Rattle.chk_exchange.specs.Faults.{FailedInside}
-use Rattle.chk_heads.specs.declared.fault.JobFault.TheVariants.{Outside as job_failed, Damaged as job_damaged, Spent as job_spent, NoMemory as job_wanting}
+use Rattle.chk_record_index.specs.declared.fault.JobFault.TheVariants.{Outside as job_failed, Damaged as job_damaged, Spent as job_spent, NoMemory as job_wanting}
 use Rattle.chk_round.specs.declared.faults.RoundFault.{RoundFault}
 use Rattle.chk_round.specs.declared.faults.RoundFault.TheVariants.{Outside, NoMemory, Damaged, Spent, Checkpoint, Refused}
 

@@ -1,7 +1,7 @@
 -- Which logs a round reads.
 use Rattle.std.specs.Prelude.{◌≡◌, ◌⊎◌, ℕ, true, List, length, Contains, Some, slice_get}
-use Rattle.chk_reading.specs.declared.adaptor.Phase.TheVariants.{Live}
-use Rattle.chk_reading.specs.Adaptors.{Adaptor}
+use Rattle.chk_agent_adaptor.specs.declared.adaptor.Phase.TheVariants.{Live}
+use Rattle.chk_agent_adaptor.specs.Adaptors.{Adaptor}
 use Rattle.chk_world.specs.Checkpoints.{Line, most_lines}
 use Rattle.chk_agent.specs.States.{State}
 pub use Rattle.chk_world.specs.Checkpoints.{HasLiveLine}

@@ -11,7 +11,7 @@ use Rattle.chk_sink.specs.Held.{Matches as SinksMatch}
 use Rattle.chk_sink.specs.States.{State as Sinks, process}
 use Rattle.chk_agent.specs.Facts.{Matches as AgentMatches}
 use Rattle.chk_agent.specs.States.{State as Agents, process as agent_of}
-use Rattle.chk_drain.specs.Parts.{SameRest}
+use Rattle.chk_agent_drain.specs.Parts.{SameRest}
 use Rattle.chk_round.specs.declared.faults.RoundFault.{RoundFault}
 use Rattle.chk_round.specs.declared.faults.RoundFault.TheVariants.{Damaged, Length, Shrank, Spent, Checkpoint, Refused}
 use Rattle.chk_round.specs.Keeping.{SinksKept}

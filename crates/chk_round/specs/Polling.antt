@@ -1,8 +1,8 @@
 -- What posts and polls leave.
 use Rattle.std.specs.Prelude.{◌≡◌, ℕ, ◌<◌, ◌≤◌, [], length}
 use Rattle.chk_agent.specs.States.{State}
-use Rattle.chk_delivery.specs.States.{free_rows}
-use Rattle.chk_drain.specs.Parts.{unmarked_in}
+use Rattle.chk_agent_delivery.specs.States.{free_rows}
+use Rattle.chk_agent_drain.specs.Parts.{unmarked_in}
 use Rattle.chk_round.specs.Joint.{IsSameAgent}
 
 -- a poll that gave all: fewer rows aren't marked

@@ -5,10 +5,10 @@ use Rattle.chk_site.specs.History.{History, Others, is_stopped}
 use Rattle.chk_site.specs.Runs.{Leads}
 use Rattle.chk_world.specs.Together.{Outside as OutsideOf, Together}
 use Rattle.chk_sink.specs.States.{State as Sinks}
-use Rattle.chk_reading.specs.Adaptors.{Adaptor, is_stepped, stream_at}
+use Rattle.chk_agent_adaptor.specs.Adaptors.{Adaptor, is_stepped, stream_at}
 use Rattle.chk_agent.specs.Facts.{IsAtWholeEnd}
 use Rattle.chk_agent.specs.States.{State as Agents}
-use Rattle.chk_drain.specs.Parts.{AdaptorsBut}
+use Rattle.chk_agent_drain.specs.Parts.{AdaptorsBut}
 use Rattle.chk_round.specs.declared.faults.RoundFault.{RoundFault}
 use Rattle.chk_round.specs.declared.faults.RoundFault.TheVariants.{Growing, Shrank, NoMemory}
 use Rattle.chk_round.specs.Done.{ReadTo}

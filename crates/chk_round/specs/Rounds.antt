@@ -15,8 +15,8 @@ use Rattle.chk_world.specs.Rules.{Legal}
 use Rattle.chk_world.specs.Sight.{job}
 use Rattle.chk_world.specs.Together.{Outside as OutsideOf, Together}
 use Rattle.chk_sink.specs.States.{State as Sinks}
-use Rattle.chk_reading.specs.declared.adaptor.Phase.TheVariants.{Live}
-use Rattle.chk_reading.specs.Adaptors.{Adaptor, is_past}
+use Rattle.chk_agent_adaptor.specs.declared.adaptor.Phase.TheVariants.{Live}
+use Rattle.chk_agent_adaptor.specs.Adaptors.{Adaptor, is_past}
 use Rattle.chk_agent.specs.Facts.{Matches as AgentMatches}
 use Rattle.chk_agent.specs.States.{State as Agents, lines_of}
 use Rattle.chk_archive.specs.declared.report.Report.{Report}

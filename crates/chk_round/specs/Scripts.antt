@@ -3,7 +3,7 @@ use Rattle.std.specs.Prelude.{List, ◌≡◌, ◌⊎◌, ℕ, ◌+◌, ◌<◌,
 use Rattle.chk_control.specs.declared.Class.{Class}
 use Rattle.chk_site.specs.History.{History}
 use Rattle.chk_site.specs.Site.{Adds}
-use Rattle.chk_reading.specs.Adaptors.{Adaptor, is_past, is_stepped}
+use Rattle.chk_agent_adaptor.specs.Adaptors.{Adaptor, is_past, is_stepped}
 use Rattle.chk_agent.specs.declared.answers.AgentFault.{AgentFault}
 use Rattle.chk_agent.specs.declared.answers.Stepped.TheVariants.{AtEnd, Held, Read, Shrank as step_shrank}
 use Rattle.chk_agent.specs.Fills.{IsOneStepped}

@@ -9,7 +9,7 @@ use Rattle.chk_chunk.specs.declared.Chunk.{Chunk}
 use Rattle.chk_world.specs.Laws.{agent_of}
 use Rattle.chk_world.specs.Rounds.{SendsNonePast}
 use Rattle.chk_world.specs.Together.{Outside}
-use Rattle.chk_reading.specs.Adaptors.{Adaptor, stream_at}
+use Rattle.chk_agent_adaptor.specs.Adaptors.{Adaptor, stream_at}
 use Rattle.chk_agent.specs.States.{State, process}
 
 -- no added step sends of the stream past this offset

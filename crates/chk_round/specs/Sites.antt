@@ -22,7 +22,7 @@ use Rattle.chk_archive.specs.Archived.{Archived, ArchivesBy, Begun}
 use Rattle.chk_archive.specs.Shown.{ShowsArchived}
 use Rattle.chk_exchange.specs.declared.fault.ExchangeFault.{ExchangeFault}
 use Rattle.chk_exchange.specs.Exchanges.{PollsInside, PostsInside}
-use Rattle.chk_heads.specs.declared.fault.JobFault.{JobFault}
+use Rattle.chk_record_index.specs.declared.fault.JobFault.{JobFault}
 use Rattle.chk_round.specs.declared.faults.RoundFault.{RoundFault}
 use Rattle.chk_round.specs.Faults.{of_agent, of_exchange, of_job, of_sinks}
 use Rattle.chk_round.specs.Processes.{c1}

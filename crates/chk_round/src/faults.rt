@@ -3,7 +3,7 @@
 use chk_agent::AgentFault;
 use chk_bytes::{NoMemory, Stem, Word};
 use chk_exchange::ExchangeFault;
-use chk_heads::JobFault;
+use chk_record_index::JobFault;
 use chk_sink::SinkFault;
 use chk_site::Call;
 

@@ -5,7 +5,7 @@ ghost use Rattle.chk_bytes.specs.Stems.{is_collector};
 ghost use Rattle.chk_site.specs.Messages.{self_address};
 ghost use Rattle.chk_site.specs.Site.{Adds};
 ghost use Rattle.chk_sink.specs.States.{IsSameStart, process};
-ghost use Rattle.chk_delivery.specs.Turns.{asked_stems};
+ghost use Rattle.chk_agent_delivery.specs.Turns.{asked_stems};
 ghost use Rattle.chk_round.specs.Faults.{FailsInside, RoundCause};
 ghost use Rattle.chk_round.specs.Joint.{JointTo};
 ghost use Rattle.chk_round.specs.LastPolls.{LengthTold};
@@ -19,8 +19,8 @@ ghost use Rattle.chk_round.specs.Calls.{RestCalls};
 
 use crate::faults::RoundFault;
 use chk_agent::Agent;
+use chk_agent_delivery::Below;
 use chk_collector::Collector;
-use chk_delivery::Below;
 use chk_exchange::poll_inside;
 use chk_site::{Site, Who};
 use std::alloc::Global;

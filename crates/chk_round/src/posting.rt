@@ -5,7 +5,7 @@ ghost use Rattle.chk_bytes.specs.Stems.{is_collector};
 ghost use Rattle.chk_site.specs.Messages.{self_address};
 ghost use Rattle.chk_site.specs.Site.{Adds};
 ghost use Rattle.chk_sink.specs.States.{IsSameStart, process};
-ghost use Rattle.chk_delivery.specs.States.{free_rows};
+ghost use Rattle.chk_agent_delivery.specs.States.{free_rows};
 ghost use Rattle.chk_round.specs.Faults.{FailsInside, RoundCause};
 ghost use Rattle.chk_round.specs.Joint.{JointTo};
 ghost use Rattle.chk_round.specs.Lengths.{WorkShown};

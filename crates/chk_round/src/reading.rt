@@ -8,7 +8,7 @@ ghost use Rattle.chk_site.specs.Site.{Adds};
 ghost use Rattle.chk_site.specs.Runs.{Leads};
 ghost use Rattle.chk_world.specs.Together.{Together};
 ghost use Rattle.chk_sink.specs.States.{IsSameStart, process};
-ghost use Rattle.chk_reading.specs.Adaptors.{Adaptor as Reading, is_stepped};
+ghost use Rattle.chk_agent_adaptor.specs.Adaptors.{Adaptor as Reading, is_stepped};
 ghost use Rattle.chk_round.specs.Faults.{FailsInside, RoundCause};
 ghost use Rattle.chk_round.specs.Following.{KeepsLogs};
 ghost use Rattle.chk_round.specs.Joint.{AreIn, BothAt};

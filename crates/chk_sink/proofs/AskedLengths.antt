@@ -14,7 +14,7 @@ use Rattle.chk_site.specs.History.{History, files_after}
 use Rattle.chk_site.specs.Honest.{AtSize, AtRead}
 use Rattle.chk_site.specs.Site.{Adds, Asked, asked, own_step, answered, sized, bytes_given, Calls, Ends, IsTaken, Took, WasRefused}
 use Rattle.chk_site.specs.Runs.{Leads}
-use Rattle.chk_message.specs.Messages.{Ack, ack_of}
+use Rattle.chk_http_grammar.specs.Messages.{Ack, ack_of}
 use Rattle.chk_world.specs.Names.{MarkFile, DoneFile, spell, file}
 use Rattle.chk_world.specs.Committed.{OnFile, committed_length, committed_of}
 use Rattle.chk_world.specs.Collectors.{Handling, IsCommittedLength}

@@ -14,7 +14,7 @@ use Rattle.chk_site.proofs.Leads.{leads_as}
 use Rattle.chk_seqfile.specs.Headers.{header}
 use Rattle.chk_seqfile.specs.Entries.{piece_at, is_sync_due, sync_after, sync_entry, record_entry}
 use Rattle.chk_chunk.specs.Keys.{Chunk, IsKey}
-use Rattle.chk_message.specs.Messages.{ack_of}
+use Rattle.chk_http_grammar.specs.Messages.{ack_of}
 use Rattle.chk_world.specs.Names.{SinkFile, spell}
 use Rattle.chk_world.specs.Collectors.{Handling, Appended, IsPosted, IsNextPiece, Tells, marker, with_appends}
 use Rattle.chk_world.specs.Places.{As}

@@ -9,7 +9,7 @@ use Rattle.chk_site.specs.Files.{Files}
 use Rattle.chk_site.specs.Acts.{Deed, AsksSize, Reads, deed, touches, tail_in}
 use Rattle.chk_site.specs.History.{Step, History, Modelled, files_after, is_by}
 use Rattle.chk_site.proofs.Stays.{unnamed_stays}
-use Rattle.chk_message.specs.Messages.{Ack}
+use Rattle.chk_http_grammar.specs.Messages.{Ack}
 use Rattle.chk_world.specs.Names.{MarkFile, DoneFile, spell, file}
 use Rattle.chk_world.specs.Committed.{committed_length, committed_of}
 use Rattle.chk_world.specs.Collectors.{View, Handling, view, own_view, gave, is_taking, leaves_sink}

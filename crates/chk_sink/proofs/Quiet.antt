@@ -11,7 +11,7 @@ use Rattle.chk_site.specs.declared.lists.Left.{Left}
 use Rattle.chk_site.specs.Acts.{Deed, Creates, Appends, Syncs, Renames, Removes, Cuts, AsksSize, Reads, deed, touches, tail_of, tail_in}
 use Rattle.chk_site.specs.History.{Step, History, Modelled, files_after, is_by}
 use Rattle.chk_site.proofs.Stays.{unnamed_stays}
-use Rattle.chk_message.specs.Messages.{Ack, ack_of}
+use Rattle.chk_http_grammar.specs.Messages.{Ack, ack_of}
 use Rattle.chk_world.specs.Names.{Name, read, spell, file, is_known}
 use Rattle.chk_world.specs.Committed.{committed_length}
 use Rattle.chk_world.specs.Collectors.{SinceTaking, is_taking, is_file_of, changes_sink, names_sink, stop_names_sink, leaves_sink, was_refused, is_quiet, IsCommittedLength, CommittedLengths}

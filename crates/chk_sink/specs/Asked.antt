@@ -4,7 +4,7 @@ use Rattle.chk_bytes.specs.Stems.{Stem}
 use Rattle.chk_site.specs.declared.acts.Who.{Who}
 use Rattle.chk_site.specs.History.{History, files_after}
 use Rattle.chk_site.specs.Runs.{Since}
-use Rattle.chk_message.specs.Messages.{Ack, ack_of}
+use Rattle.chk_http_grammar.specs.Messages.{Ack, ack_of}
 use Rattle.chk_world.specs.Committed.{committed_length}
 use Rattle.chk_world.specs.Collectors.{Handling, CommittedLengths, leaves_sink}
 use Rattle.chk_world.specs.Places.{AtTold}

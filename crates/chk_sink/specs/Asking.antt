@@ -4,7 +4,7 @@ use Rattle.chk_bytes.specs.Numbers.{spelled}
 use Rattle.chk_bytes.specs.Stems.{Stem, is_stem, is_collector}
 use Rattle.chk_site.specs.declared.acts.Who.{Who}
 use Rattle.chk_site.specs.History.{History, files_after}
-use Rattle.chk_message.specs.Messages.{Ack}
+use Rattle.chk_http_grammar.specs.Messages.{Ack}
 use Rattle.chk_world.specs.Names.{DoneFile, file}
 use Rattle.chk_world.specs.Collectors.{Handling, is_quiet}
 use Rattle.chk_world.specs.Places.{AtTold}

@@ -4,7 +4,7 @@ use Rattle.chk_bytes.specs.Stems.{Stem}
 use Rattle.chk_site.specs.History.{History}
 use Rattle.chk_seqfile.specs.Headers.{header}
 use Rattle.chk_chunk.specs.Keys.{Chunk}
-use Rattle.chk_message.specs.Messages.{ack_of}
+use Rattle.chk_http_grammar.specs.Messages.{ack_of}
 use Rattle.chk_world.specs.Collectors.{Handling, Appended, Tells, marker, with_appends}
 use Rattle.chk_world.specs.Places.{AtTold}
 use Rattle.chk_sink.specs.declared.fault.SinkFault.{SinkFault}

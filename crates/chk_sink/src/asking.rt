@@ -2,7 +2,7 @@
 
 ghost use Rattle.std.specs.Prelude.{◌≡◌, ℕ, ◌∷◌, [], List, IfOk, IfErr, IsTrue};
 ghost use Rattle.chk_bytes.specs.Stems.{Stem as Parts, is_stem};
-ghost use Rattle.chk_message.specs.Messages.{Ack};
+ghost use Rattle.chk_http_grammar.specs.Messages.{Ack};
 ghost use Rattle.chk_site.specs.declared.acts.Call.TheVariants.{Size, Read};
 ghost use Rattle.chk_site.specs.Site.{Adds, OutsideCause, asked, bytes_given, sized};
 ghost use Rattle.chk_site.specs.History.{History};

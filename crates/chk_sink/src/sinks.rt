@@ -9,7 +9,7 @@ ghost use Rattle.chk_site.specs.Site.{Adds, OutsideCause, asked};
 ghost use Rattle.chk_site.specs.Runs.{HasStarted, Leads};
 ghost use Rattle.chk_chunk.specs.Keys.{Chunk, IsKey, is_chunk};
 ghost use Rattle.chk_chunk.specs.Lent.{lent_chunk};
-ghost use Rattle.chk_message.specs.Messages.{Ack};
+ghost use Rattle.chk_http_grammar.specs.Messages.{Ack};
 ghost use Rattle.chk_seqfile.specs.Headers.{header};
 ghost use Rattle.chk_seqfile.specs.Entries.{piece_at};
 ghost use Rattle.chk_world.specs.Names.{SinkFile, spell};

@@ -12,11 +12,11 @@ use Rattle.chk_site.specs.declared.acts.Who.{Who}
 use Rattle.chk_site.specs.History.{Step, History, Every, IsTheirs, Modelled, is_stopped}
 use Rattle.chk_site.specs.Honest.{Honest, Agrees}
 use Rattle.chk_site.specs.Site.{Adds, Asked, own_step, answered, Acted, Added, Calls, CallsSome, CauseOf}
-use Rattle.chk_mem_calls.specs.declared.plan.Planned.{Planned}
-use Rattle.chk_mem_store.specs.State.{State}
-use Rattle.chk_mem_store.specs.Told.{told_of, with_answer}
-use Rattle.chk_mem_calls.specs.Plans.{LosesNothing, Plans, act_of, planned_as}
-use Rattle.chk_mem_store.specs.Going.{TheirsSince, GoesOn}
+use Rattle.chk_site_mem_calls.specs.declared.plan.Planned.{Planned}
+use Rattle.chk_site_mem_store.specs.State.{State}
+use Rattle.chk_site_mem_store.specs.Told.{told_of, with_answer}
+use Rattle.chk_site_mem_calls.specs.Plans.{LosesNothing, Plans, act_of, planned_as}
+use Rattle.chk_site_mem_store.specs.Going.{TheirsSince, GoesOn}
 use Rattle.chk_site_mem.specs.Begun.{Becomes, Begins}
 use Rattle.chk_site.proofs.Runs.{adds_as}
 use Rattle.chk_site.proofs.Leads.{theirs_run}

@@ -9,10 +9,10 @@ use Rattle.chk_site.specs.declared.scripts.Other.{Other}
 use Rattle.chk_site.specs.Acts.{deed}
 use Rattle.chk_site.specs.History.{is_stopped}
 use Rattle.chk_site.specs.Site.{Asked}
-use Rattle.chk_mem_store.specs.State.{State}
-use Rattle.chk_mem_store.specs.Told.{is_allowed, told_of}
-use Rattle.chk_mem_calls.specs.declared.plan.Planned.{Planned}
-use Rattle.chk_mem_calls.specs.Plans.{LosesNothing, Plans, planned_as}
+use Rattle.chk_site_mem_store.specs.State.{State}
+use Rattle.chk_site_mem_store.specs.Told.{is_allowed, told_of}
+use Rattle.chk_site_mem_calls.specs.declared.plan.Planned.{Planned}
+use Rattle.chk_site_mem_calls.specs.Plans.{LosesNothing, Plans, planned_as}
 use Rattle.chk_site_mem.specs.declared.fate.Fate.{Fate}
 use Rattle.chk_site_mem.specs.declared.fate.Fate.TheVariants.{Goes, Fails, Stops}
 use Rattle.chk_site_mem.proofs.CallLemmas.{plan_loses}

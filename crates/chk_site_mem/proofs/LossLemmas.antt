@@ -7,9 +7,9 @@ use Rattle.chk_site.specs.declared.acts.ActAnswer.TheVariants.{Done, Refused, St
 use Rattle.chk_site.specs.Acts.{deed, is_stop}
 use Rattle.chk_site.specs.Files.{Files}
 use Rattle.chk_site.specs.History.{History, Every, IsTheirs}
-use Rattle.chk_mem_store.specs.Going.{GoesOn, TheirsSince}
-use Rattle.chk_mem_store.specs.Told.{Kept, disowned, fitted, fitted_answer, step_of, told_from, told_of}
-use Rattle.chk_mem_calls.specs.Plans.{LosesNothing}
+use Rattle.chk_site_mem_store.specs.Going.{GoesOn, TheirsSince}
+use Rattle.chk_site_mem_store.specs.Told.{Kept, disowned, fitted, fitted_answer, step_of, told_from, told_of}
+use Rattle.chk_site_mem_calls.specs.Plans.{LosesNothing}
 use Rattle.chk_site_mem.specs.Lossless.{NothingLost}
 
 lost_by_others : (P : List ℕ → Type 0) (added start : History) → Every IsTheirs added start → NothingLost P start

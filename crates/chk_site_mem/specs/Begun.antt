@@ -7,8 +7,8 @@ use Rattle.chk_site.specs.declared.acts.CallFault.TheVariants.{Failed, NoMemory}
 use Rattle.chk_site.specs.declared.acts.ActAnswer.TheVariants.{Refused, Stopped}
 use Rattle.chk_site.specs.History.{History, is_stopped}
 use Rattle.chk_site.specs.Site.{Adds}
-use Rattle.chk_mem_store.specs.Told.{told_of, with_answer}
-use Rattle.chk_mem_store.specs.Going.{TheirsSince, GoesOn}
+use Rattle.chk_site_mem_store.specs.Told.{told_of, with_answer}
+use Rattle.chk_site_mem_store.specs.Going.{TheirsSince, GoesOn}
 use Rattle.chk_site_mem.specs.Memory.{Memory}
 
 -- what became of an act that was to be made: it was made, or failed, or was stopped; without memory there is none

@@ -2,8 +2,8 @@
 use Rattle.std.specs.Prelude.{◌≡◌, ℕ, true, List, [], ◌∷◌}
 use Rattle.chk_site.specs.Acts.{deed}
 use Rattle.chk_site.specs.History.{History}
-use Rattle.chk_mem_calls.specs.Plans.{LosesNothing}
-use Rattle.chk_mem_store.specs.Repeating.{Repeating}
+use Rattle.chk_site_mem_calls.specs.Plans.{LosesNothing}
+use Rattle.chk_site_mem_store.specs.Repeating.{Repeating}
 
 -- Each own taking gave whole the oldest message that waited at its door, but for the takings that are repeated, whose
 -- numbers are such, and each own question for an answer got whole the oldest one that counts.

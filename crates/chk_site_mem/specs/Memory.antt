@@ -11,10 +11,10 @@ use Rattle.chk_site.specs.declared.scripts.Script.{Script}
 use Rattle.chk_site.specs.declared.scripts.StopAt.{StopAt}
 use Rattle.chk_site.specs.Acts.{deed}
 use Rattle.chk_site.specs.History.{files_after, is_stopped}
-use Rattle.chk_mem_store.specs.Repeating.{capped_sum}
-use Rattle.chk_mem_store.specs.State.{State, after, anew, at_first}
-use Rattle.chk_mem_store.specs.Told.{fitted, is_allowed, kept_as, told_of, with_answer}
-use Rattle.chk_mem_calls.specs.Plans.{LosesNothing}
+use Rattle.chk_site_mem_store.specs.Repeating.{capped_sum}
+use Rattle.chk_site_mem_store.specs.State.{State, after, anew, at_first}
+use Rattle.chk_site_mem_store.specs.Told.{fitted, is_allowed, kept_as, told_of, with_answer}
+use Rattle.chk_site_mem_calls.specs.Plans.{LosesNothing}
 use Rattle.chk_site_mem.specs.declared.fate.Fate.{Fate}
 use Rattle.chk_site_mem.specs.declared.fate.Fate.TheVariants.{Goes, Fails, Stops}
 

@@ -1,12 +1,12 @@
 // The acts of others that a script has in store.
 ghost use Rattle.std.specs.Prelude.{◌≡◌, OnOk};
-ghost use Rattle.chk_mem_store.specs.Going.{TheirsSince};
-ghost use Rattle.chk_mem_store.specs.Told.{told_of};
+ghost use Rattle.chk_site_mem_store.specs.Going.{TheirsSince};
+ghost use Rattle.chk_site_mem_store.specs.Told.{told_of};
 ghost use Rattle.chk_site_mem.specs.Memory.{first_due, happened, later, without_due};
 
 use chk_bytes::NoMemory;
-use chk_mem_store::Keeper;
 use chk_site::Other;
+use chk_site_mem_store::Keeper;
 use std::alloc::Global;
 use std::collections::VecDeque;
 use std::marker::Model;

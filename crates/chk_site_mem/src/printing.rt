@@ -3,8 +3,8 @@ ghost use Rattle.std.specs.Prelude.{◌≡◌, IfOk};
 ghost use Rattle.chk_site_mem.specs.Printed.{said_in, printed_of};
 
 use chk_bytes::{Bytes, NoMemory};
-use chk_mem_store::first;
 use chk_site::{Act, ActAnswer, Call};
+use chk_site_mem_store::first;
 use std::alloc::Global;
 
 /// The bytes of all `say` acts that were done, in order.

@@ -4,24 +4,24 @@ ghost use Rattle.chk_site.specs.declared.acts.Call.TheVariants as call;
 ghost use Rattle.chk_site.specs.Acts.{deed, is_stop};
 ghost use Rattle.chk_site.specs.History.{files_after};
 ghost use Rattle.chk_site.specs.Site.{asked, answered, plain, sized, bytes_given, suffix_given, names_given, piece_given, taking_given, part_text, EndsPast, Calls, CallsSome, CauseOf, MayFail, MayExist, MayMiss, MayBeShort, MayMissOrBeShort};
-ghost use Rattle.chk_mem_calls.specs.Plans.{LosesNothing};
+ghost use Rattle.chk_site_mem_calls.specs.Plans.{LosesNothing};
 ghost use Rattle.chk_site_mem.specs.Lossless.{NothingLost, any};
 ghost use Rattle.chk_site_mem.specs.Begun.{Becomes, Begins, Tells};
 ghost use Rattle.chk_site_mem.specs.Memory.{BeginsBy, Follows, MadeBy, begun, fate_at, fate_of, restarted, without_stop};
 ghost use Rattle.chk_site_mem.specs.Printed.{printed_of};
-ghost use Rattle.chk_mem_store.specs.Reads.{text_at};
-ghost use Rattle.chk_mem_store.specs.Told.{acts_of, told_of};
+ghost use Rattle.chk_site_mem_store.specs.Reads.{text_at};
+ghost use Rattle.chk_site_mem_store.specs.Told.{acts_of, told_of};
 
 use crate::fate::Fate;
 use crate::others::Others;
 use crate::printing::printed;
 use chk_bytes::{Bytes, NoMemory, Word};
-use chk_mem_calls::{
+use chk_site::{Act, ActAnswer, CallFault, Part, Piece, Script, Site, StopAt, Suffix, Taking, Who};
+use chk_site_mem_calls::{
     Answer, Append, Clock, Create, Cut, Got, List, LogAppend, LogNewest, LogRead, More, Numbered,
     Pause, Question, Read, Remove, Rename, Say, Send, Size, Start, Sync, Take,
 };
-use chk_mem_store::{Keeper, answering};
-use chk_site::{Act, ActAnswer, CallFault, Part, Piece, Script, Site, StopAt, Suffix, Taking, Who};
+use chk_site_mem_store::{Keeper, answering};
 use std::alloc::Global;
 use std::marker::Model;
 
@@ -41,7 +41,7 @@ impl Model for SiteMem {
 
     ghost Value = { Memory };
 
-    ghost use Rattle.chk_mem_store.specs.Told.{told_of};
+    ghost use Rattle.chk_site_mem_store.specs.Told.{told_of};
     ghost use Rattle.chk_site_mem.specs.Lossless.{NothingLost, any};
 
     ghost view = { λ s. record { state = s.keeper; others = s.others; failing = s.failing.items; stop = s.stop; calls = s.calls; faults = s.faults } };
@@ -203,7 +203,7 @@ impl SiteMem {
 
 impl Site for SiteMem {
     ghost use Rattle.std.specs.Prelude.{Some};
-    ghost use Rattle.chk_mem_store.specs.Told.{told_of};
+    ghost use Rattle.chk_site_mem_store.specs.Told.{told_of};
 
     ghost told = { λ s. Some (told_of s.state.kept) };
 

@@ -5,7 +5,7 @@ use Rattle.chk_site.specs.declared.acts.CallFault.{CallFault}
 use Rattle.chk_site.specs.declared.acts.Role.{Role}
 use Rattle.chk_site.specs.declared.acts.Role.TheVariants.{Agent, Collector, Job, Writer}
 use Rattle.chk_site.specs.declared.suffixes.Taking.{Taking}
-use Rattle.chk_faults.specs.declared.faults.SystemFault.{SystemFault}
+use Rattle.chk_site_errors.specs.declared.faults.SystemFault.{SystemFault}
 
 abbrev pub begins_with : List ℕ → List ℕ → Bool
 begins_with bytes method = starts_with nat_eq bytes method

@@ -3,13 +3,13 @@ ghost use Rattle.std.specs.Prelude.{◌≡◌, ◌∷◌, ◌++◌, [], option_m
 ghost use Rattle.std.specs.List.{list_any};
 ghost use Rattle.chk_site.specs.Site.{MayFail};
 ghost use Rattle.chk_site.specs.declared.acts.CallFault.TheVariants.{Failed};
-ghost use Rattle.chk_faults.specs.Faults.{answer_of, call_fault};
+ghost use Rattle.chk_site_errors.specs.Faults.{answer_of, call_fault};
 ghost use Rattle.chk_site_real.specs.Locks.{is_of, lock_of, Holds};
 
 use chk_bytes::NoMemory;
-use chk_faults::{SystemFault, make_place, text};
-use chk_host::open_made;
 use chk_site::{Role, Who};
+use chk_site_errors::{SystemFault, make_place, text};
+use chk_site_files::open_made;
 use std::alloc::Global;
 use std::fs::{File, TryLockError};
 use std::io::ErrorKind;

@@ -1,11 +1,11 @@
 //! Requests of the web at a control door, which are no control lines.
 ghost use Rattle.std.specs.Prelude.{◌≡◌};
-ghost use Rattle.chk_faults.specs.Faults.{answer_of};
+ghost use Rattle.chk_site_errors.specs.Faults.{answer_of};
 ghost use Rattle.chk_site.specs.Site.{MayFail};
 ghost use Rattle.chk_site_real.specs.Requests.{given_to, is_request, without};
 
-use chk_faults::SystemFault;
 use chk_site::{Role, Taking};
+use chk_site_errors::SystemFault;
 
 /// What a process of this role is given of what came at its door: an agent no request of the web, so that no
 /// web page gives control lines.

@@ -3,18 +3,18 @@ ghost use Rattle.std.specs.Prelude.{◌≡◌, ◌≤◌, ◌∷◌, [], None, E
 ghost use Rattle.chk_site.specs.Site.{answered, asked, taking_given, Adds, CallsSome, CauseOf, MayFail};
 ghost use Rattle.chk_site.specs.declared.acts.Call.TheVariants as call;
 ghost use Rattle.chk_site.specs.declared.acts.CallFault.TheVariants.{Failed};
-ghost use Rattle.chk_faults.specs.Faults.{answer_of};
+ghost use Rattle.chk_site_errors.specs.Faults.{answer_of};
 ghost use Rattle.chk_site_real.specs.Requests.{IsNoRequest};
 
 use crate::locks::{Locks, lock_name};
 use crate::requests::given_to;
 use chk_bytes::{Bytes, Word};
-use chk_faults::{SystemFault, text};
-use chk_host::{Folders, Host, Unsettled, make_folders};
-use chk_listings::sorted_names;
-use chk_notices::{Failure, clock_moment};
 use chk_site::{Call, CallFault, LOG_END, Part, Piece, Role, Site, Suffix, Taking, Who};
-use chk_sockets::Messages;
+use chk_site_errors::{SystemFault, text};
+use chk_site_files::{Folders, Host, Unsettled, make_folders};
+use chk_site_listings::sorted_names;
+use chk_site_log::{Failure, clock_moment};
+use chk_site_sockets::Messages;
 use std::alloc::{AllocError, Global};
 use std::fs::File;
 use std::io::Eprint;
@@ -42,11 +42,11 @@ const LONGEST_MESSAGE: usize = 4_210_688;
 /// three seconds. The names are kept of the 64 folders that were asked for last, up to 65,536 in all; other
 /// folders are listed each time. The file that was read last is kept open. A base file that was renamed is
 /// still the base file, and neither it nor a later one is shown as rotated, until it hasn't grown for three
-/// seconds, or for sixty at most, where this site saw it at the log's path (`chk_rotations`, for 65,536
+/// seconds, or for sixty at most, where this site saw it at the log's path (`chk_site_rotations`, for 65,536
 /// logs). What isn't a file counts as no log; a file that may not be read fails each look at it until it
 /// was read once. Only at those looks, and where it has bytes at the place, a file is opened.
 ///
-/// What happens is told on standard error, with the moment (`chk_notices`). That a log is shorter than
+/// What happens is told on standard error, with the moment (`chk_site_log`). That a log is shorter than
 /// `LOG_END` isn't: a read there asks how long it is.
 ///
 /// A start fails where one of the folders couldn't be synced when the site was made. Else it takes the
@@ -56,7 +56,7 @@ const LONGEST_MESSAGE: usize = 4_210_688;
 /// nothing. The system lets go of a lock when its process ends, however that ends. A writer has none.
 ///
 /// The clock counts milliseconds from an arbitrary start and never goes back. Messages are as
-/// `chk_sockets::Messages` has them. An agent isn't given a message that begins as a request of the web does:
+/// `chk_site_sockets::Messages` has them. An agent isn't given a message that begins as a request of the web does:
 /// it is lost.
 #[derive(Drop)]
 pub struct SiteReal<R: Files<File = File> + Net + Clock + Print + Eprint + Drop> {

@@ -2,9 +2,9 @@
 use Rattle.std.proofs.Common.{◌≡◌, ◌⊎◌, inl, inr, ℕ, List, [], ◌∷◌, ◌++◌, refl, sym, ap, ◌∙◌, subst, arith}
 use Rattle.httparse.specs.Grammar.{LineEnd, crlf, lf, RequestHead, print_blank, print_request}
 use Rattle.chk_bytes.specs.Words.{BeginsWith}
-use Rattle.chk_message.specs.Heads.{HasRequestHead}
-use Rattle.chk_message.specs.Messages.{IsRequest}
-use Rattle.chk_message.proofs.Accepted.{request_in_front}
+use Rattle.chk_http_grammar.specs.Heads.{HasRequestHead}
+use Rattle.chk_http_grammar.specs.Messages.{IsRequest}
+use Rattle.chk_http_grammar.proofs.Accepted.{request_in_front}
 use Rattle.chk_tee.specs.Messages.{Teed, IsTee}
 
 -- the bytes begin with this one

@@ -1,7 +1,7 @@
 -- The laws of filters and messages.
 use Rattle.std.specs.Prelude.{◌≡◌, ◌↔◌, ◌<◌, ◌≤◌, List, ℕ, length, None, Some, Ok}
 use Rattle.chk_bytes.specs.Words.{BeginsWith}
-use Rattle.chk_message.specs.Messages.{IsRequest}
+use Rattle.chk_http_grammar.specs.Messages.{IsRequest}
 use Rattle.chk_tee.specs.Messages.{Teed, IsTee, AreTeed, written_tee, tee_limit, most_teed, tee_mark}
 use Rattle.chk_tee.specs.Faults.{tee_fault, mark_wrong}
 use Rattle.chk_tee.specs.Filters.{IsFilter, filter_in}

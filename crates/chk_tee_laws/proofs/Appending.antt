@@ -1,13 +1,13 @@
 -- The appends that a collector did since it took a message: they rise, and stand in their sinks.
 use Rattle.std.proofs.Common.{◌≡◌, ◌⊎◌, inl, inr, ℕ, ◌<◌, List, [], ◌∷◌, ◌++◌, length, length-append, ap, sym, subst, arith}
 use Rattle.chk_chunk.specs.Keys.{Chunk}
-use Rattle.chk_message.specs.Messages.{Ack}
+use Rattle.chk_http_grammar.specs.Messages.{Ack}
 use Rattle.chk_seqfile.specs.Entries.{sync_entry}
 use Rattle.chk_seqfile.proofs.EntryLemmas.{length-record_entry}
 use Rattle.chk_site.specs.History.{Step, History}
 use Rattle.chk_tee.specs.Messages.{Teed}
-use Rattle.chk_tees.specs.Sieves.{mark_of}
-use Rattle.chk_tees.specs.declared.sieve.Mark.{Mark}
+use Rattle.chk_tee_sender.specs.Sieves.{mark_of}
+use Rattle.chk_tee_sender.specs.declared.sieve.Mark.{Mark}
 use Rattle.chk_world.specs.Collectors.{Appended, Tells, TellAll, marker}
 use Rattle.chk_tee_laws.specs.Passed.{IsAbove, Each, place}
 use Rattle.chk_tee_laws.proofs.Order.{EachLine, LinesRise, told_at}

@@ -2,11 +2,11 @@
 use Rattle.std.proofs.Common.{Bool, true, false, cond, List, [], ◌∷◌, ◌++◌}
 use Rattle.std.specs.Prelude.{filter}
 use Rattle.chk_chunk.specs.Keys.{Chunk}
-use Rattle.chk_message.specs.Messages.{Ack}
+use Rattle.chk_http_grammar.specs.Messages.{Ack}
 use Rattle.chk_tee.specs.Messages.{Teed}
-use Rattle.chk_tees.specs.Offers.{teeds_of}
-use Rattle.chk_tees.specs.Sieves.{mark_of}
-use Rattle.chk_tees.specs.declared.sieve.Mark.{Mark}
+use Rattle.chk_tee_sender.specs.Offers.{teeds_of}
+use Rattle.chk_tee_sender.specs.Sieves.{mark_of}
+use Rattle.chk_tee_sender.specs.declared.sieve.Mark.{Mark}
 use Rattle.chk_tee_laws.specs.Passed.{IsAbove, place, Each, RiseStrictly}
 
 pub each_same : {P Q : Teed → Type 0} → ((t : Teed) → P t → Q t) → (ts : List Teed) → Each P ts

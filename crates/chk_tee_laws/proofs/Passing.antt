@@ -3,9 +3,9 @@ use Rattle.std.proofs.Common.{◌≡◌, inl, inr, ℕ, ◌<◌, Bool, true, fal
 use Rattle.std.specs.Prelude.{find}
 use Rattle.std.proofs.lemmas.Option.{same_Some, none-some}
 use Rattle.chk_chunk.specs.Keys.{Chunk}
-use Rattle.chk_message.specs.Messages.{Ack, acks_text}
-use Rattle.chk_message.proofs.Accepted.{never_both}
-use Rattle.chk_message.proofs.Apart.{acks_text-same}
+use Rattle.chk_http_grammar.specs.Messages.{Ack, acks_text}
+use Rattle.chk_http_grammar.proofs.Accepted.{never_both}
+use Rattle.chk_http_grammar.proofs.Apart.{acks_text-same}
 use Rattle.chk_site.specs.declared.acts.Who.{Who}
 use Rattle.chk_site.specs.declared.acts.ActAnswer.{ActAnswer}
 use Rattle.chk_site.specs.declared.acts.ActAnswer.TheVariants.{Done}
@@ -14,8 +14,8 @@ use Rattle.chk_site.specs.History.{Step, History, files_after, is_by}
 use Rattle.chk_tee.specs.Messages.{Teed}
 use Rattle.chk_tee.specs.Filters.{passes, passing}
 use Rattle.chk_tee.specs.declared.filters.Filter.{Filter}
-use Rattle.chk_tees.specs.Offers.{teeds_of}
-use Rattle.chk_tees.specs.declared.sieve.Mark.{Mark}
+use Rattle.chk_tee_sender.specs.Offers.{teeds_of}
+use Rattle.chk_tee_sender.specs.declared.sieve.Mark.{Mark}
 use Rattle.chk_world.specs.Names.{Name, SinkFile, read}
 use Rattle.chk_world.specs.Collectors.{Handling, TellAll, GoodAnswer, AnswersWell, CollectorRule, appended_at, no_more_newest, with_bytes, with_answer, with_sync, with_appends, handled_after, size_in, view}
 use Rattle.chk_world.specs.Rules.{Legal, RoleMay}

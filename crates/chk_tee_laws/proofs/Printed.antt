@@ -5,7 +5,7 @@ use Rattle.std.proofs.lemmas.Bool.{and_parts, cond-true, eqb-true, ltb-true}
 use Rattle.std.proofs.lemmas.Slice.Eq.{bytes_eq-Decides}
 use Rattle.chk_bytes.specs.Words.{BeginsWith}
 use Rattle.chk_chunk.specs.Keys.{Chunk}
-use Rattle.chk_message.specs.Messages.{Ack}
+use Rattle.chk_http_grammar.specs.Messages.{Ack}
 use Rattle.chk_site.specs.declared.acts.OutsideFault.{OutsideFault}
 use Rattle.chk_site.specs.declared.acts.Who.{Who}
 use Rattle.chk_site.specs.History.{History}
@@ -13,22 +13,22 @@ use Rattle.chk_tee.specs.Messages.{Teed, IsTee}
 use Rattle.chk_tee.specs.Filters.{passing}
 use Rattle.chk_tee.specs.declared.filters.Filter.{Filter}
 use Rattle.chk_tee.proofs.MessageGrammar.{one_tee, tee_alone}
-use Rattle.chk_tees.specs.Offers.{teeds_of}
-use Rattle.chk_tees.specs.Sieves.{mark_of, same_collector, later, is_fresh, asked_for, is_above, rises}
-use Rattle.chk_tees.specs.declared.sieve.Mark.{Mark}
-use Rattle.chk_subscribe.specs.Taking.{IsTaken, AreTaken, all_chunks}
-use Rattle.chk_subscribe.specs.Told.{places}
-use Rattle.chk_subscribe.specs.Watched.{PrintsTaken}
-use Rattle.chk_subscribe.specs.Watching.{fresh_of}
+use Rattle.chk_tee_sender.specs.Offers.{teeds_of}
+use Rattle.chk_tee_sender.specs.Sieves.{mark_of, same_collector, later, is_fresh, asked_for, is_above, rises}
+use Rattle.chk_tee_sender.specs.declared.sieve.Mark.{Mark}
+use Rattle.chk_cmd_subscribe.specs.Taking.{IsTaken, AreTaken, all_chunks}
+use Rattle.chk_cmd_subscribe.specs.Told.{places}
+use Rattle.chk_cmd_subscribe.specs.Watched.{PrintsTaken}
+use Rattle.chk_cmd_subscribe.specs.Watching.{fresh_of}
 use Rattle.chk_world.specs.Rules.{Legal}
 use Rattle.chk_tee_laws.specs.Passed.{HasPassed, none, more, same, IsMessageOf, IsAbove, place, Each, RiseStrictly, collector_named}
 use Rattle.chk_tee_laws.specs.Printed.{of_collector, IsPart, HasSome, TookOf, ArePassed, PrintsPassed}
 use Rattle.chk_tee_laws.proofs.Order.{each_same, each_join}
 use Rattle.chk_tee_laws.proofs.Passing.{passed_rises}
 use Rattle.chk_tee_laws.proofs.Unique.{one_answer}
-use Rattle.chk_subscribe.proofs.Watched.{prints_taken}
-use Rattle.chk_subscribe.specs.Runs.{HasSubscribed}
-use Rattle.chk_tees.proofs.SieveLaws.{or_parts}
+use Rattle.chk_cmd_subscribe.proofs.Watched.{prints_taken}
+use Rattle.chk_cmd_subscribe.specs.Runs.{HasSubscribed}
+use Rattle.chk_tee_sender.proofs.SieveLaws.{or_parts}
 
 -- ---- the order
 

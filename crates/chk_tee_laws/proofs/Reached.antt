@@ -21,8 +21,8 @@ use Rattle.chk_world.proofs.Others.{others_write}
 use Rattle.chk_world.proofs.Law.{InvAfter, holds_always, who_same, its_rule}
 use Rattle.chk_world.proofs.AppendsKept.{known_sink}
 use Rattle.chk_world.proofs.Commits.{appended_there}
-use Rattle.chk_tees.specs.Sieves.{mark_of}
-use Rattle.chk_tees.specs.declared.sieve.Mark.{Mark}
+use Rattle.chk_tee_sender.specs.Sieves.{mark_of}
+use Rattle.chk_tee_sender.specs.declared.sieve.Mark.{Mark}
 use Rattle.chk_tee_laws.specs.Passed.{IsAbove}
 use Rattle.chk_tee_laws.proofs.Named.{IsNewest, current_is_newest}
 use Rattle.chk_world.proofs.AppendsStand.{size_is}

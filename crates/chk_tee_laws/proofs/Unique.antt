@@ -4,15 +4,15 @@ use Rattle.std.proofs.lemmas.Option.{same_Some}
 use Rattle.chk_chunk.specs.Keys.{Chunk}
 use Rattle.chk_chunk.specs.Posts.{IsPost}
 use Rattle.chk_chunk.proofs.PostGrammar.{one_post}
-use Rattle.chk_message.specs.Messages.{Ack, IsPostOf, IsGoodReply}
-use Rattle.chk_message.proofs.Accepted.{PostRequest-same, IsGoodReply-same}
+use Rattle.chk_http_grammar.specs.Messages.{Ack, IsPostOf, IsGoodReply}
+use Rattle.chk_http_grammar.proofs.Accepted.{PostRequest-same, IsGoodReply-same}
 use Rattle.chk_site.specs.declared.acts.Who.{Who}
 use Rattle.chk_site.specs.Acts.{Deed, Answers, deed}
 use Rattle.chk_site.specs.History.{Step, History}
 use Rattle.chk_tee.specs.Messages.{Teed, IsTee}
 use Rattle.chk_tee.specs.Filters.{passing}
 use Rattle.chk_tee.specs.declared.filters.Filter.{Filter}
-use Rattle.chk_tees.specs.Offers.{IsPlacedPost, teeds_of}
+use Rattle.chk_tee_sender.specs.Offers.{IsPlacedPost, teeds_of}
 use Rattle.chk_world.specs.Collectors.{Handling, handling_of, view}
 use Rattle.chk_tee_laws.specs.Passed.{AnswersPost, HasPassed, IsMessageOf, none, more, same}
 

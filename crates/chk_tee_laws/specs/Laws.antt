@@ -5,14 +5,14 @@ use Rattle.chk_site.specs.declared.acts.Who.{Who}
 use Rattle.chk_site.specs.Acts.{Answers, deed}
 use Rattle.chk_site.specs.History.{Step, History}
 use Rattle.chk_chunk.specs.Keys.{Chunk}
-use Rattle.chk_message.specs.Messages.{Ack}
+use Rattle.chk_http_grammar.specs.Messages.{Ack}
 use Rattle.chk_world.specs.Collectors.{Handling, handling_of, view}
 use Rattle.chk_tee.specs.Filters.{passing}
-use Rattle.chk_tees.specs.Offers.{IsPlacedPost, teeds_of}
+use Rattle.chk_tee_sender.specs.Offers.{IsPlacedPost, teeds_of}
 use Rattle.chk_world.specs.Rules.{Legal}
 use Rattle.chk_tee.specs.Messages.{Teed, IsTee}
 use Rattle.chk_tee.specs.declared.filters.Filter.{Filter}
-use Rattle.chk_subscribe.specs.Runs.{HasSubscribed}
+use Rattle.chk_cmd_subscribe.specs.Runs.{HasSubscribed}
 use Rattle.chk_tee_laws.specs.Passed.{HasPassed, IsMessageOf, AreInOrder, collector_named}
 use Rattle.chk_tee_laws.specs.Printed.{PrintsPassed}
 

@@ -6,9 +6,9 @@ use Rattle.chk_site.specs.declared.acts.Who.{Who}
 use Rattle.chk_site.specs.History.{History}
 use Rattle.chk_tee.specs.Messages.{Teed, IsTee}
 use Rattle.chk_tee.specs.declared.filters.Filter.{Filter}
-use Rattle.chk_tees.specs.Sieves.{rises}
-use Rattle.chk_subscribe.specs.Told.{places, PrintsUpTo, all_lines}
-use Rattle.chk_subscribe.specs.Taking.{HasTaken}
+use Rattle.chk_tee_sender.specs.Sieves.{rises}
+use Rattle.chk_cmd_subscribe.specs.Told.{places, PrintsUpTo, all_lines}
+use Rattle.chk_cmd_subscribe.specs.Taking.{HasTaken}
 use Rattle.chk_tee_laws.specs.Passed.{HasPassed, IsMessageOf, collector_named}
 
 -- those of the chunks that stand in sinks of the collector

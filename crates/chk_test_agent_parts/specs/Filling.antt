@@ -3,7 +3,7 @@ use Rattle.std.specs.Prelude.{◌≡◌, ℕ, List, [], ◌∷◌, IsTrue, lengt
 use Rattle.chk_chunk.specs.Keys.{is_chunk}
 use Rattle.chk_chunk.specs.Lent.{chunk_of}
 use Rattle.chk_chunk.specs.declared.Chunk.{Chunk}
-use Rattle.chk_delivery.specs.States.{State}
+use Rattle.chk_agent_delivery.specs.States.{State}
 
 -- nothing waits; there is room for a million bytes, and two adaptors stand at offset 0
 pub record IsFresh (s : State) : Type 0 where

@@ -1,7 +1,7 @@
 //! Adaptors that go back or stop.
 use crate::polls::polled;
 use crate::posting_scene::{Scene, TAKEN};
-use chk_delivery::Answered;
+use chk_agent_delivery::Answered;
 use std::test::Fail;
 
 // Its chunks are gone, and so is the post; the other adaptor's chunk is posted.

@@ -1,6 +1,6 @@
 //! What polls are answered.
 use crate::posting_scene::{Scene, Seen};
-use chk_delivery::Polled;
+use chk_agent_delivery::Polled;
 use std::alloc::Global;
 use std::test::Fail;
 

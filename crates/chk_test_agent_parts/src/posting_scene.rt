@@ -2,9 +2,9 @@
 ghost use Rattle.std.specs.Prelude.{◌<◌, ◌≤◌, ◌^◌, IfOk};
 ghost use Rattle.chk_test_agent_parts.specs.Filling.{IsFresh, IsSix};
 
+use chk_agent_delivery::{Answered, Delivery, PollAnswer, Polled, Posted, Rules};
 use chk_bytes::{Bytes, NoMemory, Word};
 use chk_chunk::Chunk;
-use chk_delivery::{Answered, Delivery, PollAnswer, Polled, Posted, Rules};
 use chk_failover::Ring;
 use chk_site::{Role, Script, Site, Who};
 use chk_site_mem::SiteMem;

@@ -1,6 +1,6 @@
 //! What posts are answered.
 use crate::posting_scene::{Scene, TAKEN};
-use chk_delivery::{Answered, Posted};
+use chk_agent_delivery::{Answered, Posted};
 use std::test::Fail;
 
 // The three chunks `hello\n` and `world\n` of /a.log and `other\n` of /b.log: 124 bytes.

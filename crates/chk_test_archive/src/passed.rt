@@ -1,7 +1,7 @@
 //! Heads of records whose values are passed over.
 use crate::calls::archiver;
 use chk_bytes::Bytes;
-use chk_heads::{Heads, JobFault};
+use chk_record_index::{Heads, JobFault};
 use chk_site::{Act, ActAnswer, Call, Site};
 use chk_site_mem::SiteMem;
 use chk_test_calls::quiet;

@@ -3,7 +3,7 @@
 use chk_bytes::Word;
 use chk_site::{Act, Role, Site, Who};
 use chk_site_mem::SiteMem;
-use chk_tees::{Tees, read_subscribers};
+use chk_tee_sender::{Tees, read_subscribers};
 use chk_test_calls::{collector, failing, quiet};
 use std::alloc::Global;
 use std::test::Fail;

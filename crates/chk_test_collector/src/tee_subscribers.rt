@@ -1,6 +1,6 @@
 //! Files of subscribers.
 
-use chk_tees::{Subscriber, read_subscribers};
+use chk_tee_sender::{Subscriber, read_subscribers};
 use std::alloc::Global;
 use std::test::Fail;
 

@@ -8,7 +8,7 @@ use chk_collector_run::collect;
 use chk_sink::SinkFault;
 use chk_site::{Call, Role, Site, Who};
 use chk_site_mem::SiteMem;
-use chk_tees::Tees;
+use chk_tee_sender::Tees;
 use chk_test_calls::quiet;
 use std::alloc::Global;
 use std::test::Fail;

@@ -1,11 +1,11 @@
 //! Printed lines, as they are written out.
 
 use chk_bytes::{Bytes, NoMemory, Stem, Word};
-use chk_site::Call;
-use chk_words::{
+use chk_cmd_line::{
     Ending, LoadLines, Usage, load_log, put_archive, put_demux, put_end, put_load, put_stream,
     put_usage,
 };
+use chk_site::Call;
 use std::alloc::Global;
 
 #[test]

@@ -1,6 +1,6 @@
 //! Tests of splitters: what is given of texts, however they are cut.
 use chk_bytes::Bytes;
-use chk_splitter::{LINE_BYTES, RECORD_BYTES, Splitter};
+use chk_demux_split::{LINE_BYTES, RECORD_BYTES, Splitter};
 use std::alloc::Global;
 use std::test::Fail;
 

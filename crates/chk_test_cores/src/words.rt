@@ -1,7 +1,7 @@
 //! Word lists, and what they ask for.
 
 use chk_bytes::NoMemory;
-use chk_words::{Usage, WordsFault, read_words, usage_of};
+use chk_cmd_line::{Usage, WordsFault, read_words, usage_of};
 use std::alloc::Global;
 
 // Letters that a source may have, 64 of them, and those that a collector's name may have.

@@ -1,6 +1,6 @@
 //! What is answered, as text.
-use chk_heads::JobFault;
 use chk_join::{JoinFault, JoinReport};
+use chk_record_index::JobFault;
 use std::alloc::Global;
 use std::test::Fail;
 

@@ -1,5 +1,5 @@
 //! How far a look is, as it is told.
-use chk_progress::{Course, course_line};
+use chk_site_progress::{Course, course_line};
 use std::alloc::Global;
 use std::test::Fail;
 

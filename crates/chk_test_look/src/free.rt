@@ -1,5 +1,5 @@
 //! What `df -P -k` answers, and what isn't its answer.
-use chk_look_status::free_in;
+use chk_ctl_status::free_in;
 use std::test::Fail;
 
 const HEAD_AND_LINE: &[u8] = b"\

@@ -2,8 +2,8 @@
 use crate::files::{puts, puts_text};
 use crate::logs::{drops, grows, turns};
 use crate::status::{ended, looks};
-use chk_look_run::{Usage, run};
-use chk_look_words::usage_of;
+use chk_ctl_line::usage_of;
+use chk_ctl_run::{Usage, run};
 use chk_site::{Call, Script};
 use chk_site_mem::SiteMem;
 use chk_test_calls::{quiet, written};

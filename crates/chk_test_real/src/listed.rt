@@ -1,7 +1,7 @@
 //! Listings of folders that are kept.
 use crate::programs::on_machine;
 use chk_bytes::Word;
-use chk_listings::{Listing, Listings, Stamp};
+use chk_site_listings::{Listing, Listings, Stamp};
 use std::alloc::Global;
 use std::test::Fail;
 use std::time::Duration;

@@ -1,8 +1,8 @@
 //! Messages over real sockets on the loopback interface.
 use chk_bytes::Bytes;
-use chk_faults::SystemFault;
 use chk_site::{CallFault, Taking};
-use chk_sockets::Messages;
+use chk_site_errors::SystemFault;
+use chk_site_sockets::Messages;
 use std::alloc::Global;
 use std::io::Write;
 use std::net::{TcpListener, TcpStream, UdpSocket};

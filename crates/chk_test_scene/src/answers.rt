@@ -2,8 +2,8 @@
 
 use crate::telling::{Told, lines_text};
 use chk_agent::{Added, AgentFault, Filled, Reply, Settled, Stepped, Then};
+use chk_agent_delivery::{Answered, Below, PollAnswer, Polled, Posted};
 use chk_control::State;
-use chk_delivery::{Answered, Below, PollAnswer, Polled, Posted};
 use std::alloc::Global;
 use std::test::Fail;
 

@@ -3,8 +3,8 @@
 use crate::answers::faulted;
 use crate::telling::{Told, plain};
 use chk_agent::{Agent, AgentFault};
+use chk_agent_drain::{Drained, drain};
 use chk_bytes::Stem;
-use chk_drain::{Drained, drain};
 use chk_site_mem::SiteMem;
 use std::alloc::Global;
 use std::test::Fail;

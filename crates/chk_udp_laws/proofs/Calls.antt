@@ -29,7 +29,7 @@ use Rattle.chk_wahead.specs.Scripts.{Did, IsSpent, PutsIn, Puts, first_calls, ad
 use Rattle.chk_wahead.specs.States.{State, Held, left, longer, all_marked, last_number}
 use Rattle.chk_udp_laws.specs.Marked.{Tally, tally, took, given_by, joined, IsPart, under_mark}
 use Rattle.chk_udp_laws.specs.Histories.{NextTemporary}
-use Rattle.chk_udp_run.specs.Takings.{Waits}
+use Rattle.chk_cmd_udp.specs.Takings.{Waits}
 use Rattle.chk_udp_laws.proofs.Naming.{B, M, C}
 use Rattle.chk_udp_laws.proofs.Standing.{under_is}
 use Rattle.chk_udp_laws.proofs.Steps.{At, Some_at, Untouched, at_untouched}

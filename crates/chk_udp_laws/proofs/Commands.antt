@@ -8,21 +8,21 @@ use Rattle.chk_site.specs.declared.suffixes.Taking.{Taking}
 use Rattle.chk_site.specs.History.{History}
 use Rattle.chk_site.specs.Runs.{MadeInTurn}
 use Rattle.chk_site.specs.Site.{asked, Ends}
-use Rattle.chk_prints.proofs.Printed.{prints_made}
+use Rattle.chk_cmd_output.proofs.Printed.{prints_made}
 use Rattle.chk_wahead.specs.declared.fault.WaheadFault.{WaheadFault}
 use Rattle.chk_wahead.specs.Faults.{wahead_result}
 use Rattle.chk_wahead.specs.Names.{writer}
 use Rattle.chk_wahead.specs.Scripts.{Did, commit_of, close_of}
 use Rattle.chk_wahead.specs.States.{State, all_marked}
 use Rattle.chk_wahead.specs.Telling.{Starts}
-use Rattle.chk_udp_run.specs.declared.tally.Tally.{Tally}
-use Rattle.chk_udp_run.specs.Takings.{Waits, TakesOnce, Further, Gathers, came}
-use Rattle.chk_udp_run.specs.Turns.{Commits, Closes, Settles, IsTurn}
-use Rattle.chk_udp_run.specs.Runs.{AreTurned, Finishes, GoesOn, HasRun}
-use Rattle.chk_udp_run.proofs.Gathering.{gathers_same}
-use Rattle.chk_udp_run.proofs.Keeping.{done_same, done_held}
-use Rattle.chk_udp_run.proofs.Turning.{turn_same}
-use Rattle.chk_udp_run.proofs.Starting.{begun}
+use Rattle.chk_cmd_udp.specs.declared.tally.Tally.{Tally}
+use Rattle.chk_cmd_udp.specs.Takings.{Waits, TakesOnce, Further, Gathers, came}
+use Rattle.chk_cmd_udp.specs.Turns.{Commits, Closes, Settles, IsTurn}
+use Rattle.chk_cmd_udp.specs.Runs.{AreTurned, Finishes, GoesOn, HasRun}
+use Rattle.chk_cmd_udp.proofs.Gathering.{gathers_same}
+use Rattle.chk_cmd_udp.proofs.Keeping.{done_same, done_held}
+use Rattle.chk_cmd_udp.proofs.Turning.{turn_same}
+use Rattle.chk_cmd_udp.proofs.Starting.{begun}
 use Rattle.chk_udp_laws.specs.Uses.{Goes, IsRun}
 use Rattle.chk_udp_laws.specs.Commands.{IsRunOf, CommandsAreRuns}
 

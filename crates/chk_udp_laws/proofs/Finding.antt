@@ -21,7 +21,7 @@ use Rattle.chk_site.specs.Site.{Adds, Asked, asked, own_step, answered, taking_g
 use Rattle.chk_site.proofs.Leads.{leads_then, leads_as, leads_none, acted_leads, any_leads, call_owned, script_owned, AllOwned, Keeps}
 use Rattle.chk_site.proofs.Runs.{adds_then, adds_as, adds_none, every_join, ran}
 use Rattle.chk_site.proofs.Stays.{unnamed_stays}
-use Rattle.chk_prints.proofs.Printed.{prints_made}
+use Rattle.chk_cmd_output.proofs.Printed.{prints_made}
 use Rattle.chk_replace.specs.Replace.{whole, replacement}
 use Rattle.chk_wahead.specs.declared.fault.WaheadFault.{WaheadFault}
 use Rattle.chk_wahead.specs.Names.{writer, next_name, buffer_name, mark_name, closed_name}
@@ -29,16 +29,16 @@ use Rattle.chk_wahead.specs.Scripts.{Did, IsSpent, PutsIn, Puts, first_calls, ad
 use Rattle.chk_wahead.specs.Starting.{found_of, plan_of, settling}
 use Rattle.chk_wahead.specs.States.{State, Held, last_number, all_marked}
 use Rattle.chk_wahead.specs.Telling.{starting, TakenOnce, Looks, unstarted as unstarted_look, no_number, no_mark, no_size, looked, Starts, unbegun, unlooked, damaged, unnamed, settled}
-use Rattle.chk_udp_run.specs.declared.tally.Tally.{Tally}
-use Rattle.chk_udp_run.specs.Takings.{Further, Gathers}
-use Rattle.chk_udp_run.specs.Turns.{Settles, IsTurn, IsTidy}
-use Rattle.chk_udp_run.specs.Runs.{AreTurned, Finishes, GoesOn, HasRun}
-use Rattle.chk_udp_run.proofs.Keeping.{done_held}
-use Rattle.chk_udp_run.proofs.Turning.{turn_same, turn_tidy}
-use Rattle.chk_udp_run.proofs.Starting.{begun}
+use Rattle.chk_cmd_udp.specs.declared.tally.Tally.{Tally}
+use Rattle.chk_cmd_udp.specs.Takings.{Further, Gathers}
+use Rattle.chk_cmd_udp.specs.Turns.{Settles, IsTurn, IsTidy}
+use Rattle.chk_cmd_udp.specs.Runs.{AreTurned, Finishes, GoesOn, HasRun}
+use Rattle.chk_cmd_udp.proofs.Keeping.{done_held}
+use Rattle.chk_cmd_udp.proofs.Turning.{turn_same, turn_tidy}
+use Rattle.chk_cmd_udp.proofs.Starting.{begun}
 use Rattle.chk_udp_laws.specs.Marked.{tally, took, joined}
 use Rattle.chk_udp_laws.specs.Histories.{BufferFile, MarkFile, IsApart}
-use Rattle.chk_udp_run.specs.Takings.{Waits}
+use Rattle.chk_cmd_udp.specs.Takings.{Waits}
 use Rattle.chk_udp_laws.specs.Wholes.{gave_by, gave_last, IsTidyAt, FindsTidy, TurnsFindTidy}
 use Rattle.chk_udp_laws.proofs.Naming.{B, M}
 use Rattle.chk_replace.proofs.OldAndNew.{same_name as self_name}

@@ -28,7 +28,7 @@ use Rattle.chk_wahead.specs.Scripts.{Did, IsSpent, PutsIn, Puts, first_calls, ad
 use Rattle.chk_wahead.specs.States.{State, Held, left, longer, all_marked, last_number}
 use Rattle.chk_udp_laws.specs.Marked.{tally, took, joined, added}
 use Rattle.chk_udp_laws.specs.Histories.{OwnFile, NextTemporary, own_name}
-use Rattle.chk_udp_run.specs.Takings.{Waits}
+use Rattle.chk_cmd_udp.specs.Takings.{Waits}
 use Rattle.chk_udp_laws.specs.Wholes.{IsUsedUp}
 use Rattle.chk_udp_laws.proofs.Naming.{B, M, N, C, NT}
 use Rattle.chk_replace.proofs.OldAndNew.{same_name as self_name}

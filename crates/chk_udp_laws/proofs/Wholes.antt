@@ -10,20 +10,20 @@ use Rattle.chk_site.specs.History.{History, Others, is_by}
 use Rattle.chk_site.specs.Runs.{Leads, MadeInTurn, finished, went_on}
 use Rattle.chk_site.specs.Site.{Adds, Asked, asked}
 use Rattle.chk_site.proofs.Leads.{leads_then, leads_as, leads_none, done_leads}
-use Rattle.chk_prints.proofs.Printed.{prints_made}
+use Rattle.chk_cmd_output.proofs.Printed.{prints_made}
 use Rattle.chk_wahead.specs.declared.fault.WaheadFault.{WaheadFault}
 use Rattle.chk_wahead.specs.declared.fault.WaheadFault.TheVariants.{Outside, Damaged, Spent, NoMemory}
 use Rattle.chk_wahead.specs.Faults.{wahead_fault, wahead_result}
 use Rattle.chk_wahead.specs.Names.{writer}
 use Rattle.chk_wahead.specs.States.{State}
-use Rattle.chk_udp_run.specs.declared.tally.Tally.{Tally}
-use Rattle.chk_udp_run.specs.Takings.{TakesOnce, Further, Gathers, came}
-use Rattle.chk_udp_run.specs.Turns.{Settles, IsTurn}
-use Rattle.chk_udp_run.specs.Runs.{AreTurned, Finishes, GoesOn, HasRun}
-use Rattle.chk_udp_run.proofs.Gathering.{gathers_same}
-use Rattle.chk_udp_run.proofs.Keeping.{put_same, done_same, done_held}
-use Rattle.chk_udp_run.proofs.Turning.{turn_same}
-use Rattle.chk_udp_run.proofs.Starting.{begun}
+use Rattle.chk_cmd_udp.specs.declared.tally.Tally.{Tally}
+use Rattle.chk_cmd_udp.specs.Takings.{TakesOnce, Further, Gathers, came}
+use Rattle.chk_cmd_udp.specs.Turns.{Settles, IsTurn}
+use Rattle.chk_cmd_udp.specs.Runs.{AreTurned, Finishes, GoesOn, HasRun}
+use Rattle.chk_cmd_udp.proofs.Gathering.{gathers_same}
+use Rattle.chk_cmd_udp.proofs.Keeping.{put_same, done_same, done_held}
+use Rattle.chk_cmd_udp.proofs.Turning.{turn_same}
+use Rattle.chk_cmd_udp.proofs.Starting.{begun}
 use Rattle.chk_udp_laws.specs.Marked.{tally, took, joined, given_by}
 use Rattle.chk_udp_laws.specs.Histories.{IsApart}
 use Rattle.chk_udp_laws.specs.Uses.{AreRuns}

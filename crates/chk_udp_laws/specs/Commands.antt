@@ -5,7 +5,7 @@ use Rattle.chk_site.specs.History.{History}
 use Rattle.chk_wahead.specs.declared.fault.WaheadFault.{WaheadFault}
 use Rattle.chk_wahead.specs.Names.{writer}
 use Rattle.chk_wahead.specs.States.{State}
-use Rattle.chk_udp_run.specs.Runs.{HasRun}
+use Rattle.chk_cmd_udp.specs.Runs.{HasRun}
 use Rattle.chk_udp_laws.specs.Uses.{IsRun}
 
 -- a run that ends without a buffer where it was done

@@ -14,7 +14,7 @@ use Rattle.chk_wahead.specs.Names.{writer}
 use Rattle.chk_wahead.specs.Scripts.{Did, Puts, commit_of, close_of}
 use Rattle.chk_wahead.specs.States.{State, all_marked}
 use Rattle.chk_wahead.specs.Telling.{Starts}
-use Rattle.chk_udp_run.specs.Takings.{Waits}
+use Rattle.chk_cmd_udp.specs.Takings.{Waits}
 
 -- From these buffers on: datagrams are taken and put, what was put is committed, buffers are
 -- closed, and lines are printed, in

@@ -12,7 +12,7 @@ use Rattle.chk_wahead.specs.declared.fault.WaheadFault.{WaheadFault}
 use Rattle.chk_wahead.specs.declared.fault.WaheadFault.TheVariants.{Damaged, Spent}
 use Rattle.chk_wahead.specs.Names.{writer, next_name, buffer_name, mark_name}
 use Rattle.chk_wahead.specs.States.{last_number}
-use Rattle.chk_udp_run.specs.Runs.{HasRun}
+use Rattle.chk_cmd_udp.specs.Runs.{HasRun}
 use Rattle.chk_udp_laws.specs.Marked.{marked, took, joined}
 use Rattle.chk_udp_laws.specs.Uses.{AreRuns}
 use Rattle.chk_udp_laws.specs.Histories.{IsApart}

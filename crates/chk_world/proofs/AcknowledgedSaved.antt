@@ -7,7 +7,7 @@ use Rattle.chk_site.specs.declared.acts.Who.{Who}
 use Rattle.chk_site.specs.History.{History, Ever, files_after, since_start}
 use Rattle.chk_site.specs.Messages.{Message}
 use Rattle.chk_chunk.specs.Keys.{Chunk}
-use Rattle.chk_message.specs.Messages.{Ack, WrittenPost, WrittenPoll}
+use Rattle.chk_http_grammar.specs.Messages.{Ack, WrittenPost, WrittenPoll}
 use Rattle.chk_world.specs.Agents.{Acknowledged, Sent}
 use Rattle.chk_world.specs.Committed.{committed_length}
 use Rattle.chk_world.specs.Rules.{Legal}

@@ -21,7 +21,7 @@ use Rattle.chk_site.specs.Honest.{AtLogRead, Gives}
 use Rattle.chk_site.specs.Site.{Adds, Asked, asked, own_step, answered, Calls, CallsSome, Ends, IsTaken, Took, piece_given, bytes_given, sized}
 use Rattle.chk_site.specs.Runs.{Leads}
 use Rattle.chk_chunk.specs.Keys.{Stream, Chunk}
-use Rattle.chk_message.specs.Messages.{WrittenPost}
+use Rattle.chk_http_grammar.specs.Messages.{WrittenPost}
 use Rattle.chk_world.specs.Names.{is_source}
 use Rattle.chk_world.specs.Checkpoints.{Line, checkpoint_lines, is_line_of, line_of}
 use Rattle.chk_world.specs.Streams.{start_of, start_at, IsTruePlace}

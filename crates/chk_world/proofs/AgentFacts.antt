@@ -12,7 +12,7 @@ use Rattle.chk_site.specs.Site.{Adds}
 use Rattle.chk_site.specs.Runs.{Side, Leads, MadeInTurn}
 use Rattle.chk_replace.specs.Replace.{replacement}
 use Rattle.chk_chunk.specs.Keys.{Stream, Chunk}
-use Rattle.chk_message.specs.Messages.{Ack}
+use Rattle.chk_http_grammar.specs.Messages.{Ack}
 use Rattle.chk_world.specs.Names.{CheckFile, is_source, spell}
 use Rattle.chk_world.specs.Checkpoints.{Line, read_checkpoint, line_of, is_line_of}
 use Rattle.chk_world.specs.Agents.{Sent, GotFor, Acknowledged, SuffixMoves, has_generation, LineMay, LineIsTrue, MaySendChunk, stream_of}

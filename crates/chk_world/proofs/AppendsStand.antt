@@ -15,7 +15,7 @@ use Rattle.chk_site.specs.History.{Step, History, files_after, is_by}
 use Rattle.chk_seqfile.specs.Entries.{IsSequenceFile, sync_entry, record_entry}
 use Rattle.chk_seqfile.proofs.EntryLemmas.{length-record_entry}
 use Rattle.chk_chunk.specs.Keys.{Chunk, is_chunk, chunk_limit}
-use Rattle.chk_message.specs.Messages.{Ack}
+use Rattle.chk_http_grammar.specs.Messages.{Ack}
 use Rattle.chk_world.specs.Names.{Name, SinkFile, read, spell, file}
 use Rattle.chk_world.specs.Books.{chunks_within}
 use Rattle.chk_world.specs.Committed.{HasFile}

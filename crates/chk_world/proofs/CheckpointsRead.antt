@@ -20,7 +20,7 @@ use Rattle.chk_control.specs.Classes.{class_name, class_named}
 use Rattle.chk_control.specs.Lines.{is_name}
 use Rattle.chk_site.specs.Suffixes.{is_suffix, is_date, is_date_byte}
 use Rattle.chk_chunk.specs.Keys.{start_limit}
-use Rattle.chk_message.proofs.Apart.{no_mark}
+use Rattle.chk_http_grammar.proofs.Apart.{no_mark}
 use Rattle.chk_world.specs.Checkpoints.{Line, Version, One, Two, after_text, version_text, start_words, line_words, line_text, checkpoint_text, is_after_text, is_line, are_apart, fits_version, are_lines, guessed_after, guessed_start, guessed_line, guessed_lines, guessed_version, behind_first, read_checkpoint}
 use Rattle.chk_world.proofs.Ends.{bytes_same}
 use Rattle.chk_bytes.proofs.StemLemmas.{decimal_value as number_back}

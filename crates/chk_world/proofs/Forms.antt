@@ -14,7 +14,7 @@ use Rattle.chk_seqfile.specs.HeaderGrammar.{IsHeader}
 use Rattle.chk_seqfile.specs.Entries.{IsSequenceFile, Placed, records_of, piece_at, placed, record_place}
 use Rattle.chk_seqfile.proofs.HeaderLemmas.{length-marker_of}
 use Rattle.chk_seqfile.proofs.FileLemmas.{IsSequenceFile-header, IsSequenceFile-append, Entries-piece, records_of-written_header, records_of-piece}
-use Rattle.chk_message.specs.Messages.{IsPostOf}
+use Rattle.chk_http_grammar.specs.Messages.{IsPostOf}
 use Rattle.chk_world.specs.Books.{AllChunks, chunks_within, chunk_of, chunk_with, chunk_if}
 use Rattle.chk_world.specs.Collectors.{Current, Handling, IsPosted, IsNextPiece, marker}
 

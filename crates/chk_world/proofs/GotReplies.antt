@@ -10,8 +10,8 @@ use Rattle.chk_site.specs.Acts.{Deed, Answers, Gets, deed, is_done, same_role}
 use Rattle.chk_site.specs.History.{Step, History, since_start}
 use Rattle.chk_site.specs.Messages.{Reply, is_of, is_inside, taken, replies, replies_in}
 use Rattle.chk_site.specs.Honest.{Agrees, GotAnswer, FrontOfSome, WholeOfSure, is_sure}
-use Rattle.chk_message.specs.Messages.{Ack, IsGoodReply}
-use Rattle.chk_message.proofs.HeadLemmas.{HasReplyHead-is}
+use Rattle.chk_http_grammar.specs.Messages.{Ack, IsGoodReply}
+use Rattle.chk_http_grammar.proofs.HeadLemmas.{HasReplyHead-is}
 use Rattle.chk_world.specs.Agents.{GotFor}
 use Rattle.chk_world.specs.Rules.{Legal}
 use Rattle.chk_world.proofs.SentMessages.{since_holds}

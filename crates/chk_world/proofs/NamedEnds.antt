@@ -13,9 +13,9 @@ use Rattle.chk_site.specs.Files.{File}
 use Rattle.chk_site.specs.Acts.{Deed, Appends, Syncs, Takes, TakesMore, Answers, deed}
 use Rattle.chk_site.specs.History.{Step, History, Ever, files_after, is_by}
 use Rattle.chk_chunk.specs.Keys.{Chunk, is_chunk}
-use Rattle.chk_message.specs.Messages.{Ack, acks_text}
-use Rattle.chk_message.proofs.Accepted.{never_both}
-use Rattle.chk_message.proofs.Apart.{acks_text-same}
+use Rattle.chk_http_grammar.specs.Messages.{Ack, acks_text}
+use Rattle.chk_http_grammar.proofs.Accepted.{never_both}
+use Rattle.chk_http_grammar.proofs.Apart.{acks_text-same}
 use Rattle.chk_world.specs.Names.{Name, SinkFile, MarkFile, DoneFile, read, file, owns, owns_by}
 use Rattle.chk_world.specs.Committed.{OnFile, committed_length}
 use Rattle.chk_world.specs.Collectors.{Appended, Handling, TellAll, GoodAnswer, AnswersWell, CollectorRule, size_in, appended_at, no_more_newest, with_bytes, with_answer, with_sync, with_appends, handled_after, view}

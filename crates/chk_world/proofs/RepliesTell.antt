@@ -14,10 +14,10 @@ use Rattle.chk_site.specs.History.{Step, History, Ever, files_after}
 use Rattle.chk_site.specs.Messages.{Message, Taken, Reply, message, taken, is_of, is_inside, replies, replies_in}
 use Rattle.chk_site.specs.Honest.{IsFrontOf}
 use Rattle.chk_chunk.specs.Keys.{Chunk, is_chunk}
-use Rattle.chk_message.specs.Messages.{Ack, is_ack, acks_text, IsReply, IsGoodReply, WrittenPost, WrittenPoll}
-use Rattle.chk_message.proofs.Accepted.{IsReply-append}
-use Rattle.chk_message.proofs.Apart.{acks_text-same}
-use Rattle.chk_message.proofs.Fronts.{front_of_post_chunks, front_of_post_is_no_poll, front_of_poll_is_no_post}
+use Rattle.chk_http_grammar.specs.Messages.{Ack, is_ack, acks_text, IsReply, IsGoodReply, WrittenPost, WrittenPoll}
+use Rattle.chk_http_grammar.proofs.Accepted.{IsReply-append}
+use Rattle.chk_http_grammar.proofs.Apart.{acks_text-same}
+use Rattle.chk_http_grammar.proofs.Fronts.{front_of_post_chunks, front_of_post_is_no_poll, front_of_poll_is_no_post}
 use Rattle.chk_world.specs.Committed.{committed_length}
 use Rattle.chk_world.specs.Collectors.{Appended, Handling, TellAll, SinceTaking, is_taking, CommittedLengths, GoodAnswer, AnswersWell, CollectorRule, handling_of, view}
 use Rattle.chk_world.specs.Agents.{LineFor}

@@ -9,7 +9,7 @@ use Rattle.chk_site.specs.declared.acts.Role.TheVariants.{Agent}
 use Rattle.chk_site.specs.Acts.{Sends, deed}
 use Rattle.chk_site.specs.History.{Step, History}
 use Rattle.chk_chunk.specs.Keys.{Chunk, chunk_begin, chunk_limit, is_chunk, is_key, has_value}
-use Rattle.chk_message.specs.Messages.{WrittenPost}
+use Rattle.chk_http_grammar.specs.Messages.{WrittenPost}
 use Rattle.chk_world.specs.Names.{is_source}
 use Rattle.chk_world.specs.Agents.{MaySendChunk}
 use Rattle.chk_world.specs.Checkpoints.{line_of}

@@ -14,9 +14,9 @@ use Rattle.chk_site.specs.History.{Step, History, files_after, is_by}
 use Rattle.chk_site.specs.Messages.{Message, Taken, message, message_in, taken, taken_in, with_more}
 use Rattle.chk_site.specs.Honest.{Agrees, AtMore, IsFrontOf, TakenPrefix}
 use Rattle.chk_chunk.specs.Keys.{Stream, Chunk}
-use Rattle.chk_message.specs.Messages.{PostRequest, IsPostOf, WrittenPost, WrittenPoll}
-use Rattle.chk_message.proofs.Accepted.{PostRequest-append}
-use Rattle.chk_message.proofs.Fronts.{front_of_post_chunks, front_of_poll_is_no_post}
+use Rattle.chk_http_grammar.specs.Messages.{PostRequest, IsPostOf, WrittenPost, WrittenPoll}
+use Rattle.chk_http_grammar.proofs.Accepted.{PostRequest-append}
+use Rattle.chk_http_grammar.proofs.Fronts.{front_of_post_chunks, front_of_poll_is_no_post}
 use Rattle.chk_world.specs.Names.{is_source, stop_names}
 use Rattle.chk_world.specs.Checkpoints.{Line, line_of}
 use Rattle.chk_world.specs.Streams.{Founding, founding, founded_by, or_else}

@@ -14,7 +14,7 @@ use Rattle.chk_chunk.specs.Keys.{Stream, Chunk, Covers, chunk_end}
 use Rattle.chk_world.specs.Names.{Name, CheckFile, Temporary, read, spell, file}
 use Rattle.chk_world.specs.Checkpoints.{Line, read_checkpoint, checkpoint_lines, line_of, same_log}
 use Rattle.chk_world.specs.Streams.{start_of, parts_of, passed_by, is_stream_cut, IsTrueChunk, IsTruePlace}
-use Rattle.chk_message.specs.Messages.{Ack, IsGoodReply, WrittenPost, WrittenPoll}
+use Rattle.chk_http_grammar.specs.Messages.{Ack, IsGoodReply, WrittenPost, WrittenPoll}
 use Rattle.chk_world.specs.Committed.{OnFile}
 
 -- the process sent these bytes to that address as the message m

@@ -7,7 +7,7 @@ use Rattle.chk_site.specs.declared.acts.Who.{Who}
 use Rattle.chk_site.specs.Suffixes.{is_after}
 use Rattle.chk_site.specs.History.{Step, History, since_start}
 use Rattle.chk_chunk.specs.Keys.{Stream, Chunk, Covers}
-use Rattle.chk_message.specs.Messages.{Ack, IsGoodReply, WrittenPost, WrittenPoll}
+use Rattle.chk_http_grammar.specs.Messages.{Ack, IsGoodReply, WrittenPost, WrittenPoll}
 use Rattle.chk_world.specs.Checkpoints.{Line, is_line_of, same_log}
 use Rattle.chk_world.specs.Agents.{Sent, GotFor, LineFor, AreFor, Acknowledged, last_newest, stream_of}
 use Rattle.chk_world.specs.Standing.{Stands}

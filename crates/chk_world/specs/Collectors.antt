@@ -13,7 +13,7 @@ use Rattle.chk_site.specs.History.{Step, History, files_after, is_by, took_effec
 use Rattle.chk_seqfile.specs.Headers.{header, marker_of}
 use Rattle.chk_seqfile.specs.Entries.{sync_entry, record_entry, piece_at, sync_after}
 use Rattle.chk_chunk.specs.Keys.{Chunk, IsKey}
-use Rattle.chk_message.specs.Messages.{Ack, IsPostOf, PollRequest, IsReply, acks_text}
+use Rattle.chk_http_grammar.specs.Messages.{Ack, IsPostOf, PollRequest, IsReply, acks_text}
 use Rattle.chk_world.specs.Names.{Name, BornFile, SinkFile, MarkFile, DoneFile, Temporary, read, file, stop_names}
 use Rattle.chk_world.specs.Committed.{OnFile, HasFile, IsAbsent, IsNumber, number_in, committed_length}
 

@@ -9,7 +9,7 @@ use Rattle.chk_site.specs.Files.{Files}
 use Rattle.chk_site.specs.Acts.{Deed, Removes, Cuts, Answers, deed}
 use Rattle.chk_site.specs.History.{Step, History, Ever, files_after, is_by}
 use Rattle.chk_chunk.specs.Keys.{Chunk}
-use Rattle.chk_message.specs.Messages.{Ack, IsPostOf, IsGoodReply}
+use Rattle.chk_http_grammar.specs.Messages.{Ack, IsPostOf, IsGoodReply}
 use Rattle.chk_world.specs.Names.{Name, SinkFile, read, file, stop_names}
 use Rattle.chk_world.specs.Committed.{OnFile, committed_length}
 use Rattle.chk_world.specs.Collectors.{Handling, handling_of, view}

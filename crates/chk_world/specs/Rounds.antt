@@ -3,7 +3,7 @@ use Rattle.std.specs.Prelude.{◌≡◌, ℕ, ◌≤◌, IsTrue, List, ◌++◌,
 use Rattle.chk_site.specs.Acts.{Sends, deed}
 use Rattle.chk_site.specs.History.{Step, History, files_after}
 use Rattle.chk_chunk.specs.Keys.{Stream, Chunk, is_of, chunk_end}
-use Rattle.chk_message.specs.Messages.{WrittenPost}
+use Rattle.chk_http_grammar.specs.Messages.{WrittenPost}
 use Rattle.chk_world.specs.Checkpoints.{checkpoint_of}
 use Rattle.chk_world.specs.Streams.{whole_log, whole_end}
 use Rattle.chk_world.specs.Committed.{archive_of_stream}

@@ -18,7 +18,7 @@ use Rattle.chk_site.specs.Honest.{Honest}
 use Rattle.chk_world.specs.Names.{Name, BornFile, SinkFile, MarkFile, DoneFile, CheckFile, BookFile, Temporary, read, file, owns, is_source, is_done_sink, stop_names}
 use Rattle.chk_world.specs.Checkpoints.{Line, checkpoint_lines}
 use Rattle.chk_chunk.specs.Keys.{Chunk}
-use Rattle.chk_message.specs.Messages.{IsPostOf}
+use Rattle.chk_http_grammar.specs.Messages.{IsPostOf}
 use Rattle.chk_world.specs.Committed.{OnFile, IsWhole}
 use Rattle.chk_world.specs.Collectors.{CollectorRule, view}
 use Rattle.chk_world.specs.Agents.{AgentRule}

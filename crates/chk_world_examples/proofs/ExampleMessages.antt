@@ -2,10 +2,10 @@
 use Rattle.std.proofs.Common.{◌≡◌, ℕ, List, [], ◌∷◌, refl, arith, subst, append-nil, ◌<◌, sym}
 use Rattle.std.specs.Prelude.{codes, zero, suc, slice_index_or, Contains}
 use Rattle.chk_chunk.specs.Keys.{Chunk}
-use Rattle.chk_message.specs.Messages.{IsPostOf, PollRequest, IsReply, WrittenPost, WrittenPoll, WrittenReply}
-use Rattle.chk_message.proofs.Written.{written_is_post, written_is_poll, written_is_reply}
-use Rattle.chk_message.proofs.Accepted.{IsReply-same}
-use Rattle.chk_message.proofs.Fronts.{front_of_post_chunks}
+use Rattle.chk_http_grammar.specs.Messages.{IsPostOf, PollRequest, IsReply, WrittenPost, WrittenPoll, WrittenReply}
+use Rattle.chk_http_grammar.proofs.Written.{written_is_post, written_is_poll, written_is_reply}
+use Rattle.chk_http_grammar.proofs.Accepted.{IsReply-same}
+use Rattle.chk_http_grammar.proofs.Fronts.{front_of_post_chunks}
 use Rattle.chk_world_examples.specs.Texts.{request, chunk, stem, body, reply, poll}
 use Rattle.chk_world_examples.proofs.Unfolded.{texts}
 

@@ -8,9 +8,9 @@ use Rattle.chk_site.specs.History.{Step, History, Ever, files_after, since_start
 use Rattle.chk_seqfile.specs.Headers.{marker_of}
 use Rattle.chk_seqfile.proofs.HeaderLemmas.{IsHeader-header, length-marker_of}
 use Rattle.chk_chunk.specs.Keys.{Covers, chunk_end, key_1}
-use Rattle.chk_message.specs.Messages.{WrittenPoll, IsPostOf}
-use Rattle.chk_message.proofs.Written.{written_is_post}
-use Rattle.chk_message.proofs.Fronts.{front_of_poll_is_no_post}
+use Rattle.chk_http_grammar.specs.Messages.{WrittenPoll, IsPostOf}
+use Rattle.chk_http_grammar.proofs.Written.{written_is_post}
+use Rattle.chk_http_grammar.proofs.Fronts.{front_of_poll_is_no_post}
 use Rattle.chk_world.specs.Names.{SinkFile, DoneFile, file}
 use Rattle.chk_world.specs.Streams.{whole_end}
 use Rattle.chk_world.specs.Committed.{committed_length, chunks_below, archived_end}

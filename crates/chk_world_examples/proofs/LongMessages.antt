@@ -1,8 +1,8 @@
 -- The messages of the longer history are what they are read as.
 use Rattle.std.proofs.Common.{◌≡◌, ℕ, [], ◌∷◌, refl, arith}
 use Rattle.std.specs.Prelude.{codes}
-use Rattle.chk_message.specs.Messages.{IsPostOf, IsReply, WrittenPost, WrittenReply}
-use Rattle.chk_message.proofs.Written.{written_is_post, written_is_reply}
+use Rattle.chk_http_grammar.specs.Messages.{IsPostOf, IsReply, WrittenPost, WrittenReply}
+use Rattle.chk_http_grammar.proofs.Written.{written_is_post, written_is_reply}
 use Rattle.chk_world_examples.specs.LongRound.{first_chunk, second_chunk, request_1, request_2, body_1, body_2, reply_1, reply_2}
 use Rattle.chk_world_examples.proofs.Unfolded.{texts}
 

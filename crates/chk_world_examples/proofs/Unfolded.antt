@@ -8,7 +8,7 @@ use Rattle.chk_seqfile.specs.Headers.{marker_of, written_front, class_text, read
 use Rattle.chk_seqfile.specs.Entries.{records_of, entry_at}
 use Rattle.chk_chunk.specs.Keys.{key_1, key_2, written_key, guessed_key, read_key}
 use Rattle.chk_chunk.specs.Posts.{written_part}
-use Rattle.chk_message.specs.Messages.{written_post_request, written_poll_request, written_reply}
+use Rattle.chk_http_grammar.specs.Messages.{written_post_request, written_poll_request, written_reply}
 use Rattle.chk_world.specs.Names.{read, spell}
 use Rattle.chk_world.specs.Checkpoints.{read_checkpoint}
 use Rattle.chk_world.specs.Books.{read_book}

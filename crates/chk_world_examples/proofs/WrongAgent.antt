@@ -8,7 +8,7 @@ use Rattle.chk_site.specs.Logs.{TheBase}
 use Rattle.chk_site.specs.Acts.{Deed, ReadsLog, Renames, Sends, deed}
 use Rattle.chk_site.specs.History.{Step, files_after, since_start}
 use Rattle.chk_chunk.specs.Posts.{written_post}
-use Rattle.chk_message.specs.Messages.{written_post_request, written_poll_request}
+use Rattle.chk_http_grammar.specs.Messages.{written_post_request, written_poll_request}
 use Rattle.chk_world.specs.Checkpoints.{Line, line_of, same_log}
 use Rattle.chk_world.specs.Agents.{LineMovesForward, LineMay, LineIsTrue, stream_of, IsAtOrPast, AgentRule}
 use Rattle.chk_world_examples.specs.Texts.{a1, path, check, check_tmp, text, text_6, line, line_6, stream, hello}

@@ -6,8 +6,8 @@ use Rattle.chk_bytes.specs.Stems.{Stem}
 use Rattle.chk_site.specs.Acts.{Creates, Appends, Renames, Removes, Cuts, Answers}
 use Rattle.chk_site.specs.History.{files_after}
 use Rattle.chk_chunk.specs.Keys.{Chunk, key_1}
-use Rattle.chk_message.specs.Messages.{Ack, acks_text}
-use Rattle.chk_message.proofs.Accepted.{PollRequest-same, never_both}
+use Rattle.chk_http_grammar.specs.Messages.{Ack, acks_text}
+use Rattle.chk_http_grammar.proofs.Accepted.{PollRequest-same, never_both}
 use Rattle.chk_world.specs.Committed.{committed_length}
 use Rattle.chk_world.specs.Collectors.{TellAll, CommittedLengths, AnswersWell, handling_of, CollectorRule, view}
 use Rattle.chk_world_examples.specs.Texts.{c1, born, born_tmp, sink, entry, mark, mark_tmp, done_sink, reply, body, chunk, stem}

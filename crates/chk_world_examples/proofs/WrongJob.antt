@@ -6,7 +6,7 @@ use Rattle.chk_site.specs.declared.acts.Role.TheVariants.{Agent, Collector}
 use Rattle.chk_site.specs.Acts.{GrowsLog, Creates, Appends, Renames, Removes, AsksClock, Sends, Says}
 use Rattle.chk_site.specs.History.{files_after}
 use Rattle.chk_chunk.specs.Keys.{Chunk}
-use Rattle.chk_message.proofs.Accepted.{never_both}
+use Rattle.chk_http_grammar.proofs.Accepted.{never_both}
 use Rattle.chk_world.specs.Books.{Book, One as book_1, book_bytes, values}
 use Rattle.chk_world.specs.ArchiveRuns.{report}
 use Rattle.chk_world.specs.Jobs.{Run, all_segments, chunks_after, JobRule}

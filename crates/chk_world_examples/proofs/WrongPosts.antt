@@ -7,9 +7,9 @@ use Rattle.chk_site.specs.Files.{Nothing}
 use Rattle.chk_site.specs.Acts.{Sends}
 use Rattle.chk_site.specs.History.{Step, History, since_start}
 use Rattle.chk_chunk.specs.Keys.{Chunk}
-use Rattle.chk_message.specs.Messages.{WrittenPost}
-use Rattle.chk_message.proofs.Written.{written_is_post, written_is_poll}
-use Rattle.chk_message.proofs.Accepted.{never_both}
+use Rattle.chk_http_grammar.specs.Messages.{WrittenPost}
+use Rattle.chk_http_grammar.proofs.Written.{written_is_post, written_is_poll}
+use Rattle.chk_http_grammar.proofs.Accepted.{never_both}
 use Rattle.chk_world.specs.Agents.{MaySendChunk, OfCluster, AllOfCluster, AgentRule}
 use Rattle.chk_world_examples.specs.Texts.{a1, chunk, request}
 use Rattle.chk_world_examples.specs.Moments.{g7, g8}

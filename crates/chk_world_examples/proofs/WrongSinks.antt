@@ -8,7 +8,7 @@ use Rattle.std.proofs.lemmas.Option.{same_Some}
 use Rattle.chk_bytes.specs.Stems.{Stem}
 use Rattle.chk_site.specs.declared.acts.ActAnswer.TheVariants.{Done}
 use Rattle.chk_site.specs.Acts.{Creates, Appends, Renames, Answers}
-use Rattle.chk_message.proofs.Accepted.{never_both}
+use Rattle.chk_http_grammar.proofs.Accepted.{never_both}
 use Rattle.chk_world.specs.Collectors.{CollectorRule, view}
 use Rattle.chk_world_examples.proofs.ExampleMessages.{posted, replied_so}
 use Rattle.chk_world_examples.specs.Refusing.{TheRule, ObeysBut, next_by}

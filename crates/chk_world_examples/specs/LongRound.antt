@@ -15,7 +15,7 @@ use Rattle.chk_site.specs.Files.{LogTurned, LogDropped}
 use Rattle.chk_site.specs.History.{History, files_after, logs_after}
 use Rattle.chk_chunk.specs.Keys.{Chunk, no_cluster, key_2}
 use Rattle.chk_chunk.specs.Posts.{written_post}
-use Rattle.chk_message.specs.Messages.{written_post_request, written_reply}
+use Rattle.chk_http_grammar.specs.Messages.{written_post_request, written_reply}
 use Rattle.chk_world.specs.Checkpoints.{Line, Two, checkpoint_text, line_of, checkpoint_of}
 use Rattle.chk_world.specs.Books.{Book, Segment, End, Two as book_2, Three, book_bytes}
 use Rattle.chk_world.specs.ArchiveRuns.{report, Listing}

@@ -10,7 +10,7 @@ use Rattle.chk_site.specs.History.{Step, History, files_after, since_start}
 use Rattle.chk_site.specs.Messages.{message}
 use Rattle.chk_chunk.specs.Keys.{Chunk, chunk_begin, chunk_end}
 use Rattle.chk_chunk.specs.Posts.{written_post}
-use Rattle.chk_message.specs.Messages.{WrittenPost, written_post_request}
+use Rattle.chk_http_grammar.specs.Messages.{WrittenPost, written_post_request}
 use Rattle.chk_world.specs.Checkpoints.{Line, Two, checkpoint_text, line_of}
 use Rattle.chk_world.specs.Streams.{start_of, log_of, is_stream_cut}
 use Rattle.chk_world.specs.Agents.{AllOfCluster, AgentRule}

@@ -9,7 +9,7 @@ use Rattle.chk_seqfile.specs.Headers.{header, marker_of}
 use Rattle.chk_seqfile.specs.Entries.{record_entry}
 use Rattle.chk_chunk.specs.Keys.{Stream, Chunk, no_cluster, key_1}
 use Rattle.chk_chunk.specs.Posts.{written_post}
-use Rattle.chk_message.specs.Messages.{written_post_request, written_poll_request, written_reply}
+use Rattle.chk_http_grammar.specs.Messages.{written_post_request, written_poll_request, written_reply}
 use Rattle.chk_world.specs.Checkpoints.{Line, One, checkpoint_text}
 use Rattle.chk_world.specs.Books.{Book, Segment, End, One as book_1, book_bytes}
 

@@ -1,7 +1,7 @@
 //! Which line of an initial file is no good `add`, as it is told to people.
 
+use chk_cmd_line::read_words;
 use chk_control::{Command, LineFault, read_line};
-use chk_words::read_words;
 use std::alloc::Global;
 use std::fs;
 
@@ -25,8 +25,8 @@ pub(crate) fn tell_refused(rt: HostRuntime, words: &[&str]) {
         return;
     };
     let initial = match &command {
-        chk_words::Command::Agent(words) => words.initial,
-        chk_words::Command::Drain(words) => words.initial,
+        chk_cmd_line::Command::Agent(words) => words.initial,
+        chk_cmd_line::Command::Drain(words) => words.initial,
         _ => None,
     };
     if let Some(name) = initial {

@@ -10,11 +10,11 @@ use Rattle.chk_site.specs.declared.acts.ActAnswer.TheVariants.{Refused, Stopped}
 use Rattle.chk_site.specs.History.{History, is_stopped}
 use Rattle.chk_site.specs.Site.{Asked, asked, answered, plain, Acted, Added, Calls, EndsIn}
 use Rattle.chk_site.specs.Runs.{own_acts}
-use Rattle.chk_load_run.specs.Processes.{chukwa}
+use Rattle.chk_cmd_load.specs.Processes.{chukwa}
 use Rattle.chukwa_run.specs.Endings.{SaysAtMost}
 use Rattle.chukwa_run.specs.Showing.{FailedLast}
 use Rattle.chk_archive.proofs.OnceListed.{theirs_none as no_acts}
-use Rattle.chk_load_run.proofs.Scripts.{one_act}
+use Rattle.chk_cmd_load.proofs.Scripts.{one_act}
 
 -- the act of a call with this answer
 abbrev pub made : Asked → ActAnswer → Act

@@ -4,8 +4,8 @@ use Rattle.std.specs.Prelude.{IfOk}
 use Rattle.chk_bytes.specs.declared.NoMemory.{NoMemory as Wanting}
 use Rattle.chk_world.specs.Names.{CheckFile, spell}
 use Rattle.chk_agent_run.specs.declared.faults.RunFault.TheVariants as runs
-use Rattle.chk_words.specs.declared.endings.Ending.{Ending}
-use Rattle.chk_words.specs.declared.endings.Ending.TheVariants.{Damaged}
+use Rattle.chk_cmd_line.specs.declared.endings.Ending.{Ending}
+use Rattle.chk_cmd_line.specs.declared.endings.Ending.TheVariants.{Damaged}
 use Rattle.chukwa_run.specs.Showing.{IsInitial}
 use Rattle.chukwa_run.specs.Causes.{IsRunEnding, IsDamagedAt}
 

@@ -21,11 +21,11 @@ use Rattle.chk_agent_run.specs.Calls.{Gives}
 use Rattle.chk_agent_run.specs.Faults.{LastOfRun}
 use Rattle.chk_agent_run.specs.Turns.{IsAgentTurn, AreAgentTurns}
 use Rattle.chk_agent_run.specs.Runs.{HasRun, InRun, RunEnds, ended_as}
-use Rattle.chk_words.specs.Commands.{AgentAsked}
-use Rattle.chk_words.specs.declared.endings.Ending.{Ending}
-use Rattle.chk_words.specs.Commands.{Agent}
+use Rattle.chk_cmd_line.specs.Commands.{AgentAsked}
+use Rattle.chk_cmd_line.specs.declared.endings.Ending.{Ending}
+use Rattle.chk_cmd_line.specs.Commands.{Agent}
 use Rattle.chukwa_run.specs.Processes.{the_agent, RunSide}
-use Rattle.chk_load_run.specs.Processes.{chukwa}
+use Rattle.chk_cmd_load.specs.Processes.{chukwa}
 use Rattle.chukwa_run.specs.Whole.{ring_of, rules_of, work_of, AgentScript, Whole}
 use Rattle.chukwa_run.specs.Showing.{AgentCut, AgentFits, Shows}
 use Rattle.chukwa_run.specs.Causes.{IsAgentEnding}

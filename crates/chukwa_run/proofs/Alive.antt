@@ -14,7 +14,7 @@ use Rattle.chk_site.specs.Site.{Adds, Asked, Acted, Calls}
 use Rattle.chk_site.specs.Runs.{HasStarted}
 use Rattle.chk_site.proofs.Runs.{ran}
 use Rattle.chk_world.specs.Works.{Works, rests, unbegun, works, ends, WentOn}
-use Rattle.chukwa_salvage.proofs.Running.{done_goes}
+use Rattle.chk_cmd_salvage.proofs.Running.{done_goes}
 
 -- where a history is told, the site isn't stopped
 abbrev pub Alive : Option History → Type 0

@@ -13,16 +13,16 @@ use Rattle.chk_world.specs.Sight.{job}
 use Rattle.chk_world.specs.Together.{IsByOne}
 use Rattle.chk_world.specs.JobSteps.{IsOf as IsOfKind}
 use Rattle.chk_world.proofs.Beside.{others_foreign, owns_as, by_one}
-use Rattle.chk_heads.specs.declared.fault.JobFault.{JobFault}
-use Rattle.chk_heads.specs.declared.fault.JobFault.TheVariants as Jobs
-use Rattle.chk_heads.specs.Faults.{FailsLast}
+use Rattle.chk_record_index.specs.declared.fault.JobFault.{JobFault}
+use Rattle.chk_record_index.specs.declared.fault.JobFault.TheVariants as Jobs
+use Rattle.chk_record_index.specs.Faults.{FailsLast}
 use Rattle.chk_archive.specs.Archived.{Archived, Begun, ListedOnce, RunDone}
 use Rattle.chk_archive.specs.Reporting.{report_view, report_result}
 use Rattle.chk_archive.specs.Shown.{ShowsArchived}
 use Rattle.chk_archive.specs.declared.report.Report.{Report as Struct}
-use Rattle.chk_archive_run.specs.Telling.{ArchivesAndTells, IsTold, EndsRunning}
-use Rattle.chk_words.specs.declared.endings.Ending.{Ending}
-use Rattle.chk_words.specs.Commands.{Archive}
+use Rattle.chk_cmd_archive.specs.Telling.{ArchivesAndTells, IsTold, EndsRunning}
+use Rattle.chk_cmd_line.specs.declared.endings.Ending.{Ending}
+use Rattle.chk_cmd_line.specs.Commands.{Archive}
 use Rattle.chukwa_run.specs.Processes.{acting_for, RunSide}
 use Rattle.chukwa_run.specs.Whole.{AreArchiveActs, Whole}
 use Rattle.chukwa_run.specs.Showing.{ArchiveFault, ArchiveShown, ArchiveFits, Shows}

@@ -5,10 +5,10 @@ use Rattle.chk_site.specs.History.{History}
 use Rattle.chk_site.specs.Site.{Adds}
 use Rattle.chk_site.specs.Runs.{Leads}
 use Rattle.chk_site.proofs.Runs.{adds_as}
-use Rattle.chk_words.specs.Commands.{Asked}
-use Rattle.chk_words.specs.declared.endings.Ending.{Ending}
-use Rattle.chk_words.specs.declared.endings.Ending.TheVariants.{NoMemory}
-use Rattle.chk_words.specs.Endings.{ending_line}
+use Rattle.chk_cmd_line.specs.Commands.{Asked}
+use Rattle.chk_cmd_line.specs.declared.endings.Ending.{Ending}
+use Rattle.chk_cmd_line.specs.declared.endings.Ending.TheVariants.{NoMemory}
+use Rattle.chk_cmd_line.specs.Endings.{ending_line}
 use Rattle.chukwa_run.specs.Processes.{RunSide}
 use Rattle.chukwa_run.specs.Runs.{Begins, Ends, EndsWith, Caused, CausedBy, SaysUsage}
 use Rattle.chukwa_run.specs.Saying.{SaysOnce, SaysEnding}

@@ -14,19 +14,19 @@ use Rattle.chk_sink.specs.declared.fault.SinkFault.TheVariants as Sinks
 use Rattle.chk_sink.specs.Faults.{FailsLast}
 use Rattle.chk_sink.specs.Starts.{IsLastStart}
 use Rattle.chk_sink.specs.States.{State}
-use Rattle.chk_tees.specs.declared.Subscriber.{Subscriber}
+use Rattle.chk_tee_sender.specs.declared.Subscriber.{Subscriber}
 use Rattle.chk_collector_run.specs.Legality.{Finds, FindsCommitted, TurnCause, opens_turn}
 use Rattle.chk_agent_run.specs.Initial.{LooksAt}
 use Rattle.chk_collector_run.specs.Turns.{AreCollectorTurns, over, turn}
 use Rattle.chk_collector_run.specs.Runs.{CollectorRan, IsCutRun, Collected}
 use Rattle.chk_collector_run.proofs.Counts.{last_then}
 use Rattle.chk_collector_run.proofs.Takings.{finds_then}
-use Rattle.chk_words.specs.Commands.{CollectorAsked}
-use Rattle.chk_words.specs.Commands.{Collector}
-use Rattle.chk_words.specs.declared.endings.Ending.{Ending}
-use Rattle.chk_words.specs.declared.endings.Ending.TheVariants as Endings
+use Rattle.chk_cmd_line.specs.Commands.{CollectorAsked}
+use Rattle.chk_cmd_line.specs.Commands.{Collector}
+use Rattle.chk_cmd_line.specs.declared.endings.Ending.{Ending}
+use Rattle.chk_cmd_line.specs.declared.endings.Ending.TheVariants as Endings
 use Rattle.chukwa_run.specs.Processes.{the_collector, started_by, acting_for, RunSide}
-use Rattle.chk_load_run.specs.Processes.{chukwa}
+use Rattle.chk_cmd_load.specs.Processes.{chukwa}
 use Rattle.chukwa_run.specs.Whole.{CollectorScript, Whole}
 use Rattle.chukwa_run.specs.Showing.{IsCutAt, IsUnread, CollectorCut, CollectorFits, Shows}
 use Rattle.chukwa_run.specs.Teeing.{TeesRead, ReadCause, ReadFailsLast}

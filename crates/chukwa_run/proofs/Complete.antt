@@ -5,14 +5,14 @@ use Rattle.chk_site.specs.History.{History, is_stopped}
 use Rattle.chk_site.specs.Site.{Adds, Rose}
 use Rattle.chk_site.specs.Runs.{Leads}
 use Rattle.chk_site.proofs.Leads.{leads_as}
-use Rattle.chk_words.specs.Datagrams.{UdpAsked}
-use Rattle.chk_words.specs.Subscribing.{SubscribeAsked}
-use Rattle.chk_words.specs.Joining.{JoinAsked}
-use Rattle.chk_words.specs.Commands.{RoundAsked, AgentAsked, CollectorAsked, DrainAsked}
-use Rattle.chk_words.specs.Commands.{Asked, Round, Agent, Collector, Drain, Archive, Demux, Salvage, Load, Udp, Subscribe, Join}
-use Rattle.chk_words.specs.Endings.{ending_status}
-use Rattle.chk_words.specs.declared.endings.Ending.{Ending}
-use Rattle.chk_words.specs.declared.endings.Ending.TheVariants.{Outside, NoMemory, Damaged, Length, Growing, Unclosed, Shrank, Spent, Refused, Differ}
+use Rattle.chk_cmd_line.specs.Datagrams.{UdpAsked}
+use Rattle.chk_cmd_line.specs.Subscribing.{SubscribeAsked}
+use Rattle.chk_cmd_line.specs.Joining.{JoinAsked}
+use Rattle.chk_cmd_line.specs.Commands.{RoundAsked, AgentAsked, CollectorAsked, DrainAsked}
+use Rattle.chk_cmd_line.specs.Commands.{Asked, Round, Agent, Collector, Drain, Archive, Demux, Salvage, Load, Udp, Subscribe, Join}
+use Rattle.chk_cmd_line.specs.Endings.{ending_status}
+use Rattle.chk_cmd_line.specs.declared.endings.Ending.{Ending}
+use Rattle.chk_cmd_line.specs.declared.endings.Ending.TheVariants.{Outside, NoMemory, Damaged, Length, Growing, Unclosed, Shrank, Spent, Refused, Differ}
 use Rattle.chukwa_run.specs.Causes.{EndingCause}
 use Rattle.chukwa_run.specs.Complete.{LeftOver, Completed, whole, wanting, left, Completes}
 use Rattle.chukwa_run.specs.Endings.{Ended, done, ended, stopped}

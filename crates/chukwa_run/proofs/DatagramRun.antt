@@ -19,19 +19,19 @@ use Rattle.chk_wahead.specs.declared.fault.WaheadFault.{WaheadFault}
 use Rattle.chk_wahead.specs.declared.fault.WaheadFault.TheVariants as Waheads
 use Rattle.chk_wahead.specs.Faults.{FailsLast, wahead_result}
 use Rattle.chk_wahead.specs.States.{State}
-use Rattle.chk_prints.specs.Printing.{PrintsInTurn}
-use Rattle.chk_prints.proofs.Printed.{prints_run}
-use Rattle.chk_udp_run.specs.Legality.{IsByEither, GoesOnLegal}
+use Rattle.chk_cmd_output.specs.Printing.{PrintsInTurn}
+use Rattle.chk_cmd_output.proofs.Printed.{prints_run}
+use Rattle.chk_cmd_udp.specs.Legality.{IsByEither, GoesOnLegal}
 use Rattle.chk_udp_laws.proofs.Finding.{turns_find_tidy}
 use Rattle.chk_udp_laws.proofs.Wholes.{runs_leave}
-use Rattle.chk_udp_run.specs.Runs.{HasRun, unstarted, started, GoesOn, finished, unclosed, told as told_line, IsLastNumber}
-use Rattle.chk_words.specs.Commands.{Udp}
-use Rattle.chk_words.specs.Datagrams.{UdpAsked, is_writer_byte, is_writer_name}
-use Rattle.chk_words.specs.declared.endings.Ending.{Ending}
+use Rattle.chk_cmd_udp.specs.Runs.{HasRun, unstarted, started, GoesOn, finished, unclosed, told as told_line, IsLastNumber}
+use Rattle.chk_cmd_line.specs.Commands.{Udp}
+use Rattle.chk_cmd_line.specs.Datagrams.{UdpAsked, is_writer_byte, is_writer_name}
+use Rattle.chk_cmd_line.specs.declared.endings.Ending.{Ending}
 use Rattle.chukwa_run.specs.declared.datagrams.DatagramSetting.{DatagramSetting}
 use Rattle.chukwa_run.specs.Datagrams.{IsSetFor, UdpScript, UdpRan, UdpCut, door_of, wahead_ending}
 use Rattle.chukwa_run.specs.Processes.{the_writer, acting_for, RunSide}
-use Rattle.chk_load_run.specs.Processes.{chukwa}
+use Rattle.chk_cmd_load.specs.Processes.{chukwa}
 use Rattle.chukwa_run.specs.Runs.{Begins, EndsWith, CameTo, CausedBy}
 use Rattle.chukwa_run.specs.Showing.{Shows}
 use Rattle.chukwa_run.specs.Statuses.{HasItsStatus}

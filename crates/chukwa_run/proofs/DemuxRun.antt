@@ -14,16 +14,16 @@ use Rattle.chk_world.specs.Streams.{start_of}
 use Rattle.chk_world.specs.Committed.{archive_of_stream}
 use Rattle.chk_world.specs.Splits.{split_lines, split_stamped}
 use Rattle.chk_world.proofs.Beside.{others_foreign, owns_as, by_one}
-use Rattle.chk_heads.specs.declared.fault.JobFault.{JobFault}
-use Rattle.chk_heads.specs.declared.fault.JobFault.TheVariants as Jobs
-use Rattle.chk_heads.specs.Causes.{Shows as ShowsCause}
-use Rattle.chk_heads.specs.Faults.{FailsLast}
+use Rattle.chk_record_index.specs.declared.fault.JobFault.{JobFault}
+use Rattle.chk_record_index.specs.declared.fault.JobFault.TheVariants as Jobs
+use Rattle.chk_record_index.specs.Causes.{Shows as ShowsCause}
+use Rattle.chk_record_index.specs.Faults.{FailsLast}
 use Rattle.chk_demux.specs.Demuxed.{Earlier, earlier_in, NamesStamped, Begun, Demuxed, DemuxDone, LacksNumber}
 use Rattle.chk_demux.specs.Shown.{IsDamage, ShowsSpent}
 use Rattle.chk_demux.specs.declared.report.DemuxReport.{DemuxReport}
-use Rattle.chk_demux_run.specs.Telling.{DemuxesAndTells, IsTold, EndsRunning}
-use Rattle.chk_words.specs.declared.endings.Ending.{Ending}
-use Rattle.chk_words.specs.Commands.{Asked, Demux}
+use Rattle.chk_cmd_demux.specs.Telling.{DemuxesAndTells, IsTold, EndsRunning}
+use Rattle.chk_cmd_line.specs.declared.endings.Ending.{Ending}
+use Rattle.chk_cmd_line.specs.Commands.{Asked, Demux}
 use Rattle.chukwa_run.specs.Demuxing.{AreDemuxActs, DemuxFits}
 use Rattle.chukwa_run.specs.Processes.{acting_for, RunSide}
 use Rattle.chukwa_run.specs.Whole.{Whole}

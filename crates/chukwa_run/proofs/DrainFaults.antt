@@ -10,12 +10,12 @@ use Rattle.chk_agent.specs.declared.agent.Rules.{Rules}
 use Rattle.chk_agent.specs.States.{State}
 use Rattle.chk_agent_run.specs.declared.faults.RunFault.{RunFault}
 use Rattle.chk_agent_run.specs.declared.faults.RunFault.TheVariants as runs
-use Rattle.chk_drain_run.specs.declared.faults.DrainFault.{DrainFault}
-use Rattle.chk_drain_run.specs.declared.faults.DrainFault.TheVariants.{Run}
-use Rattle.chk_drain_run.specs.declared.run.Work.{Work}
-use Rattle.chk_drain_run.specs.Begins.{Begins}
-use Rattle.chk_drain_run.specs.Drains.{Finishes, HasDrained, told_as}
-use Rattle.chk_drain_run.proofs.Finished.{undone_so}
+use Rattle.chk_cmd_drain.specs.declared.faults.DrainFault.{DrainFault}
+use Rattle.chk_cmd_drain.specs.declared.faults.DrainFault.TheVariants.{Run}
+use Rattle.chk_cmd_drain.specs.declared.run.Work.{Work}
+use Rattle.chk_cmd_drain.specs.Begins.{Begins}
+use Rattle.chk_cmd_drain.specs.Drains.{Finishes, HasDrained, told_as}
+use Rattle.chk_cmd_drain.proofs.Finished.{undone_so}
 use Rattle.chukwa_run.proofs.AgentFaults.{is_bad, bad_in, text_in, outside_isnt, agent_isnt, no_text, blank_lines}
 
 -- whether it names a line of the initial file

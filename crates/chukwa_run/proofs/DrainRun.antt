@@ -15,15 +15,15 @@ use Rattle.chk_agent.specs.States.{State}
 use Rattle.chk_agent_run.specs.declared.faults.RunFault.{RunFault}
 use Rattle.chk_agent_run.specs.declared.faults.RunFault.TheVariants as runs
 use Rattle.chk_agent_run.specs.Runs.{InRun}
-use Rattle.chk_drain_run.specs.declared.faults.DrainFault.{DrainFault}
-use Rattle.chk_drain_run.specs.declared.faults.DrainFault.TheVariants as drains
-use Rattle.chk_drain_run.specs.Begins.{Begins}
-use Rattle.chk_drain_run.specs.Done.{DoneSo}
-use Rattle.chk_drain_run.specs.Drains.{Finishes, HasDrained, DrainEnds, LastOfDrain, told_as}
-use Rattle.chk_drain_run.specs.Streams.{told_line}
-use Rattle.chk_words.specs.Commands.{DrainAsked}
-use Rattle.chk_words.specs.declared.endings.Ending.{Ending}
-use Rattle.chk_words.specs.Commands.{Drain}
+use Rattle.chk_cmd_drain.specs.declared.faults.DrainFault.{DrainFault}
+use Rattle.chk_cmd_drain.specs.declared.faults.DrainFault.TheVariants as drains
+use Rattle.chk_cmd_drain.specs.Begins.{Begins}
+use Rattle.chk_cmd_drain.specs.Done.{DoneSo}
+use Rattle.chk_cmd_drain.specs.Drains.{Finishes, HasDrained, DrainEnds, LastOfDrain, told_as}
+use Rattle.chk_cmd_drain.specs.Streams.{told_line}
+use Rattle.chk_cmd_line.specs.Commands.{DrainAsked}
+use Rattle.chk_cmd_line.specs.declared.endings.Ending.{Ending}
+use Rattle.chk_cmd_line.specs.Commands.{Drain}
 use Rattle.chukwa_run.specs.Processes.{RunSide, started_by}
 use Rattle.chukwa_run.specs.Draining.{setting_of, HasDrainedIn, DrainScript}
 use Rattle.chukwa_run.specs.declared.draining.Setting.{Setting}

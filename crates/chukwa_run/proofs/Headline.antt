@@ -11,10 +11,10 @@ use Rattle.chk_world.specs.Rules.{Legal}
 use Rattle.chk_world.proofs.AcknowledgedSaved.{law_covered}
 use Rattle.chk_world.proofs.Fronts.{law_prefix}
 use Rattle.chk_world.proofs.Reports.{reports_are_true}
-use Rattle.chk_words.specs.Commands.{Asked, RoundAsked, Round, Agent, Collector, Drain, Archive, Demux, Salvage, Load, Udp, Subscribe, Join}
-use Rattle.chk_words.specs.Endings.{ending_status}
-use Rattle.chk_words.specs.declared.endings.Ending.{Ending}
-use Rattle.chk_words.specs.declared.endings.Ending.TheVariants.{Outside, NoMemory, Damaged, Length, Growing, Unclosed, Shrank, Spent, Refused, Differ}
+use Rattle.chk_cmd_line.specs.Commands.{Asked, RoundAsked, Round, Agent, Collector, Drain, Archive, Demux, Salvage, Load, Udp, Subscribe, Join}
+use Rattle.chk_cmd_line.specs.Endings.{ending_status}
+use Rattle.chk_cmd_line.specs.declared.endings.Ending.{Ending}
+use Rattle.chk_cmd_line.specs.declared.endings.Ending.TheVariants.{Outside, NoMemory, Damaged, Length, Growing, Unclosed, Shrank, Spent, Refused, Differ}
 use Rattle.chukwa_run.specs.Endings.{Ended, done, ended, stopped}
 use Rattle.chukwa_run.specs.Headline.{ArchivesAreFronts, Headline, IfRoundDone, ReportsCover, RoundIsWhole}
 use Rattle.chukwa_run.specs.Processes.{RunSide}

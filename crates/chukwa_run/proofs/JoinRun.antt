@@ -11,15 +11,15 @@ use Rattle.chk_world.specs.Sight.{job}
 use Rattle.chk_world.specs.Together.{IsByOne}
 use Rattle.chk_world.specs.JobSteps.{IsOf as IsOfKind}
 use Rattle.chk_world.proofs.Beside.{others_foreign, owns_as, by_one}
-use Rattle.chk_heads.specs.declared.fault.JobFault.TheVariants as Jobs
+use Rattle.chk_record_index.specs.declared.fault.JobFault.TheVariants as Jobs
 use Rattle.chk_join.specs.Faults.{JoinCause, JoinFailsLast}
 use Rattle.chk_join.specs.declared.report.JoinReport.{JoinReport}
 use Rattle.chk_join.specs.declared.fault.JoinFault.{JoinFault}
 use Rattle.chk_join.specs.declared.fault.JoinFault.TheVariants as Joins
-use Rattle.chk_join_run.specs.Telling.{JoinsAndTells, IsTold, EndsRunning, ShowsJoin}
-use Rattle.chk_words.specs.Commands.{Asked, Join}
-use Rattle.chk_words.specs.Joining.{JoinAsked}
-use Rattle.chk_words.specs.declared.endings.Ending.{Ending}
+use Rattle.chk_cmd_join.specs.Telling.{JoinsAndTells, IsTold, EndsRunning, ShowsJoin}
+use Rattle.chk_cmd_line.specs.Commands.{Asked, Join}
+use Rattle.chk_cmd_line.specs.Joining.{JoinAsked}
+use Rattle.chk_cmd_line.specs.declared.endings.Ending.{Ending}
 use Rattle.chukwa_run.specs.Causes.{EndingCause}
 use Rattle.chukwa_run.specs.Joining.{join_ending, IsJoinEnding, AreJoinActs, JoinFailed, JoinWhole, JoinCut}
 use Rattle.chukwa_run.specs.Processes.{acting_for, RunSide}

@@ -5,10 +5,10 @@ use Rattle.chk_site.specs.Site.{Adds}
 use Rattle.chk_site.specs.Runs.{Leads, own_acts}
 use Rattle.chk_site.proofs.Runs.{adds_then, adds_as, adds_both, adds_none}
 use Rattle.chk_site.proofs.Leads.{leads_then, leads_as}
-use Rattle.chk_words.specs.Commands.{Asked}
-use Rattle.chk_words.specs.declared.endings.Ending.{Ending}
+use Rattle.chk_cmd_line.specs.Commands.{Asked}
+use Rattle.chk_cmd_line.specs.declared.endings.Ending.{Ending}
 use Rattle.chukwa_run.specs.Processes.{RunSide}
-use Rattle.chk_words.specs.Endings.{ending_status, ending_line}
+use Rattle.chk_cmd_line.specs.Endings.{ending_status, ending_line}
 use Rattle.chukwa_run.specs.Endings.{SaysAtMost, Ended, done, ended, stopped}
 use Rattle.chukwa_run.specs.Showing.{Shows, IsOf}
 use Rattle.chukwa_run.specs.Whole.{Whole, Did}

@@ -12,15 +12,15 @@ use Rattle.chk_round.specs.declared.faults.RoundFault.{RoundFault}
 use Rattle.chk_round.specs.declared.faults.RoundFault.TheVariants as rounds
 use Rattle.chk_round.specs.Processes.{processes}
 use Rattle.chk_round.specs.Rounded.{AfterRound}
-use Rattle.chk_load_run.specs.declared.ends.LoadEnd.{LoadEnd}
-use Rattle.chk_load_run.specs.declared.ends.LoadEnd.TheVariants as loads
-use Rattle.chk_load_run.specs.declared.ends.LoadReport.{LoadReport}
-use Rattle.chk_load_run.specs.Loads.{AfterLoad, AppendedSo, EndsRunning, LoadDone, LoadFailsLast, LoadTo, LoadsBy, PrintedSo, RoundEndsSo}
-use Rattle.chk_load_run.specs.Processes.{IsLoadRun}
-use Rattle.chk_words.specs.declared.endings.Ending.{Ending}
-use Rattle.chk_words.specs.Commands.{Load}
+use Rattle.chk_cmd_load.specs.declared.ends.LoadEnd.{LoadEnd}
+use Rattle.chk_cmd_load.specs.declared.ends.LoadEnd.TheVariants as loads
+use Rattle.chk_cmd_load.specs.declared.ends.LoadReport.{LoadReport}
+use Rattle.chk_cmd_load.specs.Loads.{AfterLoad, AppendedSo, EndsRunning, LoadDone, LoadFailsLast, LoadTo, LoadsBy, PrintedSo, RoundEndsSo}
+use Rattle.chk_cmd_load.specs.Processes.{IsLoadRun}
+use Rattle.chk_cmd_line.specs.declared.endings.Ending.{Ending}
+use Rattle.chk_cmd_line.specs.Commands.{Load}
 use Rattle.chukwa_run.specs.Processes.{RunSide, acting_for, started_by}
-use Rattle.chk_load_run.specs.Processes.{chukwa}
+use Rattle.chk_cmd_load.specs.Processes.{chukwa}
 use Rattle.chukwa_run.specs.Whole.{Whole}
 use Rattle.chukwa_run.specs.Showing.{Shows}
 use Rattle.chukwa_run.specs.Loading.{IsLoadEnding, IsRoundEnding, IsRoundOfLoad, LoadCut, LoadFault, LoadFits, LoadedOnce}

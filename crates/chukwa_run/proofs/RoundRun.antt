@@ -13,15 +13,15 @@ use Rattle.chk_round.specs.declared.faults.RoundFault.{RoundFault}
 use Rattle.chk_round.specs.declared.faults.RoundFault.TheVariants as rounds
 use Rattle.chk_round.specs.declared.words.RoundWords.{RoundWords}
 use Rattle.chk_round.specs.Processes.{IsRunOf, processes}
-use Rattle.chk_round_run.specs.declared.ends.RoundEnd.{RoundEnd}
-use Rattle.chk_round_run.specs.declared.ends.RoundEnd.TheVariants.{Fault, Unclosed as FoundUnclosed}
-use Rattle.chk_round_run.specs.Running.{AfterRun, EndsByCall, RunCause, RunsRound, RunsTo}
-use Rattle.chk_words.specs.Commands.{RoundAsked}
-use Rattle.chk_words.specs.declared.endings.Ending.{Ending}
+use Rattle.chk_cmd_round.specs.declared.ends.RoundEnd.{RoundEnd}
+use Rattle.chk_cmd_round.specs.declared.ends.RoundEnd.TheVariants.{Fault, Unclosed as FoundUnclosed}
+use Rattle.chk_cmd_round.specs.Running.{AfterRun, EndsByCall, RunCause, RunsRound, RunsTo}
+use Rattle.chk_cmd_line.specs.Commands.{RoundAsked}
+use Rattle.chk_cmd_line.specs.declared.endings.Ending.{Ending}
 use Rattle.chukwa_run.specs.Causes.{EndingCause}
-use Rattle.chk_words.specs.Commands.{Round}
+use Rattle.chk_cmd_line.specs.Commands.{Round}
 use Rattle.chukwa_run.specs.Processes.{RunSide, acting_for, started_by}
-use Rattle.chk_load_run.specs.Processes.{chukwa}
+use Rattle.chk_cmd_load.specs.Processes.{chukwa}
 use Rattle.chukwa_run.specs.RoundRuns.{AreWordsOf, IsFaultEnding, IsRoundEnding, RoundCut, RoundFits, RoundScript}
 use Rattle.chukwa_run.specs.Runs.{Begins, CameTo, CausedBy, EndsWith}
 use Rattle.chukwa_run.specs.Showing.{Shows}

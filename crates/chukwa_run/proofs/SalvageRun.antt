@@ -8,13 +8,13 @@ use Rattle.chk_site.specs.Runs.{Leads, Owns, own_acts}
 use Rattle.chk_site.proofs.Runs.{adds_as, adds_both}
 use Rattle.chk_world.specs.Rules.{Legal, Obeys}
 use Rattle.chk_world.specs.Together.{Outside as OfOthers, IsByOne}
-use Rattle.chukwa_salvage.specs.declared.fault.SalvageFault.{SalvageFault}
-use Rattle.chukwa_salvage.specs.declared.fault.SalvageFault.TheVariants as Salvaging
-use Rattle.chukwa_salvage.specs.Printing.{PrintsFile, LooksOrPrints, FailsLast, EndsRunning}
-use Rattle.chk_words.specs.Commands.{Salvage}
-use Rattle.chk_words.specs.declared.endings.Ending.{Ending}
+use Rattle.chk_cmd_salvage.specs.declared.fault.SalvageFault.{SalvageFault}
+use Rattle.chk_cmd_salvage.specs.declared.fault.SalvageFault.TheVariants as Salvaging
+use Rattle.chk_cmd_salvage.specs.Printing.{PrintsFile, LooksOrPrints, FailsLast, EndsRunning}
+use Rattle.chk_cmd_line.specs.Commands.{Salvage}
+use Rattle.chk_cmd_line.specs.declared.endings.Ending.{Ending}
 use Rattle.chukwa_run.specs.Processes.{acting_for, RunSide}
-use Rattle.chk_load_run.specs.Processes.{chukwa}
+use Rattle.chk_cmd_load.specs.Processes.{chukwa}
 use Rattle.chukwa_run.specs.Whole.{ReadsOrPrints, AreSalvageActs, Whole}
 use Rattle.chukwa_run.specs.Showing.{SalvageCut, Shows}
 use Rattle.chukwa_run.specs.Causes.{IsEndingOf}

@@ -7,35 +7,35 @@ use Rattle.std.proofs.lemmas.List.Folds.{Any-from_list_any}
 use Rattle.std.proofs.lemmas.Bool.{eqb-true}
 use Rattle.chk_agent_run.specs.declared.faults.RunFault.{RunFault}
 use Rattle.chk_agent_run.specs.declared.faults.RunFault.TheVariants as runs
-use Rattle.chk_drain_run.specs.declared.faults.DrainFault.{DrainFault}
-use Rattle.chk_drain_run.specs.declared.faults.DrainFault.TheVariants as drains
-use Rattle.chk_heads.specs.declared.fault.JobFault.{JobFault}
-use Rattle.chk_heads.specs.declared.fault.JobFault.TheVariants as jobs
+use Rattle.chk_cmd_drain.specs.declared.faults.DrainFault.{DrainFault}
+use Rattle.chk_cmd_drain.specs.declared.faults.DrainFault.TheVariants as drains
+use Rattle.chk_record_index.specs.declared.fault.JobFault.{JobFault}
+use Rattle.chk_record_index.specs.declared.fault.JobFault.TheVariants as jobs
 use Rattle.chk_sink.specs.declared.fault.SinkFault.{SinkFault}
 use Rattle.chk_sink.specs.declared.fault.SinkFault.TheVariants as sinks
 use Rattle.chk_join.specs.declared.fault.JoinFault.{JoinFault}
 use Rattle.chk_join.specs.declared.fault.JoinFault.TheVariants as joins
-use Rattle.chk_load_run.specs.declared.ends.LoadEnd.{LoadEnd}
-use Rattle.chk_load_run.specs.declared.ends.LoadEnd.TheVariants as loads
+use Rattle.chk_cmd_load.specs.declared.ends.LoadEnd.{LoadEnd}
+use Rattle.chk_cmd_load.specs.declared.ends.LoadEnd.TheVariants as loads
 use Rattle.chk_round.specs.declared.faults.RoundFault.{RoundFault}
 use Rattle.chk_round.specs.declared.faults.RoundFault.TheVariants as rounds
-use Rattle.chk_round_run.specs.declared.ends.RoundEnd.{RoundEnd}
-use Rattle.chk_round_run.specs.declared.ends.RoundEnd.TheVariants.{Fault, Unclosed as FoundUnclosed}
+use Rattle.chk_cmd_round.specs.declared.ends.RoundEnd.{RoundEnd}
+use Rattle.chk_cmd_round.specs.declared.ends.RoundEnd.TheVariants.{Fault, Unclosed as FoundUnclosed}
 use Rattle.chk_site.specs.History.{History}
-use Rattle.chk_words.specs.Joining.{JoinAsked}
+use Rattle.chk_cmd_line.specs.Joining.{JoinAsked}
 use Rattle.chukwa_run.specs.Joining.{join_ending}
 use Rattle.chukwa_run.specs.Loading.{IsLoadEnding, IsRoundEnding}
 use Rattle.chukwa_run.specs.RoundRuns.{IsFaultEnding, IsRoundEnding as IsEndingOfRound}
-use Rattle.chk_words.specs.Commands.{Asked, RoundAsked, AgentAsked, CollectorAsked, DrainAsked, Round, Agent, Collector, Drain, Archive, Demux, Salvage, Load, Udp, Subscribe, Join}
-use Rattle.chk_words.specs.Endings.{ending_status}
-use Rattle.chk_words.specs.declared.endings.Ending.{Ending}
-use Rattle.chk_words.specs.declared.endings.Ending.TheVariants.{NoMemory}
+use Rattle.chk_cmd_line.specs.Commands.{Asked, RoundAsked, AgentAsked, CollectorAsked, DrainAsked, Round, Agent, Collector, Drain, Archive, Demux, Salvage, Load, Udp, Subscribe, Join}
+use Rattle.chk_cmd_line.specs.Endings.{ending_status}
+use Rattle.chk_cmd_line.specs.declared.endings.Ending.{Ending}
+use Rattle.chk_cmd_line.specs.declared.endings.Ending.TheVariants.{NoMemory}
 use Rattle.chukwa_run.specs.Causes.{IsAgentEnding, IsDrainEnding, IsEndingOf, sink_ending}
 use Rattle.chukwa_run.specs.JobFaults.{job_ending}
 use Rattle.chukwa_run.specs.Saying.{SaysEnding}
 use Rattle.chukwa_run.specs.Statuses.{HasItsStatus, statuses_of}
-use Rattle.chukwa_salvage.specs.declared.fault.SalvageFault.{SalvageFault}
-use Rattle.chukwa_salvage.specs.declared.fault.SalvageFault.TheVariants as salvages
+use Rattle.chk_cmd_salvage.specs.declared.fault.SalvageFault.{SalvageFault}
+use Rattle.chk_cmd_salvage.specs.declared.fault.SalvageFault.TheVariants as salvages
 
 -- ---- by command
 

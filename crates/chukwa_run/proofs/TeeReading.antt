@@ -7,10 +7,10 @@ use Rattle.chk_site.specs.Site.{Adds}
 use Rattle.chk_site.proofs.Runs.{adds_as}
 use Rattle.chk_replace.specs.Load.{ReadInTurn, IsLook}
 use Rattle.chk_agent_run.specs.Initial.{LooksAt}
-use Rattle.chk_tees.specs.declared.Subscriber.{Subscriber}
-use Rattle.chk_words.specs.declared.endings.Ending.{Ending}
-use Rattle.chk_words.specs.declared.endings.Ending.TheVariants.{Outside, NoMemory, Damaged, Length, Growing, Unclosed, Shrank, Spent, Refused, Differ}
-use Rattle.chk_load_run.specs.Processes.{chukwa}
+use Rattle.chk_tee_sender.specs.declared.Subscriber.{Subscriber}
+use Rattle.chk_cmd_line.specs.declared.endings.Ending.{Ending}
+use Rattle.chk_cmd_line.specs.declared.endings.Ending.TheVariants.{Outside, NoMemory, Damaged, Length, Growing, Unclosed, Shrank, Spent, Refused, Differ}
+use Rattle.chk_cmd_load.specs.Processes.{chukwa}
 use Rattle.chukwa_run.specs.Teeing.{TeesRead, named, damaged, wanting, text_in, IsNamedIn, ReadFailsLast, ReadCause}
 
 -- the file was read to its end, and its text names these

@@ -5,12 +5,12 @@ use Rattle.chk_site.specs.Site.{Adds}
 use Rattle.chk_site.specs.Runs.{Leads}
 use Rattle.chk_site.proofs.Runs.{adds_none}
 use Rattle.chk_site.proofs.Leads.{leads_none}
-use Rattle.chk_words.specs.Commands.{Asked, Round, Agent, Collector, Drain, Archive, Demux, Salvage, Load, Udp, Subscribe, Join}
-use Rattle.chk_words.specs.declared.endings.Ending.TheVariants.{NoMemory}
+use Rattle.chk_cmd_line.specs.Commands.{Asked, Round, Agent, Collector, Drain, Archive, Demux, Salvage, Load, Udp, Subscribe, Join}
+use Rattle.chk_cmd_line.specs.declared.endings.Ending.TheVariants.{NoMemory}
 use Rattle.chk_site.specs.declared.acts.OutsideFault.TheVariants.{NoMemory as no_memory}
-use Rattle.chk_subscribe.specs.Told.{PrintsOnce, all_lines}
+use Rattle.chk_cmd_subscribe.specs.Told.{PrintsOnce, all_lines}
 use Rattle.chk_join.specs.declared.fault.JoinFault.TheVariants.{NoMemory as joins_no_memory}
-use Rattle.chk_words.specs.Joining.{JoinAsked}
+use Rattle.chk_cmd_line.specs.Joining.{JoinAsked}
 use Rattle.chukwa_run.specs.Joining.{JoinCut}
 use Rattle.chukwa_run.specs.Processes.{the_watcher, RunSide}
 use Rattle.chukwa_run.specs.Showing.{Shows, IsOf}

@@ -11,14 +11,14 @@ use Rattle.chk_site.proofs.Runs.{adds_both}
 use Rattle.chk_world.specs.Rules.{Obeys}
 use Rattle.chk_world.specs.Together.{Outside as OfOthers, IsByOne}
 use Rattle.chk_world.proofs.Beside.{owns_as}
-use Rattle.chk_prints.specs.Printing.{PrintsInTurn}
-use Rattle.chk_prints.proofs.Printed.{prints_run}
-use Rattle.chk_subscribe.specs.Legality.{IsWatchers, StaysLegal}
-use Rattle.chk_subscribe.specs.Runs.{HasSubscribed}
-use Rattle.chk_subscribe.specs.Told.{PrintsOnce}
-use Rattle.chk_words.specs.Commands.{Subscribe}
-use Rattle.chk_words.specs.Subscribing.{SubscribeAsked}
-use Rattle.chk_words.specs.declared.endings.Ending.{Ending}
+use Rattle.chk_cmd_output.specs.Printing.{PrintsInTurn}
+use Rattle.chk_cmd_output.proofs.Printed.{prints_run}
+use Rattle.chk_cmd_subscribe.specs.Legality.{IsWatchers, StaysLegal}
+use Rattle.chk_cmd_subscribe.specs.Runs.{HasSubscribed}
+use Rattle.chk_cmd_subscribe.specs.Told.{PrintsOnce}
+use Rattle.chk_cmd_line.specs.Commands.{Subscribe}
+use Rattle.chk_cmd_line.specs.Subscribing.{SubscribeAsked}
+use Rattle.chk_cmd_line.specs.declared.endings.Ending.{Ending}
 use Rattle.chukwa_run.specs.declared.subscribing.WatchSetting.{WatchSetting}
 use Rattle.chukwa_run.specs.Subscribing.{IsSetToWatch, WatchScript, SubscribeCut, watch_ending}
 use Rattle.chukwa_run.specs.Processes.{the_watcher, acting_for, RunSide}

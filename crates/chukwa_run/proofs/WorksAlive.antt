@@ -16,8 +16,8 @@ use Rattle.chk_agent.specs.Commands.{IsCommand}
 use Rattle.chk_agent_run.specs.declared.faults.RunFault.{RunFault}
 use Rattle.chk_agent_run.specs.Calls.{Clocked, Gives}
 use Rattle.chk_agent_run.specs.Initial.{IsLineAdded, AreAdded}
-use Rattle.chk_prints.specs.Printing.{PrintsInTurn}
-use Rattle.chk_prints.proofs.Printed.{prints_made}
+use Rattle.chk_cmd_output.specs.Printing.{PrintsInTurn}
+use Rattle.chk_cmd_output.proofs.Printed.{prints_made}
 use Rattle.chk_world.specs.Works.{WentOn}
 use Rattle.chukwa_run.proofs.Alive.{Alive, call_alive}
 

@@ -15,9 +15,9 @@ use Rattle.chk_site.specs.Site.{Adds, asked, own_step, plain}
 use Rattle.chk_site.specs.Runs.{Leads}
 use Rattle.chk_site.proofs.Leads.{any_leads, leads_none}
 use Rattle.chk_world.specs.Rules.{Legal, Obeys, StartsAfterStop, Framed, OnlyWritersGrowLogs, OnlyAgentsPost, WriterRule, RoleMay, is_named_so}
-use Rattle.chk_words.specs.Commands.{Asked}
+use Rattle.chk_cmd_line.specs.Commands.{Asked}
 use Rattle.chukwa_run.specs.Processes.{acting_first, acting_for, RunSide}
-use Rattle.chk_load_run.specs.Processes.{chukwa}
+use Rattle.chk_cmd_load.specs.Processes.{chukwa}
 use Rattle.chukwa_run.specs.Saying.{SaysOnce, unsaid, said}
 
 -- a call that a writer may always make

@@ -3,18 +3,18 @@ use Rattle.std.specs.Prelude.{◌≡◌, ◌⊎◌, ℕ, List, Option, Result, O
 use Rattle.chk_bytes.specs.declared.NoMemory.{NoMemory as Wanting}
 use Rattle.chk_site.specs.Site.{Rose}
 use Rattle.chk_world.specs.Names.{CheckFile, spell}
-use Rattle.chk_words.specs.Commands.{AgentAsked, DrainAsked}
+use Rattle.chk_cmd_line.specs.Commands.{AgentAsked, DrainAsked}
 use Rattle.chk_agent_run.specs.declared.faults.RunFault.{RunFault}
 use Rattle.chk_agent_run.specs.declared.faults.RunFault.TheVariants as runs
-use Rattle.chk_drain_run.specs.declared.faults.DrainFault.{DrainFault}
-use Rattle.chk_drain_run.specs.declared.faults.DrainFault.TheVariants as drains
+use Rattle.chk_cmd_drain.specs.declared.faults.DrainFault.{DrainFault}
+use Rattle.chk_cmd_drain.specs.declared.faults.DrainFault.TheVariants as drains
 use Rattle.chukwa_run.specs.Showing.{IsInitial}
-use Rattle.chukwa_salvage.specs.declared.fault.SalvageFault.{SalvageFault}
-use Rattle.chukwa_salvage.specs.declared.fault.SalvageFault.TheVariants as Salvage
+use Rattle.chk_cmd_salvage.specs.declared.fault.SalvageFault.{SalvageFault}
+use Rattle.chk_cmd_salvage.specs.declared.fault.SalvageFault.TheVariants as Salvage
 use Rattle.chk_sink.specs.declared.fault.SinkFault.{SinkFault}
 use Rattle.chk_sink.specs.declared.fault.SinkFault.TheVariants as Sinks
-use Rattle.chk_words.specs.declared.endings.Ending.{Ending}
-use Rattle.chk_words.specs.declared.endings.Ending.TheVariants.{Outside, NoMemory, Damaged, Length, Growing, Shrank, Spent, Refused}
+use Rattle.chk_cmd_line.specs.declared.endings.Ending.{Ending}
+use Rattle.chk_cmd_line.specs.declared.endings.Ending.TheVariants.{Outside, NoMemory, Damaged, Length, Growing, Shrank, Spent, Refused}
 
 -- only a call that failed ends a run as one of the outside
 abbrev pub EndingCause : ℕ → ℕ → Result Unit Ending → Type 0

@@ -5,16 +5,16 @@ use Rattle.chk_site.specs.Runs.{Since}
 use Rattle.chk_round.specs.declared.faults.RoundFault.TheVariants as rounds
 use Rattle.chk_round.specs.LastPolls.{LastPoll}
 use Rattle.chk_round.specs.Spent.{IsSpentRound}
-use Rattle.chk_round_run.specs.declared.ends.RoundEnd.TheVariants.{Unclosed as FoundUnclosed}
-use Rattle.chk_round_run.specs.Running.{DoneAndTold}
-use Rattle.chk_load_run.specs.declared.ends.LoadEnd.TheVariants as loads
-use Rattle.chk_load_run.specs.Loads.{LoadDone}
-use Rattle.chk_drain_run.specs.declared.faults.DrainFault.TheVariants as drains
-use Rattle.chk_words.specs.Commands.{RoundAsked, AgentAsked, CollectorAsked, DrainAsked}
-use Rattle.chk_words.specs.Commands.{Asked, Round, Agent, Collector, Drain, Archive, Demux, Salvage, Load, Udp, Subscribe, Join}
-use Rattle.chk_words.specs.Endings.{ending_status, ending_line}
-use Rattle.chk_words.specs.declared.endings.Ending.{Ending}
-use Rattle.chk_words.specs.declared.endings.Ending.TheVariants.{Damaged, Length, Growing, Unclosed, Spent, Refused}
+use Rattle.chk_cmd_round.specs.declared.ends.RoundEnd.TheVariants.{Unclosed as FoundUnclosed}
+use Rattle.chk_cmd_round.specs.Running.{DoneAndTold}
+use Rattle.chk_cmd_load.specs.declared.ends.LoadEnd.TheVariants as loads
+use Rattle.chk_cmd_load.specs.Loads.{LoadDone}
+use Rattle.chk_cmd_drain.specs.declared.faults.DrainFault.TheVariants as drains
+use Rattle.chk_cmd_line.specs.Commands.{RoundAsked, AgentAsked, CollectorAsked, DrainAsked}
+use Rattle.chk_cmd_line.specs.Commands.{Asked, Round, Agent, Collector, Drain, Archive, Demux, Salvage, Load, Udp, Subscribe, Join}
+use Rattle.chk_cmd_line.specs.Endings.{ending_status, ending_line}
+use Rattle.chk_cmd_line.specs.declared.endings.Ending.{Ending}
+use Rattle.chk_cmd_line.specs.declared.endings.Ending.TheVariants.{Damaged, Length, Growing, Unclosed, Spent, Refused}
 use Rattle.chukwa_run.specs.Demuxing.{DemuxFits}
 use Rattle.chukwa_run.specs.Draining.{DrainScript}
 use Rattle.chukwa_run.specs.Endings.{EndedBy}

@@ -9,16 +9,16 @@ use Rattle.chk_site.specs.Runs.{own_acts}
 use Rattle.chk_wahead.specs.declared.fault.WaheadFault.{WaheadFault}
 use Rattle.chk_wahead.specs.declared.fault.WaheadFault.TheVariants as Waheads
 use Rattle.chk_wahead.specs.States.{last_number}
-use Rattle.chk_udp_run.specs.Runs.{HasRun}
+use Rattle.chk_cmd_udp.specs.Runs.{HasRun}
 use Rattle.chk_udp_laws.specs.Uses.{AreRuns}
 use Rattle.chk_udp_laws.specs.Histories.{IsApart}
 use Rattle.chk_udp_laws.specs.Wholes.{RunLeaves, FindsTidy}
-use Rattle.chk_words.specs.Datagrams.{UdpAsked}
-use Rattle.chk_words.specs.declared.endings.Ending.{Ending}
-use Rattle.chk_words.specs.declared.endings.Ending.TheVariants.{Outside, NoMemory, Damaged, Spent}
+use Rattle.chk_cmd_line.specs.Datagrams.{UdpAsked}
+use Rattle.chk_cmd_line.specs.declared.endings.Ending.{Ending}
+use Rattle.chk_cmd_line.specs.declared.endings.Ending.TheVariants.{Outside, NoMemory, Damaged, Spent}
 use Rattle.chukwa_run.specs.declared.datagrams.DatagramSetting.{DatagramSetting}
 use Rattle.chukwa_run.specs.Processes.{the_writer}
-use Rattle.chk_load_run.specs.Processes.{chukwa}
+use Rattle.chk_cmd_load.specs.Processes.{chukwa}
 
 -- the door at which datagrams for this address are taken
 abbrev pub door_of : List ℕ → List ℕ

@@ -8,11 +8,11 @@ use Rattle.chk_site.specs.Runs.{own_acts}
 use Rattle.chk_world.specs.Sight.{job}
 use Rattle.chk_demux.specs.Demuxed.{earlier_in, NamesStamped, DemuxDone, LacksNumber}
 use Rattle.chk_demux.specs.declared.report.DemuxReport.{DemuxReport}
-use Rattle.chk_prints.specs.Printing.{by, printed}
-use Rattle.chk_demux_run.specs.Telling.{DemuxesAndTells, run_line}
-use Rattle.chk_words.specs.declared.endings.Ending.{Ending}
-use Rattle.chk_words.specs.declared.endings.Ending.TheVariants.{Damaged, Spent}
-use Rattle.chk_words.specs.Commands.{Asked, Demux}
+use Rattle.chk_cmd_output.specs.Printing.{by, printed}
+use Rattle.chk_cmd_demux.specs.Telling.{DemuxesAndTells, run_line}
+use Rattle.chk_cmd_line.specs.declared.endings.Ending.{Ending}
+use Rattle.chk_cmd_line.specs.declared.endings.Ending.TheVariants.{Damaged, Spent}
+use Rattle.chk_cmd_line.specs.Commands.{Asked, Demux}
 
 -- the types that a demux run is asked for are just those that the rules split by stamps
 abbrev pub SuitsTypes : List (List ℕ) → Asked → Type 0

@@ -4,14 +4,14 @@ use Rattle.chk_site.specs.History.{History}
 use Rattle.chk_failover.specs.Turns.{Turns}
 use Rattle.chk_agent.specs.declared.agent.Rules.{Rules}
 use Rattle.chk_agent_run.specs.declared.run.TheConstants.{ROWS, QUEUE}
-use Rattle.chk_drain_run.specs.declared.faults.DrainFault.{DrainFault}
-use Rattle.chk_drain_run.specs.declared.run.Work.{Work}
-use Rattle.chk_drain_run.specs.Done.{DrainDone}
-use Rattle.chk_drain_run.specs.Drains.{HasDrained}
-use Rattle.chk_words.specs.Commands.{DrainAsked}
+use Rattle.chk_cmd_drain.specs.declared.faults.DrainFault.{DrainFault}
+use Rattle.chk_cmd_drain.specs.declared.run.Work.{Work}
+use Rattle.chk_cmd_drain.specs.Done.{DrainDone}
+use Rattle.chk_cmd_drain.specs.Drains.{HasDrained}
+use Rattle.chk_cmd_line.specs.Commands.{DrainAsked}
 use Rattle.chukwa_run.specs.declared.draining.Setting.{Setting}
 use Rattle.chukwa_run.specs.Processes.{the_agent}
-use Rattle.chk_load_run.specs.Processes.{chukwa}
+use Rattle.chk_cmd_load.specs.Processes.{chukwa}
 
 -- the ring stands at its first address
 abbrev pub ring_at : List (List ℕ) → Turns

@@ -4,9 +4,9 @@ use Rattle.chk_site.specs.declared.acts.Act.{Act}
 use Rattle.chk_site.specs.declared.acts.Call.TheVariants.{Say}
 use Rattle.chk_site.specs.History.{History, is_stopped}
 use Rattle.chk_site.specs.Runs.{own_acts}
-use Rattle.chk_words.specs.declared.endings.Ending.{Ending}
-use Rattle.chk_words.specs.Endings.{ending_status, ending_line}
-use Rattle.chk_load_run.specs.Processes.{chukwa}
+use Rattle.chk_cmd_line.specs.declared.endings.Ending.{Ending}
+use Rattle.chk_cmd_line.specs.Endings.{ending_status, ending_line}
+use Rattle.chk_cmd_load.specs.Processes.{chukwa}
 
 -- the act says this line as the writer, also where that fails
 pub record IsSaying (line : List ℕ) (act : Act) : Type 0 where

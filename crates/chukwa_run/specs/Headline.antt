@@ -12,7 +12,7 @@ use Rattle.chk_world.specs.Checkpoints.{Line, checkpoint_lines, checkpoint_of}
 use Rattle.chk_world.specs.Committed.{archive_of_stream, archived_end}
 use Rattle.chk_world.specs.Names.{is_source}
 use Rattle.chk_world.specs.Streams.{log_of, whole_end, whole_log}
-use Rattle.chk_words.specs.Commands.{Asked, Round}
+use Rattle.chk_cmd_line.specs.Commands.{Asked, Round}
 
 -- at every prefix of the history the archive of each stream is a prefix of its log
 abbrev pub ArchivesAreFronts : History → Type 0

@@ -1,8 +1,8 @@
 -- Which ending a fault of the job is.
-use Rattle.chk_heads.specs.declared.fault.JobFault.{JobFault}
-use Rattle.chk_heads.specs.declared.fault.JobFault.TheVariants as Jobs
-use Rattle.chk_words.specs.declared.endings.Ending.{Ending}
-use Rattle.chk_words.specs.declared.endings.Ending.TheVariants.{Outside, NoMemory, Damaged, Spent}
+use Rattle.chk_record_index.specs.declared.fault.JobFault.{JobFault}
+use Rattle.chk_record_index.specs.declared.fault.JobFault.TheVariants as Jobs
+use Rattle.chk_cmd_line.specs.declared.endings.Ending.{Ending}
+use Rattle.chk_cmd_line.specs.declared.endings.Ending.TheVariants.{Outside, NoMemory, Damaged, Spent}
 
 -- the same fault
 abbrev pub job_ending : JobFault → Ending

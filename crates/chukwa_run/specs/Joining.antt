@@ -8,11 +8,11 @@ use Rattle.chk_world.specs.Sight.{job}
 use Rattle.chk_join.specs.declared.report.JoinReport.{JoinReport}
 use Rattle.chk_join.specs.declared.fault.JoinFault.{JoinFault}
 use Rattle.chk_join.specs.declared.fault.JoinFault.TheVariants as Joins
-use Rattle.chk_join_run.specs.Telling.{JoinsAndTells, ShowsJoin, run_line}
-use Rattle.chk_prints.specs.Printing.{by, printed}
-use Rattle.chk_words.specs.Joining.{JoinAsked}
-use Rattle.chk_words.specs.declared.endings.Ending.{Ending}
-use Rattle.chk_words.specs.declared.endings.Ending.TheVariants.{Outside, NoMemory, Damaged, Spent, Differ}
+use Rattle.chk_cmd_join.specs.Telling.{JoinsAndTells, ShowsJoin, run_line}
+use Rattle.chk_cmd_output.specs.Printing.{by, printed}
+use Rattle.chk_cmd_line.specs.Joining.{JoinAsked}
+use Rattle.chk_cmd_line.specs.declared.endings.Ending.{Ending}
+use Rattle.chk_cmd_line.specs.declared.endings.Ending.TheVariants.{Outside, NoMemory, Damaged, Spent, Differ}
 use Rattle.chukwa_run.specs.JobFaults.{job_ending}
 use Rattle.chukwa_run.specs.Datagrams.{FailedAtLast}
 

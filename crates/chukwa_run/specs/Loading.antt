@@ -7,13 +7,13 @@ use Rattle.chk_round.specs.declared.faults.RoundFault.{RoundFault}
 use Rattle.chk_round.specs.declared.faults.RoundFault.TheVariants as rounds
 use Rattle.chk_round.specs.LastPolls.{LastPoll}
 use Rattle.chk_round.specs.Spent.{IsSpentRound}
-use Rattle.chk_load_run.specs.declared.ends.LoadEnd.{LoadEnd}
-use Rattle.chk_load_run.specs.declared.ends.LoadEnd.TheVariants as loads
-use Rattle.chk_load_run.specs.declared.ends.LoadReport.{LoadReport}
-use Rattle.chk_load_run.specs.Loads.{EndsAsRound, LoadDone, LoadsBy, RoundEndsSo, summary_line}
-use Rattle.chk_load_run.specs.Pieces.{AppendsFront, HasAppended, done_print, of_writer}
-use Rattle.chk_words.specs.declared.endings.Ending.{Ending}
-use Rattle.chk_words.specs.declared.endings.Ending.TheVariants.{Outside, NoMemory, Damaged, Length, Growing, Unclosed, Shrank, Spent, Refused, Differ}
+use Rattle.chk_cmd_load.specs.declared.ends.LoadEnd.{LoadEnd}
+use Rattle.chk_cmd_load.specs.declared.ends.LoadEnd.TheVariants as loads
+use Rattle.chk_cmd_load.specs.declared.ends.LoadReport.{LoadReport}
+use Rattle.chk_cmd_load.specs.Loads.{EndsAsRound, LoadDone, LoadsBy, RoundEndsSo, summary_line}
+use Rattle.chk_cmd_load.specs.Pieces.{AppendsFront, HasAppended, done_print, of_writer}
+use Rattle.chk_cmd_line.specs.declared.endings.Ending.{Ending}
+use Rattle.chk_cmd_line.specs.declared.endings.Ending.TheVariants.{Outside, NoMemory, Damaged, Length, Growing, Unclosed, Shrank, Spent, Refused, Differ}
 
 -- The writer appended just the generated lines to the three logs and printed just this summary, and
 -- all other calls were those of the round: a done round of these logs behind the appends, with its

@@ -6,8 +6,8 @@ use Rattle.chk_site.specs.Runs.{Side}
 use Rattle.chk_world.specs.Sight.{job}
 use Rattle.chk_world.specs.Together.{Together}
 use Rattle.chk_round.specs.Processes.{processes}
-use Rattle.chk_words.specs.Commands.{Asked, Round, Agent, Collector, Drain, Archive, Demux, Salvage, Load, Udp, Subscribe, Join}
-use Rattle.chk_load_run.specs.Processes.{chukwa}
+use Rattle.chk_cmd_line.specs.Commands.{Asked, Round, Agent, Collector, Drain, Archive, Demux, Salvage, Load, Udp, Subscribe, Join}
+use Rattle.chk_cmd_load.specs.Processes.{chukwa}
 
 abbrev pub the_agent : List ℕ → Who
 the_agent source = record { role = agent_role; name = source }

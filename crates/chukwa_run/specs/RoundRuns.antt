@@ -7,12 +7,12 @@ use Rattle.chk_round.specs.declared.faults.RoundFault.TheVariants as rounds
 use Rattle.chk_round.specs.declared.words.RoundWords.{RoundWords}
 use Rattle.chk_round.specs.LastPolls.{LastPoll}
 use Rattle.chk_round.specs.Spent.{IsSpentRound}
-use Rattle.chk_round_run.specs.declared.ends.RoundEnd.{RoundEnd}
-use Rattle.chk_round_run.specs.declared.ends.RoundEnd.TheVariants.{Fault, Unclosed as FoundUnclosed}
-use Rattle.chk_round_run.specs.Running.{DoneAndTold, EndsByCall, RunsRound}
-use Rattle.chk_words.specs.Commands.{RoundAsked}
-use Rattle.chk_words.specs.declared.endings.Ending.{Ending}
-use Rattle.chk_words.specs.declared.endings.Ending.TheVariants.{Outside, NoMemory, Damaged, Length, Growing, Unclosed, Shrank, Spent, Refused, Differ}
+use Rattle.chk_cmd_round.specs.declared.ends.RoundEnd.{RoundEnd}
+use Rattle.chk_cmd_round.specs.declared.ends.RoundEnd.TheVariants.{Fault, Unclosed as FoundUnclosed}
+use Rattle.chk_cmd_round.specs.Running.{DoneAndTold, EndsByCall, RunsRound}
+use Rattle.chk_cmd_line.specs.Commands.{RoundAsked}
+use Rattle.chk_cmd_line.specs.declared.endings.Ending.{Ending}
+use Rattle.chk_cmd_line.specs.declared.endings.Ending.TheVariants.{Outside, NoMemory, Damaged, Length, Growing, Unclosed, Shrank, Spent, Refused, Differ}
 
 -- these are the words, owned
 pub record AreWordsOf (w : RoundAsked) (given : RoundWords) : Type 0 where

@@ -3,10 +3,10 @@ use Rattle.std.specs.Prelude.{◌≡◌, ◌⊎◌, ℕ, true, false, List, ◌+
 use Rattle.chk_site.specs.History.{History, is_stopped}
 use Rattle.chk_site.specs.Runs.{Since, own_acts}
 use Rattle.chk_world.specs.Rules.{Legal}
-use Rattle.chk_words.specs.Commands.{Asked}
-use Rattle.chk_words.specs.declared.endings.Ending.{Ending}
-use Rattle.chk_words.specs.declared.endings.Ending.TheVariants.{NoMemory}
-use Rattle.chk_words.specs.Endings.{ending_line}
+use Rattle.chk_cmd_line.specs.Commands.{Asked}
+use Rattle.chk_cmd_line.specs.declared.endings.Ending.{Ending}
+use Rattle.chk_cmd_line.specs.declared.endings.Ending.TheVariants.{NoMemory}
+use Rattle.chk_cmd_line.specs.Endings.{ending_line}
 use Rattle.chukwa_run.specs.Endings.{Ended, SaysAtMost}
 use Rattle.chukwa_run.specs.Showing.{Shows, IsOf}
 use Rattle.chukwa_run.specs.Whole.{Whole, Did}

@@ -4,10 +4,10 @@ use Rattle.chk_site.specs.declared.acts.Call.TheVariants.{Say}
 use Rattle.chk_site.specs.declared.acts.CallFault.{CallFault}
 use Rattle.chk_site.specs.History.{History}
 use Rattle.chk_site.specs.Site.{Adds, asked, answered, plain, Calls}
-use Rattle.chk_load_run.specs.Processes.{chukwa}
-use Rattle.chk_words.specs.declared.endings.Ending.{Ending}
-use Rattle.chk_words.specs.declared.endings.Ending.TheVariants.{Outside}
-use Rattle.chk_words.specs.Endings.{ending_status, ending_line}
+use Rattle.chk_cmd_load.specs.Processes.{chukwa}
+use Rattle.chk_cmd_line.specs.declared.endings.Ending.{Ending}
+use Rattle.chk_cmd_line.specs.declared.endings.Ending.TheVariants.{Outside}
+use Rattle.chk_cmd_line.specs.Endings.{ending_status, ending_line}
 
 -- the writer said the line once, whatever that was answered, or made no call
 pub data SaysOnce (line : List ℕ) : Option History → Option History → Type 0 where

@@ -21,24 +21,24 @@ use Rattle.chk_sink.specs.declared.fault.SinkFault.{SinkFault}
 use Rattle.chk_sink.specs.declared.fault.SinkFault.TheVariants as Sinks
 use Rattle.chk_agent_run.specs.declared.faults.RunFault.TheVariants as runs
 use Rattle.chk_collector_run.specs.Runs.{IsCutRun}
-use Rattle.chk_drain.specs.Parts.{is_talk}
-use Rattle.chk_drain_run.specs.declared.faults.DrainFault.TheVariants as drains
-use Rattle.chk_words.specs.Commands.{AgentAsked, CollectorAsked, DrainAsked}
-use Rattle.chukwa_salvage.specs.Printing.{bytes_or_none, said}
-use Rattle.chk_words.specs.Commands.{Asked, Round, Agent, Collector, Drain, Archive, Demux, Salvage, Load, Udp, Subscribe, Join}
+use Rattle.chk_agent_drain.specs.Parts.{is_talk}
+use Rattle.chk_cmd_drain.specs.declared.faults.DrainFault.TheVariants as drains
+use Rattle.chk_cmd_line.specs.Commands.{AgentAsked, CollectorAsked, DrainAsked}
+use Rattle.chk_cmd_salvage.specs.Printing.{bytes_or_none, said}
+use Rattle.chk_cmd_line.specs.Commands.{Asked, Round, Agent, Collector, Drain, Archive, Demux, Salvage, Load, Udp, Subscribe, Join}
 use Rattle.chukwa_run.specs.Demuxing.{AreDemuxActs, DemuxedAtMost, DemuxFits}
 use Rattle.chukwa_run.specs.Datagrams.{UdpCut}
 use Rattle.chukwa_run.specs.Subscribing.{SubscribeCut}
 use Rattle.chukwa_run.specs.Joining.{JoinCut}
 use Rattle.chukwa_run.specs.Teeing.{TeesRead}
-use Rattle.chk_tees.specs.declared.Subscriber.{Subscriber}
+use Rattle.chk_tee_sender.specs.declared.Subscriber.{Subscriber}
 use Rattle.chukwa_run.specs.Loading.{LoadCut, LoadFits}
 use Rattle.chukwa_run.specs.RoundRuns.{RoundCut, RoundFits}
 use Rattle.chukwa_run.specs.Processes.{the_collector}
 use Rattle.chukwa_run.specs.Draining.{DrainScript}
 use Rattle.chukwa_run.specs.Whole.{AgentScript, AreArchiveActs, AreSalvageActs}
-use Rattle.chk_words.specs.declared.endings.Ending.{Ending}
-use Rattle.chk_words.specs.declared.endings.Ending.TheVariants.{Outside, NoMemory, Damaged, Length, Growing, Shrank, Spent, Refused as refused_all}
+use Rattle.chk_cmd_line.specs.declared.endings.Ending.{Ending}
+use Rattle.chk_cmd_line.specs.declared.endings.Ending.TheVariants.{Outside, NoMemory, Damaged, Length, Growing, Shrank, Spent, Refused as refused_all}
 
 -- ---- 3: the call that failed
 

@@ -1,9 +1,9 @@
 -- With which statuses each command may end.
 use Rattle.std.specs.List.{list_any}
 use Rattle.std.specs.Prelude.{ℕ, Bool, ◌==◌, IsTrue, List, [], ◌∷◌, Result, Ok, Err}
-use Rattle.chk_words.specs.Commands.{Asked, Round, Agent, Collector, Drain, Archive, Demux, Salvage, Load, Udp, Subscribe, Join}
-use Rattle.chk_words.specs.Endings.{ending_status}
-use Rattle.chk_words.specs.declared.endings.Ending.{Ending}
+use Rattle.chk_cmd_line.specs.Commands.{Asked, Round, Agent, Collector, Drain, Archive, Demux, Salvage, Load, Udp, Subscribe, Join}
+use Rattle.chk_cmd_line.specs.Endings.{ending_status}
+use Rattle.chk_cmd_line.specs.declared.endings.Ending.{Ending}
 
 -- the status of a command's result
 abbrev pub status_of : Result Unit Ending → ℕ

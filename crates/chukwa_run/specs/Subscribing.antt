@@ -4,11 +4,11 @@ use Rattle.chk_site.specs.declared.acts.OutsideFault.{OutsideFault}
 use Rattle.chk_site.specs.declared.acts.OutsideFault.TheVariants as Outsides
 use Rattle.chk_site.specs.History.{History}
 use Rattle.chk_site.specs.Runs.{own_acts}
-use Rattle.chk_subscribe.specs.Runs.{HasSubscribed}
-use Rattle.chk_subscribe.specs.Told.{PrintsOnce}
-use Rattle.chk_words.specs.Subscribing.{SubscribeAsked}
-use Rattle.chk_words.specs.declared.endings.Ending.{Ending}
-use Rattle.chk_words.specs.declared.endings.Ending.TheVariants.{Outside, NoMemory}
+use Rattle.chk_cmd_subscribe.specs.Runs.{HasSubscribed}
+use Rattle.chk_cmd_subscribe.specs.Told.{PrintsOnce}
+use Rattle.chk_cmd_line.specs.Subscribing.{SubscribeAsked}
+use Rattle.chk_cmd_line.specs.declared.endings.Ending.{Ending}
+use Rattle.chk_cmd_line.specs.declared.endings.Ending.TheVariants.{Outside, NoMemory}
 use Rattle.chukwa_run.specs.declared.subscribing.WatchSetting.{WatchSetting}
 use Rattle.chukwa_run.specs.Datagrams.{FailedAtLast}
 use Rattle.chukwa_run.specs.Processes.{the_watcher}

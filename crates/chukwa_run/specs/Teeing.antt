@@ -7,11 +7,11 @@ use Rattle.chk_site.specs.declared.acts.OutsideFault.TheVariants as Outsides
 use Rattle.chk_site.specs.History.{History, is_stopped}
 use Rattle.chk_site.specs.Site.{EndsIn, Rose}
 use Rattle.chk_replace.specs.Load.{ReadInTurn}
-use Rattle.chk_tees.specs.declared.Subscriber.{Subscriber}
-use Rattle.chk_tees.specs.Subscribers.{subscribers_in}
-use Rattle.chk_words.specs.declared.endings.Ending.{Ending}
-use Rattle.chk_words.specs.declared.endings.Ending.TheVariants.{Outside, NoMemory, Damaged}
-use Rattle.chk_load_run.specs.Processes.{chukwa}
+use Rattle.chk_tee_sender.specs.declared.Subscriber.{Subscriber}
+use Rattle.chk_tee_sender.specs.Subscribers.{subscribers_in}
+use Rattle.chk_cmd_line.specs.declared.endings.Ending.{Ending}
+use Rattle.chk_cmd_line.specs.declared.endings.Ending.TheVariants.{Outside, NoMemory, Damaged}
+use Rattle.chk_cmd_load.specs.Processes.{chukwa}
 
 -- the bytes of a file; one that isn't there counts as empty
 abbrev pub text_in : Option (List ℕ) → List ℕ

@@ -23,22 +23,22 @@ use Rattle.chk_agent_run.specs.declared.run.TheConstants.{ROWS, QUEUE}
 use Rattle.chk_archive.specs.Archived.{RunDone, lists_sinks}
 use Rattle.chk_archive.specs.Reports.{Report}
 use Rattle.chk_demux.specs.declared.report.DemuxReport.{DemuxReport}
-use Rattle.chk_prints.specs.Printing.{by, printed}
-use Rattle.chk_archive_run.specs.Telling.{ArchivesAndTells, report_lines}
-use Rattle.chk_words.specs.Commands.{AgentAsked, CollectorAsked}
-use Rattle.chukwa_salvage.specs.Printing.{IsWhole, bytes_or_none, said, print_limit}
-use Rattle.chk_words.specs.Commands.{Asked, Round, Agent, Collector, Drain, Archive, Demux, Salvage, Load, Udp, Subscribe, Join}
+use Rattle.chk_cmd_output.specs.Printing.{by, printed}
+use Rattle.chk_cmd_archive.specs.Telling.{ArchivesAndTells, report_lines}
+use Rattle.chk_cmd_line.specs.Commands.{AgentAsked, CollectorAsked}
+use Rattle.chk_cmd_salvage.specs.Printing.{IsWhole, bytes_or_none, said, print_limit}
+use Rattle.chk_cmd_line.specs.Commands.{Asked, Round, Agent, Collector, Drain, Archive, Demux, Salvage, Load, Udp, Subscribe, Join}
 use Rattle.chukwa_run.specs.Demuxing.{DemuxedOnce, DemuxWhole}
 use Rattle.chukwa_run.specs.Loading.{LoadDid, LoadWhole}
 use Rattle.chukwa_run.specs.RoundRuns.{RoundScript, RoundWhole}
 use Rattle.chukwa_run.specs.Processes.{the_agent, the_collector}
-use Rattle.chk_load_run.specs.Processes.{chukwa}
+use Rattle.chk_cmd_load.specs.Processes.{chukwa}
 use Rattle.chukwa_run.specs.Draining.{DrainScript, DrainWhole}
 use Rattle.chukwa_run.specs.Datagrams.{UdpWhole}
 use Rattle.chukwa_run.specs.Subscribing.{SubscribeWhole}
 use Rattle.chukwa_run.specs.Joining.{JoinWhole}
 use Rattle.chukwa_run.specs.Teeing.{TeesRead}
-use Rattle.chk_tees.specs.declared.Subscriber.{Subscriber}
+use Rattle.chk_tee_sender.specs.declared.Subscriber.{Subscriber}
 
 -- ---- a salvage
 

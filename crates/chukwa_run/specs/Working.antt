@@ -3,8 +3,8 @@ use Rattle.std.specs.Prelude.{ℕ, List, Option, Result}
 use Rattle.chk_site.specs.History.{History}
 use Rattle.chk_site.specs.Runs.{Leads}
 use Rattle.chk_site.specs.Site.{Adds}
-use Rattle.chk_words.specs.Commands.{Asked}
-use Rattle.chk_words.specs.declared.endings.Ending.{Ending}
+use Rattle.chk_cmd_line.specs.Commands.{Asked}
+use Rattle.chk_cmd_line.specs.declared.endings.Ending.{Ending}
 use Rattle.chukwa_run.specs.Causes.{EndingCause}
 use Rattle.chukwa_run.specs.Demuxing.{SuitsTypes}
 use Rattle.chukwa_run.specs.Processes.{RunSide}

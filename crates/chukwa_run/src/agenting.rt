@@ -9,10 +9,10 @@ ghost use Rattle.chk_site.specs.Site.{Adds};
 ghost use Rattle.chk_site.specs.Runs.{Leads};
 ghost use Rattle.chk_world.specs.Names.{is_source, CheckFile, spell};
 ghost use Rattle.chk_agent_run.specs.declared.faults.RunFault.TheVariants.{Initial as InitialLine};
-ghost use Rattle.chk_words.specs.Names.{are_words};
-ghost use Rattle.chk_words.specs.Commands.{agent_of};
-ghost use Rattle.chk_words.specs.Good.{IsGoodAgent, IsWordIfAny};
-ghost use Rattle.chk_words.specs.Commands.{Agent as AgentCommand};
+ghost use Rattle.chk_cmd_line.specs.Names.{are_words};
+ghost use Rattle.chk_cmd_line.specs.Commands.{agent_of};
+ghost use Rattle.chk_cmd_line.specs.Good.{IsGoodAgent, IsWordIfAny};
+ghost use Rattle.chk_cmd_line.specs.Commands.{Agent as AgentCommand};
 ghost use Rattle.chukwa_run.specs.Processes.{the_agent, RunSide};
 ghost use Rattle.chukwa_run.specs.Whole.{ring_of, rules_of, work_of};
 ghost use Rattle.chukwa_run.specs.Runs.{Begins, EndsWith, CausedBy};
@@ -22,10 +22,10 @@ ghost use Rattle.chukwa_run.specs.Statuses.{HasItsStatus};
 use chk_agent::{Hashing, Rules};
 use chk_agent_run::{QUEUE, ROWS, RunFault, Work, run_agent};
 use chk_bytes::{NoMemory, Word};
+use chk_cmd_line::{AgentWords, Ending};
+use chk_cmd_load::writer;
 use chk_failover::Ring;
-use chk_load_run::writer;
 use chk_site::{Role, Site, Who};
-use chk_words::{AgentWords, Ending};
 use std::alloc::Global;
 
 /// Reads the initial file, starts the agent, adds the streams of the file, and makes the turns. A

@@ -4,7 +4,7 @@ ghost use Rattle.std.specs.Prelude.{◌≡◌, ℕ, List};
 ghost use Rattle.chk_site.specs.History.{History};
 ghost use Rattle.chk_site.specs.Site.{Adds};
 ghost use Rattle.chk_site.specs.Runs.{Leads};
-ghost use Rattle.chk_words.specs.Commands.{Archive};
+ghost use Rattle.chk_cmd_line.specs.Commands.{Archive};
 ghost use Rattle.chukwa_run.specs.Processes.{RunSide};
 ghost use Rattle.chukwa_run.specs.Runs.{Begins, EndsWith, CausedBy};
 ghost use Rattle.chukwa_run.specs.Causes.{EndingCause};
@@ -12,10 +12,10 @@ ghost use Rattle.chukwa_run.specs.JobFaults.{job_ending};
 ghost use Rattle.chukwa_run.specs.Statuses.{HasItsStatus};
 
 use chk_archive::JobFault;
-use chk_archive_run::run_archive;
+use chk_cmd_archive::run_archive;
+use chk_cmd_line::Ending;
 use chk_round::job;
 use chk_site::Site;
-use chk_words::Ending;
 use std::alloc::Global;
 
 /// Runs the archive job once, and prints its report and where each stream's archive ends.

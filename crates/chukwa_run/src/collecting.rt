@@ -6,19 +6,19 @@ ghost use Rattle.chk_bytes.specs.Stems.{is_collector};
 ghost use Rattle.chk_site.specs.History.{History};
 ghost use Rattle.chk_site.specs.Site.{Adds};
 ghost use Rattle.chk_site.specs.Runs.{Leads};
-ghost use Rattle.chk_words.specs.Commands.{Collector as CollectorCommand};
+ghost use Rattle.chk_cmd_line.specs.Commands.{Collector as CollectorCommand};
 ghost use Rattle.chukwa_run.specs.Processes.{the_collector, RunSide};
 ghost use Rattle.chukwa_run.specs.Runs.{Begins, EndsWith, CausedBy};
-ghost use Rattle.chk_words.specs.Commands.{collector_of};
+ghost use Rattle.chk_cmd_line.specs.Commands.{collector_of};
 ghost use Rattle.chukwa_run.specs.Causes.{EndingCause, sink_ending};
 ghost use Rattle.chukwa_run.specs.Statuses.{HasItsStatus};
 
 use crate::teeing::read_tees;
 use chk_bytes::{NoMemory, Word};
+use chk_cmd_line::{CollectorWords, Ending};
 use chk_collector_run::collect;
 use chk_sink::SinkFault;
 use chk_site::{Role, Site, Who};
-use chk_words::{CollectorWords, Ending};
 use std::alloc::Global;
 
 /// Reads the file of subscribers as the writer, starts the collector, runs its turns at the address,

@@ -1,7 +1,7 @@
 //! The command that the words ask for.
 
-ghost use Rattle.chk_words.specs.Commands.{asked_of};
-ghost use Rattle.chk_words.specs.Good.{IsGood};
+ghost use Rattle.chk_cmd_line.specs.Commands.{asked_of};
+ghost use Rattle.chk_cmd_line.specs.Good.{IsGood};
 ghost use Rattle.chukwa_run.specs.Working.{Works};
 
 use crate::agenting::run_agent_of;
@@ -16,8 +16,8 @@ use crate::rounding::run_whole_round;
 use crate::salvaging::run_salvage;
 use crate::subscribing::run_subscribe;
 use chk_agent::Hashing;
+use chk_cmd_line::{Command, Ending};
 use chk_site::Site;
-use chk_words::{Command, Ending};
 use std::alloc::Global;
 
 /// Runs the command, and says nothing of how it ended. An agent finds its streams by this hashing.

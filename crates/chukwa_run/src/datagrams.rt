@@ -4,8 +4,8 @@ ghost use Rattle.std.specs.Prelude.{◌≡◌, ◌++◌, ℕ, List, IsTrue, IfOk
 ghost use Rattle.chk_site.specs.History.{History};
 ghost use Rattle.chk_site.specs.Site.{Adds};
 ghost use Rattle.chk_site.specs.Runs.{Leads};
-ghost use Rattle.chk_words.specs.Commands.{Udp};
-ghost use Rattle.chk_words.specs.Datagrams.{IsGoodUdp, is_writer_name, udp_of};
+ghost use Rattle.chk_cmd_line.specs.Commands.{Udp};
+ghost use Rattle.chk_cmd_line.specs.Datagrams.{IsGoodUdp, is_writer_name, udp_of};
 ghost use Rattle.chukwa_run.specs.Causes.{EndingCause};
 ghost use Rattle.chukwa_run.specs.Datagrams.{IsSetFor, door_of, wahead_ending};
 ghost use Rattle.chukwa_run.specs.Processes.{RunSide, the_writer};
@@ -13,11 +13,11 @@ ghost use Rattle.chukwa_run.specs.Runs.{Begins, CausedBy, EndsWith};
 ghost use Rattle.chukwa_run.specs.Statuses.{HasItsStatus};
 
 use chk_bytes::{NoMemory, Word};
-use chk_load_run::writer;
+use chk_cmd_line::{Ending, UdpWords};
+use chk_cmd_load::writer;
+use chk_cmd_udp::{Work, run_udp};
 use chk_site::{Role, Site, Who};
-use chk_udp_run::{Work, run_udp};
 use chk_wahead::WaheadFault;
-use chk_words::{Ending, UdpWords};
 use std::alloc::Global;
 
 /// With what a writer of datagrams is run.

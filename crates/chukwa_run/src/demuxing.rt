@@ -5,17 +5,17 @@ ghost use Rattle.chk_site.specs.History.{History};
 ghost use Rattle.chk_site.specs.Site.{Adds};
 ghost use Rattle.chk_site.specs.Runs.{Leads};
 ghost use Rattle.chk_demux.specs.Demuxed.{NamesStamped};
-ghost use Rattle.chk_words.specs.Commands.{Demux};
+ghost use Rattle.chk_cmd_line.specs.Commands.{Demux};
 ghost use Rattle.chukwa_run.specs.Processes.{RunSide};
 ghost use Rattle.chukwa_run.specs.Runs.{Begins, EndsWith, CausedBy};
 ghost use Rattle.chukwa_run.specs.Causes.{EndingCause};
 ghost use Rattle.chukwa_run.specs.Statuses.{HasItsStatus};
 
 use crate::archiving::ending_of;
-use chk_demux_run::run_demux;
+use chk_cmd_demux::run_demux;
+use chk_cmd_line::Ending;
 use chk_round::job;
 use chk_site::Site;
-use chk_words::Ending;
 use std::alloc::Global;
 
 /// Runs the demux job once, with these types split by time stamps, and prints its report.

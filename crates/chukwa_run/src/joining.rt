@@ -4,8 +4,8 @@ ghost use Rattle.std.specs.Prelude.{◌≡◌, ℕ, List};
 ghost use Rattle.chk_site.specs.History.{History};
 ghost use Rattle.chk_site.specs.Site.{Adds};
 ghost use Rattle.chk_site.specs.Runs.{Leads};
-ghost use Rattle.chk_words.specs.Commands.{Join};
-ghost use Rattle.chk_words.specs.Joining.{IsGoodJoin, join_of};
+ghost use Rattle.chk_cmd_line.specs.Commands.{Join};
+ghost use Rattle.chk_cmd_line.specs.Joining.{IsGoodJoin, join_of};
 ghost use Rattle.chukwa_run.specs.Causes.{EndingCause};
 ghost use Rattle.chukwa_run.specs.Joining.{join_ending};
 ghost use Rattle.chukwa_run.specs.Processes.{RunSide};
@@ -13,11 +13,11 @@ ghost use Rattle.chukwa_run.specs.Runs.{Begins, CausedBy, EndsWith};
 ghost use Rattle.chukwa_run.specs.Statuses.{HasItsStatus};
 
 use crate::archiving::ending_of;
+use chk_cmd_join::run_join;
+use chk_cmd_line::{Ending, JoinWords};
 use chk_join::JoinFault;
-use chk_join_run::run_join;
 use chk_round::job;
 use chk_site::Site;
-use chk_words::{Ending, JoinWords};
 use std::alloc::Global;
 
 /// Joins the archives in both folders into `joined`, and prints the report.

@@ -4,8 +4,8 @@ ghost use Rattle.std.specs.Prelude.{◌≡◌, ℕ, List};
 ghost use Rattle.chk_site.specs.History.{History};
 ghost use Rattle.chk_site.specs.Site.{Adds};
 ghost use Rattle.chk_site.specs.Runs.{Leads};
-ghost use Rattle.chk_words.specs.Good.{IsIn};
-ghost use Rattle.chk_words.specs.Commands.{Load};
+ghost use Rattle.chk_cmd_line.specs.Good.{IsIn};
+ghost use Rattle.chk_cmd_line.specs.Commands.{Load};
 ghost use Rattle.chukwa_run.specs.Processes.{RunSide};
 ghost use Rattle.chukwa_run.specs.Runs.{Begins, EndsWith, CausedBy};
 ghost use Rattle.chukwa_run.specs.Causes.{EndingCause};
@@ -13,10 +13,10 @@ ghost use Rattle.chukwa_run.specs.Loading.{IsLoadEnding, IsRoundEnding};
 ghost use Rattle.chukwa_run.specs.Statuses.{HasItsStatus};
 
 use chk_bytes::Word;
-use chk_load_run::{LoadEnd, run_load};
+use chk_cmd_line::Ending;
+use chk_cmd_load::{LoadEnd, run_load};
 use chk_round::RoundFault;
 use chk_site::Site;
-use chk_words::Ending;
 use std::alloc::Global;
 
 /// Appends the lines, takes them to the archive by a round, and prints the summary.

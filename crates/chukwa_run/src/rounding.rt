@@ -5,9 +5,9 @@ ghost use Rattle.chk_site.specs.History.{History};
 ghost use Rattle.chk_site.specs.Site.{Adds};
 ghost use Rattle.chk_site.specs.Runs.{Leads};
 ghost use Rattle.chk_world.specs.Names.{is_source};
-ghost use Rattle.chk_words.specs.Commands.{round_of};
-ghost use Rattle.chk_words.specs.Good.{IsGoodRound};
-ghost use Rattle.chk_words.specs.Commands.{Round as RoundCommand};
+ghost use Rattle.chk_cmd_line.specs.Commands.{round_of};
+ghost use Rattle.chk_cmd_line.specs.Good.{IsGoodRound};
+ghost use Rattle.chk_cmd_line.specs.Commands.{Round as RoundCommand};
 ghost use Rattle.chukwa_run.specs.Processes.{RunSide};
 ghost use Rattle.chukwa_run.specs.Runs.{Begins, EndsWith, CausedBy};
 ghost use Rattle.chukwa_run.specs.Causes.{EndingCause};
@@ -16,10 +16,10 @@ ghost use Rattle.chukwa_run.specs.Statuses.{HasItsStatus};
 
 use crate::agenting::{check_name, damaged, words_of};
 use chk_bytes::{NoMemory, Word};
+use chk_cmd_line::{Ending, RoundWords};
+use chk_cmd_round::{RoundEnd, run_round};
 use chk_round::{RoundFault, RoundWords as OwnedWords};
-use chk_round_run::{RoundEnd, run_round};
 use chk_site::Site;
-use chk_words::{Ending, RoundWords};
 use std::alloc::Global;
 
 /// Runs a collector, an agent and the archive job in one process, and prints a line for each live

@@ -4,9 +4,9 @@ ghost use Rattle.std.specs.Prelude.{◌≡◌, ◌≢◌, ◌⊎◌, ◌≤◌, 
 ghost use Rattle.chk_site.specs.History.{History};
 ghost use Rattle.chk_site.specs.Site.{Adds, Rose};
 ghost use Rattle.chk_site.specs.Runs.{Leads};
-ghost use Rattle.chk_words.specs.Asked.{asked};
-ghost use Rattle.chk_words.specs.Commands.{Asked};
-ghost use Rattle.chk_words.specs.Usages.{usage_line};
+ghost use Rattle.chk_cmd_line.specs.Asked.{asked};
+ghost use Rattle.chk_cmd_line.specs.Commands.{Asked};
+ghost use Rattle.chk_cmd_line.specs.Usages.{usage_line};
 ghost use Rattle.chukwa_run.specs.Complete.{Completes};
 ghost use Rattle.chukwa_run.specs.Demuxing.{SuitsTypes};
 ghost use Rattle.chukwa_run.specs.Headline.{Headline};
@@ -18,8 +18,8 @@ ghost use Rattle.chukwa_run.specs.Statuses.{statuses_of};
 use crate::commanding::run_command;
 use crate::saying::{say_ending, say_usage};
 use chk_agent::Hashing;
+use chk_cmd_line::{Ending, WordsFault, read_words, usage_of};
 use chk_site::Site;
-use chk_words::{Ending, WordsFault, read_words, usage_of};
 use std::alloc::Global;
 
 /// Runs the command that the words behind the program's name ask for, and answers the status with

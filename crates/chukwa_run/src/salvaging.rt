@@ -5,17 +5,17 @@ ghost use Rattle.chk_bytes.specs.Words.{is_word};
 ghost use Rattle.chk_site.specs.History.{History};
 ghost use Rattle.chk_site.specs.Site.{Adds};
 ghost use Rattle.chk_site.specs.Runs.{Leads};
-ghost use Rattle.chk_words.specs.Commands.{Salvage};
+ghost use Rattle.chk_cmd_line.specs.Commands.{Salvage};
 ghost use Rattle.chukwa_run.specs.Processes.{RunSide};
 ghost use Rattle.chukwa_run.specs.Runs.{Begins, EndsWith, CausedBy};
 ghost use Rattle.chukwa_run.specs.Causes.{EndingCause, IsEndingOf};
 ghost use Rattle.chukwa_run.specs.Statuses.{HasItsStatus};
 
 use chk_bytes::Word;
-use chk_load_run::writer;
+use chk_cmd_line::Ending;
+use chk_cmd_load::writer;
+use chk_cmd_salvage::{SalvageFault, salvage};
 use chk_site::Site;
-use chk_words::Ending;
-use chukwa_salvage::{SalvageFault, salvage};
 use std::alloc::Global;
 
 /// Prints what can be read of the file. Its header's refusal is `Damaged` at 0.

@@ -1,15 +1,15 @@
 //! What the program says as a writer.
 
 ghost use Rattle.std.specs.Prelude.{◌≡◌, ◌≤◌, IfOk};
-ghost use Rattle.chk_words.specs.Endings.{ending_line};
-ghost use Rattle.chk_words.specs.Usages.{usage_text};
-ghost use Rattle.chk_load_run.specs.Processes.{chukwa};
+ghost use Rattle.chk_cmd_line.specs.Endings.{ending_line};
+ghost use Rattle.chk_cmd_line.specs.Usages.{usage_text};
+ghost use Rattle.chk_cmd_load.specs.Processes.{chukwa};
 ghost use Rattle.chukwa_run.specs.Saying.{SaysOnce};
 
 use chk_bytes::{Bytes, NoMemory};
-use chk_load_run::writer;
+use chk_cmd_line::{Ending, Usage, put_usage};
+use chk_cmd_load::writer;
 use chk_site::Site;
-use chk_words::{Ending, Usage, put_usage};
 use std::alloc::Global;
 
 /// Prints the line of the ending, where there is memory for it; whether it was printed isn't told.

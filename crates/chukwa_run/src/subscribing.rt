@@ -4,8 +4,8 @@ ghost use Rattle.std.specs.Prelude.{◌≡◌, ℕ, List, IfOk};
 ghost use Rattle.chk_site.specs.History.{History};
 ghost use Rattle.chk_site.specs.Site.{Adds};
 ghost use Rattle.chk_site.specs.Runs.{Leads};
-ghost use Rattle.chk_words.specs.Commands.{Subscribe};
-ghost use Rattle.chk_words.specs.Subscribing.{IsGoodSubscribe, subscribe_of};
+ghost use Rattle.chk_cmd_line.specs.Commands.{Subscribe};
+ghost use Rattle.chk_cmd_line.specs.Subscribing.{IsGoodSubscribe, subscribe_of};
 ghost use Rattle.chukwa_run.specs.Causes.{EndingCause};
 ghost use Rattle.chukwa_run.specs.Processes.{RunSide, the_watcher};
 ghost use Rattle.chukwa_run.specs.Runs.{Begins, CausedBy, EndsWith};
@@ -13,9 +13,9 @@ ghost use Rattle.chukwa_run.specs.Statuses.{HasItsStatus};
 ghost use Rattle.chukwa_run.specs.Subscribing.{IsSetToWatch, watch_ending};
 
 use chk_bytes::{NoMemory, Word};
+use chk_cmd_line::{Ending, SubscribeWords};
+use chk_cmd_subscribe::subscribe;
 use chk_site::{OutsideFault, Role, Site, Who};
-use chk_subscribe::subscribe;
-use chk_words::{Ending, SubscribeWords};
 use std::alloc::Global;
 
 /// With what a watcher is run.

@@ -5,15 +5,15 @@ ghost use Rattle.chk_bytes.specs.Words.{is_word};
 ghost use Rattle.chk_site.specs.History.{Every};
 ghost use Rattle.chk_site.specs.Site.{Adds};
 ghost use Rattle.chk_agent_run.specs.Initial.{LooksAt};
-ghost use Rattle.chk_load_run.specs.Processes.{chukwa};
+ghost use Rattle.chk_cmd_load.specs.Processes.{chukwa};
 ghost use Rattle.chukwa_run.specs.Teeing.{IsNamedIn, ReadCause, ReadFailsLast, TeesRead};
 
 use chk_bytes::Word;
-use chk_load_run::writer;
+use chk_cmd_line::Ending;
+use chk_cmd_load::writer;
 use chk_replace::load;
 use chk_site::{OutsideFault, Site};
-use chk_tees::{SubscribersFault, Tees, read_subscribers};
-use chk_words::Ending;
+use chk_tee_sender::{SubscribersFault, Tees, read_subscribers};
 use std::alloc::Global;
 
 /// The subscribers that the file names; nobody where no file is named, or where it isn't there. The

@@ -22,7 +22,7 @@ use chk_bytes::Word;
 use chk_collector::Collector;
 use chk_sink::SinkFault;
 use chk_site::{Site, Who};
-use chk_tees::Tees;
+use chk_tee_sender::Tees;
 use std::alloc::Global;
 
 /// One turn of the collector that `who` is, at that door, as the command makes each by default: it

@@ -1,8 +1,8 @@
 //! `status --agent`: what is seen of agents, folder after folder.
 
 use chk_bytes::{NoMemory, Word};
-use chk_look_logs::{AgentSeen, AgentsFault, find_agents};
-use chk_look_run::{Outcome, looker};
+use chk_ctl_run::{Outcome, looker};
+use chk_ctl_status_rows::{AgentSeen, AgentsFault, find_agents};
 use chk_site::Site;
 use std::fs;
 

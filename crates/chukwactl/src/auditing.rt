@@ -1,7 +1,7 @@
 //! `audit`: it runs in the folder of the agents, so that the store is named by its whole path.
 
 use crate::{NO_MEMORY, OUTSIDE};
-use chk_look_words::{Command, WordsFault, read_words};
+use chk_ctl_line::{Command, WordsFault, read_words};
 use std::env;
 use std::path::PathBuf;
 

@@ -1,6 +1,6 @@
 //! How many bytes are free, as `df` tells it.
 
-use chk_look_status::free_in;
+use chk_ctl_status::free_in;
 use std::io::Read;
 use std::process::{Child, Command, ExitStatus, Stdio};
 use std::time::Duration;

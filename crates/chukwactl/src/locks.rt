@@ -1,7 +1,7 @@
 //! Who holds the locks of a folder, as the system tells it.
 
 use chk_bytes::Word;
-use chk_look_status::{Holder, Lock, holder_in};
+use chk_ctl_status::{Holder, Lock, holder_in};
 use chk_site::{Call, CallFault, OutsideFault, Site, Who};
 use std::fs;
 use std::os::unix::fs::MetadataExt;

@@ -1,7 +1,7 @@
 //! How long looks are told on standard error.
 
-use chk_look_words::{Command, read_words};
-use chk_progress::{Progress, Shows, bytes_in};
+use chk_ctl_line::{Command, read_words};
+use chk_site_progress::{Progress, Shows, bytes_in};
 use chk_site_real::SiteReal;
 use std::io::IsTerminal;
 

@@ -6,16 +6,15 @@ use crate::locks::locks_here;
 use crate::{NO_MEMORY, OUTSIDE, tell};
 use chk_book::Book;
 use chk_bytes::NoMemory;
-use chk_look_logs::AgentSeen;
-use chk_look_metrics::{NamedAgents, NamedDoor, NamedStore, tell_metrics};
-use chk_look_rows::OpenSink;
-use chk_look_run::{Outcome, Usage, looker, outcome_of_job, told_as};
-use chk_look_status::{
+use chk_ctl_line::{ControlWords, Form, StatusWords, WordsFault, control_in, read_status};
+use chk_ctl_metrics::{NamedAgents, NamedDoor, NamedStore, tell_metrics};
+use chk_ctl_run::{Outcome, Usage, looker, outcome_of_job, told_as};
+use chk_ctl_status::{
     Door, Lock, StoreSeen, ask_list, door_of, find_store, tell_absent, tell_absent_line,
     tell_agents, tell_agents_line, tell_door, tell_door_line, tell_line, tell_locks,
     tell_locks_line, tell_store,
 };
-use chk_look_words::{ControlWords, Form, StatusWords, WordsFault, control_in, read_status};
+use chk_ctl_status_rows::{AgentSeen, OpenSink};
 use chk_site::{OutsideFault, Site, Who};
 use chk_site_real::SiteReal;
 use std::path::PathBuf;

@@ -1,8 +1,8 @@
 use Rattle.std.proofs.Common.{◌≤◌, length, ap, sym, subst, ◌∙◌, arith}
 use Rattle.std.specs.Prelude.{slice_set}
 use Rattle.chk_rotate.specs.Marks.{BeginsBelow}
-use Rattle.chk_reading.specs.Adaptors.{is_past, stopped}
-use Rattle.chk_adaptors.specs.Adaptors.{Held}
+use Rattle.chk_agent_adaptor.specs.Adaptors.{is_past, stopped}
+use Rattle.chk_agent_table.specs.Adaptors.{Held}
 use Rattle.chk_agent.proofs.CommandingLists.{past_to, past_none, past_all, past_size, past_as_was}
 use Rattle.chk_agent.proofs.CommandingLists.{one_past, none_past}
 use Rattle.chk_agent.proofs.commanding.stop_live.Goals as goal

@@ -2,7 +2,7 @@ use Rattle.std.proofs.Common.{map, ap, sym, ◌∙◌, ◌≡◌, arith}
 use Rattle.std.specs.Prelude.{slice_get, Some}
 use Rattle.std.proofs.lemmas.Option.{slice_get-get_or}
 use Rattle.chk_checkpoint.specs.Lines.{shown}
-use Rattle.chk_reading.specs.Adaptors.{line_at}
+use Rattle.chk_agent_adaptor.specs.Adaptors.{line_at}
 use Rattle.chk_agent.specs.States.{lines_at}
 use Rattle.chk_agent.proofs.Listing.{lines_next, pushed, take_over}
 use Rattle.chk_agent.proofs.Soundness.{size_lines}

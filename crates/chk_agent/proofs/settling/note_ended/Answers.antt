@@ -1,7 +1,7 @@
 use Rattle.std.proofs.Common.{not, ◌∙◌, ap, arith}
 use Rattle.std.specs.Prelude.{slice_index_or}
 use Rattle.std.proofs.lemmas.Option.{slice_get-get_or}
-use Rattle.chk_reading.specs.Adaptors.{is_past, phase_at}
+use Rattle.chk_agent_adaptor.specs.Adaptors.{is_past, phase_at}
 use Rattle.chk_agent.specs.States.{lines_at}
 use Rattle.chk_agent.proofs.SettlingLines.{noted_next, lines_many, all_up}
 use Rattle.chk_agent.proofs.settling.note_ended.Goals as goal

@@ -1,8 +1,8 @@
 use Rattle.std.proofs.Common.{◌≤◌, ◌<◌, length, take, arith, sym, subst, ◌∙◌, ap}
 use Rattle.std.specs.Prelude.{slice_index, slice_set}
 use Rattle.chk_rotate.specs.Marks.{BeginsBelow}
-use Rattle.chk_reading.specs.Adaptors.{sent_back}
-use Rattle.chk_adaptors.specs.Adaptors.{Held}
+use Rattle.chk_agent_adaptor.specs.Adaptors.{sent_back}
+use Rattle.chk_agent_table.specs.Adaptors.{Held}
 use Rattle.chk_agent.proofs.TableFound.{there_at}
 use Rattle.chk_agent.proofs.SettlingBack.{none_back, back_size, before_back, went_back, none_there}
 use Rattle.chk_agent.proofs.settling.send_back.Goals as goal

@@ -1,7 +1,7 @@
 use Rattle.std.proofs.Common.{◌∙◌, ap, length, arith}
 use Rattle.std.specs.Prelude.{slice_set}
-use Rattle.chk_reading.specs.Adaptors.{settled_one}
-use Rattle.chk_adaptors.specs.Adaptors.{Held}
+use Rattle.chk_agent_adaptor.specs.Adaptors.{settled_one}
+use Rattle.chk_agent_table.specs.Adaptors.{Held}
 use Rattle.chk_agent.proofs.TableFound.{there_at}
 use Rattle.chk_agent.proofs.SettlingLines.{settled_next, all_up, size_up}
 use Rattle.chk_agent.proofs.settling.settle_all.Goals as goal

@@ -2,7 +2,7 @@ use Rattle.std.proofs.Common.{◌≡◌, ◌≤◌, ◌∙◌, ap, sym, subst, m
 use Rattle.std.specs.Prelude.{slice_get}
 use Rattle.chk_site.specs.declared.acts.Who.{Who}
 use Rattle.chk_checkpoint.specs.Lines.{shown}
-use Rattle.chk_reading.specs.Adaptors.{Adaptor}
+use Rattle.chk_agent_adaptor.specs.Adaptors.{Adaptor}
 use Rattle.chk_agent.specs.States.{State, lines_at}
 use Rattle.chk_agent.specs.Fits.{IsSound}
 use Rattle.chk_agent.specs.Starts.{begun_state}

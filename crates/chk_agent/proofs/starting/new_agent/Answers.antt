@@ -3,10 +3,10 @@ use Rattle.std.specs.Prelude.{Some, slice_get}
 use Rattle.chk_checkpoint.specs.declared.CheckLine.{CheckLine}
 use Rattle.chk_checkpoint.specs.Lines.{shown, lines_of}
 use Rattle.chk_world.specs.Checkpoints.{Line}
-use Rattle.chk_delivery.specs.States.{State as Delivery}
-use Rattle.chk_reading.specs.Adaptors.{adaptor_of}
-use Rattle.chk_delivery.specs.declared.delivery.Rules.{Rules}
-use Rattle.chk_delivery.specs.Fields.{delivery_view}
+use Rattle.chk_agent_delivery.specs.States.{State as Delivery}
+use Rattle.chk_agent_adaptor.specs.Adaptors.{adaptor_of}
+use Rattle.chk_agent_delivery.specs.declared.delivery.Rules.{Rules}
+use Rattle.chk_agent_delivery.specs.Fields.{delivery_view}
 use Rattle.chk_agent.specs.States.{State}
 use Rattle.chk_agent.specs.Fits.{IsEnough}
 use Rattle.chk_agent.specs.Starts.{IsFresh, begun_state}

@@ -8,11 +8,11 @@ use Rattle.chk_world.specs.JobSteps.{IsOf}
 use Rattle.chk_world.specs.Names.{Name}
 use Rattle.chk_world.specs.Places.{As}
 use Rattle.chk_world.specs.Sight.{job, AtJob}
-use Rattle.chk_heads.specs.Faults.{job_fault}
-use Rattle.chk_heads.specs.Pieces.{AsksInPieces}
-use Rattle.chk_heads.proofs.Gathering.{every_then}
+use Rattle.chk_record_index.specs.Faults.{job_fault}
+use Rattle.chk_record_index.specs.Pieces.{AsksInPieces}
+use Rattle.chk_record_index.proofs.Gathering.{every_then}
 use Rattle.chk_book.specs.Books.{book_view}
-use Rattle.chk_parts.proofs.StepKinds.{as_kind, no_reads, fails_behind}
+use Rattle.chk_archive_parts.proofs.StepKinds.{as_kind, no_reads, fails_behind}
 use Rattle.chk_archive.specs.Archived.{ArchivesBy}
 use Rattle.chk_archive.specs.Reporting.{report_result}
 use Rattle.chk_archive.specs.Running.{FinishesBy}

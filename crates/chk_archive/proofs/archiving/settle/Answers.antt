@@ -2,12 +2,12 @@ use Rattle.std.proofs.Common.{Ok, Err}
 use Rattle.std.proofs.lemmas.Result.{err_from_is_err_and}
 use Rattle.chk_site.proofs.Leads.{leads_as}
 use Rattle.chk_world.specs.JobSteps.{IsOf}
-use Rattle.chk_heads.specs.Faults.{job_fault}
-use Rattle.chk_heads.specs.Pieces.{AsksInPieces}
-use Rattle.chk_heads.proofs.Gathering.{every_then}
+use Rattle.chk_record_index.specs.Faults.{job_fault}
+use Rattle.chk_record_index.specs.Pieces.{AsksInPieces}
+use Rattle.chk_record_index.proofs.Gathering.{every_then}
 use Rattle.chk_book.specs.Books.{book_view}
 use Rattle.chk_book.specs.declared.book.Book.{Book as Struct}
-use Rattle.chk_parts.proofs.StepKinds.{as_kind, no_reads, fails_behind}
+use Rattle.chk_archive_parts.proofs.StepKinds.{as_kind, no_reads, fails_behind}
 use Rattle.chk_archive.specs.Archived.{MergesBy, ArchivesBy}
 use Rattle.chk_archive.specs.Beginning.{Begins}
 use Rattle.chk_archive.specs.Tidying.{TidiesBy}

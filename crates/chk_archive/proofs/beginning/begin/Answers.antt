@@ -1,15 +1,15 @@
 use Rattle.std.proofs.lemmas.Result.{err_from_is_err_and}
 use Rattle.chk_site.proofs.Leads.{leads_then}
 use Rattle.chk_world.specs.JobSteps.{IsOf}
-use Rattle.chk_heads.proofs.Gathering.{every_then}
+use Rattle.chk_record_index.proofs.Gathering.{every_then}
 use Rattle.chk_book.specs.Loaded.{book_result}
 use Rattle.chk_archive.specs.Beginning.{Begins}
-use Rattle.chk_heads.specs.Pieces.{AsksInPieces}
+use Rattle.chk_record_index.specs.Pieces.{AsksInPieces}
 use Rattle.chk_archive.proofs.BookLoads.{book_loaded, load_works, begin_refused}
-use Rattle.chk_merge.proofs.Fetching.{failed_read as of_read}
+use Rattle.chk_record_reader.proofs.Fetching.{failed_read as of_read}
 use Rattle.chk_book.specs.declared.book.Book.{Book as Struct}
-use Rattle.chk_parts.proofs.WholeSegments.{archive_folder}
-use Rattle.chk_parts.proofs.StepKinds.{fails_behind}
+use Rattle.chk_archive_parts.proofs.WholeSegments.{archive_folder}
+use Rattle.chk_archive_parts.proofs.StepKinds.{fails_behind}
 use Rattle.chk_archive.proofs.Lasts.{as_fails}
 use Rattle.chk_archive.proofs.Shown.{begun_so, begun_fails}
 use Rattle.chk_archive.proofs.beginning.begin.Goals as goal

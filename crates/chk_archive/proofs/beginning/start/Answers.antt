@@ -2,7 +2,7 @@ use Rattle.std.proofs.Common.{[], subst}
 use Rattle.chk_site.specs.declared.acts.Call.TheVariants.{Start}
 use Rattle.chk_site.specs.Site.{Adds, asked, answered, plain, Calls}
 use Rattle.chk_archive.proofs.Started.{start_so, start_works, start_pieces}
-use Rattle.chk_parts.proofs.Beginning.{start_last}
+use Rattle.chk_archive_parts.proofs.Beginning.{start_last}
 use Rattle.chk_archive.proofs.beginning.start.Goals as goal
 
 pub returns-clause-told : goal.returns-clause-told

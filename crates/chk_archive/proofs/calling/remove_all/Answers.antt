@@ -2,7 +2,7 @@ use Rattle.std.proofs.Common.{◌∙◌, ◌+◌, subst, drop}
 use Rattle.std.proofs.Math.ListN.{drop_of_length-le}
 use Rattle.std.proofs.lemmas.Result.{err_from_is_err_and}
 use Rattle.chk_archive.proofs.InTurn.{SoFar, one_more, one_ended, all_made}
-use Rattle.chk_parts.proofs.InTurn.{cause_done, next_is}
+use Rattle.chk_archive_parts.proofs.InTurn.{cause_done, next_is}
 use Rattle.chk_archive.proofs.calling.remove_all.Goals as goal
 
 pub returns-in_err-done-clause-told : goal.returns-in_err-done-clause-told

@@ -3,8 +3,8 @@ use Rattle.std.proofs.Math.ListN.{drop_of_length-le}
 use Rattle.chk_world.specs.Books.{End}
 use Rattle.chk_book.specs.Views.{end_view}
 use Rattle.chk_book.specs.Books.{end_in}
-use Rattle.chk_plan.specs.Passes.{begins_at}
-use Rattle.chk_plan.specs.Starts.{start_known}
+use Rattle.chk_archive_plan.specs.Passes.{begins_at}
+use Rattle.chk_archive_plan.specs.Starts.{start_known}
 use Rattle.chk_archive.specs.Starts.{start_in}
 use Rattle.chk_archive.proofs.KnownEnds.{as_end, ends_known, starts_known}
 use Rattle.chk_archive.proofs.known.known_ends.Goals as goal

@@ -7,26 +7,26 @@ use Rattle.chk_site.proofs.Runs.{adds_as}
 use Rattle.chk_world.specs.Names.{ArchiveFolder}
 use Rattle.chk_world.specs.Sight.{sight}
 use Rattle.chk_world.specs.JobSteps.{IsOf, ReadsOrWrites}
-use Rattle.chk_heads.specs.Faults.{FailsLast, job_fault}
-use Rattle.chk_heads.specs.Pieces.{AsksInPieces}
-use Rattle.chk_heads.proofs.Gathering.{every_then}
+use Rattle.chk_record_index.specs.Faults.{FailsLast, job_fault}
+use Rattle.chk_record_index.specs.Pieces.{AsksInPieces}
+use Rattle.chk_record_index.proofs.Gathering.{every_then}
 use Rattle.chk_book.specs.Books.{book_view}
 use Rattle.chk_book.specs.Views.{segment_view}
 use Rattle.chk_book.specs.declared.book.Book.{Book as Struct}
 use Rattle.chk_book.specs.Folders.{segment_name}
-use Rattle.chk_parts.proofs.StepKinds.{as_kind, no_reads, fails_behind}
-use Rattle.chk_parts.proofs.WholeSegments.{archive_folder}
+use Rattle.chk_archive_parts.proofs.StepKinds.{as_kind, no_reads, fails_behind}
+use Rattle.chk_archive_parts.proofs.WholeSegments.{archive_folder}
 use Rattle.chk_archive.specs.Archived.{MergesBy, ReplacesBook}
 use Rattle.chk_archive.proofs.Lasts.{as_fails}
 use Rattle.chk_archive.proofs.Preparing.{of_merge}
-use Rattle.chk_parts.proofs.Published.{replaces_no_reads}
+use Rattle.chk_archive_parts.proofs.Published.{replaces_no_reads}
 use Rattle.chk_archive.proofs.TakenIn.{of_replace}
 use Rattle.chk_archive.specs.Shown.{IsAtLast}
 use Rattle.chk_archive.proofs.SpentCauses.{spent_as, spent_book, spent_outside}
 use Rattle.chk_archive.proofs.MergedMany.{few_left, merged_so, merge_fails, publish_fails, all_merged}
 use Rattle.std.specs.Prelude.{codes}
-use Rattle.chk_heads.proofs.Causes.{shows_outside, shows_ok}
-use Rattle.chk_merge.specs.Gone.{IsUnsound}
+use Rattle.chk_record_index.proofs.Causes.{shows_outside, shows_ok}
+use Rattle.chk_record_reader.specs.Gone.{IsUnsound}
 use Rattle.chk_archive.proofs.merging.merge_many.Goals as goal
 
 many_view : (b : Struct) → 16 ≤ length b.segments → 16 ≤ length (book_view b).segments

@@ -3,11 +3,11 @@ use Rattle.std.proofs.lemmas.Result.{err_from_is_err_and}
 use Rattle.chk_site.proofs.Runs.{adds_as}
 use Rattle.chk_site.proofs.Leads.{leads_none, leads_as}
 use Rattle.chk_world.specs.JobSteps.{IsOf}
-use Rattle.chk_heads.specs.Faults.{job_fault, FailsLast}
-use Rattle.chk_heads.specs.Pieces.{AsksInPieces}
-use Rattle.chk_heads.proofs.Gathering.{every_then}
+use Rattle.chk_record_index.specs.Faults.{job_fault, FailsLast}
+use Rattle.chk_record_index.specs.Pieces.{AsksInPieces}
+use Rattle.chk_record_index.proofs.Gathering.{every_then}
 use Rattle.chk_book.specs.Books.{book_view}
-use Rattle.chk_parts.proofs.StepKinds.{as_kind, no_reads, fails_behind}
+use Rattle.chk_archive_parts.proofs.StepKinds.{as_kind, no_reads, fails_behind}
 use Rattle.chk_archive.specs.Archived.{MergesBy}
 use Rattle.chk_archive.specs.Running.{FinishesBy}
 use Rattle.chk_archive.specs.Sinks.{RemovesShown}

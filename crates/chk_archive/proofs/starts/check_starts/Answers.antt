@@ -2,7 +2,7 @@ use Rattle.std.proofs.Common.{◌≡◌, ℕ, sym, subst}
 use Rattle.std.proofs.lemmas.Result.{err_from_is_err_and}
 use Rattle.chk_chunk.specs.Keys.{Stream}
 use Rattle.chk_book.specs.Books.{book_view}
-use Rattle.chk_plan.specs.Starts.{start_known}
+use Rattle.chk_archive_plan.specs.Starts.{start_known}
 use Rattle.chk_archive.specs.Starts.{start_in}
 use Rattle.chk_archive.proofs.StartsAgree.{all_in, other_in, told_so}
 use Rattle.chk_archive.proofs.starts.check_starts.Goals as goal

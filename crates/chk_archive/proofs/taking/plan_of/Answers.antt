@@ -1,5 +1,5 @@
 use Rattle.std.proofs.Common.{length, subst}
-use Rattle.chk_plan.specs.Passes.{AreSpans}
+use Rattle.chk_archive_plan.specs.Passes.{AreSpans}
 use Rattle.chk_book.specs.Books.{book_view}
 use Rattle.chk_archive.proofs.Planning.{all_end, planned_so}
 use Rattle.chk_archive.proofs.taking.plan_of.Goals as goal

@@ -1,8 +1,8 @@
 use Rattle.std.proofs.Common.{◌≡◌, ◌≤◌, ◌∙◌, refl, ap, sym, subst, length}
 use Rattle.std.specs.Prelude.{All, IfSome, flat_map, sum_by}
-use Rattle.chk_plan.specs.declared.spans.Span.{Span}
-use Rattle.chk_plan.specs.Laws.{span_gain}
-use Rattle.chk_parts.specs.Cuts.{span_cuts}
+use Rattle.chk_archive_plan.specs.declared.spans.Span.{Span}
+use Rattle.chk_archive_plan.specs.Laws.{span_gain}
+use Rattle.chk_archive_parts.specs.Cuts.{span_cuts}
 use Rattle.chk_archive.proofs.taking.planned_of.Goals as goal
 
 pub cuts_of-requires : goal.cuts_of-requires

@@ -5,7 +5,7 @@ use Rattle.chk_site.specs.Runs.{Leads}
 use Rattle.chk_site.proofs.Runs.{adds_as}
 use Rattle.chk_world.specs.Places.{As}
 use Rattle.chk_world.specs.Sight.{job, AtJob}
-use Rattle.chk_heads.specs.Faults.{FailsLast}
+use Rattle.chk_record_index.specs.Faults.{FailsLast}
 use Rattle.chk_archive.specs.Shown.{IsAtLast, LacksFor, for_parts}
 use Rattle.chk_archive.specs.Taking.{Prepared, stays_aside}
 use Rattle.chk_archive.proofs.SpentCauses.{spent_as, lacks_aside}
@@ -13,16 +13,16 @@ use Rattle.chk_archive.proofs.Preparing.{none_there}
 use Rattle.std.proofs.lemmas.Result.{err_from_is_err_and}
 use Rattle.chk_site.proofs.Leads.{leads_as}
 use Rattle.chk_world.specs.JobSteps.{IsOf}
-use Rattle.chk_heads.specs.Pieces.{AsksInPieces}
-use Rattle.chk_heads.proofs.Gathering.{every_then}
+use Rattle.chk_record_index.specs.Pieces.{AsksInPieces}
+use Rattle.chk_record_index.proofs.Gathering.{every_then}
 use Rattle.chk_book.specs.Books.{book_view}
-use Rattle.chk_parts.specs.Cuts.{cut_chunks}
-use Rattle.chk_parts.proofs.AllFiles.{fails_later}
+use Rattle.chk_archive_parts.specs.Cuts.{cut_chunks}
+use Rattle.chk_archive_parts.proofs.AllFiles.{fails_later}
 use Rattle.chk_archive.specs.Archived.{MergesBy}
 use Rattle.chk_archive.proofs.Readied.{free_first, parts_fail, both}
-use Rattle.chk_heads.proofs.Causes.{shows_then, shows_ok}
-use Rattle.chk_merge.specs.Gone.{IsGoneIn}
-use Rattle.chk_merge.proofs.Causes.{late_gone_in}
+use Rattle.chk_record_index.proofs.Causes.{shows_then, shows_ok}
+use Rattle.chk_record_reader.specs.Gone.{IsGoneIn}
+use Rattle.chk_record_reader.proofs.Causes.{late_gone_in}
 use Rattle.chk_archive.proofs.taking.prepare.Goals as goal
 
 pub returns-in_err-take_parts-clause-told : goal.returns-in_err-take_parts-clause-told

@@ -2,8 +2,8 @@ use Rattle.std.proofs.Common.{refl, sym, subst}
 use Rattle.chk_site.proofs.Leads.{leads_none}
 use Rattle.chk_book.specs.Books.{book_view}
 use Rattle.chk_world.specs.Names.{ArchiveFolder}
-use Rattle.chk_parts.specs.Publishing.{IsPublished}
-use Rattle.chk_parts.proofs.WholeSegments.{archive_folder}
+use Rattle.chk_archive_parts.specs.Publishing.{IsPublished}
+use Rattle.chk_archive_parts.proofs.WholeSegments.{archive_folder}
 use Rattle.chk_archive.proofs.TakenIn.{unchanged_book}
 use Rattle.chk_archive.proofs.taking.publish_if.Goals as goal
 

@@ -5,14 +5,14 @@ use Rattle.chk_site.specs.Site.{Adds}
 use Rattle.chk_site.specs.Runs.{anyhow, Leads}
 use Rattle.chk_site.proofs.Leads.{leads_none}
 use Rattle.chk_world.specs.ArchiveRuns.{in_order}
-use Rattle.chk_merge.specs.Segments.{HasFiles, SparesFiles}
-use Rattle.chk_parts.specs.Gathering.{held}
-use Rattle.chk_parts.specs.Records.{found_in}
+use Rattle.chk_record_reader.specs.Segments.{HasFiles, SparesFiles}
+use Rattle.chk_archive_parts.specs.Gathering.{held}
+use Rattle.chk_archive_parts.specs.Records.{found_in}
 use Rattle.chk_archive.specs.Holding.{HoldsOnce}
 use Rattle.chk_archive.proofs.Holding.{found_records}
-use Rattle.chk_heads.specs.Order.{in_head_order}
+use Rattle.chk_record_index.specs.Order.{in_head_order}
 use Rattle.chk_book.specs.Books.{book_view}
-use Rattle.chk_parts.specs.Kept.{is_first}
+use Rattle.chk_archive_parts.specs.Kept.{is_first}
 use Rattle.chk_archive.specs.Listed.{sources_in}
 use Rattle.chk_archive.specs.Shown.{LacksOne}
 use Rattle.chk_archive.specs.Taking.{AreSorted}

@@ -3,29 +3,29 @@ use Rattle.std.specs.Prelude.{IfErr}
 use Rattle.std.proofs.lemmas.Result.{err_from_is_err_and}
 use Rattle.chk_site.proofs.Leads.{leads_none, leads_as}
 use Rattle.chk_world.specs.JobSteps.{IsOf, ReadsFile}
-use Rattle.chk_heads.specs.Pieces.{AsksInPieces}
-use Rattle.chk_heads.proofs.Gathering.{every_then}
+use Rattle.chk_record_index.specs.Pieces.{AsksInPieces}
+use Rattle.chk_record_index.proofs.Gathering.{every_then}
 use Rattle.chk_book.specs.Books.{book_view}
 use Rattle.chk_world.specs.ArchiveRuns.{in_order}
-use Rattle.chk_parts.specs.Gathering.{held, AreSound, heads_of}
-use Rattle.chk_parts.specs.Records.{found_in}
+use Rattle.chk_archive_parts.specs.Gathering.{held, AreSound, heads_of}
+use Rattle.chk_archive_parts.specs.Records.{found_in}
 use Rattle.chk_archive.specs.Holding.{HoldsOnce}
 use Rattle.chk_archive.proofs.Holding.{gathered_held}
-use Rattle.chk_parts.proofs.StepKinds.{as_kind, fails_behind}
+use Rattle.chk_archive_parts.proofs.StepKinds.{as_kind, fails_behind}
 use Rattle.chk_archive.specs.Archived.{MergesBy, merge_reads}
 use Rattle.chk_archive.specs.Listed.{sources_in}
 use Rattle.chk_archive.proofs.Listings.{sources_sound}
 use Rattle.chk_site.specs.Site.{Adds}
 use Rattle.chk_site.specs.Runs.{anyhow, Leads}
 use Rattle.chk_chunk.specs.Keys.{chunk_limit}
-use Rattle.chk_heads.specs.Order.{in_head_order}
-use Rattle.chk_merge.specs.Segments.{HasFiles, SparesFiles, AreSettled, GatheredAll}
+use Rattle.chk_record_index.specs.Order.{in_head_order}
+use Rattle.chk_record_reader.specs.Segments.{HasFiles, SparesFiles, AreSettled, GatheredAll}
 use Rattle.chk_archive.specs.Starts.{ToldOtherStart}
 use Rattle.chk_archive.proofs.RawSources.{read_fails, read_then}
 use Rattle.chk_archive.proofs.TakenIn.{found_fails, then_taken}
 use Rattle.chk_archive.proofs.Shown.{taken_bad, taken_found}
-use Rattle.chk_heads.specs.ShownHeads.{ShowsAllGathered}
-use Rattle.chk_heads.specs.Causes.{Shows}
+use Rattle.chk_record_index.specs.ShownHeads.{ShowsAllGathered}
+use Rattle.chk_record_index.specs.Causes.{Shows}
 use Rattle.chk_archive.specs.Shown.{IsUnfit}
 use Rattle.chk_archive.specs.declared.taking.Taken.{Taken as TakenStruct}
 use Rattle.chk_archive.proofs.taking.take_in.Goals as goal

@@ -4,8 +4,8 @@ use Rattle.chk_world.specs.JobSteps.{ReadsOrWrites}
 use Rattle.std.specs.Prelude.{codes}
 use Rattle.chk_book.specs.Books.{book_view}
 use Rattle.chk_book.specs.Folders.{segment_name}
-use Rattle.chk_parts.specs.Cuts.{cut_chunks}
-use Rattle.chk_parts.proofs.StepKinds.{as_kind}
+use Rattle.chk_archive_parts.specs.Cuts.{cut_chunks}
+use Rattle.chk_archive_parts.proofs.StepKinds.{as_kind}
 use Rattle.chk_archive.specs.Archived.{MergesBy}
 use Rattle.chk_archive.specs.Shown.{IsAtLast}
 use Rattle.chk_archive.specs.Taking.{HasParts}

@@ -4,13 +4,13 @@ use Rattle.chk_site.proofs.Leads.{leads_as}
 use Rattle.chk_world.proofs.Each.{Each}
 use Rattle.chk_world.specs.ArchiveRuns.{in_order, once}
 use Rattle.chk_world.specs.JobSteps.{IsOf, ReadsFile}
-use Rattle.chk_heads.specs.Pieces.{AsksInPieces}
-use Rattle.chk_heads.proofs.Gathering.{every_then}
+use Rattle.chk_record_index.specs.Pieces.{AsksInPieces}
+use Rattle.chk_record_index.proofs.Gathering.{every_then}
 use Rattle.chk_book.specs.Books.{book_view}
-use Rattle.chk_plan.specs.Passes.{AreSpans}
-use Rattle.chk_parts.specs.Cuts.{cut_chunks, AreWithin}
-use Rattle.chk_parts.specs.Kept.{AreSpansWithin, past_chunks, IsFirst, AreKeptOnce, KeepsFirsts}
-use Rattle.chk_parts.proofs.StepKinds.{as_kind, fails_behind}
+use Rattle.chk_archive_plan.specs.Passes.{AreSpans}
+use Rattle.chk_archive_parts.specs.Cuts.{cut_chunks, AreWithin}
+use Rattle.chk_archive_parts.specs.Kept.{AreSpansWithin, past_chunks, IsFirst, AreKeptOnce, KeepsFirsts}
+use Rattle.chk_archive_parts.proofs.StepKinds.{as_kind, fails_behind}
 use Rattle.chk_archive.specs.Archived.{MergesBy, merge_reads}
 use Rattle.chk_archive.specs.Shown.{LacksOver}
 use Rattle.chk_archive.proofs.SpentCauses.{spent_reading, planned_spent}
@@ -18,11 +18,11 @@ use Rattle.chk_archive.proofs.Holding.{kept_held}
 use Rattle.chk_archive.proofs.FoundPlan.{Found}
 use Rattle.chk_archive.proofs.NextBook.{Cs}
 use Rattle.chk_archive.proofs.TakenIn.{records_are, kept_so, kept_fails, then_taken}
-use Rattle.chk_heads.proofs.Causes.{shows_first, shows_behind}
-use Rattle.chk_merge.specs.Gone.{IsGoneIn}
-use Rattle.chk_merge.proofs.Causes.{late_gone_in}
+use Rattle.chk_record_index.proofs.Causes.{shows_first, shows_behind}
+use Rattle.chk_record_reader.specs.Gone.{IsGoneIn}
+use Rattle.chk_record_reader.proofs.Causes.{late_gone_in}
 use Rattle.chk_archive.specs.declared.taking.Taken.{Taken as TakenStruct}
-use Rattle.chk_parts.specs.declared.cuts.Cut.{Cut as CutStruct}
+use Rattle.chk_archive_parts.specs.declared.cuts.Cut.{Cut as CutStruct}
 use Rattle.chk_archive.proofs.taking.take_planned.Goals as goal
 
 pub kept_of-requires-clause-spans : goal.kept_of-requires-clause-spans

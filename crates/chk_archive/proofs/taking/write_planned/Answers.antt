@@ -5,13 +5,13 @@ use Rattle.std.proofs.lemmas.Result.{err_from_is_err_and}
 use Rattle.chk_site.proofs.Runs.{adds_as}
 use Rattle.chk_site.proofs.Leads.{leads_none, leads_as}
 use Rattle.chk_world.specs.JobSteps.{IsOf}
-use Rattle.chk_heads.specs.Faults.{FailsLast, job_fault}
-use Rattle.chk_heads.specs.Pieces.{AsksInPieces}
-use Rattle.chk_heads.proofs.Gathering.{every_then}
+use Rattle.chk_record_index.specs.Faults.{FailsLast, job_fault}
+use Rattle.chk_record_index.specs.Pieces.{AsksInPieces}
+use Rattle.chk_record_index.proofs.Gathering.{every_then}
 use Rattle.chk_book.specs.Books.{book_view}
-use Rattle.chk_parts.specs.Cuts.{cut_chunk, cut_chunks}
-use Rattle.chk_parts.proofs.StepKinds.{as_kind, no_reads, fails_behind}
-use Rattle.chk_parts.proofs.Published.{replaces_no_reads}
+use Rattle.chk_archive_parts.specs.Cuts.{cut_chunk, cut_chunks}
+use Rattle.chk_archive_parts.proofs.StepKinds.{as_kind, no_reads, fails_behind}
+use Rattle.chk_archive_parts.proofs.Published.{replaces_no_reads}
 use Rattle.chk_archive.specs.Archived.{MergesBy, ReplacesBook}
 use Rattle.chk_archive.specs.Shown.{IfSpent, LacksFor}
 use Rattle.chk_archive.specs.Taking.{stays_aside}
@@ -20,8 +20,8 @@ use Rattle.chk_archive.proofs.Lasts.{as_fails}
 use Rattle.chk_archive.proofs.NextBook.{Cs}
 use Rattle.chk_archive.proofs.SpentCauses.{spent_outside}
 use Rattle.chk_archive.proofs.TakenIn.{records_are, can_be, parts_so, gain_so, asks_so, stays_whole, prepare_fails, publish_fails, published_all, of_replace}
-use Rattle.chk_heads.proofs.Causes.{shows_outside, shows_ok}
-use Rattle.chk_merge.specs.Gone.{IsGoneIn}
+use Rattle.chk_record_index.proofs.Causes.{shows_outside, shows_ok}
+use Rattle.chk_record_reader.specs.Gone.{IsGoneIn}
 use Rattle.chk_archive.proofs.taking.write_planned.Goals as goal
 
 pub returns-in_err-held-clause-told : goal.returns-in_err-held-clause-told

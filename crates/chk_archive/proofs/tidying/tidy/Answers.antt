@@ -10,7 +10,7 @@ use Rattle.chk_archive.proofs.Looking.{not_listed}
 use Rattle.chk_archive.proofs.StraysGo.{tidied}
 use Rattle.chk_archive.proofs.TidyWorks.{listed_works, tidy_works, only_listed}
 use Rattle.chk_archive.proofs.Lasts.{listed_last, removals_last}
-use Rattle.chk_merge.proofs.RunReads.{none_failed as none_last}
+use Rattle.chk_record_reader.proofs.RunReads.{none_failed as none_last}
 use Rattle.chk_archive.proofs.tidying.tidy.Goals as goal
 
 pub returns-in_err-names-clause-told : goal.returns-in_err-names-clause-told

@@ -12,11 +12,11 @@ use Rattle.chk_site.proofs.Leads.{leads_as, leads_none, owned_anyhow}
 use Rattle.chk_replace.specs.Load.{Has, Loaded}
 use Rattle.chk_world.specs.Books.{Book, empty_book}
 use Rattle.chk_world.specs.JobSteps.{SparesFile}
-use Rattle.chk_heads.specs.Faults.{job_fault, JobCause, FailsLast, IsOfRead}
-use Rattle.chk_heads.specs.declared.fault.JobFault.{JobFault}
-use Rattle.chk_heads.specs.declared.fault.JobFault.TheVariants.{Outside, Damaged, Spent, NoMemory}
-use Rattle.chk_heads.specs.Shown.{ShowsFile}
-use Rattle.chk_heads.proofs.Stretches.{shown_as}
+use Rattle.chk_record_index.specs.Faults.{job_fault, JobCause, FailsLast, IsOfRead}
+use Rattle.chk_record_index.specs.declared.fault.JobFault.{JobFault}
+use Rattle.chk_record_index.specs.declared.fault.JobFault.TheVariants.{Outside, Damaged, Spent, NoMemory}
+use Rattle.chk_record_index.specs.Shown.{ShowsFile}
+use Rattle.chk_record_index.proofs.Stretches.{shown_as}
 use Rattle.chk_book.specs.Folders.{book_name}
 use Rattle.chk_book.specs.Books.{book_view}
 use Rattle.chk_book.specs.Loaded.{LoadedBook, ReadBook, IsBookOf, IsNoBookAt, ShowsBook, book_result}

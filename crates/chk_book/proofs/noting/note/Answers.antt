@@ -1,7 +1,7 @@
 use Rattle.std.proofs.Common.{subst}
 use Rattle.chk_chunk.specs.Lent.{lent_chunk}
-use Rattle.chk_last_key.specs.declared.last_key.Written.{Written}
-use Rattle.chk_last_key.specs.Telling.{Tells}
+use Rattle.chk_record_index.specs.declared.last_key.Written.{Written}
+use Rattle.chk_record_index.specs.Telling.{Tells}
 use Rattle.chk_book.proofs.Recent.{now_recent}
 use Rattle.chk_book.proofs.noting.note.Goals as goal
 

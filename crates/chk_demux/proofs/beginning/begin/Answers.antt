@@ -5,7 +5,7 @@ use Rattle.chk_site.proofs.Leads.{leads_then}
 use Rattle.chk_world.specs.Names.{ArchiveFolder, DemuxFolder}
 use Rattle.chk_world.specs.Sight.{Sight, own_book}
 use Rattle.chk_book.specs.Books.{book_view}
-use Rattle.chk_parts.proofs.WholeSegments.{archive_folder}
+use Rattle.chk_archive_parts.proofs.WholeSegments.{archive_folder}
 use Rattle.chk_demux.specs.Beginning.{HasRecords, Begins}
 use Rattle.chk_demux.specs.Working.{job_result}
 use Rattle.chk_demux.specs.declared.beginning.Books.{Books}
@@ -13,7 +13,7 @@ use Rattle.chk_demux.proofs.OneSegment.{demux_folder}
 use Rattle.chk_demux.proofs.BookLoads.{book_loaded, begin_refused, load_refused, load_done, both_loaded, loads, loads_done}
 use Rattle.chk_demux.specs.Damage.{archive_name, demux_name}
 use Rattle.chk_demux.proofs.RawReads.{small_archive, small_demux, started, not_started, archive_refused, demux_refused, books_loaded}
-use Rattle.chk_parts.proofs.Works.{works_result}
+use Rattle.chk_archive_parts.proofs.Works.{works_result}
 use Rattle.chk_book.proofs.Works.{works_then, own_of}
 use Rattle.chk_demux.proofs.Shown.{start_fails, archive_fails, records_fail, both_shown}
 use Rattle.chk_demux.proofs.beginning.begin.Goals as goal

@@ -1,8 +1,8 @@
 use Rattle.std.proofs.Common.{◌≡◌, ◌<◌, length, false, subst, sym}
 use Rattle.chk_chunk.specs.Keys.{Stream, same_stream}
 use Rattle.chk_world.proofs.NameTests.{streams_same}
-use Rattle.chk_plan.specs.Passes.{head_in}
-use Rattle.chk_merge.specs.Courses.{is_head_of}
+use Rattle.chk_archive_plan.specs.Passes.{head_in}
+use Rattle.chk_record_reader.specs.Courses.{is_head_of}
 use Rattle.chk_book.specs.Views.{end_view}
 use Rattle.chk_demux.proofs.HeadsInOrder.{holds_all}
 use Rattle.chk_demux.proofs.blocks.block_of.Goals as goal

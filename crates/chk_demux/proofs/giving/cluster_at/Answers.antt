@@ -1,9 +1,9 @@
 use Rattle.std.proofs.Common.{◌≡◌, ◌∙◌, ℕ, suc, ◌+◌, ◌<◌, ◌≤◌, Bool, true, false, List, ap, sym, arith, if◌then◌else◌}
 use Rattle.std.proofs.lemmas.Bool.{and_from, and_right, le-leb, lt-leb}
 use Rattle.chk_chunk.specs.Keys.{Stream}
-use Rattle.chk_heads.specs.Heads.{Head}
-use Rattle.chk_plan.specs.Passes.{head_in}
-use Rattle.chk_merge.specs.Courses.{is_head_of}
+use Rattle.chk_record_index.specs.Heads.{Head}
+use Rattle.chk_archive_plan.specs.Passes.{head_in}
+use Rattle.chk_record_reader.specs.Courses.{is_head_of}
 use Rattle.chk_book.specs.Views.{end_view}
 use Rattle.chk_demux.specs.Giving.{holds_byte, cluster_back}
 use Rattle.chk_demux.proofs.giving.cluster_at.Goals as goal

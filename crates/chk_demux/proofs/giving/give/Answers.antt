@@ -6,7 +6,7 @@ use Rattle.chk_site.proofs.Leads.{leads_none}
 use Rattle.chk_world.specs.Places.{As}
 use Rattle.chk_world.specs.Sight.{job, AtJob}
 use Rattle.chk_world.specs.JobSteps.{WritesTo}
-use Rattle.chk_heads.specs.Heads.{Head}
+use Rattle.chk_record_index.specs.Heads.{Head}
 use Rattle.chk_book.specs.Books.{book_view}
 use Rattle.chk_book.specs.Views.{end_view}
 use Rattle.chk_book.specs.Folders.{segment_name}
@@ -14,7 +14,7 @@ use Rattle.chk_demux.specs.Working.{EndsSo}
 use Rattle.chk_demux.specs.Writes.{IsOutput}
 use Rattle.chk_demux.specs.Giving.{given_chunks, place_given}
 use Rattle.chk_demux.proofs.Feeding.{given_none}
-use Rattle.chk_parts.proofs.Works.{works_memory}
+use Rattle.chk_archive_parts.proofs.Works.{works_memory}
 use Rattle.chk_book.proofs.Works.{works_none}
 use Rattle.chk_demux.proofs.NewHeads.{past_put}
 use Rattle.chk_demux.proofs.giving.give.Goals as goal

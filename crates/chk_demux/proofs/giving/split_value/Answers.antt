@@ -13,14 +13,14 @@ use Rattle.chk_book.specs.Views.{end_view}
 use Rattle.chk_book.specs.Folders.{segment_name}
 use Rattle.chk_demux.specs.Working.{Worked}
 use Rattle.chk_demux.specs.Writes.{IsOutput}
-use Rattle.chk_splitter.specs.Splitting.{Feeds}
+use Rattle.chk_demux_split.specs.Splitting.{Feeds}
 use Rattle.chk_demux.specs.Giving.{IsSplitting, chunks_of_fed, given_chunks, place_given}
 use Rattle.chk_demux.proofs.Ends.{so_fails, so_done, no_more, cause_behind}
 use Rattle.chk_demux.specs.Shown.{PutsIf}
 use Rattle.chk_demux.specs.Due.{HasRecord}
 use Rattle.chk_demux.proofs.Feeding.{still_splits, value_on}
 use Rattle.chk_demux.proofs.Due.{still_due}
-use Rattle.chk_parts.proofs.Works.{works_result, works_end}
+use Rattle.chk_archive_parts.proofs.Works.{works_result, works_end}
 use Rattle.chk_book.proofs.Works.{works_none, works_then}
 use Rattle.chk_demux.proofs.giving.split_value.Goals as goal
 

@@ -13,7 +13,7 @@ use Rattle.chk_demux.specs.Working.{EndsSo}
 use Rattle.chk_demux.specs.Writes.{IsOutput}
 use Rattle.chk_demux.specs.Giving.{keyed, cluster_back, made_chunk}
 use Rattle.chk_demux.proofs.Feeding.{given_made}
-use Rattle.chk_parts.proofs.Works.{works_memory}
+use Rattle.chk_archive_parts.proofs.Works.{works_memory}
 use Rattle.chk_demux.proofs.giving.write_record.Goals as goal
 
 pub returns-in_default-clause-works : goal.returns-in_default-clause-works

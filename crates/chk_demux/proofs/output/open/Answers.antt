@@ -11,7 +11,7 @@ use Rattle.chk_book.specs.Folders.{segment_name}
 use Rattle.chk_demux.specs.Working.{EndsSo}
 use Rattle.chk_demux.specs.Writes.{IsSoFar, SoFar}
 use Rattle.chk_demux.proofs.OneSegment.{demux_folder, opened, opened_so}
-use Rattle.chk_parts.proofs.Works.{worked_writes}
+use Rattle.chk_archive_parts.proofs.Works.{worked_writes}
 use Rattle.chk_book.proofs.Works.{works_none}
 use Rattle.chk_demux.proofs.Shown.{begun_writes}
 use Rattle.chk_demux.proofs.output.open.Goals as goal

@@ -11,7 +11,7 @@ use Rattle.chk_demux.specs.Writes.{SoFar, IsOutput, IsWriter}
 use Rattle.chk_demux.proofs.RawReads.{memory_writes}
 use Rattle.chk_demux.proofs.OneSegment.{put_so, writes_it}
 use Rattle.chk_demux.proofs.Outputs.{is_written, not_put, put_done, put_counted, counted_works}
-use Rattle.chk_parts.proofs.Works.{works_result, worked_writes}
+use Rattle.chk_archive_parts.proofs.Works.{works_result, worked_writes}
 use Rattle.chk_demux.proofs.output.put.Goals as goal
 
 pub returns-in_err-part-clause-told : goal.returns-in_err-part-clause-told

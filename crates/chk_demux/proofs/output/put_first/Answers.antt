@@ -14,7 +14,7 @@ use Rattle.chk_demux.specs.Writes.{IsSoFar, SoFar, IsOutput}
 use Rattle.chk_demux.proofs.RawReads.{memory_writes}
 use Rattle.chk_demux.proofs.Ends.{so_done}
 use Rattle.chk_demux.proofs.Outputs.{is_written, not_spent, spent_at, counted_alone, alone_works, not_first, put_counted, counted_writer, counted_works}
-use Rattle.chk_parts.proofs.Works.{works_result}
+use Rattle.chk_archive_parts.proofs.Works.{works_result}
 use Rattle.chk_book.proofs.Works.{own_of}
 use Rattle.chk_demux.proofs.output.put_first.Goals as goal
 

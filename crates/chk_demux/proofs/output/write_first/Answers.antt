@@ -14,7 +14,7 @@ use Rattle.chk_demux.specs.Writes.{IsSoFar, SoFar}
 use Rattle.chk_demux.proofs.Ends.{so_fails, so_done}
 use Rattle.chk_demux.proofs.OneSegment.{put_so, writes_it, still_for}
 use Rattle.chk_demux.proofs.Outputs.{still_writer}
-use Rattle.chk_parts.proofs.Works.{works_result, worked_writes, works_value}
+use Rattle.chk_archive_parts.proofs.Works.{works_result, worked_writes, works_value}
 use Rattle.chk_book.proofs.Works.{works_then}
 use Rattle.chk_demux.proofs.output.write_first.Goals as goal
 

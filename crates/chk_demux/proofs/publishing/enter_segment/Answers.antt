@@ -8,7 +8,7 @@ use Rattle.chk_world.specs.Names.{DemuxFolder}
 use Rattle.chk_world.specs.Places.{As}
 use Rattle.chk_world.specs.Sight.{job, AtJob}
 use Rattle.chk_world.specs.JobSteps.{WritesTo}
-use Rattle.chk_heads.specs.Faults.{job_fault}
+use Rattle.chk_record_index.specs.Faults.{job_fault}
 use Rattle.chk_book.specs.Books.{book_view}
 use Rattle.chk_book.specs.Folders.{segment_name}
 use Rattle.chk_demux.specs.Demuxed.{WritesBook, ReplacesBook, writes_segment, replaces}
@@ -20,7 +20,7 @@ use Rattle.chk_demux.proofs.Ends.{so_fails}
 use Rattle.chk_demux.proofs.Entries.{entered_so}
 use Rattle.chk_demux.proofs.OneSegment.{demux_folder, HasWritten, finish_so, writes_it}
 use Rattle.chk_demux.proofs.Works.{worked_replaces}
-use Rattle.chk_parts.proofs.Works.{works_result, worked_writes, works_as}
+use Rattle.chk_archive_parts.proofs.Works.{works_result, worked_writes, works_as}
 use Rattle.chk_book.proofs.Works.{works_then}
 use Rattle.chk_demux.proofs.publishing.enter_segment.Goals as goal
 

@@ -5,7 +5,7 @@ use Rattle.chk_chunk.specs.Keys.{stream_lt}
 use Rattle.chk_world.specs.Books.{End}
 use Rattle.chk_book.specs.Books.{end_in}
 use Rattle.chk_book.specs.Views.{end_view}
-use Rattle.chk_parts.proofs.EndsInOrder.{sorted}
+use Rattle.chk_archive_parts.proofs.EndsInOrder.{sorted}
 use Rattle.chk_demux.proofs.RecordedEnds.{shown, all_passed}
 use Rattle.chk_demux.proofs.recorded.begin_for.Goals as goal
 

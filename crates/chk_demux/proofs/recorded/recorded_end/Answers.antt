@@ -4,7 +4,7 @@ use Rattle.std.proofs.lemmas.List.{length-map}
 use Rattle.chk_chunk.specs.Keys.{same_stream, stream_lt}
 use Rattle.chk_world.specs.Books.{End}
 use Rattle.chk_book.specs.Views.{end_view}
-use Rattle.chk_parts.proofs.EndsInOrder.{sorted}
+use Rattle.chk_archive_parts.proofs.EndsInOrder.{sorted}
 use Rattle.chk_demux.proofs.RecordedEnds.{shown, one_passed, stops_here}
 use Rattle.chk_demux.proofs.recorded.recorded_end.Goals as goal
 

@@ -1,8 +1,8 @@
 use Rattle.std.proofs.Common.{Err}
 use Rattle.std.proofs.lemmas.Result.{err_from_is_err_and}
-use Rattle.chk_heads.specs.Causes.{Shows}
+use Rattle.chk_record_index.specs.Causes.{Shows}
 use Rattle.std.specs.Prelude.{codes, drop}
-use Rattle.chk_merge.specs.Segments.{names_of}
+use Rattle.chk_record_reader.specs.Segments.{names_of}
 use Rattle.chk_demux.specs.Damage.{archive_book}
 use Rattle.chk_demux.specs.Demuxed.{DemuxesBy}
 use Rattle.chk_demux.specs.Shown.{IsDamage, ShowsSpent}
@@ -10,7 +10,7 @@ use Rattle.chk_demux.specs.Splitting.{texts}
 use Rattle.chk_demux.specs.declared.report.DemuxReport.{DemuxReport}
 use Rattle.chk_demux.proofs.RawReads.{not_loaded, all_read, older_refused, older_read}
 use Rattle.chk_demux.proofs.RunSteps.{not_begun, whole_run, begun_works, whole_works}
-use Rattle.chk_parts.proofs.Works.{works_result}
+use Rattle.chk_archive_parts.proofs.Works.{works_result}
 use Rattle.chk_book.proofs.Works.{last_of as last_of_work, pieces_of as pieces_of_work, own_of}
 use Rattle.chk_demux.proofs.Shown.{damage_begun, damage_behind, spent_begun}
 use Rattle.chk_demux.proofs.NewHeads.{where_rises, spent_behind}

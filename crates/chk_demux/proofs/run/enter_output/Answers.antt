@@ -9,7 +9,7 @@ use Rattle.chk_demux.specs.Working.{Worked}
 use Rattle.chk_demux.specs.Writes.{SoFar}
 use Rattle.chk_demux.specs.declared.report.DemuxReport.{DemuxReport}
 use Rattle.chk_demux.proofs.Ends.{cause_behind, so_fails, so_done}
-use Rattle.chk_parts.proofs.Works.{works_result, works_value}
+use Rattle.chk_archive_parts.proofs.Works.{works_result, works_value}
 use Rattle.chk_demux.proofs.run.enter_output.Goals as goal
 
 pub returns-in_err-enter-clause-told : goal.returns-in_err-enter-clause-told

@@ -2,16 +2,16 @@ use Rattle.std.proofs.Common.{◌∙◌, ◌≤◌, drop, List, Option, Ok, Err,
 use Rattle.std.proofs.lemmas.Result.{err_from_is_err_and}
 use Rattle.chk_site.proofs.Leads.{leads_none}
 use Rattle.chk_site.proofs.Runs.{adds_none}
-use Rattle.chk_merge.specs.Segments.{AreSettled}
-use Rattle.chk_heads.specs.Heads.{Head}
+use Rattle.chk_record_reader.specs.Segments.{AreSettled}
+use Rattle.chk_record_index.specs.Heads.{Head}
 use Rattle.chk_book.specs.Books.{book_view}
-use Rattle.chk_parts.specs.Gathering.{held}
+use Rattle.chk_archive_parts.specs.Gathering.{held}
 use Rattle.chk_demux.specs.Running.{RunsOn}
 use Rattle.chk_demux.proofs.NewestRaw.{newest_sound, newest_failed, then_sound, older_sound, older_failed, older_none, newest_shown, newest_shows_none, then_shown}
 use Rattle.chk_demux.proofs.NewestTold.{newest_told, then_all, not_newest, of_read, from_none, names_sound, names_settled, names_well}
 use Rattle.chk_demux.proofs.RunSteps.{gathers}
 use Rattle.chk_demux.proofs.Ends.{cause_behind}
-use Rattle.chk_parts.proofs.Works.{works_memory, works_value, works_fail}
+use Rattle.chk_archive_parts.proofs.Works.{works_memory, works_value, works_fail}
 use Rattle.chk_book.proofs.Works.{works_then}
 use Rattle.chk_demux.proofs.run.heads_for_split.Goals as goal
 

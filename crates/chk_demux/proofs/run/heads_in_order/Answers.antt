@@ -3,18 +3,18 @@ use Rattle.std.specs.Prelude.{codes}
 use Rattle.std.proofs.lemmas.Result.{err_from_is_err_and}
 use Rattle.chk_site.specs.Site.{Adds}
 use Rattle.chk_chunk.specs.Keys.{chunk_limit}
-use Rattle.chk_heads.specs.Heads.{Head}
+use Rattle.chk_record_index.specs.Heads.{Head}
 use Rattle.chk_book.specs.Books.{book_view}
-use Rattle.chk_merge.specs.Segments.{AreSettled}
-use Rattle.chk_merge.specs.Checking.{ToldOfSome}
-use Rattle.chk_merge.proofs.Archived.{gathered_as}
-use Rattle.chk_merge.proofs.SoundHeads.{heads_sound, heads_bad, heads_broken, some_cause}
+use Rattle.chk_record_reader.specs.Segments.{AreSettled}
+use Rattle.chk_record_reader.specs.Checking.{ToldOfSome}
+use Rattle.chk_record_reader.proofs.Archived.{gathered_as}
+use Rattle.chk_record_reader.proofs.SoundHeads.{heads_sound, heads_bad, heads_broken, some_cause}
 use Rattle.chk_demux.specs.Running.{RunsOn}
 use Rattle.chk_demux.specs.Working.{Worked}
 use Rattle.chk_demux.proofs.Ends.{cause_behind}
 use Rattle.chk_demux.proofs.RunSteps.{not_found, not_checked, not_run, all_sorted, gathers}
-use Rattle.chk_parts.proofs.Works.{works_result, works_value}
-use Rattle.chk_merge.proofs.Causes.{sound_bad, sound_broken, sound_so}
+use Rattle.chk_archive_parts.proofs.Works.{works_result, works_value}
+use Rattle.chk_record_reader.proofs.Causes.{sound_bad, sound_broken, sound_so}
 use Rattle.chk_demux.proofs.Shown.{told_reads}
 use Rattle.chk_demux.proofs.run.heads_in_order.Goals as goal
 

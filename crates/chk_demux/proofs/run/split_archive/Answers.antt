@@ -1,9 +1,9 @@
 use Rattle.std.proofs.Common.{subst, sym, refl, Err}
 use Rattle.std.proofs.lemmas.Result.{err_from_is_err_and}
-use Rattle.chk_heads.specs.Faults.{JobCause}
+use Rattle.chk_record_index.specs.Faults.{JobCause}
 use Rattle.chk_book.specs.Books.{book_view}
 use Rattle.chk_site.proofs.Runs.{adds_as}
-use Rattle.chk_heads.specs.declared.fault.JobFault.TheVariants.{Spent}
+use Rattle.chk_record_index.specs.declared.fault.JobFault.TheVariants.{Spent}
 use Rattle.chk_demux.specs.Running.{RunsOn}
 use Rattle.chk_demux.specs.Working.{Worked}
 use Rattle.chk_demux.specs.Writes.{IsWriter}
@@ -13,11 +13,11 @@ use Rattle.chk_demux.proofs.Ends.{cause_behind}
 use Rattle.chk_demux.proofs.RawReads.{split_refused, split_spent, split_on, clear_refused, clear_spent, clear_on}
 use Rattle.chk_demux.proofs.RunFacts.{can_run}
 use Rattle.chk_demux.proofs.RunSteps.{nothing_put, some_lack, none_lack, none_left, not_split, all_ran, enters}
-use Rattle.chk_parts.proofs.Works.{works_result}
+use Rattle.chk_archive_parts.proofs.Works.{works_result}
 use Rattle.std.proofs.Common.{ℕ}
-use Rattle.chk_heads.proofs.Causes.{shows_first}
+use Rattle.chk_record_index.proofs.Causes.{shows_first}
 use Rattle.chk_demux.specs.Shown.{IsUnsoundFrom}
-use Rattle.chk_merge.proofs.Causes.{shows_written as shows_opened}
+use Rattle.chk_record_reader.proofs.Causes.{shows_written as shows_opened}
 use Rattle.chk_demux.proofs.NewHeads.{reads_spend, writes_spend, puts_spend}
 use Rattle.chk_demux.proofs.run.split_archive.Goals as goal
 

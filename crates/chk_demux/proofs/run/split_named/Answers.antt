@@ -1,7 +1,7 @@
 use Rattle.std.proofs.Common.{◌≡◌, ℕ, subst, refl, ◌∙◌}
 use Rattle.std.proofs.lemmas.Result.{err_from_is_err_and}
 use Rattle.chk_site.proofs.Leads.{leads_none}
-use Rattle.chk_heads.specs.Faults.{JobCause}
+use Rattle.chk_record_index.specs.Faults.{JobCause}
 use Rattle.chk_world.specs.Sight.{AtJob}
 use Rattle.chk_book.specs.Books.{book_view}
 use Rattle.chk_demux.specs.Running.{RunsOn, archive_heads}
@@ -12,7 +12,7 @@ use Rattle.chk_demux.specs.Shown.{PutsIf}
 use Rattle.chk_demux.proofs.Ends.{cause_behind, no_more}
 use Rattle.chk_demux.proofs.RawSplit.{heads_refused, heads_read, older_fails, older_split}
 use Rattle.chk_demux.proofs.RunSteps.{no_heads, split_so, splits}
-use Rattle.chk_parts.proofs.Works.{works_result, works_memory}
+use Rattle.chk_archive_parts.proofs.Works.{works_result, works_memory}
 use Rattle.chk_site.proofs.Runs.{adds_none, adds_as}
 use Rattle.chk_demux.proofs.Shown.{heads_fail, gone_behind}
 use Rattle.chk_demux.proofs.NewHeads.{put_behind}

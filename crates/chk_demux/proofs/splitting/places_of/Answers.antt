@@ -4,7 +4,7 @@ use Rattle.chk_world.specs.Books.{End}
 use Rattle.chk_book.specs.declared.lists.End.{End as EndStruct}
 use Rattle.chk_book.specs.Books.{book_view}
 use Rattle.chk_book.specs.Views.{end_view}
-use Rattle.chk_merge.specs.OnePass.{no_end}
+use Rattle.chk_record_reader.specs.OnePass.{no_end}
 use Rattle.chk_demux.specs.Splitting.{split_from}
 use Rattle.chk_demux.proofs.splitting.places_of.Goals as goal
 

@@ -2,15 +2,15 @@ use Rattle.std.proofs.Common.{◌≡◌, ◌∙◌, ◌+◌, ◌-◌, ◌++◌, 
 use Rattle.std.specs.Prelude.{codes, slice_index_or, OnOk}
 use Rattle.std.proofs.lemmas.Result.{err_from_is_err_and}
 use Rattle.chk_site.proofs.Leads.{leads_none, leads_then}
-use Rattle.chk_heads.specs.Heads.{Head}
-use Rattle.chk_plan.specs.Passes.{head_in}
+use Rattle.chk_record_index.specs.Heads.{Head}
+use Rattle.chk_archive_plan.specs.Passes.{head_in}
 use Rattle.chk_book.specs.Books.{book_view}
 use Rattle.chk_book.specs.Views.{end_view}
 use Rattle.chk_book.specs.Folders.{segment_name}
 use Rattle.chk_world.specs.JobSteps.{ReadsFile, WritesTo, ReadsOrWrites}
 use Rattle.chk_chunk.specs.Keys.{chunk_begin}
-use Rattle.chk_merge.specs.ReadBack.{value_held}
-use Rattle.chk_parts.specs.Cuts.{no_chunk}
+use Rattle.chk_record_reader.specs.ReadBack.{value_held}
+use Rattle.chk_archive_parts.specs.Cuts.{no_chunk}
 use Rattle.chk_demux.specs.Due.{IsFed}
 use Rattle.chk_demux.specs.Giving.{IsSplitting}
 use Rattle.chk_demux.specs.Splitting.{ends_past, SplitSoFar}
@@ -19,12 +19,12 @@ use Rattle.chk_demux.proofs.Due.{fed_passed, fed_more}
 use Rattle.chk_demux.proofs.Places.{record_at}
 use Rattle.chk_demux.proofs.Ends.{at_as}
 use Rattle.chk_demux.proofs.Fetches.{P, passed, not_fetched, record_split}
-use Rattle.chk_parts.proofs.Works.{works_result, works_as}
+use Rattle.chk_archive_parts.proofs.Works.{works_result, works_as}
 use Rattle.chk_book.proofs.Works.{works_none, works_then, own_of, worked}
 use Rattle.chk_site.proofs.Runs.{adds_none}
-use Rattle.chk_heads.proofs.Causes.{shows_first}
-use Rattle.chk_merge.specs.Gone.{IsGoneIn}
-use Rattle.chk_merge.proofs.Causes.{shows_written as shows_opened}
+use Rattle.chk_record_index.proofs.Causes.{shows_first}
+use Rattle.chk_record_reader.specs.Gone.{IsGoneIn}
+use Rattle.chk_record_reader.proofs.Causes.{shows_written as shows_opened}
 use Rattle.chk_demux.proofs.Shown.{writes_read}
 use Rattle.chk_demux.proofs.NewHeads.{past_put}
 use Rattle.chk_demux.proofs.splitting.split_record.Goals as goal

@@ -9,8 +9,8 @@ use Rattle.chk_bytes.specs.Words.{joined}
 use Rattle.chk_book.specs.Books.{book_view}
 use Rattle.chk_book.specs.Views.{end_view}
 use Rattle.chk_book.specs.Folders.{segment_name}
-use Rattle.chk_parts.specs.Fetching.{AreWindows}
-use Rattle.chk_splitter.specs.Splitting.{fresh, pieces_of}
+use Rattle.chk_archive_parts.specs.Fetching.{AreWindows}
+use Rattle.chk_demux_split.specs.Splitting.{fresh, pieces_of}
 use Rattle.chk_demux.specs.Working.{Worked}
 use Rattle.chk_demux.specs.Writes.{IsOutput}
 use Rattle.chk_demux.specs.Giving.{chunks_of_fed}
@@ -22,12 +22,12 @@ use Rattle.chk_demux.proofs.Quiet.{quiet}
 use Rattle.chk_demux.proofs.RawReads.{on_refused, on_done}
 use Rattle.chk_demux.proofs.Ends.{at_as, so_fails, so_done}
 use Rattle.chk_demux.proofs.Streams.{stream_begun, stream_ended}
-use Rattle.chk_parts.proofs.Works.{works_result}
+use Rattle.chk_archive_parts.proofs.Works.{works_result}
 use Rattle.chk_book.proofs.Works.{works_none, works_then}
 use Rattle.chk_site.proofs.Runs.{adds_as, adds_none}
-use Rattle.chk_heads.proofs.Causes.{shows_then}
-use Rattle.chk_merge.specs.Gone.{IsGoneIn}
-use Rattle.chk_merge.proofs.Causes.{late_gone_in}
+use Rattle.chk_record_index.proofs.Causes.{shows_then}
+use Rattle.chk_record_reader.specs.Gone.{IsGoneIn}
+use Rattle.chk_record_reader.proofs.Causes.{late_gone_in}
 use Rattle.chk_demux.proofs.NewHeads.{then_put, head_put}
 use Rattle.chk_demux.proofs.splitting.split_stream.Goals as goal
 

@@ -11,12 +11,12 @@ use Rattle.chk_book.specs.Books.{book_view}
 use Rattle.chk_book.specs.Views.{end_view}
 use Rattle.chk_world.specs.TrueBooks.{HasBytes}
 use Rattle.chk_world.proofs.Each.{Each}
-use Rattle.chk_merge.specs.Segments.{SparesFiles, AreSettled}
-use Rattle.chk_merge.specs.Merging.{AreApart}
-use Rattle.chk_parts.specs.Gathering.{held}
-use Rattle.chk_parts.specs.Records.{AreRecords}
-use Rattle.chk_parts.specs.Fetching.{AreWindows}
-use Rattle.chk_splitter.specs.Splitting.{fresh}
+use Rattle.chk_record_reader.specs.Segments.{SparesFiles, AreSettled}
+use Rattle.chk_record_reader.specs.Merging.{AreApart}
+use Rattle.chk_archive_parts.specs.Gathering.{held}
+use Rattle.chk_archive_parts.specs.Records.{AreRecords}
+use Rattle.chk_archive_parts.specs.Fetching.{AreWindows}
+use Rattle.chk_demux_split.specs.Splitting.{fresh}
 use Rattle.chk_demux.specs.Damage.{AreRead, AreOfNew}
 use Rattle.chk_demux.specs.Due.{IsFed}
 use Rattle.chk_demux.specs.Working.{Worked}

@@ -10,9 +10,9 @@ use Rattle.chk_world.specs.JobSteps.{ReadsOrWrites}
 use Rattle.chk_book.specs.Books.{book_view}
 use Rattle.chk_book.specs.Views.{end_view}
 use Rattle.chk_book.specs.Folders.{segment_name}
-use Rattle.chk_plan.proofs.Bridges.{each_index}
-use Rattle.chk_parts.specs.Fetching.{AreWindows}
-use Rattle.chk_parts.proofs.CutLists.{nothing_windows}
+use Rattle.chk_archive_plan.proofs.Bridges.{each_index}
+use Rattle.chk_archive_parts.specs.Fetching.{AreWindows}
+use Rattle.chk_archive_parts.proofs.CutLists.{nothing_windows}
 use Rattle.chk_demux.specs.Working.{Worked}
 use Rattle.chk_demux.specs.Writes.{IsOutput}
 use Rattle.chk_demux.specs.Splitting.{texts, split_from, RunsSo, stream_chunks, stream_left, all_chunks, all_left}
@@ -22,13 +22,13 @@ use Rattle.chk_demux.proofs.Due.{stream_due}
 use Rattle.chk_demux.proofs.RawReads.{beside, on_done, none_damaged}
 use Rattle.chk_demux.proofs.Ends.{at_as, no_more}
 use Rattle.chk_demux.proofs.Streams.{seen_at, chunks_more, left_more, stream_fails, stream_done}
-use Rattle.chk_parts.proofs.Works.{works_result, works_value, works_end}
+use Rattle.chk_archive_parts.proofs.Works.{works_result, works_value, works_end}
 use Rattle.chk_book.proofs.Works.{works_none, works_then}
 use Rattle.chk_site.proofs.Runs.{adds_as}
 use Rattle.chk_site.specs.declared.acts.OutsideFault.TheVariants.{NoMemory as no_memory}
-use Rattle.chk_heads.proofs.Causes.{shows_then, shows_outside}
-use Rattle.chk_merge.specs.Gone.{IsGoneIn}
-use Rattle.chk_merge.proofs.Causes.{late_gone_in}
+use Rattle.chk_record_index.proofs.Causes.{shows_then, shows_outside}
+use Rattle.chk_record_reader.specs.Gone.{IsGoneIn}
+use Rattle.chk_record_reader.proofs.Causes.{late_gone_in}
 use Rattle.chk_demux.proofs.NewHeads.{then_put, stream_put}
 use Rattle.chk_demux.proofs.splitting.split_streams.Goals as goal
 

@@ -11,11 +11,11 @@ use Rattle.chk_world.specs.Sight.{job, Sight, AtJob}
 use Rattle.chk_world.specs.JobSteps.{ReadsOrWrites}
 use Rattle.chk_book.specs.Folders.{segment_name}
 use Rattle.chk_book.specs.Books.{book_view}
-use Rattle.chk_merge.specs.Segments.{HasFiles, SparesFiles, AreSettled}
-use Rattle.chk_merge.specs.Merging.{AreApart}
-use Rattle.chk_parts.specs.Gathering.{held}
-use Rattle.chk_parts.specs.Records.{AreRecords}
-use Rattle.chk_parts.specs.Fetching.{AreWindows}
+use Rattle.chk_record_reader.specs.Segments.{HasFiles, SparesFiles, AreSettled}
+use Rattle.chk_record_reader.specs.Merging.{AreApart}
+use Rattle.chk_archive_parts.specs.Gathering.{held}
+use Rattle.chk_archive_parts.specs.Records.{AreRecords}
+use Rattle.chk_archive_parts.specs.Fetching.{AreWindows}
 use Rattle.chk_demux.specs.Damage.{AreRead, AreOfNew}
 use Rattle.chk_demux.specs.Due.{HasDue}
 use Rattle.chk_demux.specs.Working.{Worked}

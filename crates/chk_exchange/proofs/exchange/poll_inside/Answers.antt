@@ -1,7 +1,7 @@
 use Rattle.std.proofs.Common.{Option, Ok, Err, [], refl, subst, ◌∙◌}
 use Rattle.std.specs.Prelude.{Contains}
 use Rattle.std.proofs.lemmas.Result.{err_from_is_err_and}
-use Rattle.chk_delivery.specs.declared.answers.Below.{Below}
+use Rattle.chk_agent_delivery.specs.declared.answers.Below.{Below}
 use Rattle.chk_exchange.specs.Exchanges.{PollsInside}
 use Rattle.chk_exchange.specs.Faults.{ServedCause}
 use Rattle.chk_exchange.proofs.Lasting.{last_then}

@@ -1,7 +1,7 @@
 use Rattle.std.proofs.Common.{◌≡◌, ◌++◌, take, IsTrue}
 use Rattle.std.specs.List.{list_all}
 use Rattle.chk_bytes.specs.Stems.{is_stem}
-use Rattle.chk_message.specs.Messages.{query_text}
+use Rattle.chk_http_grammar.specs.Messages.{query_text}
 use Rattle.chk_http.proofs.writer.put_stems.Given as goal
 
 abbrev pub invariant-loop-place : goal.invariant-loop-place

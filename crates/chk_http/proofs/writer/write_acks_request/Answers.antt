@@ -1,7 +1,7 @@
 use Rattle.std.proofs.Common.{◌∙◌, ◌++◌, ap}
 use Rattle.std.specs.Prelude.{codes}
-use Rattle.chk_message.specs.Messages.{head_line, WrittenPoll}
-use Rattle.chk_message.proofs.Written.{written_is_poll}
+use Rattle.chk_http_grammar.specs.Messages.{head_line, WrittenPoll}
+use Rattle.chk_http_grammar.proofs.Written.{written_is_poll}
 use Rattle.chk_http.proofs.Pieces.{poll_joined}
 use Rattle.chk_http.proofs.writer.write_acks_request.Goals as goal
 

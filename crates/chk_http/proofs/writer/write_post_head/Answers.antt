@@ -1,8 +1,8 @@
 use Rattle.std.proofs.Common.{◌≡◌, ◌≤◌, ◌∙◌, ◌++◌, List, ℕ, length, ap, refl, sym, subst}
 use Rattle.std.specs.Prelude.{codes, decimal}
 use Rattle.chk_chunk.specs.Posts.{post_limit}
-use Rattle.chk_message.specs.Messages.{head_line, written_post_request}
-use Rattle.chk_message.proofs.Written.{post_accepted}
+use Rattle.chk_http_grammar.specs.Messages.{head_line, written_post_request}
+use Rattle.chk_http_grammar.proofs.Written.{post_accepted}
 use Rattle.chk_http.proofs.Pieces.{post_joined}
 use Rattle.chk_http.proofs.writer.write_post_head.Goals as goal
 

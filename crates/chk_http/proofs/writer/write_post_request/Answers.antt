@@ -1,6 +1,6 @@
 use Rattle.std.proofs.Common.{◌≡◌, ◌∙◌, refl}
-use Rattle.chk_message.specs.Messages.{written_post_request}
-use Rattle.chk_message.proofs.Written.{post_accepted}
+use Rattle.chk_http_grammar.specs.Messages.{written_post_request}
+use Rattle.chk_http_grammar.proofs.Written.{post_accepted}
 use Rattle.chk_http.proofs.writer.write_post_request.Goals as goal
 
 pub returns : goal.returns

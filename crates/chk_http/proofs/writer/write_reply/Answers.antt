@@ -1,8 +1,8 @@
 use Rattle.std.proofs.Common.{length, ◌≤◌}
 use Rattle.chk_chunk.specs.Posts.{post_limit}
-use Rattle.chk_message.specs.Messages.{WrittenReply}
+use Rattle.chk_http_grammar.specs.Messages.{WrittenReply}
 use Rattle.chk_http.specs.Written.{phrase_of}
-use Rattle.chk_message.proofs.Written.{written_is_reply}
+use Rattle.chk_http_grammar.proofs.Written.{written_is_reply}
 use Rattle.chk_http.proofs.Pieces.{reply_joined, answer_code}
 use Rattle.chk_http.proofs.writer.write_reply.Goals as goal
 

@@ -1,5 +1,5 @@
 use Rattle.std.proofs.Common.{refl, ap}
-use Rattle.chk_heads.specs.Faults.{job_fault}
+use Rattle.chk_record_index.specs.Faults.{job_fault}
 use Rattle.std.proofs.lemmas.Result.{err_from_is_err_and}
 use Rattle.std.specs.Prelude.{codes}
 use Rattle.chk_site.proofs.Leads.{leads_then}
@@ -10,9 +10,9 @@ use Rattle.chk_book.specs.declared.book.Book.{Book as Struct}
 use Rattle.chk_join.proofs.BookLoads.{book_loaded}
 use Rattle.chk_join.proofs.Begun.{joined_book, begin_refused, begun_so, start_stays}
 use Rattle.chk_join.proofs.Begun.{start_not_loaded, start_begins, load_begins}
-use Rattle.chk_copy.proofs.Segment.{joined_folder as joined_is_folder}
-use Rattle.chk_merge.proofs.Fetching.{failed_read as of_read}
-use Rattle.chk_parts.proofs.Works.{works_result}
+use Rattle.chk_join_sources.proofs.Segment.{joined_folder as joined_is_folder}
+use Rattle.chk_record_reader.proofs.Fetching.{failed_read as of_read}
+use Rattle.chk_archive_parts.proofs.Works.{works_result}
 use Rattle.chk_book.proofs.Works.{works_then, own_of}
 use Rattle.chk_join.proofs.beginning.begin.Goals as goal
 

@@ -1,7 +1,7 @@
 use Rattle.std.proofs.Common.{arith, sym, ◌∙◌}
 use Rattle.std.proofs.lemmas.Bool.{eqb-true}
 use Rattle.chk_book.specs.Views.{end_view}
-use Rattle.chk_heads.specs.Order.{lent_head}
+use Rattle.chk_record_index.specs.Order.{lent_head}
 use Rattle.chk_join.proofs.RunsOn.{none_run, block_more, block_all}
 use Rattle.chk_join.proofs.planned.block_runs.Goals as goal
 

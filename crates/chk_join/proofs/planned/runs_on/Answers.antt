@@ -1,5 +1,5 @@
 use Rattle.std.proofs.Common.{false, arith}
-use Rattle.chk_choose.specs.declared.plan.Choice.{Choice}
+use Rattle.chk_join_sources.specs.declared.plan.Choice.{Choice}
 use Rattle.chk_join.proofs.RunsOn.{chosen_more}
 use Rattle.chk_join.proofs.planned.runs_on.Goals as goal
 

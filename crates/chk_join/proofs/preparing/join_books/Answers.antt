@@ -2,13 +2,13 @@ use Rattle.chk_world.specs.JobSteps.{SparesFile}
 use Rattle.std.proofs.Common.{Ok, Err, ◌∙◌, List}
 use Rattle.std.proofs.lemmas.Result.{err_from_is_err_and}
 use Rattle.chk_site.proofs.Leads.{leads_as, leads_then}
-use Rattle.chk_heads.specs.Heads.{Head}
+use Rattle.chk_record_index.specs.Heads.{Head}
 use Rattle.chk_book.specs.Books.{book_view}
-use Rattle.chk_merge.specs.Segments.{names_of}
-use Rattle.chk_copy.specs.Copying.{joined_segment, Copies}
+use Rattle.chk_record_reader.specs.Segments.{names_of}
+use Rattle.chk_join_sources.specs.Copying.{joined_segment, Copies}
 use Rattle.chk_join.specs.declared.preparing.Prepared.{Prepared}
 use Rattle.chk_join.proofs.Chain.{reads_told, left_damaged, left_joined, reads_work, untold}
-use Rattle.chk_parts.proofs.Works.{works_fail}
+use Rattle.chk_archive_parts.proofs.Works.{works_fail}
 use Rattle.chk_book.proofs.Works.{works_then}
 use Rattle.chk_join.proofs.preparing.join_books.Goals as goal
 

@@ -3,15 +3,15 @@ use Rattle.std.proofs.Common.{Ok, Err, map}
 use Rattle.chk_site.proofs.Leads.{leads_as, leads_then}
 use Rattle.chk_world.proofs.Each.{Each}
 use Rattle.chk_book.specs.Views.{end_view}
-use Rattle.chk_choose.specs.declared.choosing.Chosen.{Chosen}
-use Rattle.chk_choose.specs.Pairs.{pairs_of}
-use Rattle.chk_choose.specs.Differing.{PairAgrees}
-use Rattle.chk_copy.specs.Copying.{joined_segment, Copies}
+use Rattle.chk_join_sources.specs.declared.choosing.Chosen.{Chosen}
+use Rattle.chk_join_sources.specs.Pairs.{pairs_of}
+use Rattle.chk_join_sources.specs.Differing.{PairAgrees}
+use Rattle.chk_join_sources.specs.Copying.{joined_segment, Copies}
 use Rattle.chk_join.specs.declared.preparing.Prepared.{Prepared}
 use Rattle.chk_join.specs.declared.preparing.Prepared.TheVariants.{Differs}
 use Rattle.chk_join.proofs.Chain.{beside_segment, with_fact, chosen_fit, took_sides, not_compared}
 use Rattle.chk_join.proofs.Chain.{reads_work, untold}
-use Rattle.chk_parts.proofs.Works.{works_value, works_fail}
+use Rattle.chk_archive_parts.proofs.Works.{works_value, works_fail}
 use Rattle.chk_book.proofs.Works.{works_then}
 use Rattle.chk_join.proofs.preparing.join_sides.Goals as goal
 

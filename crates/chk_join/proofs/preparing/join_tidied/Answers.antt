@@ -4,13 +4,13 @@ use Rattle.chk_world.specs.JobSteps.{SparesFile}
 use Rattle.std.proofs.Common.{Ok, subst, sym}
 use Rattle.chk_site.proofs.Leads.{leads_as, leads_then}
 use Rattle.chk_book.specs.Books.{book_view}
-use Rattle.chk_merge.specs.Segments.{names_of}
-use Rattle.chk_merge.specs.Merging.{SparesBoth}
-use Rattle.chk_compare.specs.Reading.{AreAmong}
-use Rattle.chk_copy.specs.Copying.{joined_segment, Copies}
+use Rattle.chk_record_reader.specs.Segments.{names_of}
+use Rattle.chk_record_reader.specs.Merging.{SparesBoth}
+use Rattle.chk_join_sources.specs.Reading.{AreAmong}
+use Rattle.chk_join_sources.specs.Copying.{joined_segment, Copies}
 use Rattle.chk_join.specs.Working.{TidiesBy, PreparesBy}
 use Rattle.chk_join.specs.declared.preparing.Prepared.{Prepared}
-use Rattle.chk_parts.proofs.Works.{works_as}
+use Rattle.chk_archive_parts.proofs.Works.{works_as}
 use Rattle.chk_book.proofs.Works.{works_then, own_of}
 use Rattle.chk_join.proofs.Apart.{chunk_most}
 use Rattle.chk_join.proofs.Chain.{stays_over, untold}

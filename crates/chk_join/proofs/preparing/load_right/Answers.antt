@@ -5,11 +5,11 @@ use Rattle.chk_site.proofs.Leads.{leads_as, leads_then}
 use Rattle.chk_book.specs.Books.{book_view}
 use Rattle.chk_book.specs.Folders.{book_name}
 use Rattle.chk_book.specs.declared.book.Book.{Book as Struct}
-use Rattle.chk_copy.specs.Copying.{joined_segment}
+use Rattle.chk_join_sources.specs.Copying.{joined_segment}
 use Rattle.chk_join.specs.Working.{PreparesBy}
 use Rattle.chk_join.specs.Preparing.{IsFolderBook}
 use Rattle.chk_join.specs.declared.preparing.Prepared.{Prepared}
-use Rattle.chk_parts.proofs.Works.{works_fail}
+use Rattle.chk_archive_parts.proofs.Works.{works_fail}
 use Rattle.chk_book.proofs.Works.{works_then}
 use Rattle.chk_join.proofs.Apart.{plain_folder}
 use Rattle.chk_join.proofs.Chain.{under, untold}

@@ -13,7 +13,7 @@ use Rattle.chk_join.specs.Joined.{reads_of, joined_folder, LeavesFolders}
 use Rattle.chk_join.specs.Preparing.{IsFolderBook}
 use Rattle.chk_join.specs.declared.preparing.Prepared.{Prepared}
 use Rattle.chk_join.proofs.Begun.{joined_book}
-use Rattle.chk_parts.proofs.Works.{works_as, works_fail}
+use Rattle.chk_archive_parts.proofs.Works.{works_as, works_fail}
 use Rattle.chk_book.proofs.Works.{works_then, own_of}
 use Rattle.chk_join.proofs.Apart.{covers}
 use Rattle.chk_join.proofs.Chain.{under, untold}

@@ -7,8 +7,8 @@ use Rattle.chk_site.proofs.Leads.{leads_as}
 use Rattle.chk_book.specs.Books.{book_view}
 use Rattle.chk_book.specs.Views.{end_view}
 use Rattle.chk_book.specs.declared.lists.End.{End as EndStruct}
-use Rattle.chk_choose.specs.declared.plan.Choice.{Choice}
-use Rattle.chk_copy.specs.Copying.{chosen_chunks}
+use Rattle.chk_join_sources.specs.declared.plan.Choice.{Choice}
+use Rattle.chk_join_sources.specs.Copying.{chosen_chunks}
 use Rattle.chk_join.specs.Preparing.{WrotePlan}
 use Rattle.chk_join.proofs.Chain.{not_taken}
 use Rattle.chk_join.proofs.preparing.take_plan.Goals as goal

@@ -9,10 +9,10 @@ use Rattle.chk_world.specs.Books.{Book, End}
 use Rattle.chk_book.specs.Views.{segment_view, end_view}
 use Rattle.chk_book.specs.Loaded.{book_result}
 use Rattle.chk_book.specs.declared.book.Book.{Book as Struct}
-use Rattle.chk_choose.specs.declared.plan.Choice.{Choice}
-use Rattle.chk_copy.specs.Copying.{chosen_chunks, Copies}
+use Rattle.chk_join_sources.specs.declared.plan.Choice.{Choice}
+use Rattle.chk_join_sources.specs.Copying.{chosen_chunks, Copies}
 use Rattle.chk_join.proofs.PlanWritten.{none_chosen, wrote_plan, none_alone, stood_plan}
-use Rattle.chk_parts.proofs.Works.{works_memory}
+use Rattle.chk_archive_parts.proofs.Works.{works_memory}
 use Rattle.chk_book.proofs.Works.{works_none, worked}
 use Rattle.chk_join.proofs.preparing.write_plan.Goals as goal
 

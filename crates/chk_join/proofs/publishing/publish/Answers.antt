@@ -8,10 +8,10 @@ use Rattle.chk_world.specs.Books.{book_bytes, written_version}
 use Rattle.chk_book.specs.Books.{book_view}
 use Rattle.chk_book.specs.Folders.{book_name}
 use Rattle.chk_book.specs.Publishing.{site_result}
-use Rattle.chk_copy.proofs.Segment.{joined_folder as joined_is_folder}
+use Rattle.chk_join_sources.proofs.Segment.{joined_folder as joined_is_folder}
 use Rattle.chk_join.proofs.Published.{published_so, not_spelled, publish_works}
-use Rattle.chk_parts.specs.Publishing.{ReplacesBookOf}
-use Rattle.chk_parts.proofs.Works.{works_memory}
+use Rattle.chk_archive_parts.specs.Publishing.{ReplacesBookOf}
+use Rattle.chk_archive_parts.proofs.Works.{works_memory}
 use Rattle.chk_join.proofs.publishing.publish.Goals as goal
 
 pub publish-requires-clause-folder : goal.publish-requires-clause-folder

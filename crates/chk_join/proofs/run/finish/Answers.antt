@@ -1,6 +1,6 @@
 use Rattle.std.proofs.Common.{subst, sym}
 use Rattle.chk_book.specs.Books.{book_view}
-use Rattle.chk_parts.specs.Publishing.{ReplacesBookOf}
+use Rattle.chk_archive_parts.specs.Publishing.{ReplacesBookOf}
 use Rattle.chk_join.specs.Joined.{joined_folder}
 use Rattle.chk_join.specs.Publishing.{IsFinishFault}
 use Rattle.chk_join.specs.declared.report.JoinReport.{JoinReport}

@@ -4,10 +4,10 @@ use Rattle.chk_join.proofs.Chain.{untold}
 use Rattle.std.proofs.Common.{Ok, Err, subst, sym}
 use Rattle.chk_site.proofs.Leads.{leads_as, leads_then}
 use Rattle.chk_world.specs.JobSteps.{IsOf}
-use Rattle.chk_heads.specs.Pieces.{AsksInPieces}
-use Rattle.chk_heads.proofs.Gathering.{every_then}
-use Rattle.chk_parts.specs.Publishing.{ReplacesBookOf}
-use Rattle.chk_parts.proofs.StepKinds.{as_kind}
+use Rattle.chk_record_index.specs.Pieces.{AsksInPieces}
+use Rattle.chk_record_index.proofs.Gathering.{every_then}
+use Rattle.chk_archive_parts.specs.Publishing.{ReplacesBookOf}
+use Rattle.chk_archive_parts.proofs.StepKinds.{as_kind}
 use Rattle.chk_join.specs.Working.{Prepares}
 use Rattle.chk_join.specs.Joined.{joined_folder, LeavesFolders}
 use Rattle.chk_join.specs.Faults.{IsJoinFault, JoinsBy}

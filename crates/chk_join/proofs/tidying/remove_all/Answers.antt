@@ -1,8 +1,8 @@
 use Rattle.chk_join.proofs.Chain.{untold}
 use Rattle.chk_join.proofs.StraysGone.{removed_one, none_pending}
-use Rattle.chk_parts.proofs.InTurn.{next_is, cause_done}
+use Rattle.chk_archive_parts.proofs.InTurn.{next_is, cause_done}
 use Rattle.chk_join.specs.Cleaned.{Pending}
-use Rattle.chk_copy.specs.Copying.{joined_segment}
+use Rattle.chk_join_sources.specs.Copying.{joined_segment}
 use Rattle.chk_replace.specs.Replace.{LeavesFile}
 use Rattle.chk_site.proofs.Leads.{leads_as, leads_none, leads_then}
 use Rattle.chk_site.specs.Runs.{anyhow, Leads}
@@ -11,8 +11,8 @@ use Rattle.std.proofs.Common.{◌∙◌, Ok, Err, refl, sym, subst, [], ◌∷�
 use Rattle.std.proofs.lemmas.Result.{err_from_is_err_and}
 use Rattle.chk_site.specs.declared.acts.Call.TheVariants.{Remove}
 use Rattle.chk_site.specs.Site.{Adds, asked, answered, plain, Calls}
-use Rattle.chk_heads.specs.Faults.{job_fault}
-use Rattle.chk_merge.proofs.AllRead.{each_get}
+use Rattle.chk_record_index.specs.Faults.{job_fault}
+use Rattle.chk_record_reader.proofs.AllRead.{each_get}
 use Rattle.chk_join.specs.Names.{IsStray}
 use Rattle.chk_join.specs.Working.{TidiesBy}
 use Rattle.chk_book.proofs.Works.{works_none, works_then}

@@ -3,7 +3,7 @@ use Rattle.std.specs.Prelude.{IsTrue}
 use Rattle.chk_bytes.specs.Stems.{is_count}
 use Rattle.chk_site.specs.Runs.{anyhow, Leads}
 use Rattle.chk_replace.specs.Replace.{LeavesFile}
-use Rattle.chk_copy.specs.Copying.{joined_segment}
+use Rattle.chk_join_sources.specs.Copying.{joined_segment}
 use Rattle.chk_join.specs.Cleaned.{Pending}
 use Rattle.chk_site.specs.Site.{Adds}
 use Rattle.chk_world.specs.Books.{Book}

@@ -5,17 +5,17 @@ use Rattle.chk_site.specs.Site.{Adds}
 use Rattle.chk_join.proofs.StraysGone.{pending_from}
 use Rattle.chk_join.specs.Cleaned.{Pending, GoneAtOk}
 use Rattle.chk_book.specs.Folders.{segment_stem}
-use Rattle.chk_copy.specs.Copying.{joined_segment}
+use Rattle.chk_join_sources.specs.Copying.{joined_segment}
 use Rattle.chk_site.proofs.Leads.{leads_as, leads_then}
 use Rattle.std.specs.Prelude.{Contains}
 use Rattle.std.proofs.Common.{Ok, sym, subst}
 use Rattle.std.proofs.lemmas.Result.{err_from_is_err_and}
-use Rattle.chk_heads.specs.Faults.{job_fault}
+use Rattle.chk_record_index.specs.Faults.{job_fault}
 use Rattle.chk_world.proofs.Each.{Each}
 use Rattle.chk_book.specs.Books.{book_view}
 use Rattle.chk_join.specs.Names.{IsStray}
 use Rattle.chk_join.specs.Working.{TidiesBy, job_result}
-use Rattle.chk_parts.proofs.Works.{works_end, works_fail}
+use Rattle.chk_archive_parts.proofs.Works.{works_end, works_fail}
 use Rattle.chk_book.proofs.Works.{works_then}
 use Rattle.chk_join.proofs.tidying.tidy.Goals as goal
 

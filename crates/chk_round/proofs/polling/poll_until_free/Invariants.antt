@@ -1,4 +1,4 @@
-use Rattle.chk_drain.specs.Parts.{unmarked_in}
+use Rattle.chk_agent_drain.specs.Parts.{unmarked_in}
 use Rattle.chk_round.proofs.Polls.{Polling}
 use Rattle.chk_round.proofs.polling.poll_until_free.Given as goal
 

@@ -1,7 +1,7 @@
 use Rattle.std.proofs.Common.{Option, Ok, ap, subst}
 use Rattle.std.proofs.lemmas.Result.{err_from_is_err_and}
 use Rattle.chk_site.specs.declared.acts.Who.{Who}
-use Rattle.chk_delivery.specs.declared.answers.Below.{Below}
+use Rattle.chk_agent_delivery.specs.declared.answers.Below.{Below}
 use Rattle.chk_exchange.specs.Exchanges.{PollsInside}
 use Rattle.chk_round.proofs.Joining.{exchange_ends, exchange_goes}
 use Rattle.chk_round.proofs.KeptInside.{poll_keeps_by}

@@ -1,6 +1,6 @@
 use Rattle.std.proofs.Common.{Ok, Err, ap, ◌∙◌, refl, arith}
 use Rattle.std.proofs.lemmas.Result.{err_from_is_err_and}
-use Rattle.chk_drain.proofs.ReadingOn.{held_some}
+use Rattle.chk_agent_drain.proofs.ReadingOn.{held_some}
 use Rattle.chk_round.proofs.Stepping.{ended_lives, ended_on, held_own, own_stepped, ended_script, ended_sends, grown_script, shrank_script, unposted_script, unread_script, growing_cause, growing_legal, held_ends, held_is, held_next, held_smaller, held_so, read_smaller, reading_ended, reading_fails, reading_none, reading_read, reading_shrinks, reading_stops, shrank_cause, stepped_acts, still_there}
 use Rattle.chk_agent.specs.declared.answers.Stepped.{Stepped}
 use Rattle.chk_round.specs.Faults.{of_agent}

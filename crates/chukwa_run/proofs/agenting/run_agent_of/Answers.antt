@@ -3,8 +3,8 @@ use Rattle.std.specs.Prelude.{option_map}
 use Rattle.std.specs.Borrow.{Bor}
 use Rattle.chk_failover.specs.Turns.{Turns}
 use Rattle.chk_agent_run.specs.declared.run.Work.{Work}
-use Rattle.chk_words.specs.Commands.{Agent}
-use Rattle.chk_words.specs.Commands.{agent_of}
+use Rattle.chk_cmd_line.specs.Commands.{Agent}
+use Rattle.chk_cmd_line.specs.Commands.{agent_of}
 use Rattle.chukwa_run.proofs.AgentRun.{run_of, causes, told, went_well, went_wrong}
 use Rattle.chukwa_run.proofs.AgentFaults.{no_bad_line, has_file}
 use Rattle.chukwa_run.proofs.Unbegun.{unbegun, caused_nothing}

@@ -1,5 +1,5 @@
 use Rattle.std.proofs.Common.{Ok, Err}
-use Rattle.chk_words.specs.Commands.{Archive}
+use Rattle.chk_cmd_line.specs.Commands.{Archive}
 use Rattle.chukwa_run.proofs.ArchiveRun.{causes, told}
 use Rattle.chukwa_run.proofs.Unbegun.{unbegun, caused_nothing}
 use Rattle.chukwa_run.proofs.Statuses.{job_status}

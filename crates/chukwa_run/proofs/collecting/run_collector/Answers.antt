@@ -1,6 +1,6 @@
 use Rattle.std.proofs.Common.{Ok, Err}
-use Rattle.chk_words.specs.Commands.{Collector}
-use Rattle.chk_words.specs.Commands.{collector_of}
+use Rattle.chk_cmd_line.specs.Commands.{Collector}
+use Rattle.chk_cmd_line.specs.Commands.{collector_of}
 use Rattle.chukwa_run.proofs.CollectorRun.{collection, causes, told, unread_causes, unread_told, unread_cause, unread_status, collected_cause}
 use Rattle.chukwa_run.proofs.Unbegun.{unbegun, caused_nothing}
 use Rattle.chukwa_run.proofs.Statuses.{sink_status}

@@ -1,6 +1,6 @@
 use Rattle.std.proofs.Common.{ℕ, List, map, Bor, subst, sym}
-use Rattle.chk_words.specs.declared.commands.Command.{Command}
-use Rattle.chk_words.specs.Commands.{asked_of, Demux}
+use Rattle.chk_cmd_line.specs.declared.commands.Command.{Command}
+use Rattle.chk_cmd_line.specs.Commands.{asked_of, Demux}
 use Rattle.chukwa_run.specs.Working.{Works}
 use Rattle.chukwa_run.proofs.commanding.run_command.Goals as goal
 

@@ -1,6 +1,6 @@
 use Rattle.std.proofs.Common.{Ok, Err}
-use Rattle.chk_words.specs.Commands.{Udp}
-use Rattle.chk_words.specs.Datagrams.{udp_of}
+use Rattle.chk_cmd_line.specs.Commands.{Udp}
+use Rattle.chk_cmd_line.specs.Datagrams.{udp_of}
 use Rattle.chukwa_run.proofs.DatagramRun.{given, causes, told, udp_status}
 use Rattle.chukwa_run.proofs.Unbegun.{unbegun, caused_nothing}
 use Rattle.chukwa_run.proofs.datagrams.run_datagrams.Goals as goal

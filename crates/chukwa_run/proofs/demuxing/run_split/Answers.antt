@@ -1,5 +1,5 @@
 use Rattle.std.proofs.Common.{Ok, Err, ℕ, List, map, Bor}
-use Rattle.chk_words.specs.Commands.{Demux}
+use Rattle.chk_cmd_line.specs.Commands.{Demux}
 use Rattle.chukwa_run.proofs.DemuxRun.{causes, told}
 use Rattle.chukwa_run.proofs.Unbegun.{unbegun, caused_nothing}
 use Rattle.chukwa_run.proofs.Statuses.{split_status}

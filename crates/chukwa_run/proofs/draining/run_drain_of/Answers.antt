@@ -1,8 +1,8 @@
 use Rattle.std.proofs.Common.{ℕ, List, Option, Ok, Err, ap, ◌∙◌}
 use Rattle.std.specs.Prelude.{option_map}
 use Rattle.std.specs.Borrow.{Bor}
-use Rattle.chk_words.specs.Commands.{drain_of}
-use Rattle.chk_words.specs.Commands.{Drain}
+use Rattle.chk_cmd_line.specs.Commands.{drain_of}
+use Rattle.chk_cmd_line.specs.Commands.{Drain}
 use Rattle.chukwa_run.specs.declared.draining.Setting.{Setting}
 use Rattle.chukwa_run.proofs.DrainFaults.{has_drain_file, no_bad_drain}
 use Rattle.chukwa_run.proofs.DrainRun.{causes, told, went_well, went_wrong}

@@ -1,6 +1,6 @@
 use Rattle.std.proofs.Common.{Ok, Err}
-use Rattle.chk_words.specs.Commands.{Join}
-use Rattle.chk_words.specs.Joining.{join_of}
+use Rattle.chk_cmd_line.specs.Commands.{Join}
+use Rattle.chk_cmd_line.specs.Joining.{join_of}
 use Rattle.chukwa_run.proofs.JoinRun.{causes, told, join_cause}
 use Rattle.chukwa_run.proofs.Unbegun.{unbegun, caused_nothing}
 use Rattle.chukwa_run.proofs.Statuses.{join_status}

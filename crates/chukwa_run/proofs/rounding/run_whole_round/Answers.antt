@@ -1,6 +1,6 @@
 use Rattle.std.proofs.Common.{Ok, Err}
-use Rattle.chk_words.specs.Commands.{round_of}
-use Rattle.chk_words.specs.Commands.{Round}
+use Rattle.chk_cmd_line.specs.Commands.{round_of}
+use Rattle.chk_cmd_line.specs.Commands.{Round}
 use Rattle.chukwa_run.proofs.RoundRun.{causes, of_words, told, went_well, went_wrong}
 use Rattle.chukwa_run.proofs.Unbegun.{unbegun, caused_nothing}
 use Rattle.chukwa_run.proofs.Statuses.{round_status}

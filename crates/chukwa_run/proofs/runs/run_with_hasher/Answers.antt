@@ -2,11 +2,11 @@ use Rattle.std.proofs.Common.{ℕ, List, map, Err, Bor, subst}
 use Rattle.std.specs.Prelude.{Contains}
 use Rattle.chk_site.specs.Site.{Adds}
 use Rattle.chk_site.specs.Runs.{Leads}
-use Rattle.chk_words.specs.declared.usage.Usage.{Usage}
-use Rattle.chk_words.specs.Commands.{Asked, asked_of}
-use Rattle.chk_words.specs.Usages.{usage_text}
-use Rattle.chk_words.specs.declared.endings.Ending.TheVariants.{NoMemory}
-use Rattle.chk_words.specs.Usages.{usage_line}
+use Rattle.chk_cmd_line.specs.declared.usage.Usage.{Usage}
+use Rattle.chk_cmd_line.specs.Commands.{Asked, asked_of}
+use Rattle.chk_cmd_line.specs.Usages.{usage_text}
+use Rattle.chk_cmd_line.specs.declared.endings.Ending.TheVariants.{NoMemory}
+use Rattle.chk_cmd_line.specs.Usages.{usage_line}
 use Rattle.chukwa_run.specs.Demuxing.{SuitsTypes}
 use Rattle.chukwa_run.specs.Processes.{RunSide}
 use Rattle.chukwa_run.specs.Runs.{Begins, Ends, Caused, SaysUsage}

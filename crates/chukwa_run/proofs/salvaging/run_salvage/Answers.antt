@@ -1,5 +1,5 @@
 use Rattle.std.proofs.Common.{Ok, Err}
-use Rattle.chk_words.specs.Commands.{Salvage}
+use Rattle.chk_cmd_line.specs.Commands.{Salvage}
 use Rattle.chukwa_run.proofs.SalvageRun.{is_salvage, went_well, went_wrong, caused_so, told_so}
 use Rattle.chukwa_run.proofs.Unbegun.{unbegun, caused_nothing}
 use Rattle.chukwa_run.proofs.Statuses.{salvage_status}

@@ -1,6 +1,6 @@
 use Rattle.std.proofs.Common.{Ok, Err}
-use Rattle.chk_words.specs.Commands.{Subscribe}
-use Rattle.chk_words.specs.Subscribing.{subscribe_of}
+use Rattle.chk_cmd_line.specs.Commands.{Subscribe}
+use Rattle.chk_cmd_line.specs.Subscribing.{subscribe_of}
 use Rattle.chukwa_run.proofs.WatchRun.{given, causes, told, watch_status}
 use Rattle.chukwa_run.proofs.Unbegun.{unbegun, caused_nothing}
 use Rattle.chukwa_run.proofs.subscribing.run_subscribe.Goals as goal

@@ -3,7 +3,7 @@ use Rattle.std.proofs.Common.{arith, rules, Some, None, Ok}
 use Rattle.std.specs.Prelude.{slice_get}
 use Rattle.std.proofs.lemmas.Option.{same_Some}
 use Rattle.std.proofs.lemmas.Result.{err_from_is_err_and}
-use Rattle.chk_reading.specs.Adaptors.{Adaptor, is_past}
+use Rattle.chk_agent_adaptor.specs.Adaptors.{Adaptor, is_past}
 use Rattle.chk_agent.specs.declared.answers.Added.TheVariants.{New, Live as live_already}
 use Rattle.chk_agent.specs.States.{State}
 use Rattle.chk_agent.specs.Fields.{agent_view}

@@ -1,6 +1,6 @@
 use Rattle.chk_site.specs.declared.acts.Call.TheVariants.{Send}
 use Rattle.chk_world.specs.Places.{Making}
-use Rattle.chk_delivery.specs.Scripts.{poll_fails}
+use Rattle.chk_agent_delivery.specs.Scripts.{poll_fails}
 use Rattle.chk_agent.specs.Fields.{agent_view}
 use Rattle.chk_agent.proofs.TalkingTold.{polls_by, sending_runs, talk_told, talk_cause, poll_cause}
 use Rattle.chk_agent.proofs.TalkingSound.{polled_sound}

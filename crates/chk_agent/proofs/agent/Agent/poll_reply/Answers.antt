@@ -1,5 +1,5 @@
 use Rattle.chk_world.specs.Places.{As}
-use Rattle.chk_delivery.specs.Scripts.{lengths_fail}
+use Rattle.chk_agent_delivery.specs.Scripts.{lengths_fail}
 use Rattle.chk_agent.specs.Fields.{agent_view}
 use Rattle.chk_agent.proofs.TalkingTold.{lengths_by, as_runs, talk_told, talk_cause, lengths_cause}
 use Rattle.chk_agent.proofs.TalkingSound.{lengths_sound}

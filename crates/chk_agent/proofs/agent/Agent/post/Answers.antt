@@ -1,6 +1,6 @@
 use Rattle.chk_site.specs.declared.acts.Call.TheVariants.{Send}
 use Rattle.chk_world.specs.Places.{Making}
-use Rattle.chk_delivery.specs.Scripts.{post_fails}
+use Rattle.chk_agent_delivery.specs.Scripts.{post_fails}
 use Rattle.chk_agent.specs.Fields.{agent_view}
 use Rattle.chk_agent.proofs.TalkingTold.{posts_by, sending_runs, talk_told, talk_cause, post_cause}
 use Rattle.chk_agent.proofs.TalkingSound.{posted_sound}

@@ -1,5 +1,5 @@
 use Rattle.chk_world.specs.Places.{As}
-use Rattle.chk_delivery.specs.Scripts.{reply_fails}
+use Rattle.chk_agent_delivery.specs.Scripts.{reply_fails}
 use Rattle.chk_agent.specs.Fields.{agent_view}
 use Rattle.chk_agent.proofs.TalkingTold.{replies_by, as_runs, talk_told, talk_cause, answer_cause}
 use Rattle.chk_agent.proofs.TalkingSound.{replied_sound}

@@ -1,6 +1,6 @@
 use Rattle.std.proofs.Common.{Err, ap, refl, ◌∙◌}
 use Rattle.std.proofs.lemmas.Result.{err_from_is_err_and}
-use Rattle.chk_adaptors.specs.Adaptors.{Held}
+use Rattle.chk_agent_table.specs.Adaptors.{Held}
 use Rattle.chk_agent.specs.Fields.{agent_view}
 use Rattle.chk_agent.proofs.CommandingPlain.{did_as, answered_as, unmade_as}
 use Rattle.chk_agent.proofs.CommandingShut.{none_to_end, found_one, one_to_end, with_adaptors}

@@ -11,10 +11,10 @@ use Rattle.chk_chunk.specs.Lent.{chunk_of}
 use Rattle.chk_tail.specs.declared.step.Step.{Step}
 use Rattle.chk_tail.specs.declared.step.Step.TheVariants.{Bytes, AtEnd, Shrank as is_short}
 use Rattle.chk_tail.specs.Given.{IsGiven}
-use Rattle.chk_reading.specs.Adaptors.{before_of}
-use Rattle.chk_delivery.specs.Sound.{next_begins}
-use Rattle.chk_delivery.specs.Turns.{with_chunk}
-use Rattle.chk_delivery.proofs.Putting.{by_ok}
+use Rattle.chk_agent_adaptor.specs.Adaptors.{before_of}
+use Rattle.chk_agent_delivery.specs.Sound.{next_begins}
+use Rattle.chk_agent_delivery.specs.Turns.{with_chunk}
+use Rattle.chk_agent_delivery.proofs.Putting.{by_ok}
 use Rattle.chk_agent.specs.declared.answers.Stepped.{Stepped}
 use Rattle.chk_agent.specs.declared.answers.Stepped.TheVariants.{AtEnd as step_at_end}
 use Rattle.chk_agent.specs.declared.answers.Stepped.TheVariants.{Shrank as step_shrank}
@@ -32,7 +32,7 @@ use Rattle.chk_agent.specs.Within.{chunk_made}
 use Rattle.chk_agent.proofs.AddingLines.{last_unmade, undamaged_by, last_by, cause_by}
 use Rattle.chk_agent.proofs.TurningFaults.{last_ok}
 use Rattle.chk_agent.proofs.Soundness.{below_at}
-use Rattle.chk_adaptors.specs.Adaptors.{Held}
+use Rattle.chk_agent_table.specs.Adaptors.{Held}
 use Rattle.chk_agent.proofs.SteppingTold.{kept_told}
 use Rattle.chk_agent.proofs.SteppingExits.{if_ok, stepped_at, put_is, undone_is}
 use Rattle.chk_agent.proofs.SteppingExits.{own_state, made_sound, made_state, made_on, undone_state}

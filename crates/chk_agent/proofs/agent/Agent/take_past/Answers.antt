@@ -4,8 +4,8 @@ use Rattle.std.proofs.lemmas.Result.{err_from_is_err_and}
 use Rattle.chk_site.specs.declared.acts.OutsideFault.TheVariants.{Outside as site_failed}
 use Rattle.chk_site.specs.declared.acts.OutsideFault.TheVariants.{NoMemory as no_memory}
 use Rattle.chk_checkpoint.specs.Lines.{shown}
-use Rattle.chk_reading.specs.Adaptors.{revived}
-use Rattle.chk_adaptors.specs.Adaptors.{is_named}
+use Rattle.chk_agent_adaptor.specs.Adaptors.{revived}
+use Rattle.chk_agent_table.specs.Adaptors.{is_named}
 use Rattle.chk_agent.specs.declared.answers.AgentFault.TheVariants.{NoMemory}
 use Rattle.chk_agent.specs.States.{State, lines_of}
 use Rattle.chk_agent.specs.Fields.{agent_view}

@@ -4,9 +4,9 @@ use Rattle.std.specs.Prelude.{position}
 use Rattle.std.proofs.lemmas.Result.{err_from_is_err_and}
 use Rattle.chk_checkpoint.specs.Lines.{shown}
 use Rattle.chk_world.specs.Checkpoints.{Line}
-use Rattle.chk_reading.specs.Adaptors.{Adaptor, adaptor_of}
-use Rattle.chk_adaptors.specs.Adaptors.{is_named, is_of}
-use Rattle.chk_delivery.specs.Turns.{begun_at}
+use Rattle.chk_agent_adaptor.specs.Adaptors.{Adaptor, adaptor_of}
+use Rattle.chk_agent_table.specs.Adaptors.{is_named, is_of}
+use Rattle.chk_agent_delivery.specs.Turns.{begun_at}
 use Rattle.chk_agent.specs.declared.answers.AgentFault.TheVariants.{NoMemory}
 use Rattle.chk_agent.specs.Fields.{agent_view}
 use Rattle.chk_agent.specs.Adds.{with_added}

@@ -10,7 +10,7 @@ use Rattle.chk_book.specs.Written.{taken}
 use Rattle.chk_book.proofs.Segmented.{unsaid}
 use Rattle.chk_book.specs.declared.segmenter.Segmenter.{Segmenter}
 use Rattle.chk_book.proofs.Added.{leads_named, writes_named, fails_later, fails_as, cause_later, cause_then, write_begins, all_begin, spent_write, spent_written, spent_same, next_chunks, added}
-use Rattle.chk_heads.proofs.Gathering.{every_then}
+use Rattle.chk_record_index.proofs.Gathering.{every_then}
 use Rattle.chk_book.proofs.book.Book.add_segment.Goals as goal
 
 pub returns-in_err-part-clause-raw : goal.returns-in_err-part-clause-raw

@@ -3,7 +3,7 @@ use Rattle.chk_site.proofs.Runs.{adds_as}
 use Rattle.chk_site.proofs.Leads.{leads_as, leads_none}
 use Rattle.chk_replace.proofs.CallSteps.{script_last}
 use Rattle.chk_seqfile.specs.Headers.{header, marker_of}
-use Rattle.chk_heads.specs.Faults.{FailsLast}
+use Rattle.chk_record_index.specs.Faults.{FailsLast}
 use Rattle.std.proofs.Common.{Ok}
 use Rattle.chk_book.specs.Folders.{segment_name, segment_stem}
 use Rattle.chk_book.specs.declared.segmenter.Segmenter.{Segmenter}

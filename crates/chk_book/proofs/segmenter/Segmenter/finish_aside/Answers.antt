@@ -5,7 +5,7 @@ use Rattle.std.proofs.lemmas.Result.{err_from_is_err_and}
 use Rattle.chk_site.proofs.Runs.{adds_as}
 use Rattle.chk_site.proofs.Leads.{leads_as}
 use Rattle.chk_replace.proofs.CallSteps.{script_last}
-use Rattle.chk_heads.specs.Faults.{FailsLast}
+use Rattle.chk_record_index.specs.Faults.{FailsLast}
 use Rattle.chk_book.specs.Books.{book_view}
 use Rattle.chk_book.specs.Views.{segment_view}
 use Rattle.chk_book.proofs.Segmented.{unsaid, failed_last, rest_held, rest_own, same_segment}

@@ -5,7 +5,7 @@ use Rattle.chk_site.proofs.Runs.{adds_as}
 use Rattle.chk_site.proofs.Leads.{leads_as, leads_none}
 use Rattle.chk_replace.proofs.CallSteps.{script_last}
 use Rattle.chk_chunk.specs.Lent.{lent_chunk}
-use Rattle.chk_heads.specs.Faults.{FailsLast}
+use Rattle.chk_record_index.specs.Faults.{FailsLast}
 use Rattle.chk_book.specs.Segmenting.{Writing, HoldsSegment, grown}
 use Rattle.chk_book.specs.Written.{IsAt, next_piece, is_full}
 use Rattle.chk_book.proofs.Segmented.{unsaid, failed_last, buffer_held, buffer_own, flushed, taken_short, taken_full}

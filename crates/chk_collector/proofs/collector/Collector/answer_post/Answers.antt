@@ -1,7 +1,7 @@
 use Rattle.chk_collector.proofs.Handling.{keeps_same, posts_keep}
 use Rattle.std.proofs.Common.{◌∷◌, arith, length}
 use Rattle.chk_site.proofs.Leads.{leads_as}
-use Rattle.chk_message.specs.Messages.{IsPostOf}
+use Rattle.chk_http_grammar.specs.Messages.{IsPostOf}
 use Rattle.chk_collector.specs.Answering.{taken_with}
 use Rattle.chk_collector.proofs.MayReply.{refused_told, are_posted, post_told, post_short}
 use Rattle.chk_collector.proofs.Outcome.{post_replied, bad_post_replied, may_have_risen, has_not_risen, post_unanswered, refused_unanswered}

@@ -2,9 +2,9 @@ use Rattle.std.proofs.Common.{Bool, false, List, sym, ◌∙◌, ap}
 use Rattle.std.specs.Prelude.{if◌then◌else◌}
 use Rattle.chk_site.specs.declared.scripts.Other.{Other}
 use Rattle.chk_site.specs.History.{files_after}
-use Rattle.chk_mem_store.specs.State.{State, after}
-use Rattle.chk_mem_store.specs.Told.{fitted, kept_as, told_of}
-use Rattle.chk_mem_store.proofs.GoingLemmas.{theirs_kept}
+use Rattle.chk_site_mem_store.specs.State.{State, after}
+use Rattle.chk_site_mem_store.specs.Told.{fitted, kept_as, told_of}
+use Rattle.chk_site_mem_store.proofs.GoingLemmas.{theirs_kept}
 use Rattle.chk_site_mem.specs.Memory.{happened, later}
 use Rattle.chk_site_mem.proofs.FollowLemmas.{due_happens, due_later, theirs_repeats}
 use Rattle.chk_site_mem.proofs.others.Others.happen.Goals as goal

@@ -1,6 +1,6 @@
 use Rattle.std.proofs.Common.{◌≡◌, length}
-use Rattle.chk_mem_store.specs.Told.{told_of}
-use Rattle.chk_mem_store.specs.Going.{TheirsSince}
+use Rattle.chk_site_mem_store.specs.Told.{told_of}
+use Rattle.chk_site_mem_store.specs.Going.{TheirsSince}
 use Rattle.chk_site_mem.specs.Memory.{happened, later}
 use Rattle.chk_site_mem.proofs.others.Others.happen.Given as goal
 

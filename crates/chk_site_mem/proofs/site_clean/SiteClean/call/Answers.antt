@@ -1,6 +1,6 @@
 use Rattle.std.proofs.Common.{refl, subst, sym}
 use Rattle.std.proofs.lemmas.Result.{err_from_is_err_and}
-use Rattle.chk_mem_calls.specs.Plans.{Plans}
+use Rattle.chk_site_mem_calls.specs.Plans.{Plans}
 use Rattle.chk_site_mem.specs.declared.fate.Fate.TheVariants.{Goes}
 use Rattle.chk_site_mem.specs.Memory.{Memory}
 use Rattle.chk_site_mem.proofs.CallLemmas.{cause_made, failed_call, made_call, may_unbegun, may_unmade, unbegun_call, unmade_call}

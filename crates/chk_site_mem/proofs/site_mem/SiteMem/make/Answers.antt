@@ -1,7 +1,7 @@
 use Rattle.std.proofs.Common.{subst, sym}
 use Rattle.chk_site.specs.Acts.{deed}
-use Rattle.chk_mem_store.specs.Told.{told_of}
-use Rattle.chk_mem_calls.specs.Plans.{LosesNothing}
+use Rattle.chk_site_mem_store.specs.Told.{told_of}
+use Rattle.chk_site_mem_calls.specs.Plans.{LosesNothing}
 use Rattle.chk_site_mem.specs.Lossless.{any}
 use Rattle.chk_site_mem.specs.Memory.{Memory}
 use Rattle.chk_site_mem.proofs.LossLemmas.{still_made}

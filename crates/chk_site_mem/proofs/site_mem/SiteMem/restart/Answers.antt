@@ -1,6 +1,6 @@
 use Rattle.std.proofs.Common.{sym, subst}
-use Rattle.chk_mem_store.specs.State.{State}
-use Rattle.chk_mem_store.specs.Told.{told_of}
+use Rattle.chk_site_mem_store.specs.State.{State}
+use Rattle.chk_site_mem_store.specs.Told.{told_of}
 use Rattle.chk_site_mem.specs.Lossless.{NothingLost, any}
 use Rattle.chk_site_mem.proofs.LossLemmas.{still_disowned}
 use Rattle.chk_site_mem.proofs.site_mem.SiteMem.restart.Goals as goal

@@ -2,8 +2,8 @@ use Rattle.std.proofs.Common.{◌≡◌, Bool, true, false, cond, Option, Some, 
 use Rattle.chk_site.specs.declared.acts.Role.{Role}
 use Rattle.chk_site.specs.declared.acts.Role.TheVariants.{Agent}
 use Rattle.chk_site.specs.declared.suffixes.Taking.{Taking}
-use Rattle.chk_faults.specs.declared.faults.SystemFault.{SystemFault}
-use Rattle.chk_faults.specs.Faults.{answer_of}
+use Rattle.chk_site_errors.specs.declared.faults.SystemFault.{SystemFault}
+use Rattle.chk_site_errors.specs.Faults.{answer_of}
 use Rattle.chk_site_real.specs.Requests.{given_to, is_request, without, IsNoRequest}
 use Rattle.chk_site_real.proofs.site_real.SiteRealSite.take.Goals as goal
 

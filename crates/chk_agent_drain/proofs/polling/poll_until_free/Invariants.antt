@@ -1,0 +1,13 @@
+use Rattle.std.proofs.Common.{◌+◌}
+use Rattle.chk_agent_drain.specs.Parts.{unmarked_in}
+use Rattle.chk_agent_drain.proofs.PollingRest.{Freeing}
+use Rattle.chk_agent_drain.proofs.polling.poll_until_free.Given as goal
+
+abbrev pub invariant-polls : goal.invariant-polls
+invariant-polls g l =
+    Freeing l.polls l.left l.wanted l.fn.agent l.agent (g.S.Site.told l.fn.site)
+    (g.S.Site.told l.site)
+    (g.S.Site.fault_count l.fn.site) (g.S.Site.fault_count l.site)
+
+abbrev pub decreases-polls : goal.decreases-polls
+decreases-polls g l = unmarked_in l.agent + l.left

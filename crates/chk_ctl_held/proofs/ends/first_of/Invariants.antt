@@ -1,0 +1,10 @@
+use Rattle.std.proofs.Common.{◌≡◌, drop, map}
+use Rattle.chk_book.specs.Views.{end_view}
+use Rattle.chk_ctl_held.specs.Order.{end_of}
+use Rattle.chk_ctl_held.specs.Streams.{stream_of}
+use Rattle.chk_ctl_held.proofs.ends.first_of.Given as goal
+
+abbrev pub invariant-loop-end : goal.invariant-loop-end
+invariant-loop-end l =
+    end_of (stream_of l.stream) (map end_view (drop l.end-index l.ends))
+    ≡ end_of (stream_of l.stream) (map end_view l.ends)

@@ -1,0 +1,12 @@
+use Rattle.std.proofs.Common.{◌≡◌, ◌∙◌, ap, false, rules}
+use Rattle.std.proofs.lemmas.Result.{IfOk-weaker}
+use Rattle.clap.specs.Words.{app_of, rule_of, with_rule}
+use Rattle.chk_ctl_line.specs.Options.{option_rule}
+use Rattle.chk_ctl_line.proofs.options.with_option.Goals as goal
+
+pub returns : goal.returns
+returns c =
+    let is : rule_of c.long-option.result ≡ option_rule c.args.name.now = search rules in
+    let local : c.long-option.result.global ≡ false = search rules in
+    IfOk-weaker c.arg.result _ _
+    (λ r adds. adds.shape local ∙ ap (with_rule (app_of c.args.command)) is) c.arg.ensures

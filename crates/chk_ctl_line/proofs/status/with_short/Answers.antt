@@ -1,0 +1,12 @@
+use Rattle.std.proofs.Common.{◌≡◌, ◌∙◌, ap, false, rules}
+use Rattle.std.proofs.lemmas.Result.{IfOk-weaker}
+use Rattle.clap.specs.Words.{app_of, rule_of, with_rule}
+use Rattle.chk_ctl_line.specs.Status.{short_rule}
+use Rattle.chk_ctl_line.proofs.status.with_short.Goals as goal
+
+pub returns : goal.returns
+returns c =
+    let is : rule_of c.action-option.result ≡ short_rule = search rules in
+    let local : c.action-option.result.global ≡ false = search rules in
+    IfOk-weaker c.arg.result _ _
+    (λ r adds. adds.shape local ∙ ap (with_rule (app_of c.args.command)) is) c.arg.ensures

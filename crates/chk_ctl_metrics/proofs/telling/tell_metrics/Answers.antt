@@ -1,0 +1,5 @@
+use Rattle.chk_ctl_status.specs.Telling.{untold}
+use Rattle.chk_ctl_metrics.proofs.telling.tell_metrics.Goals as goal
+
+pub returns-in-Err-clause-told : goal.returns-in-Err-clause-told
+returns-in-Err-clause-told g c = untold

@@ -1,0 +1,5 @@
+use Rattle.chk_ctl_status.specs.Telling.{untold}
+use Rattle.chk_ctl_status.proofs.locks.tell_locks_line.Goals as goal
+
+pub returns-in-Err-clause-told : goal.returns-in-Err-clause-told
+returns-in-Err-clause-told g c = untold

@@ -1,0 +1,101 @@
+-- The values of a stream's records are those of its block.
+use Rattle.std.proofs.Common.{◌≡◌, ℕ, zero, suc, ◌+◌, ◌-◌, ◌<◌, ◌≤◌, Bool, true, false, List, [], ◌∷◌, ◌++◌, length, take, drop, refl, ap, ap₂, sym, ◌∙◌, arith, get_or}
+use Rattle.std.specs.Prelude.{if◌then◌else◌, flat_map}
+use Rattle.std.proofs.lemmas.Grind.{flat_map-append}
+use Rattle.std.proofs.lemmas.List.{append-nil, take_more, length-drop, get_or-drop}
+use Rattle.chk_site.specs.Files.{Files}
+use Rattle.chk_chunk.specs.Keys.{Stream}
+use Rattle.chk_record_index.specs.Heads.{Head}
+use Rattle.chk_record_index.specs.Order.{no_head}
+use Rattle.chk_record_reader.specs.Courses.{is_head_of}
+use Rattle.chk_record_reader.specs.Archives.{value_in}
+use Rattle.chk_join_sources.specs.declared.gathering.Side.{Side}
+use Rattle.chk_join_sources.specs.declared.blocks.Block.{Block}
+use Rattle.chk_join_sources.specs.Blocks.{head_in, AllOf, HoldsStream}
+use Rattle.chk_join_sources.specs.Comparing.{values_between, value_there}
+use Rattle.chk_ctl_sum.specs.Summing.{bytes_of}
+
+module _ (p : Head → Bool) (f : Head → List ℕ) where
+  abbrev kept : Head → List ℕ
+  kept h = if p h then f h else []
+
+  none : (hs : List Head) → ((k : ℕ) → k < length hs → p (head_in hs k) ≡ false)
+      → flat_map kept hs ≡ []
+  none [] no_one = refl
+  none (x ∷ xs) no_one =
+      ap (λ (b : Bool). (if b then f x else []) ++ flat_map kept xs) (no_one 0 (omega arith))
+      ∙ none xs (λ k less. no_one (suc k) (omega (arith, less)))
+
+  front : (hs : List Head) (n : ℕ) → n ≤ length hs
+      → ((k : ℕ) → k < n → p (head_in hs k) ≡ true)
+      → ((k : ℕ) → n ≤ k → k < length hs → p (head_in hs k) ≡ false)
+      → flat_map f (take n hs) ≡ flat_map kept hs
+  front hs zero fits all behind = sym (none hs (λ k less. behind k (omega arith) less))
+  front [] (suc n) fits all behind = absurd (let z : ⊥ = omega (arith, fits) in z)
+  front (x ∷ xs) (suc n) fits all behind =
+      ap₂ (λ (b : Bool) (v : List ℕ). (if b then f x else []) ++ v) (sym (all 0 (omega arith)))
+      (front xs n (omega (arith, fits)) (λ k less. all (suc k) (omega (arith, less)))
+      (λ k from less. behind (suc k) (omega (arith, from)) (omega (arith, less))))
+
+  all_of_block : (hs : List Head) (first n : ℕ) → first + n ≤ length hs
+      → ((k : ℕ) → k < first → p (head_in hs k) ≡ false)
+      → ((k : ℕ) → first ≤ k → k < first + n → p (head_in hs k) ≡ true)
+      → ((k : ℕ) → first + n ≤ k → k < length hs → p (head_in hs k) ≡ false)
+      → flat_map f (take n (drop first hs)) ≡ flat_map kept hs
+  all_of_block hs zero n fits before all behind =
+      front hs n (omega (arith, fits)) (λ k less. all k (omega arith) (omega (arith, less)))
+      (λ k from less. behind k (omega (arith, from)) less)
+  all_of_block [] (suc first) n fits before all behind =
+      absurd (let z : ⊥ = omega (arith, fits) in z)
+  all_of_block (x ∷ xs) (suc first) n fits before all behind =
+      all_of_block xs first n (omega (arith, fits))
+      (λ k less. before (suc k) (omega (arith, less)))
+      (λ k from less. all (suc k) (omega (arith, from)) (omega (arith, less)))
+      (λ k from less. behind (suc k) (omega (arith, from)) (omega (arith, less)))
+      ∙ ap (λ (b : Bool). (if b then f x else []) ++ flat_map kept xs)
+      (sym (before 0 (omega arith)))
+
+pub block_bytes : (side : Side) (held : Files) (s : Stream) (b : Block)
+    → (b.first ≤ b.end) × (b.end ≤ length side.heads.now)
+    → AllOf side.heads.now s b.first b.end → HoldsStream side.heads.now s b.first b.end
+    → values_between side held b.first b.end ≡ bytes_of side held s
+block_bytes side held s b within all holds =
+    let low = within.0 in
+    let high = within.1 in
+    all_of_block (is_head_of s) (value_in side.names.now held) side.heads.now b.first
+    (b.end - b.first) (omega (arith, low, high)) holds.before
+    (λ k from less. all k from (omega (arith, low, from, less)))
+    (λ k from less. holds.behind k (omega (arith, low, from)) less)
+
+pub between_none : (side : Side) (held : Files) (first : ℕ)
+    → [] ≡ values_between side held first first
+between_none side held first =
+    sym (ap (λ (n : ℕ). flat_map (value_in side.names.now held)
+    (take n (drop first side.heads.now)))
+    (let z : first - first ≡ 0 = omega arith in z))
+
+more_of : (f : Head → List ℕ) (hs : List Head) (first index : ℕ) → first ≤ index
+    → index < length hs
+    → flat_map f (take (index - first) (drop first hs)) ++ f (head_in hs index)
+    ≡ flat_map f (take (index + 1 - first) (drop first hs))
+more_of f hs first index low high =
+    let n : ℕ = index - first in
+    let size = length-drop first hs in
+    let less : n < length (drop first hs) = omega (arith, size, low, high) in
+    let there : get_or (drop first hs) n no_head ≡ head_in hs index =
+    get_or-drop first hs n no_head
+    ∙ ap (λ (i : ℕ). get_or hs i no_head) (let z : first + n ≡ index = omega (arith, low) in z) in
+    ap (λ l. flat_map f (take n (drop first hs)) ++ l)
+    (ap f (sym there) ∙ sym (append-nil (f (get_or (drop first hs) n no_head))))
+    ∙ (sym (flat_map-append f (take n (drop first hs)) (get_or (drop first hs) n no_head ∷ []))
+    ∙ (ap (flat_map f) (sym (take_more (drop first hs) n no_head less))
+    ∙ ap (λ (m : ℕ). flat_map f (take m (drop first hs)))
+    (let z : n + 1 ≡ index + 1 - first = omega (arith, low) in z)))
+
+-- one record more
+pub between_more : (side : Side) (held : Files) (first index : ℕ) → first ≤ index
+    → index < length side.heads.now
+    → values_between side held first index ++ value_there side held index
+    ≡ values_between side held first (index + 1)
+between_more side held first index low high =
+    more_of (value_in side.names.now held) side.heads.now first index low high

@@ -1,0 +1,39 @@
+use Rattle.std.proofs.Common.{Bool, Err, ◌∙◌}
+use Rattle.chk_ctl_verify.specs.Stores.{both, not_first, only_first}
+use Rattle.chk_ctl_verify.specs.declared.books.Folder.{Folder}
+use Rattle.chk_ctl_verify.proofs.Causes.{cause_then, err_cause}
+use Rattle.chk_ctl_verify.proofs.FolderWords.{records_folder}
+use Rattle.chk_ctl_verify.proofs.Steps.{then_own}
+use Rattle.chk_ctl_verify.proofs.store.check_records.Goals as goal
+
+pub check_book-requires-clause-folder : goal.check_book-requires-clause-folder
+check_book-requires-clause-folder g c = records_folder
+
+pub returns-in-Ok-check_rest : goal.returns-in-Ok-check_rest
+returns-in-Ok-check_rest g c =
+    rw c.either.ensures
+    (record {
+      told = both c.in-Ok.ensures.told c.in-Ok-check_rest.ensures.told;
+      own = then_own c.in-Ok.ensures.own c.in-Ok-check_rest.ensures.own;
+      cause = c.in-Ok-check_rest.ensures.cause ∙ c.in-Ok.ensures.cause;
+    })
+
+pub returns-in-Err-check_rest : goal.returns-in-Err-check_rest
+returns-in-Err-check_rest g c = record {
+  told = only_first c.in-Ok.ensures.told c.in-Err-check_rest.ensures.told;
+  own = then_own c.in-Ok.ensures.own c.in-Err-check_rest.ensures.own;
+  cause = cause_then {A = Folder} (Err c.in-Err-check_rest.fault) (g.S.Site.fault_count
+      c.args.site.now)
+      (g.S.Site.fault_count c.check_book.new.site) (g.S.Site.fault_count c.check_rest.new.site)
+      c.in-Ok.ensures.cause
+      (err_cause Bool Folder c.in-Err-check_rest.fault (g.S.Site.fault_count c.check_book.new.site)
+      (g.S.Site.fault_count c.check_rest.new.site) c.in-Err-check_rest.ensures.cause);
+}
+
+pub returns-in-Err : goal.returns-in-Err
+returns-in-Err g c = record {
+  told = not_first c.in-Err.ensures.told;
+  own = c.in-Err.ensures.own;
+  cause = err_cause Folder Folder c.in-Err.fault (g.S.Site.fault_count c.args.site.now)
+      (g.S.Site.fault_count c.check_book.new.site) c.in-Err.ensures.cause;
+}

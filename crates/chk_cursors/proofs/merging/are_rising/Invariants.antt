@@ -1,7 +1,0 @@
-use Rattle.std.proofs.Common.{map}
-use Rattle.chk_book.specs.Views.{end_view}
-use Rattle.chk_merge.proofs.OnePass.{AreRising}
-use Rattle.chk_cursors.proofs.merging.are_rising.Given as goal
-
-abbrev pub invariant-loop-index : goal.invariant-loop-index
-invariant-loop-index l = AreRising (map end_view l.ends) l.index

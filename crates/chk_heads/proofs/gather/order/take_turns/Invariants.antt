@@ -1,9 +1,0 @@
-use Rattle.std.proofs.Common.{◌≡◌, map, take}
-use Rattle.chk_heads.specs.Order.{without_turn}
-use Rattle.chk_heads.proofs.Turning.{Numbered}
-use Rattle.chk_heads.proofs.gather.order.take_turns.Given as goal
-
-abbrev pub invariant-loop-row : goal.invariant-loop-row
-invariant-loop-row l =
-    (map without_turn l.rows ≡ map without_turn l.initial.rows) × (l.next ≡ l.row-index)
-    × Numbered l.next (take l.row-index l.rows)

@@ -1,2 +1,0 @@
-pub mod LastKeys
-pub mod Passing

@@ -1,9 +1,0 @@
-//! What the words of the contracts come to.
-
-ghost use Rattle.chk_look.specs.Laws.{WantedIsArchive};
-
-/// A law: what is wanted of a stream's chunks, which go on from each other from its start on, is its archive from the first
-/// offset on that is wanted.
-pub fn law_wanted()
-    ensures { WantedIsArchive }
-{}

@@ -1,3 +1,0 @@
-mod Logs
-pub mod Causes
-mod Blocks

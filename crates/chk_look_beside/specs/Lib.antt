@@ -1,4 +1,0 @@
-pub mod Ahead
-pub mod Meeting
-pub mod Records
-pub mod Streams

@@ -1,5 +1,0 @@
-use Rattle.chk_look_check.proofs.Split.{sliced}
-use Rattle.chk_look_check.proofs.finding.behind.Goals as goal
-
-pub returns : goal.returns
-returns c = sliced c.args.at c.args.text.now

@@ -1,5 +1,0 @@
-use Rattle.chk_prints.specs.Printing.{unprinted}
-use Rattle.chk_look_held.proofs.lines.print_waiting.Goals as goal
-
-pub returns-in-Err-clause-told : goal.returns-in-Err-clause-told
-returns-in-Err-clause-told g c = unprinted

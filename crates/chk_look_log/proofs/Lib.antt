@@ -1,4 +1,0 @@
-pub mod Gave
-mod Loop
-pub mod Owned
-pub mod Placed

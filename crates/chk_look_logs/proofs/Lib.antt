@@ -1,5 +1,0 @@
-pub mod Own
-pub mod Causes
-pub mod Turns
-pub mod Parts
-pub mod Finds

@@ -1,9 +1,0 @@
-use Rattle.std.proofs.Common.{◌≡◌, ◌++◌, drop}
-use Rattle.std.specs.Prelude.{flat_map}
-use Rattle.chk_look_metrics.specs.Agents.{store_locks}
-use Rattle.chk_look_metrics.proofs.beside.put_all_of_stores.Given as goal
-
-abbrev pub invariant-loop-store : goal.invariant-loop-store
-invariant-loop-store l =
-    l.out ++ flat_map store_locks (drop l.store-index l.stores)
-    ≡ l.initial.out ++ flat_map store_locks l.stores

@@ -1,9 +1,0 @@
-use Rattle.std.proofs.Common.{◌≡◌, ◌++◌, drop}
-use Rattle.std.specs.Prelude.{flat_map}
-use Rattle.chk_look_metrics.specs.Families.{written_row}
-use Rattle.chk_look_metrics.proofs.families.put_written.Given as goal
-
-abbrev pub invariant-loop-sink : goal.invariant-loop-sink
-invariant-loop-sink l =
-    l.out ++ flat_map (written_row l.store) (drop l.sink-index l.store.seen.sinks.unclosed.items)
-    ≡ l.initial.out ++ flat_map (written_row l.store) l.store.seen.sinks.unclosed.items

@@ -1,5 +1,0 @@
-use Rattle.chk_look_passed.proofs.Behind.{passed_is_behind}
-use Rattle.chk_look_passed.proofs.laws.law_passed.Goals as goal
-
-pub returns : goal.returns
-returns c = record { passed = passed_is_behind }

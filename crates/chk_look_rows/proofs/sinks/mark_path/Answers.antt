@@ -1,6 +1,0 @@
-use Rattle.chk_world.specs.Names.{spell}
-use Rattle.chk_look_rows.proofs.sinks.mark_path.Goals as goal
-
-pub returns : goal.returns
-unfolding spell
-returns c = c.with_ending.ensures

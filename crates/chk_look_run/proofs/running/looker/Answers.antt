@@ -1,7 +1,0 @@
-use Rattle.std.proofs.Common.{refl, arith}
-use Rattle.std.specs.Prelude.{codes}
-use Rattle.chk_bytes.proofs.WordLemmas.{plain_word}
-use Rattle.chk_look_run.proofs.running.looker.Goals as goal
-
-pub from_text-requires : goal.from_text-requires
-from_text-requires c = record { word = plain_word (codes "job") refl (omega arith) (omega arith) }

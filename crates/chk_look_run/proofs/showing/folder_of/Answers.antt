@@ -1,8 +1,0 @@
-use Rattle.chk_look_files.proofs.FolderWords.{records_folder, archive_folder}
-use Rattle.chk_look_run.proofs.showing.folder_of.Goals as goal
-
-pub returns-then-words-clause-folder : goal.returns-then-words-clause-folder
-returns-then-words-clause-folder c = records_folder
-
-pub returns-else-words-clause-folder : goal.returns-else-words-clause-folder
-returns-else-words-clause-folder c = archive_folder

@@ -1,5 +1,0 @@
-use Rattle.chk_look_run.proofs.Shown.{version_one}
-use Rattle.chk_look_run.proofs.telling.tell_version.Goals as goal
-
-pub tell-requires-clause-line : goal.tell-requires-clause-line
-tell-requires-clause-line g c = version_one

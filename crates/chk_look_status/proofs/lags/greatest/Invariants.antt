@@ -1,9 +1,0 @@
-use Rattle.std.proofs.Common.{◌≡◌, drop}
-use Rattle.chk_look_status.specs.Lags.{greatest}
-use Rattle.chk_look_status.proofs.lags.greatest.Given as goal
-
-abbrev pub invariant-loop-book : goal.invariant-loop-book
-invariant-loop-book l =
-    greatest l.most (record { source = l.source; kind = l.kind; name = l.name })
-    (drop l.book-index l.books)
-    ≡ greatest l.least (record { source = l.source; kind = l.kind; name = l.name }) l.books

@@ -1,5 +1,0 @@
-use Rattle.chk_look_status.specs.Telling.{untold}
-use Rattle.chk_look_status.proofs.lags.tell_agents.Goals as goal
-
-pub returns-in-Err-clause-told : goal.returns-in-Err-clause-told
-returns-in-Err-clause-told g c = untold

@@ -1,6 +1,0 @@
-use Rattle.std.proofs.Common.{◌≡◌, drop}
-use Rattle.chk_look_status.specs.Stores.{longest}
-use Rattle.chk_look_status.proofs.telling.longest_quiet.Given as goal
-
-abbrev pub invariant-loop-sink : goal.invariant-loop-sink
-invariant-loop-sink l = longest l.longest (drop l.sink-index l.sinks) ≡ longest 0 l.sinks

@@ -1,5 +1,0 @@
-use Rattle.chk_parts.proofs.CutParts.{cuts_are_parts}
-use Rattle.chk_parts.proofs.laws.cuts_are_parts.Goals as goal
-
-pub returns : goal.returns
-returns c = cuts_are_parts

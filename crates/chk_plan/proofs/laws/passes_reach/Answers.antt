@@ -1,5 +1,0 @@
-use Rattle.chk_plan.proofs.Runs.{has_reached}
-use Rattle.chk_plan.proofs.laws.passes_reach.Goals as goal
-
-pub returns : goal.returns
-returns c = has_reached

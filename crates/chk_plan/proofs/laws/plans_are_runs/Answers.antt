@@ -1,5 +1,0 @@
-use Rattle.chk_plan.proofs.Runs.{run_is}
-use Rattle.chk_plan.proofs.laws.plans_are_runs.Goals as goal
-
-pub returns : goal.returns
-returns c = run_is

@@ -1,8 +1,0 @@
-use Rattle.chk_reading.proofs.Fields.{undone}
-use Rattle.std.proofs.Common.{◌∙◌}
-use Rattle.chk_reading.proofs.adaptor.Adaptor.undo.Goals as goal
-
-pub returns : goal.returns
-returns c a marks next step placed stood is =
-    undone c.self.inside c.rewind.new.self c.args.before a marks next step placed stood
-    (c.self.view_is ∙ is) c.rewind.ensures.back

@@ -1,0 +1,2 @@
+-- The peers of a listening address.
+mod Going

@@ -1,5 +1,0 @@
-use Rattle.std.proofs.Common.{◌≡◌}
-use Rattle.chk_sockets.proofs.stream_door.StreamDoor.keep_spare.Given as goal
-
-abbrev pub invariant-loop : goal.invariant-loop
-invariant-loop g l = l.self.taken ≡ l.fn.self.taken

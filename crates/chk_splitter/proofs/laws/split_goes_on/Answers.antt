@@ -1,5 +1,0 @@
-use Rattle.chk_splitter.proofs.RecordLemmas.{split_pieces, split_goes_on, split_grows}
-use Rattle.chk_splitter.proofs.laws.split_goes_on.Goals as goal
-
-pub returns : goal.returns
-returns c = record { pieces = split_pieces; behind = split_goes_on; grows = split_grows }

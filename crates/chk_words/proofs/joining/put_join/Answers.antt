@@ -1,4 +1,0 @@
-use Rattle.chk_words.proofs.joining.put_join.Goals as goal
-
-pub returns-clause-ok : goal.returns-clause-ok
-returns-clause-ok c = rw c.from.ensures at c.put_line.ensures.ok

@@ -1,7 +1,0 @@
-use Rattle.std.proofs.Common.{◌≡◌, ◌++◌, map, take}
-use Rattle.chk_bytes.specs.Words.{joined_at}
-use Rattle.chk_words.specs.Lines.{part_text}
-use Rattle.chk_words.proofs.lines.push_line.Given as goal
-
-abbrev pub invariant-loop-i : goal.invariant-loop-i
-invariant-loop-i l = l.out ≡ l.initial.out ++ joined_at 32 (map part_text (take l.i l.parts))

@@ -1,7 +1,0 @@
-use Rattle.std.proofs.Common.{◌∙◌}
-use Rattle.chk_words.proofs.NameLemmas.{words_fit}
-use Rattle.chk_words.proofs.names.are_words.Goals as goal
-
-pub returns-then-words-most : goal.returns-then-words-most
-returns-then-words-most c =
-    c.are_all_words.ensures ∙ words_fit _ _ _ c.if-words-most.true.0 c.if-words-most.true.1

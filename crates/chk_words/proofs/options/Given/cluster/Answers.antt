@@ -1,5 +1,0 @@
-use Rattle.chk_words.proofs.NameLemmas.{none_is_word}
-use Rattle.chk_words.proofs.options.Given.cluster.Goals as goal
-
-pub returns-in-None-clause-word : goal.returns-in-None-clause-word
-returns-in-None-clause-word c = none_is_word
