@@ -24,13 +24,13 @@ FOLDERS = ("crates", "tools", "docs", "packaging", "bin", *SHORT)
 def place_of(path):
     """Where a cited path stands in the checkout, none where it is no such path."""
     first, _, rest = path.partition("/")
-    if not rest or re.search(r"[<>*{}]|\.\.", path):
+    if not rest or re.search(r"[<>*{}]|\.\.|\bNAME\b", path):
         return None
     if first in SHORT:
         return f"{SHORT[first]}/{rest}"
     if first in FOLDERS:
         return path
-    return f"crates/{path}" if re.match(r"ch(k_|ukwa)\w*$", first) and re.match(r"(src|specs|proofs|must-fail)(/|$)", rest) else None
+    return f"crates/{path}" if re.match(r"ch(k_|ukwa)\w*$", first) and re.match(r"(src|specs|proofs|mutants|must-fail)(/|$)", rest) else None
 
 
 def absent():
@@ -94,7 +94,7 @@ def unproved():
             if not known[crate].calls(name):
                 yield f"docs/PROOFS.md:{number}: {crate} has no {name}"
     line = next(line for line in text_of(f"{TOP}/docs/PROOFS.md").split("\n") if line.startswith("An edit is "))
-    tried = {name for name in known if glob.glob(f"{TOP}/crates/{name}/must-fail/*.edit")}
+    tried = {name for name in known for folder in ("mutants", "must-fail") if glob.glob(f"{TOP}/crates/{name}/{folder}/*.edit")}
     for name in tried ^ set(re.findall(r"`(ch\w+)`", line)):
         yield f"docs/PROOFS.md: of the crates with edits {name} is {'left out' if name in tried else 'none'}"
 

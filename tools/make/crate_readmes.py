@@ -39,8 +39,8 @@ def clause_names(function):
 
 
 def edits_of(crate):
-    folder = f"{crate.folder}/must-fail"
-    return sorted(name.removesuffix(".edit") for name in os.listdir(folder) if name.endswith(".edit")) if os.path.isdir(folder) else []
+    folders = [f"{crate.folder}/{each}" for each in ("mutants", "must-fail") if os.path.isdir(f"{crate.folder}/{each}")]
+    return sorted(name.removesuffix(".edit") for folder in folders for name in os.listdir(folder) if name.endswith(".edit"))
 
 
 def counted(number, what):

@@ -4,7 +4,7 @@
 usage: tools/make/mutants.py [--check]
        tools/make/mutants.py --refused COMMIT [CRATE [EDIT...]]
 
-The data are docs/mutants/*.csv: `edits`, a row for each edit of must-fail/; `planted` and `survivors`, the wrong bodies
+The data are docs/mutants/*.csv: `edits`, a row for each edit of mutants/ and must-fail/; `planted` and `survivors`, the wrong bodies
 that `rt plant` tried, crate by crate; and `earlier_edits`, edits that the gate tries no more. Each has the commit over
 whose text the last known run was made, and is empty where none is known. Without words the script makes the tables of
 MUTANTS, and takes edits that came or went into the data; one whose text changed loses its commit. With `--check` it
@@ -49,12 +49,12 @@ def place_of(crate, text):
 
 
 def edits():
-    """The data of the edits as they stand in must-fail/."""
+    """The data of the edits as they stand in mutants/ and must-fail/."""
     known, found = {(row["crate"], row["edit"]): row for row in rows("edits")}, []
     for name in sorted(crates()):
-        folder = f"{TOP}/crates/{name}/must-fail"
-        crate = Crate(name) if os.path.isdir(folder) else None
-        for each in sorted(os.listdir(folder)) if crate else []:
+        folders = [each for each in (f"{TOP}/crates/{name}/mutants", f"{TOP}/crates/{name}/must-fail") if os.path.isdir(each)]
+        crate = Crate(name) if folders else None
+        for each, folder in sorted((each, folder) for folder in folders for each in os.listdir(folder)):
             if not each.endswith(".edit"):
                 continue
             text, edit = text_of(f"{folder}/{each}"), each.removesuffix(".edit")
