@@ -7,7 +7,7 @@ It prints a line for each of these faults, and ends with 1 if there is one:
 
 - a link, or a path in backquotes that begins with a folder of the repository or a crate, leads nowhere (docs/CHANGING.md
   shortens two crates to `W/` and `R/`);
-- a document cites a row of DECISIONS that is missing, or the rows are not numbered from 1;
+- a document cites a row of DECISIONS that is missing, or the rows don't have the numbers from 1 on, each once;
 - a crate has no row in LAYERS, or its row names a crate that it does not stand on;
 - AUDIT names a law, a proof file, or a definition `NAME` of `FILE` that is missing, or AUDIT or README states another
   size of the headline;
@@ -68,8 +68,8 @@ def paths():
 def decisions():
     """Numbers of decisions that are missing."""
     found = [int(number) for number in re.findall(r"^(\d+)\. ", document("docs/DECISIONS.md"), re.M)]
-    if found != list(range(1, len(found) + 1)):
-        yield "docs/DECISIONS.md: its rows are not numbered from 1"
+    if sorted(found) != list(range(1, len(found) + 1)):
+        yield "docs/DECISIONS.md: its rows don't have the numbers from 1 on, each once"
     for name, text in documents().items():
         for cited in re.findall(r"\bDECISIONS(?:\]\([^)]*\))? ((?:\d+(?:, | and )?)+)", text):
             yield from (f"{name}: DECISIONS has no row {number}" for number in re.findall(r"\d+", cited) if int(number) not in found)
