@@ -150,8 +150,8 @@ def command_parts(manual):
 
 def printed_by(name, lines):
     """The rows of the table of printed lines that name the command as where they come from."""
-    rows = [line for line in lines.split("\n") if line.startswith("|")]
-    return [row for row in rows[2:] if f"`{name}`" in re.split(r"[,:]", row.split(" | ", 1)[1])[0]]
+    rows = [line for line in lines.split("\n") if line.startswith("| `")]
+    return [row for row in rows if f"`{name}`" in re.split(r"[,:]", row.split(" | ", 1)[1])[0]]
 
 
 def pages():
