@@ -21,8 +21,8 @@ A row has how many posts were answered beside the hostile peers, how many weren'
 for an answer, and the collector's memory. The script ends with 1 if a post of a sender wasn't answered with 200, or too
 late; if the collector ended early, or not with 0; if an answered post isn't in the sinks exactly once, or a refused one
 is in them; if a bad request wasn't answered with its status; or if the collector held more than the 33,685,504 bytes of
-messages that a listening address may hold (DECISIONS 22), and as much again for their growth. Of more than 256 peers
-the collector may drop one whose first byte hasn't come yet (DECISIONS 23), so where a thousand come at once, a few
+messages that a listening address may hold (DECISIONS 29), and as much again for their growth. Of more than 256 peers
+the collector may drop one whose first byte hasn't come yet (DECISIONS 30), so where a thousand come at once, a few
 posts may stay unanswered. `--times` repeats each kind, and `--messages` is the collector's option. All kinds take two
 minutes.
 """
@@ -334,7 +334,7 @@ def silent_thousand(trial):
 # What the hostile peers do, the collector's turns, how many posts beside them may stay unanswered, and how long a sender
 # waits at most for a connection and for an answer, in milliseconds. Where a thousand come at once, the system may let a
 # connection wait for its second or third try, after 1 and 3 s. Peers that fill the room for messages hold others for up
-# to 36 s (DECISIONS 22).
+# to 36 s (DECISIONS 29).
 Kind = collections.namedtuple("Kind", "work turns missed opening wait")
 KINDS = {
     kind.work.__name__: kind
