@@ -20,11 +20,11 @@ that the collector ends by itself. The kinds:
 A row has how many posts were answered beside the hostile peers, how many weren't, the longest wait for a connection and
 for an answer, and the collector's memory. The script ends with 1 if a post of a sender wasn't answered with 200, or too
 late; if the collector ended early, or not with 0; if an answered post isn't in the sinks exactly once, or a refused one
-is in them; if a bad request wasn't answered with its status; or if the collector held more than the 33,685,504 bytes of
-messages that a listening address may hold (DECISIONS 29), and as much again for their growth. Of more than 256 peers
+is in them; if a bad request wasn't answered with its status; or if the collector took three times the 33,685,504 bytes of
+messages that a listening address may hold (DECISIONS 29), since their buffers grow by doubling. Of more than 256 peers
 the collector may drop one whose first byte hasn't come yet (DECISIONS 30), so where a thousand come at once, a few
 posts may stay unanswered. `--times` repeats each kind, and `--messages` is the collector's option. All kinds take two
-minutes.
+to three minutes.
 """
 import collections
 import os
@@ -366,8 +366,8 @@ def tried(program, name, messages):
         trial.note(f"{len(trial.missed)} posts weren't answered with 200, as {trial.missed[0]}")
     if opening > kind.opening or wait > kind.wait:
         trial.note(f"a connection may take {kind.opening} ms and an answer {kind.wait} ms")
-    if held * 1024 > 2 * ROOM:
-        trial.note(f"it may hold {2 * ROOM // 1024} KiB more than an idle collector")
+    if held * 1024 > 3 * ROOM:
+        trial.note(f"it may take {3 * ROOM // 1024} KiB more than an idle collector")
     print(f"{name}: beside {beside} answered, {len(trial.missed)} not, longest wait for a connection {opening:.0f} ms, for "
           f"an answer {wait:.0f} ms; {len(trial.answered)} posts in all; memory {trial.idle} + {held} KiB: "
           f"{'BAD' if trial.wrong else 'ok'}", flush=True)
