@@ -86,11 +86,11 @@ def rows_of_crates():
             if row[1] in found:
                 yield f"docs/ARCHITECTURE.md: there are two rows of {row[1]}"
             found[row[1]] = group
-    for name in wanted.keys() - found.keys():
+    for name in sorted(wanted.keys() - found.keys()):
         yield f"docs/ARCHITECTURE.md: there is no row of {name}"
-    for name in found.keys() - wanted.keys():
+    for name in sorted(found.keys() - wanted.keys()):
         yield f"docs/ARCHITECTURE.md: crates.txt has no {name}"
-    for name in wanted.keys() & found.keys():
+    for name in sorted(wanted.keys() & found.keys()):
         if wanted[name] != found[name]:
             yield f"docs/ARCHITECTURE.md: crates.txt has {name} in the group {wanted[name]}"
 
