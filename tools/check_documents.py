@@ -9,8 +9,8 @@ It prints a line for each of these faults, and ends with 1 if there is one:
   shortens two crates to `W/` and `R/`);
 - a document cites a row of DECISIONS that is missing, or the rows don't have the numbers from 1 on, each once;
 - a crate of crates.txt has no row in ARCHITECTURE, or a row names another crate or stands in another group;
-- AUDIT names a law, a proof file, or a definition `NAME` of `FILE` that is missing, or AUDIT or README states another
-  size of the headline;
+- AUDIT names a law, a proof file, or a definition `NAME` of `FILE` that is missing, or a sentence of the guarantee that
+  README lacks, or AUDIT or README states another size of the headline;
 - OPERATING or packaging/bash-completion lacks an option of `chukwa` or a usage line of `chukwactl`, or the completion has
   an option that the programs don't take. Their own lists are in src/usage.rt of chk_cmd_line and chk_ctl_line.
 
@@ -110,6 +110,10 @@ def audit():
         path = f"{TOP}/crates/{file}"
         if not os.path.isfile(path) or not re.search(rf"^(?:\w+ )+{name}\b", text_of(path), re.M):
             yield f"docs/AUDIT.md: there is no {name} in {file}"
+    readme = document("README.md")
+    for sentence in re.findall(r"^\| (.*\.) \| `\w+` of `Headline` \|$", text, re.M):
+        if sentence not in readme:
+            yield f"docs/AUDIT.md: README doesn't say: {sentence}"
     for name in ("README.md", "docs/AUDIT.md"):
         for said in re.findall(r"[\d,]+ lines of definitions in \d+ files", document(name)):
             if said != size:
