@@ -116,11 +116,10 @@ def options():
     manual, completion = document("docs/OPERATING.md"), document("packaging/bash-completion/chukwa")
     lists = re.findall(r"^static ([A-Z]+): \[&str; (\d+)\] = \[(.*?)\];", document("crates/chk_cmd_line/src/usage.rt"), re.M | re.S)
     taken = {name.lower(): re.findall(r'"([a-z-]+)"', names) for name, _, names in lists if name != "NONE"}
-    further = manual.partition("### Options beyond the common ones")[2].partition("\n## ")[0]
     for command, names in taken.items():
         section = re.search(rf"^### {command}\n(.*?)(?=^##)", manual, re.M | re.S)
         for option in names:
-            if not (section and f"--{option}" in section.group(1)) and not re.search(rf"^\| `--{option}\b[^|]*\|[^|]*`{command}`", further, re.M):
+            if not (section and f"--{option}" in section.group(1)):
                 yield f"OPERATING doesn't name --{option} of {command}"
         line = re.search(rf'^  {command}\) options="([^"]*)" ;;$', completion, re.M)
         completed = line.group(1).replace("--", "").split() if line else []
