@@ -176,7 +176,8 @@ def fields():
 
 
 def joined():
-    """Names for several parts: the lines of a merged segment, and the segments of a book, each of one line."""
+    """Names for several parts: the lines of a merged segment; the segments of a book, each of one line; and what a stop
+    leaves of a merged segment and of a joined one in place of what wasn't synced."""
     def lines(first, last):
         return " ".join(f"LINE_TO_{end}" for end in range(first, last + 2, 2))
 
@@ -186,6 +187,9 @@ def joined():
         ("LINES_TO_32", "LINES_TO_30 LINE_TO_32"),
         ("FIFTEEN_SEGMENTS", segments),
         ("SIXTEEN_SEGMENTS", "four:16 eight:1 eight:140 FIFTEEN_SEGMENTS"),
+        ("FALSE_SEGMENT", "SEGMENT_17 FALSE_LINE LINES_TO_30"),
+        ("FALSE_SEGMENT_OF_TWO", "FALSE_SEGMENT ABCD_OF_EAST"),
+        ("FALSE_JOINED", "SEGMENT_1 WORLD"),
     ]
 
 

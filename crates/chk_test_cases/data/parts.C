@@ -85,5 +85,8 @@ LINES_TO_30 = LINE_TO_2 LINE_TO_4 LINE_TO_6 LINE_TO_8 LINE_TO_10 LINE_TO_12 LINE
 LINES_TO_32 = LINES_TO_30 LINE_TO_32
 FIFTEEN_SEGMENTS = eight:2 eight:140 eight:3 eight:140 eight:4 eight:140 eight:5 eight:140 eight:6 eight:140 eight:7 eight:140 eight:8 eight:140 eight:9 eight:140 eight:10 eight:140 eight:11 eight:140 eight:12 eight:140 eight:13 eight:140 eight:14 eight:140 eight:15 eight:140 eight:16 eight:140
 SIXTEEN_SEGMENTS = four:16 eight:1 eight:140 FIFTEEN_SEGMENTS
+FALSE_SEGMENT = SEGMENT_17 FALSE_LINE LINES_TO_30
+FALSE_SEGMENT_OF_TWO = FALSE_SEGMENT ABCD_OF_EAST
+FALSE_JOINED = SEGMENT_1 WORLD
 # A line of 41 bytes.
 LETTERS = "0123456789abcdefghijklmnopqrstuvwxyzABCD\n"

@@ -121,7 +121,13 @@ impl Parts {
         }
     }
 
-    fn push_times(&self, alloc: Global, bytes: &mut Bytes, count: u64, word: &str) -> Result<(), Fail> {
+    fn push_times(
+        &self,
+        alloc: Global,
+        bytes: &mut Bytes,
+        count: u64,
+        word: &str,
+    ) -> Result<(), Fail> {
         let mut piece = Bytes::new(alloc);
         self.push_one(&mut piece, word)?;
         for _time in 0..count {
@@ -166,7 +172,7 @@ impl Parts {
 
     /// Adds the parts that these lines define, `NAME = WORDS`. A line may name parts above it.
     pub fn add(&mut self, alloc: Global, text: &str) -> Result<(), Fail> {
-        let text = String::from_str(alloc, text)?;
+        let text = crate::cases::joined(alloc, text)?;
         for line in text.as_str().lines() {
             if !line.is_empty() {
                 self.define(alloc, line)?;
