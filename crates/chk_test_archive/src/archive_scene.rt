@@ -28,7 +28,12 @@ fn sync_before(alloc: Global, at: u64) -> Result<Other, Fail> {
 // - `syncs AT`: the collector c1 syncs the first sink before that call.
 // - `reads NAME`: how many reads of this file there were, and how many bytes they gave.
 // - `md5 NAME`: of this file.
-fn about_files(outside: &mut Outside, parts: &Parts, verb: &str, text: &str) -> Result<Option<String>, Fail> {
+fn about_files(
+    outside: &mut Outside,
+    parts: &Parts,
+    verb: &str,
+    text: &str,
+) -> Result<Option<String>, Fail> {
     let alloc = outside.alloc;
     match verb {
         "turns" => {
@@ -37,11 +42,14 @@ fn about_files(outside: &mut Outside, parts: &Parts, verb: &str, text: &str) -> 
             Ok(Some(plain(alloc, "done")?))
         }
         "syncs" => {
-            outside.next.others.push(sync_before(alloc, text.parse()?)?)?;
+            outside
+                .next
+                .others
+                .push(sync_before(alloc, text.parse()?)?)?;
             Ok(Some(plain(alloc, "done")?))
         }
         "reads" => Ok(Some(reads_text(alloc, outside.site.acts(), text)?)),
-        "md5" => Ok(Some(md5_text(alloc, outside.site.file(text).unwrap_or(b""))?)),
+        "md5" => Ok(Some(md5_text(alloc, &outside.site, text)?)),
         _ => Ok(None),
     }
 }
@@ -58,7 +66,15 @@ impl Scene for ArchiveScene {
 
     fn step(&mut self, parts: &Parts, verb: &str, text: &str) -> Result<Option<String>, Fail> {
         match verb {
-            "run" | "book" | "end" | "archive" | "heads" | "part" | "aside" | "begins" | "publishes" => {
+            "run"
+            | "book"
+            | "end"
+            | "archive"
+            | "heads"
+            | "part"
+            | "aside"
+            | "begins"
+            | "publishes" => {
                 self.outside.begin();
                 Ok(Some(answer(self.outside.alloc, &mut self.outside.site, verb, text)?))
             }

@@ -1,5 +1,6 @@
 //! What is asked of files besides their bytes.
 use chk_site::{Act, ActAnswer, Call};
+use chk_site_mem::SiteMem;
 use md5::{Digest, Md5};
 use std::alloc::Global;
 use std::test::Fail;
@@ -28,8 +29,9 @@ pub(crate) fn reads_text(alloc: Global, acts: &[Act], name: &str) -> Result<Stri
     Ok(format!(in alloc; "{count} give {sum}")?)
 }
 
-// In digits of base 16.
-pub(crate) fn md5_text(alloc: Global, bytes: &[u8]) -> Result<String, Fail> {
+// The MD5 of a file in digits of base 16.
+pub(crate) fn md5_text(alloc: Global, site: &SiteMem, name: &str) -> Result<String, Fail> {
+    let bytes = site.file(name).ok_or("no such file")?;
     let mut text = String::new(alloc);
     for byte in Md5::digest(bytes).as_slice() {
         write!(text, "{byte:02x}")?;

@@ -1,5 +1,5 @@
 //! The archive job and its folder.
-ghost use Rattle.std.specs.Prelude.{◌≡◌, IfOk, IsTrue};
+ghost use Rattle.std.specs.Prelude.{◌≡◌, IfOk, IsTrue, codes};
 ghost use Rattle.chk_book.specs.Folders.{is_folder};
 ghost use Rattle.chk_world.specs.Sight.{job};
 
@@ -17,7 +17,8 @@ pub(crate) fn archiver(alloc: Global) -> Result<Who, NoMemory>
 }
 
 pub(crate) fn archive_folder() -> &'static str
-    ensures { IsTrue (is_folder result.now) }
+    ensures text { result.now ≡ codes "archive" }
+    ensures folder { IsTrue (is_folder result.now) }
 {
     "archive"
 }
