@@ -1,6 +1,7 @@
 //! Files of sinks and of an archive, and the calls of the archive job on them.
 use crate::calls::answer;
 use crate::files::{md5_text, reads_text};
+use crate::job::SINK;
 use crate::turns::sink_of_turns;
 use chk_site::{Call, Other};
 use chk_test_calls::{collector, written};
@@ -8,15 +9,13 @@ use chk_test_engine::{Outside, Parts, Scene, add_file, plain};
 use std::alloc::Global;
 use std::test::Fail;
 
-const SINK: &str = "sinks/c1.1.1.done";
-
 /// Files of sinks and of an archive.
 #[derive(Drop)]
 pub struct ArchiveScene {
     outside: Outside,
 }
 
-// The collector c1 syncs the first sink before the call of this number.
+// The collector c1 syncs the sink before the call of this number.
 fn sync_before(alloc: Global, at: u64) -> Result<Other, Fail> {
     let mut other = written(alloc, Call::Sync, &[SINK.as_bytes()])?;
     other.before = at;
@@ -24,10 +23,10 @@ fn sync_before(alloc: Global, at: u64) -> Result<Other, Fail> {
     Ok(other)
 }
 
-// - `turns HOSTS COUNT`: the first sink comes, with so many records of each of these streams.
-// - `syncs AT`: the collector c1 syncs the first sink before that call.
+// - `turns HOSTS COUNT`: adds the sink, with so many records of each of these streams, which take turns.
+// - `syncs AT`: the collector c1 syncs the sink before that call.
 // - `reads NAME`: how many reads of this file there were, and how many bytes they gave.
-// - `md5 NAME`: of this file.
+// - `md5 NAME`: the MD5 of this file.
 fn about_files(
     outside: &mut Outside,
     parts: &Parts,

@@ -3,7 +3,7 @@ ghost use Rattle.std.specs.Prelude.{◌≡◌, ◌≤◌};
 ghost use Rattle.chk_chunk.specs.Keys.{record_limit};
 ghost use Rattle.chk_world.specs.Sight.{job};
 
-use crate::job::{archive_folder, archiver};
+use crate::job::{SINK, archive_folder, archiver};
 use crate::segments::{adds, begins, holds_back, publishes};
 use crate::telling::{book_text, bytes_text, fault_text, number_text, report_text};
 use chk_archive::archive;
@@ -15,9 +15,7 @@ use chk_site_mem::SiteMem;
 use std::alloc::Global;
 use std::test::Fail;
 
-const SINK: &str = "sinks/c1.1.1.done";
-
-// How many heads the first sink has.
+// How many heads the sink has.
 fn heads(alloc: Global, site: &mut SiteMem, who: &Who, most: u32) -> Result<String, JobFault>
     requires { most ≤ record_limit }
 {
@@ -56,7 +54,7 @@ fn runs(alloc: Global, site: &mut SiteMem, who: &Who) -> Result<String, JobFault
 
 // - `book`, `end`: the archive's book, or the end of /a.log of h1 there.
 // - `archive SOURCE`: the archive of /a.log of this source.
-// - `heads MOST`: how many heads the first sink has, if a record may have at most so many bytes.
+// - `heads MOST`: how many heads the sink has, if a record may have at most so many bytes.
 fn reads(
     alloc: Global,
     site: &mut SiteMem,

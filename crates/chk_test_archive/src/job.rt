@@ -1,4 +1,4 @@
-//! The archive job and its folder.
+//! The archive job, its folder, and the sink that most cases have.
 ghost use Rattle.std.specs.Prelude.{◌≡◌, IfOk, IsTrue, codes};
 ghost use Rattle.chk_book.specs.Folders.{is_folder};
 ghost use Rattle.chk_world.specs.Sight.{job};
@@ -6,6 +6,8 @@ ghost use Rattle.chk_world.specs.Sight.{job};
 use chk_bytes::{NoMemory, Word};
 use chk_site::{Role, Who};
 use std::alloc::Global;
+
+pub(crate) const SINK: &str = "sinks/c1.1.1.done";
 
 pub(crate) fn archiver(alloc: Global) -> Result<Who, NoMemory>
     ensures { IfOk result (λ who. who ≡ job) }
