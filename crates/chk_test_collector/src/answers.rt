@@ -1,13 +1,12 @@
-//! How the scenes name a collector, how calls ended, and what is left of files.
+//! How the scenes name a collector, and how its calls ended.
 ghost use Rattle.std.specs.Prelude.{◌≡◌, IfOk, IsTrue};
 ghost use Rattle.chk_bytes.specs.Stems.{is_collector};
 ghost use Rattle.chk_site.specs.declared.acts.Role.TheVariants.{Collector as collector_role};
 
 use chk_bytes::Word;
 use chk_sink::SinkFault;
-use chk_site::{Role, StopAt, Who};
-use chk_test_calls::left_of;
-use chk_test_engine::{Outside, Parts, plain};
+use chk_site::{Role, Who};
+use chk_test_engine::plain;
 use std::alloc::Global;
 use std::test::Fail;
 
@@ -44,23 +43,4 @@ pub(crate) fn end_text(alloc: Global, end: &Result<(), SinkFault>) -> Result<Str
         Ok(()) => plain(alloc, "done"),
         Err(fault) => fault_text(alloc, fault),
     }
-}
-
-/// `PARTS FILE,FILE.. N`: call N of the next work is stopped, but has its effect, and leaves these
-/// bytes of each of these files behind the synced length.
-pub(crate) fn stop_whole(outside: &mut Outside, parts: &Parts, text: &str) -> Result<(), Fail> {
-    let alloc = outside.alloc;
-    let (text, at) = text.rsplit_once(' ').ok_or("no call")?;
-    let (tail, files) = text.rsplit_once(' ').ok_or("no files")?;
-    let tail = parts.bytes(alloc, tail)?;
-    let mut names = Vec::new(alloc);
-    for name in files.split(',') {
-        names.push(name)?;
-    }
-    let left = left_of(alloc, names.as_slice(), tail.as_slice(), true)?;
-    outside.next.stop = Some(StopAt {
-        at: at.parse()?,
-        left,
-    });
-    Ok(())
 }

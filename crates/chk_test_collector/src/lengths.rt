@@ -29,7 +29,10 @@ pub(crate) fn lengths(alloc: Global, site: &SiteMem) -> Result<Vec<u64>, Fail> {
 
 /// No length is less than before.
 pub(crate) fn are_kept(before: &[u64], after: &[u64]) -> bool {
-    before.iter().zip(after.iter()).all(|(old, new)| *old <= *new)
+    before
+        .iter()
+        .zip(after.iter())
+        .all(|(old, new)| *old <= *new)
 }
 
 /// No sink of c1's first start is under writing, and none has a mark.

@@ -1,5 +1,5 @@
 //! The sinks of a collector, and the committed lengths that a new start must keep.
-use crate::answers::{collector_of, end_text, fault_text, stop_whole};
+use crate::answers::{collector_of, end_text, fault_text};
 use crate::lengths::{are_kept, are_settled, lengths};
 use chk_bytes::Stem;
 use chk_chunk::read_post;
@@ -127,7 +127,7 @@ impl Scene for SinkScene {
     //   sink of this number.
     // - `note`: notes the committed lengths. `kept`: none is less than was noted.
     // - `settled`: no sink is under writing, and none has a mark.
-    fn step(&mut self, parts: &Parts, verb: &str, text: &str) -> Result<Option<String>, Fail> {
+    fn step(&mut self, _parts: &Parts, verb: &str, text: &str) -> Result<Option<String>, Fail> {
         let alloc = self.outside.alloc;
         match verb {
             "start" => Ok(Some(self.start()?)),
@@ -135,10 +135,6 @@ impl Scene for SinkScene {
             "kept" | "settled" => Ok(Some(self.check(verb)?)),
             "note" => {
                 self.noted = lengths(alloc, &self.outside.site)?;
-                Ok(Some(plain(alloc, "done")?))
-            }
-            "stops_whole" => {
-                stop_whole(&mut self.outside, parts, text)?;
                 Ok(Some(plain(alloc, "done")?))
             }
             _ => Ok(None),

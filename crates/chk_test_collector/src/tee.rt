@@ -27,7 +27,14 @@ fn filter(alloc: Global, text: &str) -> Result<String, Fail> {
         body: b"hello\n",
     };
     match read_filter(alloc, text.as_bytes()) {
-        Ok(filter) => plain(alloc, if filter.passes(&chunk) { "passes" } else { "stays" }),
+        Ok(filter) => plain(
+            alloc,
+            if filter.passes(&chunk) {
+                "passes"
+            } else {
+                "stays"
+            },
+        ),
         Err(fault) => Ok(format!(in alloc; "{fault:?}")?),
     }
 }
@@ -71,7 +78,10 @@ fn message_so(alloc: Global, parts: &Parts, verb: &str, text: &str) -> Result<St
     }
     let (byte, text) = text.split_once(' ').ok_or("no byte")?;
     let bytes = parts.bytes(alloc, text)?;
-    message(alloc, changed(alloc, bytes.as_slice(), number, byte.parse()?)?.as_slice())
+    message(
+        alloc,
+        changed(alloc, bytes.as_slice(), number, byte.parse()?)?.as_slice(),
+    )
 }
 
 // The addresses in a file of subscribers, or the place of the first wrong line.
@@ -85,7 +95,14 @@ fn subscribers(alloc: Global, file: &[u8]) -> Result<String, Fail> {
         line.push_str(subscriber.address.as_str())?;
         line.push_str(" ")?;
     }
-    plain(alloc, if line.is_empty() { "none" } else { line.as_str().trim_end() })
+    plain(
+        alloc,
+        if line.is_empty() {
+            "none"
+        } else {
+            line.as_str().trim_end()
+        },
+    )
 }
 
 impl TeeScene {
@@ -97,7 +114,13 @@ impl TeeScene {
         let reply = parts.bytes(alloc, reply)?;
         self.outside.begin();
         let site = &mut self.outside.site;
-        pass(alloc, site, &mut self.tees, request.as_slice(), reply.as_slice())
+        pass(
+            alloc,
+            site,
+            &mut self.tees,
+            request.as_slice(),
+            reply.as_slice(),
+        )
     }
 
     fn subscribe(&mut self, file: &[u8]) -> Result<String, Fail> {

@@ -1,10 +1,10 @@
 //! The command of a collector, and one turn of it.
-use crate::answers::{collector_of, end_text, stop_whole};
+use crate::answers::{collector_of, end_text};
 use chk_bytes::Word;
 use chk_collector::Collector;
 use chk_collector_run::{collect, collector_turn};
-use chk_site::{Act, Call};
 use chk_sink::SinkFault;
+use chk_site::{Act, Call};
 use chk_site_mem::SiteMem;
 use chk_tee_sender::Tees;
 use chk_test_engine::{Outside, Parts, Scene, plain};
@@ -78,7 +78,10 @@ impl TurnScene {
         let Some(listed) = self.listed.take() else {
             return Ok(told);
         };
-        let named = told.as_str().strip_prefix("outside ").unwrap_or(told.as_str());
+        let named = told
+            .as_str()
+            .strip_prefix("outside ")
+            .unwrap_or(told.as_str());
         if named == listed.as_str() {
             return plain(alloc, "as listed");
         }
@@ -88,7 +91,12 @@ impl TurnScene {
     fn collect(&mut self, text: &str) -> Result<String, Fail> {
         let (turns, most) = text.split_once(' ').ok_or("no count of messages")?;
         self.outside.begin();
-        let end = run(self.outside.alloc, &mut self.outside.site, turns.parse()?, most.parse()?)?;
+        let end = run(
+            self.outside.alloc,
+            &mut self.outside.site,
+            turns.parse()?,
+            most.parse()?,
+        )?;
         self.told(end)
     }
 
@@ -126,7 +134,7 @@ impl Scene for TurnScene {
     // - `waited`: how many milliseconds the last taking waited.
     // - `fails_to WORD WORD.. N`: call N of the command fails, and it then ends with the word at the
     //   place N: `done`, or the call that it names. The answer is `as listed` if it does.
-    fn step(&mut self, parts: &Parts, verb: &str, text: &str) -> Result<Option<String>, Fail> {
+    fn step(&mut self, _parts: &Parts, verb: &str, text: &str) -> Result<Option<String>, Fail> {
         let alloc = self.outside.alloc;
         match verb {
             "collect" => Ok(Some(self.collect(text)?)),
@@ -137,10 +145,6 @@ impl Scene for TurnScene {
             }
             "fails_to" => {
                 self.list(text)?;
-                Ok(Some(plain(alloc, "done")?))
-            }
-            "stops_whole" => {
-                stop_whole(&mut self.outside, parts, text)?;
                 Ok(Some(plain(alloc, "done")?))
             }
             _ => Ok(None),
