@@ -1,4 +1,7 @@
 //! The collectors c1 and c2 over one store, and what they answer.
+ghost use Rattle.std.specs.Prelude.{IsTrue};
+ghost use Rattle.chk_bytes.specs.Stems.{is_collector};
+
 use crate::answers::{collector_of, end_text, fault_text};
 use chk_collector::Collector;
 use chk_http::read_reply;
@@ -76,12 +79,11 @@ fn start(
     alloc: Global,
     site: &mut SiteMem,
     seat: &mut Option<Collector>,
-    is_second: bool,
-) -> Result<String, Fail> {
-    let who = match is_second {
-        true => collector_of(alloc, b"c2")?,
-        false => collector_of(alloc, b"c1")?,
-    };
+    name: &[u8],
+) -> Result<String, Fail>
+    requires { IsTrue (is_collector name.now) }
+{
+    let who = collector_of(alloc, name)?;
     *seat = None;
     match Collector::start(alloc, site, &who, ROTATE) {
         Ok(collector) => {
@@ -92,28 +94,25 @@ fn start(
     }
 }
 
-impl CollectorScene {
-    fn does(
-        &mut self,
-        parts: &Parts,
-        is_second: bool,
-        verb: &str,
-        text: &str,
-    ) -> Result<String, Fail> {
-        let alloc = self.outside.alloc;
-        self.outside.begin();
-        let site = &mut self.outside.site;
-        let seat = match is_second {
-            true => &mut self.second,
-            false => &mut self.first,
-        };
-        if verb == "start" {
-            return start(alloc, site, seat, is_second);
-        }
-        match seat {
-            Some(collector) => work(alloc, site, collector, parts, verb, text),
-            None => plain(alloc, "no collector"),
-        }
+// What the collector of this name answers.
+fn step_of(
+    outside: &mut Outside,
+    seat: &mut Option<Collector>,
+    name: &[u8],
+    parts: &Parts,
+    verb: &str,
+    text: &str,
+) -> Result<String, Fail>
+    requires { IsTrue (is_collector name.now) }
+{
+    let alloc = outside.alloc;
+    outside.begin();
+    if verb == "start" {
+        return start(alloc, &mut outside.site, seat, name);
+    }
+    match seat {
+        Some(collector) => work(alloc, &mut outside.site, collector, parts, verb, text),
+        None => plain(alloc, "no collector"),
     }
 }
 
@@ -136,13 +135,16 @@ impl Scene for CollectorScene {
     //   lines it has, and the last one. `reply PARTS`: the whole reply.
     // - `c2 VERB TEXT`: the collector c2 does so, and not c1.
     fn step(&mut self, parts: &Parts, verb: &str, text: &str) -> Result<Option<String>, Fail> {
+        let outside = &mut self.outside;
         match verb {
             "start" | "tick" | "finish" | "ask" | "outline" | "reply" => {
-                Ok(Some(self.does(parts, false, verb, text)?))
+                let first = &mut self.first;
+                Ok(Some(step_of(outside, first, b"c1", parts, verb, text)?))
             }
             "c2" => {
                 let (verb, text) = text.split_once(' ').unwrap_or((text, ""));
-                Ok(Some(self.does(parts, true, verb, text)?))
+                let second = &mut self.second;
+                Ok(Some(step_of(outside, second, b"c2", parts, verb, text)?))
             }
             _ => Ok(None),
         }

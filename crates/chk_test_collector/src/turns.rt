@@ -7,7 +7,7 @@ use chk_sink::SinkFault;
 use chk_site::{Act, Call};
 use chk_site_mem::SiteMem;
 use chk_tee_sender::Tees;
-use chk_test_engine::{Outside, Parts, Scene, plain};
+use chk_test_engine::{Outside, Parts, Scene};
 use std::alloc::Global;
 use std::test::Fail;
 
@@ -18,8 +18,6 @@ const ROTATE: u64 = 300_000;
 #[derive(Drop)]
 pub struct TurnScene {
     outside: Outside,
-    // How the next command has to end, where it is listed.
-    listed: Option<String>,
 }
 
 // The command with so many turns of at most so many messages.
@@ -58,61 +56,20 @@ fn last_wait(acts: &[Act]) -> u64 {
     wait
 }
 
-// The word of this number, counted from 1.
-fn listed(alloc: Global, words: &str, at: u64) -> Result<String, Fail> {
-    let mut count: u64 = 0;
-    for word in words.split(' ') {
-        count = count.saturating_add(1);
-        if count == at {
-            return plain(alloc, word);
-        }
-    }
-    plain(alloc, "not listed")
-}
-
 impl TurnScene {
-    // The end of the command, or whether it is that which was listed.
-    fn told(&mut self, end: Result<(), SinkFault>) -> Result<String, Fail> {
-        let alloc = self.outside.alloc;
-        let told = end_text(alloc, &end)?;
-        let Some(listed) = self.listed.take() else {
-            return Ok(told);
-        };
-        let named = told
-            .as_str()
-            .strip_prefix("outside ")
-            .unwrap_or(told.as_str());
-        if named == listed.as_str() {
-            return plain(alloc, "as listed");
-        }
-        Ok(told)
-    }
-
+    // `TURNS MOST`.
     fn collect(&mut self, text: &str) -> Result<String, Fail> {
+        let alloc = self.outside.alloc;
         let (turns, most) = text.split_once(' ').ok_or("no count of messages")?;
         self.outside.begin();
-        let end = run(
-            self.outside.alloc,
-            &mut self.outside.site,
-            turns.parse()?,
-            most.parse()?,
-        )?;
-        self.told(end)
+        let site = &mut self.outside.site;
+        end_text(alloc, &run(alloc, site, turns.parse()?, most.parse()?)?)
     }
 
     fn turn(&mut self, most: &str) -> Result<String, Fail> {
+        let alloc = self.outside.alloc;
         self.outside.begin();
-        let end = turn(self.outside.alloc, &mut self.outside.site, most.parse()?)?;
-        self.told(end)
-    }
-
-    // `WORD WORD.. N`.
-    fn list(&mut self, text: &str) -> Result<(), Fail> {
-        let (words, at) = text.rsplit_once(' ').ok_or("no call")?;
-        let at = at.parse()?;
-        self.outside.next.failing.push(at)?;
-        self.listed = Some(listed(self.outside.alloc, words, at)?);
-        Ok(())
+        end_text(alloc, &turn(alloc, &mut self.outside.site, most.parse()?)?)
     }
 }
 
@@ -120,7 +77,6 @@ impl Scene for TurnScene {
     fn empty(alloc: Global) -> Result<Box<Self>, Fail> {
         let scene = TurnScene {
             outside: Outside::new(alloc)?,
-            listed: None,
         };
         Ok(Box::new(alloc, scene)?)
     }
@@ -132,8 +88,6 @@ impl Scene for TurnScene {
     // - `collect TURNS MOST`: the command with so many turns of at most so many messages.
     // - `turn MOST`: a start, and one turn.
     // - `waited`: how many milliseconds the last taking waited.
-    // - `fails_to WORD WORD.. N`: call N of the command fails, and it then ends with the word at the
-    //   place N: `done`, or the call that it names. The answer is `as listed` if it does.
     fn step(&mut self, _parts: &Parts, verb: &str, text: &str) -> Result<Option<String>, Fail> {
         let alloc = self.outside.alloc;
         match verb {
@@ -142,10 +96,6 @@ impl Scene for TurnScene {
             "waited" => {
                 let wait = last_wait(self.outside.acts());
                 Ok(Some(format!(in alloc; "{wait}")?))
-            }
-            "fails_to" => {
-                self.list(text)?;
-                Ok(Some(plain(alloc, "done")?))
             }
             _ => Ok(None),
         }
