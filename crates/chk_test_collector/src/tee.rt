@@ -16,7 +16,7 @@ pub struct TeeScene {
 }
 
 // Whether the chunk `hello` of h1, Log, /a.log passes this filter.
-fn filter(alloc: Global, text: &str) -> Result<String, Fail> {
+fn try_filter(alloc: Global, text: &str) -> Result<String, Fail> {
     let chunk = ChunkRef {
         source: "h1",
         kind: "Log",
@@ -47,7 +47,7 @@ fn chunk_text(alloc: Global, teed: &Teed<'_>) -> Result<String, Fail> {
 }
 
 // The first chunk of a message, or the fault.
-fn message(alloc: Global, bytes: &[u8]) -> Result<String, Fail> {
+fn read_message(alloc: Global, bytes: &[u8]) -> Result<String, Fail> {
     match read_tee(bytes) {
         Ok(mut tee) => match tee.next() {
             Some(teed) => chunk_text(alloc, &teed),
@@ -66,26 +66,26 @@ fn changed(alloc: Global, bytes: &[u8], at: usize, byte: u8) -> Result<Bytes, Fa
 }
 
 // `PARTS`, or `N PARTS` of a front of N bytes, or `AT BYTE PARTS`.
-fn message_so(alloc: Global, parts: &Parts, verb: &str, text: &str) -> Result<String, Fail> {
+fn read_changed(alloc: Global, parts: &Parts, verb: &str, text: &str) -> Result<String, Fail> {
     if verb == "message" {
-        return message(alloc, parts.bytes(alloc, text)?.as_slice());
+        return read_message(alloc, parts.bytes(alloc, text)?.as_slice());
     }
     let (number, text) = text.split_once(' ').ok_or("no number")?;
     let number: usize = number.parse()?;
     if verb == "front" {
         let bytes = parts.bytes(alloc, text)?;
-        return message(alloc, bytes.as_slice().get(..number).ok_or("no front")?);
+        return read_message(alloc, bytes.as_slice().get(..number).ok_or("no front")?);
     }
     let (byte, text) = text.split_once(' ').ok_or("no byte")?;
     let bytes = parts.bytes(alloc, text)?;
-    message(
+    read_message(
         alloc,
         changed(alloc, bytes.as_slice(), number, byte.parse()?)?.as_slice(),
     )
 }
 
 // The addresses in a file of subscribers, or the place of the first wrong line.
-fn subscribers(alloc: Global, file: &[u8]) -> Result<String, Fail> {
+fn list_addresses(alloc: Global, file: &[u8]) -> Result<String, Fail> {
     let subscribers = match read_subscribers(alloc, file) {
         Ok(subscribers) => subscribers,
         Err(fault) => return Ok(format!(in alloc; "{fault:?}")?),
@@ -159,11 +159,11 @@ impl Scene for TeeScene {
     fn step(&mut self, parts: &Parts, verb: &str, text: &str) -> Result<Option<String>, Fail> {
         let alloc = self.outside.alloc;
         match verb {
-            "filter" => Ok(Some(filter(alloc, text)?)),
-            "message" | "front" | "changed" => Ok(Some(message_so(alloc, parts, verb, text)?)),
+            "filter" => Ok(Some(try_filter(alloc, text)?)),
+            "message" | "front" | "changed" => Ok(Some(read_changed(alloc, parts, verb, text)?)),
             "subscribers" => {
                 let file = parts.bytes(alloc, text)?;
-                Ok(Some(subscribers(alloc, file.as_slice())?))
+                Ok(Some(list_addresses(alloc, file.as_slice())?))
             }
             "tees" => {
                 let file = parts.bytes(alloc, text)?;
