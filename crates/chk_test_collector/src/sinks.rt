@@ -30,8 +30,10 @@ fn put_chunk(
     sinks: &mut Sinks,
 ) -> Result<Result<(Stem, u64), SinkFault>, Fail> {
     let mut post = read_post(POST)?;
-    let chunk = post.next().ok_or("no chunk")?;
-    Ok(sinks.put(alloc, site, &chunk))
+    match post.next() {
+        Some(chunk) => Ok(sinks.put(alloc, site, &chunk)),
+        None => Err(Fail::from("no chunk")),
+    }
 }
 
 // The number of starts, the sink's number, and where the chunk ends in it.
