@@ -24,6 +24,7 @@ the answer `no memory`; another answer is wrong, and so are a fault and a hang.
 import collections
 import concurrent.futures
 import os
+import re
 import struct
 import subprocess
 import sys
@@ -41,6 +42,8 @@ MOST = 1_000_000
 LAST = "out of memory\n"
 # The status of a test that failed.
 FAILED = 101
+# How the program that plays cases ends for want of memory.
+WANT = re.compile("error: .*(NoMemory|AllocError|AllocFailed|OutOfMemory)")
 
 
 def built(folder):
@@ -225,7 +228,7 @@ def cases_folder(folder, file):
 def is_for_memory(out, error):
     """Whether cases that failed did so for want of memory."""
     lines = [line for line in out.splitlines() if not line.endswith(" cases")]
-    return "error: " in error or all(line.endswith(": no memory") for line in lines)
+    return bool(WANT.search(error)) or all(line.endswith((": no memory", ": NoMemory")) for line in lines)
 
 
 def refused_cases(program, file, every, shim):

@@ -56,7 +56,7 @@ pub(crate) fn sent_to(
     plain(alloc, if holds { "done" } else { "other sends" })
 }
 
-/// `DOOR PARTS`: a watcher takes just this message, or the answer is another one.
+/// `DOOR PARTS`: a watcher takes just this message, or the answer is the message that it takes.
 pub(crate) fn is_taken(
     alloc: Global,
     parts: &Parts,
@@ -72,6 +72,7 @@ pub(crate) fn is_taken(
     match site.take(alloc, &who, door, 0) {
         Ok(Some(taking)) if taking.bytes.as_slice() == wanted.as_slice() => plain(alloc, "done"),
         Ok(Some(taking)) => shown(alloc, taking.bytes.as_slice()),
-        _ => plain(alloc, "no message"),
+        Ok(None) => plain(alloc, "no message"),
+        Err(fault) => Ok(format!(in alloc; "{fault:?}")?),
     }
 }
