@@ -1,0 +1,163 @@
+//! The scene of a log that writers change, and a reader of it.
+
+use crate::readers::Reader;
+use crate::starts::agent_named;
+use crate::words::{parted, told};
+use crate::writing::{swell, writes};
+use chk_bytes::Bytes;
+use chk_site::OutsideFault;
+use chk_tail::Step;
+use chk_test_engine::{Outside, Parts, Scene, shown};
+use std::alloc::Global;
+use std::test::Fail;
+
+/// A reader of the log /a.log.
+#[derive(Drop)]
+pub struct ReaderScene {
+    outside: Outside,
+    reader: Reader,
+    // What `reads` was given.
+    given: Bytes,
+}
+
+fn step_text(alloc: Global, given: Result<Step, OutsideFault>) -> Result<String, Fail> {
+    match given {
+        Ok(Step::Bytes { bytes, end }) => {
+            let bytes = shown(alloc, bytes.as_slice())?;
+            Ok(format!(in alloc; "[{bytes}] {end}")?)
+        }
+        Ok(Step::AtEnd) => told(alloc, "end", &[]),
+        Ok(Step::Shrank { had, is }) => told(alloc, "shrank", &[had, is]),
+        Err(OutsideFault::Outside { call }) => {
+            let name = call.name();
+            Ok(format!(in alloc; "failed {name}")?)
+        }
+        Err(OutsideFault::NoMemory) => told(alloc, "no memory", &[]),
+    }
+}
+
+impl ReaderScene {
+    fn steps(&mut self) -> Result<Result<Step, OutsideFault>, Fail> {
+        let who = agent_named(self.outside.alloc, "h1")?;
+        Ok(self.reader.step(self.outside.alloc, &mut self.outside.site, &who))
+    }
+
+    // The ends of the pieces that are given up to the end. The end `place` stands as `N`, and `-` for
+    // no piece.
+    fn reads(&mut self, place: u64) -> Result<String, Fail> {
+        let alloc = self.outside.alloc;
+        self.outside.begin();
+        let mut ends = String::new(alloc);
+        for _step in 0..64 {
+            match self.steps()? {
+                Ok(Step::Bytes { bytes, end }) => {
+                    self.given.push_all(bytes.as_slice())?;
+                    if end == place {
+                        ends.push_str("N ")?;
+                    } else {
+                        write!(&mut ends, "{end} ")?;
+                    }
+                    if end != self.given.len() as u64 {
+                        return Err(Fail::from("the end of other bytes"));
+                    }
+                }
+                Ok(Step::AtEnd) if ends.as_str().is_empty() => return told(alloc, "-", &[]),
+                Ok(Step::AtEnd) => return told(alloc, ends.as_str().trim_end(), &[]),
+                other => return step_text(alloc, other),
+            }
+        }
+        Err(Fail::from("no end"))
+    }
+
+    // The log is read when it has as many bytes as `place` says, and again when it is whole. In between
+    // it is rotated if `after` is a suffix.
+    fn halves(
+        &mut self,
+        parts: &Parts,
+        log: &[u8],
+        place: u64,
+        way: (&str, &str),
+    ) -> Result<String, Fail> {
+        let alloc = self.outside.alloc;
+        let (after, kind) = way;
+        let path = format!(in alloc; "/{place}.log")?;
+        self.reader = Reader::at(alloc, path.as_str(), kind, "0 0 -")?;
+        self.given = Bytes::new(alloc);
+        let (front, rest) = log.split_at_checked(place as usize).ok_or("no such place")?;
+        swell(&mut self.outside, parts, path.as_str(), front)?;
+        let first = self.reads(place)?;
+        if after != "-" {
+            let turned = format!(in alloc; "{path} {after}")?;
+            let _done = self.outside.step(parts, "turn", turned.as_str())?;
+        }
+        swell(&mut self.outside, parts, path.as_str(), rest)?;
+        let second = self.reads(place)?;
+        if self.given.as_slice() != log {
+            return told(alloc, "other bytes", &[]);
+        }
+        Ok(format!(in alloc; "{first} then {second}")?)
+    }
+
+    // `FROM TO AFTER KIND PARTS`: what is answered for each place from one to the other, if that is the
+    // same.
+    fn halved(&mut self, parts: &Parts, text: &str) -> Result<String, Fail> {
+        let alloc = self.outside.alloc;
+        let (from, rest) = parted(text);
+        let (to, rest) = parted(rest);
+        let (after, rest) = parted(rest);
+        let (kind, words) = parted(rest);
+        let log = parts.bytes(alloc, words)?;
+        let (from, to): (u64, u64) = (from.parse()?, to.parse()?);
+        let all = self.halves(parts, log.as_slice(), from, (after, kind))?;
+        for place in from..=to {
+            let given = self.halves(parts, log.as_slice(), place, (after, kind))?;
+            if given.as_str() != all.as_str() {
+                return Ok(format!(in alloc; "{given} at {place}")?);
+            }
+        }
+        Ok(all)
+    }
+}
+
+impl Scene for ReaderScene {
+    fn empty(alloc: Global) -> Result<Box<ReaderScene>, Fail> {
+        let scene = ReaderScene {
+            outside: Outside::new(alloc)?,
+            reader: Reader::at(alloc, "/a.log", "base", "0 0 -")?,
+            given: Bytes::new(alloc),
+        };
+        Ok(Box::new(alloc, scene)?)
+    }
+
+    fn outside(&mut self) -> &mut Outside {
+        &mut self.outside
+    }
+
+    // - `open KIND OFFSET FIRST AFTER`: another reader begins there.
+    // - `step`: what it gives.
+    // - `reads`: up to which ends it gives pieces, and `given PARTS`: what bytes these are.
+    // - `halved FROM TO AFTER KIND PARTS`: up to which ends a log is read before and behind a place.
+    fn step(&mut self, parts: &Parts, verb: &str, text: &str) -> Result<Option<String>, Fail> {
+        let alloc = self.outside.alloc;
+        let given = match verb {
+            "step" => {
+                self.outside.begin();
+                step_text(alloc, self.steps()?)?
+            }
+            "place" | "back" | "rewind" | "forget" => self.reader.moves(alloc, verb, text)?,
+            "reads" => self.reads(0)?,
+            "halved" => self.halved(parts, text)?,
+            "given" if parts.bytes(alloc, text)?.as_slice() != self.given.as_slice() => {
+                shown(alloc, self.given.as_slice())?
+            }
+            "given" => told(alloc, "done", &[])?,
+            "open" => {
+                let (kind, place) = parted(text);
+                self.reader = Reader::at(alloc, "/a.log", kind, place)?;
+                told(alloc, "done", &[])?
+            }
+            _ => return writes(&mut self.outside, parts, verb, text),
+        };
+        Ok(Some(given))
+    }
+}
