@@ -2,7 +2,8 @@
 ghost use Rattle.std.specs.Prelude.{◌≡◌, true};
 
 use crate::answers::{
-    added, answered, faulted, filled, lengths, polled, posted, replied, settled, state_text, stepped,
+    added, answered, faulted, filled, lengths, polled, posted, replied, settled, state_text,
+    stepped,
 };
 use crate::drains::drains;
 use crate::words::{parted, told, word};
@@ -13,22 +14,18 @@ use chk_site_mem::SiteMem;
 use std::alloc::Global;
 use std::test::Fail;
 
-fn class_of(text: &str) -> Result<Class, Fail> {
-    match text {
-        "plain" => Ok(Class::Plain),
-        "rotating" => Ok(Class::Rotating),
-        "lines" => Ok(Class::Lines),
-        _ => Err(Fail::from("no such class")),
-    }
-}
-
 // `CLASS TYPE PATH`.
 fn adds(alloc: Global, site: &mut SiteMem, agent: &mut Agent, text: &str) -> Result<String, Fail>
     requires { agent.old.ready ≡ true }
 {
     let (class, stream) = parted(text);
     let (kind, path) = parted(stream);
-    let class = class_of(class)?;
+    let class = match class {
+        "plain" => Class::Plain,
+        "rotating" => Class::Rotating,
+        "lines" => Class::Lines,
+        _ => return Err(Fail::from("no such class")),
+    };
     let (kind, path) = (word(alloc, kind)?, word(alloc, path)?);
     added(alloc, agent.add(alloc, site, class, &kind, &path))
 }
@@ -43,11 +40,6 @@ fn steps(alloc: Global, site: &mut SiteMem, agent: &mut Agent, adaptor: u32) -> 
         return told(alloc, "not read", &[]);
     }
     stepped(alloc, agent.step(alloc, site, adaptor))
-}
-
-fn pauses(alloc: Global, site: &mut SiteMem, agent: &Agent) -> Result<String, Fail> {
-    let is_done = site.pause(alloc, agent.who(), 1_000).is_ok();
-    told(alloc, if is_done { "done" } else { "refused" }, &[])
 }
 
 // - `post`, `reply NOW`, `poll`, `lengths` and `settle NOW`: what it delivers.
@@ -79,7 +71,10 @@ fn calls(
         "step" => steps(alloc, site, agent, text.parse()?),
         "add" => adds(alloc, site, agent, text),
         "drain" => drains(alloc, site, agent, text),
-        "pause" => pauses(alloc, site, agent),
+        "pause" => match site.pause(alloc, agent.who(), 1_000) {
+            Ok(()) => told(alloc, "done", &[]),
+            Err(_) => told(alloc, "refused", &[]),
+        },
         _ => Err(Fail::from("no such verb of an agent")),
     }
 }
@@ -106,5 +101,9 @@ pub(crate) fn asks(
     if verb == "state" {
         return state_text(alloc, agent.state(adaptor));
     }
-    told(alloc, "at", &[agent.read_end(adaptor), agent.committed_end(adaptor)])
+    told(
+        alloc,
+        "at",
+        &[agent.read_end(adaptor), agent.committed_end(adaptor)],
+    )
 }

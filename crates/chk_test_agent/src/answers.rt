@@ -78,26 +78,27 @@ pub(crate) fn polled(alloc: Global, given: Result<Polled, AgentFault>) -> Result
 }
 
 // So many lengths came, and the first row that is below its offset, if one is.
-pub(crate) fn lengths(alloc: Global, given: Result<PollAnswer, AgentFault>) -> Result<String, Fail> {
+pub(crate) fn lengths(
+    alloc: Global,
+    given: Result<PollAnswer, AgentFault>,
+) -> Result<String, Fail> {
     match given {
         Ok(
             PollAnswer::Lengths {
                 count,
                 below: Some(below),
             },
-        ) => below_text(alloc, count, &below),
+        ) => {
+            let Below { stem, got, want } = below;
+            let (name, born, number) = (stem.name(), stem.born(), stem.number());
+            Ok(format!(in alloc; "lengths {count} below {name}.{born}.{number} {got} {want}")?)
+        }
         Ok(PollAnswer::Lengths { count, below: None }) => told(alloc, "lengths", &[count as u64]),
         Ok(PollAnswer::Refused { code }) => told(alloc, "refused", &[code as u64]),
         Ok(PollAnswer::Silent) => told(alloc, "silent", &[]),
         Ok(PollAnswer::Nothing) => told(alloc, "nothing", &[]),
         Err(fault) => faulted(alloc, fault),
     }
-}
-
-fn below_text(alloc: Global, count: u32, below: &Below) -> Result<String, Fail> {
-    let (name, born, number) = (below.stem.name(), below.stem.born(), below.stem.number());
-    let (got, want) = (below.got, below.want);
-    Ok(format!(in alloc; "lengths {count} below {name}.{born}.{number} {got} {want}")?)
 }
 
 pub(crate) fn settled(alloc: Global, given: Result<Settled, AgentFault>) -> Result<String, Fail> {

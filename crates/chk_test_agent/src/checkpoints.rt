@@ -4,7 +4,6 @@ use crate::starts::agent_named;
 use crate::words::told;
 use chk_bytes::Bytes;
 use chk_checkpoint::{CheckFault, load_checkpoint, write_checkpoint};
-use chk_site::OutsideFault;
 use chk_test_engine::{Outside, add_file};
 use std::alloc::Global;
 use std::test::Fail;
@@ -12,18 +11,11 @@ use std::test::Fail;
 fn faulted(alloc: Global, fault: CheckFault) -> Result<String, Fail> {
     match fault {
         CheckFault::Damaged { at } => told(alloc, "damaged", &[at]),
-        CheckFault::Outside { call } => failed(alloc, OutsideFault::Outside { call }),
-        CheckFault::NoMemory => failed(alloc, OutsideFault::NoMemory),
-    }
-}
-
-fn failed(alloc: Global, fault: OutsideFault) -> Result<String, Fail> {
-    match fault {
-        OutsideFault::Outside { call } => {
+        CheckFault::Outside { call } => {
             let name = call.name();
             Ok(format!(in alloc; "failed {name}")?)
         }
-        OutsideFault::NoMemory => told(alloc, "no memory", &[]),
+        CheckFault::NoMemory => told(alloc, "no memory", &[]),
     }
 }
 
@@ -50,7 +42,7 @@ pub(crate) fn copies(outside: &mut Outside, text: &str) -> Result<String, Fail> 
     };
     match write_checkpoint(alloc, &mut outside.site, &to, &check) {
         Ok(()) => told(alloc, "done", &[]),
-        Err(fault) => failed(alloc, fault),
+        Err(fault) => faulted(alloc, CheckFault::from(fault)),
     }
 }
 

@@ -180,7 +180,11 @@ impl Collectors {
             "collector" => self.starts(alloc, site, name),
             "hold" => {
                 self.held = takes(alloc, site, name)?;
-                Ok(if self.held.is_some() { "held" } else { "no message" })
+                Ok(if self.held.is_some() {
+                    "held"
+                } else {
+                    "no message"
+                })
             }
             "lose" => {
                 let is_lost = takes(alloc, site, name)?.is_some();

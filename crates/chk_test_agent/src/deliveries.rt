@@ -10,7 +10,7 @@ use chk_agent_delivery::{Delivery, Rules};
 use chk_bytes::{Bytes, NoMemory};
 use chk_chunk::Chunk;
 use chk_site::Site;
-use chk_test_engine::{Outside, Parts, Scene};
+use chk_test_engine::{Outside, Parts, Scene, shown};
 use std::alloc::Global;
 use std::test::Fail;
 
@@ -80,14 +80,6 @@ fn filled(alloc: Global, rows: u32) -> Result<Delivery, Fail> {
     Ok(delivery)
 }
 
-fn adaptors_in(alloc: Global, text: &str) -> Result<Vec<u32>, Fail> {
-    let mut adaptors = Vec::new(alloc);
-    for word in text.split(' ') {
-        adaptors.push(word.parse()?)?;
-    }
-    Ok(adaptors)
-}
-
 // The collector takes the next message and replies so.
 fn replies(outside: &mut Outside, reply: &[u8]) -> Result<Bytes, Fail> {
     let alloc = outside.alloc;
@@ -127,14 +119,14 @@ impl DeliveryScene {
         Ok(text)
     }
 
-    fn is_message(&self, parts: &Parts, text: &str) -> Result<String, Fail> {
+    // These adaptors are stopped.
+    fn stops(&mut self, text: &str) -> Result<(), Fail> {
         let alloc = self.outside.alloc;
-        let wanted = parts.bytes(alloc, text)?;
-        if wanted.as_slice() == self.message.as_slice() {
-            told(alloc, "done", &[])
-        } else {
-            chk_test_engine::shown(alloc, self.message.as_slice())
+        let mut adaptors = Vec::new(alloc);
+        for word in text.split(' ') {
+            adaptors.push(word.parse()?)?;
         }
+        Ok(self.delivery.stop(alloc, adaptors.as_slice())?)
     }
 }
 
@@ -162,13 +154,16 @@ impl Scene for DeliveryScene {
         match verb {
             "post" | "reply" | "poll" | "lengths" => return Ok(Some(self.calls(verb, text)?)),
             "expire" => return Ok(Some(self.expires(text.parse()?)?)),
-            "message" => return Ok(Some(self.is_message(parts, text)?)),
+            "message" if parts.bytes(alloc, text)?.as_slice() != self.message.as_slice() => {
+                return Ok(Some(shown(alloc, self.message.as_slice())?));
+            }
+            "message" => {}
             "used" => {
                 let used = self.delivery.used();
                 return Ok(Some(format!(in alloc; "{used}")?));
             }
             "rows" => self.delivery = filled(alloc, text.parse()?)?,
-            "stop" => self.delivery.stop(alloc, adaptors_in(alloc, text)?.as_slice())?,
+            "stop" => self.stops(text)?,
             "replies" => {
                 let reply = parts.bytes(alloc, text)?;
                 self.message = replies(&mut self.outside, reply.as_slice())?;

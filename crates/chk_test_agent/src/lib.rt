@@ -1,8 +1,8 @@
 //! Scenes of agents over a site in memory: their runs, drains, checkpoints, deliveries and readers.
 #![tactic(auto)]
 
-mod acts;
 mod actors;
+mod acts;
 mod agents;
 mod answers;
 mod checkpoints;

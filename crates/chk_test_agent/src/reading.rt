@@ -39,7 +39,10 @@ fn step_text(alloc: Global, given: Result<Step, OutsideFault>) -> Result<String,
 impl ReaderScene {
     fn steps(&mut self) -> Result<Result<Step, OutsideFault>, Fail> {
         let who = agent_named(self.outside.alloc, "h1")?;
-        Ok(self.reader.step(self.outside.alloc, &mut self.outside.site, &who))
+        Ok(
+            self.reader
+                .step(self.outside.alloc, &mut self.outside.site, &who),
+        )
     }
 
     // The ends of the pieces that are given up to the end. The end `place` stands as `N`, and `-` for

@@ -1,14 +1,13 @@
 //! What a scene of agents consists of, and what led to it.
 
-use crate::acts::others_in;
 use crate::actors::Actors;
+use crate::acts::others_in;
 use crate::checkpoints::{copies, loads, numbers};
 use crate::runs::{answers, pauses, runs};
 use crate::sinks::closed;
 use crate::words::told;
 use crate::writing::writes;
-use chk_site::{Act, Call, Other};
-use chk_site_mem::SiteMem;
+use chk_site::{Call, Other};
 use chk_test_engine::{Outside, Parts, shown};
 use std::alloc::Global;
 use std::test::Fail;
@@ -55,16 +54,6 @@ impl Rehearsal {
     }
 }
 
-fn count_of_growths(acts: &[Act]) -> u64 {
-    let mut count: u64 = 0;
-    for act in acts {
-        if act.call == Call::LogAppend {
-            count = count.saturating_add(1);
-        }
-    }
-    count
-}
-
 impl Stage {
     pub(crate) fn new(alloc: Global) -> Result<Stage, Fail> {
         Ok(Stage {
@@ -76,7 +65,8 @@ impl Stage {
     // `COUNT PATH TEXT`: the log grows by this text, unless writers have changed logs so often already.
     fn grows(&mut self, parts: &Parts, text: &str) -> Result<String, Fail> {
         let (count, grown) = text.split_once(' ').ok_or("no log")?;
-        if count_of_growths(self.outside.site.acts()) < count.parse()? {
+        let acts = self.outside.site.acts().iter();
+        if acts.filter(|act| act.call == Call::LogAppend).count() < count.parse()? {
             let _done = self.outside.step(parts, "log", grown)?;
         }
         told(self.outside.alloc, "done", &[])

@@ -1,6 +1,4 @@
 //! Runs of the agent h1, what it answers at its control port, and how long it waits.
-ghost use Rattle.std.specs.Prelude.{◌≡◌, IfOk};
-ghost use Rattle.chk_site.specs.declared.acts.Role.TheVariants.{Writer as writer_role};
 
 use crate::starts::{agent_named, ring_of, rules_of};
 use crate::words::{told, word};
@@ -14,24 +12,22 @@ use std::test::Fail;
 // How long an agent that a command runs waits between polls, in milliseconds.
 const POLL: u64 = 10_000;
 
-// Who reads the initial file.
-fn reader(alloc: Global) -> Result<Who, Fail>
-    ensures { IfOk result (λ who. who.role ≡ writer_role) }
-{
-    Ok(Who {
-        role: Role::Writer,
-        name: word(alloc, "chukwa")?,
-    })
-}
-
 // `TURNS CONTROL FILE` or `TURNS CONTROL FILE PAUSE`. `-` stands for no control port and no file.
 fn work_of(alloc: Global, text: &str) -> Result<Work, Fail> {
     let mut words = text.split(' ');
     let turns = words.next().ok_or("no turns")?.parse()?;
     let control = words.next().ok_or("no control port")?;
     let initial = words.next().ok_or("no file")?;
-    let control = if control == "-" { None } else { Some(word(alloc, control)?) };
-    let initial = if initial == "-" { None } else { Some(word(alloc, initial)?) };
+    let control = if control == "-" {
+        None
+    } else {
+        Some(word(alloc, control)?)
+    };
+    let initial = if initial == "-" {
+        None
+    } else {
+        Some(word(alloc, initial)?)
+    };
     Ok(Work {
         initial,
         control,
@@ -60,11 +56,27 @@ pub(crate) fn runs(outside: &mut Outside, text: &str) -> Result<String, Fail> {
     outside.restart();
     outside.begin();
     let work = work_of(alloc, text)?;
-    let (who, reader) = (agent_named(alloc, "h1")?, reader(alloc)?);
+    let who = agent_named(alloc, "h1")?;
+    let reader = Who {
+        role: Role::Writer,
+        name: word(alloc, "chukwa")?,
+    };
     let ring = ring_of(alloc, "c1:80")?;
     let rules = rules_of(alloc, ROWS, QUEUE, POLL, "none")?;
     let site = &mut outside.site;
-    ended(alloc, run_agent(alloc, site, &who, &reader, ring, rules, &work, Hashing::Fixed))
+    ended(
+        alloc,
+        run_agent(
+            alloc,
+            site,
+            &who,
+            &reader,
+            ring,
+            rules,
+            &work,
+            Hashing::Fixed,
+        ),
+    )
 }
 
 // How many milliseconds each pause had.
@@ -84,8 +96,16 @@ pub(crate) fn answers(alloc: Global, acts: &[Act]) -> Result<String, Fail> {
     let mut text = String::new(alloc);
     for act in acts {
         if act.call == Call::Answer {
-            let failed = if matches!(&act.answer, ActAnswer::Done { .. }) { "" } else { "!" };
-            let bytes = act.words.as_slice().first().ok_or("an answer without bytes")?;
+            let failed = if matches!(&act.answer, ActAnswer::Done { .. }) {
+                ""
+            } else {
+                "!"
+            };
+            let bytes = act
+                .words
+                .as_slice()
+                .first()
+                .ok_or("an answer without bytes")?;
             let bytes = shown(alloc, bytes.as_slice())?;
             write!(&mut text, "{failed}[{bytes}]")?;
         }

@@ -5,8 +5,8 @@ ghost use Rattle.chk_world.specs.Names.{is_source};
 
 use crate::words::word;
 use chk_agent::{Agent, AgentFault, Rules};
-use chk_failover::Ring;
 use chk_bytes::Word;
+use chk_failover::Ring;
 use chk_site::{Role, Who};
 use chk_site_mem::SiteMem;
 use std::alloc::Global;

@@ -8,7 +8,14 @@ use std::test::Fail;
 
 // The last of the acts that are to come.
 fn last(outside: &mut Outside) -> Result<&mut Other, Fail> {
-    Ok(outside.next.others.as_mut_slice().last_mut().ok_or("no act")?)
+    Ok(
+        outside
+            .next
+            .others
+            .as_mut_slice()
+            .last_mut()
+            .ok_or("no act")?,
+    )
 }
 
 // The log grows by these bytes.
@@ -28,15 +35,6 @@ pub(crate) fn swell(
     Ok(())
 }
 
-// `PATH SUFFIX`.
-fn drops(outside: &mut Outside, parts: &Parts, text: &str) -> Result<(), Fail> {
-    let (_, suffix) = parted(text);
-    let suffix = Bytes::from_slice(outside.alloc, suffix.as_bytes())?;
-    let _done = outside.step(parts, "turn", text)?;
-    last(outside)?.act.answer = ActAnswer::Deleted { suffix };
-    Ok(())
-}
-
 // - `swell PATH PARTS`: the log grows by the bytes of these words.
 // - `drop PATH SUFFIX`: this generation of the log is deleted.
 // - `before N`: the last act is before the call of this number. Those behind it wait for it.
@@ -53,7 +51,12 @@ pub(crate) fn writes(
             let bytes = parts.bytes(alloc, words)?;
             swell(outside, parts, path, bytes.as_slice())?;
         }
-        "drop" => drops(outside, parts, text)?,
+        "drop" => {
+            let (_, suffix) = parted(text);
+            let suffix = Bytes::from_slice(alloc, suffix.as_bytes())?;
+            let _done = outside.step(parts, "turn", text)?;
+            last(outside)?.act.answer = ActAnswer::Deleted { suffix };
+        }
         "before" => last(outside)?.before = text.parse()?,
         _ => return Ok(None),
     }
