@@ -18,7 +18,6 @@ mod scene;
 mod sinks;
 mod starts;
 mod words;
-mod writing;
 
 pub use actors::Actors;
 pub use deliveries::DeliveryScene;

@@ -2,10 +2,9 @@
 
 use crate::readers::Reader;
 use crate::starts::agent_named;
-use crate::words::{parted, told};
-use crate::writing::{swell, writes};
+use crate::words::{parted, told, word};
 use chk_bytes::Bytes;
-use chk_site::OutsideFault;
+use chk_site::{OutsideFault, Role, Site, Who};
 use chk_tail::Step;
 use chk_test_engine::{Outside, Parts, Scene, shown};
 use std::alloc::Global;
@@ -18,6 +17,13 @@ pub struct ReaderScene {
     reader: Reader,
     // What `reads` was given.
     given: Bytes,
+}
+
+// A reader of this kind, and the suffix of a rotation.
+#[derive(Clone, Copy)]
+struct Way<'a> {
+    kind: &'a str,
+    after: &'a str,
 }
 
 fn step_text(alloc: Global, given: Result<Step, OutsideFault>) -> Result<String, Fail> {
@@ -38,18 +44,26 @@ fn step_text(alloc: Global, given: Result<Step, OutsideFault>) -> Result<String,
 
 impl ReaderScene {
     fn steps(&mut self) -> Result<Result<Step, OutsideFault>, Fail> {
-        let who = agent_named(self.outside.alloc, "h1")?;
-        Ok(
-            self.reader
-                .step(self.outside.alloc, &mut self.outside.site, &who),
-        )
+        self.outside.begin();
+        let alloc = self.outside.alloc;
+        let who = agent_named(alloc, "h1")?;
+        Ok(self.reader.step(alloc, &mut self.outside.site, &who))
+    }
+
+    fn grows(&mut self, path: &str, bytes: &[u8]) -> Result<(), Fail> {
+        let alloc = self.outside.alloc;
+        let who = Who {
+            role: Role::Writer,
+            name: word(alloc, "log")?,
+        };
+        let grown = self.outside.site.log_append(alloc, &who, path, bytes);
+        Ok(grown.map_err(|_| "no growth")?)
     }
 
     // The ends of the pieces that are given up to the end. The end `place` stands as `N`, and `-` for
     // no piece.
     fn reads(&mut self, place: u64) -> Result<String, Fail> {
         let alloc = self.outside.alloc;
-        self.outside.begin();
         let mut ends = String::new(alloc);
         for _step in 0..64 {
             match self.steps()? {
@@ -73,27 +87,27 @@ impl ReaderScene {
     }
 
     // The log is read when it has as many bytes as `place` says, and again when it is whole. In between
-    // it is rotated if `after` is a suffix.
+    // it is rotated, if `after` is a suffix.
     fn halves(
         &mut self,
         parts: &Parts,
+        way: Way<'_>,
         log: &[u8],
         place: u64,
-        way: (&str, &str),
     ) -> Result<String, Fail> {
         let alloc = self.outside.alloc;
-        let (after, kind) = way;
         let path = format!(in alloc; "/{place}.log")?;
-        self.reader = Reader::at(alloc, path.as_str(), kind, "0 0 -")?;
+        let path = path.as_str();
+        self.reader = Reader::at(alloc, path, way.kind, "0 0 -")?;
         self.given = Bytes::new(alloc);
-        let (front, rest) = log.split_at_checked(place as usize).ok_or("no such place")?;
-        swell(&mut self.outside, parts, path.as_str(), front)?;
+        self.grows(path, log.get(..place as usize).ok_or("no such place")?)?;
         let first = self.reads(place)?;
-        if after != "-" {
-            let turned = format!(in alloc; "{path} {after}")?;
+        if way.after != "-" {
+            let turned = format!(in alloc; "{path} {}", way.after)?;
             let _done = self.outside.step(parts, "turn", turned.as_str())?;
+            self.outside.begin();
         }
-        swell(&mut self.outside, parts, path.as_str(), rest)?;
+        self.grows(path, log.get(place as usize..).ok_or("no such place")?)?;
         let second = self.reads(place)?;
         if self.given.as_slice() != log {
             return told(alloc, "other bytes", &[]);
@@ -101,7 +115,7 @@ impl ReaderScene {
         Ok(format!(in alloc; "{first} then {second}")?)
     }
 
-    // `FROM TO AFTER KIND PARTS`: what is answered for each place from one to the other, if that is the
+    // `FROM TO AFTER KIND PARTS`: what is answered at each place from one to the other, if that is the
     // same.
     fn halved(&mut self, parts: &Parts, text: &str) -> Result<String, Fail> {
         let alloc = self.outside.alloc;
@@ -109,11 +123,12 @@ impl ReaderScene {
         let (to, rest) = parted(rest);
         let (after, rest) = parted(rest);
         let (kind, words) = parted(rest);
+        let way = Way { kind, after };
         let log = parts.bytes(alloc, words)?;
         let (from, to): (u64, u64) = (from.parse()?, to.parse()?);
-        let all = self.halves(parts, log.as_slice(), from, (after, kind))?;
-        for place in from..=to {
-            let given = self.halves(parts, log.as_slice(), place, (after, kind))?;
+        let all = self.halves(parts, way, log.as_slice(), from)?;
+        for place in from.saturating_add(1)..=to {
+            let given = self.halves(parts, way, log.as_slice(), place)?;
             if given.as_str() != all.as_str() {
                 return Ok(format!(in alloc; "{given} at {place}")?);
             }
@@ -143,10 +158,7 @@ impl Scene for ReaderScene {
     fn step(&mut self, parts: &Parts, verb: &str, text: &str) -> Result<Option<String>, Fail> {
         let alloc = self.outside.alloc;
         let given = match verb {
-            "step" => {
-                self.outside.begin();
-                step_text(alloc, self.steps()?)?
-            }
+            "step" => step_text(alloc, self.steps()?)?,
             "place" | "back" | "rewind" | "forget" => self.reader.moves(alloc, verb, text)?,
             "reads" => self.reads(0)?,
             "halved" => self.halved(parts, text)?,
@@ -159,7 +171,7 @@ impl Scene for ReaderScene {
                 self.reader = Reader::at(alloc, "/a.log", kind, place)?;
                 told(alloc, "done", &[])?
             }
-            _ => return writes(&mut self.outside, parts, verb, text),
+            _ => return Ok(None),
         };
         Ok(Some(given))
     }

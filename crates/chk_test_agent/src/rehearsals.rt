@@ -6,7 +6,6 @@ use crate::checkpoints::{copies, loads, numbers};
 use crate::runs::{answers, pauses, runs};
 use crate::sinks::closed;
 use crate::words::told;
-use crate::writing::writes;
 use chk_site::{Call, Other};
 use chk_test_engine::{Outside, Parts, shown};
 use std::alloc::Global;
@@ -93,7 +92,6 @@ impl Stage {
             "lines" => numbers(&mut self.outside, text)?,
             "grown" => self.grows(parts, text)?,
             "closed" => shown(alloc, closed(alloc, &self.outside.site)?.as_slice())?,
-            "swell" | "drop" => return writes(&mut self.outside, parts, verb, text),
             "send" => {
                 self.outside.begin();
                 return Ok(None);
