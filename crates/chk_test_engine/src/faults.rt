@@ -17,9 +17,9 @@ struct Rehearsal<'a> {
 
 // How the work goes wrong: by this line, at the call of this number.
 #[derive(Clone, Copy)]
-struct Wrong<'a> {
+struct Wrong<'a, 'b> {
     rehearsal: Rehearsal<'a>,
-    harm: &'a str,
+    harm: &'b str,
     at: u64,
 }
 
@@ -39,14 +39,14 @@ impl<'a> Rehearsal<'a> {
     }
 }
 
-// The number behind this word, or 0.
-fn number_of(case: Case<'_>, word: &str) -> Result<u64, Fail> {
+// The number behind this word, or the other one if there is no such line.
+fn number_of(case: Case<'_>, word: &str, other: u64) -> Result<u64, Fail> {
     for line in case.middle.lines() {
         if let Some(number) = line.strip_prefix(word) {
             return Ok(number.parse()?);
         }
     }
-    Ok(0)
+    Ok(other)
 }
 
 // A scene behind the setup. None: a line isn't answered as it says.
@@ -84,7 +84,7 @@ fn put_harm<S: Scene>(
     case: Case<'_>,
     scene: &mut S,
     harm: &str,
-    wrong: Wrong<'_>,
+    wrong: Wrong<'_, '_>,
 ) -> Result<(), Fail> {
     let Wrong { rehearsal, at, .. } = wrong;
     if matches!(harm, "synced" | "whole" | "forged") {
@@ -99,7 +99,7 @@ fn put_harm<S: Scene>(
 }
 
 // The answer that is wanted, with the name of the call in place of `{call}`.
-fn wanted_of(case: Case<'_>, wanted: &str, wrong: Wrong<'_>) -> Result<String, Fail> {
+fn wanted_of(case: Case<'_>, wanted: &str, wrong: Wrong<'_, '_>) -> Result<String, Fail> {
     match wanted.split_once("{call}") {
         Some((start, end)) => {
             let call = wrong.rehearsal.call(wrong.at)?.call.name();
@@ -125,7 +125,7 @@ fn holds<S: Scene>(case: Case<'_>, scene: &mut S, report: &mut Report) -> Result
 fn go_wrong<S: Scene>(
     case: Case<'_>,
     scene: &mut S,
-    wrong: Wrong<'_>,
+    wrong: Wrong<'_, '_>,
     report: &mut Report,
 ) -> Result<bool, Fail> {
     let (harm, wanted) = split_answer(wrong.harm, "...");
@@ -140,21 +140,25 @@ fn go_wrong<S: Scene>(
     holds(case, scene, report)
 }
 
-// The work goes wrong in these ways, one behind the other, and at last all holds.
+// The work goes wrong, first in another way if there is one, and at last all holds.
 fn survives<S: Scene>(
     case: Case<'_>,
-    wrongs: &[Wrong<'_>],
+    first: Option<Wrong<'_, '_>>,
+    last: Wrong<'_, '_>,
     report: &mut Report,
 ) -> Result<bool, Fail> {
     let Some(mut scene) = begin::<S>(case, report)? else {
         return Ok(false);
     };
-    for wrong in wrongs {
-        if !go_wrong(case, &mut *scene, *wrong, report)? {
+    if let Some(first) = first {
+        if !go_wrong(case, &mut *scene, first, report)? {
             return Ok(false);
         }
     }
-    play_lines(&mut *scene, case.parts, case.last, report)
+    Ok(
+        go_wrong(case, &mut *scene, last, report)?
+            && play_lines(&mut *scene, case.parts, case.last, report)?,
+    )
 }
 
 // The call of this number goes wrong in each way that it takes.
@@ -171,7 +175,7 @@ fn at_call<S: Scene>(
                 harm,
                 at,
             };
-            if rehearsal.takes(harm, at)? && !survives::<S>(case, &[wrong], report)? {
+            if rehearsal.takes(harm, at)? && !survives::<S>(case, None, wrong, report)? {
                 return Ok(false);
             }
         }
@@ -179,18 +183,21 @@ fn at_call<S: Scene>(
     Ok(true)
 }
 
+// From call to call, all of them or those between `from N` and `to N`.
 fn at_each_call<S: Scene>(
     case: Case<'_>,
     rehearsal: Rehearsal<'_>,
     report: &mut Report,
 ) -> Result<bool, Fail> {
     let calls = rehearsal.calls();
-    if calls < number_of(case, "least ")? {
+    if calls < number_of(case, "least ", 0)? {
         report.answer("fewer calls")?;
         return Ok(false);
     }
-    for before in 0..calls {
-        if !at_call::<S>(case, rehearsal, before + 1, report)? {
+    let first = number_of(case, "from ", 1)?;
+    let last = number_of(case, "to ", calls)?;
+    for at in first..=last {
+        if !at_call::<S>(case, rehearsal, at, report)? {
             return Ok(false);
         }
     }
@@ -209,11 +216,11 @@ fn harms(case: Case<'_>) -> Result<Vec<&str>, Fail> {
 }
 
 // A harm at a call, or at the first one behind it that takes it; or else the first harm.
-fn drawn<'a>(
+fn drawn<'a, 'b>(
     draws: &mut Draws,
-    case: Case<'a>,
+    case: Case<'b>,
     rehearsal: Rehearsal<'a>,
-) -> Result<Wrong<'a>, Fail> {
+) -> Result<Wrong<'a, 'b>, Fail> {
     let harms = harms(case)?;
     let calls = rehearsal.calls();
     let before = draws.below(calls);
@@ -240,7 +247,7 @@ fn drawn<'a>(
 fn survives_two<S: Scene>(
     case: Case<'_>,
     draws: &mut Draws,
-    first: Wrong<'_>,
+    first: Wrong<'_, '_>,
     report: &mut Report,
 ) -> Result<bool, Fail> {
     let Some(mut scene) = begin::<S>(case, report)? else {
@@ -255,7 +262,7 @@ fn survives_two<S: Scene>(
         first: start,
     };
     let second = drawn(draws, case, rehearsal)?;
-    survives::<S>(case, &[first, second], report)
+    survives::<S>(case, Some(first), second, report)
 }
 
 // The work goes wrong at two calls, one behind the other, which a seed draws.
@@ -264,7 +271,7 @@ fn at_pairs<S: Scene>(
     rehearsal: Rehearsal<'_>,
     report: &mut Report,
 ) -> Result<bool, Fail> {
-    let seeds = number_of(case, "pairs ")?;
+    let seeds = number_of(case, "pairs ", 0)?;
     for seed in 0..seeds {
         let mut draws = Draws::new(seed + 1);
         let first = drawn(&mut draws, case, rehearsal)?;
