@@ -1,5 +1,5 @@
 -- What a delivery holds before its three chunks come, and what they are.
-use Rattle.std.specs.Prelude.{◌≡◌, ℕ, List, [], ◌∷◌, IsTrue, length}
+use Rattle.std.specs.Prelude.{◌≡◌, ℕ, [], ◌∷◌, IsTrue, length}
 use Rattle.chk_chunk.specs.Keys.{is_chunk}
 use Rattle.chk_chunk.specs.Lent.{chunk_of}
 use Rattle.chk_chunk.specs.declared.Chunk.{Chunk}

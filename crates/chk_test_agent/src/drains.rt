@@ -23,23 +23,25 @@ pub(crate) fn drains(
     if !agent.ready() || reads == 0 || polls == 0 {
         return told(alloc, "not ready", &[]);
     }
-    drained(alloc, drain(alloc, agent, site, now, reads, polls))
+    match drain(alloc, agent, site, now, reads, polls) {
+        Ok(drained) => drained_text(alloc, &drained),
+        Err(fault) => faulted(alloc, fault),
+    }
 }
 
-fn drained(alloc: Global, given: Result<Drained, AgentFault>) -> Result<String, Fail> {
-    match given {
-        Ok(Drained::Pending { stem, got, want }) => {
+fn drained_text(alloc: Global, drained: &Drained) -> Result<String, Fail> {
+    match drained {
+        Drained::Pending { stem, got, want } => {
             let (name, born, number) = (stem.name(), stem.born(), stem.number());
             Ok(format!(in alloc; "pending {name}.{born}.{number} {got} {want}")?)
         }
-        Ok(Drained::Done) => told(alloc, "done", &[]),
-        Ok(Drained::Growing { adaptor, reads }) => told(alloc, "growing", &[adaptor as u64, reads]),
-        Ok(Drained::Shrank { adaptor, had, is }) => {
-            told(alloc, "shrank", &[adaptor as u64, had, is])
+        Drained::Done => told(alloc, "done", &[]),
+        Drained::Growing { adaptor, reads } => told(alloc, "growing", &[*adaptor as u64, *reads]),
+        Drained::Shrank { adaptor, had, is } => {
+            told(alloc, "shrank", &[*adaptor as u64, *had, *is])
         }
-        Ok(Drained::AllTried { count, code }) => {
-            told(alloc, "tried", &[count as u64, code as u64])
+        Drained::AllTried { count, code } => {
+            told(alloc, "tried", &[*count as u64, *code as u64])
         }
-        Err(fault) => faulted(alloc, fault),
     }
 }
