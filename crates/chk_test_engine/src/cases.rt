@@ -1,0 +1,120 @@
+//! Files of cases.
+use crate::faults::play_wrongs;
+use crate::parts::Parts;
+use crate::play::play_lines;
+use crate::report::Report;
+use crate::scene::Scene;
+use std::alloc::Global;
+use std::test::Fail;
+
+/// A case. `middle` is empty, or has the harms and the work; `last` is what holds behind it.
+#[derive(Clone, Copy)]
+pub(crate) struct Case<'a> {
+    pub(crate) setup: &'a str,
+    pub(crate) middle: &'a str,
+    pub(crate) last: &'a str,
+}
+
+/// The text without comments, each of its lines joined with the one on which it goes on.
+pub(crate) fn joined(alloc: Global, text: &str) -> Result<String, Fail> {
+    let mut all = String::new(alloc);
+    let mut goes_on = false;
+    for line in text.lines() {
+        if goes_on {
+            goes_on = add_line(&mut all, line.trim_start())?;
+        } else if !line.starts_with("#") {
+            goes_on = add_line(&mut all, line)?;
+        }
+    }
+    Ok(all)
+}
+
+// Whether the line goes on.
+fn add_line(all: &mut String, line: &str) -> Result<bool, Fail> {
+    match line.strip_suffix("\\") {
+        Some(line) => {
+            all.push_str(line)?;
+            Ok(true)
+        }
+        None => {
+            all.push_str(line)?;
+            all.push('\n')?;
+            Ok(false)
+        }
+    }
+}
+
+fn read_case(lines: &str) -> Case<'_> {
+    let plain = Case {
+        setup: lines,
+        middle: "",
+        last: "",
+    };
+    let Some(start) = lines.find("\nharm ") else {
+        return plain;
+    };
+    let setup = lines.get(..start).unwrap_or("");
+    let rest = lines.get(start..).unwrap_or("");
+    let (middle, last) = rest.split_once("\nthen\n").unwrap_or((rest, ""));
+    Case {
+        setup,
+        middle,
+        last,
+    }
+}
+
+fn play_case<S: Scene>(
+    alloc: Global,
+    parts: &Parts,
+    case: Case<'_>,
+    report: &mut Report,
+) -> Result<bool, Fail> {
+    if !case.middle.is_empty() {
+        return play_wrongs::<S>(alloc, parts, case, report);
+    }
+    let mut scene = S::empty(alloc)?;
+    play_lines(&mut *scene, parts, case.setup, report)
+}
+
+// Plays the case of this name and these lines, and adds a line if it fails.
+fn play_named<S: Scene>(
+    alloc: Global,
+    parts: &Parts,
+    text: &str,
+    report: &mut Report,
+    failed: &mut String,
+) -> Result<(), Fail> {
+    let end = text.find("\n").unwrap_or(text.len());
+    report.begin(text.get(..end).unwrap_or(""))?;
+    let case = read_case(text.get(end..).unwrap_or(""));
+    match play_case::<S>(alloc, parts, case, report) {
+        Ok(true) => Ok(()),
+        Ok(false) => Ok(report.add_to(failed)?),
+        Err(fail) => {
+            let _ = report.add_to(failed);
+            Err(fail)
+        }
+    }
+}
+
+/// Plays each case of a file on a scene of its own, and answers how many there are. For a case that
+/// fails it adds the line `CASE: LINE: GIVEN`. In a case that can't be played it fails, with the line
+/// `CASE: LINE` added.
+pub fn play_file<S: Scene>(
+    alloc: Global,
+    parts: &Parts,
+    text: &str,
+    failed: &mut String,
+) -> Result<u64, Fail> {
+    let text = joined(alloc, text)?;
+    let mut report = Report::new(alloc);
+    let mut count: u64 = 0;
+    for lines in text.as_str().split("\n\n") {
+        let lines = lines.trim_start_matches('\n');
+        if !lines.is_empty() {
+            play_named::<S>(alloc, parts, lines, &mut report, failed)?;
+            count = count.saturating_add(1);
+        }
+    }
+    Ok(count)
+}

@@ -1,0 +1,187 @@
+//! What others do before the next call, and which calls fail.
+use crate::parts::Parts;
+use crate::texts::text_bytes;
+use chk_bytes::Bytes;
+use chk_site::{ActAnswer, Call, Left, Lefts, Script, StopAt};
+use chk_test_calls::written;
+use std::alloc::Global;
+use std::test::Fail;
+
+// An act of a writer before the call of this number.
+fn write_before(
+    alloc: Global,
+    script: &mut Script,
+    before: u64,
+    call: Call,
+    words: &[&[u8]],
+) -> Result<(), Fail> {
+    let mut other = written(alloc, call, words)?;
+    other.before = before;
+    Ok(script.others.push(other)?)
+}
+
+fn write(alloc: Global, script: &mut Script, call: Call, words: &[&[u8]]) -> Result<(), Fail> {
+    write_before(alloc, script, 1, call, words)
+}
+
+/// A file with these bytes comes before the next call. Either all of it is synced, or none.
+pub fn add_file(
+    alloc: Global,
+    script: &mut Script,
+    name: &str,
+    bytes: &[u8],
+    is_synced: bool,
+) -> Result<(), Fail> {
+    write(alloc, script, Call::Create, &[name.as_bytes()])?;
+    write(alloc, script, Call::Append, &[name.as_bytes(), bytes])?;
+    if is_synced {
+        write(alloc, script, Call::Sync, &[name.as_bytes()])?;
+    }
+    Ok(())
+}
+
+// The log's base file is renamed. The suffix stands behind its name.
+fn rotate(alloc: Global, script: &mut Script, path: &str, suffix: &str) -> Result<(), Fail> {
+    let mut act = written(alloc, Call::LogAppend, &[path.as_bytes(), b"".as_slice()])?;
+    let suffix = Bytes::from_slice(alloc, suffix.as_bytes())?;
+    act.act.answer = ActAnswer::Rotated { suffix };
+    Ok(script.others.push(act)?)
+}
+
+fn grow(alloc: Global, script: &mut Script, before: u64, text: &str) -> Result<(), Fail> {
+    let (path, text) = text.split_once(' ').ok_or("no text")?;
+    let bytes = text_bytes(alloc, text)?;
+    let words = [path.as_bytes(), bytes.as_slice()];
+    write_before(alloc, script, before, Call::LogAppend, &words)
+}
+
+// `PARTS|- [FILE,FILE..] N`: the call of this number is stopped, and each of the files has this tail
+// past its synced length. It is given too whether the stopped call took effect.
+fn stop_with(
+    alloc: Global,
+    script: &mut Script,
+    parts: &Parts,
+    text: &str,
+    whole: bool,
+) -> Result<(), Fail> {
+    let (files, at) = text.rsplit_once(' ').ok_or("no number")?;
+    let (tail, names) = files.split_once(' ').unwrap_or((files, ""));
+    let tail = match tail {
+        "-" => Bytes::new(alloc),
+        _ => parts.bytes(alloc, tail)?,
+    };
+    let mut left = Lefts::new(alloc);
+    for name in names.split(',') {
+        add_left(alloc, &mut left, name, tail.as_slice(), whole)?;
+    }
+    script.stop = Some(StopAt {
+        at: at.parse()?,
+        left,
+    });
+    Ok(())
+}
+
+fn add_left(
+    alloc: Global,
+    left: &mut Lefts,
+    name: &str,
+    tail: &[u8],
+    whole: bool,
+) -> Result<(), Fail> {
+    if !name.is_empty() {
+        left.push(Left {
+            name: Bytes::from_slice(alloc, name.as_bytes())?,
+            tail: Bytes::from_slice(alloc, tail)?,
+            whole,
+        })?;
+    }
+    Ok(())
+}
+
+// `N [NAME..]`: the call of this number is stopped. Just the synced bytes of the files are left.
+fn stop_synced(alloc: Global, script: &mut Script, text: &str) -> Result<(), Fail> {
+    let (at, names) = text.split_once(' ').unwrap_or((text, ""));
+    let mut left = Lefts::new(alloc);
+    for name in names.split(' ') {
+        add_left(alloc, &mut left, name, b"", false)?;
+    }
+    script.stop = Some(StopAt {
+        at: at.parse()?,
+        left,
+    });
+    Ok(())
+}
+
+// `NAME TEXT` or `NAME PARTS`.
+fn add_so(
+    alloc: Global,
+    script: &mut Script,
+    parts: &Parts,
+    verb: &str,
+    text: &str,
+) -> Result<(), Fail> {
+    let (name, words) = text.split_once(' ').unwrap_or((text, ""));
+    let bytes = match verb {
+        "file" => text_bytes(alloc, words)?,
+        _ => parts.bytes(alloc, words)?,
+    };
+    add_file(alloc, script, name, bytes.as_slice(), verb != "unsynced")
+}
+
+// - `log PATH TEXT`: the log grows by this text.
+// - `grow N PATH TEXT`: it grows before the call of this number.
+// - `turn PATH SUFFIX`: the log is rotated.
+fn write_so(alloc: Global, script: &mut Script, verb: &str, text: &str) -> Result<(), Fail> {
+    let (first, rest) = text.split_once(' ').ok_or("no text")?;
+    match verb {
+        "log" => grow(alloc, script, 1, text),
+        "grow" => grow(alloc, script, first.parse()?, rest),
+        _ => rotate(alloc, script, first, rest),
+    }
+}
+
+// - `fail N`, `fails N`: the call of this number fails.
+// - `stop N [NAME..]`, `stops PARTS|- [FILE,FILE..] N` and `wholes PARTS|- [FILE,FILE..] N`: it is
+//   stopped. With `wholes` it took effect.
+// - `repeat N`: the taking of this number is repeated.
+fn harm_so(
+    alloc: Global,
+    script: &mut Script,
+    parts: &Parts,
+    verb: &str,
+    text: &str,
+) -> Result<(), Fail> {
+    match verb {
+        "fail" | "fails" => Ok(script.failing.push(text.parse()?)?),
+        "stop" => stop_synced(alloc, script, text),
+        "repeat" => Ok(script.again.push(text.parse()?)?),
+        _ => stop_with(alloc, script, parts, text, verb == "wholes"),
+    }
+}
+
+// What happens is put into the script; else, with a verb of something else, it is false.
+pub(crate) fn happens(
+    alloc: Global,
+    script: &mut Script,
+    parts: &Parts,
+    verb: &str,
+    text: &str,
+) -> Result<bool, Fail> {
+    match verb {
+        "log" | "grow" | "turn" => write_so(alloc, script, verb, text)?,
+        "file" | "bytes" | "unsynced" => add_so(alloc, script, parts, verb, text)?,
+        "fail" | "fails" | "stop" | "stops" | "wholes" | "repeat" => {
+            harm_so(alloc, script, parts, verb, text)?
+        }
+        _ => return Ok(false),
+    }
+    Ok(true)
+}
+
+// Whether nothing happens.
+pub(crate) fn is_quiet(script: &Script) -> bool {
+    script.others.is_empty()
+        && script.failing.is_empty()
+        && script.again.is_empty()
+        && script.stop.is_none()
+}
