@@ -1,15 +1,17 @@
 //! Files of cases.
-use crate::faults::play_wrongs;
+use crate::faults::play_case;
 use crate::parts::Parts;
-use crate::play::play_lines;
 use crate::report::Report;
 use crate::scene::Scene;
 use std::alloc::Global;
 use std::test::Fail;
 
-/// A case. `middle` is empty, or has the harms and the work; `last` is what holds behind it.
+// A case, and the parts that its lines may name. `middle` is empty, or has the harms and the work;
+// `last` is what holds behind it.
 #[derive(Clone, Copy)]
 pub(crate) struct Case<'a> {
+    pub(crate) alloc: Global,
+    pub(crate) parts: &'a Parts,
     pub(crate) setup: &'a str,
     pub(crate) middle: &'a str,
     pub(crate) last: &'a str,
@@ -44,36 +46,17 @@ fn add_line(all: &mut String, line: &str) -> Result<bool, Fail> {
     }
 }
 
-fn read_case(lines: &str) -> Case<'_> {
-    let plain = Case {
-        setup: lines,
-        middle: "",
-        last: "",
-    };
-    let Some(start) = lines.find("\nharm ") else {
-        return plain;
-    };
-    let setup = lines.get(..start).unwrap_or("");
+fn read_case<'a>(alloc: Global, parts: &'a Parts, lines: &'a str) -> Case<'a> {
+    let start = lines.find("\nharm ").unwrap_or(lines.len());
     let rest = lines.get(start..).unwrap_or("");
     let (middle, last) = rest.split_once("\nthen\n").unwrap_or((rest, ""));
     Case {
-        setup,
+        alloc,
+        parts,
+        setup: lines.get(..start).unwrap_or(""),
         middle,
         last,
     }
-}
-
-fn play_case<S: Scene>(
-    alloc: Global,
-    parts: &Parts,
-    case: Case<'_>,
-    report: &mut Report,
-) -> Result<bool, Fail> {
-    if !case.middle.is_empty() {
-        return play_wrongs::<S>(alloc, parts, case, report);
-    }
-    let mut scene = S::empty(alloc)?;
-    play_lines(&mut *scene, parts, case.setup, report)
 }
 
 // Plays the case of this name and these lines, and adds a line if it fails.
@@ -86,8 +69,8 @@ fn play_named<S: Scene>(
 ) -> Result<(), Fail> {
     let end = text.find("\n").unwrap_or(text.len());
     report.begin(text.get(..end).unwrap_or(""))?;
-    let case = read_case(text.get(end..).unwrap_or(""));
-    match play_case::<S>(alloc, parts, case, report) {
+    let case = read_case(alloc, parts, text.get(end..).unwrap_or(""));
+    match play_case::<S>(case, report) {
         Ok(true) => Ok(()),
         Ok(false) => Ok(report.add_to(failed)?),
         Err(fail) => {

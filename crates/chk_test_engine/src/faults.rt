@@ -1,13 +1,11 @@
-//! Cases in which each call of the work goes wrong in turn, and pairs of calls.
+//! How a case is played: its lines, with each call of its work going wrong in turn, and pairs of calls.
 use crate::cases::Case;
 use crate::draws::Draws;
 use crate::harms::{calls_in, left_at, place_of, takes_forged};
-use crate::parts::Parts;
-use crate::play::{answer, fits, play_line, play_lines, read_line};
+use crate::play::{answer, fits, play_line, play_lines, split_answer};
 use crate::report::Report;
 use crate::scene::Scene;
 use chk_site::{Act, StopAt};
-use std::alloc::Global;
 use std::test::Fail;
 
 // The acts of work that doesn't go wrong; those from `first` on are the work's.
@@ -17,31 +15,31 @@ struct Rehearsal<'a> {
     first: usize,
 }
 
-// How the work goes wrong: by the line of a harm, at the call of this number.
+// How the work goes wrong: by this line, at the call of this number.
 #[derive(Clone, Copy)]
 struct Wrong<'a> {
     rehearsal: Rehearsal<'a>,
-    line: &'a str,
+    harm: &'a str,
     at: u64,
 }
 
 impl<'a> Rehearsal<'a> {
+    fn calls(self) -> u64 {
+        calls_in(self.acts.get(self.first..).unwrap_or(&[]))
+    }
+
     fn call(self, at: u64) -> Result<&'a Act, Fail> {
         let place = place_of(self.acts, self.first, at)?;
         Ok(self.acts.get(place).ok_or("no act there")?)
     }
 
-    fn calls(self) -> u64 {
-        calls_in(self.acts.get(self.first..).unwrap_or(&[]))
-    }
-
-    // An entry can be forged only at some calls.
-    fn takes(self, line: &str, at: u64) -> Result<bool, Fail> {
-        Ok(!line.starts_with("forged") || takes_forged(self.call(at)?))
+    // Whether the call of this number can go wrong so. An entry is forged only in an append to a sink.
+    fn takes(self, harm: &str, at: u64) -> Result<bool, Fail> {
+        Ok(!harm.starts_with("forged") || takes_forged(self.call(at)?))
     }
 }
 
-// The number behind this word.
+// The number behind this word, or 0.
 fn number_of(case: Case<'_>, word: &str) -> Result<u64, Fail> {
     for line in case.middle.lines() {
         if let Some(number) = line.strip_prefix(word) {
@@ -51,79 +49,71 @@ fn number_of(case: Case<'_>, word: &str) -> Result<u64, Fail> {
     Ok(0)
 }
 
+// A scene behind the setup. None: a line isn't answered as it says.
+fn begin<S: Scene>(case: Case<'_>, report: &mut Report) -> Result<Option<Box<S>>, Fail> {
+    report.clear_harms();
+    let mut scene = S::empty(case.alloc)?;
+    if play_lines(&mut *scene, case.parts, case.setup, report)? {
+        Ok(Some(scene))
+    } else {
+        Ok(None)
+    }
+}
+
 // Does the work, and answers what its last line answers.
-fn work<S: Scene>(
-    alloc: Global,
-    scene: &mut S,
-    parts: &Parts,
-    case: Case<'_>,
-    report: &mut Report,
-) -> Result<String, Fail> {
-    let mut given = String::new(alloc);
+fn work<S: Scene>(case: Case<'_>, scene: &mut S, report: &mut Report) -> Result<String, Fail> {
+    let mut given = String::new(case.alloc);
     for line in case.middle.lines() {
         if let Some(line) = line.strip_prefix("try ") {
             report.note(line)?;
-            given = answer(scene, parts, line)?;
+            given = answer(scene, case.parts, line)?;
         }
     }
     Ok(given)
 }
 
-// Puts the harm into the script.
-fn harm<S: Scene>(
-    alloc: Global,
+// Does the work, and answers at which act it begins.
+fn rehearse<S: Scene>(case: Case<'_>, scene: &mut S, report: &mut Report) -> Result<usize, Fail> {
+    let first = scene.outside().site.acts().len();
+    let _given = work(case, scene, report)?;
+    Ok(first)
+}
+
+// The next call of this number goes wrong.
+fn put_harm<S: Scene>(
+    case: Case<'_>,
     scene: &mut S,
-    parts: &Parts,
-    asked: &str,
+    harm: &str,
     wrong: Wrong<'_>,
 ) -> Result<(), Fail> {
     let Wrong { rehearsal, at, .. } = wrong;
-    if matches!(asked, "synced" | "whole" | "forged") {
+    if matches!(harm, "synced" | "whole" | "forged") {
         let place = place_of(rehearsal.acts, rehearsal.first, at)?;
-        let left = left_at(alloc, rehearsal.acts, place, asked)?;
+        let left = left_at(case.alloc, rehearsal.acts, place, harm)?;
         scene.outside().next.stop = Some(StopAt { at, left });
         return Ok(());
     }
-    let line = format!(in alloc; "{asked} {at}")?;
-    let _done = answer(scene, parts, line.as_str())?;
+    let line = format!(in case.alloc; "{harm} {at}")?;
+    let _done = answer(scene, case.parts, line.as_str())?;
     Ok(())
 }
 
-// The answer that is wanted, with the name of the call.
-fn wanted_of(alloc: Global, wanted: &str, wrong: Wrong<'_>) -> Result<String, Fail> {
+// The answer that is wanted, with the name of the call in place of `{call}`.
+fn wanted_of(case: Case<'_>, wanted: &str, wrong: Wrong<'_>) -> Result<String, Fail> {
     match wanted.split_once("{call}") {
         Some((start, end)) => {
             let call = wrong.rehearsal.call(wrong.at)?.call.name();
-            Ok(format!(in alloc; "{start}{call}{end}")?)
+            Ok(format!(in case.alloc; "{start}{call}{end}")?)
         }
-        None => Ok(String::from_str(alloc, wanted)?),
+        None => Ok(String::from_str(case.alloc, wanted)?),
     }
 }
 
-// The work goes wrong, and the lines hold that hold then.
-fn go_wrong<S: Scene>(
-    alloc: Global,
-    scene: &mut S,
-    parts: &Parts,
-    case: Case<'_>,
-    wrong: Wrong<'_>,
-    report: &mut Report,
-) -> Result<bool, Fail> {
-    let (asked, wanted) = match wrong.line.split_once(" =>") {
-        Some((asked, wanted)) => (asked, wanted.trim()),
-        None => (wrong.line, "..."),
-    };
-    report.add_harm(asked, wrong.at)?;
-    harm(alloc, scene, parts, asked, wrong)?;
-    let given = work(alloc, scene, parts, case, report)?;
-    let wanted = wanted_of(alloc, wanted, wrong)?;
-    if !fits(given.as_str(), wanted.as_str()) {
-        report.answer(given.as_str())?;
-        return Ok(false);
-    }
+// What holds behind work that went wrong.
+fn holds<S: Scene>(case: Case<'_>, scene: &mut S, report: &mut Report) -> Result<bool, Fail> {
     for line in case.middle.lines() {
         if let Some(line) = line.strip_prefix("wrong ") {
-            if !play_line(scene, parts, line, report)? {
+            if !play_line(scene, case.parts, line, report)? {
                 return Ok(false);
             }
         }
@@ -131,44 +121,57 @@ fn go_wrong<S: Scene>(
     Ok(true)
 }
 
-// The work goes wrong so often, and at last all holds.
+// The work goes wrong.
+fn go_wrong<S: Scene>(
+    case: Case<'_>,
+    scene: &mut S,
+    wrong: Wrong<'_>,
+    report: &mut Report,
+) -> Result<bool, Fail> {
+    let (harm, wanted) = split_answer(wrong.harm, "...");
+    report.add_harm(harm, wrong.at)?;
+    put_harm(case, scene, harm, wrong)?;
+    let given = work(case, scene, report)?;
+    let wanted = wanted_of(case, wanted, wrong)?;
+    if !fits(given.as_str(), wanted.as_str()) {
+        report.answer(given.as_str())?;
+        return Ok(false);
+    }
+    holds(case, scene, report)
+}
+
+// The work goes wrong in these ways, one behind the other, and at last all holds.
 fn survives<S: Scene>(
-    alloc: Global,
-    parts: &Parts,
     case: Case<'_>,
     wrongs: &[Wrong<'_>],
     report: &mut Report,
 ) -> Result<bool, Fail> {
-    report.clear_harms();
-    let mut scene = S::empty(alloc)?;
-    if !play_lines(&mut *scene, parts, case.setup, report)? {
+    let Some(mut scene) = begin::<S>(case, report)? else {
         return Ok(false);
-    }
+    };
     for wrong in wrongs {
-        if !go_wrong(alloc, &mut *scene, parts, case, *wrong, report)? {
+        if !go_wrong(case, &mut *scene, *wrong, report)? {
             return Ok(false);
         }
     }
-    play_lines(&mut *scene, parts, case.last, report)
+    play_lines(&mut *scene, case.parts, case.last, report)
 }
 
-// The call goes wrong in each way.
+// The call of this number goes wrong in each way that it takes.
 fn at_call<S: Scene>(
-    alloc: Global,
-    parts: &Parts,
     case: Case<'_>,
     rehearsal: Rehearsal<'_>,
     at: u64,
     report: &mut Report,
 ) -> Result<bool, Fail> {
     for line in case.middle.lines() {
-        if let Some(line) = line.strip_prefix("harm ") {
+        if let Some(harm) = line.strip_prefix("harm ") {
             let wrong = Wrong {
                 rehearsal,
-                line,
+                harm,
                 at,
             };
-            if rehearsal.takes(line, at)? && !survives::<S>(alloc, parts, case, &[wrong], report)? {
+            if rehearsal.takes(harm, at)? && !survives::<S>(case, &[wrong], report)? {
                 return Ok(false);
             }
         }
@@ -177,8 +180,6 @@ fn at_call<S: Scene>(
 }
 
 fn at_each_call<S: Scene>(
-    alloc: Global,
-    parts: &Parts,
     case: Case<'_>,
     rehearsal: Rehearsal<'_>,
     report: &mut Report,
@@ -189,129 +190,103 @@ fn at_each_call<S: Scene>(
         return Ok(false);
     }
     for before in 0..calls {
-        if !at_call::<S>(alloc, parts, case, rehearsal, before + 1, report)? {
+        if !at_call::<S>(case, rehearsal, before + 1, report)? {
             return Ok(false);
         }
     }
     Ok(true)
 }
 
-fn count_harms(case: Case<'_>) -> u64 {
-    let mut count: u64 = 0;
+// The harms' lines.
+fn harms(case: Case<'_>) -> Result<Vec<&str>, Fail> {
+    let mut harms = Vec::new(case.alloc);
     for line in case.middle.lines() {
-        if line.starts_with("harm ") {
-            count = count.saturating_add(1);
+        if let Some(harm) = line.strip_prefix("harm ") {
+            harms.push(harm)?;
         }
     }
-    count
+    Ok(harms)
 }
 
-// The harm of this number, counted from 0.
-fn harm_line(case: Case<'_>, number: u64) -> Result<&str, Fail> {
-    let mut count: u64 = 0;
-    for line in case.middle.lines() {
-        if let Some(line) = line.strip_prefix("harm ") {
-            if count == number {
-                return Ok(line);
-            }
-            count = count.saturating_add(1);
-        }
-    }
-    Err(Fail::from("no such harm"))
-}
-
-// A harm at a call, or at the next call that takes it. If there is none, it is the first harm.
+// A harm at a call, or at the first one behind it that takes it; or else the first harm.
 fn drawn<'a>(
     draws: &mut Draws,
     case: Case<'a>,
     rehearsal: Rehearsal<'a>,
 ) -> Result<Wrong<'a>, Fail> {
+    let harms = harms(case)?;
     let calls = rehearsal.calls();
-    let first = draws.below(calls);
-    let line = harm_line(case, draws.below(count_harms(case)))?;
-    for before in first..calls {
-        let at = before + 1;
-        if rehearsal.takes(line, at)? {
+    let before = draws.below(calls);
+    let harm = harms.get(draws.below(harms.len() as u64) as usize);
+    let harm = *harm.ok_or("no harm")?;
+    for at in before..calls {
+        let at = at + 1;
+        if rehearsal.takes(harm, at)? {
             return Ok(Wrong {
                 rehearsal,
-                line,
+                harm,
                 at,
             });
         }
     }
-    let at = first.saturating_add(1);
-    let line = harm_line(case, 0)?;
     Ok(Wrong {
         rehearsal,
-        line,
-        at,
+        harm: harms.first().copied().unwrap_or(""),
+        at: before.saturating_add(1),
     })
 }
 
 // The work goes wrong so, and then in another way.
-fn with_second<S: Scene>(
-    alloc: Global,
-    parts: &Parts,
+fn survives_two<S: Scene>(
     case: Case<'_>,
     draws: &mut Draws,
     first: Wrong<'_>,
     report: &mut Report,
 ) -> Result<bool, Fail> {
-    report.clear_harms();
-    let mut scene = S::empty(alloc)?;
-    if !play_lines(&mut *scene, parts, case.setup, report)?
-        || !go_wrong(alloc, &mut *scene, parts, case, first, report)?
-    {
+    let Some(mut scene) = begin::<S>(case, report)? else {
+        return Ok(false);
+    };
+    if !go_wrong(case, &mut *scene, first, report)? {
         return Ok(false);
     }
-    let start = scene.outside().site.acts().len();
-    let _given = work(alloc, &mut *scene, parts, case, report)?;
+    let start = rehearse(case, &mut *scene, report)?;
     let rehearsal = Rehearsal {
         acts: scene.outside().site.acts(),
         first: start,
     };
     let second = drawn(draws, case, rehearsal)?;
-    survives::<S>(alloc, parts, case, &[first, second], report)
+    survives::<S>(case, &[first, second], report)
 }
 
 // The work goes wrong at two calls, one behind the other, which a seed draws.
 fn at_pairs<S: Scene>(
-    alloc: Global,
-    parts: &Parts,
     case: Case<'_>,
     rehearsal: Rehearsal<'_>,
     report: &mut Report,
 ) -> Result<bool, Fail> {
     let seeds = number_of(case, "pairs ")?;
-    for before in 0..seeds {
-        let mut draws = Draws::new(before.saturating_add(1));
+    for seed in 0..seeds {
+        let mut draws = Draws::new(seed + 1);
         let first = drawn(&mut draws, case, rehearsal)?;
-        if !with_second::<S>(alloc, parts, case, &mut draws, first, report)? {
+        if !survives_two::<S>(case, &mut draws, first, report)? {
             return Ok(false);
         }
     }
     Ok(true)
 }
 
-/// Plays the work without a harm, then with each harm at each of its calls, and then with two of them.
-pub(crate) fn play_wrongs<S: Scene>(
-    alloc: Global,
-    parts: &Parts,
-    case: Case<'_>,
-    report: &mut Report,
-) -> Result<bool, Fail> {
-    let mut scene = S::empty(alloc)?;
-    if !play_lines(&mut *scene, parts, case.setup, report)? {
+// Plays the case's lines, then the work with each harm at each of its calls, and then with two harms.
+pub(crate) fn play_case<S: Scene>(case: Case<'_>, report: &mut Report) -> Result<bool, Fail> {
+    let Some(mut scene) = begin::<S>(case, report)? else {
         return Ok(false);
+    };
+    if case.middle.is_empty() {
+        return Ok(true);
     }
-    let first = scene.outside().site.acts().len();
-    let _given = work(alloc, &mut *scene, parts, case, report)?;
+    let first = rehearse(case, &mut *scene, report)?;
     let rehearsal = Rehearsal {
         acts: scene.outside().site.acts(),
         first,
     };
-    Ok(
-        at_each_call::<S>(alloc, parts, case, rehearsal, report)?
-            && at_pairs::<S>(alloc, parts, case, rehearsal, report)?,
-    )
+    Ok(at_each_call::<S>(case, rehearsal, report)? && at_pairs::<S>(case, rehearsal, report)?)
 }

@@ -1,4 +1,5 @@
 //! Bytes that are written as words.
+use crate::cases::joined;
 use chk_bytes::{Bytes, put_u16, put_u32, put_u64};
 use std::alloc::Global;
 use std::test::Fail;
@@ -91,7 +92,6 @@ fn push_number(bytes: &mut Bytes, size: &str, number: &str) -> Result<(), Fail> 
     }
 }
 
-// The words of one line, joined: a line that ends with `\` goes on on the next one.
 impl Parts {
     /// No parts.
     pub fn new(alloc: Global) -> Parts {
@@ -172,7 +172,7 @@ impl Parts {
 
     /// Adds the parts that these lines define, `NAME = WORDS`. A line may name parts above it.
     pub fn add(&mut self, alloc: Global, text: &str) -> Result<(), Fail> {
-        let text = crate::cases::joined(alloc, text)?;
+        let text = joined(alloc, text)?;
         for line in text.as_str().lines() {
             if !line.is_empty() {
                 self.define(alloc, line)?;

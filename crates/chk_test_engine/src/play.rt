@@ -28,11 +28,11 @@ pub(crate) fn fits(given: &str, wanted: &str) -> bool {
     }
 }
 
-// What is asked, and the answer that is wanted.
-pub(crate) fn read_line(line: &str) -> (&str, &str) {
+// What is asked, and the answer that is wanted: this one, if the line has none.
+pub(crate) fn split_answer<'a>(line: &'a str, other: &'a str) -> (&'a str, &'a str) {
     match line.split_once(" =>") {
         Some((asked, wanted)) => (asked, wanted.trim()),
-        None => (line, "done"),
+        None => (line, other),
     }
 }
 
@@ -48,7 +48,7 @@ pub(crate) fn play_line<S: Scene>(
         let _given = answer(scene, parts, asked)?;
         return Ok(true);
     }
-    let (asked, wanted) = read_line(line);
+    let (asked, wanted) = split_answer(line, "done");
     let given = answer(scene, parts, asked)?;
     if fits(given.as_str(), wanted) {
         return Ok(true);

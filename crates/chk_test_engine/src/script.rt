@@ -7,21 +7,10 @@ use chk_test_calls::written;
 use std::alloc::Global;
 use std::test::Fail;
 
-// An act of a writer before the call of this number.
-fn write_before(
-    alloc: Global,
-    script: &mut Script,
-    before: u64,
-    call: Call,
-    words: &[&[u8]],
-) -> Result<(), Fail> {
-    let mut other = written(alloc, call, words)?;
-    other.before = before;
-    Ok(script.others.push(other)?)
-}
-
+// An act of a writer.
 fn write(alloc: Global, script: &mut Script, call: Call, words: &[&[u8]]) -> Result<(), Fail> {
-    write_before(alloc, script, 1, call, words)
+    let other = written(alloc, call, words)?;
+    Ok(script.others.push(other)?)
 }
 
 /// A file with these bytes comes before the next call. Either all of it is synced, or none.
@@ -40,19 +29,33 @@ pub fn add_file(
     Ok(())
 }
 
-// The log's base file is renamed. The suffix stands behind its name.
-fn rotate(alloc: Global, script: &mut Script, path: &str, suffix: &str) -> Result<(), Fail> {
-    let mut act = written(alloc, Call::LogAppend, &[path.as_bytes(), b"".as_slice()])?;
+// A log's base file becomes a generation with this suffix, or that generation is deleted.
+fn turn(
+    alloc: Global,
+    script: &mut Script,
+    path: &str,
+    suffix: &str,
+    is_deleted: bool,
+) -> Result<(), Fail> {
+    let mut other = written(alloc, Call::LogAppend, &[path.as_bytes(), b"".as_slice()])?;
     let suffix = Bytes::from_slice(alloc, suffix.as_bytes())?;
-    act.act.answer = ActAnswer::Rotated { suffix };
-    Ok(script.others.push(act)?)
+    other.act.answer = if is_deleted {
+        ActAnswer::Deleted { suffix }
+    } else {
+        ActAnswer::Rotated { suffix }
+    };
+    Ok(script.others.push(other)?)
 }
 
-fn grow(alloc: Global, script: &mut Script, before: u64, text: &str) -> Result<(), Fail> {
-    let (path, text) = text.split_once(' ').ok_or("no text")?;
-    let bytes = text_bytes(alloc, text)?;
-    let words = [path.as_bytes(), bytes.as_slice()];
-    write_before(alloc, script, before, Call::LogAppend, &words)
+fn grow(alloc: Global, script: &mut Script, path: &str, bytes: &[u8]) -> Result<(), Fail> {
+    write(alloc, script, Call::LogAppend, &[path.as_bytes(), bytes])
+}
+
+// The last act of others that was put in happens before the call of this number.
+fn delay(script: &mut Script, before: u64) {
+    if let Some(last) = script.others.last_mut() {
+        last.before = before;
+    }
 }
 
 // `PARTS|- [FILE,FILE..] N`: the call of this number is stopped, and each of the files has this tail
@@ -128,15 +131,31 @@ fn add_so(
     add_file(alloc, script, name, bytes.as_slice(), verb != "unsynced")
 }
 
+// `N PATH TEXT`.
+fn grow_before(alloc: Global, script: &mut Script, text: &str) -> Result<(), Fail> {
+    let (before, text) = text.split_once(' ').ok_or("no path")?;
+    let (path, text) = text.split_once(' ').ok_or("no text")?;
+    grow(alloc, script, path, text_bytes(alloc, text)?.as_slice())?;
+    delay(script, before.parse()?);
+    Ok(())
+}
+
 // - `log PATH TEXT`: the log grows by this text.
-// - `grow N PATH TEXT`: it grows before the call of this number.
-// - `turn PATH SUFFIX`: the log is rotated.
-fn write_so(alloc: Global, script: &mut Script, verb: &str, text: &str) -> Result<(), Fail> {
-    let (first, rest) = text.split_once(' ').ok_or("no text")?;
+// - `swell PATH PARTS`: it grows by these parts.
+// - `turn PATH SUFFIX`: it is rotated.
+// - `drop PATH SUFFIX`: this generation of it is deleted.
+fn write_so(
+    alloc: Global,
+    script: &mut Script,
+    parts: &Parts,
+    verb: &str,
+    text: &str,
+) -> Result<(), Fail> {
+    let (path, rest) = text.split_once(' ').ok_or("no text")?;
     match verb {
-        "log" => grow(alloc, script, 1, text),
-        "grow" => grow(alloc, script, first.parse()?, rest),
-        _ => rotate(alloc, script, first, rest),
+        "log" => grow(alloc, script, path, text_bytes(alloc, rest)?.as_slice()),
+        "swell" => grow(alloc, script, path, parts.bytes(alloc, rest)?.as_slice()),
+        _ => turn(alloc, script, path, rest, verb == "drop"),
     }
 }
 
@@ -168,7 +187,9 @@ pub(crate) fn happens(
     text: &str,
 ) -> Result<bool, Fail> {
     match verb {
-        "log" | "grow" | "turn" => write_so(alloc, script, verb, text)?,
+        "log" | "swell" | "turn" | "drop" => write_so(alloc, script, parts, verb, text)?,
+        "grow" => grow_before(alloc, script, text)?,
+        "before" => delay(script, text.parse()?),
         "file" | "bytes" | "unsynced" => add_so(alloc, script, parts, verb, text)?,
         "fail" | "fails" | "stop" | "stops" | "wholes" | "repeat" => {
             harm_so(alloc, script, parts, verb, text)?
