@@ -27,11 +27,20 @@ fn appended(acts: &[Act], name: &str) -> usize {
     sum
 }
 
-// How many acts were this call; `-` stands for any.
-fn count_of(acts: &[Act], name: &str) -> usize {
+fn is_first_word(act: &Act, name: &str) -> bool {
+    match act.words.as_slice() {
+        [word, ..] => word.as_slice() == name.as_bytes(),
+        [] => false,
+    }
+}
+
+// `CALL [NAME]`: how many acts were this call, `-` being any, on this name.
+fn count_of(acts: &[Act], text: &str) -> usize {
+    let (call, name) = text.split_once(' ').unwrap_or((text, ""));
     let mut count: usize = 0;
     for act in acts {
-        if name == "-" || act.call.name() == name {
+        let is_call = call == "-" || act.call.name() == call;
+        if is_call && (name.is_empty() || is_first_word(act, name)) {
             count = count.saturating_add(1);
         }
     }
@@ -131,7 +140,7 @@ fn number(alloc: Global, number: usize) -> Result<String, Fail> {
 }
 
 /// - `appended NAME`: how many bytes were appended to the file or log.
-/// - `count CALL`: how many acts were this call; `-` stands for any.
+/// - `count CALL [NAME]`: how many acts were this call, on this file or log; `-` stands for any call.
 /// - `calls`: the names of the calls of h1 and of the program.
 /// - `last`: who acted last, by which call, and whether it was stopped.
 /// - `acts N`: all acts from this number on.

@@ -39,14 +39,14 @@ impl<'a> Rehearsal<'a> {
     }
 }
 
-// The number behind this word, or 0.
-fn number_of(case: Case<'_>, word: &str) -> Result<u64, Fail> {
+// The number behind this word, or the other one if there is no such line.
+fn number_of(case: Case<'_>, word: &str, other: u64) -> Result<u64, Fail> {
     for line in case.middle.lines() {
         if let Some(number) = line.strip_prefix(word) {
             return Ok(number.parse()?);
         }
     }
-    Ok(0)
+    Ok(other)
 }
 
 // A scene behind the setup. None: a line isn't answered as it says.
@@ -179,18 +179,21 @@ fn at_call<S: Scene>(
     Ok(true)
 }
 
+// From call to call, all of them or those between `from N` and `to N`.
 fn at_each_call<S: Scene>(
     case: Case<'_>,
     rehearsal: Rehearsal<'_>,
     report: &mut Report,
 ) -> Result<bool, Fail> {
     let calls = rehearsal.calls();
-    if calls < number_of(case, "least ")? {
+    if calls < number_of(case, "least ", 0)? {
         report.answer("fewer calls")?;
         return Ok(false);
     }
-    for before in 0..calls {
-        if !at_call::<S>(case, rehearsal, before + 1, report)? {
+    let first = number_of(case, "from ", 1)?;
+    let last = number_of(case, "to ", calls)?;
+    for at in first..=last {
+        if !at_call::<S>(case, rehearsal, at, report)? {
             return Ok(false);
         }
     }
@@ -264,7 +267,7 @@ fn at_pairs<S: Scene>(
     rehearsal: Rehearsal<'_>,
     report: &mut Report,
 ) -> Result<bool, Fail> {
-    let seeds = number_of(case, "pairs ")?;
+    let seeds = number_of(case, "pairs ", 0)?;
     for seed in 0..seeds {
         let mut draws = Draws::new(seed + 1);
         let first = drawn(&mut draws, case, rehearsal)?;
