@@ -17,9 +17,9 @@ struct Rehearsal<'a> {
 
 // How the work goes wrong: by this line, at the call of this number.
 #[derive(Clone, Copy)]
-struct Wrong<'a> {
+struct Wrong<'a, 'b> {
     rehearsal: Rehearsal<'a>,
-    harm: &'a str,
+    harm: &'b str,
     at: u64,
 }
 
@@ -84,7 +84,7 @@ fn put_harm<S: Scene>(
     case: Case<'_>,
     scene: &mut S,
     harm: &str,
-    wrong: Wrong<'_>,
+    wrong: Wrong<'_, '_>,
 ) -> Result<(), Fail> {
     let Wrong { rehearsal, at, .. } = wrong;
     if matches!(harm, "synced" | "whole" | "forged") {
@@ -99,7 +99,7 @@ fn put_harm<S: Scene>(
 }
 
 // The answer that is wanted, with the name of the call in place of `{call}`.
-fn wanted_of(case: Case<'_>, wanted: &str, wrong: Wrong<'_>) -> Result<String, Fail> {
+fn wanted_of(case: Case<'_>, wanted: &str, wrong: Wrong<'_, '_>) -> Result<String, Fail> {
     match wanted.split_once("{call}") {
         Some((start, end)) => {
             let call = wrong.rehearsal.call(wrong.at)?.call.name();
@@ -125,7 +125,7 @@ fn holds<S: Scene>(case: Case<'_>, scene: &mut S, report: &mut Report) -> Result
 fn go_wrong<S: Scene>(
     case: Case<'_>,
     scene: &mut S,
-    wrong: Wrong<'_>,
+    wrong: Wrong<'_, '_>,
     report: &mut Report,
 ) -> Result<bool, Fail> {
     let (harm, wanted) = split_answer(wrong.harm, "...");
@@ -140,21 +140,25 @@ fn go_wrong<S: Scene>(
     holds(case, scene, report)
 }
 
-// The work goes wrong in these ways, one behind the other, and at last all holds.
+// The work goes wrong, first in another way if there is one, and at last all holds.
 fn survives<S: Scene>(
     case: Case<'_>,
-    wrongs: &[Wrong<'_>],
+    first: Option<Wrong<'_, '_>>,
+    last: Wrong<'_, '_>,
     report: &mut Report,
 ) -> Result<bool, Fail> {
     let Some(mut scene) = begin::<S>(case, report)? else {
         return Ok(false);
     };
-    for wrong in wrongs {
-        if !go_wrong(case, &mut *scene, *wrong, report)? {
+    if let Some(first) = first {
+        if !go_wrong(case, &mut *scene, first, report)? {
             return Ok(false);
         }
     }
-    play_lines(&mut *scene, case.parts, case.last, report)
+    Ok(
+        go_wrong(case, &mut *scene, last, report)?
+            && play_lines(&mut *scene, case.parts, case.last, report)?,
+    )
 }
 
 // The call of this number goes wrong in each way that it takes.
@@ -171,7 +175,7 @@ fn at_call<S: Scene>(
                 harm,
                 at,
             };
-            if rehearsal.takes(harm, at)? && !survives::<S>(case, &[wrong], report)? {
+            if rehearsal.takes(harm, at)? && !survives::<S>(case, None, wrong, report)? {
                 return Ok(false);
             }
         }
@@ -212,11 +216,11 @@ fn harms(case: Case<'_>) -> Result<Vec<&str>, Fail> {
 }
 
 // A harm at a call, or at the first one behind it that takes it; or else the first harm.
-fn drawn<'a>(
+fn drawn<'a, 'b>(
     draws: &mut Draws,
-    case: Case<'a>,
+    case: Case<'b>,
     rehearsal: Rehearsal<'a>,
-) -> Result<Wrong<'a>, Fail> {
+) -> Result<Wrong<'a, 'b>, Fail> {
     let harms = harms(case)?;
     let calls = rehearsal.calls();
     let before = draws.below(calls);
@@ -243,7 +247,7 @@ fn drawn<'a>(
 fn survives_two<S: Scene>(
     case: Case<'_>,
     draws: &mut Draws,
-    first: Wrong<'_>,
+    first: Wrong<'_, '_>,
     report: &mut Report,
 ) -> Result<bool, Fail> {
     let Some(mut scene) = begin::<S>(case, report)? else {
@@ -258,7 +262,7 @@ fn survives_two<S: Scene>(
         first: start,
     };
     let second = drawn(draws, case, rehearsal)?;
-    survives::<S>(case, &[first, second], report)
+    survives::<S>(case, Some(first), second, report)
 }
 
 // The work goes wrong at two calls, one behind the other, which a seed draws.
