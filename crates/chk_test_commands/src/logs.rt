@@ -1,6 +1,6 @@
-//! Logs as text.
+//! Logs and answers as text.
 use chk_bytes::Word;
-use chk_site::{Part, Role, Site, Who};
+use chk_site::{Call, Part, Role, Site, Who};
 use chk_test_engine::{Outside, plain, shown};
 use std::test::Fail;
 
@@ -15,4 +15,15 @@ pub(crate) fn log_text(outside: &mut Outside, path: &str) -> Result<String, Fail
         Ok(piece) => shown(alloc, piece.bytes.as_slice()),
         Err(_) => plain(alloc, "refused"),
     }
+}
+
+// What the first answer was.
+pub(crate) fn answer_text(outside: &Outside) -> Result<String, Fail> {
+    for act in outside.site.acts() {
+        if act.call == Call::Answer {
+            let answer = act.words.as_slice().first().ok_or("no answer")?;
+            return shown(outside.alloc, answer.as_slice());
+        }
+    }
+    plain(outside.alloc, "none")
 }

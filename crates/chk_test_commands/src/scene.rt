@@ -1,6 +1,6 @@
 //! The scene of the commands.
 use crate::datagrams::{closed, keeps};
-use crate::logs::log_text;
+use crate::logs::{answer_text, log_text};
 use crate::records::about_records;
 use crate::replies::add_reply;
 use crate::rounds::round_of;
@@ -34,12 +34,14 @@ fn act(outside: &mut Outside, verb: &str, text: &str) -> Result<Option<String>, 
 
 // - `printed`: how many bytes all runs printed.
 // - `read PATH`: the first bytes of a log.
+// - `answered`: what the first answer was.
 // - `prefix`, `whole`, `sizes` and `sinks`: what is archived, and what isn't yet.
 // - `closed` and `keeps BYTES`: what is in closed buffers of datagrams.
 fn ask(outside: &mut Outside, verb: &str, text: &str) -> Result<Option<String>, Fail> {
     match verb {
         "printed" => Ok(Some(printed_size(outside)?)),
         "read" => Ok(Some(log_text(outside, text)?)),
+        "answered" => Ok(Some(answer_text(outside)?)),
         "prefix" | "whole" | "sizes" | "sinks" => Ok(Some(about_records(outside, verb, text)?)),
         "closed" => Ok(Some(closed(outside)?)),
         "keeps" => Ok(Some(keeps(outside, text)?)),
