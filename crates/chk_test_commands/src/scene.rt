@@ -5,7 +5,7 @@ use crate::records::about_records;
 use crate::replies::add_reply;
 use crate::rounds::round_of;
 use crate::runs::{printed_size, run_command};
-use crate::actors::Actors;
+use chk_test_agent::Actors;
 use chk_test_engine::{Outside, Parts, Scene, plain};
 use std::alloc::Global;
 use std::test::Fail;
