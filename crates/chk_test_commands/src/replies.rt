@@ -56,11 +56,27 @@ pub(crate) fn add_reply(alloc: Global, script: &mut Script, text: &str) -> Resul
     let message: u64 = words.next().ok_or("no message")?.parse()?;
     let code = words.next().ok_or("no code")?;
     let reply = reply_of(alloc, code, words.next().unwrap_or(""))?;
-    act(alloc, script, call, Call::Take, b"A", 0, taken(alloc, message)?)?;
+    act(
+        alloc,
+        script,
+        call,
+        Call::Take,
+        b"A",
+        0,
+        taken(alloc, message)?,
+    )?;
     let done = ActAnswer::Done {
         words: Words::new(alloc),
         number: 0,
         of: 0,
     };
-    act(alloc, script, call, Call::Answer, reply.as_slice(), message, done)
+    act(
+        alloc,
+        script,
+        call,
+        Call::Answer,
+        reply.as_slice(),
+        message,
+        done,
+    )
 }
