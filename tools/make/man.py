@@ -4,9 +4,9 @@
 usage: tools/make/man.py FOLDER        writes FOLDER/man1, man5 and man7
        tools/make/man.py --usages      prints the usage lines that the manual has, one a line
 
-chukwa(1), chukwactl(1) and a page for each command come from OPERATING, the lines that each prints from FORMATS, what to
-look at where a call failed from RUNBOOK; chukwa-formats(5) from FORMATS, chukwa(7) from README's guarantee and OPERATING's
-rules, stops and limits. A page says what its text says, and nothing else.
+chukwa(1), chukwactl(1) and a page for each command come from OPERATING, the lines that each prints from FORMATS, the
+causes of failed calls from RUNBOOK; chukwa-formats(5) comes from FORMATS, chukwa(7) from README's guarantee and
+OPERATING's rules, locks and limits.
 """
 import os
 import re
@@ -14,17 +14,17 @@ import sys
 
 TOP = os.path.join(os.path.dirname(os.path.abspath(__file__)), "../..")
 COMMANDS = {
-    "round": "take logs to the archive in one process",
-    "agent": "follow logs and post what they give to collectors",
-    "collector": "take posts of chunks at an address into sinks",
-    "drain": "send all that an agent's logs hold, and end",
-    "archive": "take closed sinks into the archive",
+    "round": "collect and archive logs in one process",
+    "agent": "follow logs and post them to collectors",
+    "collector": "receive posts of chunks and append them to sinks",
+    "drain": "send everything in an agent's logs, and end",
+    "archive": "move closed sinks into the archive",
     "demux": "split the archive into records",
-    "salvage": "tell what can be read of a SequenceFile",
-    "load": "make logs for trials and archive them",
-    "udp": "take datagrams into synced buffers",
-    "subscribe": "print the chunks that tees send",
-    "join": "make one archive of two of the same logs",
+    "salvage": "print what is readable in a SequenceFile",
+    "load": "generate logs for trials and archive them",
+    "udp": "receive datagrams into synced buffers",
+    "subscribe": "print the chunks that collectors send to subscribers",
+    "join": "merge two archives of the same logs",
 }
 
 
@@ -81,9 +81,9 @@ def table(rows):
         first, *rest = cells(row)
         out += [".TP", inline(first) or "\\&"]
         said = [(title, cell) for title, cell in zip(titles[1:], rest) if cell]
-        if titles[-1] == "what":
-            what = [cell for title, cell in said if title == "what"]
-            given = [f"{title}: {cell}" for title, cell in said if title in ("range, default",)]
+        if titles[-1] == "description":
+            what = [cell for title, cell in said if title == "description"]
+            given = [f"{title}: {cell}" for title, cell in said if title == "default"]
             out.append(inline("; ".join(what + given) or "\\&"))
             continue
         out.append("; ".join(f"{inline(title)}: {inline(cell)}" if title else inline(cell) for title, cell in said) or "\\&")
@@ -150,8 +150,8 @@ def command_parts(manual):
 
 def printed_by(name, lines):
     """The rows of the table of printed lines that name the command as where they come from."""
-    rows = [line for line in lines.split("\n") if line.startswith("|")]
-    return [row for row in rows[2:] if f"`{name}`" in re.split(r"[,:]", row.split(" | ", 1)[1])[0]]
+    rows = [line for line in lines.split("\n") if line.startswith("| `")]
+    return [row for row in rows if f"`{name}`" in re.split(r"[,:]", row.split(" | ", 1)[1])[0]]
 
 
 def pages():
@@ -159,11 +159,9 @@ def pages():
     formats = sections(text_of("docs/FORMATS.md"), "##")
     whole, commands = sections(manual, "##"), command_parts(manual)
     also = [("See also", ["\\fBchukwa\\fR(1), \\fBchukwa\\fR(7), \\fBchukwa\\-formats\\fR(5)"])]
-    beyond = sections(manual, "###").get("Options beyond the common ones", "")
     made = {}
     for name, (usage, rest) in commands.items():
-        more = [row for row in beyond.split("\n") if f"`{name}`" in row]
-        extra = [("Options beyond the usage line", table(beyond.split("\n")[2:4] + more))] if more else []
+        extra = []
         if lines := printed_by(name, formats["Printed lines"]):
             extra.append(("Printed lines", table(["| line | |", "|---|---|"] + lines)))
         made[f"man1/chukwa-{name}.1"] = page(
@@ -173,18 +171,18 @@ def pages():
     words = whole["Commands"].split("\n### ")[0]
     made["man1/chukwa.1"] = page(
         "chukwa", 1, "collect logs, each byte once",
-        [("Synopsis", ["\\fBchukwa\\fR \\fIcommand\\fR [\\fIword\\fR...]"]), ("Description", body(whole["What it does"])),
-         ("Commands", listed + body(words)), ("Watching", body(whole["Watching"])),
-         ("When it hurts", body(whole["When it hurts"])),
+        [("Synopsis", ["\\fBchukwa\\fR \\fIcommand\\fR [\\fIword\\fR...]"]), ("Description", body(whole["Overview"])),
+         ("Commands", listed + body(words)), ("Monitoring", body(whole["Monitoring"])),
+         ("Exit statuses", body(whole["Exit statuses"])),
          ("A call failed", body(sections(text_of("docs/RUNBOOK.md"), "##")["A call failed"])), *also])
     made["man1/chukwactl.1"] = page(
         "chukwactl", 1, "show what a store has",
-        [("Synopsis", ["\\fBchukwactl\\fR \\fIcommand\\fR [\\fIword\\fR...]"]), ("Description", body(whole["Looking"])),
+        [("Synopsis", ["\\fBchukwactl\\fR \\fIcommand\\fR [\\fIword\\fR...]"]), ("Description", body(whole["Inspecting a store"])),
          ("Printed lines", body(formats["What `chukwactl` prints"])), *also])
     made["man7/chukwa.7"] = page(
-        "chukwa", 7, "what chukwa promises, and what it wants for it",
-        [("The guarantee", body(sections(readme, "##")["The guarantee"])), ("Rules", body(whole["Rules that cost bytes"])),
-         ("Stops and locks", body(whole["Stops and locks"])), ("Known limits", body(whole["Known limits"])), *also])
+        "chukwa", 7, "what chukwa guarantees and requires",
+        [("The guarantee", body(sections(readme, "##")["The guarantee"])), ("Rules", body(whole["Rules that protect the data"])),
+         ("Crashes and locks", body(whole["Crashes and locks"])), ("Known limits", body(whole["Known limits"])), *also])
     made["man5/chukwa-formats.5"] = page(
         "chukwa-formats", 5, "each byte that chukwa writes or reads", [(title, body(text)) for title, text in formats.items()] + also)
     return made

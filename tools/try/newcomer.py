@@ -3,7 +3,7 @@
 
 usage: tools/try/newcomer.py [--program FILE]
 
-The commands are taken from docs/OPERATING.md, the section 'A first run', and given to one bash in a new folder,
+The commands are taken from docs/OPERATING.md, the section 'First run', and given to one bash in a new folder,
 in which `chukwa` is the program and CHECKOUT the repository. It ends with 1 where something else is printed.
 """
 import os
@@ -25,7 +25,7 @@ WANTED = [
 
 
 def section(text):
-    return text.split("## A first run\n", 1)[1].split("\n## ", 1)[0]
+    return text.split("## First run\n", 1)[1].split("\n## ", 1)[0]
 
 
 def blocks(text):
