@@ -2,6 +2,9 @@
 //! file has. For each case that fails it prints the line, and what that answered; it ends with 1 then.
 #![tactic(auto)]
 
+use chk_test_agent::{AgentScene, DeliveryScene, ReaderScene};
+use chk_test_archive::{ArchiveScene, JoinScene};
+use chk_test_collector::{CollectorScene, SinkScene, TeeScene, TurnScene};
 use chk_test_commands::CommandScene;
 use chk_test_engine::{Parts, play_file};
 use std::alloc::Global;
@@ -47,6 +50,17 @@ fn play(
 ) -> Result<u64, Fail> {
     let (folder, _) = file.split_once('/').ok_or("no folder")?;
     match folder {
+        "sinks" => play_file::<SinkScene>(alloc, parts, text, failed),
+        "collector" => play_file::<CollectorScene>(alloc, parts, text, failed),
+        "turns" => play_file::<TurnScene>(alloc, parts, text, failed),
+        "tee" => play_file::<TeeScene>(alloc, parts, text, failed),
+        "archive" => play_file::<ArchiveScene>(alloc, parts, text, failed),
+        "join" => play_file::<JoinScene>(alloc, parts, text, failed),
+        "readers" => play_file::<ReaderScene>(alloc, parts, text, failed),
+        "delivery" => play_file::<DeliveryScene>(alloc, parts, text, failed),
+        "agent" | "agent_runs" | "drain" | "checkpoints" => {
+            play_file::<AgentScene>(alloc, parts, text, failed)
+        }
         "commands" | "udp" => play_file::<CommandScene>(alloc, parts, text, failed),
         _ => Err(Fail::from("no such folder")),
     }
