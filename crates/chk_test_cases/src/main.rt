@@ -50,18 +50,18 @@ fn play(
 ) -> Result<u64, Fail> {
     let (folder, _) = file.split_once('/').ok_or("no folder")?;
     match folder {
-        "agent" | "agent_runs" | "checkpoints" | "drain" => {
-            play_file::<AgentScene>(alloc, parts, text, failed)
-        }
-        "archive" => play_file::<ArchiveScene>(alloc, parts, text, failed),
+        "sinks" => play_file::<SinkScene>(alloc, parts, text, failed),
         "collector" => play_file::<CollectorScene>(alloc, parts, text, failed),
-        "commands" | "udp" => play_file::<CommandScene>(alloc, parts, text, failed),
-        "delivery" => play_file::<DeliveryScene>(alloc, parts, text, failed),
+        "turns" => play_file::<TurnScene>(alloc, parts, text, failed),
+        "tee" => play_file::<TeeScene>(alloc, parts, text, failed),
+        "archive" => play_file::<ArchiveScene>(alloc, parts, text, failed),
         "join" => play_file::<JoinScene>(alloc, parts, text, failed),
         "readers" => play_file::<ReaderScene>(alloc, parts, text, failed),
-        "sinks" => play_file::<SinkScene>(alloc, parts, text, failed),
-        "tee" => play_file::<TeeScene>(alloc, parts, text, failed),
-        "turns" => play_file::<TurnScene>(alloc, parts, text, failed),
+        "delivery" => play_file::<DeliveryScene>(alloc, parts, text, failed),
+        "agent" | "agent_runs" | "drain" | "checkpoints" => {
+            play_file::<AgentScene>(alloc, parts, text, failed)
+        }
+        "commands" | "udp" => play_file::<CommandScene>(alloc, parts, text, failed),
         _ => Err(Fail::from("no such folder")),
     }
 }

@@ -1,7 +1,6 @@
 //! The scene of the commands over a site in memory.
 #![tactic(auto)]
 
-mod actors;
 mod datagrams;
 mod logs;
 mod reading;

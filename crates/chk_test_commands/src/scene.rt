@@ -1,5 +1,5 @@
 //! The scene of the commands.
-use crate::actors::Actors;
+use chk_test_agent::Actors;
 use crate::datagrams::{closed, keeps};
 use crate::logs::{answer_text, log_text};
 use crate::records::about_records;
