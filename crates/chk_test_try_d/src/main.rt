@@ -1,8 +1,9 @@
 //! Plays the cases of agents, to try them.
 #![tactic(auto)]
 
-use chk_test_agent::{AgentScene, DeliveryScene, ReaderScene};
+use chk_test_agent::{AgentScene, DeliveryScene};
 use chk_test_engine::{Parts, play_file};
+use chk_test_readers::ReaderScene;
 use std::alloc::Global;
 use std::fs;
 use std::test::Fail;
