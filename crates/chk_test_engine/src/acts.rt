@@ -5,102 +5,82 @@ use chk_site::{Act, ActAnswer, Call};
 use std::alloc::Global;
 use std::test::Fail;
 
-fn is_append(act: &Act) -> bool {
-    act.call == Call::Append || act.call == Call::LogAppend
-}
-
-// How long the act's second word is, if the first one is this name.
-fn length_of(act: &Act, name: &str) -> usize {
-    match act.words.as_slice() {
-        [file, piece] if file.as_slice() == name.as_bytes() => piece.len(),
-        _ => 0,
-    }
-}
-
-fn appended(acts: &[Act], name: &str) -> usize {
-    let mut sum: usize = 0;
-    for act in acts {
-        if is_append(act) {
-            sum = sum.saturating_add(length_of(act, name));
-        }
-    }
-    sum
-}
-
-fn is_first_word(act: &Act, name: &str) -> bool {
+fn is_on(act: &Act, name: &str) -> bool {
     match act.words.as_slice() {
         [word, ..] => word.as_slice() == name.as_bytes(),
         [] => false,
     }
 }
 
-// `CALL [NAME]`: how many acts were this call, `-` being any, on this name.
+// How many bytes were appended to the file or log.
+fn appended(acts: &[Act], name: &str) -> usize {
+    let mut sum: usize = 0;
+    for act in acts {
+        let is_append = act.call == Call::Append || act.call == Call::LogAppend;
+        if is_append && is_on(act, name) {
+            let piece = act.words.as_slice().last();
+            sum = sum.saturating_add(piece.map(Bytes::len).unwrap_or(0));
+        }
+    }
+    sum
+}
+
+// `CALL [NAME]`: how many acts were this call, `-` being any, on this file or log.
 fn count_of(acts: &[Act], text: &str) -> usize {
     let (call, name) = text.split_once(' ').unwrap_or((text, ""));
     let mut count: usize = 0;
     for act in acts {
         let is_call = call == "-" || act.call.name() == call;
-        if is_call && (name.is_empty() || is_first_word(act, name)) {
+        if is_call && (name.is_empty() || is_on(act, name)) {
             count = count.saturating_add(1);
         }
     }
     count
 }
 
-// The word of this number of the call is a text.
-fn is_text(call: Call, word: usize) -> bool {
+// How many of a call's words are text; the others are bytes.
+fn texts_in(call: Call) -> usize {
     match call {
-        Call::Append | Call::Send => word == 0,
-        Call::Answer => false,
-        _ => true,
+        Call::Append | Call::Send => 1,
+        Call::Answer => 0,
+        _ => usize::MAX,
     }
 }
 
 // Of bytes there is the length.
-fn add_word(line: &mut String, word: &Bytes, is_text: bool) -> Result<(), Fail> {
-    if is_text {
-        let text = std::str::from_utf8(word.as_slice())?;
-        return Ok(line.push_str(text.trim_end())?);
-    }
-    let length = word.len();
-    Ok(write!(line, "{length}B")?)
-}
-
-fn add_words(line: &mut String, act: &Act) -> Result<(), Fail> {
-    for (i, word) in act.words.as_slice().iter().enumerate() {
-        line.push(' ')?;
-        add_word(line, word, is_text(act.call, i))?;
-    }
-    Ok(())
-}
-
-// A listing gives names, each other call bytes.
-fn add_given(line: &mut String, call: Call, words: &[Bytes]) -> Result<(), Fail> {
-    for word in words {
-        line.push(' ')?;
-        add_word(line, word, call == Call::List)?;
-    }
-    Ok(())
-}
-
-fn add_answer(line: &mut String, act: &Act) -> Result<(), Fail> {
-    match &act.answer {
-        ActAnswer::Done { words, .. } => {
-            line.push_str("done")?;
-            add_given(line, act.call, words.as_slice())
+fn add_words(line: &mut String, words: &[Bytes], texts: usize) -> Result<(), Fail> {
+    for (i, word) in words.iter().enumerate() {
+        if i < texts {
+            let text = std::str::from_utf8(word.as_slice())?.trim_end();
+            write!(line, " {text}")?;
+        } else {
+            let length = word.len();
+            write!(line, " {length}B")?;
         }
-        ActAnswer::Refused { fault } => Ok(write!(line, "{fault:?}")?),
-        _ => Err(Fail::from("no answer of a call")),
     }
+    Ok(())
 }
 
-// By whom, the call's name, its words, its number and its answer.
+// By whom, the call's name, its words, its number and its answer. A listing gives names, each other
+// call bytes.
 fn add_act(line: &mut String, act: &Act) -> Result<(), Fail> {
     let (who, call, number) = (act.who.name.as_str(), act.call.name(), act.number);
     write!(line, "{who} {call}")?;
-    add_words(line, act)?;
+    add_words(line, act.words.as_slice(), texts_in(act.call))?;
     write!(line, " {number} ")?;
-    add_answer(line, act)?;
+    match &act.answer {
+        ActAnswer::Done { words, .. } => {
+            line.push_str("done")?;
+            let texts = if act.call == Call::List {
+                usize::MAX
+            } else {
+                0
+            };
+            add_words(line, words.as_slice(), texts)?;
+        }
+        ActAnswer::Refused { fault } => write!(line, "{fault:?}")?,
+        _ => line.push_str("no answer")?,
+    }
     Ok(line.push('|')?)
 }
 
@@ -122,7 +102,7 @@ fn names_text(alloc: Global, acts: &[Act]) -> Result<String, Fail> {
             text.push(' ')?;
         }
     }
-    plain(alloc, text.as_str().trim_end())
+    Ok(text)
 }
 
 fn last_text(alloc: Global, acts: &[Act]) -> Result<String, Fail> {
@@ -135,21 +115,23 @@ fn last_text(alloc: Global, acts: &[Act]) -> Result<String, Fail> {
     Ok(format!(in alloc; "{who} {call} {end}")?)
 }
 
-fn number(alloc: Global, number: usize) -> Result<String, Fail> {
+// - `appended NAME`: how many bytes were appended to the file or log.
+// - `count CALL [NAME]`: how many acts were this call, on this file or log; `-` stands for any call.
+// - `calls`: the names of the calls of h1 and of the program.
+// - `last`: who acted last, by which call, and whether it was stopped.
+// - `acts N`: all acts from this number on.
+pub(crate) fn about_acts(
+    alloc: Global,
+    acts: &[Act],
+    verb: &str,
+    text: &str,
+) -> Result<String, Fail> {
+    let number = match verb {
+        "appended" => appended(acts, text),
+        "count" => count_of(acts, text),
+        "calls" => return names_text(alloc, acts),
+        "last" => return last_text(alloc, acts),
+        _ => return acts_text(alloc, acts.get(text.parse()?..).unwrap_or(&[])),
+    };
     Ok(format!(in alloc; "{number}")?)
-}
-
-/// - `appended NAME`: how many bytes were appended to the file or log.
-/// - `count CALL [NAME]`: how many acts were this call, on this file or log; `-` stands for any call.
-/// - `calls`: the names of the calls of h1 and of the program.
-/// - `last`: who acted last, by which call, and whether it was stopped.
-/// - `acts N`: all acts from this number on.
-pub fn about_acts(alloc: Global, acts: &[Act], verb: &str, text: &str) -> Result<String, Fail> {
-    match verb {
-        "appended" => number(alloc, appended(acts, text)),
-        "count" => number(alloc, count_of(acts, text)),
-        "calls" => names_text(alloc, acts),
-        "last" => last_text(alloc, acts),
-        _ => acts_text(alloc, acts.get(text.parse()?..).unwrap_or(&[])),
-    }
 }

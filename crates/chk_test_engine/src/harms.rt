@@ -38,17 +38,6 @@ pub(crate) fn place_of(acts: &[Act], first: usize, at: u64) -> Result<usize, Fai
     Err(Fail::from("no call of this number"))
 }
 
-// The file that the act makes, or the new name of one.
-fn made(act: &Act) -> Option<&Bytes> {
-    if act.call == Call::Create {
-        return act.words.as_slice().first();
-    }
-    if act.call == Call::Rename {
-        return act.words.as_slice().get(1);
-    }
-    None
-}
-
 // The file and the piece of an append.
 fn append_in(act: &Act) -> Option<(&[u8], &[u8])> {
     if act.call != Call::Append {
@@ -60,9 +49,9 @@ fn append_in(act: &Act) -> Option<(&[u8], &[u8])> {
     }
 }
 
-fn is_on(act: &Act, call: Call, name: &[u8]) -> bool {
+fn is_on(act: &Act, name: &[u8]) -> bool {
     match act.words.as_slice() {
-        [word, ..] => act.call == call && word.as_slice() == name,
+        [word, ..] => word.as_slice() == name,
         [] => false,
     }
 }
@@ -71,21 +60,17 @@ fn is_on(act: &Act, call: Call, name: &[u8]) -> bool {
 fn unsynced(alloc: Global, acts: &[Act], name: &[u8]) -> Result<Bytes, Fail> {
     let mut tail = Bytes::new(alloc);
     for act in acts {
-        if matches!(&act.answer, ActAnswer::Done { .. }) {
-            note_file(act, name, &mut tail)?;
+        if !matches!(&act.answer, ActAnswer::Done { .. }) || !is_on(act, name) {
+            continue;
+        }
+        if act.call == Call::Create || act.call == Call::Sync {
+            tail.truncate(0);
+        }
+        if let Some((_, piece)) = append_in(act) {
+            tail.push_all(piece)?;
         }
     }
     Ok(tail)
-}
-
-fn note_file(act: &Act, name: &[u8], tail: &mut Bytes) -> Result<(), Fail> {
-    if is_on(act, Call::Create, name) || is_on(act, Call::Sync, name) {
-        tail.truncate(0);
-    }
-    match append_in(act) {
-        Some((file, piece)) if file == name => Ok(tail.push_all(piece)?),
-        _ => Ok(()),
-    }
 }
 
 // Whether the act is an append to a sink, at which a stop may leave an entry of false bytes.
@@ -107,11 +92,17 @@ fn forged(alloc: Global, piece: &[u8]) -> Result<Bytes, Fail> {
     Ok(bytes)
 }
 
-// What is left of each file that the acts made: nothing past its synced length.
+// What is left of each file that the acts made: nothing past its synced length. A rename makes its new
+// name.
 fn synced(alloc: Global, acts: &[Act]) -> Result<Lefts, Fail> {
     let mut left = Lefts::new(alloc);
     for act in acts {
-        if let Some(name) = made(act) {
+        let made = match act.call {
+            Call::Create => act.words.as_slice().first(),
+            Call::Rename => act.words.as_slice().get(1),
+            _ => None,
+        };
+        if let Some(name) = made {
             left.push(Left {
                 name: name.copy()?,
                 tail: Bytes::new(alloc),
@@ -122,7 +113,9 @@ fn synced(alloc: Global, acts: &[Act]) -> Result<Lefts, Fail> {
     Ok(left)
 }
 
-fn left_of_one(alloc: Global, name: &[u8], tail: Bytes) -> Result<Lefts, Fail> {
+// What is left of a file whose change took place: this tail. A file that isn't named keeps all its
+// bytes.
+fn changed(alloc: Global, name: &[u8], tail: Bytes) -> Result<Lefts, Fail> {
     let mut left = Lefts::new(alloc);
     left.push(Left {
         name: Bytes::from_slice(alloc, name)?,
@@ -132,33 +125,25 @@ fn left_of_one(alloc: Global, name: &[u8], tail: Bytes) -> Result<Lefts, Fail> {
     Ok(left)
 }
 
-// A file that isn't named keeps all its bytes.
+// The bytes that weren't synced, and this piece behind them.
 fn appended(alloc: Global, before: &[Act], name: &[u8], piece: &[u8]) -> Result<Lefts, Fail> {
     let mut tail = unsynced(alloc, before, name)?;
     tail.push_all(piece)?;
-    left_of_one(alloc, name, tail)
-}
-
-fn changes_file(call: Call) -> bool {
-    call == Call::Create || call == Call::Rename || call == Call::Remove || call == Call::Cut
+    changed(alloc, name, tail)
 }
 
 fn whole(alloc: Global, before: &[Act], act: &Act) -> Result<Lefts, Fail> {
     if let Some((name, piece)) = append_in(act) {
         return appended(alloc, before, name, piece);
     }
+    let is_change = matches!(
+        act.call,
+        Call::Create | Call::Rename | Call::Remove | Call::Cut
+    );
     match act.words.as_slice().first() {
-        Some(name) if changes_file(act.call) => {
-            left_of_one(alloc, name.as_slice(), Bytes::new(alloc))
-        }
+        Some(name) if is_change => changed(alloc, name.as_slice(), Bytes::new(alloc)),
         _ => Ok(Lefts::new(alloc)),
     }
-}
-
-fn with_forged_entry(alloc: Global, before: &[Act], act: &Act) -> Result<Lefts, Fail> {
-    let (name, piece) = append_in(act).ok_or("no append")?;
-    let entry = forged(alloc, piece)?;
-    appended(alloc, before, name, entry.as_slice())
 }
 
 // What a stop in the act at this place leaves.
@@ -177,6 +162,9 @@ pub(crate) fn left_at(
     match verb {
         "synced" => synced(alloc, acts.get(..=place).unwrap_or(&[])),
         "whole" => whole(alloc, before, act),
-        _ => with_forged_entry(alloc, before, act),
+        _ => {
+            let (name, piece) = append_in(act).ok_or("no append")?;
+            appended(alloc, before, name, forged(alloc, piece)?.as_slice())
+        }
     }
 }

@@ -15,9 +15,7 @@ mod scene;
 mod script;
 mod texts;
 
-pub use acts::about_acts;
 pub use cases::play_file;
-pub use files::about_file;
 pub use outside::Outside;
 pub use parts::Parts;
 pub use scene::Scene;

@@ -43,7 +43,7 @@ impl Outside {
         })
     }
 
-    /// The next `begin` begins a script, even if nothing was put into it.
+    /// The next `begin` or sending begins a script, even if nothing was put into it.
     pub fn restart(&mut self) {
         self.restarts = true;
     }
@@ -65,6 +65,9 @@ impl Outside {
 
     // The number of the message, `DOOR PARTS`.
     fn send(&mut self, parts: &Parts, text: &str) -> Result<String, Fail> {
+        if self.restarts {
+            self.begin();
+        }
         let (door, words) = text.split_once(' ').unwrap_or((text, ""));
         let bytes = parts.bytes(self.alloc, words)?;
         let who = agent(self.alloc)?;

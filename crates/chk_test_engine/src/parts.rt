@@ -73,13 +73,6 @@ fn push_quoted(bytes: &mut Bytes, text: &str) -> Result<(), Fail> {
     Ok(())
 }
 
-fn push_hex(bytes: &mut Bytes, text: &str) -> Result<(), Fail> {
-    for digits in text.split('.') {
-        bytes.push_all(&[u8::from_str_radix(digits, 16)?])?;
-    }
-    Ok(())
-}
-
 // A number, the high byte first, or bytes in hexadecimal digits.
 fn push_number(bytes: &mut Bytes, size: &str, number: &str) -> Result<(), Fail> {
     match size {
@@ -87,7 +80,12 @@ fn push_number(bytes: &mut Bytes, size: &str, number: &str) -> Result<(), Fail> 
         "two" => Ok(put_u16(bytes, number.parse()?)?),
         "four" => Ok(put_u32(bytes, number.parse()?)?),
         "eight" => Ok(put_u64(bytes, number.parse()?)?),
-        "hex" => push_hex(bytes, number),
+        "hex" => {
+            for digits in number.split('.') {
+                bytes.push_all(&[u8::from_str_radix(digits, 16)?])?;
+            }
+            Ok(())
+        }
         _ => Err(Fail::from("no such number")),
     }
 }
@@ -121,29 +119,18 @@ impl Parts {
         }
     }
 
-    fn push_times(
-        &self,
-        alloc: Global,
-        bytes: &mut Bytes,
-        count: u64,
-        word: &str,
-    ) -> Result<(), Fail> {
+    // `N*WORD`, or a word alone.
+    fn push_word(&self, alloc: Global, bytes: &mut Bytes, word: &str) -> Result<(), Fail> {
+        let (count, word) = match word.split_once('*') {
+            Some((count, word)) if !count.starts_with("\"") => (count.parse()?, word),
+            _ => (1, word),
+        };
         let mut piece = Bytes::new(alloc);
         self.push_one(&mut piece, word)?;
-        for _time in 0..count {
+        for _time in 0u64..count {
             bytes.push_all(piece.as_slice())?;
         }
         Ok(())
-    }
-
-    // `N*WORD`, or a word alone.
-    fn push_word(&self, alloc: Global, bytes: &mut Bytes, word: &str) -> Result<(), Fail> {
-        match word.split_once('*') {
-            Some((count, word)) if !count.starts_with("\"") => {
-                self.push_times(alloc, bytes, count.parse()?, word)
-            }
-            _ => self.push_one(bytes, word),
-        }
     }
 
     /// The bytes of these words, one behind the other.
@@ -161,21 +148,15 @@ impl Parts {
         Ok(bytes)
     }
 
-    fn define(&mut self, alloc: Global, line: &str) -> Result<(), Fail> {
-        let (name, words) = line.split_once(" = ").ok_or("no part")?;
-        let part = Part {
-            name: String::from_str(alloc, name.trim())?,
-            bytes: self.bytes(alloc, words)?,
-        };
-        Ok(self.parts.push(part)?)
-    }
-
     /// Adds the parts that these lines define, `NAME = WORDS`. A line may name parts above it.
     pub fn add(&mut self, alloc: Global, text: &str) -> Result<(), Fail> {
         let text = joined(alloc, text)?;
         for line in text.as_str().lines() {
             if !line.is_empty() {
-                self.define(alloc, line)?;
+                let (name, words) = line.split_once(" = ").ok_or("no part")?;
+                let name = String::from_str(alloc, name.trim())?;
+                let bytes = self.bytes(alloc, words)?;
+                self.parts.push(Part { name, bytes })?;
             }
         }
         Ok(())

@@ -58,8 +58,34 @@ fn delay(script: &mut Script, before: u64) {
     }
 }
 
-// `PARTS|- [FILE,FILE..] N`: the call of this number is stopped, and each of the files has this tail
-// past its synced length. It is given too whether the stopped call took effect.
+// The call of this number is stopped, and each of the files has this tail past its synced length. It is
+// given too whether the stopped call took effect.
+fn stop(
+    alloc: Global,
+    script: &mut Script,
+    at: &str,
+    names: &str,
+    tail: &[u8],
+    whole: bool,
+) -> Result<(), Fail> {
+    let mut left = Lefts::new(alloc);
+    for name in names.split([' ', ',']) {
+        if !name.is_empty() {
+            left.push(Left {
+                name: Bytes::from_slice(alloc, name.as_bytes())?,
+                tail: Bytes::from_slice(alloc, tail)?,
+                whole,
+            })?;
+        }
+    }
+    script.stop = Some(StopAt {
+        at: at.parse()?,
+        left,
+    });
+    Ok(())
+}
+
+// `PARTS|- [FILE,FILE..] N`.
 fn stop_with(
     alloc: Global,
     script: &mut Script,
@@ -69,50 +95,9 @@ fn stop_with(
 ) -> Result<(), Fail> {
     let (files, at) = text.rsplit_once(' ').ok_or("no number")?;
     let (tail, names) = files.split_once(' ').unwrap_or((files, ""));
-    let tail = match tail {
-        "-" => Bytes::new(alloc),
-        _ => parts.bytes(alloc, tail)?,
-    };
-    let mut left = Lefts::new(alloc);
-    for name in names.split(',') {
-        add_left(alloc, &mut left, name, tail.as_slice(), whole)?;
-    }
-    script.stop = Some(StopAt {
-        at: at.parse()?,
-        left,
-    });
-    Ok(())
-}
-
-fn add_left(
-    alloc: Global,
-    left: &mut Lefts,
-    name: &str,
-    tail: &[u8],
-    whole: bool,
-) -> Result<(), Fail> {
-    if !name.is_empty() {
-        left.push(Left {
-            name: Bytes::from_slice(alloc, name.as_bytes())?,
-            tail: Bytes::from_slice(alloc, tail)?,
-            whole,
-        })?;
-    }
-    Ok(())
-}
-
-// `N [NAME..]`: the call of this number is stopped. Just the synced bytes of the files are left.
-fn stop_synced(alloc: Global, script: &mut Script, text: &str) -> Result<(), Fail> {
-    let (at, names) = text.split_once(' ').unwrap_or((text, ""));
-    let mut left = Lefts::new(alloc);
-    for name in names.split(' ') {
-        add_left(alloc, &mut left, name, b"", false)?;
-    }
-    script.stop = Some(StopAt {
-        at: at.parse()?,
-        left,
-    });
-    Ok(())
+    let tail = if tail == "-" { "\"\"" } else { tail };
+    let tail = parts.bytes(alloc, tail)?;
+    stop(alloc, script, at, names, tail.as_slice(), whole)
 }
 
 // `NAME TEXT` or `NAME PARTS`.
@@ -172,7 +157,10 @@ fn harm_so(
 ) -> Result<(), Fail> {
     match verb {
         "fail" | "fails" => Ok(script.failing.push(text.parse()?)?),
-        "stop" => stop_synced(alloc, script, text),
+        "stop" => {
+            let (at, names) = text.split_once(' ').unwrap_or((text, ""));
+            stop(alloc, script, at, names, b"", false)
+        }
         "repeat" => Ok(script.again.push(text.parse()?)?),
         _ => stop_with(alloc, script, parts, text, verb == "wholes"),
     }
