@@ -80,7 +80,7 @@ def replaced(text, what, by):
 
 
 def run(asked, room):
-    line = text_of(f"{SEEDS}/crates.txt")
+    line = text_of(f"{SEEDS}/crates_line.txt")
     lines = copy_below(line.partition(":")[2].split(), room)
     with open(f"{room}/crates.txt", "w", encoding="utf-8") as file:
         file.writelines([*lines, line])

@@ -1,11 +1,11 @@
 //! The scene of the commands.
-use chk_test_agent::Actors;
 use crate::datagrams::{closed, keeps};
 use crate::logs::{answer_text, log_text};
 use crate::records::about_records;
 use crate::replies::add_reply;
 use crate::rounds::round_of;
 use crate::runs::{printed_size, run_command};
+use chk_test_agent::Actors;
 use chk_test_engine::{Outside, Parts, Scene, plain};
 use std::alloc::Global;
 use std::test::Fail;
