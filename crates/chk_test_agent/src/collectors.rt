@@ -76,10 +76,10 @@ fn responds(
     taking: &Taking,
 ) -> Result<String, Fail> {
     let who = collector_named(alloc, name)?;
-    let Some(request) = message(alloc, site, &who, taking)? else {
+    let Some(bytes) = message(alloc, site, &who, taking)? else {
         return told(alloc, "cut", &[]);
     };
-    let reply = collector.respond(alloc, site, request.as_slice())?;
+    let reply = collector.respond(alloc, site, bytes.as_slice())?;
     match site.answer(alloc, &who, taking.number, reply.as_slice()) {
         Ok(()) => reply_text(alloc, reply.as_slice()),
         Err(_) => told(alloc, "unanswered", &[]),

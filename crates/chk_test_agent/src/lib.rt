@@ -1,4 +1,4 @@
-//! Scenes of agents over a site in memory: their runs, drains, checkpoints, deliveries and readers.
+//! Scenes of agents over a site in memory: their runs, drains, checkpoints and deliveries.
 #![tactic(auto)]
 
 mod actors;
@@ -9,8 +9,6 @@ mod checkpoints;
 mod collectors;
 mod deliveries;
 mod drains;
-mod readers;
-mod reading;
 mod rehearsals;
 mod replies;
 mod runs;
@@ -21,5 +19,4 @@ mod words;
 
 pub use actors::Actors;
 pub use deliveries::DeliveryScene;
-pub use reading::ReaderScene;
 pub use scene::AgentScene;

@@ -92,10 +92,6 @@ impl Stage {
             "lines" => numbers(&mut self.outside, text)?,
             "grown" => self.grows(parts, text)?,
             "closed" => shown(alloc, closed(alloc, &self.outside.site)?.as_slice())?,
-            "send" => {
-                self.outside.begin();
-                return Ok(None);
-            }
             _ => return self.actors.step(&mut self.outside, verb, text),
         };
         Ok(Some(given))

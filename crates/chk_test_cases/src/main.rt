@@ -2,11 +2,12 @@
 //! file has. For each case that fails it prints the line, and what that answered; it ends with 1 then.
 #![tactic(auto)]
 
-use chk_test_agent::{AgentScene, DeliveryScene, ReaderScene};
+use chk_test_agent::{AgentScene, DeliveryScene};
 use chk_test_archive::{ArchiveScene, JoinScene};
 use chk_test_collector::{CollectorScene, SinkScene, TeeScene, TurnScene};
 use chk_test_commands::CommandScene;
 use chk_test_engine::{Parts, play_file};
+use chk_test_readers::ReaderScene;
 use std::alloc::Global;
 use std::fs;
 use std::process::ExitCode;

@@ -1,12 +1,10 @@
 //! The scene of a log that writers change, and a reader of it.
 
 use crate::readers::Reader;
-use crate::starts::agent_named;
-use crate::words::{parted, told, word};
-use chk_bytes::Bytes;
+use chk_bytes::{Bytes, Word};
 use chk_site::{OutsideFault, Role, Site, Who};
 use chk_tail::Step;
-use chk_test_engine::{Outside, Parts, Scene, shown};
+use chk_test_engine::{Outside, Parts, Scene, plain, shown};
 use std::alloc::Global;
 use std::test::Fail;
 
@@ -32,13 +30,13 @@ fn step_text(alloc: Global, given: Result<Step, OutsideFault>) -> Result<String,
             let bytes = shown(alloc, bytes.as_slice())?;
             Ok(format!(in alloc; "[{bytes}] {end}")?)
         }
-        Ok(Step::AtEnd) => told(alloc, "end", &[]),
-        Ok(Step::Shrank { had, is }) => told(alloc, "shrank", &[had, is]),
+        Ok(Step::AtEnd) => plain(alloc, "end"),
+        Ok(Step::Shrank { had, is }) => Ok(format!(in alloc; "shrank {had} {is}")?),
         Err(OutsideFault::Outside { call }) => {
             let name = call.name();
             Ok(format!(in alloc; "failed {name}")?)
         }
-        Err(OutsideFault::NoMemory) => told(alloc, "no memory", &[]),
+        Err(OutsideFault::NoMemory) => plain(alloc, "no memory"),
     }
 }
 
@@ -46,7 +44,10 @@ impl ReaderScene {
     fn steps(&mut self) -> Result<Result<Step, OutsideFault>, Fail> {
         self.outside.begin();
         let alloc = self.outside.alloc;
-        let who = agent_named(alloc, "h1")?;
+        let who = Who {
+            role: Role::Agent,
+            name: Word::new(alloc, b"h1")?,
+        };
         Ok(self.reader.step(alloc, &mut self.outside.site, &who))
     }
 
@@ -54,7 +55,7 @@ impl ReaderScene {
         let alloc = self.outside.alloc;
         let who = Who {
             role: Role::Writer,
-            name: word(alloc, "log")?,
+            name: Word::new(alloc, b"log")?,
         };
         let grown = self.outside.site.log_append(alloc, &who, path, bytes);
         Ok(grown.map_err(|_| "no growth")?)
@@ -75,11 +76,11 @@ impl ReaderScene {
                         write!(&mut ends, "{end} ")?;
                     }
                     if end != self.given.len() as u64 {
-                        return Err(Fail::from("the end of other bytes"));
+                        return plain(alloc, "the end of other bytes");
                     }
                 }
-                Ok(Step::AtEnd) if ends.as_str().is_empty() => return told(alloc, "-", &[]),
-                Ok(Step::AtEnd) => return told(alloc, ends.as_str().trim_end(), &[]),
+                Ok(Step::AtEnd) if ends.as_str().is_empty() => return plain(alloc, "-"),
+                Ok(Step::AtEnd) => return plain(alloc, ends.as_str().trim_end()),
                 other => return step_text(alloc, other),
             }
         }
@@ -110,22 +111,22 @@ impl ReaderScene {
         self.grows(path, log.get(place as usize..).ok_or("no such place")?)?;
         let second = self.reads(place)?;
         if self.given.as_slice() != log {
-            return told(alloc, "other bytes", &[]);
+            return plain(alloc, "other bytes");
         }
         Ok(format!(in alloc; "{first} then {second}")?)
     }
 
-    // `FROM TO AFTER KIND PARTS`: what is answered at each place from one to the other, if that is the
+    // `FROM TO AFTER KIND LOG`: what is answered at each place from one to the other, if that is the
     // same.
     fn halved(&mut self, parts: &Parts, text: &str) -> Result<String, Fail> {
         let alloc = self.outside.alloc;
-        let (from, rest) = parted(text);
-        let (to, rest) = parted(rest);
-        let (after, rest) = parted(rest);
-        let (kind, words) = parted(rest);
+        let mut words = text.split(' ');
+        let from: u64 = words.next().ok_or("no first place")?.parse()?;
+        let to: u64 = words.next().ok_or("no last place")?.parse()?;
+        let after = words.next().ok_or("no suffix")?;
+        let kind = words.next().ok_or("no kind")?;
+        let log = parts.bytes(alloc, words.next().ok_or("no log")?)?;
         let way = Way { kind, after };
-        let log = parts.bytes(alloc, words)?;
-        let (from, to): (u64, u64) = (from.parse()?, to.parse()?);
         let all = self.halves(parts, way, log.as_slice(), from)?;
         for place in from.saturating_add(1)..=to {
             let given = self.halves(parts, way, log.as_slice(), place)?;
@@ -154,7 +155,7 @@ impl Scene for ReaderScene {
     // - `open KIND OFFSET FIRST AFTER`: another reader begins there.
     // - `step`: what it gives.
     // - `reads`: up to which ends it gives pieces, and `given PARTS`: what bytes these are.
-    // - `halved FROM TO AFTER KIND PARTS`: up to which ends a log is read before and behind a place.
+    // - `halved FROM TO AFTER KIND LOG`: up to which ends a log is read before and behind a place.
     fn step(&mut self, parts: &Parts, verb: &str, text: &str) -> Result<Option<String>, Fail> {
         let alloc = self.outside.alloc;
         let given = match verb {
@@ -165,11 +166,11 @@ impl Scene for ReaderScene {
             "given" if parts.bytes(alloc, text)?.as_slice() != self.given.as_slice() => {
                 shown(alloc, self.given.as_slice())?
             }
-            "given" => told(alloc, "done", &[])?,
+            "given" => plain(alloc, "done")?,
             "open" => {
-                let (kind, place) = parted(text);
+                let (kind, place) = text.split_once(' ').ok_or("no place")?;
                 self.reader = Reader::at(alloc, "/a.log", kind, place)?;
-                told(alloc, "done", &[])?
+                plain(alloc, "done")?
             }
             _ => return Ok(None),
         };
