@@ -12,54 +12,47 @@ use std::test::Fail;
 pub(crate) struct Case<'a> {
     pub(crate) alloc: Global,
     pub(crate) parts: &'a Parts,
+    pub(crate) name: &'a str,
     pub(crate) setup: &'a str,
     pub(crate) middle: &'a str,
     pub(crate) last: &'a str,
 }
 
-/// The text without comments, each of its lines joined with the one on which it goes on.
+// The text without comments, each of its lines joined with the one on which it goes on.
 pub(crate) fn joined(alloc: Global, text: &str) -> Result<String, Fail> {
     let mut all = String::new(alloc);
     let mut goes_on = false;
     for line in text.lines() {
-        if goes_on {
-            goes_on = add_line(&mut all, line.trim_start())?;
-        } else if !line.starts_with("#") {
-            goes_on = add_line(&mut all, line)?;
+        if !goes_on && line.starts_with("#") {
+            continue;
+        }
+        let line = if goes_on { line.trim_start() } else { line };
+        goes_on = line.ends_with("\\");
+        all.push_str(line.strip_suffix("\\").unwrap_or(line))?;
+        if !goes_on {
+            all.push('\n')?;
         }
     }
     Ok(all)
 }
 
-// Whether the line goes on.
-fn add_line(all: &mut String, line: &str) -> Result<bool, Fail> {
-    match line.strip_suffix("\\") {
-        Some(line) => {
-            all.push_str(line)?;
-            Ok(true)
-        }
-        None => {
-            all.push_str(line)?;
-            all.push('\n')?;
-            Ok(false)
-        }
-    }
-}
-
-fn read_case<'a>(alloc: Global, parts: &'a Parts, lines: &'a str) -> Case<'a> {
+fn read_case<'a>(alloc: Global, parts: &'a Parts, text: &'a str) -> Case<'a> {
+    let end = text.find("\n").unwrap_or(text.len());
+    let lines = text.get(end..).unwrap_or("");
     let start = lines.find("\nharm ").unwrap_or(lines.len());
     let rest = lines.get(start..).unwrap_or("");
     let (middle, last) = rest.split_once("\nthen\n").unwrap_or((rest, ""));
     Case {
         alloc,
         parts,
+        name: text.get(..end).unwrap_or(""),
         setup: lines.get(..start).unwrap_or(""),
         middle,
         last,
     }
 }
 
-// Plays the case of this name and these lines, and adds a line if it fails.
+// Plays the case, whose first line is its name, and adds a line if it fails.
 fn play_named<S: Scene>(
     alloc: Global,
     parts: &Parts,
@@ -67,9 +60,7 @@ fn play_named<S: Scene>(
     report: &mut Report,
     failed: &mut String,
 ) -> Result<(), Fail> {
-    let end = text.find("\n").unwrap_or(text.len());
-    report.begin(text.get(..end).unwrap_or(""))?;
-    let case = read_case(alloc, parts, text.get(end..).unwrap_or(""));
+    let case = read_case(alloc, parts, text);
     match play_case::<S>(case, report) {
         Ok(true) => Ok(()),
         Ok(false) => Ok(report.add_to(failed)?),

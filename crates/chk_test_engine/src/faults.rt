@@ -51,7 +51,7 @@ fn number_of(case: Case<'_>, word: &str, other: u64) -> Result<u64, Fail> {
 
 // A scene behind the setup. None: a line isn't answered as it says.
 fn begin<S: Scene>(case: Case<'_>, report: &mut Report) -> Result<Option<Box<S>>, Fail> {
-    report.clear_harms();
+    report.begin(case.name)?;
     let mut scene = S::empty(case.alloc)?;
     if play_lines(&mut *scene, case.parts, case.setup, report)? {
         Ok(Some(scene))

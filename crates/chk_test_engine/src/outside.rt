@@ -86,33 +86,27 @@ impl Outside {
         }
     }
 
-    fn asked(&mut self, parts: &Parts, verb: &str, text: &str) -> Result<Option<String>, Fail> {
-        let alloc = self.alloc;
-        match verb {
-            "size" | "is" | "end" | "text" => {
-                Ok(Some(about_file(alloc, &self.site, parts, verb, text)?))
-            }
-            "count" | "calls" => Ok(Some(about_acts(alloc, self.acts(), verb, text)?)),
-            "total" => Ok(Some(about_acts(alloc, self.site.acts(), "count", "-")?)),
-            "appended" | "last" | "acts" => {
-                Ok(Some(about_acts(alloc, self.site.acts(), verb, text)?))
-            }
-            "send" => Ok(Some(self.send(parts, text)?)),
-            "got" => Ok(Some(self.got(text.parse()?)?)),
-            _ => Ok(None),
-        }
-    }
-
     /// What `VERB TEXT` answers. None: it is none of the verbs that all scenes have.
     pub fn step(&mut self, parts: &Parts, verb: &str, text: &str) -> Result<Option<String>, Fail> {
-        if let Some(given) = self.asked(parts, verb, text)? {
-            return Ok(Some(given));
-        }
-        if verb == "restart" {
-            self.restart();
-        } else if !happens(self.alloc, &mut self.next, parts, verb, text)? {
-            return Ok(None);
-        }
-        Ok(Some(plain(self.alloc, "done")?))
+        let alloc = self.alloc;
+        let given = match verb {
+            "size" | "is" | "end" | "text" => about_file(alloc, &self.site, parts, verb, text),
+            "count" | "calls" => about_acts(alloc, self.acts(), verb, text),
+            "total" => about_acts(alloc, self.site.acts(), "count", "-"),
+            "appended" | "last" | "acts" => about_acts(alloc, self.site.acts(), verb, text),
+            "send" => self.send(parts, text),
+            "got" => self.got(text.parse()?),
+            "restart" => {
+                self.restart();
+                plain(alloc, "done")
+            }
+            _ => {
+                if !happens(alloc, &mut self.next, parts, verb, text)? {
+                    return Ok(None);
+                }
+                plain(alloc, "done")
+            }
+        };
+        Ok(Some(given?))
     }
 }

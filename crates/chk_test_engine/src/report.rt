@@ -20,16 +20,12 @@ impl Report {
         }
     }
 
+    // The case begins, without harms.
     pub(crate) fn begin(&mut self, case: &str) -> Result<(), Fail> {
         self.case.clear();
         self.harms.clear();
         self.line.clear();
         Ok(self.case.push_str(case)?)
-    }
-
-    // The case begins again, without harms.
-    pub(crate) fn clear_harms(&mut self) {
-        self.harms.clear();
     }
 
     pub(crate) fn add_harm(&mut self, harm: &str, at: u64) -> Result<(), Fail> {

@@ -85,21 +85,6 @@ fn stop(
     Ok(())
 }
 
-// `PARTS|- [FILE,FILE..] N`.
-fn stop_with(
-    alloc: Global,
-    script: &mut Script,
-    parts: &Parts,
-    text: &str,
-    whole: bool,
-) -> Result<(), Fail> {
-    let (files, at) = text.rsplit_once(' ').ok_or("no number")?;
-    let (tail, names) = files.split_once(' ').unwrap_or((files, ""));
-    let tail = if tail == "-" { "\"\"" } else { tail };
-    let tail = parts.bytes(alloc, tail)?;
-    stop(alloc, script, at, names, tail.as_slice(), whole)
-}
-
 // `NAME TEXT` or `NAME PARTS`.
 fn add_so(
     alloc: Global,
@@ -116,16 +101,8 @@ fn add_so(
     add_file(alloc, script, name, bytes.as_slice(), verb != "unsynced")
 }
 
-// `N PATH TEXT`.
-fn grow_before(alloc: Global, script: &mut Script, text: &str) -> Result<(), Fail> {
-    let (before, text) = text.split_once(' ').ok_or("no path")?;
-    let (path, text) = text.split_once(' ').ok_or("no text")?;
-    grow(alloc, script, path, text_bytes(alloc, text)?.as_slice())?;
-    delay(script, before.parse()?);
-    Ok(())
-}
-
 // - `log PATH TEXT`: the log grows by this text.
+// - `grow N PATH TEXT`: it does so before the call of this number.
 // - `swell PATH PARTS`: it grows by these parts.
 // - `turn PATH SUFFIX`: it is rotated.
 // - `drop PATH SUFFIX`: this generation of it is deleted.
@@ -139,6 +116,12 @@ fn write_so(
     let (path, rest) = text.split_once(' ').ok_or("no text")?;
     match verb {
         "log" => grow(alloc, script, path, text_bytes(alloc, rest)?.as_slice()),
+        "grow" => {
+            let (log, text) = rest.split_once(' ').ok_or("no text")?;
+            grow(alloc, script, log, text_bytes(alloc, text)?.as_slice())?;
+            delay(script, path.parse()?);
+            Ok(())
+        }
         "swell" => grow(alloc, script, path, parts.bytes(alloc, rest)?.as_slice()),
         _ => turn(alloc, script, path, rest, verb == "drop"),
     }
@@ -162,7 +145,12 @@ fn harm_so(
             stop(alloc, script, at, names, b"", false)
         }
         "repeat" => Ok(script.again.push(text.parse()?)?),
-        _ => stop_with(alloc, script, parts, text, verb == "wholes"),
+        _ => {
+            let (files, at) = text.rsplit_once(' ').ok_or("no number")?;
+            let (tail, names) = files.split_once(' ').unwrap_or((files, ""));
+            let tail = parts.bytes(alloc, if tail == "-" { "" } else { tail })?;
+            stop(alloc, script, at, names, tail.as_slice(), verb == "wholes")
+        }
     }
 }
 
@@ -175,8 +163,7 @@ pub(crate) fn happens(
     text: &str,
 ) -> Result<bool, Fail> {
     match verb {
-        "log" | "swell" | "turn" | "drop" => write_so(alloc, script, parts, verb, text)?,
-        "grow" => grow_before(alloc, script, text)?,
+        "log" | "grow" | "swell" | "turn" | "drop" => write_so(alloc, script, parts, verb, text)?,
         "before" => delay(script, text.parse()?),
         "file" | "bytes" | "unsynced" => add_so(alloc, script, parts, verb, text)?,
         "fail" | "fails" | "stop" | "stops" | "wholes" | "repeat" => {
