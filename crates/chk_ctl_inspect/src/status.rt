@@ -1,0 +1,62 @@
+//! `status`: inspections of stores and agents, once or every so many seconds.
+
+use crate::looks::look_at_all;
+use crate::reports::report;
+use crate::running::{NO_MEMORY, OUTSIDE};
+use chk_bytes::NoMemory;
+use chk_ctl_line::{StatusWords, WordsFault, read_status};
+use chk_ctl_machine::{Machine, end_with};
+use chk_ctl_run::{Outcome, Usage};
+use std::alloc::Global;
+
+/// The greatest status of an inspection that is repeated.
+const FOUND: u8 = 1;
+
+/// Does what the words of `status` ask for, and says with which status the program ends.
+pub(crate) fn inspect_status<M: Machine>(alloc: Global, machine: &mut M, words: &[&str]) -> u8 {
+    match read_status(alloc, words) {
+        Ok(asked) => inspect_asked(alloc, machine, &asked),
+        Err(WordsFault::Usage) => end_with(machine, &Outcome::Usage(Usage::Status)),
+        Err(WordsFault::NoMemory) => NO_MEMORY,
+    }
+}
+
+fn inspect_asked<M: Machine>(alloc: Global, machine: &mut M, asked: &StatusWords<'_>) -> u8 {
+    if asked.asks_help() {
+        return print_usage(machine);
+    }
+    if machine.stand() {
+        inspect_again(alloc, machine, asked)
+    } else {
+        OUTSIDE
+    }
+}
+
+fn print_usage<M: Machine>(machine: &mut M) -> u8 {
+    if machine.print(Usage::Status.text()) {
+        0
+    } else {
+        OUTSIDE
+    }
+}
+
+/// One inspection, or one every so many seconds, up to one that fails.
+fn inspect_again<M: Machine>(alloc: Global, machine: &mut M, asked: &StatusWords<'_>) -> u8 {
+    let seconds = asked.seconds();
+    for _ in 0..u64::MAX {
+        let status = inspect_once(alloc, machine, asked);
+        if seconds == 0 || status > FOUND {
+            return status;
+        }
+        machine.sleep(seconds);
+    }
+    OUTSIDE
+}
+
+/// The status of one inspection is the greatest of all that is inspected.
+fn inspect_once<M: Machine>(alloc: Global, machine: &mut M, asked: &StatusWords<'_>) -> u8 {
+    match look_at_all(alloc, machine, asked) {
+        Ok(sight) => sight.status.max(report(alloc, machine, &sight, asked.form())),
+        Err(NoMemory) => NO_MEMORY,
+    }
+}
