@@ -1,5 +1,7 @@
 //! `audit`: it runs in the folder of the agents, so the store is named by its whole path.
 
+ghost use Rattle.chk_ctl_inspect.specs.Running.{Audits};
+
 use crate::running::{NO_MEMORY, OUTSIDE, run_in};
 use chk_ctl_machine::Machine;
 use std::alloc::Global;
@@ -10,7 +12,9 @@ pub(crate) fn inspect_audit<M: Machine>(
     machine: &mut M,
     agent: &str,
     store: &str,
-) -> u8 {
+) -> u8
+    ensures { Audits agent.now store.now result (M.told machine.old) (M.told machine.new) }
+{
     if !machine.stand() {
         return OUTSIDE;
     }

@@ -1,5 +1,9 @@
 //! Where a command runs, and whether it may take long.
 
+ghost use Rattle.std.specs.Prelude.{◌≡◌, map, option_map};
+ghost use Rattle.chk_ctl_line.specs.Commands.{asked_of};
+ghost use Rattle.chk_ctl_inspect.specs.Commands.{asks_progress, extent_of, folder_of, long_of};
+
 use chk_ctl_line::Command;
 use chk_ctl_machine::{Extent, LongInspection};
 
@@ -7,7 +11,9 @@ use chk_ctl_machine::{Extent, LongInspection};
 const PROGRESS: &str = "--progress";
 
 /// The folder in which the command runs, a store or that of agents, if it names one.
-pub(crate) fn folder_of<'a>(command: &Command<'a>) -> Option<&'a str> {
+pub(crate) fn folder_of<'a>(command: &Command<'a>) -> Option<&'a str>
+    ensures { option_map (λ f. f.now) result ≡ folder_of (asked_of command.now) }
+{
     match command {
         Command::Audit(words) => Some(words.agent),
         Command::Cat(words) => Some(words.store),
@@ -20,17 +26,25 @@ pub(crate) fn folder_of<'a>(command: &Command<'a>) -> Option<&'a str> {
 }
 
 /// What the command reads, if it may take long.
-pub(crate) fn long_of(command: &Command<'_>, words: &[&str]) -> Option<LongInspection> {
+pub(crate) fn long_of(command: &Command<'_>, words: &[&str]) -> Option<LongInspection>
+    ensures { result ≡ long_of (asked_of command.now) (map (λ w. w.now) words.now) }
+{
+    let asked = asks_progress(words);
     match extent_of(command) {
-        Some(extent) => Some(LongInspection {
-            extent,
-            asked: words.iter().any(|word| *word == PROGRESS),
-        }),
+        Some(extent) => Some(LongInspection { extent, asked }),
         None => None,
     }
 }
 
-fn extent_of(command: &Command<'_>) -> Option<Extent> {
+fn asks_progress(words: &[&str]) -> bool
+    ensures { result ≡ asks_progress (map (λ w. w.now) words.now) }
+{
+    words.iter().any(|word| *word == PROGRESS)
+}
+
+fn extent_of(command: &Command<'_>) -> Option<Extent>
+    ensures { result ≡ extent_of (asked_of command.now) }
+{
     match command {
         Command::Cat(words) => {
             if words.follow {

@@ -1,5 +1,8 @@
 //! What one inspection of all has seen.
 
+ghost use Rattle.std.specs.Prelude.{◌≡◌, [], ◌∷◌, OnOk};
+ghost use Rattle.chk_ctl_inspect.specs.Sights.{status_of, IsEmpty, Keeps};
+
 use chk_bytes::NoMemory;
 use chk_ctl_metrics::{NamedAgents, NamedDoor, NamedStore};
 use std::alloc::Global;
@@ -25,11 +28,15 @@ pub(crate) enum Seen<'a> {
     Door(NamedDoor),
     /// The inspection ended with this status, which was reported.
     Failed(u8),
+    /// Nothing was named.
+    Nothing,
 }
 
 impl<'a> Sight<'a> {
     /// Nothing was seen yet.
-    pub(crate) fn new(alloc: Global) -> Sight<'a> {
+    pub(crate) fn new(alloc: Global) -> Sight<'a>
+        ensures { IsEmpty result }
+    {
         Sight {
             agents: Vec::new(alloc),
             stores: Vec::new(alloc),
@@ -40,14 +47,16 @@ impl<'a> Sight<'a> {
     }
 
     /// Keeps what was seen in one turn.
-    pub(crate) fn keep(&mut self, seen: Seen<'a>) -> Result<(), NoMemory> {
+    pub(crate) fn keep(&mut self, seen: Seen<'a>) -> Result<(), NoMemory>
+        ensures { OnOk result (Keeps self.old (seen.entry ∷ []) self.new) }
+    {
         self.status = self.status.max(seen.status());
         match seen {
             Seen::Agents(agents) => self.agents.push(agents)?,
             Seen::Store(store) => self.stores.push(store)?,
             Seen::Absent(folder) => self.absent.push(folder)?,
             Seen::Door(door) => self.doors.push(door)?,
-            Seen::Failed(_) => {}
+            Seen::Failed(_) | Seen::Nothing => {}
         }
         Ok(())
     }
@@ -55,13 +64,16 @@ impl<'a> Sight<'a> {
 
 impl Seen<'_> {
     /// 0, or 1 if there is trouble, or how it failed.
-    fn status(&self) -> u8 {
+    fn status(&self) -> u8
+        ensures { result ≡ status_of self.now }
+    {
         match self {
             Seen::Agents(found) => found.agents.is_empty() as u8,
             Seen::Store(store) => store.seen.has_trouble() as u8,
             Seen::Absent(_) => 1,
             Seen::Door(door) => door.door.has_trouble() as u8,
             Seen::Failed(status) => *status,
+            Seen::Nothing => 0,
         }
     }
 }

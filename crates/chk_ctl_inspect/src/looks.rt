@@ -1,5 +1,12 @@
 //! The inspections that the words of `status` name, in turn.
 
+ghost use Rattle.std.specs.Prelude.{◌≡◌, map, option_map, IfOk, OnOk};
+ghost use Rattle.chk_ctl_line.specs.Status.{status_of};
+ghost use Rattle.chk_ctl_inspect.specs.Looking.{named, LooksAtAgentLocks, LooksAtAgents, LooksAtAll};
+ghost use Rattle.chk_ctl_inspect.specs.Looking.{LooksAtControl, LooksAtStore, LooksAtStoreLocks};
+ghost use Rattle.chk_ctl_inspect.specs.Looking.{LooksAtDoor, LooksAtEach};
+ghost use Rattle.chk_ctl_line.specs.Controls.{control_of};
+
 use crate::kept::{Seen, Sight};
 use crate::running::OUTSIDE;
 use chk_bytes::NoMemory;
@@ -16,12 +23,26 @@ pub(crate) fn look_at_all<'a, M: Machine>(
     alloc: Global,
     machine: &mut M,
     asked: &StatusWords<'a>,
-) -> Result<Sight<'a>, NoMemory> {
+) -> Result<Sight<'a>, NoMemory>
+    ensures { IfOk result (λ sight. LooksAtAll (status_of asked.now) sight (M.told machine.old)
+        (M.told machine.new)) }
+{
     let mut sight = Sight::new(alloc);
-    look_at_stores(alloc, machine, asked.stores().unwrap_or(&[]), &mut sight)?;
-    look_at_agents(alloc, machine, asked.agents().unwrap_or(&[]), &mut sight)?;
-    look_at_controls(alloc, machine, asked.controls().unwrap_or(&[]), &mut sight)?;
+    look_at_stores(alloc, machine, named(asked.stores()), &mut sight)?;
+    look_at_agents(alloc, machine, named(asked.agents()), &mut sight)?;
+    look_at_controls(alloc, machine, named(asked.controls()), &mut sight)?;
     Ok(sight)
+}
+
+/// What an option names.
+fn named<'b, 'a>(words: Option<&'b [&'a str]>) -> &'b [&'a str]
+    ensures { map (λ w. w.now) result.now
+        ≡ named (option_map (λ s. map (λ w. w.now) s.now) words.entry) }
+{
+    match words {
+        Some(words) => words,
+        None => &[],
+    }
 }
 
 fn look_at_stores<'a, M: Machine>(
@@ -29,7 +50,10 @@ fn look_at_stores<'a, M: Machine>(
     machine: &mut M,
     stores: &[&'a str],
     sight: &mut Sight<'a>,
-) -> Result<(), NoMemory> {
+) -> Result<(), NoMemory>
+    ensures { OnOk result (LooksAtEach LooksAtStore (map (λ w. w.now) stores.now) sight.old sight.new
+        (M.told machine.old) (M.told machine.new)) }
+{
     for store in stores {
         let seen = look_at_store(alloc, machine, store)?;
         sight.keep(seen)?;
@@ -40,10 +64,13 @@ fn look_at_stores<'a, M: Machine>(
 fn look_at_agents<'a, M: Machine>(
     alloc: Global,
     machine: &mut M,
-    agents: &[&'a str],
+    folders: &[&'a str],
     sight: &mut Sight<'a>,
-) -> Result<(), NoMemory> {
-    for folder in agents {
+) -> Result<(), NoMemory>
+    ensures { OnOk result (LooksAtEach LooksAtAgents (map (λ w. w.now) folders.now) sight.old
+        sight.new (M.told machine.old) (M.told machine.new)) }
+{
+    for folder in folders {
         let seen = look_at_folder(alloc, machine, folder)?;
         sight.keep(seen)?;
     }
@@ -53,14 +80,15 @@ fn look_at_agents<'a, M: Machine>(
 fn look_at_controls<'a, M: Machine>(
     alloc: Global,
     machine: &mut M,
-    controls: &[&'a str],
+    texts: &[&'a str],
     sight: &mut Sight<'a>,
-) -> Result<(), NoMemory> {
-    for text in controls {
-        if let Some(control) = control_in(text) {
-            let seen = look_at_control(alloc, machine, control)?;
-            sight.keep(seen)?;
-        }
+) -> Result<(), NoMemory>
+    ensures { OnOk result (LooksAtEach LooksAtControl (map (λ w. w.now) texts.now) sight.old
+        sight.new (M.told machine.old) (M.told machine.new)) }
+{
+    for text in texts {
+        let seen = look_at_control(alloc, machine, text)?;
+        sight.keep(seen)?;
     }
     Ok(())
 }
@@ -70,7 +98,10 @@ fn look_at_store<'a, M: Machine>(
     alloc: Global,
     machine: &mut M,
     store: &'a str,
-) -> Result<Seen<'a>, NoMemory> {
+) -> Result<Seen<'a>, NoMemory>
+    ensures { IfOk result (λ seen. LooksAtStore store.now seen (M.told machine.old)
+        (M.told machine.new)) }
+{
     if !machine.enter(store) {
         return Ok(Seen::Failed(OUTSIDE));
     }
@@ -88,7 +119,10 @@ fn look_at_store_locks<'a, M: Machine>(
     machine: &mut M,
     store: &str,
     seen: StoreSeen,
-) -> Result<Seen<'a>, NoMemory> {
+) -> Result<Seen<'a>, NoMemory>
+    ensures { IfOk result (λ of. LooksAtStoreLocks store.now seen of (M.told machine.old)
+        (M.told machine.new)) }
+{
     match see_locks(alloc, machine) {
         Ok(locks) => {
             let folder = String::from_str(alloc, store)?;
@@ -107,7 +141,10 @@ fn look_at_folder<'a, M: Machine>(
     alloc: Global,
     machine: &mut M,
     folder: &str,
-) -> Result<Seen<'a>, NoMemory> {
+) -> Result<Seen<'a>, NoMemory>
+    ensures { IfOk result (λ seen. LooksAtAgents folder.now seen (M.told machine.old)
+        (M.told machine.new)) }
+{
     if !machine.enter(folder) {
         return Ok(Seen::Failed(OUTSIDE));
     }
@@ -122,7 +159,10 @@ fn look_at_agent_locks<'a, M: Machine>(
     machine: &mut M,
     folder: &str,
     agents: Vec<AgentSeen>,
-) -> Result<Seen<'a>, NoMemory> {
+) -> Result<Seen<'a>, NoMemory>
+    ensures { IfOk result (λ seen. LooksAtAgentLocks folder.now agents.items seen
+        (M.told machine.old) (M.told machine.new)) }
+{
     match see_locks(alloc, machine) {
         Ok(locks) => {
             let folder = String::from_str(alloc, folder)?;
@@ -136,11 +176,29 @@ fn look_at_agent_locks<'a, M: Machine>(
     }
 }
 
+/// Asks the control port that the text names.
 fn look_at_control<'a, M: Machine>(
     alloc: Global,
     machine: &mut M,
+    text: &str,
+) -> Result<Seen<'a>, NoMemory>
+    ensures { IfOk result (λ seen. LooksAtControl text.now seen (M.told machine.old)
+        (M.told machine.new)) }
+{
+    match control_in(text) {
+        Some(control) => look_at_door(alloc, machine, control),
+        None => Ok(Seen::Nothing),
+    }
+}
+
+fn look_at_door<'a, M: Machine>(
+    alloc: Global,
+    machine: &mut M,
     control: ControlWords<'_>,
-) -> Result<Seen<'a>, NoMemory> {
+) -> Result<Seen<'a>, NoMemory>
+    ensures { IfOk result (λ seen. LooksAtDoor (control_of control.entry) seen (M.told machine.old)
+        (M.told machine.new)) }
+{
     let door = see_control(alloc, machine, control.address)?;
     let name = String::from_str(alloc, control.name)?;
     let address = String::from_str(alloc, control.address)?;
