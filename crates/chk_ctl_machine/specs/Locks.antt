@@ -24,6 +24,11 @@ use Rattle.chk_ctl_machine.specs.Lending.{Lent, SeenCause}
 abbrev pub listing : Asked
 listing = asked_by job ListNames (codes "locks" ∷ []) 0 0
 
+abbrev pub named_by : {V : Type 0} → Result V CallFault → (V → List (List ℕ))
+    → Result (List (List ℕ)) CallFault
+named_by (Ok names) items = Ok (items names)
+named_by (Err fault) items = Err fault
+
 abbrev pub listed_as : Result (List (List ℕ)) CallFault → Result (List (List ℕ)) Outcome
 listed_as (Ok names) = Ok names
 listed_as (Err call.NoMemory) = Err NoMemory

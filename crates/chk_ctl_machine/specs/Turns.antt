@@ -5,5 +5,5 @@ use Rattle.std.specs.Prelude.{List, [], ◌∷◌}
 pub data InTurn {A B T : Type 0} (Step : A → B → T → T → Type 0) : List A → List B → T → T
     → Type 0 where
   none_left : {now : T} → InTurn Step [] [] now now
-  one_more : {a : A} {b : B} {as : List A} {bs : List B} {old mid new : T} → Step a b old mid
-      → InTurn Step as bs mid new → InTurn Step (a ∷ as) (b ∷ bs) old new
+  one_more : {a : A} {b : B} {rest : List A} {found : List B} {old mid new : T} → Step a b old mid
+      → InTurn Step rest found mid new → InTurn Step (a ∷ rest) (b ∷ found) old new

@@ -3,6 +3,7 @@
 ghost use Rattle.std.specs.Prelude.{◌≡◌, Ok, Err, IfSome, MatchResult};
 ghost use Rattle.chk_site.specs.History.{Every};
 ghost use Rattle.chk_site.specs.Site.{Adds};
+ghost use Rattle.chk_world.specs.Sight.{job};
 ghost use Rattle.chk_world.specs.Names.{spell, CheckFile};
 ghost use Rattle.chk_ctl_machine.specs.Ages.{AsksAgeOf};
 ghost use Rattle.chk_ctl_machine.specs.Agents.{AgesAgent, FindsThem, IsOutcomeOf, ReadsAgents, SeesAgents};
@@ -14,7 +15,7 @@ use crate::machine::Machine;
 use chk_bytes::{NoMemory, Word};
 use chk_ctl_run::{Outcome, looker};
 use chk_ctl_status_rows::{AgentSeen, AgentsFault, find_agents};
-use chk_site::Site;
+use chk_site::{Site, Who};
 use std::alloc::Global;
 
 /// What is seen of the agents of the current folder, or how their inspection ends. How old their
@@ -50,11 +51,22 @@ fn find_by<S: Site>(alloc: Global, site: &mut S) -> Result<Vec<AgentSeen>, Outco
         (listed result (λ v. v.items)) }
 {
     match looker(alloc) {
-        Ok(who) => match find_agents(alloc, site, &who) {
-            Ok(agents) => Ok(agents),
-            Err(fault) => Err(outcome_of(alloc, fault)),
-        },
+        Ok(who) => found_by(alloc, site, &who),
         Err(NoMemory) => Err(Outcome::NoMemory),
+    }
+}
+
+/// The agents that the process finds.
+fn found_by<S: Site>(alloc: Global, site: &mut S, who: &Who) -> Result<Vec<AgentSeen>, Outcome>
+    requires job { who.now ≡ job }
+    ensures told { ReadsAgents (listed result (λ v. v.items)) (S.told site.old) (S.told site.new) }
+    ensures own { Adds (S.told site.old) (S.told site.new) (Every Inspects) }
+    ensures cause { SeenCause (S.fault_count site.old) (S.fault_count site.new)
+        (listed result (λ v. v.items)) }
+{
+    match find_agents(alloc, site, who) {
+        Ok(agents) => Ok(agents),
+        Err(fault) => Err(outcome_of(alloc, fault)),
     }
 }
 

@@ -6,7 +6,7 @@ ghost use Rattle.chk_site.specs.History.{Every};
 ghost use Rattle.chk_site.specs.Site.{Adds};
 ghost use Rattle.chk_ctl_machine.specs.Inspecting.{Inspects};
 ghost use Rattle.chk_ctl_machine.specs.Lending.{listed, Lent, SeenCause};
-ghost use Rattle.chk_ctl_machine.specs.Locks.{holder_at, holder_or, listed_as, major_of, minor_of};
+ghost use Rattle.chk_ctl_machine.specs.Locks.{holder_at, holder_or, listed_as, major_of, minor_of, named_by};
 ghost use Rattle.chk_ctl_machine.specs.Locks.{place_of, process_in, FindsHolder, FindsLocks};
 ghost use Rattle.chk_ctl_machine.specs.Locks.{IsHolder, ListsLocks, LooksAtLock, SeesLocks};
 ghost use Rattle.chk_ctl_machine.specs.Turns.{InTurn};
@@ -48,12 +48,22 @@ fn list_by<S: Site>(alloc: Global, site: &mut S) -> Result<Vec<Word>, Outcome>
         (listed result (λ v. v.items)) }
 {
     match looker(alloc) {
-        Ok(who) => match site.list(alloc, &who, "locks") {
-            Ok(names) => Ok(names),
-            Err(CallFault::NoMemory) => Err(Outcome::NoMemory),
-            Err(_) => Err(Outcome::Outside { call: Call::List }),
-        },
+        Ok(who) => {
+            let given = site.list(alloc, &who, "locks");
+            listed_as(given)
+        }
         Err(NoMemory) => Err(Outcome::NoMemory),
+    }
+}
+
+/// The names, or the outcome of a refusal.
+fn listed_as(given: Result<Vec<Word>, CallFault>) -> Result<Vec<Word>, Outcome>
+    ensures { listed result (λ v. v.items) ≡ listed_as (named_by given (λ v. v.items)) }
+{
+    match given {
+        Ok(names) => Ok(names),
+        Err(CallFault::NoMemory) => Err(Outcome::NoMemory),
+        Err(_) => Err(Outcome::Outside { call: Call::List }),
     }
 }
 

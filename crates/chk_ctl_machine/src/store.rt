@@ -1,13 +1,15 @@
 //! The inspection of a store.
 
-ghost use Rattle.std.specs.Prelude.{◌≡◌, Ok, Err};
+ghost use Rattle.std.specs.Prelude.{◌≡◌, IfErr};
 ghost use Rattle.chk_site.specs.History.{Every};
 ghost use Rattle.chk_site.specs.Site.{Adds};
 ghost use Rattle.chk_world.specs.Names.{spell, SinkFile};
 ghost use Rattle.chk_ctl_machine.specs.Ages.{AsksAgeOf};
 ghost use Rattle.chk_ctl_machine.specs.Inspecting.{Inspects};
 ghost use Rattle.chk_ctl_machine.specs.Lending.{Lent, SeenCause};
-ghost use Rattle.chk_ctl_machine.specs.Stores.{AgesSink, AgesStore, FindsStore, ReadsStore, SeesStore};
+ghost use Rattle.chk_ctl_machine.specs.Stores.{found_as, AgesSink, AgesStore, FindsStore};
+ghost use Rattle.chk_ctl_machine.specs.Stores.{ReadsStore, SeesStore};
+ghost use Rattle.chk_record_index.specs.Faults.{IsOfRead};
 ghost use Rattle.chk_ctl_machine.specs.Turns.{InTurn};
 
 use crate::machine::Machine;
@@ -15,6 +17,7 @@ use chk_bytes::{NoMemory, Stem};
 use chk_ctl_run::{Outcome, looker, outcome_of_job};
 use chk_ctl_status::{StoreSeen, find_store};
 use chk_ctl_status_rows::OpenSink;
+use chk_record_index::JobFault;
 use chk_site::Site;
 use std::alloc::Global;
 
@@ -44,11 +47,22 @@ fn find_by<S: Site>(alloc: Global, site: &mut S) -> Result<StoreSeen, Outcome>
     ensures cause { SeenCause (S.fault_count site.old) (S.fault_count site.new) result }
 {
     match looker(alloc) {
-        Ok(who) => match find_store(alloc, site, &who) {
-            Ok(seen) => Ok(seen),
-            Err(fault) => Err(outcome_of_job(fault)),
-        },
+        Ok(who) => {
+            let given = find_store(alloc, site, &who);
+            found_as(given)
+        }
         Err(NoMemory) => Err(Outcome::NoMemory),
+    }
+}
+
+/// A store, or the outcome of a refusal.
+fn found_as(given: Result<StoreSeen, JobFault>) -> Result<StoreSeen, Outcome>
+    requires { IfErr given IsOfRead }
+    ensures { result ≡ found_as given }
+{
+    match given {
+        Ok(seen) => Ok(seen),
+        Err(fault) => Err(outcome_of_job(fault)),
     }
 }
 
