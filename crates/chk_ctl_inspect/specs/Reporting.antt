@@ -36,45 +36,38 @@ pub data TellsAll : List (List ℕ) → Result (Unit {0}) OutsideFault → Optio
       {old new : Option History} → Tells job text (Err fault) old new
       → TellsAll (text ∷ texts) (Err fault) old new
 
--- tables
-abbrev pub agents_table : List (Bor Book) → NamedAgents → List (List ℕ)
-agents_table books n =
+-- of each thing, by the form
+abbrev pub agents_by : Form → List (Bor Book) → NamedAgents → List (List ℕ)
+agents_by Table books n =
     agents_text (string_bytes n.folder) n.agents.items books ∷ locks_text n.locks.items ∷ []
-
-abbrev pub absent_table : Bor (List ℕ) → List (List ℕ)
-absent_table folder = absent_text folder.now ∷ []
-
-abbrev pub store_table : NamedStore → List (List ℕ)
-store_table n = store_text (string_bytes n.folder) n.seen ∷ locks_text n.locks.items ∷ []
-
-abbrev pub door_table : NamedDoor → List (List ℕ)
-door_table n = door_text (string_bytes n.name) (string_bytes n.address) n.door ∷ []
-
--- lines
-abbrev pub agents_lines : List (Bor Book) → NamedAgents → List (List ℕ)
-agents_lines books n =
+agents_by form books n =
     agents_line (string_bytes n.folder) n.agents.items books
     ∷ locks_line (string_bytes n.folder) n.locks.items ∷ []
 
-abbrev pub absent_lines : Bor (List ℕ) → List (List ℕ)
-absent_lines folder = absent_line folder.now ∷ []
+abbrev pub absent_by : Form → List ℕ → List (List ℕ)
+absent_by Table folder = absent_text folder ∷ []
+absent_by form folder = absent_line folder ∷ []
 
-abbrev pub store_lines : NamedStore → List (List ℕ)
-store_lines n = line_text (string_bytes n.folder) n.seen ∷ []
+abbrev pub store_by : Form → NamedStore → List (List ℕ)
+store_by Table n = store_text (string_bytes n.folder) n.seen ∷ locks_text n.locks.items ∷ []
+store_by form n = line_text (string_bytes n.folder) n.seen ∷ []
 
-abbrev pub door_lines : NamedDoor → List (List ℕ)
-door_lines n = door_line (string_bytes n.name) (string_bytes n.address) n.door ∷ []
+abbrev pub door_by : Form → NamedDoor → List (List ℕ)
+door_by Table n = door_text (string_bytes n.name) (string_bytes n.address) n.door ∷ []
+door_by form n = door_line (string_bytes n.name) (string_bytes n.address) n.door ∷ []
 
 -- all of it; in lines folders that are no stores and control ports come first
 abbrev pub tables_of : List (Bor Book) → Sight → List (List ℕ)
 tables_of books s =
-    flat_map (agents_table books) s.agents.items ++ (flat_map absent_table s.absent.items
-    ++ (flat_map store_table s.stores.items ++ flat_map door_table s.doors.items))
+    flat_map (agents_by Table books) s.agents.items
+    ++ (flat_map (λ f. absent_by Table f.now) s.absent.items
+    ++ (flat_map (store_by Table) s.stores.items ++ flat_map (door_by Table) s.doors.items))
 
 abbrev pub lines_of : List (Bor Book) → Sight → List (List ℕ)
 lines_of books s =
-    flat_map absent_lines s.absent.items ++ (flat_map door_lines s.doors.items
-    ++ (flat_map store_lines s.stores.items ++ flat_map (agents_lines books) s.agents.items))
+    flat_map (λ f. absent_by Line f.now) s.absent.items
+    ++ (flat_map (door_by Line) s.doors.items
+    ++ (flat_map (store_by Line) s.stores.items ++ flat_map (agents_by Line books) s.agents.items))
 
 abbrev pub texts_of : Form → List (Bor Book) → Sight → List (List ℕ)
 texts_of Table books s = tables_of books s

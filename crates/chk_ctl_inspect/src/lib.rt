@@ -5,6 +5,7 @@ mod audit;
 mod command;
 mod kept;
 mod looks;
+mod reported;
 mod reports;
 mod running;
 mod status;

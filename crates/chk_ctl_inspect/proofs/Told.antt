@@ -1,0 +1,75 @@
+-- Texts that are printed in turn.
+use Rattle.std.proofs.Common.{◌≡◌, ◌∙◌, ap, sym, subst, refl, arith, ℕ, ◌+◌, ◌<◌, ◌≤◌, zero, suc, add-one}
+use Rattle.std.proofs.Common.{List, [], ◌∷◌, ◌++◌, append_assoc, length, take, drop, get_or, Option, Result, Ok, Err}
+use Rattle.std.specs.Prelude.{flat_map}
+use Rattle.std.proofs.lemmas.List.{take_all}
+use Rattle.chk_site.specs.declared.acts.OutsideFault.{OutsideFault}
+use Rattle.chk_site.specs.History.{History}
+use Rattle.chk_ctl_machine.proofs.Steps.{take_more}
+use Rattle.chk_ctl_inspect.specs.Reporting.{all_told, one_told, refused, TellsAll}
+
+-- some behind others
+pub tells_join : {xs ys : List (List ℕ)} {result : Result (Unit {0}) OutsideFault}
+    {old mid new : Option History} → TellsAll xs (Ok tt) old mid → TellsAll ys result mid new
+    → TellsAll (xs ++ ys) result old new
+tells_join all_told rest = rest
+tells_join (one_told first more) rest = one_told first (tells_join more rest)
+
+pub tells_stop : {xs : List (List ℕ)} (ys : List (List ℕ)) {fault : OutsideFault}
+    {old new : Option History} → TellsAll xs (Err fault) old new
+    → TellsAll (xs ++ ys) (Err fault) old new
+tells_stop ys (one_told first more) = one_told first (tells_stop ys more)
+tells_stop ys (refused told) = refused told
+
+flat_map_join : {A B : Type 0} (f : A → List B) (xs ys : List A)
+    → flat_map f (xs ++ ys) ≡ flat_map f xs ++ flat_map f ys
+flat_map_join f [] ys = refl
+flat_map_join f (x ∷ xs) ys =
+    ap (λ l. f x ++ l) (flat_map_join f xs ys)
+    ∙ sym (append_assoc (f x) (flat_map f xs) (flat_map f ys))
+
+append_none : {A : Type 0} (xs : List A) → xs ++ [] ≡ xs
+append_none [] = refl
+append_none (x ∷ xs) = ap (λ l. x ∷ l) (append_none xs)
+
+-- those of the first so many, and of one more
+texts_more : {A : Type 0} (f : A → List (List ℕ)) (xs : List A) (i : ℕ) (d : A) → i < length xs
+    → flat_map f (take (i + 1) xs) ≡ flat_map f (take i xs) ++ f (get_or xs i d)
+texts_more f xs i d low =
+    ap (flat_map f) (take_more xs i d low)
+    ∙ (flat_map_join f (take i xs) (get_or xs i d ∷ [])
+    ∙ ap (λ l. flat_map f (take i xs) ++ l) (append_none (f (get_or xs i d))))
+
+pub tells_more : {A : Type 0} (f : A → List (List ℕ)) (xs : List A) (i : ℕ) (d : A)
+    {old mid new : Option History} → i < length xs
+    → TellsAll (flat_map f (take i xs)) (Ok tt) old mid
+    → TellsAll (f (get_or xs i d)) (Ok tt) mid new
+    → TellsAll (flat_map f (take (i + 1) xs)) (Ok tt) old new
+tells_more f xs i d {old = old} {new = new} low before last =
+    subst (λ (texts : List (List ℕ)). TellsAll texts (Ok tt) old new)
+    (sym (texts_more f xs i d low)) (tells_join before last)
+
+-- the list is the first so many, and the rest
+split_at : {A : Type 0} (xs : List A) (i : ℕ) → take i xs ++ drop i xs ≡ xs
+split_at [] zero = refl
+split_at [] (suc i) = refl
+split_at (x ∷ xs) zero = refl
+split_at (x ∷ xs) (suc i) = ap (λ l. x ∷ l) (split_at xs i)
+
+pub tells_end : {A : Type 0} (f : A → List (List ℕ)) (xs : List A) (i : ℕ) (d : A)
+    {fault : OutsideFault} {old mid new : Option History} → i < length xs
+    → TellsAll (flat_map f (take i xs)) (Ok tt) old mid
+    → TellsAll (f (get_or xs i d)) (Err fault) mid new
+    → TellsAll (flat_map f xs) (Err fault) old new
+tells_end f xs i d {fault = fault} {old = old} {new = new} low before last =
+    subst (λ (texts : List (List ℕ)). TellsAll texts (Err fault) old new)
+    (ap (λ l. l ++ flat_map f (drop (i + 1) xs)) (sym (texts_more f xs i d low))
+    ∙ (sym (flat_map_join f (take (i + 1) xs) (drop (i + 1) xs))
+    ∙ ap (flat_map f) (split_at xs (i + 1))))
+    (tells_stop (flat_map f (drop (i + 1) xs)) (tells_join before last))
+
+pub tells_whole : {A : Type 0} (f : A → List (List ℕ)) (xs : List A) (i : ℕ)
+    {result : Result (Unit {0}) OutsideFault} {old new : Option History} → length xs ≤ i
+    → TellsAll (flat_map f (take i xs)) result old new → TellsAll (flat_map f xs) result old new
+tells_whole f xs i {result = result} {old = old} {new = new} high told =
+    subst (λ (l : List _). TellsAll (flat_map f l) result old new) (take_all i xs high) told
