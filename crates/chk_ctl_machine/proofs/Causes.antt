@@ -1,10 +1,27 @@
 -- What inspections of sites add, and their causes.
-use Rattle.std.proofs.Common.{ℕ, Option, Result, Ok, Err}
+use Rattle.std.proofs.Common.{◌≡◌, ℕ, Option, Result, Ok, Err, inl, inr, refl, subst}
+use Rattle.std.specs.Prelude.{codes}
 use Rattle.chk_site.specs.History.{Every, History, Step}
 use Rattle.chk_site.specs.Site.{Adds}
 use Rattle.chk_site.proofs.Runs.{adds_as, adds_none}
 use Rattle.std.proofs.Common.{List, [], ◌∷◌, ◌++◌}
-use Rattle.chk_ctl_machine.specs.Inspecting.{Inspects}
+use Rattle.chk_site.specs.declared.acts.ActAnswer.{ActAnswer}
+use Rattle.chk_site.specs.declared.acts.Call.TheVariants.{List as ListNames}
+use Rattle.chk_site.specs.declared.acts.CallFault.{CallFault}
+use Rattle.chk_site.specs.declared.acts.Who.{Who}
+use Rattle.chk_site.specs.Site.{answered, asked as asked_by, names_given, Calls}
+use Rattle.chk_replace.proofs.CallSteps.{call_each, OfOwn}
+use Rattle.chk_world.specs.JobSteps.{IsOf}
+use Rattle.chk_world.specs.Sight.{job}
+use Rattle.chk_ctl_status_rows.specs.declared.agents.AgentSeen.{AgentSeen}
+use Rattle.chk_ctl_status_rows.specs.declared.agents.AgentsFault.{AgentsFault}
+use Rattle.chk_ctl_status_rows.specs.Agents.{FindsAgents}
+use Rattle.chk_ctl_status_rows.specs.Sinks.{lists, LooksAround}
+use Rattle.chk_ctl_machine.specs.Ages.{asked, AsksAgeOf}
+use Rattle.chk_ctl_machine.specs.Deeds.{after, AsksAge, AsksNumbers, Told}
+use Rattle.chk_ctl_machine.specs.declared.machine.FileNumbers.{FileNumbers}
+use Rattle.chk_ctl_machine.specs.Inspecting.{looks, Inspects}
+use Rattle.chk_ctl_machine.specs.Locks.{listed, listed_as, listing, named_by, ListsLocks}
 
 every_as : (P Q : History → Step → Type 0)
     → ((before : History) → (step : Step) → P before step → Q before step)
@@ -21,3 +38,54 @@ own_as P weaker adds =
 
 pub own_none : (now : Option History) → Adds now now (Every Inspects)
 own_none now = adds_none now (Every Inspects) (λ history. tt)
+
+-- the age of the file of this path
+pub asked_of : (path text : List ℕ) (age : Option ℕ) (old new : Told) → text ≡ path
+    → new ≡ after (AsksAge text age) old → AsksAgeOf path age old new
+asked_of path text age old new is told =
+    asked (subst (λ (t : List ℕ). new ≡ after (AsksAge t age) old) is told)
+
+-- the agents that the job finds
+pub agents_as : {who : Who} {result : Result (List AgentSeen) AgentsFault}
+    {old new : Option History} → who ≡ job → FindsAgents who result old new
+    → FindsAgents job result old new
+agents_as {result = result} {old = old} {new = new} is finds =
+    subst (λ (w : Who). FindsAgents w result old new) is finds
+
+-- the job's listing of the locks
+list_own : OfOwn (IsOf LooksAround) listing
+list_own = λ before answer files logs running honest.
+    inr (record { own = refl; running = running; honest = honest; by = refl }, lists _)
+
+pub locks_own : {who : Who} {answer : Result ActAnswer CallFault} {old new : Option History}
+    → who ≡ job
+    → Adds old new (Calls (asked_by who ListNames (codes "locks" ∷ []) 0 0) answer)
+    → Adds old new (Every Inspects)
+locks_own {answer = answer} {old = old} {new = new} is told =
+    own_as (IsOf LooksAround) (λ before step x. looks x)
+    (adds_as (Every (IsOf LooksAround))
+    (subst (λ (w : Who). Adds old new (Calls (asked_by w ListNames (codes "locks" ∷ []) 0 0)
+    answer)) is told)
+    (λ steps history calls.
+    call_each (IsOf LooksAround) answer (λ before step theirs. inl theirs) list_own calls))
+
+pub locks_listed : (V : Type 0) (given : Result V CallFault) (items : V → List (List ℕ)) {who : Who}
+    {old new : Option History} → who ≡ job
+    → Adds old new (Calls (asked_by who ListNames (codes "locks" ∷ []) 0 0)
+    (answered (λ v. names_given (items v)) given))
+    → ListsLocks (listed_as (named_by given items)) old new
+locks_listed V (Ok v) items {old = old} {new = new} is told =
+    listed (Ok (items v))
+    (subst (λ (w : Who). Adds old new (Calls (asked_by w ListNames (codes "locks" ∷ []) 0 0)
+    (Ok (names_given (items v))))) is told)
+locks_listed V (Err fault) items {old = old} {new = new} is told =
+    listed (Err fault)
+    (subst (λ (w : Who). Adds old new (Calls (asked_by w ListNames (codes "locks" ∷ []) 0 0)
+    (Err fault))) is told)
+
+-- the numbers of the lock of this name
+pub numbered : (name text : List ℕ) (numbers : Option FileNumbers) (old new : Told)
+    → text ≡ codes "locks/" ++ name → new ≡ after (AsksNumbers text numbers) old
+    → new ≡ after (AsksNumbers (codes "locks/" ++ name) numbers) old
+numbered name text numbers old new is told =
+    subst (λ (t : List ℕ). new ≡ after (AsksNumbers t numbers) old) is told

@@ -87,8 +87,13 @@ fn outcome_of(alloc: Global, fault: AgentsFault) -> Outcome
 fn check_name(alloc: Global, source: &Word) -> Option<Word>
     ensures { IfSome result (λ name. name ≡ spell (CheckFile source.now)) }
 {
-    let text = format!(in alloc; "agents/{source}.check").ok()?;
-    Word::new(alloc, text.as_bytes()).ok()
+    match format!(in alloc; "agents/{source}.check") {
+        Ok(text) => match Word::new(alloc, text.as_bytes()) {
+            Ok(name) => Some(name),
+            Err(_) => None,
+        },
+        Err(_) => None,
+    }
 }
 
 fn age_agents<M: Machine>(alloc: Global, machine: &mut M, agents: &mut [AgentSeen])

@@ -1,6 +1,6 @@
 //! Which inspections may take long, and how their progress is reported.
 
-ghost use Rattle.std.specs.Prelude.{◌≡◌, map, option_map_or};
+ghost use Rattle.std.specs.Prelude.{◌≡◌, map};
 ghost use Rattle.chk_ctl_machine.specs.Extents.{folders_of, prints_of, shown_as, times_of};
 
 use chk_site_progress::Shows;
