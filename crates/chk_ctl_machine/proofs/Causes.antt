@@ -1,6 +1,6 @@
 -- What inspections of sites add, and their causes.
-use Rattle.std.proofs.Common.{◌≡◌, ℕ, Option, Result, Ok, Err, inl, inr, refl, subst}
-use Rattle.std.specs.Prelude.{codes}
+use Rattle.std.proofs.Common.{◌≡◌, ℕ, Option, Result, Ok, Err, inl, inr, refl, subst, sym, None}
+use Rattle.std.specs.Prelude.{codes, MatchResult}
 use Rattle.chk_site.specs.History.{Every, History, Step}
 use Rattle.chk_site.specs.Site.{Adds}
 use Rattle.chk_site.proofs.Runs.{adds_as, adds_none}
@@ -18,10 +18,17 @@ use Rattle.chk_ctl_status_rows.specs.declared.agents.AgentsFault.{AgentsFault}
 use Rattle.chk_ctl_status_rows.specs.Agents.{FindsAgents}
 use Rattle.chk_ctl_status_rows.specs.Sinks.{lists, LooksAround}
 use Rattle.chk_ctl_machine.specs.Ages.{asked, AsksAgeOf}
-use Rattle.chk_ctl_machine.specs.Deeds.{after, AsksAge, AsksNumbers, Told}
+use Rattle.chk_ctl_machine.specs.Deeds.{after, AsksAge, AsksLocks, AsksNumbers, Told}
 use Rattle.chk_ctl_machine.specs.declared.machine.FileNumbers.{FileNumbers}
 use Rattle.chk_ctl_machine.specs.Inspecting.{looks, Inspects}
+use Rattle.chk_ctl_machine.specs.Lending.{Lent}
+use Rattle.chk_ctl_machine.specs.Lending.{listed as found_list}
 use Rattle.chk_ctl_machine.specs.Locks.{listed, listed_as, listing, named_by, ListsLocks}
+use Rattle.chk_ctl_machine.specs.Locks.{seen, unkept, FindsLocks, LooksAtLock, SeesLocks}
+use Rattle.chk_ctl_machine.specs.Turns.{InTurn}
+use Rattle.chk_ctl_run.specs.declared.outcome.Outcome.{Outcome}
+use Rattle.chk_ctl_run.specs.declared.outcome.Outcome.TheVariants.{NoMemory}
+use Rattle.chk_ctl_status.specs.declared.locks.Lock.{Lock}
 
 every_as : (P Q : History → Step → Type 0)
     → ((before : History) → (step : Step) → P before step → Q before step)
@@ -89,3 +96,18 @@ pub numbered : (name text : List ℕ) (numbers : Option FileNumbers) (old new : 
     → new ≡ after (AsksNumbers (codes "locks/" ++ name) numbers) old
 numbered name text numbers old new is told =
     subst (λ (t : List ℕ). new ≡ after (AsksNumbers t numbers) old) is told
+
+-- locks of which the holders were looked for
+pub locks_seen : (V : Type 0) (result : Result V Outcome) (items : V → List Lock)
+    (held : Option (List ℕ)) {names given : List (List ℕ)} {old mid next new : Told}
+    → given ≡ names → Lent None (FindsLocks (Ok names)) old mid
+    → next ≡ after (AsksLocks held) mid
+    → MatchResult result (λ v. InTurn (LooksAtLock held) given (items v) next new)
+    (λ outcome. outcome ≡ NoMemory)
+    → SeesLocks (found_list result items) old new
+locks_seen V (Ok v) items held {names = names} {next = next} {new = new} same lent is turns =
+    seen lent
+    (subst (λ (t : Told). InTurn (LooksAtLock held) names (items v) t new) is
+    (subst (λ (l : List (List ℕ)). InTurn (LooksAtLock held) l (items v) next new) same turns))
+locks_seen V (Err outcome) items held {old = old} {new = new} same lent is memory =
+    subst (λ (o : Outcome). SeesLocks (Err o) old new) (sym memory) (unkept lent)

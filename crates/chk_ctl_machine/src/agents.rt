@@ -26,10 +26,7 @@ pub fn see_agents<M: Machine>(alloc: Global, machine: &mut M) -> Result<Vec<Agen
         (λ outcome. SeesAgents (Err outcome) (M.told machine.old) (M.told machine.new)) }
 {
     match find_there(alloc, machine) {
-        Ok(mut agents) => {
-            age_agents(alloc, machine, agents.as_mut_slice());
-            Ok(agents)
-        }
+        Ok(agents) => Ok(with_ages(alloc, machine, agents)),
         Err(outcome) => Err(outcome),
     }
 }
@@ -94,6 +91,17 @@ fn check_name(alloc: Global, source: &Word) -> Option<Word>
         },
         Err(_) => None,
     }
+}
+
+fn with_ages<M: Machine>(
+    alloc: Global,
+    machine: &mut M,
+    mut agents: Vec<AgentSeen>,
+) -> Vec<AgentSeen>
+    ensures { InTurn AgesAgent agents.items result.items (M.told machine.old) (M.told machine.new) }
+{
+    age_agents(alloc, machine, agents.as_mut_slice());
+    agents
 }
 
 fn age_agents<M: Machine>(alloc: Global, machine: &mut M, agents: &mut [AgentSeen])
