@@ -4,9 +4,25 @@ use Rattle.std.proofs.Common.{List, [], ◌∷◌, ◌++◌, append_assoc, lengt
 use Rattle.std.specs.Prelude.{flat_map}
 use Rattle.std.proofs.lemmas.List.{take_all}
 use Rattle.chk_site.specs.declared.acts.OutsideFault.{OutsideFault}
+use Rattle.chk_site.specs.declared.acts.Who.{Who}
 use Rattle.chk_site.specs.History.{History}
+use Rattle.chk_world.specs.Sight.{job}
+use Rattle.chk_ctl_status.specs.Telling.{Tells}
 use Rattle.chk_ctl_machine.proofs.Steps.{take_more}
 use Rattle.chk_ctl_inspect.specs.Reporting.{all_told, one_told, refused, TellsAll}
+
+-- one text, by the job
+pub tells_as : {who : Who} {text : List ℕ} {result : Result (Unit {0}) OutsideFault}
+    {old new : Option History} → who ≡ job → Tells who text result old new
+    → Tells job text result old new
+tells_as {text = text} {result = result} {old = old} {new = new} is tells =
+    subst (λ (w : Who). Tells w text result old new) is tells
+
+pub tells_one : {who : Who} {text : List ℕ} (result : Result (Unit {0}) OutsideFault)
+    {old new : Option History} → who ≡ job → Tells who text result old new
+    → TellsAll (text ∷ []) result old new
+tells_one (Ok value) is tells = one_told (tells_as is tells) all_told
+tells_one (Err fault) is tells = refused (tells_as is tells)
 
 -- some behind others
 pub tells_join : {xs ys : List (List ℕ)} {result : Result (Unit {0}) OutsideFault}
@@ -19,7 +35,7 @@ pub tells_stop : {xs : List (List ℕ)} (ys : List (List ℕ)) {fault : OutsideF
     {old new : Option History} → TellsAll xs (Err fault) old new
     → TellsAll (xs ++ ys) (Err fault) old new
 tells_stop ys (one_told first more) = one_told first (tells_stop ys more)
-tells_stop ys (refused told) = refused told
+tells_stop ys (refused said) = refused said
 
 flat_map_join : {A B : Type 0} (f : A → List B) (xs ys : List A)
     → flat_map f (xs ++ ys) ≡ flat_map f xs ++ flat_map f ys

@@ -28,7 +28,7 @@ pub data Fails (outcome : Outcome) : Seen → Told → Told → Type 0 where
 
 -- the locks of a store that was read
 pub data LooksAtStoreLocks (folder : List ℕ) (s : StoreSeen) : Seen → Told → Told → Type 0 where
-  unlocked : {outcome : Outcome} {seen : Seen} {old mid new : Told}
+  store_unlocked : {outcome : Outcome} {seen : Seen} {old mid new : Told}
       → SeesLocks (Err outcome) old mid → Fails outcome seen mid new
       → LooksAtStoreLocks folder s seen old new
   store_seen : {n : NamedStore} {old new : Told} → SeesLocks (Ok n.locks.items) old new
@@ -37,16 +37,16 @@ pub data LooksAtStoreLocks (folder : List ℕ) (s : StoreSeen) : Seen → Told �
 
 -- a folder is entered; if it is a store, it is read, and then its locks
 pub data LooksAtStore (folder : List ℕ) : Seen → Told → Told → Type 0 where
-  unentered : {old new : Told} → new ≡ after (Enters folder false) old
+  store_unentered : {old new : Told} → new ≡ after (Enters folder false) old
       → LooksAtStore folder (Failed 3) old new
   no_store : {text : Bor (List ℕ)} {old mid new : Told} → text.now ≡ folder
       → mid ≡ after (Enters folder true) old → new ≡ after (AsksStore false) mid
       → LooksAtStore folder (Absent text) old new
-  unread : {outcome : Outcome} {seen : Seen} {old mid next last new : Told}
+  store_unread : {outcome : Outcome} {seen : Seen} {old mid next last new : Told}
       → mid ≡ after (Enters folder true) old → next ≡ after (AsksStore true) mid
       → SeesStore (Err outcome) next last → Fails outcome seen last new
       → LooksAtStore folder seen old new
-  read : {s : StoreSeen} {seen : Seen} {old mid next last new : Told}
+  store_read : {s : StoreSeen} {seen : Seen} {old mid next last new : Told}
       → mid ≡ after (Enters folder true) old → next ≡ after (AsksStore true) mid
       → SeesStore (Ok s) next last → LooksAtStoreLocks folder s seen last new
       → LooksAtStore folder seen old new
@@ -54,7 +54,7 @@ pub data LooksAtStore (folder : List ℕ) : Seen → Told → Told → Type 0 wh
 -- the locks of a folder whose agents were read
 pub data LooksAtAgentLocks (folder : List ℕ) (agents : List AgentSeen) : Seen → Told → Told
     → Type 0 where
-  unlocked : {outcome : Outcome} {seen : Seen} {old mid new : Told}
+  agents_unlocked : {outcome : Outcome} {seen : Seen} {old mid new : Told}
       → SeesLocks (Err outcome) old mid → Fails outcome seen mid new
       → LooksAtAgentLocks folder agents seen old new
   agents_seen : {n : NamedAgents} {old new : Told} → SeesLocks (Ok n.locks.items) old new
@@ -63,12 +63,12 @@ pub data LooksAtAgentLocks (folder : List ℕ) (agents : List AgentSeen) : Seen 
 
 -- a folder is entered, its agents are read, and then its locks
 pub data LooksAtAgents (folder : List ℕ) : Seen → Told → Told → Type 0 where
-  unentered : {old new : Told} → new ≡ after (Enters folder false) old
+  agents_unentered : {old new : Told} → new ≡ after (Enters folder false) old
       → LooksAtAgents folder (Failed 3) old new
-  unread : {outcome : Outcome} {seen : Seen} {old mid last new : Told}
+  agents_unread : {outcome : Outcome} {seen : Seen} {old mid last new : Told}
       → mid ≡ after (Enters folder true) old → SeesAgents (Err outcome) mid last
       → Fails outcome seen last new → LooksAtAgents folder seen old new
-  read : {agents : List AgentSeen} {seen : Seen} {old mid last new : Told}
+  agents_read : {agents : List AgentSeen} {seen : Seen} {old mid last new : Told}
       → mid ≡ after (Enters folder true) old → SeesAgents (Ok agents) mid last
       → LooksAtAgentLocks folder agents seen last new → LooksAtAgents folder seen old new
 

@@ -1,5 +1,5 @@
 -- What is printed of all that was seen.
-use Rattle.std.specs.Prelude.{◌≡◌, ℕ, List, [], ◌∷◌, ◌++◌, map, flat_map, string_bytes, Option, None, Result, Ok, Err}
+use Rattle.std.specs.Prelude.{◌≡◌, ℕ, Bool, true, false, List, [], ◌∷◌, ◌++◌, map, flat_map, string_bytes, Option, None, Result, Ok, Err}
 use Rattle.std.specs.Borrow.{Bor}
 use Rattle.chk_site.specs.declared.acts.OutsideFault.{OutsideFault}
 use Rattle.chk_site.specs.declared.acts.OutsideFault.TheVariants.{NoMemory as no_memory}
@@ -36,38 +36,39 @@ pub data TellsAll : List (List ℕ) → Result (Unit {0}) OutsideFault → Optio
       {old new : Option History} → Tells job text (Err fault) old new
       → TellsAll (text ∷ texts) (Err fault) old new
 
--- of each thing, by the form
-abbrev pub agents_by : Form → List (Bor Book) → NamedAgents → List (List ℕ)
-agents_by Table books n =
+-- of each thing, in tables or in lines
+abbrev pub agents_by : Bool → List (Bor Book) → NamedAgents → List (List ℕ)
+agents_by true books n =
     agents_text (string_bytes n.folder) n.agents.items books ∷ locks_text n.locks.items ∷ []
-agents_by form books n =
+agents_by false books n =
     agents_line (string_bytes n.folder) n.agents.items books
     ∷ locks_line (string_bytes n.folder) n.locks.items ∷ []
 
-abbrev pub absent_by : Form → List ℕ → List (List ℕ)
-absent_by Table folder = absent_text folder ∷ []
-absent_by form folder = absent_line folder ∷ []
+abbrev pub absent_by : Bool → List ℕ → List (List ℕ)
+absent_by true folder = absent_text folder ∷ []
+absent_by false folder = absent_line folder ∷ []
 
-abbrev pub store_by : Form → NamedStore → List (List ℕ)
-store_by Table n = store_text (string_bytes n.folder) n.seen ∷ locks_text n.locks.items ∷ []
-store_by form n = line_text (string_bytes n.folder) n.seen ∷ []
+abbrev pub store_by : Bool → NamedStore → List (List ℕ)
+store_by true n = store_text (string_bytes n.folder) n.seen ∷ locks_text n.locks.items ∷ []
+store_by false n = line_text (string_bytes n.folder) n.seen ∷ []
 
-abbrev pub door_by : Form → NamedDoor → List (List ℕ)
-door_by Table n = door_text (string_bytes n.name) (string_bytes n.address) n.door ∷ []
-door_by form n = door_line (string_bytes n.name) (string_bytes n.address) n.door ∷ []
+abbrev pub door_by : Bool → NamedDoor → List (List ℕ)
+door_by true n = door_text (string_bytes n.name) (string_bytes n.address) n.door ∷ []
+door_by false n = door_line (string_bytes n.name) (string_bytes n.address) n.door ∷ []
 
 -- all of it; in lines folders that are no stores and control ports come first
 abbrev pub tables_of : List (Bor Book) → Sight → List (List ℕ)
 tables_of books s =
-    flat_map (agents_by Table books) s.agents.items
-    ++ (flat_map (λ f. absent_by Table f.now) s.absent.items
-    ++ (flat_map (store_by Table) s.stores.items ++ flat_map (door_by Table) s.doors.items))
+    (flat_map (agents_by true books) s.agents.items
+    ++ flat_map (λ f. absent_by true f.now) s.absent.items)
+    ++ (flat_map (store_by true) s.stores.items ++ flat_map (door_by true) s.doors.items)
 
 abbrev pub lines_of : List (Bor Book) → Sight → List (List ℕ)
 lines_of books s =
-    flat_map (λ f. absent_by Line f.now) s.absent.items
-    ++ (flat_map (door_by Line) s.doors.items
-    ++ (flat_map (store_by Line) s.stores.items ++ flat_map (agents_by Line books) s.agents.items))
+    (flat_map (λ f. absent_by false f.now) s.absent.items
+    ++ flat_map (door_by false) s.doors.items)
+    ++ (flat_map (store_by false) s.stores.items
+    ++ flat_map (agents_by false books) s.agents.items)
 
 abbrev pub texts_of : Form → List (Bor Book) → Sight → List (List ℕ)
 texts_of Table books s = tables_of books s

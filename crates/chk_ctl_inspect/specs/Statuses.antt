@@ -28,7 +28,7 @@ pub data Repeats (s : Status) : ℕ → ℕ → Told → Told → Type 0 where
 
 -- its usage is printed if that is asked for, else it is inspected from where the user stands
 pub data InspectsAsked (s : Status) : ℕ → Told → Told → Type 0 where
-  helped : {is : Bool} {old new : Told} → s.help ≡ true
+  helped : {old new : Told} (is : Bool) → s.help ≡ true
       → new ≡ after (Prints (usage_text status_usage) is) old
       → InspectsAsked s (if is then 0 else 3) old new
   unfound : {old new : Told} → s.help ≡ false → new ≡ after (Stands false) old

@@ -1,8 +1,9 @@
 //! Where a command runs, and whether it may take long.
 
-ghost use Rattle.std.specs.Prelude.{◌≡◌, map, option_map};
+ghost use Rattle.std.specs.Prelude.{◌≡◌, bytes_eq, codes, map, option_map};
+ghost use Rattle.std.specs.List.{list_any};
 ghost use Rattle.chk_ctl_line.specs.Commands.{asked_of};
-ghost use Rattle.chk_ctl_inspect.specs.Commands.{asks_progress, extent_of, folder_of, long_of};
+ghost use Rattle.chk_ctl_inspect.specs.Commands.{extent_of, folder_of, long_of};
 
 use chk_ctl_line::Command;
 use chk_ctl_machine::{Extent, LongInspection};
@@ -37,7 +38,7 @@ pub(crate) fn long_of(command: &Command<'_>, words: &[&str]) -> Option<LongInspe
 }
 
 fn asks_progress(words: &[&str]) -> bool
-    ensures { result ≡ asks_progress (map (λ w. w.now) words.now) }
+    ensures { result ≡ list_any (λ w. bytes_eq w.now (codes "--progress")) words.now }
 {
     words.iter().any(|word| *word == PROGRESS)
 }

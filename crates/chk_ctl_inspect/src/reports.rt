@@ -9,7 +9,7 @@ ghost use Rattle.chk_ctl_inspect.specs.Reporting.{TellsAll, TellsSight};
 ghost use Rattle.chk_ctl_machine.specs.Inspecting.{Inspects};
 
 use crate::kept::Sight;
-use crate::reported::report_each;
+use crate::reported::report_both;
 use chk_book::Book;
 use chk_bytes::NoMemory;
 use chk_ctl_line::Form;
@@ -124,11 +124,16 @@ fn report_tables<S: Site>(
     requires job { who.now ≡ job }
     ensures { TellsAll (tables_of books.now sight.now) result (S.told site.old) (S.told site.new) }
 {
-    let form = Form::Table;
-    report_each(alloc, site, who, form, books, sight.agents.as_slice())?;
-    report_each(alloc, site, who, form, books, sight.absent.as_slice())?;
-    report_each(alloc, site, who, form, books, sight.stores.as_slice())?;
-    report_each(alloc, site, who, form, books, sight.doors.as_slice())
+    let agents = sight.agents.as_slice();
+    let absent = sight.absent.as_slice();
+    match report_both(alloc, site, who, true, books, agents, absent) {
+        Ok(()) => {
+            let stores = sight.stores.as_slice();
+            let doors = sight.doors.as_slice();
+            report_both(alloc, site, who, true, books, stores, doors)
+        }
+        Err(fault) => Err(fault),
+    }
 }
 
 /// Folders that are no stores and control ports come first, since Nagios shows the first line.
@@ -142,9 +147,14 @@ fn report_lines<S: Site>(
     requires job { who.now ≡ job }
     ensures { TellsAll (lines_of books.now sight.now) result (S.told site.old) (S.told site.new) }
 {
-    let form = Form::Line;
-    report_each(alloc, site, who, form, books, sight.absent.as_slice())?;
-    report_each(alloc, site, who, form, books, sight.doors.as_slice())?;
-    report_each(alloc, site, who, form, books, sight.stores.as_slice())?;
-    report_each(alloc, site, who, form, books, sight.agents.as_slice())
+    let absent = sight.absent.as_slice();
+    let doors = sight.doors.as_slice();
+    match report_both(alloc, site, who, false, books, absent, doors) {
+        Ok(()) => {
+            let stores = sight.stores.as_slice();
+            let agents = sight.agents.as_slice();
+            report_both(alloc, site, who, false, books, stores, agents)
+        }
+        Err(fault) => Err(fault),
+    }
 }
