@@ -1,5 +1,5 @@
 -- What is kept of inspections, in turn.
-use Rattle.std.proofs.Common.{◌≡◌, ◌∙◌, ap, sym, subst, refl, ℕ, ◌+◌, ◌<◌, ◌≤◌, length, take, get_or, map}
+use Rattle.std.proofs.Common.{◌≡◌, ◌∙◌, ap, sym, subst, refl, ℕ, ◌+◌, ◌<◌, ◌≤◌, length, take, get_or, map, Option}
 use Rattle.std.proofs.Common.{List, [], ◌∷◌, ◌++◌, append_assoc, fold}
 use Rattle.std.specs.Prelude.{flat_map, max}
 use Rattle.std.specs.Borrow.{Bor}
@@ -9,7 +9,7 @@ use Rattle.chk_ctl_machine.specs.Turns.{none_left, InTurn}
 use Rattle.chk_ctl_machine.proofs.Steps.{turn_by}
 use Rattle.chk_ctl_inspect.specs.declared.kept.Seen.{Seen}
 use Rattle.chk_ctl_inspect.specs.declared.kept.Sight.{Sight}
-use Rattle.chk_ctl_inspect.specs.Looking.{LooksAtEach}
+use Rattle.chk_ctl_inspect.specs.Looking.{named, LooksAtEach}
 use Rattle.chk_ctl_inspect.specs.Sights.{absent_of, agents_of, doors_of, greatest, status_of, stores_of, Keeps}
 
 append_none : {A : Type 0} (xs : List A) → xs ++ [] ≡ xs
@@ -81,3 +81,12 @@ module _ (Looks : List ℕ → Seen → Told → Told → Type 0) (words : List 
   each_all i from to old new high all =
       subst (λ (l : List (Bor (List ℕ))). LooksAtEach Looks (map (λ w. w.now) l) from to old new)
       (take_all i words high) all
+
+-- by the words that an option has
+pub each_as : (Looks : List ℕ → Seen → Told → Told → Type 0) (given : List (List ℕ))
+    (option asked : Option (List (List ℕ))) (from to : Sight) (old new : Told)
+    → given ≡ named option → option ≡ asked → LooksAtEach Looks given from to old new
+    → LooksAtEach Looks (named asked) from to old new
+each_as Looks given option asked from to old new is same each =
+    subst (λ (words : List (List ℕ)). LooksAtEach Looks words from to old new)
+    (is ∙ ap named same) each

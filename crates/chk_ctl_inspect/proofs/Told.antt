@@ -8,7 +8,20 @@ use Rattle.chk_site.specs.declared.acts.Who.{Who}
 use Rattle.chk_site.specs.History.{History}
 use Rattle.chk_world.specs.Sight.{job}
 use Rattle.chk_ctl_status.specs.Telling.{Tells}
+use Rattle.chk_site.specs.declared.acts.ActAnswer.{ActAnswer}
+use Rattle.chk_site.specs.declared.acts.CallFault.{CallFault}
+use Rattle.chk_site.specs.History.{Every}
+use Rattle.chk_site.specs.Site.{answered, plain, Adds, Calls}
+use Rattle.chk_site.proofs.Runs.{adds_as, adds_then, every_join}
+use Rattle.chk_replace.proofs.CallSteps.{call_each, OfOwn}
+use Rattle.chk_world.specs.JobSteps.{IsOf}
+use Rattle.chk_cmd_output.specs.Printing.{printing}
+use Rattle.chk_ctl_status.specs.Telling as telling
+use Rattle.chk_ctl_status_rows.specs.Sinks.{says, LooksAround}
+use Rattle.chk_ctl_machine.specs.Inspecting.{looks, Inspects}
+use Rattle.chk_ctl_machine.proofs.Causes.{own_as, own_none}
 use Rattle.chk_ctl_machine.proofs.Steps.{take_more}
+use Rattle.std.proofs.Common.{inl, inr}
 use Rattle.chk_ctl_inspect.specs.Reporting.{all_told, one_told, refused, TellsAll}
 
 -- one text, by the job
@@ -89,3 +102,30 @@ pub tells_whole : {A : Type 0} (f : A → List (List ℕ)) (xs : List A) (i : �
     → TellsAll (flat_map f (take i xs)) result old new → TellsAll (flat_map f xs) result old new
 tells_whole f xs i {result = result} {old = old} {new = new} high told =
     subst (λ (l : List _). TellsAll (flat_map f l) result old new) (take_all i xs high) told
+
+-- whoever prints makes no other calls
+say_own : (text : List ℕ) → OfOwn (IsOf LooksAround) (printing job text)
+say_own text = λ before answer files logs running honest.
+    inr (record { own = refl; running = running; honest = honest; by = refl }, says _)
+
+said_own : (text : List ℕ) (answer : Result ActAnswer CallFault) {old new : Option History}
+    → Adds old new (Calls (printing job text) answer) → Adds old new (Every Inspects)
+said_own text answer told =
+    own_as (IsOf LooksAround) (λ before step x. looks x)
+    (adds_as (Every (IsOf LooksAround)) told
+    (λ steps history calls.
+    call_each (IsOf LooksAround) answer (λ before step theirs. inl theirs) (say_own text) calls))
+
+tell_own : {text : List ℕ} {result : Result (Unit {0}) OutsideFault} {old new : Option History}
+    → Tells job text result old new → Adds old new (Every Inspects)
+tell_own (telling.untold {now = now}) = own_none now
+tell_own {text = text} (telling.told told) = said_own text _ told
+tell_own {text = text} (telling.ended given ends told) = said_own text _ told
+
+pub tells_own : {texts : List (List ℕ)} {result : Result (Unit {0}) OutsideFault}
+    {old new : Option History} → TellsAll texts result old new → Adds old new (Every Inspects)
+tells_own (all_told {now = now}) = own_none now
+tells_own (one_told first more) =
+    adds_then (Every Inspects) (tell_own first) (tells_own more)
+    (λ a b history p q. every_join Inspects b a history p q)
+tells_own (refused said) = tell_own said
