@@ -22,7 +22,10 @@ use Rattle.chk_ctl_machine.specs.Inspecting.{looks, Inspects}
 use Rattle.chk_ctl_machine.proofs.Causes.{own_as, own_none}
 use Rattle.chk_ctl_machine.proofs.Steps.{take_more}
 use Rattle.std.proofs.Common.{inl, inr}
-use Rattle.chk_ctl_inspect.specs.Reporting.{all_told, one_told, refused, TellsAll}
+use Rattle.chk_ctl_line.specs.declared.status.Form.{Form}
+use Rattle.chk_ctl_inspect.specs.declared.kept.Sight.{Sight}
+use Rattle.chk_ctl_inspect.specs.Reporting.{all_told, one_told, refused, told as said, unbegun}
+use Rattle.chk_ctl_inspect.specs.Reporting.{TellsAll, TellsSight}
 
 -- one text, by the job
 pub tells_as : {who : Who} {text : List ℕ} {result : Result (Unit {0}) OutsideFault}
@@ -48,7 +51,7 @@ pub tells_stop : {xs : List (List ℕ)} (ys : List (List ℕ)) {fault : OutsideF
     {old new : Option History} → TellsAll xs (Err fault) old new
     → TellsAll (xs ++ ys) (Err fault) old new
 tells_stop ys (one_told first more) = one_told first (tells_stop ys more)
-tells_stop ys (refused said) = refused said
+tells_stop ys (refused tells) = refused tells
 
 flat_map_join : {A B : Type 0} (f : A → List B) (xs ys : List A)
     → flat_map f (xs ++ ys) ≡ flat_map f xs ++ flat_map f ys
@@ -128,4 +131,9 @@ tells_own (all_told {now = now}) = own_none now
 tells_own (one_told first more) =
     adds_then (Every Inspects) (tell_own first) (tells_own more)
     (λ a b history p q. every_join Inspects b a history p q)
-tells_own (refused said) = tell_own said
+tells_own (refused tells) = tell_own tells
+
+pub sight_own : {form : Form} {s : Sight} {result : Result (Unit {0}) OutsideFault}
+    {old new : Option History} → TellsSight form s result old new → Adds old new (Every Inspects)
+sight_own (unbegun {now = now}) = own_none now
+sight_own (said told) = tells_own told.told

@@ -90,11 +90,14 @@ pub data TellsSight (form : Form) (s : Sight) : Result (Unit {0}) OutsideFault �
   told : {result : Result (Unit {0}) OutsideFault} {old new : Option History}
       → TellsForm form s result old new → TellsSight form s result old new
 
-pub record ReportsBy (form : Form) (s : Sight) (outcome : Outcome) (from : Option History)
-    (before : ℕ) (to : Option History) (now : ℕ) : Type 0 where
+pub record ReportsOf (form : Form) (s : Sight) (outcome : Outcome) (from to : Option History)
+    : Type 0 where
   pub given : Result (Unit {0}) OutsideFault
   pub told : TellsSight form s given from to
   pub is : outcome ≡ told_as given
+
+abbrev pub ReportsBy : Form → Sight → Outcome → Option History → ℕ → Option History → ℕ → Type 0
+ReportsBy form s outcome from before to now = ReportsOf form s outcome from to
 
 -- by a site; the outcome is reported, and gives the status
 pub record Reports (form : Form) (s : Sight) (status : ℕ) (old new : Told) : Type 0 where

@@ -4,7 +4,7 @@ ghost use Rattle.std.specs.Prelude.{◌≡◌, map, IfOk};
 ghost use Rattle.chk_site.specs.History.{Every};
 ghost use Rattle.chk_site.specs.Site.{Adds};
 ghost use Rattle.chk_world.specs.Sight.{job};
-ghost use Rattle.chk_ctl_inspect.specs.Reporting.{lines_of, tables_of, texts_of, Reports, ReportsBy};
+ghost use Rattle.chk_ctl_inspect.specs.Reporting.{lines_of, tables_of, texts_of, Reports, ReportsOf};
 ghost use Rattle.chk_ctl_inspect.specs.Reporting.{TellsAll, TellsSight};
 ghost use Rattle.chk_ctl_machine.specs.Inspecting.{Inspects};
 
@@ -35,7 +35,7 @@ pub(crate) fn report<M: Machine>(
 }
 
 fn report_by<S: Site>(alloc: Global, site: &mut S, sight: &Sight<'_>, form: Form) -> Outcome
-    ensures told { ReportsBy form sight.now result (S.told site.old) 0 (S.told site.new) 0 }
+    ensures told { ReportsOf form sight.now result (S.told site.old) (S.told site.new) }
     ensures own { Adds (S.told site.old) (S.told site.new) (Every Inspects) }
 {
     match looker(alloc) {
