@@ -2,10 +2,24 @@
 use Rattle.std.specs.Prelude.{ℕ, Bool, List, codes, bytes_eq, if◌then◌else◌, Option, Some, None, option_map}
 use Rattle.std.specs.List.{list_any}
 use Rattle.chk_ctl_line.specs.Commands.{Asked, Audit, Cat, Check, Streams, Verify, Sum, Held, HeldIn}
-use Rattle.chk_ctl_line.specs.Commands.{Passed, Help, Version}
+use Rattle.chk_ctl_line.specs.Commands.{Passed, Help, Version, AuditAsked}
 use Rattle.chk_ctl_machine.specs.declared.extent.Extent.{Extent}
 use Rattle.chk_ctl_machine.specs.declared.extent.Extent.TheVariants.{Archive, Records, Digests, Store}
 use Rattle.chk_ctl_machine.specs.declared.extent.LongInspection.{LongInspection}
+
+-- the words of `audit`, if the command is that
+abbrev pub audit_in : Asked → Option AuditAsked
+audit_in (Audit w) = Some w
+audit_in (Cat w) = None
+audit_in (Passed w) = None
+audit_in (Streams store) = None
+audit_in (Verify store) = None
+audit_in (Sum store) = None
+audit_in (Held store) = None
+audit_in (Check w) = None
+audit_in (HeldIn stores) = None
+audit_in (Help usage) = None
+audit_in Version = None
 
 -- the folder, a store or that of agents; `check`, and `held` of several stores, name none
 abbrev pub folder_of : Asked → Option (List ℕ)

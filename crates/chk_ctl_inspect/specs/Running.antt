@@ -3,7 +3,7 @@ use Rattle.std.specs.Prelude.{◌≡◌, ℕ, Bool, true, false, List, [], ◌�
 use Rattle.chk_site.specs.History.{History, Every}
 use Rattle.chk_site.specs.Site.{Adds}
 use Rattle.chk_ctl_line.specs.Asked.{asked}
-use Rattle.chk_ctl_line.specs.Commands.{Asked, Audit}
+use Rattle.chk_ctl_line.specs.Commands.{Asked, AuditAsked}
 use Rattle.chk_ctl_run.specs.declared.outcome.Outcome.{Outcome}
 use Rattle.chk_ctl_run.specs.Calls.{CauseOfRun, IsOfRun}
 use Rattle.chk_ctl_run.specs.Outcomes.{outcome_status}
@@ -11,7 +11,7 @@ use Rattle.chk_ctl_run.specs.Runs.{Ran}
 use Rattle.chk_ctl_machine.specs.declared.extent.LongInspection.{LongInspection}
 use Rattle.chk_ctl_machine.specs.Deeds.{after, ended, Enters, NamesPath, Stands, Told}
 use Rattle.chk_ctl_machine.specs.Lending.{Lent}
-use Rattle.chk_ctl_inspect.specs.Commands.{folder_of, long_of}
+use Rattle.chk_ctl_inspect.specs.Commands.{audit_in, folder_of, long_of}
 
 -- what the run did: what it showed, its calls, and the cause of a failure
 pub record RanBy (words : List (List ℕ)) (outcome : Outcome) (from : Option History) (before : ℕ)
@@ -57,7 +57,11 @@ abbrev pub RunsWhere : Option (List ℕ) → List (List ℕ) → Option LongInsp
 RunsWhere None words long status old new = RunsHere words long status old new
 RunsWhere (Some folder) words long status old new = RunsIn folder words long status old new
 
+abbrev pub RunsAs : Option AuditAsked → Option (List ℕ) → List (List ℕ) → Option LongInspection
+    → ℕ → Told → Told → Type 0
+RunsAs (Some w) folder words long status old new = Audits w.agent w.store status old new
+RunsAs None folder words long status old new = RunsWhere folder words long status old new
+
 abbrev pub RunsAsked : Asked → List (List ℕ) → ℕ → Told → Told → Type 0
-RunsAsked (Audit w) words status old new = Audits w.agent w.store status old new
 RunsAsked command words status old new =
-    RunsWhere (folder_of command) words (long_of command words) status old new
+    RunsAs (audit_in command) (folder_of command) words (long_of command words) status old new

@@ -1,5 +1,5 @@
 -- What `status` does, once or every so many seconds.
-use Rattle.std.specs.Prelude.{◌≡◌, ◌⊎◌, ◌≢◌, ◌<◌, ◌≤◌, ◌+◌, ◌-◌, ◌^◌, max, ℕ, Bool, true, false, List, if◌then◌else◌, Option, Some, None}
+use Rattle.std.specs.Prelude.{◌≡◌, ◌==◌, ◌||◌, nat_lt, ◌+◌, ◌-◌, ◌^◌, max, ℕ, Bool, true, false, List, if◌then◌else◌, Option, Some, None}
 use Rattle.chk_ctl_line.specs.Status.{asked_status, Status}
 use Rattle.chk_ctl_line.specs.Usages.{usage_text}
 use Rattle.chk_ctl_line.specs.declared.usage.Usage.TheVariants.{Status as status_usage}
@@ -16,13 +16,17 @@ pub data InspectsOnce (s : Status) : ℕ → Told → Told → Type 0 where
       → Reports s.form sight status mid new
       → InspectsOnce s (max sight.status status) old new
 
--- at most so many times: it ends if no seconds are asked for, or with a status above 1
+-- it ends if no seconds are asked for, or with a status above 1
+abbrev pub stops : ℕ → ℕ → Bool
+stops seconds status = seconds == 0 || nat_lt 1 status
+
+-- at most so many times
 pub data Repeats (s : Status) : ℕ → ℕ → Told → Told → Type 0 where
   spent : {now : Told} → Repeats s 0 3 now now
   last : {left status : ℕ} {old new : Told} → InspectsOnce s status old new
-      → (s.seconds ≡ 0) ⊎ (1 < status) → Repeats s left status old new
+      → stops s.seconds status ≡ true → Repeats s left status old new
   again : {left rest first status : ℕ} {old mid next new : Told} → left ≡ rest + 1
-      → InspectsOnce s first old mid → s.seconds ≢ 0 → first ≤ 1
+      → InspectsOnce s first old mid → stops s.seconds first ≡ false
       → next ≡ after (Sleeps s.seconds) mid → Repeats s rest status next new
       → Repeats s left status old new
 

@@ -2,14 +2,24 @@
 
 ghost use Rattle.std.specs.Prelude.{◌≡◌, bytes_eq, codes, map, option_map};
 ghost use Rattle.std.specs.List.{list_any};
-ghost use Rattle.chk_ctl_line.specs.Commands.{asked_of};
-ghost use Rattle.chk_ctl_inspect.specs.Commands.{extent_of, folder_of, long_of};
+ghost use Rattle.chk_ctl_line.specs.Commands.{asked_of, audit_of};
+ghost use Rattle.chk_ctl_inspect.specs.Commands.{audit_in, extent_of, folder_of, long_of};
 
-use chk_ctl_line::Command;
+use chk_ctl_line::{AuditWords, Command};
 use chk_ctl_machine::{Extent, LongInspection};
 
 /// The option that asks for progress also if standard error is no terminal.
 const PROGRESS: &str = "--progress";
+
+/// The words of `audit`, if the command is that.
+pub(crate) fn audit_in<'b, 'a>(command: &'b Command<'a>) -> Option<&'b AuditWords<'a>>
+    ensures { option_map (λ w. audit_of w.now) result ≡ audit_in (asked_of command.now) }
+{
+    match command {
+        Command::Audit(words) => Some(words),
+        _ => None,
+    }
+}
 
 /// The folder in which the command runs, a store or that of agents, if it names one.
 pub(crate) fn folder_of<'a>(command: &Command<'a>) -> Option<&'a str>

@@ -3,11 +3,12 @@
 ghost use Rattle.std.specs.Prelude.{◌≡◌, map};
 ghost use Rattle.chk_ctl_line.specs.Commands.{asked_of};
 ghost use Rattle.chk_ctl_inspect.specs.Commands.{folder_of, long_of};
-ghost use Rattle.chk_ctl_inspect.specs.Inspections.{Inspected};
-ghost use Rattle.chk_ctl_inspect.specs.Running.{RunsHere, RunsIn, RunsWhere};
+ghost use Rattle.chk_ctl_inspect.specs.Inspections.{is_status, Inspected};
+ghost use Rattle.chk_ctl_inspect.specs.Running.{RunsAsked, RunsHere, RunsIn, RunsWhere};
+ghost use Rattle.chk_ctl_line.specs.Usages.{usage_of};
 
 use crate::audit::inspect_audit;
-use crate::command::{folder_of, long_of};
+use crate::command::{audit_in, folder_of, long_of};
 use crate::status::inspect_status;
 use chk_ctl_line::{Command, WordsFault, read_words, usage_of};
 use chk_ctl_machine::{LongInspection, Machine, end_with};
@@ -37,18 +38,43 @@ pub fn inspect<M: Machine>(alloc: Global, machine: &mut M, words: &[&str]) -> u8
     ensures { Inspected (map (λ w. w.now) words.now) result (M.told machine.old)
         (M.told machine.new) }
 {
-    if usage_of(words) == Usage::Status {
+    if is_status(words) {
         return inspect_status(alloc, machine, words);
     }
     match read_words(alloc, words) {
-        Ok(Command::Audit(audit)) => inspect_audit(alloc, machine, audit.agent, audit.store),
         Ok(command) => inspect_command(alloc, machine, words, &command),
         Err(WordsFault::Usage) => run_here(alloc, machine, words, None),
         Err(WordsFault::NoMemory) => NO_MEMORY,
     }
 }
 
+/// The words are those of `status`.
+fn is_status(words: &[&str]) -> bool
+    ensures { result ≡ is_status (usage_of (map (λ w. w.now) words.now)) }
+{
+    match usage_of(words) {
+        Usage::Status => true,
+        _ => false,
+    }
+}
+
 fn inspect_command<M: Machine>(
+    alloc: Global,
+    machine: &mut M,
+    words: &[&str],
+    command: &Command<'_>,
+) -> u8
+    ensures { RunsAsked (asked_of command.now) (map (λ w. w.now) words.now) result
+        (M.told machine.old) (M.told machine.new) }
+{
+    match audit_in(command) {
+        Some(audit) => inspect_audit(alloc, machine, audit.agent, audit.store),
+        None => run_where(alloc, machine, words, command),
+    }
+}
+
+/// Runs a command that isn't `audit`, in the folder that it names, or where the user stands.
+fn run_where<M: Machine>(
     alloc: Global,
     machine: &mut M,
     words: &[&str],

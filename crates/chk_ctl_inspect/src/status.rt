@@ -1,8 +1,9 @@
 //! `status`: inspections of stores and agents, once or every so many seconds.
 
-ghost use Rattle.std.specs.Prelude.{◌^◌, ◌-◌, map};
+ghost use Rattle.std.specs.Prelude.{◌≡◌, ◌^◌, ◌-◌, map};
 ghost use Rattle.chk_ctl_line.specs.Status.{status_of};
 ghost use Rattle.chk_ctl_inspect.specs.Statuses.{InspectsAsked, InspectsOnce, InspectsStatus, Repeats};
+ghost use Rattle.chk_ctl_inspect.specs.Statuses.{stops};
 
 use crate::looks::look_at_all;
 use crate::reports::report;
@@ -52,12 +53,19 @@ fn inspect_again<M: Machine>(alloc: Global, machine: &mut M, asked: &StatusWords
     let seconds = asked.seconds();
     for _ in 0..u64::MAX {
         let status = inspect_once(alloc, machine, asked);
-        if seconds == 0 || status > FOUND {
+        if stops(seconds, status) {
             return status;
         }
         machine.sleep(seconds);
     }
     OUTSIDE
+}
+
+/// It isn't repeated behind an inspection with this status.
+fn stops(seconds: u64, status: u8) -> bool
+    ensures { result ≡ stops seconds status }
+{
+    seconds == 0 || status > FOUND
 }
 
 /// The status of one inspection is the greatest of all that is inspected.
