@@ -1,5 +1,8 @@
 -- What inspections of sites add, and their causes.
-use Rattle.std.proofs.Common.{◌≡◌, ℕ, Option, Result, Ok, Err, inl, inr, refl, subst, sym, None}
+use Rattle.std.proofs.Common.{◌≡◌, ℕ, Option, Result, Ok, Err, inl, inr, refl, subst, sym, None, ◌∙◌, ◌+◌, ◌<◌, ap, drop, get_or, length}
+use Rattle.std.proofs.lemmas.List.{at_drop_more}
+use Rattle.chk_ctl_status.specs.Locks.{holder_in}
+use Rattle.chk_ctl_machine.specs.Locks.{process_in, process_or}
 use Rattle.std.specs.Prelude.{codes, MatchResult}
 use Rattle.chk_site.specs.History.{Every, History, Step}
 use Rattle.chk_site.specs.Site.{Adds}
@@ -111,3 +114,12 @@ locks_seen V (Ok v) items held {names = names} {next = next} {new = new} same le
     (subst (λ (l : List (List ℕ)). InTurn (LooksAtLock held) l (items v) next new) same turns))
 locks_seen V (Err outcome) items held {old = old} {new = new} same lent is memory =
     subst (λ (o : Outcome). SeesLocks (Err o) old new) (sym memory) (unkept lent)
+
+-- the process that the lines from this one on name
+pub line_next : (place : List ℕ) (all : List (List ℕ)) (i : ℕ) (line : List ℕ) → i < length all
+    → line ≡ get_or all i line
+    → process_in place (drop i all)
+    ≡ process_or (holder_in place line) (process_in place (drop (i + 1) all))
+line_next place all i line low is =
+    at_drop_more (process_in place) all i line low
+    ∙ ap (λ l. process_or (holder_in place l) (process_in place (drop (i + 1) all))) (sym is)

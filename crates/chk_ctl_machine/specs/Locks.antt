@@ -1,6 +1,7 @@
 -- The inspection of a folder's locks.
 use Rattle.std.specs.Prelude.{◌≡◌, ◌⊎◌, ℕ, ◌-◌, ◌/◌, ◌^◌, ◌==◌, List, [], ◌∷◌, ◌++◌, codes, decimal}
 use Rattle.std.specs.Prelude.{bit_and, bit_or, false, if◌then◌else◌, Option, Some, None, Result, Ok, Err}
+use Rattle.std.specs.Str.Lines.{lines}
 use Rattle.std.specs.Fmt.{digits, format_spec, padded_integral}
 use Rattle.chk_site.specs.declared.acts.Call.TheVariants.{List as ListNames}
 use Rattle.chk_site.specs.declared.acts.CallFault.{CallFault}
@@ -11,6 +12,7 @@ use Rattle.chk_world.specs.Sight.{job}
 use Rattle.chk_ctl_status.specs.declared.locks.Holder.{Holder}
 use Rattle.chk_ctl_status.specs.declared.locks.Holder.TheVariants.{Nobody, Process, Unknown}
 use Rattle.chk_ctl_status.specs.declared.locks.Lock.{Lock}
+use Rattle.chk_ctl_status.specs.Locks.{holder_in}
 use Rattle.chk_ctl_run.specs.declared.outcome.Outcome.{Outcome}
 use Rattle.chk_ctl_run.specs.declared.outcome.Outcome.TheVariants.{NoMemory, Outside}
 use Rattle.chk_ctl_machine.specs.declared.machine.FileNumbers.{FileNumbers}
@@ -44,6 +46,15 @@ pub record FindsLocks (result : Result (List (List ℕ)) Outcome) (from : Option
   pub told : ListsLocks result from to
   pub cause : SeenCause before now result
 
+-- the first process that a line of the system's list names for the place
+abbrev pub process_or : Option ℕ → Option ℕ → Option ℕ
+process_or (Some process) other = Some process
+process_or None other = other
+
+abbrev pub process_in : List ℕ → List (List ℕ) → Option ℕ
+process_in place [] = None
+process_in place (line ∷ rest) = process_or (holder_in place line) (process_in place rest)
+
 -- without one nobody holds it, but on a file system without a device of its own that isn't known
 abbrev pub holder_or : ℕ → Option ℕ → Holder
 holder_or major (Some process) = Process process
@@ -66,12 +77,13 @@ place_of n =
     two_digits (major_of n.device) ++ (codes ":" ++ (two_digits (minor_of n.device)
     ++ (codes ":" ++ decimal n.number)))
 
--- who holds the lock of the file of these numbers: the process that the system's list names, if it
--- names one. Unknown, too, if there is no memory for its place.
-abbrev pub IsHolder : Option FileNumbers → Holder → Type 0
-IsHolder None holder = holder ≡ Unknown
-IsHolder (Some n) holder =
-    (process : Option ℕ) × ((holder ≡ holder_or (major_of n.device) process) ⊎ (holder ≡ Unknown))
+-- who holds the lock of the file of these numbers; unknown, too, if there is no memory for its place
+abbrev pub holder_at : List ℕ → FileNumbers → Holder
+holder_at held n = holder_or (major_of n.device) (process_in (place_of n) (lines held))
+
+abbrev pub IsHolder : List ℕ → Option FileNumbers → Holder → Type 0
+IsHolder held None holder = holder ≡ Unknown
+IsHolder held (Some n) holder = (holder ≡ holder_at held n) ⊎ (holder ≡ Unknown)
 
 -- who holds the lock of this name, by the system's list: the machine is asked for the numbers of its
 -- file, if there is a list, and memory for the path
@@ -79,7 +91,7 @@ pub data FindsHolder (held : Option (List ℕ)) (name : List ℕ) : Holder → T
   unasked : {now : Told} → FindsHolder held name Unknown now now
   asked : {text : List ℕ} {holder : Holder} {old new : Told} (numbers : Option FileNumbers)
       → held ≡ Some text → new ≡ after (AsksNumbers (codes "locks/" ++ name) numbers) old
-      → IsHolder numbers holder → FindsHolder held name holder old new
+      → IsHolder text numbers holder → FindsHolder held name holder old new
 
 -- a lock and its holder
 abbrev pub LooksAtLock : Option (List ℕ) → List ℕ → Lock → Told → Told → Type 0

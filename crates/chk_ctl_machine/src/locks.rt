@@ -1,12 +1,13 @@
 //! The inspection of a folder's locks.
 
 ghost use Rattle.std.specs.Prelude.{◌≡◌, ◌∷◌, ◌++◌, [], option_map, string_bytes, Some, IfErr, IfOk, MatchResult, OnOk};
+ghost use Rattle.std.specs.Str.Lines.{lines};
 ghost use Rattle.chk_site.specs.History.{Every};
 ghost use Rattle.chk_site.specs.Site.{Adds};
 ghost use Rattle.chk_ctl_machine.specs.Inspecting.{Inspects};
 ghost use Rattle.chk_ctl_machine.specs.Lending.{listed, Lent, SeenCause};
 ghost use Rattle.chk_ctl_machine.specs.Locks.{holder_or, listed_as, major_of, minor_of, named_by};
-ghost use Rattle.chk_ctl_machine.specs.Locks.{place_of, FindsHolder, FindsLocks};
+ghost use Rattle.chk_ctl_machine.specs.Locks.{place_of, process_in, FindsHolder, FindsLocks};
 ghost use Rattle.chk_ctl_machine.specs.Locks.{IsHolder, ListsLocks, LooksAtLock, SeesLocks};
 ghost use Rattle.chk_ctl_machine.specs.Turns.{InTurn};
 ghost use Rattle.chk_ctl_run.specs.declared.outcome.Outcome.TheVariants.{NoMemory as no_memory};
@@ -138,7 +139,7 @@ fn holder_of<M: Machine>(
 /// system's list may name another one than the file does, so a lock that isn't found there may be
 /// held.
 fn holder_at(alloc: Global, held: &str, numbers: FileNumbers) -> Holder
-    ensures { IsHolder (Some numbers) result }
+    ensures { IsHolder held.now (Some numbers) result }
 {
     match place_of(alloc, numbers) {
         Ok(place) => holder_or(major_of(numbers.device), process_in(held, place.as_str())),
@@ -171,8 +172,14 @@ fn minor_of(device: u64) -> u64
 
 /// The first process that a line of the list names for the place.
 fn process_in(held: &str, place: &str) -> Option<u64>
+    ensures { result ≡ process_in place.now (lines held.now) }
 {
-    held.lines().find_map(|line| holder_in(line, place))
+    for line in held.lines() {
+        if let Some(process) = holder_in(line, place) {
+            return Some(process);
+        }
+    }
+    None
 }
 
 fn holder_or(major: u64, process: Option<u64>) -> Holder

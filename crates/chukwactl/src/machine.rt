@@ -64,13 +64,18 @@ impl Machine for HostMachine {
         }
     }
 
-    fn lend(&mut self, long: Option<LongInspection>) -> Progress<SiteReal<HostRuntime>, HostRuntime> {
+    fn lend(
+        &mut self,
+        long: Option<LongInspection>,
+    ) -> Progress<SiteReal<HostRuntime>, HostRuntime> {
         let rt = self.rt;
         let site = SiteReal::read_only(rt, rt.alloc());
         match long {
             Some(long) => {
                 let extent = long.extent;
-                let all = bytes_in(&rt, rt.alloc(), extent.folders()).saturating_mul(extent.times());
+                let all = bytes_in(&rt, rt.alloc(), extent.folders()).saturating_mul(
+                    extent.times(),
+                );
                 let shows = shows_of(long, rt.stdout().is_terminal(), rt.stderr().is_terminal());
                 Progress::over(site, rt, shows, all)
             }

@@ -13,7 +13,8 @@ pub returns-in-Some-numbers_of : goal.returns-in-Some-numbers_of
 returns-in-Some-numbers_of g c =
     asked c.numbers_of.result (ap (option_map string_bytes) c.in-Some.is)
     (numbered _ _ c.numbers_of.result _ _ (c.as_str.ensures.value ∙ c.in-Ok.ensures.ok)
-    c.numbers_of.ensures) (rw c.in-Some-numbers_of.is c.holder_at.ensures)
+    c.numbers_of.ensures) (rw c.in-Some-numbers_of.is
+    (rw c.as_str-in-Some-numbers_of.ensures.value at c.holder_at.ensures))
 
 pub returns : goal.returns
 returns g c =
