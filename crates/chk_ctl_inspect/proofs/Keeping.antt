@@ -1,11 +1,11 @@
 -- What is kept of inspections, in turn.
 use Rattle.std.proofs.Common.{◌≡◌, ◌∙◌, ap, sym, subst, refl, ℕ, ◌+◌, ◌<◌, ◌≤◌, length, take, get_or, map, Option}
-use Rattle.std.proofs.Common.{List, [], ◌∷◌, ◌++◌, append_assoc, fold}
+use Rattle.std.proofs.Common.{List, [], ◌∷◌, ◌++◌, append_assoc}
 use Rattle.std.specs.Prelude.{flat_map, max}
 use Rattle.std.specs.Borrow.{Bor}
 use Rattle.std.proofs.lemmas.List.{take_all}
 use Rattle.chk_ctl_machine.specs.Deeds.{Told}
-use Rattle.chk_ctl_machine.specs.Turns.{none_left, InTurn}
+use Rattle.chk_ctl_machine.specs.Turns.{none_left}
 use Rattle.chk_ctl_machine.proofs.Steps.{turn_by}
 use Rattle.chk_ctl_inspect.specs.declared.kept.Seen.{Seen}
 use Rattle.chk_ctl_inspect.specs.declared.kept.Sight.{Sight}

@@ -1,5 +1,5 @@
 -- Parts of inspections.
-use Rattle.std.proofs.Common.{◌≡◌, ℕ, List, [], ◌∷◌, map, ap, refl, subst, sym, Bool, Option, Some, Result, Ok, Err}
+use Rattle.std.proofs.Common.{◌≡◌, ℕ, List, [], ◌∷◌, map, ap, refl, subst, sym, Bool, Result, Ok, Err}
 use Rattle.std.specs.Prelude.{IfOk, ◌||◌}
 use Rattle.std.specs.List.{list_any}
 use Rattle.chk_ctl_run.specs.declared.outcome.Outcome.{Outcome}

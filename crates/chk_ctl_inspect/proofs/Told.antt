@@ -1,5 +1,5 @@
 -- Texts that are printed in turn.
-use Rattle.std.proofs.Common.{◌≡◌, ◌∙◌, ap, sym, subst, refl, arith, ℕ, ◌+◌, ◌<◌, ◌≤◌, zero, suc, add-one}
+use Rattle.std.proofs.Common.{◌≡◌, ◌∙◌, ap, sym, subst, refl, ℕ, ◌+◌, ◌<◌, ◌≤◌, zero, suc}
 use Rattle.std.proofs.Common.{List, [], ◌∷◌, ◌++◌, append_assoc, length, take, drop, get_or, Option, Result, Ok, Err}
 use Rattle.std.specs.Prelude.{flat_map}
 use Rattle.std.proofs.lemmas.List.{take_all}
@@ -11,14 +11,15 @@ use Rattle.chk_ctl_status.specs.Telling.{Tells}
 use Rattle.chk_site.specs.declared.acts.ActAnswer.{ActAnswer}
 use Rattle.chk_site.specs.declared.acts.CallFault.{CallFault}
 use Rattle.chk_site.specs.History.{Every}
-use Rattle.chk_site.specs.Site.{answered, plain, Adds, Calls}
+use Rattle.chk_site.specs.Site.{Adds, Calls}
 use Rattle.chk_site.proofs.Runs.{adds_as, adds_then, every_join}
 use Rattle.chk_replace.proofs.CallSteps.{call_each, OfOwn}
 use Rattle.chk_world.specs.JobSteps.{IsOf}
 use Rattle.chk_cmd_output.specs.Printing.{printing}
 use Rattle.chk_ctl_status.specs.Telling as telling
 use Rattle.chk_ctl_status_rows.specs.Sinks.{says, LooksAround}
-use Rattle.chk_ctl_machine.specs.Inspecting.{looks, Inspects}
+use Rattle.chk_ctl_machine.specs.Inspecting.{Inspects}
+use Rattle.chk_ctl_machine.proofs.Inspections.{looks}
 use Rattle.chk_ctl_machine.proofs.Causes.{own_as, own_none}
 use Rattle.chk_ctl_machine.proofs.Steps.{take_more}
 use Rattle.std.proofs.Common.{inl, inr}

@@ -1,5 +1,5 @@
 -- The inspections that the words of `status` name.
-use Rattle.std.specs.Prelude.{◌≡◌, ℕ, true, false, List, [], ◌++◌, Option, Some, None, Ok, Err, string_bytes, unwrap_or}
+use Rattle.std.specs.Prelude.{◌≡◌, ℕ, true, false, List, [], Option, Some, None, Ok, Err, string_bytes, unwrap_or}
 use Rattle.std.specs.Borrow.{Bor}
 use Rattle.chk_ctl_line.specs.Controls.{control_in, Control}
 use Rattle.chk_ctl_line.specs.Status.{Status}

@@ -19,7 +19,6 @@ use Rattle.chk_ctl_status.specs.Locks.{locks_line, locks_text}
 use Rattle.chk_ctl_status.specs.Stores.{line_text, store_text}
 use Rattle.chk_ctl_status.specs.Telling.{Tells}
 use Rattle.chk_ctl_run.specs.declared.outcome.Outcome.{Outcome}
-use Rattle.chk_ctl_run.specs.declared.outcome.Outcome.TheVariants.{NoMemory}
 use Rattle.chk_ctl_run.specs.Outcomes.{outcome_status, told_as}
 use Rattle.chk_ctl_machine.specs.Deeds.{ended, Told}
 use Rattle.chk_ctl_machine.specs.Lending.{Lent}

@@ -1,5 +1,5 @@
 -- What `status` does, once or every so many seconds.
-use Rattle.std.specs.Prelude.{◌≡◌, ◌==◌, ◌||◌, nat_lt, ◌+◌, ◌-◌, ◌^◌, max, ℕ, Bool, true, false, List, if◌then◌else◌, Option, Some, None}
+use Rattle.std.specs.Prelude.{◌≡◌, ◌==◌, ◌||◌, nat_lt, ◌+◌, ◌-◌, ◌^◌, max, ℕ, Bool, true, false, List, if◌then◌else◌, Some, None}
 use Rattle.chk_ctl_line.specs.Status.{asked_status, Status}
 use Rattle.chk_ctl_line.specs.Usages.{usage_text}
 use Rattle.chk_ctl_line.specs.declared.usage.Usage.TheVariants.{Status as status_usage}

@@ -23,7 +23,8 @@ use Rattle.chk_ctl_status_rows.specs.Sinks.{lists, LooksAround}
 use Rattle.chk_ctl_machine.specs.Ages.{asked, AsksAgeOf}
 use Rattle.chk_ctl_machine.specs.Deeds.{after, AsksAge, AsksLocks, AsksNumbers, Told}
 use Rattle.chk_ctl_machine.specs.declared.machine.FileNumbers.{FileNumbers}
-use Rattle.chk_ctl_machine.specs.Inspecting.{looks, Inspects}
+use Rattle.chk_ctl_machine.specs.Inspecting.{Inspects}
+use Rattle.chk_ctl_machine.proofs.Inspections.{looks}
 use Rattle.chk_ctl_machine.specs.Lending.{Lent}
 use Rattle.chk_ctl_machine.specs.Lending.{listed as found_list}
 use Rattle.chk_ctl_machine.specs.Locks.{listed, listed_as, listing, named_by, ListsLocks}

@@ -1,5 +1,5 @@
 -- A site that was lent is given back.
-use Rattle.std.proofs.Common.{◌≡◌, ◌∙◌, ap, refl, subst, sym, ℕ, List, [], ◌∷◌, Option, Some, None}
+use Rattle.std.proofs.Common.{◌≡◌, ◌∙◌, ap, subst, sym, ℕ, List, [], ◌∷◌, Option, Some, None}
 use Rattle.chk_site.specs.History.{Every, History}
 use Rattle.chk_site.specs.Site.{Adds}
 use Rattle.chk_ctl_machine.specs.declared.extent.LongInspection.{LongInspection}

@@ -1,5 +1,5 @@
 -- The inspection of an agent by its control port.
-use Rattle.std.specs.Prelude.{◌≡◌, ℕ, List, Option, None, Result, Ok, Err}
+use Rattle.std.specs.Prelude.{◌≡◌, ℕ, List, Option, None, Ok}
 use Rattle.chk_site.specs.History.{History}
 use Rattle.chk_ctl_status.specs.declared.doors.Door.{Door}
 use Rattle.chk_ctl_status.specs.Doors.{door_of, ListAsked}

@@ -1,5 +1,5 @@
 -- What a machine was asked for, and what it answered.
-use Rattle.std.specs.Prelude.{ℕ, Bool, List, [], ◌∷◌, Option, option_map}
+use Rattle.std.specs.Prelude.{ℕ, Bool, List, ◌∷◌, Option, option_map}
 use Rattle.chk_site.specs.History.{History}
 use Rattle.chk_ctl_line.specs.declared.usage.Usage.{Usage}
 use Rattle.chk_ctl_run.specs.declared.outcome.Outcome.{Outcome}

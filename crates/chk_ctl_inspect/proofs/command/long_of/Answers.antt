@@ -1,4 +1,4 @@
-use Rattle.std.proofs.Common.{◌∙◌, ap, sym, map, Bool, Option, Some, option_map}
+use Rattle.std.proofs.Common.{◌∙◌, ap, sym, map, Bool, Some, option_map}
 use Rattle.std.specs.Prelude.{bytes_eq, codes}
 use Rattle.chk_ctl_machine.specs.declared.extent.Extent.{Extent}
 use Rattle.chk_ctl_machine.specs.declared.extent.LongInspection.{LongInspection}

@@ -1,16 +1,16 @@
 use Rattle.std.proofs.Common.{map}
 use Rattle.chk_ctl_line.specs.Asked.{asked}
 use Rattle.chk_ctl_run.specs.Calls.{IsOfRun}
-use Rattle.chk_ctl_machine.specs.Inspecting.{runs}
 use Rattle.chk_ctl_machine.proofs.Causes.{own_as}
 use Rattle.chk_ctl_machine.proofs.Lends.{lent, may_take_back}
 use Rattle.chk_ctl_inspect.specs.Running.{RanBy}
+use Rattle.chk_ctl_inspect.proofs.Runs.{runs}
 use Rattle.chk_ctl_inspect.proofs.running.run_here.Goals as goal
 
 pub take_back-requires : goal.take_back-requires
 take_back-requires g c =
     may_take_back c.args.long _ _ _ _ _ c.lend-folder.ensures
-    (own_as (IsOfRun (asked (map (λ w. w.now) c.args.words.now))) (λ before step x. runs _ x)
+    (own_as (IsOfRun (asked (map (λ w. w.now) c.args.words.now))) (λ before step x. runs (asked (map (λ w. w.now) c.args.words.now)) x)
     c.run-outcome.ensures.own)
 
 pub returns : goal.returns

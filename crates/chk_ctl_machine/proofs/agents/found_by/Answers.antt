@@ -1,5 +1,5 @@
 use Rattle.chk_ctl_machine.specs.Agents.{read, unread}
-use Rattle.chk_ctl_machine.specs.Inspecting.{reads_logs}
+use Rattle.chk_ctl_machine.proofs.Inspections.{reads_logs}
 use Rattle.chk_ctl_machine.proofs.Causes.{agents_as, own_as}
 use Rattle.chk_ctl_status_rows.specs.Agents.{LooksAtLogs}
 use Rattle.chk_ctl_machine.proofs.agents.found_by.Goals as goal

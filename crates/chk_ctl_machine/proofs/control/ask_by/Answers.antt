@@ -1,6 +1,6 @@
 use Rattle.chk_world.specs.JobSteps.{IsOf}
 use Rattle.chk_ctl_status.specs.Doors.{AsksList}
-use Rattle.chk_ctl_machine.specs.Inspecting.{asks_list}
+use Rattle.chk_ctl_machine.proofs.Inspections.{asks_list}
 use Rattle.chk_ctl_machine.proofs.Causes.{own_as}
 use Rattle.chk_ctl_machine.proofs.control.ask_by.Goals as goal
 

@@ -1,5 +1,5 @@
 use Rattle.std.proofs.Common.{None}
-use Rattle.chk_ctl_machine.proofs.Lends.{lent, may_take_back}
+use Rattle.chk_ctl_machine.proofs.Lends.{may_take_back}
 use Rattle.chk_ctl_machine.proofs.control.ask_there.Goals as goal
 
 pub take_back-requires : goal.take_back-requires

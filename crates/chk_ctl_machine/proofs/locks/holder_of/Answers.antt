@@ -1,5 +1,5 @@
-use Rattle.std.proofs.Common.{None, Some, ap, ◌∙◌, option_map, refl, string_bytes, subst}
-use Rattle.chk_ctl_machine.specs.Locks.{asked, unasked, IsHolder}
+use Rattle.std.proofs.Common.{ap, ◌∙◌, option_map, refl, string_bytes}
+use Rattle.chk_ctl_machine.specs.Locks.{asked, unasked}
 use Rattle.chk_ctl_machine.proofs.Causes.{numbered}
 use Rattle.chk_ctl_machine.proofs.locks.holder_of.Goals as goal
 

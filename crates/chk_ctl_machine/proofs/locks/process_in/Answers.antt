@@ -1,9 +1,8 @@
-use Rattle.std.proofs.Common.{◌≡◌, ◌≤◌, ◌∙◌, ◌+◌, ap, arith, drop, length, rules, sym}
+use Rattle.std.proofs.Common.{◌≤◌, ◌∙◌, ◌+◌, ap, arith, drop, length, rules, sym}
 use Rattle.std.proofs.lemmas.Iterator.Consumers.{YieldsList-end, YieldsList-turn}
 use Rattle.std.proofs.lemmas.Iterator.Splits.{YieldsList-from_lines}
 use Rattle.std.proofs.lemmas.List.{at_drop_all, length_push}
 use Rattle.std.specs.Str.Lines.{lines}
-use Rattle.chk_ctl_status.specs.Locks.{holder_in}
 use Rattle.chk_ctl_machine.specs.Locks.{process_in, process_or}
 use Rattle.chk_ctl_machine.proofs.Causes.{line_next}
 use Rattle.chk_ctl_machine.proofs.locks.process_in.Goals as goal

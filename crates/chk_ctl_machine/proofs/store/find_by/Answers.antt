@@ -1,6 +1,6 @@
 use Rattle.chk_world.specs.JobSteps.{IsOf}
 use Rattle.chk_ctl_status_rows.specs.Sinks.{LooksAround}
-use Rattle.chk_ctl_machine.specs.Inspecting.{looks}
+use Rattle.chk_ctl_machine.proofs.Inspections.{looks}
 use Rattle.chk_ctl_machine.specs.Stores.{read, unbegun}
 use Rattle.chk_ctl_machine.proofs.Causes.{own_as}
 use Rattle.chk_ctl_machine.proofs.store.find_by.Goals as goal
