@@ -3,7 +3,6 @@ use Rattle.std.proofs.Common.{inl, inr, ℕ, List, Option, Some, None}
 use Rattle.chk_site.specs.Acts.{deed}
 use Rattle.chk_site.specs.Acts.{Deed as Call}
 use Rattle.chk_site.specs.History.{History, Step}
-use Rattle.chk_world.specs.JobSteps.{IsOf}
 use Rattle.chk_ctl_line.specs.Commands.{Asked, Audit, Cat, Check, Streams, Verify, Sum, Held, HeldIn}
 use Rattle.chk_ctl_line.specs.Commands.{Passed, Help, Version}
 use Rattle.chk_ctl_audit.specs.Audits.{AuditsBy, LooksAtAudit}

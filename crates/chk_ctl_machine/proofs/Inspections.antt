@@ -1,5 +1,5 @@
 -- Which steps are inspections.
-use Rattle.std.proofs.Common.{◌≡◌, ℕ, List, inl, inr, subst, sym, true}
+use Rattle.std.proofs.Common.{ℕ, List, inl, inr, subst, sym}
 use Rattle.chk_site.specs.declared.acts.Who.{Who}
 use Rattle.chk_site.specs.Acts.{deed}
 use Rattle.chk_site.specs.Acts.{Deed as Call}

@@ -15,4 +15,4 @@ pub returns-in-Err : goal.returns-in-Err
 returns-in-Err g c =
     let l = c.loop-item in
     tells_end (g.R.Reported.texts c.args.in_tables c.args.books.now) c.args.items.now l.item-index
-    c.item-item.result c.loop-item-test.true l.invariant (rw c.item-item.is at c.in-Err.ensures)
+    c.item-item.result {new = g.S.Site.told c.report.new.site} c.loop-item-test.true l.invariant (rw c.item-item.is at c.in-Err.ensures)
