@@ -9,7 +9,7 @@ use Rattle.chk_ctl_machine.specs.Turns.{none_left}
 use Rattle.chk_ctl_machine.proofs.Steps.{turn_by}
 use Rattle.chk_ctl_inspect.specs.declared.kept.Seen.{Seen}
 use Rattle.chk_ctl_inspect.specs.declared.kept.Sight.{Sight}
-use Rattle.chk_ctl_inspect.specs.Looking.{named, LooksAtEach}
+use Rattle.chk_ctl_inspect.specs.Folders.{named, InspectsEach}
 use Rattle.chk_ctl_inspect.specs.Sights.{absent_of, agents_of, doors_of, greatest, status_of, stores_of, Keeps}
 
 append_none : {A : Type 0} (xs : List A) → xs ++ [] ≡ xs
@@ -56,37 +56,37 @@ keeps_then xs ys a b c first last = record {
       last.status ∙ (ap (λ n. greatest n ys) first.status ∙ sym (greatest_join a.status xs ys));
 }
 
-module _ (Looks : List ℕ → Seen → Told → Told → Type 0) (words : List (Bor (List ℕ))) where
+module _ (Inspect : List ℕ → Seen → Told → Told → Type 0) (words : List (Bor (List ℕ))) where
   -- before the first turn
   pub each_none : (s : Sight) (now : Told)
-      → LooksAtEach Looks (map (λ w. w.now) (take 0 words)) s s now now
+      → InspectsEach Inspect (map (λ w. w.now) (take 0 words)) s s now now
   each_none s now = record { seen = []; turns = none_left; keeps = keeps_none s }
 
   -- one turn more
   pub each_more : (i : ℕ) (d : Bor (List ℕ)) (seen : Seen) (from mid to : Sight)
       (old next new : Told) → i < length words
-      → LooksAtEach Looks (map (λ w. w.now) (take i words)) from mid old next
-      → Looks (get_or words i d).now seen next new → Keeps mid (seen ∷ []) to
-      → LooksAtEach Looks (map (λ w. w.now) (take (i + 1) words)) from to old new
-  each_more i d seen from mid to old next new low before looks keeps = record {
+      → InspectsEach Inspect (map (λ w. w.now) (take i words)) from mid old next
+      → Inspect (get_or words i d).now seen next new → Keeps mid (seen ∷ []) to
+      → InspectsEach Inspect (map (λ w. w.now) (take (i + 1) words)) from to old new
+  each_more i d seen from mid to old next new low before inspects keeps = record {
     seen = before.seen ++ seen ∷ [];
-    turns = turn_by (λ w. w.now) Looks words before.seen i d seen old next new low before.turns looks;
+    turns = turn_by (λ w. w.now) Inspect words before.seen i d seen old next new low before.turns inspects;
     keeps = keeps_then before.seen (seen ∷ []) from mid to before.keeps keeps;
   }
 
   -- after the last turn
   pub each_all : (i : ℕ) (from to : Sight) (old new : Told) → length words ≤ i
-      → LooksAtEach Looks (map (λ w. w.now) (take i words)) from to old new
-      → LooksAtEach Looks (map (λ w. w.now) words) from to old new
+      → InspectsEach Inspect (map (λ w. w.now) (take i words)) from to old new
+      → InspectsEach Inspect (map (λ w. w.now) words) from to old new
   each_all i from to old new high all =
-      subst (λ (l : List (Bor (List ℕ))). LooksAtEach Looks (map (λ w. w.now) l) from to old new)
+      subst (λ (l : List (Bor (List ℕ))). InspectsEach Inspect (map (λ w. w.now) l) from to old new)
       (take_all i words high) all
 
 -- by the words that an option has
-pub each_as : (Looks : List ℕ → Seen → Told → Told → Type 0) (given : List (List ℕ))
+pub each_as : (Inspect : List ℕ → Seen → Told → Told → Type 0) (given : List (List ℕ))
     (option asked : Option (List (List ℕ))) (from to : Sight) (old new : Told)
-    → given ≡ named option → option ≡ asked → LooksAtEach Looks given from to old new
-    → LooksAtEach Looks (named asked) from to old new
-each_as Looks given option asked from to old new is same each =
-    subst (λ (words : List (List ℕ)). LooksAtEach Looks words from to old new)
+    → given ≡ named option → option ≡ asked → InspectsEach Inspect given from to old new
+    → InspectsEach Inspect (named asked) from to old new
+each_as Inspect given option asked from to old new is same each =
+    subst (λ (words : List (List ℕ)). InspectsEach Inspect words from to old new)
     (is ∙ ap named same) each

@@ -6,7 +6,7 @@ use Rattle.chk_ctl_run.specs.declared.outcome.Outcome.{Outcome}
 use Rattle.chk_ctl_run.specs.Outcomes.{outcome_status}
 use Rattle.chk_ctl_machine.specs.Deeds.{ended, Told}
 use Rattle.chk_ctl_inspect.specs.declared.kept.Seen.TheVariants.{Failed}
-use Rattle.chk_ctl_inspect.specs.Looking.{failed, Fails}
+use Rattle.chk_ctl_inspect.specs.Folders.{failed, Fails}
 
 -- what follows from a value that is there
 pub ok_map : {T E : Type 0} {P Q : T → Type 0} (result : Result T E)

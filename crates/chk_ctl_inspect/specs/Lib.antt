@@ -1,7 +1,7 @@
 pub mod Commands
 pub mod Running
 pub mod Sights
-pub mod Looking
+pub mod Folders
 pub mod Reporting
 pub mod Statuses
 pub mod Inspections

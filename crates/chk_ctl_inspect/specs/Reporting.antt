@@ -19,7 +19,7 @@ use Rattle.chk_ctl_status.specs.Locks.{locks_line, locks_text}
 use Rattle.chk_ctl_status.specs.Stores.{line_text, store_text}
 use Rattle.chk_ctl_status.specs.Telling.{Tells}
 use Rattle.chk_ctl_run.specs.declared.outcome.Outcome.{Outcome}
-use Rattle.chk_ctl_run.specs.Outcomes.{outcome_status, told_as}
+use Rattle.chk_ctl_run.specs.Outcomes.{outcome_status, told_as, OutcomeCause}
 use Rattle.chk_ctl_machine.specs.Deeds.{ended, Told}
 use Rattle.chk_ctl_machine.specs.Lending.{Lent}
 use Rattle.chk_ctl_inspect.specs.declared.kept.Sight.{Sight}
@@ -95,8 +95,11 @@ pub record ReportsOf (form : Form) (s : Sight) (outcome : Outcome) (from to : Op
   pub told : TellsSight form s given from to
   pub is : outcome ≡ told_as given
 
-abbrev pub ReportsBy : Form → Sight → Outcome → Option History → ℕ → Option History → ℕ → Type 0
-ReportsBy form s outcome from before to now = ReportsOf form s outcome from to
+-- and only a call that failed raised the count
+pub record ReportsBy (form : Form) (s : Sight) (outcome : Outcome) (from : Option History)
+    (before : ℕ) (to : Option History) (now : ℕ) : Type 0 where
+  pub told : ReportsOf form s outcome from to
+  pub cause : OutcomeCause before now outcome
 
 -- by a site; the outcome is reported, and gives the status
 pub record Reports (form : Form) (s : Sight) (status : ℕ) (old new : Told) : Type 0 where

@@ -6,13 +6,13 @@ use Rattle.chk_ctl_line.specs.declared.usage.Usage.TheVariants.{Status as status
 use Rattle.chk_ctl_run.specs.declared.outcome.Outcome.TheVariants.{Usage}
 use Rattle.chk_ctl_machine.specs.Deeds.{after, ended, Prints, Sleeps, Stands, Told}
 use Rattle.chk_ctl_inspect.specs.declared.kept.Sight.{Sight}
-use Rattle.chk_ctl_inspect.specs.Looking.{LooksAtAll}
+use Rattle.chk_ctl_inspect.specs.Folders.{InspectsAll}
 use Rattle.chk_ctl_inspect.specs.Reporting.{Reports}
 
 -- all is inspected, and then printed; the status is the greatest one. Without memory it is 4.
 pub data InspectsOnce (s : Status) : ℕ → Told → Told → Type 0 where
   given_up : {old new : Told} → InspectsOnce s 4 old new
-  inspected : {sight : Sight} {status : ℕ} {old mid new : Told} → LooksAtAll s sight old mid
+  inspected : {sight : Sight} {status : ℕ} {old mid new : Told} → InspectsAll s sight old mid
       → Reports s.form sight status mid new
       → InspectsOnce s (max sight.status status) old new
 

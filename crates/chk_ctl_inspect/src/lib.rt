@@ -3,8 +3,8 @@
 
 mod audit;
 mod command;
+mod folders;
 mod kept;
-mod looks;
 mod reported;
 mod reports;
 mod running;

@@ -2,6 +2,7 @@
 
 ghost use Rattle.std.specs.Prelude.{◌≡◌, ◌++◌, ℕ, Bool, List, flat_map};
 ghost use Rattle.std.specs.Borrow.{Bor};
+ghost use Rattle.chk_site.specs.Site.{OutsideCause};
 ghost use Rattle.chk_world.specs.Sight.{job};
 ghost use Rattle.chk_book.specs.declared.book.Book.{Book};
 ghost use Rattle.chk_ctl_inspect.specs.Reporting.{absent_by, agents_by, door_by, store_by, TellsAll};
@@ -30,8 +31,9 @@ pub(crate) trait Reported {
         books: &[&Book],
     ) -> Result<(), OutsideFault>
         requires job { who.now ≡ job }
-        ensures { TellsAll (texts in_tables books.now self.now) result (S.told site.old)
-            (S.told site.new) };
+        ensures told { TellsAll (texts in_tables books.now self.now) result (S.told site.old)
+            (S.told site.new) }
+        ensures cause { OutsideCause (S.fault_count site.old) (S.fault_count site.new) result };
 }
 
 /// Prints those of each of them, in turn.
@@ -44,8 +46,9 @@ pub(crate) fn report_each<S: Site, R: Reported>(
     items: &[R],
 ) -> Result<(), OutsideFault>
     requires job { who.now ≡ job }
-    ensures { TellsAll (flat_map (R.texts in_tables books.now) items.now) result (S.told site.old)
+    ensures told { TellsAll (flat_map (R.texts in_tables books.now) items.now) result (S.told site.old)
         (S.told site.new) }
+    ensures cause { OutsideCause (S.fault_count site.old) (S.fault_count site.new) result }
 {
     for item in items {
         match item.report(alloc, site, who, in_tables, books) {
@@ -67,9 +70,10 @@ pub(crate) fn report_both<S: Site, A: Reported, B: Reported>(
     second: &[B],
 ) -> Result<(), OutsideFault>
     requires job { who.now ≡ job }
-    ensures { TellsAll (flat_map (A.texts in_tables books.now) first.now
+    ensures told { TellsAll (flat_map (A.texts in_tables books.now) first.now
         ++ flat_map (B.texts in_tables books.now) second.now) result (S.told site.old)
         (S.told site.new) }
+    ensures cause { OutsideCause (S.fault_count site.old) (S.fault_count site.new) result }
 {
     match report_each(alloc, site, who, in_tables, books, first) {
         Ok(()) => report_each(alloc, site, who, in_tables, books, second),

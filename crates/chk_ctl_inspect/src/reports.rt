@@ -2,7 +2,8 @@
 
 ghost use Rattle.std.specs.Prelude.{◌≡◌, map, IfOk};
 ghost use Rattle.chk_site.specs.History.{Every};
-ghost use Rattle.chk_site.specs.Site.{Adds};
+ghost use Rattle.chk_site.specs.Site.{Adds, OutsideCause};
+ghost use Rattle.chk_ctl_run.specs.Outcomes.{OutcomeCause};
 ghost use Rattle.chk_world.specs.Sight.{job};
 ghost use Rattle.chk_ctl_inspect.specs.Reporting.{lines_of, tables_of, texts_of, Reports, ReportsOf};
 ghost use Rattle.chk_ctl_inspect.specs.Reporting.{TellsAll, TellsSight};
@@ -37,6 +38,7 @@ pub(crate) fn report<M: Machine>(
 fn report_by<S: Site>(alloc: Global, site: &mut S, sight: &Sight<'_>, form: Form) -> Outcome
     ensures told { ReportsOf form sight.now result (S.told site.old) (S.told site.new) }
     ensures own { Adds (S.told site.old) (S.told site.new) (Every Inspects) }
+    ensures cause { OutcomeCause (S.fault_count site.old) (S.fault_count site.new) result }
 {
     match looker(alloc) {
         Ok(who) => told_as(report_as(alloc, site, &who, sight, form)),
@@ -52,7 +54,8 @@ fn report_as<S: Site>(
     form: Form,
 ) -> Result<(), OutsideFault>
     requires job { who.now ≡ job }
-    ensures { TellsSight form sight.now result (S.told site.old) (S.told site.new) }
+    ensures told { TellsSight form sight.now result (S.told site.old) (S.told site.new) }
+    ensures cause { OutsideCause (S.fault_count site.old) (S.fault_count site.new) result }
 {
     match books_of(alloc, sight.stores.as_slice()) {
         Ok(books) => report_by_books(alloc, site, who, sight, form, books.as_slice()),
@@ -69,8 +72,9 @@ fn report_by_books<S: Site>(
     books: &[&Book],
 ) -> Result<(), OutsideFault>
     requires job { who.now ≡ job }
-    ensures { TellsAll (texts_of form books.now sight.now) result (S.told site.old)
+    ensures told { TellsAll (texts_of form books.now sight.now) result (S.told site.old)
         (S.told site.new) }
+    ensures cause { OutsideCause (S.fault_count site.old) (S.fault_count site.new) result }
 {
     match form {
         Form::Table => report_tables(alloc, site, who, sight, books),
@@ -87,8 +91,9 @@ fn report_metrics<S: Site>(
     books: &[&Book],
 ) -> Result<(), OutsideFault>
     requires job { who.now ≡ job }
-    ensures { TellsAll (texts_of Form.Metrics books.now sight.now) result (S.told site.old)
+    ensures told { TellsAll (texts_of Form.Metrics books.now sight.now) result (S.told site.old)
         (S.told site.new) }
+    ensures cause { OutsideCause (S.fault_count site.old) (S.fault_count site.new) result }
 {
     tell_metrics(
         alloc,
@@ -122,7 +127,8 @@ fn report_tables<S: Site>(
     books: &[&Book],
 ) -> Result<(), OutsideFault>
     requires job { who.now ≡ job }
-    ensures { TellsAll (tables_of books.now sight.now) result (S.told site.old) (S.told site.new) }
+    ensures told { TellsAll (tables_of books.now sight.now) result (S.told site.old) (S.told site.new) }
+    ensures cause { OutsideCause (S.fault_count site.old) (S.fault_count site.new) result }
 {
     let agents = sight.agents.as_slice();
     let absent = sight.absent.as_slice();
@@ -145,7 +151,8 @@ fn report_lines<S: Site>(
     books: &[&Book],
 ) -> Result<(), OutsideFault>
     requires job { who.now ≡ job }
-    ensures { TellsAll (lines_of books.now sight.now) result (S.told site.old) (S.told site.new) }
+    ensures told { TellsAll (lines_of books.now sight.now) result (S.told site.old) (S.told site.new) }
+    ensures cause { OutsideCause (S.fault_count site.old) (S.fault_count site.new) result }
 {
     let absent = sight.absent.as_slice();
     let doors = sight.doors.as_slice();

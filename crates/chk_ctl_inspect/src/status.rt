@@ -5,7 +5,7 @@ ghost use Rattle.chk_ctl_line.specs.Status.{status_of};
 ghost use Rattle.chk_ctl_inspect.specs.Statuses.{InspectsAsked, InspectsOnce, InspectsStatus, Repeats};
 ghost use Rattle.chk_ctl_inspect.specs.Statuses.{stops};
 
-use crate::looks::look_at_all;
+use crate::folders::inspect_all;
 use crate::reports::report;
 use crate::running::{NO_MEMORY, OUTSIDE};
 use chk_bytes::NoMemory;
@@ -72,7 +72,7 @@ fn stops(seconds: u64, status: u8) -> bool
 fn inspect_once<M: Machine>(alloc: Global, machine: &mut M, asked: &StatusWords<'_>) -> u8
     ensures { InspectsOnce (status_of asked.now) result (M.told machine.old) (M.told machine.new) }
 {
-    match look_at_all(alloc, machine, asked) {
+    match inspect_all(alloc, machine, asked) {
         Ok(sight) => {
             let status = report(alloc, machine, &sight, asked.form());
             sight.status.max(status)

@@ -28,7 +28,7 @@ use Rattle.chk_ctl_machine.proofs.Inspections.{looks}
 use Rattle.chk_ctl_machine.specs.Lending.{Lent}
 use Rattle.chk_ctl_machine.specs.Lending.{listed as found_list}
 use Rattle.chk_ctl_machine.specs.Locks.{listed, listed_as, listing, named_by, ListsLocks}
-use Rattle.chk_ctl_machine.specs.Locks.{seen, unkept, FindsLocks, LooksAtLock, SeesLocks}
+use Rattle.chk_ctl_machine.specs.Locks.{seen, unkept, FindsLocks, FindsLock, SeesLocks}
 use Rattle.chk_ctl_machine.specs.Turns.{InTurn}
 use Rattle.chk_ctl_run.specs.declared.outcome.Outcome.{Outcome}
 use Rattle.chk_ctl_run.specs.declared.outcome.Outcome.TheVariants.{NoMemory}
@@ -106,13 +106,13 @@ pub locks_seen : (V : Type 0) (result : Result V Outcome) (items : V → List Lo
     (held : Option (List ℕ)) {names given : List (List ℕ)} {old mid next new : Told}
     → given ≡ names → Lent None (FindsLocks (Ok names)) old mid
     → next ≡ after (AsksLocks held) mid
-    → MatchResult result (λ v. InTurn (LooksAtLock held) given (items v) next new)
+    → MatchResult result (λ v. InTurn (FindsLock held) given (items v) next new)
     (λ outcome. outcome ≡ NoMemory)
     → SeesLocks (found_list result items) old new
 locks_seen V (Ok v) items held {names = names} {next = next} {new = new} same lent is turns =
     seen lent
-    (subst (λ (t : Told). InTurn (LooksAtLock held) names (items v) t new) is
-    (subst (λ (l : List (List ℕ)). InTurn (LooksAtLock held) l (items v) next new) same turns))
+    (subst (λ (t : Told). InTurn (FindsLock held) names (items v) t new) is
+    (subst (λ (l : List (List ℕ)). InTurn (FindsLock held) l (items v) next new) same turns))
 locks_seen V (Err outcome) items held {old = old} {new = new} same lent is memory =
     subst (λ (o : Outcome). SeesLocks (Err o) old new) (sym memory) (unkept lent)
 

@@ -94,8 +94,8 @@ pub data FindsHolder (held : Option (List ℕ)) (name : List ℕ) : Holder → T
       → IsHolder text numbers holder → FindsHolder held name holder old new
 
 -- a lock and its holder
-abbrev pub LooksAtLock : Option (List ℕ) → List ℕ → Lock → Told → Told → Type 0
-LooksAtLock held name l old new = (l.name ≡ name) × FindsHolder held name l.holder old new
+abbrev pub FindsLock : Option (List ℕ) → List ℕ → Lock → Told → Told → Type 0
+FindsLock held name l old new = (l.name ≡ name) × FindsHolder held name l.holder old new
 
 -- the locks are listed, the system's list is read, and then each holder is looked for, in turn
 pub data SeesLocks : Result (List Lock) Outcome → Told → Told → Type 0 where
@@ -105,5 +105,5 @@ pub data SeesLocks : Result (List Lock) Outcome → Told → Told → Type 0 whe
       → Lent None (FindsLocks (Ok names)) old mid → SeesLocks (Err NoMemory) old new
   seen : {names : List (List ℕ)} {locks : List Lock} {held : Option (List ℕ)} {old mid new : Told}
       → Lent None (FindsLocks (Ok names)) old mid
-      → InTurn (LooksAtLock held) names locks (after (AsksLocks held) mid) new
+      → InTurn (FindsLock held) names locks (after (AsksLocks held) mid) new
       → SeesLocks (Ok locks) old new

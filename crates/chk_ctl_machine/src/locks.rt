@@ -8,7 +8,7 @@ ghost use Rattle.chk_ctl_machine.specs.Inspecting.{Inspects};
 ghost use Rattle.chk_ctl_machine.specs.Lending.{listed, Lent, SeenCause};
 ghost use Rattle.chk_ctl_machine.specs.Locks.{holder_or, listed_as, major_of, minor_of, named_by};
 ghost use Rattle.chk_ctl_machine.specs.Locks.{place_of, process_in, FindsHolder, FindsLocks};
-ghost use Rattle.chk_ctl_machine.specs.Locks.{IsHolder, ListsLocks, LooksAtLock, SeesLocks};
+ghost use Rattle.chk_ctl_machine.specs.Locks.{IsHolder, ListsLocks, FindsLock, SeesLocks};
 ghost use Rattle.chk_ctl_machine.specs.Turns.{InTurn};
 ghost use Rattle.chk_ctl_run.specs.declared.outcome.Outcome.TheVariants.{NoMemory as no_memory};
 
@@ -75,13 +75,13 @@ fn locks_of<M: Machine>(
     names: &[Word],
 ) -> Result<Vec<Lock>, Outcome>
     ensures { MatchResult result
-        (λ locks. InTurn (LooksAtLock (option_map string_bytes held.now)) names.now locks.items
+        (λ locks. InTurn (FindsLock (option_map string_bytes held.now)) names.now locks.items
         (M.told machine.old) (M.told machine.new))
         (λ outcome. outcome ≡ no_memory) }
 {
     let mut locks = Vec::new(alloc);
     for name in names {
-        match look_at_lock(alloc, machine, held, name) {
+        match find_lock(alloc, machine, held, name) {
             Ok(lock) => add_lock(&mut locks, lock)?,
             Err(NoMemory) => return Err(Outcome::NoMemory),
         }
@@ -99,13 +99,13 @@ fn add_lock(locks: &mut Vec<Lock>, lock: Lock) -> Result<(), Outcome>
     }
 }
 
-fn look_at_lock<M: Machine>(
+fn find_lock<M: Machine>(
     alloc: Global,
     machine: &mut M,
     held: &Option<String>,
     name: &Word,
 ) -> Result<Lock, NoMemory>
-    ensures { IfOk result (λ lock. LooksAtLock (option_map string_bytes held.now) name.now lock
+    ensures { IfOk result (λ lock. FindsLock (option_map string_bytes held.now) name.now lock
         (M.told machine.old) (M.told machine.new)) }
 {
     let holder = holder_of(alloc, machine, held, name.as_str());

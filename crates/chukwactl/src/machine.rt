@@ -41,8 +41,9 @@ impl Machine for HostMachine {
         }
     }
 
+    // `audit` enters one folder alone, from the current one: it isn't entered by its path again.
     fn path_of(&mut self, folder: &str) -> Option<String> {
-        let path = self.base.as_ref()?.join(self.rt.alloc(), folder).ok()?;
+        let path = self.base.take()?.join(self.rt.alloc(), folder).ok()?;
         String::from_str(self.rt.alloc(), path.to_string_lossy()).ok()
     }
 

@@ -13,7 +13,7 @@ returns g c = record {
   back = g.M.Machine.told c.take_back.new.self;
   lent =
       lent None (ReportsBy c.args.form c.args.sight.now c.report_by-outcome.result) _ _ _ _ _ _ _
-      c.lend-folder.ensures c.take_back.ensures c.report_by-outcome.ensures.told;
+      c.lend-folder.ensures c.take_back.ensures (record { told = c.report_by-outcome.ensures.told; cause = c.report_by-outcome.ensures.cause });
   told = c.end_with.ensures.told;
   is = c.end_with.ensures.status;
 }

@@ -1,8 +1,8 @@
 use Rattle.chk_ctl_inspect.proofs.Told.{tells_one}
 use Rattle.chk_ctl_inspect.proofs.reports.report_metrics.Goals as goal
 
-pub returns : goal.returns
-returns g c =
+pub returns-clause-told : goal.returns-clause-told
+returns-clause-told g c =
     tells_one c.tell_metrics.result c.requires.job
     (rw (
       c.as_slice.ensures.value,

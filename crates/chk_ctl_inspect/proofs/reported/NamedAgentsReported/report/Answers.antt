@@ -2,22 +2,22 @@ use Rattle.chk_ctl_inspect.specs.Reporting.{one_told, refused}
 use Rattle.chk_ctl_inspect.proofs.Told.{tells_as, tells_one}
 use Rattle.chk_ctl_inspect.proofs.reported.NamedAgentsReported.report.Goals as goal
 
-pub returns-in-Ok : goal.returns-in-Ok
-returns-in-Ok g c =
+pub returns-in-Ok-clause-told : goal.returns-in-Ok-clause-told
+returns-in-Ok-clause-told g c =
     rw c.if-in_tables.true
     (one_told (tells_as c.requires.job
     (rw (c.as_str-folder.ensures.value, c.as_slice.ensures.value) at c.in-Ok.ensures.told))
     (tells_one c.tell_locks.result c.requires.job
     (rw c.as_slice-in-Ok.ensures.value at c.tell_locks.ensures.told)))
 
-pub returns-in-Err : goal.returns-in-Err
-returns-in-Err g c =
+pub returns-in-Err-clause-told : goal.returns-in-Err-clause-told
+returns-in-Err-clause-told g c =
     rw c.if-in_tables.true
     (refused (tells_as c.requires.job
     (rw (c.as_str-folder.ensures.value, c.as_slice.ensures.value) at c.in-Err.ensures.told)))
 
-pub returns-in-Ok-tell_agents_line : goal.returns-in-Ok-tell_agents_line
-returns-in-Ok-tell_agents_line g c =
+pub returns-in-Ok-tell_agents_line-clause-told : goal.returns-in-Ok-tell_agents_line-clause-told
+returns-in-Ok-tell_agents_line-clause-told g c =
     rw c.if-in_tables.false
     (one_told (tells_as c.requires.job
     (rw (c.as_str-folder-else-in_tables.ensures.value, c.as_slice-else-in_tables.ensures.value) at
@@ -28,8 +28,8 @@ returns-in-Ok-tell_agents_line g c =
       c.as_slice-in-Ok-tell_agents_line.ensures.value,
     ) at c.tell_locks_line.ensures.told)))
 
-pub returns-in-Err-tell_agents_line : goal.returns-in-Err-tell_agents_line
-returns-in-Err-tell_agents_line g c =
+pub returns-in-Err-tell_agents_line-clause-told : goal.returns-in-Err-tell_agents_line-clause-told
+returns-in-Err-tell_agents_line-clause-told g c =
     rw c.if-in_tables.false
     (refused (tells_as c.requires.job
     (rw (c.as_str-folder-else-in_tables.ensures.value, c.as_slice-else-in_tables.ensures.value) at

@@ -2,9 +2,9 @@
 
 ghost use Rattle.std.specs.Prelude.{◌≡◌, map, option_map, IfOk, OnOk};
 ghost use Rattle.chk_ctl_line.specs.Status.{status_of};
-ghost use Rattle.chk_ctl_inspect.specs.Looking.{named, LooksAtAgentLocks, LooksAtAgents, LooksAtAll};
-ghost use Rattle.chk_ctl_inspect.specs.Looking.{LooksAtControl, LooksAtStore, LooksAtStoreLocks};
-ghost use Rattle.chk_ctl_inspect.specs.Looking.{LooksAtDoor, LooksAtEach};
+ghost use Rattle.chk_ctl_inspect.specs.Folders.{named, InspectsAgentLocks, InspectsAgents, InspectsAll};
+ghost use Rattle.chk_ctl_inspect.specs.Folders.{InspectsControl, InspectsStore, InspectsStoreLocks};
+ghost use Rattle.chk_ctl_inspect.specs.Folders.{InspectsDoor, InspectsEach};
 ghost use Rattle.chk_ctl_line.specs.Controls.{control_of};
 
 use crate::kept::{Seen, Sight};
@@ -19,18 +19,18 @@ use std::alloc::Global;
 
 /// Inspects all that is named: stores first, so that no log is found to end before its archive, then
 /// folders of agents, then control ports.
-pub(crate) fn look_at_all<'a, M: Machine>(
+pub(crate) fn inspect_all<'a, M: Machine>(
     alloc: Global,
     machine: &mut M,
     asked: &StatusWords<'a>,
 ) -> Result<Sight<'a>, NoMemory>
-    ensures { IfOk result (λ sight. LooksAtAll (status_of asked.now) sight (M.told machine.old)
+    ensures { IfOk result (λ sight. InspectsAll (status_of asked.now) sight (M.told machine.old)
         (M.told machine.new)) }
 {
     let mut sight = Sight::new(alloc);
-    look_at_stores(alloc, machine, named(asked.stores()), &mut sight)?;
-    look_at_agents(alloc, machine, named(asked.agents()), &mut sight)?;
-    look_at_controls(alloc, machine, named(asked.controls()), &mut sight)?;
+    inspect_stores(alloc, machine, named(asked.stores()), &mut sight)?;
+    inspect_agents(alloc, machine, named(asked.agents()), &mut sight)?;
+    inspect_controls(alloc, machine, named(asked.controls()), &mut sight)?;
     Ok(sight)
 }
 
@@ -45,61 +45,61 @@ fn named<'b, 'a>(words: Option<&'b [&'a str]>) -> &'b [&'a str]
     }
 }
 
-fn look_at_stores<'a, M: Machine>(
+fn inspect_stores<'a, M: Machine>(
     alloc: Global,
     machine: &mut M,
     stores: &[&'a str],
     sight: &mut Sight<'a>,
 ) -> Result<(), NoMemory>
-    ensures { OnOk result (LooksAtEach LooksAtStore (map (λ w. w.now) stores.now) sight.old sight.new
+    ensures { OnOk result (InspectsEach InspectsStore (map (λ w. w.now) stores.now) sight.old sight.new
         (M.told machine.old) (M.told machine.new)) }
 {
     for store in stores {
-        let seen = look_at_store(alloc, machine, store)?;
+        let seen = inspect_store(alloc, machine, store)?;
         sight.keep(seen)?;
     }
     Ok(())
 }
 
-fn look_at_agents<'a, M: Machine>(
+fn inspect_agents<'a, M: Machine>(
     alloc: Global,
     machine: &mut M,
     folders: &[&'a str],
     sight: &mut Sight<'a>,
 ) -> Result<(), NoMemory>
-    ensures { OnOk result (LooksAtEach LooksAtAgents (map (λ w. w.now) folders.now) sight.old
+    ensures { OnOk result (InspectsEach InspectsAgents (map (λ w. w.now) folders.now) sight.old
         sight.new (M.told machine.old) (M.told machine.new)) }
 {
     for folder in folders {
-        let seen = look_at_folder(alloc, machine, folder)?;
+        let seen = inspect_folder(alloc, machine, folder)?;
         sight.keep(seen)?;
     }
     Ok(())
 }
 
-fn look_at_controls<'a, M: Machine>(
+fn inspect_controls<'a, M: Machine>(
     alloc: Global,
     machine: &mut M,
     texts: &[&'a str],
     sight: &mut Sight<'a>,
 ) -> Result<(), NoMemory>
-    ensures { OnOk result (LooksAtEach LooksAtControl (map (λ w. w.now) texts.now) sight.old
+    ensures { OnOk result (InspectsEach InspectsControl (map (λ w. w.now) texts.now) sight.old
         sight.new (M.told machine.old) (M.told machine.new)) }
 {
     for text in texts {
-        let seen = look_at_control(alloc, machine, text)?;
+        let seen = inspect_control(alloc, machine, text)?;
         sight.keep(seen)?;
     }
     Ok(())
 }
 
 /// Inspects the store of this name, from where the user stands.
-fn look_at_store<'a, M: Machine>(
+fn inspect_store<'a, M: Machine>(
     alloc: Global,
     machine: &mut M,
     store: &'a str,
 ) -> Result<Seen<'a>, NoMemory>
-    ensures { IfOk result (λ seen. LooksAtStore store.now seen (M.told machine.old)
+    ensures { IfOk result (λ seen. InspectsStore store.now seen (M.told machine.old)
         (M.told machine.new)) }
 {
     if !machine.enter(store) {
@@ -109,18 +109,18 @@ fn look_at_store<'a, M: Machine>(
         return Ok(Seen::Absent(store));
     }
     match see_store(alloc, machine) {
-        Ok(seen) => look_at_store_locks(alloc, machine, store, seen),
+        Ok(seen) => inspect_store_locks(alloc, machine, store, seen),
         Err(outcome) => Ok(Seen::Failed(end_with(machine, &outcome))),
     }
 }
 
-fn look_at_store_locks<'a, M: Machine>(
+fn inspect_store_locks<'a, M: Machine>(
     alloc: Global,
     machine: &mut M,
     store: &str,
     seen: StoreSeen,
 ) -> Result<Seen<'a>, NoMemory>
-    ensures { IfOk result (λ of. LooksAtStoreLocks store.now seen of (M.told machine.old)
+    ensures { IfOk result (λ of. InspectsStoreLocks store.now seen of (M.told machine.old)
         (M.told machine.new)) }
 {
     match see_locks(alloc, machine) {
@@ -137,30 +137,30 @@ fn look_at_store_locks<'a, M: Machine>(
 }
 
 /// Inspects the folder of agents of this name, from where the user stands.
-fn look_at_folder<'a, M: Machine>(
+fn inspect_folder<'a, M: Machine>(
     alloc: Global,
     machine: &mut M,
     folder: &str,
 ) -> Result<Seen<'a>, NoMemory>
-    ensures { IfOk result (λ seen. LooksAtAgents folder.now seen (M.told machine.old)
+    ensures { IfOk result (λ seen. InspectsAgents folder.now seen (M.told machine.old)
         (M.told machine.new)) }
 {
     if !machine.enter(folder) {
         return Ok(Seen::Failed(OUTSIDE));
     }
     match see_agents(alloc, machine) {
-        Ok(agents) => look_at_agent_locks(alloc, machine, folder, agents),
+        Ok(agents) => inspect_agent_locks(alloc, machine, folder, agents),
         Err(outcome) => Ok(Seen::Failed(end_with(machine, &outcome))),
     }
 }
 
-fn look_at_agent_locks<'a, M: Machine>(
+fn inspect_agent_locks<'a, M: Machine>(
     alloc: Global,
     machine: &mut M,
     folder: &str,
     agents: Vec<AgentSeen>,
 ) -> Result<Seen<'a>, NoMemory>
-    ensures { IfOk result (λ seen. LooksAtAgentLocks folder.now agents.items seen
+    ensures { IfOk result (λ seen. InspectsAgentLocks folder.now agents.items seen
         (M.told machine.old) (M.told machine.new)) }
 {
     match see_locks(alloc, machine) {
@@ -177,26 +177,26 @@ fn look_at_agent_locks<'a, M: Machine>(
 }
 
 /// Asks the control port that the text names.
-fn look_at_control<'a, M: Machine>(
+fn inspect_control<'a, M: Machine>(
     alloc: Global,
     machine: &mut M,
     text: &str,
 ) -> Result<Seen<'a>, NoMemory>
-    ensures { IfOk result (λ seen. LooksAtControl text.now seen (M.told machine.old)
+    ensures { IfOk result (λ seen. InspectsControl text.now seen (M.told machine.old)
         (M.told machine.new)) }
 {
     match control_in(text) {
-        Some(control) => look_at_door(alloc, machine, control),
+        Some(control) => inspect_door(alloc, machine, control),
         None => Ok(Seen::Nothing),
     }
 }
 
-fn look_at_door<'a, M: Machine>(
+fn inspect_door<'a, M: Machine>(
     alloc: Global,
     machine: &mut M,
     control: ControlWords<'_>,
 ) -> Result<Seen<'a>, NoMemory>
-    ensures { IfOk result (λ seen. LooksAtDoor (control_of control.entry) seen (M.told machine.old)
+    ensures { IfOk result (λ seen. InspectsDoor (control_of control.entry) seen (M.told machine.old)
         (M.told machine.new)) }
 {
     let door = see_control(alloc, machine, control.address)?;

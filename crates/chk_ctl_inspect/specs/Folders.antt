@@ -27,82 +27,82 @@ pub data Fails (outcome : Outcome) : Seen → Told → Told → Type 0 where
       → Fails outcome (Failed (outcome_status outcome)) old new
 
 -- the locks of a store that was read
-pub data LooksAtStoreLocks (folder : List ℕ) (s : StoreSeen) : Seen → Told → Told → Type 0 where
+pub data InspectsStoreLocks (folder : List ℕ) (s : StoreSeen) : Seen → Told → Told → Type 0 where
   store_unlocked : {outcome : Outcome} {seen : Seen} {old mid new : Told}
       → SeesLocks (Err outcome) old mid → Fails outcome seen mid new
-      → LooksAtStoreLocks folder s seen old new
+      → InspectsStoreLocks folder s seen old new
   store_seen : {n : NamedStore} {old new : Told} → SeesLocks (Ok n.locks.items) old new
       → string_bytes n.folder ≡ folder → n.seen ≡ s
-      → LooksAtStoreLocks folder s (Store n) old new
+      → InspectsStoreLocks folder s (Store n) old new
 
 -- a folder is entered; if it is a store, it is read, and then its locks
-pub data LooksAtStore (folder : List ℕ) : Seen → Told → Told → Type 0 where
+pub data InspectsStore (folder : List ℕ) : Seen → Told → Told → Type 0 where
   store_unentered : {old new : Told} → new ≡ after (Enters folder false) old
-      → LooksAtStore folder (Failed 3) old new
+      → InspectsStore folder (Failed 3) old new
   no_store : {text : Bor (List ℕ)} {old mid new : Told} → text.now ≡ folder
       → mid ≡ after (Enters folder true) old → new ≡ after (AsksStore false) mid
-      → LooksAtStore folder (Absent text) old new
+      → InspectsStore folder (Absent text) old new
   store_unread : {outcome : Outcome} {seen : Seen} {old mid next last new : Told}
       → mid ≡ after (Enters folder true) old → next ≡ after (AsksStore true) mid
       → SeesStore (Err outcome) next last → Fails outcome seen last new
-      → LooksAtStore folder seen old new
+      → InspectsStore folder seen old new
   store_read : {s : StoreSeen} {seen : Seen} {old mid next last new : Told}
       → mid ≡ after (Enters folder true) old → next ≡ after (AsksStore true) mid
-      → SeesStore (Ok s) next last → LooksAtStoreLocks folder s seen last new
-      → LooksAtStore folder seen old new
+      → SeesStore (Ok s) next last → InspectsStoreLocks folder s seen last new
+      → InspectsStore folder seen old new
 
 -- the locks of a folder whose agents were read
-pub data LooksAtAgentLocks (folder : List ℕ) (agents : List AgentSeen) : Seen → Told → Told
+pub data InspectsAgentLocks (folder : List ℕ) (agents : List AgentSeen) : Seen → Told → Told
     → Type 0 where
   agents_unlocked : {outcome : Outcome} {seen : Seen} {old mid new : Told}
       → SeesLocks (Err outcome) old mid → Fails outcome seen mid new
-      → LooksAtAgentLocks folder agents seen old new
+      → InspectsAgentLocks folder agents seen old new
   agents_seen : {n : NamedAgents} {old new : Told} → SeesLocks (Ok n.locks.items) old new
       → string_bytes n.folder ≡ folder → n.agents.items ≡ agents
-      → LooksAtAgentLocks folder agents (Agents n) old new
+      → InspectsAgentLocks folder agents (Agents n) old new
 
 -- a folder is entered, its agents are read, and then its locks
-pub data LooksAtAgents (folder : List ℕ) : Seen → Told → Told → Type 0 where
+pub data InspectsAgents (folder : List ℕ) : Seen → Told → Told → Type 0 where
   agents_unentered : {old new : Told} → new ≡ after (Enters folder false) old
-      → LooksAtAgents folder (Failed 3) old new
+      → InspectsAgents folder (Failed 3) old new
   agents_unread : {outcome : Outcome} {seen : Seen} {old mid last new : Told}
       → mid ≡ after (Enters folder true) old → SeesAgents (Err outcome) mid last
-      → Fails outcome seen last new → LooksAtAgents folder seen old new
+      → Fails outcome seen last new → InspectsAgents folder seen old new
   agents_read : {agents : List AgentSeen} {seen : Seen} {old mid last new : Told}
       → mid ≡ after (Enters folder true) old → SeesAgents (Ok agents) mid last
-      → LooksAtAgentLocks folder agents seen last new → LooksAtAgents folder seen old new
+      → InspectsAgentLocks folder agents seen last new → InspectsAgents folder seen old new
 
 -- a control port is asked
-pub data LooksAtDoor (control : Control) : Seen → Told → Told → Type 0 where
+pub data InspectsDoor (control : Control) : Seen → Told → Told → Type 0 where
   door_seen : {n : NamedDoor} {old new : Told} → SeesControl control.address n.door old new
       → string_bytes n.name ≡ control.name → string_bytes n.address ≡ control.address
-      → LooksAtDoor control (Door n) old new
+      → InspectsDoor control (Door n) old new
 
 -- the text names one, as the words of `status` always do
-pub data LooksAtControl (text : List ℕ) : Seen → Told → Told → Type 0 where
-  unnamed : {now : Told} → control_in text ≡ None → LooksAtControl text Nothing now now
+pub data InspectsControl (text : List ℕ) : Seen → Told → Told → Type 0 where
+  unnamed : {now : Told} → control_in text ≡ None → InspectsControl text Nothing now now
   asked : {control : Control} {seen : Seen} {old new : Told} → control_in text ≡ Some control
-      → LooksAtDoor control seen old new → LooksAtControl text seen old new
+      → InspectsDoor control seen old new → InspectsControl text seen old new
 
 -- what an option names
 abbrev pub named : Option (List (List ℕ)) → List (List ℕ)
 named words = unwrap_or words []
 
 -- what is seen of each is kept, in turn
-pub record LooksAtEach (Looks : List ℕ → Seen → Told → Told → Type 0) (words : List (List ℕ))
+pub record InspectsEach (Inspect : List ℕ → Seen → Told → Told → Type 0) (words : List (List ℕ))
     (from to : Sight) (old new : Told) : Type 0 where
   pub seen : List Seen
-  pub turns : InTurn Looks words seen old new
+  pub turns : InTurn Inspect words seen old new
   pub keeps : Keeps from seen to
 
 -- nothing was seen before the stores; then come folders of agents, and then control ports
-pub record LooksAtAll (s : Status) (sight : Sight) (old new : Told) : Type 0 where
+pub record InspectsAll (s : Status) (sight : Sight) (old new : Told) : Type 0 where
   pub none : Sight
   pub first : Sight
   pub second : Sight
   pub mid : Told
   pub last : Told
   pub empty : IsEmpty none
-  pub stores : LooksAtEach LooksAtStore (named s.stores) none first old mid
-  pub agents : LooksAtEach LooksAtAgents (named s.agents) first second mid last
-  pub controls : LooksAtEach LooksAtControl (named s.controls) second sight last new
+  pub stores : InspectsEach InspectsStore (named s.stores) none first old mid
+  pub agents : InspectsEach InspectsAgents (named s.agents) first second mid last
+  pub controls : InspectsEach InspectsControl (named s.controls) second sight last new

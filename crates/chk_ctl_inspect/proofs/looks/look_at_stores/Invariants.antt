@@ -1,8 +1,0 @@
-use Rattle.std.proofs.Common.{map, take}
-use Rattle.chk_ctl_inspect.specs.Looking.{LooksAtEach, LooksAtStore}
-use Rattle.chk_ctl_inspect.proofs.looks.look_at_stores.Given as goal
-
-abbrev pub invariant-loop-store : goal.invariant-loop-store
-invariant-loop-store g l =
-    LooksAtEach LooksAtStore (map (λ w. w.now) (take l.store-index l.stores)) l.fn.sight l.sight
-    (g.M.Machine.told l.fn.machine) (g.M.Machine.told l.machine)
